@@ -1,0 +1,113 @@
+-- The small library keeps what rows of a library owe.
+use Rattle.std.proofs.Common.{◌≡◌, ◌||◌, ℕ, zero, suc, List, [], ◌∷◌, Bool, true, false, Option, Some, None, ℤ, pos, negsuc, refl, sym, ap, subst}
+use Rattle.pt_meaning.specs.Basics.{Tag, Streams, at}
+use Rattle.pt_meaning.specs.Machine.{Partial, Unknown, Known, partial_at}
+use Rattle.pt_meaning.specs.Tick.{known, known_then, any_present, is_due}
+use Rattle.pt_meaning.specs.Laws.{PartialBelow, KnownBelow}
+use Rattle.pt_meaning.specs.Promises.{LawfulRows}
+use Rattle.pt_meaning.specs.Node.{Gives}
+use Rattle.pt_examples.specs.Small.{Token, Num, Truth, Array, Act, Const, Ramp, Sequence, Mux, Delay, Server, rows, react, early, whole, begins, next, due_in, pending_next, mux_early, muxed}
+
+below-same : {T : Type 0} (v : Partial T) → PartialBelow v v
+below-same Unknown = tt
+below-same (Known xs) = refl
+
+port-below : {T : Type 0} (v w : Partial T) (p : ℕ) → PartialBelow v w → PartialBelow (partial_at (v ∷ []) p) (partial_at (w ∷ []) p)
+port-below v w zero h = h
+port-below v w (suc p) h = tt
+
+mux-token : (n : ℤ) (a b c d : Partial Token) → PartialBelow a c → PartialBelow b d → (p : ℕ) → PartialBelow (partial_at (mux_early (Known (Num n ∷ []) ∷ a ∷ b ∷ [])) p) (partial_at (mux_early (Known (Num n ∷ []) ∷ c ∷ d ∷ [])) p)
+mux-token (pos zero) a b c d h k p = port-below a c p h
+mux-token (pos (suc n)) a b c d h k p = port-below b d p k
+mux-token (negsuc n) a b c d h k p = tt
+
+mux-grows : (vs ws : List (Partial Token)) → KnownBelow vs ws → (p : ℕ) → PartialBelow (partial_at (mux_early vs) p) (partial_at (mux_early ws) p)
+mux-grows (Known (Num n ∷ []) ∷ a ∷ b ∷ []) (w ∷ c ∷ d ∷ []) h p = subst (λ v. PartialBelow (partial_at (mux_early (Known (Num n ∷ []) ∷ a ∷ b ∷ [])) p) (partial_at (mux_early (v ∷ c ∷ d ∷ [])) p)) (sym h.0) (mux-token n a b c d h.1.0 h.1.1.0 p)
+mux-grows (Known (Num n ∷ []) ∷ a ∷ b ∷ []) [] h p = absurd h
+mux-grows (Known (Num n ∷ []) ∷ a ∷ b ∷ []) (w ∷ []) h p = absurd h.1
+mux-grows (Known (Num n ∷ []) ∷ a ∷ b ∷ []) (w ∷ c ∷ []) h p = absurd h.1.1
+mux-grows (Known (Num n ∷ []) ∷ a ∷ b ∷ []) (w ∷ c ∷ d ∷ e ∷ ws) h p = absurd h.1.1.1
+mux-grows (Known (Num n ∷ []) ∷ a ∷ b ∷ c ∷ vs) ws h p = tt
+mux-grows (Known (Num n ∷ []) ∷ a ∷ []) ws h p = tt
+mux-grows (Known (Num n ∷ []) ∷ []) ws h p = tt
+mux-grows (Known (Num n ∷ x ∷ xs) ∷ vs) ws h p = tt
+mux-grows (Known (Truth b ∷ xs) ∷ vs) ws h p = tt
+mux-grows (Known (Array ys ∷ xs) ∷ vs) ws h p = tt
+mux-grows (Known [] ∷ vs) ws h p = tt
+mux-grows (Unknown ∷ vs) ws h p = tt
+mux-grows [] ws h p = tt
+
+all-known : (v : Partial Token) (o : Option (Streams Token)) (X : Streams Token) → known_then v o ≡ Some X → (xs : List Token) × (Y : Streams Token) × (v ≡ Known xs) × (o ≡ Some Y) × (X ≡ xs ∷ Y)
+all-known Unknown None X e = absurd (cc)
+all-known Unknown (Some Y) X e = absurd (cc)
+all-known (Known xs) None X e = absurd (cc)
+all-known (Known xs) (Some Y) X e = (xs, Y, refl, refl, cc)
+
+mux-step : (n : ℤ) (xs ys : List Token) (b : Act) (out : Streams Token) → muxed ((Num n ∷ []) ∷ xs ∷ ys ∷ []) ≡ Gives b out → (p : ℕ) → PartialBelow (partial_at (mux_early (Known (Num n ∷ []) ∷ Known xs ∷ Known ys ∷ [])) p) (Known (at out p))
+mux-step (pos zero) xs ys b out e zero = let a : out ≡ xs ∷ [] = cc in rw a refl
+mux-step (pos zero) xs ys b out e (suc p) = tt
+mux-step (pos (suc n)) xs ys b out e zero = let a : out ≡ ys ∷ [] = cc in rw a refl
+mux-step (pos (suc n)) xs ys b out e (suc p) = tt
+mux-step (negsuc n) xs ys b out e p = tt
+
+mux-agrees : (vs : List (Partial Token)) (X : Streams Token) (b : Act) (out : Streams Token) → known vs ≡ Some X → muxed X ≡ Gives b out → (p : ℕ) → PartialBelow (partial_at (mux_early vs) p) (Known (at out p))
+mux-agrees (Known (Num n ∷ []) ∷ Known xs ∷ Known ys ∷ []) X b out e d p = let a : X ≡ (Num n ∷ []) ∷ xs ∷ ys ∷ [] = cc in mux-step n xs ys b out (subst (λ Z. muxed Z ≡ Gives b out) a d) p
+mux-agrees (Known (Num n ∷ []) ∷ Unknown ∷ Known ys ∷ []) X b out e d p = absurd (cc)
+mux-agrees (Known (Num n ∷ []) ∷ Unknown ∷ Unknown ∷ []) X b out e d p = absurd (cc)
+mux-agrees (Known (Num n ∷ []) ∷ Known xs ∷ Unknown ∷ []) X b out e d p = absurd (cc)
+mux-agrees (Known (Num n ∷ []) ∷ a ∷ c ∷ z ∷ vs) X b out e d p = tt
+mux-agrees (Known (Num n ∷ []) ∷ a ∷ []) X b out e d p = tt
+mux-agrees (Known (Num n ∷ []) ∷ []) X b out e d p = tt
+mux-agrees (Known (Num n ∷ x ∷ xs) ∷ vs) X b out e d p = tt
+mux-agrees (Known (Truth y ∷ xs) ∷ vs) X b out e d p = tt
+mux-agrees (Known (Array ys ∷ xs) ∷ vs) X b out e d p = tt
+mux-agrees (Known [] ∷ vs) X b out e d p = tt
+mux-agrees (Unknown ∷ vs) X b out e d p = tt
+mux-agrees [] X b out e d p = tt
+
+or-right : (a b : Bool) → (a || b) ≡ false → b ≡ false
+or-right true b e = absurd (cc)
+or-right false b e = e
+
+none-due : (t : Tag) (pending : List (Tag × Token)) → is_due t (pending_next pending) ≡ false → due_in t pending ≡ []
+none-due t [] e = refl
+none-due t ((u, x) ∷ pending) e = rw e refl
+
+grow : (t : Tag) (a : Act) (vs ws : List (Partial Token)) → KnownBelow vs ws → (p : ℕ) → PartialBelow (partial_at (early t a vs) p) (partial_at (early t a ws) p)
+grow t Mux vs ws h p = mux-grows vs ws h p
+grow t (Delay d pending) vs ws h p = port-below (Known (due_in t pending)) (Known (due_in t pending)) p refl
+grow t (Server d pending) vs ws h p = port-below (Known (due_in t pending)) (Known (due_in t pending)) p refl
+grow t a vs ws h p = tt
+
+due-port : (xs : List Token) (out : Streams Token) (p : ℕ) → out ≡ xs ∷ [] → PartialBelow (partial_at (Known xs ∷ []) p) (Known (at out p))
+due-port xs out zero e = rw e refl
+due-port xs out (suc p) e = tt
+
+agree : (t : Tag) (a : Act) (vs : List (Partial Token)) (X : Streams Token) (b : Act) (out : Streams Token) → known vs ≡ Some X → react t a X ≡ Gives b out → (p : ℕ) → PartialBelow (partial_at (early t a vs) p) (Known (at out p))
+agree t Mux vs X b out e d p = mux-agrees vs X b out e d p
+agree t (Delay n pending) vs X b out e d p = due-port (due_in t pending) out p (cc)
+agree t (Server n pending) vs X b out e d p = due-port (due_in t pending) out p (cc)
+agree t a vs X b out e d p = tt
+
+rest : (t : Tag) (a : Act) (vs : List (Partial Token)) (X : Streams Token) → whole a ≡ true → known vs ≡ Some X → (any_present X || is_due t (next a)) ≡ false → (p : ℕ) → PartialBelow (partial_at (early t a vs) p) (Known [])
+rest t (Delay n pending) vs X w e f p = port-empty p
+  where
+    port-empty : (p : ℕ) → PartialBelow (partial_at (Known (due_in t pending) ∷ []) p) (Known [])
+    port-empty zero = ap (λ v. Known v) (sym (none-due t pending (or-right (any_present X) _ f)))
+    port-empty (suc p) = tt
+rest t (Server n pending) vs X w e f p = port-empty p
+  where
+    port-empty : (p : ℕ) → PartialBelow (partial_at (Known (due_in t pending) ∷ []) p) (Known [])
+    port-empty zero = ap (λ v. Known v) (sym (none-due t pending (or-right (any_present X) _ f)))
+    port-empty (suc p) = tt
+rest t Mux vs X w e f p = absurd (cc)
+rest t a vs X w e f p = tt
+
+wait : (a : Act) → whole a ≡ true → begins a ≡ false
+wait (Const x) w = absurd (cc)
+wait (Ramp n x) w = absurd (cc)
+wait (Sequence xs) w = absurd (cc)
+wait a w = refl
+
+pub small_is_lawful : LawfulRows rows
+small_is_lawful = record { grows = grow; agrees = agree; rests = rest; waits = wait }
