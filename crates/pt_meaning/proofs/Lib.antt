@@ -18,3 +18,4 @@ pub mod PlaceLaws
 pub mod PlaceEnds
 pub mod MeaningLaws
 pub mod OrderOfMeetings
+pub mod LogLaws

@@ -21,3 +21,4 @@ pub mod Closed
 pub mod AnyOrder
 pub mod PromisesOfOrder
 pub mod Schemes
+pub mod LogsOfRuns
