@@ -1,0 +1,53 @@
+ghost use Rattle.std.specs.Prelude.{◌≡◌, ℤ};
+ghost use Rattle.pt_flat.specs.Actors.{Makes, ramp_firing, scale_firing};
+
+use thiserror::Error;
+
+/// A result is outside the range of `i64`.
+#[derive(Clone, Copy, Debug, PartialEq, Eq, Error)]
+#[error("the result doesn't fit 64 bits")]
+pub struct Overflow;
+
+/// `Ramp`: gives a number, and at each later firing a step more.
+///
+/// The number may pass the range of `i64` after the last firing that fits.
+#[derive(Clone, Copy, Debug, PartialEq, Eq)]
+pub struct Ramp {
+    pub next: i128,
+    pub step: i64,
+}
+
+impl Ramp {
+    /// Gives the next number. After an `Err` the actor is as before.
+    pub fn fire(&mut self) -> Result<i64, Overflow>
+        ensures { Makes (ramp_firing self.old) self.old self.new result }
+    {
+        let Ok(given) = i64::try_from(self.next) else {
+            return Err(Overflow);
+        };
+        self.next = i128::from(given) + i128::from(self.step);
+        Ok(given)
+    }
+}
+
+/// `Scale`: multiplies its input by a factor.
+#[derive(Clone, Copy, Debug, PartialEq, Eq)]
+pub struct Scale {
+    pub factor: i64,
+}
+
+impl Scale {
+    /// Gives the product.
+    pub fn fire(&mut self, input: i64) -> Result<i64, Overflow>
+        ensures { Makes (scale_firing self.old input) self.old self.new result }
+    {
+        input.checked_mul(self.factor).ok_or(Overflow)
+    }
+}
+
+/// A library actor with one output.
+#[derive(Clone, Copy, Debug, PartialEq, Eq)]
+pub enum Actor {
+    Ramp(Ramp),
+    Scale(Scale),
+}

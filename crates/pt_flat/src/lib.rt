@@ -1,0 +1,6 @@
+//! Runs flat dataflow models, whose actors take one token from each place and give one token in a firing.
+#![tactic(auto)]
+
+mod actor;
+
+pub use actor::{Actor, Overflow, Ramp, Scale};
