@@ -19,3 +19,4 @@ pub mod PlaceEnds
 pub mod MeaningLaws
 pub mod OrderOfMeetings
 pub mod LogLaws
+pub mod CompositeLaws

@@ -201,7 +201,7 @@ log-rated_outcome : {T S : Type 0} (ns : List ℕ) (n : ℕ) (r : Outcome T S) �
 log-rated_outcome ns n (Done s out l) = log-if_rated (has_rates ns out) n s out l
 log-rated_outcome ns n (Stuck fs l) = refl
 
-log-rated : {T S : Type 0} (facts : Facts T S) (rates : Option (List ℕ)) (step : Stepping T S) (tag : Tag) (s : S) (X : Streams T) → log_in (rated facts rates step tag s X) ≡ log_in (step tag s X)
+pub log-rated : {T S : Type 0} (facts : Facts T S) (rates : Option (List ℕ)) (step : Stepping T S) (tag : Tag) (s : S) (X : Streams T) → log_in (rated facts rates step tag s X) ≡ log_in (step tag s X)
 log-rated facts None step tag s X = refl
 log-rated facts (Some ns) step tag s X = log-rated_outcome ns (facts.made s) (step tag s X)
 

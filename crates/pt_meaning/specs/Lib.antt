@@ -22,3 +22,4 @@ pub mod AnyOrder
 pub mod PromisesOfOrder
 pub mod Schemes
 pub mod LogsOfRuns
+pub mod CompositeRuns
