@@ -1,11 +1,12 @@
 -- The small library keeps what rows of a library owe.
-use Rattle.std.proofs.Common.{◌≡◌, ◌||◌, ℕ, zero, suc, List, [], ◌∷◌, Bool, true, false, Option, Some, None, ℤ, pos, negsuc, refl, sym, ap, subst}
+use Rattle.std.proofs.Common.{◌≡◌, ◌≢◌, true≢false, ◌⊎◌, inl, inr, ◌||◌, ◌&&◌, ◌<◌, ◌≤◌, ℕ, zero, suc, nat_eq, nat_lt, nat_le, if◌then◌else◌, arith, List, [], ◌∷◌, Bool, true, false, Option, Some, None, ℤ, pos, negsuc, refl, sym, ap, subst}
+use Rattle.std.proofs.lemmas.Bool.Decides.{eqb_tells, leb_tells}
 use Rattle.pt_meaning.specs.Basics.{Tag, Streams, at}
 use Rattle.pt_meaning.specs.Machine.{Partial, Unknown, Known, partial_at}
-use Rattle.pt_meaning.specs.Tick.{known, known_then, any_present, is_due}
+use Rattle.pt_meaning.specs.Tick.{known, known_then, any_present, is_due, tag_le}
 use Rattle.pt_meaning.specs.Laws.{PartialBelow, KnownBelow}
 use Rattle.pt_meaning.specs.Promises.{LawfulRows}
-use Rattle.pt_meaning.specs.Node.{Gives}
+use Rattle.pt_meaning.specs.Node.{Gives, earlier}
 use Rattle.pt_examples.specs.Small.{Token, Num, Truth, Array, Act, Const, Ramp, Sequence, Mux, Delay, Server, rows, react, early, whole, begins, next, due_in, pending_next, mux_early, muxed}
 
 below-same : {T : Type 0} (v : Partial T) → PartialBelow v v
@@ -69,9 +70,47 @@ or-right : (a b : Bool) → (a || b) ≡ false → b ≡ false
 or-right true b e = absurd (cc)
 or-right false b e = e
 
+-- what the test of two tags tells
+lex-tells : (a b c d : ℕ) → (((nat_lt a b || (nat_eq a b && nat_le c d)) ≡ true) × ((a < b) ⊎ ((a ≡ b) × (c ≤ d)))) ⊎ (((nat_lt a b || (nat_eq a b && nat_le c d)) ≡ false) × ((b < a) ⊎ ((a ≡ b) × (d < c))))
+lex-tells a b c d = go (leb_tells (suc a) b) (eqb_tells a b) (leb_tells c d)
+  where
+    go : (((nat_lt a b ≡ true) × (suc a ≤ b)) ⊎ ((nat_lt a b ≡ false) × (b < suc a))) → (((nat_eq a b ≡ true) × (a ≡ b)) ⊎ ((nat_eq a b ≡ false) × (a ≢ b))) → (((nat_le c d ≡ true) × (c ≤ d)) ⊎ ((nat_le c d ≡ false) × (d < c))) →
+        (((nat_lt a b || (nat_eq a b && nat_le c d)) ≡ true) × ((a < b) ⊎ ((a ≡ b) × (c ≤ d)))) ⊎ (((nat_lt a b || (nat_eq a b && nat_le c d)) ≡ false) × ((b < a) ⊎ ((a ≡ b) × (d < c))))
+    go (inl h) e f = inl (rw (h.0) refl, inl (h.1))
+    go (inr h) (inl e) (inl f) = inl (rw (h.0, e.0, f.0) refl, inr (e.1, f.1))
+    go (inr h) (inl e) (inr f) = inr (rw (h.0, e.0, f.0) refl, inr (e.1, f.1))
+    go (inr h) (inr e) f = inr (rw (h.0, e.0) refl, inl (omega arith))
+
+-- of two tags the lesser comes after a third only where both do
+both-later : (u w t : Tag) → is_due t (earlier (Some u) (Some w)) ≡ false → (tag_le u t ≡ false) × (tag_le w t ≡ false)
+both-later u w t e = go (lex-tells u.time w.time u.step w.step) (lex-tells u.time t.time u.step t.step) (lex-tells w.time t.time w.step t.step)
+  where
+    Tells : Tag → Tag → Type 0
+    Tells a b = ((tag_le a b ≡ true) × ((a.time < b.time) ⊎ ((a.time ≡ b.time) × (a.step ≤ b.step)))) ⊎ ((tag_le a b ≡ false) × ((b.time < a.time) ⊎ ((a.time ≡ b.time) × (b.step < a.step))))
+
+    picked : (b : Bool) → tag_le u w ≡ b → is_due t (if b then Some u else Some w) ≡ false
+    picked b f = subst (λ c. is_due t (if c then Some u else Some w) ≡ false) f e
+
+    due-first : tag_le u w ≡ true → tag_le u t ≡ false
+    due-first f = picked true f
+
+    due-second : tag_le u w ≡ false → tag_le w t ≡ false
+    due-second f = picked false f
+
+    go : Tells u w → Tells u t → Tells w t → (tag_le u t ≡ false) × (tag_le w t ≡ false)
+    go a (inr h) (inr k) = (h.0, k.0)
+    go (inl a) (inl h) k = absurd (true≢false (let no = due-first a.0 in cc))
+    go (inr a) h (inl k) = absurd (true≢false (let no = due-second a.0 in cc))
+    go (inl a) (inr h) (inl k) = absurd (grind arith)
+    go (inr a) (inl h) (inr k) = absurd (grind arith)
+
 none-due : (t : Tag) (pending : List (Tag × Token)) → is_due t (pending_next pending) ≡ false → due_in t pending ≡ []
 none-due t [] e = refl
-none-due t ((u, x) ∷ pending) e = rw e refl
+none-due t ((u, x) ∷ pending) e = go (pending_next pending) (none-due t pending) e
+  where
+    go : (o : Option Tag) → (is_due t o ≡ false → due_in t pending ≡ []) → is_due t (earlier (Some u) o) ≡ false → due_in t ((u, x) ∷ pending) ≡ []
+    go None h e = rw (e, h refl) refl
+    go (Some w) h e = let two = both-later u w t e in rw (two.0, h two.1) refl
 
 grow : (t : Tag) (a : Act) (vs ws : List (Partial Token)) → KnownBelow vs ws → (p : ℕ) → PartialBelow (partial_at (early t a vs) p) (partial_at (early t a ws) p)
 grow t Mux vs ws h p = mux-grows vs ws h p

@@ -40,6 +40,7 @@ other (suc n) = 0
 abbrev pub two_modes : (history : Bool) → (ℕ → Streams Token → List modal.Test) → (ℕ → Streams Token → Streams Token → List modal.Test) → Chart Token
 two_modes history preemptive others = record {
   inputs = 1;
+  outputs = 1;
   preemptive = λ mode v X. preemptive mode X;
   others = λ mode v X out. others mode X out;
   act = λ early mode n v X out. modal.Acts out v;

@@ -5,11 +5,13 @@ pub mod Rounds
 pub mod Dataflow
 pub mod Tick
 pub mod Modal
+pub mod Transitions
 pub mod Process
 pub mod Meetings
 pub mod Rendezvous
 pub mod Children
 pub mod Node
+pub mod Start
 pub mod Laws
 pub mod Promises
 pub mod Running
