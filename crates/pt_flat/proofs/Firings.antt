@@ -91,10 +91,10 @@ told_if false n = []
 
 -- ---- in the middle of an iteration: which actors have fired, the last numbers, the actors and what each has logged
 
-module _ (feeds : List (List ℕ)) (starts begun : List Actor) (j dep : ℕ) (m : Meets) where
-  abbrev pub kid_facts : Facts Token (Child (tree.Node Token Actor))
-  kid_facts = child_facts (tree.facts_of rows)
+abbrev pub kid_facts : Facts Token (Child (tree.Node Token Actor))
+kid_facts = child_facts (tree.facts_of rows)
 
+module _ (feeds : List (List ℕ)) (starts begun : List Actor) (j dep : ℕ) (m : Meets) where
   abbrev pub kid_step : ℕ → Stepping Token (Child (tree.Node Token Actor))
   kid_step k = child_step (λ i. step_at rows k dep (below_child i m))
 
@@ -147,14 +147,14 @@ module _ (feeds : List (List ℕ)) (starts begun : List Actor) (j dep : ℕ) (m 
       ap (λ d. with_number t (step_at rows k d (below_child t m) origin (tree.Actor (past_at j) a0 a) (inputs_of values f))) deep ∙
       ap (λ r. with_number t (tree.actor_outcome origin (past_at j) a0 r)) (react-is origin a values f fits ∙ ap answer e)
 
-  kid-sticks : (k t : ℕ) (a0 a : Actor) (values : List ℤ) (f : List ℕ) → dep ≡ 1 → Matches a f → actor_firing a (numbers_of values f) ≡ row.Overflows →
+  pub kid-sticks : (k t : ℕ) (a0 a : Actor) (values : List ℤ) (f : List ℕ) → dep ≡ 1 → Matches a f → actor_firing a (numbers_of values f) ≡ row.Overflows →
       kid_step k origin (kid t j false a0 a) (inputs_of values f) ≡ Stuck (record { path = []; firing = j; code = 31 } ∷ []) silent
   unfolding step_at
   kid-sticks k t a0 a values f deep fits e =
       ap (λ d. with_number t (step_at rows k d (below_child t m) origin (tree.Actor (past_at j) a0 a) (inputs_of values f))) deep ∙
       ap (λ r. with_number t (tree.actor_outcome origin (past_at j) a0 r)) (react-is origin a values f fits ∙ ap answer e)
 
-  kid-takes : (t : ℕ) (a0 a : Actor) (values : List ℤ) (f : List ℕ) → Matches a f → front (kid_facts.need (kid t j false a0 a)) (inputs_of values f) ≡ Takes (inputs_of values f) (nothing_of f)
+  pub kid-takes : (t : ℕ) (a0 a : Actor) (values : List ℤ) (f : List ℕ) → Matches a f → front (kid_facts.need (kid t j false a0 a)) (inputs_of values f) ≡ Takes (inputs_of values f) (nothing_of f)
   kid-takes t a0 a values f fits = ap (λ d. front d (inputs_of values f)) (need-one a f fits) ∙ takes-one values f
 
   -- the record of actor t

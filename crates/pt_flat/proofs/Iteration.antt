@@ -5,11 +5,11 @@ use Rattle.std.proofs.lemmas.List.{get_or-set_same, get_or-set_other}
 use Rattle.pt_value.specs.declared.token.Token.{Token}
 use Rattle.pt_value.specs.declared.token.Token.TheVariants.{Int}
 use Rattle.pt_meaning.specs.Basics.{Tag, Streams, Firing, silent}
-use Rattle.pt_meaning.specs.Machine.{Need, Counts, Outcome, Done, Stuck, Stepping, Facts, Takes, front, counted}
+use Rattle.pt_meaning.specs.Machine.{Need, Counts, Fault, Outcome, Done, Stuck, Stepping, Facts, Takes, front, counted}
 use Rattle.pt_meaning.specs.Rounds.{Source, Output, Net, Limit, rated, rated_outcome}
 use Rattle.pt_meaning.specs.Dataflow.{sdf_limits}
 use Rattle.pt_meaning.specs.Running.{plus, puts}
-use Rattle.pt_meaning.specs.LogsOfRuns.{FiresWith}
+use Rattle.pt_meaning.specs.LogsOfRuns.{FiresWith, SticksWith}
 use Rattle.pt_meaning.specs.Children.{Child}
 use Rattle.pt_meaning.specs.Node as tree
 use Rattle.pt_flat.specs.declared.actor.Actor.{Actor}
@@ -61,7 +61,7 @@ held-append : (sent : List Bool) (values : List ℤ) (done : Bool) (f : List ℕ
 held-append sent values done [] X = refl
 held-append sent values done (s ∷ f) X = ap (λ v. way_token (flag sent s && not done) (get_or values s (pos 0)) ∷ v) (held-append sent values done f X)
 
-held-taken : (sent : List Bool) (values : List ℤ) (f : List ℕ) → held_then sent values true f [] ≡ nothing_of f
+pub held-taken : (sent : List Bool) (values : List ℤ) (f : List ℕ) → held_then sent values true f [] ≡ nothing_of f
 held-taken sent values [] = refl
 held-taken sent values (s ∷ f) = ap₂ (λ b v. way_token b (get_or values s (pos 0)) ∷ v) (never (flag sent s)) (held-taken sent values f)
   where
@@ -101,12 +101,12 @@ last_at (suc n) = Some 0
 abbrev pub past_at : ℕ → tree.Past
 past_at n = record { made = n; last = last_at n }
 
-abbrev pub times : ℕ → Bool → ℕ
-times j true = suc j
-times j false = j
+abbrev pub times_fired : ℕ → Bool → ℕ
+times_fired j true = suc j
+times_fired j false = j
 
 abbrev pub kid : ℕ → ℕ → Bool → Actor → Actor → Child (tree.Node Token Actor)
-kid d j fired a0 a = record { number = d; node = tree.Actor (past_at (times j fired)) a0 a }
+kid d j fired a0 a = record { number = d; node = tree.Actor (past_at (times_fired j fired)) a0 a }
 
 abbrev pub kids_from : ℕ → List Bool → ℕ → List Actor → List Actor → List (Child (tree.Node Token Actor))
 kids_from j fired d [] nows = []
@@ -181,11 +181,11 @@ abbrev pub limits_of : List (List ℕ) → List Limit
 limits_of feeds = sdf_limits 1 (ones feeds) (unit_rates feeds)
 
 -- flags that agree from d on make the same counts, children and channels
-counts-as : (fired other : List Bool) (d : ℕ) (feeds : List (List ℕ)) → ((i : ℕ) → d ≤ i → flag other i ≡ flag fired i) → counts_from other d feeds ≡ counts_from fired d feeds
+pub counts-as : (fired other : List Bool) (d : ℕ) (feeds : List (List ℕ)) → ((i : ℕ) → d ≤ i → flag other i ≡ flag fired i) → counts_from other d feeds ≡ counts_from fired d feeds
 counts-as fired other d [] h = refl
 counts-as fired other d (f ∷ feeds) h = ap₂ (λ b v. as_count b ∷ v) (h d (omega arith)) (counts-as fired other (suc d) feeds (λ i l. h i (omega arith)))
 
-kids-as : (j : ℕ) (fired other : List Bool) (d : ℕ) (starts nows : List Actor) → ((i : ℕ) → d ≤ i → flag other i ≡ flag fired i) → kids_from j other d starts nows ≡ kids_from j fired d starts nows
+pub kids-as : (j : ℕ) (fired other : List Bool) (d : ℕ) (starts nows : List Actor) → ((i : ℕ) → d ≤ i → flag other i ≡ flag fired i) → kids_from j other d starts nows ≡ kids_from j fired d starts nows
 kids-as j fired other d [] nows h = refl
 kids-as j fired other d (a0 ∷ starts) [] h = refl
 kids-as j fired other d (a0 ∷ starts) (a ∷ nows) h = ap₂ (λ b v. kid d j b a0 a ∷ v) (h d (omega arith)) (kids-as j fired other (suc d) starts nows (λ i l. h i (omega arith)))
@@ -262,3 +262,42 @@ module _ (facts : Facts Token Kid) (step : Stepping Token Kid) (tag : Tag) (j : 
         ap (λ b. held_then fired values b f (held_from fired (set fired t true) values (suc d) feeds)) same ∙ held-append fired values (flag fired d) f (held_from fired (set fired t true) values (suc d) feeds) ∙
         ap (λ v. v ++ held_from fired (set fired t true) values (suc d) feeds) (sym (held-take fired values (flag fired d) f rest)),
       )
+
+module _ (facts : Facts Token Kid) (step : Stepping Token Kid) (tag : Tag) (j : ℕ) (fired : List Bool) (values : List ℤ) (t : ℕ) (u : flag fired t ≡ false) (code : ℕ) where
+  abbrev pub place_at : Fault
+  place_at = record { path = []; firing = j; code = code }
+
+  -- actor t has its inputs, and is stuck
+  pub record SticksOn (a0 a : Actor) (f : List ℕ) : Type 0 where
+    pub ready : all_flags fired f ≡ true
+    pub takes : front (facts.need (kid t j false a0 a)) (inputs_of values f) ≡ Takes (inputs_of values f) (nothing_of f)
+    pub sticks : step tag (kid t j false a0 a) (inputs_of values f) ≡ Stuck (place_at ∷ []) silent
+
+  sticks-head : (d : ℕ) (f : List ℕ) (feeds : List (List ℕ)) (a0 a : Actor) (starts nows : List Actor) → d ≡ t → SticksOn a0 a f →
+      SticksWith facts step tag zero (places_of (f ∷ feeds)) (limits_of (f ∷ feeds)) (counts_from fired d (f ∷ feeds)) (kids_from j fired d (a0 ∷ starts) (a ∷ nows)) (held_from fired fired values d (f ∷ feeds)) silent place_at
+  sticks-head d f feeds a0 a starts nows e h =
+      let un : flag fired d ≡ false = ap (λ i. flag fired i) e ∙ u in
+      let kid_is : kid d j (flag fired d) a0 a ≡ kid t j false a0 a = ap₂ (λ x b. kid x j b a0 a) e un in
+      let rest = held_from fired fired values (suc d) feeds in
+      let front_is : take (length f) (held_then fired values (flag fired d) f rest) ≡ inputs_of values f = held-take fired values (flag fired d) f rest ∙ ap (λ b. held_then fired values b f []) un ∙ held-ready fired values f h.ready in
+      (
+        inputs_of values f,
+        nothing_of f,
+        place_at ∷ [],
+        rw un (omega arith),
+        ap₂ (λ (k : Kid) (X : Streams Token). front (facts.need k) X) kid_is front_is ∙ h.takes,
+        ap (λ k. rated facts (Some (1 ∷ [])) step tag k (inputs_of values f)) kid_is ∙ ap (λ r. rated_outcome (1 ∷ []) (facts.made (kid t j false a0 a)) r) h.sticks,
+        inl refl,
+      )
+
+  -- actor t, which is the one at number i from d on, is stuck
+  pub sticks-from : (i d : ℕ) (feeds : List (List ℕ)) (starts nows : List Actor) (x : Actor) → d + i ≡ t → i < length feeds → length starts ≡ length feeds → length nows ≡ length feeds → SticksOn (get_or starts i x) (get_or nows i x) (get_or feeds i []) →
+      SticksWith facts step tag i (places_of feeds) (limits_of feeds) (counts_from fired d feeds) (kids_from j fired d starts nows) (held_from fired fired values d feeds) silent place_at
+  sticks-from i d [] starts nows x e k a b h = absurd (omega arith)
+  sticks-from i d (f ∷ feeds) [] nows x e k a b h = absurd (omega arith)
+  sticks-from i d (f ∷ feeds) (a0 ∷ starts) [] x e k a b h = absurd (omega arith)
+  sticks-from zero d (f ∷ feeds) (a0 ∷ starts) (a ∷ nows) x e k p q h = sticks-head d f feeds a0 a starts nows (omega arith) h
+  sticks-from (suc i) d (f ∷ feeds) (a0 ∷ starts) (a ∷ nows) x e k p q h =
+      let rest = held_from fired fired values (suc d) feeds in
+      let Rest : Streams Token → Type 0 = λ X. SticksWith facts step tag i (places_of feeds) (limits_of feeds) (counts_from fired (suc d) feeds) (kids_from j fired (suc d) starts nows) X silent place_at in
+      subst Rest (sym (held-drop fired values (flag fired d) f rest)) (sticks-from i (suc d) feeds starts nows x (omega arith) (omega arith) (omega arith) (omega arith) h)

@@ -1,2 +1,3 @@
 pub mod Iteration
 pub mod Firings
+pub mod Whole

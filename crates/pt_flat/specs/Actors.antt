@@ -84,7 +84,7 @@ begins (actors.Scale s) = false
 
 -- the rows: none of these actors has wakes, gives anything early or takes its lists whole
 abbrev pub rows : tree.Rows Token Actor
-rows = record { need = need; next = λ a. None; react = react; early = λ tag a vs. []; whole = λ a. false; begins = begins }
+rows = record { need = need; first = λ a. []; next = λ a. None; react = react; early = λ tag a vs. []; whole = λ a. false; begins = begins }
 
 -- the call made this firing; where it overflows the actor is as before
 abbrev pub Makes : {S : Type 0} → Firing S → S → S → Result ℤ Overflow → Type 0
