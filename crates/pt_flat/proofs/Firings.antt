@@ -71,7 +71,7 @@ log-other zero (suc d) l (m ∷ ls) h = refl
 log-other (suc i) zero l (m ∷ ls) h = refl
 log-other (suc i) (suc d) l (m ∷ ls) h = log-other i d l ls (λ e. h (ap (λ n. suc n) e))
 
-meetings-append : (n : ℕ) (xs ys : List (Event Token)) → meetings_in n xs ≡ [] → meetings_in n ys ≡ [] → meetings_in n (xs ++ ys) ≡ []
+pub meetings-append : (n : ℕ) (xs ys : List (Event Token)) → meetings_in n xs ≡ [] → meetings_in n ys ≡ [] → meetings_in n (xs ++ ys) ≡ []
 meetings-append n [] ys h k = k
 meetings-append n (basics.Finished ns f ∷ xs) ys h k = meetings-append n xs ys h k
 meetings-append n (basics.Met ns i m ∷ xs) ys h k = by_same (nat_eq i n) (λ e. meetings-append n xs ys e k) h
@@ -80,7 +80,7 @@ meetings-append n (basics.Met ns i m ∷ xs) ys h k = by_same (nat_eq i n) (λ e
     by_same true more e = absurd (cc)
     by_same false more e = more e
 
-own-unmet : (n : ℕ) (f : Firing Token) (p : Path) → meetings_in n (own f p) ≡ []
+pub own-unmet : (n : ℕ) (f : Firing Token) (p : Path) → meetings_in n (own f p) ≡ []
 own-unmet n f [] = refl
 own-unmet n f (i ∷ p) = refl
 

@@ -1,3 +1,4 @@
 pub mod Iteration
 pub mod Firings
 pub mod Whole
+pub mod Course

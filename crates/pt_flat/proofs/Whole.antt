@@ -158,7 +158,7 @@ abbrev pub depth_of : List (List ℕ) → ℕ
 depth_of [] = 0
 depth_of (f ∷ feeds) = 1
 
-heights-are : (j : ℕ) (feeds : List (List ℕ)) (starts nows : List Actor) → length starts ≡ length feeds → length nows ≡ length feeds → tree.heights (tree.nodes_of (nodes_at j starts nows)) ≡ depth_of feeds
+pub heights-are : (j : ℕ) (feeds : List (List ℕ)) (starts nows : List Actor) → length starts ≡ length feeds → length nows ≡ length feeds → tree.heights (tree.nodes_of (nodes_at j starts nows)) ≡ depth_of feeds
 heights-are j [] [] nows e h = refl
 heights-are j [] (a0 ∷ starts) nows e h = absurd (omega arith)
 heights-are j (f ∷ feeds) [] nows e h = absurd (omega arith)
@@ -188,7 +188,7 @@ silent-then i [] = refl
 silent-then zero (l ∷ ls) = ap (λ x. x ∷ ls) (fun_ext (λ p. append-nil (l p)))
 silent-then (suc i) (l ∷ ls) = ap (λ x. l ∷ x) (silent-then i ls)
 
-some-depth : (feeds : List (List ℕ)) (i : ℕ) → i < length feeds → depth_of feeds ≡ 1
+pub some-depth : (feeds : List (List ℕ)) (i : ℕ) → i < length feeds → depth_of feeds ≡ 1
 some-depth [] i l = absurd (omega arith)
 some-depth (f ∷ feeds) i l = refl
 

@@ -1,3 +1,4 @@
 pub mod Actors
 pub mod Model
 pub mod Turns
+pub mod Run
