@@ -17,9 +17,9 @@ use Rattle.pt_meaning.specs.Node.{Rows, Node, step_at, Step}
 use Rattle.pt_meaning.proofs.LogLaws.{traces-add}
 use Rattle.pt_flat.specs.declared.actor.Actor.{Actor}
 use Rattle.pt_flat.specs.Actors as row
-use Rattle.pt_flat.specs.Actors.{rows}
+use Rattle.pt_flat.specs.Actors.{rows, no_actor}
 use Rattle.pt_flat.specs.Model.{flag, Orders, start_of, leaves, plan_of, empty_for, sources_of}
-use Rattle.pt_flat.specs.Turns.{no_actor, Turned, Finished, Stopped, turned}
+use Rattle.pt_flat.specs.Turns.{Turned, Finished, Stopped, turned}
 use Rattle.pt_flat.specs.Run.{stamped, AreTold, IsRun, AllDone, Overflow}
 use Rattle.pt_flat.proofs.Firings.{Matches, told_if, LeadsTo, leads-to, meetings-append, own-unmet}
 use Rattle.std.proofs.lemmas.List.{get_or-set_other}

@@ -21,9 +21,9 @@ use Rattle.pt_meaning.proofs.LogLaws.{traces-add}
 use Rattle.pt_flat.specs.declared.actor.Actor.{Actor}
 use Rattle.pt_flat.specs.declared.actor.Actor.TheVariants as actors
 use Rattle.pt_flat.specs.Actors as row
-use Rattle.pt_flat.specs.Actors.{rows, react, need, place_count, given, answer}
+use Rattle.pt_flat.specs.Actors.{no_actor, rows, react, need, place_count, given, answer}
 use Rattle.pt_flat.specs.Model.{sources_of, places_of, flag, all_flags, plan_of, empty_for, Orders}
-use Rattle.pt_flat.specs.Turns.{numbers_of, actor_firing, no_actor, firing_at, Turned, Finished, Stopped, turned, on_firing}
+use Rattle.pt_flat.specs.Turns.{numbers_of, actor_firing, firing_at, Turned, Finished, Stopped, turned, on_firing}
 use Rattle.pt_flat.proofs.Iteration.{held_from, inputs_of, nothing_of, counts_from, one_each, takes-one, past_at, kid, kids_from, and-first, and-second, Supplied, held-plus, limits_of, FiresOn, fires-from}
 
 -- an actor with as many places as these feeds

@@ -2,3 +2,4 @@ pub mod Iteration
 pub mod Firings
 pub mod Whole
 pub mod Course
+pub mod Orders

@@ -69,6 +69,10 @@ abbrev pub react : Tag → Actor → Streams Token → tree.Answer Token Actor
 react tag (actors.Ramp r) X = answer (held_as actors.Ramp (ramp_firing r))
 react tag (actors.Scale s) X = scale_answer s (head_of (first_place X))
 
+-- an actor to name where a list has no more
+abbrev pub no_actor : Actor
+no_actor = actors.Scale (record { factor = pos 0 })
+
 -- how many input places an actor has
 abbrev pub place_count : Actor → ℕ
 place_count (actors.Ramp r) = 0

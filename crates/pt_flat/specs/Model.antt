@@ -1,11 +1,12 @@
 -- A flat dataflow model: what it is as a node of the definitions.
-use Rattle.std.specs.Prelude.{◌≡◌, ℕ, zero, suc, ◌<◌, length, get_or, set, List, [], ◌∷◌, Bool, true, false, ◌&&◌, Some, None}
+use Rattle.std.specs.Prelude.{◌≡◌, ℕ, zero, suc, ◌<◌, length, get_or, set, replicate, List, [], ◌∷◌, Bool, true, false, ◌&&◌, Some, None}
 use Rattle.pt_value.specs.declared.token.Token.{Token}
 use Rattle.pt_meaning.specs.Basics.{Streams}
 use Rattle.pt_meaning.specs.Rounds.{Source, Output, Net}
 use Rattle.pt_meaning.specs.Dataflow.{SdfPlan}
 use Rattle.pt_meaning.specs.Node as tree
 use Rattle.pt_flat.specs.declared.actor.Actor.{Actor}
+use Rattle.pt_flat.specs.Actors.{place_count, no_actor}
 
 -- The feeds of a model have for each place of each actor the number of the actor that feeds it. Each actor has one output.
 abbrev pub sources_then : List ℕ → List Source → List Source
@@ -57,3 +58,27 @@ all_flags fired (s ∷ feeds) = flag fired s && all_flags fired feeds
 abbrev pub Orders : List (List ℕ) → List Bool → List ℕ → Type 0
 Orders feeds fired [] = (i : ℕ) → i < length feeds → flag fired i ≡ true
 Orders feeds fired (i ∷ order) = (i < length feeds) × (flag fired i ≡ false) × (all_flags fired (get_or feeds i []) ≡ true) × Orders feeds (set fired i true) order
+
+-- no order has each actor behind those that feed it
+abbrev pub HasNoOrder : List (List ℕ) → Type 0
+HasNoOrder feeds = (order : List ℕ) → Orders feeds (replicate (length feeds) false) order → ⊥
+
+-- each actor has as many feeds as it has places
+pub record AreMatched (actors : List Actor) (feeds : List (List ℕ)) : Type 0 where
+  pub long : length actors ≡ length feeds
+  pub each : (i : ℕ) → i < length feeds → place_count (get_or actors i no_actor) ≡ length (get_or feeds i [])
+
+-- and the order is one
+pub record IsLawful (actors : List Actor) (feeds : List (List ℕ)) (order : List ℕ) : Type 0 where
+  pub matched : AreMatched actors feeds
+  pub ordered : Orders feeds (replicate (length feeds) false) order
+
+-- an actor that has not fired, behind all that feed it
+pub record IsReady (feeds : List (List ℕ)) (fired : List Bool) (i : ℕ) : Type 0 where
+  pub there : i < length feeds
+  pub unfired : flag fired i ≡ false
+  pub fed : all_flags fired (get_or feeds i []) ≡ true
+
+-- no actor is ready
+abbrev pub IsStuck : List (List ℕ) → List Bool → Type 0
+IsStuck feeds fired = (i : ℕ) → IsReady feeds fired i → ⊥

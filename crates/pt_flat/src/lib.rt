@@ -2,5 +2,7 @@
 #![tactic(auto)]
 
 mod actor;
+mod flat;
 
 pub use actor::{Actor, Overflow, Ramp, Scale};
+pub use flat::{Feeds, Flat, FlatFault};
