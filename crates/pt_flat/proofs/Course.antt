@@ -20,7 +20,7 @@ use Rattle.pt_flat.specs.Actors as row
 use Rattle.pt_flat.specs.Actors.{rows, no_actor}
 use Rattle.pt_flat.specs.Model.{flag, Orders, start_of, leaves, plan_of, empty_for, sources_of}
 use Rattle.pt_flat.specs.Turns.{Turned, Finished, Stopped, turned}
-use Rattle.pt_flat.specs.Run.{stamped, AreTold, IsRun, AllDone, Overflow}
+use Rattle.pt_flat.specs.Run.{stamped, AreTold, IsRun, AllDone, Overflow, waits}
 use Rattle.pt_flat.proofs.Firings.{Matches, told_if, LeadsTo, leads-to, meetings-append, own-unmet}
 use Rattle.std.proofs.lemmas.List.{get_or-set_other}
 use Rattle.pt_meaning.specs.Running.{total}
@@ -82,7 +82,12 @@ abbrev pub last_tag : ℕ → Option Tag
 last_tag zero = None
 last_tag (suc n) = Some origin
 
-module _ (feeds : List (List ℕ)) (starts : List Actor) (iterations : ℕ) (long : length starts ≡ length feeds) where
+-- what is told of an actor in an iteration that stops, unless it still waits
+abbrev pub told_unless : Bool → ℤ → List (Tag × Token)
+told_unless true n = []
+told_unless false n = (origin, Int n) ∷ []
+
+module _ (feeds : List (List ℕ)) (starts : List Actor) (iterations : ℕ) where
   abbrev pub plan : Schedule Token Actor
   plan = sdf_top iterations [] []
 
@@ -97,18 +102,20 @@ module _ (feeds : List (List ℕ)) (starts : List Actor) (iterations : ℕ) (lon
     pub stands : (k : ℕ) → length feeds < k → after k rows tree.no_meetings plan n (begin top) ≡ Goes (course_at n nows log)
     pub unmet : (p : Path) (c : ℕ) → meetings_in c (log p) ≡ []
     pub matched : (i : ℕ) → i < length feeds → Matches (get_or nows i no_actor) (get_or feeds i [])
+    pub long : length starts ≡ length feeds
     pub actors : length nows ≡ length feeds
 
   leaves-are : (starts : List Actor) → leaves starts ≡ nodes_at 0 starts starts
   leaves-are [] = refl
   leaves-are (a ∷ starts) = ap (λ v. tree.Actor tree.unfired a a ∷ v) (leaves-are starts)
 
-  pub at-start : ((i : ℕ) → i < length feeds → Matches (get_or starts i no_actor) (get_or feeds i [])) → After 0 starts silent
+  pub at-start : length starts ≡ length feeds → ((i : ℕ) → i < length feeds → Matches (get_or starts i no_actor) (get_or feeds i [])) → After 0 starts silent
   unfolding after
-  at-start fits = record {
+  at-start long fits = record {
     stands = λ k l. ap (λ ns. let s : Standing Token Actor = Goes (begin (tree.composite (tree.Sdf (plan_of feeds) (empty_for (sources_of feeds))) ns)) in s) (leaves-are starts);
     unmet = λ p c. refl;
     matched = fits;
+    long = long;
     actors = long;
   }
 
@@ -123,19 +130,19 @@ module _ (feeds : List (List ℕ)) (starts : List Actor) (iterations : ℕ) (lon
   fires-next : (n : ℕ) → n < iterations → (last : Option Tag) (node : Node Token Actor) → plan n last node ≡ Fire origin []
   fires-next n l last node = let b : nat_lt n iterations ≡ true = grind (arith, nat_tests) in ap (λ x. if_more x true origin []) b
 
-  heights-at : (n : ℕ) (nows : List Actor) → length nows ≡ length feeds → tree.height (model_at feeds n starts nows) ≡ suc (depth_of feeds)
-  heights-at n nows e = ap (λ h. suc h) (heights-are n feeds starts nows long e)
+  heights-at : (n : ℕ) (nows : List Actor) → length starts ≡ length feeds → length nows ≡ length feeds → tree.height (model_at feeds n starts nows) ≡ suc (depth_of feeds)
+  heights-at n nows long e = ap (λ h. suc h) (heights-are n feeds starts nows long e)
 
-  step-is : (k n : ℕ) (nows : List Actor) → length nows ≡ length feeds → Step k rows tree.no_meetings (model_at feeds n starts nows) origin [] ≡ recorded n origin [] (step_at rows k (suc (depth_of feeds)) tree.no_meetings origin (model_at feeds n starts nows) [])
-  step-is k n nows e = ap (λ h. recorded n origin [] (step_at rows k h tree.no_meetings origin (model_at feeds n starts nows) [])) (heights-at n nows e)
+  step-is : (k n : ℕ) (nows : List Actor) → length starts ≡ length feeds → length nows ≡ length feeds → Step k rows tree.no_meetings (model_at feeds n starts nows) origin [] ≡ recorded n origin [] (step_at rows k (suc (depth_of feeds)) tree.no_meetings origin (model_at feeds n starts nows) [])
+  step-is k n nows long e = ap (λ h. recorded n origin [] (step_at rows k h tree.no_meetings origin (model_at feeds n starts nows) [])) (heights-at n nows long e)
 
   -- a turn of the top: its step
-  turn-is : (k n : ℕ) (nows : List Actor) (log : Log Token) → n < iterations → length nows ≡ length feeds →
+  turn-is : (k n : ℕ) (nows : List Actor) (log : Log Token) → n < iterations → length starts ≡ length feeds → length nows ≡ length feeds →
       on_turn k rows tree.no_meetings (course_at n nows log) (plan n (last_tag n) (model_at feeds n starts nows)) ≡
       on_step (course_at n nows log) origin (recorded n origin [] (step_at rows k (suc (depth_of feeds)) tree.no_meetings origin (model_at feeds n starts nows) []))
-  turn-is k n nows log l e =
+  turn-is k n nows log l long e =
       ap (λ t. on_turn k rows tree.no_meetings (course_at n nows log) t) (fires-next n l (last_tag n) (model_at feeds n starts nows)) ∙
-      ap (λ r. on_step (course_at n nows log) origin r) (step-is k n nows e)
+      ap (λ r. on_step (course_at n nows log) origin r) (step-is k n nows long e)
 
   meetings-marked : (c n : ℕ) (es : List (Event Token)) → meetings_in c es ≡ [] → meetings_in c (all_marked n es) ≡ []
   meetings-marked c n [] h = refl
@@ -179,7 +186,7 @@ module _ (feeds : List (List ℕ)) (starts : List Actor) (iterations : ℕ) (lon
 
   pub one-more : (n : ℕ) (nows : List Actor) (log : Log Token) (values : List ℤ) (order : List ℕ) → After n nows log → n < iterations → length values ≡ length feeds → Orders feeds (replicate (length feeds) false) order → ComesTo n log (turned feeds order nows values)
   one-more n nows log values order a l wide o =
-      by_turns (turned feeds order nows values) (leads-to feeds starts nows n (depth_of feeds) tree.no_meetings long (λ p. some-depth feeds 0 p) order _ values nows _ (begins feeds starts nows n tree.no_meetings long a.actors values wide a.matched) o)
+      by_turns (turned feeds order nows values) (leads-to feeds starts nows n (depth_of feeds) tree.no_meetings a.long (λ p. some-depth feeds 0 p) order _ values nows _ (begins feeds starts nows n tree.no_meetings a.long a.actors values wide a.matched) o)
     where
       by_turns : (t : Turned) → LeadsTo feeds starts nows n (depth_of feeds) tree.no_meetings t → ComesTo n log t
       by_turns (Stopped i rest after_actors after_values) h = tt
@@ -192,10 +199,11 @@ module _ (feeds : List (List ℕ)) (starts : List Actor) (iterations : ℕ) (lon
             record {
               stands = λ k q.
                   after-more k rows tree.no_meetings plan n (begin top) (course_at n nows log) (a.stands k q) ∙
-                  turn-is k n nows log l a.actors ∙
-                  ap (λ r. on_step (course_at n nows log) origin (recorded n origin [] r)) (iteration-done feeds starts nows n tree.no_meetings long a.actors h.0 after_values after_actors ls w all k q);
+                  turn-is k n nows log l a.long a.actors ∙
+                  ap (λ r. on_step (course_at n nows log) origin (recorded n origin [] r)) (iteration-done feeds starts nows n tree.no_meetings a.long a.actors h.0 after_values after_actors ls w all k q);
               unmet = λ p c. meetings-append c (log p) (log_of_iteration n ls p) (a.unmet p c) (iteration-unmet c n ls (λ i p. w.unmet i p c) p);
               matched = w.matched;
+              long = a.long;
               actors = w.actors;
             },
             w.numbers,
@@ -238,15 +246,6 @@ module _ (feeds : List (List ℕ)) (starts : List Actor) (iterations : ℕ) (lon
 
   -- ---- an actor that overflows
 
-  -- what is told of an iteration that stops before the rest of an order
-  abbrev pub waits : List ℕ → ℕ → Bool
-  waits [] d = false
-  waits (i ∷ rest) d = nat_eq d i || waits rest d
-
-  abbrev pub told_unless : Bool → ℤ → List (Tag × Token)
-  told_unless true n = []
-  told_unless false n = (origin, Int n) ∷ []
-
   abbrev pub StopsAt : (n : ℕ) → Log Token → Turned → Type 0
   StopsAt n log (Finished nows values) = Unit {0}
   StopsAt n log (Stopped i rest nows values) =
@@ -278,12 +277,12 @@ module _ (feeds : List (List ℕ)) (starts : List Actor) (iterations : ℕ) (lon
   halts : (n : ℕ) (nows : List Actor) (log : Log Token) → After n nows log → n < iterations → (k : ℕ) → length feeds < k → (gs : List Fault) (l : Log Token) →
       step_at rows k (suc (depth_of feeds)) tree.no_meetings origin (model_at feeds n starts nows) [] ≡ Stuck gs l → after k rows tree.no_meetings plan (suc n) (begin top) ≡ Halted gs (log_then log l)
   halts n nows log a l k q gs r e =
-      after-more k rows tree.no_meetings plan n (begin top) (course_at n nows log) (a.stands k q) ∙ turn-is k n nows log l a.actors ∙
+      after-more k rows tree.no_meetings plan n (begin top) (course_at n nows log) (a.stands k q) ∙ turn-is k n nows log l a.long a.actors ∙
       ap (λ x. on_step (course_at n nows log) origin (recorded n origin [] x)) e
 
   pub stops-at : (n : ℕ) (nows : List Actor) (log : Log Token) (values : List ℤ) (order : List ℕ) → After n nows log → n < iterations → length values ≡ length feeds → Orders feeds (replicate (length feeds) false) order → StopsAt n log (turned feeds order nows values)
   stops-at n nows log values order a l wide o =
-      by_turns (turned feeds order nows values) (leads-to feeds starts nows n (depth_of feeds) tree.no_meetings long (λ p. some-depth feeds 0 p) order _ values nows _ (begins feeds starts nows n tree.no_meetings long a.actors values wide a.matched) o)
+      by_turns (turned feeds order nows values) (leads-to feeds starts nows n (depth_of feeds) tree.no_meetings a.long (λ p. some-depth feeds 0 p) order _ values nows _ (begins feeds starts nows n tree.no_meetings a.long a.actors values wide a.matched) o)
     where
       by_turns : (t : Turned) → LeadsTo feeds starts nows n (depth_of feeds) tree.no_meetings t → StopsAt n log t
       by_turns (Finished after_actors after_values) h = tt
@@ -294,7 +293,7 @@ module _ (feeds : List (List ℕ)) (starts : List Actor) (iterations : ℕ) (lon
           let more : Log Token = within_firing n (log_below ls) in
           let k : ℕ = length feeds + suc n in
           let few : total (counts_from fired 0 feeds) < k = omega (arith, counts-few fired 0 feeds) in
-          let stuck = iteration-sticks feeds starts nows n tree.no_meetings long a.actors fired after_values after_actors ls w i h.3.0 h.3.1 h.3.2 h.4 k few in
+          let stuck = iteration-sticks feeds starts nows n tree.no_meetings a.long a.actors fired after_values after_actors ls w i h.3.0 h.3.1 h.3.2 h.4 k few in
           let halted : after k rows tree.no_meetings plan (suc n) (begin top) ≡ Halted stuck.0 (log_then log stuck.1) = halts n nows log a l k (omega arith) stuck.0 stuck.1 stuck.2 in
           let count : suc n + (k - suc n) ≡ k = omega arith in
           let P : ℕ → Type 0 = λ c. after k rows tree.no_meetings plan c (begin top) ≡ Halted stuck.0 (log_then log stuck.1) in

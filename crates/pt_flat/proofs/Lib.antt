@@ -3,3 +3,5 @@ pub mod Firings
 pub mod Whole
 pub mod Course
 pub mod Orders
+pub mod Waiting
+pub mod Steps

@@ -1,5 +1,5 @@
 -- A flat dataflow model: what it is as a node of the definitions.
-use Rattle.std.specs.Prelude.{◌≡◌, ℕ, zero, suc, ◌<◌, length, get_or, set, replicate, List, [], ◌∷◌, Bool, true, false, ◌&&◌, Some, None}
+use Rattle.std.specs.Prelude.{All, ◌≡◌, ℕ, zero, suc, ◌<◌, length, get_or, set, replicate, List, [], ◌∷◌, Bool, true, false, ◌&&◌, Some, None}
 use Rattle.pt_value.specs.declared.token.Token.{Token}
 use Rattle.pt_meaning.specs.Basics.{Streams}
 use Rattle.pt_meaning.specs.Rounds.{Source, Output, Net}
@@ -82,3 +82,8 @@ pub record IsReady (feeds : List (List ℕ)) (fired : List Bool) (i : ℕ) : Typ
 -- no actor is ready
 abbrev pub IsStuck : List (List ℕ) → List Bool → Type 0
 IsStuck feeds fired = (i : ℕ) → IsReady feeds fired i → ⊥
+
+-- each actor of an order, and each that feeds one of them, is there
+pub record InRange (feeds : List (List ℕ)) (order : List ℕ) : Type 0 where
+  pub ordered : All (λ i. i < length feeds) order
+  pub fed : (i : ℕ) → All (λ s. s < length feeds) (get_or feeds i [])

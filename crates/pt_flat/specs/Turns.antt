@@ -1,5 +1,5 @@
 -- The firings of an iteration, one after the other, on numbers.
-use Rattle.std.specs.Prelude.{ℕ, List, [], ◌∷◌, get_or, set, ℤ, pos}
+use Rattle.std.specs.Prelude.{◌≡◌, ℕ, ◌+◌, ◌<◌, length, drop, Result, Ok, Err, List, [], ◌∷◌, get_or, set, ℤ, pos}
 use Rattle.pt_flat.specs.declared.actor.Actor.{Actor}
 use Rattle.pt_flat.specs.declared.actor.Actor.TheVariants as actors
 use Rattle.pt_flat.specs.Actors.{no_actor, Firing, Gave, Overflows, held_as, ramp_firing, scale_firing}
@@ -33,3 +33,8 @@ on_firing more i order nows values Overflows = Stopped i order nows values
 abbrev pub turned : List (List ℕ) → List ℕ → List Actor → List ℤ → Turned
 turned feeds [] nows values = Finished nows values
 turned feeds (i ∷ order) nows values = on_firing (turned feeds order) i order nows values (firing_at feeds nows values i)
+
+-- the call made these firings, as far as they go; an error is the place in the order of the actor that overflows
+abbrev pub Comes : List (List ℕ) → List ℕ → List Actor → List ℤ → Result (Unit {0}) ℕ → List Actor → List ℤ → Type 0
+Comes feeds order old_actors old_values (Ok u) actors values = turned feeds order old_actors old_values ≡ Finished actors values
+Comes feeds order old_actors old_values (Err p) actors values = (p < length order) × (turned feeds order old_actors old_values ≡ Stopped (get_or order p 0) (drop (p + 1) order) actors values)

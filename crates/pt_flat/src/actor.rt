@@ -1,5 +1,6 @@
-ghost use Rattle.std.specs.Prelude.{◌≡◌, ℤ};
-ghost use Rattle.pt_flat.specs.Actors.{Makes, ramp_firing, scale_firing};
+ghost use Rattle.std.specs.Prelude.{◌≡◌, ◌<◌, ℤ, length, All};
+ghost use Rattle.pt_flat.specs.Actors.{Makes, ramp_firing, scale_firing, place_count};
+ghost use Rattle.pt_flat.specs.Turns.{actor_firing, numbers_of};
 
 use thiserror::Error;
 
@@ -50,4 +51,19 @@ impl Scale {
 pub enum Actor {
     Ramp(Ramp),
     Scale(Scale),
+}
+
+impl Actor {
+    /// Gives a number on the numbers of its places, which are the last ones of the actors that feed them.
+    /// After an `Err` the actor is as before.
+    pub fn fire(&mut self, feeds: &[usize], values: &[i64]) -> Result<i64, Overflow>
+        requires places { place_count self.old ≡ length feeds.now }
+        requires fed { All (λ s. s < length values.now) feeds.now }
+        ensures { Makes (actor_firing self.old (numbers_of values.now feeds.now)) self.old self.new result }
+    {
+        match self {
+            Actor::Ramp(ramp) => ramp.fire(),
+            Actor::Scale(scale) => scale.fire(values[feeds[0]]),
+        }
+    }
 }

@@ -3,6 +3,8 @@
 
 mod actor;
 mod flat;
+mod run;
 
 pub use actor::{Actor, Overflow, Ramp, Scale};
 pub use flat::{Feeds, Flat, FlatFault};
+pub use run::{Ended, Numbers, Ran, run_flat};
