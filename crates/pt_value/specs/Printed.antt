@@ -1,5 +1,5 @@
 -- The text that a value prints as.
-use Rattle.std.specs.Prelude.{ℕ, List, [], ◌∷◌, ◌++◌, true, false, codes, flat_map, if◌then◌else◌, ◌==◌}
+use Rattle.std.specs.Prelude.{◌≡◌, ℕ, zero, suc, List, [], ◌∷◌, ◌++◌, true, false, codes, flat_map, if◌then◌else◌, ◌==◌}
 use Rattle.std.specs.Prelude.{Bool as Truth}
 use Rattle.std.specs.Fmt.{signed_decimal}
 use Rattle.pt_value.specs.Value.{Value, Int, Bool, Words, Array, Record, Values, no_values, value_then, Named, no_fields, field_then}
@@ -20,6 +20,11 @@ more_after separator (x ∷ xs) = separator ++ (x ++ more_after separator xs)
 abbrev pub separated_by : List ℕ → List (List ℕ) → List ℕ
 separated_by separator [] = []
 separated_by separator (x ∷ xs) = x ++ more_after separator xs
+
+-- what stands before the part of a number
+abbrev pub separator_before : ℕ → List ℕ
+separator_before zero = []
+separator_before (suc n) = codes ", "
 
 -- texts in braces, with commas between them
 abbrev pub in_braces : List (List ℕ) → List ℕ
@@ -47,3 +52,12 @@ abbrev mutual
   pub each_named : Named → List (List ℕ)
   each_named no_fields = []
   each_named (field_then n v fs) = (n ++ (codes " = " ++ printed v)) ∷ each_named fs
+
+-- a field: its name, and its value behind an equals sign
+abbrev pub printed_field : List ℕ → Value → List ℕ
+printed_field n v = n ++ (codes " = " ++ printed v)
+
+-- all that was there is there, and some bytes may stand behind it
+pub record IsExtended (old new : List ℕ) : Type 0 where
+  pub more : List ℕ
+  pub is : new ≡ old ++ more

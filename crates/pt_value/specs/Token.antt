@@ -1,9 +1,10 @@
 -- What a token stands for. Two tokens are equal exactly where their values are.
-use Rattle.std.specs.Prelude.{◌≡◌, refl}
+use Rattle.std.specs.Prelude.{◌≡◌, ℕ, List, refl}
 use Rattle.std.specs.Coded.{Coded, code_by}
 use Rattle.std.proofs.Common.{ap, sym, ◌∙◌}
 use Rattle.pt_value.specs.declared.token.Token.{Token}
 use Rattle.pt_value.specs.declared.token.Token.TheVariants as token
+use Rattle.pt_value.specs.declared.fields.Field.{Field}
 use Rattle.pt_value.specs.Value.{Value, Int, Bool, Words, Array, Record, values_of, list_of, list_of-values_of, values_of-list_of, named_of, fields_of, fields_of-named_of, named_of-fields_of}
 use Rattle.pt_value.specs.ValueCode.{coded_value}
 
@@ -44,3 +45,15 @@ same_token s t e = sym (token_of-value_of s) ∙ ap token_of e ∙ token_of-valu
 -- the code of a token, for a `Model` whose value holds tokens
 abbrev pub coded_token : Coded Token
 coded_token = code_by Value coded_value value_of token_of token_of-value_of
+
+-- the name and the value of a field
+abbrev pub entry_of : Field → List ℕ × Value
+entry_of f = (f.name, value_of f.value)
+
+-- the same of a pair
+abbrev pub entry_of_pair : List ℕ × Token → List ℕ × Value
+entry_of_pair f = (f.0, value_of f.1)
+
+-- fields of equal names and values are equal
+pub same_field : (e f : Field) → entry_of e ≡ entry_of f → e ≡ f
+same_field e f h = λ i. record { name = (h i).0; value = same_token e.value f.value (ap (λ p. p.1) h) i }

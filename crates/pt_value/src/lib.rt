@@ -3,10 +3,16 @@
 
 mod fields;
 mod items;
+mod name;
+mod printed;
+#[cfg(test)]
+mod tests;
 mod text;
 mod token;
 
-pub use fields::{Field, Fields};
+pub use fields::{Field, Fields, FieldsFault};
 pub use items::Items;
+pub use name::is_name;
+pub use printed::print;
 pub use text::Text;
 pub use token::Token;

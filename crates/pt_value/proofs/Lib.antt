@@ -1,0 +1,4 @@
+pub mod Names
+pub mod Pairs
+pub mod Records
+pub mod Texts
