@@ -1,0 +1,6 @@
+pub mod Lists
+pub mod DistinctNames
+pub mod Refusals
+pub mod Depths
+pub mod FoundFields
+pub mod Properties

@@ -4,8 +4,11 @@
 mod classes;
 mod code;
 mod fields;
+mod inputs;
 mod job;
 mod names;
+mod parts;
+mod property;
 mod refusal;
 mod tables;
 
