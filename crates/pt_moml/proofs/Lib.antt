@@ -4,3 +4,5 @@ pub mod Refusals
 pub mod Depths
 pub mod FoundFields
 pub mod Properties
+pub mod Trees
+pub mod PropertyViews

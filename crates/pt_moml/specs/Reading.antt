@@ -200,7 +200,7 @@ entity_from here name d inner = do
   class ← required_text here (get (codes "class") d)
   kind ← kind_at here class
   own ← parts_at here name class kind d
-  _ ← parts_fit here kind own
+  _ ← parts_fit here kind own.properties own.ports
   entities ← inner
   Ok (entity own (to_entities entities))
 

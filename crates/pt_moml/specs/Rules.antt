@@ -9,7 +9,7 @@ use Rattle.pt_moml.specs.declared.classes.Need.TheVariants.{Optional, Required, 
 use Rattle.pt_moml.specs.declared.classes.Director.{Director}
 use Rattle.pt_moml.specs.declared.classes.Director.TheVariants as director
 use Rattle.pt_moml.specs.declared.refusal.Refusal.{Refusal}
-use Rattle.pt_moml.specs.Document.{PropertyTree, property_name, property_value, property_class, inner_properties, PortTree, Parts}
+use Rattle.pt_moml.specs.Document.{PropertyTree, property_name, property_value, property_class, inner_properties, PortTree}
 use Rattle.pt_moml.specs.Classes.{ClassParameter, Class, DirectorClass, director_row, Kind, Composite, Modal, Actor}
 use Rattle.pt_moml.specs.Outcome.{◌>>=◌, refused}
 use Rattle.pt_moml.specs.Names.{top_path, below, is_among, is_layout, is_reserved}
@@ -139,15 +139,16 @@ enough_ports here class ports = if class.is_declaring && is_empty ports then ref
 
 -- ---- the whole
 
-abbrev pub parts_fit : List ℕ → Kind → Parts → Result (Unit {0}) Refusal
-parts_fit here Composite own = do
-  _ ← each (composite_property here) own.properties
-  director ← director_at here own.properties
-  each (port_fits here (rate_rows director)) own.ports
-parts_fit here Modal own = do
-  _ ← each (modal_property here) own.properties
-  each (port_fits here []) own.ports
-parts_fit here (Actor class) own = do
-  _ ← parameters_fit here class.parameters own.properties
-  _ ← enough_ports here class own.ports
-  each (declared_fits here class) own.ports
+-- the properties and ports of an entity are as its kind wants them
+unfoldable pub parts_fit : List ℕ → Kind → List PropertyTree → List PortTree → Result (Unit {0}) Refusal
+parts_fit here Composite properties ports = do
+  _ ← each (composite_property here) properties
+  director ← director_at here properties
+  each (port_fits here (rate_rows director)) ports
+parts_fit here Modal properties ports = do
+  _ ← each (modal_property here) properties
+  each (port_fits here []) ports
+parts_fit here (Actor class) properties ports = do
+  _ ← parameters_fit here class.parameters properties
+  _ ← enough_ports here class ports
+  each (declared_fits here class) ports

@@ -3,12 +3,11 @@ ghost use Rattle.std.specs.Prelude.{◌≡◌, List, ℕ, map, [], ◌∷◌, �
 ghost use Rattle.serde_json.specs.Data.{Data};
 ghost use Rattle.serde_json.specs.View.{view, items_view, members_view};
 ghost use Rattle.pt_moml.specs.declared.refusal.Refusal.{Refusal};
-ghost use Rattle.pt_moml.specs.Names.{is_among};
 ghost use Rattle.pt_moml.specs.Outcome.{Gives, IsRefusal};
 ghost use Rattle.pt_moml.specs.Fields.{text_at, required_text, optional_text, name_at, truth_at, required_truth, optional_truth, required_whole, has_only, listed, items_at, required_list, optional_list, distinct_at};
 
 use crate::code::Code;
-use crate::names::is_name;
+use crate::names::{is_name, is_one_of};
 use crate::refusal::{DocFault, refused};
 use indexmap::IndexSet;
 use pt_value::Text;
@@ -92,18 +91,6 @@ pub fn whole_number(alloc: Global, path: &str, field: Option<&Value>) -> Result<
         },
         None => Err(refused(alloc, Code::Shape, path)),
     }
-}
-
-/// One of the texts is this.
-pub fn is_one_of(texts: &[&str], text: &str) -> bool
-    ensures { result ≡ is_among (map (λ k. k.now) texts.now) text.now }
-{
-    for one in texts {
-        if *one == text {
-            return true;
-        }
-    }
-    false
 }
 
 fn has_only_these(members: &Map<String, Value>, keys: &[&str]) -> bool
