@@ -6,3 +6,4 @@ pub mod FoundFields
 pub mod Properties
 pub mod Trees
 pub mod PropertyViews
+pub mod Nests

@@ -6,4 +6,5 @@ pub mod Outcome
 pub mod Names
 pub mod Fields
 pub mod Rules
+pub mod Limits
 pub mod Reading

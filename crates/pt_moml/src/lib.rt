@@ -6,6 +6,7 @@ mod code;
 mod fields;
 mod inputs;
 mod job;
+mod limits;
 mod names;
 mod parameters;
 mod parts;
