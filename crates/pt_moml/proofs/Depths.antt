@@ -42,9 +42,9 @@ field_depth None = 0
 field_depth (Some d) = depth d
 
 -- what stands at a field is less deep than the object, unless nothing stands there
-pub get_field_depth : (k : List ℕ) (d : Data) → 3 * field_depth (get k d) + 2 < 3 * depth d + 3
+pub get_field_depth : (k : List ℕ) (d : Data) → 4 * field_depth (get k d) + 2 < 4 * depth d + 3
 get_field_depth k d = chosen (get k d) (λ e is. get_depth k d e is)
   where
-    chosen : (field : Option Data) → ((e : Data) → field ≡ Some e → depth e < depth d) → 3 * field_depth field + 2 < 3 * depth d + 3
+    chosen : (field : Option Data) → ((e : Data) → field ≡ Some e → depth e < depth d) → 4 * field_depth field + 2 < 4 * depth d + 3
     chosen None h = omega arith
     chosen (Some e) h = omega (arith, h e refl)

@@ -7,3 +7,4 @@ pub mod Properties
 pub mod Trees
 pub mod PropertyViews
 pub mod Nests
+pub mod Entities

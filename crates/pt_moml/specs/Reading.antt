@@ -1,10 +1,11 @@
 -- What a document's values read as: the job and its parts, or the first refusal in the order of reading.
-use Rattle.std.specs.Prelude.{◌≡◌, ℕ, ◌==◌, List, [], ◌∷◌, ◌++◌, Bool, true, false, codes, Option, Some, None, Result, Ok, Err, if◌then◌else◌, is_some, option_and_then, map}
+use Rattle.std.specs.Prelude.{◌≡◌, ℕ, ◌==◌, List, [], ◌∷◌, ◌++◌, Bool, true, false, codes, Option, Some, None, Result, Ok, Err, if◌then◌else◌, is_some, option_and_then, map, ◌⊎◌, IsUtf8}
 use Rattle.std.specs.Ordering.{nat_cmp, match_ordering}
 use Rattle.std.specs.Cmp.Lexicographic.{slice_cmp}
 use Rattle.serde_json.specs.Data.{Data, null, string, array, object, Items, no_items, item, Members, no_members, member}
 use Rattle.serde_json.specs.Find.{get, as_number, as_u64}
-use Rattle.pt_moml.specs.declared.code.Code.TheVariants.{Shape, Class, Limit}
+use Rattle.serde_json.specs.Read.{read}
+use Rattle.pt_moml.specs.declared.code.Code.TheVariants.{Json, Shape, Class, Limit}
 use Rattle.pt_moml.specs.declared.job.Direction.{Direction}
 use Rattle.pt_moml.specs.declared.job.Direction.TheVariants.{Input, Output}
 use Rattle.pt_moml.specs.declared.job.Relation.{Relation}
@@ -15,12 +16,15 @@ use Rattle.pt_moml.specs.declared.job.OutputAction.{OutputAction}
 use Rattle.pt_moml.specs.declared.job.SetAction.{SetAction}
 use Rattle.pt_moml.specs.declared.job.Event.{Event}
 use Rattle.pt_moml.specs.declared.refusal.Refusal.{Refusal}
+use Rattle.pt_moml.specs.declared.refusal.DocFault.{DocFault}
+use Rattle.pt_moml.specs.declared.refusal.DocFault.TheVariants as faults
 use Rattle.pt_moml.specs.Document.{PropertyTree, property, to_properties, property_name, PortTree, TransitionTree, Parts, EntityTree, entity, to_entities, entity_name, SupplyTree, tokens, events, InputTree, JobTree}
 use Rattle.pt_moml.specs.Classes.{Kind, Composite, Modal, Actor, kind_of}
 use Rattle.pt_moml.specs.Outcome.{◌>>=◌, refused}
 use Rattle.pt_moml.specs.Names.{top_path, below}
 use Rattle.pt_moml.specs.Fields.{text_at, required_text, optional_text, name_at, required_truth, optional_truth, required_whole, listed, required_list, optional_list, distinct_at}
 use Rattle.pt_moml.specs.Rules.{parts_fit}
+use Rattle.pt_moml.specs.Limits.{nest_field, is_within}
 
 -- the list itself, where the names in it differ
 unfoldable pub named : {A : Type 0} → List ℕ → (A → List ℕ) → List A → Result (List A) Refusal
@@ -273,9 +277,16 @@ is_one (Some n) = n == 1
 abbrev pub version_at : Option Data → Result (Unit {0}) Refusal
 version_at field = if is_one (option_and_then as_u64 (option_and_then as_number field)) then Ok tt else refused Shape top_path
 
+-- the entities of the top and within it are few enough, and don't nest too deep
+unfoldable pub limits_at : Data → Result (Unit {0}) Refusal
+limits_at d = if is_within (nest_field (get (codes "entities") d)) then Ok tt else refused Limit top_path
+
 unfoldable pub model_at : Option Data → Result EntityTree Refusal
 model_at None = refused Shape top_path
-model_at (Some d) = name_at top_path (get (codes "name") d) >>= λ name. entity_from top_path name d (entities_field top_path (get (codes "entities") d))
+model_at (Some d) = do
+  _ ← limits_at d
+  name ← name_at top_path (get (codes "name") d)
+  entity_from top_path name d (entities_field top_path (get (codes "entities") d))
 
 abbrev pub job_fields : List (List ℕ)
 job_fields = codes "version" ∷ codes "model" ∷ codes "inputs" ∷ codes "record" ∷ []
@@ -288,3 +299,25 @@ job_of d = do
   inputs ← optional_list input_at top_path (get (codes "inputs") d)
   records ← optional_list text_at top_path (get (codes "record") d)
   Ok (record { model = model; inputs = inputs; records = records })
+
+-- ---- the bytes
+
+-- what serde_json reads from the bytes
+abbrev pub IsDocument : List ℕ → Data → Type 0
+IsDocument bytes d = IsUtf8 bytes × (read bytes ≡ Some d)
+
+abbrev pub NoDocument : List ℕ → Type 0
+NoDocument bytes = (d : Data) → IsDocument bytes d → ⊥
+
+-- the job that the bytes' JSON value stands for
+abbrev pub IsJobOf : List ℕ → JobTree → Type 0
+IsJobOf bytes job = (d : Data) × IsDocument bytes d × (job_of d ≡ Ok job)
+
+-- the first refusal in the order of reading
+abbrev pub IsFirstRefusal : List ℕ → Refusal → Type 0
+IsFirstRefusal bytes r = ((d : Data) × IsDocument bytes d × (job_of d ≡ Err r)) ⊎ ((r ≡ record { code = Json; path = top_path }) × NoDocument bytes)
+
+-- want of memory, or the first refusal
+abbrev pub IsReadFault : List ℕ → DocFault → Type 0
+IsReadFault bytes faults.Memory = Unit {0}
+IsReadFault bytes (faults.Refused r) = IsFirstRefusal bytes r

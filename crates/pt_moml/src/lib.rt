@@ -3,6 +3,8 @@
 
 mod classes;
 mod code;
+mod document;
+mod entity;
 mod fields;
 mod inputs;
 mod job;
@@ -20,6 +22,7 @@ pub use classes::{
     Need, ParameterRow, PortRow, class_named, director_named, kind_named,
 };
 pub use code::Code;
+pub use document::read;
 pub use job::{
     Direction, Entity, Event, Input, Job, Link, OutputAction, Port, Property, Relation, SetAction,
     State, Supply, Transition,
