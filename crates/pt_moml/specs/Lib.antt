@@ -1,3 +1,10 @@
 pub mod Codes
 pub mod Document
 pub mod View
+pub mod Classes
+pub mod Outcome
+pub mod Names
+pub mod Fields
+pub mod Rules
+pub mod Limits
+pub mod Reading

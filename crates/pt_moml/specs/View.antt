@@ -7,6 +7,7 @@ use Rattle.pt_moml.specs.declared.job.Port.{Port}
 use Rattle.pt_moml.specs.declared.job.Transition.{Transition}
 use Rattle.pt_moml.specs.declared.job.Entity.{Entity, fold-Entity}
 use Rattle.pt_moml.specs.declared.job.Entity.TheOpen.{Entity-F}
+use Rattle.pt_moml.specs.declared.entity.Own.{Own}
 use Rattle.pt_moml.specs.declared.job.Supply.{Supply}
 use Rattle.pt_moml.specs.declared.job.Supply.TheVariants.{Tokens, Events}
 use Rattle.pt_moml.specs.declared.job.Input.{Input}
@@ -49,3 +50,8 @@ input_view i = record { port = i.port; supply = supply_view i.supply }
 
 abbrev pub job_view : Job → JobTree
 job_view j = record { model = entity_view j.model; inputs = map input_view j.inputs.items; records = j.records.items }
+
+-- what an entity has beside its entities
+abbrev pub own_view : Own → Parts
+own_view o =
+    record { name = o.name; class = o.class; properties = properties_view o.properties.items; ports = map port_view o.ports.items; relations = o.relations.items; links = o.links.items; states = o.states.items; initial = o.initial; transitions = map transition_view o.transitions.items }

@@ -1,13 +1,32 @@
 //! Documents: what a model's JSON text says, and why it is refused.
 #![tactic(auto)]
 
+mod classes;
 mod code;
+mod document;
+mod entity;
+mod fields;
+mod inputs;
 mod job;
+mod limits;
+mod names;
+mod parameters;
+mod parts;
+mod property;
 mod refusal;
+mod rules;
+mod tables;
 
+pub use classes::{
+    Arity, Class, ClassParameter, ClassPort, ClassRow, Director, DirectorClass, DirectorRow, Kind,
+    Need, ParameterRow, PortRow, class_named, director_named, kind_named,
+};
 pub use code::Code;
+pub use document::read;
 pub use job::{
     Direction, Entity, Event, Input, Job, Link, OutputAction, Port, Property, Relation, SetAction,
     State, Supply, Transition,
 };
+pub use names::{is_layout, is_name, is_reserved};
 pub use refusal::{DocFault, Refusal};
+pub use tables::{CLASSES, DIRECTORS};

@@ -1,0 +1,21 @@
+use Rattle.std.proofs.Common.{◌≡◌, ◌<◌, ◌≤◌, ◌+◌, ◌*◌, [], codes, sym, ap, arith, option_map}
+use Rattle.serde_json.specs.Data.{depth, items_depth}
+use Rattle.serde_json.specs.View.{view, items_view}
+use Rattle.pt_moml.proofs.Depths.{field_depth, get_field_depth, item_depth}
+use Rattle.pt_moml.proofs.Entities.{items_are}
+use Rattle.pt_moml.proofs.entity.+entities.Goals as goal
+
+pub entity_of_name-entities_of-requires : goal.entity_of_name-entities_of-requires
+entity_of_name-entities_of-requires t c =
+    let one = get_field_depth (codes "entities") (view c.args.value.now) in
+    let r = c.requires in
+    (rw c.get-2.ensures (omega (arith, one)), tt)
+
+pub read_entities-loop-item-init : goal.read_entities-loop-item-init
+read_entities-loop-item-init t c = rw c.new-found.ensures.items (sym (items_are c.args.here.now [] (items_view c.args.items.now)))
+
+pub read_entities-entity_of-requires : goal.read_entities-entity_of-requires
+read_entities-entity_of-requires t c =
+    let one = item_depth c.args.items.now c.loop-item.item-index c.item-item.result c.loop-item-test.true in
+    let r = c.requires in
+    (rw c.item-item.is (omega (arith, one)), tt)

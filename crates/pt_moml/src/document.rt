@@ -1,0 +1,85 @@
+// The whole document.
+ghost use Rattle.std.specs.Prelude.{◌≡◌, map, option_map, IfOk, IfErr};
+ghost use Rattle.serde_json.specs.View.{view};
+ghost use Rattle.pt_moml.specs.Outcome.{Gives};
+ghost use Rattle.pt_moml.specs.Reading.{version_at, limits_at, model_at, job_of, IsJobOf, IsReadFault};
+ghost use Rattle.pt_moml.specs.View.{entity_view, job_view};
+
+use crate::code::Code;
+use crate::entity::entity_of_name;
+use crate::fields::{has_fields, list_or_empty, name_of};
+use crate::job::{Entity, Job};
+use crate::limits::is_within;
+use crate::refusal::{DocFault, refused};
+use serde_json::Value;
+use std::alloc::Global;
+
+fn check_version(alloc: Global, field: Option<&Value>) -> Result<(), DocFault>
+    ensures { Gives (λ u. u) result (version_at (option_map (λ v. view v.now) field.entry)) }
+{
+    match field {
+        Some(value) => {
+            if value.as_u64() == Some(1) {
+                Ok(())
+            } else {
+                Err(refused(alloc, Code::Shape, "."))
+            }
+        }
+        None => Err(refused(alloc, Code::Shape, ".")),
+    }
+}
+
+#[tactic(auto, unfolding(crate::specs::Reading::limits_at))]
+fn check_limits(alloc: Global, model: &Value) -> Result<(), DocFault>
+    ensures { Gives (λ u. u) result (limits_at (view model.now)) }
+{
+    if is_within(model.get("entities")) {
+        Ok(())
+    } else {
+        Err(refused(alloc, Code::Limit, "."))
+    }
+}
+
+#[tactic(auto, unfolding(crate::specs::Reading::model_at))]
+fn model_of(alloc: Global, field: Option<&Value>) -> Result<Entity, DocFault>
+    ensures { Gives entity_view result (model_at (option_map (λ v. view v.now) field.entry)) }
+{
+    match field {
+        Some(value) => {
+            check_limits(alloc, value)?;
+            let name = name_of(alloc, ".", value.get("name"))?;
+            entity_of_name(alloc, ".", name, value)
+        }
+        None => Err(refused(alloc, Code::Shape, ".")),
+    }
+}
+
+#[tactic(auto, unfolding(crate::specs::Reading::job_of))]
+fn job_at(alloc: Global, value: &Value) -> Result<Job, DocFault>
+    ensures { Gives job_view result (job_of (view value.now)) }
+{
+    has_fields(alloc, ".", value, &["version", "model", "inputs", "record"])?;
+    check_version(alloc, value.get("version"))?;
+    let model = model_of(alloc, value.get("model"))?;
+    let inputs = list_or_empty(alloc, ".", value.get("inputs"))?;
+    let records = list_or_empty(alloc, ".", value.get("record"))?;
+    Ok(Job {
+        model,
+        inputs,
+        records,
+    })
+}
+
+/// Reads a document.
+pub fn read(alloc: Global, bytes: &[u8]) -> Result<Job, DocFault>
+    // The job is the one that the bytes' JSON value stands for.
+    ensures job { IfOk result (λ j. IsJobOf bytes.now (job_view j)) }
+    // Of the refusals that stand the first one is told.
+    ensures first { IfErr result (IsReadFault bytes.now) }
+{
+    match Value::from_slice(alloc, bytes) {
+        Ok(value) => job_at(alloc, &value),
+        Err(e) if e.is_memory() => Err(DocFault::Memory),
+        Err(_) => Err(refused(alloc, Code::Json, ".")),
+    }
+}
