@@ -17,11 +17,11 @@ use Rattle.pt_meaning.specs.Node.{Rows, Node, step_at, Step}
 use Rattle.pt_meaning.proofs.LogLaws.{traces-add}
 use Rattle.pt_flat.specs.declared.actor.Actor.{Actor}
 use Rattle.pt_flat.specs.Actors as row
-use Rattle.pt_flat.specs.Actors.{rows, no_actor}
+use Rattle.pt_flat.specs.Actors.{rows, no_actor, Matches}
 use Rattle.pt_flat.specs.Model.{flag, Orders, start_of, leaves, plan_of, empty_for, sources_of}
 use Rattle.pt_flat.specs.Turns.{Turned, Finished, Stopped, turned}
 use Rattle.pt_flat.specs.Run.{stamped, AreTold, IsRun, AllDone, Overflow, waits}
-use Rattle.pt_flat.proofs.Firings.{Matches, told_if, LeadsTo, leads-to, meetings-append, own-unmet}
+use Rattle.pt_flat.proofs.Firings.{told_if, LeadsTo, leads-to, meetings-append, own-unmet}
 use Rattle.std.proofs.lemmas.List.{get_or-set_other}
 use Rattle.pt_meaning.specs.Running.{total}
 use Rattle.pt_flat.proofs.Iteration.{as_count, counts_from}

@@ -1,5 +1,5 @@
 -- The firings of an iteration, as the definitions have them.
-use Rattle.std.proofs.Common.{◌≡◌, ℕ, zero, suc, ◌+◌, ◌<◌, ◌≤◌, List, [], ◌∷◌, ◌++◌, Bool, true, false, ◌&&◌, not, length, take, drop, get_or, set, refl, sym, ap, ap₂, subst, ◌∙◌, arith, Option, Some, None, inl, inr, ◌⊎◌, ℤ, pos, ◌≢◌, nat_eq, length-set}
+use Rattle.std.proofs.Common.{◌≡◌, ℕ, zero, suc, ◌+◌, ◌<◌, ◌≤◌, List, [], ◌∷◌, ◌++◌, Bool, true, false, ◌&&◌, not, length, take, drop, replicate, get_or, set, refl, sym, ap, ap₂, subst, ◌∙◌, arith, Option, Some, None, inl, inr, ◌⊎◌, ℤ, pos, ◌+ℤ◌, ◌-ℤ◌, ◌*ℤ◌, if◌then◌else◌, ◌≢◌, nat_eq, length-set}
 use Rattle.std.proofs.lemmas.List.{get_or-set_same, get_or-set_other}
 use Rattle.std.proofs.lemmas.Bool.Decides.{nat_tests}
 use Rattle.pt_value.specs.declared.token.Token.{Token}
@@ -21,36 +21,77 @@ use Rattle.pt_meaning.proofs.LogLaws.{traces-add}
 use Rattle.pt_flat.specs.declared.actor.Actor.{Actor}
 use Rattle.pt_flat.specs.declared.actor.Actor.TheVariants as actors
 use Rattle.pt_flat.specs.Actors as row
-use Rattle.pt_flat.specs.Actors.{no_actor, rows, react, need, place_count, given, answer}
+use Rattle.pt_flat.specs.Actors.{no_actor, rows, react, need, Matches, given, answer}
+use Rattle.pt_flat.specs.declared.actor.AddSubtract.{AddSubtract}
 use Rattle.pt_flat.specs.Model.{sources_of, places_of, flag, all_flags, plan_of, empty_for, Orders}
-use Rattle.pt_flat.specs.Turns.{numbers_of, actor_firing, firing_at, Turned, Finished, Stopped, turned, on_firing}
+use Rattle.pt_flat.specs.Turns.{first_number, numbers_of, actor_firing, firing_at, Turned, Finished, Stopped, turned, on_firing}
 use Rattle.pt_flat.proofs.Iteration.{held_from, inputs_of, nothing_of, counts_from, one_each, takes-one, past_at, kid, kids_from, and-first, and-second, Supplied, held-plus, limits_of, FiresOn, fires-from}
-
--- an actor with as many places as these feeds
-abbrev pub Matches : Actor → List ℕ → Type 0
-Matches a f = place_count a ≡ length f
 
 need-one : (a : Actor) (f : List ℕ) → Matches a f → need a ≡ Counts (one_each f)
 need-one (actors.Ramp r) [] e = refl
-need-one (actors.Ramp r) (s ∷ f) e = absurd (omega arith)
-need-one (actors.Scale s) [] e = absurd (omega arith)
+need-one (actors.Ramp r) (s ∷ f) e = absurd (omega (arith, e.long))
+need-one (actors.Scale s) [] e = absurd (omega (arith, e.long))
 need-one (actors.Scale s) (x ∷ []) e = refl
-need-one (actors.Scale s) (x ∷ y ∷ f) e = absurd (omega arith)
+need-one (actors.Scale s) (x ∷ y ∷ f) e = absurd (omega (arith, e.long))
+need-one (actors.AddSubtract a) f e = ap (λ n. Counts n) (ap (λ n. replicate n 1) e.long ∙ ones f)
+  where
+    ones : (f : List ℕ) → replicate (length f) 1 ≡ one_each f
+    ones [] = refl
+    ones (s ∷ f) = ap (λ v. 1 ∷ v) (ones f)
+
+-- all inputs of a sum are there
+present-all : (values : List ℤ) (f : List ℕ) → row.present (inputs_of values f) ≡ numbers_of values f
+present-all values [] = refl
+present-all values (s ∷ f) = ap (λ v. get_or values s (pos 0) ∷ v) (present-all values f)
+
+present-take : (values : List ℤ) (n : ℕ) (f : List ℕ) → row.present (take n (inputs_of values f)) ≡ take n (numbers_of values f)
+present-take values zero f = refl
+present-take values (suc n) [] = refl
+present-take values (suc n) (s ∷ f) = ap (λ v. get_or values s (pos 0) ∷ v) (present-take values n f)
+
+present-drop : (values : List ℤ) (n : ℕ) (f : List ℕ) → row.present (drop n (inputs_of values f)) ≡ drop n (numbers_of values f)
+present-drop values zero f = present-all values f
+present-drop values (suc n) [] = refl
+present-drop values (suc n) (s ∷ f) = present-drop values n f
+
+-- where some are there, a sum gives
+some-given : (a : AddSubtract) (xs ys : List ℤ) → 0 < length xs + length ys → row.sum_answer a xs ys ≡ answer (row.held_as actors.AddSubtract (row.exactly a (row.total_of xs -ℤ row.total_of ys)))
+some-given a [] [] h = absurd (omega arith)
+some-given a (x ∷ xs) ys h = refl
+some-given a [] (y ∷ ys) h = refl
+
+numbers-length : (values : List ℤ) (f : List ℕ) → length (numbers_of values f) ≡ length f
+numbers-length values [] = refl
+numbers-length values (s ∷ f) = ap (λ n. suc n) (numbers-length values f)
+
+both-parts : (n : ℕ) (xs : List ℤ) → length (take n xs) + length (drop n xs) ≡ length xs
+both-parts zero xs = omega arith
+both-parts (suc n) [] = refl
+both-parts (suc n) (x ∷ xs) = omega (arith, both-parts n xs)
 
 -- its row on the numbers that wait for it
 react-is : (t : Tag) (a : Actor) (values : List ℤ) (f : List ℕ) → Matches a f → react t a (inputs_of values f) ≡ answer (actor_firing a (numbers_of values f))
 react-is t (actors.Ramp r) values f e = refl
-react-is t (actors.Scale s) values [] e = absurd (omega arith)
+react-is t (actors.Scale s) values [] e = absurd (omega (arith, e.long))
 react-is t (actors.Scale s) values (x ∷ f) e = refl
+react-is t (actors.AddSubtract a) values f e =
+    let xs : List ℤ = numbers_of values f in
+    ap₂ (λ u v. row.sum_answer a u v) (present-take values a.plus f) (present-drop values a.plus f) ∙
+    some-given a (take a.plus xs) (drop a.plus xs) (omega (arith, both-parts a.plus xs, numbers-length values f, e.some))
 
-place-kept : {S : Type 0} (held : S → Actor) (c : ℕ) → ((s : S) → place_count (held s) ≡ c) → (f : row.Firing S) (b : Actor) (n : ℤ) → row.held_as held f ≡ row.Gave b n → place_count b ≡ c
-place-kept held c same (row.Gave after m) b n e = let h : held after ≡ b = cc in ap place_count (sym h) ∙ same after
-place-kept held c same row.Overflows b n e = absurd (cc)
+-- what it gives leaves it as said
+kept-is : {S : Type 0} (held : S → Actor) (after : S) (x : ℤ) (b : Actor) (n : ℤ) → row.held_as held (row.exactly after x) ≡ row.Gave b n → b ≡ held after
+kept-is held after x b n e = by_fit (row.fits_i64 x) e
+  where
+    by_fit : (c : Bool) → row.held_as held (if c then row.Gave after x else row.Overflows) ≡ row.Gave b n → b ≡ held after
+    by_fit true e = cc
+    by_fit false e = absurd (cc)
 
 -- a firing keeps the places of an actor
-places-kept : (a : Actor) (xs : List ℤ) (b : Actor) (n : ℤ) → actor_firing a xs ≡ row.Gave b n → place_count b ≡ place_count a
-places-kept (actors.Ramp r) xs b n e = place-kept actors.Ramp 0 (λ s. refl) (row.ramp_firing r) b n e
-places-kept (actors.Scale s) xs b n e = place-kept actors.Scale 1 (λ s. refl) _ b n e
+matched-kept : (a : Actor) (xs : List ℤ) (b : Actor) (n : ℤ) (f : List ℕ) → actor_firing a xs ≡ row.Gave b n → Matches a f → Matches b f
+matched-kept (actors.Ramp r) xs b n f e h = subst (λ x. Matches x f) (sym (kept-is actors.Ramp (record { next = r.next +ℤ r.step; step = r.step }) r.next b n e)) (record { long = h.long; some = h.some })
+matched-kept (actors.Scale s) xs b n f e h = subst (λ x. Matches x f) (sym (kept-is actors.Scale s (first_number xs *ℤ s.factor) b n e)) h
+matched-kept (actors.AddSubtract a) xs b n f e h = subst (λ x. Matches x f) (sym (kept-is actors.AddSubtract a (row.total_of (take a.plus xs) -ℤ row.total_of (drop a.plus xs)) b n e)) h
 
 -- ---- logs
 
@@ -197,8 +238,8 @@ module _ (feeds : List (List ℕ)) (starts begun : List Actor) (j dep : ℕ) (m 
         actors = length-set nows t after ∙ w.actors;
         logs = length-then t more ls ∙ w.logs;
         matched = at_each (λ i. i < length feeds → Matches (get_or (set nows t after) i no_actor) (get_or feeds i [])) t
-            (λ k. ap place_count (get_or-set_same nows t after no_actor in_actors) ∙ places-kept (get_or nows t no_actor) (numbers_of values (get_or feeds t [])) after n e ∙ w.matched t k)
-            (λ i ne k. ap place_count (get_or-set_other nows t i after no_actor ne) ∙ w.matched i k);
+            (λ k. subst (λ x. Matches x (get_or feeds t [])) (sym (get_or-set_same nows t after no_actor in_actors)) (matched-kept (get_or nows t no_actor) (numbers_of values (get_or feeds t [])) after n (get_or feeds t []) e (w.matched t k)))
+            (λ i ne k. subst (λ x. Matches x (get_or feeds i [])) (sym (get_or-set_other nows t i after no_actor ne)) (w.matched i k));
         told = at_each (λ i. i < length feeds → trace (log_at (logs_then t more ls) i) [] 0 ≡ told_if (flag (set fired t true) i) (get_or (set values t n) i (pos 0))) t
             (λ k. ap (λ x. trace x [] 0) (log-same t more ls in_logs) ∙ (traces-add {T = Token} {S = ℕ}).after (log_at ls t) more [] 0 ∙ ap (λ v. v ++ ((origin, Int n) ∷ [])) (w.told t k ∙ ap (λ b. told_if b (get_or values t (pos 0))) u) ∙
             ap₂ told_if (sym (get_or-set_same fired t true false here)) (sym (get_or-set_same values t n (pos 0) there)))

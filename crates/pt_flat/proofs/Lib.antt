@@ -5,3 +5,4 @@ pub mod Course
 pub mod Orders
 pub mod Waiting
 pub mod Steps
+pub mod Sums

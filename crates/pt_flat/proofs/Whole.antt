@@ -19,11 +19,11 @@ use Rattle.pt_meaning.proofs.LogLaws.{begins-with}
 use Rattle.pt_meaning.proofs.CompositeLaws.{sdf-ends, sdf-sticks}
 use Rattle.pt_flat.specs.declared.actor.Actor.{Actor}
 use Rattle.pt_flat.specs.Actors as row
-use Rattle.pt_flat.specs.Actors.{rows, no_actor}
+use Rattle.pt_flat.specs.Actors.{rows, no_actor, Matches}
 use Rattle.pt_flat.specs.Model.{sources_then, sources_of, places_of, ones, unit_rates, plan_of, empty_for, flag, all_flags}
 use Rattle.pt_flat.specs.Turns.{firing_at}
 use Rattle.pt_flat.proofs.Iteration.{way_token, held_then, held_from, nothing_of, as_count, counts_from, times_fired, past_at, kid, kids_from, limits_of, Supplied, counts-as, kids-as, SticksOn, sticks-from}
-use Rattle.pt_flat.proofs.Firings.{Matches, Underway, told_if, kid_step, kid_facts, kid-takes, kid-sticks}
+use Rattle.pt_flat.proofs.Firings.{Underway, told_if, kid_step, kid_facts, kid-takes, kid-sticks}
 
 -- ---- no flag is set
 

@@ -1,5 +1,5 @@
 -- The library actors of a flat model, and their rows.
-use Rattle.std.specs.Prelude.{◌≡◌, ℕ, ◌^◌, nat_lt, List, [], ◌∷◌, Bool, true, false, None, ℤ, pos, negsuc, ◌+ℤ◌, ◌*ℤ◌, if◌then◌else◌, Result, Ok, Err}
+use Rattle.std.specs.Prelude.{◌≡◌, ℕ, ◌^◌, ◌≤◌, length, nat_lt, List, [], ◌∷◌, Bool, true, false, None, ℤ, pos, negsuc, ◌+ℤ◌, ◌-ℤ◌, ◌*ℤ◌, ◌+◌, take, drop, replicate, if◌then◌else◌, Result, Ok, Err}
 use Rattle.pt_value.specs.declared.token.Token.{Token}
 use Rattle.pt_value.specs.declared.token.Token.TheVariants.{Int}
 use Rattle.pt_meaning.specs.Basics.{Streams, Tag}
@@ -7,6 +7,7 @@ use Rattle.pt_meaning.specs.Machine.{Need, Counts, Partial}
 use Rattle.pt_meaning.specs.Node as tree
 use Rattle.pt_flat.specs.declared.actor.Ramp.{Ramp}
 use Rattle.pt_flat.specs.declared.actor.Scale.{Scale}
+use Rattle.pt_flat.specs.declared.actor.AddSubtract.{AddSubtract}
 use Rattle.pt_flat.specs.declared.actor.Overflow.{Overflow}
 use Rattle.pt_flat.specs.declared.actor.Actor.{Actor}
 use Rattle.pt_flat.specs.declared.actor.Actor.TheVariants as actors
@@ -25,6 +26,9 @@ pub data Firing (S : Type 0) : Type 0 where
 abbrev pub exactly : {S : Type 0} → S → ℤ → Firing S
 exactly after n = if fits_i64 n then Gave after n else Overflows
 
+abbrev pub narrowed_of : ℤ → Result ℤ Overflow
+narrowed_of n = if fits_i64 n then Ok n else Err record { }
+
 -- Ramp gives its next number, and the one after that is a step more
 abbrev pub ramp_firing : Ramp → Firing Ramp
 ramp_firing r = exactly (record { next = r.next +ℤ r.step; step = r.step }) r.next
@@ -32,6 +36,14 @@ ramp_firing r = exactly (record { next = r.next +ℤ r.step; step = r.step }) r.
 -- Scale gives the product
 abbrev pub scale_firing : Scale → ℤ → Firing Scale
 scale_firing s x = exactly s (x *ℤ s.factor)
+
+-- AddSubtract gives the sum of the numbers before a place without the sum of the others
+abbrev pub total_of : List ℤ → ℤ
+total_of [] = pos 0
+total_of (x ∷ xs) = x +ℤ total_of xs
+
+abbrev pub sum_firing : AddSubtract → List ℤ → Firing AddSubtract
+sum_firing a xs = exactly a (total_of (take a.plus xs) -ℤ total_of (drop a.plus xs))
 
 -- the number at the head of a list of tokens, if there is one
 pub data Head : Type 0 where
@@ -65,9 +77,25 @@ abbrev pub scale_answer : Scale → Head → tree.Answer Token Actor
 scale_answer s (Number x) = answer (held_as actors.Scale (scale_firing s x))
 scale_answer s Nothing = tree.Gives (actors.Scale s) ([] ∷ [])
 
+-- the numbers that are there, place by place
+abbrev pub with_head : Head → List ℤ → List ℤ
+with_head (Number x) xs = x ∷ xs
+with_head Nothing xs = xs
+
+abbrev pub present : Streams Token → List ℤ
+present [] = []
+present (xs ∷ X) = with_head (head_of xs) (present X)
+
+-- where no input is there it gives nothing
+abbrev pub sum_answer : AddSubtract → (plus minus : List ℤ) → tree.Answer Token Actor
+sum_answer a [] [] = tree.Gives (actors.AddSubtract a) ([] ∷ [])
+sum_answer a (x ∷ xs) ys = answer (held_as actors.AddSubtract (exactly a (total_of (x ∷ xs) -ℤ total_of ys)))
+sum_answer a [] (y ∷ ys) = answer (held_as actors.AddSubtract (exactly a (pos 0 -ℤ total_of (y ∷ ys))))
+
 abbrev pub react : Tag → Actor → Streams Token → tree.Answer Token Actor
 react tag (actors.Ramp r) X = answer (held_as actors.Ramp (ramp_firing r))
 react tag (actors.Scale s) X = scale_answer s (head_of (first_place X))
+react tag (actors.AddSubtract a) X = sum_answer a (present (take a.plus X)) (present (drop a.plus X))
 
 -- an actor to name where a list has no more
 abbrev pub no_actor : Actor
@@ -77,14 +105,28 @@ no_actor = actors.Scale (record { factor = pos 0 })
 abbrev pub place_count : Actor → ℕ
 place_count (actors.Ramp r) = 0
 place_count (actors.Scale s) = 1
+place_count (actors.AddSubtract a) = a.plus + a.minus
+
+-- how many it has at least
+abbrev pub least_places : Actor → ℕ
+least_places (actors.Ramp r) = 0
+least_places (actors.Scale s) = 1
+least_places (actors.AddSubtract a) = 1
+
+-- an actor with as many places as these feeds
+pub record Matches (a : Actor) (feeds : List ℕ) : Type 0 where
+  pub long : place_count a ≡ length feeds
+  pub some : least_places a ≤ length feeds
 
 abbrev pub need : Actor → Need
 need (actors.Ramp r) = Counts []
 need (actors.Scale s) = Counts (1 ∷ [])
+need (actors.AddSubtract a) = Counts (replicate (a.plus + a.minus) 1)
 
 abbrev pub begins : Actor → Bool
 begins (actors.Ramp r) = true
 begins (actors.Scale s) = false
+begins (actors.AddSubtract a) = false
 
 -- the rows: none of these actors has wakes, gives anything early or takes its lists whole
 abbrev pub rows : tree.Rows Token Actor

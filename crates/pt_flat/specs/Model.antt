@@ -6,7 +6,7 @@ use Rattle.pt_meaning.specs.Rounds.{Source, Output, Net}
 use Rattle.pt_meaning.specs.Dataflow.{SdfPlan}
 use Rattle.pt_meaning.specs.Node as tree
 use Rattle.pt_flat.specs.declared.actor.Actor.{Actor}
-use Rattle.pt_flat.specs.Actors.{place_count, no_actor}
+use Rattle.pt_flat.specs.Actors.{Matches, no_actor}
 
 -- The feeds of a model have for each place of each actor the number of the actor that feeds it. Each actor has one output.
 abbrev pub sources_then : List ℕ → List Source → List Source
@@ -66,7 +66,7 @@ HasNoOrder feeds = (order : List ℕ) → Orders feeds (replicate (length feeds)
 -- each actor has as many feeds as it has places
 pub record AreMatched (actors : List Actor) (feeds : List (List ℕ)) : Type 0 where
   pub long : length actors ≡ length feeds
-  pub each : (i : ℕ) → i < length feeds → place_count (get_or actors i no_actor) ≡ length (get_or feeds i [])
+  pub each : (i : ℕ) → i < length feeds → Matches (get_or actors i no_actor) (get_or feeds i [])
 
 -- and the order is one
 pub record IsLawful (actors : List Actor) (feeds : List (List ℕ)) (order : List ℕ) : Type 0 where

@@ -2,7 +2,7 @@
 use Rattle.std.specs.Prelude.{◌≡◌, ℕ, ◌+◌, ◌<◌, length, drop, Result, Ok, Err, List, [], ◌∷◌, get_or, set, ℤ, pos}
 use Rattle.pt_flat.specs.declared.actor.Actor.{Actor}
 use Rattle.pt_flat.specs.declared.actor.Actor.TheVariants as actors
-use Rattle.pt_flat.specs.Actors.{no_actor, Firing, Gave, Overflows, held_as, ramp_firing, scale_firing}
+use Rattle.pt_flat.specs.Actors.{no_actor, Firing, Gave, Overflows, held_as, ramp_firing, scale_firing, sum_firing}
 
 -- the numbers that wait for an actor, by the last number of each actor
 abbrev pub numbers_of : List ℤ → List ℕ → List ℤ
@@ -17,6 +17,7 @@ first_number (x ∷ xs) = x
 abbrev pub actor_firing : Actor → List ℤ → Firing Actor
 actor_firing (actors.Ramp r) xs = held_as actors.Ramp (ramp_firing r)
 actor_firing (actors.Scale s) xs = held_as actors.Scale (scale_firing s (first_number xs))
+actor_firing (actors.AddSubtract a) xs = held_as actors.AddSubtract (sum_firing a xs)
 
 abbrev pub firing_at : List (List ℕ) → List Actor → List ℤ → ℕ → Firing Actor
 firing_at feeds nows values i = actor_firing (get_or nows i no_actor) (numbers_of values (get_or feeds i []))

@@ -1,5 +1,5 @@
-ghost use Rattle.std.specs.Prelude.{◌≡◌, ◌<◌, ℤ, length, All};
-ghost use Rattle.pt_flat.specs.Actors.{Makes, ramp_firing, scale_firing, place_count};
+ghost use Rattle.std.specs.Prelude.{◌≡◌, ◌<◌, ◌+◌, ◌^◌, ℤ, ◌≤ℤ◌, neg_ℤ, pos, length, All};
+ghost use Rattle.pt_flat.specs.Actors.{Makes, ramp_firing, scale_firing, sum_firing, narrowed_of, total_of, place_count};
 ghost use Rattle.pt_flat.specs.Turns.{actor_firing, numbers_of};
 
 use thiserror::Error;
@@ -46,11 +46,55 @@ impl Scale {
     }
 }
 
+/// `AddSubtract`: gives the sum of its plus inputs without its minus inputs.
+#[derive(Clone, Copy, Debug, PartialEq, Eq)]
+pub struct AddSubtract {
+    pub plus: u32,
+    pub minus: u32,
+}
+
+impl AddSubtract {
+    /// Gives the exact number of the sum, where it fits. The plus inputs are before the minus inputs.
+    pub fn fire(&self, feeds: &[usize], values: &[i64]) -> Result<i64, Overflow>
+        requires places { self.now.plus + self.now.minus ≡ length feeds.now }
+        requires fed { All (λ s. s < length values.now) feeds.now }
+        ensures { Makes (sum_firing self.now (numbers_of values.now feeds.now)) self.now self.now result }
+    {
+        let plus = self.plus as usize;
+        narrowed(total(&feeds[..plus], values) - total(&feeds[plus..], values))
+    }
+}
+
+fn narrowed(number: i128) -> Result<i64, Overflow>
+    ensures { result ≡ narrowed_of number }
+{
+    match i64::try_from(number) {
+        Ok(given) => Ok(given),
+        Err(_) => Err(Overflow),
+    }
+}
+
+/// The sum of the last numbers of some actors.
+fn total(feeds: &[usize], values: &[i64]) -> i128
+    requires few { length feeds.now < 2 ^ 33 }
+    requires fed { All (λ s. s < length values.now) feeds.now }
+    ensures value { result ≡ total_of (numbers_of values.now feeds.now) }
+    ensures low { neg_ℤ (pos (2 ^ 96)) ≤ℤ result }
+    ensures high { result ≤ℤ pos (2 ^ 96) }
+{
+    let mut sum = 0i128;
+    for actor in feeds {
+        sum += i128::from(values[*actor]);
+    }
+    sum
+}
+
 /// A library actor with one output.
 #[derive(Clone, Copy, Debug, PartialEq, Eq)]
 pub enum Actor {
     Ramp(Ramp),
     Scale(Scale),
+    AddSubtract(AddSubtract),
 }
 
 impl Actor {
@@ -64,6 +108,7 @@ impl Actor {
         match self {
             Actor::Ramp(ramp) => ramp.fire(),
             Actor::Scale(scale) => scale.fire(values[feeds[0]]),
+            Actor::AddSubtract(sum) => sum.fire(feeds, values),
         }
     }
 }

@@ -5,6 +5,6 @@ mod actor;
 mod flat;
 mod run;
 
-pub use actor::{Actor, Overflow, Ramp, Scale};
+pub use actor::{Actor, AddSubtract, Overflow, Ramp, Scale};
 pub use flat::{Feeds, Flat, FlatFault};
 pub use run::{Ended, Numbers, Ran, run_flat};
