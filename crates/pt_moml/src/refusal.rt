@@ -1,9 +1,10 @@
 ghost use Rattle.std.specs.Prelude.{◌≡◌};
+ghost use Rattle.pt_moml.specs.Outcome.{IsRefusal};
 ghost use Rattle.pt_moml.specs.declared.refusal.DocFault.TheVariants.{Memory};
 
 use crate::code::Code;
 use pt_value::Text;
-use std::alloc::{AllocError, AllocFailed};
+use std::alloc::{AllocError, AllocFailed, Global};
 use thiserror::Error;
 
 /// A document is refused for this cause, at this path.
@@ -36,5 +37,15 @@ impl<T: Drop> From<AllocFailed<T>> for DocFault {
 
     fn from(_: AllocFailed<T>) -> DocFault {
         DocFault::Memory
+    }
+}
+
+/// A refusal for this cause at this path, if there is memory for the path.
+pub fn refused(alloc: Global, code: Code, path: &str) -> DocFault
+    ensures { IsRefusal result code path.now }
+{
+    match Text::of(alloc, path) {
+        Ok(path) => DocFault::Refused(Refusal { code, path }),
+        Err(_) => DocFault::Memory,
     }
 }

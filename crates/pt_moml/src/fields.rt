@@ -1,0 +1,178 @@
+// Reading what stands at a field, for all objects alike.
+ghost use Rattle.std.specs.Prelude.{◌≡◌, List, ℕ, map, [], Ok, Err, Some, Result, option_map, string_bytes};
+ghost use Rattle.serde_json.specs.Data.{Data};
+ghost use Rattle.serde_json.specs.View.{view, items_view, members_view};
+ghost use Rattle.pt_moml.specs.declared.refusal.Refusal.{Refusal};
+ghost use Rattle.pt_moml.specs.Names.{is_among};
+ghost use Rattle.pt_moml.specs.Outcome.{Gives, IsRefusal};
+ghost use Rattle.pt_moml.specs.Fields.{text_at, required_text, optional_text, name_at, truth_at, required_truth, optional_truth, required_whole, has_only, listed, items_at, required_list, optional_list};
+
+use crate::code::Code;
+use crate::names::is_name;
+use crate::refusal::{DocFault, refused};
+use pt_value::Text;
+use serde_json::{Map, Value};
+use std::alloc::Global;
+
+/// The text at a place that must have one.
+pub fn text_of(alloc: Global, path: &str, value: &Value) -> Result<Text, DocFault>
+    ensures { Gives (λ t. t) result (text_at path.now (view value.now)) }
+{
+    match value.as_str() {
+        Some(text) => Ok(Text::of(alloc, text)?),
+        None => Err(refused(alloc, Code::Shape, path)),
+    }
+}
+
+pub fn required(alloc: Global, path: &str, field: Option<&Value>) -> Result<Text, DocFault>
+    ensures { Gives (λ t. t) result (required_text path.now (option_map (λ v. view v.now) field.entry)) }
+{
+    match field {
+        Some(value) => text_of(alloc, path, value),
+        None => Err(refused(alloc, Code::Shape, path)),
+    }
+}
+
+pub fn optional(alloc: Global, path: &str, field: Option<&Value>) -> Result<Option<Text>, DocFault>
+    ensures { Gives (λ t. t) result (optional_text path.now (option_map (λ v. view v.now) field.entry)) }
+{
+    match field {
+        Some(value) => Ok(Some(text_of(alloc, path, value)?)),
+        None => Ok(None),
+    }
+}
+
+#[tactic(auto, unfolding(crate::specs::Fields::name_at))]
+pub fn name_of(alloc: Global, path: &str, field: Option<&Value>) -> Result<Text, DocFault>
+    ensures { Gives (λ t. t) result (name_at path.now (option_map (λ v. view v.now) field.entry)) }
+{
+    let name = required(alloc, path, field)?;
+    if is_name(name.as_str()) {
+        Ok(name)
+    } else {
+        Err(refused(alloc, Code::Name, path))
+    }
+}
+
+fn truth_of(alloc: Global, path: &str, value: &Value) -> Result<bool, DocFault>
+    ensures { Gives (λ b. b) result (truth_at path.now (view value.now)) }
+{
+    match value.as_bool() {
+        Some(truth) => Ok(truth),
+        None => Err(refused(alloc, Code::Shape, path)),
+    }
+}
+
+pub fn truth(alloc: Global, path: &str, field: Option<&Value>) -> Result<bool, DocFault>
+    ensures { Gives (λ b. b) result (required_truth path.now (option_map (λ v. view v.now) field.entry)) }
+{
+    match field {
+        Some(value) => truth_of(alloc, path, value),
+        None => Err(refused(alloc, Code::Shape, path)),
+    }
+}
+
+pub fn truth_or_false(alloc: Global, path: &str, field: Option<&Value>) -> Result<bool, DocFault>
+    ensures { Gives (λ b. b) result (optional_truth path.now (option_map (λ v. view v.now) field.entry)) }
+{
+    match field {
+        Some(value) => truth_of(alloc, path, value),
+        None => Ok(false),
+    }
+}
+
+pub fn whole_number(alloc: Global, path: &str, field: Option<&Value>) -> Result<u64, DocFault>
+    ensures { Gives (λ n. n) result (required_whole path.now (option_map (λ v. view v.now) field.entry)) }
+{
+    match field {
+        Some(value) => match value.as_u64() {
+            Some(number) => Ok(number),
+            None => Err(refused(alloc, Code::Shape, path)),
+        },
+        None => Err(refused(alloc, Code::Shape, path)),
+    }
+}
+
+/// One of the texts is this.
+pub fn is_one_of(texts: &[&str], text: &str) -> bool
+    ensures { result ≡ is_among (map (λ k. k.now) texts.now) text.now }
+{
+    for one in texts {
+        if *one == text {
+            return true;
+        }
+    }
+    false
+}
+
+fn has_only_these(members: &Map<String, Value>, keys: &[&str]) -> bool
+    ensures { result ≡ has_only (map (λ k. k.now) keys.now) (members_view members.now.entries) }
+{
+    for (key, _) in members.iter() {
+        if !is_one_of(keys, key.as_str()) {
+            return false;
+        }
+    }
+    true
+}
+
+/// The value is an object, and its fields are of these.
+pub fn has_fields(alloc: Global, path: &str, value: &Value, keys: &[&str]) -> Result<(), DocFault>
+    ensures { Gives (λ u. u) result (listed path.now (map (λ k. k.now) keys.now) (view value.now)) }
+{
+    match value {
+        Value::Object(members) if has_only_these(members, keys) => Ok(()),
+        _ => Err(refused(alloc, Code::Shape, path)),
+    }
+}
+
+/// A part of an entity or of a job that reads alike wherever it stands.
+pub trait Part: Drop {
+    /// What a contract sees of it.
+    ghost Tree: { Type 0 };
+
+    ghost tree: { Self → Tree };
+
+    /// What a value reads as, for an entity of this path.
+    ghost reading: { List ℕ → Data → Result Tree Refusal };
+
+    fn read(alloc: Global, path: &str, value: &Value) -> Result<Self, DocFault>
+        ensures { Gives tree result (reading path.now (view value.now)) };
+}
+
+fn read_items<P: Part>(alloc: Global, path: &str, items: &[Value]) -> Result<Vec<P>, DocFault>
+    ensures { Gives (λ v. map P.tree v.items) result (items_at (P.reading path.now) [] (items_view items.now)) }
+{
+    let mut found = Vec::new(alloc);
+    for item in items {
+        found.push(P::read(alloc, path, item)?)?;
+    }
+    Ok(found)
+}
+
+#[tactic(auto, unfolding(crate::specs::Fields::required_list))]
+pub fn list<P: Part>(alloc: Global, path: &str, field: Option<&Value>) -> Result<Vec<P>, DocFault>
+    ensures { Gives (λ v. map P.tree v.items) result
+        (required_list P.reading path.now (option_map (λ v. view v.now) field.entry)) }
+{
+    match field {
+        Some(Value::Array(items)) => read_items(alloc, path, items),
+        _ => Err(refused(alloc, Code::Shape, path)),
+    }
+}
+
+#[tactic(auto, unfolding(crate::specs::Fields::optional_list))]
+pub fn list_or_empty<P: Part>(
+    alloc: Global,
+    path: &str,
+    field: Option<&Value>,
+) -> Result<Vec<P>, DocFault>
+    ensures { Gives (λ v. map P.tree v.items) result
+        (optional_list P.reading path.now (option_map (λ v. view v.now) field.entry)) }
+{
+    match field {
+        Some(Value::Array(items)) => read_items(alloc, path, items),
+        Some(_) => Err(refused(alloc, Code::Shape, path)),
+        None => Ok(Vec::new(alloc)),
+    }
+}
