@@ -141,10 +141,10 @@ module _ (i count : ℕ) (links : List (ℕ × ℕ)) (old new : List ℕ) where
       sound : (s t : ℕ) → s < count → t < count → get_or new s 0 ≡ get_or new t 0 → Joined (Pairs links) s t
       sound s t s_in t_in e =
           elim (merged.only s t s_in t_in e) [
-            inl h ↦ so_far.sound s t s_in t_in h
-          | inr w ↦ elim w [
-              inl h ↦ after_path s a t (so_far.sound s a s_in a_in h.0) (after_path a b t step (so_far.sound b t b_in t_in (sym h.1)))
-            | inr h ↦ after_path s b t (so_far.sound s b s_in b_in h.0) (after_path b a t (back_path a b step) (so_far.sound a t a_in t_in (sym h.1)))
+            | inl h ↦ so_far.sound s t s_in t_in h
+            | inr w ↦ elim w [
+              | inl h ↦ after_path s a t (so_far.sound s a s_in a_in h.0) (after_path a b t step (so_far.sound b t b_in t_in (sym h.1)))
+              | inr h ↦ after_path s b t (so_far.sound s b s_in b_in h.0) (after_path b a t (back_path a b step) (so_far.sound a t a_in t_in (sym h.1)))
             ]
           ]
 

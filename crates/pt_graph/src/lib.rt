@@ -2,3 +2,7 @@
 #![tactic(auto)]
 
 pub mod groups;
+mod net;
+pub mod wire;
+
+pub use net::{Channel, End, Net, NetDirector, NetEntity, NetPort, Transparent};
