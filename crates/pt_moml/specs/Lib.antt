@@ -5,3 +5,5 @@ pub mod Classes
 pub mod Outcome
 pub mod Names
 pub mod Fields
+pub mod Rules
+pub mod Reading

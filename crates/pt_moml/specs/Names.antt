@@ -35,7 +35,7 @@ is_reserved s = is_among words s || ends_in presence s
 
 -- a property of this name is there for graphical editors alone
 unfoldable pub is_layout : List ℕ → Bool
-is_layout s = slice_index s 0 == 95
+is_layout s = nat_lt 0 (length s) && (slice_index s 0 == 95)
 
 -- the path of the top
 abbrev pub top_path : List ℕ

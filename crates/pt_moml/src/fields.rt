@@ -1,15 +1,15 @@
 // Reading what stands at a field, for all objects alike.
-ghost use Rattle.std.specs.Prelude.{◌≡◌, List, ℕ, map, [], Ok, Err, Some, Result, option_map, string_bytes};
+ghost use Rattle.std.specs.Prelude.{◌≡◌, List, ℕ, map, [], ◌∷◌, ◌++◌, Ok, Err, Some, Result, option_map, string_bytes};
 ghost use Rattle.serde_json.specs.Data.{Data};
 ghost use Rattle.serde_json.specs.View.{view, items_view, members_view};
 ghost use Rattle.pt_moml.specs.declared.refusal.Refusal.{Refusal};
-ghost use Rattle.pt_moml.specs.Names.{is_among};
 ghost use Rattle.pt_moml.specs.Outcome.{Gives, IsRefusal};
-ghost use Rattle.pt_moml.specs.Fields.{text_at, required_text, optional_text, name_at, truth_at, required_truth, optional_truth, required_whole, has_only, listed, items_at, required_list, optional_list};
+ghost use Rattle.pt_moml.specs.Fields.{text_at, required_text, optional_text, name_at, truth_at, required_truth, optional_truth, required_whole, has_only, listed, items_at, required_list, optional_list, distinct_at};
 
 use crate::code::Code;
-use crate::names::is_name;
+use crate::names::{is_name, is_one_of};
 use crate::refusal::{DocFault, refused};
+use indexmap::IndexSet;
 use pt_value::Text;
 use serde_json::{Map, Value};
 use std::alloc::Global;
@@ -93,18 +93,6 @@ pub fn whole_number(alloc: Global, path: &str, field: Option<&Value>) -> Result<
     }
 }
 
-/// One of the texts is this.
-pub fn is_one_of(texts: &[&str], text: &str) -> bool
-    ensures { result ≡ is_among (map (λ k. k.now) texts.now) text.now }
-{
-    for one in texts {
-        if *one == text {
-            return true;
-        }
-    }
-    false
-}
-
 fn has_only_these(members: &Map<String, Value>, keys: &[&str]) -> bool
     ensures { result ≡ has_only (map (λ k. k.now) keys.now) (members_view members.now.entries) }
 {
@@ -128,20 +116,55 @@ pub fn has_fields(alloc: Global, path: &str, value: &Value, keys: &[&str]) -> Re
 
 /// A part of an entity or of a job that reads alike wherever it stands.
 pub trait Part: Drop {
-    /// What a contract sees of it.
+    /// What a contract sees of it, and of a list.
     ghost Tree: { Type 0 };
 
     ghost tree: { Self → Tree };
+
+    ghost trees: { List Self → List Tree };
 
     /// What a value reads as, for an entity of this path.
     ghost reading: { List ℕ → Data → Result Tree Refusal };
 
     fn read(alloc: Global, path: &str, value: &Value) -> Result<Self, DocFault>
         ensures { Gives tree result (reading path.now (view value.now)) };
+
+    ghost of_none: { trees [] ≡ [] };
+
+    ghost of_more: { (parts : List Self) (part : Self) → trees (parts ++ part ∷ []) ≡ trees parts ++ tree part ∷ [] };
+}
+
+/// A part with a name.
+pub trait Named {
+    ghost name: { Self → List ℕ };
+
+    ghost names: { List Self → List (List ℕ) };
+
+    fn name(&self) -> &str
+        ensures { result.now ≡ name self.now };
+
+    ghost of_none: { names [] ≡ [] };
+
+    ghost of_more: { (part : Self) (parts : List Self) → names (part ∷ parts) ≡ name part ∷ names parts };
+}
+
+/// The names of the parts differ.
+#[tactic(auto, unfolding(crate::specs::Fields::distinct_at))]
+pub fn names_differ<T: Named>(alloc: Global, path: &str, parts: &[T]) -> Result<(), DocFault>
+    ensures { Gives (λ u. u) result (distinct_at path.now (T.names parts.now)) }
+{
+    let mut seen = IndexSet::new(alloc);
+    for part in parts {
+        let (_, is_new) = seen.insert_full(part.name())?;
+        if !is_new {
+            return Err(refused(alloc, Code::Name, path));
+        }
+    }
+    Ok(())
 }
 
 fn read_items<P: Part>(alloc: Global, path: &str, items: &[Value]) -> Result<Vec<P>, DocFault>
-    ensures { Gives (λ v. map P.tree v.items) result (items_at (P.reading path.now) [] (items_view items.now)) }
+    ensures { Gives (λ v. P.trees v.items) result (items_at (P.reading path.now) [] (items_view items.now)) }
 {
     let mut found = Vec::new(alloc);
     for item in items {
@@ -152,7 +175,7 @@ fn read_items<P: Part>(alloc: Global, path: &str, items: &[Value]) -> Result<Vec
 
 #[tactic(auto, unfolding(crate::specs::Fields::required_list))]
 pub fn list<P: Part>(alloc: Global, path: &str, field: Option<&Value>) -> Result<Vec<P>, DocFault>
-    ensures { Gives (λ v. map P.tree v.items) result
+    ensures { Gives (λ v. P.trees v.items) result
         (required_list P.reading path.now (option_map (λ v. view v.now) field.entry)) }
 {
     match field {
@@ -167,7 +190,7 @@ pub fn list_or_empty<P: Part>(
     path: &str,
     field: Option<&Value>,
 ) -> Result<Vec<P>, DocFault>
-    ensures { Gives (λ v. map P.tree v.items) result
+    ensures { Gives (λ v. P.trees v.items) result
         (optional_list P.reading path.now (option_map (λ v. view v.now) field.entry)) }
 {
     match field {

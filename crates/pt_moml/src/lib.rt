@@ -4,9 +4,14 @@
 mod classes;
 mod code;
 mod fields;
+mod inputs;
 mod job;
 mod names;
+mod parameters;
+mod parts;
+mod property;
 mod refusal;
+mod rules;
 mod tables;
 
 pub use classes::{
@@ -18,5 +23,6 @@ pub use job::{
     Direction, Entity, Event, Input, Job, Link, OutputAction, Port, Property, Relation, SetAction,
     State, Supply, Transition,
 };
+pub use names::{is_layout, is_name, is_reserved};
 pub use refusal::{DocFault, Refusal};
 pub use tables::{CLASSES, DIRECTORS};

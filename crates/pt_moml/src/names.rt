@@ -1,8 +1,11 @@
 // Names, and paths made of them.
-ghost use Rattle.std.specs.Prelude.{◌≡◌, IfOk};
+ghost use Rattle.std.specs.Prelude.{◌≡◌, map, IfOk};
 ghost use Rattle.std.specs.List.{list_all};
 ghost use Rattle.pt_moml.specs.Names as names;
+ghost use Rattle.pt_moml.specs.Outcome.{IsRefusal};
 
+use crate::code::Code;
+use crate::refusal::{DocFault, Refusal};
 use pt_value::Text;
 use std::alloc::{AllocError, Global};
 
@@ -33,6 +36,46 @@ pub fn is_name(text: &str) -> bool
     0 < bytes.len() && bytes.len() <= 64 && is_first(bytes[0]) && are_later(bytes)
 }
 
+/// One of the texts is this.
+pub fn is_one_of(texts: &[&str], text: &str) -> bool
+    ensures { result ≡ names.is_among (map (λ k. k.now) texts.now) text.now }
+{
+    for one in texts {
+        if *one == text {
+            return true;
+        }
+    }
+    false
+}
+
+fn ends_in(end: &[u8], text: &[u8]) -> bool
+    ensures { result ≡ names.ends_in end.now text.now }
+{
+    if end.len() > text.len() {
+        return false;
+    }
+    let (_, back) = text.split_at(text.len() - end.len());
+    back == end
+}
+
+/// A name that no port, parameter or Variable may have.
+#[tactic(auto, unfolding(crate::specs::Names::is_reserved))]
+pub fn is_reserved(name: &str) -> bool
+    ensures { result ≡ names.is_reserved name.now }
+{
+    is_one_of(&["true", "false", "abs", "max", "min"], name)
+        || ends_in(b"_isPresent", name.as_bytes())
+}
+
+/// A property of this name is there for graphical editors alone.
+#[tactic(auto, unfolding(crate::specs::Names::is_layout))]
+pub fn is_layout(name: &str) -> bool
+    ensures { result ≡ names.is_layout name.now }
+{
+    let bytes = name.as_bytes();
+    0 < bytes.len() && bytes[0] == b'_'
+}
+
 /// The path of what has this name in the entity of that path.
 #[tactic(auto, unfolding(crate::specs::Names::below))]
 pub fn path_below(alloc: Global, path: &str, name: &str) -> Result<Text, AllocError>
@@ -42,5 +85,15 @@ pub fn path_below(alloc: Global, path: &str, name: &str) -> Result<Text, AllocEr
         Text::of(alloc, name)
     } else {
         Text::joined(alloc, path, name)
+    }
+}
+
+/// A refusal for this cause, at what has this name in the entity of that path.
+pub fn refused_below(alloc: Global, code: Code, path: &str, name: &str) -> DocFault
+    ensures { IsRefusal result code (names.below path.now name.now) }
+{
+    match path_below(alloc, path, name) {
+        Ok(path) => DocFault::Refused(Refusal { code, path }),
+        Err(_) => DocFault::Memory,
     }
 }

@@ -1,0 +1,39 @@
+-- How the lists of properties are read.
+use Rattle.std.proofs.Common.{◌≡◌, ℕ, List, [], ◌∷◌, ◌++◌, Option, Some, None, Result, Ok, Err, refl, ap, ◌∙◌, codes}
+use Rattle.serde_json.specs.Data.{Data, null, boolean, number, string, array, object, Items, no_items, item, Members}
+use Rattle.serde_json.specs.Find.{get, get_member}
+use Rattle.pt_moml.specs.declared.refusal.Refusal.{Refusal}
+use Rattle.pt_moml.specs.Document.{PropertyTree}
+use Rattle.pt_moml.specs.Outcome.{◌>>=◌}
+use Rattle.pt_moml.specs.Fields.{items_at}
+use Rattle.pt_moml.specs.Reading.{property_from, property_at, properties_in, properties_under, properties_at, property_items, properties_field}
+use Rattle.pt_moml.proofs.FoundFields.{found, under_is}
+use Rattle.pt_moml.proofs.Refusals.{bind_same}
+
+abbrev Read : Type 0
+Read = Result (List PropertyTree) Refusal
+
+none : Read
+none = Ok []
+
+field_is : (path : List ℕ) (field : Option Data) → found (Ok []) (properties_at path) field ≡ properties_field path field
+field_is path None = refl
+field_is path (Some d) = refl
+
+pub in_is : (path : List ℕ) (d : Data) → properties_in path d ≡ properties_field path (get (codes "properties") d)
+unfolding properties_in
+in_is path null = refl
+in_is path (boolean b) = refl
+in_is path (number n) = refl
+in_is path (string s) = refl
+in_is path (array ds) = refl
+in_is path (object ms) =
+    under_is Read (codes "properties") (Ok []) (properties_at path) (properties_under path) refl (λ k d ms. refl) ms ∙ field_is path (get_member (codes "properties") ms)
+
+-- the items are read one by one
+pub items_are : (path : List ℕ) (done : List PropertyTree) (ds : Items) → property_items path done ds ≡ items_at (property_at path) done ds
+unfolding properties_in
+items_are path done no_items = refl
+items_are path done (item d ds) =
+    ap (λ (inner : Read). property_from path d inner >>= λ p. property_items path (done ++ p ∷ []) ds) (in_is path d)
+    ∙ bind_same (property_at path d) (λ p. property_items path (done ++ p ∷ []) ds) (λ p. items_at (property_at path) (done ++ p ∷ []) ds) (λ p. items_are path (done ++ p ∷ []) ds)

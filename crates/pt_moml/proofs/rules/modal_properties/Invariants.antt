@@ -1,0 +1,7 @@
+use Rattle.std.proofs.Common.{◌≡◌, map, drop}
+use Rattle.pt_moml.specs.Rules as rules
+use Rattle.pt_moml.specs.View.{properties_view}
+use Rattle.pt_moml.proofs.rules.modal_properties.Given as goal
+
+abbrev pub invariant-loop-property : goal.invariant-loop-property
+invariant-loop-property l = rules.each (rules.modal_property l.here) (properties_view (drop l.property-index l.properties)) ≡ rules.each (rules.modal_property l.here) (properties_view l.properties)

@@ -1,0 +1,87 @@
+// Properties, which may have properties of their own.
+ghost use Rattle.std.specs.Prelude.{◌≡◌, List, map, [], option_map};
+ghost use Rattle.serde_json.specs.View.{view, items_view};
+ghost use Rattle.pt_moml.specs.View.{property_view, properties_view};
+ghost use Rattle.pt_moml.specs.Outcome.{Gives};
+ghost use Rattle.pt_moml.specs.Reading.{property_at, properties_field, property_items};
+
+use crate::code::Code;
+use crate::fields::{Named, has_fields, name_of, names_differ, optional};
+use crate::job::Property;
+use crate::refusal::{DocFault, refused};
+use serde_json::Value;
+use std::alloc::Global;
+
+impl Named for Property {
+    ghost use Rattle.std.specs.Prelude.{map, refl};
+    ghost use Rattle.pt_moml.specs.Document.{property_name};
+    ghost use Rattle.pt_moml.specs.View.{property_view, properties_view};
+
+    ghost name = { λ p. property_name (property_view p) };
+
+    ghost names = { λ ps. map property_name (properties_view ps) };
+
+    ghost of_none = { refl };
+
+    ghost of_more = { λ p ps. refl };
+
+    fn name(&self) -> &str {
+        self.name.as_str()
+    }
+}
+
+#[cycle(properties)]
+#[tactic(auto, unfolding(crate::specs::Reading::property_from))]
+fn property_of(alloc: Global, path: &str, value: &Value) -> Result<Property, DocFault>
+    ensures { Gives property_view result (property_at path.now (view value.now)) }
+{
+    has_fields(
+        alloc,
+        path,
+        value,
+        &["name", "value", "class", "properties"],
+    )?;
+    let name = name_of(alloc, path, value.get("name"))?;
+    let text = optional(alloc, path, value.get("value"))?;
+    let class = optional(alloc, path, value.get("class"))?;
+    let properties = properties_of(alloc, path, value.get("properties"))?;
+    Ok(Property {
+        name,
+        value: text,
+        class,
+        properties,
+    })
+}
+
+/// The properties at a field.
+#[cycle(properties)]
+#[tactic(auto, unfolding(crate::specs::Reading::properties_in, crate::specs::Reading::named))]
+pub fn properties_of(
+    alloc: Global,
+    path: &str,
+    field: Option<&Value>,
+) -> Result<Vec<Property>, DocFault>
+    ensures { Gives (λ v. properties_view v.items) result
+        (properties_field path.now (option_map (λ v. view v.now) field.entry)) }
+{
+    match field {
+        Some(Value::Array(items)) => {
+            let properties = read_properties(alloc, path, items)?;
+            names_differ(alloc, path, &properties)?;
+            Ok(properties)
+        }
+        Some(_) => Err(refused(alloc, Code::Shape, path)),
+        None => Ok(Vec::new(alloc)),
+    }
+}
+
+#[cycle(properties)]
+fn read_properties(alloc: Global, path: &str, items: &[Value]) -> Result<Vec<Property>, DocFault>
+    ensures { Gives (λ v. properties_view v.items) result (property_items path.now [] (items_view items.now)) }
+{
+    let mut found = Vec::new(alloc);
+    for item in items {
+        found.push(property_of(alloc, path, item)?)?;
+    }
+    Ok(found)
+}
