@@ -1,0 +1,8 @@
+//! The net of a model: its entities, and the channels between them.
+#![tactic(auto)]
+
+pub mod groups;
+mod net;
+pub mod wire;
+
+pub use net::{Channel, End, Net, NetDirector, NetEntity, NetPort, Transparent};
