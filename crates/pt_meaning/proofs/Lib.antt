@@ -20,3 +20,5 @@ pub mod MeaningLaws
 pub mod OrderOfMeetings
 pub mod LogLaws
 pub mod CompositeLaws
+pub mod AlikeLaws
+pub mod HeightLaws

@@ -23,3 +23,4 @@ pub mod PromisesOfOrder
 pub mod Schemes
 pub mod LogsOfRuns
 pub mod CompositeRuns
+pub mod Heights
