@@ -22,3 +22,4 @@ pub mod LogLaws
 pub mod CompositeLaws
 pub mod AlikeLaws
 pub mod HeightLaws
+pub mod UniqueLaws

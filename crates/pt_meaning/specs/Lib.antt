@@ -24,3 +24,4 @@ pub mod Schemes
 pub mod LogsOfRuns
 pub mod CompositeRuns
 pub mod Heights
+pub mod Uniqueness
