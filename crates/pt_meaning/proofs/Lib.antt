@@ -23,3 +23,5 @@ pub mod CompositeLaws
 pub mod AlikeLaws
 pub mod HeightLaws
 pub mod UniqueLaws
+pub mod CountLaws
+pub mod SettledLaws

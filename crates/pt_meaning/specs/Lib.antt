@@ -25,3 +25,4 @@ pub mod LogsOfRuns
 pub mod CompositeRuns
 pub mod Heights
 pub mod Uniqueness
+pub mod SettledRuns
