@@ -20,3 +20,8 @@ pub mod MeaningLaws
 pub mod OrderOfMeetings
 pub mod LogLaws
 pub mod CompositeLaws
+pub mod AlikeLaws
+pub mod HeightLaws
+pub mod UniqueLaws
+pub mod CountLaws
+pub mod SettledLaws

@@ -25,3 +25,6 @@ pub mod PromisesOfOrder
 pub mod Schemes
 pub mod LogsOfRuns
 pub mod CompositeRuns
+pub mod Heights
+pub mod Uniqueness
+pub mod SettledRuns

@@ -1,0 +1,33 @@
+// There is one least solution, of ticks and of rounds.
+
+ghost use Rattle.pt_meaning.specs.Uniqueness.{LeastIsOne, ValuationsSettle, SettledIsLeast, LeastIsSettled, LeastSolutionIsOne, SettledIsLeastSolution};
+
+/// Two least valuations of a tick are the same.
+pub fn least_is_one<T, S>()
+    ensures { LeastIsOne T S }
+{}
+
+/// After as many rounds as there are channels no more becomes known at a tick.
+pub fn valuations_settle<T, S>()
+    ensures { ValuationsSettle T S }
+{}
+
+/// What is known where no more becomes known is the least valuation.
+pub fn settled_is_least<T, S>()
+    ensures { SettledIsLeast T S }
+{}
+
+/// Each least valuation is what is known where no more becomes known.
+pub fn least_is_settled<T, S>()
+    ensures { LeastIsSettled T S }
+{}
+
+/// Two least solutions of a network are the same.
+pub fn least_solution_is_one<T, S>()
+    ensures { LeastSolutionIsOne T S }
+{}
+
+/// A settled round is the least solution.
+pub fn settled_is_least_solution<T, S>()
+    ensures { SettledIsLeastSolution T S }
+{}
