@@ -1,7 +1,7 @@
 -- The chart of a Modal as its transitions are written: guards, output actions and set actions, in listed order (the book, "Finite State Machines" and "Modal Models"; the order of the actions is by the profile).
 use Rattle.std.specs.Prelude.{ℕ, List, [], ◌∷◌, Bool, true, false, Option, Some, None}
-use Rattle.pt_meaning.specs.Basics.{Streams, at}
-use Rattle.pt_meaning.specs.Modal.{Test, Acted, Acts, Fails, Chart, get, change_at}
+use Rattle.pt_meaning.specs.Streams.{Streams, at, get, change_at}
+use Rattle.pt_meaning.specs.Modal.{Test, Acted, Acts, Fails, Chart}
 
 -- what guards and actions read: the Variables, the inputs, and what the refinement gave
 pub record Scope (T : Type 0) : Type 0 where
