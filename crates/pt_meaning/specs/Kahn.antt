@@ -1,4 +1,4 @@
--- One firing of a composite whose children are stream functions: the scheme of SDF and PN.
+-- One firing of a composite whose children are stream functions: the scheme of SDF and PN (Kahn 1974). States and all tokens left are kept for the next firing.
 use Rattle.std.specs.Prelude.{ℕ, suc, List, [], ◌∷◌, ◌++◌, Bool, true, false, ◌&&◌, length, take, drop}
 use Rattle.pt_meaning.specs.Tag.{Tag}
 use Rattle.pt_meaning.specs.Streams.{Streams, at, same_lengths}
@@ -8,6 +8,7 @@ use Rattle.pt_meaning.specs.Flow.{Stop, Lacking, Ended, Capped, Stopped, Flow}
 use Rattle.pt_meaning.specs.Net.{Source, Own, Output, Net, Inside, prefixed}
 use Rattle.pt_meaning.specs.Rounds.{Limit, flows, round, all_at_rest}
 
+-- what has arrived for a channel: the tokens of the own input at which it begins
 abbrev pub arrival : {T : Type 0} → Source → Streams T → List T
 arrival (Own port) inputs = at inputs port
 arrival (Output child port) inputs = []
@@ -18,6 +19,7 @@ arrived [] inputs X = X
 arrived (c ∷ cs) inputs [] = []
 arrived (c ∷ cs) inputs (xs ∷ X) = (xs ++ arrival c inputs) ∷ arrived cs inputs X
 
+-- the stuck places of a child
 abbrev pub stop_faults : Stop → List Fault
 stop_faults Lacking = []
 stop_faults Ended = []
@@ -29,10 +31,12 @@ abbrev pub faults_of : {T S : Type 0} → ℕ → List (Flow T S) → List Fault
 faults_of i [] = []
 faults_of i (f ∷ fs) = prefixed i (stop_faults f.stop) ++ faults_of (suc i) fs
 
+-- the logs of the children
 abbrev pub logs_of : {T S : Type 0} → List (Flow T S) → List (Log T)
 logs_of [] = []
 logs_of (f ∷ fs) = f.log ∷ logs_of fs
 
+-- the states of the children
 abbrev pub states_of : {T S : Type 0} → List (Flow T S) → List S
 states_of [] = []
 states_of (f ∷ fs) = f.state ∷ states_of fs
@@ -42,25 +46,29 @@ abbrev pub left_by : {T S : Type 0} → List (Flow T S) → Streams T
 left_by [] = []
 left_by (f ∷ fs) = f.left ++ left_by fs
 
+-- the channels behind the places of the children: those to the own outputs
 abbrev pub skip_places : {T : Type 0} → List ℕ → Streams T → Streams T
 skip_places [] X = X
 skip_places (n ∷ ns) X = skip_places ns (drop n X)
 
--- the first n of each, and what is behind them
+-- the first n of each
 abbrev pub firsts : {T : Type 0} → List ℕ → Streams T → Streams T
 firsts [] X = []
 firsts (n ∷ ns) [] = []
 firsts (n ∷ ns) (xs ∷ X) = take n xs ∷ firsts ns X
 
+-- what is behind the first n of each
 abbrev pub behind : {T : Type 0} → List ℕ → Streams T → Streams T
 behind [] X = []
 behind (n ∷ ns) [] = []
 behind (n ∷ ns) (xs ∷ X) = drop n xs ∷ behind ns X
 
+-- how many tokens each channel holds
 abbrev pub lengths : {T : Type 0} → Streams T → List ℕ
 lengths [] = []
 lengths (xs ∷ X) = length xs ∷ lengths X
 
+-- done where the condition holds, else stuck at these places, with the same log
 abbrev pub if_settled : {T S : Type 0} → Bool → Inside (Streams T) S → Streams T → Log T → List Fault → Outcome T (Inside (Streams T) S)
 if_settled true c out l faults = Done c out l
 if_settled false c out l faults = Stuck faults l
@@ -73,7 +81,7 @@ firing settled counts places fs X =
     if_settled settled (record { held = left_by fs ++ behind ns Y; kids = states_of fs }) (firsts ns Y) (log_below (logs_of fs)) (faults_of 0 fs)
 
 module _ {T S : Type 0} (facts : Facts T S) (step : Stepping T S) (tag : Tag) where
-  -- no channel gets more in the next round, and each child is at rest
+  -- Round k is settled: no channel gets more in the next round, and each child is at rest. Each round is the beginning of the next, so that equal lengths are equal lists.
   abbrev pub settled : Net → List Limit → List S → Streams T → ℕ → Bool
   settled net limits kids X k =
       same_lengths (round facts step tag net limits kids X k) (round facts step tag net limits kids X (suc k)) &&

@@ -74,25 +74,28 @@ firings_in [] = 0
 firings_in (Finished ns f ∷ es) = suc (firings_in es)
 firings_in (Met ns n m ∷ es) = firings_in es
 
--- the meetings that were made in the firing of a number, in order
+-- the meeting among these, where it was made in that firing
 abbrev pub if_same : Bool → Meeting → List Meeting → List Meeting
 if_same true m ms = m ∷ ms
 if_same false m ms = ms
 
+-- the meetings that were made in the firing of a number, in order
 abbrev pub meetings_in : {T : Type 0} → ℕ → List (Event T) → List Meeting
 meetings_in n [] = []
 meetings_in n (Finished ns f ∷ es) = meetings_in n es
 meetings_in n (Met ns i m ∷ es) = if_same (nat_eq i n) m (meetings_in n es)
 
--- the log of what came within the composite's firing of number n
+-- the event, as one within firing n of a composite
 abbrev pub marked_event : {T : Type 0} → ℕ → Event T → Event T
 marked_event n (Finished ns f) = Finished (n ∷ ns) f
 marked_event n (Met ns i m) = Met (n ∷ ns) i m
 
+-- each event so
 abbrev pub all_marked : {T : Type 0} → ℕ → List (Event T) → List (Event T)
 all_marked n [] = []
 all_marked n (e ∷ es) = marked_event n e ∷ all_marked n es
 
+-- the log of a composite: its own events as they are, and all below it as within firing n
 abbrev pub within_firing : {T : Type 0} → ℕ → Log T → Log T
 within_firing n l [] = l []
 within_firing n l (i ∷ p) = all_marked n (l (i ∷ p))

@@ -14,6 +14,7 @@ core_need (De p) = Counts (replicate p.inputs 1)
 core_need (Rv p X) = Counts p.takes
 core_need (Modal chart m) = Counts (replicate chart.inputs 1)
 
+-- the need of a node
 abbrev pub need_of : {T A : Type 0} → Rows T A → Node T A → Need
 need_of rows (Actor h a b) = rows.need b
 need_of rows (Composite h c d kids) = core_need d
@@ -27,15 +28,17 @@ core_wake (De p) wakes = least wakes
 core_wake (Rv p X) wakes = None
 core_wake (Modal chart m) wakes = modal_wake (chart.refinement m.mode) m.stays wakes
 
--- a composite without inputs, other than DE, begins by itself
+-- the list is empty
 abbrev pub is_none : {A : Type 0} → List A → Bool
 is_none [] = true
 is_none (x ∷ xs) = false
 
+-- the number is 0
 abbrev pub is_zero : ℕ → Bool
 is_zero zero = true
 is_zero (suc n) = false
 
+-- a composite without inputs, other than DE, begins by itself
 abbrev pub core_begins : {T : Type 0} → Core T → Bool
 core_begins (Sdf p X) = is_none p.takes
 core_begins (Pn p X) = is_none p.takes
@@ -74,9 +77,11 @@ core_whole (De p) = true
 core_whole (Rv p X) = true
 core_whole (Modal chart m) = false
 
+-- whether the node takes its lists whole under DE
 abbrev pub whole_of : {T A : Type 0} → Rows T A → Node T A → Bool
 whole_of rows (Actor h a b) = rows.whole b
 whole_of rows (Composite h c d kids) = core_whole d
 
+-- the facts of the nodes, by the rows of the library
 abbrev pub facts_of : {T A : Type 0} → Rows T A → Facts T (Node T A)
 facts_of rows = record { need = need_of rows; next = next_of rows; made = made_of; early = early_of rows; whole = whole_of rows; reset = reset_of }

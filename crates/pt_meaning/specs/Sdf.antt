@@ -7,6 +7,7 @@ use Rattle.pt_meaning.specs.Net.{Source, Own, Output, Net, Inside}
 use Rattle.pt_meaning.specs.Rounds.{Limit}
 use Rattle.pt_meaning.specs.Kahn.{arrived, kahn}
 
+-- the channels, and the repetition of each child in an iteration, by the balance equations
 pub record SdfPlan : Type 0 where
   pub net : Net
   pub repetitions : List ℕ
@@ -15,6 +16,7 @@ pub record SdfPlan : Type 0 where
   pub gives : List ℕ
   pub rates : List (List ℕ)
 
+-- the number for an own input
 abbrev pub number_at : List ℕ → ℕ → ℕ
 number_at [] n = 1
 number_at (x ∷ xs) zero = x
@@ -26,11 +28,13 @@ allows takes (Own port) xs None = Some (length xs / number_at takes port)
 allows takes (Own port) xs (Some m) = Some (min (length xs / number_at takes port) m)
 allows takes (Output child port) xs m = m
 
+-- how many iterations the channels from own inputs allow, if there are any; an own input that feeds no channel allows any number, by the profile
 abbrev pub all_allow : {T : Type 0} → List ℕ → List Source → Streams T → Option ℕ
 all_allow takes [] X = None
 all_allow takes (c ∷ cs) [] = None
 all_allow takes (c ∷ cs) (xs ∷ X) = allows takes c xs (all_allow takes cs X)
 
+-- one, where no own input says how many
 abbrev pub or_one : Option ℕ → ℕ
 or_one None = 1
 or_one (Some m) = m
@@ -39,6 +43,7 @@ or_one (Some m) = m
 abbrev pub iterations : {T : Type 0} → SdfPlan → Streams T → ℕ
 iterations p X = or_one (all_allow p.takes p.net.sources X)
 
+-- in m iterations each child fires m times its repetition, and gives its rates in each firing
 abbrev pub sdf_limits : ℕ → List ℕ → List (List ℕ) → List Limit
 sdf_limits m [] rs = []
 sdf_limits m (q ∷ qs) [] = []
@@ -50,6 +55,7 @@ fired_all m [] fs = true
 fired_all m (q ∷ qs) [] = false
 fired_all m (q ∷ qs) (f ∷ fs) = nat_eq f.fired (m * q) && fired_all m qs fs
 
+-- SDF: the least solution in which the children make the firings of all iterations that the tokens allow; own outputs give what these produce
 abbrev pub sdf : {T S : Type 0} → Facts T S → Stepping T S → SdfPlan → ℕ → Stepping T (Inside (Streams T) S)
 sdf facts step p k tag c inputs =
     let X = arrived p.net.sources inputs c.held in

@@ -12,6 +12,7 @@ first_of_node rows None = []
 first_of_node rows (Some (Actor h a b)) = rows.first a
 first_of_node rows (Some (Composite h c d kids)) = []
 
+-- the first tokens on the channels of a source
 abbrev pub first_of : {T A : Type 0} → Rows T A → List (Node T A) → Source → List T
 first_of rows kids (Own port) = []
 first_of rows kids (Output child port) = first_of_node rows (get kids child)

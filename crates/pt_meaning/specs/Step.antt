@@ -16,10 +16,12 @@ use Rattle.pt_meaning.specs.Children.{Child, numbered, child_facts, child_step, 
 use Rattle.pt_meaning.specs.Tree.{Answer, Gives, Fails, Rows, Core, Sdf, Pn, Sr, De, Rv, Modal, Past, Node, Actor, Composite, list_of, nodes_of, made_of, fired_at, height}
 use Rattle.pt_meaning.specs.NodeFacts.{facts_of}
 
+-- what a library actor answers, as an outcome of its node
 abbrev pub actor_outcome : {T A : Type 0} → Tag → Past → A → Answer T A → Outcome T (Node T A)
 actor_outcome tag h a (Gives b out) = Done (Actor (fired_at tag h) a b) out silent
 actor_outcome tag h a (Fails code) = Stuck (record { path = []; firing = h.made; code = code } ∷ []) silent
 
+-- the outcome of a director, as that of the composite: all that came within is told with the number of this firing
 abbrev pub as_node : {T A H : Type 0} → Tag → Past → Core T → (H → Core T) → Outcome T (Inside H (Child (Node T A))) → Outcome T (Node T A)
 as_node tag h c core r = as_composite tag h c core (without_numbers r)
   where

@@ -35,6 +35,7 @@ least (w ∷ ws) = earlier w (least ws)
 abbrev pub greatest_time : ℕ
 greatest_time = 4611686018427387904
 
+-- the greatest microstep, 2^31, by the profile
 abbrev pub greatest_step : ℕ
 greatest_step = 2147483648
 
@@ -55,5 +56,6 @@ one_later tag = within_limits (tag_after tag 0)
 abbrev pub local : Tag → (lag : ℕ) → Tag
 local tag lag = record { time = tag.time - lag; step = tag.step }
 
+-- the outer tag of a local one, none past a limit
 abbrev pub outer : Tag → (lag : ℕ) → Option Tag
 outer tag lag = within_limits (record { time = tag.time + lag; step = tag.step })

@@ -10,18 +10,22 @@ use Rattle.pt_meaning.specs.Valuation.{TickPlan}
 use Rattle.pt_meaning.specs.Modal.{Chart, Modes}
 use Rattle.pt_meaning.specs.Rendezvous.{RvPlan, Places}
 
--- what a library actor answers
+-- what a library actor answers: its next state and its outputs, or the code of a fault
 pub data Answer (T A : Type 0) : Type 0 where
   Gives : A → Streams T → Answer T A
   Fails : ℕ → Answer T A
 
--- The rows of the library. First tokens stand at the start on the channels of the actor's output. An actor begins by itself where it has no input places and no wakes of its own.
+-- The rows of a library of actors: what each state A says.
 pub record Rows (T A : Type 0) : Type 0 where
+  -- the first tokens, which stand at the start on the channels of the actor's output
   pub first : A → List T
+  -- what it needs before it can fire, and its wake
   pub need : A → Need
   pub next : A → Option Tag
+  -- its step at a tag, and what it gives early from inputs that are partly known
   pub react : Tag → A → Streams T → Answer T A
   pub early : Tag → A → List (Partial T) → List (Partial T)
+  -- whether under DE it takes its lists whole, and whether it begins by itself: it has no input places and no wakes of its own
   pub whole : A → Bool
   pub begins : A → Bool
 
@@ -39,7 +43,7 @@ pub record Past : Type 0 where
   pub made : ℕ
   pub last : Option ℕ
 
--- a node: its past, and its start beside its state, to which a reset brings it back
+-- A node is a library actor or a composite: its past, its start, to which a reset brings it back, beside its state, and the children.
 mutual
   pub data Node (T A : Type 0) : Type 0 where
     Actor : Past → (start now : A) → Node T A
@@ -49,24 +53,30 @@ mutual
     none : Nodes T A
     more : Node T A → Nodes T A → Nodes T A
 
+-- the children as a list
 abbrev pub list_of : {T A : Type 0} → Nodes T A → List (Node T A)
 list_of none = []
 list_of (more n ns) = n ∷ list_of ns
 
+-- a list as children
 abbrev pub nodes_of : {T A : Type 0} → List (Node T A) → Nodes T A
 nodes_of [] = none
 nodes_of (n ∷ ns) = more n (nodes_of ns)
 
+-- the past of a node
 abbrev pub past_of : {T A : Type 0} → Node T A → Past
 past_of (Actor h a b) = h
 past_of (Composite h c d kids) = h
 
+-- how many firings a node has finished
 abbrev pub made_of : {T A : Type 0} → Node T A → ℕ
 made_of node = (past_of node).made
 
+-- one firing more, at that time
 abbrev pub fired_at : Tag → Past → Past
 fired_at tag h = record { made = suc h.made; last = Some tag.time }
 
+-- after a reset: the number of firings stays, the time of the last one does not
 abbrev pub forgotten : Past → Past
 forgotten h = record { made = h.made; last = None }
 
@@ -84,9 +94,11 @@ abbrev mutual
 abbrev pub unfired : Past
 unfired = record { made = 0; last = None }
 
+-- a library actor at its start
 abbrev pub actor : {T A : Type 0} → A → Node T A
 actor a = Actor unfired a a
 
+-- a composite at its start
 abbrev pub composite : {T A : Type 0} → Core T → List (Node T A) → Node T A
 composite c kids = Composite unfired c c (nodes_of kids)
 
