@@ -1,1 +1,7 @@
 pub mod SmallLaws
+pub mod DataflowExamples
+pub mod NetworkExamples
+pub mod TickExamples
+pub mod EventExamples
+pub mod RendezvousExamples
+pub mod ModalExamples
