@@ -5,3 +5,4 @@ pub mod TickExamples
 pub mod EventExamples
 pub mod RendezvousExamples
 pub mod ModalExamples
+pub mod EdgeExamples

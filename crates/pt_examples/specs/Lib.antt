@@ -6,3 +6,4 @@ pub mod Ticks
 pub mod Events
 pub mod Rendezvous
 pub mod Modals
+pub mod Edges

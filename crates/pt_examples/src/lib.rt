@@ -9,6 +9,7 @@ ghost use Rattle.pt_examples.specs.Ticks.{TickExamples};
 ghost use Rattle.pt_examples.specs.Events.{EventExamples};
 ghost use Rattle.pt_examples.specs.Rendezvous.{RendezvousExamples};
 ghost use Rattle.pt_examples.specs.Modals.{ModalExamples};
+ghost use Rattle.pt_examples.specs.Edges.{EdgeExamples};
 
 /// The small library of the examples keeps what every library of actors owes.
 pub fn small_library_is_lawful()
@@ -43,4 +44,9 @@ pub fn rendezvous_examples()
 /// Each example of Modal has its trace and its end.
 pub fn modal_examples()
     ensures { ModalExamples }
+{}
+
+/// Each model at an edge of the definitions has its trace and its end.
+pub fn edge_examples()
+    ensures { EdgeExamples }
 {}
