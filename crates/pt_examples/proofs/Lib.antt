@@ -6,3 +6,4 @@ pub mod EventExamples
 pub mod RendezvousExamples
 pub mod ModalExamples
 pub mod EdgeExamples
+pub mod NestingExamples

@@ -25,13 +25,13 @@ abbrev pub inner : Chart Token
 inner =
     one_in_one_out
     (record { refinement = Some 0; preemptive = []; others = goes (input_is 1) 1 true ∷ [] } ∷
-     record { refinement = None; preemptive = []; others = goes (input_is 0) 0 false ∷ [] } ∷ [])
+    record { refinement = None; preemptive = []; others = goes (input_is 0) 0 false ∷ [] } ∷ [])
 
 abbrev pub outer : (history : Bool) → Chart Token
 outer history =
     one_in_one_out
     (record { refinement = Some 0; preemptive = goes (input_is 9) 1 true ∷ []; others = [] } ∷
-     record { refinement = None; preemptive = []; others = goes (input_is 0) 0 history ∷ [] } ∷ [])
+    record { refinement = None; preemptive = []; others = goes (input_is 0) 0 history ∷ [] } ∷ [])
 
 abbrev pub two_resets : (history : Bool) → Node Token Act
 two_resets history =
@@ -71,7 +71,7 @@ abbrev pub on_off : (history : Bool) → Chart Token
 on_off history =
     one_in_one_out
     (record { refinement = Some 0; preemptive = []; others = goes always 1 true ∷ [] } ∷
-     record { refinement = None; preemptive = []; others = goes always 0 history ∷ [] } ∷ [])
+    record { refinement = None; preemptive = []; others = goes always 0 history ∷ [] } ∷ [])
 
 abbrev pub re_entered : (history : Bool) → Node Token Act
 re_entered history = de (Output 0 0 ∷ Output 1 0 ∷ []) (0 ∷ 1 ∷ 1 ∷ []) 0 (actor (clock 2 ((0, int 1) ∷ [])) ∷ twice ∷ modal (on_off history) [] (counter ∷ []) ∷ [])
@@ -95,7 +95,7 @@ abbrev pub by_ones : (history : Bool) → Chart Token
 by_ones history =
     one_in_one_out
     (record { refinement = Some 0; preemptive = []; others = goes (input_is 1) 1 true ∷ [] } ∷
-     record { refinement = None; preemptive = []; others = goes (input_is 1) 0 history ∷ [] } ∷ [])
+    record { refinement = None; preemptive = []; others = goes (input_is 1) 0 history ∷ [] } ∷ [])
 
 abbrev pub woken_again : (history : Bool) → Node Token Act
 woken_again history = de (Output 0 0 ∷ []) (0 ∷ 1 ∷ []) 0 (actor (clock 2 ((0, int 1) ∷ [])) ∷ modal (by_ones history) [] (constant_inside ∷ []) ∷ [])
@@ -109,7 +109,7 @@ abbrev pub two_three : Chart Token
 two_three =
     one_in_one_out
     (record { refinement = Some 0; preemptive = []; others = goes (input_is 2) 1 true ∷ [] } ∷
-     record { refinement = None; preemptive = []; others = goes (input_is 3) 0 true ∷ [] } ∷ [])
+    record { refinement = None; preemptive = []; others = goes (input_is 3) 0 true ∷ [] } ∷ [])
 
 abbrev pub out_of_order : Node Token Act
 out_of_order = de (Own 0 ∷ []) (1 ∷ []) 1 (modal two_three [] (delaying ∷ []) ∷ [])

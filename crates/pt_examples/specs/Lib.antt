@@ -7,3 +7,4 @@ pub mod Events
 pub mod Rendezvous
 pub mod Modals
 pub mod Edges
+pub mod Nesting

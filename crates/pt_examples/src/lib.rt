@@ -10,6 +10,7 @@ ghost use Rattle.pt_examples.specs.Events.{EventExamples};
 ghost use Rattle.pt_examples.specs.Rendezvous.{RendezvousExamples};
 ghost use Rattle.pt_examples.specs.Modals.{ModalExamples};
 ghost use Rattle.pt_examples.specs.Edges.{EdgeExamples};
+ghost use Rattle.pt_examples.specs.Nesting.{NestingExamples};
 
 /// The small library of the examples keeps what every library of actors owes.
 pub fn small_library_is_lawful()
@@ -49,4 +50,9 @@ pub fn modal_examples()
 /// Each model at an edge of the definitions has its trace and its end.
 pub fn edge_examples()
     ensures { EdgeExamples }
+{}
+
+/// Each model of nested directors has its trace, its end and its meetings.
+pub fn nesting_examples()
+    ensures { NestingExamples }
 {}
