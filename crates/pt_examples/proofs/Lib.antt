@@ -7,3 +7,4 @@ pub mod RendezvousExamples
 pub mod ModalExamples
 pub mod EdgeExamples
 pub mod NestingExamples
+pub mod JamExample

@@ -25,5 +25,11 @@ network_examples = record {
   triples_below_de = refl;
   thirteen_firings = refl;
   line_gives = refl;
+  four_hundred_firings = refl;
+  hundred_tokens = refl;
+  last_token = refl;
+  hundred_end = refl;
+  at_once = refl;
+  in_parts = refl;
   first_event_alone = refl;
 }

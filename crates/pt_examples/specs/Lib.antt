@@ -8,3 +8,4 @@ pub mod Rendezvous
 pub mod Modals
 pub mod Edges
 pub mod Nesting
+pub mod Jams

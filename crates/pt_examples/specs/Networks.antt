@@ -1,14 +1,18 @@
 -- Examples of PN.
-use Rattle.std.specs.Prelude.{◌≡◌, List, [], ◌∷◌, true, false, Some, pos, negsuc}
+use Rattle.std.specs.Prelude.{◌≡◌, List, [], ◌∷◌, true, false, Some, pos, negsuc, length}
 use Rattle.pt_meaning.specs.Net.{Own, Output}
 use Rattle.pt_meaning.specs.Tree.{Node, actor}
-use Rattle.pt_meaning.specs.Step.{no_meetings}
+use Rattle.pt_meaning.specs.Step.{no_meetings, Step}
+use Rattle.pt_meaning.specs.Tag.{Tag, origin}
+use Rattle.pt_meaning.specs.Streams.{joined}
+use Rattle.pt_meaning.specs.Machine.{Outcome, Done, Stuck}
+use Rattle.pt_meaning.specs.Transitions.{last_of}
 use Rattle.pt_meaning.specs.Job.{Iterations, Inputs, Stop, Deadlock, meaning}
 use Rattle.pt_meaning.specs.Headline.{count_in}
 use Rattle.pt_meaning.specs.Schedule.{sdf_top, de_top, once_top}
 use Rattle.pt_examples.specs.Small.{Token, Num, Truth, int, Computed, Faulty, Control, Act, Const, Ramp, Sequence, Add, Scale, Expression, Repeat, Discard, Select, rows, clock, ramp}
 use Rattle.pt_examples.specs.Dataflow.{one_over}
-use Rattle.pt_examples.specs.Models.{sdf, pn, de, run, EndedBy, StuckIn, told, place, at_origin, timed}
+use Rattle.pt_examples.specs.Models.{Ending, moment, sdf, pn, de, run, EndedBy, StuckIn, told, place, at_origin, timed}
 
 -- a loop of two Scales without a token: both wait
 abbrev pub waiting_loop : Node Token Act
@@ -55,6 +59,22 @@ one_two_three = (int 1 ∷ int 2 ∷ int 3 ∷ []) ∷ []
 abbrev pub line : Node Token Act
 line = pn (Output 0 0 ∷ Output 1 0 ∷ Output 2 0 ∷ []) (0 ∷ 1 ∷ 1 ∷ 1 ∷ []) [] (actor (Ramp 0 (Some 3) (pos 0)) ∷ actor (Scale (negsuc 0)) ∷ actor (Scale (negsuc 0)) ∷ actor (Discard 1) ∷ [])
 
+-- A hundred tokens through two Scales by 1 to a Discard: each of the four makes a hundred firings, and the top one; the last token is 99.
+abbrev pub hundred : Node Token Act
+hundred = pn (Output 0 0 ∷ Output 1 0 ∷ Output 2 0 ∷ []) (0 ∷ 1 ∷ 1 ∷ 1 ∷ []) [] (actor (Ramp 0 (Some 100) (pos 0)) ∷ actor (Scale (pos 1)) ∷ actor (Scale (pos 1)) ∷ actor (Discard 1) ∷ [])
+
+abbrev pub hundred_told : List (Tag × Token) × Ending
+hundred_told = told (run 103 (once_top []) hundred) (2 ∷ []) 0
+
+-- Tripled as a node of its own: fired on 1 and then on 2 and 3, or on 1, 2 and 3 at once, at the same tag.
+abbrev pub outputs_of : Outcome Token (Node Token Act) → List (List Token)
+outputs_of (Done node out l) = out
+outputs_of (Stuck faults l) = []
+
+abbrev pub then_fired : List (List Token) → Outcome Token (Node Token Act) → List (List Token)
+then_fired inputs (Done node out l) = joined out (outputs_of (Step 5 rows no_meetings node origin inputs))
+then_fired inputs (Stuck faults l) = []
+
 -- a clock of period 1 into a network that reads its input and has an endless Ramp besides: the network's first firing never ends
 abbrev pub never_done : Node Token Act
 never_done =
@@ -76,4 +96,10 @@ pub record NetworkExamples : Type 0 where
   pub triples_below_de : told (run 5 (de_top rows (Some 2) []) tripled_below_de) (1 ∷ []) 0 ≡ (timed ((0, 0, 3) ∷ (1, 0, 6) ∷ (2, 0, 9) ∷ []), EndedBy Stop)
   pub thirteen_firings : count_in (meaning 6 rows no_meetings (once_top []) line) line ≡ 13
   pub line_gives : told (run 6 (once_top []) line) (2 ∷ []) 0 ≡ (at_origin (0 ∷ 1 ∷ 2 ∷ []), EndedBy Deadlock)
+  pub four_hundred_firings : count_in (meaning 103 rows no_meetings (once_top []) hundred) hundred ≡ 401
+  pub hundred_tokens : length hundred_told.0 ≡ 100
+  pub last_token : last_of hundred_told.0 ≡ Some (moment 0 0, int 99)
+  pub hundred_end : hundred_told.1 ≡ EndedBy Deadlock
+  pub at_once : outputs_of (Step 5 rows no_meetings tripled origin one_two_three) ≡ (int 3 ∷ int 6 ∷ int 9 ∷ []) ∷ []
+  pub in_parts : then_fired ((int 2 ∷ int 3 ∷ []) ∷ []) (Step 5 rows no_meetings tripled origin ((int 1 ∷ []) ∷ [])) ≡ (int 3 ∷ int 6 ∷ int 9 ∷ []) ∷ []
   pub first_event_alone : told (run 6 (de_top rows (Some 2) []) never_done) (0 ∷ []) 0 ≡ (timed ((0, 0, 1) ∷ []), StuckIn [])

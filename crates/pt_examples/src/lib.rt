@@ -11,6 +11,7 @@ ghost use Rattle.pt_examples.specs.Rendezvous.{RendezvousExamples};
 ghost use Rattle.pt_examples.specs.Modals.{ModalExamples};
 ghost use Rattle.pt_examples.specs.Edges.{EdgeExamples};
 ghost use Rattle.pt_examples.specs.Nesting.{NestingExamples};
+ghost use Rattle.pt_examples.specs.Jams.{JamExample};
 
 /// The small library of the examples keeps what every library of actors owes.
 pub fn small_library_is_lawful()
@@ -55,4 +56,9 @@ pub fn edge_examples()
 /// Each model of nested directors has its trace, its end and its meetings.
 pub fn nesting_examples()
     ensures { NestingExamples }
+{}
+
+/// A network of capacity 2 gets into a jam, and its one full channel holds two tokens.
+pub fn jam_example()
+    ensures { JamExample }
 {}

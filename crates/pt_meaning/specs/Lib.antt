@@ -42,4 +42,5 @@ pub mod Schemes
 -- Means for engines.
 pub mod Running
 pub mod Places
+pub mod Jam
 pub mod AnyOrder
