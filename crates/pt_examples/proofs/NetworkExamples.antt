@@ -17,6 +17,7 @@ network_examples = record {
   sums = refl;
   grows_on = refl;
   firings_grow = refl;
+  no_jam_in_the_meaning = refl;
   both_stuck = refl;
   other_stuck = refl;
   selects = refl;

@@ -8,6 +8,7 @@ use Rattle.pt_meaning.specs.Tree.{Node, actor}
 use Rattle.pt_meaning.specs.NodeFacts.{facts_of}
 use Rattle.pt_meaning.specs.Step.{step_at, no_meetings}
 use Rattle.pt_meaning.specs.Jam.{IsFull}
+use Rattle.pt_examples.specs.Models.{pn}
 use Rattle.pt_examples.specs.Small.{Token, Act, Add, Scale, rows, ramp}
 
 -- A Ramp into the first input of an adder, and a Scale on itself, without a token, into the second. The Ramp fires four times.
@@ -17,6 +18,9 @@ children = actor ramp ∷ actor (Add 2) ∷ actor (Scale (pos 1)) ∷ []
 
 abbrev pub channels : Net
 channels = record { sources = Output 0 0 ∷ Output 2 0 ∷ Output 2 0 ∷ []; places = 0 ∷ 2 ∷ 1 ∷ [] }
+
+abbrev pub jamming : Node Token Act
+jamming = pn channels.sources channels.places [] children
 
 abbrev pub two : ℕ → ℕ
 two channel = 2

@@ -9,3 +9,4 @@ pub mod Modals
 pub mod Edges
 pub mod Nesting
 pub mod Jams
+pub mod Worked

@@ -12,6 +12,7 @@ use Rattle.pt_meaning.specs.Headline.{count_in}
 use Rattle.pt_meaning.specs.Schedule.{sdf_top, de_top, once_top}
 use Rattle.pt_examples.specs.Small.{Token, Num, Truth, int, Computed, Faulty, Control, Act, Const, Ramp, Sequence, Add, Scale, Expression, Repeat, Discard, Select, rows, clock, ramp}
 use Rattle.pt_examples.specs.Dataflow.{one_over}
+use Rattle.pt_examples.specs.Jams.{jamming}
 use Rattle.pt_examples.specs.Models.{Ending, moment, sdf, pn, de, run, EndedBy, StuckIn, told, place, at_origin, timed}
 
 -- a loop of two Scales without a token: both wait
@@ -87,6 +88,8 @@ pub record NetworkExamples : Type 0 where
   pub sums : told (run 13 (once_top []) repeated_sum) (2 ∷ []) 0 ≡ (at_origin (0 ∷ 1 ∷ 2 ∷ 4 ∷ []), EndedBy Deadlock)
   pub grows_on : told (run 10 (once_top []) endless) (0 ∷ []) 0 ≡ (at_origin (0 ∷ 1 ∷ 2 ∷ 3 ∷ 4 ∷ 5 ∷ 6 ∷ 7 ∷ 8 ∷ 9 ∷ []), StuckIn [])
   pub firings_grow : count_in (meaning 10 rows no_meetings (once_top []) endless) endless ≡ 20
+  -- without capacities the Ramp goes on; at fuel 4 it has made the four firings after which it waits in the jam
+  pub no_jam_in_the_meaning : told (run 4 (once_top []) jamming) (0 ∷ []) 0 ≡ (at_origin (0 ∷ 1 ∷ 2 ∷ 3 ∷ []), StuckIn [])
   -- either place is a stuck place of the meaning, and neither gave a token
   pub both_stuck : told (run 3 (once_top []) two_inverses) (1 ∷ []) 0 ≡ ([], StuckIn (place (1 ∷ []) 0 30 ∷ place (3 ∷ []) 0 30 ∷ []))
   pub other_stuck : told (run 3 (once_top []) two_inverses) (3 ∷ []) 0 ≡ ([], StuckIn (place (1 ∷ []) 0 30 ∷ place (3 ∷ []) 0 30 ∷ []))

@@ -1,6 +1,8 @@
 //! Examples of what models mean, worked by hand and computed by the definitions.
 #![tactic(auto)]
 
+pub mod worked;
+
 ghost use Rattle.pt_meaning.specs.Promises.{LawfulRows};
 ghost use Rattle.pt_examples.specs.Small.{rows};
 ghost use Rattle.pt_examples.specs.Dataflow.{DataflowExamples};
