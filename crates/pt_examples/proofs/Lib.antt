@@ -1,1 +1,10 @@
 pub mod SmallLaws
+pub mod DataflowExamples
+pub mod NetworkExamples
+pub mod TickExamples
+pub mod EventExamples
+pub mod RendezvousExamples
+pub mod ModalExamples
+pub mod EdgeExamples
+pub mod NestingExamples
+pub mod JamExample

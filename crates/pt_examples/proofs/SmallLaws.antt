@@ -1,13 +1,14 @@
 -- The small library keeps what rows of a library owe.
 use Rattle.std.proofs.Common.{◌≡◌, ◌≢◌, true≢false, ◌⊎◌, inl, inr, ◌||◌, ◌&&◌, ◌<◌, ◌≤◌, ℕ, zero, suc, nat_eq, nat_lt, nat_le, if◌then◌else◌, arith, List, [], ◌∷◌, Bool, true, false, Option, Some, None, ℤ, pos, negsuc, refl, sym, ap, subst}
 use Rattle.std.proofs.lemmas.Bool.Decides.{eqb_tells, leb_tells}
-use Rattle.pt_meaning.specs.Basics.{Tag, Streams, at}
+use Rattle.pt_meaning.specs.Tag.{Tag, tag_le, is_due, earlier}
+use Rattle.pt_meaning.specs.Streams.{Streams, at, any_present}
 use Rattle.pt_meaning.specs.Machine.{Partial, Unknown, Known, partial_at}
-use Rattle.pt_meaning.specs.Tick.{known, known_then, any_present, is_due, tag_le}
+use Rattle.pt_meaning.specs.Valuation.{known, known_then}
 use Rattle.pt_meaning.specs.Laws.{PartialBelow, KnownBelow}
 use Rattle.pt_meaning.specs.Promises.{LawfulRows}
-use Rattle.pt_meaning.specs.Node.{Gives, earlier}
-use Rattle.pt_examples.specs.Small.{Token, Num, Truth, Array, Act, Const, Ramp, Sequence, Mux, Delay, Server, rows, react, early, whole, begins, next, due_in, pending_next, mux_early, muxed}
+use Rattle.pt_meaning.specs.Tree.{Gives}
+use Rattle.pt_examples.specs.Small.{Token, Num, Truth, Array, Words, Record, Act, Const, Ramp, Sequence, Expression, Absent, Mux, LastTick, Delay, Server, rows, react, early, whole, begins, next, due_in, pending_next, mux_early, muxed, pends}
 
 below-same : {T : Type 0} (v : Partial T) → PartialBelow v v
 below-same Unknown = tt
@@ -19,7 +20,8 @@ port-below v w (suc p) h = tt
 
 mux-token : (n : ℤ) (a b c d : Partial Token) → PartialBelow a c → PartialBelow b d → (p : ℕ) → PartialBelow (partial_at (mux_early (Known (Num n ∷ []) ∷ a ∷ b ∷ [])) p) (partial_at (mux_early (Known (Num n ∷ []) ∷ c ∷ d ∷ [])) p)
 mux-token (pos zero) a b c d h k p = port-below a c p h
-mux-token (pos (suc n)) a b c d h k p = port-below b d p k
+mux-token (pos (suc zero)) a b c d h k p = port-below b d p k
+mux-token (pos (suc (suc n))) a b c d h k p = tt
 mux-token (negsuc n) a b c d h k p = tt
 
 mux-grows : (vs ws : List (Partial Token)) → KnownBelow vs ws → (p : ℕ) → PartialBelow (partial_at (mux_early vs) p) (partial_at (mux_early ws) p)
@@ -34,6 +36,8 @@ mux-grows (Known (Num n ∷ []) ∷ []) ws h p = tt
 mux-grows (Known (Num n ∷ x ∷ xs) ∷ vs) ws h p = tt
 mux-grows (Known (Truth b ∷ xs) ∷ vs) ws h p = tt
 mux-grows (Known (Array ys ∷ xs) ∷ vs) ws h p = tt
+mux-grows (Known (Words w ∷ xs) ∷ vs) ws h p = tt
+mux-grows (Known (Record n w ∷ xs) ∷ vs) ws h p = tt
 mux-grows (Known [] ∷ vs) ws h p = tt
 mux-grows (Unknown ∷ vs) ws h p = tt
 mux-grows [] ws h p = tt
@@ -47,8 +51,9 @@ all-known (Known xs) (Some Y) X e = (xs, Y, refl, refl, cc)
 mux-step : (n : ℤ) (xs ys : List Token) (b : Act) (out : Streams Token) → muxed ((Num n ∷ []) ∷ xs ∷ ys ∷ []) ≡ Gives b out → (p : ℕ) → PartialBelow (partial_at (mux_early (Known (Num n ∷ []) ∷ Known xs ∷ Known ys ∷ [])) p) (Known (at out p))
 mux-step (pos zero) xs ys b out e zero = let a : out ≡ xs ∷ [] = cc in rw a refl
 mux-step (pos zero) xs ys b out e (suc p) = tt
-mux-step (pos (suc n)) xs ys b out e zero = let a : out ≡ ys ∷ [] = cc in rw a refl
-mux-step (pos (suc n)) xs ys b out e (suc p) = tt
+mux-step (pos (suc zero)) xs ys b out e zero = let a : out ≡ ys ∷ [] = cc in rw a refl
+mux-step (pos (suc zero)) xs ys b out e (suc p) = tt
+mux-step (pos (suc (suc n))) xs ys b out e p = tt
 mux-step (negsuc n) xs ys b out e p = tt
 
 mux-agrees : (vs : List (Partial Token)) (X : Streams Token) (b : Act) (out : Streams Token) → known vs ≡ Some X → muxed X ≡ Gives b out → (p : ℕ) → PartialBelow (partial_at (mux_early vs) p) (Known (at out p))
@@ -62,6 +67,8 @@ mux-agrees (Known (Num n ∷ []) ∷ []) X b out e d p = tt
 mux-agrees (Known (Num n ∷ x ∷ xs) ∷ vs) X b out e d p = tt
 mux-agrees (Known (Truth y ∷ xs) ∷ vs) X b out e d p = tt
 mux-agrees (Known (Array ys ∷ xs) ∷ vs) X b out e d p = tt
+mux-agrees (Known (Words w ∷ xs) ∷ vs) X b out e d p = tt
+mux-agrees (Known (Record n w ∷ xs) ∷ vs) X b out e d p = tt
 mux-agrees (Known [] ∷ vs) X b out e d p = tt
 mux-agrees (Unknown ∷ vs) X b out e d p = tt
 mux-agrees [] X b out e d p = tt
@@ -114,6 +121,7 @@ none-due t ((u, x) ∷ pending) e = go (pending_next pending) (none-due t pendin
 
 grow : (t : Tag) (a : Act) (vs ws : List (Partial Token)) → KnownBelow vs ws → (p : ℕ) → PartialBelow (partial_at (early t a vs) p) (partial_at (early t a ws) p)
 grow t Mux vs ws h p = mux-grows vs ws h p
+grow t (LastTick xs) vs ws h p = port-below (Known xs) (Known xs) p refl
 grow t (Delay d pending) vs ws h p = port-below (Known (due_in t pending)) (Known (due_in t pending)) p refl
 grow t (Server d pending) vs ws h p = port-below (Known (due_in t pending)) (Known (due_in t pending)) p refl
 grow t a vs ws h p = tt
@@ -122,10 +130,15 @@ due-port : (xs : List Token) (out : Streams Token) (p : ℕ) → out ≡ xs ∷ 
 due-port xs out zero e = rw e refl
 due-port xs out (suc p) e = tt
 
+pends-gives : (kept : List (Tag × Token) → Act) (xs : List Token) (o : Option (List (Tag × Token))) (b : Act) (out : Streams Token) → pends kept xs o ≡ Gives b out → out ≡ xs ∷ []
+pends-gives kept xs None b out e = absurd (cc)
+pends-gives kept xs (Some pending) b out e = cc
+
 agree : (t : Tag) (a : Act) (vs : List (Partial Token)) (X : Streams Token) (b : Act) (out : Streams Token) → known vs ≡ Some X → react t a X ≡ Gives b out → (p : ℕ) → PartialBelow (partial_at (early t a vs) p) (Known (at out p))
 agree t Mux vs X b out e d p = mux-agrees vs X b out e d p
-agree t (Delay n pending) vs X b out e d p = due-port (due_in t pending) out p (cc)
-agree t (Server n pending) vs X b out e d p = due-port (due_in t pending) out p (cc)
+agree t (LastTick xs) vs X b out e d p = due-port xs out p (cc)
+agree t (Delay n pending) vs X b out e d p = due-port (due_in t pending) out p (pends-gives (Delay n) (due_in t pending) _ b out d)
+agree t (Server n pending) vs X b out e d p = due-port (due_in t pending) out p (pends-gives (Server n) (due_in t pending) _ b out d)
 agree t a vs X b out e d p = tt
 
 rest : (t : Tag) (a : Act) (vs : List (Partial Token)) (X : Streams Token) → whole a ≡ true → known vs ≡ Some X → (any_present X || is_due t (next a)) ≡ false → (p : ℕ) → PartialBelow (partial_at (early t a vs) p) (Known [])
@@ -140,11 +153,14 @@ rest t (Server n pending) vs X w e f p = port-empty p
     port-empty zero = ap (λ v. Known v) (sym (none-due t pending (or-right (any_present X) _ f)))
     port-empty (suc p) = tt
 rest t Mux vs X w e f p = absurd (cc)
+rest t (LastTick xs) vs X w e f p = absurd (cc)
 rest t a vs X w e f p = tt
 
 wait : (a : Act) → whole a ≡ true → begins a ≡ false
 wait (Const x) w = absurd (cc)
-wait (Ramp n x) w = absurd (cc)
+wait (Ramp n left x) w = absurd (cc)
+wait (Expression n f) w = absurd (cc)
+wait Absent w = absurd (cc)
 wait (Sequence xs) w = absurd (cc)
 wait a w = refl
 

@@ -1,6 +1,12 @@
 pub mod Small
-pub mod ExamplesDataflow
-pub mod ExamplesTicks
-pub mod ExamplesMeetings
-pub mod ExamplesModal
-pub mod ExamplesEnds
+pub mod Models
+pub mod Dataflow
+pub mod Networks
+pub mod Ticks
+pub mod Events
+pub mod Rendezvous
+pub mod Modals
+pub mod Edges
+pub mod Nesting
+pub mod Jams
+pub mod Worked

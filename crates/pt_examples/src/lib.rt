@@ -1,10 +1,66 @@
 //! Examples of what models mean, worked by hand and computed by the definitions.
 #![tactic(auto)]
 
+pub mod worked;
+
 ghost use Rattle.pt_meaning.specs.Promises.{LawfulRows};
 ghost use Rattle.pt_examples.specs.Small.{rows};
+ghost use Rattle.pt_examples.specs.Dataflow.{DataflowExamples};
+ghost use Rattle.pt_examples.specs.Networks.{NetworkExamples};
+ghost use Rattle.pt_examples.specs.Ticks.{TickExamples};
+ghost use Rattle.pt_examples.specs.Events.{EventExamples};
+ghost use Rattle.pt_examples.specs.Rendezvous.{RendezvousExamples};
+ghost use Rattle.pt_examples.specs.Modals.{ModalExamples};
+ghost use Rattle.pt_examples.specs.Edges.{EdgeExamples};
+ghost use Rattle.pt_examples.specs.Nesting.{NestingExamples};
+ghost use Rattle.pt_examples.specs.Jams.{JamExample};
 
 /// The small library of the examples keeps what every library of actors owes.
 pub fn small_library_is_lawful()
     ensures { LawfulRows rows }
+{}
+
+/// Each example of SDF has its trace and its end.
+pub fn dataflow_examples()
+    ensures { DataflowExamples }
+{}
+
+/// Each example of PN has its trace and its end.
+pub fn network_examples()
+    ensures { NetworkExamples }
+{}
+
+/// Each example of SR has its trace and its end.
+pub fn tick_examples()
+    ensures { TickExamples }
+{}
+
+/// Each example of DE has its trace and its end.
+pub fn event_examples()
+    ensures { EventExamples }
+{}
+
+/// Each example of Rendezvous has its trace, its end and its meetings.
+pub fn rendezvous_examples()
+    ensures { RendezvousExamples }
+{}
+
+/// Each example of Modal has its trace and its end.
+pub fn modal_examples()
+    ensures { ModalExamples }
+{}
+
+/// Each model at an edge of the definitions has its trace and its end.
+pub fn edge_examples()
+    ensures { EdgeExamples }
+{}
+
+/// Each model of nested directors has its trace, its end and its meetings.
+pub fn nesting_examples()
+    ensures { NestingExamples }
+{}
+
+/// A network of capacity 2 gets into a jam, and its one full channel holds two tokens.
+pub fn jam_example()
+    ensures { JamExample }
 {}

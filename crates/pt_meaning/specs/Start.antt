@@ -1,10 +1,10 @@
 -- A model at its start: nothing has fired, and the channels hold the first tokens of the actors that feed them.
 use Rattle.std.specs.Prelude.{◌≡◌, List, [], ◌∷◌, Option, Some, None}
-use Rattle.pt_meaning.specs.Basics.{Streams}
-use Rattle.pt_meaning.specs.Rounds.{Source, Own, Output}
-use Rattle.pt_meaning.specs.Modal.{get, Stay}
+use Rattle.pt_meaning.specs.Streams.{Streams, get}
+use Rattle.pt_meaning.specs.Net.{Source, Own, Output}
+use Rattle.pt_meaning.specs.Modal.{Stay}
 use Rattle.pt_meaning.specs.Rendezvous.{first_places}
-use Rattle.pt_meaning.specs.Node.{Rows, Core, Sdf, Pn, Sr, De, Rv, Modal, unfired, Node, Nodes, Actor, Composite, none, more, list_of}
+use Rattle.pt_meaning.specs.Tree.{Rows, Core, Sdf, Pn, Sr, De, Rv, Modal, unfired, Node, Nodes, Actor, Composite, none, more, list_of}
 
 -- the first tokens of a source: those of a library actor; own inputs and composites have none
 abbrev pub first_of_node : {T A : Type 0} → Rows T A → Option (Node T A) → List T
@@ -12,6 +12,7 @@ first_of_node rows None = []
 first_of_node rows (Some (Actor h a b)) = rows.first a
 first_of_node rows (Some (Composite h c d kids)) = []
 
+-- the first tokens on the channels of a source
 abbrev pub first_of : {T A : Type 0} → Rows T A → List (Node T A) → Source → List T
 first_of rows kids (Own port) = []
 first_of rows kids (Output child port) = first_of_node rows (get kids child)

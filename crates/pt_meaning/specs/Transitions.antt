@@ -1,7 +1,7 @@
 -- The chart of a Modal as its transitions are written: guards, output actions and set actions, in listed order (the book, "Finite State Machines" and "Modal Models"; the order of the actions is by the profile).
 use Rattle.std.specs.Prelude.{ℕ, List, [], ◌∷◌, Bool, true, false, Option, Some, None}
-use Rattle.pt_meaning.specs.Basics.{Streams, at}
-use Rattle.pt_meaning.specs.Modal.{Test, Acted, Acts, Fails, Chart, get, change_at}
+use Rattle.pt_meaning.specs.Streams.{Streams, at, get, change_at}
+use Rattle.pt_meaning.specs.Modal.{Test, Acted, Acts, Fails, Chart}
 
 -- what guards and actions read: the Variables, the inputs, and what the refinement gave
 pub record Scope (T : Type 0) : Type 0 where
@@ -15,12 +15,15 @@ last_of [] = None
 last_of (x ∷ []) = Some x
 last_of (x ∷ y ∷ xs) = last_of (y ∷ xs)
 
+-- the name of an input
 abbrev pub input_in : {T : Type 0} → Scope T → ℕ → Option T
 input_in scope port = last_of (at scope.inputs port)
 
+-- the name of an output: the refinement's token on it
 abbrev pub output_in : {T : Type 0} → Scope T → ℕ → Option T
 output_in scope port = last_of (at scope.given port)
 
+-- the name of a Variable
 abbrev pub variable_in : {T : Type 0} → Scope T → ℕ → Option T
 variable_in scope i = get scope.values i
 
@@ -35,6 +38,7 @@ pub record Action (T : Type 0) : Type 0 where
   pub target : ℕ
   pub value : Scope T → Reading T
 
+-- a transition: its guard, its actions in listed order, the mode to which it leads, and whether it keeps history
 pub record Transition (T : Type 0) : Type 0 where
   pub guard : Scope T → Test
   pub outputs : List (Action T)
@@ -48,6 +52,7 @@ pub record Mode (T : Type 0) : Type 0 where
   pub preemptive : List (Transition T)
   pub others : List (Transition T)
 
+-- the guards of these transitions
 abbrev pub tests : {T : Type 0} → List (Transition T) → Scope T → List Test
 tests [] scope = []
 tests (t ∷ ts) scope = t.guard scope ∷ tests ts scope
@@ -58,10 +63,12 @@ on_reading more (Reads x) = more (Some x)
 on_reading more Absent = more None
 on_reading more (Faulty code) = Fails code
 
+-- a Variable has a new value, where there is one
 abbrev pub with_variable : {T : Type 0} → ℕ → Option T → Scope T → Scope T
 with_variable i None scope = scope
 with_variable i (Some x) scope = record scope { values = change_at i (λ old. x) scope.values }
 
+-- a port has a token in the place of what it had, where there is one
 abbrev pub with_port : {T : Type 0} → ℕ → Option T → Streams T → Streams T
 with_port p None out = out
 with_port p (Some x) out = change_at p (λ old. x ∷ []) out
@@ -76,28 +83,35 @@ abbrev pub with_outputs : {T : Type 0} → List (Action T) → List (Action T) �
 with_outputs [] sets scope out = with_sets sets scope out
 with_outputs (a ∷ outputs) sets scope out = on_reading (λ x. with_outputs outputs sets scope (with_port a.target x out)) (a.value scope)
 
+-- the mode, or one in which nothing happens
 abbrev pub no_transitions : {T : Type 0} → Option (Mode T) → Mode T
 no_transitions None = record { refinement = None; preemptive = []; others = [] }
 no_transitions (Some m) = m
 
+-- the mode of a number
 abbrev pub mode_in : {T : Type 0} → List (Mode T) → ℕ → Mode T
 mode_in modes mode = no_transitions (get modes mode)
 
+-- the transitions of a kind
 abbrev pub of_kind : {T : Type 0} → (early : Bool) → Mode T → List (Transition T)
 of_kind true m = m.preemptive
 of_kind false m = m.others
 
+-- the transition of a number, of its kind and mode
 abbrev pub transition_in : {T : Type 0} → List (Mode T) → (early : Bool) (mode transition : ℕ) → Option (Transition T)
 transition_in modes early mode n = get (of_kind early (mode_in modes mode)) n
 
+-- what a transition's actions come to
 abbrev pub acted_by : {T : Type 0} → Option (Transition T) → Scope T → Acted T
 acted_by None scope = Acts scope.given scope.values
 acted_by (Some t) scope = with_outputs t.outputs t.sets scope scope.given
 
+-- the mode to which a transition leads
 abbrev pub target_by : {T : Type 0} → Option (Transition T) → ℕ → ℕ
 target_by None mode = mode
 target_by (Some t) mode = t.target
 
+-- whether a transition keeps history
 abbrev pub keeps_by : {T : Type 0} → Option (Transition T) → Bool
 keeps_by None = true
 keeps_by (Some t) = t.history

@@ -1,0 +1,86 @@
+-- The example of a jam is one.
+use Rattle.std.proofs.Common.{◌≡◌, ℕ, zero, suc, List, [], ◌∷◌, ◌++◌, Some, pos, refl, subst, arith}
+use Rattle.pt_meaning.specs.Streams.{Streams, at}
+use Rattle.pt_meaning.specs.Flow.{flow}
+use Rattle.pt_meaning.specs.Rounds.{round}
+use Rattle.pt_meaning.specs.Children.{Child}
+use Rattle.pt_meaning.specs.Tree.{Node, Actor, unfired}
+use Rattle.pt_meaning.specs.Step.{step_at}
+use Rattle.pt_meaning.specs.Pn.{pn_limits}
+use Rattle.pt_meaning.specs.Running.{Running}
+use Rattle.pt_meaning.specs.Places.{Halfway, due}
+use Rattle.pt_meaning.specs.Jam.{HoldsAtMost, IsBetween, WaitsFor}
+use Rattle.pt_meaning.specs.Children.{numbered}
+use Rattle.pt_meaning.specs.Tag.{origin}
+use Rattle.pt_examples.specs.Small.{Token, int, Act, Ramp, Add, Scale, ramp}
+use Rattle.pt_examples.specs.Jams.{children, channels, two, facts, step, JamExample}
+use Rattle.std.specs.Prelude.{None}
+
+abbrev made : List ℕ
+made = 4 ∷ 0 ∷ 0 ∷ []
+
+abbrev counted : Child (Node Token Act)
+counted = record { number = 0; node = Actor (record { made = 4; last = Some 0 }) ramp (Ramp 0 None (pos 4)) }
+
+abbrev now : List (Child (Node Token Act))
+now = counted ∷ record { number = 1; node = Actor unfired (Add 2) (Add 2) } ∷ record { number = 2; node = Actor unfired (Scale (pos 1)) (Scale (pos 1)) } ∷ []
+
+abbrev held : Streams Token
+held = (int 0 ∷ int 1 ∷ int 2 ∷ int 3 ∷ []) ∷ [] ∷ [] ∷ []
+
+abbrev halfway : Halfway Token
+halfway = record {
+  gathered = (int 0 ∷ []) ∷ [] ∷ [] ∷ [];
+  queued = (int 1 ∷ int 2 ∷ []) ∷ [] ∷ [] ∷ [];
+  puts = (record { channel = 0; token = int 3 } ∷ []) ∷ [] ∷ [] ∷ [];
+}
+
+four_firings : Running facts step origin channels (pn_limits channels.places) (numbered 0 children) ([] ∷ [] ∷ [] ∷ []) (4 ∷ 0 ∷ 0 ∷ []) now held
+unfolding flow round step_at
+four_firings = record {
+  all = held;
+  each = refl;
+  fits = (omega arith, (omega arith, (omega arith, tt)));
+  made = (refl, (refl, (refl, tt)));
+  states = refl;
+  left = refl;
+  fed = refl;
+  caused = ((refl, (refl, (refl, (refl, tt)))), (tt, (tt, tt)));
+  few = (omega arith, (omega arith, (omega arith, tt)));
+}
+
+parts : (c : ℕ) → at held c ≡ at halfway.gathered c ++ (at halfway.queued c ++ due channels halfway.puts c)
+parts zero = refl
+parts (suc zero) = refl
+parts (suc (suc zero)) = refl
+parts (suc (suc (suc c))) = refl
+
+short : HoldsAtMost channels two halfway
+short zero b = omega arith
+short (suc zero) b = omega arith
+short (suc (suc zero)) b = omega arith
+short (suc (suc (suc c))) b = omega arith
+
+between : (i c : ℕ) → WaitsFor halfway i c → IsBetween channels c
+between zero c w = subst (λ d. IsBetween channels d) zero-is (refl, omega arith)
+  where
+    zero-is : 0 ≡ c
+    zero-is = let u = w.2 in let e = w.3 in cc
+between (suc zero) c w = absurd (cc)
+between (suc (suc zero)) c w = absurd (cc)
+between (suc (suc (suc i))) c w = absurd (cc)
+
+pub jam_example : JamExample
+jam_example = record {
+  made = made;
+  now = now;
+  halfway = halfway;
+  jam = record {
+    consistent = record { held = held; wide = refl; running = four_firings; split = parts };
+    fits = short;
+    stop = (refl, ((1, refl, refl), ((0, refl, refl), tt)));
+    waits = (0, 0, (record { channel = 0; token = int 3 }, [], refl, refl));
+    between = between;
+  };
+  lengths = refl;
+}

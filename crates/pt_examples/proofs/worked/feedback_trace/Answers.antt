@@ -1,0 +1,5 @@
+use Rattle.pt_examples.proofs.DataflowExamples.{dataflow_examples}
+use Rattle.pt_examples.proofs.worked.feedback_trace.Goals as goal
+
+pub returns : goal.returns
+returns c = dataflow_examples.counts
