@@ -68,9 +68,13 @@ def words_of(path: Path) -> list[str]:
     return path.read_text().split("\n")[:-1] if path.exists() else []
 
 
-def accepts_by_status(status: int, text: bytes) -> str | None:
-    """A document that is run is one that the schema accepts."""
-    return "accepts" if status in (0, 3, 4, 8) else None
+def schema_answer(told: str | None, status: int) -> str | None:
+    """What the schema says of a document: what the case tells, or that it accepts a document that is run."""
+    if told not in (None, "accepts", "rejects", "any"):
+        raise BadCase(f"'{told}' is no answer of the schema")
+    if told is None and status in (0, 3, 4, 8):
+        return "accepts"
+    return None if told == "any" else told
 
 
 # ---- folders
@@ -105,9 +109,9 @@ def row_case(folder: Path) -> Case:
         sink=(folder / "sink").read_text().strip() if "sink" in names else None,
     )
     if "schema" in names:
-        case.schema = (folder / "schema").read_text().strip()
+        case.schema = schema_answer((folder / "schema").read_text().strip(), status)
     elif model.exists():
-        case.schema = accepts_by_status(status, b"")
+        case.schema = schema_answer(None, status)
     return case
 
 
@@ -191,7 +195,7 @@ def table_case(path: Path, table: dict, case: dict) -> Case:
         needs=set(table.get("needs", [])) | set(case.get("needs", [])),
         until=set(table.get("until", [])) | set(case.get("until", [])),
         document=case_document(table, case),
-        schema=case.get("schema", table.get("schema")) or accepts_by_status(status, b""),
+        schema=schema_answer(case.get("schema", table.get("schema")), status),
     )
 
 
@@ -244,7 +248,7 @@ def example_cases() -> list[Case]:
             outputs=[text],
             needs=needs[path.stem],
             document=path.read_bytes(),
-            schema=accepts_by_status(status, text),
+            schema=schema_answer(None, status),
         ))
     return cases
 
