@@ -1,0 +1,7 @@
+import json
+import sys
+
+from models import director, entity, job
+
+group = ["r.output"] + ["a.plus"] * 100_001
+json.dump(job(director("SDF", iterations=2), [entity("r", "Ramp"), entity("a", "AddSubtract")], [group], ["a.output"]), sys.stdout)
