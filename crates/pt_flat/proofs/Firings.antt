@@ -27,17 +27,16 @@ use Rattle.pt_flat.specs.Model.{sources_of, places_of, flag, all_flags, plan_of,
 use Rattle.pt_flat.specs.Turns.{first_number, numbers_of, actor_firing, firing_at, Turned, Finished, Stopped, turned, on_firing}
 use Rattle.pt_flat.proofs.Iteration.{held_from, inputs_of, nothing_of, counts_from, one_each, takes-one, past_at, kid, kids_from, and-first, and-second, Supplied, held-plus, limits_of, FiresOn, fires-from}
 
+ones-each : (f : List ℕ) → replicate (length f) 1 ≡ one_each f
+ones-each [] = refl
+ones-each (s ∷ f) = ap (λ v. 1 ∷ v) (ones-each f)
+
 need-one : (a : Actor) (f : List ℕ) → Matches a f → need a ≡ Counts (one_each f)
-need-one (actors.Ramp r) [] e = refl
-need-one (actors.Ramp r) (s ∷ f) e = absurd (omega (arith, e.long))
+need-one (actors.Ramp r) f e = ap (λ n. Counts n) (ap (λ n. replicate n 1) e.long ∙ ones-each f)
 need-one (actors.Scale s) [] e = absurd (omega (arith, e.long))
 need-one (actors.Scale s) (x ∷ []) e = refl
 need-one (actors.Scale s) (x ∷ y ∷ f) e = absurd (omega (arith, e.long))
-need-one (actors.AddSubtract a) f e = ap (λ n. Counts n) (ap (λ n. replicate n 1) e.long ∙ ones f)
-  where
-    ones : (f : List ℕ) → replicate (length f) 1 ≡ one_each f
-    ones [] = refl
-    ones (s ∷ f) = ap (λ v. 1 ∷ v) (ones f)
+need-one (actors.AddSubtract a) f e = ap (λ n. Counts n) (ap (λ n. replicate n 1) e.long ∙ ones-each f)
 
 -- all inputs of a sum are there
 present-all : (values : List ℤ) (f : List ℕ) → row.present (inputs_of values f) ≡ numbers_of values f
@@ -71,7 +70,12 @@ both-parts (suc n) (x ∷ xs) = omega (arith, both-parts n xs)
 
 -- its row on the numbers that wait for it
 react-is : (t : Tag) (a : Actor) (values : List ℤ) (f : List ℕ) → Matches a f → react t a (inputs_of values f) ≡ answer (actor_firing a (numbers_of values f))
-react-is t (actors.Ramp r) values f e = refl
+react-is t (actors.Ramp r) values f e = triggered r.triggered f e.long
+  where
+    triggered : (b : Bool) (f : List ℕ) → row.trigger_count b ≡ length f → row.ramp_answer r b (row.first_place (inputs_of values f)) ≡ answer (row.held_as actors.Ramp (row.ramp_firing r))
+    triggered false f h = refl
+    triggered true [] h = absurd (omega arith)
+    triggered true (x ∷ f) h = refl
 react-is t (actors.Scale s) values [] e = absurd (omega (arith, e.long))
 react-is t (actors.Scale s) values (x ∷ f) e = refl
 react-is t (actors.AddSubtract a) values f e =
@@ -89,7 +93,7 @@ kept-is held after x b n e = by_fit (row.fits_i64 x) e
 
 -- a firing keeps the places of an actor
 matched-kept : (a : Actor) (xs : List ℤ) (b : Actor) (n : ℤ) (f : List ℕ) → actor_firing a xs ≡ row.Gave b n → Matches a f → Matches b f
-matched-kept (actors.Ramp r) xs b n f e h = subst (λ x. Matches x f) (sym (kept-is actors.Ramp (record { next = r.next +ℤ r.step; step = r.step }) r.next b n e)) (record { long = h.long; some = h.some })
+matched-kept (actors.Ramp r) xs b n f e h = subst (λ x. Matches x f) (sym (kept-is actors.Ramp (record { next = r.next +ℤ r.step; step = r.step; triggered = r.triggered }) r.next b n e)) (record { long = h.long; some = h.some })
 matched-kept (actors.Scale s) xs b n f e h = subst (λ x. Matches x f) (sym (kept-is actors.Scale s (first_number xs *ℤ s.factor) b n e)) h
 matched-kept (actors.AddSubtract a) xs b n f e h = subst (λ x. Matches x f) (sym (kept-is actors.AddSubtract a (row.total_of (take a.plus xs) -ℤ row.total_of (drop a.plus xs)) b n e)) h
 

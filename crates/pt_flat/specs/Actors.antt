@@ -1,5 +1,5 @@
 -- The library actors of a flat model, and their rows.
-use Rattle.std.specs.Prelude.{◌≡◌, ℕ, ◌^◌, ◌≤◌, length, nat_lt, List, [], ◌∷◌, Bool, true, false, None, ℤ, pos, negsuc, ◌+ℤ◌, ◌-ℤ◌, ◌*ℤ◌, ◌+◌, take, drop, replicate, if◌then◌else◌, Result, Ok, Err}
+use Rattle.std.specs.Prelude.{◌≡◌, ℕ, ◌^◌, ◌≤◌, length, nat_lt, List, [], ◌∷◌, Bool, true, false, not, None, ℤ, pos, negsuc, ◌+ℤ◌, ◌-ℤ◌, ◌*ℤ◌, ◌+◌, take, drop, replicate, if◌then◌else◌, Result, Ok, Err}
 use Rattle.pt_value.specs.declared.token.Token.{Token}
 use Rattle.pt_value.specs.declared.token.Token.TheVariants.{Int}
 use Rattle.pt_meaning.specs.Basics.{Streams, Tag}
@@ -31,7 +31,7 @@ narrowed_of n = if fits_i64 n then Ok n else Err record { }
 
 -- Ramp gives its next number, and the one after that is a step more
 abbrev pub ramp_firing : Ramp → Firing Ramp
-ramp_firing r = exactly (record { next = r.next +ℤ r.step; step = r.step }) r.next
+ramp_firing r = exactly (record { next = r.next +ℤ r.step; step = r.step; triggered = r.triggered }) r.next
 
 -- Scale gives the product
 abbrev pub scale_firing : Scale → ℤ → Firing Scale
@@ -92,8 +92,14 @@ sum_answer a [] [] = tree.Gives (actors.AddSubtract a) ([] ∷ [])
 sum_answer a (x ∷ xs) ys = answer (held_as actors.AddSubtract (exactly a (total_of (x ∷ xs) -ℤ total_of ys)))
 sum_answer a [] (y ∷ ys) = answer (held_as actors.AddSubtract (exactly a (pos 0 -ℤ total_of (y ∷ ys))))
 
+-- a Ramp with a trigger gives where that is there
+abbrev pub ramp_answer : Ramp → Bool → List Token → tree.Answer Token Actor
+ramp_answer r false xs = answer (held_as actors.Ramp (ramp_firing r))
+ramp_answer r true [] = tree.Gives (actors.Ramp r) ([] ∷ [])
+ramp_answer r true (x ∷ xs) = answer (held_as actors.Ramp (ramp_firing r))
+
 abbrev pub react : Tag → Actor → Streams Token → tree.Answer Token Actor
-react tag (actors.Ramp r) X = answer (held_as actors.Ramp (ramp_firing r))
+react tag (actors.Ramp r) X = ramp_answer r r.triggered (first_place X)
 react tag (actors.Scale s) X = scale_answer s (head_of (first_place X))
 react tag (actors.AddSubtract a) X = sum_answer a (present (take a.plus X)) (present (drop a.plus X))
 
@@ -101,9 +107,13 @@ react tag (actors.AddSubtract a) X = sum_answer a (present (take a.plus X)) (pre
 abbrev pub no_actor : Actor
 no_actor = actors.Scale (record { factor = pos 0 })
 
+abbrev pub trigger_count : Bool → ℕ
+trigger_count true = 1
+trigger_count false = 0
+
 -- how many input places an actor has
 abbrev pub place_count : Actor → ℕ
-place_count (actors.Ramp r) = 0
+place_count (actors.Ramp r) = trigger_count r.triggered
 place_count (actors.Scale s) = 1
 place_count (actors.AddSubtract a) = a.plus + a.minus
 
@@ -119,12 +129,12 @@ pub record Matches (a : Actor) (feeds : List ℕ) : Type 0 where
   pub some : least_places a ≤ length feeds
 
 abbrev pub need : Actor → Need
-need (actors.Ramp r) = Counts []
+need (actors.Ramp r) = Counts (replicate (trigger_count r.triggered) 1)
 need (actors.Scale s) = Counts (1 ∷ [])
 need (actors.AddSubtract a) = Counts (replicate (a.plus + a.minus) 1)
 
 abbrev pub begins : Actor → Bool
-begins (actors.Ramp r) = true
+begins (actors.Ramp r) = not r.triggered
 begins (actors.Scale s) = false
 begins (actors.AddSubtract a) = false
 

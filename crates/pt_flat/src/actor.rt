@@ -11,11 +11,13 @@ pub struct Overflow;
 
 /// `Ramp`: gives a number, and at each later firing a step more.
 ///
-/// The number may pass the range of `i64` after the last firing that fits.
+/// The number may pass the range of `i64` after the last firing that fits. Where it has a trigger it waits for a token
+/// there, whatever that is.
 #[derive(Clone, Copy, Debug, PartialEq, Eq)]
 pub struct Ramp {
     pub next: i128,
     pub step: i64,
+    pub triggered: bool,
 }
 
 impl Ramp {

@@ -6,7 +6,7 @@ use Rattle.pt_meaning.specs.Flow.{Flow, flow, on_outcome, on_front, after_firing
 use Rattle.pt_meaning.specs.Rounds.{Source, Own, Output, Net, Limit, within, rated, rated_outcome, if_rated, has_rates, refill, flows, round}
 use Rattle.pt_meaning.specs.Dataflow.{Inside, states_of, kahn, settled, if_settled}
 use Rattle.pt_meaning.specs.Tick.{Reaction, Activity, Earliness, reacted, if_active, on_known, reactions, reaction_states, known, valued, react_all, valuation, tick, single_outcome, if_single, all_single, sr_turn, by_rows, follows, and_then, whole_or_rows, rows_of, de_turn}
-use Rattle.pt_meaning.specs.Modal.{Chart, Modes, Choice, Nothing, One, Wrong, Acted, Acts, Fails, chosen, taken, afterwards, below_number, put_state, reset_unless, change_at, change_if, get, on_refinement, at_refinement, with_refinement, preempted, modal, shown, picked, local, lag_of}
+use Rattle.pt_meaning.specs.Modal.{unfired_outputs, Chart, Modes, Choice, Nothing, One, Wrong, Acted, Acts, Fails, chosen, taken, afterwards, below_number, put_state, reset_unless, change_at, change_if, get, on_refinement, at_refinement, with_refinement, preempted, modal, shown, picked, local, lag_of}
 use Rattle.pt_meaning.specs.Process.{Put, Party, Next, Puts, Fires, Gets, GetsAny, Joins, Idle, Sticks, next_event, fired, if_fires, advance, advanced, all_advanced, party_states, with_put_made, with_token}
 use Rattle.pt_meaning.specs.Meetings.{Scene, offers, Target, Place, Outlet, Hop, hops_in, is_legal, sent, received, passed, meet}
 use Rattle.pt_meaning.specs.Rendezvous as rendezvous
@@ -292,21 +292,21 @@ module _ {T S : Type 0} (facts : Facts T S) (step more : Stepping T S) (From : S
         on-modal-from i kids f inputs z e _ (λ s z' out l g d. recorded-steps s z g (local tag (lag_of m.stays i)) (picked (chart.in_ports i) inputs) z' out l d)
 
     with-alike : (kids : List S) → AllFrom From ss kids → (inputs : Streams T) (o : Option ℕ) → with_refinement chart facts more made tag m kids inputs o ≡ with_refinement chart facts step made tag m kids inputs o
-    with-alike kids f inputs None = after-alike kids inputs [] _ (chosen 0 (chart.others m.mode m.values inputs []))
+    with-alike kids f inputs None = after-alike kids inputs (unfired_outputs chart) _ (chosen 0 (chart.others m.mode m.values inputs (unfired_outputs chart)))
     with-alike kids f inputs (Some i) = at-alike kids f inputs i (get kids i) refl
 
     with-from : (kids : List S) → AllFrom From ss kids → (inputs : Streams T) (o : Option ℕ) → KidsFrom From ss (with_refinement chart facts step made tag m kids inputs o)
-    with-from kids f inputs None = after-from kids f inputs [] _ (chosen 0 (chart.others m.mode m.values inputs []))
+    with-from kids f inputs None = after-from kids f inputs (unfired_outputs chart) _ (chosen 0 (chart.others m.mode m.values inputs (unfired_outputs chart)))
     with-from kids f inputs (Some i) = at-from kids f inputs i (get kids i) refl
 
     modal-cases : (kids : List S) → AllFrom From ss kids → (inputs : Streams T) (c : Choice) → preempted chart facts more made tag m kids inputs c ≡ preempted chart facts step made tag m kids inputs c
     modal-cases kids f inputs Nothing = with-alike kids f inputs (chart.refinement m.mode)
-    modal-cases kids f inputs (One n) = taken-alike true n kids _ (chart.act true m.mode n m.values inputs [])
+    modal-cases kids f inputs (One n) = taken-alike true n kids _ (chart.act true m.mode n m.values inputs (unfired_outputs chart))
     modal-cases kids f inputs (Wrong code) = refl
 
     modal-cases-from : (kids : List S) → AllFrom From ss kids → (inputs : Streams T) (c : Choice) → KidsFrom From ss (preempted chart facts step made tag m kids inputs c)
     modal-cases-from kids f inputs Nothing = with-from kids f inputs (chart.refinement m.mode)
-    modal-cases-from kids f inputs (One n) = taken-from true n kids f _ (chart.act true m.mode n m.values inputs [])
+    modal-cases-from kids f inputs (One n) = taken-from true n kids f _ (chart.act true m.mode n m.values inputs (unfired_outputs chart))
     modal-cases-from kids f inputs (Wrong code) = tt
 
     pub modal-alike : (kids : List S) → AllFrom From ss kids → (inputs : Streams T) → modal chart facts more made tag m kids inputs ≡ modal chart facts step made tag m kids inputs

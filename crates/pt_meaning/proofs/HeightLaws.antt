@@ -7,7 +7,7 @@ use Rattle.pt_meaning.specs.Flow.{Flow}
 use Rattle.pt_meaning.specs.Rounds.{Net, Limit, Source, Own, Output, flows, round}
 use Rattle.pt_meaning.specs.Dataflow.{Inside, states_of, kahn, if_settled, sdf_limits, pn_limits}
 use Rattle.pt_meaning.specs.Tick.{Activity, Earliness, reactions, reaction_states, tick}
-use Rattle.pt_meaning.specs.Modal.{Chart, Modes, Choice, Nothing, One, Wrong, Acted, Acts, Fails, taken, afterwards, on_refinement, at_refinement, with_refinement, preempted, change_at, change_if, get}
+use Rattle.pt_meaning.specs.Modal.{unfired_outputs, Chart, Modes, Choice, Nothing, One, Wrong, Acted, Acts, Fails, taken, afterwards, on_refinement, at_refinement, with_refinement, preempted, change_at, change_if, get}
 use Rattle.pt_meaning.specs.Process.{Put, Party, all_advanced, all_got, all_puts, party_states, with_put_made, with_token}
 use Rattle.pt_meaning.specs.Meetings.{Meets, Scene, offers, Target, Place, Outlet, Hop, hops_in, sent, received, passed, meet, below_child}
 use Rattle.pt_meaning.specs.Rendezvous as rendezvous
@@ -87,7 +87,7 @@ module _ {T S : Type 0} (facts : Facts T S) (step : Stepping T S) (tag : Tag) (n
     at-count kids inputs i (Some s) e = refined-count i kids inputs _ e
 
     with-count : (kids : List S) (inputs : Streams T) (o : Option ℕ) → length kids ≡ n → KidsCount n (with_refinement chart facts step made tag m kids inputs o)
-    with-count kids inputs None e = after-count kids inputs [] _ _ e
+    with-count kids inputs None e = after-count kids inputs (unfired_outputs chart) _ _ e
     with-count kids inputs (Some i) e = at-count kids inputs i (get kids i) e
 
     cases-count : (kids : List S) (inputs : Streams T) (c : Choice) → length kids ≡ n → KidsCount n (preempted chart facts step made tag m kids inputs c)
