@@ -11,7 +11,8 @@ use Rattle.pt_meaning.specs.LogsOfRuns.{log_at, TracesAdd}
 use Rattle.pt_meaning.specs.CompositeRuns.{IsStuckBelow}
 use Rattle.pt_meaning.specs.Job.{End, Iterations, Turn, Fire, Schedule, Course, Standing, Goes, Ended, Halted, on_step, on_turn, goes_on, after, log_of, begin, meaning, IsPrefixOfMeaning, IsMeaning, EndsBy, IsStuckPlace}
 use Rattle.pt_meaning.specs.Meetings.{Meets}
-use Rattle.pt_meaning.specs.Schedule.{origin, sdf_top, if_more}
+use Rattle.pt_meaning.specs.Tag.{origin}
+use Rattle.pt_meaning.specs.Schedule.{sdf_top, if_more}
 use Rattle.pt_meaning.specs.Node as tree
 use Rattle.pt_meaning.specs.Node.{Rows, Node, step_at, Step}
 use Rattle.pt_meaning.proofs.LogLaws.{traces-add}

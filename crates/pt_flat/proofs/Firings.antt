@@ -13,7 +13,7 @@ use Rattle.pt_meaning.specs.Running.{plus, puts}
 use Rattle.pt_meaning.specs.LogsOfRuns.{RunningWith, FiresWith, SticksWith, log_at, logs_then}
 use Rattle.pt_meaning.specs.Children.{Child, child_facts, child_step, with_number}
 use Rattle.pt_meaning.specs.Meetings.{Meets, below_child}
-use Rattle.pt_meaning.specs.Schedule.{origin}
+use Rattle.pt_meaning.specs.Tag.{origin}
 use Rattle.pt_meaning.specs.Node as tree
 use Rattle.pt_meaning.specs.Node.{step_at}
 use Rattle.pt_meaning.proofs.RunLaws.{running-step-with}
@@ -92,7 +92,7 @@ kept-is held after x b n e = by_fit (row.fits_i64 x) e
     by_fit false e = absurd (cc)
 
 -- a firing keeps the places of an actor
-matched-kept : (a : Actor) (xs : List ℤ) (b : Actor) (n : ℤ) (f : List ℕ) → actor_firing a xs ≡ row.Gave b n → Matches a f → Matches b f
+pub matched-kept : (a : Actor) (xs : List ℤ) (b : Actor) (n : ℤ) (f : List ℕ) → actor_firing a xs ≡ row.Gave b n → Matches a f → Matches b f
 matched-kept (actors.Ramp r) xs b n f e h = subst (λ x. Matches x f) (sym (kept-is actors.Ramp (record { next = r.next +ℤ r.step; step = r.step; triggered = r.triggered }) r.next b n e)) (record { long = h.long; some = h.some })
 matched-kept (actors.Scale s) xs b n f e h = subst (λ x. Matches x f) (sym (kept-is actors.Scale s (first_number xs *ℤ s.factor) b n e)) h
 matched-kept (actors.AddSubtract a) xs b n f e h = subst (λ x. Matches x f) (sym (kept-is actors.AddSubtract a (row.total_of (take a.plus xs) -ℤ row.total_of (drop a.plus xs)) b n e)) h

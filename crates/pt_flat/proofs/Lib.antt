@@ -6,3 +6,4 @@ pub mod Orders
 pub mod Waiting
 pub mod Steps
 pub mod Sums
+pub mod Turning

@@ -6,7 +6,8 @@ use Rattle.std.proofs.lemmas.List.{get_or-set_other, length-set, length-replicat
 use Rattle.pt_value.specs.declared.token.Token.{Token}
 use Rattle.pt_value.specs.declared.token.Token.TheVariants.{Int}
 use Rattle.pt_meaning.specs.Basics.{Tag, Log, log_then, trace, silent}
-use Rattle.pt_meaning.specs.Schedule.{origin, sdf_top}
+use Rattle.pt_meaning.specs.Tag.{origin}
+use Rattle.pt_meaning.specs.Schedule.{sdf_top}
 use Rattle.pt_meaning.specs.Job.{IsStuckPlace}
 use Rattle.pt_meaning.specs.Node as tree
 use Rattle.pt_flat.specs.Actors.{rows}

@@ -12,7 +12,7 @@ use Rattle.pt_meaning.specs.LogsOfRuns.{RunningWith, SticksWith, log_at, silents
 use Rattle.pt_meaning.specs.CompositeRuns.{SdfRun, IsStuckBelow, sdf_start, sdf_bounds, times}
 use Rattle.pt_meaning.specs.Children.{Child, numbered, nodes}
 use Rattle.pt_meaning.specs.Meetings.{Meets, below_child}
-use Rattle.pt_meaning.specs.Schedule.{origin}
+use Rattle.pt_meaning.specs.Tag.{origin}
 use Rattle.pt_meaning.specs.Node as tree
 use Rattle.pt_meaning.specs.Node.{step_at}
 use Rattle.pt_meaning.proofs.LogLaws.{begins-with}

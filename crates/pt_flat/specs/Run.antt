@@ -5,7 +5,8 @@ use Rattle.pt_value.specs.declared.token.Token.TheVariants.{Int}
 use Rattle.pt_meaning.specs.Basics.{Tag, Path, Log, trace, meetings_in}
 use Rattle.pt_meaning.specs.Machine.{Fault}
 use Rattle.pt_meaning.specs.Job.{Schedule, Iterations, IsPrefixOfMeaning, IsMeaning, EndsBy, IsStuckPlace}
-use Rattle.pt_meaning.specs.Schedule.{origin, sdf_top}
+use Rattle.pt_meaning.specs.Tag.{origin}
+use Rattle.pt_meaning.specs.Schedule.{sdf_top}
 use Rattle.pt_meaning.specs.Node as tree
 use Rattle.pt_flat.specs.declared.actor.Actor.{Actor}
 use Rattle.pt_flat.specs.declared.run.Ended.{Ended}
