@@ -1,5 +1,5 @@
-ghost use Rattle.std.specs.Prelude.{◌≡◌, ◌<◌, ◌+◌, ◌^◌, ℤ, ◌≤ℤ◌, neg_ℤ, pos, length, All};
-ghost use Rattle.pt_flat.specs.Actors.{Makes, ramp_firing, scale_firing, sum_firing, narrowed_of, total_of, place_count};
+ghost use Rattle.std.specs.Prelude.{IsTrue, ◌↔◌, ◌≤◌, ◌≡◌, ◌<◌, ◌+◌, ◌^◌, ℤ, ◌≤ℤ◌, neg_ℤ, pos, length, All};
+ghost use Rattle.pt_flat.specs.Actors.{Makes, ramp_firing, scale_firing, sum_firing, narrowed_of, total_of, place_count, least_places};
 ghost use Rattle.pt_flat.specs.Turns.{actor_firing, numbers_of};
 
 use thiserror::Error;
@@ -100,6 +100,19 @@ pub enum Actor {
 }
 
 impl Actor {
+    /// Whether it has as many input places as this.
+    pub fn has_places(&self, count: usize) -> bool
+        ensures { IsTrue result ↔ ((place_count self.now ≡ count) × (least_places self.now ≤ count)) }
+    {
+        match self {
+            Actor::Ramp(ramp) => count == usize::from(ramp.triggered),
+            Actor::Scale(_) => count == 1,
+            Actor::AddSubtract(sum) => {
+                count > 0 && count == sum.plus as usize + sum.minus as usize
+            }
+        }
+    }
+
     /// Gives a number on the numbers of its places, which are the last ones of the actors that feed them.
     /// After an `Err` the actor is as before.
     pub fn fire(&mut self, feeds: &[usize], values: &[i64]) -> Result<i64, Overflow>

@@ -1,4 +1,4 @@
-ghost use Rattle.std.specs.Prelude.{◌≡◌, ◌<◌, List, ℕ, length, IsTrue, IfOk, IfSome, IfNone, IsErrOf, MatchOption, replicate, true, false};
+ghost use Rattle.std.specs.Prelude.{◌↔◌, ◌≡◌, ◌<◌, List, ℕ, length, IsTrue, IfOk, IfSome, IfNone, IsErrOf, MatchOption, replicate, true, false};
 ghost use Rattle.pt_flat.specs.Model.{flag, all_flags, Orders, IsReady, IsStuck, IsLawful, HasNoOrder, AreMatched};
 
 use crate::actor::Actor;
@@ -51,6 +51,21 @@ impl From<AllocError> for FlatFault {
     fn from(_: AllocError) -> Self {
         FlatFault::Memory
     }
+}
+
+/// Whether each actor has as many feeds as it has places.
+pub fn are_matched(actors: &[Actor], feeds: &[Feeds]) -> bool
+    ensures { IsTrue result ↔ AreMatched actors.now feeds.now }
+{
+    if actors.len() != feeds.len() {
+        return false;
+    }
+    for place in 0..actors.len() {
+        if !actors[place].has_places(feeds[place].as_slice().len()) {
+            return false;
+        }
+    }
+    true
 }
 
 /// A flat dataflow model: its actors, which actor feeds each of their places, and an order in which they fire.

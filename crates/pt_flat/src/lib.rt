@@ -6,5 +6,5 @@ mod flat;
 mod run;
 
 pub use actor::{Actor, AddSubtract, Overflow, Ramp, Scale};
-pub use flat::{Feeds, Flat, FlatFault};
+pub use flat::{Feeds, Flat, FlatFault, are_matched};
 pub use run::{Ended, Numbers, Ran, run_flat};

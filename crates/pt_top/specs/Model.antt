@@ -1,5 +1,5 @@
 -- The flat dataflow model of a net: what runs.
-use Rattle.std.specs.Prelude.{◌≡◌, ℕ, zero, suc, ◌-◌, ◌<◌, ◌≤◌, List, [], ◌∷◌, map, filter, length, Bool, ◌&&◌, ◌==◌, Option, Some, None, ℤ, pos, codes, bytes_eq, if◌then◌else◌}
+use Rattle.std.specs.Prelude.{◌≡◌, ℕ, zero, suc, ◌+◌, ◌-◌, ◌^◌, min, ◌<◌, ◌≤◌, List, [], ◌∷◌, map, filter, length, Bool, true, false, ◌&&◌, ◌==◌, Option, Some, None, ℤ, pos, codes, bytes_eq, if◌then◌else◌}
 use Rattle.std.specs.List.{All, count_by}
 use Rattle.pt_moml.specs.Document.{PropertyTree}
 use Rattle.pt_graph.specs.declared.net.Channel.{Channel}
@@ -11,6 +11,8 @@ use Rattle.pt_flat.specs.declared.actor.Actor.{Actor}
 use Rattle.pt_flat.specs.declared.actor.Actor.TheVariants as actors
 use Rattle.pt_flat.specs.Actors.{trigger_count}
 use Rattle.pt_flat.specs.Model.{HasNoOrder, AreMatched}
+use Rattle.pt_top.specs.declared.model.Model.{Model}
+use Rattle.pt_top.specs.declared.model.Inputs.{Inputs}
 use Rattle.pt_top.specs.declared.model.BuiltClass.{BuiltClass}
 use Rattle.pt_top.specs.declared.model.BuiltClass.TheVariants.{Ramp, Scale, AddSubtract}
 use Rattle.pt_top.specs.Integer.{HasInteger}
@@ -65,6 +67,20 @@ AreActors ks i (e ∷ es) (a ∷ more) = IsActor ks i (entity_view e) a × AreAc
 AreActors ks i [] (a ∷ more) = ⊥
 AreActors ks i (e ∷ es) [] = ⊥
 
+abbrev pub counted : Bool → ℕ → ℕ
+counted true n = min (n + 1) (2 ^ 32 - 1)
+counted false n = n
+
+-- what comes to the places of an entity: the actors that feed them, and how many channels come to its first two ports
+pub record HasInputs (ks : List Channel) (i : ℕ) (x : Inputs) : Type 0 where
+  pub feeds : x.feeds.items ≡ feeds_of ks i
+  pub first : x.first ≡ count_by (is_to_port i 0) ks
+  pub second : x.second ≡ count_by (is_to_port i 1) ks
+
+abbrev pub AreInputs : List Channel → ℕ → List Inputs → Type 0
+AreInputs ks i [] = Unit {0}
+AreInputs ks i (x ∷ xs) = HasInputs ks i x × AreInputs ks (suc i) xs
+
 -- ---- the top
 
 -- an SDF director with this number of iterations, of which few enough are built
@@ -77,6 +93,12 @@ pub record IsDirected (director : Option DirectorTree) (iterations : ℕ) : Type
   pub few : iterations ≤ 10000
 
 -- ---- the model
+
+-- the actors of entities, and who feeds them
+pub record IsFlat (ks : List Channel) (es : List NetEntity) (actors : List Actor) (feeds : List (List ℕ)) : Type 0 where
+  pub actors_are : AreActors ks 1 es actors
+  pub feeds_are : feeds ≡ feeds_from ks 1 (length es)
+  pub matched : AreMatched actors feeds
 
 -- what runs: the actors, who feeds them, how many iterations they make and which of them are recorded
 pub record FlatModel : Type 0 where
@@ -95,12 +117,19 @@ pub record IsModel (net : Net) (m : FlatModel) : Type 0 where
   pub entities : net.entities.items ≡ top ∷ rest
   pub director : IsDirected (entity_view top).director m.iterations
   pub few : length rest ≤ 50
+  pub few_channels : length net.channels.items ≤ 100000
   pub inner : All IsInner net.channels.items
-  pub actors : AreActors net.channels.items 1 rest m.actors
-  pub feeds : m.feeds ≡ feeds_from net.channels.items 1 (length rest)
-  pub matched : AreMatched m.actors m.feeds
+  pub flat : IsFlat net.channels.items rest m.actors m.feeds
   pub recorded : m.recorded ≡ map recorded_actor net.recorded.items
   pub there : All (λ p. (0 < p.entity) × (p.entity ≤ length rest)) net.recorded.items
+
+-- what the program holds
+abbrev pub flat_model : Model → FlatModel
+flat_model m = record { actors = m.flat.actors.items; feeds = m.flat.feeds.items; iterations = m.iterations; recorded = m.recorded.items }
+
+-- Entities have no flat model whose actors have an order of firing.
+abbrev pub IsNotFlat : List Channel → List NetEntity → Type 0
+IsNotFlat ks es = (actors : List Actor) (feeds : List (List ℕ)) → IsFlat ks es actors feeds → (HasNoOrder feeds → ⊥) → ⊥
 
 -- The form of a net is not built yet: it has no flat model, or only one whose actors wait for each other.
 abbrev pub IsUnbuilt : Net → Type 0

@@ -1,15 +1,18 @@
 // The flat model of a net.
-ghost use Rattle.std.specs.Prelude.{◌≡◌, ◌<◌, ◌≤◌, ℕ, List, length, map, IfSome, IfNone, IfOk, OnOk, IsErrOf, IsTrue, ◌↔◌, ◌++◌, ◌∷◌, [], option_map, codes};
+ghost use Rattle.std.specs.Prelude.{All, ◌≡◌, ◌<◌, ◌≤◌, ◌-◌, ◌^◌, ℕ, List, length, map, IfSome, IfNone, IfOk, OnOk, IsErrOf, IsTrue, ◌↔◌, ◌==◌, ◌++◌, ◌∷◌, [], option_map, codes};
 ghost use Rattle.pt_moml.specs.View.{properties_view};
+ghost use Rattle.pt_graph.specs.declared.net.Channel.{Channel};
 ghost use Rattle.pt_graph.specs.Net.{director_view, entity_view};
 ghost use Rattle.pt_flat.specs.declared.actor.Actor.{Actor};
-ghost use Rattle.pt_flat.specs.Model.{AreMatched};
-ghost use Rattle.pt_top.specs.Model.{IsDirected, IsActorOf, built_class};
+ghost use Rattle.pt_flat.specs.Model.{AreMatched, IsLawful};
+ghost use Rattle.pt_top.specs.Model.{IsDirected, IsActorOf, IsInner, AreInputs, AreActors, IsFlat, IsNotFlat, feeds_from, counted, built_class};
 
 use crate::integer::integer_parameter;
-use pt_flat::{Actor, AddSubtract, Ramp, Scale};
-use pt_graph::{NetDirector, NetEntity};
+use pt_flat::{Actor, AddSubtract, Feeds, Flat, FlatFault, Ramp, Scale, are_matched};
+use pt_graph::{Channel, NetDirector, NetEntity, NetPort};
 use pt_moml::Property;
+use std::alloc::{AllocError, Global};
+use thiserror::Error;
 
 /// The classes of library actors that run today.
 #[derive(Clone, Copy, Debug, PartialEq, Eq)]
@@ -116,4 +119,169 @@ fn actor_of(entity: &NetEntity, first: u32, second: u32) -> Option<Actor>
         Some(class) => actor_of_class(class, &entity.parameters, first, second),
         None => None,
     }
+}
+
+impl Inputs {
+    /// One channel more, from this actor to this port.
+    fn add(&mut self, actor: usize, port: u32) -> Result<(), AllocError>
+        ensures feeds { OnOk result (self.new.feeds.items ≡ self.old.feeds.items ++ actor ∷ []) }
+        ensures first { OnOk result (self.new.first ≡ counted (port == 0) self.old.first) }
+        ensures second { OnOk result (self.new.second ≡ counted (port == 1) self.old.second) }
+    {
+        self.feeds.push(actor)?;
+        match port {
+            0 => self.first = self.first.saturating_add(1),
+            1 => self.second = self.second.saturating_add(1),
+            _ => {}
+        }
+        Ok(())
+    }
+}
+
+/// One channel more.
+fn add_channel(inputs: &mut Vec<Inputs>, channel: &Channel) -> Result<(), AllocError>
+    requires inner { IsInner channel.now }
+    ensures more { OnOk result ((ks : List Channel) → length ks < 100000 → AreInputs ks 1 inputs.old.items → AreInputs (ks ++ channel.now ∷ []) 1 inputs.new.items) }
+    ensures count { length inputs.new.items ≡ length inputs.old.items }
+{
+    let place = channel.to.entity as usize - 1;
+    if place < inputs.len() {
+        inputs[place].add(channel.from.entity as usize - 1, channel.to.port)?;
+    }
+    Ok(())
+}
+
+/// Whether each channel leads from an actor to an actor.
+fn are_inner(channels: &[Channel]) -> bool
+    ensures { IsTrue result ↔ All IsInner channels.now }
+{
+    channels
+        .iter()
+        .all(|channel| channel.from.entity > 0 && channel.to.entity > 0)
+}
+
+/// Whether each recorded port is of one of so many actors.
+fn are_there(ports: &[NetPort], count: usize) -> bool
+    ensures { IsTrue result ↔ All (λ p. (0 < p.entity) × (p.entity ≤ count)) ports.now }
+{
+    ports
+        .iter()
+        .all(|port| port.entity > 0 && port.entity as usize <= count)
+}
+
+fn no_inputs(alloc: Global, count: usize) -> Result<Vec<Inputs>, AllocError>
+    ensures some { IfOk result (λ inputs. AreInputs [] 1 inputs.items) }
+    ensures count { IfOk result (λ inputs. length inputs.items ≡ count) }
+{
+    let mut inputs = Vec::new(alloc);
+    for _ in 0..count {
+        inputs.push(Inputs {
+            feeds: Vec::new(alloc),
+            first: 0,
+            second: 0,
+        })?;
+    }
+    Ok(inputs)
+}
+
+/// What comes to the places of each actor.
+fn inputs_of(
+    alloc: Global,
+    channels: &[Channel],
+    count: usize,
+) -> Result<Vec<Inputs>, AllocError>
+    requires inner { All IsInner channels.now }
+    requires few { length channels.now ≤ 100000 }
+    ensures some { IfOk result (λ inputs. AreInputs channels.now 1 inputs.items) }
+    ensures count { IfOk result (λ inputs. length inputs.items ≡ count) }
+{
+    let mut inputs = no_inputs(alloc, count)?;
+    for channel in channels {
+        add_channel(&mut inputs, channel)?;
+    }
+    Ok(inputs)
+}
+
+/// The actors of entities, if all are built.
+fn actors_of(
+    alloc: Global,
+    entities: &[NetEntity],
+    inputs: &[Inputs],
+) -> Result<Option<Vec<Actor>>, AllocError>
+    requires { length inputs.now ≡ length entities.now }
+    ensures some { IfOk result (λ found. IfSome found (λ actors. (ks : List Channel) → AreInputs ks 1 inputs.now → AreActors ks 1 entities.now actors.items)) }
+    ensures none { IfOk result (λ found. IfNone found ((ks : List Channel) → AreInputs ks 1 inputs.now → (actors : List Actor) → AreActors ks 1 entities.now actors → ⊥)) }
+{
+    let mut actors = Vec::new(alloc);
+    for place in 0..entities.len() {
+        let input = &inputs[place];
+        match actor_of(&entities[place], input.first, input.second) {
+            Some(actor) => actors.push(actor)?,
+            None => return Ok(None),
+        }
+    }
+    Ok(Some(actors))
+}
+
+/// Why a net doesn't run.
+#[derive(Clone, Copy, Debug, PartialEq, Eq, Error)]
+pub enum ModelFault {
+    #[error("the form isn't built yet")]
+    Unbuilt,
+    #[error("out of memory")]
+    Memory,
+}
+
+impl From<AllocError> for ModelFault {
+    ghost use Rattle.pt_top.specs.declared.model.ModelFault.TheVariants as faults;
+
+    ghost from_gives = { λ _ e. e ≡ faults.Memory };
+
+    fn from(_: AllocError) -> Self {
+        ModelFault::Memory
+    }
+}
+
+fn feeds_in(alloc: Global, inputs: Vec<Inputs>) -> Result<Vec<Feeds>, AllocError>
+    ensures { IfOk result (λ feeds. (ks : List Channel) → AreInputs ks 1 inputs.items → feeds.items ≡ feeds_from ks 1 (length inputs.items)) }
+{
+    inputs
+        .into_iter()
+        .map(|input| Feeds::new(input.feeds))
+        .collect(alloc)
+}
+
+/// The flat model of entities and the channels between them.
+fn flat_of(
+    alloc: Global,
+    channels: &[Channel],
+    entities: &[NetEntity],
+) -> Result<Flat, ModelFault>
+    requires inner { All IsInner channels.now }
+    requires few { length channels.now ≤ 100000 }
+    ensures flat { IfOk result (λ f. IsFlat channels.now entities.now f.actors.items f.feeds.items) }
+    ensures lawful { IfOk result (λ f. IsLawful f.actors.items f.feeds.items f.order.items) }
+    ensures unbuilt { IsErrOf result ModelFault.Unbuilt → IsNotFlat channels.now entities.now }
+{
+    let inputs = inputs_of(alloc, channels, entities.len())?;
+    let Some(actors) = actors_of(alloc, entities, &inputs)? else {
+        return Err(ModelFault::Unbuilt);
+    };
+    let feeds = feeds_in(alloc, inputs)?;
+    if !are_matched(&actors, &feeds) {
+        return Err(ModelFault::Unbuilt);
+    }
+    match Flat::new(alloc, actors, feeds) {
+        Ok(flat) => Ok(flat),
+        Err(FlatFault::Cycle) => Err(ModelFault::Unbuilt),
+        Err(FlatFault::Memory) => Err(ModelFault::Memory),
+    }
+}
+
+/// What runs: a flat model, how many iterations it makes, and the numbers of the actors whose outputs are recorded.
+#[derive(Drop)]
+pub struct Model {
+    pub flat: Flat,
+    pub iterations: u64,
+    pub recorded: Vec<usize>,
 }
