@@ -2,6 +2,7 @@
 
 import copy
 import json
+import os
 import subprocess
 import sys
 from dataclasses import dataclass, field
@@ -21,6 +22,10 @@ CASE_FIELDS = {
     "name", "about", "needs", "until", "args", "status", "schema", "stdout", "either",
     "document", "text", "hex", "base", "set", "drop",
 }
+
+
+# The scripts of cases may import the modules beside this one.
+SCRIPT_ENVIRONMENT = {**os.environ, "PYTHONPATH": str(TESTS), "PYTHONDONTWRITEBYTECODE": "1"}
 
 
 class BadCase(Exception):
@@ -49,8 +54,7 @@ class Case:
         if self.maker is None:
             return self.document
         made = subprocess.run(
-            [sys.executable, "-B", self.maker.name], cwd=self.maker.parent, env={"PYTHONPATH": str(TESTS)},
-            stdout=subprocess.PIPE, check=True, timeout=120,
+            [sys.executable, str(self.maker)], env=SCRIPT_ENVIRONMENT, stdout=subprocess.PIPE, check=True, timeout=120,
         )
         return made.stdout
 
