@@ -2,8 +2,10 @@
 
 import copy
 import json
+import os
 import subprocess
 import sys
+from collections import Counter
 from dataclasses import dataclass, field
 from pathlib import Path
 
@@ -21,6 +23,16 @@ CASE_FIELDS = {
     "name", "about", "needs", "until", "args", "status", "schema", "stdout", "either",
     "document", "text", "hex", "base", "set", "drop",
 }
+
+
+# What a case may need, in the order in which it is built.
+WORDS = (
+    "thin", "document", "expressions", "types", "rates", "sr", "de", "modal", "pn", "threads", "rendezvous",
+    "generated", "several", "classes", "certificates", "wide", "giotto",
+)
+
+# The scripts of cases may import the modules beside this one.
+SCRIPT_ENVIRONMENT = {**os.environ, "PYTHONPATH": str(TESTS), "PYTHONDONTWRITEBYTECODE": "1"}
 
 
 class BadCase(Exception):
@@ -49,8 +61,7 @@ class Case:
         if self.maker is None:
             return self.document
         made = subprocess.run(
-            [sys.executable, "-B", self.maker.name], cwd=self.maker.parent, env={"PYTHONPATH": str(TESTS)},
-            stdout=subprocess.PIPE, check=True, timeout=120,
+            [sys.executable, str(self.maker)], env=SCRIPT_ENVIRONMENT, stdout=subprocess.PIPE, check=True, timeout=120,
         )
         return made.stdout
 
@@ -253,10 +264,19 @@ def example_cases() -> list[Case]:
     return cases
 
 
+def known(words: set[str], place: str) -> set[str]:
+    """These words, each of which stands in the list."""
+    if not words <= set(WORDS):
+        raise BadCase(f"{place}: unknown words {sorted(words - set(WORDS))}")
+    return words
+
+
 def all_cases() -> list[Case]:
     cases = row_cases() + table_cases() + example_cases()
-    names = [case.name for case in cases]
-    repeated = {name for name in names if names.count(name) > 1} if len(set(names)) < len(names) else set()
+    counts = Counter(case.name for case in cases)
+    repeated = sorted(name for name, count in counts.items() if count > 1)
     if repeated:
-        raise BadCase(f"repeated names {sorted(repeated)}")
+        raise BadCase(f"repeated names {repeated}")
+    for case in cases:
+        known(case.needs | case.until, case.name)
     return cases

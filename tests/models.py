@@ -43,3 +43,39 @@ def pairs(count: int, iterations: int) -> dict:
         entities += [entity(f"r{number}", "Ramp", init=number), entity(f"s{number}", "Scale", factor=-1 - number)]
     groups = [[f"r{number}.output", f"s{number}.input"] for number in range(count)]
     return job(director("SDF", iterations=iterations), entities, groups, [f"s{count - 1}.output"])
+
+
+def stage(number: int) -> dict:
+    """Stage of the generated document: a scale, or at each tenth place a dataflow composite around one."""
+    factor = -1 if number % 3 == 0 else 1
+    if number % 10:
+        return entity(f"s{number}", "Scale", factor=factor)
+    return {
+        **entity(f"s{number}", "Composite"),
+        "properties": [director("SDF")],
+        "ports": [{"name": "input", "input": True}, {"name": "output", "output": True}],
+        "entities": [entity("k", "Scale", factor=factor)],
+        "relations": [{"name": "a"}, {"name": "b"}],
+        "links": [
+            {"port": "input", "relation": "a"}, {"port": "k.input", "relation": "a"},
+            {"port": "k.output", "relation": "b"}, {"port": "output", "relation": "b"},
+        ],
+    }
+
+
+def generated(count: int) -> dict:
+    """The generated document: a hundred tokens through a chain of stages, as a process network."""
+    names = ["src", *(f"s{number}" for number in range(1, count + 1)), "sink"]
+    entities = [entity("src", "Ramp", firingCountLimit=100), *(stage(number) for number in range(1, count + 1)), entity("sink", "Discard")]
+    groups = [[f"{source}.output", f"{place}.input"] for source, place in zip(names, names[1:])]
+    document = job(director("PN"), entities, groups, [f"s{count}.output"])
+    document["model"]["name"] = "gen"
+    return document
+
+
+def plain(part):
+    """A document without lists that are empty and truth values that are false, which are as good as absent."""
+    if isinstance(part, dict):
+        parts = {key: plain(value) for key, value in part.items()}
+        return {key: value for key, value in parts.items() if value not in ([], False)}
+    return [plain(item) for item in part] if isinstance(part, list) else part

@@ -1,0 +1,367 @@
+//! A hand-written interpreter of flat dataflow models, to measure ptrun against.
+//!
+//! It reads the same documents on standard input and writes the same reports, for models of Ramp, Scale and
+//! AddSubtract under SDF whose actors stand right in the top. It does what such a model needs and no more: each
+//! actor fires once an iteration, in an order found once. It refuses nothing by name; a document that it doesn't
+//! know ends it with a panic. Plain Rust over std alone: `rustc --edition 2021 -O interpreter.rs`.
+
+use std::collections::{HashMap, VecDeque};
+use std::io::{Read, Write};
+
+// ---- JSON
+
+enum Json {
+    Text(String),
+    List(Vec<Json>),
+    Object(Vec<(String, Json)>),
+    Other,
+}
+
+struct Reader<'a> {
+    bytes: &'a [u8],
+    place: usize,
+}
+
+impl Reader<'_> {
+    fn blanks(&mut self) {
+        while self.place < self.bytes.len() && matches!(self.bytes[self.place], b' ' | b'\t' | b'\n' | b'\r') {
+            self.place += 1;
+        }
+    }
+
+    fn peek(&mut self) -> u8 {
+        self.blanks();
+        self.bytes[self.place]
+    }
+
+    fn take(&mut self, byte: u8) -> bool {
+        let found = self.peek() == byte;
+        self.place += usize::from(found);
+        found
+    }
+
+    fn text(&mut self) -> String {
+        assert!(self.take(b'"'), "a text");
+        let start = self.place;
+        while self.bytes[self.place] != b'"' {
+            assert!(self.bytes[self.place] != b'\\', "texts without escapes");
+            self.place += 1;
+        }
+        self.place += 1;
+        String::from_utf8(self.bytes[start..self.place - 1].to_vec()).expect("UTF-8")
+    }
+
+    fn value(&mut self) -> Json {
+        match self.peek() {
+            b'"' => Json::Text(self.text()),
+            b'[' => Json::List(self.items(b']', Reader::value)),
+            b'{' => Json::Object(self.items(b'}', |reader| {
+                let key = reader.text();
+                assert!(reader.take(b':'), "a colon");
+                (key, reader.value())
+            })),
+            _ => {
+                while !matches!(
+                    self.bytes.get(self.place),
+                    None | Some(b',' | b']' | b'}' | b' ' | b'\n')
+                ) {
+                    self.place += 1;
+                }
+                Json::Other
+            }
+        }
+    }
+
+    fn items<T>(&mut self, close: u8, mut item: impl FnMut(&mut Self) -> T) -> Vec<T> {
+        self.place += 1;
+        let mut found = Vec::new();
+        if self.take(close) {
+            return found;
+        }
+        loop {
+            found.push(item(self));
+            if self.take(close) {
+                return found;
+            }
+            assert!(self.take(b','), "a comma");
+        }
+    }
+}
+
+impl Json {
+    fn get(&self, key: &str) -> Option<&Json> {
+        match self {
+            Json::Object(members) => members
+                .iter()
+                .rev()
+                .find(|(name, _)| name == key)
+                .map(|(_, value)| value),
+            _ => None,
+        }
+    }
+
+    fn text(&self, key: &str) -> &str {
+        match self.get(key) {
+            Some(Json::Text(text)) => text,
+            _ => panic!("a text {key}"),
+        }
+    }
+
+    fn list(&self, key: &str) -> &[Json] {
+        match self.get(key) {
+            Some(Json::List(items)) => items,
+            _ => &[],
+        }
+    }
+
+    fn parameter(&self, name: &str, default: i64) -> i64 {
+        let found = self
+            .list("properties")
+            .iter()
+            .find(|property| property.text("name") == name);
+        found.map_or(default, |property| property.text("value").parse().expect("a literal"))
+    }
+}
+
+// ---- models
+
+enum Actor {
+    Ramp { init: i64, step: i64 },
+    Scale { factor: i64 },
+    AddSubtract,
+}
+
+/// An actor with the channels at its ports, and what it has fired and recorded.
+struct Node {
+    name: String,
+    actor: Actor,
+    plus: Vec<usize>,
+    minus: Vec<usize>,
+    outputs: Vec<usize>,
+    firings: u64,
+    recorded: Option<Vec<i64>>,
+}
+
+struct Model {
+    nodes: Vec<Node>,
+    channels: Vec<VecDeque<i64>>,
+    order: Vec<usize>,
+    iterations: u64,
+    record: Vec<usize>,
+}
+
+fn actor_of(entity: &Json) -> Actor {
+    match entity.text("class") {
+        "Ramp" => Actor::Ramp {
+            init: entity.parameter("init", 0),
+            step: entity.parameter("step", 1),
+        },
+        "Scale" => Actor::Scale {
+            factor: entity.parameter("factor", 1),
+        },
+        "AddSubtract" => Actor::AddSubtract,
+        other => panic!("the class {other}"),
+    }
+}
+
+fn node_of(entity: &Json) -> Node {
+    Node {
+        name: entity.text("name").to_string(),
+        actor: actor_of(entity),
+        plus: Vec::new(),
+        minus: Vec::new(),
+        outputs: Vec::new(),
+        firings: 0,
+        recorded: None,
+    }
+}
+
+/// The source of each relation, then a channel for each place that is linked to it. Gives the ends of the channels.
+fn join(top: &Json, nodes: &mut [Node]) -> Vec<(usize, usize)> {
+    let numbers: HashMap<String, usize> = nodes
+        .iter()
+        .enumerate()
+        .map(|(number, node)| (node.name.clone(), number))
+        .collect();
+    let ends = |link: &Json| {
+        let (entity, port) = link.text("port").split_once('.').expect("a child's port");
+        (numbers[entity], port.to_string())
+    };
+    let mut sources = HashMap::new();
+    for link in top.list("links") {
+        let (node, port) = ends(link);
+        if port == "output" {
+            sources.insert(link.text("relation").to_string(), node);
+        }
+    }
+    let mut channels = Vec::new();
+    for link in top.list("links") {
+        let (node, port) = ends(link);
+        let source = sources[link.text("relation")];
+        match port.as_str() {
+            "output" => continue,
+            "input" | "plus" => nodes[node].plus.push(channels.len()),
+            "minus" => nodes[node].minus.push(channels.len()),
+            other => panic!("the port {other}"),
+        }
+        nodes[source].outputs.push(channels.len());
+        channels.push((source, node));
+    }
+    channels
+}
+
+/// An order in which each actor stands behind those that feed it.
+fn ordered(nodes: &[Node], channels: &[(usize, usize)]) -> Vec<usize> {
+    let mut missing: Vec<usize> = nodes.iter().map(|node| node.plus.len() + node.minus.len()).collect();
+    let mut order: Vec<usize> = (0..nodes.len()).filter(|&node| missing[node] == 0).collect();
+    let mut next = 0;
+    while next < order.len() {
+        for &channel in &nodes[order[next]].outputs {
+            let place = channels[channel].1;
+            missing[place] -= 1;
+            if missing[place] == 0 {
+                order.push(place);
+            }
+        }
+        next += 1;
+    }
+    assert!(order.len() == nodes.len(), "no loop");
+    order
+}
+
+fn model_of(job: &Json) -> Model {
+    let top = job.get("model").expect("a model");
+    let director = top
+        .list("properties")
+        .iter()
+        .find(|property| property.get("class").is_some())
+        .expect("a director");
+    let mut nodes: Vec<Node> = top.list("entities").iter().map(node_of).collect();
+    let channels = join(top, &mut nodes);
+    let mut record = Vec::new();
+    for port in job.list("record") {
+        let Json::Text(port) = port else {
+            panic!("a recorded text")
+        };
+        let name = port.strip_suffix(".output").expect("an output");
+        let number = nodes
+            .iter()
+            .position(|node| node.name == name)
+            .expect("a recorded actor");
+        nodes[number].recorded = Some(Vec::new());
+        record.push(number);
+    }
+    let order = ordered(&nodes, &channels);
+    let iterations = director.parameter("iterations", 0) as u64;
+    Model {
+        nodes,
+        channels: vec![VecDeque::new(); channels.len()],
+        order,
+        iterations,
+        record,
+    }
+}
+
+// ---- runs
+
+fn take(channels: &mut [VecDeque<i64>], place: usize) -> i64 {
+    channels[place].pop_front().expect("a token")
+}
+
+fn sum(channels: &mut [VecDeque<i64>], places: &[usize]) -> i128 {
+    places.iter().map(|&place| i128::from(take(channels, place))).sum()
+}
+
+impl Node {
+    /// What one firing gives, or nothing where it leaves 64 bits.
+    fn step(&self, channels: &mut [VecDeque<i64>]) -> Option<i64> {
+        match self.actor {
+            Actor::Ramp { init, step } => {
+                i64::try_from(i128::from(init) + i128::from(self.firings) * i128::from(step)).ok()
+            }
+            Actor::Scale { factor } => take(channels, self.plus[0]).checked_mul(factor),
+            Actor::AddSubtract => i64::try_from(sum(channels, &self.plus) - sum(channels, &self.minus)).ok(),
+        }
+    }
+
+    fn fire(&mut self, channels: &mut [VecDeque<i64>]) -> bool {
+        let Some(token) = self.step(channels) else { return false };
+        self.firings += 1;
+        for &channel in &self.outputs {
+            channels[channel].push_back(token);
+        }
+        if let Some(recorded) = &mut self.recorded {
+            recorded.push(token);
+        }
+        true
+    }
+}
+
+impl Model {
+    /// Makes all iterations, up to the first actor that is stuck.
+    fn run(&mut self) -> Option<usize> {
+        for _ in 0..self.iterations {
+            for &number in &self.order {
+                if !self.nodes[number].fire(&mut self.channels) {
+                    return Some(number);
+                }
+            }
+        }
+        None
+    }
+
+    fn report(&self, stuck: Option<usize>) -> Vec<u8> {
+        let mut text = Vec::new();
+        for &number in &self.record {
+            let node = &self.nodes[number];
+            text.extend_from_slice(format!("trace {}.output\n", node.name).as_bytes());
+            for (token, value) in node.recorded.iter().flatten().enumerate() {
+                push_number(&mut text, token as i64);
+                text.extend_from_slice(b" 0.0 ");
+                push_number(&mut text, *value);
+                text.push(b'\n');
+            }
+        }
+        match stuck.map(|number| &self.nodes[number]) {
+            None => text.extend_from_slice(b"end iterations\n"),
+            Some(node) => text.extend_from_slice(format!("end fault 31 {} {}\n", node.name, node.firings).as_bytes()),
+        }
+        text
+    }
+}
+
+fn push_number(text: &mut Vec<u8>, number: i64) {
+    let mut digits = [0; 20];
+    let mut start = digits.len();
+    let mut rest = number.unsigned_abs();
+    loop {
+        start -= 1;
+        digits[start] = b'0' + (rest % 10) as u8;
+        rest /= 10;
+        if rest == 0 {
+            break;
+        }
+    }
+    if number < 0 {
+        text.push(b'-');
+    }
+    text.extend_from_slice(&digits[start..]);
+}
+
+fn main() {
+    let mut bytes = Vec::new();
+    std::io::stdin().lock().read_to_end(&mut bytes).expect("standard input");
+    let job = Reader {
+        bytes: &bytes,
+        place: 0,
+    }
+    .value();
+    let mut model = model_of(&job);
+    drop(job);
+    let stuck = model.run();
+    std::io::stdout()
+        .lock()
+        .write_all(&model.report(stuck))
+        .expect("standard output");
+    std::process::exit(if stuck.is_some() { 3 } else { 0 });
+}

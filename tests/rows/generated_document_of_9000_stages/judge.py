@@ -1,0 +1,9 @@
+import json
+import sys
+
+from models import generated, plain
+
+wrote = json.load(sys.stdin)
+if plain(wrote) != plain(generated(9000)):
+    print("another document than the generated one of 9000 stages")
+    sys.exit(1)
