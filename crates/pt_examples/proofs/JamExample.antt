@@ -1,20 +1,32 @@
 -- The example of a jam is one.
-use Rattle.std.proofs.Common.{◌≡◌, ℕ, zero, suc, List, [], ◌∷◌, ◌++◌, Some, pos, refl, subst, arith}
+use Rattle.std.proofs.Common.{◌≡◌, ℕ, zero, suc, max, List, [], ◌∷◌, ◌++◌, Some, None, pos, length, refl, subst, arith}
+use Rattle.pt_meaning.specs.Tag.{origin}
 use Rattle.pt_meaning.specs.Streams.{Streams, at}
+use Rattle.pt_meaning.specs.Machine.{Stepping, Facts}
 use Rattle.pt_meaning.specs.Flow.{flow}
 use Rattle.pt_meaning.specs.Rounds.{round}
-use Rattle.pt_meaning.specs.Children.{Child}
-use Rattle.pt_meaning.specs.Tree.{Node, Actor, unfired}
-use Rattle.pt_meaning.specs.Step.{step_at}
+use Rattle.pt_meaning.specs.Kahn.{kahn}
 use Rattle.pt_meaning.specs.Pn.{pn_limits}
+use Rattle.pt_meaning.specs.Meetings.{below_child}
+use Rattle.pt_meaning.specs.Children.{Child, numbered, child_facts, child_step}
+use Rattle.pt_meaning.specs.Tree.{Node, Actor, unfired}
+use Rattle.pt_meaning.specs.NodeFacts.{facts_of}
+use Rattle.pt_meaning.specs.Step.{step_at, no_meetings}
+use Rattle.pt_meaning.specs.Job.{after, begin}
 use Rattle.pt_meaning.specs.Running.{Running}
 use Rattle.pt_meaning.specs.Places.{Halfway, due}
 use Rattle.pt_meaning.specs.Jam.{HoldsAtMost, IsBetween, WaitsFor}
-use Rattle.pt_meaning.specs.Children.{numbered}
-use Rattle.pt_meaning.specs.Tag.{origin}
-use Rattle.pt_examples.specs.Small.{Token, int, Act, Ramp, Add, Scale, ramp}
-use Rattle.pt_examples.specs.Jams.{children, channels, two, facts, step, JamExample}
-use Rattle.std.specs.Prelude.{None}
+use Rattle.pt_examples.specs.Small.{Token, int, Act, Ramp, Add, Scale, ramp, rows}
+use Rattle.pt_examples.specs.Jams.{children, channels, jamming, JamExample}
+
+abbrev facts : Facts Token (Child (Node Token Act))
+facts = child_facts (facts_of rows)
+
+abbrev step : Stepping Token (Child (Node Token Act))
+step = child_step (λ i. step_at rows 1 1 (below_child i no_meetings))
+
+abbrev greatest : ℕ → ℕ
+greatest c = max 2 (length (at {T = Token} ([] ∷ [] ∷ [] ∷ []) c))
 
 abbrev made : List ℕ
 made = 4 ∷ 0 ∷ 0 ∷ []
@@ -55,7 +67,7 @@ parts (suc zero) = refl
 parts (suc (suc zero)) = refl
 parts (suc (suc (suc c))) = refl
 
-short : HoldsAtMost channels two halfway
+short : HoldsAtMost channels greatest halfway
 short zero b = omega arith
 short (suc zero) b = omega arith
 short (suc (suc zero)) b = omega arith
@@ -71,16 +83,29 @@ between (suc (suc zero)) c w = absurd (cc)
 between (suc (suc (suc i))) c w = absurd (cc)
 
 pub jam_example : JamExample
+unfolding after step_at kahn round flow
 jam_example = record {
-  made = made;
-  now = now;
-  halfway = halfway;
-  jam = record {
-    consistent = record { held = held; wide = refl; running = four_firings; split = parts };
-    fits = short;
-    stop = (refl, ((1, refl, refl), ((0, refl, refl), tt)));
-    waits = (0, 0, (record { channel = 0; token = int 3 }, [], refl, refl));
-    between = between;
-  };
-  lengths = refl;
+  fuel = 1;
+  course = begin jamming;
+  tag = origin;
+  inputs = [];
+  before = refl;
+  next = refl;
+  jam = (
+    refl,
+    record {
+      made = made;
+      now = now;
+      halfway = halfway;
+      jam = record {
+        consistent = record { held = held; wide = refl; running = four_firings; split = parts };
+        fits = short;
+        stop = (refl, ((1, refl, refl), ((0, refl, refl), tt)));
+        waits = (0, 0, (record { channel = 0; token = int 3 }, [], refl, refl));
+        between = between;
+      };
+      lengths = refl;
+    },
+    (refl, (refl, (refl, tt))),
+  );
 }

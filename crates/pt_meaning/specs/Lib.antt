@@ -44,3 +44,4 @@ pub mod Running
 pub mod Places
 pub mod Jam
 pub mod AnyOrder
+pub mod Asked
