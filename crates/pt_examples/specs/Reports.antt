@@ -1,0 +1,16 @@
+-- An example of a report: one iteration of a Ramp and a Scale, told in full.
+use Rattle.std.specs.Prelude.{[], ◌∷◌}
+use Rattle.pt_meaning.specs.Step.{no_meetings}
+use Rattle.pt_meaning.specs.Job.{Schedule, Iterations}
+use Rattle.pt_meaning.specs.Schedule.{sdf_top}
+use Rattle.pt_meaning.specs.Headline.{Defined, IsReportOf}
+use Rattle.pt_examples.specs.Dataflow.{doubled}
+use Rattle.pt_examples.specs.Models.{at_origin}
+use Rattle.pt_examples.specs.Small.{Token, Act, rows}
+
+abbrev pub once : Schedule Token Act
+once = sdf_top 1 [] []
+
+-- The trace of the Scale is 0 and the end is iterations, with a budget of 4: the run makes three firings.
+abbrev pub ReportExample : Type 0
+ReportExample = IsReportOf rows no_meetings once doubled (record { path = 1 ∷ []; port = 0 } ∷ []) 4 (λ p. 1) (at_origin (0 ∷ []) ∷ []) (Defined Iterations)
