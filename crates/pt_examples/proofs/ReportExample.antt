@@ -1,14 +1,16 @@
 -- The example of a report is one.
-use Rattle.std.proofs.Common.{◌≡◌, ◌≤◌, ◌⊎◌, inl, inr, ℕ, zero, suc, List, [], ◌∷◌, ◌++◌, length, Some, None, refl, ap, subst, arith}
-use Rattle.pt_meaning.specs.Tag.{Tag, origin}
-use Rattle.pt_meaning.specs.Streams.{IsPrefix, at, get}
+use Rattle.std.proofs.Common.{◌≡◌, ◌≤◌, ◌⊎◌, inl, inr, ℕ, zero, suc, List, [], ◌∷◌, ◌++◌, length, Some, None, Bool, true, false, nat_le, refl, ap, subst, arith}
+use Rattle.pt_meaning.specs.Tag.{origin}
+use Rattle.pt_meaning.specs.Streams.{IsPrefix, get}
 use Rattle.pt_meaning.specs.Log.{Path, Firing, Event, Finished, Log, meetings_in, firings_in}
 use Rattle.pt_meaning.specs.Flow.{flow}
 use Rattle.pt_meaning.specs.Rounds.{round}
 use Rattle.pt_meaning.specs.Kahn.{kahn}
 use Rattle.pt_meaning.specs.Step.{step_at, no_meetings}
 use Rattle.pt_meaning.specs.Job.{Course, Standing, Goes, Ended, Halted, Iterations, after, begin, meaning, log_of}
-use Rattle.pt_meaning.specs.Closed.{Has, UnderWay, Took, HasCause, CameWithin, rounds_of, node_at}
+use Rattle.pt_meaning.specs.Closed.{Has, UnderWay, CameWithin, rounds_of, core_at, these_if, IsCausedAt}
+use Rattle.pt_meaning.specs.Net.{Output}
+use Rattle.pt_meaning.specs.Tree.{Core, Sdf}
 use Rattle.pt_meaning.proofs.MeaningLaws.{meaning_grows}
 use Rattle.pt_examples.specs.Small.{Token, Act, int, rows}
 use Rattle.pt_examples.specs.Dataflow.{doubled}
@@ -30,6 +32,9 @@ all_told [] = Finished [] of_top ∷ []
 all_told (zero ∷ []) = Finished (0 ∷ []) of_ramp ∷ []
 all_told (suc zero ∷ []) = Finished (0 ∷ []) of_scale ∷ []
 all_told (i ∷ p) = []
+
+abbrev start : Core Token
+start = Sdf (record { net = record { sources = Output 0 0 ∷ []; places = 0 ∷ 1 ∷ [] }; repetitions = 1 ∷ 1 ∷ []; takes = []; gives = []; rates = (1 ∷ []) ∷ (1 ∷ []) ∷ [] }) ([] ∷ [])
 
 abbrev course_of : Standing Token Act → Course Token Act
 course_of (Goes c) = c
@@ -96,37 +101,40 @@ within_first p n r e h = go p (rounds_of e) (few_rounds (p ++ r) e h.0) h.1
 abbrev none_under_way : UnderWay Token
 none_under_way p = None
 
--- below the children there is nothing
-deep : (e : Event Token) (j k : ℕ) (p : Path) → Has e (all_told (j ∷ k ∷ p)) → ⊥
-deep e zero k p h = h
-deep e (suc zero) k p h = h
-deep e (suc (suc j)) k p h = h
-
 -- no firing of the top is under way
 all_finished : (p : Path) (n : ℕ) (r : Path) (e : Event Token) → CameWithin all_told p n r e → firings_in (all_told p) ≡ n → ⊥
 all_finished p n r e w f = let z = within_first p n r e w in let g : firings_in (all_told []) ≡ n = subst (λ s. firings_in (all_told s) ≡ n) z.0 f in let y = z.1 in omega (arith, g, y)
 
--- the one token taken, by the Scale, was given by the Ramp
-has_cause : (p : Path) (i q : ℕ) (tag : Tag) (x : Token) → Took all_told none_under_way (p ++ (i ∷ [])) q tag x → HasCause rows doubled all_told none_under_way p i q tag x (node_at p doubled)
-has_cause p i q tag x (inr h) = absurd (let e = h.1 in cc)
-has_cause [] i q tag x (inl h) = of_child i h.0 h.1.0 h.1.1 h.3
-  where
-    same_inputs : (w v : List ℕ) (f g : Firing Token) → Finished w f ≡ Finished v g → f.inputs ≡ g.inputs
-    same_inputs w v f g e = let a : f ≡ g = cc in ap (λ h. h.inputs) a
+-- The one token taken, by the Scale, was given by the Ramp; no other child takes any.
+given_is_taken : (b c : Bool) (x : Token) → IsPrefix (these_if b (x ∷ []) [] ++ these_if c [] []) (these_if b (x ∷ []) [])
+given_is_taken true true x = (refl, tt)
+given_is_taken true false x = (refl, tt)
+given_is_taken false true x = tt
+given_is_taken false false x = tt
 
-    of_scale_input : (q : ℕ) → Has x (at ((int 0 ∷ []) ∷ []) q) → HasCause rows doubled all_told none_under_way [] 1 q tag x (node_at [] doubled)
-    of_scale_input zero (inl e) = inr (inl (of_ramp, (0 ∷ [], inl refl), inl e))
-    of_scale_input zero (inr e) = absurd e
-    of_scale_input (suc q) e = absurd e
+none_taken : (b c : Bool) (Y : List Token) → IsPrefix (these_if b [] [] ++ these_if c [] []) Y
+none_taken true true Y = tt
+none_taken true false Y = tt
+none_taken false true Y = tt
+none_taken false false Y = tt
 
-    of_child : (i : ℕ) (f : Firing Token) (w : List ℕ) → Has (Finished w f) (all_told (i ∷ [])) → Has x (at f.inputs q) → HasCause rows doubled all_told none_under_way [] i q tag x (node_at [] doubled)
-    of_child zero f w (inl e) t = absurd (subst (λ X. Has x (at X q)) (same_inputs w (0 ∷ []) f of_ramp e) t)
-    of_child zero f w (inr e) t = absurd e
-    of_child (suc zero) f w (inl e) t = of_scale_input q (subst (λ X. Has x (at X q)) (same_inputs w (0 ∷ []) f of_scale e) t)
-    of_child (suc zero) f w (inr e) t = absurd e
-    of_child (suc (suc i)) f w e t = absurd e
-has_cause (j ∷ []) i q tag x (inl h) = absurd (deep _ j i [] h.1.1)
-has_cause (j ∷ k ∷ p) i q tag x (inl h) = absurd (deep _ j k (p ++ (i ∷ [])) h.1.1)
+none_there : (c : Bool) (Y : List Token) → IsPrefix (these_if c [] []) Y
+none_there true Y = tt
+none_there false Y = tt
+
+caused_at : (i q n : ℕ) → IsCausedAt rows doubled all_told none_under_way [] start i q n
+caused_at zero q n = inl (0, omega arith, inl refl, none_taken (nat_le 0 n) (nat_le 1 n) _)
+caused_at (suc zero) zero n = inl (0, omega arith, inl refl, given_is_taken (nat_le 0 n) (nat_le 1 n) (int 0))
+caused_at (suc zero) (suc q) n = inl (0, omega arith, inl refl, none_taken (nat_le 0 n) (nat_le 1 n) _)
+caused_at (suc (suc i)) q n = inl (0, omega arith, inl refl, none_there (nat_le 1 n) _)
+
+has_cause : (p : Path) (c : Core Token) → core_at p doubled ≡ Some c → (i q n : ℕ) → n ≤ firings_in (all_told p) → IsCausedAt rows doubled all_told none_under_way p c i q n
+has_cause [] c e i q n h = subst (λ d. IsCausedAt rows doubled all_told none_under_way [] d i q n) (cc) (caused_at i q n)
+has_cause (zero ∷ []) c e i q n h = absurd (cc)
+has_cause (suc zero ∷ []) c e i q n h = absurd (cc)
+has_cause (suc (suc j) ∷ p) c e i q n h = absurd (cc)
+has_cause (zero ∷ j ∷ p) c e i q n h = absurd (cc)
+has_cause (suc zero ∷ j ∷ p) c e i q n h = absurd (cc)
 
 pub report_example : ReportExample
 unfolding after
@@ -140,6 +148,7 @@ report_example = record {
       under_way = none_under_way;
       caused = has_cause;
       begun = λ p n r e w f. absurd (all_finished p n r e w f);
+      enclosed = λ p i b e. absurd (cc);
       finished = λ p n r e w. let z = within_first p n r e w in let y = z.1 in omega (arith, y);
       whole = λ p n r e w k l r' g v. absurd (let z = within_first p n r e w in let y = z.1 in omega (arith, y, l));
     };
