@@ -16,6 +16,7 @@ dataflow_examples = record {
   doubles_once = refl;
   no_iteration = refl;
   makes_arrays = refl;
+  starts = (refl, refl, refl, ((refl, refl), ((refl, refl), ((refl, refl), tt))));
   counts = refl;
   forks_left = refl;
   forks_right = refl;

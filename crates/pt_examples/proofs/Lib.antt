@@ -8,3 +8,4 @@ pub mod ModalExamples
 pub mod EdgeExamples
 pub mod NestingExamples
 pub mod JamExample
+pub mod ReportExample

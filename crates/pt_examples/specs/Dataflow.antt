@@ -3,6 +3,7 @@ use Rattle.std.specs.Prelude.{◌≡◌, zero, suc, List, [], ◌∷◌, ◌++�
 use Rattle.pt_meaning.specs.Net.{Own, Output}
 use Rattle.pt_meaning.specs.Tree.{Node, actor}
 use Rattle.pt_meaning.specs.Step.{no_meetings}
+use Rattle.pt_meaning.specs.Start.{IsAtStart}
 use Rattle.pt_meaning.specs.Job.{Iterations, Inputs, meaning}
 use Rattle.pt_meaning.specs.Headline.{count_in}
 use Rattle.pt_meaning.specs.Schedule.{sdf_top}
@@ -101,6 +102,8 @@ pub record DataflowExamples : Type 0 where
   pub doubles_once : told (run 5 (sdf_top 1 [] []) doubled) (1 ∷ []) 0 ≡ (at_origin (0 ∷ []), EndedBy Iterations)
   pub no_iteration : told (run 5 (sdf_top 0 [] []) doubled) (1 ∷ []) 0 ≡ ([], EndedBy Iterations)
   pub makes_arrays : told (run 5 (sdf_top 1 [] []) arrays) (2 ∷ []) 0 ≡ ((moment 0 0, Array (pos 0 ∷ pos 0 ∷ pos 1 ∷ [])) ∷ (moment 0 0, Array (pos 1 ∷ pos 2 ∷ pos 2 ∷ [])) ∷ [], EndedBy Iterations)
+  -- the delay's first token stands on its channel at the start
+  pub starts : IsAtStart rows feedback
   pub counts : told (run 5 (sdf_top 3 [] []) feedback) (1 ∷ []) 0 ≡ (at_origin (1 ∷ 2 ∷ 3 ∷ []), EndedBy Iterations)
   pub forks_left : told (run 4 (sdf_top 2 [] []) fork) (1 ∷ []) 0 ≡ (at_origin (0 ∷ 2 ∷ []), EndedBy Iterations)
   pub forks_right : told (run 4 (sdf_top 2 [] []) fork) (2 ∷ []) 0 ≡ (at_origin (0 ∷ 3 ∷ []), EndedBy Iterations)

@@ -1,13 +1,12 @@
 -- An example of a jam, with initial capacity 1 and greatest capacity 2 of each channel.
 use Rattle.std.specs.Prelude.{ℕ, List, [], ◌∷◌, pos}
-use Rattle.pt_meaning.specs.Tag.{origin}
-use Rattle.pt_meaning.specs.Machine.{Stepping, Facts}
+use Rattle.pt_meaning.specs.Log.{Path}
 use Rattle.pt_meaning.specs.Net.{Output, Net}
-use Rattle.pt_meaning.specs.Children.{Child, numbered, child_facts, child_step}
 use Rattle.pt_meaning.specs.Tree.{Node, actor}
-use Rattle.pt_meaning.specs.NodeFacts.{facts_of}
-use Rattle.pt_meaning.specs.Step.{step_at, no_meetings}
-use Rattle.pt_meaning.specs.Jam.{IsFull}
+use Rattle.pt_meaning.specs.Step.{no_meetings}
+use Rattle.pt_meaning.specs.Job.{meaning}
+use Rattle.pt_meaning.specs.Schedule.{once_top}
+use Rattle.pt_meaning.specs.Asked.{IsJamOf}
 use Rattle.pt_examples.specs.Models.{pn}
 use Rattle.pt_examples.specs.Small.{Token, Act, Add, Scale, rows, ramp}
 
@@ -22,15 +21,9 @@ channels = record { sources = Output 0 0 ∷ Output 2 0 ∷ Output 2 0 ∷ []; p
 abbrev pub jamming : Node Token Act
 jamming = pn channels.sources channels.places [] children
 
-abbrev pub two : ℕ → ℕ
-two channel = 2
+abbrev pub two : Path → ℕ
+two p = 2
 
-abbrev pub facts : Facts Token (Child (Node Token Act))
-facts = child_facts (facts_of rows)
-
-abbrev pub step : Stepping Token (Child (Node Token Act))
-step = child_step (λ i. step_at rows 1 1 no_meetings)
-
--- the network gets into a jam in which the one full channel is the first, with two tokens
+-- In the run of which these firings are finished, the top gets into a jam in which the one full channel is the first, with two tokens.
 abbrev pub JamExample : Type 0
-JamExample = IsFull facts step origin channels (numbered 0 children) ([] ∷ [] ∷ [] ∷ []) two ((0, 2) ∷ [])
+JamExample = IsJamOf rows no_meetings (once_top []) jamming two (meaning 4 rows no_meetings (once_top []) jamming) [] ((0, 2) ∷ [])

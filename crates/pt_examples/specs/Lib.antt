@@ -10,3 +10,4 @@ pub mod Edges
 pub mod Nesting
 pub mod Jams
 pub mod Worked
+pub mod Reports

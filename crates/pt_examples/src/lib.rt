@@ -14,6 +14,7 @@ ghost use Rattle.pt_examples.specs.Modals.{ModalExamples};
 ghost use Rattle.pt_examples.specs.Edges.{EdgeExamples};
 ghost use Rattle.pt_examples.specs.Nesting.{NestingExamples};
 ghost use Rattle.pt_examples.specs.Jams.{JamExample};
+ghost use Rattle.pt_examples.specs.Reports.{ReportExample, UnclosedExample};
 
 /// The small library of the examples keeps what every library of actors owes.
 pub fn small_library_is_lawful()
@@ -63,4 +64,14 @@ pub fn nesting_examples()
 /// A network of capacity 2 gets into a jam, and its one full channel holds two tokens.
 pub fn jam_example()
     ensures { JamExample }
+{}
+
+/// The report of a run has all that a report promises, its closed log and its end among it.
+pub fn report_example()
+    ensures { ReportExample }
+{}
+
+/// A log with a token that nobody gave isn't closed.
+pub fn unclosed_example()
+    ensures { UnclosedExample }
 {}

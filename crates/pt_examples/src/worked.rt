@@ -1,15 +1,13 @@
 //! Some of the examples as values: what was worked by hand, and what the definitions compute.
 ghost use Rattle.std.specs.Prelude.{◌≡◌, [], ◌∷◌, Some};
-ghost use Rattle.pt_meaning.specs.Tag.{origin};
-ghost use Rattle.pt_meaning.specs.Children.{numbered};
+ghost use Rattle.pt_meaning.specs.Asked.{IsJamOf};
 ghost use Rattle.pt_meaning.specs.Headline.{count_in};
-ghost use Rattle.pt_meaning.specs.Jam.{IsFull};
 ghost use Rattle.pt_meaning.specs.Job.{Iterations, Stop, Deadlock, meaning};
 ghost use Rattle.pt_meaning.specs.Schedule.{sdf_top, sr_top, de_top, once_top};
 ghost use Rattle.pt_meaning.specs.Step.{no_meetings};
 ghost use Rattle.pt_examples.specs.Dataflow.{doubled, feedback};
 ghost use Rattle.pt_examples.specs.Events.{clocks, desk, two_summed};
-ghost use Rattle.pt_examples.specs.Jams.{channels, children, facts, step, two};
+ghost use Rattle.pt_examples.specs.Jams.{jamming, two};
 ghost use Rattle.pt_examples.specs.Modals.{below_clock, below_source, has_output, on_and_off, stop_and_go};
 ghost use Rattle.pt_examples.specs.Models.{run, run_under, told, EndedBy};
 ghost use Rattle.pt_examples.specs.Nesting.{switching_events, two_lags};
@@ -117,7 +115,7 @@ pub fn two_lags_trace() -> [Sample; 3]
 
 /// PN: the number and the length of the full channel of a jam.
 pub fn full_channel() -> (u32, u64)
-    ensures { IsFull facts step origin channels (numbered 0 children) ([] ∷ [] ∷ [] ∷ []) two ((result.0, result.1) ∷ []) }
+    ensures { IsJamOf rows no_meetings (once_top []) jamming two (meaning 4 rows no_meetings (once_top []) jamming) [] ((result.0, result.1) ∷ []) }
 {
     (0, 2)
 }

@@ -1,11 +1,13 @@
 -- Jams: a network of which each process has stopped, and that no growth of a channel helps (Parks 1995; the book, "Process Networks and Rendezvous"). The rule of growth and the greatest capacities are by the profile.
-use Rattle.std.specs.Prelude.{◌≡◌, ℕ, suc, ◌≤◌, ◌<◌, List, [], ◌∷◌, Bool, true, false, ◌||◌, nat_eq, length, Option, Some, None}
+use Rattle.std.specs.Prelude.{◌≡◌, ◌⊎◌, ℕ, suc, ◌+◌, ◌≤◌, ◌<◌, List, [], ◌∷◌, ◌++◌, Bool, true, false, ◌&&◌, ◌||◌, not, nat_eq, nat_lt, length, take, drop, Option, Some, None}
 use Rattle.pt_meaning.specs.Tag.{Tag}
-use Rattle.pt_meaning.specs.Streams.{Streams, at, get}
-use Rattle.pt_meaning.specs.Machine.{Stepping, Facts}
+use Rattle.pt_meaning.specs.Streams.{Streams, at, get, change_at, any_present}
+use Rattle.pt_meaning.specs.Machine.{Need, Over, Counts, Any, Stepping, Facts}
 use Rattle.pt_meaning.specs.Net.{Source, Own, Output, Net}
-use Rattle.pt_meaning.specs.Process.{Put}
-use Rattle.pt_meaning.specs.Running.{total}
+use Rattle.pt_meaning.specs.Rounds.{gave}
+use Rattle.pt_meaning.specs.Pn.{pn_limits}
+use Rattle.pt_meaning.specs.Process.{Put, puts_of}
+use Rattle.pt_meaning.specs.Running.{total, runs}
 use Rattle.pt_meaning.specs.Places.{Halfway, taken_if, Consistent, AllStop}
 
 -- the channel of a process's next put
@@ -26,9 +28,42 @@ IsBetween net c = (is_fed (get net.sources c) ≡ true) × (c < total net.places
 abbrev pub HoldsAtMost : {T : Type 0} → Net → (capacity : ℕ → ℕ) → Halfway T → Type 0
 HoldsAtMost net capacity h = (c : ℕ) → IsBetween net c → length (at h.queued c) ≤ capacity c
 
+-- a process has gathered in the order of its places, and no more than it needs
+abbrev pub is_empty : {T : Type 0} → Streams T → Bool
+is_empty X = not (any_present X)
+
+abbrev pub is_in_order : {T : Type 0} → List ℕ → Streams T → Bool
+is_in_order [] X = is_empty X
+is_in_order (n ∷ ns) [] = true
+is_in_order (n ∷ ns) (xs ∷ X) = (nat_eq (length xs) n && is_in_order ns X) || (nat_lt (length xs) n && is_empty X)
+
+abbrev pub is_gathering : {T : Type 0} → List (Put T) → Need → Streams T → Bool
+is_gathering (u ∷ us) need got = is_empty got
+is_gathering [] Over got = is_empty got
+is_gathering [] (Counts ns) got = is_in_order ns got
+is_gathering [] Any got = false
+
+-- each process does so, from process i and channel offset on; one that has puts to make has gathered nothing
+abbrev pub AllGather : {T S : Type 0} → Facts T S → Halfway T → (i offset : ℕ) → List ℕ → List S → Type 0
+AllGather facts h i offset [] ss = Unit {0}
+AllGather facts h i offset (n ∷ ns) [] = Unit {0}
+AllGather facts h i offset (n ∷ ns) (s ∷ ss) = (is_gathering (at h.puts i) (facts.need s) (take n (drop offset h.gathered)) ≡ true) × AllGather facts h (suc i) (offset + n) ns ss
+
+-- the puts that process i has still to make are the last ones of its last firing, in order of ports, tokens and channels
+pub record IsPutting {T S : Type 0} (facts : Facts T S) (step : Stepping T S) (tag : Tag) (net : Net) (kids : List S) (all : Streams T) (ms : List ℕ) (h : Halfway T) (i : ℕ) : Type 0 where
+  pub before : ℕ
+  pub outputs : Streams T
+  pub put : List (Put T)
+  pub fired : get ms i ≡ Some (suc before)
+  pub last : (port : ℕ) →
+      gave (runs facts step tag net.places (pn_limits net.places) ms kids all) i port ≡ gave (runs facts step tag net.places (pn_limits net.places) (change_at i (λ m. before) ms) kids all) i port ++ at outputs port
+  pub rest : puts_of net.sources i 0 outputs ≡ put ++ at h.puts i
+
 -- A jam: every process has stopped, one at least at a put on a full channel, and each channel so waited for is between two processes and has its greatest capacity.
 pub record Jam {T S : Type 0} (facts : Facts T S) (step : Stepping T S) (tag : Tag) (net : Net) (kids : List S) (start : Streams T) (greatest : ℕ → ℕ) (ms : List ℕ) (now : List S) (h : Halfway T) : Type 0 where
   pub consistent : Consistent facts step tag net kids start ms now h
+  pub gathers : AllGather facts h 0 0 net.places now
+  pub puts : (i : ℕ) → (at h.puts i ≡ []) ⊎ IsPutting facts step tag net kids consistent.running.all ms h i
   pub fits : HoldsAtMost net greatest h
   pub stop : AllStop facts greatest h 0 0 net.places now
   pub waits : (i : ℕ) × (c : ℕ) × WaitsFor h i c

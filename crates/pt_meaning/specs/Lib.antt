@@ -49,3 +49,4 @@ pub mod Running
 pub mod Places
 pub mod Jam
 pub mod AnyOrder
+pub mod Asked

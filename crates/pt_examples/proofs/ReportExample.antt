@@ -1,0 +1,204 @@
+-- The example of a report is one.
+use Rattle.std.proofs.Common.{◌≡◌, ◌≤◌, ◌⊎◌, inl, inr, ℕ, zero, suc, List, [], ◌∷◌, ◌++◌, length, Some, None, Bool, true, false, nat_le, refl, sym, ap, subst, arith}
+use Rattle.pt_meaning.specs.Tag.{Tag, origin}
+use Rattle.pt_meaning.specs.Streams.{IsPrefix, get}
+use Rattle.pt_meaning.specs.Log.{Path, Firing, Event, Finished, Log, meetings_in, firings_in}
+use Rattle.pt_meaning.specs.Flow.{flow}
+use Rattle.pt_meaning.specs.Rounds.{round}
+use Rattle.pt_meaning.specs.Kahn.{kahn}
+use Rattle.pt_meaning.specs.Step.{step_at, no_meetings}
+use Rattle.pt_meaning.specs.Job.{Course, Standing, Goes, Ended, Halted, Iterations, after, begin, meaning, log_of}
+use Rattle.pt_meaning.specs.Closed.{Has, UnderWay, CameWithin, rounds_of, core_at, these_if, source_of, actor_at, state_after, given, taken, IsCausedAt, MayKnow, Nothing, Absence, Gave, Early}
+use Rattle.pt_meaning.specs.Machine.{Partial, Known, partial_at}
+use Rattle.pt_meaning.specs.Net.{Output}
+use Rattle.pt_meaning.specs.Tree.{Core, Sdf}
+use Rattle.pt_meaning.proofs.MeaningLaws.{meaning_grows}
+use Rattle.pt_examples.specs.Small.{Token, Act, int, ramp, rows}
+use Rattle.pt_examples.specs.Dataflow.{doubled}
+use Rattle.pt_examples.specs.Reports.{once, scale_alone, ReportExample, UnclosedExample}
+use Rattle.pt_examples.proofs.SmallLaws.{small_is_lawful}
+
+-- the three firings, and the log of them
+abbrev of_top : Firing Token
+of_top = record { number = 0; tag = origin; inputs = []; outputs = [] }
+
+abbrev of_ramp : Firing Token
+of_ramp = record { number = 0; tag = origin; inputs = []; outputs = (int 0 ∷ []) ∷ [] }
+
+abbrev of_scale : Firing Token
+of_scale = record { number = 0; tag = origin; inputs = (int 0 ∷ []) ∷ []; outputs = (int 0 ∷ []) ∷ [] }
+
+abbrev all_told : Log Token
+all_told [] = Finished [] of_top ∷ []
+all_told (zero ∷ []) = Finished (0 ∷ []) of_ramp ∷ []
+all_told (suc zero ∷ []) = Finished (0 ∷ []) of_scale ∷ []
+all_told (i ∷ p) = []
+
+abbrev start : Core Token
+start = Sdf (record { net = record { sources = Output 0 0 ∷ []; places = 0 ∷ 1 ∷ [] }; repetitions = 1 ∷ 1 ∷ []; takes = []; gives = []; rates = (1 ∷ []) ∷ (1 ∷ []) ∷ [] }) ([] ∷ [])
+
+abbrev course_of : Standing Token Act → Course Token Act
+course_of (Goes c) = c
+course_of (Ended e c) = c
+course_of (Halted fs l) = begin doubled
+
+abbrev course : Course Token Act
+course = course_of (after 5 rows no_meetings once 5 (begin doubled))
+
+is_all : (p : Path) → all_told p ≡ course.log p
+unfolding after step_at kahn round flow
+is_all [] = refl
+is_all (zero ∷ []) = refl
+is_all (suc zero ∷ []) = refl
+is_all (suc (suc i) ∷ []) = refl
+is_all (zero ∷ j ∷ p) = refl
+is_all (suc zero ∷ j ∷ p) = refl
+is_all (suc (suc i) ∷ j ∷ p) = refl
+
+ends : (k : ℕ) → 5 ≤ k → after k rows no_meetings once k (begin doubled) ≡ Ended Iterations course
+unfolding after step_at kahn round flow
+ends k h = meaning_grows rows small_is_lawful no_meetings once doubled 5 k h
+
+is_meaning : (k : ℕ) → 5 ≤ k → (p : Path) → all_told p ≡ meaning k rows no_meetings once doubled p
+is_meaning k h p = let e : log_of (after k rows no_meetings once k (begin doubled)) p ≡ course.log p = ap (λ s. log_of s p) (ends k h) in let f = is_all p in cc
+
+prefix-same : {A : Type 0} (xs : List A) → IsPrefix xs xs
+prefix-same [] = tt
+prefix-same (x ∷ xs) = (refl, prefix-same xs)
+
+is_prefix : (p : Path) → IsPrefix (all_told p) (meaning 5 rows no_meetings once doubled p)
+is_prefix p = subst (λ xs. IsPrefix (all_told p) xs) (is_meaning 5 (omega arith) p) (prefix-same (all_told p))
+
+no_meeting : (p : Path) (n : ℕ) → no_meetings p n ≡ meetings_in n (all_told p)
+no_meeting [] n = refl
+no_meeting (zero ∷ []) n = refl
+no_meeting (suc zero ∷ []) n = refl
+no_meeting (suc (suc i) ∷ []) n = refl
+no_meeting (zero ∷ j ∷ p) n = refl
+no_meeting (suc zero ∷ j ∷ p) n = refl
+no_meeting (suc (suc i) ∷ j ∷ p) n = refl
+
+-- nothing came but in the top's firing
+few_rounds : (p : Path) (e : Event Token) → Has e (all_told p) → (rounds_of e ≡ []) ⊎ (rounds_of e ≡ 0 ∷ [])
+few_rounds [] e (inl x) = inl (ap rounds_of x)
+few_rounds [] e (inr x) = absurd x
+few_rounds (zero ∷ []) e (inl x) = inr (ap rounds_of x)
+few_rounds (zero ∷ []) e (inr x) = absurd x
+few_rounds (suc zero ∷ []) e (inl x) = inr (ap rounds_of x)
+few_rounds (suc zero ∷ []) e (inr x) = absurd x
+few_rounds (suc (suc i) ∷ []) e h = absurd h
+few_rounds (zero ∷ j ∷ p) e h = absurd h
+few_rounds (suc zero ∷ j ∷ p) e h = absurd h
+few_rounds (suc (suc i) ∷ j ∷ p) e h = absurd h
+
+within_first : (p : Path) (n : ℕ) (r : Path) (e : Event Token) → CameWithin all_told p n r e → (p ≡ []) × (n ≡ 0)
+within_first p n r e h = go p (rounds_of e) (few_rounds (p ++ r) e h.0) h.1
+  where
+    go : (p : Path) (ns : List ℕ) → (ns ≡ []) ⊎ (ns ≡ 0 ∷ []) → get ns (length p) ≡ Some n → (p ≡ []) × (n ≡ 0)
+    go p ns (inl a) g = absurd (let f : get [] (length p) ≡ Some n = subst (λ xs. get xs (length p) ≡ Some n) a g in cc)
+    go [] ns (inr a) g = let f : get (0 ∷ []) 0 ≡ Some n = subst (λ xs. get xs 0 ≡ Some n) a g in (refl, cc)
+    go (i ∷ p) ns (inr a) g = absurd (let f : get (0 ∷ []) (suc (length p)) ≡ Some n = subst (λ xs. get xs (suc (length p)) ≡ Some n) a g in cc)
+
+abbrev none_under_way : UnderWay Token
+none_under_way p = None
+
+-- no firing of the top is under way
+all_finished : (p : Path) (n : ℕ) (r : Path) (e : Event Token) → CameWithin all_told p n r e → firings_in (all_told p) ≡ n → ⊥
+all_finished p n r e w f = let z = within_first p n r e w in let g : firings_in (all_told []) ≡ n = subst (λ s. firings_in (all_told s) ≡ n) z.0 f in let y = z.1 in omega (arith, g, y)
+
+-- The one token taken, by the Scale, was given by the Ramp; no other child takes any.
+given_is_taken : (b c : Bool) (x : Token) → IsPrefix (these_if b (x ∷ []) [] ++ these_if c [] []) (these_if b (x ∷ []) [])
+given_is_taken true true x = (refl, tt)
+given_is_taken true false x = (refl, tt)
+given_is_taken false true x = tt
+given_is_taken false false x = tt
+
+none_taken : (b c : Bool) (Y : List Token) → IsPrefix (these_if b [] [] ++ these_if c [] []) Y
+none_taken true true Y = tt
+none_taken true false Y = tt
+none_taken false true Y = tt
+none_taken false false Y = tt
+
+none_there : (c : Bool) (Y : List Token) → IsPrefix (these_if c [] []) Y
+none_there true Y = tt
+none_there false Y = tt
+
+caused_at : (i q n : ℕ) → IsCausedAt rows doubled all_told none_under_way [] start i q n
+caused_at zero q n = inl (0, omega arith, inl refl, none_taken (nat_le 0 n) (nat_le 1 n) _)
+caused_at (suc zero) zero n = inl (0, omega arith, inl refl, given_is_taken (nat_le 0 n) (nat_le 1 n) (int 0))
+caused_at (suc zero) (suc q) n = inl (0, omega arith, inl refl, none_taken (nat_le 0 n) (nat_le 1 n) _)
+caused_at (suc (suc i)) q n = inl (0, omega arith, inl refl, none_there (nat_le 1 n) _)
+
+has_cause : (p : Path) (c : Core Token) → core_at p doubled ≡ Some c → (i q n : ℕ) → n ≤ firings_in (all_told p) → IsCausedAt rows doubled all_told none_under_way p c i q n
+has_cause [] c e i q n h = subst (λ d. IsCausedAt rows doubled all_told none_under_way [] d i q n) (cc) (caused_at i q n)
+has_cause (zero ∷ []) c e i q n h = absurd (cc)
+has_cause (suc zero ∷ []) c e i q n h = absurd (cc)
+has_cause (suc (suc j) ∷ p) c e i q n h = absurd (cc)
+has_cause (zero ∷ j ∷ p) c e i q n h = absurd (cc)
+has_cause (suc zero ∷ j ∷ p) c e i q n h = absurd (cc)
+
+pub report_example : ReportExample
+unfolding after
+report_example = record {
+  log = all_told;
+  legal = λ p n. (0, refl);
+  met = no_meeting;
+  prefix = (5, is_prefix);
+  shut = λ k h. record {
+    inside = record {
+      under_way = none_under_way;
+      caused = has_cause;
+      begun = λ p n r e w f. absurd (all_finished p n r e w f);
+      enclosed = λ p i b e. absurd (cc);
+      finished = λ p n r e w. let z = within_first p n r e w in let y = z.1 in omega (arith, y);
+      whole = λ p n r e w k l r' g v. absurd (let z = within_first p n r e w in let y = z.1 in omega (arith, y, l));
+    };
+    next = λ b e. absurd (cc);
+  };
+  told = (refl, tt);
+  caused = ((5, is_meaning), (5, course, ends 5 (omega arith)), omega arith);
+}
+
+-- nothing may be known of the Scale's place: the Ramp gave nothing in the log, and gives nothing early
+no_events : (before since later : List (Event Token)) → [] ≡ before ++ (since ++ later) → since ≡ []
+no_events [] [] later e = refl
+no_events [] (s ∷ since) later e = absurd (cc)
+no_events (b ∷ before) since later e = absurd (cc)
+
+strict_ramp : (tag : Tag) (state : Act) (vs : List (Partial Token)) (port : ℕ) (xs : List Token) → state ≡ ramp → partial_at (rows.early tag state vs) port ≡ Known xs → ⊥
+strict_ramp tag state vs port xs e f = let g : partial_at (rows.early tag ramp vs) port ≡ Known xs = subst (λ a. partial_at (rows.early tag a vs) port ≡ Known xs) e f in absurd (cc)
+
+given_none : (under_way : UnderWay Token) (n i q : ℕ) → i ≡ 1 → q ≡ 0 → given rows doubled scale_alone under_way [] (source_of start i q) n n ≡ []
+given_none u n i q a b = subst (λ c. given rows doubled scale_alone u [] (source_of start c q) n n ≡ []) (sym a) (subst (λ c. given rows doubled scale_alone u [] (source_of start 1 c) n n ≡ []) (sym b) refl)
+
+nothing_known : (under_way : UnderWay Token) (n : ℕ) (tag : Tag) (i q : ℕ) (v : Partial Token) → MayKnow rows doubled scale_alone under_way [] start n tag i q v → i ≡ 1 → q ≡ 0 → (xs : List Token) → v ≡ Known xs → xs ≡ []
+nothing_known u n tag _ _ _ (Nothing i q) a b xs e = absurd (cc)
+nothing_known u n tag _ _ _ (Absence i q) a b xs e = cc
+nothing_known u n tag _ _ _ (Gave i q) a b xs e = let g = given_none u n i q a b in cc
+nothing_known u n tag _ _ _ (Early i q j port first state before since later vs ys s t l r k f) a b xs e = absurd (strict_ramp tag state vs port ys is_ramp f)
+  where
+    at_one : source_of start 1 q ≡ Some (Output j port)
+    at_one = subst (λ c. source_of start c q ≡ Some (Output j port)) a s
+
+    from_ramp : Some (Output 0 0) ≡ Some (Output j port)
+    from_ramp = subst (λ c. source_of start 1 c ≡ Some (Output j port)) b at_one
+
+    child : j ≡ 0
+    child = let c = from_ramp in cc
+
+    first_is : first ≡ ramp
+    first_is = let c : actor_at (0 ∷ []) doubled ≡ Some first = subst (λ c. actor_at (c ∷ []) doubled ≡ Some first) child t in cc
+
+    none_since : since ≡ []
+    none_since = no_events before since later (subst (λ c. scale_alone (c ∷ []) ≡ before ++ (since ++ later)) child l)
+
+    is_ramp : state ≡ ramp
+    is_ramp = let c : Some first ≡ Some state = subst (λ es. state_after rows es first ≡ Some state) none_since r in let d = first_is in cc
+
+pub unclosed_example : UnclosedExample
+unclosed_example whole closed = go (closed.caused [] start refl 1 0 0 (omega arith))
+  where
+    go : IsCausedAt rows doubled scale_alone closed.under_way [] start 1 0 0 → ⊥
+    go (inl (r, few, inl zero_is, below)) = subst (λ c. IsPrefix (taken rows doubled scale_alone closed.under_way [] 1 0 c 0) []) zero_is below
+    go (inl (r, few, inr modal, below)) = absurd (cc)
+    go (inr (b, begun, xs, known, below)) = subst (λ ys. IsPrefix (taken rows doubled scale_alone closed.under_way [] 1 0 0 0) ys) (nothing_known closed.under_way 0 b.tag 1 0 (Known xs) known refl refl xs refl) below
