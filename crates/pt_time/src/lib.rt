@@ -1,0 +1,8 @@
+//! Tags of superdense time: ticks, and microsteps at each tick.
+#![tactic(auto)]
+
+mod tag;
+#[cfg(test)]
+mod tests;
+
+pub use tag::{Tag, after, clamp, local, outer};
