@@ -11,7 +11,8 @@ use Rattle.pt_flat.specs.Actors.{trigger_count}
 use Rattle.pt_top.specs.declared.model.BuiltClass.{BuiltClass}
 use Rattle.pt_top.specs.declared.model.BuiltClass.TheVariants.{Ramp, Scale, AddSubtract}
 use Rattle.pt_top.specs.declared.model.Inputs.{Inputs}
-use Rattle.pt_top.specs.Model.{is_to_port, built_class, IsActorOf, IsActor, AreActors, HasInputs}
+use Rattle.pt_flat.specs.Model.{AreMatched}
+use Rattle.pt_top.specs.Model.{is_to_port, built_class, feeds_from, IsActorOf, IsActor, AreActors, HasInputs, IsFlat, IsNotFlat}
 use Rattle.pt_top.proofs.Integers.{one-integer}
 
 -- what is counted is what the net has
@@ -70,3 +71,13 @@ as-many ks i [] [] h = refl
 as-many ks i [] (a ∷ xs) h = absurd h
 as-many ks i (e ∷ es) [] h = absurd h
 as-many ks i (e ∷ es) (a ∷ xs) h = ap (λ n. suc n) (as-many ks (suc i) es xs h.1)
+
+-- what doesn't match has no flat model
+pub no-flat : (ks : List Channel) (es : List NetEntity) (actors : List Actor) (feeds : List (List ℕ)) → AreActors ks 1 es actors → feeds ≡ feeds_from ks 1 (length es) → (AreMatched actors feeds → ⊥) → IsNotFlat ks es
+no-flat ks es actors feeds h e unmatched others more flat order =
+    let same : others ≡ actors = one-list ks 1 es others actors flat.actors_are h in
+    let fed : more ≡ feeds = flat.feeds_are ∙ sym e in
+    unmatched (subst (λ v. AreMatched v feeds) same (subst (λ v. AreMatched others v) fed flat.matched))
+
+pub never-true : {b : Bool} → b ≡ false → b ≡ true → ⊥
+never-true n y = absurd (cc)

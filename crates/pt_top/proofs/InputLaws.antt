@@ -7,7 +7,7 @@ use Rattle.std.proofs.lemmas.List.Elements.{filter-append}
 use Rattle.std.proofs.lemmas.List.Sums.{count_by-le-length, sum_by-append}
 use Rattle.pt_graph.specs.declared.net.Channel.{Channel}
 use Rattle.pt_top.specs.declared.model.Inputs.{Inputs}
-use Rattle.pt_top.specs.Model.{is_to, is_to_port, source_actor, feeds_of, counted, HasInputs, AreInputs}
+use Rattle.pt_top.specs.Model.{is_to, is_to_port, source_actor, feeds_of, counted, feeds_from, HasInputs, AreInputs}
 
 -- how many pass a test, with one more
 count-more : (p : Channel → Bool) (xs : List Channel) (k : Channel) (b : Bool) → p k ≡ b → count_by p (xs ++ k ∷ []) ≡ count_by p xs + cond b 1 0
@@ -76,3 +76,8 @@ input-at ks i (suc p) (z ∷ xs) x a l e = let n : suc i + p ≡ i + suc p = ome
 pub none-more : (i j : ℕ) (xs : List Inputs) (x : Inputs) → HasInputs [] j x → AreInputs [] i xs → AreInputs [] i (xs ++ x ∷ [])
 none-more i j [] x h a = (record { feeds = h.feeds; first = h.first; second = h.second }, tt)
 none-more i j (z ∷ xs) x h a = (a.0, none-more (suc i) j xs x h a.1)
+
+-- what feeds the places of all
+pub feeds_are : (ks : List Channel) (i : ℕ) (xs : List Inputs) → AreInputs ks i xs → map (λ x. x.feeds.items) xs ≡ feeds_from ks i (length xs)
+feeds_are ks i [] a = refl
+feeds_are ks i (x ∷ xs) a = ap₂ (λ v w. v ∷ w) a.0.feeds (feeds_are ks (suc i) xs a.1)

@@ -242,13 +242,16 @@ impl From<AllocError> for ModelFault {
     }
 }
 
+/// Who feeds the places of each actor.
+#[tactic(auto, using(crate::proofs::InputLaws::feeds_are))]
 fn feeds_in(alloc: Global, inputs: Vec<Inputs>) -> Result<Vec<Feeds>, AllocError>
     ensures { IfOk result (λ feeds. (ks : List Channel) → AreInputs ks 1 inputs.items → feeds.items ≡ feeds_from ks 1 (length inputs.items)) }
 {
-    inputs
-        .into_iter()
-        .map(|input| Feeds::new(input.feeds))
-        .collect(alloc)
+    let mut feeds = Vec::new(alloc);
+    for input in inputs {
+        feeds.push(Feeds::new(input.feeds))?;
+    }
+    Ok(feeds)
 }
 
 /// The flat model of entities and the channels between them.
