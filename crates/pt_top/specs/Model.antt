@@ -111,10 +111,19 @@ pub record FlatModel : Type 0 where
 abbrev pub recorded_actor : NetPort → ℕ
 recorded_actor p = p.entity - 1
 
+-- A top around no ports and no parameters but its director's: all that runs stands in its children.
+pub record IsPlain (net : Net) (top : NetEntity) : Type 0 where
+  pub composite : top.class ≡ codes "Composite"
+  pub ports : top.ports.items ≡ []
+  pub inputs : net.inputs.items ≡ []
+  pub parameters : top.parameters.items ≡ []
+  pub transparent : All (λ t. t.parameters.items ≡ []) net.transparent.items
+
 pub record IsModel (net : Net) (m : FlatModel) : Type 0 where
   pub top : NetEntity
   pub rest : List NetEntity
   pub entities : net.entities.items ≡ top ∷ rest
+  pub plain : IsPlain net top
   pub director : IsDirected (entity_view top).director m.iterations
   pub few : length rest ≤ 50
   pub few_channels : length net.channels.items ≤ 100000

@@ -5,11 +5,11 @@ ghost use Rattle.pt_graph.specs.declared.net.Channel.{Channel};
 ghost use Rattle.pt_graph.specs.Net.{director_view, entity_view};
 ghost use Rattle.pt_flat.specs.declared.actor.Actor.{Actor};
 ghost use Rattle.pt_flat.specs.Model.{AreMatched, IsLawful};
-ghost use Rattle.pt_top.specs.Model.{IsDirected, IsActorOf, IsInner, AreInputs, AreActors, IsFlat, IsNotFlat, feeds_from, counted, built_class};
+ghost use Rattle.pt_top.specs.Model.{IsDirected, IsActorOf, IsInner, AreInputs, AreActors, IsFlat, IsNotFlat, IsPlain, IsModel, IsUnbuilt, flat_model, recorded_actor, feeds_from, counted, built_class};
 
 use crate::integer::integer_parameter;
 use pt_flat::{Actor, AddSubtract, Feeds, Flat, FlatFault, Ramp, Scale, are_matched};
-use pt_graph::{Channel, NetDirector, NetEntity, NetPort};
+use pt_graph::{Channel, Net, NetDirector, NetEntity, NetPort};
 use pt_moml::Property;
 use std::alloc::{AllocError, Global};
 use thiserror::Error;
@@ -287,4 +287,59 @@ pub struct Model {
     pub flat: Flat,
     pub iterations: u64,
     pub recorded: Vec<usize>,
+}
+
+const MOST_ACTORS: usize = 50;
+const MOST_CHANNELS: usize = 100_000;
+
+/// Whether the top and the transparent composites have nothing but children, links and a director.
+fn is_plain(net: &Net, top: &NetEntity) -> bool
+    ensures { IsTrue result ↔ IsPlain net.now top.now }
+{
+    top.class.as_str() == "Composite"
+        && top.ports.is_empty()
+        && net.inputs.is_empty()
+        && top.parameters.is_empty()
+        && net
+            .transparent
+            .iter()
+            .all(|composite| composite.parameters.is_empty())
+}
+
+/// The numbers of the actors whose outputs are recorded.
+fn recorded_actors(alloc: Global, ports: &[NetPort]) -> Result<Vec<usize>, AllocError>
+    requires { All (λ p. 0 < p.entity) ports.now }
+    ensures { IfOk result (λ actors. actors.items ≡ map recorded_actor ports.now) }
+{
+    ports
+        .iter()
+        .map(|port| port.entity as usize - 1)
+        .collect(alloc)
+}
+
+/// The flat model of a net whose form is built.
+pub fn model_of(alloc: Global, net: &Net) -> Result<Model, ModelFault>
+    ensures model { IfOk result (λ m. IsModel net.now (flat_model m)) }
+    ensures lawful { IfOk result (λ m. IsLawful m.flat.actors.items m.flat.feeds.items m.flat.order.items) }
+    ensures unbuilt { IsErrOf result ModelFault.Unbuilt → IsUnbuilt net.now }
+{
+    let Some((top, rest)) = net.entities.split_first() else {
+        return Err(ModelFault::Unbuilt);
+    };
+    let Some(iterations) = iterations_of(top.director.as_ref()) else {
+        return Err(ModelFault::Unbuilt);
+    };
+    if !is_plain(net, top) || rest.len() > MOST_ACTORS || net.channels.len() > MOST_CHANNELS {
+        return Err(ModelFault::Unbuilt);
+    }
+    if !are_inner(&net.channels) || !are_there(&net.recorded, rest.len()) {
+        return Err(ModelFault::Unbuilt);
+    }
+    let recorded = recorded_actors(alloc, &net.recorded)?;
+    let flat = flat_of(alloc, &net.channels, rest)?;
+    Ok(Model {
+        flat,
+        iterations,
+        recorded,
+    })
 }
