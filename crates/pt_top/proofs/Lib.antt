@@ -1,3 +1,4 @@
 pub mod Integers
 pub mod InputLaws
 pub mod ActorLaws
+pub mod ModelLaws

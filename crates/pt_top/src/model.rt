@@ -1,5 +1,5 @@
 // The flat model of a net.
-ghost use Rattle.std.specs.Prelude.{All, ◌≡◌, ◌<◌, ◌≤◌, ◌-◌, ◌^◌, ℕ, List, length, map, IfSome, IfNone, IfOk, OnOk, IsErrOf, IsTrue, ◌↔◌, ◌==◌, ◌++◌, ◌∷◌, [], option_map, codes};
+ghost use Rattle.std.specs.Prelude.{All, ◌≡◌, ◌<◌, ◌≤◌, ◌-◌, ◌^◌, ℕ, List, length, map, IfSome, IfNone, IfOk, OnOk, IsErrOf, IsTrue, ◌↔◌, ◌==◌, ◌++◌, ◌∷◌, [], codes, Some};
 ghost use Rattle.pt_moml.specs.View.{properties_view};
 ghost use Rattle.pt_graph.specs.declared.net.Channel.{Channel};
 ghost use Rattle.pt_graph.specs.Net.{director_view, entity_view};
@@ -35,14 +35,11 @@ fn built_class_of(name: &str) -> Option<BuiltClass>
 
 const MOST_ITERATIONS: i64 = 10_000;
 
-/// The iterations of an SDF director, if they are built.
-fn iterations_of(director: Option<&NetDirector>) -> Option<u64>
-    ensures some { IfSome result (λ n. IsDirected (option_map (λ d. director_view d.now) director.entry) n) }
-    ensures none { IfNone result ((n : ℕ) → IsDirected (option_map (λ d. director_view d.now) director.entry) n → ⊥) }
+/// The iterations that a director of class SDF makes, if they are built.
+fn iterations_of(director: &NetDirector) -> Option<u64>
+    ensures some { IfSome result (λ n. IsDirected (Some (director_view director.now)) n) }
+    ensures none { IfNone result ((n : ℕ) → IsDirected (Some (director_view director.now)) n → ⊥) }
 {
-    let Some(director) = director else {
-        return None;
-    };
     if director.class.as_str() != "SDF" {
         return None;
     }
@@ -53,6 +50,17 @@ fn iterations_of(director: Option<&NetDirector>) -> Option<u64>
         return None;
     }
     Some(iterations as u64)
+}
+
+/// The iterations of a top, if they are built.
+fn iterations_in(top: &NetEntity) -> Option<u64>
+    ensures some { IfSome result (λ n. IsDirected (entity_view top.now).director n) }
+    ensures none { IfNone result ((n : ℕ) → IsDirected (entity_view top.now).director n → ⊥) }
+{
+    match &top.director {
+        Some(director) => iterations_of(director),
+        None => None,
+    }
 }
 
 /// The Ramp with these parameters, to whose trigger so many channels come.
@@ -326,7 +334,7 @@ pub fn model_of(alloc: Global, net: &Net) -> Result<Model, ModelFault>
     let Some((top, rest)) = net.entities.split_first() else {
         return Err(ModelFault::Unbuilt);
     };
-    let Some(iterations) = iterations_of(top.director.as_ref()) else {
+    let Some(iterations) = iterations_in(top) else {
         return Err(ModelFault::Unbuilt);
     };
     if !is_plain(net, top) || rest.len() > MOST_ACTORS || net.channels.len() > MOST_CHANNELS {
