@@ -8,3 +8,4 @@ pub mod Trees
 pub mod PropertyViews
 pub mod Nests
 pub mod Entities
+pub mod TypeWords

@@ -4,6 +4,7 @@ pub mod View
 pub mod Classes
 pub mod Outcome
 pub mod Names
+pub mod TypeTexts
 pub mod Fields
 pub mod Rules
 pub mod Limits

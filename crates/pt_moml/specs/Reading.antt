@@ -22,6 +22,7 @@ use Rattle.pt_moml.specs.Document.{PropertyTree, property, to_properties, proper
 use Rattle.pt_moml.specs.Classes.{Kind, Composite, Modal, Actor, kind_of}
 use Rattle.pt_moml.specs.Outcome.{◌>>=◌, refused}
 use Rattle.pt_moml.specs.Names.{top_path, below}
+use Rattle.pt_moml.specs.TypeTexts.{is_type_text}
 use Rattle.pt_moml.specs.Fields.{text_at, required_text, optional_text, name_at, required_truth, optional_truth, required_whole, listed, required_list, optional_list, distinct_at}
 use Rattle.pt_moml.specs.Rules.{parts_fit}
 use Rattle.pt_moml.specs.Limits.{nest_field, is_within}
@@ -83,6 +84,11 @@ direction_at path true false = Ok Input
 direction_at path false true = Ok Output
 direction_at path _ _ = refused Shape path
 
+-- a port may declare the text of a type
+unfoldable pub declared_at : List ℕ → Option Data → Result (Option (List ℕ)) Refusal
+declared_at path None = Ok None
+declared_at path (Some d) = text_at path d >>= λ s. if is_type_text s then Ok (Some s) else refused Shape path
+
 unfoldable pub port_at : List ℕ → Data → Result PortTree Refusal
 port_at path d = do
   _ ← listed path port_fields d
@@ -90,7 +96,7 @@ port_at path d = do
   input ← optional_truth path (get (codes "input") d)
   output ← optional_truth path (get (codes "output") d)
   direction ← direction_at path input output
-  declared ← optional_text path (get (codes "type") d)
+  declared ← declared_at path (get (codes "type") d)
   properties ← properties_field path (get (codes "properties") d)
   Ok (record { name = name; direction = direction; declared = declared; properties = properties })
 

@@ -16,6 +16,7 @@ mod property;
 mod refusal;
 mod rules;
 mod tables;
+mod type_text;
 
 pub use classes::{
     Arity, Class, ClassParameter, ClassPort, ClassRow, Director, DirectorClass, DirectorRow, Kind,
