@@ -31,3 +31,6 @@ pub use job::{
 pub use names::{is_layout, is_name, is_reserved};
 pub use refusal::{DocFault, Refusal};
 pub use tables::{CLASSES, DIRECTORS};
+
+#[cfg(test)]
+mod tests;
