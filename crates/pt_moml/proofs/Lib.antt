@@ -9,3 +9,6 @@ pub mod PropertyViews
 pub mod Nests
 pub mod Entities
 pub mod TypeWords
+pub mod Chains
+pub mod ItemLists
+pub mod FieldLaws

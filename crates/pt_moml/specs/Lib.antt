@@ -9,3 +9,5 @@ pub mod Fields
 pub mod Rules
 pub mod Limits
 pub mod Reading
+pub mod Forms
+pub mod Stands
