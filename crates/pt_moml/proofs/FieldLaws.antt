@@ -221,11 +221,11 @@ fine_list form d ds is items code (in_item es i x given at_i stands) = let same 
 abbrev pub ItemsRead : {A : Type 0} → List ℕ → Form → (Data → Result A Refusal) → Data → Type 0
 ItemsRead path form read d = (ds : Items) → as_array d ≡ Some ds → (i : ℕ) (x : Data) → get_item i ds ≡ Some x → Reads path form (read x) x
 
-no_list_reads : {A : Type 0} (path : List ℕ) (form : Form) (read : Result (List A) Refusal) (d : Data) → read ≡ refused Shape path → as_array d ≡ None → Reads path (list form) read d
+pub no_list_reads : {A : Type 0} (path : List ℕ) (form : Form) (read : Result (List A) Refusal) (d : Data) → read ≡ refused Shape path → as_array d ≡ None → Reads path (list form) read d
 no_list_reads path form read d is none =
     record { told = λ r e. moved r Shape path (list form) d (is_refused Shape path r (sym is ∙ e)) (no_list none); clean = λ xs e. absurd (never_ok Shape path xs (sym is ∙ e)) }
 
-items_read : {A : Type 0} (path : List ℕ) (form : Form) (read : Data → Result A Refusal) (ds : Items) → ItemsRead path form read (array ds) → Reads path (list form) (items_at read [] ds) (array ds)
+pub items_read : {A : Type 0} (path : List ℕ) (form : Form) (read : Data → Result A Refusal) (ds : Items) → ItemsRead path form read (array ds) → Reads path (list form) (items_at read [] ds) (array ds)
 items_read path form read ds items =
     record {
       told = λ r e. (let t = items_told read [] ds r e in let s = (items ds refl t.0 t.1 t.2).told r t.3 in (s.0, in_item ds t.0 t.1 refl t.2 s.1));
@@ -291,12 +291,6 @@ named_value path form read name m ds is names reads =
     }
 
 -- what isn't a list isn't one of names that differ
-pub no_named_reads : {A : Type 0} (path : List ℕ) (form : Form) (name : A → List ℕ) (m : Result (List A) Refusal) (d : Data) → as_array d ≡ None → Reads path (list form) m d → ((xs : List A) → m ≡ Ok xs → ⊥) → Reads path (named form) (m >>= λ xs. named_list path name xs) d
-no_named_reads path form name m d none reads never =
-    record {
-      told = λ r e. elim (bind_err m (λ xs. named_list path name xs) r e) [
-        | inl h ↦ (let t = reads.told r h in (t.0, in_list t.1))
-        | inr h ↦ absurd (never h.0 h.1)
-      ];
-      clean = λ ys e. (let h = bind_ok m (λ xs. named_list path name xs) ys e in absurd (never h.0 h.1));
-    }
+pub no_named_reads : {A : Type 0} (path : List ℕ) (form : Form) (read : Result (List A) Refusal) (d : Data) → read ≡ refused Shape path → as_array d ≡ None → Reads path (named form) read d
+no_named_reads path form read d is none =
+    record { told = λ r e. (let t = (no_list_reads path form read d is none).told r e in (t.0, in_list t.1)); clean = λ xs e. absurd (never_ok Shape path xs (sym is ∙ e)) }

@@ -12,3 +12,7 @@ pub mod TypeWords
 pub mod Chains
 pub mod ItemLists
 pub mod FieldLaws
+pub mod ObjectLaws
+pub mod PlainObjects
+pub mod PropertyLaws
+pub mod PortLaws
