@@ -16,3 +16,4 @@ pub mod ObjectLaws
 pub mod PlainObjects
 pub mod PropertyLaws
 pub mod PortLaws
+pub mod RuleLaws
