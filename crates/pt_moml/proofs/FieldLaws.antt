@@ -294,3 +294,31 @@ named_value path form read name m ds is names reads =
 pub no_named_reads : {A : Type 0} (path : List ℕ) (form : Form) (read : Result (List A) Refusal) (d : Data) → read ≡ refused Shape path → as_array d ≡ None → Reads path (named form) read d
 no_named_reads path form read d is none =
     record { told = λ r e. (let t = (no_list_reads path form read d is none).told r e in (t.0, in_list t.1)); clean = λ xs e. absurd (never_ok Shape path xs (sym is ∙ e)) }
+
+required_named_value : {A : Type 0} (path : List ℕ) (form : Form) (read : List ℕ → Data → Result A Refusal) (name : A → List ℕ) → ((d : Data) → Reads path form (read path d) d) → NamesRead (read path) name → (d : Data) → Reads path (named form) (required_list read path (Some d) >>= λ xs. named_list path name xs) d
+unfolding required_list
+required_named_value path form read name items names null = no_named_reads path form _ null refl refl
+required_named_value path form read name items names (boolean b) = no_named_reads path form _ (boolean b) refl refl
+required_named_value path form read name items names (number n) = no_named_reads path form _ (number n) refl refl
+required_named_value path form read name items names (string s) = no_named_reads path form _ (string s) refl refl
+required_named_value path form read name items names (array ds) = named_value path form (read path) name (items_at (read path) [] ds) ds refl names (items_read path form (read path) ds (λ es is i x at_i. items x))
+required_named_value path form read name items names (members_of ms) = no_named_reads path form _ (members_of ms) refl refl
+
+optional_named_value : {A : Type 0} (path : List ℕ) (form : Form) (read : List ℕ → Data → Result A Refusal) (name : A → List ℕ) → ((d : Data) → Reads path form (read path d) d) → NamesRead (read path) name → (d : Data) → Reads path (named form) (optional_list read path (Some d) >>= λ xs. named_list path name xs) d
+unfolding optional_list
+optional_named_value path form read name items names null = no_named_reads path form _ null refl refl
+optional_named_value path form read name items names (boolean b) = no_named_reads path form _ (boolean b) refl refl
+optional_named_value path form read name items names (number n) = no_named_reads path form _ (number n) refl refl
+optional_named_value path form read name items names (string s) = no_named_reads path form _ (string s) refl refl
+optional_named_value path form read name items names (array ds) = named_value path form (read path) name (items_at (read path) [] ds) ds refl names (items_read path form (read path) ds (λ es is i x at_i. items x))
+optional_named_value path form read name items names (members_of ms) = no_named_reads path form _ (members_of ms) refl refl
+
+pub required_named_reads : {A : Type 0} (path : List ℕ) (form : Form) (read : List ℕ → Data → Result A Refusal) (name : A → List ℕ) → ((d : Data) → Reads path form (read path d) d) → NamesRead (read path) name → (field : Option Data) → ReadsAt path true (named form) (required_list read path field >>= λ xs. named_list path name xs) field
+unfolding required_list
+required_named_reads path form read name items names field =
+    required_reads path (named form) (λ f. required_list read path f >>= λ xs. named_list path name xs) refl (required_named_value path form read name items names) field
+
+pub optional_named_reads : {A : Type 0} (path : List ℕ) (form : Form) (read : List ℕ → Data → Result A Refusal) (name : A → List ℕ) → ((d : Data) → Reads path form (read path d) d) → NamesRead (read path) name → (field : Option Data) → ReadsAt path false (named form) (optional_list read path field >>= λ xs. named_list path name xs) field
+unfolding optional_list named_list distinct_at
+optional_named_reads path form read name items names field =
+    optional_reads path (named form) (λ f. optional_list read path f >>= λ xs. named_list path name xs) [] refl field (λ d _. optional_named_value path form read name items names d)

@@ -8,6 +8,6 @@ pub mod TypeTexts
 pub mod Fields
 pub mod Rules
 pub mod Limits
-pub mod Reading
 pub mod Forms
+pub mod Reading
 pub mod Stands

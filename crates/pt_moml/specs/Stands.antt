@@ -134,7 +134,7 @@ pub data InEntity : Code → List ℕ → List ℕ → Data → Type 0 where
   no_class : {here : List ℕ} {d : Data} → text_in (codes "class") d ≡ None → InEntity Shape here here d
   unknown_class : {here : List ℕ} {d : Data} (class : List ℕ) → text_in (codes "class") d ≡ Some class → kind_of class ≡ None → InEntity Class here here d
   in_form : {here : List ℕ} {d : Data} {code : Code} (class : List ℕ) (kind : Kind) → text_in (codes "class") d ≡ Some class → kind_of class ≡ Some kind → Faulty code (object (entity kind)) d → InEntity code here here d
-  in_rule : {path here : List ℕ} {d : Data} {code : Code} (name class : List ℕ) (kind : Kind) (own : Parts) → text_in (codes "class") d ≡ Some class → kind_of class ≡ Some kind → parts_at here name class kind d ≡ Ok own → BreaksRule code path here kind own.properties own.ports → InEntity code path here d
+  in_rule : {path here : List ℕ} {d : Data} {code : Code} (name class : List ℕ) (kind : Kind) (own : Parts) → text_in (codes "name") d ≡ Some name → text_in (codes "class") d ≡ Some class → kind_of class ≡ Some kind → parts_at here name class kind d ≡ Ok own → BreaksRule code path here kind own.properties own.ports → InEntity code path here d
   no_children : {here : List ℕ} {d : Data} (x : Data) → get (codes "entities") d ≡ Some x → as_array x ≡ None → InEntity Shape here here d
   child_without_name : {here : List ℕ} {d : Data} (x : Data) (ds : Items) (i : ℕ) (child : Data) → get (codes "entities") d ≡ Some x → as_array x ≡ Some ds → get_item i ds ≡ Some child → text_in (codes "name") child ≡ None → InEntity Shape here here d
   child_not_named : {here : List ℕ} {d : Data} (x : Data) (ds : Items) (i : ℕ) (child : Data) (name : List ℕ) → get (codes "entities") d ≡ Some x → as_array x ≡ Some ds → get_item i ds ≡ Some child → text_in (codes "name") child ≡ Some name → is_name name ≡ false → InEntity Name here here d
