@@ -99,7 +99,7 @@ text_ok path (number n) s e = absurd cc
 text_ok path (array ds) s e = absurd cc
 text_ok path (members_of ms) s e = absurd cc
 
-fine_text : (d : Data) (s : List ℕ) → as_str d ≡ Some s → Fine forms.text d
+pub fine_text : (d : Data) (s : List ℕ) → as_str d ≡ Some s → Fine forms.text d
 fine_text d s is code (no_text none) = cc
 
 pub text_reads : (path : List ℕ) (d : Data) → Reads path forms.text (text_at path d) d

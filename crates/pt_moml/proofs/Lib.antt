@@ -17,3 +17,4 @@ pub mod PlainObjects
 pub mod PropertyLaws
 pub mod PortLaws
 pub mod RuleLaws
+pub mod EntityForms

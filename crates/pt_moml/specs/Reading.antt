@@ -186,12 +186,12 @@ abbrev pub relations_field : List ℕ → Option Data → Result (List Relation)
 relations_field here field = optional_list relation_at here field >>= λ rs. named here (λ r. r.name) rs
 
 -- a Modal entity has states
-abbrev pub states_field : List ℕ → Kind → Option Data → Result (List State) Refusal
+unfoldable pub states_field : List ℕ → Kind → Option Data → Result (List State) Refusal
 states_field here Modal field = required_list state_at here field >>= λ ss. named here (λ s. s.name) ss
 states_field here _ field = Ok []
 
 -- and an initial one
-abbrev pub initial_field : List ℕ → Kind → Option Data → Result (Option (List ℕ)) Refusal
+unfoldable pub initial_field : List ℕ → Kind → Option Data → Result (Option (List ℕ)) Refusal
 initial_field here Modal field = required_text here field >>= λ s. Ok (Some s)
 initial_field here _ field = Ok None
 

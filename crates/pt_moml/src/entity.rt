@@ -113,7 +113,7 @@ fn relations_of(alloc: Global, here: &str, field: Option<&Value>) -> Result<Vec<
     Ok(relations)
 }
 
-#[tactic(auto, unfolding(crate::specs::Reading::named))]
+#[tactic(auto, unfolding(crate::specs::Reading::states_field, crate::specs::Reading::named))]
 fn states_of(
     alloc: Global,
     here: &str,
@@ -133,6 +133,7 @@ fn states_of(
     }
 }
 
+#[tactic(auto, unfolding(crate::specs::Reading::initial_field))]
 fn initial_of(
     alloc: Global,
     here: &str,
