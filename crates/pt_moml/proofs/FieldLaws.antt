@@ -83,7 +83,7 @@ then_good path form read d f reads =
 
 -- ---- texts, truth values and numbers
 
-text_told : (path : List ℕ) (d : Data) (r : Refusal) → text_at path d ≡ Err r → Is r Shape path × (as_str d ≡ None)
+pub text_told : (path : List ℕ) (d : Data) (r : Refusal) → text_at path d ≡ Err r → Is r Shape path × (as_str d ≡ None)
 text_told path (string s) r e = absurd cc
 text_told path null r e = (is_refused Shape path r e, refl)
 text_told path (boolean b) r e = (is_refused Shape path r e, refl)
@@ -322,3 +322,21 @@ pub optional_named_reads : {A : Type 0} (path : List ℕ) (form : Form) (read : 
 unfolding optional_list named_list distinct_at
 optional_named_reads path form read name items names field =
     optional_reads path (named form) (λ f. optional_list read path f >>= λ xs. named_list path name xs) [] refl field (λ d _. optional_named_value path form read name items names d)
+
+-- ---- what a required text and a name that are refused say
+
+pub required_text_told : (path : List ℕ) (field : Option Data) (r : Refusal) → required_text path field ≡ Err r → Is r Shape path × (option_and_then as_str field ≡ None)
+required_text_told path None r e = (is_refused Shape path r e, refl)
+required_text_told path (Some d) r e = text_told path d r e
+
+pub required_text_ok : (path : List ℕ) (field : Option Data) (s : List ℕ) → required_text path field ≡ Ok s → option_and_then as_str field ≡ Some s
+required_text_ok path None s e = absurd cc
+required_text_ok path (Some d) s e = text_ok path d s e
+
+pub name_told : (path : List ℕ) (field : Option Data) (r : Refusal) → name_at path field ≡ Err r → (Is r Shape path × (option_and_then as_str field ≡ None)) ⊎ ((s : List ℕ) × (option_and_then as_str field ≡ Some s) × (is_name s ≡ false) × Is r Name path)
+unfolding name_at
+name_told path field r e =
+    elim (bind_err (required_text path field) (λ s. cond (is_name s) (good s) (refused Name path)) r e) [
+      | inl h ↦ inl (required_text_told path field r h)
+      | inr h ↦ (let t = test_err (is_name h.0) h.0 Name path r h.2 in inr (h.0, required_text_ok path field h.0 h.1, t.1, t.0))
+    ]

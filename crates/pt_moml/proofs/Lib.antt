@@ -18,3 +18,5 @@ pub mod PropertyLaws
 pub mod PortLaws
 pub mod RuleLaws
 pub mod EntityForms
+pub mod EntityLaws
+pub mod DocumentLaws
