@@ -47,7 +47,7 @@ state_named path d x e =
 
 -- ---- fields of which enough is known
 
-fine_anything : (d : Data) → Fine forms.anything d
+pub fine_anything : (d : Data) → Fine forms.anything d
 fine_anything d code stands = elim stands [ ]
 
 known_name : (field : Option Data) (s : List ℕ) → option_and_then as_str field ≡ Some s → FineAt true forms.anything field
