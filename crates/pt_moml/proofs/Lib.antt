@@ -20,3 +20,5 @@ pub mod RuleLaws
 pub mod EntityForms
 pub mod EntityLaws
 pub mod DocumentLaws
+pub mod TextWords
+pub mod TypeLaws

@@ -29,7 +29,7 @@ mutual
     one_field : List ℕ → TypeTree → FieldTrees → FieldTrees
 
 -- `int`, `boolean`, `string`, `arrayType(T)` or `{a = T, b = T}`, with single blanks as shown
-mutual
+unfoldable mutual
   pub type_text : TypeTree → List ℕ
   type_text int_type = codes "int"
   type_text boolean_type = codes "boolean"
@@ -46,7 +46,7 @@ unfoldable pub is_field_name : List ℕ → Bool
 is_field_name name = is_name name && not (is_among words name)
 
 -- the names of each record are such names and differ, also from those that stand before them
-mutual
+unfoldable mutual
   pub has_names : TypeTree → Bool
   has_names int_type = true
   has_names boolean_type = true
@@ -82,8 +82,10 @@ pub data Next : Type 0 where
   Ends : Bool → Next
 
 -- what is left behind a word
-unfoldable pub behind : List ℕ → List ℕ → Option (List ℕ)
-behind word text = if nat_le (length word) (length text) && bytes_eq (take (length word) text) word then Some (drop (length word) text) else None
+abbrev pub behind : List ℕ → List ℕ → Option (List ℕ)
+behind [] text = Some text
+behind (c ∷ word) [] = None
+behind (c ∷ word) (x ∷ text) = if x == c then behind word text else None
 
 abbrev pub goes_or : (wants_type : Bool) → List Open → Option (List ℕ) → Next → Next
 goes_or wants_type around None other = other

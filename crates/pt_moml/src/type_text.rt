@@ -32,7 +32,6 @@ enum Next<'a> {
 }
 
 /// What is left behind a word.
-#[tactic(auto, unfolding(crate::specs::TypeTexts::behind))]
 fn behind<'a>(word: &[u8], text: &'a [u8]) -> Option<&'a [u8]>
     ensures { option_map (λ t. t.now) result ≡ types.behind word.now text.now }
 {
