@@ -2,8 +2,8 @@
 use Rattle.std.proofs.Common.{◌≡◌, ℕ, zero, suc, ◌+◌, ◌*◌, ◌<◌, ◌≤◌, max, List, [], ◌∷◌, get_or, length, Option, Some, None, refl, Ordering, Less, Equal, Greater, subst, arith}
 use Rattle.std.specs.Ordering.{nat_cmp, match_ordering}
 use Rattle.std.specs.Cmp.Lexicographic.{slice_cmp}
-use Rattle.serde_json.specs.Data.{Data, null, boolean, number, string, array, object, Items, Members, no_members, member, depth, items_depth, members_depth}
-use Rattle.serde_json.specs.Find.{get, get_member, as_array}
+use Rattle.serde_json.specs.Data.{Data, null, boolean, number, string, array, object, Items, no_items, item, Members, no_members, member, depth, items_depth, members_depth}
+use Rattle.serde_json.specs.Find.{get, get_item, get_member, as_array}
 use Rattle.serde_json.specs.View.{view, items_view}
 use Rattle.serde_json.specs.declared.value.Value.{Value}
 
@@ -48,3 +48,13 @@ get_field_depth k d = chosen (get k d) (λ e is. get_depth k d e is)
     chosen : (field : Option Data) → ((e : Data) → field ≡ Some e → depth e < depth d) → 4 * field_depth field + 2 < 4 * depth d + 3
     chosen None h = omega arith
     chosen (Some e) h = omega (arith, h e refl)
+
+-- an item is at most as deep as its list
+pub get_item_depth : (i : ℕ) (ds : Items) (x : Data) → get_item i ds ≡ Some x → depth x ≤ items_depth ds
+get_item_depth i no_items x is = absurd cc
+get_item_depth zero (item d ds) x is = let same : d ≡ x = cc in subst (λ (y : Data). depth y ≤ max (depth d) (items_depth ds)) same (omega arith)
+get_item_depth (suc i) (item d ds) x is = omega (arith, get_item_depth i ds x is)
+
+-- an item of a list at a field is less deep than the object by two
+pub field_item_depth : (k : List ℕ) (d e : Data) (ds : Items) (i : ℕ) (x : Data) → get k d ≡ Some e → as_array e ≡ Some ds → get_item i ds ≡ Some x → depth x + 1 < depth d
+field_item_depth k d e ds i x is list at_i = omega (arith, get_depth k d e is, array_depth e ds list, get_item_depth i ds x at_i)

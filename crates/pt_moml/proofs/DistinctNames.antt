@@ -15,7 +15,7 @@ texts names = map (λ n. n.now) names
 abbrev pub same : Name → Name → Bool
 same a b = bytes_eq a.now b.now
 
-has_name-texts : (seen : List Name) (x : Name) → has_name (texts seen) x.now ≡ list_any (same x) seen
+pub has_name-texts : (seen : List Name) (x : Name) → has_name (texts seen) x.now ≡ list_any (same x) seen
 has_name-texts [] x = refl
 has_name-texts (y ∷ ys) x = ap (λ b. bytes_eq x.now y.now || b) (has_name-texts ys x)
 

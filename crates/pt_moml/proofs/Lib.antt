@@ -8,3 +8,17 @@ pub mod Trees
 pub mod PropertyViews
 pub mod Nests
 pub mod Entities
+pub mod TypeWords
+pub mod Chains
+pub mod ItemLists
+pub mod FieldLaws
+pub mod ObjectLaws
+pub mod PlainObjects
+pub mod PropertyLaws
+pub mod PortLaws
+pub mod RuleLaws
+pub mod EntityForms
+pub mod EntityLaws
+pub mod DocumentLaws
+pub mod TextWords
+pub mod TypeLaws

@@ -4,7 +4,10 @@ pub mod View
 pub mod Classes
 pub mod Outcome
 pub mod Names
+pub mod TypeTexts
 pub mod Fields
 pub mod Rules
 pub mod Limits
+pub mod Forms
 pub mod Reading
+pub mod Stands

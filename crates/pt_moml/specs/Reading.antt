@@ -22,9 +22,12 @@ use Rattle.pt_moml.specs.Document.{PropertyTree, property, to_properties, proper
 use Rattle.pt_moml.specs.Classes.{Kind, Composite, Modal, Actor, kind_of}
 use Rattle.pt_moml.specs.Outcome.{◌>>=◌, refused}
 use Rattle.pt_moml.specs.Names.{top_path, below}
+use Rattle.pt_moml.specs.TypeTexts.{is_type_text}
 use Rattle.pt_moml.specs.Fields.{text_at, required_text, optional_text, name_at, required_truth, optional_truth, required_whole, listed, required_list, optional_list, distinct_at}
 use Rattle.pt_moml.specs.Rules.{parts_fit}
 use Rattle.pt_moml.specs.Limits.{nest_field, is_within}
+use Rattle.pt_moml.specs.Forms as forms
+use Rattle.pt_moml.specs.Forms.{keys}
 
 -- the list itself, where the names in it differ
 unfoldable pub named : {A : Type 0} → List ℕ → (A → List ℕ) → List A → Result (List A) Refusal
@@ -83,6 +86,11 @@ direction_at path true false = Ok Input
 direction_at path false true = Ok Output
 direction_at path _ _ = refused Shape path
 
+-- a port may declare the text of a type
+unfoldable pub declared_at : List ℕ → Option Data → Result (Option (List ℕ)) Refusal
+declared_at path None = Ok None
+declared_at path (Some d) = text_at path d >>= λ s. if is_type_text s then Ok (Some s) else refused Shape path
+
 unfoldable pub port_at : List ℕ → Data → Result PortTree Refusal
 port_at path d = do
   _ ← listed path port_fields d
@@ -90,7 +98,7 @@ port_at path d = do
   input ← optional_truth path (get (codes "input") d)
   output ← optional_truth path (get (codes "output") d)
   direction ← direction_at path input output
-  declared ← optional_text path (get (codes "type") d)
+  declared ← declared_at path (get (codes "type") d)
   properties ← properties_field path (get (codes "properties") d)
   Ok (record { name = name; direction = direction; declared = declared; properties = properties })
 
@@ -161,9 +169,7 @@ transition_at path d = do
 
 -- the fields that an entity may have
 abbrev pub entity_fields : Kind → List (List ℕ)
-entity_fields Composite = codes "name" ∷ codes "class" ∷ codes "properties" ∷ codes "ports" ∷ codes "entities" ∷ codes "relations" ∷ codes "links" ∷ []
-entity_fields Modal = codes "name" ∷ codes "class" ∷ codes "properties" ∷ codes "ports" ∷ codes "entities" ∷ codes "states" ∷ codes "initial" ∷ codes "transitions" ∷ []
-entity_fields (Actor class) = if is_some class.declares then codes "name" ∷ codes "class" ∷ codes "properties" ∷ codes "ports" ∷ [] else codes "name" ∷ codes "class" ∷ codes "properties" ∷ []
+entity_fields kind = keys (forms.entity kind)
 
 -- what an entity of the class is, where there is such a class
 abbrev pub kind_given : List ℕ → Option Kind → Result Kind Refusal
@@ -173,13 +179,19 @@ kind_given here (Some kind) = Ok kind
 abbrev pub kind_at : List ℕ → List ℕ → Result Kind Refusal
 kind_at here class = kind_given here (kind_of class)
 
+abbrev pub ports_field : List ℕ → Option Data → Result (List PortTree) Refusal
+ports_field here field = optional_list port_at here field >>= λ ps. named here (λ p. p.name) ps
+
+abbrev pub relations_field : List ℕ → Option Data → Result (List Relation) Refusal
+relations_field here field = optional_list relation_at here field >>= λ rs. named here (λ r. r.name) rs
+
 -- a Modal entity has states
-abbrev pub states_field : List ℕ → Kind → Option Data → Result (List State) Refusal
+unfoldable pub states_field : List ℕ → Kind → Option Data → Result (List State) Refusal
 states_field here Modal field = required_list state_at here field >>= λ ss. named here (λ s. s.name) ss
 states_field here _ field = Ok []
 
 -- and an initial one
-abbrev pub initial_field : List ℕ → Kind → Option Data → Result (Option (List ℕ)) Refusal
+unfoldable pub initial_field : List ℕ → Kind → Option Data → Result (Option (List ℕ)) Refusal
 initial_field here Modal field = required_text here field >>= λ s. Ok (Some s)
 initial_field here _ field = Ok None
 
@@ -188,10 +200,8 @@ unfoldable pub parts_at : (here name class : List ℕ) → Kind → Data → Res
 parts_at here name class kind d = do
   _ ← listed here (entity_fields kind) d
   properties ← properties_field here (get (codes "properties") d)
-  ports ← optional_list port_at here (get (codes "ports") d)
-  _ ← distinct_at here (map (λ p. p.name) ports)
-  relations ← optional_list relation_at here (get (codes "relations") d)
-  _ ← distinct_at here (map (λ r. r.name) relations)
+  ports ← ports_field here (get (codes "ports") d)
+  relations ← relations_field here (get (codes "relations") d)
   links ← optional_list link_at here (get (codes "links") d)
   states ← states_field here kind (get (codes "states") d)
   initial ← initial_field here kind (get (codes "initial") d)

@@ -1,8 +1,9 @@
 // The whole document.
-ghost use Rattle.std.specs.Prelude.{◌≡◌, map, option_map, IfOk, IfErr};
+ghost use Rattle.std.specs.Prelude.{◌≡◌, map, option_map, IfOk, IfErr, OnOk};
 ghost use Rattle.serde_json.specs.View.{view};
 ghost use Rattle.pt_moml.specs.Outcome.{Gives};
 ghost use Rattle.pt_moml.specs.Reading.{version_at, limits_at, model_at, job_of, IsJobOf, IsReadFault};
+ghost use Rattle.pt_moml.specs.Stands.{FaultStands, IsClean};
 ghost use Rattle.pt_moml.specs.View.{entity_view, job_view};
 
 use crate::code::Code;
@@ -70,11 +71,9 @@ fn job_at(alloc: Global, value: &Value) -> Result<Job, DocFault>
     })
 }
 
-/// Reads a document.
-pub fn read(alloc: Global, bytes: &[u8]) -> Result<Job, DocFault>
-    // The job is the one that the bytes' JSON value stands for.
+fn read_exactly(alloc: Global, bytes: &[u8]) -> Result<Job, DocFault>
     ensures job { IfOk result (λ j. IsJobOf bytes.now (job_view j)) }
-    // Of the refusals that stand the first one is told.
+    // Of the refusals that stand the first one in the order of reading is told.
     ensures first { IfErr result (IsReadFault bytes.now) }
 {
     match Value::from_slice(alloc, bytes) {
@@ -82,4 +81,16 @@ pub fn read(alloc: Global, bytes: &[u8]) -> Result<Job, DocFault>
         Err(e) if e.is_memory() => Err(DocFault::Memory),
         Err(_) => Err(refused(alloc, Code::Json, ".")),
     }
+}
+
+/// Reads a document. Where several refusals stand any of them may be told.
+pub fn read(alloc: Global, bytes: &[u8]) -> Result<Job, DocFault>
+    // The job is the one that the JSON value of the bytes stands for.
+    ensures job { IfOk result (λ j. IsJobOf bytes.now (job_view j)) }
+    // It is read only where no refusal stands.
+    ensures clean { OnOk result (IsClean bytes.now) }
+    // A refusal that is told stands at the path that is told.
+    ensures refused { IfErr result (FaultStands bytes.now) }
+{
+    read_exactly(alloc, bytes)
 }

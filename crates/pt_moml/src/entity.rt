@@ -5,8 +5,8 @@ ghost use Rattle.serde_json.specs.View.{view, items_view};
 ghost use Rattle.pt_moml.specs.Classes.{kind_view};
 ghost use Rattle.pt_moml.specs.Document.{entity, to_entities};
 ghost use Rattle.pt_moml.specs.Outcome.{Gives};
-ghost use Rattle.pt_moml.specs.Reading.{entity_fields, kind_at, states_field, initial_field, parts_at, entity_from, entity_at, entities_field, entity_items};
-ghost use Rattle.pt_moml.specs.View.{own_view, entity_view, entities_view};
+ghost use Rattle.pt_moml.specs.Reading.{entity_fields, kind_at, ports_field, relations_field, states_field, initial_field, parts_at, entity_from, entity_at, entities_field, entity_items};
+ghost use Rattle.pt_moml.specs.View.{own_view, port_view, entity_view, entities_view};
 
 use crate::classes::{Kind, kind_named};
 use crate::code::Code;
@@ -96,6 +96,24 @@ fn kind_of(alloc: Global, here: &str, class: &str) -> Result<Kind, DocFault>
 }
 
 #[tactic(auto, unfolding(crate::specs::Reading::named))]
+fn ports_of(alloc: Global, here: &str, field: Option<&Value>) -> Result<Vec<Port>, DocFault>
+    ensures { Gives (λ v. map port_view v.items) result (ports_field here.now (option_map (λ v. view v.now) field.entry)) }
+{
+    let ports = list_or_empty(alloc, here, field)?;
+    names_differ(alloc, here, &ports)?;
+    Ok(ports)
+}
+
+#[tactic(auto, unfolding(crate::specs::Reading::named))]
+fn relations_of(alloc: Global, here: &str, field: Option<&Value>) -> Result<Vec<Relation>, DocFault>
+    ensures { Gives (λ v. v.items) result (relations_field here.now (option_map (λ v. view v.now) field.entry)) }
+{
+    let relations = list_or_empty(alloc, here, field)?;
+    names_differ(alloc, here, &relations)?;
+    Ok(relations)
+}
+
+#[tactic(auto, unfolding(crate::specs::Reading::states_field, crate::specs::Reading::named))]
 fn states_of(
     alloc: Global,
     here: &str,
@@ -115,6 +133,7 @@ fn states_of(
     }
 }
 
+#[tactic(auto, unfolding(crate::specs::Reading::initial_field))]
 fn initial_of(
     alloc: Global,
     here: &str,
@@ -143,10 +162,8 @@ fn own_of(
 {
     has_fields(alloc, here, value, fields_of(kind))?;
     let properties = properties_of(alloc, here, value.get("properties"))?;
-    let ports = list_or_empty(alloc, here, value.get("ports"))?;
-    names_differ(alloc, here, &ports)?;
-    let relations = list_or_empty(alloc, here, value.get("relations"))?;
-    names_differ(alloc, here, &relations)?;
+    let ports = ports_of(alloc, here, value.get("ports"))?;
+    let relations = relations_of(alloc, here, value.get("relations"))?;
     let links = list_or_empty(alloc, here, value.get("links"))?;
     let states = states_of(alloc, here, kind, value.get("states"))?;
     let initial = initial_of(alloc, here, kind, value.get("initial"))?;

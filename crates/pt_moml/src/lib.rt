@@ -16,6 +16,7 @@ mod property;
 mod refusal;
 mod rules;
 mod tables;
+mod type_text;
 
 pub use classes::{
     Arity, Class, ClassParameter, ClassPort, ClassRow, Director, DirectorClass, DirectorRow, Kind,
@@ -30,3 +31,6 @@ pub use job::{
 pub use names::{is_layout, is_name, is_reserved};
 pub use refusal::{DocFault, Refusal};
 pub use tables::{CLASSES, DIRECTORS};
+
+#[cfg(test)]
+mod tests;

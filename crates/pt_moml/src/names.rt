@@ -15,7 +15,7 @@ fn is_first(c: u8) -> bool
     c.is_ascii_lowercase() || c.is_ascii_uppercase() || c == b'_'
 }
 
-fn is_later(c: u8) -> bool
+pub fn is_later(c: u8) -> bool
     ensures { result ≡ names.is_later c }
 {
     is_first(c) || c.is_ascii_digit()
@@ -29,11 +29,17 @@ fn are_later(bytes: &[u8]) -> bool
 
 /// A letter or `_`, then letters, `_` and digits, 64 bytes in all at most.
 #[tactic(auto, unfolding(crate::specs::Names::is_name))]
+pub fn is_name_of_bytes(bytes: &[u8]) -> bool
+    ensures { result ≡ names.is_name bytes.now }
+{
+    0 < bytes.len() && bytes.len() <= 64 && is_first(bytes[0]) && are_later(bytes)
+}
+
+/// A letter or `_`, then letters, `_` and digits, 64 in all at most.
 pub fn is_name(text: &str) -> bool
     ensures { result ≡ names.is_name text.now }
 {
-    let bytes = text.as_bytes();
-    0 < bytes.len() && bytes.len() <= 64 && is_first(bytes[0]) && are_later(bytes)
+    is_name_of_bytes(text.as_bytes())
 }
 
 /// One of the texts is this.
@@ -46,6 +52,17 @@ pub fn is_one_of(texts: &[&str], text: &str) -> bool
         }
     }
     false
+}
+
+/// A word of the expression language that names nothing.
+pub fn is_word(text: &[u8]) -> bool
+    ensures { result ≡ names.is_among names.words text.now }
+{
+    text == b"true".as_slice()
+        || text == b"false".as_slice()
+        || text == b"abs".as_slice()
+        || text == b"max".as_slice()
+        || text == b"min".as_slice()
 }
 
 fn ends_in(end: &[u8], text: &[u8]) -> bool
@@ -63,8 +80,7 @@ fn ends_in(end: &[u8], text: &[u8]) -> bool
 pub fn is_reserved(name: &str) -> bool
     ensures { result ≡ names.is_reserved name.now }
 {
-    is_one_of(&["true", "false", "abs", "max", "min"], name)
-        || ends_in(b"_isPresent", name.as_bytes())
+    is_word(name.as_bytes()) || ends_in(b"_isPresent", name.as_bytes())
 }
 
 /// A property of this name is there for graphical editors alone.

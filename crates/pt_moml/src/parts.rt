@@ -2,15 +2,18 @@
 ghost use Rattle.std.specs.Prelude.{◌≡◌, option_map};
 ghost use Rattle.serde_json.specs.View.{view};
 ghost use Rattle.pt_moml.specs.Outcome.{Gives};
-ghost use Rattle.pt_moml.specs.Reading.{direction_at, port_link, relations_link};
+ghost use Rattle.pt_moml.specs.Reading.{direction_at, declared_at, port_link, relations_link};
 
 use crate::code::Code;
 use crate::fields::{
-    Named, Part, has_fields, list_or_empty, name_of, optional, required, truth, truth_or_false,
+    Named, Part, has_fields, list_or_empty, name_of, optional, required, text_of, truth,
+    truth_or_false,
 };
 use crate::job::{Direction, Link, OutputAction, Port, Relation, SetAction, State, Transition};
 use crate::property::properties_of;
 use crate::refusal::{DocFault, refused};
+use crate::type_text::is_type_text;
+use pt_value::Text;
 use serde_json::Value;
 use std::alloc::Global;
 
@@ -27,6 +30,22 @@ fn direction_of(
         (true, false) => Ok(Direction::Input),
         (false, true) => Ok(Direction::Output),
         _ => Err(refused(alloc, Code::Shape, path)),
+    }
+}
+
+/// The text of a declared type.
+#[tactic(auto, unfolding(crate::specs::Reading::declared_at))]
+fn declared_of(alloc: Global, path: &str, field: Option<&Value>) -> Result<Option<Text>, DocFault>
+    ensures { Gives (λ t. t) result (declared_at path.now (option_map (λ v. view v.now) field.entry)) }
+{
+    let Some(value) = field else {
+        return Ok(None);
+    };
+    let text = text_of(alloc, path, value)?;
+    if is_type_text(alloc, text.as_str())? {
+        Ok(Some(text))
+    } else {
+        Err(refused(alloc, Code::Shape, path))
     }
 }
 
@@ -61,7 +80,7 @@ impl Part for Port {
         let is_input = truth_or_false(alloc, path, value.get("input"))?;
         let is_output = truth_or_false(alloc, path, value.get("output"))?;
         let direction = direction_of(alloc, path, is_input, is_output)?;
-        let declared = optional(alloc, path, value.get("type"))?;
+        let declared = declared_of(alloc, path, value.get("type"))?;
         let properties = properties_of(alloc, path, value.get("properties"))?;
         Ok(Port {
             name,
