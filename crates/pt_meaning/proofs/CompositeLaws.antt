@@ -80,19 +80,19 @@ all-made m (q ∷ qs) [] h = absurd h
 all-made m (q ∷ qs) (f ∷ fs) h = rw (eq-eqb f.fired (m * q) h.0, all-made m qs fs h.1) refl
 
 -- all that the own outputs have
-firsts-all : {T : Type 0} (X : Streams T) → firsts (lengths X) X ≡ X
+pub firsts-all : {T : Type 0} (X : Streams T) → firsts (lengths X) X ≡ X
 firsts-all [] = refl
 firsts-all (xs ∷ X) = ap₂ (λ a b. a ∷ b) (take-length xs) (firsts-all X)
 
-behind-all : {T : Type 0} (X : Streams T) → behind (lengths X) X ≡ emptied X
+pub behind-all : {T : Type 0} (X : Streams T) → behind (lengths X) X ≡ emptied X
 behind-all [] = refl
 behind-all (xs ∷ X) = ap₂ (λ a b. a ∷ b) (drop_all (length xs) xs (omega arith)) (behind-all X)
 
 -- the places of the children and the own outputs
-first-part : {T : Type 0} (n : ℕ) (L R held : Streams T) → held ≡ L ++ R → length L ≡ n → take n held ≡ L
+pub first-part : {T : Type 0} (n : ℕ) (L R held : Streams T) → held ≡ L ++ R → length L ≡ n → take n held ≡ L
 first-part n L R held h e = rw (h, ← e) (take-append_seam L R)
 
-second-part : {T : Type 0} (n : ℕ) (L R held : Streams T) → held ≡ L ++ R → length L ≡ n → drop n held ≡ R
+pub second-part : {T : Type 0} (n : ℕ) (L R held : Streams T) → held ≡ L ++ R → length L ≡ n → drop n held ≡ R
 second-part n L R held h e = rw (h, ← e) (drop-append_seam L R)
 
 as-done : {T A H : Type 0} (tag : Tag) (h : Past) (c : Core T) (core : H → Core T) (r : Outcome T (Inside H (Child (Node T A)))) (x : Inside H (Child (Node T A))) (out : Streams T) (l : Log T) → r ≡ Done x out l →

@@ -25,3 +25,6 @@ pub mod HeightLaws
 pub mod UniqueLaws
 pub mod CountLaws
 pub mod SettledLaws
+pub mod JoinLaws
+pub mod FiringLaws
+pub mod CutLaws

@@ -26,3 +26,4 @@ pub mod CompositeRuns
 pub mod Heights
 pub mod Uniqueness
 pub mod SettledRuns
+pub mod CutLaw
