@@ -24,7 +24,7 @@ joined-assoc (x ∷ X) [] Z = refl
 joined-assoc (x ∷ X) (y ∷ Y) [] = refl
 joined-assoc (x ∷ X) (y ∷ Y) (z ∷ Z) = ap₂ (λ a b. a ∷ b) (sym (append_assoc x y z)) (joined-assoc X Y Z)
 
-log-assoc : {T : Type 0} (l m n : Log T) → log_then l (log_then m n) ≡ log_then (log_then l m) n
+pub log-assoc : {T : Type 0} (l m n : Log T) → log_then l (log_then m n) ≡ log_then (log_then l m) n
 log-assoc l m n = fun_ext (λ p. sym (append_assoc (l p) (m p) (n p)))
 
 -- one flow, and then another from where it stopped

@@ -28,3 +28,5 @@ pub mod SettledLaws
 pub mod JoinLaws
 pub mod FiringLaws
 pub mod CutLaws
+pub mod TickRunLaws
+pub mod TickNodeLaws

@@ -27,3 +27,5 @@ pub mod Heights
 pub mod Uniqueness
 pub mod SettledRuns
 pub mod CutLaw
+pub mod TickRuns
+pub mod CompositeTicks
