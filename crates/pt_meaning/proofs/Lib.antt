@@ -30,3 +30,5 @@ pub mod FiringLaws
 pub mod CutLaws
 pub mod TickRunLaws
 pub mod TickNodeLaws
+pub mod MeetingIndex
+pub mod MeetingRunLaws

@@ -29,3 +29,4 @@ pub mod SettledRuns
 pub mod CutLaw
 pub mod TickRuns
 pub mod CompositeTicks
+pub mod MeetingRuns
