@@ -80,29 +80,29 @@ all-made m (q ∷ qs) [] h = absurd h
 all-made m (q ∷ qs) (f ∷ fs) h = rw (eq-eqb f.fired (m * q) h.0, all-made m qs fs h.1) refl
 
 -- all that the own outputs have
-firsts-all : {T : Type 0} (X : Streams T) → firsts (lengths X) X ≡ X
+pub firsts-all : {T : Type 0} (X : Streams T) → firsts (lengths X) X ≡ X
 firsts-all [] = refl
 firsts-all (xs ∷ X) = ap₂ (λ a b. a ∷ b) (take-length xs) (firsts-all X)
 
-behind-all : {T : Type 0} (X : Streams T) → behind (lengths X) X ≡ emptied X
+pub behind-all : {T : Type 0} (X : Streams T) → behind (lengths X) X ≡ emptied X
 behind-all [] = refl
 behind-all (xs ∷ X) = ap₂ (λ a b. a ∷ b) (drop_all (length xs) xs (omega arith)) (behind-all X)
 
 -- the places of the children and the own outputs
-first-part : {T : Type 0} (n : ℕ) (L R held : Streams T) → held ≡ L ++ R → length L ≡ n → take n held ≡ L
+pub first-part : {T : Type 0} (n : ℕ) (L R held : Streams T) → held ≡ L ++ R → length L ≡ n → take n held ≡ L
 first-part n L R held h e = rw (h, ← e) (take-append_seam L R)
 
-second-part : {T : Type 0} (n : ℕ) (L R held : Streams T) → held ≡ L ++ R → length L ≡ n → drop n held ≡ R
+pub second-part : {T : Type 0} (n : ℕ) (L R held : Streams T) → held ≡ L ++ R → length L ≡ n → drop n held ≡ R
 second-part n L R held h e = rw (h, ← e) (drop-append_seam L R)
 
-as-done : {T A H : Type 0} (tag : Tag) (h : Past) (c : Core T) (core : H → Core T) (r : Outcome T (Inside H (Child (Node T A)))) (x : Inside H (Child (Node T A))) (out : Streams T) (l : Log T) → r ≡ Done x out l →
+pub as-done : {T A H : Type 0} (tag : Tag) (h : Past) (c : Core T) (core : H → Core T) (r : Outcome T (Inside H (Child (Node T A)))) (x : Inside H (Child (Node T A))) (out : Streams T) (l : Log T) → r ≡ Done x out l →
     as_node tag h c core r ≡ Done (Composite (fired_at tag h) c (core x.held) (nodes_of (nodes x.kids))) out (within_firing h.made l)
 as-done tag h c core r x out l e = ap (λ v. as_node tag h c core v) e
 
-as-stuck : {T A H : Type 0} (tag : Tag) (h : Past) (c : Core T) (core : H → Core T) (r : Outcome T (Inside H (Child (Node T A)))) (fs : List Fault) (l : Log T) → r ≡ Stuck fs l → as_node tag h c core r ≡ Stuck fs (within_firing h.made l)
+pub as-stuck : {T A H : Type 0} (tag : Tag) (h : Past) (c : Core T) (core : H → Core T) (r : Outcome T (Inside H (Child (Node T A)))) (fs : List Fault) (l : Log T) → r ≡ Stuck fs l → as_node tag h c core r ≡ Stuck fs (within_firing h.made l)
 as-stuck tag h c core r fs l e = ap (λ v. as_node tag h c core v) e
 
-log-as-node : {T A H : Type 0} (tag : Tag) (h : Past) (c : Core T) (core : H → Core T) (r : Outcome T (Inside H (Child (Node T A)))) → log_in (as_node tag h c core r) ≡ within_firing h.made (log_in r)
+pub log-as-node : {T A H : Type 0} (tag : Tag) (h : Past) (c : Core T) (core : H → Core T) (r : Outcome T (Inside H (Child (Node T A)))) → log_in (as_node tag h c core r) ≡ within_firing h.made (log_in r)
 log-as-node tag h c core (Done x out l) = refl
 log-as-node tag h c core (Stuck fs l) = refl
 
@@ -138,7 +138,7 @@ module _ {T A : Type 0} (rows : Rows T A) (k d : ℕ) (m : Meets) (tag : Tag) (h
       ap₂ (λ (a b : Streams T). let r : Outcome T (Node T A) = Done (Composite (fired_at tag h) c (Pn p (take (total p.net.places) held ++ a)) (nodes_of (nodes now))) b (within_firing h.made (log_below ls)) in r) (behind-all (outlets_of p.net held)) (firsts-all (outlets_of p.net held))
 
 -- a stuck composite
-below-stuck : {T A : Type 0} (r : Outcome T (Node T A)) (i : ℕ) (f : Fault) (n : ℕ) (gs : List Fault) (m l : Log T) → r ≡ Stuck gs (within_firing n m) → IsIn (record { path = i ∷ f.path; firing = f.firing; code = f.code }) gs → LogBelow l m → IsStuckBelow r i f (within_firing n l)
+pub below-stuck : {T A : Type 0} (r : Outcome T (Node T A)) (i : ℕ) (f : Fault) (n : ℕ) (gs : List Fault) (m l : Log T) → r ≡ Stuck gs (within_firing n m) → IsIn (record { path = i ∷ f.path; firing = f.firing; code = f.code }) gs → LogBelow l m → IsStuckBelow r i f (within_firing n l)
 below-stuck r i f n gs m l e x b = (gs, within_firing n m, e, x, within-below n l m b)
 
 pub sdf-sticks : {T A : Type 0} → SdfSticks T A

@@ -44,7 +44,7 @@ module _ {T S : Type 0} (facts : Facts T S) (step : Stepping T S) (tag : Tag) (n
   if_count true x out l fs e = e
   if_count false x out l fs e = tt
 
-  kahn-count : (net : Net) (limits : List Limit) (enough : List (Flow T S) → Bool) (counts : List ℕ → List ℕ) (kids : List S) (X : Streams T) (k : ℕ) → length net.places ≡ n → length limits ≡ n → length kids ≡ n → KidsCount n (kahn facts step tag net limits enough counts kids X k)
+  pub kahn-count : (net : Net) (limits : List Limit) (enough : List (Flow T S) → Bool) (counts : List ℕ → List ℕ) (kids : List S) (X : Streams T) (k : ℕ) → length net.places ≡ n → length limits ≡ n → length kids ≡ n → KidsCount n (kahn facts step tag net limits enough counts kids X k)
   unfolding kahn
   kahn-count net limits enough counts kids X k a b e = if_count _ _ _ _ _ (flows-count n net.places limits k kids (round facts step tag net limits kids X k) a b e)
 
@@ -212,7 +212,7 @@ nodes-length : {T A : Type 0} (ss : List (Child (Node T A))) → length (list_of
 nodes-length [] = refl
 nodes-length (s ∷ ss) = ap (λ v. suc v) (nodes-length ss)
 
-numbered-length : {S : Type 0} (i : ℕ) (ss : List S) → length (numbered i ss) ≡ length ss
+pub numbered-length : {S : Type 0} (i : ℕ) (ss : List S) → length (numbered i ss) ≡ length ss
 numbered-length i [] = refl
 numbered-length i (s ∷ ss) = ap (λ v. suc v) (numbered-length (suc i) ss)
 
@@ -262,13 +262,13 @@ unfolding EntriesOf PlacesCount
 places-entries facts step tag n p (Done x out l) e g = (e.0, (g, e.1, e.2))
 places-entries facts step tag n p (Stuck fs l) e g = tt
 
-sdf-bounds-count : (m : ℕ) (qs : List ℕ) (rs : List (List ℕ)) (n : ℕ) → length qs ≡ n → length rs ≡ n → length (sdf_limits m qs rs) ≡ n
+pub sdf-bounds-count : (m : ℕ) (qs : List ℕ) (rs : List (List ℕ)) (n : ℕ) → length qs ≡ n → length rs ≡ n → length (sdf_limits m qs rs) ≡ n
 sdf-bounds-count m [] rs n a b = a
 sdf-bounds-count m (q ∷ qs) [] n a b = absurd (omega arith)
 sdf-bounds-count m (q ∷ qs) (r ∷ rs) zero a b = absurd (omega arith)
 sdf-bounds-count m (q ∷ qs) (r ∷ rs) (suc n) a b = ap (λ v. suc v) (sdf-bounds-count m qs rs n (omega arith) (omega arith))
 
-pn-bounds-count : (ns : List ℕ) → length (pn_limits ns) ≡ length ns
+pub pn-bounds-count : (ns : List ℕ) → length (pn_limits ns) ≡ length ns
 pn-bounds-count [] = refl
 pn-bounds-count (n ∷ ns) = ap (λ v. suc v) (pn-bounds-count ns)
 

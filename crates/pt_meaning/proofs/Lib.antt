@@ -25,3 +25,10 @@ pub mod HeightLaws
 pub mod UniqueLaws
 pub mod CountLaws
 pub mod SettledLaws
+pub mod JoinLaws
+pub mod FiringLaws
+pub mod CutLaws
+pub mod TickRunLaws
+pub mod TickNodeLaws
+pub mod MeetingIndex
+pub mod MeetingRunLaws

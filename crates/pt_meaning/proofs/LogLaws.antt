@@ -47,10 +47,10 @@ ends-with {T} {S} facts step tag net limits kids start ms now held ls w nf enoug
     (e.0, e.1, e.2, e.3, rw w.logs e.4)
 
 -- a log that goes on is below one that goes on further
-log-refl : {T : Type 0} (l : Log T) → LogBelow l l
+pub log-refl : {T : Type 0} (l : Log T) → LogBelow l l
 log-refl l p = IsPrefix-refl (l p)
 
-log-trans : {T : Type 0} (l m n : Log T) → LogBelow l m → LogBelow m n → LogBelow l n
+pub log-trans : {T : Type 0} (l m n : Log T) → LogBelow l m → LogBelow m n → LogBelow l n
 log-trans l m n a b p = IsPrefix-trans (l p) (m p) (n p) (a p) (b p)
 
 log-after : {T : Type 0} (l m n : Log T) → LogBelow m n → LogBelow (log_then l m) (log_then l n)
@@ -156,7 +156,7 @@ module _ {T S : Type 0} (facts : Facts T S) (step : Stepping T S) (tag : Tag) wh
       log_below-mono F.log F.log _ _ (log-refl F.log)
       (asked-in i ns cs ms ss (drop n A) own now (drop n held) inside (omega arith) fit.1 h.1 (tail-is facts step tag z F.state now (states_of R) st) (drop-left facts step tag n F.left (left_by R) own held len lf) x)
 
-log-of-settled : {T S : Type 0} (b : Bool) (c : Inside (Streams T) S) (out : Streams T) (l : Log T) (fs : List Fault) → l ≡ log_in (if_settled b c out l fs)
+pub log-of-settled : {T S : Type 0} (b : Bool) (c : Inside (Streams T) S) (out : Streams T) (l : Log T) (fs : List Fault) → l ≡ log_in (if_settled b c out l fs)
 log-of-settled true c out l fs = refl
 log-of-settled false c out l fs = refl
 

@@ -88,7 +88,7 @@ module _ {T S : Type 0} (early : Earliness T S) (active : Activity T S) (turn : 
   width [] rs = refl
   width (c ∷ cs) rs = ap (λ v. suc v) (width cs rs)
 
-  width-at : (k : ℕ) → length (known-at k) ≡ length net.sources
+  pub width-at : (k : ℕ) → length (valuation early active turn tag net kids inputs k) ≡ length net.sources
   unfolding valuation known-at
   width-at zero = none net.sources
     where

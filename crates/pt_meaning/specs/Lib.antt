@@ -50,3 +50,7 @@ pub mod Places
 pub mod Jam
 pub mod AnyOrder
 pub mod Asked
+pub mod CutLaw
+pub mod TickRuns
+pub mod CompositeTicks
+pub mod MeetingRuns
