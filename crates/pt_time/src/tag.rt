@@ -1,6 +1,7 @@
 ghost use Rattle.std.specs.Prelude.{◌≡◌, ◌↔◌, ◌≤◌, ◌^◌, IsTrue, IsSome, IsNone, IfSome, if◌then◌else◌};
 ghost use Rattle.pt_time.specs.Within.{IsWithin, tag_after, tag_outside};
-ghost use Rattle.pt_meaning.specs.Schedule.{one_later, due_or_past, due_after};
+ghost use Rattle.pt_meaning.specs.Tag.{one_later};
+ghost use Rattle.pt_meaning.specs.Schedule.{due_or_past, due_after};
 ghost use Rattle.pt_meaning.specs.Tick.{tag_le};
 ghost use Rattle.pt_meaning.specs.Modal as modal;
 

@@ -3,3 +3,7 @@
 
 mod integer;
 mod model;
+mod report;
+mod status;
+
+pub use status::Status;
