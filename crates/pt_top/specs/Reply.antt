@@ -1,5 +1,5 @@
 -- What is answered to a net: its report, or that its form isn't built.
-use Rattle.std.specs.Prelude.{◌≡◌, ℕ, zero, suc, List, [], ◌∷◌, ◌++◌, codes, decimal, ℤ}
+use Rattle.std.specs.Prelude.{◌≡◌, ℕ, zero, suc, List, [], ◌∷◌, ◌++◌, drop, codes, decimal, ℤ, option_map, unwrap_or, slice_get}
 use Rattle.pt_moml.specs.declared.refusal.Refusal.{Refusal}
 use Rattle.pt_moml.specs.declared.code.Code.TheVariants.{Unbuilt}
 use Rattle.pt_moml.specs.Codes.{code_number, code_name}
@@ -34,14 +34,20 @@ report_of texts numbers end = record { traces = told_traces texts numbers; meeti
 
 -- the path of the entity at this number
 abbrev pub path_at : List NetEntity → ℕ → List ℕ
-path_at [] i = []
-path_at (e ∷ es) zero = e.path
-path_at (e ∷ es) (suc i) = path_at es i
+path_at es i = unwrap_or (option_map (λ e. e.path) (slice_get es i)) []
 
--- Actors are numbered behind the top.
+-- the entities of a net behind its top, which its actors are
+abbrev pub actors_in : Net → List NetEntity
+actors_in net = drop 1 net.entities.items
+
 abbrev pub end_in : Net → flat.RunEnd → RunEnd
 end_in net flat.AllDone = ends.Iterations
-end_in net (flat.Overflow actor firing) = ends.Fault (record { path = path_at net.entities.items (suc actor); firing = firing; kind = Overflow })
+end_in net (flat.Overflow actor firing) = ends.Fault (record { path = path_at (actors_in net) actor; firing = firing; kind = Overflow })
+
+-- the status of a run by how it ended
+abbrev pub status_in : flat.RunEnd → Status
+status_in flat.AllDone = Done
+status_in (flat.Overflow actor firing) = Fault
 
 -- A run of the model of a net, with its report.
 pub record IsReport (net : Net) (end : flat.RunEnd) (text : List ℕ) : Type 0 where
