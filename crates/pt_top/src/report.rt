@@ -3,7 +3,9 @@ ghost use Rattle.std.specs.Prelude.{◌≡◌, IfOk, string_bytes};
 ghost use Rattle.pt_moml.specs.Names.{top_path};
 ghost use Rattle.pt_moml.specs.declared.code.Code.TheVariants.{Unbuilt};
 ghost use Rattle.pt_flat.specs.Model.{IsLawful};
-ghost use Rattle.pt_flat.specs.Run.{end_of, stamped};
+ghost use Rattle.pt_meaning.specs.Tag.{origin};
+ghost use Rattle.pt_value.specs.declared.token.Token.TheVariants.{Int};
+ghost use Rattle.pt_flat.specs.Run.{end_of};
 ghost use Rattle.pt_flat.specs.Run as flat;
 ghost use Rattle.pt_top.specs.declared.status.Status.TheVariants.{Document};
 ghost use Rattle.pt_top.specs.Model.{IsModel, flat_model};
@@ -29,14 +31,31 @@ pub struct Reply {
 
 const ORIGIN: Tag = Tag { time: 0, step: 0 };
 
-#[tactic(auto, using(crate::proofs::ReportLaws::stamped_map))]
-fn tokens_of(alloc: Global, numbers: &[i64]) -> Result<Vec<(Tag, Token)>, AllocError>
-    ensures { IfOk result (λ tokens. tokens.items ≡ stamped numbers.now) }
+/// A number as a token at the origin of time.
+fn stamped(number: &i64) -> (Tag, Token)
+    ensures { result ≡ (origin, Int number.now) }
 {
-    numbers
-        .iter()
-        .map(|number| (ORIGIN, Token::Int(*number)))
-        .collect(alloc)
+    (ORIGIN, Token::Int(*number))
+}
+
+#[tactic(auto, using(crate::proofs::ReportLaws::stamped_more))]
+fn tokens_of(alloc: Global, numbers: &[i64]) -> Result<Vec<(Tag, Token)>, AllocError>
+    ensures { IfOk result (λ tokens. tokens.items ≡ flat.stamped numbers.now) }
+{
+    let mut tokens = Vec::with_capacity(alloc, numbers.len())?;
+    for number in numbers {
+        tokens.push(stamped(number))?;
+    }
+    Ok(tokens)
+}
+
+fn trace_of(alloc: Global, text: &Text, numbers: &Numbers) -> Result<Trace, AllocError>
+    ensures { IfOk result (λ trace. trace ≡ record { text = text.now; tokens = flat.stamped numbers.now }) }
+{
+    Ok(Trace {
+        text: text.copy(alloc)?,
+        tokens: tokens_of(alloc, numbers.as_slice())?,
+    })
 }
 
 /// The traces of the numbers that the ports of these texts gave.
@@ -45,10 +64,7 @@ fn traces_of(alloc: Global, texts: &[Text], numbers: &[Numbers]) -> Result<Vec<T
 {
     let mut traces = Vec::new(alloc);
     for place in 0..texts.len().min(numbers.len()) {
-        traces.push(Trace {
-            text: texts[place].copy(alloc)?,
-            tokens: tokens_of(alloc, numbers[place].as_slice())?,
-        })?;
+        traces.push(trace_of(alloc, &texts[place], &numbers[place])?)?;
     }
     Ok(traces)
 }
