@@ -8,10 +8,10 @@ use Rattle.pt_moml.specs.TypeTexts.{TypeTree, int_type, boolean_type, string_typ
 use Rattle.pt_moml.proofs.TextWords.{behind_some}
 
 -- a place where a type is wanted, and one behind a type
-abbrev wants : List Open → List ℕ → Place
+abbrev pub wants : List Open → List ℕ → Place
 wants around text = record { wants_type = true; around = around; rest = text }
 
-abbrev after : List Open → List ℕ → Place
+abbrev pub after : List Open → List ℕ → Place
 after around text = record { wants_type = false; around = around; rest = text }
 
 -- ---- tests on names
@@ -106,7 +106,7 @@ mutual
         further (length (type_text t)) (1 + length (fields_text fs)) (length (name ++ (codes " = " ++ (type_text t ++ (codes ", " ++ fields_text fs))))) _ _ _ (omega arith) (type_within t (in_record (names ++ name ∷ []) ∷ around) (codes ", " ++ (fields_text fs ++ rest)) k.0)
         (further 1 (length (fields_text fs)) (1 + length (fields_text fs)) _ _ _ (omega arith) (one_word (after (in_record (names ++ name ∷ []) ∷ around) (codes ", " ++ (fields_text fs ++ rest))) later.0 later.1) later.2))
 
-append_nothing : (s : List ℕ) → s ++ [] ≡ s
+pub append_nothing : (s : List ℕ) → s ++ [] ≡ s
 append_nothing [] = refl
 append_nothing (c ∷ s) = ap (λ (t : List ℕ). c ∷ t) (append_nothing s)
 
