@@ -43,7 +43,8 @@ version_reads field =
     required_reads top_path forms.version version_at refl (λ d.
     record {
       told = λ r e. (let t = test_err (is_one (as_whole d)) tt code.Shape top_path r e in moved r code.Shape top_path forms.version d t.0 (no_version t.1));
-      clean = λ u e. fine_version d (test_ok (is_one (as_whole d)) tt u code.Shape top_path e).0 }) field
+      clean = λ u e. fine_version d (test_ok (is_one (as_whole d)) tt u code.Shape top_path e).0;
+    }) field
 
 inputs_reads : (field : Option Data) → ReadsAt top_path false (list forms.input) (optional_list input_at top_path field) field
 inputs_reads field = optional_list_reads top_path forms.input input_at (input_reads top_path) field
@@ -81,10 +82,10 @@ model_told d r no_model e = by_field (get (codes "model") d) refl e
     by_field (Some m) is e =
         elim (bind_err (limits_at m) _ r e) [
           | inl h ↦ (let t = test_err (is_within (nest_field (get (codes "entities") m))) tt code.Limit top_path r h in
-          elim (passed (nest_field (get (codes "entities") m)) t.1) [
-            | inl many ↦ at_top r code.Limit d t.0 (too_many m is many)
-            | inr deep ↦ at_top r code.Limit d t.0 (too_deep m is deep)
-          ])
+              elim (passed (nest_field (get (codes "entities") m)) t.1) [
+                | inl many ↦ at_top r code.Limit d t.0 (too_many m is many)
+                | inr deep ↦ at_top r code.Limit d t.0 (too_deep m is deep)
+              ])
           | inr h ↦ elim (bind_err (name_at top_path (get (codes "name") m)) _ r h.2) [
             | inl g ↦ elim (name_told top_path (get (codes "name") m) r g) [
               | inl f ↦ at_top r code.Shape d f.0 (model_without_name m is f.1)
@@ -124,7 +125,7 @@ job_told d r e =
         | inl k ↦ (let t = (version_reads (get (codes "version") d)).told r k in in_form r d t.0 (at_field r forms.job (forms.required (codes "version") forms.version) d (inl refl) t.1))
         | inr k ↦ elim (bind_err (model_at (get (codes "model") d)) _ r k.2) [
           | inl m ↦ model_told d r
-            (λ none e. (let t = is_refused code.Shape top_path r e in in_form r d t.1 (at_field r forms.job (forms.required (codes "model") forms.anything) d (inr (inl refl)) (absent t.0 refl none)))) m
+              (λ none e. (let t = is_refused code.Shape top_path r e in in_form r d t.1 (at_field r forms.job (forms.required (codes "model") forms.anything) d (inr (inl refl)) (absent t.0 refl none)))) m
           | inr m ↦ elim (bind_err (optional_list input_at top_path (get (codes "inputs") d)) _ r m.2) [
             | inl i ↦ (let t = (inputs_reads (get (codes "inputs") d)).told r i in in_form r d t.0 (at_field r forms.job (forms.optional (codes "inputs") (list forms.input)) d (inr (inr (inl refl))) t.1))
             | inr i ↦ elim (bind_err (optional_list text_at top_path (get (codes "record") d)) _ r i.2) [
@@ -160,7 +161,8 @@ job_steps d j e =
       all = ((version_reads (get (codes "version") d)).clean k.0 k.1, (fine_model (get (codes "model") d) m.0 m.1, ((inputs_reads (get (codes "inputs") d)).clean i.0 i.1, ((records_reads (get (codes "record") d)).clean t.0 t.1, tt))));
       known = listed_ok top_path job_fields d h.0 h.1;
       model = m.0;
-      model_is = m.1 }
+      model_is = m.1;
+    }
 
 model_of : (d m : Data) (s : JobSteps d) → get (codes "model") d ≡ Some m → ModelSteps m s.model
 model_of d m s is = model_steps m s.model (ap model_at (sym is) ∙ s.model_is)

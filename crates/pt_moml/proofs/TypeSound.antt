@@ -3,7 +3,8 @@ use Rattle.std.proofs.Common.{◌≡◌, ◌<◌, ◌≤◌, ◌+◌, ◌⊎◌,
 use Rattle.std.specs.List.{prefix_len}
 use Rattle.std.proofs.lemmas.List.{take-append-drop}
 use Rattle.pt_moml.specs.Names.{is_later, has_name}
-use Rattle.pt_moml.specs.TypeTexts.{TypeTree, int_type, boolean_type, string_type, array_type, record_type, FieldTrees, last_field, one_field, type_text, fields_text, is_field_name, has_names, have_names, IsTextOf, Open, in_array, in_record, Place, Next, Goes, Ends, behind, goes_or, one_more, named_or, field, field_or, or_behind, behind_base, begin, behind_field, go_on, is_nothing, step, from_next, leads, is_type_text}
+use Rattle.pt_moml.specs.TypeTexts.{TypeTree, int_type, boolean_type, string_type, array_type, record_type, FieldTrees, last_field, one_field, type_text, fields_text, is_field_name, has_names, have_names, IsTextOf}
+use Rattle.pt_moml.specs.TypeWords.{Open, in_array, in_record, Place, Next, Goes, Ends, behind, goes_or, one_more, named_or, field, field_or, or_behind, behind_base, begin, behind_field, go_on, is_nothing, step, from_next, leads, is_type_text}
 use Rattle.pt_moml.proofs.TextWords.{behind_some}
 use Rattle.pt_moml.proofs.TypeLaws.{wants, after, append_nothing}
 
@@ -44,12 +45,22 @@ more_name names name more e = chosen (is_field_name name) (has_name names name) 
 -- a field's name, the blanks, its type, and then the end of the record or more fields
 fields_from : (names : List (List ℕ)) (around : List Open) (name text rest : List ℕ) → is_field_name name ≡ true → has_name names name ≡ false → text ≡ name ++ (codes " = " ++ rest) → HasType (in_record (names ++ name ∷ []) ∷ around) rest → HasFields names around text
 unfolding type_text has_names
-fields_from names around name text rest good fresh is (t, left, is_type, named, inl (others, closed, closes)) =
-    (last_field name t, others, is ∙ ap (λ (s : List ℕ). name ++ (codes " = " ++ s)) (is_type ∙ ap (λ (s : List ℕ). type_text t ++ s) closed)
-      ∙ sym (append_assoc name (codes " = " ++ (type_text t ++ codes "}")) others ∙ ap (λ (s : List ℕ). name ++ (codes " = " ++ s)) (append_assoc (type_text t) (codes "}") others)), rw (good, fresh, named) refl, closes)
-fields_from names around name text rest good fresh is (t, left, is_type, named, inr (fs, others, more, fields_named, closes)) =
-    (one_field name t fs, others, is ∙ ap (λ (s : List ℕ). name ++ (codes " = " ++ s)) (is_type ∙ ap (λ (s : List ℕ). type_text t ++ s) more)
-      ∙ sym (append_assoc name (codes " = " ++ (type_text t ++ (codes ", " ++ fields_text fs))) others ∙ ap (λ (s : List ℕ). name ++ (codes " = " ++ s)) (append_assoc (type_text t) (codes ", " ++ fields_text fs) others)), rw (good, fresh, named, fields_named) refl, closes)
+fields_from names around name text rest good fresh is (t, left, is_type, named, inl (others, closed, closes)) = (
+  last_field name t,
+  others,
+  is ∙ ap (λ (s : List ℕ). name ++ (codes " = " ++ s)) (is_type ∙ ap (λ (s : List ℕ). type_text t ++ s) closed)
+      ∙ sym (append_assoc name (codes " = " ++ (type_text t ++ codes "}")) others ∙ ap (λ (s : List ℕ). name ++ (codes " = " ++ s)) (append_assoc (type_text t) (codes "}") others)),
+  rw (good, fresh, named) refl,
+  closes,
+)
+fields_from names around name text rest good fresh is (t, left, is_type, named, inr (fs, others, more, fields_named, closes)) = (
+  one_field name t fs,
+  others,
+  is ∙ ap (λ (s : List ℕ). name ++ (codes " = " ++ s)) (is_type ∙ ap (λ (s : List ℕ). type_text t ++ s) more)
+      ∙ sym (append_assoc name (codes " = " ++ (type_text t ++ (codes ", " ++ fields_text fs))) others ∙ ap (λ (s : List ℕ). name ++ (codes " = " ++ s)) (append_assoc (type_text t) (codes ", " ++ fields_text fs) others)),
+  rw (good, fresh, named, fields_named) refl,
+  closes,
+)
 
 field_sound : (n : ℕ) → Sound n → (names : List (List ℕ)) (around : List Open) (text : List ℕ) → from_next (λ p. leads n p) (field names around text) ≡ true → HasFields names around text
 unfolding field

@@ -3,7 +3,8 @@ use Rattle.std.proofs.Common.{◌≡◌, ℕ, zero, suc, ◌+◌, ◌-◌, ◌<�
 use Rattle.std.proofs.lemmas.List.{map_push}
 use Rattle.std.specs.List.{list_any}
 use Rattle.pt_moml.specs.Names.{has_name}
-use Rattle.pt_moml.specs.TypeTexts.{Place, Next, Goes, Ends, is_field_name, one_more, step, leads, from_next}
+use Rattle.pt_moml.specs.TypeTexts.{is_field_name}
+use Rattle.pt_moml.specs.TypeWords.{Place, Next, Goes, Ends, one_more, step, leads, from_next}
 use Rattle.pt_moml.proofs.DistinctNames.{Name, texts, same, has_name-texts}
 
 -- a name that is there already

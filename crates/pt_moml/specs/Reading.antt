@@ -22,7 +22,7 @@ use Rattle.pt_moml.specs.Document.{PropertyTree, property, to_properties, proper
 use Rattle.pt_moml.specs.Classes.{Kind, Composite, Modal, Actor, kind_of}
 use Rattle.pt_moml.specs.Outcome.{◌>>=◌, refused}
 use Rattle.pt_moml.specs.Names.{top_path, below}
-use Rattle.pt_moml.specs.TypeTexts.{is_type_text}
+use Rattle.pt_moml.specs.TypeWords.{is_type_text}
 use Rattle.pt_moml.specs.Fields.{text_at, required_text, optional_text, name_at, required_truth, optional_truth, required_whole, listed, required_list, optional_list, distinct_at}
 use Rattle.pt_moml.specs.Rules.{parts_fit}
 use Rattle.pt_moml.specs.Limits.{nest_field, is_within}

@@ -10,7 +10,7 @@ use Rattle.pt_moml.specs.declared.refusal.DocFault.TheVariants as faults
 use Rattle.pt_moml.specs.Document.{PropertyTree, property_name, property_value, property_class, inner_properties, PortTree, Parts}
 use Rattle.pt_moml.specs.Classes.{ClassParameter, Class as ClassOf, DirectorClass, director_row, Kind, Composite, Modal, Actor, kind_of}
 use Rattle.pt_moml.specs.Names.{is_name, is_among, is_layout, is_reserved, below, top_path}
-use Rattle.pt_moml.specs.TypeTexts.{is_type_text}
+use Rattle.pt_moml.specs.TypeTexts.{TypeTree, IsTextOf}
 use Rattle.pt_moml.specs.Forms as forms
 use Rattle.pt_moml.specs.Forms.{Object, Form, Field, fields, keys, object, list, named, job, entity, port, port_link, relations_link, tokens_input, events_input}
 use Rattle.pt_moml.specs.Fields.{has_only}
@@ -67,7 +67,7 @@ pub data Faulty : Code → Form → Data → Type 0 where
   no_name : {d : Data} → as_str d ≡ None → Faulty Shape forms.name d
   not_a_name : {d : Data} (s : List ℕ) → as_str d ≡ Some s → is_name s ≡ false → Faulty Name forms.name d
   no_type : {d : Data} → as_str d ≡ None → Faulty Shape forms.type_text d
-  not_a_type : {d : Data} (s : List ℕ) → as_str d ≡ Some s → is_type_text s ≡ false → Faulty Shape forms.type_text d
+  not_a_type : {d : Data} (s : List ℕ) → as_str d ≡ Some s → ((t : TypeTree) → IsTextOf s t → ⊥) → Faulty Shape forms.type_text d
   no_truth : {d : Data} → as_bool d ≡ None → Faulty Shape forms.truth d
   no_whole : {d : Data} → as_whole d ≡ None → Faulty Shape forms.whole d
   no_token : {d : Data} → is_null d ≡ false → as_str d ≡ None → Faulty Shape forms.token d
