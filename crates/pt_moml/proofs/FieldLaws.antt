@@ -1,8 +1,8 @@
 -- What is refused at a field stands there, and where a field is read nothing stands.
-use Rattle.std.proofs.Common.{◌≡◌, ◌⊎◌, inl, inr, List, [], ◌∷◌, ℕ, Result, Ok, Err, Option, Some, None, Bool, true, false, cond, codes, map, refl, sym, ap, ◌∙◌, subst}
-use Rattle.std.specs.Prelude.{option_and_then, is_some}
+use Rattle.std.proofs.Common.{◌≡◌, ◌⊎◌, inl, inr, List, [], ℕ, Result, Ok, Err, Option, Some, None, Bool, true, false, cond, codes, map, refl, sym, ap, ◌∙◌, subst}
+use Rattle.std.specs.Prelude.{option_and_then}
 use Rattle.serde_json.specs.Data.{Data, null, boolean, number, string, array, object as members_of, Items}
-use Rattle.serde_json.specs.Find.{get, get_item, as_str, as_array, as_bool, as_number, as_u64}
+use Rattle.serde_json.specs.Find.{get_item, as_str, as_array, as_bool}
 use Rattle.pt_moml.specs.declared.code.Code.{Code}
 use Rattle.pt_moml.specs.declared.code.Code.TheVariants.{Shape, Name}
 use Rattle.pt_moml.specs.declared.refusal.Refusal.{Refusal}

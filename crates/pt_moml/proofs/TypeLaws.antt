@@ -1,12 +1,10 @@
 -- The words of a text lead to its end exactly where it is the text of a type.
-use Rattle.std.proofs.Common.{◌≡◌, ◌<◌, ◌≤◌, ◌+◌, ◌-◌, ◌⊎◌, ◌&&◌, inl, inr, ℕ, zero, suc, List, [], ◌∷◌, ◌++◌, length, take, drop, Option, Some, None, Bool, true, false, not, cond, codes, refl, sym, ap, ◌∙◌, subst, append_assoc, arith, length-append}
+use Rattle.std.proofs.Common.{◌≡◌, ◌<◌, ◌≤◌, ◌+◌, ◌-◌, ◌&&◌, ℕ, zero, suc, List, [], ◌∷◌, ◌++◌, length, take, drop, Some, Bool, true, false, not, cond, codes, refl, sym, ap, ◌∙◌, append_assoc, arith, length-append}
 use Rattle.std.specs.List.{list_all, prefix_len}
-use Rattle.std.proofs.lemmas.List.{take-append-drop}
 use Rattle.std.proofs.Math.Seq.{take-append_seam, drop-append_seam}
-use Rattle.pt_moml.specs.Names.{is_name, is_first, is_later, is_among, words, has_name}
+use Rattle.pt_moml.specs.Names.{is_name, is_later, has_name}
 use Rattle.pt_moml.specs.TypeTexts.{TypeTree, int_type, boolean_type, string_type, array_type, record_type, FieldTrees, last_field, one_field, type_text, fields_text, is_field_name, has_names, have_names, IsTextOf}
-use Rattle.pt_moml.specs.TypeWords.{Open, in_array, in_record, Place, Next, Goes, Ends, behind, goes_or, one_more, named_or, field, field_or, or_behind, behind_base, begin, behind_field, go_on, is_nothing, step, from_next, leads, is_type_text}
-use Rattle.pt_moml.proofs.TextWords.{behind_some}
+use Rattle.pt_moml.specs.TypeWords.{Open, in_array, in_record, Place, Goes, one_more, named_or, field, begin, go_on, step, from_next, leads, is_type_text}
 
 -- a place where a type is wanted, and one behind a type
 abbrev pub wants : List Open → List ℕ → Place

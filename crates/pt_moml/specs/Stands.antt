@@ -1,7 +1,7 @@
 -- Where a refusal stands in a document, in the words of the format.
-use Rattle.std.specs.Prelude.{◌≡◌, ◌<◌, ◌+◌, ◌⊎◌, ℕ, List, [], ◌∷◌, codes, Bool, true, false, bytes_eq, is_some, Option, Some, None, option_and_then, unwrap_or, map, ◌==◌, Result, Ok}
+use Rattle.std.specs.Prelude.{◌≡◌, ◌<◌, ◌+◌, ◌⊎◌, ℕ, List, [], ◌∷◌, codes, Bool, true, false, is_some, Option, Some, None, option_and_then, unwrap_or, map, Ok}
 use Rattle.std.specs.Bool.{xor}
-use Rattle.serde_json.specs.Data.{Data, null, boolean, object as members_of, Items}
+use Rattle.serde_json.specs.Data.{Data, null, object as members_of, Items}
 use Rattle.serde_json.specs.Find.{get, get_item, as_str, as_array, as_bool, as_number, as_u64}
 use Rattle.pt_moml.specs.declared.code.Code.{Code}
 use Rattle.pt_moml.specs.declared.code.Code.TheVariants.{Json, Shape, Name, Class, Parameter, Limit}
@@ -14,8 +14,8 @@ use Rattle.pt_moml.specs.TypeTexts.{TypeTree, IsTextOf}
 use Rattle.pt_moml.specs.Forms as forms
 use Rattle.pt_moml.specs.Forms.{Object, Form, Field, fields, keys, object, list, named, job, entity, port, port_link, relations_link, tokens_input, events_input}
 use Rattle.pt_moml.specs.Fields.{has_only}
-use Rattle.pt_moml.specs.Limits.{Nest, nest_field, count, levels, most_entities, most_levels}
-use Rattle.pt_moml.specs.Rules.{parameter_names, is_needed, is_of_modal, property_director, rate_rows, directors_among, director_at, is_direction}
+use Rattle.pt_moml.specs.Limits.{nest_field, count, levels, most_entities, most_levels}
+use Rattle.pt_moml.specs.Rules.{parameter_names, is_needed, is_of_modal, rate_rows, directors_among, director_at, is_direction}
 use Rattle.pt_moml.specs.Reading.{IsDocument, NoDocument, is_one, parts_at}
 
 -- this is one of these

@@ -1,4 +1,4 @@
-use Rattle.std.proofs.Common.{◌≡◌, ◌+◌, ◌-◌, ◌≤◌, length}
+use Rattle.std.proofs.Common.{◌≡◌, ◌+◌, ◌-◌, length}
 use Rattle.pt_moml.specs.TypeWords.{leads, place_view, is_type_text}
 use Rattle.pt_moml.proofs.type_text.is_type_text.Given as goal
 
