@@ -1,27 +1,27 @@
 -- What is refused in a document stands there, and where a document is read nothing stands.
-use Rattle.std.proofs.Common.{◌≡◌, ◌<◌, ◌≤◌, ◌+◌, ◌&&◌, ◌⊎◌, inl, inr, List, [], ◌∷◌, ℕ, Result, Ok, Err, Option, Some, None, Bool, true, false, cond, codes, leb, refl, sym, ap, ◌∙◌, subst, arith}
-use Rattle.std.specs.Prelude.{option_and_then, IfOk, IfErr, OnOk}
+use Rattle.std.proofs.Common.{◌≡◌, ◌<◌, ◌+◌, ◌&&◌, ◌⊎◌, inl, inr, List, ℕ, Result, Ok, Err, Option, Some, None, Bool, true, false, codes, leb, refl, sym, ap, ◌∙◌, subst, arith}
+use Rattle.std.specs.Prelude.{IfOk, IfErr, OnOk}
 use Rattle.std.proofs.lemmas.Bool.Decides.{nat_tests}
 use Rattle.serde_json.specs.Data.{Data}
-use Rattle.serde_json.specs.Find.{get, as_str, as_number, as_u64}
+use Rattle.serde_json.specs.Find.{get}
 use Rattle.pt_moml.specs.declared.code.Code.{Code}
 use Rattle.pt_moml.specs.declared.code.Code.TheVariants as code
 use Rattle.pt_moml.specs.declared.refusal.Refusal.{Refusal}
 use Rattle.pt_moml.specs.declared.refusal.DocFault.{DocFault}
 use Rattle.pt_moml.specs.declared.refusal.DocFault.TheVariants as faults
-use Rattle.pt_moml.specs.Document.{EntityTree, InputTree, JobTree}
+use Rattle.pt_moml.specs.Document.{EntityTree, JobTree}
 use Rattle.pt_moml.specs.Names.{is_name, top_path}
-use Rattle.pt_moml.specs.Outcome.{◌>>=◌, refused}
+use Rattle.pt_moml.specs.Outcome.{refused}
 use Rattle.pt_moml.specs.Fields.{listed, text_at, name_at, optional_list}
 use Rattle.pt_moml.specs.Limits.{Nest, nest_field, count, levels, most_entities, most_levels, is_within}
 use Rattle.pt_moml.specs.Forms as forms
 use Rattle.pt_moml.specs.Forms.{Form, list, object}
-use Rattle.pt_moml.specs.Reading.{is_one, version_at, limits_at, model_at, job_of, job_fields, input_at, entity_from, entities_field, IsDocument, NoDocument, IsJobOf, IsFirstRefusal, IsReadFault}
+use Rattle.pt_moml.specs.Reading.{is_one, version_at, limits_at, model_at, job_of, job_fields, input_at, entity_from, entities_field, IsDocument, IsJobOf, IsFirstRefusal, IsReadFault}
 use Rattle.pt_moml.specs.View.{job_view}
 use Rattle.pt_moml.specs.declared.job.Job.{Job}
-use Rattle.pt_moml.specs.Stands.{Faulty, unknown_field, is_object_of, no_version, as_whole, text_in, InJob, in_job_form, too_many, too_deep, model_without_name, model_not_named, in_model, Stands, no_document, in_document, FaultStands, IsClean, entity_count, entity_levels}
+use Rattle.pt_moml.specs.Stands.{Faulty, unknown_field, is_object_of, no_version, as_whole, text_in, InJob, in_job_form, too_many, too_deep, model_without_name, model_not_named, in_model, Stands, no_document, in_document, FaultStands, IsClean}
 use Rattle.pt_moml.proofs.Chains.{Is, good, is_refused, bind_err, bind_ok, never_err, never_ok, test_err, test_ok}
-use Rattle.pt_moml.proofs.FieldLaws.{Fine, Reads, AtField, absent, ReadsAt, FineAt, moved, required_reads, text_reads, optional_list_reads, name_told, name_ok}
+use Rattle.pt_moml.proofs.FieldLaws.{Fine, absent, ReadsAt, FineAt, moved, required_reads, text_reads, optional_list_reads, name_told, name_ok}
 use Rattle.pt_moml.proofs.ObjectLaws.{AllFine, at_field, fine_object, listed_told, listed_ok}
 use Rattle.pt_moml.proofs.PlainObjects.{input_reads}
 use Rattle.pt_moml.proofs.EntityForms.{fine_anything}
@@ -43,7 +43,8 @@ version_reads field =
     required_reads top_path forms.version version_at refl (λ d.
     record {
       told = λ r e. (let t = test_err (is_one (as_whole d)) tt code.Shape top_path r e in moved r code.Shape top_path forms.version d t.0 (no_version t.1));
-      clean = λ u e. fine_version d (test_ok (is_one (as_whole d)) tt u code.Shape top_path e).0 }) field
+      clean = λ u e. fine_version d (test_ok (is_one (as_whole d)) tt u code.Shape top_path e).0;
+    }) field
 
 inputs_reads : (field : Option Data) → ReadsAt top_path false (list forms.input) (optional_list input_at top_path field) field
 inputs_reads field = optional_list_reads top_path forms.input input_at (input_reads top_path) field
@@ -81,10 +82,10 @@ model_told d r no_model e = by_field (get (codes "model") d) refl e
     by_field (Some m) is e =
         elim (bind_err (limits_at m) _ r e) [
           | inl h ↦ (let t = test_err (is_within (nest_field (get (codes "entities") m))) tt code.Limit top_path r h in
-          elim (passed (nest_field (get (codes "entities") m)) t.1) [
-            | inl many ↦ at_top r code.Limit d t.0 (too_many m is many)
-            | inr deep ↦ at_top r code.Limit d t.0 (too_deep m is deep)
-          ])
+              elim (passed (nest_field (get (codes "entities") m)) t.1) [
+                | inl many ↦ at_top r code.Limit d t.0 (too_many m is many)
+                | inr deep ↦ at_top r code.Limit d t.0 (too_deep m is deep)
+              ])
           | inr h ↦ elim (bind_err (name_at top_path (get (codes "name") m)) _ r h.2) [
             | inl g ↦ elim (name_told top_path (get (codes "name") m) r g) [
               | inl f ↦ at_top r code.Shape d f.0 (model_without_name m is f.1)
@@ -124,7 +125,7 @@ job_told d r e =
         | inl k ↦ (let t = (version_reads (get (codes "version") d)).told r k in in_form r d t.0 (at_field r forms.job (forms.required (codes "version") forms.version) d (inl refl) t.1))
         | inr k ↦ elim (bind_err (model_at (get (codes "model") d)) _ r k.2) [
           | inl m ↦ model_told d r
-            (λ none e. (let t = is_refused code.Shape top_path r e in in_form r d t.1 (at_field r forms.job (forms.required (codes "model") forms.anything) d (inr (inl refl)) (absent t.0 refl none)))) m
+              (λ none e. (let t = is_refused code.Shape top_path r e in in_form r d t.1 (at_field r forms.job (forms.required (codes "model") forms.anything) d (inr (inl refl)) (absent t.0 refl none)))) m
           | inr m ↦ elim (bind_err (optional_list input_at top_path (get (codes "inputs") d)) _ r m.2) [
             | inl i ↦ (let t = (inputs_reads (get (codes "inputs") d)).told r i in in_form r d t.0 (at_field r forms.job (forms.optional (codes "inputs") (list forms.input)) d (inr (inr (inl refl))) t.1))
             | inr i ↦ elim (bind_err (optional_list text_at top_path (get (codes "record") d)) _ r i.2) [
@@ -160,7 +161,8 @@ job_steps d j e =
       all = ((version_reads (get (codes "version") d)).clean k.0 k.1, (fine_model (get (codes "model") d) m.0 m.1, ((inputs_reads (get (codes "inputs") d)).clean i.0 i.1, ((records_reads (get (codes "record") d)).clean t.0 t.1, tt))));
       known = listed_ok top_path job_fields d h.0 h.1;
       model = m.0;
-      model_is = m.1 }
+      model_is = m.1;
+    }
 
 model_of : (d m : Data) (s : JobSteps d) → get (codes "model") d ≡ Some m → ModelSteps m s.model
 model_of d m s is = model_steps m s.model (ap model_at (sym is) ∙ s.model_is)

@@ -1,8 +1,7 @@
 -- What is refused in entities stands there, and where entities are read nothing stands.
-use Rattle.std.proofs.Common.{◌≡◌, ◌<◌, ◌≤◌, ◌+◌, ◌⊎◌, inl, inr, List, [], ◌∷◌, ℕ, zero, suc, Result, Ok, Err, Option, Some, None, Bool, true, false, cond, codes, map, refl, sym, ap, ◌∙◌, subst, arith}
-use Rattle.std.specs.Prelude.{option_and_then}
+use Rattle.std.proofs.Common.{◌≡◌, ◌<◌, inl, inr, List, [], ℕ, zero, suc, Result, Ok, Err, Option, Some, None, true, false, codes, map, refl, sym, ap, ◌∙◌, subst, arith}
 use Rattle.serde_json.specs.Data.{Data, null, boolean, number, string, array, object as members_of, Items, depth}
-use Rattle.serde_json.specs.Find.{get, get_item, as_str, as_array}
+use Rattle.serde_json.specs.Find.{get, get_item, as_array}
 use Rattle.pt_moml.specs.declared.code.Code.{Code}
 use Rattle.pt_moml.specs.declared.code.Code.TheVariants as code
 use Rattle.pt_moml.specs.declared.job.Link.{Link}
@@ -12,13 +11,13 @@ use Rattle.pt_moml.specs.declared.refusal.Refusal.{Refusal}
 use Rattle.pt_moml.specs.Document.{PropertyTree, PortTree, TransitionTree, Parts, EntityTree, entity, to_entities, entity_name}
 use Rattle.pt_moml.specs.Classes.{Kind, kind_of}
 use Rattle.pt_moml.specs.Names.{is_name, are_distinct, below}
-use Rattle.pt_moml.specs.Outcome.{◌>>=◌, refused}
+use Rattle.pt_moml.specs.Outcome.{refused}
 use Rattle.pt_moml.specs.Fields.{listed, required_text, name_at, items_at, optional_list, distinct_at}
 use Rattle.pt_moml.specs.Rules.{parts_fit}
 use Rattle.pt_moml.specs.Reading.{named, kind_given, kind_at, entity_fields, properties_field, ports_field, relations_field, link_at, states_field, initial_field, transition_at, parts_at, entity_from, entity_at, entities_in, entities_at, entity_items, entities_field}
 use Rattle.pt_moml.specs.Forms as forms
 use Rattle.pt_moml.specs.Forms.{object}
-use Rattle.pt_moml.specs.Stands.{Faulty, BreaksRule, InEntity, no_class, unknown_class, in_form, in_rule, no_children, child_without_name, child_not_named, in_child, same_child_names, HasRepeatedName, text_in}
+use Rattle.pt_moml.specs.Stands.{Faulty, BreaksRule, InEntity, no_class, unknown_class, in_form, in_rule, no_children, child_without_name, child_not_named, in_child, same_child_names, text_in}
 use Rattle.pt_moml.proofs.Chains.{Is, good, is_refused, bind_err, bind_ok, never_err, never_ok, test_err, test_ok}
 use Rattle.pt_moml.proofs.Depths.{field_item_depth}
 use Rattle.pt_moml.proofs.Entities.{items_are}
@@ -136,8 +135,8 @@ children_told here d r child_fault e = by_field (get (codes "entities") d) refl 
           | inl h ↦ (let t = items_told (entity_at here) [] ds r (sym (items_are here [] ds) ∙ h) in child_fault (array ds) ds t.0 t.1 is refl t.2 t.3)
           | inr h ↦ elim (bind_err (distinct_at here (map entity_name h.0)) (λ _. good h.0) r h.2) [
             | inl g ↦ (let t = test_err (are_distinct (map entity_name h.0)) tt code.Name here r g in
-            let s = items_named (entity_at here) entity_name (entity_named here) [] ds h.0 (sym (items_are here [] ds) ∙ h.1) in
-            moved r code.Name here d t.0 (same_child_names (array ds) ds is refl (not_distinct (map entity_name h.0) ds (subst (λ ys. AreNames (map entity_name ys) ds) (sym s.1) s.2) t.1)))
+                let s = items_named (entity_at here) entity_name (entity_named here) [] ds h.0 (sym (items_are here [] ds) ∙ h.1) in
+                moved r code.Name here d t.0 (same_child_names (array ds) ds is refl (not_distinct (map entity_name h.0) ds (subst (λ ys. AreNames (map entity_name ys) ds) (sym s.1) s.2) t.1)))
             | inr g ↦ absurd (never_err h.0 r g.2)
           ]
         ]
@@ -150,20 +149,20 @@ told_within (suc n) here name d r deep named e =
     elim (bind_err (required_text here (get (codes "class") d)) _ r e) [
       | inl h ↦ (let t = required_text_told here (get (codes "class") d) r h in moved r code.Shape here d t.0 (no_class t.1))
       | inr h ↦ (let class_is = required_text_ok here (get (codes "class") d) h.0 h.1 in
-      elim (bind_err (kind_at here h.0) _ r h.2) [
-        | inl k ↦ (let t = kind_told here h.0 r k in moved r code.Class here d t.0 (unknown_class h.0 class_is t.1))
-        | inr k ↦ (let kind_is = kind_ok here h.0 k.0 k.1 in
-        elim (bind_err (parts_at here name h.0 k.0 d) _ r k.2) [
-          | inl p ↦ (let t = (parts_reads here name h.0 k.0 d named class_is).told r p in subst (λ (q : List ℕ). InEntity r.code q here d) (sym t.0) (in_form h.0 k.0 class_is kind_is t.1))
-          | inr p ↦ elim (bind_err (parts_fit here k.0 p.0.properties p.0.ports) _ r p.2) [
-            | inl f ↦ in_rule name h.0 k.0 p.0 named class_is kind_is p.1 (rules_told here k.0 p.0.properties p.0.ports r f)
-            | inr f ↦ elim (bind_err (entities_field here (get (codes "entities") d)) _ r f.2) [
-              | inl m ↦ children_told here d r (λ x ds i child is list at_i. child_told here d x ds i child r is list at_i (λ s s_is. told_within n (below here s) s child r (omega (arith, deep, field_item_depth (codes "entities") d x ds i child is list at_i)) s_is)) m
-              | inr m ↦ absurd (never_err (entity p.0 (to_entities m.0)) r m.2)
-            ]
-          ]
-        ])
-      ])
+          elim (bind_err (kind_at here h.0) _ r h.2) [
+            | inl k ↦ (let t = kind_told here h.0 r k in moved r code.Class here d t.0 (unknown_class h.0 class_is t.1))
+            | inr k ↦ (let kind_is = kind_ok here h.0 k.0 k.1 in
+                elim (bind_err (parts_at here name h.0 k.0 d) _ r k.2) [
+                  | inl p ↦ (let t = (parts_reads here name h.0 k.0 d named class_is).told r p in subst (λ (q : List ℕ). InEntity r.code q here d) (sym t.0) (in_form h.0 k.0 class_is kind_is t.1))
+                  | inr p ↦ elim (bind_err (parts_fit here k.0 p.0.properties p.0.ports) _ r p.2) [
+                    | inl f ↦ in_rule name h.0 k.0 p.0 named class_is kind_is p.1 (rules_told here k.0 p.0.properties p.0.ports r f)
+                    | inr f ↦ elim (bind_err (entities_field here (get (codes "entities") d)) _ r f.2) [
+                      | inl m ↦ children_told here d r (λ x ds i child is list at_i. child_told here d x ds i child r is list at_i (λ s s_is. told_within n (below here s) s child r (omega (arith, deep, field_item_depth (codes "entities") d x ds i child is list at_i)) s_is)) m
+                      | inr m ↦ absurd (never_err (entity p.0 (to_entities m.0)) r m.2)
+                    ]
+                  ]
+                ])
+          ])
     ]
 
 -- A refusal of an entity stands in it.

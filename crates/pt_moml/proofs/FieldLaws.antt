@@ -1,20 +1,23 @@
 -- What is refused at a field stands there, and where a field is read nothing stands.
-use Rattle.std.proofs.Common.{◌≡◌, ◌⊎◌, inl, inr, List, [], ◌∷◌, ℕ, Result, Ok, Err, Option, Some, None, Bool, true, false, cond, codes, map, refl, sym, ap, ◌∙◌, subst}
-use Rattle.std.specs.Prelude.{option_and_then, is_some}
+use Rattle.std.proofs.Common.{◌≡◌, ◌⊎◌, inl, inr, List, [], ℕ, Result, Ok, Err, Option, Some, None, Bool, true, false, cond, codes, map, refl, sym, ap, ◌∙◌, subst}
+use Rattle.std.specs.Prelude.{option_and_then}
 use Rattle.serde_json.specs.Data.{Data, null, boolean, number, string, array, object as members_of, Items}
-use Rattle.serde_json.specs.Find.{get, get_item, as_str, as_array, as_bool, as_number, as_u64}
+use Rattle.serde_json.specs.Find.{get_item, as_str, as_array, as_bool}
 use Rattle.pt_moml.specs.declared.code.Code.{Code}
 use Rattle.pt_moml.specs.declared.code.Code.TheVariants.{Shape, Name}
 use Rattle.pt_moml.specs.declared.refusal.Refusal.{Refusal}
 use Rattle.pt_moml.specs.Outcome.{◌>>=◌, refused}
 use Rattle.pt_moml.specs.Names.{is_name, are_distinct}
-use Rattle.pt_moml.specs.TypeTexts.{is_type_text}
+use Rattle.pt_moml.specs.TypeTexts.{TypeTree, IsTextOf}
+use Rattle.pt_moml.specs.TypeWords.{is_type_text}
 use Rattle.pt_moml.specs.Fields.{text_at, required_text, optional_text, name_at, truth_at, required_truth, optional_truth, whole, required_whole, items_at, required_list, optional_list, distinct_at}
 use Rattle.pt_moml.specs.Forms as forms
 use Rattle.pt_moml.specs.Forms.{Form, list, named}
 use Rattle.pt_moml.specs.Reading.{declared_at, token_at}
 use Rattle.pt_moml.specs.Reading.{named as named_list}
 use Rattle.pt_moml.specs.Stands.{Faulty, no_text, no_name, not_a_name, no_type, not_a_type, no_truth, no_whole, no_token, no_list, in_item, in_list, same_names, as_whole, text_in, is_null}
+use Rattle.pt_moml.proofs.TypeLaws.{text_is_taken}
+use Rattle.pt_moml.proofs.TypeSound.{taken_is_text}
 use Rattle.pt_moml.proofs.Chains.{Is, good, is_refused, bind_err, bind_ok, never_err, never_ok, test_err, test_ok}
 use Rattle.pt_moml.proofs.ItemLists.{items_told, items_clean, items_named, AreNames, not_distinct, distinct_clean}
 
@@ -181,7 +184,10 @@ required_whole_reads path field = required_reads path forms.whole (required_whol
 
 fine_type : (d : Data) (s : List ℕ) → as_str d ≡ Some s → is_type_text s ≡ true → Fine forms.type_text d
 fine_type d s is good code (no_type none) = cc
-fine_type d s is good code (not_a_type t text bad) = let same : s ≡ t = cc in let both : is_type_text t ≡ true = sym (ap is_type_text same) ∙ good in cc
+fine_type d s is good code (not_a_type t text bad) = let same : s ≡ t = cc in let h = taken_is_text t (sym (ap is_type_text same) ∙ good) in bad h.0 h.1
+
+no_type_of : (s : List ℕ) → is_type_text s ≡ false → (t : TypeTree) → IsTextOf s t → ⊥
+no_type_of s bad t is = let both : false ≡ true = sym bad ∙ text_is_taken s t is in cc
 
 type_reads : (path : List ℕ) (d : Data) → Reads path forms.type_text (declared_at path (Some d)) d
 unfolding declared_at
@@ -189,7 +195,7 @@ type_reads path d =
     record {
       told = λ r e. elim (bind_err (text_at path d) (λ s. cond (is_type_text s) (good (Some s)) (refused Shape path)) r e) [
         | inl h ↦ (let t = text_told path d r h in moved r Shape path forms.type_text d t.0 (no_type t.1))
-        | inr h ↦ (let t = test_err (is_type_text h.0) (Some h.0) Shape path r h.2 in moved r Shape path forms.type_text d t.0 (not_a_type h.0 (text_ok path d h.0 h.1) t.1))
+        | inr h ↦ (let t = test_err (is_type_text h.0) (Some h.0) Shape path r h.2 in moved r Shape path forms.type_text d t.0 (not_a_type h.0 (text_ok path d h.0 h.1) (no_type_of h.0 t.1)))
       ];
       clean = λ s e. (let h = bind_ok (text_at path d) (λ s. cond (is_type_text s) (good (Some s)) (refused Shape path)) s e in
           let t = test_ok (is_type_text h.0) (Some h.0) s Shape path h.2 in fine_type d h.0 (text_ok path d h.0 h.1) t.0);

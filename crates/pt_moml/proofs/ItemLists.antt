@@ -1,7 +1,6 @@
 -- Lists that are read item by item.
-use Rattle.std.proofs.Common.{◌≡◌, ◌<◌, ◌⊎◌, ◌||◌, inl, inr, List, [], ◌∷◌, ◌++◌, ℕ, zero, suc, Result, Ok, Err, Option, Some, None, Bool, true, false, cond, map, codes, refl, sym, ap, ◌∙◌, append_assoc, arith, bytes_eq}
+use Rattle.std.proofs.Common.{◌≡◌, ◌<◌, ◌⊎◌, ◌||◌, inl, inr, List, [], ◌∷◌, ◌++◌, ℕ, zero, suc, Result, Ok, Err, Option, Some, Bool, true, false, cond, map, codes, refl, sym, ap, ◌∙◌, append_assoc, arith, bytes_eq}
 use Rattle.std.specs.Prelude.{option_and_then}
-use Rattle.std.specs.List.{list_any}
 use Rattle.std.proofs.lemmas.Slice.Eq.{bytes_eq-Decides}
 use Rattle.serde_json.specs.Data.{Data, Items, no_items, item}
 use Rattle.serde_json.specs.Find.{get_item}

@@ -22,3 +22,4 @@ pub mod EntityLaws
 pub mod DocumentLaws
 pub mod TextWords
 pub mod TypeLaws
+pub mod TypeSound

@@ -1,5 +1,5 @@
 -- What is refused in an object stands there, and where an object is read nothing stands.
-use Rattle.std.proofs.Common.{◌≡◌, ◌⊎◌, inl, inr, List, [], ◌∷◌, ℕ, Result, Ok, Err, Option, Some, None, Bool, true, false, cond, Ordering, Less, Equal, Greater, codes, refl, sym, ap, ◌∙◌, subst}
+use Rattle.std.proofs.Common.{◌≡◌, inl, inr, List, [], ◌∷◌, ℕ, Result, Ok, Err, Some, None, Bool, true, false, cond, Ordering, Less, Equal, Greater, refl, sym, ap, ◌∙◌, subst}
 use Rattle.std.specs.Ordering.{nat_cmp, match_ordering, is_eq}
 use Rattle.std.specs.Cmp.Lexicographic.{slice_cmp}
 use Rattle.std.proofs.lemmas.Map.Text.{is_eq-slice_cmp}
@@ -9,10 +9,10 @@ use Rattle.serde_json.specs.Find.{get, get_member}
 use Rattle.pt_moml.specs.declared.code.Code.{Code}
 use Rattle.pt_moml.specs.declared.code.Code.TheVariants.{Shape}
 use Rattle.pt_moml.specs.declared.refusal.Refusal.{Refusal}
-use Rattle.pt_moml.specs.Outcome.{◌>>=◌, refused}
+use Rattle.pt_moml.specs.Outcome.{◌>>=◌}
 use Rattle.pt_moml.specs.Names.{is_among}
 use Rattle.pt_moml.specs.Fields.{has_only, listed}
-use Rattle.pt_moml.specs.Forms.{Object, Form, Field, fields, keys, object}
+use Rattle.pt_moml.specs.Forms.{Object, Field, fields, keys, object}
 use Rattle.pt_moml.specs.Stands.{Faulty, unknown_field, missing_field, in_field, undirected, IsIn, is_object_of, is_directed}
 use Rattle.pt_moml.proofs.Chains.{Is, is_refused, bind_err, bind_ok, never_err, test_err, test_ok}
 use Rattle.pt_moml.proofs.FieldLaws.{Fine, Reads, AtField, absent, within, FineAt, ReadsAt, moved}

@@ -1,5 +1,5 @@
 -- The objects of the format beside properties, ports, entities and jobs.
-use Rattle.std.proofs.Common.{◌≡◌, inl, inr, List, ℕ, Bool, true, false, cond, Result, Ok, Err, codes, refl, sym, ◌∙◌, Option}
+use Rattle.std.proofs.Common.{◌≡◌, inl, inr, List, ℕ, Bool, true, false, cond, Ok, Err, codes, refl, sym, ◌∙◌}
 use Rattle.std.specs.Prelude.{is_some}
 use Rattle.serde_json.specs.Data.{Data}
 use Rattle.serde_json.specs.Find.{get}

@@ -1,8 +1,7 @@
 -- What a contract sees of a property's fields.
-use Rattle.std.proofs.Common.{◌≡◌, ℕ, List, Option, Some, Result, sym, ap, ◌∙◌, rules}
-use Rattle.pt_moml.specs.declared.refusal.Refusal.{Refusal}
+use Rattle.std.proofs.Common.{◌≡◌, ℕ, List, Some, sym, ap, ◌∙◌, rules}
 use Rattle.pt_moml.specs.declared.job.Property.{Property, out-Property, the_lemmas}
-use Rattle.pt_moml.specs.Document.{PropertyTree, to_properties, property_list, property_class, inner_properties}
+use Rattle.pt_moml.specs.Document.{to_properties, property_list, property_class, inner_properties}
 use Rattle.pt_moml.specs.Classes.{DirectorClass, director_row}
 use Rattle.pt_moml.specs.Rules.{classed_fits, director_fits, parameters_fit}
 use Rattle.pt_moml.specs.View.{property_view, properties_view}

@@ -1,7 +1,7 @@
 -- A word at the front of a text.
-use Rattle.std.proofs.Common.{◌≡◌, ◌<◌, ◌&&◌, ℕ, List, [], ◌∷◌, ◌++◌, length, take, drop, Option, Some, None, Bool, true, false, cond, eqb, bytes_eq, refl, sym, ap, ◌∙◌, arith}
+use Rattle.std.proofs.Common.{◌≡◌, ◌<◌, ◌&&◌, ℕ, List, [], ◌∷◌, ◌++◌, length, take, drop, Some, None, Bool, true, false, cond, eqb, bytes_eq, refl, arith}
 use Rattle.std.proofs.lemmas.Bool.Decides.{nat_tests}
-use Rattle.pt_moml.specs.TypeTexts.{behind}
+use Rattle.pt_moml.specs.TypeWords.{behind}
 
 -- a text that is shorter than a word doesn't begin with it
 pub behind_short : (word text : List ℕ) → length text < length word → None ≡ behind word text

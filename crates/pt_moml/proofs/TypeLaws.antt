@@ -1,17 +1,16 @@
 -- The words of a text lead to its end exactly where it is the text of a type.
-use Rattle.std.proofs.Common.{◌≡◌, ◌<◌, ◌≤◌, ◌+◌, ◌-◌, ◌⊎◌, ◌&&◌, inl, inr, ℕ, zero, suc, List, [], ◌∷◌, ◌++◌, length, take, drop, Option, Some, None, Bool, true, false, not, cond, codes, refl, sym, ap, ◌∙◌, subst, append_assoc, arith, length-append}
+use Rattle.std.proofs.Common.{◌≡◌, ◌<◌, ◌≤◌, ◌+◌, ◌-◌, ◌&&◌, ℕ, zero, suc, List, [], ◌∷◌, ◌++◌, length, take, drop, Some, Bool, true, false, not, cond, codes, refl, sym, ap, ◌∙◌, append_assoc, arith, length-append}
 use Rattle.std.specs.List.{list_all, prefix_len}
-use Rattle.std.proofs.lemmas.List.{take-append-drop}
 use Rattle.std.proofs.Math.Seq.{take-append_seam, drop-append_seam}
-use Rattle.pt_moml.specs.Names.{is_name, is_first, is_later, is_among, words, has_name}
-use Rattle.pt_moml.specs.TypeTexts.{TypeTree, int_type, boolean_type, string_type, array_type, record_type, FieldTrees, last_field, one_field, type_text, fields_text, is_field_name, has_names, have_names, IsTextOf, Open, in_array, in_record, Place, Next, Goes, Ends, behind, goes_or, one_more, named_or, field, field_or, or_behind, behind_base, begin, behind_field, go_on, is_nothing, step, from_next, leads, is_type_text}
-use Rattle.pt_moml.proofs.TextWords.{behind_some}
+use Rattle.pt_moml.specs.Names.{is_name, is_later, has_name}
+use Rattle.pt_moml.specs.TypeTexts.{TypeTree, int_type, boolean_type, string_type, array_type, record_type, FieldTrees, last_field, one_field, type_text, fields_text, is_field_name, has_names, have_names, IsTextOf}
+use Rattle.pt_moml.specs.TypeWords.{Open, in_array, in_record, Place, Goes, one_more, named_or, field, begin, go_on, step, from_next, leads, is_type_text}
 
 -- a place where a type is wanted, and one behind a type
-abbrev wants : List Open → List ℕ → Place
+abbrev pub wants : List Open → List ℕ → Place
 wants around text = record { wants_type = true; around = around; rest = text }
 
-abbrev after : List Open → List ℕ → Place
+abbrev pub after : List Open → List ℕ → Place
 after around text = record { wants_type = false; around = around; rest = text }
 
 -- ---- tests on names
@@ -90,23 +89,27 @@ mutual
       let h = both_true _ (has_names t) named in
       let n = both_true (is_field_name name) _ h.0 in
       let text : (name ++ (codes " = " ++ (type_text t ++ codes "}"))) ++ rest ≡ name ++ (codes " = " ++ (type_text t ++ (codes "}" ++ rest))) = append_assoc name (codes " = " ++ (type_text t ++ codes "}")) rest ∙ ap (λ (s : List ℕ). name ++ (codes " = " ++ s)) (append_assoc (type_text t) (codes "}") rest) in
-      let size : length (name ++ (codes " = " ++ (type_text t ++ codes "}"))) ≡ length name + (3 + (length (type_text t) + 1)) = omega (arith, length-append name (codes " = " ++ (type_text t ++ codes "}")), length_pair (codes " = ") (type_text t) (codes "}")) in
-      (field_place names around name (type_text t ++ (codes "}" ++ rest)), ap (field names around) text ∙ field_goes names around name (type_text t ++ (codes "}" ++ rest)) n.0 (not_true (has_name names name) n.1),
-        further (length (type_text t)) 1 (length (name ++ (codes " = " ++ (type_text t ++ codes "}")))) _ _ _ (omega arith) (type_within t (in_record (names ++ name ∷ []) ∷ around) (codes "}" ++ rest) h.1) (one_word (after (in_record (names ++ name ∷ []) ∷ around) (codes "}" ++ rest)) (after around rest) refl))
+      let size : length (name ++ (codes " = " ++ (type_text t ++ codes "}"))) ≡ length name + (3 + (length (type_text t) + 1)) = omega (arith, length-append name (codes " = " ++ (type_text t ++ codes "}")), length_pair (codes " = ") (type_text t) (codes "}")) in (
+        field_place names around name (type_text t ++ (codes "}" ++ rest)),
+        ap (field names around) text ∙ field_goes names around name (type_text t ++ (codes "}" ++ rest)) n.0 (not_true (has_name names name) n.1),
+        further (length (type_text t)) 1 (length (name ++ (codes " = " ++ (type_text t ++ codes "}")))) _ _ _ (omega arith) (type_within t (in_record (names ++ name ∷ []) ∷ around) (codes "}" ++ rest) h.1) (one_word (after (in_record (names ++ name ∷ []) ∷ around) (codes "}" ++ rest)) (after around rest) refl),
+      )
   fields_within (one_field name t fs) names around rest named =
       let h = both_true _ (has_names t && have_names (names ++ name ∷ []) fs) named in
       let n = both_true (is_field_name name) _ h.0 in
       let k = both_true (has_names t) _ h.1 in
       let later = fields_within fs (names ++ name ∷ []) around rest k.1 in
       let text : (name ++ (codes " = " ++ (type_text t ++ (codes ", " ++ fields_text fs)))) ++ rest ≡ name ++ (codes " = " ++ (type_text t ++ (codes ", " ++ (fields_text fs ++ rest)))) =
-          append_assoc name (codes " = " ++ (type_text t ++ (codes ", " ++ fields_text fs))) rest ∙ ap (λ (s : List ℕ). name ++ (codes " = " ++ s)) (append_assoc (type_text t) (codes ", " ++ fields_text fs) rest) in
+      append_assoc name (codes " = " ++ (type_text t ++ (codes ", " ++ fields_text fs))) rest ∙ ap (λ (s : List ℕ). name ++ (codes " = " ++ s)) (append_assoc (type_text t) (codes ", " ++ fields_text fs) rest) in
       let size : length (name ++ (codes " = " ++ (type_text t ++ (codes ", " ++ fields_text fs)))) ≡ length name + (3 + (length (type_text t) + (2 + length (fields_text fs)))) =
-          omega (arith, length-append name (codes " = " ++ (type_text t ++ (codes ", " ++ fields_text fs))), length_pair (codes " = ") (type_text t) (codes ", " ++ fields_text fs), length-append (codes ", ") (fields_text fs)) in
-      (field_place names around name (type_text t ++ (codes ", " ++ (fields_text fs ++ rest))), ap (field names around) text ∙ field_goes names around name (type_text t ++ (codes ", " ++ (fields_text fs ++ rest))) n.0 (not_true (has_name names name) n.1),
+      omega (arith, length-append name (codes " = " ++ (type_text t ++ (codes ", " ++ fields_text fs))), length_pair (codes " = ") (type_text t) (codes ", " ++ fields_text fs), length-append (codes ", ") (fields_text fs)) in (
+        field_place names around name (type_text t ++ (codes ", " ++ (fields_text fs ++ rest))),
+        ap (field names around) text ∙ field_goes names around name (type_text t ++ (codes ", " ++ (fields_text fs ++ rest))) n.0 (not_true (has_name names name) n.1),
         further (length (type_text t)) (1 + length (fields_text fs)) (length (name ++ (codes " = " ++ (type_text t ++ (codes ", " ++ fields_text fs))))) _ _ _ (omega arith) (type_within t (in_record (names ++ name ∷ []) ∷ around) (codes ", " ++ (fields_text fs ++ rest)) k.0)
-        (further 1 (length (fields_text fs)) (1 + length (fields_text fs)) _ _ _ (omega arith) (one_word (after (in_record (names ++ name ∷ []) ∷ around) (codes ", " ++ (fields_text fs ++ rest))) later.0 later.1) later.2))
+            (further 1 (length (fields_text fs)) (1 + length (fields_text fs)) _ _ _ (omega arith) (one_word (after (in_record (names ++ name ∷ []) ∷ around) (codes ", " ++ (fields_text fs ++ rest))) later.0 later.1) later.2),
+      )
 
-append_nothing : (s : List ℕ) → s ++ [] ≡ s
+pub append_nothing : (s : List ℕ) → s ++ [] ≡ s
 append_nothing [] = refl
 append_nothing (c ∷ s) = ap (λ (t : List ℕ). c ∷ t) (append_nothing s)
 
@@ -123,5 +126,5 @@ text_is_taken text t is =
     let n = length (type_text t) + 1 - w.0 in
     let fuel : length (type_text t) + 1 ≡ w.0 + n = omega (arith, w.1) in
     let start : leads (length (type_text t) + 1) (wants [] (type_text t)) ≡ true =
-        ap (λ (m : ℕ). leads m (wants [] (type_text t))) fuel ∙ ap (λ (s : List ℕ). leads (w.0 + n) (wants [] s)) (sym (append_nothing (type_text t))) ∙ w.2 n ∙ ends_well n (omega (arith, w.1)) in
+    ap (λ (m : ℕ). leads m (wants [] (type_text t))) fuel ∙ ap (λ (s : List ℕ). leads (w.0 + n) (wants [] s)) (sym (append_nothing (type_text t))) ∙ w.2 n ∙ ends_well n (omega (arith, w.1)) in
     ap (λ (s : List ℕ). leads (length s + 1) (wants [] s)) is.same ∙ start

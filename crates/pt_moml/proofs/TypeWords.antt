@@ -1,9 +1,10 @@
 -- Reading a type's text word by word.
-use Rattle.std.proofs.Common.{◌≡◌, ℕ, zero, suc, ◌+◌, ◌-◌, ◌<◌, List, [], ◌∷◌, ◌++◌, Bool, true, false, not, cond, Option, Some, None, refl, sym, ap, ◌∙◌, subst, arith}
+use Rattle.std.proofs.Common.{◌≡◌, ℕ, zero, suc, ◌-◌, ◌<◌, List, [], ◌∷◌, ◌++◌, Bool, true, false, not, cond, Some, None, refl, sym, ap, ◌∙◌, arith}
 use Rattle.std.proofs.lemmas.List.{map_push}
 use Rattle.std.specs.List.{list_any}
 use Rattle.pt_moml.specs.Names.{has_name}
-use Rattle.pt_moml.specs.TypeTexts.{Place, Next, Goes, Ends, is_field_name, one_more, step, leads, from_next}
+use Rattle.pt_moml.specs.TypeTexts.{is_field_name}
+use Rattle.pt_moml.specs.TypeWords.{Place, one_more, step, leads, from_next}
 use Rattle.pt_moml.proofs.DistinctNames.{Name, texts, same, has_name-texts}
 
 -- a name that is there already

@@ -1,5 +1,5 @@
 -- The classes of entities and of directors, as the tables of the program list them.
-use Rattle.std.specs.Prelude.{ℕ, List, [], ◌∷◌, Bool, true, false, Option, Some, None, map, option_map, bytes_eq, codes, if◌then◌else◌}
+use Rattle.std.specs.Prelude.{ℕ, List, [], ◌∷◌, Option, Some, None, map, option_map, bytes_eq, codes, if◌then◌else◌}
 use Rattle.std.specs.Borrow.{Bor}
 use Rattle.pt_moml.specs.declared.classes.Director.{Director}
 use Rattle.pt_moml.specs.declared.classes.PortRow.{PortRow}

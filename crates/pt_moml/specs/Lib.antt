@@ -5,6 +5,7 @@ pub mod Classes
 pub mod Outcome
 pub mod Names
 pub mod TypeTexts
+pub mod TypeWords
 pub mod Fields
 pub mod Rules
 pub mod Limits

@@ -2,7 +2,7 @@
 use Rattle.std.specs.Prelude.{◌≡◌, ℕ, ◌==◌, List, [], ◌∷◌, ◌++◌, Bool, true, false, codes, Option, Some, None, Result, Ok, Err, if◌then◌else◌, is_some, option_and_then, map, ◌⊎◌, IsUtf8}
 use Rattle.std.specs.Ordering.{nat_cmp, match_ordering}
 use Rattle.std.specs.Cmp.Lexicographic.{slice_cmp}
-use Rattle.serde_json.specs.Data.{Data, null, string, array, object, Items, no_items, item, Members, no_members, member}
+use Rattle.serde_json.specs.Data.{Data, null, array, object, Items, no_items, item, Members, no_members, member}
 use Rattle.serde_json.specs.Find.{get, as_number, as_u64}
 use Rattle.serde_json.specs.Read.{read}
 use Rattle.pt_moml.specs.declared.code.Code.TheVariants.{Json, Shape, Class, Limit}
@@ -18,11 +18,11 @@ use Rattle.pt_moml.specs.declared.job.Event.{Event}
 use Rattle.pt_moml.specs.declared.refusal.Refusal.{Refusal}
 use Rattle.pt_moml.specs.declared.refusal.DocFault.{DocFault}
 use Rattle.pt_moml.specs.declared.refusal.DocFault.TheVariants as faults
-use Rattle.pt_moml.specs.Document.{PropertyTree, property, to_properties, property_name, PortTree, TransitionTree, Parts, EntityTree, entity, to_entities, entity_name, SupplyTree, tokens, events, InputTree, JobTree}
-use Rattle.pt_moml.specs.Classes.{Kind, Composite, Modal, Actor, kind_of}
+use Rattle.pt_moml.specs.Document.{PropertyTree, property, to_properties, property_name, PortTree, TransitionTree, Parts, EntityTree, entity, to_entities, entity_name, tokens, events, InputTree, JobTree}
+use Rattle.pt_moml.specs.Classes.{Kind, Modal, kind_of}
 use Rattle.pt_moml.specs.Outcome.{◌>>=◌, refused}
 use Rattle.pt_moml.specs.Names.{top_path, below}
-use Rattle.pt_moml.specs.TypeTexts.{is_type_text}
+use Rattle.pt_moml.specs.TypeWords.{is_type_text}
 use Rattle.pt_moml.specs.Fields.{text_at, required_text, optional_text, name_at, required_truth, optional_truth, required_whole, listed, required_list, optional_list, distinct_at}
 use Rattle.pt_moml.specs.Rules.{parts_fit}
 use Rattle.pt_moml.specs.Limits.{nest_field, is_within}

@@ -1,5 +1,5 @@
 -- What the parts of an entity have to keep beside their form.
-use Rattle.std.specs.Prelude.{ℕ, ◌&&◌, ◌||◌, List, [], ◌∷◌, Bool, true, false, not, codes, Option, Some, None, Result, Ok, Err, if◌then◌else◌, is_some, option_and_then, map, bytes_eq}
+use Rattle.std.specs.Prelude.{ℕ, ◌&&◌, List, [], ◌∷◌, Bool, true, false, not, codes, Option, Some, None, Result, Ok, if◌then◌else◌, is_some, option_and_then, map, bytes_eq}
 use Rattle.std.specs.List.{filter_map}
 use Rattle.pt_moml.specs.declared.code.Code.TheVariants as code
 use Rattle.pt_moml.specs.declared.job.Direction.{Direction}

@@ -1,7 +1,7 @@
 -- Where a refusal stands in a document, in the words of the format.
-use Rattle.std.specs.Prelude.{◌≡◌, ◌<◌, ◌+◌, ◌⊎◌, ℕ, List, [], ◌∷◌, codes, Bool, true, false, bytes_eq, is_some, Option, Some, None, option_and_then, unwrap_or, map, ◌==◌, Result, Ok}
+use Rattle.std.specs.Prelude.{◌≡◌, ◌<◌, ◌+◌, ◌⊎◌, ℕ, List, [], ◌∷◌, codes, Bool, true, false, is_some, Option, Some, None, option_and_then, unwrap_or, map, Ok}
 use Rattle.std.specs.Bool.{xor}
-use Rattle.serde_json.specs.Data.{Data, null, boolean, object as members_of, Items}
+use Rattle.serde_json.specs.Data.{Data, null, object as members_of, Items}
 use Rattle.serde_json.specs.Find.{get, get_item, as_str, as_array, as_bool, as_number, as_u64}
 use Rattle.pt_moml.specs.declared.code.Code.{Code}
 use Rattle.pt_moml.specs.declared.code.Code.TheVariants.{Json, Shape, Name, Class, Parameter, Limit}
@@ -10,12 +10,12 @@ use Rattle.pt_moml.specs.declared.refusal.DocFault.TheVariants as faults
 use Rattle.pt_moml.specs.Document.{PropertyTree, property_name, property_value, property_class, inner_properties, PortTree, Parts}
 use Rattle.pt_moml.specs.Classes.{ClassParameter, Class as ClassOf, DirectorClass, director_row, Kind, Composite, Modal, Actor, kind_of}
 use Rattle.pt_moml.specs.Names.{is_name, is_among, is_layout, is_reserved, below, top_path}
-use Rattle.pt_moml.specs.TypeTexts.{is_type_text}
+use Rattle.pt_moml.specs.TypeTexts.{TypeTree, IsTextOf}
 use Rattle.pt_moml.specs.Forms as forms
 use Rattle.pt_moml.specs.Forms.{Object, Form, Field, fields, keys, object, list, named, job, entity, port, port_link, relations_link, tokens_input, events_input}
 use Rattle.pt_moml.specs.Fields.{has_only}
-use Rattle.pt_moml.specs.Limits.{Nest, nest_field, count, levels, most_entities, most_levels}
-use Rattle.pt_moml.specs.Rules.{parameter_names, is_needed, is_of_modal, property_director, rate_rows, directors_among, director_at, is_direction}
+use Rattle.pt_moml.specs.Limits.{nest_field, count, levels, most_entities, most_levels}
+use Rattle.pt_moml.specs.Rules.{parameter_names, is_needed, is_of_modal, rate_rows, directors_among, director_at, is_direction}
 use Rattle.pt_moml.specs.Reading.{IsDocument, NoDocument, is_one, parts_at}
 
 -- this is one of these
@@ -67,7 +67,7 @@ pub data Faulty : Code → Form → Data → Type 0 where
   no_name : {d : Data} → as_str d ≡ None → Faulty Shape forms.name d
   not_a_name : {d : Data} (s : List ℕ) → as_str d ≡ Some s → is_name s ≡ false → Faulty Name forms.name d
   no_type : {d : Data} → as_str d ≡ None → Faulty Shape forms.type_text d
-  not_a_type : {d : Data} (s : List ℕ) → as_str d ≡ Some s → is_type_text s ≡ false → Faulty Shape forms.type_text d
+  not_a_type : {d : Data} (s : List ℕ) → as_str d ≡ Some s → ((t : TypeTree) → IsTextOf s t → ⊥) → Faulty Shape forms.type_text d
   no_truth : {d : Data} → as_bool d ≡ None → Faulty Shape forms.truth d
   no_whole : {d : Data} → as_whole d ≡ None → Faulty Shape forms.whole d
   no_token : {d : Data} → is_null d ≡ false → as_str d ≡ None → Faulty Shape forms.token d

@@ -1,5 +1,6 @@
-ghost use Rattle.std.specs.Prelude.{◌≡◌, map, option_map};
-ghost use Rattle.pt_moml.specs.Classes.{class_of, class_in, class_row, director_of, director_in, director_row, kind_view, kind_of};
+ghost use Rattle.std.specs.Prelude.{◌≡◌, map, option_map, true};
+ghost use Rattle.pt_moml.specs.Classes.{class_of, class_in, class_row, director_of, director_in, director_row, kind_view, kind_of, classes, directors};
+ghost use Rattle.pt_moml.specs.Names.{are_distinct};
 
 use crate::job::Direction;
 use crate::tables::{CLASSES, DIRECTORS};
@@ -131,6 +132,13 @@ pub fn director_named(name: &str) -> Option<&'static DirectorClass>
 {
     director_among(&DIRECTORS, name)
 }
+
+/// A law of the tables: each class has a name of its own, and so has each director.
+#[tactic(auto, unfolding(crate::specs::Classes::classes, crate::specs::Classes::directors))]
+pub fn rows_have_names_of_their_own()
+    ensures classes { are_distinct (map (λ c. c.name) classes) ≡ true }
+    ensures directors { are_distinct (map (λ d. d.name) directors) ≡ true }
+{}
 
 /// What an entity of this class is, if there is such a class.
 #[tactic(auto, unfolding(crate::specs::Classes::kind_of))]

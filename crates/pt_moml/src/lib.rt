@@ -21,6 +21,7 @@ mod type_text;
 pub use classes::{
     Arity, Class, ClassParameter, ClassPort, ClassRow, Director, DirectorClass, DirectorRow, Kind,
     Need, ParameterRow, PortRow, class_named, director_named, kind_named,
+    rows_have_names_of_their_own,
 };
 pub use code::Code;
 pub use document::read;

@@ -1,5 +1,21 @@
 use super::*;
+use std::alloc::{AllocError, Global};
 use std::test::Fail;
+
+fn told(alloc: Global, document: &str) -> Result<String, AllocError> {
+    match read(alloc, document.as_bytes()) {
+        Ok(_job) => String::from_str(alloc, "read"),
+        Err(fault) => match fault {
+            DocFault::Memory => String::from_str(alloc, "out of memory"),
+            DocFault::Refused(refusal) => {
+                let number = refusal.code.number();
+                let name = refusal.code.name();
+                let path = refusal.path;
+                format!(in alloc; "{number} {name} {path}")
+            }
+        },
+    }
+}
 
 #[test]
 fn refusals_tell_code_and_path(rt: HostRuntime) -> Result<(), Fail> {
@@ -259,19 +275,7 @@ fn refusals_tell_code_and_path(rt: HostRuntime) -> Result<(), Fail> {
             "28 Limit .",
         ),
     ] {
-        match read(alloc, document.as_bytes()) {
-            Err(DocFault::Refused(refusal)) => {
-                let number = refusal.code.number();
-                let name = refusal.code.name();
-                let path = refusal.path;
-                assert_eq!(rt;
-                    format!(in alloc; "{number} {name} {path}")?.as_str(),
-                    text,
-                    "{document}"
-                );
-            }
-            _ => assert!(rt; false, "not refused: {document}"),
-        }
+        assert_eq!(rt; told(alloc, document)?.as_str(), text, "{document}");
     }
     Ok(())
 }

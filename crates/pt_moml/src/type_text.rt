@@ -2,8 +2,9 @@
 ghost use Rattle.std.specs.Prelude.{◌≡◌, ◌∷◌, ◌++◌, map, length, take, drop, option_map, IfOk};
 ghost use Rattle.std.specs.List.{prefix_len};
 ghost use Rattle.pt_moml.specs.Names as names;
-ghost use Rattle.pt_moml.specs.TypeTexts as types;
-ghost use Rattle.pt_moml.specs.TypeTexts.{names_view, stack_view, place_view, next_view};
+ghost use Rattle.pt_moml.specs.TypeTexts as texts;
+ghost use Rattle.pt_moml.specs.TypeWords as types;
+ghost use Rattle.pt_moml.specs.TypeWords.{names_view, stack_view, place_view, next_view};
 
 use crate::names::{is_later, is_name_of_bytes, is_word};
 use indexmap::IndexSet;
@@ -57,7 +58,7 @@ fn leading_name<'a>(text: &'a [u8]) -> (&'a [u8], &'a [u8])
 /// A name that isn't a word of the expression language.
 #[tactic(auto, unfolding(crate::specs::TypeTexts::is_field_name))]
 fn is_field_name(name: &[u8]) -> bool
-    ensures { result ≡ types.is_field_name name.now }
+    ensures { result ≡ texts.is_field_name name.now }
 {
     is_name_of_bytes(name) && !is_word(name)
 }
@@ -80,7 +81,7 @@ fn one_more<'a>(
 }
 
 /// A field of a record with these names before it.
-#[tactic(auto, unfolding(crate::specs::TypeTexts::field))]
+#[tactic(auto, unfolding(crate::specs::TypeWords::field))]
 fn field<'a>(
     names: IndexSet<&'a [u8]>,
     mut around: Vec<Open<'a>>,
@@ -118,7 +119,7 @@ fn behind_base_type<'a>(text: &'a [u8]) -> Option<&'a [u8]>
 }
 
 /// Where a type begins.
-#[tactic(auto, unfolding(crate::specs::TypeTexts::begin))]
+#[tactic(auto, unfolding(crate::specs::TypeWords::begin))]
 fn begin<'a>(
     alloc: Global,
     mut around: Vec<Open<'a>>,
@@ -169,7 +170,7 @@ fn behind_field<'a>(
 }
 
 /// Behind a type.
-#[tactic(auto, unfolding(crate::specs::TypeTexts::go_on))]
+#[tactic(auto, unfolding(crate::specs::TypeWords::go_on))]
 fn go_on<'a>(mut around: Vec<Open<'a>>, text: &'a [u8]) -> Result<Next<'a>, AllocError>
     ensures { IfOk result (λ next. next_view next ≡ types.go_on (stack_view around.entry.items) text.entry.now) }
 {
@@ -198,7 +199,7 @@ fn step<'a>(alloc: Global, place: Place<'a>) -> Result<Next<'a>, AllocError>
 }
 
 /// The text is `int`, `boolean`, `string`, `arrayType(T)` or `{a = T, b = T}`.
-#[tactic(auto, unfolding(crate::specs::TypeTexts::is_type_text, crate::specs::TypeTexts::leads))]
+#[tactic(auto, unfolding(crate::specs::TypeWords::is_type_text, crate::specs::TypeWords::leads))]
 pub fn is_type_text(alloc: Global, text: &str) -> Result<bool, AllocError>
     ensures { IfOk result (λ b. b ≡ types.is_type_text text.now) }
 {

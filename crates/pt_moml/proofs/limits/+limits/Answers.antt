@@ -1,6 +1,5 @@
-use Rattle.std.proofs.Common.{◌≡◌, ◌-◌, ◌||◌, eqb, Bool, true, false, Some, None, sym, ap, ◌∙◌, arith, codes}
+use Rattle.std.proofs.Common.{◌≡◌, ◌-◌, ◌||◌, eqb, true, false, Some, None, sym, ap, ◌∙◌, arith}
 use Rattle.std.proofs.lemmas.Bool.Decides.{nat_tests}
-use Rattle.serde_json.specs.View.{view}
 use Rattle.pt_moml.specs.Limits.{room_behind, nest_field}
 use Rattle.pt_moml.proofs.Nests.{full, stops, goes_on, is_done}
 use Rattle.pt_moml.proofs.limits.+limits.Goals as goal

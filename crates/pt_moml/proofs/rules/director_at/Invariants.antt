@@ -1,4 +1,4 @@
-use Rattle.std.proofs.Common.{◌≡◌, map, drop}
+use Rattle.std.proofs.Common.{◌≡◌, drop}
 use Rattle.std.proofs.Common.{◌++◌, option_map}
 use Rattle.std.specs.Prelude.{option_to_list}
 use Rattle.pt_moml.specs.Classes.{director_of}

@@ -1,4 +1,4 @@
-use Rattle.std.proofs.Common.{◌≡◌, map, drop}
+use Rattle.std.proofs.Common.{◌≡◌, drop}
 use Rattle.pt_moml.specs.Rules as rules
 use Rattle.pt_moml.specs.View.{properties_view}
 use Rattle.pt_moml.proofs.rules.modal_properties.Given as goal

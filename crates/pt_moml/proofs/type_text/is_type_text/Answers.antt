@@ -1,5 +1,5 @@
-use Rattle.std.proofs.Common.{◌≡◌, ◌+◌, ◌-◌, ◌≤◌, length, sym, ap, ◌∙◌, arith}
-use Rattle.pt_moml.specs.TypeTexts.{leads, from_next, step, place_view, next_view}
+use Rattle.std.proofs.Common.{◌≡◌, ◌+◌, ◌-◌, length, sym, ap, ◌∙◌, arith}
+use Rattle.pt_moml.specs.TypeWords.{leads, from_next, place_view, next_view}
 use Rattle.pt_moml.proofs.TypeWords.{turn}
 use Rattle.pt_moml.proofs.type_text.is_type_text.Goals as goal
 

@@ -1,5 +1,5 @@
-use Rattle.std.proofs.Common.{◌≡◌, ◌+◌, ◌-◌, ◌≤◌, length}
-use Rattle.pt_moml.specs.TypeTexts.{leads, place_view, is_type_text}
+use Rattle.std.proofs.Common.{◌≡◌, ◌+◌, ◌-◌, length}
+use Rattle.pt_moml.specs.TypeWords.{leads, place_view, is_type_text}
 use Rattle.pt_moml.proofs.type_text.is_type_text.Given as goal
 
 abbrev pub invariant-loop : goal.invariant-loop
