@@ -1,1 +1,3 @@
-mod GroupSteps
+pub mod GroupSteps
+pub mod OneSource
+pub mod Surveys

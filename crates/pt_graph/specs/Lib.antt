@@ -5,3 +5,4 @@ pub mod Table
 pub mod Wires
 pub mod Net
 pub mod Stands
+pub mod Survey

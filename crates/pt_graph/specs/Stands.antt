@@ -10,7 +10,7 @@ use Rattle.pt_moml.specs.Document.{parts, JobTree}
 use Rattle.pt_moml.specs.Classes.{Class, Kind, Actor, kind_of}
 use Rattle.pt_moml.specs.Names.{top_path}
 use Rattle.pt_graph.specs.declared.wire.Wire.{Wire}
-use Rattle.pt_graph.specs.Standing.{Standing, is_kept, entities}
+use Rattle.pt_graph.specs.Standing.{Standing, is_kept, is_composite, entities}
 use Rattle.pt_graph.specs.Table.{PortAt, RelationAt, LinkAt, link_path, port_path, relation_path, shown}
 use Rattle.pt_graph.specs.Wires.{wire_of, outside_of, inside_of, is_input, taken_from, IsOneGroup, AreJoined, Gives, IsSource, Place, places, Reaches}
 use Rattle.pt_graph.specs.Net.{ports, relations, links, wires, Names}
@@ -31,7 +31,7 @@ needs_link p = is_input p && is_single_only p && is_kept p.standing && not (is_n
 
 -- a port that has to have a link inside: one of a Composite with a director
 abbrev pub needs_link_inside : PortAt → Bool
-needs_link_inside p = p.standing.is_composite && p.standing.is_directed
+needs_link_inside p = is_composite (parts p.standing.tree) && p.standing.is_directed
 
 -- the least number of channels to the inputs of an entity together
 abbrev pub least_of_kind : Option Kind → ℕ

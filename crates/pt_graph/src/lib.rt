@@ -3,6 +3,7 @@
 
 pub mod groups;
 mod net;
+pub mod survey;
 pub mod wire;
 
 pub use net::{Channel, End, Net, NetDirector, NetEntity, NetPort, Transparent};
