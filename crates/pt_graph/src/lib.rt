@@ -4,6 +4,7 @@
 pub mod groups;
 mod net;
 pub mod survey;
+pub mod tables;
 pub mod wire;
 
 pub use net::{Channel, End, Net, NetDirector, NetEntity, NetPort, Transparent};
