@@ -1,3 +1,4 @@
 pub mod GroupSteps
 pub mod OneSource
 pub mod Surveys
+pub mod Positions

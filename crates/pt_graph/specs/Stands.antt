@@ -10,10 +10,10 @@ use Rattle.pt_moml.specs.Document.{parts, JobTree}
 use Rattle.pt_moml.specs.Classes.{Class, Kind, Actor, kind_of}
 use Rattle.pt_moml.specs.Names.{top_path}
 use Rattle.pt_graph.specs.declared.wire.Wire.{Wire}
-use Rattle.pt_graph.specs.Standing.{Standing, is_kept, is_composite, entities}
-use Rattle.pt_graph.specs.Table.{PortAt, RelationAt, LinkAt, link_path, port_path, relation_path, shown}
-use Rattle.pt_graph.specs.Wires.{wire_of, outside_of, inside_of, is_input, taken_from, IsOneGroup, AreJoined, Gives, IsSource, Place, places, Reaches}
-use Rattle.pt_graph.specs.Net.{ports, relations, links, wires, Names}
+use Rattle.pt_graph.specs.Standing.{Standing, is_kept, is_composite}
+use Rattle.pt_graph.specs.Table.{PortAt, RelationAt, LinkAt, Tables, tables_of, link_path, port_path, relation_path, shown}
+use Rattle.pt_graph.specs.Wires.{wire_of, outside_of, inside_of, is_input, IsOneGroup, Gives, Place}
+use Rattle.pt_graph.specs.Net.{wires, all_places, ReachesIn, Names}
 
 abbrev pub is_single : PortAt → Bool
 is_single p = elim p.port.arity [ Single ↦ true | Optional ↦ true | Many ↦ false | ManyOrNone ↦ false ]
@@ -46,45 +46,45 @@ abbrev pub channels_in : List PortAt → List Wire → ℕ → ℕ
 channels_in all wires e = sum_by (λ q. if is_input q.1 && q.1.entity == e then length (outside_of wires q.0) else 0) (enumerate_from 0 all)
 
 -- a link, a missing one, a place without a source or an actor with too few channels, at this path
-pub data IsLinkFault (job : JobTree) : List ℕ → Type 0 where
+pub data IsLinkFault (t : Tables) : List ℕ → Type 0 where
   -- the link names no port or no relation
-  names_nothing : (l : LinkAt) → Contains (links job) l → wire_of (ports job) (relations job) l ≡ None → IsLinkFault job (link_path l)
+  names_nothing : (l : LinkAt) → Contains t.links l → wire_of t.ports t.relations l ≡ None → IsLinkFault t (link_path l)
   -- a single port is linked twice
-  twice_outside : (g : ℕ) (p : PortAt) → slice_get (ports job) g ≡ Some p → IsTrue (is_single p) → 1 < length (outside_of (wires job) g) → IsLinkFault job (port_path p)
-  twice_inside : (g : ℕ) (p : PortAt) → slice_get (ports job) g ≡ Some p → 1 < length (inside_of (wires job) g) → IsLinkFault job (port_path p)
+  twice_outside : (g : ℕ) (p : PortAt) → slice_get t.ports g ≡ Some p → IsTrue (is_single p) → 1 < length (outside_of (wires t) g) → IsLinkFault t (port_path p)
+  twice_inside : (g : ℕ) (p : PortAt) → slice_get t.ports g ≡ Some p → 1 < length (inside_of (wires t) g) → IsLinkFault t (port_path p)
   -- a place has no source
-  no_source : (place : Place) → Contains (places (ports job) (wires job)) place → ((g : ℕ) (p : PortAt) → Reaches (ports job) (wires job) g p place → ⊥) → IsLinkFault job (port_path place.at)
-  no_link : (g : ℕ) (p : PortAt) → slice_get (ports job) g ≡ Some p → IsTrue (needs_link p) → outside_of (wires job) g ≡ [] → IsLinkFault job (port_path p)
+  no_source : (place : Place) → Contains (all_places t) place → ((g : ℕ) (p : PortAt) → ReachesIn t g p place → ⊥) → IsLinkFault t (port_path place.at)
+  no_link : (g : ℕ) (p : PortAt) → slice_get t.ports g ≡ Some p → IsTrue (needs_link p) → outside_of (wires t) g ≡ [] → IsLinkFault t (port_path p)
   -- a port of a Composite with a director has no link inside
-  no_link_inside : (g : ℕ) (p : PortAt) → slice_get (ports job) g ≡ Some p → IsTrue (needs_link_inside p) → inside_of (wires job) g ≡ [] → IsLinkFault job (port_path p)
+  no_link_inside : (g : ℕ) (p : PortAt) → slice_get t.ports g ≡ Some p → IsTrue (needs_link_inside p) → inside_of (wires t) g ≡ [] → IsLinkFault t (port_path p)
   -- an own input reaches an own output of the same opaque composite
-  passed_on : (g : ℕ) (p : PortAt) (place : Place) → Contains (places (ports job) (wires job)) place → IsTrue (not (is_input place.at)) → IsTrue (is_input p) → Reaches (ports job) (wires job) g p place → p.entity ≡ place.at.entity → IsLinkFault job (port_path place.at)
+  passed_on : (g : ℕ) (p : PortAt) (place : Place) → Contains (all_places t) place → IsTrue (not (is_input place.at)) → IsTrue (is_input p) → ReachesIn t g p place → p.entity ≡ place.at.entity → IsLinkFault t (port_path place.at)
   -- an actor has fewer channels than its class says
-  no_channel : (g : ℕ) (p : PortAt) → slice_get (ports job) g ≡ Some p → IsTrue (is_input p) → IsTrue (is_many p) → outside_of (wires job) g ≡ [] → IsLinkFault job p.standing.path
-  too_few_channels : (e : ℕ) (s : Standing) → slice_get (entities job) e ≡ Some s → channels_in (ports job) (wires job) e < least_channels s → IsLinkFault job s.path
+  no_channel : (g : ℕ) (p : PortAt) → slice_get t.ports g ≡ Some p → IsTrue (is_input p) → IsTrue (is_many p) → outside_of (wires t) g ≡ [] → IsLinkFault t p.standing.path
+  too_few_channels : (e : ℕ) (s : Standing) → slice_get t.entities e ≡ Some s → channels_in t.ports (wires t) e < least_channels s → IsLinkFault t s.path
 
 -- a relation group has two sources, at the path of one of its relations
-pub record IsTwoSources (job : JobTree) (path : List ℕ) : Type 0 where
+pub record IsTwoSources (t : Tables) (path : List ℕ) : Type 0 where
   pub number : ℕ
   pub relation : RelationAt
-  pub is : slice_get (relations job) number ≡ Some relation
+  pub is : slice_get t.relations number ≡ Some relation
   pub first : ℕ
   pub first_at : PortAt
   pub first_relation : ℕ
-  pub gives_first : Gives (ports job) (wires job) first first_at first_relation
-  pub first_in : IsOneGroup (wires job) first_relation number
+  pub gives_first : Gives t.ports (wires t) first first_at first_relation
+  pub first_in : IsOneGroup (wires t) first_relation number
   pub second : ℕ
   pub second_at : PortAt
   pub second_relation : ℕ
-  pub gives_second : Gives (ports job) (wires job) second second_at second_relation
-  pub second_in : IsOneGroup (wires job) second_relation number
+  pub gives_second : Gives t.ports (wires t) second second_at second_relation
+  pub second_in : IsOneGroup (wires t) second_relation number
   pub apart : first ≢ second
   pub told : path ≡ relation_path relation
 
 -- a text that is recorded names no output port of a library actor or an opaque composite, or it is repeated
-pub data IsRecordFault (job : JobTree) : List ℕ → Type 0 where
-  names_no_port : (text : List ℕ) → Contains job.records text → ((p : PortAt) → Names job text p → ⊥) → IsRecordFault job (shown text)
-  repeated : (first second : ℕ) (text : List ℕ) → first < second → slice_get job.records first ≡ Some text → slice_get job.records second ≡ Some text → IsRecordFault job (shown text)
+pub data IsRecordFault (t : Tables) (records : List (List ℕ)) : List ℕ → Type 0 where
+  names_no_port : (text : List ℕ) → Contains records text → ((p : PortAt) → Names t text p → ⊥) → IsRecordFault t records (shown text)
+  repeated : (first second : ℕ) (text : List ℕ) → first < second → slice_get records first ≡ Some text → slice_get records second ≡ Some text → IsRecordFault t records (shown text)
 
 abbrev pub most_channels : ℕ
 most_channels = 100000
@@ -93,14 +93,14 @@ abbrev pub most_records : ℕ
 most_records = 10000
 
 -- too many channels or recorded ports: each place has one channel
-pub record IsPastLimit (job : JobTree) (path : List ℕ) : Type 0 where
-  pub many : (most_channels < length (places (ports job) (wires job))) ⊎ (most_records < length job.records)
+pub record IsPastLimit (t : Tables) (records : List (List ℕ)) (path : List ℕ) : Type 0 where
+  pub many : (most_channels < length (all_places t)) ⊎ (most_records < length records)
   pub told : path ≡ top_path
 
 -- this cause to refuse the job, among those that this crate knows, stands at that path
 abbrev pub Stands : Code → List ℕ → JobTree → Type 0
-Stands code.Link path job = IsLinkFault job path
-Stands code.TwoSources path job = IsTwoSources job path
-Stands code.Record path job = IsRecordFault job path
-Stands code.Limit path job = IsPastLimit job path
+Stands code.Link path job = IsLinkFault (tables_of job) path
+Stands code.TwoSources path job = IsTwoSources (tables_of job) path
+Stands code.Record path job = IsRecordFault (tables_of job) job.records path
+Stands code.Limit path job = IsPastLimit (tables_of job) job.records path
 Stands _ path job = ⊥

@@ -6,8 +6,9 @@ use Rattle.pt_graph.specs.declared.survey.Placed.{Placed}
 use Rattle.pt_graph.specs.declared.tables.PlacedPort.{PlacedPort}
 use Rattle.pt_graph.specs.declared.tables.PlacedRelation.{PlacedRelation}
 use Rattle.pt_graph.specs.declared.tables.PlacedLink.{PlacedLink}
+use Rattle.pt_graph.specs.declared.tables.Tables.{Tables as HeldTables}
 use Rattle.pt_graph.specs.Standing.{Standing}
-use Rattle.pt_graph.specs.Table.{PortAt, RelationAt, LinkAt}
+use Rattle.pt_graph.specs.Table.{PortAt, RelationAt, LinkAt, Tables}
 
 abbrev pub placed_view : Placed → Standing
 placed_view p = record { outer = p.outer; around = p.around; is_refinement = p.is_refinement; is_directed = p.is_directed; path = p.path; tree = entity_view p.entity.now }
@@ -32,3 +33,6 @@ link_at l = record { composite = l.composite; standing = placed_view l.placed.no
 
 abbrev pub links_view : List PlacedLink → List LinkAt
 links_view ls = map link_at ls
+
+abbrev pub tables_view : HeldTables → Tables
+tables_view t = record { entities = table_view t.entities.now; ports = ports_view t.ports.items; relations = relations_view t.relations.items; links = links_view t.links.items }

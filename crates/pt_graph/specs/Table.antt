@@ -8,10 +8,10 @@ use Rattle.pt_moml.specs.declared.job.Link.{Link}
 use Rattle.pt_moml.specs.declared.job.Link.TheVariants as link
 use Rattle.pt_moml.specs.declared.classes.Arity.{Arity}
 use Rattle.pt_moml.specs.declared.classes.Arity.TheVariants.{Single, Optional, Many, ManyOrNone}
-use Rattle.pt_moml.specs.Document.{PortTree, Parts, EntityTree, parts, entity_name}
+use Rattle.pt_moml.specs.Document.{PortTree, Parts, parts, JobTree}
 use Rattle.pt_moml.specs.Classes.{ClassPort, Class, Kind, Composite, Modal, Actor, kind_of}
 use Rattle.pt_moml.specs.Names.{is_name, below}
-use Rattle.pt_graph.specs.Standing.{Standing}
+use Rattle.pt_graph.specs.Standing.{Standing, entities}
 
 -- a declared port has one channel
 abbrev pub declared_port : PortTree → ClassPort
@@ -77,6 +77,19 @@ links_in e s = map (λ l. record { composite = e; standing = s; link = l }) (par
 abbrev pub links_from : ℕ → List Standing → List LinkAt
 links_from e [] = []
 links_from e (s ∷ ss) = links_in e s ++ links_from (e + 1) ss
+
+-- the tables of a job
+pub record Tables : Type 0 where
+  pub entities : List Standing
+  pub ports : List PortAt
+  pub relations : List RelationAt
+  pub links : List LinkAt
+
+abbrev pub tables_from : List Standing → Tables
+tables_from all = record { entities = all; ports = ports_from 0 all; relations = relations_from 0 all; links = links_from 0 all }
+
+abbrev pub tables_of : JobTree → Tables
+tables_of job = tables_from (entities job)
 
 -- ---- where they are told
 

@@ -2,6 +2,7 @@
 #![tactic(auto)]
 
 pub mod groups;
+mod names;
 mod net;
 pub mod survey;
 pub mod tables;

@@ -2,7 +2,7 @@ ghost use Rattle.std.specs.Prelude.{◌≡◌, ◌++◌, map, IfOk, OnOk};
 ghost use Rattle.pt_moml.specs.Document.{parts};
 ghost use Rattle.pt_moml.specs.Classes.{port_of};
 ghost use Rattle.pt_moml.specs.View.{entity_view, port_view};
-ghost use Rattle.pt_graph.specs.Survey.{placed_view, table_view, ports_view, relations_view, links_view};
+ghost use Rattle.pt_graph.specs.Survey.{placed_view, table_view, ports_view, relations_view, links_view, tables_view};
 ghost use Rattle.pt_graph.specs.Table as spec;
 
 use crate::survey::Placed;
@@ -34,9 +34,10 @@ pub struct PlacedLink<'t, 'a> {
     pub link: &'a Link,
 }
 
-/// The ports, relations and links of a job, in the order of the document.
+/// The entities, ports, relations and links of a job, in the order of the document.
 #[derive(Drop)]
 pub struct Tables<'t, 'a> {
+    pub entities: &'t [Placed<'a>],
     pub ports: Vec<PlacedPort<'t, 'a>>,
     pub relations: Vec<PlacedRelation<'t, 'a>>,
     pub links: Vec<PlacedLink<'t, 'a>>,
@@ -150,9 +151,7 @@ pub fn tables_of<'t, 'a>(
     alloc: Global,
     entities: &'t [Placed<'a>],
 ) -> Result<Tables<'t, 'a>, AllocError>
-    ensures ports { IfOk result (λ tables. ports_view tables.ports.items ≡ spec.ports_from 0 (table_view entities.now)) }
-    ensures relations { IfOk result (λ tables. relations_view tables.relations.items ≡ spec.relations_from 0 (table_view entities.now)) }
-    ensures links { IfOk result (λ tables. links_view tables.links.items ≡ spec.links_from 0 (table_view entities.now)) }
+    ensures { IfOk result (λ tables. tables_view tables ≡ spec.tables_from (table_view entities.now)) }
 {
     let mut ports = Vec::new(alloc);
     let mut relations = Vec::new(alloc);
@@ -163,6 +162,7 @@ pub fn tables_of<'t, 'a>(
         add_links(&mut links, number, placed)?;
     }
     Ok(Tables {
+        entities,
         ports,
         relations,
         links,
