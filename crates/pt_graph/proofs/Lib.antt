@@ -2,3 +2,4 @@ pub mod GroupSteps
 pub mod OneSource
 pub mod Surveys
 pub mod Positions
+pub mod Keys

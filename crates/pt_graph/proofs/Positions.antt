@@ -1,5 +1,5 @@
 -- The first place of a key, one key more.
-use Rattle.std.proofs.Common.{◌≡◌, ℕ, ◌+◌, ◌<◌, Bool, true, false, cond, Option, Some, None, List, [], ◌∷◌, ◌++◌, length, get_or, take, refl, sym, ap, ◌∙◌, arith}
+use Rattle.std.proofs.Common.{◌≡◌, ℕ, ◌+◌, ◌<◌, Bool, true, false, cond, Option, Some, None, List, [], ◌∷◌, ◌++◌, length, get_or, take, map, refl, sym, ap, ◌∙◌, arith}
 use Rattle.std.proofs.lemmas.Bool.{cases_Bool}
 use Rattle.std.proofs.lemmas.List.{take_more, length-take-le}
 use Rattle.std.proofs.lemmas.Iterator.Adapters.{position_from-zero}
@@ -27,6 +27,13 @@ position-push p xs y =
 
 position-agree : {X : Type 0} (p q : X → Bool) → ((x : X) → p x ≡ q x) → (xs : List X) → position p xs ≡ position q xs
 position-agree p q same xs = position_from-zero p xs ∙ position_from-agree p q same 0 xs ∙ sym (position_from-zero q xs)
+
+position_from-map : {X Y : Type 0} (p : Y → Bool) (f : X → Y) (n : ℕ) (xs : List X) → position_from p n (map f xs) ≡ position_from (λ x. p (f x)) n xs
+position_from-map p f n [] = refl
+position_from-map p f n (x ∷ xs) = ap (λ o. cond (p (f x)) (Some n) o) (position_from-map p f (n + 1) xs)
+
+pub position-map : {X Y : Type 0} (p : Y → Bool) (f : X → Y) (xs : List X) → position p (map f xs) ≡ position (λ x. p (f x)) xs
+position-map p f xs = position_from-zero p (map f xs) ∙ position_from-map p f 0 xs ∙ sym (position_from-zero (λ x. p (f x)) xs)
 
 module _ {K : Type 0} (eq : K → K → Bool) (laws : IsEquivalence eq) (f : K → Option ℕ) (xs : List K) (y : K) (known : (k : K) → f k ≡ position (eq k) xs) where
   -- what a key that is equal to y has
@@ -77,3 +84,7 @@ module _ {K : Type 0} (eq : K → K → Bool) (laws : IsEquivalence eq) (f : K �
 
   pub grows_at : (h : K → Option ℕ) → is_some (f y) ≡ false → ((k : K) → h k ≡ cond (eq y k) (Some i) (f k)) → (k : K) → h k ≡ position (eq k) (take (i + 1) keys)
   grows_at h absent new k = grows eq laws f (take i keys) y known h absent (λ q. new q ∙ ap (λ n. cond (eq y q) (Some n) (f q)) (sym count)) k ∙ ap (position (eq k)) next
+
+-- keys and things that say the same
+pub position-views : {K V X : Type 0} (p : V → Bool) (view : K → V) (key : X → V) (keys : List K) (xs : List X) → map view keys ≡ map key xs → position (λ k. p (view k)) keys ≡ position (λ x. p (key x)) xs
+position-views p view key keys xs same = sym (position-map p view keys) ∙ ap (position p) same ∙ position-map p key xs

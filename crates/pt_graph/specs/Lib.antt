@@ -6,3 +6,4 @@ pub mod Wires
 pub mod Net
 pub mod Stands
 pub mod Survey
+pub mod Resolve

@@ -6,6 +6,8 @@ use Rattle.pt_moml.specs.declared.classes.Arity.{Arity}
 use Rattle.pt_moml.specs.declared.classes.Arity.TheVariants.{Single, Optional, Many, ManyOrNone}
 use Rattle.pt_moml.specs.declared.code.Code.{Code}
 use Rattle.pt_moml.specs.declared.code.Code.TheVariants as code
+use Rattle.pt_moml.specs.declared.refusal.DocFault.{DocFault}
+use Rattle.pt_moml.specs.declared.refusal.DocFault.TheVariants as faults
 use Rattle.pt_moml.specs.Document.{parts, JobTree}
 use Rattle.pt_moml.specs.Classes.{Class, Kind, Actor, kind_of}
 use Rattle.pt_moml.specs.Names.{top_path}
@@ -96,6 +98,11 @@ most_records = 10000
 pub record IsPastLimit (t : Tables) (records : List (List ℕ)) (path : List ℕ) : Type 0 where
   pub many : (most_channels < length (all_places t)) ⊎ (most_records < length records)
   pub told : path ≡ top_path
+
+-- a fault is want of memory, or a refusal for this cause at such a path
+abbrev pub IsTold : Code → (List ℕ → Type 0) → DocFault → Type 0
+IsTold code IsPlace faults.Memory = Unit {0}
+IsTold code IsPlace (faults.Refused r) = (r.code ≡ code) × IsPlace r.path
 
 -- this cause to refuse the job, among those that this crate knows, stands at that path
 abbrev pub Stands : Code → List ℕ → JobTree → Type 0

@@ -4,6 +4,8 @@
 pub mod groups;
 mod names;
 mod net;
+mod refusal;
+pub mod resolve;
 pub mod survey;
 pub mod tables;
 pub mod wire;
