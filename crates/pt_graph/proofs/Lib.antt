@@ -3,3 +3,4 @@ pub mod OneSource
 pub mod Surveys
 pub mod Positions
 pub mod Keys
+pub mod Told

@@ -1,16 +1,18 @@
 ghost use Rattle.std.specs.Prelude.{◌≡◌, ℕ, List, map, Some, position, IfOk, IfErr, option_map};
 ghost use Rattle.std.specs.Borrow.{Bor};
 ghost use Rattle.indexmap.specs.IndexMap.{get};
+ghost use Rattle.pt_moml.specs.declared.code.Code.TheVariants as code;
 ghost use Rattle.pt_graph.specs.Resolve.{pair_eq, child_eq, outside_text, IsNames};
 ghost use Rattle.pt_graph.specs.Survey.{ports_view, relations_view, tables_view, link_at};
 ghost use Rattle.pt_graph.specs.Wires as wires;
 ghost use Rattle.pt_graph.specs.Stands.{IsTold, IsLinkFault};
 
 use crate::names::first_places;
+use crate::refusal::refused_link;
 use crate::tables::{PlacedLink, PlacedPort, PlacedRelation, Tables};
 use crate::wire::Wire;
 use indexmap::IndexMap;
-use pt_moml::Link;
+use pt_moml::{DocFault, Link};
 use pt_value::Text;
 use std::alloc::{AllocError, Global};
 
@@ -139,5 +141,21 @@ impl<'k, 't, 'a> Names<'k, 't, 'a> {
                 second: self.relation(composite, second.as_str())?,
             }),
         }
+    }
+
+    /// What the links join, in the order of the document. Refuses the first link that names no port or no relation.
+    pub fn wires(&self, alloc: Global) -> Result<Vec<Wire>, DocFault>
+        requires { IsNames self.now }
+        ensures ok { IfOk result (λ joined. map (wires.wire_of (tables_view self.now.tables.now).ports (tables_view self.now.tables.now).relations) (tables_view self.now.tables.now).links ≡ map Some joined.items) }
+        ensures told { IfErr result (IsTold code.Link (IsLinkFault (tables_view self.now.tables.now))) }
+    {
+        let mut joined = Vec::with_capacity(alloc, self.tables.links.len())?;
+        for link in &self.tables.links {
+            match self.wire(link) {
+                Some(wire) => joined.push(wire)?,
+                None => return Err(refused_link(alloc, link)),
+            }
+        }
+        Ok(joined)
     }
 }
