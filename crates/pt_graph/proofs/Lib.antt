@@ -4,3 +4,4 @@ pub mod Surveys
 pub mod Positions
 pub mod Keys
 pub mod Told
+pub mod TieSteps

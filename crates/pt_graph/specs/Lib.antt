@@ -7,3 +7,4 @@ pub mod Net
 pub mod Stands
 pub mod Survey
 pub mod Resolve
+pub mod Ties

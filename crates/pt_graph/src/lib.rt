@@ -8,6 +8,7 @@ mod refusal;
 pub mod resolve;
 pub mod survey;
 pub mod tables;
+pub mod ties;
 pub mod wire;
 
 pub use net::{Channel, End, Net, NetDirector, NetEntity, NetPort, Transparent};
