@@ -5,3 +5,4 @@ pub mod Positions
 pub mod Keys
 pub mod Told
 pub mod TieSteps
+pub mod WireFacts

@@ -18,6 +18,10 @@ append_row vs g r v w within is new =
     map-set {A = Row} {B = List ℕ} (λ u. u.items) vs g w
     ∙ ap (λ (xs : List ℕ). set (rows vs) g xs) (new ∙ ap (λ (xs : List ℕ). xs ++ r ∷ []) (ap (λ (u : Row). u.items) is ∙ sym (get_or-map {X = Row} {Y = List ℕ} (λ u. u.items) vs g v [] within)))
 
+-- a row that was read
+pub row_is : (vs : List Row) (g : ℕ) (v : Row) (xs ys : List ℕ) → g < length vs → v ≡ get_or vs g v → xs ≡ v.items → get_or (rows vs) g [] ≡ ys → xs ≡ ys
+row_is vs g v xs ys within is e f = e ∙ ap (λ (u : Row). u.items) is ∙ sym (get_or-map {X = Row} {Y = List ℕ} (λ u. u.items) vs g v [] within) ∙ f
+
 abbrev only : Bool → ℕ → List ℕ
 only b r = cond b (r ∷ []) []
 

@@ -8,3 +8,4 @@ pub mod Stands
 pub mod Survey
 pub mod Resolve
 pub mod Ties
+pub mod Wiring

@@ -1,7 +1,7 @@
 -- Where the links and the records of a job are at fault.
 use Rattle.std.specs.Prelude.{◌≡◌, ◌≢◌, ℕ, ◌<◌, ◌+◌, ◌⊎◌, List, [], length, Bool, true, false, IsTrue, not, ◌&&◌, ◌||◌, ◌==◌, Option, Some, None, if◌then◌else◌, codes, slice_get}
 use Rattle.std.specs.List.{Contains, enumerate_from, sum_by}
-use Rattle.std.specs.Option.{is_none}
+use Rattle.std.specs.Option.{is_some}
 use Rattle.pt_moml.specs.declared.classes.Arity.{Arity}
 use Rattle.pt_moml.specs.declared.classes.Arity.TheVariants.{Single, Optional, Many, ManyOrNone}
 use Rattle.pt_moml.specs.declared.code.Code.{Code}
@@ -17,19 +17,36 @@ use Rattle.pt_graph.specs.Table.{PortAt, RelationAt, LinkAt, Tables, tables_of, 
 use Rattle.pt_graph.specs.Wires.{wire_of, outside_of, inside_of, is_input, IsOneGroup, Gives, Place}
 use Rattle.pt_graph.specs.Net.{wires, all_places, ReachesIn, Names}
 
+abbrev pub has_one_at_most : Arity → Bool
+has_one_at_most Single = true
+has_one_at_most Optional = true
+has_one_at_most Many = false
+has_one_at_most ManyOrNone = false
+
+abbrev pub has_one : Arity → Bool
+has_one Single = true
+has_one Optional = false
+has_one Many = false
+has_one ManyOrNone = false
+
+abbrev pub has_one_at_least : Arity → Bool
+has_one_at_least Single = false
+has_one_at_least Optional = false
+has_one_at_least Many = true
+has_one_at_least ManyOrNone = false
+
+-- a port that is no multiport
 abbrev pub is_single : PortAt → Bool
-is_single p = elim p.port.arity [ Single ↦ true | Optional ↦ true | Many ↦ false | ManyOrNone ↦ false ]
+is_single p = has_one_at_most p.port.arity
 
-abbrev pub is_single_only : PortAt → Bool
-is_single_only p = elim p.port.arity [ Single ↦ true | Optional ↦ false | Many ↦ false | ManyOrNone ↦ false ]
-
+-- a multiport with one channel at least
 abbrev pub is_many : PortAt → Bool
-is_many p = elim p.port.arity [ Single ↦ false | Optional ↦ false | Many ↦ true | ManyOrNone ↦ false ]
+is_many p = has_one_at_least p.port.arity
 
 -- an input that has to have a link outside: one that is neither optional nor a multiport, of a library actor or an opaque
 -- composite that is neither the top nor a refinement
 abbrev pub needs_link : PortAt → Bool
-needs_link p = is_input p && is_single_only p && is_kept p.standing && not (is_none p.standing.outer) && not p.standing.is_refinement
+needs_link p = is_input p && has_one p.port.arity && is_kept p.standing && is_some p.standing.outer && not p.standing.is_refinement
 
 -- a port that has to have a link inside: one of a Composite with a director
 abbrev pub needs_link_inside : PortAt → Bool

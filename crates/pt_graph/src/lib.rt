@@ -10,5 +10,6 @@ pub mod survey;
 pub mod tables;
 pub mod ties;
 pub mod wire;
+pub mod wiring;
 
 pub use net::{Channel, End, Net, NetDirector, NetEntity, NetPort, Transparent};

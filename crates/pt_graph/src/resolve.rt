@@ -19,7 +19,7 @@ use std::alloc::{AllocError, Global};
 /// The numbers of ports and relations by the texts of links: of a composite's own ports, of the ports of its children,
 /// and of its relations.
 #[derive(Drop)]
-pub struct Names<'k, 't, 'a> {
+struct Names<'k, 't, 'a> {
     tables: &'k Tables<'t, 'a>,
     inside: IndexMap<(usize, &'k str), usize>,
     outside: IndexMap<(Option<usize>, &'k str), usize>,
@@ -81,7 +81,7 @@ fn relation_places<'k>(
 
 impl<'k, 't, 'a> Names<'k, 't, 'a> {
     /// The names of these tables, whose ports have these texts from outside.
-    pub fn of(
+    fn of(
         alloc: Global,
         tables: &'k Tables<'t, 'a>,
         texts: &'k [Text],
@@ -144,7 +144,7 @@ impl<'k, 't, 'a> Names<'k, 't, 'a> {
     }
 
     /// What the links join, in the order of the document. Refuses the first link that names no port or no relation.
-    pub fn wires(&self, alloc: Global) -> Result<Vec<Wire>, DocFault>
+    fn wires(&self, alloc: Global) -> Result<Vec<Wire>, DocFault>
         requires { IsNames self.now }
         ensures ok { IfOk result (λ joined. map (wires.wire_of (tables_view self.now.tables.now).ports (tables_view self.now.tables.now).relations) (tables_view self.now.tables.now).links ≡ map Some joined.items) }
         ensures told { IfErr result (IsTold code.Link (IsLinkFault (tables_view self.now.tables.now))) }
@@ -158,4 +158,14 @@ impl<'k, 't, 'a> Names<'k, 't, 'a> {
         }
         Ok(joined)
     }
+}
+
+/// What the links of these tables join, in the order of the document. Refuses a link that names no port or no relation.
+pub fn wires_of(alloc: Global, tables: &Tables) -> Result<Vec<Wire>, DocFault>
+    ensures ok { IfOk result (λ joined. map (wires.wire_of (tables_view tables.now).ports (tables_view tables.now).relations) (tables_view tables.now).links ≡ map Some joined.items) }
+    ensures told { IfErr result (IsTold code.Link (IsLinkFault (tables_view tables.now))) }
+{
+    let texts = outside_texts(alloc, &tables.ports)?;
+    let names = Names::of(alloc, tables, &texts)?;
+    names.wires(alloc)
 }

@@ -2,8 +2,11 @@ ghost use Rattle.std.specs.Prelude.{◌≡◌, ◌++◌, map, IfOk, OnOk};
 ghost use Rattle.pt_moml.specs.Document.{parts};
 ghost use Rattle.pt_moml.specs.Classes.{port_of};
 ghost use Rattle.pt_moml.specs.View.{entity_view, port_view};
-ghost use Rattle.pt_graph.specs.Survey.{placed_view, table_view, ports_view, relations_view, links_view, tables_view};
+ghost use Rattle.pt_graph.specs.Survey.{placed_view, table_view, port_at, ports_view, relations_view, links_view, tables_view};
+ghost use Rattle.pt_graph.specs.Standing.{is_kept};
 ghost use Rattle.pt_graph.specs.Table as spec;
+ghost use Rattle.pt_graph.specs.Wires as wires;
+ghost use Rattle.pt_graph.specs.Stands as stands;
 
 use crate::survey::Placed;
 use pt_moml::{Arity, ClassPort, Direction, Entity, Kind, Link, Port, PortRow, kind_named};
@@ -41,6 +44,89 @@ pub struct Tables<'t, 'a> {
     pub ports: Vec<PlacedPort<'t, 'a>>,
     pub relations: Vec<PlacedRelation<'t, 'a>>,
     pub links: Vec<PlacedLink<'t, 'a>>,
+}
+
+fn is_inward(direction: Direction) -> bool
+    ensures { result ≡ wires.is_inward direction }
+{
+    match direction {
+        Direction::Input => true,
+        Direction::Output => false,
+    }
+}
+
+fn has_one_at_most(arity: Arity) -> bool
+    ensures { result ≡ stands.has_one_at_most arity }
+{
+    match arity {
+        Arity::Single | Arity::Optional => true,
+        Arity::Many | Arity::ManyOrNone => false,
+    }
+}
+
+fn has_one(arity: Arity) -> bool
+    ensures { result ≡ stands.has_one arity }
+{
+    match arity {
+        Arity::Single => true,
+        Arity::Optional | Arity::Many | Arity::ManyOrNone => false,
+    }
+}
+
+fn has_one_at_least(arity: Arity) -> bool
+    ensures { result ≡ stands.has_one_at_least arity }
+{
+    match arity {
+        Arity::Many => true,
+        Arity::Single | Arity::Optional | Arity::ManyOrNone => false,
+    }
+}
+
+impl PlacedPort<'_, '_> {
+    pub fn is_input(&self) -> bool
+        ensures { result ≡ wires.is_input (port_at self.now) }
+    {
+        is_inward(self.port.direction)
+    }
+
+    /// Whether the entity of the port stays in the net.
+    pub fn is_kept(&self) -> bool
+        ensures { result ≡ is_kept (port_at self.now).standing }
+    {
+        self.placed.is_kept()
+    }
+
+    /// Whether the port has one channel at most.
+    pub fn is_single(&self) -> bool
+        ensures { result ≡ stands.is_single (port_at self.now) }
+    {
+        has_one_at_most(self.port.arity)
+    }
+
+    /// Whether the port is a multiport with one channel at least.
+    pub fn is_many(&self) -> bool
+        ensures { result ≡ stands.is_many (port_at self.now) }
+    {
+        has_one_at_least(self.port.arity)
+    }
+
+    /// Whether the port has to have a link outside.
+    pub fn needs_link(&self) -> bool
+        ensures { result ≡ stands.needs_link (port_at self.now) }
+    {
+        self.is_input()
+            && has_one(self.port.arity)
+            && self.is_kept()
+            && self.placed.outer.is_some()
+            && !self.placed.is_refinement
+    }
+
+    /// Whether the port has to have a link inside.
+    pub fn needs_link_inside(&self) -> bool
+        ensures { result ≡ stands.needs_link_inside (port_at self.now) }
+    {
+        self.placed.entity.class.as_str() == "Composite" && self.placed.is_directed
+    }
 }
 
 fn add_declared<'a>(

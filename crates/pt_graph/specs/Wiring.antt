@@ -1,0 +1,35 @@
+-- The wires of a job as the program holds them, and what its tests find.
+use Rattle.std.specs.Prelude.{◌≡◌, ◌≢◌, ℕ, ◌<◌, ◌≤◌, List, [], length, IsTrue, Some, None, slice_get}
+use Rattle.std.specs.List.{All, Contains}
+use Rattle.pt_graph.specs.declared.wiring.Wiring.{Wiring}
+use Rattle.pt_graph.specs.Table.{PortAt, RelationAt, LinkAt, Tables}
+use Rattle.pt_graph.specs.Survey.{tables_view}
+use Rattle.pt_graph.specs.Wires.{wire_of, is_input, outside_of, inside_of}
+use Rattle.pt_graph.specs.Ties.{rows, IsWithin, AreTied}
+use Rattle.pt_graph.specs.Net.{wires}
+use Rattle.pt_graph.specs.Stands.{is_single, is_many, needs_link, needs_link_inside}
+
+-- each link names what is there
+abbrev pub AllNamed : Tables → Type 0
+AllNamed t = (l : LinkAt) → Contains t.links l → wire_of t.ports t.relations l ≢ None
+
+-- these are the wires of the tables, and the relations at each of their ports
+pub record AreWires (t : Tables) (w : Wiring) : Type 0 where
+  pub wires_are : w.wires.items ≡ wires t
+  pub within : All (IsWithin (length t.ports) (length t.relations)) (wires t)
+  pub tied : AreTied (length t.ports) (wires t) (rows w.ties.outside.items) (rows w.ties.inside.items)
+
+abbrev pub IsWiring : Wiring → Type 0
+IsWiring w = AreWires (tables_view w.tables.now) w
+
+-- the links of a port are as its class and its entity ask for
+pub record IsFine (t : Tables) (g : ℕ) (p : PortAt) : Type 0 where
+  pub single : IsTrue (is_single p) → length (outside_of (wires t) g) ≤ 1
+  pub single_inside : length (inside_of (wires t) g) ≤ 1
+  pub linked : IsTrue (needs_link p) → outside_of (wires t) g ≢ []
+  pub linked_inside : IsTrue (needs_link_inside p) → inside_of (wires t) g ≢ []
+  pub has_channel : IsTrue (is_input p) → IsTrue (is_many p) → outside_of (wires t) g ≢ []
+
+-- the same of each port
+abbrev pub AreFine : Tables → Type 0
+AreFine t = (g : ℕ) (p : PortAt) → slice_get t.ports g ≡ Some p → IsFine t g p
