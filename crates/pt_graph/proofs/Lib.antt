@@ -6,3 +6,4 @@ pub mod Keys
 pub mod Told
 pub mod TieSteps
 pub mod WireFacts
+pub mod PortTests

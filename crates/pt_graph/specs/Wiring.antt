@@ -1,5 +1,5 @@
 -- The wires of a job as the program holds them, and what its tests find.
-use Rattle.std.specs.Prelude.{◌≡◌, ◌≢◌, ℕ, ◌<◌, ◌≤◌, List, [], length, IsTrue, Some, None, slice_get}
+use Rattle.std.specs.Prelude.{◌≡◌, ◌≢◌, ℕ, ◌<◌, ◌≤◌, List, [], length, Bool, IsTrue, ◌&&◌, ◌||◌, ◌==◌, nat_lt, Some, None, slice_get}
 use Rattle.std.specs.List.{All, Contains}
 use Rattle.pt_graph.specs.declared.wiring.Wiring.{Wiring}
 use Rattle.pt_graph.specs.Table.{PortAt, RelationAt, LinkAt, Tables}
@@ -33,3 +33,11 @@ pub record IsFine (t : Tables) (g : ℕ) (p : PortAt) : Type 0 where
 -- the same of each port
 abbrev pub AreFine : Tables → Type 0
 AreFine t = (g : ℕ) (p : PortAt) → slice_get t.ports g ≡ Some p → IsFine t g p
+
+-- a port with so many links outside and inside lacks one, or has too many
+abbrev pub is_amiss : PortAt → ℕ → ℕ → Bool
+is_amiss p outside inside = (is_single p && nat_lt 1 outside) || nat_lt 1 inside || (needs_link p && outside == 0) || (needs_link_inside p && inside == 0)
+
+-- a multiport with so many links has too few
+abbrev pub lacks_channel : PortAt → ℕ → Bool
+lacks_channel p outside = is_input p && is_many p && outside == 0
