@@ -7,3 +7,4 @@ pub mod Told
 pub mod TieSteps
 pub mod WireFacts
 pub mod PortTests
+pub mod Counts

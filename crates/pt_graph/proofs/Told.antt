@@ -26,3 +26,6 @@ number_view view xs i x within is = slice_get-map view xs i ∙ ap (λ o. option
 -- the same, where the items were read through another list
 pub contains_of : {X Y : Type 0} (view : X → Y) (xs ys : List X) (i : ℕ) (x : X) → ys ≡ xs → i < length ys → x ≡ get_or ys i x → Contains (map view xs) (view x)
 contains_of view xs ys i x same within is = subst (λ zs. Contains (map view zs) (view x)) same (contains_view view ys i x within is)
+
+pub read_view : {X Y : Type 0} (view : X → Y) (xs : List X) (i : ℕ) (x : X) → i < length xs → x ≡ get_or xs i x → get_or (map view xs) i (view x) ≡ view x
+read_view view xs i x within is = get_or-map view xs i x (view x) within ∙ ap view (sym is)

@@ -9,7 +9,7 @@ use Rattle.pt_moml.specs.declared.code.Code.TheVariants as code
 use Rattle.pt_moml.specs.declared.refusal.DocFault.{DocFault}
 use Rattle.pt_moml.specs.declared.refusal.DocFault.TheVariants as faults
 use Rattle.pt_moml.specs.Document.{parts, JobTree}
-use Rattle.pt_moml.specs.Classes.{Class, Kind, Actor, kind_of}
+use Rattle.pt_moml.specs.Classes.{Class, Kind, Composite, Modal, Actor, kind_of}
 use Rattle.pt_moml.specs.Names.{top_path}
 use Rattle.pt_graph.specs.declared.wire.Wire.{Wire}
 use Rattle.pt_graph.specs.Standing.{Standing, is_kept, is_composite}
@@ -55,14 +55,19 @@ needs_link_inside p = is_composite (parts p.standing.tree) && p.standing.is_dire
 -- the least number of channels to the inputs of an entity together
 abbrev pub least_of_kind : Option Kind → ℕ
 least_of_kind (Some (Actor class)) = class.least_channels
-least_of_kind _ = 0
+least_of_kind (Some Composite) = 0
+least_of_kind (Some Modal) = 0
+least_of_kind None = 0
 
 abbrev pub least_channels : Standing → ℕ
 least_channels s = least_of_kind (kind_of (parts s.tree).class)
 
--- the channels to the inputs of an entity
+-- the channels to an input, and those to all inputs of an entity
+abbrev pub input_channels : List Wire → ℕ × PortAt → ℕ
+input_channels wires q = if is_input q.1 then length (outside_of wires q.0) else 0
+
 abbrev pub channels_in : List PortAt → List Wire → ℕ → ℕ
-channels_in all wires e = sum_by (λ q. if is_input q.1 && q.1.entity == e then length (outside_of wires q.0) else 0) (enumerate_from 0 all)
+channels_in all wires e = sum_by (λ q. if q.1.entity == e then input_channels wires q else 0) (enumerate_from 0 all)
 
 -- a link, a missing one, a place without a source or an actor with too few channels, at this path
 pub data IsLinkFault (t : Tables) : List ℕ → Type 0 where

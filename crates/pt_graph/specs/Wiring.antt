@@ -1,5 +1,5 @@
 -- The wires of a job as the program holds them, and what its tests find.
-use Rattle.std.specs.Prelude.{◌≡◌, ◌≢◌, ℕ, ◌<◌, ◌≤◌, List, [], length, Bool, IsTrue, ◌&&◌, ◌||◌, ◌==◌, nat_lt, Some, None, slice_get}
+use Rattle.std.specs.Prelude.{◌≡◌, ◌≢◌, ℕ, ◌<◌, ◌≤◌, List, [], length, Bool, IsTrue, ◌&&◌, ◌||◌, ◌==◌, nat_lt, ◌-◌, ◌^◌, min, take, slice_index, Some, None, slice_get}
 use Rattle.std.specs.List.{All, Contains}
 use Rattle.pt_graph.specs.declared.wiring.Wiring.{Wiring}
 use Rattle.pt_graph.specs.Table.{PortAt, RelationAt, LinkAt, Tables}
@@ -7,14 +7,24 @@ use Rattle.pt_graph.specs.Survey.{tables_view}
 use Rattle.pt_graph.specs.Wires.{wire_of, is_input, outside_of, inside_of}
 use Rattle.pt_graph.specs.Ties.{rows, IsWithin, AreTied}
 use Rattle.pt_graph.specs.Net.{wires}
-use Rattle.pt_graph.specs.Stands.{is_single, is_many, needs_link, needs_link_inside}
+use Rattle.pt_graph.specs.Stands.{is_single, is_many, needs_link, needs_link_inside, least_channels, channels_in}
+use Rattle.pt_graph.specs.Standing.{Standing}
 
 -- each link names what is there
 abbrev pub AllNamed : Tables → Type 0
 AllNamed t = (l : LinkAt) → Contains t.links l → wire_of t.ports t.relations l ≢ None
 
+-- each port is one of an entity of the tables
+abbrev pub AreOwned : Tables → Type 0
+AreOwned t = All (λ p. p.entity < length t.entities) t.ports
+
+-- no actor has fewer channels than its class says
+abbrev pub HaveChannels : Tables → Type 0
+HaveChannels t = (e : ℕ) (s : Standing) → slice_get t.entities e ≡ Some s → least_channels s ≤ channels_in t.ports (wires t) e
+
 -- these are the wires of the tables, and the relations at each of their ports
 pub record AreWires (t : Tables) (w : Wiring) : Type 0 where
+  pub owned : AreOwned t
   pub wires_are : w.wires.items ≡ wires t
   pub within : All (IsWithin (length t.ports) (length t.relations)) (wires t)
   pub tied : AreTied (length t.ports) (wires t) (rows w.ties.outside.items) (rows w.ties.inside.items)
@@ -41,3 +51,8 @@ is_amiss p outside inside = (is_single p && nat_lt 1 outside) || nat_lt 1 inside
 -- a multiport with so many links has too few
 abbrev pub lacks_channel : PortAt → ℕ → Bool
 lacks_channel p outside = is_input p && is_many p && outside == 0
+
+-- the channels to the inputs of each entity among the first n ports, up to the greatest number that a count can have
+pub record AreCounts (t : Tables) (n : ℕ) (counts : List ℕ) : Type 0 where
+  pub each : length counts ≡ length t.entities
+  pub count : (e : ℕ) → e < length t.entities → slice_index counts e ≡ min (channels_in (take n t.ports) (wires t) e) (2 ^ 64 - 1)

@@ -5,7 +5,7 @@ ghost use Rattle.pt_graph.specs.Survey.{tables_view, port_at};
 ghost use Rattle.pt_graph.specs.Wires as spec;
 ghost use Rattle.pt_graph.specs.Net as net;
 ghost use Rattle.pt_graph.specs.Stands.{IsTold, IsLinkFault};
-ghost use Rattle.pt_graph.specs.Wiring.{IsWiring, AllNamed, IsFine, AreFine};
+ghost use Rattle.pt_graph.specs.Wiring.{IsWiring, AllNamed, AreOwned};
 
 use crate::refusal::{refused_entity, refused_port};
 use crate::resolve::wires_of;
@@ -26,6 +26,7 @@ pub struct Wiring<'w, 't, 'a> {
 impl<'w, 't, 'a> Wiring<'w, 't, 'a> {
     /// The wires of these tables. Refuses a link that names no port or no relation.
     pub fn of(alloc: Global, tables: &'w Tables<'t, 'a>) -> Result<Wiring<'w, 't, 'a>, DocFault>
+        requires { AreOwned (tables_view tables.now) }
         ensures tables { IfOk result (λ wiring. wiring.tables.now ≡ tables.now) }
         ensures wiring { IfOk result IsWiring }
         ensures named { OnOk result (AllNamed (tables_view tables.now)) }

@@ -25,6 +25,7 @@ returns-clause-wiring c =
     let t = tables_view c.args.tables.now in
     let held = wires_are t c.in_ok-wires.wires.items c.in_ok-wires.ensures.ok in
     record {
+      owned = c.requires;
       wires_are = held;
       within = wires_within t;
       tied =
