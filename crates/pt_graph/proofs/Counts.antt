@@ -28,7 +28,7 @@ ports_owned e m (s ∷ ss) h =
 pub owned : (all : List Standing) → AreOwned (tables_from all)
 owned all = ports_owned 0 (length all) all (omega arith)
 
-enumerate-push : {X : Type 0} (n : ℕ) (xs : List X) (y : X) → enumerate_from n (xs ++ y ∷ []) ≡ enumerate_from n xs ++ (n + length xs, y) ∷ []
+pub enumerate-push : {X : Type 0} (n : ℕ) (xs : List X) (y : X) → enumerate_from n (xs ++ y ∷ []) ≡ enumerate_from n xs ++ (n + length xs, y) ∷ []
 enumerate-push n [] y = ap (λ m. (m, y) ∷ []) (let e : n ≡ n + 0 = omega arith in e)
 enumerate-push n (x ∷ xs) y = ap (λ zs. (n, x) ∷ zs) (enumerate-push (n + 1) xs y ∙ ap (λ m. enumerate_from (n + 1) xs ++ (m, y) ∷ []) (let e : n + 1 + length xs ≡ n + length (x ∷ xs) = omega arith in e))
 

@@ -8,3 +8,6 @@ pub mod TieSteps
 pub mod WireFacts
 pub mod PortTests
 pub mod Counts
+pub mod Members
+pub mod Givers
+pub mod GiftFacts

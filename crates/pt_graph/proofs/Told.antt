@@ -1,5 +1,5 @@
 -- What a refusal tells, and what is in a table.
-use Rattle.std.proofs.Common.{◌≡◌, ℕ, ◌<◌, List, Some, length, get_or, map, refl, sym, ap, subst, ◌∙◌, arith}
+use Rattle.std.proofs.Common.{◌≡◌, ℕ, ◌<◌, ◌≤◌, List, Some, length, get_or, map, refl, sym, ap, subst, ◌∙◌, arith}
 use Rattle.std.proofs.lemmas.List.{get_or-map, length-map, get_or_default}
 use Rattle.std.proofs.lemmas.Option.{slice_get-get_or, slice_get-map}
 use Rattle.std.specs.List.{Contains, slice_get}
@@ -29,3 +29,15 @@ contains_of view xs ys i x same within is = subst (λ zs. Contains (map view zs)
 
 pub read_view : {X Y : Type 0} (view : X → Y) (xs : List X) (i : ℕ) (x : X) → i < length xs → x ≡ get_or xs i x → get_or (map view xs) i (view x) ≡ view x
 read_view view xs i x within is = get_or-map view xs i x (view x) within ∙ ap view (sym is)
+
+pub read_of : {X Y : Type 0} (view : X → Y) (xs ys : List X) (i : ℕ) (x : X) → ys ≡ xs → i < length ys → x ≡ get_or ys i x → get_or (map view xs) i (view x) ≡ view x
+read_of view xs ys i x same within is = subst (λ zs. get_or (map view zs) i (view x) ≡ view x) same (read_view view ys i x within is)
+
+pub number_of : {X Y : Type 0} (view : X → Y) (xs ys : List X) (i : ℕ) (x : X) → ys ≡ xs → i < length ys → x ≡ get_or ys i x → slice_get (map view xs) i ≡ Some (view x)
+number_of view xs ys i x same within is = subst (λ zs. slice_get (map view zs) i ≡ Some (view x)) same (number_view view ys i x within is)
+
+pub within_of : {X Y : Type 0} (view : X → Y) (xs ys : List X) (i : ℕ) → ys ≡ xs → i < length ys → i < length (map view xs)
+within_of view xs ys i same within = let e : length ys ≡ length xs = ap (λ zs. length zs) same in omega (arith, length-map xs view, within, e)
+
+pub whole_of : {X Y : Type 0} (view : X → Y) (xs ys : List X) (i : ℕ) → ys ≡ xs → length ys ≤ i → length (map view xs) ≤ i
+whole_of view xs ys i same whole = let e : length ys ≡ length xs = ap (λ zs. length zs) same in omega (arith, length-map xs view, whole, e)

@@ -9,3 +9,4 @@ pub mod Survey
 pub mod Resolve
 pub mod Ties
 pub mod Wiring
+pub mod Sources

@@ -7,6 +7,7 @@ mod names;
 mod net;
 mod refusal;
 pub mod resolve;
+pub mod sources;
 pub mod survey;
 pub mod tables;
 pub mod ties;
