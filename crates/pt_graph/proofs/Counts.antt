@@ -2,9 +2,10 @@
 use Rattle.std.proofs.Common.{◌≡◌, ◌≢◌, ℕ, ◌+◌, ◌-◌, ◌^◌, ◌<◌, ◌≤◌, min, Bool, true, false, cond, List, [], ◌∷◌, ◌++◌, length, get_or, set, take, map, nat_eq, inl, inr, add-zero, refl, sym, ap, subst, ◌∙◌, arith, get_or-set_same, get_or-set_other, length-set}
 use Rattle.std.proofs.lemmas.Bool.{cases_eq, eq-eqb, ne_eqb}
 use Rattle.std.proofs.lemmas.List.{take_more, length-take-le, take_all, get_or_default}
-use Rattle.std.proofs.lemmas.List.Elements.{All-nil, All-cons, All-append, All-weaker}
+use Rattle.std.proofs.lemmas.List.Elements.{All-nil, All-cons, All-head, All-tail, All-append, All-contains_itself}
 use Rattle.std.proofs.lemmas.List.Sums.{sum_by_push}
-use Rattle.std.specs.List.{All, sum_by, enumerate_from}
+use Rattle.std.specs.List.{All, Contains, sum_by, enumerate_from}
+use Rattle.pt_graph.proofs.Members.{enumerate-push}
 use Rattle.pt_moml.specs.Document.{parts}
 use Rattle.pt_moml.specs.Classes.{ClassPort}
 use Rattle.pt_graph.specs.declared.wire.Wire.{Wire}
@@ -12,25 +13,22 @@ use Rattle.pt_graph.specs.Standing.{Standing}
 use Rattle.pt_graph.specs.Table.{PortAt, Tables, numbered_ports, ports_from, ports_of, tables_from}
 use Rattle.pt_graph.specs.Net.{wires}
 use Rattle.pt_graph.specs.Stands.{input_channels, channels_in}
-use Rattle.pt_graph.specs.Wiring.{AreOwned, AreCounts}
+use Rattle.pt_graph.specs.Wiring.{IsOwned, AreOwned, AreCounts}
 
-numbered_owned : (e : ℕ) (s : Standing) (n : ℕ) (ps : List ClassPort) → All (λ p. p.entity ≡ e) (numbered_ports e s n ps)
-numbered_owned e s n [] = All-nil (λ (p : PortAt). p.entity ≡ e)
-numbered_owned e s n (p ∷ ps) = All-cons (λ (q : PortAt). q.entity ≡ e) _ (numbered_ports e s (n + 1) ps) refl (numbered_owned e s (n + 1) ps)
+numbered_owned : (m e : ℕ) (s : Standing) (n : ℕ) (ps all : List ClassPort) → e < m → All (Contains all) ps → all ≡ ports_of (parts s.tree) → All (IsOwned m) (numbered_ports e s n ps)
+numbered_owned m e s n [] all below in' is = All-nil (IsOwned m)
+numbered_owned m e s n (p ∷ ps) all below in' is =
+    All-cons (IsOwned m) _ (numbered_ports e s (n + 1) ps) (below, subst (λ qs. Contains qs p) is (All-head (Contains all) p ps in')) (numbered_owned m e s (n + 1) ps all below (All-tail (Contains all) p ps in') is)
 
-ports_owned : (e m : ℕ) (all : List Standing) → e + length all ≤ m → All (λ p. p.entity < m) (ports_from e all)
-ports_owned e m [] h = All-nil (λ (p : PortAt). p.entity < m)
+ports_owned : (e m : ℕ) (all : List Standing) → e + length all ≤ m → All (IsOwned m) (ports_from e all)
+ports_owned e m [] h = All-nil (IsOwned m)
 ports_owned e m (s ∷ ss) h =
-    All-append (λ (p : PortAt). p.entity < m) (numbered_ports e s 0 (ports_of (parts s.tree))) (ports_from (e + 1) ss)
-    (All-weaker (λ (p : PortAt). p.entity ≡ e) (λ (p : PortAt). p.entity < m) (λ p k. omega (arith, h, k)) _ (numbered_owned e s 0 (ports_of (parts s.tree))))
+    All-append (IsOwned m) (numbered_ports e s 0 (ports_of (parts s.tree))) (ports_from (e + 1) ss)
+    (numbered_owned m e s 0 (ports_of (parts s.tree)) (ports_of (parts s.tree)) (omega (arith, h)) (All-contains_itself (ports_of (parts s.tree))) refl)
     (ports_owned (e + 1) m ss (omega (arith, h)))
 
 pub owned : (all : List Standing) → AreOwned (tables_from all)
 owned all = ports_owned 0 (length all) all (omega arith)
-
-pub enumerate-push : {X : Type 0} (n : ℕ) (xs : List X) (y : X) → enumerate_from n (xs ++ y ∷ []) ≡ enumerate_from n xs ++ (n + length xs, y) ∷ []
-enumerate-push n [] y = ap (λ m. (m, y) ∷ []) (let e : n ≡ n + 0 = omega arith in e)
-enumerate-push n (x ∷ xs) y = ap (λ zs. (n, x) ∷ zs) (enumerate-push (n + 1) xs y ∙ ap (λ m. enumerate_from (n + 1) xs ++ (m, y) ∷ []) (let e : n + 1 + length xs ≡ n + length (x ∷ xs) = omega arith in e))
 
 -- one port more
 channels_in-push : (ps : List PortAt) (ws : List Wire) (e : ℕ) (p : PortAt) → channels_in (ps ++ p ∷ []) ws e ≡ channels_in ps ws e + cond (nat_eq p.entity e) (input_channels ws (length ps, p)) 0
@@ -83,7 +81,7 @@ counts_read t i p within is counts x y own is_x is_y so_far =
 
 -- a port that was read is one of an entity of the tables
 pub owned_read : (t : Tables) (i : ℕ) (p : PortAt) → i < length t.ports → get_or t.ports i p ≡ p → AreOwned t → p.entity < length t.entities
-owned_read t i p within is all = subst (λ (q : PortAt). q.entity < length t.entities) is (all i p within)
+owned_read t i p within is all = subst (λ (q : PortAt). q.entity < length t.entities) is (all i p within).0
 
 -- what the count of an entity is once all ports are counted
 pub counted : (t : Tables) (counts : List ℕ) (e c : ℕ) → AreCounts t (length t.ports) counts → e < length t.entities → c ≡ get_or counts e c → c ≡ min (channels_in t.ports (wires t) e) (2 ^ 64 - 1)

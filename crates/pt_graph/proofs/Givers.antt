@@ -7,7 +7,7 @@ use Rattle.std.specs.List.{Contains, flat_map, enumerate_from}
 use Rattle.pt_graph.specs.declared.wire.Wire.{Wire}
 use Rattle.pt_graph.specs.Table.{PortAt}
 use Rattle.pt_graph.specs.Sources.{giving, gifts_among, HasOneGiver, HasTwoGivers, AreGivers}
-use Rattle.pt_graph.proofs.Counts.{enumerate-push}
+use Rattle.pt_graph.proofs.Members.{flat_more}
 
 abbrev pub Gift : Type 0
 Gift = ℕ × ℕ
@@ -71,11 +71,4 @@ one_giver count i group given givers whole all g r h s x y together =
 
 -- the gifts of one port more
 pub gifts_more : (ws : List Wire) (kept_only : Bool) (ports : List PortAt) (i : ℕ) (p : PortAt) → i < length ports → get_or ports i p ≡ p → gifts_among ws kept_only (take (i + 1) ports) ≡ gifts_among ws kept_only (take i ports) ++ map (λ r. (i, r)) (giving ws kept_only (i, p))
-gifts_more ws kept_only ports i p within is =
-    let f : ℕ × PortAt → List Gift = λ q. map (λ r. (q.0, r)) (giving ws kept_only q) in
-    ap (λ (ps : List PortAt). flat_map f (enumerate_from 0 ps)) (take_more ports i p within)
-    ∙ ap (λ (q : PortAt). flat_map f (enumerate_from 0 (take i ports ++ q ∷ []))) is
-    ∙ ap (λ (qs : List (ℕ × PortAt)). flat_map f qs) (enumerate-push 0 (take i ports) p)
-    ∙ flat_map-append f (enumerate_from 0 (take i ports)) ((0 + length (take i ports), p) ∷ [])
-    ∙ ap (λ (xs : List Gift). gifts_among ws kept_only (take i ports) ++ xs) (append-nil (f (0 + length (take i ports), p)))
-    ∙ ap (λ (n : ℕ). gifts_among ws kept_only (take i ports) ++ f (n, p)) (let l = length-take-le i ports (omega arith) in let z : 0 + length (take i ports) ≡ i = omega (arith, l) in z)
+gifts_more ws kept_only ports i p within is = flat_more (λ q. map (λ r. (q.0, r)) (giving ws kept_only q)) ports i p within is

@@ -11,3 +11,4 @@ pub mod Counts
 pub mod Members
 pub mod Givers
 pub mod GiftFacts
+pub mod Singles

@@ -1,5 +1,7 @@
 -- What is in a list that is made of others.
-use Rattle.std.proofs.Common.{◌≡◌, ℕ, zero, suc, ◌+◌, ◌<◌, ◌⊎◌, inl, inr, Option, Some, None, List, [], ◌∷◌, ◌++◌, length, get_or, map, refl, sym, ap, subst, ◌∙◌, arith}
+use Rattle.std.proofs.Common.{◌≡◌, ℕ, zero, suc, ◌+◌, ◌<◌, ◌⊎◌, inl, inr, Option, Some, None, List, [], ◌∷◌, ◌++◌, length, get_or, take, map, refl, sym, ap, subst, ◌∙◌, arith}
+use Rattle.std.proofs.lemmas.List.{take_more, append-nil, length-take-le}
+use Rattle.std.proofs.lemmas.List.Concat.{flat_map-append}
 use Rattle.std.proofs.lemmas.List.Elements.{Contains-append_left, Contains-append_right, Contains-append_cases, Contains-get_or}
 use Rattle.std.proofs.lemmas.Option.{slice_get-get_or, slice_get_within, get_or_from_slice_get}
 use Rattle.std.specs.List.{Contains, filter_map, cons_option, flat_map, enumerate_from, slice_get}
@@ -98,3 +100,17 @@ enumerate_contains n (z ∷ zs) q w =
       | inl e ↦ (let a : n ≡ q.0 = ap (λ p. p.0) e in (0, omega (arith, a), ap (λ p. Some p.1) e))
       | inr h ↦ (let r = enumerate_contains (n + 1) zs q h in (suc r.0, omega (arith, r.1), r.2))
     ]
+
+pub enumerate-push : {X : Type 0} (n : ℕ) (xs : List X) (y : X) → enumerate_from n (xs ++ y ∷ []) ≡ enumerate_from n xs ++ (n + length xs, y) ∷ []
+enumerate-push n [] y = ap (λ m. (m, y) ∷ []) (let e : n ≡ n + 0 = omega arith in e)
+enumerate-push n (x ∷ xs) y = ap (λ zs. (n, x) ∷ zs) (enumerate-push (n + 1) xs y ∙ ap (λ m. enumerate_from (n + 1) xs ++ (m, y) ∷ []) (let e : n + 1 + length xs ≡ n + length (x ∷ xs) = omega arith in e))
+
+-- what the items so far give, with one item more
+pub flat_more : {X Y : Type 0} (f : ℕ × X → List Y) (xs : List X) (i : ℕ) (x : X) → i < length xs → get_or xs i x ≡ x → flat_map f (enumerate_from 0 (take (i + 1) xs)) ≡ flat_map f (enumerate_from 0 (take i xs)) ++ f (i, x)
+flat_more {X = X} {Y = Y} f xs i x within is =
+    ap (λ (ps : List X). flat_map f (enumerate_from 0 ps)) (take_more xs i x within)
+    ∙ ap (λ (q : X). flat_map f (enumerate_from 0 (take i xs ++ q ∷ []))) is
+    ∙ ap (λ (qs : List (ℕ × X)). flat_map f qs) (enumerate-push 0 (take i xs) x)
+    ∙ flat_map-append f (enumerate_from 0 (take i xs)) ((0 + length (take i xs), x) ∷ [])
+    ∙ ap (λ (ys : List Y). flat_map f (enumerate_from 0 (take i xs)) ++ ys) (append-nil (f (0 + length (take i xs), x)))
+    ∙ ap (λ (n : ℕ). flat_map f (enumerate_from 0 (take i xs)) ++ f (n, x)) (let l = length-take-le i xs (omega arith) in let z : 0 + length (take i xs) ≡ i = omega (arith, l) in z)

@@ -10,3 +10,4 @@ pub mod Resolve
 pub mod Ties
 pub mod Wiring
 pub mod Sources
+pub mod Origins

@@ -2,7 +2,8 @@
 use Rattle.std.specs.Prelude.{◌≡◌, ◌≢◌, ℕ, ◌<◌, ◌≤◌, List, [], length, Bool, IsTrue, ◌&&◌, ◌||◌, ◌==◌, nat_lt, ◌-◌, ◌^◌, min, take, slice_index, Some, None, slice_get}
 use Rattle.std.specs.List.{All, Contains}
 use Rattle.pt_graph.specs.declared.wiring.Wiring.{Wiring}
-use Rattle.pt_graph.specs.Table.{PortAt, RelationAt, LinkAt, Tables}
+use Rattle.pt_graph.specs.Table.{PortAt, RelationAt, LinkAt, Tables, ports_of}
+use Rattle.pt_moml.specs.Document.{parts}
 use Rattle.pt_graph.specs.Survey.{tables_view}
 use Rattle.pt_graph.specs.Wires.{wire_of, is_input, outside_of, inside_of}
 use Rattle.pt_graph.specs.Ties.{rows, IsWithin, AreTied}
@@ -14,9 +15,12 @@ use Rattle.pt_graph.specs.Standing.{Standing}
 abbrev pub AllNamed : Tables → Type 0
 AllNamed t = (l : LinkAt) → Contains t.links l → wire_of t.ports t.relations l ≢ None
 
--- each port is one of an entity of the tables
+-- a port is one of those of an entity, which is one of so many
+abbrev pub IsOwned : ℕ → PortAt → Type 0
+IsOwned n p = (p.entity < n) × Contains (ports_of (parts p.standing.tree)) p.port
+
 abbrev pub AreOwned : Tables → Type 0
-AreOwned t = All (λ p. p.entity < length t.entities) t.ports
+AreOwned t = All (IsOwned (length t.entities)) t.ports
 
 -- no actor has fewer channels than its class says
 abbrev pub HaveChannels : Tables → Type 0

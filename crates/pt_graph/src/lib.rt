@@ -5,6 +5,7 @@ mod checks;
 pub mod groups;
 mod names;
 mod net;
+pub mod origins;
 mod refusal;
 pub mod resolve;
 pub mod sources;

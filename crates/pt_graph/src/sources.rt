@@ -104,7 +104,7 @@ fn bond_of(wire: &Wire) -> Option<(usize, usize)>
 }
 
 /// The pairs of relations that are linked to each other.
-fn bonds(alloc: Global, wires: &[Wire]) -> Result<Vec<(usize, usize)>, AllocError>
+pub fn bonds(alloc: Global, wires: &[Wire]) -> Result<Vec<(usize, usize)>, AllocError>
     ensures { IfOk result (λ bonds. bonds.items ≡ filter_map spec.bond_of wires.now) }
 {
     wires.iter().filter_map(|wire| bond_of(wire)).collect(alloc)
