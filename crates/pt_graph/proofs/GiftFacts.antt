@@ -106,7 +106,7 @@ joined_by f a b (here x) = here x
 joined_by f a b (along x y z s p) = along x y z (f x y s) (joined_by f y z p)
 joined_by f a b (against x y z s p) = against x y z (f y x s) (joined_by f y z p)
 
-bond_is : (a b : ℕ) (w : Wire) → bond_of w ≡ Some (a, b) → w ≡ Bond a b
+pub bond_is : (a b : ℕ) (w : Wire) → bond_of w ≡ Some (a, b) → w ≡ Bond a b
 bond_is a b (Bond x y) e =
     let q : (x, y) ≡ (a, b) = cc in
     ap (λ (k : ℕ × ℕ). Bond k.0 k.1) q

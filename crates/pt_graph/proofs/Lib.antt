@@ -12,3 +12,4 @@ pub mod Members
 pub mod Givers
 pub mod GiftFacts
 pub mod Singles
+pub mod WayFacts

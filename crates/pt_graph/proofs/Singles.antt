@@ -31,7 +31,7 @@ transparent_single n p own free =
     let w = map_contains declared_port (parts p.standing.tree).ports p.port (subst (λ ps. Contains ps p.port) ports own.1) in
     ap (λ (q : ClassPort). has_one_at_most q.arity) (sym w.2)
 
-one_of : (xs : List ℕ) (a b : ℕ) → length xs ≤ 1 → Contains xs a → Contains xs b → a ≡ b
+pub one_of : (xs : List ℕ) (a b : ℕ) → length xs ≤ 1 → Contains xs a → Contains xs b → a ≡ b
 one_of xs a b short x y =
     let i : x.0 ≡ 0 = omega (arith, x.1) in
     let j : y.0 ≡ 0 = omega (arith, y.1) in

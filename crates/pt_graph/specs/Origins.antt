@@ -9,6 +9,8 @@ use Rattle.pt_graph.specs.Joined.{IsGrouping}
 use Rattle.pt_graph.specs.Wires.{outside_of, inside_of, AreJoined, IsSource}
 use Rattle.pt_graph.specs.Net.{wires}
 use Rattle.pt_graph.specs.Sources.{bond_of, gifts}
+use Rattle.pt_graph.specs.Survey.{tables_view}
+use Rattle.pt_graph.specs.Wiring.{IsWiring, AreFine}
 
 -- the first of each of two lists, where both have one
 abbrev pub first_pair : List ℕ → List ℕ → List (ℕ × ℕ)
@@ -45,6 +47,11 @@ pub record AreOrigins (count i : ℕ) (class : List ℕ) (given : List (ℕ × �
   pub complete : (k : ℕ) → k < i → IsSome (slice_index_or origins (slice_index class (slice_index_or given k (0, 0)).1) None)
 
 -- the classes of relations that are joined, and the source of each class
-pub record AreTrue (t : Tables) (o : Origins) : Type 0 where
+pub record AreOriginsOf (t : Tables) (o : Origins) : Type 0 where
+  pub wiring : IsWiring o.wiring.now
+  pub fine : AreFine t
   pub classes : IsGrouping (length t.relations) (ways t) o.class.items
   pub origins : AreOrigins (length t.relations) (length (gifts t true)) o.class.items (gifts t true) o.sources.items
+
+abbrev pub AreTrue : Origins → Type 0
+AreTrue o = AreOriginsOf (tables_view o.wiring.now.tables.now) o

@@ -16,7 +16,8 @@ use std::alloc::{AllocError, Global};
 
 /// The relations in classes of those that paths join, and the source of each class.
 #[derive(Drop)]
-pub struct Origins {
+pub struct Origins<'o, 'w, 't, 'a> {
+    pub wiring: &'o Wiring<'w, 't, 'a>,
     class: Vec<usize>,
     sources: Vec<Option<usize>>,
 }
@@ -79,4 +80,34 @@ fn class_sources(
         sources[class[*relation]] = Some(*giver);
     }
     Ok(sources)
+}
+
+impl<'o, 'w, 't, 'a> Origins<'o, 'w, 't, 'a> {
+    /// The sources of these wires.
+    pub fn of(
+        alloc: Global,
+        wiring: &'o Wiring<'w, 't, 'a>,
+    ) -> Result<Origins<'o, 'w, 't, 'a>, AllocError>
+        requires wiring { IsWiring wiring.now }
+        requires fine { AreFine (tables_view wiring.now.tables.now) }
+        ensures wiring { IfOk result (λ origins. origins.wiring.now ≡ wiring.now) }
+        ensures origins { IfOk result AreTrue }
+    {
+        let class = group(alloc, wiring.tables.relations.len(), &ways(alloc, wiring)?)?;
+        let sources = class_sources(alloc, &class, &gifts(alloc, wiring, true)?)?;
+        Ok(Origins {
+            wiring,
+            class,
+            sources,
+        })
+    }
+
+    /// The port of which the tokens of a relation come, if it has a source.
+    pub fn source(&self, relation: usize) -> Option<usize>
+        requires origins { AreTrue self.now }
+        requires relation { relation < length (tables_view self.now.wiring.now.tables.now).relations }
+        ensures { MatchOption result (HasNoSource (tables_view self.now.wiring.now.tables.now) relation) (λ source. IsSourceOf (tables_view self.now.wiring.now.tables.now) relation source) }
+    {
+        self.sources[self.class[relation]]
+    }
 }
