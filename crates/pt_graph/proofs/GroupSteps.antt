@@ -148,8 +148,8 @@ module _ (i count : ℕ) (links : List (ℕ × ℕ)) (old new : List ℕ) where
             ]
           ]
 
-pub grouped : (i count : ℕ) (links : List (ℕ × ℕ)) (group : List ℕ) → length links ≤ i → length group ≡ count → GroupsFirst i count links group → IsGrouping count links group
-grouped i count links group whole each all = record { each = each; joined = λ a b a_in b_in. (λ e. all.sound a b a_in b_in e, λ p. path_kept (λ t. get_or group t 0) keeps a b p) }
+pub grouped : (i count : ℕ) (links : List (ℕ × ℕ)) (group : List ℕ) → length links ≤ i → length group ≡ count → ((t : ℕ) → t < count → get_or group t 0 < count) → GroupsFirst i count links group → IsGrouping count links group
+grouped i count links group whole each within all = record { each = each; within = λ k d below. rw (get_or_default group k d 0 below) (within k (omega (arith, each))); joined = λ a b a_in b_in. (λ e. all.sound a b a_in b_in e, λ p. path_kept (λ t. get_or group t 0) keeps a b p) }
   where
     keeps : (x y : ℕ) → Pairs links x y → get_or group x 0 ≡ get_or group y 0
     keeps x y w = subst (λ (l : ℕ × ℕ). get_or group l.0 0 ≡ get_or group l.1 0) w.2 (all.closed w.0 (x, y) (omega (arith, w.1)))

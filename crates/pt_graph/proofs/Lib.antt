@@ -1,1 +1,15 @@
-mod GroupSteps
+pub mod GroupSteps
+pub mod OneSource
+pub mod Surveys
+pub mod Positions
+pub mod Keys
+pub mod Told
+pub mod TieSteps
+pub mod WireFacts
+pub mod PortTests
+pub mod Counts
+pub mod Members
+pub mod Givers
+pub mod GiftFacts
+pub mod Singles
+pub mod WayFacts

@@ -1,6 +1,6 @@
 -- What a relation joins, directly or by way of others.
 use Rattle.std.specs.Prelude.{◌≡◌, ℕ, ◌<◌, ◌↔◌, List, length, slice_index}
-use Rattle.std.specs.List.{Contains}
+use Rattle.std.specs.List.{All, Contains}
 
 -- a path of steps, each taken either way, leads from one thing to another
 pub data Joined (Step : ℕ → ℕ → Type 0) : ℕ → ℕ → Type 0 where
@@ -15,4 +15,5 @@ Pairs links a b = Contains links (a, b)
 -- of things that are numbered, each has the number of its group: two have one group exactly where the links join them
 pub record IsGrouping (count : ℕ) (links : List (ℕ × ℕ)) (group : List ℕ) : Type 0 where
   pub each : length group ≡ count
+  pub within : All (λ c. c < count) group
   pub joined : (a b : ℕ) → a < count → b < count → (slice_index group a ≡ slice_index group b) ↔ Joined (Pairs links) a b

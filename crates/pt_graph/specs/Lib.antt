@@ -5,3 +5,9 @@ pub mod Table
 pub mod Wires
 pub mod Net
 pub mod Stands
+pub mod Survey
+pub mod Resolve
+pub mod Ties
+pub mod Wiring
+pub mod Sources
+pub mod Origins

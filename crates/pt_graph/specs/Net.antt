@@ -16,23 +16,20 @@ use Rattle.pt_graph.specs.declared.net.NetEntity.{NetEntity}
 use Rattle.pt_graph.specs.declared.net.Transparent.{Transparent}
 use Rattle.pt_graph.specs.declared.net.Net.{Net}
 use Rattle.pt_graph.specs.Standing.{Standing, is_kept, is_director, entities}
-use Rattle.pt_graph.specs.Table.{PortAt, RelationAt, LinkAt, joined_ports, ports_from, relations_from, links_from, port_path}
+use Rattle.pt_graph.specs.Table.{PortAt, Tables, joined_ports, tables_of, port_path}
 use Rattle.pt_graph.specs.Wires.{wire_of, is_input, Place, places, Reaches}
 
--- ---- the tables of a job
-
-abbrev pub ports : JobTree → List PortAt
-ports job = ports_from 0 (entities job)
-
-abbrev pub relations : JobTree → List RelationAt
-relations job = relations_from 0 (entities job)
-
-abbrev pub links : JobTree → List LinkAt
-links job = links_from 0 (entities job)
-
 -- what the links join that name what is there
-abbrev pub wires : JobTree → List Wire
-wires job = filter_map (wire_of (ports job) (relations job)) (links job)
+abbrev pub wires : Tables → List Wire
+wires t = filter_map (wire_of t.ports t.relations) t.links
+
+-- the places of a job, in the order of their numbers
+abbrev pub all_places : Tables → List Place
+all_places t = places t.ports (wires t)
+
+-- this port is a source that a path joins with this place
+abbrev pub ReachesIn : Tables → ℕ → PortAt → Place → Type 0
+ReachesIn t g p place = Reaches t.ports (wires t) g p place
 
 -- ---- entities
 
@@ -131,31 +128,31 @@ module _ (all : List Standing) where
 
 -- a pair of a source and a place is a channel exactly where a path of links, relation groups and transparent composites
 -- joins them
-pub record IsChannel (job : JobTree) (k : Channel) : Type 0 where
+pub record IsChannel (t : Tables) (k : Channel) : Type 0 where
   pub source : ℕ
   pub source_at : PortAt
   pub place : Place
-  pub is_place : Contains (places (ports job) (wires job)) place
-  pub reaches : Reaches (ports job) (wires job) source source_at place
-  pub is : k ≡ channel (entities job) source_at place
+  pub is_place : Contains (all_places t) place
+  pub reaches : ReachesIn t source source_at place
+  pub is : k ≡ channel t.entities source_at place
 
 -- this is the channel to that place
-pub record IsChannelTo (job : JobTree) (place : Place) (k : Channel) : Type 0 where
+pub record IsChannelTo (t : Tables) (place : Place) (k : Channel) : Type 0 where
   pub source : ℕ
   pub source_at : PortAt
-  pub reaches : Reaches (ports job) (wires job) source source_at place
-  pub is : k ≡ channel (entities job) source_at place
+  pub reaches : ReachesIn t source source_at place
+  pub is : k ≡ channel t.entities source_at place
 
 -- a text names an output port of a library actor or an opaque composite
-pub record Names (job : JobTree) (text : List ℕ) (p : PortAt) : Type 0 where
-  pub there : Contains (ports job) p
+pub record Names (t : Tables) (text : List ℕ) (p : PortAt) : Type 0 where
+  pub there : Contains t.ports p
   pub kept : IsTrue (is_kept p.standing)
   pub output : IsTrue (not (is_input p))
   pub told : port_path p ≡ text
 
 -- a text names this port of the net
-abbrev pub Records : JobTree → List ℕ → NetPort → Type 0
-Records job text port = (p : PortAt) × Names job text p × (port ≡ net_port (entities job) p)
+abbrev pub Records : Tables → List ℕ → NetPort → Type 0
+Records t text port = (p : PortAt) × Names t text p × (port ≡ net_port t.entities p)
 
 -- ---- what the program holds
 
@@ -174,8 +171,8 @@ transparent_view t = record { path = t.path; parent = t.parent; within = t.withi
 pub record IsNetOf (job : JobTree) (net : Net) : Type 0 where
   pub each_entity : map entity_view net.entities.items ≡ map (entity_tree (entities job)) (filter is_kept (entities job))
   pub each_transparent : map transparent_view net.transparent.items ≡ map (transparent_tree (entities job)) (filter (λ s. not (is_kept s)) (entities job))
-  pub channels : (k : Channel) → Contains net.channels.items k ↔ IsChannel job k
-  pub numbered : AllZip (IsChannelTo job) (places (ports job) (wires job)) net.channels.items
+  pub channels : (k : Channel) → Contains net.channels.items k ↔ IsChannel (tables_of job) k
+  pub numbered : AllZip (IsChannelTo (tables_of job)) (all_places (tables_of job)) net.channels.items
   pub inputs : map view.input_view net.inputs.items ≡ job.inputs
   pub records : net.records.items ≡ job.records
-  pub recorded : AllZip (Records job) job.records net.recorded.items
+  pub recorded : AllZip (Records (tables_of job)) job.records net.recorded.items

@@ -30,23 +30,22 @@ abbrev pub is_kept_as : Option ℕ → Bool → Bool → Bool
 is_kept_as outer composite directed = is_none outer || not composite || directed
 
 -- an entity where it stands: the entity round it, by its number in the document; the innermost one round it that stays in the
--- net; whether it is a refinement, a child of a Modal entity; whether it is a Composite, and has a director; its path; and
--- what it is
+-- net; whether it is a refinement, a child of a Modal entity; whether it has a director; its path; and what
+-- it is
 pub record Standing : Type 0 where
   pub outer : Option ℕ
   pub around : Option ℕ
   pub is_refinement : Bool
-  pub is_composite : Bool
   pub is_directed : Bool
   pub path : List ℕ
   pub tree : EntityTree
 
 abbrev pub is_kept : Standing → Bool
-is_kept s = is_kept_as s.outer s.is_composite s.is_directed
+is_kept s = is_kept_as s.outer (is_composite (parts s.tree)) s.is_directed
 
 -- an entity, and the entities round it
 abbrev pub standing : Option ℕ → Option ℕ → Bool → List ℕ → EntityTree → Standing
-standing outer around in_modal path e = record { outer = outer; around = around; is_refinement = in_modal; is_composite = is_composite (parts e); is_directed = has_director (parts e); path = path; tree = e }
+standing outer around in_modal path e = record { outer = outer; around = around; is_refinement = in_modal; is_directed = has_director (parts e); path = path; tree = e }
 
 -- the innermost entity that stays in the net round those in an entity of this number
 abbrev pub around_in : ℕ → Standing → Option ℕ

@@ -1,5 +1,5 @@
 -- The ports, the relations and the links of a job, in the order of the document.
-use Rattle.std.specs.Prelude.{ℕ, suc, List, [], ◌∷◌, ◌++◌, map, Bool, true, false, not, ◌&&◌, ◌||◌, ◌==◌, Option, Some, None, if◌then◌else◌, bytes_eq, codes}
+use Rattle.std.specs.Prelude.{ℕ, ◌+◌, List, [], ◌∷◌, ◌++◌, map, Bool, true, false, not, ◌&&◌, ◌||◌, ◌==◌, Option, Some, None, if◌then◌else◌, bytes_eq, codes}
 use Rattle.std.specs.List.{list_all, slice_split}
 use Rattle.pt_moml.specs.declared.job.Direction.{Direction}
 use Rattle.pt_moml.specs.declared.job.Direction.TheVariants.{Input, Output}
@@ -8,10 +8,10 @@ use Rattle.pt_moml.specs.declared.job.Link.{Link}
 use Rattle.pt_moml.specs.declared.job.Link.TheVariants as link
 use Rattle.pt_moml.specs.declared.classes.Arity.{Arity}
 use Rattle.pt_moml.specs.declared.classes.Arity.TheVariants.{Single, Optional, Many, ManyOrNone}
-use Rattle.pt_moml.specs.Document.{PortTree, Parts, EntityTree, parts, entity_name}
+use Rattle.pt_moml.specs.Document.{PortTree, Parts, parts, JobTree}
 use Rattle.pt_moml.specs.Classes.{ClassPort, Class, Kind, Composite, Modal, Actor, kind_of}
 use Rattle.pt_moml.specs.Names.{is_name, below}
-use Rattle.pt_graph.specs.Standing.{Standing}
+use Rattle.pt_graph.specs.Standing.{Standing, entities}
 
 -- a declared port has one channel
 abbrev pub declared_port : PortTree → ClassPort
@@ -55,20 +55,41 @@ pub record LinkAt : Type 0 where
 -- these ports of one entity, numbered from here on
 abbrev pub numbered_ports : ℕ → Standing → ℕ → List ClassPort → List PortAt
 numbered_ports e s n [] = []
-numbered_ports e s n (p ∷ ps) = record { entity = e; standing = s; number = n; port = p } ∷ numbered_ports e s (suc n) ps
+numbered_ports e s n (p ∷ ps) = record { entity = e; standing = s; number = n; port = p } ∷ numbered_ports e s (n + 1) ps
 
 -- the ports of entities that are numbered from here on
 abbrev pub ports_from : ℕ → List Standing → List PortAt
 ports_from e [] = []
-ports_from e (s ∷ ss) = numbered_ports e s 0 (ports_of (parts s.tree)) ++ ports_from (suc e) ss
+ports_from e (s ∷ ss) = numbered_ports e s 0 (ports_of (parts s.tree)) ++ ports_from (e + 1) ss
+
+-- the relations of one entity, and those of entities that are numbered from here on
+abbrev pub relations_in : ℕ → Standing → List RelationAt
+relations_in e s = map (λ r. record { composite = e; standing = s; name = r.name }) (parts s.tree).relations
 
 abbrev pub relations_from : ℕ → List Standing → List RelationAt
 relations_from e [] = []
-relations_from e (s ∷ ss) = map (λ r. record { composite = e; standing = s; name = r.name }) (parts s.tree).relations ++ relations_from (suc e) ss
+relations_from e (s ∷ ss) = relations_in e s ++ relations_from (e + 1) ss
+
+-- the links of one entity, and those of entities that are numbered from here on
+abbrev pub links_in : ℕ → Standing → List LinkAt
+links_in e s = map (λ l. record { composite = e; standing = s; link = l }) (parts s.tree).links
 
 abbrev pub links_from : ℕ → List Standing → List LinkAt
 links_from e [] = []
-links_from e (s ∷ ss) = map (λ l. record { composite = e; standing = s; link = l }) (parts s.tree).links ++ links_from (suc e) ss
+links_from e (s ∷ ss) = links_in e s ++ links_from (e + 1) ss
+
+-- the tables of a job
+pub record Tables : Type 0 where
+  pub entities : List Standing
+  pub ports : List PortAt
+  pub relations : List RelationAt
+  pub links : List LinkAt
+
+abbrev pub tables_from : List Standing → Tables
+tables_from all = record { entities = all; ports = ports_from 0 all; relations = relations_from 0 all; links = links_from 0 all }
+
+abbrev pub tables_of : JobTree → Tables
+tables_of job = tables_from (entities job)
 
 -- ---- where they are told
 

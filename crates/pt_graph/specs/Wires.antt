@@ -75,8 +75,12 @@ outside_of wires g = filter_map (relation_outside g) wires
 abbrev pub inside_of : List Wire → ℕ → List ℕ
 inside_of wires g = filter_map (relation_inside g) wires
 
+abbrev pub is_inward : Direction → Bool
+is_inward Input = true
+is_inward Output = false
+
 abbrev pub is_input : PortAt → Bool
-is_input p = elim p.port.direction [ Input ↦ true | Output ↦ false ]
+is_input p = is_inward p.port.direction
 
 -- the relations from which a port takes tokens: an input from outside, an output from inside
 abbrev pub taken_from : List Wire → ℕ → PortAt → List ℕ

@@ -15,4 +15,4 @@ loop-a-preserved c =
     (rw e at c.in_ok-join.ensures.kept, groups_one c.loop-a.a-index c.args.count c.args.links.now c.loop-a.groups.group.items c.join.new.self.group.items c.requires.ends c.loop-a-test.true (rw e at c.in_ok-join.ensures.merged) c.loop-a.invariant.1)
 
 pub returns : goal.returns
-returns c = grouped _ _ _ _ c.loop-a-test.false c.loop-a.invariant.0.things c.loop-a.invariant.1
+returns c = grouped _ _ _ _ c.loop-a-test.false c.loop-a.invariant.0.things c.loop-a.invariant.0.within c.loop-a.invariant.1

@@ -1,0 +1,38 @@
+-- What a contract sees of the tables of a job.
+use Rattle.std.specs.Prelude.{ℕ, List, map}
+use Rattle.pt_moml.specs.Classes.{port_of}
+use Rattle.pt_moml.specs.View.{entity_view}
+use Rattle.pt_graph.specs.declared.survey.Placed.{Placed}
+use Rattle.pt_graph.specs.declared.tables.PlacedPort.{PlacedPort}
+use Rattle.pt_graph.specs.declared.tables.PlacedRelation.{PlacedRelation}
+use Rattle.pt_graph.specs.declared.tables.PlacedLink.{PlacedLink}
+use Rattle.pt_graph.specs.declared.tables.Tables.{Tables as HeldTables}
+use Rattle.pt_graph.specs.Standing.{Standing}
+use Rattle.pt_graph.specs.Table.{PortAt, RelationAt, LinkAt, Tables}
+
+abbrev pub placed_view : Placed → Standing
+placed_view p = record { outer = p.outer; around = p.around; is_refinement = p.is_refinement; is_directed = p.is_directed; path = p.path; tree = entity_view p.entity.now }
+
+abbrev pub table_view : List Placed → List Standing
+table_view ps = map placed_view ps
+
+abbrev pub port_at : PlacedPort → PortAt
+port_at p = record { entity = p.entity; standing = placed_view p.placed.now; number = p.number; port = port_of p.port }
+
+abbrev pub ports_view : List PlacedPort → List PortAt
+ports_view ps = map port_at ps
+
+abbrev pub relation_at : PlacedRelation → RelationAt
+relation_at r = record { composite = r.composite; standing = placed_view r.placed.now; name = r.name.now }
+
+abbrev pub relations_view : List PlacedRelation → List RelationAt
+relations_view rs = map relation_at rs
+
+abbrev pub link_at : PlacedLink → LinkAt
+link_at l = record { composite = l.composite; standing = placed_view l.placed.now; link = l.link.now }
+
+abbrev pub links_view : List PlacedLink → List LinkAt
+links_view ls = map link_at ls
+
+abbrev pub tables_view : HeldTables → Tables
+tables_view t = record { entities = table_view t.entities.now; ports = ports_view t.ports.items; relations = relations_view t.relations.items; links = links_view t.links.items }
