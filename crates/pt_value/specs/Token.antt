@@ -1,5 +1,5 @@
 -- What a token stands for. Two tokens are equal exactly where their values are.
-use Rattle.std.specs.Prelude.{◌≡◌, ℕ, List, refl}
+use Rattle.std.specs.Prelude.{◌≡◌, ℕ, List, [], ◌∷◌, map, refl}
 use Rattle.std.specs.Coded.{Coded, code_by}
 use Rattle.std.proofs.Common.{ap, sym, ◌∙◌}
 use Rattle.pt_value.specs.declared.token.Token.{Token}
@@ -41,6 +41,23 @@ value_of-token_of (Record fs) = ap Record (named_of-fields_of fs)
 -- tokens of equal values are equal
 pub same_token : (s t : Token) → value_of s ≡ value_of t → s ≡ t
 same_token s t e = sym (token_of-value_of s) ∙ ap token_of e ∙ token_of-value_of t
+
+-- the tokens that carry some values, and back
+pub token_of-values : (ts : List Token) → map token_of (map value_of ts) ≡ ts
+token_of-values [] = refl
+token_of-values (t ∷ ts) = λ i. token_of-value_of t i ∷ token_of-values ts i
+
+pub value_of-tokens : (vs : List Value) → map value_of (map token_of vs) ≡ vs
+value_of-tokens [] = refl
+value_of-tokens (v ∷ vs) = λ i. value_of-token_of v i ∷ value_of-tokens vs i
+
+-- an integer or a truth value
+abbrev pub IsScalar : Token → Type 0
+IsScalar (token.Int n) = Unit {0}
+IsScalar (token.Bool b) = Unit {0}
+IsScalar (token.Text t) = ⊥
+IsScalar (token.Array vs) = ⊥
+IsScalar (token.Record fs) = ⊥
 
 -- the code of a token, for a `Model` whose value holds tokens
 abbrev pub coded_token : Coded Token

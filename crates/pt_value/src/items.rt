@@ -1,6 +1,6 @@
 ghost use Rattle.std.specs.Prelude.{◌≡◌, ◌↔◌, ◌++◌, IsTrue, IfOk, OnOk, map, min, length, option_map, slice_get};
 ghost use Rattle.pt_value.specs.Value.{size_of_values, values_of};
-ghost use Rattle.pt_value.specs.Token.{value_of};
+ghost use Rattle.pt_value.specs.Token.{value_of, token_of};
 ghost use Rattle.pt_value.specs.Printed.{in_braces, each_printed, IsExtended};
 
 use crate::printed::write_separator;
@@ -39,7 +39,8 @@ impl Model for Items {
 impl Items {
     /// The array of these parts. It takes no memory.
     pub fn of(tokens: Vec<Token>) -> Items
-        ensures { result ≡ map value_of tokens.items }
+        ensures values { result ≡ map value_of tokens.items }
+        ensures tokens { map token_of result ≡ tokens.items }
     {
         Items { tokens }
     }
@@ -57,7 +58,8 @@ impl Items {
     }
 
     pub fn as_slice(&self) -> &[Token]
-        ensures { map value_of result.now ≡ self.now }
+        ensures values { map value_of result.now ≡ self.now }
+        ensures tokens { map token_of self.now ≡ result.now }
     {
         self.tokens.as_slice()
     }
@@ -70,7 +72,8 @@ impl Items {
 
     /// The parts as they are kept. It takes no memory.
     pub fn into_vec(self) -> Vec<Token>
-        ensures { map value_of result.items ≡ self }
+        ensures values { map value_of result.items ≡ self }
+        ensures tokens { map token_of self ≡ result.items }
     {
         let Items { tokens } = self;
         tokens

@@ -1,6 +1,6 @@
-ghost use Rattle.std.specs.Prelude.{◌≡◌, ◌↔◌, ◌++◌, IsTrue, IfOk, OnOk, min};
+ghost use Rattle.std.specs.Prelude.{◌≡◌, ◌↔◌, ◌++◌, IsTrue, IsOk, IfOk, OnOk, min};
 ghost use Rattle.pt_value.specs.Value.{size};
-ghost use Rattle.pt_value.specs.Token.{value_of};
+ghost use Rattle.pt_value.specs.Token.{value_of, IsScalar};
 ghost use Rattle.pt_value.specs.Printed.{printed, IsExtended};
 
 use crate::fields::Fields;
@@ -21,10 +21,11 @@ pub enum Token {
 }
 
 impl Token {
-    /// Another token of the same value.
+    /// Another token of the same value. An integer or a truth value takes no memory.
     #[cycle(copies)]
     pub fn copy(&self, alloc: Global) -> Result<Token, AllocError>
-        ensures { IfOk result (λ t. t ≡ self.now) }
+        ensures value { IfOk result (λ t. t ≡ self.now) }
+        ensures scalar { IsScalar self.now → IsOk result }
     {
         match self {
             Token::Int(n) => Ok(Token::Int(*n)),

@@ -1,0 +1,7 @@
+pub mod Tokens
+pub mod Outputs
+pub mod Need
+pub mod RunFault
+pub mod PartialCode
+pub mod TriState
+pub mod Step

@@ -1,0 +1,50 @@
+ghost use Rattle.std.specs.Prelude.{◌≡◌, ◌<◌, length};
+ghost use Rattle.pt_meaning.specs.Basics.{at};
+
+use crate::tokens::Tokens;
+use pt_value::Token;
+use std::marker::Model;
+
+/// What a firing takes: a list of tokens for each place, lent by whoever keeps them.
+#[derive(Drop)]
+pub struct Inputs<'a> {
+    lists: &'a [Tokens],
+}
+
+impl<'a> Model for Inputs<'a> {
+    ghost use Rattle.std.specs.Prelude.{List};
+    ghost use Rattle.std.specs.Coded.{coded_list};
+    ghost use Rattle.pt_meaning.specs.Basics.{Streams};
+    ghost use Rattle.pt_value.specs.declared.token.Token.{Token};
+    ghost use Rattle.pt_value.specs.Token.{coded_token};
+
+    ghost Value = { Streams Token };
+
+    ghost coded = { coded_list (coded_list coded_token) };
+
+    ghost view = { λ i. i.lists.now };
+}
+
+impl<'a> Inputs<'a> {
+    pub fn of(lists: &'a [Tokens]) -> Inputs<'a>
+        ensures { result ≡ lists.now }
+    {
+        Inputs { lists }
+    }
+
+    pub fn places(&self) -> usize
+        ensures { result ≡ length self.now }
+    {
+        self.lists.len()
+    }
+
+    pub fn list(&self, place: usize) -> &[Token]
+        requires { place < length self.now }
+        ensures { result.now ≡ at self.now place }
+    {
+        match self.lists.get(place) {
+            Some(list) => list.as_slice(),
+            None => &[],
+        }
+    }
+}

@@ -1,0 +1,26 @@
+//! What a firing takes, gives and answers, and where one is stuck.
+#![tactic(auto)]
+
+mod answer;
+mod ask;
+mod fault;
+mod gate;
+mod inputs;
+mod need;
+mod outputs;
+mod partial;
+mod step;
+#[cfg(test)]
+mod tests;
+mod tokens;
+
+pub use answer::{Answer, Blocked, Place, Rows};
+pub use ask::Ask;
+pub use fault::RunFault;
+pub use gate::{Gate, OpenGate};
+pub use inputs::Inputs;
+pub use need::{Counts, Need};
+pub use outputs::Outputs;
+pub use partial::{Partial, TriState};
+pub use step::{Step, StepFault};
+pub use tokens::{IntoTokens, Tokens};

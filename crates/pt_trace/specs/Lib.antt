@@ -1,0 +1,6 @@
+pub mod EndText
+pub mod Report
+pub mod ReportCode
+pub mod TraceText
+pub mod MeetingText
+pub mod ReportText

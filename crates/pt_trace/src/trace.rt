@@ -1,0 +1,58 @@
+ghost use Rattle.std.specs.Prelude.{◌≡◌, ◌++◌, OnOk};
+ghost use Rattle.pt_trace.specs.TraceText.{trace_text, token_line, tag_text};
+
+use crate::writing::write_number;
+use pt_time::Tag;
+use pt_value::{Text, Token, print};
+use std::alloc::AllocError;
+use std::marker::Model;
+
+/// The tokens that a recorded port gave, each with the tag of its firing.
+#[derive(Drop)]
+pub struct Trace {
+    pub text: Text,
+    pub tokens: Vec<(Tag, Token)>,
+}
+
+impl Model for Trace {
+    ghost use Rattle.pt_trace.specs.Report as report;
+    ghost use Rattle.pt_trace.specs.ReportCode.{coded_trace};
+
+    ghost Value = { report.Trace };
+
+    ghost coded = { coded_trace };
+
+    ghost view = { λ t. record { text = t.text; tokens = t.tokens.items } };
+}
+
+pub(crate) fn write_trace(trace: &Trace, out: &mut Vec<u8>) -> Result<(), AllocError>
+    ensures { OnOk result (out.new.items ≡ out.old.items ++ trace_text trace.now) }
+{
+    out.extend_from_slice(b"trace ")?;
+    out.extend_from_slice(trace.text.as_str().as_bytes())?;
+    out.push(b'\n')?;
+    for (number, (tag, token)) in trace.tokens.iter().enumerate() {
+        write_token(number as u64, *tag, token, out)?;
+    }
+    Ok(())
+}
+
+fn write_token(number: u64, tag: Tag, token: &Token, out: &mut Vec<u8>) -> Result<(), AllocError>
+    ensures { OnOk result (out.new.items ≡ out.old.items ++ token_line number tag token.now) }
+{
+    write_number(number, out)?;
+    out.push(b' ')?;
+    write_tag(tag, out)?;
+    out.push(b' ')?;
+    print(token, out)?;
+    out.push(b'\n')?;
+    Ok(())
+}
+
+fn write_tag(tag: Tag, out: &mut Vec<u8>) -> Result<(), AllocError>
+    ensures { OnOk result (out.new.items ≡ out.old.items ++ tag_text tag) }
+{
+    write_number(tag.time, out)?;
+    out.push(b'.')?;
+    write_number(u64::from(tag.step), out)
+}
