@@ -28,10 +28,10 @@ use Rattle.pt_moml.proofs.EntityForms.{fine_anything}
 use Rattle.pt_moml.proofs.EntityLaws.{entity_told, entity_clean}
 
 abbrev In : Refusal → Data → Type 0
-In r d = InJob r.code r.path d
+In r d = InJob d r.code r.path
 
-at_top : (r : Refusal) (c : Code) (d : Data) → Is r c top_path → InJob c top_path d → In r d
-at_top r c d is stands = subst (λ (k : Code). InJob k r.path d) (sym is.0) (subst (λ (p : List ℕ). InJob c p d) (sym is.1) stands)
+at_top : (r : Refusal) (c : Code) (d : Data) → Is r c top_path → InJob d c top_path → In r d
+at_top r c d is stands = subst (λ (k : Code). InJob d k r.path) (sym is.0) (subst (λ (p : List ℕ). InJob d c p) (sym is.1) stands)
 
 -- ---- the version
 
@@ -114,7 +114,7 @@ model_steps m t e =
 -- ---- the job
 
 in_form : (r : Refusal) (d : Data) → r.path ≡ top_path → Faulty r.code (object forms.job) d → In r d
-in_form r d is stands = subst (λ (p : List ℕ). InJob r.code p d) (sym is) (in_job_form stands)
+in_form r d is stands = subst (λ (p : List ℕ). InJob d r.code p) (sym is) (in_job_form stands)
 
 job_told : (d : Data) (r : Refusal) → job_of d ≡ Err r → In r d
 unfolding job_of
@@ -167,17 +167,17 @@ job_steps d j e =
 model_of : (d m : Data) (s : JobSteps d) → get (codes "model") d ≡ Some m → ModelSteps m s.model
 model_of d m s is = model_steps m s.model (ap model_at (sym is) ∙ s.model_is)
 
-job_clean : (c : Code) (path : List ℕ) (d : Data) → InJob c path d → (j : JobTree) → job_of d ≡ Ok j → ⊥
-job_clean c path d (in_job_form stands) j e = let s = job_steps d j e in fine_object forms.job d s.known s.all refl c stands
-job_clean c path d (too_many m is many) j e = let q = model_of d m (job_steps d j e) is in within_count (nest_field (get (codes "entities") m)) q.within many
-job_clean c path d (too_deep m is deep) j e = let q = model_of d m (job_steps d j e) is in within_levels (nest_field (get (codes "entities") m)) q.within deep
-job_clean c path d (model_without_name m is none) j e = let q = model_of d m (job_steps d j e) is in let there = q.name_is in cc
-job_clean c path d (model_not_named m s is s_is bad) j e =
+job_clean : (d : Data) (c : Code) (path : List ℕ) → InJob d c path → (j : JobTree) → job_of d ≡ Ok j → ⊥
+job_clean d c path (in_job_form stands) j e = let s = job_steps d j e in fine_object forms.job d s.known s.all refl c stands
+job_clean d c path (too_many m is many) j e = let q = model_of d m (job_steps d j e) is in within_count (nest_field (get (codes "entities") m)) q.within many
+job_clean d c path (too_deep m is deep) j e = let q = model_of d m (job_steps d j e) is in within_levels (nest_field (get (codes "entities") m)) q.within deep
+job_clean d c path (model_without_name m is none) j e = let q = model_of d m (job_steps d j e) is in let there = q.name_is in cc
+job_clean d c path (model_not_named m s is s_is bad) j e =
     let q = model_of d m (job_steps d j e) is in
     let same : Some s ≡ Some q.name = sym s_is ∙ q.name_is in
     let alike : s ≡ q.name = cc in
     let both : false ≡ true = sym bad ∙ ap is_name alike ∙ q.name_good in cc
-job_clean c path d (in_model m is stands) j e =
+job_clean d c path (in_model m is stands) j e =
     let s = job_steps d j e in
     let q = model_of d m s is in
     entity_clean c path top_path m stands q.name q.name_is s.model q.read
@@ -189,7 +189,7 @@ one_document bytes c d x y = cc (x.1, y.1)
 
 stands_nowhere : (c : Code) (path bytes : List ℕ) (d : Data) (j : JobTree) → IsDocument bytes d → job_of d ≡ Ok j → Stands c path bytes → ⊥
 stands_nowhere c path bytes d j is e (no_document none) = none d is
-stands_nowhere c path bytes d j is e (in_document x there stands) = job_clean c path x stands j (ap job_of (sym (one_document bytes d x is there)) ∙ e)
+stands_nowhere c path bytes d j is e (in_document x there stands) = job_clean x c path stands j (ap job_of (sym (one_document bytes d x is there)) ∙ e)
 
 -- Nothing stands in bytes that are read as a job.
 pub clean_result : (bytes : List ℕ) (result : Result Job DocFault) → IfOk result (λ j. IsJobOf bytes (job_view j)) → OnOk result (IsClean bytes)

@@ -224,8 +224,8 @@ entity_clean c path here d (in_rule other class kind own other_is is kind_is par
     let names : other ≡ name = cc in
     let read : good own ≡ good s.own = sym parts_are ∙ ap (λ n. parts_at here n class kind d) names ∙ ap (λ f. parts_at here name f kind d) alike ∙ ap (λ k. parts_at here name s.class k d) kinds ∙ s.parts_are in
     let owns : own ≡ s.own = cc in
-    rules_clean c path here s.kind s.own.properties s.own.ports
-    (subst (λ (o : Parts). BreaksRule c path here s.kind o.properties o.ports) owns (subst (λ (k : Kind). BreaksRule c path here k own.properties own.ports) kinds stands)) s.given s.rules_are
+    rules_clean here s.kind s.own.properties s.own.ports c path
+    (subst (λ (o : Parts). BreaksRule here o.properties o.ports s.kind c path) owns (subst (λ (k : Kind). BreaksRule here own.properties own.ports k c path) kinds stands)) s.given s.rules_are
 entity_clean c path here d (no_children x is none) name named e h = let t = given_children here name d x e is h in no_list_ok here x t.0 none t.1
 entity_clean c path here d (child_without_name x ds i child is list at_i none) name named e h =
     let t = given_children here name d x e is h in

@@ -115,7 +115,8 @@ pub fn class_named(name: &str) -> Option<&'static Class>
 }
 
 fn director_among(rows: &'static [DirectorClass], name: &str) -> Option<&'static DirectorClass>
-    ensures { option_map (λ c. director_of c.now) result ≡ director_in (map director_of rows.now) name.now }
+    ensures { option_map (λ c. director_of c.now) result
+        ≡ director_in (map director_of rows.now) name.now }
 {
     for row in rows {
         if row.name == name {

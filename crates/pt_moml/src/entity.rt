@@ -97,7 +97,8 @@ fn kind_of(alloc: Global, here: &str, class: &str) -> Result<Kind, DocFault>
 
 #[tactic(auto, unfolding(crate::specs::Reading::named))]
 fn ports_of(alloc: Global, here: &str, field: Option<&Value>) -> Result<Vec<Port>, DocFault>
-    ensures { Gives (λ v. map port_view v.items) result (ports_field here.now (option_map (λ v. view v.now) field.entry)) }
+    ensures { Gives (λ v. map port_view v.items) result
+        (ports_field here.now (option_map (λ v. view v.now) field.entry)) }
 {
     let ports = list_or_empty(alloc, here, field)?;
     names_differ(alloc, here, &ports)?;
@@ -106,7 +107,8 @@ fn ports_of(alloc: Global, here: &str, field: Option<&Value>) -> Result<Vec<Port
 
 #[tactic(auto, unfolding(crate::specs::Reading::named))]
 fn relations_of(alloc: Global, here: &str, field: Option<&Value>) -> Result<Vec<Relation>, DocFault>
-    ensures { Gives (λ v. v.items) result (relations_field here.now (option_map (λ v. view v.now) field.entry)) }
+    ensures { Gives (λ v. v.items) result
+        (relations_field here.now (option_map (λ v. view v.now) field.entry)) }
 {
     let relations = list_or_empty(alloc, here, field)?;
     names_differ(alloc, here, &relations)?;
@@ -158,7 +160,8 @@ fn own_of(
     kind: Kind,
     value: &Value,
 ) -> Result<Own, DocFault>
-    ensures { Gives own_view result (parts_at here.now name class (kind_view kind) (view value.now)) }
+    ensures { Gives own_view result
+        (parts_at here.now name class (kind_view kind) (view value.now)) }
 {
     has_fields(alloc, here, value, fields_of(kind))?;
     let properties = properties_of(alloc, here, value.get("properties"))?;
@@ -182,7 +185,8 @@ fn own_of(
 }
 
 fn with_entities(own: Own, entities: Vec<Entity>) -> Entity
-    ensures { entity_view result ≡ entity (own_view own) (to_entities (entities_view entities.items)) }
+    ensures { entity_view result
+        ≡ entity (own_view own) (to_entities (entities_view entities.items)) }
 {
     Entity {
         name: own.name,
@@ -246,7 +250,8 @@ fn entities_of(alloc: Global, here: &str, field: Option<&Value>) -> Result<Vec<E
 
 #[cycle(entities)]
 fn read_entities(alloc: Global, here: &str, items: &[Value]) -> Result<Vec<Entity>, DocFault>
-    ensures { Gives (λ v. entities_view v.items) result (entity_items here.now [] (items_view items.now)) }
+    ensures { Gives (λ v. entities_view v.items) result
+        (entity_items here.now [] (items_view items.now)) }
 {
     let mut found = Vec::new(alloc);
     for item in items {

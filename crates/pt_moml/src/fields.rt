@@ -25,7 +25,8 @@ pub fn text_of(alloc: Global, path: &str, value: &Value) -> Result<Text, DocFaul
 }
 
 pub fn required(alloc: Global, path: &str, field: Option<&Value>) -> Result<Text, DocFault>
-    ensures { Gives (λ t. t) result (required_text path.now (option_map (λ v. view v.now) field.entry)) }
+    ensures { Gives (λ t. t) result
+        (required_text path.now (option_map (λ v. view v.now) field.entry)) }
 {
     match field {
         Some(value) => text_of(alloc, path, value),
@@ -34,7 +35,8 @@ pub fn required(alloc: Global, path: &str, field: Option<&Value>) -> Result<Text
 }
 
 pub fn optional(alloc: Global, path: &str, field: Option<&Value>) -> Result<Option<Text>, DocFault>
-    ensures { Gives (λ t. t) result (optional_text path.now (option_map (λ v. view v.now) field.entry)) }
+    ensures { Gives (λ t. t) result
+        (optional_text path.now (option_map (λ v. view v.now) field.entry)) }
 {
     match field {
         Some(value) => Ok(Some(text_of(alloc, path, value)?)),
@@ -64,7 +66,8 @@ fn truth_of(alloc: Global, path: &str, value: &Value) -> Result<bool, DocFault>
 }
 
 pub fn truth(alloc: Global, path: &str, field: Option<&Value>) -> Result<bool, DocFault>
-    ensures { Gives (λ b. b) result (required_truth path.now (option_map (λ v. view v.now) field.entry)) }
+    ensures { Gives (λ b. b) result
+        (required_truth path.now (option_map (λ v. view v.now) field.entry)) }
 {
     match field {
         Some(value) => truth_of(alloc, path, value),
@@ -73,7 +76,8 @@ pub fn truth(alloc: Global, path: &str, field: Option<&Value>) -> Result<bool, D
 }
 
 pub fn truth_or_false(alloc: Global, path: &str, field: Option<&Value>) -> Result<bool, DocFault>
-    ensures { Gives (λ b. b) result (optional_truth path.now (option_map (λ v. view v.now) field.entry)) }
+    ensures { Gives (λ b. b) result
+        (optional_truth path.now (option_map (λ v. view v.now) field.entry)) }
 {
     match field {
         Some(value) => truth_of(alloc, path, value),
@@ -82,7 +86,8 @@ pub fn truth_or_false(alloc: Global, path: &str, field: Option<&Value>) -> Resul
 }
 
 pub fn whole_number(alloc: Global, path: &str, field: Option<&Value>) -> Result<u64, DocFault>
-    ensures { Gives (λ n. n) result (required_whole path.now (option_map (λ v. view v.now) field.entry)) }
+    ensures { Gives (λ n. n) result
+        (required_whole path.now (option_map (λ v. view v.now) field.entry)) }
 {
     match field {
         Some(value) => match value.as_u64() {
@@ -164,7 +169,8 @@ pub fn names_differ<T: Named>(alloc: Global, path: &str, parts: &[T]) -> Result<
 }
 
 fn read_items<P: Part>(alloc: Global, path: &str, items: &[Value]) -> Result<Vec<P>, DocFault>
-    ensures { Gives (λ v. P.trees v.items) result (items_at (P.reading path.now) [] (items_view items.now)) }
+    ensures { Gives (λ v. P.trees v.items) result
+        (items_at (P.reading path.now) [] (items_view items.now)) }
 {
     let mut found = Vec::new(alloc);
     for item in items {

@@ -29,8 +29,9 @@ pub use job::{
     Direction, Entity, Event, Input, Job, Link, OutputAction, Port, Property, Relation, SetAction,
     State, Supply, Transition,
 };
-pub use names::{is_layout, is_name, is_reserved};
-pub use refusal::{DocFault, Refusal};
+pub use names::{is_layout, is_name, is_reserved, path_below, refused_below};
+pub use refusal::{DocFault, Refusal, refused};
+pub use rules::property_director;
 pub use tables::{CLASSES, DIRECTORS};
 
 #[cfg(test)]

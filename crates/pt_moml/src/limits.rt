@@ -13,7 +13,8 @@ const MOST_LEVELS: u32 = 16;
 #[cycle(limits)]
 #[tactic(auto, unfolding(crate::specs::Limits::nest_in))]
 fn room_behind(field: Option<&Value>, levels: u32, room: u32) -> Option<u32>
-    ensures { result ≡ limits.room_behind levels room (limits.nest_field (option_map (λ v. view v.now) field.entry)) }
+    ensures { result
+        ≡ limits.room_behind levels room (limits.nest_field (option_map (λ v. view v.now) field.entry)) }
 {
     match field {
         Some(Value::Array(items)) => room_behind_items(items, levels, room),
@@ -37,7 +38,8 @@ fn room_behind_items(items: &[Value], levels: u32, room: u32) -> Option<u32>
 
 /// The top and the entities at this field and within them are few enough, and don't nest too deep.
 pub fn is_within(field: Option<&Value>) -> bool
-    ensures { result ≡ limits.is_within (limits.nest_field (option_map (λ v. view v.now) field.entry)) }
+    ensures { result
+        ≡ limits.is_within (limits.nest_field (option_map (λ v. view v.now) field.entry)) }
 {
     room_behind(field, MOST_LEVELS - 1, MOST_ENTITIES - 1).is_some()
 }

@@ -36,7 +36,8 @@ fn direction_of(
 /// The text of a declared type.
 #[tactic(auto, unfolding(crate::specs::Reading::declared_at))]
 fn declared_of(alloc: Global, path: &str, field: Option<&Value>) -> Result<Option<Text>, DocFault>
-    ensures { Gives (λ t. t) result (declared_at path.now (option_map (λ v. view v.now) field.entry)) }
+    ensures { Gives (λ t. t) result
+        (declared_at path.now (option_map (λ v. view v.now) field.entry)) }
 {
     let Some(value) = field else {
         return Ok(None);

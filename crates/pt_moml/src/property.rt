@@ -77,7 +77,8 @@ pub fn properties_of(
 
 #[cycle(properties)]
 fn read_properties(alloc: Global, path: &str, items: &[Value]) -> Result<Vec<Property>, DocFault>
-    ensures { Gives (λ v. properties_view v.items) result (property_items path.now [] (items_view items.now)) }
+    ensures { Gives (λ v. properties_view v.items) result
+        (property_items path.now [] (items_view items.now)) }
 {
     let mut found = Vec::new(alloc);
     for item in items {

@@ -48,7 +48,8 @@ fn classed_fits(alloc: Global, here: &str, property: &Property) -> Result<(), Do
 
 #[tactic(auto, unfolding(crate::specs::Rules::composite_property))]
 fn composite_property(alloc: Global, here: &str, property: &Property) -> Result<(), DocFault>
-    ensures { Gives (λ u. u) result (rules.composite_property here.now (property_view property.now)) }
+    ensures { Gives (λ u. u) result
+        (rules.composite_property here.now (property_view property.now)) }
 {
     if is_layout(property.name.as_str()) {
         Ok(())
@@ -102,7 +103,8 @@ fn modal_properties(alloc: Global, here: &str, properties: &[Property]) -> Resul
 /// The director that a property is.
 #[tactic(auto, unfolding(crate::specs::Rules::property_director))]
 pub fn property_director(property: &Property) -> Option<&'static DirectorClass>
-    ensures { option_map (λ d. director_of d.now) result ≡ rules.property_director (property_view property.now) }
+    ensures { option_map (λ d. director_of d.now) result
+        ≡ rules.property_director (property_view property.now) }
 {
     if is_layout(property.name.as_str()) {
         return None;
@@ -143,7 +145,8 @@ static RATE: [ClassParameter; 1] = [ParameterRow {
 
 /// The parameters that a port of a Composite of this director may have.
 fn rate_rows(director: Option<&'static DirectorClass>) -> &'static [ClassParameter]
-    ensures { map parameter_of result.now ≡ rules.rate_rows (option_map (λ d. director_of d.now) director.entry) }
+    ensures { map parameter_of result.now
+        ≡ rules.rate_rows (option_map (λ d. director_of d.now) director.entry) }
 {
     match director {
         Some(row) if matches!(row.director, Director::Pn | Director::Rendezvous) => &RATE,
@@ -158,7 +161,8 @@ fn port_fits(
     rows: &[ClassParameter],
     port: &Port,
 ) -> Result<(), DocFault>
-    ensures { Gives (λ u. u) result (rules.port_fits here.now (map parameter_of rows.now) (port_view port.now)) }
+    ensures { Gives (λ u. u) result
+        (rules.port_fits here.now (map parameter_of rows.now) (port_view port.now)) }
 {
     if is_reserved(port.name.as_str()) {
         Err(refused(alloc, Code::Name, here))
@@ -205,7 +209,8 @@ fn is_direction(declared: Option<Direction>, direction: Direction) -> bool
 
 #[tactic(auto, unfolding(crate::specs::Rules::declared_fits))]
 fn declared_fits(alloc: Global, here: &str, class: &Class, port: &Port) -> Result<(), DocFault>
-    ensures { Gives (λ u. u) result (rules.declared_fits here.now (class_of class.now) (port_view port.now)) }
+    ensures { Gives (λ u. u) result
+        (rules.declared_fits here.now (class_of class.now) (port_view port.now)) }
 {
     if !is_direction(class.declares, port.direction) {
         return Err(refused(alloc, Code::Shape, here));

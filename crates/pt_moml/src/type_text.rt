@@ -68,7 +68,8 @@ fn one_more<'a>(
     mut names: IndexSet<&'a [u8]>,
     name: &'a [u8],
 ) -> Result<Option<IndexSet<&'a [u8]>>, AllocError>
-    ensures { IfOk result (λ more. option_map names_view more ≡ types.one_more (names_view names.entry) name.entry.now) }
+    ensures { IfOk result
+        (λ more. option_map names_view more ≡ types.one_more (names_view names.entry) name.entry.now) }
 {
     if !is_field_name(name) {
         return Ok(None);
@@ -87,7 +88,8 @@ fn field<'a>(
     mut around: Vec<Open<'a>>,
     text: &'a [u8],
 ) -> Result<Next<'a>, AllocError>
-    ensures { IfOk result (λ next. next_view next ≡ types.field (names_view names.entry) (stack_view around.entry.items) text.entry.now) }
+    ensures { IfOk result
+        (λ next. next_view next ≡ types.field (names_view names.entry) (stack_view around.entry.items) text.entry.now) }
 {
     let (name, rest) = leading_name(text);
     let Some(names) = one_more(names, name)? else {
@@ -125,7 +127,8 @@ fn begin<'a>(
     mut around: Vec<Open<'a>>,
     text: &'a [u8],
 ) -> Result<Next<'a>, AllocError>
-    ensures { IfOk result (λ next. next_view next ≡ types.begin (stack_view around.entry.items) text.entry.now) }
+    ensures { IfOk result
+        (λ next. next_view next ≡ types.begin (stack_view around.entry.items) text.entry.now) }
 {
     if let Some(rest) = behind_base_type(text) {
         return Ok(Next::Goes(Place {
@@ -154,7 +157,8 @@ fn behind_field<'a>(
     around: Vec<Open<'a>>,
     text: &'a [u8],
 ) -> Result<Next<'a>, AllocError>
-    ensures { IfOk result (λ next. next_view next ≡ types.behind_field (names_view names.entry) (stack_view around.entry.items) text.entry.now) }
+    ensures { IfOk result
+        (λ next. next_view next ≡ types.behind_field (names_view names.entry) (stack_view around.entry.items) text.entry.now) }
 {
     if let Some(rest) = behind(b"}", text) {
         return Ok(Next::Goes(Place {
@@ -172,7 +176,8 @@ fn behind_field<'a>(
 /// Behind a type.
 #[tactic(auto, unfolding(crate::specs::TypeWords::go_on))]
 fn go_on<'a>(mut around: Vec<Open<'a>>, text: &'a [u8]) -> Result<Next<'a>, AllocError>
-    ensures { IfOk result (λ next. next_view next ≡ types.go_on (stack_view around.entry.items) text.entry.now) }
+    ensures { IfOk result
+        (λ next. next_view next ≡ types.go_on (stack_view around.entry.items) text.entry.now) }
 {
     match around.pop() {
         None => Ok(Next::Ends(text.is_empty())),
