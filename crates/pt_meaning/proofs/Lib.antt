@@ -32,3 +32,16 @@ pub mod TickRunLaws
 pub mod TickNodeLaws
 pub mod MeetingIndex
 pub mod MeetingRunLaws
+pub mod ClosedLaws
+pub mod LevelLaws
+pub mod SoundLaws
+pub mod ExplainFlows
+pub mod ExplainRounds
+pub mod ExplainModal
+pub mod ExplainTurns
+pub mod ExplainTicks
+pub mod ExplainParties
+pub mod ExplainScenes
+pub mod ExplainMeetings
+pub mod ClosedSteps
+pub mod ClosedMeaning

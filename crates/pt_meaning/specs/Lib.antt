@@ -30,3 +30,6 @@ pub mod CutLaw
 pub mod TickRuns
 pub mod CompositeTicks
 pub mod MeetingRuns
+pub mod SoundRuns
+pub mod Explained
+pub mod ClosedRuns
