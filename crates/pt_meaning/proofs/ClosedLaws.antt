@@ -23,7 +23,7 @@ count-unmarked [] = refl
 count-unmarked (Finished ns f ∷ es) = ap (λ n. suc n) (count-unmarked es)
 count-unmarked (Met ns i m ∷ es) = count-unmarked es
 
-rounds-unmarked : {T : Type 0} (e : Event T) → rounds_of (unmarked e) ≡ rest_of_rounds (rounds_of e)
+pub rounds-unmarked : {T : Type 0} (e : Event T) → rounds_of (unmarked e) ≡ rest_of_rounds (rounds_of e)
 rounds-unmarked (Finished ns f) = refl
 rounds-unmarked (Met ns i m) = refl
 

@@ -99,7 +99,7 @@ module _ {T A : Type 0} (rows : Rows T A) (t : Tag) (X : Streams T) where
 
 -- a library actor
 module _ {T A : Type 0} (rows : Rows T A) (t : Tag) (X : Streams T) where
-  actor-quiet : (h : Past) (b : A) (r : Answer T A) → log_in (actor_outcome t h b r) ≡ silent
+  pub actor-quiet : (h : Past) (b : A) (r : Answer T A) → log_in (actor_outcome t h b r) ≡ silent
   actor-quiet h b (Gives c out) = refl
   actor-quiet h b (Fails code) = refl
 

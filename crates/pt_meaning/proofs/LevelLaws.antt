@@ -26,12 +26,12 @@ has-either {A} x (y ∷ xs) ys (inr h) = go (has-either x xs ys h)
     go (inr g) = inr g
 
 -- marks put on and taken off
-unmarked-marked : {T : Type 0} (n : ℕ) (es : List (Event T)) → all_unmarked (all_marked n es) ≡ es
+pub unmarked-marked : {T : Type 0} (n : ℕ) (es : List (Event T)) → all_unmarked (all_marked n es) ≡ es
 unmarked-marked n [] = refl
 unmarked-marked n (Finished ns f ∷ es) = ap (λ v. Event.Finished ns f ∷ v) (unmarked-marked n es)
 unmarked-marked n (Met ns i m ∷ es) = ap (λ v. Event.Met ns i m ∷ v) (unmarked-marked n es)
 
-unmarked-append : {T : Type 0} (xs ys : List (Event T)) → all_unmarked (xs ++ ys) ≡ all_unmarked xs ++ all_unmarked ys
+pub unmarked-append : {T : Type 0} (xs ys : List (Event T)) → all_unmarked (xs ++ ys) ≡ all_unmarked xs ++ all_unmarked ys
 unmarked-append [] ys = refl
 unmarked-append (x ∷ xs) ys = ap (λ v. unmarked x ∷ v) (unmarked-append xs ys)
 
@@ -48,7 +48,7 @@ bare-append {T} xs ys a b e h = go (has-either e xs ys h)
     go (inr g) = b e g
 
 -- what is marked came within that firing
-marked-rounds : {T : Type 0} (n : ℕ) (e : Event T) (es : List (Event T)) → Has e (all_marked n es) → (ns : List ℕ) × (rounds_of e ≡ n ∷ ns)
+pub marked-rounds : {T : Type 0} (n : ℕ) (e : Event T) (es : List (Event T)) → Has e (all_marked n es) → (ns : List ℕ) × (rounds_of e ≡ n ∷ ns)
 marked-rounds n e [] h = absurd h
 marked-rounds n e (Finished ns f ∷ es) (inl h) = (ns, ap (λ v. rounds_of v) h)
 marked-rounds n e (Met ns i m ∷ es) (inl h) = (ns, ap (λ v. rounds_of v) h)

@@ -45,3 +45,7 @@ pub mod ExplainScenes
 pub mod ExplainMeetings
 pub mod ClosedSteps
 pub mod ClosedMeaning
+pub mod LaterLaws
+pub mod LaterSteps
+pub mod WholeSteps
+pub mod WholeMeaning

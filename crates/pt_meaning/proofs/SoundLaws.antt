@@ -23,7 +23,7 @@ use Rattle.pt_meaning.proofs.ClosedLaws.{child-closed, child-or-beyond}
 use Rattle.pt_meaning.proofs.LevelLaws.{has-left, has-right, has-either, added, level-under-way, level-done, node-kept}
 
 -- lists of children
-numbered-get : {T A : Type 0} (b : ℕ) (kids : Nodes T A) (i : ℕ) (n : Node T A) → child_of kids i ≡ Some n → get (numbered b (list_of kids)) i ≡ Some (record { number = b + i; node = n })
+pub numbered-get : {T A : Type 0} (b : ℕ) (kids : Nodes T A) (i : ℕ) (n : Node T A) → child_of kids i ≡ Some n → get (numbered b (list_of kids)) i ≡ Some (record { number = b + i; node = n })
 numbered-get b none i n e = absurd (cc)
 numbered-get {T} {A} b (more k kids) zero n e =
     let a : b ≡ b + 0 = omega arith in
@@ -44,7 +44,7 @@ nodes-long [] = refl
 nodes-long (x ∷ xs) = ap (λ n. suc n) (nodes-long xs)
 
 -- the children that a run has come to, by number
-kept-child : {T A : Type 0} (ks₀ ks : Nodes T A) (b i : ℕ) (l : Log T) (k₀ : Node T A) → AllKeptIn ks₀ ks b l → child_of ks₀ i ≡ Some k₀ → (k : Node T A) × (child_of ks i ≡ Some k) × KeptIn k₀ k (log_in_child (b + i) l)
+pub kept-child : {T A : Type 0} (ks₀ ks : Nodes T A) (b i : ℕ) (l : Log T) (k₀ : Node T A) → AllKeptIn ks₀ ks b l → child_of ks₀ i ≡ Some k₀ → (k : Node T A) × (child_of ks i ≡ Some k) × KeptIn k₀ k (log_in_child (b + i) l)
 kept-child none none b i l k₀ h e = absurd (cc)
 kept-child none (more k ks) b i l k₀ h e = absurd h
 kept-child (more x ks₀) none b i l k₀ h e = absurd h
@@ -55,7 +55,7 @@ kept-child {T} {A} (more x ks₀) (more k ks) b zero l k₀ h e =
 kept-child (more x ks₀) (more k ks) b (suc i) l k₀ h e =
     let r = kept-child ks₀ ks (suc b) i l k₀ h.1 e in let a : suc b + i ≡ b + suc i = omega arith in (r.0, r.1, subst (λ v. KeptIn k₀ r.0 (log_in_child v l)) a r.2)
 
-fitting-child : {T A : Type 0} (ks : Nodes T A) (i : ℕ) (k : Node T A) → AllFitting ks → child_of ks i ≡ Some k → IsFitting k
+pub fitting-child : {T A : Type 0} (ks : Nodes T A) (i : ℕ) (k : Node T A) → AllFitting ks → child_of ks i ≡ Some k → IsFitting k
 fitting-child none i k h e = absurd (cc)
 fitting-child {T} {A} (more x ks) zero k h e = let same : x ≡ k = cc in subst (λ (v : Node T A). IsFitting v) same h.0
 fitting-child (more x ks) (suc i) k h e = fitting-child ks i k h.1 e
@@ -91,7 +91,7 @@ mutual
   resets-long (more n ns) = ap (λ v. suc v) (resets-long ns)
 
 -- an event of which there is none
-no-finished : {T : Type 0} (ns : List ℕ) (f : Firing T) (es : List (Event T)) → firings_in es ≡ 0 → Has (Finished ns f) es → ⊥
+pub no-finished : {T : Type 0} (ns : List ℕ) (f : Firing T) (es : List (Event T)) → firings_in es ≡ 0 → Has (Finished ns f) es → ⊥
 no-finished ns f [] e h = h
 no-finished ns f (Finished ms g ∷ es) e h = omega (arith, e)
 no-finished {T} ns f (Met ms i m ∷ es) e (inl h) = clash h
@@ -117,7 +117,7 @@ pub record ChainSound {T A : Type 0} (rows : Rows T A) (n₀ : Node T A) (i : �
   pub recorded : (t : Turned T) → Has t ts → IsRecord first [] t.record_of
 
 module _ {T A : Type 0} (rows : Rows T A) (steps : ℕ → Stepping T (Node T A)) (sound : (i : ℕ) → SoundStep rows (steps i)) (n₀ : Node T A) (i : ℕ) where
-  chain-sound : (ts : List (Turned T)) (s z : Child (Node T A)) (l first : Log T) → s.number ≡ i → IsFitting s.node → ClosedIn rows n₀ l idle → KeptIn n₀ s.node l → ChainOf (child_facts (facts_of rows)) (child_step steps) s ts z first → ChainSound rows n₀ i l first ts z
+  pub chain-sound : (ts : List (Turned T)) (s z : Child (Node T A)) (l first : Log T) → s.number ≡ i → IsFitting s.node → ClosedIn rows n₀ l idle → KeptIn n₀ s.node l → ChainOf (child_facts (facts_of rows)) (child_step steps) s ts z first → ChainSound rows n₀ i l first ts z
   chain-sound [] s z l first e f c k h =
       let quiet : l ≡ log_then l first = fun_ext (λ p. sym (append-nil (l p)) ∙ ap (λ v. l p ++ v) (ap (λ v. v p) (sym h.1))) in
       record {
@@ -225,7 +225,7 @@ child-within none i k e = absurd (cc)
 child-within (more x ks) zero k e = omega arith
 child-within (more x ks) (suc i) k e = omega (arith, child-within ks i k e)
 
-below-log : {T : Type 0} (ls : List (Log T)) (i : ℕ) → part i (log_below ls) ≡ log_at ls i
+pub below-log : {T : Type 0} (ls : List (Log T)) (i : ℕ) → part i (log_below ls) ≡ log_at ls i
 below-log ls i = fun_ext (λ p. one ls i p)
   where
     one : {T : Type 0} (ls : List (Log T)) (i : ℕ) (p : Path) → log_below ls (i ∷ p) ≡ log_at ls i p
@@ -233,7 +233,7 @@ below-log ls i = fun_ext (λ p. one ls i p)
     one (l ∷ ls) zero p = refl
     one (l ∷ ls) (suc i) p = one ls i p
 
-within-added : {T : Type 0} (n : ℕ) (es : List (Event T)) (ls : List (Log T)) → within_firing n (with_meetings es (log_below ls)) ≡ added n es (log_below ls)
+pub within-added : {T : Type 0} (n : ℕ) (es : List (Event T)) (ls : List (Log T)) → within_firing n (with_meetings es (log_below ls)) ≡ added n es (log_below ls)
 within-added {T} n es ls = fun_ext one
   where
     one : (p : Path) → within_firing n (with_meetings es (log_below ls)) p ≡ added n es (log_below ls) p

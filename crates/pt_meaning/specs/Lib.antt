@@ -33,3 +33,4 @@ pub mod MeetingRuns
 pub mod SoundRuns
 pub mod Explained
 pub mod ClosedRuns
+pub mod WholeRuns
