@@ -98,7 +98,7 @@ same-refill fs gs h (c ∷ cs) [] = refl
 same-refill fs gs h (c ∷ cs) (xs ∷ X) = ap₂ (λ a b. (xs ++ a) ∷ b) (same-fed fs gs h c) (same-refill fs gs h cs X)
 
 -- what is within a bound of its own, or less than the next number
-within-grows : (c : Option ℕ) (k k' : ℕ) → k ≤ k' → within c k ≤ within c k'
+pub within-grows : (c : Option ℕ) (k k' : ℕ) → k ≤ k' → within c k ≤ within c k'
 within-grows None k k' h = h
 within-grows (Some c) k k' h = omega arith
 

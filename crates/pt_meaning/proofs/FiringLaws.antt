@@ -69,7 +69,7 @@ was-settled false x y o out k l fs e = absurd (cc)
 SameNumber : {S : Type 0} → Child S → Child S → Type 0
 SameNumber s z = z.number ≡ s.number
 
-number-kept : {T S : Type 0} (i : ℕ) (r : Outcome T S) (z : Child S) (out : Streams T) (l : Log T) → with_number i r ≡ Done z out l → z.number ≡ i
+pub number-kept : {T S : Type 0} (i : ℕ) (r : Outcome T S) (z : Child S) (out : Streams T) (l : Log T) → with_number i r ≡ Done z out l → z.number ≡ i
 number-kept {T} {S} i (Done s o k) z out l e = sym (ap (λ (c : Child S). c.number) (done-state (record { number = i; node = s }) z o out k l e))
 number-kept i (Stuck fs k) z out l e = absurd (cc)
 
@@ -98,7 +98,7 @@ fits-total : {T : Type 0} (ns : List ℕ) (X : Streams T) → total ns ≤ lengt
 fits-total [] X h = tt
 fits-total (n ∷ ns) X h = (omega (arith, h), fits-total ns (drop n X) (omega (arith, h, length-drop n X)))
 
-flows-left : {T S : Type 0} (facts : Facts T S) (step : Stepping T S) (tag : Tag) (ns : List ℕ) (cs : List Limit) (k : ℕ) (ss : List S) (X : Streams T) → length cs ≡ length ns → length ss ≡ length ns → total ns ≤ length X →
+pub flows-left : {T S : Type 0} (facts : Facts T S) (step : Stepping T S) (tag : Tag) (ns : List ℕ) (cs : List Limit) (k : ℕ) (ss : List S) (X : Streams T) → length cs ≡ length ns → length ss ≡ length ns → total ns ≤ length X →
     length (left_by (flows facts step tag ns cs k ss X)) ≡ total ns
 flows-left facts step tag [] cs k ss X a b h = refl
 flows-left facts step tag (n ∷ ns) [] k ss X a b h = absurd (omega arith)
@@ -185,13 +185,13 @@ pn-firing-is-run {T} {A} rows k d m tag h c p X kids inputs s out l b w e =
     let run = run-of rows k d m tag h c (Pn p) p.net (pn_limits p.net.places) always (λ ns. ns) kids start s out l a b wide e in
     (_, _, _, _, run.0, run.1, firing-of rows k d m tag h c (Pn p) p.net (pn_limits p.net.places) always (λ ns. ns) kids start s out l a b wide e)
 
-all-fired : {T S : Type 0} (m : ℕ) (qs : List ℕ) (fs : List (Flow T S)) → length fs ≡ length qs → fired_all m qs fs ≡ true → fired_of fs ≡ times m qs
+pub all-fired : {T S : Type 0} (m : ℕ) (qs : List ℕ) (fs : List (Flow T S)) → length fs ≡ length qs → fired_all m qs fs ≡ true → fired_of fs ≡ times m qs
 all-fired m [] [] e h = refl
 all-fired m [] (f ∷ fs) e h = absurd (omega arith)
 all-fired m (q ∷ qs) [] e h = absurd (omega arith)
 all-fired m (q ∷ qs) (f ∷ fs) e h = ap₂ (λ a b. a ∷ b) (eqb-true f.fired (m * q) (and-left _ _ h)) (all-fired m qs fs (omega (arith, e)) (and-right _ _ h))
 
-flows-count : {T S : Type 0} (facts : Facts T S) (step : Stepping T S) (tag : Tag) (ns : List ℕ) (cs : List Limit) (k : ℕ) (ss : List S) (X : Streams T) → length cs ≡ length ns → length ss ≡ length ns → length (flows facts step tag ns cs k ss X) ≡ length ns
+pub flows-count : {T S : Type 0} (facts : Facts T S) (step : Stepping T S) (tag : Tag) (ns : List ℕ) (cs : List Limit) (k : ℕ) (ss : List S) (X : Streams T) → length cs ≡ length ns → length ss ≡ length ns → length (flows facts step tag ns cs k ss X) ≡ length ns
 flows-count facts step tag [] cs k ss X a b = refl
 flows-count facts step tag (n ∷ ns) [] k ss X a b = absurd (omega arith)
 flows-count facts step tag (n ∷ ns) (c ∷ cs) k [] X a b = absurd (omega arith)

@@ -304,7 +304,7 @@ as-kept : {T A : Type 0} (node next : Node T A) (r : Outcome T (Node T A)) (out 
 unfolding NodeKeeps
 as-kept node next r out l k e = subst (λ v. NodeKeeps node v) e k
 
-with-number-done : {T S : Type 0} (i : ℕ) (r : Outcome T S) (s : Child S) (out : Streams T) (l : Log T) → with_number i r ≡ Done s out l → r ≡ Done s.node out l
+pub with-number-done : {T S : Type 0} (i : ℕ) (r : Outcome T S) (s : Child S) (out : Streams T) (l : Log T) → with_number i r ≡ Done s out l → r ≡ Done s.node out l
 with-number-done {T} {S} i r s out l e = sym (unnumbered i r) ∙ ap bare e
   where
     bare : Outcome T (Child S) → Outcome T S

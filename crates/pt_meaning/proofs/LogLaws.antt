@@ -205,7 +205,7 @@ pub log-rated : {T S : Type 0} (facts : Facts T S) (rates : Option (List ℕ)) (
 log-rated facts None step tag s X = refl
 log-rated facts (Some ns) step tag s X = log-rated_outcome ns (facts.made s) (step tag s X)
 
-log-with_number : {T S : Type 0} (i : ℕ) (r : Outcome T S) → log_in (with_number i r) ≡ log_in r
+pub log-with_number : {T S : Type 0} (i : ℕ) (r : Outcome T S) → log_in (with_number i r) ≡ log_in r
 log-with_number i (Done s out l) = refl
 log-with_number i (Stuck fs l) = refl
 

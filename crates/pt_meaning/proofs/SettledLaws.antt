@@ -70,7 +70,7 @@ module _ {T S : Type 0} (facts : Facts T S) (step : Stepping T S) (tag : Tag) wh
   quiet-dry (suc n) s X q = dry-front (flow facts step tag n) (quiet-dry n) s X (front (facts.need s) X) refl q
 
 -- at rest, so it cannot fire and its log is whole
-rest-free : (c : Option ℕ) (m : ℕ) (stop : Stop) → at_rest c m stop ≡ true → IsFree stop
+pub rest-free : (c : Option ℕ) (m : ℕ) (stop : Stop) → at_rest c m stop ≡ true → IsFree stop
 rest-free c m Lacking e = tt
 rest-free c m Ended e = tt
 rest-free c m Capped e = tt

@@ -23,7 +23,7 @@ use Rattle.pt_meaning.proofs.LogLaws.{log-of-settled, log-refl}
 use Rattle.pt_meaning.proofs.StuckLaws.{in-prefixed, stuck-at}
 
 -- lists of what is known, by index
-below-at : {T : Type 0} (V W : List (Partial T)) → KnownBelow V W → (c : ℕ) → PartialBelow (partial_at V c) (partial_at W c)
+pub below-at : {T : Type 0} (V W : List (Partial T)) → KnownBelow V W → (c : ℕ) → PartialBelow (partial_at V c) (partial_at W c)
 below-at [] W h c = tt
 below-at (v ∷ V) [] h c = absurd h
 below-at (v ∷ V) (w ∷ W) h zero = h.0
@@ -42,12 +42,12 @@ below-long (v ∷ V) [] h = absurd h
 below-long (v ∷ V) (w ∷ W) h = ap (λ n. suc n) (below-long V W h.1)
 
 -- each number below the length has an entry
-there : {B : Type 0} (xs : List B) (c : ℕ) → c < length xs → (x : B) × (get xs c ≡ Some x)
+pub there : {B : Type 0} (xs : List B) (c : ℕ) → c < length xs → (x : B) × (get xs c ≡ Some x)
 there [] c l = absurd (omega arith)
 there (x ∷ xs) zero l = (x, refl)
 there (x ∷ xs) (suc c) l = there xs c (omega (arith, l))
 
-value-at : {T S : Type 0} (rs : List (Reaction T S)) (inputs : Streams T) (cs : List Source) (c : ℕ) (s : Source) → get cs c ≡ Some s → partial_at (valued rs inputs cs) c ≡ value_of rs inputs s
+pub value-at : {T S : Type 0} (rs : List (Reaction T S)) (inputs : Streams T) (cs : List Source) (c : ℕ) (s : Source) → get cs c ≡ Some s → partial_at (valued rs inputs cs) c ≡ value_of rs inputs s
 value-at rs inputs [] c s e = absurd (cc)
 value-at rs inputs (x ∷ cs) zero s e = let a : x ≡ s = cc in ap (λ v. value_of rs inputs v) a
 value-at rs inputs (x ∷ cs) (suc c) s e = value-at rs inputs cs c s e

@@ -54,3 +54,7 @@ pub mod CutLaw
 pub mod TickRuns
 pub mod CompositeTicks
 pub mod MeetingRuns
+pub mod SoundRuns
+pub mod Explained
+pub mod ClosedRuns
+pub mod WholeRuns

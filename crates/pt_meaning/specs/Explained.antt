@@ -1,0 +1,86 @@
+-- How a director's firing is made up of firings of its children: which were made, what they took, and where it came from.
+use Rattle.std.specs.Prelude.{◌≡◌, ◌⊎◌, ℕ, ◌≤◌, List, [], ◌∷◌, length, Option, Some, None}
+use Rattle.pt_meaning.specs.Basics.{Tag, Streams, at, Log, Firing, Event, firings_in, silent, log_then, own, log_below}
+use Rattle.pt_meaning.specs.Machine.{Outcome, Done, Stuck, Stepping, Facts, Partial, Known, partial_at}
+use Rattle.pt_meaning.specs.Rounds.{Source, Own, Output}
+use Rattle.pt_meaning.specs.Dataflow.{Inside}
+use Rattle.pt_meaning.specs.Modal.{get}
+use Rattle.pt_meaning.specs.Rendezvous.{with_meetings}
+use Rattle.pt_meaning.specs.Node.{Core}
+use Rattle.pt_meaning.specs.Closed.{Has, Begun, source_of}
+use Rattle.pt_meaning.specs.LogsOfRuns.{log_at, log_in}
+use Rattle.pt_meaning.specs.SoundRuns.{IsBare, OnPlace, IsWired}
+
+-- a finished firing of a child, with what was logged within it
+pub record Turned (T : Type 0) : Type 0 where
+  pub record_of : Firing T
+  pub inside : Log T
+
+-- firings of a child one after another, from s to z, which log l
+abbrev pub ChainOf : {T S : Type 0} → Facts T S → Stepping T S → S → List (Turned T) → S → Log T → Type 0
+ChainOf facts step s [] z l = (z ≡ s) × (l ≡ silent)
+ChainOf {T} {S} facts step s (t ∷ ts) z l =
+    (y : S) × (rest : Log T) × (t.record_of.number ≡ facts.made s) × (step t.record_of.tag s t.record_of.inputs ≡ Done y t.record_of.outputs t.inside) × ChainOf facts step y ts z rest × (l ≡ log_then (log_then t.inside (own t.record_of)) rest)
+
+-- what a child logs after these: nothing, or what it logs within a firing that it doesn't finish
+abbrev pub EndsWith : {T S : Type 0} → Stepping T S → S → Option (Begun T) → Log T → Type 0
+EndsWith step z None l = l ≡ silent
+EndsWith step z (Some b) l = l ≡ log_in (step b.tag z b.inputs)
+
+-- the part of a child in a firing of its composite
+pub record PartOf {T S : Type 0} (facts : Facts T S) (step : Stepping T S) (s : S) (l : Log T) (ts : List (Turned T)) (way : Option (Begun T)) (z : S) : Type 0 where
+  pub first : Log T
+  pub rest : Log T
+  pub chain : ChainOf facts step s ts z first
+  pub ends : EndsWith step z way rest
+  pub whole : l ≡ log_then first rest
+
+-- a token that child i takes, by a firing that is finished or by the one that isn't
+abbrev pub Takes : {T : Type 0} → (ℕ → List (Turned T)) → (ℕ → Option (Begun T)) → (child place : ℕ) → Tag → T → Type 0
+Takes {T} turns way i q t x = ((f : Turned T) × Has f (turns i) × (t ≡ f.record_of.tag) × Has x (at f.record_of.inputs q)) ⊎ ((b : Begun T) × (way i ≡ Some b) × (t ≡ b.tag) × Has x (at b.inputs q))
+
+-- where a token comes from in this firing: from an own input, or from a finished firing of a child
+abbrev pub GivenBy : {T : Type 0} → (ℕ → List (Turned T)) → ℕ → ℕ → T → Type 0
+GivenBy {T} turns j port x = (f : Turned T) × Has f (turns j) × Has x (at f.record_of.outputs port)
+
+abbrev pub ComesNow : {T : Type 0} → Streams T → (ℕ → List (Turned T)) → T → Option Source → Type 0
+ComesNow inputs turns x None = ⊥
+ComesNow inputs turns x (Some (Own port)) = Has x (at inputs port)
+ComesNow inputs turns x (Some (Output j port)) = GivenBy turns j port x
+
+-- or from a child's early answer at that tag
+abbrev pub GivenEarly : {T S : Type 0} → Facts T S → List S → ℕ → ℕ → Tag → T → Type 0
+GivenEarly {T} {S} facts ks j port t x = (s : S) × (vs : List (Partial T)) × (xs : List T) × (get ks j ≡ Some s) × (partial_at (facts.early t s vs) port ≡ Known xs) × Has x xs
+
+abbrev pub ComesNowOrEarly : {T S : Type 0} → Facts T S → List S → Streams T → (ℕ → List (Turned T)) → Tag → T → Option Source → Type 0
+ComesNowOrEarly facts ks inputs turns t x None = ⊥
+ComesNowOrEarly facts ks inputs turns t x (Some (Own port)) = Has x (at inputs port)
+ComesNowOrEarly facts ks inputs turns t x (Some (Output j port)) = GivenBy turns j port x ⊎ GivenEarly facts ks j port t x
+
+-- where it is done: no firing of a child is unfinished, the plan stays, the tokens that are then on places were there or come from this firing, and each child has come to where its firings led, or was reset
+pub record DoneWell {T S H : Type 0} (facts : Facts T S) (inputs : Streams T) (d : Core T) (core : H → Core T) (ks : List S) (turns : ℕ → List (Turned T)) (way : ℕ → Option (Begun T)) (ends : ℕ → S) (x : Inside H S) : Type 0 where
+  pub whole : (i : ℕ) → way i ≡ None
+  pub plan : (i q : ℕ) → source_of (core x.held) i q ≡ source_of d i q
+  pub tokens : (i q : ℕ) (y : T) → OnPlace (core x.held) i q y → OnPlace d i q y ⊎ ComesNow inputs turns y (source_of d i q)
+  pub wired : IsWired (core x.held)
+  pub count : length x.kids ≡ length ks
+  pub kids : (i : ℕ) (s : S) → get x.kids i ≡ Some s → (s ≡ ends i) ⊎ (s ≡ facts.reset (ends i))
+
+abbrev pub IfDone : {T S H : Type 0} → Facts T S → Streams T → Core T → (H → Core T) → List S → (ℕ → List (Turned T)) → (ℕ → Option (Begun T)) → (ℕ → S) → Outcome T (Inside H S) → Type 0
+IfDone facts inputs d core ks turns way ends (Done x out l) = DoneWell facts inputs d core ks turns way ends x
+IfDone facts inputs d core ks turns way ends (Stuck fs l) = Unit {0}
+
+-- A firing of a director over the children ks, explained: its log is what the children log, below their numbers, and what stands at its own path (meetings).
+pub record Explained {T S H : Type 0} (facts : Facts T S) (step : Stepping T S) (inputs : Streams T) (d : Core T) (core : H → Core T) (ks : List S) (r : Outcome T (Inside H S)) : Type 0 where
+  pub events : List (Event T)
+  pub bare : IsBare events
+  pub quiet : firings_in events ≡ 0
+  pub logs : List (Log T)
+  pub log : log_in r ≡ with_meetings events (log_below logs)
+  pub turns : ℕ → List (Turned T)
+  pub way : ℕ → Option (Begun T)
+  pub ends : ℕ → S
+  pub parts : (i : ℕ) (s : S) → get ks i ≡ Some s → PartOf facts step s (log_at logs i) (turns i) (way i) (ends i)
+  pub beyond : (i : ℕ) → length ks ≤ i → (log_at logs i ≡ silent) × (turns i ≡ []) × (way i ≡ None)
+  pub taken : (i q : ℕ) (t : Tag) (x : T) → Takes turns way i q t x → OnPlace d i q x ⊎ ComesNowOrEarly facts ks inputs turns t x (source_of d i q)
+  pub done : IfDone facts inputs d core ks turns way ends r
