@@ -3,7 +3,7 @@ use Rattle.std.proofs.Common.{◌≡◌, ◌⊎◌, ℕ, zero, suc, ◌+◌, ◌
 use Rattle.pt_meaning.specs.Basics.{Tag, Log, Path, Firing, Event, Finished, Met, firings_in}
 use Rattle.pt_meaning.specs.Rounds.{Source, Own, Output}
 use Rattle.pt_meaning.specs.Modal.{get}
-use Rattle.pt_meaning.specs.Closed.{Has, child_of, if_there, node_at, source_of, IsRecord, Begun, UnderWay, Took, GaveOut, GaveEarly, CameFrom, HasCause, rounds_of, CameWithin}
+use Rattle.pt_meaning.specs.Causes.{Has, child_of, if_there, node_at, source_of, IsRecord, Begun, UnderWay, Took, GaveOut, GaveEarly, CameFrom, HasCause, rounds_of, CameWithin}
 use Rattle.pt_meaning.specs.Node.{Rows, Core, Past, Node, Nodes, Actor, Composite, none, more, list_of}
 use Rattle.pt_meaning.specs.SoundRuns.{rest_of_rounds, unmarked, all_unmarked, log_in_child, way_in_child, CameByNow, ClosedIn, AllClosedIn}
 

@@ -9,7 +9,7 @@ use Rattle.pt_meaning.specs.Node.{Rows, Node, Nodes, Actor, Composite, none, mor
 use Rattle.pt_meaning.specs.Promises.{LawfulRows}
 use Rattle.pt_meaning.specs.Job.{Turn, Fire, Ends, Limit, Schedule, Course, Standing, Goes, Ended, Halted, on_step, on_turn, goes_on, after, log_of, begin, meaning}
 use Rattle.pt_meaning.specs.Heights.{IsFitting}
-use Rattle.pt_meaning.specs.Closed.{source_of, Begun, UnderWay, Took}
+use Rattle.pt_meaning.specs.Causes.{source_of, Begun, UnderWay, Took}
 use Rattle.pt_meaning.specs.LogsOfRuns.{log_in}
 use Rattle.pt_meaning.specs.SoundRuns.{idle, ClosedIn, AllClosedIn, OnPlace, IsWired, KeptIn, AllKeptIn}
 use Rattle.pt_meaning.specs.ClosedRuns.{IsAtStart, AllAtStart, FiringsKeepClosed, MeaningIsClosed, ClosedAtPaths, own_event, LevelsGoOn}

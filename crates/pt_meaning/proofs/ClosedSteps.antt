@@ -12,7 +12,7 @@ use Rattle.pt_meaning.specs.Children.{Child, numbered, child_facts}
 use Rattle.pt_meaning.specs.Node.{Rows, Answer, Gives, Fails, Core, Sdf, Pn, Sr, De, Rv, Modal, Past, Node, Nodes, Actor, Composite, list_of, facts_of, actor_outcome, as_node, director, fired_at, level, step_at, made_of}
 use Rattle.pt_meaning.specs.Promises.{LawfulRows}
 use Rattle.pt_meaning.specs.CompositeRuns.{steps_below}
-use Rattle.pt_meaning.specs.Closed.{Has, Begun, UnderWay, rounds_of}
+use Rattle.pt_meaning.specs.Causes.{Has, Begun, UnderWay, rounds_of}
 use Rattle.pt_meaning.specs.Heights.{IsFitting}
 use Rattle.pt_meaning.specs.LogsOfRuns.{log_in}
 use Rattle.pt_meaning.specs.SoundRuns.{log_in_child, idle, IsBare, ClosedIn, IsWired, KeptIn, TookNow, SoundStep}

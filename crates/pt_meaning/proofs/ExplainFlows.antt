@@ -6,7 +6,7 @@ use Rattle.pt_meaning.specs.Basics.{Tag, Streams, at, Below, Log, silent, log_th
 use Rattle.pt_meaning.specs.Machine.{Need, Over, Counts, Any, Outcome, Done, Stuck, Stepping, Facts, Front, Lacks, Ends, Takes, front, counted, if_long}
 use Rattle.pt_meaning.specs.Flow.{Flow, flow, on_outcome, on_front}
 use Rattle.pt_meaning.specs.Rounds.{rated, rated_outcome, if_rated, has_rates}
-use Rattle.pt_meaning.specs.Closed.{Has, Begun}
+use Rattle.pt_meaning.specs.Causes.{Has, Begun}
 use Rattle.pt_meaning.specs.LogsOfRuns.{log_in}
 use Rattle.pt_meaning.specs.Explained.{Turned, PartOf}
 use Rattle.pt_meaning.proofs.Order.{at-joined}

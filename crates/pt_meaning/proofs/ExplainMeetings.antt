@@ -9,7 +9,7 @@ use Rattle.pt_meaning.specs.Process.{Put, Mood, Well, Broken, Party, next_event,
 use Rattle.pt_meaning.specs.Meetings.{Scene, is_legal, meet}
 use Rattle.pt_meaning.specs.Rendezvous.{RvPlan, Places, arriving, scene_log, left_in, if_ended, if_meets, settled, under_meetings, seated, outlets, rv}
 use Rattle.pt_meaning.specs.Node.{Rv}
-use Rattle.pt_meaning.specs.Closed.{Has, Begun, first_channel, source_in, source_of}
+use Rattle.pt_meaning.specs.Causes.{Has, Begun, first_channel, source_in, source_of}
 use Rattle.pt_meaning.specs.LogsOfRuns.{log_at, log_in}
 use Rattle.pt_meaning.specs.SoundRuns.{OnPlace, got_by}
 use Rattle.pt_meaning.specs.Explained.{Turned, PartOf, Takes, ComesNow, ComesNowOrEarly, IfDone, Explained}

@@ -6,10 +6,10 @@ use Rattle.pt_meaning.specs.Basics.{Tag, Streams, at, Log, Path, silent, log_the
 use Rattle.pt_meaning.specs.Machine.{Fault, Outcome, Done, Stuck, Stepping, Facts, recorded}
 use Rattle.pt_meaning.specs.Rounds.{Source, Own, Output}
 use Rattle.pt_meaning.specs.Dataflow.{Inside, prefixed}
-use Rattle.pt_meaning.specs.Modal.{Chart, Modes, Choice, Nothing, One, Wrong, Acted, Acts, Fails, chosen, change_at, change_if, get, reset_unless, local, lag_of, picked, shown, below_number, stuck, taken, afterwards, put_state, on_refinement, at_refinement, with_refinement, preempted, modal}
+use Rattle.pt_meaning.specs.Modal.{unfired_outputs, Chart, Modes, Choice, Nothing, One, Wrong, Acted, Acts, Fails, chosen, change_at, change_if, get, reset_unless, local, lag_of, picked, shown, below_number, stuck, taken, afterwards, put_state, on_refinement, at_refinement, with_refinement, preempted, modal}
 use Rattle.pt_meaning.specs.Rendezvous.{with_meetings}
 use Rattle.pt_meaning.specs.Node.{Modal}
-use Rattle.pt_meaning.specs.Closed.{Has, Begun, source_of, as_own}
+use Rattle.pt_meaning.specs.Causes.{Has, Begun, source_of, as_own}
 use Rattle.pt_meaning.specs.LogsOfRuns.{log_at, log_in}
 use Rattle.pt_meaning.specs.SoundRuns.{OnPlace}
 use Rattle.pt_meaning.specs.Explained.{Turned, PartOf, Takes, ComesNow, ComesNowOrEarly, IfDone, Explained}
@@ -348,12 +348,12 @@ module _ {T S : Type 0} (chart : Chart T) (facts : Facts T S) (step : Stepping T
   at-explained i (Some s) e = refinement-explained i s e (local tag (lag_of m.stays i)) (step (local tag (lag_of m.stays i)) s (picked (chart.in_ports i) inputs)) refl
 
   with-explained : (o : Option ℕ) → Explains (with_refinement chart facts step made tag m ks inputs o)
-  with-explained None = none-fires (afterwards chart facts step made tag m ks inputs [] silent (chosen 0 (chart.others m.mode m.values inputs []))) (after-log ks [] silent (chosen 0 (chart.others m.mode m.values inputs []))) (after-ends (λ i. []) ks refl [] silent (chosen 0 (chart.others m.mode m.values inputs [])))
+  with-explained None = none-fires (afterwards chart facts step made tag m ks inputs (unfired_outputs chart) silent (chosen 0 (chart.others m.mode m.values inputs (unfired_outputs chart)))) (after-log ks (unfired_outputs chart) silent (chosen 0 (chart.others m.mode m.values inputs (unfired_outputs chart)))) (after-ends (λ i. []) ks refl (unfired_outputs chart) silent (chosen 0 (chart.others m.mode m.values inputs (unfired_outputs chart))))
   with-explained (Some i) = at-explained i (get ks i) refl
 
   cases-explained : (c : Choice) → Explains (preempted chart facts step made tag m ks inputs c)
   cases-explained Nothing = with-explained (chart.refinement m.mode)
-  cases-explained (One n) = none-fires (taken chart facts step made tag true n m ks silent (chart.act true m.mode n m.values inputs [])) (taken-log true n ks silent (chart.act true m.mode n m.values inputs [])) (taken-ends (λ i. []) ks refl true n silent (chart.act true m.mode n m.values inputs []))
+  cases-explained (One n) = none-fires (taken chart facts step made tag true n m ks silent (chart.act true m.mode n m.values inputs (unfired_outputs chart))) (taken-log true n ks silent (chart.act true m.mode n m.values inputs (unfired_outputs chart))) (taken-ends (λ i. []) ks refl true n silent (chart.act true m.mode n m.values inputs (unfired_outputs chart)))
   cases-explained (Wrong code) = none-fires (stuck chart facts step made code silent) refl tt
 
   pub modal-explained : Explained facts step inputs (Modal chart m) (Modal chart) ks (modal chart facts step made tag m ks inputs)

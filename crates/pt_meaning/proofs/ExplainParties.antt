@@ -9,7 +9,7 @@ use Rattle.pt_meaning.specs.Modal.{get}
 use Rattle.pt_meaning.specs.Process.{Put, Well, Broken, Party, Next, Puts, Fires, Gets, GetsAny, Joins, Idle, Sticks, next_event, is_source, listed_if, channels_from, to_each, puts_of_port, puts_of, emptied, fired, if_fires, advance, advanced, all_advanced}
 use Rattle.pt_meaning.specs.Rendezvous.{RvPlan, Places}
 use Rattle.pt_meaning.specs.Node.{Rv}
-use Rattle.pt_meaning.specs.Closed.{Has, Begun, source_in}
+use Rattle.pt_meaning.specs.Causes.{Has, Begun, source_in}
 use Rattle.pt_meaning.specs.LogsOfRuns.{log_in}
 use Rattle.pt_meaning.specs.SoundRuns.{IsPutOn, OnPlace}
 use Rattle.pt_meaning.specs.Explained.{Turned, ChainOf, PartOf, ComesNow}

@@ -10,7 +10,7 @@ use Rattle.pt_meaning.specs.Dataflow.{arrival, arrived, kahn, settled, if_settle
 use Rattle.pt_meaning.specs.Modal.{get}
 use Rattle.pt_meaning.specs.Rendezvous.{with_meetings}
 use Rattle.pt_meaning.specs.Node.{Core}
-use Rattle.pt_meaning.specs.Closed.{Has, Begun, first_channel, source_in, source_of}
+use Rattle.pt_meaning.specs.Causes.{Has, Begun, first_channel, source_in, source_of}
 use Rattle.pt_meaning.specs.Running.{total}
 use Rattle.pt_meaning.specs.LogsOfRuns.{log_at}
 use Rattle.pt_meaning.specs.SoundRuns.{OnPlace, IsWired}

@@ -8,7 +8,7 @@ use Rattle.pt_meaning.specs.Modal.{get, change_at}
 use Rattle.pt_meaning.specs.Process.{Put, Mood, Well, Broken, Party, due_puts, rest_of, with_put_made, with_token}
 use Rattle.pt_meaning.specs.Meetings.{Scene, puts_at, waiting, first_on, offer, offers, Target, Place, Outlet, target_from, Hop, hops, hops_of_child, hops_in, sent, received, passed, meet}
 use Rattle.pt_meaning.specs.Rendezvous.{RvPlan, Places}
-use Rattle.pt_meaning.specs.Closed.{Has, first_channel, rounds_of}
+use Rattle.pt_meaning.specs.Causes.{Has, first_channel, rounds_of}
 use Rattle.pt_meaning.specs.SoundRuns.{IsBare, IsPutOn}
 use Rattle.pt_meaning.specs.Explained.{Turned, ComesNow}
 use Rattle.pt_meaning.proofs.MeetingIndex.{some-same}

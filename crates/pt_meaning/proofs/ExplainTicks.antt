@@ -10,7 +10,7 @@ use Rattle.pt_meaning.specs.Tick.{Activity, Earliness, known, Phase, Waits, Rest
 use Rattle.pt_meaning.specs.Modal.{get}
 use Rattle.pt_meaning.specs.Rendezvous.{with_meetings}
 use Rattle.pt_meaning.specs.Node.{Core}
-use Rattle.pt_meaning.specs.Closed.{Has, Begun, first_channel, source_in, source_of}
+use Rattle.pt_meaning.specs.Causes.{Has, Begun, first_channel, source_in, source_of}
 use Rattle.pt_meaning.specs.LogsOfRuns.{log_at, log_in}
 use Rattle.pt_meaning.specs.SoundRuns.{OnPlace, IsWired}
 use Rattle.pt_meaning.specs.Laws.{KnownBelow, KeepsEarly}

@@ -4,7 +4,7 @@ use Rattle.std.proofs.Math.Path.{fun_ext}
 use Rattle.pt_meaning.specs.Basics.{Tag, Streams, at, joined, Log, silent, log_then, own}
 use Rattle.pt_meaning.specs.Machine.{Fault, Outcome, Done, Stuck, Stepping, Facts, recorded}
 use Rattle.pt_meaning.specs.Tick.{all_single, single_outcome, if_single, sr_turn, heads, tails, rows_from, rows_of, longest, follows, and_then, by_rows, whole_or_rows, de_turn}
-use Rattle.pt_meaning.specs.Closed.{Has, Begun}
+use Rattle.pt_meaning.specs.Causes.{Has, Begun}
 use Rattle.pt_meaning.specs.LogsOfRuns.{log_in}
 use Rattle.pt_meaning.specs.Explained.{Turned, PartOf}
 use Rattle.pt_meaning.proofs.Order.{at-joined}

@@ -9,7 +9,7 @@ use Rattle.pt_meaning.specs.Meetings.{Meets, below_child}
 use Rattle.pt_meaning.specs.Children.{Child, numbered, child_facts, child_step}
 use Rattle.pt_meaning.specs.Node.{Rows, Core, Past, Node, Nodes, Actor, Composite, list_of, facts_of, as_node, level, step_at, made_of}
 use Rattle.pt_meaning.specs.Promises.{LawfulRows}
-use Rattle.pt_meaning.specs.Closed.{Has, child_of, Begun, rounds_of}
+use Rattle.pt_meaning.specs.Causes.{Has, child_of, Begun, rounds_of}
 use Rattle.pt_meaning.specs.Heights.{IsFitting}
 use Rattle.pt_meaning.specs.LogsOfRuns.{log_at, log_in}
 use Rattle.pt_meaning.specs.SoundRuns.{log_in_child, idle, ClosedIn, KeptIn, SoundStep}

@@ -3,7 +3,7 @@ use Rattle.std.proofs.Common.{◌≡◌, ◌⊎◌, ℕ, suc, ◌+◌, ◌≤◌
 use Rattle.std.proofs.Math.Path.{fun_ext}
 use Rattle.pt_meaning.specs.Basics.{Tag, Streams, at, Log, Path, Firing, Event, Finished, Met, firings_in, log_then, marked_event, all_marked}
 use Rattle.pt_meaning.specs.Rounds.{Source, Own, Output}
-use Rattle.pt_meaning.specs.Closed.{Has, child_of, held_at, source_of, IsRecord, Begun, UnderWay, Took, GaveOut, CameFrom, rounds_of}
+use Rattle.pt_meaning.specs.Causes.{Has, child_of, held_at, source_of, IsRecord, Begun, UnderWay, Took, GaveOut, CameFrom, rounds_of}
 use Rattle.pt_meaning.specs.Node.{Rows, Core, Past, Node, Nodes, Composite, none, more, list_of}
 use Rattle.pt_meaning.specs.SoundRuns.{unmarked, all_unmarked, log_in_child, way_in_child, idle, CameByNow, IsBare, ClosedIn, AllClosedIn, OnPlace, IsWired, CameBefore, LevelKept, KeptIn, AllKeptIn, part, TookNow, GaveNow, CameNow, CameNowOrEarly}
 

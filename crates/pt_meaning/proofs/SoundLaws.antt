@@ -9,7 +9,7 @@ use Rattle.pt_meaning.specs.Modal.{get}
 use Rattle.pt_meaning.specs.Rendezvous.{with_meetings}
 use Rattle.pt_meaning.specs.Children.{Child, numbered, nodes, child_facts, child_step}
 use Rattle.pt_meaning.specs.Node.{Rows, Core, Past, Node, Nodes, Actor, Composite, none, more, list_of, nodes_of, facts_of, as_node, fired_at, made_of, reset_of, reset_all, early_of}
-use Rattle.pt_meaning.specs.Closed.{Has, child_of, node_at, source_of, IsRecord, Begun, UnderWay, GaveEarly}
+use Rattle.pt_meaning.specs.Causes.{Has, child_of, node_at, source_of, IsRecord, Begun, UnderWay, GaveEarly}
 use Rattle.pt_meaning.specs.Heights.{IsFitting, AllFitting}
 use Rattle.pt_meaning.specs.LogsOfRuns.{log_at, log_in}
 use Rattle.pt_meaning.specs.SoundRuns.{log_in_child, idle, IsBare, ClosedIn, OnPlace, IsWired, KeptIn, AllKeptIn, part, TookNow, GaveNow, CameNow, CameNowOrEarly, SoundStep}

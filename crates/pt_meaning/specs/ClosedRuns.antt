@@ -7,7 +7,7 @@ use Rattle.pt_meaning.specs.Node.{Rows, Core, Past, Node, Nodes, Actor, Composit
 use Rattle.pt_meaning.specs.Promises.{LawfulRows}
 use Rattle.pt_meaning.specs.Job.{Schedule, meaning}
 use Rattle.pt_meaning.specs.Heights.{IsFitting}
-use Rattle.pt_meaning.specs.Closed.{Has, child_of, node_at, held_at, source_of, Begun, UnderWay, Took, HasCause, CameWithin}
+use Rattle.pt_meaning.specs.Causes.{Has, child_of, node_at, held_at, source_of, Begun, UnderWay, Took, HasCause, CameWithin}
 use Rattle.pt_meaning.specs.SoundRuns.{log_in_child, way_in_child, idle, IsBare, ClosedIn, OnPlace, IsWired, LevelKept, KeptIn, part, TookNow, CameNow, CameNowOrEarly, SoundStep}
 
 -- each place has its channel, and holds only what the plan puts there first

@@ -7,7 +7,7 @@ use Rattle.pt_meaning.specs.Dataflow.{Inside}
 use Rattle.pt_meaning.specs.Modal.{get}
 use Rattle.pt_meaning.specs.Rendezvous.{with_meetings}
 use Rattle.pt_meaning.specs.Node.{Core}
-use Rattle.pt_meaning.specs.Closed.{Has, Begun, source_of}
+use Rattle.pt_meaning.specs.Causes.{Has, Begun, source_of}
 use Rattle.pt_meaning.specs.LogsOfRuns.{log_at, log_in}
 use Rattle.pt_meaning.specs.SoundRuns.{IsBare, OnPlace, IsWired}
 

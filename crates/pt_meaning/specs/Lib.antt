@@ -58,3 +58,4 @@ pub mod SoundRuns
 pub mod Explained
 pub mod ClosedRuns
 pub mod WholeRuns
+pub mod Causes

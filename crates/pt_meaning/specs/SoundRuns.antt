@@ -7,7 +7,7 @@ use Rattle.pt_meaning.specs.Heights.{IsFitting}
 use Rattle.pt_meaning.specs.Running.{total}
 use Rattle.pt_meaning.specs.Rounds.{Source, Own, Output}
 use Rattle.pt_meaning.specs.Process.{Put}
-use Rattle.pt_meaning.specs.Closed.{Has, UnderWay, Begun, Took, IsRecord, GaveOut, GaveEarly, CameFrom, node_at, first_channel, held_at, source_of, rounds_of}
+use Rattle.pt_meaning.specs.Causes.{Has, UnderWay, Begun, Took, IsRecord, GaveOut, GaveEarly, CameFrom, node_at, first_channel, held_at, source_of, rounds_of}
 use Rattle.pt_meaning.specs.Node.{Rows, Core, Sdf, Pn, Sr, De, Rv, Modal, Past, Node, Nodes, Actor, Composite, none, more, list_of, made_of}
 
 -- an event as it is seen from the child below whose composite it came: without the number of the composite's firing

@@ -8,7 +8,7 @@ use Rattle.pt_meaning.specs.Node.{Rows, Node, made_of, step_at}
 use Rattle.pt_meaning.specs.Promises.{LawfulRows}
 use Rattle.pt_meaning.specs.Job.{Schedule, meaning}
 use Rattle.pt_meaning.specs.Heights.{IsFitting}
-use Rattle.pt_meaning.specs.Closed.{Has, UnderWay, IsClosed, rounds_of}
+use Rattle.pt_meaning.specs.Causes.{Has, UnderWay, HasCauses, rounds_of}
 use Rattle.pt_meaning.specs.LogsOfRuns.{log_in}
 use Rattle.pt_meaning.specs.SoundRuns.{log_in_child, idle, ClosedIn, KeptIn}
 use Rattle.pt_meaning.specs.ClosedRuns.{IsAtStart}
@@ -45,8 +45,8 @@ MeaningIsWhole T A = (rows : Rows T A) → LawfulRows rows → (m : Meets) (plan
 
 -- a log that is closed level by level, and behind which the whole goes on later, is closed as a part of the whole
 abbrev pub PartIsClosed : Type 0 → Type 0 → Type 0
-PartIsClosed T A = (rows : Rows T A) (top : Node T A) (m l more : Log T) (way way' : UnderWay T) → m ≡ log_then l more → ClosedIn rows top l way → ClosedIn rows top m way' → ComesLater l more → IsClosed rows top m l
+PartIsClosed T A = (rows : Rows T A) (top : Node T A) (m l more : Log T) (way way' : UnderWay T) → m ≡ log_then l more → ClosedIn rows top l way → ClosedIn rows top m way' → ComesLater l more → HasCauses rows top m l
 
 -- So the meaning's log at any fuel is closed as a part of that at each greater one.
 abbrev pub LogsAreClosed : Type 0 → Type 0 → Type 0
-LogsAreClosed T A = (rows : Rows T A) → LawfulRows rows → (m : Meets) (plan : Schedule T A) (top : Node T A) → IsFitting top → IsAtStart top → (k k' : ℕ) → k ≤ k' → IsClosed rows top (meaning k' rows m plan top) (meaning k rows m plan top)
+LogsAreClosed T A = (rows : Rows T A) → LawfulRows rows → (m : Meets) (plan : Schedule T A) (top : Node T A) → IsFitting top → IsAtStart top → (k k' : ℕ) → k ≤ k' → HasCauses rows top (meaning k' rows m plan top) (meaning k rows m plan top)

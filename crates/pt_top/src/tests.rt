@@ -1,0 +1,139 @@
+use super::*;
+use pt_firing::OpenGate;
+use pt_io::{MemSink, MemSource};
+use std::alloc::{AllocError, Global};
+use std::test::Fail;
+
+const ROOM: usize = 65_536;
+
+const RAMP_SCALE: &str =
+    r#"{"version":1,"model":{"name":"top","class":"Composite","properties":[{"name":"director","class":"SDF","properties":[{"name":"iterations","value":"3"}]}],"entities":[{"name":"Ramp","class":"Ramp"},{"name":"Scale","class":"Scale","properties":[{"name":"factor","value":"2"}]}],"relations":[{"name":"r"}],"links":[{"port":"Ramp.output","relation":"r"},{"port":"Scale.input","relation":"r"}]},"record":["Scale.output"]}"#;
+
+const RAMP_SCALE_REPORT: &str = "trace Scale.output\n0 0.0 0\n1 0.0 2\n2 0.0 4\nend iterations\n";
+
+const NO_ITERATIONS: &str =
+    r#"{"version":1,"model":{"name":"top","class":"Composite","properties":[{"name":"director","class":"SDF","properties":[{"name":"iterations","value":"0"}]}],"entities":[{"name":"Ramp","class":"Ramp"},{"name":"Scale","class":"Scale","properties":[{"name":"factor","value":"2"}]}],"relations":[{"name":"r"}],"links":[{"port":"Ramp.output","relation":"r"},{"port":"Scale.input","relation":"r"}]},"record":["Scale.output"]}"#;
+
+const BOX_AND_RELATIONS: &str =
+    r#"{"version":1,"model":{"name":"top","class":"Composite","properties":[{"name":"director","class":"SDF","properties":[{"name":"iterations","value":"2"}]}],"entities":[{"name":"t","class":"Composite","ports":[{"name":"o","output":true}],"entities":[{"name":"Ramp","class":"Ramp"}],"relations":[{"name":"i"}],"links":[{"port":"Ramp.output","relation":"i"},{"port":"o","relation":"i"}]},{"name":"x","class":"Scale","properties":[{"name":"factor","value":"2"}]},{"name":"y","class":"Scale","properties":[{"name":"factor","value":"3"}]}],"relations":[{"name":"a"},{"name":"b"}],"links":[{"port":"t.o","relation":"a"},{"relation1":"a","relation2":"b"},{"port":"x.input","relation":"b"},{"port":"y.input","relation":"b"}]},"record":["x.output","y.output"]}"#;
+
+const SUM: &str =
+    r#"{"version":1,"model":{"name":"top","class":"Composite","properties":[{"name":"director","class":"SDF","properties":[{"name":"iterations","value":"3"}]}],"entities":[{"name":"r","class":"Ramp"},{"name":"s","class":"Ramp","properties":[{"name":"init","value":"10"}]},{"name":"a","class":"AddSubtract"}],"relations":[{"name":"p"},{"name":"q"}],"links":[{"port":"r.output","relation":"p"},{"port":"a.plus","relation":"p"},{"port":"s.output","relation":"q"},{"port":"a.plus","relation":"q"}]},"record":["a.output"]}"#;
+
+const OVERFLOW: &str =
+    r#"{"version":1,"model":{"name":"top","class":"Composite","properties":[{"name":"director","class":"SDF","properties":[{"name":"iterations","value":"2"}]}],"entities":[{"name":"Ramp","class":"Ramp","properties":[{"name":"init","value":"9223372036854775807"}]}]},"record":["Ramp.output"]}"#;
+
+const PROCESSES: &str =
+    r#"{"version":1,"model":{"name":"top","class":"Composite","properties":[{"name":"director","class":"PN","properties":[{"name":"iterations","value":"3"}]}],"entities":[{"name":"Ramp","class":"Ramp"}]},"record":["Ramp.output"]}"#;
+
+const VERSION_THREE: &str = r#"{"version":3,"model":{"name":"top","class":"Composite"}}"#;
+
+const NOT_BUILT: &str =
+    r#"{"version":1,"model":{"name":"top","class":"Composite","properties":[{"name":"director","class":"DE"}]}}"#;
+
+fn words_of(alloc: Global, texts: &[&str]) -> Result<Vec<String>, AllocError> {
+    let mut words = Vec::new(alloc);
+    for text in texts {
+        words.push(String::from_str(alloc, text)?)?;
+    }
+    Ok(words)
+}
+
+#[test]
+fn documents_are_answered(rt: HostRuntime) -> Result<(), Fail> {
+    let alloc = rt.alloc();
+    let words = words_of(alloc, &["run"])?;
+    for (document, status, text) in [
+        (RAMP_SCALE, Status::Done, RAMP_SCALE_REPORT),
+        (
+            NO_ITERATIONS,
+            Status::Done,
+            "trace Scale.output\nend iterations\n",
+        ),
+        (
+            BOX_AND_RELATIONS,
+            Status::Done,
+            "trace x.output\n0 0.0 0\n1 0.0 2\ntrace y.output\n0 0.0 0\n1 0.0 3\nend iterations\n",
+        ),
+        (
+            SUM,
+            Status::Done,
+            "trace a.output\n0 0.0 10\n1 0.0 12\n2 0.0 14\nend iterations\n",
+        ),
+        (
+            OVERFLOW,
+            Status::Fault,
+            "trace Ramp.output\n0 0.0 9223372036854775807\nend fault 31 Ramp 1\n",
+        ),
+        (
+            PROCESSES,
+            Status::Document,
+            "refused 14 Parameter iterations\n",
+        ),
+        (VERSION_THREE, Status::Document, "refused 11 Shape .\n"),
+        (NOT_BUILT, Status::Document, "refused 40 Unbuilt .\n"),
+        ("{\"version\":1,", Status::Document, "refused 10 Json .\n"),
+        ("", Status::Document, "refused 10 Json .\n"),
+    ] {
+        let mut source = MemSource::new(document.as_bytes().to_vec(alloc)?, Vec::new(alloc));
+        let mut sink = MemSink::new(alloc, 7, ROOM, Vec::new(alloc))?;
+        assert_eq!(rt;
+            run_program(&rt, alloc, &words, &mut source, &mut sink, &OpenGate),
+            status
+        );
+        assert_eq!(rt; sink.bytes(), text.as_bytes());
+    }
+    Ok(())
+}
+
+#[test]
+fn other_words_are_refused_and_nothing_is_read(rt: HostRuntime) -> Result<(), Fail> {
+    let alloc = rt.alloc();
+    for texts in [&[][..], &["run", "run"][..], &["help"][..], &["Run"][..]] {
+        let words = words_of(alloc, texts)?;
+        let mut source = MemSource::new(RAMP_SCALE.as_bytes().to_vec(alloc)?, Vec::new(alloc));
+        let mut sink = MemSink::new(alloc, 7, ROOM, Vec::new(alloc))?;
+        assert_eq!(rt;
+            run_program(&rt, alloc, &words, &mut source, &mut sink, &OpenGate),
+            Status::Words
+        );
+        assert_eq!(rt; sink.bytes(), "refused words\n".as_bytes());
+    }
+    Ok(())
+}
+
+#[test]
+fn a_read_that_fails_is_told(rt: HostRuntime) -> Result<(), Fail> {
+    let alloc = rt.alloc();
+    let words = words_of(alloc, &["run"])?;
+    let mut document = RAMP_SCALE.as_bytes().to_vec(alloc)?;
+    for _ in document.len()..10_000 {
+        document.push(b' ')?;
+    }
+    let mut failing = Vec::new(alloc);
+    failing.push(2u32)?;
+    let mut source = MemSource::new(document, failing);
+    let mut sink = MemSink::new(alloc, 4096, ROOM, Vec::new(alloc))?;
+    assert_eq!(rt;
+        run_program(&rt, alloc, &words, &mut source, &mut sink, &OpenGate),
+        Status::Read
+    );
+    assert_eq!(rt; sink.bytes(), "refused read\n".as_bytes());
+    Ok(())
+}
+
+#[test]
+fn a_write_that_fails_leaves_a_beginning(rt: HostRuntime) -> Result<(), Fail> {
+    let alloc = rt.alloc();
+    let words = words_of(alloc, &["run"])?;
+    let mut failing = Vec::new(alloc);
+    failing.push(1u32)?;
+    let mut source = MemSource::new(RAMP_SCALE.as_bytes().to_vec(alloc)?, Vec::new(alloc));
+    let mut sink = MemSink::new(alloc, 7, ROOM, failing)?;
+    assert_eq!(rt;
+        run_program(&rt, alloc, &words, &mut source, &mut sink, &OpenGate),
+        Status::Write
+    );
+    assert_eq!(rt; sink.bytes(), "trace S".as_bytes());
+    Ok(())
+}
