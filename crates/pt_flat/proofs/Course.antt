@@ -1,15 +1,13 @@
 -- The iterations of a run, one after the other.
-use Rattle.std.proofs.Common.{◌≡◌, ℕ, zero, suc, ◌+◌, ◌-◌, ◌<◌, ◌≤◌, max, List, [], ◌∷◌, ◌++◌, Bool, true, false, length, get_or, refl, sym, ap, ap₂, subst, ◌∙◌, arith, Option, Some, None, ℤ, pos, append-nil, append_assoc, nat_lt, nat_eq, not, ◌≢◌, set, length-set, replicate, ◌⊎◌, inl, inr, ◌||◌}
+use Rattle.std.proofs.Common.{◌≡◌, ℕ, zero, suc, ◌+◌, ◌-◌, ◌<◌, ◌≤◌, List, [], ◌∷◌, ◌++◌, Bool, true, false, length, get_or, refl, sym, ap, subst, ◌∙◌, arith, Option, Some, None, ℤ, pos, append-nil, nat_lt, nat_eq, not, ◌≢◌, set, length-set, replicate, ◌||◌}
 use Rattle.std.proofs.lemmas.Bool.Decides.{nat_tests}
 use Rattle.pt_value.specs.declared.token.Token.{Token}
 use Rattle.pt_value.specs.declared.token.Token.TheVariants.{Int}
 use Rattle.pt_meaning.specs.Basics as basics
 use Rattle.pt_meaning.specs.Basics.{Event, all_marked, if_same, Tag, Streams, Firing, Path, Log, LogBelow, IsPrefix, silent, own, log_then, log_below, within_firing, trace, meetings_in}
-use Rattle.pt_meaning.specs.Machine.{Fault, Outcome, Done, Stuck, recorded}
-use Rattle.pt_meaning.specs.Laws.{IsIn}
+use Rattle.pt_meaning.specs.Machine.{Fault, Stuck, recorded}
 use Rattle.pt_meaning.specs.LogsOfRuns.{log_at, TracesAdd}
-use Rattle.pt_meaning.specs.CompositeRuns.{IsStuckBelow}
-use Rattle.pt_meaning.specs.Job.{End, Iterations, Turn, Fire, Schedule, Course, Standing, Goes, Ended, Halted, on_step, on_turn, goes_on, after, log_of, begin, meaning, IsPrefixOfMeaning, IsMeaning, EndsBy, IsStuckPlace}
+use Rattle.pt_meaning.specs.Job.{End, Iterations, Fire, Schedule, Course, Standing, Goes, Ended, Halted, on_step, on_turn, goes_on, after, log_of, begin, meaning, IsPrefixOfMeaning, IsStuckPlace}
 use Rattle.pt_meaning.specs.Meetings.{Meets}
 use Rattle.pt_meaning.specs.Tag.{origin}
 use Rattle.pt_meaning.specs.Schedule.{sdf_top, if_more}
@@ -17,11 +15,10 @@ use Rattle.pt_meaning.specs.Node as tree
 use Rattle.pt_meaning.specs.Node.{Rows, Node, step_at, Step}
 use Rattle.pt_meaning.proofs.LogLaws.{traces-add}
 use Rattle.pt_flat.specs.declared.actor.Actor.{Actor}
-use Rattle.pt_flat.specs.Actors as row
 use Rattle.pt_flat.specs.Actors.{rows, no_actor, Matches}
 use Rattle.pt_flat.specs.Model.{flag, Orders, start_of, leaves, plan_of, empty_for, sources_of}
 use Rattle.pt_flat.specs.Turns.{Turned, Finished, Stopped, turned}
-use Rattle.pt_flat.specs.Run.{stamped, AreTold, IsRun, AllDone, Overflow, waits}
+use Rattle.pt_flat.specs.Run.{AreTold, IsRun, AllDone, waits}
 use Rattle.pt_flat.proofs.Firings.{told_if, LeadsTo, leads-to, meetings-append, own-unmet}
 use Rattle.std.proofs.lemmas.List.{get_or-set_other}
 use Rattle.pt_meaning.specs.Running.{total}
@@ -194,8 +191,7 @@ module _ (feeds : List (List ℕ)) (starts : List Actor) (iterations : ℕ) wher
       by_turns (Finished after_actors after_values) h =
           let ls : List (Log Token) = h.1 in
           let w = h.2 in
-          let all : AllFrom h.0 0 feeds = λ i k. let at : 0 + i ≡ i = omega arith in ap (λ x. flag h.0 x) at ∙ h.3 i k in
-          (
+          let all : AllFrom h.0 0 feeds = λ i k. let at : 0 + i ≡ i = omega arith in ap (λ x. flag h.0 x) at ∙ h.3 i k in (
             log_of_iteration n ls,
             record {
               stands = λ k q.
@@ -298,8 +294,7 @@ module _ (feeds : List (List ℕ)) (starts : List Actor) (iterations : ℕ) wher
           let halted : after k rows tree.no_meetings plan (suc n) (begin top) ≡ Halted stuck.0 (log_then log stuck.1) = halts n nows log a l k (omega arith) stuck.0 stuck.1 stuck.2 in
           let count : suc n + (k - suc n) ≡ k = omega arith in
           let P : ℕ → Type 0 = λ c. after k rows tree.no_meetings plan c (begin top) ≡ Halted stuck.0 (log_then log stuck.1) in
-          let stands : after k rows tree.no_meetings plan k (begin top) ≡ Halted stuck.0 (log_then log stuck.1) = subst P count (after-halted k rows tree.no_meetings plan (suc n) (k - suc n) (begin top) stuck.0 (log_then log stuck.1) halted) in
-          (
+          let stands : after k rows tree.no_meetings plan k (begin top) ≡ Halted stuck.0 (log_then log stuck.1) = subst P count (after-halted k rows tree.no_meetings plan (suc n) (k - suc n) (begin top) stuck.0 (log_then log stuck.1) halted) in (
             more,
             (k, λ p. subst (λ m. IsPrefix (log_then log more p) (m p)) (ap (λ s. log_of s) (sym stands)) (prefix-append (log p) (more p) (stuck.1 p) (stuck.4 p))),
             λ p c. meetings-append c (log p) (more p) (a.unmet p c) (within-unmet c n ls (λ i p. w.unmet i p c) p),
@@ -307,5 +302,5 @@ module _ (feeds : List (List ℕ)) (starts : List Actor) (iterations : ℕ) wher
             h.3.0,
             w.numbers,
             λ d q. (traces-add {T = Token} {S = ℕ}).after log more (d ∷ []) 0 ∙
-            ap (λ v. trace log (d ∷ []) 0 ++ v) (within-told n ls d ∙ w.told d q ∙ ap (λ b. told_if b (get_or after_values d (pos 0))) (orders-waits (i ∷ rest) fired h.3 w.flags d q) ∙ told-as (waits (i ∷ rest) d) (get_or after_values d (pos 0))),
+                ap (λ v. trace log (d ∷ []) 0 ++ v) (within-told n ls d ∙ w.told d q ∙ ap (λ b. told_if b (get_or after_values d (pos 0))) (orders-waits (i ∷ rest) fired h.3 w.flags d q) ∙ told-as (waits (i ∷ rest) d) (get_or after_values d (pos 0))),
           )

@@ -1,16 +1,13 @@
 -- The firings of an iteration, as the definitions have them.
-use Rattle.std.proofs.Common.{◌≡◌, ℕ, zero, suc, ◌+◌, ◌<◌, ◌≤◌, List, [], ◌∷◌, ◌++◌, Bool, true, false, ◌&&◌, not, length, take, drop, replicate, get_or, set, refl, sym, ap, ap₂, subst, ◌∙◌, arith, Option, Some, None, inl, inr, ◌⊎◌, ℤ, pos, ◌+ℤ◌, ◌-ℤ◌, ◌*ℤ◌, if◌then◌else◌, ◌≢◌, nat_eq, length-set}
+use Rattle.std.proofs.Common.{◌≡◌, ℕ, zero, suc, ◌+◌, ◌<◌, List, [], ◌∷◌, ◌++◌, Bool, true, false, ◌&&◌, length, take, drop, replicate, get_or, set, refl, sym, ap, ap₂, subst, ◌∙◌, arith, ℤ, pos, ◌+ℤ◌, ◌-ℤ◌, ◌*ℤ◌, if◌then◌else◌, ◌≢◌, nat_eq, length-set}
 use Rattle.std.proofs.lemmas.List.{get_or-set_same, get_or-set_other}
 use Rattle.std.proofs.lemmas.Bool.Decides.{nat_tests}
 use Rattle.pt_value.specs.declared.token.Token.{Token}
 use Rattle.pt_value.specs.declared.token.Token.TheVariants.{Int}
 use Rattle.pt_meaning.specs.Basics as basics
 use Rattle.pt_meaning.specs.Basics.{Tag, Streams, Firing, Path, Log, silent, own, log_then, trace, meetings_in, with_tag, given_on, Event, if_same}
-use Rattle.pt_meaning.specs.Machine.{Need, Counts, Fault, Outcome, Done, Stuck, Stepping, Facts, Takes, front, counted}
-use Rattle.pt_meaning.specs.Rounds.{Source, Output, Net, Limit, rated, rated_outcome}
-use Rattle.pt_meaning.specs.Dataflow.{sdf_limits}
-use Rattle.pt_meaning.specs.Running.{plus, puts}
-use Rattle.pt_meaning.specs.LogsOfRuns.{RunningWith, FiresWith, SticksWith, log_at, logs_then}
+use Rattle.pt_meaning.specs.Machine.{Counts, Done, Stuck, Stepping, Facts, Takes, front}
+use Rattle.pt_meaning.specs.LogsOfRuns.{RunningWith, log_at, logs_then}
 use Rattle.pt_meaning.specs.Children.{Child, child_facts, child_step, with_number}
 use Rattle.pt_meaning.specs.Meetings.{Meets, below_child}
 use Rattle.pt_meaning.specs.Tag.{origin}
@@ -23,7 +20,7 @@ use Rattle.pt_flat.specs.declared.actor.Actor.TheVariants as actors
 use Rattle.pt_flat.specs.Actors as row
 use Rattle.pt_flat.specs.Actors.{no_actor, rows, react, need, Matches, given, answer}
 use Rattle.pt_flat.specs.declared.actor.AddSubtract.{AddSubtract}
-use Rattle.pt_flat.specs.Model.{sources_of, places_of, flag, all_flags, plan_of, empty_for, Orders}
+use Rattle.pt_flat.specs.Model.{sources_of, flag, all_flags, plan_of, empty_for, Orders}
 use Rattle.pt_flat.specs.Turns.{first_number, numbers_of, actor_firing, firing_at, Turned, Finished, Stopped, turned, on_firing}
 use Rattle.pt_flat.proofs.Iteration.{held_from, inputs_of, nothing_of, counts_from, one_each, takes-one, past_at, kid, kids_from, and-first, and-second, Supplied, held-plus, limits_of, FiresOn, fires-from}
 
@@ -209,7 +206,7 @@ module _ (feeds : List (List ℕ)) (starts begun : List Actor) (j dep : ℕ) (m 
   run-on : (fired : List Bool) (values : List ℤ) (nows : List Actor) (ls : List (Log Token)) (w : Underway fired values nows ls) (t : ℕ) → t < length feeds → flag fired t ≡ false → all_flags fired (get_or feeds t []) ≡ true →
       length starts ≡ length feeds → dep ≡ 1 → (after : Actor) (n : ℤ) → firing_at feeds nows values t ≡ row.Gave after n → (k : ℕ) →
       RunningWith kid_facts (kid_step k) origin (plan_of feeds).net (limits_of feeds) (kids_from j [] 0 starts begun) (empty_for (sources_of feeds)) (counts_from (set fired t true) 0 feeds) (kids_from j (set fired t true) 0 starts (set nows t after)) (held_from (set fired t true) (set fired t true) (set values t n) 0 feeds)
-          (logs_then t (log_then silent (own (record_of values t n))) ls)
+      (logs_then t (log_then silent (own (record_of values t n))) ls)
   run-on fired values nows ls w t l u ready long deep after n e k =
       let f : List ℕ = get_or feeds t [] in
       let a : Actor = get_or nows t no_actor in
@@ -221,7 +218,7 @@ module _ (feeds : List (List ℕ)) (starts begun : List Actor) (j dep : ℕ) (m 
       let fires = fires-from kid_facts (kid_step k) origin j fired values t n here u after t 0 feeds starts nows no_actor (omega arith) l long w.actors fire in
       let run = running-step-with kid_facts (kid_step k) origin (plan_of feeds).net (limits_of feeds) (kids_from j [] 0 starts begun) (empty_for (sources_of feeds)) (counts_from fired 0 feeds) (kids_from j fired 0 starts nows) (held_from fired fired values 0 feeds) ls (w.running k) t _ _ _ silent (record_of values t n) fires in
       let P : Streams Token → Type 0 = λ X. RunningWith kid_facts (kid_step k) origin (plan_of feeds).net (limits_of feeds) (kids_from j [] 0 starts begun) (empty_for (sources_of feeds)) (counts_from (set fired t true) 0 feeds) (kids_from j (set fired t true) 0 starts (set nows t after)) X
-          (logs_then t (log_then silent (own (record_of values t n))) ls) in
+      (logs_then t (log_then silent (own (record_of values t n))) ls) in
       subst P (held-plus fired values t n here there u 0 feeds (supplied-more fired t here u ready w.supplied)) run
 
   -- actor t fires
@@ -263,7 +260,7 @@ module _ (feeds : List (List ℕ)) (starts begun : List Actor) (j dep : ℕ) (m 
   leads-to long deep [] fired values nows ls w o = (fired, ls, w, o)
   leads-to long deep (i ∷ order) fired values nows ls w o =
       by_firing (firing_at feeds nows values i) refl
-          (λ after n e. leads-to long deep order (set fired i true) (set values i n) (set nows i after) _ (goes-on fired values nows ls w i o.0 o.1 o.2 long (deep (omega (arith, o.0))) after n e) o.3)
+      (λ after n e. leads-to long deep order (set fired i true) (set values i n) (set nows i after) _ (goes-on fired values nows ls w i o.0 o.1 o.2 long (deep (omega (arith, o.0))) after n e) o.3)
     where
       by_firing : (f : row.Firing Actor) → firing_at feeds nows values i ≡ f → ((after : Actor) (n : ℤ) → firing_at feeds nows values i ≡ row.Gave after n → LeadsTo (turned feeds order (set nows i after) (set values i n))) →
           LeadsTo (on_firing (turned feeds order) i order nows values f)

@@ -1,12 +1,12 @@
 -- One iteration of a flat model, actor by actor.
-use Rattle.std.proofs.Common.{◌≡◌, ℕ, zero, suc, ◌+◌, ◌<◌, ◌≤◌, List, [], ◌∷◌, ◌++◌, Bool, true, false, ◌&&◌, not, length, take, drop, get_or, set, refl, sym, ap, ap₂, subst, ◌∙◌, arith, Option, Some, None, nat_eq, if◌then◌else◌, append-nil, inl, inr, ◌⊎◌, ℤ, pos}
+use Rattle.std.proofs.Common.{◌≡◌, ℕ, zero, suc, ◌+◌, ◌<◌, ◌≤◌, List, [], ◌∷◌, ◌++◌, Bool, true, false, ◌&&◌, not, length, take, drop, get_or, set, refl, sym, ap, ap₂, subst, ◌∙◌, arith, Option, Some, None, nat_eq, if◌then◌else◌, append-nil, inl, ℤ, pos}
 use Rattle.std.proofs.lemmas.Bool.Decides.{nat_tests}
 use Rattle.std.proofs.lemmas.List.{get_or-set_same, get_or-set_other}
 use Rattle.pt_value.specs.declared.token.Token.{Token}
 use Rattle.pt_value.specs.declared.token.Token.TheVariants.{Int}
 use Rattle.pt_meaning.specs.Basics.{Tag, Streams, Firing, silent}
-use Rattle.pt_meaning.specs.Machine.{Need, Counts, Fault, Outcome, Done, Stuck, Stepping, Facts, Takes, front, counted}
-use Rattle.pt_meaning.specs.Rounds.{Source, Output, Net, Limit, rated, rated_outcome}
+use Rattle.pt_meaning.specs.Machine.{Fault, Outcome, Done, Stuck, Stepping, Facts, Takes, front, counted}
+use Rattle.pt_meaning.specs.Rounds.{Source, Limit, rated, rated_outcome}
 use Rattle.pt_meaning.specs.Dataflow.{sdf_limits}
 use Rattle.pt_meaning.specs.Running.{plus, puts}
 use Rattle.pt_meaning.specs.LogsOfRuns.{FiresWith, SticksWith}
@@ -166,7 +166,7 @@ module _ (fired : List Bool) (values : List ℤ) (t : ℕ) (n : ℤ) (l : t < le
   then-plus d [] X S h = refl
   then-plus d (s ∷ f) X S h =
       ap₂ (λ v w. v ∷ w) (way-plus fired values t n s d l m u (λ x. and-first (flag fired s) (all_flags fired f) (h x)))
-          (then-plus d f X S (λ x. and-second (flag fired s) (all_flags fired f) (h x)))
+      (then-plus d f X S (λ x. and-second (flag fired s) (all_flags fired f) (h x)))
 
   -- what it puts makes the channels those after it
   pub held-plus : (d : ℕ) (feeds : List (List ℕ)) → Supplied fired (set fired t true) d feeds →
@@ -197,7 +197,6 @@ taken-as sent taken other values d (f ∷ feeds) h = ap₂ (λ b X. held_then se
 abbrev Kid : Type 0
 Kid = Child (tree.Node Token Actor)
 
-
 module _ (facts : Facts Token Kid) (step : Stepping Token Kid) (tag : Tag) (j : ℕ) (fired : List Bool) (values : List ℤ) (t : ℕ) (n : ℤ) (l : t < length fired) (u : flag fired t ≡ false) (after : Actor) where
   -- actor t can fire on its inputs, and gives n
   pub record FiresOn (a0 a : Actor) (f : List ℕ) : Type 0 where
@@ -215,7 +214,7 @@ module _ (facts : Facts Token Kid) (step : Stepping Token Kid) (tag : Tag) (j : 
 
   fires-head : (d : ℕ) (f : List ℕ) (feeds : List (List ℕ)) (a0 a : Actor) (starts nows : List Actor) → d ≡ t → FiresOn a0 a f →
       FiresWith facts step tag zero (places_of (f ∷ feeds)) (limits_of (f ∷ feeds)) (counts_from fired d (f ∷ feeds)) (kids_from j fired d (a0 ∷ starts) (a ∷ nows)) (held_from fired fired values d (f ∷ feeds))
-          (counts_from (set fired t true) d (f ∷ feeds)) (kids_from j (set fired t true) d (a0 ∷ starts) (after ∷ nows)) (held_from fired (set fired t true) values d (f ∷ feeds)) silent (firing_on f)
+      (counts_from (set fired t true) d (f ∷ feeds)) (kids_from j (set fired t true) d (a0 ∷ starts) (after ∷ nows)) (held_from fired (set fired t true) values d (f ∷ feeds)) silent (firing_on f)
   fires-head d f feeds a0 a starts nows e h =
       let un : flag fired d ≡ false = ap (λ i. flag fired i) e ∙ u in
       let now : flag (set fired t true) d ≡ true = ap (λ i. flag (set fired t true) i) e ∙ get_or-set_same fired t true false l in
@@ -223,8 +222,7 @@ module _ (facts : Facts Token Kid) (step : Stepping Token Kid) (tag : Tag) (j : 
       let kid_is : kid d j (flag fired d) a0 a ≡ kid t j false a0 a = ap₂ (λ x b. kid x j b a0 a) e un in
       let kid_then : kid t j true a0 after ≡ kid d j true a0 after = ap (λ x. kid x j true a0 after) (sym e) in
       let rest = held_from fired fired values (suc d) feeds in
-      let front_is : take (length f) (held_then fired values (flag fired d) f rest) ≡ inputs_of values f = held-take fired values (flag fired d) f rest ∙ ap (λ b. held_then fired values b f []) un ∙ held-ready fired values f h.ready in
-      (
+      let front_is : take (length f) (held_then fired values (flag fired d) f rest) ≡ inputs_of values f = held-take fired values (flag fired d) f rest ∙ ap (λ b. held_then fired values b f []) un ∙ held-ready fired values f h.ready in (
         kid d j true a0 after,
         nothing_of f,
         record {
@@ -242,7 +240,7 @@ module _ (facts : Facts Token Kid) (step : Stepping Token Kid) (tag : Tag) (j : 
   -- actor t, which is the one at number i from d on, fires
   pub fires-from : (i d : ℕ) (feeds : List (List ℕ)) (starts nows : List Actor) (x : Actor) → d + i ≡ t → i < length feeds → length starts ≡ length feeds → length nows ≡ length feeds → FiresOn (get_or starts i x) (get_or nows i x) (get_or feeds i []) →
       FiresWith facts step tag i (places_of feeds) (limits_of feeds) (counts_from fired d feeds) (kids_from j fired d starts nows) (held_from fired fired values d feeds)
-          (counts_from (set fired t true) d feeds) (kids_from j (set fired t true) d starts (set nows i after)) (held_from fired (set fired t true) values d feeds) silent (firing_on (get_or feeds i []))
+      (counts_from (set fired t true) d feeds) (kids_from j (set fired t true) d starts (set nows i after)) (held_from fired (set fired t true) values d feeds) silent (firing_on (get_or feeds i []))
   fires-from i d [] starts nows x e k a b h = absurd (omega arith)
   fires-from i d (f ∷ feeds) [] nows x e k a b h = absurd (omega arith)
   fires-from i d (f ∷ feeds) (a0 ∷ starts) [] x e k a b h = absurd (omega arith)
@@ -251,8 +249,7 @@ module _ (facts : Facts Token Kid) (step : Stepping Token Kid) (tag : Tag) (j : 
       let same : flag (set fired t true) d ≡ flag fired d = get_or-set_other fired t d true false (λ z. absurd (omega arith)) in
       let rest = held_from fired fired values (suc d) feeds in
       let Rest : Streams Token → Type 0 = λ X. FiresWith facts step tag i (places_of feeds) (limits_of feeds) (counts_from fired (suc d) feeds) (kids_from j fired (suc d) starts nows) X
-          (counts_from (set fired t true) (suc d) feeds) (kids_from j (set fired t true) (suc d) starts (set nows i after)) (held_from fired (set fired t true) values (suc d) feeds) silent (firing_on (get_or feeds i [])) in
-      (
+      (counts_from (set fired t true) (suc d) feeds) (kids_from j (set fired t true) (suc d) starts (set nows i after)) (held_from fired (set fired t true) values (suc d) feeds) silent (firing_on (get_or feeds i [])) in (
         counts_from (set fired t true) (suc d) feeds,
         kids_from j (set fired t true) (suc d) starts (set nows i after),
         held_from fired (set fired t true) values (suc d) feeds,
@@ -260,7 +257,7 @@ module _ (facts : Facts Token Kid) (step : Stepping Token Kid) (tag : Tag) (j : 
         ap (λ b. as_count b ∷ counts_from (set fired t true) (suc d) feeds) same,
         ap (λ b. kid d j b a0 a ∷ kids_from j (set fired t true) (suc d) starts (set nows i after)) same,
         ap (λ b. held_then fired values b f (held_from fired (set fired t true) values (suc d) feeds)) same ∙ held-append fired values (flag fired d) f (held_from fired (set fired t true) values (suc d) feeds) ∙
-        ap (λ v. v ++ held_from fired (set fired t true) values (suc d) feeds) (sym (held-take fired values (flag fired d) f rest)),
+            ap (λ v. v ++ held_from fired (set fired t true) values (suc d) feeds) (sym (held-take fired values (flag fired d) f rest)),
       )
 
 module _ (facts : Facts Token Kid) (step : Stepping Token Kid) (tag : Tag) (j : ℕ) (fired : List Bool) (values : List ℤ) (t : ℕ) (u : flag fired t ≡ false) (code : ℕ) where
@@ -279,8 +276,7 @@ module _ (facts : Facts Token Kid) (step : Stepping Token Kid) (tag : Tag) (j : 
       let un : flag fired d ≡ false = ap (λ i. flag fired i) e ∙ u in
       let kid_is : kid d j (flag fired d) a0 a ≡ kid t j false a0 a = ap₂ (λ x b. kid x j b a0 a) e un in
       let rest = held_from fired fired values (suc d) feeds in
-      let front_is : take (length f) (held_then fired values (flag fired d) f rest) ≡ inputs_of values f = held-take fired values (flag fired d) f rest ∙ ap (λ b. held_then fired values b f []) un ∙ held-ready fired values f h.ready in
-      (
+      let front_is : take (length f) (held_then fired values (flag fired d) f rest) ≡ inputs_of values f = held-take fired values (flag fired d) f rest ∙ ap (λ b. held_then fired values b f []) un ∙ held-ready fired values f h.ready in (
         inputs_of values f,
         nothing_of f,
         place_at ∷ [],

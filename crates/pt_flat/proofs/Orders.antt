@@ -1,8 +1,8 @@
 -- Orders of firing.
-use Rattle.std.proofs.Common.{◌≡◌, ℕ, zero, suc, ◌+◌, ◌<◌, ◌≤◌, List, [], ◌∷◌, ◌++◌, Bool, true, false, ◌&&◌, length, get_or, set, replicate, refl, sym, ap, ap₂, ◌∙◌, arith, nat_eq, ◌≢◌}
+use Rattle.std.proofs.Common.{◌≡◌, ℕ, zero, suc, ◌<◌, List, [], ◌∷◌, Bool, true, false, ◌&&◌, length, get_or, set, replicate, refl, sym, ap, ap₂, ◌∙◌, arith, nat_eq, ◌≢◌}
 use Rattle.std.proofs.lemmas.Bool.Decides.{nat_tests}
 use Rattle.std.proofs.lemmas.List.{get_or-set_other, length-set, length-replicate}
-use Rattle.pt_flat.specs.Model.{flag, all_flags, Orders, HasNoOrder, IsReady, IsStuck}
+use Rattle.pt_flat.specs.Model.{flag, all_flags, Orders, HasNoOrder, IsStuck}
 use Rattle.pt_flat.proofs.Iteration.{and-first, and-second}
 use Rattle.pt_flat.proofs.Whole.{flag-none}
 

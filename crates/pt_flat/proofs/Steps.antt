@@ -1,11 +1,11 @@
 -- What one iteration of the code comes to for the run.
-use Rattle.std.proofs.Common.{◌≡◌, ℕ, zero, suc, ◌+◌, ◌-◌, ◌<◌, ◌≤◌, List, [], ◌∷◌, ◌++◌, Bool, true, false, ◌&&◌, ◌||◌, length, take, drop, get_or, set, replicate, refl, sym, ap, ap₂, subst, ◌∙◌, arith, nat_eq, nat_lt, ◌≢◌, ℤ, pos}
+use Rattle.std.proofs.Common.{◌≡◌, ℕ, zero, suc, ◌+◌, ◌<◌, ◌≤◌, List, [], ◌∷◌, ◌++◌, Bool, true, false, length, drop, get_or, set, replicate, refl, sym, ap, ap₂, subst, ◌∙◌, arith, nat_eq, nat_lt, ◌≢◌, ℤ, pos}
 use Rattle.std.specs.List.{All}
 use Rattle.std.proofs.lemmas.Bool.Decides.{nat_tests}
-use Rattle.std.proofs.lemmas.List.{get_or-set_other, length-set, length-replicate, take_all, length-drop}
+use Rattle.std.proofs.lemmas.List.{get_or-set_other, length-set, length-replicate}
 use Rattle.pt_value.specs.declared.token.Token.{Token}
 use Rattle.pt_value.specs.declared.token.Token.TheVariants.{Int}
-use Rattle.pt_meaning.specs.Basics.{Tag, Log, log_then, trace, silent}
+use Rattle.pt_meaning.specs.Basics.{Log, log_then, trace, silent}
 use Rattle.pt_meaning.specs.Tag.{origin}
 use Rattle.pt_meaning.specs.Schedule.{sdf_top}
 use Rattle.pt_meaning.specs.Job.{IsStuckPlace}
@@ -13,7 +13,7 @@ use Rattle.pt_meaning.specs.Node as tree
 use Rattle.pt_flat.specs.Actors.{rows}
 use Rattle.pt_flat.specs.declared.actor.Actor.{Actor}
 use Rattle.pt_flat.specs.Model.{start_of, flag, all_flags, Orders, IsLawful, InRange}
-use Rattle.pt_flat.specs.Turns.{Turned, Finished, Stopped, turned}
+use Rattle.pt_flat.specs.Turns.{Finished, Stopped, turned}
 use Rattle.pt_flat.specs.Run.{stamped, AreTold, IsRun, AllDone, Overflow, AllPushed, FiredPushed, AreWaiting, waits, number_unless}
 use Rattle.pt_flat.proofs.Iteration.{and-first, and-second}
 use Rattle.pt_flat.proofs.Whole.{flag-none}

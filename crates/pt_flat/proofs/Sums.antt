@@ -1,5 +1,5 @@
 -- Sums of the numbers that wait for an actor.
-use Rattle.std.proofs.Common.{◌≡◌, ℕ, zero, suc, ◌+◌, ◌<◌, List, [], ◌∷◌, length, take, drop, get_or, refl, sym, ap, ◌∙◌, arith, ℤ, pos, ◌+ℤ◌, add-one, Bool, true, false, if◌then◌else◌, Ok, Err}
+use Rattle.std.proofs.Common.{◌≡◌, ℕ, zero, suc, ◌+◌, ◌<◌, List, [], ◌∷◌, length, take, drop, get_or, refl, ap, ◌∙◌, arith, ℤ, pos, ◌+ℤ◌, add-one, Bool, true, false, if◌then◌else◌, Ok, Err}
 use Rattle.std.proofs.lemmas.Int.{ints}
 use Rattle.pt_flat.specs.Actors.{total_of, Makes, exactly, narrowed_of, fits_i64, Gave, Overflows}
 use Rattle.pt_flat.specs.Turns.{numbers_of}
@@ -31,6 +31,6 @@ total_more values k f l = ap (λ n. total_of (numbers_of values (take n f))) (ad
 pub makes_exactly : {S : Type 0} (s : S) (n : ℤ) → Makes (exactly s n) s s (narrowed_of n)
 makes_exactly {S} s n = by_fit (fits_i64 n)
   where
-    by_fit : (b : Bool) → Makes (if b then Gave s n else Overflows) s s (if b then Ok n else Err record { })
+    by_fit : (b : Bool) → Makes (if b then Gave s n else Overflows) s s (if b then Ok n else Err record {})
     by_fit true = (refl, refl)
     by_fit false = (refl, refl)

@@ -1,5 +1,5 @@
 -- One firing more of an order.
-use Rattle.std.proofs.Common.{◌≡◌, ℕ, zero, suc, ◌+◌, ◌<◌, List, [], ◌∷◌, length, drop, get_or, set, refl, sym, ap, ap₂, subst, ◌∙◌, arith, ℤ, Ok, Err, nat_eq, Bool, true, false, ◌≢◌}
+use Rattle.std.proofs.Common.{◌≡◌, ℕ, ◌+◌, ◌<◌, List, [], length, drop, get_or, set, refl, sym, ap, ap₂, subst, ◌∙◌, arith, ℤ, Ok, nat_eq, Bool, true, false, ◌≢◌}
 use Rattle.std.proofs.lemmas.Bool.Decides.{nat_tests}
 use Rattle.std.proofs.lemmas.List.{get_or-set_same, get_or-set_other, length-set}
 use Rattle.pt_flat.specs.declared.actor.Actor.{Actor}

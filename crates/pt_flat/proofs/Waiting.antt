@@ -1,5 +1,5 @@
 -- Flags of those in a list.
-use Rattle.std.proofs.Common.{◌≡◌, ℕ, zero, suc, ◌+◌, ◌<◌, List, [], ◌∷◌, Bool, true, false, ◌||◌, length, take, get_or, set, refl, sym, ap, ap₂, ◌∙◌, arith, nat_eq, ◌≢◌, add-one}
+use Rattle.std.proofs.Common.{◌≡◌, ℕ, zero, suc, ◌+◌, ◌<◌, List, [], ◌∷◌, Bool, true, false, ◌||◌, length, take, get_or, set, refl, sym, ap, ◌∙◌, arith, nat_eq, ◌≢◌, add-one}
 use Rattle.std.proofs.lemmas.Bool.Decides.{nat_tests}
 use Rattle.std.proofs.lemmas.List.{get_or-set_same, get_or-set_other}
 use Rattle.pt_flat.specs.Model.{flag}

@@ -1,17 +1,17 @@
 -- A whole iteration is a firing of the model.
-use Rattle.std.proofs.Common.{◌≡◌, ℕ, zero, suc, ◌+◌, ◌*◌, ◌<◌, ◌≤◌, max, List, [], ◌∷◌, ◌++◌, Bool, true, false, ◌&&◌, not, length, take, drop, get_or, set, map, replicate, refl, sym, ap, ap₂, subst, ◌∙◌, arith, Option, Some, None, inl, inr, ◌⊎◌, ℤ, pos, append-nil}
+use Rattle.std.proofs.Common.{◌≡◌, ℕ, zero, suc, ◌+◌, ◌<◌, ◌≤◌, max, List, [], ◌∷◌, ◌++◌, Bool, true, false, ◌&&◌, not, length, take, drop, get_or, replicate, refl, sym, ap, ap₂, subst, ◌∙◌, arith, None, ℤ, pos, append-nil}
 use Rattle.std.proofs.Math.Path.{fun_ext}
 use Rattle.std.proofs.lemmas.List.{length-replicate, take_all}
 use Rattle.pt_value.specs.declared.token.Token.{Token}
-use Rattle.pt_meaning.specs.Basics.{Tag, Streams, at, Firing, Path, Log, silent, own, log_then, log_below, within_firing, trace, meetings_in}
-use Rattle.pt_meaning.specs.Machine.{Fault, Outcome, Done, Stuck, Stepping, Facts, Takes, front}
-use Rattle.pt_meaning.specs.Rounds.{Source, Own, Output, Net, Limit, rated, rated_outcome}
-use Rattle.pt_meaning.specs.Dataflow.{arrived, arrival, iterations, all_allow, allows, or_one, sdf_limits}
+use Rattle.pt_meaning.specs.Basics.{Streams, Log, silent, log_below, within_firing, trace, meetings_in}
+use Rattle.pt_meaning.specs.Machine.{Outcome, Done}
+use Rattle.pt_meaning.specs.Rounds.{Source, Own, Output, Limit}
+use Rattle.pt_meaning.specs.Dataflow.{arrived, iterations, all_allow, or_one, sdf_limits}
 use Rattle.pt_meaning.specs.Running.{zeros, Fits, total}
 use Rattle.pt_meaning.specs.LogsOfRuns.{RunningWith, SticksWith, log_at, silents, logs_then}
 use Rattle.pt_meaning.specs.CompositeRuns.{SdfRun, IsStuckBelow, sdf_start, sdf_bounds, times}
 use Rattle.pt_meaning.specs.Children.{Child, numbered, nodes}
-use Rattle.pt_meaning.specs.Meetings.{Meets, below_child}
+use Rattle.pt_meaning.specs.Meetings.{Meets}
 use Rattle.pt_meaning.specs.Tag.{origin}
 use Rattle.pt_meaning.specs.Node as tree
 use Rattle.pt_meaning.specs.Node.{step_at}
@@ -22,7 +22,7 @@ use Rattle.pt_flat.specs.Actors as row
 use Rattle.pt_flat.specs.Actors.{rows, no_actor, Matches}
 use Rattle.pt_flat.specs.Model.{sources_then, sources_of, places_of, ones, unit_rates, plan_of, empty_for, flag, all_flags}
 use Rattle.pt_flat.specs.Turns.{firing_at}
-use Rattle.pt_flat.proofs.Iteration.{way_token, held_then, held_from, nothing_of, as_count, counts_from, times_fired, past_at, kid, kids_from, limits_of, Supplied, counts-as, kids-as, SticksOn, sticks-from}
+use Rattle.pt_flat.proofs.Iteration.{way_token, held_then, held_from, as_count, counts_from, times_fired, past_at, kid, kids_from, limits_of, counts-as, kids-as, SticksOn, sticks-from}
 use Rattle.pt_flat.proofs.Firings.{Underway, told_if, kid_step, kid_facts, kid-takes, kid-sticks}
 
 -- ---- no flag is set
@@ -231,7 +231,7 @@ module _ (feeds : List (List ℕ)) (starts begun : List Actor) (j : ℕ) (m : Me
       SdfRun rows k (depth_of feeds) m origin (plan_of feeds) (empty_for (sources_of feeds)) (tree.nodes_of (nodes_at j starts begun)) [] (counts_from fired 0 feeds) (kids_from j fired 0 starts nows) (held_from fired fired values 0 feeds) ls
   as-run fired values nows ls w k =
       let P : List Limit → List (Child (tree.Node Token Actor)) → Streams Token → Type 0 =
-          λ limits kids start. RunningWith kid_facts (kid_step feeds starts begun j (depth_of feeds) m k) origin (plan_of feeds).net limits kids start (counts_from fired 0 feeds) (kids_from j fired 0 starts nows) (held_from fired fired values 0 feeds) ls in
+      λ limits kids start. RunningWith kid_facts (kid_step feeds starts begun j (depth_of feeds) m k) origin (plan_of feeds).net limits kids start (counts_from fired 0 feeds) (kids_from j fired 0 starts nows) (held_from fired fired values 0 feeds) ls in
       let start = empty_for (sources_of feeds) in
       let kids = kids_from j [] 0 starts begun in
       subst (λ x. P x (numbered 0 (tree.list_of (tree.nodes_of (nodes_at j starts begun)))) (arrived (sources_of feeds) [] start)) (sym (bounds-are feeds))
@@ -248,10 +248,10 @@ module _ (feeds : List (List ℕ)) (starts begun : List Actor) (j : ℕ) (m : Me
       let counts : counts_from fired 0 feeds ≡ times 1 (ones feeds) = counts-all fired 0 feeds all in
       let held : held_from fired fired values 0 feeds ≡ start = held-all fired fired values 0 feeds all in
       let run = sdf-ends rows k (depth_of feeds) m origin (past_at j) (core start) (plan_of feeds) start (tree.nodes_of (nodes_at j starts begun)) [] (counts_from fired 0 feeds) (kids_from j fired 0 starts nows) (held_from fired fired values 0 feeds) ls
-          (as-run fired values nows ls w k) (counts ∙ ap (λ n. times n (ones feeds)) (sym ones_are)) (subst (λ n. n < k) (sym (ap total counts ∙ total-ones feeds)) o) in
+      (as-run fired values nows ls w k) (counts ∙ ap (λ n. times n (ones feeds)) (sym ones_are)) (subst (λ n. n < k) (sym (ap total counts ∙ total-ones feeds)) o) in
       let kept : take (total (places_of feeds)) (held_from fired fired values 0 feeds) ++ [] ≡ start = append-nil _ ∙ ap (λ X. take (total (places_of feeds)) X) held ∙ take_all (total (places_of feeds)) start (omega (arith, empty-length feeds)) in
       run ∙ ap₂ (λ (X : Streams Token) (ns : List (tree.Node Token Actor)). let r : Outcome Token (tree.Node Token Actor) = Done (tree.Composite (past_at (suc j)) (core start) (core X) (tree.nodes_of ns)) [] (within_firing j (log_below ls)) in r)
-          kept (nodes-all j fired 0 feeds starts nows long all)
+      kept (nodes-all j fired 0 feeds starts nows long all)
 
   -- where an actor overflows, the firing of the model is stuck at its place, and has logged what the actors have
   pub iteration-sticks : (fired : List Bool) (values : List ℤ) (nows : List Actor) (ls : List (Log Token)) (w : Underway feeds starts begun j (depth_of feeds) m fired values nows ls) (i : ℕ) → i < length feeds → flag fired i ≡ false → all_flags fired (get_or feeds i []) ≡ true →

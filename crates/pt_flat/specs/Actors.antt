@@ -3,7 +3,7 @@ use Rattle.std.specs.Prelude.{◌≡◌, ℕ, ◌^◌, ◌≤◌, length, nat_lt
 use Rattle.pt_value.specs.declared.token.Token.{Token}
 use Rattle.pt_value.specs.declared.token.Token.TheVariants.{Int}
 use Rattle.pt_meaning.specs.Basics.{Streams, Tag}
-use Rattle.pt_meaning.specs.Machine.{Need, Counts, Partial}
+use Rattle.pt_meaning.specs.Machine.{Need, Counts}
 use Rattle.pt_meaning.specs.Node as tree
 use Rattle.pt_flat.specs.declared.actor.Ramp.{Ramp}
 use Rattle.pt_flat.specs.declared.actor.Scale.{Scale}
@@ -27,7 +27,7 @@ abbrev pub exactly : {S : Type 0} → S → ℤ → Firing S
 exactly after n = if fits_i64 n then Gave after n else Overflows
 
 abbrev pub narrowed_of : ℤ → Result ℤ Overflow
-narrowed_of n = if fits_i64 n then Ok n else Err record { }
+narrowed_of n = if fits_i64 n then Ok n else Err record {}
 
 -- Ramp gives its next number, and the one after that is a step more
 abbrev pub ramp_firing : Ramp → Firing Ramp
@@ -145,5 +145,4 @@ rows = record { need = need; first = λ a. []; next = λ a. None; react = react;
 -- the call made this firing; where it overflows the actor is as before
 abbrev pub Makes : {S : Type 0} → Firing S → S → S → Result ℤ Overflow → Type 0
 Makes (Gave after n) old new result = (new ≡ after) × (result ≡ Ok n)
-Makes Overflows old new result = (new ≡ old) × (result ≡ Err record { })
-
+Makes Overflows old new result = (new ≡ old) × (result ≡ Err record {})

@@ -1,8 +1,8 @@
 -- A flat dataflow model: what it is as a node of the definitions.
-use Rattle.std.specs.Prelude.{All, ◌≡◌, ℕ, zero, suc, ◌<◌, length, get_or, set, replicate, List, [], ◌∷◌, Bool, true, false, ◌&&◌, Some, None}
+use Rattle.std.specs.Prelude.{All, ◌≡◌, ℕ, ◌<◌, length, get_or, set, replicate, List, [], ◌∷◌, Bool, true, false, ◌&&◌}
 use Rattle.pt_value.specs.declared.token.Token.{Token}
 use Rattle.pt_meaning.specs.Basics.{Streams}
-use Rattle.pt_meaning.specs.Rounds.{Source, Output, Net}
+use Rattle.pt_meaning.specs.Rounds.{Source, Output}
 use Rattle.pt_meaning.specs.Dataflow.{SdfPlan}
 use Rattle.pt_meaning.specs.Node as tree
 use Rattle.pt_flat.specs.declared.actor.Actor.{Actor}

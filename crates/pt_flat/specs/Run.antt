@@ -3,8 +3,7 @@ use Rattle.std.specs.Prelude.{◌≡◌, ℕ, ◌<◌, ◌++◌, length, get_or,
 use Rattle.pt_value.specs.declared.token.Token.{Token}
 use Rattle.pt_value.specs.declared.token.Token.TheVariants.{Int}
 use Rattle.pt_meaning.specs.Basics.{Tag, Path, Log, trace, meetings_in}
-use Rattle.pt_meaning.specs.Machine.{Fault}
-use Rattle.pt_meaning.specs.Job.{Schedule, Iterations, IsPrefixOfMeaning, IsMeaning, EndsBy, IsStuckPlace}
+use Rattle.pt_meaning.specs.Job.{Iterations, IsPrefixOfMeaning, IsMeaning, EndsBy, IsStuckPlace}
 use Rattle.pt_meaning.specs.Tag.{origin}
 use Rattle.pt_meaning.specs.Schedule.{sdf_top}
 use Rattle.pt_meaning.specs.Node as tree

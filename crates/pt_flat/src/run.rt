@@ -74,11 +74,7 @@ fn iterate(
 }
 
 /// Pushes the last number of each recorded actor to its trace.
-fn push_all(
-    traces: &mut Vec<Numbers>,
-    recorded: &[usize],
-    values: &[i64],
-) -> Result<(), AllocError>
+fn push_all(traces: &mut Vec<Numbers>, recorded: &[usize], values: &[i64]) -> Result<(), AllocError>
     requires traces { length traces.old.items ≡ length recorded.now }
     requires values { All (λ r. r < length values.now) recorded.now }
     ensures { OnOk result (AllPushed recorded.now values.now traces.old.items traces.new.items) }

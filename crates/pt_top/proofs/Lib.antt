@@ -3,3 +3,5 @@ pub mod InputLaws
 pub mod ActorLaws
 pub mod ModelLaws
 pub mod ReportLaws
+pub mod Lines
+pub mod AnswerLaws

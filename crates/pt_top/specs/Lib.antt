@@ -1,3 +1,4 @@
 pub mod Integer
 pub mod Model
 pub mod Reply
+pub mod Outcome

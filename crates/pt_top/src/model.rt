@@ -193,11 +193,7 @@ fn no_inputs(alloc: Global, count: usize) -> Result<Vec<Inputs>, AllocError>
 }
 
 /// What comes to the places of each actor.
-fn inputs_of(
-    alloc: Global,
-    channels: &[Channel],
-    count: usize,
-) -> Result<Vec<Inputs>, AllocError>
+fn inputs_of(alloc: Global, channels: &[Channel], count: usize) -> Result<Vec<Inputs>, AllocError>
     requires inner { All IsInner channels.now }
     requires few { length channels.now ≤ 100000 }
     ensures some { IfOk result (λ inputs. AreInputs channels.now 1 inputs.items) }
@@ -263,11 +259,7 @@ fn feeds_in(alloc: Global, inputs: Vec<Inputs>) -> Result<Vec<Feeds>, AllocError
 }
 
 /// The flat model of entities and the channels between them.
-fn flat_of(
-    alloc: Global,
-    channels: &[Channel],
-    entities: &[NetEntity],
-) -> Result<Flat, ModelFault>
+fn flat_of(alloc: Global, channels: &[Channel], entities: &[NetEntity]) -> Result<Flat, ModelFault>
     requires inner { All IsInner channels.now }
     requires few { length channels.now ≤ 100000 }
     ensures flat { IfOk result (λ f. IsFlat channels.now entities.now f.actors.items f.feeds.items) }
@@ -298,6 +290,7 @@ pub struct Model {
 }
 
 const MOST_ACTORS: usize = 50;
+
 const MOST_CHANNELS: usize = 100_000;
 
 /// Whether the top and the transparent composites have nothing but children, links and a director.

@@ -1,4 +1,4 @@
-use Rattle.std.proofs.Common.{arith, rules, ℕ, ◌<◌, length, get_or, ℤ, pos, ◌≡◌}
+use Rattle.std.proofs.Common.{arith, rules, get_or, pos}
 use Rattle.std.proofs.lemmas.Int.{ints}
 use mir.Syntax.{w64}
 use mir.Val.{SFits}

@@ -1,4 +1,4 @@
-use Rattle.std.proofs.Common.{◌≡◌, ◌<◌, ℕ, length, List, Bool, ◌++◌, arith, rules, subst, ap, ◌∙◌, sym, append-nil, replicate, true, false}
+use Rattle.std.proofs.Common.{◌≡◌, ◌<◌, ℕ, length, arith, subst, append-nil, replicate, true, false}
 use Rattle.pt_flat.specs.Model.{flag, Orders, IsReady, IsStuck}
 use Rattle.pt_flat.proofs.Orders.{fewer, no-order}
 use Rattle.pt_flat.proofs.flat.find_order.Goals as goal

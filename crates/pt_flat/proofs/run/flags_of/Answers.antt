@@ -1,4 +1,4 @@
-use Rattle.std.proofs.Common.{◌≡◌, ℕ, ◌<◌, length, get_or, arith, rules, ◌∙◌}
+use Rattle.std.proofs.Common.{◌<◌, length, get_or, arith, rules, ◌∙◌}
 use Rattle.std.proofs.lemmas.List.{length-set}
 use Rattle.pt_flat.proofs.Waiting.{waiting-more}
 use Rattle.pt_flat.proofs.run.flags_of.Goals as goal

@@ -1,4 +1,4 @@
-use Rattle.std.proofs.Common.{◌≡◌, ℕ, ◌<◌, ◌≤◌, ◌++◌, ◌∷◌, [], length, get_or, pos}
+use Rattle.std.proofs.Common.{◌≡◌, ℕ, ◌<◌, ◌≤◌, ◌++◌, [], length, get_or, pos}
 use Rattle.pt_flat.specs.Model.{flag}
 use Rattle.pt_flat.specs.Run.{number_unless}
 use Rattle.pt_flat.proofs.run.push_fired.Given as goal

@@ -1,12 +1,11 @@
-use Rattle.std.proofs.Common.{◌≡◌, ◌<◌, ◌≤◌, ◌+◌, ℕ, ℤ, List, Result, Ok, Err, length, drop, take, get_or, arith, ap, sym, ◌∙◌, subst, add-one, refl, replicate, pos}
-use Rattle.std.proofs.lemmas.List.{length-replicate}
+use Rattle.std.proofs.Common.{◌≡◌, ◌<◌, ℕ, ℤ, List, Result, Ok, Err, length, drop, get_or, arith, ap, sym, ◌∙◌, subst, add-one}
 use Rattle.pt_meaning.specs.Basics.{silent}
 use Rattle.pt_flat.proofs.Course.{After}
 use Rattle.std.specs.List.{All}
 use Rattle.pt_flat.specs.declared.actor.Actor.{Actor}
-use Rattle.pt_flat.specs.Model.{IsLawful, InRange}
-use Rattle.pt_flat.specs.Turns.{Comes, Finished, Stopped, turned}
-use Rattle.pt_flat.specs.Run.{IsRun, AllDone, Overflow, AreWaiting, FiredPushed, AllPushed}
+use Rattle.pt_flat.specs.Model.{InRange}
+use Rattle.pt_flat.specs.Turns.{Comes, Finished, turned}
+use Rattle.pt_flat.specs.Run.{AreWaiting, FiredPushed, AllPushed}
 use Rattle.pt_flat.proofs.Steps.{Kept, begun, kept-more, run-stops, run-ends, in-range, told-at-start}
 use Rattle.pt_flat.proofs.run.run_flat.Goals as goal
 
@@ -52,7 +51,7 @@ returns-in-Err c =
     let order = c.args.flat.now.order.items in
     let p : ℕ = c.in-Err.place in
     let comes : Comes feeds order c.loop-firing.actors.items c.loop-firing.values.items (Err p) c.iterate.new.actors.items c.iterate.new.values.items =
-        comes-as feeds c.as_slice-feeds.result.now order c.as_slice-order.result.now c.loop-firing.actors.items c.loop-firing.values.items (Err p) c.iterate.new.actors.items c.iterate.new.values.items c.as_slice-feeds.ensures.value c.as_slice-order.ensures.value c.in-Err.ensures.comes in
+    comes-as feeds c.as_slice-feeds.result.now order c.as_slice-order.result.now c.loop-firing.actors.items c.loop-firing.values.items (Err p) c.iterate.new.actors.items c.iterate.new.values.items c.as_slice-feeds.ensures.value c.as_slice-order.ensures.value c.in-Err.ensures.comes in
     let wide : length c.deref.result.now ≡ length feeds = ap (λ v. length v) c.deref.ensures.value ∙ c.in-Err.ensures.wide ∙ c.loop-firing.invariant.wide in
     let s = c.in_ok-traces-2.ensures in
     let waiting : AreWaiting (length feeds) (drop p order) s.0 = subst (λ n. AreWaiting n (drop p order) s.0) wide (subst (λ o. AreWaiting (length c.deref.result.now) (drop p o) s.0) c.as_slice-order.ensures.value s.1) in
@@ -71,7 +70,7 @@ loop-firing-preserved c =
     let feeds = c.args.flat.now.feeds.items in
     let order = c.args.flat.now.order.items in
     let comes : turned feeds order c.loop-firing.actors.items c.loop-firing.values.items ≡ Finished c.iterate.new.actors.items c.iterate.new.values.items =
-        comes-as feeds c.as_slice-feeds.result.now order c.as_slice-order.result.now c.loop-firing.actors.items c.loop-firing.values.items (Ok c.in_default.field-0) c.iterate.new.actors.items c.iterate.new.values.items c.as_slice-feeds.ensures.value c.as_slice-order.ensures.value c.in_default.ensures.comes in
+    comes-as feeds c.as_slice-feeds.result.now order c.as_slice-order.result.now c.loop-firing.actors.items c.loop-firing.values.items (Ok c.in_default.field-0) c.iterate.new.actors.items c.iterate.new.values.items c.as_slice-feeds.ensures.value c.as_slice-order.ensures.value c.in_default.ensures.comes in
     let pushed : AllPushed c.args.recorded.now c.iterate.new.values.items c.loop-firing.traces.items c.push_all.new.traces.items = subst (λ v. AllPushed c.args.recorded.now v c.loop-firing.traces.items c.push_all.new.traces.items) c.deref-in-loop-firing.ensures.value c.in_ok-push_all.ensures in
     subst (λ n. Kept actors feeds c.args.iterations n c.iterate.new.actors.items c.iterate.new.values.items c.args.recorded.now c.push_all.new.traces.items) (sym (add-one c.loop-firing.firing))
     (kept-more actors feeds order c.args.iterations c.requires.lawful c.loop-firing.firing c.loop-firing.actors.items c.iterate.new.actors.items c.loop-firing.values.items c.iterate.new.values.items c.args.recorded.now c.loop-firing.traces.items c.push_all.new.traces.items

@@ -15,5 +15,5 @@ returns-then-not-are_matched-clause-unbuilt c =
     let actors = some c.args.channels.now (subst (λ v. AreInputs c.args.channels.now 1 v) (sym value) c.in_ok-inputs.ensures.some) in
     let fed = c.in_ok-feeds.ensures c.args.channels.now c.in_ok-inputs.ensures.some ∙ ap (λ n. feeds_from c.args.channels.now 1 n) c.in_ok-inputs.ensures.count in
     let unmatched : AreMatched c.in-Some.actors.items c.in_ok-feeds.feeds.items → ⊥ =
-            λ m. never-true (c.if-not-are_matched.true) (c.are_matched.ensures.1 (subst (λ v. AreMatched v c.deref-3.result.now) (sym c.deref-2.ensures.value) (subst (λ v. AreMatched c.in-Some.actors.items v) (sym c.deref-3.ensures.value) m))) in
+    λ m. never-true (c.if-not-are_matched.true) (c.are_matched.ensures.1 (subst (λ v. AreMatched v c.deref-3.result.now) (sym c.deref-2.ensures.value) (subst (λ v. AreMatched c.in-Some.actors.items v) (sym c.deref-3.ensures.value) m))) in
     λ _. no-flat c.args.channels.now c.args.entities.now c.in-Some.actors.items c.in_ok-feeds.feeds.items actors fed unmatched
