@@ -13,3 +13,4 @@ pub mod Givers
 pub mod GiftFacts
 pub mod Singles
 pub mod WayFacts
+pub mod TableSteps

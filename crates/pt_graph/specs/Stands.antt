@@ -46,7 +46,7 @@ is_many p = has_one_at_least p.port.arity
 -- an input that has to have a link outside: one that is neither optional nor a multiport, of a library actor or an opaque
 -- composite that is neither the top nor a refinement
 abbrev pub needs_link : PortAt → Bool
-needs_link p = is_input p && has_one p.port.arity && is_kept p.standing && is_some p.standing.outer && not p.standing.is_refinement
+needs_link p = is_input p && has_one p.port.arity && is_kept p.standing && is_some p.standing.round.outer && not p.standing.round.is_refinement
 
 -- a port that has to have a link inside: one of a Composite with a director
 abbrev pub needs_link_inside : PortAt → Bool
