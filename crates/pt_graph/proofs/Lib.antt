@@ -14,3 +14,4 @@ pub mod GiftFacts
 pub mod Singles
 pub mod WayFacts
 pub mod TableSteps
+pub mod ChannelSteps

@@ -11,3 +11,4 @@ pub mod Ties
 pub mod Wiring
 pub mod Sources
 pub mod Origins
+pub mod ChannelTable

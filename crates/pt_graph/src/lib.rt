@@ -1,6 +1,7 @@
 //! The net of a model: its entities, and the channels between them.
 #![tactic(auto)]
 
+pub mod channels;
 mod checks;
 pub mod groups;
 mod names;
