@@ -15,3 +15,5 @@ pub mod Singles
 pub mod WayFacts
 pub mod TableSteps
 pub mod ChannelSteps
+pub mod Verdict
+pub mod RecordSteps

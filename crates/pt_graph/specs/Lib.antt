@@ -12,3 +12,4 @@ pub mod Wiring
 pub mod Sources
 pub mod Origins
 pub mod ChannelTable
+pub mod Recorded

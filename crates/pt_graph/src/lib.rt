@@ -7,6 +7,7 @@ pub mod groups;
 mod names;
 mod net;
 pub mod origins;
+pub mod records;
 mod refusal;
 pub mod resolve;
 pub mod sources;
