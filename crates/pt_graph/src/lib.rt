@@ -3,6 +3,7 @@
 
 pub mod channels;
 mod checks;
+pub mod copies;
 pub mod groups;
 mod names;
 mod net;
