@@ -8,6 +8,7 @@ pub mod TieSteps
 pub mod WireFacts
 pub mod PortTests
 pub mod Counts
+pub mod Directors
 pub mod Members
 pub mod Givers
 pub mod GiftFacts

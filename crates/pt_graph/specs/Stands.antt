@@ -126,10 +126,23 @@ abbrev pub IsTold : Code → (List ℕ → Type 0) → DocFault → Type 0
 IsTold code IsPlace faults.Memory = Unit {0}
 IsTold code IsPlace (faults.Refused r) = (r.code ≡ code) × IsPlace r.path
 
--- this cause to refuse the job, among those that this crate knows, stands at that path
+-- this cause to refuse, among those that this crate knows, stands at that path, where a job has these tables and records
+-- these texts
+abbrev pub StandsIn : Tables → List (List ℕ) → Code → List ℕ → Type 0
+StandsIn t records code.Link path = IsLinkFault t path
+StandsIn t records code.TwoSources path = IsTwoSources t path
+StandsIn t records code.Record path = IsRecordFault t records path
+StandsIn t records code.Limit path = IsPastLimit t records path
+StandsIn t records _ path = ⊥
+
+-- a fault is want of memory, or a refusal that stands
+abbrev pub IsFaultIn : Tables → List (List ℕ) → DocFault → Type 0
+IsFaultIn t records faults.Memory = Unit {0}
+IsFaultIn t records (faults.Refused r) = StandsIn t records r.code r.path
+
+-- the same in a job
 abbrev pub Stands : Code → List ℕ → JobTree → Type 0
-Stands code.Link path job = IsLinkFault (tables_of job) path
-Stands code.TwoSources path job = IsTwoSources (tables_of job) path
-Stands code.Record path job = IsRecordFault (tables_of job) job.records path
-Stands code.Limit path job = IsPastLimit (tables_of job) job.records path
-Stands _ path job = ⊥
+Stands code path job = StandsIn (tables_of job) job.records code path
+
+abbrev pub IsFaultOf : JobTree → DocFault → Type 0
+IsFaultOf job fault = IsFaultIn (tables_of job) job.records fault

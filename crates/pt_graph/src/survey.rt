@@ -49,7 +49,7 @@ pub fn path_below(alloc: Global, path: &str, name: &str) -> Result<Text, AllocEr
     }
 }
 
-fn is_director(property: &Property) -> bool
+pub fn is_director(property: &Property) -> bool
     ensures { result ≡ standing.is_director (property_view property.now) }
 {
     !is_layout(property.name.as_str())
