@@ -16,16 +16,16 @@ abbrev pub inside_key : PortAt → ℕ × List ℕ
 inside_key p = (p.entity, p.port.name)
 
 abbrev pub outside_key : PortAt → Option ℕ × List ℕ
-outside_key p = (p.standing.outer, outside_text p)
+outside_key p = (p.standing.round.outer, outside_text p)
 
 abbrev pub relation_key : RelationAt → ℕ × List ℕ
 relation_key r = (r.composite, r.name)
 
 -- one key more
-pub outside_next : (keys : List (Option ℕ × Name)) (ports : List PlacedPort) (texts : List (List ℕ)) (i : ℕ) (p : PlacedPort) (text : List ℕ) (s : Name) → i < length ports → p ≡ get_or ports i p → text ≡ get_or texts i text → s.now ≡ text → texts ≡ map outside_text (ports_view ports) → map child_view keys ≡ map outside_key (ports_view (take i ports)) → map child_view (keys ++ (p.placed.now.outer, s) ∷ []) ≡ map outside_key (ports_view (take (i + 1) ports))
+pub outside_next : (keys : List (Option ℕ × Name)) (ports : List PlacedPort) (texts : List (List ℕ)) (i : ℕ) (p : PlacedPort) (text : List ℕ) (s : Name) → i < length ports → p ≡ get_or ports i p → text ≡ get_or texts i text → s.now ≡ text → texts ≡ map outside_text (ports_view ports) → map child_view keys ≡ map outside_key (ports_view (take i ports)) → map child_view (keys ++ (p.placed.now.round.outer, s) ∷ []) ≡ map outside_key (ports_view (take (i + 1) ports))
 outside_next keys ports texts i p text s within is is_text is_s all so_far =
-    map_push child_view keys (p.placed.now.outer, s)
-    ∙ ap (λ (t : List ℕ). map child_view keys ++ (p.placed.now.outer, t) ∷ []) named
+    map_push child_view keys (p.placed.now.round.outer, s)
+    ∙ ap (λ (t : List ℕ). map child_view keys ++ (p.placed.now.round.outer, t) ∷ []) named
     ∙ ap (λ (ks : List (Option ℕ × List ℕ)). ks ++ outside_key (port_at p) ∷ []) so_far
     ∙ ap (λ (q : PlacedPort). map outside_key (ports_view (take i ports)) ++ outside_key (port_at q) ∷ []) is
     ∙ sym (map_push outside_key (ports_view (take i ports)) (port_at (get_or ports i p)))

@@ -8,8 +8,13 @@ pub mod TieSteps
 pub mod WireFacts
 pub mod PortTests
 pub mod Counts
+pub mod Directors
 pub mod Members
 pub mod Givers
 pub mod GiftFacts
 pub mod Singles
 pub mod WayFacts
+pub mod TableSteps
+pub mod ChannelSteps
+pub mod Verdict
+pub mod RecordSteps

@@ -4,7 +4,7 @@ use Rattle.std.proofs.lemmas.List.{take_more, append-nil, length-take-le}
 use Rattle.std.proofs.lemmas.List.Concat.{flat_map-append}
 use Rattle.std.proofs.lemmas.List.Elements.{Contains-append_left, Contains-append_right, Contains-append_cases, Contains-get_or}
 use Rattle.std.proofs.lemmas.Option.{slice_get-get_or, slice_get_within, get_or_from_slice_get}
-use Rattle.std.specs.List.{Contains, filter_map, cons_option, flat_map, enumerate_from, slice_get}
+use Rattle.std.specs.List.{AllZip, Contains, filter_map, cons_option, flat_map, enumerate_from, slice_get}
 
 pub contains_here : {X : Type 0} (x : X) (xs : List X) → Contains (x ∷ xs) x
 contains_here x xs = (0, omega arith, refl)
@@ -114,3 +114,45 @@ flat_more {X = X} {Y = Y} f xs i x within is =
     ∙ flat_map-append f (enumerate_from 0 (take i xs)) ((0 + length (take i xs), x) ∷ [])
     ∙ ap (λ (ys : List Y). flat_map f (enumerate_from 0 (take i xs)) ++ ys) (append-nil (f (0 + length (take i xs), x)))
     ∙ ap (λ (n : ℕ). flat_map f (enumerate_from 0 (take i xs)) ++ f (n, x)) (let l = length-take-le i xs (omega arith) in let z : 0 + length (take i xs) ≡ i = omega (arith, l) in z)
+
+-- ---- two lists place by place
+
+pub zip_append : {A B : Type 0} (R : A → B → Type 0) (xs xs' : List A) (ys ys' : List B) → AllZip R xs ys → AllZip R xs' ys' → AllZip R (xs ++ xs') (ys ++ ys')
+zip_append R [] xs' [] ys' z w = w
+zip_append R [] xs' (y ∷ ys) ys' z w = absurd z
+zip_append R (x ∷ xs) xs' [] ys' z w = absurd z
+zip_append R (x ∷ xs) xs' (y ∷ ys) ys' z w = (z.0, zip_append R xs xs' ys ys' z.1 w)
+
+pub zip_push : {A B : Type 0} (R : A → B → Type 0) (xs : List A) (ys : List B) (x : A) (y : B) → AllZip R xs ys → R x y → AllZip R (xs ++ x ∷ []) (ys ++ y ∷ [])
+zip_push R xs ys x y z r = zip_append R xs (x ∷ []) ys (y ∷ []) z (r, tt)
+
+pub zip_weaker : {A B : Type 0} (R S : A → B → Type 0) → ((x : A) (y : B) → R x y → S x y) → (xs : List A) (ys : List B) → AllZip R xs ys → AllZip S xs ys
+zip_weaker R S f [] [] z = tt
+zip_weaker R S f [] (y ∷ ys) z = absurd z
+zip_weaker R S f (x ∷ xs) [] z = absurd z
+zip_weaker R S f (x ∷ xs) (y ∷ ys) z = (f x y z.0, zip_weaker R S f xs ys z.1)
+
+pub zip_length : {A B : Type 0} (R : A → B → Type 0) (xs : List A) (ys : List B) → AllZip R xs ys → length xs ≡ length ys
+zip_length R [] [] z = refl
+zip_length R [] (y ∷ ys) z = absurd z
+zip_length R (x ∷ xs) [] z = absurd z
+zip_length R (x ∷ xs) (y ∷ ys) z = ap suc (zip_length R xs ys z.1)
+
+pub zip_left : {A B : Type 0} (R : A → B → Type 0) (xs : List A) (ys : List B) (x : A) → AllZip R xs ys → Contains xs x → (y : B) × Contains ys y × R x y
+zip_left R [] ys x z w = absurd (none_in_nil x w)
+zip_left R (a ∷ as') [] x z w = absurd z
+zip_left R (a ∷ as') (b ∷ bs) x z w =
+    elim (contains_cases a as' x w) [
+      | inl e ↦ (b, contains_here b bs, subst (λ u. R u b) e z.0)
+      | inr h ↦ (let r = zip_left R as' bs x z.1 h in (r.0, contains_later b bs r.0 r.1, r.2))
+    ]
+
+pub zip_right : {A B : Type 0} (R : A → B → Type 0) (xs : List A) (ys : List B) (y : B) → AllZip R xs ys → Contains ys y → (x : A) × Contains xs x × R x y
+zip_right R [] [] y z w = absurd (none_in_nil y w)
+zip_right R [] (b ∷ bs) y z w = absurd z
+zip_right R (a ∷ as') [] y z w = absurd z
+zip_right R (a ∷ as') (b ∷ bs) y z w =
+    elim (contains_cases b bs y w) [
+      | inl e ↦ (a, contains_here a as', subst (λ u. R a u) e z.0)
+      | inr h ↦ (let r = zip_right R as' bs y z.1 h in (r.0, contains_later a as' r.0 r.1, r.2))
+    ]

@@ -22,8 +22,8 @@ composite_ports own e = ap (λ (b : Bool). ports_of_kind (cond b (Some Composite
 
 composite_of : (s : Standing) → IsTrue (not (is_kept s)) → is_composite (parts s.tree) ≡ true
 composite_of s free =
-    let a = or_parts (is_none s.outer || not (is_composite (parts s.tree))) s.is_directed (not-true (is_kept s) free) in
-    not-false (is_composite (parts s.tree)) (or_parts (is_none s.outer) (not (is_composite (parts s.tree))) a.0).1
+    let a = or_parts (is_none s.round.outer || not (is_composite (parts s.tree))) s.is_directed (not-true (is_kept s) free) in
+    not-false (is_composite (parts s.tree)) (or_parts (is_none s.round.outer) (not (is_composite (parts s.tree))) a.0).1
 
 pub transparent_single : (n : ℕ) (p : PortAt) → IsOwned n p → IsTrue (not (is_kept p.standing)) → is_single p ≡ true
 transparent_single n p own free =

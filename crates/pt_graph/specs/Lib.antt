@@ -11,3 +11,5 @@ pub mod Ties
 pub mod Wiring
 pub mod Sources
 pub mod Origins
+pub mod ChannelTable
+pub mod Recorded

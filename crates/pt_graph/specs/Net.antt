@@ -84,47 +84,31 @@ pub record TransparentTree : Type 0 where
   pub within : Option ℕ
   pub parameters : List PropertyTree
 
-module _ (all : List Standing) where
-  -- the number in the net of an entity of the document: the library actors and opaque composites before it
-  abbrev pub net_number : ℕ → ℕ
-  net_number e = count_by is_kept (take e all)
+abbrev pub entity_tree : Standing → NetEntityTree
+entity_tree s =
+    let own = parts s.tree in
+    record { path = s.path; class = own.class; director = option_map director_tree (find is_director own.properties); parent = s.round.parent; within = s.round.within; ports = net_ports own; parameters = filter is_parameter own.properties; variables = filter is_variable own.properties; states = own.states; initial = own.initial; transitions = own.transitions }
 
-  -- the number of a transparent composite: those before it
-  abbrev pub transparent_number : ℕ → ℕ
-  transparent_number e = count_by (λ s. not (is_kept s)) (take e all)
+abbrev pub transparent_tree : Standing → TransparentTree
+transparent_tree s =
+    record { path = s.path; parent = s.round.parent; within = s.round.within; parameters = filter is_parameter (parts s.tree).properties }
 
-  abbrev pub parent_of : Standing → Option ℕ
-  parent_of s = option_map net_number s.around
+-- ---- channels
 
-  -- the transparent composite that an entity is a child of
-  abbrev pub within_of : Standing → Option ℕ
-  within_of s = if option_eq ◌==◌ s.outer s.around then None else option_map transparent_number s.outer
+-- a port of the net
+abbrev pub net_port : PortAt → NetPort
+net_port p = record { entity = p.standing.number; port = p.number }
 
-  abbrev pub entity_tree : Standing → NetEntityTree
-  entity_tree s =
-      let own = parts s.tree in
-      record { path = s.path; class = own.class; director = option_map director_tree (find is_director own.properties); parent = parent_of s; within = within_of s; ports = net_ports own; parameters = filter is_parameter own.properties; variables = filter is_variable own.properties; states = own.states; initial = own.initial; transitions = own.transitions }
+abbrev pub end_at : PortAt → ℕ → End
+end_at p index = record { entity = p.standing.number; port = p.number; index = index }
 
-  abbrev pub transparent_tree : Standing → TransparentTree
-  transparent_tree s =
-      record { path = s.path; parent = parent_of s; within = within_of s; parameters = filter is_parameter (parts s.tree).properties }
+-- the composite of a channel to this port: for an input the innermost opaque one round it, for an own output its own
+abbrev pub composite_of : PortAt → ℕ
+composite_of p = if is_input p then unwrap_or p.standing.round.parent 0 else p.standing.number
 
-  -- ---- channels
-
-  -- a port of the net
-  abbrev pub net_port : PortAt → NetPort
-  net_port p = record { entity = net_number p.entity; port = p.number }
-
-  abbrev pub end_at : PortAt → ℕ → End
-  end_at p index = record { entity = net_number p.entity; port = p.number; index = index }
-
-  -- the composite of a channel to this port: for an input the innermost opaque one round it, for an own output its own
-  abbrev pub composite_of : PortAt → ℕ
-  composite_of p = if is_input p then unwrap_or (parent_of p.standing) 0 else net_number p.entity
-
-  -- the channel from a port to a place
-  abbrev pub channel : PortAt → Place → Channel
-  channel from to = record { composite = composite_of to.at; from = end_at from 0; to = end_at to.at to.index }
+-- the channel from a port to a place
+abbrev pub channel : PortAt → Place → Channel
+channel from to = record { composite = composite_of to.at; from = end_at from 0; to = end_at to.at to.index }
 
 -- a pair of a source and a place is a channel exactly where a path of links, relation groups and transparent composites
 -- joins them
@@ -134,14 +118,14 @@ pub record IsChannel (t : Tables) (k : Channel) : Type 0 where
   pub place : Place
   pub is_place : Contains (all_places t) place
   pub reaches : ReachesIn t source source_at place
-  pub is : k ≡ channel t.entities source_at place
+  pub is : k ≡ channel source_at place
 
 -- this is the channel to that place
 pub record IsChannelTo (t : Tables) (place : Place) (k : Channel) : Type 0 where
   pub source : ℕ
   pub source_at : PortAt
   pub reaches : ReachesIn t source source_at place
-  pub is : k ≡ channel t.entities source_at place
+  pub is : k ≡ channel source_at place
 
 -- a text names an output port of a library actor or an opaque composite
 pub record Names (t : Tables) (text : List ℕ) (p : PortAt) : Type 0 where
@@ -152,7 +136,7 @@ pub record Names (t : Tables) (text : List ℕ) (p : PortAt) : Type 0 where
 
 -- a text names this port of the net
 abbrev pub Records : Tables → List ℕ → NetPort → Type 0
-Records t text port = (p : PortAt) × Names t text p × (port ≡ net_port t.entities p)
+Records t text port = (p : PortAt) × Names t text p × (port ≡ net_port p)
 
 -- ---- what the program holds
 
@@ -169,8 +153,8 @@ transparent_view t = record { path = t.path; parent = t.parent; within = t.withi
 -- the net of a job: its library actors and opaque composites, its transparent composites, and exactly its channels, in the
 -- order of their places; what comes in and what is recorded
 pub record IsNetOf (job : JobTree) (net : Net) : Type 0 where
-  pub each_entity : map entity_view net.entities.items ≡ map (entity_tree (entities job)) (filter is_kept (entities job))
-  pub each_transparent : map transparent_view net.transparent.items ≡ map (transparent_tree (entities job)) (filter (λ s. not (is_kept s)) (entities job))
+  pub each_entity : map entity_view net.entities.items ≡ map entity_tree (filter is_kept (entities job))
+  pub each_transparent : map transparent_view net.transparent.items ≡ map transparent_tree (filter (λ s. not (is_kept s)) (entities job))
   pub channels : (k : Channel) → Contains net.channels.items k ↔ IsChannel (tables_of job) k
   pub numbered : AllZip (IsChannelTo (tables_of job)) (all_places (tables_of job)) net.channels.items
   pub inputs : map view.input_view net.inputs.items ≡ job.inputs

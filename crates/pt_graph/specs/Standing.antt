@@ -1,6 +1,6 @@
 -- The entities of a job, in the order of the document.
-use Rattle.std.specs.Prelude.{ℕ, List, [], ◌∷◌, ◌++◌, length, Bool, true, false, not, ◌&&◌, ◌||◌, Option, Some, None, is_some, if◌then◌else◌, bytes_eq, codes}
-use Rattle.std.specs.List.{list_any}
+use Rattle.std.specs.Prelude.{ℕ, ◌-◌, List, [], ◌∷◌, ◌++◌, length, Bool, true, false, not, ◌&&◌, ◌||◌, Option, Some, None, is_some, if◌then◌else◌, bytes_eq, codes}
+use Rattle.std.specs.List.{list_any, count_by}
 use Rattle.std.specs.Option.{is_none}
 use Rattle.pt_moml.specs.Document.{PropertyTree, property_name, property_class, Parts, EntityTree, EntityTrees, entity, no_entities, one_entity, parts, entity_name, JobTree}
 use Rattle.pt_moml.specs.Classes.{director_row}
@@ -29,41 +29,57 @@ is_modal own = bytes_eq own.class (codes "Modal")
 abbrev pub is_kept_as : Option ℕ → Bool → Bool → Bool
 is_kept_as outer composite directed = is_none outer || not composite || directed
 
--- an entity where it stands: the entity round it, by its number in the document; the innermost one round it that stays in the
--- net; whether it is a refinement, a child of a Modal entity; whether it has a director; its path; and what
--- it is
-pub record Standing : Type 0 where
+-- what stands round an entity: the entity that it is a child of, by its number in the document; the innermost one that stays in
+-- the net, by its number there; where the entity is a child of a transparent composite, the number of that one; and whether
+-- it is a refinement, a child of a Modal entity
+pub record Round : Type 0 where
   pub outer : Option ℕ
-  pub around : Option ℕ
+  pub parent : Option ℕ
+  pub within : Option ℕ
   pub is_refinement : Bool
+
+-- an entity where it stands: what is round it; its number in the net, the entities before it that stay there; whether it has
+-- a director; its path; and what it is
+pub record Standing : Type 0 where
+  pub round : Round
+  pub number : ℕ
   pub is_directed : Bool
   pub path : List ℕ
   pub tree : EntityTree
 
 abbrev pub is_kept : Standing → Bool
-is_kept s = is_kept_as s.outer (is_composite (parts s.tree)) s.is_directed
+is_kept s = is_kept_as s.round.outer (is_composite (parts s.tree)) s.is_directed
 
--- an entity, and the entities round it
-abbrev pub standing : Option ℕ → Option ℕ → Bool → List ℕ → EntityTree → Standing
-standing outer around in_modal path e = record { outer = outer; around = around; is_refinement = in_modal; is_directed = has_director (parts e); path = path; tree = e }
+-- those of them that stay in the net
+abbrev pub kept_count : List Standing → ℕ
+kept_count all = count_by is_kept all
 
--- the innermost entity that stays in the net round those in an entity of this number
-abbrev pub around_in : ℕ → Standing → Option ℕ
-around_in n s = if is_kept s then Some n else s.around
+-- an entity behind those before it
+abbrev pub standing : List Standing → Round → List ℕ → EntityTree → Standing
+standing before round path e = record { round = round; number = kept_count before; is_directed = has_director (parts e); path = path; tree = e }
+
+-- what stands round the children of an entity of this number in the document
+abbrev pub round_in : ℕ → Standing → Round
+round_in n s =
+    record { outer = Some n; parent = if is_kept s then Some s.number else s.round.parent; within = if is_kept s then None else Some (n - s.number); is_refinement = is_modal (parts s.tree) }
 
 -- after the entities before it, an entity and all that are in it
 unfoldable mutual
-  pub with_entity : List Standing → Option ℕ → Option ℕ → Bool → List ℕ → EntityTree → List Standing
-  with_entity before outer around in_modal path (entity own inner) =
-      let s = standing outer around in_modal path (entity own inner) in
-      with_entities (before ++ s ∷ []) (length before) (around_in (length before) s) (is_modal own) path inner
+  pub with_entity : List Standing → Round → List ℕ → EntityTree → List Standing
+  with_entity before round path (entity own inner) =
+      let s = standing before round path (entity own inner) in
+      with_entities (before ++ s ∷ []) (round_in (length before) s) path inner
 
   -- the same for each of the children of an entity
-  pub with_entities : List Standing → ℕ → Option ℕ → Bool → List ℕ → EntityTrees → List Standing
-  with_entities before outer around in_modal path no_entities = before
-  with_entities before outer around in_modal path (one_entity e es) =
-      with_entities (with_entity before (Some outer) around in_modal (below path (entity_name e)) e) outer around in_modal path es
+  pub with_entities : List Standing → Round → List ℕ → EntityTrees → List Standing
+  with_entities before round path no_entities = before
+  with_entities before round path (one_entity e es) =
+      with_entities (with_entity before round (below path (entity_name e)) e) round path es
+
+-- nothing stands round the top
+abbrev pub no_round : Round
+no_round = record { outer = None; parent = None; within = None; is_refinement = false }
 
 -- the entities of a job: the top, and each other one behind the entity round it
 unfoldable pub entities : JobTree → List Standing
-entities job = with_entity [] None None false top_path job.model
+entities job = with_entity [] no_round top_path job.model

@@ -46,7 +46,7 @@ is_many p = has_one_at_least p.port.arity
 -- an input that has to have a link outside: one that is neither optional nor a multiport, of a library actor or an opaque
 -- composite that is neither the top nor a refinement
 abbrev pub needs_link : PortAt → Bool
-needs_link p = is_input p && has_one p.port.arity && is_kept p.standing && is_some p.standing.outer && not p.standing.is_refinement
+needs_link p = is_input p && has_one p.port.arity && is_kept p.standing && is_some p.standing.round.outer && not p.standing.round.is_refinement
 
 -- a port that has to have a link inside: one of a Composite with a director
 abbrev pub needs_link_inside : PortAt → Bool
@@ -126,10 +126,23 @@ abbrev pub IsTold : Code → (List ℕ → Type 0) → DocFault → Type 0
 IsTold code IsPlace faults.Memory = Unit {0}
 IsTold code IsPlace (faults.Refused r) = (r.code ≡ code) × IsPlace r.path
 
--- this cause to refuse the job, among those that this crate knows, stands at that path
+-- this cause to refuse, among those that this crate knows, stands at that path, where a job has these tables and records
+-- these texts
+abbrev pub StandsIn : Tables → List (List ℕ) → Code → List ℕ → Type 0
+StandsIn t records code.Link path = IsLinkFault t path
+StandsIn t records code.TwoSources path = IsTwoSources t path
+StandsIn t records code.Record path = IsRecordFault t records path
+StandsIn t records code.Limit path = IsPastLimit t records path
+StandsIn t records _ path = ⊥
+
+-- a fault is want of memory, or a refusal that stands
+abbrev pub IsFaultIn : Tables → List (List ℕ) → DocFault → Type 0
+IsFaultIn t records faults.Memory = Unit {0}
+IsFaultIn t records (faults.Refused r) = StandsIn t records r.code r.path
+
+-- the same in a job
 abbrev pub Stands : Code → List ℕ → JobTree → Type 0
-Stands code.Link path job = IsLinkFault (tables_of job) path
-Stands code.TwoSources path job = IsTwoSources (tables_of job) path
-Stands code.Record path job = IsRecordFault (tables_of job) job.records path
-Stands code.Limit path job = IsPastLimit (tables_of job) job.records path
-Stands _ path job = ⊥
+Stands code path job = StandsIn (tables_of job) job.records code path
+
+abbrev pub IsFaultOf : JobTree → DocFault → Type 0
+IsFaultOf job fault = IsFaultIn (tables_of job) job.records fault

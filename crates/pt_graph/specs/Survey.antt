@@ -1,20 +1,29 @@
 -- What a contract sees of the tables of a job.
-use Rattle.std.specs.Prelude.{ℕ, List, map}
+use Rattle.std.specs.Prelude.{◌≡◌, List, map}
 use Rattle.pt_moml.specs.Classes.{port_of}
 use Rattle.pt_moml.specs.View.{entity_view}
 use Rattle.pt_graph.specs.declared.survey.Placed.{Placed}
+use Rattle.pt_graph.specs.declared.survey.Entities.{Entities}
 use Rattle.pt_graph.specs.declared.tables.PlacedPort.{PlacedPort}
 use Rattle.pt_graph.specs.declared.tables.PlacedRelation.{PlacedRelation}
 use Rattle.pt_graph.specs.declared.tables.PlacedLink.{PlacedLink}
 use Rattle.pt_graph.specs.declared.tables.Tables.{Tables as HeldTables}
-use Rattle.pt_graph.specs.Standing.{Standing}
+use Rattle.pt_graph.specs.declared.survey.Round.{Round as HeldRound}
+use Rattle.pt_graph.specs.Standing.{Round, Standing, kept_count}
 use Rattle.pt_graph.specs.Table.{PortAt, RelationAt, LinkAt, Tables}
 
+abbrev pub round_view : HeldRound → Round
+round_view r = record { outer = r.outer; parent = r.parent; within = r.within; is_refinement = r.is_refinement }
+
 abbrev pub placed_view : Placed → Standing
-placed_view p = record { outer = p.outer; around = p.around; is_refinement = p.is_refinement; is_directed = p.is_directed; path = p.path; tree = entity_view p.entity.now }
+placed_view p = record { round = round_view p.round; number = p.number; is_directed = p.is_directed; path = p.path; tree = entity_view p.entity.now }
 
 abbrev pub table_view : List Placed → List Standing
 table_view ps = map placed_view ps
+
+-- the count is that of the entities that stay in the net
+abbrev pub IsCounted : Entities → Type 0
+IsCounted e = e.kept ≡ kept_count (table_view e.table.items)
 
 abbrev pub port_at : PlacedPort → PortAt
 port_at p = record { entity = p.entity; standing = placed_view p.placed.now; number = p.number; port = port_of p.port }

@@ -19,7 +19,7 @@ names_inside c text p = (c == p.entity) && bytes_eq text p.port.name
 
 -- in this composite the text is that of a child's port, seen from outside: the child, a dot and the port
 abbrev pub names_outside : ℕ → List ℕ → PortAt → Bool
-names_outside c text p = option_eq ◌==◌ (Some c) p.standing.outer && bytes_eq text (entity_name p.standing.tree ++ codes "." ++ p.port.name)
+names_outside c text p = option_eq ◌==◌ (Some c) p.standing.round.outer && bytes_eq text (entity_name p.standing.tree ++ codes "." ++ p.port.name)
 
 -- in this composite the text is that of a relation
 abbrev pub names_relation : ℕ → List ℕ → RelationAt → Bool

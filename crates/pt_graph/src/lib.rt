@@ -1,18 +1,24 @@
 //! The net of a model: its entities, and the channels between them.
 #![tactic(auto)]
 
+mod channels;
 mod checks;
-pub mod groups;
+mod copies;
+mod entities;
+mod flattening;
+mod groups;
 mod names;
 mod net;
-pub mod origins;
+mod origins;
+mod records;
 mod refusal;
-pub mod resolve;
-pub mod sources;
-pub mod survey;
-pub mod tables;
-pub mod ties;
-pub mod wire;
-pub mod wiring;
+mod resolve;
+mod sources;
+mod survey;
+mod tables;
+mod ties;
+mod wire;
+mod wiring;
 
+pub use flattening::flatten;
 pub use net::{Channel, End, Net, NetDirector, NetEntity, NetPort, Transparent};

@@ -61,7 +61,7 @@ fn outside_places<'k>(
 {
     let mut keys = Vec::with_capacity(alloc, ports.len())?;
     for (number, port) in ports.iter().enumerate() {
-        keys.push((port.placed.outer, texts[number].as_str()))?;
+        keys.push((port.placed.round.outer, texts[number].as_str()))?;
     }
     first_places(alloc, &keys)
 }

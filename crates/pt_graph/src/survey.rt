@@ -1,33 +1,40 @@
-ghost use Rattle.std.specs.Prelude.{◌≡◌, map, IfOk, OnOk};
+ghost use Rattle.std.specs.Prelude.{◌≡◌, ◌≤◌, [], ◌∷◌, ◌++◌, length, map, IfOk, OnOk};
 ghost use Rattle.std.specs.List.{list_any};
 ghost use Rattle.pt_moml.specs.View.{property_view, entity_view, job_view};
 ghost use Rattle.pt_moml.specs.Document.{parts};
 ghost use Rattle.pt_moml.specs.Names as names;
 ghost use Rattle.pt_graph.specs.Standing as standing;
-ghost use Rattle.pt_graph.specs.Survey.{placed_view, table_view};
+ghost use Rattle.pt_graph.specs.Survey.{placed_view, table_view, round_view};
 
 use pt_moml::{Entity, Job, Property, director_named, is_layout};
 use pt_value::Text;
 use std::alloc::{AllocError, Global};
 
-/// An entity where it stands: the entity round it and the innermost one round it that stays in the net, by their numbers
-/// in the document.
+/// What stands round an entity: the entity that it is a child of, by its number in the document; the innermost one that
+/// stays in the net, by its number there; and the transparent composite that it is a child of.
+#[derive(Clone, Copy)]
+pub struct Round {
+    pub outer: Option<usize>,
+    pub parent: Option<usize>,
+    pub within: Option<usize>,
+    pub is_refinement: bool,
+}
+
+/// An entity where it stands, with its number in the net: how many that stay there stand before it.
 #[derive(Drop)]
 pub struct Placed<'a> {
-    pub outer: Option<usize>,
-    pub around: Option<usize>,
-    pub is_refinement: bool,
+    pub round: Round,
+    pub number: usize,
     pub is_directed: bool,
     pub path: Text,
     pub entity: &'a Entity,
 }
 
-/// What stands round the children of an entity.
-#[derive(Clone, Copy)]
-struct Round {
-    outer: Option<usize>,
-    around: Option<usize>,
-    in_modal: bool,
+/// The entities so far, and how many of them stay in the net.
+#[derive(Drop)]
+struct Entities<'a> {
+    table: Vec<Placed<'a>>,
+    kept: usize,
 }
 
 /// The path of what has this name in the entity of that path.
@@ -42,7 +49,7 @@ pub fn path_below(alloc: Global, path: &str, name: &str) -> Result<Text, AllocEr
     }
 }
 
-fn is_director(property: &Property) -> bool
+pub fn is_director(property: &Property) -> bool
     ensures { result ≡ standing.is_director (property_view property.now) }
 {
     !is_layout(property.name.as_str())
@@ -64,68 +71,87 @@ fn has_director(properties: &[Property]) -> bool
 }
 
 impl<'a> Placed<'a> {
-    fn new(
-        alloc: Global,
-        round: Round,
-        path: &str,
-        entity: &'a Entity,
-    ) -> Result<Placed<'a>, AllocError>
-        ensures { IfOk result (λ placed. placed_view placed ≡ standing.standing round.outer round.around round.in_modal path.now (entity_view entity.now)) }
-    {
-        Ok(Placed {
-            outer: round.outer,
-            around: round.around,
-            is_refinement: round.in_modal,
-            is_directed: has_director(&entity.properties),
-            path: Text::of(alloc, path)?,
-            entity,
-        })
-    }
-
     /// Whether the entity stays in the net.
     pub fn is_kept(&self) -> bool
         ensures { result ≡ standing.is_kept (placed_view self.now) }
     {
-        self.outer.is_none() || self.entity.class.as_str() != "Composite" || self.is_directed
+        self.round.outer.is_none() || self.entity.class.as_str() != "Composite" || self.is_directed
     }
 
-    /// What stands round the children of the entity, if this is its number.
+    /// What stands round the children of the entity, if this is its number in the document.
     fn round_inside(&self, number: usize) -> Round
-        ensures outer { result.outer ≡ Some number }
-        ensures around { result.around ≡ standing.around_in number (placed_view self.now) }
-        ensures modal { result.in_modal ≡ standing.is_modal (parts (placed_view self.now).tree) }
+        requires { self.now.number ≤ number }
+        ensures { round_view result ≡ standing.round_in number (placed_view self.now) }
     {
+        let is_kept = self.is_kept();
         Round {
             outer: Some(number),
-            around: if self.is_kept() {
-                Some(number)
+            parent: if is_kept {
+                Some(self.number)
             } else {
-                self.around
+                self.round.parent
             },
-            in_modal: self.entity.class.as_str() == "Modal",
+            within: if is_kept {
+                None
+            } else {
+                Some(number - self.number)
+            },
+            is_refinement: self.entity.class.as_str() == "Modal",
         }
     }
 }
 
-/// Appends an entity and all that are in it.
-fn add_entity<'a>(
-    alloc: Global,
-    table: &mut Vec<Placed<'a>>,
-    round: Round,
-    path: &str,
-    entity: &'a Entity,
-) -> Result<(), AllocError>
-    ensures { OnOk result (table_view table.new.items ≡ standing.with_entity (table_view table.old.items) round.outer round.around round.in_modal path.now (entity_view entity.now)) }
-{
-    let number = table.len();
-    let placed = Placed::new(alloc, round, path, entity)?;
-    let inner = placed.round_inside(number);
-    table.push(placed)?;
-    for child in &entity.entities {
-        let path_inside = path_below(alloc, path, child.name.as_str())?;
-        add_entity(alloc, table, inner, path_inside.as_str(), child)?;
+impl<'a> Entities<'a> {
+    ghost use Rattle.pt_graph.specs.Survey.{IsCounted};
+
+    /// Appends an entity, and gives what stands round its children.
+    fn add(
+        &mut self,
+        alloc: Global,
+        round: Round,
+        path: &str,
+        entity: &'a Entity,
+    ) -> Result<Round, AllocError>
+        requires { IsCounted self.old }
+        ensures counted { OnOk result (IsCounted self.new) }
+        ensures table { OnOk result (table_view self.new.table.items ≡ table_view self.old.table.items ++ standing.standing (table_view self.old.table.items) (round_view round) path.now (entity_view entity.now) ∷ []) }
+        ensures round { IfOk result (λ inside. round_view inside ≡ standing.round_in (length (table_view self.old.table.items)) (standing.standing (table_view self.old.table.items) (round_view round) path.now (entity_view entity.now))) }
+    {
+        let placed = Placed {
+            round,
+            number: self.kept,
+            is_directed: has_director(&entity.properties),
+            path: Text::of(alloc, path)?,
+            entity,
+        };
+        let inside = placed.round_inside(self.table.len());
+        let is_kept = placed.is_kept();
+        self.table.push(placed)?;
+        if is_kept {
+            self.kept += 1;
+        }
+        Ok(inside)
     }
-    Ok(())
+
+    /// Appends an entity and all that are in it.
+    fn add_all(
+        &mut self,
+        alloc: Global,
+        round: Round,
+        path: &str,
+        entity: &'a Entity,
+    ) -> Result<(), AllocError>
+        requires { IsCounted self.old }
+        ensures counted { OnOk result (IsCounted self.new) }
+        ensures table { OnOk result (table_view self.new.table.items ≡ standing.with_entity (table_view self.old.table.items) (round_view round) path.now (entity_view entity.now)) }
+    {
+        let inside = self.add(alloc, round, path, entity)?;
+        for child in &entity.entities {
+            let path_inside = path_below(alloc, path, child.name.as_str())?;
+            self.add_all(alloc, inside, path_inside.as_str(), child)?;
+        }
+        Ok(())
+    }
 }
 
 /// The entities of a job in the order of the document, the top first.
@@ -133,12 +159,16 @@ fn add_entity<'a>(
 pub fn survey<'a>(alloc: Global, job: &'a Job) -> Result<Vec<Placed<'a>>, AllocError>
     ensures { IfOk result (λ table. table_view table.items ≡ standing.entities (job_view job.now)) }
 {
-    let mut table = Vec::new(alloc);
+    let mut entities = Entities {
+        table: Vec::new(alloc),
+        kept: 0,
+    };
     let round = Round {
         outer: None,
-        around: None,
-        in_modal: false,
+        parent: None,
+        within: None,
+        is_refinement: false,
     };
-    add_entity(alloc, &mut table, round, ".", &job.model)?;
-    Ok(table)
+    entities.add_all(alloc, round, ".", &job.model)?;
+    Ok(entities.table)
 }

@@ -117,8 +117,8 @@ impl PlacedPort<'_, '_> {
         self.is_input()
             && has_one(self.port.arity)
             && self.is_kept()
-            && self.placed.outer.is_some()
-            && !self.placed.is_refinement
+            && self.placed.round.outer.is_some()
+            && !self.placed.round.is_refinement
     }
 
     /// Whether the port has to have a link inside.

@@ -1,0 +1,182 @@
+ghost use Rattle.std.specs.Prelude.{◌≡◌, ◌++◌, [], ◌∷◌, map, filter, not, option_map, unwrap_or, IfOk, IfErr, OnOk};
+ghost use Rattle.std.specs.List.{find};
+ghost use Rattle.pt_moml.specs.declared.refusal.DocFault.TheVariants.{Memory};
+ghost use Rattle.pt_moml.specs.Document.{parts};
+ghost use Rattle.pt_moml.specs.Classes.{port_of};
+ghost use Rattle.pt_moml.specs.View as view;
+ghost use Rattle.pt_graph.specs.Standing.{is_director, is_kept};
+ghost use Rattle.pt_graph.specs.Survey.{placed_view, table_view};
+ghost use Rattle.pt_graph.specs.Net as net;
+
+use crate::channels::number;
+use crate::copies::{
+    optional_text, parameters, port, states, text, transitions, variables,
+};
+use crate::net::{NetDirector, NetEntity, Transparent};
+use crate::survey::{Placed, is_director};
+use pt_moml::{ClassPort, DocFault, Direction, Entity, Kind, Port, Property, kind_named};
+use pt_value::Text;
+use std::alloc::{AllocError, Global};
+
+fn optional_number(n: Option<usize>) -> Result<Option<u32>, DocFault>
+    ensures ok { IfOk result (λ m. m ≡ n) }
+    ensures err { IfErr result (λ e. e ≡ Memory) }
+{
+    match n {
+        Some(n) => Ok(Some(number(n)?)),
+        None => Ok(None),
+    }
+}
+
+fn class_of(alloc: Global, class: &Option<Text>) -> Result<Text, AllocError>
+    ensures { IfOk result (λ t. t ≡ unwrap_or class.now []) }
+{
+    match class {
+        Some(class) => text(alloc, class),
+        None => Text::of(alloc, ""),
+    }
+}
+
+fn director_of(alloc: Global, property: &Property) -> Result<NetDirector, AllocError>
+    ensures { IfOk result (λ director. net.director_view director ≡ net.director_tree (view.property_view property.now)) }
+{
+    Ok(NetDirector {
+        class: class_of(alloc, &property.class)?,
+        parameters: parameters(alloc, &property.properties)?,
+    })
+}
+
+/// The director among these properties.
+fn director(alloc: Global, properties: &[Property]) -> Result<Option<NetDirector>, AllocError>
+    ensures { IfOk result (λ director. option_map net.director_view director ≡ option_map net.director_tree (find is_director (view.properties_view properties.now))) }
+{
+    for property in properties {
+        if is_director(property) {
+            return Ok(Some(director_of(alloc, property)?));
+        }
+    }
+    Ok(None)
+}
+
+fn add_declared(
+    alloc: Global,
+    ports: &mut Vec<Port>,
+    declared: &[Port],
+) -> Result<(), AllocError>
+    ensures { OnOk result (map view.port_view ports.new.items ≡ map view.port_view ports.old.items ++ map view.port_view declared.now) }
+{
+    for item in declared {
+        ports.push(port(alloc, item)?)?;
+    }
+    Ok(())
+}
+
+fn row_port(alloc: Global, row: &ClassPort) -> Result<Port, AllocError>
+    ensures { IfOk result (λ port. view.port_view port ≡ net.row_port (port_of row.now)) }
+{
+    Ok(Port {
+        name: Text::of(alloc, row.name)?,
+        direction: row.direction,
+        declared: None,
+        properties: Vec::new(alloc),
+    })
+}
+
+fn add_rows(
+    alloc: Global,
+    ports: &mut Vec<Port>,
+    rows: &[ClassPort],
+) -> Result<(), AllocError>
+    ensures { OnOk result (map view.port_view ports.new.items ≡ map view.port_view ports.old.items ++ map net.row_port (map port_of rows.now)) }
+{
+    for row in rows {
+        ports.push(row_port(alloc, row)?)?;
+    }
+    Ok(())
+}
+
+/// The ports of an entity, in the order in which they are numbered.
+fn ports(alloc: Global, entity: &Entity) -> Result<Vec<Port>, AllocError>
+    ensures { IfOk result (λ ports. map view.port_view ports.items ≡ net.net_ports (parts (view.entity_view entity.now))) }
+{
+    let mut ports = Vec::new(alloc);
+    match kind_named(entity.class.as_str()) {
+        Some(Kind::Actor(class)) => match class.declares {
+            Some(Direction::Output) => {
+                add_rows(alloc, &mut ports, class.ports)?;
+                add_declared(alloc, &mut ports, &entity.ports)?;
+            }
+            Some(Direction::Input) | None => {
+                add_declared(alloc, &mut ports, &entity.ports)?;
+                add_rows(alloc, &mut ports, class.ports)?;
+            }
+        },
+        Some(Kind::Composite) | Some(Kind::Modal) | None => {
+            add_declared(alloc, &mut ports, &entity.ports)?;
+        }
+    }
+    Ok(ports)
+}
+
+fn net_entity(alloc: Global, placed: &Placed) -> Result<NetEntity, DocFault>
+    ensures ok { IfOk result (λ entity. net.entity_view entity ≡ net.entity_tree (placed_view placed.now)) }
+    ensures err { IfErr result (λ e. e ≡ Memory) }
+{
+    let entity = placed.entity;
+    Ok(NetEntity {
+        path: text(alloc, &placed.path)?,
+        class: text(alloc, &entity.class)?,
+        director: director(alloc, &entity.properties)?,
+        parent: optional_number(placed.round.parent)?,
+        within: optional_number(placed.round.within)?,
+        ports: ports(alloc, entity)?,
+        parameters: parameters(alloc, &entity.properties)?,
+        variables: variables(alloc, &entity.properties)?,
+        states: states(alloc, &entity.states)?,
+        initial: optional_text(alloc, &entity.initial)?,
+        transitions: transitions(alloc, &entity.transitions)?,
+    })
+}
+
+/// The entities that stay in the net.
+pub fn net_entities(alloc: Global, table: &[Placed]) -> Result<Vec<NetEntity>, DocFault>
+    ensures ok { IfOk result (λ entities. map net.entity_view entities.items ≡ map net.entity_tree (filter is_kept (table_view table.now))) }
+    ensures err { IfErr result (λ e. e ≡ Memory) }
+{
+    let mut entities = Vec::new(alloc);
+    for placed in table {
+        if placed.is_kept() {
+            entities.push(net_entity(alloc, placed)?)?;
+        }
+    }
+    Ok(entities)
+}
+
+fn transparent(alloc: Global, placed: &Placed) -> Result<Transparent, DocFault>
+    ensures ok { IfOk result (λ entity. net.transparent_view entity ≡ net.transparent_tree (placed_view placed.now)) }
+    ensures err { IfErr result (λ e. e ≡ Memory) }
+{
+    Ok(Transparent {
+        path: text(alloc, &placed.path)?,
+        parent: optional_number(placed.round.parent)?,
+        within: optional_number(placed.round.within)?,
+        parameters: parameters(alloc, &placed.entity.properties)?,
+    })
+}
+
+/// The transparent composites.
+pub fn transparent_composites(
+    alloc: Global,
+    table: &[Placed],
+) -> Result<Vec<Transparent>, DocFault>
+    ensures ok { IfOk result (λ entities. map net.transparent_view entities.items ≡ map net.transparent_tree (filter (λ s. not (is_kept s)) (table_view table.now))) }
+    ensures err { IfErr result (λ e. e ≡ Memory) }
+{
+    let mut entities = Vec::new(alloc);
+    for placed in table {
+        if !placed.is_kept() {
+            entities.push(transparent(alloc, placed)?)?;
+        }
+    }
+    Ok(entities)
+}

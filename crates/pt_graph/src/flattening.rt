@@ -1,0 +1,83 @@
+ghost use Rattle.std.specs.Prelude.{◌≡◌, ℕ, List, length, IfOk, IfErr, OnOk};
+ghost use Rattle.pt_moml.specs.declared.code.Code.{Code};
+ghost use Rattle.pt_moml.specs.declared.code.Code.TheVariants as code;
+ghost use Rattle.pt_moml.specs.Names.{top_path};
+ghost use Rattle.pt_moml.specs.View.{job_view};
+ghost use Rattle.pt_graph.specs.Net.{IsNetOf};
+ghost use Rattle.pt_graph.specs.Stands.{IsTold, IsFaultIn, IsFaultOf, Stands};
+ghost use Rattle.pt_graph.specs.Survey.{tables_view};
+ghost use Rattle.pt_graph.specs.Wiring.{AreOwned};
+ghost use Rattle.pt_graph.specs.ChannelTable.{AreChannels, AreTooMany};
+
+use crate::channels::channels_of;
+use crate::checks::{check_counts, check_ports};
+use crate::copies::{inputs, texts};
+use crate::entities::{net_entities, transparent_composites};
+use crate::net::{Channel, Net};
+use crate::origins::Origins;
+use crate::records::recorded;
+use crate::refusal::refused_at;
+use crate::sources::check_groups;
+use crate::survey::survey;
+use crate::tables::{Tables, tables_of};
+use crate::wiring::Wiring;
+use pt_moml::{Code, DocFault, Job};
+use std::alloc::Global;
+
+/// How many channels a net may have.
+const MOST_CHANNELS: usize = 100_000;
+
+/// How many ports may be recorded.
+const MOST_RECORDS: usize = 10_000;
+
+/// The channels of a job with these tables. Refuses a link, a place without a source and a relation group with two.
+fn channels(alloc: Global, tables: &Tables) -> Result<Vec<Channel>, DocFault>
+    requires { AreOwned (tables_view tables.now) }
+    ensures ok { IfOk result (λ channels. AreChannels (tables_view tables.now) channels.items) }
+    ensures told { IfErr result (λ fault. (records : List (List ℕ)) → IsFaultIn (tables_view tables.now) records fault) }
+{
+    let wiring = Wiring::of(alloc, tables)?;
+    check_ports(alloc, &wiring)?;
+    check_counts(alloc, &wiring)?;
+    check_groups(alloc, &wiring)?;
+    let origins = Origins::of(alloc, &wiring)?;
+    channels_of(alloc, &origins)
+}
+
+/// Refuses too many channels or recorded ports.
+fn check_limits(alloc: Global, channels: usize, records: usize) -> Result<(), DocFault>
+    ensures ok { OnOk result (AreTooMany channels records → ⊥) }
+    ensures told { IfErr result (IsTold code.Limit (λ path. AreTooMany channels records × (path ≡ top_path))) }
+{
+    if MOST_CHANNELS < channels || MOST_RECORDS < records {
+        return Err(refused_at(alloc, Code::Limit, "."));
+    }
+    Ok(())
+}
+
+/// The net of a job: its library actors and opaque composites, and a channel for each path of links, relations and
+/// transparent composites from a source to a place.
+///
+/// # Errors
+///
+/// Refuses a job for each [`Code::Link`], [`Code::TwoSources`], [`Code::Record`] and [`Code::Limit`] that stands there,
+/// and tells one of them at its path; fails with [`DocFault::Memory`] where memory runs out.
+pub fn flatten(alloc: Global, job: &Job) -> Result<Net, DocFault>
+    ensures net { IfOk result (IsNetOf (job_view job.now)) }
+    ensures accepted { OnOk result ((code : Code) (path : List ℕ) → Stands code path (job_view job.now) → ⊥) }
+    ensures refused { IfErr result (IsFaultOf (job_view job.now)) }
+{
+    let entities = survey(alloc, job)?;
+    let tables = tables_of(alloc, &entities)?;
+    let channels = channels(alloc, &tables)?;
+    check_limits(alloc, channels.len(), job.records.len())?;
+    let recorded = recorded(alloc, &tables, &job.records)?;
+    Ok(Net {
+        entities: net_entities(alloc, &entities)?,
+        transparent: transparent_composites(alloc, &entities)?,
+        channels,
+        inputs: inputs(alloc, &job.inputs)?,
+        records: texts(alloc, &job.records)?,
+        recorded,
+    })
+}
