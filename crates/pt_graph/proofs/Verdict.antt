@@ -1,6 +1,8 @@
 -- What the tests together say: the channels are those of the definition, and no refusal stands.
-use Rattle.std.proofs.Common.{◌≡◌, ◌≢◌, ℕ, ◌<◌, ◌≤◌, ◌⊎◌, inl, inr, Bool, true, false, not, IsTrue, ◌↔◌, None, List, [], length, refl, sym, ap, subst, ◌∙◌, arith}
+use Rattle.std.proofs.Common.{◌≡◌, ◌≢◌, ℕ, ◌<◌, ◌≤◌, ◌⊎◌, inl, inr, Bool, true, false, not, IsTrue, ◌↔◌, None, List, [], length, map, filter, refl, sym, ap, subst, ◌∙◌, arith}
 use Rattle.std.specs.List.{Contains, AllZip, slice_get}
+use Rattle.std.specs.Prelude.{Result, IfOk, IfErr, Vec}
+use Rattle.std.proofs.lemmas.Result.{IfOk-weaker, IfErr-weaker}
 use Rattle.pt_moml.specs.declared.code.Code.{Code}
 use Rattle.pt_moml.specs.declared.code.Code.TheVariants as code
 use Rattle.pt_moml.specs.declared.refusal.DocFault.{DocFault}
@@ -9,9 +11,12 @@ use Rattle.pt_moml.specs.Document.{JobTree}
 use Rattle.pt_moml.specs.Names.{top_path}
 use Rattle.pt_graph.specs.declared.net.Channel.{Channel}
 use Rattle.pt_graph.specs.declared.net.NetPort.{NetPort}
-use Rattle.pt_graph.specs.Table.{PortAt, Tables, tables_of}
+use Rattle.pt_graph.specs.declared.net.Net.{Net}
+use Rattle.pt_graph.specs.Table.{PortAt, Tables, tables_from, tables_of}
 use Rattle.pt_graph.specs.Wires.{is_input, Place}
-use Rattle.pt_graph.specs.Net.{wires, all_places, channel, IsChannel, IsChannelTo, ReachesIn, Records}
+use Rattle.pt_moml.specs.View.{input_view}
+use Rattle.pt_graph.specs.Standing.{Standing, is_kept, entities}
+use Rattle.pt_graph.specs.Net.{IsNetOf, entity_view, entity_tree, transparent_view, transparent_tree, wires, all_places, channel, IsChannel, IsChannelTo, ReachesIn, Records}
 use Rattle.pt_graph.specs.Stands.{IsLinkFault, names_nothing, twice_outside, twice_inside, no_source, no_link, no_link_inside, passed_on, no_channel, too_few_channels, IsTwoSources, IsRecordFault, names_no_port, repeated, IsPastLimit, IsTold, StandsIn, IsFaultIn, Stands}
 use Rattle.pt_graph.specs.Wiring.{AllNamed, AreOwned, AreFine, HaveChannels}
 use Rattle.pt_graph.specs.Sources.{HaveOneSource}
@@ -66,6 +71,13 @@ module _ (t : Tables) (one : HaveOneSource t) (own : AreOwned t) (fine : AreFine
   pub are_channels : AllNamed t → HaveChannels t → AreChannels t channels
   are_channels named enough = record { exactly = exactly; numbered = numbered; no_link_fault = no_link_fault named enough; no_two_sources = no_two_sources t one }
 
+-- the same where the program holds the tables behind references
+pub ok_channels : {A E : Type 0} (t u v : Tables) (r : Result (Vec Channel A) E) → u ≡ t → v ≡ u → AreOwned t → AllNamed t → AreFine u → HaveChannels u → HaveOneSource u → IfOk r (λ ks. AllZip (IsGoodChannel v) (all_places v) ks.items) → IfOk r (λ ks. AreChannels t ks.items)
+ok_channels t u v r e f own named fine enough one good =
+    IfOk-weaker r (λ ks. AllZip (IsGoodChannel t) (all_places t) ks.items) (λ ks. AreChannels t ks.items)
+    (λ ks g. are_channels t (subst HaveOneSource e one) own (subst AreFine e fine) ks.items g named (subst HaveChannels e enough))
+    (subst (λ (x : Tables). IfOk r (λ ks. AllZip (IsGoodChannel x) (all_places x) ks.items)) (f ∙ e) good)
+
 -- what the tests of the links, and those of the relation groups, tell is a fault
 pub link_told : (t : Tables) (fault : DocFault) → IsTold code.Link (IsLinkFault t) fault → (records : List (List ℕ)) → IsFaultIn t records fault
 link_told t faults.Memory w records = tt
@@ -83,7 +95,11 @@ pub limit_told : (t : Tables) (records : List (List ℕ)) (channels : List Chann
 limit_told t records channels faults.Memory all w = tt
 limit_told t records channels (faults.Refused r) all w =
     subst (λ c. StandsIn t records c r.path) (sym w.0)
-    (record { many = subst (λ n. AreTooMany n (length records)) (zip_length (IsChannelTo t) (all_places t) channels all.numbered) w.1.0; told = w.1.1 })
+    (record { many = subst (λ n. AreTooMany n (length records)) (sym (zip_length (IsChannelTo t) (all_places t) channels all.numbered)) w.1.0; told = w.1.1 })
+
+no_record_fault : (t : Tables) (records : List (List ℕ)) (recorded : List NetPort) → AllZip (Records t) records recorded → AreDistinct records → (path : List ℕ) → IsRecordFault t records path → ⊥
+no_record_fault t records recorded named distinct path (names_no_port text there no_port) = let z = zip_left (Records t) records recorded text named there in no_port z.2.0 z.2.1
+no_record_fault t records recorded named distinct path (repeated first second text before a b) = distinct first second text before a b
 
 -- where the tests pass, no cause to refuse stands
 pub none_stands : (t : Tables) (records : List (List ℕ)) (channels : List Channel) (recorded : List NetPort) → AreChannels t channels → (AreTooMany (length channels) (length records) → ⊥) → AllZip (Records t) records recorded → AreDistinct records → (cause : Code) (path : List ℕ) → StandsIn t records cause path → ⊥
@@ -92,7 +108,18 @@ none_stands t records channels recorded all few named distinct cause path = none
     none : (cause : Code) → StandsIn t records cause path → ⊥
     none code.Link w = all.no_link_fault path w
     none code.TwoSources w = all.no_two_sources path w
-    none code.Record (names_no_port text there no_port) = let z = zip_left (Records t) records recorded text named there in no_port z.2.0 z.2.1
-    none code.Record (repeated first second text before a b) = distinct first second text before a b
-    none code.Limit w = few (subst (λ n. AreTooMany n (length records)) (sym (zip_length (IsChannelTo t) (all_places t) channels all.numbered)) w.many)
+    none code.Record w = no_record_fault t records recorded named distinct path w
+    none code.Limit w = few (subst (λ n. AreTooMany n (length records)) (zip_length (IsChannelTo t) (all_places t) channels all.numbered) w.many)
     none _ w = absurd w
+
+-- what the program makes of the tables of a job is its net
+pub net_of : (job : JobTree) (ss : List Standing) (t : Tables) (net : Net) → ss ≡ entities job → t ≡ tables_of job → map entity_view net.entities.items ≡ map entity_tree (filter is_kept ss) → map transparent_view net.transparent.items ≡ map transparent_tree (filter (λ s. not (is_kept s)) ss) → AreChannels t net.channels.items → map input_view net.inputs.items ≡ job.inputs → net.records.items ≡ job.records → AllZip (Records t) job.records net.recorded.items → IsNetOf job net
+net_of job ss t net e is made made_transparent all inputs records recorded = record {
+  each_entity = made ∙ ap (λ (xs : List Standing). map entity_tree (filter is_kept xs)) e;
+  each_transparent = made_transparent ∙ ap (λ (xs : List Standing). map transparent_tree (filter (λ s. not (is_kept s)) xs)) e;
+  channels = (subst (λ (u : Tables). AreChannels u net.channels.items) is all).exactly;
+  numbered = (subst (λ (u : Tables). AreChannels u net.channels.items) is all).numbered;
+  inputs = inputs;
+  records = records;
+  recorded = subst (λ (u : Tables). AllZip (Records u) job.records net.recorded.items) is recorded;
+}

@@ -22,6 +22,7 @@ use crate::survey::survey;
 use crate::tables::{Tables, tables_of};
 use crate::wiring::Wiring;
 use pt_moml::{Code, DocFault, Job};
+use pt_value::Text;
 use std::alloc::Global;
 
 /// How many channels a net may have.
@@ -45,11 +46,11 @@ fn channels(alloc: Global, tables: &Tables) -> Result<Vec<Channel>, DocFault>
 }
 
 /// Refuses too many channels or recorded ports.
-fn check_limits(alloc: Global, channels: usize, records: usize) -> Result<(), DocFault>
-    ensures ok { OnOk result (AreTooMany channels records → ⊥) }
-    ensures told { IfErr result (IsTold code.Limit (λ path. AreTooMany channels records × (path ≡ top_path))) }
+fn check_limits(alloc: Global, channels: &[Channel], records: &[Text]) -> Result<(), DocFault>
+    ensures ok { OnOk result (AreTooMany (length channels.now) (length records.now) → ⊥) }
+    ensures told { IfErr result (IsTold code.Limit (λ path. AreTooMany (length channels.now) (length records.now) × (path ≡ top_path))) }
 {
-    if MOST_CHANNELS < channels || MOST_RECORDS < records {
+    if MOST_CHANNELS < channels.len() || MOST_RECORDS < records.len() {
         return Err(refused_at(alloc, Code::Limit, "."));
     }
     Ok(())
@@ -70,7 +71,7 @@ pub fn flatten(alloc: Global, job: &Job) -> Result<Net, DocFault>
     let entities = survey(alloc, job)?;
     let tables = tables_of(alloc, &entities)?;
     let channels = channels(alloc, &tables)?;
-    check_limits(alloc, channels.len(), job.records.len())?;
+    check_limits(alloc, &channels, &job.records)?;
     let recorded = recorded(alloc, &tables, &job.records)?;
     Ok(Net {
         entities: net_entities(alloc, &entities)?,

@@ -12,9 +12,9 @@ use Rattle.pt_top.specs.declared.report.Reply.{Reply}
 use Rattle.pt_top.specs.declared.status.Status.{Status}
 use Rattle.pt_top.specs.declared.status.Status.TheVariants.{Done, Words, Document, Fault, Budget, Read, Write, Memory, Queue, Length}
 use Rattle.pt_top.specs.Reply.{refusal_text, AnswersNet}
-use Rattle.pt_top.specs.Outcome.{IsRefused, in_text, in_links, unbuilt, AnswersJob, Answers, IsLine, IsDue, limit}
+use Rattle.pt_top.specs.Outcome.{IsRefused, in_text, in_links, unbuilt, AnswersJob, Answers, IsWellLinked, IsLine, IsDue, limit}
 
-from-net : (job : JobTree) (net : Net) → IsNetOf job net → linking.IsClean job → (s : Status) (text : List ℕ) → AnswersNet net s text → AnswersJob job s text
+from-net : (job : JobTree) (net : Net) → IsNetOf job net → IsWellLinked job → (s : Status) (text : List ℕ) → AnswersNet net s text → AnswersJob job s text
 from-net job net n c Done text a = (net, n, c, a)
 from-net job net n c Fault text a = (net, n, c, a.0, a.1, a.2)
 from-net job net n c Document text a = (_, inr (net, n, c, a.0, refl), a.1)
@@ -27,7 +27,7 @@ from-net job net n c Queue text a = absurd a
 from-net job net n c Length text a = absurd a
 
 -- the answer to a net answers its job
-pub net-answers : (job : JobTree) (net : Net) (reply : Result Reply AllocError) → IsNetOf job net → linking.IsClean job → IfOk reply (λ r. AnswersNet net r.status r.text.items) → IfOk reply (λ r. AnswersJob job r.status r.text.items)
+pub net-answers : (job : JobTree) (net : Net) (reply : Result Reply AllocError) → IsNetOf job net → IsWellLinked job → IfOk reply (λ r. AnswersNet net r.status r.text.items) → IfOk reply (λ r. AnswersJob job r.status r.text.items)
 net-answers job net (Ok r) n c a = from-net job net n c r.status r.text.items a
 net-answers job net (Err e) n c a = tt
 

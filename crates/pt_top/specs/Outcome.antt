@@ -3,6 +3,7 @@ use Rattle.std.specs.Prelude.{◌≡◌, ◌⊎◌, ℕ, ◌+◌, ◌<◌, ◌�
 use Rattle.std.specs.Io.KnownBytes.{Appends}
 use Rattle.pt_io.specs.Causes.{Rose}
 use Rattle.pt_moml.specs.declared.refusal.Refusal.{Refusal}
+use Rattle.pt_moml.specs.declared.code.Code.{Code}
 use Rattle.pt_moml.specs.declared.code.Code.TheVariants as causes
 use Rattle.pt_moml.specs.Document.{JobTree}
 use Rattle.pt_moml.specs.Names.{top_path}
@@ -19,12 +20,16 @@ use Rattle.pt_top.specs.declared.status.Status.TheVariants.{Done, Words, Documen
 
 -- ---- documents
 
+-- no refusal stands in how the links of a job join its ports
+abbrev pub IsWellLinked : JobTree → Type 0
+IsWellLinked job = (code : Code) (path : List ℕ) → linking.Stands code path job → ⊥
+
 -- The document is accepted: no refusal stands in it. These are its job and its net.
 pub record IsAccepted (bytes : List ℕ) (job : JobTree) (net : Net) : Type 0 where
   pub is_job : IsJobOf bytes job
   pub is_net : IsNetOf job net
   pub well_formed : reading.IsClean bytes
-  pub well_linked : linking.IsClean job
+  pub well_linked : IsWellLinked job
 
 -- A document is refused for a cause that stands in its text, or in how its links join its ports, or since its form isn't built.
 pub data IsRefused (bytes : List ℕ) (r : Refusal) : Type 0 where
@@ -41,9 +46,9 @@ pub record IsReportOf (bytes : List ℕ) (end : RunEnd) (text : List ℕ) : Type
 
 -- A status and its text answer a job.
 abbrev pub AnswersJob : JobTree → Status → List ℕ → Type 0
-AnswersJob job Done text = (net : Net) × IsNetOf job net × linking.IsClean job × IsReport net AllDone text
-AnswersJob job Fault text = (net : Net) × IsNetOf job net × linking.IsClean job × (actor firing : ℕ) × IsReport net (Overflow actor firing) text
-AnswersJob job Document text = (r : Refusal) × (linking.Stands r.code r.path job ⊎ ((net : Net) × IsNetOf job net × linking.IsClean job × IsUnbuilt net × (r ≡ record { code = causes.Unbuilt; path = top_path }))) × (text ≡ refusal_text r)
+AnswersJob job Done text = (net : Net) × IsNetOf job net × IsWellLinked job × IsReport net AllDone text
+AnswersJob job Fault text = (net : Net) × IsNetOf job net × IsWellLinked job × (actor firing : ℕ) × IsReport net (Overflow actor firing) text
+AnswersJob job Document text = (r : Refusal) × (linking.Stands r.code r.path job ⊎ ((net : Net) × IsNetOf job net × IsWellLinked job × IsUnbuilt net × (r ≡ record { code = causes.Unbuilt; path = top_path }))) × (text ≡ refusal_text r)
 AnswersJob job _ text = ⊥
 
 -- A status and its text answer a document.
