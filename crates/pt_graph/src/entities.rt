@@ -9,12 +9,10 @@ ghost use Rattle.pt_graph.specs.Survey.{placed_view, table_view};
 ghost use Rattle.pt_graph.specs.Net as net;
 
 use crate::channels::number;
-use crate::copies::{
-    optional_text, parameters, port, states, text, transitions, variables,
-};
+use crate::copies::{optional_text, parameters, port, states, text, transitions, variables};
 use crate::net::{NetDirector, NetEntity, Transparent};
 use crate::survey::{Placed, is_director};
-use pt_moml::{ClassPort, DocFault, Direction, Entity, Kind, Port, Property, kind_named};
+use pt_moml::{ClassPort, Direction, DocFault, Entity, Kind, Port, Property, kind_named};
 use pt_value::Text;
 use std::alloc::{AllocError, Global};
 
@@ -58,11 +56,7 @@ fn director(alloc: Global, properties: &[Property]) -> Result<Option<NetDirector
     Ok(None)
 }
 
-fn add_declared(
-    alloc: Global,
-    ports: &mut Vec<Port>,
-    declared: &[Port],
-) -> Result<(), AllocError>
+fn add_declared(alloc: Global, ports: &mut Vec<Port>, declared: &[Port]) -> Result<(), AllocError>
     ensures { OnOk result (map view.port_view ports.new.items ≡ map view.port_view ports.old.items ++ map view.port_view declared.now) }
 {
     for item in declared {
@@ -82,11 +76,7 @@ fn row_port(alloc: Global, row: &ClassPort) -> Result<Port, AllocError>
     })
 }
 
-fn add_rows(
-    alloc: Global,
-    ports: &mut Vec<Port>,
-    rows: &[ClassPort],
-) -> Result<(), AllocError>
+fn add_rows(alloc: Global, ports: &mut Vec<Port>, rows: &[ClassPort]) -> Result<(), AllocError>
     ensures { OnOk result (map view.port_view ports.new.items ≡ map view.port_view ports.old.items ++ map net.row_port (map port_of rows.now)) }
 {
     for row in rows {
@@ -165,10 +155,7 @@ fn transparent(alloc: Global, placed: &Placed) -> Result<Transparent, DocFault>
 }
 
 /// The transparent composites.
-pub fn transparent_composites(
-    alloc: Global,
-    table: &[Placed],
-) -> Result<Vec<Transparent>, DocFault>
+pub fn transparent_composites(alloc: Global, table: &[Placed]) -> Result<Vec<Transparent>, DocFault>
     ensures ok { IfOk result (λ entities. map net.transparent_view entities.items ≡ map net.transparent_tree (filter (λ s. not (is_kept s)) (table_view table.now))) }
     ensures err { IfErr result (λ e. e ≡ Memory) }
 {

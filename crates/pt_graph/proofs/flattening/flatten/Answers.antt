@@ -33,9 +33,9 @@ returns-in_err-check_limits-clause-refused c =
     let is : tables_view c.in_ok-tables.tables ≡ tables_of (job_view c.args.job.now) = c.in_ok-tables.ensures ∙ ap (λ (ps : List Placed). tables_from (table_view ps)) c.deref.ensures.value ∙ ap tables_from c.in_ok-entities.ensures in
     let records = c.args.job.now.records.items in
     let far : IsFaultIn (tables_view c.in_ok-tables.tables) records c.in_err-check_limits.field-0.0 =
-      limit_told (tables_view c.in_ok-tables.tables) records c.in_ok-channels.channels.items c.in_err-check_limits.field-0.0 c.in_ok-channels.ensures.ok
-      (subst (λ (ks : List Channel). IsTold Limit (λ path. AreTooMany (length ks) (length records) × (path ≡ top_path)) c.in_err-check_limits.field-0.0) c.deref-2.ensures.value
-      (subst (λ (rs : List (List ℕ)). IsTold Limit (λ path. AreTooMany (length c.deref-2.result.now) (length rs) × (path ≡ top_path)) c.in_err-check_limits.field-0.0) c.deref-3.ensures.value c.in_err-check_limits.ensures.told)) in
+    limit_told (tables_view c.in_ok-tables.tables) records c.in_ok-channels.channels.items c.in_err-check_limits.field-0.0 c.in_ok-channels.ensures.ok
+    (subst (λ (ks : List Channel). IsTold Limit (λ path. AreTooMany (length ks) (length records) × (path ≡ top_path)) c.in_err-check_limits.field-0.0) c.deref-2.ensures.value
+    (subst (λ (rs : List (List ℕ)). IsTold Limit (λ path. AreTooMany (length c.deref-2.result.now) (length rs) × (path ≡ top_path)) c.in_err-check_limits.field-0.0) c.deref-3.ensures.value c.in_err-check_limits.ensures.told)) in
     let told : IsFaultOf (job_view c.args.job.now) c.in_err-check_limits.field-0.0 = subst (λ (t : Tables). IsFaultIn t records c.in_err-check_limits.field-0.0) is far in
     let h = c.from_residual-in_err-check_limits.ensures in
     search (rules, told, h)
@@ -55,8 +55,8 @@ returns-clause-accepted c =
     let is : tables_view c.in_ok-tables.tables ≡ tables_of (job_view c.args.job.now) = c.in_ok-tables.ensures ∙ ap (λ (ps : List Placed). tables_from (table_view ps)) c.deref.ensures.value ∙ ap tables_from c.in_ok-entities.ensures in
     let records = c.args.job.now.records.items in
     let few : AreTooMany (length c.in_ok-channels.channels.items) (length records) → ⊥ =
-      subst (λ (ks : List Channel). AreTooMany (length ks) (length records) → ⊥) c.deref-2.ensures.value
-      (subst (λ (rs : List (List ℕ)). AreTooMany (length c.deref-2.result.now) (length rs) → ⊥) c.deref-3.ensures.value c.in_ok-check_limits.ensures.ok) in
+    subst (λ (ks : List Channel). AreTooMany (length ks) (length records) → ⊥) c.deref-2.ensures.value
+    (subst (λ (rs : List (List ℕ)). AreTooMany (length c.deref-2.result.now) (length rs) → ⊥) c.deref-3.ensures.value c.in_ok-check_limits.ensures.ok) in
     let named : AllZip (Records (tables_view c.in_ok-tables.tables)) records c.in_ok-recorded.recorded.items = subst (λ (rs : List (List ℕ)). AllZip (Records (tables_view c.in_ok-tables.tables)) rs c.in_ok-recorded.recorded.items) c.deref-4.ensures.value c.in_ok-recorded.ensures.ok in
     let distinct : AreDistinct records = subst AreDistinct c.deref-4.ensures.value c.in_ok-recorded.ensures.distinct in
     subst (λ (t : Tables). (cause : Code) (path : List ℕ) → StandsIn t records cause path → ⊥) is
