@@ -6,3 +6,4 @@ pub mod Name
 pub mod Record
 pub mod FieldsFault
 pub mod Printed
+pub mod Parts
