@@ -1,3 +1,10 @@
 pub mod Tree
 pub mod Expr
 pub mod Parts
+pub mod Outcome
+pub mod Same
+pub mod Scope
+pub mod Env
+pub mod Types
+pub mod RecordOf
+pub mod Meaning

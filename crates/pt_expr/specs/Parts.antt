@@ -1,11 +1,11 @@
 -- The tree of an array or record literal, from the trees of its parts.
-use Rattle.std.specs.Prelude.{◌≡◌, ℕ, List, [], ◌∷◌, map, refl}
+use Rattle.std.specs.Prelude.{◌≡◌, map, refl}
 use Rattle.std.proofs.Common.{ap, sym, ◌∙◌}
 use Rattle.pt_expr.specs.declared.expr.Expr.{Expr, Row_of-Expr, end_of-Expr, more_of-Expr, items-the_row-Expr, items_hidden-the_row-Expr-0}
 use Rattle.pt_expr.specs.declared.expr.Expr.TheVariants as expr
 use Rattle.pt_expr.specs.declared.exprs.Exprs.{Exprs}
 use Rattle.pt_expr.specs.declared.exprs.NamedExprs.{NamedExprs, NamedExprs', roll-NamedExprs, roll-out-NamedExprs, out-NamedExprs, Row_of-NamedExpr, end_of-NamedExpr, more_of-NamedExpr, items-the_row-NamedExpr, items_hidden-the_row-NamedExpr-1}
-use Rattle.pt_expr.specs.Tree.{Tree, Array, Record, Trees, trees_of, NamedTrees, named_of, tree_then, field_then}
+use Rattle.pt_expr.specs.Tree.{Array, Record, trees_of, named_of, tree_then, field_then}
 use Rattle.pt_expr.specs.Expr as in_memory
 use Rattle.pt_expr.specs.Expr.{tree_of, trees_of_row, named_of_row, entry_of, trees_in, fields_in}
 

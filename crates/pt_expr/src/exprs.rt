@@ -1,8 +1,17 @@
-ghost use Rattle.std.specs.Prelude.{◌≡◌, ◌↔◌, IsTrue, IfOk, map, length};
+ghost use Rattle.std.specs.Prelude.{◌≡◌, ◌⊎◌, ◌↔◌, IsTrue, IfOk, IfErr, map, length};
+ghost use Rattle.pt_value.specs.Token.{value_of, entry_of_pair};
+ghost use Rattle.pt_expr.specs.declared.fault.EvalFault.TheVariants.{Memory};
 ghost use Rattle.pt_expr.specs.Expr.{tree_of, entry_of, trees_in, fields_in};
+ghost use Rattle.pt_expr.specs.Tree.{trees_of, named_of};
+ghost use Rattle.pt_expr.specs.Outcome.{Gives, Stops, Wrong};
+ghost use Rattle.pt_expr.specs.Env.{scope_of};
+ghost use Rattle.pt_expr.specs.Meaning.{values, named_values};
 
+use crate::env::Env;
+use crate::evaluation::eval;
 use crate::expr::Expr;
-use pt_value::Text;
+use crate::fault::EvalFault;
+use pt_value::{Text, Token};
 use std::alloc::{AllocError, Global};
 
 /// The parts of an array literal, which a contract sees as the list of their trees.
@@ -47,6 +56,22 @@ impl Exprs {
             parts.push(part.copy(alloc)?)?;
         }
         Ok(Exprs { parts })
+    }
+
+    /// What the parts come to, from left to right.
+    #[cycle(evaluates)]
+    pub(crate) fn eval(&self, alloc: Global, env: &Env) -> Result<Vec<Token>, EvalFault>
+        requires right { ¬ (values (scope_of env.now) (trees_of (trees_in self.now)) ≡ Wrong) }
+        ensures ok { IfOk result (λ tokens. values (scope_of env.now) (trees_of (trees_in self.now)) ≡ Gives (map value_of tokens.items)) }
+        ensures err { IfErr result (λ fault. (fault ≡ Memory) ⊎ (values (scope_of env.now) (trees_of (trees_in self.now)) ≡ Stops fault)) }
+    {
+        let mut tokens = Vec::with_capacity(alloc, self.parts.len())?;
+        for part in &self.parts {
+            tokens
+                .push(eval(alloc, part, env)?)
+                .map_err(AllocError::from)?;
+        }
+        Ok(tokens)
     }
 }
 
@@ -112,5 +137,22 @@ impl NamedExprs {
             fields.push(field.copy(alloc)?)?;
         }
         Ok(NamedExprs { fields })
+    }
+
+    /// What the fields come to, from left to right.
+    #[cycle(evaluates)]
+    pub(crate) fn eval(&self, alloc: Global, env: &Env) -> Result<Vec<(Text, Token)>, EvalFault>
+        requires right { ¬ (named_values (scope_of env.now) (named_of (fields_in self.now)) ≡ Wrong) }
+        ensures ok { IfOk result (λ pairs. named_values (scope_of env.now) (named_of (fields_in self.now)) ≡ Gives (map entry_of_pair pairs.items)) }
+        ensures err { IfErr result (λ fault. (fault ≡ Memory) ⊎ (named_values (scope_of env.now) (named_of (fields_in self.now)) ≡ Stops fault)) }
+    {
+        let mut pairs = Vec::with_capacity(alloc, self.fields.len())?;
+        for field in &self.fields {
+            let name = field.name.copy(alloc)?;
+            pairs
+                .push((name, eval(alloc, &field.value, env)?))
+                .map_err(AllocError::from)?;
+        }
+        Ok(pairs)
     }
 }

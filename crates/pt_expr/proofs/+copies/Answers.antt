@@ -1,5 +1,5 @@
 use Rattle.std.proofs.Common.{rules, map, ◌≡◌, ap, ◌∙◌, ◌++◌, ◌∷◌, []}
-use Rattle.pt_expr.specs.Expr.{tree_of, entry_of, trees_in, fields_in}
+use Rattle.pt_expr.specs.Expr.{tree_of, entry_of}
 use Rattle.pt_expr.specs.declared.exprs.NamedExprs.{out-roll-NamedExprs}
 use Rattle.pt_expr.proofs.Copied.{copied-more, copied-all}
 use Rattle.pt_expr.proofs.+copies.Goals as goal
