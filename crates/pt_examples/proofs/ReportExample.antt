@@ -8,7 +8,7 @@ use Rattle.pt_meaning.specs.Rounds.{round}
 use Rattle.pt_meaning.specs.Kahn.{kahn}
 use Rattle.pt_meaning.specs.Step.{step_at, no_meetings}
 use Rattle.pt_meaning.specs.Job.{Course, Standing, Goes, Ended, Halted, Iterations, after, begin, meaning, log_of}
-use Rattle.pt_meaning.specs.Closed.{Has, UnderWay, CameWithin, rounds_of, core_at, these_if, source_of, actor_at, state_after, given, taken, IsCausedAt, MayKnow, Nothing, Absence, Gave, Early}
+use Rattle.pt_meaning.specs.Closed.{Has, UnderWay, CameWithin, rounds_of, core_at, these_if, source_of, actor_at, state_after, given, taken, HasBegun, IsCausedAt, MayKnow, Nothing, Absence, Gave, Early}
 use Rattle.pt_meaning.specs.Machine.{Partial, Known, partial_at}
 use Rattle.pt_meaning.specs.Net.{Output}
 use Rattle.pt_meaning.specs.Tree.{Core, Sdf}
@@ -129,7 +129,7 @@ caused_at (suc zero) zero n = inl (0, omega arith, inl refl, given_is_taken (nat
 caused_at (suc zero) (suc q) n = inl (0, omega arith, inl refl, none_taken (nat_le 0 n) (nat_le 1 n) _)
 caused_at (suc (suc i)) q n = inl (0, omega arith, inl refl, none_there (nat_le 1 n) _)
 
-has_cause : (p : Path) (c : Core Token) → core_at p doubled ≡ Some c → (i q n : ℕ) → n ≤ firings_in (all_told p) → IsCausedAt rows doubled all_told none_under_way p c i q n
+has_cause : (p : Path) (c : Core Token) → core_at p doubled ≡ Some c → (i q n : ℕ) → HasBegun all_told none_under_way p n → IsCausedAt rows doubled all_told none_under_way p c i q n
 has_cause [] c e i q n h = subst (λ d. IsCausedAt rows doubled all_told none_under_way [] d i q n) (cc) (caused_at i q n)
 has_cause (zero ∷ []) c e i q n h = absurd (cc)
 has_cause (suc zero ∷ []) c e i q n h = absurd (cc)
@@ -196,9 +196,9 @@ nothing_known u n tag _ _ _ (Early i q j port first state before since later vs 
     is_ramp = let c : Some first ≡ Some state = subst (λ es. state_after rows es first ≡ Some state) none_since r in let d = first_is in cc
 
 pub unclosed_example : UnclosedExample
-unclosed_example whole closed = go (closed.caused [] start refl 1 0 0 (omega arith))
+unclosed_example whole closed = let now = closed.begun [] 0 (1 ∷ []) (Finished (0 ∷ []) of_scale) (inl refl, refl) refl in go (closed.caused [] start refl 1 0 0 (inr (refl, now.0, now.1)))
   where
     go : IsCausedAt rows doubled scale_alone closed.under_way [] start 1 0 0 → ⊥
     go (inl (r, few, inl zero_is, below)) = subst (λ c. IsPrefix (taken rows doubled scale_alone closed.under_way [] 1 0 c 0) []) zero_is below
     go (inl (r, few, inr modal, below)) = absurd (cc)
-    go (inr (b, begun, xs, known, below)) = subst (λ ys. IsPrefix (taken rows doubled scale_alone closed.under_way [] 1 0 0 0) ys) (nothing_known closed.under_way 0 b.tag 1 0 (Known xs) known refl refl xs refl) below
+    go (inr (b, begun, now, xs, known, below)) = subst (λ ys. IsPrefix (taken rows doubled scale_alone closed.under_way [] 1 0 0 0) ys) (nothing_known closed.under_way 0 b.tag 1 0 (Known xs) known refl refl xs refl) below

@@ -1,18 +1,23 @@
 -- The processes and the scenes of a Rendezvous firing explained.
-use Rattle.std.proofs.Common.{◌≡◌, ◌⊎◌, ℕ, zero, suc, ◌+◌, ◌≤◌, List, [], ◌∷◌, ◌++◌, Bool, true, false, ◌&&◌, nat_eq, length, Option, Some, None, inl, inr, refl, sym, ap, ap₂, subst, arith, ◌∙◌, append_assoc, append-nil}
+use Rattle.std.proofs.Common.{◌≡◌, ◌⊎◌, ℕ, zero, suc, ◌+◌, ◌≤◌, List, [], ◌∷◌, ◌++◌, Bool, true, false, ◌&&◌, nat_eq, length, Option, Some, None, inl, inr, refl, sym, ap, ap₂, subst, arith, ◌∙◌, append_assoc, append-nil, if◌then◌else◌}
 use Rattle.std.proofs.lemmas.Bool.Decides.{nat_tests}
 use Rattle.std.proofs.Math.Path.{fun_ext}
-use Rattle.pt_meaning.specs.Basics.{Tag, Streams, at, Log, silent, log_then, own}
+use Rattle.pt_meaning.specs.Basics.{Tag, Streams, at, Firing, Log, silent, log_then, own}
 use Rattle.pt_meaning.specs.Machine.{Fault, Outcome, Done, Stuck, Stepping, Facts, recorded}
 use Rattle.pt_meaning.specs.Rounds.{Source, Own, Output}
 use Rattle.pt_meaning.specs.Modal.{get}
-use Rattle.pt_meaning.specs.Process.{Put, Well, Broken, Party, Next, Puts, Fires, Gets, GetsAny, Joins, Idle, Sticks, next_event, is_source, listed_if, channels_from, to_each, puts_of_port, puts_of, emptied, fired, if_fires, advance, advanced, all_advanced}
+use Rattle.pt_meaning.specs.Process.{Put, Mood, Well, Broken, Party, by_mood, by_puts, by_need, all_got, all_puts, Next, Puts, Fires, Gets, GetsAny, Joins, Idle, Sticks, next_event, is_source, listed_if, channels_from, to_each, puts_of_port, puts_of, emptied, fired, if_fires, advance, advanced, all_advanced}
 use Rattle.pt_meaning.specs.Rendezvous.{RvPlan, Places}
 use Rattle.pt_meaning.specs.Node.{Rv}
 use Rattle.pt_meaning.specs.Causes.{Has, Begun, source_in}
 use Rattle.pt_meaning.specs.LogsOfRuns.{log_in}
-use Rattle.pt_meaning.specs.SoundRuns.{IsPutOn, OnPlace}
-use Rattle.pt_meaning.specs.Explained.{Turned, ChainOf, PartOf, ComesNow}
+use Rattle.pt_meaning.specs.Streams.{IsPrefix}
+use Rattle.pt_meaning.specs.Closed.{inputs_at, outputs_at}
+use Rattle.pt_meaning.specs.Places.{tokens_on, puts_from}
+use Rattle.pt_meaning.specs.SoundRuns.{IsPutOn, OnPlace, got_by}
+use Rattle.pt_meaning.specs.Explained.{Turned, ChainOf, PartOf, ComesNow, of_turns}
+use Rattle.pt_meaning.proofs.Order.{IsPrefix-refl}
+use Rattle.pt_meaning.proofs.PlaceEnds.{puts-are}
 use Rattle.pt_meaning.proofs.JoinLaws.{log-assoc}
 use Rattle.pt_meaning.proofs.PartyLaws.{fires-well}
 use Rattle.pt_meaning.proofs.MeetingIndex.{some-same}
@@ -99,6 +104,10 @@ chain-more facts step (u ∷ ts) s z l t y c n d = (
   ap (λ v. log_then v (log_then t.inside (own t.record_of))) c.5 ∙ sym (log-assoc (log_then u.inside (own u.record_of)) c.1 (log_then t.inside (own t.record_of))),
 )
 
+pub turns-append : {T : Type 0} (pick : Firing T → List T) (xs ys : List (Turned T)) → of_turns pick (xs ++ ys) ≡ of_turns pick xs ++ of_turns pick ys
+turns-append pick [] ys = refl
+turns-append pick (t ∷ xs) ys = ap (λ v. pick t.record_of ++ v) (turns-append pick xs ys) ∙ sym (append_assoc (pick t.record_of) (of_turns pick xs) (of_turns pick ys))
+
 -- more firings of the children
 unfoldable pub AllMore : {T : Type 0} → (ℕ → List (Turned T)) → (ℕ → List (Turned T)) → Type 0
 AllMore {T} τ τ' = (i : ℕ) (t : Turned T) → Has t (τ i) → Has t (τ' i)
@@ -117,7 +126,7 @@ abbrev pub PutCause : {T : Type 0} → RvPlan → Places T → Streams T → (�
 PutCause p X inputs τ c x = IsPutOn c x X.puts ⊎ IsPutOn c x X.inputs ⊎ ComesNow inputs τ x (get p.net.sources c)
 
 -- A process in the middle of a firing, explained: what it has made, what it has taken, what it has gathered, and what it has to put.
-pub record PartyIs {T S : Type 0} (facts : Facts T S) (step : Stepping T S) (plan : RvPlan) (X : Places T) (inputs : Streams T) (ks : List S) (τ : ℕ → List (Turned T)) (ts : List (Turned T)) (i : ℕ) (p : Party T S) : Type 0 where
+pub record PartyIs {T S : Type 0} (facts : Facts T S) (step : Stepping T S) (tag : Tag) (plan : RvPlan) (X : Places T) (inputs : Streams T) (ks : List S) (τ : ℕ → List (Turned T)) (ts : List (Turned T)) (i : ℕ) (p : Party T S) : Type 0 where
   pub start : S
   pub at_start : get ks i ≡ Some start
   pub way : Option (Begun T)
@@ -127,6 +136,8 @@ pub record PartyIs {T S : Type 0} (facts : Facts T S) (step : Stepping T S) (pla
   pub begun : (b : Begun T) → way ≡ Some b → (q : ℕ) (x : T) → Has x (at b.inputs q) → CauseAt plan X inputs τ i q x
   pub got : (q : ℕ) (x : T) → Has x (at p.got q) → CauseAt plan X inputs τ i q x
   pub puts : (u : Put T) → Has u p.puts → PutCause plan X inputs τ u.channel u.token
+  pub begins : (b : Begun T) → way ≡ Some b → (q : ℕ) → IsPrefix (at b.inputs q) (at p.got q)
+  pub tagged : (b : Begun T) → way ≡ Some b → b.tag ≡ tag
 
 module _ {T S : Type 0} (facts : Facts T S) (step : Stepping T S) (tag : Tag) (plan : RvPlan) (X : Places T) (inputs : Streams T) (ks : List S) where
   pub cause-more : (τ τ' : ℕ → List (Turned T)) → AllMore τ τ' → (i q : ℕ) (x : T) → CauseAt plan X inputs τ i q x → CauseAt plan X inputs τ' i q x
@@ -139,7 +150,7 @@ module _ {T S : Type 0} (facts : Facts T S) (step : Stepping T S) (tag : Tag) (p
   put-more τ τ' m c x (inr (inr h)) = inr (inr (comes-more inputs τ τ' m x (get plan.net.sources c) h))
 
   abbrev Is : (ℕ → List (Turned T)) → List (Turned T) → ℕ → Party T S → Type 0
-  Is τ ts i p = PartyIs facts step plan X inputs ks τ ts i p
+  Is τ ts i p = PartyIs facts step tag plan X inputs ks τ ts i p
 
   party-more : (τ τ' : ℕ → List (Turned T)) → AllMore τ τ' → (ts : List (Turned T)) (i : ℕ) (p : Party T S) → Is τ ts i p → Is τ' ts i p
   party-more τ τ' m ts i p h = record {
@@ -152,6 +163,8 @@ module _ {T S : Type 0} (facts : Facts T S) (step : Stepping T S) (tag : Tag) (p
     begun = λ b e q x f. cause-more τ τ' m i q x (h.begun b e q x f);
     got = λ q x f. cause-more τ τ' m i q x (h.got q x f);
     puts = λ u f. put-more τ τ' m u.channel u.token (h.puts u f);
+    begins = h.begins;
+    tagged = h.tagged;
   }
 
   -- the firing that a process makes
@@ -210,6 +223,8 @@ module _ {T S : Type 0} (facts : Facts T S) (step : Stepping T S) (tag : Tag) (p
       begun = λ b g q x f. cause-more τ τ' m i q x (h.got q x (subst (λ (v : Begun T). Has x (at v.inputs q)) (sym (some-begun b g)) f));
       got = λ q x f. cause-more τ τ' m i q x (h.got q x f);
       puts = λ u f. put-more τ τ' m u.channel u.token (h.puts u f);
+      begins = λ b g q. subst (λ (v : Begun T). IsPrefix (at v.inputs q) (at p.got q)) (some-begun b g) (IsPrefix-refl (at p.got q));
+      tagged = λ b g. sym (ap (λ (v : Begun T). v.tag) (some-begun b g));
     }
       where
         some-begun : (b : Begun T) → Some (record { tag = tag; inputs = p.got }) ≡ Some b → record { tag = tag; inputs = p.got } ≡ b
@@ -222,6 +237,8 @@ module _ {T S : Type 0} (facts : Facts T S) (step : Stepping T S) (tag : Tag) (p
       well = λ g. refl;
       taken = λ t g q x f. taken_by t q x f (has-either t ts (turn ∷ []) g);
       begun = λ b g. absurd (clash b g);
+      begins = λ b g. absurd (clash b g);
+      tagged = λ b g. absurd (clash b g);
       got = λ q x f. absurd (nothing-got p.got q x f);
       puts = λ u f.
           let c = put-from plan.net.sources i 0 out u f in
@@ -291,3 +308,88 @@ module _ {T S : Type 0} (facts : Facts T S) (step : Stepping T S) (tag : Tag) (p
   pub advanced-long : (k b : ℕ) (ps : List (Party T S)) → length (all_advanced facts step tag plan.net.sources k b ps) ≡ length ps
   advanced-long k b [] = refl
   advanced-long k b (p ∷ ps) = ap (λ n. suc n) (advanced-long k (suc b) ps)
+
+  -- what firings take and give, as often as they do
+  nothing-at : (Y : Streams T) (q : ℕ) → at (emptied Y) q ≡ []
+  nothing-at [] q = refl
+  nothing-at (xs ∷ Y) zero = refl
+  nothing-at (xs ∷ Y) (suc q) = nothing-at Y q
+
+  emptied-long : (Y : Streams T) → length (emptied Y) ≡ length Y
+  emptied-long [] = refl
+  emptied-long (xs ∷ Y) = ap (λ n. suc n) (emptied-long Y)
+
+  fires-with-none : (p : Party T S) → next_event facts p ≡ Fires → p.puts ≡ []
+  fires-with-none p e = go p.mood p.puts e
+    where
+      go : (m : Mood) (us : List (Put T)) → by_mood m (by_puts us (by_need p.barrier (facts.need p.state) p.got)) ≡ Fires → us ≡ []
+      go m [] e = refl
+      go Well (u ∷ us) e = absurd (cc)
+      go (Broken fs) (u ∷ us) e = absurd (cc)
+
+  same-number : (i : ℕ) → nat_eq i i ≡ true
+  same-number i = grind (arith, nat_tests)
+
+  -- a process after a firing, place by place and channel by channel
+  record Moved (i : ℕ) (p p' : Party T S) (ts : List (Turned T)) : Type 0 where
+    moved_got : (q : ℕ) → of_turns (inputs_at q) ts ++ at p'.got q ≡ at p.got q
+    moved_puts : (c port : ℕ) → get plan.net.sources c ≡ Some (Output i port) → tokens_on c p'.puts ≡ tokens_on c p.puts ++ of_turns (outputs_at port) ts
+    moved_room : length p'.got ≡ length p.got
+
+  moved-none : (i : ℕ) (p : Party T S) → Moved i p p []
+  moved-none i p = record { moved_got = λ q. refl; moved_puts = λ c port e. sym (append-nil (tokens_on c p.puts)); moved_room = refl }
+
+  moved-fired : (i : ℕ) (p : Party T S) → p.puts ≡ [] → (r : Outcome T S) → Moved i p (fired facts step tag plan.net.sources i p (recorded (facts.made p.state) tag p.got r)) (turn_of p r)
+  unfolding turn_of
+  moved-fired i p none (Stuck fs l) = record { moved_got = λ q. refl; moved_puts = λ c port e. sym (append-nil (tokens_on c p.puts)); moved_room = refl }
+  moved-fired i p none (Done s out l) = record {
+    moved_got = λ q. ap (λ v. (at p.got q ++ []) ++ v) (nothing-at p.got q) ∙ append-nil (at p.got q ++ []) ∙ append-nil (at p.got q);
+    moved_puts = λ c port e.
+        puts-are plan.net i out c ∙ ap (λ o. puts_from i out o) e ∙ ap (λ b. if b then at out port else []) (same-number i) ∙ sym (append-nil (at out port)) ∙
+        ap (λ us. tokens_on c us ++ (at out port ++ [])) (sym none);
+    moved_room = emptied-long p.got;
+  }
+
+  moved-next : (i : ℕ) (p : Party T S) → Moved i p (advance facts step tag plan.net.sources i p) (next_turns (next_event facts p) p)
+  unfolding next_turns
+  moved-next i p = go (next_event facts p) refl
+    where
+      go : (n : Next) → next_event facts p ≡ n → Moved i p (if_fires facts step tag plan.net.sources n i p) (next_turns n p)
+      go Fires e = moved-fired i p (fires-with-none p e) (step tag p.state p.got)
+      go Puts e = moved-none i p
+      go (Gets q) e = moved-none i p
+      go GetsAny e = moved-none i p
+      go Joins e = moved-none i p
+      go Idle e = moved-none i p
+      go Sticks e = moved-none i p
+
+  moved-on : (i : ℕ) (p p' p'' : Party T S) (ts us : List (Turned T)) → Moved i p p' ts → Moved i p' p'' us → Moved i p p'' (ts ++ us)
+  moved-on i p p' p'' ts us a b = record {
+    moved_got = λ q. ap (λ v. v ++ at p''.got q) (turns-append (inputs_at q) ts us) ∙ append_assoc (of_turns (inputs_at q) ts) (of_turns (inputs_at q) us) (at p''.got q) ∙ ap (λ v. of_turns (inputs_at q) ts ++ v) (b.moved_got q) ∙ a.moved_got q;
+    moved_puts = λ c port e.
+        b.moved_puts c port e ∙ ap (λ v. v ++ of_turns (outputs_at port) us) (a.moved_puts c port e) ∙ append_assoc (tokens_on c p.puts) (of_turns (outputs_at port) ts) (of_turns (outputs_at port) us) ∙
+        ap (λ v. tokens_on c p.puts ++ v) (sym (turns-append (outputs_at port) ts us));
+    moved_room = b.moved_room ∙ a.moved_room;
+  }
+
+  moved-in : (k i : ℕ) (p : Party T S) → Moved i p (advanced facts step tag plan.net.sources k i p) (turns_in k i p)
+  unfolding advanced turns_in
+  moved-in zero i p = moved-none i p
+  moved-in (suc k) i p = moved-on i p (advance facts step tag plan.net.sources i p) (advanced facts step tag plan.net.sources k i (advance facts step tag plan.net.sources i p)) (next_turns (next_event facts p) p) (turns_in k i (advance facts step tag plan.net.sources i p)) (moved-next i p) (moved-in k i (advance facts step tag plan.net.sources i p))
+
+  pub got-moved : (k b : ℕ) (ps : List (Party T S)) (i q : ℕ) → of_turns (inputs_at q) (all_turns k b ps i) ++ at (got_by (all_got (all_advanced facts step tag plan.net.sources k b ps)) i) q ≡ at (got_by (all_got ps) i) q
+  unfolding all_turns
+  got-moved k b [] i q = refl
+  got-moved k b (p ∷ ps) zero q = (moved-in k b p).moved_got q
+  got-moved k b (p ∷ ps) (suc i) q = got-moved k (suc b) ps i q
+
+  pub room-moved : (k b : ℕ) (ps : List (Party T S)) (i : ℕ) → length (got_by (all_got (all_advanced facts step tag plan.net.sources k b ps)) i) ≡ length (got_by (all_got ps) i)
+  room-moved k b [] i = refl
+  room-moved k b (p ∷ ps) zero = (moved-in k b p).moved_room
+  room-moved k b (p ∷ ps) (suc i) = room-moved k (suc b) ps i
+
+  pub puts-moved : (k b : ℕ) (ps : List (Party T S)) (i c port : ℕ) → get plan.net.sources c ≡ Some (Output (b + i) port) → tokens_on c (at (all_puts (all_advanced facts step tag plan.net.sources k b ps)) i) ≡ tokens_on c (at (all_puts ps) i) ++ of_turns (outputs_at port) (all_turns k b ps i)
+  unfolding all_turns
+  puts-moved k b [] i c port e = refl
+  puts-moved k b (p ∷ ps) zero c port e = let a : b + 0 ≡ b = omega arith in (moved-in k b p).moved_puts c port (e ∙ ap (λ v. Option.Some (Output v port)) a)
+  puts-moved k b (p ∷ ps) (suc i) c port e = let a : b + suc i ≡ suc b + i = omega arith in puts-moved k (suc b) ps i c port (e ∙ ap (λ v. Option.Some (Output v port)) a)

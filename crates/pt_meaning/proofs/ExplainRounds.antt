@@ -1,5 +1,6 @@
 -- The firings of SDF and PN explained.
-use Rattle.std.proofs.Common.{◌≡◌, ◌⊎◌, ℕ, zero, suc, ◌+◌, ◌≤◌, ◌-◌, List, [], ◌∷◌, ◌++◌, Bool, true, false, ◌&&◌, length, take, drop, Option, Some, None, inl, inr, refl, sym, ap, subst, arith, ◌∙◌, append_assoc, length-append}
+use Rattle.std.proofs.Common.{◌≡◌, ◌⊎◌, ℕ, zero, suc, ◌+◌, ◌≤◌, ◌<◌, ◌-◌, List, [], ◌∷◌, ◌++◌, Bool, true, false, ◌&&◌, length, take, drop, Option, Some, None, inl, inr, refl, sym, ap, subst, arith, ◌∙◌, append_assoc, append-nil, length-append, nat_lt, if◌then◌else◌}
+use Rattle.std.proofs.lemmas.Bool.Decides.{nat_tests}
 use Rattle.std.proofs.lemmas.List.{length-take-le, length-drop}
 use Rattle.std.proofs.Math.Path.{fun_ext}
 use Rattle.pt_meaning.specs.Basics.{Tag, Streams, at, Below, Log, Path, silent, log_below}
@@ -13,19 +14,23 @@ use Rattle.pt_meaning.specs.Node.{Core}
 use Rattle.pt_meaning.specs.Causes.{Has, Begun, first_channel, source_in, source_of}
 use Rattle.pt_meaning.specs.Running.{total}
 use Rattle.pt_meaning.specs.LogsOfRuns.{log_at}
-use Rattle.pt_meaning.specs.SoundRuns.{OnPlace, IsWired}
-use Rattle.pt_meaning.specs.Explained.{Turned, PartOf, GivenBy, ComesNow, ComesNowOrEarly, DoneWell, IfDone, Explained}
+use Rattle.pt_meaning.specs.Streams.{IsPrefix}
+use Rattle.pt_meaning.specs.Channels as channels
+use Rattle.pt_meaning.specs.Closed.{if_there, inputs_at, outputs_at, begun_at, is_modal, keeps_tokens, IsTagBelow}
+use Rattle.pt_meaning.specs.Channels.{further, channel_at, tokens_in}
+use Rattle.pt_meaning.specs.SoundRuns.{OnPlace, on_place, IsWired, IsSamePlan}
+use Rattle.pt_meaning.specs.Explained.{Turned, PartOf, GivenBy, ComesNow, ComesNowOrEarly, DoneWell, IfDone, Explained, of_turns, takes_in, gives_in}
 use Rattle.pt_meaning.specs.Explained as explained
-use Rattle.pt_meaning.proofs.Order.{Below-take, Below-drop}
-use Rattle.pt_meaning.proofs.RoundLaws.{grows-refl, round-below}
+use Rattle.pt_meaning.proofs.Order.{IsPrefix-refl, IsPrefix-trans, IsPrefix-after, IsPrefix-append, Below-take, Below-drop}
+use Rattle.pt_meaning.proofs.RoundLaws.{grows-refl, round-below, gave-below, flows-below}
 use Rattle.pt_meaning.proofs.RunLaws.{left-length}
-use Rattle.pt_meaning.proofs.KahnLaws.{and-left, and-right, at-rest}
+use Rattle.pt_meaning.proofs.KahnLaws.{and-left, and-right, at-rest, fixed}
 use Rattle.pt_meaning.proofs.LogLaws.{log-of-settled}
 use Rattle.pt_meaning.proofs.CountLaws.{within-grows}
 use Rattle.pt_meaning.proofs.SettledLaws.{round-long, rest-free}
 use Rattle.pt_meaning.proofs.FiringLaws.{arrived-long, flows-left, flows-count}
 use Rattle.pt_meaning.proofs.LevelLaws.{has-either}
-use Rattle.pt_meaning.proofs.ExplainFlows.{turns_of, stuck_of, flow-is, turns-has, free-unstuck}
+use Rattle.pt_meaning.proofs.ExplainFlows.{turns_of, stuck_of, FlowIs, flow-is, turns-has, free-unstuck}
 
 -- streams by number
 at-take : {T : Type 0} (n : ℕ) (X : Streams T) (q : ℕ) (x : T) → Has x (at (take n X) q) → Has x (at X q)
@@ -38,6 +43,84 @@ at-drop : {T : Type 0} (n : ℕ) (X : Streams T) (q : ℕ) → at (drop n X) q �
 at-drop zero X q = let a : q ≡ 0 + q = omega arith in ap (λ v. at X v) a
 at-drop (suc n) [] q = refl
 at-drop (suc n) (xs ∷ X) q = let a : suc (n + q) ≡ suc n + q = omega arith in at-drop n X q ∙ ap (λ v. at (xs ∷ X) v) a
+
+-- channels by their places
+none-at : {T : Type 0} (n q : ℕ) (X : Streams T) → nat_lt q n ≡ false → at (take n X) q ≡ []
+none-at zero q X e = refl
+none-at (suc n) q [] e = refl
+none-at (suc n) zero (xs ∷ X) e = absurd (grind (arith, nat_tests, e))
+none-at (suc n) (suc q) (xs ∷ X) e = let a : nat_lt q n ≡ false = grind (arith, nat_tests, e) in none-at n q X a
+
+same-at : {T : Type 0} (n q : ℕ) (X : Streams T) → nat_lt q n ≡ true → at (take n X) q ≡ at X q
+same-at zero q X e = absurd (grind (arith, nat_tests, e))
+same-at (suc n) q [] e = refl
+same-at (suc n) zero (xs ∷ X) e = refl
+same-at (suc n) (suc q) (xs ∷ X) e = let a : nat_lt q n ≡ true = grind (arith, nat_tests, e) in same-at n q X a
+
+pub at-first : {T : Type 0} (n q : ℕ) (X : Streams T) → at (take n X) q ≡ tokens_in X (if nat_lt q n then Some q else None)
+at-first {T} n q X = go (nat_lt q n) refl
+  where
+    go : (b : Bool) → nat_lt q n ≡ b → at (take n X) q ≡ tokens_in X (if b then Some q else None)
+    go true e = same-at n q X e
+    go false e = none-at n q X e
+
+pub tokens-further : {T : Type 0} (n : ℕ) (X : Streams T) (o : Option ℕ) → tokens_in (drop n X) o ≡ tokens_in X (further n o)
+tokens-further n X None = refl
+tokens-further n X (Some c) = at-drop n X c
+
+at-behind-it : {T : Type 0} (F Y : Streams T) (c : ℕ) → at (F ++ Y) (length F + c) ≡ at Y c
+at-behind-it [] Y c = let a : 0 + c ≡ c = omega arith in ap (λ v. at Y v) a
+at-behind-it (xs ∷ F) Y c = let a : suc (length F) + c ≡ suc (length F + c) = omega arith in ap (λ v. at (xs ∷ (F ++ Y)) v) a ∙ at-behind-it F Y c
+
+tokens-append : {T : Type 0} (n : ℕ) (F Y : Streams T) → length F ≡ n → (o : Option ℕ) → tokens_in (F ++ Y) (further n o) ≡ tokens_in Y o
+tokens-append n F Y e None = refl
+tokens-append n F Y e (Some c) = ap (λ v. at (F ++ Y) (v + c)) (sym e) ∙ at-behind-it F Y c
+
+at-before : {T : Type 0} (F Y : Streams T) (q : ℕ) → q < length F → at (F ++ Y) q ≡ at F q
+at-before [] Y q h = absurd (omega (arith, h))
+at-before (xs ∷ F) Y zero h = refl
+at-before (xs ∷ F) Y (suc q) h = at-before F Y q (omega (arith, h))
+
+at-none : {T : Type 0} (F : Streams T) (q : ℕ) → length F ≤ q → at F q ≡ []
+at-none [] q h = refl
+at-none (xs ∷ F) zero h = absurd (omega (arith, h))
+at-none (xs ∷ F) (suc q) h = at-none F q (omega (arith, h))
+
+at-append-if : {T : Type 0} (n q : ℕ) (F Y : Streams T) → length F ≡ n → at F q ≡ tokens_in (F ++ Y) (if nat_lt q n then Some q else None)
+at-append-if {T} n q F Y e = go (nat_lt q n) refl
+  where
+    below : nat_lt q n ≡ true → q < n
+    below h = grind (arith, nat_tests, h)
+
+    above : nat_lt q n ≡ false → n ≤ q
+    above h = grind (arith, nat_tests, h)
+
+    go : (b : Bool) → nat_lt q n ≡ b → at F q ≡ tokens_in (F ++ Y) (if b then Some q else None)
+    go true h = let b = below h in sym (at-before F Y q (omega (arith, b, e)))
+    go false h = let b = above h in at-none F q (omega (arith, b, e))
+
+-- a place's channel is one of those of the children
+pub channel-within : (ns : List ℕ) (i q c : ℕ) → channel_at ns i q ≡ Some c → c < total ns
+channel-within [] i q c e = absurd (cc)
+channel-within (n ∷ ns) zero q c e = go (nat_lt q n) refl e
+  where
+    below : nat_lt q n ≡ true → q < n
+    below h = grind (arith, nat_tests, h)
+
+    some-nat : Some q ≡ Some c → q ≡ c
+    some-nat e = cc
+
+    clash : None ≡ Some c → ⊥
+    clash e = cc
+
+    go : (b : Bool) → nat_lt q n ≡ b → (if b then Some q else None) ≡ Some c → c < n + total ns
+    go true h e = let b = below h in let s = some-nat e in omega (arith, b, s)
+    go false h e = absurd (clash e)
+channel-within (n ∷ ns) (suc i) q c e = go (channel_at ns i q) (λ d h. channel-within ns i q d h) e
+  where
+    go : (o : Option ℕ) → ((d : ℕ) → o ≡ Some d → d < total ns) → further n o ≡ Some c → c < n + total ns
+    go None h e = absurd (cc)
+    go (Some d) h e = let b = h d refl in let s : n + d ≡ c = cc in omega (arith, b, s)
 
 -- the firings of each child, by its number
 module _ {T S : Type 0} (facts : Facts T S) (step : Stepping T S) (tag : Tag) where
@@ -107,6 +190,67 @@ module _ {T S : Type 0} (facts : Facts T S) (step : Stepping T S) (tag : Tag) wh
   given-at (n ∷ ns) (c ∷ cs) k [] X j port x h = absurd h
   given-at (n ∷ ns) (c ∷ cs) k (s ∷ ss) X zero port x h = (flow-is facts step c.rates tag (within c.firings k) s (take n X)).given port x h
   given-at (n ∷ ns) (c ∷ cs) k (s ∷ ss) X (suc j) port x h = given-at ns cs k ss (drop n X) j port x h
+
+  -- as often as it takes and gives them
+  takes-at : (ns : List ℕ) (cs : List Limit) (k : ℕ) (ss : List S) (X : Streams T) (i q : ℕ) → IsPrefix (of_turns (inputs_at q) (turns_at ns cs k ss X i) ++ begun_at (stuck_at ns cs k ss X i) q) (tokens_in X (channel_at ns i q))
+  takes-at [] cs k ss X i q = tt
+  takes-at (n ∷ ns) [] k ss X i q = tt
+  takes-at (n ∷ ns) (c ∷ cs) k [] X i q = tt
+  takes-at (n ∷ ns) (c ∷ cs) k (s ∷ ss) X zero q =
+      let f = flow-is facts step c.rates tag (within c.firings k) s (take n X) in
+      let way = stuck_of facts (rated facts c.rates step) tag (within c.firings k) s (take n X) in
+      subst (λ v. IsPrefix (of_turns (inputs_at q) (turns_of facts (rated facts c.rates step) tag (within c.firings k) s (take n X)) ++ begun_at way q) v) (sym (f.used q) ∙ at-first n q X)
+      (IsPrefix-after (of_turns (inputs_at q) (turns_of facts (rated facts c.rates step) tag (within c.firings k) s (take n X))) (begun_at way q) (at (flow facts (rated facts c.rates step) tag (within c.firings k) s (take n X)).left q) (f.begins q))
+  takes-at (n ∷ ns) (c ∷ cs) k (s ∷ ss) X (suc i) q = subst (λ v. IsPrefix (of_turns (inputs_at q) (turns_at ns cs k ss (drop n X) i) ++ begun_at (stuck_at ns cs k ss (drop n X) i) q) v) (tokens-further n X (channel_at ns i q)) (takes-at ns cs k ss (drop n X) i q)
+
+  gives-at : (ns : List ℕ) (cs : List Limit) (k : ℕ) (ss : List S) (X : Streams T) (j port : ℕ) → gave (flows facts step tag ns cs k ss X) j port ≡ of_turns (outputs_at port) (turns_at ns cs k ss X j)
+  gives-at [] cs k ss X j port = refl
+  gives-at (n ∷ ns) [] k ss X j port = refl
+  gives-at (n ∷ ns) (c ∷ cs) k [] X j port = refl
+  gives-at (n ∷ ns) (c ∷ cs) k (s ∷ ss) X zero port = (flow-is facts step c.rates tag (within c.firings k) s (take n X)).gives port
+  gives-at (n ∷ ns) (c ∷ cs) k (s ∷ ss) X (suc j) port = gives-at ns cs k ss (drop n X) j port
+
+  stuck-tagged : (ns : List ℕ) (cs : List Limit) (k : ℕ) (ss : List S) (X : Streams T) (i : ℕ) (b : Begun T) → stuck_at ns cs k ss X i ≡ Some b → b.tag ≡ tag
+  stuck-tagged [] cs k ss X i b e = absurd (cc)
+  stuck-tagged (n ∷ ns) [] k ss X i b e = absurd (cc)
+  stuck-tagged (n ∷ ns) (c ∷ cs) k [] X i b e = absurd (cc)
+  stuck-tagged (n ∷ ns) (c ∷ cs) k (s ∷ ss) X zero b e = (flow-is facts step c.rates tag (within c.firings k) s (take n X)).tagged b e
+  stuck-tagged (n ∷ ns) (c ∷ cs) k (s ∷ ss) X (suc i) b e = stuck-tagged ns cs k ss (drop n X) i b e
+
+  -- and what is left is behind it
+  rest-at : (ns : List ℕ) (cs : List Limit) (k : ℕ) (ss : List S) (X own : Streams T) → length cs ≡ length ns → length ss ≡ length ns → total ns ≤ length X → (i q : ℕ) →
+      tokens_in X (channel_at ns i q) ≡ of_turns (inputs_at q) (turns_at ns cs k ss X i) ++ tokens_in (left_by (flows facts step tag ns cs k ss X) ++ own) (channel_at ns i q)
+  rest-at [] cs k ss X own a b w i q = refl
+  rest-at (n ∷ ns) [] k ss X own a b w i q = absurd (omega arith)
+  rest-at (n ∷ ns) (c ∷ cs) k [] X own a b w i q = absurd (omega arith)
+  rest-at (n ∷ ns) (c ∷ cs) k (s ∷ ss) X own a b w zero q = sym (at-first n q X) ∙ f.used q ∙ ap (λ v. of_turns (inputs_at q) (turns_of facts (rated facts c.rates step) tag (within c.firings k) s (take n X)) ++ v) (inner ∙ ap (λ v. tokens_in v (if nat_lt q n then Some q else None)) (sym (append_assoc F L own)))
+    where
+      F : Streams T
+      F = (flow facts (rated facts c.rates step) tag (within c.firings k) s (take n X)).left
+
+      L : Streams T
+      L = left_by (flows facts step tag ns cs k ss (drop n X))
+
+      len : length F ≡ n
+      len = left-length facts (rated facts c.rates step) tag (within c.firings k) s (take n X) ∙ length-take-le n X (omega (arith, w))
+
+      f : FlowIs facts step tag s (take n X) (flow facts (rated facts c.rates step) tag (within c.firings k) s (take n X)) (turns_of facts (rated facts c.rates step) tag (within c.firings k) s (take n X)) (stuck_of facts (rated facts c.rates step) tag (within c.firings k) s (take n X))
+      f = flow-is facts step c.rates tag (within c.firings k) s (take n X)
+
+      inner : at F q ≡ tokens_in (F ++ (L ++ own)) (if nat_lt q n then Some q else None)
+      inner = at-append-if n q F (L ++ own) len
+  rest-at (n ∷ ns) (c ∷ cs) k (s ∷ ss) X own a b w (suc i) q =
+      sym (tokens-further n X (channel_at ns i q)) ∙ rest-at ns cs k ss (drop n X) own (omega (arith, a)) (omega (arith, b)) (omega (arith, w, length-drop n X)) i q ∙
+      ap (λ v. of_turns (inputs_at q) (turns_at ns cs k ss (drop n X) i) ++ v) (sym (tokens-append n F (L ++ own) len (channel_at ns i q)) ∙ ap (λ v. tokens_in v (further n (channel_at ns i q))) (sym (append_assoc F L own)))
+    where
+      F : Streams T
+      F = (flow facts (rated facts c.rates step) tag (within c.firings k) s (take n X)).left
+
+      L : Streams T
+      L = left_by (flows facts step tag ns cs k ss (drop n X))
+
+      len : length F ≡ n
+      len = left-length facts (rated facts c.rates step) tag (within c.firings k) s (take n X) ∙ length-take-le n X (omega (arith, w))
 
   turns-later : (ns : List ℕ) (cs : List Limit) (j k : ℕ) → j ≤ k → (ss : List S) (X Y : Streams T) → Below X Y → (i : ℕ) (t : Turned T) → Has t (turns_at ns cs j ss X i) → Has t (turns_at ns cs k ss Y i)
   turns-later [] cs j k o ss X Y b i t h = absurd h
@@ -185,6 +329,54 @@ module _ {T S : Type 0} (facts : Facts T S) (step : Stepping T S) (tag : Tag) wh
         go (Own port) (inr g) = absurd g
         go (Output j port) (inr g) = inr (f j port x g)
 
+    -- in order
+    arrived-as : (ts : ℕ → List (Turned T)) (s : Source) (z : List T) → IsPrefix (z ++ arrival s inputs) (z ++ gives_in inputs ts (Some s))
+    arrived-as ts (Own port) z = IsPrefix-refl (z ++ at inputs port)
+    arrived-as ts (Output j port) z = IsPrefix-after z [] (of_turns (outputs_at port) (ts j)) tt
+
+    arrived-at : (ts : ℕ → List (Turned T)) (cs : List Source) (Z : Streams T) (c : ℕ) → IsPrefix (at (arrived cs inputs Z) c) (at Z c ++ gives_in inputs ts (get cs c))
+    arrived-at ts [] Z c = IsPrefix-append (at Z c) []
+    arrived-at ts (s ∷ cs) [] c = tt
+    arrived-at ts (s ∷ cs) (z ∷ Z) zero = arrived-as ts s z
+    arrived-at ts (s ∷ cs) (z ∷ Z) (suc c) = arrived-at ts cs Z c
+
+    refilled-as : (fs : List (Flow T S)) (ts : ℕ → List (Turned T)) → ((j port : ℕ) → IsPrefix (gave fs j port) (of_turns (outputs_at port) (ts j))) → (s : Source) (z : List T) → IsPrefix ((z ++ arrival s inputs) ++ fed fs s) (z ++ gives_in inputs ts (Some s))
+    refilled-as fs ts f (Own port) z = subst (λ v. IsPrefix v (z ++ at inputs port)) (sym (append-nil (z ++ at inputs port))) (IsPrefix-refl (z ++ at inputs port))
+    refilled-as fs ts f (Output j port) z = subst (λ v. IsPrefix (v ++ gave fs j port) (z ++ of_turns (outputs_at port) (ts j))) (sym (append-nil z)) (IsPrefix-after z (gave fs j port) (of_turns (outputs_at port) (ts j)) (f j port))
+
+    refilled-at : (fs : List (Flow T S)) (ts : ℕ → List (Turned T)) → ((j port : ℕ) → IsPrefix (gave fs j port) (of_turns (outputs_at port) (ts j))) → (cs : List Source) (Z : Streams T) (c : ℕ) → IsPrefix (at (refill fs cs (arrived cs inputs Z)) c) (at Z c ++ gives_in inputs ts (get cs c))
+    refilled-at fs ts f [] Z c = IsPrefix-append (at Z c) []
+    refilled-at fs ts f (s ∷ cs) [] c = tt
+    refilled-at fs ts f (s ∷ cs) (z ∷ Z) zero = refilled-as fs ts f s z
+    refilled-at fs ts f (s ∷ cs) (z ∷ Z) (suc c) = refilled-at fs ts f cs Z c
+
+    round-at : (K k : ℕ) → k ≤ K → (c : ℕ) → IsPrefix (at (round facts step tag net limits ks (arrived net.sources inputs X) k) c) (at X c ++ gives_in inputs (now_turns K) (get net.sources c))
+    unfolding round
+    round-at K zero o c = arrived-at (now_turns K) net.sources X c
+    round-at K (suc k) o c = refilled-at (flows facts step tag net.places limits (suc k) ks (round facts step tag net limits ks (arrived net.sources inputs X) k)) (now_turns K) later net.sources X c
+      where
+        later : (j port : ℕ) → IsPrefix (gave (flows facts step tag net.places limits (suc k) ks (round facts step tag net limits ks (arrived net.sources inputs X) k)) j port) (of_turns (outputs_at port) (now_turns K j))
+        later j port =
+            subst (λ v. IsPrefix (gave (flows facts step tag net.places limits (suc k) ks (round facts step tag net limits ks (arrived net.sources inputs X) k)) j port) v) (gives-at net.places limits K ks (round facts step tag net limits ks (arrived net.sources inputs X) K) j port)
+            (gave-below _ _ (flows-below facts step step tag (grows-refl step) net.places limits (suc k) K o ks _ _ (round-below facts step step tag (grows-refl step) net limits ks (arrived net.sources inputs X) k K (omega (arith, o)))) j port)
+
+    -- and in all where the round is settled
+    filled-as : (fs : List (Flow T S)) (ts : ℕ → List (Turned T)) → ((j port : ℕ) → gave fs j port ≡ of_turns (outputs_at port) (ts j)) → (s : Source) (z : List T) → (z ++ arrival s inputs) ++ fed fs s ≡ z ++ gives_in inputs ts (Some s)
+    filled-as fs ts f (Own port) z = append-nil (z ++ at inputs port)
+    filled-as fs ts f (Output j port) z = ap (λ v. v ++ gave fs j port) (append-nil z) ∙ ap (λ v. z ++ v) (f j port)
+
+    filled-at : (fs : List (Flow T S)) (ts : ℕ → List (Turned T)) → ((j port : ℕ) → gave fs j port ≡ of_turns (outputs_at port) (ts j)) → (cs : List Source) (Z : Streams T) (c : ℕ) → c < length Z → at (refill fs cs (arrived cs inputs Z)) c ≡ at Z c ++ gives_in inputs ts (get cs c)
+    filled-at fs ts f [] Z c h = sym (append-nil (at Z c))
+    filled-at fs ts f (s ∷ cs) [] c h = absurd (omega (arith, h))
+    filled-at fs ts f (s ∷ cs) (z ∷ Z) zero h = filled-as fs ts f s z
+    filled-at fs ts f (s ∷ cs) (z ∷ Z) (suc c) h = filled-at fs ts f cs Z c (omega (arith, h))
+
+    settled-at : (k : ℕ) → settled facts step tag net limits ks (arrived net.sources inputs X) k ≡ true → (c : ℕ) → c < length X → at (round facts step tag net limits ks (arrived net.sources inputs X) k) c ≡ at X c ++ gives_in inputs (now_turns k) (get net.sources c)
+    settled-at k e c h =
+        let Y = round facts step tag net limits ks (arrived net.sources inputs X) k in
+        ap (λ v. at v c) (fixed facts step step tag (grows-refl step) net limits ks (arrived net.sources inputs X) k e) ∙
+        filled-at (flows facts step tag net.places limits k ks Y) (now_turns k) (λ j port. gives-at net.places limits k ks Y j port) net.sources X c h
+
     round-from : (K k : ℕ) → k ≤ K → (c : ℕ) (x : T) → Has x (at (round facts step tag net limits ks (arrived net.sources inputs X) k) c) → Has x (at X c) ⊎ ComesNow inputs (now_turns K) x (get net.sources c)
     unfolding round
     round-from K zero o c x h = arrived-from net.sources X c x (now_turns K) h
@@ -238,6 +430,11 @@ module _ {T S : Type 0} (facts : Facts T S) (step : Stepping T S) (tag : Tag) (n
     pub core_on : (Y : Streams T) (i q : ℕ) (x : T) → OnPlace (core Y) i q x → Has x (at Y (first_channel net.places i + q))
     pub core_from : (Y : Streams T) (i q : ℕ) → source_of (core Y) i q ≡ source_in net i q
     pub core_wired : (Y : Streams T) → total net.places ≤ length Y → IsWired (core Y)
+    pub place : (i q : ℕ) → on_place d i q ≡ tokens_in X (channel_at net.places i q)
+    pub core_place : (Y : Streams T) (i q : ℕ) → on_place (core Y) i q ≡ tokens_in Y (channel_at net.places i q)
+    pub source : (i q : ℕ) → channels.source_of d i q ≡ channels.source_in net i q
+    pub at_tag : IsTagBelow (is_modal d) tag tag
+    pub same : (Y : Streams T) → IsSamePlan (core Y) d
 
   module _ (reads : Reads) (a : length limits ≡ length net.places) (b : length ks ≡ length net.places) (w : total net.places ≤ length X) where
     wide : total net.places ≤ length end_round
@@ -249,6 +446,30 @@ module _ {T S : Type 0} (facts : Facts T S) (step : Stepping T S) (tag : Tag) (n
         go : Has x (at X (first_channel net.places i + q)) ⊎ ComesNow inputs (now_turns facts step tag net limits ks X inputs k) x (source_in net i q) → OnPlace d i q x ⊎ ComesNow inputs (now_turns facts step tag net limits ks X inputs k) x (source_of d i q)
         go (inl g) = inl (reads.on i q x g)
         go (inr g) = inr (subst (λ s. ComesNow inputs (now_turns facts step tag net limits ks X inputs k) x s) (sym (reads.from i q)) g)
+
+    round-place : (o : Option ℕ) → IsPrefix (tokens_in end_round o) (tokens_in X o ++ gives_in inputs (now_turns facts step tag net limits ks X inputs k) (if_there (get net.sources) o))
+    round-place None = tt
+    round-place (Some c) = round-at facts step tag net limits ks X inputs k k (omega arith) c
+
+    settled-place : settled facts step tag net limits ks start k ≡ true → (o : Option ℕ) → ((c : ℕ) → o ≡ Some c → c < length X) → tokens_in end_round o ≡ tokens_in X o ++ gives_in inputs (now_turns facts step tag net limits ks X inputs k) (if_there (get net.sources) o)
+    settled-place e None f = refl
+    settled-place e (Some c) f = settled-at facts step tag net limits ks X inputs k e c (f c refl)
+
+    -- each token that is taken, as often as it is
+    all-taken : (i q : ℕ) → IsPrefix (takes_in (now_turns facts step tag net limits ks X inputs k) (λ i. stuck_at facts step tag net.places limits k ks end_round i) i q) (on_place d i q ++ gives_in inputs (now_turns facts step tag net limits ks X inputs k) (channels.source_of d i q))
+    all-taken i q =
+        subst (λ v. IsPrefix (takes_in (now_turns facts step tag net limits ks X inputs k) (λ i. stuck_at facts step tag net.places limits k ks end_round i) i q) (v ++ gives_in inputs (now_turns facts step tag net limits ks X inputs k) (channels.source_of d i q))) (sym (reads.place i q))
+        (subst (λ v. IsPrefix (takes_in (now_turns facts step tag net limits ks X inputs k) (λ i. stuck_at facts step tag net.places limits k ks end_round i) i q) (tokens_in X (channel_at net.places i q) ++ gives_in inputs (now_turns facts step tag net limits ks X inputs k) v)) (sym (reads.source i q))
+        (IsPrefix-trans _ _ _ (takes-at facts step tag net.places limits k ks end_round i q) (round-place (channel_at net.places i q))))
+
+    all-left : settled facts step tag net limits ks start k ≡ true → (ms : List ℕ) → (i q : ℕ) →
+        of_turns (inputs_at q) (now_turns facts step tag net limits ks X inputs k i) ++ on_place (core (left_by end_flows ++ behind ms (skip_places net.places end_round))) i q ≡ on_place d i q ++ gives_in inputs (now_turns facts step tag net limits ks X inputs k) (channels.source_of d i q)
+    all-left e ms i q =
+        ap (λ v. of_turns (inputs_at q) (now_turns facts step tag net limits ks X inputs k i) ++ v) (reads.core_place _ i q) ∙
+        sym (rest-at facts step tag net.places limits k ks end_round (behind ms (skip_places net.places end_round)) a b wide i q) ∙
+        settled-place e (channel_at net.places i q) (λ c g. let h = channel-within net.places i q c g in omega (arith, h, w)) ∙
+        ap (λ v. v ++ gives_in inputs (now_turns facts step tag net limits ks X inputs k) (channels.source_in net i q)) (sym (reads.place i q)) ∙
+        ap (λ v. on_place d i q ++ gives_in inputs (now_turns facts step tag net limits ks X inputs k) v) (sym (reads.source i q))
 
     -- a cause from the firing is one that may be early
     may-be-early : (ts : ℕ → List (Turned T)) (t : Tag) (x : T) (s : Option Source) → ComesNow inputs ts x s → ComesNowOrEarly facts ks inputs ts t x s
@@ -276,7 +497,14 @@ module _ {T S : Type 0} (facts : Facts T S) (step : Stepping T S) (tag : Tag) (n
       wired = reads.core_wired _ (held-wide (behind ms (skip_places net.places end_round)));
       count = states-count facts step tag end_flows ∙ flows-count facts step tag net.places limits k ks end_round a b ∙ sym b;
       kids = λ i s e. inl (states-at facts step tag end_flows any i s e);
+      same_plan = reads.same _;
+      counted = λ i q. subst (λ v. IsPrefix v (on_place d i q ++ gives_in inputs (now_turns facts step tag net limits ks X inputs k) (channels.source_of d i q))) (no-way (of_turns (inputs_at q) (now_turns facts step tag net limits ks X inputs k i)) _ q (unstuck-at facts step tag net.places limits k ks end_round (at-rest facts step step tag (grows-refl step) net limits ks start k e) i)) (all-taken i q);
+      left = λ g i q. all-left e ms i q;
     }
+      where
+        no-way : (xs : List T) (o : Option (Begun T)) (q : ℕ) → o ≡ None → xs ++ begun_at o q ≡ xs
+        no-way xs None q g = append-nil xs
+        no-way xs (Some b) q g = absurd (cc)
 
     if-well : (g : Bool) → (g ≡ true → settled facts step tag net limits ks start k ≡ true) → (ms : List ℕ) (out : Streams T) →
         IfDone facts inputs d core ks (now_turns facts step tag net limits ks X inputs k) (λ i. stuck_at facts step tag net.places limits k ks end_round i) (λ i. end_at facts step tag end_flows any i)
@@ -284,7 +512,7 @@ module _ {T S : Type 0} (facts : Facts T S) (step : Stepping T S) (tag : Tag) (n
     if-well true e ms out = well (e refl) ms
     if-well false e ms out = tt
 
-    pub kahn-explained : Explained facts step inputs d core ks (kahn facts step tag net limits enough counts ks start k)
+    pub kahn-explained : Explained facts step tag inputs d core ks (kahn facts step tag net limits enough counts ks start k)
     unfolding kahn
     kahn-explained = record {
       events = [];
@@ -298,6 +526,8 @@ module _ {T S : Type 0} (facts : Facts T S) (step : Stepping T S) (tag : Tag) (n
       parts = λ i s e. parts-at facts step tag net.places limits k ks end_round any a b i s e;
       beyond = λ i h. beyond-at facts step tag net.places limits k ks end_round i h;
       taken = λ i q t x h. take i q t x h;
+      tagged = λ i w e. subst (λ v. IsTagBelow (is_modal d) tag v) (sym (stuck-tagged facts step tag net.places limits k ks end_round i w e)) reads.at_tag;
+      counted = λ i q. inl (all-taken i q);
       done = if-well (settled facts step tag net limits ks start k && enough end_flows) (λ e. and-left _ _ e) (counts (lengths (skip_places net.places end_round))) _;
     }
       where

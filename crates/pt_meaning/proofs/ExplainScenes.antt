@@ -11,6 +11,8 @@ use Rattle.pt_meaning.specs.Rendezvous.{RvPlan, Places}
 use Rattle.pt_meaning.specs.Causes.{Has, first_channel, rounds_of}
 use Rattle.pt_meaning.specs.SoundRuns.{IsBare, IsPutOn}
 use Rattle.pt_meaning.specs.Explained.{Turned, ComesNow}
+use Rattle.pt_meaning.specs.Streams.{IsPrefix}
+use Rattle.pt_meaning.proofs.Order.{IsPrefix-refl, IsPrefix-trans, IsPrefix-append}
 use Rattle.pt_meaning.proofs.MeetingIndex.{some-same}
 use Rattle.pt_meaning.proofs.LevelLaws.{has-either}
 use Rattle.pt_meaning.proofs.ExplainParties.{CauseAt, PutCause, PartyIs}
@@ -58,6 +60,13 @@ token-added {T} (suc r) y (xs ∷ X) (suc q) x h = up (token-added r y X q x h)
     up : Has x (at X q) ⊎ ((q ≡ r) × (x ≡ y)) → Has x (at X q) ⊎ ((suc q ≡ suc r) × (x ≡ y))
     up (inl g) = inl g
     up (inr g) = inr (ap (λ v. suc v) g.0, g.1)
+
+token-grows : {T : Type 0} (r : ℕ) (y : T) (X : Streams T) (q : ℕ) → IsPrefix (at X q) (at (change_at r (λ xs. xs ++ (y ∷ [])) X) q)
+token-grows r y [] q = tt
+token-grows zero y (xs ∷ X) zero = IsPrefix-append xs (y ∷ [])
+token-grows zero y (xs ∷ X) (suc q) = IsPrefix-refl (at X q)
+token-grows (suc r) y (xs ∷ X) zero = IsPrefix-refl xs
+token-grows (suc r) y (xs ∷ X) (suc q) = token-grows r y X q
 
 -- where channels end
 EndsAt : List ℕ → ℕ → Target → Type 0
@@ -112,8 +121,8 @@ all-end net (Channel c) = (ends-at net.places c (target_from 0 net.places c) ref
 all-end net (Barrier b) = let a : 0 + first_channel net.places b ≡ first_channel net.places b = omega arith in child-ends net.places b 0 net.places b a
 
 -- A scene explained: each process, and what the own inputs still have to put.
-pub record SceneIs {T S : Type 0} (facts : Facts T S) (step : Stepping T S) (plan : RvPlan) (X : Places T) (inputs : Streams T) (ks : List S) (τ : ℕ → List (Turned T)) (sc : Scene T S) : Type 0 where
-  pub parties : (i : ℕ) (p : Party T S) → get sc.parties i ≡ Some p → PartyIs facts step plan X inputs ks τ (τ i) i p
+pub record SceneIs {T S : Type 0} (facts : Facts T S) (step : Stepping T S) (tag : Tag) (plan : RvPlan) (X : Places T) (inputs : Streams T) (ks : List S) (τ : ℕ → List (Turned T)) (sc : Scene T S) : Type 0 where
+  pub parties : (i : ℕ) (p : Party T S) → get sc.parties i ≡ Some p → PartyIs facts step tag plan X inputs ks τ (τ i) i p
   pub inlets : (j : ℕ) (u : Put T) → Has u (at sc.inputs j) → PutCause plan X inputs τ u.channel u.token
   pub bare : IsBare sc.met
   pub quiet : firings_in sc.met ≡ 0
@@ -122,14 +131,14 @@ pub record SceneIs {T S : Type 0} (facts : Facts T S) (step : Stepping T S) (pla
 
 module _ {T S : Type 0} (facts : Facts T S) (step : Stepping T S) (tag : Tag) (plan : RvPlan) (X : Places T) (inputs : Streams T) (ks : List S) (τ : ℕ → List (Turned T)) where
   abbrev Holds : Scene T S → Type 0
-  Holds sc = SceneIs facts step plan X inputs ks τ sc
+  Holds sc = SceneIs facts step tag plan X inputs ks τ sc
 
   abbrev Is : ℕ → Party T S → Type 0
-  Is i p = PartyIs facts step plan X inputs ks τ (τ i) i p
+  Is i p = PartyIs facts step tag plan X inputs ks τ (τ i) i p
 
   -- a token is sent
   put-made : (i : ℕ) (p : Party T S) → Is i p → Is i (with_put_made p)
-  put-made i p h = record { start = h.start; at_start = h.at_start; way = h.way; whole = h.whole; well = h.well; taken = h.taken; begun = h.begun; got = h.got; puts = λ u g. h.puts u (rest-has u p.puts g) }
+  put-made i p h = record { start = h.start; at_start = h.at_start; way = h.way; whole = h.whole; well = h.well; taken = h.taken; begun = h.begun; got = h.got; puts = λ u g. h.puts u (rest-has u p.puts g); begins = h.begins; tagged = h.tagged }
 
   sent-is : (s : Option Source) (sc : Scene T S) → Holds sc → Holds (sent s sc)
   sent-is None sc h = h
@@ -153,7 +162,7 @@ module _ {T S : Type 0} (facts : Facts T S) (step : Stepping T S) (tag : Tag) (p
   CausedTo x (Place i q) = CauseAt plan X inputs τ i q x
 
   with-token-is : (i q : ℕ) (x : T) → CauseAt plan X inputs τ i q x → (p : Party T S) → Is i p → Is i (with_token q x p)
-  with-token-is i q x c p h = record { start = h.start; at_start = h.at_start; way = h.way; whole = h.whole; well = h.well; taken = h.taken; begun = h.begun; got = λ r y g. either r y (token-added q x p.got r y g); puts = h.puts }
+  with-token-is i q x c p h = record { start = h.start; at_start = h.at_start; way = h.way; whole = h.whole; well = h.well; taken = h.taken; begun = h.begun; got = λ r y g. either r y (token-added q x p.got r y g); puts = h.puts; begins = λ b e r. IsPrefix-trans _ _ _ (h.begins b e r) (token-grows q x p.got r); tagged = h.tagged }
     where
       either : (r : ℕ) (y : T) → Has y (at p.got r) ⊎ ((r ≡ q) × (y ≡ x)) → CauseAt plan X inputs τ i r y
       either r y (inl g) = h.got r y g

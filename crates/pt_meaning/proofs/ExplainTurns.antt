@@ -6,8 +6,10 @@ use Rattle.pt_meaning.specs.Machine.{Fault, Outcome, Done, Stuck, Stepping, Fact
 use Rattle.pt_meaning.specs.Tick.{all_single, single_outcome, if_single, sr_turn, heads, tails, rows_from, rows_of, longest, follows, and_then, by_rows, whole_or_rows, de_turn}
 use Rattle.pt_meaning.specs.Causes.{Has, Begun}
 use Rattle.pt_meaning.specs.LogsOfRuns.{log_in}
-use Rattle.pt_meaning.specs.Explained.{Turned, PartOf}
-use Rattle.pt_meaning.proofs.Order.{at-joined}
+use Rattle.pt_meaning.specs.Streams.{IsPrefix}
+use Rattle.pt_meaning.specs.Closed.{inputs_at, outputs_at, begun_at}
+use Rattle.pt_meaning.specs.Explained.{Turned, PartOf, of_turns}
+use Rattle.pt_meaning.proofs.Order.{at-joined, IsPrefix-refl, IsPrefix-trans, IsPrefix-after, IsPrefix-append}
 use Rattle.pt_meaning.proofs.LevelLaws.{has-either}
 
 -- what holds of a turn that starts in s on the inputs X
@@ -19,12 +21,18 @@ pub record TurnIs {T S : Type 0} (facts : Facts T S) (step : Stepping T S) (tag 
   pub begun : (b : Begun T) → way ≡ Some b → (q : ℕ) (x : T) → Has x (at b.inputs q) → Has x (at X q)
   pub done : (y : S) (out : Streams T) (l : Log T) → o ≡ Done y out l → (z ≡ y) × (way ≡ None) × ((port : ℕ) (x : T) → Has x (at out port) → (t : Turned T) × Has t ts × Has x (at t.record_of.outputs port))
 
+-- as often as it takes and gives them
+pub record TurnCounts {T S : Type 0} (X : Streams T) (o : Outcome T S) (ts : List (Turned T)) (way : Option (Begun T)) : Type 0 where
+  pub takes : (q : ℕ) → IsPrefix (of_turns (inputs_at q) ts ++ begun_at way q) (at X q)
+  pub gives : (y : S) (out : Streams T) (l : Log T) → o ≡ Done y out l → (port : ℕ) → at out port ≡ of_turns (outputs_at port) ts
+
 -- a kind of turn, explained for each state and inputs
 pub record Turning {T S : Type 0} (facts : Facts T S) (step turn : Stepping T S) (tag : Tag) : Type 0 where
   pub turns : S → Streams T → List (Turned T)
   pub way : S → Streams T → Option (Begun T)
   pub end : S → Streams T → S
   pub is : (s : S) (X : Streams T) → TurnIs facts step tag s X (turn tag s X) (turns s X) (way s X) (end s X)
+  pub counts : (s : S) (X : Streams T) → TurnCounts X (turn tag s X) (turns s X) (way s X)
 
 done-parts : {T S : Type 0} (a b : S) (x y : Streams T) (l m : Log T) → Done a x l ≡ Done b y m → (a ≡ b) × (x ≡ y)
 done-parts {T} {S} a b x y l m e = (ap state_of e, ap out_of e)
@@ -82,6 +90,18 @@ module _ {T S : Type 0} (facts : Facts T S) (step : Stepping T S) (tag : Tag) wh
       clash : (y : S) (o : Streams T) (k : Log T) → Stuck gs l ≡ Done y o k → ⊥
       clash y o k e = cc
 
+  one-counts : (s : S) (X : Streams T) (z : S) (out : Streams T) (l : Log T) → TurnCounts X (Done z out (log_then l (own (turn_of s X out l).record_of))) (turn_of s X out l ∷ []) None
+  one-counts s X z out l = record {
+    takes = λ q. subst (λ v. IsPrefix v (at X q)) (sym (append-nil (at X q ++ []) ∙ append-nil (at X q))) (IsPrefix-refl (at X q));
+    gives = λ y o k e port. ap (λ (v : Streams T). at v port) (sym (done-parts z y out o _ k e).1) ∙ sym (append-nil (at out port));
+  }
+
+  stuck-counts : (X : Streams T) (gs : List Fault) (l : Log T) → TurnCounts {S = S} X (Stuck gs l) [] (Some (record { tag = tag; inputs = X }))
+  stuck-counts X gs l = record { takes = λ q. IsPrefix-refl (at X q); gives = λ y o k e. absurd (clash y o k e) }
+    where
+      clash : (y : S) (o : Streams T) (k : Log T) → Stuck gs l ≡ Done y o k → ⊥
+      clash y o k e = cc
+
   -- SR
   abbrev pub sr_turns : S → Streams T → Outcome T S → List (Turned T)
   sr_turns s X (Done z out l) = if all_single out then turn_of s X out l ∷ [] else []
@@ -103,8 +123,16 @@ module _ {T S : Type 0} (facts : Facts T S) (step : Stepping T S) (tag : Tag) wh
       go true = one-is s X z out l d
       go false = stuck-is s X _ l (ap (λ v. log_in v) d)
 
+  sr-counts : (s : S) (X : Streams T) (o : Outcome T S) → TurnCounts X (recorded (facts.made s) tag X (single_outcome (facts.made s) o)) (sr_turns s X o) (sr_way X o)
+  sr-counts s X (Stuck fs l) = stuck-counts X fs l
+  sr-counts s X (Done z out l) = go (all_single out)
+    where
+      go : (b : Bool) → TurnCounts X (recorded (facts.made s) tag X (if_single b (facts.made s) z out l)) (if b then turn_of s X out l ∷ [] else []) (if b then None else Some (record { tag = tag; inputs = X }))
+      go true = one-counts s X z out l
+      go false = stuck-counts X _ l
+
   pub sr-turning : Turning facts step (sr_turn facts step) tag
-  sr-turning = record { turns = λ s X. sr_turns s X (step tag s X); way = λ s X. sr_way X (step tag s X); end = λ s X. sr_end s (step tag s X); is = λ s X. sr-is s X (step tag s X) refl }
+  sr-turning = record { turns = λ s X. sr_turns s X (step tag s X); way = λ s X. sr_way X (step tag s X); end = λ s X. sr_end s (step tag s X); is = λ s X. sr-is s X (step tag s X) refl; counts = λ s X. sr-counts s X (step tag s X) }
 
   -- DE: the whole lists at once
   abbrev pub whole_turns : S → Streams T → Outcome T S → List (Turned T)
@@ -159,6 +187,43 @@ module _ {T S : Type 0} (facts : Facts T S) (step : Stepping T S) (tag : Tag) wh
   follows-done : (out : Streams T) (l : Log T) (r : Outcome T S) (y : S) (o : Streams T) (k : Log T) → follows out l r ≡ Done y o k → (o' : Streams T) × (k' : Log T) × (r ≡ Done y o' k') × (joined out o' ≡ o)
   follows-done out l (Done z p n) y o k e = let w = done-parts z y (joined out p) o _ k e in (p, n, ap (λ (v : S). let r : Outcome T S = Done v p n in r) w.0, w.1)
   follows-done out l (Stuck fs n) y o k e = absurd (cc)
+
+  -- the rows of a place, in order
+  abbrev row_tokens : ℕ → List (Streams T) → List T
+  row_tokens q [] = []
+  row_tokens q (X ∷ Xs) = at X q ++ row_tokens q Xs
+
+  rows-takes : (Xs : List (Streams T)) (s : S) (q : ℕ) → IsPrefix (of_turns (inputs_at q) (rows_turns Xs s) ++ begun_at (rows_way Xs s) q) (row_tokens q Xs)
+  rows-takes [] s q = tt
+  rows-takes (X ∷ Xs) s q = go (step tag s X) (λ z. rows-takes Xs z q)
+    where
+      go : (o : Outcome T S) → ((z : S) → IsPrefix (of_turns (inputs_at q) (rows_turns Xs z) ++ begun_at (rows_way Xs z) q) (row_tokens q Xs)) → IsPrefix (of_turns (inputs_at q) (turns_then (rows_turns Xs) s X o) ++ begun_at (way_then (rows_way Xs) X o) q) (at X q ++ row_tokens q Xs)
+      go (Done z out l) ih = subst (λ v. IsPrefix v (at X q ++ row_tokens q Xs)) (sym (append_assoc (at X q) (of_turns (inputs_at q) (rows_turns Xs z)) (begun_at (rows_way Xs z) q))) (IsPrefix-after (at X q) _ _ (ih z))
+      go (Stuck fs l) ih = IsPrefix-append (at X q) (row_tokens q Xs)
+
+  heads-tails : (X : Streams T) (q : ℕ) → at (heads X) q ++ at (tails X) q ≡ at X q
+  heads-tails [] q = refl
+  heads-tails ([] ∷ X) zero = refl
+  heads-tails ((y ∷ ys) ∷ X) zero = refl
+  heads-tails ([] ∷ X) (suc q) = heads-tails X q
+  heads-tails ((y ∷ ys) ∷ X) (suc q) = heads-tails X q
+
+  rows-prefix : (n : ℕ) (X : Streams T) (q : ℕ) → IsPrefix (row_tokens q (rows_from n X)) (at X q)
+  rows-prefix zero X q = tt
+  rows-prefix (suc n) X q = subst (λ v. IsPrefix (at (heads X) q ++ row_tokens q (rows_from n (tails X))) v) (heads-tails X q) (IsPrefix-after (at (heads X) q) _ _ (rows-prefix n (tails X) q))
+
+  rows-gives : (Xs : List (Streams T)) (s y : S) (out : Streams T) (l : Log T) → by_rows facts step tag Xs s ≡ Done y out l → (port : ℕ) → at out port ≡ of_turns (outputs_at port) (rows_turns Xs s)
+  rows-gives [] s y out l e port = ap (λ (v : Streams T). at v port) (sym (done-parts s y [] out silent l e).1)
+  rows-gives (X ∷ Xs) s y out l e port = go (step tag s X) (λ z o k f. rows-gives Xs z y o k f port) e
+    where
+      go : (r : Outcome T S) → ((z : S) (o : Streams T) (k : Log T) → by_rows facts step tag Xs z ≡ Done y o k → at o port ≡ of_turns (outputs_at port) (rows_turns Xs z)) → and_then (by_rows facts step tag Xs) (recorded (facts.made s) tag X r) ≡ Done y out l → at out port ≡ of_turns (outputs_at port) (turns_then (rows_turns Xs) s X r)
+      go (Done z o k) ih e =
+          let f = follows-done o _ (by_rows facts step tag Xs z) y out l e in
+          ap (λ (v : Streams T). at v port) (sym f.3) ∙ at-joined o f.0 port ∙ ap (λ v. at o port ++ v) (ih z f.0 f.1 f.2)
+      go (Stuck fs k) ih e = absurd (clash e)
+        where
+          clash : Stuck fs k ≡ Done y out l → ⊥
+          clash e = cc
 
   rows-step : (X : Streams T) (Xs : List (Streams T)) (X₀ : Streams T) → AllWithin (X ∷ Xs) X₀ → ((s : S) → TurnIs facts step tag s X₀ (by_rows facts step tag Xs s) (rows_turns Xs s) (rows_way Xs s) (rows_end Xs s)) → (s : S) (o : Outcome T S) → step tag s X ≡ o →
       TurnIs facts step tag s X₀ (and_then (by_rows facts step tag Xs) (recorded (facts.made s) tag X o)) (turns_then (rows_turns Xs) s X o) (way_then (rows_way Xs) X o) (end_then (rows_end Xs) s o)
@@ -252,8 +317,19 @@ module _ {T S : Type 0} (facts : Facts T S) (step : Stepping T S) (tag : Tag) wh
   de_end s X false = rows_end (rows_of X) s
 
   pub de-turning : Turning facts step (de_turn facts step) tag
-  de-turning = record { turns = λ s X. de_turns s X (facts.whole s); way = λ s X. de_way s X (facts.whole s); end = λ s X. de_end s X (facts.whole s); is = λ s X. go s X (facts.whole s) }
+  de-turning = record { turns = λ s X. de_turns s X (facts.whole s); way = λ s X. de_way s X (facts.whole s); end = λ s X. de_end s X (facts.whole s); is = λ s X. go s X (facts.whole s); counts = λ s X. count s X (facts.whole s) }
     where
+      whole : (s : S) (X : Streams T) (o : Outcome T S) → TurnCounts X (recorded (facts.made s) tag X o) (whole_turns s X o) (whole_way X o)
+      whole s X (Stuck fs l) = stuck-counts X fs l
+      whole s X (Done z out l) = one-counts s X z out l
+
+      count : (s : S) (X : Streams T) (b : Bool) → TurnCounts X (whole_or_rows b facts step tag s X) (de_turns s X b) (de_way s X b)
+      count s X true = whole s X (step tag s X)
+      count s X false = record {
+        takes = λ q. IsPrefix-trans _ _ _ (rows-takes (rows_of X) s q) (rows-prefix (max 1 (longest X)) X q);
+        gives = λ y out l e port. rows-gives (rows_of X) s y out l e port;
+      }
+
       go : (s : S) (X : Streams T) (b : Bool) → TurnIs facts step tag s X (whole_or_rows b facts step tag s X) (de_turns s X b) (de_way s X b) (de_end s X b)
       go s X true = whole-is s X (step tag s X) refl
       go s X false = rows-is (rows_of X) X (rows-within (max 1 (longest X)) X) s

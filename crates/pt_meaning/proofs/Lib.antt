@@ -33,6 +33,7 @@ pub mod TickNodeLaws
 pub mod MeetingIndex
 pub mod MeetingRunLaws
 pub mod ClosedLaws
+pub mod RecordLaws
 pub mod LevelLaws
 pub mod SoundLaws
 pub mod ExplainFlows
@@ -41,6 +42,7 @@ pub mod ExplainModal
 pub mod ExplainTurns
 pub mod ExplainTicks
 pub mod ExplainParties
+pub mod ExplainPlaces
 pub mod ExplainScenes
 pub mod ExplainMeetings
 pub mod ClosedSteps

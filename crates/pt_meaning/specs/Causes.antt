@@ -5,39 +5,14 @@ use Rattle.pt_meaning.specs.Basics.{Tag, Streams, at, Log, Path, Firing, Event, 
 use Rattle.pt_meaning.specs.Machine.{Known, Partial, partial_at}
 use Rattle.pt_meaning.specs.Rounds.{Source, Own, Output, Net}
 use Rattle.pt_meaning.specs.Modal.{get}
+pub use Rattle.pt_meaning.specs.Closed.{Has, child_of, child_in, if_there, node_at, as_own, Begun, UnderWay, rounds_of, CameWithin}
 use Rattle.pt_meaning.specs.Node.{Rows, Core, Sdf, Pn, Sr, De, Rv, Modal, Node, Nodes, Actor, Composite, none, more}
-
-abbrev pub Has : {A : Type 0} → A → List A → Type 0
-Has x [] = ⊥
-Has x (y ∷ ys) = (x ≡ y) ⊎ Has x ys
-
--- the node at a path
-abbrev pub child_of : {T A : Type 0} → Nodes T A → ℕ → Option (Node T A)
-child_of none i = None
-child_of (more n ns) zero = Some n
-child_of (more n ns) (suc i) = child_of ns i
-
-abbrev pub child_in : {T A : Type 0} → Node T A → ℕ → Option (Node T A)
-child_in (Actor h a b) i = None
-child_in (Composite h c d kids) i = child_of kids i
-
-abbrev pub if_there : {A B : Type 0} → (A → Option B) → Option A → Option B
-if_there f None = None
-if_there f (Some x) = f x
-
-abbrev pub node_at : {T A : Type 0} → Path → Node T A → Option (Node T A)
-node_at [] node = Some node
-node_at (i ∷ p) node = if_there (node_at p) (child_in node i)
 
 -- the first channel of a child's places
 abbrev pub first_channel : List ℕ → ℕ → ℕ
 first_channel [] i = 0
 first_channel (n ∷ ns) zero = 0
 first_channel (n ∷ ns) (suc i) = n + first_channel ns i
-
-abbrev pub as_own : Option ℕ → Option Source
-as_own None = None
-as_own (Some port) = Some (Own port)
 
 -- where a place of a child gets its tokens from, and what its channel holds at the start
 abbrev pub source_in : Net → ℕ → ℕ → Option Source
@@ -63,14 +38,6 @@ held_at (Modal chart m) i q = []
 abbrev pub IsRecord : {T : Type 0} → Log T → Path → Firing T → Type 0
 IsRecord l p f = (within : List ℕ) × Has (Finished within f) (l p)
 
--- The firings under way beside a log: of each path the tag and the inputs of its unfinished firing, if there is one.
-pub record Begun (T : Type 0) : Type 0 where
-  pub tag : Tag
-  pub inputs : Streams T
-
-abbrev pub UnderWay : Type 0 → Type 0
-UnderWay T = Path → Option (Begun T)
-
 -- a token that a path has taken at a place, at a tag: by a firing in the log, or by one under way
 abbrev pub Took : {T : Type 0} → Log T → UnderWay T → Path → (place : ℕ) → Tag → T → Type 0
 Took {T} l under_way p q tag x = ((f : Firing T) × IsRecord l p f × (tag ≡ f.tag) × Has x (at f.inputs q)) ⊎ ((b : Begun T) × (under_way p ≡ Some b) × (tag ≡ b.tag) × Has x (at b.inputs q))
@@ -94,14 +61,6 @@ abbrev pub HasCause : {T A : Type 0} → Rows T A → Node T A → Log T → Und
 HasCause rows top l under_way p i q tag x None = ⊥
 HasCause rows top l under_way p i q tag x (Some (Actor h a b)) = ⊥
 HasCause rows top l under_way p i q tag x (Some (Composite h c d kids)) = Has x (held_at c i q) ⊎ CameFrom rows top l under_way p tag x (source_of c i q)
-
--- an event of a log that came within firing n of the composite at p
-abbrev pub rounds_of : {T : Type 0} → Event T → List ℕ
-rounds_of (Finished within f) = within
-rounds_of (Met within i m) = within
-
-abbrev pub CameWithin : {T : Type 0} → Log T → Path → ℕ → (below : Path) → Event T → Type 0
-CameWithin l p n r e = Has e (l (p ++ r)) × (get (rounds_of e) (length p) ≡ Some n)
 
 -- A log is closed, as a part of the whole log m of a run of the top, where:
 -- each token taken has its cause; a composite has a firing under way where something came within it; and where something came within firing n of a composite, its firings before n are finished, with all that came within them.

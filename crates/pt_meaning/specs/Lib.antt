@@ -54,6 +54,7 @@ pub mod CutLaw
 pub mod TickRuns
 pub mod CompositeTicks
 pub mod MeetingRuns
+pub mod Channels
 pub mod SoundRuns
 pub mod Explained
 pub mod ClosedRuns
