@@ -72,7 +72,7 @@ at-behind-it : {T : Type 0} (F Y : Streams T) (c : ℕ) → at (F ++ Y) (length 
 at-behind-it [] Y c = let a : 0 + c ≡ c = omega arith in ap (λ v. at Y v) a
 at-behind-it (xs ∷ F) Y c = let a : suc (length F) + c ≡ suc (length F + c) = omega arith in ap (λ v. at (xs ∷ (F ++ Y)) v) a ∙ at-behind-it F Y c
 
-tokens-append : {T : Type 0} (n : ℕ) (F Y : Streams T) → length F ≡ n → (o : Option ℕ) → tokens_in (F ++ Y) (further n o) ≡ tokens_in Y o
+pub tokens-append : {T : Type 0} (n : ℕ) (F Y : Streams T) → length F ≡ n → (o : Option ℕ) → tokens_in (F ++ Y) (further n o) ≡ tokens_in Y o
 tokens-append n F Y e None = refl
 tokens-append n F Y e (Some c) = ap (λ v. at (F ++ Y) (v + c)) (sym e) ∙ at-behind-it F Y c
 
@@ -86,7 +86,7 @@ at-none [] q h = refl
 at-none (xs ∷ F) zero h = absurd (omega (arith, h))
 at-none (xs ∷ F) (suc q) h = at-none F q (omega (arith, h))
 
-at-append-if : {T : Type 0} (n q : ℕ) (F Y : Streams T) → length F ≡ n → at F q ≡ tokens_in (F ++ Y) (if nat_lt q n then Some q else None)
+pub at-append-if : {T : Type 0} (n q : ℕ) (F Y : Streams T) → length F ≡ n → at F q ≡ tokens_in (F ++ Y) (if nat_lt q n then Some q else None)
 at-append-if {T} n q F Y e = go (nat_lt q n) refl
   where
     below : nat_lt q n ≡ true → q < n

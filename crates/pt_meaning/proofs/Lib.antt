@@ -17,6 +17,7 @@ pub mod PhaseLaws
 pub mod PlaceLaws
 pub mod PlaceEnds
 pub mod MeaningLaws
+pub mod OutcomeLaws
 pub mod OrderOfMeetings
 pub mod LogLaws
 pub mod CompositeLaws
@@ -38,6 +39,7 @@ pub mod LevelLaws
 pub mod SoundLaws
 pub mod ExplainFlows
 pub mod ExplainRounds
+pub mod PlaceCounts
 pub mod ExplainModal
 pub mod ExplainTurns
 pub mod ExplainTicks
