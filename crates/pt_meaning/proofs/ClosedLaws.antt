@@ -1,6 +1,6 @@
 -- A log that is closed level by level is closed at each path.
 use Rattle.std.proofs.Common.{◌≡◌, ◌⊎◌, ℕ, zero, suc, ◌+◌, ◌<◌, ◌≤◌, List, [], ◌∷◌, ◌++◌, Bool, true, false, ◌||◌, nat_le, length, Option, Some, None, inl, inr, refl, sym, ap, ap₂, subst, arith, ◌∙◌}
-use Rattle.pt_meaning.specs.Basics.{Tag, Log, Path, Firing, Event, Finished, Met, firings_in}
+use Rattle.pt_meaning.specs.Basics.{Tag, Log, Path, Event, Finished, Met, firings_in}
 use Rattle.pt_meaning.specs.Streams.{IsPrefix}
 use Rattle.pt_meaning.specs.Machine.{Partial, Known, partial_at}
 use Rattle.pt_meaning.specs.Rounds.{Source, Own, Output}

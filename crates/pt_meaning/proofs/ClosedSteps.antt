@@ -1,5 +1,5 @@
 -- A step at any fuel and below any number of levels keeps logs closed.
-use Rattle.std.proofs.Common.{◌≡◌, ◌⊎◌, ℕ, zero, suc, ◌+◌, List, [], ◌∷◌, ◌++◌, Bool, true, false, ◌||◌, length, Option, Some, None, inl, inr, refl, sym, ap, subst, arith, ◌∙◌, append-nil, append_assoc}
+use Rattle.std.proofs.Common.{◌≡◌, ◌⊎◌, ℕ, zero, suc, ◌+◌, List, [], ◌∷◌, ◌++◌, Bool, true, false, ◌||◌, length, Some, None, inl, inr, refl, sym, ap, subst, arith, ◌∙◌, append-nil, append_assoc}
 use Rattle.std.proofs.Math.Path.{fun_ext}
 use Rattle.pt_meaning.specs.Basics.{Tag, Streams, Log, Path, Firing, Event, Finished, Met, firings_in, silent, log_then, own, Meeting}
 use Rattle.pt_meaning.specs.Machine.{Outcome, Done, Stuck, Stepping, Facts, Partial, Known, partial_at}
@@ -50,18 +50,18 @@ module _ {T A : Type 0} (rows : Rows T A) (law : LawfulRows rows) (k d : ℕ) (m
       P (director facts (steps_below rows k d m) k ms tag h c e its inputs)
   director-explained (Sdf p X) f w P go =
       go (Streams T) (Sdf p) (sdf facts (steps_below rows k d m) p k tag (record { held = X; kids = its }) inputs)
-      (kahn-explained facts (steps_below rows k d m) tag p.net _ _ _ its X inputs (Sdf p X) (Sdf p) (some_child (Sdf p X)) k (record { on = λ i q x g. g; from = λ i q. refl; core_on = λ Y i q x g. g; core_from = λ Y i q. refl; core_wired = λ Y g. g; place = λ i q. refl; core_place = λ Y i q. refl; source = λ i q. refl; at_tag = refl; same = λ Y. record { sources = λ i q. refl; modal = refl; keeps = refl } })
+      (kahn-explained facts (steps_below rows k d m) tag p.net _ _ _ its X inputs (Sdf p X) (Sdf p) (some_child (Sdf p X)) k (record { core_wired = λ Y g. g; place = λ i q. refl; core_place = λ Y i q. refl; source = λ i q. refl; at_tag = refl; same = λ Y. record { sources = λ i q. refl; modal = refl; keeps = refl } })
       (sdf-bounds-count _ p.repetitions p.rates (length p.net.places) (f.1.1 ∙ sym f.1.0) (f.1.2 ∙ sym f.1.0)) (count ∙ sym f.1.0) w)
   director-explained (Pn p X) f w P go =
       go (Streams T) (Pn p) (pn facts (steps_below rows k d m) p k tag (record { held = X; kids = its }) inputs)
-      (kahn-explained facts (steps_below rows k d m) tag p.net _ _ _ its X inputs (Pn p X) (Pn p) (some_child (Pn p X)) k (record { on = λ i q x g. g; from = λ i q. refl; core_on = λ Y i q x g. g; core_from = λ Y i q. refl; core_wired = λ Y g. g; place = λ i q. refl; core_place = λ Y i q. refl; source = λ i q. refl; at_tag = refl; same = λ Y. record { sources = λ i q. refl; modal = refl; keeps = refl } })
+      (kahn-explained facts (steps_below rows k d m) tag p.net _ _ _ its X inputs (Pn p X) (Pn p) (some_child (Pn p X)) k (record { core_wired = λ Y g. g; place = λ i q. refl; core_place = λ Y i q. refl; source = λ i q. refl; at_tag = refl; same = λ Y. record { sources = λ i q. refl; modal = refl; keeps = refl } })
       (pn-bounds-count p.net.places) (count ∙ sym f.1) w)
   director-explained (Sr p) f w P go =
       go (Streams T) (λ X. Sr p) (sr facts (steps_below rows k d m) p k h.made tag its inputs)
-      (tick-explained facts (steps_below rows k d m) _ _ _ tag (sr-turning facts (steps_below rows k d m) tag) (sr-early rows law k d m) (λ t s vs port xs e. e) p.net _ its inputs (some_child (Sr p)) k (Sr p) (λ X. Sr p) (λ i q. refl) (λ Y i q. refl) (λ Y i q y g. g) (λ Y. tt) (λ i q. refl) (λ i q. refl) refl refl (λ Y. record { sources = λ i q. refl; modal = refl; keeps = refl }) (count ∙ sym f.1))
+      (tick-explained facts (steps_below rows k d m) _ _ _ tag (sr-turning facts (steps_below rows k d m) tag) (sr-early rows law k d m) (λ t s vs port xs e. e) p.net _ its inputs (some_child (Sr p)) k (Sr p) (λ X. Sr p) (λ Y. tt) (λ i q. refl) (λ i q. refl) refl refl (λ Y. record { sources = λ i q. refl; modal = refl; keeps = refl }) (count ∙ sym f.1))
   director-explained (De p) f w P go =
       go (Streams T) (λ X. De p) (de facts (steps_below rows k d m) p k tag its inputs)
-      (tick-explained facts (steps_below rows k d m) _ _ _ tag (de-turning facts (steps_below rows k d m) tag) (de-early rows law k d m) (λ t s vs port xs e. if-early (facts.whole s) (facts.early t s vs) port xs e) p.net _ its inputs (some_child (De p)) k (De p) (λ X. De p) (λ i q. refl) (λ Y i q. refl) (λ Y i q y g. g) (λ Y. tt) (λ i q. refl) (λ i q. refl) refl refl (λ Y. record { sources = λ i q. refl; modal = refl; keeps = refl }) (count ∙ sym f.1))
+      (tick-explained facts (steps_below rows k d m) _ _ _ tag (de-turning facts (steps_below rows k d m) tag) (de-early rows law k d m) (λ t s vs port xs e. if-early (facts.whole s) (facts.early t s vs) port xs e) p.net _ its inputs (some_child (De p)) k (De p) (λ X. De p) (λ Y. tt) (λ i q. refl) (λ i q. refl) refl refl (λ Y. record { sources = λ i q. refl; modal = refl; keeps = refl }) (count ∙ sym f.1))
   director-explained (Rv p X) f w P go =
       go _ (Rv p) (rv facts (steps_below rows k d m) p k h.made ms tag X its inputs) (rv-explained facts (steps_below rows k d m) tag p X inputs its (some_child (Rv p X)) k h.made ms (f.1.0 ∙ sym count) (f.1.1 ∙ sym count) (f.1.2 ∙ sym count) w)
   director-explained (Modal chart n) f w P go = go _ (Modal chart) (modal chart facts (steps_below rows k d m) h.made tag n its inputs) (modal-explained chart facts (steps_below rows k d m) h.made tag n its inputs (some_child (Modal chart n)))

@@ -8,26 +8,24 @@ use Rattle.pt_meaning.specs.Dataflow.{Inside}
 use Rattle.pt_meaning.specs.Modal.{get}
 use Rattle.pt_meaning.specs.Process.{is_source, Put, Mood, Well, Broken, Party, next_event, channels_from, puts_of_port, at_rest, all_rest, party_logs, party_states, all_got, all_puts, advanced}
 use Rattle.pt_meaning.specs.Meetings.{Scene, is_legal, meet}
-use Rattle.pt_meaning.specs.Rendezvous.{RvPlan, Places, arriving, scene_log, left_in, if_ended, if_meets, settled, under_meetings, seated, outlets, rv}
+use Rattle.pt_meaning.specs.Rendezvous.{RvPlan, Places, arriving, scene_log, if_ended, if_meets, settled, under_meetings, seated, outlets, rv}
 use Rattle.pt_meaning.specs.Node.{Rv}
-use Rattle.pt_meaning.specs.Causes.{Has, Begun, first_channel, source_in, source_of}
 use Rattle.pt_meaning.specs.LogsOfRuns.{log_at, log_in}
 use Rattle.pt_meaning.specs.Streams.{IsPrefix}
 use Rattle.pt_meaning.specs.Places.{tokens_on}
 use Rattle.pt_meaning.specs.Channels as channels
-use Rattle.pt_meaning.specs.Closed.{if_there, inputs_at, outputs_at, begun_at}
+use Rattle.pt_meaning.specs.Closed.{Begun, if_there, inputs_at, outputs_at, begun_at}
 use Rattle.pt_meaning.specs.Channels.{channel_at}
-use Rattle.pt_meaning.specs.SoundRuns.{OnPlace, got_by, waiting_in, on_its_way, HasRooms}
-use Rattle.pt_meaning.specs.Explained.{Turned, PartOf, Takes, ComesNow, ComesNowOrEarly, IfDone, Explained, of_turns, takes_in, gives_in}
+use Rattle.pt_meaning.specs.SoundRuns.{got_by, waiting_in, on_its_way, HasRooms}
+use Rattle.pt_meaning.specs.Explained.{Turned, PartOf, IfDone, Explained, of_turns, takes_in, gives_in}
 use Rattle.pt_meaning.proofs.Order.{IsPrefix-trans, IsPrefix-after, IsPrefix-append}
 use Rattle.pt_meaning.proofs.PlaceEnds.{if_from, port-puts, tokens-append}
 use Rattle.pt_meaning.proofs.ExplainPlaces.{held_of, Same, meeting-same, none-of-channel, at-beyond}
 use Rattle.pt_meaning.proofs.KahnLaws.{and-left, and-right}
 use Rattle.pt_meaning.proofs.PartyLaws.{sticks-broken}
 use Rattle.pt_meaning.proofs.MeetingIndex.{some-same}
-use Rattle.pt_meaning.proofs.LevelLaws.{has-left, has-either}
 use Rattle.pt_meaning.proofs.ExplainModal.{state_or, state-of}
-use Rattle.pt_meaning.proofs.ExplainParties.{AllMore, CauseAt, PutCause, PartyIs, inlet-put, put-more, turns-append, turns_in, advanced-is, all_turns, got-moved, room-moved, puts-moved, none-beyond, each-advanced, advanced-long}
+use Rattle.pt_meaning.proofs.ExplainParties.{PartyIs, turns-append, turns_in, advanced-is, all_turns, got-moved, room-moved, puts-moved, none-beyond, each-advanced, advanced-long}
 use Rattle.pt_meaning.proofs.ExplainScenes.{SceneIs, meet-is}
 
 -- the lists of a scene, by process
@@ -50,16 +48,6 @@ states-at any (x ∷ ps) (suc i) p e = states-at any ps i p e
 states-long : {T S : Type 0} (ps : List (Party T S)) → length (party_states ps) ≡ length ps
 states-long [] = refl
 states-long (x ∷ ps) = ap (λ n. suc n) (states-long ps)
-
-gathered : {T S : Type 0} (ps : List (Party T S)) (i q : ℕ) (x : T) → Has x (at (got_by (all_got ps) i) q) → (p : Party T S) × (get ps i ≡ Some p) × Has x (at p.got q)
-gathered [] i q x h = absurd h
-gathered (p ∷ ps) zero q x h = (p, refl, h)
-gathered (p ∷ ps) (suc i) q x h = gathered ps i q x h
-
-putting : {T S : Type 0} (ps : List (Party T S)) (j : ℕ) (u : Put T) → Has u (at (all_puts ps) j) → (p : Party T S) × (get ps j ≡ Some p) × Has u p.puts
-putting [] j u h = absurd h
-putting (p ∷ ps) zero u h = (p, refl, h)
-putting (p ∷ ps) (suc j) u h = putting ps j u h
 
 got-at : {T S : Type 0} (ps : List (Party T S)) (i : ℕ) (p : Party T S) → get ps i ≡ Some p → got_by (all_got ps) i ≡ p.got
 got-at [] i p e = absurd (cc)
@@ -100,7 +88,7 @@ get-within (y ∷ xs) (suc i) x e h = get-within xs i x e (omega (arith, h))
 
 module _ {T S : Type 0} (facts : Facts T S) (step : Stepping T S) (tag : Tag) (plan : RvPlan) (X : Places T) (inputs : Streams T) (ks : List S) (any : S) where
   abbrev Holds : (ℕ → List (Turned T)) → Scene T S → Type 0
-  Holds τ sc = SceneIs facts step tag plan X inputs ks τ sc
+  Holds τ sc = SceneIs facts step tag ks τ sc
 
   -- what is taken is the beginning of what was on the places and of what came, in order, and the rest is on its way
   abbrev Counts : (ℕ → List (Turned T)) → Scene T S → Type 0
@@ -136,52 +124,6 @@ module _ {T S : Type 0} (facts : Facts T S) (step : Stepping T S) (tag : Tag) (p
     unfolding Seat way_at
     way-beyond i b (inl p) = absurd (get-within sc.parties i p.0 p.1 (omega (arith, b, h.count)))
     way-beyond i b (inr c) = refl
-
-    -- what is taken
-    may : (i q : ℕ) (t : Tag) (x : T) → CauseAt plan X inputs τ i q x → OnPlace (Rv plan X) i q x ⊎ ComesNowOrEarly facts ks inputs τ t x (source_of (Rv plan X) i q)
-    may i q t x (inl g) = inl g
-    may i q t x (inr g) = inr (by_source (source_in plan.net i q) g)
-      where
-        by_source : (s : Option Source) → ComesNow inputs τ x s → ComesNowOrEarly facts ks inputs τ t x s
-        by_source None g = g
-        by_source (Some (Own port)) g = g
-        by_source (Some (Output j port)) g = inl g
-
-    taken-done : (i q : ℕ) (x : T) (t : Turned T) → Has t (τ i) → Has x (at t.record_of.inputs q) → (o : Seat i) → CauseAt plan X inputs τ i q x
-    unfolding Seat
-    taken-done i q x t g f (inl p) = (h.parties i p.0 p.1).taken t g q x f
-    taken-done i q x t g f (inr b) = absurd (subst (λ v. Has t v) (h.beyond i (omega (arith, b, h.count))) g)
-
-    taken-way : (i q : ℕ) (x : T) (b : Begun T) → Has x (at b.inputs q) → (o : Seat i) → way_at i o ≡ Some b → CauseAt plan X inputs τ i q x
-    unfolding Seat way_at
-    taken-way i q x b f (inl p) e = (h.parties i p.0 p.1).begun b e q x f
-    taken-way i q x b f (inr c) e = absurd (clash e)
-      where
-        clash : None ≡ Some b → ⊥
-        clash e = cc
-
-    all-taken : (i q : ℕ) (t : Tag) (x : T) → Takes τ (λ j. way_at j (seat j)) i q t x → OnPlace (Rv plan X) i q x ⊎ ComesNowOrEarly facts ks inputs τ t x (source_of (Rv plan X) i q)
-    all-taken i q t x (inl g) = may i q t x (taken-done i q x g.0 g.1 g.3 (seat i))
-    all-taken i q t x (inr g) = may i q t x (taken-way i q x g.0 g.3 (seat i) g.1)
-
-    -- and what is left
-    left-caused : (i q : ℕ) (y : T) → OnPlace (Rv plan (left_in sc).held) i q y → CauseAt plan X inputs τ i q y
-    left-caused i q y (inl g) = let w = gathered sc.parties i q y g in (h.parties i w.0 w.1).got q y w.2
-    left-caused i q y (inr (inl g)) = let w = putting sc.parties g.0 g.1 g.2 in at_place g.1 g.3 g.4 ((h.parties g.0 w.0 w.1).puts g.1 w.2)
-      where
-        at_place : (u : Put T) → u.channel ≡ first_channel plan.net.places i + q → u.token ≡ y → PutCause plan X inputs τ u.channel u.token → CauseAt plan X inputs τ i q y
-        at_place u a b c = by_put (subst (λ v. PutCause plan X inputs τ v y) a (subst (λ v. PutCause plan X inputs τ u.channel v) b c))
-          where
-            by_put : PutCause plan X inputs τ (first_channel plan.net.places i + q) y → CauseAt plan X inputs τ i q y
-            by_put (inl g) = inl (inr (inl g))
-            by_put (inr (inl g)) = inl (inr (inr g))
-            by_put (inr (inr g)) = inr g
-    left-caused i q y (inr (inr g)) = by_put (subst (λ v. PutCause plan X inputs τ v y) g.3 (subst (λ v. PutCause plan X inputs τ g.1.channel v) g.4 (h.inlets g.0 g.1 g.2)))
-      where
-        by_put : PutCause plan X inputs τ (first_channel plan.net.places i + q) y → CauseAt plan X inputs τ i q y
-        by_put (inl g) = inl (inr (inl g))
-        by_put (inr (inl g)) = inl (inr (inr g))
-        by_put (inr (inr g)) = inr g
 
     whole-at : all_rest facts sc.parties ≡ true → (i : ℕ) (o : Seat i) → way_at i o ≡ None
     unfolding Seat way_at
@@ -223,8 +165,6 @@ module _ {T S : Type 0} (facts : Facts T S) (step : Stepping T S) (tag : Tag) (p
     ends-well false a = tt
     ends-well true a = record {
       whole = λ i. whole-at (a refl) i (seat i);
-      plan = λ i q. refl;
-      tokens = λ i q y g. left-caused i q y g;
       wired = n.0;
       count = states-long sc.parties ∙ h.count;
       kids = λ i s e. inl (state-of any (party_states sc.parties) i s e);
@@ -245,7 +185,6 @@ module _ {T S : Type 0} (facts : Facts T S) (step : Stepping T S) (tag : Tag) (p
       ends = λ i. state_or any (party_states sc.parties) i;
       parts = λ i s e. part-at i s e (seat i);
       beyond = λ i g. (logs-none sc.parties i (omega (arith, g, h.count)), h.beyond i g, way-beyond i g (seat i));
-      taken = all-taken;
       tagged = λ i w e. tagged-at-seat i w (seat i) e;
       counted = λ i q. inl (counted-at i q);
       done = ends-well b a;
@@ -258,50 +197,46 @@ module _ {T S : Type 0} (facts : Facts T S) (step : Stepping T S) (tag : Tag) (p
   -- the processes make their firings
   module _ (k n : ℕ) where
     more_turns : (ℕ → List (Turned T)) → Scene T S → ℕ → List (Turned T)
-    more_turns τ sc i = τ i ++ all_turns facts step tag plan X inputs ks k 0 sc.parties i
+    more_turns τ sc i = τ i ++ all_turns facts step tag plan ks k 0 sc.parties i
 
     settled-is : (τ : ℕ → List (Turned T)) (sc : Scene T S) → Holds τ sc → Holds (more_turns τ sc) (settled facts step tag plan.net k n sc)
-    unfolding more_turns AllMore
+    unfolding more_turns
     settled-is τ sc h = record {
-      parties = λ i y e. let r = each-advanced facts step tag plan X inputs ks k 0 sc.parties i y e in one i y r.0 r.1 r.2 r.3;
-      inlets = λ j u g. put-more facts step tag plan X inputs ks τ (more_turns τ sc) more u.channel u.token (h.inlets j u g);
+      parties = λ i y e. let r = each-advanced facts step tag plan ks k 0 sc.parties i y e in one i y r.0 r.1 r.2 r.3;
       bare = h.bare;
       quiet = h.quiet;
-      count = advanced-long facts step tag plan X inputs ks k 0 sc.parties ∙ h.count;
-      beyond = λ i g. let a = h.beyond i g in let b = none-beyond facts step tag plan X inputs ks k 0 sc.parties i (omega (arith, g, h.count)) in rw (a, b) refl;
+      count = advanced-long facts step tag plan ks k 0 sc.parties ∙ h.count;
+      beyond = λ i g. let a = h.beyond i g in let b = none-beyond facts step tag plan ks k 0 sc.parties i (omega (arith, g, h.count)) in rw (a, b) refl;
     }
       where
-        more : AllMore τ (more_turns τ sc)
-        more i t g = has-left t (τ i) _ g
-
-        one : (i : ℕ) (y p : Party T S) → get sc.parties i ≡ Some p → y ≡ advanced facts step tag plan.net.sources k (0 + i) p → all_turns facts step tag plan X inputs ks k 0 sc.parties i ≡ turns_in facts step tag plan X inputs ks k (0 + i) p →
-            PartyIs facts step tag plan X inputs ks (more_turns τ sc) (more_turns τ sc i) i y
+        one : (i : ℕ) (y p : Party T S) → get sc.parties i ≡ Some p → y ≡ advanced facts step tag plan.net.sources k (0 + i) p → all_turns facts step tag plan ks k 0 sc.parties i ≡ turns_in facts step tag plan ks k (0 + i) p →
+            PartyIs facts step tag ks (more_turns τ sc i) i y
         one i y p e a b =
             let z : 0 + i ≡ i = omega arith in
-            let ts : τ i ++ turns_in facts step tag plan X inputs ks k i p ≡ more_turns τ sc i = ap (λ v. τ i ++ v) (sym (b ∙ ap (λ v. turns_in facts step tag plan X inputs ks k v p) z)) in
-            subst (λ (v : Party T S). PartyIs facts step tag plan X inputs ks (more_turns τ sc) (more_turns τ sc i) i v) (sym (a ∙ ap (λ v. advanced facts step tag plan.net.sources k v p) z))
-            (subst (λ v. PartyIs facts step tag plan X inputs ks (more_turns τ sc) v i (advanced facts step tag plan.net.sources k i p)) ts
-            (advanced-is facts step tag plan X inputs ks k τ (more_turns τ sc) more (τ i) i p (h.parties i p e) (λ t g. subst (λ v. Has t v) ts g)))
+            let ts : τ i ++ turns_in facts step tag plan ks k i p ≡ more_turns τ sc i = ap (λ v. τ i ++ v) (sym (b ∙ ap (λ v. turns_in facts step tag plan ks k v p) z)) in
+            subst (λ (v : Party T S). PartyIs facts step tag ks (more_turns τ sc i) i v) (sym (a ∙ ap (λ v. advanced facts step tag plan.net.sources k v p) z))
+            (subst (λ v. PartyIs facts step tag ks v i (advanced facts step tag plan.net.sources k i p)) ts
+            (advanced-is facts step tag plan ks k (τ i) i p (h.parties i p e)))
 
     settled-counts : (τ : ℕ → List (Turned T)) (sc : Scene T S) → Counts τ sc → Counts (more_turns τ sc) (settled facts step tag plan.net k n sc)
     unfolding more_turns
     settled-counts τ sc c = (rooms, λ i q. go i q (channel_at plan.net.places i q) refl)
       where
         all : ℕ → List (Turned T)
-        all i = all_turns facts step tag plan X inputs ks k 0 sc.parties i
+        all i = all_turns facts step tag plan ks k 0 sc.parties i
 
         rooms : HasRooms plan.net (held_of (settled facts step tag plan.net k n sc))
-        rooms = record { gathers = λ i. room-moved facts step tag plan X inputs ks k 0 sc.parties i ∙ c.0.gathers i; sends = c.0.sends }
+        rooms = record { gathers = λ i. room-moved facts step tag plan ks k 0 sc.parties i ∙ c.0.gathers i; sends = c.0.sends }
 
         -- what waits, and what came
         came : (d : ℕ) (s : Option Source) → get plan.net.sources d ≡ s →
-            (new : List T) × (tokens_on d (waiting_in (held_of (settled facts step tag plan.net k n sc)) s) ≡ tokens_on d (waiting_in (held_of sc) s) ++ new) × (gives_in inputs (λ i. τ i ++ all_turns facts step tag plan X inputs ks k 0 sc.parties i) s ≡ gives_in inputs τ s ++ new)
+            (new : List T) × (tokens_on d (waiting_in (held_of (settled facts step tag plan.net k n sc)) s) ≡ tokens_on d (waiting_in (held_of sc) s) ++ new) × (gives_in inputs (λ i. τ i ++ all_turns facts step tag plan ks k 0 sc.parties i) s ≡ gives_in inputs τ s ++ new)
         came d None e = ([], refl, refl)
         came d (Some (Own j)) e = ([], sym (append-nil (tokens_on d (at sc.inputs j))), sym (append-nil (at inputs j)))
         came d (Some (Output j port)) e = (
-          of_turns (outputs_at port) (all_turns facts step tag plan X inputs ks k 0 sc.parties j),
-          let z : j ≡ 0 + j = omega arith in puts-moved facts step tag plan X inputs ks k 0 sc.parties j d port (e ∙ ap (λ v. Option.Some (Output v port)) z),
-          turns-append (outputs_at port) (τ j) (all_turns facts step tag plan X inputs ks k 0 sc.parties j),
+          of_turns (outputs_at port) (all_turns facts step tag plan ks k 0 sc.parties j),
+          let z : j ≡ 0 + j = omega arith in puts-moved facts step tag plan ks k 0 sc.parties j d port (e ∙ ap (λ v. Option.Some (Output v port)) z),
+          turns-append (outputs_at port) (τ j) (all_turns facts step tag plan ks k 0 sc.parties j),
         )
 
         sum : (tk tn g' g w' w new on gv gv' : List T) → tn ++ g' ≡ g → w' ≡ w ++ new → gv' ≡ gv ++ new → tk ++ (g ++ w) ≡ on ++ gv → (tk ++ tn) ++ (g' ++ w') ≡ on ++ gv'
@@ -316,18 +251,18 @@ module _ {T S : Type 0} (facts : Facts T S) (step : Stepping T S) (tag : Tag) (p
             clash e = cc
 
         go : (i q : ℕ) (o : Option ℕ) → channel_at plan.net.places i q ≡ o →
-            of_turns (inputs_at q) (τ i ++ all_turns facts step tag plan X inputs ks k 0 sc.parties i) ++ on_its_way plan.net (held_of (settled facts step tag plan.net k n sc)) i q o ≡ on_its_way plan.net X i q o ++ gives_in inputs (λ i. τ i ++ all_turns facts step tag plan X inputs ks k 0 sc.parties i) (if_there (get plan.net.sources) o)
+            of_turns (inputs_at q) (τ i ++ all_turns facts step tag plan ks k 0 sc.parties i) ++ on_its_way plan.net (held_of (settled facts step tag plan.net k n sc)) i q o ≡ on_its_way plan.net X i q o ++ gives_in inputs (λ i. τ i ++ all_turns facts step tag plan ks k 0 sc.parties i) (if_there (get plan.net.sources) o)
         go i q None e =
             let l = none-of-channel plan.net.places i q e in
             let m = c.0.gathers i in
             let old : of_turns (inputs_at q) (τ i) ++ [] ≡ [] = subst (λ o. of_turns (inputs_at q) (τ i) ++ on_its_way plan.net (held_of sc) i q o ≡ on_its_way plan.net X i q o ++ gives_in inputs τ (if_there (get plan.net.sources) o)) e (c.1 i q) in
-            let new : of_turns (inputs_at q) (all_turns facts step tag plan X inputs ks k 0 sc.parties i) ≡ [] = left-empty _ _ (got-moved facts step tag plan X inputs ks k 0 sc.parties i q ∙ at-beyond (got_by (all_got sc.parties) i) q (omega (arith, l, m))) in
-            ap (λ v. v ++ []) (turns-append (inputs_at q) (τ i) (all_turns facts step tag plan X inputs ks k 0 sc.parties i) ∙ ap (λ v. of_turns (inputs_at q) (τ i) ++ v) new) ∙ ap (λ v. v ++ []) old
+            let new : of_turns (inputs_at q) (all_turns facts step tag plan ks k 0 sc.parties i) ≡ [] = left-empty _ _ (got-moved facts step tag plan ks k 0 sc.parties i q ∙ at-beyond (got_by (all_got sc.parties) i) q (omega (arith, l, m))) in
+            ap (λ v. v ++ []) (turns-append (inputs_at q) (τ i) (all_turns facts step tag plan ks k 0 sc.parties i) ∙ ap (λ v. of_turns (inputs_at q) (τ i) ++ v) new) ∙ ap (λ v. v ++ []) old
         go i q (Some d) e =
             let old = subst (λ o. of_turns (inputs_at q) (τ i) ++ on_its_way plan.net (held_of sc) i q o ≡ on_its_way plan.net X i q o ++ gives_in inputs τ (if_there (get plan.net.sources) o)) e (c.1 i q) in
             let w = came d (get plan.net.sources d) refl in
-            ap (λ v. v ++ on_its_way plan.net (held_of (settled facts step tag plan.net k n sc)) i q (Some d)) (turns-append (inputs_at q) (τ i) (all_turns facts step tag plan X inputs ks k 0 sc.parties i)) ∙
-            sum (of_turns (inputs_at q) (τ i)) (of_turns (inputs_at q) (all_turns facts step tag plan X inputs ks k 0 sc.parties i)) _ (at (got_by (all_got sc.parties) i) q) _ (tokens_on d (waiting_in (held_of sc) (get plan.net.sources d))) w.0 (on_its_way plan.net X i q (Some d)) (gives_in inputs τ (get plan.net.sources d)) _ (got-moved facts step tag plan X inputs ks k 0 sc.parties i q) w.1 w.2 old
+            ap (λ v. v ++ on_its_way plan.net (held_of (settled facts step tag plan.net k n sc)) i q (Some d)) (turns-append (inputs_at q) (τ i) (all_turns facts step tag plan ks k 0 sc.parties i)) ∙
+            sum (of_turns (inputs_at q) (τ i)) (of_turns (inputs_at q) (all_turns facts step tag plan ks k 0 sc.parties i)) _ (at (got_by (all_got sc.parties) i) q) _ (tokens_on d (waiting_in (held_of sc) (get plan.net.sources d))) w.0 (on_its_way plan.net X i q (Some d)) (gives_in inputs τ (get plan.net.sources d)) _ (got-moved facts step tag plan ks k 0 sc.parties i q) w.1 w.2 old
 
     met-counts : (τ : ℕ → List (Turned T)) (sc : Scene T S) (m : Meeting) → Counts τ sc → Counts τ (meet plan.net n m sc)
     unfolding Same
@@ -340,7 +275,7 @@ module _ {T S : Type 0} (facts : Facts T S) (step : Stepping T S) (tag : Tag) (p
       where
         meets : (b : Bool) → Holds (more_turns τ sc) (settled facts step tag plan.net k n sc) → Counts (more_turns τ sc) (settled facts step tag plan.net k n sc) → (Holds (more_turns τ sc) (meet plan.net n m (settled facts step tag plan.net k n sc)) → Counts (more_turns τ sc) (meet plan.net n m (settled facts step tag plan.net k n sc)) → Explains (under_meetings facts step tag plan.net k n ms (meet plan.net n m (settled facts step tag plan.net k n sc)))) →
             Explains (if_meets facts step tag plan.net k n b (under_meetings facts step tag plan.net k n ms) m (settled facts step tag plan.net k n sc))
-        meets true g c ih = ih (meet-is facts step tag plan X inputs ks (more_turns τ sc) n m (settled facts step tag plan.net k n sc) g) (met-counts (more_turns τ sc) (settled facts step tag plan.net k n sc) m c)
+        meets true g c ih = ih (meet-is facts step tag plan.net ks (more_turns τ sc) n m (settled facts step tag plan.net k n sc) g) (met-counts (more_turns τ sc) (settled facts step tag plan.net k n sc) m c)
         meets false g c ih = scene-explained (more_turns τ sc) (settled facts step tag plan.net k n sc) g c false (λ e. absurd (no e))
           where
             no : false ≡ true → ⊥
@@ -366,43 +301,29 @@ module _ {T S : Type 0} (facts : Facts T S) (step : Stepping T S) (tag : Tag) (p
   seats-count (x ∷ bs) (g ∷ gs) (u ∷ us) [] a b c = refl
   seats-count (x ∷ bs) (g ∷ gs) (u ∷ us) (s ∷ ss) a b c = ap (λ n. suc n) (seats-count bs gs us ss (omega (arith, a)) (omega (arith, b)) (omega (arith, c)))
 
-  arrived : (sources : List Source) (b : ℕ) (kept : List (List (Put T))) (Y : Streams T) (j : ℕ) (u : Put T) → Has u (at (arriving sources b kept Y) j) → Has u (at kept j) ⊎ Has u (puts_of_port (channels_from 0 (Own (b + j)) sources) (at Y (b + j)))
-  arrived sources b [] Y j u h = absurd h
-  arrived sources b (us ∷ kept) Y zero u h = let a : b ≡ b + 0 = omega arith in subst (λ v. Has u us ⊎ Has u (puts_of_port (channels_from 0 (Own v) sources) (at Y v))) a (has-either u us _ h)
-  arrived sources b (us ∷ kept) Y (suc j) u h = let a : suc b + j ≡ b + suc j = omega arith in subst (λ v. Has u (at kept j) ⊎ Has u (puts_of_port (channels_from 0 (Own v) sources) (at Y v))) a (arrived sources (suc b) kept Y j u h)
-
   first-scene : length plan.barriers ≡ length ks → length X.got ≡ length ks → length X.puts ≡ length ks →
       Holds (λ i. []) (record { parties = seated plan.barriers X.got X.puts ks; inputs = arriving plan.net.sources 0 X.inputs inputs; outputs = outlets plan.net.places plan.net.sources; met = [] })
   first-scene a b c = record {
-    parties = λ i p e. let w = seat-of plan.barriers X.got X.puts ks i p e in subst (λ (v : Party T S). PartyIs facts step tag plan X inputs ks (λ j. []) [] i v) (sym w.2) (seated-is i p.state w.0 w.1);
-    inlets = λ j u g. let z : 0 + j ≡ j = omega arith in by_input j u (subst (λ v. Has u (at X.inputs j) ⊎ Has u (puts_of_port (channels_from 0 (Own v) plan.net.sources) (at inputs v))) z (arrived plan.net.sources 0 X.inputs inputs j u g));
+    parties = λ i p e. let w = seat-of plan.barriers X.got X.puts ks i p e in subst (λ (v : Party T S). PartyIs facts step tag ks [] i v) (sym w.2) (seated-is i p.state w.0 w.1);
     bare = λ v g. absurd g;
     quiet = refl;
     count = seats-count plan.barriers X.got X.puts ks a b c;
     beyond = λ i g. refl;
   }
     where
-      seated-is : (i : ℕ) (s : S) (b : Bool) → get ks i ≡ Some s → PartyIs facts step tag plan X inputs ks (λ j. []) [] i (record { barrier = b; state = s; got = got_by X.got i; puts = at X.puts i; mood = Well; log = silent })
+      seated-is : (i : ℕ) (s : S) (b : Bool) → get ks i ≡ Some s → PartyIs facts step tag ks [] i (record { barrier = b; state = s; got = got_by X.got i; puts = at X.puts i; mood = Well; log = silent })
       seated-is i s b e = record {
         start = s;
         at_start = e;
         way = None;
         whole = record { first = silent; rest = silent; chain = (refl, refl); ends = refl; whole = refl };
         well = λ g. refl;
-        taken = λ t g q x f. absurd g;
-        begun = λ w g q x f. absurd (clash w g);
-        got = λ q x f. inl (inl f);
-        puts = λ u f. inl (i, u, f, refl, refl);
         begins = λ w g. absurd (clash w g);
         tagged = λ w g. absurd (clash w g);
       }
         where
           clash : (w : Begun T) → None ≡ Some w → ⊥
           clash w g = cc
-
-      by_input : (j : ℕ) (u : Put T) → Has u (at X.inputs j) ⊎ Has u (puts_of_port (channels_from 0 (Own j) plan.net.sources) (at inputs j)) → PutCause plan X inputs (λ i. []) u.channel u.token
-      by_input j u (inl g) = inr (inl (j, u, g, refl, refl))
-      by_input j u (inr g) = let w = inlet-put plan.net.sources j (at inputs j) u g in inr (inr (subst (λ v. ComesNow inputs (λ i. []) u.token v) (sym w.0) w.1))
 
   seats-got : (bs : List Bool) (gs : List (Streams T)) (us : List (List (Put T))) (ss : List S) → length bs ≡ length ss → length gs ≡ length ss → length us ≡ length ss → (all_got (seated bs gs us ss) ≡ gs) × (all_puts (seated bs gs us ss) ≡ us)
   seats-got [] [] [] ss a b c = (refl, refl)

@@ -4,17 +4,15 @@ use Rattle.std.proofs.lemmas.Bool.Decides.{nat_tests}
 use Rattle.std.proofs.Math.Path.{fun_ext}
 use Rattle.pt_meaning.specs.Basics.{Tag, Streams, at, Log, Path, silent, log_then, own, log_below}
 use Rattle.pt_meaning.specs.Machine.{Fault, Outcome, Done, Stuck, Stepping, Facts, recorded}
-use Rattle.pt_meaning.specs.Rounds.{Source, Own, Output}
 use Rattle.pt_meaning.specs.Dataflow.{Inside, prefixed}
 use Rattle.pt_meaning.specs.Modal.{unfired_outputs, Chart, Modes, Choice, Nothing, One, Wrong, Acted, Acts, Fails, chosen, change_at, change_if, get, reset_unless, local, lag_of, picked, shown, below_number, stuck, taken, afterwards, put_state, on_refinement, at_refinement, with_refinement, preempted, modal}
 use Rattle.pt_meaning.specs.Rendezvous.{with_meetings}
 use Rattle.pt_meaning.specs.Node.{Modal}
-use Rattle.pt_meaning.specs.Causes.{Has, Begun, source_of, as_own}
 use Rattle.pt_meaning.specs.LogsOfRuns.{log_at, log_in}
 use Rattle.pt_meaning.specs.Streams.{IsPrefix}
-use Rattle.pt_meaning.specs.Closed.{inputs_at, begun_at}
-use Rattle.pt_meaning.specs.SoundRuns.{OnPlace, IsSamePlan}
-use Rattle.pt_meaning.specs.Explained.{Turned, PartOf, Takes, ComesNow, ComesNowOrEarly, IfDone, Explained, of_turns, gives_in}
+use Rattle.pt_meaning.specs.Closed.{Begun, as_own, inputs_at, begun_at}
+use Rattle.pt_meaning.specs.SoundRuns.{IsSamePlan}
+use Rattle.pt_meaning.specs.Explained.{Turned, PartOf, IfDone, Explained, of_turns, gives_in}
 use Rattle.pt_meaning.proofs.Order.{IsPrefix-refl}
 
 some-of : {A : Type 0} (x y : A) → Some x ≡ Some y → x ≡ y
@@ -80,11 +78,6 @@ state-of any (x ∷ ss) zero s e = some-of s x (sym e)
 state-of any (x ∷ ss) (suc i) s e = state-of any ss i s e
 
 -- what a refinement takes came through the own inputs of its ports
-picked-from : {T : Type 0} (ps : List ℕ) (inputs : Streams T) (q : ℕ) (x : T) (ts : ℕ → List (Turned T)) → Has x (at (picked ps inputs) q) → ComesNow inputs ts x (as_own (get ps q))
-picked-from [] inputs q x ts h = absurd h
-picked-from (p ∷ ps) inputs zero x ts h = h
-picked-from (p ∷ ps) inputs (suc q) x ts h = picked-from ps inputs q x ts h
-
 picked-exact : {T : Type 0} (ps : List ℕ) (inputs : Streams T) (q : ℕ) (ts : ℕ → List (Turned T)) → IsPrefix (at (picked ps inputs) q) (gives_in inputs ts (as_own (get ps q)))
 picked-exact [] inputs q ts = tt
 picked-exact (p ∷ ps) inputs zero ts = IsPrefix-refl (at inputs p)
@@ -143,8 +136,6 @@ module _ {T S : Type 0} (chart : Chart T) (facts : Facts T S) (step : Stepping T
   taken-ends turns fed zs e early n l (Fails code) = tt
   taken-ends turns fed zs e early n l (Acts out values) = record {
     whole = λ i. refl;
-    plan = λ i q. refl;
-    tokens = λ i q y g. absurd g;
     wired = tt;
     count = changes-long _ _ zs ∙ e;
     kids = λ i y g. let r = reset-either _ _ zs i y g in at_end i y r.0 (state-of any zs i r.0 r.1) r.2;
@@ -159,7 +150,7 @@ module _ {T S : Type 0} (chart : Chart T) (facts : Facts T S) (step : Stepping T
 
   after-ends : (turns : ℕ → List (Turned T)) → AllFed turns → (zs : List S) → length zs ≡ length ks → (out : Streams T) (l : Log T) (c : Choice) → Ends turns zs (afterwards chart facts step made tag m zs inputs out l c)
   unfolding AllFed
-  after-ends turns fed zs e out l Nothing = record { same_plan = same-plan m m; counted = fed; left = λ g. absurd (not-kept g); whole = λ i. refl; plan = λ i q. refl; tokens = λ i q y g. absurd g; wired = tt; count = e; kids = λ i y g. inl (state-of any zs i y g) }
+  after-ends turns fed zs e out l Nothing = record { same_plan = same-plan m m; counted = fed; left = λ g. absurd (not-kept g); whole = λ i. refl; wired = tt; count = e; kids = λ i y g. inl (state-of any zs i y g) }
   after-ends turns fed zs e out l (One n) = taken-ends turns fed zs e false n l (chart.act false m.mode n m.values inputs out)
   after-ends turns fed zs e out l (Wrong code) = tt
 
@@ -189,7 +180,6 @@ module _ {T S : Type 0} (chart : Chart T) (facts : Facts T S) (step : Stepping T
     ends = λ i. state_or any ks i;
     parts = λ i s g. record { first = silent; rest = silent; chain = (sym (state-of any ks i s g), refl); ends = refl; whole = refl };
     beyond = λ i g. (refl, refl, refl);
-    taken = λ i q t x g. absurd (nobody i q t x g);
     tagged = λ i b g. absurd (no-begun b g);
     counted = λ i q. inl tt;
     done = h;
@@ -197,13 +187,6 @@ module _ {T S : Type 0} (chart : Chart T) (facts : Facts T S) (step : Stepping T
     where
       no-begun : (b : Begun T) → None ≡ Some b → ⊥
       no-begun b e = cc
-
-      nobody : (i q : ℕ) (t : Tag) (x : T) → Takes (λ i. []) (λ i. None) i q t x → ⊥
-      nobody i q t x (inl g) = g.1
-      nobody i q t x (inr g) = clash g.0 g.1
-        where
-          clash : (b : Begun T) → None ≡ Some b → ⊥
-          clash b e = cc
 
   -- child i alone fires
   one_turn : ℕ → Turned T → ℕ → List (Turned T)
@@ -268,7 +251,6 @@ module _ {T S : Type 0} (chart : Chart T) (facts : Facts T S) (step : Stepping T
       ends = λ j. state_or any (change_at i (put_state chart facts step z) ks) j;
       parts = λ j y g. part_by j y g (nat_eq i j) refl;
       beyond = λ j h. let n : nat_eq i j ≡ false = within-list ks i j s e h in (alone-other i j L n, ap (λ b. if b then turn ∷ [] else []) n, refl);
-      taken = λ j q u x g. take j q u x g;
       tagged = λ j b g. absurd (no-begun b g);
       counted = λ j q. inl (subst (λ v. IsPrefix v (gives_in inputs (one_turn i turn) (as_own (get (chart.in_ports j) q)))) (sym (append-nil (of_turns (inputs_at q) (one_turn i turn j)))) (turn-fed i turn refl j q));
       done = ends;
@@ -300,27 +282,6 @@ module _ {T S : Type 0} (chart : Chart T) (facts : Facts T S) (step : Stepping T
               whole = alone-at i L ∙ fun_ext (λ p. sym (append-nil (L p)) ∙ sym (append-nil (L p ++ [])));
             })))
 
-        take : (j q : ℕ) (u : Tag) (x : T) → Takes (one_turn i turn) (λ k. None) j q u x → OnPlace (Modal chart m) j q x ⊎ ComesNowOrEarly facts ks inputs (one_turn i turn) u x (source_of (Modal chart m) j q)
-        take j q u x (inr g) = absurd (clash g.0 g.1)
-          where
-            clash : (b : Begun T) → None ≡ Some b → ⊥
-            clash b h = cc
-        take j q u x (inl g) = go (nat_eq i j) refl g.1
-          where
-            go : (b : Bool) → nat_eq i j ≡ b → Has g.0 (if nat_eq i j then turn ∷ [] else []) → OnPlace (Modal chart m) j q x ⊎ ComesNowOrEarly facts ks inputs (one_turn i turn) u x (source_of (Modal chart m) j q)
-            go false n h = absurd (subst (λ (b : Bool). Has g.0 (if b then turn ∷ [] else [])) n h)
-            go true n h = by_turn (subst (λ (b : Bool). Has g.0 (if b then turn ∷ [] else [])) n h)
-              where
-                may : (o : Option Source) → ComesNow inputs (one_turn i turn) x o → ComesNowOrEarly facts ks inputs (one_turn i turn) u x o
-                may None h = h
-                may (Some (Own port)) h = h
-                may (Some (Output k port)) h = inl h
-
-                by_turn : Has g.0 (turn ∷ []) → OnPlace (Modal chart m) j q x ⊎ ComesNowOrEarly facts ks inputs (one_turn i turn) u x (source_of (Modal chart m) j q)
-                by_turn (inr h) = absurd h
-                by_turn (inl h) =
-                    inr (may (source_of (Modal chart m) j q) (subst (λ v. ComesNow inputs (one_turn i turn) x (as_own (get (chart.in_ports v) q))) (same-number i j n) (picked-from (chart.in_ports i) inputs q x (one_turn i turn) (subst (λ (v : Turned T). Has x (at v.record_of.inputs q)) h g.3))))
-
     -- its firing is stuck
     fires-stuck : (fs : List Fault) (l : Log T) → step t s got ≡ Stuck fs l → (gs : List Fault) → Explains (Stuck gs (below_number i l))
     unfolding Explains one_way
@@ -335,7 +296,6 @@ module _ {T S : Type 0} (chart : Chart T) (facts : Facts T S) (step : Stepping T
       ends = λ j. state_or any ks j;
       parts = λ j y g. part_by j y g (nat_eq i j) refl;
       beyond = λ j h. let n : nat_eq i j ≡ false = within-list ks i j s e h in (alone-other i j l n, refl, ap (λ b. if b then Some begun else None) n);
-      taken = λ j q u x g. take j q u x g;
       tagged = λ j b g. tagged_by j b (nat_eq i j) g;
       counted = λ j q. inl (fed_by j q (nat_eq i j) refl);
       done = tt;
@@ -372,24 +332,6 @@ module _ {T S : Type 0} (chart : Chart T) (facts : Facts T S) (step : Stepping T
               ends = sym (ap (λ v. log_in v) (ap (λ v. step t v got) (sym (state-of any ks i s e)) ∙ d));
               whole = alone-at i l;
             })))
-
-        take : (j q : ℕ) (u : Tag) (x : T) → Takes (λ k. []) (one_way i begun) j q u x → OnPlace (Modal chart m) j q x ⊎ ComesNowOrEarly facts ks inputs (λ k. []) u x (source_of (Modal chart m) j q)
-        take j q u x (inl g) = absurd g.1
-        take j q u x (inr g) = go (nat_eq i j) refl g.1
-          where
-            go : (b : Bool) → nat_eq i j ≡ b → (if nat_eq i j then Some begun else None) ≡ Some g.0 → OnPlace (Modal chart m) j q x ⊎ ComesNowOrEarly facts ks inputs (λ k. []) u x (source_of (Modal chart m) j q)
-            go false n h = absurd (clash (sym (ap (λ b. if b then Some begun else None) n) ∙ h))
-              where
-                clash : None ≡ Some g.0 → ⊥
-                clash h = cc
-            go true n h =
-                let b : begun ≡ g.0 = some-of begun g.0 (sym (ap (λ b. if b then Some begun else None) n) ∙ h) in
-                inr (may (source_of (Modal chart m) j q) (subst (λ v. ComesNow inputs (λ k. []) x (as_own (get (chart.in_ports v) q))) (same-number i j n) (picked-from (chart.in_ports i) inputs q x (λ k. []) (subst (λ (v : Begun T). Has x (at v.inputs q)) (sym b) g.3))))
-              where
-                may : (o : Option Source) → ComesNow inputs (λ k. []) x o → ComesNowOrEarly facts ks inputs (λ k. []) u x o
-                may None h = h
-                may (Some (Own port)) h = h
-                may (Some (Output k port)) h = inl h
 
     -- whichever it is
     refinement-explained : (o : Outcome T S) → step t s got ≡ o → Explains (on_refinement chart facts step made tag i m ks inputs (recorded (facts.made s) t got o))

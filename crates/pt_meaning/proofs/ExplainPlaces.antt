@@ -1,5 +1,5 @@
 -- The places of a Rendezvous composite: what is on its way to a place stays the same through meetings, in order.
-use Rattle.std.proofs.Common.{◌≡◌, ◌⊎◌, ℕ, zero, suc, ◌+◌, ◌≤◌, ◌<◌, ◌-◌, List, [], ◌∷◌, ◌++◌, Bool, true, false, nat_eq, nat_lt, length, Option, Some, None, if◌then◌else◌, inl, inr, refl, sym, ap, ap₂, subst, arith, ◌∙◌, append_assoc, append-nil}
+use Rattle.std.proofs.Common.{◌≡◌, ℕ, zero, suc, ◌+◌, ◌≤◌, ◌<◌, ◌-◌, List, [], ◌∷◌, ◌++◌, Bool, true, false, nat_eq, nat_lt, length, Option, Some, None, if◌then◌else◌, refl, sym, ap, ap₂, subst, arith, ◌∙◌, append_assoc, append-nil}
 use Rattle.std.proofs.lemmas.Bool.Decides.{nat_tests}
 use Rattle.pt_meaning.specs.Basics.{Streams, at, Meeting, Channel, Barrier}
 use Rattle.pt_meaning.specs.Rounds.{Source, Own, Output, Net}

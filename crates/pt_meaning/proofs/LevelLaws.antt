@@ -1,19 +1,18 @@
 -- A closed log goes on by a firing of its composite.
-use Rattle.std.proofs.Common.{◌≡◌, ◌⊎◌, ℕ, zero, suc, ◌+◌, ◌≤◌, ◌<◌, List, [], ◌∷◌, ◌++◌, Bool, true, false, ◌&&◌, ◌||◌, nat_le, nat_lt, nat_eq, if◌then◌else◌, length, Option, Some, None, inl, inr, refl, sym, ap, ap₂, subst, arith, ◌∙◌, append_assoc, append-nil}
+use Rattle.std.proofs.Common.{◌≡◌, ◌⊎◌, ℕ, zero, suc, ◌+◌, ◌≤◌, ◌<◌, List, [], ◌∷◌, ◌++◌, Bool, true, false, ◌||◌, nat_le, nat_lt, nat_eq, if◌then◌else◌, length, Option, Some, None, inl, inr, refl, sym, ap, ap₂, subst, arith, ◌∙◌, append_assoc, append-nil}
 use Rattle.std.proofs.lemmas.Bool.Decides.{nat_tests}
 use Rattle.std.proofs.Math.Path.{fun_ext}
-use Rattle.pt_meaning.specs.Basics.{Tag, Streams, at, Log, Path, Firing, Event, Finished, Met, firings_in, log_then, marked_event, all_marked, within_firing}
+use Rattle.pt_meaning.specs.Basics.{Tag, Streams, at, Log, Path, Firing, Event, Finished, Met, firings_in, log_then, all_marked}
 use Rattle.pt_meaning.specs.Streams.{IsPrefix, get}
 use Rattle.pt_meaning.specs.Machine.{Known}
 use Rattle.pt_meaning.specs.Rounds.{Source, Own, Output, Net}
-use Rattle.pt_meaning.specs.Rendezvous.{with_meetings}
 use Rattle.pt_meaning.specs.Node.{Rows, Core, Sdf, Pn, Sr, De, Rv, Modal, Past, Node, Nodes, Composite, none, more, list_of}
 use Rattle.pt_meaning.specs.Closed as closed
 use Rattle.pt_meaning.specs.Closed.{Has, child_of, Begun, UnderWay, rounds_of, these_if, is_between, begun_at, of_records, came_within, has_number, inputs_at, outputs_at, taken_from, given_from, taken_by_numbers, taken, given, first_channel, is_modal, keeps_tokens, IsSince, HasBegun, MayKnow, IsCausedIf, IsTagBelow}
 use Rattle.pt_meaning.specs.Channels as channels
 use Rattle.pt_meaning.specs.Channels.{further, channel_at, tokens_in}
-use Rattle.pt_meaning.specs.SoundRuns.{rest_of_rounds, unmarked, all_unmarked, log_in_child, way_in_child, idle, CameByNow, IsBare, ClosedIn, AllClosedIn, on_place, IsWired, IsSamePlan, AllBelow, given_by, LevelKept, KeptIn, AllKeptIn, part, all_of, takes_now, gives_now}
-use Rattle.pt_meaning.proofs.Order.{IsPrefix-refl, IsPrefix-after}
+use Rattle.pt_meaning.specs.SoundRuns.{unmarked, all_unmarked, log_in_child, way_in_child, idle, CameByNow, IsBare, ClosedIn, AllClosedIn, on_place, IsWired, IsSamePlan, AllBelow, given_by, LevelKept, KeptIn, AllKeptIn, part, all_of, takes_now, gives_now}
+use Rattle.pt_meaning.proofs.Order.{IsPrefix-after}
 use Rattle.pt_meaning.proofs.RecordLaws.{nothing-if, le-true, le-false, records-append, all-append, all-marked, all-quiet, AllBefore, AllAt, new-out, new-in, old-same, old-out}
 
 pub has-left : {A : Type 0} (x : A) (xs ys : List A) → Has x xs → Has x (xs ++ ys)

@@ -1,24 +1,24 @@
 -- What the events of a PN firing tell of its places.
-use Rattle.std.proofs.Common.{◌≡◌, ◌⊎◌, ℕ, zero, suc, ◌+◌, ◌≤◌, ◌<◌, ◌-◌, List, [], ◌∷◌, ◌++◌, Bool, true, false, ◌||◌, nat_eq, nat_lt, length, take, drop, get_or, Option, Some, None, if◌then◌else◌, inl, inr, refl, sym, ap, ap₂, subst, arith, ◌∙◌, append_assoc, append-nil, length-append}
+use Rattle.std.proofs.Common.{◌≡◌, ℕ, zero, suc, ◌+◌, ◌<◌, List, [], ◌∷◌, ◌++◌, Bool, true, false, ◌||◌, nat_eq, nat_lt, length, take, drop, get_or, Option, Some, None, if◌then◌else◌, inl, inr, refl, sym, ap, subst, arith, ◌∙◌, append_assoc, append-nil, length-append}
 use Rattle.std.proofs.lemmas.Bool.Decides.{nat_tests}
 use Rattle.std.proofs.lemmas.List.{length-take-le, length-drop}
 use Rattle.std.proofs.Math.Path.{fun_ext}
-use Rattle.pt_meaning.specs.Basics.{Tag, Streams, at, Log, silent, log_then}
+use Rattle.pt_meaning.specs.Basics.{Tag, Streams, at, Log, log_then}
 use Rattle.pt_meaning.specs.Streams.{get}
 use Rattle.pt_meaning.specs.Machine.{Outcome, Done, Stuck, Stepping, Facts, Front, Lacks, Ends, Takes, front}
-use Rattle.pt_meaning.specs.Flow.{Stop, Capped, Flow, flow, on_outcome, on_front}
-use Rattle.pt_meaning.specs.Rounds.{Source, Own, Output, Net, Limit, rated, gave, fed, refill}
+use Rattle.pt_meaning.specs.Flow.{Capped, Flow, flow, on_outcome, on_front}
+use Rattle.pt_meaning.specs.Rounds.{Source, Own, Output, Limit, rated, gave, refill}
 use Rattle.pt_meaning.specs.Kahn.{left_by, logs_of, states_of, skip_places}
 use Rattle.pt_meaning.specs.Pn.{pn_limits}
 use Rattle.pt_meaning.specs.Process.{Put}
 use Rattle.pt_meaning.specs.Running.{runs, MadeAll, Fits}
-use Rattle.pt_meaning.specs.Places.{Halfway, taken_if, Consistent, due}
-use Rattle.pt_meaning.specs.Jam.{WaitsFor, is_next_put, waited_from, waited_for, IsFull}
+use Rattle.pt_meaning.specs.Places.{taken_if, due}
+use Rattle.pt_meaning.specs.Jam.{is_next_put, waited_from, waited_for}
 use Rattle.pt_meaning.specs.LogsOfRuns.{log_at}
 use Rattle.pt_meaning.specs.Closed.{Has, Begun, inputs_at, outputs_at}
 use Rattle.pt_meaning.specs.Channels.{further, channel_at, tokens_in}
-use Rattle.pt_meaning.specs.Explained.{Turned, ChainOf, EndsWith, PartOf, of_turns, gives_in}
-use Rattle.pt_meaning.specs.PlacesTold.{AreFirings, AreTold, PlacesAreTold, LinesTell, FullLinesTell}
+use Rattle.pt_meaning.specs.Explained.{Turned, ChainOf, PartOf, of_turns, gives_in}
+use Rattle.pt_meaning.specs.PlacesTold.{PlacesAreTold, LinesTell, FullLinesTell}
 use Rattle.pt_meaning.proofs.FlowLaws.{IsFree}
 use Rattle.pt_meaning.proofs.RunLaws.{left-length, flow-capped}
 use Rattle.pt_meaning.proofs.ExplainFlows.{turns_of, turns_on, turns_front, stuck_of, flow-is, free-unstuck}

@@ -1,5 +1,5 @@
 -- What is picked of the records of a log, by the firings in which they came.
-use Rattle.std.proofs.Common.{◌≡◌, ◌⊎◌, ℕ, zero, suc, ◌+◌, ◌≤◌, ◌<◌, List, [], ◌∷◌, ◌++◌, Bool, true, false, ◌&&◌, nat_le, Option, Some, None, inl, inr, refl, sym, ap, ap₂, arith, ◌∙◌, append_assoc}
+use Rattle.std.proofs.Common.{◌≡◌, ℕ, suc, ◌≤◌, ◌<◌, List, [], ◌∷◌, ◌++◌, Bool, true, false, ◌&&◌, nat_le, Option, Some, inl, inr, refl, sym, ap, ap₂, arith, ◌∙◌, append_assoc}
 use Rattle.std.proofs.lemmas.Bool.Decides.{nat_tests}
 use Rattle.pt_meaning.specs.Basics.{Firing, Event, Finished, Met, firings_in, all_marked}
 use Rattle.pt_meaning.specs.Streams.{get}

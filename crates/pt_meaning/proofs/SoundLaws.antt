@@ -9,13 +9,13 @@ use Rattle.pt_meaning.specs.Dataflow.{Inside}
 use Rattle.pt_meaning.specs.Modal.{get}
 use Rattle.pt_meaning.specs.Rendezvous.{with_meetings}
 use Rattle.pt_meaning.specs.Children.{Child, numbered, nodes, child_facts, child_step}
-use Rattle.pt_meaning.specs.Node.{Rows, Answer, Fails, Core, Past, Node, Nodes, Actor, Composite, none, more, list_of, nodes_of, facts_of, as_node, fired_at, made_of, reset_of, reset_all, early_of}
+use Rattle.pt_meaning.specs.Node.{Rows, Core, Past, Node, Nodes, Actor, Composite, none, more, list_of, nodes_of, facts_of, as_node, fired_at, made_of, reset_of, reset_all, early_of}
 use Rattle.pt_meaning.specs.Closed as closed_laws
 use Rattle.pt_meaning.specs.Closed.{Has, child_of, if_there, node_at, actor_of, actor_at, on_answer, state_after, Begun, UnderWay, these_if, begun_at, inputs_at, outputs_at, given, is_modal, keeps_tokens, MayKnow}
 use Rattle.pt_meaning.specs.Channels as channels
 use Rattle.pt_meaning.specs.Heights.{IsFitting, AllFitting}
 use Rattle.pt_meaning.specs.LogsOfRuns.{log_at, log_in}
-use Rattle.pt_meaning.specs.SoundRuns.{all_unmarked, log_in_child, idle, IsBare, ClosedIn, AllClosedIn, on_place, IsWired, IsSamePlan, KeptIn, AllKeptIn, part, all_of, takes_now, gives_now, SoundStep}
+use Rattle.pt_meaning.specs.SoundRuns.{log_in_child, idle, IsBare, ClosedIn, AllClosedIn, on_place, IsWired, IsSamePlan, KeptIn, AllKeptIn, part, all_of, takes_now, gives_now, SoundStep}
 use Rattle.pt_meaning.specs.Explained.{Turned, ChainOf, EndsWith, PartOf, of_turns, takes_in, gives_in, MaySay, Nothing, Absence, Gives, Early, IsTakenWell, DoneWell, IfDone, Explained}
 use Rattle.pt_meaning.proofs.JoinLaws.{log-assoc}
 use Rattle.pt_meaning.proofs.LogLaws.{log-with_number}

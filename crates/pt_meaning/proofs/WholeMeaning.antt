@@ -9,7 +9,7 @@ use Rattle.pt_meaning.specs.Node.{Rows, Node, Actor, Composite, list_of, made_of
 use Rattle.pt_meaning.specs.Promises.{LawfulRows}
 use Rattle.pt_meaning.specs.Job.{Turn, Fire, Ends, Limit, Schedule, Course, on_step, on_turn, goes_on, after, log_of, begin, meaning}
 use Rattle.pt_meaning.specs.Heights.{IsFitting}
-use Rattle.pt_meaning.specs.Closed.{Has, child_of, Begun, UnderWay, is_modal, rounds_of, CameWithin, IsNext, IsClosedRun}
+use Rattle.pt_meaning.specs.Closed.{Has, child_of, Begun, UnderWay, is_modal, rounds_of, CameWithin}
 use Rattle.pt_meaning.specs.LogsOfRuns.{log_in}
 use Rattle.pt_meaning.specs.Laws.{Extends}
 use Rattle.pt_meaning.specs.SoundRuns.{rest_of_rounds, unmarked, log_in_child, way_in_child, CameByNow, idle, ClosedIn, KeptIn}

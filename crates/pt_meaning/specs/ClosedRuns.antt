@@ -10,7 +10,7 @@ use Rattle.pt_meaning.specs.Heights.{IsFitting}
 use Rattle.pt_meaning.specs.Streams.{IsPrefix}
 use Rattle.pt_meaning.specs.Machine.{Known}
 use Rattle.pt_meaning.specs.Channels.{held_at, source_of}
-use Rattle.pt_meaning.specs.Closed.{Has, child_of, core_at, is_modal, keeps_tokens, is_below_modal, inputs_at, Begun, UnderWay, HasBegun, MayKnow, IsCausedIf, IsTagBelow, CameWithin, IsNext}
+use Rattle.pt_meaning.specs.Closed.{child_of, core_at, is_modal, keeps_tokens, is_below_modal, inputs_at, Begun, UnderWay, HasBegun, MayKnow, IsCausedIf, IsTagBelow, CameWithin, IsNext}
 use Rattle.pt_meaning.specs.SoundRuns.{log_in_child, way_in_child, idle, IsBare, ClosedIn, on_place, IsWired, IsSamePlan, LevelKept, KeptIn, part, all_of, takes_now, gives_now, SoundStep}
 
 -- each place has its channel, and holds only what the plan puts there first

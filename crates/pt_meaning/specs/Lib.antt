@@ -61,4 +61,3 @@ pub mod Explained
 pub mod PlacesTold
 pub mod ClosedRuns
 pub mod WholeRuns
-pub mod Causes

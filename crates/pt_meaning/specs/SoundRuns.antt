@@ -1,5 +1,5 @@
 -- Closed logs level by level: of a tree at its start, of what is under way in it, and of the state that a run has come to.
-use Rattle.std.specs.Prelude.{◌≡◌, ◌⊎◌, ℕ, zero, suc, ◌+◌, ◌<◌, ◌≤◌, List, [], ◌∷◌, ◌++◌, Bool, true, ◌||◌, length, Option, Some, None}
+use Rattle.std.specs.Prelude.{◌≡◌, ◌⊎◌, ℕ, zero, suc, ◌<◌, ◌≤◌, List, [], ◌∷◌, ◌++◌, Bool, true, ◌||◌, length, Option, Some, None}
 use Rattle.pt_meaning.specs.Basics.{Tag, Streams, at, Log, Path, Firing, Event, Finished, Met, firings_in, log_then, own}
 use Rattle.pt_meaning.specs.Machine.{Done, Stepping}
 use Rattle.pt_meaning.specs.LogsOfRuns.{log_in}
@@ -10,10 +10,9 @@ use Rattle.pt_meaning.specs.Streams.{get}
 use Rattle.pt_meaning.specs.Rendezvous.{Places}
 use Rattle.pt_meaning.specs.Places.{tokens_on}
 use Rattle.pt_meaning.specs.Channels as channels
-use Rattle.pt_meaning.specs.Closed.{is_modal, keeps_tokens, state_after, begun_at, taken_from, given_from, taken_by_numbers, inputs_at, outputs_at, HasBegun, IsCausedIf, IsTagBelow}
+use Rattle.pt_meaning.specs.Closed.{Has, Begun, UnderWay, rounds_of, is_modal, keeps_tokens, state_after, begun_at, taken_from, given_from, taken_by_numbers, inputs_at, outputs_at, HasBegun, IsCausedIf, IsTagBelow}
 use Rattle.pt_meaning.specs.Channels.{channel_at, tokens_in}
 use Rattle.pt_meaning.specs.Process.{Put}
-use Rattle.pt_meaning.specs.Causes.{Has, UnderWay, Begun, Took, IsRecord, GaveOut, GaveEarly, CameFrom, node_at, first_channel, held_at, source_of, rounds_of}
 use Rattle.pt_meaning.specs.Node.{Rows, Core, Sdf, Pn, Sr, De, Rv, Modal, Past, Node, Nodes, Actor, Composite, none, more, list_of, made_of}
 
 -- an event as it is seen from the child below whose composite it came: without the number of the composite's firing
@@ -65,22 +64,11 @@ abbrev mutual
   AllClosedIn rows u none i l way = Unit {0}
   AllClosedIn rows u (more n ns) i l way = ClosedIn rows u n (log_in_child i l) (way_in_child i way) × AllClosedIn rows u ns (suc i) l way
 
--- the tokens that are at a place of a child already, or on the way to it
-abbrev pub IsPutOn : {T : Type 0} → ℕ → T → List (List (Put T)) → Type 0
-IsPutOn {T} c x uss = (j : ℕ) × (u : Put T) × Has u (at uss j) × (u.channel ≡ c) × (u.token ≡ x)
-
+-- what child i has gathered
 abbrev pub got_by : {T : Type 0} → List (Streams T) → ℕ → Streams T
 got_by [] i = []
 got_by (X ∷ Xs) zero = X
 got_by (X ∷ Xs) (suc i) = got_by Xs i
-
-abbrev pub OnPlace : {T : Type 0} → Core T → (child place : ℕ) → T → Type 0
-OnPlace (Sdf p X) i q x = Has x (at X (first_channel p.net.places i + q))
-OnPlace (Pn p X) i q x = Has x (at X (first_channel p.net.places i + q))
-OnPlace (Sr p) i q x = ⊥
-OnPlace (De p) i q x = ⊥
-OnPlace (Rv p X) i q x = Has x (at (got_by X.got i) q) ⊎ IsPutOn (first_channel p.net.places i + q) x X.puts ⊎ IsPutOn (first_channel p.net.places i + q) x X.inputs
-OnPlace (Modal chart m) i q x = ⊥
 
 -- the puts of a sender that still wait: of an own input, or of a child
 abbrev pub waiting_in : {T : Type 0} → Places T → Option Source → List (Put T)
