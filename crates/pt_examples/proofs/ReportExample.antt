@@ -171,11 +171,11 @@ strict_ramp tag state vs port xs e f = let g : partial_at (rows.early tag ramp v
 given_none : (under_way : UnderWay Token) (n i q : ℕ) → i ≡ 1 → q ≡ 0 → given rows doubled scale_alone under_way [] (source_of start i q) n n ≡ []
 given_none u n i q a b = subst (λ c. given rows doubled scale_alone u [] (source_of start c q) n n ≡ []) (sym a) (subst (λ c. given rows doubled scale_alone u [] (source_of start 1 c) n n ≡ []) (sym b) refl)
 
-nothing_known : (under_way : UnderWay Token) (n : ℕ) (tag : Tag) (i q : ℕ) (v : Partial Token) → MayKnow rows doubled scale_alone under_way [] start n tag i q v → i ≡ 1 → q ≡ 0 → (xs : List Token) → v ≡ Known xs → xs ≡ []
-nothing_known u n tag _ _ _ (Nothing i q) a b xs e = absurd (cc)
-nothing_known u n tag _ _ _ (Absence i q) a b xs e = cc
-nothing_known u n tag _ _ _ (Gave i q) a b xs e = let g = given_none u n i q a b in cc
-nothing_known u n tag _ _ _ (Early i q j port first state before since later vs ys s t l r k f) a b xs e = absurd (strict_ramp tag state vs port ys is_ramp f)
+nothing_known : (under_way : UnderWay Token) (reset : Bool) (n : ℕ) (tag : Tag) (i q : ℕ) (v : Partial Token) → MayKnow rows doubled scale_alone under_way reset [] start n tag i q v → i ≡ 1 → q ≡ 0 → (xs : List Token) → v ≡ Known xs → xs ≡ []
+nothing_known u reset n tag _ _ _ (Nothing i q) a b xs e = absurd (cc)
+nothing_known u reset n tag _ _ _ (Absence i q) a b xs e = cc
+nothing_known u reset n tag _ _ _ (Gave i q) a b xs e = let g = given_none u n i q a b in cc
+nothing_known u reset n tag _ _ _ (Early i q j port first state before since later vs ys s t l fresh r k f) a b xs e = absurd (strict_ramp tag state vs port ys is_ramp f)
   where
     at_one : source_of start 1 q ≡ Some (Output j port)
     at_one = subst (λ c. source_of start c q ≡ Some (Output j port)) a s
@@ -201,4 +201,4 @@ unclosed_example whole closed = let now = closed.begun [] 0 (1 ∷ []) (Finished
     go : IsCausedAt rows doubled scale_alone closed.under_way [] start 1 0 0 → ⊥
     go (inl (r, few, inl zero_is, below)) = subst (λ c. IsPrefix (taken rows doubled scale_alone closed.under_way [] 1 0 c 0) []) zero_is below
     go (inl (r, few, inr modal, below)) = absurd (cc)
-    go (inr (b, begun, now, xs, known, below)) = subst (λ ys. IsPrefix (taken rows doubled scale_alone closed.under_way [] 1 0 0 0) ys) (nothing_known closed.under_way 0 b.tag 1 0 (Known xs) known refl refl xs refl) below
+    go (inr (b, begun, now, xs, known, below)) = subst (λ ys. IsPrefix (taken rows doubled scale_alone closed.under_way [] 1 0 0 0) ys) (nothing_known closed.under_way false 0 b.tag 1 0 (Known xs) known refl refl xs refl) below

@@ -31,6 +31,10 @@ rounds-unmarked (Finished ns f) = refl
 rounds-unmarked (Met ns i m) = refl
 
 -- the state of a library actor by the events of its path, with their marks or without
+pub unmarked-none : {T : Type 0} (es : List (Event T)) → all_unmarked es ≡ [] → es ≡ []
+unmarked-none [] e = refl
+unmarked-none (x ∷ es) e = absurd (cc)
+
 pub split-unmarked : {T : Type 0} (es bs ss : List (Event T)) → all_unmarked es ≡ bs ++ ss → (b : List (Event T)) × (c : List (Event T)) × (es ≡ b ++ c) × (all_unmarked c ≡ ss) × (all_unmarked b ≡ bs)
 split-unmarked es [] ss e = ([], es, refl, e, refl)
 split-unmarked [] (x ∷ bs) ss e = absurd (cc)
@@ -80,18 +84,22 @@ module _ {T A : Type 0} (rows : Rows T A) (h : Past) (c d : Core T) (kids : Node
   given-up p (Some (Own port)) r k = ap₂ (λ a b. a ++ these_if (nat_le b k) (begun_at (way (j ∷ p)) port) []) (numbers-unmarked r k (inputs_at port) (l (j ∷ p))) (count-unmarked (l (j ∷ p)))
   given-up p (Some (Output i port)) r k = records-unmarked (length p) r k (outputs_at port) (l (j ∷ (p ++ (i ∷ []))))
 
-  know-up : (p : Path) (s : Core T) (k : ℕ) (t : Tag) (i q : ℕ) (v : Partial T) → MayKnow rows n (log_in_child j l) (way_in_child j way) p s k t i q v → MayKnow rows whole l way (j ∷ p) s k t i q v
-  know-up p s k t i q v (Nothing a b) = Nothing i q
-  know-up p s k t i q v (Absence a b) = Absence i q
-  know-up p s k t i q v (Gave a b) = subst (λ xs. MayKnow rows whole l way (j ∷ p) s k t i q (Known xs)) (sym (given-up p (source_of s i q) k k)) (Gave i q)
-  know-up p s k t i q v (Early a b o port start state before since later vs xs f g es st m w) =
+  know-up : (u : Bool) (p : Path) (s : Core T) (k : ℕ) (t : Tag) (i q : ℕ) (v : Partial T) → MayKnow rows n (log_in_child j l) (way_in_child j way) u p s k t i q v → MayKnow rows whole l way u (j ∷ p) s k t i q v
+  know-up u p s k t i q v (Nothing a b) = Nothing i q
+  know-up u p s k t i q v (Absence a b) = Absence i q
+  know-up u p s k t i q v (Gave a b) = subst (λ xs. MayKnow rows whole l way u (j ∷ p) s k t i q (Known xs)) (sym (given-up p (source_of s i q) k k)) (Gave i q)
+  know-up u p s k t i q v (Early a b o port start state before since later vs xs f g es fresh st m w) =
       let es' = split-unmarked (l (j ∷ (p ++ (o ∷ [])))) before (since ++ later) es in
       let es'' = split-unmarked es'.1 since later es'.3 in
-      Early i q o port start state es'.0 es''.0 es''.1 vs xs f (ap (λ x. if_there actor_of (if_there (node_at (p ++ (o ∷ []))) x)) e ∙ g) (es'.2 ∙ ap (λ x. es'.0 ++ x) es''.2) (sym (state-unmarked rows es''.0 start) ∙ ap (λ x. state_after rows x start) es''.4 ∙ st) (λ place. know-up p s k t o place (partial_at vs place) (m place)) w
+      Early i q o port start state es'.0 es''.0 es''.1 vs xs f (ap (λ x. if_there actor_of (if_there (node_at (p ++ (o ∷ []))) x)) e ∙ g) (es'.2 ∙ ap (λ x. es'.0 ++ x) es''.2) (from_start s before es'.0 es'.4 fresh) (sym (state-unmarked rows es''.0 start) ∙ ap (λ x. state_after rows x start) es''.4 ∙ st) (λ place. know-up u p s k t o place (partial_at vs place) (m place)) w
+    where
+      from_start : (s : Core T) (bs b : List (Event T)) → all_unmarked b ≡ bs → (bs ≡ []) ⊎ ((u || is_modal s) ≡ true) → (b ≡ []) ⊎ ((u || is_modal s) ≡ true)
+      from_start s bs b e (inl g) = inl (unmarked-none b (e ∙ g))
+      from_start s bs b e (inr g) = inr g
 
   caused-up : (u : Bool) (p : Path) (s : Core T) (i q k : ℕ) → IsCausedIf rows n (log_in_child j l) (way_in_child j way) u p s i q k → IsCausedIf rows whole l way u (j ∷ p) s i q k
   caused-up u p s i q k (inl g) = inl (g.0, g.1, g.2, subst (λ a. IsPrefix a (held_at s i q ++ given rows whole l way (j ∷ p) (source_of s i q) g.0 k)) (taken-up p i q g.0 k) (subst (λ a. IsPrefix (taken rows n (log_in_child j l) (way_in_child j way) p i q g.0 k) (held_at s i q ++ a)) (given-up p (source_of s i q) g.0 k) g.3))
-  caused-up u p s i q k (inr g) = inr (g.0, g.1, g.2 ∙ count-unmarked (l (j ∷ p)), g.3, know-up p s k g.0.tag i q (Known g.3) g.4, subst (λ a. IsPrefix a g.3) (taken-up p i q k k) g.5)
+  caused-up u p s i q k (inr g) = inr (g.0, g.1, g.2 ∙ count-unmarked (l (j ∷ p)), g.3, know-up u p s k g.0.tag i q (Known g.3) g.4, subst (λ a. IsPrefix a g.3) (taken-up p i q k k) g.5)
 
 or-assoc : (a b c : Bool) → ((a || b) || c) ≡ (a || (b || c))
 or-assoc true b c = refl

@@ -50,7 +50,7 @@ mutual
 
 mutual
   pub start-kept : {T A : Type 0} (rows : Rows T A) (u : Bool) (n : Node T A) → IsAtStart n → KeptIn rows u n n silent
-  start-kept rows u (Actor h a b) s = (sym s.0, refl, ([], [], refl, ap (λ v. Option.Some v) (sym s.1)))
+  start-kept rows u (Actor h a b) s = (sym s.0, refl, ([], [], refl, ap (λ v. Option.Some v) (sym s.1), inl refl))
   start-kept {T} rows u (Composite h c d kids) s = (
     record {
       made = sym s.0;
@@ -181,7 +181,7 @@ levels-go-on {T} {A} = record {
   under_way = λ rows u h₀ c₀ d₀ kids₀ h c d count l closed kept es bare quiet new tag inputs way w tags beyond taken kids.
       subst (λ v. ClosedIn rows u (Composite h₀ c₀ d₀ kids₀) (log_then l v) way) (as-added h.made es new)
       (level-under-way rows u h₀ c₀ d₀ kids₀ h c d count l closed kept es bare quiet new tag inputs way w tags beyond
-      (subst (λ v. (i q : ℕ) → IsPrefix (takes_now new way i q) (on_place d i q ++ gives_now inputs new (source_of d i q)) ⊎ ((xs : List T) × MayKnow rows (Composite h₀ c₀ d₀ kids₀) (log_then l v) way [] c₀ h.made tag i q (Known xs) × IsPrefix (takes_now new way i q) xs)) (sym (as-added h.made es new)) taken) kids);
+      (subst (λ v. (i q : ℕ) → IsPrefix (takes_now new way i q) (on_place d i q ++ gives_now inputs new (source_of d i q)) ⊎ ((xs : List T) × MayKnow rows (Composite h₀ c₀ d₀ kids₀) (log_then l v) way u [] c₀ h.made tag i q (Known xs) × IsPrefix (takes_now new way i q) xs)) (sym (as-added h.made es new)) taken) kids);
   done = λ rows u h₀ c₀ d₀ kids₀ h c d count l closed kept es bare quiet new tag inputs out beyond taken kids.
       subst (λ v. ClosedIn rows u (Composite h₀ c₀ d₀ kids₀) (log_then l v) idle) (as-added h.made (es ++ (own_event h tag inputs out ∷ [])) new) (level-done rows u h₀ c₀ d₀ kids₀ h c d count l closed kept es bare quiet new tag inputs out (λ i p g. (beyond i p g).0) taken kids);
   kept = λ rows u h₀ c₀ d₀ kids₀ h c d count l closed kept es bare quiet new tag inputs out h' d' kids' made long wired plan left below.

@@ -127,12 +127,13 @@ module _ {T A : Type 0} (rows : Rows T A) (t : Tag) (X : Streams T) where
           state_or_z (Done s o n) = s
           state_or_z (Stuck fs n) = z
 
-      led : IsLedTo rows a₀ b' (l [] ++ (Finished [] f ∷ []))
+      led : IsLedTo rows u a₀ b' (l [] ++ (Finished [] f ∷ []))
       led = (
         e.2.0,
         e.2.1 ++ (Finished [] f ∷ []),
         ap (λ v. v ++ (Finished [] f ∷ [])) e.2.2 ∙ append_assoc e.2.0 e.2.1 (Finished [] f ∷ []),
         state-append rows e.2.1 (Finished [] f ∷ []) a₀ b e.2.3 ∙ ap (λ (o : Answer T A). on_answer (state_after rows []) o) reacts,
+        e.2.4,
       )
 
       made : firings_in (l [] ++ (Finished [] f ∷ [])) ≡ suc h.made

@@ -53,3 +53,4 @@ pub mod LaterLaws
 pub mod LaterSteps
 pub mod WholeSteps
 pub mod WholeMeaning
+pub mod StartLaws

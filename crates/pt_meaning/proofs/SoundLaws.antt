@@ -15,14 +15,14 @@ use Rattle.pt_meaning.specs.Closed.{Has, child_of, if_there, node_at, actor_of, 
 use Rattle.pt_meaning.specs.Channels as channels
 use Rattle.pt_meaning.specs.Heights.{IsFitting, AllFitting}
 use Rattle.pt_meaning.specs.LogsOfRuns.{log_at, log_in}
-use Rattle.pt_meaning.specs.SoundRuns.{log_in_child, idle, IsBare, ClosedIn, AllClosedIn, on_place, IsWired, IsSamePlan, KeptIn, AllKeptIn, part, all_of, takes_now, gives_now, SoundStep}
+use Rattle.pt_meaning.specs.SoundRuns.{all_unmarked, log_in_child, idle, IsBare, ClosedIn, AllClosedIn, on_place, IsWired, IsSamePlan, KeptIn, AllKeptIn, part, all_of, takes_now, gives_now, SoundStep}
 use Rattle.pt_meaning.specs.Explained.{Turned, ChainOf, EndsWith, PartOf, of_turns, takes_in, gives_in, MaySay, Nothing, Absence, Gives, Early, IsTakenWell, DoneWell, IfDone, Explained}
 use Rattle.pt_meaning.proofs.JoinLaws.{log-assoc}
 use Rattle.pt_meaning.proofs.LogLaws.{log-with_number}
 use Rattle.pt_meaning.proofs.CompositeLaws.{log-as-node}
 use Rattle.pt_meaning.proofs.FiringLaws.{DoneWithin, done-within, number-kept}
 use Rattle.pt_meaning.proofs.HeightLaws.{with-number-done, numbered-length}
-use Rattle.pt_meaning.proofs.ClosedLaws.{split-unmarked, state-unmarked, child-closed, child-or-beyond}
+use Rattle.pt_meaning.proofs.ClosedLaws.{unmarked-none, split-unmarked, state-unmarked, child-closed, child-or-beyond}
 use Rattle.pt_meaning.proofs.RecordLaws.{le-true, all-append, all-quiet}
 use Rattle.pt_meaning.proofs.LevelLaws.{count-append, added, SamePlace, same-place, given-up, own-up, taken-none, given-none, level-under-way, level-done, node-kept}
 
@@ -71,7 +71,7 @@ or-true false b e = absurd (cc)
 
 mutual
   reset-kept : {T A : Type 0} (rows : Rows T A) (u : Bool) → u ≡ true → (n₀ n : Node T A) (l : Log T) → ClosedIn rows u n₀ l idle → KeptIn rows u n₀ n l → KeptIn rows u n₀ (reset_of n) l
-  reset-kept rows u t (Actor h₀ a₀ b₀) (Actor h a b) l c k = (k.0, k.1, (l [], [], sym (append-nil (l [])), ap (λ v. Option.Some v) (sym k.1)))
+  reset-kept rows u t (Actor h₀ a₀ b₀) (Actor h a b) l c k = (k.0, k.1, (l [], [], sym (append-nil (l [])), ap (λ v. Option.Some v) (sym k.1), inr t))
   reset-kept rows u t (Actor h₀ a₀ b₀) (Composite h s d kids) l c k = absurd k
   reset-kept rows u t (Composite h₀ c₀ d₀ kids₀) (Actor h a b) l c k = absurd k
   reset-kept {T} rows u t (Composite h₀ c₀ d₀ kids₀) (Composite h s d kids) l c k = (
@@ -333,6 +333,7 @@ module _ {T A H : Type 0} (rows : Rows T A) (steps : ℕ → Stepping T (Node T 
     is_actor : actor_at (j ∷ []) top₀ ≡ Some start
     events : now (j ∷ []) ≡ before ++ (since ++ later)
     led : state_after rows since start ≡ Some state
+    reset : (before ≡ []) ⊎ (v ≡ true)
     early : partial_at (rows.early tag state vs) port ≡ Known xs
 
   led-to : (j : ℕ) (s : Child (Node T A)) (port : ℕ) (vs : List (Partial T)) (xs : List T) → get (numbered 0 (list_of kids)) j ≡ Some s → partial_at (early_of rows tag s.node vs) port ≡ Known xs → Child₀ j → LedTo j s port vs xs
@@ -359,6 +360,10 @@ module _ {T A H : Type 0} (rows : Rows T A) (steps : ℕ → Stepping T (Node T 
           node_or None = s.node
           node_or (Some z) = z.node
 
+      from_start : (b bs : List (Event T)) → all_unmarked b ≡ bs → (bs ≡ []) ⊎ (v ≡ true) → (b ≡ []) ⊎ (v ≡ true)
+      from_start b bs e (inl g) = inl (unmarked-none b (e ∙ g))
+      from_start b bs e (inr g) = inr g
+
       by_node : (n₀ n : Node T A) → child_of kids₀ j ≡ Some n₀ → KeptIn rows v n₀ n (log_in_child j l) → partial_at (early_of rows tag n vs) port ≡ Known xs → LedTo j s port vs xs
       by_node (Actor q₀ a₀ b₀) (Actor q a b) f m g =
           let w = split-unmarked (l (j ∷ [])) m.2.0 m.2.1 m.2.2 in
@@ -372,36 +377,37 @@ module _ {T A H : Type 0} (rows : Rows T A) (steps : ℕ → Stepping T (Node T 
             events = ap (λ es. es ++ all_marked h.made (new (j ∷ []))) w.2 ∙ append_assoc w.0 w.1 (all_marked h.made (new (j ∷ [])));
             led = sym (state-unmarked rows w.1 a₀) ∙ ap (λ es. state_after rows es a₀) w.3 ∙ m.2.3;
             early = g;
+            reset = from_start w.0 m.2.0 w.4 m.2.4;
           }
       by_node (Actor q₀ a₀ b₀) (Composite q e d ks) f m g = absurd m
       by_node (Composite q₀ e₀ d₀ ks₀) (Actor q a b) f m g = absurd m
       by_node (Composite q₀ e₀ d₀ ks₀) (Composite q e d ks) f m g = absurd (cc)
 
-  may-know : (i q : ℕ) (w : Partial T) → MaySay (child_facts (facts_of rows)) d (numbered 0 (list_of kids)) inputs x.turns tag i q w → MayKnow rows top₀ now all-ways [] c₀ h.made tag i q w
+  may-know : (i q : ℕ) (w : Partial T) → MaySay (child_facts (facts_of rows)) d (numbered 0 (list_of kids)) inputs x.turns tag i q w → MayKnow rows top₀ now all-ways u [] c₀ h.made tag i q w
   may-know i q w (Nothing a b) = MayKnow.Nothing i q
   may-know i q w (Absence a b) = MayKnow.Absence i q
   may-know i q w (Gives a b) = by_place (same-place c₀ i q)
     where
-      by_place : SamePlace c₀ i q → MayKnow rows top₀ now all-ways [] c₀ h.made tag i q (Known (gives_in inputs x.turns (channels.source_of d i q)))
+      by_place : SamePlace c₀ i q → MayKnow rows top₀ now all-ways u [] c₀ h.made tag i q (Known (gives_in inputs x.turns (channels.source_of d i q)))
       by_place (inl e) =
-          subst (λ xs. MayKnow rows top₀ now all-ways [] c₀ h.made tag i q (Known xs)) (given-same (closed_laws.source_of c₀ i q) ∙ ap (λ s. gives_in inputs x.turns s) (e.0 ∙ sym (kept.0.plan.sources i q))) (MayKnow.Gave i q)
-      by_place (inr e) = subst (λ s. MayKnow rows top₀ now all-ways [] c₀ h.made tag i q (Known (gives_in inputs x.turns s))) (sym (kept.0.plan.sources i q ∙ e.0)) (MayKnow.Absence i q)
+          subst (λ xs. MayKnow rows top₀ now all-ways u [] c₀ h.made tag i q (Known xs)) (given-same (closed_laws.source_of c₀ i q) ∙ ap (λ s. gives_in inputs x.turns s) (e.0 ∙ sym (kept.0.plan.sources i q))) (MayKnow.Gave i q)
+      by_place (inr e) = subst (λ s. MayKnow rows top₀ now all-ways u [] c₀ h.made tag i q (Known (gives_in inputs x.turns s))) (sym (kept.0.plan.sources i q ∙ e.0)) (MayKnow.Absence i q)
   may-know i q w (Early a b j port s vs xs f e g t) = by_place (same-place c₀ i q) (λ place. may-know j place (partial_at vs place) (g place))
     where
       no-source : None ≡ Some (Output j port) → ⊥
       no-source e = cc
 
-      by_place : SamePlace c₀ i q → ((place : ℕ) → MayKnow rows top₀ now all-ways [] c₀ h.made tag j place (partial_at vs place)) → MayKnow rows top₀ now all-ways [] c₀ h.made tag i q (Known xs)
+      by_place : SamePlace c₀ i q → ((place : ℕ) → MayKnow rows top₀ now all-ways u [] c₀ h.made tag j place (partial_at vs place)) → MayKnow rows top₀ now all-ways u [] c₀ h.made tag i q (Known xs)
       by_place (inr y) ih = absurd (no-source (sym y.0 ∙ sym (kept.0.plan.sources i q) ∙ f))
       by_place (inl y) ih =
           let z = led-to j s port vs xs e t (in-children j) in
-          MayKnow.Early i q j port z.start z.state z.before z.since z.later vs xs (y.0 ∙ sym (kept.0.plan.sources i q) ∙ f) z.is_actor z.events z.led ih z.early
+          MayKnow.Early i q j port z.start z.state z.before z.since z.later vs xs (y.0 ∙ sym (kept.0.plan.sources i q) ∙ f) z.is_actor z.events z.reset z.led ih z.early
 
-  taken-now : (i q : ℕ) → IsPrefix (takes_now new all-ways i q) (on_place d i q ++ gives_now inputs new (channels.source_of d i q)) ⊎ ((xs : List T) × MayKnow rows top₀ now all-ways [] c₀ h.made tag i q (Known xs) × IsPrefix (takes_now new all-ways i q) xs)
+  taken-now : (i q : ℕ) → IsPrefix (takes_now new all-ways i q) (on_place d i q ++ gives_now inputs new (channels.source_of d i q)) ⊎ ((xs : List T) × MayKnow rows top₀ now all-ways u [] c₀ h.made tag i q (Known xs) × IsPrefix (takes_now new all-ways i q) xs)
   taken-now i q = go (x.counted i q)
     where
       go : IsTakenWell (child_facts (facts_of rows)) d (numbered 0 (list_of kids)) inputs x.turns x.way tag i q →
-          IsPrefix (takes_now new all-ways i q) (on_place d i q ++ gives_now inputs new (channels.source_of d i q)) ⊎ ((xs : List T) × MayKnow rows top₀ now all-ways [] c₀ h.made tag i q (Known xs) × IsPrefix (takes_now new all-ways i q) xs)
+          IsPrefix (takes_now new all-ways i q) (on_place d i q ++ gives_now inputs new (channels.source_of d i q)) ⊎ ((xs : List T) × MayKnow rows top₀ now all-ways u [] c₀ h.made tag i q (Known xs) × IsPrefix (takes_now new all-ways i q) xs)
       go (inl g) = inl (subst (λ a. IsPrefix a (on_place d i q ++ gives_now inputs new (channels.source_of d i q))) (sym (takes-same i q)) (subst (λ a. IsPrefix (takes_in x.turns x.way i q) (on_place d i q ++ a)) (sym (gives-same (channels.source_of d i q))) g))
       go (inr g) = inr (g.0, may-know i q (Known g.0) g.1, subst (λ a. IsPrefix a g.0) (sym (takes-same i q)) g.2)
 

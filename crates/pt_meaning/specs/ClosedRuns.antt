@@ -43,9 +43,9 @@ pub record ClosedAtPaths (T A : Type 0) : Type 0 where
 
 -- A composite that a run has come to is firing: es stands at its own path (meetings), and new is what its children have logged in this firing, each below its number.
 -- What stands here is what code shows that fires the children one by one: what a child took now is the beginning of what was on its place and what its source gave, or of what may be known of it.
-abbrev pub TakenNow : {T A : Type 0} → Rows T A → Node T A → Core T → Core T → Past → Log T → List (Event T) → Streams T → Log T → UnderWay T → Tag → Type 0
-TakenNow {T} rows top c d h l es inputs new way tag = (i q : ℕ) → IsPrefix (takes_now new way i q) (on_place d i q ++ gives_now inputs new (source_of d i q)) ⊎
-    ((xs : List T) × MayKnow rows top (log_then l (within_firing h.made (with_meetings es new))) way [] c h.made tag i q (Known xs) × IsPrefix (takes_now new way i q) xs)
+abbrev pub TakenNow : {T A : Type 0} → Rows T A → (resettable : Bool) → Node T A → Core T → Core T → Past → Log T → List (Event T) → Streams T → Log T → UnderWay T → Tag → Type 0
+TakenNow {T} rows u top c d h l es inputs new way tag = (i q : ℕ) → IsPrefix (takes_now new way i q) (on_place d i q ++ gives_now inputs new (source_of d i q)) ⊎
+    ((xs : List T) × MayKnow rows top (log_then l (within_firing h.made (with_meetings es new))) way u [] c h.made tag i q (Known xs) × IsPrefix (takes_now new way i q) xs)
 
 -- where all that it took was given
 abbrev pub TakenWell : {T : Type 0} → Core T → Streams T → Log T → Type 0
@@ -71,7 +71,7 @@ own_event h tag inputs out = Finished [] (record { number = h.made; tag = tag; i
 pub record LevelsGoOn (T A : Type 0) : Type 0 where
   pub under_way : (rows : Rows T A) (u : Bool) (h₀ : Past) (c₀ d₀ : Core T) (kids₀ : Nodes T A) (h : Past) (c d : Core T) (count : ℕ) (l : Log T) → ClosedIn rows u (Composite h₀ c₀ d₀ kids₀) l idle → LevelKept u h c₀ c d (length (list_of kids₀)) count l →
       (es : List (Event T)) → IsBare es → firings_in es ≡ 0 → (new : Log T) (tag : Tag) (inputs : Streams T) (way : UnderWay T) → way [] ≡ Some (record { tag = tag; inputs = inputs }) → ((i : ℕ) (b : Begun T) → way (i ∷ []) ≡ Some b → IsTagBelow (is_modal d) tag b.tag) → NoneBeyond kids₀ new way →
-      TakenNow rows (Composite h₀ c₀ d₀ kids₀) c₀ d h l es inputs new way tag → KidsClosed rows (u || is_modal c₀) kids₀ l new way → ClosedIn rows u (Composite h₀ c₀ d₀ kids₀) (log_then l (within_firing h.made (with_meetings es new))) way
+      TakenNow rows u (Composite h₀ c₀ d₀ kids₀) c₀ d h l es inputs new way tag → KidsClosed rows (u || is_modal c₀) kids₀ l new way → ClosedIn rows u (Composite h₀ c₀ d₀ kids₀) (log_then l (within_firing h.made (with_meetings es new))) way
   pub done : (rows : Rows T A) (u : Bool) (h₀ : Past) (c₀ d₀ : Core T) (kids₀ : Nodes T A) (h : Past) (c d : Core T) (count : ℕ) (l : Log T) → ClosedIn rows u (Composite h₀ c₀ d₀ kids₀) l idle → LevelKept u h c₀ c d (length (list_of kids₀)) count l →
       (es : List (Event T)) → IsBare es → firings_in es ≡ 0 → (new : Log T) (tag : Tag) (inputs out : Streams T) → NoneBeyond kids₀ new idle → TakenWell d inputs new → KidsClosed rows (u || is_modal c₀) kids₀ l new idle →
       ClosedIn rows u (Composite h₀ c₀ d₀ kids₀) (log_then l (within_firing h.made (with_meetings (es ++ (own_event h tag inputs out ∷ [])) new))) idle

@@ -61,3 +61,4 @@ pub mod Explained
 pub mod PlacesTold
 pub mod ClosedRuns
 pub mod WholeRuns
+pub mod StartedRuns

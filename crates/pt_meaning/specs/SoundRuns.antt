@@ -142,14 +142,14 @@ pub record LevelKept {T : Type 0} (resettable : Bool) (h : Past) (c₀ c d : Cor
   pub from : (since ≡ 0) ⊎ (resettable ≡ true)
   pub tokens : keeps_tokens c₀ ≡ true → (i q : ℕ) → taken_from 0 since h.made q (l (i ∷ [])) ++ on_place d i q ≡ channels.held_at c₀ i q ++ given_by l (channels.source_of c₀ i q) since h.made
 
--- the state of a library actor after the events of its path, from its start or since a reset
-abbrev pub IsLedTo : {T A : Type 0} → Rows T A → A → A → List (Event T) → Type 0
-IsLedTo {T} rows start state es = (before since : List (Event T)) × (es ≡ before ++ since) × (state_after rows since start ≡ Some state)
+-- the state of a library actor after the events of its path, from its start, or since a reset where there may be one
+abbrev pub IsLedTo : {T A : Type 0} → Rows T A → (resettable : Bool) → A → A → List (Event T) → Type 0
+IsLedTo {T} rows u start state es = (before since : List (Event T)) × (es ≡ before ++ since) × (state_after rows since start ≡ Some state) × ((before ≡ []) ⊎ (u ≡ true))
 
 -- a node that a run has come to from its start, with what it has logged
 abbrev mutual
   pub KeptIn : {T A : Type 0} → Rows T A → (resettable : Bool) → Node T A → Node T A → Log T → Type 0
-  KeptIn rows u (Actor h₀ a₀ b₀) (Actor h a b) l = (firings_in (l []) ≡ h.made) × (a ≡ a₀) × IsLedTo rows a₀ b (l [])
+  KeptIn rows u (Actor h₀ a₀ b₀) (Actor h a b) l = (firings_in (l []) ≡ h.made) × (a ≡ a₀) × IsLedTo rows u a₀ b (l [])
   KeptIn rows u (Composite h₀ c₀ d₀ kids₀) (Composite h c d kids) l = LevelKept u h c₀ c d (length (list_of kids₀)) (length (list_of kids)) l × AllKeptIn rows (u || is_modal c₀) kids₀ kids 0 l
   KeptIn rows u (Actor h₀ a₀ b₀) (Composite h c d kids) l = ⊥
   KeptIn rows u (Composite h₀ c₀ d₀ kids₀) (Actor h a b) l = ⊥

@@ -2,6 +2,7 @@
 
 ghost use Rattle.pt_meaning.specs.ClosedRuns.{FiringsKeepClosed, MeaningIsClosed, ClosedAtPaths, LevelsGoOn};
 ghost use Rattle.pt_meaning.specs.WholeRuns.{LaterGoesOn, FiringsComeLater, FiringsAreWhole, MeaningIsWhole, PartIsClosed, LogsAreClosed};
+ghost use Rattle.pt_meaning.specs.StartedRuns.{StartedLogsAreClosed};
 
 /// A firing keeps logs closed, under any director, while it is under way and where it is done.
 pub fn firings_keep_closed<T, A>()
@@ -51,4 +52,9 @@ pub fn part_is_closed<T, A>()
 /// The log of a run of the top at any fuel is closed, as a part of that at each greater one.
 pub fn logs_are_closed<T, A>()
     ensures { LogsAreClosed T A }
+{}
+
+/// So it is of the log of each model that is run from its start.
+pub fn started_logs_are_closed<T, A>()
+    ensures { StartedLogsAreClosed T A }
 {}
