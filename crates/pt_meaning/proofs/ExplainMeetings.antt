@@ -20,7 +20,8 @@ use Rattle.pt_meaning.specs.SoundRuns.{got_by, waiting_in, on_its_way, HasRooms}
 use Rattle.pt_meaning.specs.Explained.{Turned, PartOf, IfDone, Explained, of_turns, takes_in, gives_in}
 use Rattle.pt_meaning.proofs.Order.{IsPrefix-trans, IsPrefix-after, IsPrefix-append}
 use Rattle.pt_meaning.proofs.PlaceEnds.{if_from, port-puts, tokens-append}
-use Rattle.pt_meaning.proofs.ExplainPlaces.{held_of, Same, meeting-same, none-of-channel, at-beyond}
+use Rattle.pt_meaning.proofs.ExplainPlaces.{held_of, Same, meeting-same}
+use Rattle.pt_meaning.proofs.ChannelLaws.{none-of-channel, at-beyond}
 use Rattle.pt_meaning.proofs.KahnLaws.{and-left, and-right}
 use Rattle.pt_meaning.proofs.PartyLaws.{sticks-broken}
 use Rattle.pt_meaning.proofs.MeetingIndex.{some-same}

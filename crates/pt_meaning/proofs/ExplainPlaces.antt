@@ -1,5 +1,5 @@
 -- The places of a Rendezvous composite: what is on its way to a place stays the same through meetings, in order.
-use Rattle.std.proofs.Common.{◌≡◌, ℕ, zero, suc, ◌+◌, ◌≤◌, ◌<◌, ◌-◌, List, [], ◌∷◌, ◌++◌, Bool, true, false, nat_eq, nat_lt, length, Option, Some, None, if◌then◌else◌, refl, sym, ap, ap₂, subst, arith, ◌∙◌, append_assoc, append-nil}
+use Rattle.std.proofs.Common.{◌≡◌, ℕ, zero, suc, ◌+◌, ◌<◌, List, [], ◌∷◌, ◌++◌, Bool, true, false, nat_eq, nat_lt, length, Option, Some, None, if◌then◌else◌, refl, sym, ap, ap₂, subst, arith, ◌∙◌, append_assoc, append-nil}
 use Rattle.std.proofs.lemmas.Bool.Decides.{nat_tests}
 use Rattle.pt_meaning.specs.Basics.{Streams, at, Meeting, Channel, Barrier}
 use Rattle.pt_meaning.specs.Rounds.{Source, Own, Output, Net}
@@ -10,7 +10,8 @@ use Rattle.pt_meaning.specs.Rendezvous.{Places}
 use Rattle.pt_meaning.specs.Places.{tokens_on, taken_if}
 use Rattle.pt_meaning.specs.Closed.{}
 use Rattle.pt_meaning.specs.Channels.{further, channel_at}
-use Rattle.pt_meaning.specs.SoundRuns.{got_by, waiting_in, on_its_way, count_at, HasRooms}
+use Rattle.pt_meaning.specs.SoundRuns.{got_by, waiting_in, on_its_way, HasRooms}
+use Rattle.pt_meaning.proofs.ChannelLaws.{channel-place, place-channel, count-of-channel}
 use Rattle.pt_meaning.proofs.MeetingIndex.{some-same}
 
 -- numbers
@@ -45,118 +46,6 @@ change-count : {B : Type 0} (i : ℕ) (f : B → B) (xs : List B) → length (ch
 change-count i f [] = refl
 change-count zero f (x ∷ xs) = refl
 change-count (suc i) f (x ∷ xs) = ap (λ n. suc n) (change-count i f xs)
-
--- channels and their ends
-pub place-target : (k : ℕ) (ns : List ℕ) (i q c : ℕ) → channel_at ns i q ≡ Some c → target_from k ns c ≡ Place (k + i) q
-place-target k [] i q c e = absurd (cc)
-place-target k (n ∷ ns) zero q c e = go (nat_lt q n) refl e
-  where
-    clash : None ≡ Some c → ⊥
-    clash e = cc
-
-    go : (b : Bool) → nat_lt q n ≡ b → (if b then Some q else None) ≡ Some c → target_from k (n ∷ ns) c ≡ Place (k + 0) q
-    go true h e =
-        let s : q ≡ c = some-same q c e in
-        let a : k ≡ k + 0 = omega arith in
-        subst (λ v. target_from k (n ∷ ns) v ≡ Place (k + 0) q) s (ap (λ b. if b then Place k q else target_from (suc k) ns (q - n)) h ∙ ap (λ v. Place v q) a)
-    go false h e = absurd (clash e)
-place-target k (n ∷ ns) (suc i) q c e = go (channel_at ns i q) (λ d h. place-target (suc k) ns i q d h) e
-  where
-    clash : None ≡ Some c → ⊥
-    clash e = cc
-
-    beyond : (d : ℕ) → nat_lt (n + d) n ≡ false
-    beyond d = grind (arith, nat_tests)
-
-    back : (d : ℕ) → n + d - n ≡ d
-    back d = omega arith
-
-    go : (o : Option ℕ) → ((d : ℕ) → o ≡ Some d → target_from (suc k) ns d ≡ Place (suc k + i) q) → further n o ≡ Some c → target_from k (n ∷ ns) c ≡ Place (k + suc i) q
-    go None ih e = absurd (clash e)
-    go (Some d) ih e =
-        let s : n + d ≡ c = some-same (n + d) c e in
-        let a : suc k + i ≡ k + suc i = omega arith in
-        subst (λ v. target_from k (n ∷ ns) v ≡ Place (k + suc i) q) s (ap (λ b. if b then Place k (n + d) else target_from (suc k) ns (n + d - n)) (beyond d) ∙ ap (λ v. target_from (suc k) ns v) (back d) ∙ ih d refl ∙ ap (λ v. Place v q) a)
-
-target-place : (k : ℕ) (ns : List ℕ) (c i q : ℕ) → target_from k ns c ≡ Place i q → (j : ℕ) × (i ≡ k + j) × (channel_at ns j q ≡ Some c)
-target-place k [] c i q e = absurd (clash e)
-  where
-    clash : Outlet c ≡ Place i q → ⊥
-    clash e = cc
-target-place k (n ∷ ns) c i q e = go (nat_lt c n) refl e (target-place (suc k) ns (c - n) i q)
-  where
-    child-of : Target → ℕ
-    child-of (Place a b) = a
-    child-of (Outlet o) = 0
-
-    place-of : Target → ℕ
-    place-of (Place a b) = b
-    place-of (Outlet o) = 0
-
-    below : nat_lt c n ≡ false → n ≤ c
-    below h = grind (arith, nat_tests, h)
-
-    go : (b : Bool) → nat_lt c n ≡ b → (if b then Place k c else target_from (suc k) ns (c - n)) ≡ Place i q → (target_from (suc k) ns (c - n) ≡ Place i q → (j : ℕ) × (i ≡ suc k + j) × (channel_at ns j q ≡ Some (c - n))) → (j : ℕ) × (i ≡ k + j) × (channel_at (n ∷ ns) j q ≡ Some c)
-    go true h e ih =
-        let a : k ≡ i = ap child-of e in
-        let b : c ≡ q = ap place-of e in
-        let u : i ≡ k + 0 = omega (arith, a) in
-        (0, u, subst (λ v. (if nat_lt v n then Some v else None) ≡ Some c) b (ap (λ w. if w then Some c else None) h))
-    go false h e ih =
-        let r = ih e in
-        let l = below h in
-        let u : i ≡ k + suc r.0 = omega (arith, r.1) in
-        let v : n + (c - n) ≡ c = omega (arith, l) in
-        (suc r.0, u, ap (λ o. further n o) r.2 ∙ ap (λ w. Option.Some w) v)
-
-pub channel-place : (ns : List ℕ) (c i q : ℕ) → target_from 0 ns c ≡ Place i q → channel_at ns i q ≡ Some c
-channel-place ns c i q e = let r = target-place 0 ns c i q e in let a : r.0 ≡ i = omega (arith, r.1) in subst (λ v. channel_at ns v q ≡ Some c) a r.2
-
-pub place-channel : (ns : List ℕ) (c i q : ℕ) → channel_at ns i q ≡ Some c → target_from 0 ns c ≡ Place i q
-place-channel ns c i q e = let a : 0 + i ≡ i = omega arith in place-target 0 ns i q c e ∙ ap (λ v. Place v q) a
-
-pub count-of-channel : (ns : List ℕ) (i q c : ℕ) → channel_at ns i q ≡ Some c → q < count_at ns i
-count-of-channel [] i q c e = absurd (cc)
-count-of-channel (n ∷ ns) zero q c e = go (nat_lt q n) refl e
-  where
-    below : nat_lt q n ≡ true → q < n
-    below h = grind (arith, nat_tests, h)
-
-    clash : None ≡ Some c → ⊥
-    clash e = cc
-
-    go : (b : Bool) → nat_lt q n ≡ b → (if b then Some q else None) ≡ Some c → q < n
-    go true h e = below h
-    go false h e = absurd (clash e)
-count-of-channel (n ∷ ns) (suc i) q c e = go (channel_at ns i q) (λ d h. count-of-channel ns i q d h) e
-  where
-    go : (o : Option ℕ) → ((d : ℕ) → o ≡ Some d → q < count_at ns i) → further n o ≡ Some c → q < count_at ns i
-    go None ih e = absurd (cc)
-    go (Some d) ih e = ih d refl
-
-pub none-of-channel : (ns : List ℕ) (i q : ℕ) → channel_at ns i q ≡ None → count_at ns i ≤ q
-none-of-channel [] i q e = omega arith
-none-of-channel (n ∷ ns) zero q e = go (nat_lt q n) refl e
-  where
-    above : nat_lt q n ≡ false → n ≤ q
-    above h = grind (arith, nat_tests, h)
-
-    clash : Some q ≡ None → ⊥
-    clash e = cc
-
-    go : (b : Bool) → nat_lt q n ≡ b → (if b then Some q else None) ≡ None → n ≤ q
-    go true h e = absurd (clash e)
-    go false h e = above h
-none-of-channel (n ∷ ns) (suc i) q e = go (channel_at ns i q) (λ h. none-of-channel ns i q h) e
-  where
-    go : (o : Option ℕ) → (o ≡ None → count_at ns i ≤ q) → further n o ≡ None → count_at ns i ≤ q
-    go None ih e = ih refl
-    go (Some d) ih e = absurd (cc)
-
-pub at-beyond : {T : Type 0} (X : Streams T) (q : ℕ) → length X ≤ q → at X q ≡ []
-at-beyond [] q h = refl
-at-beyond (xs ∷ X) zero h = absurd (omega (arith, h))
-at-beyond (xs ∷ X) (suc q) h = at-beyond X q (omega (arith, h))
 
 -- the places of a scene
 abbrev pub held_of : {T S : Type 0} → Scene T S → Places T

@@ -1,6 +1,5 @@
 -- The firings of SDF and PN explained.
-use Rattle.std.proofs.Common.{◌≡◌, ℕ, zero, suc, ◌+◌, ◌≤◌, ◌<◌, List, [], ◌∷◌, ◌++◌, Bool, true, false, ◌&&◌, length, take, drop, Option, Some, None, inl, refl, sym, ap, subst, arith, ◌∙◌, append_assoc, append-nil, length-append, nat_lt, if◌then◌else◌}
-use Rattle.std.proofs.lemmas.Bool.Decides.{nat_tests}
+use Rattle.std.proofs.Common.{◌≡◌, ℕ, zero, suc, ◌≤◌, ◌<◌, List, [], ◌∷◌, ◌++◌, Bool, true, false, ◌&&◌, length, take, drop, Option, Some, None, inl, refl, sym, ap, subst, arith, ◌∙◌, append_assoc, append-nil, length-append, nat_lt, if◌then◌else◌}
 use Rattle.std.proofs.lemmas.List.{length-take-le, length-drop}
 use Rattle.std.proofs.Math.Path.{fun_ext}
 use Rattle.pt_meaning.specs.Basics.{Tag, Streams, at, Log, Path, silent, log_below}
@@ -19,6 +18,7 @@ use Rattle.pt_meaning.specs.Closed.{Begun, if_there, inputs_at, outputs_at, begu
 use Rattle.pt_meaning.specs.Channels.{further, channel_at, tokens_in}
 use Rattle.pt_meaning.specs.SoundRuns.{on_place, IsWired, IsSamePlan}
 use Rattle.pt_meaning.specs.Explained.{Turned, PartOf, DoneWell, IfDone, Explained, of_turns, takes_in, gives_in}
+use Rattle.pt_meaning.proofs.ChannelLaws.{at-first, tokens-further, tokens-append, at-append-if, channel-within}
 use Rattle.pt_meaning.proofs.Order.{IsPrefix-refl, IsPrefix-trans, IsPrefix-after, IsPrefix-append}
 use Rattle.pt_meaning.proofs.RoundLaws.{grows-refl, round-below, gave-below, flows-below}
 use Rattle.pt_meaning.proofs.RunLaws.{left-length}
@@ -27,90 +27,6 @@ use Rattle.pt_meaning.proofs.LogLaws.{log-of-settled}
 use Rattle.pt_meaning.proofs.SettledLaws.{round-long, rest-free}
 use Rattle.pt_meaning.proofs.FiringLaws.{arrived-long, flows-left, flows-count}
 use Rattle.pt_meaning.proofs.ExplainFlows.{turns_of, stuck_of, FlowIs, flow-is, free-unstuck}
-
--- streams by number
-at-drop : {T : Type 0} (n : ℕ) (X : Streams T) (q : ℕ) → at (drop n X) q ≡ at X (n + q)
-at-drop zero X q = let a : q ≡ 0 + q = omega arith in ap (λ v. at X v) a
-at-drop (suc n) [] q = refl
-at-drop (suc n) (xs ∷ X) q = let a : suc (n + q) ≡ suc n + q = omega arith in at-drop n X q ∙ ap (λ v. at (xs ∷ X) v) a
-
--- channels by their places
-none-at : {T : Type 0} (n q : ℕ) (X : Streams T) → nat_lt q n ≡ false → at (take n X) q ≡ []
-none-at zero q X e = refl
-none-at (suc n) q [] e = refl
-none-at (suc n) zero (xs ∷ X) e = absurd (grind (arith, nat_tests, e))
-none-at (suc n) (suc q) (xs ∷ X) e = let a : nat_lt q n ≡ false = grind (arith, nat_tests, e) in none-at n q X a
-
-same-at : {T : Type 0} (n q : ℕ) (X : Streams T) → nat_lt q n ≡ true → at (take n X) q ≡ at X q
-same-at zero q X e = absurd (grind (arith, nat_tests, e))
-same-at (suc n) q [] e = refl
-same-at (suc n) zero (xs ∷ X) e = refl
-same-at (suc n) (suc q) (xs ∷ X) e = let a : nat_lt q n ≡ true = grind (arith, nat_tests, e) in same-at n q X a
-
-pub at-first : {T : Type 0} (n q : ℕ) (X : Streams T) → at (take n X) q ≡ tokens_in X (if nat_lt q n then Some q else None)
-at-first {T} n q X = go (nat_lt q n) refl
-  where
-    go : (b : Bool) → nat_lt q n ≡ b → at (take n X) q ≡ tokens_in X (if b then Some q else None)
-    go true e = same-at n q X e
-    go false e = none-at n q X e
-
-pub tokens-further : {T : Type 0} (n : ℕ) (X : Streams T) (o : Option ℕ) → tokens_in (drop n X) o ≡ tokens_in X (further n o)
-tokens-further n X None = refl
-tokens-further n X (Some c) = at-drop n X c
-
-at-behind-it : {T : Type 0} (F Y : Streams T) (c : ℕ) → at (F ++ Y) (length F + c) ≡ at Y c
-at-behind-it [] Y c = let a : 0 + c ≡ c = omega arith in ap (λ v. at Y v) a
-at-behind-it (xs ∷ F) Y c = let a : suc (length F) + c ≡ suc (length F + c) = omega arith in ap (λ v. at (xs ∷ (F ++ Y)) v) a ∙ at-behind-it F Y c
-
-pub tokens-append : {T : Type 0} (n : ℕ) (F Y : Streams T) → length F ≡ n → (o : Option ℕ) → tokens_in (F ++ Y) (further n o) ≡ tokens_in Y o
-tokens-append n F Y e None = refl
-tokens-append n F Y e (Some c) = ap (λ v. at (F ++ Y) (v + c)) (sym e) ∙ at-behind-it F Y c
-
-at-before : {T : Type 0} (F Y : Streams T) (q : ℕ) → q < length F → at (F ++ Y) q ≡ at F q
-at-before [] Y q h = absurd (omega (arith, h))
-at-before (xs ∷ F) Y zero h = refl
-at-before (xs ∷ F) Y (suc q) h = at-before F Y q (omega (arith, h))
-
-at-none : {T : Type 0} (F : Streams T) (q : ℕ) → length F ≤ q → at F q ≡ []
-at-none [] q h = refl
-at-none (xs ∷ F) zero h = absurd (omega (arith, h))
-at-none (xs ∷ F) (suc q) h = at-none F q (omega (arith, h))
-
-pub at-append-if : {T : Type 0} (n q : ℕ) (F Y : Streams T) → length F ≡ n → at F q ≡ tokens_in (F ++ Y) (if nat_lt q n then Some q else None)
-at-append-if {T} n q F Y e = go (nat_lt q n) refl
-  where
-    below : nat_lt q n ≡ true → q < n
-    below h = grind (arith, nat_tests, h)
-
-    above : nat_lt q n ≡ false → n ≤ q
-    above h = grind (arith, nat_tests, h)
-
-    go : (b : Bool) → nat_lt q n ≡ b → at F q ≡ tokens_in (F ++ Y) (if b then Some q else None)
-    go true h = let b = below h in sym (at-before F Y q (omega (arith, b, e)))
-    go false h = let b = above h in at-none F q (omega (arith, b, e))
-
--- a place's channel is one of those of the children
-pub channel-within : (ns : List ℕ) (i q c : ℕ) → channel_at ns i q ≡ Some c → c < total ns
-channel-within [] i q c e = absurd (cc)
-channel-within (n ∷ ns) zero q c e = go (nat_lt q n) refl e
-  where
-    below : nat_lt q n ≡ true → q < n
-    below h = grind (arith, nat_tests, h)
-
-    some-nat : Some q ≡ Some c → q ≡ c
-    some-nat e = cc
-
-    clash : None ≡ Some c → ⊥
-    clash e = cc
-
-    go : (b : Bool) → nat_lt q n ≡ b → (if b then Some q else None) ≡ Some c → c < n + total ns
-    go true h e = let b = below h in let s = some-nat e in omega (arith, b, s)
-    go false h e = absurd (clash e)
-channel-within (n ∷ ns) (suc i) q c e = go (channel_at ns i q) (λ d h. channel-within ns i q d h) e
-  where
-    go : (o : Option ℕ) → ((d : ℕ) → o ≡ Some d → d < total ns) → further n o ≡ Some c → c < n + total ns
-    go None h e = absurd (cc)
-    go (Some d) h e = let b = h d refl in let s : n + d ≡ c = cc in omega (arith, b, s)
 
 -- the firings of each child, by its number
 module _ {T S : Type 0} (facts : Facts T S) (step : Stepping T S) (tag : Tag) where

@@ -1,17 +1,18 @@
 -- A closed log goes on by a firing of its composite.
-use Rattle.std.proofs.Common.{◌≡◌, ◌⊎◌, ℕ, zero, suc, ◌+◌, ◌≤◌, ◌<◌, List, [], ◌∷◌, ◌++◌, Bool, true, false, ◌||◌, nat_le, nat_lt, nat_eq, if◌then◌else◌, length, Option, Some, None, inl, inr, refl, sym, ap, ap₂, subst, arith, ◌∙◌, append_assoc, append-nil}
+use Rattle.std.proofs.Common.{◌≡◌, ◌⊎◌, ℕ, suc, ◌+◌, ◌≤◌, ◌<◌, List, [], ◌∷◌, ◌++◌, Bool, true, false, ◌||◌, nat_le, nat_lt, nat_eq, length, Option, Some, None, inl, inr, refl, sym, ap, ap₂, subst, arith, ◌∙◌, append_assoc, append-nil}
 use Rattle.std.proofs.lemmas.Bool.Decides.{nat_tests}
 use Rattle.std.proofs.Math.Path.{fun_ext}
 use Rattle.pt_meaning.specs.Basics.{Tag, Streams, at, Log, Path, Firing, Event, Finished, Met, firings_in, log_then, all_marked}
 use Rattle.pt_meaning.specs.Streams.{IsPrefix, get}
 use Rattle.pt_meaning.specs.Machine.{Known}
-use Rattle.pt_meaning.specs.Rounds.{Source, Own, Output, Net}
-use Rattle.pt_meaning.specs.Node.{Rows, Core, Sdf, Pn, Sr, De, Rv, Modal, Past, Node, Nodes, Composite, none, more, list_of}
+use Rattle.pt_meaning.specs.Rounds.{Source, Own, Output}
+use Rattle.pt_meaning.specs.Node.{Rows, Core, Past, Node, Nodes, Composite, none, more, list_of}
 use Rattle.pt_meaning.specs.Closed as closed
 use Rattle.pt_meaning.specs.Closed.{Has, child_of, Begun, UnderWay, rounds_of, these_if, is_between, begun_at, of_records, came_within, has_number, inputs_at, outputs_at, taken_from, given_from, taken_by_numbers, taken, given, first_channel, is_modal, keeps_tokens, IsSince, HasBegun, MayKnow, IsCausedIf, IsTagBelow}
 use Rattle.pt_meaning.specs.Channels as channels
 use Rattle.pt_meaning.specs.Channels.{further, channel_at, tokens_in}
 use Rattle.pt_meaning.specs.SoundRuns.{unmarked, all_unmarked, log_in_child, way_in_child, idle, CameByNow, IsBare, ClosedIn, AllClosedIn, on_place, IsWired, IsSamePlan, AllBelow, given_by, LevelKept, KeptIn, AllKeptIn, part, all_of, takes_now, gives_now}
+use Rattle.pt_meaning.proofs.ChannelLaws.{SamePlace, same-place, none-kept}
 use Rattle.pt_meaning.proofs.Order.{IsPrefix-after}
 use Rattle.pt_meaning.proofs.RecordLaws.{nothing-if, le-true, le-false, records-append, all-append, all-marked, all-quiet, AllBefore, AllAt, new-out, new-in, old-same, old-out}
 
@@ -75,66 +76,6 @@ nothing-some y e = cc
 
 none-begun : {T : Type 0} → ((b : Begun T) × (None ≡ Some b)) → ⊥
 none-begun h = nothing-some h.0 h.1
-
--- a place that a child has is the end of its channel
-channel-first : (ns : List ℕ) (i q c : ℕ) → channel_at ns i q ≡ Some c → first_channel ns i + q ≡ c
-channel-first [] i q c e = absurd (cc)
-channel-first (n ∷ ns) zero q c e = go (nat_lt q n) e
-  where
-    go : (b : Bool) → (if b then Some q else None) ≡ Some c → 0 + q ≡ c
-    go true e = let s : q ≡ c = cc in omega (arith, s)
-    go false e = absurd (nothing-some c e)
-channel-first (n ∷ ns) (suc i) q c e = go (channel_at ns i q) (λ d h. channel-first ns i q d h) e
-  where
-    go : (o : Option ℕ) → ((d : ℕ) → o ≡ Some d → first_channel ns i + q ≡ d) → further n o ≡ Some c → n + first_channel ns i + q ≡ c
-    go None ih e = absurd (nothing-some c e)
-    go (Some d) ih e = let s : n + d ≡ c = cc in let g = ih d refl in omega (arith, s, g)
-
--- of a place that a child has the source and what is held are those of its channel
-abbrev pub SamePlace : {T : Type 0} → Core T → ℕ → ℕ → Type 0
-SamePlace c i q = ((closed.source_of c i q ≡ channels.source_of c i q) × (closed.held_at c i q ≡ channels.held_at c i q)) ⊎ ((channels.source_of c i q ≡ None) × (channels.held_at c i q ≡ []))
-
-abbrev at_source : Net → Option ℕ → Option Source
-at_source net None = None
-at_source net (Some c) = get net.sources c
-
--- for a net and the tokens of its channels
-in-net : {T : Type 0} (net : Net) (X : Streams T) (i q : ℕ) → ((closed.source_in net i q ≡ channels.source_in net i q) × (at X (first_channel net.places i + q) ≡ tokens_in X (channel_at net.places i q))) ⊎ ((channels.source_in net i q ≡ None) × (tokens_in X (channel_at net.places i q) ≡ []))
-in-net {T} net X i q = go (channel_at net.places i q) (λ c e. channel-first net.places i q c e)
-  where
-    go : (o : Option ℕ) → ((c : ℕ) → o ≡ Some c → first_channel net.places i + q ≡ c) →
-        ((get net.sources (first_channel net.places i + q) ≡ closed.if_there (get net.sources) o) × (at X (first_channel net.places i + q) ≡ tokens_in X o)) ⊎ ((closed.if_there (get net.sources) o ≡ None) × (tokens_in X o ≡ []))
-    go None f = inr (refl, refl)
-    go (Some c) f = let s = f c refl in inl (ap (λ v. get net.sources v) s, ap (λ v. at X v) s)
-
-pub same-place : {T : Type 0} (c : Core T) (i q : ℕ) → SamePlace c i q
-same-place (Sdf p X) i q = in-net p.net X i q
-same-place (Pn p X) i q = in-net p.net X i q
-same-place {T} (Sr p) i q = of_net (in-net {T = T} p.net [] i q)
-  where
-    of_net : ((closed.source_in p.net i q ≡ channels.source_in p.net i q) × (◌≡◌ {A = List T} (at [] (first_channel p.net.places i + q)) (tokens_in [] (channel_at p.net.places i q)))) ⊎ ((channels.source_in p.net i q ≡ None) × (◌≡◌ {A = List T} (tokens_in [] (channel_at p.net.places i q)) [])) → SamePlace {T = T} (Sr p) i q
-    of_net (inl h) = inl (h.0, refl)
-    of_net (inr h) = inr (h.0, refl)
-same-place {T} (De p) i q = of_net (in-net {T = T} p.net [] i q)
-  where
-    of_net : ((closed.source_in p.net i q ≡ channels.source_in p.net i q) × (◌≡◌ {A = List T} (at [] (first_channel p.net.places i + q)) (tokens_in [] (channel_at p.net.places i q)))) ⊎ ((channels.source_in p.net i q ≡ None) × (◌≡◌ {A = List T} (tokens_in [] (channel_at p.net.places i q)) [])) → SamePlace {T = T} (De p) i q
-    of_net (inl h) = inl (h.0, refl)
-    of_net (inr h) = inr (h.0, refl)
-same-place {T} (Rv p X) i q = of_net (in-net {T = T} p.net [] i q)
-  where
-    of_net : ((closed.source_in p.net i q ≡ channels.source_in p.net i q) × (◌≡◌ {A = List T} (at [] (first_channel p.net.places i + q)) (tokens_in [] (channel_at p.net.places i q)))) ⊎ ((channels.source_in p.net i q ≡ None) × (◌≡◌ {A = List T} (tokens_in [] (channel_at p.net.places i q)) [])) → SamePlace {T = T} (Rv p X) i q
-    of_net (inl h) = inl (h.0, refl)
-    of_net (inr h) = inr (h.0, refl)
-same-place (Modal chart m) i q = inl (refl, refl)
-
--- where nothing is kept, nothing is held or on a place
-none-kept : {T : Type 0} (c : Core T) → keeps_tokens c ≡ false → (i q : ℕ) → (channels.held_at c i q ≡ []) × (on_place c i q ≡ [])
-none-kept (Sdf p X) e i q = absurd (cc)
-none-kept (Pn p X) e i q = absurd (cc)
-none-kept (Sr p) e i q = (refl, refl)
-none-kept (De p) e i q = (refl, refl)
-none-kept (Rv p X) e i q = absurd (cc)
-none-kept (Modal chart m) e i q = (refl, refl)
 
 -- the composite's level, and then its children
 module _ {T A : Type 0} (rows : Rows T A) (u : Bool) (h : Past) (c d : Core T) (kids : Nodes T A) (l : Log T) (shut : ClosedIn rows u (Composite h c d kids) l idle) (es : List (Event T)) (new : Log T) (way : UnderWay T) (n : ℕ) (count : firings_in (l []) ≡ n) (numbers : AllBelow n (l [])) (own : (ns : List ℕ) (f : Firing T) → Has (Finished ns f) es → f.number ≡ n) where

@@ -34,6 +34,7 @@ pub mod TickNodeLaws
 pub mod MeetingIndex
 pub mod MeetingRunLaws
 pub mod ClosedLaws
+pub mod ChannelLaws
 pub mod RecordLaws
 pub mod LevelLaws
 pub mod SoundLaws

@@ -1,7 +1,7 @@
 -- What the events of a PN firing tell of its places.
 use Rattle.std.proofs.Common.{◌≡◌, ℕ, zero, suc, ◌+◌, ◌<◌, List, [], ◌∷◌, ◌++◌, Bool, true, false, ◌||◌, nat_eq, nat_lt, length, take, drop, get_or, Option, Some, None, if◌then◌else◌, inl, inr, refl, sym, ap, subst, arith, ◌∙◌, append_assoc, append-nil, length-append}
 use Rattle.std.proofs.lemmas.Bool.Decides.{nat_tests}
-use Rattle.std.proofs.lemmas.List.{length-take-le, length-drop}
+use Rattle.std.proofs.lemmas.List.{length-take-le}
 use Rattle.std.proofs.Math.Path.{fun_ext}
 use Rattle.pt_meaning.specs.Basics.{Tag, Streams, at, Log, log_then}
 use Rattle.pt_meaning.specs.Streams.{get}
@@ -19,10 +19,10 @@ use Rattle.pt_meaning.specs.Closed.{Has, Begun, inputs_at, outputs_at}
 use Rattle.pt_meaning.specs.Channels.{further, channel_at, tokens_in}
 use Rattle.pt_meaning.specs.Explained.{Turned, ChainOf, PartOf, of_turns, gives_in}
 use Rattle.pt_meaning.specs.PlacesTold.{PlacesAreTold, LinesTell, FullLinesTell}
+use Rattle.pt_meaning.proofs.ChannelLaws.{at-first, tokens-further, tokens-append, at-append-if, fits-channel}
 use Rattle.pt_meaning.proofs.FlowLaws.{IsFree}
 use Rattle.pt_meaning.proofs.RunLaws.{left-length, flow-capped}
 use Rattle.pt_meaning.proofs.ExplainFlows.{turns_of, turns_on, turns_front, stuck_of, flow-is, free-unstuck}
-use Rattle.pt_meaning.proofs.ExplainRounds.{at-first, tokens-further, tokens-append, at-append-if}
 
 -- as many turns as firings
 module _ {T S : Type 0} (facts : Facts T S) (step : Stepping T S) (tag : Tag) where
@@ -128,29 +128,6 @@ module _ {T S : Type 0} (facts : Facts T S) (step : Stepping T S) (tag : Tag) wh
 
       len : length F ≡ n
       len = left-length facts (rated facts c.rates step) tag m s (take n X) ∙ length-take-le n X w.0
-
--- a place that fits has its channel
-fits-channel : {T : Type 0} (ns : List ℕ) (X : Streams T) (i q c : ℕ) → Fits ns X → channel_at ns i q ≡ Some c → c < length X
-fits-channel [] X i q c w e = absurd (cc)
-fits-channel (n ∷ ns) X zero q c w e = go (nat_lt q n) refl e
-  where
-    below : nat_lt q n ≡ true → q < n
-    below h = grind (arith, nat_tests, h)
-
-    some-nat : Some q ≡ Some c → q ≡ c
-    some-nat e = cc
-
-    clash : None ≡ Some c → ⊥
-    clash e = cc
-
-    go : (b : Bool) → nat_lt q n ≡ b → (if b then Some q else None) ≡ Some c → c < length X
-    go true h e = let b = below h in let s = some-nat e in omega (arith, b, s, w.0)
-    go false h e = absurd (clash e)
-fits-channel {T} (n ∷ ns) X (suc i) q c w e = go (channel_at ns i q) (λ d h. fits-channel ns (drop n X) i q d w.1 h) e
-  where
-    go : (o : Option ℕ) → ((d : ℕ) → o ≡ Some d → d < length (drop n X)) → further n o ≡ Some c → c < length X
-    go None ih e = absurd (cc)
-    go (Some d) ih e = let b = ih d refl in let s : n + d ≡ c = cc in let l = length-drop n X in omega (arith, b, s, l, w.0)
 
 refill-long : {T S : Type 0} (fs : List (Flow T S)) (cs : List Source) (X : Streams T) → length (refill fs cs X) ≡ length X
 refill-long fs [] X = refl

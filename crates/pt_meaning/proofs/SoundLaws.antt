@@ -24,7 +24,8 @@ use Rattle.pt_meaning.proofs.FiringLaws.{DoneWithin, done-within, number-kept}
 use Rattle.pt_meaning.proofs.HeightLaws.{with-number-done, numbered-length}
 use Rattle.pt_meaning.proofs.ClosedLaws.{unmarked-none, split-unmarked, state-unmarked, child-closed, child-or-beyond}
 use Rattle.pt_meaning.proofs.RecordLaws.{le-true, all-append, all-quiet}
-use Rattle.pt_meaning.proofs.LevelLaws.{count-append, added, SamePlace, same-place, given-up, own-up, taken-none, given-none, level-under-way, level-done, node-kept}
+use Rattle.pt_meaning.proofs.ChannelLaws.{SamePlace, same-place}
+use Rattle.pt_meaning.proofs.LevelLaws.{count-append, added, given-up, own-up, taken-none, given-none, level-under-way, level-done, node-kept}
 
 -- lists of children
 pub numbered-get : {T A : Type 0} (b : ℕ) (kids : Nodes T A) (i : ℕ) (n : Node T A) → child_of kids i ≡ Some n → get (numbered b (list_of kids)) i ≡ Some (record { number = b + i; node = n })

@@ -1,16 +1,15 @@
 -- A model at its start is one that a run begins with.
-use Rattle.std.proofs.Common.{◌≡◌, ℕ, zero, suc, ◌≤◌, ◌<◌, List, [], ◌∷◌, ◌++◌, length, Option, Some, None, refl, sym, ap, ap₂, subst, arith, ◌∙◌}
-use Rattle.pt_meaning.specs.Basics.{Streams, at}
+use Rattle.std.proofs.Common.{◌≡◌, ℕ, zero, suc, ◌<◌, List, [], ◌∷◌, ◌++◌, length, Option, Some, None, refl, sym, ap, ap₂, subst, arith, ◌∙◌}
+use Rattle.pt_meaning.specs.Basics.{at}
 use Rattle.pt_meaning.specs.Modal.{get}
 use Rattle.pt_meaning.specs.Rounds.{Source, Own, Output}
-use Rattle.pt_meaning.specs.Rendezvous.{no_tokens, none_gathered, none_to_put, first_places, RvPlan, Places}
-use Rattle.pt_meaning.specs.Process.{Put}
+use Rattle.pt_meaning.specs.Rendezvous.{no_tokens, none_gathered, none_to_put, first_places, RvPlan}
 use Rattle.pt_meaning.specs.Places.{tokens_on}
-use Rattle.pt_meaning.specs.Node.{Rows, Core, Sdf, Pn, Sr, De, Rv, Modal, Node, Nodes, Actor, Composite, none, more, list_of, made_of}
+use Rattle.pt_meaning.specs.Node.{Rows, Core, Sdf, Pn, Sr, De, Rv, Modal, Node, Nodes, Actor, Composite, none, more, list_of}
 use Rattle.pt_meaning.specs.Start as start
 use Rattle.pt_meaning.specs.Start.{first_held}
-use Rattle.pt_meaning.specs.Channels.{held_at, channel_at}
-use Rattle.pt_meaning.specs.SoundRuns.{got_by, waiting_in, on_its_way, on_place, count_at, HasRooms, IsWired}
+use Rattle.pt_meaning.specs.Channels.{channel_at}
+use Rattle.pt_meaning.specs.SoundRuns.{got_by, waiting_in, on_its_way, count_at, HasRooms, IsWired}
 use Rattle.pt_meaning.specs.ClosedRuns.{IsFirst, IsAtStart, AllAtStart}
 use Rattle.pt_meaning.specs.StartedRuns.{IsPlanned, ArePlans, AllPlans, StartedLogsAreClosed}
 use Rattle.pt_meaning.proofs.WholeMeaning.{logs-are-closed}

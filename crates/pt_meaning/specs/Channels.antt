@@ -1,4 +1,4 @@
--- Channels by the places at which they end: of a place that a child doesn't have there is none.
+-- Channels by the places at which they end: of a place that a child doesn't have there is none. Of a place that it has, the source and what is held are those that `Closed` tells.
 use Rattle.std.specs.Prelude.{ℕ, zero, suc, ◌+◌, List, [], ◌∷◌, nat_lt, Option, Some, None, if◌then◌else◌}
 use Rattle.pt_meaning.specs.Streams.{Streams, at, get}
 use Rattle.pt_meaning.specs.Net.{Source, Net}
