@@ -1,0 +1,5 @@
+pub mod Fields
+pub mod Joins
+pub mod Order
+pub mod Rank
+pub mod Solutions

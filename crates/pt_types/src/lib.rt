@@ -1,0 +1,14 @@
+//! The types of what passes at a port: their order, their joins, and the least types that meet given rules.
+#![tactic(auto)]
+
+mod element;
+mod laws;
+mod record;
+mod rules;
+mod ty;
+
+pub use element::ElementTy;
+pub use laws::{joins_are_least, types_are_ordered};
+pub use record::{FieldTy, RecordTy};
+pub use rules::{Rule, least};
+pub use ty::{Ty, below, join};
