@@ -2,4 +2,6 @@ pub mod Fields
 pub mod Joins
 pub mod Order
 pub mod Rank
+pub mod Records
 pub mod Solutions
+pub mod Texts

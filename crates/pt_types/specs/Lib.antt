@@ -9,3 +9,4 @@ pub mod Rank
 pub mod Rules
 pub mod Ty
 pub mod TyHeight
+pub mod Printed

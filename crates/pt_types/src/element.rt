@@ -1,4 +1,6 @@
-ghost use Rattle.std.specs.Prelude.{◌≡◌, IfOk, min};
+ghost use Rattle.std.specs.Prelude.{◌≡◌, ◌++◌, IfOk, OnOk, codes, min};
+ghost use Rattle.pt_value.specs.Printed.{IsExtended};
+ghost use Rattle.pt_types.specs.Printed.{printed};
 ghost use Rattle.pt_types.specs.Datatype.{depth, nodes};
 ghost use Rattle.pt_types.specs.Normal.{is_plain};
 ghost use Rattle.pt_types.specs.Order as order;
@@ -90,5 +92,16 @@ impl ElementTy {
         ensures { IfOk result (λ element. element ≡ joins.joined self.now other.now) }
     {
         ElementTy::of(alloc, self.ty.joined(alloc, &other.ty)?)
+    }
+
+    #[cycle(writes)]
+    pub(crate) fn write(&self, out: &mut Vec<u8>) -> Result<(), AllocError>
+        ensures ok { OnOk result (out.new.items ≡ out.old.items ++ (codes "arrayType(" ++ (printed self.now ++ codes ")"))) }
+        ensures kept { IsExtended out.old.items out.new.items }
+    {
+        out.extend_from_slice(b"arrayType(")?;
+        self.ty.write(out)?;
+        out.push(b')')?;
+        Ok(())
     }
 }

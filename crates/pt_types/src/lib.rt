@@ -3,12 +3,14 @@
 
 mod element;
 mod laws;
+mod printed;
 mod record;
 mod rules;
 mod ty;
 
 pub use element::ElementTy;
 pub use laws::{joins_are_least, types_are_ordered};
+pub use printed::print;
 pub use record::{FieldTy, RecordTy};
 pub use rules::{Rule, least};
 pub use ty::{Ty, below, join};

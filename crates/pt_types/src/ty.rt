@@ -1,4 +1,6 @@
-ghost use Rattle.std.specs.Prelude.{◌≡◌, IfOk, min};
+ghost use Rattle.std.specs.Prelude.{◌≡◌, ◌++◌, IfOk, OnOk, min};
+ghost use Rattle.pt_value.specs.Printed.{IsExtended};
+ghost use Rattle.pt_types.specs.Printed.{printed};
 ghost use Rattle.pt_types.specs.Datatype.{depth, nodes};
 ghost use Rattle.pt_types.specs.Normal.{is_plain, is_proper, normal, array_of, record_of};
 ghost use Rattle.pt_types.specs.Order as order;
@@ -144,6 +146,23 @@ impl Ty {
                 Ok(Ty::Record(mine.joined(alloc, theirs)?))
             }
             _ => Ok(Ty::General),
+        }
+    }
+
+    /// Puts the text of what is written behind the bytes that are there.
+    #[cycle(writes)]
+    pub(crate) fn write(&self, out: &mut Vec<u8>) -> Result<(), AllocError>
+        ensures ok { OnOk result (out.new.items ≡ out.old.items ++ printed (written self.now)) }
+        ensures kept { IsExtended out.old.items out.new.items }
+    {
+        match self {
+            Ty::Unknown => out.extend_from_slice(b"unknown"),
+            Ty::Int => out.extend_from_slice(b"int"),
+            Ty::Boolean => out.extend_from_slice(b"boolean"),
+            Ty::Words => out.extend_from_slice(b"string"),
+            Ty::Array(element) => element.write(out),
+            Ty::Record(fields) => fields.write(out),
+            Ty::General => out.extend_from_slice(b"general"),
         }
     }
 }
