@@ -208,3 +208,6 @@ join-is_join s t = record {
   second = below-trans t (joined s t) (join s t) (joined-second s t) (below-normal (joined s t));
   least = λ u is h k. normal-least (joined s t) u is (joined-least s t u h k);
 }
+
+pub join-below : (s t u v : Datatype) → IsBelow s u → IsBelow t v → IsBelow (join s t) (join u v)
+join-below s t u v h k = normal-below (joined s t) (joined u v) (joined-least s t (joined u v) (below-trans s u (joined u v) h (joined-first u v)) (below-trans t v (joined u v) k (joined-second u v)))

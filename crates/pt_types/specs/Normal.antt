@@ -35,3 +35,8 @@ array_of t = normal (Array t)
 
 abbrev pub record_of : FieldTypes → Datatype
 record_of fs = normal (Record fs)
+
+-- fields with the normal forms of their types
+abbrev pub normal_fields : FieldTypes → FieldTypes
+normal_fields no_fields = no_fields
+normal_fields (field_then n t fs) = field_then n (normal t) (normal_fields fs)

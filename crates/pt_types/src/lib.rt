@@ -6,10 +6,12 @@ mod laws;
 mod printed;
 mod record;
 mod rules;
+#[cfg(test)]
+mod tests;
 mod ty;
 
 pub use element::ElementTy;
-pub use laws::{joins_are_least, types_are_ordered};
+pub use laws::{joins_are_least, parts_stand_for_types, types_are_ordered, types_grow};
 pub use printed::print;
 pub use record::{FieldTy, RecordTy};
 pub use rules::{Rule, least};

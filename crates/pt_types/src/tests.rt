@@ -37,9 +37,21 @@ fn ty(alloc: Global, text: &str) -> Result<Ty, Fail> {
         "{a = unknown}" => fields(alloc, &["a"], vec![in alloc; Ty::Unknown]?)?,
         "{b = int}" => fields(alloc, &["b"], vec![in alloc; Ty::Int]?)?,
         "{a = int, b = string}" => fields(alloc, &["b", "a"], vec![in alloc; Ty::Words, Ty::Int]?)?,
-        "{a = unknown, b = string}" => fields(alloc, &["a", "b"], vec![in alloc; Ty::Unknown, Ty::Words]?)?,
-        "{a = int, b = unknown}" => fields(alloc, &["a", "b"], vec![in alloc; Ty::Int, Ty::Unknown]?)?,
-        "{a = boolean, b = unknown}" => fields(alloc, &["a", "b"], vec![in alloc; Ty::Boolean, Ty::Unknown]?)?,
+        "{a = unknown, b = string}" => fields(
+            alloc,
+            &["a", "b"],
+            vec![in alloc; Ty::Unknown, Ty::Words]?,
+        )?,
+        "{a = int, b = unknown}" => fields(
+            alloc,
+            &["a", "b"],
+            vec![in alloc; Ty::Int, Ty::Unknown]?,
+        )?,
+        "{a = boolean, b = unknown}" => fields(
+            alloc,
+            &["a", "b"],
+            vec![in alloc; Ty::Boolean, Ty::Unknown]?,
+        )?,
         _ => Ty::General,
     };
     Ok(base)
@@ -110,27 +122,97 @@ const PAIRS: [(&str, &str, bool, &str); 34] = [
     ("general", "int", false, "general"),
     ("int", "arrayType(int)", false, "general"),
     ("arrayType(int)", "int", false, "general"),
-    ("arrayType(unknown)", "arrayType(int)", true, "arrayType(int)"),
-    ("arrayType(int)", "arrayType(unknown)", false, "arrayType(int)"),
+    (
+        "arrayType(unknown)",
+        "arrayType(int)",
+        true,
+        "arrayType(int)",
+    ),
+    (
+        "arrayType(int)",
+        "arrayType(unknown)",
+        false,
+        "arrayType(int)",
+    ),
     ("arrayType(int)", "arrayType(string)", false, "general"),
-    ("arrayType(int)", "arrayType(arrayType(int))", false, "general"),
-    ("arrayType(unknown)", "arrayType(arrayType(int))", true, "arrayType(arrayType(int))"),
-    ("arrayType(arrayType(unknown))", "arrayType(arrayType(int))", true, "arrayType(arrayType(int))"),
-    ("arrayType(arrayType(int))", "arrayType(arrayType(unknown))", false, "arrayType(arrayType(int))"),
-    ("arrayType(arrayType(unknown))", "arrayType(string)", false, "general"),
+    (
+        "arrayType(int)",
+        "arrayType(arrayType(int))",
+        false,
+        "general",
+    ),
+    (
+        "arrayType(unknown)",
+        "arrayType(arrayType(int))",
+        true,
+        "arrayType(arrayType(int))",
+    ),
+    (
+        "arrayType(arrayType(unknown))",
+        "arrayType(arrayType(int))",
+        true,
+        "arrayType(arrayType(int))",
+    ),
+    (
+        "arrayType(arrayType(int))",
+        "arrayType(arrayType(unknown))",
+        false,
+        "arrayType(arrayType(int))",
+    ),
+    (
+        "arrayType(arrayType(unknown))",
+        "arrayType(string)",
+        false,
+        "general",
+    ),
     ("{a = unknown}", "{a = int}", true, "{a = int}"),
     ("{a = int}", "{a = unknown}", false, "{a = int}"),
     ("{a = int}", "{b = int}", false, "general"),
     ("{b = int}", "{a = int}", false, "general"),
     ("{a = int}", "{a = int, b = string}", false, "general"),
     ("{a = int, b = string}", "{a = int}", false, "general"),
-    ("{a = unknown, b = string}", "{a = int, b = string}", true, "{a = int, b = string}"),
-    ("{a = int, b = unknown}", "{a = int, b = string}", true, "{a = int, b = string}"),
-    ("{a = unknown, b = string}", "{a = int, b = unknown}", false, "{a = int, b = string}"),
-    ("{a = int, b = unknown}", "{a = unknown, b = string}", false, "{a = int, b = string}"),
-    ("{a = boolean, b = unknown}", "{a = int, b = string}", false, "general"),
-    ("{a = boolean, b = unknown}", "{a = int, b = unknown}", false, "general"),
-    ("{a = unknown, b = string}", "{a = unknown, b = string}", true, "{a = unknown, b = string}"),
+    (
+        "{a = unknown, b = string}",
+        "{a = int, b = string}",
+        true,
+        "{a = int, b = string}",
+    ),
+    (
+        "{a = int, b = unknown}",
+        "{a = int, b = string}",
+        true,
+        "{a = int, b = string}",
+    ),
+    (
+        "{a = unknown, b = string}",
+        "{a = int, b = unknown}",
+        false,
+        "{a = int, b = string}",
+    ),
+    (
+        "{a = int, b = unknown}",
+        "{a = unknown, b = string}",
+        false,
+        "{a = int, b = string}",
+    ),
+    (
+        "{a = boolean, b = unknown}",
+        "{a = int, b = string}",
+        false,
+        "general",
+    ),
+    (
+        "{a = boolean, b = unknown}",
+        "{a = int, b = unknown}",
+        false,
+        "general",
+    ),
+    (
+        "{a = unknown, b = string}",
+        "{a = unknown, b = string}",
+        true,
+        "{a = unknown, b = string}",
+    ),
     ("{a = int}", "int", false, "general"),
     ("{a = int}", "arrayType(int)", false, "general"),
     ("arrayType(unknown)", "{a = int}", false, "general"),
@@ -185,7 +267,10 @@ fn a_record_of_1024_fields_is_general(rt: HostRuntime) -> Result<(), Fail> {
 fn an_array_of_general_is_general(rt: HostRuntime) -> Result<(), Fail> {
     let alloc = rt.alloc();
     let written = Ty::Array(ElementTy::of(alloc, Ty::General)?);
-    assert!(rt; below(&Ty::General, &written), "general below an array of it");
+    assert!(rt;
+        below(&Ty::General, &written),
+        "general below an array of it"
+    );
     assert!(rt; !below(&written, &Ty::Int), "an array of general below int");
     assert!(rt; prints(alloc, &written, "general")?, "an array of general");
     let inner = Ty::array(alloc, Ty::General)?;
@@ -196,7 +281,10 @@ fn an_array_of_general_is_general(rt: HostRuntime) -> Result<(), Fail> {
 #[test]
 fn a_field_may_not_stand_twice(rt: HostRuntime) -> Result<(), Fail> {
     let alloc = rt.alloc();
-    let twice = vec![in alloc; (Text::of(alloc, "a")?, Ty::Int), (Text::of(alloc, "a")?, Ty::Int)]?;
+    let twice = vec![in alloc;
+        (Text::of(alloc, "a")?, Ty::Int),
+        (Text::of(alloc, "a")?, Ty::Int),
+    ]?;
     assert!(rt; RecordTy::of(alloc, twice).is_err(), "a twice");
     assert!(rt; RecordTy::of(alloc, Vec::new(alloc)).is_err(), "no field");
     let digit = vec![in alloc; (Text::of(alloc, "1")?, Ty::Int)]?;
@@ -236,13 +324,20 @@ impl Rule for Known {
 #[test]
 fn what_no_rule_names_stays_unknown(rt: HostRuntime) -> Result<(), Fail> {
     let alloc = rt.alloc();
-    let rules = [Known { target: 1 }, Known { target: 1 }, Known { target: 3 }];
+    let rules = [
+        Known { target: 1 },
+        Known { target: 1 },
+        Known { target: 3 },
+    ];
     let types = least(alloc, 4, &rules)?;
     let mut out = Vec::new(alloc);
     for ty in &types {
         print(ty, &mut out)?;
         out.push(b' ')?;
     }
-    assert!(rt; out.as_slice() == b"unknown int unknown int ", "the least types");
+    assert!(rt;
+        out.as_slice() == b"unknown int unknown int ".as_slice(),
+        "the least types"
+    );
     Ok(())
 }
