@@ -1,12 +1,11 @@
 -- Fields of two records side by side.
-use Rattle.std.proofs.Common.{◌≡◌, ℕ, suc, ◌+◌, ◌<◌, ◌≤◌, Bool, true, false, ◌&&◌, List, [], ◌∷◌, ◌++◌, length, get_or, drop, map, refl, sym, ap, ◌∙◌, arith, add-one, drop-cons, append_assoc}
+use Rattle.std.proofs.Common.{◌≡◌, ℕ, suc, ◌+◌, ◌<◌, ◌≤◌, Bool, true, false, ◌&&◌, List, [], ◌∷◌, ◌++◌, length, get_or, drop, map, refl, sym, ap, ◌∙◌, add-one, drop-cons, append_assoc}
 use Rattle.std.proofs.lemmas.List.{length-map, map-append, append-nil}
 use Rattle.std.proofs.Math.ListN.{drop_of_length-le}
-use Rattle.std.proofs.lemmas.Slice.Eq.{bytes_eq-Decides}
 use Rattle.pt_types.specs.Ty.{entry_of, written}
 use Rattle.std.specs.Str.{bytes_eq}
 use Rattle.pt_types.specs.declared.record.FieldTy.{FieldTy}
-use Rattle.pt_types.specs.Datatype.{Datatype, FieldTypes, no_fields, field_then, types_of, fields_of, fields_of-types_of, types_of-fields_of}
+use Rattle.pt_types.specs.Datatype.{Datatype, FieldTypes, no_fields, field_then, types_of, fields_of}
 use Rattle.pt_types.specs.RecordType.{names}
 use Rattle.pt_types.specs.Order.{is_below, are_below}
 use Rattle.pt_types.specs.Join.{same_names, joined, joined_fields}

@@ -1,7 +1,7 @@
 -- An array or a record of what is written is that of the types which this stands for.
-use Rattle.std.proofs.Common.{◌≡◌, ℕ, ◌+◌, ◌≤◌, inl, inr, true, false, ◌&&◌, refl, sym, ap, ◌∙◌, leb, arith}
+use Rattle.std.proofs.Common.{◌≡◌, ◌≤◌, inl, inr, true, false, ◌&&◌, refl, sym, ap, ◌∙◌, leb, arith}
 use Rattle.std.proofs.lemmas.Bool.{le-leb}
-use Rattle.pt_types.specs.Datatype.{Datatype, Unknown, Int, Boolean, Words, Array, Record, General, FieldTypes, no_fields, field_then, depth, depth_of_fields, nodes, nodes_of_fields}
+use Rattle.pt_types.specs.Datatype.{Datatype, Array, Record, FieldTypes, no_fields, field_then, depth, depth_of_fields, nodes, nodes_of_fields}
 use Rattle.pt_types.specs.Normal.{is_plain, are_plain, is_proper, normal, normal_fields, array_of, record_of}
 use Rattle.pt_types.proofs.Fields.{and_left, and_right, and_both}
 use Rattle.pt_types.proofs.Joins.{bool_cases, normal-proper, normal-not_proper, proper-plain, proper-depth, proper-nodes}

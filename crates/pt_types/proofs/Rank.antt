@@ -1,13 +1,13 @@
 -- How far up a type stands: each strict step up raises it, and it is at most 1,025.
-use Rattle.std.proofs.Common.{◌≡◌, ℕ, ◌+◌, ◌≤◌, ◌<◌, ◌⊎◌, inl, inr, true, false, ◌&&◌, refl, sym, ap, subst, ◌∙◌, arith}
+use Rattle.std.proofs.Common.{◌≡◌, ◌≤◌, ◌<◌, ◌⊎◌, inl, inr, true, ◌&&◌, refl, sym, ap, ◌∙◌, arith}
 use Rattle.std.specs.Str.{bytes_eq}
 use Rattle.pt_types.specs.Datatype.{Datatype, Unknown, Int, Boolean, Words, Array, Record, General, FieldTypes, no_fields, field_then, nodes, nodes_of_fields}
 use Rattle.pt_types.specs.Order.{is_below, are_below, IsBelow}
 use Rattle.pt_types.specs.Rank.{rank, rank_of_fields}
-use Rattle.pt_types.specs.Normal.{is_plain, are_plain, is_proper, normal, IsType}
-use Rattle.pt_types.proofs.Fields.{and_left, and_right, and_both}
+use Rattle.pt_types.specs.Normal.{is_plain, are_plain, IsType}
+use Rattle.pt_types.proofs.Fields.{and_left, and_right}
 use Rattle.pt_types.proofs.Order.{same_bytes}
-use Rattle.pt_types.proofs.Joins.{type_cases, plain-below, proper-plain, proper-nodes, proper-below}
+use Rattle.pt_types.proofs.Joins.{type_cases, proper-plain, proper-nodes}
 
 mutual
   pub rank-nodes : (t : Datatype) → is_plain t ≡ true → rank t ≤ nodes t

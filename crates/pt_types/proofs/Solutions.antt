@@ -1,7 +1,6 @@
 -- Raising types by rules keeps them below each solution, and comes to an end.
-use Rattle.std.proofs.Common.{◌≡◌, ℕ, zero, suc, ◌+◌, ◌-◌, ◌*◌, ◌≤◌, ◌<◌, ◌⊎◌, inl, inr, Bool, true, false, ◌||◌, List, [], ◌∷◌, length, get_or, set, All, map, refl, sym, ap, subst, ◌∙◌, IsTrue, if◌then◌else◌, arith}
-use Rattle.std.specs.List.{sum_by}
-use Rattle.std.proofs.lemmas.List.{length-set, get_or-set_same, get_or-set_other, length-map, get_or_default, map-set}
+use Rattle.std.proofs.Common.{◌≡◌, ℕ, zero, suc, ◌+◌, ◌-◌, ◌*◌, ◌≤◌, ◌<◌, ◌⊎◌, inl, inr, Bool, true, false, ◌||◌, List, [], ◌∷◌, length, get_or, set, All, map, refl, sym, ap, subst, ◌∙◌, if◌then◌else◌, arith}
+use Rattle.std.proofs.lemmas.List.{length-set, get_or-set_same, get_or-set_other, get_or_default, map-set}
 use Rattle.std.proofs.lemmas.List.Sums.{sum_by-set}
 use Rattle.std.proofs.lemmas.Bool.{cases_lt}
 use Rattle.std.proofs.Math.ListN.{get_or-map}
@@ -11,7 +10,7 @@ use Rattle.pt_types.specs.Normal.{normal, IsType}
 use Rattle.pt_types.specs.Join.{join}
 use Rattle.pt_types.specs.Join.{joined as part_by_part}
 use Rattle.pt_types.specs.Rank.{rank, room}
-use Rattle.pt_types.specs.Rules.{type_at, AllBelow, AreMet, IsSolution, IsReached, IsLeastSolution, IsRaised}
+use Rattle.pt_types.specs.Rules.{type_at, AllBelow, AreMet, IsReached, IsLeastSolution, IsRaised}
 use Rattle.pt_types.specs.Ty.{type_of, written}
 use Rattle.pt_types.specs.declared.ty.Ty.{Ty}
 use Rattle.pt_types.specs.declared.ty.Ty.TheVariants as ty

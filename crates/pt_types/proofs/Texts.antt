@@ -5,7 +5,7 @@ use Rattle.pt_value.specs.Printed.{separated_by, more_after, separator_before}
 use Rattle.pt_types.specs.declared.record.FieldTy.{FieldTy}
 use Rattle.pt_types.specs.Datatype.{types_of}
 use Rattle.pt_types.specs.Ty.{written, entry_of}
-use Rattle.pt_types.specs.Printed.{printed, printed_field, each_named}
+use Rattle.pt_types.specs.Printed.{printed_field, each_named}
 
 abbrev pub record_body : List FieldTy → List ℕ
 record_body fs = separated_by (codes ", ") (each_named (types_of (map entry_of fs)))

@@ -1,5 +1,5 @@
 -- Normal forms: an array or a record with a general part, more than 8 deep, or with more than 1,024 nodes is general (by the profile).
-use Rattle.std.specs.Prelude.{◌≡◌, ℕ, Bool, true, false, ◌&&◌, leb, if◌then◌else◌}
+use Rattle.std.specs.Prelude.{◌≡◌, Bool, true, false, ◌&&◌, leb, if◌then◌else◌}
 use Rattle.pt_types.specs.Datatype.{Datatype, Unknown, Int, Boolean, Words, Array, Record, General, FieldTypes, no_fields, field_then, depth, nodes}
 
 -- no part is general

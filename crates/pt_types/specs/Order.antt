@@ -1,5 +1,5 @@
 -- The order of types: unknown is least, general is greatest, base types aren't comparable, arrays are ordered by their elements, records of the same names field by field.
-use Rattle.std.specs.Prelude.{◌≡◌, ℕ, Bool, true, false, ◌&&◌, List, [], ◌∷◌, length, IsTrue, slice_index_or, ◌<◌}
+use Rattle.std.specs.Prelude.{Bool, true, false, ◌&&◌, IsTrue}
 use Rattle.std.specs.Str.{bytes_eq}
 use Rattle.pt_types.specs.Datatype.{Datatype, Unknown, Int, Boolean, Words, Array, Record, General, FieldTypes, no_fields, field_then}
 

@@ -1,5 +1,5 @@
 -- Rules on the types of numbered things, and the least types that meet them.
-use Rattle.std.specs.Prelude.{◌≡◌, ℕ, ◌<◌, List, length, All, Bool, true, false, slice_index_or, slice_set}
+use Rattle.std.specs.Prelude.{◌≡◌, ℕ, List, length, All, Bool, true, false, slice_index_or, slice_set}
 use Rattle.pt_types.specs.Datatype.{Datatype, Unknown}
 use Rattle.pt_types.specs.Normal.{IsType}
 use Rattle.pt_types.specs.Order.{is_below, IsBelow}

@@ -2,7 +2,6 @@ use Rattle.std.proofs.Common.{◌≡◌, ◌<◌, ◌++◌, [], ◌∷◌, lengt
 use Rattle.pt_types.specs.Datatype.{types_of, fields_of-types_of, types_of-fields_of}
 use Rattle.pt_types.specs.Join.{joined_fields}
 use Rattle.pt_types.specs.RecordType.{names, AreRecordNames}
-use Rattle.pt_types.specs.Ty.{entry_of}
 use Rattle.pt_types.proofs.Fields.{length-same_names, length-view, names-joined, joined-step, joined-end}
 use Rattle.pt_types.proofs.+joins.Goals as goal
 

@@ -1,4 +1,4 @@
-use Rattle.std.proofs.Common.{◌<◌, ◌≤◌, ◌≡◌, length, map, refl, sym, ap, ◌∙◌, arith, rules}
+use Rattle.std.proofs.Common.{◌<◌, length, map, ◌∙◌, rules}
 use Rattle.std.proofs.lemmas.List.{length-map}
 use Rattle.pt_types.specs.Ty.{type_of}
 use Rattle.pt_types.proofs.Solutions.{all_types, target-low, reached-raise, round-more, round-end, round-room}

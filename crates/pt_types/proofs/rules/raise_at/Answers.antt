@@ -1,4 +1,4 @@
-use Rattle.std.proofs.Common.{◌<◌, ◌≤◌, ◌≡◌, length, map, get_or, refl, sym, ap, ◌∙◌, arith, rules}
+use Rattle.std.proofs.Common.{◌<◌, ◌≡◌, length, map, get_or, arith, rules}
 use Rattle.std.proofs.lemmas.List.{length-map}
 use Rattle.pt_types.specs.Ty.{type_of}
 use Rattle.pt_types.proofs.Solutions.{all_types, target-low, reached-raise, room-kept}
