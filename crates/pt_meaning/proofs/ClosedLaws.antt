@@ -99,7 +99,7 @@ module _ {T A : Type 0} (rows : Rows T A) (h : Past) (c d : Core T) (kids : Node
 
   caused-up : (u : Bool) (p : Path) (s : Core T) (i q k : ℕ) → IsCausedIf rows n (log_in_child j l) (way_in_child j way) u p s i q k → IsCausedIf rows whole l way u (j ∷ p) s i q k
   caused-up u p s i q k (inl g) = inl (g.0, g.1, g.2, subst (λ a. IsPrefix a (held_at s i q ++ given rows whole l way (j ∷ p) (source_of s i q) g.0 k)) (taken-up p i q g.0 k) (subst (λ a. IsPrefix (taken rows n (log_in_child j l) (way_in_child j way) p i q g.0 k) (held_at s i q ++ a)) (given-up p (source_of s i q) g.0 k) g.3))
-  caused-up u p s i q k (inr g) = inr (g.0, g.1, g.2 ∙ count-unmarked (l (j ∷ p)), g.3, know-up u p s k g.0.tag i q (Known g.3) g.4, subst (λ a. IsPrefix a g.3) (taken-up p i q k k) g.5)
+  caused-up u p s i q k (inr g) = inr (g.0, g.1, g.2, g.3 ∙ count-unmarked (l (j ∷ p)), g.4, know-up u p s k g.1.tag i q (Known g.4) g.5, subst (λ a. IsPrefix a g.4) (taken-up p i q k k) g.6)
 
 or-assoc : (a b c : Bool) → ((a || b) || c) ≡ (a || (b || c))
 or-assoc true b c = refl

@@ -12,7 +12,7 @@ use Rattle.pt_meaning.specs.Heights.{IsFitting}
 use Rattle.pt_meaning.specs.Streams.{IsPrefix}
 use Rattle.pt_meaning.specs.Machine.{Known}
 use Rattle.pt_meaning.specs.Rounds.{Source, Own, Output}
-use Rattle.pt_meaning.specs.Closed.{Begun, UnderWay, is_modal, HasBegun, MayKnow, IsNext}
+use Rattle.pt_meaning.specs.Closed.{Begun, UnderWay, is_modal, keeps_tokens, HasBegun, MayKnow, IsNext}
 use Rattle.pt_meaning.specs.Channels.{held_at, source_of}
 use Rattle.pt_meaning.specs.LogsOfRuns.{log_in}
 use Rattle.pt_meaning.specs.SoundRuns.{idle, ClosedIn, AllClosedIn, on_place, IsWired, IsSamePlan, given_by, KeptIn, AllKeptIn, takes_now, gives_now}
@@ -181,7 +181,7 @@ levels-go-on {T} {A} = record {
   under_way = λ rows u h₀ c₀ d₀ kids₀ h c d count l closed kept es bare quiet new tag inputs way w tags beyond taken kids.
       subst (λ v. ClosedIn rows u (Composite h₀ c₀ d₀ kids₀) (log_then l v) way) (as-added h.made es new)
       (level-under-way rows u h₀ c₀ d₀ kids₀ h c d count l closed kept es bare quiet new tag inputs way w tags beyond
-      (subst (λ v. (i q : ℕ) → IsPrefix (takes_now new way i q) (on_place d i q ++ gives_now inputs new (source_of d i q)) ⊎ ((xs : List T) × MayKnow rows (Composite h₀ c₀ d₀ kids₀) (log_then l v) way u [] c₀ h.made tag i q (Known xs) × IsPrefix (takes_now new way i q) xs)) (sym (as-added h.made es new)) taken) kids);
+      (subst (λ v. (i q : ℕ) → IsPrefix (takes_now new way i q) (on_place d i q ++ gives_now inputs new (source_of d i q)) ⊎ ((keeps_tokens c₀ ≡ false) × (xs : List T) × MayKnow rows (Composite h₀ c₀ d₀ kids₀) (log_then l v) way u [] c₀ h.made tag i q (Known xs) × IsPrefix (takes_now new way i q) xs)) (sym (as-added h.made es new)) taken) kids);
   done = λ rows u h₀ c₀ d₀ kids₀ h c d count l closed kept es bare quiet new tag inputs out beyond taken kids.
       subst (λ v. ClosedIn rows u (Composite h₀ c₀ d₀ kids₀) (log_then l v) idle) (as-added h.made (es ++ (own_event h tag inputs out ∷ [])) new) (level-done rows u h₀ c₀ d₀ kids₀ h c d count l closed kept es bare quiet new tag inputs out (λ i p g. (beyond i p g).0) taken kids);
   kept = λ rows u h₀ c₀ d₀ kids₀ h c d count l closed kept es bare quiet new tag inputs out h' d' kids' made long wired plan left below.

@@ -374,7 +374,7 @@ module _ {T S : Type 0} (facts : Facts T S) (step : Stepping T S) (early : Earli
       where
         go : IsOf (takes_in (turns_val k) (λ i. way_in facts step early active turn tag turning net.places ks now i) i q) (known_in now (channel_at net.places i q)) → IsTakenWell facts d ks inputs (turns_val k) (λ i. way_in facts step early active turn tag turning net.places ks now i) tag i q
         go (inl e) = inl (subst (λ v. IsPrefix v (on_place d i q ++ gives_in inputs (turns_val k) (channels.source_of d i q))) (sym e) tt)
-        go (inr e) = inr (e.0, subst (λ v. Says k i q v) e.1 (says-at k k (omega arith) i q), e.2)
+        go (inr e) = inr (none_kept, e.0, subst (λ v. Says k i q v) e.1 (says-at k k (omega arith) i q), e.2)
 
     -- in a tick that is done each place has what its source gave
     gave-at : all_fired now_reactions ≡ true → is_least early active turn tag net ks inputs k ≡ true → (o : Option ℕ) (xs : List T) → known_in now o ≡ Known xs → IsPrefix xs (gives_in inputs (turns_val k) (if_there (get net.sources) o))

@@ -140,7 +140,7 @@ module _ {T A : Type 0} (rows : Rows T A) (u : Bool) (h : Past) (c d : Core T) (
 
   caused-old : (i q k : ℕ) → k < n → IsCausedIf rows top l idle u [] c i q k → IsCausedIf rows top after way u [] c i q k
   caused-old i q k b (inl g) = inl (g.0, g.1, g.2, subst (λ v. IsPrefix v (closed.held_at c i q ++ given rows top after way [] (closed.source_of c i q) g.0 k)) (sym (taken-old i q g.0 k b)) (subst (λ v. IsPrefix (taken rows top l idle [] i q g.0 k) (closed.held_at c i q ++ v)) (sym (given-old (closed.source_of c i q) g.0 k b)) g.3))
-  caused-old i q k b (inr g) = absurd (nothing-some g.0 g.1)
+  caused-old i q k b (inr g) = absurd (nothing-some g.1 g.2)
 
   -- what was taken and given up to now
   pub taken-up : (i q r k : ℕ) → r ≤ n → n ≤ k → taken_from 0 r k q (l (i ∷ []) ++ all_marked n (new (i ∷ []))) ≡ taken_from 0 r n q (l (i ∷ [])) ++ all_of (inputs_at q) (new (i ∷ []))
@@ -265,14 +265,15 @@ module _ {T A : Type 0} (rows : Rows T A) (u : Bool) (h₀ : Past) (c₀ d₀ : 
           (h.made, omega arith, subst (λ b. IsSince b u h.made h.made) (sym e) refl, as-closed h.made (joins h.made (omega arith) (ap₂ (λ a b. a ++ b) none (none-kept d (kept.plan.keeps ∙ e) i q).1 ∙ sym (ap₂ (λ a b. a ++ b) (none-kept c₀ e i q).0 none_given))))
 
   -- what may be known
-  may-know : (way : UnderWay T) → way [] ≡ Some (record { tag = tag; inputs = inputs }) → (i q : ℕ) → ((xs : List T) × MayKnow rows top₀ (log_then l (added h.made es new)) way u [] c₀ h.made tag i q (Known xs) × IsPrefix (takes_now new way i q) xs) → IsCausedIf rows top₀ (log_then l (added h.made es new)) way u [] c₀ i q h.made
+  may-know : (way : UnderWay T) → way [] ≡ Some (record { tag = tag; inputs = inputs }) → (i q : ℕ) → ((keeps_tokens c₀ ≡ false) × (xs : List T) × MayKnow rows top₀ (log_then l (added h.made es new)) way u [] c₀ h.made tag i q (Known xs) × IsPrefix (takes_now new way i q) xs) → IsCausedIf rows top₀ (log_then l (added h.made es new)) way u [] c₀ i q h.made
   may-know way w i q g = inr (
+    g.0,
     record { tag = tag; inputs = inputs },
     w,
     same,
-    g.0,
     g.1,
-    subst (λ v. IsPrefix v g.0) (sym takes) g.2,
+    g.2,
+    subst (λ v. IsPrefix v g.1) (sym takes) g.3,
   )
     where
       same : h.made ≡ firings_in (l [] ++ es)
@@ -285,7 +286,7 @@ module _ {T A : Type 0} (rows : Rows T A) (u : Bool) (h₀ : Past) (c₀ d₀ : 
 
   -- while the firing is under way
   pub level-under-way : (way : UnderWay T) → way [] ≡ Some (record { tag = tag; inputs = inputs }) → ((i : ℕ) (b : Begun T) → way (i ∷ []) ≡ Some b → IsTagBelow (is_modal d) tag b.tag) → ((i : ℕ) (p : Path) → length (list_of kids₀) ≤ i → (new (i ∷ p) ≡ []) × (way (i ∷ p) ≡ None)) →
-      ((i q : ℕ) → IsPrefix (takes_now new way i q) (on_place d i q ++ gives_now inputs new (channels.source_of d i q)) ⊎ ((xs : List T) × MayKnow rows top₀ (log_then l (added h.made es new)) way u [] c₀ h.made tag i q (Known xs) × IsPrefix (takes_now new way i q) xs)) →
+      ((i q : ℕ) → IsPrefix (takes_now new way i q) (on_place d i q ++ gives_now inputs new (channels.source_of d i q)) ⊎ ((keeps_tokens c₀ ≡ false) × (xs : List T) × MayKnow rows top₀ (log_then l (added h.made es new)) way u [] c₀ h.made tag i q (Known xs) × IsPrefix (takes_now new way i q) xs)) →
       ((i : ℕ) (k : Node T A) → child_of kids₀ i ≡ Some k → ClosedIn rows (u || is_modal c₀) k (log_then (log_in_child i l) (part i new)) (way_in_child i way)) → ClosedIn rows u (Composite h₀ c₀ d₀ kids₀) (log_then l (added h.made es new)) way
   level-under-way way w tags beyond taken_now below =
       level-goes-on rows u h₀ c₀ d₀ kids₀ l shut es new way h.made kept.made kept.numbers own-none bare (λ e. (record { tag = tag; inputs = inputs }, w)) only beyond
@@ -301,7 +302,7 @@ module _ {T A : Type 0} (rows : Rows T A) (u : Bool) (h₀ : Past) (c₀ d₀ : 
       under : nat_le (firings_in (l [] ++ es)) h.made ≡ true
       under = ap (λ v. nat_le v h.made) all ∙ le-true h.made h.made (omega arith)
 
-      either : (i q : ℕ) → IsPrefix (takes_now new way i q) (on_place d i q ++ gives_now inputs new (channels.source_of d i q)) ⊎ ((xs : List T) × MayKnow rows top₀ (log_then l (added h.made es new)) way u [] c₀ h.made tag i q (Known xs) × IsPrefix (takes_now new way i q) xs) →
+      either : (i q : ℕ) → IsPrefix (takes_now new way i q) (on_place d i q ++ gives_now inputs new (channels.source_of d i q)) ⊎ ((keeps_tokens c₀ ≡ false) × (xs : List T) × MayKnow rows top₀ (log_then l (added h.made es new)) way u [] c₀ h.made tag i q (Known xs) × IsPrefix (takes_now new way i q) xs) →
           IsCausedIf rows top₀ (log_then l (added h.made es new)) way u [] c₀ i q h.made
       either i q (inl g) =
           causes-join es way own-none (λ port. ap₂ (λ v b. v ++ these_if b (begun_at (way []) port) []) (all-quiet (inputs_at port) es quiet) under ∙ append-nil (begun_at (way []) port) ∙ ap (λ o. begun_at o port) w)

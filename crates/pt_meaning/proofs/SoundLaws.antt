@@ -404,13 +404,13 @@ module _ {T A H : Type 0} (rows : Rows T A) (steps : ℕ → Stepping T (Node T 
           let z = led-to j s port vs xs e t (in-children j) in
           MayKnow.Early i q j port z.start z.state z.before z.since z.later vs xs (y.0 ∙ sym (kept.0.plan.sources i q) ∙ f) z.is_actor z.events z.reset z.led ih z.early
 
-  taken-now : (i q : ℕ) → IsPrefix (takes_now new all-ways i q) (on_place d i q ++ gives_now inputs new (channels.source_of d i q)) ⊎ ((xs : List T) × MayKnow rows top₀ now all-ways u [] c₀ h.made tag i q (Known xs) × IsPrefix (takes_now new all-ways i q) xs)
+  taken-now : (i q : ℕ) → IsPrefix (takes_now new all-ways i q) (on_place d i q ++ gives_now inputs new (channels.source_of d i q)) ⊎ ((keeps_tokens c₀ ≡ false) × (xs : List T) × MayKnow rows top₀ now all-ways u [] c₀ h.made tag i q (Known xs) × IsPrefix (takes_now new all-ways i q) xs)
   taken-now i q = go (x.counted i q)
     where
       go : IsTakenWell (child_facts (facts_of rows)) d (numbered 0 (list_of kids)) inputs x.turns x.way tag i q →
-          IsPrefix (takes_now new all-ways i q) (on_place d i q ++ gives_now inputs new (channels.source_of d i q)) ⊎ ((xs : List T) × MayKnow rows top₀ now all-ways u [] c₀ h.made tag i q (Known xs) × IsPrefix (takes_now new all-ways i q) xs)
+          IsPrefix (takes_now new all-ways i q) (on_place d i q ++ gives_now inputs new (channels.source_of d i q)) ⊎ ((keeps_tokens c₀ ≡ false) × (xs : List T) × MayKnow rows top₀ now all-ways u [] c₀ h.made tag i q (Known xs) × IsPrefix (takes_now new all-ways i q) xs)
       go (inl g) = inl (subst (λ a. IsPrefix a (on_place d i q ++ gives_now inputs new (channels.source_of d i q))) (sym (takes-same i q)) (subst (λ a. IsPrefix (takes_in x.turns x.way i q) (on_place d i q ++ a)) (sym (gives-same (channels.source_of d i q))) g))
-      go (inr g) = inr (g.0, may-know i q (Known g.0) g.1, subst (λ a. IsPrefix a g.0) (sym (takes-same i q)) g.2)
+      go (inr g) = inr (sym kept.0.plan.keeps ∙ g.0, g.1, may-know i q (Known g.1) g.2, subst (λ a. IsPrefix a g.1) (sym (takes-same i q)) g.3)
 
   -- while it is under way
   pub composite-under : ClosedIn rows u (Composite h₀ c₀ d₀ kids₀) (log_then l (log_in (as_node tag h c core r))) all-ways

@@ -45,7 +45,7 @@ pub record ClosedAtPaths (T A : Type 0) : Type 0 where
 -- What stands here is what code shows that fires the children one by one: what a child took now is the beginning of what was on its place and what its source gave, or of what may be known of it.
 abbrev pub TakenNow : {T A : Type 0} → Rows T A → (resettable : Bool) → Node T A → Core T → Core T → Past → Log T → List (Event T) → Streams T → Log T → UnderWay T → Tag → Type 0
 TakenNow {T} rows u top c d h l es inputs new way tag = (i q : ℕ) → IsPrefix (takes_now new way i q) (on_place d i q ++ gives_now inputs new (source_of d i q)) ⊎
-    ((xs : List T) × MayKnow rows top (log_then l (within_firing h.made (with_meetings es new))) way u [] c h.made tag i q (Known xs) × IsPrefix (takes_now new way i q) xs)
+    ((keeps_tokens c ≡ false) × (xs : List T) × MayKnow rows top (log_then l (within_firing h.made (with_meetings es new))) way u [] c h.made tag i q (Known xs) × IsPrefix (takes_now new way i q) xs)
 
 -- where all that it took was given
 abbrev pub TakenWell : {T : Type 0} → Core T → Streams T → Log T → Type 0

@@ -1,5 +1,5 @@
 -- How a director's firing is made up of firings of its children: which were made, what they took, and where it came from.
-use Rattle.std.specs.Prelude.{◌≡◌, ◌⊎◌, ℕ, ◌≤◌, List, [], ◌∷◌, ◌++◌, true, length, Option, Some, None}
+use Rattle.std.specs.Prelude.{◌≡◌, ◌⊎◌, ℕ, ◌≤◌, List, [], ◌∷◌, ◌++◌, true, false, length, Option, Some, None}
 use Rattle.pt_meaning.specs.Basics.{Tag, Streams, at, Log, Firing, Event, firings_in, silent, log_then, own, log_below}
 use Rattle.pt_meaning.specs.Streams.{IsPrefix}
 use Rattle.pt_meaning.specs.Machine.{Outcome, Done, Stuck, Stepping, Facts, Partial, Unknown, Known, partial_at}
@@ -59,10 +59,10 @@ pub data MaySay {T S : Type 0} (facts : Facts T S) (d : Core T) (ks : List S) (i
   Gives : (i q : ℕ) → MaySay facts d ks inputs turns tag i q (Known (gives_in inputs turns (channels.source_of d i q)))
   Early : (i q j port : ℕ) (s : S) (vs : List (Partial T)) (xs : List T) → channels.source_of d i q ≡ Some (Output j port) → get ks j ≡ Some s → ((place : ℕ) → MaySay facts d ks inputs turns tag j place (partial_at vs place)) → partial_at (facts.early tag s vs) port ≡ Known xs → MaySay facts d ks inputs turns tag i q (Known xs)
 
--- what child i takes at a place is the beginning of what was on the place and of what its source gives, or of what may be known of it
+-- what child i takes at a place is the beginning of what was on the place and of what its source gives, or at a tick of what may be known of it
 abbrev pub IsTakenWell : {T S : Type 0} → Facts T S → Core T → List S → Streams T → (ℕ → List (Turned T)) → (ℕ → Option (Begun T)) → Tag → (child place : ℕ) → Type 0
 IsTakenWell {T} facts d ks inputs turns way tag i q =
-    IsPrefix (takes_in turns way i q) (on_place d i q ++ gives_in inputs turns (channels.source_of d i q)) ⊎ ((xs : List T) × MaySay facts d ks inputs turns tag i q (Known xs) × IsPrefix (takes_in turns way i q) xs)
+    IsPrefix (takes_in turns way i q) (on_place d i q ++ gives_in inputs turns (channels.source_of d i q)) ⊎ ((keeps_tokens d ≡ false) × (xs : List T) × MaySay facts d ks inputs turns tag i q (Known xs) × IsPrefix (takes_in turns way i q) xs)
 
 -- Where it is done: no firing of a child is unfinished, the plan stays, all that was taken was there or was given, what is left is then on its place, and each child has come to where its firings led, or was reset.
 pub record DoneWell {T S H : Type 0} (facts : Facts T S) (inputs : Streams T) (d : Core T) (core : H → Core T) (ks : List S) (turns : ℕ → List (Turned T)) (way : ℕ → Option (Begun T)) (ends : ℕ → S) (x : Inside H S) : Type 0 where
