@@ -17,7 +17,7 @@ mod strict;
 mod tests;
 mod tokens;
 
-pub use actor::Actor;
+pub use actor::{Actor, Fires};
 pub use answer::{Answer, Blocked, Place, Rows};
 pub use ask::Ask;
 pub use fault::RunFault;

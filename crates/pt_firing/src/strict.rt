@@ -4,7 +4,7 @@ ghost use Rattle.pt_meaning.specs.Valuation.{known};
 ghost use Rattle.pt_value.specs.declared.token.Token as token;
 ghost use Rattle.pt_firing.specs.Strict.{strict};
 
-use crate::actor::Actor;
+use crate::actor::Fires;
 use crate::inputs::Inputs;
 use crate::partial::Partial;
 use crate::step::Step;
@@ -12,7 +12,7 @@ use pt_time::Tag;
 use std::alloc::{AllocError, Global};
 
 /// The early answer of a strict actor with so many outputs: unknown while an input is, else what its step gives.
-pub fn strict_early<A: Actor + Drop>(
+pub fn strict_early<A: Fires + Drop>(
     actor: &A,
     ports: usize,
     alloc: Global,

@@ -1,0 +1,19 @@
+-- Const: a source of one value.
+use Rattle.pt_meaning.specs.Basics.{Tag, Streams}
+use Rattle.pt_meaning.specs.Machine.{Need}
+use Rattle.pt_meaning.specs.Node.{Answer}
+use Rattle.pt_value.specs.declared.token.Token.{Token}
+use Rattle.pt_value.specs.Token.{IsScalar}
+use Rattle.pt_lib_flow.specs.declared.constant.Const.{Const}
+use Rattle.pt_lib_flow.specs.Row.{gives}
+use Rattle.pt_lib_flow.specs.Limit.{is_over, after_one, source, source_need}
+
+abbrev pub need : Const → Need
+need actor = source_need (is_over actor.limit) actor.places
+
+abbrev pub step : Tag → Const → Streams Token → Answer Token Const
+step tag actor X = source (is_over actor.limit) X actor (gives (record actor { limit = after_one actor.limit }) actor.value)
+
+-- integers and truth values take no memory
+abbrev pub IsSpare : Const → Type 0
+IsSpare actor = IsScalar actor.value

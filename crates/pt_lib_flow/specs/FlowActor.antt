@@ -1,0 +1,60 @@
+-- The library of flow actors: each class by its own definition.
+use Rattle.std.specs.Prelude.{ℕ, List, [], Option, None, false}
+use Rattle.pt_meaning.specs.Basics.{Tag, Streams}
+use Rattle.pt_meaning.specs.Machine.{Need, Partial}
+use Rattle.pt_meaning.specs.Node.{Answer, Gives, Fails, Rows, is_zero}
+use Rattle.pt_value.specs.declared.token.Token.{Token}
+use Rattle.pt_firing.specs.Strict.{strict}
+use Rattle.pt_lib_flow.specs.declared.flow_actor.FlowActor.{FlowActor}
+use Rattle.pt_lib_flow.specs.declared.flow_actor.FlowActor.TheVariants.{Scale, Ramp, Const, AddSubtract}
+use Rattle.pt_lib_flow.specs.Scale as scale
+use Rattle.pt_lib_flow.specs.Ramp as ramp
+use Rattle.pt_lib_flow.specs.Const as constant
+use Rattle.pt_lib_flow.specs.AddSubtract as add_subtract
+
+-- the answer of an actor that is held as a variant
+abbrev pub held_as : {S A : Type 0} → (S → A) → Answer Token S → Answer Token A
+held_as held (Gives after out) = Gives (held after) out
+held_as held (Fails code) = Fails code
+
+-- the number of its input places
+abbrev pub places : FlowActor → ℕ
+places (Scale actor) = actor.places
+places (Ramp actor) = actor.places
+places (Const actor) = actor.places
+places (AddSubtract actor) = actor.places
+
+abbrev pub need : FlowActor → Need
+need (Scale actor) = scale.need actor
+need (Ramp actor) = ramp.need actor
+need (Const actor) = constant.need actor
+need (AddSubtract actor) = add_subtract.need actor
+
+abbrev pub step : Tag → FlowActor → Streams Token → Answer Token FlowActor
+step tag (Scale actor) X = held_as Scale (scale.step tag actor X)
+step tag (Ramp actor) X = held_as Ramp (ramp.step tag actor X)
+step tag (Const actor) X = held_as Const (constant.step tag actor X)
+step tag (AddSubtract actor) X = held_as AddSubtract (add_subtract.step tag actor X)
+
+-- its step takes no memory
+abbrev pub IsSpare : FlowActor → Type 0
+IsSpare (Scale actor) = Unit {0}
+IsSpare (Ramp actor) = Unit {0}
+IsSpare (Const actor) = constant.IsSpare actor
+IsSpare (AddSubtract actor) = Unit {0}
+
+-- each of them is strict
+abbrev pub early : Tag → FlowActor → List (Partial Token) → List (Partial Token)
+early = strict 1 step
+
+-- The rows of the library. None of these actors has first tokens or wakes, or takes its lists whole.
+abbrev pub rows : Rows Token FlowActor
+rows = record {
+  first = λ actor. [];
+  need = need;
+  next = λ actor. None;
+  react = step;
+  early = early;
+  whole = λ actor. false;
+  begins = λ actor. is_zero (places actor);
+}
