@@ -61,3 +61,30 @@ sum-is X p m e long middle s t a b sum none sum' none' =
     let plus : take m X ≡ take p X = ap (λ n. take n X) (middle ∙ ap (min p) long) ∙ take_min p X in
     let minus : drop m (take e X) ≡ drop p X = ap (drop m) (take_all e X (omega (arith, long))) ∙ ap (λ n. drop n X) (middle ∙ ap (min p) long) ∙ drop_min p X in
     rw (sum, none, sum', none', plus, minus)
+
+at-dropped : (X : Streams Token) (n : ℕ) → n < length X → drop n X ≡ at X n ∷ drop (suc n) X
+at-dropped [] n short = absurd (omega arith)
+at-dropped (xs ∷ X) zero short = refl
+at-dropped (xs ∷ X) (suc n) short = at-dropped X n (omega arith)
+
+-- the numbers from a place on
+pub present-next : (X : Streams Token) (n : ℕ) → n < length X → present (drop n X) ≡ with_number (number_at X n) (present (drop (n + 1) X))
+present-next X n short = ap present (at-dropped X n short) ∙ ap (λ m. with_number (number_at X n) (present (drop m X))) (sym (add-one n))
+
+pub nothing-left : (X : Streams Token) → drop (length X) X ≡ []
+nothing-left [] = refl
+nothing-left (xs ∷ X) = nothing-left X
+
+pub at-taken : (X : Streams Token) (n to : ℕ) → n < to → at (take to X) n ≡ at X n
+at-taken X n zero short = absurd (omega arith)
+at-taken [] n (suc to) short = refl
+at-taken (xs ∷ X) zero (suc to) short = refl
+at-taken (xs ∷ X) (suc n) (suc to) short = at-taken X n to (omega arith)
+
+-- the same up to before another place
+pub present-next-below : (X : Streams Token) (n to : ℕ) → n < to → to ≤ length X → present (drop n (take to X)) ≡ with_number (number_at X n) (present (drop (n + 1) (take to X)))
+present-next-below X n to short within =
+    present-next (take to X) n (omega (arith, length-take to X)) ∙ ap (λ tokens. with_number (number_in tokens) (present (drop (n + 1) (take to X)))) (at-taken X n to short)
+
+pub nothing-below : (X : Streams Token) (to : ℕ) → drop to (take to X) ≡ []
+nothing-below X to = nothing-between X to

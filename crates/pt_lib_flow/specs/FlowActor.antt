@@ -6,11 +6,16 @@ use Rattle.pt_meaning.specs.Node.{Answer, Gives, Fails, Rows, is_zero}
 use Rattle.pt_value.specs.declared.token.Token.{Token}
 use Rattle.pt_firing.specs.Strict.{strict}
 use Rattle.pt_lib_flow.specs.declared.flow_actor.FlowActor.{FlowActor}
-use Rattle.pt_lib_flow.specs.declared.flow_actor.FlowActor.TheVariants.{Scale, Ramp, Const, AddSubtract}
-use Rattle.pt_lib_flow.specs.Scale as scale
-use Rattle.pt_lib_flow.specs.Ramp as ramp
-use Rattle.pt_lib_flow.specs.Const as constant
+use Rattle.pt_lib_flow.specs.declared.flow_actor.FlowActor.TheVariants.{AbsoluteValue, Accumulator, AddSubtract, Const, Extreme, MultiplyDivide, Ramp, Scale, Sequence}
+use Rattle.pt_lib_flow.specs.AbsoluteValue as absolute_value
+use Rattle.pt_lib_flow.specs.Accumulator as accumulator
 use Rattle.pt_lib_flow.specs.AddSubtract as add_subtract
+use Rattle.pt_lib_flow.specs.Const as constant
+use Rattle.pt_lib_flow.specs.Extreme as extreme
+use Rattle.pt_lib_flow.specs.MultiplyDivide as multiply_divide
+use Rattle.pt_lib_flow.specs.Ramp as ramp
+use Rattle.pt_lib_flow.specs.Scale as scale
+use Rattle.pt_lib_flow.specs.Sequence as sequence
 
 -- the answer of an actor that is held as a variant
 abbrev pub held_as : {S A : Type 0} → (S → A) → Answer Token S → Answer Token A
@@ -19,29 +24,49 @@ held_as held (Fails code) = Fails code
 
 -- the number of its input places
 abbrev pub places : FlowActor → ℕ
-places (Scale actor) = actor.places
-places (Ramp actor) = actor.places
-places (Const actor) = actor.places
+places (AbsoluteValue actor) = actor.places
+places (Accumulator actor) = actor.places
 places (AddSubtract actor) = actor.places
+places (Const actor) = actor.places
+places (Extreme actor) = actor.places
+places (MultiplyDivide actor) = actor.places
+places (Ramp actor) = actor.places
+places (Scale actor) = actor.places
+places (Sequence actor) = actor.places
 
 abbrev pub need : FlowActor → Need
-need (Scale actor) = scale.need actor
-need (Ramp actor) = ramp.need actor
-need (Const actor) = constant.need actor
+need (AbsoluteValue actor) = absolute_value.need actor
+need (Accumulator actor) = accumulator.need actor
 need (AddSubtract actor) = add_subtract.need actor
+need (Const actor) = constant.need actor
+need (Extreme actor) = extreme.need actor
+need (MultiplyDivide actor) = multiply_divide.need actor
+need (Ramp actor) = ramp.need actor
+need (Scale actor) = scale.need actor
+need (Sequence actor) = sequence.need actor
 
 abbrev pub step : Tag → FlowActor → Streams Token → Answer Token FlowActor
-step tag (Scale actor) X = held_as Scale (scale.step tag actor X)
-step tag (Ramp actor) X = held_as Ramp (ramp.step tag actor X)
-step tag (Const actor) X = held_as Const (constant.step tag actor X)
+step tag (AbsoluteValue actor) X = held_as AbsoluteValue (absolute_value.step tag actor X)
+step tag (Accumulator actor) X = held_as Accumulator (accumulator.step tag actor X)
 step tag (AddSubtract actor) X = held_as AddSubtract (add_subtract.step tag actor X)
+step tag (Const actor) X = held_as Const (constant.step tag actor X)
+step tag (Extreme actor) X = held_as Extreme (extreme.step tag actor X)
+step tag (MultiplyDivide actor) X = held_as MultiplyDivide (multiply_divide.step tag actor X)
+step tag (Ramp actor) X = held_as Ramp (ramp.step tag actor X)
+step tag (Scale actor) X = held_as Scale (scale.step tag actor X)
+step tag (Sequence actor) X = held_as Sequence (sequence.step tag actor X)
 
 -- its step takes no memory
 abbrev pub IsSpare : FlowActor → Type 0
-IsSpare (Scale actor) = Unit {0}
-IsSpare (Ramp actor) = Unit {0}
-IsSpare (Const actor) = constant.IsSpare actor
+IsSpare (AbsoluteValue actor) = Unit {0}
+IsSpare (Accumulator actor) = Unit {0}
 IsSpare (AddSubtract actor) = Unit {0}
+IsSpare (Const actor) = constant.IsSpare actor
+IsSpare (Extreme actor) = Unit {0}
+IsSpare (MultiplyDivide actor) = Unit {0}
+IsSpare (Ramp actor) = Unit {0}
+IsSpare (Scale actor) = Unit {0}
+IsSpare (Sequence actor) = ⊥
 
 -- each of them is strict
 abbrev pub early : Tag → FlowActor → List (Partial Token) → List (Partial Token)

@@ -4,7 +4,7 @@ use Rattle.pt_meaning.specs.Basics.{Tag, Streams, at}
 use Rattle.pt_meaning.specs.Machine.{Need, Counts}
 use Rattle.pt_meaning.specs.Node.{Answer, Gives, Fails, is_none}
 use Rattle.pt_value.specs.declared.token.Token.{Token}
-use Rattle.pt_value.specs.declared.token.Token.TheVariants.{Int}
+use Rattle.pt_value.specs.declared.token.Token.TheVariants as token
 use Rattle.pt_firing.specs.RunFault.{code_of}
 use Rattle.pt_firing.specs.declared.fault.RunFault.TheVariants.{Overflow}
 
@@ -14,7 +14,7 @@ one_each places = Counts (replicate places 1)
 
 -- a firing that gives one token
 abbrev pub gives : {A : Type 0} → A → Token → Answer Token A
-gives after token = Gives after ((token ∷ []) ∷ [])
+gives after given = Gives after ((given ∷ []) ∷ [])
 
 -- a firing that gives nothing
 abbrev pub rests : {A : Type 0} → A → Answer Token A
@@ -27,15 +27,20 @@ fits_i64 (negsuc n) = nat_lt n (2 ^ 63)
 
 -- a firing that gives the exact number, and is stuck where that doesn't fit
 abbrev pub exactly : {A : Type 0} → A → ℤ → Answer Token A
-exactly after number = if fits_i64 number then gives after (Int number) else Fails (code_of Overflow)
+exactly after number = if fits_i64 number then gives after (token.Int number) else Fails (code_of Overflow)
 
 -- the number of a place, if there is one
 abbrev pub number_in : List Token → Option ℤ
-number_in (Int n ∷ tokens) = Some n
+number_in (token.Int n ∷ tokens) = Some n
 number_in tokens = None
 
 abbrev pub number_at : Streams Token → ℕ → Option ℤ
 number_at X place = number_in (at X place)
+
+-- the token of a place is true
+abbrev pub is_true : List Token → Bool
+is_true (token.Bool b ∷ tokens) = b
+is_true tokens = false
 
 -- the numbers that are there, place by place
 abbrev pub with_number : Option ℤ → List ℤ → List ℤ

@@ -1,7 +1,12 @@
+use crate::absolute_value::AbsoluteValue;
+use crate::accumulator::Accumulator;
 use crate::add_subtract::AddSubtract;
 use crate::constant::Const;
+use crate::extreme::Extreme;
+use crate::multiply_divide::MultiplyDivide;
 use crate::ramp::Ramp;
 use crate::scale::Scale;
+use crate::sequence::Sequence;
 use pt_firing::{Actor, Fires, Inputs, Need, Partial, Step, strict_early};
 use pt_time::Tag;
 use pt_value::Token;
@@ -10,20 +15,30 @@ use std::alloc::{AllocError, Global};
 /// An actor of this library, by its class.
 #[derive(Drop)]
 pub enum FlowActor {
-    Scale(Scale),
-    Ramp(Ramp),
-    Const(Const),
+    AbsoluteValue(AbsoluteValue),
+    Accumulator(Accumulator),
     AddSubtract(AddSubtract),
+    Const(Const),
+    Extreme(Extreme),
+    MultiplyDivide(MultiplyDivide),
+    Ramp(Ramp),
+    Scale(Scale),
+    Sequence(Sequence),
 }
 
 /// The same code for whichever class the actor has.
 macro_rules! of_class {
     ($held:expr, $actor:ident => $code:expr) => {
         match $held {
-            FlowActor::Scale($actor) => $code,
-            FlowActor::Ramp($actor) => $code,
-            FlowActor::Const($actor) => $code,
+            FlowActor::AbsoluteValue($actor) => $code,
+            FlowActor::Accumulator($actor) => $code,
             FlowActor::AddSubtract($actor) => $code,
+            FlowActor::Const($actor) => $code,
+            FlowActor::Extreme($actor) => $code,
+            FlowActor::MultiplyDivide($actor) => $code,
+            FlowActor::Ramp($actor) => $code,
+            FlowActor::Scale($actor) => $code,
+            FlowActor::Sequence($actor) => $code,
         }
     };
 }
@@ -43,10 +58,15 @@ impl Fires for FlowActor {
 
     fn copy(&self, alloc: Global) -> Result<FlowActor, AllocError> {
         Ok(match self {
-            FlowActor::Scale(actor) => FlowActor::Scale(actor.copy(alloc)?),
-            FlowActor::Ramp(actor) => FlowActor::Ramp(actor.copy(alloc)?),
-            FlowActor::Const(actor) => FlowActor::Const(actor.copy(alloc)?),
+            FlowActor::AbsoluteValue(actor) => FlowActor::AbsoluteValue(actor.copy(alloc)?),
+            FlowActor::Accumulator(actor) => FlowActor::Accumulator(actor.copy(alloc)?),
             FlowActor::AddSubtract(actor) => FlowActor::AddSubtract(actor.copy(alloc)?),
+            FlowActor::Const(actor) => FlowActor::Const(actor.copy(alloc)?),
+            FlowActor::Extreme(actor) => FlowActor::Extreme(actor.copy(alloc)?),
+            FlowActor::MultiplyDivide(actor) => FlowActor::MultiplyDivide(actor.copy(alloc)?),
+            FlowActor::Ramp(actor) => FlowActor::Ramp(actor.copy(alloc)?),
+            FlowActor::Scale(actor) => FlowActor::Scale(actor.copy(alloc)?),
+            FlowActor::Sequence(actor) => FlowActor::Sequence(actor.copy(alloc)?),
         })
     }
 }

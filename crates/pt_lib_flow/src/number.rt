@@ -1,7 +1,8 @@
 ghost use Rattle.std.specs.Prelude.{◌≡◌, ◌≤◌, ◌-◌, ◌*◌, ◌^◌, ◌≤ℤ◌, ◌<ℤ◌, ◌+ℤ◌, ◌-ℤ◌, ◌&&◌, [], FitsSigned, neg_ℤ, pos, length, take, drop, if◌then◌else◌};
 ghost use Rattle.std.specs.Int.{w128};
+ghost use Rattle.pt_meaning.specs.Basics.{at};
 ghost use Rattle.pt_meaning.specs.Node.{is_none};
-ghost use Rattle.pt_lib_flow.specs.Row.{number_at, number_in, with_number, present, total};
+ghost use Rattle.pt_lib_flow.specs.Row.{number_at, number_in, is_true, with_number, present, total};
 
 use pt_firing::Inputs;
 use pt_value::Token;
@@ -24,6 +25,23 @@ fn number_in(tokens: &[Token]) -> Option<i64>
         Some(Token::Int(n)) => Some(*n),
         _ => None,
     }
+}
+
+/// Whether the token of a place is true.
+pub(crate) fn is_true_at(inputs: &Inputs<'_>, place: usize) -> bool
+    ensures { result ≡ is_true (at inputs.now place) }
+{
+    if place < inputs.places() {
+        is_true(inputs.list(place))
+    } else {
+        false
+    }
+}
+
+fn is_true(tokens: &[Token]) -> bool
+    ensures { result ≡ is_true tokens.now }
+{
+    matches!(tokens.first(), Some(Token::Bool(true)))
 }
 
 /// The sum of some numbers, and whether there are none.
