@@ -22,7 +22,6 @@ module _ {T : Type 0} where
   told-known (xs ∷ X) zero = refl
   told-known (xs ∷ X) (suc p) = told-known X p
 
-
   more-known : (v w : Partial T) (o o' : Option (Streams T)) (X : Streams T) → PartialBelow v w → ((Y : Streams T) → o ≡ Some Y → o' ≡ Some Y) → known_then v o ≡ Some X → known_then w o' ≡ Some X
   more-known v w None o' X b same e = cc
   more-known Unknown w (Some Y) o' X b same e = cc

@@ -1,5 +1,5 @@
 -- Maximum and Minimum: the greatest, or the least, of the present inputs.
-use Rattle.std.specs.Prelude.{ℤ, int_le, List, [], ◌∷◌, Option, Some, None, if◌then◌else◌}
+use Rattle.std.specs.Prelude.{ℤ, int_le, List, [], ◌∷◌, Option, Some, None, if◌then◌else◌, codes}
 use Rattle.pt_meaning.specs.Basics.{Tag, Streams}
 use Rattle.pt_meaning.specs.Machine.{Need}
 use Rattle.pt_meaning.specs.Node.{Answer}
@@ -8,6 +8,8 @@ use Rattle.pt_value.specs.declared.token.Token.TheVariants.{Int}
 use Rattle.pt_lib_flow.specs.declared.extreme.Side.{Side}
 use Rattle.pt_lib_flow.specs.declared.extreme.Side.TheVariants.{Greatest, Least}
 use Rattle.pt_lib_flow.specs.declared.extreme.Extreme.{Extreme}
+use Rattle.pt_lib_flow.specs.declared.params.Params.{Params}
+use Rattle.pt_lib_flow.specs.Params.{channels_to}
 use Rattle.pt_lib_flow.specs.Row.{one_each, gives, present, on_number}
 
 -- the greater, or the lesser, of two numbers
@@ -35,3 +37,6 @@ need actor = one_each actor.places
 
 abbrev pub step : Tag → Extreme → Streams Token → Answer Token Extreme
 step tag actor X = on_number actor (λ n. gives actor (Int n)) (extreme actor.side X)
+
+abbrev pub start : Side → Params → Option Extreme
+start side params = Some (record { side = side; places = channels_to (codes "input") params.ports })

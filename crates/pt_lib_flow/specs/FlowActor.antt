@@ -1,5 +1,5 @@
 -- The library of flow actors: each class by its own definition.
-use Rattle.std.specs.Prelude.{ℕ, List, [], Option, None, false}
+use Rattle.std.specs.Prelude.{ℕ, List, [], Option, Some, None, false, codes, bytes_eq, option_map, if◌then◌else◌}
 use Rattle.pt_meaning.specs.Basics.{Tag, Streams}
 use Rattle.pt_meaning.specs.Machine.{Need, Partial}
 use Rattle.pt_meaning.specs.Node.{Answer, Gives, Fails, Rows, is_zero}
@@ -7,6 +7,10 @@ use Rattle.pt_value.specs.declared.token.Token.{Token}
 use Rattle.pt_firing.specs.Strict.{strict}
 use Rattle.pt_lib_flow.specs.declared.flow_actor.FlowActor.{FlowActor}
 use Rattle.pt_lib_flow.specs.declared.flow_actor.FlowActor.TheVariants.{AbsoluteValue, Accumulator, AddSubtract, Const, Extreme, MultiplyDivide, Ramp, Scale, Sequence}
+use Rattle.pt_lib_flow.specs.declared.flow_actor.Class.{Class}
+use Rattle.pt_lib_flow.specs.declared.flow_actor.Class.TheVariants as class
+use Rattle.pt_lib_flow.specs.declared.extreme.Side.TheVariants.{Greatest, Least}
+use Rattle.pt_lib_flow.specs.declared.params.Params.{Params}
 use Rattle.pt_lib_flow.specs.AbsoluteValue as absolute_value
 use Rattle.pt_lib_flow.specs.Accumulator as accumulator
 use Rattle.pt_lib_flow.specs.AddSubtract as add_subtract
@@ -83,3 +87,27 @@ rows = record {
   whole = λ actor. false;
   begins = λ actor. is_zero (places actor);
 }
+
+-- the classes by name
+abbrev pub class_of : List ℕ → Option Class
+class_of name = if bytes_eq name (codes "AbsoluteValue") then Some class.AbsoluteValue else (if bytes_eq name (codes "Accumulator") then Some class.Accumulator else (if bytes_eq name (codes "AddSubtract") then Some class.AddSubtract else (if bytes_eq name (codes "Const") then Some class.Const else (if bytes_eq name (codes "Maximum") then Some class.Maximum else (if bytes_eq name (codes "Minimum") then Some class.Minimum else (if bytes_eq name (codes "MultiplyDivide") then Some class.MultiplyDivide else (if bytes_eq name (codes "Ramp") then Some class.Ramp else (if bytes_eq name (codes "Scale") then Some class.Scale else (if bytes_eq name (codes "Sequence") then Some class.Sequence else (None))))))))))
+
+-- the actor of a class that the parameters start, if they are such as its row has them
+abbrev pub start_as : Class → Params → Option FlowActor
+start_as class.AbsoluteValue params = option_map AbsoluteValue (absolute_value.start params)
+start_as class.Accumulator params = option_map Accumulator (accumulator.start params)
+start_as class.AddSubtract params = option_map AddSubtract (add_subtract.start params)
+start_as class.Const params = option_map Const (constant.start params)
+start_as class.Maximum params = option_map Extreme (extreme.start Greatest params)
+start_as class.Minimum params = option_map Extreme (extreme.start Least params)
+start_as class.MultiplyDivide params = option_map MultiplyDivide (multiply_divide.start params)
+start_as class.Ramp params = option_map Ramp (ramp.start params)
+start_as class.Scale params = option_map Scale (scale.start params)
+start_as class.Sequence params = option_map Sequence (sequence.start params)
+
+abbrev pub start_in : Option Class → Params → Option FlowActor
+start_in None params = None
+start_in (Some class) params = start_as class params
+
+abbrev pub start : Params → Option FlowActor
+start params = start_in (class_of params.class) params

@@ -1,5 +1,6 @@
 pub mod Row
 pub mod Limit
+pub mod Params
 pub mod AbsoluteValue
 pub mod Accumulator
 pub mod AddSubtract

@@ -1,5 +1,5 @@
 -- MultiplyDivide: 1 times each present multiply input in order, then the truncated quotient by each present divide input. The multiply inputs stand before the divide inputs.
-use Rattle.std.specs.Prelude.{ℕ, zero, suc, ℤ, pos, negsuc, ◌*ℤ◌, int_div, List, [], ◌∷◌, Result, Ok, Err, Option, Some, None, take, drop, if◌then◌else◌}
+use Rattle.std.specs.Prelude.{ℕ, zero, suc, ℤ, pos, negsuc, ◌*ℤ◌, int_div, List, [], ◌∷◌, Result, Ok, Err, Option, Some, None, take, drop, if◌then◌else◌, ◌+◌, codes}
 use Rattle.pt_meaning.specs.Basics.{Tag, Streams}
 use Rattle.pt_meaning.specs.Machine.{Need}
 use Rattle.pt_meaning.specs.Node.{Answer, Fails, is_none}
@@ -11,6 +11,8 @@ use Rattle.pt_firing.specs.declared.fault.RunFault.TheVariants.{DivideByZero, Ov
 use Rattle.pt_lib_flow.specs.declared.multiply_divide.MultiplyDivide.{MultiplyDivide}
 use Rattle.pt_lib_flow.specs.declared.multiply_divide.Operation.{Operation}
 use Rattle.pt_lib_flow.specs.declared.multiply_divide.Operation.TheVariants.{Times, By}
+use Rattle.pt_lib_flow.specs.declared.params.Params.{Params}
+use Rattle.pt_lib_flow.specs.Params.{channels_to}
 use Rattle.pt_lib_flow.specs.Row.{one_each, rests, gives, present, fits_i64}
 
 -- a partial result, which has to fit 64 bits
@@ -56,3 +58,8 @@ on_ratio actor (Some (Err fault)) = Fails (code_of fault)
 
 abbrev pub step : Tag → MultiplyDivide → Streams Token → Answer Token MultiplyDivide
 step tag actor X = on_ratio actor (ratio_of actor.multiply X)
+
+abbrev pub start : Params → Option MultiplyDivide
+start params =
+    let multiply = channels_to (codes "multiply") params.ports in
+    Some (record { multiply = multiply; places = multiply + channels_to (codes "divide") params.ports })

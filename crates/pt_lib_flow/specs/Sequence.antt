@@ -1,5 +1,5 @@
 -- Sequence: a source of some values in order, which then begins again or is over.
-use Rattle.std.specs.Prelude.{ℕ, ◌+◌, nat_le, length, ◌&&◌, Bool, Option, Some, None, slice_get, if◌then◌else◌}
+use Rattle.std.specs.Prelude.{ℕ, ◌+◌, nat_le, length, ◌&&◌, Bool, Option, Some, None, slice_get, if◌then◌else◌, codes, false, List, [], ◌∷◌}
 use Rattle.pt_meaning.specs.Basics.{Tag, Streams}
 use Rattle.pt_meaning.specs.Machine.{Need, Over}
 use Rattle.pt_meaning.specs.Node.{Answer}
@@ -7,6 +7,9 @@ use Rattle.pt_value.specs.Value.{Value}
 use Rattle.pt_value.specs.Token.{token_of}
 use Rattle.pt_value.specs.declared.token.Token.{Token}
 use Rattle.pt_lib_flow.specs.declared.sequence.Sequence.{Sequence}
+use Rattle.pt_lib_flow.specs.declared.params.Params.{Params}
+use Rattle.pt_lib_flow.specs.Params.{value_under, bool_or, channels_to}
+use Rattle.pt_value.specs.declared.token.Token.TheVariants.{Array}
 use Rattle.pt_lib_flow.specs.Row.{one_each, rests, gives}
 use Rattle.pt_lib_flow.specs.Limit.{is_called}
 
@@ -34,3 +37,11 @@ given actor X (Some value) = if is_called X then gives (moved actor) (token_of v
 
 abbrev pub step : Tag → Sequence → Streams Token → Answer Token Sequence
 step tag actor X = given actor X (due actor)
+
+-- by its parameters values, which aren't empty, and repeat, else false
+abbrev pub start_by : Option Token → Option Bool → ℕ → Option Sequence
+start_by (Some (Array (value ∷ values))) (Some cyclic) triggers = Some (record { values = value ∷ values; cyclic = cyclic; index = 0; places = triggers })
+start_by values cyclic triggers = None
+
+abbrev pub start : Params → Option Sequence
+start params = start_by (value_under (codes "values") params.values) (bool_or (codes "repeat") false params.values) (channels_to (codes "trigger") params.ports)

@@ -1,7 +1,11 @@
 ghost use Rattle.std.specs.Prelude.{◌≡◌, IfOk};
+ghost use Rattle.pt_lib_flow.specs.AbsoluteValue as absolute_value;
 
 use crate::number::number_at;
-use pt_firing::{Actor, Fires, Inputs, Need, OneEach, Outputs, Partial, RunFault, Step, strict_early};
+use crate::params::Params;
+use pt_firing::{
+    Actor, Fires, Inputs, Need, OneEach, Outputs, Partial, RunFault, Step, strict_early,
+};
 use pt_time::Tag;
 use pt_value::Token;
 use std::alloc::{AllocError, Global};
@@ -19,6 +23,13 @@ impl AbsoluteValue {
         Ok(AbsoluteValue {
             places: OneEach::of(alloc, 1)?,
         })
+    }
+
+    /// The actor that the parameters start, if they are such as its row has them.
+    pub fn start(alloc: Global, _params: &Params) -> Result<Option<AbsoluteValue>, AllocError>
+        ensures { IfOk result (λ actor. actor ≡ absolute_value.start _params.now) }
+    {
+        Ok(Some(AbsoluteValue::new(alloc)?))
     }
 }
 

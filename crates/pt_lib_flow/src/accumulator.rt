@@ -1,8 +1,12 @@
 ghost use Rattle.std.specs.Prelude.{◌≡◌, ◌+◌, IfOk};
 ghost use Rattle.pt_lib_flow.specs.Accumulator.{before};
+ghost use Rattle.pt_lib_flow.specs.Accumulator as accumulator;
 
 use crate::number::{is_true_at, number_at};
-use pt_firing::{Actor, Fires, Inputs, Need, OneEach, Outputs, Partial, RunFault, Step, strict_early};
+use crate::params::Params;
+use pt_firing::{
+    Actor, Fires, Inputs, Need, OneEach, Outputs, Partial, RunFault, Step, strict_early,
+};
 use pt_time::Tag;
 use pt_value::Token;
 use std::alloc::{AllocError, Global};
@@ -25,6 +29,17 @@ impl Accumulator {
             sum: init,
             places: OneEach::of(alloc, resets as usize + 1)?,
         })
+    }
+
+    /// The actor that the parameters start, if they are such as its row has them.
+    pub fn start(alloc: Global, params: &Params) -> Result<Option<Accumulator>, AllocError>
+        ensures { IfOk result (λ actor. actor ≡ accumulator.start params.now) }
+    {
+        let resets = params.ports.channels("reset");
+        match params.values.int_or("init", 0) {
+            Some(init) => Ok(Some(Accumulator::new(alloc, init, resets)?)),
+            None => Ok(None),
+        }
     }
 
     /// The sum before the input is added.

@@ -1,8 +1,12 @@
 ghost use Rattle.std.specs.Prelude.{◌≡◌, ◌+◌, IfOk};
 ghost use Rattle.pt_lib_flow.specs.Row.{sum_of};
+ghost use Rattle.pt_lib_flow.specs.AddSubtract as add_subtract;
 
 use crate::number::sum_between;
-use pt_firing::{Actor, Fires, Inputs, Need, OneEach, Outputs, Partial, RunFault, Step, strict_early};
+use crate::params::Params;
+use pt_firing::{
+    Actor, Fires, Inputs, Need, OneEach, Outputs, Partial, RunFault, Step, strict_early,
+};
 use pt_time::Tag;
 use pt_value::Token;
 use std::alloc::{AllocError, Global};
@@ -23,6 +27,15 @@ impl AddSubtract {
             plus: plus as usize,
             places: OneEach::of(alloc, plus as usize + minus as usize)?,
         })
+    }
+
+    /// The actor that the parameters start, if they are such as its row has them.
+    pub fn start(alloc: Global, params: &Params) -> Result<Option<AddSubtract>, AllocError>
+        ensures { IfOk result (λ actor. actor ≡ add_subtract.start params.now) }
+    {
+        let plus = params.ports.channels("plus");
+        let minus = params.ports.channels("minus");
+        Ok(Some(AddSubtract::new(alloc, plus, minus)?))
     }
 
     /// The exact sum, if any number is present.

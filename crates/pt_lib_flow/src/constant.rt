@@ -1,6 +1,8 @@
 ghost use Rattle.std.specs.Prelude.{◌≡◌, IfOk};
+ghost use Rattle.pt_lib_flow.specs.Const as constant;
 
 use crate::limit::{Limit, is_called};
+use crate::params::Params;
 use pt_firing::{Actor, Fires, Inputs, Need, OneEach, Outputs, Partial, Step, strict_early};
 use pt_time::Tag;
 use pt_value::Token;
@@ -16,7 +18,12 @@ pub struct Const {
 
 impl Const {
     /// A source with so many trigger places: none, or one.
-    pub fn new(alloc: Global, value: Token, limit: Limit, triggers: usize) -> Result<Const, AllocError>
+    pub fn new(
+        alloc: Global,
+        value: Token,
+        limit: Limit,
+        triggers: usize,
+    ) -> Result<Const, AllocError>
         ensures { IfOk result (λ actor. actor ≡ record { value = value; limit = limit; places = triggers }) }
     {
         Ok(Const {
@@ -24,6 +31,19 @@ impl Const {
             limit,
             places: OneEach::of(alloc, triggers)?,
         })
+    }
+
+    /// The actor that the parameters start, if they are such as its row has them.
+    pub fn start(alloc: Global, params: &Params) -> Result<Option<Const>, AllocError>
+        ensures { IfOk result (λ actor. actor ≡ constant.start params.now) }
+    {
+        let triggers = params.ports.channels("trigger") as usize;
+        match (params.values.get("value"), params.values.limit()) {
+            (Some(value), Some(limit)) => {
+                Ok(Some(Const::new(alloc, value.copy(alloc)?, limit, triggers)?))
+            }
+            _ => Ok(None),
+        }
     }
 }
 

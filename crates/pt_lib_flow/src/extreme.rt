@@ -1,7 +1,8 @@
 ghost use Rattle.std.specs.Prelude.{◌≡◌, IfOk};
-ghost use Rattle.pt_lib_flow.specs.Extreme.{of_two, better, extreme};
+ghost use Rattle.pt_lib_flow.specs.Extreme.{of_two, better, extreme, start};
 
 use crate::number::number_at;
+use crate::params::Params;
 use pt_firing::{Actor, Fires, Inputs, Need, OneEach, Outputs, Partial, Step, strict_early};
 use pt_time::Tag;
 use pt_value::Token;
@@ -64,6 +65,13 @@ impl Extreme {
             side,
             places: OneEach::of(alloc, places as usize)?,
         })
+    }
+
+    /// The actor that the parameters start, if they are such as its row has them.
+    pub fn start(side: Side, alloc: Global, params: &Params) -> Result<Option<Extreme>, AllocError>
+        ensures { IfOk result (λ actor. actor ≡ start side params.now) }
+    {
+        Ok(Some(Extreme::new(alloc, side, params.ports.channels("input"))?))
     }
 }
 

@@ -5,5 +5,4 @@ ghost use Rattle.pt_lib_flow.specs.FlowActor.{rows};
 #[tactic(auto, using(crate::proofs::RowLaws::rows_lawful))]
 pub fn rows_are_lawful()
     ensures { LawfulRows rows }
-{
-}
+{}

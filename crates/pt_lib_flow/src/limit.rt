@@ -7,12 +7,12 @@ use pt_firing::Inputs;
 #[derive(Clone, Copy, Debug, PartialEq, Eq)]
 pub enum Limit {
     Endless,
-    Left(u32),
+    Left(u64),
 }
 
 impl Limit {
     /// The limit by a `firingCountLimit`, of which 0 is none.
-    pub fn of(count: u32) -> Limit
+    pub fn of(count: u64) -> Limit
         ensures { result ≡ limit_of count }
     {
         if count == 0 {

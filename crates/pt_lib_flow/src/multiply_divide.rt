@@ -1,9 +1,13 @@
 ghost use Rattle.std.specs.Prelude.{◌≡◌, ◌≤◌, ◌+◌, IfOk, length, take, drop};
 ghost use Rattle.pt_lib_flow.specs.MultiplyDivide.{of_two, after, after_all, quotient_of, ratio_of};
 ghost use Rattle.pt_lib_flow.specs.Row.{present};
+ghost use Rattle.pt_lib_flow.specs.MultiplyDivide as multiply_divide;
 
 use crate::number::{number_at, sum_between};
-use pt_firing::{Actor, Fires, Inputs, Need, OneEach, Outputs, Partial, RunFault, Step, strict_early};
+use crate::params::Params;
+use pt_firing::{
+    Actor, Fires, Inputs, Need, OneEach, Outputs, Partial, RunFault, Step, strict_early,
+};
 use pt_time::Tag;
 use pt_value::Token;
 use std::alloc::{AllocError, Global};
@@ -24,6 +28,15 @@ impl MultiplyDivide {
             multiply: multiply as usize,
             places: OneEach::of(alloc, multiply as usize + divide as usize)?,
         })
+    }
+
+    /// The actor that the parameters start, if they are such as its row has them.
+    pub fn start(alloc: Global, params: &Params) -> Result<Option<MultiplyDivide>, AllocError>
+        ensures { IfOk result (λ actor. actor ≡ multiply_divide.start params.now) }
+    {
+        let multiply = params.ports.channels("multiply");
+        let divide = params.ports.channels("divide");
+        Ok(Some(MultiplyDivide::new(alloc, multiply, divide)?))
     }
 
     /// The result, if any number is present.

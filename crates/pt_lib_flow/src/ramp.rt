@@ -1,7 +1,11 @@
 ghost use Rattle.std.specs.Prelude.{◌≡◌, IfOk};
+ghost use Rattle.pt_lib_flow.specs.Ramp as ramp;
 
 use crate::limit::{Limit, is_called};
-use pt_firing::{Actor, Fires, Inputs, Need, OneEach, Outputs, Partial, RunFault, Step, strict_early};
+use crate::params::Params;
+use pt_firing::{
+    Actor, Fires, Inputs, Need, OneEach, Outputs, Partial, RunFault, Step, strict_early,
+};
 use pt_time::Tag;
 use pt_value::Token;
 use std::alloc::{AllocError, Global};
@@ -19,7 +23,13 @@ pub struct Ramp {
 
 impl Ramp {
     /// A ramp with so many trigger places: none, or one.
-    pub fn new(alloc: Global, init: i64, step: i64, limit: Limit, triggers: usize) -> Result<Ramp, AllocError>
+    pub fn new(
+        alloc: Global,
+        init: i64,
+        step: i64,
+        limit: Limit,
+        triggers: usize,
+    ) -> Result<Ramp, AllocError>
         ensures { IfOk result (λ actor. actor ≡ record { next = init; step = step; limit = limit; places = triggers }) }
     {
         Ok(Ramp {
@@ -28,6 +38,23 @@ impl Ramp {
             limit,
             places: OneEach::of(alloc, triggers)?,
         })
+    }
+
+    /// The actor that the parameters start, if they are such as its row has them.
+    pub fn start(alloc: Global, params: &Params) -> Result<Option<Ramp>, AllocError>
+        ensures { IfOk result (λ actor. actor ≡ ramp.start params.now) }
+    {
+        let triggers = params.ports.channels("trigger") as usize;
+        match (
+            params.values.int_or("init", 0),
+            params.values.int_or("step", 1),
+            params.values.limit(),
+        ) {
+            (Some(init), Some(step), Some(limit)) => {
+                Ok(Some(Ramp::new(alloc, init, step, limit, triggers)?))
+            }
+            _ => Ok(None),
+        }
     }
 }
 

@@ -1,7 +1,11 @@
 ghost use Rattle.std.specs.Prelude.{◌≡◌, IfOk};
+ghost use Rattle.pt_lib_flow.specs.Scale as scale;
 
 use crate::number::number_at;
-use pt_firing::{Actor, Fires, Inputs, Need, OneEach, Outputs, Partial, RunFault, Step, strict_early};
+use crate::params::Params;
+use pt_firing::{
+    Actor, Fires, Inputs, Need, OneEach, Outputs, Partial, RunFault, Step, strict_early,
+};
 use pt_time::Tag;
 use pt_value::Token;
 use std::alloc::{AllocError, Global};
@@ -21,6 +25,16 @@ impl Scale {
             factor,
             places: OneEach::of(alloc, 1)?,
         })
+    }
+
+    /// The actor that the parameters start, if they are such as its row has them.
+    pub fn start(alloc: Global, params: &Params) -> Result<Option<Scale>, AllocError>
+        ensures { IfOk result (λ actor. actor ≡ scale.start params.now) }
+    {
+        match params.values.int_or("factor", 1) {
+            Some(factor) => Ok(Some(Scale::new(alloc, factor)?)),
+            None => Ok(None),
+        }
     }
 }
 

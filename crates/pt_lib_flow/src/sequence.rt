@@ -1,7 +1,9 @@
 ghost use Rattle.std.specs.Prelude.{◌≡◌, ◌<◌, IfOk, length};
 ghost use Rattle.pt_lib_flow.specs.Sequence.{moved};
+ghost use Rattle.pt_lib_flow.specs.Sequence as sequence;
 
 use crate::limit::is_called;
+use crate::params::Params;
 use pt_firing::{Actor, Fires, Inputs, Need, OneEach, Outputs, Partial, Step, strict_early};
 use pt_time::Tag;
 use pt_value::{Items, Token};
@@ -18,7 +20,12 @@ pub struct Sequence {
 
 impl Sequence {
     /// A source with so many trigger places: none, or one.
-    pub fn new(alloc: Global, values: Items, cyclic: bool, triggers: u32) -> Result<Sequence, AllocError>
+    pub fn new(
+        alloc: Global,
+        values: Items,
+        cyclic: bool,
+        triggers: u32,
+    ) -> Result<Sequence, AllocError>
         ensures { IfOk result (λ actor. actor ≡ record { values = values; cyclic = cyclic; index = 0; places = triggers }) }
     {
         Ok(Sequence {
@@ -27,6 +34,22 @@ impl Sequence {
             index: 0,
             places: OneEach::of(alloc, triggers as usize)?,
         })
+    }
+
+    /// The actor that the parameters start, if they are such as its row has them.
+    pub fn start(alloc: Global, params: &Params) -> Result<Option<Sequence>, AllocError>
+        ensures { IfOk result (λ actor. actor ≡ sequence.start params.now) }
+    {
+        let triggers = params.ports.channels("trigger");
+        match (
+            params.values.get("values"),
+            params.values.bool_or("repeat", false),
+        ) {
+            (Some(Token::Array(values)), Some(cyclic)) if !values.is_empty() => {
+                Ok(Some(Sequence::new(alloc, values.copy(alloc)?, cyclic, triggers)?))
+            }
+            _ => Ok(None),
+        }
     }
 
     /// The index behind one of the values.
