@@ -1,5 +1,5 @@
 -- The best of some numbers, one number after another.
-use Rattle.std.proofs.Common.{◌≡◌, List, ◌∷◌, Option, Some, None, ℤ, refl}
+use Rattle.std.proofs.Common.{◌≡◌, List, Option, Some, None, ℤ, refl}
 use Rattle.pt_lib_flow.specs.declared.extreme.Side.{Side}
 use Rattle.pt_lib_flow.specs.Row.{with_number}
 use Rattle.pt_lib_flow.specs.Extreme.{better, best_of}

@@ -1,5 +1,5 @@
 -- The numbers of places, one place after another.
-use Rattle.std.proofs.Common.{◌≡◌, ℕ, zero, suc, ◌<◌, ◌≤◌, ◌+◌, List, [], ◌∷◌, ◌++◌, length, take, drop, Bool, true, false, ◌&&◌, Option, Some, None, min, if◌then◌else◌, ◌-ℤ◌, refl, sym, ap, ◌∙◌, add-one, arith, ℤ, pos, ◌+ℤ◌}
+use Rattle.std.proofs.Common.{◌≡◌, ℕ, zero, suc, ◌<◌, ◌≤◌, ◌+◌, List, [], ◌∷◌, ◌++◌, length, take, drop, Bool, ◌&&◌, Option, Some, None, min, if◌then◌else◌, ◌-ℤ◌, refl, sym, ap, ◌∙◌, add-one, arith, ℤ, pos, ◌+ℤ◌}
 use Rattle.std.proofs.lemmas.List.{drop-append-le, length-take, take_min, drop_min, take_all}
 use Rattle.std.proofs.lemmas.Int.{ints}
 use Rattle.pt_meaning.specs.Basics.{Streams, at}

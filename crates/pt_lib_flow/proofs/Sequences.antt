@@ -1,7 +1,6 @@
 -- A sequence that gives a value.
-use Rattle.std.proofs.Common.{◌≡◌, ℕ, List, [], ◌∷◌, Bool, true, Option, Some, length, refl, sym, ap, ◌∙◌, subst, slice_get, if◌then◌else◌}
+use Rattle.std.proofs.Common.{◌≡◌, ℕ, [], ◌∷◌, true, Some, length, sym, ap, ◌∙◌, subst, slice_get, if◌then◌else◌}
 use Rattle.pt_meaning.specs.Basics.{Streams, Tag}
-use Rattle.pt_value.specs.Value.{Value}
 use Rattle.pt_value.specs.Token.{token_of, value_of, token_of-value_of}
 use Rattle.pt_value.specs.declared.token.Token.{Token}
 use Rattle.pt_firing.specs.Step.{Makes}

@@ -1,5 +1,5 @@
 -- AbsoluteValue: the distance of its input from 0.
-use Rattle.std.specs.Prelude.{ℤ, pos, nat_abs, Option, Some}
+use Rattle.std.specs.Prelude.{pos, nat_abs, Option, Some}
 use Rattle.pt_meaning.specs.Basics.{Tag, Streams}
 use Rattle.pt_meaning.specs.Machine.{Need}
 use Rattle.pt_meaning.specs.Node.{Answer}

@@ -1,5 +1,5 @@
 -- Sources: they give at every firing, or with a trigger where a token is present there, and so often as their limit says.
-use Rattle.std.specs.Prelude.{ℕ, zero, suc, ◌-◌, List, [], ◌∷◌, Bool, true, false, if◌then◌else◌}
+use Rattle.std.specs.Prelude.{ℕ, zero, suc, ◌-◌, [], ◌∷◌, Bool, true, false, if◌then◌else◌}
 use Rattle.pt_meaning.specs.Basics.{Streams}
 use Rattle.pt_meaning.specs.Machine.{Need, Over}
 use Rattle.pt_meaning.specs.Node.{Answer}

@@ -1,6 +1,6 @@
 -- What the rows of the actors have in common. An actor has one output. Types are checked before a run, so a token of another type than a place has never comes there; a row takes it as none.
-use Rattle.std.specs.Prelude.{ℕ, ◌^◌, nat_lt, List, [], ◌∷◌, Bool, true, false, Option, Some, None, replicate, take, drop, ◌&&◌, ℤ, pos, negsuc, ◌+ℤ◌, ◌-ℤ◌, if◌then◌else◌}
-use Rattle.pt_meaning.specs.Basics.{Tag, Streams, at}
+use Rattle.std.specs.Prelude.{ℕ, ◌^◌, nat_lt, List, [], ◌∷◌, Bool, false, Option, Some, None, replicate, take, drop, ◌&&◌, ℤ, pos, negsuc, ◌+ℤ◌, ◌-ℤ◌, if◌then◌else◌}
+use Rattle.pt_meaning.specs.Basics.{Streams, at}
 use Rattle.pt_meaning.specs.Machine.{Need, Counts}
 use Rattle.pt_meaning.specs.Node.{Answer, Gives, Fails, is_none}
 use Rattle.pt_value.specs.declared.token.Token.{Token}

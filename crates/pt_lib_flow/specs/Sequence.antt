@@ -1,5 +1,5 @@
 -- Sequence: a source of some values in order, which then begins again or is over.
-use Rattle.std.specs.Prelude.{ℕ, ◌+◌, nat_le, length, ◌&&◌, Bool, Option, Some, None, slice_get, if◌then◌else◌, codes, false, List, [], ◌∷◌}
+use Rattle.std.specs.Prelude.{ℕ, ◌+◌, nat_le, length, ◌&&◌, Bool, Option, Some, None, slice_get, if◌then◌else◌, codes, false, ◌∷◌}
 use Rattle.pt_meaning.specs.Basics.{Tag, Streams}
 use Rattle.pt_meaning.specs.Machine.{Need, Over}
 use Rattle.pt_meaning.specs.Node.{Answer}

@@ -1,4 +1,4 @@
-use Rattle.std.proofs.Common.{◌≡◌, ◌≤◌, ◌<◌, length, ◌-◌, ◌+◌, ◌&&◌, true, pos, ◌+ℤ◌, [], sym, ap, ap₂, ◌∙◌, arith}
+use Rattle.std.proofs.Common.{◌≤◌, ◌<◌, length, ◌&&◌, ◌+ℤ◌, [], sym, ap, ap₂, ◌∙◌, arith}
 use Rattle.std.proofs.lemmas.Int.{ints}
 use Rattle.pt_meaning.specs.Node.{is_none}
 use Rattle.pt_lib_flow.specs.Row.{present, total, with_number}

@@ -1,4 +1,4 @@
-use Rattle.std.proofs.Common.{◌≡◌, ◌<◌, ◌+◌, drop, length, sym, ap, ap₂, ◌∙◌, arith}
+use Rattle.std.proofs.Common.{◌≡◌, ◌<◌, ◌+◌, drop, length, sym, ap, ◌∙◌, arith}
 use Rattle.pt_lib_flow.specs.Row.{present}
 use Rattle.pt_lib_flow.specs.Extreme.{best_of, better}
 use Rattle.pt_lib_flow.proofs.Places.{present-next, nothing-left}

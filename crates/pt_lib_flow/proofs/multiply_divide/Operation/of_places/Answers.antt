@@ -1,4 +1,4 @@
-use Rattle.std.proofs.Common.{◌≡◌, ◌<◌, ◌+◌, take, drop, length, sym, ap, ◌∙◌, arith}
+use Rattle.std.proofs.Common.{◌≡◌, ◌<◌, ◌+◌, take, drop, sym, ap, ◌∙◌, arith}
 use Rattle.pt_lib_flow.specs.Row.{present, number_at}
 use Rattle.pt_lib_flow.specs.MultiplyDivide.{after, after_all}
 use Rattle.pt_lib_flow.proofs.Places.{present-next-below, nothing-below}

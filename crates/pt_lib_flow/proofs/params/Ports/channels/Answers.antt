@@ -1,6 +1,5 @@
-use Rattle.std.proofs.Common.{◌≡◌, true, false, length, drop, sym, ap, ◌∙◌, rules, arith}
+use Rattle.std.proofs.Common.{◌≡◌, true, false, sym, ◌∙◌, rules, arith}
 use Rattle.std.specs.Prelude.{bytes_eq}
-use Rattle.pt_lib_flow.specs.Params.{channels_to}
 use Rattle.pt_lib_flow.proofs.Named.{channels-found, channels-later, no-channels}
 use Rattle.pt_lib_flow.proofs.params.Ports.channels.Goals as goal
 

@@ -1,6 +1,5 @@
-use Rattle.std.proofs.Common.{◌≡◌, true, false, length, drop, sym, ap, ◌∙◌, rules, arith}
+use Rattle.std.proofs.Common.{◌≡◌, true, false, sym, ◌∙◌, rules, arith}
 use Rattle.std.specs.Prelude.{bytes_eq}
-use Rattle.pt_lib_flow.specs.Params.{value_under}
 use Rattle.pt_lib_flow.proofs.Named.{value-found, value-later, nothing-under}
 use Rattle.pt_lib_flow.proofs.params.Values.get.Goals as goal
 
