@@ -1,6 +1,6 @@
 -- The example of a report is one.
-use Rattle.std.proofs.Common.{◌≡◌, ◌≤◌, ◌⊎◌, inl, inr, ℕ, zero, suc, List, [], ◌∷◌, ◌++◌, length, Some, None, Bool, true, false, nat_le, refl, sym, ap, subst, arith}
-use Rattle.pt_meaning.specs.Tag.{Tag, origin}
+use Rattle.std.proofs.Common.{◌≡◌, ◌≤◌, ◌⊎◌, inl, inr, ℕ, zero, suc, List, [], ◌∷◌, ◌++◌, length, Some, None, Bool, true, false, nat_le, refl, ap, subst, arith}
+use Rattle.pt_meaning.specs.Tag.{origin}
 use Rattle.pt_meaning.specs.Streams.{IsPrefix, get}
 use Rattle.pt_meaning.specs.Log.{Path, Firing, Event, Finished, Log, meetings_in, firings_in}
 use Rattle.pt_meaning.specs.Flow.{flow}
@@ -8,12 +8,11 @@ use Rattle.pt_meaning.specs.Rounds.{round}
 use Rattle.pt_meaning.specs.Kahn.{kahn}
 use Rattle.pt_meaning.specs.Step.{step_at, no_meetings}
 use Rattle.pt_meaning.specs.Job.{Course, Standing, Goes, Ended, Halted, Iterations, after, begin, meaning, log_of}
-use Rattle.pt_meaning.specs.Closed.{Has, UnderWay, CameWithin, rounds_of, core_at, these_if, source_of, actor_at, state_after, given, taken, IsCausedAt, MayKnow, Nothing, Absence, Gave, Early}
-use Rattle.pt_meaning.specs.Machine.{Partial, Known, partial_at}
+use Rattle.pt_meaning.specs.Closed.{Has, UnderWay, CameWithin, rounds_of, core_at, these_if, taken, HasBegun, IsCausedAt}
 use Rattle.pt_meaning.specs.Net.{Output}
 use Rattle.pt_meaning.specs.Tree.{Core, Sdf}
 use Rattle.pt_meaning.proofs.MeaningLaws.{meaning_grows}
-use Rattle.pt_examples.specs.Small.{Token, Act, int, ramp, rows}
+use Rattle.pt_examples.specs.Small.{Token, Act, int, rows}
 use Rattle.pt_examples.specs.Dataflow.{doubled}
 use Rattle.pt_examples.specs.Reports.{once, scale_alone, ReportExample, UnclosedExample}
 use Rattle.pt_examples.proofs.SmallLaws.{small_is_lawful}
@@ -129,7 +128,7 @@ caused_at (suc zero) zero n = inl (0, omega arith, inl refl, given_is_taken (nat
 caused_at (suc zero) (suc q) n = inl (0, omega arith, inl refl, none_taken (nat_le 0 n) (nat_le 1 n) _)
 caused_at (suc (suc i)) q n = inl (0, omega arith, inl refl, none_there (nat_le 1 n) _)
 
-has_cause : (p : Path) (c : Core Token) → core_at p doubled ≡ Some c → (i q n : ℕ) → n ≤ firings_in (all_told p) → IsCausedAt rows doubled all_told none_under_way p c i q n
+has_cause : (p : Path) (c : Core Token) → core_at p doubled ≡ Some c → (i q n : ℕ) → HasBegun all_told none_under_way p n → IsCausedAt rows doubled all_told none_under_way p c i q n
 has_cause [] c e i q n h = subst (λ d. IsCausedAt rows doubled all_told none_under_way [] d i q n) (cc) (caused_at i q n)
 has_cause (zero ∷ []) c e i q n h = absurd (cc)
 has_cause (suc zero ∷ []) c e i q n h = absurd (cc)
@@ -159,46 +158,11 @@ report_example = record {
   caused = ((5, is_meaning), (5, course, ends 5 (omega arith)), omega arith);
 }
 
--- nothing may be known of the Scale's place: the Ramp gave nothing in the log, and gives nothing early
-no_events : (before since later : List (Event Token)) → [] ≡ before ++ (since ++ later) → since ≡ []
-no_events [] [] later e = refl
-no_events [] (s ∷ since) later e = absurd (cc)
-no_events (b ∷ before) since later e = absurd (cc)
-
-strict_ramp : (tag : Tag) (state : Act) (vs : List (Partial Token)) (port : ℕ) (xs : List Token) → state ≡ ramp → partial_at (rows.early tag state vs) port ≡ Known xs → ⊥
-strict_ramp tag state vs port xs e f = let g : partial_at (rows.early tag ramp vs) port ≡ Known xs = subst (λ a. partial_at (rows.early tag a vs) port ≡ Known xs) e f in absurd (cc)
-
-given_none : (under_way : UnderWay Token) (n i q : ℕ) → i ≡ 1 → q ≡ 0 → given rows doubled scale_alone under_way [] (source_of start i q) n n ≡ []
-given_none u n i q a b = subst (λ c. given rows doubled scale_alone u [] (source_of start c q) n n ≡ []) (sym a) (subst (λ c. given rows doubled scale_alone u [] (source_of start 1 c) n n ≡ []) (sym b) refl)
-
-nothing_known : (under_way : UnderWay Token) (n : ℕ) (tag : Tag) (i q : ℕ) (v : Partial Token) → MayKnow rows doubled scale_alone under_way [] start n tag i q v → i ≡ 1 → q ≡ 0 → (xs : List Token) → v ≡ Known xs → xs ≡ []
-nothing_known u n tag _ _ _ (Nothing i q) a b xs e = absurd (cc)
-nothing_known u n tag _ _ _ (Absence i q) a b xs e = cc
-nothing_known u n tag _ _ _ (Gave i q) a b xs e = let g = given_none u n i q a b in cc
-nothing_known u n tag _ _ _ (Early i q j port first state before since later vs ys s t l r k f) a b xs e = absurd (strict_ramp tag state vs port ys is_ramp f)
-  where
-    at_one : source_of start 1 q ≡ Some (Output j port)
-    at_one = subst (λ c. source_of start c q ≡ Some (Output j port)) a s
-
-    from_ramp : Some (Output 0 0) ≡ Some (Output j port)
-    from_ramp = subst (λ c. source_of start 1 c ≡ Some (Output j port)) b at_one
-
-    child : j ≡ 0
-    child = let c = from_ramp in cc
-
-    first_is : first ≡ ramp
-    first_is = let c : actor_at (0 ∷ []) doubled ≡ Some first = subst (λ c. actor_at (c ∷ []) doubled ≡ Some first) child t in cc
-
-    none_since : since ≡ []
-    none_since = no_events before since later (subst (λ c. scale_alone (c ∷ []) ≡ before ++ (since ++ later)) child l)
-
-    is_ramp : state ≡ ramp
-    is_ramp = let c : Some first ≡ Some state = subst (λ es. state_after rows es first ≡ Some state) none_since r in let d = first_is in cc
-
+-- the Scale's token was given by no firing of the log, and in dataflow nothing is given early
 pub unclosed_example : UnclosedExample
-unclosed_example whole closed = go (closed.caused [] start refl 1 0 0 (omega arith))
+unclosed_example whole closed = let now = closed.begun [] 0 (1 ∷ []) (Finished (0 ∷ []) of_scale) (inl refl, refl) refl in go (closed.caused [] start refl 1 0 0 (inr (refl, now.0, now.1)))
   where
     go : IsCausedAt rows doubled scale_alone closed.under_way [] start 1 0 0 → ⊥
     go (inl (r, few, inl zero_is, below)) = subst (λ c. IsPrefix (taken rows doubled scale_alone closed.under_way [] 1 0 c 0) []) zero_is below
     go (inl (r, few, inr modal, below)) = absurd (cc)
-    go (inr (b, begun, xs, known, below)) = subst (λ ys. IsPrefix (taken rows doubled scale_alone closed.under_way [] 1 0 0 0) ys) (nothing_known closed.under_way 0 b.tag 1 0 (Known xs) known refl refl xs refl) below
+    go (inr (tick, b, begun, now, xs, known, below)) = absurd (cc)

@@ -5,3 +5,4 @@ pub mod RunFault
 pub mod PartialCode
 pub mod TriState
 pub mod Step
+pub mod Strict

@@ -23,3 +23,9 @@ Makes (Gives next streams) old step.Memory new = new ≡ old
 Makes (Fails code) old (step.Done outputs) new = ⊥
 Makes (Fails code) old (step.Fault kind) new = (code_of kind ≡ code) × (new ≡ old)
 Makes (Fails code) old step.Memory new = new ≡ old
+
+-- the step didn't want memory
+abbrev pub IsMade : Step → Type 0
+IsMade (step.Done outputs) = Unit {0}
+IsMade (step.Fault kind) = Unit {0}
+IsMade step.Memory = ⊥

@@ -1,5 +1,5 @@
 -- What is known of a place, as the meaning has it: nothing yet, or its tokens.
-use Rattle.std.specs.Prelude.{List, [], ◌∷◌, map}
+use Rattle.std.specs.Prelude.{List, [], ◌∷◌, map, Option, Some, None}
 use Rattle.pt_meaning.specs.Machine.{Partial, Unknown, Known}
 use Rattle.pt_value.specs.declared.token.Token.{Token}
 use Rattle.pt_value.specs.Token.{token_of}
@@ -16,3 +16,8 @@ partial_of (state.More items) = Known (map token_of items)
 abbrev pub tokens_known : {T : Type 0} → Partial T → List T
 tokens_known Unknown = []
 tokens_known (Known tokens) = tokens
+
+-- the tokens, where they are known
+abbrev pub if_known : {T : Type 0} → Partial T → Option (List T)
+if_known Unknown = None
+if_known (Known tokens) = Some tokens

@@ -1,26 +1,32 @@
 //! What a firing takes, gives and answers, and where one is stuck.
 #![tactic(auto)]
 
+mod actor;
 mod answer;
 mod ask;
 mod fault;
 mod gate;
 mod inputs;
 mod need;
+mod one_each;
 mod outputs;
 mod partial;
 mod step;
+mod strict;
 #[cfg(test)]
 mod tests;
 mod tokens;
 
+pub use actor::{Actor, Fires};
 pub use answer::{Answer, Blocked, Place, Rows};
 pub use ask::Ask;
 pub use fault::RunFault;
 pub use gate::{Gate, OpenGate};
 pub use inputs::Inputs;
 pub use need::{Counts, Need};
+pub use one_each::OneEach;
 pub use outputs::Outputs;
 pub use partial::{Partial, TriState};
 pub use step::{Step, StepFault};
+pub use strict::strict_early;
 pub use tokens::{IntoTokens, Tokens};

@@ -1,7 +1,9 @@
-ghost use Rattle.std.specs.Prelude.{◌≡◌, ◌<◌, ◌∷◌, [], ◌++◌, length, is_ok, IfOk, replicate, slice_set, slice_index_or, if◌then◌else◌};
+ghost use Rattle.std.specs.Prelude.{◌≡◌, ◌<◌, ◌∷◌, [], ◌++◌, length, is_ok, IfOk, option_map, replicate, slice_set, slice_index_or, if◌then◌else◌};
 ghost use Rattle.pt_meaning.specs.Machine as machine;
-ghost use Rattle.pt_firing.specs.TriState.{partial_of, tokens_known};
+ghost use Rattle.pt_meaning.specs.Valuation.{known};
+ghost use Rattle.pt_firing.specs.TriState.{partial_of, tokens_known, if_known};
 
+use crate::outputs::Outputs;
 use crate::tokens::{Held, Tokens};
 use pt_value::{Items, Token};
 use std::alloc::{AllocError, Global};
@@ -41,6 +43,18 @@ impl TriState {
             TriState::Unknown | TriState::Absent => Ok(Tokens::new()),
             TriState::Present(token) => Ok(Tokens::one(token.copy(alloc)?)),
             TriState::More(items) => Ok(Tokens::of(items.copy(alloc)?.into_vec())),
+        }
+    }
+
+    /// A copy of the tokens, where they are known.
+    pub fn known_tokens(&self, alloc: Global) -> Result<Option<Tokens>, AllocError>
+        ensures { IfOk result (λ found. found ≡ if_known (partial_of self.now)) }
+    {
+        match self {
+            TriState::Unknown => Ok(None),
+            TriState::Absent => Ok(Some(Tokens::new())),
+            TriState::Present(token) => Ok(Some(Tokens::one(token.copy(alloc)?))),
+            TriState::More(items) => Ok(Some(Tokens::of(items.copy(alloc)?.into_vec()))),
         }
     }
 
@@ -117,6 +131,33 @@ impl Partial {
         ensures { self.new ≡ slice_set self.old place (partial_of state) }
     {
         self.states[place] = state;
+    }
+
+    /// A copy of the tokens of each place, where all are known.
+    pub fn known(&self, alloc: Global) -> Result<Option<Vec<Tokens>>, AllocError>
+        ensures { IfOk result (λ lists. option_map (λ tokens. tokens.items) lists ≡ known self.now) }
+    {
+        let mut lists = Vec::with_capacity(alloc, self.states.len())?;
+        for state in &self.states {
+            let Some(tokens) = state.known_tokens(alloc)? else {
+                return Ok(None);
+            };
+            lists.push(tokens)?;
+        }
+        Ok(Some(lists))
+    }
+
+    /// What a firing gave.
+    pub fn told(alloc: Global, outputs: Outputs) -> Result<Partial, AllocError>
+        ensures { IfOk result (λ partial. partial ≡ map machine.Known outputs) }
+    {
+        let mut outputs = outputs;
+        let ports = outputs.ports();
+        let mut states = Vec::with_capacity(alloc, ports)?;
+        for port in 0..ports {
+            states.push(TriState::known(outputs.take(port)))?;
+        }
+        Ok(Partial { states })
     }
 
     pub fn copy(&self, alloc: Global) -> Result<Partial, AllocError>

@@ -1,12 +1,15 @@
 -- The iterations of a run, one after the other.
-use Rattle.std.proofs.Common.{◌≡◌, ℕ, zero, suc, ◌+◌, ◌-◌, ◌<◌, ◌≤◌, List, [], ◌∷◌, ◌++◌, Bool, true, false, length, get_or, refl, sym, ap, subst, ◌∙◌, arith, Option, Some, None, ℤ, pos, append-nil, nat_lt, nat_eq, not, ◌≢◌, set, length-set, replicate, ◌||◌}
+use Rattle.std.proofs.Common.{◌≡◌, ◌⊎◌, inl, inr, length-append, add-one, ℕ, zero, suc, ◌+◌, ◌-◌, ◌<◌, ◌≤◌, List, [], ◌∷◌, ◌++◌, Bool, true, false, length, get_or, refl, sym, ap, subst, ◌∙◌, arith, Option, Some, None, ℤ, pos, append-nil, nat_lt, nat_eq, not, ◌≢◌, set, length-set, replicate, ◌||◌}
+use Rattle.std.specs.List.{All}
 use Rattle.std.proofs.lemmas.Bool.Decides.{nat_tests}
 use Rattle.pt_value.specs.declared.token.Token.{Token}
 use Rattle.pt_value.specs.declared.token.Token.TheVariants.{Int}
 use Rattle.pt_meaning.specs.Basics as basics
 use Rattle.pt_meaning.specs.Basics.{Event, all_marked, if_same, Tag, Streams, Firing, Path, Log, LogBelow, IsPrefix, silent, own, log_then, log_below, within_firing, trace, meetings_in}
 use Rattle.pt_meaning.specs.Machine.{Fault, Stuck, recorded}
-use Rattle.pt_meaning.specs.LogsOfRuns.{log_at, TracesAdd}
+use Rattle.pt_meaning.specs.LogsOfRuns.{log_at, log_in, TracesAdd}
+use Rattle.pt_meaning.specs.Streams.{get}
+use Rattle.pt_meaning.specs.Closed.{Has, Begun, rounds_of, IsNext, IsClosedRun}
 use Rattle.pt_meaning.specs.Job.{End, Iterations, Fire, Schedule, Course, Standing, Goes, Ended, Halted, on_step, on_turn, goes_on, after, log_of, begin, meaning, IsPrefixOfMeaning, IsStuckPlace}
 use Rattle.pt_meaning.specs.Meetings.{Meets}
 use Rattle.pt_meaning.specs.Tag.{origin}
@@ -22,7 +25,10 @@ use Rattle.pt_flat.specs.Run.{AreTold, IsRun, AllDone, waits}
 use Rattle.pt_flat.proofs.Firings.{told_if, LeadsTo, leads-to, meetings-append, own-unmet}
 use Rattle.std.proofs.lemmas.List.{get_or-set_other}
 use Rattle.pt_meaning.specs.Running.{total}
-use Rattle.pt_flat.proofs.Iteration.{as_count, counts_from}
+use Rattle.pt_flat.proofs.Iteration.{as_count, counts_from, past_at, Supplied}
+use Rattle.pt_flat.proofs.Logged.{IsPast, own_record, past-at-start, past-then, past-whole}
+use Rattle.pt_flat.proofs.Meanings.{IsWithin, meaning-below, sdf-within, within-rounds}
+use Rattle.pt_flat.proofs.Closing.{has-left, has-either, has-prefix, round, closed-run}
 use Rattle.pt_flat.proofs.Whole.{model_at, nodes_at, depth_of, heights-are, some-depth, begins, AllFrom, iteration-done, iteration-sticks}
 
 -- ---- what firings at the top come to
@@ -102,6 +108,9 @@ module _ (feeds : List (List ℕ)) (starts : List Actor) (iterations : ℕ) wher
     pub matched : (i : ℕ) → i < length feeds → Matches (get_or nows i no_actor) (get_or feeds i [])
     pub long : length starts ≡ length feeds
     pub actors : length nows ≡ length feeds
+    pub past : List (List ℤ)
+    pub count : length past ≡ n
+    pub logged : IsPast feeds past [] [] log
 
   leaves-are : (starts : List Actor) → leaves starts ≡ nodes_at 0 starts starts
   leaves-are [] = refl
@@ -115,11 +124,10 @@ module _ (feeds : List (List ℕ)) (starts : List Actor) (iterations : ℕ) wher
     matched = fits;
     long = long;
     actors = long;
+    past = [];
+    count = refl;
+    logged = past-at-start feeds;
   }
-
-  -- the record of the model's own firing n
-  abbrev pub own_record : ℕ → Firing Token
-  own_record n = record { number = n; tag = origin; inputs = []; outputs = [] }
 
   abbrev pub log_of_iteration : ℕ → List (Log Token) → Log Token
   log_of_iteration n ls = log_then (within_firing n (log_below ls)) (own (own_record n))
@@ -202,6 +210,9 @@ module _ (feeds : List (List ℕ)) (starts : List Actor) (iterations : ℕ) wher
               matched = w.matched;
               long = a.long;
               actors = w.actors;
+              past = a.past ++ after_values ∷ [];
+              count = length-append a.past (after_values ∷ []) ∙ ap (λ k. k + 1) a.count ∙ add-one n;
+              logged = past-whole feeds a.past n h.0 after_values log (within_firing n (log_below ls)) a.count h.3 (past-then feeds a.past n h.0 after_values log ls a.count a.logged w.logged);
             },
             w.numbers,
             λ i k. (traces-add {T = Token} {S = ℕ}).after log (log_of_iteration n ls) (i ∷ []) 0 ∙ ap (λ v. trace log (i ∷ []) 0 ++ v) (iteration-told n ls i ∙ w.told i k ∙ ap (λ b. told_if b (get_or after_values i (pos 0))) (h.3 i k)),
@@ -229,13 +240,24 @@ module _ (feeds : List (List ℕ)) (starts : List Actor) (iterations : ℕ) wher
   prefix-append [] ys zs h = h
   prefix-append (x ∷ xs) ys zs h = (refl, prefix-append xs ys zs h)
 
-  pub run-done : (recorded : List ℕ) (traces : List (List ℤ)) (nows : List Actor) (log : Log Token) → After iterations nows log → AreTold log recorded traces → IsRun starts feeds iterations recorded traces AllDone
-  run-done recorded traces nows log a t =
+  -- the log of all iterations is closed
+  done-closed : (nows : List Actor) (log : Log Token) → After iterations nows log → ((i : ℕ) → All (λ s. s < length feeds) (get_or feeds i [])) → (k : ℕ) → IsClosedRun rows tree.no_meetings plan top (meaning k rows tree.no_meetings plan top) log
+  done-closed nows log a ranged k = closed-run starts feeds a.past [] [] (meaning k rows tree.no_meetings plan top) log None a.logged (λ i l e. absurd (cc)) ranged plan (λ i l e. absurd (cc)) stands (λ b e. absurd (cc))
+    where
+      stands : (n : ℕ) → n < length a.past → (r : Path) (g : Event Token) → Has g (meaning k rows tree.no_meetings plan top r) → get (rounds_of g) 0 ≡ Some n → Has g (log r)
+      stands n l r g h e =
+          let later : ℕ = k + (length feeds + suc iterations) in
+          let all : meaning later rows tree.no_meetings plan top ≡ log = ap (λ s. log_of s) (all-made-later nows log a later (omega arith)) in
+          subst (λ (m : Log Token). Has g (m r)) all (has-prefix g (meaning k rows tree.no_meetings plan top r) (meaning later rows tree.no_meetings plan top r) (meaning-below tree.no_meetings plan top k later (omega arith) r) h)
+
+  pub run-done : (recorded : List ℕ) (traces : List (List ℤ)) (nows : List Actor) (log : Log Token) → After iterations nows log → ((i : ℕ) → All (λ s. s < length feeds) (get_or feeds i [])) → AreTold log recorded traces → IsRun starts feeds iterations recorded traces AllDone
+  run-done recorded traces nows log a ranged t =
       let k : ℕ = length feeds + suc iterations in
       let ends : (k : ℕ) → length feeds + suc iterations ≤ k → log ≡ meaning k rows tree.no_meetings plan top = λ k l. ap (λ s. log_of s) (sym (all-made-later nows log a k l)) in
       record {
         log = log;
         prefix = (k, λ p. subst (λ l. IsPrefix (log p) (l p)) (ends k (omega arith)) (prefix-refl (log p)));
+        closed = done-closed nows log a ranged;
         unmet = a.unmet;
         told = t;
         ends = ((k, λ k l p. ap (λ m. m p) (ends k l)), (k, course_at iterations nows log, all-made-later nows log a k (omega arith)));
@@ -246,7 +268,7 @@ module _ (feeds : List (List ℕ)) (starts : List Actor) (iterations : ℕ) wher
   abbrev pub StopsAt : (n : ℕ) → Log Token → Turned → Type 0
   StopsAt n log (Finished nows values) = Unit {0}
   StopsAt n log (Stopped i rest nows values) =
-      (more : Log Token) × IsPrefixOfMeaning rows tree.no_meetings plan top (log_then log more) × ((p : Path) (c : ℕ) → meetings_in c (log_then log more p) ≡ []) ×
+      (more : Log Token) × IsPrefixOfMeaning rows tree.no_meetings plan top (log_then log more) × ((k : ℕ) → IsClosedRun rows tree.no_meetings plan top (meaning k rows tree.no_meetings plan top) (log_then log more)) × ((p : Path) (c : ℕ) → meetings_in c (log_then log more p) ≡ []) ×
       IsStuckPlace rows tree.no_meetings plan top (record { path = i ∷ []; firing = n; code = 31 }) × (i < length feeds) × (length values ≡ length feeds) ×
       ((d : ℕ) → d < length feeds → trace (log_then log more) (d ∷ []) 0 ≡ trace log (d ∷ []) 0 ++ told_unless (waits (i ∷ rest) d) (get_or values d (pos 0)))
 
@@ -277,8 +299,53 @@ module _ (feeds : List (List ℕ)) (starts : List Actor) (iterations : ℕ) wher
       after-more k rows tree.no_meetings plan n (begin top) (course_at n nows log) (a.stands k q) ∙ turn-is k n nows log l a.long a.actors ∙
       ap (λ x. on_step (course_at n nows log) origin (recorded n origin [] x)) e
 
-  pub stops-at : (n : ℕ) (nows : List Actor) (log : Log Token) (values : List ℤ) (order : List ℕ) → After n nows log → n < iterations → length values ≡ length feeds → Orders feeds (replicate (length feeds) false) order → StopsAt n log (turned feeds order nows values)
-  stops-at n nows log values order a l wide o =
+  -- the run at a greater fuel, where an actor overflows in iteration n
+  abbrev pub HaltsIn : ℕ → List Actor → Log Token → Type 0
+  HaltsIn n nows log = (k : ℕ) → length feeds + suc n ≤ k → (gs : List Fault) × (l : Log Token) × (step_at rows k (suc (depth_of feeds)) tree.no_meetings origin (model_at feeds n starts nows) [] ≡ Stuck gs l)
+
+  halts-at : (n : ℕ) (nows : List Actor) (log : Log Token) → After n nows log → n < iterations → (k : ℕ) → length feeds + suc n ≤ k → (gs : List Fault) (l : Log Token) → step_at rows k (suc (depth_of feeds)) tree.no_meetings origin (model_at feeds n starts nows) [] ≡ Stuck gs l →
+      after k rows tree.no_meetings plan k (begin top) ≡ Halted gs (log_then log l)
+  halts-at n nows log a o k q gs l e =
+      let halted : after k rows tree.no_meetings plan (suc n) (begin top) ≡ Halted gs (log_then log l) = halts n nows log a o k (omega arith) gs l e in
+      let count : suc n + (k - suc n) ≡ k = omega arith in
+      let P : ℕ → Type 0 = λ c. after k rows tree.no_meetings plan c (begin top) ≡ Halted gs (log_then log l) in
+      subst P count (after-halted k rows tree.no_meetings plan (suc n) (k - suc n) (begin top) gs (log_then log l) halted)
+
+  -- the log up to there is closed
+  stop-closed : (n : ℕ) (nows : List Actor) (log : Log Token) (a : After n nows log) → n < iterations → ((i : ℕ) → All (λ s. s < length feeds) (get_or feeds i [])) → HaltsIn n nows log → (fired : List Bool) (values : List ℤ) (more : Log Token) → Supplied fired fired 0 feeds → IsPast feeds a.past fired values (log_then log more) →
+      (k : ℕ) → IsClosedRun rows tree.no_meetings plan top (meaning k rows tree.no_meetings plan top) (log_then log more)
+  stop-closed n nows log a o ranged halt fired values more supplied h k =
+      closed-run starts feeds a.past fired values (meaning k rows tree.no_meetings plan top) (log_then log more) (Some round) h (λ i l e. supplied i l (let at : 0 + i ≡ i = omega arith in ap (λ x. flag fired x) at ∙ e)) ranged plan (λ i l e. refl) stands next
+    where
+      next : (b : Begun Token) → Some round ≡ Some b → IsNext rows tree.no_meetings plan top (length a.past) b
+      next b e =
+          let fuel : ℕ = suc (length feeds) in
+          let same : round ≡ b = cc in
+          subst (λ (x : Begun Token). IsNext rows tree.no_meetings plan top (length a.past) x) same
+          (subst (λ c. IsNext rows tree.no_meetings plan top c round) (sym a.count) (fuel, course_at n nows log, a.stands fuel (omega arith), fires-next n o (last_tag n) (model_at feeds n starts nows)))
+
+      stands : (j : ℕ) → j < length a.past → (r : Path) (g : Event Token) → Has g (meaning k rows tree.no_meetings plan top r) → get (rounds_of g) 0 ≡ Some j → Has g (log_then log more r)
+      stands j l r g x e =
+          let later : ℕ = k + (length feeds + suc n) in
+          let stuck = halt later (omega arith) in
+          let all : meaning later rows tree.no_meetings plan top ≡ log_then log stuck.1 = ap (λ s. log_of s) (halts-at n nows log a o later (omega arith) stuck.0 stuck.1 stuck.2) in
+          let there = subst (λ (m : Log Token). Has g (m r)) all (has-prefix g (meaning k rows tree.no_meetings plan top r) (meaning later rows tree.no_meetings plan top r) (meaning-below tree.no_meetings plan top k later (omega arith) r) x) in
+          by_part (has-either g (log r) (stuck.1 r) there)
+        where
+          by_part : Has g (log r) ⊎ Has g ((halt (k + (length feeds + suc n)) (omega arith)).1 r) → Has g (log r ++ more r)
+          by_part (inl y) = has-left g (log r) (more r) y
+          by_part (inr y) =
+              let later : ℕ = k + (length feeds + suc n) in
+              let stuck = halt later (omega arith) in
+              let core = tree.Sdf (plan_of feeds) (empty_for (sources_of feeds)) in
+              let within : IsWithin n stuck.1 = subst (λ s. IsWithin n (log_in s)) stuck.2 (sdf-within rows later (depth_of feeds) tree.no_meetings origin (past_at n) core (plan_of feeds) (empty_for (sources_of feeds)) (tree.nodes_of (nodes_at n starts nows)) []) in
+              let rounds = within-rounds n stuck.1 within r g y in
+              let same : Some n ≡ Some j = sym (ap (λ v. get v 0) rounds.1) ∙ e in
+              let is : n ≡ j = cc in
+              absurd (omega (arith, a.count))
+
+  pub stops-at : (n : ℕ) (nows : List Actor) (log : Log Token) (values : List ℤ) (order : List ℕ) → After n nows log → n < iterations → length values ≡ length feeds → ((i : ℕ) → All (λ s. s < length feeds) (get_or feeds i [])) → Orders feeds (replicate (length feeds) false) order → StopsAt n log (turned feeds order nows values)
+  stops-at n nows log values order a l wide ranged o =
       by_turns (turned feeds order nows values) (leads-to feeds starts nows n (depth_of feeds) tree.no_meetings a.long (λ p. some-depth feeds 0 p) order _ values nows _ (begins feeds starts nows n tree.no_meetings a.long a.actors values wide a.matched) o)
     where
       by_turns : (t : Turned) → LeadsTo feeds starts nows n (depth_of feeds) tree.no_meetings t → StopsAt n log t
@@ -289,14 +356,13 @@ module _ (feeds : List (List ℕ)) (starts : List Actor) (iterations : ℕ) wher
           let w = h.2 in
           let more : Log Token = within_firing n (log_below ls) in
           let k : ℕ = length feeds + suc n in
-          let few : total (counts_from fired 0 feeds) < k = omega (arith, counts-few fired 0 feeds) in
-          let stuck = iteration-sticks feeds starts nows n tree.no_meetings a.long a.actors fired after_values after_actors ls w i h.3.0 h.3.1 h.3.2 h.4 k few in
-          let halted : after k rows tree.no_meetings plan (suc n) (begin top) ≡ Halted stuck.0 (log_then log stuck.1) = halts n nows log a l k (omega arith) stuck.0 stuck.1 stuck.2 in
-          let count : suc n + (k - suc n) ≡ k = omega arith in
-          let P : ℕ → Type 0 = λ c. after k rows tree.no_meetings plan c (begin top) ≡ Halted stuck.0 (log_then log stuck.1) in
-          let stands : after k rows tree.no_meetings plan k (begin top) ≡ Halted stuck.0 (log_then log stuck.1) = subst P count (after-halted k rows tree.no_meetings plan (suc n) (k - suc n) (begin top) stuck.0 (log_then log stuck.1) halted) in (
+          let stuck_at = λ (k : ℕ) (q : length feeds + suc n ≤ k). iteration-sticks feeds starts nows n tree.no_meetings a.long a.actors fired after_values after_actors ls w i h.3.0 h.3.1 h.3.2 h.4 k (omega (arith, counts-few fired 0 feeds)) in
+          let stuck = stuck_at k (omega arith) in
+          let stands : after k rows tree.no_meetings plan k (begin top) ≡ Halted stuck.0 (log_then log stuck.1) = halts-at n nows log a l k (omega arith) stuck.0 stuck.1 stuck.2 in
+          let halt : HaltsIn n nows log = λ k q. let s = stuck_at k q in (s.0, s.1, s.2) in (
             more,
             (k, λ p. subst (λ m. IsPrefix (log_then log more p) (m p)) (ap (λ s. log_of s) (sym stands)) (prefix-append (log p) (more p) (stuck.1 p) (stuck.4 p))),
+            stop-closed n nows log a l ranged halt fired after_values more w.supplied (past-then feeds a.past n fired after_values log ls a.count a.logged w.logged),
             λ p c. meetings-append c (log p) (more p) (a.unmet p c) (within-unmet c n ls (λ i p. w.unmet i p c) p),
             (k, stuck.0, log_then log stuck.1, stands, stuck.3),
             h.3.0,

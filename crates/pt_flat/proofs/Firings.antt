@@ -22,6 +22,7 @@ use Rattle.pt_flat.specs.Actors.{no_actor, rows, react, need, Matches, given, an
 use Rattle.pt_flat.specs.declared.actor.AddSubtract.{AddSubtract}
 use Rattle.pt_flat.specs.Model.{sources_of, flag, all_flags, plan_of, empty_for, Orders}
 use Rattle.pt_flat.specs.Turns.{first_number, numbers_of, actor_firing, firing_at, Turned, Finished, Stopped, turned, on_firing}
+use Rattle.pt_flat.proofs.Logged.{HaveLogged, firing_of, log_if}
 use Rattle.pt_flat.proofs.Iteration.{held_from, inputs_of, nothing_of, counts_from, one_each, takes-one, past_at, kid, kids_from, and-first, and-second, Supplied, held-plus, limits_of, FiresOn, fires-from}
 
 ones-each : (f : List ℕ) → replicate (length f) 1 ≡ one_each f
@@ -150,6 +151,7 @@ module _ (feeds : List (List ℕ)) (starts begun : List Actor) (j dep : ℕ) (m 
     pub matched : (i : ℕ) → i < length feeds → Matches (get_or nows i no_actor) (get_or feeds i [])
     pub told : (i : ℕ) → i < length feeds → trace (log_at ls i) [] 0 ≡ told_if (flag fired i) (get_or values i (pos 0))
     pub unmet : (i : ℕ) (p : Path) (n : ℕ) → meetings_in n (log_at ls i p) ≡ []
+    pub logged : HaveLogged feeds j fired values ls
 
   -- flags that become more
   all-more : (fired : List Bool) (t : ℕ) (f : List ℕ) → flag fired t ≡ false → all_flags fired f ≡ true → all_flags (set fired t true) f ≡ true
@@ -221,6 +223,34 @@ module _ (feeds : List (List ℕ)) (starts begun : List Actor) (j dep : ℕ) (m 
       (logs_then t (log_then silent (own (record_of values t n))) ls) in
       subst P (held-plus fired values t n here there u 0 feeds (supplied-more fired t here u ready w.supplied)) run
 
+  -- the number of an actor that has not fired stands at none of the places of one whose feeds have
+  inputs-kept : (fired : List Bool) (values : List ℤ) (t : ℕ) (n : ℤ) (f : List ℕ) → flag fired t ≡ false → all_flags fired f ≡ true → inputs_of (set values t n) f ≡ inputs_of values f
+  inputs-kept fired values t n [] u h = refl
+  inputs-kept fired values t n (s ∷ f) u h =
+      let sent : flag fired s ≡ true = and-first (flag fired s) (all_flags fired f) h in
+      let ne : s ≢ t = λ e. absurd (let x : flag fired t ≡ true = ap (λ i. flag fired i) (sym e) ∙ sent in cc) in
+      ap₂ (λ v X. (Int v ∷ []) ∷ X) (get_or-set_other values t s n (pos 0) ne) (inputs-kept fired values t n f u (and-second (flag fired s) (all_flags fired f) h))
+
+  -- what each has logged after actor t has fired
+  logged-more : (fired : List Bool) (values : List ℤ) (ls : List (Log Token)) (t : ℕ) (n : ℤ) → t < length feeds → t < length fired → t < length values → flag fired t ≡ false → all_flags fired (get_or feeds t []) ≡ true → Supplied fired fired 0 feeds → HaveLogged feeds j fired values ls →
+      HaveLogged feeds j (set fired t true) (set values t n) (logs_then t (log_then silent (own (record_of values t n))) ls)
+  logged-more fired values ls t n l here there u ready s h = record {
+    count = length-then t (log_then silent (own (record_of values t n))) ls ∙ h.count;
+    each = at_each (λ i. i < length feeds → (p : Path) → log_at (logs_then t more ls) i p ≡ log_if (flag (set fired t true) i) (own (firing_of (get_or feeds i []) i j (set values t n))) p) t
+        (λ k p. ap (λ x. x p) (log-same t more ls (omega (arith, h.count))) ∙ ap (λ es. es ++ own (record_of values t n) p) (h.each t k p ∙ ap (λ b. log_if b (own (firing_of (get_or feeds t []) t j values)) p) u) ∙
+        ap₂ (λ X v. own (record { number = j; tag = origin; inputs = X; outputs = given v }) p) (sym (inputs-kept fired values t n (get_or feeds t []) u ready)) (sym (get_or-set_same values t n (pos 0) there)) ∙
+        ap (λ b. log_if b (own (firing_of (get_or feeds t []) t j (set values t n))) p) (sym (get_or-set_same fired t true false here)))
+        (λ i ne k p. ap (λ x. x p) (log-other t i more ls ne) ∙ h.each i k p ∙ other i ne (flag fired i) p (λ e. s i k (let at : 0 + i ≡ i = omega arith in ap (λ x. flag fired x) at ∙ e)) ∙
+        ap (λ b. log_if b (own (firing_of (get_or feeds i []) i j (set values t n))) p) (sym (get_or-set_other fired t i true false ne)));
+  }
+    where
+      more : Log Token
+      more = log_then silent (own (record_of values t n))
+
+      other : (i : ℕ) → i ≢ t → (b : Bool) (p : Path) → (b ≡ true → all_flags fired (get_or feeds i []) ≡ true) → log_if b (own (firing_of (get_or feeds i []) i j values)) p ≡ log_if b (own (firing_of (get_or feeds i []) i j (set values t n))) p
+      other i ne false p g = refl
+      other i ne true p g = ap₂ (λ X v. own (record { number = j; tag = origin; inputs = X; outputs = given v }) p) (sym (inputs-kept fired values t n (get_or feeds i []) u (g refl))) (sym (get_or-set_other values t i n (pos 0) ne))
+
   -- actor t fires
   pub goes-on : (fired : List Bool) (values : List ℤ) (nows : List Actor) (ls : List (Log Token)) (w : Underway fired values nows ls) (t : ℕ) → t < length feeds → flag fired t ≡ false → all_flags fired (get_or feeds t []) ≡ true →
       length starts ≡ length feeds → dep ≡ 1 → (after : Actor) (n : ℤ) → firing_at feeds nows values t ≡ row.Gave after n →
@@ -248,6 +278,7 @@ module _ (feeds : List (List ℕ)) (starts begun : List Actor) (j dep : ℕ) (m 
         unmet = at_each (λ i. (p : Path) (c : ℕ) → meetings_in c (log_at (logs_then t more ls) i p) ≡ []) t
             (λ p c. ap (λ x. meetings_in c (x p)) (log-same t more ls in_logs) ∙ meetings-append c (log_at ls t p) (more p) (w.unmet t p c) (own-unmet c (record_of values t n) p))
             (λ i ne p c. ap (λ x. meetings_in c (x p)) (log-other t i more ls ne) ∙ w.unmet i p c);
+        logged = logged-more fired values ls t n l here there u ready w.supplied w.logged;
       }
 
   -- where an order of firings leads

@@ -1,6 +1,9 @@
 pub mod Iteration
+pub mod Logged
 pub mod Firings
 pub mod Whole
+pub mod Meanings
+pub mod Closing
 pub mod Course
 pub mod Orders
 pub mod Waiting

@@ -132,14 +132,15 @@ module _ (actors : List Actor) (feeds : List (List ℕ)) (order : List ℕ) (ite
   pub run-stops : (n i p : ℕ) (nows later : List Actor) (values after : List ℤ) (recorded : List ℕ) (waiting : List Bool) (old new : List (List ℤ)) → n < iterations → All (λ r. r < length feeds) recorded → Kept actors feeds iterations n nows values recorded old → p < length order → i ≡ get_or order p 0 →
       turned feeds order nows values ≡ Stopped (get_or order p 0) (drop (p + 1) order) later after → AreWaiting (length feeds) (drop p order) waiting → FiredPushed recorded waiting after old new → IsRun actors feeds iterations recorded new (Overflow i n)
   run-stops n i p nows later values after recorded waiting old new l there k q same e w f =
-      let c : StopsAt feeds actors iterations n k.log (Stopped (get_or order p 0) (drop (p + 1) order) later after) = subst (λ t. StopsAt feeds actors iterations n k.log t) e (stops-at feeds actors iterations n nows k.log values order k.made l k.wide lawful.ordered) in
+      let c : StopsAt feeds actors iterations n k.log (Stopped (get_or order p 0) (drop (p + 1) order) later after) = subst (λ t. StopsAt feeds actors iterations n k.log t) e (stops-at feeds actors iterations n nows k.log values order k.made l k.wide (in-range actors feeds order lawful).fed lawful.ordered) in
       record {
         log = log_then k.log c.0;
         prefix = c.1;
-        unmet = c.2;
-        told = told-stop feeds k.log c.0 recorded (get_or order p 0 ∷ drop (p + 1) order) waiting after old new there k.told f (λ d. w.each d ∙ ap (λ x. waits x d) (rest-is order p q)) c.6;
-        ends = subst (λ a. IsStuckPlace rows tree.no_meetings (sdf_top iterations [] []) (start_of actors feeds) (record { path = a ∷ []; firing = n; code = 31 })) (sym same) c.3;
+        closed = c.2;
+        unmet = c.3;
+        told = told-stop feeds k.log c.0 recorded (get_or order p 0 ∷ drop (p + 1) order) waiting after old new there k.told f (λ d. w.each d ∙ ap (λ x. waits x d) (rest-is order p q)) c.7;
+        ends = subst (λ a. IsStuckPlace rows tree.no_meetings (sdf_top iterations [] []) (start_of actors feeds) (record { path = a ∷ []; firing = n; code = 31 })) (sym same) c.4;
       }
 
   pub run-ends : (nows : List Actor) (values : List ℤ) (recorded : List ℕ) (traces : List (List ℤ)) → Kept actors feeds iterations iterations nows values recorded traces → IsRun actors feeds iterations recorded traces AllDone
-  run-ends nows values recorded traces k = run-done feeds actors iterations recorded traces nows k.log k.made k.told
+  run-ends nows values recorded traces k = run-done feeds actors iterations recorded traces nows k.log k.made (in-range actors feeds order lawful).fed k.told

@@ -3,7 +3,7 @@ use Rattle.std.proofs.Common.{◌≡◌, ℕ, zero, suc, ◌+◌, ◌<◌, ◌�
 use Rattle.std.proofs.Math.Path.{fun_ext}
 use Rattle.std.proofs.lemmas.List.{length-replicate, take_all}
 use Rattle.pt_value.specs.declared.token.Token.{Token}
-use Rattle.pt_meaning.specs.Basics.{Streams, Log, silent, log_below, within_firing, trace, meetings_in}
+use Rattle.pt_meaning.specs.Basics.{Streams, Log, silent, own, log_below, within_firing, trace, meetings_in}
 use Rattle.pt_meaning.specs.Machine.{Outcome, Done}
 use Rattle.pt_meaning.specs.Rounds.{Source, Own, Output, Limit}
 use Rattle.pt_meaning.specs.Dataflow.{arrived, iterations, all_allow, or_one, sdf_limits}
@@ -23,6 +23,7 @@ use Rattle.pt_flat.specs.Actors.{rows, no_actor, Matches}
 use Rattle.pt_flat.specs.Model.{sources_then, sources_of, places_of, ones, unit_rates, plan_of, empty_for, flag, all_flags}
 use Rattle.pt_flat.specs.Turns.{firing_at}
 use Rattle.pt_flat.proofs.Iteration.{way_token, held_then, held_from, as_count, counts_from, times_fired, past_at, kid, kids_from, limits_of, counts-as, kids-as, SticksOn, sticks-from}
+use Rattle.pt_flat.proofs.Logged.{firing_of, log_if}
 use Rattle.pt_flat.proofs.Firings.{Underway, told_if, kid_step, kid_facts, kid-takes, kid-sticks}
 
 -- ---- no flag is set
@@ -224,6 +225,10 @@ module _ (feeds : List (List ℕ)) (starts begun : List Actor) (j : ℕ) (m : Me
         matched = fits;
         told = λ i l. ap (λ x. trace x [] 0) (silent-at kids i) ∙ ap (λ b. told_if b (get_or values i (pos 0))) (sym (none i));
         unmet = λ i p n. ap (λ x. meetings_in n (x p)) (silent-at kids i);
+        logged = record {
+          count = silents-length kids ∙ kids-length j [] 0 starts begun (full ∙ sym long) ∙ long;
+          each = λ i l p. ap (λ x. x p) (silent-at kids i) ∙ ap (λ b. log_if b (own (firing_of (get_or feeds i []) i j values)) p) (sym (none i));
+        };
       }
 
   -- what is under way is a run of the definitions

@@ -3,7 +3,8 @@ use Rattle.std.specs.Prelude.{◌≡◌, ℕ, ◌<◌, ◌++◌, length, get_or,
 use Rattle.pt_value.specs.declared.token.Token.{Token}
 use Rattle.pt_value.specs.declared.token.Token.TheVariants.{Int}
 use Rattle.pt_meaning.specs.Basics.{Tag, Path, Log, trace, meetings_in}
-use Rattle.pt_meaning.specs.Job.{Iterations, IsPrefixOfMeaning, IsMeaning, EndsBy, IsStuckPlace}
+use Rattle.pt_meaning.specs.Job.{Iterations, IsPrefixOfMeaning, IsMeaning, EndsBy, IsStuckPlace, meaning}
+use Rattle.pt_meaning.specs.Closed.{IsClosedRun}
 use Rattle.pt_meaning.specs.Tag.{origin}
 use Rattle.pt_meaning.specs.Schedule.{sdf_top}
 use Rattle.pt_meaning.specs.Node as tree
@@ -33,10 +34,11 @@ abbrev pub EndsAs : List Actor → List (List ℕ) → (iterations : ℕ) → Lo
 EndsAs actors feeds iterations log AllDone = IsMeaning rows tree.no_meetings (sdf_top iterations [] []) (start_of actors feeds) log × EndsBy rows tree.no_meetings (sdf_top iterations [] []) (start_of actors feeds) Iterations
 EndsAs actors feeds iterations log (Overflow actor firing) = IsStuckPlace rows tree.no_meetings (sdf_top iterations [] []) (start_of actors feeds) (record { path = actor ∷ []; firing = firing; code = 31 })
 
--- One log, a beginning of the meaning's, has these traces, and the run ends as told. There are no meetings in it.
+-- One log, a beginning of the meaning's and closed as a part of it, has these traces, and the run ends as told. There are no meetings in it.
 pub record IsRun (actors : List Actor) (feeds : List (List ℕ)) (iterations : ℕ) (recorded : List ℕ) (traces : List (List ℤ)) (end : RunEnd) : Type 0 where
   pub log : Log Token
   pub prefix : IsPrefixOfMeaning rows tree.no_meetings (sdf_top iterations [] []) (start_of actors feeds) log
+  pub closed : (k : ℕ) → IsClosedRun rows tree.no_meetings (sdf_top iterations [] []) (start_of actors feeds) (meaning k rows tree.no_meetings (sdf_top iterations [] []) (start_of actors feeds)) log
   pub unmet : (p : Path) (n : ℕ) → meetings_in n (log p) ≡ []
   pub told : AreTold log recorded traces
   pub ends : EndsAs actors feeds iterations log end

@@ -1,18 +1,19 @@
 -- A stream function explained: the firings that it makes, what they take, and what they give.
-use Rattle.std.proofs.Common.{◌≡◌, ◌⊎◌, ℕ, zero, suc, ◌≤◌, List, [], ◌∷◌, ◌++◌, Bool, true, false, nat_le, length, take, drop, Option, Some, None, inl, inr, refl, sym, ap, subst, arith, ◌∙◌, append_assoc}
+use Rattle.std.proofs.Common.{◌≡◌, ℕ, zero, suc, List, [], ◌∷◌, ◌++◌, Bool, true, false, nat_le, length, take, drop, Option, Some, None, refl, sym, ap, subst, ◌∙◌, append_assoc}
 use Rattle.std.proofs.lemmas.List.{take-append-drop}
 use Rattle.std.proofs.Math.Path.{fun_ext}
-use Rattle.pt_meaning.specs.Basics.{Tag, Streams, at, Below, Log, silent, log_then, own}
+use Rattle.pt_meaning.specs.Basics.{Tag, Streams, at, Log, silent, log_then, own}
 use Rattle.pt_meaning.specs.Machine.{Need, Over, Counts, Any, Outcome, Done, Stuck, Stepping, Facts, Front, Lacks, Ends, Takes, front, counted, if_long}
 use Rattle.pt_meaning.specs.Flow.{Flow, flow, on_outcome, on_front}
 use Rattle.pt_meaning.specs.Rounds.{rated, rated_outcome, if_rated, has_rates}
-use Rattle.pt_meaning.specs.Causes.{Has, Begun}
+use Rattle.pt_meaning.specs.Closed.{Begun}
 use Rattle.pt_meaning.specs.LogsOfRuns.{log_in}
-use Rattle.pt_meaning.specs.Explained.{Turned, PartOf}
-use Rattle.pt_meaning.proofs.Order.{at-joined}
-use Rattle.pt_meaning.proofs.FlowLaws.{FrontBelow, front-below, IsFree}
+use Rattle.pt_meaning.specs.Streams.{IsPrefix}
+use Rattle.pt_meaning.specs.Closed.{inputs_at, outputs_at, begun_at}
+use Rattle.pt_meaning.specs.Explained.{Turned, PartOf, of_turns}
+use Rattle.pt_meaning.proofs.Order.{at-joined, IsPrefix-append}
+use Rattle.pt_meaning.proofs.FlowLaws.{IsFree}
 use Rattle.pt_meaning.proofs.LogLaws.{log-rated}
-use Rattle.pt_meaning.proofs.LevelLaws.{has-left, has-right, has-either}
 
 -- what is taken from streams is in them, and so is what is left
 module _ {T : Type 0} where
@@ -63,12 +64,12 @@ module _ {T S : Type 0} (facts : Facts T S) (step : Stepping T S) (tag : Tag) wh
   stuck_of (suc n) s X = stuck_front (stuck_of n) s (front (facts.need s) X)
 
 -- what holds of a stream function that starts in s on the streams X
-pub record FlowIs {T S : Type 0} (facts : Facts T S) (step : Stepping T S) (s : S) (X : Streams T) (f : Flow T S) (ts : List (Turned T)) (way : Option (Begun T)) : Type 0 where
+pub record FlowIs {T S : Type 0} (facts : Facts T S) (step : Stepping T S) (tag : Tag) (s : S) (X : Streams T) (f : Flow T S) (ts : List (Turned T)) (way : Option (Begun T)) : Type 0 where
   pub part_is : PartOf facts step s f.log ts way f.state
-  pub taken : (t : Turned T) → Has t ts → (q : ℕ) (x : T) → Has x (at t.record_of.inputs q) → Has x (at X q)
-  pub begun : (b : Begun T) → way ≡ Some b → (q : ℕ) (x : T) → Has x (at b.inputs q) → Has x (at X q)
-  pub left : (q : ℕ) (x : T) → Has x (at f.left q) → Has x (at X q)
-  pub given : (port : ℕ) (x : T) → Has x (at f.outputs port) → (t : Turned T) × Has t ts × Has x (at t.record_of.outputs port)
+  pub used : (q : ℕ) → at X q ≡ of_turns (inputs_at q) ts ++ at f.left q
+  pub begins : (q : ℕ) → IsPrefix (begun_at way q) (at f.left q)
+  pub gives : (port : ℕ) → at f.outputs port ≡ of_turns (outputs_at port) ts
+  pub tagged : (b : Begun T) → way ≡ Some b → b.tag ≡ tag
 
 log-quiet : {T : Type 0} (l : Log T) → l ≡ log_then silent l
 log-quiet l = refl
@@ -77,13 +78,13 @@ module _ {T S : Type 0} (facts : Facts T S) (step : Stepping T S) (r : Option (L
   abbrev rated_step : Stepping T S
   rated_step = rated facts r step
 
-  halted-is : (s : S) (X : Streams T) (f : Flow T S) → f.log ≡ silent → f.state ≡ s → f.left ≡ X → f.outputs ≡ [] → FlowIs facts step s X f [] None
+  halted-is : (s : S) (X : Streams T) (f : Flow T S) → f.log ≡ silent → f.state ≡ s → f.left ≡ X → f.outputs ≡ [] → FlowIs facts step tag s X f [] None
   halted-is s X f e z l o = record {
     part_is = record { first = silent; rest = silent; chain = (z, refl); ends = refl; whole = e };
-    taken = λ t g. absurd g;
-    begun = λ b g. absurd (clash b g);
-    left = λ q x g. subst (λ (Y : Streams T). Has x (at Y q)) l g;
-    given = λ port x g. absurd (subst (λ (Y : Streams T). Has x (at Y port)) o g);
+    used = λ q. sym (ap (λ (Y : Streams T). at Y q) l);
+    begins = λ q. tt;
+    gives = λ port. ap (λ (Y : Streams T). at Y port) o;
+    tagged = λ b g. absurd (clash b g);
   }
     where
       clash : (b : Begun T) → None ≡ Some b → ⊥
@@ -105,8 +106,8 @@ module _ {T S : Type 0} (facts : Facts T S) (step : Stepping T S) (r : Option (L
       go None e = e
       go (Some ns) e = outcome ns (facts.made s) (step tag s X) e
 
-  on-is : (n : ℕ) → ((s : S) (X : Streams T) → FlowIs facts step s X (flow facts rated_step tag n s X) (turns_of facts rated_step tag n s X) (stuck_of facts rated_step tag n s X)) → (s : S) (X got left : Streams T) → ((q : ℕ) → at X q ≡ at got q ++ at left q) → (o : Outcome T S) → rated_step tag s got ≡ o →
-      FlowIs facts step s X (on_outcome facts rated_step tag (flow facts rated_step tag n) s X got left o) (turns_on facts rated_step tag (turns_of facts rated_step tag n) s got left o) (stuck_on facts rated_step tag (stuck_of facts rated_step tag n) got left o)
+  on-is : (n : ℕ) → ((s : S) (X : Streams T) → FlowIs facts step tag s X (flow facts rated_step tag n s X) (turns_of facts rated_step tag n s X) (stuck_of facts rated_step tag n s X)) → (s : S) (X got left : Streams T) → ((q : ℕ) → at X q ≡ at got q ++ at left q) → (o : Outcome T S) → rated_step tag s got ≡ o →
+      FlowIs facts step tag s X (on_outcome facts rated_step tag (flow facts rated_step tag n) s X got left o) (turns_on facts rated_step tag (turns_of facts rated_step tag n) s got left o) (stuck_on facts rated_step tag (stuck_of facts rated_step tag n) got left o)
   on-is n ih s X got left used (Done z out l) e =
       let f = ih z left in
       let t : Turned T = record { record_of = record { number = facts.made s; tag = tag; inputs = got; outputs = out }; inside = l } in
@@ -118,63 +119,32 @@ module _ {T S : Type 0} (facts : Facts T S) (step : Stepping T S) (r : Option (L
           ends = f.part_is.ends;
           whole = ap (λ v. log_then (log_then l (own t.record_of)) v) f.part_is.whole ∙ fun_ext (λ p. sym (append_assoc (log_then l (own t.record_of) p) (f.part_is.first p) (f.part_is.rest p)));
         };
-        taken = taken t f.taken;
-        begun = λ b g q x h. in-left q x (f.begun b g q x h);
-        left = λ q x h. in-left q x (f.left q x h);
-        given = λ port x h. given t f.given port x (has-either x (at out port) (at (flow facts rated_step tag n z left).outputs port) (subst (λ v. Has x v) (at-joined out (flow facts rated_step tag n z left).outputs port) h));
+        used = λ q. used q ∙ ap (λ v. at got q ++ v) (f.used q) ∙ sym (append_assoc (at got q) (of_turns (inputs_at q) (turns_of facts rated_step tag n z left)) (at (flow facts rated_step tag n z left).left q));
+        begins = f.begins;
+        gives = λ port. at-joined out (flow facts rated_step tag n z left).outputs port ∙ ap (λ v. at out port ++ v) (f.gives port);
+        tagged = f.tagged;
       }
-    where
-      in-left : (q : ℕ) (x : T) → Has x (at left q) → Has x (at X q)
-      in-left q x h = subst (λ v. Has x v) (sym (used q)) (has-right x (at got q) (at left q) h)
-
-      taken : (t : Turned T) → ((u : Turned T) → Has u (turns_of facts rated_step tag n z left) → (q : ℕ) (x : T) → Has x (at u.record_of.inputs q) → Has x (at left q)) → (u : Turned T) → Has u (record { record_of = record { number = facts.made s; tag = tag; inputs = got; outputs = out }; inside = l } ∷ turns_of facts rated_step tag n z left) → (q : ℕ) (x : T) → Has x (at u.record_of.inputs q) → Has x (at X q)
-      taken t ih u (inl e) q x h = subst (λ v. Has x v) (sym (used q)) (has-left x (at got q) (at left q) (subst (λ (v : Turned T). Has x (at v.record_of.inputs q)) e h))
-      taken t ih u (inr g) q x h = in-left q x (ih u g q x h)
-
-      given : (t : Turned T) → ((port : ℕ) (x : T) → Has x (at (flow facts rated_step tag n z left).outputs port) → (u : Turned T) × Has u (turns_of facts rated_step tag n z left) × Has x (at u.record_of.outputs port)) → (port : ℕ) (x : T) → Has x (at out port) ⊎ Has x (at (flow facts rated_step tag n z left).outputs port) →
-          (u : Turned T) × Has u (record { record_of = record { number = facts.made s; tag = tag; inputs = got; outputs = out }; inside = l } ∷ turns_of facts rated_step tag n z left) × Has x (at u.record_of.outputs port)
-      given t ih port x (inl h) = (record { record_of = record { number = facts.made s; tag = tag; inputs = got; outputs = out }; inside = l }, inl refl, h)
-      given t ih port x (inr h) = let u = ih port x h in (u.0, inr u.1, u.2)
   on-is n ih s X got left used (Stuck fs l) e = record {
     part_is = record { first = silent; rest = l; chain = (refl, refl); ends = sym (ap (λ v. log_in v) e) ∙ log-rated facts r step tag s got; whole = refl };
-    taken = λ t g. absurd g;
-    begun = λ b g q x h. subst (λ v. Has x v) (sym (used q)) (has-left x (at got q) (at left q) (subst (λ (v : Begun T). Has x (at v.inputs q)) (sym (same-begun b g)) h));
-    left = λ q x h. h;
-    given = λ port x h. absurd h;
+    used = λ q. refl;
+    begins = λ q. subst (λ v. IsPrefix (at got q) v) (sym (used q)) (IsPrefix-append (at got q) (at left q));
+    gives = λ port. refl;
+    tagged = λ b g. sym (ap (λ (v : Begun T). v.tag) (same-begun b g));
   }
     where
       same-begun : (b : Begun T) → Some (record { tag = tag; inputs = got }) ≡ Some b → record { tag = tag; inputs = got } ≡ b
       same-begun b g = cc
 
-  front-is : (n : ℕ) → ((s : S) (X : Streams T) → FlowIs facts step s X (flow facts rated_step tag n s X) (turns_of facts rated_step tag n s X) (stuck_of facts rated_step tag n s X)) → (s : S) (X : Streams T) (f : Front T) → front (facts.need s) X ≡ f →
-      FlowIs facts step s X (on_front facts rated_step tag (flow facts rated_step tag n) s X f) (turns_front facts rated_step tag (turns_of facts rated_step tag n) s f) (stuck_front facts rated_step tag (stuck_of facts rated_step tag n) s f)
+  front-is : (n : ℕ) → ((s : S) (X : Streams T) → FlowIs facts step tag s X (flow facts rated_step tag n s X) (turns_of facts rated_step tag n s X) (stuck_of facts rated_step tag n s X)) → (s : S) (X : Streams T) (f : Front T) → front (facts.need s) X ≡ f →
+      FlowIs facts step tag s X (on_front facts rated_step tag (flow facts rated_step tag n) s X f) (turns_front facts rated_step tag (turns_of facts rated_step tag n) s f) (stuck_front facts rated_step tag (stuck_of facts rated_step tag n) s f)
   front-is n ih s X Lacks e = halted-is s X _ refl refl refl refl
   front-is n ih s X Ends e = halted-is s X _ refl refl refl refl
   front-is n ih s X (Takes got left) e = on-is n ih s X got left (front-parts (facts.need s) X got left e) (rated_step tag s got) refl
 
-  pub flow-is : (n : ℕ) (s : S) (X : Streams T) → FlowIs facts step s X (flow facts rated_step tag n s X) (turns_of facts rated_step tag n s X) (stuck_of facts rated_step tag n s X)
+  pub flow-is : (n : ℕ) (s : S) (X : Streams T) → FlowIs facts step tag s X (flow facts rated_step tag n s X) (turns_of facts rated_step tag n s X) (stuck_of facts rated_step tag n s X)
   unfolding flow
   flow-is zero s X = halted-is s X _ refl refl refl refl
   flow-is (suc n) s X = front-is n (flow-is n) s X (front (facts.need s) X) refl
-
--- with more firings and longer streams it makes these firings too
-module _ {T S : Type 0} (facts : Facts T S) (step : Stepping T S) (tag : Tag) where
-  on-has : (m n : ℕ) → ((s : S) (X Y : Streams T) → Below X Y → (t : Turned T) → Has t (turns_of facts step tag m s X) → Has t (turns_of facts step tag n s Y)) → (s : S) (got left left' : Streams T) → Below left left' → (o : Outcome T S) (t : Turned T) →
-      Has t (turns_on facts step tag (turns_of facts step tag m) s got left o) → Has t (turns_on facts step tag (turns_of facts step tag n) s got left' o)
-  on-has m n ih s got left left' b (Done z out l) t (inl e) = inl e
-  on-has m n ih s got left left' b (Done z out l) t (inr h) = inr (ih z left left' b t h)
-  on-has m n ih s got left left' b (Stuck fs l) t h = absurd h
-
-  front-has : (m n : ℕ) → ((s : S) (X Y : Streams T) → Below X Y → (t : Turned T) → Has t (turns_of facts step tag m s X) → Has t (turns_of facts step tag n s Y)) → (s : S) (f g : Front T) → FrontBelow f g → (t : Turned T) →
-      Has t (turns_front facts step tag (turns_of facts step tag m) s f) → Has t (turns_front facts step tag (turns_of facts step tag n) s g)
-  front-has m n ih s Lacks g b t h = absurd h
-  front-has m n ih s Ends g b t h = absurd h
-  front-has m n ih s (Takes got left) g b t h = rw b.1 (on-has m n ih s got left b.0 b.2 (step tag s got) t h)
-
-  pub turns-has : (m n : ℕ) → m ≤ n → (s : S) (X Y : Streams T) → Below X Y → (t : Turned T) → Has t (turns_of facts step tag m s X) → Has t (turns_of facts step tag n s Y)
-  turns-has zero n o s X Y b t h = absurd h
-  turns-has (suc m) zero o s X Y b t h = absurd (omega arith)
-  turns-has (suc m) (suc n) o s X Y b t h = front-has m n (λ z Z W c u. turns-has m n (omega arith) z Z W c u) s (front (facts.need s) X) (front (facts.need s) Y) (front-below (facts.need s) X Y b) t h
 
 -- a stream function that isn't stuck has no unfinished firing
 module _ {T S : Type 0} (facts : Facts T S) (step : Stepping T S) (tag : Tag) where

@@ -1,24 +1,32 @@
 -- The firing of a Rendezvous explained, from its scenes.
-use Rattle.std.proofs.Common.{◌≡◌, ◌⊎◌, ℕ, zero, suc, ◌+◌, ◌≤◌, List, [], ◌∷◌, ◌++◌, Bool, true, false, length, Option, Some, None, inl, inr, refl, sym, ap, subst, arith, ◌∙◌}
+use Rattle.std.proofs.Common.{◌≡◌, ◌⊎◌, ℕ, zero, suc, ◌+◌, ◌≤◌, ◌<◌, List, [], ◌∷◌, ◌++◌, Bool, true, false, length, Option, Some, None, inl, inr, refl, sym, ap, ap₂, subst, arith, ◌∙◌, append_assoc, append-nil, if◌then◌else◌}
+use Rattle.std.proofs.lemmas.Bool.Decides.{nat_tests}
 use Rattle.pt_meaning.specs.Basics.{Tag, Streams, at, Meeting, silent}
 use Rattle.pt_meaning.specs.Machine.{Outcome, Stepping, Facts}
 use Rattle.pt_meaning.specs.Rounds.{Source, Own, Output}
 use Rattle.pt_meaning.specs.Dataflow.{Inside}
 use Rattle.pt_meaning.specs.Modal.{get}
-use Rattle.pt_meaning.specs.Process.{Put, Mood, Well, Broken, Party, next_event, channels_from, puts_of_port, at_rest, all_rest, party_logs, party_states, all_got, all_puts, advanced}
+use Rattle.pt_meaning.specs.Process.{is_source, Put, Mood, Well, Broken, Party, next_event, channels_from, puts_of_port, at_rest, all_rest, party_logs, party_states, all_got, all_puts, advanced}
 use Rattle.pt_meaning.specs.Meetings.{Scene, is_legal, meet}
-use Rattle.pt_meaning.specs.Rendezvous.{RvPlan, Places, arriving, scene_log, left_in, if_ended, if_meets, settled, under_meetings, seated, outlets, rv}
+use Rattle.pt_meaning.specs.Rendezvous.{RvPlan, Places, arriving, scene_log, if_ended, if_meets, settled, under_meetings, seated, outlets, rv}
 use Rattle.pt_meaning.specs.Node.{Rv}
-use Rattle.pt_meaning.specs.Causes.{Has, Begun, first_channel, source_in, source_of}
 use Rattle.pt_meaning.specs.LogsOfRuns.{log_at, log_in}
-use Rattle.pt_meaning.specs.SoundRuns.{OnPlace, got_by}
-use Rattle.pt_meaning.specs.Explained.{Turned, PartOf, Takes, ComesNow, ComesNowOrEarly, IfDone, Explained}
+use Rattle.pt_meaning.specs.Streams.{IsPrefix}
+use Rattle.pt_meaning.specs.Places.{tokens_on}
+use Rattle.pt_meaning.specs.Channels as channels
+use Rattle.pt_meaning.specs.Closed.{Begun, if_there, inputs_at, outputs_at, begun_at}
+use Rattle.pt_meaning.specs.Channels.{channel_at}
+use Rattle.pt_meaning.specs.SoundRuns.{got_by, waiting_in, on_its_way, HasRooms}
+use Rattle.pt_meaning.specs.Explained.{Turned, PartOf, IfDone, Explained, of_turns, takes_in, gives_in}
+use Rattle.pt_meaning.proofs.Order.{IsPrefix-trans, IsPrefix-after, IsPrefix-append}
+use Rattle.pt_meaning.proofs.PlaceEnds.{if_from, port-puts, tokens-append}
+use Rattle.pt_meaning.proofs.ExplainPlaces.{held_of, Same, meeting-same}
+use Rattle.pt_meaning.proofs.ChannelLaws.{none-of-channel, at-beyond}
 use Rattle.pt_meaning.proofs.KahnLaws.{and-left, and-right}
 use Rattle.pt_meaning.proofs.PartyLaws.{sticks-broken}
 use Rattle.pt_meaning.proofs.MeetingIndex.{some-same}
-use Rattle.pt_meaning.proofs.LevelLaws.{has-left, has-either}
 use Rattle.pt_meaning.proofs.ExplainModal.{state_or, state-of}
-use Rattle.pt_meaning.proofs.ExplainParties.{AllMore, CauseAt, PutCause, PartyIs, inlet-put, put-more, turns_in, advanced-is, all_turns, none-beyond, each-advanced, advanced-long}
+use Rattle.pt_meaning.proofs.ExplainParties.{PartyIs, turns-append, turns_in, advanced-is, all_turns, got-moved, room-moved, puts-moved, none-beyond, each-advanced, advanced-long}
 use Rattle.pt_meaning.proofs.ExplainScenes.{SceneIs, meet-is}
 
 -- the lists of a scene, by process
@@ -42,15 +50,10 @@ states-long : {T S : Type 0} (ps : List (Party T S)) → length (party_states ps
 states-long [] = refl
 states-long (x ∷ ps) = ap (λ n. suc n) (states-long ps)
 
-gathered : {T S : Type 0} (ps : List (Party T S)) (i q : ℕ) (x : T) → Has x (at (got_by (all_got ps) i) q) → (p : Party T S) × (get ps i ≡ Some p) × Has x (at p.got q)
-gathered [] i q x h = absurd h
-gathered (p ∷ ps) zero q x h = (p, refl, h)
-gathered (p ∷ ps) (suc i) q x h = gathered ps i q x h
-
-putting : {T S : Type 0} (ps : List (Party T S)) (j : ℕ) (u : Put T) → Has u (at (all_puts ps) j) → (p : Party T S) × (get ps j ≡ Some p) × Has u p.puts
-putting [] j u h = absurd h
-putting (p ∷ ps) zero u h = (p, refl, h)
-putting (p ∷ ps) (suc j) u h = putting ps j u h
+got-at : {T S : Type 0} (ps : List (Party T S)) (i : ℕ) (p : Party T S) → get ps i ≡ Some p → got_by (all_got ps) i ≡ p.got
+got-at [] i p e = absurd (cc)
+got-at {T} {S} (x ∷ ps) zero p e = ap (λ (v : Party T S). v.got) (some-same x p e)
+got-at (x ∷ ps) (suc i) p e = got-at ps i p e
 
 rests-at : {T S : Type 0} (facts : Facts T S) (ps : List (Party T S)) (i : ℕ) (p : Party T S) → get ps i ≡ Some p → all_rest facts ps ≡ true → at_rest (next_event facts p) ≡ true
 rests-at facts [] i p e a = absurd (cc)
@@ -86,13 +89,17 @@ get-within (y ∷ xs) (suc i) x e h = get-within xs i x e (omega (arith, h))
 
 module _ {T S : Type 0} (facts : Facts T S) (step : Stepping T S) (tag : Tag) (plan : RvPlan) (X : Places T) (inputs : Streams T) (ks : List S) (any : S) where
   abbrev Holds : (ℕ → List (Turned T)) → Scene T S → Type 0
-  Holds τ sc = SceneIs facts step plan X inputs ks τ sc
+  Holds τ sc = SceneIs facts step tag ks τ sc
+
+  -- what is taken is the beginning of what was on the places and of what came, in order, and the rest is on its way
+  abbrev Counts : (ℕ → List (Turned T)) → Scene T S → Type 0
+  Counts τ sc = HasRooms plan.net (held_of sc) × ((i q : ℕ) → of_turns (inputs_at q) (τ i) ++ on_its_way plan.net (held_of sc) i q (channel_at plan.net.places i q) ≡ on_its_way plan.net X i q (channel_at plan.net.places i q) ++ gives_in inputs τ (channels.source_in plan.net i q))
 
   abbrev Explains : Outcome T (Inside (Places T) S) → Type 0
-  Explains r = Explained facts step inputs (Rv plan X) (Rv plan) ks r
+  Explains r = Explained facts step tag inputs (Rv plan X) (Rv plan) ks r
 
   -- a scene at which it ends
-  module _ (τ : ℕ → List (Turned T)) (sc : Scene T S) (h : Holds τ sc) where
+  module _ (τ : ℕ → List (Turned T)) (sc : Scene T S) (h : Holds τ sc) (n : Counts τ sc) where
     Seat : ℕ → Type 0
     Seat i = ((p : Party T S) × (get sc.parties i ≡ Some p)) ⊎ (length sc.parties ≤ i)
 
@@ -119,66 +126,52 @@ module _ {T S : Type 0} (facts : Facts T S) (step : Stepping T S) (tag : Tag) (p
     way-beyond i b (inl p) = absurd (get-within sc.parties i p.0 p.1 (omega (arith, b, h.count)))
     way-beyond i b (inr c) = refl
 
-    -- what is taken
-    may : (i q : ℕ) (t : Tag) (x : T) → CauseAt plan X inputs τ i q x → OnPlace (Rv plan X) i q x ⊎ ComesNowOrEarly facts ks inputs τ t x (source_of (Rv plan X) i q)
-    may i q t x (inl g) = inl g
-    may i q t x (inr g) = inr (by_source (source_in plan.net i q) g)
-      where
-        by_source : (s : Option Source) → ComesNow inputs τ x s → ComesNowOrEarly facts ks inputs τ t x s
-        by_source None g = g
-        by_source (Some (Own port)) g = g
-        by_source (Some (Output j port)) g = inl g
-
-    taken-done : (i q : ℕ) (x : T) (t : Turned T) → Has t (τ i) → Has x (at t.record_of.inputs q) → (o : Seat i) → CauseAt plan X inputs τ i q x
-    unfolding Seat
-    taken-done i q x t g f (inl p) = (h.parties i p.0 p.1).taken t g q x f
-    taken-done i q x t g f (inr b) = absurd (subst (λ v. Has t v) (h.beyond i (omega (arith, b, h.count))) g)
-
-    taken-way : (i q : ℕ) (x : T) (b : Begun T) → Has x (at b.inputs q) → (o : Seat i) → way_at i o ≡ Some b → CauseAt plan X inputs τ i q x
-    unfolding Seat way_at
-    taken-way i q x b f (inl p) e = (h.parties i p.0 p.1).begun b e q x f
-    taken-way i q x b f (inr c) e = absurd (clash e)
-      where
-        clash : None ≡ Some b → ⊥
-        clash e = cc
-
-    all-taken : (i q : ℕ) (t : Tag) (x : T) → Takes τ (λ j. way_at j (seat j)) i q t x → OnPlace (Rv plan X) i q x ⊎ ComesNowOrEarly facts ks inputs τ t x (source_of (Rv plan X) i q)
-    all-taken i q t x (inl g) = may i q t x (taken-done i q x g.0 g.1 g.3 (seat i))
-    all-taken i q t x (inr g) = may i q t x (taken-way i q x g.0 g.3 (seat i) g.1)
-
-    -- and what is left
-    left-caused : (i q : ℕ) (y : T) → OnPlace (Rv plan (left_in sc).held) i q y → CauseAt plan X inputs τ i q y
-    left-caused i q y (inl g) = let w = gathered sc.parties i q y g in (h.parties i w.0 w.1).got q y w.2
-    left-caused i q y (inr (inl g)) = let w = putting sc.parties g.0 g.1 g.2 in at_place g.1 g.3 g.4 ((h.parties g.0 w.0 w.1).puts g.1 w.2)
-      where
-        at_place : (u : Put T) → u.channel ≡ first_channel plan.net.places i + q → u.token ≡ y → PutCause plan X inputs τ u.channel u.token → CauseAt plan X inputs τ i q y
-        at_place u a b c = by_put (subst (λ v. PutCause plan X inputs τ v y) a (subst (λ v. PutCause plan X inputs τ u.channel v) b c))
-          where
-            by_put : PutCause plan X inputs τ (first_channel plan.net.places i + q) y → CauseAt plan X inputs τ i q y
-            by_put (inl g) = inl (inr (inl g))
-            by_put (inr (inl g)) = inl (inr (inr g))
-            by_put (inr (inr g)) = inr g
-    left-caused i q y (inr (inr g)) = by_put (subst (λ v. PutCause plan X inputs τ v y) g.3 (subst (λ v. PutCause plan X inputs τ g.1.channel v) g.4 (h.inlets g.0 g.1 g.2)))
-      where
-        by_put : PutCause plan X inputs τ (first_channel plan.net.places i + q) y → CauseAt plan X inputs τ i q y
-        by_put (inl g) = inl (inr (inl g))
-        by_put (inr (inl g)) = inl (inr (inr g))
-        by_put (inr (inr g)) = inr g
-
     whole-at : all_rest facts sc.parties ≡ true → (i : ℕ) (o : Seat i) → way_at i o ≡ None
     unfolding Seat way_at
     whole-at a i (inl p) = (h.parties i p.0 p.1).well (rests-well facts p.0 (rests-at facts sc.parties i p.0 p.1 a))
     whole-at a i (inr b) = refl
 
+    -- as often as it is taken
+    begun-there : (i q : ℕ) (p : Party T S) → get sc.parties i ≡ Some p → (b : Begun T) → IsPrefix (at b.inputs q) (at p.got q) → IsPrefix (at b.inputs q) (on_its_way plan.net (held_of sc) i q (channel_at plan.net.places i q))
+    begun-there i q p e b f = go (channel_at plan.net.places i q) refl
+      where
+        same : at p.got q ≡ at (got_by (all_got sc.parties) i) q
+        same = ap (λ Y. at Y q) (sym (got-at sc.parties i p e))
+
+        go : (o : Option ℕ) → channel_at plan.net.places i q ≡ o → IsPrefix (at b.inputs q) (on_its_way plan.net (held_of sc) i q o)
+        go None g = let l = none-of-channel plan.net.places i q g in let m = n.0.gathers i in subst (λ v. IsPrefix (at b.inputs q) v) (same ∙ at-beyond (got_by (all_got sc.parties) i) q (omega (arith, l, m))) f
+        go (Some c) g = IsPrefix-trans _ _ _ (subst (λ v. IsPrefix (at b.inputs q) v) same f) (IsPrefix-append (at (got_by (all_got sc.parties) i) q) _)
+
+    begun-at-seat : (i q : ℕ) (o : Seat i) → IsPrefix (begun_at (way_at i o) q) (on_its_way plan.net (held_of sc) i q (channel_at plan.net.places i q))
+    unfolding Seat way_at
+    begun-at-seat i q (inr c) = tt
+    begun-at-seat i q (inl p) = go (h.parties i p.0 p.1).way refl
+      where
+        go : (w : Option (Begun T)) → (h.parties i p.0 p.1).way ≡ w → IsPrefix (begun_at w q) (on_its_way plan.net (held_of sc) i q (channel_at plan.net.places i q))
+        go None e = tt
+        go (Some b) e = begun-there i q p.0 p.1 b ((h.parties i p.0 p.1).begins b e q)
+
+    tagged-at-seat : (i : ℕ) (b : Begun T) (o : Seat i) → way_at i o ≡ Some b → b.tag ≡ tag
+    unfolding Seat way_at
+    tagged-at-seat i b (inl p) e = (h.parties i p.0 p.1).tagged b e
+    tagged-at-seat i b (inr c) e = absurd (clash e)
+      where
+        clash : None ≡ Some b → ⊥
+        clash e = cc
+
+    counted-at : (i q : ℕ) → IsPrefix (takes_in τ (λ j. way_at j (seat j)) i q) (on_its_way plan.net X i q (channel_at plan.net.places i q) ++ gives_in inputs τ (channels.source_in plan.net i q))
+    counted-at i q = subst (λ v. IsPrefix (takes_in τ (λ j. way_at j (seat j)) i q) v) (n.1 i q) (IsPrefix-after (of_turns (inputs_at q) (τ i)) _ _ (begun-at-seat i q (seat i)))
+
     ends-well : (b : Bool) → (b ≡ true → all_rest facts sc.parties ≡ true) → IfDone facts inputs (Rv plan X) (Rv plan) ks τ (λ i. way_at i (seat i)) (λ i. state_or any (party_states sc.parties) i) (if_ended b sc)
     ends-well false a = tt
     ends-well true a = record {
       whole = λ i. whole-at (a refl) i (seat i);
-      plan = λ i q. refl;
-      tokens = λ i q y g. left-caused i q y g;
-      wired = tt;
+      wired = n.0;
       count = states-long sc.parties ∙ h.count;
       kids = λ i s e. inl (state-of any (party_states sc.parties) i s e);
+      same_plan = record { sources = λ i q. refl; modal = refl; keeps = refl };
+      counted = λ i q. subst (λ v. IsPrefix (of_turns (inputs_at q) (τ i)) v) (n.1 i q) (IsPrefix-append (of_turns (inputs_at q) (τ i)) _);
+      left = λ g i q. n.1 i q;
     }
 
     scene-explained : (b : Bool) → (b ≡ true → all_rest facts sc.parties ≡ true) → Explains (if_ended b sc)
@@ -193,7 +186,8 @@ module _ {T S : Type 0} (facts : Facts T S) (step : Stepping T S) (tag : Tag) (p
       ends = λ i. state_or any (party_states sc.parties) i;
       parts = λ i s e. part-at i s e (seat i);
       beyond = λ i g. (logs-none sc.parties i (omega (arith, g, h.count)), h.beyond i g, way-beyond i g (seat i));
-      taken = all-taken;
+      tagged = λ i w e. tagged-at-seat i w (seat i) e;
+      counted = λ i q. inl (counted-at i q);
       done = ends-well b a;
     }
       where
@@ -204,40 +198,86 @@ module _ {T S : Type 0} (facts : Facts T S) (step : Stepping T S) (tag : Tag) (p
   -- the processes make their firings
   module _ (k n : ℕ) where
     more_turns : (ℕ → List (Turned T)) → Scene T S → ℕ → List (Turned T)
-    more_turns τ sc i = τ i ++ all_turns facts step tag plan X inputs ks k 0 sc.parties i
+    more_turns τ sc i = τ i ++ all_turns facts step tag plan ks k 0 sc.parties i
 
     settled-is : (τ : ℕ → List (Turned T)) (sc : Scene T S) → Holds τ sc → Holds (more_turns τ sc) (settled facts step tag plan.net k n sc)
-    unfolding more_turns AllMore
+    unfolding more_turns
     settled-is τ sc h = record {
-      parties = λ i y e. let r = each-advanced facts step tag plan X inputs ks k 0 sc.parties i y e in one i y r.0 r.1 r.2 r.3;
-      inlets = λ j u g. put-more facts step tag plan X inputs ks τ (more_turns τ sc) more u.channel u.token (h.inlets j u g);
+      parties = λ i y e. let r = each-advanced facts step tag plan ks k 0 sc.parties i y e in one i y r.0 r.1 r.2 r.3;
       bare = h.bare;
       quiet = h.quiet;
-      count = advanced-long facts step tag plan X inputs ks k 0 sc.parties ∙ h.count;
-      beyond = λ i g. let a = h.beyond i g in let b = none-beyond facts step tag plan X inputs ks k 0 sc.parties i (omega (arith, g, h.count)) in rw (a, b) refl;
+      count = advanced-long facts step tag plan ks k 0 sc.parties ∙ h.count;
+      beyond = λ i g. let a = h.beyond i g in let b = none-beyond facts step tag plan ks k 0 sc.parties i (omega (arith, g, h.count)) in rw (a, b) refl;
     }
       where
-        more : AllMore τ (more_turns τ sc)
-        more i t g = has-left t (τ i) _ g
-
-        one : (i : ℕ) (y p : Party T S) → get sc.parties i ≡ Some p → y ≡ advanced facts step tag plan.net.sources k (0 + i) p → all_turns facts step tag plan X inputs ks k 0 sc.parties i ≡ turns_in facts step tag plan X inputs ks k (0 + i) p →
-            PartyIs facts step plan X inputs ks (more_turns τ sc) (more_turns τ sc i) i y
+        one : (i : ℕ) (y p : Party T S) → get sc.parties i ≡ Some p → y ≡ advanced facts step tag plan.net.sources k (0 + i) p → all_turns facts step tag plan ks k 0 sc.parties i ≡ turns_in facts step tag plan ks k (0 + i) p →
+            PartyIs facts step tag ks (more_turns τ sc i) i y
         one i y p e a b =
             let z : 0 + i ≡ i = omega arith in
-            let ts : τ i ++ turns_in facts step tag plan X inputs ks k i p ≡ more_turns τ sc i = ap (λ v. τ i ++ v) (sym (b ∙ ap (λ v. turns_in facts step tag plan X inputs ks k v p) z)) in
-            subst (λ (v : Party T S). PartyIs facts step plan X inputs ks (more_turns τ sc) (more_turns τ sc i) i v) (sym (a ∙ ap (λ v. advanced facts step tag plan.net.sources k v p) z))
-            (subst (λ v. PartyIs facts step plan X inputs ks (more_turns τ sc) v i (advanced facts step tag plan.net.sources k i p)) ts
-            (advanced-is facts step tag plan X inputs ks k τ (more_turns τ sc) more (τ i) i p (h.parties i p e) (λ t g. subst (λ v. Has t v) ts g)))
+            let ts : τ i ++ turns_in facts step tag plan ks k i p ≡ more_turns τ sc i = ap (λ v. τ i ++ v) (sym (b ∙ ap (λ v. turns_in facts step tag plan ks k v p) z)) in
+            subst (λ (v : Party T S). PartyIs facts step tag ks (more_turns τ sc i) i v) (sym (a ∙ ap (λ v. advanced facts step tag plan.net.sources k v p) z))
+            (subst (λ v. PartyIs facts step tag ks v i (advanced facts step tag plan.net.sources k i p)) ts
+            (advanced-is facts step tag plan ks k (τ i) i p (h.parties i p e)))
 
-    under-explained : (ms : List Meeting) (τ : ℕ → List (Turned T)) (sc : Scene T S) → Holds τ sc → Explains (under_meetings facts step tag plan.net k n ms sc)
-    unfolding under_meetings
-    under-explained [] τ sc h = scene-explained (more_turns τ sc) (settled facts step tag plan.net k n sc) (settled-is τ sc h) _ (λ e. and-left _ _ e)
-    under-explained (m ∷ ms) τ sc h = meets (is_legal facts plan.net (settled facts step tag plan.net k n sc) m) (settled-is τ sc h) (under-explained ms (more_turns τ sc) (meet plan.net n m (settled facts step tag plan.net k n sc)))
+    settled-counts : (τ : ℕ → List (Turned T)) (sc : Scene T S) → Counts τ sc → Counts (more_turns τ sc) (settled facts step tag plan.net k n sc)
+    unfolding more_turns
+    settled-counts τ sc c = (rooms, λ i q. go i q (channel_at plan.net.places i q) refl)
       where
-        meets : (b : Bool) → Holds (more_turns τ sc) (settled facts step tag plan.net k n sc) → (Holds (more_turns τ sc) (meet plan.net n m (settled facts step tag plan.net k n sc)) → Explains (under_meetings facts step tag plan.net k n ms (meet plan.net n m (settled facts step tag plan.net k n sc)))) →
+        all : ℕ → List (Turned T)
+        all i = all_turns facts step tag plan ks k 0 sc.parties i
+
+        rooms : HasRooms plan.net (held_of (settled facts step tag plan.net k n sc))
+        rooms = record { gathers = λ i. room-moved facts step tag plan ks k 0 sc.parties i ∙ c.0.gathers i; sends = c.0.sends }
+
+        -- what waits, and what came
+        came : (d : ℕ) (s : Option Source) → get plan.net.sources d ≡ s →
+            (new : List T) × (tokens_on d (waiting_in (held_of (settled facts step tag plan.net k n sc)) s) ≡ tokens_on d (waiting_in (held_of sc) s) ++ new) × (gives_in inputs (λ i. τ i ++ all_turns facts step tag plan ks k 0 sc.parties i) s ≡ gives_in inputs τ s ++ new)
+        came d None e = ([], refl, refl)
+        came d (Some (Own j)) e = ([], sym (append-nil (tokens_on d (at sc.inputs j))), sym (append-nil (at inputs j)))
+        came d (Some (Output j port)) e = (
+          of_turns (outputs_at port) (all_turns facts step tag plan ks k 0 sc.parties j),
+          let z : j ≡ 0 + j = omega arith in puts-moved facts step tag plan ks k 0 sc.parties j d port (e ∙ ap (λ v. Option.Some (Output v port)) z),
+          turns-append (outputs_at port) (τ j) (all_turns facts step tag plan ks k 0 sc.parties j),
+        )
+
+        sum : (tk tn g' g w' w new on gv gv' : List T) → tn ++ g' ≡ g → w' ≡ w ++ new → gv' ≡ gv ++ new → tk ++ (g ++ w) ≡ on ++ gv → (tk ++ tn) ++ (g' ++ w') ≡ on ++ gv'
+        sum tk tn g' g w' w new on gv gv' a b d e =
+            append_assoc tk tn (g' ++ w') ∙ ap (λ v. tk ++ v) (sym (append_assoc tn g' w') ∙ ap₂ (λ u v. u ++ v) a b ∙ sym (append_assoc g w new)) ∙ sym (append_assoc tk (g ++ w) new) ∙ ap (λ v. v ++ new) e ∙ append_assoc on gv new ∙ ap (λ v. on ++ v) (sym d)
+
+        left-empty : (xs ys : List T) → xs ++ ys ≡ [] → xs ≡ []
+        left-empty [] ys e = refl
+        left-empty (x ∷ xs) ys e = absurd (clash e)
+          where
+            clash : x ∷ (xs ++ ys) ≡ [] → ⊥
+            clash e = cc
+
+        go : (i q : ℕ) (o : Option ℕ) → channel_at plan.net.places i q ≡ o →
+            of_turns (inputs_at q) (τ i ++ all_turns facts step tag plan ks k 0 sc.parties i) ++ on_its_way plan.net (held_of (settled facts step tag plan.net k n sc)) i q o ≡ on_its_way plan.net X i q o ++ gives_in inputs (λ i. τ i ++ all_turns facts step tag plan ks k 0 sc.parties i) (if_there (get plan.net.sources) o)
+        go i q None e =
+            let l = none-of-channel plan.net.places i q e in
+            let m = c.0.gathers i in
+            let old : of_turns (inputs_at q) (τ i) ++ [] ≡ [] = subst (λ o. of_turns (inputs_at q) (τ i) ++ on_its_way plan.net (held_of sc) i q o ≡ on_its_way plan.net X i q o ++ gives_in inputs τ (if_there (get plan.net.sources) o)) e (c.1 i q) in
+            let new : of_turns (inputs_at q) (all_turns facts step tag plan ks k 0 sc.parties i) ≡ [] = left-empty _ _ (got-moved facts step tag plan ks k 0 sc.parties i q ∙ at-beyond (got_by (all_got sc.parties) i) q (omega (arith, l, m))) in
+            ap (λ v. v ++ []) (turns-append (inputs_at q) (τ i) (all_turns facts step tag plan ks k 0 sc.parties i) ∙ ap (λ v. of_turns (inputs_at q) (τ i) ++ v) new) ∙ ap (λ v. v ++ []) old
+        go i q (Some d) e =
+            let old = subst (λ o. of_turns (inputs_at q) (τ i) ++ on_its_way plan.net (held_of sc) i q o ≡ on_its_way plan.net X i q o ++ gives_in inputs τ (if_there (get plan.net.sources) o)) e (c.1 i q) in
+            let w = came d (get plan.net.sources d) refl in
+            ap (λ v. v ++ on_its_way plan.net (held_of (settled facts step tag plan.net k n sc)) i q (Some d)) (turns-append (inputs_at q) (τ i) (all_turns facts step tag plan ks k 0 sc.parties i)) ∙
+            sum (of_turns (inputs_at q) (τ i)) (of_turns (inputs_at q) (all_turns facts step tag plan ks k 0 sc.parties i)) _ (at (got_by (all_got sc.parties) i) q) _ (tokens_on d (waiting_in (held_of sc) (get plan.net.sources d))) w.0 (on_its_way plan.net X i q (Some d)) (gives_in inputs τ (get plan.net.sources d)) _ (got-moved facts step tag plan ks k 0 sc.parties i q) w.1 w.2 old
+
+    met-counts : (τ : ℕ → List (Turned T)) (sc : Scene T S) (m : Meeting) → Counts τ sc → Counts τ (meet plan.net n m sc)
+    unfolding Same
+    met-counts τ sc m c = let s = meeting-same plan.net m sc c.0 in (s.1, λ i q. ap (λ v. of_turns (inputs_at q) (τ i) ++ v) (s.0 i q) ∙ c.1 i q)
+
+    under-explained : (ms : List Meeting) (τ : ℕ → List (Turned T)) (sc : Scene T S) → Holds τ sc → Counts τ sc → Explains (under_meetings facts step tag plan.net k n ms sc)
+    unfolding under_meetings
+    under-explained [] τ sc h c = scene-explained (more_turns τ sc) (settled facts step tag plan.net k n sc) (settled-is τ sc h) (settled-counts τ sc c) _ (λ e. and-left _ _ e)
+    under-explained (m ∷ ms) τ sc h c = meets (is_legal facts plan.net (settled facts step tag plan.net k n sc) m) (settled-is τ sc h) (settled-counts τ sc c) (under-explained ms (more_turns τ sc) (meet plan.net n m (settled facts step tag plan.net k n sc)))
+      where
+        meets : (b : Bool) → Holds (more_turns τ sc) (settled facts step tag plan.net k n sc) → Counts (more_turns τ sc) (settled facts step tag plan.net k n sc) → (Holds (more_turns τ sc) (meet plan.net n m (settled facts step tag plan.net k n sc)) → Counts (more_turns τ sc) (meet plan.net n m (settled facts step tag plan.net k n sc)) → Explains (under_meetings facts step tag plan.net k n ms (meet plan.net n m (settled facts step tag plan.net k n sc)))) →
             Explains (if_meets facts step tag plan.net k n b (under_meetings facts step tag plan.net k n ms) m (settled facts step tag plan.net k n sc))
-        meets true g ih = ih (meet-is facts step tag plan X inputs ks (more_turns τ sc) n m (settled facts step tag plan.net k n sc) g)
-        meets false g ih = scene-explained (more_turns τ sc) (settled facts step tag plan.net k n sc) g false (λ e. absurd (no e))
+        meets true g c ih = ih (meet-is facts step tag plan.net ks (more_turns τ sc) n m (settled facts step tag plan.net k n sc) g) (met-counts (more_turns τ sc) (settled facts step tag plan.net k n sc) m c)
+        meets false g c ih = scene-explained (more_turns τ sc) (settled facts step tag plan.net k n sc) g c false (λ e. absurd (no e))
           where
             no : false ≡ true → ⊥
             no e = cc
@@ -262,41 +302,74 @@ module _ {T S : Type 0} (facts : Facts T S) (step : Stepping T S) (tag : Tag) (p
   seats-count (x ∷ bs) (g ∷ gs) (u ∷ us) [] a b c = refl
   seats-count (x ∷ bs) (g ∷ gs) (u ∷ us) (s ∷ ss) a b c = ap (λ n. suc n) (seats-count bs gs us ss (omega (arith, a)) (omega (arith, b)) (omega (arith, c)))
 
-  arrived : (sources : List Source) (b : ℕ) (kept : List (List (Put T))) (Y : Streams T) (j : ℕ) (u : Put T) → Has u (at (arriving sources b kept Y) j) → Has u (at kept j) ⊎ Has u (puts_of_port (channels_from 0 (Own (b + j)) sources) (at Y (b + j)))
-  arrived sources b [] Y j u h = absurd h
-  arrived sources b (us ∷ kept) Y zero u h = let a : b ≡ b + 0 = omega arith in subst (λ v. Has u us ⊎ Has u (puts_of_port (channels_from 0 (Own v) sources) (at Y v))) a (has-either u us _ h)
-  arrived sources b (us ∷ kept) Y (suc j) u h = let a : suc b + j ≡ b + suc j = omega arith in subst (λ v. Has u (at kept j) ⊎ Has u (puts_of_port (channels_from 0 (Own v) sources) (at Y v))) a (arrived sources (suc b) kept Y j u h)
-
   first-scene : length plan.barriers ≡ length ks → length X.got ≡ length ks → length X.puts ≡ length ks →
       Holds (λ i. []) (record { parties = seated plan.barriers X.got X.puts ks; inputs = arriving plan.net.sources 0 X.inputs inputs; outputs = outlets plan.net.places plan.net.sources; met = [] })
   first-scene a b c = record {
-    parties = λ i p e. let w = seat-of plan.barriers X.got X.puts ks i p e in subst (λ (v : Party T S). PartyIs facts step plan X inputs ks (λ j. []) [] i v) (sym w.2) (seated-is i p.state w.0 w.1);
-    inlets = λ j u g. let z : 0 + j ≡ j = omega arith in by_input j u (subst (λ v. Has u (at X.inputs j) ⊎ Has u (puts_of_port (channels_from 0 (Own v) plan.net.sources) (at inputs v))) z (arrived plan.net.sources 0 X.inputs inputs j u g));
+    parties = λ i p e. let w = seat-of plan.barriers X.got X.puts ks i p e in subst (λ (v : Party T S). PartyIs facts step tag ks [] i v) (sym w.2) (seated-is i p.state w.0 w.1);
     bare = λ v g. absurd g;
     quiet = refl;
     count = seats-count plan.barriers X.got X.puts ks a b c;
     beyond = λ i g. refl;
   }
     where
-      seated-is : (i : ℕ) (s : S) (b : Bool) → get ks i ≡ Some s → PartyIs facts step plan X inputs ks (λ j. []) [] i (record { barrier = b; state = s; got = got_by X.got i; puts = at X.puts i; mood = Well; log = silent })
+      seated-is : (i : ℕ) (s : S) (b : Bool) → get ks i ≡ Some s → PartyIs facts step tag ks [] i (record { barrier = b; state = s; got = got_by X.got i; puts = at X.puts i; mood = Well; log = silent })
       seated-is i s b e = record {
         start = s;
         at_start = e;
         way = None;
         whole = record { first = silent; rest = silent; chain = (refl, refl); ends = refl; whole = refl };
         well = λ g. refl;
-        taken = λ t g q x f. absurd g;
-        begun = λ w g q x f. absurd (clash w g);
-        got = λ q x f. inl (inl f);
-        puts = λ u f. inl (i, u, f, refl, refl);
+        begins = λ w g. absurd (clash w g);
+        tagged = λ w g. absurd (clash w g);
       }
         where
           clash : (w : Begun T) → None ≡ Some w → ⊥
           clash w g = cc
 
-      by_input : (j : ℕ) (u : Put T) → Has u (at X.inputs j) ⊎ Has u (puts_of_port (channels_from 0 (Own j) plan.net.sources) (at inputs j)) → PutCause plan X inputs (λ i. []) u.channel u.token
-      by_input j u (inl g) = inr (inl (j, u, g, refl, refl))
-      by_input j u (inr g) = let w = inlet-put plan.net.sources j (at inputs j) u g in inr (inr (subst (λ v. ComesNow inputs (λ i. []) u.token v) (sym w.0) w.1))
+  seats-got : (bs : List Bool) (gs : List (Streams T)) (us : List (List (Put T))) (ss : List S) → length bs ≡ length ss → length gs ≡ length ss → length us ≡ length ss → (all_got (seated bs gs us ss) ≡ gs) × (all_puts (seated bs gs us ss) ≡ us)
+  seats-got [] [] [] ss a b c = (refl, refl)
+  seats-got [] (g ∷ gs) us ss a b c = absurd (omega (arith, a, b))
+  seats-got [] [] (u ∷ us) ss a b c = absurd (omega (arith, a, c))
+  seats-got (x ∷ bs) [] us ss a b c = absurd (omega (arith, a, b))
+  seats-got (x ∷ bs) (g ∷ gs) [] ss a b c = absurd (omega (arith, a, c))
+  seats-got (x ∷ bs) (g ∷ gs) (u ∷ us) [] a b c = absurd (omega (arith, a))
+  seats-got (x ∷ bs) (g ∷ gs) (u ∷ us) (s ∷ ss) a b c = let r = seats-got bs gs us ss (omega (arith, a)) (omega (arith, b)) (omega (arith, c)) in (ap (λ v. g ∷ v) r.0, ap (λ v. u ∷ v) r.1)
 
-  pub rv-explained : (k n : ℕ) (ms : List Meeting) → length plan.barriers ≡ length ks → length X.got ≡ length ks → length X.puts ≡ length ks → Explained facts step inputs (Rv plan X) (Rv plan) ks (rv facts step plan k n ms tag X ks inputs)
-  rv-explained k n ms a b c = under-explained k n ms (λ i. []) _ (first-scene a b c)
+  arriving-long : (sources : List Source) (b : ℕ) (kept : List (List (Put T))) (Y : Streams T) → length (arriving sources b kept Y) ≡ length kept
+  arriving-long sources b [] Y = refl
+  arriving-long sources b (us ∷ kept) Y = ap (λ v. suc v) (arriving-long sources (suc b) kept Y)
+
+  arriving-at : (sources : List Source) (b : ℕ) (kept : List (List (Put T))) (Y : Streams T) (j : ℕ) → j < length kept → at (arriving sources b kept Y) j ≡ at kept j ++ puts_of_port (channels_from 0 (Own (b + j)) sources) (at Y (b + j))
+  arriving-at sources b [] Y j h = absurd (omega (arith, h))
+  arriving-at sources b (us ∷ kept) Y zero h = let a : b ≡ b + 0 = omega arith in ap (λ v. us ++ puts_of_port (channels_from 0 (Own v) sources) (at Y v)) a
+  arriving-at sources b (us ∷ kept) Y (suc j) h = let a : suc b + j ≡ b + suc j = omega arith in arriving-at sources (suc b) kept Y j (omega (arith, h)) ∙ ap (λ v. at kept j ++ puts_of_port (channels_from 0 (Own v) sources) (at Y v)) a
+
+  first-counts : length plan.barriers ≡ length ks → length X.got ≡ length ks → length X.puts ≡ length ks → HasRooms plan.net X →
+      Counts (λ i. []) (record { parties = seated plan.barriers X.got X.puts ks; inputs = arriving plan.net.sources 0 X.inputs inputs; outputs = outlets plan.net.places plan.net.sources; met = [] })
+  first-counts a b c r = (
+    record { gathers = λ i. ap (λ Y. length (got_by Y i)) seats.0 ∙ r.gathers i; sends = λ d j e. subst (λ v. j < v) (sym (arriving-long plan.net.sources 0 X.inputs inputs)) (r.sends d j e) },
+    λ i q. go i q (channel_at plan.net.places i q),
+  )
+    where
+      seats : (all_got (seated plan.barriers X.got X.puts ks) ≡ X.got) × (all_puts (seated plan.barriers X.got X.puts ks) ≡ X.puts)
+      seats = seats-got plan.barriers X.got X.puts ks a b c
+
+      same-source : (j : ℕ) → is_source (Own j) (Own j) ≡ true
+      same-source j = grind (arith, nat_tests)
+
+      waits : (d : ℕ) (s : Option Source) → get plan.net.sources d ≡ s →
+          tokens_on d (waiting_in (record { got = all_got (seated plan.barriers X.got X.puts ks); puts = all_puts (seated plan.barriers X.got X.puts ks); inputs = arriving plan.net.sources 0 X.inputs inputs }) s) ≡ tokens_on d (waiting_in X s) ++ gives_in inputs (λ i. []) s
+      waits d None e = refl
+      waits d (Some (Own j)) e =
+          let z : 0 + j ≡ j = omega arith in
+          ap (λ us. tokens_on d us) (arriving-at plan.net.sources 0 X.inputs inputs j (r.sends d j e) ∙ ap (λ v. at X.inputs j ++ puts_of_port (channels_from 0 (Own v) plan.net.sources) (at inputs v)) z) ∙
+          tokens-append d (at X.inputs j) _ ∙ ap (λ v. tokens_on d (at X.inputs j) ++ v) (port-puts (Own j) plan.net.sources d (at inputs j) ∙ ap (λ o. if_from (Own j) o (at inputs j)) e ∙ ap (λ w. if w then at inputs j else []) (same-source j))
+      waits d (Some (Output j port)) e = ap (λ v. tokens_on d (at v j)) seats.1 ∙ sym (append-nil (tokens_on d (at X.puts j)))
+
+      go : (i q : ℕ) (o : Option ℕ) →
+          on_its_way plan.net (record { got = all_got (seated plan.barriers X.got X.puts ks); puts = all_puts (seated plan.barriers X.got X.puts ks); inputs = arriving plan.net.sources 0 X.inputs inputs }) i q o ≡ on_its_way plan.net X i q o ++ gives_in inputs (λ i. []) (if_there (get plan.net.sources) o)
+      go i q None = refl
+      go i q (Some d) = ap₂ (λ Y w. at (got_by Y i) q ++ w) seats.0 (waits d (get plan.net.sources d) refl) ∙ sym (append_assoc (at (got_by X.got i) q) (tokens_on d (waiting_in X (get plan.net.sources d))) (gives_in inputs (λ i. []) (get plan.net.sources d)))
+
+  pub rv-explained : (k n : ℕ) (ms : List Meeting) → length plan.barriers ≡ length ks → length X.got ≡ length ks → length X.puts ≡ length ks → HasRooms plan.net X → Explained facts step tag inputs (Rv plan X) (Rv plan) ks (rv facts step plan k n ms tag X ks inputs)
+  rv-explained k n ms a b c r = under-explained k n ms (λ i. []) _ (first-scene a b c) (first-counts a b c r)

@@ -4,15 +4,16 @@ use Rattle.std.proofs.lemmas.Bool.Decides.{nat_tests}
 use Rattle.std.proofs.Math.Path.{fun_ext}
 use Rattle.pt_meaning.specs.Basics.{Tag, Streams, at, Log, Path, silent, log_then, own, log_below}
 use Rattle.pt_meaning.specs.Machine.{Fault, Outcome, Done, Stuck, Stepping, Facts, recorded}
-use Rattle.pt_meaning.specs.Rounds.{Source, Own, Output}
 use Rattle.pt_meaning.specs.Dataflow.{Inside, prefixed}
 use Rattle.pt_meaning.specs.Modal.{unfired_outputs, Chart, Modes, Choice, Nothing, One, Wrong, Acted, Acts, Fails, chosen, change_at, change_if, get, reset_unless, local, lag_of, picked, shown, below_number, stuck, taken, afterwards, put_state, on_refinement, at_refinement, with_refinement, preempted, modal}
 use Rattle.pt_meaning.specs.Rendezvous.{with_meetings}
 use Rattle.pt_meaning.specs.Node.{Modal}
-use Rattle.pt_meaning.specs.Causes.{Has, Begun, source_of, as_own}
 use Rattle.pt_meaning.specs.LogsOfRuns.{log_at, log_in}
-use Rattle.pt_meaning.specs.SoundRuns.{OnPlace}
-use Rattle.pt_meaning.specs.Explained.{Turned, PartOf, Takes, ComesNow, ComesNowOrEarly, IfDone, Explained}
+use Rattle.pt_meaning.specs.Streams.{IsPrefix}
+use Rattle.pt_meaning.specs.Closed.{Begun, as_own, inputs_at, begun_at}
+use Rattle.pt_meaning.specs.SoundRuns.{IsSamePlan}
+use Rattle.pt_meaning.specs.Explained.{Turned, PartOf, IfDone, Explained, of_turns, gives_in}
+use Rattle.pt_meaning.proofs.Order.{IsPrefix-refl}
 
 some-of : {A : Type 0} (x y : A) → Some x ≡ Some y → x ≡ y
 some-of x y e = cc
@@ -77,10 +78,10 @@ state-of any (x ∷ ss) zero s e = some-of s x (sym e)
 state-of any (x ∷ ss) (suc i) s e = state-of any ss i s e
 
 -- what a refinement takes came through the own inputs of its ports
-picked-from : {T : Type 0} (ps : List ℕ) (inputs : Streams T) (q : ℕ) (x : T) (ts : ℕ → List (Turned T)) → Has x (at (picked ps inputs) q) → ComesNow inputs ts x (as_own (get ps q))
-picked-from [] inputs q x ts h = absurd h
-picked-from (p ∷ ps) inputs zero x ts h = h
-picked-from (p ∷ ps) inputs (suc q) x ts h = picked-from ps inputs q x ts h
+picked-exact : {T : Type 0} (ps : List ℕ) (inputs : Streams T) (q : ℕ) (ts : ℕ → List (Turned T)) → IsPrefix (at (picked ps inputs) q) (gives_in inputs ts (as_own (get ps q)))
+picked-exact [] inputs q ts = tt
+picked-exact (p ∷ ps) inputs zero ts = IsPrefix-refl (at inputs p)
+picked-exact (p ∷ ps) inputs (suc q) ts = picked-exact ps inputs q ts
 
 module _ {T S : Type 0} (chart : Chart T) (facts : Facts T S) (step : Stepping T S) (made : ℕ) (tag : Tag) (m : Modes T) (ks : List S) (inputs : Streams T) (any : S) where
   -- an entry that may be reset
@@ -120,25 +121,38 @@ module _ {T S : Type 0} (chart : Chart T) (facts : Facts T S) (step : Stepping T
   abbrev Ends : (ℕ → List (Turned T)) → List S → Outcome T (Inside (Modes T) S) → Type 0
   Ends turns zs r = IfDone facts inputs (Modal chart m) (Modal chart) ks turns (λ i. None) (λ i. state_or any zs i) r
 
-  taken-ends : (turns : ℕ → List (Turned T)) (zs : List S) → length zs ≡ length ks → (early : Bool) (n : ℕ) (l : Log T) (a : Acted T) → Ends turns zs (taken chart facts step made tag early n m zs l a)
-  taken-ends turns zs e early n l (Fails code) = tt
-  taken-ends turns zs e early n l (Acts out values) = record {
+  -- each refinement takes what came through the own inputs of its ports
+  AllFed : (ℕ → List (Turned T)) → Type 0
+  AllFed turns = (i q : ℕ) → IsPrefix (of_turns (inputs_at q) (turns i)) (gives_in inputs turns (as_own (get (chart.in_ports i) q)))
+
+  same-plan : (x y : Modes T) → IsSamePlan (Modal chart x) (Modal chart y)
+  same-plan x y = record { sources = λ i q. refl; modal = refl; keeps = refl }
+
+  not-kept : false ≡ true → ⊥
+  not-kept e = cc
+
+  taken-ends : (turns : ℕ → List (Turned T)) → AllFed turns → (zs : List S) → length zs ≡ length ks → (early : Bool) (n : ℕ) (l : Log T) (a : Acted T) → Ends turns zs (taken chart facts step made tag early n m zs l a)
+  unfolding AllFed
+  taken-ends turns fed zs e early n l (Fails code) = tt
+  taken-ends turns fed zs e early n l (Acts out values) = record {
     whole = λ i. refl;
-    plan = λ i q. refl;
-    tokens = λ i q y g. absurd g;
     wired = tt;
     count = changes-long _ _ zs ∙ e;
     kids = λ i y g. let r = reset-either _ _ zs i y g in at_end i y r.0 (state-of any zs i r.0 r.1) r.2;
+    same_plan = same-plan _ m;
+    counted = fed;
+    left = λ g. absurd (not-kept g);
   }
     where
-      at_end : (i : ℕ) (y x : S) → x ≡ state_or any zs i → (y ≡ x) ⊎ (y ≡ facts.reset x) → (y ≡ state_or any zs i) ⊎ (y ≡ facts.reset (state_or any zs i))
+      at_end : (i : ℕ) (y x : S) → x ≡ state_or any zs i → (y ≡ x) ⊎ (y ≡ facts.reset x) → (y ≡ state_or any zs i) ⊎ ((true ≡ true) × (y ≡ facts.reset (state_or any zs i)))
       at_end i y x s (inl a) = inl (a ∙ s)
-      at_end i y x s (inr b) = inr (b ∙ ap (λ v. facts.reset v) s)
+      at_end i y x s (inr b) = inr (refl, b ∙ ap (λ v. facts.reset v) s)
 
-  after-ends : (turns : ℕ → List (Turned T)) (zs : List S) → length zs ≡ length ks → (out : Streams T) (l : Log T) (c : Choice) → Ends turns zs (afterwards chart facts step made tag m zs inputs out l c)
-  after-ends turns zs e out l Nothing = record { whole = λ i. refl; plan = λ i q. refl; tokens = λ i q y g. absurd g; wired = tt; count = e; kids = λ i y g. inl (state-of any zs i y g) }
-  after-ends turns zs e out l (One n) = taken-ends turns zs e false n l (chart.act false m.mode n m.values inputs out)
-  after-ends turns zs e out l (Wrong code) = tt
+  after-ends : (turns : ℕ → List (Turned T)) → AllFed turns → (zs : List S) → length zs ≡ length ks → (out : Streams T) (l : Log T) (c : Choice) → Ends turns zs (afterwards chart facts step made tag m zs inputs out l c)
+  unfolding AllFed
+  after-ends turns fed zs e out l Nothing = record { same_plan = same-plan m m; counted = fed; left = λ g. absurd (not-kept g); whole = λ i. refl; wired = tt; count = e; kids = λ i y g. inl (state-of any zs i y g) }
+  after-ends turns fed zs e out l (One n) = taken-ends turns fed zs e false n l (chart.act false m.mode n m.values inputs out)
+  after-ends turns fed zs e out l (Wrong code) = tt
 
   taken-log : (early : Bool) (n : ℕ) (zs : List S) (l : Log T) (a : Acted T) → log_in (taken chart facts step made tag early n m zs l a) ≡ l
   taken-log early n zs l (Acts out values) = refl
@@ -150,7 +164,7 @@ module _ {T S : Type 0} (chart : Chart T) (facts : Facts T S) (step : Stepping T
   after-log zs out l (Wrong code) = refl
 
   Explains : Outcome T (Inside (Modes T) S) → Type 0
-  Explains r = Explained facts step inputs (Modal chart m) (Modal chart) ks r
+  Explains r = Explained facts step tag inputs (Modal chart m) (Modal chart) ks r
 
   -- no child fires
   none-fires : (r : Outcome T (Inside (Modes T) S)) → log_in r ≡ silent → Ends (λ i. []) ks r → Explains r
@@ -166,16 +180,13 @@ module _ {T S : Type 0} (chart : Chart T) (facts : Facts T S) (step : Stepping T
     ends = λ i. state_or any ks i;
     parts = λ i s g. record { first = silent; rest = silent; chain = (sym (state-of any ks i s g), refl); ends = refl; whole = refl };
     beyond = λ i g. (refl, refl, refl);
-    taken = λ i q t x g. absurd (nobody i q t x g);
+    tagged = λ i b g. absurd (no-begun b g);
+    counted = λ i q. inl tt;
     done = h;
   }
     where
-      nobody : (i q : ℕ) (t : Tag) (x : T) → Takes (λ i. []) (λ i. None) i q t x → ⊥
-      nobody i q t x (inl g) = g.1
-      nobody i q t x (inr g) = clash g.0 g.1
-        where
-          clash : (b : Begun T) → None ≡ Some b → ⊥
-          clash b e = cc
+      no-begun : (b : Begun T) → None ≡ Some b → ⊥
+      no-begun b e = cc
 
   -- child i alone fires
   one_turn : ℕ → Turned T → ℕ → List (Turned T)
@@ -208,17 +219,27 @@ module _ {T S : Type 0} (chart : Chart T) (facts : Facts T S) (step : Stepping T
   within-list (x ∷ xs) (suc i) zero s e h = absurd (omega arith)
   within-list (x ∷ xs) (suc i) (suc j) s e h = nat-below i j ∙ within-list xs i j s e (omega (arith, h))
 
-  module _ (i : ℕ) (s : S) (e : get ks i ≡ Some s) (t : Tag) where
+  module _ (i : ℕ) (s : S) (e : get ks i ≡ Some s) (t : Tag) (lag : ℕ) (lagging : t ≡ local tag lag) where
     abbrev got : Streams T
     got = picked (chart.in_ports i) inputs
 
     quiet-part : (j : ℕ) (z : S) → get ks j ≡ Some z → (y : S) → y ≡ z → (l : Log T) → l ≡ silent → PartOf facts step z l [] None y
     quiet-part j z g y same l quiet = record { first = silent; rest = silent; chain = (same, refl); ends = refl; whole = quiet }
 
+    turn-fed : (i : ℕ) (turn : Turned T) → turn.record_of.inputs ≡ picked (chart.in_ports i) inputs → AllFed (one_turn i turn)
+    unfolding AllFed one_turn
+    turn-fed i turn w j q = go (nat_eq i j) refl
+      where
+        go : (b : Bool) → nat_eq i j ≡ b → IsPrefix (of_turns (inputs_at q) (if b then turn ∷ [] else [])) (gives_in inputs (λ j. if nat_eq i j then turn ∷ [] else []) (as_own (get (chart.in_ports j) q)))
+        go false n = tt
+        go true n =
+            subst (λ v. IsPrefix v (gives_in inputs (λ j. if nat_eq i j then turn ∷ [] else []) (as_own (get (chart.in_ports j) q)))) (sym (append-nil (at turn.record_of.inputs q) ∙ ap (λ (Y : Streams T). at Y q) w))
+            (subst (λ v. IsPrefix (at (picked (chart.in_ports i) inputs) q) (gives_in inputs (λ j. if nat_eq i j then turn ∷ [] else []) (as_own (get (chart.in_ports v) q)))) (same-number i j n) (picked-exact (chart.in_ports i) inputs q (λ j. if nat_eq i j then turn ∷ [] else [])))
+
     -- its firing is done
     fires-done : (z : S) (out : Streams T) (l : Log T) → step t s got ≡ Done z out l → (r : Outcome T (Inside (Modes T) S)) → log_in r ≡ below_number i (log_then l (own (record { number = facts.made s; tag = t; inputs = got; outputs = out }))) →
         Ends (one_turn i (record { record_of = record { number = facts.made s; tag = t; inputs = got; outputs = out }; inside = l })) (change_at i (put_state chart facts step z) ks) r → Explains r
-    unfolding Explains one_turn
+    unfolding Explains one_turn AllFed
     fires-done z out l d r log ends = record {
       events = [];
       bare = λ v g. absurd g;
@@ -230,10 +251,14 @@ module _ {T S : Type 0} (chart : Chart T) (facts : Facts T S) (step : Stepping T
       ends = λ j. state_or any (change_at i (put_state chart facts step z) ks) j;
       parts = λ j y g. part_by j y g (nat_eq i j) refl;
       beyond = λ j h. let n : nat_eq i j ≡ false = within-list ks i j s e h in (alone-other i j L n, ap (λ b. if b then turn ∷ [] else []) n, refl);
-      taken = λ j q u x g. take j q u x g;
+      tagged = λ j b g. absurd (no-begun b g);
+      counted = λ j q. inl (subst (λ v. IsPrefix v (gives_in inputs (one_turn i turn) (as_own (get (chart.in_ports j) q)))) (sym (append-nil (of_turns (inputs_at q) (one_turn i turn j)))) (turn-fed i turn refl j q));
       done = ends;
     }
       where
+        no-begun : (b : Begun T) → None ≡ Some b → ⊥
+        no-begun b e = cc
+
         turn : Turned T
         turn = record { record_of = record { number = facts.made s; tag = t; inputs = got; outputs = out }; inside = l }
 
@@ -257,27 +282,6 @@ module _ {T S : Type 0} (chart : Chart T) (facts : Facts T S) (step : Stepping T
               whole = alone-at i L ∙ fun_ext (λ p. sym (append-nil (L p)) ∙ sym (append-nil (L p ++ [])));
             })))
 
-        take : (j q : ℕ) (u : Tag) (x : T) → Takes (one_turn i turn) (λ k. None) j q u x → OnPlace (Modal chart m) j q x ⊎ ComesNowOrEarly facts ks inputs (one_turn i turn) u x (source_of (Modal chart m) j q)
-        take j q u x (inr g) = absurd (clash g.0 g.1)
-          where
-            clash : (b : Begun T) → None ≡ Some b → ⊥
-            clash b h = cc
-        take j q u x (inl g) = go (nat_eq i j) refl g.1
-          where
-            go : (b : Bool) → nat_eq i j ≡ b → Has g.0 (if nat_eq i j then turn ∷ [] else []) → OnPlace (Modal chart m) j q x ⊎ ComesNowOrEarly facts ks inputs (one_turn i turn) u x (source_of (Modal chart m) j q)
-            go false n h = absurd (subst (λ (b : Bool). Has g.0 (if b then turn ∷ [] else [])) n h)
-            go true n h = by_turn (subst (λ (b : Bool). Has g.0 (if b then turn ∷ [] else [])) n h)
-              where
-                may : (o : Option Source) → ComesNow inputs (one_turn i turn) x o → ComesNowOrEarly facts ks inputs (one_turn i turn) u x o
-                may None h = h
-                may (Some (Own port)) h = h
-                may (Some (Output k port)) h = inl h
-
-                by_turn : Has g.0 (turn ∷ []) → OnPlace (Modal chart m) j q x ⊎ ComesNowOrEarly facts ks inputs (one_turn i turn) u x (source_of (Modal chart m) j q)
-                by_turn (inr h) = absurd h
-                by_turn (inl h) =
-                    inr (may (source_of (Modal chart m) j q) (subst (λ v. ComesNow inputs (one_turn i turn) x (as_own (get (chart.in_ports v) q))) (same-number i j n) (picked-from (chart.in_ports i) inputs q x (one_turn i turn) (subst (λ (v : Turned T). Has x (at v.record_of.inputs q)) h g.3))))
-
     -- its firing is stuck
     fires-stuck : (fs : List Fault) (l : Log T) → step t s got ≡ Stuck fs l → (gs : List Fault) → Explains (Stuck gs (below_number i l))
     unfolding Explains one_way
@@ -292,12 +296,26 @@ module _ {T S : Type 0} (chart : Chart T) (facts : Facts T S) (step : Stepping T
       ends = λ j. state_or any ks j;
       parts = λ j y g. part_by j y g (nat_eq i j) refl;
       beyond = λ j h. let n : nat_eq i j ≡ false = within-list ks i j s e h in (alone-other i j l n, refl, ap (λ b. if b then Some begun else None) n);
-      taken = λ j q u x g. take j q u x g;
+      tagged = λ j b g. tagged_by j b (nat_eq i j) g;
+      counted = λ j q. inl (fed_by j q (nat_eq i j) refl);
       done = tt;
     }
       where
         begun : Begun T
         begun = record { tag = t; inputs = got }
+
+        tagged_by : (j : ℕ) (b : Begun T) (v : Bool) → (if v then Some begun else None) ≡ Some b → (lag : ℕ) × (b.tag ≡ local tag lag)
+        tagged_by j b true g = (lag, ap (λ (w : Begun T). w.tag) (sym (some-of begun b g)) ∙ lagging)
+        tagged_by j b false g = absurd (clash g)
+          where
+            clash : None ≡ Some b → ⊥
+            clash e = cc
+
+        fed_by : (j q : ℕ) (v : Bool) → nat_eq i j ≡ v → IsPrefix (begun_at (if nat_eq i j then Some begun else None) q) (gives_in inputs (λ k. []) (as_own (get (chart.in_ports j) q)))
+        fed_by j q false n = subst (λ b. IsPrefix (begun_at (if b then Some begun else None) q) (gives_in inputs (λ k. []) (as_own (get (chart.in_ports j) q)))) (sym n) tt
+        fed_by j q true n =
+            subst (λ b. IsPrefix (begun_at (if b then Some begun else None) q) (gives_in inputs (λ k. []) (as_own (get (chart.in_ports j) q)))) (sym n)
+            (subst (λ v. IsPrefix (at (picked (chart.in_ports i) inputs) q) (gives_in inputs (λ k. []) (as_own (get (chart.in_ports v) q)))) (same-number i j n) (picked-exact (chart.in_ports i) inputs q (λ k. [])))
 
         part_by : (j : ℕ) (y : S) → get ks j ≡ Some y → (b : Bool) → nat_eq i j ≡ b → PartOf facts step y (log_at (alone i l) j) [] (if nat_eq i j then Some begun else None) (state_or any ks j)
         part_by j y g false n =
@@ -315,24 +333,6 @@ module _ {T S : Type 0} (chart : Chart T) (facts : Facts T S) (step : Stepping T
               whole = alone-at i l;
             })))
 
-        take : (j q : ℕ) (u : Tag) (x : T) → Takes (λ k. []) (one_way i begun) j q u x → OnPlace (Modal chart m) j q x ⊎ ComesNowOrEarly facts ks inputs (λ k. []) u x (source_of (Modal chart m) j q)
-        take j q u x (inl g) = absurd g.1
-        take j q u x (inr g) = go (nat_eq i j) refl g.1
-          where
-            go : (b : Bool) → nat_eq i j ≡ b → (if nat_eq i j then Some begun else None) ≡ Some g.0 → OnPlace (Modal chart m) j q x ⊎ ComesNowOrEarly facts ks inputs (λ k. []) u x (source_of (Modal chart m) j q)
-            go false n h = absurd (clash (sym (ap (λ b. if b then Some begun else None) n) ∙ h))
-              where
-                clash : None ≡ Some g.0 → ⊥
-                clash h = cc
-            go true n h =
-                let b : begun ≡ g.0 = some-of begun g.0 (sym (ap (λ b. if b then Some begun else None) n) ∙ h) in
-                inr (may (source_of (Modal chart m) j q) (subst (λ v. ComesNow inputs (λ k. []) x (as_own (get (chart.in_ports v) q))) (same-number i j n) (picked-from (chart.in_ports i) inputs q x (λ k. []) (subst (λ (v : Begun T). Has x (at v.inputs q)) (sym b) g.3))))
-              where
-                may : (o : Option Source) → ComesNow inputs (λ k. []) x o → ComesNowOrEarly facts ks inputs (λ k. []) u x o
-                may None h = h
-                may (Some (Own port)) h = h
-                may (Some (Output k port)) h = inl h
-
     -- whichever it is
     refinement-explained : (o : Outcome T S) → step t s got ≡ o → Explains (on_refinement chart facts step made tag i m ks inputs (recorded (facts.made s) t got o))
     refinement-explained (Stuck fs l) d = fires-stuck fs l d (prefixed i fs)
@@ -341,21 +341,25 @@ module _ {T S : Type 0} (chart : Chart T) (facts : Facts T S) (step : Stepping T
         let zs = change_at i (put_state chart facts step z) ks in
         let L : Log T = below_number i (log_then l (own (record { number = facts.made s; tag = t; inputs = got; outputs = out }))) in
         fires-done z out l d (afterwards chart facts step made tag m zs inputs given L (chosen 0 (chart.others m.mode m.values inputs given))) (after-log zs given L (chosen 0 (chart.others m.mode m.values inputs given)))
-        (after-ends _ zs (change-long i (put_state chart facts step z) ks) given L (chosen 0 (chart.others m.mode m.values inputs given)))
+        (after-ends _ (turn-fed i (record { record_of = record { number = facts.made s; tag = t; inputs = got; outputs = out }; inside = l }) refl) zs (change-long i (put_state chart facts step z) ks) given L (chosen 0 (chart.others m.mode m.values inputs given)))
+
+  none-fed : AllFed (λ i. [])
+  unfolding AllFed
+  none-fed i q = tt
 
   at-explained : (i : ℕ) (o : Option S) → get ks i ≡ o → Explains (at_refinement chart facts step made tag m ks inputs i o)
   at-explained i None e = none-fires (Stuck [] silent) refl tt
-  at-explained i (Some s) e = refinement-explained i s e (local tag (lag_of m.stays i)) (step (local tag (lag_of m.stays i)) s (picked (chart.in_ports i) inputs)) refl
+  at-explained i (Some s) e = refinement-explained i s e (local tag (lag_of m.stays i)) (lag_of m.stays i) refl (step (local tag (lag_of m.stays i)) s (picked (chart.in_ports i) inputs)) refl
 
   with-explained : (o : Option ℕ) → Explains (with_refinement chart facts step made tag m ks inputs o)
-  with-explained None = none-fires (afterwards chart facts step made tag m ks inputs (unfired_outputs chart) silent (chosen 0 (chart.others m.mode m.values inputs (unfired_outputs chart)))) (after-log ks (unfired_outputs chart) silent (chosen 0 (chart.others m.mode m.values inputs (unfired_outputs chart)))) (after-ends (λ i. []) ks refl (unfired_outputs chart) silent (chosen 0 (chart.others m.mode m.values inputs (unfired_outputs chart))))
+  with-explained None = none-fires (afterwards chart facts step made tag m ks inputs (unfired_outputs chart) silent (chosen 0 (chart.others m.mode m.values inputs (unfired_outputs chart)))) (after-log ks (unfired_outputs chart) silent (chosen 0 (chart.others m.mode m.values inputs (unfired_outputs chart)))) (after-ends (λ i. []) none-fed ks refl (unfired_outputs chart) silent (chosen 0 (chart.others m.mode m.values inputs (unfired_outputs chart))))
   with-explained (Some i) = at-explained i (get ks i) refl
 
   cases-explained : (c : Choice) → Explains (preempted chart facts step made tag m ks inputs c)
   cases-explained Nothing = with-explained (chart.refinement m.mode)
-  cases-explained (One n) = none-fires (taken chart facts step made tag true n m ks silent (chart.act true m.mode n m.values inputs (unfired_outputs chart))) (taken-log true n ks silent (chart.act true m.mode n m.values inputs (unfired_outputs chart))) (taken-ends (λ i. []) ks refl true n silent (chart.act true m.mode n m.values inputs (unfired_outputs chart)))
+  cases-explained (One n) = none-fires (taken chart facts step made tag true n m ks silent (chart.act true m.mode n m.values inputs (unfired_outputs chart))) (taken-log true n ks silent (chart.act true m.mode n m.values inputs (unfired_outputs chart))) (taken-ends (λ i. []) none-fed ks refl true n silent (chart.act true m.mode n m.values inputs (unfired_outputs chart)))
   cases-explained (Wrong code) = none-fires (stuck chart facts step made code silent) refl tt
 
-  pub modal-explained : Explained facts step inputs (Modal chart m) (Modal chart) ks (modal chart facts step made tag m ks inputs)
+  pub modal-explained : Explained facts step tag inputs (Modal chart m) (Modal chart) ks (modal chart facts step made tag m ks inputs)
   unfolding Explains
   modal-explained = cases-explained (chosen 0 (chart.preemptive m.mode m.values inputs))

@@ -1,90 +1,24 @@
 -- The processes and the scenes of a Rendezvous firing explained.
-use Rattle.std.proofs.Common.{◌≡◌, ◌⊎◌, ℕ, zero, suc, ◌+◌, ◌≤◌, List, [], ◌∷◌, ◌++◌, Bool, true, false, ◌&&◌, nat_eq, length, Option, Some, None, inl, inr, refl, sym, ap, ap₂, subst, arith, ◌∙◌, append_assoc, append-nil}
+use Rattle.std.proofs.Common.{◌≡◌, ℕ, zero, suc, ◌+◌, ◌≤◌, List, [], ◌∷◌, ◌++◌, true, nat_eq, length, Option, Some, None, refl, sym, ap, subst, arith, ◌∙◌, append_assoc, append-nil, if◌then◌else◌}
 use Rattle.std.proofs.lemmas.Bool.Decides.{nat_tests}
 use Rattle.std.proofs.Math.Path.{fun_ext}
-use Rattle.pt_meaning.specs.Basics.{Tag, Streams, at, Log, silent, log_then, own}
+use Rattle.pt_meaning.specs.Basics.{Tag, Streams, at, Firing, Log, silent, log_then, own}
 use Rattle.pt_meaning.specs.Machine.{Fault, Outcome, Done, Stuck, Stepping, Facts, recorded}
-use Rattle.pt_meaning.specs.Rounds.{Source, Own, Output}
+use Rattle.pt_meaning.specs.Rounds.{Output}
 use Rattle.pt_meaning.specs.Modal.{get}
-use Rattle.pt_meaning.specs.Process.{Put, Well, Broken, Party, Next, Puts, Fires, Gets, GetsAny, Joins, Idle, Sticks, next_event, is_source, listed_if, channels_from, to_each, puts_of_port, puts_of, emptied, fired, if_fires, advance, advanced, all_advanced}
-use Rattle.pt_meaning.specs.Rendezvous.{RvPlan, Places}
-use Rattle.pt_meaning.specs.Node.{Rv}
-use Rattle.pt_meaning.specs.Causes.{Has, Begun, source_in}
+use Rattle.pt_meaning.specs.Process.{Put, Mood, Well, Broken, Party, by_mood, by_puts, by_need, all_got, all_puts, Next, Puts, Fires, Gets, GetsAny, Joins, Idle, Sticks, next_event, emptied, fired, if_fires, advance, advanced, all_advanced}
+use Rattle.pt_meaning.specs.Rendezvous.{RvPlan}
 use Rattle.pt_meaning.specs.LogsOfRuns.{log_in}
-use Rattle.pt_meaning.specs.SoundRuns.{IsPutOn, OnPlace}
-use Rattle.pt_meaning.specs.Explained.{Turned, ChainOf, PartOf, ComesNow}
+use Rattle.pt_meaning.specs.Streams.{IsPrefix}
+use Rattle.pt_meaning.specs.Closed.{Begun, inputs_at, outputs_at}
+use Rattle.pt_meaning.specs.Places.{tokens_on, puts_from}
+use Rattle.pt_meaning.specs.SoundRuns.{got_by}
+use Rattle.pt_meaning.specs.Explained.{Turned, ChainOf, PartOf, of_turns}
+use Rattle.pt_meaning.proofs.Order.{IsPrefix-refl}
+use Rattle.pt_meaning.proofs.PlaceEnds.{puts-are}
 use Rattle.pt_meaning.proofs.JoinLaws.{log-assoc}
 use Rattle.pt_meaning.proofs.PartyLaws.{fires-well}
 use Rattle.pt_meaning.proofs.MeetingIndex.{some-same}
-use Rattle.pt_meaning.proofs.LevelLaws.{has-left, has-right, has-either}
-
--- the channels that begin at a source, and the puts on them
-same-source : (s d : Source) → is_source s d ≡ true → d ≡ s
-same-source (Own i) (Own j) e = let a : j ≡ i = grind (arith, nat_tests, e) in ap (λ v. Own v) a
-same-source (Own i) (Output j q) e = absurd (cc)
-same-source (Output i p) (Own j) e = absurd (cc)
-same-source (Output i p) (Output j q) e = both (nat_eq i j) (nat_eq p q) refl refl e
-  where
-    both : (x y : Bool) → nat_eq i j ≡ x → nat_eq p q ≡ y → (x && y) ≡ true → Output j q ≡ Output i p
-    both true true a b e = let c : j ≡ i = grind (arith, nat_tests, a) in let d : q ≡ p = grind (arith, nat_tests, b) in ap₂ (λ u v. Output u v) c d
-    both true false a b e = absurd (cc)
-    both false y a b e = absurd (cc)
-
-channel-from : (c : ℕ) (s : Source) (ds : List Source) (d : ℕ) → Has d (channels_from c s ds) → (r : ℕ) × (d ≡ c + r) × (get ds r ≡ Some s)
-channel-from c s [] d h = absurd h
-channel-from c s (x ∷ ds) d h = go (is_source s x) refl h (λ g. channel-from (suc c) s ds d g)
-  where
-    up : ((r : ℕ) × (d ≡ suc c + r) × (get ds r ≡ Some s)) → (r : ℕ) × (d ≡ c + r) × (get (x ∷ ds) r ≡ Some s)
-    up r = let a : suc c + r.0 ≡ c + suc r.0 = omega arith in (suc r.0, r.1 ∙ a, r.2)
-
-    go : (b : Bool) → is_source s x ≡ b → Has d (listed_if b c (channels_from (suc c) s ds)) → (Has d (channels_from (suc c) s ds) → (r : ℕ) × (d ≡ suc c + r) × (get ds r ≡ Some s)) → (r : ℕ) × (d ≡ c + r) × (get (x ∷ ds) r ≡ Some s)
-    go true e (inl g) ih = let a : c ≡ c + 0 = omega arith in (0, g ∙ a, ap (λ v. Option.Some v) (same-source s x e))
-    go true e (inr g) ih = up (ih g)
-    go false e g ih = up (ih g)
-
-each-put : {T : Type 0} (x : T) (cs : List ℕ) (u : Put T) → Has u (to_each x cs) → Has u.channel cs × (u.token ≡ x)
-each-put x [] u h = absurd h
-each-put {T} x (c ∷ cs) u (inl e) = (inl (ap (λ (v : Put T). v.channel) e), ap (λ (v : Put T). v.token) e)
-each-put x (c ∷ cs) u (inr h) = let r = each-put x cs u h in (inr r.0, r.1)
-
-port-put : {T : Type 0} (cs : List ℕ) (xs : List T) (u : Put T) → Has u (puts_of_port cs xs) → Has u.channel cs × Has u.token xs
-port-put cs [] u h = absurd h
-port-put {T} cs (x ∷ xs) u h = go (has-either u (to_each x cs) (puts_of_port cs xs) h) (port-put cs xs u)
-  where
-    go : Has u (to_each x cs) ⊎ Has u (puts_of_port cs xs) → (Has u (puts_of_port cs xs) → Has u.channel cs × Has u.token xs) → Has u.channel cs × Has u.token (x ∷ xs)
-    go (inl g) ih = let r = each-put x cs u g in (r.0, inl r.1)
-    go (inr g) ih = let r = ih g in (r.0, inr r.1)
-
--- a put of a firing is on a channel of a port that gave the token
-pub put-from : {T : Type 0} (sources : List Source) (i p : ℕ) (X : Streams T) (u : Put T) → Has u (puts_of sources i p X) → (r : ℕ) × (get sources u.channel ≡ Some (Output i (p + r))) × Has u.token (at X r)
-put-from sources i p [] u h = absurd h
-put-from {T} sources i p (xs ∷ X) u h = go (has-either u (puts_of_port (channels_from 0 (Output i p) sources) xs) (puts_of sources i (suc p) X) h) (put-from sources i (suc p) X u)
-  where
-    zero-plus : (n : ℕ) → 0 + n ≡ n
-    zero-plus n = omega arith
-
-    first : Has u (puts_of_port (channels_from 0 (Output i p) sources) xs) → (r : ℕ) × (get sources u.channel ≡ Some (Output i (p + r))) × Has u.token (at (xs ∷ X) r)
-    first g =
-        let w = port-put (channels_from 0 (Output i p) sources) xs u g in
-        let c = channel-from 0 (Output i p) sources u.channel w.0 in
-        let a : u.channel ≡ c.0 = c.1 ∙ zero-plus c.0 in
-        let b : p ≡ p + 0 = omega arith in
-        (0, ap (λ v. get sources v) a ∙ c.2 ∙ ap (λ v. Option.Some (Output i v)) b, w.1)
-
-    next : ((r : ℕ) × (get sources u.channel ≡ Some (Output i (suc p + r))) × Has u.token (at X r)) → (r : ℕ) × (get sources u.channel ≡ Some (Output i (p + r))) × Has u.token (at (xs ∷ X) r)
-    next w = let a : suc p + w.0 ≡ p + suc w.0 = omega arith in (suc w.0, w.1 ∙ ap (λ v. Option.Some (Output i v)) a, w.2)
-
-    go : Has u (puts_of_port (channels_from 0 (Output i p) sources) xs) ⊎ Has u (puts_of sources i (suc p) X) → (Has u (puts_of sources i (suc p) X) → (r : ℕ) × (get sources u.channel ≡ Some (Output i (suc p + r))) × Has u.token (at X r)) → (r : ℕ) × (get sources u.channel ≡ Some (Output i (p + r))) × Has u.token (at (xs ∷ X) r)
-    go (inl g) ih = first g
-    go (inr g) ih = next (ih g)
-
--- and so is one of an own input
-pub inlet-put : {T : Type 0} (sources : List Source) (j : ℕ) (xs : List T) (u : Put T) → Has u (puts_of_port (channels_from 0 (Own j) sources) xs) → (get sources u.channel ≡ Some (Own j)) × Has u.token xs
-inlet-put sources j xs u h =
-    let w = port-put (channels_from 0 (Own j) sources) xs u h in
-    let c = channel-from 0 (Own j) sources u.channel w.0 in
-    let a : 0 + c.0 ≡ c.0 = omega arith in
-    (ap (λ v. get sources v) (c.1 ∙ a) ∙ c.2, w.1)
 
 -- a chain goes on by one more firing
 chain-more : {T S : Type 0} (facts : Facts T S) (step : Stepping T S) (ts : List (Turned T)) (s z : S) (l : Log T) (t : Turned T) (y : S) → ChainOf facts step s ts z l → t.record_of.number ≡ facts.made z → step t.record_of.tag z t.record_of.inputs ≡ Done y t.record_of.outputs t.inside →
@@ -99,60 +33,23 @@ chain-more facts step (u ∷ ts) s z l t y c n d = (
   ap (λ v. log_then v (log_then t.inside (own t.record_of))) c.5 ∙ sym (log-assoc (log_then u.inside (own u.record_of)) c.1 (log_then t.inside (own t.record_of))),
 )
 
--- more firings of the children
-unfoldable pub AllMore : {T : Type 0} → (ℕ → List (Turned T)) → (ℕ → List (Turned T)) → Type 0
-AllMore {T} τ τ' = (i : ℕ) (t : Turned T) → Has t (τ i) → Has t (τ' i)
+pub turns-append : {T : Type 0} (pick : Firing T → List T) (xs ys : List (Turned T)) → of_turns pick (xs ++ ys) ≡ of_turns pick xs ++ of_turns pick ys
+turns-append pick [] ys = refl
+turns-append pick (t ∷ xs) ys = ap (λ v. pick t.record_of ++ v) (turns-append pick xs ys) ∙ sym (append_assoc (pick t.record_of) (of_turns pick xs) (of_turns pick ys))
 
-pub comes-more : {T : Type 0} (inputs : Streams T) (τ τ' : ℕ → List (Turned T)) → AllMore τ τ' → (x : T) (s : Option Source) → ComesNow inputs τ x s → ComesNow inputs τ' x s
-unfolding AllMore
-comes-more inputs τ τ' m x None h = h
-comes-more inputs τ τ' m x (Some (Own j)) h = h
-comes-more inputs τ τ' m x (Some (Output j p)) h = (h.0, m j h.0 h.1, h.2)
-
--- the cause of a token at a place, and of one that is put on a channel
-abbrev pub CauseAt : {T : Type 0} → RvPlan → Places T → Streams T → (ℕ → List (Turned T)) → ℕ → ℕ → T → Type 0
-CauseAt p X inputs τ i q x = OnPlace (Rv p X) i q x ⊎ ComesNow inputs τ x (source_in p.net i q)
-
-abbrev pub PutCause : {T : Type 0} → RvPlan → Places T → Streams T → (ℕ → List (Turned T)) → ℕ → T → Type 0
-PutCause p X inputs τ c x = IsPutOn c x X.puts ⊎ IsPutOn c x X.inputs ⊎ ComesNow inputs τ x (get p.net.sources c)
-
--- A process in the middle of a firing, explained: what it has made, what it has taken, what it has gathered, and what it has to put.
-pub record PartyIs {T S : Type 0} (facts : Facts T S) (step : Stepping T S) (plan : RvPlan) (X : Places T) (inputs : Streams T) (ks : List S) (τ : ℕ → List (Turned T)) (ts : List (Turned T)) (i : ℕ) (p : Party T S) : Type 0 where
+-- A process in the middle of a firing, explained: what it has made, and the firing that it doesn't finish.
+pub record PartyIs {T S : Type 0} (facts : Facts T S) (step : Stepping T S) (tag : Tag) (ks : List S) (ts : List (Turned T)) (i : ℕ) (p : Party T S) : Type 0 where
   pub start : S
   pub at_start : get ks i ≡ Some start
   pub way : Option (Begun T)
   pub whole : PartOf facts step start p.log ts way p.state
   pub well : p.mood ≡ Well → way ≡ None
-  pub taken : (t : Turned T) → Has t ts → (q : ℕ) (x : T) → Has x (at t.record_of.inputs q) → CauseAt plan X inputs τ i q x
-  pub begun : (b : Begun T) → way ≡ Some b → (q : ℕ) (x : T) → Has x (at b.inputs q) → CauseAt plan X inputs τ i q x
-  pub got : (q : ℕ) (x : T) → Has x (at p.got q) → CauseAt plan X inputs τ i q x
-  pub puts : (u : Put T) → Has u p.puts → PutCause plan X inputs τ u.channel u.token
+  pub begins : (b : Begun T) → way ≡ Some b → (q : ℕ) → IsPrefix (at b.inputs q) (at p.got q)
+  pub tagged : (b : Begun T) → way ≡ Some b → b.tag ≡ tag
 
-module _ {T S : Type 0} (facts : Facts T S) (step : Stepping T S) (tag : Tag) (plan : RvPlan) (X : Places T) (inputs : Streams T) (ks : List S) where
-  pub cause-more : (τ τ' : ℕ → List (Turned T)) → AllMore τ τ' → (i q : ℕ) (x : T) → CauseAt plan X inputs τ i q x → CauseAt plan X inputs τ' i q x
-  cause-more τ τ' m i q x (inl h) = inl h
-  cause-more τ τ' m i q x (inr h) = inr (comes-more inputs τ τ' m x (source_in plan.net i q) h)
-
-  pub put-more : (τ τ' : ℕ → List (Turned T)) → AllMore τ τ' → (c : ℕ) (x : T) → PutCause plan X inputs τ c x → PutCause plan X inputs τ' c x
-  put-more τ τ' m c x (inl h) = inl h
-  put-more τ τ' m c x (inr (inl h)) = inr (inl h)
-  put-more τ τ' m c x (inr (inr h)) = inr (inr (comes-more inputs τ τ' m x (get plan.net.sources c) h))
-
-  abbrev Is : (ℕ → List (Turned T)) → List (Turned T) → ℕ → Party T S → Type 0
-  Is τ ts i p = PartyIs facts step plan X inputs ks τ ts i p
-
-  party-more : (τ τ' : ℕ → List (Turned T)) → AllMore τ τ' → (ts : List (Turned T)) (i : ℕ) (p : Party T S) → Is τ ts i p → Is τ' ts i p
-  party-more τ τ' m ts i p h = record {
-    start = h.start;
-    at_start = h.at_start;
-    way = h.way;
-    whole = h.whole;
-    well = h.well;
-    taken = λ t g q x f. cause-more τ τ' m i q x (h.taken t g q x f);
-    begun = λ b e q x f. cause-more τ τ' m i q x (h.begun b e q x f);
-    got = λ q x f. cause-more τ τ' m i q x (h.got q x f);
-    puts = λ u f. put-more τ τ' m u.channel u.token (h.puts u f);
-  }
+module _ {T S : Type 0} (facts : Facts T S) (step : Stepping T S) (tag : Tag) (plan : RvPlan) (ks : List S) where
+  abbrev Is : List (Turned T) → ℕ → Party T S → Type 0
+  Is ts i p = PartyIs facts step tag ks ts i p
 
   -- the firing that a process makes
   turn_of : Party T S → Outcome T S → List (Turned T)
@@ -172,12 +69,6 @@ module _ {T S : Type 0} (facts : Facts T S) (step : Stepping T S) (tag : Tag) (p
   turns_in zero i p = []
   turns_in (suc k) i p = next_turns (next_event facts p) p ++ turns_in k i (advance facts step tag plan.net.sources i p)
 
-  -- what is emptied holds nothing
-  nothing-got : (Y : Streams T) (q : ℕ) (x : T) → Has x (at (emptied Y) q) → ⊥
-  nothing-got [] q x h = h
-  nothing-got (xs ∷ Y) zero x h = h
-  nothing-got (xs ∷ Y) (suc q) x h = nothing-got Y q x h
-
   -- a part of which nothing is under way is a chain
   module _ (s z : S) (l : Log T) (ts : List (Turned T)) where
     shut : (way : Option (Begun T)) → PartOf facts step s l ts way z → way ≡ None → ChainOf facts step s ts z l
@@ -190,43 +81,35 @@ module _ {T S : Type 0} (facts : Facts T S) (step : Stepping T S) (tag : Tag) (p
     as-part : ChainOf facts step s ts z l → PartOf facts step s l ts None z
     as-part c = record { first = l; rest = silent; chain = c; ends = refl; whole = fun_ext (λ x. sym (append-nil (l x))) }
 
-  module _ (τ τ' : ℕ → List (Turned T)) (m : AllMore τ τ') (ts : List (Turned T)) (i : ℕ) (p : Party T S) (h : Is τ ts i p) where
+  module _ (ts : List (Turned T)) (i : ℕ) (p : Party T S) (h : Is ts i p) where
     broken-well : (fs : List Fault) → Broken fs ≡ Well → ⊥
     broken-well fs e = cc
 
-    stays : Is τ' (ts ++ []) i p
-    stays = subst (λ v. Is τ' v i p) (sym (append-nil ts)) (party-more τ τ' m ts i p h)
+    stays : Is (ts ++ []) i p
+    stays = subst (λ v. Is v i p) (sym (append-nil ts)) h
 
-    fired-is : (r : Outcome T S) → step tag p.state p.got ≡ r → p.mood ≡ Well → ((t : Turned T) → Has t (ts ++ turn_of p r) → Has t (τ' i)) →
-        Is τ' (ts ++ turn_of p r) i (fired facts step tag plan.net.sources i p (recorded (facts.made p.state) tag p.got r))
+    fired-is : (r : Outcome T S) → step tag p.state p.got ≡ r → p.mood ≡ Well → Is (ts ++ turn_of p r) i (fired facts step tag plan.net.sources i p (recorded (facts.made p.state) tag p.got r))
     unfolding turn_of
-    fired-is (Stuck fs l) e w listed = record {
+    fired-is (Stuck fs l) e w = record {
       start = h.start;
       at_start = h.at_start;
       way = Some (record { tag = tag; inputs = p.got });
       whole = record { first = p.log; rest = l; chain = subst (λ v. ChainOf facts step h.start v p.state p.log) (sym (append-nil ts)) (shut h.start p.state p.log ts h.way h.whole (h.well w)); ends = sym (ap (λ v. log_in v) e); whole = refl };
       well = λ g. absurd (broken-well fs g);
-      taken = λ t g q x f. cause-more τ τ' m i q x (h.taken t (subst (λ v. Has t v) (append-nil ts) g) q x f);
-      begun = λ b g q x f. cause-more τ τ' m i q x (h.got q x (subst (λ (v : Begun T). Has x (at v.inputs q)) (sym (some-begun b g)) f));
-      got = λ q x f. cause-more τ τ' m i q x (h.got q x f);
-      puts = λ u f. put-more τ τ' m u.channel u.token (h.puts u f);
+      begins = λ b g q. subst (λ (v : Begun T). IsPrefix (at v.inputs q) (at p.got q)) (some-begun b g) (IsPrefix-refl (at p.got q));
+      tagged = λ b g. sym (ap (λ (v : Begun T). v.tag) (some-begun b g));
     }
       where
         some-begun : (b : Begun T) → Some (record { tag = tag; inputs = p.got }) ≡ Some b → record { tag = tag; inputs = p.got } ≡ b
         some-begun b g = cc
-    fired-is (Done s out l) e w listed = record {
+    fired-is (Done s out l) e w = record {
       start = h.start;
       at_start = h.at_start;
       way = None;
       whole = as-part h.start s (log_then p.log (log_then l (own turn.record_of))) (ts ++ (turn ∷ [])) (chain-more facts step ts h.start p.state p.log turn s (shut h.start p.state p.log ts h.way h.whole (h.well w)) refl e);
       well = λ g. refl;
-      taken = λ t g q x f. taken_by t q x f (has-either t ts (turn ∷ []) g);
-      begun = λ b g. absurd (clash b g);
-      got = λ q x f. absurd (nothing-got p.got q x f);
-      puts = λ u f.
-          let c = put-from plan.net.sources i 0 out u f in
-          let a : 0 + c.0 ≡ c.0 = omega arith in
-          inr (inr (subst (λ v. ComesNow inputs τ' u.token v) (sym (c.1 ∙ ap (λ v. Option.Some (Output i v)) a)) (turn, listed turn (has-right turn ts (turn ∷ []) (inl refl)), c.2)));
+      begins = λ b g. absurd (clash b g);
+      tagged = λ b g. absurd (clash b g);
     }
       where
         turn : Turned T
@@ -235,37 +118,26 @@ module _ {T S : Type 0} (facts : Facts T S) (step : Stepping T S) (tag : Tag) (p
         clash : (b : Begun T) → None ≡ Some b → ⊥
         clash b g = cc
 
-        taken_by : (t : Turned T) (q : ℕ) (x : T) → Has x (at t.record_of.inputs q) → Has t ts ⊎ Has t (turn ∷ []) → CauseAt plan X inputs τ' i q x
-        taken_by t q x f (inl g) = cause-more τ τ' m i q x (h.taken t g q x f)
-        taken_by t q x f (inr (inl g)) = cause-more τ τ' m i q x (h.got q x (subst (λ (v : Turned T). Has x (at v.record_of.inputs q)) g f))
-        taken_by t q x f (inr (inr g)) = absurd g
-
-    advance-is : ((t : Turned T) → Has t (ts ++ next_turns (next_event facts p) p) → Has t (τ' i)) → Is τ' (ts ++ next_turns (next_event facts p) p) i (advance facts step tag plan.net.sources i p)
+    advance-is : Is (ts ++ next_turns (next_event facts p) p) i (advance facts step tag plan.net.sources i p)
     unfolding next_turns
-    advance-is listed = go (next_event facts p) refl listed
+    advance-is = go (next_event facts p) refl
       where
-        go : (n : Next) → next_event facts p ≡ n → ((t : Turned T) → Has t (ts ++ next_turns n p) → Has t (τ' i)) → Is τ' (ts ++ next_turns n p) i (if_fires facts step tag plan.net.sources n i p)
-        go Fires e listed = fired-is (step tag p.state p.got) refl (fires-well facts p e) listed
-        go Puts e listed = stays
-        go (Gets q) e listed = stays
-        go GetsAny e listed = stays
-        go Joins e listed = stays
-        go Idle e listed = stays
-        go Sticks e listed = stays
+        go : (n : Next) → next_event facts p ≡ n → Is (ts ++ next_turns n p) i (if_fires facts step tag plan.net.sources n i p)
+        go Fires e = fired-is (step tag p.state p.got) refl (fires-well facts p e)
+        go Puts e = stays
+        go (Gets q) e = stays
+        go GetsAny e = stays
+        go Joins e = stays
+        go Idle e = stays
+        go Sticks e = stays
 
-  pub all-more-refl : (τ : ℕ → List (Turned T)) → AllMore τ τ
-  unfolding AllMore
-  all-more-refl τ i t h = h
-
-  pub advanced-is : (k : ℕ) (τ τ' : ℕ → List (Turned T)) → AllMore τ τ' → (ts : List (Turned T)) (i : ℕ) (p : Party T S) → Is τ ts i p → ((t : Turned T) → Has t (ts ++ turns_in k i p) → Has t (τ' i)) → Is τ' (ts ++ turns_in k i p) i (advanced facts step tag plan.net.sources k i p)
+  pub advanced-is : (k : ℕ) (ts : List (Turned T)) (i : ℕ) (p : Party T S) → Is ts i p → Is (ts ++ turns_in k i p) i (advanced facts step tag plan.net.sources k i p)
   unfolding advanced turns_in
-  advanced-is zero τ τ' m ts i p h listed = stays τ τ' m ts i p h
-  advanced-is (suc k) τ τ' m ts i p h listed =
+  advanced-is zero ts i p h = stays ts i p h
+  advanced-is (suc k) ts i p h =
       let now = next_turns (next_event facts p) p in
       let p' = advance facts step tag plan.net.sources i p in
-      let same : (ts ++ now) ++ turns_in k i p' ≡ ts ++ (now ++ turns_in k i p') = append_assoc ts now (turns_in k i p') in
-      let here = advance-is τ τ' m ts i p h (λ t g. listed t (subst (λ v. Has t v) same (has-left t (ts ++ now) (turns_in k i p') g))) in
-      subst (λ v. Is τ' v i (advanced facts step tag plan.net.sources k i p')) same (advanced-is k τ' τ' (all-more-refl τ') (ts ++ now) i p' here (λ t g. listed t (subst (λ v. Has t v) same g)))
+      subst (λ v. Is v i (advanced facts step tag plan.net.sources k i p')) (append_assoc ts now (turns_in k i p')) (advanced-is k (ts ++ now) i p' (advance-is ts i p h))
 
   -- each process of a list
   pub all_turns : ℕ → ℕ → List (Party T S) → ℕ → List (Turned T)
@@ -291,3 +163,88 @@ module _ {T S : Type 0} (facts : Facts T S) (step : Stepping T S) (tag : Tag) (p
   pub advanced-long : (k b : ℕ) (ps : List (Party T S)) → length (all_advanced facts step tag plan.net.sources k b ps) ≡ length ps
   advanced-long k b [] = refl
   advanced-long k b (p ∷ ps) = ap (λ n. suc n) (advanced-long k (suc b) ps)
+
+  -- what firings take and give, as often as they do
+  nothing-at : (Y : Streams T) (q : ℕ) → at (emptied Y) q ≡ []
+  nothing-at [] q = refl
+  nothing-at (xs ∷ Y) zero = refl
+  nothing-at (xs ∷ Y) (suc q) = nothing-at Y q
+
+  emptied-long : (Y : Streams T) → length (emptied Y) ≡ length Y
+  emptied-long [] = refl
+  emptied-long (xs ∷ Y) = ap (λ n. suc n) (emptied-long Y)
+
+  fires-with-none : (p : Party T S) → next_event facts p ≡ Fires → p.puts ≡ []
+  fires-with-none p e = go p.mood p.puts e
+    where
+      go : (m : Mood) (us : List (Put T)) → by_mood m (by_puts us (by_need p.barrier (facts.need p.state) p.got)) ≡ Fires → us ≡ []
+      go m [] e = refl
+      go Well (u ∷ us) e = absurd (cc)
+      go (Broken fs) (u ∷ us) e = absurd (cc)
+
+  same-number : (i : ℕ) → nat_eq i i ≡ true
+  same-number i = grind (arith, nat_tests)
+
+  -- a process after a firing, place by place and channel by channel
+  record Moved (i : ℕ) (p p' : Party T S) (ts : List (Turned T)) : Type 0 where
+    moved_got : (q : ℕ) → of_turns (inputs_at q) ts ++ at p'.got q ≡ at p.got q
+    moved_puts : (c port : ℕ) → get plan.net.sources c ≡ Some (Output i port) → tokens_on c p'.puts ≡ tokens_on c p.puts ++ of_turns (outputs_at port) ts
+    moved_room : length p'.got ≡ length p.got
+
+  moved-none : (i : ℕ) (p : Party T S) → Moved i p p []
+  moved-none i p = record { moved_got = λ q. refl; moved_puts = λ c port e. sym (append-nil (tokens_on c p.puts)); moved_room = refl }
+
+  moved-fired : (i : ℕ) (p : Party T S) → p.puts ≡ [] → (r : Outcome T S) → Moved i p (fired facts step tag plan.net.sources i p (recorded (facts.made p.state) tag p.got r)) (turn_of p r)
+  unfolding turn_of
+  moved-fired i p none (Stuck fs l) = record { moved_got = λ q. refl; moved_puts = λ c port e. sym (append-nil (tokens_on c p.puts)); moved_room = refl }
+  moved-fired i p none (Done s out l) = record {
+    moved_got = λ q. ap (λ v. (at p.got q ++ []) ++ v) (nothing-at p.got q) ∙ append-nil (at p.got q ++ []) ∙ append-nil (at p.got q);
+    moved_puts = λ c port e.
+        puts-are plan.net i out c ∙ ap (λ o. puts_from i out o) e ∙ ap (λ b. if b then at out port else []) (same-number i) ∙ sym (append-nil (at out port)) ∙
+        ap (λ us. tokens_on c us ++ (at out port ++ [])) (sym none);
+    moved_room = emptied-long p.got;
+  }
+
+  moved-next : (i : ℕ) (p : Party T S) → Moved i p (advance facts step tag plan.net.sources i p) (next_turns (next_event facts p) p)
+  unfolding next_turns
+  moved-next i p = go (next_event facts p) refl
+    where
+      go : (n : Next) → next_event facts p ≡ n → Moved i p (if_fires facts step tag plan.net.sources n i p) (next_turns n p)
+      go Fires e = moved-fired i p (fires-with-none p e) (step tag p.state p.got)
+      go Puts e = moved-none i p
+      go (Gets q) e = moved-none i p
+      go GetsAny e = moved-none i p
+      go Joins e = moved-none i p
+      go Idle e = moved-none i p
+      go Sticks e = moved-none i p
+
+  moved-on : (i : ℕ) (p p' p'' : Party T S) (ts us : List (Turned T)) → Moved i p p' ts → Moved i p' p'' us → Moved i p p'' (ts ++ us)
+  moved-on i p p' p'' ts us a b = record {
+    moved_got = λ q. ap (λ v. v ++ at p''.got q) (turns-append (inputs_at q) ts us) ∙ append_assoc (of_turns (inputs_at q) ts) (of_turns (inputs_at q) us) (at p''.got q) ∙ ap (λ v. of_turns (inputs_at q) ts ++ v) (b.moved_got q) ∙ a.moved_got q;
+    moved_puts = λ c port e.
+        b.moved_puts c port e ∙ ap (λ v. v ++ of_turns (outputs_at port) us) (a.moved_puts c port e) ∙ append_assoc (tokens_on c p.puts) (of_turns (outputs_at port) ts) (of_turns (outputs_at port) us) ∙
+        ap (λ v. tokens_on c p.puts ++ v) (sym (turns-append (outputs_at port) ts us));
+    moved_room = b.moved_room ∙ a.moved_room;
+  }
+
+  moved-in : (k i : ℕ) (p : Party T S) → Moved i p (advanced facts step tag plan.net.sources k i p) (turns_in k i p)
+  unfolding advanced turns_in
+  moved-in zero i p = moved-none i p
+  moved-in (suc k) i p = moved-on i p (advance facts step tag plan.net.sources i p) (advanced facts step tag plan.net.sources k i (advance facts step tag plan.net.sources i p)) (next_turns (next_event facts p) p) (turns_in k i (advance facts step tag plan.net.sources i p)) (moved-next i p) (moved-in k i (advance facts step tag plan.net.sources i p))
+
+  pub got-moved : (k b : ℕ) (ps : List (Party T S)) (i q : ℕ) → of_turns (inputs_at q) (all_turns k b ps i) ++ at (got_by (all_got (all_advanced facts step tag plan.net.sources k b ps)) i) q ≡ at (got_by (all_got ps) i) q
+  unfolding all_turns
+  got-moved k b [] i q = refl
+  got-moved k b (p ∷ ps) zero q = (moved-in k b p).moved_got q
+  got-moved k b (p ∷ ps) (suc i) q = got-moved k (suc b) ps i q
+
+  pub room-moved : (k b : ℕ) (ps : List (Party T S)) (i : ℕ) → length (got_by (all_got (all_advanced facts step tag plan.net.sources k b ps)) i) ≡ length (got_by (all_got ps) i)
+  room-moved k b [] i = refl
+  room-moved k b (p ∷ ps) zero = (moved-in k b p).moved_room
+  room-moved k b (p ∷ ps) (suc i) = room-moved k (suc b) ps i
+
+  pub puts-moved : (k b : ℕ) (ps : List (Party T S)) (i c port : ℕ) → get plan.net.sources c ≡ Some (Output (b + i) port) → tokens_on c (at (all_puts (all_advanced facts step tag plan.net.sources k b ps)) i) ≡ tokens_on c (at (all_puts ps) i) ++ of_turns (outputs_at port) (all_turns k b ps i)
+  unfolding all_turns
+  puts-moved k b [] i c port e = refl
+  puts-moved k b (p ∷ ps) zero c port e = let a : b + 0 ≡ b = omega arith in (moved-in k b p).moved_puts c port (e ∙ ap (λ v. Option.Some (Output v port)) a)
+  puts-moved k b (p ∷ ps) (suc i) c port e = let a : b + suc i ≡ suc b + i = omega arith in puts-moved k (suc b) ps i c port (e ∙ ap (λ v. Option.Some (Output v port)) a)

@@ -1,8 +1,8 @@
 -- The firings of SDF and PN explained.
-use Rattle.std.proofs.Common.{◌≡◌, ◌⊎◌, ℕ, zero, suc, ◌+◌, ◌≤◌, ◌-◌, List, [], ◌∷◌, ◌++◌, Bool, true, false, ◌&&◌, length, take, drop, Option, Some, None, inl, inr, refl, sym, ap, subst, arith, ◌∙◌, append_assoc, length-append}
+use Rattle.std.proofs.Common.{◌≡◌, ℕ, zero, suc, ◌≤◌, ◌<◌, List, [], ◌∷◌, ◌++◌, Bool, true, false, ◌&&◌, length, take, drop, Option, Some, None, inl, refl, sym, ap, subst, arith, ◌∙◌, append_assoc, append-nil, length-append, nat_lt, if◌then◌else◌}
 use Rattle.std.proofs.lemmas.List.{length-take-le, length-drop}
 use Rattle.std.proofs.Math.Path.{fun_ext}
-use Rattle.pt_meaning.specs.Basics.{Tag, Streams, at, Below, Log, Path, silent, log_below}
+use Rattle.pt_meaning.specs.Basics.{Tag, Streams, at, Log, Path, silent, log_below}
 use Rattle.pt_meaning.specs.Machine.{Stepping, Facts}
 use Rattle.pt_meaning.specs.Flow.{Flow, flow}
 use Rattle.pt_meaning.specs.Rounds.{Source, Own, Output, Net, Limit, within, rated, gave, fed, refill, flows, round, all_at_rest}
@@ -10,34 +10,23 @@ use Rattle.pt_meaning.specs.Dataflow.{arrival, arrived, kahn, settled, if_settle
 use Rattle.pt_meaning.specs.Modal.{get}
 use Rattle.pt_meaning.specs.Rendezvous.{with_meetings}
 use Rattle.pt_meaning.specs.Node.{Core}
-use Rattle.pt_meaning.specs.Causes.{Has, Begun, first_channel, source_in, source_of}
 use Rattle.pt_meaning.specs.Running.{total}
 use Rattle.pt_meaning.specs.LogsOfRuns.{log_at}
-use Rattle.pt_meaning.specs.SoundRuns.{OnPlace, IsWired}
-use Rattle.pt_meaning.specs.Explained.{Turned, PartOf, GivenBy, ComesNow, ComesNowOrEarly, DoneWell, IfDone, Explained}
-use Rattle.pt_meaning.specs.Explained as explained
-use Rattle.pt_meaning.proofs.Order.{Below-take, Below-drop}
-use Rattle.pt_meaning.proofs.RoundLaws.{grows-refl, round-below}
+use Rattle.pt_meaning.specs.Streams.{IsPrefix}
+use Rattle.pt_meaning.specs.Channels as channels
+use Rattle.pt_meaning.specs.Closed.{Begun, if_there, inputs_at, outputs_at, begun_at, is_modal, IsTagBelow}
+use Rattle.pt_meaning.specs.Channels.{further, channel_at, tokens_in}
+use Rattle.pt_meaning.specs.SoundRuns.{on_place, IsWired, IsSamePlan}
+use Rattle.pt_meaning.specs.Explained.{Turned, PartOf, DoneWell, IfDone, Explained, of_turns, takes_in, gives_in}
+use Rattle.pt_meaning.proofs.ChannelLaws.{at-first, tokens-further, tokens-append, at-append-if, channel-within}
+use Rattle.pt_meaning.proofs.Order.{IsPrefix-refl, IsPrefix-trans, IsPrefix-after, IsPrefix-append}
+use Rattle.pt_meaning.proofs.RoundLaws.{grows-refl, round-below, gave-below, flows-below}
 use Rattle.pt_meaning.proofs.RunLaws.{left-length}
-use Rattle.pt_meaning.proofs.KahnLaws.{and-left, and-right, at-rest}
+use Rattle.pt_meaning.proofs.KahnLaws.{and-left, and-right, at-rest, fixed}
 use Rattle.pt_meaning.proofs.LogLaws.{log-of-settled}
-use Rattle.pt_meaning.proofs.CountLaws.{within-grows}
 use Rattle.pt_meaning.proofs.SettledLaws.{round-long, rest-free}
 use Rattle.pt_meaning.proofs.FiringLaws.{arrived-long, flows-left, flows-count}
-use Rattle.pt_meaning.proofs.LevelLaws.{has-either}
-use Rattle.pt_meaning.proofs.ExplainFlows.{turns_of, stuck_of, flow-is, turns-has, free-unstuck}
-
--- streams by number
-at-take : {T : Type 0} (n : ℕ) (X : Streams T) (q : ℕ) (x : T) → Has x (at (take n X) q) → Has x (at X q)
-at-take zero X q x h = absurd h
-at-take (suc n) [] q x h = h
-at-take (suc n) (xs ∷ X) zero x h = h
-at-take (suc n) (xs ∷ X) (suc q) x h = at-take n X q x h
-
-at-drop : {T : Type 0} (n : ℕ) (X : Streams T) (q : ℕ) → at (drop n X) q ≡ at X (n + q)
-at-drop zero X q = let a : q ≡ 0 + q = omega arith in ap (λ v. at X v) a
-at-drop (suc n) [] q = refl
-at-drop (suc n) (xs ∷ X) q = let a : suc (n + q) ≡ suc n + q = omega arith in at-drop n X q ∙ ap (λ v. at (xs ∷ X) v) a
+use Rattle.pt_meaning.proofs.ExplainFlows.{turns_of, stuck_of, FlowIs, flow-is, free-unstuck}
 
 -- the firings of each child, by its number
 module _ {T S : Type 0} (facts : Facts T S) (step : Stepping T S) (tag : Tag) where
@@ -79,126 +68,119 @@ module _ {T S : Type 0} (facts : Facts T S) (step : Stepping T S) (tag : Tag) wh
   beyond-at (n ∷ ns) (c ∷ cs) k (s ∷ ss) X zero h = absurd (omega arith)
   beyond-at (n ∷ ns) (c ∷ cs) k (s ∷ ss) X (suc i) h = beyond-at ns cs k ss (drop n X) i (omega (arith, h))
 
-  -- what a child takes stood on its places
-  later-place : (n : ℕ) (ns : List ℕ) (i q : ℕ) (X : Streams T) (x : T) → Has x (at (drop n X) (first_channel ns i + q)) → Has x (at X (first_channel (n ∷ ns) (suc i) + q))
-  later-place n ns i q X x h = let a : n + (first_channel ns i + q) ≡ n + first_channel ns i + q = omega arith in subst (λ v. Has x v) (at-drop n X (first_channel ns i + q) ∙ ap (λ v. at X v) a) h
+  -- as often as it takes and gives them
+  takes-at : (ns : List ℕ) (cs : List Limit) (k : ℕ) (ss : List S) (X : Streams T) (i q : ℕ) → IsPrefix (of_turns (inputs_at q) (turns_at ns cs k ss X i) ++ begun_at (stuck_at ns cs k ss X i) q) (tokens_in X (channel_at ns i q))
+  takes-at [] cs k ss X i q = tt
+  takes-at (n ∷ ns) [] k ss X i q = tt
+  takes-at (n ∷ ns) (c ∷ cs) k [] X i q = tt
+  takes-at (n ∷ ns) (c ∷ cs) k (s ∷ ss) X zero q =
+      let f = flow-is facts step c.rates tag (within c.firings k) s (take n X) in
+      let way = stuck_of facts (rated facts c.rates step) tag (within c.firings k) s (take n X) in
+      subst (λ v. IsPrefix (of_turns (inputs_at q) (turns_of facts (rated facts c.rates step) tag (within c.firings k) s (take n X)) ++ begun_at way q) v) (sym (f.used q) ∙ at-first n q X)
+      (IsPrefix-after (of_turns (inputs_at q) (turns_of facts (rated facts c.rates step) tag (within c.firings k) s (take n X))) (begun_at way q) (at (flow facts (rated facts c.rates step) tag (within c.firings k) s (take n X)).left q) (f.begins q))
+  takes-at (n ∷ ns) (c ∷ cs) k (s ∷ ss) X (suc i) q = subst (λ v. IsPrefix (of_turns (inputs_at q) (turns_at ns cs k ss (drop n X) i) ++ begun_at (stuck_at ns cs k ss (drop n X) i) q) v) (tokens-further n X (channel_at ns i q)) (takes-at ns cs k ss (drop n X) i q)
 
-  first-place : (n q : ℕ) (X : Streams T) (x : T) → Has x (at (take n X) q) → Has x (at X (0 + q))
-  first-place n q X x h = let a : q ≡ 0 + q = omega arith in subst (λ v. Has x (at X v)) a (at-take n X q x h)
+  gives-at : (ns : List ℕ) (cs : List Limit) (k : ℕ) (ss : List S) (X : Streams T) (j port : ℕ) → gave (flows facts step tag ns cs k ss X) j port ≡ of_turns (outputs_at port) (turns_at ns cs k ss X j)
+  gives-at [] cs k ss X j port = refl
+  gives-at (n ∷ ns) [] k ss X j port = refl
+  gives-at (n ∷ ns) (c ∷ cs) k [] X j port = refl
+  gives-at (n ∷ ns) (c ∷ cs) k (s ∷ ss) X zero port = (flow-is facts step c.rates tag (within c.firings k) s (take n X)).gives port
+  gives-at (n ∷ ns) (c ∷ cs) k (s ∷ ss) X (suc j) port = gives-at ns cs k ss (drop n X) j port
 
-  taken-at : (ns : List ℕ) (cs : List Limit) (k : ℕ) (ss : List S) (X : Streams T) (i : ℕ) (t : Turned T) → Has t (turns_at ns cs k ss X i) → (q : ℕ) (x : T) → Has x (at t.record_of.inputs q) → Has x (at X (first_channel ns i + q))
-  taken-at [] cs k ss X i t h q x g = absurd h
-  taken-at (n ∷ ns) [] k ss X i t h q x g = absurd h
-  taken-at (n ∷ ns) (c ∷ cs) k [] X i t h q x g = absurd h
-  taken-at (n ∷ ns) (c ∷ cs) k (s ∷ ss) X zero t h q x g = first-place n q X x ((flow-is facts step c.rates tag (within c.firings k) s (take n X)).taken t h q x g)
-  taken-at (n ∷ ns) (c ∷ cs) k (s ∷ ss) X (suc i) t h q x g = later-place n ns i q X x (taken-at ns cs k ss (drop n X) i t h q x g)
+  stuck-tagged : (ns : List ℕ) (cs : List Limit) (k : ℕ) (ss : List S) (X : Streams T) (i : ℕ) (b : Begun T) → stuck_at ns cs k ss X i ≡ Some b → b.tag ≡ tag
+  stuck-tagged [] cs k ss X i b e = absurd (cc)
+  stuck-tagged (n ∷ ns) [] k ss X i b e = absurd (cc)
+  stuck-tagged (n ∷ ns) (c ∷ cs) k [] X i b e = absurd (cc)
+  stuck-tagged (n ∷ ns) (c ∷ cs) k (s ∷ ss) X zero b e = (flow-is facts step c.rates tag (within c.firings k) s (take n X)).tagged b e
+  stuck-tagged (n ∷ ns) (c ∷ cs) k (s ∷ ss) X (suc i) b e = stuck-tagged ns cs k ss (drop n X) i b e
 
-  begun-at : (ns : List ℕ) (cs : List Limit) (k : ℕ) (ss : List S) (X : Streams T) (i : ℕ) (b : Begun T) → stuck_at ns cs k ss X i ≡ Some b → (q : ℕ) (x : T) → Has x (at b.inputs q) → Has x (at X (first_channel ns i + q))
-  begun-at [] cs k ss X i b h q x g = absurd (cc)
-  begun-at (n ∷ ns) [] k ss X i b h q x g = absurd (cc)
-  begun-at (n ∷ ns) (c ∷ cs) k [] X i b h q x g = absurd (cc)
-  begun-at (n ∷ ns) (c ∷ cs) k (s ∷ ss) X zero b h q x g = first-place n q X x ((flow-is facts step c.rates tag (within c.firings k) s (take n X)).begun b h q x g)
-  begun-at (n ∷ ns) (c ∷ cs) k (s ∷ ss) X (suc i) b h q x g = later-place n ns i q X x (begun-at ns cs k ss (drop n X) i b h q x g)
-
-  -- what a child gives comes of its firings
-  given-at : (ns : List ℕ) (cs : List Limit) (k : ℕ) (ss : List S) (X : Streams T) (j port : ℕ) (x : T) → Has x (gave (flows facts step tag ns cs k ss X) j port) → (t : Turned T) × Has t (turns_at ns cs k ss X j) × Has x (at t.record_of.outputs port)
-  given-at [] cs k ss X j port x h = absurd h
-  given-at (n ∷ ns) [] k ss X j port x h = absurd h
-  given-at (n ∷ ns) (c ∷ cs) k [] X j port x h = absurd h
-  given-at (n ∷ ns) (c ∷ cs) k (s ∷ ss) X zero port x h = (flow-is facts step c.rates tag (within c.firings k) s (take n X)).given port x h
-  given-at (n ∷ ns) (c ∷ cs) k (s ∷ ss) X (suc j) port x h = given-at ns cs k ss (drop n X) j port x h
-
-  turns-later : (ns : List ℕ) (cs : List Limit) (j k : ℕ) → j ≤ k → (ss : List S) (X Y : Streams T) → Below X Y → (i : ℕ) (t : Turned T) → Has t (turns_at ns cs j ss X i) → Has t (turns_at ns cs k ss Y i)
-  turns-later [] cs j k o ss X Y b i t h = absurd h
-  turns-later (n ∷ ns) [] j k o ss X Y b i t h = absurd h
-  turns-later (n ∷ ns) (c ∷ cs) j k o [] X Y b i t h = absurd h
-  turns-later (n ∷ ns) (c ∷ cs) j k o (s ∷ ss) X Y b zero t h = turns-has facts (rated facts c.rates step) tag (within c.firings j) (within c.firings k) (within-grows c.firings j k o) s (take n X) (take n Y) (Below-take n X Y b) t h
-  turns-later (n ∷ ns) (c ∷ cs) j k o (s ∷ ss) X Y b (suc i) t h = turns-later ns cs j k o ss (drop n X) (drop n Y) (Below-drop n X Y b) i t h
-
-  -- what is left was there
-  at-either : (X Y : Streams T) (c : ℕ) (x : T) → Has x (at (X ++ Y) c) → Has x (at X c) ⊎ ((length X ≤ c) × Has x (at Y (c - length X)))
-  at-either [] Y c x h = let a : c ≡ c - 0 = omega arith in inr (omega arith, subst (λ v. Has x (at Y v)) a h)
-  at-either (y ∷ X) Y zero x h = inl h
-  at-either (y ∷ X) Y (suc c) x h = go (at-either X Y c x h)
-    where
-      go : Has x (at X c) ⊎ ((length X ≤ c) × Has x (at Y (c - length X))) → Has x (at X c) ⊎ ((suc (length X) ≤ suc c) × Has x (at Y (suc c - suc (length X))))
-      go (inl g) = inl g
-      go (inr g) = let a : c - length X ≡ suc c - suc (length X) = omega arith in inr (omega (arith, g.0), subst (λ v. Has x (at Y v)) a g.1)
-
-  at-behind : (ns : List ℕ) (X : Streams T) (c : ℕ) (x : T) → Has x (at (behind ns X) c) → Has x (at X c)
-  at-behind [] X c x h = absurd h
-  at-behind (n ∷ ns) [] c x h = h
-  at-behind (n ∷ ns) (xs ∷ X) zero x h = dropped n xs h
-    where
-      dropped : (n : ℕ) (xs : List T) → Has x (drop n xs) → Has x xs
-      dropped zero xs h = h
-      dropped (suc n) [] h = h
-      dropped (suc n) (y ∷ xs) h = inr (dropped n xs h)
-  at-behind (n ∷ ns) (xs ∷ X) (suc c) x h = at-behind ns X c x h
-
-  left-was : (ns : List ℕ) (cs : List Limit) (k : ℕ) (ss : List S) (X own : Streams T) → length cs ≡ length ns → length ss ≡ length ns → total ns ≤ length X → ((c : ℕ) (x : T) → Has x (at own c) → Has x (at (skip_places ns X) c)) →
-      (c : ℕ) (x : T) → Has x (at (left_by (flows facts step tag ns cs k ss X) ++ own) c) → Has x (at X c)
-  left-was [] cs k ss X own a b w f c x h = f c x h
-  left-was (n ∷ ns) [] k ss X own a b w f c x h = absurd (omega arith)
-  left-was (n ∷ ns) (d ∷ cs) k [] X own a b w f c x h = absurd (omega arith)
-  left-was (n ∷ ns) (d ∷ cs) k (s ∷ ss) X own a b w f c x h = go (at-either F (L ++ own) c x (subst (λ (Y : Streams T). Has x (at Y c)) (append_assoc F L own) h)) (λ e y g. left-was ns cs k ss (drop n X) own (omega (arith, a)) (omega (arith, b)) (omega (arith, w, length-drop n X)) f e y g)
+  -- and what is left is behind it
+  rest-at : (ns : List ℕ) (cs : List Limit) (k : ℕ) (ss : List S) (X own : Streams T) → length cs ≡ length ns → length ss ≡ length ns → total ns ≤ length X → (i q : ℕ) →
+      tokens_in X (channel_at ns i q) ≡ of_turns (inputs_at q) (turns_at ns cs k ss X i) ++ tokens_in (left_by (flows facts step tag ns cs k ss X) ++ own) (channel_at ns i q)
+  rest-at [] cs k ss X own a b w i q = refl
+  rest-at (n ∷ ns) [] k ss X own a b w i q = absurd (omega arith)
+  rest-at (n ∷ ns) (c ∷ cs) k [] X own a b w i q = absurd (omega arith)
+  rest-at (n ∷ ns) (c ∷ cs) k (s ∷ ss) X own a b w zero q = sym (at-first n q X) ∙ f.used q ∙ ap (λ v. of_turns (inputs_at q) (turns_of facts (rated facts c.rates step) tag (within c.firings k) s (take n X)) ++ v) (inner ∙ ap (λ v. tokens_in v (if nat_lt q n then Some q else None)) (sym (append_assoc F L own)))
     where
       F : Streams T
-      F = (flow facts (rated facts d.rates step) tag (within d.firings k) s (take n X)).left
+      F = (flow facts (rated facts c.rates step) tag (within c.firings k) s (take n X)).left
 
       L : Streams T
       L = left_by (flows facts step tag ns cs k ss (drop n X))
 
       len : length F ≡ n
-      len = left-length facts (rated facts d.rates step) tag (within d.firings k) s (take n X) ∙ length-take-le n X (omega (arith, w))
+      len = left-length facts (rated facts c.rates step) tag (within c.firings k) s (take n X) ∙ length-take-le n X (omega (arith, w))
 
-      go : Has x (at F c) ⊎ ((length F ≤ c) × Has x (at (L ++ own) (c - length F))) → ((e : ℕ) (y : T) → Has y (at (L ++ own) e) → Has y (at (drop n X) e)) → Has x (at X c)
-      go (inl g) ih = at-take n X c x ((flow-is facts step d.rates tag (within d.firings k) s (take n X)).left c x g)
-      go (inr g) ih =
-          let a : n + (c - length F) ≡ c = omega (arith, len, g.0) in
-          subst (λ v. Has x v) (at-drop n X (c - length F) ∙ ap (λ v. at X v) a) (ih (c - length F) x g.1)
+      f : FlowIs facts step tag s (take n X) (flow facts (rated facts c.rates step) tag (within c.firings k) s (take n X)) (turns_of facts (rated facts c.rates step) tag (within c.firings k) s (take n X)) (stuck_of facts (rated facts c.rates step) tag (within c.firings k) s (take n X))
+      f = flow-is facts step c.rates tag (within c.firings k) s (take n X)
+
+      inner : at F q ≡ tokens_in (F ++ (L ++ own)) (if nat_lt q n then Some q else None)
+      inner = at-append-if n q F (L ++ own) len
+  rest-at (n ∷ ns) (c ∷ cs) k (s ∷ ss) X own a b w (suc i) q =
+      sym (tokens-further n X (channel_at ns i q)) ∙ rest-at ns cs k ss (drop n X) own (omega (arith, a)) (omega (arith, b)) (omega (arith, w, length-drop n X)) i q ∙
+      ap (λ v. of_turns (inputs_at q) (turns_at ns cs k ss (drop n X) i) ++ v) (sym (tokens-append n F (L ++ own) len (channel_at ns i q)) ∙ ap (λ v. tokens_in v (further n (channel_at ns i q))) (sym (append_assoc F L own)))
+    where
+      F : Streams T
+      F = (flow facts (rated facts c.rates step) tag (within c.firings k) s (take n X)).left
+
+      L : Streams T
+      L = left_by (flows facts step tag ns cs k ss (drop n X))
+
+      len : length F ≡ n
+      len = left-length facts (rated facts c.rates step) tag (within c.firings k) s (take n X) ∙ length-take-le n X (omega (arith, w))
 
   -- rounds: what a channel has stood there, or came of the inputs and of the firings
   module _ (net : Net) (limits : List Limit) (ks : List S) (X inputs : Streams T) where
     abbrev pub now_turns : ℕ → ℕ → List (Turned T)
     now_turns k i = turns_at net.places limits k ks (round facts step tag net limits ks (arrived net.sources inputs X) k) i
 
-    arrived-from : (cs : List Source) (Z : Streams T) (c : ℕ) (x : T) (ts : ℕ → List (Turned T)) → Has x (at (arrived cs inputs Z) c) → Has x (at Z c) ⊎ ComesNow inputs ts x (get cs c)
-    arrived-from [] Z c x ts h = inl h
-    arrived-from (s ∷ cs) [] c x ts h = inl h
-    arrived-from (s ∷ cs) (z ∷ Z) (suc c) x ts h = arrived-from cs Z c x ts h
-    arrived-from (s ∷ cs) (z ∷ Z) zero x ts h = go s (has-either x z (arrival s inputs) h)
-      where
-        go : (s : Source) → Has x z ⊎ Has x (arrival s inputs) → Has x z ⊎ ComesNow inputs ts x (Some s)
-        go s (inl g) = inl g
-        go (Own port) (inr g) = inr g
-        go (Output i port) (inr g) = absurd g
+    -- in order
+    arrived-as : (ts : ℕ → List (Turned T)) (s : Source) (z : List T) → IsPrefix (z ++ arrival s inputs) (z ++ gives_in inputs ts (Some s))
+    arrived-as ts (Own port) z = IsPrefix-refl (z ++ at inputs port)
+    arrived-as ts (Output j port) z = IsPrefix-after z [] (of_turns (outputs_at port) (ts j)) tt
 
-    refilled-from : (fs : List (Flow T S)) (ts : ℕ → List (Turned T)) → ((j port : ℕ) (x : T) → Has x (gave fs j port) → GivenBy ts j port x) → (cs : List Source) (Z : Streams T) (c : ℕ) (x : T) → Has x (at (refill fs cs Z) c) → Has x (at Z c) ⊎ ComesNow inputs ts x (get cs c)
-    refilled-from fs ts f [] Z c x h = inl h
-    refilled-from fs ts f (s ∷ cs) [] c x h = inl h
-    refilled-from fs ts f (s ∷ cs) (z ∷ Z) (suc c) x h = refilled-from fs ts f cs Z c x h
-    refilled-from fs ts f (s ∷ cs) (z ∷ Z) zero x h = go s (has-either x z (fed fs s) h)
-      where
-        go : (s : Source) → Has x z ⊎ Has x (fed fs s) → Has x z ⊎ ComesNow inputs ts x (Some s)
-        go s (inl g) = inl g
-        go (Own port) (inr g) = absurd g
-        go (Output j port) (inr g) = inr (f j port x g)
+    arrived-at : (ts : ℕ → List (Turned T)) (cs : List Source) (Z : Streams T) (c : ℕ) → IsPrefix (at (arrived cs inputs Z) c) (at Z c ++ gives_in inputs ts (get cs c))
+    arrived-at ts [] Z c = IsPrefix-append (at Z c) []
+    arrived-at ts (s ∷ cs) [] c = tt
+    arrived-at ts (s ∷ cs) (z ∷ Z) zero = arrived-as ts s z
+    arrived-at ts (s ∷ cs) (z ∷ Z) (suc c) = arrived-at ts cs Z c
 
-    round-from : (K k : ℕ) → k ≤ K → (c : ℕ) (x : T) → Has x (at (round facts step tag net limits ks (arrived net.sources inputs X) k) c) → Has x (at X c) ⊎ ComesNow inputs (now_turns K) x (get net.sources c)
+    refilled-as : (fs : List (Flow T S)) (ts : ℕ → List (Turned T)) → ((j port : ℕ) → IsPrefix (gave fs j port) (of_turns (outputs_at port) (ts j))) → (s : Source) (z : List T) → IsPrefix ((z ++ arrival s inputs) ++ fed fs s) (z ++ gives_in inputs ts (Some s))
+    refilled-as fs ts f (Own port) z = subst (λ v. IsPrefix v (z ++ at inputs port)) (sym (append-nil (z ++ at inputs port))) (IsPrefix-refl (z ++ at inputs port))
+    refilled-as fs ts f (Output j port) z = subst (λ v. IsPrefix (v ++ gave fs j port) (z ++ of_turns (outputs_at port) (ts j))) (sym (append-nil z)) (IsPrefix-after z (gave fs j port) (of_turns (outputs_at port) (ts j)) (f j port))
+
+    refilled-at : (fs : List (Flow T S)) (ts : ℕ → List (Turned T)) → ((j port : ℕ) → IsPrefix (gave fs j port) (of_turns (outputs_at port) (ts j))) → (cs : List Source) (Z : Streams T) (c : ℕ) → IsPrefix (at (refill fs cs (arrived cs inputs Z)) c) (at Z c ++ gives_in inputs ts (get cs c))
+    refilled-at fs ts f [] Z c = IsPrefix-append (at Z c) []
+    refilled-at fs ts f (s ∷ cs) [] c = tt
+    refilled-at fs ts f (s ∷ cs) (z ∷ Z) zero = refilled-as fs ts f s z
+    refilled-at fs ts f (s ∷ cs) (z ∷ Z) (suc c) = refilled-at fs ts f cs Z c
+
+    round-at : (K k : ℕ) → k ≤ K → (c : ℕ) → IsPrefix (at (round facts step tag net limits ks (arrived net.sources inputs X) k) c) (at X c ++ gives_in inputs (now_turns K) (get net.sources c))
     unfolding round
-    round-from K zero o c x h = arrived-from net.sources X c x (now_turns K) h
-    round-from K (suc k) o c x h =
-        go (refilled-from (flows facts step tag net.places limits (suc k) ks (round facts step tag net limits ks (arrived net.sources inputs X) k)) (now_turns K) later net.sources (arrived net.sources inputs X) c x h)
+    round-at K zero o c = arrived-at (now_turns K) net.sources X c
+    round-at K (suc k) o c = refilled-at (flows facts step tag net.places limits (suc k) ks (round facts step tag net limits ks (arrived net.sources inputs X) k)) (now_turns K) later net.sources X c
       where
-        later : (j port : ℕ) (x : T) → Has x (gave (flows facts step tag net.places limits (suc k) ks (round facts step tag net limits ks (arrived net.sources inputs X) k)) j port) → GivenBy (now_turns K) j port x
-        later j port x g =
-            let t = given-at net.places limits (suc k) ks (round facts step tag net limits ks (arrived net.sources inputs X) k) j port x g in
-            (t.0, turns-later net.places limits (suc k) K o ks _ _ (round-below facts step step tag (grows-refl step) net limits ks (arrived net.sources inputs X) k K (omega (arith, o))) j t.0 t.1, t.2)
+        later : (j port : ℕ) → IsPrefix (gave (flows facts step tag net.places limits (suc k) ks (round facts step tag net limits ks (arrived net.sources inputs X) k)) j port) (of_turns (outputs_at port) (now_turns K j))
+        later j port =
+            subst (λ v. IsPrefix (gave (flows facts step tag net.places limits (suc k) ks (round facts step tag net limits ks (arrived net.sources inputs X) k)) j port) v) (gives-at net.places limits K ks (round facts step tag net limits ks (arrived net.sources inputs X) K) j port)
+            (gave-below _ _ (flows-below facts step step tag (grows-refl step) net.places limits (suc k) K o ks _ _ (round-below facts step step tag (grows-refl step) net limits ks (arrived net.sources inputs X) k K (omega (arith, o)))) j port)
 
-        go : Has x (at (arrived net.sources inputs X) c) ⊎ ComesNow inputs (now_turns K) x (get net.sources c) → Has x (at X c) ⊎ ComesNow inputs (now_turns K) x (get net.sources c)
-        go (inl g) = arrived-from net.sources X c x (now_turns K) g
-        go (inr g) = inr g
+    -- and in all where the round is settled
+    filled-as : (fs : List (Flow T S)) (ts : ℕ → List (Turned T)) → ((j port : ℕ) → gave fs j port ≡ of_turns (outputs_at port) (ts j)) → (s : Source) (z : List T) → (z ++ arrival s inputs) ++ fed fs s ≡ z ++ gives_in inputs ts (Some s)
+    filled-as fs ts f (Own port) z = append-nil (z ++ at inputs port)
+    filled-as fs ts f (Output j port) z = ap (λ v. v ++ gave fs j port) (append-nil z) ∙ ap (λ v. z ++ v) (f j port)
+
+    filled-at : (fs : List (Flow T S)) (ts : ℕ → List (Turned T)) → ((j port : ℕ) → gave fs j port ≡ of_turns (outputs_at port) (ts j)) → (cs : List Source) (Z : Streams T) (c : ℕ) → c < length Z → at (refill fs cs (arrived cs inputs Z)) c ≡ at Z c ++ gives_in inputs ts (get cs c)
+    filled-at fs ts f [] Z c h = sym (append-nil (at Z c))
+    filled-at fs ts f (s ∷ cs) [] c h = absurd (omega (arith, h))
+    filled-at fs ts f (s ∷ cs) (z ∷ Z) zero h = filled-as fs ts f s z
+    filled-at fs ts f (s ∷ cs) (z ∷ Z) (suc c) h = filled-at fs ts f cs Z c (omega (arith, h))
+
+    settled-at : (k : ℕ) → settled facts step tag net limits ks (arrived net.sources inputs X) k ≡ true → (c : ℕ) → c < length X → at (round facts step tag net limits ks (arrived net.sources inputs X) k) c ≡ at X c ++ gives_in inputs (now_turns k) (get net.sources c)
+    settled-at k e c h =
+        let Y = round facts step tag net limits ks (arrived net.sources inputs X) k in
+        ap (λ v. at v c) (fixed facts step step tag (grows-refl step) net limits ks (arrived net.sources inputs X) k e) ∙
+        filled-at (flows facts step tag net.places limits k ks Y) (now_turns k) (λ j port. gives-at net.places limits k ks Y j port) net.sources X c h
 
   -- children at rest have no unfinished firing, and are where their firings led
   unstuck-at : (ns : List ℕ) (cs : List Limit) (k : ℕ) (ss : List S) (X : Streams T) → all_at_rest cs (flows facts step tag ns cs k ss X) ≡ true → (i : ℕ) → stuck_at ns cs k ss X i ≡ None
@@ -233,28 +215,40 @@ module _ {T S : Type 0} (facts : Facts T S) (step : Stepping T S) (tag : Tag) (n
   end_flows = flows facts step tag net.places limits k ks end_round
 
   pub record Reads : Type 0 where
-    pub on : (i q : ℕ) (x : T) → Has x (at X (first_channel net.places i + q)) → OnPlace d i q x
-    pub from : (i q : ℕ) → source_of d i q ≡ source_in net i q
-    pub core_on : (Y : Streams T) (i q : ℕ) (x : T) → OnPlace (core Y) i q x → Has x (at Y (first_channel net.places i + q))
-    pub core_from : (Y : Streams T) (i q : ℕ) → source_of (core Y) i q ≡ source_in net i q
     pub core_wired : (Y : Streams T) → total net.places ≤ length Y → IsWired (core Y)
+    pub place : (i q : ℕ) → on_place d i q ≡ tokens_in X (channel_at net.places i q)
+    pub core_place : (Y : Streams T) (i q : ℕ) → on_place (core Y) i q ≡ tokens_in Y (channel_at net.places i q)
+    pub source : (i q : ℕ) → channels.source_of d i q ≡ channels.source_in net i q
+    pub at_tag : IsTagBelow (is_modal d) tag tag
+    pub same : (Y : Streams T) → IsSamePlan (core Y) d
 
   module _ (reads : Reads) (a : length limits ≡ length net.places) (b : length ks ≡ length net.places) (w : total net.places ≤ length X) where
     wide : total net.places ≤ length end_round
     wide = omega (arith, w, arrived-long net.sources inputs X, round-long facts step tag net limits ks start k)
 
-    held-from : (i q : ℕ) (x : T) → Has x (at end_round (first_channel net.places i + q)) → OnPlace d i q x ⊎ ComesNow inputs (now_turns facts step tag net limits ks X inputs k) x (source_of d i q)
-    held-from i q x h = go (round-from facts step tag net limits ks X inputs k k (omega arith) (first_channel net.places i + q) x h)
-      where
-        go : Has x (at X (first_channel net.places i + q)) ⊎ ComesNow inputs (now_turns facts step tag net limits ks X inputs k) x (source_in net i q) → OnPlace d i q x ⊎ ComesNow inputs (now_turns facts step tag net limits ks X inputs k) x (source_of d i q)
-        go (inl g) = inl (reads.on i q x g)
-        go (inr g) = inr (subst (λ s. ComesNow inputs (now_turns facts step tag net limits ks X inputs k) x s) (sym (reads.from i q)) g)
+    round-place : (o : Option ℕ) → IsPrefix (tokens_in end_round o) (tokens_in X o ++ gives_in inputs (now_turns facts step tag net limits ks X inputs k) (if_there (get net.sources) o))
+    round-place None = tt
+    round-place (Some c) = round-at facts step tag net limits ks X inputs k k (omega arith) c
 
-    -- a cause from the firing is one that may be early
-    may-be-early : (ts : ℕ → List (Turned T)) (t : Tag) (x : T) (s : Option Source) → ComesNow inputs ts x s → ComesNowOrEarly facts ks inputs ts t x s
-    may-be-early ts t x None g = g
-    may-be-early ts t x (Some (Own port)) g = g
-    may-be-early ts t x (Some (Output j port)) g = inl g
+    settled-place : settled facts step tag net limits ks start k ≡ true → (o : Option ℕ) → ((c : ℕ) → o ≡ Some c → c < length X) → tokens_in end_round o ≡ tokens_in X o ++ gives_in inputs (now_turns facts step tag net limits ks X inputs k) (if_there (get net.sources) o)
+    settled-place e None f = refl
+    settled-place e (Some c) f = settled-at facts step tag net limits ks X inputs k e c (f c refl)
+
+    -- each token that is taken, as often as it is
+    all-taken : (i q : ℕ) → IsPrefix (takes_in (now_turns facts step tag net limits ks X inputs k) (λ i. stuck_at facts step tag net.places limits k ks end_round i) i q) (on_place d i q ++ gives_in inputs (now_turns facts step tag net limits ks X inputs k) (channels.source_of d i q))
+    all-taken i q =
+        subst (λ v. IsPrefix (takes_in (now_turns facts step tag net limits ks X inputs k) (λ i. stuck_at facts step tag net.places limits k ks end_round i) i q) (v ++ gives_in inputs (now_turns facts step tag net limits ks X inputs k) (channels.source_of d i q))) (sym (reads.place i q))
+        (subst (λ v. IsPrefix (takes_in (now_turns facts step tag net limits ks X inputs k) (λ i. stuck_at facts step tag net.places limits k ks end_round i) i q) (tokens_in X (channel_at net.places i q) ++ gives_in inputs (now_turns facts step tag net limits ks X inputs k) v)) (sym (reads.source i q))
+        (IsPrefix-trans _ _ _ (takes-at facts step tag net.places limits k ks end_round i q) (round-place (channel_at net.places i q))))
+
+    all-left : settled facts step tag net limits ks start k ≡ true → (ms : List ℕ) → (i q : ℕ) →
+        of_turns (inputs_at q) (now_turns facts step tag net limits ks X inputs k i) ++ on_place (core (left_by end_flows ++ behind ms (skip_places net.places end_round))) i q ≡ on_place d i q ++ gives_in inputs (now_turns facts step tag net limits ks X inputs k) (channels.source_of d i q)
+    all-left e ms i q =
+        ap (λ v. of_turns (inputs_at q) (now_turns facts step tag net limits ks X inputs k i) ++ v) (reads.core_place _ i q) ∙
+        sym (rest-at facts step tag net.places limits k ks end_round (behind ms (skip_places net.places end_round)) a b wide i q) ∙
+        settled-place e (channel_at net.places i q) (λ c g. let h = channel-within net.places i q c g in omega (arith, h, w)) ∙
+        ap (λ v. v ++ gives_in inputs (now_turns facts step tag net limits ks X inputs k) (channels.source_in net i q)) (sym (reads.place i q)) ∙
+        ap (λ v. on_place d i q ++ gives_in inputs (now_turns facts step tag net limits ks X inputs k) v) (sym (reads.source i q))
 
     no-meetings : (l : List (Log T)) → log_below l ≡ with_meetings [] (log_below l)
     no-meetings l = fun_ext one
@@ -270,13 +264,17 @@ module _ {T S : Type 0} (facts : Facts T S) (step : Stepping T S) (tag : Tag) (n
         DoneWell facts inputs d core ks (now_turns facts step tag net limits ks X inputs k) (λ i. stuck_at facts step tag net.places limits k ks end_round i) (λ i. end_at facts step tag end_flows any i) (record { held = left_by end_flows ++ behind ms (skip_places net.places end_round); kids = states_of end_flows })
     well e ms = record {
       whole = λ i. unstuck-at facts step tag net.places limits k ks end_round (at-rest facts step step tag (grows-refl step) net limits ks start k e) i;
-      plan = λ i q. reads.core_from _ i q ∙ sym (reads.from i q);
-      tokens = λ i q y g.
-          held-from i q y (left-was facts step tag net.places limits k ks end_round (behind ms (skip_places net.places end_round)) a b wide (λ c x h. at-behind facts step tag ms (skip_places net.places end_round) c x h) (first_channel net.places i + q) y (reads.core_on _ i q y g));
       wired = reads.core_wired _ (held-wide (behind ms (skip_places net.places end_round)));
       count = states-count facts step tag end_flows ∙ flows-count facts step tag net.places limits k ks end_round a b ∙ sym b;
       kids = λ i s e. inl (states-at facts step tag end_flows any i s e);
+      same_plan = reads.same _;
+      counted = λ i q. subst (λ v. IsPrefix v (on_place d i q ++ gives_in inputs (now_turns facts step tag net limits ks X inputs k) (channels.source_of d i q))) (no-way (of_turns (inputs_at q) (now_turns facts step tag net limits ks X inputs k i)) _ q (unstuck-at facts step tag net.places limits k ks end_round (at-rest facts step step tag (grows-refl step) net limits ks start k e) i)) (all-taken i q);
+      left = λ g i q. all-left e ms i q;
     }
+      where
+        no-way : (xs : List T) (o : Option (Begun T)) (q : ℕ) → o ≡ None → xs ++ begun_at o q ≡ xs
+        no-way xs None q g = append-nil xs
+        no-way xs (Some b) q g = absurd (cc)
 
     if-well : (g : Bool) → (g ≡ true → settled facts step tag net limits ks start k ≡ true) → (ms : List ℕ) (out : Streams T) →
         IfDone facts inputs d core ks (now_turns facts step tag net limits ks X inputs k) (λ i. stuck_at facts step tag net.places limits k ks end_round i) (λ i. end_at facts step tag end_flows any i)
@@ -284,7 +282,7 @@ module _ {T S : Type 0} (facts : Facts T S) (step : Stepping T S) (tag : Tag) (n
     if-well true e ms out = well (e refl) ms
     if-well false e ms out = tt
 
-    pub kahn-explained : Explained facts step inputs d core ks (kahn facts step tag net limits enough counts ks start k)
+    pub kahn-explained : Explained facts step tag inputs d core ks (kahn facts step tag net limits enough counts ks start k)
     unfolding kahn
     kahn-explained = record {
       events = [];
@@ -297,14 +295,7 @@ module _ {T S : Type 0} (facts : Facts T S) (step : Stepping T S) (tag : Tag) (n
       ends = λ i. end_at facts step tag end_flows any i;
       parts = λ i s e. parts-at facts step tag net.places limits k ks end_round any a b i s e;
       beyond = λ i h. beyond-at facts step tag net.places limits k ks end_round i h;
-      taken = λ i q t x h. take i q t x h;
+      tagged = λ i w e. subst (λ v. IsTagBelow (is_modal d) tag v) (sym (stuck-tagged facts step tag net.places limits k ks end_round i w e)) reads.at_tag;
+      counted = λ i q. inl (all-taken i q);
       done = if-well (settled facts step tag net limits ks start k && enough end_flows) (λ e. and-left _ _ e) (counts (lengths (skip_places net.places end_round))) _;
     }
-      where
-        early : (i q : ℕ) (t : Tag) (x : T) → OnPlace d i q x ⊎ ComesNow inputs (now_turns facts step tag net limits ks X inputs k) x (source_of d i q) → OnPlace d i q x ⊎ ComesNowOrEarly facts ks inputs (now_turns facts step tag net limits ks X inputs k) t x (source_of d i q)
-        early i q t x (inl g) = inl g
-        early i q t x (inr g) = inr (may-be-early (now_turns facts step tag net limits ks X inputs k) t x (source_of d i q) g)
-
-        take : (i q : ℕ) (t : Tag) (x : T) → explained.Takes (now_turns facts step tag net limits ks X inputs k) (λ i. stuck_at facts step tag net.places limits k ks end_round i) i q t x → OnPlace d i q x ⊎ ComesNowOrEarly facts ks inputs (now_turns facts step tag net limits ks X inputs k) t x (source_of d i q)
-        take i q t x (inl g) = early i q t x (held-from i q x (taken-at facts step tag net.places limits k ks end_round i g.0 g.1 q x g.3))
-        take i q t x (inr g) = early i q t x (held-from i q x (begun-at facts step tag net.places limits k ks end_round i g.0 g.1 q x g.3))

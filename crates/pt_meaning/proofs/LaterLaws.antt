@@ -2,7 +2,7 @@
 use Rattle.std.proofs.Common.{◌≡◌, ◌⊎◌, ℕ, suc, ◌≤◌, List, [], ◌∷◌, ◌++◌, length, Some, inl, inr, sym, ap, subst, arith, ◌∙◌}
 use Rattle.pt_meaning.specs.Basics.{Log, Path, Firing, Event, firings_in, silent, log_then, own}
 use Rattle.pt_meaning.specs.Modal.{get}
-use Rattle.pt_meaning.specs.Causes.{Has, rounds_of}
+use Rattle.pt_meaning.specs.Closed.{Has, rounds_of}
 use Rattle.pt_meaning.specs.SoundRuns.{rest_of_rounds, unmarked, log_in_child}
 use Rattle.pt_meaning.specs.WholeRuns.{ComesLater, LaterGoesOn}
 use Rattle.pt_meaning.proofs.ClosedLaws.{has-unmarked, count-unmarked, rounds-unmarked}

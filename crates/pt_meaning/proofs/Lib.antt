@@ -17,6 +17,7 @@ pub mod PhaseLaws
 pub mod PlaceLaws
 pub mod PlaceEnds
 pub mod MeaningLaws
+pub mod OutcomeLaws
 pub mod OrderOfMeetings
 pub mod LogLaws
 pub mod CompositeLaws
@@ -33,14 +34,18 @@ pub mod TickNodeLaws
 pub mod MeetingIndex
 pub mod MeetingRunLaws
 pub mod ClosedLaws
+pub mod ChannelLaws
+pub mod RecordLaws
 pub mod LevelLaws
 pub mod SoundLaws
 pub mod ExplainFlows
 pub mod ExplainRounds
+pub mod PlaceCounts
 pub mod ExplainModal
 pub mod ExplainTurns
 pub mod ExplainTicks
 pub mod ExplainParties
+pub mod ExplainPlaces
 pub mod ExplainScenes
 pub mod ExplainMeetings
 pub mod ClosedSteps
@@ -49,3 +54,4 @@ pub mod LaterLaws
 pub mod LaterSteps
 pub mod WholeSteps
 pub mod WholeMeaning
+pub mod StartLaws

@@ -1,5 +1,5 @@
 -- The meaning's log at any fuel is closed as a part of that at a greater one.
-use Rattle.std.proofs.Common.{◌≡◌, ◌⊎◌, ℕ, zero, suc, ◌+◌, ◌<◌, ◌≤◌, List, [], ◌∷◌, ◌++◌, length, Option, Some, None, inl, inr, refl, sym, ap, ap₂, subst, arith, ◌∙◌, append-nil}
+use Rattle.std.proofs.Common.{◌≡◌, ◌⊎◌, ℕ, zero, suc, ◌+◌, ◌<◌, ◌≤◌, List, [], ◌∷◌, ◌++◌, Bool, false, ◌||◌, length, Option, Some, None, inl, inr, refl, sym, ap, ap₂, subst, arith, ◌∙◌, append-nil}
 use Rattle.std.proofs.Math.Path.{fun_ext}
 use Rattle.pt_meaning.specs.Basics.{Tag, Streams, IsPrefix, Log, LogBelow, Path, Firing, Event, firings_in, silent, log_then, own}
 use Rattle.pt_meaning.specs.Machine.{Fault, Outcome, Done, Stuck, recorded}
@@ -9,14 +9,14 @@ use Rattle.pt_meaning.specs.Node.{Rows, Node, Actor, Composite, list_of, made_of
 use Rattle.pt_meaning.specs.Promises.{LawfulRows}
 use Rattle.pt_meaning.specs.Job.{Turn, Fire, Ends, Limit, Schedule, Course, on_step, on_turn, goes_on, after, log_of, begin, meaning}
 use Rattle.pt_meaning.specs.Heights.{IsFitting}
-use Rattle.pt_meaning.specs.Causes.{Has, child_of, Begun, UnderWay, rounds_of, CameWithin}
+use Rattle.pt_meaning.specs.Closed.{Has, child_of, Begun, UnderWay, is_modal, rounds_of, CameWithin}
 use Rattle.pt_meaning.specs.LogsOfRuns.{log_in}
 use Rattle.pt_meaning.specs.Laws.{Extends}
 use Rattle.pt_meaning.specs.SoundRuns.{rest_of_rounds, unmarked, log_in_child, way_in_child, CameByNow, idle, ClosedIn, KeptIn}
 use Rattle.pt_meaning.specs.WholeRuns.{ComesLater, MeaningIsWhole, PartIsClosed, LogsAreClosed}
 use Rattle.pt_meaning.proofs.FuelLaw.{step_at-grows}
 use Rattle.pt_meaning.proofs.JoinLaws.{log-assoc}
-use Rattle.pt_meaning.proofs.ClosedLaws.{child-closed, child-or-beyond, no-event, has-unmarked, rounds-unmarked, closed-caused, closed-within}
+use Rattle.pt_meaning.proofs.ClosedLaws.{child-closed, child-or-beyond, no-event, has-unmarked, rounds-unmarked, closed-caused, closed-enclosed, closed-within}
 use Rattle.pt_meaning.proofs.LevelLaws.{has-either}
 use Rattle.pt_meaning.proofs.ClosedSteps.{sound-at}
 use Rattle.pt_meaning.proofs.ClosedMeaning.{start-closed, start-kept, meaning-closed}
@@ -35,7 +35,7 @@ log-behind {T} l m h = (λ p. (behind (l p) (m p) (h p)).0, fun_ext (λ p. (behi
 
 module _ {T A : Type 0} (rows : Rows T A) (law : LawfulRows rows) (k k' : ℕ) (o : k ≤ k') (m : Meets) (plan : Schedule T A) (top : Node T A) where
   abbrev Fine : Course T A → Type 0
-  Fine c = IsFitting c.top × ClosedIn rows top c.log idle × KeptIn top c.top c.log
+  Fine c = IsFitting c.top × ClosedIn rows false top c.log idle × KeptIn rows false top c.top c.log
 
   abbrev GoesBehind : Log T → Log T → Type 0
   GoesBehind l n = (more : Log T) × (n ≡ log_then l more) × ComesLater l more
@@ -49,10 +49,10 @@ module _ {T A : Type 0} (rows : Rows T A) (law : LawfulRows rows) (k k' : ℕ) (
 
   fine-done : (j : ℕ) (c : Course T A) → Fine c → (tag : Tag) (X : Streams T) (z : Node T A) (out : Streams T) (l : Log T) → step_at rows j (height c.top) m tag c.top X ≡ Done z out l → Fine (after_firing c tag X z out l)
   unfolding after_firing
-  fine-done j c h tag X z out l e = let s = sound-at rows law j (height c.top) m in let d = s.done top c.top z c.log h.0 h.1 h.2 tag X out l e in (s.fits tag c.top z X out l h.0 e, d.0, d.1)
+  fine-done j c h tag X z out l e = let s = sound-at rows law j (height c.top) m in let d = s.done false top c.top z c.log h.0 h.1 h.2 tag X out l e in (s.fits tag c.top z X out l h.0 e, d.0, d.1)
 
   firing-later : (j : ℕ) (c : Course T A) → Fine c → (tag : Tag) (X : Streams T) (r : Outcome T (Node T A)) → step_at rows j (height c.top) m tag c.top X ≡ r → ComesLater c.log (log_in r)
-  firing-later j c h tag X r e = subst (λ v. ComesLater c.log (log_in v)) e ((later-at rows law j (height c.top) m).later top c.top c.log h.0 h.1 h.2 tag X)
+  firing-later j c h tag X r e = subst (λ v. ComesLater c.log (log_in v)) e ((later-at rows law j (height c.top) m).later false top c.top c.log h.0 h.1 h.2 tag X)
 
   -- all that a run logs comes later
   run-later : (n : ℕ) (c : Course T A) → Fine c → GoesBehind c.log (log_of (after k' rows m plan n c))
@@ -84,7 +84,7 @@ module _ {T A : Type 0} (rows : Rows T A) (law : LawfulRows rows) (k k' : ℕ) (
       stuck : (tag : Tag) (X : Streams T) (fs : List Fault) (l : Log T) → step_at rows k (height c.top) m tag c.top X ≡ Stuck fs l → (r : Outcome T (Node T A)) → step_at rows k' (height c.top) m tag c.top X ≡ r → LogBelow l (log_in r) → GoesBehind (log_then c.log l) (log_then c.log (log_in r))
       stuck tag X fs l e r e' b =
           let w = log-behind l (log_in r) b in
-          let more = (whole-at rows law k k' (height c.top) (height c.top) o (omega arith) m).whole top c.top c.log h.0 h.1 h.2 tag tag X X w.0 (ap (λ v. log_in v) e' ∙ w.1 ∙ ap (λ v. log_then (log_in v) w.0) (sym e)) in
+          let more = (whole-at rows law k k' (height c.top) (height c.top) o (omega arith) m).whole false top c.top c.log h.0 h.1 h.2 tag tag X X w.0 (ap (λ v. log_in v) e' ∙ w.1 ∙ ap (λ v. log_then (log_in v) w.0) (sym e)) in
           (w.0, ap (λ v. log_then c.log v) w.1 ∙ log-assoc c.log l w.0, subst (λ v. ComesLater (log_then c.log (log_in v)) w.0) e more)
 
       beyond : (tag : Tag) (X : Streams T) (fs : List Fault) (l : Log T) (r : Outcome T (Node T A)) → step_at rows k' (height c.top) m tag c.top X ≡ r → LogBelow l (log_in r) → GoesBehind (log_then c.log l) (log_then c.log (log_in r)) →
@@ -116,7 +116,7 @@ module _ {T A : Type 0} (rows : Rows T A) (law : LawfulRows rows) (k k' : ℕ) (
       turned Limit ih = nothing-behind c.log
 
 pub meaning-is-whole : {T A : Type 0} → MeaningIsWhole T A
-meaning-is-whole rows law m plan top f s k k' o = run-whole rows law k k' o m plan top k k' o (begin top) (f, start-closed rows top, start-kept top s)
+meaning-is-whole rows law m plan top f s k k' o = run-whole rows law k k' o m plan top k k' o (begin top) (f, start-closed rows false top, start-kept rows false top s)
 
 -- an event has a round for each composite above it
 no-rounds : {T : Type 0} (e : Event T) (n k : ℕ) → rounds_of e ≡ [] → get (rounds_of e) k ≡ Some n → ⊥
@@ -129,31 +129,32 @@ deeper : {T : Type 0} (made : ℕ) (way : Option (Begun T)) (ns : List ℕ) (k n
 deeper made way [] k n h e = absurd h
 deeper made way (m ∷ ns) k n h e = e
 
-rounds-end : {T A : Type 0} (rows : Rows T A) (p : Path) (top : Node T A) (l : Log T) (way : UnderWay T) → ClosedIn rows top l way → (e : Event T) (n : ℕ) → Has e (l p) → get (rounds_of e) (length p) ≡ Some n → ⊥
-rounds-end rows [] (Actor h a b) l way k e n g w = no-rounds e n 0 (k.0 e g) w
-rounds-end rows [] (Composite h c d kids) l way k e n g w = no-rounds e n 0 (k.0 e g) w
-rounds-end rows (j ∷ p) (Actor h a b) l way k e n g w = no-event e (l (j ∷ p)) (k.1 j p).0 g
-rounds-end {T} {A} rows (j ∷ p) (Composite h c d kids) l way k e n g w = go (child-or-beyond kids j) (λ x f u v. rounds-end rows p x (log_in_child j l) (way_in_child j way) f (unmarked e) n u v)
+rounds-end : {T A : Type 0} (rows : Rows T A) (u : Bool) (p : Path) (top : Node T A) (l : Log T) (way : UnderWay T) → ClosedIn rows u top l way → (e : Event T) (n : ℕ) → Has e (l p) → get (rounds_of e) (length p) ≡ Some n → ⊥
+rounds-end rows u [] (Actor h a b) l way k e n g w = no-rounds e n 0 (k.0 e g) w
+rounds-end rows u [] (Composite h c d kids) l way k e n g w = no-rounds e n 0 (k.0 e g) w
+rounds-end rows u (j ∷ p) (Actor h a b) l way k e n g w = no-event e (l (j ∷ p)) (k.1 j p).0 g
+rounds-end {T} {A} rows u (j ∷ p) (Composite h c d kids) l way k e n g w = go (child-or-beyond kids j) (λ x f y v. rounds-end rows (u || is_modal c) p x (log_in_child j l) (way_in_child j way) f (unmarked e) n y v)
   where
-    go : ((x : Node T A) × (child_of kids j ≡ Some x)) ⊎ ((child_of kids j ≡ None) × (length (list_of kids) ≤ j)) → ((x : Node T A) → ClosedIn rows x (log_in_child j l) (way_in_child j way) → Has (unmarked e) (log_in_child j l p) → get (rounds_of (unmarked e)) (length p) ≡ Some n → ⊥) → ⊥
+    go : ((x : Node T A) × (child_of kids j ≡ Some x)) ⊎ ((child_of kids j ≡ None) × (length (list_of kids) ≤ j)) → ((x : Node T A) → ClosedIn rows (u || is_modal c) x (log_in_child j l) (way_in_child j way) → Has (unmarked e) (log_in_child j l p) → get (rounds_of (unmarked e)) (length p) ≡ Some n → ⊥) → ⊥
     go (inl x) ih =
         let zero_j : 0 + j ≡ j = omega arith in
-        let below : ClosedIn rows x.0 (log_in_child j l) (way_in_child j way) = subst (λ v. ClosedIn rows x.0 (log_in_child v l) (way_in_child v way)) zero_j (child-closed rows kids 0 j x.0 l way k.2 x.1) in
+        let below : ClosedIn rows (u || is_modal c) x.0 (log_in_child j l) (way_in_child j way) = subst (λ v. ClosedIn rows (u || is_modal c) x.0 (log_in_child v l) (way_in_child v way)) zero_j (child-closed rows (u || is_modal c) kids 0 j x.0 l way k.2 x.1) in
         ih x.0 below (has-unmarked e (l (j ∷ p)) g) (ap (λ v. get v (length p)) (rounds-unmarked e) ∙ deeper (firings_in (l [])) (way []) (rounds_of e) (length p) n (k.1.within j p e g) w)
     go (inr b) ih = no-event e (l (j ∷ p)) (k.1.beyond j p b.1).0 g
 
 pub part-is-closed : {T A : Type 0} → PartIsClosed T A
 part-is-closed {T} {A} rows top m l more way way' same closed whole later = record {
   under_way = way;
-  caused = λ p i q tag x took. closed-caused rows p top l way closed i q tag x took;
-  begun = λ p n r e w made. (closed-within rows p top l way closed n r e w).1 (sym made);
-  finished = λ p n r e w. (closed-within rows p top l way closed n r e w).0;
-  whole = λ p n r e w k a r' g v. either p n k r' g (closed-within rows p top l way closed n r e w).0 a v r' refl (has-either g (l (p ++ r')) (more (p ++ r')) (subst (λ (u : Log T). Has g (u (p ++ r'))) same v.0));
+  caused = λ p c e i q n g. closed-caused rows false p top l way closed c e i q n g;
+  enclosed = λ p i b e. closed-enclosed rows false p top l way closed i b e;
+  begun = λ p n r e w made. (closed-within rows false p top l way closed n r e w).1 (sym made);
+  finished = λ p n r e w. (closed-within rows false p top l way closed n r e w).0;
+  whole = λ p n r e w k a r' g v. either p n k r' g (closed-within rows false p top l way closed n r e w).0 a v r' refl (has-either g (l (p ++ r')) (more (p ++ r')) (subst (λ (u : Log T). Has g (u (p ++ r'))) same v.0));
 }
   where
     either : (p : Path) (n k : ℕ) (r : Path) (g : Event T) → n < suc (firings_in (l p)) → k < n → CameWithin m p k r g → (r' : Path) → r ≡ r' → Has g (l (p ++ r)) ⊎ Has g (more (p ++ r)) → Has g (l (p ++ r))
     either p n k r g b a v r' e (inl h) = h
-    either p n k r g b a v [] e (inr h) = absurd (rounds-end rows p top m way' whole g k (subst (λ q. Has g (m q)) (ap (λ u. p ++ u) e ∙ append-nil p) v.0) v.1)
+    either p n k r g b a v [] e (inr h) = absurd (rounds-end rows false p top m way' whole g k (subst (λ q. Has g (m q)) (ap (λ u. p ++ u) e ∙ append-nil p) v.0) v.1)
     either p n k r g b a v (i ∷ q) e (inr h) =
         let w = later p i q g (subst (λ u. Has g (more (p ++ u))) e h) in
         let same_number : k ≡ w.0 = some-nat k w.0 (sym v.1 ∙ w.1) in
@@ -163,8 +164,12 @@ part-is-closed {T} {A} rows top m l more way way' same closed whole later = reco
         some-nat x y e = cc
 
 pub logs-are-closed : {T A : Type 0} → LogsAreClosed T A
+unfolding part-is-closed
 logs-are-closed rows law m plan top f s k k' o =
     let w = meaning-is-whole rows law m plan top f s k k' o in
     let a = meaning-closed rows law k m plan top f s in
     let b = meaning-closed rows law k' m plan top f s in
-    part-is-closed rows top (meaning k' rows m plan top) (meaning k rows m plan top) w.0 a.0 b.0 w.1 a.1 b.1 w.2
+    record {
+      inside = part-is-closed rows top (meaning k' rows m plan top) (meaning k rows m plan top) w.0 a.0 b.0 w.1 a.1 b.1 w.2;
+      next = λ x e. a.2 x e;
+    }

@@ -43,6 +43,7 @@ pub mod LogsOfRuns
 pub mod CompositeRuns
 pub mod Heights
 pub mod Uniqueness
+pub mod Outcomes
 pub mod SettledRuns
 -- Means for engines.
 pub mod Running
@@ -54,8 +55,10 @@ pub mod CutLaw
 pub mod TickRuns
 pub mod CompositeTicks
 pub mod MeetingRuns
+pub mod Channels
 pub mod SoundRuns
 pub mod Explained
+pub mod PlacesTold
 pub mod ClosedRuns
 pub mod WholeRuns
-pub mod Causes
+pub mod StartedRuns

@@ -1,14 +1,15 @@
-// The laws of logs with causes, a weaker form of closed logs (specs/Causes.antt says how much weaker): each token taken has its cause, what came within a firing came within one that is finished or under way, and of what is finished all is there.
+// The laws of closed logs: each token taken has its cause, as often as it was taken and in order; what came within a firing came within one that is finished or under way; and of what is finished all is there.
 
 ghost use Rattle.pt_meaning.specs.ClosedRuns.{FiringsKeepClosed, MeaningIsClosed, ClosedAtPaths, LevelsGoOn};
 ghost use Rattle.pt_meaning.specs.WholeRuns.{LaterGoesOn, FiringsComeLater, FiringsAreWhole, MeaningIsWhole, PartIsClosed, LogsAreClosed};
+ghost use Rattle.pt_meaning.specs.StartedRuns.{StartedLogsAreClosed};
 
 /// A firing keeps logs closed, under any director, while it is under way and where it is done.
 pub fn firings_keep_closed<T, A>()
     ensures { FiringsKeepClosed T A }
 {}
 
-/// The log of a run of the top is closed at any fuel.
+/// The log of a run of the top is closed at any fuel, and the top's firing under way is the job's next.
 pub fn meaning_is_closed<T, A>()
     ensures { MeaningIsClosed T A }
 {}
@@ -48,7 +49,12 @@ pub fn part_is_closed<T, A>()
     ensures { PartIsClosed T A }
 {}
 
-/// The log of a run of the top at any fuel has its causes, as a part of that at each greater one.
+/// The log of a run of the top at any fuel is closed, as a part of that at each greater one.
 pub fn logs_are_closed<T, A>()
     ensures { LogsAreClosed T A }
+{}
+
+/// So it is of the log of each model that is run from its start.
+pub fn started_logs_are_closed<T, A>()
+    ensures { StartedLogsAreClosed T A }
 {}

@@ -1,6 +1,7 @@
-// There is one least solution, of ticks and of rounds.
+// There is one least solution, of ticks and of rounds, and one outcome of a job.
 
 ghost use Rattle.pt_meaning.specs.Uniqueness.{LeastIsOne, ValuationsSettle, SettledIsLeast, LeastIsSettled, LeastSolutionIsOne, SettledIsLeastSolution};
+ghost use Rattle.pt_meaning.specs.Outcomes.{OneOutcome, ReportsAgree};
 
 /// Two least valuations of a tick are the same.
 pub fn least_is_one<T, S>()
@@ -30,4 +31,14 @@ pub fn least_solution_is_one<T, S>()
 /// A settled round is the least solution.
 pub fn settled_is_least_solution<T, S>()
     ensures { SettledIsLeastSolution T S }
+{}
+
+/// A meaning that ends has no other end, no stuck place, and one whole log.
+pub fn one_outcome<T, A>()
+    ensures { OneOutcome T A }
+{}
+
+/// A report of a job that ends tells no fault, and no other end.
+pub fn reports_agree<T, A>()
+    ensures { ReportsAgree T A }
 {}

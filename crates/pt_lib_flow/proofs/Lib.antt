@@ -1,0 +1,6 @@
+pub mod RowLaws
+pub mod Places
+pub mod Extremes
+pub mod Quotients
+pub mod Sequences
+pub mod Named

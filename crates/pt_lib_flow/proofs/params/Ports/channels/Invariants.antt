@@ -1,0 +1,9 @@
+use Rattle.std.proofs.Common.{◌≡◌, drop}
+use Rattle.pt_lib_flow.specs.Params.{channels_to}
+use Rattle.pt_lib_flow.proofs.params.Ports.channels.Given as goal
+
+abbrev pub invariant-loop-key : goal.invariant-loop-key
+invariant-loop-key l = record {
+  rest : channels_to l.name l.self ≡ channels_to l.name (drop l.key-index l.key-items);
+  all : l.key-items ≡ l.self;
+}

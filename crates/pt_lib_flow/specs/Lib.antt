@@ -1,0 +1,13 @@
+pub mod Row
+pub mod Limit
+pub mod Params
+pub mod AbsoluteValue
+pub mod Accumulator
+pub mod AddSubtract
+pub mod Const
+pub mod Extreme
+pub mod MultiplyDivide
+pub mod Ramp
+pub mod Scale
+pub mod Sequence
+pub mod FlowActor

@@ -1,0 +1,47 @@
+ghost use Rattle.std.specs.Prelude.{◌≡◌};
+ghost use Rattle.pt_lib_flow.specs.Limit.{limit_of, is_over, after_one, is_called};
+
+use pt_firing::Inputs;
+
+/// How often a source may still fire.
+#[derive(Clone, Copy, Debug, PartialEq, Eq)]
+pub enum Limit {
+    Endless,
+    Left(u64),
+}
+
+impl Limit {
+    /// The limit by a `firingCountLimit`, of which 0 is none.
+    pub fn of(count: u64) -> Limit
+        ensures { result ≡ limit_of count }
+    {
+        if count == 0 {
+            Limit::Endless
+        } else {
+            Limit::Left(count)
+        }
+    }
+
+    pub fn is_over(self) -> bool
+        ensures { result ≡ is_over self }
+    {
+        matches!(self, Limit::Left(0))
+    }
+
+    /// The limit after one firing.
+    pub fn after_one(self) -> Limit
+        ensures { result ≡ after_one self }
+    {
+        match self {
+            Limit::Endless => Limit::Endless,
+            Limit::Left(count) => Limit::Left(count.saturating_sub(1)),
+        }
+    }
+}
+
+/// Whether a source has no trigger, or a token there.
+pub(crate) fn is_called(inputs: &Inputs<'_>) -> bool
+    ensures { result ≡ is_called inputs.now }
+{
+    inputs.places() == 0 || !inputs.list(0).is_empty()
+}

@@ -1,0 +1,18 @@
+// What the events of a PN firing tell of its places, and the full lines of a jam.
+
+ghost use Rattle.pt_meaning.specs.PlacesTold.{PlacesAreTold, LinesTell, FullLinesTell};
+
+/// On each channel what was given is what was used, gathered, is in the queue, or is still to be put.
+pub fn places_are_told<T, S>()
+    ensures { PlacesAreTold T S }
+{}
+
+/// A full line is of a channel that a process waits for, with its length, and each such channel has one.
+pub fn lines_tell<T>()
+    ensures { LinesTell T }
+{}
+
+/// In a jam the number on a full line is that of the tokens given, without those used, gathered or still to be put.
+pub fn full_lines_tell<T, S>()
+    ensures { FullLinesTell T S }
+{}

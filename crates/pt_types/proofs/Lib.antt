@@ -1,0 +1,8 @@
+pub mod Fields
+pub mod Joins
+pub mod Order
+pub mod Parts
+pub mod Rank
+pub mod Records
+pub mod Solutions
+pub mod Texts

@@ -1,0 +1,5 @@
+use Rattle.pt_types.proofs.Joins.{join-is_join}
+use Rattle.pt_types.proofs.laws.joins_are_least.Goals as goal
+
+pub returns : goal.returns
+returns c = join-is_join

@@ -1,0 +1,18 @@
+//! The types of what passes at a port: their order, their joins, and the least types that meet given rules.
+#![tactic(auto)]
+
+mod element;
+mod laws;
+mod printed;
+mod record;
+mod rules;
+#[cfg(test)]
+mod tests;
+mod ty;
+
+pub use element::ElementTy;
+pub use laws::{joins_are_least, parts_stand_for_types, types_are_ordered, types_grow};
+pub use printed::print;
+pub use record::{FieldTy, RecordTy};
+pub use rules::{Rule, least};
+pub use ty::{Ty, below, join};

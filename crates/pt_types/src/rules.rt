@@ -1,0 +1,208 @@
+ghost use Rattle.std.specs.Prelude.{◌≡◌, ℕ, ◌+◌, ◌*◌, ◌<◌, ◌≤◌, IfOk, OnOk, IsTrue, IsFalse, map, length, All, List, if◌then◌else◌};
+ghost use Rattle.pt_types.specs.Datatype.{Datatype, Unknown};
+ghost use Rattle.pt_types.specs.Order.{IsBelow};
+ghost use Rattle.pt_types.specs.Rank.{room};
+ghost use Rattle.pt_types.specs.Rules.{AllBelow, AreMet, IsReached, IsLeastSolution, IsRaised};
+ghost use Rattle.pt_types.specs.Ty.{type_of};
+
+use crate::ty::{Ty, below, join};
+use std::alloc::{AllocError, Global};
+
+/// A rule on the types of numbered things: what it makes of them is below the type of its target.
+pub trait Rule {
+    ghost target_of: { Self → ℕ };
+
+    ghost value_of: { Self → List Datatype → Datatype };
+
+    /// The number whose type the rule bounds from below.
+    fn target(&self) -> u32
+        ensures { result ≡ target_of self.now };
+
+    /// What the rule makes of the types of all numbers.
+    fn value(&self, alloc: Global, types: &[Ty]) -> Result<Ty, AllocError>
+        ensures { IfOk result (λ t. type_of t ≡ value_of self.now (map type_of types.now)) };
+
+    /// The numbers whose types the value depends on. A list that lacks some costs time, and changes no answer.
+    fn reads(&self) -> &[u32];
+
+    /// Greater types give no smaller value.
+    ghost grows: { (rule : Self) (xs ys : List Datatype) → AllBelow xs ys → IsBelow (value_of rule xs) (value_of rule ys) };
+}
+
+/// The least types of the numbers below `n` that meet all rules.
+pub fn least<R: Rule>(alloc: Global, n: u32, rules: &[R]) -> Result<Vec<Ty>, AllocError>
+    requires { All (λ rule. R.target_of rule < n) rules.now }
+    ensures { IfOk result (λ types. IsLeastSolution R.target_of R.value_of n rules.now (map type_of types.items)) }
+{
+    let readers = readers_of(alloc, n, rules)?;
+    let mut types = unknowns(alloc, n)?;
+    let mut changed = Vec::new(alloc);
+    loop {
+        if !raise_all(alloc, rules, &mut types, &mut changed)? {
+            return Ok(types);
+        }
+        spread(alloc, rules, &readers, &mut types, &mut changed)?;
+    }
+}
+
+/// For each number the rules that read it. It says where to look next, and no proof rests on it.
+fn readers_of<R: Rule>(alloc: Global, n: u32, rules: &[R]) -> Result<Vec<Vec<usize>>, AllocError> {
+    let mut readers = Vec::new(alloc);
+    for _ in 0..n {
+        readers.push(Vec::new(alloc))?;
+    }
+    for (index, rule) in rules.iter().enumerate() {
+        for number in rule.reads() {
+            if let Some(row) = readers.get_mut(*number as usize) {
+                row.push(index)?;
+            }
+        }
+    }
+    Ok(readers)
+}
+
+fn unknowns(alloc: Global, n: u32) -> Result<Vec<Ty>, AllocError>
+    ensures counted { IfOk result (λ types. length types.items ≡ n) }
+    ensures unknown { IfOk result (λ types. All (λ t. type_of t ≡ Unknown) types.items) }
+{
+    let mut types = Vec::with_capacity(alloc, n as usize)?;
+    for _ in 0..n {
+        types.push(Ty::Unknown)?;
+    }
+    Ok(types)
+}
+
+/// Raises the type of the rule's target to what the rule asks for, and notes the number where that changes it.
+fn raise<R: Rule>(
+    alloc: Global,
+    rule: &R,
+    types: &mut Vec<Ty>,
+    changed: &mut Vec<u32>,
+) -> Result<bool, AllocError>
+    requires { R.target_of rule.now < length types.old.items }
+    ensures raised { IfOk result
+        (λ raised. IsRaised (R.target_of rule.now) (R.value_of rule.now (map type_of types.old.items)) (map type_of types.old.items) (map type_of types.new.items) raised) }
+    ensures counted { OnOk result (length types.new.items ≡ length types.old.items) }
+    ensures noted { IfOk result
+        (λ raised. length changed.new.items ≡ length changed.old.items + (if raised then 1 else 0)) }
+{
+    let target = rule.target();
+    let value = rule.value(alloc, types)?;
+    if below(&value, &types[target as usize]) {
+        return Ok(false);
+    }
+    let joined = join(alloc, &types[target as usize], &value)?;
+    changed.push(target)?;
+    types[target as usize] = joined;
+    Ok(true)
+}
+
+/// One round over all rules: whether some type was raised.
+fn raise_all<R: Rule>(
+    alloc: Global,
+    rules: &[R],
+    types: &mut Vec<Ty>,
+    changed: &mut Vec<u32>,
+) -> Result<bool, AllocError>
+    requires targets { All (λ rule. R.target_of rule < length types.old.items) rules.now }
+    requires reached { IsReached R.target_of R.value_of rules.now (map type_of types.old.items) }
+    ensures counted { OnOk result (length types.new.items ≡ length types.old.items) }
+    ensures reached { OnOk result (IsReached R.target_of R.value_of rules.now (map type_of types.new.items)) }
+    ensures met { IfOk result (λ raised. IsFalse raised → AreMet R.target_of R.value_of rules.now (map type_of types.new.items)) }
+    ensures room { IfOk result (λ raised. IsTrue raised → room (map type_of types.new.items) < room (map type_of types.old.items)) }
+{
+    let mut any = false;
+    for rule in rules {
+        let raised = raise(alloc, rule, types, changed)?;
+        any = any | raised;
+    }
+    Ok(any)
+}
+
+/// The rules that read a changed number, and those that read what they change, until no change is left.
+fn spread<R: Rule>(
+    alloc: Global,
+    rules: &[R],
+    readers: &[Vec<usize>],
+    types: &mut Vec<Ty>,
+    changed: &mut Vec<u32>,
+) -> Result<(), AllocError>
+    requires targets { All (λ rule. R.target_of rule < length types.old.items) rules.now }
+    requires reached { IsReached R.target_of R.value_of rules.now (map type_of types.old.items) }
+    ensures counted { OnOk result (length types.new.items ≡ length types.old.items) }
+    ensures reached { OnOk result (IsReached R.target_of R.value_of rules.now (map type_of types.new.items)) }
+    ensures room { OnOk result (room (map type_of types.new.items) ≤ room (map type_of types.old.items)) }
+{
+    while let Some(number) = changed.pop() {
+        raise_readers(alloc, rules, readers, number, types, changed)?;
+    }
+    Ok(())
+}
+
+/// The rules that read a number.
+fn raise_readers<R: Rule>(
+    alloc: Global,
+    rules: &[R],
+    readers: &[Vec<usize>],
+    number: u32,
+    types: &mut Vec<Ty>,
+    changed: &mut Vec<u32>,
+) -> Result<(), AllocError>
+    requires targets { All (λ rule. R.target_of rule < length types.old.items) rules.now }
+    requires reached { IsReached R.target_of R.value_of rules.now (map type_of types.old.items) }
+    ensures counted { OnOk result (length types.new.items ≡ length types.old.items) }
+    ensures reached { OnOk result (IsReached R.target_of R.value_of rules.now (map type_of types.new.items)) }
+    ensures room { OnOk result (room (map type_of types.new.items) ≤ room (map type_of types.old.items)) }
+    ensures work { OnOk result
+        (2 * room (map type_of types.new.items) + length changed.new.items ≤ 2 * room (map type_of types.old.items) + length changed.old.items) }
+{
+    match readers.get(number as usize) {
+        Some(indexes) => raise_some(alloc, rules, indexes.as_slice(), types, changed),
+        None => Ok(()),
+    }
+}
+
+/// The rules of some indexes, one after the other.
+fn raise_some<R: Rule>(
+    alloc: Global,
+    rules: &[R],
+    indexes: &[usize],
+    types: &mut Vec<Ty>,
+    changed: &mut Vec<u32>,
+) -> Result<(), AllocError>
+    requires targets { All (λ rule. R.target_of rule < length types.old.items) rules.now }
+    requires reached { IsReached R.target_of R.value_of rules.now (map type_of types.old.items) }
+    ensures counted { OnOk result (length types.new.items ≡ length types.old.items) }
+    ensures reached { OnOk result (IsReached R.target_of R.value_of rules.now (map type_of types.new.items)) }
+    ensures room { OnOk result (room (map type_of types.new.items) ≤ room (map type_of types.old.items)) }
+    ensures work { OnOk result
+        (2 * room (map type_of types.new.items) + length changed.new.items ≤ 2 * room (map type_of types.old.items) + length changed.old.items) }
+{
+    for index in indexes {
+        raise_at(alloc, rules, *index, types, changed)?;
+    }
+    Ok(())
+}
+
+/// The rule of an index.
+fn raise_at<R: Rule>(
+    alloc: Global,
+    rules: &[R],
+    index: usize,
+    types: &mut Vec<Ty>,
+    changed: &mut Vec<u32>,
+) -> Result<(), AllocError>
+    requires targets { All (λ rule. R.target_of rule < length types.old.items) rules.now }
+    requires reached { IsReached R.target_of R.value_of rules.now (map type_of types.old.items) }
+    ensures counted { OnOk result (length types.new.items ≡ length types.old.items) }
+    ensures reached { OnOk result (IsReached R.target_of R.value_of rules.now (map type_of types.new.items)) }
+    ensures room { OnOk result (room (map type_of types.new.items) ≤ room (map type_of types.old.items)) }
+    ensures work { OnOk result
+        (2 * room (map type_of types.new.items) + length changed.new.items ≤ 2 * room (map type_of types.old.items) + length changed.old.items) }
+{
+    let Some(rule) = rules.get(index) else {
+        return Ok(());
+    };
+    let _raised = raise(alloc, rule, types, changed)?;
+    Ok(())
+}
