@@ -9,3 +9,4 @@ pub mod EdgeExamples
 pub mod NestingExamples
 pub mod JamExample
 pub mod ReportExample
+pub mod ClosedLogsExamples

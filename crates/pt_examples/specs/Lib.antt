@@ -11,3 +11,4 @@ pub mod Nesting
 pub mod Jams
 pub mod Worked
 pub mod Reports
+pub mod ClosedLogs

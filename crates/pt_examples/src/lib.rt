@@ -15,6 +15,7 @@ ghost use Rattle.pt_examples.specs.Edges.{EdgeExamples};
 ghost use Rattle.pt_examples.specs.Nesting.{NestingExamples};
 ghost use Rattle.pt_examples.specs.Jams.{JamExample};
 ghost use Rattle.pt_examples.specs.Reports.{ReportExample, UnclosedExample};
+ghost use Rattle.pt_examples.specs.ClosedLogs.{ClosedLogsExamples};
 
 /// The small library of the examples keeps what every library of actors owes.
 pub fn small_library_is_lawful()
@@ -74,4 +75,9 @@ pub fn report_example()
 /// A log with a token that nobody gave isn't closed.
 pub fn unclosed_example()
     ensures { UnclosedExample }
+{}
+
+/// The logs of a model of each director, and of nested ones, are closed at any fuel.
+pub fn closed_logs_examples()
+    ensures { ClosedLogsExamples }
 {}

@@ -1,27 +1,28 @@
 -- What the events of a PN firing tell of its places.
 use Rattle.std.proofs.Common.{◌≡◌, ℕ, zero, suc, ◌+◌, ◌<◌, List, [], ◌∷◌, ◌++◌, Bool, true, false, ◌||◌, nat_eq, nat_lt, length, take, drop, get_or, Option, Some, None, if◌then◌else◌, inl, inr, refl, sym, ap, subst, arith, ◌∙◌, append_assoc, append-nil, length-append}
 use Rattle.std.proofs.lemmas.Bool.Decides.{nat_tests}
-use Rattle.std.proofs.lemmas.List.{length-take-le}
+use Rattle.std.proofs.lemmas.List.{length-take-le, append_cancel_left}
 use Rattle.std.proofs.Math.Path.{fun_ext}
 use Rattle.pt_meaning.specs.Basics.{Tag, Streams, at, Log, log_then}
-use Rattle.pt_meaning.specs.Streams.{get}
+use Rattle.pt_meaning.specs.Streams.{get, change_at}
 use Rattle.pt_meaning.specs.Machine.{Outcome, Done, Stuck, Stepping, Facts, Front, Lacks, Ends, Takes, front}
 use Rattle.pt_meaning.specs.Flow.{Capped, Flow, flow, on_outcome, on_front}
 use Rattle.pt_meaning.specs.Rounds.{Source, Own, Output, Limit, rated, gave, refill}
 use Rattle.pt_meaning.specs.Kahn.{left_by, logs_of, states_of, skip_places}
 use Rattle.pt_meaning.specs.Pn.{pn_limits}
-use Rattle.pt_meaning.specs.Process.{Put}
+use Rattle.pt_meaning.specs.Process.{Put, puts_of}
 use Rattle.pt_meaning.specs.Running.{runs, MadeAll, Fits}
 use Rattle.pt_meaning.specs.Places.{taken_if, due}
-use Rattle.pt_meaning.specs.Jam.{is_next_put, waited_from, waited_for}
+use Rattle.pt_meaning.specs.Jam.{IsPutting, is_next_put, waited_from, waited_for}
 use Rattle.pt_meaning.specs.LogsOfRuns.{log_at}
 use Rattle.pt_meaning.specs.Closed.{Has, Begun, inputs_at, outputs_at}
 use Rattle.pt_meaning.specs.Channels.{further, channel_at, tokens_in}
 use Rattle.pt_meaning.specs.Explained.{Turned, ChainOf, PartOf, of_turns, gives_in}
-use Rattle.pt_meaning.specs.PlacesTold.{PlacesAreTold, LinesTell, FullLinesTell}
+use Rattle.pt_meaning.specs.PlacesTold.{PlacesAreTold, LinesTell, FullLinesTell, LastPutsAreTold}
 use Rattle.pt_meaning.proofs.ChannelLaws.{at-first, tokens-further, tokens-append, at-append-if, fits-channel}
 use Rattle.pt_meaning.proofs.FlowLaws.{IsFree}
 use Rattle.pt_meaning.proofs.RunLaws.{left-length, flow-capped}
+use Rattle.pt_meaning.proofs.ExplainParties.{turns-append}
 use Rattle.pt_meaning.proofs.ExplainFlows.{turns_of, turns_on, turns_front, stuck_of, flow-is, free-unstuck}
 
 -- as many turns as firings
@@ -40,6 +41,36 @@ module _ {T S : Type 0} (facts : Facts T S) (step : Stepping T S) (tag : Tag) wh
   unfolding flow
   turns-count zero s X = refl
   turns-count (suc n) s X = front-count n (turns-count n) s X (front (facts.need s) X)
+
+-- the last of them
+module _ {T S : Type 0} (facts : Facts T S) (step : Stepping T S) (tag : Tag) where
+  turns-last : (n : ℕ) (s : S) (X : Streams T) → (flow facts step tag (suc n) s X).fired ≡ suc n → (t : Turned T) × (turns_of facts step tag (suc n) s X ≡ turns_of facts step tag n s X ++ (t ∷ []))
+  unfolding flow
+  turns-last zero s X e = go (front (facts.need s) X) e
+    where
+      by_outcome : (got left : Streams T) (o : Outcome T S) → (on_outcome facts step tag (flow facts step tag 0) s X got left o).fired ≡ 1 → (t : Turned T) × (turns_on facts step tag (turns_of facts step tag 0) s got left o ≡ t ∷ [])
+      by_outcome got left (Done z out l) e = (record { record_of = record { number = facts.made s; tag = tag; inputs = got; outputs = out }; inside = l }, refl)
+      by_outcome got left (Stuck fs l) e = absurd (omega (arith, e))
+
+      go : (f : Front T) → (on_front facts step tag (flow facts step tag 0) s X f).fired ≡ 1 → (t : Turned T) × (turns_front facts step tag (turns_of facts step tag 0) s f ≡ t ∷ [])
+      go Lacks e = absurd (omega (arith, e))
+      go Ends e = absurd (omega (arith, e))
+      go (Takes got left) e = by_outcome got left (step tag s got) e
+  turns-last (suc n) s X e = go (front (facts.need s) X) e (λ z left g. turns-last n z left g)
+    where
+      by_outcome : (got left : Streams T) (o : Outcome T S) → (on_outcome facts step tag (flow facts step tag (suc n)) s X got left o).fired ≡ suc (suc n) →
+          ((z : S) (Y : Streams T) → (flow facts step tag (suc n) z Y).fired ≡ suc n → (t : Turned T) × (turns_of facts step tag (suc n) z Y ≡ turns_of facts step tag n z Y ++ (t ∷ []))) →
+          (t : Turned T) × (turns_on facts step tag (turns_of facts step tag (suc n)) s got left o ≡ turns_on facts step tag (turns_of facts step tag n) s got left o ++ (t ∷ []))
+      by_outcome got left (Done z out l) e ih =
+          let r = ih z left (omega (arith, e)) in
+          (r.0, ap (λ (v : List (Turned T)). let u : Turned T = record { record_of = record { number = facts.made s; tag = tag; inputs = got; outputs = out }; inside = l } in u ∷ v) r.1)
+      by_outcome got left (Stuck fs l) e ih = absurd (omega (arith, e))
+
+      go : (f : Front T) → (on_front facts step tag (flow facts step tag (suc n)) s X f).fired ≡ suc (suc n) → ((z : S) (Y : Streams T) → (flow facts step tag (suc n) z Y).fired ≡ suc n → (t : Turned T) × (turns_of facts step tag (suc n) z Y ≡ turns_of facts step tag n z Y ++ (t ∷ []))) →
+          (t : Turned T) × (turns_front facts step tag (turns_of facts step tag (suc n)) s f ≡ turns_front facts step tag (turns_of facts step tag n) s f ++ (t ∷ []))
+      go Lacks e ih = absurd (omega (arith, e))
+      go Ends e ih = absurd (omega (arith, e))
+      go (Takes got left) e ih = by_outcome got left (step tag s got) e ih
 
 -- a part of which no firing is unfinished is a chain
 whole-chain : {T S : Type 0} (facts : Facts T S) (step : Stepping T S) (s z : S) (l : Log T) (ts : List (Turned T)) (way : Option (Begun T)) → PartOf facts step s l ts way z → way ≡ None → ChainOf facts step s ts z l
@@ -96,6 +127,20 @@ module _ {T S : Type 0} (facts : Facts T S) (step : Stepping T S) (tag : Tag) wh
   gives-run (n ∷ ns) (c ∷ cs) (m ∷ ms) [] X j port = refl
   gives-run (n ∷ ns) (c ∷ cs) (m ∷ ms) (s ∷ ss) X zero port = (flow-is facts step c.rates tag m s (take n X)).gives port
   gives-run (n ∷ ns) (c ∷ cs) (m ∷ ms) (s ∷ ss) X (suc j) port = gives-run ns cs ms ss (drop n X) j port
+
+  last-run : (ns : List ℕ) (cs : List Limit) (ms : List ℕ) (ss : List S) (X : Streams T) → length cs ≡ length ns → length ms ≡ length ns → length ss ≡ length ns → MadeAll ms (runs facts step tag ns cs ms ss X) → (i before : ℕ) → get ms i ≡ Some (suc before) → (s : S) → get ss i ≡ Some s →
+      (t : Turned T) × (turns_run ns cs ms ss X i ≡ turns_run ns cs (change_at i (λ m. before) ms) ss X i ++ (t ∷ []))
+  unfolding turns_run
+  last-run [] cs ms [] X a b d made i n e s f = absurd (cc)
+  last-run [] cs ms (z ∷ ss) X a b d made i n e s f = absurd (omega (arith, d))
+  last-run (k ∷ ns) [] ms ss X a b d made i n e s f = absurd (omega (arith, a))
+  last-run (k ∷ ns) (c ∷ cs) [] ss X a b d made i n e s f = absurd (omega (arith, b))
+  last-run (k ∷ ns) (c ∷ cs) (m ∷ ms) [] X a b d made i n e s f = absurd (omega (arith, d))
+  last-run (k ∷ ns) (c ∷ cs) (m ∷ ms) (z ∷ ss) X a b d made zero n e s f =
+      let same : m ≡ suc n = cc in
+      let r = turns-last facts (rated facts c.rates step) tag n z (take k X) (subst (λ v. (flow facts (rated facts c.rates step) tag v z (take k X)).fired ≡ v) same made.0) in
+      (r.0, ap (λ v. turns_of facts (rated facts c.rates step) tag v z (take k X)) same ∙ r.1)
+  last-run (k ∷ ns) (c ∷ cs) (m ∷ ms) (z ∷ ss) X a b d made (suc i) n e s f = last-run ns cs ms ss (drop k X) (omega (arith, a)) (omega (arith, b)) (omega (arith, d)) made.1 i n e s f
 
   -- what is used, and behind it what is left
   rest-run : (ns : List ℕ) (cs : List Limit) (ms : List ℕ) (ss : List S) (X own : Streams T) → length cs ≡ length ns → length ms ≡ length ns → length ss ≡ length ns → Fits ns X → (i q : ℕ) →
@@ -253,3 +298,30 @@ full-lines-tell {T} facts step tag net kids start greatest full long jam =
           let last = length-append (at jam.halfway.queued c) (due net jam.halfway.puts c) in
           omega (arith, line, all, left, right, inner, last),
     )
+
+number-at : (xs : List ℕ) (j n : ℕ) → get xs j ≡ Some n → get_or xs j 0 ≡ n
+number-at [] j n e = absurd (cc)
+number-at (x ∷ xs) zero n e = cc
+number-at (x ∷ xs) (suc j) n e = number-at xs j n e
+
+-- the last firing of a process
+pub last-puts-are-told : {T S : Type 0} → LastPutsAreTold T S
+unfolding places-are-told
+last-puts-are-told {T} {S} facts step tag net kids start ms now h long k = (places-are-told facts step tag net kids start ms now h long k, λ i putting s e. last i putting s e)
+  where
+    last : (i : ℕ) (putting : IsPutting facts step tag net kids k.running.all ms h i) (s : S) → get kids i ≡ Some s →
+        (before : List (Turned T)) × (last : Turned T) × (turns_run facts step tag net.places (pn_limits net.places) ms kids k.running.all i ≡ before ++ (last ∷ [])) × (length before ≡ putting.before) × ((port : ℕ) → at putting.outputs port ≡ at last.record_of.outputs port) × (puts_of net.sources i 0 putting.outputs ≡ putting.put ++ at h.puts i)
+    last i putting s e =
+        let r = last-run facts step tag net.places (pn_limits net.places) ms kids k.running.all (limits-long net.places) k.running.each long k.running.made i putting.before putting.fired s e in
+        let before = turns_run facts step tag net.places (pn_limits net.places) (change_at i (λ m. putting.before) ms) kids k.running.all i in
+        let made = made-run facts step tag net.places (pn_limits net.places) ms kids k.running.all (limits-long net.places) k.running.each long k.running.made i s e in
+        let counts : suc (length before) ≡ get_or ms i 0 = let a = length-append before (r.0 ∷ []) in let b = ap (λ (v : List (Turned T)). length v) r.1 in omega (arith, a, b, made.count) in
+        let number : get_or ms i 0 ≡ suc putting.before = number-at ms i (suc putting.before) putting.fired in
+        (before, r.0, r.1, omega (arith, counts, number), λ port. outputs port r.0 r.1, putting.rest)
+      where
+        outputs : (port : ℕ) (t : Turned T) → turns_run facts step tag net.places (pn_limits net.places) ms kids k.running.all i ≡ turns_run facts step tag net.places (pn_limits net.places) (change_at i (λ m. putting.before) ms) kids k.running.all i ++ (t ∷ []) → at putting.outputs port ≡ at t.record_of.outputs port
+        outputs port t r =
+            let before = turns_run facts step tag net.places (pn_limits net.places) (change_at i (λ m. putting.before) ms) kids k.running.all i in
+            let all = gives-run facts step tag net.places (pn_limits net.places) ms kids k.running.all i port ∙ ap (λ ts. of_turns (outputs_at port) ts) r ∙ turns-append (outputs_at port) before (t ∷ []) in
+            let some = putting.last port ∙ ap (λ v. v ++ at putting.outputs port) (gives-run facts step tag net.places (pn_limits net.places) (change_at i (λ m. putting.before) ms) kids k.running.all i port) in
+            append_cancel_left (of_turns (outputs_at port) before) (at putting.outputs port) (at t.record_of.outputs port ++ []) (sym some ∙ all) ∙ append-nil (at t.record_of.outputs port)

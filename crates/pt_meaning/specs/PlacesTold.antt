@@ -1,14 +1,15 @@
 -- What the events of a PN firing tell of its places: the tokens that a process has gathered and not used, those on the channel, and those still to be put are what was given to the channel without what was used of it. So the full lines of a jam tell the lengths.
-use Rattle.std.specs.Prelude.{◌≡◌, ℕ, ◌+◌, ◌<◌, List, ◌++◌, [], length, Some, get_or}
+use Rattle.std.specs.Prelude.{◌≡◌, ℕ, ◌+◌, ◌<◌, List, ◌++◌, [], ◌∷◌, length, Some, get_or}
 use Rattle.pt_meaning.specs.Tag.{Tag}
 use Rattle.pt_meaning.specs.Streams.{Streams, at, get}
 use Rattle.pt_meaning.specs.Machine.{Stepping, Facts}
 use Rattle.pt_meaning.specs.Net.{Net}
 use Rattle.pt_meaning.specs.Kahn.{logs_of}
 use Rattle.pt_meaning.specs.Pn.{pn_limits}
+use Rattle.pt_meaning.specs.Process.{puts_of}
 use Rattle.pt_meaning.specs.Running.{runs}
 use Rattle.pt_meaning.specs.Places.{Halfway, Consistent, due}
-use Rattle.pt_meaning.specs.Jam.{WaitsFor, waited_for, IsFull}
+use Rattle.pt_meaning.specs.Jam.{IsPutting, WaitsFor, waited_for, IsFull}
 use Rattle.pt_meaning.specs.LogsOfRuns.{log_at}
 use Rattle.pt_meaning.specs.Closed.{Has, inputs_at}
 use Rattle.pt_meaning.specs.Channels.{channel_at}
@@ -43,3 +44,10 @@ FullLinesTell T S = (facts : Facts T S) (step : Stepping T S) (tag : Tag) (net :
     (told : AreTold facts step tag net kids start jam.made jam.now jam.halfway jam.jam.consistent.running.all) ×
     ((i q c n : ℕ) → channel_at net.places i q ≡ Some c → Has (c, n) full →
     length (at start c) + length (gives_in [] told.firings (get net.sources c)) ≡ length (of_turns (inputs_at q) (told.firings i)) + (length (at jam.halfway.gathered c) + (n + length (due net jam.halfway.puts c))))
+
+-- The puts that a process has still to make are those of its last firing of which the log tells: its outputs in order of ports, tokens and channels, without the puts that are made.
+abbrev pub LastPutsAreTold : Type 0 → Type 0 → Type 0
+LastPutsAreTold T S = (facts : Facts T S) (step : Stepping T S) (tag : Tag) (net : Net) (kids : List S) (start : Streams T) (ms : List ℕ) (now : List S) (h : Halfway T) → length kids ≡ length net.places → (k : Consistent facts step tag net kids start ms now h) →
+    (told : AreTold facts step tag net kids start ms now h k.running.all) ×
+    ((i : ℕ) → (putting : IsPutting facts step tag net kids k.running.all ms h i) → (s : S) → get kids i ≡ Some s →
+    (before : List (Turned T)) × (last : Turned T) × (told.firings i ≡ before ++ (last ∷ [])) × (length before ≡ putting.before) × ((port : ℕ) → at putting.outputs port ≡ at last.record_of.outputs port) × (puts_of net.sources i 0 putting.outputs ≡ putting.put ++ at h.puts i))

@@ -1,6 +1,6 @@
 // What the events of a PN firing tell of its places, and the full lines of a jam.
 
-ghost use Rattle.pt_meaning.specs.PlacesTold.{PlacesAreTold, LinesTell, FullLinesTell};
+ghost use Rattle.pt_meaning.specs.PlacesTold.{PlacesAreTold, LinesTell, FullLinesTell, LastPutsAreTold};
 
 /// On each channel what was given is what was used, gathered, is in the queue, or is still to be put.
 pub fn places_are_told<T, S>()
@@ -15,4 +15,9 @@ pub fn lines_tell<T>()
 /// In a jam the number on a full line is that of the tokens given, without those used, gathered or still to be put.
 pub fn full_lines_tell<T, S>()
     ensures { FullLinesTell T S }
+{}
+
+/// The puts that a process has still to make are the last ones of its last firing.
+pub fn last_puts_are_told<T, S>()
+    ensures { LastPutsAreTold T S }
 {}
