@@ -1,9 +1,9 @@
 -- The net of a job.
-use Rattle.std.specs.Prelude.{◌≡◌, ℕ, ◌+◌, ◌↔◌, List, [], ◌∷◌, map, filter, length, take, Bool, true, false, IsTrue, not, ◌&&◌, ◌==◌, Option, Some, None, option_map, unwrap_or, if◌then◌else◌, bytes_eq, codes, slice_get}
-use Rattle.std.specs.List.{All, AllZip, Contains, find, filter_map, count_by}
+use Rattle.std.specs.Prelude.{◌≡◌, ℕ, ◌↔◌, List, [], map, filter, Bool, IsTrue, not, ◌&&◌, Option, Some, None, option_map, unwrap_or, if◌then◌else◌, bytes_eq, codes}
+use Rattle.std.specs.List.{AllZip, Contains, find, filter_map}
 use Rattle.std.specs.Option.{option_eq, is_none}
 use Rattle.pt_moml.specs.declared.job.State.{State}
-use Rattle.pt_moml.specs.Document.{PropertyTree, property_name, property_class, inner_properties, PortTree, TransitionTree, Parts, parts, InputTree, JobTree}
+use Rattle.pt_moml.specs.Document.{PropertyTree, property_name, property_class, inner_properties, PortTree, TransitionTree, Parts, parts, JobTree}
 use Rattle.pt_moml.specs.Classes.{ClassPort, Kind, Composite, Modal, Actor, kind_of}
 use Rattle.pt_moml.specs.Names.{is_layout}
 use Rattle.pt_moml.specs.View as view
