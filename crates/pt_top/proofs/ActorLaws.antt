@@ -12,7 +12,7 @@ use Rattle.pt_top.specs.declared.model.BuiltClass.{BuiltClass}
 use Rattle.pt_top.specs.declared.model.BuiltClass.TheVariants.{Ramp, Scale, AddSubtract}
 use Rattle.pt_top.specs.declared.model.Inputs.{Inputs}
 use Rattle.pt_flat.specs.Model.{AreMatched}
-use Rattle.pt_top.specs.Model.{is_to_port, built_class, feeds_from, IsActorOf, IsActor, AreActors, HasInputs, IsFlat, IsNotFlat}
+use Rattle.pt_top.specs.Model.{is_to_port, built_class, feeds_from, IsActorOf, IsActor, AreActors, HasInputs, IsNotFlat}
 use Rattle.pt_top.proofs.Integers.{one-integer}
 
 -- what is counted is what the net has
@@ -48,7 +48,7 @@ flag-same false false e = refl
 flag-same true false e = absurd (omega arith)
 flag-same false true e = absurd (omega arith)
 
-one-actor : (class : Option BuiltClass) (parameters : List PropertyTree) (first second : ℕ) (a b : Actor) → IsActorOf class parameters first second a → IsActorOf class parameters first second b → a ≡ b
+pub one-actor : (class : Option BuiltClass) (parameters : List PropertyTree) (first second : ℕ) (a b : Actor) → IsActorOf class parameters first second a → IsActorOf class parameters first second b → a ≡ b
 one-actor None parameters first second a b h k = absurd h
 one-actor (Some Ramp) parameters first second a b h k =
     let init : h.0 ≡ k.0 = one-integer parameters _ _ h.0 k.0 h.3 k.3 in

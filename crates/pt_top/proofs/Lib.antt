@@ -5,3 +5,6 @@ pub mod ModelLaws
 pub mod ReportLaws
 pub mod Lines
 pub mod AnswerLaws
+pub mod OneMeaning
+pub mod SameNets
+pub mod Completeness

@@ -1,5 +1,5 @@
 -- What a run of the program tells, and why.
-use Rattle.std.specs.Prelude.{◌≡◌, ◌⊎◌, ℕ, ◌+◌, ◌<◌, ◌≤◌, List, [], ◌∷◌, length, take, Option, codes}
+use Rattle.std.specs.Prelude.{◌≡◌, ◌⊎◌, ℕ, ◌+◌, ◌<◌, ◌≤◌, List, [], ◌∷◌, length, take, Option, Some, codes}
 use Rattle.std.specs.Io.KnownBytes.{Appends}
 use Rattle.pt_io.specs.Causes.{Rose}
 use Rattle.pt_moml.specs.declared.refusal.Refusal.{Refusal}
@@ -12,11 +12,17 @@ use Rattle.pt_moml.specs.Stands as reading
 use Rattle.pt_graph.specs.declared.net.Net.{Net}
 use Rattle.pt_graph.specs.Net.{IsNetOf}
 use Rattle.pt_graph.specs.Stands as linking
+use Rattle.pt_meaning.specs.Machine as machine
+use Rattle.pt_meaning.specs.Job.{IsStuckPlace}
+use Rattle.pt_meaning.specs.Schedule.{sdf_top}
+use Rattle.pt_meaning.specs.Node as tree
+use Rattle.pt_flat.specs.Actors.{rows}
+use Rattle.pt_flat.specs.Model.{start_of, HasNoOrder}
 use Rattle.pt_flat.specs.Run.{RunEnd, AllDone, Overflow}
-use Rattle.pt_top.specs.Model.{IsUnbuilt}
+use Rattle.pt_top.specs.Model.{FlatModel, IsModel, IsUnbuilt}
 use Rattle.pt_top.specs.Reply.{line, refusal_text, IsReport}
 use Rattle.pt_top.specs.declared.status.Status.{Status}
-use Rattle.pt_top.specs.declared.status.Status.TheVariants.{Done, Words, Document, Fault, Budget, Read, Write, Memory, Queue, Length}
+use Rattle.pt_top.specs.declared.status.Status.TheVariants.{Done, Words, Document, Fault, Read, Write, Memory, Length}
 
 -- ---- documents
 
@@ -59,6 +65,20 @@ Answers bytes Document text = (r : Refusal) × IsRefused bytes r × (text ≡ re
 Answers bytes Memory text = text ≡ line (codes "refused memory")
 Answers bytes _ text = ⊥
 
+-- a flat model's meaning has no stuck place
+abbrev pub IsNeverStuck : FlatModel → Type 0
+IsNeverStuck m = (f : machine.Fault) → IsStuckPlace rows tree.no_meetings (sdf_top m.iterations [] []) (start_of m.actors m.feeds) f → ⊥
+
+-- The document is accepted, its form is built, and its meaning has no stuck place.
+pub record IsFaultless (bytes : List ℕ) : Type 0 where
+  pub job : JobTree
+  pub net : Net
+  pub accepted : IsAccepted bytes job net
+  pub model : FlatModel
+  pub is_model : IsModel net model
+  pub ordered : HasNoOrder model.feeds → ⊥
+  pub never_stuck : IsNeverStuck model
+
 -- ---- runs of the program
 
 abbrev pub limit : ℕ
@@ -82,3 +102,8 @@ IsDue words bytes rose ended _ text = ⊥
 pub record Tells (before after : ℕ) (old new : Option (List ℕ)) (due : Status) (text : List ℕ) (told : Status) : Type 0 where
   pub later : before ≤ after
   pub written : ((told ≡ due) × Appends old new text) ⊎ ((told ≡ Write) × Rose before after × (n : ℕ) × (n < length text) × Appends old new (take n text))
+
+-- No device failed, so a faultless document is answered by its whole report, or memory ran out.
+abbrev pub IsComplete : (words : List (List ℕ)) → (left : Option (List ℕ)) → (read_rose written_rose : Type 0) → Status → Type 0
+IsComplete words left read_rose written_rose told =
+    (bytes : List ℕ) → IsLine words → left ≡ Some bytes → length bytes ≤ limit → IsFaultless bytes → (read_rose → ⊥) → (written_rose → ⊥) → (told ≡ Done) ⊎ (told ≡ Memory)

@@ -2,7 +2,7 @@ ghost use Rattle.std.specs.Prelude.{◌≡◌, ◌+◌, ◌↔◌, List, ℕ, le
 ghost use Rattle.std.specs.Io.KnownBytes.{Appends, Consumes, IsAtEnd};
 ghost use Rattle.pt_io.specs.Causes.{Rose};
 ghost use Rattle.pt_top.specs.declared.status.Status.{Status};
-ghost use Rattle.pt_top.specs.Outcome.{IsLine, IsDue, Answers, Tells, limit};
+ghost use Rattle.pt_top.specs.Outcome.{IsLine, IsDue, Answers, Tells, IsComplete, limit};
 
 use crate::answer::answer;
 use crate::status::Status;
@@ -58,6 +58,9 @@ pub fn run_program<R: Threads + Wait + Sync, S: Source, K: Sink, G: Gate + Sync>
         × Consumes (S.left source.old) (S.left source.new) bytes
         × IsDue (map string_bytes words.now) bytes (Rose (S.faults source.old) (S.faults source.new)) (IsAtEnd (S.left source.new)) due text
         × Tells (K.faults sink.old) (K.faults sink.new) (K.taken sink.old) (K.taken sink.new) due text result }
+    // A document that is accepted and built, and whose meaning has no stuck place, has its report, unless memory or a device fails.
+    ensures complete { IsComplete (map string_bytes words.now) (S.left source.old)
+        (Rose (S.faults source.old) (S.faults source.new)) (Rose (K.faults sink.old) (K.faults sink.new)) result }
     // Reading or writing is told to have failed only where it did.
     ensures read { result ≡ Status.Read → Rose (S.faults source.old) (S.faults source.new) }
     ensures write { result ≡ Status.Write → Rose (K.faults sink.old) (K.faults sink.new) }
