@@ -6,7 +6,7 @@ use Rattle.std.proofs.lemmas.List.Elements.{Contains-append_left, Contains-appen
 use Rattle.std.specs.List.{Contains, AllZip, slice_get, flat_map, enumerate_from}
 use Rattle.pt_graph.specs.declared.net.Channel.{Channel}
 use Rattle.pt_graph.specs.Table.{PortAt, Tables, port_path}
-use Rattle.pt_graph.specs.Wires.{is_input, taken_from, Place, Reaches, places_along, places_of, input_places, output_places}
+use Rattle.pt_graph.specs.Wires.{is_input, taken_from, Place, places_along, places_of, input_places, output_places}
 use Rattle.pt_graph.specs.declared.wire.Wire.{Wire}
 use Rattle.pt_graph.specs.Standing.{is_kept}
 use Rattle.pt_graph.specs.Net.{wires, all_places, channel, ReachesIn}

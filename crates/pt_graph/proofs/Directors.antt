@@ -1,5 +1,5 @@
 -- What a contract sees of a director.
-use Rattle.std.proofs.Common.{◌≡◌, ℕ, List, [], Option, filter, unwrap_or, refl, sym, ap, ◌∙◌, rules}
+use Rattle.std.proofs.Common.{◌≡◌, ℕ, List, [], Option, filter, unwrap_or, sym, ap, ◌∙◌, rules}
 use Rattle.pt_moml.specs.declared.job.Property.{Property, out-Property, the_lemmas}
 use Rattle.pt_moml.specs.Document.{PropertyTree, to_properties, property_list, property_class, inner_properties}
 use Rattle.pt_moml.specs.View.{property_view, properties_view}

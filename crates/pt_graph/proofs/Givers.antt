@@ -1,9 +1,8 @@
 -- Who gives to each group, one gift on.
-use Rattle.std.proofs.Common.{◌≡◌, ◌≢◌, ℕ, ◌+◌, ◌<◌, ◌≤◌, ◌⊎◌, inl, inr, Bool, Option, Some, None, List, [], ◌∷◌, ◌++◌, length, get_or, set, take, map, refl, sym, ap, subst, ◌∙◌, arith, get_or-set_same, get_or-set_other, length-set}
+use Rattle.std.proofs.Common.{◌≡◌, ◌≢◌, ℕ, ◌+◌, ◌<◌, ◌≤◌, inl, inr, Bool, Option, Some, None, List, ◌++◌, length, get_or, set, take, map, sym, ap, subst, ◌∙◌, arith, get_or-set_same, get_or-set_other, length-set}
 use Rattle.std.proofs.lemmas.Bool.{cases_eq}
-use Rattle.std.proofs.lemmas.List.{get_or_default, take_more, append-nil, length-take-le}
-use Rattle.std.proofs.lemmas.List.Concat.{flat_map-append}
-use Rattle.std.specs.List.{Contains, flat_map, enumerate_from}
+use Rattle.std.proofs.lemmas.List.{get_or_default}
+use Rattle.std.specs.List.{Contains}
 use Rattle.pt_graph.specs.declared.wire.Wire.{Wire}
 use Rattle.pt_graph.specs.Table.{PortAt}
 use Rattle.pt_graph.specs.Sources.{giving, gifts_among, HasOneGiver, HasTwoGivers, AreGivers}

@@ -1,13 +1,13 @@
 -- Where each relation group has one source at most, and each port of a transparent composite one link on each side, paths
 -- lead from one source at most to each relation.
-use Rattle.std.proofs.Common.{◌≡◌, ℕ, List, Option, Some, Bool, true, false, not, IsTrue, refl, sym, ap, subst, ◌∙◌}
-use Rattle.std.proofs.lemmas.Bool.{both_ways, cases_Bool, not-true}
+use Rattle.std.proofs.Common.{◌≡◌, ℕ, List, Some, Bool, true, false, not, IsTrue, refl, ap, subst}
+use Rattle.std.proofs.lemmas.Bool.{both_ways, not-true}
 use Rattle.std.specs.List.{Contains, slice_get}
 use Rattle.pt_graph.specs.declared.wire.Wire.{Wire}
-use Rattle.pt_graph.specs.Standing.{Standing, is_kept}
+use Rattle.pt_graph.specs.Standing.{is_kept}
 use Rattle.pt_graph.specs.Table.{PortAt}
-use Rattle.pt_graph.specs.Joined.{Joined, here, along, against}
-use Rattle.pt_graph.specs.Wires.{outside_of, inside_of, is_input, taken_from, given_to, Bonded, IsOneGroup, Meets, bonded, crossed, AreJoined, Gives, IsSource, Place, Reaches}
+use Rattle.pt_graph.specs.Joined.{here, along, against}
+use Rattle.pt_graph.specs.Wires.{outside_of, inside_of, is_input, taken_from, given_to, IsOneGroup, Meets, bonded, crossed, AreJoined, Gives, IsSource, Place, Reaches}
 use Rattle.pt_graph.proofs.GroupSteps.{after_path, back_path}
 
 -- no relation group has two sources

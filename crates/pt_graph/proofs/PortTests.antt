@@ -1,6 +1,6 @@
 -- What the tests of a port's links find.
-use Rattle.std.proofs.Common.{◌≡◌, ◌≢◌, ℕ, ◌+◌, ◌<◌, ◌≤◌, ◌⊎◌, inl, inr, Bool, true, false, IsTrue, ◌&&◌, ◌||◌, Some, List, [], ◌∷◌, length, nat_eq, nat_lt, refl, sym, ap, subst, ◌∙◌, arith}
-use Rattle.std.proofs.lemmas.Bool.{or_cases, or_parts, and_parts, and_cases, and_from, ltb-true, ltb-false, eqb-true, eqb-false, cases_eq, both_ways}
+use Rattle.std.proofs.Common.{◌≡◌, ℕ, ◌≤◌, inl, inr, Bool, true, false, ◌&&◌, ◌||◌, Some, List, [], length, nat_eq, nat_lt, ap}
+use Rattle.std.proofs.lemmas.Bool.{or_cases, or_parts, and_parts, and_cases, and_from, ltb-true, ltb-false, eqb-true, both_ways}
 use Rattle.std.proofs.lemmas.List.{nil_from_length}
 use Rattle.std.specs.List.{slice_get}
 use Rattle.pt_graph.specs.Table.{PortAt, Tables, port_path}

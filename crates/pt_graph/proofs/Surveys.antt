@@ -1,8 +1,8 @@
 -- Entities of the program and of the document.
-use Rattle.std.proofs.Common.{◌≡◌, ℕ, ◌+◌, ◌<◌, ◌≤◌, Bool, Option, Some, List, [], ◌∷◌, ◌++◌, length, map, get_or, drop, refl, sym, ap, ◌∙◌, rules}
+use Rattle.std.proofs.Common.{◌≡◌, ℕ, ◌+◌, ◌<◌, ◌≤◌, List, [], ◌∷◌, ◌++◌, length, get_or, drop, sym, ap, ◌∙◌, rules}
 use Rattle.std.proofs.lemmas.List.{drop_more, drop_all}
 use Rattle.pt_moml.specs.declared.job.Entity.{Entity, out-Entity, the_lemmas}
-use Rattle.pt_moml.specs.Document.{EntityTree, entity, entity_name, parts, Parts, to_entities}
+use Rattle.pt_moml.specs.Document.{EntityTree, entity, entity_name, parts, to_entities}
 use Rattle.pt_moml.specs.View.{entity_view, entities_view}
 use Rattle.pt_moml.specs.Names.{below}
 use Rattle.pt_graph.specs.Standing.{Round, Standing, standing, round_in, with_entity, with_entities}

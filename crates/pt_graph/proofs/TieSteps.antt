@@ -1,7 +1,7 @@
 -- The tables of the relations at each port, one wire on.
-use Rattle.std.proofs.Common.{◌≡◌, ◌≢◌, ℕ, ◌+◌, ◌<◌, ◌⊎◌, inl, inr, Bool, true, false, cond, Option, Some, None, List, [], ◌∷◌, ◌++◌, length, get_or, set, map, take, nat_eq, refl, sym, ap, subst, ◌∙◌, arith, get_or-set_same, get_or-set_other, length-set, Vec, Global}
+use Rattle.std.proofs.Common.{◌≡◌, ℕ, ◌+◌, ◌<◌, inl, inr, Bool, true, false, cond, Some, None, List, [], ◌∷◌, ◌++◌, length, get_or, set, take, nat_eq, refl, sym, ap, subst, ◌∙◌, arith, get_or-set_same, get_or-set_other, length-set, Vec, Global}
 use Rattle.std.proofs.lemmas.Bool.{cases_eq, eq-eqb, ne_eqb}
-use Rattle.std.proofs.lemmas.List.{append-nil, get_or-map, map-set, length-map, take_more}
+use Rattle.std.proofs.lemmas.List.{append-nil, get_or-map, map-set, take_more}
 use Rattle.std.proofs.lemmas.List.Elements.{filter_map-append}
 use Rattle.std.specs.List.{filter_map, cons_option}
 use Rattle.pt_graph.specs.declared.wire.Wire.{Wire}

@@ -1,8 +1,8 @@
 -- What the tests together say: the channels are those of the definition, and no refusal stands.
-use Rattle.std.proofs.Common.{◌≡◌, ◌≢◌, ℕ, ◌<◌, ◌≤◌, ◌⊎◌, inl, inr, Bool, true, false, not, IsTrue, ◌↔◌, None, List, [], length, map, filter, refl, sym, ap, subst, ◌∙◌, arith}
-use Rattle.std.specs.List.{Contains, AllZip, slice_get}
-use Rattle.std.specs.Prelude.{Result, IfOk, IfErr, Vec}
-use Rattle.std.proofs.lemmas.Result.{IfOk-weaker, IfErr-weaker}
+use Rattle.std.proofs.Common.{◌≡◌, ℕ, not, IsTrue, ◌↔◌, List, length, map, filter, sym, ap, subst, ◌∙◌, arith}
+use Rattle.std.specs.List.{Contains, AllZip}
+use Rattle.std.specs.Prelude.{Result, IfOk, Vec}
+use Rattle.std.proofs.lemmas.Result.{IfOk-weaker}
 use Rattle.pt_moml.specs.declared.code.Code.{Code}
 use Rattle.pt_moml.specs.declared.code.Code.TheVariants as code
 use Rattle.pt_moml.specs.declared.refusal.DocFault.{DocFault}
@@ -12,12 +12,12 @@ use Rattle.pt_moml.specs.Names.{top_path}
 use Rattle.pt_graph.specs.declared.net.Channel.{Channel}
 use Rattle.pt_graph.specs.declared.net.NetPort.{NetPort}
 use Rattle.pt_graph.specs.declared.net.Net.{Net}
-use Rattle.pt_graph.specs.Table.{PortAt, Tables, tables_from, tables_of}
-use Rattle.pt_graph.specs.Wires.{is_input, Place}
+use Rattle.pt_graph.specs.Table.{PortAt, Tables, tables_of}
+use Rattle.pt_graph.specs.Wires.{is_input}
 use Rattle.pt_moml.specs.View.{input_view}
 use Rattle.pt_graph.specs.Standing.{Standing, is_kept, entities}
-use Rattle.pt_graph.specs.Net.{IsNetOf, entity_view, entity_tree, transparent_view, transparent_tree, wires, all_places, channel, IsChannel, IsChannelTo, ReachesIn, Records}
-use Rattle.pt_graph.specs.Stands.{IsLinkFault, names_nothing, twice_outside, twice_inside, no_source, no_link, no_link_inside, passed_on, no_channel, too_few_channels, IsTwoSources, IsRecordFault, names_no_port, repeated, IsPastLimit, IsTold, StandsIn, IsFaultIn, Stands}
+use Rattle.pt_graph.specs.Net.{IsNetOf, entity_view, entity_tree, transparent_view, transparent_tree, wires, all_places, channel, IsChannel, IsChannelTo, Records}
+use Rattle.pt_graph.specs.Stands.{IsLinkFault, names_nothing, twice_outside, twice_inside, no_source, no_link, no_link_inside, passed_on, no_channel, too_few_channels, IsTwoSources, IsRecordFault, names_no_port, repeated, IsTold, StandsIn, IsFaultIn}
 use Rattle.pt_graph.specs.Wiring.{AllNamed, AreOwned, AreFine, HaveChannels}
 use Rattle.pt_graph.specs.Sources.{HaveOneSource}
 use Rattle.pt_graph.specs.ChannelTable.{IsGoodChannel, AreChannels, AreTooMany}

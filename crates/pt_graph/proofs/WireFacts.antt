@@ -1,8 +1,7 @@
 -- What the wires of a job name.
-use Rattle.std.proofs.Common.{◌≡◌, ◌≢◌, ℕ, ◌<◌, Bool, true, false, cond, Option, Some, None, List, [], ◌∷◌, ◌++◌, length, get_or, map, refl, sym, ap, subst, ◌∙◌, arith}
+use Rattle.std.proofs.Common.{◌≡◌, ℕ, ◌<◌, Bool, Option, Some, None, List, [], ◌∷◌, length, map, refl, sym, ap, subst, ◌∙◌}
 use Rattle.std.proofs.lemmas.List.Elements.{All-nil, All-cons, All-weaker}
 use Rattle.std.proofs.lemmas.List.Quantifiers.{position-Some}
-use Rattle.std.proofs.lemmas.List.{length-map, get_or-map}
 use Rattle.std.proofs.lemmas.Option.{slice_get-get_or, slice_get-map}
 use Rattle.std.specs.Option.{option_map}
 use Rattle.std.specs.List.{All, Contains, filter_map, cons_option, position, slice_get}
@@ -10,7 +9,7 @@ use Rattle.pt_moml.specs.declared.job.Link.{Link}
 use Rattle.pt_moml.specs.declared.job.Link.TheVariants as link
 use Rattle.pt_graph.specs.declared.wire.Wire.{Wire}
 use Rattle.pt_graph.specs.declared.wire.Wire.TheVariants.{Outside, Inside, Bond}
-use Rattle.pt_graph.specs.Table.{PortAt, RelationAt, LinkAt, Tables}
+use Rattle.pt_graph.specs.Table.{PortAt, RelationAt, Tables}
 use Rattle.pt_graph.specs.Wires.{names_inside, names_outside, names_relation, relation_named, end_of_text, joined_at, bonded_at, wire_between, wire_of}
 use Rattle.pt_graph.specs.Ties.{IsWithin, IsPortWithin}
 use Rattle.pt_graph.specs.Net.{wires}

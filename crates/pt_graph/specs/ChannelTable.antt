@@ -5,7 +5,7 @@ use Rattle.pt_graph.specs.declared.net.Channel.{Channel}
 use Rattle.pt_graph.specs.declared.wire.Wire.{Wire}
 use Rattle.pt_graph.specs.Table.{PortAt, Tables}
 use Rattle.pt_graph.specs.Wires.{is_input, Place, input_places, output_places}
-use Rattle.pt_graph.specs.Net.{wires, all_places, channel, ReachesIn, IsChannel, IsChannelTo}
+use Rattle.pt_graph.specs.Net.{all_places, channel, ReachesIn, IsChannel, IsChannelTo}
 use Rattle.pt_graph.specs.Stands.{IsLinkFault, IsTwoSources, most_channels, most_records}
 
 -- the channel to a place from a source that isn't an own input of the composite whose own output the place is

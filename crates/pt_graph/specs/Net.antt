@@ -1,9 +1,9 @@
 -- The net of a job.
-use Rattle.std.specs.Prelude.{◌≡◌, ℕ, ◌+◌, ◌↔◌, List, [], ◌∷◌, map, filter, length, take, Bool, true, false, IsTrue, not, ◌&&◌, ◌==◌, Option, Some, None, option_map, unwrap_or, if◌then◌else◌, bytes_eq, codes, slice_get}
-use Rattle.std.specs.List.{All, AllZip, Contains, find, filter_map, count_by}
+use Rattle.std.specs.Prelude.{◌≡◌, ℕ, ◌↔◌, List, [], map, filter, Bool, IsTrue, not, ◌&&◌, Option, Some, None, option_map, unwrap_or, if◌then◌else◌, bytes_eq, codes}
+use Rattle.std.specs.List.{AllZip, Contains, find, filter_map}
 use Rattle.std.specs.Option.{option_eq, is_none}
 use Rattle.pt_moml.specs.declared.job.State.{State}
-use Rattle.pt_moml.specs.Document.{PropertyTree, property_name, property_class, inner_properties, PortTree, TransitionTree, Parts, parts, InputTree, JobTree}
+use Rattle.pt_moml.specs.Document.{PropertyTree, property_name, property_class, inner_properties, PortTree, TransitionTree, Parts, parts, JobTree}
 use Rattle.pt_moml.specs.Classes.{ClassPort, Kind, Composite, Modal, Actor, kind_of}
 use Rattle.pt_moml.specs.Names.{is_layout}
 use Rattle.pt_moml.specs.View as view
@@ -82,6 +82,7 @@ pub record TransparentTree : Type 0 where
   pub path : List ℕ
   pub parent : Option ℕ
   pub within : Option ℕ
+  pub ports : List PortTree
   pub parameters : List PropertyTree
 
 abbrev pub entity_tree : Standing → NetEntityTree
@@ -91,7 +92,8 @@ entity_tree s =
 
 abbrev pub transparent_tree : Standing → TransparentTree
 transparent_tree s =
-    record { path = s.path; parent = s.round.parent; within = s.round.within; parameters = filter is_parameter (parts s.tree).properties }
+    let own = parts s.tree in
+    record { path = s.path; parent = s.round.parent; within = s.round.within; ports = net_ports own; parameters = filter is_parameter own.properties }
 
 -- ---- channels
 
@@ -148,7 +150,8 @@ entity_view e =
     record { path = e.path; class = e.class; director = option_map director_view e.director; parent = e.parent; within = e.within; ports = map view.port_view e.ports.items; parameters = view.properties_view e.parameters.items; variables = view.properties_view e.variables.items; states = e.states.items; initial = e.initial; transitions = map view.transition_view e.transitions.items }
 
 abbrev pub transparent_view : Transparent → TransparentTree
-transparent_view t = record { path = t.path; parent = t.parent; within = t.within; parameters = view.properties_view t.parameters.items }
+transparent_view t =
+    record { path = t.path; parent = t.parent; within = t.within; ports = map view.port_view t.ports.items; parameters = view.properties_view t.parameters.items }
 
 -- the net of a job: its library actors and opaque composites, its transparent composites, and exactly its channels, in the
 -- order of their places; what comes in and what is recorded

@@ -1,6 +1,6 @@
 -- The source of each relation.
-use Rattle.std.specs.Prelude.{◌≡◌, ℕ, ◌<◌, List, [], ◌∷◌, ◌++◌, length, Bool, true, Option, Some, None, IsSome, if◌then◌else◌, slice_index, slice_index_or}
-use Rattle.std.specs.List.{All, Contains, flat_map, filter_map, enumerate_from}
+use Rattle.std.specs.Prelude.{◌≡◌, ℕ, ◌<◌, List, [], ◌∷◌, ◌++◌, length, true, Option, Some, None, IsSome, if◌then◌else◌, slice_index, slice_index_or}
+use Rattle.std.specs.List.{Contains, flat_map, filter_map, enumerate_from}
 use Rattle.pt_graph.specs.declared.wire.Wire.{Wire}
 use Rattle.pt_graph.specs.declared.origins.Origins.{Origins}
 use Rattle.pt_graph.specs.Standing.{is_kept}

@@ -1,10 +1,10 @@
 -- The ports that texts name.
 use Rattle.std.specs.Prelude.{◌≡◌, ℕ, ◌<◌, List, map, Bool, not, ◌&&◌, Option, Some, None, if◌then◌else◌, slice_get, position}
-use Rattle.std.specs.List.{AllZip, filter_map}
+use Rattle.std.specs.List.{filter_map}
 use Rattle.std.specs.Borrow.{Bor}
 use Rattle.std.specs.Cmp.Lexicographic.{pointwise}
 use Rattle.std.specs.Prelude.{nat_eq, bytes_eq, slice_index_or, []}
-use Rattle.indexmap.specs.IndexMap.{IndexMap, get}
+use Rattle.indexmap.specs.IndexMap.{get}
 use Rattle.pt_graph.specs.declared.net.NetPort.{NetPort}
 use Rattle.pt_graph.specs.declared.records.Outputs.{Outputs}
 use Rattle.pt_graph.specs.Standing.{is_kept}

@@ -1,5 +1,5 @@
 -- What gives tokens to which relations, as a list, and who gives to a group.
-use Rattle.std.specs.Prelude.{◌≡◌, ◌≢◌, ℕ, ◌<◌, List, [], map, length, Bool, true, false, not, ◌||◌, Option, Some, None, if◌then◌else◌, slice_index, slice_index_or, slice_set}
+use Rattle.std.specs.Prelude.{◌≡◌, ◌≢◌, ℕ, ◌<◌, List, [], map, length, Bool, not, ◌||◌, Option, Some, None, if◌then◌else◌, slice_index, slice_index_or}
 use Rattle.std.specs.List.{Contains, flat_map, enumerate_from}
 use Rattle.pt_graph.specs.declared.wire.Wire.{Wire}
 use Rattle.pt_graph.specs.declared.wire.Wire.TheVariants.{Outside, Inside, Bond}

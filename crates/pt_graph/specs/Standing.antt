@@ -1,5 +1,5 @@
 -- The entities of a job, in the order of the document.
-use Rattle.std.specs.Prelude.{ℕ, ◌-◌, List, [], ◌∷◌, ◌++◌, length, Bool, true, false, not, ◌&&◌, ◌||◌, Option, Some, None, is_some, if◌then◌else◌, bytes_eq, codes}
+use Rattle.std.specs.Prelude.{ℕ, ◌-◌, List, [], ◌∷◌, ◌++◌, length, Bool, false, not, ◌&&◌, ◌||◌, Option, Some, None, is_some, if◌then◌else◌, bytes_eq, codes}
 use Rattle.std.specs.List.{list_any, count_by}
 use Rattle.std.specs.Option.{is_none}
 use Rattle.pt_moml.specs.Document.{PropertyTree, property_name, property_class, Parts, EntityTree, EntityTrees, entity, no_entities, one_entity, parts, entity_name, JobTree}

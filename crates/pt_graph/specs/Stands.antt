@@ -1,5 +1,5 @@
 -- Where the links and the records of a job are at fault.
-use Rattle.std.specs.Prelude.{◌≡◌, ◌≢◌, ℕ, ◌<◌, ◌+◌, ◌⊎◌, List, [], length, Bool, true, false, IsTrue, not, ◌&&◌, ◌||◌, ◌==◌, Option, Some, None, if◌then◌else◌, codes, slice_get}
+use Rattle.std.specs.Prelude.{◌≡◌, ◌≢◌, ℕ, ◌<◌, ◌⊎◌, List, [], length, Bool, true, false, IsTrue, not, ◌&&◌, ◌==◌, Option, Some, None, if◌then◌else◌, slice_get}
 use Rattle.std.specs.List.{Contains, enumerate_from, sum_by}
 use Rattle.std.specs.Option.{is_some}
 use Rattle.pt_moml.specs.declared.classes.Arity.{Arity}
@@ -9,7 +9,7 @@ use Rattle.pt_moml.specs.declared.code.Code.TheVariants as code
 use Rattle.pt_moml.specs.declared.refusal.DocFault.{DocFault}
 use Rattle.pt_moml.specs.declared.refusal.DocFault.TheVariants as faults
 use Rattle.pt_moml.specs.Document.{parts, JobTree}
-use Rattle.pt_moml.specs.Classes.{Class, Kind, Composite, Modal, Actor, kind_of}
+use Rattle.pt_moml.specs.Classes.{Kind, Composite, Modal, Actor, kind_of}
 use Rattle.pt_moml.specs.Names.{top_path}
 use Rattle.pt_graph.specs.declared.wire.Wire.{Wire}
 use Rattle.pt_graph.specs.Standing.{Standing, is_kept, is_composite}

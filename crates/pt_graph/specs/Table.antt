@@ -1,15 +1,13 @@
 -- The ports, the relations and the links of a job, in the order of the document.
-use Rattle.std.specs.Prelude.{ℕ, ◌+◌, List, [], ◌∷◌, ◌++◌, map, Bool, true, false, not, ◌&&◌, ◌||◌, ◌==◌, Option, Some, None, if◌then◌else◌, bytes_eq, codes}
+use Rattle.std.specs.Prelude.{ℕ, ◌+◌, List, [], ◌∷◌, ◌++◌, map, Bool, ◌==◌, Option, Some, None, if◌then◌else◌, codes}
 use Rattle.std.specs.List.{list_all, slice_split}
 use Rattle.pt_moml.specs.declared.job.Direction.{Direction}
 use Rattle.pt_moml.specs.declared.job.Direction.TheVariants.{Input, Output}
-use Rattle.pt_moml.specs.declared.job.Relation.{Relation}
 use Rattle.pt_moml.specs.declared.job.Link.{Link}
 use Rattle.pt_moml.specs.declared.job.Link.TheVariants as link
-use Rattle.pt_moml.specs.declared.classes.Arity.{Arity}
-use Rattle.pt_moml.specs.declared.classes.Arity.TheVariants.{Single, Optional, Many, ManyOrNone}
+use Rattle.pt_moml.specs.declared.classes.Arity.TheVariants.{Single}
 use Rattle.pt_moml.specs.Document.{PortTree, Parts, parts, JobTree}
-use Rattle.pt_moml.specs.Classes.{ClassPort, Class, Kind, Composite, Modal, Actor, kind_of}
+use Rattle.pt_moml.specs.Classes.{ClassPort, Kind, Composite, Modal, Actor, kind_of}
 use Rattle.pt_moml.specs.Names.{is_name, below}
 use Rattle.pt_graph.specs.Standing.{Standing, entities}
 

@@ -1,5 +1,5 @@
 -- What the links of a job join: ports and relations, by their numbers in the document.
-use Rattle.std.specs.Prelude.{◌≡◌, ℕ, ◌+◌, List, [], ◌∷◌, ◌++◌, Bool, true, false, IsTrue, not, ◌&&◌, ◌||◌, ◌==◌, Option, Some, None, if◌then◌else◌, bytes_eq, codes, slice_get, position}
+use Rattle.std.specs.Prelude.{◌≡◌, ℕ, ◌+◌, List, [], ◌∷◌, ◌++◌, Bool, true, false, IsTrue, not, ◌&&◌, ◌==◌, Option, Some, None, if◌then◌else◌, bytes_eq, codes, slice_get, position}
 use Rattle.std.specs.List.{filter_map, flat_map, enumerate_from, Contains}
 use Rattle.std.specs.Option.{option_eq}
 use Rattle.pt_moml.specs.declared.job.Direction.{Direction}
@@ -9,7 +9,7 @@ use Rattle.pt_moml.specs.declared.job.Link.TheVariants as link
 use Rattle.pt_moml.specs.Document.{entity_name}
 use Rattle.pt_graph.specs.declared.wire.Wire.{Wire}
 use Rattle.pt_graph.specs.declared.wire.Wire.TheVariants.{Outside, Inside, Bond}
-use Rattle.pt_graph.specs.Standing.{Standing, is_kept}
+use Rattle.pt_graph.specs.Standing.{is_kept}
 use Rattle.pt_graph.specs.Table.{PortAt, RelationAt, LinkAt}
 use Rattle.pt_graph.specs.Joined.{Joined}
 

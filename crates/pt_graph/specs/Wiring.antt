@@ -2,7 +2,7 @@
 use Rattle.std.specs.Prelude.{◌≡◌, ◌≢◌, ℕ, ◌<◌, ◌≤◌, List, [], length, Bool, IsTrue, ◌&&◌, ◌||◌, ◌==◌, nat_lt, ◌-◌, ◌^◌, min, take, slice_index, Some, None, slice_get}
 use Rattle.std.specs.List.{All, Contains}
 use Rattle.pt_graph.specs.declared.wiring.Wiring.{Wiring}
-use Rattle.pt_graph.specs.Table.{PortAt, RelationAt, LinkAt, Tables, ports_of}
+use Rattle.pt_graph.specs.Table.{PortAt, LinkAt, Tables, ports_of}
 use Rattle.pt_moml.specs.Document.{parts}
 use Rattle.pt_graph.specs.Survey.{tables_view}
 use Rattle.pt_graph.specs.Wires.{wire_of, is_input, outside_of, inside_of}

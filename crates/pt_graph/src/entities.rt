@@ -150,6 +150,7 @@ fn transparent(alloc: Global, placed: &Placed) -> Result<Transparent, DocFault>
         path: text(alloc, &placed.path)?,
         parent: optional_number(placed.round.parent)?,
         within: optional_number(placed.round.within)?,
+        ports: ports(alloc, placed.entity)?,
         parameters: parameters(alloc, &placed.entity.properties)?,
     })
 }

@@ -49,13 +49,15 @@ pub struct NetEntity {
     pub transitions: Vec<Transition>,
 }
 
-/// A transparent composite, which only joins what is outside with what is inside. Its parameters are in the scope of
-/// all that is in it. `parent` and `within` are as in a [`NetEntity`].
+/// A transparent composite, which only joins what is outside with what is inside. No channel ends at its ports; a type
+/// that one declares holds of what passes there. Its parameters are in the scope of all that is in it. `parent` and
+/// `within` are as in a [`NetEntity`].
 #[derive(Debug, Drop)]
 pub struct Transparent {
     pub path: Text,
     pub parent: Option<u32>,
     pub within: Option<u32>,
+    pub ports: Vec<Port>,
     pub parameters: Vec<Property>,
 }
 

@@ -12,12 +12,11 @@ ghost use Rattle.pt_graph.specs.Stands.{IsTold, IsRecordFault};
 ghost use Rattle.pt_graph.specs.Recorded.{outputs_of, AreOutputs, name_eq, AreDistinct, IsRecorder, IsRecorded};
 
 use crate::channels::number;
-use crate::names::first_places;
+use crate::names::{Places, first_places};
 use crate::net::NetPort;
 use crate::refusal::{refused_at, shown};
 use crate::survey::path_below;
 use crate::tables::{PlacedPort, Tables};
-use indexmap::IndexMap;
 use pt_moml::{Code, DocFault};
 use pt_value::Text;
 use std::alloc::{AllocError, Global};
@@ -69,7 +68,7 @@ impl Outputs {
 }
 
 /// The first place of each text.
-fn text_places<'k>(alloc: Global, texts: &'k [Text]) -> Result<IndexMap<&'k str, usize>, AllocError>
+fn text_places<'k>(alloc: Global, texts: &'k [Text]) -> Result<Places<&'k str>, AllocError>
     ensures { IfOk result (λ places. (name : Bor (List ℕ)) → get name_eq places name ≡ position (bytes_eq name.now) texts.now) }
 {
     let mut keys = Vec::with_capacity(alloc, texts.len())?;
@@ -91,8 +90,8 @@ struct Recorder<'k, 't, 'a> {
     tables: &'k Tables<'t, 'a>,
     records: &'k [Text],
     ports: &'k [NetPort],
-    firsts: IndexMap<&'k str, usize>,
-    places: IndexMap<&'k str, usize>,
+    firsts: Places<&'k str>,
+    places: Places<&'k str>,
 }
 
 impl<'k, 't, 'a> Recorder<'k, 't, 'a> {

@@ -7,11 +7,10 @@ ghost use Rattle.pt_graph.specs.Survey.{ports_view, relations_view, tables_view,
 ghost use Rattle.pt_graph.specs.Wires as wires;
 ghost use Rattle.pt_graph.specs.Stands.{IsTold, IsLinkFault};
 
-use crate::names::first_places;
+use crate::names::{Places, first_places};
 use crate::refusal::refused_link;
 use crate::tables::{PlacedLink, PlacedPort, PlacedRelation, Tables};
 use crate::wire::Wire;
-use indexmap::IndexMap;
 use pt_moml::{DocFault, Link};
 use pt_value::Text;
 use std::alloc::{AllocError, Global};
@@ -21,9 +20,9 @@ use std::alloc::{AllocError, Global};
 #[derive(Drop)]
 struct Names<'k, 't, 'a> {
     tables: &'k Tables<'t, 'a>,
-    inside: IndexMap<(usize, &'k str), usize>,
-    outside: IndexMap<(Option<usize>, &'k str), usize>,
-    relations: IndexMap<(usize, &'k str), usize>,
+    inside: Places<(usize, &'k str)>,
+    outside: Places<(Option<usize>, &'k str)>,
+    relations: Places<(usize, &'k str)>,
 }
 
 /// The text of each port, seen from outside.
@@ -41,7 +40,7 @@ fn outside_texts(alloc: Global, ports: &[PlacedPort]) -> Result<Vec<Text>, Alloc
 fn inside_places<'k>(
     alloc: Global,
     ports: &'k [PlacedPort],
-) -> Result<IndexMap<(usize, &'k str), usize>, AllocError>
+) -> Result<Places<(usize, &'k str)>, AllocError>
     ensures { IfOk result (λ places. (c : ℕ) (text : Bor (List ℕ)) → get pair_eq places (c, text) ≡ position (wires.names_inside c text.now) (ports_view ports.now)) }
 {
     let mut keys = Vec::with_capacity(alloc, ports.len())?;
@@ -55,7 +54,7 @@ fn outside_places<'k>(
     alloc: Global,
     ports: &[PlacedPort],
     texts: &'k [Text],
-) -> Result<IndexMap<(Option<usize>, &'k str), usize>, AllocError>
+) -> Result<Places<(Option<usize>, &'k str)>, AllocError>
     requires texts { texts.now ≡ map outside_text (ports_view ports.now) }
     ensures { IfOk result (λ places. (c : ℕ) (text : Bor (List ℕ)) → get child_eq places (Some c, text) ≡ position (wires.names_outside c text.now) (ports_view ports.now)) }
 {
@@ -69,7 +68,7 @@ fn outside_places<'k>(
 fn relation_places<'k>(
     alloc: Global,
     relations: &'k [PlacedRelation],
-) -> Result<IndexMap<(usize, &'k str), usize>, AllocError>
+) -> Result<Places<(usize, &'k str)>, AllocError>
     ensures { IfOk result (λ places. (c : ℕ) (text : Bor (List ℕ)) → get pair_eq places (c, text) ≡ position (wires.names_relation c text.now) (relations_view relations.now)) }
 {
     let mut keys = Vec::with_capacity(alloc, relations.len())?;

@@ -2,7 +2,7 @@
 use Rattle.std.specs.Prelude.{ℕ, suc, zero, ◌+◌, ◌==◌, List, [], ◌∷◌, ◌++◌, length, take, drop, reverse, map, Bool, true, false, codes, Option, Some, None, if◌then◌else◌}
 use Rattle.std.specs.List.{prefix_len}
 use Rattle.std.specs.Borrow.{Bor}
-use Rattle.std.specs.declared.hash.FoldHasher.{FoldHasher}
+use Rattle.std.specs.declared.hash.DefaultHasher.{DefaultHasher}
 use Rattle.std.specs.declared.hash.BuildHasherDefault.{BuildHasherDefault}
 use Rattle.indexmap.specs.IndexSet.{IndexSet}
 use Rattle.pt_moml.specs.declared.type_text.Open.{Open as Given}
@@ -100,7 +100,7 @@ is_type_text text = leads (length text + 1) (record { wants_type = true; around 
 -- ---- as the program holds them
 
 abbrev Names : Type 0
-Names = IndexSet (Bor (List ℕ)) (BuildHasherDefault FoldHasher)
+Names = IndexSet (Bor (List ℕ)) (BuildHasherDefault DefaultHasher)
 
 abbrev pub names_view : Names → List (List ℕ)
 names_view names = map (λ n. n.now) names.keys

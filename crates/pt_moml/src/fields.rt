@@ -7,12 +7,13 @@ ghost use Rattle.pt_moml.specs.Outcome.{Gives, IsRefusal};
 ghost use Rattle.pt_moml.specs.Fields.{text_at, required_text, optional_text, name_at, truth_at, required_truth, optional_truth, required_whole, has_only, listed, items_at, required_list, optional_list, distinct_at};
 
 use crate::code::Code;
-use crate::names::{is_name, is_one_of};
+use crate::names::{NameSet, is_name, is_one_of};
 use crate::refusal::{DocFault, refused};
 use indexmap::IndexSet;
 use pt_value::Text;
 use serde_json::{Map, Value};
 use std::alloc::Global;
+use std::hash::BuildHasherDefault;
 
 /// The text at a place that must have one.
 pub fn text_of(alloc: Global, path: &str, value: &Value) -> Result<Text, DocFault>
@@ -158,7 +159,7 @@ pub trait Named {
 pub fn names_differ<T: Named>(alloc: Global, path: &str, parts: &[T]) -> Result<(), DocFault>
     ensures { Gives (λ u. u) result (distinct_at path.now (T.names parts.now)) }
 {
-    let mut seen = IndexSet::new(alloc);
+    let mut seen: NameSet<&str> = IndexSet::with_hasher(alloc, BuildHasherDefault::new());
     for part in parts {
         let (_, is_new) = seen.insert_full(part.name())?;
         if !is_new {

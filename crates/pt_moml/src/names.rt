@@ -6,8 +6,14 @@ ghost use Rattle.pt_moml.specs.Outcome.{IsRefusal};
 
 use crate::code::Code;
 use crate::refusal::{DocFault, Refusal};
+use indexmap::IndexSet;
 use pt_value::Text;
 use std::alloc::{AllocError, Global};
+use std::hash::{BuildHasherDefault, DefaultHasher};
+
+/// Names that differ. Under the fast hasher that sets have by default a document could hold any number of names of one
+/// hash, and each new one would be compared with all of them. Under this one such names are hard to find.
+pub type NameSet<T> = IndexSet<T, BuildHasherDefault<DefaultHasher>>;
 
 fn is_first(c: u8) -> bool
     ensures { result ≡ names.is_first c }

@@ -1,20 +1,21 @@
 // Texts of types, read word by word: however deep a hostile text nests, nothing recurs.
-ghost use Rattle.std.specs.Prelude.{◌≡◌, ◌∷◌, ◌++◌, map, length, take, drop, option_map, IfOk};
+ghost use Rattle.std.specs.Prelude.{◌≡◌, [], ◌∷◌, ◌++◌, map, length, take, drop, option_map, IfOk};
 ghost use Rattle.std.specs.List.{prefix_len};
 ghost use Rattle.pt_moml.specs.Names as names;
 ghost use Rattle.pt_moml.specs.TypeTexts as texts;
 ghost use Rattle.pt_moml.specs.TypeWords as types;
 ghost use Rattle.pt_moml.specs.TypeWords.{names_view, stack_view, place_view, next_view};
 
-use crate::names::{is_later, is_name_of_bytes, is_word};
+use crate::names::{NameSet, is_later, is_name_of_bytes, is_word};
 use indexmap::IndexSet;
 use std::alloc::{AllocError, Global};
+use std::hash::BuildHasherDefault;
 
 /// What is open round a place: the bracket of an array, or that of a record with the names so far.
 #[derive(Drop)]
 enum Open<'a> {
     Array,
-    Record(IndexSet<&'a [u8]>),
+    Record(NameSet<&'a [u8]>),
 }
 
 /// A place in a text: whether a type is wanted there, what is open round it, and what is left.
@@ -55,6 +56,12 @@ fn leading_name<'a>(text: &'a [u8]) -> (&'a [u8], &'a [u8])
     text.split_at(end)
 }
 
+fn no_names<'a>(alloc: Global) -> NameSet<&'a [u8]>
+    ensures { names_view result ≡ [] }
+{
+    IndexSet::with_hasher(alloc, BuildHasherDefault::new())
+}
+
 /// A name that isn't a word of the expression language.
 #[tactic(auto, unfolding(crate::specs::TypeTexts::is_field_name))]
 fn is_field_name(name: &[u8]) -> bool
@@ -65,9 +72,9 @@ fn is_field_name(name: &[u8]) -> bool
 
 /// One more name of a record: the names with it, or `None` where it is there already or isn't a name.
 fn one_more<'a>(
-    mut names: IndexSet<&'a [u8]>,
+    mut names: NameSet<&'a [u8]>,
     name: &'a [u8],
-) -> Result<Option<IndexSet<&'a [u8]>>, AllocError>
+) -> Result<Option<NameSet<&'a [u8]>>, AllocError>
     ensures { IfOk result
         (λ more. option_map names_view more ≡ types.one_more (names_view names.entry) name.entry.now) }
 {
@@ -84,7 +91,7 @@ fn one_more<'a>(
 /// A field of a record with these names before it.
 #[tactic(auto, unfolding(crate::specs::TypeWords::field))]
 fn field<'a>(
-    names: IndexSet<&'a [u8]>,
+    names: NameSet<&'a [u8]>,
     mut around: Vec<Open<'a>>,
     text: &'a [u8],
 ) -> Result<Next<'a>, AllocError>
@@ -146,14 +153,14 @@ fn begin<'a>(
         }));
     }
     match behind(b"{", text) {
-        Some(rest) => field(IndexSet::new(alloc), around, rest),
+        Some(rest) => field(no_names(alloc), around, rest),
         None => Ok(Next::Ends(false)),
     }
 }
 
 /// Behind a type in a record with these names.
 fn behind_field<'a>(
-    names: IndexSet<&'a [u8]>,
+    names: NameSet<&'a [u8]>,
     around: Vec<Open<'a>>,
     text: &'a [u8],
 ) -> Result<Next<'a>, AllocError>

@@ -1,4 +1,4 @@
-use Rattle.std.proofs.Common.{◌≡◌, ℕ, ◌<◌, Some, List, [], ◌∷◌, length, get_or, sym, subst, ◌∙◌, arith}
+use Rattle.std.proofs.Common.{◌≡◌, ℕ, ◌<◌, Some, List, [], ◌∷◌, length, get_or, subst, arith}
 use Rattle.std.proofs.lemmas.List.{length-map}
 use Rattle.std.proofs.lemmas.Option.{slice_get_within}
 use Rattle.std.specs.List.{slice_get}
@@ -6,7 +6,6 @@ use Rattle.pt_moml.specs.declared.code.Code.TheVariants as code
 use Rattle.pt_graph.specs.declared.tables.PlacedPort.{PlacedPort}
 use Rattle.pt_graph.specs.Table.{PortAt, port_path}
 use Rattle.pt_graph.specs.Survey.{tables_view, port_at, ports_view}
-use Rattle.pt_graph.specs.Wires.{Place}
 use Rattle.pt_graph.specs.Stands.{IsLinkFault}
 use Rattle.pt_graph.specs.ChannelTable.{Adds, place_at}
 use Rattle.pt_graph.proofs.Told.{told, number_view}

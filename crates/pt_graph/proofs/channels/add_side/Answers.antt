@@ -1,4 +1,4 @@
-use Rattle.std.proofs.Common.{◌≡◌, ℕ, ◌+◌, take}
+use Rattle.std.proofs.Common.{◌+◌, take}
 use Rattle.pt_graph.specs.Survey.{tables_view, port_at}
 use Rattle.pt_graph.specs.Net.{wires}
 use Rattle.pt_graph.specs.ChannelTable.{places_on, side_among}

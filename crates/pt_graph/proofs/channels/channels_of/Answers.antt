@@ -1,4 +1,4 @@
-use Rattle.std.proofs.Common.{◌≡◌, true, List, [], sym, subst}
+use Rattle.std.proofs.Common.{true, List, [], sym, subst}
 use Rattle.std.specs.List.{AllZip}
 use Rattle.pt_graph.specs.declared.net.Channel.{Channel}
 use Rattle.pt_graph.specs.Survey.{tables_view}

@@ -1,4 +1,4 @@
-use Rattle.std.proofs.Common.{◌≡◌, ℕ, ◌+◌, ◌<◌, length, get_or, min, sym, ap, ◌∙◌, arith}
+use Rattle.std.proofs.Common.{◌≡◌, ℕ, ◌+◌, ◌<◌, length, get_or, min, ap, ◌∙◌, arith}
 use Rattle.std.proofs.lemmas.List.{length-map, get_or_default}
 use Rattle.pt_graph.specs.Survey.{tables_view, port_at}
 use Rattle.pt_graph.proofs.Told.{read_view}

@@ -1,13 +1,10 @@
-use Rattle.std.proofs.Common.{◌≡◌, Some, length, sym, ap, subst, ◌∙◌, arith, true, false}
+use Rattle.std.proofs.Common.{◌≡◌, sym, subst, ◌∙◌, arith}
 use Rattle.std.proofs.lemmas.List.{length-map}
-use Rattle.std.specs.List.{slice_get}
 use Rattle.pt_moml.specs.declared.code.Code.TheVariants as code
-use Rattle.pt_graph.specs.Table.{PortAt, port_path}
+use Rattle.pt_graph.specs.Table.{port_path}
 use Rattle.pt_graph.specs.Survey.{tables_view, port_at}
-use Rattle.pt_graph.specs.Wires.{outside_of, inside_of}
-use Rattle.pt_graph.specs.Net.{wires}
 use Rattle.pt_graph.specs.Stands.{IsLinkFault}
-use Rattle.pt_graph.specs.Wiring.{IsFine, is_amiss, lacks_channel}
+use Rattle.pt_graph.specs.Wiring.{IsFine}
 use Rattle.pt_graph.proofs.Told.{told, number_view}
 use Rattle.pt_graph.proofs.PortTests.{amiss_told, lacking_told, fine}
 use Rattle.pt_graph.proofs.checks.check_port.Goals as goal

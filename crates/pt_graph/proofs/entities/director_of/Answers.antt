@@ -1,4 +1,4 @@
-use Rattle.std.proofs.Common.{◌≡◌, List, ap, ◌∙◌, filter}
+use Rattle.std.proofs.Common.{List, ap, ◌∙◌, filter}
 use Rattle.pt_moml.specs.declared.job.Property.{Property}
 use Rattle.pt_moml.specs.View.{properties_view}
 use Rattle.pt_graph.specs.Net.{is_parameter}

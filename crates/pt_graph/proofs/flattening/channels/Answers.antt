@@ -1,6 +1,5 @@
-use Rattle.std.proofs.Common.{◌≡◌, ap}
+use Rattle.std.proofs.Common.{ap}
 use Rattle.pt_graph.specs.declared.wiring.Wiring.{Wiring}
-use Rattle.pt_graph.specs.declared.tables.Tables.{Tables as HeldTables}
 use Rattle.pt_graph.specs.Survey.{tables_view}
 use Rattle.pt_graph.proofs.Verdict.{ok_channels}
 use Rattle.pt_graph.proofs.flattening.channels.Goals as goal

@@ -7,12 +7,12 @@ use Rattle.pt_moml.specs.View.{job_view, input_view}
 use Rattle.pt_graph.specs.declared.survey.Placed.{Placed}
 use Rattle.pt_graph.specs.declared.net.Channel.{Channel}
 use Rattle.pt_graph.specs.Survey.{table_view, tables_view}
-use Rattle.pt_graph.specs.Standing.{Standing, is_kept}
+use Rattle.pt_graph.specs.Standing.{is_kept}
 use Rattle.pt_graph.specs.Table.{Tables, tables_from, tables_of}
 use Rattle.pt_graph.specs.Wiring.{AreOwned}
-use Rattle.pt_graph.specs.Net.{IsNetOf, Records, entity_tree, transparent_tree}
+use Rattle.pt_graph.specs.Net.{Records, entity_tree, transparent_tree}
 use Rattle.pt_graph.specs.Stands.{StandsIn, IsFaultIn, IsFaultOf, IsTold}
-use Rattle.pt_graph.specs.ChannelTable.{AreChannels, AreTooMany}
+use Rattle.pt_graph.specs.ChannelTable.{AreTooMany}
 use Rattle.pt_graph.specs.Recorded.{AreDistinct}
 use Rattle.pt_graph.proofs.Counts.{owned}
 use Rattle.pt_graph.proofs.Verdict.{none_stands, limit_told, net_of}

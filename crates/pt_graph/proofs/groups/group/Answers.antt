@@ -1,5 +1,3 @@
-use Rattle.std.proofs.Common.{◌≡◌, ℕ, length, subst, arith}
-use Rattle.pt_graph.specs.Groups.{IsKept, Merges}
 use Rattle.pt_graph.proofs.GroupSteps.{apart_first, groups_one, grouped}
 use Rattle.pt_graph.proofs.groups.group.Goals as goal
 

@@ -1,4 +1,3 @@
-use Rattle.std.proofs.Common.{◌≡◌, length}
 use Rattle.pt_graph.specs.Groups.{IsKept}
 use Rattle.pt_graph.proofs.GroupSteps.{GroupsFirst}
 use Rattle.pt_graph.proofs.groups.group.Given as goal

@@ -1,4 +1,4 @@
-use Rattle.std.proofs.Common.{◌≡◌, sym, ap, ◌∙◌}
+use Rattle.std.proofs.Common.{sym, ap, ◌∙◌}
 use Rattle.indexmap.specs.IndexMap.{get}
 use Rattle.pt_graph.proofs.Positions.{stays_at, grows_at}
 use Rattle.pt_graph.proofs.names.first_places.Goals as goal

@@ -1,4 +1,4 @@
-use Rattle.std.proofs.Common.{◌≡◌, ℕ, ◌+◌, List, [], ap, subst, sym}
+use Rattle.std.proofs.Common.{ℕ, ◌+◌, List, [], subst, sym}
 use Rattle.pt_graph.specs.declared.net.NetPort.{NetPort}
 use Rattle.pt_graph.specs.declared.tables.Tables.{Tables as HeldTables}
 use Rattle.pt_graph.specs.Survey.{tables_view}

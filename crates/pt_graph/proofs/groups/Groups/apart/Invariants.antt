@@ -1,4 +1,4 @@
-use Rattle.std.proofs.Common.{◌≡◌, ℕ, ◌<◌, List, [], ◌∷◌, length, map, get_or}
+use Rattle.std.proofs.Common.{◌≡◌, ℕ, ◌<◌, [], ◌∷◌, length, map, get_or}
 use Rattle.pt_graph.proofs.groups.Groups.apart.Given as goal
 
 abbrev pub invariant-loop-thing : goal.invariant-loop-thing

@@ -1,5 +1,5 @@
-use Rattle.std.proofs.Common.{get_or-set_other, ◌≡◌, ◌≢◌, ℕ, ◌+◌, ◌<◌, List, [], ◌++◌, length, map, get_or, set, take, drop, sym, ap, subst, ◌∙◌, arith, Vec, Global}
-use Rattle.std.proofs.lemmas.List.{get_or-map, map-set, length-map, take_at, with_items_is}
+use Rattle.std.proofs.Common.{get_or-set_other, ◌≡◌, ◌≢◌, ℕ, ◌<◌, List, [], ◌++◌, length, map, get_or, set, take, drop, sym, ap, subst, ◌∙◌, arith, Vec, Global}
+use Rattle.std.proofs.lemmas.List.{get_or-map, map-set, length-map, with_items_is}
 use Rattle.std.specs.List.{All}
 use Rattle.pt_graph.specs.Groups.{members, Agree, Relabels, Moves}
 use Rattle.pt_graph.proofs.GroupSteps.{members_within, moves, agree_after}

@@ -1,4 +1,3 @@
-use Rattle.std.proofs.Common.{◌≡◌}
 use Rattle.pt_graph.proofs.RecordSteps.{outputs_next}
 use Rattle.pt_graph.proofs.records.Outputs.of.Goals as goal
 

@@ -1,4 +1,4 @@
-use Rattle.std.proofs.Common.{◌≡◌, sym, ap, subst, ◌∙◌}
+use Rattle.std.proofs.Common.{sym}
 use Rattle.pt_moml.specs.declared.code.Code.TheVariants as code
 use Rattle.pt_graph.specs.Survey.{tables_view, link_at}
 use Rattle.pt_graph.specs.Table.{link_path}

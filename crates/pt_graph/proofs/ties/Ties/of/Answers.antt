@@ -1,6 +1,5 @@
-use Rattle.std.proofs.Common.{take, ◌+◌, sym, subst}
 use Rattle.pt_graph.specs.declared.wire.Wire.TheVariants.{Outside}
-use Rattle.pt_graph.specs.Ties.{rows, outside_with, inside_with}
+use Rattle.pt_graph.specs.Ties.{rows}
 use Rattle.pt_graph.proofs.TieSteps.{tied_more}
 use Rattle.pt_graph.proofs.ties.Ties.of.Goals as goal
 

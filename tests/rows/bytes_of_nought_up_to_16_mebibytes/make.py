@@ -1,0 +1,3 @@
+import sys
+
+sys.stdout.write("\0" * 16_777_216)

@@ -1,0 +1,3 @@
+import sys
+
+sys.stdout.write('"' + "x" * 16_777_215)
