@@ -22,7 +22,8 @@ use Rattle.pt_meaning.proofs.FiringLaws.{number-kept}
 use Rattle.pt_meaning.proofs.HeightLaws.{with-number-done, numbered-length}
 use Rattle.pt_meaning.proofs.ClosedLaws.{child-closed, child-or-beyond}
 use Rattle.pt_meaning.proofs.LevelLaws.{added, marked-rounds, unmarked-marked}
-use Rattle.pt_meaning.proofs.SoundLaws.{numbered-get, kept-child, fitting-child, below-log, within-added}
+use Rattle.pt_meaning.proofs.ChainLaws.{numbered-get, kept-child, fitting-child}
+use Rattle.pt_meaning.proofs.SoundLaws.{below-log, within-added}
 use Rattle.pt_meaning.proofs.ClosedSteps.{director-explained, actor-quiet, sound-at}
 use Rattle.pt_meaning.proofs.LaterLaws.{later-below, later-joins, later-nothing, later-own}
 

@@ -37,6 +37,7 @@ pub mod ClosedLaws
 pub mod ChannelLaws
 pub mod RecordLaws
 pub mod LevelLaws
+pub mod ChainLaws
 pub mod SoundLaws
 pub mod ExplainFlows
 pub mod ExplainRounds

@@ -11,7 +11,7 @@ use Rattle.pt_meaning.specs.Promises.{LawfulRows, StandsOn}
 use Rattle.pt_meaning.specs.Outcomes.{OneOutcome, ReportsAgree}
 use Rattle.pt_meaning.proofs.MeaningLaws.{meaning_grows}
 
-either-order : (a b : ℕ) → (a ≤ b) ⊎ (b ≤ a)
+pub either-order : (a b : ℕ) → (a ≤ b) ⊎ (b ≤ a)
 either-order a b = go (nat_le a b) refl
   where
     go : (t : Bool) → nat_le a b ≡ t → (a ≤ b) ⊎ (b ≤ a)

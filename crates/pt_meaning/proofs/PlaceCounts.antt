@@ -1,7 +1,7 @@
 -- What the events of a PN firing tell of its places.
-use Rattle.std.proofs.Common.{◌≡◌, ℕ, zero, suc, ◌+◌, ◌<◌, List, [], ◌∷◌, ◌++◌, Bool, true, false, ◌||◌, nat_eq, nat_lt, length, take, drop, get_or, Option, Some, None, if◌then◌else◌, inl, inr, refl, sym, ap, subst, arith, ◌∙◌, append_assoc, append-nil, length-append}
+use Rattle.std.proofs.Common.{◌≡◌, ◌⊎◌, ℕ, zero, suc, ◌+◌, ◌<◌, List, [], ◌∷◌, ◌++◌, Bool, true, false, ◌||◌, nat_eq, nat_lt, length, take, drop, get_or, Option, Some, None, if◌then◌else◌, inl, inr, refl, sym, ap, subst, arith, ◌∙◌, append_assoc, append-nil, length-append}
 use Rattle.std.proofs.lemmas.Bool.Decides.{nat_tests}
-use Rattle.std.proofs.lemmas.List.{length-take-le, append_cancel_left}
+use Rattle.std.proofs.lemmas.List.{length-take-le, append_cancel_left, append_cancel_right}
 use Rattle.std.proofs.Math.Path.{fun_ext}
 use Rattle.pt_meaning.specs.Basics.{Tag, Streams, at, Log, log_then}
 use Rattle.pt_meaning.specs.Streams.{get, change_at}
@@ -12,16 +12,18 @@ use Rattle.pt_meaning.specs.Kahn.{left_by, logs_of, states_of, skip_places}
 use Rattle.pt_meaning.specs.Pn.{pn_limits}
 use Rattle.pt_meaning.specs.Process.{Put, puts_of}
 use Rattle.pt_meaning.specs.Running.{runs, MadeAll, Fits}
-use Rattle.pt_meaning.specs.Places.{taken_if, due}
+use Rattle.pt_meaning.specs.Places.{taken_if, tokens_on, due_from, due, puts_from}
 use Rattle.pt_meaning.specs.Jam.{IsPutting, is_next_put, waited_from, waited_for}
 use Rattle.pt_meaning.specs.LogsOfRuns.{log_at}
 use Rattle.pt_meaning.specs.Closed.{Has, Begun, inputs_at, outputs_at}
 use Rattle.pt_meaning.specs.Channels.{further, channel_at, tokens_in}
 use Rattle.pt_meaning.specs.Explained.{Turned, ChainOf, PartOf, of_turns, gives_in}
-use Rattle.pt_meaning.specs.PlacesTold.{PlacesAreTold, LinesTell, FullLinesTell, LastPutsAreTold}
+use Rattle.pt_meaning.specs.PlacesTold.{PlacesAreTold, AreTold, LinesTell, FullLinesTell, LastPutsAreTold, GetsFollowPuts}
 use Rattle.pt_meaning.proofs.ChannelLaws.{at-first, tokens-further, tokens-append, at-append-if, fits-channel}
 use Rattle.pt_meaning.proofs.FlowLaws.{IsFree}
 use Rattle.pt_meaning.proofs.RunLaws.{left-length, flow-capped}
+use Rattle.pt_meaning.proofs.PlaceEnds.{puts-are}
+use Rattle.pt_meaning.proofs.PlaceEnds as ends
 use Rattle.pt_meaning.proofs.ExplainParties.{turns-append}
 use Rattle.pt_meaning.proofs.ExplainFlows.{turns_of, turns_on, turns_front, stuck_of, flow-is, free-unstuck}
 
@@ -325,3 +327,47 @@ last-puts-are-told {T} {S} facts step tag net kids start ms now h long k = (plac
             let all = gives-run facts step tag net.places (pn_limits net.places) ms kids k.running.all i port ∙ ap (λ ts. of_turns (outputs_at port) ts) r ∙ turns-append (outputs_at port) before (t ∷ []) in
             let some = putting.last port ∙ ap (λ v. v ++ at putting.outputs port) (gives-run facts step tag net.places (pn_limits net.places) (change_at i (λ m. putting.before) ms) kids k.running.all i port) in
             append_cancel_left (of_turns (outputs_at port) before) (at putting.outputs port) (at t.record_of.outputs port ++ []) (sym some ∙ all) ∙ append-nil (at t.record_of.outputs port)
+
+child-there : {A B : Type 0} (xs : List A) (ys : List B) (i : ℕ) (x : A) → length xs ≡ length ys → get xs i ≡ Some x → (y : B) × (get ys i ≡ Some y)
+child-there [] ys i x l e = absurd (cc)
+child-there (a ∷ xs) [] i x l e = absurd (omega (arith, l))
+child-there (a ∷ xs) (b ∷ ys) zero x l e = (b, refl)
+child-there (a ∷ xs) (b ∷ ys) (suc i) x l e = child-there xs ys i x (omega (arith, l)) e
+
+-- what is got follows what is put
+pub gets-follow-puts : {T S : Type 0} → GetsFollowPuts T S
+gets-follow-puts {T} {S} facts step tag net kids start greatest ms now h long jam =
+    let last = last-puts-are-told facts step tag net kids start ms now h long jam.consistent in
+    (last.0, λ i q c e. let p = by_source last.0 last.1 c (get net.sources c) refl in (p.0, p.1, follows last.0 i q c e p.0 p.1))
+  where
+    by_last : (told : AreTold facts step tag net kids start ms now h jam.consistent.running.all) (c j port : ℕ) → get net.sources c ≡ Some (Output j port) → (putting : IsPutting facts step tag net kids jam.consistent.running.all ms h j) →
+        ((before : List (Turned T)) × (last : Turned T) × (told.firings j ≡ before ++ (last ∷ [])) × (length before ≡ putting.before) × ((port : ℕ) → at putting.outputs port ≡ at last.record_of.outputs port) × (puts_of net.sources j 0 putting.outputs ≡ putting.put ++ at h.puts j)) →
+        (put : List T) × (of_turns (outputs_at port) (told.firings j) ≡ put ++ tokens_on c (at h.puts j))
+    by_last told c j port f putting l =
+        let given : of_turns (outputs_at port) (told.firings j) ≡ of_turns (outputs_at port) l.0 ++ at putting.outputs port =
+        ap (λ ts. of_turns (outputs_at port) ts) l.2 ∙ turns-append (outputs_at port) l.0 (l.1 ∷ []) ∙ ap (λ v. of_turns (outputs_at port) l.0 ++ v) (append-nil (at l.1.record_of.outputs port) ∙ sym (l.4 port))
+        in
+        let parts : at putting.outputs port ≡ tokens_on c putting.put ++ tokens_on c (at h.puts j) =
+        sym (puts-are net j putting.outputs c ∙ ap (λ o. puts_from j putting.outputs o) f ∙ ap (λ b. if b then at putting.outputs port else []) (nat-same j)) ∙ ap (λ us. tokens_on c us) l.5 ∙ ends.tokens-append c putting.put (at h.puts j)
+        in
+        (of_turns (outputs_at port) l.0 ++ tokens_on c putting.put, given ∙ ap (λ v. of_turns (outputs_at port) l.0 ++ v) parts ∙ sym (append_assoc (of_turns (outputs_at port) l.0) (tokens_on c putting.put) (tokens_on c (at h.puts j))))
+
+    by_source : (told : AreTold facts step tag net kids start ms now h jam.consistent.running.all) →
+        ((i : ℕ) (putting : IsPutting facts step tag net kids jam.consistent.running.all ms h i) (s : S) → get kids i ≡ Some s →
+        (before : List (Turned T)) × (last : Turned T) × (told.firings i ≡ before ++ (last ∷ [])) × (length before ≡ putting.before) × ((port : ℕ) → at putting.outputs port ≡ at last.record_of.outputs port) × (puts_of net.sources i 0 putting.outputs ≡ putting.put ++ at h.puts i)) →
+        (c : ℕ) (s : Option Source) → get net.sources c ≡ s → (put : List T) × (gives_in [] told.firings s ≡ put ++ due_from h.puts s c)
+    by_source told last c None f = ([], refl)
+    by_source told last c (Some (Own j)) f = ([], refl)
+    by_source told last c (Some (Output j port)) f = go (jam.puts j)
+      where
+        go : (at h.puts j ≡ []) ⊎ IsPutting facts step tag net kids jam.consistent.running.all ms h j → (put : List T) × (of_turns (outputs_at port) (told.firings j) ≡ put ++ tokens_on c (at h.puts j))
+        go (inl none) = (of_turns (outputs_at port) (told.firings j), sym (append-nil (of_turns (outputs_at port) (told.firings j))) ∙ ap (λ us. of_turns (outputs_at port) (told.firings j) ++ tokens_on c us) (sym none))
+        go (inr putting) = let s = child-there ms kids j (suc putting.before) (jam.consistent.running.each ∙ sym long) putting.fired in by_last told c j port f putting (last j putting s.0 s.1)
+
+    follows : (told : AreTold facts step tag net kids start ms now h jam.consistent.running.all) (i q c : ℕ) → channel_at net.places i q ≡ Some c → (put : List T) → gives_in [] told.firings (get net.sources c) ≡ put ++ due net h.puts c →
+        at start c ++ put ≡ (of_turns (inputs_at q) (told.firings i) ++ at h.gathered c) ++ at h.queued c
+    follows told i q c e put f =
+        let used = of_turns (inputs_at q) (told.firings i) in
+        let left = due net h.puts c in
+        append_cancel_right (at start c ++ put) ((used ++ at h.gathered c) ++ at h.queued c) left
+        (append_assoc (at start c) put left ∙ ap (λ v. at start c ++ v) (sym f) ∙ told.tokens i q c e ∙ sym (append_assoc used (at h.gathered c) (at h.queued c ++ left)) ∙ sym (append_assoc (used ++ at h.gathered c) (at h.queued c) left))

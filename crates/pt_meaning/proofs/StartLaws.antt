@@ -1,5 +1,6 @@
 -- A model at its start is one that a run begins with.
-use Rattle.std.proofs.Common.{◌≡◌, ℕ, zero, suc, ◌<◌, List, [], ◌∷◌, ◌++◌, length, Option, Some, None, refl, sym, ap, ap₂, subst, arith, ◌∙◌}
+use Rattle.std.proofs.Common.{◌≡◌, ℕ, zero, suc, ◌<◌, List, [], ◌∷◌, ◌++◌, length, Option, Some, None, refl, sym, ap, ap₂, subst, arith, ◌∙◌, ◌⊎◌, inl, inr, ◌≤◌}
+use Rattle.std.proofs.Math.Path.{fun_ext}
 use Rattle.pt_meaning.specs.Basics.{at}
 use Rattle.pt_meaning.specs.Modal.{get}
 use Rattle.pt_meaning.specs.Rounds.{Source, Own, Output}
@@ -11,7 +12,14 @@ use Rattle.pt_meaning.specs.Start.{first_held}
 use Rattle.pt_meaning.specs.Channels.{channel_at}
 use Rattle.pt_meaning.specs.SoundRuns.{got_by, waiting_in, on_its_way, count_at, HasRooms, IsWired}
 use Rattle.pt_meaning.specs.ClosedRuns.{IsFirst, IsAtStart, AllAtStart}
-use Rattle.pt_meaning.specs.StartedRuns.{IsPlanned, ArePlans, AllPlans, StartedLogsAreClosed}
+use Rattle.pt_meaning.specs.StartedRuns.{IsPlanned, ArePlans, AllPlans, StartedLogsAreClosed, StartedLogsAreShut}
+use Rattle.pt_meaning.specs.Log.{Log, LogBelow}
+use Rattle.pt_meaning.specs.Closed.{IsClosedRun}
+use Rattle.pt_meaning.specs.Job.{Standing, Goes, Ended, Halted, after, begin, log_of, meaning}
+use Rattle.pt_meaning.specs.Promises.{StandsOn}
+use Rattle.pt_meaning.proofs.Order.{IsPrefix-refl, IsPrefix-antisym}
+use Rattle.pt_meaning.proofs.MeaningLaws.{meaning_grows}
+use Rattle.pt_meaning.proofs.OutcomeLaws.{either-order}
 use Rattle.pt_meaning.proofs.WholeMeaning.{logs-are-closed}
 
 held-long : {T A : Type 0} (rows : Rows T A) (kids : List (Node T A)) (cs : List Source) → length (first_held rows kids cs) ≡ length cs
@@ -78,3 +86,23 @@ mutual
 
 pub started-logs-are-closed : {T A : Type 0} → StartedLogsAreClosed T A
 started-logs-are-closed rows law m plan top f g s k k' o = logs-are-closed rows law m plan top f (first-node rows top g s) k k' o
+
+-- a run at a greater fuel has at least the log of one before
+stands-below : {T A : Type 0} (s t : Standing T A) → StandsOn s t → LogBelow (log_of s) (log_of t)
+stands-below (Goes c) t h = h
+stands-below {T} {A} (Ended e c) t h = subst (λ (v : Standing T A). LogBelow c.log (log_of v)) (sym h) (λ p. IsPrefix-refl (c.log p))
+stands-below (Halted fs l) (Halted gs n) h = h.1
+stands-below (Halted [] l) (Goes c) h = h
+stands-below (Halted [] l) (Ended e c) h = h
+stands-below (Halted (f ∷ fs) l) (Goes c) h = absurd h
+stands-below (Halted (f ∷ fs) l) (Ended e c) h = absurd h
+
+pub started-logs-are-shut : {T A : Type 0} → StartedLogsAreShut T A
+started-logs-are-shut {T} {A} rows law m plan top f g s fuel k below = go (either-order fuel k)
+  where
+    go : (fuel ≤ k) ⊎ (k ≤ fuel) → IsClosedRun rows m plan top (meaning k rows m plan top) (meaning fuel rows m plan top)
+    go (inl o) = started-logs-are-closed rows law m plan top f g s fuel k o
+    go (inr o) =
+        let other = stands-below (after k rows m plan k (begin top)) (after fuel rows m plan fuel (begin top)) (meaning_grows rows law m plan top k fuel o) in
+        let same : meaning fuel rows m plan top ≡ meaning k rows m plan top = fun_ext (λ p. IsPrefix-antisym (meaning fuel rows m plan top p) (meaning k rows m plan top p) (below p) (other p)) in
+        subst (λ (l : Log T). IsClosedRun rows m plan top l (meaning fuel rows m plan top)) same (started-logs-are-closed rows law m plan top f g s fuel fuel (omega arith))

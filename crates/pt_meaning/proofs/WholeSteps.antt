@@ -24,7 +24,7 @@ use Rattle.pt_meaning.proofs.HeightLaws.{with-number-done}
 use Rattle.pt_meaning.proofs.MeetingIndex.{some-same}
 use Rattle.pt_meaning.proofs.ClosedLaws.{child-or-beyond}
 use Rattle.pt_meaning.proofs.LevelLaws.{has-right, count-append, unmarked-append}
-use Rattle.pt_meaning.proofs.SoundLaws.{no-finished}
+use Rattle.pt_meaning.proofs.ChainLaws.{no-finished}
 use Rattle.pt_meaning.proofs.ClosedSteps.{director-explained, actor-quiet, sound-at}
 use Rattle.pt_meaning.proofs.LaterLaws.{later-below, later-joins, later-nothing, later-own}
 use Rattle.pt_meaning.proofs.LaterSteps.{turn-sound, part-later, as-added, composite-inside, KidNow, kid-now, none-there, logged, later-at}

@@ -9,7 +9,7 @@ use Rattle.pt_meaning.specs.Pn.{pn_limits}
 use Rattle.pt_meaning.specs.Process.{puts_of}
 use Rattle.pt_meaning.specs.Running.{runs}
 use Rattle.pt_meaning.specs.Places.{Halfway, Consistent, due}
-use Rattle.pt_meaning.specs.Jam.{IsPutting, WaitsFor, waited_for, IsFull}
+use Rattle.pt_meaning.specs.Jam.{Jam, IsPutting, WaitsFor, waited_for, IsFull}
 use Rattle.pt_meaning.specs.LogsOfRuns.{log_at}
 use Rattle.pt_meaning.specs.Closed.{Has, inputs_at}
 use Rattle.pt_meaning.specs.Channels.{channel_at}
@@ -51,3 +51,9 @@ LastPutsAreTold T S = (facts : Facts T S) (step : Stepping T S) (tag : Tag) (net
     (told : AreTold facts step tag net kids start ms now h k.running.all) ×
     ((i : ℕ) → (putting : IsPutting facts step tag net kids k.running.all ms h i) → (s : S) → get kids i ≡ Some s →
     (before : List (Turned T)) × (last : Turned T) × (told.firings i ≡ before ++ (last ∷ [])) × (length before ≡ putting.before) × ((port : ℕ) → at putting.outputs port ≡ at last.record_of.outputs port) × (puts_of net.sources i 0 putting.outputs ≡ putting.put ++ at h.puts i))
+
+-- In a jam what was given to a channel is the puts that are made, and then those still to be made. What its receiver has got in all, used or gathered, is the beginning of what the channel held at the start and of the puts made; the rest is in the queue.
+abbrev pub GetsFollowPuts : Type 0 → Type 0 → Type 0
+GetsFollowPuts T S = (facts : Facts T S) (step : Stepping T S) (tag : Tag) (net : Net) (kids : List S) (start : Streams T) (greatest : ℕ → ℕ) (ms : List ℕ) (now : List S) (h : Halfway T) → length kids ≡ length net.places → (jam : Jam facts step tag net kids start greatest ms now h) →
+    (told : AreTold facts step tag net kids start ms now h jam.consistent.running.all) ×
+    ((i q c : ℕ) → channel_at net.places i q ≡ Some c → (put : List T) × (gives_in [] told.firings (get net.sources c) ≡ put ++ due net h.puts c) × (at start c ++ put ≡ (of_turns (inputs_at q) (told.firings i) ++ at h.gathered c) ++ at h.queued c))

@@ -1,6 +1,7 @@
 -- The logs of a model that is run from its start are closed.
 use Rattle.std.specs.Prelude.{◌≡◌, ℕ, ◌≤◌, ◌<◌, length, Some}
 use Rattle.pt_meaning.specs.Streams.{get}
+use Rattle.pt_meaning.specs.Log.{LogBelow}
 use Rattle.pt_meaning.specs.Net.{Own}
 use Rattle.pt_meaning.specs.Running.{total}
 use Rattle.pt_meaning.specs.Meetings.{Meets}
@@ -32,3 +33,7 @@ abbrev mutual
 -- The log of the meaning at any fuel is closed, as a part of that at each greater one.
 abbrev pub StartedLogsAreClosed : Type 0 → Type 0 → Type 0
 StartedLogsAreClosed T A = (rows : Rows T A) → LawfulRows rows → (m : Meets) (plan : Schedule T A) (top : Node T A) → IsFitting top → ArePlans top → IsAtStart rows top → (k k' : ℕ) → k ≤ k' → IsClosedRun rows m plan top (meaning k' rows m plan top) (meaning k rows m plan top)
+
+-- So a report whose log is that of the meaning at some fuel has its closed log: at each fuel of which it is a beginning.
+abbrev pub StartedLogsAreShut : Type 0 → Type 0 → Type 0
+StartedLogsAreShut T A = (rows : Rows T A) → LawfulRows rows → (m : Meets) (plan : Schedule T A) (top : Node T A) → IsFitting top → ArePlans top → IsAtStart rows top → (fuel k : ℕ) → LogBelow (meaning fuel rows m plan top) (meaning k rows m plan top) → IsClosedRun rows m plan top (meaning k rows m plan top) (meaning fuel rows m plan top)

@@ -2,7 +2,7 @@
 
 ghost use Rattle.pt_meaning.specs.ClosedRuns.{FiringsKeepClosed, MeaningIsClosed, ClosedAtPaths, LevelsGoOn};
 ghost use Rattle.pt_meaning.specs.WholeRuns.{LaterGoesOn, FiringsComeLater, FiringsAreWhole, MeaningIsWhole, PartIsClosed, LogsAreClosed};
-ghost use Rattle.pt_meaning.specs.StartedRuns.{StartedLogsAreClosed};
+ghost use Rattle.pt_meaning.specs.StartedRuns.{StartedLogsAreClosed, StartedLogsAreShut};
 
 /// A firing keeps logs closed, under any director, while it is under way and where it is done.
 pub fn firings_keep_closed<T, A>()
@@ -57,4 +57,9 @@ pub fn logs_are_closed<T, A>()
 /// So it is of the log of each model that is run from its start.
 pub fn started_logs_are_closed<T, A>()
     ensures { StartedLogsAreClosed T A }
+{}
+
+/// A log of the meaning is closed as a part of that at each fuel of which it is a beginning, as a report asks.
+pub fn started_logs_are_shut<T, A>()
+    ensures { StartedLogsAreShut T A }
 {}

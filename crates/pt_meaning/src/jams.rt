@@ -1,6 +1,6 @@
 // What the events of a PN firing tell of its places, and the full lines of a jam.
 
-ghost use Rattle.pt_meaning.specs.PlacesTold.{PlacesAreTold, LinesTell, FullLinesTell, LastPutsAreTold};
+ghost use Rattle.pt_meaning.specs.PlacesTold.{PlacesAreTold, LinesTell, FullLinesTell, LastPutsAreTold, GetsFollowPuts};
 
 /// On each channel what was given is what was used, gathered, is in the queue, or is still to be put.
 pub fn places_are_told<T, S>()
@@ -20,4 +20,9 @@ pub fn full_lines_tell<T, S>()
 /// The puts that a process has still to make are the last ones of its last firing.
 pub fn last_puts_are_told<T, S>()
     ensures { LastPutsAreTold T S }
+{}
+
+/// In a jam what a receiver has got is the beginning of what its channel held and of the puts made, and the rest is in the queue.
+pub fn gets_follow_puts<T, S>()
+    ensures { GetsFollowPuts T S }
 {}
