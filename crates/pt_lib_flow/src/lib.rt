@@ -15,8 +15,6 @@ mod params;
 mod ramp;
 mod scale;
 mod sequence;
-#[cfg(test)]
-mod tests;
 
 pub use absolute_value::AbsoluteValue;
 pub use accumulator::Accumulator;
