@@ -2,3 +2,9 @@ pub mod Cuts
 pub mod Numbers
 pub mod Strings
 pub mod Splitting
+pub mod Turns
+pub mod Steps
+pub mod Sound
+pub mod Same
+pub mod Whole
+pub mod Counting

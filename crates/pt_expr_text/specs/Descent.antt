@@ -77,7 +77,7 @@ at_level l operand ws = operand ws >>= λ first. behind_operand l operand first.
 abbrev pub called : Reader → Tree → List Word → Read
 called expression base ws = expression ws >>= λ index. closed Close (Apply base index.0) index.1
 
-abbrev is_length : List ℕ → Bool
+abbrev pub is_length : List ℕ → Bool
 is_length name = pointwise nat_eq name (codes "length")
 
 -- the words behind an empty call
@@ -104,8 +104,12 @@ suffix expression base ws = given (after Open ws)
     (after Dot ws >>= λ rest. name_first rest >>= λ n. Some (field_named base n.0 n.1))
     (λ rest. called expression base rest)
 
+-- the words themselves, where a call or a field begins there
+abbrev pub suffix_first : List Word → Option (List Word)
+suffix_first ws = if nat_eq (binding_at ws) 8 then Some ws else None
+
 abbrev pub next_suffix : Reader → Tree → List Word → Option Read
-next_suffix expression base ws = if nat_eq (binding_at ws) 8 then Some (suffix expression base ws) else None
+next_suffix expression base ws = option_map (λ v. suffix expression base v) (suffix_first ws)
 
 -- an integer that fits 64 bits
 abbrev pub positive : ℕ → Option Tree
@@ -136,11 +140,14 @@ named expression ws = name_first ws >>= λ n. after Assign n.1 >>= λ rest. expr
 -- whether a name is among some, and whether one stands twice
 abbrev pub is_among : List (List ℕ) → List ℕ → Bool
 is_among [] n = false
-is_among (m ∷ ms) n = pointwise nat_eq n m || is_among ms n
+is_among (m ∷ ms) n = pointwise nat_eq m n || is_among ms n
+
+abbrev pub repeats_behind : List (List ℕ) → List (List ℕ) → Bool
+repeats_behind seen [] = false
+repeats_behind seen (n ∷ ns) = is_among seen n || repeats_behind (n ∷ seen) ns
 
 abbrev pub has_repeated : List (List ℕ) → Bool
-has_repeated [] = false
-has_repeated (n ∷ ns) = is_among ns n || has_repeated ns
+has_repeated ns = repeats_behind [] ns
 
 -- a list or a record behind its opening brace: a name and an equals sign begin a record
 abbrev pub begins_record : List Word → Bool
@@ -158,13 +165,23 @@ in_braces expression ws = given (after CloseBrace ws)
     (if begins_record ws then record_at expression ws else list_at expression ws)
     (λ rest. Some (Array (trees_of []), rest))
 
+-- the three functions, behind their names
+abbrev pub absolute : Reader → Reader
+absolute expression ws = one_operand expression ws >>= λ a. Some (tree.Abs a.0, a.1)
+
+abbrev pub greater : Reader → Reader
+greater expression ws = two_operands expression ws >>= λ both. Some (tree.Max both.0.0 both.0.1, both.1)
+
+abbrev pub lesser : Reader → Reader
+lesser expression ws = two_operands expression ws >>= λ both. Some (tree.Min both.0.0 both.0.1, both.1)
+
 -- a primary that begins with a symbol, by its number; nothing else does
 abbrev pub primary_symbol : Reader → Symbol → Reader
 primary_symbol expression True ws = Some (Truth true, ws)
 primary_symbol expression False ws = Some (Truth false, ws)
-primary_symbol expression Abs ws = one_operand expression ws >>= λ a. Some (tree.Abs a.0, a.1)
-primary_symbol expression Max ws = two_operands expression ws >>= λ both. Some (tree.Max both.0.0 both.0.1, both.1)
-primary_symbol expression Min ws = two_operands expression ws >>= λ both. Some (tree.Min both.0.0 both.0.1, both.1)
+primary_symbol expression Abs ws = absolute expression ws
+primary_symbol expression Max ws = greater expression ws
+primary_symbol expression Min ws = lesser expression ws
 primary_symbol expression Open ws = expression ws >>= λ inner. closed Close inner.0 inner.1
 primary_symbol expression OpenBrace ws = in_braces expression ws
 primary_symbol expression s ws = None
@@ -199,6 +216,14 @@ unary expression (w ∷ ws) =
     else (if is_symbol Not w then (unary expression ws >>= λ operand. Some (tree.Not operand.0, operand.1))
     else postfix expression (w ∷ ws))
 
+-- a literal with its sign
+abbrev pub signed_literal : ℕ → Reader
+signed_literal n ws = negative n >>= λ t. Some (t, ws)
+
+-- what stands behind a minus that isn't between operands
+abbrev pub minus : Reader → Reader
+minus expression ws = given (bare_digits ws) (unary expression ws >>= λ operand. Some (Negate operand.0, operand.1)) (λ d. signed_literal d.0 d.1)
+
 -- the levels of operators
 abbrev pub term : Reader → Reader
 term expression = at_level level.Term (unary expression)
@@ -232,7 +257,10 @@ abbrev pub chosen : Reader → Tree → Reader
 chosen expression test ws = given (after Question ws) (Some (test, ws))
     (λ rest. expression rest >>= λ yes. after Colon yes.1 >>= λ more. expression more >>= λ no. Some (Cond test yes.0 no.0, no.1))
 
+abbrev pub choice : Reader → Reader
+choice expression ws = disjunction expression ws >>= λ test. chosen expression test.0 test.1
+
 -- an expression with at most so many expressions in one another within it
 unfoldable pub expression : ℕ → Reader
 expression zero ws = None
-expression (suc depth) ws = disjunction (expression depth) ws >>= λ test. chosen (expression depth) test.0 test.1
+expression (suc depth) ws = choice (expression depth) ws

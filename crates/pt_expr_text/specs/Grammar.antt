@@ -1,5 +1,5 @@
 -- The grammar: which words read as which tree, level by level.
-use Rattle.std.specs.Prelude.{◌≡◌, ℕ, neg_ℤ, ◌<◌, ◌≤◌, ◌^◌, pos, List, [], ◌∷◌, ◌++◌, map, Some, IsTrue, ◌==◌, codes, Contains}
+use Rattle.std.specs.Prelude.{◌≡◌, ℕ, neg_ℤ, ◌<◌, ◌≤◌, ◌^◌, pos, List, [], ◌∷◌, ◌++◌, map, Some, IsTrue, ◌==◌, codes, ◌⊎◌}
 use Rattle.std.specs.Prelude.{true, false}
 use Rattle.pt_expr.specs.declared.expr.BinaryOp.{BinaryOp}
 use Rattle.pt_expr.specs.Tree.{Tree, Int, Bool, Words, Array, Record, Negate, Binary, Cond, Apply, Field, Length, Trees, no_trees, tree_then, NamedTrees, no_fields, field_then, fields_of}
@@ -44,10 +44,15 @@ IsNegated (Quoted text ∷ ws) = Unit {0}
 IsNegated (word.Name name ∷ ws) = Unit {0}
 IsNegated (word.Symbol s ∷ ws) = Unit {0}
 
+-- a name is one of some
+abbrev pub IsAmong : List (List ℕ) → List ℕ → Type 0
+IsAmong [] n = ⊥
+IsAmong (m ∷ ms) n = (m ≡ n) ⊎ IsAmong ms n
+
 -- no name stands twice
 abbrev pub AllDiffer : List (List ℕ) → Type 0
 AllDiffer [] = Unit {0}
-AllDiffer (n ∷ ns) = (¬ (Contains ns n)) × AllDiffer ns
+AllDiffer (n ∷ ns) = (¬ (IsAmong ns n)) × AllDiffer ns
 
 mutual
   -- words that read as a tree

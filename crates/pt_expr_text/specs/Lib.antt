@@ -4,3 +4,5 @@ pub mod Level
 pub mod Grammar
 pub mod Fault
 pub mod Descent
+pub mod Deep
+pub mod Text

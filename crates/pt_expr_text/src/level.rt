@@ -1,5 +1,5 @@
 ghost use Rattle.std.specs.Prelude.{◌≡◌};
-ghost use Rattle.pt_expr_text.specs.Level.{operator_at, binding_of, binding_at, rank, operator_of};
+ghost use Rattle.pt_expr_text.specs.Level.{operator_at, binding_of, binding, binding_at, rank, operator_of};
 
 use crate::word::{Symbol, Word};
 use pt_expr::BinaryOp;
@@ -72,6 +72,16 @@ fn binding_of(symbol: Symbol) -> u8
         | Symbol::Colon
         | Symbol::Assign
         | Symbol::Not => 0,
+    }
+}
+
+/// The same of a word.
+pub(crate) fn binding(word: &Word) -> u8
+    ensures { result ≡ binding word.now }
+{
+    match word {
+        Word::Symbol(symbol) => binding_of(*symbol),
+        _ => 0,
     }
 }
 

@@ -1,0 +1,22 @@
+use Rattle.std.proofs.Common.{◌≡◌, length, false, sym, subst, rules, arith}
+use Rattle.std.specs.Prelude.{IsTrue}
+use Rattle.std.proofs.lemmas.Bool.Decides.{nat_tests}
+use Rattle.pt_expr.specs.Expr.{tree_of}
+use Rattle.pt_expr_text.specs.Deep.{IsTooFull}
+use Rattle.pt_expr_text.proofs.Whole.{whole_tree, not_deep}
+use Rattle.pt_expr_text.proofs.parser.parse.Goals as goal
+
+pub returns-then-is_empty-clause-tree : goal.returns-then-is_empty-clause-tree
+returns-then-is_empty-clause-tree c =
+    let l : length c.in_ok-words.left.now ≡ 0 = grind (arith, nat_tests) in
+    let r : length c.in_ok-tree.rest.now ≡ 0 = grind (arith, nat_tests) in
+    whole_tree c.args.text.now c.in_ok-words.words.items c.in_ok-words.left.now c.in_ok-tree.rest.now _ (tree_of c.in_ok-tree.tree)
+    c.in_ok-words.ensures l (rw c.deref-2.ensures.value at c.in_ok-tree.ensures) r
+
+pub returns-then-is_empty-clause-shallow : goal.returns-then-is_empty-clause-shallow
+returns-then-is_empty-clause-shallow c =
+    not_deep c.args.text.now c.in_ok-words.words.items c.in_ok-words.left.now (omega arith) c.in_ok-words.ensures
+    (λ full.
+    let k = c.is_too_full.ensures.1 (subst IsTooFull (sym c.deref.ensures.value) full) in
+    let m : IsTrue false = subst IsTrue c.if-is_too_full.false k in
+    search rules)

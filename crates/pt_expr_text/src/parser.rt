@@ -1,0 +1,38 @@
+ghost use Rattle.std.specs.Prelude.{◌≡◌, IfOk, IsErrOf};
+ghost use Rattle.pt_expr.specs.Expr.{tree_of};
+ghost use Rattle.pt_expr_text.specs.Deep.{IsDeep};
+ghost use Rattle.pt_expr_text.specs.Text.{ReadsAs};
+
+use crate::deep::is_too_full;
+use crate::descent::expression;
+use crate::fault::ParseFault;
+use crate::words::split;
+use pt_expr::Expr;
+use std::alloc::Global;
+
+/// The most bytes that a text may have.
+const MOST_BYTES: usize = 65_536;
+
+/// The tree that a text reads as.
+pub fn parse(alloc: Global, text: &str) -> Result<Expr, ParseFault>
+    ensures tree { IfOk result (λ e. ReadsAs text.now (tree_of e)) }
+    ensures shallow { IfOk result (λ _. ¬ (IsDeep text.now)) }
+    ensures deep { result ≡ Err ParseFault.Deep → IsDeep text.now }
+{
+    if text.len() > MOST_BYTES {
+        return Err(ParseFault::Deep);
+    }
+    let (words, left) = split(alloc, text)?;
+    if is_too_full(&words) {
+        return Err(ParseFault::Deep);
+    }
+    if !left.is_empty() {
+        return Err(ParseFault::Syntax);
+    }
+    let (tree, rest) = expression(alloc, words.len() + 1, &words)?;
+    if rest.is_empty() {
+        Ok(tree)
+    } else {
+        Err(ParseFault::Syntax)
+    }
+}
