@@ -19,7 +19,7 @@ Next = Tree → List Word → Option Read
 at_turn : (n i : ℕ) → i < n → n - i ≡ suc (n - (i + 1))
 at_turn n i h = omega arith
 
-step_more : (next : Next) (k : ℕ) (t u : Tree) (ws rest : List Word) (read : Read) → next t ws ≡ Some read → read ≡ Some (u, rest) → repeated next (suc k) t ws ≡ repeated next k u rest
+pub step_more : (next : Next) (k : ℕ) (t u : Tree) (ws rest : List Word) (read : Read) → next t ws ≡ Some read → read ≡ Some (u, rest) → repeated next (suc k) t ws ≡ repeated next k u rest
 step_more next k t u ws rest read e f =
     let x : given (next t ws) (Some (t, ws)) (λ (r : Read). r >>= λ x. repeated next k x.0 x.1) ≡ given (Some read) (Some (t, ws)) (λ (r : Read). r >>= λ x. repeated next k x.0 x.1) = ap (λ (o : Option Read). given o (Some (t, ws)) (λ (r : Read). r >>= λ x. repeated next k x.0 x.1)) e in
     x ∙ ap (λ (r : Read). r >>= λ x. repeated next k x.0 x.1) f

@@ -18,6 +18,7 @@ pub fn parse(alloc: Global, text: &str) -> Result<Expr, ParseFault>
     ensures tree { IfOk result (λ e. ReadsAs text.now (tree_of e)) }
     ensures shallow { IfOk result (λ _. ¬ (IsDeep text.now)) }
     ensures deep { result ≡ Err ParseFault.Deep → IsDeep text.now }
+    ensures syntax { result ≡ Err ParseFault.Syntax → ¬ (IsDeep text.now) }
 {
     if text.len() > MOST_BYTES {
         return Err(ParseFault::Deep);

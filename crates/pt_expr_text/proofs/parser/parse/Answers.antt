@@ -20,3 +20,27 @@ returns-then-is_empty-clause-shallow c =
     let k = c.is_too_full.ensures.1 (subst IsTooFull (sym c.deref.ensures.value) full) in
     let m : IsTrue false = subst IsTrue c.if-is_too_full.false k in
     search rules)
+
+pub returns-then-not-is_empty-clause-syntax : goal.returns-then-not-is_empty-clause-syntax
+returns-then-not-is_empty-clause-syntax c =
+    λ _. not_deep c.args.text.now c.in_ok-words.words.items c.in_ok-words.left.now (omega arith) c.in_ok-words.ensures
+    (λ full.
+    let k = c.is_too_full.ensures.1 (subst IsTooFull (sym c.deref.ensures.value) full) in
+    let m : IsTrue false = subst IsTrue c.if-is_too_full.false k in
+    search rules)
+
+pub returns-in_err-tree-clause-syntax : goal.returns-in_err-tree-clause-syntax
+returns-in_err-tree-clause-syntax c =
+    λ _. not_deep c.args.text.now c.in_ok-words.words.items c.in_ok-words.left.now (omega arith) c.in_ok-words.ensures
+    (λ full.
+    let k = c.is_too_full.ensures.1 (subst IsTooFull (sym c.deref.ensures.value) full) in
+    let m : IsTrue false = subst IsTrue c.if-is_too_full.false k in
+    search rules)
+
+pub returns-clause-syntax : goal.returns-clause-syntax
+returns-clause-syntax c =
+    λ _. not_deep c.args.text.now c.in_ok-words.words.items c.in_ok-words.left.now (omega arith) c.in_ok-words.ensures
+    (λ full.
+    let k = c.is_too_full.ensures.1 (subst IsTooFull (sym c.deref.ensures.value) full) in
+    let m : IsTrue false = subst IsTrue c.if-is_too_full.false k in
+    search rules)
