@@ -6,5 +6,6 @@ pub mod Turns
 pub mod Steps
 pub mod Sound
 pub mod Same
+pub mod Complete
 pub mod Whole
 pub mod Counting

@@ -7,6 +7,8 @@ mod fault;
 mod level;
 mod node;
 mod parser;
+#[cfg(test)]
+mod tests;
 mod word;
 mod words;
 

@@ -1,5 +1,6 @@
 ghost use Rattle.std.specs.Prelude.{◌≡◌, IfOk, IsErrOf};
 ghost use Rattle.pt_expr.specs.Expr.{tree_of};
+ghost use Rattle.pt_expr.specs.Tree.{Tree};
 ghost use Rattle.pt_expr_text.specs.Deep.{IsDeep};
 ghost use Rattle.pt_expr_text.specs.Text.{ReadsAs};
 
@@ -19,6 +20,8 @@ pub fn parse(alloc: Global, text: &str) -> Result<Expr, ParseFault>
     ensures shallow { IfOk result (λ _. ¬ (IsDeep text.now)) }
     ensures deep { result ≡ Err ParseFault.Deep → IsDeep text.now }
     ensures syntax { result ≡ Err ParseFault.Syntax → ¬ (IsDeep text.now) }
+    ensures refuses { result ≡ Err ParseFault.Syntax → (t : Tree) → ¬ (ReadsAs text.now t) }
+    ensures only { IfOk result (λ e. (t : Tree) → ReadsAs text.now t → t ≡ tree_of e) }
 {
     if text.len() > MOST_BYTES {
         return Err(ParseFault::Deep);
