@@ -5,7 +5,7 @@ use Rattle.pt_value.specs.Value as val
 use Rattle.pt_value.specs.Token.{value_of, same_token}
 use Rattle.pt_expr.specs.Outcome.{Outcome, Gives, Wrong}
 use Rattle.pt_expr.specs.Same.{is_same, is_same-decides}
-use Rattle.pt_expr.specs.Types.{have_join}
+use Rattle.pt_expr.specs.Comparable.{have_join}
 use Rattle.pt_expr.specs.Meaning.{compared}
 
 equal_tests : (p q : Bool) → (IsTrue p → IsTrue q) → (IsTrue q → IsTrue p) → p ≡ q

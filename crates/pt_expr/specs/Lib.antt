@@ -5,6 +5,6 @@ pub mod Outcome
 pub mod Same
 pub mod Scope
 pub mod Env
-pub mod Types
+pub mod Comparable
 pub mod RecordOf
 pub mod Meaning

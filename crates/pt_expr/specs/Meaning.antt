@@ -9,7 +9,7 @@ use Rattle.pt_expr.specs.declared.fault.EvalFault.TheVariants.{DivideByZero, Ove
 use Rattle.pt_expr.specs.Outcome.{Outcome, Gives, Stops, Wrong, and_then}
 use Rattle.pt_expr.specs.Same.{is_same}
 use Rattle.pt_expr.specs.Scope.{Scope, named}
-use Rattle.pt_expr.specs.Types.{have_join}
+use Rattle.pt_expr.specs.Comparable.{have_join}
 use Rattle.pt_expr.specs.RecordOf.{record_of}
 use Rattle.pt_expr.specs.Tree as tree
 use Rattle.pt_expr.specs.Tree.{Tree, Trees, no_trees, tree_then, NamedTrees, no_fields, field_then}

@@ -1,9 +1,10 @@
 -- Where one net of a job has a model, each net of the job has one with the same actors and feeds.
-use Rattle.std.proofs.Common.{◌≡◌, ◌⊎◌, inl, inr, ◌≤◌, ◌<◌, ◌+◌, ℕ, zero, suc, List, [], ◌∷◌, ◌++◌, Bool, true, false, cond, Some, length, map, filter, get_or, refl, sym, ap, ap₂, subst, ◌∙◌, arith, codes}
+use Rattle.std.proofs.Common.{◌≡◌, ◌⊎◌, inl, inr, ◌≤◌, ◌<◌, ◌+◌, ℕ, zero, suc, List, [], ◌∷◌, ◌++◌, Bool, true, false, cond, Some, None, length, map, filter, get_or, refl, sym, ap, ap₂, subst, ◌∙◌, arith, codes}
 use Rattle.std.proofs.lemmas.List.Elements.{All-contains, Contains-append_cases, Contains-get_or}
 use Rattle.std.proofs.lemmas.List.Sums.{sum_by-cons}
 use Rattle.std.specs.List.{All, Contains}
-use Rattle.pt_moml.specs.Document.{Parts, EntityTree, EntityTrees, entity, no_entities, one_entity, entity_name, parts, JobTree}
+use Rattle.pt_moml.specs.Document.{Parts, PortTree, EntityTree, EntityTrees, entity, no_entities, one_entity, entity_name, parts, JobTree}
+use Rattle.pt_moml.specs.declared.job.Port.{Port}
 use Rattle.pt_moml.specs.Names.{top_path, below}
 use Rattle.pt_moml.specs.Classes.{ClassPort, Composite, kind_of}
 use Rattle.pt_moml.specs.View as view
@@ -19,7 +20,7 @@ use Rattle.pt_graph.proofs.Members.{contains_here, contains_later, contains_case
 use Rattle.pt_graph.proofs.Counts.{owned}
 use Rattle.pt_graph.specs.Wiring.{IsOwned}
 use Rattle.pt_flat.specs.declared.actor.Actor.{Actor}
-use Rattle.pt_top.specs.Model.{FlatModel, IsModel, IsPlain, IsDirected, IsInner, IsActor, AreActors, feeds_from, recorded_actor}
+use Rattle.pt_top.specs.Model.{FlatModel, IsModel, IsBare, IsPlain, IsDirected, IsInner, IsActor, AreActors, feeds_from, recorded_actor}
 use Rattle.pt_top.specs.Outcome.{IsWellLinked}
 use Rattle.pt_top.proofs.OneMeaning.{map-long, one-channels}
 
@@ -203,13 +204,30 @@ actors-as ks i (x ∷ es) (f ∷ fs) (a ∷ xs) e h =
     let rest : map entity_view es ≡ map entity_view fs = cc in
     (subst (λ (v : NetEntityTree). IsActor ks i v a) first h.0, actors-as ks (suc i) es fs xs rest h.1)
 
-all-plain : (ts us : List Transparent) → map transparent_view ts ≡ map transparent_view us → All (λ t. t.parameters.items ≡ []) ts → All (λ t. t.parameters.items ≡ []) us
+-- ports of one view declare a type or don't alike
+undeclared-as : (ps qs : List Port) → map view.port_view ps ≡ map view.port_view qs → All (λ p. p.declared ≡ None) ps → All (λ p. p.declared ≡ None) qs
+undeclared-as ps [] e h k d l = absurd (omega arith)
+undeclared-as [] (q ∷ qs) e h k d l = absurd (cc)
+undeclared-as (p ∷ ps) (q ∷ qs) e h zero d l =
+    let both : view.port_view p ∷ map view.port_view ps ≡ view.port_view q ∷ map view.port_view qs = e in
+    let first : view.port_view p ≡ view.port_view q = cc in
+    sym (ap (λ (v : PortTree). v.declared) first) ∙ h 0 p (omega arith)
+undeclared-as (p ∷ ps) (q ∷ qs) e h (suc k) d l =
+    let both : view.port_view p ∷ map view.port_view ps ≡ view.port_view q ∷ map view.port_view qs = e in
+    let rest : map view.port_view ps ≡ map view.port_view qs = cc in
+    undeclared-as ps qs rest (λ j x m. h (suc j) x (omega arith)) k d (omega arith)
+
+bare-as : (t u : Transparent) → transparent_view t ≡ transparent_view u → IsBare t → IsBare u
+bare-as t u e h =
+    (none-mapped view.property_view t.parameters.items u.parameters.items (ap (λ (v : TransparentTree). v.parameters) e) h.0, undeclared-as t.ports.items u.ports.items (ap (λ (v : TransparentTree). v.ports) e) h.1)
+
+all-plain : (ts us : List Transparent) → map transparent_view ts ≡ map transparent_view us → All IsBare ts → All IsBare us
 all-plain ts [] e h k d l = absurd (omega arith)
 all-plain [] (u ∷ us) e h k d l = absurd (cc)
 all-plain (t ∷ ts) (u ∷ us) e h zero d l =
     let both : transparent_view t ∷ map transparent_view ts ≡ transparent_view u ∷ map transparent_view us = e in
     let first : transparent_view t ≡ transparent_view u = cc in
-    none-mapped view.property_view t.parameters.items u.parameters.items (ap (λ (v : TransparentTree). v.parameters) first) (h 0 t (omega arith))
+    bare-as t u first (h 0 t (omega arith))
 all-plain (t ∷ ts) (u ∷ us) e h (suc k) d l =
     let both : transparent_view t ∷ map transparent_view ts ≡ transparent_view u ∷ map transparent_view us = e in
     let rest : map transparent_view ts ≡ map transparent_view us = cc in

@@ -1,12 +1,17 @@
 -- Parameters that are integers.
-use Rattle.std.specs.Prelude.{◌≡◌, ◌≢◌, ℕ, List, Bool, Option, Some, None, ℤ, bytes_eq, slice_index, FitsSigned}
+use Rattle.std.specs.Prelude.{◌≡◌, ◌≢◌, ℕ, ◌≤◌, List, length, Bool, Option, Some, None, ℤ, bytes_eq, slice_index, FitsSigned}
 use Rattle.std.specs.List.{find}
 use Rattle.std.specs.Str.Parse.{IsNumeral, without_leading_sign, signed_digits_value}
 use mir.Syntax.{w64}
 use Rattle.pt_moml.specs.Document.{PropertyTree, property_name, property_value}
 
+-- how many bytes the text of a parameter may have
+abbrev pub most_bytes : ℕ
+most_bytes = 65536
+
 -- a text of an optional minus and decimal digits, which write this number of 64 bits
 pub record IsInteger (text : List ℕ) (n : ℤ) : Type 0 where
+  pub short : length text ≤ most_bytes
   pub no_plus : slice_index text 0 ≢ 43
   pub digits : IsNumeral 10 (without_leading_sign text)
   pub fits : FitsSigned w64 n

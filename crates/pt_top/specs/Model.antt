@@ -5,6 +5,7 @@ use Rattle.pt_moml.specs.Document.{PropertyTree}
 use Rattle.pt_graph.specs.declared.net.Channel.{Channel}
 use Rattle.pt_graph.specs.declared.net.NetPort.{NetPort}
 use Rattle.pt_graph.specs.declared.net.NetEntity.{NetEntity}
+use Rattle.pt_graph.specs.declared.net.Transparent.{Transparent}
 use Rattle.pt_graph.specs.declared.net.Net.{Net}
 use Rattle.pt_graph.specs.Net.{DirectorTree, NetEntityTree, entity_view}
 use Rattle.pt_flat.specs.declared.actor.Actor.{Actor}
@@ -111,13 +112,17 @@ pub record FlatModel : Type 0 where
 abbrev pub recorded_actor : NetPort → ℕ
 recorded_actor p = p.entity - 1
 
+-- a transparent composite that only joins: it has no parameters, and none of its ports declares a type
+abbrev pub IsBare : Transparent → Type 0
+IsBare t = (t.parameters.items ≡ []) × All (λ p. p.declared ≡ None) t.ports.items
+
 -- A top around no ports and no parameters but its director's: all that runs stands in its children.
 pub record IsPlain (net : Net) (top : NetEntity) : Type 0 where
   pub composite : top.class ≡ codes "Composite"
   pub ports : top.ports.items ≡ []
   pub inputs : net.inputs.items ≡ []
   pub parameters : top.parameters.items ≡ []
-  pub transparent : All (λ t. t.parameters.items ≡ []) net.transparent.items
+  pub transparent : All IsBare net.transparent.items
 
 pub record IsModel (net : Net) (m : FlatModel) : Type 0 where
   pub top : NetEntity

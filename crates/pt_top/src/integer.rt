@@ -5,12 +5,15 @@ ghost use Rattle.pt_top.specs.Integer.{IsInteger, IsNoInteger, HasInteger, HasNo
 
 use pt_moml::Property;
 
-/// The number that an optional minus and decimal digits write, if it fits 64 bits.
+/// How many bytes the text of a parameter may have.
+const MOST_BYTES: usize = 65_536;
+
+/// The number that an optional minus and decimal digits write, if it fits 64 bits and the text isn't too long.
 pub fn integer(text: &str) -> Option<i64>
     ensures some { IfSome result (λ n. IsInteger text.now n) }
     ensures none { IfNone result (IsNoInteger text.now) }
 {
-    if text.as_bytes().first() == Some(&b'+') {
+    if text.len() > MOST_BYTES || text.as_bytes().first() == Some(&b'+') {
         return None;
     }
     match text.parse::<i64>() {

@@ -5,11 +5,11 @@ ghost use Rattle.pt_graph.specs.declared.net.Channel.{Channel};
 ghost use Rattle.pt_graph.specs.Net.{director_view, entity_view};
 ghost use Rattle.pt_flat.specs.declared.actor.Actor.{Actor};
 ghost use Rattle.pt_flat.specs.Model.{AreMatched, IsLawful};
-ghost use Rattle.pt_top.specs.Model.{IsDirected, IsActorOf, IsInner, AreInputs, AreActors, IsFlat, IsNotFlat, IsPlain, IsModel, IsUnbuilt, flat_model, recorded_actor, feeds_from, counted, built_class};
+ghost use Rattle.pt_top.specs.Model.{IsDirected, IsActorOf, IsInner, AreInputs, AreActors, IsFlat, IsNotFlat, IsBare, IsPlain, IsModel, IsUnbuilt, flat_model, recorded_actor, feeds_from, counted, built_class};
 
 use crate::integer::integer_parameter;
 use pt_flat::{Actor, AddSubtract, Feeds, Flat, FlatFault, Ramp, Scale, are_matched};
-use pt_graph::{Channel, Net, NetDirector, NetEntity, NetPort};
+use pt_graph::{Channel, Net, NetDirector, NetEntity, NetPort, Transparent};
 use pt_moml::Property;
 use std::alloc::{AllocError, Global};
 use thiserror::Error;
@@ -293,6 +293,13 @@ const MOST_ACTORS: usize = 50;
 
 const MOST_CHANNELS: usize = 100_000;
 
+/// Whether a transparent composite has no parameters and declares no types.
+fn is_bare(composite: &Transparent) -> bool
+    ensures { IsTrue result ↔ IsBare composite.now }
+{
+    composite.parameters.is_empty() && composite.ports.iter().all(|port| port.declared.is_none())
+}
+
 /// Whether the top and the transparent composites have nothing but children, links and a director.
 fn is_plain(net: &Net, top: &NetEntity) -> bool
     ensures { IsTrue result ↔ IsPlain net.now top.now }
@@ -301,10 +308,7 @@ fn is_plain(net: &Net, top: &NetEntity) -> bool
         && top.ports.is_empty()
         && net.inputs.is_empty()
         && top.parameters.is_empty()
-        && net
-            .transparent
-            .iter()
-            .all(|composite| composite.parameters.is_empty())
+        && net.transparent.iter().all(|composite| is_bare(composite))
 }
 
 /// The numbers of the actors whose outputs are recorded.

@@ -10,3 +10,4 @@ pub mod Rules
 pub mod Ty
 pub mod TyHeight
 pub mod Printed
+pub mod Token

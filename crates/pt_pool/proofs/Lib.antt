@@ -1,0 +1,10 @@
+pub mod Appended
+pub mod ChainLaws
+pub mod Counts
+pub mod Freed
+pub mod Grown
+pub mod LinkSteps
+pub mod Lists
+pub mod PoolLaws
+pub mod Regions
+pub mod ValueLaws

@@ -1,0 +1,25 @@
+-- The types of tokens.
+use Rattle.pt_value.specs.Value as token
+use Rattle.pt_value.specs.Value.{Value, Values, no_values, value_then, Named}
+use Rattle.pt_types.specs.Datatype.{Datatype, Unknown, Int, Boolean, Words, FieldTypes, no_fields, field_then}
+use Rattle.pt_types.specs.Normal.{array_of, record_of}
+use Rattle.pt_types.specs.Join.{join}
+
+-- an array has the join of the types of its elements, which is unknown where it has none; a record has the types of its fields
+abbrev mutual
+  pub type_of_value : Value → Datatype
+  type_of_value (token.Int n) = Int
+  type_of_value (token.Bool b) = Boolean
+  type_of_value (token.Words xs) = Words
+  type_of_value (token.Array vs) = array_of (join_of vs)
+  type_of_value (token.Record fs) = record_of (field_types fs)
+
+  -- the join of the types of some values
+  pub join_of : Values → Datatype
+  join_of no_values = Unknown
+  join_of (value_then v vs) = join (type_of_value v) (join_of vs)
+
+  -- the names and types of the fields of a record
+  pub field_types : Named → FieldTypes
+  field_types token.no_fields = no_fields
+  field_types (token.field_then n v fs) = field_then n (type_of_value v) (field_types fs)
