@@ -38,7 +38,7 @@ fn a_text_has_so_many_words(rt: HostRuntime) -> Result<(), Fail> {
         ("12ab", 2, ""),
         ("a.length()", 5, ""),
         ("a===b", 4, ""),
-        ("a<=b< =c", 7, ""),
+        ("a<=b< =c", 6, ""),
         ("\"a\\\"b\"", 1, ""),
         ("\"\\x\"", 0, "\"\\x\""),
         ("a&b", 1, "&b"),
