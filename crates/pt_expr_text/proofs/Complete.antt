@@ -155,11 +155,10 @@ by_operand level.Sum ws t h depth k rest s = (h depth k rest).0 (omega (arith, s
 by_operand level.Term ws t h depth k rest s = h depth k rest (omega (arith, s))
 
 operand_read : (l : Level) (ws : List Word) (t : Tree) → Complete (operand_of l) ws t → Complete (g.operators l) ws t
-operand_read l ws t h depth k rest =
-    (
-      λ s. one_at l (operand_at l (reading depth)) (ws ++ rest) t rest s (by_operand l ws t h depth k rest (omega (arith, s))),
-      λ m s. start (next_operand l (operand_at l (reading depth))) (operand_at l (reading depth)) (ws ++ rest) t rest (by_operand l ws t h depth k rest s),
-    )
+operand_read l ws t h depth k rest = (
+  λ s. one_at l (operand_at l (reading depth)) (ws ++ rest) t rest s (by_operand l ws t h depth k rest (omega (arith, s))),
+  λ m s. start (next_operand l (operand_at l (reading depth))) (operand_at l (reading depth)) (ws ++ rest) t rest (by_operand l ws t h depth k rest s),
+)
 
 grouped_turns : (l : Level) (a b : List Word) (w : Word) (s t : Tree) (o : BinaryOp) → MayRepeat l → Complete (g.operators l) a s → operator_at l w ≡ Some o → Complete (operand_of l) b t
     → (depth : ℕ) → length (a ++ w ∷ b) ≤ depth → (rest : List Word) → binding_at rest ≤ rank l → Turned (next_operand l (operand_at l (reading depth))) (operand_at l (reading depth)) ((a ++ w ∷ b) ++ rest) (Binary o s t) rest
@@ -380,7 +379,7 @@ part_then_read a b t ts h i depth k (suc turns) l rest =
     let la = length-append a (word.Symbol Comma ∷ b) in
     ap (listed (reading depth) (suc turns)) all
     ∙ then_listed (reading depth) turns (a ++ word.Symbol Comma ∷ (b ++ word.Symbol CloseBrace ∷ rest)) t (b ++ word.Symbol CloseBrace ∷ rest) (list_of ts) rest
-        (inside a t h depth (omega (arith, la)) (word.Symbol Comma ∷ (b ++ word.Symbol CloseBrace ∷ rest)) (omega arith)) (i depth (omega (arith, la)) turns (omega (arith, la)) rest)
+    (inside a t h depth (omega (arith, la)) (word.Symbol Comma ∷ (b ++ word.Symbol CloseBrace ∷ rest)) (omega arith)) (i depth (omega (arith, la)) turns (omega (arith, la)) rest)
 
 named_is : (depth : ℕ) (n : List ℕ) (ws : List Word) (t : Tree) (rest : List Word) → reading depth ws ≡ Some (t, rest) → named (reading depth) (word.Name n ∷ word.Symbol Assign ∷ ws) ≡ Some ((n, t), rest)
 named_is depth n ws t rest e = bind_is (reading depth ws) (λ (value : Tree × List Word). Some ((n, value.0), value.1)) (t, rest) e
@@ -397,8 +396,8 @@ field_and_read a b t n fs h i depth k (suc turns) l rest =
     let la = length-append a (word.Symbol Comma ∷ b) in
     ap (λ v. listed (named (reading depth)) (suc turns) (word.Name n ∷ word.Symbol Assign ∷ v)) all
     ∙ then_listed (named (reading depth)) turns (word.Name n ∷ word.Symbol Assign ∷ (a ++ word.Symbol Comma ∷ (b ++ word.Symbol CloseBrace ∷ rest))) (n, t) (b ++ word.Symbol CloseBrace ∷ rest) (fields_of fs) rest
-        (named_is depth n (a ++ word.Symbol Comma ∷ (b ++ word.Symbol CloseBrace ∷ rest)) t (word.Symbol Comma ∷ (b ++ word.Symbol CloseBrace ∷ rest)) (inside a t h depth (omega (arith, la)) (word.Symbol Comma ∷ (b ++ word.Symbol CloseBrace ∷ rest)) (omega arith)))
-        (i depth (omega (arith, la)) turns (omega (arith, la)) rest)
+    (named_is depth n (a ++ word.Symbol Comma ∷ (b ++ word.Symbol CloseBrace ∷ rest)) t (word.Symbol Comma ∷ (b ++ word.Symbol CloseBrace ∷ rest)) (inside a t h depth (omega (arith, la)) (word.Symbol Comma ∷ (b ++ word.Symbol CloseBrace ∷ rest)) (omega arith)))
+    (i depth (omega (arith, la)) turns (omega (arith, la)) rest)
 
 -- names that differ aren't repeated
 not_repeated_behind : (seen ns : List (List ℕ)) → AllDiffer ns → ((m : List ℕ) → IsAmong ns m → is_among seen m ≡ false) → repeats_behind seen ns ≡ false

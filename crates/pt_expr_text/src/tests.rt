@@ -56,12 +56,22 @@ fn operators_group_by_their_levels(rt: HostRuntime) -> Result<(), Fail> {
     for (text, root, left, right) in [
         ("1-2", BinaryOp::Subtract, None, None),
         ("1-2-3", BinaryOp::Subtract, Some(BinaryOp::Subtract), None),
-        ("1-(2-3)", BinaryOp::Subtract, None, Some(BinaryOp::Subtract)),
+        (
+            "1-(2-3)",
+            BinaryOp::Subtract,
+            None,
+            Some(BinaryOp::Subtract),
+        ),
         ("1+2*3", BinaryOp::Add, None, Some(BinaryOp::Multiply)),
         ("a/b*c", BinaryOp::Multiply, Some(BinaryOp::Divide), None),
         ("a||b&&c", BinaryOp::Or, None, Some(BinaryOp::And)),
         ("a&&b||c", BinaryOp::Or, Some(BinaryOp::And), None),
-        ("a<b==c<d", BinaryOp::Equal, Some(BinaryOp::Less), Some(BinaryOp::Less)),
+        (
+            "a<b==c<d",
+            BinaryOp::Equal,
+            Some(BinaryOp::Less),
+            Some(BinaryOp::Less),
+        ),
         ("a- -b", BinaryOp::Subtract, None, None),
     ] {
         let tree = parse(rt.alloc(), text)?;
