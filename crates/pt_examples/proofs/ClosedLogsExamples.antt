@@ -4,11 +4,11 @@ use Rattle.pt_meaning.specs.Streams.{get}
 use Rattle.pt_meaning.specs.Net.{Source, Own, Output}
 use Rattle.pt_meaning.specs.Meetings.{Meets}
 use Rattle.pt_meaning.specs.Tree.{Node}
-use Rattle.pt_meaning.specs.Heights.{IsFitting}
+use Rattle.pt_laws.specs.Heights.{IsFitting}
 use Rattle.pt_meaning.specs.Start.{IsAtStart}
 use Rattle.pt_meaning.specs.Job.{Schedule}
-use Rattle.pt_meaning.specs.StartedRuns.{ArePlans}
-use Rattle.pt_meaning.proofs.StartLaws.{started-logs-are-closed}
+use Rattle.pt_laws.specs.StartedRuns.{ArePlans}
+use Rattle.pt_laws.proofs.StartLaws.{started-logs-are-closed}
 use Rattle.pt_examples.specs.Small.{Token, Act, rows}
 use Rattle.pt_examples.specs.Dataflow.{doubled}
 use Rattle.pt_examples.specs.Ticks.{counting}

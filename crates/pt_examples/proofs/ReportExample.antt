@@ -11,7 +11,7 @@ use Rattle.pt_meaning.specs.Job.{Course, Standing, Goes, Ended, Halted, Iteratio
 use Rattle.pt_meaning.specs.Closed.{Has, UnderWay, CameWithin, rounds_of, core_at, these_if, taken, HasBegun, IsCausedAt}
 use Rattle.pt_meaning.specs.Net.{Output}
 use Rattle.pt_meaning.specs.Tree.{Core, Sdf}
-use Rattle.pt_meaning.proofs.MeaningLaws.{meaning_grows}
+use Rattle.pt_laws.proofs.MeaningLaws.{meaning_grows}
 use Rattle.pt_examples.specs.Small.{Token, Act, int, rows}
 use Rattle.pt_examples.specs.Dataflow.{doubled}
 use Rattle.pt_examples.specs.Reports.{once, scale_alone, ReportExample, UnclosedExample}

@@ -6,7 +6,7 @@ use Rattle.pt_meaning.specs.Streams.{Streams, at, any_present}
 use Rattle.pt_meaning.specs.Machine.{Partial, Unknown, Known, partial_at}
 use Rattle.pt_meaning.specs.Valuation.{known, known_then}
 use Rattle.pt_meaning.specs.Laws.{PartialBelow, KnownBelow}
-use Rattle.pt_meaning.specs.Promises.{LawfulRows}
+use Rattle.pt_meaning.specs.Lawful.{LawfulRows}
 use Rattle.pt_meaning.specs.Tree.{Gives}
 use Rattle.pt_examples.specs.Small.{Token, Num, Truth, Array, Words, Record, Act, Const, Ramp, Sequence, Expression, Absent, Mux, LastTick, Delay, Server, rows, react, early, whole, begins, next, due_in, pending_next, mux_early, muxed, pends}
 

@@ -3,7 +3,7 @@
 
 pub mod worked;
 
-ghost use Rattle.pt_meaning.specs.Promises.{LawfulRows};
+ghost use Rattle.pt_meaning.specs.Lawful.{LawfulRows};
 ghost use Rattle.pt_examples.specs.Small.{rows};
 ghost use Rattle.pt_examples.specs.Dataflow.{DataflowExamples};
 ghost use Rattle.pt_examples.specs.Networks.{NetworkExamples};

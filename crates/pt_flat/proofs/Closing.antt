@@ -12,7 +12,7 @@ use Rattle.pt_meaning.specs.Tag.{origin}
 use Rattle.pt_meaning.specs.Job.{Schedule}
 use Rattle.pt_meaning.specs.Node as tree
 use Rattle.pt_meaning.specs.Closed.{Has, child_of, if_there, node_at, core_of, core_at, first_channel, Begun, UnderWay, is_between, these_if, taken_from, given_from, given, IsCausedAt, rounds_of, CameWithin, IsClosed, IsNext, IsClosedRun}
-use Rattle.pt_meaning.proofs.Order.{IsPrefix-refl}
+use Rattle.pt_laws.proofs.Order.{IsPrefix-refl}
 use Rattle.pt_flat.specs.declared.actor.Actor.{Actor}
 use Rattle.pt_flat.specs.Actors.{rows}
 use Rattle.pt_flat.specs.Model.{sources_then, sources_of, places_of, plan_of, empty_for, leaves, start_of, flag, all_flags}

@@ -7,7 +7,7 @@ use Rattle.pt_value.specs.declared.token.Token.TheVariants.{Int}
 use Rattle.pt_meaning.specs.Basics as basics
 use Rattle.pt_meaning.specs.Basics.{Event, all_marked, if_same, Tag, Streams, Firing, Path, Log, LogBelow, IsPrefix, silent, own, log_then, log_below, within_firing, trace, meetings_in}
 use Rattle.pt_meaning.specs.Machine.{Fault, Stuck, recorded}
-use Rattle.pt_meaning.specs.LogsOfRuns.{log_at, log_in, TracesAdd}
+use Rattle.pt_laws.specs.LogsOfRuns.{log_at, log_in, TracesAdd}
 use Rattle.pt_meaning.specs.Streams.{get}
 use Rattle.pt_meaning.specs.Closed.{Has, Begun, rounds_of, IsNext, IsClosedRun}
 use Rattle.pt_meaning.specs.Job.{End, Iterations, Fire, Schedule, Course, Standing, Goes, Ended, Halted, on_step, on_turn, goes_on, after, log_of, begin, meaning, IsPrefixOfMeaning, IsStuckPlace}
@@ -16,7 +16,7 @@ use Rattle.pt_meaning.specs.Tag.{origin}
 use Rattle.pt_meaning.specs.Schedule.{sdf_top, if_more}
 use Rattle.pt_meaning.specs.Node as tree
 use Rattle.pt_meaning.specs.Node.{Rows, Node, step_at, Step}
-use Rattle.pt_meaning.proofs.LogLaws.{traces-add}
+use Rattle.pt_laws.proofs.LogLaws.{traces-add}
 use Rattle.pt_flat.specs.declared.actor.Actor.{Actor}
 use Rattle.pt_flat.specs.Actors.{rows, no_actor, Matches}
 use Rattle.pt_flat.specs.Model.{flag, Orders, start_of, leaves, plan_of, empty_for, sources_of}

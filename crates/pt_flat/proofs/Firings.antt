@@ -7,14 +7,14 @@ use Rattle.pt_value.specs.declared.token.Token.TheVariants.{Int}
 use Rattle.pt_meaning.specs.Basics as basics
 use Rattle.pt_meaning.specs.Basics.{Tag, Streams, Firing, Path, Log, silent, own, log_then, trace, meetings_in, with_tag, given_on, Event, if_same}
 use Rattle.pt_meaning.specs.Machine.{Counts, Done, Stuck, Stepping, Facts, Takes, front}
-use Rattle.pt_meaning.specs.LogsOfRuns.{RunningWith, log_at, logs_then}
+use Rattle.pt_laws.specs.LogsOfRuns.{RunningWith, log_at, logs_then}
 use Rattle.pt_meaning.specs.Children.{Child, child_facts, child_step, with_number}
 use Rattle.pt_meaning.specs.Meetings.{Meets, below_child}
 use Rattle.pt_meaning.specs.Tag.{origin}
 use Rattle.pt_meaning.specs.Node as tree
 use Rattle.pt_meaning.specs.Node.{step_at}
-use Rattle.pt_meaning.proofs.RunLaws.{running-step-with}
-use Rattle.pt_meaning.proofs.LogLaws.{traces-add}
+use Rattle.pt_laws.proofs.RunLaws.{running-step-with}
+use Rattle.pt_laws.proofs.LogLaws.{traces-add}
 use Rattle.pt_flat.specs.declared.actor.Actor.{Actor}
 use Rattle.pt_flat.specs.declared.actor.Actor.TheVariants as actors
 use Rattle.pt_flat.specs.Actors as row

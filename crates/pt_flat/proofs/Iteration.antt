@@ -9,7 +9,7 @@ use Rattle.pt_meaning.specs.Machine.{Fault, Outcome, Done, Stuck, Stepping, Fact
 use Rattle.pt_meaning.specs.Rounds.{Source, Limit, rated, rated_outcome}
 use Rattle.pt_meaning.specs.Dataflow.{sdf_limits}
 use Rattle.pt_meaning.specs.Running.{plus, puts}
-use Rattle.pt_meaning.specs.LogsOfRuns.{FiresWith, SticksWith}
+use Rattle.pt_laws.specs.LogsOfRuns.{FiresWith, SticksWith}
 use Rattle.pt_meaning.specs.Children.{Child}
 use Rattle.pt_meaning.specs.Node as tree
 use Rattle.pt_flat.specs.declared.actor.Actor.{Actor}

@@ -4,7 +4,7 @@ use Rattle.std.proofs.lemmas.Bool.Decides.{nat_tests}
 use Rattle.pt_value.specs.declared.token.Token.{Token}
 use Rattle.pt_meaning.specs.Basics as basics
 use Rattle.pt_meaning.specs.Basics.{Event, Firing, Path, Log, silent, own, log_then, log_below, within_firing, all_marked}
-use Rattle.pt_meaning.specs.LogsOfRuns.{log_at}
+use Rattle.pt_laws.specs.LogsOfRuns.{log_at}
 use Rattle.pt_meaning.specs.Tag.{origin}
 use Rattle.pt_flat.specs.Actors.{given}
 use Rattle.pt_flat.specs.Model.{flag}

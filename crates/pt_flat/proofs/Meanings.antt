@@ -9,16 +9,17 @@ use Rattle.pt_meaning.specs.Net.{Net}
 use Rattle.pt_meaning.specs.Rounds.{Limit, round, flows}
 use Rattle.pt_meaning.specs.Kahn.{firing, settled, kahn}
 use Rattle.pt_meaning.specs.Sdf.{SdfPlan, sdf}
-use Rattle.pt_meaning.specs.LogsOfRuns.{log_in}
+use Rattle.pt_laws.specs.LogsOfRuns.{log_in}
 use Rattle.pt_meaning.specs.Children.{numbered, child_facts, child_step}
 use Rattle.pt_meaning.specs.Meetings.{Meets, below_child}
 use Rattle.pt_meaning.specs.Job.{Schedule, Standing, Goes, Ended, Halted, log_of, meaning}
 use Rattle.pt_meaning.specs.Node.{Rows, Core, Sdf, Past, Node, Nodes, Composite, list_of, facts_of, step_at}
-use Rattle.pt_meaning.specs.Promises.{LawfulRows, StandsOn}
+use Rattle.pt_meaning.specs.Lawful.{LawfulRows}
+use Rattle.pt_laws.specs.Promises.{StandsOn}
 use Rattle.pt_meaning.specs.Closed.{Has, rounds_of}
-use Rattle.pt_meaning.proofs.Order.{IsPrefix-refl}
-use Rattle.pt_meaning.proofs.MeaningLaws.{meaning_grows}
-use Rattle.pt_meaning.proofs.CompositeLaws.{log-as-node}
+use Rattle.pt_laws.proofs.Order.{IsPrefix-refl}
+use Rattle.pt_laws.proofs.MeaningLaws.{meaning_grows}
+use Rattle.pt_laws.proofs.CompositeLaws.{log-as-node}
 use Rattle.pt_flat.specs.declared.actor.Actor.{Actor}
 use Rattle.pt_flat.specs.Actors.{rows}
 

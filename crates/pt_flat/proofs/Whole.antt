@@ -8,15 +8,15 @@ use Rattle.pt_meaning.specs.Machine.{Outcome, Done}
 use Rattle.pt_meaning.specs.Rounds.{Source, Own, Output, Limit}
 use Rattle.pt_meaning.specs.Dataflow.{arrived, iterations, all_allow, or_one, sdf_limits}
 use Rattle.pt_meaning.specs.Running.{zeros, Fits, total}
-use Rattle.pt_meaning.specs.LogsOfRuns.{RunningWith, SticksWith, log_at, silents, logs_then}
-use Rattle.pt_meaning.specs.CompositeRuns.{SdfRun, IsStuckBelow, sdf_start, sdf_bounds, times}
+use Rattle.pt_laws.specs.LogsOfRuns.{RunningWith, SticksWith, log_at, silents, logs_then}
+use Rattle.pt_laws.specs.CompositeRuns.{SdfRun, IsStuckBelow, sdf_start, sdf_bounds, times}
 use Rattle.pt_meaning.specs.Children.{Child, numbered, nodes}
 use Rattle.pt_meaning.specs.Meetings.{Meets}
 use Rattle.pt_meaning.specs.Tag.{origin}
 use Rattle.pt_meaning.specs.Node as tree
 use Rattle.pt_meaning.specs.Node.{step_at}
-use Rattle.pt_meaning.proofs.LogLaws.{begins-with}
-use Rattle.pt_meaning.proofs.CompositeLaws.{sdf-ends, sdf-sticks}
+use Rattle.pt_laws.proofs.LogLaws.{begins-with}
+use Rattle.pt_laws.proofs.CompositeLaws.{sdf-ends, sdf-sticks}
 use Rattle.pt_flat.specs.declared.actor.Actor.{Actor}
 use Rattle.pt_flat.specs.Actors as row
 use Rattle.pt_flat.specs.Actors.{rows, no_actor, Matches}

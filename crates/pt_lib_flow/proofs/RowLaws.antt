@@ -1,5 +1,5 @@
 -- The rows of the library are lawful, since each actor is strict.
-use Rattle.pt_meaning.specs.Promises.{LawfulRows}
+use Rattle.pt_meaning.specs.Lawful.{LawfulRows}
 use Rattle.pt_firing.proofs.StrictLaws.{strict-grows, strict-agrees}
 use Rattle.pt_lib_flow.specs.FlowActor.{rows, step}
 

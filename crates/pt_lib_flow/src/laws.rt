@@ -1,4 +1,4 @@
-ghost use Rattle.pt_meaning.specs.Promises.{LawfulRows};
+ghost use Rattle.pt_meaning.specs.Lawful.{LawfulRows};
 ghost use Rattle.pt_lib_flow.specs.FlowActor.{rows};
 
 /// The rows of the library are lawful: what an actor gives early grows with what is known, and is kept by its step.

@@ -34,31 +34,12 @@ pub mod Job
 pub mod Schedule
 pub mod Closed
 pub mod Headline
--- Statements of laws.
+-- The words of laws, and what a library of actors owes.
 pub mod Laws
-pub mod Promises
-pub mod PromisesOfOrder
-pub mod Schemes
-pub mod LogsOfRuns
-pub mod CompositeRuns
-pub mod Heights
-pub mod Uniqueness
-pub mod Outcomes
-pub mod SettledRuns
+pub mod Lawful
 -- Means for engines.
 pub mod Running
 pub mod Places
 pub mod Jam
 pub mod AnyOrder
 pub mod Asked
-pub mod CutLaw
-pub mod TickRuns
-pub mod CompositeTicks
-pub mod MeetingRuns
-pub mod Channels
-pub mod SoundRuns
-pub mod Explained
-pub mod PlacesTold
-pub mod ClosedRuns
-pub mod WholeRuns
-pub mod StartedRuns

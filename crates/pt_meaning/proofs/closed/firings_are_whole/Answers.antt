@@ -1,5 +1,0 @@
-use Rattle.pt_meaning.proofs.WholeSteps.{whole-at}
-use Rattle.pt_meaning.proofs.closed.firings_are_whole.Goals as goal
-
-pub returns : goal.returns
-returns g c = whole-at

@@ -1,5 +1,0 @@
-use Rattle.pt_meaning.proofs.LaterSteps.{later-at}
-use Rattle.pt_meaning.proofs.closed.firings_come_later.Goals as goal
-
-pub returns : goal.returns
-returns g c = later-at

@@ -1,5 +1,0 @@
-use Rattle.pt_meaning.proofs.LaterLaws.{later-goes-on}
-use Rattle.pt_meaning.proofs.closed.later_goes_on.Goals as goal
-
-pub returns : goal.returns
-returns g c = later-goes-on

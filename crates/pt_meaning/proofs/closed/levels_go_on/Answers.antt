@@ -1,5 +1,0 @@
-use Rattle.pt_meaning.proofs.ClosedMeaning.{levels-go-on}
-use Rattle.pt_meaning.proofs.closed.levels_go_on.Goals as goal
-
-pub returns : goal.returns
-returns g c = levels-go-on

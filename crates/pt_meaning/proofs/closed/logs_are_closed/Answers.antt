@@ -1,5 +1,0 @@
-use Rattle.pt_meaning.proofs.WholeMeaning.{logs-are-closed}
-use Rattle.pt_meaning.proofs.closed.logs_are_closed.Goals as goal
-
-pub returns : goal.returns
-returns g c = logs-are-closed

@@ -1,5 +1,0 @@
-use Rattle.pt_meaning.proofs.ClosedMeaning.{meaning-is-closed}
-use Rattle.pt_meaning.proofs.closed.meaning_is_closed.Goals as goal
-
-pub returns : goal.returns
-returns g c = meaning-is-closed

@@ -1,5 +1,0 @@
-use Rattle.pt_meaning.proofs.WholeMeaning.{meaning-is-whole}
-use Rattle.pt_meaning.proofs.closed.meaning_is_whole.Goals as goal
-
-pub returns : goal.returns
-returns g c = meaning-is-whole

@@ -1,5 +1,0 @@
-use Rattle.pt_meaning.proofs.WholeMeaning.{part-is-closed}
-use Rattle.pt_meaning.proofs.closed.part_is_closed.Goals as goal
-
-pub returns : goal.returns
-returns g c = part-is-closed

@@ -1,5 +1,0 @@
-use Rattle.pt_meaning.proofs.CompositeLaws.{pn-is-prefix}
-use Rattle.pt_meaning.proofs.composites.pn_is_prefix.Goals as goal
-
-pub returns : goal.returns
-returns g c = pn-is-prefix

@@ -1,5 +1,0 @@
-use Rattle.pt_meaning.proofs.CompositeLaws.{pn-sticks}
-use Rattle.pt_meaning.proofs.composites.pn_sticks.Goals as goal
-
-pub returns : goal.returns
-returns g c = pn-sticks

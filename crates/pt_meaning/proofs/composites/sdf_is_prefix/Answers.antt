@@ -1,5 +1,0 @@
-use Rattle.pt_meaning.proofs.CompositeLaws.{sdf-is-prefix}
-use Rattle.pt_meaning.proofs.composites.sdf_is_prefix.Goals as goal
-
-pub returns : goal.returns
-returns g c = sdf-is-prefix

@@ -1,5 +1,0 @@
-use Rattle.pt_meaning.proofs.PlaceCounts.{last-puts-are-told}
-use Rattle.pt_meaning.proofs.jams.last_puts_are_told.Goals as goal
-
-pub returns : goal.returns
-returns g c = last-puts-are-told

@@ -1,5 +1,0 @@
-use Rattle.pt_meaning.proofs.LogLaws.{asked-fires}
-use Rattle.pt_meaning.proofs.logs.asked_fires.Goals as goal
-
-pub returns : goal.returns
-returns g c = asked-fires

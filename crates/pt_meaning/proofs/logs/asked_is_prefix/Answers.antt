@@ -1,5 +1,0 @@
-use Rattle.pt_meaning.proofs.LogLaws.{asked-is-prefix}
-use Rattle.pt_meaning.proofs.logs.asked_is_prefix.Goals as goal
-
-pub returns : goal.returns
-returns g c = asked-is-prefix

@@ -1,5 +1,0 @@
-use Rattle.pt_meaning.proofs.RunLaws.{fires-with}
-use Rattle.pt_meaning.proofs.logs.firings_have_records.Goals as goal
-
-pub returns : goal.returns
-returns g c = fires-with

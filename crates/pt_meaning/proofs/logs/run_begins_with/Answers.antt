@@ -1,5 +1,0 @@
-use Rattle.pt_meaning.proofs.LogLaws.{begins-with}
-use Rattle.pt_meaning.proofs.logs.run_begins_with.Goals as goal
-
-pub returns : goal.returns
-returns g c = begins-with

@@ -1,5 +1,0 @@
-use Rattle.pt_meaning.proofs.RunLaws.{running-step-with}
-use Rattle.pt_meaning.proofs.logs.run_goes_on_with.Goals as goal
-
-pub returns : goal.returns
-returns g c = running-step-with

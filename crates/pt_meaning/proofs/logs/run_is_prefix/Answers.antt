@@ -1,5 +1,0 @@
-use Rattle.pt_meaning.proofs.LogLaws.{run-is-prefix}
-use Rattle.pt_meaning.proofs.logs.run_is_prefix.Goals as goal
-
-pub returns : goal.returns
-returns g c = run-is-prefix

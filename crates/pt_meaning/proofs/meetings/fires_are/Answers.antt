@@ -1,5 +1,0 @@
-use Rattle.pt_meaning.proofs.MeetingIndex.{fires-are}
-use Rattle.pt_meaning.proofs.meetings.fires_are.Goals as goal
-
-pub returns : goal.returns
-returns g c = fires-are

@@ -1,5 +1,0 @@
-use Rattle.pt_meaning.proofs.MeetingIndex.{legal-is}
-use Rattle.pt_meaning.proofs.meetings.legal_is.Goals as goal
-
-pub returns : goal.returns
-returns g c = legal-is

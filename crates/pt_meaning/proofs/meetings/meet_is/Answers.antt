@@ -1,5 +1,0 @@
-use Rattle.pt_meaning.proofs.MeetingIndex.{meet-is}
-use Rattle.pt_meaning.proofs.meetings.meet_is.Goals as goal
-
-pub returns : goal.returns
-returns g c = meet-is

@@ -1,5 +1,0 @@
-use Rattle.pt_meaning.proofs.MeetingIndex.{next-is}
-use Rattle.pt_meaning.proofs.meetings.next_is.Goals as goal
-
-pub returns : goal.returns
-returns g c = next-is

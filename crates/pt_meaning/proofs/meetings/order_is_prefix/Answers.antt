@@ -1,5 +1,0 @@
-use Rattle.pt_meaning.proofs.MeetingRunLaws.{order-is-prefix}
-use Rattle.pt_meaning.proofs.meetings.order_is_prefix.Goals as goal
-
-pub returns : goal.returns
-returns g c = order-is-prefix

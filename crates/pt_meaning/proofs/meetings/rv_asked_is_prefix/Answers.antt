@@ -1,5 +1,0 @@
-use Rattle.pt_meaning.proofs.MeetingRunLaws.{rv-asked-is-prefix}
-use Rattle.pt_meaning.proofs.meetings.rv_asked_is_prefix.Goals as goal
-
-pub returns : goal.returns
-returns g c = rv-asked-is-prefix

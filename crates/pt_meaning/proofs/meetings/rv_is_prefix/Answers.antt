@@ -1,5 +1,0 @@
-use Rattle.pt_meaning.proofs.MeetingRunLaws.{rv-is-prefix}
-use Rattle.pt_meaning.proofs.meetings.rv_is_prefix.Goals as goal
-
-pub returns : goal.returns
-returns g c = rv-is-prefix

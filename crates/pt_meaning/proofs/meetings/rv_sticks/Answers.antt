@@ -1,5 +1,0 @@
-use Rattle.pt_meaning.proofs.MeetingRunLaws.{rv-sticks}
-use Rattle.pt_meaning.proofs.meetings.rv_sticks.Goals as goal
-
-pub returns : goal.returns
-returns g c = rv-sticks

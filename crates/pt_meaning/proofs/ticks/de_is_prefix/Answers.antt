@@ -1,5 +1,0 @@
-use Rattle.pt_meaning.proofs.TickNodeLaws.{de-is-prefix}
-use Rattle.pt_meaning.proofs.ticks.de_is_prefix.Goals as goal
-
-pub returns : goal.returns
-returns g c = de-is-prefix

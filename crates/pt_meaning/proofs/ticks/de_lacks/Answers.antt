@@ -1,5 +1,0 @@
-use Rattle.pt_meaning.proofs.TickNodeLaws.{de-lacks}
-use Rattle.pt_meaning.proofs.ticks.de_lacks.Goals as goal
-
-pub returns : goal.returns
-returns g c = de-lacks

@@ -1,5 +1,0 @@
-use Rattle.pt_meaning.proofs.TickNodeLaws.{rows-are}
-use Rattle.pt_meaning.proofs.ticks.rows_are.Goals as goal
-
-pub returns : goal.returns
-returns g c = rows-are

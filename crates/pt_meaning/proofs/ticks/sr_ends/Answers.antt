@@ -1,5 +1,0 @@
-use Rattle.pt_meaning.proofs.TickNodeLaws.{sr-ends}
-use Rattle.pt_meaning.proofs.ticks.sr_ends.Goals as goal
-
-pub returns : goal.returns
-returns g c = sr-ends

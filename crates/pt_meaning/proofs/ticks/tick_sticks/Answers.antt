@@ -1,5 +1,0 @@
-use Rattle.pt_meaning.proofs.TickRunLaws.{tick-sticks}
-use Rattle.pt_meaning.proofs.ticks.tick_sticks.Goals as goal
-
-pub returns : goal.returns
-returns g c = tick-sticks

@@ -1,5 +1,0 @@
-use Rattle.pt_meaning.proofs.UniqueLaws.{least-is-one}
-use Rattle.pt_meaning.proofs.uniqueness.least_is_one.Goals as goal
-
-pub returns : goal.returns
-returns g c = least-is-one

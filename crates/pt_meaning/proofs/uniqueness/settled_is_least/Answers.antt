@@ -1,5 +1,0 @@
-use Rattle.pt_meaning.proofs.UniqueLaws.{settled-is-least}
-use Rattle.pt_meaning.proofs.uniqueness.settled_is_least.Goals as goal
-
-pub returns : goal.returns
-returns g c = settled-is-least

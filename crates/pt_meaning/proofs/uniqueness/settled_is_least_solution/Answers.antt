@@ -1,5 +1,0 @@
-use Rattle.pt_meaning.proofs.UniqueLaws.{settled-is-least-solution}
-use Rattle.pt_meaning.proofs.uniqueness.settled_is_least_solution.Goals as goal
-
-pub returns : goal.returns
-returns g c = settled-is-least-solution
