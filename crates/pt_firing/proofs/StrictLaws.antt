@@ -3,7 +3,7 @@ use Rattle.std.proofs.Common.{◌≡◌, ℕ, zero, suc, List, [], ◌∷◌, ma
 use Rattle.pt_meaning.specs.Basics.{Tag, Streams, at}
 use Rattle.pt_meaning.specs.Machine.{Partial, Unknown, Known, partial_at}
 use Rattle.pt_meaning.specs.Valuation.{known, known_then}
-use Rattle.pt_meaning.specs.Node.{Answer, Gives, Fails}
+use Rattle.pt_meaning.specs.Node.{Answer, Gives}
 use Rattle.pt_meaning.specs.Laws.{PartialBelow, KnownBelow}
 use Rattle.pt_firing.specs.Strict.{strict, once_known, told_by}
 

@@ -6,3 +6,5 @@ pub mod PartialCode
 pub mod TriState
 pub mod Step
 pub mod Strict
+pub mod Row
+pub mod Params

@@ -1,5 +1,6 @@
-ghost use Rattle.std.specs.Prelude.{◌≡◌, ◌<◌, length};
+ghost use Rattle.std.specs.Prelude.{◌≡◌, ◌<◌, length, option_map};
 ghost use Rattle.pt_meaning.specs.Basics.{at};
+ghost use Rattle.pt_firing.specs.Row.{token_at, number_at, truth_at};
 
 use crate::tokens::Tokens;
 use pt_value::Token;
@@ -45,6 +46,37 @@ impl<'a> Inputs<'a> {
         match self.lists.get(place) {
             Some(list) => list.as_slice(),
             None => &[],
+        }
+    }
+
+    /// The first token of a place, if there is one.
+    pub fn token_at(&self, place: usize) -> Option<&Token>
+        ensures { option_map (λ token. token.now) result ≡ token_at self.now place }
+    {
+        if place < self.places() {
+            self.list(place).first()
+        } else {
+            None
+        }
+    }
+
+    /// The first token of a place, where it is a number.
+    pub fn number_at(&self, place: usize) -> Option<i64>
+        ensures { result ≡ number_at self.now place }
+    {
+        match self.token_at(place) {
+            Some(Token::Int(n)) => Some(*n),
+            _ => None,
+        }
+    }
+
+    /// The first token of a place, where it is a truth value.
+    pub fn truth_at(&self, place: usize) -> Option<bool>
+        ensures { result ≡ truth_at self.now place }
+    {
+        match self.token_at(place) {
+            Some(Token::Bool(b)) => Some(*b),
+            _ => None,
         }
     }
 }

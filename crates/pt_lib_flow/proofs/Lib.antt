@@ -3,4 +3,3 @@ pub mod Places
 pub mod Extremes
 pub mod Quotients
 pub mod Sequences
-pub mod Named

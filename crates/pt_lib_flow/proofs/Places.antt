@@ -8,11 +8,6 @@ use Rattle.pt_value.specs.declared.token.Token.{Token}
 use Rattle.pt_firing.proofs.Known.{take-more}
 use Rattle.pt_lib_flow.specs.Row.{number_in, number_at, with_number, present, total, sum_of}
 
-pub at-past : (X : Streams Token) (n : ℕ) → length X ≤ n → at X n ≡ []
-at-past [] n past = refl
-at-past (xs ∷ X) zero past = absurd (omega arith)
-at-past (xs ∷ X) (suc n) past = at-past X n (omega arith)
-
 with-append : (o : Option ℤ) (ns ms : List ℤ) → with_number o (ns ++ ms) ≡ with_number o ns ++ ms
 with-append None ns ms = refl
 with-append (Some n) ns ms = refl

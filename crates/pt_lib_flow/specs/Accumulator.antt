@@ -1,20 +1,20 @@
 -- Accumulator: the sum of all inputs since the start or the last true reset, given where an input is present. The input stands before the reset.
-use Rattle.std.specs.Prelude.{ℤ, ◌+ℤ◌, Option, Some, None, if◌then◌else◌, ℕ, ◌+◌, codes, pos}
-use Rattle.pt_meaning.specs.Basics.{Tag, Streams, at}
+use Rattle.std.specs.Prelude.{false, unwrap_or, ℤ, ◌+ℤ◌, Option, Some, None, if◌then◌else◌, ℕ, ◌+◌, codes, pos}
+use Rattle.pt_meaning.specs.Basics.{Tag, Streams}
 use Rattle.pt_meaning.specs.Machine.{Need}
 use Rattle.pt_meaning.specs.Node.{Answer}
 use Rattle.pt_value.specs.declared.token.Token.{Token}
 use Rattle.pt_lib_flow.specs.declared.accumulator.Accumulator.{Accumulator}
 use Rattle.pt_lib_flow.specs.declared.params.Params.{Params}
-use Rattle.pt_lib_flow.specs.Params.{int_or, channels_to}
-use Rattle.pt_lib_flow.specs.Row.{one_each, rests, exactly, number_at, is_true}
+use Rattle.pt_firing.specs.Params.{int_or, channels_to}
+use Rattle.pt_lib_flow.specs.Row.{one_each, rests, exactly, number_at, truth_at}
 
 abbrev pub need : Accumulator → Need
 need actor = one_each actor.places
 
 -- the sum before the input is added: a true reset brings it back to its start
 abbrev pub before : Accumulator → Streams Token → ℤ
-before actor X = if is_true (at X 1) then actor.init else actor.sum
+before actor X = if unwrap_or (truth_at X 1) false then actor.init else actor.sum
 
 -- with another sum
 abbrev pub at_sum : Accumulator → ℤ → Accumulator

@@ -6,14 +6,14 @@ use Rattle.pt_meaning.specs.Node.{Answer}
 use Rattle.pt_value.specs.declared.token.Token.{Token}
 use Rattle.pt_lib_flow.specs.declared.add_subtract.AddSubtract.{AddSubtract}
 use Rattle.pt_lib_flow.specs.declared.params.Params.{Params}
-use Rattle.pt_lib_flow.specs.Params.{channels_to}
-use Rattle.pt_lib_flow.specs.Row.{one_each, exactly, on_number, sum_of}
+use Rattle.pt_firing.specs.Params.{channels_to}
+use Rattle.pt_lib_flow.specs.Row.{one_each, exactly, on_present, sum_of}
 
 abbrev pub need : AddSubtract → Need
 need actor = one_each actor.places
 
 abbrev pub step : Tag → AddSubtract → Streams Token → Answer Token AddSubtract
-step tag actor X = on_number actor (exactly actor) (sum_of actor.plus X)
+step tag actor X = on_present actor (exactly actor) (sum_of actor.plus X)
 
 abbrev pub start : Params → Option AddSubtract
 start params =

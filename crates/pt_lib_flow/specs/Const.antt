@@ -7,10 +7,10 @@ use Rattle.pt_value.specs.declared.token.Token.{Token}
 use Rattle.pt_value.specs.Token.{IsScalar}
 use Rattle.pt_lib_flow.specs.declared.constant.Const.{Const}
 use Rattle.pt_lib_flow.specs.declared.params.Params.{Params}
-use Rattle.pt_lib_flow.specs.Params.{value_under, limit_of_values, channels_to}
+use Rattle.pt_firing.specs.Params.{value_under, channels_to}
 use Rattle.pt_lib_flow.specs.declared.limit.Limit.{Limit}
 use Rattle.pt_lib_flow.specs.Row.{gives}
-use Rattle.pt_lib_flow.specs.Limit.{is_over, after_one, source, source_need}
+use Rattle.pt_lib_flow.specs.Limit.{limit_in, is_over, after_one, source, source_need}
 
 abbrev pub need : Const → Need
 need actor = source_need (is_over actor.limit) actor.places
@@ -29,4 +29,4 @@ start_by (Some value) None triggers = None
 start_by None limit triggers = None
 
 abbrev pub start : Params → Option Const
-start params = start_by (value_under (codes "value") params.values) (limit_of_values params.values) (channels_to (codes "trigger") params.ports)
+start params = start_by (value_under (codes "value") params.values) (limit_in params.values) (channels_to (codes "trigger") params.ports)

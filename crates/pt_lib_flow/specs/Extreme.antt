@@ -9,8 +9,8 @@ use Rattle.pt_lib_flow.specs.declared.extreme.Side.{Side}
 use Rattle.pt_lib_flow.specs.declared.extreme.Side.TheVariants.{Greatest, Least}
 use Rattle.pt_lib_flow.specs.declared.extreme.Extreme.{Extreme}
 use Rattle.pt_lib_flow.specs.declared.params.Params.{Params}
-use Rattle.pt_lib_flow.specs.Params.{channels_to}
-use Rattle.pt_lib_flow.specs.Row.{one_each, gives, present, on_number}
+use Rattle.pt_firing.specs.Params.{channels_to}
+use Rattle.pt_lib_flow.specs.Row.{one_each, gives, present, on_present}
 
 -- the greater, or the lesser, of two numbers
 abbrev pub of_two : Side → ℤ → ℤ → ℤ
@@ -36,7 +36,7 @@ abbrev pub need : Extreme → Need
 need actor = one_each actor.places
 
 abbrev pub step : Tag → Extreme → Streams Token → Answer Token Extreme
-step tag actor X = on_number actor (λ n. gives actor (Int n)) (extreme actor.side X)
+step tag actor X = on_present actor (λ n. gives actor (Int n)) (extreme actor.side X)
 
 abbrev pub start : Side → Params → Option Extreme
 start side params = Some (record { side = side; places = channels_to (codes "input") params.ports })

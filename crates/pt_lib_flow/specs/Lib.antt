@@ -1,6 +1,5 @@
 pub mod Row
 pub mod Limit
-pub mod Params
 pub mod AbsoluteValue
 pub mod Accumulator
 pub mod AddSubtract

@@ -1,17 +1,22 @@
 -- Sources: they give at every firing, or with a trigger where a token is present there, and so often as their limit says.
-use Rattle.std.specs.Prelude.{ℕ, zero, suc, ◌-◌, [], ◌∷◌, Bool, true, false, if◌then◌else◌}
+use Rattle.std.specs.Prelude.{ℕ, zero, suc, ◌-◌, pos, unsigned_abs, List, [], ◌∷◌, Bool, true, false, Option, option_map, codes, if◌then◌else◌}
 use Rattle.pt_meaning.specs.Basics.{Streams}
 use Rattle.pt_meaning.specs.Machine.{Need, Over}
 use Rattle.pt_meaning.specs.Node.{Answer}
 use Rattle.pt_value.specs.declared.token.Token.{Token}
 use Rattle.pt_lib_flow.specs.declared.limit.Limit.{Limit}
 use Rattle.pt_lib_flow.specs.declared.limit.Limit.TheVariants.{Endless, Left}
+use Rattle.pt_firing.specs.Params.{int_within}
 use Rattle.pt_lib_flow.specs.Row.{one_each, rests}
 
 -- the limit by a firingCountLimit, of which 0 is none
 abbrev pub limit_of : ℕ → Limit
 limit_of zero = Endless
 limit_of (suc count) = Left (suc count)
+
+-- the limit that firingCountLimit says, from 0 to 10^9
+abbrev pub limit_in : List (List ℕ × Token) → Option Limit
+limit_in values = option_map (λ count. limit_of (unsigned_abs count)) (int_within (codes "firingCountLimit") (pos 0) (pos 0) (pos 1000000000) values)
 
 -- no firing is left
 abbrev pub is_over : Limit → Bool

@@ -12,7 +12,7 @@ use Rattle.pt_lib_flow.specs.declared.multiply_divide.MultiplyDivide.{MultiplyDi
 use Rattle.pt_lib_flow.specs.declared.multiply_divide.Operation.{Operation}
 use Rattle.pt_lib_flow.specs.declared.multiply_divide.Operation.TheVariants.{Times, By}
 use Rattle.pt_lib_flow.specs.declared.params.Params.{Params}
-use Rattle.pt_lib_flow.specs.Params.{channels_to}
+use Rattle.pt_firing.specs.Params.{channels_to}
 use Rattle.pt_lib_flow.specs.Row.{one_each, rests, gives, present, fits_i64}
 
 -- a partial result, which has to fit 64 bits

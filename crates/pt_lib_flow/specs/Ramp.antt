@@ -6,10 +6,10 @@ use Rattle.pt_meaning.specs.Node.{Answer}
 use Rattle.pt_value.specs.declared.token.Token.{Token}
 use Rattle.pt_lib_flow.specs.declared.ramp.Ramp.{Ramp}
 use Rattle.pt_lib_flow.specs.declared.params.Params.{Params}
-use Rattle.pt_lib_flow.specs.Params.{int_or, limit_of_values, channels_to}
+use Rattle.pt_firing.specs.Params.{int_or, channels_to}
 use Rattle.pt_lib_flow.specs.declared.limit.Limit.{Limit}
 use Rattle.pt_lib_flow.specs.Row.{exactly}
-use Rattle.pt_lib_flow.specs.Limit.{is_over, after_one, source, source_need}
+use Rattle.pt_lib_flow.specs.Limit.{limit_in, is_over, after_one, source, source_need}
 
 abbrev pub need : Ramp → Need
 need actor = source_need (is_over actor.limit) actor.places
@@ -29,4 +29,4 @@ start_by (Some init) None limit triggers = None
 start_by None step limit triggers = None
 
 abbrev pub start : Params → Option Ramp
-start params = start_by (int_or (codes "init") (pos 0) params.values) (int_or (codes "step") (pos 1) params.values) (limit_of_values params.values) (channels_to (codes "trigger") params.ports)
+start params = start_by (int_or (codes "init") (pos 0) params.values) (int_or (codes "step") (pos 1) params.values) (limit_in params.values) (channels_to (codes "trigger") params.ports)

@@ -6,14 +6,14 @@ use Rattle.pt_meaning.specs.Node.{Answer}
 use Rattle.pt_value.specs.declared.token.Token.{Token}
 use Rattle.pt_lib_flow.specs.declared.scale.Scale.{Scale}
 use Rattle.pt_lib_flow.specs.declared.params.Params.{Params}
-use Rattle.pt_lib_flow.specs.Params.{int_or}
-use Rattle.pt_lib_flow.specs.Row.{one_each, exactly, number_at, on_number}
+use Rattle.pt_firing.specs.Params.{int_or}
+use Rattle.pt_lib_flow.specs.Row.{one_each, exactly, number_at, on_present}
 
 abbrev pub need : Scale → Need
 need actor = one_each actor.places
 
 abbrev pub step : Tag → Scale → Streams Token → Answer Token Scale
-step tag actor X = on_number actor (λ input. exactly actor (input *ℤ actor.factor)) (number_at X 0)
+step tag actor X = on_present actor (λ input. exactly actor (input *ℤ actor.factor)) (number_at X 0)
 
 -- by its parameter factor, else 1
 abbrev pub start_by : Option ℤ → Option Scale

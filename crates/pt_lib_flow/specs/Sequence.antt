@@ -8,7 +8,7 @@ use Rattle.pt_value.specs.Token.{token_of}
 use Rattle.pt_value.specs.declared.token.Token.{Token}
 use Rattle.pt_lib_flow.specs.declared.sequence.Sequence.{Sequence}
 use Rattle.pt_lib_flow.specs.declared.params.Params.{Params}
-use Rattle.pt_lib_flow.specs.Params.{value_under, bool_or, channels_to}
+use Rattle.pt_firing.specs.Params.{value_under, bool_or, channels_to}
 use Rattle.pt_value.specs.declared.token.Token.TheVariants.{Array}
 use Rattle.pt_lib_flow.specs.Row.{one_each, rests, gives}
 use Rattle.pt_lib_flow.specs.Limit.{is_called}

@@ -2,7 +2,6 @@ ghost use Rattle.std.specs.Prelude.{◌≡◌, ◌+◌, IfOk};
 ghost use Rattle.pt_lib_flow.specs.Accumulator.{before};
 ghost use Rattle.pt_lib_flow.specs.Accumulator as accumulator;
 
-use crate::number::{is_true_at, number_at};
 use crate::params::Params;
 use pt_firing::{
     Actor, Fires, Inputs, Need, OneEach, Outputs, Partial, RunFault, Step, strict_early,
@@ -46,7 +45,7 @@ impl Accumulator {
     fn before(&self, inputs: &Inputs<'_>) -> i64
         ensures { result ≡ before self.now inputs.now }
     {
-        if is_true_at(inputs, 1) {
+        if inputs.truth_at(1).unwrap_or(false) {
             self.init
         } else {
             self.sum
@@ -65,7 +64,7 @@ impl Fires for Accumulator {
 
     fn step(&mut self, _alloc: Global, _tag: Tag, inputs: &Inputs<'_>) -> Step {
         let before = self.before(inputs);
-        match number_at(inputs, 0) {
+        match inputs.number_at(0) {
             None => {
                 self.sum = before;
                 Step::Done(Outputs::none(1))

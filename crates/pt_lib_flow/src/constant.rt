@@ -38,7 +38,7 @@ impl Const {
         ensures { IfOk result (λ actor. actor ≡ constant.start params.now) }
     {
         let triggers = params.ports.channels("trigger") as usize;
-        match (params.values.get("value"), params.values.limit()) {
+        match (params.values.get("value"), Limit::within(&params.values)) {
             (Some(value), Some(limit)) => {
                 Ok(Some(Const::new(alloc, value.copy(alloc)?, limit, triggers)?))
             }

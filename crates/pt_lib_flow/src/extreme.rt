@@ -1,7 +1,6 @@
 ghost use Rattle.std.specs.Prelude.{◌≡◌, IfOk};
 ghost use Rattle.pt_lib_flow.specs.Extreme.{of_two, better, extreme, start};
 
-use crate::number::number_at;
 use crate::params::Params;
 use pt_firing::{Actor, Fires, Inputs, Need, OneEach, Outputs, Partial, Step, strict_early};
 use pt_time::Tag;
@@ -43,7 +42,7 @@ impl Side {
     {
         let mut best = None;
         for place in 0..inputs.places() {
-            best = self.better(best, number_at(inputs, place));
+            best = self.better(best, inputs.number_at(place));
         }
         best
     }

@@ -1,7 +1,7 @@
 ghost use Rattle.std.specs.Prelude.{◌≡◌};
-ghost use Rattle.pt_lib_flow.specs.Limit.{limit_of, is_over, after_one, is_called};
+ghost use Rattle.pt_lib_flow.specs.Limit.{limit_of, limit_in, is_over, after_one, is_called};
 
-use pt_firing::Inputs;
+use pt_firing::{Inputs, Values};
 
 /// How often a source may still fire.
 #[derive(Clone, Copy, Debug, PartialEq, Eq)]
@@ -19,6 +19,16 @@ impl Limit {
             Limit::Endless
         } else {
             Limit::Left(count)
+        }
+    }
+
+    /// The limit that `firingCountLimit` says, where it is in its range.
+    pub fn within(values: &Values) -> Option<Limit>
+        ensures { result ≡ limit_in values.now }
+    {
+        match values.int_within("firingCountLimit", 0, 0, 1_000_000_000) {
+            Some(count) => Some(Limit::of(count.unsigned_abs())),
+            None => None,
         }
     }
 

@@ -3,7 +3,7 @@ ghost use Rattle.pt_lib_flow.specs.MultiplyDivide.{of_two, after, after_all, quo
 ghost use Rattle.pt_lib_flow.specs.Row.{present};
 ghost use Rattle.pt_lib_flow.specs.MultiplyDivide as multiply_divide;
 
-use crate::number::{number_at, sum_between};
+use crate::number::sum_between;
 use crate::params::Params;
 use pt_firing::{
     Actor, Fires, Inputs, Need, OneEach, Outputs, Partial, RunFault, Step, strict_early,
@@ -104,7 +104,7 @@ impl Operation {
     {
         let mut partial = start;
         for place in from..to {
-            partial = self.after(partial, number_at(inputs, place));
+            partial = self.after(partial, inputs.number_at(place));
         }
         partial
     }

@@ -1,48 +1,9 @@
 ghost use Rattle.std.specs.Prelude.{◌≡◌, ◌≤◌, ◌-◌, ◌*◌, ◌^◌, ◌≤ℤ◌, ◌<ℤ◌, ◌+ℤ◌, ◌-ℤ◌, ◌&&◌, [], FitsSigned, neg_ℤ, pos, length, take, drop, if◌then◌else◌};
 ghost use Rattle.std.specs.Int.{w128};
-ghost use Rattle.pt_meaning.specs.Basics.{at};
 ghost use Rattle.pt_meaning.specs.Node.{is_none};
-ghost use Rattle.pt_lib_flow.specs.Row.{number_at, number_in, is_true, with_number, present, total};
+ghost use Rattle.pt_lib_flow.specs.Row.{with_number, present, total};
 
 use pt_firing::Inputs;
-use pt_value::Token;
-
-/// The number of a place, if there is one.
-pub(crate) fn number_at(inputs: &Inputs<'_>, place: usize) -> Option<i64>
-    ensures { result ≡ number_at inputs.now place }
-{
-    if place < inputs.places() {
-        number_in(inputs.list(place))
-    } else {
-        None
-    }
-}
-
-fn number_in(tokens: &[Token]) -> Option<i64>
-    ensures { result ≡ number_in tokens.now }
-{
-    match tokens.first() {
-        Some(Token::Int(n)) => Some(*n),
-        _ => None,
-    }
-}
-
-/// Whether the token of a place is true.
-pub(crate) fn is_true_at(inputs: &Inputs<'_>, place: usize) -> bool
-    ensures { result ≡ is_true (at inputs.now place) }
-{
-    if place < inputs.places() {
-        is_true(inputs.list(place))
-    } else {
-        false
-    }
-}
-
-fn is_true(tokens: &[Token]) -> bool
-    ensures { result ≡ is_true tokens.now }
-{
-    matches!(tokens.first(), Some(Token::Bool(true)))
-}
 
 /// The sum of some numbers, and whether there are none.
 #[derive(Clone, Copy, Debug)]
@@ -96,7 +57,7 @@ pub(crate) fn sum_between(inputs: &Inputs<'_>, from: usize, to: usize) -> Sum
         is_empty: true,
     };
     for place in from..to {
-        sum = sum.with(number_at(inputs, place));
+        sum = sum.with(inputs.number_at(place));
     }
     sum
 }

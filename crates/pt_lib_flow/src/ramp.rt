@@ -48,7 +48,7 @@ impl Ramp {
         match (
             params.values.int_or("init", 0),
             params.values.int_or("step", 1),
-            params.values.limit(),
+            Limit::within(&params.values),
         ) {
             (Some(init), Some(step), Some(limit)) => {
                 Ok(Some(Ramp::new(alloc, init, step, limit, triggers)?))

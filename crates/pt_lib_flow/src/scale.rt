@@ -1,7 +1,6 @@
 ghost use Rattle.std.specs.Prelude.{◌≡◌, IfOk};
 ghost use Rattle.pt_lib_flow.specs.Scale as scale;
 
-use crate::number::number_at;
 use crate::params::Params;
 use pt_firing::{
     Actor, Fires, Inputs, Need, OneEach, Outputs, Partial, RunFault, Step, strict_early,
@@ -48,7 +47,7 @@ impl Fires for Scale {
     ghost IsSpare = { λ actor. Unit {0} };
 
     fn step(&mut self, _alloc: Global, _tag: Tag, inputs: &Inputs<'_>) -> Step {
-        match number_at(inputs, 0) {
+        match inputs.number_at(0) {
             None => Step::Done(Outputs::none(1)),
             Some(input) => match input.checked_mul(self.factor) {
                 Some(product) => Step::Done(Outputs::one(Token::Int(product))),

@@ -1,7 +1,7 @@
 use Rattle.std.proofs.Common.{◌≡◌, true, false, sym, ◌∙◌, rules, arith}
 use Rattle.std.specs.Prelude.{bytes_eq}
-use Rattle.pt_lib_flow.proofs.Named.{channels-found, channels-later, no-channels}
-use Rattle.pt_lib_flow.proofs.params.Ports.channels.Goals as goal
+use Rattle.pt_firing.proofs.Named.{channels-found, channels-later, no-channels}
+use Rattle.pt_firing.proofs.params.Ports.channels.Goals as goal
 
 pub returns-then-eq : goal.returns-then-eq
 returns-then-eq c =

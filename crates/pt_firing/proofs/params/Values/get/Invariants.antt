@@ -1,6 +1,6 @@
 use Rattle.std.proofs.Common.{◌≡◌, drop}
-use Rattle.pt_lib_flow.specs.Params.{value_under}
-use Rattle.pt_lib_flow.proofs.params.Values.get.Given as goal
+use Rattle.pt_firing.specs.Params.{value_under}
+use Rattle.pt_firing.proofs.params.Values.get.Given as goal
 
 abbrev pub invariant-loop-key : goal.invariant-loop-key
 invariant-loop-key l = record {

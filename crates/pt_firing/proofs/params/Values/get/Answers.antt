@@ -1,7 +1,7 @@
 use Rattle.std.proofs.Common.{◌≡◌, true, false, sym, ◌∙◌, rules, arith}
 use Rattle.std.specs.Prelude.{bytes_eq}
-use Rattle.pt_lib_flow.proofs.Named.{value-found, value-later, nothing-under}
-use Rattle.pt_lib_flow.proofs.params.Values.get.Goals as goal
+use Rattle.pt_firing.proofs.Named.{value-found, value-later, nothing-under}
+use Rattle.pt_firing.proofs.params.Values.get.Goals as goal
 
 pub returns-then-eq : goal.returns-then-eq
 returns-then-eq c =

@@ -1,9 +1,7 @@
 -- What an actor is started from: parameters and ports by name.
-use Rattle.std.specs.Prelude.{ℕ, int_le, unsigned_abs, ◌&&◌, List, [], ◌∷◌, Bool, Option, Some, None, ℤ, pos, codes, bytes_eq, if◌then◌else◌}
+use Rattle.std.specs.Prelude.{ℕ, List, [], ◌∷◌, Bool, Option, Some, None, ℤ, int_le, ◌&&◌, bytes_eq, if◌then◌else◌}
 use Rattle.pt_value.specs.declared.token.Token.{Token}
 use Rattle.pt_value.specs.declared.token.Token.TheVariants.{Int, Bool as Truth}
-use Rattle.pt_lib_flow.specs.declared.limit.Limit.{Limit}
-use Rattle.pt_lib_flow.specs.Limit.{limit_of}
 
 -- the first value under a name
 unfoldable pub value_under : List ℕ → List (List ℕ × Token) → Option Token
@@ -19,6 +17,14 @@ as_int default (Some token) = None
 abbrev pub int_or : List ℕ → ℤ → List (List ℕ × Token) → Option ℤ
 int_or name default values = as_int default (value_under name values)
 
+-- a number, where it lies in a range
+abbrev pub only_within : ℤ → ℤ → Option ℤ → Option ℤ
+only_within low high None = None
+only_within low high (Some n) = if int_le low n && int_le n high then Some n else None
+
+abbrev pub int_within : List ℕ → ℤ → ℤ → ℤ → List (List ℕ × Token) → Option ℤ
+int_within name default low high values = only_within low high (int_or name default values)
+
 -- the same of a truth value
 abbrev pub as_bool : Bool → Option Token → Option Bool
 as_bool default None = Some default
@@ -27,14 +33,6 @@ as_bool default (Some token) = None
 
 abbrev pub bool_or : List ℕ → Bool → List (List ℕ × Token) → Option Bool
 bool_or name default values = as_bool default (value_under name values)
-
--- a firingCountLimit is from 0 to 10^9
-abbrev pub limit_by : Option ℤ → Option Limit
-limit_by None = None
-limit_by (Some count) = if int_le (pos 0) count && int_le count (pos 1000000000) then Some (limit_of (unsigned_abs count)) else None
-
-abbrev pub limit_of_values : List (List ℕ × Token) → Option Limit
-limit_of_values values = limit_by (int_or (codes "firingCountLimit") (pos 0) values)
 
 -- the number of channels to a port, none where it isn't listed
 unfoldable pub channels_to : List ℕ → List (List ℕ × ℕ) → ℕ

@@ -2,7 +2,7 @@
 use Rattle.std.proofs.Common.{◌≡◌, ℕ, ◌<◌, ◌≤◌, ◌+◌, zero, suc, List, [], ◌∷◌, length, get_or, drop, true, false, Some, None, refl, sym, ap, ◌∙◌, add-one, drop-cons, arith, if◌then◌else◌}
 use Rattle.std.specs.Prelude.{bytes_eq}
 use Rattle.pt_value.specs.declared.token.Token.{Token}
-use Rattle.pt_lib_flow.specs.Params.{value_under, channels_to}
+use Rattle.pt_firing.specs.Params.{value_under, channels_to}
 
 value-here : (name : List ℕ) (es : List (List ℕ × Token)) (n : ℕ) (e : List ℕ × Token) → n < length es → e ≡ get_or es n e → value_under name (drop n es) ≡ (if bytes_eq e.0 name then Some e.1 else value_under name (drop (n + 1) es))
 unfolding value_under
