@@ -1,0 +1,4 @@
+pub mod Inside
+pub mod Children
+pub mod Ports
+pub mod Channels
