@@ -1,0 +1,5 @@
+pub mod Parts
+pub mod Escapes
+pub mod Heights
+pub mod Legal
+pub mod Written

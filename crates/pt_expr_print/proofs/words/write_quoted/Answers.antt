@@ -1,0 +1,7 @@
+use Rattle.std.proofs.Common.{◌≡◌, ◌++◌, [], string_bytes, rules, arith, ap, sym, ◌∙◌, append-nil}
+use Rattle.std.specs.Str.Iter.{chars_rest}
+use Rattle.pt_expr_print.proofs.Escapes.{character_turn}
+use Rattle.pt_expr_print.proofs.words.write_quoted.Goals as goal
+
+pub loop-c-preserved : goal.loop-c-preserved
+loop-c-preserved c = character_turn _ _ _ _ _ c.in-Some.c c.in-Some.ensures.steps.0 (search rules) c.loop-c.invariant

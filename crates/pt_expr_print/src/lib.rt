@@ -1,0 +1,7 @@
+//! The text that an expression prints as, from which it is read again.
+#![tactic(auto)]
+
+mod printed;
+mod words;
+
+pub use printed::print;
