@@ -1,5 +1,5 @@
 -- The parts of a literal are at most as high as all of them together.
-use Rattle.std.proofs.Common.{◌≡◌, ℕ, zero, suc, ◌<◌, ◌≤◌, List, [], ◌∷◌, length, map, get_or, ap, sym, ◌∙◌, subst, arith}
+use Rattle.std.proofs.Common.{◌≡◌, ℕ, zero, suc, ◌<◌, ◌≤◌, List, [], ◌∷◌, length, map, get_or, ap, arith}
 use Rattle.pt_expr.specs.declared.expr.Expr.{Expr}
 use Rattle.pt_expr.specs.declared.exprs.NamedExpr.{NamedExpr}
 use Rattle.pt_expr.specs.Tree.{Tree, height, height_of_trees, height_of_named, trees_of, named_of}

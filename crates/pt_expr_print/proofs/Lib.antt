@@ -3,3 +3,6 @@ pub mod Escapes
 pub mod Heights
 pub mod Legal
 pub mod Written
+pub mod Scanned
+pub mod Spelled
+pub mod Whole

@@ -1,5 +1,5 @@
 -- The words of a printed tree, and that they read as it.
-use Rattle.std.proofs.Common.{◌≡◌, ℕ, suc, ◌<◌, ◌≤◌, ◌^◌, ℤ, pos, negsuc, List, [], ◌∷◌, ◌++◌, map, Bool, true, false, codes, refl, sym, subst, ap, ◌∙◌, append-nil, append_assoc, arith}
+use Rattle.std.proofs.Common.{◌≡◌, ℕ, suc, ℤ, pos, negsuc, List, [], ◌∷◌, ◌++◌, Bool, true, false, codes, refl, sym, subst, ◌∙◌, append-nil, append_assoc}
 use Rattle.pt_expr.specs.declared.expr.BinaryOp.{BinaryOp}
 use Rattle.pt_expr.specs.declared.expr.BinaryOp.TheVariants as op
 use Rattle.pt_expr.specs.Tree as tree
@@ -9,7 +9,6 @@ use Rattle.pt_expr_text.specs.declared.word.Word.TheVariants.{Digits, Quoted}
 use Rattle.pt_expr_text.specs.declared.word.Word.TheVariants as word
 use Rattle.pt_expr_text.specs.declared.word.Symbol.{Symbol}
 use Rattle.pt_expr_text.specs.declared.word.Symbol.TheVariants.{True, False, Abs, Max, Min, Open, Close, OpenBrace, CloseBrace, Comma, Dot, Question, Colon, Assign, Not, Minus, Plus, Star, Slash, Percent, Less, LessEqual, Greater, GreaterEqual, Equal, Unequal, And, Or}
-use Rattle.pt_expr_text.specs.declared.level.Level.{Level}
 use Rattle.pt_expr_text.specs.declared.level.Level.TheVariants as level
 use Rattle.pt_expr_text.specs.Grammar.{Reads, ReadsParts, ReadsFields, AllDiffer}
 use Rattle.pt_expr_text.specs.Grammar as g

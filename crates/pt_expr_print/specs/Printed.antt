@@ -1,5 +1,5 @@
 -- The text that a tree prints as.
-use Rattle.std.specs.Prelude.{◌≡◌, ℕ, ℤ, pos, negsuc, List, [], ◌∷◌, ◌++◌, Bool, true, false, codes}
+use Rattle.std.specs.Prelude.{ℕ, pos, negsuc, List, [], ◌∷◌, ◌++◌, Bool, true, false, codes}
 use Rattle.std.specs.Fmt.{signed_decimal}
 use Rattle.pt_value.specs.Printed.{quoted, in_braces, printed_truth}
 use Rattle.pt_expr.specs.declared.expr.BinaryOp.{BinaryOp}

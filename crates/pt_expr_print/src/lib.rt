@@ -2,6 +2,8 @@
 #![tactic(auto)]
 
 mod printed;
+mod again;
 mod words;
 
 pub use printed::print;
+pub use again::reread;

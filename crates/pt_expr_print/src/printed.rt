@@ -11,9 +11,11 @@ use pt_expr::{Expr, Exprs, NamedExprs};
 use pt_value::Text;
 use std::alloc::{AllocError, Global};
 
-/// The printed text of a tree.
+/// The printed text of a tree that some text reads as. It reads as that tree again.
 pub fn print(alloc: Global, tree: &Expr) -> Result<Text, AllocError>
+    requires readable { IsReadable (tree_of tree.now) }
     ensures text { IfOk result (λ text. text ≡ printed (tree_of tree.now)) }
+    ensures reads { IfOk result (λ text. ReadsAs text (tree_of tree.now)) }
 {
     let mut out = String::new(alloc);
     write(tree, &mut out)?;

@@ -1,4 +1,4 @@
-use Rattle.std.proofs.Common.{rules, arith}
+use Rattle.std.proofs.Common.{arith}
 use Rattle.std.proofs.lemmas.Grind.{common_steps}
 use Rattle.pt_expr_print.proofs.Escapes.{plain_character}
 use Rattle.pt_expr_print.proofs.words.write_escaped.Goals as goal

@@ -1,5 +1,4 @@
-use Rattle.std.proofs.Common.{◌≡◌, ◌++◌, [], string_bytes, rules, arith, ap, sym, ◌∙◌, append-nil}
-use Rattle.std.specs.Str.Iter.{chars_rest}
+use Rattle.std.proofs.Common.{rules}
 use Rattle.pt_expr_print.proofs.Escapes.{character_turn}
 use Rattle.pt_expr_print.proofs.words.write_quoted.Goals as goal
 
