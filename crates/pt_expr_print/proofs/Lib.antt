@@ -6,3 +6,5 @@ pub mod Written
 pub mod Scanned
 pub mod Spelled
 pub mod Whole
+mod Examples
+mod Evaluations

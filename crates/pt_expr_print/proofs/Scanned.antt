@@ -184,14 +184,14 @@ digits_scan [] n some a e rest left vs h s = absurd (omega arith)
 digits_scan (d ∷ ds) n some a e rest left vs h s =
     let digit = digit_first d ds a in
     let f : word_at (d ∷ (ds ++ rest)) ≡ Some (Digits n, rest) =
-      second (eqb d 34) (is_ascii_digit d) _ _ _ (digit_not_quote d digit) digit ∙ ap (λ x. Some x) (digits_found (d ∷ ds) rest n a e h) in
+    second (eqb d 34) (is_ascii_digit d) _ _ _ (digit_not_quote d digit) digit ∙ ap (λ x. Some x) (digits_found (d ∷ ds) rest n a e h) in
     word_first d (ds ++ rest) rest left (Digits n) vs (digit_not_blank d digit) f s
 
 pub decimal_scans : (n : ℕ) → n ≤ 2 ^ 63 → Scans (decimal n) (Digits n ∷ [])
 decimal_scans n h =
     let own = numerals_by_value (λ ds. all_ascii_digits ds ≡ true) tells_all_ascii_digits in
     let v = (decimal_is_IsNumeral n (omega arith)).1 in
-    digits_scan (decimal n) n (decimal_nonempty n (omega arith)) (digits_decimal own n (omega arith)) (omega (arith, v)) 
+    digits_scan (decimal n) n (decimal_nonempty n (omega arith)) (digits_decimal own n (omega arith)) (omega (arith, v))
 
 -- texts in quotes
 same_byte : (c d : ℕ) → eqb c d ≡ true → c ≡ d
@@ -221,5 +221,5 @@ pub quoted_scans : (text : List ℕ) → Scans (quoted text) (Quoted text ∷ []
 quoted_scans text rest left vs h s =
     let e : (flat_map escaped text ++ 34 ∷ []) ++ rest ≡ flat_map escaped text ++ 34 ∷ rest = append_assoc (flat_map escaped text) (34 ∷ []) rest in
     let f : word_at (34 ∷ ((flat_map escaped text ++ 34 ∷ []) ++ rest)) ≡ Some (Quoted text, rest) =
-      ap (λ v. option_map (λ (read : List ℕ × List ℕ). (Quoted read.0, read.1)) (string_at v)) e ∙ ap (option_map (λ (read : List ℕ × List ℕ). (Quoted read.0, read.1))) (string_read text rest) in
+    ap (λ v. option_map (λ (read : List ℕ × List ℕ). (Quoted read.0, read.1)) (string_at v)) e ∙ ap (option_map (λ (read : List ℕ × List ℕ). (Quoted read.0, read.1))) (string_read text rest) in
     word_first 34 ((flat_map escaped text ++ 34 ∷ []) ++ rest) rest left (Quoted text) vs refl f s

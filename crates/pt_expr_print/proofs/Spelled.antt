@@ -32,7 +32,7 @@ continues c h = grind (arith, nat_tests)
 run_begins : (c : ℕ) (cs : List ℕ) → begins_name c ≡ true → Begins (take (prefix_len continues_name (c ∷ cs)) (c ∷ cs))
 run_begins c cs h =
     let q : prefix_len continues_name (c ∷ cs) ≡ suc (prefix_len continues_name cs) =
-      ap (λ b. cond b (1 + prefix_len continues_name cs) 0) (continues c h) ∙ (let k : 1 + prefix_len continues_name cs ≡ suc (prefix_len continues_name cs) = omega arith in k) in
+    ap (λ b. cond b (1 + prefix_len continues_name cs) 0) (continues c h) ∙ (let k : 1 + prefix_len continues_name cs ≡ suc (prefix_len continues_name cs) = omega arith in k) in
     let P : ℕ → Type 0 = λ n. Begins (take n (c ∷ cs)) in
     subst P (sym q) h
 
