@@ -1,0 +1,8 @@
+-- Which trees texts read as.
+use Rattle.std.specs.Prelude.{ℕ, List}
+use Rattle.pt_expr.specs.Tree.{Tree}
+use Rattle.pt_expr_text.specs.Text.{ReadsAs}
+
+-- some text reads as the tree
+abbrev pub IsReadable : Tree → Type 0
+IsReadable t = (text : List ℕ) × ReadsAs text t

@@ -1,0 +1,11 @@
+//! The text that an expression prints as, from which it is read again.
+#![tactic(auto)]
+
+mod again;
+mod printed;
+#[cfg(test)]
+mod tests;
+mod words;
+
+pub use again::reread;
+pub use printed::print;
