@@ -1,5 +1,5 @@
 -- The types of names by numbers, and what a rule makes of them.
-use Rattle.std.specs.Prelude.{ℕ, List, [], ◌∷◌, Option, Some, None, slice_get, if◌then◌else◌}
+use Rattle.std.specs.Prelude.{ℕ, List, [], ◌∷◌, None, slice_get, if◌then◌else◌}
 use Rattle.std.specs.Str.{bytes_eq}
 use Rattle.pt_types.specs.Datatype.{Datatype, General}
 use Rattle.pt_expr.specs.Tree.{Tree}

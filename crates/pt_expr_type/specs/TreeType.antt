@@ -1,7 +1,7 @@
 -- The type of an expression where its names have types (by the profile). Operators take operands of unknown type: no token ever passes there.
-use Rattle.std.specs.Prelude.{◌≡◌, ℕ, List, [], ◌∷◌, map, Option, Some, None, Bool, true, false, not, ◌&&◌, unwrap_or, IsTrue, if◌then◌else◌}
+use Rattle.std.specs.Prelude.{◌≡◌, ℕ, List, [], ◌∷◌, map, Bool, true, not, ◌&&◌, unwrap_or, IsTrue, if◌then◌else◌}
 use Rattle.std.specs.Str.{bytes_eq}
-use Rattle.pt_types.specs.Datatype.{Datatype, Unknown, Int, Boolean, Words, Array, Record, General, FieldTypes, no_fields, field_then, types_of}
+use Rattle.pt_types.specs.Datatype.{Datatype, Unknown, Int, Boolean, Words, Array, Record, FieldTypes, no_fields, field_then, types_of}
 use Rattle.pt_types.specs.Normal.{array_of, record_of}
 use Rattle.pt_types.specs.Order.{is_below}
 use Rattle.pt_types.specs.Join.{join}

@@ -1,10 +1,11 @@
 //! The types of expressions.
 #![tactic(auto)]
 
-ghost use Rattle.pt_expr_type.specs.Laws.{TypedTreesAreSound};
+mod env;
+mod fault;
+mod operators;
+mod tree;
 
-use pt_expr::Expr;
-use pt_types::Ty;
-use pt_value::Text;
-
-fn nothing() {}
+pub use env::TypeEnv;
+pub use fault::TypeFault;
+pub use tree::type_of;
