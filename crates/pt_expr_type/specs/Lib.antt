@@ -8,3 +8,5 @@ pub mod Entry
 pub mod Answer
 pub mod Rule
 pub mod Laws
+pub mod Grows
+pub mod RuleGrows

@@ -3,9 +3,13 @@
 
 mod env;
 mod fault;
+mod laws;
 mod operators;
+mod rule;
 mod tree;
 
 pub use env::TypeEnv;
 pub use fault::TypeFault;
+pub use laws::{tree_types_grow, typed_trees_are_sound};
+pub use rule::ExprRule;
 pub use tree::type_of;

@@ -1,0 +1,11 @@
+ghost use Rattle.pt_expr_type.specs.Laws.{TypedTreesAreSound, TreeTypesGrow};
+
+/// Where tokens are of the types of their names, an expression that has a type is never wrong, and its value is of that type.
+pub fn typed_trees_are_sound()
+    ensures { TypedTreesAreSound }
+{}
+
+/// Greater types of the names give no smaller type of an expression.
+pub fn tree_types_grow()
+    ensures { TreeTypesGrow }
+{}
