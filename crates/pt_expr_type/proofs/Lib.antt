@@ -8,4 +8,5 @@ pub mod RecordTypes
 pub mod Records
 pub mod Sound
 pub mod Steps
+pub mod Table
 pub mod Values

@@ -1,9 +1,10 @@
 -- The laws of the types of expressions: what has a type is never wrong, and types grow with those of the names.
-use Rattle.std.specs.Prelude.{◌≡◌, ℕ, List, Option, Some, None, IsSome, IfSome}
+use Rattle.std.specs.Prelude.{◌≡◌, ℕ, List, false, Option, Some, None, IsSome, IfSome}
 use Rattle.pt_value.specs.Value.{Value}
 use Rattle.pt_types.specs.Datatype.{Datatype}
 use Rattle.pt_types.specs.Order.{IsBelow}
 use Rattle.pt_types.specs.Token.{type_of_value}
+use Rattle.pt_expr.specs.Comparable.{is_general}
 use Rattle.pt_expr.specs.Outcome.{Outcome, Gives, Stops, Wrong}
 use Rattle.pt_expr.specs.Scope.{Scope, port_in}
 use Rattle.pt_expr.specs.Meaning.{value}
@@ -11,6 +12,7 @@ use Rattle.pt_expr.specs.Tree.{Tree}
 use Rattle.pt_expr_type.specs.Typing as typing
 use Rattle.pt_expr_type.specs.Types.{Types}
 use Rattle.pt_expr_type.specs.TreeType.{tree_type, IsTyped}
+use Rattle.pt_expr_type.specs.Rule.{type_or_general}
 
 -- what is bound under a name of this type: nothing, or a token of a type below
 abbrev pub IsHeld : Datatype → Option (Option Value) → Type 0
@@ -47,3 +49,7 @@ AreBelow fewer more = (name : List ℕ) → IsBelowAt (fewer name) (more name)
 -- greater types of the names give no smaller type of a tree, where a clash is above all types
 abbrev pub TreeTypesGrow : Type 0
 TreeTypesGrow = (fewer more : Types) → AreBelow fewer more → (tree : Tree) → typing.IsBelow (tree_type fewer tree) (tree_type more tree)
+
+-- where what a rule makes of a tree isn't general, it is the tree's type
+abbrev pub ProperTreesAreTyped : Type 0
+ProperTreesAreTyped = (types : Types) (tree : Tree) → is_general (type_or_general types tree) ≡ false → IsTyped types tree (type_or_general types tree)
