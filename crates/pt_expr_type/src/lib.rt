@@ -1,0 +1,17 @@
+//! The types of expressions.
+#![tactic(auto)]
+
+mod env;
+mod fault;
+mod laws;
+mod operators;
+mod rule;
+#[cfg(test)]
+mod tests;
+mod tree;
+
+pub use env::TypeEnv;
+pub use fault::TypeFault;
+pub use laws::{proper_trees_are_typed, tree_types_grow, typed_trees_are_sound};
+pub use rule::ExprRule;
+pub use tree::type_of;
