@@ -9,3 +9,5 @@ pub use json::Scratch;
 pub use reading::{Unread, read};
 pub use value::Value;
 
+#[cfg(test)]
+mod tests;
