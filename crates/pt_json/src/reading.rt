@@ -66,11 +66,7 @@ pub fn read<'a>(
     }
 }
 
-fn value_of<'a>(
-    alloc: Global,
-    text: &'a str,
-    scratch: &'a mut Scratch,
-) -> Result<Value<'a>, Unread>
+fn value_of<'a>(alloc: Global, text: &'a str, scratch: &'a mut Scratch) -> Result<Value<'a>, Unread>
     ensures ok { IfOk result (λ v. read_text text.now ≡ Some (view v)) }
     ensures none { result ≡ Err NoJson → read_text text.now ≡ None }
 {
@@ -85,11 +81,7 @@ fn value_of<'a>(
 /// The next value, with arrays and objects nested this deep at most.
 #[cycle(read)]
 #[inline(always)]
-fn read_value<'a>(
-    alloc: Global,
-    reader: &mut Reader<'a>,
-    depth: usize,
-) -> Result<Value<'a>, Unread>
+fn read_value<'a>(alloc: Global, reader: &mut Reader<'a>, depth: usize) -> Result<Value<'a>, Unread>
     ensures ok { IfOk result
         (λ v. converted of_json (value depth reader.old) ≡ Some (view v, reader.new)) }
     ensures shorter { OnOk result (length reader.new < length reader.old) }
