@@ -4,8 +4,8 @@ use Rattle.std.specs.Ordering.{nat_cmp, match_ordering}
 use Rattle.std.specs.Cmp.Lexicographic.{slice_cmp}
 use Rattle.serde_json.specs.Data.{Data, null, boolean, number, string, array, object, Items, no_items, item, Members, no_members, member, depth, items_depth, members_depth}
 use Rattle.serde_json.specs.Find.{get, get_item, get_member, as_array}
-use Rattle.serde_json.specs.View.{view, items_view}
-use Rattle.serde_json.specs.declared.value.Value.{Value}
+use Rattle.pt_json.specs.View.{view, items_view}
+use Rattle.pt_json.specs.declared.value.Value.{Value}
 
 chosen_depth : (o : Ordering) (rest : Option Data) (d e : Data) (m : ℕ) → (rest ≡ Some e → depth e ≤ m) → match_ordering o rest (Some d) rest ≡ Some e → depth e ≤ max (depth d) m
 chosen_depth Less rest d e m h is = omega (arith, h is)

@@ -1,4 +1,5 @@
 pub mod Lists
+pub mod Members
 pub mod DistinctNames
 pub mod Refusals
 pub mod Depths

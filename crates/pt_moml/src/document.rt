@@ -1,6 +1,6 @@
 // The whole document.
 ghost use Rattle.std.specs.Prelude.{◌≡◌, map, option_map, IfOk, IfErr, OnOk};
-ghost use Rattle.serde_json.specs.View.{view};
+ghost use Rattle.pt_json.specs.View.{view};
 ghost use Rattle.pt_moml.specs.Outcome.{Gives};
 ghost use Rattle.pt_moml.specs.Reading.{version_at, limits_at, model_at, job_of, IsJobOf, IsReadFault};
 ghost use Rattle.pt_moml.specs.Stands.{FaultStands, IsClean};
@@ -12,7 +12,7 @@ use crate::fields::{has_fields, list_or_empty, name_of};
 use crate::job::{Entity, Job};
 use crate::limits::is_within;
 use crate::refusal::{DocFault, refused};
-use serde_json::Value;
+use pt_json::{Scratch, Unread, Value};
 use std::alloc::Global;
 
 fn check_version(alloc: Global, field: Option<&Value>) -> Result<(), DocFault>
@@ -76,10 +76,11 @@ fn read_exactly(alloc: Global, bytes: &[u8]) -> Result<Job, DocFault>
     // Of the refusals that stand the first one in the order of reading is told.
     ensures first { IfErr result (IsReadFault bytes.now) }
 {
-    match Value::from_slice(alloc, bytes) {
+    let mut scratch = Scratch::new(alloc);
+    match pt_json::read(alloc, bytes, &mut scratch) {
         Ok(value) => job_at(alloc, &value),
-        Err(e) if e.is_memory() => Err(DocFault::Memory),
-        Err(_) => Err(refused(alloc, Code::Json, ".")),
+        Err(Unread::Memory) => Err(DocFault::Memory),
+        Err(Unread::NoJson) => Err(refused(alloc, Code::Json, ".")),
     }
 }
 

@@ -1,7 +1,7 @@
 // Entities, which may have entities of their own.
 ghost use Rattle.std.specs.Prelude.{◌≡◌, [], codes, map, option_map};
 ghost use Rattle.serde_json.specs.Find.{get};
-ghost use Rattle.serde_json.specs.View.{view, items_view};
+ghost use Rattle.pt_json.specs.View.{view, items_view};
 ghost use Rattle.pt_moml.specs.Classes.{kind_view};
 ghost use Rattle.pt_moml.specs.Document.{entity, to_entities};
 ghost use Rattle.pt_moml.specs.Outcome.{Gives};
@@ -17,7 +17,7 @@ use crate::property::properties_of;
 use crate::refusal::{DocFault, refused};
 use crate::rules::parts_fit;
 use pt_value::Text;
-use serde_json::Value;
+use pt_json::Value;
 use std::alloc::Global;
 
 /// What an entity has beside its entities.

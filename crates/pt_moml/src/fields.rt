@@ -1,7 +1,7 @@
 // Reading what stands at a field, for all objects alike.
 ghost use Rattle.std.specs.Prelude.{◌≡◌, List, ℕ, map, [], ◌∷◌, ◌++◌, Ok, Err, Some, Result, option_map, string_bytes};
 ghost use Rattle.serde_json.specs.Data.{Data};
-ghost use Rattle.serde_json.specs.View.{view, items_view, members_view};
+ghost use Rattle.pt_json.specs.View.{view, items_view, members_view};
 ghost use Rattle.pt_moml.specs.declared.refusal.Refusal.{Refusal};
 ghost use Rattle.pt_moml.specs.Outcome.{Gives, IsRefusal};
 ghost use Rattle.pt_moml.specs.Fields.{text_at, required_text, optional_text, name_at, truth_at, required_truth, optional_truth, required_whole, has_only, listed, items_at, required_list, optional_list, distinct_at};
@@ -10,8 +10,8 @@ use crate::code::Code;
 use crate::names::{NameSet, is_name, is_one_of};
 use crate::refusal::{DocFault, refused};
 use indexmap::IndexSet;
+use pt_json::Value;
 use pt_value::Text;
-use serde_json::{Map, Value};
 use std::alloc::Global;
 use std::hash::BuildHasherDefault;
 
@@ -99,11 +99,11 @@ pub fn whole_number(alloc: Global, path: &str, field: Option<&Value>) -> Result<
     }
 }
 
-fn has_only_these(members: &Map<String, Value>, keys: &[&str]) -> bool
-    ensures { result ≡ has_only (map (λ k. k.now) keys.now) (members_view members.now.entries) }
+fn has_only_these(members: &[(&str, Value)], keys: &[&str]) -> bool
+    ensures { result ≡ has_only (map (λ k. k.now) keys.now) (members_view members.now) }
 {
-    for (key, _) in members.iter() {
-        if !is_one_of(keys, key.as_str()) {
+    for member in members {
+        if !is_one_of(keys, member.0) {
             return false;
         }
     }
@@ -115,7 +115,13 @@ pub fn has_fields(alloc: Global, path: &str, value: &Value, keys: &[&str]) -> Re
     ensures { Gives (λ u. u) result (listed path.now (map (λ k. k.now) keys.now) (view value.now)) }
 {
     match value {
-        Value::Object(members) if has_only_these(members, keys) => Ok(()),
+        Value::Object(members) => {
+            if has_only_these(members, keys) {
+                Ok(())
+            } else {
+                Err(refused(alloc, Code::Shape, path))
+            }
+        }
         _ => Err(refused(alloc, Code::Shape, path)),
     }
 }

@@ -1,6 +1,6 @@
 // The tokens that come to the top.
 ghost use Rattle.std.specs.Prelude.{◌≡◌};
-ghost use Rattle.serde_json.specs.View.{view};
+ghost use Rattle.pt_json.specs.View.{view};
 ghost use Rattle.pt_moml.specs.View.{input_view};
 ghost use Rattle.pt_moml.specs.Outcome.{Gives};
 ghost use Rattle.pt_moml.specs.Reading.{tokens_input, events_input};
@@ -9,7 +9,7 @@ use crate::fields::{Part, has_fields, list, required, text_of, whole_number};
 use crate::job::{Event, Input, Supply};
 use crate::refusal::DocFault;
 use pt_value::Text;
-use serde_json::Value;
+use pt_json::Value;
 use std::alloc::Global;
 
 impl Part for Text {

@@ -1,9 +1,9 @@
 // How many entities a document has, and how deep they nest.
 ghost use Rattle.std.specs.Prelude.{◌≡◌, option_map};
-ghost use Rattle.serde_json.specs.View.{view, items_view};
+ghost use Rattle.pt_json.specs.View.{view, items_view};
 ghost use Rattle.pt_moml.specs.Limits as limits;
 
-use serde_json::Value;
+use pt_json::Value;
 
 const MOST_ENTITIES: u32 = 10_000;
 

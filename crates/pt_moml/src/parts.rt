@@ -1,6 +1,6 @@
 // The parts of an entity that read alike wherever they stand.
 ghost use Rattle.std.specs.Prelude.{◌≡◌, option_map};
-ghost use Rattle.serde_json.specs.View.{view};
+ghost use Rattle.pt_json.specs.View.{view};
 ghost use Rattle.pt_moml.specs.Outcome.{Gives};
 ghost use Rattle.pt_moml.specs.Reading.{direction_at, declared_at, port_link, relations_link};
 
@@ -14,7 +14,7 @@ use crate::property::properties_of;
 use crate::refusal::{DocFault, refused};
 use crate::type_text::is_type_text;
 use pt_value::Text;
-use serde_json::Value;
+use pt_json::Value;
 use std::alloc::Global;
 
 /// Exactly one of input and output.

@@ -1,6 +1,6 @@
 // Properties, which may have properties of their own.
 ghost use Rattle.std.specs.Prelude.{◌≡◌, List, map, [], option_map};
-ghost use Rattle.serde_json.specs.View.{view, items_view};
+ghost use Rattle.pt_json.specs.View.{view, items_view};
 ghost use Rattle.pt_moml.specs.View.{property_view, properties_view};
 ghost use Rattle.pt_moml.specs.Outcome.{Gives};
 ghost use Rattle.pt_moml.specs.Reading.{property_at, properties_field, property_items};
@@ -9,7 +9,7 @@ use crate::code::Code;
 use crate::fields::{Named, has_fields, name_of, names_differ, optional};
 use crate::job::Property;
 use crate::refusal::{DocFault, refused};
-use serde_json::Value;
+use pt_json::Value;
 use std::alloc::Global;
 
 impl Named for Property {

@@ -1,5 +1,5 @@
 use Rattle.std.proofs.Common.{[], codes, sym, arith}
-use Rattle.serde_json.specs.View.{view, items_view}
+use Rattle.pt_json.specs.View.{view, items_view}
 use Rattle.pt_moml.proofs.Depths.{get_field_depth, item_depth}
 use Rattle.pt_moml.proofs.Entities.{items_are}
 use Rattle.pt_moml.proofs.entity.+entities.Goals as goal

@@ -1,5 +1,5 @@
 use Rattle.std.proofs.Common.{◌≡◌, ◌+◌, ◌*◌, drop}
-use Rattle.serde_json.specs.View.{items_view}
+use Rattle.pt_json.specs.View.{items_view}
 use Rattle.pt_moml.specs.Limits as limits
 use Rattle.pt_moml.proofs.limits.+limits.Given as goal
 

@@ -1,6 +1,6 @@
 use Rattle.std.proofs.Common.{ap, ◌∙◌, option_map}
 use Rattle.std.specs.Prelude.{is_some}
-use Rattle.serde_json.specs.View.{view}
+use Rattle.pt_json.specs.View.{view}
 use Rattle.pt_moml.specs.Limits.{nest_field}
 use Rattle.pt_moml.proofs.Nests.{is_within_is}
 use Rattle.pt_moml.proofs.limits.is_within.Goals as goal
