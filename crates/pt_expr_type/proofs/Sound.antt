@@ -1,11 +1,11 @@
 -- The value of a tree is of the tree's type.
 use Rattle.std.proofs.Common.{◌≡◌, ℕ, Bool, true, false, ◌&&◌, List, [], ◌∷◌, map, Option, Some, None, option_map, if◌then◌else◌, refl, sym, ap, subst, ◌∙◌}
-use Rattle.std.specs.Prelude.{unwrap_or, is_some, IsSome, IfSome, ℤ, neg_ℤ, pos, unsigned_abs, int_lt}
+use Rattle.std.specs.Prelude.{unwrap_or, is_some, IsSome, IfSome, neg_ℤ, pos, unsigned_abs, int_lt}
 use Rattle.std.specs.Str.{bytes_eq}
 use Rattle.pt_value.specs.Value as val
 use Rattle.pt_value.specs.Value.{Value, values_of, named_of}
 use Rattle.pt_value.specs.Record.{names}
-use Rattle.pt_types.specs.Datatype.{Datatype, Unknown, Int, Boolean, Array, Record, types_of}
+use Rattle.pt_types.specs.Datatype.{Datatype, Unknown, Boolean, Array, Record, types_of}
 use Rattle.pt_types.specs.Normal.{array_of, record_of}
 use Rattle.pt_types.specs.Order.{is_below, are_below, IsBelow}
 use Rattle.pt_types.specs.Join.{join}
@@ -23,9 +23,9 @@ use Rattle.pt_expr.specs.Tree as tree
 use Rattle.pt_expr.specs.Tree.{Tree, Trees, no_trees, tree_then, NamedTrees}
 use Rattle.pt_expr_type.specs.Typing as typing
 use Rattle.pt_expr_type.specs.Typing.{Typing, Has, Clash, where_true}
-use Rattle.pt_expr_type.specs.Types.{Types, or_else, presence_type, type_under}
+use Rattle.pt_expr_type.specs.Types.{Types, or_else, presence_type}
 use Rattle.pt_expr_type.specs.ByName.{put, by_name}
-use Rattle.pt_expr_type.specs.TreeType.{number, truth, calculated, applied, field, length_of, operated, chosen, recorded, tree_type, parts_type, named_types, are_bound, are_parts_bound, are_fields_bound, IsTyped}
+use Rattle.pt_expr_type.specs.TreeType.{number, truth, calculated, applied, field, length_of, recorded, tree_type, parts_type, named_types, are_bound, are_parts_bound, are_fields_bound, IsTyped}
 use Rattle.pt_expr_type.specs.Laws.{IsHeld, Keeps, IsOfType}
 use Rattle.pt_expr_type.proofs.Values.{Sound, Of, then-sound, two-sound, where-sound, number-sound, denied-sound, exact-sound, within-sound, calculated-sound, operated-sound, chosen-sound, applied-sound, field-sound, length_of-sound}
 

@@ -1,18 +1,18 @@
 -- Tokens by the types that they have, and what operators make of them.
-use Rattle.std.proofs.Common.{◌≡◌, ℕ, zero, suc, ℤ, pos, negsuc, Bool, true, false, not, ◌&&◌, List, [], ◌∷◌, ◌++◌, length, map, Option, Some, None, if◌then◌else◌, refl, sym, ap, subst, ◌∙◌}
-use Rattle.std.specs.Prelude.{slice_get, chars, int_lt, neg_ℤ, unsigned_abs, int_div, ◌+ℤ◌, ◌-ℤ◌, ◌*ℤ◌}
+use Rattle.std.proofs.Common.{◌≡◌, ℕ, zero, suc, ℤ, pos, negsuc, Bool, true, false, not, ◌&&◌, List, ◌++◌, length, Option, Some, if◌then◌else◌, refl, sym, ap}
+use Rattle.std.specs.Prelude.{slice_get, chars, int_div, ◌+ℤ◌, ◌-ℤ◌, ◌*ℤ◌}
 use Rattle.std.specs.Str.{bytes_eq}
 use Rattle.pt_value.specs.Value as val
 use Rattle.pt_value.specs.Value.{Value, Values, no_values, value_then, Named, list_of, values_of, size}
 use Rattle.pt_value.specs.Record.{field_at}
-use Rattle.pt_types.specs.Datatype.{Datatype, Unknown, Int, Boolean, Words, Array, Record, General, FieldTypes, no_fields, field_then, types_of}
+use Rattle.pt_types.specs.Datatype.{Datatype, Unknown, Int, Boolean, Words, Array, Record, General, FieldTypes, no_fields, field_then}
 use Rattle.pt_types.specs.Normal.{array_of, record_of}
 use Rattle.pt_types.specs.Order.{is_below, are_below, IsBelow}
 use Rattle.pt_types.specs.Join.{join}
 use Rattle.pt_types.specs.Token.{type_of_value, join_of, field_types}
 use Rattle.pt_types.proofs.Fields.{and_left, and_right}
 use Rattle.pt_types.proofs.Joins.{below-normal, join-below}
-use Rattle.pt_types.proofs.Order.{same_bytes, below-refl, below-trans}
+use Rattle.pt_types.proofs.Order.{same_bytes, below-trans}
 use Rattle.pt_expr.specs.declared.expr.BinaryOp.{BinaryOp}
 use Rattle.pt_expr.specs.declared.expr.BinaryOp.TheVariants as op
 use Rattle.pt_expr.specs.declared.fault.EvalFault.TheVariants.{Overflow, Size}
@@ -21,7 +21,7 @@ use Rattle.pt_expr.specs.Comparable.{is_general, have_join}
 use Rattle.pt_expr.specs.Meaning as meaning
 use Rattle.pt_expr_type.specs.Typing as typing
 use Rattle.pt_expr_type.specs.Typing.{Typing, Has, Clash, where_true}
-use Rattle.pt_expr_type.specs.TreeType.{number, truth, are_both, summed, calculated, ordered, decided, compared, operated, chosen, element, applied, type_in, field, length_of}
+use Rattle.pt_expr_type.specs.TreeType.{number, are_both, summed, calculated, ordered, decided, compared, operated, chosen, element, applied, type_in, field, length_of}
 use Rattle.pt_expr_type.specs.Grows.{not_general-below}
 use Rattle.pt_expr_type.proofs.JoinLaws.{join-first, join-second}
 

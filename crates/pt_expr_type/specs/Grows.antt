@@ -1,5 +1,5 @@
 -- Greater types of the names give no smaller type of a tree.
-use Rattle.std.proofs.Common.{◌≡◌, ℕ, ◌⊎◌, inl, inr, Bool, true, false, not, ◌&&◌, List, [], ◌∷◌, map, Option, Some, None, option_map, if◌then◌else◌, refl, sym, ap, ◌∙◌}
+use Rattle.std.proofs.Common.{◌≡◌, ℕ, Bool, true, false, not, ◌&&◌, List, [], ◌∷◌, map, Option, Some, None, option_map, if◌then◌else◌, refl, sym, ap, ◌∙◌}
 use Rattle.std.specs.Prelude.{unwrap_or, is_some}
 use Rattle.std.specs.Str.{bytes_eq}
 use Rattle.pt_types.specs.Datatype.{Datatype, Unknown, Int, Boolean, Words, Array, Record, General, FieldTypes, no_fields, field_then, types_of}
@@ -7,8 +7,8 @@ use Rattle.pt_types.specs.Normal.{array_of}
 use Rattle.pt_types.specs.Order.{is_below, are_below, IsBelow}
 use Rattle.pt_types.specs.Join.{join}
 use Rattle.pt_types.proofs.Fields.{and_left, and_right, and_both}
-use Rattle.pt_types.proofs.Joins.{bool_cases, normal-below, join-below}
-use Rattle.pt_types.proofs.Order.{same_bytes, bytes_eq-refl, below-refl, below-trans, below-General}
+use Rattle.pt_types.proofs.Joins.{normal-below, join-below}
+use Rattle.pt_types.proofs.Order.{same_bytes, bytes_eq-refl, below-trans, below-General}
 use Rattle.pt_expr.specs.declared.expr.BinaryOp.{BinaryOp}
 use Rattle.pt_expr.specs.declared.expr.BinaryOp.TheVariants as op
 use Rattle.pt_expr.specs.Comparable.{is_general}

@@ -1,13 +1,12 @@
 -- What a rule makes of types grows with them.
-use Rattle.std.proofs.Common.{◌≡◌, ℕ, zero, suc, Bool, true, false, List, [], ◌∷◌, length, Option, Some, None, if◌then◌else◌, refl, sym, ap, arith}
+use Rattle.std.proofs.Common.{◌≡◌, ℕ, zero, suc, Bool, true, false, List, [], ◌∷◌, Option, None, if◌then◌else◌, refl, arith}
 use Rattle.std.specs.Prelude.{slice_get}
 use Rattle.std.specs.Str.{bytes_eq}
 use Rattle.pt_types.specs.Datatype.{Datatype, General}
 use Rattle.pt_types.specs.Order.{IsBelow}
 use Rattle.pt_types.specs.Rules.{AllBelow}
 use Rattle.pt_expr.specs.Tree.{Tree}
-use Rattle.pt_expr_type.specs.Typing.{Typing, or_general}
-use Rattle.pt_expr_type.specs.Types.{Types, or_else}
+use Rattle.pt_expr_type.specs.Typing.{or_general}
 use Rattle.pt_expr_type.specs.TreeType.{tree_type, are_bound}
 use Rattle.pt_expr_type.specs.Rule.{numbered, type_or_general}
 use Rattle.pt_expr_type.specs.Laws.{IsBelowAt, AreBelow}
