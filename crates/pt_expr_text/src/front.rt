@@ -1,12 +1,8 @@
-ghost use Rattle.std.specs.Prelude.{◌≡◌, ℕ, List, Some, IfOk, OnOk, option_map, map, length, not, true, nat_eq};
-ghost use Rattle.std.proofs.Common.{cond};
-ghost use denote.Ref.{Bor};
-ghost use Rattle.std.specs.Cmp.Lexicographic.{pointwise};
-ghost use Rattle.std.specs.HashSet.{contains};
-ghost use Rattle.pt_expr.specs.Expr.{tree_of, entry_of};
+ghost use Rattle.std.specs.Prelude.{◌≡◌, Some, option_map};
+ghost use Rattle.pt_expr.specs.Expr.{tree_of};
 ghost use Rattle.pt_expr_text.specs.Fault.{Gives};
 ghost use Rattle.pt_expr_text.specs.Symbol.{after};
-ghost use Rattle.pt_expr_text.specs.Descent.{expression, choice, minus, signed_literal, list_at, record_at, at_level, operand_at, joined, compared_with, second, operator_first, unary, negative, bare_digits, postfix, suffixes, suffix, suffix_first, empty_call, field_named, name_first, primary, primary_symbol, positive, in_braces, listed, named, begins_record, has_repeated, one_operand, two_operands};
+ghost use Rattle.pt_expr_text.specs.Descent.{operator_first, bare_digits, suffix_first, empty_call, field_named, name_first, begins_record};
 
 use crate::fault::ParseFault;
 use crate::level::{Level, binding_at};
