@@ -1,5 +1,5 @@
 -- Evaluations worked by hand from the rules of the language: each text stands over what it comes to.
-use Rattle.std.specs.Prelude.{◌≡◌, ℕ, zero, suc, ◌+◌, ℤ, pos, neg_ℤ, List, [], ◌∷◌, ◌++◌, length, map, codes, Bool, true, false, Option, Some, None, option_map, if◌then◌else◌, refl}
+use Rattle.std.specs.Prelude.{◌≡◌, ℕ, zero, suc, ◌+◌, pos, neg_ℤ, List, [], ◌∷◌, ◌++◌, length, map, codes, Bool, true, false, Option, Some, None, option_map, if◌then◌else◌, refl}
 use Rattle.std.specs.Str.{bytes_eq, chars}
 use Rattle.pt_value.specs.Value as val
 use Rattle.pt_value.specs.Value.{Value, Int, Words, Array, Record, values_of, named_of}
@@ -10,7 +10,7 @@ use Rattle.pt_expr.specs.Outcome.{Outcome, Gives, Stops, Wrong}
 use Rattle.pt_expr.specs.Meaning.{value}
 use Rattle.pt_expr_text.specs.declared.word.Word.{Word}
 use Rattle.pt_expr_text.specs.Words.{Found, word_at, without_blanks}
-use Rattle.pt_expr_text.specs.Descent.{expression, Read, ◌>>=◌}
+use Rattle.pt_expr_text.specs.Descent.{expression, ◌>>=◌}
 
 -- the words of a text, where it is words to its end
 abbrev one_more : (List ℕ → Option (List Word)) → Found → List ℕ → Option (List Word)

@@ -1,5 +1,5 @@
 -- Printed texts worked by hand from the rules: each tree stands over its text.
-use Rattle.std.specs.Prelude.{◌≡◌, ℕ, ℤ, pos, negsuc, List, [], ◌∷◌, map, codes, true, refl}
+use Rattle.std.specs.Prelude.{◌≡◌, ℕ, pos, negsuc, [], ◌∷◌, map, codes, true, refl}
 use Rattle.std.specs.Fmt.{digits}
 use Rattle.pt_expr.specs.declared.expr.BinaryOp.TheVariants as op
 use Rattle.pt_expr.specs.Tree as tree

@@ -8,3 +8,4 @@ pub mod Spelled
 pub mod Whole
 mod Examples
 mod Evaluations
+pub mod Tokens

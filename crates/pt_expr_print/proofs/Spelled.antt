@@ -26,7 +26,7 @@ run_passes p (x ∷ xs) = by_test (p x) refl (run_passes p xs)
         subst P (sym q) (omega (arith, k, h))
     by_test false e h = refl
 
-continues : (c : ℕ) → begins_name c ≡ true → continues_name c ≡ true
+pub continues : (c : ℕ) → begins_name c ≡ true → continues_name c ≡ true
 continues c h = grind (arith, nat_tests)
 
 run_begins : (c : ℕ) (cs : List ℕ) → begins_name c ≡ true → Begins (take (prefix_len continues_name (c ∷ cs)) (c ∷ cs))

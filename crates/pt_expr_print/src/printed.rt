@@ -47,7 +47,7 @@ fn write(tree: &Expr, out: &mut String) -> Result<(), AllocError>
         Expr::Min(a, b) => write_call_of_two("min", a, b, out),
         Expr::Apply(base, index) => {
             write_base(base, out)?;
-            write_call("", index, out)
+            write_enclosed(index, out)
         }
         Expr::Field(base, name) => {
             write_base(base, out)?;
@@ -61,15 +61,23 @@ fn write(tree: &Expr, out: &mut String) -> Result<(), AllocError>
     }
 }
 
+/// A tree in parentheses.
+#[cycle(writes)]
+fn write_enclosed(tree: &Expr, out: &mut String) -> Result<(), AllocError>
+    ensures { OnOk result (string_bytes out.new ≡ string_bytes out.old ++ in_parentheses (printed (tree_of tree.now))) }
+{
+    out.push('(')?;
+    write(tree, out)?;
+    out.push(')')
+}
+
 /// A sign or a function, and its operand in parentheses.
 #[cycle(writes)]
 fn write_call(function: &str, operand: &Expr, out: &mut String) -> Result<(), AllocError>
     ensures { OnOk result (string_bytes out.new ≡ string_bytes out.old ++ (function.now ++ in_parentheses (printed (tree_of operand.now)))) }
 {
     out.push_str(function)?;
-    out.push('(')?;
-    write(operand, out)?;
-    out.push(')')
+    write_enclosed(operand, out)
 }
 
 /// A function, and its two operands in parentheses.
@@ -98,7 +106,7 @@ fn write_operand(tree: &Expr, out: &mut String) -> Result<(), AllocError>
     if is_bare_operand(tree) {
         write(tree, out)
     } else {
-        write_call("", tree, out)
+        write_enclosed(tree, out)
     }
 }
 
@@ -110,7 +118,7 @@ fn write_base(tree: &Expr, out: &mut String) -> Result<(), AllocError>
     if is_bare_base(tree) {
         write(tree, out)
     } else {
-        write_call("", tree, out)
+        write_enclosed(tree, out)
     }
 }
 

@@ -1,7 +1,7 @@
 ghost use Rattle.std.specs.Prelude.{◌≡◌, ◌↔◌, ◌≤◌, ◌<◌, ◌+◌, IsTrue, false, length};
 ghost use Rattle.pt_expr_text.specs.Deep.{most_open, open_behind, counted, ends_operand, is_counted, IsTooFull};
 
-use crate::descent::bare_digits;
+use crate::front::bare_digits;
 use crate::level::binding;
 use crate::word::{Symbol, Word};
 

@@ -1,21 +1,19 @@
-ghost use Rattle.std.specs.Prelude.{◌≡◌, ℕ, List, Some, IfOk, OnOk, option_map, map, length, not, true, nat_eq};
-ghost use Rattle.std.proofs.Common.{cond};
-ghost use denote.Ref.{Bor};
-ghost use Rattle.std.specs.Cmp.Lexicographic.{pointwise};
-ghost use Rattle.std.specs.HashSet.{contains};
+ghost use Rattle.std.specs.Prelude.{map, length};
 ghost use Rattle.pt_expr.specs.Expr.{tree_of, entry_of};
 ghost use Rattle.pt_expr_text.specs.Fault.{Gives};
-ghost use Rattle.pt_expr_text.specs.Symbol.{after};
-ghost use Rattle.pt_expr_text.specs.Descent.{expression, choice, minus, signed_literal, list_at, record_at, at_level, operand_at, joined, compared_with, second, operator_first, unary, negative, bare_digits, postfix, suffixes, suffix, suffix_first, empty_call, field_named, name_first, primary, primary_symbol, positive, in_braces, listed, named, begins_record, has_repeated, one_operand, two_operands};
+ghost use Rattle.pt_expr_text.specs.Descent.{expression, choice, minus, list_at, record_at, at_level, operand_at, joined, compared_with, second, unary, postfix, suffixes, suffix, primary, primary_symbol, in_braces, listed, named, one_operand, two_operands};
 
 use crate::fault::ParseFault;
-use crate::level::{Level, binding_at};
+use crate::front::{
+    after, bare_digits, begins_record, expect, field_named, name_first, operator_first,
+    suffix_first,
+};
+use crate::level::Level;
+use crate::literal::{has_repeated, negative, positive, signed_literal};
 use crate::node;
 use crate::word::{Symbol, Word};
 use pt_expr::{BinaryOp, Expr, NamedExpr};
-use pt_value::Text;
 use std::alloc::{AllocError, Global};
-use std::collections::HashSet;
 
 /// The expression at the front of some words, and the words behind it. At most `depth` expressions stand in one another there.
 #[cycle(expressions)]
@@ -82,15 +80,6 @@ fn operand(
         Level::Sum => operators(alloc, depth, Level::Term, words),
         Level::Term => unary(alloc, depth, words),
     }
-}
-
-/// The operator of a level at the front, and the words behind it.
-fn operator_first(level: Level, words: &[Word]) -> Option<(BinaryOp, &[Word])>
-    ensures { option_map (λ x. (x.0, x.1.now)) result ≡ operator_first level words.now }
-{
-    let (word, rest) = words.split_first()?;
-    let op = level.operator(word)?;
-    Some((op, rest))
 }
 
 /// The further operands of a level, grouped to the left.
@@ -176,13 +165,6 @@ fn minus(alloc: Global, depth: usize, words: &[Word]) -> Result<(Expr, &[Word]),
     }
 }
 
-/// A literal with its sign.
-fn signed_literal(number: u64, rest: &[Word]) -> Result<(Expr, &[Word]), ParseFault>
-    ensures { Gives (λ x. (tree_of x.0, x.1.now)) result (signed_literal number rest.now) }
-{
-    Ok((negative(number)?, rest))
-}
-
 /// A primary with the calls and fields behind it.
 #[cycle(expressions)]
 fn postfix(alloc: Global, depth: usize, words: &[Word]) -> Result<(Expr, &[Word]), ParseFault>
@@ -213,17 +195,6 @@ fn suffixes(
     Ok((base, rest))
 }
 
-/// The words themselves, where a call or a field begins there.
-fn suffix_first(words: &[Word]) -> Option<&[Word]>
-    ensures { option_map (λ r. r.now) result ≡ suffix_first words.now }
-{
-    if binding_at(words) == 8 {
-        Some(words)
-    } else {
-        None
-    }
-}
-
 /// A call or a field behind its base.
 #[cycle(expressions)]
 fn suffix(
@@ -246,88 +217,6 @@ fn suffix(
             field_named(alloc, base, name, rest)
         }
     }
-}
-
-/// A field by its name, or the length where an empty call follows that name.
-fn field_named<'w>(
-    alloc: Global,
-    base: Expr,
-    name: &Text,
-    words: &'w [Word],
-) -> Result<(Expr, &'w [Word]), ParseFault>
-    ensures { Gives (λ x. (tree_of x.0, x.1.now)) result (Some (field_named (tree_of base) name.now words.now)) }
-{
-    if name.as_str() == "length" {
-        if let Some(rest) = empty_call(words) {
-            return Ok((node::length(alloc, base)?, rest));
-        }
-    }
-    Ok((node::field(alloc, base, name.as_str())?, words))
-}
-
-/// The words behind an empty call.
-fn empty_call(words: &[Word]) -> Option<&[Word]>
-    ensures { option_map (λ r. r.now) result ≡ empty_call words.now }
-{
-    after(Symbol::Close, after(Symbol::Open, words)?)
-}
-
-/// The name at the front, and the words behind it.
-fn name_first(words: &[Word]) -> Option<(&Text, &[Word])>
-    ensures { option_map (λ x. (x.0.now, x.1.now)) result ≡ name_first words.now }
-{
-    match words.split_first()? {
-        (Word::Name(name), rest) => Some((name, rest)),
-        _ => None,
-    }
-}
-
-/// The words behind a symbol, where it stands at the front.
-fn after(symbol: Symbol, words: &[Word]) -> Option<&[Word]>
-    ensures { option_map (λ r. r.now) result ≡ after symbol words.now }
-{
-    let (first, rest) = words.split_first()?;
-    if first.is(symbol) { Some(rest) } else { None }
-}
-
-/// The words behind a symbol that must stand at the front.
-fn expect(symbol: Symbol, words: &[Word]) -> Result<&[Word], ParseFault>
-    ensures { Gives (λ r. r.now) result (after symbol words.now) }
-{
-    after(symbol, words).ok_or(ParseFault::Syntax)
-}
-
-/// Digits at the front that no call or field follows, and the words behind them.
-pub(crate) fn bare_digits(words: &[Word]) -> Option<(u64, &[Word])>
-    ensures { option_map (λ x. (x.0, x.1.now)) result ≡ bare_digits words.now }
-{
-    match words.split_first()? {
-        (Word::Digits(number), rest) if binding_at(rest) != 8 => Some((*number, rest)),
-        _ => None,
-    }
-}
-
-/// An integer literal.
-fn positive(number: u64) -> Result<Expr, ParseFault>
-    ensures { Gives tree_of result (positive number) }
-{
-    match i64::try_from(number) {
-        Ok(n) => Ok(Expr::Int(n)),
-        Err(_) => Err(ParseFault::Syntax),
-    }
-}
-
-/// An integer literal behind a minus.
-fn negative(number: u64) -> Result<Expr, ParseFault>
-    ensures { Gives tree_of result (negative number) }
-{
-    if number > 0x8000_0000_0000_0000 {
-        return Err(ParseFault::Syntax);
-    }
-    if number == 0x8000_0000_0000_0000 {
-        return Ok(Expr::Int(i64::MIN));
-    }
-    Ok(Expr::Int(-(number as i64)))
 }
 
 /// A literal, a name, an expression in parentheses, or a call of one of the three functions.
@@ -438,16 +327,6 @@ fn record_at(alloc: Global, depth: usize, words: &[Word]) -> Result<(Expr, &[Wor
     Ok((node::record(fields), rest))
 }
 
-/// Whether a name and an equals sign stand at the front.
-fn begins_record(words: &[Word]) -> bool
-    ensures { result ≡ begins_record words.now }
-{
-    match name_first(words) {
-        Some((_, rest)) => after(Symbol::Assign, rest).is_some(),
-        None => false,
-    }
-}
-
 /// The parts of a list, and the words behind its closing brace.
 #[cycle(expressions)]
 fn parts(alloc: Global, depth: usize, words: &[Word]) -> Result<(Vec<Expr>, &[Word]), ParseFault>
@@ -498,25 +377,4 @@ fn named(alloc: Global, depth: usize, words: &[Word]) -> Result<(NamedExpr, &[Wo
     let (value, rest) = expression(alloc, depth, rest)?;
     let name = name.copy(alloc)?;
     Ok((NamedExpr { name, value }, rest))
-}
-
-/// Whether a name stands twice.
-fn has_repeated(alloc: Global, fields: &[NamedExpr]) -> Result<bool, AllocError>
-    ensures { IfOk result (λ repeated. repeated ≡ has_repeated (map (λ f. f.0) (map entry_of fields.now))) }
-{
-    let mut names = HashSet::new(alloc);
-    for field in fields {
-        if !insert_name(&mut names, field.name.as_str())? {
-            return Ok(true);
-        }
-    }
-    Ok(false)
-}
-
-/// Adds a name, and says whether it wasn't there.
-fn insert_name<'n>(names: &mut HashSet<&'n str>, name: &'n str) -> Result<bool, AllocError>
-    ensures added { IfOk result (λ added. added ≡ not (contains (λ x y. pointwise nat_eq x.now y.now) names.old name.entry)) }
-    ensures updates { OnOk result ((q : Bor (List ℕ)) → contains (λ x y. pointwise nat_eq x.now y.now) names.new q ≡ cond (pointwise nat_eq name.now q.now) true (contains (λ x y. pointwise nat_eq x.now y.now) names.old q)) }
-{
-    Ok(names.insert(name)?)
 }

@@ -4,7 +4,9 @@
 mod deep;
 mod descent;
 mod fault;
+mod front;
 mod level;
+mod literal;
 mod node;
 mod parser;
 #[cfg(test)]

@@ -12,12 +12,15 @@ abbrev pub invariant-write_parts-loop-index : goal.invariant-write_parts-loop-in
 invariant-write_parts-loop-index l =
     (map tree_of l.part-items ≡ trees_in l.parts) × (string_bytes l.out ≡ string_bytes l.initial.out ++ array_body (take l.index l.part-items))
 
--- four for each level: a node, then its operands in parentheses, then a part of a literal, then a base or an operand
+-- four for each level: a tree itself, then a tree in parentheses, then an operand, a base or a call, then a choice
 abbrev pub decreases-write : goal.decreases-write
 decreases-write l = 4 * height (tree_of l.tree.now)
 
+abbrev pub decreases-write_enclosed : goal.decreases-write_enclosed
+decreases-write_enclosed l = 4 * height (tree_of l.tree.now) + 1
+
 abbrev pub decreases-write_call : goal.decreases-write_call
-decreases-write_call l = 4 * height (tree_of l.operand.now) + 1
+decreases-write_call l = 4 * height (tree_of l.operand.now) + 2
 
 abbrev pub decreases-write_call_of_two : goal.decreases-write_call_of_two
 decreases-write_call_of_two l = 4 * max (height (tree_of l.first.now)) (height (tree_of l.second.now)) + 1

@@ -5,7 +5,7 @@ use Rattle.std.specs.Cmp.Lexicographic.{pointwise}
 use Rattle.std.specs.HashSet.{contains}
 use Rattle.pt_expr.specs.Expr.{entry_of}
 use Rattle.pt_expr_text.specs.Descent.{is_among, repeats_behind, has_repeated}
-use Rattle.pt_expr_text.proofs.descent.has_repeated.Given as goal
+use Rattle.pt_expr_text.proofs.literal.has_repeated.Given as goal
 
 abbrev pub invariant-loop-field : goal.invariant-loop-field
 invariant-loop-field l = (seen : List (List ℕ)) × ((q : Bor (List ℕ)) → contains (λ x y. pointwise nat_eq x.now y.now) l.names q ≡ is_among seen q.now)

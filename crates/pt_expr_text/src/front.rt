@@ -1,0 +1,102 @@
+ghost use Rattle.std.specs.Prelude.{◌≡◌, Some, option_map};
+ghost use Rattle.pt_expr.specs.Expr.{tree_of};
+ghost use Rattle.pt_expr_text.specs.Fault.{Gives};
+ghost use Rattle.pt_expr_text.specs.Symbol.{after};
+ghost use Rattle.pt_expr_text.specs.Descent.{operator_first, bare_digits, suffix_first, empty_call, field_named, name_first, begins_record};
+
+use crate::fault::ParseFault;
+use crate::level::{Level, binding_at};
+use crate::node;
+use crate::word::{Symbol, Word};
+use pt_expr::{BinaryOp, Expr};
+use pt_value::Text;
+use std::alloc::Global;
+
+/// The words behind a symbol, where it stands at the front.
+pub(crate) fn after(symbol: Symbol, words: &[Word]) -> Option<&[Word]>
+    ensures { option_map (λ r. r.now) result ≡ after symbol words.now }
+{
+    let (first, rest) = words.split_first()?;
+    if first.is(symbol) { Some(rest) } else { None }
+}
+
+/// The words behind a symbol that must stand at the front.
+pub(crate) fn expect(symbol: Symbol, words: &[Word]) -> Result<&[Word], ParseFault>
+    ensures { Gives (λ r. r.now) result (after symbol words.now) }
+{
+    after(symbol, words).ok_or(ParseFault::Syntax)
+}
+
+/// The name at the front, and the words behind it.
+pub(crate) fn name_first(words: &[Word]) -> Option<(&Text, &[Word])>
+    ensures { option_map (λ x. (x.0.now, x.1.now)) result ≡ name_first words.now }
+{
+    match words.split_first()? {
+        (Word::Name(name), rest) => Some((name, rest)),
+        _ => None,
+    }
+}
+
+/// The words behind an empty call.
+fn empty_call(words: &[Word]) -> Option<&[Word]>
+    ensures { option_map (λ r. r.now) result ≡ empty_call words.now }
+{
+    after(Symbol::Close, after(Symbol::Open, words)?)
+}
+
+/// The operator of a level at the front, and the words behind it.
+pub(crate) fn operator_first(level: Level, words: &[Word]) -> Option<(BinaryOp, &[Word])>
+    ensures { option_map (λ x. (x.0, x.1.now)) result ≡ operator_first level words.now }
+{
+    let (word, rest) = words.split_first()?;
+    let op = level.operator(word)?;
+    Some((op, rest))
+}
+
+/// The words themselves, where a call or a field begins there.
+pub(crate) fn suffix_first(words: &[Word]) -> Option<&[Word]>
+    ensures { option_map (λ r. r.now) result ≡ suffix_first words.now }
+{
+    if binding_at(words) == 8 {
+        Some(words)
+    } else {
+        None
+    }
+}
+
+/// Digits at the front that no call or field follows, and the words behind them.
+pub(crate) fn bare_digits(words: &[Word]) -> Option<(u64, &[Word])>
+    ensures { option_map (λ x. (x.0, x.1.now)) result ≡ bare_digits words.now }
+{
+    match words.split_first()? {
+        (Word::Digits(number), rest) if binding_at(rest) != 8 => Some((*number, rest)),
+        _ => None,
+    }
+}
+
+/// Whether a name and an equals sign stand at the front.
+pub(crate) fn begins_record(words: &[Word]) -> bool
+    ensures { result ≡ begins_record words.now }
+{
+    match name_first(words) {
+        Some((_, rest)) => after(Symbol::Assign, rest).is_some(),
+        None => false,
+    }
+}
+
+/// A field by its name, or the length where an empty call follows that name.
+pub(crate) fn field_named<'w>(
+    alloc: Global,
+    base: Expr,
+    name: &Text,
+    words: &'w [Word],
+) -> Result<(Expr, &'w [Word]), ParseFault>
+    ensures { Gives (λ x. (tree_of x.0, x.1.now)) result (Some (field_named (tree_of base) name.now words.now)) }
+{
+    if name.as_str() == "length" {
+        if let Some(rest) = empty_call(words) {
+            return Ok((node::length(alloc, base)?, rest));
+        }
+    }
+    Ok((node::field(alloc, base, name.as_str())?, words))
+}
