@@ -23,6 +23,8 @@ mod repeat;
 mod sample_delay;
 mod scale;
 mod sequence;
+#[cfg(test)]
+mod tests;
 mod up_sample;
 
 pub use absolute_value::AbsoluteValue;
