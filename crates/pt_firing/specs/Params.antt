@@ -38,3 +38,8 @@ bool_or name default values = as_bool default (value_under name values)
 unfoldable pub channels_to : List ℕ → List (List ℕ × ℕ) → ℕ
 channels_to name [] = 0
 channels_to name (entry ∷ entries) = if bytes_eq entry.0 name then entry.1 else channels_to name entries
+
+-- the names of the ports but one, in order
+unfoldable pub names_but : List ℕ → List (List ℕ × ℕ) → List (List ℕ)
+names_but other [] = []
+names_but other (entry ∷ entries) = if bytes_eq entry.0 other then names_but other entries else entry.0 ∷ names_but other entries

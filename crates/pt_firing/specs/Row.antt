@@ -1,5 +1,5 @@
 -- What the rows of library actors have in common. Types are checked before a run, so a token of another type than a place has never comes there; a row takes it as none.
-use Rattle.std.specs.Prelude.{ℕ, ◌^◌, nat_lt, List, [], ◌∷◌, Bool, Option, Some, None, replicate, ℤ, pos, negsuc, if◌then◌else◌}
+use Rattle.std.specs.Prelude.{ℕ, ◌^◌, nat_lt, List, [], ◌∷◌, Bool, true, ◌&&◌, Option, is_some, Some, None, replicate, ℤ, pos, negsuc, if◌then◌else◌}
 use Rattle.pt_meaning.specs.Basics.{Streams, at}
 use Rattle.pt_meaning.specs.Machine.{Need, Counts}
 use Rattle.pt_meaning.specs.Node.{Answer, Gives, Fails}
@@ -60,6 +60,15 @@ truth_in tokens = truth_of (first_in tokens)
 
 abbrev pub truth_at : Streams Token → ℕ → Option Bool
 truth_at X place = truth_in (at X place)
+
+-- a place has a token
+abbrev pub is_present : {T : Type 0} → Streams T → ℕ → Bool
+is_present X place = is_some (token_at X place)
+
+-- each place has one
+abbrev pub all_present : {T : Type 0} → Streams T → Bool
+all_present [] = true
+all_present (xs ∷ X) = is_some (first_in xs) && all_present X
 
 -- an actor that gives nothing and keeps its state where its input is absent
 abbrev pub on_present : {A T : Type 0} → A → (T → Answer Token A) → Option T → Answer Token A

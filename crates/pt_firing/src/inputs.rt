@@ -1,6 +1,6 @@
 ghost use Rattle.std.specs.Prelude.{◌≡◌, ◌<◌, length, option_map};
 ghost use Rattle.pt_meaning.specs.Basics.{at};
-ghost use Rattle.pt_firing.specs.Row.{token_at, number_at, truth_at};
+ghost use Rattle.pt_firing.specs.Row.{token_at, number_at, truth_at, is_present, all_present};
 
 use crate::tokens::Tokens;
 use pt_value::Token;
@@ -78,5 +78,24 @@ impl<'a> Inputs<'a> {
             Some(Token::Bool(b)) => Some(*b),
             _ => None,
         }
+    }
+
+    /// Whether a place has a token.
+    pub fn is_present(&self, place: usize) -> bool
+        ensures { result ≡ is_present self.now place }
+    {
+        self.token_at(place).is_some()
+    }
+
+    /// Whether each place has a token.
+    pub fn all_present(&self) -> bool
+        ensures { result ≡ all_present self.now }
+    {
+        for place in 0..self.places() {
+            if !self.is_present(place) {
+                return false;
+            }
+        }
+        true
     }
 }

@@ -1,7 +1,9 @@
-ghost use Rattle.std.specs.Prelude.{◌≡◌, option_map};
-ghost use Rattle.pt_firing.specs.Params.{value_under, int_or, int_within, only_within, bool_or, channels_to};
+ghost use Rattle.std.specs.Prelude.{◌≡◌, option_map, IfOk};
+ghost use Rattle.pt_firing.specs.Params.{value_under, int_or, int_within, only_within, bool_or, channels_to, names_but};
 
+use crate::names::Names;
 use pt_value::{Text, Token};
+use std::alloc::{AllocError, Global};
 use std::marker::Model;
 
 /// Evaluated parameters by name.
@@ -28,6 +30,22 @@ impl Values {
         ensures { result ≡ values.items }
     {
         Values { values }
+    }
+
+    pub fn as_slice(&self) -> &[(Text, Token)]
+        ensures { result.now ≡ self.now }
+    {
+        self.values.as_slice()
+    }
+
+    pub fn copy(&self, alloc: Global) -> Result<Values, AllocError>
+        ensures { IfOk result (λ values. values ≡ self.now) }
+    {
+        let mut values = Vec::with_capacity(alloc, self.values.len())?;
+        for (name, value) in &self.values {
+            values.push((name.copy(alloc)?, value.copy(alloc)?))?;
+        }
+        Ok(Values { values })
     }
 
     /// The value under a name.
@@ -101,6 +119,20 @@ impl Ports {
         ensures { result ≡ ports.items }
     {
         Ports { ports }
+    }
+
+    /// The names of the ports but one, in order.
+    pub fn names_but(&self, alloc: Global, other: &str) -> Result<Names, AllocError>
+        ensures { IfOk result (λ names. names ≡ names_but other.now self.now) }
+    {
+        let mut names = Vec::new(alloc);
+        for (name, _) in &self.ports {
+            if name.as_str() == other {
+                continue;
+            }
+            names.push(name.copy(alloc)?)?;
+        }
+        Ok(Names::of(names))
     }
 
     /// The number of channels to a port, none where it isn't listed.

@@ -1,7 +1,7 @@
 ghost use Rattle.std.specs.Prelude.{◌≡◌, IfOk, length};
 
 use super::*;
-use pt_value::{Token, print};
+use pt_value::{Text, Token, print};
 use std::alloc::{AllocError, Global};
 use std::test::Fail;
 
@@ -163,4 +163,25 @@ fn a_step_tells_its_fault(rt: HostRuntime) {
     );
     assert!(rt; matches!(&Step::from(Err(StepFault::Memory)), Step::Memory));
     OpenGate.reach(0, 0);
+}
+
+#[test]
+fn parameters_and_ports_are_found_by_name(rt: HostRuntime) -> Result<(), Fail> {
+    let alloc = rt.alloc();
+    let init = (Text::of(alloc, "init")?, Token::Int(7));
+    let values = Values::of(vec![in alloc; init]?).copy(alloc)?;
+    assert_eq!(rt; values.as_slice().len(), 1);
+    assert_eq!(rt; values.int_or("init", 0), Some(7));
+    assert_eq!(rt; values.int_or("step", 1), Some(1));
+    assert_eq!(rt; values.int_within("init", 0, 0, 6), None);
+    assert_eq!(rt; values.bool_or("init", true), None);
+    let output = (Text::of(alloc, "output")?, 2);
+    let plus = (Text::of(alloc, "plus")?, 3);
+    let ports = Ports::of(vec![in alloc; output, plus]?);
+    assert_eq!(rt; ports.channels("plus"), 3);
+    assert_eq!(rt; ports.channels("minus"), 0);
+    let names = ports.names_but(alloc, "output")?.copy(alloc)?;
+    assert_eq!(rt; names.len(), 1);
+    assert!(rt; names.as_slice().iter().all(|name| name.as_str() == "plus"));
+    Ok(())
 }

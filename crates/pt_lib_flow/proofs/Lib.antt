@@ -3,3 +3,7 @@ pub mod Places
 pub mod Extremes
 pub mod Quotients
 pub mod Sequences
+pub mod Formulas
+pub mod Evaluations
+pub mod Repetitions
+pub mod Held

@@ -1,16 +1,24 @@
 ghost use Rattle.std.specs.Prelude.{◌≡◌, IfOk, IsSome};
-ghost use Rattle.pt_lib_flow.specs.FlowActor.{class_of, start_as, start};
+ghost use Rattle.pt_lib_flow.specs.FlowActor.{class_of, start_as, start, outputs};
 
 use crate::absolute_value::AbsoluteValue;
 use crate::accumulator::Accumulator;
 use crate::add_subtract::AddSubtract;
+use crate::boolean_select::BooleanSelect;
+use crate::boolean_switch::BooleanSwitch;
 use crate::constant::Const;
+use crate::counter::Counter;
+use crate::down_sample::DownSample;
+use crate::expression::Expression;
 use crate::extreme::{Extreme, Side};
 use crate::multiply_divide::MultiplyDivide;
 use crate::params::Params;
 use crate::ramp::Ramp;
+use crate::repeat::Repeat;
+use crate::sample_delay::SampleDelay;
 use crate::scale::Scale;
 use crate::sequence::Sequence;
+use crate::up_sample::UpSample;
 use pt_firing::{Actor, Fires, Inputs, Need, Partial, Step, strict_early};
 use pt_time::Tag;
 use pt_value::Token;
@@ -22,12 +30,20 @@ pub enum FlowActor {
     AbsoluteValue(AbsoluteValue),
     Accumulator(Accumulator),
     AddSubtract(AddSubtract),
+    BooleanSelect(BooleanSelect),
+    BooleanSwitch(BooleanSwitch),
     Const(Const),
+    Counter(Counter),
+    DownSample(DownSample),
+    Expression(Expression),
     Extreme(Extreme),
     MultiplyDivide(MultiplyDivide),
     Ramp(Ramp),
+    Repeat(Repeat),
+    SampleDelay(SampleDelay),
     Scale(Scale),
     Sequence(Sequence),
+    UpSample(UpSample),
 }
 
 /// The classes of this library.
@@ -36,13 +52,21 @@ pub enum Class {
     AbsoluteValue,
     Accumulator,
     AddSubtract,
+    BooleanSelect,
+    BooleanSwitch,
     Const,
+    Counter,
+    DownSample,
+    Expression,
     Maximum,
     Minimum,
     MultiplyDivide,
     Ramp,
+    Repeat,
+    SampleDelay,
     Scale,
     Sequence,
+    UpSample,
 }
 
 impl Class {
@@ -53,13 +77,21 @@ impl Class {
             "AbsoluteValue" => Some(Class::AbsoluteValue),
             "Accumulator" => Some(Class::Accumulator),
             "AddSubtract" => Some(Class::AddSubtract),
+            "BooleanSelect" => Some(Class::BooleanSelect),
+            "BooleanSwitch" => Some(Class::BooleanSwitch),
             "Const" => Some(Class::Const),
+            "Counter" => Some(Class::Counter),
+            "DownSample" => Some(Class::DownSample),
+            "Expression" => Some(Class::Expression),
             "Maximum" => Some(Class::Maximum),
             "Minimum" => Some(Class::Minimum),
             "MultiplyDivide" => Some(Class::MultiplyDivide),
             "Ramp" => Some(Class::Ramp),
+            "Repeat" => Some(Class::Repeat),
+            "SampleDelay" => Some(Class::SampleDelay),
             "Scale" => Some(Class::Scale),
             "Sequence" => Some(Class::Sequence),
+            "UpSample" => Some(Class::UpSample),
             _ => None,
         }
     }
@@ -72,12 +104,20 @@ macro_rules! of_class {
             FlowActor::AbsoluteValue($actor) => $code,
             FlowActor::Accumulator($actor) => $code,
             FlowActor::AddSubtract($actor) => $code,
+            FlowActor::BooleanSelect($actor) => $code,
+            FlowActor::BooleanSwitch($actor) => $code,
             FlowActor::Const($actor) => $code,
+            FlowActor::Counter($actor) => $code,
+            FlowActor::DownSample($actor) => $code,
+            FlowActor::Expression($actor) => $code,
             FlowActor::Extreme($actor) => $code,
             FlowActor::MultiplyDivide($actor) => $code,
             FlowActor::Ramp($actor) => $code,
+            FlowActor::Repeat($actor) => $code,
+            FlowActor::SampleDelay($actor) => $code,
             FlowActor::Scale($actor) => $code,
             FlowActor::Sequence($actor) => $code,
+            FlowActor::UpSample($actor) => $code,
         }
     };
 }
@@ -105,7 +145,7 @@ impl FlowActor {
     }
 
     /// The actor that the parameters start, if the class is one of this library and they are such as its row has them.
-    fn started(alloc: Global, params: &Params) -> Result<Option<FlowActor>, AllocError>
+    pub(crate) fn started(alloc: Global, params: &Params) -> Result<Option<FlowActor>, AllocError>
         ensures { IfOk result (λ actor. actor ≡ start params.now) }
     {
         match Class::of(params.class.as_str()) {
@@ -125,7 +165,12 @@ impl FlowActor {
             Class::AbsoluteValue => held_as!(AbsoluteValue, AbsoluteValue::start(alloc, params)?),
             Class::Accumulator => held_as!(Accumulator, Accumulator::start(alloc, params)?),
             Class::AddSubtract => held_as!(AddSubtract, AddSubtract::start(alloc, params)?),
+            Class::BooleanSelect => held_as!(BooleanSelect, BooleanSelect::start(alloc, params)?),
+            Class::BooleanSwitch => held_as!(BooleanSwitch, BooleanSwitch::start(alloc, params)?),
             Class::Const => held_as!(Const, Const::start(alloc, params)?),
+            Class::Counter => held_as!(Counter, Counter::start(alloc, params)?),
+            Class::DownSample => held_as!(DownSample, DownSample::start(alloc, params)?),
+            Class::Expression => held_as!(Expression, Expression::start(alloc, params)?),
             Class::Maximum => held_as!(Extreme, Extreme::start(Side::Greatest, alloc, params)?),
             Class::Minimum => held_as!(Extreme, Extreme::start(Side::Least, alloc, params)?),
             Class::MultiplyDivide => held_as!(
@@ -133,9 +178,37 @@ impl FlowActor {
                 MultiplyDivide::start(alloc, params)?
             ),
             Class::Ramp => held_as!(Ramp, Ramp::start(alloc, params)?),
+            Class::Repeat => held_as!(Repeat, Repeat::start(alloc, params)?),
+            Class::SampleDelay => held_as!(SampleDelay, SampleDelay::start(alloc, params)?),
             Class::Scale => held_as!(Scale, Scale::start(alloc, params)?),
             Class::Sequence => held_as!(Sequence, Sequence::start(alloc, params)?),
+            Class::UpSample => held_as!(UpSample, UpSample::start(alloc, params)?),
         })
+    }
+
+    /// The number of its outputs.
+    pub fn outputs(&self) -> usize
+        ensures { result ≡ outputs self.now }
+    {
+        match self {
+            FlowActor::BooleanSwitch(_) => 2,
+            FlowActor::AbsoluteValue(_)
+            | FlowActor::Accumulator(_)
+            | FlowActor::AddSubtract(_)
+            | FlowActor::BooleanSelect(_)
+            | FlowActor::Const(_)
+            | FlowActor::Counter(_)
+            | FlowActor::DownSample(_)
+            | FlowActor::Expression(_)
+            | FlowActor::Extreme(_)
+            | FlowActor::MultiplyDivide(_)
+            | FlowActor::Ramp(_)
+            | FlowActor::Repeat(_)
+            | FlowActor::SampleDelay(_)
+            | FlowActor::Scale(_)
+            | FlowActor::Sequence(_)
+            | FlowActor::UpSample(_) => 1,
+        }
     }
 }
 
@@ -144,7 +217,7 @@ impl Fires for FlowActor {
 
     ghost step = { flow_actor.step };
 
-    ghost Takes = { λ tag actor X. Unit {0} };
+    ghost Takes = { flow_actor.Takes };
 
     ghost IsSpare = { flow_actor.IsSpare };
 
@@ -157,21 +230,29 @@ impl Fires for FlowActor {
             FlowActor::AbsoluteValue(actor) => FlowActor::AbsoluteValue(actor.copy(alloc)?),
             FlowActor::Accumulator(actor) => FlowActor::Accumulator(actor.copy(alloc)?),
             FlowActor::AddSubtract(actor) => FlowActor::AddSubtract(actor.copy(alloc)?),
+            FlowActor::BooleanSelect(actor) => FlowActor::BooleanSelect(actor.copy(alloc)?),
+            FlowActor::BooleanSwitch(actor) => FlowActor::BooleanSwitch(actor.copy(alloc)?),
             FlowActor::Const(actor) => FlowActor::Const(actor.copy(alloc)?),
+            FlowActor::Counter(actor) => FlowActor::Counter(actor.copy(alloc)?),
+            FlowActor::DownSample(actor) => FlowActor::DownSample(actor.copy(alloc)?),
+            FlowActor::Expression(actor) => FlowActor::Expression(actor.copy(alloc)?),
             FlowActor::Extreme(actor) => FlowActor::Extreme(actor.copy(alloc)?),
             FlowActor::MultiplyDivide(actor) => FlowActor::MultiplyDivide(actor.copy(alloc)?),
             FlowActor::Ramp(actor) => FlowActor::Ramp(actor.copy(alloc)?),
+            FlowActor::Repeat(actor) => FlowActor::Repeat(actor.copy(alloc)?),
+            FlowActor::SampleDelay(actor) => FlowActor::SampleDelay(actor.copy(alloc)?),
             FlowActor::Scale(actor) => FlowActor::Scale(actor.copy(alloc)?),
             FlowActor::Sequence(actor) => FlowActor::Sequence(actor.copy(alloc)?),
+            FlowActor::UpSample(actor) => FlowActor::UpSample(actor.copy(alloc)?),
         })
     }
 }
 
 impl Actor for FlowActor {
-    ghost use Rattle.std.specs.Prelude.{[], None};
+    ghost use Rattle.std.specs.Prelude.{None};
     ghost use Rattle.pt_lib_flow.specs.FlowActor as flow_actor;
 
-    ghost first = { λ actor. [] };
+    ghost first = { flow_actor.first };
 
     ghost need = { flow_actor.need };
 
@@ -188,7 +269,7 @@ impl Actor for FlowActor {
     }
 
     fn early(&self, alloc: Global, tag: Tag, partial: &Partial) -> Result<Partial, AllocError> {
-        strict_early(self, 1, alloc, tag, partial)
+        strict_early(self, self.outputs(), alloc, tag, partial)
     }
 
     fn next(&self) -> Option<Tag> {

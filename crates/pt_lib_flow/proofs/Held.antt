@@ -1,0 +1,16 @@
+-- A step of an actor that is held as a variant.
+use Rattle.std.proofs.Common.{ap}
+use Rattle.pt_meaning.specs.Node.{Answer, Gives, Fails}
+use Rattle.pt_value.specs.declared.token.Token.{Token}
+use Rattle.pt_firing.specs.Step.{Makes}
+use Rattle.pt_firing.specs.declared.step.Step.{Step}
+use Rattle.pt_firing.specs.declared.step.Step.TheVariants as made
+use Rattle.pt_lib_flow.specs.FlowActor.{held_as}
+
+pub held-makes : {S A : Type 0} (held : S → A) (r : Answer Token S) (old new : S) (s : Step) → Makes r old s new → Makes (held_as held r) (held old) s (held new)
+held-makes held (Gives next streams) old new (made.Done outputs) m = (m.0, ap held m.1)
+held-makes held (Gives next streams) old new (made.Fault kind) m = absurd m
+held-makes held (Gives next streams) old new made.Memory m = ap held m
+held-makes held (Fails code) old new (made.Done outputs) m = absurd m
+held-makes held (Fails code) old new (made.Fault kind) m = (m.0, ap held m.1)
+held-makes held (Fails code) old new made.Memory m = ap held m

@@ -1,0 +1,71 @@
+-- Expression: what its tree comes to, where the names of its inputs stand for their tokens and others for the parameters in scope. An input hides a parameter of its name.
+use Rattle.std.specs.Prelude.{◌≡◌, [], ◌∷◌, length, true, Option, Some, None, Result, Ok, Err, codes, if◌then◌else◌}
+use Rattle.pt_meaning.specs.Basics.{Tag, Streams}
+use Rattle.pt_meaning.specs.Machine.{Need}
+use Rattle.pt_meaning.specs.Node.{Answer, Fails}
+use Rattle.pt_value.specs.Value.{Value}
+use Rattle.pt_value.specs.Token.{token_of}
+use Rattle.pt_value.specs.declared.token.Token.{Token}
+use Rattle.pt_expr.specs.declared.expr.Expr.{Expr}
+use Rattle.pt_expr.specs.declared.fault.EvalFault.{EvalFault}
+use Rattle.pt_expr.specs.declared.fault.EvalFault.TheVariants.{DivideByZero, Overflow, Index, Size, Absent, Memory}
+use Rattle.pt_expr.specs.Outcome.{Outcome, Gives, Stops, Wrong}
+use Rattle.pt_expr.specs.Scope.{Scope}
+use Rattle.pt_expr.specs.Meaning.{value}
+use Rattle.pt_expr.specs.Expr.{tree_of}
+use Rattle.pt_firing.specs.RunFault.{code_of}
+use Rattle.pt_firing.specs.declared.fault.RunFault.TheVariants as run
+use Rattle.pt_firing.specs.declared.step.Step.{Step}
+use Rattle.pt_firing.specs.declared.step.Step.TheVariants as made
+use Rattle.pt_firing.specs.Params.{names_but}
+use Rattle.pt_firing.specs.Row.{one_each, gives, rests, all_present}
+use Rattle.pt_lib_flow.specs.declared.params.Params.{Params}
+use Rattle.pt_lib_flow.specs.Formula.{Formula, parameters, with_inputs}
+
+abbrev pub need : Formula → Need
+need actor = one_each (length actor.inputs)
+
+-- what its names stand for on these inputs
+abbrev pub scope : Formula → Streams Token → Scope
+scope actor X = with_inputs actor.inputs X (parameters actor.values)
+
+-- what its tree comes to
+abbrev pub outcome : Formula → Streams Token → Outcome Value
+outcome actor X = value (scope actor X) actor.tree
+
+-- A firing whose tree comes to this. Where all inputs are present no port is absent, and want of memory is no outcome.
+abbrev pub answer : Formula → Outcome Value → Answer Token Formula
+answer actor (Gives v) = gives actor (token_of v)
+answer actor (Stops DivideByZero) = Fails (code_of run.DivideByZero)
+answer actor (Stops Overflow) = Fails (code_of run.Overflow)
+answer actor (Stops Index) = Fails (code_of run.Index)
+answer actor (Stops Size) = Fails (code_of run.Size)
+answer actor (Stops Absent) = rests actor
+answer actor (Stops Memory) = rests actor
+answer actor Wrong = rests actor
+
+-- it gives nothing where an input is absent
+abbrev pub step : Tag → Formula → Streams Token → Answer Token Formula
+step tag actor X = if all_present X then answer actor (outcome actor X) else rests actor
+
+-- its tree has a meaning on these inputs, which it has where types are right
+abbrev pub Takes : Tag → Formula → Streams Token → Type 0
+Takes tag actor X = all_present X ≡ true → ¬ (outcome actor X ≡ Wrong)
+
+-- how a step tells what an evaluation comes to
+abbrev pub told : Result Token EvalFault → Step
+told (Ok token) = made.Done ((token ∷ []) ∷ [])
+told (Err DivideByZero) = made.Fault run.DivideByZero
+told (Err Overflow) = made.Fault run.Overflow
+told (Err Index) = made.Fault run.Index
+told (Err Size) = made.Fault run.Size
+told (Err Absent) = made.Done ([] ∷ [])
+told (Err Memory) = made.Memory
+
+-- by its tree: each port but the output is an input, and all parameters are in scope
+abbrev pub start_by : Option Expr → Params → Option Formula
+start_by None params = None
+start_by (Some expr) params = Some (record { inputs = names_but (codes "output") params.ports; values = params.values; tree = tree_of expr })
+
+abbrev pub start : Params → Option Formula
+start params = start_by params.tree params

@@ -1,0 +1,22 @@
+-- Repeat: gives a block of tokens so many times.
+use Rattle.std.specs.Prelude.{ℕ, [], ◌∷◌, Option, Some, None}
+use Rattle.pt_meaning.specs.Basics.{Tag, Streams, at}
+use Rattle.pt_meaning.specs.Machine.{Need, Counts}
+use Rattle.pt_meaning.specs.Node.{Answer, Gives}
+use Rattle.pt_value.specs.declared.token.Token.{Token}
+use Rattle.pt_lib_flow.specs.declared.repeat.Repeat.{Repeat}
+use Rattle.pt_lib_flow.specs.declared.params.Params.{Params}
+use Rattle.pt_lib_flow.specs.Rates.{times_and_size, repeated}
+
+abbrev pub need : Repeat → Need
+need actor = Counts actor.needed
+
+abbrev pub step : Tag → Repeat → Streams Token → Answer Token Repeat
+step tag actor X = Gives actor (repeated actor.times (at X 0) ∷ [])
+
+abbrev pub start_by : Option (ℕ × ℕ) → Option Repeat
+start_by None = None
+start_by (Some (times, size)) = Some (record { needed = size ∷ []; times = times })
+
+abbrev pub start : Params → Option Repeat
+start params = start_by (times_and_size params.values)
