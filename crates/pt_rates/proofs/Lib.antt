@@ -1,0 +1,3 @@
+pub mod Euclid
+pub mod Moves
+pub mod Spans

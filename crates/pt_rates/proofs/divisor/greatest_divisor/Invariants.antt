@@ -1,0 +1,9 @@
+use Rattle.std.proofs.Common.{ℕ}
+use Rattle.pt_rates.proofs.Euclid.{AreReduced}
+use Rattle.pt_rates.proofs.divisor.greatest_divisor.Given as goal
+
+abbrev pub invariant-loop-small : goal.invariant-loop-small
+invariant-loop-small l = AreReduced l.x l.y l.large l.small
+
+abbrev pub decreases-loop-small : goal.decreases-loop-small
+decreases-loop-small l = l.small
