@@ -2,8 +2,8 @@
 use Rattle.std.proofs.Common.{◌≡◌, ℕ, zero, suc, ◌+◌, ◌*◌, ◌/◌, ◌%◌, ◌<◌, sym, ap, subst, ◌∙◌, arith}
 use Rattle.std.specs.Int.{◌∣◌}
 use Rattle.std.proofs.lemmas.Nat.Gcd.{dvd_refl, dvd-zero}
-use Rattle.std.proofs.Math.Nat.{dvd-mul_left, dvd-mul_right_of_dvd, dvd-add_iff_right, dvd-mod_iff, dvd_of_mul-dvd-mul_right, div-mul_cancel, div-add-mod, eq_of_mul-eq-mul_right}
-use Rattle.pt_rates.specs.Divisor.{IsGreatestDivisor}
+use Rattle.std.proofs.Math.Nat.{dvd-mul_left, dvd-mul_right_of_dvd, dvd-add_iff_right, dvd-mod_iff, dvd_of_mul-dvd-mul_right, div-mul_cancel, div-add-mod, div-le_self, eq_of_mul-eq-mul_right}
+use Rattle.pt_rates.specs.Ratio.{IsGreatestDivisor, IsLowest}
 
 -- a and b have the common divisors of x and y, and what divides a multiple of x and y divides that of a and b
 pub record AreReduced (x y a b : ℕ) : Type 0 where
@@ -42,7 +42,7 @@ rearranged : (c p q g : ℕ) → c * q * (p * g) ≡ c * p * (q * g)
 rearranged c p q g = omega arith
 
 -- numbers whose multiples by x and y are equal are multiples of the reduced y and x by one number
-pub equal_multiples : (g x y a b : ℕ) → IsGreatestDivisor x y g → 0 < x → 0 < y → a * x ≡ b * y → (c : ℕ) × (a ≡ c * (y / g)) × (b ≡ c * (x / g))
+equal_multiples : (g x y a b : ℕ) → IsGreatestDivisor x y g → 0 < x → 0 < y → a * x ≡ b * y → (c : ℕ) × (a ≡ c * (y / g)) × (b ≡ c * (x / g))
 equal_multiples g x y a b h px py e =
     let ex : x / g * g ≡ x = div-mul_cancel g h.first in
     let ey : y / g * g ≡ y = div-mul_cancel g h.second in
@@ -59,13 +59,20 @@ equal_multiples g x y a b h px py e =
         (sym e ∙ ap (λ n. n * x) ea ∙ ap (λ n. c * q * n) (sym ex) ∙ rearranged c p q g ∙ ap (λ n. c * p * n) ey)
 
 -- each of two numbers by the other's reduced one comes to the same
-pub crosswise : (g x y : ℕ) → IsGreatestDivisor x y g → y / g * x ≡ x / g * y
+crosswise : (g x y : ℕ) → IsGreatestDivisor x y g → y / g * x ≡ x / g * y
 crosswise g x y h = same (x / g) (y / g) g x y (div-mul_cancel g h.first) (div-mul_cancel g h.second)
   where
     same : (p q g x y : ℕ) → p * g ≡ x → q * g ≡ y → q * x ≡ p * y
     same p q g x y ex ey = omega (arith, ap (λ n. q * n) ex, ap (λ n. p * n) ey)
 
-pub reduced_positive : (g x y : ℕ) → IsGreatestDivisor x y g → 0 < x → 0 < y → (0 < x / g) × (0 < y / g) × (0 < g)
-reduced_positive g x y h px py =
-    let a = factors_positive (x / g) g x (div-mul_cancel g h.first) px in
-    (a.0, (factors_positive (y / g) g y (div-mul_cancel g h.second) py).0, a.1)
+-- the divisor, and the ratio that it gives
+pub divisor_positive : (g x y : ℕ) → IsGreatestDivisor x y g → 0 < x → 0 < g
+divisor_positive g x y h px = (factors_positive (x / g) g x (div-mul_cancel g h.first) px).1
+
+pub divided-lowest : (g x y : ℕ) → IsGreatestDivisor x y g → 0 < x → 0 < y → IsLowest x y (x / g) (y / g)
+divided-lowest g x y h px py = record {
+  first = ((factors_positive (x / g) g x (div-mul_cancel g h.first) px).0, div-le_self x g);
+  second = ((factors_positive (y / g) g y (div-mul_cancel g h.second) py).0, div-le_self y g);
+  same = crosswise g x y h;
+  multiples = λ c d e. equal_multiples g x y c d h px py e;
+}

@@ -1,15 +1,14 @@
 -- The positive solutions of channels as the multiples of one solution, part by part.
-use Rattle.std.proofs.Common.{◌≡◌, ◌≢◌, ℕ, zero, suc, ◌+◌, ◌*◌, ◌/◌, ◌<◌, ◌≤◌, ◌⊎◌, inl, inr, Bool, true, false, cond, eqb, List, [], ◌∷◌, ◌++◌, length, get_or, All, refl, sym, ap, subst, ◌∙◌, arith, eq-eqb}
+use Rattle.std.proofs.Common.{◌≡◌, ◌≢◌, ℕ, zero, suc, ◌+◌, ◌*◌, ◌<◌, ◌≤◌, ◌⊎◌, inl, inr, Bool, true, false, cond, eqb, List, [], ◌∷◌, ◌++◌, length, get_or, All, refl, sym, ap, subst, ◌∙◌, arith, eq-eqb}
 use Rattle.std.proofs.lemmas.Bool.{cases_eq, ne_eqb}
 use Rattle.std.proofs.lemmas.List.{get_or_append_left, get_or_push, length_push}
 use Rattle.std.proofs.lemmas.List.Elements.{All-push, All-from_get_or}
 use Rattle.std.proofs.Math.Nat.{eq_of_mul-eq-mul_left}
 use Rattle.pt_rates.specs.Balance.{IsChannel, IsBalancedAt, IsSolution, IsRepetitionVector}
-use Rattle.pt_rates.specs.Divisor.{IsGreatestDivisor}
+use Rattle.pt_rates.specs.Ratio.{IsLowest}
 use Rattle.pt_rates.specs.Parts.{label_of, repetitions_of, IsSpanned, AreMerged}
 use Rattle.pt_rates.specs.declared.edge.Edge.{Edge}
 use Rattle.pt_rates.specs.declared.parts.Parts.{Parts}
-use Rattle.pt_rates.proofs.Euclid.{equal_multiples, crosswise, reduced_positive}
 
 -- the first elements of a longer list, and its last
 pub all-front : {X : Type 0} (P : X → Type 0) (xs : List X) (y : X) → All P (xs ++ y ∷ []) → All P xs
@@ -32,7 +31,7 @@ unscaled a b zero r s p c h ea eb e = absurd (omega (arith, ea))
 unscaled a b (suc t) r s p c h ea eb e =
     eq_of_mul-eq-mul_left (suc t) (omega arith) (r * p) (s * c) (omega (arith, ap (λ n. n * p) ea, ap (λ n. n * c) eb, e))
 
-times_positive : (t r : ℕ) → 0 < t → 0 < r → 0 < t * r
+pub times_positive : (t r : ℕ) → 0 < t → 0 < r → 0 < t * r
 times_positive zero r p q = absurd (omega arith)
 times_positive (suc t) zero p q = absurd (omega arith)
 times_positive (suc t) (suc r) p q = omega arith
@@ -95,7 +94,7 @@ stands first second label = elim (cases_eq label first) [
 regrouped : (q t r s old new : ℕ) → q ≡ t * new → new ≡ r * old → s ≡ t * r → q ≡ s * old
 regrouped q t r s old new e f g = e ∙ ap (λ x. t * x) f ∙ (let two : t * (r * old) ≡ t * r * old = omega arith in two) ∙ ap (λ x. x * old) (sym g)
 
-module _ (n : ℕ) (edges : List Edge) (edge : Edge) (old new : Parts) (g : ℕ) (counted : n ≡ length old.labels.items) (channel : IsChannel n edge) (h : IsSpanned n edges old) (apart : label_of old edge.from ≡ label_of old edge.to → ⊥) (divisor : IsGreatestDivisor (repetitions_of old edge.from * edge.produced) (repetitions_of old edge.to * edge.consumed) g) (merged : AreMerged (label_of old edge.from) (repetitions_of old edge.to * edge.consumed / g) (label_of old edge.to) (repetitions_of old edge.from * edge.produced / g) old new) where
+module _ (n : ℕ) (edges : List Edge) (edge : Edge) (old new : Parts) (up down : ℕ) (counted : n ≡ length old.labels.items) (channel : IsChannel n edge) (h : IsSpanned n edges old) (apart : label_of old edge.from ≡ label_of old edge.to → ⊥) (lowest : IsLowest (repetitions_of old edge.from * edge.produced) (repetitions_of old edge.to * edge.consumed) up down) (merged : AreMerged (label_of old edge.from) down (label_of old edge.to) up old new) where
   abbrev first : ℕ
   first = label_of old edge.from
 
@@ -108,25 +107,18 @@ module _ (n : ℕ) (edges : List Edge) (edge : Edge) (old new : Parts) (g : ℕ)
   abbrev taken : ℕ
   taken = repetitions_of old edge.to * edge.consumed
 
-  put_positive : 0 < put
-  put_positive = times_positive (repetitions_of old edge.from) edge.produced (h.positive edge.from channel.starts) channel.puts.0
-
-  taken_positive : 0 < taken
-  taken_positive = times_positive (repetitions_of old edge.to) edge.consumed (h.positive edge.to channel.ends) channel.takes.0
-
   positive : (node : ℕ) → node < n → 0 < repetitions_of new node
   positive node short =
       let short' : node < length old.labels.items = omega (arith, counted) in
-      let reduced = reduced_positive g put taken divisor put_positive taken_positive in
       elim (stands first second (label_of old node)) [
-        | in_first e ↦ subst (λ x. 0 < x) (sym (merged.firsts node short' e).1) (times_positive (taken / g) (repetitions_of old node) reduced.1 (h.positive node short))
-        | in_second e d ↦ subst (λ x. 0 < x) (sym (merged.seconds node short' e).1) (times_positive (put / g) (repetitions_of old node) reduced.0 (h.positive node short))
+        | in_first e ↦ subst (λ x. 0 < x) (sym (merged.firsts node short' e).1) (times_positive down (repetitions_of old node) lowest.second.0 (h.positive node short))
+        | in_second e d ↦ subst (λ x. 0 < x) (sym (merged.seconds node short' e).1) (times_positive up (repetitions_of old node) lowest.first.0 (h.positive node short))
         | in_neither d d' ↦ subst (λ x. 0 < x) (sym (merged.others node short' d d').2) (h.positive node short)
       ]
 
   -- the numbers of the parts before, from those of the parts after
   abbrev before : (ℕ → ℕ) → ℕ → ℕ
-  before times k = cond (eqb k first) (times merged.label * (taken / g)) (cond (eqb k second) (times merged.label * (put / g)) (times k))
+  before times k = cond (eqb k first) (times merged.label * down) (cond (eqb k second) (times merged.label * up) (times k))
 
   multiple_before : (times : ℕ → ℕ) (q : List ℕ) → ((node : ℕ) → node < n → get_or q node 0 ≡ times (label_of new node) * repetitions_of new node) → (node : ℕ) → node < n → get_or q node 0 ≡ before times (label_of old node) * repetitions_of old node
   multiple_before times q e node short =
@@ -134,9 +126,9 @@ module _ (n : ℕ) (edges : List Edge) (edge : Edge) (old new : Parts) (g : ℕ)
       let k : ℕ = label_of old node in
       elim (stands first second k) [
         | in_first i ↦
-            regrouped (get_or q node 0) (times merged.label) (taken / g) (before times k) (repetitions_of old node) (repetitions_of new node) (e node short ∙ ap (λ l. times l * repetitions_of new node) (merged.firsts node short' i).0) (merged.firsts node short' i).1 (chosen k first _ _ i)
+            regrouped (get_or q node 0) (times merged.label) down (before times k) (repetitions_of old node) (repetitions_of new node) (e node short ∙ ap (λ l. times l * repetitions_of new node) (merged.firsts node short' i).0) (merged.firsts node short' i).1 (chosen k first _ _ i)
         | in_second i d ↦
-            regrouped (get_or q node 0) (times merged.label) (put / g) (before times k) (repetitions_of old node) (repetitions_of new node) (e node short ∙ ap (λ l. times l * repetitions_of new node) (merged.seconds node short' i).0) (merged.seconds node short' i).1 (not_chosen k first _ _ d ∙ chosen k second _ _ i)
+            regrouped (get_or q node 0) (times merged.label) up (before times k) (repetitions_of old node) (repetitions_of new node) (e node short ∙ ap (λ l. times l * repetitions_of new node) (merged.seconds node short' i).0) (merged.seconds node short' i).1 (not_chosen k first _ _ d ∙ chosen k second _ _ i)
         | in_neither d d' ↦
             let o = merged.others node short' d d' in
             e node short ∙ (λ j. times (o.0 j) * o.2 j) ∙ ap (λ x. x * repetitions_of old node) (sym (not_chosen k first _ _ d ∙ not_chosen k second _ _ d'))
@@ -144,15 +136,15 @@ module _ (n : ℕ) (edges : List Edge) (edge : Edge) (old new : Parts) (g : ℕ)
 
   balanced_by : (times : ℕ → ℕ) (q : List ℕ) → ((node : ℕ) → node < n → get_or q node 0 ≡ times (label_of new node) * repetitions_of new node) → IsBalancedAt q edge
   balanced_by times q e =
-      let from : get_or q edge.from 0 ≡ times merged.label * (taken / g) * repetitions_of old edge.from = multiple_before times q e edge.from channel.starts ∙ ap (λ x. x * repetitions_of old edge.from) (chosen first first _ _ refl) in
-      let to : get_or q edge.to 0 ≡ times merged.label * (put / g) * repetitions_of old edge.to = multiple_before times q e edge.to channel.ends ∙ ap (λ x. x * repetitions_of old edge.to) (not_chosen second first _ _ (λ i. apart (sym i)) ∙ chosen second second _ _ refl) in
-      crossed (get_or q edge.from 0) (get_or q edge.to 0) (times merged.label) (taken / g) (put / g) (repetitions_of old edge.from) (repetitions_of old edge.to) edge.produced edge.consumed from to (crosswise g put taken divisor)
+      let from : get_or q edge.from 0 ≡ times merged.label * down * repetitions_of old edge.from = multiple_before times q e edge.from channel.starts ∙ ap (λ x. x * repetitions_of old edge.from) (chosen first first _ _ refl) in
+      let to : get_or q edge.to 0 ≡ times merged.label * up * repetitions_of old edge.to = multiple_before times q e edge.to channel.ends ∙ ap (λ x. x * repetitions_of old edge.to) (not_chosen second first _ _ (λ i. apart (sym i)) ∙ chosen second second _ _ refl) in
+      crossed (get_or q edge.from 0) (get_or q edge.to 0) (times merged.label) down up (repetitions_of old edge.from) (repetitions_of old edge.to) edge.produced edge.consumed from to lowest.same
     where
       crossed : (a b t u v r s p c : ℕ) → a ≡ t * u * r → b ≡ t * v * s → u * (r * p) ≡ v * (s * c) → a * p ≡ b * c
       crossed a b t u v r s p c ea eb e = omega (arith, ap (λ x. x * p) ea, ap (λ x. x * c) eb, ap (λ x. t * x) e)
 
   -- the numbers of the parts after, from those of the parts before
-  multiple_after : (times : ℕ → ℕ) (common : ℕ) → times first ≡ common * (taken / g) → times second ≡ common * (put / g) → (q : List ℕ) → ((node : ℕ) → node < n → get_or q node 0 ≡ times (label_of old node) * repetitions_of old node) → (node : ℕ) → node < n → get_or q node 0 ≡ cond (eqb (label_of new node) merged.label) common (times (label_of new node)) * repetitions_of new node
+  multiple_after : (times : ℕ → ℕ) (common : ℕ) → times first ≡ common * down → times second ≡ common * up → (q : List ℕ) → ((node : ℕ) → node < n → get_or q node 0 ≡ times (label_of old node) * repetitions_of old node) → (node : ℕ) → node < n → get_or q node 0 ≡ cond (eqb (label_of new node) merged.label) common (times (label_of new node)) * repetitions_of new node
   multiple_after times common one two q e node short =
       let short' : node < length old.labels.items = omega (arith, counted) in
       let k : ℕ = label_of old node in
@@ -160,10 +152,10 @@ module _ (n : ℕ) (edges : List Edge) (edge : Edge) (old new : Parts) (g : ℕ)
       elim (stands first second k) [
         | in_first i ↦
             let m = merged.firsts node short' i in
-            e node short ∙ grouped (times k) common (taken / g) (repetitions_of old node) (ap times i ∙ one) ∙ (λ j. (sym (chosen l merged.label common (times l) m.0)) j * (sym m.1) j)
+            e node short ∙ grouped (times k) common down (repetitions_of old node) (ap times i ∙ one) ∙ (λ j. (sym (chosen l merged.label common (times l) m.0)) j * (sym m.1) j)
         | in_second i d ↦
             let m = merged.seconds node short' i in
-            e node short ∙ grouped (times k) common (put / g) (repetitions_of old node) (ap times i ∙ two) ∙ (λ j. (sym (chosen l merged.label common (times l) m.0)) j * (sym m.1) j)
+            e node short ∙ grouped (times k) common up (repetitions_of old node) (ap times i ∙ two) ∙ (λ j. (sym (chosen l merged.label common (times l) m.0)) j * (sym m.1) j)
         | in_neither d d' ↦
             let m = merged.others node short' d d' in
             e node short ∙ (λ j. times (sym m.0 j) * (sym m.2) j) ∙ ap (λ x. x * repetitions_of new node) (sym (not_chosen l merged.label common (times l) m.1))
@@ -181,7 +173,7 @@ module _ (n : ℕ) (edges : List Edge) (edge : Edge) (old new : Parts) (g : ℕ)
         let from = m.1 edge.from channel.starts in
         let to = m.1 edge.to channel.ends in
         let even : m.0 first * put ≡ m.0 second * taken = evened (get_or q edge.from 0) (get_or q edge.to 0) (m.0 first) (m.0 second) (repetitions_of old edge.from) (repetitions_of old edge.to) edge.produced edge.consumed from to (all-last (IsBalancedAt q) edges edge s.balanced) in
-        let c = equal_multiples g put taken (m.0 first) (m.0 second) divisor put_positive taken_positive even in
+        let c = lowest.multiples (m.0 first) (m.0 second) even in
         ((λ k. cond (eqb k merged.label) c.0 (m.0 k)), multiple_after m.0 c.0 c.1 c.2 q m.1);
   }
     where

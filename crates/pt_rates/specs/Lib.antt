@@ -1,4 +1,4 @@
 pub mod Balance
-pub mod Divisor
 pub mod Fault
 pub mod Parts
+pub mod Ratio

@@ -1,10 +1,10 @@
 //! The balance equations of a dataflow graph, and their least positive solution.
 #![tactic(auto)]
 
-mod divisor;
 mod edge;
 mod parts;
 mod rates;
+mod ratio;
 #[cfg(test)]
 mod tests;
 

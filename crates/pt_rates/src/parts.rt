@@ -1,10 +1,10 @@
-ghost use Rattle.std.specs.Prelude.{◌≡◌, ◌≢◌, ℕ, ◌+◌, ◌*◌, ◌<◌, ◌≤◌, ◌^◌, ◌++◌, ◌∷◌, [], IfOk, OnOk, length, List, sum};
+ghost use Rattle.std.specs.Prelude.{◌≡◌, ◌≢◌, ℕ, ◌+◌, ◌*◌, ◌<◌, ◌≤◌, ◌^◌, ◌++◌, ◌∷◌, [], All, IfOk, OnOk, length, List, sum};
 ghost use Rattle.pt_rates.specs.Balance.{IsChannel};
 ghost use Rattle.pt_rates.specs.Parts.{label_of, members_of, repetitions_of, AreHeld, AreMerged, AreMoved, AreSmall, ComesAfter, IsNodeMoved, IsSpanned};
 ghost use Rattle.pt_rates.specs.declared.edge.Edge.{Edge};
 
-use crate::divisor::greatest_divisor;
 use crate::edge::Edge;
+use crate::ratio::lowest_terms;
 use std::alloc::{AllocError, Global};
 use std::marker::Model;
 use std::mem;
@@ -90,22 +90,45 @@ impl Parts {
     /// Takes one more channel into account: whether some repetitions balance it too.
     pub(crate) fn connect(&mut self, alloc: Global, edge: &Edge) -> Result<bool, AllocError>
         requires held { AreHeld self.old }
+        requires positive { All (λ firings. 0 < firings) self.old.repetitions.items }
         requires sum { self.old.sum ≤ 1000000 }
         requires channel { IsChannel (length self.old.labels.items) edge.now }
         ensures held { OnOk result (AreHeld self.new) }
         ensures counted { OnOk result (length self.new.labels.items ≡ length self.old.labels.items) }
         ensures after { IfOk result (ComesAfter edge.now self.old self.new) }
     {
-        let produced = self.repetitions[edge.from as usize] * edge.produced;
-        let consumed = self.repetitions[edge.to as usize] * edge.consumed;
-        let from = self.labels[edge.from as usize];
-        let to = self.labels[edge.to as usize];
-        if from == to {
-            return Ok(produced == consumed);
+        let put = self.tokens(edge.from, edge.produced);
+        let taken = self.tokens(edge.to, edge.consumed);
+        let first = self.label(edge.from);
+        let second = self.label(edge.to);
+        if first == second {
+            return Ok(put == taken);
         }
-        let divisor = greatest_divisor(produced, consumed);
-        self.merge(alloc, from, consumed / divisor, to, produced / divisor)?;
+        let (second_times, first_times) = lowest_terms(put, taken);
+        self.merge(alloc, first, first_times, second, second_times)?;
         Ok(true)
+    }
+
+    /// The tokens that a node's firings in one iteration move at a rate.
+    fn tokens(&self, node: u32, rate: u64) -> u64
+        requires node { node < length self.now.repetitions.items }
+        requires positive { All (λ firings. 0 < firings) self.now.repetitions.items }
+        requires sum { sum self.now.repetitions.items ≤ 1000000 }
+        requires rate { (0 < rate) × (rate ≤ 1000000) }
+        ensures value { result ≡ repetitions_of self.now node * rate }
+        ensures range { (0 < result) × (result ≤ 1000000000000) }
+    {
+        self.repetitions[node as usize] * rate
+    }
+
+    /// The part of a node.
+    fn label(&self, node: u32) -> usize
+        requires held { AreHeld self.now }
+        requires node { node < length self.now.labels.items }
+        ensures value { result ≡ label_of self.now node }
+        ensures listed { result < length self.now.members.items }
+    {
+        self.labels[node as usize]
     }
 
     /// Makes two parts one, with each part's repetitions multiplied by its number.

@@ -1,6 +1,6 @@
 use Rattle.std.proofs.Common.{ℕ, arith}
 use Rattle.pt_rates.proofs.Euclid.{reduced-start, reduced-step, reduced-end}
-use Rattle.pt_rates.proofs.divisor.greatest_divisor.Goals as goal
+use Rattle.pt_rates.proofs.ratio.greatest_divisor.Goals as goal
 
 pub loop-small-init : goal.loop-small-init
 loop-small-init c = reduced-start c.args.x c.args.y

@@ -1,6 +1,6 @@
 use Rattle.std.proofs.Common.{ℕ}
 use Rattle.pt_rates.proofs.Euclid.{AreReduced}
-use Rattle.pt_rates.proofs.divisor.greatest_divisor.Given as goal
+use Rattle.pt_rates.proofs.ratio.greatest_divisor.Given as goal
 
 abbrev pub invariant-loop-small : goal.invariant-loop-small
 invariant-loop-small l = AreReduced l.x l.y l.large l.small
