@@ -2,4 +2,6 @@ pub mod Connections
 pub mod Euclid
 pub mod Merges
 pub mod Moves
+pub mod Solves
 pub mod Spans
+pub mod Starts
