@@ -9,4 +9,4 @@ mod ratio;
 mod tests;
 
 pub use edge::Edge;
-pub use rates::{RatesFault, solve};
+pub use rates::{RatesFault, are_channels, solve};

@@ -1,4 +1,4 @@
-ghost use Rattle.std.specs.Prelude.{◌≡◌, ℕ, ◌≤◌, All, IfErr, IfNone, IfOk, IfSome, length, sum};
+ghost use Rattle.std.specs.Prelude.{◌≡◌, ℕ, ◌≤◌, ◌↔◌, All, IsTrue, IfErr, IfNone, IfOk, IfSome, length, sum};
 ghost use Rattle.pt_rates.specs.Balance.{IsChannel, IsRepetitionVector, tokens_on};
 ghost use Rattle.pt_rates.specs.Fault.{FaultStands, IsCrowdedAt};
 ghost use Rattle.pt_rates.specs.declared.edge.Edge.{Edge};
@@ -37,6 +37,13 @@ impl From<AllocError> for RatesFault {
     fn from(_: AllocError) -> Self {
         RatesFault::Memory
     }
+}
+
+/// Whether the ends of all edges are among `n` nodes, and all rates are 1 to 1,000,000.
+pub fn are_channels(n: u32, edges: &[Edge]) -> bool
+    ensures { IsTrue result ↔ All (IsChannel n) edges.now }
+{
+    edges.iter().all(|edge| edge.is_channel(n))
 }
 
 /// The repetition vector of a dataflow graph with nodes 0 to `n - 1`: how often each fires in one iteration.
