@@ -1,12 +1,9 @@
 -- One more channel, in the numbers that the program reads.
-use Rattle.std.proofs.Common.{◌≡◌, ◌≢◌, ℕ, ◌+◌, ◌*◌, ◌/◌, ◌<◌, ◌≤◌, ◌⊎◌, inl, inr, Bool, true, false, eqb, List, [], ◌∷◌, ◌++◌, length, get_or, All, sum, sym, ap, subst, ◌∙◌, arith, eq-eqb}
+use Rattle.std.proofs.Common.{◌≡◌, ℕ, ◌*◌, inl, inr, true, eqb, length, sym, subst, eq-eqb}
 use Rattle.std.proofs.lemmas.Bool.{cases_eq, ne_eqb}
-use Rattle.std.proofs.lemmas.Nat.{mul-le}
-use Rattle.std.proofs.lemmas.List.Sums.{get_or-le-sum_by}
-use Rattle.std.proofs.Math.Nat.{div-le_self}
 use Rattle.pt_rates.specs.Balance.{IsChannel}
 use Rattle.pt_rates.specs.Ratio.{IsLowest}
-use Rattle.pt_rates.specs.Parts.{label_of, repetitions_of, AreHeld, AreMerged, IsSpanned, ComesAfter}
+use Rattle.pt_rates.specs.Parts.{label_of, repetitions_of, AreMerged, ComesAfter}
 use Rattle.pt_rates.specs.declared.edge.Edge.{Edge}
 use Rattle.pt_rates.specs.declared.parts.Parts.{Parts}
 use Rattle.pt_rates.proofs.Spans.{spanned-within, spanned-broken, spanned-merged}

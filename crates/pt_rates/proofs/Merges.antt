@@ -1,6 +1,6 @@
 -- Making two parts one.
-use Rattle.std.proofs.Common.{◌≡◌, ◌≢◌, ℕ, zero, suc, ◌+◌, ◌*◌, ◌<◌, List, [], ◌∷◌, ◌++◌, length, get_or, sum, Result, Ok, Err, OnOk, Contains, sym, ap, subst, ◌∙◌, arith}
-use Rattle.std.proofs.lemmas.List.{get_or_append_left, get_or_past, length_push}
+use Rattle.std.proofs.Common.{◌≡◌, ◌≢◌, ℕ, zero, suc, ◌*◌, ◌<◌, List, [], ◌∷◌, ◌++◌, length, get_or, sum, Result, Ok, Err, OnOk, Contains, sym, ap, subst, ◌∙◌, arith}
+use Rattle.std.proofs.lemmas.List.{get_or_append_left, get_or_past}
 use Rattle.pt_rates.specs.Parts.{label_of, repetitions_of, members_of, AreHeld, AreMoved, AreMerged}
 use Rattle.pt_rates.specs.declared.parts.Parts.{Parts}
 

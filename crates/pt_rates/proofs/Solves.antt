@@ -1,10 +1,10 @@
 -- What the solver answers, from the parts that the first channels connect.
-use Rattle.std.proofs.Common.{◌≡◌, ℕ, ◌+◌, ◌<◌, ◌≤◌, List, [], ◌∷◌, ◌++◌, length, get_or, take, sum, replicate, All, Contains, false, true, sym, ap, subst, ◌∙◌, arith}
-use Rattle.std.proofs.lemmas.List.{get_or_default, take_more, take_all, length-replicate}
-use Rattle.std.proofs.lemmas.List.Elements.{All-take, All-contains_itself, All-nil, All-from_get_or}
-use Rattle.pt_rates.specs.Balance.{IsBalancedAt, IsSolution, IsRepetitionVector}
+use Rattle.std.proofs.Common.{◌≡◌, ℕ, ◌+◌, ◌<◌, ◌≤◌, List, [], ◌∷◌, ◌++◌, length, get_or, take, replicate, All, Contains, false, true, sym, ap, subst, ◌∙◌}
+use Rattle.std.proofs.lemmas.List.{get_or_default, take_more, take_all}
+use Rattle.std.proofs.lemmas.List.Elements.{All-take, All-contains_itself, All-nil}
+use Rattle.pt_rates.specs.Balance.{IsBalancedAt, IsRepetitionVector}
 use Rattle.pt_rates.specs.Fault.{BreaksRatio, IsInconsistentAt, HasSum}
-use Rattle.pt_rates.specs.Parts.{repetitions_of, AreHeld, IsSpanned, ComesAfter}
+use Rattle.pt_rates.specs.Parts.{AreHeld, IsSpanned, ComesAfter}
 use Rattle.pt_rates.specs.declared.edge.Edge.{Edge}
 use Rattle.pt_rates.specs.declared.parts.Parts.{Parts}
 use Rattle.pt_rates.proofs.Spans.{spanned-least}

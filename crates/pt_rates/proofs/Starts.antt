@@ -1,11 +1,10 @@
 -- Before the first channel each node is a part of its own.
-use Rattle.std.proofs.Common.{◌≡◌, ℕ, zero, suc, ◌+◌, ◌*◌, ◌<◌, List, [], ◌∷◌, ◌++◌, length, get_or, replicate, sum, All, refl, sym, ap, subst, ◌∙◌, arith, Contains, below_more}
+use Rattle.std.proofs.Common.{◌≡◌, ℕ, zero, suc, ◌+◌, ◌*◌, ◌<◌, List, [], ◌∷◌, ◌++◌, length, get_or, replicate, sum, refl, sym, ap, subst, ◌∙◌, arith, Contains, below_more}
 use Rattle.std.proofs.lemmas.List.{length-replicate, get_or-replicate, get_or_append_left, get_or_push, length_push}
 use Rattle.std.proofs.lemmas.List.Elements.{All-nil, All-replicate}
 use Rattle.std.proofs.lemmas.List.Sums.{sum_by-cons}
-use Rattle.pt_rates.specs.Balance.{IsBalancedAt, IsSolution, IsRepetitionVector}
-use Rattle.pt_rates.specs.Parts.{label_of, repetitions_of, members_of, AreHeld, IsSpanned}
-use Rattle.pt_rates.specs.declared.edge.Edge.{Edge}
+use Rattle.pt_rates.specs.Balance.{IsBalancedAt, IsRepetitionVector}
+use Rattle.pt_rates.specs.Parts.{repetitions_of, members_of, AreHeld, IsSpanned}
 use Rattle.pt_rates.specs.declared.parts.Parts.{Parts}
 
 -- the first parts have one node each, that of their number

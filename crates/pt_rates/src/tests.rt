@@ -37,7 +37,8 @@ fn a_chain_fires_by_its_rates(rt: HostRuntime) -> Result<(), Fail> {
 
 #[test]
 fn each_part_has_its_own_least_solution(rt: HostRuntime) -> Result<(), Fail> {
-    let q = solve(
+    let q = solved(
+        &rt,
         rt.alloc(),
         6,
         &[edge(4, 2, 0, 1), edge(3, 6, 5, 4), edge(1, 1, 1, 1)],
@@ -61,24 +62,24 @@ fn what_has_no_solution_is_told(rt: HostRuntime) -> Result<(), Fail> {
     let edges = [edge(0, 1, 1, 1), edge(0, 1, 2, 1), edge(2, 2, 1, 1)];
     assert_fault(
         &rt,
-        solve(rt.alloc(), 3, &edges),
+        solved(&rt, rt.alloc(), 3, &edges),
         RatesFault::Inconsistent(2),
     );
     assert_fault(
         &rt,
-        solve(rt.alloc(), 1, &[edge(0, 2, 0, 1)]),
+        solved(&rt, rt.alloc(), 1, &[edge(0, 2, 0, 1)]),
         RatesFault::Inconsistent(0),
     );
     // 999,983 firings each of the first two, and 999,979 of the last.
     let edges = [edge(0, 1, 1, 1), edge(1, 999_979, 2, 999_983)];
     assert_fault(
         &rt,
-        solve(rt.alloc(), 3, &edges),
+        solved(&rt, rt.alloc(), 3, &edges),
         RatesFault::Sum(2_999_945),
     );
     assert_fault(
         &rt,
-        solve(rt.alloc(), 1_000_001, &[]),
+        solved(&rt, rt.alloc(), 1_000_001, &[]),
         RatesFault::Sum(1_000_001),
     );
     // Two firings put a million tokens each.

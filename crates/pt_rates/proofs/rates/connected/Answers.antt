@@ -1,4 +1,4 @@
-use Rattle.std.proofs.Common.{◌≡◌, ◌<◌, length, get_or, true, false, subst, ◌∙◌}
+use Rattle.std.proofs.Common.{get_or, subst, ◌∙◌}
 use Rattle.pt_rates.specs.Parts.{ComesAfter}
 use Rattle.pt_rates.proofs.Solves.{no_edge, sum-start, spanned-more, sum-more, inconsistent-at, solved-all}
 use Rattle.pt_rates.proofs.rates.connected.Goals as goal

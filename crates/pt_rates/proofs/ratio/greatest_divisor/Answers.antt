@@ -1,4 +1,4 @@
-use Rattle.std.proofs.Common.{ℕ, arith}
+use Rattle.std.proofs.Common.{arith}
 use Rattle.pt_rates.proofs.Euclid.{reduced-start, reduced-step, reduced-end}
 use Rattle.pt_rates.proofs.ratio.greatest_divisor.Goals as goal
 

@@ -1,4 +1,3 @@
-use Rattle.std.proofs.Common.{ℕ}
 use Rattle.pt_rates.proofs.Euclid.{AreReduced}
 use Rattle.pt_rates.proofs.ratio.greatest_divisor.Given as goal
 

@@ -1,5 +1,5 @@
-use Rattle.std.proofs.Common.{◌≡◌, ◌≢◌, ℕ, List, [], ◌∷◌, ◌++◌, length, refl, sym, ap, ◌∙◌, arith}
-use Rattle.pt_rates.specs.Parts.{AreMoved, AreMerged}
+use Rattle.std.proofs.Common.{◌≡◌, ◌≢◌, ℕ, List, [], ◌∷◌, ◌++◌, length, refl, ap, ◌∙◌, arith}
+use Rattle.pt_rates.specs.Parts.{AreMoved}
 use Rattle.pt_rates.specs.declared.parts.Parts.{Parts}
 use Rattle.pt_rates.proofs.Merges.{on_ok, merged-stays, merged-fresh, no_label, held-push}
 use Rattle.pt_rates.proofs.parts.Parts.absorb.Goals as goal

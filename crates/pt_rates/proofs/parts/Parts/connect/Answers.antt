@@ -1,4 +1,4 @@
-use Rattle.std.proofs.Common.{◌≡◌, ℕ, ◌*◌, sym, subst, ◌∙◌, eqb}
+use Rattle.std.proofs.Common.{ℕ, ◌*◌, sym, subst, ◌∙◌, eqb}
 use Rattle.pt_rates.specs.Parts.{label_of, repetitions_of, AreMerged, ComesAfter}
 use Rattle.pt_rates.specs.Ratio.{IsLowest}
 use Rattle.pt_rates.specs.declared.parts.Parts.{Parts}

@@ -1,4 +1,4 @@
-use Rattle.std.proofs.Common.{◌≡◌, ℕ, replicate, refl, subst, arith}
+use Rattle.std.proofs.Common.{◌≡◌, refl, subst, arith}
 use Rattle.pt_rates.proofs.Starts.{AreAlone, starts-held, starts-spanned}
 use Rattle.pt_rates.specs.declared.parts.Parts.{Parts}
 use Rattle.pt_rates.proofs.parts.Parts.new.Goals as goal

@@ -1,4 +1,3 @@
-use Rattle.std.proofs.Common.{ℕ}
 use Rattle.pt_rates.proofs.Moves.{IsMoving}
 use Rattle.pt_rates.proofs.parts.Parts.relabel.Given as goal
 
