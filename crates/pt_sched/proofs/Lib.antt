@@ -1,0 +1,3 @@
+pub mod Confluence
+pub mod Counts
+pub mod Greatest
