@@ -1,5 +1,6 @@
 pub mod Connections
 pub mod Euclid
+pub mod Left
 pub mod Merges
 pub mod Moves
 pub mod Solves

@@ -7,13 +7,7 @@ use Rattle.std.proofs.lemmas.List.Sums.{sum_by-set}
 use Rattle.std.proofs.lemmas.Nat.{mul-le}
 use Rattle.pt_rates.specs.Parts.{label_of, repetitions_of, members_of, AreHeld, AreSmall, AreMoved, IsPut, IsNodeMoved}
 use Rattle.pt_rates.specs.declared.parts.Parts.{Parts}
-
--- the node stands in a list from an index on
-pub record IsLeft (nodes : List ℕ) (index node : ℕ) : Type 0 where
-  pub place : ℕ
-  pub behind : index ≤ place
-  pub inside : place < length nodes
-  pub here : get_or nodes place 0 ≡ node
+use Rattle.pt_rates.proofs.Left.{IsLeft, left-start, left-more}
 
 -- a node in the course of a move: it is still to be moved, has been moved, or stays
 pub data Course (nodes : List ℕ) (index from to times : ℕ) (old new : Parts) (node : ℕ) : Type 0 where
@@ -30,20 +24,6 @@ pub record IsMoving (nodes : List ℕ) (index from to times : ℕ) (old new : Pa
   pub bounded : new.sum ≤ old.sum + index * 1000000000000000000
   pub small : AreSmall from new
   pub course : (node : ℕ) → node < length old.labels.items → Course nodes index from to times old new node
-
-left-start : (nodes : List ℕ) (node : ℕ) → Contains nodes node → IsLeft nodes 0 node
-left-start nodes node h = record { place = h.0; behind = omega arith; inside = h.1; here = within nodes h.0 node h.1 ∙ h.2 }
-  where
-    within : (xs : List ℕ) (k d : ℕ) → k < length xs → get_or xs k 0 ≡ get_or xs k d
-    within [] k d h = absurd (omega arith)
-    within (x ∷ xs) zero d h = refl
-    within (x ∷ xs) (suc k) d h = within xs k d (omega arith)
-
-left-more : (nodes : List ℕ) (index node : ℕ) → IsLeft nodes index node → (get_or nodes index 0 ≡ node) ⊎ IsLeft nodes (index + 1) node
-left-more nodes index node h = elim (cases_eq index h.place) [
-  | inl e ↦ inl (ap (λ k. get_or nodes k 0) e ∙ h.here)
-  | inr d ↦ inr (record { place = h.place; behind = grind (arith, h.behind, d); inside = h.inside; here = h.here })
-]
 
 -- before the first step: the list of the part is taken out
 pub moving-start : (from to times : ℕ) (old new : Parts) → AreHeld old → AreSmall from old → new.labels.items ≡ old.labels.items → new.repetitions.items ≡ old.repetitions.items → new.members.items ≡ set old.members.items from [] → new.sum ≡ old.sum → IsMoving (members_of old from) 0 from to times old new

@@ -1,3 +1,6 @@
 pub mod Confluence
 pub mod Counts
 pub mod Greatest
+pub mod Lengthening
+pub mod Listing
+pub mod Steps

@@ -17,6 +17,7 @@ impl Hints {
     /// Before the first firing, where `fired` are zeros: the first child comes first.
     pub(crate) fn new(
         alloc: Global,
+        n: u32,
         channels: &[SchedEdge],
         fired: &[u64],
     ) -> Result<Hints, AllocError>
@@ -25,13 +26,13 @@ impl Hints {
     {
         let mut hints = Hints {
             short: vec![in alloc; false; channels.len()]?,
-            lacking: vec![in alloc; 0u64; fired.len()]?,
+            lacking: vec![in alloc; 0u64; n as usize]?,
             ready: Vec::new(alloc),
         };
         for (number, channel) in channels.iter().enumerate() {
             hints.look(channel, number, fired);
         }
-        for child in (0..fired.len() as u32).rev() {
+        for child in (0..n).rev() {
             hints.add(child)?;
         }
         Ok(hints)

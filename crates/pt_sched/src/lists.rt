@@ -1,4 +1,4 @@
-ghost use Rattle.std.specs.Prelude.{◌≡◌, ◌++◌, ◌∷◌, [], All, IfOk, OnOk, length};
+ghost use Rattle.std.specs.Prelude.{◌≡◌, ◌<◌, ◌++◌, ◌∷◌, [], All, IfOk, OnOk, length, slice_index_or};
 ghost use Rattle.pt_sched.specs.Channels.{IsSchedEdge};
 ghost use Rattle.pt_sched.specs.Lists.{child_at, AreListed};
 
@@ -83,8 +83,16 @@ fn empty_lists(alloc: Global, n: u32) -> Result<Vec<Numbers>, AllocError>
     ensures empty { IfOk result (λ lists. All (λ list. list ≡ []) lists.items) }
 {
     let mut lists = Vec::with_capacity(alloc, n as usize)?;
-    for _ in 0..n {
+    for _child in 0..n {
         lists.push(Numbers::new(alloc))?;
     }
     Ok(lists)
+}
+
+/// The list of a child.
+pub(crate) fn numbers_at(lists: &[Numbers], child: u32) -> &[usize]
+    requires { child < length lists.now }
+    ensures { result.now ≡ slice_index_or lists.now child [] }
+{
+    lists[child as usize].as_slice()
 }

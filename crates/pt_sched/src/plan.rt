@@ -6,7 +6,7 @@ ghost use Rattle.pt_sched.specs.declared.plan.SchedFault.TheVariants.{Memory};
 
 use crate::edge::SchedEdge;
 use crate::hints::Hints;
-use crate::lists::{Side, listed};
+use crate::lists::{Side, listed, numbers_at};
 use crate::run::Run;
 use crate::search::{Next, next_child};
 use std::alloc::{AllocError, Global};
@@ -52,12 +52,12 @@ pub fn schedule(alloc: Global, n: u32, edges: &[SchedEdge], q: &[u64]) -> Result
     let ins = listed(alloc, n, Side::End, edges)?;
     let outs = listed(alloc, n, Side::Start, edges)?;
     let mut run = Run::new(alloc, n, edges)?;
-    let mut hints = Hints::new(alloc, edges, &run.fired)?;
+    let mut hints = Hints::new(alloc, n, edges, &run.fired)?;
     'firings: loop {
-        match next_child(edges, &ins, q, &run.fired, &mut hints) {
+        match next_child(n, edges, &ins, q, &run.fired, &mut hints) {
             Next::Ready(child) => {
-                let starts = outs[child as usize].as_slice();
-                let ends = ins[child as usize].as_slice();
+                let starts = numbers_at(&outs, child);
+                let ends = numbers_at(&ins, child);
                 run.fire(edges, q, starts, child)?;
                 hints.fired(edges, ends, starts, &run.fired, child)?;
             }

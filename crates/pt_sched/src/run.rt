@@ -1,4 +1,4 @@
-ghost use Rattle.std.specs.Prelude.{◌≡◌, ℕ, ◌+◌, ◌<◌, ◌≤◌, ◌++◌, ◌∷◌, All, IfOk, List, OnOk, length, max, slice_index, slice_set, sum};
+ghost use Rattle.std.specs.Prelude.{◌≡◌, ℕ, ◌+◌, ◌<◌, ◌≤◌, ◌++◌, ◌∷◌, [], All, IfOk, List, OnOk, length, max, slice_index, slice_set, sum};
 ghost use Rattle.pt_sched.specs.Channels.{IsSchedEdge, AreSmall};
 ghost use Rattle.pt_sched.specs.Lists.{AreAt};
 ghost use Rattle.pt_sched.specs.Next.{IsReady};

@@ -7,7 +7,7 @@ ghost use Rattle.pt_sched.specs.declared.lists.Side.TheVariants.{End};
 
 use crate::edge::{SchedEdge, is_short};
 use crate::hints::Hints;
-use crate::lists::Numbers;
+use crate::lists::{Numbers, numbers_at};
 
 /// What comes next in a run.
 #[derive(Clone, Copy)]
@@ -22,6 +22,7 @@ pub(crate) enum Next {
 
 /// A child that can fire: of the hints, or else of all.
 pub(crate) fn next_child(
+    n: u32,
     channels: &[SchedEdge],
     ins: &[Numbers],
     q: &[u64],
@@ -30,6 +31,7 @@ pub(crate) fn next_child(
 ) -> Next
     requires channels { All (IsSchedEdge (length q.now)) channels.now }
     requires ins { AreListed (length q.now) End channels.now ins.now }
+    requires counted { length q.now ≡ n }
     requires fired { length fired.now ≡ length q.now }
     requires small { AreSmall fired.now }
     ensures { ComesNext channels.now q.now (slice_index fired.now) result }
@@ -39,19 +41,20 @@ pub(crate) fn next_child(
             return Next::Ready(child);
         }
     }
-    search(channels, ins, q, fired)
+    search(n, channels, ins, q, fired)
 }
 
 /// The first child that can fire, or the first that can't.
-fn search(channels: &[SchedEdge], ins: &[Numbers], q: &[u64], fired: &[u64]) -> Next
+fn search(n: u32, channels: &[SchedEdge], ins: &[Numbers], q: &[u64], fired: &[u64]) -> Next
     requires channels { All (IsSchedEdge (length q.now)) channels.now }
     requires ins { AreListed (length q.now) End channels.now ins.now }
+    requires counted { length q.now ≡ n }
     requires fired { length fired.now ≡ length q.now }
     requires small { AreSmall fired.now }
     ensures { ComesNext channels.now q.now (slice_index fired.now) result }
 {
     let mut stuck = None;
-    for child in 0..q.len() as u32 {
+    for child in 0..n {
         if is_ready(channels, ins, q, fired, child) {
             return Next::Ready(child);
         }
@@ -73,8 +76,10 @@ fn is_ready(channels: &[SchedEdge], ins: &[Numbers], q: &[u64], fired: &[u64], c
     requires small { AreSmall fired.now }
     ensures { IsTrue result ↔ IsReady channels.now q.now (slice_index fired.now) child }
 {
-    let child = child as usize;
-    child < q.len() && fired[child] < q[child] && has_tokens(channels, ins[child].as_slice(), fired)
+    if child as usize >= q.len() || fired[child as usize] >= q[child as usize] {
+        return false;
+    }
+    has_tokens(channels, numbers_at(ins, child), fired)
 }
 
 /// Whether each of these channels, which are all that end at a child, holds what its next firing takes.
