@@ -7,11 +7,12 @@ use Rattle.std.proofs.lemmas.List.Sums.{get_or-le-sum_by}
 use Rattle.pt_sched.specs.Channels.{AreSmall}
 use Rattle.pt_sched.specs.Lists.{child_at, AreAt}
 use Rattle.pt_sched.specs.Next.{IsReady}
-use Rattle.pt_sched.specs.Runs.{firings, put_on, taken_from, HasTokens, IsRun, at_first, fires, IsSchedule, IsStuck}
-use Rattle.pt_sched.specs.State.{left}
+use Rattle.pt_sched.specs.Runs.{firings, put_on, taken_from, HasTokens, IsRun, at_first, fires, IsSchedule, IsStuck, AreGreatestLengths}
+use Rattle.pt_sched.specs.State.{IsCounted, left}
 use Rattle.pt_sched.specs.declared.edge.SchedEdge.{SchedEdge}
 use Rattle.pt_sched.specs.declared.lists.Side.TheVariants.{End}
 use Rattle.pt_sched.proofs.Counts.{firings-push_same, firings-push_other, run-bounded}
+use Rattle.pt_sched.proofs.Greatest.{greatest-start}
 use Rattle.pt_sched.proofs.Listing.{no_channel}
 
 -- the channel holds what its receiver's next firing takes
@@ -98,3 +99,27 @@ stuck-run channels q order fired run same none = record {
   run = run;
   none = λ child lacking tokens. none child (omega (arith, same child, lacking), subst (λ f. HasTokens channels f child) (λ i other. sym (same other) i) tokens);
 }
+
+-- no run has begun
+pub held-start : (channels : List SchedEdge) (q order fired lengths : List ℕ) (n : ℕ) → order ≡ [] → fired ≡ replicate n 0 → length q ≡ n → length lengths ≡ length channels → ((k : ℕ) → k < length channels → get_or lengths k 0 ≡ (get_or channels k no_channel).initial) → IsRun channels q order × (length fired ≡ length q) × IsCounted fired order × AreSmall fired × AreGreatestLengths channels order lengths
+held-start channels q order fired lengths n none zeros counted many first = (
+  subst (IsRun channels q) (sym none) at_first,
+  ap length zeros ∙ length-replicate {A = ℕ} n 0 ∙ sym counted,
+  λ child. ap (λ xs. get_or xs child 0) zeros ∙ none-fired n child ∙ ap (λ o. firings o child) (sym none),
+  λ child. omega (arith, ap (λ xs. get_or xs child 0) zeros ∙ none-fired n child),
+  subst (λ o. AreGreatestLengths channels o lengths) (sym none) (record {
+    counted = many;
+    greatest = λ k d short. greatest-start (get_or channels k d) (get_or lengths k 0) (first k short ∙ ap (λ (c : SchedEdge). c.initial) (get_or_default channels k no_channel d short));
+  }),
+)
+
+-- the run after a firing
+pub held-fired : (channels : List SchedEdge) (q order order' fired fired' lengths' : List ℕ) (child : ℕ) → sum q ≤ 1000000 → IsRun channels q order → IsCounted fired order → length fired ≡ length q → IsReady channels q (λ other. get_or fired other 0) child → order' ≡ order ++ child ∷ [] → IsCounted fired' (order ++ child ∷ []) → length fired' ≡ length fired → AreGreatestLengths channels (order ++ child ∷ []) lengths' → IsRun channels q order' × (length fired' ≡ length q) × IsCounted fired' order' × AreSmall fired' × AreGreatestLengths channels order' lengths'
+held-fired channels q order order' fired fired' lengths' child small run same counted ready longer more long greatest =
+    let next : IsRun channels q (order ++ child ∷ []) = run-more channels q order fired child run same ready in (
+      subst (IsRun channels q) (sym longer) next,
+      long ∙ counted,
+      subst (IsCounted fired') (sym longer) more,
+      small-run channels q (order ++ child ∷ []) fired' small next more,
+      subst (λ o. AreGreatestLengths channels o lengths') (sym longer) greatest,
+    )

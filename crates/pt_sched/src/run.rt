@@ -1,9 +1,9 @@
-ghost use Rattle.std.specs.Prelude.{◌≡◌, ℕ, ◌+◌, ◌<◌, ◌≤◌, ◌++◌, ◌∷◌, [], All, IfOk, List, OnOk, length, max, slice_index, slice_set, sum};
+ghost use Rattle.std.specs.Prelude.{◌≡◌, ℕ, ◌+◌, ◌<◌, ◌≤◌, ◌++◌, ◌∷◌, [], All, IfOk, List, OnOk, length, slice_index, slice_set, sum};
 ghost use Rattle.pt_sched.specs.Channels.{IsSchedEdge, AreSmall};
 ghost use Rattle.pt_sched.specs.Lists.{AreAt};
 ghost use Rattle.pt_sched.specs.Next.{IsReady};
-ghost use Rattle.pt_sched.specs.Runs.{length_after};
-ghost use Rattle.pt_sched.specs.State.{IsHeld};
+ghost use Rattle.pt_sched.specs.Runs.{AreGreatestLengths};
+ghost use Rattle.pt_sched.specs.State.{IsHeld, IsCounted};
 ghost use Rattle.pt_sched.specs.declared.lists.Side.TheVariants.{Start};
 
 use crate::edge::{SchedEdge, tokens};
@@ -53,18 +53,21 @@ impl Run {
     {
         self.order.push(child)?;
         self.fired[child as usize] += 1;
-        for number in outs {
-            lengthen(&channels[*number], &self.fired, &mut self.lengths[*number]);
-        }
+        raise(channels, outs, &self.fired, &mut self.lengths);
         Ok(())
     }
 }
 
-/// Raises a greatest length to the length that the channel has now.
-fn lengthen(channel: &SchedEdge, fired: &[u64], most: &mut u64)
-    requires channel { IsSchedEdge (length fired.now) channel.now }
+/// Raises the greatest lengths of these channels, which are all that begin at a child, after the child has fired.
+fn raise(channels: &[SchedEdge], outs: &[usize], fired: &[u64], lengths: &mut [u64])
+    requires channels { All (IsSchedEdge (length fired.now)) channels.now }
     requires small { AreSmall fired.now }
-    ensures { most.new ≡ max most.old (length_after channel.now (slice_index fired.now)) }
+    requires inside { All (λ number. number < length channels.now) outs.now }
+    requires counted { length lengths.old ≡ length channels.now }
+    ensures { (order : List ℕ) (child : ℕ) → IsCounted fired.now (order ++ child ∷ []) → AreAt Start channels.now child outs.now → AreGreatestLengths channels.now order lengths.old → AreGreatestLengths channels.now (order ++ child ∷ []) lengths.new }
 {
-    *most = (*most).max(tokens(channel, fired));
+    for number in outs {
+        let most = lengths[*number];
+        lengths[*number] = most.max(tokens(&channels[*number], fired));
+    }
 }
