@@ -1,5 +1,6 @@
 pub mod Confluence
 pub mod Counts
+pub mod Ends
 pub mod Greatest
 pub mod Lengthening
 pub mod Listing
