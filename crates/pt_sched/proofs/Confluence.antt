@@ -1,11 +1,8 @@
 -- Where the order of firings makes no difference.
-use Rattle.std.proofs.Common.{◌≡◌, ℕ, ◌+◌, ◌*◌, ◌-◌, ◌<◌, ◌≤◌, ◌⊎◌, inl, inr, List, [], ◌∷◌, ◌++◌, length, get_or, All, refl, sym, ap, subst, ◌∙◌, arith}
+use Rattle.std.proofs.Common.{◌≡◌, ℕ, ◌*◌, ◌≤◌, inl, inr, List, [], ◌∷◌, ◌++◌, get_or, All, sym, ap, ◌∙◌, arith}
 use Rattle.std.proofs.lemmas.Bool.{cases_eq, cases_lt}
-use Rattle.std.proofs.Math.Nat.{mul-le-mul_right}
-use Rattle.pt_rates.specs.Balance.{IsBalancedAt}
-use Rattle.pt_sched.specs.Runs.{firings, put_on, taken_from, length_after, HasTokens, IsRun, at_first, fires, IsSchedule, IsStuck}
-use Rattle.pt_sched.specs.Laws.{StuckRunsAgree, DeadlocksExcludeSchedules, RunsKeepLengths, SchedulesRestoreLengths}
-use Rattle.pt_sched.specs.Plan.{IsDeadlock}
+use Rattle.pt_sched.specs.Runs.{firings, put_on, taken_from, HasTokens, IsRun, at_first, fires, IsStuck}
+use Rattle.pt_sched.specs.Laws.{StuckRunsAgree, DeadlocksExcludeSchedules, SchedulesRestoreLengths}
 use Rattle.pt_sched.specs.declared.edge.SchedEdge.{SchedEdge}
 use Rattle.pt_sched.proofs.Counts.{firings-push_same, firings-push_other, firings-push_le, put_on-le}
 

@@ -1,9 +1,9 @@
 -- How often each child fires in an order.
-use Rattle.std.proofs.Common.{◌≡◌, ℕ, ◌+◌, ◌*◌, ◌<◌, ◌≤◌, ◌⊎◌, inl, inr, Bool, cond, eqb, List, [], ◌∷◌, ◌++◌, length, get_or, All, refl, sym, ap, subst, ◌∙◌, arith, eq-eqb}
+use Rattle.std.proofs.Common.{◌≡◌, ℕ, ◌+◌, ◌<◌, ◌≤◌, inl, inr, cond, eqb, List, [], ◌∷◌, ◌++◌, get_or, ap, subst, ◌∙◌, arith, eq-eqb}
 use Rattle.std.proofs.lemmas.Bool.{cases_eq, ne_eqb}
 use Rattle.std.proofs.lemmas.List.Sums.{sum_by_push}
 use Rattle.std.proofs.Math.Nat.{mul-le-mul_right}
-use Rattle.pt_sched.specs.Runs.{firings, put_on, taken_from, HasTokens, IsRun, at_first, fires}
+use Rattle.pt_sched.specs.Runs.{firings, put_on, taken_from, IsRun, at_first, fires}
 use Rattle.pt_sched.specs.declared.edge.SchedEdge.{SchedEdge}
 
 pub firings-push : (order : List ℕ) (child other : ℕ) → firings (order ++ child ∷ []) other ≡ firings order other + cond (eqb child other) 1 0

@@ -1,9 +1,9 @@
 -- How the scheduler's loop goes on, and how it ends.
-use Rattle.std.proofs.Common.{◌≡◌, ℕ, ◌<◌, ◌≤◌, List, [], length, get_or, sym, ap, subst, ◌∙◌, arith}
+use Rattle.std.proofs.Common.{◌≡◌, ℕ, ◌<◌, List, [], length, get_or, sym, ap, subst, ◌∙◌, arith}
 use Rattle.pt_sched.specs.Lists.{AreAt, AreListed}
 use Rattle.pt_sched.specs.Next.{IsReady}
 use Rattle.pt_sched.specs.Plan.{IsDeadlock, IsUnschedulable}
-use Rattle.pt_sched.specs.Runs.{firings, IsRun}
+use Rattle.pt_sched.specs.Runs.{IsRun}
 use Rattle.pt_sched.specs.State.{IsCounted}
 use Rattle.pt_sched.specs.declared.edge.SchedEdge.{SchedEdge}
 use Rattle.pt_sched.specs.declared.lists.Side.{Side}

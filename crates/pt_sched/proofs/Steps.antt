@@ -1,11 +1,11 @@
 -- The tests of a child, and the run after it fires.
-use Rattle.std.proofs.Common.{◌≡◌, ℕ, zero, suc, ◌+◌, ◌-◌, ◌*◌, ◌<◌, ◌≤◌, ◌⊎◌, inl, inr, List, [], ◌∷◌, ◌++◌, length, get_or, set, sum, replicate, All, Contains, true, false, refl, sym, ap, subst, ◌∙◌, arith}
+use Rattle.std.proofs.Common.{◌≡◌, ℕ, zero, suc, ◌+◌, ◌<◌, ◌≤◌, inl, inr, List, [], ◌∷◌, ◌++◌, length, get_or, set, sum, replicate, true, false, refl, sym, ap, subst, ◌∙◌, arith}
 use Rattle.std.proofs.lemmas.Bool.{cases_eq, cases_lt, false≢true}
-use Rattle.std.proofs.lemmas.List.{length-set, get_or-set_same, get_or-set_other, get_or_default, get_or_past, get_or-replicate, length-replicate}
+use Rattle.std.proofs.lemmas.List.{get_or-set_same, get_or-set_other, get_or_default, get_or_past, get_or-replicate, length-replicate}
 use Rattle.std.proofs.lemmas.List.Elements.{Contains-get_or}
 use Rattle.std.proofs.lemmas.List.Sums.{get_or-le-sum_by}
 use Rattle.pt_sched.specs.Channels.{AreSmall}
-use Rattle.pt_sched.specs.Lists.{child_at, AreAt}
+use Rattle.pt_sched.specs.Lists.{AreAt}
 use Rattle.pt_sched.specs.Next.{IsReady}
 use Rattle.pt_sched.specs.Runs.{firings, put_on, taken_from, HasTokens, IsRun, at_first, fires, IsSchedule, IsStuck, AreGreatestLengths}
 use Rattle.pt_sched.specs.State.{IsCounted, left}

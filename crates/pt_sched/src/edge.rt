@@ -1,4 +1,4 @@
-ghost use Rattle.std.specs.Prelude.{◌≡◌, ℕ, ◌+◌, ◌-◌, ◌*◌, ◌<◌, ◌≤◌, ◌↔◌, IsTrue, length, slice_index};
+ghost use Rattle.std.specs.Prelude.{◌≡◌, ℕ, ◌+◌, ◌-◌, ◌*◌, ◌<◌, ◌≤◌, ◌↔◌, All, IsTrue, length, slice_index};
 ghost use Rattle.pt_sched.specs.Channels.{IsSchedEdge, AreSmall};
 ghost use Rattle.pt_sched.specs.Runs.{put_on, taken_from, length_after};
 
@@ -9,6 +9,25 @@ use pt_rates::Edge;
 pub struct SchedEdge {
     pub edge: Edge,
     pub initial: u64,
+}
+
+/// The most tokens that a channel may hold at first.
+const MOST_FIRST: u64 = 1 << 32;
+
+impl SchedEdge {
+    /// Whether the ends are among `n` children, the rates are 1 to 1,000,000, and there are at most 2^32 first tokens.
+    pub fn is_channel(&self, n: u32) -> bool
+        ensures { IsTrue result ↔ IsSchedEdge n self.now }
+    {
+        self.edge.is_channel(n) && self.initial <= MOST_FIRST
+    }
+}
+
+/// Whether all edges are channels between two of `n` children.
+pub fn are_channels(n: u32, edges: &[SchedEdge]) -> bool
+    ensures { IsTrue result ↔ All (IsSchedEdge n) edges.now }
+{
+    edges.iter().all(|edge| edge.is_channel(n))
 }
 
 /// The tokens that were put on a channel, with the first ones, where each child fired so often.

@@ -11,7 +11,7 @@ mod search;
 #[cfg(test)]
 mod tests;
 
-pub use edge::SchedEdge;
+pub use edge::{SchedEdge, are_channels};
 pub use laws::{
     deadlocks_exclude_schedules, runs_keep_lengths, schedules_restore_lengths, stuck_runs_agree,
 };

@@ -1,8 +1,8 @@
-use Rattle.std.proofs.Common.{◌≡◌, ℕ, ◌<◌, ◌≤◌, List, get_or, sym, subst}
+use Rattle.std.proofs.Common.{ℕ, ◌<◌, ◌≤◌, get_or, sym, subst}
 use Rattle.pt_sched.specs.Next.{IsReady, ComesNext}
 use Rattle.pt_sched.specs.State.{left}
 use Rattle.pt_sched.specs.declared.lists.Side.TheVariants.{Start, End}
-use Rattle.pt_sched.specs.declared.search.Next.TheVariants.{Ready, Stuck, Over}
+use Rattle.pt_sched.specs.declared.search.Next.TheVariants.{Stuck}
 use Rattle.pt_sched.proofs.Ends.{numbers-at, unschedulable}
 use Rattle.pt_sched.proofs.Listing.{listed-inside}
 use Rattle.pt_sched.proofs.Steps.{left-fired, complete}

@@ -1,4 +1,4 @@
-use Rattle.std.proofs.Common.{◌≡◌, ℕ, List, [], ◌∷◌, ◌++◌, max, get_or, refl, ap, ◌∙◌}
+use Rattle.std.proofs.Common.{ℕ, max, get_or, refl, ap, ◌∙◌}
 use Rattle.pt_sched.specs.Runs.{length_after}
 use Rattle.pt_sched.proofs.Listing.{no_channel}
 use Rattle.pt_sched.proofs.Lengthening.{raised-start, raised-step, raised-all}

@@ -1,4 +1,4 @@
-use Rattle.std.proofs.Common.{◌≡◌, ℕ, List, [], ◌∷◌, ◌++◌, length}
+use Rattle.std.proofs.Common.{ℕ, List, [], ◌∷◌, ◌++◌}
 use Rattle.pt_sched.specs.Lists.{AreAt}
 use Rattle.pt_sched.specs.Runs.{AreGreatestLengths}
 use Rattle.pt_sched.specs.State.{IsCounted}

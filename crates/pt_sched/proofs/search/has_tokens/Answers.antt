@@ -1,6 +1,4 @@
-use Rattle.std.proofs.Common.{◌≡◌, ℕ, ◌+◌, ◌<◌, get_or, below_more, arith, rules, false}
-use Rattle.std.proofs.lemmas.Bool.{false≢true}
-use Rattle.pt_sched.specs.Runs.{put_on, taken_from}
+use Rattle.std.proofs.Common.{get_or, below_more, rules}
 use Rattle.pt_sched.proofs.Listing.{no_channel}
 use Rattle.pt_sched.proofs.Steps.{filled-from, has-tokens, lacks-tokens}
 use Rattle.pt_sched.proofs.search.has_tokens.Goals as goal

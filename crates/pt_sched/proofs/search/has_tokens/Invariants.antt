@@ -1,4 +1,4 @@
-use Rattle.std.proofs.Common.{ℕ, get_or}
+use Rattle.std.proofs.Common.{get_or}
 use Rattle.pt_sched.proofs.Steps.{AreFilled}
 use Rattle.pt_sched.proofs.search.has_tokens.Given as goal
 

@@ -1,4 +1,4 @@
-use Rattle.std.proofs.Common.{◌≡◌, ℕ, List, sym, subst}
+use Rattle.std.proofs.Common.{ℕ, List, sym, subst}
 use Rattle.pt_sched.specs.Lists.{AreAt}
 use Rattle.pt_sched.specs.declared.lists.Side.TheVariants.{End}
 use Rattle.pt_sched.proofs.Listing.{listed-inside}

@@ -1,4 +1,4 @@
-use Rattle.std.proofs.Common.{ℕ, length}
+use Rattle.std.proofs.Common.{length}
 use Rattle.pt_sched.proofs.search.next_child.Given as goal
 
 abbrev pub decreases-loop-child : goal.decreases-loop-child

@@ -1,4 +1,4 @@
-use Rattle.std.proofs.Common.{◌≡◌, ℕ, arith, length, subst, ◌<◌, ◌∙◌}
+use Rattle.std.proofs.Common.{◌≡◌, arith, length, ◌∙◌}
 use Rattle.pt_sched.proofs.Steps.{held-start}
 use Rattle.pt_sched.proofs.run.Run.new.Goals as goal
 
