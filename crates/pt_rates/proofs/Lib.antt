@@ -6,3 +6,4 @@ pub mod Moves
 pub mod Solves
 pub mod Spans
 pub mod Starts
+pub mod Uniqueness

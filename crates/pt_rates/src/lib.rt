@@ -2,6 +2,7 @@
 #![tactic(auto)]
 
 mod edge;
+mod laws;
 mod parts;
 mod rates;
 mod ratio;
@@ -9,4 +10,5 @@ mod ratio;
 mod tests;
 
 pub use edge::Edge;
+pub use laws::{repetitions_are_unique, solutions_exclude_faults};
 pub use rates::{RatesFault, are_channels, solve};
