@@ -1,0 +1,9 @@
+pub mod Connections
+pub mod Euclid
+pub mod Left
+pub mod Merges
+pub mod Moves
+pub mod Solves
+pub mod Spans
+pub mod Starts
+pub mod Uniqueness

@@ -1,0 +1,7 @@
+pub mod Channels
+pub mod Laws
+pub mod Lists
+pub mod Next
+pub mod Plan
+pub mod Runs
+pub mod State
