@@ -3,3 +3,6 @@ pub mod Records
 pub mod NameSteps
 pub mod Agreeing
 pub mod TokenTypes
+pub mod Binding
+pub mod Fitting
+pub mod Told

@@ -1,5 +1,5 @@
 -- The names in the parts of a literal, one by one.
-use Rattle.std.proofs.Common.{◌≡◌, ℕ, zero, suc, ◌<◌, ◌≤◌, ◌++◌, List, [], ◌∷◌, length, get_or, drop, map, sym, ap, subst, ◌∙◌, append_assoc, arith}
+use Rattle.std.proofs.Common.{◌≡◌, ℕ, zero, suc, ◌+◌, ◌<◌, ◌≤◌, ◌++◌, List, [], ◌∷◌, length, get_or, drop, map, sym, ap, subst, ◌∙◌, append_assoc, add-one, arith}
 use Rattle.std.proofs.Math.Seq.{drop-cons}
 use Rattle.pt_expr.specs.declared.expr.Expr.{Expr}
 use Rattle.pt_expr.specs.declared.exprs.NamedExpr.{NamedExpr}
@@ -25,8 +25,12 @@ pub height-field : (fs : List NamedExpr) (gs : List (List ℕ × Tree)) (i : ℕ
 height-field fs gs i f all short is = subst (λ hs. height (tree_of f.value) ≤ height_of_named (named_of hs)) all (field-height fs i f short is)
 
 -- the names of what is left begin with those of the next part
-pub names-part : (es : List Expr) (i : ℕ) (e : Expr) → i < length es → e ≡ get_or es i e → names_in_parts (trees_of (map tree_of (drop i es))) ≡ names_in (tree_of e) ++ names_in_parts (trees_of (map tree_of (drop (suc i) es)))
-names-part es i e short is = ap (λ xs. names_in_parts (trees_of (map tree_of xs))) (drop-cons es i e short ∙ ap (λ x. x ∷ drop (suc i) es) (sym is))
+pub names-part : (es : List Expr) (i : ℕ) (e : Expr) → i < length es → e ≡ get_or es i e → names_in_parts (trees_of (map tree_of (drop i es))) ≡ names_in (tree_of e) ++ names_in_parts (trees_of (map tree_of (drop (i + 1) es)))
+names-part es i e short is = ap (λ xs. names_in_parts (trees_of (map tree_of xs))) (drop-cons es i e short ∙ ap (λ x. x ∷ drop (suc i) es) (sym is)) ∙ ap (λ k. names_in (tree_of e) ++ names_in_parts (trees_of (map tree_of (drop k es)))) (sym (add-one i))
 
-pub names-field : (fs : List NamedExpr) (i : ℕ) (f : NamedExpr) → i < length fs → f ≡ get_or fs i f → names_in_fields (named_of (map entry_of (drop i fs))) ≡ names_in (tree_of f.value) ++ names_in_fields (named_of (map entry_of (drop (suc i) fs)))
-names-field fs i f short is = ap (λ xs. names_in_fields (named_of (map entry_of xs))) (drop-cons fs i f short ∙ ap (λ x. x ∷ drop (suc i) fs) (sym is))
+pub names-field : (fs : List NamedExpr) (i : ℕ) (f : NamedExpr) → i < length fs → f ≡ get_or fs i f → names_in_fields (named_of (map entry_of (drop i fs))) ≡ names_in (tree_of f.value) ++ names_in_fields (named_of (map entry_of (drop (i + 1) fs)))
+names-field fs i f short is = ap (λ xs. names_in_fields (named_of (map entry_of xs))) (drop-cons fs i f short ∙ ap (λ x. x ∷ drop (suc i) fs) (sym is)) ∙ ap (λ k. names_in (tree_of f.value) ++ names_in_fields (named_of (map entry_of (drop k fs)))) (sym (add-one i))
+
+-- names so far, with those of one more part
+pub next_names : (old new part left more all : List (List ℕ)) → new ≡ old ++ part → left ≡ part ++ more → old ++ left ≡ all → new ++ more ≡ all
+next_names old new part left more all e f g = ap (λ ns. ns ++ more) e ∙ append_assoc old part more ∙ ap (λ ns. old ++ ns) (sym f) ∙ g

@@ -22,7 +22,7 @@ row_of r = record { class = r.class.now; name = r.name.now; form = r.form; stand
 
 -- the table
 unfoldable pub forms : List ParameterForm
-forms = map row_of FORMS
+forms = map (λ r. record { class = r.class.now; name = r.name.now; form = r.form; standard = r.standard }) FORMS
 
 abbrev pub form_in : List ParameterForm → List ℕ → List ℕ → Form
 form_in [] class name = form.Any

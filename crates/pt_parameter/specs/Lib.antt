@@ -3,5 +3,7 @@ pub mod Texts
 pub mod Names
 pub mod TextFault
 pub mod TokenType
+pub mod PortNames
+pub mod Binding
 pub mod Given
 pub mod Agreement

@@ -113,6 +113,12 @@ pub record IsBound (scope : Scope) (name : List ℕ) : Type 0 where
   pub held : Option Value
   pub is : scope name ≡ Some held
 
+-- a text isn't read
+abbrev pub IsReaderFault : List ℕ → Code → Type 0
+IsReaderFault text code.Limit = IsDeep text
+IsReaderFault text code.ExprSyntax = IsNoTree text
+IsReaderFault text _ = ⊥
+
 -- at what a text that is evaluated in this scope is at fault; one that names what is itself at fault has no fault of its own
 -- but in its words and in its names
 abbrev pub IsTextFault : Scope → List ℕ → Code → Type 0

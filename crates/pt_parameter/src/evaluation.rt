@@ -1,22 +1,23 @@
-ghost use Rattle.std.specs.Prelude.{◌≡◌, ◌⊎◌, ℕ, List, IfOk, IfErr, OnOk, Some, None, IsTrue};
-ghost use Rattle.std.specs.List.{Contains};
+ghost use Rattle.std.specs.Prelude.{◌≡◌, ◌++◌, [], ◌∷◌, ℕ, List, IfOk, IfErr, OnOk, None, true};
 ghost use Rattle.pt_value.specs.Token.{value_of};
 ghost use Rattle.pt_moml.specs.declared.code.Code.TheVariants as code;
 ghost use Rattle.pt_expr.specs.Env.{scope_of};
 ghost use Rattle.pt_expr.specs.Expr.{tree_of};
+ghost use Rattle.pt_expr_type.specs.Laws.{Keeps, TypedTreesAreSound};
+ghost use Rattle.pt_expr_type.specs.TreeType.{are_bound};
 ghost use Rattle.pt_expr_type.specs.TypeEnv.{types_in};
 ghost use Rattle.pt_parameter.specs.Names.{seen_scope};
-ghost use Rattle.pt_parameter.specs.Binding.{AreBound, IsHeldAs};
-ghost use Rattle.pt_parameter.specs.Texts.{IsRead, HasValue, IsNoTree, IsTextFault, names_in};
-ghost use Rattle.pt_parameter.specs.TextFault.{IsTold, IsReaderFault};
+ghost use Rattle.pt_parameter.specs.Binding.{AreBound, HasStrange, TreeGives, IsTreeValueFault};
+ghost use Rattle.pt_parameter.specs.Texts.{HasValue, IsTextFault};
+ghost use Rattle.pt_parameter.specs.TextFault.{IsTold};
 
 use crate::fault::TextFault;
+use crate::reading::read;
 use crate::scope::Seen;
 use crate::token_type::type_of_token;
 use crate::tree_names::names_of;
 use pt_expr::{Env, Expr, eval};
-use pt_expr_text::parse;
-use pt_expr_type::{TypeEnv, TypeFault, type_of, typed_trees_are_sound};
+use pt_expr_type::{TypeEnv, TypeFault, type_of};
 use pt_moml::Code;
 use pt_value::{Text, Token};
 use std::alloc::Global;
@@ -34,20 +35,20 @@ impl Binding {
         ensures ok { OnOk result ((done : List (List ℕ)) → AreBound (seen_scope seen.now) (scope_of self.old.env) (types_in self.old.types) done → AreBound (seen_scope seen.now) (scope_of self.new.env) (types_in self.new.types) (done ++ name.now ∷ [])) }
         ensures told { IfErr result (IsTold (λ cause. (cause ≡ code.ExprName) × (seen_scope seen.now name.now ≡ None))) }
     {
-        let Some(token) = seen.get(name) else {
-            return Err(TextFault::Refused(Code::ExprName));
-        };
-        let ty = type_of_token(alloc, token)?;
-        let token = token.copy(alloc)?;
-        self.types.bind(name, ty)?;
-        self.env.bind(name, Some(token))?;
-        Ok(())
+        match seen.get(name) {
+            Some(token) => {
+                self.types.bind(name, type_of_token(alloc, token)?)?;
+                self.env.bind(name, Some(token.copy(alloc)?))?;
+                Ok(())
+            }
+            None => Err(TextFault::Refused(Code::ExprName)),
+        }
     }
 
     /// The names of a tree as they are seen.
     fn of(alloc: Global, seen: &Seen, names: &[Text]) -> Result<Binding, TextFault>
         ensures ok { IfOk result (λ b. AreBound (seen_scope seen.now) (scope_of b.env) (types_in b.types) names.now) }
-        ensures told { IfErr result (IsTold (λ cause. (cause ≡ code.ExprName) × IsStrange (seen_scope seen.now) names.now)) }
+        ensures told { IfErr result (IsTold (λ cause. (cause ≡ code.ExprName) × HasStrange (seen_scope seen.now) names.now)) }
     {
         let mut binding = Binding {
             env: Env::new(alloc),
@@ -59,10 +60,14 @@ impl Binding {
         Ok(binding)
     }
 
-    /// What a tree comes to.
+    /// What a tree comes to, all of whose names are bound.
     fn value(&self, alloc: Global, tree: &Expr) -> Result<Token, TextFault>
+        requires sound { TypedTreesAreSound }
+        requires keeps { Keeps (types_in self.now.types) (scope_of self.now.env) }
+        requires bound { are_bound (types_in self.now.types) (tree_of tree.now) ≡ true }
+        ensures ok { IfOk result (λ t. TreeGives (scope_of self.now.env) (types_in self.now.types) (tree_of tree.now) (value_of t)) }
+        ensures told { IfErr result (IsTold (IsTreeValueFault (scope_of self.now.env) (types_in self.now.types) (tree_of tree.now))) }
     {
-        typed_trees_are_sound();
         match type_of(alloc, tree, &self.types) {
             Ok(_) => Ok(eval(alloc, tree, &self.env)?),
             Err(TypeFault::Clash) => Err(TextFault::Refused(Code::Type)),
@@ -74,6 +79,7 @@ impl Binding {
 
 /// The token that a text comes to, where its names are those that are seen.
 pub fn evaluated(alloc: Global, seen: &Seen, text: &str) -> Result<Token, TextFault>
+    requires { TypedTreesAreSound }
     ensures ok { IfOk result (λ t. HasValue (seen_scope seen.now) text.now (value_of t)) }
     ensures told { IfErr result (IsTold (IsTextFault (seen_scope seen.now) text.now)) }
 {

@@ -1,4 +1,4 @@
-use pt_expr_text::ParseFault;
+use pt_expr::EvalFault;
 use pt_moml::Code;
 use std::alloc::{AllocError, AllocFailed};
 use thiserror::Error;
@@ -35,17 +35,20 @@ impl<T: Drop> From<AllocFailed<T>> for TextFault {
     }
 }
 
-impl From<ParseFault> for TextFault {
+impl From<EvalFault> for TextFault {
     ghost use Rattle.std.specs.Prelude.{◌≡◌};
-    ghost use Rattle.pt_parameter.specs.TextFault.{of_parse};
+    ghost use Rattle.pt_parameter.specs.TextFault.{of_evaluation};
 
-    ghost from_gives = { λ parse fault. fault ≡ of_parse parse };
+    ghost from_gives = { λ evaluation fault. fault ≡ of_evaluation evaluation };
 
-    fn from(fault: ParseFault) -> Self {
+    fn from(fault: EvalFault) -> Self {
         match fault {
-            ParseFault::Syntax => TextFault::Refused(Code::ExprSyntax),
-            ParseFault::Deep => TextFault::Refused(Code::Limit),
-            ParseFault::Memory => TextFault::Memory,
+            EvalFault::DivideByZero
+            | EvalFault::Overflow
+            | EvalFault::Index
+            | EvalFault::Size
+            | EvalFault::Absent => TextFault::Refused(Code::Value),
+            EvalFault::Memory => TextFault::Memory,
         }
     }
 }

@@ -50,7 +50,7 @@ impl PortNames {
     }
 
     fn have_presence(&self, port: Option<&str>) -> bool
-        ensures { result ≡ has_presence self.now (option_map (λ p. p.now) port) }
+        ensures { result ≡ has_presence self.now (option_map (λ p. p.now) port.entry) }
     {
         match port {
             Some(port) => self.contains(port),

@@ -1,4 +1,4 @@
-ghost use Rattle.std.specs.Prelude.{◌≡◌, IfOk, map};
+ghost use Rattle.std.specs.Prelude.{◌≡◌, IfOk, OnOk, map};
 ghost use Rattle.pt_value.specs.Value.{values_of};
 ghost use Rattle.pt_value.specs.Record.{IsRecord};
 ghost use Rattle.pt_value.specs.Token.{value_of};
@@ -44,7 +44,7 @@ fn join_of(alloc: Global, items: &Items) -> Result<Ty, AllocError>
 #[cycle(token_types)]
 fn types_of_fields(alloc: Global, fields: &Fields) -> Result<Vec<(Text, Ty)>, AllocError>
     ensures types { IfOk result (λ pairs. map entry_of_pair pairs.items ≡ typed_fields fields.now) }
-    ensures lawful { IsRecord fields.now }
+    ensures lawful { OnOk result (IsRecord fields.now) }
 {
     let mut pairs = Vec::with_capacity(alloc, fields.len())?;
     for field in fields.as_slice() {

@@ -1,3 +1,5 @@
 pub mod Scopes
 pub mod Sites
 pub mod Valued
+pub mod Frames
+pub mod Told

@@ -13,7 +13,7 @@ use Rattle.pt_parameter.specs.declared.form.Form.TheVariants as form
 use Rattle.pt_parameter.specs.declared.tables.TheConstants.{RATE}
 use Rattle.pt_parameter.specs.Forms.{form_of}
 use Rattle.pt_values.specs.Scopes.{NetTree, Bindings, bound, text_of, Extends, Sees, IsSeenBy}
-use Rattle.pt_parameter.specs.Given.{IsGivenFault}
+use Rattle.pt_parameter.specs.Given.{names_port, IsGivenFault}
 
 -- ---- parts of entities
 
@@ -82,4 +82,4 @@ pub data HasSite (net : NetTree) : Site → Type 0 where
 
 -- at what a text is at fault
 abbrev pub IsFaultAt : Site → Code → Type 0
-IsFaultAt s cause = IsGivenFault s.ports (bound s.seen) s.form s.text cause
+IsFaultAt s cause = IsGivenFault (names_port s.ports) (bound s.seen) s.form s.text cause

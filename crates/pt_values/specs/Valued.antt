@@ -20,7 +20,7 @@ use Rattle.pt_values.specs.declared.values.Values.{Values}
 use Rattle.pt_parameter.specs.Forms.{form_of, fits}
 use Rattle.pt_parameter.specs.Texts.{HasValue}
 use Rattle.pt_values.specs.Scopes.{NetTree, Bindings, bound, text_of, Sees, Extends}
-use Rattle.pt_parameter.specs.Given.{Held, Token, held_view, IsGiven}
+use Rattle.pt_parameter.specs.Given.{Held, Token, held_view, names_port, IsGiven}
 use Rattle.pt_parameter.specs.Agreement.{agree, named}
 use Rattle.pt_values.specs.Sites.{is_composite_class, director_form, rate_of, inputs_of, texts_of_supply, Site, HasSite, IsFaultAt}
 
@@ -46,7 +46,7 @@ AreInTurn around (p ∷ ps) (v ∷ vs) inner = HasValue (bound around) (text_of 
 
 -- a parameter that has what is given, where this is the form of each by its name
 abbrev pub IsParameter : List (List ℕ) → Bindings → (List ℕ → Form) → PropertyTree → Held → Type 0
-IsParameter ports seen form_named p h = IsGiven ports (bound seen) (form_named (property_name p)) (text_of p) h
+IsParameter ports seen form_named p h = IsGiven (names_port ports) (bound seen) (form_named (property_name p)) (text_of p) h
 
 -- parameters of a class, each in its form, that agree
 pub record AreParameters (ports : List (List ℕ)) (seen : Bindings) (form_named : List ℕ → Form) (class : List ℕ) (ps : List PropertyTree) (hs : List Held) : Type 0 where
@@ -104,11 +104,14 @@ IsSupplied (Some text) (Some v) = HasValue (bound []) text v
 abbrev pub IsInputValued : InputTree → List (Option Value) → Type 0
 IsInputValued i vs = AllZip IsSupplied (texts_of_supply i.supply) vs
 
+abbrev pub inputs_view : Values → List (List (Option Value))
+inputs_view values = map (λ ts. map (option_map value_of) ts.items) values.inputs.items
+
 -- what the texts of a net come to
 pub record IsValued (net : NetTree) (values : Values) : Type 0 where
   pub entities : AllZip (IsEntityValued net) net.entities (map entity_view values.entities.items)
   pub transparent : AllZip (IsTransparentValued net) net.transparent (map (λ ts. map value_of ts.items) values.transparent.items)
-  pub inputs : AllZip IsInputValued net.inputs (map (λ ts. map (option_map value_of) ts.items) values.inputs.items)
+  pub inputs : AllZip IsInputValued net.inputs (inputs_view values)
 
 -- ---- faults
 

@@ -1,10 +1,10 @@
-//! What the parameters of a net come to.
+//! What the texts of a net come to: parameters, Variables, rates and what comes to inputs.
 #![tactic(auto)]
 
-mod form;
-mod tables;
+mod parameters;
+mod scopes;
 mod values;
 
-pub use form::{Form, FormRow, ParameterForm, Standard};
-pub use tables::{FORMS, RATE};
-pub use values::{EntityValues, ParameterValue, TransitionTrees, Values};
+pub use parameters::in_turn;
+pub use scopes::Scopes;
+pub use values::{EntityValues, Values};

@@ -11,4 +11,4 @@ pub returns-in-Ok : goal.returns-in-Ok
 returns-in-Ok c =
     let ps = map entry_of_pair c.args.fields.items in
     let same = sym (by_name-record ps c.in-Ok.fields c.in-Ok.ensures.ok c.in-Ok.ensures.lawful) ∙ by_name-record ps ps (IsPermutation-refl ps) c.requires in
-    ?
+    c.record.ensures ∙ ap (λ fs. record_of (types_of fs)) same
