@@ -15,7 +15,7 @@ use Rattle.pt_types.specs.Token.{type_of_value, join_of, field_types}
 use Rattle.pt_types.specs.RecordType as record_type
 use Rattle.pt_types.specs.RecordType.{IsRecordType}
 use Rattle.pt_types.proofs.Joins.{normal_is_type}
-use Rattle.pt_parameter.proofs.JoinLaws.{join-is_type, join-assoc}
+use Rattle.pt_expr_type.proofs.JoinLaws.{join-is_type, join-assoc}
 use Rattle.pt_parameter.specs.TokenType.{typed_field, typed_fields}
 
 -- a part is lower than the parts together

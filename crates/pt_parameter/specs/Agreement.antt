@@ -1,12 +1,14 @@
 -- Where parameters of one entity have to agree with one another (by the profile).
-use Rattle.std.specs.Prelude.{ℕ, ℤ, pos, ◌*ℤ◌, int_lt, List, [], ◌∷◌, length, map, Option, Some, None, Bool, true, false, not, ◌&&◌, ◌||◌, nat_eq, if◌then◌else◌, bytes_eq, codes}
+use Rattle.std.specs.Prelude.{ℕ, ℤ, pos, ◌*ℤ◌, int_lt, List, [], ◌∷◌, length, map, Option, Some, None, unwrap_or, Bool, true, false, not, ◌&&◌, ◌||◌, nat_eq, if◌then◌else◌, bytes_eq, codes}
 use Rattle.std.specs.List.{list_all, zip}
 use Rattle.pt_moml.specs.Document.{PropertyTree, property_name}
 use Rattle.pt_value.specs.Value.{Value, Int, Array, list_of}
 use Rattle.pt_parameter.specs.declared.form.Standard.{Standard}
 use Rattle.pt_parameter.specs.declared.form.Standard.TheVariants as standard
 use Rattle.pt_parameter.specs.Forms.{ParameterForm, forms}
-use Rattle.pt_parameter.specs.Given.{Held, Token, Read, Word}
+use Rattle.pt_moml.specs.View.{properties_view}
+use Rattle.pt_parameter.specs.declared.agreement.Parameters.{Parameters as Given}
+use Rattle.pt_parameter.specs.Given.{Held, Token, held_view}
 
 -- parameters with their names
 abbrev pub Parameters : Type 0
@@ -36,22 +38,35 @@ abbrev pub given : Parameters → List ℕ → Option Held
 given [] name = None
 given (p ∷ ps) name = if bytes_eq p.0 name then Some p.1 else given ps name
 
+-- the value of a parameter that is given one
+abbrev pub value_in : Option Held → Option Value
+value_in (Some (Token v)) = Some v
+value_in h = None
+
 -- an integer that is given, or else the one that stands for it
-abbrev pub integer_in : Option Held → ℤ → ℤ
-integer_in (Some (Token (Int n))) other = n
-integer_in h other = other
+abbrev pub integer_in : Option Value → ℤ → ℤ
+integer_in (Some (Int n)) other = n
+integer_in v other = other
 
 -- the integer that a parameter of an entity of this class has
 abbrev pub integer_of : List ℕ → Parameters → List ℕ → ℤ
-integer_of class ps name = integer_in (given ps name) (standard_integer (standard_of class name))
+integer_of class ps name = integer_in (value_in (given ps name)) (standard_integer (standard_of class name))
+
+-- the elements of an array
+abbrev pub elements : Value → Option (List Value)
+elements (Array vs) = Some (list_of vs)
+elements v = None
+
+abbrev pub given_elements : Option Value → Option (List Value)
+given_elements (Some v) = elements v
+given_elements None = None
 
 -- the elements of an array that is given, or else those that stand for it
-abbrev pub elements_in : Option Held → List Value → List Value
-elements_in (Some (Token (Array vs))) other = list_of vs
-elements_in h other = other
+abbrev pub elements_in : Option Value → List Value → List Value
+elements_in v other = unwrap_or (given_elements v) other
 
 abbrev pub elements_of : List ℕ → Parameters → List ℕ → List Value
-elements_of class ps name = elements_in (given ps name) (standard_elements (standard_of class name))
+elements_of class ps name = elements_in (value_in (given ps name)) (standard_elements (standard_of class name))
 
 -- an integer less than this
 abbrev pub is_integer_below : ℤ → Value → Bool
@@ -85,3 +100,8 @@ agree class ps =
     else (if bytes_eq class (codes "DiscreteClock") then has_events class ps
     else (if bytes_eq class (codes "PN") then is_at_most class ps (codes "initialQueueCapacity") (codes "maximumQueueCapacity")
     else true)))))
+
+-- ---- what the program holds
+
+abbrev pub parameters_view : Given → Parameters
+parameters_view p = named (properties_view p.properties.now) (map held_view p.values.now)

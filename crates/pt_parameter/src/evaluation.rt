@@ -3,7 +3,7 @@ ghost use Rattle.pt_value.specs.Token.{value_of};
 ghost use Rattle.pt_moml.specs.declared.code.Code.TheVariants as code;
 ghost use Rattle.pt_expr.specs.Env.{scope_of};
 ghost use Rattle.pt_expr.specs.Expr.{tree_of};
-ghost use Rattle.pt_expr_type.specs.Laws.{Keeps, TypedTreesAreSound};
+ghost use Rattle.pt_expr_type.specs.Laws.{Keeps};
 ghost use Rattle.pt_expr_type.specs.TreeType.{are_bound};
 ghost use Rattle.pt_expr_type.specs.TypeEnv.{types_in};
 ghost use Rattle.pt_parameter.specs.Names.{seen_scope};
@@ -17,7 +17,7 @@ use crate::scope::Seen;
 use crate::token_type::type_of_token;
 use crate::tree_names::names_of;
 use pt_expr::{Env, Expr, eval};
-use pt_expr_type::{TypeEnv, TypeFault, type_of};
+use pt_expr_type::{TypeEnv, TypeFault, type_of, typed_trees_are_sound};
 use pt_moml::Code;
 use pt_value::{Text, Token};
 use std::alloc::Global;
@@ -62,12 +62,12 @@ impl Binding {
 
     /// What a tree comes to, all of whose names are bound.
     fn value(&self, alloc: Global, tree: &Expr) -> Result<Token, TextFault>
-        requires sound { TypedTreesAreSound }
         requires keeps { Keeps (types_in self.now.types) (scope_of self.now.env) }
         requires bound { are_bound (types_in self.now.types) (tree_of tree.now) ≡ true }
         ensures ok { IfOk result (λ t. TreeGives (scope_of self.now.env) (types_in self.now.types) (tree_of tree.now) (value_of t)) }
         ensures told { IfErr result (IsTold (IsTreeValueFault (scope_of self.now.env) (types_in self.now.types) (tree_of tree.now))) }
     {
+        typed_trees_are_sound();
         match type_of(alloc, tree, &self.types) {
             Ok(_) => Ok(eval(alloc, tree, &self.env)?),
             Err(TypeFault::Clash) => Err(TextFault::Refused(Code::Type)),
@@ -79,7 +79,6 @@ impl Binding {
 
 /// The token that a text comes to, where its names are those that are seen.
 pub fn evaluated(alloc: Global, seen: &Seen, text: &str) -> Result<Token, TextFault>
-    requires { TypedTreesAreSound }
     ensures ok { IfOk result (λ t. HasValue (seen_scope seen.now) text.now (value_of t)) }
     ensures told { IfErr result (IsTold (IsTextFault (seen_scope seen.now) text.now)) }
 {

@@ -77,11 +77,8 @@ fn ascend(elements: &[Token]) -> bool
     for element in elements {
         match element {
             Token::Int(n) if last < *n => last = *n,
-            Token::Int(_)
-            | Token::Bool(_)
-            | Token::Text(_)
-            | Token::Array(_)
-            | Token::Record(_) => return false,
+            Token::Int(_) | Token::Bool(_) | Token::Text(_) | Token::Array(_) | Token::Record(_) =>
+                return false,
         }
     }
     true

@@ -4,7 +4,6 @@ ghost use Rattle.pt_value.specs.Token.{value_of};
 ghost use Rattle.pt_moml.specs.Names.{is_among};
 ghost use Rattle.pt_moml.specs.declared.code.Code.TheVariants as code;
 ghost use Rattle.pt_expr.specs.Expr.{tree_of};
-ghost use Rattle.pt_expr_type.specs.Laws.{TypedTreesAreSound};
 ghost use Rattle.pt_parameter.specs.Forms.{comparisons, functions, gates};
 ghost use Rattle.pt_parameter.specs.Given.{Word, held_view, IsInScope, IsGiven, IsGivenFault, IsGivenValue, IsValueFault, HasNameOutside};
 ghost use Rattle.pt_parameter.specs.Names.{seen_scope};
@@ -78,12 +77,7 @@ fn check_names(ports: &PortNames, seen: &Seen, names: &[Text]) -> Result<(), Tex
 }
 
 /// The tree of a text that is evaluated only in firings, each of whose names is in scope.
-pub fn tree(
-    alloc: Global,
-    ports: &PortNames,
-    seen: &Seen,
-    text: &str,
-) -> Result<Expr, TextFault>
+pub fn tree(alloc: Global, ports: &PortNames, seen: &Seen, text: &str) -> Result<Expr, TextFault>
     ensures ok { IfOk result (λ e. IsTreeOf (IsInScope (names_port_of ports.now) (seen_scope seen.now)) text.now (tree_of e)) }
     ensures told { IfErr result (IsTold (IsTreeFault (IsInScope (names_port_of ports.now) (seen_scope seen.now)) text.now)) }
 {
@@ -93,13 +87,7 @@ pub fn tree(
 }
 
 /// The token that a text comes to, which has to have this form.
-fn value(
-    alloc: Global,
-    seen: &Seen,
-    form: Form,
-    text: &str,
-) -> Result<ParameterValue, TextFault>
-    requires { TypedTreesAreSound }
+fn value(alloc: Global, seen: &Seen, form: Form, text: &str) -> Result<ParameterValue, TextFault>
     ensures ok { IfOk result (λ p. IsGivenValue (seen_scope seen.now) form text.now (held_view p)) }
     ensures told { IfErr result (IsTold (IsValueFault (seen_scope seen.now) form text.now)) }
 {
@@ -119,7 +107,6 @@ pub fn given(
     form: Form,
     text: &str,
 ) -> Result<ParameterValue, TextFault>
-    requires { TypedTreesAreSound }
     ensures ok { IfOk result (λ p. IsGiven (names_port_of ports.now) (seen_scope seen.now) form text.now (held_view p)) }
     ensures told { IfErr result (IsTold (IsGivenFault (names_port_of ports.now) (seen_scope seen.now) form text.now)) }
 {

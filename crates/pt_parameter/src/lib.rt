@@ -1,6 +1,7 @@
 //! What the text of a parameter comes to: in which scope, and in which form.
 #![tactic(auto)]
 
+mod agreement;
 mod evaluation;
 mod fault;
 mod form;
@@ -15,13 +16,14 @@ mod tables;
 mod token_type;
 mod tree_names;
 
+pub use agreement::Parameters;
 pub use evaluation::evaluated;
 pub use fault::TextFault;
 pub use form::{Form, FormRow, ParameterForm, Standard};
 pub use forms::{fits, form_of, standard_of};
-pub use parameter_value::ParameterValue;
 pub use giving::{given, tree};
 pub use names::Names;
+pub use parameter_value::ParameterValue;
 pub use port_names::PortNames;
 pub use scope::Seen;
 pub use tables::{FORMS, RATE};

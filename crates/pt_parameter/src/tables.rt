@@ -55,7 +55,12 @@ pub static FORMS: [ParameterForm; 41] = [
     form!("SR", "iterations", LIMIT, Standard::Nothing),
     form!("DE", "stopTime", TIME, Standard::Nothing),
     form!("PN", "initialQueueCapacity", COUNT, Standard::Integer(1)),
-    form!("PN", "maximumQueueCapacity", COUNT, Standard::Integer(65_536)),
+    form!(
+        "PN",
+        "maximumQueueCapacity",
+        COUNT,
+        Standard::Integer(65_536)
+    ),
     form!("Const", "value", Form::Any, Standard::Nothing),
     form!("Const", "firingCountLimit", LIMIT, Standard::Integer(0)),
     form!("Ramp", "init", NUMBER, Standard::Integer(0)),
@@ -72,24 +77,64 @@ pub static FORMS: [ParameterForm; 41] = [
     form!("UpSample", "phase", NUMBER, Standard::Integer(0)),
     form!("Repeat", "numberOfTimes", COUNT, Standard::Integer(2)),
     form!("Repeat", "blockSize", COUNT, Standard::Integer(1)),
-    form!("SampleDelay", "initialOutputs", Form::Array, Standard::Single(0)),
-    form!("Comparator", "comparison", Form::Comparison, Standard::FirstWord),
-    form!("LogicFunction", "function", Form::Function, Standard::FirstWord),
+    form!(
+        "SampleDelay",
+        "initialOutputs",
+        Form::Array,
+        Standard::Single(0)
+    ),
+    form!(
+        "Comparator",
+        "comparison",
+        Form::Comparison,
+        Standard::FirstWord
+    ),
+    form!(
+        "LogicFunction",
+        "function",
+        Form::Function,
+        Standard::FirstWord
+    ),
     form!("ArrayElement", "index", NUMBER, Standard::Integer(0)),
-    form!("SequenceToArray", "arrayLength", COUNT, Standard::Integer(1)),
-    form!("ArrayToSequence", "arrayLength", COUNT, Standard::Integer(1)),
+    form!(
+        "SequenceToArray",
+        "arrayLength",
+        COUNT,
+        Standard::Integer(1)
+    ),
+    form!(
+        "ArrayToSequence",
+        "arrayLength",
+        COUNT,
+        Standard::Integer(1)
+    ),
     form!("Limiter", "bottom", NUMBER, Standard::Nothing),
     form!("Limiter", "top", NUMBER, Standard::Nothing),
     form!("TimeDelay", "delay", TIME, Standard::Nothing),
     form!("DiscreteClock", "period", PERIOD, Standard::Nothing),
-    form!("DiscreteClock", "offsets", Form::Offsets, Standard::Single(0)),
+    form!(
+        "DiscreteClock",
+        "offsets",
+        Form::Offsets,
+        Standard::Single(0)
+    ),
     form!("DiscreteClock", "values", Form::Array, Standard::Single(1)),
     form!("SingleEvent", "time", TIME, Standard::Integer(0)),
     form!("SingleEvent", "value", Form::Any, Standard::Integer(1)),
     form!("Sampler", "initialValue", Form::Any, Standard::Nothing),
     form!("Register", "initialValue", Form::Any, Standard::Nothing),
     form!("Server", "serviceTime", TIME, Standard::Nothing),
-    form!("NonStrictDelay", "initialValue", Form::Any, Standard::Nothing),
+    form!(
+        "NonStrictDelay",
+        "initialValue",
+        Form::Any,
+        Standard::Nothing
+    ),
     form!("Pre", "initialValue", Form::Any, Standard::Nothing),
-    form!("NonStrictLogicGate", "function", Form::Gate, Standard::FirstWord),
+    form!(
+        "NonStrictLogicGate",
+        "function",
+        Form::Gate,
+        Standard::FirstWord
+    ),
 ];

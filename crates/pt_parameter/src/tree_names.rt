@@ -45,11 +45,7 @@ fn add_names(alloc: Global, tree: &Expr, names: &mut Vec<Text>) -> Result<(), Al
 }
 
 #[cycle(names)]
-fn add_names_of_parts(
-    alloc: Global,
-    parts: &Exprs,
-    names: &mut Vec<Text>,
-) -> Result<(), AllocError>
+fn add_names_of_parts(alloc: Global, parts: &Exprs, names: &mut Vec<Text>) -> Result<(), AllocError>
     ensures { OnOk result (names.new.items ≡ names.old.items ++ names_in_parts (trees_of (trees_in parts.now))) }
 {
     for part in parts.as_slice() {

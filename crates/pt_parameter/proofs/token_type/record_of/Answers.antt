@@ -4,7 +4,7 @@ use Rattle.std.proofs.lemmas.List.Sorted.{IsPermutation-refl}
 use Rattle.pt_types.specs.Datatype.{types_of}
 use Rattle.pt_types.specs.Normal.{record_of}
 use Rattle.pt_types.specs.Ty.{entry_of_pair}
-use Rattle.pt_parameter.proofs.Records.{by_name-record}
+use Rattle.pt_expr_type.proofs.Records.{by_name-record}
 use Rattle.pt_parameter.proofs.token_type.record_of.Goals as goal
 
 pub returns-in-Ok : goal.returns-in-Ok
