@@ -3,9 +3,11 @@ use Rattle.std.specs.Prelude.{ℕ, List, [], ◌∷◌, map, Option, Some, None,
 use Rattle.pt_moml.specs.declared.job.Direction.{Direction}
 use Rattle.pt_moml.specs.declared.job.Direction.TheVariants.{Input, Output}
 use Rattle.pt_moml.specs.Document.{PortTree}
-use Rattle.pt_value.specs.Value.{Value, Array, Values, no_values}
-use Rattle.pt_types.specs.Datatype.{Datatype, Unknown}
+use Rattle.pt_value.specs.Value.{Value, Array}
+use Rattle.pt_types.specs.Datatype.{Datatype, Unknown, Int, Boolean}
 use Rattle.pt_types.specs.Token.{type_of_value, join_of}
+use Rattle.pt_parameter.specs.declared.form.Standard.{Standard}
+use Rattle.pt_parameter.specs.declared.form.Standard.TheVariants as standard
 use Rattle.pt_resolve.specs.declared.row.PortType.{PortType}
 use Rattle.pt_resolve.specs.declared.row.PortType.TheVariants as port
 use Rattle.pt_resolve.specs.declared.row.PortTypeRow.{PortTypeRow}
@@ -57,3 +59,11 @@ abbrev pub seeded : Option Seed → Value → Datatype
 seeded None v = Unknown
 seeded (Some seed.Whole) v = type_of_value v
 seeded (Some seed.Elements) v = elements_type v
+
+-- the type of what passes where such a parameter isn't given
+abbrev pub standard_type : Standard → Datatype
+standard_type (standard.Integer n) = Int
+standard_type (standard.Single n) = Int
+standard_type (standard.Truth b) = Boolean
+standard_type standard.FirstWord = Unknown
+standard_type standard.Nothing = Unknown

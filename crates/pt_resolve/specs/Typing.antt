@@ -31,7 +31,9 @@ use Rattle.pt_values.specs.Valued.{EntityView}
 use Rattle.pt_values.specs.Valued as valued
 use Rattle.pt_resolve.specs.declared.row.PortType.{PortType}
 use Rattle.pt_resolve.specs.declared.row.PortType.TheVariants as port
-use Rattle.pt_resolve.specs.Rows.{port_type, seed_of, seeded}
+use Rattle.pt_parameter.specs.Agreement.{standard_of}
+use Rattle.pt_resolve.specs.declared.row.Seed.{Seed}
+use Rattle.pt_resolve.specs.Rows.{port_type, seed_of, seeded, standard_type}
 
 -- a type for each port, by the numbers of its entity and of the port there, and for each entity the one type of which the row of
 -- its class speaks. A port of a composite has one type, inside and outside
@@ -115,6 +117,8 @@ pub data IsInRow (values : Values) (typing : Typing) (k : ℕ) (e : NetEntityTre
   of_port : (i : ℕ) (p : PortTree) → slice_get e.ports i ≡ Some p → port_type e.class p ≡ port.Row → IsInRow values typing k e (typing.at k i)
   of_elements : (i : ℕ) (p : PortTree) → slice_get e.ports i ≡ Some p → port_type e.class p ≡ port.RowArray → IsInRow values typing k e (element_of (typing.at k i))
   of_parameter : (v : EntityView) (q : PropertyTree) (held : Value) → slice_get (map valued.entity_view values.entities.items) k ≡ Some v → Contains (zip e.parameters v.parameters) (q, Token held) → IsInRow values typing k e (seeded (seed_of e.class (property_name q)) held)
+  -- what stands for a parameter that isn't given
+  of_standard : (name : List ℕ) (s : Seed) → seed_of e.class name ≡ Some s → ((q : PropertyTree) → Contains e.parameters q → property_name q ≡ name → ⊥) → IsInRow values typing k e (standard_type (standard_of e.class name))
 
 -- ---- Modal entities
 

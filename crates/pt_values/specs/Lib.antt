@@ -3,3 +3,4 @@ pub mod Sites
 pub mod Valued
 pub mod Frames
 pub mod Told
+pub mod ClassParameters

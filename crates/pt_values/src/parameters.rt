@@ -1,5 +1,6 @@
 ghost use Rattle.std.specs.Prelude.{◌≡◌, IfOk, IfErr, map};
 ghost use Rattle.pt_value.specs.Token.{value_of};
+ghost use Rattle.pt_moml.specs.Document.{property_name};
 ghost use Rattle.pt_moml.specs.View.{property_view, properties_view};
 ghost use Rattle.pt_parameter.specs.Names.{seen_scope};
 ghost use Rattle.pt_parameter.specs.Texts.{HasValue, IsTextFault};
@@ -12,6 +13,13 @@ use pt_moml::{DocFault, Property, refused};
 use pt_parameter::{Names, Seen, TextFault, evaluated};
 use pt_value::Token;
 use std::alloc::Global;
+
+/// The name of a property.
+pub fn name_of(property: &Property) -> &str
+    ensures { result.now ≡ property_name (property_view property.now) }
+{
+    property.name.as_str()
+}
 
 /// The text of a property.
 pub fn text_of(property: &Property) -> &str
@@ -34,12 +42,7 @@ pub fn told_as(alloc: Global, path: &str, fault: TextFault) -> DocFault
 }
 
 /// The token of a text, whose faults are told at this path.
-pub fn value_at(
-    alloc: Global,
-    path: &str,
-    seen: &Seen,
-    text: &str,
-) -> Result<Token, DocFault>
+pub fn value_at(alloc: Global, path: &str, seen: &Seen, text: &str) -> Result<Token, DocFault>
     ensures ok { IfOk result (λ t. HasValue (seen_scope seen.now) text.now (value_of t)) }
     ensures told { IfErr result (IsToldAt path.now (IsTextFault (seen_scope seen.now) text.now)) }
 {
@@ -71,7 +74,7 @@ pub fn in_turn(
         let token = value_at(alloc, path, &seen, text_of(property))?;
         let held = token.copy(alloc)?;
         tokens.push(token)?;
-        own.put(alloc, property.name.as_str(), held)?;
+        own.put(alloc, name_of(property), held)?;
     }
     Ok((own, tokens))
 }
