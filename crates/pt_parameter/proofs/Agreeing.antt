@@ -1,9 +1,9 @@
 -- A tree comes to the same, and has the same type, wherever its names stand for the same.
-use Rattle.std.proofs.Common.{◌≡◌, ℕ, ◌++◌, List, [], ◌∷◌, Some, None, refl, sym, ap, ◌∙◌, arith}
+use Rattle.std.proofs.Common.{◌≡◌, ℕ, ◌++◌, List, [], ◌∷◌, Some, refl, sym, ap, ◌∙◌, arith}
 use Rattle.std.specs.Prelude.{Option, unwrap_or}
 use Rattle.std.specs.List.{Contains}
 use Rattle.std.proofs.lemmas.List.Elements.{Contains-append_left, Contains-append_right}
-use Rattle.pt_value.specs.Value.{Value, Int, Bool, Words}
+use Rattle.pt_value.specs.Value.{Value}
 use Rattle.pt_types.specs.Datatype.{Datatype, Unknown}
 use Rattle.pt_types.specs.Normal.{array_of}
 use Rattle.pt_types.specs.Join.{join}

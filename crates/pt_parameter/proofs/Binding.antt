@@ -1,6 +1,6 @@
 -- What a tree comes to where its names are bound.
 use Rattle.std.proofs.Common.{◌≡◌, ◌⊎◌, inl, inr, ℕ, zero, suc, ◌++◌, List, [], ◌∷◌, true, false, Some, None, refl, sym, ap, subst, ◌∙◌, if◌then◌else◌, arith}
-use Rattle.std.specs.Prelude.{Option, Bool, IsTrue, IsSome, IfSome, is_some, ◌&&◌}
+use Rattle.std.specs.Prelude.{Bool, IfSome, is_some}
 use Rattle.std.specs.Str.{bytes_eq}
 use Rattle.std.specs.List.{Contains}
 use Rattle.std.proofs.lemmas.List.Elements.{Contains-append_left, Contains-append_right, Contains-append_cases}
@@ -11,13 +11,13 @@ use Rattle.pt_types.specs.Token.{type_of_value}
 use Rattle.pt_types.proofs.Order.{below-refl, same_bytes}
 use Rattle.pt_types.proofs.Fields.{and_both}
 use Rattle.pt_expr.specs.declared.fault.EvalFault.{EvalFault}
-use Rattle.pt_expr.specs.Outcome.{Outcome, Gives, Stops, Wrong}
+use Rattle.pt_expr.specs.Outcome.{Gives, Stops, Wrong}
 use Rattle.pt_expr.specs.Scope.{Scope, port_in}
 use Rattle.pt_expr.specs.Meaning.{value}
 use Rattle.pt_expr.specs.Tree as tree
 use Rattle.pt_expr.specs.Tree.{Tree, Trees, no_trees, tree_then, NamedTrees}
-use Rattle.pt_expr_type.specs.Typing.{Has, Clash}
-use Rattle.pt_expr_type.specs.Types.{Types, type_under, is_bound, or_else, presence_type}
+use Rattle.pt_expr_type.specs.Typing.{Clash}
+use Rattle.pt_expr_type.specs.Types.{Types, is_bound, or_else, presence_type}
 use Rattle.pt_expr_type.specs.TreeType.{tree_type, are_bound, are_parts_bound, are_fields_bound, IsTyped}
 use Rattle.pt_expr_type.specs.Laws.{Keeps, IsHeld, IsOfType, TypedTreesAreSound}
 use Rattle.pt_parameter.specs.Texts.{IsRead, names_in, names_in_parts, names_in_fields, types_of, type_of_held, AreKnown, HasValue, HasClash, HasFault}

@@ -1,7 +1,6 @@
 -- The elements of an array that a parameter has.
-use Rattle.std.proofs.Common.{◌≡◌, List, length, map, Some, None, refl, sym, ap, ◌∙◌}
-use Rattle.std.specs.Prelude.{Option, option_map, unwrap_or}
-use Rattle.std.specs.Borrow.{Bor}
+use Rattle.std.proofs.Common.{◌≡◌, List, map, Some, None, sym, ap}
+use Rattle.std.specs.Prelude.{Option, unwrap_or}
 use Rattle.pt_value.specs.declared.token.Token.{Token}
 use Rattle.pt_value.specs.Value.{Value}
 use Rattle.pt_value.specs.Token.{value_of}

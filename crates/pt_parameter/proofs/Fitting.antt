@@ -1,5 +1,5 @@
 -- The tests of forms.
-use Rattle.std.proofs.Common.{◌≡◌, ℕ, List, [], ◌∷◌, length, true, false, refl, ap, rules, arith}
+use Rattle.std.proofs.Common.{◌≡◌, List, [], ◌∷◌, length, true, false, refl, rules, arith}
 use Rattle.std.specs.Prelude.{Bool, IsTrue, ◌↔◌, not, negsuc, zero}
 use Rattle.pt_value.specs.Value.{Value, values_of, list_of, list_of-values_of}
 use Rattle.pt_parameter.specs.Forms.{is_full, ascend_from}

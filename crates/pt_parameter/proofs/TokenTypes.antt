@@ -1,5 +1,5 @@
 -- The types of the parts of tokens, one by one.
-use Rattle.std.proofs.Common.{◌≡◌, ℕ, zero, suc, ◌+◌, ◌<◌, ◌≤◌, ◌++◌, List, [], ◌∷◌, length, get_or, drop, take, map, refl, sym, ap, subst, ◌∙◌, add-one, arith}
+use Rattle.std.proofs.Common.{◌≡◌, ℕ, zero, suc, ◌+◌, ◌<◌, ◌≤◌, List, [], ◌∷◌, length, get_or, drop, map, refl, sym, ap, subst, ◌∙◌, add-one, arith}
 use Rattle.std.proofs.Math.Seq.{drop-cons}
 use Rattle.pt_value.specs.declared.token.Token.{Token}
 use Rattle.pt_value.specs.declared.fields.Field.{Field}
@@ -7,7 +7,6 @@ use Rattle.pt_value.specs.Value as value
 use Rattle.pt_value.specs.Value.{Value, Values, no_values, value_then, values_of, named_of, height, height_of_values, height_of_named}
 use Rattle.pt_value.specs.Record.{IsRecord}
 use Rattle.pt_value.specs.Token.{value_of, entry_of}
-use Rattle.pt_types.specs.Datatype as datatype
 use Rattle.pt_types.specs.Datatype.{Datatype, Unknown, Int, Boolean, Words, Array, Record, General, types_of, field_then}
 use Rattle.pt_types.specs.Normal.{normal, IsType}
 use Rattle.pt_types.specs.Join.{joined, join}
@@ -16,7 +15,7 @@ use Rattle.pt_types.specs.RecordType as record_type
 use Rattle.pt_types.specs.RecordType.{IsRecordType}
 use Rattle.pt_types.proofs.Joins.{normal_is_type}
 use Rattle.pt_expr_type.proofs.JoinLaws.{join-is_type, join-assoc}
-use Rattle.pt_parameter.specs.TokenType.{typed_field, typed_fields}
+use Rattle.pt_parameter.specs.TokenType.{typed_fields}
 
 -- a part is lower than the parts together
 item-height : (ts : List Token) (i : ℕ) (t : Token) → i < length ts → t ≡ get_or ts i t → height (value_of t) ≤ height_of_values (values_of (map value_of ts))

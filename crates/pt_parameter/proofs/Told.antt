@@ -1,14 +1,13 @@
 -- What is told of a text, from what is told of its parts.
-use Rattle.std.proofs.Common.{◌≡◌, ◌⊎◌, inl, inr, ℕ, List, [], ◌∷◌, ◌++◌, None, sym, ap, subst, ◌∙◌}
-use Rattle.std.specs.Prelude.{Result, Ok, Err, IfOk, IfErr, Option, Some}
-use Rattle.std.specs.List.{Contains}
+use Rattle.std.proofs.Common.{◌≡◌, ◌⊎◌, inl, inr, ℕ, List, None, sym, subst, ◌∙◌}
+use Rattle.std.specs.Prelude.{Some}
 use Rattle.pt_value.specs.Value.{Value}
 use Rattle.pt_types.specs.Datatype.{Datatype}
 use Rattle.pt_moml.specs.declared.code.Code.{Code}
 use Rattle.pt_moml.specs.declared.code.Code.TheVariants as code
 use Rattle.pt_expr.specs.declared.fault.EvalFault.{EvalFault}
 use Rattle.pt_expr.specs.declared.fault.EvalFault.TheVariants as evaluation
-use Rattle.pt_expr.specs.Outcome.{Gives, Stops}
+use Rattle.pt_expr.specs.Outcome.{Stops}
 use Rattle.pt_expr.specs.Scope.{Scope}
 use Rattle.pt_expr.specs.Meaning.{value}
 use Rattle.pt_expr.specs.Tree.{Tree}
@@ -18,7 +17,7 @@ use Rattle.pt_parameter.specs.declared.fault.TextFault.{TextFault}
 use Rattle.pt_parameter.specs.declared.fault.TextFault.TheVariants.{Refused, Memory}
 use Rattle.pt_parameter.specs.TextFault.{of_evaluation, IsTold}
 use Rattle.pt_parameter.specs.Texts.{IsRead, IsBound, IsReaderFault, IsTextFault, HasValue, names_in}
-use Rattle.pt_parameter.specs.Binding.{AreBound, HasStrange, TreeGives, TreeStops, IsTreeValueFault}
+use Rattle.pt_parameter.specs.Binding.{AreBound, HasStrange, TreeGives, IsTreeValueFault}
 use Rattle.pt_parameter.proofs.Binding.{has-value, has-clash, has-fault}
 
 pub weaker : (P Q : Code → Type 0) → ((cause : Code) → P cause → Q cause) → (fault : TextFault) → IsTold P fault → IsTold Q fault

@@ -1,5 +1,5 @@
 -- Where parameters of one entity have to agree with one another (by the profile).
-use Rattle.std.specs.Prelude.{ℕ, ℤ, pos, ◌*ℤ◌, int_lt, List, [], ◌∷◌, length, map, Option, Some, None, unwrap_or, Bool, true, false, not, ◌&&◌, ◌||◌, nat_eq, if◌then◌else◌, bytes_eq, codes}
+use Rattle.std.specs.Prelude.{ℕ, ℤ, pos, ◌*ℤ◌, int_lt, List, [], ◌∷◌, length, map, Option, Some, None, unwrap_or, Bool, true, false, not, ◌&&◌, nat_eq, if◌then◌else◌, bytes_eq, codes}
 use Rattle.std.specs.List.{list_all, zip}
 use Rattle.pt_moml.specs.Document.{PropertyTree, property_name}
 use Rattle.pt_value.specs.Value.{Value, Int, Array, list_of}

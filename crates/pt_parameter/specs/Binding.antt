@@ -1,5 +1,5 @@
 -- Names bound for one tree.
-use Rattle.std.specs.Prelude.{◌≡◌, ◌⊎◌, ℕ, List, [], ◌∷◌, ◌++◌, Option, Some, None}
+use Rattle.std.specs.Prelude.{◌≡◌, ◌⊎◌, ℕ, List, Some, None}
 use Rattle.std.specs.List.{Contains}
 use Rattle.pt_value.specs.Value.{Value}
 use Rattle.pt_types.specs.Datatype.{Datatype}

@@ -1,11 +1,9 @@
 -- The forms of parameters, as the table of the program lists them (by the profile).
-use Rattle.std.specs.Prelude.{ℕ, ℤ, pos, negsuc, zero, int_lt, List, [], ◌∷◌, map, Bool, true, false, not, ◌&&◌, ◌||◌, if◌then◌else◌, bytes_eq, codes}
+use Rattle.std.specs.Prelude.{ℕ, ℤ, negsuc, zero, int_lt, List, [], ◌∷◌, map, Bool, true, false, not, ◌&&◌, if◌then◌else◌, bytes_eq, codes}
 use Rattle.std.specs.Borrow.{Bor}
 use Rattle.pt_value.specs.Value.{Value, Int, Bool as Truth, Array, list_of}
 use Rattle.pt_parameter.specs.declared.form.Form.{Form}
 use Rattle.pt_parameter.specs.declared.form.Form.TheVariants as form
-use Rattle.pt_parameter.specs.declared.form.Standard.{Standard}
-use Rattle.pt_parameter.specs.declared.form.Standard.TheVariants as standard
 use Rattle.pt_parameter.specs.declared.form.FormRow.{FormRow}
 use Rattle.pt_parameter.specs.declared.tables.TheConstants.{FORMS}
 

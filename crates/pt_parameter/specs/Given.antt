@@ -1,5 +1,5 @@
 -- What a parameter of each form is given, and where it is at fault.
-use Rattle.std.specs.Prelude.{◌≡◌, ◌⊎◌, ℕ, List, [], ◌∷◌, Bool, true, false, IsTrue, ◌||◌, Option, Some, None}
+use Rattle.std.specs.Prelude.{◌≡◌, ◌⊎◌, ℕ, List, Bool, false, IsTrue, ◌||◌, Option, Some, None}
 use Rattle.std.specs.List.{Contains}
 use Rattle.pt_value.specs.Value.{Value}
 use Rattle.pt_moml.specs.declared.code.Code.{Code}

@@ -1,8 +1,7 @@
 -- Parameters of a class, one by one.
-use Rattle.std.proofs.Common.{◌≡◌, ◌⊎◌, inl, inr, ℕ, zero, suc, ◌+◌, ◌<◌, ◌++◌, List, [], ◌∷◌, length, get_or, take, map, false, sym, ap, subst, ◌∙◌, add-one, arith}
+use Rattle.std.proofs.Common.{◌≡◌, inl, inr, ℕ, zero, suc, ◌+◌, ◌<◌, ◌++◌, List, [], ◌∷◌, length, get_or, take, map, sym, ap, subst, ◌∙◌, add-one, arith}
 use Rattle.std.specs.Prelude.{Bool, Option}
 use Rattle.std.specs.List.{Contains, AllZip}
-use Rattle.pt_moml.specs.declared.code.Code.{Code}
 use Rattle.pt_moml.specs.declared.code.Code.TheVariants as code
 use Rattle.pt_moml.specs.declared.job.Property.{Property}
 use Rattle.pt_moml.specs.declared.refusal.DocFault.{DocFault}
@@ -14,7 +13,6 @@ use Rattle.pt_expr.specs.Scope.{Scope}
 use Rattle.pt_parameter.specs.declared.form.Form.{Form}
 use Rattle.pt_parameter.specs.declared.parameter_value.ParameterValue.{ParameterValue}
 use Rattle.pt_parameter.specs.Given.{Held, held_view, IsGiven, IsGivenFault}
-use Rattle.pt_parameter.specs.Agreement.{agree, named}
 use Rattle.pt_values.specs.Scopes.{text_of}
 use Rattle.pt_values.specs.Sites.{director_form}
 use Rattle.pt_values.specs.Told.{IsToldAt}

@@ -7,7 +7,6 @@ use Rattle.pt_moml.specs.declared.code.Code.{Code}
 use Rattle.pt_moml.specs.declared.refusal.DocFault.{DocFault}
 use Rattle.pt_moml.specs.declared.refusal.DocFault.TheVariants as faults
 use Rattle.pt_moml.specs.Document.{PropertyTree, property_name}
-use Rattle.pt_moml.specs.Outcome.{IsRefusal}
 use Rattle.pt_moml.specs.declared.job.Property.{Property}
 use Rattle.pt_moml.specs.View.{property_view, properties_view}
 use Rattle.pt_expr.specs.Scope.{Scope}

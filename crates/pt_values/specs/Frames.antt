@@ -1,6 +1,5 @@
 -- What the program has of the composites that it has gone through.
-use Rattle.std.specs.Prelude.{◌≡◌, ℕ, ◌<◌, List, [], ◌∷◌, length, All, Option, Some, None, option_map, slice_get}
-use Rattle.pt_value.specs.Value.{Value}
+use Rattle.std.specs.Prelude.{◌≡◌, ℕ, ◌<◌, List, [], length, All, Option, Some, None, option_map, slice_get}
 use Rattle.pt_parameter.specs.declared.names.Names.{Names}
 use Rattle.pt_parameter.specs.Names.{in_chain}
 use Rattle.pt_values.specs.declared.scopes.Scopes.{Scopes}

@@ -1,6 +1,6 @@
 -- Where the texts of a net stand, and where it is at fault in them.
-use Rattle.std.specs.Prelude.{◌≡◌, ◌⊎◌, ℕ, List, [], ◌∷◌, ◌++◌, map, filter, Bool, true, false, IsTrue, not, ◌||◌, ◌&&◌, Option, Some, None, is_none, option_map, slice_get, bytes_eq, codes, if◌then◌else◌}
-use Rattle.std.specs.List.{Contains, AllZip, find, zip, filter_map}
+use Rattle.std.specs.Prelude.{◌≡◌, ℕ, List, [], map, filter, Bool, true, false, IsTrue, ◌||◌, Option, Some, None, option_map, bytes_eq, codes, if◌then◌else◌}
+use Rattle.std.specs.List.{Contains, find}
 use Rattle.pt_moml.specs.declared.code.Code.{Code}
 use Rattle.pt_moml.specs.declared.job.Direction.{Direction}
 use Rattle.pt_moml.specs.declared.job.Direction.TheVariants.{Input, Output}

@@ -1,5 +1,5 @@
 -- What is told of the texts of a net.
-use Rattle.std.specs.Prelude.{◌≡◌, ℕ, List, Option, Some, option_map}
+use Rattle.std.specs.Prelude.{◌≡◌, ℕ, List, Some, option_map}
 use Rattle.pt_value.specs.Value.{Value}
 use Rattle.pt_moml.specs.declared.code.Code.{Code}
 use Rattle.pt_moml.specs.declared.refusal.DocFault.{DocFault}

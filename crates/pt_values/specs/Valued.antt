@@ -1,6 +1,6 @@
 -- What the texts of a net come to, and where one is refused.
-use Rattle.std.specs.Prelude.{◌≡◌, ℕ, List, [], ◌∷◌, map, Bool, true, false, IsTrue, Option, Some, None, option_map, Option, if◌then◌else◌}
-use Rattle.std.specs.List.{Contains, AllZip, zip}
+use Rattle.std.specs.Prelude.{◌≡◌, ℕ, List, [], ◌∷◌, map, Bool, true, false, IsTrue, Option, Some, None, option_map, Option}
+use Rattle.std.specs.List.{Contains, AllZip}
 use Rattle.pt_value.specs.Value.{Value}
 use Rattle.pt_value.specs.Token.{value_of}
 use Rattle.pt_moml.specs.declared.code.Code.{Code}
@@ -8,12 +8,8 @@ use Rattle.pt_moml.specs.declared.code.Code.TheVariants as code
 use Rattle.pt_moml.specs.declared.refusal.DocFault.{DocFault}
 use Rattle.pt_moml.specs.declared.refusal.DocFault.TheVariants as faults
 use Rattle.pt_moml.specs.Document.{PropertyTree, property_name, PortTree, InputTree}
-use Rattle.pt_expr.specs.Tree.{Tree}
-use Rattle.pt_expr.specs.Expr.{tree_of}
-use Rattle.pt_expr.specs.Scope.{Scope}
 use Rattle.pt_graph.specs.Net.{NetEntityTree, TransparentTree, DirectorTree}
 use Rattle.pt_parameter.specs.declared.form.Form.{Form}
-use Rattle.pt_parameter.specs.declared.form.Form.TheVariants as form
 use Rattle.pt_parameter.specs.declared.tables.TheConstants.{RATE}
 use Rattle.pt_values.specs.declared.values.EntityValues.{EntityValues}
 use Rattle.pt_values.specs.declared.values.Values.{Values}

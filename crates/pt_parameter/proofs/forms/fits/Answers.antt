@@ -1,4 +1,4 @@
-use Rattle.std.proofs.Common.{◌≡◌, sym, ap, ◌∙◌}
+use Rattle.std.proofs.Common.{sym, ap, ◌∙◌}
 use Rattle.std.specs.Prelude.{negsuc, zero}
 use Rattle.pt_value.specs.Token.{value_of}
 use Rattle.pt_parameter.specs.Forms.{fits, ascend_from}

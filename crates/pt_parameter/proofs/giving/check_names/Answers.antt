@@ -1,4 +1,4 @@
-use Rattle.std.proofs.Common.{◌≡◌, ℕ, List, subst}
+use Rattle.std.proofs.Common.{ℕ, List, subst}
 use Rattle.pt_parameter.specs.Names.{seen_scope}
 use Rattle.pt_parameter.specs.PortNames.{names_port_of}
 use Rattle.pt_parameter.specs.Given.{IsInScope}

@@ -1,4 +1,4 @@
-use Rattle.std.proofs.Common.{◌≡◌, inr, Some, sym, ap, ◌∙◌, Bor}
+use Rattle.std.proofs.Common.{inr, Some, sym, ap, ◌∙◌, Bor}
 use Rattle.std.specs.Prelude.{option_map}
 use Rattle.pt_value.specs.declared.token.Token.{Token}
 use Rattle.pt_value.specs.Token.{value_of}

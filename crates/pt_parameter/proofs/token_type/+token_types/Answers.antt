@@ -1,6 +1,6 @@
-use Rattle.std.proofs.Common.{◌≡◌, map, refl, sym, ap, ◌∙◌, rules, arith}
-use Rattle.pt_value.specs.Token.{value_of, entry_of}
-use Rattle.pt_parameter.proofs.TokenTypes.{height-item, height-held, joined-first, joined-last, joined-more, typed-lawful, typed-types}
+use Rattle.std.proofs.Common.{refl, sym, ap, ◌∙◌, arith}
+use Rattle.pt_value.specs.Token.{value_of}
+use Rattle.pt_parameter.proofs.TokenTypes.{height-item, height-held, joined-first, joined-more, typed-lawful, typed-types}
 use Rattle.std.proofs.lemmas.Result.{IfOk-weaker}
 use Rattle.pt_value.specs.declared.token.Token.{Token}
 use Rattle.pt_value.specs.Value.{values_of}
@@ -8,7 +8,6 @@ use Rattle.pt_types.specs.Datatype.{Unknown, types_of}
 use Rattle.pt_types.specs.Normal.{record_of}
 use Rattle.pt_types.specs.Join.{join}
 use Rattle.pt_types.specs.Token.{join_of, type_of_value}
-use Rattle.pt_types.specs.Ty.{written, entry_of_pair}
 use Rattle.pt_parameter.proofs.token_type.+token_types.Goals as goal
 
 pub join_of-type_of_token-requires : goal.join_of-type_of_token-requires

@@ -1,4 +1,4 @@
-use Rattle.std.proofs.Common.{◌≡◌, ◌++◌, append_assoc, sym, ap, ◌∙◌, rules, arith}
+use Rattle.std.proofs.Common.{arith}
 use Rattle.pt_parameter.proofs.NameSteps.{height-part, height-field, names-part, names-field, next_names}
 use Rattle.pt_parameter.proofs.tree_names.+names.Goals as goal
 

@@ -1,4 +1,4 @@
-use Rattle.std.proofs.Common.{◌≡◌, ◌+◌, List, take, sym, subst, map, rules}
+use Rattle.std.proofs.Common.{◌+◌, List, take, sym, subst, map, rules}
 use Rattle.std.specs.List.{AllZip}
 use Rattle.pt_moml.specs.Document.{PropertyTree}
 use Rattle.pt_moml.specs.View.{property_view, properties_view}
