@@ -1,0 +1,59 @@
+-- Parameters of a class, one by one.
+use Rattle.std.proofs.Common.{◌≡◌, inl, inr, ℕ, zero, suc, ◌+◌, ◌<◌, ◌++◌, List, [], ◌∷◌, length, get_or, take, map, sym, ap, subst, ◌∙◌, add-one, arith}
+use Rattle.std.specs.Prelude.{Bool, Option}
+use Rattle.std.specs.List.{Contains, AllZip}
+use Rattle.pt_moml.specs.declared.code.Code.TheVariants as code
+use Rattle.pt_moml.specs.declared.job.Property.{Property}
+use Rattle.pt_moml.specs.declared.refusal.DocFault.{DocFault}
+use Rattle.pt_moml.specs.declared.refusal.DocFault.TheVariants as faults
+use Rattle.pt_moml.specs.Document.{PropertyTree, property_name}
+use Rattle.pt_moml.specs.Outcome.{IsRefusal}
+use Rattle.pt_moml.specs.View.{property_view, properties_view}
+use Rattle.pt_expr.specs.Scope.{Scope}
+use Rattle.pt_parameter.specs.declared.form.Form.{Form}
+use Rattle.pt_parameter.specs.declared.parameter_value.ParameterValue.{ParameterValue}
+use Rattle.pt_parameter.specs.Given.{Held, held_view, IsGiven, IsGivenFault}
+use Rattle.pt_values.specs.Scopes.{text_of}
+use Rattle.pt_values.specs.Sites.{director_form}
+use Rattle.pt_values.specs.Told.{IsToldAt}
+use Rattle.pt_values.specs.ClassParameters.{IsParameterOf, IsFaultAmong, AreApart, IsClassFault}
+use Rattle.pt_values.proofs.Turns.{told_weaker, view-take, view-push}
+
+pushed : {A B : Type 0} (R : A → B → Type 0) (xs : List A) (ys : List B) (x : A) (y : B) → AllZip R xs ys → R x y → AllZip R (xs ++ x ∷ []) (ys ++ y ∷ [])
+pushed R [] [] x y h r = (r, tt)
+pushed R [] (z ∷ ys) x y h r = absurd h
+pushed R (z ∷ xs) [] x y h r = absurd h
+pushed R (z ∷ xs) (w ∷ ys) x y h r = (h.0, pushed R xs ys x y h.1 r)
+
+seen-at : (ps : List Property) (i : ℕ) (p : Property) → i < length ps → p ≡ get_or ps i p → Contains (properties_view ps) (property_view p)
+seen-at [] i p short is = absurd (omega arith)
+seen-at (q ∷ ps) zero p short is = (0, omega arith, ap property_view (sym is))
+seen-at (q ∷ ps) (suc i) p short is = let w = seen-at ps i p (omega arith) is in (suc w.0, omega (arith, w.1), w.2)
+
+module _ (is_port : List ℕ → Bool) (scope : Scope) (form_named : List ℕ → Form) (ps : List Property) (i : ℕ) (p : Property) (name words : List ℕ) (f : Form) (short : i < length ps) (is : p ≡ get_or ps i p) (named_so : name ≡ property_name (property_view p)) (says : words ≡ text_of (property_view p)) (formed : f ≡ form_named name) where
+  form-is : f ≡ form_named (property_name (property_view p))
+  form-is = formed ∙ ap form_named named_so
+
+  pub given-more : (values : List ParameterValue) (value : ParameterValue) → AllZip (IsParameterOf is_port scope form_named) (properties_view (take i ps)) (map held_view values) → IsGiven is_port scope f words (held_view value) → AllZip (IsParameterOf is_port scope form_named) (properties_view (take (i + 1) ps)) (map held_view (values ++ value ∷ []))
+  given-more values value each here =
+      let q = property_view p in
+      let given : IsParameterOf is_port scope form_named q (held_view value) = subst (λ (g : Form). IsGiven is_port scope g (text_of q) (held_view value)) form-is (subst (λ ws. IsGiven is_port scope f ws (held_view value)) says here) in
+      let more : properties_view (take (i + 1) ps) ≡ properties_view (take i ps) ++ q ∷ [] = ap (λ k. properties_view (take k ps)) (add-one i) ∙ view-take property_view ps i p short is in
+      subst (λ (hs : List Held). AllZip (IsParameterOf is_port scope form_named) (properties_view (take (i + 1) ps)) hs) (sym (view-push held_view values value))
+      (subst (λ (qs : List PropertyTree). AllZip (IsParameterOf is_port scope form_named) qs (map held_view values ++ held_view value ∷ [])) (sym more)
+      (pushed (IsParameterOf is_port scope form_named) (properties_view (take i ps)) (map held_view values) q (held_view value) each given))
+
+  pub given-fault : (path : List ℕ) (told : DocFault) → IsToldAt path (IsGivenFault is_port scope f words) told → IsToldAt path (IsFaultAmong is_port scope form_named (properties_view ps)) told
+  given-fault path told h =
+      let q = property_view p in
+      told_weaker path (IsGivenFault is_port scope f words) (IsFaultAmong is_port scope form_named (properties_view ps))
+      (λ cause w. record { property = q; there = seen-at ps i p short is; fault = subst (λ (g : Form). IsGivenFault is_port scope g (text_of q) cause) form-is (subst (λ ws. IsGivenFault is_port scope f ws cause) says w) })
+      told h
+
+-- what is told of one parameter is told of all
+pub among_told : (is_port : List ℕ → Bool) (scope : Scope) (parent : Option ℕ) (class : List ℕ) (ps : List PropertyTree) (path : List ℕ) (told : DocFault) → IsToldAt path (IsFaultAmong is_port scope (director_form parent class) ps) told → IsToldAt path (IsClassFault is_port scope parent class ps) told
+among_told is_port scope parent class ps path told h = told_weaker path (IsFaultAmong is_port scope (director_form parent class) ps) (IsClassFault is_port scope parent class ps) (λ cause w. inl w) told h
+
+pub apart_told : (is_port : List ℕ → Bool) (scope : Scope) (parent : Option ℕ) (class : List ℕ) (ps : List PropertyTree) (path : List ℕ) (told : DocFault) → AreApart is_port scope parent class ps → IsRefusal told code.Value path → IsToldAt path (IsClassFault is_port scope parent class ps) told
+apart_told is_port scope parent class ps path faults.Memory a is = tt
+apart_told is_port scope parent class ps path (faults.Refused r) a is = (ap (λ s. s.path) is, inr (ap (λ s. s.code) is, a))

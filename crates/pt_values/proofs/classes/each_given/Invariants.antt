@@ -1,0 +1,13 @@
+use Rattle.std.proofs.Common.{take, map}
+use Rattle.std.specs.List.{AllZip}
+use Rattle.pt_moml.specs.View.{properties_view}
+use Rattle.pt_parameter.specs.Given.{held_view}
+use Rattle.pt_parameter.specs.Names.{seen_scope}
+use Rattle.pt_parameter.specs.PortNames.{names_port_of}
+use Rattle.pt_values.specs.Sites.{director_form}
+use Rattle.pt_values.specs.ClassParameters.{IsParameterOf}
+use Rattle.pt_values.proofs.classes.each_given.Given as goal
+
+abbrev pub invariant-loop-property : goal.invariant-loop-property
+invariant-loop-property l =
+    AllZip (IsParameterOf (names_port_of l.ports) (seen_scope l.seen) (director_form l.owner.parent l.owner.class.now)) (properties_view (take l.property-index l.properties)) (map held_view l.values.items)

@@ -1,0 +1,7 @@
+use Rattle.pt_parameter.specs.Names.{seen_scope}
+use Rattle.pt_parameter.specs.Texts.{IsTextFault}
+use Rattle.pt_values.proofs.Turns.{told_at}
+use Rattle.pt_values.proofs.parameters.value_at.Goals as goal
+
+pub returns-in-Err-clause-told : goal.returns-in-Err-clause-told
+returns-in-Err-clause-told c = told_at c.args.path.now (IsTextFault (seen_scope c.args.seen.now) c.args.text.now) _ c.told_as.result c.in-Err.ensures.told c.told_as.ensures
