@@ -1,2 +1,4 @@
 pub mod Kept
 pub mod Growth
+pub mod Fired
+pub mod SoFar

@@ -2,5 +2,10 @@
 #![tactic(auto)]
 
 mod growth;
+mod so_far;
 
 pub use growth::{children_grow, nodes_grow};
+pub use so_far::{
+    sdf_is_done, sdf_is_left_off, sdf_is_left_off_within, sdf_is_stuck, sdf_is_unrated,
+    so_far_begins, so_far_goes_on,
+};
