@@ -1,10 +1,10 @@
 -- How what is kept goes on with logs that are put together.
 use Rattle.std.proofs.Common.{◌≡◌, ℕ, zero, suc, ◌+◌, ◌<◌, List, [], ◌∷◌, ◌++◌, length, set, refl, sym, ap, arith, ◌∙◌, append_assoc, append-nil}
-use Rattle.pt_meaning.specs.Basics.{Tag, Streams, at, Path, Firing, Event, Finished, Met, Log, silent, log_then, own, log_below, within_firing, all_marked, given_on, with_tag, firings_in}
-use Rattle.pt_meaning.specs.LogsOfRuns.{silents, logs_then, log_at, TracesAdd, CountsAdd}
-use Rattle.pt_meaning.proofs.LogLaws.{counts-add, traces-add}
+use Rattle.pt_meaning.specs.Basics.{at, Path, Firing, Event, Finished, Met, Log, silent, log_then, own, log_below, within_firing, all_marked, given_on, with_tag, firings_in}
+use Rattle.pt_meaning.specs.LogsOfRuns.{silents, logs_then, log_at}
+use Rattle.pt_meaning.specs.Headline.{count_of}
 use Rattle.pt_meaning.proofs.LevelLaws.{count-append}
-use Rattle.pt_records.specs.Kept.{Kept, Entry, Recorded, blank, kept_at, kept_by, TracesGrew, EntryGrew, GrewBy, AllGrewBy, TracesTold, EntryFired}
+use Rattle.pt_records.specs.Kept.{Kept, Entry, Recorded, blank, kept_at, kept_by, TracesGrew, EntryGrew, GrewBy, AllGrewBy, TracesTold, EntryFired, count_kept}
 use Rattle.pt_records.specs.Growth.{NodesGrow, ChildrenGrow}
 
 -- how events are read
@@ -79,8 +79,12 @@ grew-own f e e' ks h (i ∷ p) = entry-none (kept_at ks i p)
 pub grew-record : {T : Type 0} (f : Firing T) (l : Log T) (e e' : Entry T) (olds news : List (Kept T)) → GrewBy l (kept_by e olds) (kept_by e news) → EntryFired f.tag f.outputs e e' → GrewBy (log_then l (own f)) (kept_by e olds) (kept_by e' news)
 grew-record f l e e' olds news g h = grew-joined l (own f) (kept_by e olds) (kept_by e news) (kept_by e' news) g (grew-own f e e' news h)
 
+pub grew-count : {T : Type 0} (l : Log T) (a b : Kept T) (ps : List Path) → GrewBy l a b → count_kept b ps ≡ count_kept a ps + count_of l ps
+grew-count l a b [] g = omega arith
+grew-count l a b (p ∷ ps) g = omega (arith, (g p).count, grew-count l a b ps g)
+
 pub nodes-grow : {T : Type 0} → NodesGrow T
-nodes-grow = record { none = grew-none; joined = grew-joined; own_record = grew-record }
+nodes-grow = record { none = grew-none; joined = grew-joined; own_record = grew-record; counted = grew-count }
 
 -- children
 pub all-begin : {T S : Type 0} (kids : List S) (ks : List (Kept T)) → length kids ≡ length ks → AllGrewBy (silents kids) ks ks

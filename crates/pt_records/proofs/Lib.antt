@@ -1,2 +1,3 @@
 pub mod GrowthLaws
 pub mod SoFarLaws
+pub mod CountLaws

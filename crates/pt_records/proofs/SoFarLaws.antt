@@ -1,19 +1,17 @@
 -- A dataflow composite in the middle of a firing, child by child.
-use Rattle.std.proofs.Common.{◌≡◌, ℕ, zero, suc, ◌+◌, ◌<◌, ◌≤◌, max, List, [], ◌∷◌, ◌++◌, false, true, length, Option, Some, None, take, drop, set, get_or, refl, sym, ap, ap₂, subst, arith, ◌∙◌, inl, inr}
-use Rattle.std.proofs.Math.Path.{fun_ext}
+use Rattle.std.proofs.Common.{◌≡◌, ℕ, zero, suc, ◌+◌, ◌<◌, ◌≤◌, List, [], ◌∷◌, false, length, Option, Some, None, drop, set, get_or, refl, sym, ap, ap₂, subst, arith, ◌∙◌, inl}
 use Rattle.pt_meaning.specs.Tag.{Tag}
 use Rattle.pt_meaning.specs.Streams.{Streams, get}
-use Rattle.pt_meaning.specs.Basics as basics
-use Rattle.pt_meaning.specs.Log.{Log, LogBelow, Firing, silent, log_then, own, log_below, within_firing}
+use Rattle.pt_meaning.specs.Log.{Log, LogBelow, Firing, log_then, own, log_below, within_firing}
 use Rattle.pt_meaning.specs.Machine.{rate_code, Fault, Outcome, Done, Stuck, Stepping, Facts, recorded}
-use Rattle.pt_meaning.specs.Rounds.{Net, Limit, within, rated, rated_outcome, if_rated, has_rates}
-use Rattle.pt_meaning.specs.Dataflow.{SdfPlan, iterations, fired_all, firsts, behind}
+use Rattle.pt_meaning.specs.Rounds.{Net, Limit, rated, rated_outcome, if_rated, has_rates}
+use Rattle.pt_meaning.specs.Dataflow.{SdfPlan, iterations, fired_all, firsts}
 use Rattle.pt_meaning.specs.Meetings.{Meets, below_child}
 use Rattle.pt_meaning.specs.Children.{Child, numbered, nodes, child_facts, with_number}
 use Rattle.pt_meaning.specs.Tree.{Rows, Core, Sdf, Past, Node, Nodes, Composite, none, more, list_of, nodes_of, made_of, fired_at, height, heights}
 use Rattle.pt_meaning.specs.NodeFacts.{facts_of}
 use Rattle.pt_meaning.specs.Step.{step_at, Step}
-use Rattle.pt_meaning.specs.Running.{Asks, Fits, plus, puts, total, zeros}
+use Rattle.pt_meaning.specs.Running.{Asks, plus, puts, total}
 use Rattle.pt_meaning.specs.LogsOfRuns.{RunningWith, SticksWith, silents, logs_then, log_in, rates_at}
 use Rattle.pt_meaning.specs.CompositeRuns.{steps_below, SdfRun, sdf_start, sdf_bounds, times, outlets_of}
 use Rattle.pt_meaning.specs.Laws.{IsIn}
@@ -23,9 +21,9 @@ use Rattle.pt_meaning.proofs.HeightLaws.{levels-agree, firing-keeps, numbered-le
 use Rattle.pt_meaning.proofs.RunLaws.{running-step-with}
 use Rattle.pt_meaning.proofs.LogLaws.{begins-with, asked-fires, run-is-prefix}
 use Rattle.pt_meaning.proofs.CompositeLaws.{sdf-ends, sdf-sticks, sdf-is-prefix, log-as-node}
-use Rattle.pt_records.specs.Kept.{Kept, Entry, kept_at, kept_by, GrewBy, AllGrewBy}
-use Rattle.pt_records.specs.Fired.{FromSome, IsStuckAt, FiresTo, SticksAt, LeavesOff}
-use Rattle.pt_records.specs.SoFar.{AllLow, SoFar, GivesRates, IsAsked, SoFarBegins, SoFarGoesOn, SdfSoFar, sdf_left, SdfIsDone, SdfIsStuck, SdfIsUnrated, SdfIsLeftOff, SdfIsLeftOffWithin}
+use Rattle.pt_records.specs.Kept.{Kept, Entry, kept_at, kept_by, GrewBy}
+use Rattle.pt_records.specs.Fired.{IsStuckAt}
+use Rattle.pt_records.specs.SoFar.{AllLow, GivesRates, IsAsked, SoFarBegins, SoFarGoesOn, SdfSoFar, sdf_left, SdfIsDone, SdfIsStuck, SdfIsUnrated, SdfIsLeftOff, SdfIsLeftOffWithin}
 use Rattle.pt_records.proofs.GrowthLaws.{all-begin, all-go-on, grew-within}
 
 -- lists of children with their numbers

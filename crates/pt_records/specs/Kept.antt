@@ -69,3 +69,8 @@ TracesTold tag out (r ∷ rs) [] = ⊥
 pub record EntryFired {T : Type 0} (tag : Tag) (out : Streams T) (old new : Entry T) : Type 0 where
   pub count : new.count ≡ suc old.count
   pub recorded : TracesTold tag out old.recorded new.recorded
+
+-- how many firings are counted at these paths
+abbrev pub count_kept : {T : Type 0} → Kept T → List Path → ℕ
+count_kept k [] = 0
+count_kept k (p ∷ ps) = (k p).count + count_kept k ps

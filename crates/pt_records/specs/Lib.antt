@@ -2,3 +2,4 @@ pub mod Kept
 pub mod Growth
 pub mod Fired
 pub mod SoFar
+pub mod Counts

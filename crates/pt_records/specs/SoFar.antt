@@ -1,5 +1,5 @@
 -- A dataflow composite in the middle of a firing, as an engine has it that fires the children one by one, in whatever order: what the children have done so far, and what is kept of them.
-use Rattle.std.specs.Prelude.{◌≡◌, ℕ, suc, ◌+◌, ◌<◌, ◌≤◌, List, [], ◌∷◌, ◌++◌, false, true, length, Option, Some, None, take, set, get_or}
+use Rattle.std.specs.Prelude.{◌≡◌, ℕ, ◌+◌, ◌<◌, ◌≤◌, List, [], ◌∷◌, ◌++◌, false, true, length, Option, Some, None, take, set, get_or}
 use Rattle.pt_meaning.specs.Tag.{Tag}
 use Rattle.pt_meaning.specs.Streams.{Streams, get}
 use Rattle.pt_meaning.specs.Log.{Log}
@@ -14,7 +14,6 @@ use Rattle.pt_meaning.specs.Step.{step_at, Step}
 use Rattle.pt_meaning.specs.Running.{Asks, Fits, plus, puts, total, zeros}
 use Rattle.pt_meaning.specs.LogsOfRuns.{RunningWith, rates_at}
 use Rattle.pt_meaning.specs.CompositeRuns.{steps_below, sdf_start, sdf_bounds, times, outlets_of}
-use Rattle.pt_meaning.specs.Heights.{HasEntries}
 use Rattle.pt_records.specs.Kept.{Kept, Entry, kept_at, kept_by, AllGrewBy}
 use Rattle.pt_records.specs.Fired.{FromSome, FiresTo, SticksAt, LeavesOff}
 
