@@ -1,6 +1,16 @@
 //! The tree of a model: library actors and composites, with their past and what is recorded of them.
 #![tactic(auto)]
 
+mod director;
+mod laws;
+mod library;
+mod node;
+mod past;
 mod recorded;
 
+pub use director::Director;
+pub use laws::rows_are_lawful;
+pub use library::LibraryActor;
+pub use node::{ActorNode, Composite, Node};
+pub use past::Past;
 pub use recorded::{Recorded, Records};
