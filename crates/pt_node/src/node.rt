@@ -1,38 +1,45 @@
-use crate::director::Director;
-use crate::library::LibraryActor;
+ghost use Rattle.std.specs.Prelude.{◌≡◌, ◌+◌, ◌<◌, ◌^◌, IfOk};
+ghost use Rattle.pt_node.specs.declared.node.Node.{out-Node};
+ghost use Rattle.pt_node.specs.Shown.{shown_node};
+ghost use Rattle.pt_node.specs.Firing.{noted, bare, recorded};
+
+use crate::body::Body;
 use crate::past::Past;
 use crate::recorded::Records;
+use pt_firing::Outputs;
+use pt_time::Tag;
 use pt_value::Text;
+use std::alloc::{AllocError, Global};
 
-/// A library actor in the tree, beside its start, to which a reset brings it back.
+/// A node of the tree of a model, with its past and what is recorded of it. A library actor has no children.
 #[derive(Drop)]
-pub struct ActorNode {
+pub struct Node {
     pub past: Past,
-    pub start: LibraryActor,
-    pub actor: LibraryActor,
+    pub body: Body,
+    pub children: Vec<Node>,
     pub records: Records,
     /// Its path from the top, as a report tells it.
     pub path: Text,
-    /// False where a firing didn't end well, after which the node doesn't fire again.
+    /// False from the begin of a firing on, until it is recorded. After one that isn't the node fires no more.
     pub live: bool,
 }
 
-/// A composite: the core of its director, which holds its start itself, and its children.
-#[derive(Drop)]
-#[cycle(node)]
-pub struct Composite {
-    pub past: Past,
-    pub director: Director,
-    pub children: Vec<Node>,
-    pub records: Records,
-    pub path: Text,
-    pub live: bool,
-}
+impl Node {
+    /// Notes what a firing gave on the recorded outputs. Nothing is recorded by that.
+    pub fn note(&mut self, alloc: Global, tag: Tag, outputs: &Outputs) -> Result<(), AllocError>
+        ensures noted { IfOk result (λ _. shown_node self.new ≡ noted tag outputs.now (shown_node self.old)) }
+        ensures kept { bare (shown_node self.new) ≡ bare (shown_node self.old) }
+    {
+        self.records.note(alloc, tag, outputs)
+    }
 
-/// A node of the tree of a model.
-#[derive(Drop)]
-#[cycle(node)]
-pub enum Node {
-    Actor(ActorNode),
-    Composite(Composite),
+    /// Records a firing at the tag, with what was noted of it. The node is live again.
+    pub fn record(&mut self, tag: Tag)
+        requires { (out-Node self.old).past.made + 1 < 2 ^ 64 }
+        ensures { shown_node self.new ≡ recorded tag (shown_node self.old) }
+    {
+        self.past = self.past.fired_at(tag);
+        self.records.record();
+        self.live = true;
+    }
 }

@@ -1,3 +1,7 @@
+ghost use Rattle.std.specs.Prelude.{◌≡◌, ◌+◌, ◌<◌, ◌^◌};
+ghost use Rattle.pt_meaning.specs.Tree as tree;
+
+use pt_time::Tag;
 use std::marker::Model;
 
 /// How often a node has fired over the whole run, and the time of its last firing since the start or the last reset.
@@ -15,4 +19,17 @@ impl Model for Past {
     ghost view = { λ p. record { made = p.made; last = p.last } };
 
     ghost inverse = { λ p. record { made = p.made; last = p.last } };
+}
+
+impl Past {
+    /// One firing more, at that tag.
+    pub fn fired_at(self, tag: Tag) -> Past
+        requires { self.made + 1 < 2 ^ 64 }
+        ensures { result ≡ tree.fired_at tag self }
+    {
+        Past {
+            made: self.made + 1,
+            last: Some(tag.time),
+        }
+    }
 }
