@@ -23,6 +23,8 @@ use Rattle.pt_sdf.specs.State.{Idle, lent_in, after_told, closed, owed, own_of}
 use Rattle.pt_sdf.specs.Chain.{IsFor}
 use Rattle.pt_sdf.specs.Clauses.{State, IsAsked}
 use Rattle.pt_node.specs.LibraryActor.{rows}
+use Rattle.pt_node.specs.LibraryActor as library
+use Rattle.pt_node.specs.declared.body.Held.{Held}
 use Rattle.pt_node.specs.Shown.{Shown, AllShown, Branch, Frame}
 use Rattle.pt_node.specs.Firing.{noted, bare, recorded}
 use Rattle.pt_node.specs.View as view
@@ -161,3 +163,10 @@ FinishTo s (Done out) s' = (s' ≡ closed s) × (out ≡ firsts (owed s) (own_of
 FinishTo s (Fault place) s' = ⊥
 FinishTo s Spent s' = ⊥
 FinishTo s Memory s' = Unit {0}
+
+-- a step of a library actor: it gives what its row answers, or is told stuck as the row says, or there was no memory for it
+abbrev pub ActorTo : Held → List ℕ → ℕ → Tag → Streams Token → Within → Held → Type 0
+ActorTo old path made tag X (Done out) new = (library.step tag old.actor X ≡ tree.Gives new.actor out) × (new.start ≡ old.start)
+ActorTo old path made tag X (Fault place) new = (library.step tag old.actor X ≡ tree.Fails (code_of place.kind)) × (place.path ≡ path) × (place.firing ≡ made)
+ActorTo old path made tag X Spent new = ⊥
+ActorTo old path made tag X Memory new = Unit {0}

@@ -1,14 +1,15 @@
 ghost use Rattle.std.specs.Prelude.{◌≡◌, ◌+◌, ◌<◌, ◌≤◌, ◌^◌, length, Some, IsSome, map};
 ghost use Rattle.pt_sdf.specs.State.{Idle, Closed, asked_child, lent_in};
 ghost use Rattle.pt_node.specs.declared.node.Node.{out-Node};
+ghost use Rattle.pt_node.specs.LibraryActor as library;
 ghost use Rattle.pt_node.specs.Shown.{shown, shown_node, all_of};
 ghost use Rattle.pt_node.specs.View.{outline_of, outlines_of, count_of, counts_of};
 ghost use Rattle.pt_node.specs.Live.{IsLive, IsFit, Takes, AllFit, IsReady, TakenBy};
 ghost use Rattle.pt_node.specs.declared.director.Director.TheVariants.{Sdf};
-ghost use Rattle.pt_seq.specs.Within.{WithinTo, SpendsAll, StaysFit, SdfTo, SdfStaysFit, TurnTo, TurnSpends, AnswersTo, IsFaultAt, TellTo, FinishTo};
+ghost use Rattle.pt_seq.specs.Within.{WithinTo, SpendsAll, StaysFit, SdfTo, SdfStaysFit, TurnTo, TurnSpends, AnswersTo, ActorTo, IsFaultAt, TellTo, FinishTo};
 
 use pt_firing::{Answer, Ask, Fires, Inputs, Outputs, Place, RunFault, Step};
-use pt_node::{Body, Director, Node};
+use pt_node::{Body, Director, Held, Node};
 use pt_time::Tag;
 use pt_value::Text;
 use std::alloc::Global;
@@ -82,14 +83,29 @@ fn fire(
 {
     node.live = false;
     match &mut node.body {
-        Body::Actor(held) => match held.actor.step(alloc, tag, inputs) {
-            Step::Done(outputs) => Within::Done(outputs),
-            Step::Fault(kind) => fault_at(alloc, &node.path, node.past.made, kind),
-            Step::Memory => Within::Memory,
-        },
+        Body::Actor(held) => fire_actor(alloc, held, &node.path, node.past.made, tag, inputs),
         Body::Composite(Director::Sdf(core)) => {
             fire_sdf(alloc, core, &mut node.children, tag, inputs, left)
         }
+    }
+}
+
+/// One step of a library actor, whose path and number of firings are told where it is stuck.
+fn fire_actor(
+    alloc: Global,
+    held: &mut Held,
+    path: &Text,
+    made: u64,
+    tag: Tag,
+    inputs: &Inputs<'_>,
+) -> Within
+    requires { library.Takes tag held.old.actor inputs.now }
+    ensures goes { ActorTo held.old path.now made tag inputs.now result held.new }
+{
+    match held.actor.step(alloc, tag, inputs) {
+        Step::Done(outputs) => Within::Done(outputs),
+        Step::Fault(kind) => fault_at(alloc, path, made, kind),
+        Step::Memory => Within::Memory,
     }
 }
 
@@ -128,11 +144,11 @@ fn fire_sdf(
     let mut next = core.ask();
     loop {
         match next {
-            Ask::Fire(child, at) => {
+            Ask::Fire(child, _) => {
                 if *left == 0 {
                     return Within::Spent;
                 }
-                match fire_child(alloc, core, &mut children[child as usize], child, at, left) {
+                match fire_child(alloc, core, &mut children[child as usize], child, tag, left) {
                     Turn::Next(ask) => next = ask,
                     Turn::Fault(place) => return Within::Fault(place),
                     Turn::Spent => return Within::Spent,
