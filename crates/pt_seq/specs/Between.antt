@@ -1,5 +1,5 @@
 -- Where the firing of an SDF composite stands between two firings of its children.
-use Rattle.std.specs.Prelude.{◌≡◌, ℕ, ◌+◌, List}
+use Rattle.std.specs.Prelude.{◌≡◌, ℕ, ◌+◌, ◌≤◌, List}
 use Rattle.pt_meaning.specs.Basics.{Tag, Streams}
 use Rattle.pt_meaning.specs.Kahn.{arrived}
 use Rattle.pt_meaning.specs.Sdf.{iterations, sdf_limits}
@@ -36,3 +36,4 @@ pub record Between (before : State) (olds : List Shown) (tag : Tag) (inputs : St
   pub going : Going before (all_of olds) tag inputs state (all_of now)
   pub outlines : outlines_of (all_of now) ≡ outlines_of (all_of olds)
   pub counted : counts_of (all_of now) + left ≡ counts_of (all_of olds) + allowance
+  pub lowered : left ≤ allowance

@@ -56,7 +56,10 @@ pub fn fire_seq(
     if left == 0 {
         return Answer::Spent(allowance);
     }
-    if node.past.made == u64::MAX || node.note(alloc, tag, &outputs).is_err() {
+    if node.past.made == u64::MAX {
+        return Answer::Memory;
+    }
+    if node.note(alloc, tag, &outputs).is_err() {
         return Answer::Memory;
     }
     node.record(tag);
@@ -76,6 +79,7 @@ fn fire(
     requires inputs { Takes tag (shown_node node.old) inputs.now }
     ensures goes { WithinTo (shown_node node.old) tag inputs.now result (shown_node node.new) }
     ensures spends { SpendsAll result left.new }
+    ensures lowered { left.new ≤ left.old }
     ensures fit { StaysFit (shown_node node.old) result (shown_node node.new) }
     ensures outline { outline_of (shown_node node.new) ≡ outline_of (shown_node node.old) }
     ensures counted { count_of (shown_node node.new) + left.new ≡ count_of (shown_node node.old) + left.old }
@@ -134,6 +138,7 @@ fn fire_sdf(
     requires inputs { TakenBy (Sdf core.old) inputs.now }
     ensures goes { SdfTo core.old (all_of (map shown children.old.items)) tag inputs.now result core.new (all_of (map shown children.new.items)) }
     ensures spends { SpendsAll result left.new }
+    ensures lowered { left.new ≤ left.old }
     ensures fit { SdfStaysFit core.old (all_of (map shown children.old.items)) result core.new (all_of (map shown children.new.items)) }
     ensures outlines { outlines_of (all_of (map shown children.new.items)) ≡ outlines_of (all_of (map shown children.old.items)) }
     ensures counted { counts_of (all_of (map shown children.new.items)) + left.new ≡ counts_of (all_of (map shown children.old.items)) + left.old }
@@ -176,6 +181,7 @@ fn fire_child(
     requires inputs { Takes tag (shown_node child.old) (lent_in core.old.stage) }
     ensures goes { TurnTo core.old (shown_node child.old) number tag result core.new (shown_node child.new) }
     ensures spends { TurnSpends result left.old left.new }
+    ensures lowered { left.new ≤ left.old }
     ensures outline { outline_of (shown_node child.new) ≡ outline_of (shown_node child.old) }
     ensures counted { count_of (shown_node child.new) + left.new ≡ count_of (shown_node child.old) + left.old }
 {
@@ -205,6 +211,7 @@ fn tell(
     requires left { 0 < left.old }
     ensures goes { TellTo core.old (shown_node child.old) number tag outputs result core.new (shown_node child.new) }
     ensures spends { TurnSpends result left.old left.new }
+    ensures lowered { left.new ≤ left.old }
     ensures outline { outline_of (shown_node child.new) ≡ outline_of (shown_node child.old) }
     ensures counted { count_of (shown_node child.new) + left.new ≡ count_of (shown_node child.old) + left.old }
 {
