@@ -1,3 +1,5 @@
 pub mod Children
 pub mod SdfFiring
 pub mod Turns
+pub mod Loop
+pub mod Entering

@@ -7,6 +7,7 @@ use Rattle.pt_meaning.specs.Machine as machine
 use Rattle.pt_meaning.specs.Machine.{Outcome, Need, Counts, Facts, Front, Takes, Lacks, Ends, counted, if_long, front, recorded}
 use Rattle.pt_meaning.specs.Rounds.{Limit, has_rates}
 use Rattle.pt_meaning.specs.Kahn.{firsts, behind}
+use Rattle.pt_meaning.specs.Sdf.{SdfPlan}
 use Rattle.pt_meaning.specs.Meetings.{Meets}
 use Rattle.pt_meaning.specs.Closed.{on_answer}
 use Rattle.pt_meaning.specs.Tree as tree
@@ -50,7 +51,7 @@ use Rattle.pt_seq.specs.declared.fire.Within.{Within}
 use Rattle.pt_seq.specs.declared.fire.Within.TheVariants.{Done, Fault, Spent, Memory}
 use Rattle.pt_seq.specs.declared.fire.Turn.{Turn}
 use Rattle.pt_seq.specs.declared.fire.Turn.TheVariants as turn
-use Rattle.pt_seq.specs.Within.{outcome, fired, sdf_node, IsStuck, fault_of, WithinTo, SpendsAll, StaysSteady, StaysFit, SdfTo, SdfStaysFit, ChildFired, ChildUnrated, TurnTo, TurnSpends, TellTo, FinishTo, ActorTo, AnswersTo, path_of, made_of}
+use Rattle.pt_seq.specs.Within.{outcome, fired, sdf_node, IsStuck, fault_of, WithinTo, SpendsAll, StaysSteady, StaysFit, SdfTo, SdfStaysFit, ChildFired, ChildUnrated, TurnTo, TurnSpends, TellTo, FinishTo, ActorTo, DirectorTo, DirectorStaysFit, AnswersTo, path_of, made_of}
 use Rattle.pt_seq.specs.Between.{Going, Between}
 use Rattle.pt_seq.proofs.Children.{nodes-get, outlines-set, counts-set}
 use Rattle.pt_seq.proofs.SdfFiring.{children-long, begun-going, going-on, asked-now, left-between, left-within, stuck-within, unrated-within, sdf-done}
@@ -168,21 +169,34 @@ turn-told s old mid i tag out (turn.Fault place) s' after w f o p t =
 turn-told s old mid i tag out turn.Spent s' after w f o p t = absurd t
 turn-told s old mid i tag out turn.Memory s' after w f o p t = λ m. subst (λ k. LeavesOff (outcome m (node_of old) tag (lent_in s.stage)) (kept_of old) k) (sym (kept-bare after mid t)) (off-done (outcome m (node_of old) tag (lent_in s.stage)) (fired tag (node_of mid)) out (kept_of old) (kept_of mid) (w m))
 
+pub turn-stuck : (s : State) (old after : Shown) (i : ℕ) (tag : Tag) (X : Streams Token) (place : Place) (s' : State) → X ≡ lent_in s.stage → WithinTo old tag X (Fault place) after → TurnTo s old i tag (turn.Fault place) s' after
+turn-stuck s old after i tag X place s' e w = inl (subst (λ (Y : Streams Token). (m : Meets) → IsStuck m (node_of old) tag Y (outline_of old) place (kept_of old) (kept_of after)) e w)
+
+pub turn-off : (old after : Shown) (tag : Tag) (X Y : Streams Token) → X ≡ Y → ((m : Meets) → LeavesOff (outcome m (node_of old) tag X) (kept_of old) (kept_of after)) → (m : Meets) → LeavesOff (outcome m (node_of old) tag Y) (kept_of old) (kept_of after)
+turn-off old after tag X Y e w = subst (λ (Z : Streams Token). (m : Meets) → LeavesOff (outcome m (node_of old) tag Z) (kept_of old) (kept_of after)) e w
+
+pub turn-off-done : (old after : Shown) (tag : Tag) (X Y out : Streams Token) → X ≡ Y → WithinTo old tag X (Done out) after → (m : Meets) → LeavesOff (outcome m (node_of old) tag Y) (kept_of old) (kept_of after)
+turn-off-done old after tag X Y out e w = turn-off old after tag X Y e (λ m. off-done (outcome m (node_of old) tag X) (fired tag (node_of after)) out (kept_of old) (kept_of after) (w m))
+
+pub turn-after : (s : State) (old mid : Shown) (i : ℕ) (tag : Tag) (X out : Streams Token) (t : Turn) (s' : State) (after : Shown) → X ≡ lent_in s.stage → WithinTo old tag X (Done out) mid → StaysFit old (Done out) mid → outline_of mid ≡ outline_of old → made_of mid ≡ made_of old →
+    TellTo s mid i tag out t s' after → TurnTo s old i tag t s' after
+turn-after s old mid i tag X out t s' after e w f o p told = turn-told s old mid i tag out t s' after (subst (λ Y. WithinTo old tag Y (Done out) mid) e w) f o p told
+
 -- a library actor
 actor-step : (m : Meets) (k : ℕ) (h : tree.Past) (a b : LibraryActor) (tag : Tag) (X : Streams Token) → step_at rows k 1 m tag (tree.Actor h a b) X ≡ actor_outcome tag h a (library.step tag b X)
 unfolding step_at
 actor-step m k h a b tag X = refl
 
-pub actor-goes : (f : Frame) (held held' : Held) (ks : AllShown) (lives : view.Outlines) (tag : Tag) (X : Streams Token) (w : Within) → ActorTo held f.path f.past.made tag X w held' →
+pub actor-goes : (f : Frame) (held held' : Held) (ks : AllShown) (tag : Tag) (X : Streams Token) (w : Within) → ActorTo held f.path f.past.made tag X w held' →
     WithinTo (Branch (record { past = f.past; body = body.Actor held; records = f.records; path = f.path; live = f.live }) ks) tag X w (Branch (record { past = f.past; body = body.Actor held'; records = f.records; path = f.path; live = false }) ks)
-actor-goes f held held' ks lives tag X (Done out) a = λ m.
+actor-goes f held held' ks tag X (Done out) a = λ m.
     let kept : Kept Token = kept_by (entry_of f) (kepts_of ks) in
     record {
       log = silent;
       done = (0, λ k l. actor-step m k f.past held.start held.actor tag X ∙ ap (λ r. actor_outcome tag f.past held.start r) a.0 ∙ ap (λ v. let r : Outcome Token Tree = machine.Done (tree.Actor (tree.fired_at tag f.past) v held'.actor) out silent in r) (sym a.1));
       kept = grew-none kept;
     }
-actor-goes f held held' ks lives tag X (Fault place) a = λ m.
+actor-goes f held held' ks tag X (Fault place) a = λ m.
     let kept : Kept Token = kept_by (entry_of f) (kepts_of ks) in
     let told : record { path = []; firing = f.past.made; code = code_of place.kind } ≡ fault_of [] place = ap (λ n. let g : machine.Fault = record { path = []; firing = n; code = code_of place.kind } in g) (sym a.2) in (
       [],
@@ -193,8 +207,8 @@ actor-goes f held held' ks lives tag X (Fault place) a = λ m.
         kept = grew-none kept;
       },
     )
-actor-goes f held held' ks lives tag X Spent a = absurd a
-actor-goes f held held' ks lives tag X Memory a = λ m. off-none (outcome m (tree.Actor f.past held.start held.actor) tag X) (kept_by (entry_of f) (kepts_of ks))
+actor-goes f held held' ks tag X Spent a = absurd a
+actor-goes f held held' ks tag X Memory a = λ m. off-none (outcome m (tree.Actor f.past held.start held.actor) tag X) (kept_by (entry_of f) (kepts_of ks))
 
 steady-next : (tag : Tag) (X out : Streams Token) (a b : LibraryActor) → library.step tag a X ≡ tree.Gives b out → IsSteadyActor a → IsSteadyActor b × (library.need b ≡ library.need a)
 steady-next tag X out a b e st =
@@ -208,13 +222,20 @@ actor-fit f held held' ks tag X (Fault place) fit a = tt
 actor-fit f held held' ks tag X Spent fit a = tt
 actor-fit f held held' ks tag X Memory fit a = tt
 
--- an SDF composite
-pub composite-goes : (f : Frame) (s s' : State) (ks ks' : AllShown) (tag : Tag) (X : Streams Token) (w : Within) → SdfTo s ks tag X w s' ks' →
-    WithinTo (Branch (record { past = f.past; body = body.Composite (Sdf s); records = f.records; path = f.path; live = f.live }) ks) tag X w (Branch (record { past = f.past; body = body.Composite (Sdf s'); records = f.records; path = f.path; live = false }) ks')
-composite-goes f s s' ks ks' tag X (Done out) g = λ m. g m f.past (entry_of f)
-composite-goes f s s' ks ks' tag X (Fault place) g = λ m. g m f.past (entry_of f) f.path
-composite-goes f s s' ks ks' tag X Spent g = λ m. g m f.past (entry_of f)
-composite-goes f s s' ks ks' tag X Memory g = λ m. g m f.past (entry_of f)
+-- a composite
+pub composite-goes : (f : Frame) (d d' : Director) (ks ks' : AllShown) (tag : Tag) (X : Streams Token) (w : Within) → DirectorTo d ks tag X w d' ks' →
+    WithinTo (Branch (record { past = f.past; body = body.Composite d; records = f.records; path = f.path; live = f.live }) ks) tag X w (Branch (record { past = f.past; body = body.Composite d'; records = f.records; path = f.path; live = false }) ks')
+composite-goes f (Sdf s) (Sdf s') ks ks' tag X (Done out) g = λ m. g m f.past (entry_of f)
+composite-goes f (Sdf s) (Sdf s') ks ks' tag X (Fault place) g = λ m. g m f.past (entry_of f) f.path
+composite-goes f (Sdf s) (Sdf s') ks ks' tag X Spent g = λ m. g m f.past (entry_of f)
+composite-goes f (Sdf s) (Sdf s') ks ks' tag X Memory g = λ m. g m f.past (entry_of f)
+
+pub composite-fit : (f : Frame) (d d' : Director) (ks ks' : AllShown) (w : Within) → DirectorStaysFit d ks w d' ks' →
+    StaysFit (Branch (record { past = f.past; body = body.Composite d; records = f.records; path = f.path; live = f.live }) ks) w (Branch (record { past = f.past; body = body.Composite d'; records = f.records; path = f.path; live = false }) ks')
+composite-fit f (Sdf s) (Sdf s') ks ks' (Done out) g = (((g.2, g.3, g.4), g.5), λ st. (tt, ap (λ (p : SdfPlan). machine.Counts p.takes) g.0))
+composite-fit f (Sdf s) (Sdf s') ks ks' (Fault place) g = tt
+composite-fit f (Sdf s) (Sdf s') ks ks' Spent g = tt
+composite-fit f (Sdf s) (Sdf s') ks ks' Memory g = tt
 
 -- the loop
 pub between-begun : (before core₁ core₂ : State) (olds : List Shown) (tag : Tag) (X : Streams Token) (left : ℕ) (next : Ask) → IsReady (Sdf before) (all_of olds) → AllFit (all_of olds) → core₁ ≡ begun tag X before → IsAsked core₁ next core₂ → Between before olds tag X left next core₂ olds left

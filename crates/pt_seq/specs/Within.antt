@@ -25,6 +25,8 @@ use Rattle.pt_sdf.specs.Clauses.{State, IsAsked}
 use Rattle.pt_node.specs.LibraryActor.{rows}
 use Rattle.pt_node.specs.LibraryActor as library
 use Rattle.pt_node.specs.declared.body.Held.{Held}
+use Rattle.pt_node.specs.declared.director.Director.{Director}
+use Rattle.pt_node.specs.declared.director.Director.TheVariants.{Sdf}
 use Rattle.pt_node.specs.Shown.{Shown, AllShown, Branch, Frame}
 use Rattle.pt_node.specs.Firing.{noted, bare, recorded}
 use Rattle.pt_node.specs.View as view
@@ -170,3 +172,10 @@ ActorTo old path made tag X (Done out) new = (library.step tag old.actor X ≡ t
 ActorTo old path made tag X (Fault place) new = (library.step tag old.actor X ≡ tree.Fails (code_of place.kind)) × (place.path ≡ path) × (place.firing ≡ made)
 ActorTo old path made tag X Spent new = ⊥
 ActorTo old path made tag X Memory new = Unit {0}
+
+-- the same by the director
+abbrev pub DirectorTo : Director → AllShown → Tag → Streams Token → Within → Director → AllShown → Type 0
+DirectorTo (Sdf s) ks tag X w (Sdf s') ks' = SdfTo s ks tag X w s' ks'
+
+abbrev pub DirectorStaysFit : Director → AllShown → Within → Director → AllShown → Type 0
+DirectorStaysFit (Sdf s) ks w (Sdf s') ks' = SdfStaysFit s ks w s' ks'

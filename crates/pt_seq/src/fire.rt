@@ -6,7 +6,7 @@ ghost use Rattle.pt_node.specs.Shown.{shown, shown_node, all_of};
 ghost use Rattle.pt_node.specs.View.{outline_of, outlines_of, count_of, counts_of};
 ghost use Rattle.pt_node.specs.Live.{IsLive, IsFit, Takes, AllFit, IsReady, TakenBy};
 ghost use Rattle.pt_node.specs.declared.director.Director.TheVariants.{Sdf};
-ghost use Rattle.pt_seq.specs.Within.{WithinTo, SpendsAll, StaysFit, SdfTo, SdfStaysFit, TurnTo, TurnSpends, AnswersTo, ActorTo, IsFaultAt, TellTo, FinishTo};
+ghost use Rattle.pt_seq.specs.Within.{WithinTo, SpendsAll, StaysFit, DirectorTo, DirectorStaysFit, SdfTo, SdfStaysFit, TurnTo, TurnSpends, AnswersTo, ActorTo, IsFaultAt, TellTo, FinishTo};
 
 use pt_firing::{Answer, Ask, Fires, Inputs, Outputs, Place, RunFault, Step};
 use pt_node::{Body, Director, Held, Node};
@@ -88,9 +88,34 @@ fn fire(
     node.live = false;
     match &mut node.body {
         Body::Actor(held) => fire_actor(alloc, held, &node.path, node.past.made, tag, inputs),
-        Body::Composite(Director::Sdf(core)) => {
-            fire_sdf(alloc, core, &mut node.children, tag, inputs, left)
+        Body::Composite(director) => {
+            fire_composite(alloc, director, &mut node.children, tag, inputs, left)
         }
+    }
+}
+
+/// One firing of a composite, by its director.
+#[cycle(fire)]
+fn fire_composite(
+    alloc: Global,
+    director: &mut Director,
+    children: &mut Vec<Node>,
+    tag: Tag,
+    inputs: &Inputs<'_>,
+    left: &mut u64,
+) -> Within
+    requires ready { IsReady director.old (all_of (map shown children.old.items)) }
+    requires fit { AllFit (all_of (map shown children.old.items)) }
+    requires inputs { TakenBy director.old inputs.now }
+    ensures goes { DirectorTo director.old (all_of (map shown children.old.items)) tag inputs.now result director.new (all_of (map shown children.new.items)) }
+    ensures spends { SpendsAll result left.new }
+    ensures lowered { left.new ≤ left.old }
+    ensures fit { DirectorStaysFit director.old (all_of (map shown children.old.items)) result director.new (all_of (map shown children.new.items)) }
+    ensures outlines { outlines_of (all_of (map shown children.new.items)) ≡ outlines_of (all_of (map shown children.old.items)) }
+    ensures counted { counts_of (all_of (map shown children.new.items)) + left.new ≡ counts_of (all_of (map shown children.old.items)) + left.old }
+{
+    match director {
+        Director::Sdf(core) => fire_sdf(alloc, core, children, tag, inputs, left),
     }
 }
 

@@ -1,2 +1,2 @@
-use Rattle.pt_seq.proofs.Turns.{child-takes}
+use Rattle.pt_seq.proofs.Loop.{loop-off}
 use Rattle.pt_seq.proofs.fire.fire_actor.Goals as goal
