@@ -3,3 +3,4 @@ pub mod SdfFiring
 pub mod Turns
 pub mod Loop
 pub mod Entering
+pub mod Answering
