@@ -1,5 +1,5 @@
 -- The rows of all libraries are lawful, since those of each are.
-use Rattle.std.proofs.Common.{◌≡◌, ℕ, List, [], Bool, true, false, ◌||◌, Some, refl}
+use Rattle.std.proofs.Common.{◌≡◌, ℕ, List, [], true, false, ◌||◌, Some, refl}
 use Rattle.pt_meaning.specs.Basics.{Tag, Streams, at}
 use Rattle.pt_meaning.specs.Tag.{is_due}
 use Rattle.pt_meaning.specs.Streams.{any_present}

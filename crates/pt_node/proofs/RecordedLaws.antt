@@ -1,9 +1,9 @@
 -- Tokens that are noted one by one, and ports one by one.
-use Rattle.std.proofs.Common.{◌≡◌, ℕ, zero, suc, ◌+◌, ◌<◌, ◌≤◌, List, [], ◌∷◌, ◌++◌, length, take, drop, map, get_or, set, refl, sym, ap, ap₂, subst, ◌∙◌, arith, append_assoc, append-nil, add-one}
-use Rattle.std.proofs.Math.Seq.{take-suc, take-append_seam, drop-append_seam}
+use Rattle.std.proofs.Common.{◌≡◌, ℕ, zero, suc, ◌+◌, ◌<◌, ◌≤◌, List, [], ◌∷◌, ◌++◌, length, take, drop, map, get_or, set, refl, sym, ap, ap₂, ◌∙◌, arith, append_assoc, add-one}
+use Rattle.std.proofs.Math.Seq.{take-suc}
 use Rattle.pt_meaning.specs.Basics.{Tag, Streams, at, with_tag}
 use Rattle.pt_value.specs.declared.token.Token.{Token}
-use Rattle.pt_node.specs.Recorded.{RecordedPort, noting, recording, unnoted, empty}
+use Rattle.pt_node.specs.Recorded.{RecordedPort, noting, unnoted}
 
 with_tag-append : {T : Type 0} (t : Tag) (xs ys : List T) → with_tag t (xs ++ ys) ≡ with_tag t xs ++ with_tag t ys
 with_tag-append t [] ys = refl

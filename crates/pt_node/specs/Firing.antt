@@ -1,10 +1,10 @@
 -- What whoever fires a node does with its own record: it notes the outputs, and records the firing once it counts.
-use Rattle.std.specs.Prelude.{ℕ, List, true, map}
+use Rattle.std.specs.Prelude.{List, true, map}
 use Rattle.pt_meaning.specs.Basics.{Tag, Streams}
 use Rattle.pt_meaning.specs.Tree as tree
 use Rattle.pt_value.specs.declared.token.Token.{Token}
 use Rattle.pt_node.specs.Recorded.{RecordedPort, noting, recording, unnoted}
-use Rattle.pt_node.specs.Shown.{Shown, Branch, Frame}
+use Rattle.pt_node.specs.Shown.{Shown, Branch}
 
 -- the node with other records
 abbrev pub with_records : (List RecordedPort → List RecordedPort) → Shown → Shown

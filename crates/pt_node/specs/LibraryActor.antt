@@ -1,5 +1,5 @@
 -- The actors of all libraries: each library by its own rows.
-use Rattle.std.specs.Prelude.{ℕ, List, [], Bool, Option, None}
+use Rattle.std.specs.Prelude.{List, [], Bool, Option, None}
 use Rattle.pt_meaning.specs.Basics.{Tag, Streams}
 use Rattle.pt_meaning.specs.Machine.{Need, Partial}
 use Rattle.pt_meaning.specs.Node.{Answer, Gives, Fails, Rows}

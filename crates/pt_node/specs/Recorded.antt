@@ -1,5 +1,5 @@
 -- The recorded ports of a node: what each gave, firing by firing.
-use Rattle.std.specs.Prelude.{◌≡◌, ℕ, List, [], ◌∷◌, ◌++◌, map, refl}
+use Rattle.std.specs.Prelude.{ℕ, List, [], ◌++◌, refl}
 use Rattle.std.specs.Coded.{Coded, code_by, coded_list, coded_ℕ, coded×}
 use Rattle.pt_meaning.specs.Basics.{Tag, Streams, at, with_tag}
 use Rattle.pt_value.specs.declared.token.Token.{Token}

@@ -1,5 +1,5 @@
 -- The tree of the code, as data: what each node has in its fields, and its children.
-use Rattle.std.specs.Prelude.{◌≡◌, ℕ, List, [], ◌∷◌, Bool, map}
+use Rattle.std.specs.Prelude.{ℕ, List, [], ◌∷◌, Bool, map}
 use Rattle.pt_meaning.specs.Tree as tree
 use Rattle.pt_node.specs.declared.body.Body.{Body}
 use Rattle.pt_node.specs.declared.node.Node.{Node, out-Node}

@@ -1,5 +1,9 @@
+ghost use Rattle.std.specs.Prelude.{◌≡◌, IfOk};
+
 use crate::director::Director;
 use crate::library::LibraryActor;
+use pt_firing::Fires;
+use std::alloc::{AllocError, Global};
 
 /// A library actor beside its start, to which a reset brings it back.
 #[derive(Drop)]
@@ -13,4 +17,19 @@ pub struct Held {
 pub enum Body {
     Actor(Held),
     Composite(Director),
+}
+
+impl Body {
+    /// Another body in the same state.
+    pub fn copy(&self, alloc: Global) -> Result<Body, AllocError>
+        ensures { IfOk result (λ body. body ≡ self.now) }
+    {
+        Ok(match self {
+            Body::Actor(held) => Body::Actor(Held {
+                start: held.start.copy(alloc)?,
+                actor: held.actor.copy(alloc)?,
+            }),
+            Body::Composite(director) => Body::Composite(director.copy(alloc)?),
+        })
+    }
 }

@@ -89,12 +89,7 @@ impl Recorded {
     pub fn empty(&self, alloc: Global) -> Result<Recorded, AllocError>
         ensures { IfOk result (λ port. port ≡ empty self.now) }
     {
-        Ok(Recorded::new(
-            alloc,
-            self.port,
-            self.number,
-            self.text.copy(alloc)?,
-        ))
+        Ok(Recorded::new(alloc, self.port, self.number, self.text.copy(alloc)?))
     }
 }
 
@@ -178,4 +173,3 @@ fn note_all(
     }
     Ok(())
 }
-

@@ -1,5 +1,5 @@
 -- What a call answers, from the firing that isn't recorded yet.
-use Rattle.std.proofs.Common.{◌≡◌, ℕ, false, ◌+◌, ◌≤◌, sym, ap, subst, ◌∙◌, refl, arith, Result, Ok, Err, is_err}
+use Rattle.std.proofs.Common.{◌≡◌, ℕ, false, ◌+◌, sym, subst, arith, Result, Ok, Err, is_err}
 use Rattle.std.specs.Prelude.{IfOk}
 use Rattle.pt_meaning.specs.Basics.{Tag, Streams}
 use Rattle.pt_meaning.specs.Meetings.{Meets}

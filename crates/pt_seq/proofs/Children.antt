@@ -1,16 +1,14 @@
 -- Lists of children, and what is read off them.
-use Rattle.std.proofs.Common.{◌≡◌, ℕ, zero, suc, ◌+◌, ◌<◌, ◌≤◌, max, List, [], ◌∷◌, length, map, get_or, set, Option, Some, None, refl, sym, ap, ap₂, subst, ◌∙◌, arith}
+use Rattle.std.proofs.Common.{◌≡◌, ℕ, zero, suc, ◌+◌, ◌<◌, ◌≤◌, max, List, [], ◌∷◌, length, map, get_or, set, Option, Some, refl, sym, ap, subst, ◌∙◌, arith}
 use Rattle.pt_meaning.specs.Basics.{Path}
 use Rattle.pt_meaning.specs.Streams.{get}
 use Rattle.pt_meaning.specs.Tree as tree
 use Rattle.pt_meaning.specs.NodeFacts.{facts_of, need_of}
-use Rattle.pt_value.specs.declared.token.Token.{Token}
-use Rattle.pt_records.specs.Kept.{Kept, kept_at}
+use Rattle.pt_records.specs.Kept.{kept_at}
 use Rattle.pt_sdf.specs.ByNeed.{needs_of}
-use Rattle.pt_node.specs.declared.library.LibraryActor.{LibraryActor}
 use Rattle.pt_node.specs.LibraryActor.{rows}
-use Rattle.pt_node.specs.Shown.{Shown, AllShown, none, more, all_of}
-use Rattle.pt_node.specs.View.{Tree, Trees, node_of, nodes_of, kept_of, kepts_of, count_of, counts_of, outline_of, outlines_of, Outlines, end, with, depth, depths, text_at, text_below}
+use Rattle.pt_node.specs.Shown.{Shown, all_of}
+use Rattle.pt_node.specs.View.{Trees, node_of, nodes_of, kept_of, kepts_of, count_of, counts_of, outline_of, outlines_of, with, depth, depths, text_at, text_below}
 use Rattle.pt_node.specs.Live.{IsFit, AllFit, IsSteady, AllSteady}
 
 pub nodes-set : (ss : List Shown) (i : ℕ) (s : Shown) → tree.list_of (nodes_of (all_of (set ss i s))) ≡ set (tree.list_of (nodes_of (all_of ss))) i (node_of s)

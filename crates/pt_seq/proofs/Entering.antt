@@ -1,8 +1,8 @@
 -- The firing of a node of the code, by what its body is.
-use Rattle.std.proofs.Common.{◌≡◌, ℕ, false, map, sym, ap, subst, ◌∙◌}
+use Rattle.std.proofs.Common.{◌≡◌, false, map, sym, ap, subst, ◌∙◌}
 use Rattle.pt_meaning.specs.Basics.{Tag, Streams}
 use Rattle.pt_value.specs.declared.token.Token.{Token}
-use Rattle.pt_node.specs.declared.node.Node.{Node, out-Node, roll-Node}
+use Rattle.pt_node.specs.declared.node.Node.{Node, roll-Node}
 use Rattle.pt_node.specs.declared.node.Node.TheViews.{out-roll-Node}
 use Rattle.pt_node.specs.declared.node.Node.TheOpen as opens
 use Rattle.pt_node.specs.declared.body.Body.{Body}

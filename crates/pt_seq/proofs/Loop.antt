@@ -1,5 +1,5 @@
 -- The loop over the children of an SDF composite, by the code's list of nodes.
-use Rattle.std.proofs.Common.{◌≡◌, ℕ, ◌+◌, ◌*◌, ◌<◌, ◌≤◌, List, [], ◌∷◌, true, false, length, map, get_or, set, Some, refl, sym, ap, subst, ◌∙◌, arith, Result, Ok, Err, is_err, Option}
+use Rattle.std.proofs.Common.{◌≡◌, ℕ, ◌+◌, ◌<◌, ◌≤◌, List, false, length, map, get_or, set, Some, sym, ap, subst, ◌∙◌, arith, Result, Ok, Err, is_err, Option}
 use Rattle.std.proofs.lemmas.List.{length-map}
 use Rattle.std.specs.Prelude.{OnOk}
 use Rattle.pt_meaning.specs.Basics.{Tag, Streams}

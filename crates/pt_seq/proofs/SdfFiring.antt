@@ -1,46 +1,43 @@
 -- The firing of an SDF composite, child by child, over plain values.
-use Rattle.std.proofs.Common.{◌≡◌, ℕ, zero, suc, ◌+◌, ◌*◌, ◌<◌, ◌≤◌, List, [], ◌∷◌, ◌++◌, true, false, length, map, get_or, set, take, drop, Option, Some, None, refl, sym, ap, ap₂, subst, ◌∙◌, arith, length-drop}
-use Rattle.pt_meaning.specs.Basics.{Tag, Streams, Path}
+use Rattle.std.proofs.Common.{◌≡◌, ℕ, zero, suc, ◌+◌, ◌<◌, ◌≤◌, List, [], ◌∷◌, ◌++◌, true, false, length, get_or, set, take, drop, Some, refl, sym, ap, ap₂, subst, ◌∙◌, arith, length-drop}
+use Rattle.pt_meaning.specs.Basics.{Tag, Streams}
 use Rattle.pt_meaning.specs.Streams.{get}
 use Rattle.pt_meaning.specs.Machine.{rate_code, Facts}
 use Rattle.pt_meaning.specs.Machine as machine
-use Rattle.pt_meaning.specs.Rounds.{Net, Limit, Source, has_rates}
+use Rattle.pt_meaning.specs.Rounds.{Limit, Source, has_rates}
 use Rattle.pt_meaning.specs.Kahn.{arrived, firsts, behind}
 use Rattle.pt_meaning.specs.Sdf.{SdfPlan, iterations, sdf_limits}
 use Rattle.pt_meaning.specs.Meetings.{Meets, below_child}
 use Rattle.pt_meaning.specs.Tree as tree
-use Rattle.pt_meaning.specs.NodeFacts.{facts_of, need_of}
-use Rattle.pt_meaning.specs.Step.{step_at, Step}
+use Rattle.pt_meaning.specs.NodeFacts.{facts_of}
+use Rattle.pt_meaning.specs.Step.{Step}
 use Rattle.pt_meaning.specs.Running.{Asks, Fits, total, plus, puts}
 use Rattle.pt_meaning.specs.LogsOfRuns.{rates_at}
 use Rattle.pt_meaning.specs.CompositeRuns.{sdf_start, sdf_bounds, times, outlets_of}
 use Rattle.pt_meaning.proofs.HeightLaws.{sdf-bounds-count}
 use Rattle.pt_meaning.proofs.RunLaws.{plus-length}
 use Rattle.pt_value.specs.declared.token.Token.{Token}
-use Rattle.pt_firing.specs.declared.ask.Ask.{Ask}
-use Rattle.pt_firing.specs.declared.ask.Ask.TheVariants as ask
 use Rattle.pt_firing.specs.declared.answer.Place.{Place}
 use Rattle.pt_firing.specs.declared.fault.RunFault.TheVariants.{Rate}
 use Rattle.pt_firing.specs.RunFault.{code_of}
-use Rattle.pt_records.specs.Kept.{Kept, Entry, kept_at, kept_by}
+use Rattle.pt_records.specs.Kept.{Entry, kept_by}
 use Rattle.pt_records.specs.Fired.{FiresTo, SticksAt, LeavesOff}
 use Rattle.pt_records.specs.SoFar as so_far
 use Rattle.pt_records.specs.SoFar.{SoFar, SdfSoFar, sdf_left}
 use Rattle.pt_records.proofs.SoFarLaws.{so-far-begins, so-far-goes-on, sdf-is-done, sdf-is-stuck, sdf-is-unrated, sdf-is-left-off, sdf-is-left-off-within}
 use Rattle.pt_sdf.specs.ByNeed.{by_need, needs_of, planned, place_of, skip_at}
-use Rattle.pt_sdf.specs.State.{SdfState, Idle, Open, Closed, Asked, lent_in, needs_at, lent_of, left_of, Allows, IsEnough, in_stage, begun, asked, if_told, after_told, own_of, owed, closed}
+use Rattle.pt_sdf.specs.State.{Closed, needs_at, lent_of, left_of, Allows, IsEnough, in_stage, begun, asked, if_told, own_of, owed, closed}
 use Rattle.pt_sdf.specs.Chain.{IsFor}
-use Rattle.pt_sdf.specs.Clauses.{State, IsAsked}
+use Rattle.pt_sdf.specs.Clauses.{State}
 use Rattle.pt_node.specs.declared.director.Director.TheVariants.{Sdf}
 use Rattle.pt_node.specs.LibraryActor.{rows}
-use Rattle.pt_node.specs.Shown.{Shown, AllShown, all_of}
+use Rattle.pt_node.specs.Shown.{Shown, all_of}
 use Rattle.pt_node.specs.View as view
 use Rattle.pt_node.specs.View.{Tree, node_of, nodes_of, kept_of, kepts_of, outline_of, outlines_of, text_at, text_below, count_of, counts_of}
-use Rattle.pt_node.specs.Live.{IsFit, AllFit, IsReady, IsSteady, AllSteady}
-use Rattle.pt_seq.specs.declared.fire.Within.TheVariants.{Done, Fault, Spent, Memory}
-use Rattle.pt_seq.specs.Within.{outcome, sdf_node, IsStuck, fault_of, StaysSteady, SdfTo, SdfStaysFit, ChildFired, ChildUnrated, FinishTo}
-use Rattle.pt_seq.specs.Between.{Going, Between}
-use Rattle.pt_seq.proofs.Children.{nodes-set, kepts-set, kepts-at, nodes-get, kepts-long, nodes-long, nodes-again, fit-set, steady-get, steady-set, outlines-set, text-get, counts-set, needs-set}
+use Rattle.pt_node.specs.Live.{IsFit, AllFit, IsReady}
+use Rattle.pt_seq.specs.Within.{outcome, sdf_node, IsStuck, fault_of, StaysSteady}
+use Rattle.pt_seq.specs.Between.{Going}
+use Rattle.pt_seq.proofs.Children.{nodes-set, kepts-set, kepts-at, nodes-get, kepts-long, nodes-long, nodes-again, fit-set, steady-get, steady-set, text-get, needs-set}
 
 -- what a core sees of children is their needs
 asks-as : {T S : Type 0} (facts : Facts T S) (i : ℕ) (ns : List ℕ) (cs : List Limit) (ms : List ℕ) (ss : List S) (held got left : Streams T) → Asks by_need i ns cs ms (needs_of facts ss) held got left → Asks facts i ns cs ms ss held got left
@@ -173,7 +170,7 @@ module _ (before : State) (olds now : List Shown) (tag : Tag) (X : Streams Token
   pub sdf-done : IsEnough s → (m : Meets) (h : tree.Past) (e : Entry Token) → FiresTo (outcome m (sdf_node h before (all_of olds)) tag X) (sdf_node (tree.fired_at tag h) (closed (in_stage Closed s)) (all_of now)) (firsts (owed s) (own_of s)) (kept_by e (kepts_of (all_of olds))) (kept_by e (kepts_of (all_of now)))
   sdf-done enough m h e =
       let d = sdf-is-done rows m tag h (tree.Sdf before.plan before.first) before.plan before.held (nodes_of (all_of olds)) X e (kepts_of (all_of olds)) s.fired (tree.list_of (nodes_of (all_of now))) s.held (kepts_of (all_of now)) (sdf-so-far m)
-          (enough ∙ ap (λ t. times t s.plan.repetitions) g.turns ∙ ap (λ (p : SdfPlan). times (iterations before.plan (sdf_start before.plan before.held X)) p.repetitions) g.plan)
+      (enough ∙ ap (λ t. times t s.plan.repetitions) g.turns ∙ ap (λ (p : SdfPlan). times (iterations before.plan (sdf_start before.plan before.held X)) p.repetitions) g.plan)
       in
       subst (λ (n : Tree). FiresTo (outcome m (sdf_node h before (all_of olds)) tag X) n (firsts (owed s) (own_of s)) (kept_by e (kepts_of (all_of olds))) (kept_by e (kepts_of (all_of now)))) (nodes-same)
       (subst (λ (o : Streams Token). FiresTo (outcome m (sdf_node h before (all_of olds)) tag X) at_end o (kept_by e (kepts_of (all_of olds))) (kept_by e (kepts_of (all_of now)))) (sym outputs-same) d)

@@ -1,12 +1,12 @@
 -- A turn of a child, and what a firing comes to once it is recorded.
-use Rattle.std.proofs.Common.{◌≡◌, ℕ, zero, suc, ◌+◌, ◌*◌, ◌<◌, ◌≤◌, List, [], ◌∷◌, ◌++◌, Bool, true, false, length, map, get_or, set, take, drop, Option, Some, None, refl, sym, ap, ap₂, subst, ◌∙◌, arith, ◌⊎◌, inl, inr, append-nil, length-append}
+use Rattle.std.proofs.Common.{◌≡◌, ℕ, zero, suc, ◌+◌, ◌<◌, ◌≤◌, List, [], ◌∷◌, ◌++◌, Bool, true, false, length, map, set, take, drop, Option, Some, refl, sym, ap, subst, ◌∙◌, arith, inl, inr, length-append}
 use Rattle.std.proofs.lemmas.List.{length-take-le}
-use Rattle.pt_meaning.specs.Basics.{Tag, Streams, Path, Log, LogBelow, Firing, silent, log_then, own, at, with_tag}
+use Rattle.pt_meaning.specs.Basics.{Tag, Streams, Log, LogBelow, Firing, silent, log_then, own, at}
 use Rattle.pt_meaning.specs.Streams.{get}
 use Rattle.pt_meaning.specs.Machine as machine
 use Rattle.pt_meaning.specs.Machine.{Outcome, Need, Counts, Facts, Front, Takes, Lacks, Ends, counted, if_long, front, recorded}
-use Rattle.pt_meaning.specs.Rounds.{Limit, has_rates}
-use Rattle.pt_meaning.specs.Kahn.{firsts, behind}
+use Rattle.pt_meaning.specs.Rounds.{Limit}
+use Rattle.pt_meaning.specs.Kahn.{behind}
 use Rattle.pt_meaning.specs.Sdf.{SdfPlan}
 use Rattle.pt_meaning.specs.Meetings.{Meets}
 use Rattle.pt_meaning.specs.Closed.{on_answer}
@@ -15,20 +15,16 @@ use Rattle.pt_meaning.specs.NodeFacts.{facts_of, need_of}
 use Rattle.pt_meaning.specs.Step.{actor_outcome, step_at, Step}
 use Rattle.pt_meaning.specs.Running.{Asks, total}
 use Rattle.pt_meaning.specs.LogsOfRuns.{log_in}
-use Rattle.pt_meaning.specs.Laws.{IsIn}
 use Rattle.pt_meaning.proofs.Order.{IsPrefix-refl, IsPrefix-trans, IsPrefix-append}
 use Rattle.pt_value.specs.declared.token.Token.{Token}
 use Rattle.pt_firing.specs.declared.ask.Ask.{Ask}
 use Rattle.pt_firing.specs.declared.ask.Ask.TheVariants as ask
 use Rattle.pt_firing.specs.declared.answer.Place.{Place}
-use Rattle.pt_firing.specs.declared.answer.Answer.TheVariants as answer
-use Rattle.pt_firing.specs.declared.fault.RunFault.{RunFault}
 use Rattle.pt_firing.specs.RunFault.{code_of}
-use Rattle.pt_records.specs.Kept.{Kept, Entry, kept_by, GrewBy, TracesTold, EntryFired}
-use Rattle.pt_records.specs.Fired.{FromSome, IsStuckAt, FiresTo, SticksAt, LeavesOff}
-use Rattle.pt_records.specs.Kept as kept
+use Rattle.pt_records.specs.Kept.{Kept, Entry, kept_by, GrewBy, TracesTold}
+use Rattle.pt_records.specs.Fired.{FiresTo, SticksAt, LeavesOff}
 use Rattle.pt_records.proofs.GrowthLaws.{grew-none, grew-joined, grew-record}
-use Rattle.pt_sdf.specs.State.{Idle, Open, Closed, Asked, asked_child, lent_in, lent_of, left_of, Allows, in_stage, begun, asked, if_told, after_told, own_of, owed, closed}
+use Rattle.pt_sdf.specs.State.{Idle, Closed, lent_in, lent_of, left_of, in_stage, begun, asked, if_told, own_of, owed, closed}
 use Rattle.pt_sdf.specs.Chain.{IsFor}
 use Rattle.pt_sdf.specs.Clauses.{State, IsAsked}
 use Rattle.pt_node.specs.declared.body.Body.{Body}
@@ -43,16 +39,15 @@ use Rattle.pt_node.specs.LibraryActor.{rows}
 use Rattle.pt_node.specs.Recorded.{RecordedPort, noting, recording, unnoted, trace_of}
 use Rattle.pt_node.specs.Shown.{Shown, AllShown, Branch, Frame, all_of}
 use Rattle.pt_node.specs.Firing as firing
-use Rattle.pt_node.specs.View as view
-use Rattle.pt_node.specs.View.{Tree, node_of, nodes_of, node_with, entry_of, kept_of, kepts_of, outline_of, outlines_of, text_at, text_below, count_of, counts_of}
+use Rattle.pt_node.specs.View.{Tree, node_of, nodes_of, node_with, entry_of, kept_of, kepts_of, outline_of, outlines_of, text_at, count_of, counts_of}
 use Rattle.pt_node.specs.Live as live
 use Rattle.pt_node.specs.Live.{IsFit, AllFit, IsReady, IsLive, IsSteadyActor}
 use Rattle.pt_seq.specs.declared.fire.Within.{Within}
 use Rattle.pt_seq.specs.declared.fire.Within.TheVariants.{Done, Fault, Spent, Memory}
 use Rattle.pt_seq.specs.declared.fire.Turn.{Turn}
 use Rattle.pt_seq.specs.declared.fire.Turn.TheVariants as turn
-use Rattle.pt_seq.specs.Within.{outcome, fired, sdf_node, IsStuck, fault_of, WithinTo, SpendsAll, StaysSteady, StaysFit, SdfTo, SdfStaysFit, ChildFired, ChildUnrated, TurnTo, TurnSpends, TellTo, FinishTo, ActorTo, DirectorTo, DirectorStaysFit, AnswersTo, path_of, made_of}
-use Rattle.pt_seq.specs.Between.{Going, Between}
+use Rattle.pt_seq.specs.Within.{outcome, fired, sdf_node, IsStuck, fault_of, WithinTo, StaysSteady, StaysFit, SdfTo, SdfStaysFit, ChildFired, TurnTo, TellTo, FinishTo, ActorTo, DirectorTo, DirectorStaysFit, path_of, made_of}
+use Rattle.pt_seq.specs.Between.{Between}
 use Rattle.pt_seq.proofs.Children.{nodes-get, outlines-set, counts-set}
 use Rattle.pt_seq.proofs.SdfFiring.{children-long, begun-going, going-on, asked-now, left-between, left-within, stuck-within, unrated-within, sdf-done}
 

@@ -1,5 +1,5 @@
 -- What a firing of a node comes to among the definitions, before and after it is recorded.
-use Rattle.std.specs.Prelude.{◌≡◌, ℕ, suc, ◌+◌, ◌<◌, ◌≤◌, List, [], ◌∷◌, ◌⊎◌, true, false, Some, length, get_or}
+use Rattle.std.specs.Prelude.{◌≡◌, ℕ, ◌+◌, ◌<◌, ◌≤◌, List, [], ◌⊎◌, true, false, Some, get_or}
 use Rattle.pt_meaning.specs.Basics.{Tag, Streams, Path}
 use Rattle.pt_meaning.specs.Machine.{Outcome}
 use Rattle.pt_meaning.specs.Machine as machine
@@ -27,7 +27,7 @@ use Rattle.pt_node.specs.LibraryActor as library
 use Rattle.pt_node.specs.declared.body.Held.{Held}
 use Rattle.pt_node.specs.declared.director.Director.{Director}
 use Rattle.pt_node.specs.declared.director.Director.TheVariants.{Sdf}
-use Rattle.pt_node.specs.Shown.{Shown, AllShown, Branch, Frame}
+use Rattle.pt_node.specs.Shown.{Shown, AllShown, Branch}
 use Rattle.pt_node.specs.Firing.{noted, bare, recorded}
 use Rattle.pt_node.specs.View as view
 use Rattle.pt_node.specs.View.{Tree, node_of, nodes_of, kept_of, kepts_of, count_of, Outline, Outlines, outline_of, outlines_of, text_at, text_below}

@@ -68,13 +68,7 @@ pub fn fire_seq(
 
 /// One firing of the node, which isn't recorded. What is left of the allowance is lowered by each firing within.
 #[cycle(fire)]
-fn fire(
-    alloc: Global,
-    node: &mut Node,
-    tag: Tag,
-    inputs: &Inputs<'_>,
-    left: &mut u64,
-) -> Within
+fn fire(alloc: Global, node: &mut Node, tag: Tag, inputs: &Inputs<'_>, left: &mut u64) -> Within
     requires fit { IsFit (shown_node node.old) }
     requires inputs { Takes tag (shown_node node.old) inputs.now }
     ensures goes { WithinTo (shown_node node.old) tag inputs.now result (shown_node node.new) }

@@ -1,11 +1,6 @@
-use Rattle.std.proofs.Common.{◌≡◌, ℕ, ap, arith, map, sym, subst, ◌∙◌, refl}
-use Rattle.pt_node.specs.declared.node.Node.{out-Node}
-use Rattle.pt_node.specs.Shown.{Shown, shown, shown_node, all_of}
-use Rattle.pt_node.specs.View.{kepts_of}
-use Rattle.pt_records.specs.Kept.{kept_by}
+use Rattle.std.proofs.Common.{◌≡◌, ap, arith, map, sym, subst, ◌∙◌, refl}
+use Rattle.pt_node.specs.Shown.{shown, shown_node}
 use Rattle.pt_sdf.specs.State.{begun}
-use Rattle.pt_firing.specs.declared.ask.Ask.TheVariants as ask
-use Rattle.pt_seq.specs.Within.{outcome, sdf_node}
 use Rattle.pt_seq.specs.Between.{Between}
 use Rattle.pt_seq.proofs.Turns.{off-none, turn-stuck, turn-off, turn-off-done, turn-after, between-begun, off-between, finish-goes, finish-fit}
 use Rattle.pt_seq.proofs.Loop.{on-ok, index-in, child-asked, child-fit, child-in, child-depth, loop-next, loop-outlines, loop-counted, loop-fault, loop-off}
@@ -48,9 +43,13 @@ fire_sdf-fire_child-requires t c =
     let kids = c.loop-next.children.items in
     let deep = child-depth c.args.core.now (map shown c.args.children.now.items) kids c.args.tag c.in-Fire.field-1 c.args.inputs.now c.args.left.now c.loop-next.left c.in-Fire.child c.loop-next.core c.loop-next.next c.loop-next.invariant c.in-Fire.is c.index_mut.result.now c.index_mut.ensures.value in (
       omega (arith, c.decreases, deep),
-      (child-asked c.args.core.now (map shown c.args.children.now.items) kids c.args.tag c.in-Fire.field-1 c.args.inputs.now c.args.left.now c.loop-next.left c.in-Fire.child c.loop-next.core c.loop-next.next c.loop-next.invariant c.in-Fire.is c.index_mut.result.now c.index_mut.ensures.value,
-      (child-fit c.args.core.now (map shown c.args.children.now.items) kids c.args.tag c.in-Fire.field-1 c.args.inputs.now c.args.left.now c.loop-next.left c.in-Fire.child c.loop-next.core c.loop-next.next c.loop-next.invariant c.in-Fire.is c.index_mut.result.now c.index_mut.ensures.value,
-      child-in c.args.core.now (map shown c.args.children.now.items) kids c.args.tag c.in-Fire.field-1 c.args.inputs.now c.args.left.now c.loop-next.left c.in-Fire.child c.loop-next.core c.loop-next.next c.loop-next.invariant c.in-Fire.is c.index_mut.result.now c.index_mut.ensures.value)),
+      (
+        child-asked c.args.core.now (map shown c.args.children.now.items) kids c.args.tag c.in-Fire.field-1 c.args.inputs.now c.args.left.now c.loop-next.left c.in-Fire.child c.loop-next.core c.loop-next.next c.loop-next.invariant c.in-Fire.is c.index_mut.result.now c.index_mut.ensures.value,
+        (
+          child-fit c.args.core.now (map shown c.args.children.now.items) kids c.args.tag c.in-Fire.field-1 c.args.inputs.now c.args.left.now c.loop-next.left c.in-Fire.child c.loop-next.core c.loop-next.next c.loop-next.invariant c.in-Fire.is c.index_mut.result.now c.index_mut.ensures.value,
+          child-in c.args.core.now (map shown c.args.children.now.items) kids c.args.tag c.in-Fire.field-1 c.args.inputs.now c.args.left.now c.loop-next.left c.in-Fire.child c.loop-next.core c.loop-next.next c.loop-next.invariant c.in-Fire.is c.index_mut.result.now c.index_mut.ensures.value,
+        ),
+      ),
     )
 
 pub fire_sdf-loop-next-preserved : goal.fire_sdf-loop-next-preserved

@@ -1,4 +1,4 @@
-use Rattle.std.proofs.Common.{◌∙◌, ap, arith, length, map}
+use Rattle.std.proofs.Common.{◌∙◌, ap, arith, map}
 use Rattle.pt_node.specs.Recorded.{noting, unnoted}
 use Rattle.pt_node.proofs.RecordedLaws.{changed-step, unnoted-stays, unnoted-noting}
 use Rattle.pt_node.proofs.recorded.Records.note.Goals as goal

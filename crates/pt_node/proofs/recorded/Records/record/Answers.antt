@@ -1,4 +1,4 @@
-use Rattle.std.proofs.Common.{◌∙◌, ap, arith, length, map}
+use Rattle.std.proofs.Common.{arith}
 use Rattle.pt_node.specs.Recorded.{recording}
 use Rattle.pt_node.proofs.RecordedLaws.{changed-step}
 use Rattle.pt_node.proofs.recorded.Records.record.Goals as goal
