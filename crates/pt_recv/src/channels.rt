@@ -1,4 +1,4 @@
-ghost use Rattle.std.specs.Prelude.{◌≡◌, ◌+◌, ◌-◌, ◌<◌, ◌≤◌, [], IfOk, is_ok, is_some, if◌then◌else◌, length, max, replicate, slice_get, slice_set};
+ghost use Rattle.std.specs.Prelude.{◌≡◌, ◌+◌, ◌-◌, ◌<◌, ◌≤◌, [], IfOk, OnOk, IsOk, is_ok, is_some, if◌then◌else◌, length, max, replicate, slice_get, slice_set};
 ghost use Rattle.pt_recv.specs.Lines.{list_at, spare_at, pushed, popped, moved, raised, lowered};
 
 use pt_pool::{Cells, Pool};
@@ -47,6 +47,8 @@ impl Channels {
         requires { c < length self.old.lists }
         ensures lists { self.new.lists ≡ self.old.lists }
         ensures spares { self.new.spares ≡ (if is_ok result then slice_set self.old.spares c (max n (spare_at self.old.spares c)) else self.old.spares) }
+        ensures room { OnOk result (n ≤ spare_at self.new.spares c) }
+        ensures succeeds { n ≤ spare_at self.old.spares c → IsOk result }
     {
         self.pool.reserve(c, n)
     }

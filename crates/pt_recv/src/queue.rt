@@ -66,6 +66,14 @@ impl Queue {
         self.tokens.pop_front()
     }
 
+    /// Takes every token away, and keeps the room.
+    pub fn clear(&mut self)
+        ensures list { self.new.list ≡ [] }
+        ensures spare { self.old.spare ≤ self.new.spare }
+    {
+        self.tokens.clear();
+    }
+
     pub fn len(&self) -> usize
         ensures { result ≡ length self.now.list }
     {

@@ -1,0 +1,15 @@
+//! The SDF director: it says which child fires next, lends it its inputs and takes what it gave.
+#![tactic(auto)]
+
+mod feeds;
+mod gather;
+mod outlets;
+mod plan;
+mod rooms;
+mod scatter;
+mod sdf;
+mod tables;
+mod turns;
+
+pub use plan::{CorePlan, Source};
+pub use sdf::Core;
