@@ -1,6 +1,6 @@
-ghost use Rattle.std.specs.Prelude.{◌≡◌, ℕ, ◌+◌, ◌^◌, ◌<◌, ◌≤◌, length, map, IfOk, OnOk, [], take, get_or, true, false};
+ghost use Rattle.std.specs.Prelude.{◌≡◌, ℕ, ◌+◌, ◌^◌, ◌<◌, ◌≤◌, length, map, IfOk, OnOk, [], ◌∷◌, ◌++◌, get_or, slice_set, true, false};
 ghost use Rattle.pt_sdf.specs.Plan.{source_of};
-ghost use Rattle.pt_sdf.specs.Feeds.{target_of, row_of, port_of, AreFeeds, AreTargets, MovesOnce};
+ghost use Rattle.pt_sdf.specs.Feeds.{target_of, rows_in, row_of, port_of, AreFeeds, AreTargets, MovesOnce};
 
 use crate::plan::{CorePlan, Source};
 use std::alloc::{AllocError, Global};
@@ -21,8 +21,8 @@ pub(crate) fn feeds_of(alloc: Global, plan: &CorePlan) -> Result<Vec<Vec<Feed>>,
 {
     let mut rows = rows_of(alloc, plan.places.len(), &plan.sources)?;
     for r in 0..rows.len() {
-        let ports = ports_of(plan, r);
-        mark(alloc, &mut rows[r], ports)?;
+        let row = &mut rows[r];
+        mark(alloc, row, ports_of(plan, r))?;
     }
     Ok(rows)
 }
@@ -57,14 +57,25 @@ fn rows_of(alloc: Global, n: usize, sources: &[Source]) -> Result<Vec<Vec<Feed>>
     for c in 0..sources.len() {
         let r = row_in(n, sources[c]);
         if r <= n {
-            rows[r].push(Feed {
+            let feed = Feed {
                 channel: c as u32,
                 port: port_in(sources[c]),
                 moves: false,
-            })?;
+            };
+            add(&mut rows, r, feed)?;
         }
     }
     Ok(rows)
+}
+
+/// Puts a feed behind the others of a row.
+fn add(rows: &mut Vec<Vec<Feed>>, r: usize, feed: Feed) -> Result<(), AllocError>
+    requires { r < length rows.old.items }
+    ensures { OnOk result (rows_in rows.new.items ≡ slice_set (rows_in rows.old.items) r (get_or (rows_in rows.old.items) r [] ++ feed ∷ [])) }
+{
+    let row = &mut rows[r];
+    row.push(feed)?;
+    Ok(())
 }
 
 /// The row of a source.
@@ -93,8 +104,11 @@ fn mark(alloc: Global, row: &mut Vec<Feed>, ports: usize) -> Result<(), AllocErr
 {
     let mut seen = vec![in alloc; false; ports]?;
     for k in 0..row.len() {
-        let moves = is_first(&mut seen, row[k].port as usize);
-        row[k].moves = moves;
+        let feed = row[k];
+        row[k] = Feed {
+            moves: is_first(&mut seen, feed.port as usize),
+            ..feed
+        };
     }
     Ok(())
 }

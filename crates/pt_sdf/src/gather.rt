@@ -1,5 +1,5 @@
-ghost use Rattle.std.specs.Prelude.{◌≡◌, ℕ, ◌+◌, ◌^◌, ◌<◌, ◌≤◌, ◌⊎◌, length, take, drop, get_or, slice_set, None};
-ghost use Rattle.pt_recv.specs.Lines.{list_at};
+ghost use Rattle.std.specs.Prelude.{◌≡◌, ℕ, ◌+◌, ◌^◌, ◌<◌, ◌≤◌, ◌⊎◌, ◌++◌, length, take, drop, get_or, slice_set, None, vec_len, vec_capacity};
+ghost use Rattle.pt_recv.specs.Lines.{list_at, popped};
 ghost use Rattle.pt_meaning.specs.Kahn.{firsts};
 ghost use Rattle.pt_sdf.specs.ByNeed.{skip_at};
 ghost use Rattle.pt_sdf.specs.Rooms.{HasRoom, HaveRooms};
@@ -25,11 +25,22 @@ pub(crate) fn take_first(
         return take_one(channels, c, n);
     };
     for _ in 0..n {
-        if let Some(token) = channels.take(c) {
-            tokens.push_reserved(token);
-        }
+        move_first(channels, c, &mut tokens);
     }
     Tokens::of(tokens)
+}
+
+/// Moves the first token of a channel behind those that are taken, where there is room.
+fn move_first(channels: &mut Channels, c: u32, tokens: &mut Vec<Token>)
+    requires given { c < length channels.old.lists }
+    requires room { vec_len tokens.old < vec_capacity tokens.old }
+    ensures taken { tokens.new.items ≡ tokens.old.items ++ take 1 (list_at channels.old.lists c) }
+    ensures lists { channels.new.lists ≡ popped channels.old.lists c }
+    ensures capacity { vec_capacity tokens.new ≡ vec_capacity tokens.old }
+{
+    if let Some(token) = channels.take(c) {
+        tokens.push_reserved(token);
+    }
 }
 
 /// Takes the first token of a channel, or none.
