@@ -1,7 +1,8 @@
 -- Lists of lists, by number.
-use Rattle.std.proofs.Common.{◌≡◌, ℕ, zero, suc, ◌+◌, ◌<◌, ◌≤◌, List, [], ◌∷◌, ◌++◌, length, get_or, set, take, drop, map, Option, Some, None, refl, ap, ap₂, sym, subst, ◌∙◌, arith, append_assoc, append-nil, add-one, zero-add, suc-add}
+use Rattle.std.proofs.Common.{◌≡◌, ℕ, zero, suc, ◌+◌, ◌-◌, ◌<◌, ◌≤◌, max, ⊎_elim, List, [], ◌∷◌, ◌++◌, length, get_or, set, take, drop, map, Option, Some, None, refl, ap, ap₂, sym, subst, ◌∙◌, arith, append_assoc, append-nil, add-one, zero-add, suc-add}
 use Rattle.std.specs.List.{slice_get}
-use Rattle.std.proofs.lemmas.List.{get_or-set_same, length-set, set-set, drop-drop, drop_more, take_more, get_or-drop}
+use Rattle.std.proofs.lemmas.List.{get_or-set_same, get_or-set_other, set-set, set_past, get_or_past, drop-drop, get_or-drop}
+use Rattle.std.proofs.lemmas.Bool.{cases_eq, cases_lt}
 use Rattle.pt_meaning.specs.Streams.{Streams, at}
 use Rattle.pt_meaning.specs.Kahn.{firsts}
 use Rattle.pt_sdf.specs.ByNeed.{skip_at}
@@ -146,3 +147,30 @@ module _ {T : Type 0} where
         drop-short zero k X h = omega arith
         drop-short (suc o) k [] h = absurd (omega arith)
         drop-short (suc o) k (x ∷ X) h = drop-short o k X (omega arith)
+
+  -- a list that got the first k of some tokens gets one more
+  pub put-more : (B A L : Streams T) (c k : ℕ) (S staged : List T) → c < length L → A ≡ set L c (get_or L c [] ++ take k S) → staged ≡ drop k S → B ≡ set A c (get_or A c [] ++ take 1 staged) → B ≡ set L c (get_or L c [] ++ take (k + 1) S)
+  put-more B A L c k S staged h a d b =
+      let g : get_or A c [] ≡ get_or L c [] ++ take k S = ap (λ v. get_or v c []) a ∙ get_or-set_same L c (get_or L c [] ++ take k S) [] h in
+      b ∙ ap₂ (λ x y. set A c (x ++ take 1 y)) g d ∙ ap (λ v. set v c (get_or L c [] ++ take k S ++ take 1 (drop k S))) a ∙ set-set L c (get_or L c [] ++ take k S) (get_or L c [] ++ take k S ++ take 1 (drop k S)) ∙
+      ap (λ v. set L c v) (append_assoc (get_or L c []) (take k S) (take 1 (drop k S)) ∙ ap (λ v. get_or L c [] ++ v) (sym (take-plus k 1 S)))
+
+-- the spare of a channel after a put
+pub spare-lowered : (S : List ℕ) (c : ℕ) → 0 < get_or S c 0 → get_or (set S c (get_or S c 0 - 1)) c 0 + 1 ≡ get_or S c 0
+spare-lowered S c h = ⊎_elim (λ l. rw (get_or-set_same S c (get_or S c 0 - 1) 0 l) (omega arith)) (λ l. absurd (omega (arith, h, get_or_past S c 0 l))) (cases_lt c (length S))
+
+pub spare-other : (S : List ℕ) (c d : ℕ) → (d ≡ c → ⊥) → get_or (set S c (get_or S c 0 - 1)) d 0 ≡ get_or S d 0
+spare-other S c d h = get_or-set_other S c d (get_or S c 0 - 1) 0 h
+
+-- no spare falls where a channel is made ready
+pub spare-kept : (S : List ℕ) (c n d : ℕ) → get_or S d 0 ≤ get_or (set S c (max n (get_or S c 0))) d 0
+spare-kept S c n d = ⊎_elim (λ e. ⊎_elim (λ l. raised e l) (λ l. past l) (cases_lt c (length S))) (λ z. other z) (cases_eq d c)
+  where
+    raised : d ≡ c → c < length S → get_or S d 0 ≤ get_or (set S c (max n (get_or S c 0))) d 0
+    raised e l = subst (λ j. get_or S j 0 ≤ get_or (set S c (max n (get_or S c 0))) j 0) (sym e) (subst (λ v. get_or S c 0 ≤ v) (sym (get_or-set_same S c (max n (get_or S c 0)) 0 l)) (omega arith))
+
+    past : length S ≤ c → get_or S d 0 ≤ get_or (set S c (max n (get_or S c 0))) d 0
+    past l = subst (λ v. get_or S d 0 ≤ get_or v d 0) (sym (set_past S c (max n (get_or S c 0)) l)) (omega arith)
+
+    other : (d ≡ c → ⊥) → get_or S d 0 ≤ get_or (set S c (max n (get_or S c 0))) d 0
+    other z = subst (λ v. get_or S d 0 ≤ v) (sym (get_or-set_other S c d (max n (get_or S c 0)) 0 z)) (omega arith)

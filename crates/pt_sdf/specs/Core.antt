@@ -1,5 +1,5 @@
 -- The fields of a core, and the state that contracts see.
-use Rattle.std.specs.Prelude.{◌≡◌, ℕ, suc, ◌+◌, ◌-◌, ◌*◌, ◌<◌, ◌≤◌, List, [], ◌∷◌, length, map, take, get_or, set, Option, Some, None, Vec}
+use Rattle.std.specs.Prelude.{◌≡◌, ℕ, suc, ◌+◌, ◌-◌, ◌*◌, ◌<◌, ◌≤◌, List, [], ◌∷◌, length, map, take, get_or, set, nat_eq, Bool, true, false, Option, Some, None, Vec}
 use Rattle.std.specs.Global.{Global}
 use Rattle.pt_meaning.specs.Tag.{Tag}
 use Rattle.pt_meaning.specs.Streams.{Streams, at}
@@ -46,6 +46,11 @@ state_of p needs order first held lent turns left at tag stage = record {
 
 abbrev pub state_in : Inside → SdfState Token
 state_in c = state_of (plan_of c.plan) c.plan.needs c.plan.order.items c.first.lists c.channels.lists c.lent.items c.turns c.left c.at c.tag c.stage
+
+-- the number of turns that are left, and the place in the order, after one firing more, which may be the last of a turn
+abbrev pub place_behind : (is_last : Bool) → (left at : ℕ) → ℕ × ℕ
+place_behind true left at = (left - 1, 0)
+place_behind false left at = (left, at + 1)
 
 -- where the places of each child begin
 abbrev pub begins : ℕ → List ℕ → List ℕ

@@ -1,5 +1,5 @@
 -- Which channels the outputs of a child feed, and which the own inputs feed. Of n children row i is that of child i, and row n that of the own inputs.
-use Rattle.std.specs.Prelude.{◌≡◌, ℕ, suc, ◌+◌, ◌/◌, ◌<◌, ◌≤◌, List, [], ◌∷◌, ◌++◌, Bool, true, false, length, map, nat_eq, get_or, set, if◌then◌else◌, Vec, Option, Some, None, min}
+use Rattle.std.specs.Prelude.{◌≡◌, ℕ, zero, suc, ◌+◌, ◌/◌, ◌<◌, ◌≤◌, List, [], ◌∷◌, ◌++◌, Bool, true, false, length, map, nat_eq, get_or, set, if◌then◌else◌, Vec, Option, Some, None, min}
 use Rattle.std.specs.Global.{Global}
 use Rattle.pt_meaning.specs.Streams.{Streams, at}
 use Rattle.pt_meaning.specs.Net.{Source, Own, Output}
@@ -61,10 +61,14 @@ pub record AreFeeds (n : ℕ) (ss : List Source) (rows : List (Vec Feed Global))
   pub targets : AreTargets n ss rows
   pub moves : (r : ℕ) → r < n + 1 → MovesOnce (get_or (rows_in rows) r [])
 
--- the copies for the targets to which nothing is moved, from the last to the first
-abbrev pub copies_for : {T : Type 0} → List Feed → Streams T → List T
-copies_for [] out = []
-copies_for (f ∷ fs) out = copies_for fs out ++ (if f.moves then [] else at out f.port)
+-- what a target that gets a copy gets
+abbrev pub copy_for : {T : Type 0} → Feed → Streams T → List T
+copy_for f out = if f.moves then [] else at out f.port
+
+-- the copies for the first k targets, from the last of them to the first
+abbrev pub copies_for : {T : Type 0} → ℕ → List Feed → Streams T → List T
+copies_for zero fs out = []
+copies_for (suc k) fs out = copy_for (get_or fs k no_feed) out ++ copies_for k fs out
 
 -- each channel and each port is there
 pub record AreThere (channel_count port_count : ℕ) (fs : List Feed) : Type 0 where

@@ -6,7 +6,9 @@ use crate::outlets::hand_out;
 use crate::plan::CorePlan;
 use crate::rooms::{fill_rooms, rooms_for};
 use crate::scatter::{copies_of, scatter};
-use crate::tables::{copies_of_lists, empty_lists, fits_rates, make_ready, offsets_of};
+use crate::tables::{
+    copies_of_lists, empty_lists, fits_rates, make_ready, offsets_of, place_after,
+};
 use crate::turns::iterations;
 use pt_firing::{Ask, Counts, Inputs, Outputs, RunFault, Tokens};
 use pt_recv::{Channels, Queue};
@@ -74,7 +76,7 @@ impl Core {
     ghost use Rattle.pt_meaning.specs.Kahn.{firsts};
     ghost use Rattle.pt_meaning.specs.Tree as tree;
     ghost use Rattle.pt_meaning.specs.NodeFacts.{core_wake};
-    ghost use Rattle.pt_sdf.specs.State.{Idle, Closed, asked_child, lent_in, started, restarted, begun, after_told, closed, owed, own_of};
+    ghost use Rattle.pt_sdf.specs.State.{Idle, Open, Closed, asked_child, lent_in, started, restarted, begun, after_told, closed, owed, own_of};
     ghost use Rattle.pt_sdf.specs.Clauses.{MayAsk, IsAsked};
     ghost use Rattle.pt_sdf.specs.Plan.{plan_of};
     ghost use Rattle.pt_sdf.specs.Lawful.{IsLawful};
@@ -126,16 +128,32 @@ impl Core {
         requires { MayAsk self.old.stage }
         ensures { IsAsked self.old result self.new }
     {
-        if let Stage::Wrong(child) = self.stage {
-            return Ask::Faulted(RunFault::Rate, Some(child));
+        match self.stage {
+            Stage::Wrong(child) => Ask::Faulted(RunFault::Rate, Some(child)),
+            Stage::Open => self.ask_next(),
+            Stage::Idle | Stage::Asked(_) | Stage::Closed => unreachable!(),
         }
+    }
+
+    fn ask_next(&mut self) -> Ask
+        requires { self.old.stage ≡ Open }
+        ensures { IsAsked self.old result self.new }
+    {
         if self.left == 0 {
             self.stage = Stage::Closed;
             return Ask::Finished;
         }
         let child = self.plan.order[self.at];
-        let (from, n) = (self.offsets[child as usize], self.plan.places.as_slice()[child as usize]);
-        gather(&mut self.channels, &mut self.rooms, &mut self.lent, self.plan.needs.as_slice(), from, n);
+        let from = self.offsets[child as usize];
+        let n = self.plan.places.as_slice()[child as usize];
+        gather(
+            &mut self.channels,
+            &mut self.rooms,
+            &mut self.lent,
+            self.plan.needs.as_slice(),
+            from,
+            n,
+        );
         self.stage = Stage::Asked(child);
         Ask::Fire(child, self.tag)
     }
@@ -147,7 +165,7 @@ impl Core {
     {
         match self.stage {
             Stage::Asked(child) => Inputs::of(&self.lent[..self.plan.places.as_slice()[child as usize]]),
-            _ => Inputs::of(&[]),
+            Stage::Idle | Stage::Open | Stage::Wrong(_) | Stage::Closed => Inputs::of(&[]),
         }
     }
 
@@ -162,14 +180,17 @@ impl Core {
             self.stage = Stage::Wrong(child);
             return Ok(());
         }
-        let (from, n) = (self.offsets[i], self.plan.places.as_slice()[i]);
+        let from = self.offsets[i];
+        let n = self.plan.places.as_slice()[i];
         fill_rooms(alloc, &mut self.rooms, self.plan.needs.as_slice(), from, n)?;
-        scatter(alloc, &mut self.channels, &mut self.staged, &self.feeds[i], outputs)?;
-        self.at += 1;
-        if self.at == self.plan.order.len() {
-            self.at = 0;
-            self.left -= 1;
-        }
+        scatter(
+            alloc,
+            &mut self.channels,
+            &mut self.staged,
+            &self.feeds[i],
+            outputs,
+        )?;
+        (self.left, self.at) = place_after(self.plan.order.len(), self.left, self.at);
         self.stage = Stage::Open;
         Ok(())
     }

@@ -1,6 +1,6 @@
-ghost use Rattle.std.specs.Prelude.{◌≡◌, ℕ, ◌^◌, ◌<◌, ◌≤◌, length, get_or, IfOk, [], Bool};
+ghost use Rattle.std.specs.Prelude.{◌≡◌, ℕ, ◌^◌, ◌<◌, ◌≤◌, length, get_or, IfOk, nat_eq, ◌+◌};
 ghost use Rattle.pt_meaning.specs.Rounds.{has_rates};
-ghost use Rattle.pt_sdf.specs.Core.{begins};
+ghost use Rattle.pt_sdf.specs.Core.{begins, place_behind};
 
 use pt_firing::{Outputs, Tokens};
 use pt_recv::Channels;
@@ -71,4 +71,17 @@ pub(crate) fn fits_rates(rates: &[usize], outputs: &Outputs) -> bool
         }
     }
     true
+}
+
+/// The place in an order of so many firings, with the number of turns that are left, after one firing more.
+pub(crate) fn place_after(order: usize, left: usize, at: usize) -> (usize, usize)
+    requires within { at < order }
+    requires some { 0 < left }
+    ensures { result ≡ place_behind (nat_eq (at + 1) order) left at }
+{
+    if at + 1 == order {
+        (left - 1, 0)
+    } else {
+        (left, at + 1)
+    }
 }
