@@ -2,6 +2,9 @@ pub mod ChainLaws
 pub mod FeedLaws
 pub mod LevelLaws
 pub mod Lists
+pub mod MarkLaws
 pub mod NeedLaws
 pub mod OrderLaws
+pub mod OutletLaws
 pub mod SoundLaws
+pub mod TableLaws
