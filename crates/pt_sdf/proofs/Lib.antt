@@ -1,4 +1,6 @@
+pub mod CallLaws
 pub mod ChainLaws
+pub mod CoreLaws
 pub mod FeedLaws
 pub mod LevelLaws
 pub mod Lists

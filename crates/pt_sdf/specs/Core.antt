@@ -47,6 +47,11 @@ state_of p needs order first held lent turns left at tag stage = record {
 abbrev pub state_in : Inside → SdfState Token
 state_in c = state_of (plan_of c.plan) c.plan.needs c.plan.order.items c.first.lists c.channels.lists c.lent.items c.turns c.left c.at c.tag c.stage
 
+-- how many turns of an order are to be made: one without firings is over at once
+abbrev pub left_at_first : (order : List ℕ) → (turns : ℕ) → ℕ
+left_at_first [] turns = 0
+left_at_first (child ∷ order) turns = turns
+
 -- the number of turns that are left, and the place in the order, after one firing more, which may be the last of a turn
 abbrev pub place_behind : (is_last : Bool) → (left at : ℕ) → ℕ × ℕ
 place_behind true left at = (left - 1, 0)

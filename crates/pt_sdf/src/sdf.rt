@@ -7,7 +7,7 @@ use crate::plan::CorePlan;
 use crate::rooms::{fill_rooms, rooms_for};
 use crate::scatter::{copies_of, scatter};
 use crate::tables::{
-    copies_of_lists, empty_lists, fits_rates, make_ready, offsets_of, place_after,
+    copies_of_lists, empty_lists, fits_rates, make_ready, offsets_of, place_after, turns_of,
 };
 use crate::turns::iterations;
 use pt_firing::{Ask, Counts, Inputs, Outputs, RunFault, Tokens};
@@ -112,11 +112,17 @@ impl Core {
         ensures begun { OnOk result (self.new ≡ begun tag inputs.now self.old) }
         ensures kept { OnErr result (self.new ≡ self.old) }
     {
-        let arrivals = &self.feeds[self.plan.places.len()];
         let arrived = copies_of(alloc, inputs)?;
-        scatter(alloc, &mut self.channels, &mut self.staged, arrivals, arrived)?;
+        let arrivals = &self.feeds[self.plan.places.len()];
+        scatter(
+            alloc,
+            &mut self.channels,
+            &mut self.staged,
+            arrivals,
+            arrived,
+        )?;
         self.turns = iterations(&self.channels, arrivals, self.plan.takes.as_slice());
-        self.left = if self.plan.order.is_empty() { 0 } else { self.turns };
+        self.left = turns_of(&self.plan.order, self.turns);
         self.at = 0;
         self.tag = tag;
         self.stage = Stage::Open;

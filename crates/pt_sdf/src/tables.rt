@@ -1,6 +1,6 @@
 ghost use Rattle.std.specs.Prelude.{◌≡◌, ℕ, ◌^◌, ◌<◌, ◌≤◌, length, get_or, IfOk, nat_eq, ◌+◌};
 ghost use Rattle.pt_meaning.specs.Rounds.{has_rates};
-ghost use Rattle.pt_sdf.specs.Core.{begins, place_behind};
+ghost use Rattle.pt_sdf.specs.Core.{begins, left_at_first, place_behind};
 
 use pt_firing::{Outputs, Tokens};
 use pt_recv::Channels;
@@ -84,4 +84,11 @@ pub(crate) fn place_after(order: usize, left: usize, at: usize) -> (usize, usize
     } else {
         (left, at + 1)
     }
+}
+
+/// How many turns of an order are to be made.
+pub(crate) fn turns_of(order: &[u32], turns: usize) -> usize
+    ensures { result ≡ left_at_first order.now turns }
+{
+    if order.is_empty() { 0 } else { turns }
 }
