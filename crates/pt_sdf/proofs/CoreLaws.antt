@@ -131,3 +131,87 @@ module _ (i : Inside) (s : IsSound i) (row : Vec Feed Global) (e : row ≡ get_o
       pub begun-state : (tag : Tag) → state_of (plan_of i.plan) i.plan.needs i.plan.order.items i.first.lists held' i.lent.items turns left 0 tag code.Open ≡ begun tag inputs (state_in i)
       begun-state tag =
           begin-state (plan_of i.plan) i.plan.needs i.plan.order.items i.plan.room i.offsets.items i.feeds.items i.first.lists i.channels.lists i.rooms.items i.lent.items i.staged.list i.turns i.left i.at i.stage s g inputs held' turns left arrives turns-are l i.tag tag
+
+-- the own outputs are handed out
+module _ (i : Inside) (s : IsSound i) (g : i.stage ≡ code.Closed) (sources from : ℕ) (n : sources ≡ length i.plan.sources.items) (f : from ≡ sources - length i.plan.gives) (held' : Streams Token) (d : held' ≡ take from i.channels.lists ++ behind (map (λ n. i.turns * n) i.plan.gives) (drop from i.channels.lists)) where
+  pub finish-from : from ≡ total i.plan.places
+  finish-from = omega (arith, f, n, s.lawful.channels, length-map i.plan.sources.items source_of)
+
+  pub finished-sound : Sound (plan_of i.plan) i.plan.needs i.plan.order.items i.plan.room i.offsets.items i.feeds.items i.first.lists held' i.rooms.items i.lent.items i.staged.list i.turns i.left i.at code.Idle
+  finished-sound =
+      finish-sound (plan_of i.plan) i.plan.needs i.plan.order.items i.plan.room i.offsets.items i.feeds.items i.first.lists i.channels.lists i.rooms.items i.lent.items i.staged.list i.turns i.left i.at i.stage s g from finish-from held' d
+
+  pub finished-state : state_of (plan_of i.plan) i.plan.needs i.plan.order.items i.first.lists held' i.lent.items i.turns i.left i.at i.tag code.Idle ≡ closed (state_in i)
+  finished-state =
+      finish-state (plan_of i.plan) i.plan.needs i.plan.order.items i.plan.room i.offsets.items i.feeds.items i.first.lists i.channels.lists i.rooms.items i.lent.items i.staged.list i.turns i.left i.at i.stage s g from finish-from held' d i.tag
+
+-- a child was told
+module _ (i : Inside) (s : IsSound i) (child : ℕ) (g : i.stage ≡ code.Asked child) where
+  told : SoundAt i (code.Asked child)
+  told = subst (λ v. SoundAt i v) g s
+
+  pub told-child : child < length i.plan.places
+  told-child = told-there (plan_of i.plan) i.plan.needs i.plan.order.items i.plan.room i.offsets.items i.feeds.items i.first.lists i.channels.lists i.rooms.items i.lent.items i.staged.list i.turns i.left i.at child told
+
+  pub told-left : 0 < i.left
+  told-left = told.position.fits.0
+
+  pub told-within : i.at < length i.plan.order.items
+  told-within = told.position.within told.position.fits.0
+
+  pub told-wrong : SoundAt i (code.Wrong child)
+  told-wrong = wrong-sound (plan_of i.plan) i.plan.needs i.plan.order.items i.plan.room i.offsets.items i.feeds.items i.first.lists i.channels.lists i.rooms.items i.lent.items i.staged.list i.turns i.left i.at child told
+
+  pub wrongly-told : (out : Streams Token) → has_rates (get_or i.plan.rates.items child []) out ≡ false → state_of (plan_of i.plan) i.plan.needs i.plan.order.items i.first.lists i.channels.lists i.lent.items i.turns i.left i.at i.tag (code.Wrong child) ≡ after_told child out (state_in i)
+  wrongly-told out r = wrong-state (plan_of i.plan) i.plan.needs i.plan.order.items i.first.lists i.channels.lists i.lent.items i.turns i.left i.at child i.tag i.stage out r
+
+  pub told-keeps : (held' : Streams Token) (rooms' : List (Option (Vec Token Global))) (staged' : List Token) → held' ≡ i.channels.lists → staged' ≡ [] → length rooms' ≡ length i.rooms.items → ((c : ℕ) → HasRoom (get_or i.plan.needs c 0) (get_or i.rooms.items c None) → HasRoom (get_or i.plan.needs c 0) (get_or rooms' c None)) →
+      Sound (plan_of i.plan) i.plan.needs i.plan.order.items i.plan.room i.offsets.items i.feeds.items i.first.lists held' rooms' i.lent.items staged' i.turns i.left i.at i.stage
+  told-keeps held' rooms' staged' d m n k =
+      subst (λ v. Sound (plan_of i.plan) i.plan.needs i.plan.order.items i.plan.room i.offsets.items i.feeds.items i.first.lists held' rooms' i.lent.items staged' i.turns i.left i.at v) (sym g)
+      (told-kept (plan_of i.plan) i.plan.needs i.plan.order.items i.plan.room i.offsets.items i.feeds.items i.first.lists i.channels.lists i.rooms.items i.lent.items i.staged.list i.turns i.left i.at child told rooms' staged' held' d m n k)
+
+  module _ (o n : ℕ) (f : o ≡ get_or i.offsets.items child o) (m : n ≡ get_or i.plan.places child 0) where
+    told-place : o ≡ place_of i.plan.places child
+    told-place = offset-is (plan_of i.plan) i.plan.needs i.plan.order.items i.plan.room i.offsets.items i.feeds.items i.first.lists i.channels.lists i.rooms.items i.lent.items i.staged.list i.turns i.left i.at i.stage s child o told-child f
+
+    pub told-fits : (o + n ≤ length i.plan.needs) × (o + n ≤ length i.rooms.items)
+    told-fits =
+        let t = total-fits (plan_of i.plan) i.plan.needs i.plan.order.items i.plan.room i.offsets.items i.feeds.items i.first.lists i.channels.lists i.rooms.items i.lent.items i.staged.list i.turns i.left i.at i.stage s child told-child in
+        (omega (arith, t.1, told-place, m), omega (arith, t.2, told-place, m))
+
+    pub told-rooms : (rooms' : List (Option (Vec Token Global))) → HaveRooms i.plan.needs rooms' o n → HaveRooms i.plan.needs rooms' (place_of i.plan.places child) (get_or i.plan.places child 0)
+    told-rooms rooms' h = subst (λ v. HaveRooms i.plan.needs rooms' v (get_or i.plan.places child 0)) told-place (subst (λ v. HaveRooms i.plan.needs rooms' o v) m h)
+
+  module _ (out : Streams Token) (r : has_rates (get_or i.plan.rates.items child []) out ≡ true) (row : Vec Feed Global) (e : row ≡ get_or i.feeds.items child row) where
+    child-fits : child < length i.plan.places + 1
+    child-fits = let h = told-child in omega (arith, h)
+
+    pub told-into : AreThere (length i.channels.lists) (length out) row.items
+    told-into =
+        row-there (plan_of i.plan) i.plan.needs i.plan.order.items i.plan.room i.offsets.items i.feeds.items i.first.lists i.channels.lists i.rooms.items i.lent.items i.staged.list i.turns i.left i.at i.stage s child row child-fits e (length out)
+        (child-ports (plan_of i.plan) i.plan.needs i.plan.order.items i.plan.room i.offsets.items i.feeds.items i.first.lists i.channels.lists i.rooms.items i.lent.items i.staged.list i.turns i.left i.at i.stage s child out told-child r)
+
+    pub told-apart : AreApart row.items
+    told-apart = row-apart (plan_of i.plan) i.plan.needs i.plan.order.items i.plan.room i.offsets.items i.feeds.items i.first.lists i.channels.lists i.rooms.items i.lent.items i.staged.list i.turns i.left i.at i.stage s child row child-fits e
+
+    pub told-moves : MovesOnce row.items
+    told-moves = row-moves (plan_of i.plan) i.plan.needs i.plan.order.items i.plan.room i.offsets.items i.feeds.items i.first.lists i.channels.lists i.rooms.items i.lent.items i.staged.list i.turns i.left i.at i.stage s child row child-fits e
+
+    module _ (held' : Streams Token) (d : held' ≡ put_back (map target_of row.items) out i.channels.lists) (next : ℕ × ℕ) (t : next ≡ place_behind (nat_eq (i.at + 1) (length i.plan.order.items)) i.left i.at) where
+      puts-are : held' ≡ plus i.channels.lists (puts child out (map source_of i.plan.sources.items))
+      puts-are = child-puts (plan_of i.plan) i.plan.needs i.plan.order.items i.plan.room i.offsets.items i.feeds.items i.first.lists i.channels.lists i.rooms.items i.lent.items i.staged.list i.turns i.left i.at i.stage s child row out held' told-child e d
+
+      pub told-goes-on : (rooms' : List (Option (Vec Token Global))) (staged' : List Token) → staged' ≡ [] → length rooms' ≡ length i.rooms.items → ((c : ℕ) → HasRoom (get_or i.plan.needs c 0) (get_or i.rooms.items c None) → HasRoom (get_or i.plan.needs c 0) (get_or rooms' c None)) → HaveRooms i.plan.needs rooms' (place_of i.plan.places child) (get_or i.plan.places child 0) →
+          Sound (plan_of i.plan) i.plan.needs i.plan.order.items i.plan.room i.offsets.items i.feeds.items i.first.lists held' rooms' i.lent.items staged' i.turns next.0 next.1 code.Open
+      told-goes-on rooms' staged' m n k h =
+          told-sound (plan_of i.plan) i.plan.needs i.plan.order.items i.plan.room i.offsets.items i.feeds.items i.first.lists i.channels.lists i.rooms.items i.lent.items i.staged.list i.turns i.left i.at child told out held' rooms' staged' next r puts-are m n k h t
+
+      pub told-is : state_of (plan_of i.plan) i.plan.needs i.plan.order.items i.first.lists held' i.lent.items i.turns next.0 next.1 i.tag code.Open ≡ after_told child out (state_in i)
+      told-is =
+          told-state (plan_of i.plan) i.plan.needs i.plan.order.items i.first.lists i.channels.lists held' i.lent.items i.turns i.left i.at child next i.tag i.stage out r puts-are
+          (told-firings (plan_of i.plan) i.plan.needs i.plan.order.items i.plan.room i.offsets.items i.feeds.items i.first.lists i.channels.lists i.rooms.items i.lent.items i.staged.list i.turns i.left i.at child told next t)
+
+-- the rates that are read are those of the child
+pub rates-read : (i : Inside) (s : IsSound i) (child : ℕ) (rs : List ℕ) → child < length i.plan.places → rs ≡ get_or i.plan.rates.items child rs → rs ≡ get_or i.plan.rates.items child []
+rates-read i s child rs h e = read-at i.plan.rates.items child rs [] (omega (arith, h, s.lawful.rates)) e
