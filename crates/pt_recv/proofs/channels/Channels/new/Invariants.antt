@@ -1,0 +1,5 @@
+use Rattle.std.proofs.Common.{◌≡◌, [], replicate}
+use Rattle.pt_recv.proofs.channels.Channels.new.Given as goal
+
+abbrev pub invariant-loop : goal.invariant-loop
+invariant-loop l = (l.pool.lists ≡ replicate l.counter []) × (l.pool.spares ≡ replicate l.counter 0)

@@ -1,0 +1,42 @@
+use super::*;
+use pt_value::Token;
+use std::test::Fail;
+
+#[test]
+fn a_copy_of_a_queue_gives_its_tokens_in_order(rt: HostRuntime) -> Result<(), Fail> {
+    let mut queue = Queue::new(rt.alloc());
+    queue.reserve(2)?;
+    for number in [4, 7] {
+        assert!(rt; queue.put(Token::Int(number)).is_ok());
+    }
+    let mut copy = queue.copy(rt.alloc())?;
+    assert_eq!(rt; copy.len(), 2);
+    assert!(rt;
+        copy.take()
+            .map_or(false, |token| token.same(&Token::Int(4)))
+    );
+    assert!(rt;
+        copy.take()
+            .map_or(false, |token| token.same(&Token::Int(7)))
+    );
+    assert!(rt; copy.take().is_none());
+    Ok(())
+}
+
+#[test]
+fn two_channels_keep_their_tokens_apart(rt: HostRuntime) -> Result<(), Fail> {
+    let mut channels = Channels::new(rt.alloc(), 2)?;
+    channels.ready(0, 1)?;
+    channels.ready(1, 1)?;
+    channels.put(0, Token::Int(4));
+    channels.put(1, Token::Bool(true));
+    let mut copy = channels.copy(rt.alloc())?;
+    assert_eq!(rt; copy.spare(1), 0);
+    assert!(rt;
+        copy.take(1)
+            .map_or(false, |token| token.same(&Token::Bool(true)))
+    );
+    assert_eq!(rt; copy.spare(1), 1);
+    assert_eq!(rt; copy.len(0), 1);
+    Ok(())
+}

@@ -1,0 +1,12 @@
+pub mod CallLaws
+pub mod ChainLaws
+pub mod CoreLaws
+pub mod FeedLaws
+pub mod LevelLaws
+pub mod Lists
+pub mod MarkLaws
+pub mod NeedLaws
+pub mod OrderLaws
+pub mod OutletLaws
+pub mod SoundLaws
+pub mod TableLaws

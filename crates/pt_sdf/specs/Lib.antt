@@ -1,0 +1,10 @@
+pub mod ByNeed
+pub mod State
+pub mod StateCode
+pub mod Clauses
+pub mod Plan
+pub mod Lawful
+pub mod Feeds
+pub mod Rooms
+pub mod Core
+pub mod Chain

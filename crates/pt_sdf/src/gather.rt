@@ -1,0 +1,89 @@
+ghost use Rattle.std.specs.Prelude.{◌≡◌, ℕ, ◌+◌, ◌^◌, ◌<◌, ◌≤◌, ◌⊎◌, ◌++◌, length, take, drop, get_or, slice_set, None, vec_len, vec_capacity};
+ghost use Rattle.pt_recv.specs.Lines.{list_at, popped};
+ghost use Rattle.pt_meaning.specs.Kahn.{firsts};
+ghost use Rattle.pt_sdf.specs.ByNeed.{skip_at};
+ghost use Rattle.pt_sdf.specs.Rooms.{HasRoom, HaveRooms};
+
+use pt_firing::Tokens;
+use pt_recv::Channels;
+use pt_value::Token;
+
+/// Takes the first `n` tokens of a channel into room that was made. It takes no memory.
+pub(crate) fn take_first(
+    channels: &mut Channels,
+    c: u32,
+    n: usize,
+    room: Option<Vec<Token>>,
+) -> Tokens
+    requires given { c < length channels.old.lists }
+    requires enough { n ≤ length (list_at channels.old.lists c) }
+    requires room { HasRoom n room }
+    ensures taken { result ≡ take n (list_at channels.old.lists c) }
+    ensures lists { channels.new.lists ≡ slice_set channels.old.lists c (drop n (list_at channels.old.lists c)) }
+{
+    let Some(mut tokens) = room else {
+        return take_one(channels, c, n);
+    };
+    for _ in 0..n {
+        move_first(channels, c, &mut tokens);
+    }
+    Tokens::of(tokens)
+}
+
+/// Moves the first token of a channel behind those that are taken, where there is room.
+fn move_first(channels: &mut Channels, c: u32, tokens: &mut Vec<Token>)
+    requires given { c < length channels.old.lists }
+    requires room { vec_len tokens.old < vec_capacity tokens.old }
+    ensures taken { tokens.new.items ≡ tokens.old.items ++ take 1 (list_at channels.old.lists c) }
+    ensures lists { channels.new.lists ≡ popped channels.old.lists c }
+    ensures capacity { vec_capacity tokens.new ≡ vec_capacity tokens.old }
+{
+    if let Some(token) = channels.take(c) {
+        tokens.push_reserved(token);
+    }
+}
+
+/// Takes the first token of a channel, or none.
+fn take_one(channels: &mut Channels, c: u32, n: usize) -> Tokens
+    requires given { c < length channels.old.lists }
+    requires few { n ≤ 1 }
+    ensures taken { result ≡ take n (list_at channels.old.lists c) }
+    ensures lists { channels.new.lists ≡ slice_set channels.old.lists c (drop n (list_at channels.old.lists c)) }
+{
+    if n == 0 {
+        return Tokens::new();
+    }
+    match channels.take(c) {
+        Some(token) => Tokens::one(token),
+        None => Tokens::new(),
+    }
+}
+
+/// Takes what `n` places from this one on need, and lends it: the lists of these places are then the first ones.
+pub(crate) fn gather(
+    channels: &mut Channels,
+    rooms: &mut Vec<Option<Vec<Token>>>,
+    lent: &mut Vec<Tokens>,
+    needs: &[usize],
+    from: usize,
+    n: usize,
+)
+    requires few { length channels.old.lists < 2 ^ 32 }
+    requires places { from + n ≤ length channels.old.lists }
+    requires needed { from + n ≤ length needs.now }
+    requires roomy { from + n ≤ length rooms.old.items }
+    requires lists { n ≤ length lent.old.items }
+    requires enough { (k : ℕ) → k < n → get_or needs.now (from + k) 0 ≤ length (list_at channels.old.lists (from + k)) }
+    requires room { HaveRooms needs.now rooms.old.items from n }
+    ensures lent { take n lent.new.items ≡ firsts (take n (drop from needs.now)) (take n (drop from channels.old.lists)) }
+    ensures left { channels.new.lists ≡ skip_at from (take n (drop from needs.now)) channels.old.lists }
+    ensures others { (c : ℕ) → (c < from) ⊎ (from + n ≤ c) → get_or rooms.new.items c None ≡ get_or rooms.old.items c None }
+    ensures rooms { length rooms.new.items ≡ length rooms.old.items }
+    ensures counted { length lent.new.items ≡ length lent.old.items }
+{
+    for k in 0..n {
+        let c = from + k;
+        let room = rooms[c].take();
+        lent[k] = take_first(channels, c as u32, needs[c], room);
+    }
+}

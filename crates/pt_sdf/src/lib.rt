@@ -1,0 +1,17 @@
+//! The SDF director: it says which child fires next, lends it its inputs and takes what it gave.
+#![tactic(auto)]
+
+mod chain;
+mod feeds;
+mod gather;
+mod outlets;
+mod plan;
+mod rooms;
+mod scatter;
+mod sdf;
+mod tables;
+mod turns;
+
+pub use chain::calls_are_sdf;
+pub use plan::{CorePlan, Source};
+pub use sdf::Core;

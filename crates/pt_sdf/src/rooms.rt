@@ -1,0 +1,51 @@
+ghost use Rattle.std.specs.Prelude.{◌≡◌, ℕ, ◌+◌, ◌<◌, ◌≤◌, length, get_or, IfOk, OnOk, None};
+ghost use Rattle.pt_sdf.specs.Rooms.{HasRoom, HaveRooms};
+
+use pt_value::Token;
+use std::alloc::{AllocError, Global};
+
+/// Room for so many tokens. One or none needs no room.
+pub(crate) fn room_for(alloc: Global, n: usize) -> Result<Option<Vec<Token>>, AllocError>
+    ensures { IfOk result (λ room. HasRoom n room) }
+{
+    if n < 2 {
+        return Ok(None);
+    }
+    Ok(Some(Vec::with_capacity(alloc, n)?))
+}
+
+/// Room for each of these numbers of tokens.
+pub(crate) fn rooms_for(
+    alloc: Global,
+    needs: &[usize],
+) -> Result<Vec<Option<Vec<Token>>>, AllocError>
+    ensures counted { IfOk result (λ rooms. length rooms.items ≡ length needs.now) }
+    ensures made { IfOk result (λ rooms. HaveRooms needs.now rooms.items 0 (length needs.now)) }
+{
+    let mut rooms = Vec::with_capacity(alloc, needs.len())?;
+    for n in needs {
+        let room = room_for(alloc, *n)?;
+        rooms.push_reserved(room);
+    }
+    Ok(rooms)
+}
+
+/// Makes room again at `n` places from this one on. After an `Err` no place has less room than before.
+pub(crate) fn fill_rooms(
+    alloc: Global,
+    rooms: &mut Vec<Option<Vec<Token>>>,
+    needs: &[usize],
+    from: usize,
+    n: usize,
+) -> Result<(), AllocError>
+    requires places { from + n ≤ length rooms.old.items }
+    requires needed { from + n ≤ length needs.now }
+    ensures counted { length rooms.new.items ≡ length rooms.old.items }
+    ensures kept { (c : ℕ) → HasRoom (get_or needs.now c 0) (get_or rooms.old.items c None) → HasRoom (get_or needs.now c 0) (get_or rooms.new.items c None) }
+    ensures made { OnOk result (HaveRooms needs.now rooms.new.items from n) }
+{
+    for k in 0..n {
+        rooms[from + k] = room_for(alloc, needs[from + k])?;
+    }
+    Ok(())
+}

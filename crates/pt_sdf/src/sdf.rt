@@ -1,0 +1,282 @@
+ghost use Rattle.std.specs.Prelude.{◌≡◌, ◌↔◌, ◌<◌, length, IfOk, IsTrue, OnOk, OnErr, Option, Some, List};
+
+use crate::feeds::{Feed, feeds_of};
+use crate::gather::gather;
+use crate::outlets::hand_out;
+use crate::plan::CorePlan;
+use crate::rooms::{fill_rooms, rooms_for};
+use crate::scatter::{copies_of, scatter};
+use crate::tables::{
+    copies_of_lists, empty_lists, fits_rates, make_ready, offsets_of, place_after, turns_of,
+};
+use crate::turns::iterations;
+use pt_firing::{Ask, Counts, Inputs, Outputs, RunFault, Tokens};
+use pt_recv::{Channels, Queue};
+use pt_time::Tag;
+use pt_value::Token;
+use std::alloc::{AllocError, Global};
+use std::marker::Model;
+
+/// The tag of a core that hasn't begun.
+const ORIGIN: Tag = Tag { time: 0, step: 0 };
+
+/// Where a firing of the composite stands.
+#[derive(Clone, Copy, Debug)]
+pub(crate) enum Stage {
+    Idle,
+    Open,
+    Asked(u32),
+    Wrong(u32),
+    Closed,
+}
+
+/// The core of an SDF composite. It never calls a child: it asks for firings and is told what they gave.
+///
+/// A firing of the composite is `begin`, then `ask` and `told` in turn, and at `Finished` the call `finish`.
+#[derive(Drop)]
+pub struct Core {
+    plan: CorePlan,
+    // Where the places of each child begin.
+    offsets: Vec<usize>,
+    // The channels that each child feeds, and those that the own inputs feed.
+    feeds: Vec<Vec<Feed>>,
+    first: Channels,
+    channels: Channels,
+    // Room for the tokens of each place of each child that needs several.
+    rooms: Vec<Option<Vec<Token>>>,
+    lent: Vec<Tokens>,
+    staged: Queue,
+    tag: Tag,
+    turns: usize,
+    // The iterations that aren't finished, and how many firings of the first of these were asked for and told.
+    left: usize,
+    at: usize,
+    stage: Stage,
+}
+
+impl Model for Core {
+    ghost use Rattle.pt_value.specs.Token.{coded_token};
+    ghost use Rattle.pt_sdf.specs.Clauses.{State};
+    ghost use Rattle.pt_sdf.specs.StateCode.{coded_state};
+
+    ghost Value = { State };
+
+    ghost coded = { coded_state coded_token };
+
+    ghost use Rattle.pt_sdf.specs.Core.{state_in, IsSound};
+
+    ghost view = { state_in };
+
+    ghost invariant = { IsSound };
+}
+
+impl Core {
+    ghost use Rattle.std.specs.Prelude.{◌≡◌, ◌↔◌, ◌<◌, length, List, IfOk, IsSome, IsTrue, OnOk, OnErr, Option, Some, None};
+    ghost use Rattle.pt_meaning.specs.Basics as basics;
+    ghost use Rattle.pt_meaning.specs.Kahn.{firsts};
+    ghost use Rattle.pt_meaning.specs.Tree as tree;
+    ghost use Rattle.pt_meaning.specs.NodeFacts.{core_wake};
+    ghost use Rattle.pt_sdf.specs.State.{Idle, Open, Closed, asked_child, lent_in, started, restarted, begun, after_told, closed, owed, own_of};
+    ghost use Rattle.pt_sdf.specs.Clauses.{MayAsk, IsAsked};
+    ghost use Rattle.pt_sdf.specs.Plan.{plan_of};
+    ghost use Rattle.pt_sdf.specs.Lawful.{IsLawful};
+
+    /// A core of this plan, with these first tokens on its channels.
+    pub fn new(alloc: Global, plan: CorePlan, first: Channels) -> Result<Core, AllocError>
+        requires lawful { IsLawful (plan_of plan) plan.needs plan.order.items plan.room first.lists }
+        ensures { IfOk result (λ core. core ≡ started (plan_of plan) plan.needs first.lists) }
+    {
+        let mut first = first;
+        make_ready(&mut first, plan.room.as_slice())?;
+        Ok(Core {
+            offsets: offsets_of(alloc, plan.places.as_slice())?,
+            feeds: feeds_of(alloc, &plan)?,
+            channels: first.copy(alloc)?,
+            rooms: rooms_for(alloc, plan.needs.as_slice())?,
+            lent: empty_lists(alloc, plan.places.as_slice())?,
+            staged: Queue::new(alloc),
+            tag: ORIGIN,
+            turns: 0,
+            left: 0,
+            at: 0,
+            stage: Stage::Idle,
+            first,
+            plan,
+        })
+    }
+
+    /// Begins a firing of the composite at a tag, on a list for each own input. After an `Err` the core is as before.
+    pub fn begin(&mut self, alloc: Global, tag: Tag, inputs: &Inputs<'_>) -> Result<(), AllocError>
+        requires idle { self.old.stage ≡ Idle }
+        requires inputs { length inputs.now ≡ length self.old.plan.takes }
+        ensures begun { OnOk result (self.new ≡ begun tag inputs.now self.old) }
+        ensures kept { OnErr result (self.new ≡ self.old) }
+    {
+        let arrived = copies_of(alloc, inputs)?;
+        let arrivals = &self.feeds[self.plan.places.len()];
+        scatter(
+            alloc,
+            &mut self.channels,
+            &mut self.staged,
+            arrivals,
+            arrived,
+        )?;
+        self.turns = iterations(&self.channels, arrivals, self.plan.takes.as_slice());
+        self.left = turns_of(&self.plan.order, self.turns);
+        self.at = 0;
+        self.tag = tag;
+        self.stage = Stage::Open;
+        Ok(())
+    }
+
+    /// What comes next. It takes no memory, and moves the inputs of a child that it asks for out of their channels.
+    pub fn ask(&mut self) -> Ask
+        requires { MayAsk self.old.stage }
+        ensures { IsAsked self.old result self.new }
+    {
+        match self.stage {
+            Stage::Wrong(child) => Ask::Faulted(RunFault::Rate, Some(child)),
+            Stage::Open => self.ask_next(),
+            Stage::Idle | Stage::Asked(_) | Stage::Closed => unreachable!(),
+        }
+    }
+
+    fn ask_next(&mut self) -> Ask
+        requires { self.old.stage ≡ Open }
+        ensures { IsAsked self.old result self.new }
+    {
+        if self.left == 0 {
+            self.stage = Stage::Closed;
+            return Ask::Finished;
+        }
+        let child = self.plan.order[self.at];
+        let from = self.offsets[child as usize];
+        let n = self.plan.places.as_slice()[child as usize];
+        gather(
+            &mut self.channels,
+            &mut self.rooms,
+            &mut self.lent,
+            self.plan.needs.as_slice(),
+            from,
+            n,
+        );
+        self.stage = Stage::Asked(child);
+        Ask::Fire(child, self.tag)
+    }
+
+    /// The inputs of the child just asked for. It takes no memory.
+    pub fn lent(&self) -> Inputs<'_>
+        requires { IsSome (asked_child self.now.stage) }
+        ensures { result ≡ lent_in self.now.stage }
+    {
+        match self.stage {
+            Stage::Asked(child) => Inputs::of(&self.lent[..self.plan.places.as_slice()[child as usize]]),
+            Stage::Idle | Stage::Open | Stage::Wrong(_) | Stage::Closed => Inputs::of(&[]),
+        }
+    }
+
+    /// Takes what the firing of the child gave: a list for each of its ports. After an `Err` the core is as before.
+    pub fn told(&mut self, alloc: Global, child: u32, outputs: Outputs) -> Result<(), AllocError>
+        requires asked { asked_child self.old.stage ≡ Some child }
+        ensures told { OnOk result (self.new ≡ after_told child outputs self.old) }
+        ensures kept { OnErr result (self.new ≡ self.old) }
+    {
+        let i = child as usize;
+        if !fits_rates(self.plan.rates[i].as_slice(), &outputs) {
+            self.stage = Stage::Wrong(child);
+            return Ok(());
+        }
+        let from = self.offsets[i];
+        let n = self.plan.places.as_slice()[i];
+        fill_rooms(alloc, &mut self.rooms, self.plan.needs.as_slice(), from, n)?;
+        scatter(
+            alloc,
+            &mut self.channels,
+            &mut self.staged,
+            &self.feeds[i],
+            outputs,
+        )?;
+        (self.left, self.at) = place_after(self.plan.order.len(), self.left, self.at);
+        self.stage = Stage::Open;
+        Ok(())
+    }
+
+    /// Hands out the own outputs. After an `Err` the core is as before.
+    pub fn finish(&mut self, alloc: Global) -> Result<Outputs, AllocError>
+        requires { self.old.stage ≡ Closed }
+        ensures core { OnOk result (self.new ≡ closed self.old) }
+        ensures given { IfOk result (λ outputs. outputs ≡ firsts (owed self.old) (own_of self.old)) }
+        ensures kept { OnErr result (self.new ≡ self.old) }
+    {
+        let from = self.plan.sources.len() - self.plan.gives.len();
+        let outputs = hand_out(alloc, &mut self.channels, self.plan.gives.as_slice(), self.turns, from)?;
+        self.stage = Stage::Idle;
+        Ok(outputs)
+    }
+
+    /// The wake of the composite, of which there is none.
+    pub fn next(&self) -> Option<Tag>
+        ensures { (wakes : List (Option basics.Tag)) → result ≡ core_wake (tree.Sdf self.now.plan self.now.held) wakes }
+    {
+        None
+    }
+
+    /// Brings back the core's start. After an `Err` the core is as before.
+    pub fn reset(&mut self, alloc: Global) -> Result<(), AllocError>
+        ensures reset { OnOk result (self.new ≡ restarted self.old) }
+        ensures kept { OnErr result (self.new ≡ self.old) }
+    {
+        let rooms = rooms_for(alloc, self.plan.needs.as_slice())?;
+        self.channels = self.first.copy(alloc)?;
+        self.rooms = rooms;
+        self.tag = ORIGIN;
+        self.turns = 0;
+        self.left = 0;
+        self.at = 0;
+        self.stage = Stage::Idle;
+        Ok(())
+    }
+
+    /// Another core in the same state.
+    pub fn copy(&self, alloc: Global) -> Result<Core, AllocError>
+        ensures { IfOk result (λ core. core ≡ self.now) }
+    {
+        let plan = self.plan.copy(alloc)?;
+        Ok(Core {
+            offsets: offsets_of(alloc, plan.places.as_slice())?,
+            feeds: feeds_of(alloc, &plan)?,
+            first: self.first.copy(alloc)?,
+            channels: self.channels.copy(alloc)?,
+            rooms: rooms_for(alloc, plan.needs.as_slice())?,
+            lent: copies_of_lists(alloc, &self.lent)?,
+            staged: Queue::new(alloc),
+            tag: self.tag,
+            turns: self.turns,
+            left: self.left,
+            at: self.at,
+            stage: self.stage,
+            plan,
+        })
+    }
+
+    /// Whether no firing of the composite is under way.
+    pub fn is_idle(&self) -> bool
+        ensures { IsTrue result ↔ (self.now.stage ≡ Idle) }
+    {
+        matches!(self.stage, Stage::Idle)
+    }
+
+    /// How many tokens an iteration takes from each own input.
+    pub fn takes(&self) -> &Counts
+        ensures { result.now ≡ self.now.plan.takes }
+    {
+        &self.plan.takes
+    }
+
+    /// How many tokens an iteration gives on each own output.
+    pub fn gives(&self) -> &Counts
+        ensures { result.now ≡ self.now.plan.gives }
+    {
+        &self.plan.gives
+    }
+}

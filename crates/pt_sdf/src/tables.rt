@@ -1,0 +1,94 @@
+ghost use Rattle.std.specs.Prelude.{◌≡◌, ℕ, ◌^◌, ◌<◌, ◌≤◌, length, get_or, IfOk, nat_eq, ◌+◌};
+ghost use Rattle.pt_meaning.specs.Rounds.{has_rates};
+ghost use Rattle.pt_sdf.specs.Core.{begins, left_at_first, place_behind};
+
+use pt_firing::{Outputs, Tokens};
+use pt_recv::Channels;
+use std::alloc::{AllocError, Global};
+
+/// Where the places of each child begin. `places` has so many in all that their number is in range.
+pub(crate) fn offsets_of(alloc: Global, places: &[usize]) -> Result<Vec<usize>, AllocError>
+    ensures { IfOk result (λ offsets. offsets.items ≡ begins 0 places.now) }
+{
+    let mut offsets = Vec::with_capacity(alloc, places.len())?;
+    let mut from = 0usize;
+    for n in places {
+        offsets.push_reserved(from);
+        let Some(next) = from.checked_add(*n) else {
+            return Err(AllocError);
+        };
+        from = next;
+    }
+    Ok(offsets)
+}
+
+/// As many empty lists as the child with most places has.
+pub(crate) fn empty_lists(alloc: Global, places: &[usize]) -> Result<Vec<Tokens>, AllocError>
+    ensures { IfOk result (λ lists. (i : ℕ) → i < length places.now → get_or places.now i 0 ≤ length lists.items) }
+{
+    let most = places.iter().copied().max().unwrap_or(0);
+    let mut lists = Vec::with_capacity(alloc, most)?;
+    for _ in 0..most {
+        lists.push_reserved(Tokens::new());
+    }
+    Ok(lists)
+}
+
+/// Copies of some lists.
+pub(crate) fn copies_of_lists(alloc: Global, lists: &[Tokens]) -> Result<Vec<Tokens>, AllocError>
+    ensures { IfOk result (λ copies. copies.items ≡ lists.now) }
+{
+    let mut copies = Vec::with_capacity(alloc, lists.len())?;
+    for tokens in lists {
+        copies.push(tokens.copy(alloc)?)?;
+    }
+    Ok(copies)
+}
+
+/// Makes each channel ready for so many tokens in all.
+pub(crate) fn make_ready(channels: &mut Channels, room: &[usize]) -> Result<(), AllocError>
+    requires few { length channels.old.lists < 2 ^ 32 }
+    requires counted { length room.now ≡ length channels.old.lists }
+    ensures { channels.new.lists ≡ channels.old.lists }
+{
+    for c in 0..room.len() {
+        let held = channels.len(c as u32);
+        channels.ready(c as u32, room[c].saturating_sub(held))?;
+    }
+    Ok(())
+}
+
+/// Whether each port gave as many tokens as its rate says.
+pub(crate) fn fits_rates(rates: &[usize], outputs: &Outputs) -> bool
+    ensures { result ≡ has_rates rates.now outputs.now }
+{
+    if rates.len() != outputs.ports() {
+        return false;
+    }
+    for port in 0..rates.len() {
+        if outputs.list(port).len() != rates[port] {
+            return false;
+        }
+    }
+    true
+}
+
+/// The place in an order of so many firings, with the number of turns that are left, after one firing more.
+pub(crate) fn place_after(order: usize, left: usize, at: usize) -> (usize, usize)
+    requires within { at < order }
+    requires some { 0 < left }
+    ensures { result ≡ place_behind (nat_eq (at + 1) order) left at }
+{
+    if at + 1 == order {
+        (left - 1, 0)
+    } else {
+        (left, at + 1)
+    }
+}
+
+/// How many turns of an order are to be made.
+pub(crate) fn turns_of(order: &[u32], turns: usize) -> usize
+    ensures { result ≡ left_at_first order.now turns }
+{
+    if order.is_empty() { 0 } else { turns }
+}
