@@ -7,7 +7,7 @@ use Rattle.pt_meaning.specs.Machine.{Partial, Known, partial_at}
 use Rattle.pt_meaning.specs.Laws.{PartialBelow, KnownBelow}
 use Rattle.pt_meaning.specs.Valuation.{known}
 use Rattle.pt_meaning.specs.Node.{Answer, Gives, Fails}
-use Rattle.pt_meaning.specs.Promises.{LawfulRows}
+use Rattle.pt_meaning.specs.Lawful.{LawfulRows}
 use Rattle.pt_value.specs.declared.token.Token.{Token}
 use Rattle.pt_lib_flow.specs.declared.flow_actor.FlowActor.{FlowActor}
 use Rattle.pt_lib_flow.specs.FlowActor as flow

@@ -1,4 +1,4 @@
-ghost use Rattle.pt_meaning.specs.Promises.{LawfulRows};
+ghost use Rattle.pt_meaning.specs.Lawful.{LawfulRows};
 ghost use Rattle.pt_node.specs.LibraryActor.{rows};
 
 /// The rows of all libraries are lawful, since those of each are.

@@ -11,20 +11,20 @@ use Rattle.pt_meaning.specs.Children.{Child, numbered, nodes, child_facts, child
 use Rattle.pt_meaning.specs.Tree.{Rows, Answer, Gives, Fails, Core, Past, Node, Nodes, Actor, Composite, none, more, list_of, nodes_of, made_of, fired_at, height, reset_of, reset_all}
 use Rattle.pt_meaning.specs.NodeFacts.{facts_of}
 use Rattle.pt_meaning.specs.Step.{actor_outcome, as_node, level, step_at, Step}
-use Rattle.pt_meaning.specs.Promises.{LawfulRows}
-use Rattle.pt_meaning.specs.Heights.{IsFitting}
+use Rattle.pt_meaning.specs.Lawful.{LawfulRows}
+use Rattle.pt_laws.specs.Heights.{IsFitting}
 use Rattle.pt_meaning.specs.Closed.{Begun, child_of, is_modal}
-use Rattle.pt_meaning.specs.LogsOfRuns.{log_at, log_in}
-use Rattle.pt_meaning.specs.Explained.{Turned, ChainOf, EndsWith, PartOf, Explained, IfDone, DoneWell}
-use Rattle.pt_meaning.proofs.LogLaws.{log-with_number}
-use Rattle.pt_meaning.proofs.LevelLaws.{added, count-append}
-use Rattle.pt_meaning.proofs.SoundLaws.{below-log, within-added}
-use Rattle.pt_meaning.proofs.CompositeLaws.{log-as-node}
-use Rattle.pt_meaning.proofs.FiringLaws.{number-kept, done-within}
-use Rattle.pt_meaning.proofs.HeightLaws.{with-number-done, firing-keeps, numbered-length}
-use Rattle.pt_meaning.proofs.ClosedLaws.{child-or-beyond}
-use Rattle.pt_meaning.proofs.ChainLaws.{numbered-get, fitting-child}
-use Rattle.pt_meaning.proofs.ClosedSteps.{director-explained}
+use Rattle.pt_laws.specs.LogsOfRuns.{log_at, log_in}
+use Rattle.pt_laws.specs.Explained.{Turned, ChainOf, EndsWith, PartOf, Explained, IfDone, DoneWell}
+use Rattle.pt_laws.proofs.LogLaws.{log-with_number}
+use Rattle.pt_laws.proofs.LevelLaws.{added, count-append}
+use Rattle.pt_laws.proofs.SoundLaws.{below-log, within-added}
+use Rattle.pt_laws.proofs.CompositeLaws.{log-as-node}
+use Rattle.pt_laws.proofs.FiringLaws.{number-kept, done-within}
+use Rattle.pt_laws.proofs.HeightLaws.{with-number-done, firing-keeps, numbered-length}
+use Rattle.pt_laws.proofs.ClosedLaws.{child-or-beyond}
+use Rattle.pt_laws.proofs.ChainLaws.{numbered-get, fitting-child}
+use Rattle.pt_laws.proofs.ClosedSteps.{director-explained}
 use Rattle.pt_records.specs.Counts.{made_at, made_below, AreWired, AllWired, AreNumberedFrom, CountsGrow, NumbersGoOn, StaysWired}
 use Rattle.pt_records.proofs.SoFarLaws.{recorded-done}
 

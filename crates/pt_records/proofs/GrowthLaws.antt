@@ -1,9 +1,9 @@
 -- How what is kept goes on with logs that are put together.
 use Rattle.std.proofs.Common.{◌≡◌, ℕ, zero, suc, ◌+◌, ◌<◌, List, [], ◌∷◌, ◌++◌, length, set, refl, sym, ap, arith, ◌∙◌, append_assoc, append-nil}
 use Rattle.pt_meaning.specs.Basics.{at, Path, Firing, Event, Finished, Met, Log, silent, log_then, own, log_below, within_firing, all_marked, given_on, with_tag, firings_in}
-use Rattle.pt_meaning.specs.LogsOfRuns.{silents, logs_then, log_at}
+use Rattle.pt_laws.specs.LogsOfRuns.{silents, logs_then, log_at}
 use Rattle.pt_meaning.specs.Headline.{count_of}
-use Rattle.pt_meaning.proofs.LevelLaws.{count-append}
+use Rattle.pt_laws.proofs.LevelLaws.{count-append}
 use Rattle.pt_records.specs.Kept.{Kept, Entry, Recorded, blank, kept_at, kept_by, TracesGrew, EntryGrew, GrewBy, AllGrewBy, TracesTold, EntryFired, count_kept}
 use Rattle.pt_records.specs.Growth.{NodesGrow, ChildrenGrow}
 

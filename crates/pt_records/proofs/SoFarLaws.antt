@@ -12,15 +12,15 @@ use Rattle.pt_meaning.specs.Tree.{Rows, Core, Sdf, Past, Node, Nodes, Composite,
 use Rattle.pt_meaning.specs.NodeFacts.{facts_of}
 use Rattle.pt_meaning.specs.Step.{step_at, Step}
 use Rattle.pt_meaning.specs.Running.{Asks, plus, puts, total}
-use Rattle.pt_meaning.specs.LogsOfRuns.{RunningWith, SticksWith, silents, logs_then, log_in, rates_at}
-use Rattle.pt_meaning.specs.CompositeRuns.{steps_below, SdfRun, sdf_start, sdf_bounds, times, outlets_of}
+use Rattle.pt_laws.specs.LogsOfRuns.{RunningWith, SticksWith, silents, logs_then, log_in, rates_at}
+use Rattle.pt_laws.specs.CompositeRuns.{steps_below, SdfRun, sdf_start, sdf_bounds, times, outlets_of}
 use Rattle.pt_meaning.specs.Laws.{IsIn}
-use Rattle.pt_meaning.proofs.FuelLaw.{within-below}
-use Rattle.pt_meaning.proofs.Order.{IsPrefix-refl}
-use Rattle.pt_meaning.proofs.HeightLaws.{levels-agree, firing-keeps, numbered-length}
-use Rattle.pt_meaning.proofs.RunLaws.{running-step-with}
-use Rattle.pt_meaning.proofs.LogLaws.{begins-with, asked-fires, run-is-prefix}
-use Rattle.pt_meaning.proofs.CompositeLaws.{sdf-ends, sdf-sticks, sdf-is-prefix, log-as-node}
+use Rattle.pt_laws.proofs.FuelLaw.{within-below}
+use Rattle.pt_laws.proofs.Order.{IsPrefix-refl}
+use Rattle.pt_laws.proofs.HeightLaws.{levels-agree, firing-keeps, numbered-length}
+use Rattle.pt_laws.proofs.RunLaws.{running-step-with}
+use Rattle.pt_laws.proofs.LogLaws.{begins-with, asked-fires, run-is-prefix}
+use Rattle.pt_laws.proofs.CompositeLaws.{sdf-ends, sdf-sticks, sdf-is-prefix, log-as-node}
 use Rattle.pt_records.specs.Kept.{Kept, Entry, kept_at, kept_by, GrewBy}
 use Rattle.pt_records.specs.Fired.{IsStuckAt}
 use Rattle.pt_records.specs.SoFar.{AllLow, GivesRates, IsAsked, SoFarBegins, SoFarGoesOn, SdfSoFar, sdf_left, SdfIsDone, SdfIsStuck, SdfIsUnrated, SdfIsLeftOff, SdfIsLeftOffWithin}

@@ -7,10 +7,10 @@ use Rattle.pt_meaning.specs.Machine.{Done}
 use Rattle.pt_meaning.specs.Meetings.{Meets}
 use Rattle.pt_meaning.specs.Tree.{Rows, Node, Nodes, Actor, Composite, none, more}
 use Rattle.pt_meaning.specs.Step.{Step}
-use Rattle.pt_meaning.specs.LogsOfRuns.{log_in}
-use Rattle.pt_meaning.specs.Promises.{LawfulRows}
-use Rattle.pt_meaning.specs.Heights.{IsFitting}
-use Rattle.pt_meaning.specs.SoundRuns.{IsWired}
+use Rattle.pt_laws.specs.LogsOfRuns.{log_in}
+use Rattle.pt_meaning.specs.Lawful.{LawfulRows}
+use Rattle.pt_laws.specs.Heights.{IsFitting}
+use Rattle.pt_laws.specs.SoundRuns.{IsWired}
 
 -- the number of finished firings of the node at a path, 0 where there is none
 abbrev mutual

@@ -3,7 +3,7 @@ use Rattle.std.specs.Prelude.{◌≡◌, ℕ, ◌≤◌, List}
 use Rattle.pt_meaning.specs.Streams.{Streams}
 use Rattle.pt_meaning.specs.Log.{Log, LogBelow}
 use Rattle.pt_meaning.specs.Machine.{Fault, Outcome, Done, Stuck}
-use Rattle.pt_meaning.specs.LogsOfRuns.{log_in}
+use Rattle.pt_laws.specs.LogsOfRuns.{log_in}
 use Rattle.pt_meaning.specs.Laws.{IsIn}
 use Rattle.pt_records.specs.Kept.{Kept, GrewBy}
 

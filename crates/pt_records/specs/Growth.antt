@@ -1,7 +1,7 @@
 -- How what is kept goes on as an engine fires the children of a composite one by one, in whatever order it fires them.
 use Rattle.std.specs.Prelude.{◌≡◌, ℕ, ◌+◌, ◌<◌, List, length, set}
 use Rattle.pt_meaning.specs.Log.{Path, Log, Firing, silent, log_then, own, log_below, within_firing}
-use Rattle.pt_meaning.specs.LogsOfRuns.{silents, logs_then, log_at}
+use Rattle.pt_laws.specs.LogsOfRuns.{silents, logs_then, log_at}
 use Rattle.pt_meaning.specs.Headline.{count_of}
 use Rattle.pt_records.specs.Kept.{Kept, Entry, kept_at, kept_by, GrewBy, AllGrewBy, EntryFired, count_kept}
 

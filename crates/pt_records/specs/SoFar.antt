@@ -12,8 +12,8 @@ use Rattle.pt_meaning.specs.Tree.{Rows, Core, Sdf, Past, Node, Nodes, Composite,
 use Rattle.pt_meaning.specs.NodeFacts.{facts_of}
 use Rattle.pt_meaning.specs.Step.{step_at, Step}
 use Rattle.pt_meaning.specs.Running.{Asks, Fits, plus, puts, total, zeros}
-use Rattle.pt_meaning.specs.LogsOfRuns.{RunningWith, rates_at}
-use Rattle.pt_meaning.specs.CompositeRuns.{steps_below, sdf_start, sdf_bounds, times, outlets_of}
+use Rattle.pt_laws.specs.LogsOfRuns.{RunningWith, rates_at}
+use Rattle.pt_laws.specs.CompositeRuns.{steps_below, sdf_start, sdf_bounds, times, outlets_of}
 use Rattle.pt_records.specs.Kept.{Kept, Entry, kept_at, kept_by, AllGrewBy}
 use Rattle.pt_records.specs.Fired.{FromSome, FiresTo, SticksAt, LeavesOff}
 

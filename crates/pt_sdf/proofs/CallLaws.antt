@@ -8,7 +8,7 @@ use Rattle.pt_meaning.specs.Rounds.{has_rates}
 use Rattle.pt_meaning.specs.Kahn.{arrived, arrival, firsts, behind}
 use Rattle.pt_meaning.specs.Sdf.{SdfPlan, number_at, all_allow, or_one, iterations}
 use Rattle.pt_meaning.specs.Running.{total, plus, puts, zeros}
-use Rattle.pt_meaning.proofs.FiringLaws.{arrived-long}
+use Rattle.pt_laws.proofs.FiringLaws.{arrived-long}
 use Rattle.pt_value.specs.declared.token.Token.{Token}
 use Rattle.pt_sdf.specs.declared.feeds.Feed.{Feed}
 use Rattle.pt_sdf.specs.declared.sdf.Stage as declared
@@ -130,7 +130,7 @@ module _ (p : SdfPlan) (needs order room offsets : List ℕ) (feeds : List (Vec 
         (λ j. ap (λ v. get_or v j 0) (whole-fired idle-over) ∙ map-times turns p.repetitions j) (λ j. ap (λ v. get_or v j 0) begun-zeros ∙ zeros-at p.net.places j)
         (λ child port z. ap (λ v. length v) (there ∙ ap (λ v. at held c ++ arrival v inputs) z ∙ append-nil (at held c)))
         (λ port z. let q = allow-bound p.takes p.net.sources held' c port (Own 0) fit (omega (arith, fit, s.counted, ap (λ v. length v) d, arrived-long p.net.sources inputs held)) z in
-          subst (λ v. v ≤ length (at held' c) / number_at p.takes port) (sym (t ∙ ap or_one q.1)) q.2)
+        subst (λ v. v ≤ length (at held' c) / number_at p.takes port) (sym (t ∙ ap or_one q.1)) q.2)
 
     pub begin-sound : (staged' : List Token) → staged' ≡ [] → Sound p needs order room offsets feeds first held' rooms lent staged' turns' left' 0 code.Open
     begin-sound staged' m = record {

@@ -7,7 +7,7 @@ use Rattle.pt_meaning.specs.Rounds.{has_rates}
 use Rattle.pt_meaning.specs.Kahn.{arrived, firsts, behind}
 use Rattle.pt_meaning.specs.Sdf.{or_one, iterations}
 use Rattle.pt_meaning.specs.Running.{total, plus, puts}
-use Rattle.pt_meaning.proofs.FiringLaws.{arrived-long}
+use Rattle.pt_laws.proofs.FiringLaws.{arrived-long}
 use Rattle.pt_value.specs.declared.token.Token.{Token}
 use Rattle.pt_sdf.specs.declared.feeds.Feed.{Feed}
 use Rattle.pt_sdf.specs.declared.sdf.Stage as declared

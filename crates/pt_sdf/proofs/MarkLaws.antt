@@ -34,12 +34,12 @@ module _ (row : List Feed) (k : ℕ) (f : Feed) (first : Bool) (h : k < length r
     marked-once once i j l m =
         ⊎_elim
         (λ z.
-          subst (λ v. (get_or (set row k marked) v no_feed).moves ≡ true → (get_or (set row k marked) i no_feed).port ≡ (get_or (set row k marked) v no_feed).port → ⊥) (sym z)
-          (subst (λ (v : Feed). v.moves ≡ true → (get_or (set row k marked) i no_feed).port ≡ v.port → ⊥) (sym is-marked)
-          (subst (λ (v : Feed). first ≡ true → v.port ≡ f.port → ⊥) (sym (is-other i (λ w. omega arith))) (λ t q. clash (get_or row i no_feed).port q (d t) (sighted i (omega arith))))))
+        subst (λ v. (get_or (set row k marked) v no_feed).moves ≡ true → (get_or (set row k marked) i no_feed).port ≡ (get_or (set row k marked) v no_feed).port → ⊥) (sym z)
+        (subst (λ (v : Feed). v.moves ≡ true → (get_or (set row k marked) i no_feed).port ≡ v.port → ⊥) (sym is-marked)
+        (subst (λ (v : Feed). first ≡ true → v.port ≡ f.port → ⊥) (sym (is-other i (λ w. omega arith))) (λ t q. clash (get_or row i no_feed).port q (d t) (sighted i (omega arith))))))
         (λ z.
-          subst (λ (v : Feed). v.moves ≡ true → (get_or (set row k marked) i no_feed).port ≡ v.port → ⊥) (sym (is-other j z))
-          (subst (λ (v : Feed). (get_or row j no_feed).moves ≡ true → v.port ≡ (get_or row j no_feed).port → ⊥) (sym (is-other i (λ w. omega arith))) (once i j l (omega arith)))) (cases_eq j k)
+        subst (λ (v : Feed). v.moves ≡ true → (get_or (set row k marked) i no_feed).port ≡ v.port → ⊥) (sym (is-other j z))
+        (subst (λ (v : Feed). (get_or row j no_feed).moves ≡ true → v.port ≡ (get_or row j no_feed).port → ⊥) (sym (is-other i (λ w. omega arith))) (once i j l (omega arith)))) (cases_eq j k)
       where
         clash : (p : ℕ) → p ≡ f.port → get_or seen f.port true ≡ false → (p < length seen → get_or seen p false ≡ true) → ⊥
         clash p q n s =

@@ -10,9 +10,9 @@ use Rattle.pt_meaning.specs.Flow.{Flow}
 use Rattle.pt_meaning.specs.Kahn.{firsts, behind}
 use Rattle.pt_meaning.specs.Sdf.{sdf_limits, fired_all}
 use Rattle.pt_meaning.specs.Running.{Asks, NoneCanFire, total, MadeAll, Fits}
-use Rattle.pt_meaning.specs.LogsOfRuns.{rates_at, SticksWith}
+use Rattle.pt_laws.specs.LogsOfRuns.{rates_at, SticksWith}
 use Rattle.pt_meaning.specs.Laws.{IsIn}
-use Rattle.pt_meaning.proofs.Indexed.{drop-more, asks-at}
+use Rattle.pt_laws.proofs.Indexed.{drop-more, asks-at}
 use Rattle.pt_sdf.specs.ByNeed.{by_need, needs_of, planned, place_of, skip_at}
 use Rattle.pt_sdf.specs.State.{SdfState, Allows, needs_at, lent_of, left_of}
 

@@ -10,10 +10,10 @@ use Rattle.pt_meaning.specs.Rounds.{has_rates}
 use Rattle.pt_meaning.specs.Kahn.{arrived, arrival}
 use Rattle.pt_meaning.specs.Sdf.{SdfPlan, number_at, all_allow, or_one, iterations}
 use Rattle.pt_meaning.specs.Running.{total, plus, puts, puts_on, zeros}
-use Rattle.pt_meaning.proofs.Indexed.{plus-at}
-use Rattle.pt_meaning.proofs.KahnLaws.{and-left, and-right}
-use Rattle.pt_meaning.proofs.RunLaws.{plus-length}
-use Rattle.pt_meaning.proofs.FiringLaws.{arrived-long}
+use Rattle.pt_laws.proofs.Indexed.{plus-at}
+use Rattle.pt_laws.proofs.KahnLaws.{and-left, and-right}
+use Rattle.pt_laws.proofs.RunLaws.{plus-length}
+use Rattle.pt_laws.proofs.FiringLaws.{arrived-long}
 use Rattle.pt_value.specs.declared.token.Token.{Token}
 use Rattle.pt_sdf.specs.declared.feeds.Feed.{Feed}
 use Rattle.pt_sdf.specs.declared.sdf.Stage as declared
@@ -203,7 +203,6 @@ module _ (p : SdfPlan) (needs order room offsets : List ℕ) (feeds : List (Vec 
         fewer : (w q x t f : ℕ) → f ≡ w * q + x → x + 1 ≤ q → w < t → f < t * q
         fewer w q x t f e h o = let k : (w + 1) * q ≤ t * q = grind arith in omega (arith, e, k)
 
-
 -- places of different children lie apart
 pub places-apart : (ps : List ℕ) (child i k : ℕ) → child < length ps → i < length ps → k < get_or ps i 0 → (i ≡ child → ⊥) → (place_of ps i + k < place_of ps child) ⊎ (place_of ps child + get_or ps child 0 ≤ place_of ps i + k)
 places-apart ps child i k l h b z = ⊎_elim (λ x. let q = place-before ps i child x l in inl (omega (arith, q, b))) (λ x. let q = place-before ps child i (later i child z x) h in inr (omega (arith, q))) (cases_lt i child)
@@ -276,8 +275,8 @@ module _ (p : SdfPlan) (needs order room offsets : List ℕ) (feeds : List (Vec 
   level-asked i k h b =
       ⊎_elim
       (λ z.
-        subst (λ j. IsLevel p turns (length (at first (place_of p.net.places j + k))) (length (at without (place_of p.net.places j + k))) (get_or needs (place_of p.net.places j + k) 0) j firings' firings (get_or p.net.sources (place_of p.net.places j + k) (Own 0))) (sym z)
-        (level-own k (subst (λ j. k < get_or p.net.places j 0) z b))) (λ z. level-other i k h b z) (cases_eq i child)
+      subst (λ j. IsLevel p turns (length (at first (place_of p.net.places j + k))) (length (at without (place_of p.net.places j + k))) (get_or needs (place_of p.net.places j + k) 0) j firings' firings (get_or p.net.sources (place_of p.net.places j + k) (Own 0))) (sym z)
+      (level-own k (subst (λ j. k < get_or p.net.places j 0) z b))) (λ z. level-other i k h b z) (cases_eq i child)
 
   pub ask-sound : (held' : Streams Token) (rooms' : List (Option (Vec Token Global))) (lent' : Streams Token) → held' ≡ skip_at (place_of p.net.places child) (take (get_or p.net.places child 0) (drop (place_of p.net.places child) needs)) held →
       ((c : ℕ) → (c < place_of p.net.places child) ⊎ (place_of p.net.places child + get_or p.net.places child 0 ≤ c) → get_or rooms' c None ≡ get_or rooms c None) → length rooms' ≡ length rooms → length lent' ≡ length lent →

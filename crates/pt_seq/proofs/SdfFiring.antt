@@ -12,10 +12,10 @@ use Rattle.pt_meaning.specs.Tree as tree
 use Rattle.pt_meaning.specs.NodeFacts.{facts_of}
 use Rattle.pt_meaning.specs.Step.{Step}
 use Rattle.pt_meaning.specs.Running.{Asks, Fits, total, plus, puts}
-use Rattle.pt_meaning.specs.LogsOfRuns.{rates_at}
-use Rattle.pt_meaning.specs.CompositeRuns.{sdf_start, sdf_bounds, times, outlets_of}
-use Rattle.pt_meaning.proofs.HeightLaws.{sdf-bounds-count}
-use Rattle.pt_meaning.proofs.RunLaws.{plus-length}
+use Rattle.pt_laws.specs.LogsOfRuns.{rates_at}
+use Rattle.pt_laws.specs.CompositeRuns.{sdf_start, sdf_bounds, times, outlets_of}
+use Rattle.pt_laws.proofs.HeightLaws.{sdf-bounds-count}
+use Rattle.pt_laws.proofs.RunLaws.{plus-length}
 use Rattle.pt_value.specs.declared.token.Token.{Token}
 use Rattle.pt_firing.specs.declared.answer.Place.{Place}
 use Rattle.pt_firing.specs.declared.fault.RunFault.TheVariants.{Rate}

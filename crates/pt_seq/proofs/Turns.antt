@@ -14,8 +14,8 @@ use Rattle.pt_meaning.specs.Tree as tree
 use Rattle.pt_meaning.specs.NodeFacts.{facts_of, need_of}
 use Rattle.pt_meaning.specs.Step.{actor_outcome, step_at, Step}
 use Rattle.pt_meaning.specs.Running.{Asks, total}
-use Rattle.pt_meaning.specs.LogsOfRuns.{log_in}
-use Rattle.pt_meaning.proofs.Order.{IsPrefix-refl, IsPrefix-trans, IsPrefix-append}
+use Rattle.pt_laws.specs.LogsOfRuns.{log_in}
+use Rattle.pt_laws.proofs.Order.{IsPrefix-refl, IsPrefix-trans, IsPrefix-append}
 use Rattle.pt_value.specs.declared.token.Token.{Token}
 use Rattle.pt_firing.specs.declared.ask.Ask.{Ask}
 use Rattle.pt_firing.specs.declared.ask.Ask.TheVariants as ask

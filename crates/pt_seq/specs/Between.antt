@@ -6,7 +6,7 @@ use Rattle.pt_meaning.specs.Sdf.{iterations, sdf_limits}
 use Rattle.pt_meaning.specs.Meetings.{Meets}
 use Rattle.pt_meaning.specs.Tree as tree
 use Rattle.pt_meaning.specs.NodeFacts.{facts_of}
-use Rattle.pt_meaning.specs.CompositeRuns.{sdf_start}
+use Rattle.pt_laws.specs.CompositeRuns.{sdf_start}
 use Rattle.pt_value.specs.declared.token.Token.{Token}
 use Rattle.pt_firing.specs.declared.ask.Ask.{Ask}
 use Rattle.pt_records.specs.SoFar.{SoFar}
