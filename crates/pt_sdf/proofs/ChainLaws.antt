@@ -1,21 +1,21 @@
 -- A chain of calls of a core makes the firing of the composite.
-use Rattle.std.proofs.Common.{◌≡◌, ℕ, ◌+◌, ◌*◌, ◌<◌, ◌≤◌, List, [], ◌∷◌, ◌++◌, Bool, true, false, length, take, drop, get_or, set, map, Option, Some, refl, sym, ap, ap₂, subst, ◌∙◌, arith, length-set, inl}
+use Rattle.std.proofs.Common.{◌≡◌, ℕ, ◌*◌, ◌<◌, ◌≤◌, List, [], ◌∷◌, ◌++◌, true, false, length, get_or, set, map, Some, refl, sym, ap, ap₂, subst, ◌∙◌, arith, inl}
 use Rattle.pt_meaning.specs.Tag.{Tag}
 use Rattle.pt_meaning.specs.Streams.{Streams}
-use Rattle.pt_meaning.specs.Log.{Log, LogBelow, log_then, log_below, own}
+use Rattle.pt_meaning.specs.Log.{Log, log_then, log_below, own}
 use Rattle.pt_meaning.specs.Machine.{rate_code, Fault, Outcome, Done, Stuck, Stepping, Facts}
 use Rattle.pt_meaning.specs.Net.{Inside}
-use Rattle.pt_meaning.specs.Rounds.{Limit, has_rates, rated, rated_outcome, if_rated}
+use Rattle.pt_meaning.specs.Rounds.{has_rates, rated, rated_outcome, if_rated}
 use Rattle.pt_meaning.specs.Kahn.{arrived, firsts, behind, kahn}
 use Rattle.pt_meaning.specs.Sdf.{SdfPlan, iterations, sdf_limits, fired_all, sdf}
 use Rattle.pt_meaning.specs.Running.{Asks, NoneCanFire, MadeAll, total, plus, puts}
-use Rattle.pt_meaning.specs.LogsOfRuns.{RunningWith, silents, logs_then, rates_at}
+use Rattle.pt_meaning.specs.LogsOfRuns.{silents, logs_then, rates_at}
 use Rattle.pt_meaning.specs.Laws.{IsIn}
 use Rattle.pt_meaning.proofs.LogLaws.{begins-with, asked-fires, ends-with, sticks-with}
 use Rattle.pt_meaning.proofs.RunLaws.{running-step-with, plus-length}
 use Rattle.pt_meaning.proofs.FiringLaws.{arrived-long}
 use Rattle.pt_meaning.proofs.CompositeLaws.{first-part, second-part}
-use Rattle.pt_sdf.specs.ByNeed.{by_need, needs_of, planned, place_of}
+use Rattle.pt_sdf.specs.ByNeed.{by_need, planned, place_of}
 use Rattle.pt_sdf.specs.State.{SdfState, Allows, IsEnough, lent_of, left_of, needs_at, asked, begun, if_told, after_told, closed, own_of, owed}
 use Rattle.pt_sdf.specs.Chain.{IsFor, Underway, firing_from, IsStuckAt, CallsAreSdf}
 use Rattle.pt_sdf.proofs.NeedLaws.{asks-as, asks-below, asked-sticks, none-at-caps, enough-made, needs-length, needs-kept, planned-length, skip-length, limits-length, limits-rates, all-fit}
@@ -36,7 +36,6 @@ module _ {T S : Type 0} (facts : Facts T S) (step : Stepping T S) (before : SdfS
       }
 
   module _ (inputs : Streams T) (s : SdfState T) (now : List S) (ls : List (Log T)) (u : Underway facts step before kids inputs s now ls) where
-
     -- what is asked of the core is asked of the children
     truly-asked : (i : ℕ) → Allows s i → Asks facts i s.plan.net.places (sdf_limits s.turns s.plan.repetitions s.plan.rates) s.fired now s.held (lent_of s i) (left_of s i)
     truly-asked i a =
@@ -86,9 +85,9 @@ module _ {T S : Type 0} (facts : Facts T S) (step : Stepping T S) (before : SdfS
     pub calls-end : IsEnough s → (k : ℕ) → total s.fired < k → firing_from facts step before kids s.tag inputs k ≡ Done (record { held = (closed s).held; kids = now }) (firsts (owed s) (own_of s)) (log_below ls)
     calls-end e k o =
         let done =
-            ends-with facts step s.tag s.plan.net (sdf_limits s.turns s.plan.repetitions s.plan.rates) kids (arrived s.plan.net.sources inputs before.held) s.fired now s.held ls u.running
-            (subst (λ v. NoneCanFire facts s.plan.net.places (sdf_limits s.turns s.plan.repetitions s.plan.rates) v now s.held) (sym e) (none-at-caps facts s.turns s.plan.net.places s.plan.repetitions s.plan.rates now s.held))
-            (fired_all s.turns s.plan.repetitions) (λ ns. map (λ n. s.turns * n) s.plan.gives) (λ fs made. enough-made s.turns s.plan.repetitions fs (subst (λ v. MadeAll v fs) e made)) k o
+        ends-with facts step s.tag s.plan.net (sdf_limits s.turns s.plan.repetitions s.plan.rates) kids (arrived s.plan.net.sources inputs before.held) s.fired now s.held ls u.running
+        (subst (λ v. NoneCanFire facts s.plan.net.places (sdf_limits s.turns s.plan.repetitions s.plan.rates) v now s.held) (sym e) (none-at-caps facts s.turns s.plan.net.places s.plan.repetitions s.plan.rates now s.held))
+        (fired_all s.turns s.plan.repetitions) (λ ns. map (λ n. s.turns * n) s.plan.gives) (λ fs made. enough-made s.turns s.plan.repetitions fs (subst (λ v. MadeAll v fs) e made)) k o
         in
         sym (firing-is k) ∙ done.4 ∙
         ap₂ (λ (a b : Streams T). let r : Outcome T (Inside (Streams T) S) = Done (record { held = a ++ behind (owed s) b; kids = now }) (firsts (owed s) b) (log_below ls) in r)
@@ -98,9 +97,9 @@ module _ {T S : Type 0} (facts : Facts T S) (step : Stepping T S) (before : SdfS
         IsStuckAt (firing_from facts step before kids s.tag inputs k) i f (log_below (logs_then i l ls))
     stuck-at i a d fs l f e x k o =
         let stuck =
-            sticks-with facts step s.tag s.plan.net (sdf_limits s.turns s.plan.repetitions s.plan.rates) kids (arrived s.plan.net.sources inputs before.held) s.fired now s.held ls u.running i l f
-            (asked-sticks facts step s.tag i s.plan.net.places (sdf_limits s.turns s.plan.repetitions s.plan.rates) s.fired now s.held (lent_of s i) (left_of s i) d fs l f (truly-asked i a) e x)
-            (fired_all s.turns s.plan.repetitions) (λ ns. map (λ n. s.turns * n) s.plan.gives) k o
+        sticks-with facts step s.tag s.plan.net (sdf_limits s.turns s.plan.repetitions s.plan.rates) kids (arrived s.plan.net.sources inputs before.held) s.fired now s.held ls u.running i l f
+        (asked-sticks facts step s.tag i s.plan.net.places (sdf_limits s.turns s.plan.repetitions s.plan.rates) s.fired now s.held (lent_of s i) (left_of s i) d fs l f (truly-asked i a) e x)
+        (fired_all s.turns s.plan.repetitions) (λ ns. map (λ n. s.turns * n) s.plan.gives) k o
         in (stuck.0, stuck.1, sym (firing-is k) ∙ stuck.2, stuck.3, stuck.4)
 
     pub calls-stick : (i : ℕ) → Allows s i → (d : S) (fs : List Fault) (l : Log T) → step s.tag (get_or now i d) (lent_of s i) ≡ Stuck fs l → (f : Fault) → IsIn f fs → (k : ℕ) → total s.fired < k →

@@ -1,11 +1,11 @@
 -- The first feed of each port is marked.
-use Rattle.std.proofs.Common.{◌≡◌, ℕ, zero, suc, ◌+◌, ◌<◌, ◌≤◌, List, [], ◌∷◌, Bool, true, false, length, get_or, set, map, Vec, Global, refl, ap, ap₂, sym, subst, ◌∙◌, arith, ⊎_elim, length-set}
+use Rattle.std.proofs.Common.{◌≡◌, ℕ, ◌+◌, ◌<◌, List, [], Bool, true, false, length, get_or, set, map, Vec, Global, ap, sym, subst, ◌∙◌, arith, ⊎_elim, length-set}
 use Rattle.std.proofs.lemmas.List.{get_or-set_same, get_or-set_other, map-set, set-get_or, length-map, get_or_past, get_or_default}
 use Rattle.std.proofs.lemmas.Bool.{cases_eq, cases_lt}
 use Rattle.std.proofs.Math.ListN.{get_or-map}
 use Rattle.pt_meaning.specs.Net.{Source}
 use Rattle.pt_sdf.specs.declared.feeds.Feed.{Feed}
-use Rattle.pt_sdf.specs.Feeds.{Target, target_of, targets, rows_in, no_feed, AreTargets, MovesOnce}
+use Rattle.pt_sdf.specs.Feeds.{target_of, targets, rows_in, no_feed, AreTargets, MovesOnce}
 use Rattle.pt_sdf.proofs.Lists.{read-at}
 
 module _ (row : List Feed) (k : ℕ) (f : Feed) (first : Bool) (h : k < length row) (e : f ≡ get_or row k f) where
@@ -34,12 +34,12 @@ module _ (row : List Feed) (k : ℕ) (f : Feed) (first : Bool) (h : k < length r
     marked-once once i j l m =
         ⊎_elim
         (λ z.
-          subst (λ v. (get_or (set row k marked) v no_feed).moves ≡ true → (get_or (set row k marked) i no_feed).port ≡ (get_or (set row k marked) v no_feed).port → ⊥) (sym z)
-          (subst (λ (v : Feed). v.moves ≡ true → (get_or (set row k marked) i no_feed).port ≡ v.port → ⊥) (sym is-marked)
-          (subst (λ (v : Feed). first ≡ true → v.port ≡ f.port → ⊥) (sym (is-other i (λ w. omega arith))) (λ t q. clash (get_or row i no_feed).port q (d t) (sighted i (omega arith))))))
+        subst (λ v. (get_or (set row k marked) v no_feed).moves ≡ true → (get_or (set row k marked) i no_feed).port ≡ (get_or (set row k marked) v no_feed).port → ⊥) (sym z)
+        (subst (λ (v : Feed). v.moves ≡ true → (get_or (set row k marked) i no_feed).port ≡ v.port → ⊥) (sym is-marked)
+        (subst (λ (v : Feed). first ≡ true → v.port ≡ f.port → ⊥) (sym (is-other i (λ w. omega arith))) (λ t q. clash (get_or row i no_feed).port q (d t) (sighted i (omega arith))))))
         (λ z.
-          subst (λ (v : Feed). v.moves ≡ true → (get_or (set row k marked) i no_feed).port ≡ v.port → ⊥) (sym (is-other j z))
-          (subst (λ (v : Feed). (get_or row j no_feed).moves ≡ true → v.port ≡ (get_or row j no_feed).port → ⊥) (sym (is-other i (λ w. omega arith))) (once i j l (omega arith)))) (cases_eq j k)
+        subst (λ (v : Feed). v.moves ≡ true → (get_or (set row k marked) i no_feed).port ≡ v.port → ⊥) (sym (is-other j z))
+        (subst (λ (v : Feed). (get_or row j no_feed).moves ≡ true → v.port ≡ (get_or row j no_feed).port → ⊥) (sym (is-other i (λ w. omega arith))) (once i j l (omega arith)))) (cases_eq j k)
       where
         clash : (p : ℕ) → p ≡ f.port → get_or seen f.port true ≡ false → (p < length seen → get_or seen p false ≡ true) → ⊥
         clash p q n s =

@@ -170,7 +170,9 @@ impl Core {
         ensures { result ≡ lent_in self.now.stage }
     {
         match self.stage {
-            Stage::Asked(child) => Inputs::of(&self.lent[..self.plan.places.as_slice()[child as usize]]),
+            Stage::Asked(child) => Inputs::of(
+                &self.lent[..self.plan.places.as_slice()[child as usize]],
+            ),
             Stage::Idle | Stage::Open | Stage::Wrong(_) | Stage::Closed => Inputs::of(&[]),
         }
     }
@@ -209,7 +211,13 @@ impl Core {
         ensures kept { OnErr result (self.new ≡ self.old) }
     {
         let from = self.plan.sources.len() - self.plan.gives.len();
-        let outputs = hand_out(alloc, &mut self.channels, self.plan.gives.as_slice(), self.turns, from)?;
+        let outputs = hand_out(
+            alloc,
+            &mut self.channels,
+            self.plan.gives.as_slice(),
+            self.turns,
+            from,
+        )?;
         self.stage = Stage::Idle;
         Ok(outputs)
     }

@@ -31,6 +31,10 @@ fn lesser(m: usize, least: Option<usize>) -> usize
 fn allowed(takes: &[usize], port: u32, tokens: usize) -> usize
     ensures { result ≡ tokens / number_at takes.now port }
 {
-    let n = if (port as usize) < takes.len() { takes[port as usize] } else { 1 };
+    let n = if (port as usize) < takes.len() {
+        takes[port as usize]
+    } else {
+        1
+    };
     if n == 0 { 0 } else { tokens / n }
 }

@@ -1,5 +1,4 @@
 use Rattle.std.proofs.Common.{◌≡◌, take}
-
 use Rattle.pt_sdf.proofs.plan.copies.Given as goal
 
 abbrev pub invariant-loop-counts : goal.invariant-loop-counts

@@ -1,9 +1,9 @@
-use Rattle.std.proofs.Common.{◌≡◌, ℕ, ◌+◌, ◌-◌, ◌<◌, ◌≤◌, ◌⊎◌, length, get_or, ap, ◌∙◌, sym, subst, arith, refl, ⊎_elim, Some, [], ◌++◌}
+use Rattle.std.proofs.Common.{◌-◌, ◌<◌, ◌≤◌, length, get_or, ◌∙◌, sym, subst, arith, ⊎_elim}
 use Rattle.std.proofs.lemmas.Bool.{cases_eq}
 use Rattle.std.proofs.Math.Nat.{le_trans}
 use Rattle.pt_meaning.specs.Streams.{at}
 use Rattle.pt_recv.specs.Lines.{spare_at}
-use Rattle.pt_sdf.specs.Feeds.{no_feed, copies_for}
+use Rattle.pt_sdf.specs.Feeds.{no_feed}
 use Rattle.pt_sdf.proofs.FeedLaws.{next-staged}
 use Rattle.pt_sdf.proofs.scatter.prepare.Goals as goal
 
@@ -20,7 +20,7 @@ loop-k-preserved c = record {
   room = λ j h l.
       ⊎_elim
       (λ e.
-        subst (λ i. length (at c.args.outputs.now (get_or c.args.feeds.now i no_feed).port) ≤ spare_at c.prepare_one.new.channels.spares (get_or c.args.feeds.now i no_feed).channel) (sym e)
-        (subst (λ v. length v ≤ spare_at c.prepare_one.new.channels.spares (get_or c.args.feeds.now (c.loop-k.k - 1) no_feed).channel) c.list-tokens.ensures c.in_ok-prepare_one.ensures.room))
+      subst (λ i. length (at c.args.outputs.now (get_or c.args.feeds.now i no_feed).port) ≤ spare_at c.prepare_one.new.channels.spares (get_or c.args.feeds.now i no_feed).channel) (sym e)
+      (subst (λ v. length v ≤ spare_at c.prepare_one.new.channels.spares (get_or c.args.feeds.now (c.loop-k.k - 1) no_feed).channel) c.list-tokens.ensures c.in_ok-prepare_one.ensures.room))
       (λ z. le_trans (c.loop-k.invariant.room j (omega (arith, h, z)) l) (c.prepare_one.ensures.keeps (get_or c.args.feeds.now j no_feed).channel)) (cases_eq j (c.loop-k.k - 1));
 }

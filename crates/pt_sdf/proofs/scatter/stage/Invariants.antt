@@ -1,5 +1,4 @@
 use Rattle.std.proofs.Common.{◌≡◌, ◌++◌, take}
-
 use Rattle.pt_sdf.proofs.scatter.stage.Given as goal
 
 abbrev pub invariant-loop-token : goal.invariant-loop-token

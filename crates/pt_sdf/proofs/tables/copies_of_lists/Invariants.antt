@@ -1,5 +1,4 @@
 use Rattle.std.proofs.Common.{◌≡◌, take}
-
 use Rattle.pt_sdf.proofs.tables.copies_of_lists.Given as goal
 
 abbrev pub invariant-loop-tokens : goal.invariant-loop-tokens

@@ -1,8 +1,7 @@
-use Rattle.std.proofs.Common.{◌≡◌, ℕ, ◌+◌, ◌<◌, ◌≤◌, [], length, get_or, take, drop, ap, ap₂, ◌∙◌, sym, subst, arith, refl}
+use Rattle.std.proofs.Common.{◌+◌, ◌<◌, ◌≤◌, [], length, get_or, take, drop, ap, ◌∙◌, sym, subst, arith}
 use Rattle.pt_meaning.specs.Kahn.{firsts}
-use Rattle.pt_sdf.specs.declared.sdf.Stage.TheVariants as code
 use Rattle.pt_sdf.specs.ByNeed.{skip_at}
-use Rattle.pt_sdf.specs.State.{Allows, IsEnough, in_stage, asked, Closed, Open}
+use Rattle.pt_sdf.specs.State.{Allows, IsEnough, in_stage, asked, Closed}
 use Rattle.pt_sdf.specs.Clauses.{State}
 use Rattle.pt_sdf.specs.Rooms.{HaveRooms}
 use Rattle.pt_sdf.proofs.SoundLaws.{begins-long}
@@ -59,7 +58,7 @@ returns c =
       subst (λ (s : State). Allows s c.index-child.result.now) c.self.view_is (asked-allowed c.self.inside c.self.invariant g l c.index-child.result.now c.index-child.ensures),
       ap (λ (s : State). s.tag) c.self.view_is,
       asked-state c.self.inside c.self.invariant g l c.index-child.result.now c.index-child.ensures c.index-from.result.now _ c.index-from.ensures (ap (λ v. get_or v c.index-child.result.now 0) c.as_slice.ensures) c.gather.new.channels.lists c.gather.new.lent.items c.gather.new.rooms.items
-      (c.gather.ensures.left ∙ ap (λ v. skip_at c.index-from.result.now (take (get_or c.as_slice.result.now c.index-child.result.now 0) (drop c.index-from.result.now v)) c.self.inside.channels.lists) c.as_slice-2.ensures)
-      (c.gather.ensures.lent ∙ ap (λ v. firsts (take (get_or c.as_slice.result.now c.index-child.result.now 0) (drop c.index-from.result.now v)) (take (get_or c.as_slice.result.now c.index-child.result.now 0) (drop c.index-from.result.now c.self.inside.channels.lists))) c.as_slice-2.ensures) ∙
-      ap (λ (s : State). asked c.index-child.result.now s) c.self.view_is,
+          (c.gather.ensures.left ∙ ap (λ v. skip_at c.index-from.result.now (take (get_or c.as_slice.result.now c.index-child.result.now 0) (drop c.index-from.result.now v)) c.self.inside.channels.lists) c.as_slice-2.ensures)
+          (c.gather.ensures.lent ∙ ap (λ v. firsts (take (get_or c.as_slice.result.now c.index-child.result.now 0) (drop c.index-from.result.now v)) (take (get_or c.as_slice.result.now c.index-child.result.now 0) (drop c.index-from.result.now c.self.inside.channels.lists))) c.as_slice-2.ensures) ∙
+          ap (λ (s : State). asked c.index-child.result.now s) c.self.view_is,
     )
