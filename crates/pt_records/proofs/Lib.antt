@@ -1,0 +1,3 @@
+pub mod GrowthLaws
+pub mod SoFarLaws
+pub mod CountLaws

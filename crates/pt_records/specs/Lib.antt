@@ -1,0 +1,5 @@
+pub mod Kept
+pub mod Growth
+pub mod Fired
+pub mod SoFar
+pub mod Counts
