@@ -1,0 +1,3 @@
+pub mod RecordedLaws
+pub mod LibraryLaws
+pub mod Link

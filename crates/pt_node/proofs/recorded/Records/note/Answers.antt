@@ -1,0 +1,14 @@
+use Rattle.std.proofs.Common.{◌∙◌, ap, arith, map}
+use Rattle.pt_node.specs.Recorded.{noting, unnoted}
+use Rattle.pt_node.proofs.RecordedLaws.{changed-step, unnoted-stays, unnoted-noting}
+use Rattle.pt_node.proofs.recorded.Records.note.Goals as goal
+
+pub returns-in_err-note-clause-recorded : goal.returns-in_err-note-clause-recorded
+returns-in_err-note-clause-recorded c =
+    unnoted-stays c.args.tag c.args.outputs.now c.loop-k.k c.args.self.now c.loop-k.self-inside.ports.items c.index_mut-port.result.now c.note.new.self c.loop-k.invariant c.index_mut-port.ensures.value c.in_err-note.ensures.recorded
+
+pub loop-k-preserved : goal.loop-k-preserved
+loop-k-preserved c = changed-step (noting c.args.tag c.args.outputs.now) c.loop-k.k c.args.self.now c.loop-k.self-inside.ports.items c.index_mut-port.result.now c.note.new.self c.loop-k.invariant (grind (arith, c.loop-k-test.true, c.len-k-end.ensures, c.self.view_is)) c.index_mut-port.ensures.value c.in_ok-note.ensures.noted
+
+pub returns-clause-recorded : goal.returns-clause-recorded
+returns-clause-recorded c = ap (λ v. map unnoted v) c.loop-k.invariant ∙ unnoted-noting c.args.tag c.args.outputs.now c.loop-k.k c.args.self.now

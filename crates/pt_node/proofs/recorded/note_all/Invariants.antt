@@ -1,0 +1,7 @@
+use Rattle.std.proofs.Common.{◌≡◌, ◌++◌, take}
+use Rattle.pt_meaning.specs.Basics.{with_tag}
+use Rattle.pt_node.proofs.recorded.note_all.Given as goal
+
+-- the tokens so far, each with the tag
+abbrev pub invariant-loop-token : goal.invariant-loop-token
+invariant-loop-token l = l.noted.items ≡ l.fn.noted.items ++ with_tag l.tag (take l.token-index l.tokens)

@@ -1,0 +1,6 @@
+pub mod Recorded
+pub mod LibraryActor
+pub mod Shown
+pub mod View
+pub mod Live
+pub mod Firing

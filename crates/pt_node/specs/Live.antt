@@ -1,0 +1,75 @@
+-- When a node may fire: no firing of it is under way, and each composite fits its children.
+use Rattle.std.specs.Prelude.{◌≡◌, List, [], ◌∷◌, Bool, true, length, Option, Some}
+use Rattle.pt_meaning.specs.Basics.{Tag, Streams}
+use Rattle.pt_meaning.specs.Tree as tree
+use Rattle.pt_meaning.specs.NodeFacts as facts
+use Rattle.pt_meaning.specs.Closed.{on_answer}
+use Rattle.pt_value.specs.declared.token.Token.{Token}
+use Rattle.pt_sdf.specs.State.{Idle}
+use Rattle.pt_sdf.specs.Chain.{IsFor}
+use Rattle.pt_node.specs.declared.director.Director.{Director}
+use Rattle.pt_node.specs.declared.director.Director.TheVariants.{Sdf}
+use Rattle.pt_node.specs.declared.library.LibraryActor.{LibraryActor}
+use Rattle.pt_node.specs.LibraryActor as library
+use Rattle.pt_node.specs.declared.body.Body.{Body}
+use Rattle.pt_node.specs.declared.body.Body.TheVariants.{Actor, Composite}
+use Rattle.pt_node.specs.Shown.{Shown, AllShown, Branch, none, more}
+use Rattle.pt_node.specs.View.{nodes_of}
+
+-- the actor after some firings, where each of them is done
+abbrev pub after : List (Tag × Streams Token) → LibraryActor → Option LibraryActor
+after [] a = Some a
+after (f ∷ fs) a = on_answer (after fs) (library.step f.0 a f.1)
+
+-- Its need stays the same, whatever it fires. A source with a limit isn't steady: once it is over it needs nothing more.
+abbrev pub IsSteadyActor : LibraryActor → Type 0
+IsSteadyActor a = (fs : List (Tag × Streams Token)) (b : LibraryActor) → after fs a ≡ Some b → library.need b ≡ library.need a
+
+-- a composite of SDF is steady
+abbrev pub IsSteadyBody : Body → Type 0
+IsSteadyBody (Actor held) = IsSteadyActor held.actor
+IsSteadyBody (Composite director) = Unit {0}
+
+abbrev pub IsSteady : Shown → Type 0
+IsSteady (Branch f ks) = IsSteadyBody f.body
+
+abbrev pub AllSteady : AllShown → Type 0
+AllSteady none = Unit {0}
+AllSteady (more s ss) = IsSteady s × AllSteady ss
+
+-- no firing of the composite is under way, and its plan is one for these children, whose needs stay
+abbrev pub IsReady : Director → AllShown → Type 0
+IsReady (Sdf s) ks = (s.stage ≡ Idle) × IsFor (facts.facts_of library.rows) s (tree.list_of (nodes_of ks)) × AllSteady ks
+
+abbrev pub IsReadyBody : Body → AllShown → Type 0
+IsReadyBody (Actor held) ks = Unit {0}
+IsReadyBody (Composite director) ks = IsReady director ks
+
+-- each composite within is ready
+abbrev mutual
+  pub IsFit : Shown → Type 0
+  IsFit (Branch f ks) = IsReadyBody f.body ks × AllFit ks
+
+  pub AllFit : AllShown → Type 0
+  AllFit none = Unit {0}
+  AllFit (more s ss) = IsFit s × AllFit ss
+
+-- what the node tells
+abbrev pub is_live : Shown → Bool
+is_live (Branch f ks) = f.live
+
+-- a node that may fire
+abbrev pub IsLive : Shown → Type 0
+IsLive s = (is_live s ≡ true) × IsFit s
+
+-- the inputs fit the director: a list for each own input
+abbrev pub TakenBy : Director → Streams Token → Type 0
+TakenBy (Sdf s) X = length X ≡ length s.plan.takes
+
+-- the inputs that the node takes at a tag
+abbrev pub TakesBody : Tag → Body → Streams Token → Type 0
+TakesBody tag (Actor held) X = library.Takes tag held.actor X
+TakesBody tag (Composite director) X = TakenBy director X
+
+abbrev pub Takes : Tag → Shown → Streams Token → Type 0
+Takes tag (Branch f ks) X = TakesBody tag f.body X

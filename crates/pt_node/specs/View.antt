@@ -1,0 +1,99 @@
+-- What a node of the code is among the definitions, and what is kept of it beside.
+use Rattle.std.specs.Prelude.{ℕ, zero, suc, ◌+◌, max, List, [], ◌∷◌, Option, Some, None, map}
+use Rattle.pt_meaning.specs.Basics.{Path}
+use Rattle.pt_meaning.specs.Tree as tree
+use Rattle.pt_value.specs.declared.token.Token.{Token}
+use Rattle.pt_records.specs.Kept.{Kept, Entry, kept_by}
+use Rattle.pt_node.specs.declared.body.Body.{Body}
+use Rattle.pt_node.specs.declared.body.Body.TheVariants.{Actor, Composite}
+use Rattle.pt_node.specs.declared.director.Director.{Director}
+use Rattle.pt_node.specs.declared.director.Director.TheVariants.{Sdf}
+use Rattle.pt_node.specs.declared.library.LibraryActor.{LibraryActor}
+use Rattle.pt_node.specs.Recorded.{trace_of}
+use Rattle.pt_node.specs.Shown.{Shown, AllShown, Branch, Frame, none, more}
+
+abbrev pub Tree : Type 0
+Tree = tree.Node Token LibraryActor
+
+abbrev pub Trees : Type 0
+Trees = tree.Nodes Token LibraryActor
+
+-- a director with what it holds at its start, and now
+abbrev pub start_of : Director → tree.Core Token
+start_of (Sdf s) = tree.Sdf s.plan s.first
+
+abbrev pub core_of : Director → tree.Core Token
+core_of (Sdf s) = tree.Sdf s.plan s.held
+
+-- a library actor, or a composite of these children
+abbrev pub node_with : tree.Past → Body → Trees → Tree
+node_with h (Actor held) kids = tree.Actor h held.start held.actor
+node_with h (Composite director) kids = tree.Composite h (start_of director) (core_of director) kids
+
+-- the node among the definitions
+abbrev mutual
+  pub node_of : Shown → Tree
+  node_of (Branch f ks) = node_with f.past f.body (nodes_of ks)
+
+  pub nodes_of : AllShown → Trees
+  nodes_of none = tree.none
+  nodes_of (more s ss) = tree.more (node_of s) (nodes_of ss)
+
+-- what is kept of a node at its own path: the number of its firings, and its recorded outputs
+abbrev pub entry_of : Frame → Entry Token
+entry_of f = record { count = f.past.made; recorded = map trace_of f.records }
+
+-- what is kept of a node and of all within it
+abbrev mutual
+  pub kept_of : Shown → Kept Token
+  kept_of (Branch f ks) = kept_by (entry_of f) (kepts_of ks)
+
+  pub kepts_of : AllShown → List (Kept Token)
+  kepts_of none = []
+  kepts_of (more s ss) = kept_of s ∷ kepts_of ss
+
+-- the number of finished firings of a node and of all within it
+abbrev mutual
+  pub count_of : Shown → ℕ
+  count_of (Branch f ks) = f.past.made + counts_of ks
+
+  pub counts_of : AllShown → ℕ
+  counts_of none = 0
+  counts_of (more s ss) = count_of s + counts_of ss
+
+-- The names of a tree: of each node the text of its path. No firing changes them.
+mutual
+  pub data Outline : Type 0 where
+    Named : List ℕ → Outlines → Outline
+
+  pub data Outlines : Type 0 where
+    end : Outlines
+    with : Outline → Outlines → Outlines
+
+abbrev mutual
+  pub outline_of : Shown → Outline
+  outline_of (Branch f ks) = Named f.path (outlines_of ks)
+
+  pub outlines_of : AllShown → Outlines
+  outlines_of none = end
+  outlines_of (more s ss) = with (outline_of s) (outlines_of ss)
+
+-- how many levels there are
+abbrev mutual
+  pub depth : Outline → ℕ
+  depth (Named text os) = suc (depths os)
+
+  pub depths : Outlines → ℕ
+  depths end = 0
+  depths (with o os) = max (depth o) (depths os)
+
+-- the text of the node at a path, if there is one
+abbrev mutual
+  pub text_at : Outline → Path → Option (List ℕ)
+  text_at (Named text os) [] = Some text
+  text_at (Named text os) (i ∷ p) = text_below os i p
+
+  pub text_below : Outlines → ℕ → Path → Option (List ℕ)
+  text_below end i p = None
+  text_below (with o os) zero p = text_at o p
+  text_below (with o os) (suc i) p = text_below os i p

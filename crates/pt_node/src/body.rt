@@ -1,0 +1,35 @@
+ghost use Rattle.std.specs.Prelude.{◌≡◌, IfOk};
+
+use crate::director::Director;
+use crate::library::LibraryActor;
+use pt_firing::Fires;
+use std::alloc::{AllocError, Global};
+
+/// A library actor beside its start, to which a reset brings it back.
+#[derive(Drop)]
+pub struct Held {
+    pub start: LibraryActor,
+    pub actor: LibraryActor,
+}
+
+/// What a node is: a library actor, or a composite with its director.
+#[derive(Drop)]
+pub enum Body {
+    Actor(Held),
+    Composite(Director),
+}
+
+impl Body {
+    /// Another body in the same state.
+    pub fn copy(&self, alloc: Global) -> Result<Body, AllocError>
+        ensures { IfOk result (λ body. body ≡ self.now) }
+    {
+        Ok(match self {
+            Body::Actor(held) => Body::Actor(Held {
+                start: held.start.copy(alloc)?,
+                actor: held.actor.copy(alloc)?,
+            }),
+            Body::Composite(director) => Body::Composite(director.copy(alloc)?),
+        })
+    }
+}

@@ -1,0 +1,67 @@
+ghost use Rattle.std.specs.Prelude.{◌≡◌, ◌+◌, ◌<◌, ◌^◌, IfOk};
+ghost use Rattle.pt_node.specs.declared.node.Node.{out-Node};
+ghost use Rattle.pt_node.specs.Shown.{shown_node};
+ghost use Rattle.pt_meaning.specs.NodeFacts as facts;
+ghost use Rattle.pt_firing.specs.Need.{need_of};
+ghost use Rattle.pt_node.specs.LibraryActor as library;
+ghost use Rattle.pt_node.specs.Live.{is_live};
+ghost use Rattle.pt_node.specs.View.{node_of};
+ghost use Rattle.pt_node.specs.Firing.{noted, bare, recorded};
+
+use crate::body::Body;
+use crate::past::Past;
+use crate::recorded::Records;
+use pt_firing::{Actor, Need, Outputs};
+use pt_time::Tag;
+use pt_value::Text;
+use std::alloc::{AllocError, Global};
+
+/// A node of the tree of a model, with its past and what is recorded of it. A library actor has no children.
+#[derive(Drop)]
+pub struct Node {
+    pub past: Past,
+    pub body: Body,
+    pub children: Vec<Node>,
+    pub records: Records,
+    /// Its path from the top, as a report tells it.
+    pub path: Text,
+    /// False from the begin of a firing on, until it is recorded. After one that isn't the node fires no more.
+    pub live: bool,
+}
+
+impl Node {
+    /// Whether the node may fire: its firings so far, since it was built or reset, all ended well.
+    pub fn live(&self) -> bool
+        ensures { result ≡ is_live (shown_node self.now) }
+    {
+        self.live
+    }
+
+    /// What the node needs before it can fire.
+    pub fn need(&self) -> Need<'_>
+        ensures { need_of result ≡ facts.need_of library.rows (node_of (shown_node self.now)) }
+    {
+        match &self.body {
+            Body::Actor(held) => held.actor.need(),
+            Body::Composite(director) => director.need(),
+        }
+    }
+
+    /// Notes what a firing gave on the recorded outputs. Nothing is recorded by that.
+    pub fn note(&mut self, alloc: Global, tag: Tag, outputs: &Outputs) -> Result<(), AllocError>
+        ensures noted { IfOk result (λ _. shown_node self.new ≡ noted tag outputs.now (shown_node self.old)) }
+        ensures kept { bare (shown_node self.new) ≡ bare (shown_node self.old) }
+    {
+        self.records.note(alloc, tag, outputs)
+    }
+
+    /// Records a firing at the tag, with what was noted of it. The node is live again.
+    pub fn record(&mut self, tag: Tag)
+        requires { (out-Node self.old).past.made + 1 < 2 ^ 64 }
+        ensures { shown_node self.new ≡ recorded tag (shown_node self.old) }
+    {
+        self.past = self.past.fired_at(tag);
+        self.records.record();
+        self.live = true;
+    }
+}

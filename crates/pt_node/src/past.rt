@@ -1,0 +1,35 @@
+ghost use Rattle.std.specs.Prelude.{◌≡◌, ◌+◌, ◌<◌, ◌^◌};
+ghost use Rattle.pt_meaning.specs.Tree as tree;
+
+use pt_time::Tag;
+use std::marker::Model;
+
+/// How often a node has fired over the whole run, and the time of its last firing since the start or the last reset.
+#[derive(Clone, Copy, Debug, PartialEq, Eq)]
+pub struct Past {
+    pub made: u64,
+    pub last: Option<u64>,
+}
+
+impl Model for Past {
+    ghost use Rattle.pt_meaning.specs.Tree as tree;
+
+    ghost Value = { tree.Past };
+
+    ghost view = { λ p. record { made = p.made; last = p.last } };
+
+    ghost inverse = { λ p. record { made = p.made; last = p.last } };
+}
+
+impl Past {
+    /// One firing more, at that tag.
+    pub fn fired_at(self, tag: Tag) -> Past
+        requires { self.made + 1 < 2 ^ 64 }
+        ensures { result ≡ tree.fired_at tag self }
+    {
+        Past {
+            made: self.made + 1,
+            last: Some(tag.time),
+        }
+    }
+}
