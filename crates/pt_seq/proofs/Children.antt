@@ -1,0 +1,106 @@
+-- Lists of children, and what is read off them.
+use Rattle.std.proofs.Common.{◌≡◌, ℕ, zero, suc, ◌+◌, ◌<◌, ◌≤◌, max, List, [], ◌∷◌, length, map, get_or, set, Option, Some, refl, sym, ap, subst, ◌∙◌, arith}
+use Rattle.pt_meaning.specs.Basics.{Path}
+use Rattle.pt_meaning.specs.Streams.{get}
+use Rattle.pt_meaning.specs.Tree as tree
+use Rattle.pt_meaning.specs.NodeFacts.{facts_of, need_of}
+use Rattle.pt_records.specs.Kept.{kept_at}
+use Rattle.pt_sdf.specs.ByNeed.{needs_of}
+use Rattle.pt_node.specs.LibraryActor.{rows}
+use Rattle.pt_node.specs.Shown.{Shown, all_of}
+use Rattle.pt_node.specs.View.{Trees, node_of, nodes_of, kept_of, kepts_of, count_of, counts_of, outline_of, outlines_of, with, depth, depths, text_at, text_below}
+use Rattle.pt_node.specs.Live.{IsFit, AllFit, IsSteady, AllSteady}
+
+pub nodes-set : (ss : List Shown) (i : ℕ) (s : Shown) → tree.list_of (nodes_of (all_of (set ss i s))) ≡ set (tree.list_of (nodes_of (all_of ss))) i (node_of s)
+nodes-set [] i s = refl
+nodes-set (x ∷ ss) zero s = refl
+nodes-set (x ∷ ss) (suc i) s = ap (λ v. node_of x ∷ v) (nodes-set ss i s)
+
+pub kepts-set : (ss : List Shown) (i : ℕ) (s : Shown) → kepts_of (all_of (set ss i s)) ≡ set (kepts_of (all_of ss)) i (kept_of s)
+kepts-set [] i s = refl
+kepts-set (x ∷ ss) zero s = refl
+kepts-set (x ∷ ss) (suc i) s = ap (λ v. kept_of x ∷ v) (kepts-set ss i s)
+
+pub kepts-at : (ss : List Shown) (i : ℕ) (s : Shown) → get ss i ≡ Some s → kept_at (kepts_of (all_of ss)) i ≡ kept_of s
+kepts-at [] i s e = absurd (cc)
+kepts-at (x ∷ ss) zero s e = let same : x ≡ s = cc in ap (λ v. kept_of v) same
+kepts-at (x ∷ ss) (suc i) s e = kepts-at ss i s e
+
+pub nodes-get : (ss : List Shown) (i : ℕ) (s : Shown) → get ss i ≡ Some s → get (tree.list_of (nodes_of (all_of ss))) i ≡ Some (node_of s)
+nodes-get [] i s e = absurd (cc)
+nodes-get (x ∷ ss) zero s e = let same : x ≡ s = cc in ap (λ v. Option.Some (node_of v)) same
+nodes-get (x ∷ ss) (suc i) s e = nodes-get ss i s e
+
+pub kepts-long : (ss : List Shown) → length (kepts_of (all_of ss)) ≡ length ss
+kepts-long [] = refl
+kepts-long (x ∷ ss) = ap (λ n. suc n) (kepts-long ss)
+
+pub nodes-long : (ss : List Shown) → length (tree.list_of (nodes_of (all_of ss))) ≡ length ss
+nodes-long [] = refl
+nodes-long (x ∷ ss) = ap (λ n. suc n) (nodes-long ss)
+
+pub nodes-again : (ns : Trees) → tree.nodes_of (tree.list_of ns) ≡ ns
+nodes-again tree.none = refl
+nodes-again (tree.more n ns) = ap (λ v. let t : Trees = tree.more n v in t) (nodes-again ns)
+
+pub fit-get : (ss : List Shown) (i : ℕ) (s : Shown) → get ss i ≡ Some s → AllFit (all_of ss) → IsFit s
+fit-get [] i s e f = absurd (cc)
+fit-get (x ∷ ss) zero s e f = let same : x ≡ s = cc in subst (λ v. IsFit v) same f.0
+fit-get (x ∷ ss) (suc i) s e f = fit-get ss i s e f.1
+
+pub fit-set : (ss : List Shown) (i : ℕ) (s : Shown) → IsFit s → AllFit (all_of ss) → AllFit (all_of (set ss i s))
+fit-set [] i s g f = tt
+fit-set (x ∷ ss) zero s g f = (g, f.1)
+fit-set (x ∷ ss) (suc i) s g f = (f.0, fit-set ss i s g f.1)
+
+pub steady-get : (ss : List Shown) (i : ℕ) (s : Shown) → get ss i ≡ Some s → AllSteady (all_of ss) → IsSteady s
+steady-get [] i s e f = absurd (cc)
+steady-get (x ∷ ss) zero s e f = let same : x ≡ s = cc in subst (λ v. IsSteady v) same f.0
+steady-get (x ∷ ss) (suc i) s e f = steady-get ss i s e f.1
+
+pub steady-set : (ss : List Shown) (i : ℕ) (s : Shown) → IsSteady s → AllSteady (all_of ss) → AllSteady (all_of (set ss i s))
+steady-set [] i s g f = tt
+steady-set (x ∷ ss) zero s g f = (g, f.1)
+steady-set (x ∷ ss) (suc i) s g f = (f.0, steady-set ss i s g f.1)
+
+pub outlines-set : (ss : List Shown) (i : ℕ) (s t : Shown) → get ss i ≡ Some s → outline_of t ≡ outline_of s → outlines_of (all_of (set ss i t)) ≡ outlines_of (all_of ss)
+outlines-set [] i s t e h = refl
+outlines-set (x ∷ ss) zero s t e h = let same : x ≡ s = cc in ap (λ o. with o (outlines_of (all_of ss))) (h ∙ ap (λ v. outline_of v) (sym same))
+outlines-set (x ∷ ss) (suc i) s t e h = ap (λ os. with (outline_of x) os) (outlines-set ss i s t e h)
+
+pub text-get : (ss : List Shown) (i : ℕ) (s : Shown) (p : Path) → get ss i ≡ Some s → text_below (outlines_of (all_of ss)) i p ≡ text_at (outline_of s) p
+text-get [] i s p e = absurd (cc)
+text-get (x ∷ ss) zero s p e = let same : x ≡ s = cc in ap (λ v. text_at (outline_of v) p) same
+text-get (x ∷ ss) (suc i) s p e = text-get ss i s p e
+
+pub depth-get : (ss : List Shown) (i : ℕ) (s : Shown) → get ss i ≡ Some s → depth (outline_of s) ≤ depths (outlines_of (all_of ss))
+depth-get [] i s e = absurd (cc)
+depth-get (x ∷ ss) zero s e = let same : x ≡ s = cc in subst (λ v. depth (outline_of v) ≤ max (depth (outline_of x)) (depths (outlines_of (all_of ss)))) same (omega arith)
+depth-get (x ∷ ss) (suc i) s e = omega (arith, depth-get ss i s e)
+
+pub counts-set : (ss : List Shown) (i : ℕ) (s t : Shown) (l l' n : ℕ) → get ss i ≡ Some s → count_of t + l' ≡ count_of s + l → counts_of (all_of ss) + l ≡ n → counts_of (all_of (set ss i t)) + l' ≡ n
+counts-set [] i s t l l' n e h g = absurd (cc)
+counts-set (x ∷ ss) zero s t l l' n e h g = let same : x ≡ s = cc in let c : count_of x ≡ count_of s = ap (λ v. count_of v) same in omega (arith, h, g, c)
+counts-set (x ∷ ss) (suc i) s t l l' n e h g = let r = counts-set ss i s t l l' (counts_of (all_of ss) + l) e h refl in omega (arith, r, g)
+
+pub needs-set : (ss : List Shown) (i : ℕ) (s t : Shown) → get ss i ≡ Some s → need_of rows (node_of t) ≡ need_of rows (node_of s) →
+    needs_of (facts_of rows) (tree.list_of (nodes_of (all_of (set ss i t)))) ≡ needs_of (facts_of rows) (tree.list_of (nodes_of (all_of ss)))
+needs-set [] i s t e h = refl
+needs-set (x ∷ ss) zero s t e h = let same : x ≡ s = cc in ap (λ n. n ∷ needs_of (facts_of rows) (tree.list_of (nodes_of (all_of ss)))) (h ∙ ap (λ v. need_of rows (node_of v)) (sym same))
+needs-set (x ∷ ss) (suc i) s t e h = ap (λ ns. need_of rows (node_of x) ∷ ns) (needs-set ss i s t e h)
+
+-- an element by its index
+pub get-or : {A : Type 0} (xs : List A) (i : ℕ) (d : A) → i < length xs → d ≡ get_or xs i d → get xs i ≡ Some d
+get-or [] i d h e = absurd (omega (arith, h))
+get-or (x ∷ xs) zero d h e = ap (λ v. Option.Some v) (sym e)
+get-or (x ∷ xs) (suc i) d h e = get-or xs i d (omega (arith, h)) e
+
+pub get-map : {A B : Type 0} (f : A → B) (xs : List A) (i : ℕ) (x : A) → get xs i ≡ Some x → get (map f xs) i ≡ Some (f x)
+get-map f [] i x e = absurd (cc)
+get-map {A} {B} f (y ∷ xs) zero x e = let same : y ≡ x = cc in ap (λ v. Option.Some (f v)) same
+get-map f (y ∷ xs) (suc i) x e = get-map f xs i x e
+
+pub map-set : {A B : Type 0} (f : A → B) (xs : List A) (i : ℕ) (x : A) → map f (set xs i x) ≡ set (map f xs) i (f x)
+map-set f [] i x = refl
+map-set f (y ∷ xs) zero x = refl
+map-set f (y ∷ xs) (suc i) x = ap (λ v. f y ∷ v) (map-set f xs i x)

@@ -1,0 +1,61 @@
+-- The firing of a node of the code, by what its body is.
+use Rattle.std.proofs.Common.{◌≡◌, false, map, sym, ap, subst, ◌∙◌}
+use Rattle.pt_meaning.specs.Basics.{Tag, Streams}
+use Rattle.pt_value.specs.declared.token.Token.{Token}
+use Rattle.pt_node.specs.declared.node.Node.{Node, roll-Node}
+use Rattle.pt_node.specs.declared.node.Node.TheViews.{out-roll-Node}
+use Rattle.pt_node.specs.declared.node.Node.TheOpen as opens
+use Rattle.pt_node.specs.declared.body.Body.{Body}
+use Rattle.pt_node.specs.declared.body.Body.TheVariants as body
+use Rattle.pt_node.specs.declared.body.Held.{Held}
+use Rattle.pt_node.specs.declared.director.Director.{Director}
+use Rattle.pt_node.specs.Shown.{Shown, AllShown, Branch, Frame, shown, shown_node, level, all_of}
+use Rattle.pt_node.specs.Live.{IsFit}
+use Rattle.pt_seq.specs.declared.fire.Within.{Within}
+use Rattle.pt_seq.specs.Within.{WithinTo, StaysFit, ActorTo, DirectorTo, DirectorStaysFit}
+use Rattle.pt_seq.proofs.Turns.{actor-goes, actor-fit, composite-goes, composite-fit}
+
+-- the fields of a node, with another body
+abbrev with-body : opens.Node-F Node → Body → Shown
+with-body r b = Branch (record { past = r.past; body = b; records = r.records; path = r.path; live = r.live }) (all_of (map shown r.children.items))
+
+frame-in : opens.Node-F Node → Frame
+frame-in r = record { past = r.past; body = r.body; records = r.records; path = r.path; live = r.live }
+
+module _ (n : Node) (r : opens.Node-F Node) (b : Body) (e : roll-Node r ≡ n) (is : r.body ≡ b) where
+  pub old-is : shown_node n ≡ with-body r b
+  old-is = ap (λ m. shown_node m) (sym e) ∙ ap (λ x. level x) (out-roll-Node r) ∙ ap (λ v. with-body r v) is
+
+module _ (n n' : Node) (r r' : opens.Node-F Node) (held held' : Held) (e : roll-Node r ≡ n) (e' : roll-Node r' ≡ n') (is : r.body ≡ body.Actor held) (tag : Tag) (X : Streams Token) (w : Within) (goes : ActorTo held r.path r.past.made tag X w held')
+    (now : level r' ≡ Branch (record { past = r.past; body = body.Actor held'; records = r.records; path = r.path; live = false }) (all_of (map shown r.children.items))) where
+  new-actor : shown_node n' ≡ Branch (record { past = r.past; body = body.Actor held'; records = r.records; path = r.path; live = false }) (all_of (map shown r.children.items))
+  new-actor = ap (λ m. shown_node m) (sym e') ∙ ap (λ x. level x) (out-roll-Node r') ∙ now
+
+  pub actor-enters : WithinTo (shown_node n) tag X w (shown_node n')
+  unfolding frame-in
+  actor-enters =
+      subst (λ s. WithinTo s tag X w (shown_node n')) (sym (old-is n r (body.Actor held) e is))
+      (subst (λ s. WithinTo (with-body r (body.Actor held)) tag X w s) (sym new-actor) (actor-goes (frame-in r) held held' (all_of (map shown r.children.items)) tag X w goes))
+
+  pub actor-stays : IsFit (shown_node n) → StaysFit (shown_node n) w (shown_node n')
+  unfolding frame-in
+  actor-stays fit =
+      subst (λ s. StaysFit s w (shown_node n')) (sym (old-is n r (body.Actor held) e is))
+      (subst (λ s. StaysFit (with-body r (body.Actor held)) w s) (sym new-actor) (actor-fit (frame-in r) held held' (all_of (map shown r.children.items)) tag X w (subst (λ s. IsFit s) (old-is n r (body.Actor held) e is) fit).1 goes))
+
+module _ (n n' : Node) (r r' : opens.Node-F Node) (d d' : Director) (ks' : AllShown) (e : roll-Node r ≡ n) (e' : roll-Node r' ≡ n') (is : r.body ≡ body.Composite d) (w : Within)
+    (now : level r' ≡ Branch (record { past = r.past; body = body.Composite d'; records = r.records; path = r.path; live = false }) ks') where
+  new-composite : shown_node n' ≡ Branch (record { past = r.past; body = body.Composite d'; records = r.records; path = r.path; live = false }) ks'
+  new-composite = ap (λ m. shown_node m) (sym e') ∙ ap (λ x. level x) (out-roll-Node r') ∙ now
+
+  pub composite-enters : (tag : Tag) (X : Streams Token) → DirectorTo d (all_of (map shown r.children.items)) tag X w d' ks' → WithinTo (shown_node n) tag X w (shown_node n')
+  unfolding frame-in
+  composite-enters tag X goes =
+      subst (λ s. WithinTo s tag X w (shown_node n')) (sym (old-is n r (body.Composite d) e is))
+      (subst (λ s. WithinTo (with-body r (body.Composite d)) tag X w s) (sym new-composite) (composite-goes (frame-in r) d d' (all_of (map shown r.children.items)) ks' tag X w goes))
+
+  pub composite-stays : DirectorStaysFit d (all_of (map shown r.children.items)) w d' ks' → StaysFit (shown_node n) w (shown_node n')
+  unfolding frame-in
+  composite-stays fit =
+      subst (λ s. StaysFit s w (shown_node n')) (sym (old-is n r (body.Composite d) e is))
+      (subst (λ s. StaysFit (with-body r (body.Composite d)) w s) (sym new-composite) (composite-fit (frame-in r) d d' (all_of (map shown r.children.items)) ks' w fit))

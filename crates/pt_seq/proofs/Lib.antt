@@ -1,0 +1,6 @@
+pub mod Children
+pub mod SdfFiring
+pub mod Turns
+pub mod Loop
+pub mod Entering
+pub mod Answering

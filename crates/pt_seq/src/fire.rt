@@ -1,0 +1,265 @@
+ghost use Rattle.std.specs.Prelude.{◌≡◌, ◌+◌, ◌<◌, ◌≤◌, ◌^◌, length, Some, IsSome, map};
+ghost use Rattle.pt_sdf.specs.State.{Idle, Closed, asked_child, lent_in};
+ghost use Rattle.pt_node.specs.declared.node.Node.{out-Node};
+ghost use Rattle.pt_node.specs.LibraryActor as library;
+ghost use Rattle.pt_node.specs.Shown.{shown, shown_node, all_of};
+ghost use Rattle.pt_node.specs.View.{outline_of, outlines_of, count_of, counts_of};
+ghost use Rattle.pt_node.specs.Live.{IsLive, IsFit, Takes, AllFit, IsReady, TakenBy};
+ghost use Rattle.pt_node.specs.declared.director.Director.TheVariants.{Sdf};
+ghost use Rattle.pt_seq.specs.Within.{WithinTo, SpendsAll, StaysFit, DirectorTo, DirectorStaysFit, SdfTo, SdfStaysFit, TurnTo, TurnSpends, AnswersTo, ActorTo, IsFaultAt, TellTo, FinishTo};
+
+use pt_firing::{Answer, Ask, Fires, Inputs, Outputs, Place, RunFault, Step};
+use pt_node::{Body, Director, Held, Node};
+use pt_time::Tag;
+use pt_value::Text;
+use std::alloc::Global;
+
+/// How a firing went that isn't recorded yet.
+#[derive(Drop)]
+pub(crate) enum Within {
+    Done(Outputs),
+    Fault(Place),
+    Spent,
+    Memory,
+}
+
+/// How a turn of a child went: the core asks for the next one, or the firing of the composite ends here.
+#[derive(Drop)]
+pub(crate) enum Turn {
+    Next(Ask),
+    Fault(Place),
+    Spent,
+    Memory,
+}
+
+/// One firing of the node at a tag, on a list of tokens for each of its places. At most `allowance` firings are recorded in it, those of the node and of all within it.
+/// After any answer but `Done` the node isn't live.
+pub fn fire_seq(
+    alloc: Global,
+    node: &mut Node,
+    tag: Tag,
+    inputs: &Inputs<'_>,
+    allowance: u64,
+) -> Answer
+    requires live { IsLive (shown_node node.old) }
+    requires inputs { Takes tag (shown_node node.old) inputs.now }
+    ensures answers { AnswersTo (shown_node node.old) tag inputs.now allowance result (shown_node node.new) }
+    ensures outline { outline_of (shown_node node.new) ≡ outline_of (shown_node node.old) }
+{
+    let mut left = allowance;
+    let outputs = match fire(alloc, node, tag, inputs, &mut left) {
+        Within::Done(outputs) => outputs,
+        Within::Fault(place) => return Answer::Fault(place),
+        Within::Spent => return Answer::Spent(allowance),
+        Within::Memory => return Answer::Memory,
+    };
+    if left == 0 {
+        return Answer::Spent(allowance);
+    }
+    if node.past.made == u64::MAX {
+        return Answer::Memory;
+    }
+    if node.note(alloc, tag, &outputs).is_err() {
+        return Answer::Memory;
+    }
+    node.record(tag);
+    Answer::Done(outputs)
+}
+
+/// One firing of the node, which isn't recorded. What is left of the allowance is lowered by each firing within.
+#[cycle(fire)]
+fn fire(alloc: Global, node: &mut Node, tag: Tag, inputs: &Inputs<'_>, left: &mut u64) -> Within
+    requires fit { IsFit (shown_node node.old) }
+    requires inputs { Takes tag (shown_node node.old) inputs.now }
+    ensures goes { WithinTo (shown_node node.old) tag inputs.now result (shown_node node.new) }
+    ensures spends { SpendsAll result left.new }
+    ensures lowered { left.new ≤ left.old }
+    ensures fit { StaysFit (shown_node node.old) result (shown_node node.new) }
+    ensures outline { outline_of (shown_node node.new) ≡ outline_of (shown_node node.old) }
+    ensures counted { count_of (shown_node node.new) + left.new ≡ count_of (shown_node node.old) + left.old }
+    ensures past { (out-Node node.new).past ≡ (out-Node node.old).past }
+{
+    node.live = false;
+    match &mut node.body {
+        Body::Actor(held) => fire_actor(alloc, held, &node.path, node.past.made, tag, inputs),
+        Body::Composite(director) => {
+            fire_composite(alloc, director, &mut node.children, tag, inputs, left)
+        }
+    }
+}
+
+/// One firing of a composite, by its director.
+#[cycle(fire)]
+fn fire_composite(
+    alloc: Global,
+    director: &mut Director,
+    children: &mut Vec<Node>,
+    tag: Tag,
+    inputs: &Inputs<'_>,
+    left: &mut u64,
+) -> Within
+    requires ready { IsReady director.old (all_of (map shown children.old.items)) }
+    requires fit { AllFit (all_of (map shown children.old.items)) }
+    requires inputs { TakenBy director.old inputs.now }
+    ensures goes { DirectorTo director.old (all_of (map shown children.old.items)) tag inputs.now result director.new (all_of (map shown children.new.items)) }
+    ensures spends { SpendsAll result left.new }
+    ensures lowered { left.new ≤ left.old }
+    ensures fit { DirectorStaysFit director.old (all_of (map shown children.old.items)) result director.new (all_of (map shown children.new.items)) }
+    ensures outlines { outlines_of (all_of (map shown children.new.items)) ≡ outlines_of (all_of (map shown children.old.items)) }
+    ensures counted { counts_of (all_of (map shown children.new.items)) + left.new ≡ counts_of (all_of (map shown children.old.items)) + left.old }
+{
+    match director {
+        Director::Sdf(core) => fire_sdf(alloc, core, children, tag, inputs, left),
+    }
+}
+
+/// One step of a library actor, whose path and number of firings are told where it is stuck.
+fn fire_actor(
+    alloc: Global,
+    held: &mut Held,
+    path: &Text,
+    made: u64,
+    tag: Tag,
+    inputs: &Inputs<'_>,
+) -> Within
+    requires { library.Takes tag held.old.actor inputs.now }
+    ensures goes { ActorTo held.old path.now made tag inputs.now result held.new }
+{
+    match held.actor.step(alloc, tag, inputs) {
+        Step::Done(outputs) => Within::Done(outputs),
+        Step::Fault(kind) => fault_at(alloc, path, made, kind),
+        Step::Memory => Within::Memory,
+    }
+}
+
+/// The firing of that number is stuck at the path.
+fn fault_at(alloc: Global, path: &Text, firing: u64, kind: RunFault) -> Within
+    ensures { IsFaultAt path.now firing kind result }
+{
+    match path.copy(alloc) {
+        Ok(path) => Within::Fault(Place { path, firing, kind }),
+        Err(_) => Within::Memory,
+    }
+}
+
+/// One firing of an SDF composite: its core says which child fires next.
+#[cycle(fire)]
+fn fire_sdf(
+    alloc: Global,
+    core: &mut pt_sdf::Core,
+    children: &mut Vec<Node>,
+    tag: Tag,
+    inputs: &Inputs<'_>,
+    left: &mut u64,
+) -> Within
+    requires ready { IsReady (Sdf core.old) (all_of (map shown children.old.items)) }
+    requires fit { AllFit (all_of (map shown children.old.items)) }
+    requires inputs { TakenBy (Sdf core.old) inputs.now }
+    ensures goes { SdfTo core.old (all_of (map shown children.old.items)) tag inputs.now result core.new (all_of (map shown children.new.items)) }
+    ensures spends { SpendsAll result left.new }
+    ensures lowered { left.new ≤ left.old }
+    ensures fit { SdfStaysFit core.old (all_of (map shown children.old.items)) result core.new (all_of (map shown children.new.items)) }
+    ensures outlines { outlines_of (all_of (map shown children.new.items)) ≡ outlines_of (all_of (map shown children.old.items)) }
+    ensures counted { counts_of (all_of (map shown children.new.items)) + left.new ≡ counts_of (all_of (map shown children.old.items)) + left.old }
+{
+    if core.begin(alloc, tag, inputs).is_err() {
+        return Within::Memory;
+    }
+    let mut next = core.ask();
+    loop {
+        match next {
+            Ask::Fire(child, _) => {
+                if *left == 0 {
+                    return Within::Spent;
+                }
+                match fire_child(alloc, core, &mut children[child as usize], child, tag, left) {
+                    Turn::Next(ask) => next = ask,
+                    Turn::Fault(place) => return Within::Fault(place),
+                    Turn::Spent => return Within::Spent,
+                    Turn::Memory => return Within::Memory,
+                }
+            }
+            Ask::Finished => return finish(alloc, core),
+            _ => unreachable!(),
+        }
+    }
+}
+
+/// A turn of the child that the core asked for: it fires, the core is told what it gave, and where its rates are right its firing is recorded.
+#[cycle(fire)]
+fn fire_child(
+    alloc: Global,
+    core: &mut pt_sdf::Core,
+    child: &mut Node,
+    number: u32,
+    tag: Tag,
+    left: &mut u64,
+) -> Turn
+    requires asked { asked_child core.old.stage ≡ Some number }
+    requires fit { IsFit (shown_node child.old) }
+    requires inputs { Takes tag (shown_node child.old) (lent_in core.old.stage) }
+    ensures goes { TurnTo core.old (shown_node child.old) number tag result core.new (shown_node child.new) }
+    ensures spends { TurnSpends result left.old left.new }
+    ensures lowered { left.new ≤ left.old }
+    ensures outline { outline_of (shown_node child.new) ≡ outline_of (shown_node child.old) }
+    ensures counted { count_of (shown_node child.new) + left.new ≡ count_of (shown_node child.old) + left.old }
+{
+    let outputs = match fire(alloc, child, tag, &core.lent(), left) {
+        Within::Done(outputs) => outputs,
+        Within::Fault(place) => return Turn::Fault(place),
+        Within::Spent => return Turn::Spent,
+        Within::Memory => return Turn::Memory,
+    };
+    if *left == 0 {
+        return Turn::Spent;
+    }
+    tell(alloc, core, child, number, tag, left, outputs)
+}
+
+/// Tells the core what the child gave. The child's firing is recorded where it gave its rates.
+fn tell(
+    alloc: Global,
+    core: &mut pt_sdf::Core,
+    child: &mut Node,
+    number: u32,
+    tag: Tag,
+    left: &mut u64,
+    outputs: Outputs,
+) -> Turn
+    requires asked { asked_child core.old.stage ≡ Some number }
+    requires left { 0 < left.old }
+    ensures goes { TellTo core.old (shown_node child.old) number tag outputs result core.new (shown_node child.new) }
+    ensures spends { TurnSpends result left.old left.new }
+    ensures lowered { left.new ≤ left.old }
+    ensures outline { outline_of (shown_node child.new) ≡ outline_of (shown_node child.old) }
+    ensures counted { count_of (shown_node child.new) + left.new ≡ count_of (shown_node child.old) + left.old }
+{
+    if child.past.made == u64::MAX || child.note(alloc, tag, &outputs).is_err() {
+        return Turn::Memory;
+    }
+    if core.told(alloc, number, outputs).is_err() {
+        return Turn::Memory;
+    }
+    match core.ask() {
+        Ask::Faulted(kind, _) => match fault_at(alloc, &child.path, child.past.made, kind) {
+            Within::Fault(place) => Turn::Fault(place),
+            _ => Turn::Memory,
+        },
+        next => {
+            child.record(tag);
+            *left -= 1;
+            Turn::Next(next)
+        }
+    }
+}
+
+/// The own outputs of a composite whose children have fired enough.
+fn finish(alloc: Global, core: &mut pt_sdf::Core) -> Within
+    requires { core.old.stage ≡ Closed }
+    ensures { FinishTo core.old result core.new }
+{
+    match core.finish(alloc) {
+        Ok(outputs) => Within::Done(outputs),
+        Err(_) => Within::Memory,
+    }
+}

@@ -1,0 +1,6 @@
+//! Firing a tree of nodes on one thread.
+#![tactic(auto)]
+
+mod fire;
+
+pub use fire::fire_seq;
