@@ -1,12 +1,12 @@
 -- What the calls of a core come to.
-use Rattle.std.proofs.Common.{◌≡◌, ℕ, zero, suc, ◌+◌, ◌-◌, ◌*◌, ◌/◌, ◌<◌, ◌≤◌, true, false, append-nil, List, [], ◌∷◌, ◌++◌, length, get_or, set, take, drop, map, Option, Some, None, Vec, Global, refl, ap, ap₂, sym, subst, ◌∙◌, arith, zero-add}
+use Rattle.std.proofs.Common.{◌≡◌, ℕ, zero, suc, ◌+◌, ◌-◌, ◌*◌, ◌/◌, ◌<◌, ◌≤◌, true, false, append-nil, List, [], ◌∷◌, ◌++◌, length, get_or, set, take, drop, map, Option, None, Vec, Global, refl, ap, ap₂, sym, subst, ◌∙◌, arith, zero-add}
 use Rattle.std.proofs.lemmas.List.{length-map}
 use Rattle.pt_meaning.specs.Tag.{Tag, origin}
 use Rattle.pt_meaning.specs.Streams.{Streams, at}
 use Rattle.pt_meaning.specs.Net.{Source, Own, Output}
 use Rattle.pt_meaning.specs.Rounds.{has_rates}
 use Rattle.pt_meaning.specs.Kahn.{arrived, arrival, firsts, behind}
-use Rattle.pt_meaning.specs.Sdf.{SdfPlan, number_at, all_allow, or_one, iterations}
+use Rattle.pt_meaning.specs.Sdf.{SdfPlan, number_at, or_one, iterations}
 use Rattle.pt_meaning.specs.Running.{total, plus, puts, zeros}
 use Rattle.pt_laws.proofs.FiringLaws.{arrived-long}
 use Rattle.pt_value.specs.declared.token.Token.{Token}
@@ -14,14 +14,14 @@ use Rattle.pt_sdf.specs.declared.feeds.Feed.{Feed}
 use Rattle.pt_sdf.specs.declared.sdf.Stage as declared
 use Rattle.pt_sdf.specs.declared.sdf.Stage.TheVariants as code
 use Rattle.pt_sdf.specs.ByNeed.{place_of, skip_at}
-use Rattle.pt_sdf.specs.State.{Stage, Idle, Open, Asked, Wrong, Closed, SdfState, IsEnough, started, begun, asked, after_told, if_told, closed, in_stage, owed, own_of}
+use Rattle.pt_sdf.specs.State.{Asked, started, begun, asked, after_told, if_told, closed}
 use Rattle.pt_sdf.specs.declared.plan.CorePlan.{CorePlan}
 use Rattle.pt_sdf.specs.Plan.{source_of, plan_of, IsSamePlan}
 use Rattle.pt_sdf.specs.Clauses.{State}
-use Rattle.pt_sdf.specs.Lawful.{occurs, IsNamed, IsLawful}
+use Rattle.pt_sdf.specs.Lawful.{occurs, IsNamed}
 use Rattle.pt_sdf.specs.Feeds.{row_of, port_of, targets, target_of, rows_in, put_back, allowed_by, AreFeeds, AreThere, AreApart, MovesOnce}
 use Rattle.pt_sdf.specs.Rooms.{HasRoom, HaveRooms}
-use Rattle.pt_sdf.specs.Core.{stage_of, fired_from, state_of, begins, left_at_first, place_behind, busy, taken_by, StageFits, IsPosition, IsLevel, AreLevel, HaveRoom, Sound}
+use Rattle.pt_sdf.specs.Core.{fired_from, state_of, begins, left_at_first, busy, taken_by, StageFits, IsPosition, IsLevel, AreLevel, HaveRoom, Sound}
 use Rattle.pt_sdf.proofs.Lists.{at-is, skip-before, skip-long}
 use Rattle.pt_sdf.proofs.NeedLaws.{part-fits, skip-behind}
 use Rattle.pt_sdf.proofs.FeedLaws.{IsWithin, put-back-is, row-puts, row-arrives, allow-is, feeds-there, feeds-apart}

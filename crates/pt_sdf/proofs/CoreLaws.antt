@@ -1,8 +1,8 @@
 -- The laws of the calls, at the fields of a core.
-use Rattle.std.proofs.Common.{◌≡◌, ℕ, ◌+◌, ◌-◌, ◌*◌, ◌<◌, ◌≤◌, ◌⊎◌, ◌++◌, List, [], length, get_or, set, take, drop, map, nat_eq, true, false, Option, Some, None, Vec, Global, refl, ap, ap₂, sym, subst, ◌∙◌, arith}
+use Rattle.std.proofs.Common.{◌≡◌, ℕ, ◌+◌, ◌-◌, ◌*◌, ◌<◌, ◌≤◌, ◌⊎◌, ◌++◌, List, [], length, get_or, take, drop, map, nat_eq, true, false, Option, Some, None, Vec, Global, ap, ap₂, sym, subst, ◌∙◌, arith}
 use Rattle.std.proofs.lemmas.List.{length-map}
 use Rattle.pt_meaning.specs.Tag.{Tag}
-use Rattle.pt_meaning.specs.Streams.{Streams, at}
+use Rattle.pt_meaning.specs.Streams.{Streams}
 use Rattle.pt_meaning.specs.Rounds.{has_rates}
 use Rattle.pt_meaning.specs.Kahn.{arrived, firsts, behind}
 use Rattle.pt_meaning.specs.Sdf.{or_one, iterations}
@@ -14,15 +14,15 @@ use Rattle.pt_sdf.specs.declared.sdf.Stage as declared
 use Rattle.pt_sdf.specs.declared.sdf.Stage.TheVariants as code
 use Rattle.pt_sdf.specs.declared.sdf.Core.TheInside.{Inside}
 use Rattle.pt_sdf.specs.ByNeed.{place_of, skip_at}
-use Rattle.pt_sdf.specs.State.{Open, Idle, Closed, Allows, IsEnough, asked_child, asked, begun, after_told, closed, owed, own_of, in_stage}
+use Rattle.pt_sdf.specs.State.{Open, Idle, Closed, Allows, IsEnough, asked_child, asked, begun, after_told, closed}
 use Rattle.pt_sdf.specs.Clauses.{State}
 use Rattle.pt_sdf.specs.Plan.{source_of, plan_of}
-use Rattle.pt_sdf.specs.Feeds.{target_of, put_back, allowed_by, no_feed, AreThere, AreApart, MovesOnce}
+use Rattle.pt_sdf.specs.Feeds.{target_of, put_back, allowed_by, AreThere, AreApart, MovesOnce}
 use Rattle.pt_sdf.specs.Rooms.{HasRoom, HaveRooms}
-use Rattle.pt_sdf.specs.Core.{stage_of, fired_from, state_of, state_in, left_at_first, place_behind, busy, Sound, IsSound}
+use Rattle.pt_sdf.specs.Core.{state_of, state_in, left_at_first, place_behind, busy, Sound, IsSound}
 use Rattle.pt_sdf.proofs.Lists.{read-at, at-is}
-use Rattle.pt_sdf.proofs.SoundLaws.{child-there, offset-is, offsets-long, total-fits, enough, may-fire, ask-sound, stage-open, stage-idle, stage-closed, child-asked, told-there, told-firings, told-sound, told-kept, wrong-sound}
-use Rattle.pt_sdf.proofs.CallLaws.{whole-fired, row-apart, row-moves, row-there, child-ports, child-puts, own-ports, own-arrives, own-turns, begin-sound, begin-state, found-sound, own-begin, finish-sound, finish-state, ask-state, told-state, wrong-state}
+use Rattle.pt_sdf.proofs.SoundLaws.{child-there, offset-is, total-fits, enough, may-fire, ask-sound, stage-open, stage-idle, stage-closed, child-asked, told-there, told-firings, told-sound, told-kept, wrong-sound}
+use Rattle.pt_sdf.proofs.CallLaws.{whole-fired, row-apart, row-moves, row-there, child-ports, child-puts, own-ports, own-arrives, own-turns, begin-sound, begin-state, finish-sound, finish-state, ask-state, told-state, wrong-state}
 
 -- the same core, by its parts at another stage
 abbrev SoundAt : Inside → declared.Stage → Type 0

@@ -1,15 +1,15 @@
 -- What a row feeds, and what its outputs put on the channels.
-use Rattle.std.proofs.Common.{◌≡◌, ℕ, zero, suc, ◌+◌, ◌-◌, ◌/◌, ◌<◌, ◌≤◌, List, [], ◌∷◌, ◌++◌, Bool, true, false, length, get_or, set, take, drop, map, nat_eq, min, Option, Some, None, if◌then◌else◌, Vec, Global, refl, ap, ap₂, sym, subst, ◌∙◌, arith, append_assoc, append-nil, add-one, zero-add, suc-add, length-append, length-set, replicate}
+use Rattle.std.proofs.Common.{◌≡◌, ℕ, zero, suc, ◌+◌, ◌-◌, ◌/◌, ◌<◌, ◌≤◌, List, [], ◌∷◌, ◌++◌, Bool, true, false, length, get_or, set, take, drop, map, nat_eq, Option, Some, None, if◌then◌else◌, Vec, Global, refl, ap, ap₂, sym, ◌∙◌, arith, append_assoc, append-nil, zero-add, length-set, replicate}
 use Rattle.std.proofs.lemmas.List.{get_or-set_same, get_or-set_other, drop_more, map_push, length-map, take_at, drop_at}
 use Rattle.std.proofs.Math.ListN.{get_or-map}
 use Rattle.std.proofs.lemmas.Bool.Decides.{nat_tests}
 use Rattle.pt_meaning.specs.Streams.{Streams, at}
 use Rattle.pt_meaning.specs.Net.{Source, Own, Output}
-use Rattle.pt_meaning.specs.Kahn.{arrived, arrival}
+use Rattle.pt_meaning.specs.Kahn.{arrived}
 use Rattle.pt_meaning.specs.Sdf.{number_at, allows, all_allow}
 use Rattle.pt_meaning.specs.Running.{plus, puts, puts_on}
 use Rattle.pt_sdf.specs.declared.feeds.Feed.{Feed}
-use Rattle.pt_sdf.specs.Feeds.{Target, target_of, row_of, port_of, if_target, targets, row_puts, put_back, rows_in, no_feed, AreTargets, AreFeeds, MovesOnce, AreApart, copy_for, copies_for, AreThere, min_with, allowed_by}
+use Rattle.pt_sdf.specs.Feeds.{Target, target_of, row_of, port_of, if_target, targets, row_puts, put_back, rows_in, no_feed, AreTargets, MovesOnce, AreApart, copy_for, copies_for, AreThere, min_with, allowed_by}
 use Rattle.pt_sdf.proofs.Lists.{at-is}
 
 -- the source is an own input, or an output of one of n children

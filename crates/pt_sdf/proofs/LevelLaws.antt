@@ -1,17 +1,12 @@
 -- How full the channels are, and that the order never lacks a token.
-use Rattle.std.proofs.Common.{◌≡◌, ℕ, zero, suc, ◌+◌, ◌-◌, ◌*◌, ◌/◌, ◌<◌, ◌≤◌, List, [], ◌∷◌, ◌++◌, Bool, true, false, length, get_or, set, take, drop, map, nat_eq, if◌then◌else◌, refl, ap, ap₂, sym, subst, ◌∙◌, arith, ◌⊎◌, inl, inr, length-append, length-drop, min}
-use Rattle.std.proofs.lemmas.List.{get_or-set_same, get_or-set_other}
-use Rattle.std.proofs.lemmas.Bool.{cases_eq}
+use Rattle.std.proofs.Common.{◌≡◌, ℕ, zero, suc, ◌+◌, ◌-◌, ◌*◌, ◌/◌, ◌<◌, ◌≤◌, List, [], ◌∷◌, Bool, true, false, length, get_or, take, nat_eq, if◌then◌else◌, refl, ap, ap₂, sym, subst, ◌∙◌, arith, min}
 use Rattle.pt_meaning.specs.Streams.{Streams, at}
 use Rattle.pt_meaning.specs.Net.{Source, Own, Output}
 use Rattle.pt_meaning.specs.Sdf.{SdfPlan, number_at}
-use Rattle.pt_meaning.specs.Running.{total}
-use Rattle.pt_sdf.specs.ByNeed.{place_of}
 use Rattle.pt_sdf.specs.Lawful.{occurs, rate_at, IsSupplied}
 use Rattle.pt_sdf.specs.Core.{IsLevel}
 use Rattle.pt_sdf.proofs.FeedLaws.{IsWithin}
-use Rattle.pt_meaning.specs.Kahn.{arrival}
-use Rattle.pt_meaning.specs.Sdf.{allows, all_allow, or_one}
+use Rattle.pt_meaning.specs.Sdf.{allows, all_allow}
 use Rattle.pt_meaning.specs.Running.{puts_on}
 use Rattle.std.proofs.lemmas.Bool.Decides.{nat_tests}
 use Rattle.std.proofs.Common.{Option, Some, None}

@@ -1,11 +1,11 @@
 -- The first feed of each port is marked.
-use Rattle.std.proofs.Common.{◌≡◌, ℕ, zero, suc, ◌+◌, ◌<◌, ◌≤◌, List, [], ◌∷◌, Bool, true, false, length, get_or, set, map, Vec, Global, refl, ap, ap₂, sym, subst, ◌∙◌, arith, ⊎_elim, length-set}
+use Rattle.std.proofs.Common.{◌≡◌, ℕ, ◌+◌, ◌<◌, List, [], Bool, true, false, length, get_or, set, map, Vec, Global, ap, sym, subst, ◌∙◌, arith, ⊎_elim, length-set}
 use Rattle.std.proofs.lemmas.List.{get_or-set_same, get_or-set_other, map-set, set-get_or, length-map, get_or_past, get_or_default}
 use Rattle.std.proofs.lemmas.Bool.{cases_eq, cases_lt}
 use Rattle.std.proofs.Math.ListN.{get_or-map}
 use Rattle.pt_meaning.specs.Net.{Source}
 use Rattle.pt_sdf.specs.declared.feeds.Feed.{Feed}
-use Rattle.pt_sdf.specs.Feeds.{Target, target_of, targets, rows_in, no_feed, AreTargets, MovesOnce}
+use Rattle.pt_sdf.specs.Feeds.{target_of, targets, rows_in, no_feed, AreTargets, MovesOnce}
 use Rattle.pt_sdf.proofs.Lists.{read-at}
 
 module _ (row : List Feed) (k : ℕ) (f : Feed) (first : Bool) (h : k < length row) (e : f ≡ get_or row k f) where

@@ -1,11 +1,11 @@
 -- What a core sees of the children is enough, and what it tests is what the definition asks.
-use Rattle.std.proofs.Common.{◌≡◌, ℕ, zero, suc, ◌≤◌, ◌<◌, ◌+◌, ◌*◌, List, [], ◌∷◌, ◌++◌, inl, length, take, drop, get_or, set, map, refl, sym, ap, ap₂, subst, ◌∙◌, arith, nat_le, nat_eq, le-leb, true, zero-add, suc-add, Option, Some, None}
+use Rattle.std.proofs.Common.{◌≡◌, ℕ, zero, suc, ◌≤◌, ◌<◌, ◌+◌, ◌*◌, List, [], ◌∷◌, ◌++◌, inl, length, take, drop, get_or, set, map, refl, sym, ap, subst, ◌∙◌, arith, nat_le, nat_eq, le-leb, true, zero-add, suc-add, Some, None}
 use Rattle.std.proofs.lemmas.Bool.Decides.{nat_tests}
 use Rattle.pt_meaning.specs.Streams.{Streams, at}
-use Rattle.pt_meaning.specs.Machine.{Need, Over, Counts, Facts, Stepping, Fault, Outcome, Stuck, Takes, front, counted}
+use Rattle.pt_meaning.specs.Machine.{Need, Over, Counts, Facts, Stepping, Fault, Stuck, Takes, front, counted}
 use Rattle.pt_meaning.specs.Tag.{Tag}
 use Rattle.pt_meaning.specs.Log.{Log}
-use Rattle.pt_meaning.specs.Rounds.{Limit, within, at_cap, rated}
+use Rattle.pt_meaning.specs.Rounds.{Limit, within, rated}
 use Rattle.pt_meaning.specs.Flow.{Flow}
 use Rattle.pt_meaning.specs.Kahn.{firsts, behind}
 use Rattle.pt_meaning.specs.Sdf.{sdf_limits, fired_all}

@@ -1,6 +1,6 @@
 -- How often each child fired, by the place in the order.
-use Rattle.std.proofs.Common.{◌≡◌, ℕ, zero, suc, ◌+◌, ◌-◌, ◌*◌, ◌<◌, ◌≤◌, List, [], ◌∷◌, ◌++◌, Bool, true, false, length, get_or, set, take, drop, map, nat_eq, if◌then◌else◌, refl, ap, ap₂, sym, subst, ◌∙◌, arith, add-one, zero-add, append_assoc}
-use Rattle.std.proofs.lemmas.List.{get_or-set_same, get_or-set_other, length-set, take_more, take_all}
+use Rattle.std.proofs.Common.{◌≡◌, ℕ, zero, suc, ◌+◌, ◌*◌, ◌<◌, ◌≤◌, List, [], ◌∷◌, ◌++◌, true, false, length, get_or, set, take, map, nat_eq, if◌then◌else◌, refl, ap, ap₂, sym, ◌∙◌, arith, zero-add}
+use Rattle.std.proofs.lemmas.List.{take_more}
 use Rattle.std.proofs.lemmas.Bool.Decides.{nat_tests}
 use Rattle.pt_meaning.specs.Running.{zeros}
 use Rattle.pt_sdf.specs.Lawful.{occurs}

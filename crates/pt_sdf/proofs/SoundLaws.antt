@@ -1,6 +1,6 @@
 -- What a core keeps, call by call.
-use Rattle.std.proofs.Common.{◌≡◌, ℕ, zero, suc, ◌+◌, ◌-◌, ◌*◌, ◌/◌, ◌<◌, ◌≤◌, List, [], ◌∷◌, ◌++◌, Bool, true, false, ◌&&◌, ◌⊎◌, inl, inr, ⊎_elim, length, get_or, set, take, drop, map, nat_eq, Option, Some, None, Vec, Global, refl, ap, ap₂, sym, subst, ◌∙◌, arith, length-append, length-drop, add-one, zero-add}
-use Rattle.std.proofs.lemmas.List.{get_or-set_same, get_or-set_other, length-set, take_all, get_or_past}
+use Rattle.std.proofs.Common.{◌≡◌, ℕ, zero, suc, ◌+◌, ◌-◌, ◌*◌, ◌<◌, ◌≤◌, List, [], ◌∷◌, ◌++◌, Bool, true, false, ◌⊎◌, inl, inr, ⊎_elim, length, get_or, set, take, drop, map, nat_eq, Option, Some, None, Vec, Global, refl, ap, ap₂, sym, subst, ◌∙◌, arith, length-append, length-drop, zero-add}
+use Rattle.std.proofs.lemmas.List.{get_or-set_same, get_or-set_other, take_all}
 use Rattle.std.proofs.lemmas.Bool.{cases_eq, cases_lt}
 use Rattle.std.proofs.lemmas.Bool.Decides.{nat_tests}
 use Rattle.pt_meaning.specs.Tag.{Tag}
@@ -8,28 +8,26 @@ use Rattle.pt_meaning.specs.Streams.{Streams, at}
 use Rattle.pt_meaning.specs.Net.{Source, Own, Output}
 use Rattle.pt_meaning.specs.Rounds.{has_rates}
 use Rattle.pt_meaning.specs.Kahn.{arrived, arrival}
-use Rattle.pt_meaning.specs.Sdf.{SdfPlan, number_at, all_allow, or_one, iterations}
+use Rattle.pt_meaning.specs.Sdf.{SdfPlan}
 use Rattle.pt_meaning.specs.Running.{total, plus, puts, puts_on, zeros}
-use Rattle.pt_laws.proofs.Indexed.{plus-at}
-use Rattle.pt_laws.proofs.KahnLaws.{and-left, and-right}
-use Rattle.pt_laws.proofs.RunLaws.{plus-length}
-use Rattle.pt_laws.proofs.FiringLaws.{arrived-long}
+use Rattle.pt_meaning.proofs.Indexed.{plus-at}
+use Rattle.pt_meaning.proofs.KahnLaws.{and-left, and-right}
+use Rattle.pt_meaning.proofs.RunLaws.{plus-length}
 use Rattle.pt_value.specs.declared.token.Token.{Token}
 use Rattle.pt_sdf.specs.declared.feeds.Feed.{Feed}
 use Rattle.pt_sdf.specs.declared.sdf.Stage as declared
 use Rattle.pt_sdf.specs.declared.sdf.Stage.TheVariants as code
 use Rattle.pt_sdf.specs.ByNeed.{place_of, skip_at}
-use Rattle.pt_sdf.specs.State.{Stage, Idle, Open, Asked, Wrong, Closed, SdfState, Allows, IsEnough, asked_child}
-use Rattle.pt_sdf.specs.Clauses.{MayAsk}
-use Rattle.pt_sdf.specs.Lawful.{occurs, rate_at, IsNamed, IsSupplied, IsLawful}
-use Rattle.pt_sdf.specs.Feeds.{row_of, port_of, targets, target_of, rows_in, AreFeeds, AreThere, AreApart, MovesOnce}
+use Rattle.pt_sdf.specs.State.{Idle, Open, Closed, Allows, asked_child}
+use Rattle.pt_sdf.specs.Lawful.{occurs, IsNamed, IsLawful}
+use Rattle.pt_sdf.specs.Feeds.{AreFeeds}
 use Rattle.pt_sdf.specs.Rooms.{HasRoom, HaveRooms}
-use Rattle.pt_sdf.specs.Core.{stage_of, fired_from, state_of, place_behind, begins, busy, taken_by, StageFits, IsPosition, IsLevel, AreLevel, HaveRoom, Sound}
+use Rattle.pt_sdf.specs.Core.{stage_of, fired_from, state_of, place_behind, begins, busy, taken_by, IsPosition, IsLevel, AreLevel, Sound}
 use Rattle.pt_sdf.proofs.Lists.{read-at, at-is, skip-untouched, skip-before, skip-there, skip-long}
 use Rattle.pt_sdf.proofs.NeedLaws.{allows, part-fits, length-part, get-part}
 use Rattle.pt_sdf.proofs.FeedLaws.{IsWithin}
-use Rattle.pt_sdf.proofs.OrderLaws.{occurs-next, fired-long, fired-at, fired-more, fired-turn, fired-none, fired-whole}
-use Rattle.pt_sdf.proofs.LevelLaws.{enough-there, level-taken, level-same, level-told, level-start, level-begun, allow-bound}
+use Rattle.pt_sdf.proofs.OrderLaws.{occurs-next, fired-long, fired-at, fired-more, fired-turn, fired-none}
+use Rattle.pt_sdf.proofs.LevelLaws.{enough-there, level-taken, level-same, level-told, level-start}
 
 -- where the places of a child begin
 pub begins-at : (o : ℕ) (ps : List ℕ) (i : ℕ) → i < length ps → get_or (begins o ps) i 0 ≡ o + place_of ps i

@@ -1,5 +1,5 @@
 -- Lists that are made number by number.
-use Rattle.std.proofs.Common.{◌≡◌, ℕ, zero, suc, ◌+◌, ◌<◌, ◌≤◌, List, [], ◌∷◌, ◌++◌, Bool, true, false, ◌&&◌, length, get_or, take, nat_eq, refl, ap, ap₂, sym, ◌∙◌, arith, add-one, add-zero, eqb-true, eq-eqb}
+use Rattle.std.proofs.Common.{◌≡◌, ℕ, zero, suc, ◌+◌, ◌<◌, List, [], ◌∷◌, ◌++◌, Bool, true, false, ◌&&◌, length, get_or, take, nat_eq, refl, ap, sym, ◌∙◌, arith, add-one, add-zero, eqb-true, eq-eqb}
 use Rattle.pt_meaning.specs.Streams.{Streams, at}
 use Rattle.pt_meaning.specs.Rounds.{has_rates}
 use Rattle.pt_meaning.specs.Running.{total}

@@ -1,5 +1,5 @@
 -- Which channels the outputs of a child feed, and which the own inputs feed. Of n children row i is that of child i, and row n that of the own inputs.
-use Rattle.std.specs.Prelude.{◌≡◌, ℕ, zero, suc, ◌+◌, ◌/◌, ◌<◌, ◌≤◌, List, [], ◌∷◌, ◌++◌, Bool, true, false, length, map, nat_eq, get_or, set, if◌then◌else◌, Vec, Option, Some, None, min}
+use Rattle.std.specs.Prelude.{◌≡◌, ℕ, zero, suc, ◌+◌, ◌/◌, ◌<◌, List, [], ◌∷◌, ◌++◌, Bool, true, false, length, map, nat_eq, get_or, set, if◌then◌else◌, Vec, Option, Some, None, min}
 use Rattle.std.specs.Global.{Global}
 use Rattle.pt_meaning.specs.Streams.{Streams, at}
 use Rattle.pt_meaning.specs.Net.{Source, Own, Output}

@@ -1,5 +1,5 @@
 -- What the code's plan is among the definitions.
-use Rattle.std.specs.Prelude.{◌≡◌, ℕ, List, map}
+use Rattle.std.specs.Prelude.{◌≡◌, map}
 use Rattle.pt_meaning.specs.Net as net
 use Rattle.pt_meaning.specs.Sdf.{SdfPlan}
 use Rattle.pt_sdf.specs.declared.plan.Source.{Source}

@@ -1,5 +1,5 @@
 -- What a contract sees of the core of SDF: what the channels hold, which firings were told in this firing of the composite, and where that firing stands.
-use Rattle.std.specs.Prelude.{◌≡◌, ℕ, ◌+◌, ◌*◌, List, [], ◌∷◌, ◌++◌, Bool, true, false, Option, Some, None, take, drop, map, get_or, set}
+use Rattle.std.specs.Prelude.{◌≡◌, ℕ, ◌+◌, ◌*◌, List, [], ◌++◌, Bool, true, false, Option, Some, None, take, drop, map, get_or, set}
 use Rattle.pt_meaning.specs.Tag.{Tag, origin}
 use Rattle.pt_meaning.specs.Streams.{Streams}
 use Rattle.pt_meaning.specs.Rounds.{has_rates}

@@ -1,4 +1,4 @@
-use Rattle.std.proofs.Common.{◌≡◌, ◌∷◌, ◌++◌, List, [], ap, sym, ◌∙◌, set, Vec, Global}
+use Rattle.std.proofs.Common.{◌∷◌, ◌++◌, [], ap, sym, ◌∙◌, set, Vec, Global}
 use Rattle.std.proofs.lemmas.List.{map-set, get_or-map}
 use Rattle.pt_sdf.specs.declared.feeds.Feed.{Feed}
 use Rattle.pt_sdf.specs.Feeds.{rows_in}

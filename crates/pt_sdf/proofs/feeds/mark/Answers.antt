@@ -1,4 +1,4 @@
-use Rattle.std.proofs.Common.{◌≡◌, ℕ, ◌<◌, length, get_or, ap, ◌∙◌, sym, subst, arith, length-set, true, false}
+use Rattle.std.proofs.Common.{◌≡◌, ℕ, ◌<◌, length, get_or, ◌∙◌, arith, length-set, true, false}
 use Rattle.pt_sdf.specs.declared.feeds.Feed.{Feed}
 use Rattle.pt_sdf.specs.Feeds.{no_feed}
 use Rattle.pt_sdf.proofs.MarkLaws.{marked-targets, marked-sighted, marked-once}

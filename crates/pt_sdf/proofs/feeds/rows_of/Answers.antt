@@ -1,4 +1,4 @@
-use Rattle.std.proofs.Common.{◌≡◌, ℕ, ◌+◌, ◌<◌, ◌≤◌, List, [], ◌∷◌, ◌++◌, length, map, take, get_or, ap, sym, ◌∙◌, arith, subst, set, false}
+use Rattle.std.proofs.Common.{◌≡◌, ◌+◌, List, [], ◌∷◌, ◌++◌, length, map, take, get_or, ap, sym, ◌∙◌, arith, subst, set, false}
 use Rattle.std.proofs.lemmas.List.{map_more, length-take-le, length-map}
 use Rattle.pt_meaning.specs.Net as net
 use Rattle.pt_sdf.specs.declared.plan.Source as plan

@@ -1,4 +1,4 @@
-use Rattle.std.proofs.Common.{◌≡◌, ℕ, ◌+◌, ◌<◌, ◌≤◌, ◌⊎◌, inl, inr, length, take, drop, get_or, None, refl, sym, ap, ◌∙◌, subst, arith, length-set, length-drop}
+use Rattle.std.proofs.Common.{◌≡◌, ℕ, ◌+◌, ◌<◌, ◌≤◌, ◌⊎◌, inl, inr, length, drop, get_or, None, refl, sym, ◌∙◌, subst, arith, length-set, length-drop}
 use Rattle.std.proofs.lemmas.List.{take_more_set, get_or-set_other, get_or-drop}
 use Rattle.pt_sdf.proofs.Lists.{skip-zero, taken-long, next-list, next-left, next-taken}
 use Rattle.pt_sdf.proofs.gather.gather.Goals as goal

@@ -1,4 +1,4 @@
-use Rattle.std.proofs.Common.{◌∙◌, ap, subst, sym, ◌≤◌}
+use Rattle.std.proofs.Common.{◌∙◌, subst, sym, ◌≤◌}
 use Rattle.pt_sdf.proofs.Lists.{taken-more, popped-more}
 use Rattle.pt_sdf.proofs.gather.take_first.Goals as goal
 

@@ -1,6 +1,5 @@
-use Rattle.std.proofs.Common.{◌≡◌, ℕ, ◌+◌, ◌*◌, ◌<◌, ◌≤◌, [], length, min, get_or, set, take, map, None, ap, ◌∙◌, sym, subst, arith, refl, length-set}
+use Rattle.std.proofs.Common.{◌≡◌, ℕ, ◌+◌, ◌*◌, ◌<◌, [], length, min, get_or, None, ap, ◌∙◌, sym, subst, arith, refl, length-set}
 use Rattle.std.proofs.lemmas.List.{get_or-set_other}
-use Rattle.pt_recv.specs.Lines.{list_at}
 use Rattle.pt_sdf.specs.Rooms.{HasRoom}
 use Rattle.pt_sdf.proofs.Lists.{skip-zero, read-at}
 use Rattle.pt_sdf.proofs.OutletLaws.{outlet-there, outlet-list, outlet-given, outlet-left, outlets-left, one-left}

@@ -1,4 +1,4 @@
-use Rattle.std.proofs.Common.{◌≡◌, ℕ, suc, ◌+◌, ◌<◌, List, [], ◌∷◌, ◌++◌, length, take, ap, ap₂, ◌∙◌, sym, arith, refl}
+use Rattle.std.proofs.Common.{◌≡◌, ℕ, ◌<◌, List, [], ◌∷◌, ◌++◌, length, ap, ap₂, ◌∙◌, sym, arith, refl}
 use Rattle.std.proofs.lemmas.List.{take_more}
 use Rattle.pt_meaning.specs.Streams.{Streams, at}
 use Rattle.pt_value.specs.declared.token.Token.{Token}

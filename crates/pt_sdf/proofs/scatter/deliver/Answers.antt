@@ -1,4 +1,4 @@
-use Rattle.std.proofs.Common.{◌≡◌, ℕ, ◌+◌, ◌-◌, ◌<◌, ◌≤◌, List, [], ◌++◌, length, get_or, take, drop, map, set, Bool, true, false, if◌then◌else◌, ap, ◌∙◌, sym, subst, arith, refl, length-set}
+use Rattle.std.proofs.Common.{◌≡◌, ℕ, ◌-◌, ◌<◌, ◌≤◌, List, [], ◌++◌, length, get_or, take, drop, map, set, Bool, true, false, if◌then◌else◌, ap, ◌∙◌, sym, subst, arith, refl, length-set}
 use Rattle.std.proofs.lemmas.List.{drop_all}
 use Rattle.pt_meaning.specs.Streams.{Streams, at}
 use Rattle.pt_recv.specs.Lines.{spare_at, list_at}

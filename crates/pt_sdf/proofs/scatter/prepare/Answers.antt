@@ -1,9 +1,9 @@
-use Rattle.std.proofs.Common.{◌≡◌, ℕ, ◌+◌, ◌-◌, ◌<◌, ◌≤◌, ◌⊎◌, length, get_or, ap, ◌∙◌, sym, subst, arith, refl, ⊎_elim, Some, [], ◌++◌}
+use Rattle.std.proofs.Common.{◌-◌, ◌<◌, ◌≤◌, length, get_or, ◌∙◌, sym, subst, arith, ⊎_elim}
 use Rattle.std.proofs.lemmas.Bool.{cases_eq}
 use Rattle.std.proofs.Math.Nat.{le_trans}
 use Rattle.pt_meaning.specs.Streams.{at}
 use Rattle.pt_recv.specs.Lines.{spare_at}
-use Rattle.pt_sdf.specs.Feeds.{no_feed, copies_for}
+use Rattle.pt_sdf.specs.Feeds.{no_feed}
 use Rattle.pt_sdf.proofs.FeedLaws.{next-staged}
 use Rattle.pt_sdf.proofs.scatter.prepare.Goals as goal
 

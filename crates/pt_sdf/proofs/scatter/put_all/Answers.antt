@@ -1,5 +1,4 @@
-use Rattle.std.proofs.Common.{◌≡◌, ℕ, ◌+◌, ◌-◌, ◌<◌, ◌≤◌, length, ap, ◌∙◌, sym, arith, refl, length-set, get_or, []}
-use Rattle.std.proofs.lemmas.List.{get_or-set_same, get_or-set_other}
+use Rattle.std.proofs.Common.{◌<◌, length, ap, ◌∙◌, arith, refl, length-set}
 use Rattle.pt_recv.proofs.LineLaws.{lists-step, rest-step}
 use Rattle.pt_recv.specs.Lines.{list_at, spare_at}
 use Rattle.pt_sdf.proofs.Lists.{spare-lowered, spare-other}

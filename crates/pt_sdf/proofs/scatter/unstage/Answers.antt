@@ -1,5 +1,5 @@
-use Rattle.std.proofs.Common.{◌≡◌, ℕ, ◌+◌, ◌-◌, ◌<◌, ◌≤◌, length, take, drop, ap, ◌∙◌, sym, arith, refl, length-set, length-drop, append-nil, ◌++◌}
-use Rattle.std.proofs.lemmas.List.{set-get_or, drop-drop}
+use Rattle.std.proofs.Common.{◌<◌, length, take, drop, ap, ◌∙◌, arith, length-set, length-drop, ◌++◌}
+use Rattle.std.proofs.lemmas.List.{drop-drop}
 use Rattle.pt_recv.specs.Lines.{list_at, spare_at}
 use Rattle.pt_sdf.proofs.Lists.{spare-lowered, spare-other, put-more}
 use Rattle.pt_sdf.proofs.scatter.unstage.Goals as goal

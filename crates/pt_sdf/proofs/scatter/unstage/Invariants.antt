@@ -1,4 +1,4 @@
-use Rattle.std.proofs.Common.{◌≡◌, ℕ, ◌+◌, ◌≤◌, ◌++◌, length, take, drop, set}
+use Rattle.std.proofs.Common.{◌≡◌, ℕ, ◌+◌, ◌≤◌, ◌++◌, take, drop, set}
 use Rattle.pt_recv.specs.Lines.{list_at, spare_at}
 use Rattle.pt_sdf.proofs.scatter.unstage.Given as goal
 

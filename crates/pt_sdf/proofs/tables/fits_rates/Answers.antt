@@ -1,4 +1,4 @@
-use Rattle.std.proofs.Common.{◌≡◌, ℕ, ◌<◌, ◌≤◌, length, get_or, ap, ◌∙◌, sym, arith}
+use Rattle.std.proofs.Common.{◌≡◌, length, ap, ◌∙◌, sym, arith}
 use Rattle.pt_sdf.proofs.TableLaws.{rates-fit, rates-differ, rates-short}
 use Rattle.pt_sdf.proofs.tables.fits_rates.Goals as goal
 

@@ -1,5 +1,4 @@
-use Rattle.std.proofs.Common.{◌≡◌, ℕ, ◌+◌, ◌∷◌, [], ◌++◌, length, take, get_or, ap, ap₂, ◌∙◌, sym, arith}
-use Rattle.pt_meaning.specs.Running.{total}
+use Rattle.std.proofs.Common.{◌+◌, ◌∷◌, [], ◌++◌, get_or, ap, ap₂, ◌∙◌, arith}
 use Rattle.pt_sdf.proofs.TableLaws.{begins-more, total-more}
 use Rattle.pt_sdf.proofs.tables.offsets_of.Goals as goal
 

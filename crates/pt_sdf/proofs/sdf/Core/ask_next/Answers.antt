@@ -1,8 +1,7 @@
-use Rattle.std.proofs.Common.{◌≡◌, ℕ, ◌+◌, ◌<◌, ◌≤◌, [], length, get_or, take, drop, ap, ap₂, ◌∙◌, sym, subst, arith, refl}
+use Rattle.std.proofs.Common.{◌+◌, ◌<◌, ◌≤◌, [], length, get_or, take, drop, ap, ◌∙◌, sym, subst, arith}
 use Rattle.pt_meaning.specs.Kahn.{firsts}
-use Rattle.pt_sdf.specs.declared.sdf.Stage.TheVariants as code
 use Rattle.pt_sdf.specs.ByNeed.{skip_at}
-use Rattle.pt_sdf.specs.State.{Allows, IsEnough, in_stage, asked, Closed, Open}
+use Rattle.pt_sdf.specs.State.{Allows, IsEnough, in_stage, asked, Closed}
 use Rattle.pt_sdf.specs.Clauses.{State}
 use Rattle.pt_sdf.specs.Rooms.{HaveRooms}
 use Rattle.pt_sdf.proofs.SoundLaws.{begins-long}

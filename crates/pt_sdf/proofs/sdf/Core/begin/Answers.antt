@@ -1,4 +1,4 @@
-use Rattle.std.proofs.Common.{◌≡◌, ℕ, ◌+◌, ◌<◌, List, Vec, Global, length, get_or, map, ap, ap₂, ◌∙◌, sym, subst, arith, refl}
+use Rattle.std.proofs.Common.{ℕ, ◌<◌, Vec, Global, length, get_or, map, ap, ap₂, ◌∙◌, sym, subst, arith}
 use Rattle.pt_meaning.specs.Streams.{Streams}
 use Rattle.pt_meaning.specs.Sdf.{or_one}
 use Rattle.pt_value.specs.declared.token.Token.{Token}

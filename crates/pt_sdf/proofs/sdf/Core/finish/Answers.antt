@@ -1,4 +1,4 @@
-use Rattle.std.proofs.Common.{◌≡◌, ℕ, ◌-◌, ◌*◌, ◌++◌, length, take, drop, map, ap, ◌∙◌, arith}
+use Rattle.std.proofs.Common.{◌≡◌, ◌-◌, ◌*◌, ◌++◌, length, take, drop, map, ap, ◌∙◌, arith}
 use Rattle.pt_meaning.specs.Kahn.{behind}
 use Rattle.pt_sdf.proofs.CoreLaws.{is-closed, finished-sound}
 use Rattle.pt_sdf.proofs.sdf.Core.finish.Goals as goal

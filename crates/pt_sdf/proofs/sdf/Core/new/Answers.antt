@@ -1,5 +1,4 @@
-use Rattle.std.proofs.Common.{◌≡◌, ℕ, ◌≤◌, ◌<◌, length, get_or, ap, ◌∙◌, sym, subst, arith, List}
-use Rattle.pt_meaning.specs.Streams.{Streams}
+use Rattle.std.proofs.Common.{◌≡◌, ◌≤◌, ◌<◌, length, get_or, ap, ◌∙◌, sym, subst}
 use Rattle.pt_value.specs.declared.token.Token.{Token}
 use Rattle.pt_recv.specs.Lines.{Lines}
 use Rattle.pt_sdf.specs.declared.sdf.Stage.TheVariants as code

@@ -1,4 +1,4 @@
-use Rattle.std.proofs.Common.{◌≡◌, ℕ, length, ap, ◌∙◌, sym, subst, refl}
+use Rattle.std.proofs.Common.{length, ap, ◌∙◌, sym, subst, refl}
 use Rattle.pt_recv.specs.Lines.{Lines}
 use Rattle.pt_value.specs.declared.token.Token.{Token}
 use Rattle.pt_sdf.specs.declared.sdf.Stage.TheVariants as code

@@ -1,8 +1,5 @@
-use Rattle.std.proofs.Common.{◌≡◌, ℕ, ◌+◌, ◌<◌, ◌≤◌, List, [], Vec, Global, Bool, true, None, length, get_or, map, nat_eq, ap, ◌∙◌, sym, subst, arith}
+use Rattle.std.proofs.Common.{◌≡◌, ◌+◌, ◌<◌, ◌≤◌, [], true, None, length, get_or, map, nat_eq, ap, ◌∙◌, sym, subst, arith}
 use Rattle.pt_meaning.specs.Rounds.{has_rates}
-use Rattle.pt_value.specs.declared.token.Token.{Token}
-use Rattle.pt_sdf.specs.declared.feeds.Feed.{Feed}
-use Rattle.pt_sdf.specs.declared.sdf.Stage.TheVariants as code
 use Rattle.pt_sdf.specs.State.{after_told}
 use Rattle.pt_sdf.specs.Clauses.{State}
 use Rattle.pt_sdf.specs.Rooms.{HasRoom, HaveRooms}
