@@ -12,10 +12,11 @@ use Rattle.pt_moml.specs.View.{property_view, properties_view}
 use Rattle.pt_expr.specs.Scope.{Scope}
 use Rattle.pt_parameter.specs.declared.form.Form.{Form}
 use Rattle.pt_parameter.specs.declared.parameter_value.ParameterValue.{ParameterValue}
+use Rattle.pt_parameter.specs.Texts.{IsTextFault}
 use Rattle.pt_parameter.specs.Given.{Held, held_view, IsGiven, IsGivenFault}
 use Rattle.pt_values.specs.Scopes.{text_of}
 use Rattle.pt_values.specs.Sites.{director_form}
-use Rattle.pt_values.specs.Told.{IsToldAt}
+use Rattle.pt_values.specs.Told.{IsToldAt, IsVariableFault}
 use Rattle.pt_values.specs.ClassParameters.{IsParameterOf, IsFaultAmong, AreApart, IsClassFault}
 use Rattle.pt_values.proofs.Turns.{told_weaker, view-take, view-push}
 
@@ -29,6 +30,20 @@ seen-at : (ps : List Property) (i : ℕ) (p : Property) → i < length ps → p 
 seen-at [] i p short is = absurd (omega arith)
 seen-at (q ∷ ps) zero p short is = (0, omega arith, ap property_view (sym is))
 seen-at (q ∷ ps) (suc i) p short is = let w = seen-at ps i p (omega arith) is in (suc w.0, omega (arith, w.1), w.2)
+
+-- one property more, of which the same holds
+pub zip-more : {A B : Type 0} (R : PropertyTree → B → Type 0) (view : A → B) (ps : List Property) (i : ℕ) (p : Property) → i < length ps → p ≡ get_or ps i p → (xs : List A) (x : A) → AllZip R (properties_view (take i ps)) (map view xs) → R (property_view p) (view x) → AllZip R (properties_view (take (i + 1) ps)) (map view (xs ++ x ∷ []))
+zip-more R view ps i p short is xs x each here =
+    let more : properties_view (take (i + 1) ps) ≡ properties_view (take i ps) ++ property_view p ∷ [] = ap (λ k. properties_view (take k ps)) (add-one i) ∙ view-take property_view ps i p short is in
+    subst (λ us. AllZip R (properties_view (take (i + 1) ps)) us) (sym (view-push view xs x))
+    (subst (λ (qs : List PropertyTree). AllZip R qs (map view xs ++ view x ∷ [])) (sym more)
+    (pushed R (properties_view (take i ps)) (map view xs) (property_view p) (view x) each here))
+
+pub variable-fault : (scope : Scope) (ps : List Property) (i : ℕ) (p : Property) (words : List ℕ) → i < length ps → p ≡ get_or ps i p → words ≡ text_of (property_view p) → (path : List ℕ) (told : DocFault) → IsToldAt path (IsTextFault scope words) told → IsToldAt path (IsVariableFault scope (properties_view ps)) told
+variable-fault scope ps i p words short is says path told h =
+    told_weaker path (IsTextFault scope words) (IsVariableFault scope (properties_view ps))
+    (λ cause w. record { property = property_view p; there = seen-at ps i p short is; fault = subst (λ ws. IsTextFault scope ws cause) says w })
+    told h
 
 module _ (is_port : List ℕ → Bool) (scope : Scope) (form_named : List ℕ → Form) (ps : List Property) (i : ℕ) (p : Property) (name words : List ℕ) (f : Form) (short : i < length ps) (is : p ≡ get_or ps i p) (named_so : name ≡ property_name (property_view p)) (says : words ≡ text_of (property_view p)) (formed : f ≡ form_named name) where
   form-is : f ≡ form_named (property_name (property_view p))

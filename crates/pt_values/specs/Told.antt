@@ -1,6 +1,8 @@
 -- What is told of the texts of a net.
 use Rattle.std.specs.Prelude.{◌≡◌, ℕ, List, Some, option_map}
+use Rattle.std.specs.List.{Contains}
 use Rattle.pt_value.specs.Value.{Value}
+use Rattle.pt_expr.specs.Scope.{Scope}
 use Rattle.pt_moml.specs.declared.code.Code.{Code}
 use Rattle.pt_moml.specs.declared.refusal.DocFault.{DocFault}
 use Rattle.pt_moml.specs.declared.refusal.DocFault.TheVariants as faults
@@ -40,3 +42,9 @@ pub record IsFaultInTurn (around : Bindings) (ps : List PropertyTree) (cause : C
   pub seen : Bindings
   pub seen_by : IsSeenBy property seen around ps
   pub fault : IsTextFault (bound seen) (text_of property) cause
+
+-- the first value of one of these Variables is at fault for this cause
+pub record IsVariableFault (scope : Scope) (ps : List PropertyTree) (cause : Code) : Type 0 where
+  pub property : PropertyTree
+  pub there : Contains ps property
+  pub fault : IsTextFault scope (text_of property) cause

@@ -1,5 +1,5 @@
 -- What the texts of a net come to, and where one is refused.
-use Rattle.std.specs.Prelude.{◌≡◌, ℕ, List, [], ◌∷◌, map, Bool, true, false, IsTrue, Option, Some, None, option_map, Option}
+use Rattle.std.specs.Prelude.{◌≡◌, ℕ, List, [], ◌∷◌, map, Bool, true, false, IsTrue, Option, Some, None, option_map}
 use Rattle.std.specs.List.{Contains, AllZip}
 use Rattle.pt_value.specs.Value.{Value}
 use Rattle.pt_value.specs.Token.{value_of}
@@ -9,16 +9,15 @@ use Rattle.pt_moml.specs.declared.refusal.DocFault.{DocFault}
 use Rattle.pt_moml.specs.declared.refusal.DocFault.TheVariants as faults
 use Rattle.pt_moml.specs.Document.{PropertyTree, property_name, PortTree, InputTree}
 use Rattle.pt_graph.specs.Net.{NetEntityTree, TransparentTree, DirectorTree}
-use Rattle.pt_parameter.specs.declared.form.Form.{Form}
 use Rattle.pt_parameter.specs.declared.tables.TheConstants.{RATE}
 use Rattle.pt_values.specs.declared.values.EntityValues.{EntityValues}
 use Rattle.pt_values.specs.declared.values.Values.{Values}
-use Rattle.pt_parameter.specs.Forms.{form_of, fits}
+use Rattle.pt_parameter.specs.Forms.{fits}
 use Rattle.pt_parameter.specs.Texts.{HasValue}
 use Rattle.pt_values.specs.Scopes.{NetTree, Bindings, bound, text_of, Sees, Extends}
-use Rattle.pt_parameter.specs.Given.{Held, Token, held_view, names_port, IsGiven}
-use Rattle.pt_parameter.specs.Agreement.{agree, named}
-use Rattle.pt_values.specs.Sites.{is_composite_class, director_form, rate_of, inputs_of, texts_of_supply, Site, HasSite, IsFaultAt}
+use Rattle.pt_parameter.specs.Given.{Held, Token, held_view, names_port}
+use Rattle.pt_values.specs.Sites.{is_composite_class, rate_of, inputs_of, texts_of_supply, Site, HasSite, IsFaultAt}
+use Rattle.pt_values.specs.ClassParameters.{AreParametersOf, AreApart}
 
 -- ---- what the program holds
 
@@ -40,24 +39,15 @@ AreInTurn around [] (v ∷ vs) inner = ⊥
 AreInTurn around (p ∷ ps) [] inner = ⊥
 AreInTurn around (p ∷ ps) (v ∷ vs) inner = HasValue (bound around) (text_of p) v × AreInTurn ((property_name p, Some v) ∷ around) ps vs inner
 
--- a parameter that has what is given, where this is the form of each by its name
-abbrev pub IsParameter : List (List ℕ) → Bindings → (List ℕ → Form) → PropertyTree → Held → Type 0
-IsParameter ports seen form_named p h = IsGiven (names_port ports) (bound seen) (form_named (property_name p)) (text_of p) h
-
--- parameters of a class, each in its form, that agree
-pub record AreParameters (ports : List (List ℕ)) (seen : Bindings) (form_named : List ℕ → Form) (class : List ℕ) (ps : List PropertyTree) (hs : List Held) : Type 0 where
-  pub each : AllZip (IsParameter ports seen form_named) ps hs
-  pub agreed : IsTrue (agree class (named ps hs))
-
 -- the parameters of an entity, up to what its children see
 abbrev pub AreOwn : Bool → NetEntityTree → Bindings → List Held → Bindings → Type 0
 AreOwn true e around hs inner = (vs : List Value) × (hs ≡ map Token vs) × AreInTurn around e.parameters vs inner
-AreOwn false e around hs inner = AreParameters (inputs_of e) around (form_of e.class) e.class e.parameters hs
+AreOwn false e around hs inner = AreParametersOf (names_port (inputs_of e)) (bound around) None e.class e.parameters hs
 
 -- the parameters of a director
 abbrev pub AreOfDirector : Option ℕ → Option DirectorTree → Bindings → List Held → Type 0
 AreOfDirector parent None inner hs = hs ≡ []
-AreOfDirector parent (Some d) inner hs = AreParameters [] inner (director_form parent d.class) d.class d.parameters hs
+AreOfDirector parent (Some d) inner hs = AreParametersOf (names_port []) (bound inner) parent d.class d.parameters hs
 
 abbrev pub IsVariable : Bindings → PropertyTree → Value → Type 0
 IsVariable inner p v = HasValue (bound inner) (text_of p) v
@@ -113,8 +103,8 @@ pub record IsValued (net : NetTree) (values : Values) : Type 0 where
 
 -- the parameters of an entity or of its director have their forms and don't agree, at this path
 pub data IsDisagreement (net : NetTree) : List ℕ → Type 0 where
-  of_actor : (e : NetEntityTree) (around : Bindings) (hs : List Held) → Contains net.entities e → is_composite_class e.class ≡ false → Sees net e.within e.parent around → AllZip (IsParameter (inputs_of e) around (form_of e.class)) e.parameters hs → agree e.class (named e.parameters hs) ≡ false → IsDisagreement net e.path
-  of_director : (e : NetEntityTree) (d : DirectorTree) (around inner : Bindings) (hs : List Held) → Contains net.entities e → e.director ≡ Some d → Sees net e.within e.parent around → Extends around e.parameters inner → AllZip (IsParameter [] inner (director_form e.parent d.class)) d.parameters hs → agree d.class (named d.parameters hs) ≡ false → IsDisagreement net e.path
+  of_actor : (e : NetEntityTree) (around : Bindings) → Contains net.entities e → is_composite_class e.class ≡ false → Sees net e.within e.parent around → AreApart (names_port (inputs_of e)) (bound around) None e.class e.parameters → IsDisagreement net e.path
+  of_director : (e : NetEntityTree) (d : DirectorTree) (around inner : Bindings) → Contains net.entities e → e.director ≡ Some d → Sees net e.within e.parent around → Extends around e.parameters inner → AreApart (names_port []) (bound inner) e.parent d.class d.parameters → IsDisagreement net e.path
 
 -- this cause to refuse, among those of values, stands at that path of a net
 pub data Stands (net : NetTree) : Code → List ℕ → Type 0 where

@@ -7,6 +7,6 @@ mod scopes;
 mod values;
 
 pub use classes::{Owner, class_parameters};
-pub use parameters::{in_turn, value_at};
+pub use parameters::{in_turn, value_at, variables};
 pub use scopes::Scopes;
 pub use values::{EntityValues, Values};

@@ -1,4 +1,5 @@
 ghost use Rattle.std.specs.Prelude.{◌≡◌, IfOk, IfErr, map};
+ghost use Rattle.std.specs.List.{AllZip};
 ghost use Rattle.pt_value.specs.Token.{value_of};
 ghost use Rattle.pt_moml.specs.Document.{property_name};
 ghost use Rattle.pt_moml.specs.View.{property_view, properties_view};
@@ -7,7 +8,7 @@ ghost use Rattle.pt_parameter.specs.Texts.{HasValue, IsTextFault};
 ghost use Rattle.pt_values.specs.Scopes.{Bindings};
 ghost use Rattle.pt_values.specs.Scopes as scopes;
 ghost use Rattle.pt_values.specs.Frames.{Means};
-ghost use Rattle.pt_values.specs.Told.{IsToldAs, IsToldAt, IsTurn, IsFaultInTurn};
+ghost use Rattle.pt_values.specs.Told.{IsToldAs, IsToldAt, IsTurn, IsFaultInTurn, IsVariableFault};
 
 use pt_moml::{DocFault, Property, refused};
 use pt_parameter::{Names, Seen, TextFault, evaluated};
@@ -77,4 +78,22 @@ pub fn in_turn(
         own.put(alloc, name_of(property), held)?;
     }
     Ok((own, tokens))
+}
+
+/// The first values of Variables, which all see the same.
+pub fn variables(
+    alloc: Global,
+    path: &str,
+    seen: &Seen,
+    properties: &[Property],
+) -> Result<Vec<Token>, DocFault>
+    ensures ok { IfOk result (λ tokens. AllZip (λ p v. HasValue (seen_scope seen.now) (scopes.text_of p) v) (properties_view properties.now) (map value_of tokens.items)) }
+    ensures told { IfErr result (IsToldAt path.now (IsVariableFault (seen_scope seen.now) (properties_view properties.now))) }
+{
+    let mut tokens = Vec::with_capacity(alloc, properties.len())?;
+    for property in properties {
+        let token = value_at(alloc, path, seen, text_of(property))?;
+        tokens.push(token)?;
+    }
+    Ok(tokens)
 }
