@@ -1,10 +1,9 @@
 -- What the answers of the solver say of one another.
-use Rattle.std.proofs.Common.{◌≡◌, ℕ, zero, suc, ◌+◌, ◌*◌, ◌<◌, ◌≤◌, List, [], ◌∷◌, length, get_or, All, Contains, sum, refl, sym, ap, subst, ◌∙◌, arith}
+use Rattle.std.proofs.Common.{◌≡◌, ℕ, suc, ◌<◌, ◌≤◌, List, [], ◌∷◌, length, get_or, All, Contains, sum, sym, ap, ◌∙◌, arith}
 use Rattle.std.proofs.lemmas.List.{ext_get_or}
 use Rattle.std.proofs.lemmas.List.Elements.{All-contains}
 use Rattle.std.proofs.lemmas.List.Sums.{sum_by-cons}
-use Rattle.pt_rates.specs.Balance.{IsBalancedAt, IsSolution, IsRepetitionVector, tokens_on}
-use Rattle.pt_rates.specs.Fault.{IsInconsistentAt, HasSum, IsCrowdedAt}
+use Rattle.pt_rates.specs.Balance.{IsBalancedAt, IsSolution, tokens_on}
 use Rattle.pt_rates.specs.Laws.{RepetitionsAreUnique, SolutionsExcludeFaults}
 use Rattle.pt_rates.specs.declared.edge.Edge.{Edge}
 use Rattle.pt_rates.proofs.Solves.{no_edge}
