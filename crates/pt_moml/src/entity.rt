@@ -16,8 +16,8 @@ use crate::names::path_below;
 use crate::property::properties_of;
 use crate::refusal::{DocFault, refused};
 use crate::rules::parts_fit;
-use pt_value::Text;
 use pt_json::Value;
+use pt_value::Text;
 use std::alloc::Global;
 
 /// What an entity has beside its entities.

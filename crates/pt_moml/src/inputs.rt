@@ -8,8 +8,8 @@ ghost use Rattle.pt_moml.specs.Reading.{tokens_input, events_input};
 use crate::fields::{Part, has_fields, list, required, text_of, whole_number};
 use crate::job::{Event, Input, Supply};
 use crate::refusal::DocFault;
-use pt_value::Text;
 use pt_json::Value;
+use pt_value::Text;
 use std::alloc::Global;
 
 impl Part for Text {

@@ -13,8 +13,8 @@ use crate::job::{Direction, Link, OutputAction, Port, Relation, SetAction, State
 use crate::property::properties_of;
 use crate::refusal::{DocFault, refused};
 use crate::type_text::is_type_text;
-use pt_value::Text;
 use pt_json::Value;
+use pt_value::Text;
 use std::alloc::Global;
 
 /// Exactly one of input and output.
