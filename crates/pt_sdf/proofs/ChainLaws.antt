@@ -9,12 +9,12 @@ use Rattle.pt_meaning.specs.Rounds.{has_rates, rated, rated_outcome, if_rated}
 use Rattle.pt_meaning.specs.Kahn.{arrived, firsts, behind, kahn}
 use Rattle.pt_meaning.specs.Sdf.{SdfPlan, iterations, sdf_limits, fired_all, sdf}
 use Rattle.pt_meaning.specs.Running.{Asks, NoneCanFire, MadeAll, total, plus, puts}
-use Rattle.pt_meaning.specs.LogsOfRuns.{silents, logs_then, rates_at}
+use Rattle.pt_laws.specs.LogsOfRuns.{silents, logs_then, rates_at}
 use Rattle.pt_meaning.specs.Laws.{IsIn}
-use Rattle.pt_meaning.proofs.LogLaws.{begins-with, asked-fires, ends-with, sticks-with}
-use Rattle.pt_meaning.proofs.RunLaws.{running-step-with, plus-length}
-use Rattle.pt_meaning.proofs.FiringLaws.{arrived-long}
-use Rattle.pt_meaning.proofs.CompositeLaws.{first-part, second-part}
+use Rattle.pt_laws.proofs.LogLaws.{begins-with, asked-fires, ends-with, sticks-with}
+use Rattle.pt_laws.proofs.RunLaws.{running-step-with, plus-length}
+use Rattle.pt_laws.proofs.FiringLaws.{arrived-long}
+use Rattle.pt_laws.proofs.CompositeLaws.{first-part, second-part}
 use Rattle.pt_sdf.specs.ByNeed.{by_need, planned, place_of}
 use Rattle.pt_sdf.specs.State.{SdfState, Allows, IsEnough, lent_of, left_of, needs_at, asked, begun, if_told, after_told, closed, own_of, owed}
 use Rattle.pt_sdf.specs.Chain.{IsFor, Underway, firing_from, IsStuckAt, CallsAreSdf}

@@ -10,9 +10,9 @@ use Rattle.pt_meaning.specs.Rounds.{has_rates}
 use Rattle.pt_meaning.specs.Kahn.{arrived, arrival}
 use Rattle.pt_meaning.specs.Sdf.{SdfPlan}
 use Rattle.pt_meaning.specs.Running.{total, plus, puts, puts_on, zeros}
-use Rattle.pt_meaning.proofs.Indexed.{plus-at}
-use Rattle.pt_meaning.proofs.KahnLaws.{and-left, and-right}
-use Rattle.pt_meaning.proofs.RunLaws.{plus-length}
+use Rattle.pt_laws.proofs.Indexed.{plus-at}
+use Rattle.pt_laws.proofs.KahnLaws.{and-left, and-right}
+use Rattle.pt_laws.proofs.RunLaws.{plus-length}
 use Rattle.pt_value.specs.declared.token.Token.{Token}
 use Rattle.pt_sdf.specs.declared.feeds.Feed.{Feed}
 use Rattle.pt_sdf.specs.declared.sdf.Stage as declared
