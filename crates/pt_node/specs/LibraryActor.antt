@@ -9,7 +9,7 @@ use Rattle.pt_node.specs.declared.library.LibraryActor.{LibraryActor}
 use Rattle.pt_node.specs.declared.library.LibraryActor.TheVariants.{Flow}
 
 abbrev pub first : LibraryActor → List Token
-first (Flow actor) = []
+first (Flow actor) = flow.first actor
 
 abbrev pub need : LibraryActor → Need
 need (Flow actor) = flow.need actor
@@ -19,7 +19,7 @@ next (Flow actor) = None
 
 -- the inputs that the step takes
 abbrev pub Takes : Tag → LibraryActor → Streams Token → Type 0
-Takes tag (Flow actor) X = Unit {0}
+Takes tag (Flow actor) X = flow.Takes tag actor X
 
 -- the step takes no memory
 abbrev pub IsSpare : LibraryActor → Type 0

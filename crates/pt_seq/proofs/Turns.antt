@@ -41,14 +41,14 @@ use Rattle.pt_node.specs.Shown.{Shown, AllShown, Branch, Frame, all_of}
 use Rattle.pt_node.specs.Firing as firing
 use Rattle.pt_node.specs.View.{Tree, node_of, nodes_of, node_with, entry_of, kept_of, kepts_of, outline_of, outlines_of, text_at, count_of, counts_of}
 use Rattle.pt_node.specs.Live as live
-use Rattle.pt_node.specs.Live.{IsFit, AllFit, IsReady, IsLive, IsSteadyActor}
+use Rattle.pt_node.specs.Live.{IsFit, AllFit, IsReady, IsLive, IsSteady, IsSteadyBody, IsSteadyActor}
 use Rattle.pt_seq.specs.declared.fire.Within.{Within}
 use Rattle.pt_seq.specs.declared.fire.Within.TheVariants.{Done, Fault, Spent, Memory}
 use Rattle.pt_seq.specs.declared.fire.Turn.{Turn}
 use Rattle.pt_seq.specs.declared.fire.Turn.TheVariants as turn
 use Rattle.pt_seq.specs.Within.{outcome, fired, sdf_node, IsStuck, fault_of, WithinTo, StaysSteady, StaysFit, SdfTo, SdfStaysFit, ChildFired, TurnTo, TellTo, FinishTo, ActorTo, DirectorTo, DirectorStaysFit, path_of, made_of}
 use Rattle.pt_seq.specs.Between.{Between}
-use Rattle.pt_seq.proofs.Children.{nodes-get, outlines-set, counts-set}
+use Rattle.pt_seq.proofs.Children.{nodes-get, outlines-set, counts-set, steady-get}
 use Rattle.pt_seq.proofs.SdfFiring.{children-long, begun-going, going-on, asked-now, left-between, left-within, stuck-within, unrated-within, sdf-done}
 
 -- nothing was finished yet, or all of a firing that is done
@@ -207,8 +207,13 @@ actor-goes f held held' ks tag X Memory a = λ m. off-none (outcome m (tree.Acto
 
 steady-next : (tag : Tag) (X out : Streams Token) (a b : LibraryActor) → library.step tag a X ≡ tree.Gives b out → IsSteadyActor a → IsSteadyActor b × (library.need b ≡ library.need a)
 steady-next tag X out a b e st =
-    let same : library.need b ≡ library.need a = st ((tag, X) ∷ []) b (ap (λ r. on_answer (live.after []) r) e) in
-    (λ fs c q. st ((tag, X) ∷ fs) c (ap (λ r. on_answer (live.after fs) r) e ∙ q) ∙ sym same, same)
+    let same : library.need b ≡ library.need a = st.needs ((tag, X) ∷ []) b (ap (λ r. on_answer (live.after []) r) e) in (
+      record {
+        needs = λ fs c q. st.needs ((tag, X) ∷ fs) c (ap (λ r. on_answer (live.after fs) r) e ∙ q) ∙ sym same;
+        takes = λ fs c q t Y. st.takes ((tag, X) ∷ fs) c (ap (λ r. on_answer (live.after fs) r) e ∙ q) t Y;
+      },
+      same,
+    )
 
 pub actor-fit : (f : Frame) (held held' : Held) (ks : AllShown) (tag : Tag) (X : Streams Token) (w : Within) → AllFit ks → ActorTo held f.path f.past.made tag X w held' →
     StaysFit (Branch (record { past = f.past; body = body.Actor held; records = f.records; path = f.path; live = f.live }) ks) w (Branch (record { past = f.past; body = body.Actor held'; records = f.records; path = f.path; live = false }) ks)
@@ -326,9 +331,6 @@ module _ (before : State) (olds now : List Shown) (tag : Tag) (X : Streams Token
   finish-fit Memory f = tt
 
 -- what a child takes
-takes-any : (tag : Tag) (a : LibraryActor) (X : Streams Token) → library.Takes tag a X
-takes-any tag (libraries.Flow actor) X = tt
-
 long-front : {T : Type 0} (n : ℕ) (ns : List ℕ) (xs : List T) (b : Bool) (f : Front T) (got left : Streams T) → ((g l : Streams T) → f ≡ Takes g l → length g ≡ length ns) → if_long b n xs f ≡ Takes got left → length got ≡ suc (length ns)
 long-front n ns xs false f got left h e = absurd (cc)
 long-front n ns xs true (Takes g l) got left h e = let a : got ≡ take n xs ∷ g = cc in rw a (ap (λ v. suc v) (h g l refl))
@@ -349,15 +351,15 @@ asks-front facts i (n ∷ ns) [] ms ss held got left s a e = absurd a
 asks-front facts i (n ∷ ns) (c ∷ cs) [] ss held got left s a e = absurd a
 asks-front facts i (n ∷ ns) (c ∷ cs) (m ∷ ms) [] held got left s a e = absurd a
 
-takes-body : (tag : Tag) (h : tree.Past) (b : Body) (ks : AllShown) (Y got rest : Streams Token) → front (need_of rows (node_with h b (nodes_of ks))) Y ≡ Takes got rest → live.TakesBody tag b got
-takes-body tag h (body.Actor held) ks Y got rest e = takes-any tag held.actor got
-takes-body tag h (body.Composite (Sdf s)) ks Y got rest e = long-counted s.plan.takes Y got rest e
+takes-body : (tag : Tag) (h : tree.Past) (b : Body) (ks : AllShown) (Y got rest : Streams Token) → IsSteadyBody b → front (need_of rows (node_with h b (nodes_of ks))) Y ≡ Takes got rest → live.TakesBody tag b got
+takes-body tag h (body.Actor held) ks Y got rest steady e = steady.takes [] held.actor refl tag got
+takes-body tag h (body.Composite (Sdf s)) ks Y got rest steady e = long-counted s.plan.takes Y got rest e
 
-takes-front : (tag : Tag) (s : Shown) (Y got rest : Streams Token) → front (need_of rows (node_of s)) Y ≡ Takes got rest → live.Takes tag s got
-takes-front tag (Branch g ks) Y got rest e = takes-body tag g.past g.body ks Y got rest e
+takes-front : (tag : Tag) (s : Shown) (Y got rest : Streams Token) → IsSteady s → front (need_of rows (node_of s)) Y ≡ Takes got rest → live.Takes tag s got
+takes-front tag (Branch g ks) Y got rest steady e = takes-body tag g.past g.body ks Y got rest steady e
 
 pub child-takes : (before : State) (olds now : List Shown) (tag at : Tag) (X : Streams Token) (allowance left i : ℕ) (core : State) → Between before olds tag X allowance (ask.Fire i at) core now left → (child : Shown) → get now i ≡ Some child → live.Takes tag child (lent_in core.stage)
 child-takes before olds now tag at X allowance left i core b child e =
     let a = asked-now b.state now i child b.going.fitting e b.asked.2 in
     let r = asks-front (facts_of rows) i b.state.plan.net.places _ b.state.fired (tree.list_of (nodes_of (all_of now))) b.state.held (lent_of b.state i) (left_of b.state i) (node_of child) a.asks (nodes-get now i child e) in
-    subst (λ (s : State). live.Takes tag child (lent_in s.stage)) (sym b.asked.4) (takes-front tag child r.0 (lent_of b.state i) r.1 r.2)
+    subst (λ (s : State). live.Takes tag child (lent_in s.stage)) (sym b.asked.4) (takes-front tag child r.0 (lent_of b.state i) r.1 (steady-get now i child e b.going.steady) r.2)
