@@ -1,0 +1,44 @@
+// Numbers among the words.
+ghost use Rattle.std.specs.Prelude.{◌≡◌, ℕ, ◌++◌, List, IfSome, IfNone, codes};
+ghost use Rattle.pt_words.specs.Line.{IsNumber, IsBudget};
+
+const GREATEST_BUDGET: u64 = 1_000_000_000;
+
+/// A number has at most this many digits.
+const MOST_DIGITS: usize = 10;
+
+/// The number that 1 to 10 decimal digits write.
+fn number(text: &str) -> Option<u64>
+    ensures some { IfSome result (λ n. IsNumber text.now n) }
+    ensures none { IfNone result ((n : ℕ) → IsNumber text.now n → ⊥) }
+{
+    if text.len() > MOST_DIGITS || text.as_bytes().first() == Some(&b'+') {
+        return None;
+    }
+    match text.parse::<u64>() {
+        Ok(number) => Some(number),
+        Err(_) => None,
+    }
+}
+
+/// The budget that a text gives.
+pub fn budget(text: &str) -> Option<u64>
+    ensures some { IfSome result (λ n. IsBudget text.now n) }
+    ensures none { IfNone result ((n : ℕ) → IsBudget text.now n → ⊥) }
+{
+    match number(text) {
+        Some(n) if 1 <= n && n <= GREATEST_BUDGET => Some(n),
+        _ => None,
+    }
+}
+
+/// The budget of a word that gives it behind its name.
+pub fn joined_budget(word: &str) -> Option<u64>
+    ensures some { IfSome result (λ n. (text : List ℕ) × (word.now ≡ codes "--budget=" ++ text) × IsBudget text n) }
+    ensures none { IfNone result ((text : List ℕ) (n : ℕ) → word.now ≡ codes "--budget=" ++ text → IsBudget text n → ⊥) }
+{
+    match word.strip_prefix("--budget=") {
+        Some(text) => budget(text),
+        None => None,
+    }
+}
