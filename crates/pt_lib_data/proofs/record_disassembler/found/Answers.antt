@@ -1,0 +1,5 @@
+use Rattle.pt_lib_data.proofs.Tokens.{as-token}
+use Rattle.pt_lib_data.proofs.record_disassembler.found.Goals as goal
+
+pub returns : goal.returns
+returns c = as-token c.get.result _ c.get.ensures

@@ -1,0 +1,55 @@
+-- The library of data actors, as the meaning of a model takes it.
+use Rattle.std.specs.Prelude.{ℕ, List, [], length, Option, Some, None, false, codes}
+use Rattle.pt_meaning.specs.Basics.{Tag, Streams}
+use Rattle.pt_meaning.specs.Machine.{Need, Counts, Partial}
+use Rattle.pt_meaning.specs.Node.{Answer, Rows, is_none}
+use Rattle.pt_value.specs.declared.token.Token.{Token}
+use Rattle.pt_firing.specs.Params.{channels_to}
+use Rattle.pt_firing.specs.Strict.{strict}
+use Rattle.pt_lib_data.specs.declared.data_actor.DataActor.{DataActor}
+use Rattle.pt_lib_data.specs.declared.function.Class.{Class}
+use Rattle.pt_lib_data.specs.declared.function.Function.{Function}
+use Rattle.pt_lib_data.specs.declared.params.Params.{Params}
+use Rattle.pt_lib_data.specs.Function as function
+use Rattle.pt_lib_data.specs.Reply.{answer}
+
+abbrev pub outputs : DataActor → ℕ
+outputs actor = function.outputs actor.function
+
+abbrev pub need : DataActor → Need
+need actor = Counts actor.needed
+
+-- it stays as it is
+abbrev pub step : Tag → DataActor → Streams Token → Answer Token DataActor
+step tag actor X = answer actor (function.give actor.function X)
+
+-- each of them is strict
+abbrev pub early : Tag → DataActor → List (Partial Token) → List (Partial Token)
+early tag actor vs = strict (outputs actor) step tag actor vs
+
+-- The rows of the library. None of these actors has first tokens or wakes, or takes its lists whole.
+abbrev pub rows : Rows Token DataActor
+rows = record {
+  first = λ actor. [];
+  need = need;
+  next = λ actor. None;
+  react = step;
+  early = early;
+  whole = λ actor. false;
+  begins = λ actor. is_none actor.needed;
+}
+
+abbrev pub with_needs : Params → Option Function → Option DataActor
+with_needs params None = None
+with_needs params (Some f) = Some (record { function = f; needed = function.needed f (channels_to (codes "input") params.ports) })
+
+abbrev pub started_as : Class → Params → Option DataActor
+started_as class params = with_needs params (function.start_as class params)
+
+abbrev pub start_in : Option Class → Params → Option DataActor
+start_in None params = None
+start_in (Some class) params = started_as class params
+
+-- the actor that the parameters start, if they are such as its row has them
+abbrev pub start : Params → Option DataActor
+start params = start_in (function.class_of params.class) params
