@@ -1,3 +1,4 @@
 mod RowLaws
 mod Present
 mod Tokens
+mod Assembled

@@ -6,7 +6,7 @@ use Rattle.pt_firing.specs.Params.{names_but}
 use Rattle.pt_lib_data.specs.declared.function.Class.{Class}
 use Rattle.pt_lib_data.specs.declared.function.Class.TheVariants as class
 use Rattle.pt_lib_data.specs.declared.function.Function.{Function}
-use Rattle.pt_lib_data.specs.declared.function.Function.TheVariants.{ArrayElement, ArrayToSequence, Comparator, Discard, ElementsToArray, Equals, Limiter, LogicFunction, LogicalNot, RecordDisassembler, SequenceToArray, StringLength}
+use Rattle.pt_lib_data.specs.declared.function.Function.TheVariants.{ArrayElement, ArrayToSequence, Comparator, Discard, ElementsToArray, Equals, Limiter, LogicFunction, LogicalNot, RecordAssembler, RecordDisassembler, SequenceToArray, StringLength}
 use Rattle.pt_lib_data.specs.declared.params.Params.{Params}
 use Rattle.pt_lib_data.specs.Reply.{Reply}
 use Rattle.pt_lib_data.specs.ArrayElement as array_element
@@ -18,6 +18,7 @@ use Rattle.pt_lib_data.specs.Equals as equals
 use Rattle.pt_lib_data.specs.Limiter as limiter
 use Rattle.pt_lib_data.specs.LogicFunction as logic_function
 use Rattle.pt_lib_data.specs.LogicalNot as logical_not
+use Rattle.pt_lib_data.specs.RecordAssembler as record_assembler
 use Rattle.pt_lib_data.specs.RecordDisassembler as record_disassembler
 use Rattle.pt_lib_data.specs.SequenceToArray as sequence_to_array
 use Rattle.pt_lib_data.specs.StringLength as string_length
@@ -32,6 +33,7 @@ give Equals X = equals.give X
 give (Limiter range) X = limiter.give range X
 give (LogicFunction gate) X = logic_function.give gate X
 give LogicalNot X = logical_not.give X
+give (RecordAssembler names) X = record_assembler.give names X
 give (RecordDisassembler names) X = record_disassembler.give names X
 give (SequenceToArray count) X = sequence_to_array.give count X
 give StringLength X = string_length.give X
@@ -47,6 +49,7 @@ needed Equals channels = replicate channels 1
 needed (Limiter range) channels = replicate 1 1
 needed (LogicFunction gate) channels = replicate channels 1
 needed LogicalNot channels = replicate 1 1
+needed (RecordAssembler names) channels = replicate (length names) 1
 needed (RecordDisassembler names) channels = replicate 1 1
 needed (SequenceToArray count) channels = count ∷ []
 needed StringLength channels = replicate 1 1
@@ -62,13 +65,14 @@ outputs Equals = 1
 outputs (Limiter range) = 1
 outputs (LogicFunction gate) = 1
 outputs LogicalNot = 1
+outputs (RecordAssembler names) = 1
 outputs (RecordDisassembler names) = length names
 outputs (SequenceToArray count) = 1
 outputs StringLength = 1
 
 -- the classes by name
 abbrev pub class_of : List ℕ → Option Class
-class_of name = if bytes_eq name (codes "ArrayElement") then Some class.ArrayElement else (if bytes_eq name (codes "ArrayToSequence") then Some class.ArrayToSequence else (if bytes_eq name (codes "Comparator") then Some class.Comparator else (if bytes_eq name (codes "Discard") then Some class.Discard else (if bytes_eq name (codes "ElementsToArray") then Some class.ElementsToArray else (if bytes_eq name (codes "Equals") then Some class.Equals else (if bytes_eq name (codes "Limiter") then Some class.Limiter else (if bytes_eq name (codes "LogicFunction") then Some class.LogicFunction else (if bytes_eq name (codes "LogicalNot") then Some class.LogicalNot else (if bytes_eq name (codes "RecordDisassembler") then Some class.RecordDisassembler else (if bytes_eq name (codes "SequenceToArray") then Some class.SequenceToArray else (if bytes_eq name (codes "StringLength") then Some class.StringLength else None)))))))))))
+class_of name = if bytes_eq name (codes "ArrayElement") then Some class.ArrayElement else (if bytes_eq name (codes "ArrayToSequence") then Some class.ArrayToSequence else (if bytes_eq name (codes "Comparator") then Some class.Comparator else (if bytes_eq name (codes "Discard") then Some class.Discard else (if bytes_eq name (codes "ElementsToArray") then Some class.ElementsToArray else (if bytes_eq name (codes "Equals") then Some class.Equals else (if bytes_eq name (codes "Limiter") then Some class.Limiter else (if bytes_eq name (codes "LogicFunction") then Some class.LogicFunction else (if bytes_eq name (codes "LogicalNot") then Some class.LogicalNot else (if bytes_eq name (codes "RecordAssembler") then Some class.RecordAssembler else (if bytes_eq name (codes "RecordDisassembler") then Some class.RecordDisassembler else (if bytes_eq name (codes "SequenceToArray") then Some class.SequenceToArray else (if bytes_eq name (codes "StringLength") then Some class.StringLength else None))))))))))))
 
 -- what the parameters start, if they are such as the row of the class has them
 abbrev pub start_as : Class → Params → Option Function
@@ -81,6 +85,7 @@ start_as class.Equals params = Some Equals
 start_as class.Limiter params = option_map Limiter (limiter.start params)
 start_as class.LogicFunction params = option_map LogicFunction (logic_function.start params)
 start_as class.LogicalNot params = Some LogicalNot
+start_as class.RecordAssembler params = Some (RecordAssembler (names_but (codes "output") params.ports))
 start_as class.RecordDisassembler params = Some (RecordDisassembler (names_but (codes "input") params.ports))
 start_as class.SequenceToArray params = option_map SequenceToArray (sequence_to_array.start params)
 start_as class.StringLength params = Some StringLength

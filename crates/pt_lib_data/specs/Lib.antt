@@ -11,6 +11,7 @@ pub mod Equals
 pub mod Limiter
 pub mod LogicFunction
 pub mod LogicalNot
+pub mod RecordAssembler
 pub mod RecordDisassembler
 pub mod SequenceToArray
 pub mod StringLength

@@ -9,7 +9,7 @@ use crate::params::Params;
 use crate::places::{one_each, so_many};
 use crate::{
     array_element, array_to_sequence, discard, elements_to_array, equals, logical_not,
-    record_disassembler, sequence_to_array, string_length,
+    record_assembler, record_disassembler, sequence_to_array, string_length,
 };
 use pt_firing::{Counts, Inputs, Names, Step};
 use std::alloc::{AllocError, Global};
@@ -26,6 +26,7 @@ pub enum Class {
     Limiter,
     LogicFunction,
     LogicalNot,
+    RecordAssembler,
     RecordDisassembler,
     SequenceToArray,
     StringLength,
@@ -45,6 +46,7 @@ impl Class {
             "Limiter" => Some(Class::Limiter),
             "LogicFunction" => Some(Class::LogicFunction),
             "LogicalNot" => Some(Class::LogicalNot),
+            "RecordAssembler" => Some(Class::RecordAssembler),
             "RecordDisassembler" => Some(Class::RecordDisassembler),
             "SequenceToArray" => Some(Class::SequenceToArray),
             "StringLength" => Some(Class::StringLength),
@@ -65,6 +67,7 @@ pub enum Function {
     Limiter(Limiter),
     LogicFunction(Gate),
     LogicalNot,
+    RecordAssembler(Names),
     RecordDisassembler(Names),
     SequenceToArray(usize),
     StringLength,
@@ -81,7 +84,9 @@ impl Function {
     {
         Ok(match class {
             Class::ArrayElement => array_element::start(params).map(Function::ArrayElement),
-            Class::ArrayToSequence => sequence_to_array::start(params).map(Function::ArrayToSequence),
+            Class::ArrayToSequence => sequence_to_array::start(params).map(
+                Function::ArrayToSequence,
+            ),
             Class::Comparator => Relation::start(params).map(Function::Comparator),
             Class::Discard => Some(Function::Discard),
             Class::ElementsToArray => Some(Function::ElementsToArray),
@@ -89,10 +94,15 @@ impl Function {
             Class::Limiter => Limiter::start(params).map(Function::Limiter),
             Class::LogicFunction => Gate::start(params).map(Function::LogicFunction),
             Class::LogicalNot => Some(Function::LogicalNot),
+            Class::RecordAssembler => Some(Function::RecordAssembler(
+                params.ports.names_but(alloc, "output")?,
+            )),
             Class::RecordDisassembler => Some(Function::RecordDisassembler(
                 params.ports.names_but(alloc, "input")?,
             )),
-            Class::SequenceToArray => sequence_to_array::start(params).map(Function::SequenceToArray),
+            Class::SequenceToArray => sequence_to_array::start(params).map(
+                Function::SequenceToArray,
+            ),
             Class::StringLength => Some(Function::StringLength),
         })
     }
@@ -107,6 +117,7 @@ impl Function {
             | Function::Equals
             | Function::LogicFunction(_) => one_each(alloc, channels as usize),
             Function::Comparator(_) => one_each(alloc, 2),
+            Function::RecordAssembler(names) => one_each(alloc, names.len()),
             Function::SequenceToArray(length) => so_many(alloc, *length),
             Function::ArrayElement(_)
             | Function::ArrayToSequence(_)
@@ -132,6 +143,7 @@ impl Function {
             | Function::Limiter(_)
             | Function::LogicFunction(_)
             | Function::LogicalNot
+            | Function::RecordAssembler(_)
             | Function::SequenceToArray(_)
             | Function::StringLength => 1,
         }
@@ -151,6 +163,7 @@ impl Function {
             Function::Limiter(range) => range.give(inputs),
             Function::LogicFunction(gate) => gate.give(inputs),
             Function::LogicalNot => logical_not::give(inputs),
+            Function::RecordAssembler(names) => record_assembler::give(alloc, names, inputs),
             Function::RecordDisassembler(names) => record_disassembler::give(alloc, names, inputs),
             Function::SequenceToArray(length) => sequence_to_array::give(alloc, *length, inputs),
             Function::StringLength => string_length::give(inputs),
@@ -170,6 +183,7 @@ impl Function {
             Function::Limiter(range) => Function::Limiter(*range),
             Function::LogicFunction(gate) => Function::LogicFunction(*gate),
             Function::LogicalNot => Function::LogicalNot,
+            Function::RecordAssembler(names) => Function::RecordAssembler(names.copy(alloc)?),
             Function::RecordDisassembler(names) => Function::RecordDisassembler(names.copy(alloc)?),
             Function::SequenceToArray(length) => Function::SequenceToArray(*length),
             Function::StringLength => Function::StringLength,

@@ -15,6 +15,7 @@ mod logic_function;
 mod logical_not;
 mod params;
 mod places;
+mod record_assembler;
 mod record_disassembler;
 mod reply;
 mod sequence_to_array;

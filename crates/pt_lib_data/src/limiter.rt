@@ -19,9 +19,10 @@ impl Limiter {
     pub(crate) fn start(params: &Params) -> Option<Limiter>
         ensures { result ≡ limiter.start params.now }
     {
-        let (Some(Token::Int(bottom)), Some(Token::Int(top))) =
-            (params.values.get("bottom"), params.values.get("top"))
-        else {
+        let (Some(Token::Int(bottom)), Some(Token::Int(top))) = (
+            params.values.get("bottom"),
+            params.values.get("top"),
+        ) else {
             return None;
         };
         if *bottom <= *top {
