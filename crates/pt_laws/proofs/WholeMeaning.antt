@@ -30,7 +30,7 @@ behind [] ys h = (ys, refl)
 behind (x ∷ xs) [] h = absurd h
 behind {A} (x ∷ xs) (y ∷ ys) h = let r = behind xs ys h.1 in (r.0, ap₂ (λ (v : A) (w : List A). v ∷ w) (sym h.0) r.1)
 
-log-behind : {T : Type 0} (l m : Log T) → LogBelow l m → (more : Log T) × (m ≡ log_then l more)
+pub log-behind : {T : Type 0} (l m : Log T) → LogBelow l m → (more : Log T) × (m ≡ log_then l more)
 log-behind {T} l m h = (λ p. (behind (l p) (m p) (h p)).0, fun_ext (λ p. (behind (l p) (m p) (h p)).1))
 
 module _ {T A : Type 0} (rows : Rows T A) (law : LawfulRows rows) (k k' : ℕ) (o : k ≤ k') (m : Meets) (plan : Schedule T A) (top : Node T A) where
