@@ -81,7 +81,7 @@ whole-chain facts step s z l ts (Some b) p e = absurd (cc)
 
 -- the processes of a run, each with its firings
 module _ {T S : Type 0} (facts : Facts T S) (step : Stepping T S) (tag : Tag) where
-  pub turns_run : List ℕ → List Limit → List ℕ → List S → Streams T → ℕ → List (Turned T)
+  unfoldable pub turns_run : List ℕ → List Limit → List ℕ → List S → Streams T → ℕ → List (Turned T)
   turns_run (n ∷ ns) (c ∷ cs) (m ∷ ms) (s ∷ ss) X zero = turns_of facts (rated facts c.rates step) tag m s (take n X)
   turns_run (n ∷ ns) (c ∷ cs) (m ∷ ms) (s ∷ ss) X (suc i) = turns_run ns cs ms ss (drop n X) i
   turns_run [] cs ms ss X i = []
