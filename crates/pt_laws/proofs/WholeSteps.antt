@@ -48,7 +48,7 @@ first-quiet f (Finished ns g ∷ es) e = absurd (omega (arith, e))
 first-quiet f (Met ns i m ∷ es) e = first-quiet f es e
 
 -- where two lists meet that go on
-cut : {A : Type 0} (xs ys zs ms : List A) → xs ++ ys ≡ zs ++ ms → ((y : A) (ws : List A) → ys ≡ y ∷ ws → Has y zs → ⊥) → (m : List A) × (xs ≡ zs ++ m) × (ms ≡ m ++ ys)
+pub cut : {A : Type 0} (xs ys zs ms : List A) → xs ++ ys ≡ zs ++ ms → ((y : A) (ws : List A) → ys ≡ y ∷ ws → Has y zs → ⊥) → (m : List A) × (xs ≡ zs ++ m) × (ms ≡ m ++ ys)
 cut xs ys [] ms e d = (xs, refl, sym e)
 cut [] ys (z ∷ zs) ms e d = absurd (d z (zs ++ ms) e (inl refl))
 cut {A} (x ∷ xs) ys (z ∷ zs) ms e d =

@@ -5,3 +5,4 @@ pub mod MiddleLaws
 pub mod ShutSteps
 pub mod ShutLaws
 pub mod ShutMiddles
+pub mod RunShutLaws

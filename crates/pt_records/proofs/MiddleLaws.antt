@@ -1,16 +1,16 @@
 -- The children of a dataflow composite in the middle of a firing: what each has made, taken and given.
-use Rattle.std.proofs.Common.{◌≡◌, ℕ, zero, suc, ◌+◌, ◌≤◌, ◌<◌, List, [], ◌∷◌, ◌++◌, length, take, drop, Option, Some, None, refl, sym, ap, subst, arith, ◌∙◌, append-nil}
+use Rattle.std.proofs.Common.{◌≡◌, ℕ, zero, suc, ◌≤◌, List, [], ◌∷◌, ◌++◌, length, take, drop, Option, Some, None, refl, sym, ap, subst, arith, ◌∙◌}
 use Rattle.pt_meaning.specs.Tag.{Tag}
 use Rattle.pt_meaning.specs.Streams.{IsPrefix, Streams, at, get}
 use Rattle.pt_meaning.specs.Log.{Log, silent}
 use Rattle.pt_meaning.specs.Machine.{Stepping, Facts}
 use Rattle.pt_meaning.specs.Flow.{Flow}
 use Rattle.pt_meaning.specs.Net.{Net}
-use Rattle.pt_meaning.specs.Rounds.{Limit, gave, refill}
+use Rattle.pt_meaning.specs.Rounds.{Limit, gave}
 use Rattle.pt_meaning.specs.Dataflow.{arrived}
-use Rattle.pt_meaning.specs.Kahn.{states_of, left_by, logs_of, skip_places}
+use Rattle.pt_meaning.specs.Kahn.{states_of, logs_of, skip_places}
 use Rattle.pt_meaning.specs.Running.{runs, Asks}
-use Rattle.pt_meaning.specs.Closed.{Begun, if_there, inputs_at, outputs_at, begun_at}
+use Rattle.pt_meaning.specs.Closed.{Begun, if_there, inputs_at, begun_at}
 use Rattle.pt_laws.specs.LogsOfRuns.{RunningWith, log_at}
 use Rattle.pt_laws.specs.Channels.{channel_at, tokens_in, source_in}
 use Rattle.pt_laws.specs.Explained.{Turned, ChainOf, of_turns, gives_in}

@@ -1,5 +1,5 @@
 -- The log of an SDF composite that was left off in the middle of a firing is shut, where those of its children are.
-use Rattle.std.proofs.Common.{◌≡◌, ◌⊎◌, ℕ, zero, suc, ◌+◌, ◌≤◌, List, [], ◌∷◌, ◌++◌, Bool, true, false, ◌||◌, length, Option, Some, None, inl, inr, refl, sym, ap, ap₂, subst, arith, ◌∙◌, append-nil}
+use Rattle.std.proofs.Common.{◌≡◌, ◌⊎◌, ℕ, zero, suc, ◌+◌, ◌≤◌, List, [], ◌∷◌, ◌++◌, Bool, ◌||◌, length, Option, Some, None, inl, inr, refl, sym, ap, ap₂, subst, arith, ◌∙◌, append-nil}
 use Rattle.std.proofs.Math.Path.{fun_ext}
 use Rattle.pt_meaning.specs.Tag.{Tag}
 use Rattle.pt_meaning.specs.Streams.{IsPrefix, Streams, get}
@@ -19,7 +19,7 @@ use Rattle.pt_laws.specs.Channels as channels
 use Rattle.pt_laws.specs.Channels.{channel_at, tokens_in}
 use Rattle.pt_laws.specs.Heights.{IsFitting}
 use Rattle.pt_laws.specs.LogsOfRuns.{log_in, log_at}
-use Rattle.pt_laws.specs.CompositeRuns.{steps_below, SdfRun, sdf_start, sdf_bounds}
+use Rattle.pt_laws.specs.CompositeRuns.{SdfRun, sdf_bounds}
 use Rattle.pt_laws.specs.SoundRuns.{log_in_child, idle, ClosedIn, KeptIn, on_place, part, all_of, takes_now, gives_now, SoundStep}
 use Rattle.pt_laws.specs.Explained.{Turned, of_turns, gives_in, takes_in, Explained}
 use Rattle.pt_laws.specs.WholeRuns.{ComesLater, LaterStep}
@@ -34,9 +34,9 @@ use Rattle.pt_laws.proofs.SoundLaws.{below-log}
 use Rattle.pt_laws.proofs.ClosedSteps.{director-explained, sound-at}
 use Rattle.pt_laws.proofs.LaterLaws.{later-below, later-nothing}
 use Rattle.pt_laws.proofs.LaterSteps.{later-at, composite-inside, none-there, logged}
-use Rattle.pt_laws.proofs.WholeSteps.{IsAsked, EndsOff, child-whole, whole-at}
+use Rattle.pt_laws.proofs.WholeSteps.{EndsOff, child-whole, whole-at}
 use Rattle.pt_laws.proofs.WholeMeaning.{log-behind}
-use Rattle.pt_records.specs.Shut.{HasCome, IsShutAt, IsShut}
+use Rattle.pt_records.specs.Shut.{HasCome, IsShut}
 use Rattle.pt_records.proofs.MiddleLaws.{turns_now, MadeNow, made-now, none-now, taken-now}
 use Rattle.pt_records.proofs.ShutSteps.{from-greater}
 

@@ -8,7 +8,7 @@ use Rattle.pt_meaning.specs.Machine.{Stepping, Facts}
 use Rattle.pt_meaning.specs.Rounds.{Net, Limit}
 use Rattle.pt_meaning.specs.Dataflow.{SdfPlan}
 use Rattle.pt_meaning.specs.Meetings.{Meets, below_child}
-use Rattle.pt_meaning.specs.Children.{Child, numbered, child_facts}
+use Rattle.pt_meaning.specs.Children.{Child, numbered}
 use Rattle.pt_meaning.specs.Tree.{Rows, Core, Sdf, Past, Node, Nodes, Composite, list_of, height, heights}
 use Rattle.pt_meaning.specs.NodeFacts.{facts_of}
 use Rattle.pt_meaning.specs.Step.{step_at}
@@ -22,7 +22,7 @@ use Rattle.pt_laws.specs.CompositeRuns.{SdfRun, sdf_bounds}
 use Rattle.pt_laws.proofs.HeightLaws.{numbered-length, levels-agree}
 use Rattle.pt_records.specs.Shut.{IsShut}
 use Rattle.pt_records.proofs.MiddleLaws.{asked-there}
-use Rattle.pt_records.proofs.ShutLaws.{IsLeft, IsMiddle, middle-is-shut}
+use Rattle.pt_records.proofs.ShutLaws.{IsLeft, middle-is-shut}
 
 -- the child of that number
 same : ℕ → ℕ → Bool

@@ -1,5 +1,5 @@
 -- The log of a step, of whatever fuel, is shut.
-use Rattle.std.proofs.Common.{◌≡◌, ℕ, ◌+◌, ◌≤◌, List, [], ◌∷◌, Bool, refl, sym, ap, subst, arith, ◌∙◌}
+use Rattle.std.proofs.Common.{◌≡◌, ℕ, ◌+◌, ◌≤◌, [], ◌∷◌, sym, ap, subst, arith, ◌∙◌}
 use Rattle.pt_meaning.specs.Tag.{Tag}
 use Rattle.pt_meaning.specs.Streams.{Streams}
 use Rattle.pt_meaning.specs.Log.{Log, LogBelow, silent, log_then}
@@ -18,7 +18,7 @@ use Rattle.pt_laws.proofs.LevelLaws.{has-left}
 use Rattle.pt_laws.proofs.ClosedSteps.{sound-at}
 use Rattle.pt_laws.proofs.WholeSteps.{whole-at}
 use Rattle.pt_laws.proofs.WholeMeaning.{log-behind}
-use Rattle.pt_records.specs.Shut.{IsShut}
+use Rattle.pt_records.specs.Shut.{IsShut, StepsAreShut}
 
 -- an outcome that extends another has at least its log
 pub extends-log : {T S : Type 0} (q r : Outcome T S) → Extends q r → LogBelow (log_in q) (log_in r)
@@ -56,3 +56,6 @@ module _ {T A : Type 0} (rows : Rows T A) (law : LawfulRows rows) (m : Meets) (n
   pub nothing-is-shut : (tag : Tag) (X : Streams T) → IsShut rows m node tag X silent
   unfolding step_at
   nothing-is-shut tag X = stepped-is-shut 0 0 (omega arith) tag X
+
+pub steps-are-shut : {T A : Type 0} → StepsAreShut T A
+steps-are-shut = record { nothing = nothing-is-shut; stepped = λ rows law m node k tag X. stepped-is-shut rows law m node k (height node) (omega arith) tag X }

@@ -1,8 +1,8 @@
 -- What an engine has logged of a firing that it left off in the middle: a closed part of all that the meaning logs.
-use Rattle.std.specs.Prelude.{◌≡◌, ℕ, ◌≤◌, [], Bool, Some}
+use Rattle.std.specs.Prelude.{◌≡◌, ℕ, [], Bool, Some}
 use Rattle.pt_meaning.specs.Tag.{Tag}
 use Rattle.pt_meaning.specs.Streams.{Streams}
-use Rattle.pt_meaning.specs.Log.{Log, LogBelow, firings_in, log_then}
+use Rattle.pt_meaning.specs.Log.{Log, LogBelow, firings_in, silent, log_then}
 use Rattle.pt_meaning.specs.Meetings.{Meets}
 use Rattle.pt_meaning.specs.Tree.{Rows, Node, height}
 use Rattle.pt_meaning.specs.Step.{step_at, Step}
@@ -35,6 +35,11 @@ pub record IsShutAt {T A : Type 0} (rows : Rows T A) (m : Meets) (resettable : B
 -- The node's firing at the tag on the inputs was left off with this log: wherever a run had come to the node, the log is shut.
 abbrev pub IsShut : {T A : Type 0} → Rows T A → Meets → Node T A → Tag → Streams T → Log T → Type 0
 IsShut {T} {A} rows m node tag inputs log = (resettable : Bool) (n₀ : Node T A) (l : Log T) → HasCome rows resettable n₀ node l → IsShutAt rows m resettable n₀ node tag inputs l log
+
+-- A firing that has begun and logged nothing is shut, and so is all that a step logs at any fuel.
+pub record StepsAreShut (T A : Type 0) : Type 0 where
+  pub nothing : (rows : Rows T A) → LawfulRows rows → (m : Meets) (node : Node T A) (tag : Tag) (inputs : Streams T) → IsShut rows m node tag inputs silent
+  pub stepped : (rows : Rows T A) → LawfulRows rows → (m : Meets) (node : Node T A) (k : ℕ) (tag : Tag) (inputs : Streams T) → IsShut rows m node tag inputs (log_in (step_at rows k (height node) m tag node inputs))
 
 -- A run of the top from its start, whose first n firings are done from some fuel on.
 pub record IsReached {T A : Type 0} (rows : Rows T A) (m : Meets) (plan : Schedule T A) (top : Node T A) (n : ℕ) (c : Course T A) : Type 0 where
