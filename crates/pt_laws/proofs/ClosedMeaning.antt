@@ -94,7 +94,7 @@ module _ {T A : Type 0} (rows : Rows T A) (law : LawfulRows rows) (k : ℕ) (m :
   ClosedStanding (Halted fs l) = (way : UnderWay T) × ClosedIn rows false top l way × Nexts l way
 
   -- some firings, and then others
-  after-then : (i j : ℕ) (c : Course T A) → after k rows m plan (i + j) c ≡ goes_on (after k rows m plan j) (after k rows m plan i c)
+  pub after-then : (i j : ℕ) (c : Course T A) → after k rows m plan (i + j) c ≡ goes_on (after k rows m plan j) (after k rows m plan i c)
   unfolding after
   after-then zero j c = let a : 0 + j ≡ j = omega arith in ap (λ v. after k rows m plan v c) a
   after-then (suc i) j c = let a : suc i + j ≡ suc (i + j) = omega arith in ap (λ v. after k rows m plan v c) a ∙ go (on_turn k rows m c (plan c.fired c.last c.top)) (λ d. after-then i j d)

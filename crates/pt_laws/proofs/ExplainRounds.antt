@@ -149,7 +149,7 @@ module _ {T S : Type 0} (facts : Facts T S) (step : Stepping T S) (tag : Tag) wh
     refilled-as fs ts f (Own port) z = subst (λ v. IsPrefix v (z ++ at inputs port)) (sym (append-nil (z ++ at inputs port))) (IsPrefix-refl (z ++ at inputs port))
     refilled-as fs ts f (Output j port) z = subst (λ v. IsPrefix (v ++ gave fs j port) (z ++ of_turns (outputs_at port) (ts j))) (sym (append-nil z)) (IsPrefix-after z (gave fs j port) (of_turns (outputs_at port) (ts j)) (f j port))
 
-    refilled-at : (fs : List (Flow T S)) (ts : ℕ → List (Turned T)) → ((j port : ℕ) → IsPrefix (gave fs j port) (of_turns (outputs_at port) (ts j))) → (cs : List Source) (Z : Streams T) (c : ℕ) → IsPrefix (at (refill fs cs (arrived cs inputs Z)) c) (at Z c ++ gives_in inputs ts (get cs c))
+    pub refilled-at : (fs : List (Flow T S)) (ts : ℕ → List (Turned T)) → ((j port : ℕ) → IsPrefix (gave fs j port) (of_turns (outputs_at port) (ts j))) → (cs : List Source) (Z : Streams T) (c : ℕ) → IsPrefix (at (refill fs cs (arrived cs inputs Z)) c) (at Z c ++ gives_in inputs ts (get cs c))
     refilled-at fs ts f [] Z c = IsPrefix-append (at Z c) []
     refilled-at fs ts f (s ∷ cs) [] c = tt
     refilled-at fs ts f (s ∷ cs) (z ∷ Z) zero = refilled-as fs ts f s z

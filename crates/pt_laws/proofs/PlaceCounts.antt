@@ -81,7 +81,7 @@ whole-chain facts step s z l ts (Some b) p e = absurd (cc)
 
 -- the processes of a run, each with its firings
 module _ {T S : Type 0} (facts : Facts T S) (step : Stepping T S) (tag : Tag) where
-  turns_run : List ℕ → List Limit → List ℕ → List S → Streams T → ℕ → List (Turned T)
+  unfoldable pub turns_run : List ℕ → List Limit → List ℕ → List S → Streams T → ℕ → List (Turned T)
   turns_run (n ∷ ns) (c ∷ cs) (m ∷ ms) (s ∷ ss) X zero = turns_of facts (rated facts c.rates step) tag m s (take n X)
   turns_run (n ∷ ns) (c ∷ cs) (m ∷ ms) (s ∷ ss) X (suc i) = turns_run ns cs ms ss (drop n X) i
   turns_run [] cs ms ss X i = []
@@ -90,16 +90,16 @@ module _ {T S : Type 0} (facts : Facts T S) (step : Stepping T S) (tag : Tag) wh
   turns_run (n ∷ ns) (c ∷ cs) (m ∷ ms) [] X i = []
 
   -- what holds of one
-  record IsMade (s : S) (states : List S) (log : Log T) (ts : List (Turned T)) (i m : ℕ) : Type 0 where
-    end : S
-    there : get states i ≡ Some end
-    chain : ChainOf facts step s ts end log
-    count : length ts ≡ m
+  pub record IsMade (s : S) (states : List S) (log : Log T) (ts : List (Turned T)) (i m : ℕ) : Type 0 where
+    pub end : S
+    pub there : get states i ≡ Some end
+    pub chain : ChainOf facts step s ts end log
+    pub count : length ts ≡ m
 
   some-same : (a b : S) → Some a ≡ Some b → a ≡ b
   some-same a b e = cc
 
-  made-run : (ns : List ℕ) (cs : List Limit) (ms : List ℕ) (ss : List S) (X : Streams T) → length cs ≡ length ns → length ms ≡ length ns → length ss ≡ length ns → MadeAll ms (runs facts step tag ns cs ms ss X) → (i : ℕ) (s : S) → get ss i ≡ Some s →
+  pub made-run : (ns : List ℕ) (cs : List Limit) (ms : List ℕ) (ss : List S) (X : Streams T) → length cs ≡ length ns → length ms ≡ length ns → length ss ≡ length ns → MadeAll ms (runs facts step tag ns cs ms ss X) → (i : ℕ) (s : S) → get ss i ≡ Some s →
       IsMade s (states_of (runs facts step tag ns cs ms ss X)) (log_at (logs_of (runs facts step tag ns cs ms ss X)) i) (turns_run ns cs ms ss X i) i (get_or ms i 0)
   unfolding turns_run
   made-run [] cs ms [] X a b d made i s e = absurd (cc)
@@ -121,7 +121,7 @@ module _ {T S : Type 0} (facts : Facts T S) (step : Stepping T S) (tag : Tag) wh
   made-run (n ∷ ns) (c ∷ cs) (m ∷ ms) (z ∷ ss) X a b d made (suc i) s e =
       let r = made-run ns cs ms ss (drop n X) (omega (arith, a)) (omega (arith, b)) (omega (arith, d)) made.1 i s e in record { end = r.end; there = r.there; chain = r.chain; count = r.count }
 
-  gives-run : (ns : List ℕ) (cs : List Limit) (ms : List ℕ) (ss : List S) (X : Streams T) (j port : ℕ) → gave (runs facts step tag ns cs ms ss X) j port ≡ of_turns (outputs_at port) (turns_run ns cs ms ss X j)
+  pub gives-run : (ns : List ℕ) (cs : List Limit) (ms : List ℕ) (ss : List S) (X : Streams T) (j port : ℕ) → gave (runs facts step tag ns cs ms ss X) j port ≡ of_turns (outputs_at port) (turns_run ns cs ms ss X j)
   unfolding turns_run
   gives-run [] cs ms ss X j port = refl
   gives-run (n ∷ ns) [] ms ss X j port = refl
@@ -145,7 +145,7 @@ module _ {T S : Type 0} (facts : Facts T S) (step : Stepping T S) (tag : Tag) wh
   last-run (k ∷ ns) (c ∷ cs) (m ∷ ms) (z ∷ ss) X a b d made (suc i) n e s f = last-run ns cs ms ss (drop k X) (omega (arith, a)) (omega (arith, b)) (omega (arith, d)) made.1 i n e s f
 
   -- what is used, and behind it what is left
-  rest-run : (ns : List ℕ) (cs : List Limit) (ms : List ℕ) (ss : List S) (X own : Streams T) → length cs ≡ length ns → length ms ≡ length ns → length ss ≡ length ns → Fits ns X → (i q : ℕ) →
+  pub rest-run : (ns : List ℕ) (cs : List Limit) (ms : List ℕ) (ss : List S) (X own : Streams T) → length cs ≡ length ns → length ms ≡ length ns → length ss ≡ length ns → Fits ns X → (i q : ℕ) →
       tokens_in X (channel_at ns i q) ≡ of_turns (inputs_at q) (turns_run ns cs ms ss X i) ++ tokens_in (left_by (runs facts step tag ns cs ms ss X) ++ own) (channel_at ns i q)
   unfolding turns_run
   rest-run [] cs ms ss X own a b d w i q = refl

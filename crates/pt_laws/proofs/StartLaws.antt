@@ -76,7 +76,7 @@ first-core {T} rows kids (Rv p X) g f = (
 first-core rows kids (Modal chart m) g f = (tt, λ i q. refl)
 
 mutual
-  first-node : {T A : Type 0} (rows : Rows T A) (n : Node T A) → ArePlans n → start.IsAtStart rows n → IsAtStart n
+  pub first-node : {T A : Type 0} (rows : Rows T A) (n : Node T A) → ArePlans n → start.IsAtStart rows n → IsAtStart n
   first-node rows (Actor h a b) g s = (ap (λ v. v.made) s.0, s.1)
   first-node rows (Composite h c d kids) g s = (ap (λ v. v.made) s.0, s.1, first-core rows (list_of kids) c g.0 s.2, first-nodes rows kids g.1 s.3)
 

@@ -9,7 +9,7 @@ use Rattle.pt_meaning.specs.Node.{Rows, Node, Actor, Composite, list_of, made_of
 use Rattle.pt_meaning.specs.Lawful.{LawfulRows}
 use Rattle.pt_meaning.specs.Job.{Turn, Fire, Ends, Limit, Schedule, Course, on_step, on_turn, goes_on, after, log_of, begin, meaning}
 use Rattle.pt_laws.specs.Heights.{IsFitting}
-use Rattle.pt_meaning.specs.Closed.{Has, child_of, Begun, UnderWay, is_modal, rounds_of, CameWithin}
+use Rattle.pt_meaning.specs.Closed.{Has, child_of, Begun, UnderWay, is_modal, rounds_of, CameWithin, IsClosedRun, IsNext}
 use Rattle.pt_laws.specs.LogsOfRuns.{log_in}
 use Rattle.pt_meaning.specs.Laws.{Extends}
 use Rattle.pt_laws.specs.SoundRuns.{rest_of_rounds, unmarked, log_in_child, way_in_child, CameByNow, idle, ClosedIn, KeptIn}
@@ -30,24 +30,24 @@ behind [] ys h = (ys, refl)
 behind (x ∷ xs) [] h = absurd h
 behind {A} (x ∷ xs) (y ∷ ys) h = let r = behind xs ys h.1 in (r.0, ap₂ (λ (v : A) (w : List A). v ∷ w) (sym h.0) r.1)
 
-log-behind : {T : Type 0} (l m : Log T) → LogBelow l m → (more : Log T) × (m ≡ log_then l more)
+pub log-behind : {T : Type 0} (l m : Log T) → LogBelow l m → (more : Log T) × (m ≡ log_then l more)
 log-behind {T} l m h = (λ p. (behind (l p) (m p) (h p)).0, fun_ext (λ p. (behind (l p) (m p) (h p)).1))
 
 module _ {T A : Type 0} (rows : Rows T A) (law : LawfulRows rows) (k k' : ℕ) (o : k ≤ k') (m : Meets) (plan : Schedule T A) (top : Node T A) where
-  abbrev Fine : Course T A → Type 0
+  abbrev pub Fine : Course T A → Type 0
   Fine c = IsFitting c.top × ClosedIn rows false top c.log idle × KeptIn rows false top c.top c.log
 
-  abbrev GoesBehind : Log T → Log T → Type 0
+  abbrev pub GoesBehind : Log T → Log T → Type 0
   GoesBehind l n = (more : Log T) × (n ≡ log_then l more) × ComesLater l more
 
   nothing-behind : (l : Log T) → GoesBehind l l
   nothing-behind l = (silent, fun_ext (λ p. sym (append-nil (l p))), later-nothing l)
 
   -- a firing of the top that is done, at either fuel
-  after_firing : Course T A → Tag → Streams T → Node T A → Streams T → Log T → Course T A
+  unfoldable pub after_firing : Course T A → Tag → Streams T → Node T A → Streams T → Log T → Course T A
   after_firing c tag X z out l = record { fired = suc c.fired; last = Some tag; top = z; log = log_then c.log (log_then l (own (record { number = made_of c.top; tag = tag; inputs = X; outputs = out }))) }
 
-  fine-done : (j : ℕ) (c : Course T A) → Fine c → (tag : Tag) (X : Streams T) (z : Node T A) (out : Streams T) (l : Log T) → step_at rows j (height c.top) m tag c.top X ≡ Done z out l → Fine (after_firing c tag X z out l)
+  pub fine-done : (j : ℕ) (c : Course T A) → Fine c → (tag : Tag) (X : Streams T) (z : Node T A) (out : Streams T) (l : Log T) → step_at rows j (height c.top) m tag c.top X ≡ Done z out l → Fine (after_firing c tag X z out l)
   unfolding after_firing
   fine-done j c h tag X z out l e = let s = sound-at rows law j (height c.top) m in let d = s.done false top c.top z c.log h.0 h.1 h.2 tag X out l e in (s.fits tag c.top z X out l h.0 e, d.0, d.1)
 
@@ -55,7 +55,7 @@ module _ {T A : Type 0} (rows : Rows T A) (law : LawfulRows rows) (k k' : ℕ) (
   firing-later j c h tag X r e = subst (λ v. ComesLater c.log (log_in v)) e ((later-at rows law j (height c.top) m).later false top c.top c.log h.0 h.1 h.2 tag X)
 
   -- all that a run logs comes later
-  run-later : (n : ℕ) (c : Course T A) → Fine c → GoesBehind c.log (log_of (after k' rows m plan n c))
+  pub run-later : (n : ℕ) (c : Course T A) → Fine c → GoesBehind c.log (log_of (after k' rows m plan n c))
   unfolding after after_firing
   run-later zero c h = nothing-behind c.log
   run-later (suc n) c h = turned (plan c.fired c.last c.top) (λ d g. run-later n d g)
@@ -163,13 +163,14 @@ part-is-closed {T} {A} rows top m l more way way' same closed whole later = reco
         some-nat : (x y : ℕ) → Some x ≡ Some y → x ≡ y
         some-nat x y e = cc
 
-pub logs-are-closed : {T A : Type 0} → LogsAreClosed T A
+-- and of a run, where the firing under way is the job's next
+pub part-of-run : {T A : Type 0} (rows : Rows T A) (m : Meets) (plan : Schedule T A) (top : Node T A) (n l more : Log T) (way way' : UnderWay T) → n ≡ log_then l more → ClosedIn rows false top l way → ClosedIn rows false top n way' → ComesLater l more → ((b : Begun T) → way [] ≡ Some b → IsNext rows m plan top (firings_in (l [])) b) → IsClosedRun rows m plan top n l
 unfolding part-is-closed
+part-of-run rows m plan top n l more way way' same closed whole later next = record { inside = part-is-closed rows top n l more way way' same closed whole later; next = next }
+
+pub logs-are-closed : {T A : Type 0} → LogsAreClosed T A
 logs-are-closed rows law m plan top f s k k' o =
     let w = meaning-is-whole rows law m plan top f s k k' o in
     let a = meaning-closed rows law k m plan top f s in
     let b = meaning-closed rows law k' m plan top f s in
-    record {
-      inside = part-is-closed rows top (meaning k' rows m plan top) (meaning k rows m plan top) w.0 a.0 b.0 w.1 a.1 b.1 w.2;
-      next = λ x e. a.2 x e;
-    }
+    part-of-run rows m plan top (meaning k' rows m plan top) (meaning k rows m plan top) w.0 a.0 b.0 w.1 a.1 b.1 w.2 a.2

@@ -48,7 +48,7 @@ first-quiet f (Finished ns g ∷ es) e = absurd (omega (arith, e))
 first-quiet f (Met ns i m ∷ es) e = first-quiet f es e
 
 -- where two lists meet that go on
-cut : {A : Type 0} (xs ys zs ms : List A) → xs ++ ys ≡ zs ++ ms → ((y : A) (ws : List A) → ys ≡ y ∷ ws → Has y zs → ⊥) → (m : List A) × (xs ≡ zs ++ m) × (ms ≡ m ++ ys)
+pub cut : {A : Type 0} (xs ys zs ms : List A) → xs ++ ys ≡ zs ++ ms → ((y : A) (ws : List A) → ys ≡ y ∷ ws → Has y zs → ⊥) → (m : List A) × (xs ≡ zs ++ m) × (ms ≡ m ++ ys)
 cut xs ys [] ms e d = (xs, refl, sym e)
 cut [] ys (z ∷ zs) ms e d = absurd (d z (zs ++ ms) e (inl refl))
 cut {A} (x ∷ xs) ys (z ∷ zs) ms e d =
@@ -64,6 +64,16 @@ kept-made rows u (Actor h₀ a₀ b₀) (Composite h c d kids) l k = absurd k
 kept-made rows u (Composite h₀ c₀ d₀ kids₀) (Actor h a b) l k = absurd k
 kept-made rows u (Composite h₀ c₀ d₀ kids₀) (Composite h c d kids) l k = k.0.made
 
+-- What a child has logged of a firing that it doesn't finish: no record of its own, all of it within the firing that is due, and what a firing of the child logs behind it comes later.
+pub record IsAsked {T A : Type 0} (further : ℕ → Stepping T (Node T A)) (s : Child (Node T A)) (l asked : Log T) : Type 0 where
+  pub quiet : firings_in (asked []) ≡ 0
+  pub inside : (i : ℕ) (r : Path) (e : Event T) → Has e (asked (i ∷ r)) → (ns : List ℕ) × (rounds_of e ≡ made_of s.node ∷ ns)
+  pub whole : (tag : Tag) (X : Streams T) (M : Log T) → log_in (further s.number tag s.node X) ≡ log_then asked M → ComesLater (log_then l asked) M
+
+-- what a child logs after its finished firings: nothing, or what it has logged of one that it doesn't finish
+abbrev pub EndsOff : {T A : Type 0} → Rows T A → (ℕ → Stepping T (Node T A)) → Bool → Node T A → Child (Node T A) → Log T → Type 0
+EndsOff {T} rows further u n₀ z rest = (rest ≡ silent) ⊎ ((l : Log T) → IsFitting z.node → ClosedIn rows u n₀ l idle → KeptIn rows u n₀ z.node l → IsAsked further z l rest)
+
 -- a child in the same firing of its composite, at two fuels
 module _ {T A : Type 0} (rows : Rows T A) (steps further : ℕ → Stepping T (Node T A)) (sound : (i : ℕ) → SoundStep rows (steps i)) (sound' : (i : ℕ) → SoundStep rows (further i)) (later : (i : ℕ) → LaterStep rows (steps i)) (later' : (i : ℕ) → LaterStep rows (further i))
     (whole : (i : ℕ) → WholeStep rows (steps i) (further i)) (grows : Grows (child_step steps) (child_step further)) (u : Bool) (n₀ : Node T A) where
@@ -74,16 +84,13 @@ module _ {T A : Type 0} (rows : Rows T A) (steps further : ℕ → Stepping T (N
   Further s ts z l = ChainOf (child_facts (facts_of rows)) (child_step further) s ts z l
 
   -- the firing that was asked for
-  module _ (s : Child (Node T A)) (l : Log T) (f : IsFitting s.node) (c : ClosedIn rows u n₀ l idle) (k : KeptIn rows u n₀ s.node l) (b : Begun T) (M : Log T) where
-    abbrev asked : Log T
-    asked = log_in (steps s.number b.tag s.node b.inputs)
-
+  module _ (s : Child (Node T A)) (l : Log T) (f : IsFitting s.node) (c : ClosedIn rows u n₀ l idle) (k : KeptIn rows u n₀ s.node l) (asked : Log T) (a : IsAsked further s l asked) (M : Log T) where
     asked-whole : (ts : List (Turned T)) (z : Child (Node T A)) (first rest : Log T) (b' : Option (Begun T)) → Further s ts z first → EndsWith (child_step further) z b' rest → log_then first rest ≡ log_then asked M → ComesLater (log_then l asked) M
     asked-whole [] z first rest None h e same =
         let quiet : M ≡ silent = fun_ext (λ q. nothing-left (asked q) (M q) (sym (ap₂ (λ (u v : Log T). u q ++ v q) h.1 e) ∙ ap (λ v. v q) same)) in subst (λ v. ComesLater (log_then l asked) v) (sym quiet) (later-nothing (log_then l asked))
     asked-whole [] z first rest (Some g) h e same =
         let log : rest ≡ log_in (further s.number g.tag s.node g.inputs) = e ∙ ap (λ (v : Child (Node T A)). log_in (child_step further g.tag v g.inputs)) h.0 ∙ log-with_number s.number (further s.number g.tag s.node g.inputs) in
-        (whole s.number).whole u n₀ s.node l f c k b.tag g.tag b.inputs g.inputs M (sym log ∙ ap (λ v. log_then v rest) (sym h.1) ∙ same)
+        a.whole g.tag g.inputs M (sym log ∙ ap (λ v. log_then v rest) (sym h.1) ∙ same)
     asked-whole (t ∷ ts) z first rest b' h e same =
         let y : Child (Node T A) = h.0 in
         let o = turn-sound rows further sound' u n₀ s y l t f c k h.2 h.3 in
@@ -97,7 +104,7 @@ module _ {T A : Type 0} (rows : Rows T A) (steps further : ℕ → Stepping T (N
         let M₁ : Log T = λ q. (parts q).0 in
         let front : t.inside ≡ log_then asked M₁ = fun_ext (λ q. (parts q).1) in
         let back : M ≡ log_then M₁ tail = fun_ext (λ q. (parts q).2) in
-        let now = (whole s.number).whole u n₀ s.node l f c k b.tag t.record_of.tag b.inputs t.record_of.inputs M₁ (ap (λ r. log_in r) bare_step ∙ front) in
+        let now = a.whole t.record_of.tag t.record_of.inputs M₁ (ap (λ r. log_in r) bare_step ∙ front) in
         let base : log_then (log_then l asked) M₁ ≡ log_then l t.inside = sym (log-assoc l asked M₁) ∙ ap (λ v. log_then l v) (sym front) in
         let behind : ComesLater (log_then l t.inside) tail = later-joins (log_then l t.inside) (own t.record_of) (log_then h.1 rest) (later-own (log_then l t.inside) t.record_of) (subst (λ v. ComesLater v (log_then h.1 rest)) (log-assoc l t.inside (own t.record_of)) next) in
         subst (λ v. ComesLater (log_then l asked) v) (sym back) (later-joins (log_then l asked) M₁ tail now (subst (λ v. ComesLater v tail) (sym base) behind))
@@ -107,12 +114,12 @@ module _ {T A : Type 0} (rows : Rows T A) (steps further : ℕ → Stepping T (N
 
         -- what begins behind this firing is none of it
         apart : (t : Turned T) (rest₁ rest : Log T) → ComesLater (log_then l (log_then t.inside (own t.record_of))) (log_then rest₁ rest) → (q : Path) (y : Event T) (ws : List (Event T)) → own t.record_of q ++ (rest₁ q ++ rest q) ≡ y ∷ ws → Has y (asked q) → ⊥
-        apart t rest₁ rest next [] y ws e g = no-finished [] t.record_of (asked []) ((sound s.number).own_path u n₀ s.node l f c k b.tag b.inputs).1 (let same : y ≡ Finished [] t.record_of = cc in subst (λ v. Has v (asked [])) same g)
+        apart t rest₁ rest next [] y ws e g = no-finished [] t.record_of (asked []) a.quiet (let same : y ≡ Finished [] t.record_of = cc in subst (λ v. Has v (asked [])) same g)
         apart t rest₁ rest next (i ∷ r) y ws e g =
             let here : Has y (rest₁ (i ∷ r) ++ rest (i ∷ r)) = subst (λ (v : List (Event T)). Has y v) (sym e) (inl refl) in
             let w = next [] i r y here in
-            let a = (later s.number).inside u n₀ s.node l f c k b.tag b.inputs i r y g in
-            let n : made_of s.node ≡ w.0 = some-same (made_of s.node) w.0 (sym (ap (λ v. get v 0) a.1) ∙ w.1) in
+            let its = a.inside i r y g in
+            let n : made_of s.node ≡ w.0 = some-same (made_of s.node) w.0 (sym (ap (λ v. get v 0) its.1) ∙ w.1) in
             let one : firings_in (own t.record_of []) ≡ 1 = refl in
             omega (arith, n, w.2, made, one, count-append (l []) (t.inside [] ++ own t.record_of []), count-append (t.inside []) (own t.record_of []))
 
@@ -143,24 +150,24 @@ module _ {T A : Type 0} (rows : Rows T A) (steps further : ℕ → Stepping T (N
       first-append t.record_of (first [] ++ rest []) (M [])
       (first-append t.record_of (first []) (rest []) (ap (λ (v : Log T). first_of (v [])) e ∙ first-append t.record_of (t.inside [] ++ own t.record_of []) (tail []) (first-quiet t.record_of (t.inside []) q)))
 
-  pub child-whole : (ts : List (Turned T)) (s z : Child (Node T A)) (l first rest : Log T) (b : Option (Begun T)) → IsFitting s.node → ClosedIn rows u n₀ l idle → KeptIn rows u n₀ s.node l → Chain s ts z first → EndsWith (child_step steps) z b rest →
+  pub child-whole : (ts : List (Turned T)) (s z : Child (Node T A)) (l first rest : Log T) → IsFitting s.node → ClosedIn rows u n₀ l idle → KeptIn rows u n₀ s.node l → Chain s ts z first → EndsOff rows further u n₀ z rest →
       (ts' : List (Turned T)) (z' : Child (Node T A)) (first' rest' : Log T) (b' : Option (Begun T)) → Further s ts' z' first' → EndsWith (child_step further) z' b' rest' → (M : Log T) → log_then first' rest' ≡ log_then (log_then first rest) M → ComesLater (log_then l (log_then first rest)) M
-  child-whole [] s z l first rest None f c k h e ts' z' first' rest' b' h' e' M same =
+  child-whole [] s z l first rest f c k h (inl e) ts' z' first' rest' b' h' e' M same =
       let quiet : log_then first rest ≡ silent = ap₂ (λ (u v : Log T). log_then u v) h.1 e in
       let all : M ≡ log_then first' rest' = sym (same ∙ ap (λ v. log_then v M) quiet) in
       let base : log_then l (log_then first rest) ≡ l = ap (λ v. log_then l v) quiet ∙ fun_ext (λ p. append-nil (l p)) in
       subst (λ v. ComesLater v M) (sym base) (subst (λ v. ComesLater l v) (sym all) (part-later rows further sound' u n₀ later' ts' s z' l first' rest' b' f c k h' e'))
-  child-whole [] s z l first rest (Some b) f c k h e ts' z' first' rest' b' h' e' M same =
-      let log : rest ≡ log_in (steps s.number b.tag s.node b.inputs) = e ∙ ap (λ (v : Child (Node T A)). log_in (child_step steps b.tag v b.inputs)) h.0 ∙ log-with_number s.number (steps s.number b.tag s.node b.inputs) in
-      let all : log_then first rest ≡ log_in (steps s.number b.tag s.node b.inputs) = ap₂ (λ (u v : Log T). log_then u v) h.1 log in
-      subst (λ v. ComesLater (log_then l v) M) (sym all) (asked-whole s l f c k b M ts' z' first' rest' b' h' e' (same ∙ ap (λ v. log_then v M) all))
-  child-whole (t ∷ ts) s z l first rest b f c k h e [] z' first' rest' b' h' e' M same =
+  child-whole [] s z l first rest f c k h (inr e) ts' z' first' rest' b' h' e' M same =
+      let all : log_then first rest ≡ rest = ap (λ v. log_then v rest) h.1 in
+      let its : IsAsked further s l rest = subst (λ (v : Child (Node T A)). (l : Log T) → IsFitting v.node → ClosedIn rows u n₀ l idle → KeptIn rows u n₀ v.node l → IsAsked further v l rest) h.0 e l f c k in
+      subst (λ v. ComesLater (log_then l v) M) (sym all) (asked-whole s l f c k rest its M ts' z' first' rest' b' h' e' (same ∙ ap (λ v. log_then v M) all))
+  child-whole (t ∷ ts) s z l first rest f c k h e [] z' first' rest' b' h' e' M same =
       let none : firings_in ((log_then first' rest') []) ≡ 0 = rest-quiet s z' l first' rest' b' f c k h' e' in
       let all : firings_in ((first [] ++ rest []) ++ M []) ≡ 0 = sym (ap (λ (v : Log T). firings_in (v [])) same) ∙ none in
       let some : firings_in (first []) ≡ firings_in ((t.inside [] ++ own t.record_of []) ++ h.1 []) = ap (λ (v : Log T). firings_in (v [])) h.5 in
       let one : firings_in (own t.record_of []) ≡ 1 = refl in
       absurd (omega (arith, all, some, one, count-append (first [] ++ rest []) (M []), count-append (first []) (rest []), count-append (t.inside [] ++ own t.record_of []) (h.1 []), count-append (t.inside []) (own t.record_of [])))
-  child-whole (t ∷ ts) s z l first rest b f c k h e (t' ∷ ts') z' first' rest' b' h' e' M same =
+  child-whole (t ∷ ts) s z l first rest f c k h e (t' ∷ ts') z' first' rest' b' h' e' M same =
       let y : Child (Node T A) = h.0 in
       let o = turn-sound rows steps sound u n₀ s y l t f c k h.2 h.3 in
       let o' = turn-sound rows further sound' u n₀ s h'.0 l t' f c k h'.2 h'.3 in
@@ -174,8 +181,20 @@ module _ {T A : Type 0} (rows : Rows T A) (steps further : ℕ → Stepping T (N
       let inner : log_then first rest ≡ log_then pre (log_then h.1 rest) = ap (λ v. log_then v rest) h.5 ∙ sym (log-assoc pre h.1 rest) in
       let right : log_then (log_then first rest) M ≡ log_then pre (log_then (log_then h.1 rest) M) = ap (λ v. log_then v M) inner ∙ sym (log-assoc pre (log_then h.1 rest) M) in
       let behind : log_then h'.1 rest' ≡ log_then (log_then h.1 rest) M = fun_ext (λ q. append_cancel_left (pre q) ((log_then h'.1 rest') q) ((log_then (log_then h.1 rest) M) q) (ap (λ v. v q) (sym left ∙ same ∙ right))) in
-      let next = child-whole ts y z (log_then l pre) h.1 rest b o.fits o.closed o.kept h.4 e ts' z' h'.1 rest' b' (subst (λ (v : Child (Node T A)). Further v ts' z' h'.1) turn.state h'.4) e' M behind in
+      let next = child-whole ts y z (log_then l pre) h.1 rest o.fits o.closed o.kept h.4 e ts' z' h'.1 rest' b' (subst (λ (v : Child (Node T A)). Further v ts' z' h'.1) turn.state h'.4) e' M behind in
       subst (λ v. ComesLater v M) (sym (log-assoc l pre (log_then h.1 rest)) ∙ ap (λ v. log_then l v) (sym inner)) next
+
+  -- what it logs of a firing at the smaller fuel
+  ends-off : (z : Child (Node T A)) (rest : Log T) (b : Option (Begun T)) → EndsWith (child_step steps) z b rest → EndsOff rows further u n₀ z rest
+  ends-off z rest None e = inl e
+  ends-off z rest (Some b) e =
+      let log : log_in (steps z.number b.tag z.node b.inputs) ≡ rest = sym (log-with_number z.number (steps z.number b.tag z.node b.inputs)) ∙ sym e in
+      inr (λ l f c k. subst (λ v. IsAsked further z l v) log
+      (record {
+        quiet = ((sound z.number).own_path u n₀ z.node l f c k b.tag b.inputs).1;
+        inside = (later z.number).inside u n₀ z.node l f c k b.tag b.inputs;
+        whole = λ tag X M same. (whole z.number).whole u n₀ z.node l f c k b.tag tag b.inputs X M same;
+      }))
 
 -- the firing of a composite, explained at both
 module _ {T A H H' : Type 0} (rows : Rows T A) (steps further : ℕ → Stepping T (Node T A)) (sound : (i : ℕ) → SoundStep rows (steps i)) (sound' : (i : ℕ) → SoundStep rows (further i)) (later : (i : ℕ) → LaterStep rows (steps i)) (later' : (i : ℕ) → LaterStep rows (further i))
@@ -210,7 +229,7 @@ module _ {T A H H' : Type 0} (rows : Rows T A) (steps further : ℕ → Stepping
           let k : KidNow rows steps sound later tag u h₀ c₀ d₀ kids₀ h c d kids l closed kept fits X core r x i k₀.0 = kid-now rows steps sound later tag u h₀ c₀ d₀ kids₀ h c d kids l closed kept fits X core r x i k₀.0 k₀.1 in
           let s : Child (Node T A) = record { number = 0 + i; node = k.child } in
           let its' = x'.parts i s k.there in
-          let inside = child-whole rows steps further sound sound' later later' whole grows (u || is_modal c₀) k₀.0 (x.turns i) s (x.ends i) (log_in_child i l) k.its_part.first k.its_part.rest (x.way i) k.its_fit k.its_closed k.its_kept k.its_part.chain k.its_part.ends (x'.turns i) (x'.ends i) its'.first its'.rest (x'.way i) its'.chain its'.ends (log_in_child i more)
+          let inside = child-whole rows steps further sound sound' later later' whole grows (u || is_modal c₀) k₀.0 (x.turns i) s (x.ends i) (log_in_child i l) k.its_part.first k.its_part.rest k.its_fit k.its_closed k.its_kept k.its_part.chain (ends-off rows steps further sound sound' later later' whole grows (u || is_modal c₀) k₀.0 (x.ends i) k.its_part.rest (x.way i) k.its_part.ends) (x'.turns i) (x'.ends i) its'.first its'.rest (x'.way i) its'.chain its'.ends (log_in_child i more)
           (sym its'.whole ∙ joined i ∙ ap (λ v. log_then v (log_in_child i more)) k.its_part.whole)
           in
           subst (λ v. ComesLater v (log_in_child i more)) (ap (λ v. log_then (log_in_child i l) v) (sym (log-of i ∙ k.its_part.whole)) ∙ sym (fun_ext (λ q. unmarked-append (l (i ∷ q)) (here (i ∷ q))))) inside

@@ -102,6 +102,14 @@ all-go-on i l (m ∷ ms) (o ∷ os) [] k b g h = absurd g
 all-go-on zero l (m ∷ ms) (o ∷ os) (n ∷ ns) k b g h = (grew-joined m l o n k g.0 h, g.1)
 all-go-on (suc i) l (m ∷ ms) (o ∷ os) (n ∷ ns) k b g h = (g.0, all-go-on i l ms os ns k (omega arith) g.1 h)
 
+pub all-long : {T : Type 0} (ls : List (Log T)) (olds news : List (Kept T)) → AllGrewBy ls olds news → length ls ≡ length news
+all-long [] [] [] g = refl
+all-long [] [] (n ∷ ns) g = absurd g
+all-long [] (o ∷ os) ns g = absurd g
+all-long (m ∷ ms) [] ns g = absurd g
+all-long (m ∷ ms) (o ∷ os) [] g = absurd g
+all-long (m ∷ ms) (o ∷ os) (n ∷ ns) g = ap (λ v. suc v) (all-long ms os ns g.1)
+
 pub all-each : {T : Type 0} (i : ℕ) (ls : List (Log T)) (olds news : List (Kept T)) → AllGrewBy ls olds news → GrewBy (log_at ls i) (kept_at olds i) (kept_at news i)
 all-each i [] [] [] g = grew-none (λ p. blank)
 all-each i [] [] (n ∷ ns) g = absurd g

@@ -11,6 +11,7 @@ use Rattle.pt_meaning.specs.Children.{Child, numbered, nodes, child_facts, with_
 use Rattle.pt_meaning.specs.Tree.{Rows, Core, Sdf, Past, Node, Nodes, Composite, none, more, list_of, nodes_of, made_of, fired_at, height, heights}
 use Rattle.pt_meaning.specs.NodeFacts.{facts_of}
 use Rattle.pt_meaning.specs.Step.{step_at, Step}
+use Rattle.pt_meaning.specs.Lawful.{LawfulRows}
 use Rattle.pt_meaning.specs.Running.{Asks, plus, puts, total}
 use Rattle.pt_laws.specs.LogsOfRuns.{RunningWith, SticksWith, silents, logs_then, log_in, rates_at}
 use Rattle.pt_laws.specs.CompositeRuns.{steps_below, SdfRun, sdf_start, sdf_bounds, times, outlets_of}
@@ -23,8 +24,11 @@ use Rattle.pt_laws.proofs.LogLaws.{begins-with, asked-fires, run-is-prefix}
 use Rattle.pt_laws.proofs.CompositeLaws.{sdf-ends, sdf-sticks, sdf-is-prefix, log-as-node}
 use Rattle.pt_records.specs.Kept.{Kept, Entry, kept_at, kept_by, GrewBy}
 use Rattle.pt_records.specs.Fired.{IsStuckAt}
+use Rattle.pt_records.specs.Shut.{IsShut}
 use Rattle.pt_records.specs.SoFar.{AllLow, GivesRates, IsAsked, SoFarBegins, SoFarGoesOn, SdfSoFar, sdf_left, SdfIsDone, SdfIsStuck, SdfIsUnrated, SdfIsLeftOff, SdfIsLeftOffWithin}
-use Rattle.pt_records.proofs.GrowthLaws.{all-begin, all-go-on, grew-within}
+use Rattle.pt_records.proofs.GrowthLaws.{all-begin, all-go-on, grew-within, all-long}
+use Rattle.pt_records.proofs.ShutSteps.{stepped-is-shut}
+use Rattle.pt_records.proofs.ShutMiddles.{between-is-shut, within-is-shut}
 
 -- lists of children with their numbers
 numbered-at : {S : Type 0} (b : ℕ) (ss : List S) (i n : ℕ) (s : S) (d : Child S) → n ≡ b + i → get ss i ≡ Some s → get_or (numbered b ss) i d ≡ record { number = n; node = s }
@@ -187,10 +191,11 @@ sdf-below rows m tag h c p X kids inputs k ms now held ls w o =
     (within-below h.made _ _ (run-is-prefix (child_facts (facts_of rows)) (steps_below rows k (heights kids) m) tag p.net (sdf_bounds p X inputs) (numbered 0 (list_of kids)) (sdf_start p X inputs) ms now held ls w (fired_all n p.repetitions) (λ ns. times n p.gives) k o))
 
 pub sdf-is-left-off : {T A : Type 0} → SdfIsLeftOff T A
-sdf-is-left-off rows m tag h c p X kids inputs e olds ms now held news s = record {
+sdf-is-left-off rows law m tag h c p X kids inputs e olds ms now held news s = record {
   log = within_firing h.made (log_below s.logs);
   beginning = (s.run.0 + total ms, λ k o. sdf-below rows m tag h c p X kids inputs k ms (numbered 0 now) held s.logs (s.run.1 k (omega (arith, o))) (omega (arith, o)));
   kept = grew-within h.made s.logs e olds news s.kept;
+  part = between-is-shut rows law m tag h c p X kids inputs ms now held s.logs s.run.0 s.run.1;
 }
 
 -- in the middle of a firing of a child
@@ -217,15 +222,21 @@ module _ {T A : Type 0} (rows : Rows T A) (m : Meets) (tag : Tag) (h : Past) (c 
   pub grew : (l : Log T) → GrewBy l (kept_at news i) k → GrewBy (so_far l) (kept_by e olds) (kept_by e (set news i k))
   grew l g = grew-within h.made (logs_then i l s.logs) e olds (set news i k) (all-go-on i l s.logs olds news k b s.kept g)
 
+  -- what is logged is shut, where the child's part of it is
+  pub shut-one : LawfulRows rows → (l : Log T) (k₀ : ℕ) → ((j : ℕ) → k₀ ≤ j → LogBelow l (log_in (step_at rows j (height child) (below_child i m) tag child got))) → IsShut rows (below_child i m) child tag got l → IsShut rows m (Composite h c (Sdf p X) kids) tag inputs (so_far l)
+  shut-one law l k₀ below shut =
+      within-is-shut rows law m tag h c p X kids inputs ms now held s.logs i child got left l a.state a.asks (low-get (heights kids) now i child s.low a.state) (omega (arith, b, all-long s.logs olds news s.kept)) shut (s.run.0 + k₀) (λ j o. (s.run.1 j (omega (arith, o)), below j (omega (arith, o))))
+
 pub sdf-is-left-off-within : {T A : Type 0} → SdfIsLeftOffWithin T A
-sdf-is-left-off-within rows m tag h c p X kids inputs e olds ms now held news s i child got left k a b off = record {
+sdf-is-left-off-within rows law m tag h c p X kids inputs e olds ms now held news s i child got left k a b off = record {
   log = within_firing h.made (log_below (logs_then i off.log s.logs));
   beginning = (s.run.0 + off.beginning.0 + suc (total ms), λ j o. within-one rows m tag h c p X kids inputs e olds ms now held news s i child got left k a b j (omega (arith, o)) (omega (arith, o)) off.log (off.beginning.1 j (omega (arith, o))));
   kept = grew rows m tag h c p X kids inputs e olds ms now held news s i child got left k a b off.log off.kept;
+  part = shut-one rows m tag h c p X kids inputs e olds ms now held news s i child got left k a b law off.log off.beginning.0 off.beginning.1 off.part;
 }
 
 pub sdf-is-stuck : {T A : Type 0} → SdfIsStuck T A
-sdf-is-stuck rows m tag h c p X kids inputs e olds ms now held news s i child got left k f a b sticks = record {
+sdf-is-stuck rows law m tag h c p X kids inputs e olds ms now held news s i child got left k f a b sticks = record {
   log = within_firing h.made (log_below (logs_then i sticks.log s.logs));
   stuck = (
     s.run.0 + sticks.stuck.0 + suc (total ms),
@@ -235,10 +246,11 @@ sdf-is-stuck rows m tag h c p X kids inputs e olds ms now held news s i child go
         (its-stuck rows m (heights kids) tag p.net (sdf_bounds p X inputs) ms now held i child got left a s.low j r.0 r.1 r.2) r.3 (subst (λ v. LogBelow sticks.log (log_in v)) (sym r.2) r.4),
   );
   kept = grew rows m tag h c p X kids inputs e olds ms now held news s i child got left k a b sticks.log sticks.kept;
+  part = shut-one rows m tag h c p X kids inputs e olds ms now held news s i child got left k a b law sticks.log sticks.stuck.0 (λ j o. let r = sticks.stuck.1 j o in subst (λ v. LogBelow sticks.log (log_in v)) (sym r.2) r.4) sticks.part;
 }
 
 pub sdf-is-unrated : {T A : Type 0} → SdfIsUnrated T A
-sdf-is-unrated rows m tag h c p X kids inputs e olds ms now held news s i child next got left out k ns a b fires g lacks = record {
+sdf-is-unrated rows law m tag h c p X kids inputs e olds ms now held news s i child next got left out k ns a b fires g lacks = record {
   log = within_firing h.made (log_below (logs_then i fires.log s.logs));
   stuck = (
     s.run.0 + fires.done.0 + suc (total ms),
@@ -248,4 +260,6 @@ sdf-is-unrated rows m tag h c p X kids inputs e olds ms now held news s i child 
         (its-unrated rows m (heights kids) tag p.net (sdf_bounds p X inputs) ms now held i child got left a s.low j next out fires.log ns r g lacks) (inl refl) (subst (λ v. LogBelow fires.log (log_in v)) (sym r) (λ q. IsPrefix-refl (fires.log q))),
   );
   kept = grew rows m tag h c p X kids inputs e olds ms now held news s i child got left k a b fires.log fires.kept;
+  part = shut-one rows m tag h c p X kids inputs e olds ms now held news s i child got left k a b law fires.log fires.done.0 (λ j o. subst (λ v. LogBelow fires.log (log_in v)) (sym (fires.done.1 j o)) (λ q. IsPrefix-refl (fires.log q)))
+      (subst (λ v. IsShut rows (below_child i m) child tag got (log_in v)) (fires.done.1 fires.done.0 (omega arith)) (stepped-is-shut rows law (below_child i m) child fires.done.0 (height child) (omega arith) tag got));
 }

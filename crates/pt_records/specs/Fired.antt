@@ -21,14 +21,16 @@ pub record FiresTo {T S : Type 0} (outcome : ℕ → Outcome T S) (next : S) (ou
   pub done : FromSome (λ k. outcome k ≡ Done next out log)
   pub kept : GrewBy log old new
 
--- It is stuck at this place from some fuel on, and what is kept went on by a beginning of its log.
-pub record SticksAt {T S : Type 0} (outcome : ℕ → Outcome T S) (f : Fault) (old new : Kept T) : Type 0 where
+-- It is stuck at this place from some fuel on, and what is kept went on by a beginning of its log, of which IsPart holds.
+pub record SticksAt {T S : Type 0} (outcome : ℕ → Outcome T S) (IsPart : Log T → Type 0) (f : Fault) (old new : Kept T) : Type 0 where
   pub log : Log T
   pub stuck : FromSome (λ k. IsStuckAt f log (outcome k))
   pub kept : GrewBy log old new
+  pub part : IsPart log
 
--- It was left off in the middle: what is kept went on by a beginning of its log.
-pub record LeavesOff {T S : Type 0} (outcome : ℕ → Outcome T S) (old new : Kept T) : Type 0 where
+-- It was left off in the middle: what is kept went on by a beginning of its log, of which IsPart holds.
+pub record LeavesOff {T S : Type 0} (outcome : ℕ → Outcome T S) (IsPart : Log T → Type 0) (old new : Kept T) : Type 0 where
   pub log : Log T
   pub beginning : FromSome (λ k. LogBelow log (log_in (outcome k)))
   pub kept : GrewBy log old new
+  pub part : IsPart log

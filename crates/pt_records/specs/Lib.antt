@@ -1,5 +1,6 @@
 pub mod Kept
 pub mod Growth
 pub mod Fired
+pub mod Shut
 pub mod SoFar
 pub mod Counts

@@ -11,11 +11,13 @@ use Rattle.pt_meaning.specs.Children.{numbered, child_facts}
 use Rattle.pt_meaning.specs.Tree.{Rows, Core, Sdf, Past, Node, Nodes, Composite, list_of, nodes_of, made_of, fired_at, height, heights}
 use Rattle.pt_meaning.specs.NodeFacts.{facts_of}
 use Rattle.pt_meaning.specs.Step.{step_at, Step}
+use Rattle.pt_meaning.specs.Lawful.{LawfulRows}
 use Rattle.pt_meaning.specs.Running.{Asks, Fits, plus, puts, total, zeros}
 use Rattle.pt_laws.specs.LogsOfRuns.{RunningWith, rates_at}
 use Rattle.pt_laws.specs.CompositeRuns.{steps_below, sdf_start, sdf_bounds, times, outlets_of}
 use Rattle.pt_records.specs.Kept.{Kept, Entry, kept_at, kept_by, AllGrewBy}
 use Rattle.pt_records.specs.Fired.{FromSome, FiresTo, SticksAt, LeavesOff}
+use Rattle.pt_records.specs.Shut.{IsShut}
 
 -- each of at most d levels
 abbrev pub AllLow : {T A : Type 0} → ℕ → List (Node T A) → Type 0
@@ -67,31 +69,31 @@ SdfIsDone T A = (rows : Rows T A) (m : Meets) (tag : Tag) (h : Past) (c : Core T
     SdfSoFar rows m tag p X kids inputs olds ms now held news → ms ≡ times (iterations p (sdf_start p X inputs)) p.repetitions →
     FiresTo (λ fuel. step_at rows fuel (height (Composite h c (Sdf p X) kids)) m tag (Composite h c (Sdf p X) kids) inputs) (Composite (fired_at tag h) c (Sdf p (sdf_left p X inputs held)) (nodes_of now)) (firsts (times (iterations p (sdf_start p X inputs)) p.gives) (outlets_of p.net held)) (kept_by e olds) (kept_by e news)
 
--- Where a child that was asked is stuck, so is the composite, at the place of the child.
+-- Where a child that was asked is stuck, so is the composite, at the place of the child. What is logged by then is shut, where the child's part of it is.
 abbrev pub SdfIsStuck : Type 0 → Type 0 → Type 0
-SdfIsStuck T A = (rows : Rows T A) (m : Meets) (tag : Tag) (h : Past) (c : Core T) (p : SdfPlan) (X : Streams T) (kids : Nodes T A) (inputs : Streams T) (e : Entry T) (olds : List (Kept T)) (ms : List ℕ) (now : List (Node T A)) (held : Streams T) (news : List (Kept T)) →
+SdfIsStuck T A = (rows : Rows T A) → LawfulRows rows → (m : Meets) (tag : Tag) (h : Past) (c : Core T) (p : SdfPlan) (X : Streams T) (kids : Nodes T A) (inputs : Streams T) (e : Entry T) (olds : List (Kept T)) (ms : List ℕ) (now : List (Node T A)) (held : Streams T) (news : List (Kept T)) →
     SdfSoFar rows m tag p X kids inputs olds ms now held news →
     (i : ℕ) (child : Node T A) (got left : Streams T) (k : Kept T) (f : Fault) → IsAsked rows p.net (sdf_bounds p X inputs) ms now held i child got left → i < length news →
-    SticksAt (λ fuel. step_at rows fuel (height child) (below_child i m) tag child got) f (kept_at news i) k →
-    SticksAt (λ fuel. step_at rows fuel (height (Composite h c (Sdf p X) kids)) m tag (Composite h c (Sdf p X) kids) inputs) (record { path = i ∷ f.path; firing = f.firing; code = f.code }) (kept_by e olds) (kept_by e (set news i k))
+    SticksAt (λ fuel. step_at rows fuel (height child) (below_child i m) tag child got) (IsShut rows (below_child i m) child tag got) f (kept_at news i) k →
+    SticksAt (λ fuel. step_at rows fuel (height (Composite h c (Sdf p X) kids)) m tag (Composite h c (Sdf p X) kids) inputs) (IsShut rows m (Composite h c (Sdf p X) kids) tag inputs) (record { path = i ∷ f.path; firing = f.firing; code = f.code }) (kept_by e olds) (kept_by e (set news i k))
 
 -- Where a child that was asked gives another number of tokens than its rate, the composite is stuck at the child, and the child's firing has no record.
 abbrev pub SdfIsUnrated : Type 0 → Type 0 → Type 0
-SdfIsUnrated T A = (rows : Rows T A) (m : Meets) (tag : Tag) (h : Past) (c : Core T) (p : SdfPlan) (X : Streams T) (kids : Nodes T A) (inputs : Streams T) (e : Entry T) (olds : List (Kept T)) (ms : List ℕ) (now : List (Node T A)) (held : Streams T) (news : List (Kept T)) →
+SdfIsUnrated T A = (rows : Rows T A) → LawfulRows rows → (m : Meets) (tag : Tag) (h : Past) (c : Core T) (p : SdfPlan) (X : Streams T) (kids : Nodes T A) (inputs : Streams T) (e : Entry T) (olds : List (Kept T)) (ms : List ℕ) (now : List (Node T A)) (held : Streams T) (news : List (Kept T)) →
     SdfSoFar rows m tag p X kids inputs olds ms now held news →
     (i : ℕ) (child next : Node T A) (got left out : Streams T) (k : Kept T) (ns : List ℕ) → IsAsked rows p.net (sdf_bounds p X inputs) ms now held i child got left → i < length news →
     FiresTo (λ fuel. step_at rows fuel (height child) (below_child i m) tag child got) next out (kept_at news i) k → rates_at (sdf_bounds p X inputs) i ≡ Some ns → has_rates ns out ≡ false →
-    SticksAt (λ fuel. step_at rows fuel (height (Composite h c (Sdf p X) kids)) m tag (Composite h c (Sdf p X) kids) inputs) (record { path = i ∷ []; firing = made_of child; code = rate_code }) (kept_by e olds) (kept_by e (set news i k))
+    SticksAt (λ fuel. step_at rows fuel (height (Composite h c (Sdf p X) kids)) m tag (Composite h c (Sdf p X) kids) inputs) (IsShut rows m (Composite h c (Sdf p X) kids) tag inputs) (record { path = i ∷ []; firing = made_of child; code = rate_code }) (kept_by e olds) (kept_by e (set news i k))
 
 -- The composite may be left off between two firings of children, or within one.
 abbrev pub SdfIsLeftOff : Type 0 → Type 0 → Type 0
-SdfIsLeftOff T A = (rows : Rows T A) (m : Meets) (tag : Tag) (h : Past) (c : Core T) (p : SdfPlan) (X : Streams T) (kids : Nodes T A) (inputs : Streams T) (e : Entry T) (olds : List (Kept T)) (ms : List ℕ) (now : List (Node T A)) (held : Streams T) (news : List (Kept T)) →
+SdfIsLeftOff T A = (rows : Rows T A) → LawfulRows rows → (m : Meets) (tag : Tag) (h : Past) (c : Core T) (p : SdfPlan) (X : Streams T) (kids : Nodes T A) (inputs : Streams T) (e : Entry T) (olds : List (Kept T)) (ms : List ℕ) (now : List (Node T A)) (held : Streams T) (news : List (Kept T)) →
     SdfSoFar rows m tag p X kids inputs olds ms now held news →
-    LeavesOff (λ fuel. step_at rows fuel (height (Composite h c (Sdf p X) kids)) m tag (Composite h c (Sdf p X) kids) inputs) (kept_by e olds) (kept_by e news)
+    LeavesOff (λ fuel. step_at rows fuel (height (Composite h c (Sdf p X) kids)) m tag (Composite h c (Sdf p X) kids) inputs) (IsShut rows m (Composite h c (Sdf p X) kids) tag inputs) (kept_by e olds) (kept_by e news)
 
 abbrev pub SdfIsLeftOffWithin : Type 0 → Type 0 → Type 0
-SdfIsLeftOffWithin T A = (rows : Rows T A) (m : Meets) (tag : Tag) (h : Past) (c : Core T) (p : SdfPlan) (X : Streams T) (kids : Nodes T A) (inputs : Streams T) (e : Entry T) (olds : List (Kept T)) (ms : List ℕ) (now : List (Node T A)) (held : Streams T) (news : List (Kept T)) →
+SdfIsLeftOffWithin T A = (rows : Rows T A) → LawfulRows rows → (m : Meets) (tag : Tag) (h : Past) (c : Core T) (p : SdfPlan) (X : Streams T) (kids : Nodes T A) (inputs : Streams T) (e : Entry T) (olds : List (Kept T)) (ms : List ℕ) (now : List (Node T A)) (held : Streams T) (news : List (Kept T)) →
     SdfSoFar rows m tag p X kids inputs olds ms now held news →
     (i : ℕ) (child : Node T A) (got left : Streams T) (k : Kept T) → IsAsked rows p.net (sdf_bounds p X inputs) ms now held i child got left → i < length news →
-    LeavesOff (λ fuel. step_at rows fuel (height child) (below_child i m) tag child got) (kept_at news i) k →
-    LeavesOff (λ fuel. step_at rows fuel (height (Composite h c (Sdf p X) kids)) m tag (Composite h c (Sdf p X) kids) inputs) (kept_by e olds) (kept_by e (set news i k))
+    LeavesOff (λ fuel. step_at rows fuel (height child) (below_child i m) tag child got) (IsShut rows (below_child i m) child tag got) (kept_at news i) k →
+    LeavesOff (λ fuel. step_at rows fuel (height (Composite h c (Sdf p X) kids)) m tag (Composite h c (Sdf p X) kids) inputs) (IsShut rows m (Composite h c (Sdf p X) kids) tag inputs) (kept_by e olds) (kept_by e (set news i k))

@@ -3,10 +3,12 @@
 
 mod counts;
 mod growth;
+mod shut;
 mod so_far;
 
 pub use counts::{counts_grow, numbers_go_on, stays_wired};
 pub use growth::{children_grow, nodes_grow};
+pub use shut::{runs_are_shut, steps_are_shut};
 pub use so_far::{
     sdf_is_done, sdf_is_left_off, sdf_is_left_off_within, sdf_is_stuck, sdf_is_unrated,
     so_far_begins, so_far_goes_on,

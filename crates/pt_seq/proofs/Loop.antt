@@ -11,7 +11,6 @@ use Rattle.pt_firing.specs.declared.ask.Ask.{Ask}
 use Rattle.pt_firing.specs.declared.ask.Ask.TheVariants as ask
 use Rattle.pt_firing.specs.declared.answer.Place.{Place}
 use Rattle.pt_records.specs.Kept.{Entry, kept_by}
-use Rattle.pt_records.specs.Fired.{LeavesOff}
 use Rattle.pt_sdf.specs.State.{asked_child, lent_in}
 use Rattle.pt_sdf.specs.Clauses.{State}
 use Rattle.pt_node.specs.declared.node.Node.{Node}
@@ -22,7 +21,7 @@ use Rattle.pt_node.specs.Live.{IsFit}
 use Rattle.pt_node.proofs.Link.{shown-node}
 use Rattle.pt_seq.specs.declared.fire.Within.TheVariants as within
 use Rattle.pt_seq.specs.declared.fire.Turn.TheVariants as turn
-use Rattle.pt_seq.specs.Within.{outcome, sdf_node, SdfTo, ChildFired, TurnTo}
+use Rattle.pt_seq.specs.Within.{IsLeftOff, sdf_node, SdfTo, ChildFired, TurnTo}
 use Rattle.pt_seq.specs.Between.{Between}
 use Rattle.pt_seq.proofs.Children.{get-or, get-map, map-set, fit-get, depth-get}
 use Rattle.pt_seq.proofs.Turns.{core-is, child-there, between-next, outlines-next, counted-next, fault-next, off-next, child-takes}
@@ -71,6 +70,6 @@ module _ (before : State) (olds : List Shown) (kids : List Node) (tag at : Tag) 
       pub loop-fault : (place : Place) (core' : State) → TurnTo core (shown_node d) i tag (turn.Fault place) core' (shown_node n) → SdfTo before (all_of olds) tag X (within.Fault place) core' (all_of (map shown (set kids i n)))
       loop-fault place core' t = subst (λ ss. SdfTo before (all_of olds) tag X (within.Fault place) core' (all_of ss)) set-is (fault-next before olds (map shown kids) tag at X allowance left i core b (shown_node d) (shown_node n) there place core' t)
 
-      pub loop-off : ((m : Meets) → LeavesOff (outcome m (node_of (shown_node d)) tag (lent_in core.stage)) (kept_of (shown_node d)) (kept_of (shown_node n))) → (m : Meets) (h : tree.Past) (en : Entry Token) →
-          LeavesOff (outcome m (sdf_node h before (all_of olds)) tag X) (kept_by en (kepts_of (all_of olds))) (kept_by en (kepts_of (all_of (map shown (set kids i n)))))
-      loop-off off = subst (λ ss. (m : Meets) (h : tree.Past) (en : Entry Token) → LeavesOff (outcome m (sdf_node h before (all_of olds)) tag X) (kept_by en (kepts_of (all_of olds))) (kept_by en (kepts_of (all_of ss)))) set-is (off-next before olds (map shown kids) tag at X allowance left i core b (shown_node d) (shown_node n) there off)
+      pub loop-off : ((m : Meets) → IsLeftOff m (node_of (shown_node d)) tag (lent_in core.stage) (kept_of (shown_node d)) (kept_of (shown_node n))) → (m : Meets) (h : tree.Past) (en : Entry Token) →
+          IsLeftOff m (sdf_node h before (all_of olds)) tag X (kept_by en (kepts_of (all_of olds))) (kept_by en (kepts_of (all_of (map shown (set kids i n)))))
+      loop-off off = subst (λ ss. (m : Meets) (h : tree.Past) (en : Entry Token) → IsLeftOff m (sdf_node h before (all_of olds)) tag X (kept_by en (kepts_of (all_of olds))) (kept_by en (kepts_of (all_of ss)))) set-is (off-next before olds (map shown kids) tag at X allowance left i core b (shown_node d) (shown_node n) there off)

@@ -21,7 +21,7 @@ use Rattle.pt_firing.specs.declared.answer.Place.{Place}
 use Rattle.pt_firing.specs.declared.fault.RunFault.TheVariants.{Rate}
 use Rattle.pt_firing.specs.RunFault.{code_of}
 use Rattle.pt_records.specs.Kept.{Entry, kept_by}
-use Rattle.pt_records.specs.Fired.{FiresTo, SticksAt, LeavesOff}
+use Rattle.pt_records.specs.Fired.{FiresTo}
 use Rattle.pt_records.specs.SoFar as so_far
 use Rattle.pt_records.specs.SoFar.{SoFar, SdfSoFar, sdf_left}
 use Rattle.pt_records.proofs.SoFarLaws.{so-far-begins, so-far-goes-on, sdf-is-done, sdf-is-stuck, sdf-is-unrated, sdf-is-left-off, sdf-is-left-off-within}
@@ -35,7 +35,8 @@ use Rattle.pt_node.specs.Shown.{Shown, all_of}
 use Rattle.pt_node.specs.View as view
 use Rattle.pt_node.specs.View.{Tree, node_of, nodes_of, kept_of, kepts_of, outline_of, outlines_of, text_at, text_below, count_of, counts_of}
 use Rattle.pt_node.specs.Live.{IsFit, AllFit, IsReady}
-use Rattle.pt_seq.specs.Within.{outcome, sdf_node, IsStuck, fault_of, StaysSteady}
+use Rattle.pt_node.proofs.LibraryLaws.{rows_lawful}
+use Rattle.pt_seq.specs.Within.{outcome, IsLeftOff, IsStuckIn, sdf_node, IsStuck, fault_of, StaysSteady}
 use Rattle.pt_seq.specs.Between.{Going}
 use Rattle.pt_seq.proofs.Children.{nodes-set, kepts-set, kepts-at, nodes-get, kepts-long, nodes-long, nodes-again, fit-set, steady-get, steady-set, text-get, needs-set}
 
@@ -163,8 +164,8 @@ module _ (before : State) (olds now : List Shown) (tag : Tag) (X : Streams Token
       (subst (λ (p : SdfPlan). so_far.IsAsked rows p.net (sdf_limits s.turns s.plan.repetitions s.plan.rates) s.fired (tree.list_of (nodes_of (all_of now))) s.held i (node_of child) (lent_of s i) (left_of s i)) g.plan (asked-now s now i child g.fitting e a))
 
   -- left off between firings
-  pub left-between : (m : Meets) (h : tree.Past) (e : Entry Token) → LeavesOff (outcome m (sdf_node h before (all_of olds)) tag X) (kept_by e (kepts_of (all_of olds))) (kept_by e (kepts_of (all_of now)))
-  left-between m h e = sdf-is-left-off rows m tag h (tree.Sdf before.plan before.first) before.plan before.held (nodes_of (all_of olds)) X e (kepts_of (all_of olds)) s.fired (tree.list_of (nodes_of (all_of now))) s.held (kepts_of (all_of now)) (sdf-so-far m)
+  pub left-between : (m : Meets) (h : tree.Past) (e : Entry Token) → IsLeftOff m (sdf_node h before (all_of olds)) tag X (kept_by e (kepts_of (all_of olds))) (kept_by e (kepts_of (all_of now)))
+  left-between m h e = sdf-is-left-off rows rows_lawful m tag h (tree.Sdf before.plan before.first) before.plan before.held (nodes_of (all_of olds)) X e (kepts_of (all_of olds)) s.fired (tree.list_of (nodes_of (all_of now))) s.held (kepts_of (all_of now)) (sdf-so-far m)
 
   -- the end
   pub sdf-done : IsEnough s → (m : Meets) (h : tree.Past) (e : Entry Token) → FiresTo (outcome m (sdf_node h before (all_of olds)) tag X) (sdf_node (tree.fired_at tag h) (closed (in_stage Closed s)) (all_of now)) (firsts (owed s) (own_of s)) (kept_by e (kepts_of (all_of olds))) (kept_by e (kepts_of (all_of now)))
@@ -201,11 +202,11 @@ module _ (before : State) (olds now : List Shown) (tag : Tag) (X : Streams Token
     short-in : i < length (kepts_of (all_of now))
     short-in = omega (arith, get-short now i child e, kepts-long now)
 
-    pub left-within : ((m : Meets) → LeavesOff (outcome m (node_of child) tag (lent_of s i)) (kept_of child) (kept_of after)) → (m : Meets) (h : tree.Past) (en : Entry Token) → LeavesOff (outcome m (sdf_node h before (all_of olds)) tag X) (kept_by en (kepts_of (all_of olds))) (kept_by en (kepts_of (all_of (set now i after))))
+    pub left-within : ((m : Meets) → IsLeftOff m (node_of child) tag (lent_of s i) (kept_of child) (kept_of after)) → (m : Meets) (h : tree.Past) (en : Entry Token) → IsLeftOff m (sdf_node h before (all_of olds)) tag X (kept_by en (kepts_of (all_of olds))) (kept_by en (kepts_of (all_of (set now i after))))
     left-within off m h en =
-        subst (λ ks. LeavesOff (outcome m (sdf_node h before (all_of olds)) tag X) (kept_by en (kepts_of (all_of olds))) (kept_by en ks)) (sym (kepts-set now i after))
-        (sdf-is-left-off-within rows m tag h (tree.Sdf before.plan before.first) before.plan before.held (nodes_of (all_of olds)) X en (kepts_of (all_of olds)) s.fired (tree.list_of (nodes_of (all_of now))) s.held (kepts_of (all_of now)) (sdf-so-far m) i (node_of child) (lent_of s i) (left_of s i) (kept_of after) (sdf-asked i child e a) short-in
-        (subst (λ k. LeavesOff (outcome (below_child i m) (node_of child) tag (lent_of s i)) k (kept_of after)) (sym (kepts-at now i child e)) (off (below_child i m))))
+        subst (λ ks. IsLeftOff m (sdf_node h before (all_of olds)) tag X (kept_by en (kepts_of (all_of olds))) (kept_by en ks)) (sym (kepts-set now i after))
+        (sdf-is-left-off-within rows rows_lawful m tag h (tree.Sdf before.plan before.first) before.plan before.held (nodes_of (all_of olds)) X en (kepts_of (all_of olds)) s.fired (tree.list_of (nodes_of (all_of now))) s.held (kepts_of (all_of now)) (sdf-so-far m) i (node_of child) (lent_of s i) (left_of s i) (kept_of after) (sdf-asked i child e a) short-in
+        (subst (λ k. IsLeftOff (below_child i m) (node_of child) tag (lent_of s i) k (kept_of after)) (sym (kepts-at now i child e)) (off (below_child i m))))
 
     pub stuck-within : (place : Place) → ((m : Meets) → IsStuck m (node_of child) tag (lent_of s i) (outline_of child) place (kept_of child) (kept_of after)) → outlines_of (all_of now) ≡ outlines_of (all_of olds) → (m : Meets) (h : tree.Past) (en : Entry Token) (text : List ℕ) →
         IsStuck m (sdf_node h before (all_of olds)) tag X (view.Named text (outlines_of (all_of olds))) place (kept_by en (kepts_of (all_of olds))) (kept_by en (kepts_of (all_of (set now i after))))
@@ -213,9 +214,9 @@ module _ (before : State) (olds now : List Shown) (tag : Tag) (X : Streams Token
         let k = sticks (below_child i m) in (
           i ∷ k.0,
           ap (λ os. text_below os i k.0) (sym o) ∙ text-get now i child k.0 e ∙ k.1,
-          subst (λ ks. SticksAt (outcome m (sdf_node h before (all_of olds)) tag X) (fault_of (i ∷ k.0) place) (kept_by en (kepts_of (all_of olds))) (kept_by en ks)) (sym (kepts-set now i after))
-              (sdf-is-stuck rows m tag h (tree.Sdf before.plan before.first) before.plan before.held (nodes_of (all_of olds)) X en (kepts_of (all_of olds)) s.fired (tree.list_of (nodes_of (all_of now))) s.held (kepts_of (all_of now)) (sdf-so-far m) i (node_of child) (lent_of s i) (left_of s i) (kept_of after) (fault_of k.0 place) (sdf-asked i child e a) short-in
-              (subst (λ v. SticksAt (outcome (below_child i m) (node_of child) tag (lent_of s i)) (fault_of k.0 place) v (kept_of after)) (sym (kepts-at now i child e)) k.2)),
+          subst (λ ks. IsStuckIn m (sdf_node h before (all_of olds)) tag X (fault_of (i ∷ k.0) place) (kept_by en (kepts_of (all_of olds))) (kept_by en ks)) (sym (kepts-set now i after))
+              (sdf-is-stuck rows rows_lawful m tag h (tree.Sdf before.plan before.first) before.plan before.held (nodes_of (all_of olds)) X en (kepts_of (all_of olds)) s.fired (tree.list_of (nodes_of (all_of now))) s.held (kepts_of (all_of now)) (sdf-so-far m) i (node_of child) (lent_of s i) (left_of s i) (kept_of after) (fault_of k.0 place) (sdf-asked i child e a) short-in
+              (subst (λ v. IsStuckIn (below_child i m) (node_of child) tag (lent_of s i) (fault_of k.0 place) v (kept_of after)) (sym (kepts-at now i child e)) k.2)),
         )
 
     pub unrated-within : (place : Place) (next : Tree) (out : Streams Token) → has_rates (get_or s.plan.rates i []) out ≡ false → ((m : Meets) → FiresTo (outcome m (node_of child) tag (lent_of s i)) next out (kept_of child) (kept_of after)) → text_at (outline_of child) [] ≡ Some place.path → place.firing ≡ tree.made_of (node_of child) → place.kind ≡ Rate →
@@ -227,8 +228,8 @@ module _ (before : State) (olds now : List Shown) (tag : Tag) (X : Streams Token
         let told : record { path = i ∷ []; firing = tree.made_of (node_of child); code = rate_code } ≡ fault_of (i ∷ []) place = ap₂ (λ n c. let f : machine.Fault = record { path = i ∷ []; firing = n; code = c } in f) (sym firing) (ap (λ k. code_of k) (sym kind)) in (
           i ∷ [],
           ap (λ os. text_below os i []) (sym o) ∙ text-get now i child [] e ∙ path,
-          subst (λ ks. SticksAt (outcome m (sdf_node h before (all_of olds)) tag X) (fault_of (i ∷ []) place) (kept_by en (kepts_of (all_of olds))) (kept_by en ks)) (sym (kepts-set now i after))
-              (subst (λ f. SticksAt (outcome m (sdf_node h before (all_of olds)) tag X) f (kept_by en (kepts_of (all_of olds))) (kept_by en (set (kepts_of (all_of now)) i (kept_of after)))) told
-              (sdf-is-unrated rows m tag h (tree.Sdf before.plan before.first) before.plan before.held (nodes_of (all_of olds)) X en (kepts_of (all_of olds)) s.fired (tree.list_of (nodes_of (all_of now))) s.held (kepts_of (all_of now)) (sdf-so-far m) i (node_of child) next (lent_of s i) (left_of s i) out (kept_of after) (get_or s.plan.rates i []) (sdf-asked i child e a) short-in
+          subst (λ ks. IsStuckIn m (sdf_node h before (all_of olds)) tag X (fault_of (i ∷ []) place) (kept_by en (kepts_of (all_of olds))) (kept_by en ks)) (sym (kepts-set now i after))
+              (subst (λ f. IsStuckIn m (sdf_node h before (all_of olds)) tag X f (kept_by en (kepts_of (all_of olds))) (kept_by en (set (kepts_of (all_of now)) i (kept_of after)))) told
+              (sdf-is-unrated rows rows_lawful m tag h (tree.Sdf before.plan before.first) before.plan before.held (nodes_of (all_of olds)) X en (kepts_of (all_of olds)) s.fired (tree.list_of (nodes_of (all_of now))) s.held (kepts_of (all_of now)) (sdf-so-far m) i (node_of child) next (lent_of s i) (left_of s i) out (kept_of after) (get_or s.plan.rates i []) (sdf-asked i child e a) short-in
               (subst (λ v. FiresTo (outcome (below_child i m) (node_of child) tag (lent_of s i)) next out v (kept_of after)) (sym (kepts-at now i child e)) (fires (below_child i m))) rates lacks)),
         )

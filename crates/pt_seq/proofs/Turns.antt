@@ -23,6 +23,9 @@ use Rattle.pt_firing.specs.declared.answer.Place.{Place}
 use Rattle.pt_firing.specs.RunFault.{code_of}
 use Rattle.pt_records.specs.Kept.{Kept, Entry, kept_by, GrewBy, TracesTold}
 use Rattle.pt_records.specs.Fired.{FiresTo, SticksAt, LeavesOff}
+use Rattle.pt_records.specs.Shut.{IsShut}
+use Rattle.pt_records.proofs.ShutSteps.{nothing-is-shut, stepped-is-shut}
+use Rattle.pt_node.proofs.LibraryLaws.{rows_lawful}
 use Rattle.pt_records.proofs.GrowthLaws.{grew-none, grew-joined, grew-record}
 use Rattle.pt_sdf.specs.State.{Idle, Closed, lent_in, lent_of, left_of, in_stage, begun, asked, if_told, own_of, owed, closed}
 use Rattle.pt_sdf.specs.Chain.{IsFor}
@@ -33,7 +36,6 @@ use Rattle.pt_node.specs.declared.body.Held.{Held}
 use Rattle.pt_node.specs.declared.director.Director.{Director}
 use Rattle.pt_node.specs.declared.director.Director.TheVariants.{Sdf}
 use Rattle.pt_node.specs.declared.library.LibraryActor.{LibraryActor}
-use Rattle.pt_node.specs.declared.library.LibraryActor.TheVariants as libraries
 use Rattle.pt_node.specs.LibraryActor as library
 use Rattle.pt_node.specs.LibraryActor.{rows}
 use Rattle.pt_node.specs.Recorded.{RecordedPort, noting, recording, unnoted, trace_of}
@@ -46,31 +48,37 @@ use Rattle.pt_seq.specs.declared.fire.Within.{Within}
 use Rattle.pt_seq.specs.declared.fire.Within.TheVariants.{Done, Fault, Spent, Memory}
 use Rattle.pt_seq.specs.declared.fire.Turn.{Turn}
 use Rattle.pt_seq.specs.declared.fire.Turn.TheVariants as turn
-use Rattle.pt_seq.specs.Within.{outcome, fired, sdf_node, IsStuck, fault_of, WithinTo, StaysSteady, StaysFit, SdfTo, SdfStaysFit, ChildFired, TurnTo, TellTo, FinishTo, ActorTo, DirectorTo, DirectorStaysFit, path_of, made_of}
+use Rattle.pt_seq.specs.Within.{outcome, IsLeftOff, IsStuckIn, fired, sdf_node, IsStuck, fault_of, WithinTo, StaysSteady, StaysFit, SdfTo, SdfStaysFit, ChildFired, TurnTo, TellTo, FinishTo, ActorTo, DirectorTo, DirectorStaysFit, path_of, made_of}
 use Rattle.pt_seq.specs.Between.{Between}
 use Rattle.pt_seq.proofs.Children.{nodes-get, outlines-set, counts-set, steady-get}
 use Rattle.pt_seq.proofs.SdfFiring.{children-long, begun-going, going-on, asked-now, left-between, left-within, stuck-within, unrated-within, sdf-done}
 
 -- nothing was finished yet, or all of a firing that is done
-pub off-none : {S : Type 0} (o : ℕ → Outcome Token S) (k : Kept Token) → LeavesOff o k k
-off-none o k = record { log = silent; beginning = (0, λ n l p. tt); kept = grew-none k }
+pub off-none : (m : Meets) (n : Tree) (tag : Tag) (X : Streams Token) (k : Kept Token) → IsLeftOff m n tag X k k
+off-none m n tag X k = record { log = silent; beginning = (0, λ j l p. tt); kept = grew-none k; part = nothing-is-shut rows rows_lawful m n tag X }
 
-pub off-done : {S : Type 0} (o : ℕ → Outcome Token S) (next : S) (out : Streams Token) (old new : Kept Token) → FiresTo o next out old new → LeavesOff o old new
-off-done o next out old new f = record { log = f.log; beginning = (f.done.0, λ n l p. subst (λ r. LogBelow f.log (log_in r)) (sym (f.done.1 n l)) (λ q. IsPrefix-refl (f.log q)) p); kept = f.kept }
+pub off-done : (m : Meets) (n : Tree) (tag : Tag) (X : Streams Token) (next : Tree) (out : Streams Token) (old new : Kept Token) → FiresTo (outcome m n tag X) next out old new → IsLeftOff m n tag X old new
+off-done m n tag X next out old new f = record {
+  log = f.log;
+  beginning = (f.done.0, λ k l p. subst (λ r. LogBelow f.log (log_in r)) (sym (f.done.1 k l)) (λ q. IsPrefix-refl (f.log q)) p);
+  kept = f.kept;
+  part = subst (λ r. IsShut rows m n tag X (log_in r)) (f.done.1 f.done.0 (omega arith)) (stepped-is-shut rows rows_lawful m n f.done.0 (tree.height n) (omega arith) tag X);
+}
 
 -- with the node's own record
 recorded-begins : {S : Type 0} (n : ℕ) (tag : Tag) (X : Streams Token) (l : Log Token) (r : Outcome Token S) → LogBelow l (log_in r) → LogBelow l (log_in (recorded n tag X r))
 recorded-begins n tag X l (machine.Done s out k) b p = IsPrefix-trans (l p) (k p) _ (b p) (IsPrefix-append (k p) (own (record { number = n; tag = tag; inputs = X; outputs = out }) p))
 recorded-begins n tag X l (machine.Stuck fs k) b p = b p
 
-pub step-off : (m : Meets) (n : Tree) (tag : Tag) (X : Streams Token) (old new : Kept Token) → LeavesOff (outcome m n tag X) old new → LeavesOff (λ k. Step k rows m n tag X) old new
-step-off m n tag X old new f = record { log = f.log; beginning = (f.beginning.0, λ k l. recorded-begins (tree.made_of n) tag X f.log (outcome m n tag X k) (f.beginning.1 k l)); kept = f.kept }
+pub step-off : (m : Meets) (n : Tree) (tag : Tag) (X : Streams Token) (old new : Kept Token) → IsLeftOff m n tag X old new → LeavesOff (λ k. Step k rows m n tag X) (IsShut rows m n tag X) old new
+step-off m n tag X old new f = record { log = f.log; beginning = (f.beginning.0, λ k l. recorded-begins (tree.made_of n) tag X f.log (outcome m n tag X k) (f.beginning.1 k l)); kept = f.kept; part = f.part }
 
-pub step-stuck : (m : Meets) (n : Tree) (tag : Tag) (X : Streams Token) (f : machine.Fault) (old new : Kept Token) → SticksAt (outcome m n tag X) f old new → SticksAt (λ k. Step k rows m n tag X) f old new
+pub step-stuck : (m : Meets) (n : Tree) (tag : Tag) (X : Streams Token) (f : machine.Fault) (old new : Kept Token) → IsStuckIn m n tag X f old new → SticksAt (λ k. Step k rows m n tag X) (IsShut rows m n tag X) f old new
 step-stuck m n tag X f old new s = record {
   log = s.log;
   stuck = (s.stuck.0, λ k l. let r = s.stuck.1 k l in (r.0, r.1, ap (λ v. recorded (tree.made_of n) tag X v) r.2, r.3, r.4));
   kept = s.kept;
+  part = s.part;
 }
 
 -- what is recorded of a node
@@ -162,16 +170,16 @@ turn-told s old mid i tag out (turn.Fault place) s' after w f o p t =
       kind = t.3;
     })
 turn-told s old mid i tag out turn.Spent s' after w f o p t = absurd t
-turn-told s old mid i tag out turn.Memory s' after w f o p t = λ m. subst (λ k. LeavesOff (outcome m (node_of old) tag (lent_in s.stage)) (kept_of old) k) (sym (kept-bare after mid t)) (off-done (outcome m (node_of old) tag (lent_in s.stage)) (fired tag (node_of mid)) out (kept_of old) (kept_of mid) (w m))
+turn-told s old mid i tag out turn.Memory s' after w f o p t = λ m. subst (λ k. IsLeftOff m (node_of old) tag (lent_in s.stage) (kept_of old) k) (sym (kept-bare after mid t)) (off-done m (node_of old) tag (lent_in s.stage) (fired tag (node_of mid)) out (kept_of old) (kept_of mid) (w m))
 
 pub turn-stuck : (s : State) (old after : Shown) (i : ℕ) (tag : Tag) (X : Streams Token) (place : Place) (s' : State) → X ≡ lent_in s.stage → WithinTo old tag X (Fault place) after → TurnTo s old i tag (turn.Fault place) s' after
 turn-stuck s old after i tag X place s' e w = inl (subst (λ (Y : Streams Token). (m : Meets) → IsStuck m (node_of old) tag Y (outline_of old) place (kept_of old) (kept_of after)) e w)
 
-pub turn-off : (old after : Shown) (tag : Tag) (X Y : Streams Token) → X ≡ Y → ((m : Meets) → LeavesOff (outcome m (node_of old) tag X) (kept_of old) (kept_of after)) → (m : Meets) → LeavesOff (outcome m (node_of old) tag Y) (kept_of old) (kept_of after)
-turn-off old after tag X Y e w = subst (λ (Z : Streams Token). (m : Meets) → LeavesOff (outcome m (node_of old) tag Z) (kept_of old) (kept_of after)) e w
+pub turn-off : (old after : Shown) (tag : Tag) (X Y : Streams Token) → X ≡ Y → ((m : Meets) → IsLeftOff m (node_of old) tag X (kept_of old) (kept_of after)) → (m : Meets) → IsLeftOff m (node_of old) tag Y (kept_of old) (kept_of after)
+turn-off old after tag X Y e w = subst (λ (Z : Streams Token). (m : Meets) → IsLeftOff m (node_of old) tag Z (kept_of old) (kept_of after)) e w
 
-pub turn-off-done : (old after : Shown) (tag : Tag) (X Y out : Streams Token) → X ≡ Y → WithinTo old tag X (Done out) after → (m : Meets) → LeavesOff (outcome m (node_of old) tag Y) (kept_of old) (kept_of after)
-turn-off-done old after tag X Y out e w = turn-off old after tag X Y e (λ m. off-done (outcome m (node_of old) tag X) (fired tag (node_of after)) out (kept_of old) (kept_of after) (w m))
+pub turn-off-done : (old after : Shown) (tag : Tag) (X Y out : Streams Token) → X ≡ Y → WithinTo old tag X (Done out) after → (m : Meets) → IsLeftOff m (node_of old) tag Y (kept_of old) (kept_of after)
+turn-off-done old after tag X Y out e w = turn-off old after tag X Y e (λ m. off-done m (node_of old) tag X (fired tag (node_of after)) out (kept_of old) (kept_of after) (w m))
 
 pub turn-after : (s : State) (old mid : Shown) (i : ℕ) (tag : Tag) (X out : Streams Token) (t : Turn) (s' : State) (after : Shown) → X ≡ lent_in s.stage → WithinTo old tag X (Done out) mid → StaysFit old (Done out) mid → outline_of mid ≡ outline_of old → made_of mid ≡ made_of old →
     TellTo s mid i tag out t s' after → TurnTo s old i tag t s' after
@@ -200,10 +208,11 @@ actor-goes f held held' ks tag X (Fault place) a = λ m.
         log = silent;
         stuck = (0, λ k l. (record { path = []; firing = f.past.made; code = code_of place.kind } ∷ [], silent, actor-step m k f.past held.start held.actor tag X ∙ ap (λ r. actor_outcome tag f.past held.start r) a.0, inl (sym told), λ p. tt));
         kept = grew-none kept;
+        part = nothing-is-shut rows rows_lawful m (tree.Actor f.past held.start held.actor) tag X;
       },
     )
 actor-goes f held held' ks tag X Spent a = absurd a
-actor-goes f held held' ks tag X Memory a = λ m. off-none (outcome m (tree.Actor f.past held.start held.actor) tag X) (kept_by (entry_of f) (kepts_of ks))
+actor-goes f held held' ks tag X Memory a = λ m. off-none m (tree.Actor f.past held.start held.actor) tag X (kept_by (entry_of f) (kepts_of ks))
 
 steady-next : (tag : Tag) (X out : Streams Token) (a b : LibraryActor) → library.step tag a X ≡ tree.Gives b out → IsSteadyActor a → IsSteadyActor b × (library.need b ≡ library.need a)
 steady-next tag X out a b e st =
@@ -283,12 +292,12 @@ module _ (before : State) (olds now : List Shown) (tag at : Tag) (X : Streams To
         go (inl sticks) = stuck-within before olds now tag X b.state b.going i child after e b.asked.2 place sticks b.outlines
         go (inr u) = unrated-within before olds now tag X b.state b.going i child after e b.asked.2 place u.next u.out u.unrated u.fires u.path u.firing u.kind b.outlines
 
-    pub off-next : ((m : Meets) → LeavesOff (outcome m (node_of child) tag (lent_in core.stage)) (kept_of child) (kept_of after)) → (m : Meets) (h : tree.Past) (en : Entry Token) → LeavesOff (outcome m (sdf_node h before (all_of olds)) tag X) (kept_by en (kepts_of (all_of olds))) (kept_by en (kepts_of (all_of (set now i after))))
-    off-next off = left-within before olds now tag X b.state b.going i child after e b.asked.2 (subst (λ (s : State). (m : Meets) → LeavesOff (outcome m (node_of child) tag (lent_in s.stage)) (kept_of child) (kept_of after)) core-is off)
+    pub off-next : ((m : Meets) → IsLeftOff m (node_of child) tag (lent_in core.stage) (kept_of child) (kept_of after)) → (m : Meets) (h : tree.Past) (en : Entry Token) → IsLeftOff m (sdf_node h before (all_of olds)) tag X (kept_by en (kepts_of (all_of olds))) (kept_by en (kepts_of (all_of (set now i after))))
+    off-next off = left-within before olds now tag X b.state b.going i child after e b.asked.2 (subst (λ (s : State). (m : Meets) → IsLeftOff m (node_of child) tag (lent_in s.stage) (kept_of child) (kept_of after)) core-is off)
 
 -- between two firings
 pub off-between : (before : State) (olds now : List Shown) (tag : Tag) (X : Streams Token) (allowance left : ℕ) (next : Ask) (core : State) → Between before olds tag X allowance next core now left → (m : Meets) (h : tree.Past) (en : Entry Token) →
-    LeavesOff (outcome m (sdf_node h before (all_of olds)) tag X) (kept_by en (kepts_of (all_of olds))) (kept_by en (kepts_of (all_of now)))
+    IsLeftOff m (sdf_node h before (all_of olds)) tag X (kept_by en (kepts_of (all_of olds))) (kept_by en (kepts_of (all_of now)))
 off-between before olds now tag X allowance left next core b m h en = left-between before olds now tag X b.state b.going m h en
 
 longer : {A : Type 0} (n : ℕ) (X Y : List A) → n ≤ length X → n ≤ length (take n X ++ Y)

@@ -19,6 +19,7 @@ use Rattle.pt_firing.specs.declared.fault.RunFault.TheVariants.{Rate}
 use Rattle.pt_firing.specs.RunFault.{code_of}
 use Rattle.pt_records.specs.Kept.{Kept, Entry, kept_by}
 use Rattle.pt_records.specs.Fired.{FiresTo, SticksAt, LeavesOff}
+use Rattle.pt_records.specs.Shut.{IsShut}
 use Rattle.pt_sdf.specs.State.{Idle, lent_in, after_told, closed, owed, own_of}
 use Rattle.pt_sdf.specs.Chain.{IsFor}
 use Rattle.pt_sdf.specs.Clauses.{State, IsAsked}
@@ -41,6 +42,14 @@ use Rattle.pt_seq.specs.declared.fire.Turn.TheVariants as turn
 abbrev pub outcome : Meets → Tree → Tag → Streams Token → ℕ → Outcome Token Tree
 outcome m n tag X k = step_at rows k (tree.height n) m tag n X
 
+-- it was left off in the middle, with a log that is shut
+abbrev pub IsLeftOff : Meets → Tree → Tag → Streams Token → Kept Token → Kept Token → Type 0
+IsLeftOff m n tag X old new = LeavesOff (outcome m n tag X) (IsShut rows m n tag X) old new
+
+-- it is stuck at this place, with a log that is shut
+abbrev pub IsStuckIn : Meets → Tree → Tag → Streams Token → machine.Fault → Kept Token → Kept Token → Type 0
+IsStuckIn m n tag X f old new = SticksAt (outcome m n tag X) (IsShut rows m n tag X) f old new
+
 -- a node with one firing more at the tag
 abbrev pub fired : Tag → Tree → Tree
 fired tag (tree.Actor h a b) = tree.Actor (tree.fired_at tag h) a b
@@ -52,14 +61,14 @@ fault_of p place = record { path = p; firing = place.firing; code = code_of plac
 
 -- some node of the tree has the path that is told, and the firing is stuck there
 abbrev pub IsStuck : Meets → Tree → Tag → Streams Token → Outline → Place → Kept Token → Kept Token → Type 0
-IsStuck m n tag X o place old new = (p : Path) × (text_at o p ≡ Some place.path) × SticksAt (outcome m n tag X) (fault_of p place) old new
+IsStuck m n tag X o place old new = (p : Path) × (text_at o p ≡ Some place.path) × IsStuckIn m n tag X (fault_of p place) old new
 
 -- A firing of a node that isn't recorded yet, under any meetings: it is done, or stuck at the place that is told, or it was left off.
 abbrev pub WithinTo : Shown → Tag → Streams Token → Within → Shown → Type 0
 WithinTo old tag X (Done out) new = (m : Meets) → FiresTo (outcome m (node_of old) tag X) (fired tag (node_of new)) out (kept_of old) (kept_of new)
 WithinTo old tag X (Fault place) new = (m : Meets) → IsStuck m (node_of old) tag X (outline_of old) place (kept_of old) (kept_of new)
-WithinTo old tag X Spent new = (m : Meets) → LeavesOff (outcome m (node_of old) tag X) (kept_of old) (kept_of new)
-WithinTo old tag X Memory new = (m : Meets) → LeavesOff (outcome m (node_of old) tag X) (kept_of old) (kept_of new)
+WithinTo old tag X Spent new = (m : Meets) → IsLeftOff m (node_of old) tag X (kept_of old) (kept_of new)
+WithinTo old tag X Memory new = (m : Meets) → IsLeftOff m (node_of old) tag X (kept_of old) (kept_of new)
 
 -- the allowance is spent where that is told
 abbrev pub SpendsAll : Within → ℕ → Type 0
@@ -87,8 +96,8 @@ sdf_node h s ks = tree.Composite h (tree.Sdf s.plan s.first) (tree.Sdf s.plan s.
 abbrev pub SdfTo : State → AllShown → Tag → Streams Token → Within → State → AllShown → Type 0
 SdfTo s ks tag X (Done out) s' ks' = (m : Meets) (h : tree.Past) (e : Entry Token) → FiresTo (outcome m (sdf_node h s ks) tag X) (sdf_node (tree.fired_at tag h) s' ks') out (kept_by e (kepts_of ks)) (kept_by e (kepts_of ks'))
 SdfTo s ks tag X (Fault place) s' ks' = (m : Meets) (h : tree.Past) (e : Entry Token) (text : List ℕ) → IsStuck m (sdf_node h s ks) tag X (view.Named text (outlines_of ks)) place (kept_by e (kepts_of ks)) (kept_by e (kepts_of ks'))
-SdfTo s ks tag X Spent s' ks' = (m : Meets) (h : tree.Past) (e : Entry Token) → LeavesOff (outcome m (sdf_node h s ks) tag X) (kept_by e (kepts_of ks)) (kept_by e (kepts_of ks'))
-SdfTo s ks tag X Memory s' ks' = (m : Meets) (h : tree.Past) (e : Entry Token) → LeavesOff (outcome m (sdf_node h s ks) tag X) (kept_by e (kepts_of ks)) (kept_by e (kepts_of ks'))
+SdfTo s ks tag X Spent s' ks' = (m : Meets) (h : tree.Past) (e : Entry Token) → IsLeftOff m (sdf_node h s ks) tag X (kept_by e (kepts_of ks)) (kept_by e (kepts_of ks'))
+SdfTo s ks tag X Memory s' ks' = (m : Meets) (h : tree.Past) (e : Entry Token) → IsLeftOff m (sdf_node h s ks) tag X (kept_by e (kepts_of ks)) (kept_by e (kepts_of ks'))
 
 -- the core and the children fit after it
 abbrev pub SdfStaysFit : State → AllShown → Within → State → AllShown → Type 0
@@ -120,8 +129,8 @@ pub record ChildUnrated (s : State) (child : Shown) (i : ℕ) (tag : Tag) (place
 abbrev pub TurnTo : State → Shown → ℕ → Tag → Turn → State → Shown → Type 0
 TurnTo s child i tag (turn.Next ask) s' after = ChildFired s child i tag ask s' after
 TurnTo s child i tag (turn.Fault place) s' after = ((m : Meets) → IsStuck m (node_of child) tag (lent_in s.stage) (outline_of child) place (kept_of child) (kept_of after)) ⊎ ChildUnrated s child i tag place after
-TurnTo s child i tag turn.Spent s' after = (m : Meets) → LeavesOff (outcome m (node_of child) tag (lent_in s.stage)) (kept_of child) (kept_of after)
-TurnTo s child i tag turn.Memory s' after = (m : Meets) → LeavesOff (outcome m (node_of child) tag (lent_in s.stage)) (kept_of child) (kept_of after)
+TurnTo s child i tag turn.Spent s' after = (m : Meets) → IsLeftOff m (node_of child) tag (lent_in s.stage) (kept_of child) (kept_of after)
+TurnTo s child i tag turn.Memory s' after = (m : Meets) → IsLeftOff m (node_of child) tag (lent_in s.stage) (kept_of child) (kept_of after)
 
 -- a turn that goes on spends some of the allowance, and one that is told to have spent it spends all
 abbrev pub TurnSpends : Turn → ℕ → ℕ → Type 0
@@ -133,10 +142,10 @@ TurnSpends turn.Memory left left' = Unit {0}
 -- What a call answers: the step is done with the node's own record, or stuck at the place, or it was left off.
 abbrev pub AnswersTo : Shown → Tag → Streams Token → (allowance : ℕ) → Answer → Shown → Type 0
 AnswersTo old tag X allowance (answer.Done out) new = ((m : Meets) → FiresTo (λ k. Step k rows m (node_of old) tag X) (node_of new) out (kept_of old) (kept_of new)) × IsLive new
-AnswersTo old tag X allowance (answer.Fault place) new = (m : Meets) → (p : Path) × (text_at (outline_of old) p ≡ Some place.path) × SticksAt (λ k. Step k rows m (node_of old) tag X) (fault_of p place) (kept_of old) (kept_of new)
-AnswersTo old tag X allowance (answer.Spent count) new = (count_of new ≡ count_of old + count) × (allowance ≤ count) × ((m : Meets) → LeavesOff (λ k. Step k rows m (node_of old) tag X) (kept_of old) (kept_of new))
+AnswersTo old tag X allowance (answer.Fault place) new = (m : Meets) → (p : Path) × (text_at (outline_of old) p ≡ Some place.path) × SticksAt (λ k. Step k rows m (node_of old) tag X) (IsShut rows m (node_of old) tag X) (fault_of p place) (kept_of old) (kept_of new)
+AnswersTo old tag X allowance (answer.Spent count) new = (count_of new ≡ count_of old + count) × (allowance ≤ count) × ((m : Meets) → LeavesOff (λ k. Step k rows m (node_of old) tag X) (IsShut rows m (node_of old) tag X) (kept_of old) (kept_of new))
 AnswersTo old tag X allowance (answer.Full blocked) new = ⊥
-AnswersTo old tag X allowance answer.Memory new = (m : Meets) → LeavesOff (λ k. Step k rows m (node_of old) tag X) (kept_of old) (kept_of new)
+AnswersTo old tag X allowance answer.Memory new = (m : Meets) → LeavesOff (λ k. Step k rows m (node_of old) tag X) (IsShut rows m (node_of old) tag X) (kept_of old) (kept_of new)
 
 -- the firing of that number is told stuck at the path, or there was no memory for it
 abbrev pub IsFaultAt : List ℕ → ℕ → RunFault → Within → Type 0

@@ -24,7 +24,7 @@ fire_child-returns-clause-goes t c =
     turn-after c.args.core.now (shown_node c.args.child.now) (shown_node c.fire.new.node) c.args.number c.args.tag c.lent.result c.in-Done.outputs c.tell.result c.tell.new.core (shown_node c.tell.new.child) c.lent.ensures c.in-Done.ensures.goes c.in-Done.ensures.fit c.in-Done.ensures.outline (ap (λ p. p.made) c.in-Done.ensures.past) c.tell.ensures.goes
 
 pub fire_sdf-returns-then-is_err-clause-goes : goal.fire_sdf-returns-then-is_err-clause-goes
-fire_sdf-returns-then-is_err-clause-goes t c = λ m h e. off-none _ _
+fire_sdf-returns-then-is_err-clause-goes t c = λ m h e. off-none m _ _ _ _
 
 pub fire_sdf-loop-next-init : goal.fire_sdf-loop-next-init
 fire_sdf-loop-next-init t c =

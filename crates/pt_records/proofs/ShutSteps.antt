@@ -1,0 +1,61 @@
+-- The log of a step, of whatever fuel, is shut.
+use Rattle.std.proofs.Common.{◌≡◌, ℕ, ◌+◌, ◌≤◌, [], ◌∷◌, sym, ap, subst, arith, ◌∙◌}
+use Rattle.pt_meaning.specs.Tag.{Tag}
+use Rattle.pt_meaning.specs.Streams.{Streams}
+use Rattle.pt_meaning.specs.Log.{Log, LogBelow, silent, log_then}
+use Rattle.pt_meaning.specs.Machine.{Outcome, Done, Stuck}
+use Rattle.pt_meaning.specs.Meetings.{Meets}
+use Rattle.pt_meaning.specs.Tree.{Rows, Node, height}
+use Rattle.pt_meaning.specs.Step.{step_at}
+use Rattle.pt_meaning.specs.Lawful.{LawfulRows}
+use Rattle.pt_meaning.specs.Laws.{Extends}
+use Rattle.pt_laws.specs.LogsOfRuns.{log_in}
+use Rattle.pt_laws.specs.WholeRuns.{ComesLater}
+use Rattle.pt_laws.proofs.Order.{IsPrefix-refl}
+use Rattle.pt_laws.proofs.JoinLaws.{log-assoc}
+use Rattle.pt_laws.proofs.FuelLaw.{step_at-grows}
+use Rattle.pt_laws.proofs.LevelLaws.{has-left}
+use Rattle.pt_laws.proofs.ClosedSteps.{sound-at}
+use Rattle.pt_laws.proofs.WholeSteps.{whole-at}
+use Rattle.pt_laws.proofs.WholeMeaning.{log-behind}
+use Rattle.pt_records.specs.Shut.{IsShut, StepsAreShut}
+
+-- an outcome that extends another has at least its log
+pub extends-log : {T S : Type 0} (q r : Outcome T S) → Extends q r → LogBelow (log_in q) (log_in r)
+extends-log (Done s out l) r x = subst (λ v. LogBelow l (log_in v)) (sym x) (λ p. IsPrefix-refl (l p))
+extends-log (Stuck fs l) (Stuck gs n) x = x.1
+extends-log (Stuck [] l) (Done s out n) x = x
+extends-log (Stuck (f ∷ fs) l) (Done s out n) x = absurd x
+
+-- where all of it comes later, so does its front
+pub later-front : {T : Type 0} (l a b : Log T) → ComesLater l (log_then a b) → ComesLater l a
+later-front l a b g p i r e h = g p i r e (has-left e (a _) (b _) h)
+
+module _ {T A : Type 0} (rows : Rows T A) (law : LawfulRows rows) (m : Meets) (node : Node T A) where
+  -- what comes later at each great fuel does so at each
+  pub from-greater : (base log : Log T) (k₀ d : ℕ) → ((k : ℕ) → k₀ ≤ k → (tag : Tag) (X : Streams T) (more : Log T) → log_in (step_at rows k d m tag node X) ≡ log_then log more → ComesLater (log_then base log) more) →
+      (k : ℕ) (tag : Tag) (X : Streams T) (more : Log T) → log_in (step_at rows k d m tag node X) ≡ log_then log more → ComesLater (log_then base log) more
+  from-greater base log k₀ d f k tag X more same =
+      let w = log-behind _ _ (extends-log _ _ (step_at-grows rows law k (k + k₀) (omega arith) d d (omega arith) m tag node X)) in
+      let all : log_in (step_at rows (k + k₀) d m tag node X) ≡ log_then log (log_then more w.0) = w.1 ∙ ap (λ v. log_then v w.0) same ∙ sym (log-assoc log more w.0) in
+      later-front (log_then base log) more w.0 (f (k + k₀) (omega arith) tag X (log_then more w.0) all)
+
+  pub stepped-is-shut : (k d : ℕ) → d ≤ height node → (tag : Tag) (X : Streams T) → IsShut rows m node tag X (log_in (step_at rows k d m tag node X))
+  stepped-is-shut k d o tag X u n₀ l c =
+      let s = sound-at rows law k d m in
+      let w = s.under_way u n₀ node l c.fitting c.closed c.kept tag X in
+      record {
+        quiet = (s.own_path u n₀ node l c.fitting c.closed c.kept tag X).1;
+        way = w.0;
+        under = w.1;
+        closed = w.2;
+        later = from-greater l (log_in (step_at rows k d m tag node X)) k (height node) (λ k' q tag' X' more same. (whole-at rows law k k' d (height node) q o m).whole u n₀ node l c.fitting c.closed c.kept tag tag' X X' more same);
+      }
+
+  -- so nothing is
+  pub nothing-is-shut : (tag : Tag) (X : Streams T) → IsShut rows m node tag X silent
+  unfolding step_at
+  nothing-is-shut tag X = stepped-is-shut 0 0 (omega arith) tag X
+
+pub steps-are-shut : {T A : Type 0} → StepsAreShut T A
+steps-are-shut = record { nothing = nothing-is-shut; stepped = λ rows law m node k tag X. stepped-is-shut rows law m node k (height node) (omega arith) tag X }
