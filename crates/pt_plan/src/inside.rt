@@ -73,8 +73,7 @@ impl Inside {
         match *source {
             Source::Own(port) => port < self.inputs,
             Source::Output(child, port) => {
-                (child as usize) < self.places.len()
-                    && (port as usize) < self.ports(child as usize)
+                (child as usize) < self.places.len() && (port as usize) < self.ports(child as usize)
             }
         }
     }

@@ -166,12 +166,7 @@ fn scheduled(
 {
     let children = inside.places.len();
     let between = inner(alloc, children, channels)?;
-    Ok(schedule(
-        alloc,
-        children as u32,
-        &between,
-        &q[..children],
-    )?)
+    Ok(schedule(alloc, children as u32, &between, &q[..children])?)
 }
 
 /// The channels between two of `n` children.

@@ -19,7 +19,7 @@ pub returns-in_err-solve-clause-err : goal.returns-in_err-solve-clause-err
 returns-in_err-solve-clause-err c =
     let same : c.deref.result.now ≡ edges_of c.args.inside.now = c.deref.ensures.value ∙ c.in_ok-edges.ensures ∙ ap (λ (channels : List SchedEdge). map edge_in channels) c.requires.channels in
     let stands : rates.FaultStands (nodes_of c.args.inside.now) (edges_of c.args.inside.now) c.in_err-solve.field-0.0 =
-        subst (λ (edges : List Edge). rates.FaultStands (nodes_of c.args.inside.now) edges c.in_err-solve.field-0.0) same (subst (λ n. rates.FaultStands n c.deref.result.now c.in_err-solve.field-0.0) c.requires.nodes c.in_err-solve.ensures.err)
+    subst (λ (edges : List Edge). rates.FaultStands (nodes_of c.args.inside.now) edges c.in_err-solve.field-0.0) same (subst (λ n. rates.FaultStands n c.deref.result.now c.in_err-solve.field-0.0) c.requires.nodes c.in_err-solve.ensures.err)
     in
     let h = c.from_residual-in_err-solve.ensures in
     let told : IfErr c.from_residual-in_err-solve.result (λ f. f ≡ of_rates c.in_err-solve.field-0.0) = search (rules, h) in
