@@ -1,0 +1,29 @@
+-- An inside has one plan, and then no fault but a limit.
+use Rattle.std.proofs.Common.{◌≡◌, ℕ, List, ◌++◌, length, take, drop, ap, sym, subst, ◌∙◌, refl}
+use Rattle.std.proofs.lemmas.List.{take_at, drop_at}
+use Rattle.pt_rates.proofs.Uniqueness.{unique}
+use Rattle.pt_sched.specs.Runs.{IsSchedule}
+use Rattle.pt_plan.specs.Channels.{nodes_of, edges_of, between}
+use Rattle.pt_plan.specs.Laws.{PlansAreUnique, PlansExcludeFaults}
+
+same-parts : (first second xs ys : List ℕ) → length first ≡ length second → first ++ xs ≡ second ++ ys → (first ≡ second) × (xs ≡ ys)
+same-parts first second xs ys e h = (
+  sym (take_at first xs (length second) e) ∙ ap (λ (l : List ℕ). take (length second) l) h ∙ take_at second ys (length second) refl,
+  sym (drop_at first xs (length second) e) ∙ ap (λ (l : List ℕ). drop (length second) l) h ∙ drop_at second ys (length second) refl,
+)
+
+pub plans-unique : PlansAreUnique
+plans-unique x p q a b =
+    let same : p.repetitions ++ (p.takes ++ p.gives) ≡ q.repetitions ++ (q.takes ++ q.gives) = unique (nodes_of x) (edges_of x) (p.repetitions ++ (p.takes ++ p.gives)) (q.repetitions ++ (q.takes ++ q.gives)) a.solution b.solution in
+    let r : (p.repetitions ≡ q.repetitions) × (p.takes ++ p.gives ≡ q.takes ++ q.gives) = same-parts p.repetitions q.repetitions (p.takes ++ p.gives) (q.takes ++ q.gives) (a.repetitions ∙ sym b.repetitions) same in
+    let s : (p.takes ≡ q.takes) × (p.gives ≡ q.gives) = same-parts p.takes q.takes p.gives q.gives (a.takes ∙ sym b.takes) r.1 in
+    λ i. record { net = (a.net ∙ sym b.net) i; repetitions = r.0 i; takes = s.0 i; gives = s.1 i; rates = (a.rates ∙ sym b.rates) i }
+
+pub plans-exclude : PlansExcludeFaults
+plans-exclude = record {
+  rates = λ x p a fault. fault (p.repetitions ++ (p.takes ++ p.gives)) a.solution.solution;
+  deadlock = λ x p a fault.
+      let same : p.repetitions ++ (p.takes ++ p.gives) ≡ fault.q = unique (nodes_of x) (edges_of x) (p.repetitions ++ (p.takes ++ p.gives)) fault.q a.solution fault.least in
+      let firings : p.repetitions ≡ take (length x.places) fault.q = sym (take_at p.repetitions (p.takes ++ p.gives) (length x.places) a.repetitions) ∙ ap (λ (l : List ℕ). take (length x.places) l) same in
+      fault.none a.schedule.0 (subst (λ (r : List ℕ). IsSchedule (between x) r a.schedule.0) firings a.schedule.1);
+}

@@ -1,0 +1,6 @@
+pub mod Channels
+pub mod Fault
+pub mod Inside
+pub mod Laws
+pub mod PlanOf
+pub mod Rooms
