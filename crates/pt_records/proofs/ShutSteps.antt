@@ -3,7 +3,7 @@ use Rattle.std.proofs.Common.{◌≡◌, ℕ, ◌+◌, ◌≤◌, [], ◌∷◌,
 use Rattle.pt_meaning.specs.Tag.{Tag}
 use Rattle.pt_meaning.specs.Streams.{Streams}
 use Rattle.pt_meaning.specs.Log.{Log, LogBelow, silent, log_then}
-use Rattle.pt_meaning.specs.Machine.{Outcome, Done, Stuck}
+use Rattle.pt_meaning.specs.Machine.{Fault, Outcome, Done, Stuck}
 use Rattle.pt_meaning.specs.Meetings.{Meets}
 use Rattle.pt_meaning.specs.Tree.{Rows, Node, height}
 use Rattle.pt_meaning.specs.Step.{step_at}
@@ -18,6 +18,8 @@ use Rattle.pt_laws.proofs.LevelLaws.{has-left}
 use Rattle.pt_laws.proofs.ClosedSteps.{sound-at}
 use Rattle.pt_laws.proofs.WholeSteps.{whole-at}
 use Rattle.pt_laws.proofs.WholeMeaning.{log-behind}
+use Rattle.pt_records.specs.Kept.{Kept}
+use Rattle.pt_records.specs.Fired.{SticksAt, LeavesOff}
 use Rattle.pt_records.specs.Shut.{IsShut, StepsAreShut}
 
 -- an outcome that extends another has at least its log
@@ -59,3 +61,12 @@ module _ {T A : Type 0} (rows : Rows T A) (law : LawfulRows rows) (m : Meets) (n
 
 pub steps-are-shut : {T A : Type 0} → StepsAreShut T A
 steps-are-shut = record { nothing = nothing-is-shut; stepped = λ rows law m node k tag X. stepped-is-shut rows law m node k (height node) (omega arith) tag X }
+
+-- where a firing is stuck, it is left off with the same log
+pub stuck-is-left-off : {T S : Type 0} (outcome : ℕ → Outcome T S) (IsPart : Log T → Type 0) (f : Fault) (old new : Kept T) → SticksAt outcome IsPart f old new → LeavesOff outcome IsPart old new
+stuck-is-left-off outcome IsPart f old new s = record {
+  log = s.log;
+  beginning = (s.stuck.0, λ k o. let r = s.stuck.1 k o in subst (λ v. LogBelow s.log (log_in v)) (sym r.2) r.4);
+  kept = s.kept;
+  part = s.part;
+}
