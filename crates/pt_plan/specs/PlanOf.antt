@@ -1,8 +1,9 @@
 -- The plan of an SDF composite: the repetition vector of its balance equations, where an order of one iteration exists.
-use Rattle.std.specs.Prelude.{◌≡◌, ℕ, ◌+◌, ◌<◌, List, ◌++◌, length, map, slice_index, slice_index_or, Bool, true, false}
+use Rattle.std.specs.Prelude.{◌≡◌, ℕ, ◌+◌, ◌<◌, ◌≤◌, List, ◌++◌, length, map, sum, All, slice_index, slice_index_or, Bool, true, false}
 use Rattle.pt_meaning.specs.Net.{Net}
 use Rattle.pt_meaning.specs.Sdf.{SdfPlan}
 use Rattle.pt_rates.specs.Balance.{IsRepetitionVector, tokens_on}
+use Rattle.pt_rates.specs.declared.edge.Edge.{Edge}
 use Rattle.pt_sched.specs.Runs.{IsSchedule, IsGreatestLength}
 use Rattle.pt_sched.specs.declared.edge.SchedEdge.{SchedEdge}
 use Rattle.pt_sdf.specs.Plan.{source_of}
@@ -25,6 +26,11 @@ pub record IsPlanOf (x : Inside) (p : SdfPlan) : Type 0 where
   pub gives : length p.gives ≡ x.outputs
   pub solution : IsRepetitionVector (nodes_of x) (edges_of x) (repetitions_of p)
   pub schedule : (order : List ℕ) × IsSchedule (between x) p.repetitions order
+
+-- an iteration has at most 1,000,000 firings, each token at an own port counted too, and moves at most 1,000,000 tokens on each channel (by the profile)
+pub record IsWithinLimits (x : Inside) (p : SdfPlan) : Type 0 where
+  pub firings : sum (repetitions_of p) ≤ 1000000
+  pub tokens : All (λ (edge : Edge). tokens_on (repetitions_of p) edge ≤ 1000000) (edges_of x)
 
 -- the greatest number of tokens on a channel: between children by the order, and else with all that an iteration puts there
 abbrev pub IsRoom : Bool → SchedEdge → (order q : List ℕ) → ℕ → Type 0

@@ -5,7 +5,7 @@ pub fn plans_are_unique()
     ensures { PlansAreUnique }
 {}
 
-/// Where an inside has a plan, its rates have a solution, and it isn't deadlocked.
+/// Where an inside has a plan within the limits, no fault but want of memory stands.
 pub fn plans_exclude_faults()
     ensures { PlansExcludeFaults }
 {}

@@ -8,7 +8,7 @@ ghost use Rattle.pt_value.specs.declared.token.Token.{Token};
 ghost use Rattle.pt_plan.specs.Channels.{nodes_of, channels_of, edges_of, is_between, between};
 ghost use Rattle.pt_plan.specs.Fault.{FaultStands, of_rates, of_sched};
 ghost use Rattle.pt_plan.specs.Inside.{IsInside};
-ghost use Rattle.pt_plan.specs.PlanOf.{repetitions_of, IsPlanOf, AreRooms};
+ghost use Rattle.pt_plan.specs.PlanOf.{repetitions_of, IsPlanOf, IsWithinLimits, AreRooms};
 ghost use Rattle.pt_plan.specs.declared.planning.PlanFault.TheVariants.{Memory};
 
 use crate::channels::channels_of;
@@ -75,11 +75,12 @@ impl From<SchedFault> for PlanFault {
 /// The plan of an SDF composite: how often each child fires in an iteration, in which order, what own ports move in it, and
 /// how many tokens each channel is to have room for.
 ///
-/// The order is a schedule of the channels between children. Where some fault stands, a plan within the limits exists no
-/// more; want of memory may be told at any time.
+/// The order is a schedule of the channels between children. There is a plan exactly where no fault but want of memory
+/// stands, which may be told at any time.
 pub fn plan(alloc: Global, inside: Inside) -> Result<CorePlan, PlanFault>
     requires { IsInside inside }
     ensures plan { IfOk result (λ p. IsPlanOf inside (plan_of p)) }
+    ensures limits { IfOk result (λ p. IsWithinLimits inside (plan_of p)) }
     ensures needs { IfOk result (λ p. p.needs ≡ inside.needs) }
     ensures order { IfOk result (λ p. IsSchedule (between inside) p.repetitions p.order.items) }
     ensures room { IfOk result (λ p. AreRooms inside p.order.items (repetitions_of (plan_of p)) p.room) }
