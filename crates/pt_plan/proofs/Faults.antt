@@ -8,7 +8,7 @@ use Rattle.pt_sched.specs.Plan as sched
 use Rattle.pt_sched.specs.declared.plan.SchedFault.{SchedFault}
 use Rattle.pt_sched.specs.declared.plan.SchedFault.TheVariants as sched_fault
 use Rattle.pt_plan.specs.Channels.{nodes_of, edges_of, between}
-use Rattle.pt_plan.specs.Fault.{FaultStands, IsPastLimit, firings, tokens, of_rates, of_sched}
+use Rattle.pt_plan.specs.Fault.{FaultStands, firings, tokens, of_rates, of_sched}
 use Rattle.pt_plan.specs.declared.inside.Inside.{Inside}
 
 pub rates-stand : (x : Inside) (fault : RatesFault) → rates.FaultStands (nodes_of x) (edges_of x) fault → FaultStands x (of_rates fault)

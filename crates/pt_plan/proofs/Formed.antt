@@ -1,5 +1,5 @@
 -- The channels of a well formed inside meet what the solver and the scheduler ask for.
-use Rattle.std.proofs.Common.{◌≡◌, ℕ, suc, ◌+◌, ◌-◌, ◌<◌, ◌≤◌, inl, inr, Bool, true, ◌&&◌, List, [], ◌∷◌, ◌++◌, length, get_or, replicate, All, filter, refl, ap, sym, subst, ◌∙◌, arith}
+use Rattle.std.proofs.Common.{◌≡◌, ℕ, suc, ◌+◌, ◌-◌, ◌<◌, ◌≤◌, inl, inr, true, ◌&&◌, List, [], ◌∷◌, length, get_or, replicate, All, sym, subst, arith}
 use Rattle.std.specs.Prelude.{nat_lt}
 use Rattle.std.proofs.lemmas.Bool.{cases_lt}
 use Rattle.std.proofs.lemmas.Bool.Decides.{nat_tests}
@@ -12,7 +12,7 @@ use Rattle.pt_sched.specs.Channels.{IsSchedEdge}
 use Rattle.pt_sched.specs.declared.edge.SchedEdge.{SchedEdge}
 use Rattle.pt_sdf.specs.declared.plan.Source.{Source}
 use Rattle.pt_sdf.specs.declared.plan.Source.TheVariants.{Own, Output}
-use Rattle.pt_plan.specs.Channels.{nodes_of, owners, end_of, taken_at, start_of, put_at, edge_at, edge_in, channel_at, channels_of, edges_of, is_between, between}
+use Rattle.pt_plan.specs.Channels.{nodes_of, owners, end_of, taken_at, start_of, put_at, edge_in, channel_at, channels_of, edges_of, is_between, between}
 use Rattle.pt_plan.specs.Inside.{IsRate, IsThere, IsInside}
 use Rattle.pt_plan.specs.declared.inside.Inside.{Inside}
 use Rattle.pt_plan.proofs.Numbering.{owners-long, channels-long, channel-number}

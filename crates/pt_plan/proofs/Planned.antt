@@ -1,5 +1,5 @@
 -- The plan from the repetition vector, a schedule and the lengths of the channels.
-use Rattle.std.proofs.Common.{◌≡◌, ℕ, ◌+◌, ◌-◌, ◌<◌, ◌≤◌, List, ◌++◌, length, take, drop, sum, All, refl, ap, sym, subst, ◌∙◌, arith, length-drop}
+use Rattle.std.proofs.Common.{◌≡◌, ℕ, ◌+◌, ◌-◌, ◌≤◌, List, ◌++◌, length, take, drop, sum, All, refl, ap, sym, subst, ◌∙◌, arith, length-drop}
 use Rattle.std.proofs.lemmas.List.{take-append-drop, drop-drop, length-take-le, take_rest}
 use Rattle.pt_meaning.specs.Sdf.{SdfPlan}
 use Rattle.pt_rates.specs.Balance.{IsRepetitionVector, tokens_on}

@@ -1,5 +1,5 @@
 -- From the repetition vector and a schedule to a lawful plan.
-use Rattle.std.proofs.Common.{◌≡◌, ℕ, zero, suc, ◌+◌, ◌*◌, ◌-◌, ◌<◌, ◌≤◌, Bool, true, ◌&&◌, List, [], ◌∷◌, ◌++◌, length, get_or, take, map, All, Contains, refl, ap, ap₂, sym, subst, ◌∙◌, arith, zero-add}
+use Rattle.std.proofs.Common.{◌≡◌, ℕ, zero, suc, ◌+◌, ◌*◌, ◌-◌, ◌<◌, ◌≤◌, true, ◌&&◌, List, [], ◌∷◌, ◌++◌, length, get_or, take, map, All, Contains, refl, ap, ap₂, sym, subst, ◌∙◌, arith, zero-add}
 use Rattle.std.specs.Prelude.{nat_lt}
 use Rattle.std.proofs.lemmas.Bool.Decides.{nat_tests}
 use Rattle.std.proofs.lemmas.List.{get_or_append_left, get_or-append-add, get_or_default, get_or-map, length-map}
@@ -9,7 +9,7 @@ use Rattle.pt_meaning.specs.Net as net
 use Rattle.pt_meaning.specs.Sdf.{SdfPlan, number_at}
 use Rattle.pt_meaning.specs.Running.{total}
 use Rattle.pt_rates.specs.Balance.{IsBalancedAt, IsSolution}
-use Rattle.pt_sched.specs.Runs.{firings, put_on, taken_from, HasTokens, IsSchedule}
+use Rattle.pt_sched.specs.Runs.{firings, put_on, taken_from, IsSchedule}
 use Rattle.pt_sched.specs.declared.edge.SchedEdge.{SchedEdge}
 use Rattle.pt_sched.proofs.Listing.{no_channel}
 use Rattle.pt_sdf.specs.ByNeed.{place_of}
@@ -17,7 +17,7 @@ use Rattle.pt_sdf.specs.Lawful.{occurs, rate_at, IsNamed, NeverLacks, IsSupplied
 use Rattle.pt_sdf.specs.Plan.{source_of}
 use Rattle.pt_sdf.specs.declared.plan.Source.{Source}
 use Rattle.pt_sdf.specs.declared.plan.Source.TheVariants.{Own, Output}
-use Rattle.pt_plan.specs.Channels.{nodes_of, end_of, taken_at, start_of, put_at, edge_at, edge_in, channel_at, channels_of, edges_of, is_between, between}
+use Rattle.pt_plan.specs.Channels.{nodes_of, end_of, taken_at, edge_at, edge_in, channel_at, channels_of, edges_of, is_between, between}
 use Rattle.pt_plan.specs.Inside.{IsThere, IsInside}
 use Rattle.pt_plan.specs.PlanOf.{net_of}
 use Rattle.pt_plan.specs.declared.inside.Inside.{Inside}

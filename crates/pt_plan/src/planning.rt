@@ -75,8 +75,8 @@ impl From<SchedFault> for PlanFault {
 /// The plan of an SDF composite: how often each child fires in an iteration, in which order, what own ports move in it, and
 /// how many tokens each channel is to have room for.
 ///
-/// The order is a schedule of the channels between children. There is a plan exactly where no fault but want of memory
-/// stands, which may be told at any time.
+/// The order is a schedule of the channels between children. A fault is told only where it stands, and then there is no plan
+/// within the limits; want of memory may be told at any time.
 pub fn plan(alloc: Global, inside: Inside) -> Result<CorePlan, PlanFault>
     requires { IsInside inside }
     ensures plan { IfOk result (λ p. IsPlanOf inside (plan_of p)) }

@@ -1,7 +1,7 @@
 use Rattle.std.proofs.Common.{◌≡◌, ◌+◌, ◌-◌, ◌<◌, ◌≤◌, ℕ, List, length, get_or, ap, ap₂, sym, ◌∙◌, arith}
 use Rattle.std.proofs.lemmas.List.{get_or_default, get_or_past}
 use Rattle.pt_meaning.specs.Running.{total}
-use Rattle.pt_plan.specs.Channels.{owners, end_of}
+use Rattle.pt_plan.specs.Channels.{owners}
 use Rattle.pt_plan.proofs.Numbering.{owners-long}
 use Rattle.pt_plan.proofs.channels.end_of.Goals as goal
 

@@ -1,4 +1,4 @@
-use Rattle.std.proofs.Common.{rules, suc, ◌+◌, arith}
+use Rattle.std.proofs.Common.{rules, ◌+◌, arith}
 use Rattle.pt_plan.proofs.Numbering.{total-step, total-le}
 use Rattle.pt_plan.proofs.inside.has_total.Goals as goal
 

@@ -3,7 +3,7 @@ use Rattle.pt_rates.specs.Balance.{tokens_on}
 use Rattle.pt_sched.specs.Channels.{IsSchedEdge}
 use Rattle.pt_sched.specs.Runs.{IsSchedule}
 use Rattle.pt_sched.specs.declared.edge.SchedEdge.{SchedEdge}
-use Rattle.pt_plan.specs.Channels.{nodes_of, channels_of, between}
+use Rattle.pt_plan.specs.Channels.{nodes_of, between}
 use Rattle.pt_plan.proofs.Formed.{all-channels, channel-tokens}
 use Rattle.pt_plan.proofs.Planned.{is-cut, schedule-is, plan-is, limits-are, rooms-is}
 use Rattle.pt_plan.proofs.Supply.{lawful}
