@@ -15,11 +15,11 @@ use Rattle.pt_node.specs.Live.{after, IsSteadyActor}
 
 needs-same : (fs : List (Tag × Streams Token)) (a : FlowActor) (b : LibraryActor) → flow.is_steady a ≡ true → after fs (Flow a) ≡ Some b → library.need b ≡ flow.need a
 needs-same [] a b e h = let same : Flow a ≡ b = cc in sym (ap library.need same)
-needs-same (f ∷ fs) a b e h = by_answer (flow.step f.0 a f.1) refl h
+needs-same (f ∷ fs) a b e h = by_answer (λ c. needs-same fs c b) (flow.step f.0 a f.1) refl h
   where
-    by_answer : (r : Answer Token FlowActor) → flow.step f.0 a f.1 ≡ r → on_answer (after fs) (held_as Flow r) ≡ Some b → library.need b ≡ flow.need a
-    by_answer (Gives c out) g k = let s = steady-stay f.0 a c f.1 out e g in needs-same fs c b s.1 k ∙ s.0
-    by_answer (Fails code) g k = cc
+    by_answer : ((c : FlowActor) → flow.is_steady c ≡ true → after fs (Flow c) ≡ Some b → library.need b ≡ flow.need c) → (r : Answer Token FlowActor) → flow.step f.0 a f.1 ≡ r → on_answer (after fs) (held_as Flow r) ≡ Some b → library.need b ≡ flow.need a
+    by_answer again (Gives c out) g k = let s = steady-stay f.0 a c f.1 out e g in again c s.1 k ∙ s.0
+    by_answer again (Fails code) g k = cc
 
 takes-any : (tag : Tag) (b : LibraryActor) (X : Streams Token) → library.Takes tag b X
 takes-any tag (Flow actor) X = tt
