@@ -2,3 +2,4 @@ pub mod RecordedLaws
 pub mod LibraryLaws
 pub mod Link
 pub mod SteadyLaws
+pub mod OutlineLaws

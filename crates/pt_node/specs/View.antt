@@ -9,7 +9,7 @@ use Rattle.pt_node.specs.declared.body.Body.TheVariants.{Actor, Composite}
 use Rattle.pt_node.specs.declared.director.Director.{Director}
 use Rattle.pt_node.specs.declared.director.Director.TheVariants.{Sdf}
 use Rattle.pt_node.specs.declared.library.LibraryActor.{LibraryActor}
-use Rattle.pt_node.specs.Recorded.{trace_of}
+use Rattle.pt_node.specs.Recorded.{RecordedPort, trace_of}
 use Rattle.pt_node.specs.Shown.{Shown, AllShown, Branch, Frame, none, more}
 
 abbrev pub Tree : Type 0
@@ -61,10 +61,19 @@ abbrev mutual
   counts_of none = 0
   counts_of (more s ss) = count_of s + counts_of ss
 
--- The names of a tree: of each node the text of its path. No firing changes them.
+-- what a recorded port is, without what it gave
+pub record Heading : Type 0 where
+  pub port : ℕ
+  pub number : ℕ
+  pub text : List ℕ
+
+abbrev pub heading_of : RecordedPort → Heading
+heading_of r = record { port = r.port; number = r.number; text = r.text }
+
+-- The names of a tree: of each node the text of its path, and the headings of its recorded ports. No firing changes them.
 mutual
   pub data Outline : Type 0 where
-    Named : List ℕ → Outlines → Outline
+    Named : List ℕ → List Heading → Outlines → Outline
 
   pub data Outlines : Type 0 where
     end : Outlines
@@ -72,7 +81,7 @@ mutual
 
 abbrev mutual
   pub outline_of : Shown → Outline
-  outline_of (Branch f ks) = Named f.path (outlines_of ks)
+  outline_of (Branch f ks) = Named f.path (map heading_of f.records) (outlines_of ks)
 
   pub outlines_of : AllShown → Outlines
   outlines_of none = end
@@ -81,7 +90,7 @@ abbrev mutual
 -- how many levels there are
 abbrev mutual
   pub depth : Outline → ℕ
-  depth (Named text os) = suc (depths os)
+  depth (Named text hs os) = suc (depths os)
 
   pub depths : Outlines → ℕ
   depths end = 0
@@ -90,8 +99,8 @@ abbrev mutual
 -- the text of the node at a path, if there is one
 abbrev mutual
   pub text_at : Outline → Path → Option (List ℕ)
-  text_at (Named text os) [] = Some text
-  text_at (Named text os) (i ∷ p) = text_below os i p
+  text_at (Named text hs os) [] = Some text
+  text_at (Named text hs os) (i ∷ p) = text_below os i p
 
   pub text_below : Outlines → ℕ → Path → Option (List ℕ)
   text_below end i p = None

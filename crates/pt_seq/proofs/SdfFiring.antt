@@ -33,7 +33,7 @@ use Rattle.pt_node.specs.declared.director.Director.TheVariants.{Sdf}
 use Rattle.pt_node.specs.LibraryActor.{rows}
 use Rattle.pt_node.specs.Shown.{Shown, all_of}
 use Rattle.pt_node.specs.View as view
-use Rattle.pt_node.specs.View.{Tree, node_of, nodes_of, kept_of, kepts_of, outline_of, outlines_of, text_at, text_below, count_of, counts_of}
+use Rattle.pt_node.specs.View.{Tree, Heading, node_of, nodes_of, kept_of, kepts_of, outline_of, outlines_of, text_at, text_below, count_of, counts_of}
 use Rattle.pt_node.specs.Live.{IsFit, AllFit, IsReady}
 use Rattle.pt_node.proofs.LibraryLaws.{rows_lawful}
 use Rattle.pt_seq.specs.Within.{outcome, IsLeftOff, IsStuckIn, sdf_node, IsStuck, fault_of, StaysSteady}
@@ -208,9 +208,9 @@ module _ (before : State) (olds now : List Shown) (tag : Tag) (X : Streams Token
         (sdf-is-left-off-within rows rows_lawful m tag h (tree.Sdf before.plan before.first) before.plan before.held (nodes_of (all_of olds)) X en (kepts_of (all_of olds)) s.fired (tree.list_of (nodes_of (all_of now))) s.held (kepts_of (all_of now)) (sdf-so-far m) i (node_of child) (lent_of s i) (left_of s i) (kept_of after) (sdf-asked i child e a) short-in
         (subst (λ k. IsLeftOff (below_child i m) (node_of child) tag (lent_of s i) k (kept_of after)) (sym (kepts-at now i child e)) (off (below_child i m))))
 
-    pub stuck-within : (place : Place) → ((m : Meets) → IsStuck m (node_of child) tag (lent_of s i) (outline_of child) place (kept_of child) (kept_of after)) → outlines_of (all_of now) ≡ outlines_of (all_of olds) → (m : Meets) (h : tree.Past) (en : Entry Token) (text : List ℕ) →
-        IsStuck m (sdf_node h before (all_of olds)) tag X (view.Named text (outlines_of (all_of olds))) place (kept_by en (kepts_of (all_of olds))) (kept_by en (kepts_of (all_of (set now i after))))
-    stuck-within place sticks o m h en text =
+    pub stuck-within : (place : Place) → ((m : Meets) → IsStuck m (node_of child) tag (lent_of s i) (outline_of child) place (kept_of child) (kept_of after)) → outlines_of (all_of now) ≡ outlines_of (all_of olds) → (m : Meets) (h : tree.Past) (en : Entry Token) (text : List ℕ) (hs : List Heading) →
+        IsStuck m (sdf_node h before (all_of olds)) tag X (view.Named text hs (outlines_of (all_of olds))) place (kept_by en (kepts_of (all_of olds))) (kept_by en (kepts_of (all_of (set now i after))))
+    stuck-within place sticks o m h en text hs =
         let k = sticks (below_child i m) in (
           i ∷ k.0,
           ap (λ os. text_below os i k.0) (sym o) ∙ text-get now i child k.0 e ∙ k.1,
@@ -220,8 +220,8 @@ module _ (before : State) (olds now : List Shown) (tag : Tag) (X : Streams Token
         )
 
     pub unrated-within : (place : Place) (next : Tree) (out : Streams Token) → has_rates (get_or s.plan.rates i []) out ≡ false → ((m : Meets) → FiresTo (outcome m (node_of child) tag (lent_of s i)) next out (kept_of child) (kept_of after)) → text_at (outline_of child) [] ≡ Some place.path → place.firing ≡ tree.made_of (node_of child) → place.kind ≡ Rate →
-        outlines_of (all_of now) ≡ outlines_of (all_of olds) → (m : Meets) (h : tree.Past) (en : Entry Token) (text : List ℕ) → IsStuck m (sdf_node h before (all_of olds)) tag X (view.Named text (outlines_of (all_of olds))) place (kept_by en (kepts_of (all_of olds))) (kept_by en (kepts_of (all_of (set now i after))))
-    unrated-within place next out lacks fires path firing kind o m h en text =
+        outlines_of (all_of now) ≡ outlines_of (all_of olds) → (m : Meets) (h : tree.Past) (en : Entry Token) (text : List ℕ) (hs : List Heading) → IsStuck m (sdf_node h before (all_of olds)) tag X (view.Named text hs (outlines_of (all_of olds))) place (kept_by en (kepts_of (all_of olds))) (kept_by en (kepts_of (all_of (set now i after))))
+    unrated-within place next out lacks fires path firing kind o m h en text hs =
         let places : length now ≡ length s.plan.net.places = children-long s now g.fitting in
         let short : i < length now = get-short now i child e in
         let rates : rates_at (sdf_bounds before.plan before.held X) i ≡ Some (get_or s.plan.rates i []) = ap (λ cs. rates_at cs i) (sym same-limits) ∙ rates-are s.turns s.plan.repetitions s.plan.rates i (omega (arith, short, places, g.fitting.repetitions)) (omega (arith, short, places, g.fitting.rates)) in

@@ -41,7 +41,7 @@ use Rattle.pt_node.specs.LibraryActor.{rows}
 use Rattle.pt_node.specs.Recorded.{RecordedPort, noting, recording, unnoted, trace_of}
 use Rattle.pt_node.specs.Shown.{Shown, AllShown, Branch, Frame, all_of}
 use Rattle.pt_node.specs.Firing as firing
-use Rattle.pt_node.specs.View.{Tree, node_of, nodes_of, node_with, entry_of, kept_of, kepts_of, outline_of, outlines_of, text_at, count_of, counts_of}
+use Rattle.pt_node.specs.View.{Tree, heading_of, node_of, nodes_of, node_with, entry_of, kept_of, kepts_of, outline_of, outlines_of, text_at, count_of, counts_of}
 use Rattle.pt_node.specs.Live as live
 use Rattle.pt_node.specs.Live.{IsFit, AllFit, IsReady, IsLive, IsSteady, IsSteadyBody, IsSteadyActor}
 use Rattle.pt_seq.specs.declared.fire.Within.{Within}
@@ -235,7 +235,7 @@ actor-fit f held held' ks tag X Memory fit a = tt
 pub composite-goes : (f : Frame) (d d' : Director) (ks ks' : AllShown) (tag : Tag) (X : Streams Token) (w : Within) → DirectorTo d ks tag X w d' ks' →
     WithinTo (Branch (record { past = f.past; body = body.Composite d; records = f.records; path = f.path; live = f.live }) ks) tag X w (Branch (record { past = f.past; body = body.Composite d'; records = f.records; path = f.path; live = false }) ks')
 composite-goes f (Sdf s) (Sdf s') ks ks' tag X (Done out) g = λ m. g m f.past (entry_of f)
-composite-goes f (Sdf s) (Sdf s') ks ks' tag X (Fault place) g = λ m. g m f.past (entry_of f) f.path
+composite-goes f (Sdf s) (Sdf s') ks ks' tag X (Fault place) g = λ m. g m f.past (entry_of f) f.path (map heading_of f.records)
 composite-goes f (Sdf s) (Sdf s') ks ks' tag X Spent g = λ m. g m f.past (entry_of f)
 composite-goes f (Sdf s) (Sdf s') ks ks' tag X Memory g = λ m. g m f.past (entry_of f)
 

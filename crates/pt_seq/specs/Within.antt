@@ -31,7 +31,7 @@ use Rattle.pt_node.specs.declared.director.Director.TheVariants.{Sdf}
 use Rattle.pt_node.specs.Shown.{Shown, AllShown, Branch}
 use Rattle.pt_node.specs.Firing.{noted, bare, recorded}
 use Rattle.pt_node.specs.View as view
-use Rattle.pt_node.specs.View.{Tree, node_of, nodes_of, kept_of, kepts_of, count_of, Outline, Outlines, outline_of, outlines_of, text_at, text_below}
+use Rattle.pt_node.specs.View.{Tree, Heading, node_of, nodes_of, kept_of, kepts_of, count_of, Outline, Outlines, outline_of, outlines_of, text_at, text_below}
 use Rattle.pt_node.specs.Live.{IsFit, AllFit, IsLive, IsSteady, AllSteady}
 use Rattle.pt_seq.specs.declared.fire.Within.{Within}
 use Rattle.pt_seq.specs.declared.fire.Within.TheVariants.{Done, Fault, Spent, Memory}
@@ -95,7 +95,7 @@ sdf_node h s ks = tree.Composite h (tree.Sdf s.plan s.first) (tree.Sdf s.plan s.
 -- The same of the core and the children of an SDF composite, whatever its past and what is kept at its own path.
 abbrev pub SdfTo : State → AllShown → Tag → Streams Token → Within → State → AllShown → Type 0
 SdfTo s ks tag X (Done out) s' ks' = (m : Meets) (h : tree.Past) (e : Entry Token) → FiresTo (outcome m (sdf_node h s ks) tag X) (sdf_node (tree.fired_at tag h) s' ks') out (kept_by e (kepts_of ks)) (kept_by e (kepts_of ks'))
-SdfTo s ks tag X (Fault place) s' ks' = (m : Meets) (h : tree.Past) (e : Entry Token) (text : List ℕ) → IsStuck m (sdf_node h s ks) tag X (view.Named text (outlines_of ks)) place (kept_by e (kepts_of ks)) (kept_by e (kepts_of ks'))
+SdfTo s ks tag X (Fault place) s' ks' = (m : Meets) (h : tree.Past) (e : Entry Token) (text : List ℕ) (hs : List Heading) → IsStuck m (sdf_node h s ks) tag X (view.Named text hs (outlines_of ks)) place (kept_by e (kepts_of ks)) (kept_by e (kepts_of ks'))
 SdfTo s ks tag X Spent s' ks' = (m : Meets) (h : tree.Past) (e : Entry Token) → IsLeftOff m (sdf_node h s ks) tag X (kept_by e (kepts_of ks)) (kept_by e (kepts_of ks'))
 SdfTo s ks tag X Memory s' ks' = (m : Meets) (h : tree.Past) (e : Entry Token) → IsLeftOff m (sdf_node h s ks) tag X (kept_by e (kepts_of ks)) (kept_by e (kepts_of ks'))
 

@@ -1,6 +1,8 @@
 use Rattle.std.proofs.Common.{◌≡◌, sym, ap, ◌∙◌, refl}
 use Rattle.pt_node.specs.Shown.{shown_node}
 use Rattle.pt_node.specs.Firing.{noted, recorded}
+use Rattle.pt_node.specs.View.{outline_of}
+use Rattle.pt_node.proofs.OutlineLaws.{outline_bare, outline_recorded}
 use Rattle.pt_seq.proofs.Answering.{if-ok, seq-fault, seq-off, seq-spent, seq-spent-done, seq-memory-done, seq-done}
 use Rattle.pt_seq.proofs.fire.fire_seq.Goals as goal
 
@@ -26,3 +28,9 @@ pub returns-clause-answers : goal.returns-clause-answers
 returns-clause-answers c =
     seq-done (shown_node c.args.node.now) (shown_node c.fire.new.node) c.args.tag c.args.inputs.now c.args.allowance c.in-Done.outputs (shown_node c.record.new.self) c.in-Done.ensures.goes c.in-Done.ensures.fit
     (c.record.ensures ∙ ap (λ s. recorded c.args.tag s) (if-ok c.note.result (shown_node c.note.new.self ≡ noted c.args.tag c.in-Done.outputs (shown_node c.fire.new.node)) (sym c.is_err.ensures.value ∙ c.if-is_err.false) c.note.ensures.noted))
+
+pub returns-then-is_err-clause-outline : goal.returns-then-is_err-clause-outline
+returns-then-is_err-clause-outline c = outline_bare (shown_node c.note.new.self) (shown_node c.fire.new.node) c.note.ensures.kept ∙ c.in-Done.ensures.outline
+
+pub returns-clause-outline : goal.returns-clause-outline
+returns-clause-outline c = ap (λ s. outline_of s) c.record.ensures ∙ outline_recorded c.args.tag (shown_node c.note.new.self) ∙ outline_bare (shown_node c.note.new.self) (shown_node c.fire.new.node) c.note.ensures.kept ∙ c.in-Done.ensures.outline

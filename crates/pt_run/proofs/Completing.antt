@@ -1,0 +1,103 @@
+-- A job that its budget allows ends as the definitions say; and the loop over the iterations.
+use Rattle.std.proofs.Common.{◌≡◌, ℕ, suc, ◌+◌, ◌-◌, ◌<◌, ◌≤◌, List, Bool, true, false, length, sym, ap, subst, ◌∙◌, arith}
+use Rattle.pt_meaning.specs.Basics.{Streams}
+use Rattle.pt_meaning.specs.Tag.{origin}
+use Rattle.pt_meaning.specs.Step.{no_meetings}
+use Rattle.pt_meaning.specs.Job as job
+use Rattle.pt_meaning.specs.Job.{meaning}
+use Rattle.pt_meaning.specs.Schedule.{portions, suffice}
+use Rattle.pt_meaning.specs.Headline.{Ending, Defined, Faulty, Spent}
+use Rattle.pt_meaning.specs.Tree.{paths_of}
+use Rattle.pt_value.specs.declared.token.Token.{Token}
+use Rattle.pt_firing.specs.declared.answer.Answer.TheVariants as answer
+use Rattle.pt_firing.specs.declared.answer.Place.{Place}
+use Rattle.pt_node.specs.LibraryActor.{rows}
+use Rattle.pt_node.specs.Live as live
+use Rattle.pt_node.specs.Shown.{Shown}
+use Rattle.pt_node.specs.View.{node_of, count_of, outline_of, text_at}
+use Rattle.pt_seq.specs.Within.{fault_of, AnswersTo}
+use Rattle.pt_run.specs.declared.job.SdfJob.{SdfJob}
+use Rattle.pt_run.specs.declared.ended.Ended.{Ended}
+use Rattle.pt_run.specs.declared.ended.Ended.TheVariants as ended
+use Rattle.pt_run.specs.Start.{IsRunnable}
+use Rattle.pt_run.specs.Run.{schedule, Reports, IsRun, IsDefined, IsAffordable}
+use Rattle.pt_run.proofs.Counting.{none-counted}
+use Rattle.pt_run.proofs.Reaching.{Reached, IsLogOf, at-start, one-more, reported, iterations-made, inputs-over, spent-between, spent-within, stuck-within, count-below, takes-fit, portions-length}
+
+pub is_complete : (j : SdfJob) (budget : ℕ) (old new : Shown) (e : Ended) → IsRun j budget old new e → IsAffordable j budget (node_of old) → IsDefined e
+is_complete j budget old new ended.Iterations r a = tt
+is_complete j budget old new ended.Inputs r a = tt
+is_complete j budget old new (ended.Fault place) r a = a.never_stuck (fault_of r.0 place) (r.2 0).caused
+is_complete j budget old new (ended.Spent firings) r a =
+    let p = r 0 in
+    let few = count-below p.log (meaning p.prefix.0 rows no_meetings (schedule j) (node_of old)) (paths_of (node_of old)) p.prefix.1 in
+    omega (arith, few, p.caused.0, p.caused.1, a.within_budget p.prefix.0)
+
+-- After n iterations so much of the budget is left.
+pub record Going (iterations : ℕ) (takes : List ℕ) (inputs : Streams Token) (top : Shown) (budget n : ℕ) (now : Shown) (left : ℕ) : Type 0 where
+  pub reached : Reached iterations takes inputs top n now
+  pub counted : left + count_of now ≡ budget
+  pub some : 0 < left
+
+-- ---- the ends of the code's loop
+
+module _ (j : SdfJob) (budget : ℕ) (old : Shown) (run : IsRunnable j.takes old) where
+  abbrev pub GoingTo : ℕ → Shown → ℕ → Type 0
+  GoingTo n now left = Going j.iterations j.takes j.inputs.items old budget n now left
+
+  pub begins : 0 < budget → GoingTo 0 old budget
+  begins b = record { reached = at-start j.iterations j.takes j.inputs.items old run; counted = let none = none-counted old run.leaves run.start in omega (arith, none); some = b }
+
+  few : (n : ℕ) (now : Shown) (left : ℕ) → GoingTo n now left → count_of now < budget
+  few n now left g = omega (arith, g.counted, g.some)
+
+  -- what is told, from the log of the run
+  told : (new : Shown) (e : Ending) → outline_of new ≡ outline_of old → IsLogOf j.iterations j.takes j.inputs.items old budget new e → (count : ℕ) → Reports j budget count old new e
+  told new e o l count = reported j.iterations j.takes j.inputs.items old run budget new e o l count
+
+  pub ends-all : (n : ℕ) (now : Shown) (left : ℕ) → GoingTo n now left → n ≡ j.iterations → IsRun j budget old now ended.Iterations
+  ends-all n now left g e =
+      let h : GoingTo j.iterations now left = subst (λ n. GoingTo n now left) e g in
+      told now (Defined job.Iterations) h.reached.outline (iterations-made j.iterations j.takes j.inputs.items old run now h.reached budget (few j.iterations now left h))
+
+  pub ends-inputs : (n : ℕ) (now : Shown) (left : ℕ) → GoingTo n now left → n < j.iterations → suffice n j.takes j.inputs.items ≡ false → IsRun j budget old now ended.Inputs
+  ends-inputs n now left g l s = told now (Defined job.Inputs) g.reached.outline (inputs-over j.iterations j.takes j.inputs.items old run n now g.reached l s budget (few n now left g))
+
+  -- the next firing
+  module _ (n : ℕ) (now : Shown) (left : ℕ) (g : GoingTo n now left) (l : n < j.iterations) (s : suffice n j.takes j.inputs.items ≡ true) (X : Streams Token) (e : X ≡ portions n j.takes j.inputs.items) where
+    pub takes-inputs : length j.inputs.items ≡ length j.takes → live.Takes origin now X
+    takes-inputs long = takes-fit now j.takes origin X g.reached.takes_are (ap (λ v. length v) e ∙ portions-length n j.takes j.inputs.items long)
+
+    module _ (new : Shown) (o : outline_of new ≡ outline_of now) where
+      pub ends-fault : (place : Place) → AnswersTo now origin X left (answer.Fault place) new → IsRun j budget old new (ended.Fault place)
+      ends-fault place a =
+          let k = a no_meetings in (
+            k.0,
+            ap (λ v. text_at v k.0) (sym g.reached.outline) ∙ k.1,
+            told new (Faulty (fault_of k.0 place)) (o ∙ g.reached.outline) (stuck-within j.iterations j.takes j.inputs.items old run n now g.reached l s X e budget new (fault_of k.0 place) k.2),
+          )
+
+      pub ends-spent : (made count : ℕ) → AnswersTo now origin X left (answer.Spent made) new → count ≡ count_of new → IsRun j budget old new (ended.Spent count)
+      ends-spent made count a c = told new (Spent count) (o ∙ g.reached.outline) (spent-within j.iterations j.takes j.inputs.items old run n now g.reached l s X e budget count new o (a.2 no_meetings) c (omega (arith, a.0, a.1, c, g.counted)))
+
+      reached-then : (out : Streams Token) → AnswersTo now origin X left (answer.Done out) new → Reached j.iterations j.takes j.inputs.items old (suc n) new
+      reached-then out a = one-more j.iterations j.takes j.inputs.items old n now g.reached l s X e out left new a o
+
+      pub ends-after : (out : Streams Token) (count : ℕ) → AnswersTo now origin X left (answer.Done out) new → count ≡ count_of new → budget ≤ count → IsRun j budget old new (ended.Spent count)
+      ends-after out count a c b = told new (Spent count) (o ∙ g.reached.outline) (spent-between j.iterations j.takes j.inputs.items old run (suc n) new (reached-then out a) budget count c b)
+
+      pub goes-on : (out : Streams Token) (count : ℕ) → AnswersTo now origin X left (answer.Done out) new → count ≡ count_of new → count < budget → GoingTo (n + 1) new (budget - count)
+      goes-on out count a c b =
+          let one : suc n ≡ n + 1 = omega arith in
+          record {
+            reached = subst (λ n. Reached j.iterations j.takes j.inputs.items old n new) one (reached-then out a);
+            counted = omega (arith, c, b);
+            some = omega (arith, b);
+          }
+
+-- what a test of a bool says
+pub is-true : (b a : Bool) → b ≡ a → b ≡ true → a ≡ true
+is-true b a e h = sym e ∙ h
+
+pub is-false : (b a : Bool) → b ≡ a → b ≡ false → a ≡ false
+is-false b a e h = sym e ∙ h

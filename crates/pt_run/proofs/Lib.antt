@@ -1,0 +1,11 @@
+pub mod Course
+pub mod Unmet
+pub mod Counting
+pub mod Traces
+pub mod Gathering
+pub mod Walking
+pub mod Portions
+pub mod Reaching
+pub mod Completing
+pub mod Steady
+pub mod Example

@@ -1,0 +1,280 @@
+-- The top after whole firings, one more, and what a run comes to where it ends.
+use Rattle.std.proofs.Common.{◌≡◌, ℕ, zero, suc, ◌<◌, ◌≤◌, max, List, [], ◌∷◌, ◌++◌, true, false, length, Option, Some, None, refl, sym, ap, ap₂, subst, ◌∙◌, arith, nat_lt}
+use Rattle.std.proofs.lemmas.Bool.Decides.{nat_tests}
+use Rattle.pt_meaning.specs.Basics.{Tag, Streams, IsPrefix, Path, Event, Finished, Met, Log, LogBelow, silent, log_then, firings_in}
+use Rattle.pt_meaning.specs.Tag.{origin}
+use Rattle.pt_meaning.specs.Machine.{Fault, Outcome, Done, Stuck}
+use Rattle.pt_meaning.specs.Meetings.{Meets}
+use Rattle.pt_meaning.specs.Tree as tree
+use Rattle.pt_meaning.specs.Tree.{Rows, Node}
+use Rattle.pt_meaning.specs.Step.{step_at, Step, no_meetings}
+use Rattle.pt_meaning.specs.Job as job
+use Rattle.pt_meaning.specs.Job.{End, Turn, Fire, Schedule, Course, Standing, Goes, Halted, on_step, on_turn, after, log_of, begin, meaning, IsPrefixOfMeaning, IsMeaning, EndsBy, IsStuckPlace}
+use Rattle.pt_meaning.specs.Schedule.{portions, suffice, if_more, sdf_top}
+use Rattle.pt_meaning.specs.Headline.{Ending, Defined, Faulty, Spent, IsCaused, IsReportOf, count_of}
+use Rattle.pt_meaning.specs.Closed.{IsClosedRun}
+use Rattle.pt_laws.specs.LogsOfRuns.{log_in}
+use Rattle.pt_laws.proofs.Order.{IsPrefix-trans, IsPrefix-after}
+use Rattle.pt_laws.proofs.FiringLaws.{done-within}
+use Rattle.pt_value.specs.declared.token.Token.{Token}
+use Rattle.pt_firing.specs.declared.answer.Answer.TheVariants as answer
+use Rattle.pt_records.specs.Kept.{GrewBy}
+use Rattle.pt_records.specs.Fired.{FromSome, FiresTo, SticksAt, LeavesOff}
+use Rattle.pt_records.specs.Shut.{IsShut, IsReached}
+use Rattle.pt_records.proofs.RunShutLaws.{runs-are-shut}
+use Rattle.pt_records.proofs.GrowthLaws.{grew-none, grew-joined}
+use Rattle.pt_records.proofs.SoFarLaws.{recorded-done}
+use Rattle.pt_node.specs.declared.body.Body.{Body}
+use Rattle.pt_node.specs.declared.body.Body.TheVariants as body
+use Rattle.pt_node.specs.declared.director.Director.TheVariants.{Sdf}
+use Rattle.pt_node.specs.declared.library.LibraryActor.{LibraryActor}
+use Rattle.pt_node.specs.LibraryActor.{rows}
+use Rattle.pt_node.specs.Shown.{Shown, AllShown, Branch, none, more}
+use Rattle.pt_node.specs.View as view
+use Rattle.pt_node.specs.View.{node_of, nodes_of, node_with, kept_of, outline_of}
+use Rattle.pt_node.specs.Live as live
+use Rattle.pt_node.specs.Live.{IsLive}
+use Rattle.pt_node.proofs.LibraryLaws.{rows_lawful}
+use Rattle.pt_seq.specs.Within.{AnswersTo}
+use Rattle.pt_run.specs.Ports.{recorded_ports, ports_of, traces_of}
+use Rattle.pt_run.specs.Start.{takes_of, IsRunnable}
+use Rattle.pt_run.specs.Run.{no_queues}
+use Rattle.pt_run.proofs.Course.{after-more, after-below, ended-at, halted-at}
+use Rattle.pt_run.proofs.Unmet.{IsSdfTree, AllSdfTrees, finished-before, no-meetings, meaning-unmet}
+use Rattle.pt_run.proofs.Counting.{count-is}
+use Rattle.pt_run.proofs.Traces.{traces-are}
+
+-- every composite of the code is an SDF composite
+mutual
+  pub sdf-node : (s : Shown) → IsSdfTree (node_of s)
+  sdf-node (Branch f ks) = by_body f.body (sdf-nodes ks)
+    where
+      by_body : (b : Body) → AllSdfTrees (nodes_of ks) → IsSdfTree (node_with f.past b (nodes_of ks))
+      by_body (body.Actor held) kids = tt
+      by_body (body.Composite (Sdf s)) kids = (tt, kids)
+
+  sdf-nodes : (ks : AllShown) → AllSdfTrees (nodes_of ks)
+  sdf-nodes none = tt
+  sdf-nodes (more s ss) = (sdf-node s, sdf-nodes ss)
+
+-- a firing keeps what an iteration takes
+takes-stay : {T A : Type 0} (rows : Rows T A) (k : ℕ) (m : Meets) (n z : Node T A) (tag : Tag) (X out : Streams T) (l : Log T) (takes : List ℕ) → takes_of n ≡ Some takes → step_at rows k (tree.height n) m tag n X ≡ Done z out l → takes_of z ≡ Some takes
+unfolding step_at
+takes-stay rows k m (tree.Actor h a b) z tag X out l takes e g = absurd (cc)
+takes-stay rows k m (tree.Composite h c (tree.Sdf p Y) kids) z tag X out l takes e g = ap (λ v. takes_of v) (done-within tag h c (tree.Sdf p) _ z out l g).state ∙ e
+takes-stay rows k m (tree.Composite h c (tree.Pn p Y) kids) z tag X out l takes e g = absurd (cc)
+takes-stay rows k m (tree.Composite h c (tree.Sr p) kids) z tag X out l takes e g = absurd (cc)
+takes-stay rows k m (tree.Composite h c (tree.De p) kids) z tag X out l takes e g = absurd (cc)
+takes-stay rows k m (tree.Composite h c (tree.Rv p Y) kids) z tag X out l takes e g = absurd (cc)
+takes-stay rows k m (tree.Composite h c (tree.Modal chart n) kids) z tag X out l takes e g = absurd (cc)
+
+takes-step : {T A : Type 0} (rows : Rows T A) (k : ℕ) (m : Meets) (n z : Node T A) (tag : Tag) (X out : Streams T) (l : Log T) (takes : List ℕ) → takes_of n ≡ Some takes → Step k rows m n tag X ≡ Done z out l → takes_of z ≡ Some takes
+takes-step rows k m n z tag X out l takes e g =
+    let r = recorded-done (tree.made_of n) tag X (step_at rows k (tree.height n) m tag n X) z out l g in takes-stay rows k m n z tag X out r.0 takes e r.1
+
+-- with a list for each own input, the composite takes them
+pub takes-fit : (s : Shown) (takes : List ℕ) (tag : Tag) (X : Streams Token) → takes_of (node_of s) ≡ Some takes → length X ≡ length takes → live.Takes tag s X
+takes-fit (Branch f ks) takes tag X e l = by_body f.body e
+  where
+    by_body : (b : Body) → takes_of (node_with f.past b (nodes_of ks)) ≡ Some takes → live.TakesBody tag b X
+    by_body (body.Actor held) g = absurd (cc)
+    by_body (body.Composite (Sdf s)) g = let same : s.plan.takes ≡ takes = cc in l ∙ ap (λ v. length v) (sym same)
+
+pub portions-length : {T : Type 0} (n : ℕ) (takes : List ℕ) (X : Streams T) → length X ≡ length takes → length (portions n takes X) ≡ length takes
+portions-length n [] X e = refl
+portions-length n (t ∷ ts) [] e = absurd (omega (arith, e))
+portions-length n (t ∷ ts) (xs ∷ X) e = ap (λ k. suc k) (portions-length n ts X (omega (arith, e)))
+
+-- what a turn of the top logs
+log-on-step : {T A : Type 0} (c : Course T A) (tag : Tag) (r : Outcome T (Node T A)) → log_of (on_step c tag r) ≡ log_then c.log (log_in r)
+log-on-step c tag (Done z out l) = refl
+log-on-step c tag (Stuck fs l) = refl
+
+firings-below : {T : Type 0} (xs ys : List (Event T)) → IsPrefix xs ys → firings_in xs ≤ firings_in ys
+firings-below [] ys b = omega arith
+firings-below (x ∷ xs) [] b = absurd b
+firings-below {T} (x ∷ xs) (y ∷ ys) b = by_event x y b.0 (firings-below xs ys b.1)
+  where
+    same : (y : Event T) → firings_in xs ≤ firings_in ys → firings_in (y ∷ xs) ≤ firings_in (y ∷ ys)
+    same (Finished ns f) h = omega (arith, h)
+    same (Met ns i m) h = h
+
+    by_event : (x y : Event T) → x ≡ y → firings_in xs ≤ firings_in ys → firings_in (x ∷ xs) ≤ firings_in (y ∷ ys)
+    by_event x y e h = subst (λ (z : Event T). firings_in (z ∷ xs) ≤ firings_in (y ∷ ys)) (sym e) (same y h)
+
+pub count-below : {T : Type 0} (l m : Log T) (ps : List Path) → LogBelow l m → count_of l ps ≤ count_of m ps
+count-below l m [] b = omega arith
+count-below l m (p ∷ ps) b = omega (arith, firings-below (l p) (m p) (b p), count-below l m ps b)
+
+abbrev pub last_tag : ℕ → Option Tag
+last_tag zero = None
+last_tag (suc n) = Some origin
+
+module _ (iterations : ℕ) (takes : List ℕ) (inputs : Streams Token) (top : Shown) where
+  abbrev pub plan : Schedule Token LibraryActor
+  plan = sdf_top iterations takes inputs
+
+  abbrev pub first : Node Token LibraryActor
+  first = node_of top
+
+  abbrev pub course_at : ℕ → Shown → Log Token → Course Token LibraryActor
+  course_at n now log = record { fired = n; last = last_tag n; top = node_of now; log = log }
+
+  -- After n firings that are done the tree is now, and what is kept of it went on by what they logged.
+  pub record Reached (n : ℕ) (now : Shown) : Type 0 where
+    pub live : IsLive now
+    pub outline : outline_of now ≡ outline_of top
+    pub takes_are : takes_of (node_of now) ≡ Some takes
+    pub log : Log Token
+    pub goes : FromSome (λ k. after k rows no_meetings plan n (begin first) ≡ Goes (course_at n now log))
+    pub kept : GrewBy log (kept_of top) (kept_of now)
+
+  pub at-start : IsRunnable takes top → Reached 0 top
+  unfolding after
+  at-start r = record { live = r.live; outline = refl; takes_are = r.takes_are; log = silent; goes = (0, λ k l. refl); kept = grew-none (kept_of top) }
+
+  fires-next : (n : ℕ) → n < iterations → suffice n takes inputs ≡ true → (last : Option Tag) (node : Node Token LibraryActor) → plan n last node ≡ Fire origin (portions n takes inputs)
+  fires-next n l s last node = let b : nat_lt n iterations ≡ true = grind (arith, nat_tests) in ap₂ (λ x y. if_more x y origin (portions n takes inputs)) b s
+
+  -- the next turn of the top, which fires
+  turned : (n : ℕ) (now : Shown) (r : Reached n now) → n < iterations → suffice n takes inputs ≡ true → (k : ℕ) → r.goes.0 ≤ k →
+      after k rows no_meetings plan (suc n) (begin first) ≡ on_step (course_at n now r.log) origin (Step k rows no_meetings (node_of now) origin (portions n takes inputs))
+  turned n now r l s k o =
+      after-more k rows no_meetings plan n (begin first) (course_at n now r.log) (r.goes.1 k o) ∙
+      ap (λ t. on_turn k rows no_meetings (course_at n now r.log) t) (fires-next n l s (last_tag n) (node_of now))
+
+  -- one firing more
+  pub one-more : (n : ℕ) (now : Shown) → Reached n now → n < iterations → suffice n takes inputs ≡ true → (X : Streams Token) → X ≡ portions n takes inputs → (out : Streams Token) (allowance : ℕ) (new : Shown) →
+      AnswersTo now origin X allowance (answer.Done out) new → outline_of new ≡ outline_of now → Reached (suc n) new
+  one-more n now r l s X e out allowance new a o =
+      let P : Streams Token → Type 0 = λ Y. FiresTo (λ k. Step k rows no_meetings (node_of now) origin Y) (node_of new) out (kept_of now) (kept_of new) in
+      let f : P (portions n takes inputs) = subst P e (a.0 no_meetings) in
+      record {
+        live = a.1;
+        outline = o ∙ r.outline;
+        takes_are = takes-step rows f.done.0 no_meetings (node_of now) (node_of new) origin (portions n takes inputs) out f.log takes r.takes_are (f.done.1 f.done.0 (omega arith));
+        log = log_then r.log f.log;
+        goes = (max r.goes.0 f.done.0, λ k q. turned n now r l s k (omega (arith, q)) ∙ ap (λ v. on_step (course_at n now r.log) origin v) (f.done.1 k (omega (arith, q))));
+        kept = grew-joined r.log f.log (kept_of top) (kept_of now) (kept_of new) r.kept f.kept;
+      }
+
+  -- ---- reports
+
+  -- what each end of a run owes: a log that is a beginning of the meaning's and is closed, by which what is kept went on, and the cause of the end
+  pub record IsLogOf (budget : ℕ) (new : Shown) (e : Ending) : Type 0 where
+    pub log : Log Token
+    pub prefix : IsPrefixOfMeaning rows no_meetings plan first log
+    pub shut : (k : ℕ) → LogBelow log (meaning k rows no_meetings plan first) → IsClosedRun rows no_meetings plan first (meaning k rows no_meetings plan first) log
+    pub kept : GrewBy log (kept_of top) (kept_of new)
+    pub caused : IsCaused rows no_meetings plan first budget no_queues log e
+
+  pub reported : IsRunnable takes top → (budget : ℕ) (new : Shown) (e : Ending) → outline_of new ≡ outline_of top → IsLogOf budget new e → (count : ℕ) →
+      IsReportOf rows no_meetings plan first (ports_of (recorded_ports count top)) budget no_queues (traces_of (recorded_ports count new)) e
+  unfolding after
+  reported run budget new e o l count = record {
+    log = l.log;
+    legal = λ p n. (0, refl);
+    met = λ p n. sym (no-meetings n (l.log p) (finished-before (l.log p) (meaning l.prefix.0 rows no_meetings plan first p) (l.prefix.1 p) (meaning-unmet rows no_meetings plan first (sdf-node top) l.prefix.0 p)));
+    prefix = l.prefix;
+    shut = l.shut;
+    told = traces-are l.log count top new run.unrecorded o l.kept;
+    caused = l.caused;
+  }
+
+  reached : IsRunnable takes top → (n : ℕ) (now : Shown) (r : Reached n now) → IsReached rows no_meetings plan first n (course_at n now r.log)
+  reached run n now r = record { fitting = run.fitting; planned = run.planned; start = run.start; goes = r.goes }
+
+  -- whole firings are a beginning of the meaning's log
+  whole-below : (n : ℕ) (now : Shown) (r : Reached n now) → (k : ℕ) → r.goes.0 ≤ k → n ≤ k → LogBelow r.log (meaning k rows no_meetings plan first)
+  whole-below n now r k o l = λ p. subst (λ (s : Standing Token LibraryActor). IsPrefix (log_of s p) (meaning k rows no_meetings plan first p)) (r.goes.1 k o) (after-below rows rows_lawful no_meetings plan first k n l p)
+
+  whole-shut : IsRunnable takes top → (n : ℕ) (now : Shown) (r : Reached n now) → (k : ℕ) → LogBelow r.log (meaning k rows no_meetings plan first) → IsClosedRun rows no_meetings plan first (meaning k rows no_meetings plan first) r.log
+  whole-shut run n now r k b = (runs-are-shut {T = Token} {A = LibraryActor}).between rows rows_lawful no_meetings plan first n (course_at n now r.log) (reached run n now r) k b
+
+  -- a defined end
+  module _ (run : IsRunnable takes top) (n : ℕ) (now : Shown) (r : Reached n now) (e : End) (turn : plan n (last_tag n) (node_of now) ≡ job.Ends e) (budget : ℕ) (few : view.count_of now < budget) where
+    ends-at : (k : ℕ) → max r.goes.0 (suc n) ≤ k → after k rows no_meetings plan k (begin first) ≡ job.Ended e (course_at n now r.log)
+    ends-at k o =
+        ended-at rows no_meetings plan first k (suc n) (course_at n now r.log) e (omega (arith, o))
+        (after-more k rows no_meetings plan n (begin first) (course_at n now r.log) (r.goes.1 k (omega (arith, o))) ∙ ap (λ t. on_turn k rows no_meetings (course_at n now r.log) t) turn)
+
+    pub defined-end : IsLogOf budget now (Defined e)
+    defined-end =
+        let k₁ : ℕ = max r.goes.0 (suc n) in
+        record {
+          log = r.log;
+          prefix = (k₁, whole-below n now r k₁ (omega arith) (omega arith));
+          shut = whole-shut run n now r;
+          kept = r.kept;
+          caused = (
+            (k₁, λ k o p. sym (ap (λ (s : Standing Token LibraryActor). log_of s p) (ends-at k o))),
+            (k₁, course_at n now r.log, ends-at k₁ (omega arith)),
+            subst (λ c. c < budget) (count-is top now r.log run.leaves run.start r.outline r.kept) few,
+          );
+        }
+
+  pub iterations-made : IsRunnable takes top → (now : Shown) → Reached iterations now → (budget : ℕ) → view.count_of now < budget → IsLogOf budget now (Defined job.Iterations)
+  iterations-made run now r budget few =
+      let b : nat_lt iterations iterations ≡ false = grind (arith, nat_tests) in
+      defined-end run iterations now r job.Iterations (ap (λ x. if_more x (suffice iterations takes inputs) origin (portions iterations takes inputs)) b) budget few
+
+  pub inputs-over : IsRunnable takes top → (n : ℕ) (now : Shown) → Reached n now → n < iterations → suffice n takes inputs ≡ false → (budget : ℕ) → view.count_of now < budget → IsLogOf budget now (Defined job.Inputs)
+  inputs-over run n now r l s budget few =
+      let b : nat_lt n iterations ≡ true = grind (arith, nat_tests) in
+      defined-end run n now r job.Inputs (ap₂ (λ x y. if_more x y origin (portions n takes inputs)) b s) budget few
+
+  -- the budget is spent between two firings
+  pub spent-between : IsRunnable takes top → (n : ℕ) (now : Shown) → Reached n now → (budget count : ℕ) → count ≡ view.count_of now → budget ≤ count → IsLogOf budget now (Spent count)
+  spent-between run n now r budget count e b =
+      let k₁ : ℕ = max r.goes.0 n in
+      record {
+        log = r.log;
+        prefix = (k₁, whole-below n now r k₁ (omega arith) (omega arith));
+        shut = whole-shut run n now r;
+        kept = r.kept;
+        caused = (e ∙ count-is top now r.log run.leaves run.start r.outline r.kept, b);
+      }
+
+  -- the run was left off within a firing, with a part of its log
+  module _ (run : IsRunnable takes top) (n : ℕ) (now : Shown) (r : Reached n now) (l : n < iterations) (s : suffice n takes inputs ≡ true) (log : Log Token)
+      (part : IsShut rows no_meetings (node_of now) origin (portions n takes inputs) log) (beginning : FromSome (λ k. LogBelow log (log_in (Step k rows no_meetings (node_of now) origin (portions n takes inputs))))) where
+    pub within-below : (k : ℕ) → max (max r.goes.0 beginning.0) (suc n) ≤ k → LogBelow (log_then r.log log) (meaning k rows no_meetings plan first)
+    within-below k o p =
+        let step = Step k rows no_meetings (node_of now) origin (portions n takes inputs) in
+        let is : log_of (after k rows no_meetings plan (suc n) (begin first)) ≡ log_then r.log (log_in step) = ap (λ s. log_of s) (turned n now r l s k (omega (arith, o))) ∙ log-on-step (course_at n now r.log) origin step in
+        IsPrefix-trans (r.log p ++ log p) (r.log p ++ log_in step p) (meaning k rows no_meetings plan first p)
+        (IsPrefix-after (r.log p) (log p) (log_in step p) (beginning.1 k (omega (arith, o)) p))
+        (subst (λ (v : Log Token). IsPrefix (v p) (meaning k rows no_meetings plan first p)) is (after-below rows rows_lawful no_meetings plan first k (suc n) (omega (arith, o)) p))
+
+    pub within-shut : (k : ℕ) → LogBelow (log_then r.log log) (meaning k rows no_meetings plan first) → IsClosedRun rows no_meetings plan first (meaning k rows no_meetings plan first) (log_then r.log log)
+    within-shut k b = (runs-are-shut {T = Token} {A = LibraryActor}).within rows rows_lawful no_meetings plan first n (course_at n now r.log) (reached run n now r) origin (portions n takes inputs) (fires-next n l s (last_tag n) (node_of now)) log part beginning k b
+
+    pub left-off : (budget : ℕ) (new : Shown) (e : Ending) → GrewBy log (kept_of now) (kept_of new) → IsCaused rows no_meetings plan first budget no_queues (log_then r.log log) e → IsLogOf budget new e
+    left-off budget new e k c = record {
+      log = log_then r.log log;
+      prefix = (max (max r.goes.0 beginning.0) (suc n), within-below (max (max r.goes.0 beginning.0) (suc n)) (omega arith));
+      shut = within-shut;
+      kept = grew-joined r.log log (kept_of top) (kept_of now) (kept_of new) r.kept k;
+      caused = c;
+    }
+
+  -- the budget is spent within a firing
+  pub spent-within : IsRunnable takes top → (n : ℕ) (now : Shown) → Reached n now → n < iterations → suffice n takes inputs ≡ true → (X : Streams Token) → X ≡ portions n takes inputs → (budget count : ℕ) (new : Shown) → outline_of new ≡ outline_of now →
+      LeavesOff (λ k. Step k rows no_meetings (node_of now) origin X) (IsShut rows no_meetings (node_of now) origin X) (kept_of now) (kept_of new) → count ≡ view.count_of new → budget ≤ count → IsLogOf budget new (Spent count)
+  spent-within run n now r l s X e budget count new o a c b =
+      let f : LeavesOff (λ k. Step k rows no_meetings (node_of now) origin (portions n takes inputs)) (IsShut rows no_meetings (node_of now) origin (portions n takes inputs)) (kept_of now) (kept_of new) =
+      subst (λ Y. LeavesOff (λ k. Step k rows no_meetings (node_of now) origin Y) (IsShut rows no_meetings (node_of now) origin Y) (kept_of now) (kept_of new)) e a in
+      let kept : GrewBy (log_then r.log f.log) (kept_of top) (kept_of new) = grew-joined r.log f.log (kept_of top) (kept_of now) (kept_of new) r.kept f.kept in
+      left-off run n now r l s f.log f.part f.beginning budget new (Spent count) f.kept (c ∙ count-is top new (log_then r.log f.log) run.leaves run.start (o ∙ r.outline) kept, b)
+
+  -- a firing is stuck
+  pub stuck-within : IsRunnable takes top → (n : ℕ) (now : Shown) → Reached n now → n < iterations → suffice n takes inputs ≡ true → (X : Streams Token) → X ≡ portions n takes inputs → (budget : ℕ) (new : Shown) (f : Fault) →
+      SticksAt (λ k. Step k rows no_meetings (node_of now) origin X) (IsShut rows no_meetings (node_of now) origin X) f (kept_of now) (kept_of new) → IsLogOf budget new (Faulty f)
+  stuck-within run n now r l s X e budget new f a =
+      let P : Streams Token → Type 0 = λ Y. SticksAt (λ k. Step k rows no_meetings (node_of now) origin Y) (IsShut rows no_meetings (node_of now) origin Y) f (kept_of now) (kept_of new) in
+      let g : P (portions n takes inputs) = subst P e a in
+      let k₁ : ℕ = max (max r.goes.0 g.stuck.0) (suc n) in
+      let there = g.stuck.1 k₁ (omega arith) in
+      let halts : after k₁ rows no_meetings plan (suc n) (begin first) ≡ Halted there.0 (log_then r.log there.1) = turned n now r l s k₁ (omega arith) ∙ ap (λ v. on_step (course_at n now r.log) origin v) there.2 in
+      left-off run n now r l s g.log g.part (g.stuck.0, λ k o. let at = g.stuck.1 k o in subst (λ v. LogBelow g.log (log_in v)) (sym at.2) at.4) budget new (Faulty f) g.kept
+      (k₁, there.0, log_then r.log there.1, halted-at rows no_meetings plan first k₁ (suc n) there.0 (log_then r.log there.1) (omega arith) halts, there.3)

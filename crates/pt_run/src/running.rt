@@ -1,0 +1,49 @@
+ghost use Rattle.std.specs.Prelude.{◌≡◌, ◌<◌, length, IfOk};
+ghost use Rattle.pt_node.specs.Shown.{shown_node};
+ghost use Rattle.pt_node.specs.View.{node_of, outline_of};
+ghost use Rattle.pt_run.specs.Start.{IsRunnable};
+ghost use Rattle.pt_run.specs.Run.{IsRun, IsAffordable, IsDefined};
+
+use crate::count::firings;
+use crate::ended::Ended;
+use crate::job::SdfJob;
+use pt_firing::{Answer, Inputs};
+use pt_node::Node;
+use pt_seq::fire_seq;
+use pt_time::Tag;
+use std::alloc::{AllocError, Global};
+
+/// The tag of each firing of an SDF top.
+const ORIGIN: Tag = Tag { time: 0, step: 0 };
+
+/// Fires an SDF top as the job says, until it ends or the firings of the tree are as many as the budget. What the tree has recorded then is the report of the run.
+/// After an `Err`, a fault or a spent budget the top fires no more.
+pub fn run(alloc: Global, top: &mut Node, job: &SdfJob, budget: u64) -> Result<Ended, AllocError>
+    requires runnable { IsRunnable job.now.takes (shown_node top.old) }
+    requires lists { length job.now.inputs.items ≡ length job.now.takes }
+    requires budget { 0 < budget }
+    ensures report { IfOk result (λ ended. IsRun job.now budget (shown_node top.old) (shown_node top.new) ended) }
+    ensures complete { IsAffordable job.now budget (node_of (shown_node top.old)) → IfOk result IsDefined }
+    ensures outline { outline_of (shown_node top.new) ≡ outline_of (shown_node top.old) }
+{
+    let mut left = budget;
+    for iteration in 0..job.iterations {
+        if !job.suffices(iteration) {
+            return Ok(Ended::Inputs);
+        }
+        let inputs = job.portions(alloc, iteration)?;
+        match fire_seq(alloc, top, ORIGIN, &Inputs::of(&inputs), left) {
+            Answer::Done(_) => {}
+            Answer::Fault(place) => return Ok(Ended::Fault(place)),
+            Answer::Spent(_) => return Ok(Ended::Spent(firings(top)?)),
+            Answer::Full(_) => unreachable!(),
+            Answer::Memory => return Err(AllocError),
+        }
+        let count = firings(top)?;
+        if count >= budget {
+            return Ok(Ended::Spent(count));
+        }
+        left = budget - count;
+    }
+    Ok(Ended::Iterations)
+}
