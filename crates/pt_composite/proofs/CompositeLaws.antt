@@ -1,0 +1,148 @@
+-- The composite that is built is fresh, and it is the one of the definitions.
+use Rattle.std.proofs.Common.{◌≡◌, ℕ, zero, suc, ◌+◌, ◌<◌, ◌≤◌, List, [], ◌∷◌, ◌++◌, length, map, true, refl, sym, ap, ap₂, ◌∙◌, subst, arith}
+use Rattle.std.proofs.lemmas.List.{length-map}
+use Rattle.pt_meaning.specs.Basics.{Streams}
+use Rattle.pt_meaning.specs.Net as net
+use Rattle.pt_meaning.specs.Net.{Source}
+use Rattle.pt_meaning.specs.NodeFacts.{facts_of}
+use Rattle.pt_meaning.specs.Running.{total}
+use Rattle.pt_meaning.specs.Sdf.{SdfPlan}
+use Rattle.pt_meaning.specs.Start.{first_held, IsAtStart, AllAtStart}
+use Rattle.pt_meaning.specs.Tree as tree
+use Rattle.pt_laws.specs.Heights.{IsFitting, AllFitting}
+use Rattle.pt_laws.specs.StartedRuns.{ArePlans, AllPlans}
+use Rattle.pt_value.specs.declared.token.Token.{Token}
+use Rattle.pt_sdf.specs.declared.plan.CorePlan.{CorePlan}
+use Rattle.pt_sdf.specs.ByNeed.{needs_of, planned}
+use Rattle.pt_sdf.specs.Chain.{IsFor}
+use Rattle.pt_sdf.specs.Clauses.{State}
+use Rattle.pt_sdf.specs.Plan.{plan_of, source_of}
+use Rattle.pt_sdf.specs.State.{started}
+use Rattle.pt_plan.specs.declared.inside.Inside.{Inside}
+use Rattle.pt_plan.specs.Inside.{IsInside}
+use Rattle.pt_plan.specs.PlanOf.{IsPlanOf}
+use Rattle.pt_node.specs.declared.body.Body.TheVariants as body
+use Rattle.pt_node.specs.declared.director.Director.TheVariants as director
+use Rattle.pt_node.specs.LibraryActor.{rows}
+use Rattle.pt_node.specs.Recorded.{RecordedPort}
+use Rattle.pt_node.specs.Shown.{Shown, AllShown, Branch, Frame, all_of, list_of}
+use Rattle.pt_node.specs.View.{Tree, node_of, nodes_of}
+use Rattle.pt_node.specs.Live.{IsFit, AllFit, IsSteady, AllSteady}
+use Rattle.pt_composite.specs.Around.{Around, IsInsideOf}
+use Rattle.pt_composite.specs.Fresh.{AreEmpty, IsUnrecorded, AllUnrecorded, IsFresh, AllFresh}
+use Rattle.pt_composite.specs.Composite.{trees_of, frame_in, children_in, IsComposite}
+use Rattle.pt_composite.proofs.NeedLaws.{needs-length, planned-length}
+use Rattle.pt_composite.proofs.HeldLaws.{held-length}
+
+-- ---- children as a list
+
+pub list-again : (ss : List Shown) → list_of (all_of ss) ≡ ss
+list-again [] = refl
+list-again (s ∷ ss) = ap (λ v. s ∷ v) (list-again ss)
+
+pub nodes-list : (ss : List Shown) → tree.list_of (nodes_of (all_of ss)) ≡ trees_of ss
+nodes-list [] = refl
+nodes-list (s ∷ ss) = ap (λ v. node_of s ∷ v) (nodes-list ss)
+
+pub nodes-are : (ss : List Shown) → nodes_of (all_of ss) ≡ tree.nodes_of (trees_of ss)
+nodes-are [] = refl
+nodes-are (s ∷ ss) = ap (λ v. tree.more (node_of s) v) (nodes-are ss)
+
+all-fit : (ss : List Shown) → AllFresh ss → AllFit (all_of ss)
+all-fit [] f = tt
+all-fit (s ∷ ss) f = (f.0.fit, all-fit ss f.1)
+
+all-steady : (ss : List Shown) → AllFresh ss → AllSteady (all_of ss)
+all-steady [] f = tt
+all-steady (s ∷ ss) f = (f.0.steady, all-steady ss f.1)
+
+all-start : (ss : List Shown) → AllFresh ss → AllAtStart rows (nodes_of (all_of ss))
+all-start [] f = tt
+all-start (s ∷ ss) f = (f.0.start, all-start ss f.1)
+
+all-fitting : (ss : List Shown) → AllFresh ss → AllFitting (nodes_of (all_of ss))
+all-fitting [] f = tt
+all-fitting (s ∷ ss) f = (f.0.fitting, all-fitting ss f.1)
+
+all-plans : (ss : List Shown) → AllFresh ss → AllPlans (nodes_of (all_of ss))
+all-plans [] f = tt
+all-plans (s ∷ ss) f = (f.0.plans, all-plans ss f.1)
+
+all-unrecorded : (ss : List Shown) → AllFresh ss → AllUnrecorded (all_of ss)
+all-unrecorded [] f = tt
+all-unrecorded (s ∷ ss) f = (f.0.unrecorded, all-unrecorded ss f.1)
+
+-- ---- the composite
+
+module _ (around : Around) (kids : List Shown) (path : List ℕ) (records : List RecordedPort) (x : Inside) (p : CorePlan) (first : Streams Token) (is : IsInsideOf around (trees_of kids) x) (formed : IsInside x) (plan : IsPlanOf x (plan_of p)) (needs : p.needs ≡ x.needs)
+    (held : first ≡ first_held rows (trees_of kids) around.sources) (fresh : AllFresh kids) (empty : AreEmpty records) where
+  abbrev core : State
+  core = started (plan_of p) p.needs first
+
+  abbrev built : Shown
+  built = Branch (record { past = tree.unfired; body = body.Composite (director.Sdf core); records = records; path = path; live = true }) (all_of kids)
+
+  sources-are : (plan_of p).net.sources ≡ around.sources
+  sources-are = ap (λ (n : net.Net). n.sources) plan.net ∙ is.sources
+
+  places-in : p.places ≡ x.places
+  places-in = ap (λ (n : net.Net). n.places) plan.net
+
+  places-are : p.places ≡ around.places
+  places-are = places-in ∙ is.places
+
+  many : length p.places ≡ length x.places
+  many = ap (λ (v : List ℕ). length v) places-in
+
+  long : length first ≡ length around.sources
+  long = ap (λ (v : Streams Token). length v) held ∙ held-length rows (trees_of kids) around.sources
+
+  counted : length around.sources ≡ length x.sources.items
+  counted = ap (λ (v : List Source). length v) (sym is.sources) ∙ length-map x.sources.items source_of
+
+  enough : total p.places ≤ length around.sources
+  enough = omega (arith, formed.channels, counted, ap (λ (v : List ℕ). total v) places-in)
+
+  needs-are : needs_of (facts_of rows) (trees_of kids) ≡ planned p.places p.needs
+  needs-are = is.needs ∙ ap₂ (λ v w. planned v w) (sym places-are) (sym needs)
+
+  fits : IsFor (facts_of rows) core (tree.list_of (nodes_of (all_of kids)))
+  fits = record {
+    repetitions = plan.repetitions ∙ sym many;
+    rates = ap (λ (v : List (List ℕ)). length v) plan.rates ∙ formed.rated ∙ sym many;
+    channels = omega (arith, enough, long);
+    needs = subst (λ (v : List Tree). needs_of (facts_of rows) v ≡ planned p.places p.needs) (sym (nodes-list kids)) needs-are;
+  }
+
+  entries : length p.places ≡ length (tree.list_of (nodes_of (all_of kids)))
+  entries = sym (planned-length p.places p.needs) ∙ sym (ap (λ v. length v) fits.needs) ∙ needs-length (facts_of rows) (tree.list_of (nodes_of (all_of kids)))
+
+  first-held : first ≡ first_held rows (trees_of kids) (plan_of p).net.sources
+  first-held = held ∙ ap (λ (v : List Source). first_held rows (trees_of kids) v) (sym sources-are)
+
+  node : node_of built ≡ tree.composite (tree.Sdf (plan_of p) (first_held rows (trees_of kids) (plan_of p).net.sources)) (trees_of kids)
+  node = ap₂ (λ (v : Streams Token) ks. tree.Composite tree.unfired (tree.Sdf (plan_of p) v) (tree.Sdf (plan_of p) v) ks) first-held (nodes-are kids)
+
+  start : IsAtStart rows (node_of built)
+  start = (refl, refl, subst (λ (v : List Tree). first ≡ first_held rows v (plan_of p).net.sources) (sym (nodes-list kids)) first-held, all-start kids fresh)
+
+  fitting : IsFitting (node_of built)
+  fitting =
+      let has : (length p.places ≡ length (tree.list_of (nodes_of (all_of kids)))) × (length p.repetitions ≡ length (tree.list_of (nodes_of (all_of kids)))) × (length p.rates.items ≡ length (tree.list_of (nodes_of (all_of kids)))) = (entries, fits.repetitions ∙ entries, fits.rates ∙ entries) in
+      (has, has, all-fitting kids fresh)
+
+  plans : ArePlans (node_of built)
+  plans = (omega (arith, enough, ap (λ (v : List Source). length v) sources-are), all-plans kids fresh)
+
+  pub composite-is : IsComposite around kids path records built
+  composite-is = record {
+    inside = x;
+    is_inside = is;
+    plan = plan_of p;
+    planned = plan;
+    node = node;
+    children = list-again kids;
+    path_is = refl;
+    records_are = refl;
+    fresh = record { live = refl; fit = ((refl, fits, all-steady kids fresh), all-fit kids fresh); steady = tt; start = start; fitting = fitting; plans = plans; unrecorded = (empty, all-unrecorded kids fresh) };
+  }

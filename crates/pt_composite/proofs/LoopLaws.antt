@@ -1,0 +1,64 @@
+-- One step of the loops over children, channels and tokens.
+use Rattle.std.proofs.Common.{◌≡◌, ℕ, zero, suc, ◌+◌, ◌-◌, ◌<◌, ◌≤◌, List, [], ◌∷◌, ◌++◌, length, take, map, get_or, set, refl, sym, ap, ap₂, ◌∙◌, subst, arith, append_assoc, add-one, get_or-set_same}
+use Rattle.std.proofs.lemmas.List.{take_more, set-set, length-map}
+use Rattle.std.proofs.Math.ListN.{get_or-map}
+use Rattle.pt_meaning.specs.Basics.{Streams}
+use Rattle.pt_meaning.specs.Net as net
+use Rattle.pt_meaning.specs.Start.{first_of, first_held}
+use Rattle.pt_meaning.specs.Tree.{Rows}
+use Rattle.pt_meaning.specs.Tree as tree
+use Rattle.pt_value.specs.declared.token.Token.{Token}
+use Rattle.pt_sdf.specs.declared.plan.Source.{Source}
+use Rattle.pt_sdf.specs.Plan.{source_of}
+use Rattle.pt_node.specs.LibraryActor.{rows}
+use Rattle.pt_node.specs.declared.node.Node.{Node}
+use Rattle.pt_node.specs.Shown.{shown_node}
+use Rattle.pt_node.specs.View.{Tree, node_of}
+use Rattle.pt_composite.specs.Around.{first_counts}
+use Rattle.pt_composite.specs.Rates.{rates_of}
+use Rattle.pt_composite.proofs.HeldLaws.{held_to, held-append, held-empty, held-more}
+use Rattle.pt_composite.proofs.NodeLaws.{trees, trees-more, map-append}
+
+-- a token more is put
+pub put-more : {X : Type 0} (L0 L : List (List X)) (c : ℕ) (ts : List X) (i : ℕ) (x y : X) → c < length L0 → L ≡ set L0 c (get_or L0 c [] ++ take i ts) → i < length ts → x ≡ get_or ts i x → y ≡ x →
+    set L c (get_or L c [] ++ y ∷ []) ≡ set L0 c (get_or L0 c [] ++ take (i + 1) ts)
+put-more L0 L c ts i x y h e g is q =
+    let here : get_or L c [] ≡ get_or L0 c [] ++ take i ts = ap (λ v. get_or v c []) e ∙ get_or-set_same L0 c (get_or L0 c [] ++ take i ts) [] h in
+    let more : take (i + 1) ts ≡ take i ts ++ x ∷ [] = take_more ts i x g ∙ ap (λ z. take i ts ++ z ∷ []) (sym is) in
+    ap₂ (λ v w. set v c w) e (ap (λ v. v ++ y ∷ []) here ∙ append_assoc (get_or L0 c []) (take i ts) (y ∷ []) ∙ ap (λ v. get_or L0 c [] ++ v) (ap (λ z. take i ts ++ z ∷ []) q ∙ sym more)) ∙
+    set-set L0 c (get_or L0 c [] ++ take i ts) (get_or L0 c [] ++ take (i + 1) ts)
+
+pub lowered-at : (S : List ℕ) (c : ℕ) → get_or (set S c (get_or S c 0 - 1)) c 0 ≡ get_or S c 0 - 1
+lowered-at [] c = omega arith
+lowered-at (s ∷ S) zero = refl
+lowered-at (s ∷ S) (suc c) = lowered-at S c
+
+-- the rates of one child more
+pub rates-more : (kids : List Node) (i : ℕ) (d : Node) (rs : List (List ℕ)) (r : List ℕ) → i < length kids → d ≡ get_or kids i d → rs ≡ map rates_of (trees (take i kids)) → r ≡ rates_of (node_of (shown_node d)) → rs ++ r ∷ [] ≡ map rates_of (trees (take (i + 1) kids))
+rates-more kids i d rs r h is e f =
+    ap₂ (λ v w. v ++ w ∷ []) e f ∙ sym (map-append rates_of (trees (take i kids)) (node_of (shown_node d) ∷ [])) ∙ ap (λ v. map rates_of v) (sym (trees-more kids i d h is))
+
+-- the first tokens of one channel more
+pub counts-more : (kids : List Tree) (sources : List Source) (i : ℕ) (d : Source) (ns : List ℕ) (ts : List Token) → i < length sources → ns ≡ first_counts kids (map source_of (take i sources)) → ts ≡ first_of rows kids (source_of (get_or sources i d)) →
+    ns ++ length ts ∷ [] ≡ first_counts kids (map source_of (take (i + 1) sources))
+counts-more kids sources i d ns ts h e f =
+    let s : net.Source = source_of (get_or sources i d) in
+    ap₂ (λ (v : List ℕ) (w : List Token). v ++ length w ∷ []) e f ∙ sym (map-append (λ (xs : List Token). length xs) (first_held rows kids (map source_of (take i sources))) (first_of rows kids s ∷ [])) ∙
+    ap (λ (v : Streams Token). map (λ (xs : List Token). length xs) v) (sym (held-append rows kids (map source_of (take i sources)) (s ∷ []))) ∙
+    ap (λ v. first_counts kids v) (sym (map-append source_of (take i sources) (get_or sources i d ∷ [])) ∙ ap (λ v. map source_of v) (sym (take_more sources i d h)))
+
+-- one channel more has its tokens
+pub held-step : (kids : List Tree) (sources : List Source) (n : ℕ) (d : Source) (L new : Streams Token) (ts : List Token) → n < length sources → L ≡ held_to rows kids n (map source_of sources) → new ≡ set L n (get_or L n [] ++ ts) → ts ≡ first_of rows kids (source_of (get_or sources n d)) →
+    new ≡ held_to rows kids (n + 1) (map source_of sources)
+held-step kids sources n d L new ts h e f g =
+    let cs : List net.Source = map source_of sources in
+    let empty : get_or L n [] ≡ [] = ap (λ v. get_or v n []) e ∙ held-empty rows kids n cs in
+    let long : n < length cs = omega (arith, h, length-map sources source_of) in
+    let s : net.Source = get_or cs n (source_of d) in
+    let same : source_of (get_or sources n d) ≡ s = sym (get_or-map source_of sources n d) in
+    f ∙ ap₂ (λ v w. set v n w) e (ap (λ v. v ++ ts) empty ∙ g ∙ ap (λ v. first_of rows kids v) same) ∙ held-more rows kids n cs s long (again cs n (source_of d) long) ∙ ap (λ m. held_to rows kids m cs) (sym (add-one n))
+  where
+    again : {A : Type 0} (xs : List A) (n : ℕ) (d : A) → n < length xs → get_or xs n d ≡ get_or xs n (get_or xs n d)
+    again [] n d h = absurd (omega (arith, h))
+    again (x ∷ xs) zero d h = refl
+    again (x ∷ xs) (suc n) d h = again xs n d (omega (arith, h))

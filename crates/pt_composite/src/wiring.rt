@@ -1,0 +1,13 @@
+use pt_firing::Counts;
+use pt_sdf::Source;
+
+/// What a composite is round, but for its children: where its channels begin, how many places each child has, and how many
+/// own inputs and outputs there are. Channels are numbered by the places where they end: those of the children in order,
+/// then the own outputs.
+#[derive(Debug, Drop)]
+pub struct Wiring {
+    pub sources: Vec<Source>,
+    pub places: Counts,
+    pub inputs: u32,
+    pub outputs: u32,
+}
