@@ -244,10 +244,7 @@ fn fired(alloc: Global, case: &Case) -> Result<Option<Vec<u8>>, AllocError> {
         return Ok(None);
     }
     let mut copy = actor.copy(alloc)?;
-    Ok(Some(shown(
-        alloc,
-        &copy.step(alloc, START, &Inputs::of(&lists)),
-    )?))
+    Ok(Some(shown(alloc, &copy.step(alloc, START, &Inputs::of(&lists)))?))
 }
 
 #[test]

@@ -103,8 +103,8 @@ join-within (value_then v vs) t p =
     let b = join_of vs in
     normal-within (joined a b) t p
     ∙ same-tests (is_below (joined a b) t) (is_below a t && is_below b t)
-        (λ h. and_both (is_below a t) (is_below b t) (below-trans a (joined a b) t (joined-first a b) h) (below-trans b (joined a b) t (joined-second a b) h))
-        (λ h. joined-least a b t (and_left (is_below a t) (is_below b t) h) (and_right (is_below a t) (is_below b t) h))
+    (λ h. and_both (is_below a t) (is_below b t) (below-trans a (joined a b) t (joined-first a b) h) (below-trans b (joined a b) t (joined-second a b) h))
+    (λ h. joined-least a b t (and_left (is_below a t) (is_below b t) h) (and_right (is_below a t) (is_below b t) h))
     ∙ ap (λ c. is_below a t && c) (join-within vs t p)
 
 pub array-within : (vs : Values) (t : Datatype) → is_proper (Array t) ≡ true → is_below (type_of_value (value.Array vs)) (Array t) ≡ each_below vs t
