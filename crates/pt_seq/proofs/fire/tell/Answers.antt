@@ -8,8 +8,8 @@ use Rattle.pt_seq.proofs.fire.tell.Goals.{then-child-via-then-child, then-child-
 pub returns-then-child-clause-outline : goal.returns-then-child-clause-outline
 returns-then-child-clause-outline c =
     elim c.then-child.branch [
-      then-child-via-then-child w ↦ ap (λ n. outline_of (shown_node n)) w.child-is
-    | then-child-via-else-child+then-is_err w ↦ ap (λ n. outline_of (shown_node n)) w.child-is ∙ outline_bare (shown_node w.note.new.self) (shown_node c.args.child.now) w.note.ensures.kept
+      | then-child-via-then-child w ↦ ap (λ n. outline_of (shown_node n)) w.child-is
+      | then-child-via-else-child+then-is_err w ↦ ap (λ n. outline_of (shown_node n)) w.child-is ∙ outline_bare (shown_node w.note.new.self) (shown_node c.args.child.now) w.note.ensures.kept
     ]
 
 pub returns-then-is_err-2-clause-outline : goal.returns-then-is_err-2-clause-outline
