@@ -17,7 +17,6 @@ use std::alloc::{AllocError, Global};
 const ORIGIN: Tag = Tag { time: 0, step: 0 };
 
 /// Fires an SDF top as the job says, until it ends or the firings of the tree are as many as the budget. What the tree has recorded then is the report of the run.
-/// After an `Err`, a fault or a spent budget the top fires no more.
 pub fn run(alloc: Global, top: &mut Node, job: &SdfJob, budget: u64) -> Result<Ended, AllocError>
     requires runnable { IsRunnable job.now.takes (shown_node top.old) }
     requires lists { length job.now.inputs.items ≡ length job.now.takes }
