@@ -22,3 +22,4 @@ mod wiring;
 
 pub use flattening::flatten;
 pub use net::{Channel, End, Net, NetDirector, NetEntity, NetPort, Transparent};
+pub use refusal::shown;

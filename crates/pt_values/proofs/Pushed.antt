@@ -1,6 +1,7 @@
 -- Parameters of a class, one by one.
-use Rattle.std.proofs.Common.{◌≡◌, inl, inr, ℕ, zero, suc, ◌+◌, ◌<◌, ◌++◌, List, [], ◌∷◌, length, get_or, take, map, sym, ap, subst, ◌∙◌, add-one, arith}
+use Rattle.std.proofs.Common.{◌≡◌, inl, inr, ℕ, zero, suc, ◌+◌, ◌<◌, ◌≤◌, ◌++◌, List, [], ◌∷◌, length, get_or, take, map, sym, ap, subst, ◌∙◌, add-one, arith}
 use Rattle.std.specs.Prelude.{Bool, Option}
+use Rattle.std.proofs.lemmas.List.{map-id}
 use Rattle.std.specs.List.{Contains, AllZip}
 use Rattle.pt_moml.specs.declared.code.Code.TheVariants as code
 use Rattle.pt_moml.specs.declared.job.Property.{Property}
@@ -18,7 +19,7 @@ use Rattle.pt_values.specs.Scopes.{text_of}
 use Rattle.pt_values.specs.Sites.{director_form}
 use Rattle.pt_values.specs.Told.{IsToldAt, IsVariableFault}
 use Rattle.pt_values.specs.ClassParameters.{IsParameterOf, IsFaultAmong, AreApart, IsClassFault}
-use Rattle.pt_values.proofs.Turns.{told_weaker, view-take, view-push}
+use Rattle.pt_values.proofs.Turns.{told_weaker, view-take, view-push, view-all}
 
 pushed : {A B : Type 0} (R : A → B → Type 0) (xs : List A) (ys : List B) (x : A) (y : B) → AllZip R xs ys → R x y → AllZip R (xs ++ x ∷ []) (ys ++ y ∷ [])
 pushed R [] [] x y h r = (r, tt)
@@ -31,13 +32,23 @@ seen-at [] i p short is = absurd (omega arith)
 seen-at (q ∷ ps) zero p short is = (0, omega arith, ap property_view (sym is))
 seen-at (q ∷ ps) (suc i) p short is = let w = seen-at ps i p (omega arith) is in (suc w.0, omega (arith, w.1), w.2)
 
--- one property more, of which the same holds
-pub zip-more : {A B : Type 0} (R : PropertyTree → B → Type 0) (view : A → B) (ps : List Property) (i : ℕ) (p : Property) → i < length ps → p ≡ get_or ps i p → (xs : List A) (x : A) → AllZip R (properties_view (take i ps)) (map view xs) → R (property_view p) (view x) → AllZip R (properties_view (take (i + 1) ps)) (map view (xs ++ x ∷ []))
-zip-more R view ps i p short is xs x each here =
-    let more : properties_view (take (i + 1) ps) ≡ properties_view (take i ps) ++ property_view p ∷ [] = ap (λ k. properties_view (take k ps)) (add-one i) ∙ view-take property_view ps i p short is in
-    subst (λ us. AllZip R (properties_view (take (i + 1) ps)) us) (sym (view-push view xs x))
-    (subst (λ (qs : List PropertyTree). AllZip R qs (map view xs ++ view x ∷ [])) (sym more)
-    (pushed R (properties_view (take i ps)) (map view xs) (property_view p) (view x) each here))
+-- one thing more, of which the same holds
+pub zip-more : {A B X Y : Type 0} (R : X → Y → Type 0) (seen : A → X) (view : B → Y) (ps : List A) (i : ℕ) (p : A) → i < length ps → p ≡ get_or ps i p → (xs : List B) (x : B) → AllZip R (map seen (take i ps)) (map view xs) → R (seen p) (view x) → AllZip R (map seen (take (i + 1) ps)) (map view (xs ++ x ∷ []))
+zip-more R seen view ps i p short is xs x each here =
+    let more : map seen (take (i + 1) ps) ≡ map seen (take i ps) ++ seen p ∷ [] = ap (λ k. map seen (take k ps)) (add-one i) ∙ view-take seen ps i p short is in
+    subst (λ us. AllZip R (map seen (take (i + 1) ps)) us) (sym (view-push view xs x))
+    (subst (λ qs. AllZip R qs (map view xs ++ view x ∷ [])) (sym more)
+    (pushed R (map seen (take i ps)) (map view xs) (seen p) (view x) each here))
+
+-- the same where the things themselves are looked at
+pub zip-next : {A B Y : Type 0} (R : A → Y → Type 0) (view : B → Y) (ps : List A) (i : ℕ) (p : A) → i < length ps → p ≡ get_or ps i p → (xs : List B) (x : B) → AllZip R (take i ps) (map view xs) → R p (view x) → AllZip R (take (i + 1) ps) (map view (xs ++ x ∷ []))
+zip-next R view ps i p short is xs x each here =
+    subst (λ qs. AllZip R qs (map view (xs ++ x ∷ []))) (map-id (take (i + 1) ps))
+    (zip-more R (λ q. q) view ps i p short is xs x (subst (λ qs. AllZip R qs (map view xs)) (sym (map-id (take i ps))) each) here)
+
+-- once all things are gone through
+pub zip-all : {A X Y : Type 0} (R : X → Y → Type 0) (seen : A → X) (ps : List A) (i : ℕ) (ys : List Y) → length ps ≤ i → AllZip R (map seen (take i ps)) ys → AllZip R (map seen ps) ys
+zip-all R seen ps i ys h each = subst (λ qs. AllZip R qs ys) (view-all seen ps i h) each
 
 pub variable-fault : (scope : Scope) (ps : List Property) (i : ℕ) (p : Property) (words : List ℕ) → i < length ps → p ≡ get_or ps i p → words ≡ text_of (property_view p) → (path : List ℕ) (told : DocFault) → IsToldAt path (IsTextFault scope words) told → IsToldAt path (IsVariableFault scope (properties_view ps)) told
 variable-fault scope ps i p words short is says path told h =

@@ -1,18 +1,15 @@
 -- What the program has of the composites that it has gone through.
-use Rattle.std.specs.Prelude.{◌≡◌, ℕ, ◌<◌, List, [], length, All, Option, Some, None, option_map, slice_get}
+use Rattle.std.specs.Prelude.{◌≡◌, ℕ, ◌<◌, List, [], length, Option, Some, None, option_map, slice_get}
+use Rattle.std.specs.List.{All}
 use Rattle.pt_parameter.specs.declared.names.Names.{Names}
 use Rattle.pt_parameter.specs.Names.{in_chain}
 use Rattle.pt_values.specs.declared.scopes.Scopes.{Scopes}
 use Rattle.pt_values.specs.Scopes.{NetTree, Bindings, bound, Sees}
 
-abbrev pub joined : {A : Type 0} → Option (Option A) → Option A
-joined None = None
-joined (Some held) = held
-
 -- which frames are seen in a composite, where it is gone through
 abbrev pub chain_at : Scopes → Option ℕ → Option ℕ → Option (List ℕ)
 chain_at s (Some t) parent = option_map (λ chain. chain.items) (slice_get s.transparent.items t)
-chain_at s None (Some k) = option_map (λ chain. chain.items) (joined (slice_get s.opaque.items k))
+chain_at s None (Some k) = option_map (λ chain. chain.items) (slice_get s.opaque.items k)
 chain_at s None None = Some []
 
 -- these frames hold what these bindings say

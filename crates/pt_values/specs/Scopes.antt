@@ -1,5 +1,5 @@
 -- Which parameters an expression sees.
-use Rattle.std.specs.Prelude.{◌≡◌, ℕ, List, [], ◌∷◌, map, Option, Some, None, unwrap_or, bytes_eq, if◌then◌else◌, slice_get}
+use Rattle.std.specs.Prelude.{◌≡◌, ℕ, List, [], ◌∷◌, map, Bool, ◌||◌, Option, Some, None, unwrap_or, bytes_eq, codes, if◌then◌else◌, slice_get}
 use Rattle.pt_value.specs.Value.{Value}
 use Rattle.pt_moml.specs.Document.{PropertyTree, property_name, property_value, InputTree}
 use Rattle.pt_moml.specs.View.{input_view}
@@ -40,12 +40,20 @@ abbrev pub Extends : Bindings → List PropertyTree → Bindings → Type 0
 Extends around [] inner = inner ≡ around
 Extends around (p ∷ ps) inner = (entry : Option Value) × ComesTo (bound around) (text_of p) entry × Extends ((property_name p, entry) ∷ around) ps inner
 
+-- a composite has parameters that its children see; those of an actor are its class's
+abbrev pub is_composite_class : List ℕ → Bool
+is_composite_class class = bytes_eq class (codes "Composite") || bytes_eq class (codes "Modal")
+
+-- the parameters of an entity that are seen in it
+abbrev pub seen_parameters : NetEntityTree → List PropertyTree
+seen_parameters e = if is_composite_class e.class then e.parameters else []
+
 -- what is seen in composites: where the innermost one is transparent its number is given, and else that of the innermost
 -- opaque one; at the top nothing is
 pub data Sees (net : NetTree) : Option ℕ → Option ℕ → Bindings → Type 0 where
   at_top : Sees net None None []
   in_transparent : (t : ℕ) (c : TransparentTree) (parent : Option ℕ) (around inner : Bindings) → slice_get net.transparent t ≡ Some c → Sees net c.within c.parent around → Extends around c.parameters inner → Sees net (Some t) parent inner
-  in_opaque : (k : ℕ) (e : NetEntityTree) (around inner : Bindings) → slice_get net.entities k ≡ Some e → Sees net e.within e.parent around → Extends around e.parameters inner → Sees net None (Some k) inner
+  in_opaque : (k : ℕ) (e : NetEntityTree) (around inner : Bindings) → slice_get net.entities k ≡ Some e → Sees net e.within e.parent around → Extends around (seen_parameters e) inner → Sees net None (Some k) inner
 
 -- from what is seen round a composite on: what this one of its parameters sees
 pub data IsSeenBy (q : PropertyTree) (seen : Bindings) : Bindings → List PropertyTree → Type 0 where

@@ -1,5 +1,5 @@
 -- Where the texts of a net stand, and where it is at fault in them.
-use Rattle.std.specs.Prelude.{◌≡◌, ℕ, List, [], map, filter, Bool, true, false, IsTrue, ◌||◌, Option, Some, None, option_map, bytes_eq, codes, if◌then◌else◌}
+use Rattle.std.specs.Prelude.{◌≡◌, ℕ, List, [], map, filter, Bool, true, false, IsTrue, Option, Some, None, option_map, bytes_eq, codes, if◌then◌else◌}
 use Rattle.std.specs.List.{Contains, find}
 use Rattle.pt_moml.specs.declared.code.Code.{Code}
 use Rattle.pt_moml.specs.declared.job.Direction.{Direction}
@@ -12,14 +12,10 @@ use Rattle.pt_parameter.specs.declared.form.Form.{Form}
 use Rattle.pt_parameter.specs.declared.form.Form.TheVariants as form
 use Rattle.pt_parameter.specs.declared.tables.TheConstants.{RATE}
 use Rattle.pt_parameter.specs.Forms.{form_of}
-use Rattle.pt_values.specs.Scopes.{NetTree, Bindings, bound, text_of, Extends, Sees, IsSeenBy}
+use Rattle.pt_values.specs.Scopes.{NetTree, Bindings, bound, text_of, is_composite_class, seen_parameters, Extends, Sees, IsSeenBy}
 use Rattle.pt_parameter.specs.Given.{names_port, IsGivenFault}
 
 -- ---- parts of entities
-
--- a composite has parameters that its children see; those of an actor are its class's
-abbrev pub is_composite_class : List ℕ → Bool
-is_composite_class class = bytes_eq class (codes "Composite") || bytes_eq class (codes "Modal")
 
 -- the form of a parameter of a director; how often a composite below the top would fire by itself isn't looked at
 abbrev pub director_form : Option ℕ → List ℕ → List ℕ → Form
@@ -74,8 +70,8 @@ pub data HasSite (net : NetTree) : Site → Type 0 where
   -- a parameter of an actor sees those of the composites round it
   of_actor : (e : NetEntityTree) (around : Bindings) (p : PropertyTree) → Contains net.entities e → is_composite_class e.class ≡ false → Sees net e.within e.parent around → Contains e.parameters p → HasSite net (site e.path (inputs_of e) around (form_of e.class (property_name p)) (text_of p))
   -- a parameter of a director sees those of its own composite too, and so does the first value of a Variable
-  of_director : (e : NetEntityTree) (d : DirectorTree) (around inner : Bindings) (p : PropertyTree) → Contains net.entities e → e.director ≡ Some d → Sees net e.within e.parent around → Extends around e.parameters inner → Contains d.parameters p → HasSite net (site e.path [] inner (director_form e.parent d.class (property_name p)) (text_of p))
-  of_variable : (e : NetEntityTree) (around inner : Bindings) (p : PropertyTree) → Contains net.entities e → Sees net e.within e.parent around → Extends around e.parameters inner → Contains e.variables p → HasSite net (site e.path [] inner form.Any (text_of p))
+  of_director : (e : NetEntityTree) (d : DirectorTree) (around inner : Bindings) (p : PropertyTree) → Contains net.entities e → e.director ≡ Some d → Sees net e.within e.parent around → Extends around (seen_parameters e) inner → Contains d.parameters p → HasSite net (site e.path [] inner (director_form e.parent d.class (property_name p)) (text_of p))
+  of_variable : (e : NetEntityTree) (around inner : Bindings) (p : PropertyTree) → Contains net.entities e → Sees net e.within e.parent around → Extends around (seen_parameters e) inner → Contains e.variables p → HasSite net (site e.path [] inner form.Any (text_of p))
   -- rates and what comes to inputs see nothing
   of_port : (e : NetEntityTree) (p : PortTree) (text : List ℕ) → Contains net.entities e → Contains e.ports p → rate_of p ≡ Some text → HasSite net (site e.path [] [] RATE text)
   of_input : (i : InputTree) (text : List ℕ) → Contains net.inputs i → Contains (texts_of_supply i.supply) (Some text) → HasSite net (site (shown i.port) [] [] form.Any text)

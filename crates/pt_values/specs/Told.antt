@@ -1,20 +1,26 @@
 -- What is told of the texts of a net.
-use Rattle.std.specs.Prelude.{◌≡◌, ℕ, List, Some, option_map}
-use Rattle.std.specs.List.{Contains}
+use Rattle.std.specs.Prelude.{◌≡◌, ℕ, List, [], Option, Some, None, option_map}
+use Rattle.std.specs.List.{Contains, AllZip}
 use Rattle.pt_value.specs.Value.{Value}
 use Rattle.pt_expr.specs.Scope.{Scope}
 use Rattle.pt_moml.specs.declared.code.Code.{Code}
 use Rattle.pt_moml.specs.declared.refusal.DocFault.{DocFault}
 use Rattle.pt_moml.specs.declared.refusal.DocFault.TheVariants as faults
-use Rattle.pt_moml.specs.Document.{PropertyTree}
+use Rattle.pt_moml.specs.Document.{PropertyTree, PortTree}
 use Rattle.pt_moml.specs.Outcome.{IsRefusal}
+use Rattle.pt_graph.specs.Net.{NetEntityTree, TransparentTree, DirectorTree}
 use Rattle.pt_parameter.specs.declared.fault.TextFault.{TextFault}
 use Rattle.pt_parameter.specs.declared.fault.TextFault.TheVariants as text
 use Rattle.pt_parameter.specs.declared.names.Names.{Names}
+use Rattle.pt_parameter.specs.declared.tables.TheConstants.{RATE}
+use Rattle.pt_parameter.specs.Given.{Held, names_port, IsValueFault}
 use Rattle.pt_parameter.specs.Names.{held, or_else, in_chain}
 use Rattle.pt_parameter.specs.Texts.{IsTextFault}
-use Rattle.pt_values.specs.Scopes.{Bindings, bound, text_of, IsSeenBy}
-use Rattle.pt_values.specs.Valued.{AreInTurn}
+use Rattle.pt_values.specs.Scopes.{NetTree, Bindings, bound, text_of, is_composite_class, Sees, IsSeenBy}
+use Rattle.pt_values.specs.Frames.{Means}
+use Rattle.pt_values.specs.Sites.{rate_of}
+use Rattle.pt_values.specs.Valued.{EntityView, AreInTurn, AreOwn, AreOfDirector, IsVariable, IsRate, IsFaultOf}
+use Rattle.pt_values.specs.ClassParameters.{IsClassFault}
 
 -- the fault of a text, told at this path
 abbrev pub IsToldAs : List ℕ → TextFault → DocFault → Type 0
@@ -48,3 +54,53 @@ pub record IsVariableFault (scope : Scope) (ps : List PropertyTree) (cause : Cod
   pub property : PropertyTree
   pub there : Contains ps property
   pub fault : IsTextFault scope (text_of property) cause
+
+-- ---- an entity
+
+-- what is seen in a chain of composites
+abbrev pub chain_scope : List Names → List ℕ → Scope
+chain_scope frames chain name = option_map Some (in_chain frames chain name)
+
+-- an entity has these parameters, and the names hold what is seen of them in it
+pub record IsOwn (around : Bindings) (frames : List Names) (chain : List ℕ) (e : NetEntityTree) (own : Names) (hs : List Held) : Type 0 where
+  pub inner : Bindings
+  pub parameters : AreOwn (is_composite_class e.class) e around hs inner
+  pub means : MeansWith own frames chain inner
+
+-- where this is seen in an entity, what stands there beside its parameters comes to this
+pub record IsRest (scope : Scope) (e : NetEntityTree) (v : EntityView) : Type 0 where
+  pub director : AreOfDirector e.parent e.director scope v.director
+  pub variables : AllZip (IsVariable scope) e.variables v.variables
+  pub rates : AllZip IsRate e.ports v.rates
+
+-- an entity has what is told of it, and the names hold what is seen in it
+pub record IsEntityIn (around : Bindings) (frames : List Names) (chain : List ℕ) (e : NetEntityTree) (own : Names) (v : EntityView) : Type 0 where
+  pub inner : Bindings
+  pub parameters : AreOwn (is_composite_class e.class) e around v.parameters inner
+  pub rest : IsRest (bound inner) e v
+  pub means : MeansWith own frames chain inner
+
+-- at what the parameters of a director are at fault
+abbrev pub IsDirectorFault : Option ℕ → Option DirectorTree → Scope → Code → Type 0
+IsDirectorFault parent None scope cause = ⊥
+IsDirectorFault parent (Some d) scope cause = IsClassFault (names_port []) scope parent d.class d.parameters cause
+
+-- the rate of one of these ports is at fault for this cause
+pub record IsRateFault (ports : List PortTree) (cause : Code) : Type 0 where
+  pub port : PortTree
+  pub there : Contains ports port
+  pub text : List ℕ
+  pub declared : rate_of port ≡ Some text
+  pub fault : IsValueFault (bound []) RATE text cause
+
+-- wherever an entity stands in a net, and these frames hold what is seen round it, a fault is one of the net
+abbrev pub IsFaultWhere : List Names → List ℕ → NetEntityTree → DocFault → Type 0
+IsFaultWhere frames chain e fault = (net : NetTree) (around : Bindings) → Contains net.entities e → Sees net e.within e.parent around → Means frames chain around → IsFaultOf net fault
+
+-- ---- an input
+
+-- a text of what comes to an input is at fault for this cause
+pub record IsSupplyFault (texts : List (Option (List ℕ))) (cause : Code) : Type 0 where
+  pub text : List ℕ
+  pub there : Contains texts (Some text)
+  pub fault : IsTextFault (bound []) text cause

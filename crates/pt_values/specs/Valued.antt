@@ -1,8 +1,11 @@
 -- What the texts of a net come to, and where one is refused.
-use Rattle.std.specs.Prelude.{◌≡◌, ℕ, List, [], ◌∷◌, map, Bool, true, false, IsTrue, Option, Some, None, option_map}
+use Rattle.std.specs.Prelude.{◌≡◌, ℕ, List, [], ◌∷◌, map, Bool, true, false, IsTrue, Option, Some, None, option_map, Vec}
+use Rattle.std.specs.Global.{Global}
 use Rattle.std.specs.List.{Contains, AllZip}
+use Rattle.pt_value.specs.declared.token.Token.{Token as HeldToken}
 use Rattle.pt_value.specs.Value.{Value}
 use Rattle.pt_value.specs.Token.{value_of}
+use Rattle.pt_expr.specs.Scope.{Scope}
 use Rattle.pt_moml.specs.declared.code.Code.{Code}
 use Rattle.pt_moml.specs.declared.code.Code.TheVariants as code
 use Rattle.pt_moml.specs.declared.refusal.DocFault.{DocFault}
@@ -14,9 +17,9 @@ use Rattle.pt_values.specs.declared.values.EntityValues.{EntityValues}
 use Rattle.pt_values.specs.declared.values.Values.{Values}
 use Rattle.pt_parameter.specs.Forms.{fits}
 use Rattle.pt_parameter.specs.Texts.{HasValue}
-use Rattle.pt_values.specs.Scopes.{NetTree, Bindings, bound, text_of, Sees, Extends}
+use Rattle.pt_values.specs.Scopes.{NetTree, Bindings, bound, text_of, is_composite_class, seen_parameters, Sees, Extends}
 use Rattle.pt_parameter.specs.Given.{Held, Token, held_view, names_port}
-use Rattle.pt_values.specs.Sites.{is_composite_class, rate_of, inputs_of, texts_of_supply, Site, HasSite, IsFaultAt}
+use Rattle.pt_values.specs.Sites.{rate_of, inputs_of, texts_of_supply, Site, HasSite, IsFaultAt}
 use Rattle.pt_values.specs.ClassParameters.{AreParametersOf, AreApart}
 
 -- ---- what the program holds
@@ -39,18 +42,18 @@ AreInTurn around [] (v ∷ vs) inner = ⊥
 AreInTurn around (p ∷ ps) [] inner = ⊥
 AreInTurn around (p ∷ ps) (v ∷ vs) inner = HasValue (bound around) (text_of p) v × AreInTurn ((property_name p, Some v) ∷ around) ps vs inner
 
--- the parameters of an entity, up to what its children see
+-- the parameters of an entity, up to what is seen in it
 abbrev pub AreOwn : Bool → NetEntityTree → Bindings → List Held → Bindings → Type 0
 AreOwn true e around hs inner = (vs : List Value) × (hs ≡ map Token vs) × AreInTurn around e.parameters vs inner
-AreOwn false e around hs inner = AreParametersOf (names_port (inputs_of e)) (bound around) None e.class e.parameters hs
+AreOwn false e around hs inner = (inner ≡ around) × AreParametersOf (names_port (inputs_of e)) (bound around) None e.class e.parameters hs
 
 -- the parameters of a director
-abbrev pub AreOfDirector : Option ℕ → Option DirectorTree → Bindings → List Held → Type 0
-AreOfDirector parent None inner hs = hs ≡ []
-AreOfDirector parent (Some d) inner hs = AreParametersOf (names_port []) (bound inner) parent d.class d.parameters hs
+abbrev pub AreOfDirector : Option ℕ → Option DirectorTree → Scope → List Held → Type 0
+AreOfDirector parent None scope hs = hs ≡ []
+AreOfDirector parent (Some d) scope hs = AreParametersOf (names_port []) scope parent d.class d.parameters hs
 
-abbrev pub IsVariable : Bindings → PropertyTree → Value → Type 0
-IsVariable inner p v = HasValue (bound inner) (text_of p) v
+abbrev pub IsVariable : Scope → PropertyTree → Value → Type 0
+IsVariable scope p v = HasValue scope (text_of p) v
 
 abbrev pub IsRateIn : Option (List ℕ) → Option Value → Type 0
 IsRateIn None None = Unit {0}
@@ -68,10 +71,9 @@ pub record IsEntityValued (net : NetTree) (e : NetEntityTree) (v : EntityView) :
   pub around : Bindings
   pub sees : Sees net e.within e.parent around
   pub inner : Bindings
-  pub behind : IsTrue (is_composite_class e.class) → Extends around e.parameters inner
   pub parameters : AreOwn (is_composite_class e.class) e around v.parameters inner
-  pub director : AreOfDirector e.parent e.director inner v.director
-  pub variables : AllZip (IsVariable inner) e.variables v.variables
+  pub director : AreOfDirector e.parent e.director (bound inner) v.director
+  pub variables : AllZip (IsVariable (bound inner)) e.variables v.variables
   pub rates : AllZip IsRate e.ports v.rates
 
 pub record IsTransparentValued (net : NetTree) (c : TransparentTree) (vs : List Value) : Type 0 where
@@ -90,13 +92,16 @@ IsSupplied (Some text) (Some v) = HasValue (bound []) text v
 abbrev pub IsInputValued : InputTree → List (Option Value) → Type 0
 IsInputValued i vs = AllZip IsSupplied (texts_of_supply i.supply) vs
 
+abbrev pub transparent_values : List (Vec HeldToken Global) → List (List Value)
+transparent_values vs = map (λ ts. map value_of ts.items) vs
+
 abbrev pub inputs_view : Values → List (List (Option Value))
 inputs_view values = map (λ ts. map (option_map value_of) ts.items) values.inputs.items
 
 -- what the texts of a net come to
 pub record IsValued (net : NetTree) (values : Values) : Type 0 where
   pub entities : AllZip (IsEntityValued net) net.entities (map entity_view values.entities.items)
-  pub transparent : AllZip (IsTransparentValued net) net.transparent (map (λ ts. map value_of ts.items) values.transparent.items)
+  pub transparent : AllZip (IsTransparentValued net) net.transparent (transparent_values values.transparent.items)
   pub inputs : AllZip IsInputValued net.inputs (inputs_view values)
 
 -- ---- faults
@@ -104,7 +109,7 @@ pub record IsValued (net : NetTree) (values : Values) : Type 0 where
 -- the parameters of an entity or of its director have their forms and don't agree, at this path
 pub data IsDisagreement (net : NetTree) : List ℕ → Type 0 where
   of_actor : (e : NetEntityTree) (around : Bindings) → Contains net.entities e → is_composite_class e.class ≡ false → Sees net e.within e.parent around → AreApart (names_port (inputs_of e)) (bound around) None e.class e.parameters → IsDisagreement net e.path
-  of_director : (e : NetEntityTree) (d : DirectorTree) (around inner : Bindings) → Contains net.entities e → e.director ≡ Some d → Sees net e.within e.parent around → Extends around e.parameters inner → AreApart (names_port []) (bound inner) e.parent d.class d.parameters → IsDisagreement net e.path
+  of_director : (e : NetEntityTree) (d : DirectorTree) (around inner : Bindings) → Contains net.entities e → e.director ≡ Some d → Sees net e.within e.parent around → Extends around (seen_parameters e) inner → AreApart (names_port []) (bound inner) e.parent d.class d.parameters → IsDisagreement net e.path
 
 -- this cause to refuse, among those of values, stands at that path of a net
 pub data Stands (net : NetTree) : Code → List ℕ → Type 0 where

@@ -17,7 +17,7 @@ pub loop-property-preserved : goal.loop-property-preserved
 loop-property-preserved c =
     let R : PropertyTree → Value → Type 0 = λ p v. HasValue (seen_scope c.args.seen.now) (text_of p) v in
     let here : R (property_view c.property-item.result) (value_of c.in_ok-token.token) = subst (λ (ws : List ℕ). HasValue (seen_scope c.args.seen.now) ws (value_of c.in_ok-token.token)) c.text_of.ensures c.in_ok-token.ensures.ok in
-    let more = zip-more R value_of c.args.properties.now c.loop-property.property-index c.property-item.result c.loop-property-test.true c.property-item.is c.loop-property.tokens.items c.in_ok-token.token c.loop-property.invariant here in
+    let more = zip-more R property_view value_of c.args.properties.now c.loop-property.property-index c.property-item.result c.loop-property-test.true c.property-item.is c.loop-property.tokens.items c.in_ok-token.token c.loop-property.invariant here in
     subst (λ (ts : List Token). AllZip R (properties_view (take (c.loop-property.property-index + 1) c.args.properties.now)) (map value_of ts)) (sym c.in_ok-push.ensures.items) more
 
 pub returns-in_err-token-clause-told : goal.returns-in_err-token-clause-told
