@@ -64,9 +64,9 @@ seen-inside net frames own within parent chain inner h means sees = record {
   bindings = inner;
   sees = sees;
   means =
-    λ name.
-    ap (option_map Some) (ap (λ f. or_else (held_at f name) (in_chain (frames ++ own ∷ []) chain name)) (get-last frames own) ∙ ap (or_else (held own name)) (chain-stays frames own chain name h))
-    ∙ means name;
+      λ name.
+      ap (option_map Some) (ap (λ f. or_else (held_at f name) (in_chain (frames ++ own ∷ []) chain name)) (get-last frames own) ∙ ap (or_else (held own name)) (chain-stays frames own chain name h))
+      ∙ means name;
   inside = All-cons (λ k. k < length (frames ++ own ∷ [])) (length frames) chain (omega (arith, length-append frames (own ∷ []))) (wider frames own chain h);
 }
 

@@ -24,11 +24,7 @@ fn token(alloc: Global, path: &str, text: &Option<Text>) -> Result<Option<Token>
     }
 }
 
-fn tokens(
-    alloc: Global,
-    path: &str,
-    texts: &[Option<Text>],
-) -> Result<Vec<Option<Token>>, DocFault>
+fn tokens(alloc: Global, path: &str, texts: &[Option<Text>]) -> Result<Vec<Option<Token>>, DocFault>
     ensures ok { IfOk result (λ tokens. AllZip IsSupplied texts.now (map (option_map value_of) tokens.items)) }
     ensures told { IfErr result (IsToldAt path.now (IsSupplyFault texts.now)) }
 {
@@ -39,11 +35,7 @@ fn tokens(
     Ok(tokens)
 }
 
-fn event_tokens(
-    alloc: Global,
-    path: &str,
-    events: &[Event],
-) -> Result<Vec<Option<Token>>, DocFault>
+fn event_tokens(alloc: Global, path: &str, events: &[Event]) -> Result<Vec<Option<Token>>, DocFault>
     ensures ok { IfOk result (λ tokens. AllZip IsSupplied (map event_text events.now) (map (option_map value_of) tokens.items)) }
     ensures told { IfErr result (IsToldAt path.now (IsSupplyFault (map event_text events.now))) }
 {

@@ -17,6 +17,3 @@ pub use parameters::{in_turn, value_at, variables};
 pub use scopes::Scopes;
 pub use values::{EntityValues, Values};
 pub use walk::{Walk, values_of};
-
-#[cfg(test)]
-mod tests;
