@@ -1,3 +1,3 @@
 pub mod Rows
-pub mod Typing
-pub mod Faults
+pub mod Frames
+pub mod Inequalities

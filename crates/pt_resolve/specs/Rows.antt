@@ -55,10 +55,9 @@ elements_type (Array vs) = join_of vs
 elements_type v = Unknown
 
 -- the type of what passes of a value
-abbrev pub seeded : Option Seed → Value → Datatype
-seeded None v = Unknown
-seeded (Some seed.Whole) v = type_of_value v
-seeded (Some seed.Elements) v = elements_type v
+abbrev pub seeded : Seed → Value → Datatype
+seeded seed.Whole v = type_of_value v
+seeded seed.Elements v = elements_type v
 
 -- the type of what passes where such a parameter isn't given
 abbrev pub standard_type : Standard → Datatype
