@@ -1,6 +1,9 @@
 -- Which parameters are seen where, with the values that they have.
 use Rattle.std.specs.Prelude.{ℕ, ◌+◌, zero, suc, List, [], ◌∷◌, length, map, Option, Some, None, option_map, slice_get, bytes_eq, if◌then◌else◌}
 use Rattle.pt_value.specs.Value.{Value}
+use Rattle.std.specs.Prelude.{Vec}
+use Rattle.std.specs.Global.{Global}
+use Rattle.pt_value.specs.declared.token.Token.{Token}
 use Rattle.pt_value.specs.Token.{value_of}
 use Rattle.pt_moml.specs.Document.{PropertyTree, property_name}
 use Rattle.pt_types.specs.Token.{type_of_value}
@@ -9,56 +12,88 @@ use Rattle.pt_graph.specs.declared.net.NetEntity.{NetEntity}
 use Rattle.pt_graph.specs.declared.net.Transparent.{Transparent}
 use Rattle.pt_graph.specs.declared.net.Net.{Net}
 use Rattle.pt_moml.specs.View.{properties_view}
-use Rattle.pt_parameter.specs.Given.{Held, Token, Read, Word, held_view}
+use Rattle.pt_parameter.specs.declared.parameter_value.ParameterValue.{ParameterValue}
+use Rattle.pt_parameter.specs.Given as held
+use Rattle.pt_parameter.specs.Given.{Held, held_view}
 use Rattle.pt_values.specs.declared.values.EntityValues.{EntityValues}
 use Rattle.pt_values.specs.declared.values.Values.{Values}
 
 -- the values under names
-abbrev pub Held_names : Type 0
-Held_names = List ℕ → Option Value
+abbrev pub Names : Type 0
+Names = List ℕ → Option Value
 
-abbrev pub no_names : Held_names
+-- the first of a list, and those behind it
+abbrev pub first : {A : Type 0} → List A → Option A
+first [] = None
+first (x ∷ xs) = Some x
+
+abbrev pub behind : {A : Type 0} → List A → List A
+behind [] = []
+behind (x ∷ xs) = xs
+
+abbrev pub joined : {A : Type 0} → Option (Option A) → Option A
+joined None = None
+joined (Some o) = o
+
+abbrev pub no_names : Names
 no_names name = None
 
-abbrev pub put : List ℕ → Value → Held_names → Held_names
-put name v held other = if bytes_eq name other then Some v else held other
+abbrev pub put : List ℕ → Value → Names → Names
+put name v names other = if bytes_eq name other then Some v else names other
 
 -- with the parameters that have values, each in place of one of its name before it
-abbrev pub with_given : Held_names → List PropertyTree → List Held → Held_names
-with_given held [] hs = held
-with_given held (p ∷ ps) [] = with_given held ps []
-with_given held (p ∷ ps) (Token v ∷ hs) = with_given (put (property_name p) v held) ps hs
-with_given held (p ∷ ps) (Read t ∷ hs) = with_given held ps hs
-with_given held (p ∷ ps) (Word ∷ hs) = with_given held ps hs
+abbrev pub with_value : Names → List ℕ → Option Value → Names
+with_value names name None = names
+with_value names name (Some v) = put name v names
+
+abbrev pub with_given : Names → List PropertyTree → List (Option Value) → Names
+with_given names [] vs = names
+with_given names (p ∷ ps) vs = with_given (with_value names (property_name p) (joined (first vs))) ps (behind vs)
+
+-- the value of a parameter, where it is evaluated
+abbrev pub value_held : Held → Option Value
+value_held (held.Token v) = Some v
+value_held (held.Read t) = None
+value_held held.Word = None
 
 -- an entity or a transparent composite: the composite round it, and the values of its parameters
 pub record Frame : Type 0 where
   pub within : Option ℕ
   pub parent : Option ℕ
-  pub values : Held_names
+  pub values : Names
 
-abbrev pub given_of : Option EntityValues → List Held
+abbrev pub values_held : ParameterValue → Option Value
+values_held v = value_held (held_view v)
+
+abbrev pub some_value : Token → Option Value
+some_value t = Some (value_of t)
+
+abbrev pub given_of : Option EntityValues → List (Option Value)
 given_of None = []
-given_of (Some v) = map held_view v.parameters.items
+given_of (Some v) = map values_held v.parameters.items
 
 abbrev pub entity_frame : NetEntity → Option EntityValues → Frame
 entity_frame e v = record { within = e.within; parent = e.parent; values = with_given no_names (properties_view e.parameters.items) (given_of v) }
 
-abbrev pub all_given : List Value → List Held
-all_given vs = map Token vs
+abbrev pub values_of_tokens : Option (Vec Token Global) → List (Option Value)
+values_of_tokens None = []
+values_of_tokens (Some ts) = map some_value ts.items
 
-abbrev pub transparent_frame : Transparent → List Value → Frame
-transparent_frame c vs = record { within = c.within; parent = c.parent; values = with_given no_names (properties_view c.parameters.items) (all_given vs) }
+abbrev pub transparent_frame : Transparent → Option (Vec Token Global) → Frame
+transparent_frame c ts = record { within = c.within; parent = c.parent; values = with_given no_names (properties_view c.parameters.items) (values_of_tokens ts) }
 
 abbrev pub entity_frames : List NetEntity → List EntityValues → List Frame
 entity_frames [] vs = []
-entity_frames (e ∷ es) [] = entity_frame e None ∷ entity_frames es []
-entity_frames (e ∷ es) (v ∷ vs) = entity_frame e (Some v) ∷ entity_frames es vs
+entity_frames (e ∷ es) vs = entity_frame e (first vs) ∷ entity_frames es (behind vs)
 
-abbrev pub transparent_frames : List Transparent → List (List Value) → List Frame
+abbrev pub transparent_frames : List Transparent → List (Vec Token Global) → List Frame
 transparent_frames [] vs = []
-transparent_frames (c ∷ cs) [] = transparent_frame c [] ∷ transparent_frames cs []
-transparent_frames (c ∷ cs) (v ∷ vs) = transparent_frame c v ∷ transparent_frames cs vs
+transparent_frames (c ∷ cs) vs = transparent_frame c (first vs) ∷ transparent_frames cs (behind vs)
+
+-- the value that the program holds for a parameter
+abbrev pub held_of : Option ParameterValue → Option Value
+held_of None = None
+held_of (Some v) = values_held v
 
 -- the entities and the transparent composites of a net
 pub record Frames : Type 0 where
@@ -68,7 +103,7 @@ pub record Frames : Type 0 where
 abbrev pub frames_of : Net → Values → Frames
 frames_of net values = record {
   entities = entity_frames net.entities.items values.entities.items;
-  transparent = transparent_frames net.transparent.items (map (λ ts. map value_of ts.items) values.transparent.items);
+  transparent = transparent_frames net.transparent.items values.transparent.items;
 }
 
 -- the innermost composite: the transparent one where there is one, and else the opaque one
@@ -77,19 +112,19 @@ innermost frames (Some t) parent = slice_get frames.transparent t
 innermost frames None (Some k) = slice_get frames.entities k
 innermost frames None None = None
 
+-- the value under a name in this composite, or else in one further out
+abbrev pub seen_from : (Option ℕ → Option ℕ → Names) → Option Frame → Names
+seen_from outer None name = None
+seen_from outer (Some f) name = or_else (f.values name) (outer f.within f.parent name)
+
 -- the value under a name in the nearest composite that has it, out over so many composites at most
-abbrev mutual
-  pub seen_within : ℕ → Frames → Option ℕ → Option ℕ → Held_names
-  seen_within zero frames within parent name = None
-  seen_within (suc n) frames within parent name = seen_from n frames (innermost frames within parent) name
+abbrev pub seen_within : ℕ → Frames → Option ℕ → Option ℕ → Names
+seen_within zero frames within parent name = None
+seen_within (suc n) frames within parent name = seen_from (seen_within n frames) (innermost frames within parent) name
 
-  pub seen_from : ℕ → Frames → Option Frame → Held_names
-  seen_from n frames None name = None
-  seen_from n frames (Some f) name = or_else (f.values name) (seen_within n frames f.within f.parent name)
-
--- what is seen there. No composite stands in itself, so there are at most all of them
-abbrev pub seen : Frames → Option ℕ → Option ℕ → Held_names
-seen frames within parent name = seen_within (length frames.entities + length frames.transparent) frames within parent name
+-- what is seen there. The entities of a document nest at most 16 deep
+abbrev pub seen : Frames → Option ℕ → Option ℕ → Names
+seen frames within parent name = seen_within 16 frames within parent name
 
 -- the types of what is seen
 abbrev pub seen_types : Frames → Option ℕ → Option ℕ → Types

@@ -1,8 +1,16 @@
 //! The types of a net: what passes at each of its ports.
 #![tactic(auto)]
 
+mod frames;
+mod inequalities;
+mod place;
 mod row;
+mod rows;
+mod seeds;
 mod tables;
+mod top;
 
+pub use frames::{Frame, Frames};
+pub use inequalities::inequalities_of;
 pub use row::{PortType, PortTypeRow, Seed, SeedRow};
 pub use tables::{PORT_TYPES, SEEDS};
