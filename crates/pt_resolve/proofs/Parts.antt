@@ -17,7 +17,7 @@ use Rattle.pt_moml.specs.declared.job.Input.{Input}
 use Rattle.pt_moml.specs.Document.{property_name}
 use Rattle.pt_moml.specs.View.{property_view, properties_view, port_view, input_view}
 use Rattle.pt_graph.specs.declared.net.NetEntity.{NetEntity}
-use Rattle.pt_graph.specs.Net.{NetEntityTree, entity_view}
+use Rattle.pt_graph.specs.Net.{entity_view}
 use Rattle.pt_parameter.specs.declared.parameter_value.ParameterValue.{ParameterValue}
 use Rattle.pt_parameter.specs.Given.{Held, held_view}
 use Rattle.pt_parameter.proofs.TokenTypes.{value-is_type}
@@ -25,7 +25,7 @@ use Rattle.pt_values.specs.declared.values.EntityValues.{EntityValues}
 use Rattle.pt_values.specs.Valued.{EntityView}
 use Rattle.pt_values.specs.Valued as valued
 use Rattle.pt_resolve.specs.Rows.{joined_values}
-use Rattle.pt_resolve.specs.Frames.{Frames, Names, first, behind, joined, with_value, with_given, values_held, some_value, held_of}
+use Rattle.pt_resolve.specs.Frames.{Frames, Names, first, joined, with_value, with_given, values_held, some_value, held_of}
 use Rattle.pt_resolve.specs.Inequalities.{joined_one, joined_with, of_parameter, of_parameters, of_entity, of_entities, PortNumbers, with_port, with_ports, of_supply, of_inputs}
 use Rattle.pt_typing.specs.Views.{Inequality}
 use Rattle.std.specs.Prelude.{Vec}
@@ -37,7 +37,7 @@ use Rattle.pt_resolve.specs.declared.frames.Frame.{Frame as GivenFrame}
 use Rattle.pt_resolve.specs.Frames.{Frame, entity_frame, transparent_frame, entity_frames, transparent_frames}
 use Rattle.pt_resolve.specs.Inequalities.{supply_view}
 use Rattle.pt_resolve.specs.Views.{frame_view, IsAdded}
-use Rattle.pt_resolve.proofs.Steps.{one-more, drop-one, first-drop, behind-drop, first-raw, behind-raw, step}
+use Rattle.pt_resolve.proofs.Steps.{one-more, drop-one, behind-drop, first-raw, behind-raw, step}
 
 -- ---- joins
 
@@ -111,8 +111,8 @@ inputs-more ports is vs i input n o start old new whole short at e oe h more =
     let now : List Inequality = of_inputs ports (map input_view (drop i is)) (map supply_view (drop i vs)) in
     let next : List Inequality = of_inputs ports (map input_view (drop (i + 1) is)) (map supply_view (drop (i + 1) vs)) in
     let split : now ≡ of_supply n o ++ next =
-        ap (λ fs. of_inputs ports (map input_view fs) (map supply_view (drop i vs))) (drop-one is i input short at)
-        ∙ (λ j. of_supply (sym e j) (oe j) ++ of_inputs ports (map input_view (drop (i + 1) is)) (behind-drop supply_view vs i j)) in
+    ap (λ fs. of_inputs ports (map input_view fs) (map supply_view (drop i vs))) (drop-one is i input short at)
+    ∙ (λ j. of_supply (sym e j) (oe j) ++ of_inputs ports (map input_view (drop (i + 1) is)) (behind-drop supply_view vs i j)) in
     step (map inequality_view start) whole (map inequality_view old) (map inequality_view new) (of_supply n o) now next h split more
 
 pub all-added : (old first second third : List GivenInequality) (a b c : List Inequality) → old ≡ [] → IsAdded old first a → IsAdded first second b → IsAdded second third c → map inequality_view third ≡ a ++ (b ++ c)
@@ -134,9 +134,9 @@ entity_frames-more es vs i e frame old new whole short is view more h =
     let now : List Frame = entity_frames (drop i es) (drop i vs) in
     let next : List Frame = entity_frames (drop (i + 1) es) (drop (i + 1) vs) in
     let split : now ≡ frame_view frame ∷ next =
-        ap (λ fs. entity_frames fs (drop i vs)) (drop-one es i e short is)
-        ∙ (λ j. entity_frame e (first-raw vs i j) ∷ entity_frames (drop (i + 1) es) (behind-raw vs i j))
-        ∙ ap (λ f. f ∷ next) (sym view) in
+    ap (λ fs. entity_frames fs (drop i vs)) (drop-one es i e short is)
+    ∙ (λ j. entity_frame e (first-raw vs i j) ∷ entity_frames (drop (i + 1) es) (behind-raw vs i j))
+    ∙ ap (λ f. f ∷ next) (sym view) in
     frames-more frame old new now next whole more split h
 
 pub transparent_frames-more : (cs : List Transparent) (vs : List (Vec Token Global)) (i : ℕ) (c : Transparent) (frame : GivenFrame) (old new : List GivenFrame) (whole : List Frame) → i < length cs → c ≡ get_or cs i c → frame_view frame ≡ transparent_frame c (slice_get vs i) → new ≡ old ++ frame ∷ [] → map frame_view old ++ transparent_frames (drop i cs) (drop i vs) ≡ whole → map frame_view new ++ transparent_frames (drop (i + 1) cs) (drop (i + 1) vs) ≡ whole
@@ -144,7 +144,7 @@ transparent_frames-more cs vs i c frame old new whole short is view more h =
     let now : List Frame = transparent_frames (drop i cs) (drop i vs) in
     let next : List Frame = transparent_frames (drop (i + 1) cs) (drop (i + 1) vs) in
     let split : now ≡ frame_view frame ∷ next =
-        ap (λ fs. transparent_frames fs (drop i vs)) (drop-one cs i c short is)
-        ∙ (λ j. transparent_frame c (first-raw vs i j) ∷ transparent_frames (drop (i + 1) cs) (behind-raw vs i j))
-        ∙ ap (λ f. f ∷ next) (sym view) in
+    ap (λ fs. transparent_frames fs (drop i vs)) (drop-one cs i c short is)
+    ∙ (λ j. transparent_frame c (first-raw vs i j) ∷ transparent_frames (drop (i + 1) cs) (behind-raw vs i j))
+    ∙ ap (λ f. f ∷ next) (sym view) in
     frames-more frame old new now next whole more split h

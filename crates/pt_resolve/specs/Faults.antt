@@ -1,5 +1,5 @@
 -- Where the typing of a net is at fault.
-use Rattle.std.specs.Prelude.{◌≡◌, ℕ, List, map, Bool, not, Option, Some, None, slice_get, true, false}
+use Rattle.std.specs.Prelude.{◌≡◌, ℕ, List, map, Bool, not, Some, slice_get, true, false}
 use Rattle.std.specs.List.{Contains}
 use Rattle.pt_moml.specs.declared.job.OutputAction.{OutputAction}
 use Rattle.pt_moml.specs.declared.job.SetAction.{SetAction}

@@ -1,5 +1,5 @@
 -- Which parameters are seen where, with the values that they have.
-use Rattle.std.specs.Prelude.{ℕ, ◌+◌, zero, suc, List, [], ◌∷◌, length, map, Option, Some, None, option_map, slice_get, bytes_eq, if◌then◌else◌}
+use Rattle.std.specs.Prelude.{ℕ, zero, suc, List, [], ◌∷◌, map, Option, Some, None, option_map, slice_get, bytes_eq, if◌then◌else◌}
 use Rattle.pt_value.specs.Value.{Value}
 use Rattle.std.specs.Prelude.{Vec}
 use Rattle.std.specs.Global.{Global}

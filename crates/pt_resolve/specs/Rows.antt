@@ -1,5 +1,5 @@
 -- What passes at the ports of each class of actors, as the tables of the program list it.
-use Rattle.std.specs.Prelude.{ℕ, List, [], ◌∷◌, map, Option, Some, None, Bool, ◌&&◌, bytes_eq, codes, if◌then◌else◌}
+use Rattle.std.specs.Prelude.{ℕ, List, [], ◌∷◌, map, Option, Some, None, ◌&&◌, bytes_eq, codes, if◌then◌else◌}
 use Rattle.pt_moml.specs.declared.job.Direction.{Direction}
 use Rattle.pt_moml.specs.declared.job.Direction.TheVariants.{Input, Output}
 use Rattle.pt_moml.specs.Document.{PortTree}

@@ -1,5 +1,5 @@
 -- The typing of a net: the least types that meet all inequalities (the book, "The Type System").
-use Rattle.std.specs.Prelude.{◌≡◌, ℕ, List, [], ◌∷◌, length, map, Option, Some, None, Bool, true, not, ◌&&◌, slice_get, bytes_eq, codes, if◌then◌else◌}
+use Rattle.std.specs.Prelude.{◌≡◌, ℕ, List, [], ◌∷◌, length, map, Some, None, Bool, true, not, ◌&&◌, slice_get, bytes_eq, codes, if◌then◌else◌}
 use Rattle.std.specs.List.{Contains, enumerate_from, zip, list_all}
 use Rattle.std.specs.Option.{is_none}
 use Rattle.pt_value.specs.Value.{Value}

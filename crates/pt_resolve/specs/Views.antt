@@ -1,11 +1,10 @@
 -- What the program holds while it makes inequalities.
-use Rattle.std.specs.Prelude.{◌≡◌, ◌++◌, ℕ, List, map, Option, None, Some, option_map}
+use Rattle.std.specs.Prelude.{◌≡◌, ◌++◌, List, map}
 use Rattle.indexmap.specs.IndexMap.{get_by_text}
 use Rattle.pt_typing.specs.declared.term.Inequality.{Inequality as GivenInequality}
 use Rattle.pt_typing.specs.Views.{Inequality, inequality_view}
 use Rattle.pt_expr_type.specs.Types.{Types}
 use Rattle.pt_parameter.specs.Names.{held}
-use Rattle.pt_graph.specs.declared.net.NetEntity.{NetEntity}
 use Rattle.pt_resolve.specs.declared.frames.Frame.{Frame as GivenFrame}
 use Rattle.pt_resolve.specs.declared.frames.Frames.{Frames as GivenFrames}
 use Rattle.pt_resolve.specs.declared.place.Place.{Place}

@@ -72,7 +72,12 @@ fn names_given(
 {
     let mut names = Names::new(alloc);
     for (index, property) in properties.iter().enumerate() {
-        add_value(alloc, &mut names, name_of(property), token_at(values, index))?;
+        add_value(
+            alloc,
+            &mut names,
+            name_of(property),
+            token_at(values, index),
+        )?;
     }
     Ok(names)
 }
@@ -87,7 +92,12 @@ fn names_of_tokens(
 {
     let mut names = Names::new(alloc);
     for (index, property) in properties.iter().enumerate() {
-        add_value(alloc, &mut names, name_of(property), token_in(tokens, index))?;
+        add_value(
+            alloc,
+            &mut names,
+            name_of(property),
+            token_in(tokens, index),
+        )?;
     }
     Ok(names)
 }

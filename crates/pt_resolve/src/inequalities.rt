@@ -26,10 +26,7 @@ use pt_values::{EntityValues, Values, name_of};
 use std::alloc::{AllocError, Global};
 
 /// What is at the source of each channel is below what is at its place.
-fn add_channels(
-    channels: &[Channel],
-    inequalities: &mut Vec<Inequality>,
-) -> Result<(), AllocError>
+fn add_channels(channels: &[Channel], inequalities: &mut Vec<Inequality>) -> Result<(), AllocError>
     ensures { OnOk result (IsAdded inequalities.old.items inequalities.new.items (map of_channel channels.now)) }
 {
     for channel in channels {
@@ -130,7 +127,14 @@ fn add_entities(
     ensures { OnOk result (IsAdded inequalities.old.items inequalities.new.items (of_entities (frames_view frames.now) 0 (map entity_view entities.now) (map valued.entity_view values.now))) }
 {
     for (number, entity) in entities.iter().enumerate() {
-        add_entity(alloc, frames, entity, values_at(values, number), number, inequalities)?;
+        add_entity(
+            alloc,
+            frames,
+            entity,
+            values_at(values, number),
+            number,
+            inequalities,
+        )?;
     }
     Ok(())
 }

@@ -4,6 +4,7 @@
 mod frames;
 mod inequalities;
 mod place;
+mod plain;
 mod row;
 mod rows;
 mod seeds;
@@ -12,5 +13,6 @@ mod top;
 
 pub use frames::{Frame, Frames};
 pub use inequalities::inequalities_of;
+pub use plain::net_typing;
 pub use row::{PortType, PortTypeRow, Seed, SeedRow};
 pub use tables::{PORT_TYPES, SEEDS};

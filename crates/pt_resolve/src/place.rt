@@ -58,7 +58,9 @@ fn add_input(
     match port.direction {
         Direction::Input => {
             let name = port.name.copy(alloc)?;
-            inputs.push((name, Variable::Port(number, index))).map_err(AllocError::from)?;
+            inputs
+                .push((name, Variable::Port(number, index)))
+                .map_err(AllocError::from)?;
             Ok(())
         }
         Direction::Output => Ok(()),
@@ -93,7 +95,10 @@ impl Place<'_> {
     ) -> Result<(), AllocError>
         ensures { OnOk result (map known_entry list.new.items ≡ map known_entry list.old.items ++ with_type name.now (types_at self.now name.now)) }
     {
-        match self.frames.seen(self.entity.within, self.entity.parent, name) {
+        match self
+            .frames
+            .seen(self.entity.within, self.entity.parent, name)
+        {
             Some(token) => {
                 let ty = type_of_token(alloc, token)?;
                 let name = Text::of(alloc, name)?;

@@ -6,11 +6,7 @@ use crate::row::{PortType, PortTypeRow, Seed, SeedRow};
 use crate::tables::{PORT_TYPES, SEEDS};
 use pt_moml::{Direction, Port};
 
-fn port_type_among(
-    rows: &'static [PortTypeRow<&'static str>],
-    class: &str,
-    name: &str,
-) -> PortType
+fn port_type_among(rows: &'static [PortTypeRow<&'static str>], class: &str, name: &str) -> PortType
     ensures { result ≡ port_type_in (map port_row rows.now) class.now name.now }
 {
     for row in rows {
@@ -46,11 +42,7 @@ pub(crate) fn port_type(class: &str, port: &Port) -> PortType
     output_type(class, port.direction, otherwise)
 }
 
-fn seed_among(
-    rows: &'static [SeedRow<&'static str>],
-    class: &str,
-    name: &str,
-) -> Option<Seed>
+fn seed_among(rows: &'static [SeedRow<&'static str>], class: &str, name: &str) -> Option<Seed>
     ensures { result ≡ seed_in (map seeding rows.now) class.now name.now }
 {
     for row in rows {

@@ -103,10 +103,10 @@ module _ (cs : List ℕ) (numbers : Numbers) (h : AreNumbers cs numbers) where
         met = All-from_recursion (IsMet (assign numbers types)) (map inequality_view qs) (all-met numbers types qs bs z (recursion_from_All (IsMetBy types) bs s.solution.met));
       };
       least = λ a m.
-      let under : AllBelow types (listed cs a) = s.least (listed cs a) (solution a m) in
-      let same : assign numbers (listed cs a) ≡ a = listed-back a m.outside in
-      record {
-        types = λ v. subst (λ (b : Assignment). IsBelow (type_at types (number_in numbers v)) (b.types v)) same (under.each (number_in numbers v));
-        elsewhere = subst (λ (b : Assignment). IsBelow (type_at types numbers.all) b.elsewhere) same (under.each numbers.all);
-      };
+          let under : AllBelow types (listed cs a) = s.least (listed cs a) (solution a m) in
+          let same : assign numbers (listed cs a) ≡ a = listed-back a m.outside in
+          record {
+            types = λ v. subst (λ (b : Assignment). IsBelow (type_at types (number_in numbers v)) (b.types v)) same (under.each (number_in numbers v));
+            elsewhere = subst (λ (b : Assignment). IsBelow (type_at types numbers.all) b.elsewhere) same (under.each numbers.all);
+          };
     }

@@ -41,7 +41,11 @@ impl Rule for Bound<'_> {
     }
 }
 
-fn numbers_of(alloc: Global, numbers: &Numbers, names: &[(Text, Variable)]) -> Result<Vec<u32>, AllocError> {
+fn numbers_of(
+    alloc: Global,
+    numbers: &Numbers,
+    names: &[(Text, Variable)],
+) -> Result<Vec<u32>, AllocError> {
     let mut list = Vec::with_capacity(alloc, names.len())?;
     for (_, variable) in names {
         list.push(numbers.number(*variable))?;
@@ -70,7 +74,11 @@ fn reads_of(alloc: Global, numbers: &Numbers, term: &Term) -> Result<Vec<u32>, A
 
 impl<'a> Bound<'a> {
     /// The rule of an inequality.
-    pub fn of(alloc: Global, numbers: &'a Numbers, inequality: &'a Inequality) -> Result<Bound<'a>, AllocError>
+    pub fn of(
+        alloc: Global,
+        numbers: &'a Numbers,
+        inequality: &'a Inequality,
+    ) -> Result<Bound<'a>, AllocError>
         ensures { IfOk result (IsRuleOf numbers.now inequality.now) }
     {
         Ok(Bound {

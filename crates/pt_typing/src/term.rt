@@ -44,7 +44,12 @@ pub struct Inequality {
 }
 
 /// The type of a variable, where there is one for each number.
-pub(crate) fn type_of_variable(alloc: Global, numbers: &Numbers, types: &[Ty], variable: Variable) -> Result<Ty, AllocError>
+pub(crate) fn type_of_variable(
+    alloc: Global,
+    numbers: &Numbers,
+    types: &[Ty],
+    variable: Variable,
+) -> Result<Ty, AllocError>
     ensures { IfOk result (λ t. ty.type_of t ≡ assigned numbers.now (map ty.type_of types.now) variable) }
 {
     match types.get(numbers.number(variable) as usize) {
@@ -63,7 +68,10 @@ impl TreeTerm {
             env.bind(name.as_str(), ty.copy(alloc)?)?;
         }
         for (name, variable) in &self.ports {
-            env.bind(name.as_str(), type_of_variable(alloc, numbers, types, *variable)?)?;
+            env.bind(
+                name.as_str(),
+                type_of_variable(alloc, numbers, types, *variable)?,
+            )?;
         }
         Ok(env)
     }
@@ -81,7 +89,12 @@ impl TreeTerm {
     }
 
     /// Whether the expression has a type.
-    pub fn is_typed(&self, alloc: Global, numbers: &Numbers, types: &[Ty]) -> Result<bool, AllocError>
+    pub fn is_typed(
+        &self,
+        alloc: Global,
+        numbers: &Numbers,
+        types: &[Ty],
+    ) -> Result<bool, AllocError>
         ensures { IfOk result (λ b. b ≡ has_type (names_types (assigned numbers.now (map ty.type_of types.now)) self.now.ports.items (map known_entry self.now.known.items)) (tree_of self.now.tree)) }
     {
         let env = self.names(alloc, numbers, types)?;
@@ -116,7 +129,12 @@ fn field_of(alloc: Global, whole: Ty, name: &str) -> Result<Ty, AllocError>
 }
 
 /// The record of variables under names, or general where the names make none.
-fn record(alloc: Global, numbers: &Numbers, types: &[Ty], fields: &[(Text, Variable)]) -> Result<Ty, AllocError>
+fn record(
+    alloc: Global,
+    numbers: &Numbers,
+    types: &[Ty],
+    fields: &[(Text, Variable)],
+) -> Result<Ty, AllocError>
     ensures { IfOk result (λ t. ty.type_of t ≡ or_general (trees.recorded (map (entry_in (assigned numbers.now (map ty.type_of types.now))) fields.now))) }
 {
     let mut pairs = Vec::with_capacity(alloc, fields.len())?;

@@ -1,6 +1,6 @@
-use Rattle.std.proofs.Common.{◌≡◌, ◌++◌, ℕ, List, map, take, drop}
-use Rattle.pt_resolve.specs.Views.{types_at, frames_view, frame_view, port_numbers}
-use Rattle.pt_resolve.specs.Frames.{with_given, no_names, values_held, some_value, entity_frames, transparent_frames}
+use Rattle.std.proofs.Common.{◌≡◌, ◌++◌, map, drop}
+use Rattle.pt_resolve.specs.Views.{frame_view}
+use Rattle.pt_resolve.specs.Frames.{entity_frames}
 use Rattle.pt_resolve.proofs.frames.entity_frames.Given as goal
 
 abbrev pub invariant-loop-number : goal.invariant-loop-number

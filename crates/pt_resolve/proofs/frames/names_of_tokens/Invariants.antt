@@ -1,7 +1,7 @@
-use Rattle.std.proofs.Common.{◌≡◌, ◌++◌, ℕ, List, map, take, drop}
-use Rattle.pt_moml.specs.View.{properties_view, port_view, input_view}
+use Rattle.std.proofs.Common.{◌≡◌, ℕ, List, map, drop}
+use Rattle.pt_moml.specs.View.{properties_view}
 use Rattle.pt_parameter.specs.Names.{held}
-use Rattle.pt_resolve.specs.Frames.{with_given, no_names, values_held, some_value, entity_frames, transparent_frames}
+use Rattle.pt_resolve.specs.Frames.{with_given, no_names, some_value}
 use Rattle.pt_resolve.proofs.frames.names_of_tokens.Given as goal
 
 abbrev pub invariant-loop-index : goal.invariant-loop-index

@@ -1,5 +1,5 @@
-use Rattle.std.proofs.Common.{◌≡◌, ◌++◌, ℕ, List, map, take, drop}
-use Rattle.pt_typing.specs.Views.{inequality_view, known_entry}
+use Rattle.std.proofs.Common.{◌≡◌, ◌++◌, map, take}
+use Rattle.pt_typing.specs.Views.{inequality_view}
 use Rattle.pt_resolve.specs.Inequalities.{of_channel}
 use Rattle.pt_resolve.proofs.inequalities.add_channels.Given as goal
 

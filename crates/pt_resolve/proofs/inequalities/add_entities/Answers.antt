@@ -1,5 +1,5 @@
-use Rattle.std.proofs.Common.{◌≡◌, map, sym, ap, ◌∙◌, rules}
-use Rattle.std.specs.Prelude.{slice_get, option_map}
+use Rattle.std.proofs.Common.{map, sym, ◌∙◌}
+use Rattle.std.specs.Prelude.{option_map}
 use Rattle.pt_resolve.proofs.Steps.{first-mapped}
 use Rattle.pt_graph.specs.Net.{entity_view}
 use Rattle.pt_values.specs.Valued as valued

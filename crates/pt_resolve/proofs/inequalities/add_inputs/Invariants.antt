@@ -1,7 +1,7 @@
-use Rattle.std.proofs.Common.{◌≡◌, ◌++◌, ℕ, List, map, take, drop}
-use Rattle.pt_typing.specs.Views.{inequality_view, known_entry}
-use Rattle.pt_moml.specs.View.{properties_view, port_view, input_view}
-use Rattle.pt_resolve.specs.Views.{types_at, frames_view, frame_view, port_numbers}
+use Rattle.std.proofs.Common.{◌≡◌, ◌++◌, map, drop}
+use Rattle.pt_typing.specs.Views.{inequality_view}
+use Rattle.pt_moml.specs.View.{input_view}
+use Rattle.pt_resolve.specs.Views.{port_numbers}
 use Rattle.pt_resolve.specs.Inequalities.{of_inputs, supply_view}
 use Rattle.pt_resolve.proofs.inequalities.add_inputs.Given as goal
 

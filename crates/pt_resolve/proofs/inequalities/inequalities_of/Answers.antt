@@ -3,7 +3,7 @@ use Rattle.pt_moml.specs.View.{input_view}
 use Rattle.pt_graph.specs.Net.{entity_view}
 use Rattle.pt_values.specs.Valued as valued
 use Rattle.pt_resolve.specs.Views.{port_numbers}
-use Rattle.pt_resolve.specs.Inequalities.{PortNumbers, of_channel, of_entities, of_inputs, supply_view, top_ports}
+use Rattle.pt_resolve.specs.Inequalities.{of_channel, of_entities, of_inputs, supply_view, top_ports}
 use Rattle.pt_resolve.proofs.Parts.{all-added}
 use Rattle.pt_resolve.proofs.inequalities.inequalities_of.Goals as goal
 

@@ -1,4 +1,4 @@
-use Rattle.std.proofs.Common.{◌≡◌, ◌++◌, ℕ, List, map, take, drop}
+use Rattle.std.proofs.Common.{◌≡◌, map, drop}
 use Rattle.pt_resolve.specs.Rows.{port_row, port_type_in}
 use Rattle.pt_resolve.proofs.rows.port_type_among.Given as goal
 

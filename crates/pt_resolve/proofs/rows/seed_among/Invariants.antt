@@ -1,4 +1,4 @@
-use Rattle.std.proofs.Common.{◌≡◌, ◌++◌, ℕ, List, map, take, drop}
+use Rattle.std.proofs.Common.{◌≡◌, map, drop}
 use Rattle.pt_resolve.specs.Rows.{seeding, seed_in}
 use Rattle.pt_resolve.proofs.rows.seed_among.Given as goal
 

@@ -1,5 +1,5 @@
-use Rattle.std.proofs.Common.{◌≡◌, ◌++◌, ℕ, List, map, take, drop}
-use Rattle.pt_typing.specs.Views.{inequality_view, known_entry}
+use Rattle.std.proofs.Common.{◌≡◌, ◌++◌, map, drop}
+use Rattle.pt_typing.specs.Views.{inequality_view}
 use Rattle.pt_resolve.specs.Inequalities.{of_fields}
 use Rattle.pt_resolve.proofs.place.Place.add_fields.Given as goal
 

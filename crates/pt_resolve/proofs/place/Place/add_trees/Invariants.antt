@@ -1,6 +1,6 @@
-use Rattle.std.proofs.Common.{◌≡◌, ◌++◌, ℕ, List, map, take, drop}
-use Rattle.pt_typing.specs.Views.{inequality_view, known_entry}
-use Rattle.pt_resolve.specs.Views.{types_at, frames_view, frame_view, port_numbers}
+use Rattle.std.proofs.Common.{◌≡◌, ◌++◌, map, drop}
+use Rattle.pt_typing.specs.Views.{inequality_view}
+use Rattle.pt_resolve.specs.Views.{types_at}
 use Rattle.pt_graph.specs.Net.{entity_view}
 use Rattle.pt_parameter.specs.Given.{held_view}
 use Rattle.pt_resolve.specs.Inequalities.{of_trees}

@@ -1,5 +1,5 @@
-use Rattle.std.proofs.Common.{◌≡◌, ◌++◌, ℕ, List, map, take, drop}
-use Rattle.pt_moml.specs.View.{properties_view, port_view, input_view}
+use Rattle.std.proofs.Common.{◌≡◌, ◌++◌, map, drop}
+use Rattle.pt_moml.specs.View.{port_view}
 use Rattle.pt_graph.specs.Net.{entity_view}
 use Rattle.pt_resolve.specs.Inequalities.{inputs_from, inputs_of}
 use Rattle.pt_resolve.proofs.place.Place.inputs.Given as goal

@@ -1,6 +1,6 @@
-use Rattle.std.proofs.Common.{◌≡◌, ◌++◌, ℕ, List, map, take, drop}
-use Rattle.pt_moml.specs.View.{properties_view, port_view, input_view}
-use Rattle.pt_resolve.specs.Views.{types_at, frames_view, frame_view, port_numbers}
+use Rattle.std.proofs.Common.{◌≡◌, ℕ, List, map, drop}
+use Rattle.pt_moml.specs.View.{port_view}
+use Rattle.pt_resolve.specs.Views.{port_numbers}
 use Rattle.pt_resolve.specs.Inequalities.{with_ports, no_ports}
 use Rattle.pt_resolve.proofs.top.TopPorts.of_ports.Given as goal
 
