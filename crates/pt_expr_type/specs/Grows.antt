@@ -135,7 +135,7 @@ operated-below op.Remainder = calculated-below
 chosen-below : (a b s t u v : Datatype) → IsBelow a b → IsBelow s u → IsBelow t v → Below IsBelow (chosen a s t) (chosen b u v)
 chosen-below a b s t u v h k l = where-below (is_below a Boolean) (is_below b Boolean) (join s t) (join u v) (λ e. below-trans a b Boolean h e) (join-below s t u v k l)
 
-element-below : (s t : Datatype) → IsBelow s t → Below IsBelow (element s) (element t)
+pub element-below : (s t : Datatype) → IsBelow s t → Below IsBelow (element s) (element t)
 element-below Unknown Unknown h = refl
 element-below Unknown (Array t) h = refl
 element-below Unknown t h = tt
@@ -183,7 +183,7 @@ field-unknown : (name : List ℕ) (p : Typing Datatype) → Below IsBelow (Has U
 field-unknown name (Has t) = refl
 field-unknown name Clash = tt
 
-field-below : (name : List ℕ) (s t : Datatype) → IsBelow s t → Below IsBelow (field name s) (field name t)
+pub field-below : (name : List ℕ) (s t : Datatype) → IsBelow s t → Below IsBelow (field name s) (field name t)
 field-below name Unknown t h = field-unknown name (field name t)
 field-below name (Record fs) (Record gs) h = type_in-below fs gs name h
 field-below name (Record fs) General h = tt
@@ -258,7 +258,7 @@ types_of-below (f ∷ fs) (g ∷ gs) h = and_both (bytes_eq f.0 g.0 && is_below 
 types_of-below [] (g ∷ gs) h = absurd h
 types_of-below (f ∷ fs) [] h = absurd h
 
-recorded-below : (fs gs : List Entry) → EntriesBelow fs gs → Below IsBelow (recorded fs) (recorded gs)
+pub recorded-below : (fs gs : List Entry) → EntriesBelow fs gs → Below IsBelow (recorded fs) (recorded gs)
 recorded-below fs gs h =
     let same = ap make_record (names-same fs gs h) in
     where-below (make_record (map (λ f. f.0) fs)) (make_record (map (λ f. f.0) gs)) _ _ (λ e. same ∙ e) (normal-below (Record (types_of (by_name fs))) (Record (types_of (by_name gs))) (types_of-below (by_name fs) (by_name gs) (by_name-below fs gs h)))

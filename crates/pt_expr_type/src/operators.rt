@@ -132,7 +132,7 @@ pub(crate) fn chosen(alloc: Global, test: Ty, yes: Ty, no: Ty) -> Result<Ty, Typ
 }
 
 /// The element of an array at an index.
-pub(crate) fn applied(alloc: Global, array: Ty, index: Ty) -> Result<Ty, TypeFault>
+pub fn applied(alloc: Global, array: Ty, index: Ty) -> Result<Ty, TypeFault>
     ensures ok { IfOk result (λ t. judged (types.applied (type_of array) (type_of index)) ≡ Gives (type_of t)) }
     ensures err { IfErr result (λ fault. (fault ≡ Memory) ⊎ (judged (types.applied (type_of array) (type_of index)) ≡ Stops fault)) }
 {
@@ -168,7 +168,7 @@ pub(crate) fn length_of(operand: Ty) -> Result<Ty, TypeFault>
 }
 
 /// The field of a record under a name.
-pub(crate) fn field(alloc: Global, operand: Ty, name: &str) -> Result<Ty, TypeFault>
+pub fn field(alloc: Global, operand: Ty, name: &str) -> Result<Ty, TypeFault>
     ensures ok { IfOk result (λ t. judged (types.field name.now (type_of operand)) ≡ Gives (type_of t)) }
     ensures err { IfErr result (λ fault. (fault ≡ Memory) ⊎ (judged (types.field name.now (type_of operand)) ≡ Stops fault)) }
 {
@@ -194,7 +194,7 @@ fn field_in(alloc: Global, fields: &RecordTy, name: &str) -> Result<Ty, TypeFaul
 }
 
 /// The record of some fields, in whichever order they stand.
-pub(crate) fn record_of(alloc: Global, fields: Vec<(Text, Ty)>) -> Result<Ty, TypeFault>
+pub fn record_of(alloc: Global, fields: Vec<(Text, Ty)>) -> Result<Ty, TypeFault>
     ensures ok { IfOk result (λ t. judged (types.recorded (map typed_entry fields.items)) ≡ Gives (type_of t)) }
     ensures err { IfErr result (λ fault. (fault ≡ Memory) ⊎ (judged (types.recorded (map typed_entry fields.items)) ≡ Stops fault)) }
 {

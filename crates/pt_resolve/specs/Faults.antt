@@ -1,33 +1,33 @@
 -- Where the typing of a net is at fault.
-use Rattle.std.specs.Prelude.{◌≡◌, ℕ, List, map, Option, Some, None, slice_get, false}
+use Rattle.std.specs.Prelude.{◌≡◌, ℕ, List, map, Bool, not, Some, slice_get, true, false}
 use Rattle.std.specs.List.{Contains}
-use Rattle.pt_value.specs.Value.{Value}
 use Rattle.pt_moml.specs.declared.job.OutputAction.{OutputAction}
 use Rattle.pt_moml.specs.declared.job.SetAction.{SetAction}
 use Rattle.pt_moml.specs.Document.{PortTree, TransitionTree}
-use Rattle.pt_types.specs.Datatype.{Datatype, Int, Boolean, Words, General}
+use Rattle.pt_types.specs.Datatype.{Datatype, Int, Boolean, Words}
 use Rattle.pt_types.specs.Order.{is_below}
+use Rattle.pt_expr.specs.Comparable.{is_general}
 use Rattle.pt_expr.specs.Tree.{Tree}
 use Rattle.pt_expr_type.specs.Typing.{Clash}
+use Rattle.pt_expr_type.specs.Types.{Types}
 use Rattle.pt_expr_type.specs.TreeType.{tree_type}
 use Rattle.pt_graph.specs.declared.net.Net.{Net}
 use Rattle.pt_graph.specs.Net.{NetEntityTree, entity_view}
-use Rattle.pt_parameter.specs.Texts.{IsRead}
+use Rattle.pt_parameter.specs.Texts.{IsRead, names_in}
 use Rattle.pt_parameter.specs.Given.{Read}
 use Rattle.pt_values.specs.declared.values.Values.{Values}
-use Rattle.pt_values.specs.Scopes.{Bindings, net_view, Sees}
+use Rattle.pt_values.specs.Scopes.{Bindings}
 use Rattle.pt_values.specs.Valued.{EntityView}
 use Rattle.pt_values.specs.Valued as valued
+use Rattle.pt_typing.specs.declared.variable.Variable.TheVariants.{Port}
+use Rattle.pt_typing.specs.Terms.{names_types, has_type}
+use Rattle.pt_typing.specs.Least.{Assignment}
 use Rattle.pt_resolve.specs.declared.row.PortType.{PortType}
 use Rattle.pt_resolve.specs.declared.row.PortType.TheVariants as port
 use Rattle.pt_resolve.specs.Rows.{port_type}
-use Rattle.pt_resolve.specs.Typing.{Typing, Declares, IsTyping, expression_types, modal_types, variable_type, variables, IsModal, HasTypeIn}
-
--- a type that the row allows at a port at most
-pub data IsUpperByRow : PortType → Datatype → Type 0 where
-  of_int : IsUpperByRow port.Int Int
-  of_boolean : IsUpperByRow port.Boolean Boolean
-  of_words : IsUpperByRow port.Words Words
+use Rattle.pt_resolve.specs.Frames.{frames_of, seen_types}
+use Rattle.pt_resolve.specs.Inequalities.{inputs_of, known}
+use Rattle.pt_resolve.specs.Typing.{Declares, IsTyping, modal_types, variable_type, variables, IsModal, HasTypeIn}
 
 -- a guard or an action of an entity
 pub data IsTextIn (e : NetEntityTree) : List ℕ → Type 0 where
@@ -35,12 +35,28 @@ pub data IsTextIn (e : NetEntityTree) : List ℕ → Type 0 where
   of_output : (tr : TransitionTree) (a : OutputAction) → Contains e.transitions tr → Contains tr.output a → IsTextIn e a.value
   of_set : (tr : TransitionTree) (a : SetAction) → Contains e.transitions tr → Contains tr.set a → IsTextIn e a.value
 
+-- a port is general, or above what its row allows
+abbrev pub is_above : PortType → Datatype → Bool
+is_above port.Int t = not (is_below t Int)
+is_above port.Boolean t = not (is_below t Boolean)
+is_above port.Words t = not (is_below t Words)
+is_above port.Free t = is_general t
+is_above port.Row t = is_general t
+is_above port.RowArray t = is_general t
+is_above port.Tree t = is_general t
+is_above port.Assembled t = is_general t
+is_above port.Field t = is_general t
+
+-- the types of the names of an expression of an entity
+abbrev pub expression_types : Net → Values → Assignment → ℕ → NetEntityTree → Tree → Types
+expression_types net values typing k e t = names_types typing.types (inputs_of k e) (known (seen_types (frames_of net values) e.within e.parent) (names_in t))
+
 -- a port of this entity is general, a tree has a clash, or an upper bound is broken
-pub data IsBroken (net : Net) (values : Values) (typing : Typing) : NetEntityTree → Type 0 where
-  general_port : (k i : ℕ) (e : NetEntityTree) (p : PortTree) → slice_get (map entity_view net.entities.items) k ≡ Some e → slice_get e.ports i ≡ Some p → typing.at k i ≡ General → IsBroken net values typing e
-  clash : (k : ℕ) (e : NetEntityTree) (v : EntityView) (around : Bindings) (t : Tree) → slice_get (map entity_view net.entities.items) k ≡ Some e → slice_get (map valued.entity_view values.entities.items) k ≡ Some v → Sees (net_view net) e.within e.parent around → Contains v.parameters (Read t) → tree_type (expression_types typing k e around) t ≡ Clash → IsBroken net values typing e
-  above_row : (k i : ℕ) (e : NetEntityTree) (p : PortTree) (t : Datatype) → slice_get (map entity_view net.entities.items) k ≡ Some e → slice_get e.ports i ≡ Some p → IsUpperByRow (port_type e.class p) t → is_below (typing.at k i) t ≡ false → IsBroken net values typing e
-  above_declared : (k i : ℕ) (e : NetEntityTree) (p : PortTree) (t : Datatype) → slice_get (map entity_view net.entities.items) k ≡ Some e → slice_get e.ports i ≡ Some p → Declares p t → is_below (typing.at k i) t ≡ false → IsBroken net values typing e
+pub data IsBroken (net : Net) (values : Values) (typing : Assignment) : NetEntityTree → Type 0 where
+  at_port : (k i : ℕ) (e : NetEntityTree) (p : PortTree) → slice_get (map entity_view net.entities.items) k ≡ Some e → slice_get e.ports i ≡ Some p → is_above (port_type e.class p) (typing.types (Port k i)) ≡ true → IsBroken net values typing e
+  above_declared : (k i : ℕ) (e : NetEntityTree) (p : PortTree) (t : Datatype) → slice_get (map entity_view net.entities.items) k ≡ Some e → slice_get e.ports i ≡ Some p → Declares p t → is_below (typing.types (Port k i)) t ≡ false → IsBroken net values typing e
+  -- an expression has no type. Its names are in scope, so it has a clash
+  in_tree : (k : ℕ) (e : NetEntityTree) (v : EntityView) (t : Tree) → slice_get (map entity_view net.entities.items) k ≡ Some e → slice_get (map valued.entity_view values.entities.items) k ≡ Some v → Contains v.parameters (Read t) → has_type (expression_types net values typing k e t) t ≡ false → IsBroken net values typing e
   -- a guard is no truth value
   guard : (m : ℕ) (e : NetEntityTree) (v : EntityView) (inner : Bindings) (tr : TransitionTree) (t : Datatype) → IsModal net values m e v inner → Contains e.transitions tr → HasTypeIn typing m e v inner tr.guard t → is_below t Boolean ≡ false → IsBroken net values typing e
   -- a set action gives what its Variable doesn't hold
@@ -50,7 +66,7 @@ pub data IsBroken (net : Net) (values : Values) (typing : Typing) : NetEntityTre
 
 -- the typing of a net breaks at this path
 pub record IsTypeFault (net : Net) (values : Values) (path : List ℕ) : Type 0 where
-  pub typing : Typing
+  pub typing : Assignment
   pub is : IsTyping net values typing
   pub entity : NetEntityTree
   pub broken : IsBroken net values typing entity

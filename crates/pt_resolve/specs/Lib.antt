@@ -1,3 +1,6 @@
 pub mod Rows
+pub mod Frames
+pub mod Inequalities
+pub mod Views
 pub mod Typing
 pub mod Faults

@@ -1,11 +1,13 @@
 -- What passes at the ports of each class of actors, as the tables of the program list it.
-use Rattle.std.specs.Prelude.{ℕ, List, [], ◌∷◌, map, Option, Some, None, Bool, ◌&&◌, bytes_eq, codes, if◌then◌else◌}
+use Rattle.std.specs.Prelude.{ℕ, List, [], ◌∷◌, map, Option, Some, None, ◌&&◌, bytes_eq, codes, if◌then◌else◌}
 use Rattle.pt_moml.specs.declared.job.Direction.{Direction}
 use Rattle.pt_moml.specs.declared.job.Direction.TheVariants.{Input, Output}
 use Rattle.pt_moml.specs.Document.{PortTree}
-use Rattle.pt_value.specs.Value.{Value, Array}
+use Rattle.std.specs.Borrow.{Bor}
+use Rattle.pt_value.specs.Value.{Value, Array, Values, no_values, value_then}
 use Rattle.pt_types.specs.Datatype.{Datatype, Unknown, Int, Boolean}
-use Rattle.pt_types.specs.Token.{type_of_value, join_of}
+use Rattle.pt_types.specs.Join.{join}
+use Rattle.pt_types.specs.Token.{type_of_value}
 use Rattle.pt_parameter.specs.declared.form.Standard.{Standard}
 use Rattle.pt_parameter.specs.declared.form.Standard.TheVariants as standard
 use Rattle.pt_resolve.specs.declared.row.PortType.{PortType}
@@ -23,6 +25,16 @@ PortRow = PortTypeRow (List ℕ)
 -- a parameter of a class whose tokens pass at its ports
 abbrev pub Seeding : Type 0
 Seeding = SeedRow (List ℕ)
+
+-- rows as the program holds them, behind references
+abbrev Name : Type 0
+Name = Bor (List ℕ)
+
+abbrev pub port_row : PortTypeRow Name → PortRow
+port_row r = record { class = r.class.now; port = r.port.now; ty = r.ty }
+
+abbrev pub seeding : SeedRow Name → Seeding
+seeding r = record { class = r.class.now; parameter = r.parameter.now; seed = r.seed }
 
 unfoldable pub port_rows : List PortRow
 port_rows = map (λ r. record { class = r.class.now; port = r.port.now; ty = r.ty }) PORT_TYPES
@@ -50,15 +62,19 @@ seed_in (r ∷ rs) class name = if bytes_eq r.class class && bytes_eq r.paramete
 unfoldable pub seed_of : List ℕ → List ℕ → Option Seed
 seed_of class name = seed_in seedings class name
 
+-- the join of a type with those of some values
+abbrev pub joined_values : Datatype → Values → Datatype
+joined_values t no_values = t
+joined_values t (value_then v vs) = joined_values (join t (type_of_value v)) vs
+
 abbrev pub elements_type : Value → Datatype
-elements_type (Array vs) = join_of vs
+elements_type (Array vs) = joined_values Unknown vs
 elements_type v = Unknown
 
 -- the type of what passes of a value
-abbrev pub seeded : Option Seed → Value → Datatype
-seeded None v = Unknown
-seeded (Some seed.Whole) v = type_of_value v
-seeded (Some seed.Elements) v = elements_type v
+abbrev pub seeded : Seed → Value → Datatype
+seeded seed.Whole v = type_of_value v
+seeded seed.Elements v = elements_type v
 
 -- the type of what passes where such a parameter isn't given
 abbrev pub standard_type : Standard → Datatype

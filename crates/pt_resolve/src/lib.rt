@@ -1,8 +1,18 @@
 //! The types of a net: what passes at each of its ports.
 #![tactic(auto)]
 
+mod frames;
+mod inequalities;
+mod place;
+mod plain;
 mod row;
+mod rows;
+mod seeds;
 mod tables;
+mod top;
 
+pub use frames::{Frame, Frames};
+pub use inequalities::inequalities_of;
+pub use plain::net_typing;
 pub use row::{PortType, PortTypeRow, Seed, SeedRow};
 pub use tables::{PORT_TYPES, SEEDS};

@@ -1,0 +1,30 @@
+-- What the program holds while it makes inequalities.
+use Rattle.std.specs.Prelude.{◌≡◌, ◌++◌, List, map}
+use Rattle.indexmap.specs.IndexMap.{get_by_text}
+use Rattle.pt_typing.specs.declared.term.Inequality.{Inequality as GivenInequality}
+use Rattle.pt_typing.specs.Views.{Inequality, inequality_view}
+use Rattle.pt_expr_type.specs.Types.{Types}
+use Rattle.pt_parameter.specs.Names.{held}
+use Rattle.pt_resolve.specs.declared.frames.Frame.{Frame as GivenFrame}
+use Rattle.pt_resolve.specs.declared.frames.Frames.{Frames as GivenFrames}
+use Rattle.pt_resolve.specs.declared.place.Place.{Place}
+use Rattle.pt_resolve.specs.declared.top.TopPorts.{TopPorts}
+use Rattle.pt_resolve.specs.Frames.{Frame, Frames, seen_types}
+use Rattle.pt_resolve.specs.Inequalities.{PortNumbers}
+
+abbrev pub frame_view : GivenFrame → Frame
+frame_view f = record { within = f.within; parent = f.parent; values = held f.names }
+
+abbrev pub frames_view : GivenFrames → Frames
+frames_view f = record { entities = map frame_view f.entities.items; transparent = map frame_view f.transparent.items }
+
+-- the types of the parameters that are seen round an entity
+abbrev pub types_at : Place → Types
+types_at p = seen_types (frames_view p.frames.now) p.entity.now.within p.entity.now.parent
+
+abbrev pub port_numbers : TopPorts → PortNumbers
+port_numbers ports name = get_by_text ports.numbers name
+
+-- some more inequalities behind those that there were
+abbrev pub IsAdded : List GivenInequality → List GivenInequality → List Inequality → Type 0
+IsAdded old new qs = map inequality_view new ≡ map inequality_view old ++ qs

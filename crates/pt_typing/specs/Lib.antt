@@ -1,0 +1,6 @@
+pub mod Terms
+pub mod Grows
+pub mod Numbers
+pub mod Views
+pub mod RuleGrows
+pub mod Least

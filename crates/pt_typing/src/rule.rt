@@ -1,0 +1,91 @@
+ghost use Rattle.std.specs.Prelude.{IfOk};
+ghost use Rattle.pt_typing.specs.Views.{IsRuleOf};
+
+use crate::numbers::Numbers;
+use crate::term::{Inequality, Term};
+use crate::variable::Variable;
+use pt_types::{Rule, Ty};
+use pt_value::Text;
+use std::alloc::{AllocError, Global};
+
+/// An inequality as a rule on the types of numbers.
+#[derive(Drop)]
+pub struct Bound<'a> {
+    pub target: u32,
+    pub inequality: &'a Inequality,
+    pub numbers: &'a Numbers,
+    /// The numbers of the variables of the term, for the solver. One that is missing costs time, and changes no answer.
+    pub reads: Vec<u32>,
+}
+
+impl Rule for Bound<'_> {
+    ghost use Rattle.pt_typing.specs.Views.{bound_meaning};
+    ghost use Rattle.pt_typing.specs.RuleGrows.{bound-grows};
+
+    ghost target_of = { λ rule. rule.target };
+
+    ghost value_of = { bound_meaning };
+
+    ghost grows = { bound-grows };
+
+    fn target(&self) -> u32 {
+        self.target
+    }
+
+    fn value(&self, alloc: Global, types: &[Ty]) -> Result<Ty, AllocError> {
+        self.inequality.term.value(alloc, self.numbers, types)
+    }
+
+    fn reads(&self) -> &[u32] {
+        self.reads.as_slice()
+    }
+}
+
+fn numbers_of(
+    alloc: Global,
+    numbers: &Numbers,
+    names: &[(Text, Variable)],
+) -> Result<Vec<u32>, AllocError> {
+    let mut list = Vec::with_capacity(alloc, names.len())?;
+    for (_, variable) in names {
+        list.push(numbers.number(*variable))?;
+    }
+    Ok(list)
+}
+
+fn one(alloc: Global, number: u32) -> Result<Vec<u32>, AllocError> {
+    let mut list = Vec::with_capacity(alloc, 1)?;
+    list.push(number)?;
+    Ok(list)
+}
+
+/// The numbers of the variables of a term.
+fn reads_of(alloc: Global, numbers: &Numbers, term: &Term) -> Result<Vec<u32>, AllocError> {
+    match term {
+        Term::Fixed(_) => Ok(Vec::new(alloc)),
+        Term::Same(variable)
+        | Term::ArrayOf(variable)
+        | Term::ElementOf(variable)
+        | Term::FieldOf(variable, _) => one(alloc, numbers.number(*variable)),
+        Term::RecordOf(fields) => numbers_of(alloc, numbers, fields.as_slice()),
+        Term::TreeOf(tree) => numbers_of(alloc, numbers, tree.ports.as_slice()),
+    }
+}
+
+impl<'a> Bound<'a> {
+    /// The rule of an inequality.
+    pub fn of(
+        alloc: Global,
+        numbers: &'a Numbers,
+        inequality: &'a Inequality,
+    ) -> Result<Bound<'a>, AllocError>
+        ensures { IfOk result (IsRuleOf numbers.now inequality.now) }
+    {
+        Ok(Bound {
+            target: numbers.number(inequality.variable),
+            inequality,
+            numbers,
+            reads: reads_of(alloc, numbers, &inequality.term)?,
+        })
+    }
+}
