@@ -1,0 +1,5 @@
+pub mod Nested
+pub mod Started
+pub mod Counts
+pub mod Frames
+pub mod Seen
