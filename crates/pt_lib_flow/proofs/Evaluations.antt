@@ -11,22 +11,22 @@ use Rattle.pt_expr.specs.declared.fault.EvalFault.TheVariants.{DivideByZero, Ove
 use Rattle.pt_expr.specs.Outcome.{Outcome, Gives, Stops}
 use Rattle.pt_expr.specs.Scope.{Scope}
 use Rattle.pt_expr.specs.Meaning.{value}
-use Rattle.pt_firing.specs.Row.{all_present, rests}
+use Rattle.pt_firing.specs.Row.{rests}
 use Rattle.pt_firing.specs.Step.{Makes}
 use Rattle.pt_firing.specs.declared.step.Step.{Step}
 use Rattle.pt_firing.specs.declared.step.Step.TheVariants as made
-use Rattle.pt_lib_flow.specs.Formula.{Formula, parameters, with_inputs, HasParameters}
+use Rattle.pt_lib_flow.specs.Formula.{Formula, names, are_of, parameters, with_inputs, HasParameters}
 use Rattle.pt_lib_flow.specs.Expression.{scope, outcome, answer, step, told}
 use Rattle.pt_lib_flow.proofs.Formulas.{inputs-over}
 
 -- an environment that has the parameters, after the inputs are bound
-outcome-is : (f : Formula) (X : Streams Token) (s s' : Scope) → HasParameters f.inputs f.values s → ((name : List ℕ) → s' name ≡ with_inputs f.inputs X s name) → value s' f.tree ≡ outcome f X
+outcome-is : (f : Formula) (X : Streams Token) (s s' : Scope) → HasParameters (names f.inputs) f.values s → ((name : List ℕ) → s' name ≡ with_inputs (names f.inputs) X s name) → value s' f.tree ≡ outcome f X
 outcome-is f X s s' has bound = ap (λ u. value u f.tree) same
   where
     same : s' ≡ scope f X
-    same = λ i name. (bound name ∙ inputs-over f.inputs X s (parameters f.values) has name) i
+    same = λ i name. (bound name ∙ inputs-over (names f.inputs) X s (parameters f.values) has name) i
 
-pub comes-to : (f g : Formula) (X : Streams Token) (s s' : Scope) → f ≡ g → HasParameters f.inputs f.values s → ((name : List ℕ) → s' name ≡ with_inputs f.inputs X s name) → value s' f.tree ≡ outcome g X
+pub comes-to : (f g : Formula) (X : Streams Token) (s s' : Scope) → f ≡ g → HasParameters (names f.inputs) f.values s → ((name : List ℕ) → s' name ≡ with_inputs (names f.inputs) X s name) → value s' f.tree ≡ outcome g X
 comes-to f g X s s' same has bound = outcome-is f X s s' has bound ∙ ap (λ h. outcome h X) same
 
 unmade : (a new : Formula) (r : Answer Token Formula) → new ≡ a → Makes r a made.Memory new
@@ -49,7 +49,7 @@ all-told : (a new : Formula) (o : Outcome Value) (r : Result Token EvalFault) �
 all-told a new o (Ok t) given faulty same = subst (λ p. Makes (answer a p) a (told (Ok t)) new) (sym given) (ap (λ u. (u ∷ []) ∷ []) (sym (token_of-value_of t)), same)
 all-told a new o (Err fault) given faulty same = fault-told a new o fault faulty same
 
-pub step-told : (tag : Tag) (a new : Formula) (X : Streams Token) (r : Result Token EvalFault) (s : Step) → all_present X ≡ true → IfOk r (λ t. outcome a X ≡ Gives (value_of t)) → IfErr r (λ fault. (fault ≡ Memory) ⊎ (outcome a X ≡ Stops fault)) → new ≡ a → s ≡ told r →
+pub step-told : (tag : Tag) (a new : Formula) (X : Streams Token) (r : Result Token EvalFault) (s : Step) → are_of a.inputs X ≡ true → IfOk r (λ t. outcome a X ≡ Gives (value_of t)) → IfErr r (λ fault. (fault ≡ Memory) ⊎ (outcome a X ≡ Stops fault)) → new ≡ a → s ≡ told r →
     Makes (step tag a X) a s new
 step-told tag a new X r s present given faulty same is =
     subst (λ b. Makes (if b then answer a (outcome a X) else rests a) a s new) (sym present) (

@@ -1,5 +1,5 @@
 -- The names of an Expression, bound one after another.
-use Rattle.std.proofs.Common.{◌≡◌, ℕ, ◌<◌, ◌+◌, zero, suc, List, [], ◌∷◌, length, get_or, drop, Bool, true, false, ◌||◌, Option, Some, refl, sym, ap, ◌∙◌, add-one, drop-cons, arith, if◌then◌else◌}
+use Rattle.std.proofs.Common.{◌≡◌, ℕ, ◌<◌, ◌+◌, zero, suc, List, [], ◌∷◌, length, get_or, drop, map, Bool, true, false, ◌||◌, Option, Some, refl, sym, ap, ◌∙◌, add-one, drop-cons, arith, if◌then◌else◌}
 use Rattle.std.specs.Prelude.{bytes_eq, option_map}
 use Rattle.pt_meaning.specs.Basics.{Streams}
 use Rattle.pt_value.specs.Value.{Value}
@@ -8,14 +8,19 @@ use Rattle.pt_value.specs.declared.token.Token.{Token}
 use Rattle.pt_expr.specs.Scope.{Scope}
 use Rattle.pt_firing.specs.Row.{token_at}
 use Rattle.pt_firing.proofs.Named.{value-found, value-later}
-use Rattle.pt_lib_flow.specs.Formula.{parameters, with_name, with_inputs, is_among}
+use Rattle.std.proofs.lemmas.List.{length-map}
+use Rattle.std.proofs.Math.ListN.{get_or-map}
+use Rattle.pt_types.specs.Datatype.{Datatype}
+use Rattle.pt_types.specs.declared.ty.Ty.{Ty}
+use Rattle.pt_expr_type.specs.Entry.{typed_entry}
+use Rattle.pt_lib_flow.specs.Formula.{names, parameters, with_name, with_inputs, is_among}
 
-drop-one : {T : Type 0} (X : List T) (n : ℕ) → drop 1 (drop n X) ≡ drop (suc n) X
+pub drop-one : {T : Type 0} (X : List T) (n : ℕ) → drop 1 (drop n X) ≡ drop (suc n) X
 drop-one X zero = refl
 drop-one [] (suc n) = refl
 drop-one (x ∷ X) (suc n) = drop-one X n
 
-first-dropped : (X : Streams Token) (n : ℕ) → token_at (drop n X) 0 ≡ token_at X n
+pub first-dropped : (X : Streams Token) (n : ℕ) → token_at (drop n X) 0 ≡ token_at X n
 first-dropped X zero = refl
 first-dropped [] (suc n) = refl
 first-dropped (xs ∷ X) (suc n) = first-dropped X n
@@ -75,3 +80,10 @@ inputs-bound names X n e name s s' v short is named held bound other =
 pub others-bound : (names : List (List ℕ)) (n : ℕ) (e name : List ℕ) (s s' : Scope) (v : Option Value) → n < length names → e ≡ get_or names n e → name ≡ e → ((other : List ℕ) → s' other ≡ with_name name v s other) → (other : List ℕ) → is_among other names ≡ false → s' other ≡ s other
 others-bound names n e name s s' v short is named bound other apart =
     bound other ∙ ap (λ m. with_name m v s other) named ∙ ap (λ b. if b then Some v else s other) (among-apart other names n e short is apart)
+
+-- a name of an entry, among those of all
+pub name-at : (es : List (List ℕ × Ty)) (n : ℕ) (e : List ℕ × Ty) → e ≡ get_or es n e → e.0 ≡ get_or (names (map typed_entry es)) n e.0
+name-at es n e is = ap (λ (p : List ℕ × Ty). p.0) is ∙ sym (get_or-map (λ (p : List ℕ × Datatype). p.0) (map typed_entry es) n (typed_entry e) ∙ ap (λ (p : List ℕ × Datatype). p.0) (get_or-map typed_entry es n e))
+
+pub length-names : (es : List (List ℕ × Ty)) → length (names (map typed_entry es)) ≡ length es
+length-names es = length-map (map typed_entry es) (λ (p : List ℕ × Datatype). p.0) ∙ length-map es typed_entry

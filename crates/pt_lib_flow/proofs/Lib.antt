@@ -3,7 +3,12 @@ pub mod Places
 pub mod Extremes
 pub mod Quotients
 pub mod Sequences
+pub mod TypedPorts
 pub mod Formulas
+pub mod Typings
 pub mod Evaluations
 pub mod Repetitions
 pub mod Held
+pub mod Steadiness
+pub mod Bounds
+pub mod Giving

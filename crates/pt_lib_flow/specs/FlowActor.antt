@@ -1,5 +1,5 @@
 -- The library of flow actors: each class by its own definition.
-use Rattle.std.specs.Prelude.{ℕ, List, [], length, Option, Some, None, false, codes, bytes_eq, option_map, if◌then◌else◌}
+use Rattle.std.specs.Prelude.{ℕ, List, [], ◌∷◌, length, Bool, Option, Some, None, true, false, codes, bytes_eq, option_map, if◌then◌else◌}
 use Rattle.pt_meaning.specs.Basics.{Tag, Streams}
 use Rattle.pt_meaning.specs.Machine.{Need, Partial}
 use Rattle.pt_meaning.specs.Node.{Answer, Gives, Fails, Rows, is_zero}
@@ -11,6 +11,7 @@ use Rattle.pt_lib_flow.specs.declared.flow_actor.Class.{Class}
 use Rattle.pt_lib_flow.specs.declared.flow_actor.Class.TheVariants as class
 use Rattle.pt_lib_flow.specs.declared.extreme.Side.TheVariants.{Greatest, Least}
 use Rattle.pt_lib_flow.specs.declared.params.Params.{Params}
+use Rattle.pt_lib_flow.specs.Limit.{is_endless}
 use Rattle.pt_lib_flow.specs.AbsoluteValue as absolute_value
 use Rattle.pt_lib_flow.specs.Accumulator as accumulator
 use Rattle.pt_lib_flow.specs.AddSubtract as add_subtract
@@ -74,6 +75,50 @@ outputs (Scale actor) = 1
 outputs (Sequence actor) = 1
 outputs (UpSample actor) = 1
 
+-- How many tokens a firing gives on its one output, where each input has the tokens that it needs, of the types of its row. On the outputs of a BooleanSwitch, and on that of a BooleanSelect, the number varies.
+abbrev pub rate : FlowActor → Option ℕ
+rate (AbsoluteValue actor) = Some 1
+rate (Accumulator actor) = Some 1
+rate (AddSubtract actor) = Some 1
+rate (BooleanSelect actor) = None
+rate (BooleanSwitch actor) = None
+rate (Const actor) = Some 1
+rate (Counter actor) = Some 1
+rate (DownSample actor) = Some 1
+rate (Expression actor) = Some 1
+rate (Extreme actor) = Some 1
+rate (MultiplyDivide actor) = Some 1
+rate (Ramp actor) = Some 1
+rate (Repeat actor) = Some (repeat.rate actor)
+rate (SampleDelay actor) = Some 1
+rate (Scale actor) = Some 1
+rate (Sequence actor) = Some 1
+rate (UpSample actor) = Some (up_sample.rate actor)
+
+-- the same for each output
+abbrev pub rates : FlowActor → Option (List ℕ)
+rates actor = option_map (λ n. n ∷ []) (rate actor)
+
+-- It needs the same at each firing. A source that is over at some time, and a BooleanSelect, need something else then.
+abbrev pub is_steady : FlowActor → Bool
+is_steady (AbsoluteValue actor) = true
+is_steady (Accumulator actor) = true
+is_steady (AddSubtract actor) = true
+is_steady (BooleanSelect actor) = false
+is_steady (BooleanSwitch actor) = true
+is_steady (Const actor) = is_endless actor.limit
+is_steady (Counter actor) = true
+is_steady (DownSample actor) = true
+is_steady (Expression actor) = true
+is_steady (Extreme actor) = true
+is_steady (MultiplyDivide actor) = true
+is_steady (Ramp actor) = is_endless actor.limit
+is_steady (Repeat actor) = true
+is_steady (SampleDelay actor) = true
+is_steady (Scale actor) = true
+is_steady (Sequence actor) = actor.cyclic
+is_steady (UpSample actor) = true
+
 -- its first tokens
 abbrev pub first : FlowActor → List Token
 first (AbsoluteValue actor) = []
@@ -131,26 +176,6 @@ step tag (SampleDelay actor) X = held_as SampleDelay (sample_delay.step tag acto
 step tag (Scale actor) X = held_as Scale (scale.step tag actor X)
 step tag (Sequence actor) X = held_as Sequence (sequence.step tag actor X)
 step tag (UpSample actor) X = held_as UpSample (up_sample.step tag actor X)
-
--- its step takes these inputs: a tree has a meaning where types are right, and the rows of the other classes have an answer for every list of tokens
-abbrev pub Takes : Tag → FlowActor → Streams Token → Type 0
-Takes tag (AbsoluteValue actor) X = Unit {0}
-Takes tag (Accumulator actor) X = Unit {0}
-Takes tag (AddSubtract actor) X = Unit {0}
-Takes tag (BooleanSelect actor) X = Unit {0}
-Takes tag (BooleanSwitch actor) X = Unit {0}
-Takes tag (Const actor) X = Unit {0}
-Takes tag (Counter actor) X = Unit {0}
-Takes tag (DownSample actor) X = Unit {0}
-Takes tag (Expression actor) X = expression.Takes tag actor X
-Takes tag (Extreme actor) X = Unit {0}
-Takes tag (MultiplyDivide actor) X = Unit {0}
-Takes tag (Ramp actor) X = Unit {0}
-Takes tag (Repeat actor) X = Unit {0}
-Takes tag (SampleDelay actor) X = Unit {0}
-Takes tag (Scale actor) X = Unit {0}
-Takes tag (Sequence actor) X = Unit {0}
-Takes tag (UpSample actor) X = Unit {0}
 
 -- its step takes no memory
 abbrev pub IsSpare : FlowActor → Type 0

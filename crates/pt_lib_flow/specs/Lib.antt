@@ -5,6 +5,7 @@ pub mod Accumulator
 pub mod AddSubtract
 pub mod Const
 pub mod TreeCode
+pub mod PortTypes
 pub mod Formula
 pub mod Expression
 pub mod Extreme
@@ -21,3 +22,4 @@ pub mod Counter
 pub mod BooleanSwitch
 pub mod BooleanSelect
 pub mod FlowActor
+pub mod Laws

@@ -24,6 +24,11 @@ is_over Endless = false
 is_over (Left zero) = true
 is_over (Left (suc count)) = false
 
+-- it is never over
+abbrev pub is_endless : Limit → Bool
+is_endless Endless = true
+is_endless (Left count) = false
+
 -- after one firing
 abbrev pub after_one : Limit → Limit
 after_one Endless = Endless

@@ -1,5 +1,7 @@
 -- Parameters and tokens of actors that take or give several tokens in a firing. Their numbers are from 1 to 1,000,000.
-use Rattle.std.specs.Prelude.{ℕ, zero, suc, ◌*◌, nat_le, ℤ, pos, int_le, int_lt, unsigned_abs, ◌&&◌, List, [], ◌++◌, Option, Some, None, codes, if◌then◌else◌}
+use Rattle.std.specs.Prelude.{ℕ, zero, suc, ◌*◌, ◌≤◌, nat_le, ℤ, pos, int_le, int_lt, unsigned_abs, ◌&&◌, List, [], ◌++◌, Option, Some, None, codes, if◌then◌else◌}
+use Rattle.std.specs.List.{AllByRecursion}
+use Rattle.pt_meaning.specs.Machine.{Need, Over, Counts, Any}
 use Rattle.pt_value.specs.declared.token.Token.{Token}
 use Rattle.pt_firing.specs.Params.{int_or, int_within}
 
@@ -25,3 +27,14 @@ times_and_size values = repeated_block (int_within (codes "numberOfTimes") (pos 
 abbrev pub repeated : {T : Type 0} → ℕ → List T → List T
 repeated zero xs = []
 repeated (suc n) xs = xs ++ repeated n xs
+
+-- a number of tokens that an actor takes or gives in a firing
+pub record IsCount (n : ℕ) : Type 0 where
+  pub least : 1 ≤ n
+  pub most : n ≤ 1000000
+
+-- what a need counts are such numbers
+abbrev pub IsCounted : Need → Type 0
+IsCounted Over = Unit {0}
+IsCounted (Counts counts) = AllByRecursion IsCount counts
+IsCounted Any = Unit {0}

@@ -1,5 +1,5 @@
 -- Repeat: gives a block of tokens so many times.
-use Rattle.std.specs.Prelude.{ℕ, [], ◌∷◌, Option, Some, None}
+use Rattle.std.specs.Prelude.{ℕ, ◌*◌, List, [], ◌∷◌, Option, Some, None}
 use Rattle.pt_meaning.specs.Basics.{Tag, Streams, at}
 use Rattle.pt_meaning.specs.Machine.{Need, Counts}
 use Rattle.pt_meaning.specs.Node.{Answer, Gives}
@@ -13,6 +13,15 @@ need actor = Counts actor.needed
 
 abbrev pub step : Tag → Repeat → Streams Token → Answer Token Repeat
 step tag actor X = Gives actor (repeated actor.times (at X 0) ∷ [])
+
+-- the number of tokens of a block
+abbrev pub size_in : List ℕ → ℕ
+size_in [] = 0
+size_in (size ∷ sizes) = size
+
+-- how many tokens it gives
+abbrev pub rate : Repeat → ℕ
+rate actor = actor.times * size_in actor.needed
 
 abbrev pub start_by : Option (ℕ × ℕ) → Option Repeat
 start_by None = None

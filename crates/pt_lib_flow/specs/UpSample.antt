@@ -1,5 +1,5 @@
 -- UpSample: gives its input among zeros.
-use Rattle.std.specs.Prelude.{ℕ, ℤ, pos, ◌-◌, List, [], ◌∷◌, ◌++◌, replicate, Option, Some, None}
+use Rattle.std.specs.Prelude.{ℕ, ℤ, pos, ◌+◌, ◌-◌, List, [], ◌∷◌, ◌++◌, replicate, Option, Some, None}
 use Rattle.pt_meaning.specs.Basics.{Tag, Streams}
 use Rattle.pt_meaning.specs.Machine.{Need}
 use Rattle.pt_meaning.specs.Node.{Answer, Gives}
@@ -23,6 +23,10 @@ among_zeros before number after = zeros before ++ Int number ∷ zeros after
 
 abbrev pub step : Tag → UpSample → Streams Token → Answer Token UpSample
 step tag actor X = on_present actor (λ input. Gives actor (among_zeros actor.before input actor.after ∷ [])) (number_at X 0)
+
+-- how many tokens it gives
+abbrev pub rate : UpSample → ℕ
+rate actor = actor.before + 1 + actor.after
 
 -- as many tokens as the factor says, the input at the phase
 abbrev pub start_by : Option (ℕ × ℕ) → Option UpSample

@@ -1,4 +1,5 @@
 ghost use Rattle.std.specs.Prelude.{◌≡◌, IfOk};
+ghost use Rattle.pt_lib_flow.specs.Limit.{is_endless};
 ghost use Rattle.pt_lib_flow.specs.Const as constant;
 
 use crate::limit::{Limit, is_called};
@@ -44,6 +45,15 @@ impl Const {
             }
             _ => Ok(None),
         }
+    }
+}
+
+impl Const {
+    /// It has no limit.
+    pub(crate) fn is_endless(&self) -> bool
+        ensures { result ≡ is_endless self.now.limit }
+    {
+        self.limit.is_endless()
     }
 }
 

@@ -1,21 +1,26 @@
-ghost use Rattle.std.specs.Prelude.{◌≡◌, ◌⊎◌, IfOk, IfErr, OnOk, OnErr, List, ℕ, false};
+ghost use Rattle.std.specs.Prelude.{◌≡◌, ◌⊎◌, IfOk, IfErr, OnOk, List, ℕ, map, true, false};
 ghost use Rattle.pt_value.specs.Token.{value_of};
+ghost use Rattle.pt_types.specs.Ty.{type_of};
 ghost use Rattle.pt_expr.specs.declared.fault.EvalFault.TheVariants.{Memory};
-ghost use Rattle.pt_expr.specs.Outcome.{Gives, Stops, Wrong};
+ghost use Rattle.pt_expr.specs.Outcome.{Gives, Stops};
 ghost use Rattle.pt_expr.specs.Env.{scope_of};
 ghost use Rattle.pt_expr.specs.Expr.{tree_of};
+ghost use Rattle.pt_expr_type.specs.Entry.{typed_entry};
+ghost use Rattle.pt_expr_type.specs.TypeEnv.{types_in};
 ghost use Rattle.pt_firing.specs.Row.{token_at};
-ghost use Rattle.pt_lib_flow.specs.Formula.{parameters, with_inputs, is_among};
+ghost use Rattle.pt_lib_flow.specs.Formula.{names, parameters, with_inputs, is_among, parameter_types, with_types, types_of, is_typed, is_of, are_of};
 ghost use Rattle.pt_lib_flow.specs.Expression as expression;
 
 use crate::params::Params;
+use crate::port_types::PortTypes;
 use pt_expr::{Env, EvalFault, Expr, eval};
+use pt_expr_type::{TypeEnv, TypeFault};
 use pt_firing::{
-    Actor, Fires, Inputs, Names, Need, OneEach, Outputs, Partial, RunFault, Step, Values,
-    strict_early,
+    Actor, Fires, Inputs, Need, OneEach, Outputs, Partial, RunFault, Step, Values, strict_early,
 };
 use pt_time::Tag;
-use pt_value::Token;
+use pt_types::{Ty, type_of_token};
+use pt_value::{Text, Token};
 use std::alloc::{AllocError, Global};
 use std::marker::Model;
 
@@ -24,7 +29,7 @@ use std::marker::Model;
 /// The parameters are bound once. At a firing only the inputs are bound anew, and what they were bound to before doesn't count.
 #[derive(Drop)]
 pub struct Expression {
-    inputs: Names,
+    inputs: PortTypes,
     values: Values,
     tree: Expr,
     env: Env,
@@ -32,11 +37,10 @@ pub struct Expression {
 }
 
 impl Model for Expression {
-    ghost use Rattle.std.specs.Prelude.{◌≡◌, length};
+    ghost use Rattle.std.specs.Prelude.{◌≡◌, length, true};
     ghost use Rattle.pt_expr.specs.Env.{scope_of};
     ghost use Rattle.pt_expr.specs.Expr.{tree_of};
-    ghost use Rattle.pt_firing.specs.Row.{token_at};
-    ghost use Rattle.pt_lib_flow.specs.Formula.{Formula, coded_formula, HasParameters};
+    ghost use Rattle.pt_lib_flow.specs.Formula.{Formula, coded_formula, names, HasParameters, is_typed};
 
     ghost Value = { Formula };
 
@@ -44,21 +48,38 @@ impl Model for Expression {
 
     ghost view = { λ e. record { inputs = e.inputs; values = e.values; tree = tree_of e.tree } };
 
-    ghost invariant = { λ e. (e.places ≡ length e.inputs) × HasParameters e.inputs e.values (scope_of e.env) };
+    // Its tree has a type.
+    ghost invariant = { λ e. (e.places ≡ length e.inputs) × HasParameters (names e.inputs) e.values (scope_of e.env) × (is_typed (record { inputs = e.inputs; values = e.values; tree = tree_of e.tree }) ≡ true) };
 }
 
 impl Expression {
-    /// An actor with inputs of these names, in the order of its places.
+    /// An actor with inputs of these names and types, in the order of its places, if the tree has a type.
     pub fn new(
         alloc: Global,
-        inputs: Names,
+        inputs: PortTypes,
+        values: Values,
+        tree: Expr,
+    ) -> Result<Option<Expression>, AllocError>
+        ensures { IfOk result (λ actor. actor ≡ expression.typed (record { inputs = inputs; values = values; tree = tree_of tree })) }
+    {
+        if !has_type(alloc, &inputs, &values, &tree)? {
+            return Ok(None);
+        }
+        Ok(Some(Expression::of(alloc, inputs, values, tree)?))
+    }
+
+    /// The same where the tree has one.
+    fn of(
+        alloc: Global,
+        inputs: PortTypes,
         values: Values,
         tree: Expr,
     ) -> Result<Expression, AllocError>
+        requires { is_typed (record { inputs = inputs; values = values; tree = tree_of tree }) ≡ true }
         ensures { IfOk result (λ actor. actor ≡ record { inputs = inputs; values = values; tree = tree_of tree }) }
     {
         let env = bound(alloc, &values)?;
-        let places = OneEach::of(alloc, inputs.len())?;
+        let places = OneEach::of(alloc, inputs.as_slice().len())?;
         Ok(Expression {
             inputs,
             values,
@@ -68,28 +89,75 @@ impl Expression {
         })
     }
 
-    /// The actor that the parameters start, if there is a tree.
+    /// The actor that the parameters start, if there is a tree, each input has a type, and the tree has one then.
     pub fn start(alloc: Global, params: &Params) -> Result<Option<Expression>, AllocError>
         ensures { IfOk result (λ actor. actor ≡ expression.start params.now) }
     {
         let Some(tree) = &params.tree else {
             return Ok(None);
         };
-        let inputs = params.ports.names_but(alloc, "output")?;
+        let names = params.ports.names_but(alloc, "output")?;
+        let Some(inputs) = params.types.typed(alloc, &names)? else {
+            return Ok(None);
+        };
         let values = params.values.copy(alloc)?;
-        Ok(Some(Expression::new(alloc, inputs, values, tree.copy(alloc)?)?))
+        Expression::new(alloc, inputs, values, tree.copy(alloc)?)
     }
 
-    /// What the tree comes to on some inputs.
+    /// What the tree comes to on tokens of the inputs' types.
     fn evaluate(&mut self, alloc: Global, inputs: &Inputs<'_>) -> Result<Token, EvalFault>
-        requires right { ¬ (expression.outcome self.old inputs.now ≡ Wrong) }
+        requires right { are_of self.old.inputs inputs.now ≡ true }
         ensures ok { IfOk result (λ token. expression.outcome self.old inputs.now ≡ Gives (value_of token)) }
         ensures err { IfErr result (λ fault. (fault ≡ Memory) ⊎ (expression.outcome self.old inputs.now ≡ Stops fault)) }
         ensures kept { self.new ≡ self.old }
     {
-        bind_inputs(&mut self.env, alloc, &self.inputs, inputs)?;
+        bind_inputs(&mut self.env, alloc, self.inputs.as_slice(), inputs)?;
         eval(alloc, &self.tree, &self.env)
     }
+}
+
+/// Whether the tree has a type where its names have theirs.
+fn has_type(
+    alloc: Global,
+    inputs: &PortTypes,
+    values: &Values,
+    tree: &Expr,
+) -> Result<bool, AllocError>
+    ensures { IfOk result (λ typed. typed ≡ is_typed (record { inputs = inputs.now; values = values.now; tree = tree_of tree.now })) }
+{
+    let mut env = bound_types(alloc, values)?;
+    bind_types(&mut env, alloc, inputs.as_slice())?;
+    match pt_expr_type::type_of(alloc, tree, &env) {
+        Ok(_) => Ok(true),
+        Err(TypeFault::Memory) => Err(AllocError),
+        Err(TypeFault::Name | TypeFault::Clash) => Ok(false),
+    }
+}
+
+/// An environment in which the parameters are bound to the types of their tokens.
+fn bound_types(alloc: Global, values: &Values) -> Result<TypeEnv, AllocError>
+    ensures { IfOk result (λ env. (name : List ℕ) → types_in env name ≡ parameter_types values.now name) }
+{
+    let mut env = TypeEnv::new(alloc);
+    let entries = values.as_slice();
+    // The first one under a name counts, and what is bound later replaces what was there.
+    let mut left = entries.len();
+    while left > 0 {
+        left -= 1;
+        let (name, value) = &entries[left];
+        env.bind(name.as_str(), type_of_token(alloc, value)?)?;
+    }
+    Ok(env)
+}
+
+/// Binds the name of each input to its type.
+fn bind_types(env: &mut TypeEnv, alloc: Global, inputs: &[(Text, Ty)]) -> Result<(), AllocError>
+    ensures { OnOk result ((name : List ℕ) → types_in env.new name ≡ with_types (map typed_entry inputs.now) (types_in env.old) name) }
+{
+    for (name, ty) in inputs {
+        env.bind(name.as_str(), ty.copy(alloc)?)?;
+    }
+    Ok(())
 }
 
 /// An environment in which the parameters are bound.
@@ -112,17 +180,39 @@ fn bound(alloc: Global, values: &Values) -> Result<Env, AllocError>
 fn bind_inputs(
     env: &mut Env,
     alloc: Global,
-    names: &Names,
+    entries: &[(Text, Ty)],
     inputs: &Inputs<'_>,
 ) -> Result<(), AllocError>
-    ensures ok { OnOk result ((name : List ℕ) → scope_of env.new name ≡ with_inputs names.now inputs.now (scope_of env.old) name) }
-    ensures others { (name : List ℕ) → is_among name names.now ≡ false → scope_of env.new name ≡ scope_of env.old name }
+    ensures ok { OnOk result ((name : List ℕ) → scope_of env.new name ≡ with_inputs (names (map typed_entry entries.now)) inputs.now (scope_of env.old) name) }
+    ensures others { (name : List ℕ) → is_among name (names (map typed_entry entries.now)) ≡ false → scope_of env.new name ≡ scope_of env.old name }
 {
-    for (place, name) in names.as_slice().iter().enumerate() {
+    for (place, (name, _)) in entries.iter().enumerate() {
         let token = first_at(alloc, inputs, place)?;
         env.bind(name.as_str(), token)?;
     }
     Ok(())
+}
+
+/// Whether each input has a token of its type.
+fn are_of(entries: &[(Text, Ty)], inputs: &Inputs<'_>) -> bool
+    ensures { result ≡ are_of (map typed_entry entries.now) inputs.now }
+{
+    for (place, (_, ty)) in entries.iter().enumerate() {
+        if !is_of_at(inputs, place, ty) {
+            return false;
+        }
+    }
+    true
+}
+
+/// Whether a place has a token, of a type.
+fn is_of_at(inputs: &Inputs<'_>, place: usize, ty: &Ty) -> bool
+    ensures { result ≡ is_of (type_of ty.now) (token_at inputs.now place) }
+{
+    match inputs.token_at(place) {
+        Some(token) => pt_types::is_of(token, ty),
+        None => false,
+    }
 }
 
 /// A copy of the first token of a place, if there is one.
@@ -155,19 +245,19 @@ impl Fires for Expression {
 
     ghost step = { expression.step };
 
-    ghost Takes = { expression.Takes };
+    ghost Takes = { λ tag actor X. Unit {0} };
 
     ghost IsSpare = { λ actor. ⊥ };
 
     fn step(&mut self, alloc: Global, _tag: Tag, inputs: &Inputs<'_>) -> Step {
-        if !inputs.all_present() {
+        if !are_of(self.inputs.as_slice(), inputs) {
             return Step::Done(Outputs::none(1));
         }
         told(self.evaluate(alloc, inputs))
     }
 
     fn copy(&self, alloc: Global) -> Result<Expression, AllocError> {
-        Expression::new(
+        Expression::of(
             alloc,
             self.inputs.copy(alloc)?,
             self.values.copy(alloc)?,

@@ -1,5 +1,6 @@
-ghost use Rattle.std.specs.Prelude.{◌≡◌, IfOk, IsSome};
-ghost use Rattle.pt_lib_flow.specs.FlowActor.{class_of, start_as, start, outputs};
+ghost use Rattle.std.specs.Prelude.{◌≡◌, IfOk, IfSome, IsSome};
+ghost use Rattle.pt_lib_flow.specs.Rates.{IsCount};
+ghost use Rattle.pt_lib_flow.specs.FlowActor.{class_of, start_as, start, outputs, rate, is_steady};
 
 use crate::absolute_value::AbsoluteValue;
 use crate::accumulator::Accumulator;
@@ -210,6 +211,58 @@ impl FlowActor {
             | FlowActor::UpSample(_) => 1,
         }
     }
+
+    /// How many tokens a firing gives on its one output, where each input has the tokens that it needs, of the types of its row.
+    ///
+    /// There is none where the number varies, as at a BooleanSwitch and a BooleanSelect.
+    pub fn rate(&self) -> Option<usize>
+        requires { IfSome (rate self.now) IsCount }
+        ensures { result ≡ rate self.now }
+    {
+        match self {
+            FlowActor::UpSample(actor) => Some(actor.rate()),
+            FlowActor::Repeat(actor) => Some(actor.rate()),
+            FlowActor::BooleanSelect(_) | FlowActor::BooleanSwitch(_) => None,
+            FlowActor::AbsoluteValue(_)
+            | FlowActor::Accumulator(_)
+            | FlowActor::AddSubtract(_)
+            | FlowActor::Const(_)
+            | FlowActor::Counter(_)
+            | FlowActor::DownSample(_)
+            | FlowActor::Expression(_)
+            | FlowActor::Extreme(_)
+            | FlowActor::MultiplyDivide(_)
+            | FlowActor::Ramp(_)
+            | FlowActor::SampleDelay(_)
+            | FlowActor::Scale(_)
+            | FlowActor::Sequence(_) => Some(1),
+        }
+    }
+
+    /// Whether it needs the same at each firing.
+    pub fn is_steady(&self) -> bool
+        ensures { result ≡ is_steady self.now }
+    {
+        match self {
+            FlowActor::Const(actor) => actor.is_endless(),
+            FlowActor::Ramp(actor) => actor.is_endless(),
+            FlowActor::Sequence(actor) => actor.is_cyclic(),
+            FlowActor::BooleanSelect(_) => false,
+            FlowActor::AbsoluteValue(_)
+            | FlowActor::Accumulator(_)
+            | FlowActor::AddSubtract(_)
+            | FlowActor::BooleanSwitch(_)
+            | FlowActor::Counter(_)
+            | FlowActor::DownSample(_)
+            | FlowActor::Expression(_)
+            | FlowActor::Extreme(_)
+            | FlowActor::MultiplyDivide(_)
+            | FlowActor::Repeat(_)
+            | FlowActor::SampleDelay(_)
+            | FlowActor::Scale(_)
+            | FlowActor::UpSample(_) => true,
+        }
+    }
 }
 
 impl Fires for FlowActor {
@@ -217,7 +270,7 @@ impl Fires for FlowActor {
 
     ghost step = { flow_actor.step };
 
-    ghost Takes = { flow_actor.Takes };
+    ghost Takes = { λ tag actor X. Unit {0} };
 
     ghost IsSpare = { flow_actor.IsSpare };
 

@@ -17,6 +17,7 @@ mod limit;
 mod multiply_divide;
 mod number;
 mod params;
+mod port_types;
 mod ramp;
 mod rates;
 mod repeat;
@@ -38,10 +39,13 @@ pub use down_sample::DownSample;
 pub use expression::Expression;
 pub use extreme::{Extreme, Side};
 pub use flow_actor::{Class, FlowActor};
-pub use laws::rows_are_lawful;
+pub use laws::{
+    rates_are_counts, rates_are_given, rows_are_lawful, steady_actors_stay, steady_needs_are_counts,
+};
 pub use limit::Limit;
 pub use multiply_divide::MultiplyDivide;
 pub use params::Params;
+pub use port_types::PortTypes;
 pub use pt_firing::{Ports, Values};
 pub use ramp::Ramp;
 pub use repeat::Repeat;

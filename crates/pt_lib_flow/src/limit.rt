@@ -1,5 +1,5 @@
 ghost use Rattle.std.specs.Prelude.{◌≡◌};
-ghost use Rattle.pt_lib_flow.specs.Limit.{limit_of, limit_in, is_over, after_one, is_called};
+ghost use Rattle.pt_lib_flow.specs.Limit.{limit_of, limit_in, is_over, is_endless, after_one, is_called};
 
 use pt_firing::{Inputs, Values};
 
@@ -36,6 +36,13 @@ impl Limit {
         ensures { result ≡ is_over self }
     {
         matches!(self, Limit::Left(0))
+    }
+
+    /// It is never over.
+    pub fn is_endless(self) -> bool
+        ensures { result ≡ is_endless self }
+    {
+        matches!(self, Limit::Endless)
     }
 
     /// The limit after one firing.

@@ -1,4 +1,5 @@
 ghost use Rattle.std.specs.Prelude.{◌≡◌, IfOk};
+ghost use Rattle.pt_lib_flow.specs.Limit.{is_endless};
 ghost use Rattle.pt_lib_flow.specs.Ramp as ramp;
 
 use crate::limit::{Limit, is_called};
@@ -55,6 +56,15 @@ impl Ramp {
             }
             _ => Ok(None),
         }
+    }
+}
+
+impl Ramp {
+    /// It has no limit.
+    pub(crate) fn is_endless(&self) -> bool
+        ensures { result ≡ is_endless self.now.limit }
+    {
+        self.limit.is_endless()
     }
 }
 

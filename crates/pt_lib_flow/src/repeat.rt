@@ -1,5 +1,5 @@
 ghost use Rattle.std.specs.Prelude.{◌≡◌, [], ◌∷◌, IfOk};
-ghost use Rattle.pt_lib_flow.specs.Rates.{repeated};
+ghost use Rattle.pt_lib_flow.specs.Rates.{IsCount, repeated};
 ghost use Rattle.pt_lib_flow.specs.Repeat as repeat;
 
 use crate::params::Params;
@@ -33,6 +33,17 @@ impl Repeat {
         match times_and_size(&params.values) {
             Some((times, size)) => Ok(Some(Repeat::new(alloc, times, size)?)),
             None => Ok(None),
+        }
+    }
+
+    /// How many tokens it gives.
+    pub(crate) fn rate(&self) -> usize
+        requires { IsCount (repeat.rate self.now) }
+        ensures { result ≡ repeat.rate self.now }
+    {
+        match self.needed.as_slice() {
+            [] => 0,
+            [size, ..] => self.times * *size,
         }
     }
 }

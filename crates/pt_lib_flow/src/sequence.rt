@@ -52,6 +52,13 @@ impl Sequence {
         }
     }
 
+    /// It begins again behind its last value.
+    pub(crate) fn is_cyclic(&self) -> bool
+        ensures { result ≡ self.now.cyclic }
+    {
+        self.cyclic
+    }
+
     /// The index behind one of the values.
     #[tactic(auto, unfolding(crate::specs::Sequence::index_after))]
     fn moved(&self) -> usize

@@ -1,8 +1,9 @@
 use super::*;
 use crate::flow_actor::FlowActor;
-use pt_expr::Expr;
-use pt_firing::{Actor, Fires, Inputs, Names, Partial, Step, Tokens};
+use pt_expr::{BinaryOp, Expr};
+use pt_firing::{Actor, Fires, Inputs, Partial, Step, Tokens};
 use pt_time::Tag;
+use pt_types::Ty;
 use pt_value::{Items, Text, Token, print};
 use std::alloc::{AllocError, Global};
 use std::test::Fail;
@@ -179,6 +180,7 @@ fn params(alloc: Global, case: &Case) -> Result<Params, AllocError> {
         class: Text::of(alloc, case.class)?,
         values: values(alloc, case.values)?,
         ports: ports(alloc, case.ports)?,
+        types: PortTypes::of(Vec::new(alloc)),
         tree: None,
     })
 }
@@ -203,29 +205,6 @@ fn started(alloc: Global, params: &Params) -> Result<Option<FlowActor>, AllocErr
     match FlowActor::started(alloc, params)? {
         Some(_) => Ok(Some(FlowActor::start(alloc, params)?)),
         None => Ok(None),
-    }
-}
-
-/// A firing of an actor whose row takes all inputs.
-fn fire(actor: &mut FlowActor, alloc: Global, inputs: &Inputs<'_>) -> Step {
-    match actor {
-        FlowActor::AbsoluteValue(actor) => actor.step(alloc, START, inputs),
-        FlowActor::Accumulator(actor) => actor.step(alloc, START, inputs),
-        FlowActor::AddSubtract(actor) => actor.step(alloc, START, inputs),
-        FlowActor::BooleanSelect(actor) => actor.step(alloc, START, inputs),
-        FlowActor::BooleanSwitch(actor) => actor.step(alloc, START, inputs),
-        FlowActor::Const(actor) => actor.step(alloc, START, inputs),
-        FlowActor::Counter(actor) => actor.step(alloc, START, inputs),
-        FlowActor::DownSample(actor) => actor.step(alloc, START, inputs),
-        FlowActor::Expression(_) => Step::Memory,
-        FlowActor::Extreme(actor) => actor.step(alloc, START, inputs),
-        FlowActor::MultiplyDivide(actor) => actor.step(alloc, START, inputs),
-        FlowActor::Ramp(actor) => actor.step(alloc, START, inputs),
-        FlowActor::Repeat(actor) => actor.step(alloc, START, inputs),
-        FlowActor::SampleDelay(actor) => actor.step(alloc, START, inputs),
-        FlowActor::Scale(actor) => actor.step(alloc, START, inputs),
-        FlowActor::Sequence(actor) => actor.step(alloc, START, inputs),
-        FlowActor::UpSample(actor) => actor.step(alloc, START, inputs),
     }
 }
 
@@ -265,7 +244,7 @@ fn fired(alloc: Global, case: &Case) -> Result<Option<Vec<u8>>, AllocError> {
         return Ok(None);
     }
     let mut copy = actor.copy(alloc)?;
-    Ok(Some(shown(alloc, &fire(&mut copy, alloc, &Inputs::of(&lists)))?))
+    Ok(Some(shown(alloc, &copy.step(alloc, START, &Inputs::of(&lists)))?))
 }
 
 #[test]
@@ -277,17 +256,52 @@ fn each_class_is_started_and_fires(rt: HostRuntime) -> Result<(), Fail> {
     Ok(())
 }
 
+/// The parameters of an expression with the tree `p + x`, where p is 5, and x an input of integers.
+fn sum_params(alloc: Global) -> Result<Params, AllocError> {
+    let p = Box::new(alloc, Expr::Name(Text::of(alloc, "p")?))?;
+    let x = Box::new(alloc, Expr::Name(Text::of(alloc, "x")?))?;
+    let types = vec![in alloc; (Text::of(alloc, "x")?, Ty::Int)]?;
+    Ok(Params {
+        class: Text::of(alloc, "Expression")?,
+        values: values(alloc, &[("p", Datum::Int(5))])?,
+        ports: ports(alloc, &[("x", 1), ("output", 1)])?,
+        types: PortTypes::of(types),
+        tree: Some(Expr::Binary(BinaryOp::Add, p, x)),
+    })
+}
+
+#[test]
+fn an_expression_gives_the_value_of_its_tree(rt: HostRuntime) -> Result<(), Fail> {
+    let alloc = rt.alloc();
+    let params = sum_params(alloc)?;
+    let mut actor = started(alloc, &params)?.ok_or("not started")?;
+    for (data, gives) in [
+        (Datum::Int(2), "7 |"),
+        (Datum::Bool(true), "|"),
+        (Datum::Int(-6), "-1 |"),
+    ] {
+        let lists = lists(alloc, &[&[data]])?;
+        let step = actor.step(alloc, START, &Inputs::of(&lists));
+        let text = shown(alloc, &step)?;
+        assert_eq!(rt; text.as_slice(), gives.as_bytes(), "{data:?}");
+    }
+    Ok(())
+}
+
 /// What an expression without inputs gives, which is a literal.
-fn literal(alloc: Global) -> Result<Step, AllocError> {
-    let names = Names::of(Vec::new(alloc));
+fn literal(alloc: Global) -> Result<Option<Step>, AllocError> {
+    let inputs = PortTypes::of(Vec::new(alloc));
     let values = Values::of(Vec::new(alloc));
-    let mut actor = Expression::new(alloc, names, values, Expr::Int(7))?;
-    Ok(actor.step(alloc, START, &Inputs::of(&[])))
+    let Some(mut actor) = Expression::new(alloc, inputs, values, Expr::Int(7))? else {
+        return Ok(None);
+    };
+    Ok(Some(actor.step(alloc, START, &Inputs::of(&[]))))
 }
 
 #[test]
 fn an_expression_without_inputs_is_a_source(rt: HostRuntime) -> Result<(), Fail> {
-    let text = shown(rt.alloc(), &literal(rt.alloc())?)?;
+    let step = literal(rt.alloc())?.ok_or("not typed")?;
+    let text = shown(rt.alloc(), &step)?;
     assert_eq!(rt; text.as_slice(), b"7 |".as_slice());
     Ok(())
 }

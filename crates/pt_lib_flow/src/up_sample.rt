@@ -1,4 +1,5 @@
 ghost use Rattle.std.specs.Prelude.{◌≡◌, ◌-◌, ◌++◌, IfOk, OnOk};
+ghost use Rattle.pt_lib_flow.specs.Rates.{IsCount};
 ghost use Rattle.pt_lib_flow.specs.UpSample.{zeros, among_zeros};
 ghost use Rattle.pt_lib_flow.specs.UpSample as up_sample;
 
@@ -39,6 +40,14 @@ impl UpSample {
             Some((factor, phase)) => Ok(Some(UpSample::new(alloc, factor, phase)?)),
             None => Ok(None),
         }
+    }
+
+    /// How many tokens it gives.
+    pub(crate) fn rate(&self) -> usize
+        requires { IsCount (up_sample.rate self.now) }
+        ensures { result ≡ up_sample.rate self.now }
+    {
+        self.before + 1 + self.after
     }
 }
 

@@ -1,3 +1,4 @@
 pub mod RecordedLaws
 pub mod LibraryLaws
 pub mod Link
+pub mod SteadyLaws

@@ -3,4 +3,5 @@ pub mod LibraryActor
 pub mod Shown
 pub mod View
 pub mod Live
+pub mod Steady
 pub mod Firing

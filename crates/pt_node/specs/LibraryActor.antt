@@ -19,7 +19,11 @@ next (Flow actor) = None
 
 -- the inputs that the step takes
 abbrev pub Takes : Tag → LibraryActor → Streams Token → Type 0
-Takes tag (Flow actor) X = flow.Takes tag actor X
+Takes tag (Flow actor) X = Unit {0}
+
+-- it needs the same at each firing
+abbrev pub is_steady : LibraryActor → Bool
+is_steady (Flow actor) = flow.is_steady actor
 
 -- the step takes no memory
 abbrev pub IsSpare : LibraryActor → Type 0

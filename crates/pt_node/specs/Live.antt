@@ -22,7 +22,6 @@ after [] a = Some a
 after (f ∷ fs) a = on_answer (after fs) (library.step f.0 a f.1)
 
 -- Whatever it fires, its need stays the same, and its step takes any inputs. A source with a limit isn't steady: once it is over it needs nothing more.
--- An expression that is wrong on tokens of some types isn't either, as long as no types are kept with the channels.
 pub record IsSteadyActor (a : LibraryActor) : Type 0 where
   pub needs : (fs : List (Tag × Streams Token)) (b : LibraryActor) → after fs a ≡ Some b → library.need b ≡ library.need a
   pub takes : (fs : List (Tag × Streams Token)) (b : LibraryActor) → after fs a ≡ Some b → (tag : Tag) (X : Streams Token) → library.Takes tag b X

@@ -11,7 +11,7 @@ mod recorded;
 
 pub use body::{Body, Held};
 pub use director::Director;
-pub use laws::rows_are_lawful;
+pub use laws::{rows_are_lawful, told_actors_are_steady};
 pub use library::LibraryActor;
 pub use node::Node;
 pub use past::Past;

@@ -1,3 +1,6 @@
+ghost use Rattle.std.specs.Prelude.{◌≡◌};
+ghost use Rattle.pt_node.specs.LibraryActor.{is_steady};
+
 use pt_firing::{Actor, Fires, Inputs, Need, Partial, Step};
 use pt_lib_flow::FlowActor;
 use pt_time::Tag;
@@ -8,6 +11,17 @@ use std::alloc::{AllocError, Global};
 #[derive(Drop)]
 pub enum LibraryActor {
     Flow(FlowActor),
+}
+
+impl LibraryActor {
+    /// Whether it needs the same at each firing.
+    pub fn is_steady(&self) -> bool
+        ensures { result ≡ is_steady self.now }
+    {
+        match self {
+            LibraryActor::Flow(actor) => actor.is_steady(),
+        }
+    }
 }
 
 impl Fires for LibraryActor {

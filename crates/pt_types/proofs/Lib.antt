@@ -6,3 +6,4 @@ pub mod Rank
 pub mod Records
 pub mod Solutions
 pub mod Texts
+pub mod TokenTypes

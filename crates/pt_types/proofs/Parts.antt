@@ -9,10 +9,10 @@ use Rattle.pt_types.proofs.Joins.{bool_cases, normal-proper, normal-not_proper, 
 differ : true ≡ false → ⊥
 differ e = cc
 
-proper-from : (t : Datatype) → is_plain t ≡ true → depth t ≤ 8 → nodes t ≤ 1024 → is_proper t ≡ true
+pub proper-from : (t : Datatype) → is_plain t ≡ true → depth t ≤ 8 → nodes t ≤ 1024 → is_proper t ≡ true
 proper-from t plain deep many = and_both (is_plain t) (leb (depth t) 8 && leb (nodes t) 1024) plain (and_both (leb (depth t) 8) (leb (nodes t) 1024) (le-leb (depth t) 8 deep) (le-leb (nodes t) 1024 many))
 
-element-proper : (t : Datatype) → is_proper (Array t) ≡ true → is_proper t ≡ true
+pub element-proper : (t : Datatype) → is_proper (Array t) ≡ true → is_proper t ≡ true
 element-proper t p =
     let deep : depth t ≤ 8 = omega (arith, proper-depth (Array t) p) in
     let many : nodes t ≤ 1024 = omega (arith, proper-nodes (Array t) p) in

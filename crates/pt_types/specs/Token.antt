@@ -1,9 +1,11 @@
 -- The types of tokens.
+use Rattle.std.specs.Prelude.{ℕ, List, map, Bool, true, ◌&&◌}
 use Rattle.pt_value.specs.Value as token
 use Rattle.pt_value.specs.Value.{Value, Values, no_values, value_then, Named}
 use Rattle.pt_types.specs.Datatype.{Datatype, Unknown, Int, Boolean, Words, FieldTypes, no_fields, field_then}
 use Rattle.pt_types.specs.Normal.{array_of, record_of}
 use Rattle.pt_types.specs.Join.{join}
+use Rattle.pt_types.specs.Order.{is_below}
 
 -- an array has the join of the types of its elements, which is unknown where it has none; a record has the types of its fields
 abbrev mutual
@@ -23,3 +25,12 @@ abbrev mutual
   pub field_types : Named → FieldTypes
   field_types token.no_fields = no_fields
   field_types (token.field_then n v fs) = field_then n (type_of_value v) (field_types fs)
+
+-- the type of each of some values is below one
+abbrev pub each_below : Values → Datatype → Bool
+each_below no_values t = true
+each_below (value_then v vs) t = is_below (type_of_value v) t && each_below vs t
+
+-- the names of some fields, with the types of their values
+abbrev pub typed_fields : List (List ℕ × Value) → List (List ℕ × Datatype)
+typed_fields fs = map (λ f. (f.0, type_of_value f.1)) fs

@@ -8,6 +8,7 @@ mod record;
 mod rules;
 #[cfg(test)]
 mod tests;
+mod token;
 mod ty;
 
 pub use element::ElementTy;
@@ -15,4 +16,5 @@ pub use laws::{joins_are_least, parts_stand_for_types, types_are_ordered, types_
 pub use printed::print;
 pub use record::{FieldTy, RecordTy};
 pub use rules::{Rule, least};
+pub use token::{is_of, type_of_token};
 pub use ty::{Ty, below, join};

@@ -99,6 +99,14 @@ impl RecordTy {
         }
     }
 
+    /// The record of fields that stand in order. It takes no memory.
+    pub(crate) fn sorted(fields: Vec<FieldTy>) -> RecordTy
+        requires { IsRecordType (map entry_of fields.items) }
+        ensures { result ≡ map entry_of fields.items }
+    {
+        RecordTy { fields }
+    }
+
     pub fn as_slice(&self) -> &[FieldTy]
         ensures fields { map entry_of result.now ≡ self.now }
         ensures lawful { IsRecordType self.now }
