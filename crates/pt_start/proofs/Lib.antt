@@ -1,5 +1,6 @@
 pub mod Loops
 pub mod Tokens
+pub mod Types
 pub mod Once
 pub mod Behind
 pub mod Outward

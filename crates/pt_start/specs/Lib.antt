@@ -2,4 +2,5 @@ pub mod Nested
 pub mod Started
 pub mod Counts
 pub mod Frames
+pub mod PortTypes
 pub mod Seen

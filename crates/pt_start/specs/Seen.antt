@@ -1,6 +1,7 @@
 -- What is found under a name, outward from an entity.
 use Rattle.std.specs.Prelude.{◌≡◌, ℕ, ◌+◌, ◌*◌, ◌<◌, List, ◌++◌, length, map, Option, Some, None, option_map}
 use Rattle.std.specs.List.{enumerate_from}
+use Rattle.pt_types.specs.Datatype.{Datatype}
 use Rattle.pt_value.specs.declared.token.Token.{Token}
 use Rattle.pt_value.specs.Token.{value_of}
 use Rattle.pt_expr.specs.Expr.{tree_of}
@@ -18,6 +19,7 @@ use Rattle.pt_lib_flow.specs.declared.params.Params.{Params}
 use Rattle.pt_start.specs.Started.{given_tokens, given_tree, seen_tokens}
 use Rattle.pt_start.specs.Frames.{AreKept, AreTransparentKept}
 use Rattle.pt_start.specs.Counts.{AreCounts, AreSized, port_with}
+use Rattle.pt_start.specs.PortTypes.{named_types}
 
 -- what is kept is that of its net and its values
 pub record IsPrepared (s : Starts) : Type 0 where
@@ -68,8 +70,10 @@ abbrev pub round_of : NetEntity → Round
 round_of e = record { within = e.within; parent = e.parent }
 
 -- the actor of this entity is started from this, where its parameters have these values and these are its numbers of channels
-pub record IsMade (net : NetTree) (e : NetEntity) (vs : EntityValues) (counts : List ℕ) (params : Params) : Type 0 where
+-- and the types of its ports
+pub record IsMade (net : NetTree) (e : NetEntity) (vs : EntityValues) (counts : List ℕ) (types : List Datatype) (params : Params) : Type 0 where
   pub class_is : params.class ≡ e.class
   pub values_are : (seen : Bindings) → SeesIn net (round_of e) seen → params.values ≡ given_tokens (properties_view e.parameters.items) vs.parameters.items ++ seen_tokens seen (given_tree vs.parameters.items)
   pub ports_are : params.ports ≡ map (port_with counts) (enumerate_from 0 (map port_view e.ports.items))
+  pub types_are : params.types ≡ named_types (map port_view e.ports.items) types
   pub tree_is : option_map tree_of params.tree ≡ given_tree vs.parameters.items

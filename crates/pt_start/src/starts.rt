@@ -1,22 +1,25 @@
-ghost use Rattle.std.specs.Prelude.{◌≡◌, ◌++◌, MatchOption, IfOk, OnOk, option_map};
+ghost use Rattle.std.specs.Prelude.{◌≡◌, ◌++◌, MatchOption, IfOk, OnOk, map, option_map};
 ghost use Rattle.std.specs.List.{filter_map};
 ghost use Rattle.pt_expr.specs.Expr.{tree_of};
 ghost use Rattle.pt_moml.specs.View.{properties_view};
+ghost use Rattle.pt_types.specs.Ty.{type_of};
 ghost use Rattle.pt_values.specs.Scopes.{Bindings, net_view};
+ghost use Rattle.pt_resolve.specs.Typing.{Typing};
 ghost use Rattle.pt_start.specs.Nested.{AreRound};
 ghost use Rattle.pt_start.specs.Started as started;
-ghost use Rattle.pt_start.specs.Started.{IsActor, IsStart, seen_token, seen_tokens};
+ghost use Rattle.pt_start.specs.Started.{ArePortTypes, IsActor, IsStart, seen_token, seen_tokens};
 ghost use Rattle.pt_start.specs.Seen.{IsPrepared, IsReady, SeesIn, SeesNothing, IsOutward, IsFound, IsMade, round_of};
 
 use crate::counts::{Counts, counts_of};
 use crate::frames::{opaque_names, transparent_names};
 use crate::given::{add_token, given_tokens, given_tree};
-use crate::ports::counted_ports;
+use crate::ports::{counted_ports, typed_ports};
 use crate::round::Round;
 use pt_expr::Expr;
 use pt_graph::{Net, NetEntity};
-use pt_lib_flow::{FlowActor, Params, Ports, Values as Tokens};
+use pt_lib_flow::{FlowActor, Params, PortTypes, Ports, Values as Tokens};
 use pt_parameter::{Names, names_of};
+use pt_types::Ty;
 use pt_value::{Text, Token};
 use pt_values::{EntityValues, Values};
 use std::alloc::{AllocError, Global};
@@ -157,10 +160,11 @@ impl<'a> Starts<'a> {
         entity: &NetEntity,
         held: &EntityValues,
         counts: &Counts,
+        types: &[Ty],
     ) -> Result<Params, AllocError>
         requires ready { IsReady self.now }
         requires round { AreRound (net_view self.now.net.now) entity.now.within entity.now.parent }
-        ensures { IfOk result (λ params. IsMade (net_view self.now.net.now) entity.now held.now counts.now params) }
+        ensures { IfOk result (λ params. IsMade (net_view self.now.net.now) entity.now held.now counts.now (map type_of types.now) params) }
     {
         let tree = given_tree(&held.parameters);
         let values = self.tokens(alloc, entity, held, tree)?;
@@ -172,15 +176,22 @@ impl<'a> Starts<'a> {
             class: entity.class.copy(alloc)?,
             values,
             ports: Ports::of(counted_ports(alloc, &entity.ports, counts.as_slice())?),
+            types: PortTypes::of(typed_ports(alloc, &entity.ports, types)?),
             tree,
         })
     }
 
-    /// The actor of the entity of this number, at its start; none where the library has no start of that.
-    pub fn actor(&self, alloc: Global, number: usize) -> Result<Option<FlowActor>, AllocError>
+    /// The actor of the entity of this number, whose ports have these types, at its start; none where the library has no start of
+    /// that.
+    pub fn actor(
+        &self,
+        alloc: Global,
+        number: usize,
+        types: &[Ty],
+    ) -> Result<Option<FlowActor>, AllocError>
         requires ready { IsReady self.now }
         requires actor { IsActor self.now.net.now number }
-        ensures { IfOk result (λ actor. IsStart self.now.net.now self.now.values.now number actor) }
+        ensures { IfOk result (λ actor. (typing : Typing) → ArePortTypes self.now.net.now typing number (map type_of types.now) → IsStart self.now.net.now self.now.values.now typing number actor) }
     {
         let entity = &self.net.entities[number];
         let params = self.params(
@@ -188,6 +199,7 @@ impl<'a> Starts<'a> {
             entity,
             &self.values.entities[number],
             &self.counts[number],
+            types,
         )?;
         FlowActor::started(alloc, &params)
     }

@@ -1,5 +1,6 @@
-use Rattle.std.proofs.Common.{◌≡◌, ◌<◌, [], Some, length, get_or, sym, ap, ◌∙◌, arith}
+use Rattle.std.proofs.Common.{◌≡◌, ◌<◌, [], Some, length, get_or, map, sym, ap, ◌∙◌, arith}
 use Rattle.std.specs.Prelude.{slice_get}
+use Rattle.pt_types.specs.Ty.{type_of}
 use Rattle.std.proofs.lemmas.List.{get_or_default}
 use Rattle.std.proofs.lemmas.Result.{IfOk-weaker}
 use Rattle.pt_start.proofs.Made.{number-below, values-below, counts-below, read-at, round-at, is-start}
@@ -25,4 +26,4 @@ returns c =
     let at = read-at s.net.now.entities.items k c.index-entity.result.now (number-below s k c.requires.actor) c.index-entity.ensures in
     let held_at = read-at s.values.now.entities.items k c.index.result.now (values-below s k c.requires.ready c.requires.actor) c.index.ensures in
     let counts_at : c.index-2.result.now ≡ get_or s.counts.items k [] = c.index-2.ensures ∙ get_or_default s.counts.items k c.index-2.result.now [] (counts-below s k c.requires.ready c.requires.actor) in
-    IfOk-weaker c.started.result _ _ (is-start s k c.index-entity.result.now c.index.result.now c.index-2.result.now c.in_ok-params.params c.requires.ready c.requires.actor at held_at counts_at c.in_ok-params.ensures) c.started.ensures
+    IfOk-weaker c.started.result _ _ (is-start s k c.index-entity.result.now c.index.result.now c.index-2.result.now (map type_of c.args.types.now) c.in_ok-params.params c.requires.ready c.requires.actor at held_at counts_at c.in_ok-params.ensures) c.started.ensures
