@@ -7,3 +7,4 @@ pub mod Outward
 pub mod CountLaws
 pub mod Kept
 pub mod Made
+pub mod PlaceLaws

@@ -4,3 +4,4 @@ pub mod Counts
 pub mod Frames
 pub mod PortTypes
 pub mod Seen
+pub mod Places

@@ -1,11 +1,13 @@
-//! The start of a net: its library actors, which classes may stand where, and what a job says of its top.
+//! The start of a net: its library actors, and which classes may stand where.
 #![tactic(auto)]
 
 mod counts;
 mod frames;
 mod given;
+mod places;
 mod ports;
 mod round;
 mod starts;
 
+pub use places::{has_untimed_above, is_barred};
 pub use starts::Starts;
