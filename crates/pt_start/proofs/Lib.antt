@@ -8,3 +8,4 @@ pub mod CountLaws
 pub mod Kept
 pub mod Made
 pub mod PlaceLaws
+pub mod NamedTokens

@@ -1,6 +1,6 @@
 -- What an actor is started from is that of its entity.
-use Rattle.std.proofs.Common.{◌≡◌, ℕ, zero, suc, ◌+◌, ◌<◌, ◌≤◌, List, [], ◌∷◌, length, map, get_or, refl, sym, ap, ap₂, subst, ◌∙◌, arith}
-use Rattle.std.specs.Prelude.{Option, Some, None, slice_get, count_by}
+use Rattle.std.proofs.Common.{◌≡◌, ℕ, zero, suc, ◌+◌, ◌<◌, ◌≤◌, List, [], ◌∷◌, length, map, get_or, refl, sym, ap, ap₂, ◌∙◌, arith}
+use Rattle.std.specs.Prelude.{Option, Some, slice_get, count_by}
 use Rattle.std.specs.List.{AllZip, enumerate_from}
 use Rattle.std.proofs.lemmas.Option.{slice_get_within, slice_get-get_or}
 use Rattle.pt_moml.specs.Document.{PortTree}
@@ -9,7 +9,7 @@ use Rattle.pt_graph.specs.declared.net.Channel.{Channel}
 use Rattle.pt_graph.specs.declared.net.NetEntity.{NetEntity}
 use Rattle.pt_graph.specs.Net.{NetEntityTree, entity_view}
 use Rattle.pt_values.specs.declared.values.EntityValues.{EntityValues}
-use Rattle.pt_values.specs.Scopes.{NetTree, net_view}
+use Rattle.pt_values.specs.Scopes.{net_view}
 use Rattle.pt_values.specs.Valued.{IsEntityValued}
 use Rattle.pt_values.specs.Valued as valued
 use Rattle.pt_types.specs.Datatype.{Datatype}
@@ -21,7 +21,7 @@ use Rattle.pt_start.specs.declared.starts.Starts.{Starts}
 use Rattle.pt_start.specs.Nested.{AreRound}
 use Rattle.pt_start.specs.Started.{ends_at, counted_port, typed_port, type_at, ArePortTypes, IsActor, IsStart}
 use Rattle.pt_start.specs.PortTypes.{named_types}
-use Rattle.pt_start.specs.Counts.{AreSized, port_with}
+use Rattle.pt_start.specs.Counts.{port_with}
 use Rattle.pt_start.specs.Seen.{IsReady, IsMade}
 use Rattle.pt_start.proofs.Outward.{zip-at, view-at}
 

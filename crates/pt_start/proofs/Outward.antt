@@ -1,5 +1,5 @@
 -- From what is round one thing to what is round that.
-use Rattle.std.proofs.Common.{◌≡◌, ℕ, zero, suc, ◌+◌, ◌*◌, ◌<◌, ◌≤◌, List, [], ◌∷◌, length, map, Bool, true, false, refl, sym, ap, subst, ◌∙◌, arith, inl, inr}
+use Rattle.std.proofs.Common.{◌≡◌, ℕ, zero, suc, ◌+◌, ◌*◌, ◌<◌, ◌≤◌, List, [], ◌∷◌, length, map, Bool, true, false, refl, sym, ap, subst, ◌∙◌, arith}
 use Rattle.std.specs.Prelude.{Option, Some, None, option_map, slice_get, IsTrue, Vec}
 use Rattle.std.specs.Global.{Global}
 use Rattle.std.specs.List.{AllZip}
@@ -23,9 +23,9 @@ use Rattle.pt_values.specs.Valued.{IsEntityValued, IsTransparentValued, AreOwn, 
 use Rattle.pt_values.specs.Valued as valued
 use Rattle.pt_start.specs.declared.round.Round.{Round}
 use Rattle.pt_start.specs.declared.starts.Starts.{Starts}
-use Rattle.pt_start.specs.Nested.{AreRound, IsNested}
+use Rattle.pt_start.specs.Nested.{AreRound}
 use Rattle.pt_start.specs.Started.{given_tokens}
-use Rattle.pt_start.specs.Frames.{behind, Hold, named_tokens, IsKept, IsTransparentKept}
+use Rattle.pt_start.specs.Frames.{behind, named_tokens, IsKept, IsTransparentKept}
 use Rattle.pt_start.specs.Seen.{IsReady, number_or_none, depth, SeesIn, SeesNothing, IsBefore, IsOutward}
 use Rattle.pt_start.proofs.Once.{extends-once, sees-once, by-innermost, IsInTransparent, IsInOpaque}
 use Rattle.pt_start.proofs.Behind.{turn-extends, turn-named, turn-given}

@@ -1,16 +1,10 @@
 -- Where an entity may not stand, from what is read of it.
-use Rattle.std.proofs.Common.{◌≡◌, ℕ, ◌+◌, ◌<◌, List, [], ◌∷◌, length, get_or, drop, map, Bool, true, false, refl, sym, ap, ap₂, subst, ◌∙◌, if◌then◌else◌, arith}
+use Rattle.std.proofs.Common.{◌≡◌, ℕ, ◌+◌, ◌<◌, Bool, true, false, refl, sym, ap, subst, ◌∙◌, arith}
 use Rattle.std.specs.Prelude.{Option, Some, None, not, slice_get}
 use Rattle.std.specs.List.{Contains}
-use Rattle.std.specs.Str.{bytes_eq}
-use Rattle.pt_value.specs.declared.token.Token.{Token}
 use Rattle.pt_moml.specs.declared.classes.Director.{Director}
-use Rattle.pt_moml.specs.declared.job.Property.{Property}
 use Rattle.pt_moml.specs.Classes.{Class, class_row}
-use Rattle.pt_moml.specs.Document.{PropertyTree, property_name}
-use Rattle.pt_moml.specs.View.{property_view, properties_view}
 use Rattle.pt_graph.specs.Net.{NetEntityTree}
-use Rattle.pt_parameter.specs.declared.parameter_value.ParameterValue.{ParameterValue}
 use Rattle.pt_values.specs.Scopes.{NetTree}
 use Rattle.pt_start.specs.Places.{director_over, director_of, is_untimed, IsBarred, HasUntimedAbove, here, further}
 use Rattle.pt_start.specs.Seen.{number_or_none}

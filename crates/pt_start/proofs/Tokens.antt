@@ -1,12 +1,9 @@
 -- Parameters that have tokens, one by one.
-use Rattle.std.proofs.Common.{◌≡◌, ℕ, zero, suc, ◌+◌, ◌<◌, ◌≤◌, List, [], ◌∷◌, ◌++◌, length, get_or, drop, take, map, refl, sym, ap, ap₂, ◌∙◌, append_assoc, arith}
+use Rattle.std.proofs.Common.{◌≡◌, ℕ, ◌+◌, ◌<◌, ◌≤◌, List, [], ◌∷◌, ◌++◌, length, get_or, drop, refl, sym, ap, ap₂, ◌∙◌, append_assoc}
 use Rattle.std.specs.Prelude.{Option, Some, None, option_map, slice_get}
-use Rattle.std.specs.List.{zip, filter_map, cons_option}
+use Rattle.std.specs.List.{filter_map, cons_option}
 use Rattle.pt_value.specs.declared.token.Token.{Token}
-use Rattle.pt_value.specs.Token.{value_of, token_of, token_of-value_of}
-use Rattle.pt_expr.specs.declared.expr.Expr.{Expr}
-use Rattle.pt_expr.specs.Expr.{tree_of}
-use Rattle.pt_expr.specs.Tree.{Tree}
+use Rattle.pt_value.specs.Token.{value_of, token_of-value_of}
 use Rattle.pt_moml.specs.declared.job.Property.{Property}
 use Rattle.pt_moml.specs.Document.{PropertyTree, property_name}
 use Rattle.pt_moml.specs.View.{property_view, properties_view}

@@ -2,7 +2,6 @@
 use Rattle.std.specs.Prelude.{◌≡◌, ℕ, List, [], ◌∷◌, map, IsTrue, Option, Some, None, option_map, slice_get, Vec}
 use Rattle.std.specs.Global.{Global}
 use Rattle.std.specs.List.{zip}
-use Rattle.pt_value.specs.Value.{Value}
 use Rattle.pt_value.specs.Token.{value_of}
 use Rattle.pt_value.specs.declared.token.Token.{Token}
 use Rattle.pt_moml.specs.Document.{PropertyTree, property_name}

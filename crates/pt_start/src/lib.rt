@@ -4,10 +4,12 @@
 mod counts;
 mod frames;
 mod given;
+mod limits;
 mod places;
 mod ports;
 mod round;
 mod starts;
 
+pub use limits::is_limited;
 pub use places::{has_untimed_above, is_barred};
 pub use starts::Starts;

@@ -1,4 +1,4 @@
-use Rattle.std.proofs.Common.{◌≡◌, ◌+◌, ◌∙◌, subst, length-append, arith}
+use Rattle.std.proofs.Common.{subst, arith}
 use Rattle.std.specs.Prelude.{Some, slice_get}
 use Rattle.pt_start.specs.Frames.{IsTransparentKept}
 use Rattle.pt_start.proofs.Loops.{get-is}

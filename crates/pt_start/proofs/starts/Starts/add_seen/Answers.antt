@@ -1,4 +1,4 @@
-use Rattle.std.proofs.Common.{◌≡◌, ◌+◌, ◌++◌, ap, ◌∙◌, drop}
+use Rattle.std.proofs.Common.{◌+◌, ◌++◌, ap, ◌∙◌, drop}
 use Rattle.std.specs.Prelude.{option_map}
 use Rattle.std.specs.List.{filter_map}
 use Rattle.pt_values.specs.Scopes.{bound}
