@@ -146,7 +146,7 @@ impl FlowActor {
     }
 
     /// The actor that the parameters start, if the class is one of this library and they are such as its row has them.
-    pub(crate) fn started(alloc: Global, params: &Params) -> Result<Option<FlowActor>, AllocError>
+    pub fn started(alloc: Global, params: &Params) -> Result<Option<FlowActor>, AllocError>
         ensures { IfOk result (λ actor. actor ≡ start params.now) }
     {
         match Class::of(params.class.as_str()) {

@@ -1,0 +1,11 @@
+pub mod Loops
+pub mod Tokens
+pub mod Types
+pub mod Once
+pub mod Behind
+pub mod Outward
+pub mod CountLaws
+pub mod Kept
+pub mod Made
+pub mod PlaceLaws
+pub mod NamedTokens

@@ -1,0 +1,118 @@
+-- The library actor of an entity of a net, at its start.
+use Rattle.std.specs.Prelude.{◌≡◌, ℕ, List, [], ◌∷◌, ◌++◌, map, Bool, ◌&&◌, nat_eq, count_by, Option, Some, None, option_map, slice_get}
+use Rattle.std.specs.List.{enumerate_from, filter_map}
+use Rattle.pt_value.specs.Value.{Value}
+use Rattle.pt_value.specs.Token.{token_of}
+use Rattle.pt_value.specs.declared.token.Token.{Token}
+use Rattle.pt_types.specs.Datatype.{Datatype}
+use Rattle.pt_expr.specs.Tree.{Tree}
+use Rattle.pt_expr.specs.Expr.{tree_of}
+use Rattle.pt_moml.specs.Document.{PropertyTree, property_name, PortTree}
+use Rattle.pt_graph.specs.declared.net.Channel.{Channel}
+use Rattle.pt_graph.specs.declared.net.Net.{Net}
+use Rattle.pt_graph.specs.Net.{NetEntityTree, entity_view}
+use Rattle.pt_parameter.specs.declared.parameter_value.ParameterValue.{ParameterValue}
+use Rattle.pt_parameter.specs.declared.parameter_value.ParameterValue.TheVariants as parameter
+use Rattle.pt_parameter.specs.Texts.{names_in}
+use Rattle.pt_values.specs.declared.values.EntityValues.{EntityValues}
+use Rattle.pt_values.specs.declared.values.Values.{Values}
+use Rattle.pt_values.specs.Scopes.{Bindings, bound, net_view, Sees}
+use Rattle.pt_resolve.specs.Typing.{Typing}
+use Rattle.pt_lib_flow.specs.declared.params.Params.{Params}
+use Rattle.pt_lib_flow.specs.declared.flow_actor.FlowActor.{FlowActor}
+use Rattle.pt_lib_flow.specs.FlowActor.{start}
+
+-- ---- ports
+
+-- the channel ends at this port of this entity
+abbrev pub ends_at : ℕ → ℕ → Channel → Bool
+ends_at entity port k = nat_eq k.to.entity entity && nat_eq k.to.port port
+
+-- a port with how many of these channels end there
+abbrev pub counted_port : List Channel → ℕ → ℕ × PortTree → List ℕ × ℕ
+counted_port ks entity p = (p.1.name, count_by (ends_at entity p.0) ks)
+
+-- the ports of an entity by name, each with how many channels end there
+abbrev pub ports_of : List Channel → ℕ → NetEntityTree → List (List ℕ × ℕ)
+ports_of ks entity e = map (counted_port ks entity) (enumerate_from 0 e.ports)
+
+-- a port with its type
+abbrev pub typed_port : Typing → ℕ → ℕ × PortTree → List ℕ × Datatype
+typed_port typing entity p = (p.1.name, typing.at entity p.0)
+
+-- the types of the ports of an entity by name
+abbrev pub types_of : Typing → ℕ → NetEntityTree → List (List ℕ × Datatype)
+types_of typing entity e = map (typed_port typing entity) (enumerate_from 0 e.ports)
+
+abbrev pub type_at : Typing → ℕ → ℕ × PortTree → Datatype
+type_at typing entity p = typing.at entity p.0
+
+-- these are the types of the ports of the entity of that number, in order
+abbrev pub ArePortTypes : Net → Typing → ℕ → List Datatype → Type 0
+ArePortTypes net typing k types = (e : NetEntityTree) → slice_get (map entity_view net.entities.items) k ≡ Some e → types ≡ map (type_at typing k) (enumerate_from 0 e.ports)
+
+-- ---- parameters
+
+-- the parameters that have tokens, by name
+abbrev pub given_tokens : List PropertyTree → List ParameterValue → List (List ℕ × Token)
+given_tokens [] vs = []
+given_tokens (p ∷ ps) [] = []
+given_tokens (p ∷ ps) (parameter.Token t ∷ vs) = (property_name p, t) ∷ given_tokens ps vs
+given_tokens (p ∷ ps) (parameter.Tree e ∷ vs) = given_tokens ps vs
+given_tokens (p ∷ ps) (parameter.Word ∷ vs) = given_tokens ps vs
+
+-- the tree of an expression, if there is one
+abbrev pub given_tree : List ParameterValue → Option Tree
+given_tree [] = None
+given_tree (parameter.Tree e ∷ vs) = Some (tree_of e)
+given_tree (parameter.Token t ∷ vs) = given_tree vs
+given_tree (parameter.Word ∷ vs) = given_tree vs
+
+abbrev pub token_under : List ℕ → Option (Option Value) → Option (List ℕ × Token)
+token_under name (Some (Some v)) = Some (name, token_of v)
+token_under name (Some None) = None
+token_under name None = None
+
+-- what a name stands for among the parameters that are seen
+abbrev pub seen_token : Bindings → List ℕ → Option (List ℕ × Token)
+seen_token seen name = token_under name (bound seen name)
+
+-- the same of the names of a tree, in the order in which it has them
+abbrev pub seen_tokens : Bindings → Option Tree → List (List ℕ × Token)
+seen_tokens seen None = []
+seen_tokens seen (Some t) = filter_map (seen_token seen) (names_in t)
+
+-- ---- the start
+
+-- the actor of an entity is started from this, where its parameters have these values and it sees these of the composites round
+-- it: its class, its own parameters before those that its tree names, and its ports with their types
+pub record IsFrom (ks : List Channel) (typing : Typing) (k : ℕ) (e : NetEntityTree) (vs : List ParameterValue) (seen : Bindings) (params : Params) : Type 0 where
+  pub class_is : params.class ≡ e.class
+  pub values_are : params.values ≡ given_tokens e.parameters vs ++ seen_tokens seen (given_tree vs)
+  pub ports_are : params.ports ≡ ports_of ks k e
+  pub types_are : params.types ≡ types_of typing k e
+  pub tree_is : option_map tree_of params.tree ≡ given_tree vs
+
+-- the entity of that number is no composite
+pub record IsActor (net : Net) (k : ℕ) : Type 0 where
+  pub entity : NetEntityTree
+  pub at : slice_get (map entity_view net.entities.items) k ≡ Some entity
+  pub undirected : entity.director ≡ None
+
+-- the entity of that number is a library actor, which is started from this
+pub record IsStartedFrom (net : Net) (values : Values) (typing : Typing) (k : ℕ) (params : Params) : Type 0 where
+  pub entity : NetEntityTree
+  pub at : slice_get (map entity_view net.entities.items) k ≡ Some entity
+  pub undirected : entity.director ≡ None
+  pub held : EntityValues
+  pub held_at : slice_get values.entities.items k ≡ Some held
+  pub seen : Bindings
+  pub sees : Sees (net_view net) entity.within entity.parent seen
+  pub from : IsFrom net.channels.items typing k entity held.parameters.items seen params
+
+-- the actor of the entity of that number, at its start; none where its row has no start of that: the class isn't one of the
+-- library, or it isn't used as its row has it
+pub record IsStart (net : Net) (values : Values) (typing : Typing) (k : ℕ) (actor : Option FlowActor) : Type 0 where
+  pub params : Params
+  pub started_from : IsStartedFrom net values typing k params
+  pub is : start params ≡ actor
