@@ -13,13 +13,12 @@ use Rattle.pt_values.specs.Scopes.{net_view}
 use Rattle.pt_values.specs.Valued.{IsEntityValued}
 use Rattle.pt_values.specs.Valued as valued
 use Rattle.pt_types.specs.Datatype.{Datatype}
-use Rattle.pt_resolve.specs.Typing.{Typing}
 use Rattle.pt_lib_flow.specs.declared.params.Params.{Params}
 use Rattle.pt_lib_flow.specs.declared.flow_actor.FlowActor.{FlowActor}
 use Rattle.pt_lib_flow.specs.FlowActor.{start}
 use Rattle.pt_start.specs.declared.starts.Starts.{Starts}
 use Rattle.pt_start.specs.Nested.{AreRound}
-use Rattle.pt_start.specs.Started.{ends_at, counted_port, typed_port, type_at, ArePortTypes, IsActor, IsStart}
+use Rattle.pt_start.specs.Started.{ends_at, counted_port, typed_port, type_at, ArePortTypes, IsActor, IsStart, PortTyping}
 use Rattle.pt_start.specs.PortTypes.{named_types}
 use Rattle.pt_start.specs.Counts.{port_with}
 use Rattle.pt_start.specs.Seen.{IsReady, IsMade}
@@ -75,9 +74,9 @@ ports-same : (ks : List Channel) (k : ℕ) (counts : List ℕ) (ps : List PortTr
 ports-same ks k counts [] n h = refl
 ports-same ks k counts (p ∷ ps) n h = ap₂ (λ m more. (p.name, m) ∷ more) (h n (omega arith) (omega arith)) (ports-same ks k counts ps (n + 1) (λ i low high. h i (omega (arith, low)) (omega (arith, high))))
 
-types-same : (typing : Typing) (k : ℕ) (ps : List PortTree) (n : ℕ) → named_types ps (map (type_at typing k) (enumerate_from n ps)) ≡ map (typed_port typing k) (enumerate_from n ps)
+types-same : (typing : PortTyping) (k : ℕ) (ps : List PortTree) (n : ℕ) → named_types ps (map (type_at typing k) (enumerate_from n ps)) ≡ map (typed_port typing k) (enumerate_from n ps)
 types-same typing k [] n = refl
-types-same typing k (p ∷ ps) n = ap (λ more. (p.name, typing.at k n) ∷ more) (types-same typing k ps (n + 1))
+types-same typing k (p ∷ ps) n = ap (λ more. (p.name, typing k n) ∷ more) (types-same typing k ps (n + 1))
 
 module _ (s : Starts) (k : ℕ) (e : NetEntity) (vs : EntityValues) (counts : List ℕ) (types : List Datatype) (params : Params) (ready : IsReady s) (actor : IsActor s.net.now k) (at : slice_get s.net.now.entities.items k ≡ Some e) (held_at : slice_get s.values.now.entities.items k ≡ Some vs) (counts_at : counts ≡ get_or s.counts.items k []) (made : IsMade (net_view s.net.now) e vs counts types params) where
   view : slice_get (map entity_view s.net.now.entities.items) k ≡ Some (entity_view e)
@@ -95,7 +94,7 @@ module _ (s : Starts) (k : ℕ) (e : NetEntity) (vs : EntityValues) (counts : Li
       let short : i < length (get_or s.counts.items k []) = omega (arith, high, long, map-length port_view e.ports.items) in
       ap (λ (row : List ℕ). get_or row i 0) counts_at ∙ ready.prepared.counts k i short
 
-  pub is-start : (found : Option FlowActor) → found ≡ start params → (typing : Typing) → ArePortTypes s.net.now typing k types → IsStart s.net.now s.values.now typing k found
+  pub is-start : (found : Option FlowActor) → found ≡ start params → (typing : PortTyping) → ArePortTypes s.net.now typing k types → IsStart s.net.now s.values.now typing k found
   is-start found is typing typed = record {
     params = params;
     started_from = record {

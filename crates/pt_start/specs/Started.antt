@@ -17,7 +17,6 @@ use Rattle.pt_parameter.specs.Texts.{names_in}
 use Rattle.pt_values.specs.declared.values.EntityValues.{EntityValues}
 use Rattle.pt_values.specs.declared.values.Values.{Values}
 use Rattle.pt_values.specs.Scopes.{Bindings, bound, net_view, Sees}
-use Rattle.pt_resolve.specs.Typing.{Typing}
 use Rattle.pt_lib_flow.specs.declared.params.Params.{Params}
 use Rattle.pt_lib_flow.specs.declared.flow_actor.FlowActor.{FlowActor}
 use Rattle.pt_lib_flow.specs.FlowActor.{start}
@@ -36,19 +35,23 @@ counted_port ks entity p = (p.1.name, count_by (ends_at entity p.0) ks)
 abbrev pub ports_of : List Channel → ℕ → NetEntityTree → List (List ℕ × ℕ)
 ports_of ks entity e = map (counted_port ks entity) (enumerate_from 0 e.ports)
 
+-- a type for each port, by the numbers of its entity and of the port there
+abbrev pub PortTyping : Type 0
+PortTyping = ℕ → ℕ → Datatype
+
 -- a port with its type
-abbrev pub typed_port : Typing → ℕ → ℕ × PortTree → List ℕ × Datatype
-typed_port typing entity p = (p.1.name, typing.at entity p.0)
+abbrev pub typed_port : PortTyping → ℕ → ℕ × PortTree → List ℕ × Datatype
+typed_port typing entity p = (p.1.name, typing entity p.0)
 
 -- the types of the ports of an entity by name
-abbrev pub types_of : Typing → ℕ → NetEntityTree → List (List ℕ × Datatype)
+abbrev pub types_of : PortTyping → ℕ → NetEntityTree → List (List ℕ × Datatype)
 types_of typing entity e = map (typed_port typing entity) (enumerate_from 0 e.ports)
 
-abbrev pub type_at : Typing → ℕ → ℕ × PortTree → Datatype
-type_at typing entity p = typing.at entity p.0
+abbrev pub type_at : PortTyping → ℕ → ℕ × PortTree → Datatype
+type_at typing entity p = typing entity p.0
 
 -- these are the types of the ports of the entity of that number, in order
-abbrev pub ArePortTypes : Net → Typing → ℕ → List Datatype → Type 0
+abbrev pub ArePortTypes : Net → PortTyping → ℕ → List Datatype → Type 0
 ArePortTypes net typing k types = (e : NetEntityTree) → slice_get (map entity_view net.entities.items) k ≡ Some e → types ≡ map (type_at typing k) (enumerate_from 0 e.ports)
 
 -- ---- parameters
@@ -86,7 +89,7 @@ seen_tokens seen (Some t) = filter_map (seen_token seen) (names_in t)
 
 -- the actor of an entity is started from this, where its parameters have these values and it sees these of the composites round
 -- it: its class, its own parameters before those that its tree names, and its ports with their types
-pub record IsFrom (ks : List Channel) (typing : Typing) (k : ℕ) (e : NetEntityTree) (vs : List ParameterValue) (seen : Bindings) (params : Params) : Type 0 where
+pub record IsFrom (ks : List Channel) (typing : PortTyping) (k : ℕ) (e : NetEntityTree) (vs : List ParameterValue) (seen : Bindings) (params : Params) : Type 0 where
   pub class_is : params.class ≡ e.class
   pub values_are : params.values ≡ given_tokens e.parameters vs ++ seen_tokens seen (given_tree vs)
   pub ports_are : params.ports ≡ ports_of ks k e
@@ -100,7 +103,7 @@ pub record IsActor (net : Net) (k : ℕ) : Type 0 where
   pub undirected : entity.director ≡ None
 
 -- the entity of that number is a library actor, which is started from this
-pub record IsStartedFrom (net : Net) (values : Values) (typing : Typing) (k : ℕ) (params : Params) : Type 0 where
+pub record IsStartedFrom (net : Net) (values : Values) (typing : PortTyping) (k : ℕ) (params : Params) : Type 0 where
   pub entity : NetEntityTree
   pub at : slice_get (map entity_view net.entities.items) k ≡ Some entity
   pub undirected : entity.director ≡ None
@@ -112,7 +115,7 @@ pub record IsStartedFrom (net : Net) (values : Values) (typing : Typing) (k : �
 
 -- the actor of the entity of that number, at its start; none where its row has no start of that: the class isn't one of the
 -- library, or it isn't used as its row has it
-pub record IsStart (net : Net) (values : Values) (typing : Typing) (k : ℕ) (actor : Option FlowActor) : Type 0 where
+pub record IsStart (net : Net) (values : Values) (typing : PortTyping) (k : ℕ) (actor : Option FlowActor) : Type 0 where
   pub params : Params
   pub started_from : IsStartedFrom net values typing k params
   pub is : start params ≡ actor

@@ -4,10 +4,9 @@ ghost use Rattle.pt_expr.specs.Expr.{tree_of};
 ghost use Rattle.pt_moml.specs.View.{properties_view};
 ghost use Rattle.pt_types.specs.Ty.{type_of};
 ghost use Rattle.pt_values.specs.Scopes.{Bindings, net_view};
-ghost use Rattle.pt_resolve.specs.Typing.{Typing};
 ghost use Rattle.pt_start.specs.Nested.{AreRound};
 ghost use Rattle.pt_start.specs.Started as started;
-ghost use Rattle.pt_start.specs.Started.{ArePortTypes, IsActor, IsStart, seen_token, seen_tokens};
+ghost use Rattle.pt_start.specs.Started.{PortTyping, ArePortTypes, IsActor, IsStart, seen_token, seen_tokens};
 ghost use Rattle.pt_start.specs.Seen.{IsPrepared, IsReady, SeesIn, SeesNothing, IsOutward, IsFound, IsMade, round_of};
 
 use crate::counts::{Counts, counts_of};
@@ -191,7 +190,7 @@ impl<'a> Starts<'a> {
     ) -> Result<Option<FlowActor>, AllocError>
         requires ready { IsReady self.now }
         requires actor { IsActor self.now.net.now number }
-        ensures { IfOk result (λ actor. (typing : Typing) → ArePortTypes self.now.net.now typing number (map type_of types.now) → IsStart self.now.net.now self.now.values.now typing number actor) }
+        ensures { IfOk result (λ actor. (typing : PortTyping) → ArePortTypes self.now.net.now typing number (map type_of types.now) → IsStart self.now.net.now self.now.values.now typing number actor) }
     {
         let entity = &self.net.entities[number];
         let params = self.params(
