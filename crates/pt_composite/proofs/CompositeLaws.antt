@@ -144,5 +144,5 @@ module _ (around : Around) (kids : List Shown) (path : List ℕ) (records : List
     children = list-again kids;
     path_is = refl;
     records_are = refl;
-    fresh = record { live = refl; fit = ((refl, fits, all-steady kids fresh), all-fit kids fresh); steady = tt; start = start; fitting = fitting; plans = plans; unrecorded = (empty, all-unrecorded kids fresh) };
+    fresh = record { live = refl; fit = ((refl, fits, all-steady kids fresh), all-fit kids fresh); steady = tt; rated = tt; start = start; fitting = fitting; plans = plans; unrecorded = (empty, all-unrecorded kids fresh) };
   }

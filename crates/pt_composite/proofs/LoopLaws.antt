@@ -1,5 +1,5 @@
 -- One step of the loops over children, channels and tokens.
-use Rattle.std.proofs.Common.{◌≡◌, ℕ, zero, suc, ◌+◌, ◌-◌, ◌<◌, ◌≤◌, List, [], ◌∷◌, ◌++◌, length, take, map, get_or, set, refl, sym, ap, ap₂, ◌∙◌, subst, arith, append_assoc, add-one, get_or-set_same}
+use Rattle.std.proofs.Common.{◌≡◌, ℕ, zero, suc, ◌+◌, ◌-◌, ◌<◌, ◌≤◌, List, [], ◌∷◌, ◌++◌, length, take, map, get_or, set, Option, Some, None, refl, sym, ap, ap₂, ◌∙◌, subst, arith, append_assoc, add-one, get_or-set_same}
 use Rattle.std.proofs.lemmas.List.{take_more, set-set, length-map}
 use Rattle.std.proofs.Math.ListN.{get_or-map}
 use Rattle.pt_meaning.specs.Basics.{Streams}
@@ -12,12 +12,15 @@ use Rattle.pt_sdf.specs.declared.plan.Source.{Source}
 use Rattle.pt_sdf.specs.Plan.{source_of}
 use Rattle.pt_node.specs.LibraryActor.{rows}
 use Rattle.pt_node.specs.declared.node.Node.{Node}
-use Rattle.pt_node.specs.Shown.{shown_node}
+use Rattle.pt_node.specs.Shown.{Shown, shown, shown_node}
+use Rattle.pt_node.proofs.Link.{shown-node}
+use Rattle.pt_meaning.specs.Streams.{get}
 use Rattle.pt_node.specs.View.{Tree, node_of}
 use Rattle.pt_composite.specs.Around.{first_counts}
-use Rattle.pt_composite.specs.Rates.{rates_of}
+use Rattle.pt_composite.specs.Fresh.{AllFresh}
+use Rattle.pt_composite.specs.Rates.{rates_of, HaveRates, IsRated, AllRated}
 use Rattle.pt_composite.proofs.HeldLaws.{held_to, held-append, held-empty, held-more}
-use Rattle.pt_composite.proofs.NodeLaws.{trees, trees-more, map-append}
+use Rattle.pt_composite.proofs.NodeLaws.{trees, trees-more, tree-at, get-map, map-append}
 
 -- a token more is put
 pub put-more : {X : Type 0} (L0 L : List (List X)) (c : ℕ) (ts : List X) (i : ℕ) (x y : X) → c < length L0 → L ≡ set L0 c (get_or L0 c [] ++ take i ts) → i < length ts → x ≡ get_or ts i x → y ≡ x →
@@ -34,9 +37,31 @@ lowered-at (s ∷ S) zero = refl
 lowered-at (s ∷ S) (suc c) = lowered-at S c
 
 -- the rates of one child more
-pub rates-more : (kids : List Node) (i : ℕ) (d : Node) (rs : List (List ℕ)) (r : List ℕ) → i < length kids → d ≡ get_or kids i d → rs ≡ map rates_of (trees (take i kids)) → r ≡ rates_of (node_of (shown_node d)) → rs ++ r ∷ [] ≡ map rates_of (trees (take (i + 1) kids))
+pub rates-more : (kids : List Node) (i : ℕ) (d : Node) (rs : List (List ℕ)) (r : List ℕ) → i < length kids → d ≡ get_or kids i d → HaveRates (trees (take i kids)) rs → Some r ≡ rates_of (node_of (shown_node d)) → HaveRates (trees (take (i + 1) kids)) (rs ++ r ∷ [])
 rates-more kids i d rs r h is e f =
-    ap₂ (λ v w. v ++ w ∷ []) e f ∙ sym (map-append rates_of (trees (take i kids)) (node_of (shown_node d) ∷ [])) ∙ ap (λ v. map rates_of v) (sym (trees-more kids i d h is))
+    map-append (λ (v : List ℕ). Option.Some v) rs (r ∷ []) ∙ ap₂ (λ (v : List (Option (List ℕ))) (w : Option (List ℕ)). v ++ w ∷ []) e f ∙ sym (map-append rates_of (trees (take i kids)) (node_of (shown_node d) ∷ [])) ∙ ap (λ v. map rates_of v) (sym (trees-more kids i d h is))
+
+none-among : (rs : List (List ℕ)) (ts : List (Option (List ℕ))) (i : ℕ) → map (λ (v : List ℕ). Option.Some v) rs ≡ ts → get ts i ≡ Some None → ⊥
+none-among [] [] i e g = absurd (cc)
+none-among [] (t ∷ ts) i e g = absurd (cc)
+none-among (r ∷ rs) [] i e g = absurd (cc)
+none-among (r ∷ rs) (t ∷ ts) zero e g = absurd (cc)
+none-among (r ∷ rs) (t ∷ ts) (suc i) e g = let rest : map (λ (v : List ℕ). Option.Some v) rs ≡ ts = cc in none-among rs ts i rest g
+
+-- a child whose rates vary
+pub rates-none : (kids : List Node) (i : ℕ) (d : Node) → i < length kids → d ≡ get_or kids i d → None ≡ rates_of (node_of (shown_node d)) → (rs : List (List ℕ)) → HaveRates (trees kids) rs → ⊥
+rates-none kids i d h is f rs e =
+    none-among rs (map rates_of (trees kids)) i e (get-map rates_of (trees kids) i (node_of (shown_node d)) (tree-at kids i d h is) ∙ ap (λ (v : Option (List ℕ)). Option.Some v) (sym f))
+
+-- each child is rated
+pub rated-at : (kids : List Node) (i : ℕ) (d : Node) → i < length kids → d ≡ get_or kids i d → AllRated (map shown kids) → IsRated (shown_node d)
+rated-at [] i d h is all = absurd (omega (arith, h))
+rated-at (k ∷ kids) zero d h is all = subst (λ s. IsRated s) (shown-node k ∙ ap (λ n. shown_node n) (sym is)) all.0
+rated-at (k ∷ kids) (suc i) d h is all = rated-at kids i d (omega (arith, h)) is all.1
+
+pub fresh-rated : (ss : List Shown) → AllFresh ss → AllRated ss
+fresh-rated [] all = tt
+fresh-rated (s ∷ ss) all = (all.0.rated, fresh-rated ss all.1)
 
 -- the first tokens of one channel more
 pub counts-more : (kids : List Tree) (sources : List Source) (i : ℕ) (d : Source) (ns : List ℕ) (ts : List Token) → i < length sources → ns ≡ first_counts kids (map source_of (take i sources)) → ts ≡ first_of rows kids (source_of (get_or sources i d)) →

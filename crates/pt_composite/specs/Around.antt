@@ -11,7 +11,7 @@ use Rattle.pt_plan.specs.Inside.{IsInside}
 use Rattle.pt_node.specs.LibraryActor.{rows}
 use Rattle.pt_node.specs.View.{Tree}
 use Rattle.pt_composite.specs.declared.wiring.Wiring.{Wiring}
-use Rattle.pt_composite.specs.Rates.{rates_of}
+use Rattle.pt_composite.specs.Rates.{HaveRates}
 
 -- where the channels of a composite begin, how many places each child has, and how many own ports there are
 pub record Around : Type 0 where
@@ -33,7 +33,7 @@ pub record IsInsideOf (around : Around) (kids : List Tree) (x : Inside) : Type 0
   pub sources : map source_of x.sources.items ≡ around.sources
   pub places : x.places ≡ around.places
   pub needs : needs_of (facts_of rows) kids ≡ planned around.places x.needs
-  pub rates : x.rates.items ≡ map rates_of kids
+  pub rates : HaveRates kids x.rates.items
   pub first : x.first ≡ first_counts kids around.sources
   pub inputs : x.inputs ≡ around.inputs
   pub outputs : x.outputs ≡ around.outputs

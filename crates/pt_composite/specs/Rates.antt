@@ -1,24 +1,56 @@
 -- How many tokens a node gives in a firing, on each of its outputs.
-use Rattle.std.specs.Prelude.{ℕ, List, [], replicate}
+use Rattle.std.specs.Prelude.{◌≡◌, ℕ, List, [], ◌∷◌, map, Option, Some, None, IfSome, Vec}
+use Rattle.std.specs.Global.{Global}
 use Rattle.pt_meaning.specs.Tree as tree
 use Rattle.pt_value.specs.declared.token.Token.{Token}
 use Rattle.pt_lib_flow.specs.FlowActor as flow
+use Rattle.pt_lib_flow.specs.Rates.{IsCount}
+use Rattle.pt_node.specs.declared.body.Body.{Body}
+use Rattle.pt_node.specs.declared.body.Body.TheVariants.{Actor, Composite}
 use Rattle.pt_node.specs.declared.library.LibraryActor.{LibraryActor}
 use Rattle.pt_node.specs.declared.library.LibraryActor.TheVariants.{Flow}
+use Rattle.pt_node.specs.Shown.{Shown, Branch}
 use Rattle.pt_node.specs.View.{Tree}
 
-abbrev pub actor_rates : LibraryActor → List ℕ
-actor_rates (Flow actor) = replicate (flow.outputs actor) 1
+-- a number for each output of an actor, where it doesn't vary
+abbrev pub actor_rates : LibraryActor → Option (List ℕ)
+actor_rates (Flow actor) = flow.rates actor
 
 -- An SDF composite gives what its plan says for an iteration. Composites of the other directors aren't built.
-abbrev pub core_rates : tree.Core Token → List ℕ
-core_rates (tree.Sdf p X) = p.gives
-core_rates (tree.Pn p X) = []
-core_rates (tree.Sr p) = []
-core_rates (tree.De p) = []
-core_rates (tree.Rv p X) = []
-core_rates (tree.Modal chart m) = []
+abbrev pub core_rates : tree.Core Token → Option (List ℕ)
+core_rates (tree.Sdf p X) = Some p.gives
+core_rates (tree.Pn p X) = None
+core_rates (tree.Sr p) = None
+core_rates (tree.De p) = None
+core_rates (tree.Rv p X) = None
+core_rates (tree.Modal chart m) = None
 
-abbrev pub rates_of : Tree → List ℕ
+abbrev pub rates_of : Tree → Option (List ℕ)
 rates_of (tree.Actor h a b) = actor_rates b
 rates_of (tree.Composite h c d kids) = core_rates d
+
+-- these are the rates of the children
+abbrev pub HaveRates : List Tree → List (List ℕ) → Type 0
+HaveRates kids rates = map (λ (rs : List ℕ). Some rs) rates ≡ map rates_of kids
+
+-- and they have none where that of some child varies
+abbrev pub AreRates : List Tree → Option (Vec (List ℕ) Global) → Type 0
+AreRates kids (Some rates) = HaveRates kids rates.items
+AreRates kids None = (rates : List (List ℕ)) → HaveRates kids rates → ⊥
+
+-- ---- what is known of rates
+
+-- a rate is from 1 to 1,000,000, as that of each actor which is started from parameters
+abbrev pub IsRatedActor : LibraryActor → Type 0
+IsRatedActor (Flow actor) = IfSome (flow.rate actor) IsCount
+
+abbrev pub IsRatedBody : Body → Type 0
+IsRatedBody (Actor held) = IsRatedActor held.actor
+IsRatedBody (Composite director) = Unit {0}
+
+abbrev pub IsRated : Shown → Type 0
+IsRated (Branch f ks) = IsRatedBody f.body
+
+abbrev pub AllRated : List Shown → Type 0
+AllRated [] = Unit {0}
+AllRated (s ∷ ss) = IsRated s × AllRated ss

@@ -2,6 +2,7 @@ ghost use Rattle.std.specs.Prelude.{IfOk, map};
 ghost use Rattle.pt_node.specs.Shown.{shown};
 ghost use Rattle.pt_composite.specs.Around.{around_of, IsInsideIf};
 ghost use Rattle.pt_composite.specs.Composite.{trees_of};
+ghost use Rattle.pt_composite.specs.Rates.{AllRated};
 
 use crate::needs::needs_of;
 use crate::rates::rates_of;
@@ -18,17 +19,21 @@ pub(crate) fn inside_of(
     children: &[Node],
     wiring: Wiring,
 ) -> Result<Option<Inside>, AllocError>
+    requires { AllRated (map shown children.now) }
     ensures { IfOk result (IsInsideIf (around_of wiring) (trees_of (map shown children.now))) }
 {
     let Some(needs) = needs_of(alloc, children, wiring.places.as_slice())? else {
         return Ok(None);
     };
+    let Some(rates) = rates_of(alloc, children)? else {
+        return Ok(None);
+    };
     let inside = Inside {
-        rates: rates_of(alloc, children)?,
         first: first_counts(alloc, children, &wiring.sources)?,
         sources: wiring.sources,
         places: wiring.places,
         needs: Counts::of(needs),
+        rates,
         inputs: wiring.inputs,
         outputs: wiring.outputs,
     };

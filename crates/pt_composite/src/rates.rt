@@ -1,38 +1,47 @@
-ghost use Rattle.std.specs.Prelude.{◌≡◌, IfOk, map, replicate};
+ghost use Rattle.std.specs.Prelude.{◌≡◌, IfOk, IfSome, map, option_map};
+ghost use Rattle.pt_lib_flow.specs.FlowActor as flow;
 ghost use Rattle.pt_node.specs.Shown.{shown, shown_node};
 ghost use Rattle.pt_node.specs.View.{node_of};
-ghost use Rattle.pt_composite.specs.Rates.{actor_rates, rates_of};
+ghost use Rattle.pt_composite.specs.Rates.{actor_rates, rates_of, AreRates, IsRatedActor, IsRated, AllRated};
 ghost use Rattle.pt_composite.specs.Composite.{trees_of};
 
 use pt_firing::Counts;
 use pt_node::{Body, Director, LibraryActor, Node};
 use std::alloc::{AllocError, Global};
 
-fn actor_rates(alloc: Global, actor: &LibraryActor) -> Result<Counts, AllocError>
+fn actor_rates(alloc: Global, actor: &LibraryActor) -> Result<Option<Counts>, AllocError>
+    requires { IsRatedActor actor.now }
     ensures { IfOk result (λ rates. rates ≡ actor_rates actor.now) }
 {
-    match actor {
-        LibraryActor::Flow(actor) => Ok(Counts::of(vec![in alloc; 1usize; actor.outputs()]?)),
+    let LibraryActor::Flow(actor) = actor;
+    match actor.rate() {
+        Some(rate) => Ok(Some(Counts::of(vec![in alloc; rate; 1]?))),
+        None => Ok(None),
     }
 }
 
-/// How many tokens a firing of the node gives on each of its outputs.
-fn node_rates(alloc: Global, node: &Node) -> Result<Counts, AllocError>
+/// How many tokens a firing of the node gives on each of its outputs, where the numbers don't vary.
+fn node_rates(alloc: Global, node: &Node) -> Result<Option<Counts>, AllocError>
+    requires { IsRated (shown_node node.now) }
     ensures { IfOk result (λ rates. rates ≡ rates_of (node_of (shown_node node.now))) }
 {
     match &node.body {
         Body::Actor(held) => actor_rates(alloc, &held.actor),
-        Body::Composite(Director::Sdf(core)) => core.gives().copy(alloc),
+        Body::Composite(Director::Sdf(core)) => Ok(Some(core.gives().copy(alloc)?)),
     }
 }
 
-/// The rates of each child.
-pub(crate) fn rates_of(alloc: Global, children: &[Node]) -> Result<Vec<Counts>, AllocError>
-    ensures { IfOk result (λ rates. rates.items ≡ map rates_of (trees_of (map shown children.now))) }
+/// The rates of each child; `None` where those of a child vary.
+pub(crate) fn rates_of(alloc: Global, children: &[Node]) -> Result<Option<Vec<Counts>>, AllocError>
+    requires { AllRated (map shown children.now) }
+    ensures { IfOk result (AreRates (trees_of (map shown children.now))) }
 {
     let mut rates = Vec::with_capacity(alloc, children.len())?;
     for child in children {
-        rates.push(node_rates(alloc, child)?)?;
+        let Some(given) = node_rates(alloc, child)? else {
+            return Ok(None);
+        };
+        rates.push(given)?;
     }
-    Ok(rates)
+    Ok(Some(rates))
 }

@@ -18,6 +18,8 @@ use Rattle.pt_node.specs.Shown.{Shown, Branch, shown, shown_node, level, all_of}
 use Rattle.pt_node.specs.View.{Tree}
 use Rattle.pt_composite.specs.Around.{Around, around_of, IsInsideOf, IsInsideIf}
 use Rattle.pt_composite.specs.Composite.{trees_of, IsComposite}
+use Rattle.pt_composite.specs.Rates.{AllRated}
+use Rattle.pt_composite.proofs.LoopLaws.{fresh-rated}
 use Rattle.pt_composite.proofs.CompositeLaws.{composite-is}
 use Rattle.pt_composite.proofs.composing.composite.Goals as goal
 
@@ -52,3 +54,6 @@ returns-clause-node c =
     subst (λ (s : Shown). IsComposite (around_of c.args.wiring) (map shown c.args.children.items) c.args.path c.args.records s)
     (sym (ap (λ (x : opens.Node-F Node). level x) (out-roll-Node r) ∙ ap (λ (core : State). Branch (record { past = tree.unfired; body = body.Composite (director.Sdf core); records = c.args.records; path = c.args.path; live = true }) (all_of (map shown c.args.children.items))) c.in_ok-core.ensures))
     (composite-is (around_of c.args.wiring) (map shown c.args.children.items) c.args.path c.args.records c.in-Some.inside c.in-Ok.plan c.in_ok-first.first.lists both.0 both.1 c.in-Ok.ensures.plan c.in-Ok.ensures.needs held c.requires.fresh c.requires.empty)
+
+pub inside_of-requires : goal.inside_of-requires
+inside_of-requires c = subst (λ (v : List Node). AllRated (map shown v)) (sym c.deref.ensures.value) (fresh-rated (map shown c.args.children.items) c.requires.fresh)

@@ -1,8 +1,8 @@
-use Rattle.std.proofs.Common.{◌≡◌, take, map}
+use Rattle.std.proofs.Common.{take, map}
 use Rattle.pt_node.specs.Shown.{shown}
 use Rattle.pt_composite.specs.Composite.{trees_of}
-use Rattle.pt_composite.specs.Rates.{rates_of}
+use Rattle.pt_composite.specs.Rates.{HaveRates}
 use Rattle.pt_composite.proofs.rates.rates_of.Given as goal
 
 abbrev pub invariant-loop-child : goal.invariant-loop-child
-invariant-loop-child l = l.rates.items ≡ map rates_of (trees_of (map shown (take l.child-index l.children)))
+invariant-loop-child l = HaveRates (trees_of (map shown (take l.child-index l.children))) l.rates.items
