@@ -9,3 +9,4 @@ pub mod Kept
 pub mod Made
 pub mod PlaceLaws
 pub mod NamedTokens
+pub mod Misplacing

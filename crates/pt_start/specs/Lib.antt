@@ -5,3 +5,4 @@ pub mod Frames
 pub mod PortTypes
 pub mod Seen
 pub mod Places
+pub mod Misplaced

@@ -7,9 +7,11 @@ mod given;
 mod limits;
 mod places;
 mod ports;
+mod refusals;
 mod round;
 mod starts;
 
 pub use limits::is_limited;
 pub use places::{has_untimed_above, is_barred};
+pub use refusals::misplaced;
 pub use starts::Starts;

@@ -23,14 +23,14 @@ fn director_in(director: &Option<NetDirector>) -> Option<Director>
 }
 
 /// The director of an entity.
-fn director_of(entity: &NetEntity) -> Option<Director>
+pub fn director_of(entity: &NetEntity) -> Option<Director>
     ensures { result ≡ places.director_of (entity_view entity.now) }
 {
     director_in(&entity.director)
 }
 
 /// The director of the composite of this number.
-fn director_over(net: &Net, composite: Option<u32>) -> Option<Director>
+pub fn director_over(net: &Net, composite: Option<u32>) -> Option<Director>
     ensures { result ≡ places.director_over (net_view net.now) composite }
 {
     match composite {

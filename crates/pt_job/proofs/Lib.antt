@@ -1,0 +1,4 @@
+pub mod Positions
+pub mod Members
+pub mod Fits
+pub mod Present

@@ -1,0 +1,74 @@
+ghost use Rattle.std.specs.Prelude.{◌≡◌, map, filter, IfOk};
+ghost use Rattle.std.specs.List.{list_all};
+ghost use Rattle.std.specs.Option.{is_some};
+ghost use Rattle.pt_moml.specs.View.{port_view, input_view, supply_view};
+ghost use Rattle.pt_values.specs.Scopes.{net_view};
+ghost use Rattle.pt_values.specs.Sites.{port_name, is_input_port};
+ghost use Rattle.pt_job.specs.Names.{texts};
+ghost use Rattle.pt_job.specs.Inputs as inputs;
+ghost use Rattle.pt_job.specs.Inputs.{own_inputs};
+
+use pt_graph::Net;
+use pt_moml::{Direction, Input, Port, Supply};
+use pt_value::Text;
+use std::alloc::{AllocError, Global};
+
+/// Whether tokens come in through a port.
+fn is_input(port: &Port) -> bool
+    ensures { result ≡ is_input_port (port_view port.now) }
+{
+    match port.direction {
+        Direction::Input => true,
+        Direction::Output => false,
+    }
+}
+
+/// The names of the input ports among these.
+fn input_names<'k>(alloc: Global, ports: &'k [Port]) -> Result<Vec<&'k str>, AllocError>
+    ensures { IfOk result (λ names. texts names.items ≡ map port_name (filter is_input_port (map port_view ports.now))) }
+{
+    let mut names = Vec::with_capacity(alloc, ports.len())?;
+    for port in ports {
+        if is_input(port) {
+            names.push(port.name.as_str())?;
+        }
+    }
+    Ok(names)
+}
+
+/// The names of the input ports of the top.
+pub fn own_inputs<'k>(alloc: Global, net: &'k Net) -> Result<Vec<&'k str>, AllocError>
+    ensures { IfOk result (λ names. texts names.items ≡ own_inputs (net_view net.now)) }
+{
+    match net.entities.first() {
+        Some(top) => input_names(alloc, &top.ports),
+        None => Ok(Vec::new(alloc)),
+    }
+}
+
+/// The ports that inputs name.
+pub fn named_ports<'k>(alloc: Global, inputs: &'k [Input]) -> Result<Vec<&'k str>, AllocError>
+    ensures { IfOk result (λ names. texts names.items ≡ map (λ i. i.port) (map input_view inputs.now)) }
+{
+    let mut names = Vec::with_capacity(alloc, inputs.len())?;
+    for input in inputs {
+        names.push(input.port.as_str())?;
+    }
+    Ok(names)
+}
+
+fn are_present(texts: &[Option<Text>]) -> bool
+    ensures { result ≡ list_all is_some texts.now }
+{
+    texts.iter().all(|text| text.is_some())
+}
+
+/// Whether tokens come to an input, and none of them is absent.
+pub fn is_full(supply: &Supply) -> bool
+    ensures { result ≡ inputs.is_full (supply_view supply.now) }
+{
+    match supply {
+        Supply::Tokens(texts) => are_present(texts),
+        Supply::Events(_) => false,
+    }
+}
