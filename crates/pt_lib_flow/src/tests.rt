@@ -270,19 +270,23 @@ fn sum_params(alloc: Global) -> Result<Params, AllocError> {
     })
 }
 
+/// What that expression shows once it fired with one token.
+fn sum_with(alloc: Global, data: Datum) -> Result<Option<Vec<u8>>, AllocError> {
+    let Some(mut actor) = started(alloc, &sum_params(alloc)?)? else {
+        return Ok(None);
+    };
+    let lists = lists(alloc, &[&[data]])?;
+    Ok(Some(shown(alloc, &actor.step(alloc, START, &Inputs::of(&lists)))?))
+}
+
 #[test]
 fn an_expression_gives_the_value_of_its_tree(rt: HostRuntime) -> Result<(), Fail> {
-    let alloc = rt.alloc();
-    let params = sum_params(alloc)?;
-    let mut actor = started(alloc, &params)?.ok_or("not started")?;
     for (data, gives) in [
         (Datum::Int(2), "7 |"),
         (Datum::Bool(true), "|"),
         (Datum::Int(-6), "-1 |"),
     ] {
-        let lists = lists(alloc, &[&[data]])?;
-        let step = actor.step(alloc, START, &Inputs::of(&lists));
-        let text = shown(alloc, &step)?;
+        let text = sum_with(rt.alloc(), data)?.ok_or("not started")?;
         assert_eq!(rt; text.as_slice(), gives.as_bytes(), "{data:?}");
     }
     Ok(())
