@@ -3,6 +3,7 @@
 
 mod frames;
 mod inequalities;
+mod names;
 mod place;
 mod plain;
 mod row;
