@@ -58,9 +58,6 @@ port_at net k i at = slice_get-map (λ (j : InputTree). j.port) net.inputs k ∙
 not_first : (net : NetTree) (k : ℕ) (i : InputTree) → slice_get net.inputs k ≡ Some i → is_first net k i.port ≡ false → IsInputFault net (shown i.port)
 not_first net k i at bad = go (input_to net i.port) refl
   where
-    ports : List (List ℕ)
-    ports = named_ports net
-
     go : (o : Option ℕ) → input_to net i.port ≡ o → IsInputFault net (shown i.port)
     go None e = absurd (no_position (bytes_eq i.port) (named_ports net) e k i.port (port_at net k i at) (text_same i.port))
     go (Some j) e =
@@ -77,9 +74,6 @@ not_first net k i at bad = go (input_to net i.port) refl
 pub misfit : (net : NetTree) (k : ℕ) (i : InputTree) → slice_get net.inputs k ≡ Some i → fits net k i ≡ false → IsInputFault net (shown i.port)
 misfit net k i at bad = of_port (is_port net i.port) refl bad
   where
-    there : Contains net.inputs i
-    there = contains_slice net.inputs k i at
-
     of_first : (b : Bool) → is_first net k i.port ≡ b → (b && is_full i.supply) ≡ false → IsInputFault net (shown i.port)
     of_first true e h = not_full net i (contains_slice net.inputs k i at) h
     of_first false e h = not_first net k i at e

@@ -12,7 +12,7 @@ use Rattle.pt_expr_text.proofs.Whole.{read_once}
 use Rattle.pt_moml.specs.Document.{PropertyTree, property_name}
 use Rattle.pt_graph.specs.Net.{NetEntityTree, TransparentTree}
 use Rattle.pt_parameter.specs.Texts.{HasValue}
-use Rattle.pt_values.specs.Scopes.{NetTree, Bindings, bound, text_of, ComesTo, Extends, Sees, at_top, in_transparent, in_opaque}
+use Rattle.pt_values.specs.Scopes.{NetTree, Bindings, bound, text_of, ComesTo, Extends, seen_parameters, Sees, at_top, in_transparent, in_opaque}
 
 some-same : {A : Type 0} (x y : A) → Some x ≡ Some y → x ≡ y
 some-same x y e = cc
@@ -57,7 +57,7 @@ pub record IsInOpaque (net : NetTree) (k : ℕ) (seen : Bindings) : Type 0 where
   pub at : slice_get net.entities k ≡ Some entity
   pub around : Bindings
   pub sees : Sees net entity.within entity.parent around
-  pub extends : Extends around entity.parameters seen
+  pub extends : Extends around (seen_parameters entity) seen
 
 abbrev pub SeesBy : NetTree → Option ℕ → Option ℕ → Bindings → Type 0
 SeesBy net (Some t) parent seen = IsInTransparent net t seen
@@ -83,5 +83,5 @@ sees-once {net = net} {b = b} (in_opaque k e around inner at sees extends) s =
     let same : q.entity ≡ e = some-same q.entity e (sym q.at ∙ at) in
     let there : Sees net e.within e.parent q.around = subst (λ (d : NetEntityTree). Sees net d.within d.parent q.around) same q.sees in
     let f : q.around ≡ around = sym (sees-once sees there) in
-    let behind : Extends around e.parameters b = subst (λ (d : NetEntityTree). Extends around d.parameters b) same (subst (λ (bs : Bindings). Extends bs q.entity.parameters b) f q.extends) in
-    extends-once e.parameters around inner b extends behind
+    let behind : Extends around (seen_parameters e) b = subst (λ (d : NetEntityTree). Extends around (seen_parameters d) b) same (subst (λ (bs : Bindings). Extends bs (seen_parameters q.entity) b) f q.extends) in
+    extends-once (seen_parameters e) around inner b extends behind

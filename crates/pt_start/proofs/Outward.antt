@@ -1,5 +1,5 @@
 -- From what is round one thing to what is round that.
-use Rattle.std.proofs.Common.{◌≡◌, ℕ, zero, suc, ◌+◌, ◌*◌, ◌<◌, ◌≤◌, List, [], ◌∷◌, length, map, Bool, true, false, refl, sym, ap, subst, ◌∙◌, arith}
+use Rattle.std.proofs.Common.{◌≡◌, ℕ, zero, suc, ◌+◌, ◌*◌, ◌<◌, ◌≤◌, List, [], ◌∷◌, length, map, Bool, true, false, refl, sym, ap, subst, ◌∙◌, if◌then◌else◌, arith}
 use Rattle.std.specs.Prelude.{Option, Some, None, option_map, slice_get, IsTrue, Vec}
 use Rattle.std.specs.Global.{Global}
 use Rattle.std.specs.List.{AllZip}
@@ -8,6 +8,7 @@ use Rattle.std.proofs.lemmas.Option.{slice_get-map, slice_get_within, none-some}
 use Rattle.pt_value.specs.Value.{Value}
 use Rattle.pt_value.specs.Token.{value_of}
 use Rattle.pt_value.specs.declared.token.Token.{Token}
+use Rattle.pt_moml.specs.Document.{PropertyTree}
 use Rattle.pt_moml.specs.View.{properties_view}
 use Rattle.pt_graph.specs.declared.net.NetEntity.{NetEntity}
 use Rattle.pt_graph.specs.declared.net.Transparent.{Transparent}
@@ -17,8 +18,7 @@ use Rattle.pt_parameter.specs.declared.parameter_value.ParameterValue.{Parameter
 use Rattle.pt_parameter.specs.Given.{held_view}
 use Rattle.pt_parameter.specs.Given as given
 use Rattle.pt_values.specs.declared.values.EntityValues.{EntityValues}
-use Rattle.pt_values.specs.Scopes.{NetTree, Bindings, bound, net_view, Sees, Extends}
-use Rattle.pt_values.specs.Sites.{is_composite_class}
+use Rattle.pt_values.specs.Scopes.{NetTree, Bindings, bound, net_view, Sees, Extends, is_composite_class, seen_parameters}
 use Rattle.pt_values.specs.Valued.{IsEntityValued, IsTransparentValued, AreOwn, AreInTurn}
 use Rattle.pt_values.specs.Valued as valued
 use Rattle.pt_start.specs.declared.round.Round.{Round}
@@ -164,7 +164,8 @@ module _ (s : Starts) (here : Round) (k : ℕ) (e : NetEntity) (names : Names) (
         let same : v.around ≡ around = sees-once v.sees out-of-opaque in
         let own = own-turn (is_composite_class e.class) v.around vs.parameters.items v.inner composite v.parameters in
         let turn : AreInTurn around ps own.0 v.inner = subst (λ (bs : Bindings). AreInTurn bs ps own.0 v.inner) same own.2 in
-        let ext : Extends around ps seen = subst (λ (d : NetEntityTree). Extends around d.parameters seen) same-opaque inside-opaque.extends in
+        let all : seen_parameters (entity_view e) ≡ ps = ap (λ (b : Bool). if b then ps else []) composite in
+        let ext : Extends around ps seen = subst (λ (qs : List PropertyTree). Extends around qs seen) all (subst (λ (d : NetEntityTree). Extends around (seen_parameters d) seen) same-opaque inside-opaque.extends) in
         let is : seen ≡ behind around (given_tokens ps vs.parameters.items) = extends-once ps around seen v.inner ext (turn-extends ps own.0 around v.inner turn) ∙ turn-given ps vs.parameters.items own.0 around v.inner own.1 turn in
         record { around = around; sees = out-of-opaque; is = λ name. holds composite around name ∙ ap (λ (bs : Bindings). bound bs name) (sym is) }
 

@@ -13,8 +13,7 @@ use Rattle.pt_parameter.specs.declared.parameter_value.ParameterValue.{Parameter
 use Rattle.pt_parameter.specs.declared.parameter_value.ParameterValue.TheVariants as parameter
 use Rattle.pt_parameter.specs.Names.{held, or_else}
 use Rattle.pt_values.specs.declared.values.EntityValues.{EntityValues}
-use Rattle.pt_values.specs.Scopes.{Bindings, bound}
-use Rattle.pt_values.specs.Sites.{is_composite_class}
+use Rattle.pt_values.specs.Scopes.{Bindings, bound, is_composite_class}
 use Rattle.pt_start.specs.Started.{given_tokens}
 
 -- what is seen behind these parameters, in turn

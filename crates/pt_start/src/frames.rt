@@ -1,7 +1,7 @@
 ghost use Rattle.std.specs.Prelude.{◌≡◌, ℕ, ◌++◌, List, IfOk, OnOk, Some, option_map};
 ghost use Rattle.pt_value.specs.declared.token.Token.{Token};
 ghost use Rattle.pt_moml.specs.View.{properties_view};
-ghost use Rattle.pt_values.specs.Sites.{is_composite_class};
+ghost use Rattle.pt_values.specs.Scopes.{is_composite_class};
 ghost use Rattle.pt_start.specs.Started.{given_tokens};
 ghost use Rattle.pt_start.specs.Frames.{Hold, with_token, named_tokens, IsKept, AreKept, IsTransparentKept, AreTransparentKept};
 
