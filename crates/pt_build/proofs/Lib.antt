@@ -1,0 +1,4 @@
+pub mod RecordedLists
+pub mod TreeLaws
+pub mod PortLaws
+pub mod FaultLaws
