@@ -2,3 +2,4 @@ pub mod RecordedLists
 pub mod TreeLaws
 pub mod PortLaws
 pub mod FaultLaws
+pub mod LoopLaws

@@ -23,7 +23,7 @@ use Rattle.pt_build.specs.declared.building.BuildFault.{BuildFault}
 use Rattle.pt_build.specs.declared.building.BuildFault.TheVariants.{Refused, Unbuilt, Memory}
 use Rattle.pt_composite.specs.Around.{IsInsideOf, HasInside}
 use Rattle.pt_composite.specs.Composite.{trees_of, IsComposite}
-use Rattle.pt_build.specs.Trees.{IsEntity, IsUndirected, is_sdf, IsSdf, around_in, Starts, StartsAs}
+use Rattle.pt_build.specs.Trees.{IsEntity, IsUndirected, is_sdf, IsSdf, around_in, Starts, StartsAs, AreStarted}
 use Rattle.pt_build.specs.Recorded.{recorded_of, AreRecordLists}
 use Rattle.pt_build.specs.declared.builder.Builder.{Builder}
 use Rattle.pt_composite.specs.declared.composing.CompositeFault.{CompositeFault}
@@ -98,6 +98,19 @@ IsToldAs composite_fault.Memory path f = f ≡ Memory
 pub record IsPrepared (b : Builder) : Type 0 where
   pub insides : AreInsides b.net.now.entities.items b.net.now.channels.items b.insides.children.items b.insides.places.items b.insides.sources.items
   pub records : AreRecordLists (length b.net.now.entities.items) b.net.now.recorded.items b.records.items
+
+-- the entity stands below so many composites, in a net whose library actors are started
+pub record IsReached (b : Builder) (k depth : ℕ) : Type 0 where
+  pub prepared : IsPrepared b
+  pub started : AreStarted b.starts.now
+  pub nested : IsNested b.net.now k depth
+  pub bound : depth ≤ 32
+
+-- and what is within it may stand below one more
+pub record HasRoom (b : Builder) (k depth : ℕ) : Type 0 where
+  pub reached : IsReached b k depth
+  pub there : k < length b.net.now.entities.items
+  pub room : depth < 32
 
 -- when each answer that isn't a node may come
 abbrev pub BuildFaultStands : Net → Starts → BuildFault → Type 0

@@ -1,7 +1,8 @@
-ghost use Rattle.std.specs.Prelude.{◌≡◌, IfOk};
+ghost use Rattle.std.specs.Prelude.{◌≡◌, ◌≤◌, ◌<◌, IfOk, IfSome, IfNone, Some, None, true, false, slice_get};
 ghost use Rattle.pt_node.specs.declared.library.LibraryActor.TheVariants.{Flow};
 ghost use Rattle.pt_node.specs.Shown.{shown_node};
-ghost use Rattle.pt_build.specs.Trees.{is_sdf};
+ghost use Rattle.pt_build.specs.Trees.{is_sdf, IsUndirected, StartsAs};
+ghost use Rattle.pt_lib_flow.specs.declared.flow_actor.FlowActor.{FlowActor};
 ghost use Rattle.pt_build.specs.Built.{IsToldAs, held_node};
 
 use crate::building::BuildFault;
@@ -29,6 +30,48 @@ pub(crate) struct Builder<'a> {
     starts: &'a [Option<FlowActor>],
     insides: Insides,
     records: Vec<Numbers>,
+}
+
+/// The entity of that number, if there is one.
+fn entity_in(entities: &[NetEntity], k: usize) -> Option<&NetEntity>
+    ensures some { IfSome result (λ entity. slice_get entities.now k ≡ Some entity.now) }
+    ensures none { IfNone result (slice_get entities.now k ≡ None) }
+{
+    match entities.get(k) {
+        Some(entity) => Some(entity),
+        None => None,
+    }
+}
+
+/// The actor that the entity of that number starts as, if there is one.
+fn start_in(starts: &[Option<FlowActor>], k: usize) -> Option<&FlowActor>
+    ensures some { IfSome result (λ actor. StartsAs starts.now k actor.now) }
+    ensures none { IfNone result ((a : FlowActor) → StartsAs starts.now k a → ⊥) }
+{
+    match starts.get(k) {
+        Some(Some(actor)) => Some(actor),
+        Some(None) => None,
+        None => None,
+    }
+}
+
+/// Whether no more composites may stand in one that stands below so many.
+fn is_deepest(depth: u32) -> bool
+    ensures yes { result ≡ true → 32 ≤ depth }
+    ensures no { result ≡ false → depth < 32 }
+{
+    depth >= MOST_LEVELS
+}
+
+/// Whether the entity is a library actor.
+fn is_undirected(entity: &NetEntity) -> bool
+    ensures yes { result ≡ true → IsUndirected entity.now }
+    ensures no { result ≡ false → IsUndirected entity.now → ⊥ }
+{
+    match &entity.director {
+        Some(_) => false,
+        None => true,
+    }
 }
 
 /// Whether the entity is a composite with the SDF director.
@@ -90,15 +133,15 @@ fn actor_node(alloc: Global, held: Held, path: Text, records: Records) -> Node
 }
 
 impl<'a> Builder<'a> {
-    ghost use Rattle.std.specs.Prelude.{◌≡◌, ℕ, ◌≤◌, ◌<◌, IfOk, IfErr, length, map};
-    ghost use Rattle.std.specs.List.{Contains};
+    ghost use Rattle.std.specs.Prelude.{◌≡◌, ◌<◌, IfOk, IfErr, length, map, true};
+    ghost use Rattle.pt_lib_flow.specs.FlowActor.{is_steady};
     ghost use Rattle.pt_wiring.specs.Inside.{children_of};
     ghost use Rattle.pt_node.specs.Shown.{shown, shown_node};
     ghost use Rattle.pt_composite.specs.Around.{around_of};
     ghost use Rattle.pt_composite.specs.Fresh.{IsFresh, AllFresh};
     ghost use Rattle.pt_build.specs.Recorded.{recorded_of};
-    ghost use Rattle.pt_build.specs.Trees.{IsEntity, IsSdf, IsUndirected, AreStarted, around_in};
-    ghost use Rattle.pt_build.specs.Built.{IsBuilt, AreBuilt, IsNested, IsPrepared, BuildFaultStands};
+    ghost use Rattle.pt_build.specs.Trees.{IsEntity, IsSdf, IsUndirected, AreStarted, StartsAs, around_in};
+    ghost use Rattle.pt_build.specs.Built.{IsBuilt, AreBuilt, IsPrepared, IsReached, HasRoom, BuildFaultStands};
 
     pub(crate) fn of(
         alloc: Global,
@@ -126,6 +169,40 @@ impl<'a> Builder<'a> {
         records_of(alloc, self.net, entity, numbers_at(&self.records, k))
     }
 
+    /// The entity of that number.
+    fn entity_at(&self, k: usize) -> Result<&NetEntity, BuildFault>
+        ensures at { IfOk result (λ entity. IsEntity self.now.net.now k entity.now) }
+        ensures stands { IfErr result (BuildFaultStands self.now.net.now self.now.starts.now) }
+    {
+        let Some(entity) = entity_in(&self.net.entities, k) else {
+            return Err(BuildFault::Unbuilt);
+        };
+        Ok(entity)
+    }
+
+    /// The node of a library actor that needs the same at each firing.
+    fn steady_at(
+        &self,
+        alloc: Global,
+        k: usize,
+        entity: &NetEntity,
+        actor: &FlowActor,
+    ) -> Result<Node, AllocError>
+        requires prepared { IsPrepared self.now }
+        requires started { AreStarted self.now.starts.now }
+        requires entity { IsEntity self.now.net.now k entity.now }
+        requires undirected { IsUndirected entity.now }
+        requires actor { StartsAs self.now.starts.now k actor.now }
+        requires steady { is_steady actor.now ≡ true }
+        ensures built { IfOk result (λ node. IsBuilt self.now.net.now self.now.starts.now k (shown_node node)) }
+        ensures fresh { IfOk result (λ node. IsFresh (shown_node node)) }
+    {
+        let held = held_of(alloc, actor)?;
+        let records = self.records_at(alloc, k, entity)?;
+        let path = entity.path.copy(alloc)?;
+        Ok(actor_node(alloc, held, path, records))
+    }
+
     /// The node of a library actor.
     fn actor_at(&self, alloc: Global, k: usize, entity: &NetEntity) -> Result<Node, BuildFault>
         requires prepared { IsPrepared self.now }
@@ -136,16 +213,14 @@ impl<'a> Builder<'a> {
         ensures fresh { IfOk result (λ node. IsFresh (shown_node node)) }
         ensures stands { IfErr result (BuildFaultStands self.now.net.now self.now.starts.now) }
     {
-        let Some(Some(actor)) = self.starts.get(k) else {
+        let Some(actor) = start_in(self.starts, k) else {
             return Err(BuildFault::Unbuilt);
         };
-        if !actor.is_steady() {
-            return Err(BuildFault::Unbuilt);
+        if actor.is_steady() {
+            Ok(self.steady_at(alloc, k, entity, actor)?)
+        } else {
+            Err(BuildFault::Unbuilt)
         }
-        let held = held_of(alloc, actor)?;
-        let records = self.records_at(alloc, k, entity)?;
-        let path = entity.path.copy(alloc)?;
-        Ok(actor_node(alloc, held, path, records))
     }
 
     /// The wiring of the composite of that number.
@@ -188,46 +263,64 @@ impl<'a> Builder<'a> {
         }
     }
 
+    /// Whether the entity, which isn't a library actor, is an SDF composite that documents can have at this depth.
+    fn check_composite(&self, k: usize, depth: u32, entity: &NetEntity) -> Result<(), BuildFault>
+        requires reached { IsReached self.now k depth }
+        requires entity { IsEntity self.now.net.now k entity.now }
+        requires directed { IsUndirected entity.now → ⊥ }
+        ensures sdf { IfOk result (λ _. IsSdf entity.now) }
+        ensures room { IfOk result (λ _. HasRoom self.now k depth) }
+        ensures stands { IfErr result (BuildFaultStands self.now.net.now self.now.starts.now) }
+    {
+        if is_deepest(depth) {
+            return Err(BuildFault::Unbuilt);
+        }
+        if is_sdf(entity) {
+            Ok(())
+        } else {
+            Err(BuildFault::Unbuilt)
+        }
+    }
+
+    /// The numbers of the children of an entity.
+    fn children_of(&self, k: usize) -> &[usize]
+        requires prepared { IsPrepared self.now }
+        requires there { k < length self.now.net.now.entities.items }
+        ensures { result.now ≡ children_of self.now.net.now.entities.items k }
+    {
+        self.insides.children[k].as_slice()
+    }
+
     /// The node of the entity of that number, which stands below so many composites.
     #[cycle(tree)]
     pub(crate) fn node_at(&self, alloc: Global, k: usize, depth: u32) -> Result<Node, BuildFault>
-        requires prepared { IsPrepared self.now }
-        requires started { AreStarted self.now.starts.now }
-        requires nested { IsNested self.now.net.now k depth }
-        requires depth { depth ≤ 32 }
+        requires { IsReached self.now k depth }
         ensures built { IfOk result (λ node. IsBuilt self.now.net.now self.now.starts.now k (shown_node node)) }
         ensures fresh { IfOk result (λ node. IsFresh (shown_node node)) }
         ensures stands { IfErr result (BuildFaultStands self.now.net.now self.now.starts.now) }
     {
-        let Some(entity) = self.net.entities.get(k) else {
-            return Err(BuildFault::Unbuilt);
-        };
-        if entity.director.is_none() {
+        let entity = self.entity_at(k)?;
+        if is_undirected(entity) {
             return self.actor_at(alloc, k, entity);
         }
-        if depth == MOST_LEVELS || !is_sdf(entity) {
-            return Err(BuildFault::Unbuilt);
-        }
-        let children = self.children_at(alloc, k, depth + 1)?;
+        self.check_composite(k, depth, entity)?;
+        let children = self.children_at(alloc, k, depth)?;
         self.composite_at(alloc, k, entity, children)
     }
 
-    /// The nodes of the children of a composite, each below so many composites.
+    /// The nodes of the children of a composite, which stands below so many composites.
     #[cycle(tree)]
     fn children_at(&self, alloc: Global, k: usize, depth: u32) -> Result<Vec<Node>, BuildFault>
-        requires prepared { IsPrepared self.now }
-        requires started { AreStarted self.now.starts.now }
-        requires there { k < length self.now.net.now.entities.items }
-        requires nested { (child : ℕ) → Contains (children_of self.now.net.now.entities.items k) child → IsNested self.now.net.now child depth }
-        requires depth { depth ≤ 32 }
+        requires { HasRoom self.now k depth }
         ensures built { IfOk result (λ nodes. AreBuilt self.now.net.now self.now.starts.now (children_of self.now.net.now.entities.items k) (map shown nodes.items)) }
         ensures fresh { IfOk result (λ nodes. AllFresh (map shown nodes.items)) }
         ensures stands { IfErr result (BuildFaultStands self.now.net.now self.now.starts.now) }
     {
-        let numbers = self.insides.children[k].as_slice();
-        let mut children = Vec::with_capacity(alloc, numbers.len())?;
+        let numbers = self.children_of(k);
+        let mut children = Vec::new(alloc);
         for number in numbers {
-            children.push(self.node_at(alloc, *number, depth)?)?;
+            let node = self.node_at(alloc, *number, depth + 1)?;
+            children.push(node)?;
         }
         Ok(children)
     }
