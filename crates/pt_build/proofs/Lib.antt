@@ -3,3 +3,4 @@ pub mod TreeLaws
 pub mod PortLaws
 pub mod FaultLaws
 pub mod LoopLaws
+pub mod TopLaws

@@ -197,9 +197,9 @@ impl<'a> Builder<'a> {
         ensures built { IfOk result (λ node. IsBuilt self.now.net.now self.now.starts.now k (shown_node node)) }
         ensures fresh { IfOk result (λ node. IsFresh (shown_node node)) }
     {
-        let held = held_of(alloc, actor)?;
         let records = self.records_at(alloc, k, entity)?;
         let path = entity.path.copy(alloc)?;
+        let held = held_of(alloc, actor)?;
         Ok(actor_node(alloc, held, path, records))
     }
 

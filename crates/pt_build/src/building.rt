@@ -51,5 +51,6 @@ pub fn build(alloc: Global, net: &Net, starts: &[Option<FlowActor>]) -> Result<N
     ensures fresh { IfOk result (λ node. IsFresh (shown_node node)) }
     ensures stands { IfErr result (BuildFaultStands net.now starts.now) }
 {
-    Builder::of(alloc, net, starts)?.node_at(alloc, 0, 0)
+    let builder = Builder::of(alloc, net, starts)?;
+    builder.node_at(alloc, 0, 0)
 }
