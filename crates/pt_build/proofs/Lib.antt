@@ -4,3 +4,4 @@ pub mod PortLaws
 pub mod FaultLaws
 pub mod LoopLaws
 pub mod TopLaws
+pub mod NestedLaws

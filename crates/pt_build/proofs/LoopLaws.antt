@@ -1,17 +1,15 @@
 -- The loop over the children of a composite.
-use Rattle.std.proofs.Common.{◌≡◌, ℕ, suc, ◌≤◌, ◌<◌, ◌+◌, List, [], ◌∷◌, ◌++◌, None, Some, false, length, take, map, get_or, refl, sym, subst, ◌∙◌, arith, add-one}
-use Rattle.std.specs.Prelude.{slice_get}
+use Rattle.std.proofs.Common.{◌≡◌, ℕ, suc, ◌≤◌, ◌<◌, ◌+◌, List, [], ◌∷◌, ◌++◌, length, take, map, get_or, sym, subst, ◌∙◌, arith}
 use Rattle.std.specs.List.{Contains}
 use Rattle.std.proofs.lemmas.List.{take_all, get_or_default}
 use Rattle.pt_graph.specs.declared.net.Net.{Net}
-use Rattle.pt_graph.specs.declared.net.NetEntity.{NetEntity}
 use Rattle.pt_wiring.specs.Inside.{children_of}
 use Rattle.pt_node.specs.declared.node.Node.{Node}
 use Rattle.pt_node.specs.Shown.{Shown, shown, shown_node}
 use Rattle.pt_composite.specs.Fresh.{AllFresh}
 use Rattle.pt_build.specs.declared.builder.Builder.{Builder}
-use Rattle.pt_build.specs.Trees.{Starts, IsEntity}
-use Rattle.pt_build.specs.Built.{AreBuilt, IsBuilt, none_built, IsNested, within, IsReached, HasRoom, IsUnbuilt, absent, deep}
+use Rattle.pt_build.specs.Trees.{Starts}
+use Rattle.pt_build.specs.Built.{AreBuilt, IsBuilt, none_built, IsNested, within, IsReached, HasRoom, IsUnbuilt, deep}
 use Rattle.pt_build.proofs.FaultLaws.{children-more}
 
 among : (numbers : List ℕ) (i number : ℕ) → i < length numbers → number ≡ get_or numbers i number → Contains numbers number
@@ -41,12 +39,6 @@ child-more net starts numbers i number kids new node h is all one are =
 
 pub all-built : (net : Net) (starts : Starts) (k : ℕ) (numbers : List ℕ) (i : ℕ) (kids : List Node) → numbers ≡ children_of net.entities.items k → length numbers ≤ i → AreBuilt net starts (take i numbers) (map shown kids) → AreBuilt net starts (children_of net.entities.items k) (map shown kids)
 all-built net starts k numbers i kids are h all = subst (λ (v : List ℕ). AreBuilt net starts v (map shown kids)) (take_all i numbers h ∙ are) all
-
-pub absent-at : (net : Net) (starts : Starts) (k : ℕ) → slice_get net.entities.items k ≡ None → IsUnbuilt net starts
-absent-at net starts k none = absent k (λ e is. some-none e (sym none ∙ is))
-  where
-    some-none : (e : NetEntity) → None ≡ Some e → ⊥
-    some-none e h = grind (arith, h)
 
 pub deep-at : (net : Net) (starts : Starts) (k depth : ℕ) → IsNested net k depth → 32 ≤ depth → depth ≤ 32 → IsUnbuilt net starts
 deep-at net starts k depth nested least most = let is : depth ≡ 32 = omega (arith, least, most) in deep k (subst (λ n. IsNested net k n) is nested)

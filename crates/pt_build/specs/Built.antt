@@ -79,7 +79,7 @@ pub record IsRefused (net : Net) (starts : Starts) (r : Refusal) : Type 0 where
 -- What isn't built yet: an entity that is neither a library actor nor an SDF composite; a library actor without a start, or one that doesn't need the same at each firing; a composite whose inside isn't well formed; a net whose top isn't there, or that is nested
 -- deeper than documents are.
 pub data IsUnbuilt (net : Net) (starts : Starts) : Type 0 where
-  absent : (k : ℕ) → ((e : NetEntity) → IsEntity net k e → ⊥) → IsUnbuilt net starts
+  absent : ((e : NetEntity) → IsEntity net 0 e → ⊥) → IsUnbuilt net starts
   other_director : (k : ℕ) (e : NetEntity) → IsEntity net k e → (IsUndirected e → ⊥) → is_sdf e ≡ false → IsUnbuilt net starts
   unstarted : (k : ℕ) (e : NetEntity) → IsEntity net k e → IsUndirected e → ((a : FlowActor) → StartsAs starts k a → ⊥) → IsUnbuilt net starts
   unsteady : (k : ℕ) (e : NetEntity) (a : FlowActor) → IsEntity net k e → IsUndirected e → StartsAs starts k a → is_steady a ≡ false → IsUnbuilt net starts

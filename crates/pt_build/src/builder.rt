@@ -133,7 +133,7 @@ fn actor_node(alloc: Global, held: Held, path: Text, records: Records) -> Node
 }
 
 impl<'a> Builder<'a> {
-    ghost use Rattle.std.specs.Prelude.{◌≡◌, ◌<◌, IfOk, IfErr, length, map, true};
+    ghost use Rattle.std.specs.Prelude.{◌≡◌, ℕ, ◌<◌, IfOk, IfErr, length, map, true};
     ghost use Rattle.pt_lib_flow.specs.FlowActor.{is_steady};
     ghost use Rattle.pt_wiring.specs.Inside.{children_of};
     ghost use Rattle.pt_node.specs.Shown.{shown, shown_node};
@@ -141,7 +141,7 @@ impl<'a> Builder<'a> {
     ghost use Rattle.pt_composite.specs.Fresh.{IsFresh, AllFresh};
     ghost use Rattle.pt_build.specs.Recorded.{recorded_of};
     ghost use Rattle.pt_build.specs.Trees.{IsEntity, IsSdf, IsUndirected, AreStarted, StartsAs, around_in};
-    ghost use Rattle.pt_build.specs.Built.{IsBuilt, AreBuilt, IsPrepared, IsReached, HasRoom, BuildFaultStands};
+    ghost use Rattle.pt_build.specs.Built.{IsBuilt, AreBuilt, IsPrepared, IsNested, IsReached, HasRoom, BuildFaultStands};
 
     pub(crate) fn of(
         alloc: Global,
@@ -171,6 +171,7 @@ impl<'a> Builder<'a> {
 
     /// The entity of that number.
     fn entity_at(&self, k: usize) -> Result<&NetEntity, BuildFault>
+        requires nested { (depth : ℕ) × IsNested self.now.net.now k depth }
         ensures at { IfOk result (λ entity. IsEntity self.now.net.now k entity.now) }
         ensures stands { IfErr result (BuildFaultStands self.now.net.now self.now.starts.now) }
     {

@@ -4,6 +4,9 @@ use Rattle.pt_build.proofs.LoopLaws.{reach-child, start-built, start-fresh, chil
 use Rattle.pt_build.proofs.FaultLaws.{fresh-more}
 use Rattle.pt_build.proofs.builder.Builder.+tree.Goals as goal
 
+pub node_at-entity_at-requires : goal.node_at-entity_at-requires
+node_at-entity_at-requires t c = (c.args.depth, c.requires.nested)
+
 pub children_at-node_at-requires : goal.children_at-node_at-requires
 children_at-node_at-requires t c =
     (omega (arith, c.requires.room), reach-child c.args.self.now c.args.k c.args.depth c.children_of.result.now c.loop-number.number-index c.number-item.result c.requires c.children_of.ensures c.loop-number-test.true c.number-item.is)
