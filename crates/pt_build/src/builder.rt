@@ -171,7 +171,7 @@ impl<'a> Builder<'a> {
 
     /// The entity of that number.
     fn entity_at(&self, k: usize) -> Result<&NetEntity, BuildFault>
-        requires nested { (depth : ℕ) × IsNested self.now.net.now k depth }
+        requires { (depth : ℕ) × IsNested self.now.net.now k depth }
         ensures at { IfOk result (λ entity. IsEntity self.now.net.now k entity.now) }
         ensures stands { IfErr result (BuildFaultStands self.now.net.now self.now.starts.now) }
     {
