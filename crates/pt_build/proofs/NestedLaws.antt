@@ -30,7 +30,7 @@ child-from c i n (x ∷ es) j e = by_test (λ m f. child-from c (suc i) m es j f
 
 child-there : (es : List NetEntity) (c j : ℕ) → Contains (children_of es c) j → (e : NetEntity) × (slice_get es j ≡ Some e)
 child-there es c j in_c =
-    let r = child-from c 0 in_c.0 es j (slice_get-get_or (children_of es c) in_c.0 j in_c.1.0 ∙ ap Some in_c.1.1) in
+    let r = child-from c 0 in_c.0 es j (slice_get-get_or (children_of es c) in_c.0 j in_c.1 ∙ ap Some in_c.2) in
     let same : j ≡ r.place = omega (arith, r.number) in
     (r.entity, ap (λ m. slice_get es m) same ∙ r.at)
 

@@ -9,20 +9,20 @@ node_at-entity_at-requires t c = (c.args.depth, c.requires.nested)
 
 pub children_at-node_at-requires : goal.children_at-node_at-requires
 children_at-node_at-requires t c =
-    (omega (arith, c.requires.room), reach-child c.args.self.now c.args.k c.args.depth c.children_of.result.now c.loop-number.number-index c.number-item.result c.requires c.children_of.ensures c.loop-number-test.true c.number-item.is)
+    (omega (arith, c.requires.room), reach-child c.args.self.now c.args.k c.args.depth c.children_of-numbers.result.now c.loop-number.number-index c.number-item.result c.requires c.children_of-numbers.ensures c.loop-number-test.true c.number-item.is)
 
 pub children_at-loop-number-init : goal.children_at-loop-number-init
 children_at-loop-number-init t c = record {
-  built = start-built c.args.self.now.net.now c.args.self.now.starts.now c.children_of.result.now c.new.result.items c.new.ensures.items;
-  fresh = start-fresh c.new.result.items c.new.ensures.items;
+  built = start-built c.args.self.now.net.now c.args.self.now.starts.now c.children_of-numbers.result.now c.new-children.result.items c.new-children.ensures.items;
+  fresh = start-fresh c.new-children.result.items c.new-children.ensures.items;
 }
 
 pub children_at-loop-number-preserved : goal.children_at-loop-number-preserved
 children_at-loop-number-preserved t c = record {
-  built = child-more c.args.self.now.net.now c.args.self.now.starts.now c.children_of.result.now c.loop-number.number-index c.number-item.result c.loop-number.children.items c.push.new.self.items c.in_ok-node.node c.loop-number-test.true c.number-item.is c.loop-number.invariant.built c.in_ok-node.ensures.built c.in_ok-push.ensures.items;
+  built = child-more c.args.self.now.net.now c.args.self.now.starts.now c.children_of-numbers.result.now c.loop-number.number-index c.number-item.result c.loop-number.children.items c.push.new.self.items c.in_ok-node.node c.loop-number-test.true c.number-item.is c.loop-number.invariant.built c.in_ok-node.ensures.built c.in_ok-push.ensures.items;
   fresh = fresh-more c.loop-number.children.items c.push.new.self.items c.in_ok-node.node c.loop-number.invariant.fresh c.in_ok-node.ensures.fresh c.in_ok-push.ensures.items;
 }
 
 pub children_at-returns-clause-built : goal.children_at-returns-clause-built
 children_at-returns-clause-built t c =
-    all-built c.args.self.now.net.now c.args.self.now.starts.now c.args.k c.children_of.result.now c.loop-number.number-index c.loop-number.children.items c.children_of.ensures c.loop-number-test.false c.loop-number.invariant.built
+    all-built c.args.self.now.net.now c.args.self.now.starts.now c.args.k c.children_of-numbers.result.now c.loop-number.number-index c.loop-number.children.items c.children_of-numbers.ensures c.loop-number-test.false c.loop-number.invariant.built
