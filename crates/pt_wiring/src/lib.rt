@@ -9,4 +9,5 @@ mod source;
 
 pub use inside::Insides;
 pub use numbers::Numbers;
-pub use source::{Source, Sources};
+pub use ports::port_numbers;
+pub use source::{Source, Sources, number_at};

@@ -1,0 +1,54 @@
+-- The nodes that are built are the tree of the net.
+use Rattle.std.proofs.Common.{◌≡◌, ℕ, List, [], ◌∷◌, ◌++◌, map, refl, sym, ap, subst, ◌∙◌, true}
+use Rattle.pt_meaning.specs.Tree as tree
+use Rattle.pt_graph.specs.declared.net.Net.{Net}
+use Rattle.pt_lib_flow.specs.declared.flow_actor.FlowActor.{FlowActor}
+use Rattle.std.specs.Prelude.{IfSome}
+use Rattle.pt_lib_flow.specs.FlowActor.{rate}
+use Rattle.pt_lib_flow.specs.Rates.{IsCount}
+use Rattle.pt_node.specs.declared.library.LibraryActor.TheVariants.{Flow}
+use Rattle.pt_node.specs.Live.{IsSteadyActor}
+use Rattle.pt_node.specs.Recorded.{RecordedPort}
+use Rattle.pt_node.specs.Shown.{Shown}
+use Rattle.pt_node.specs.View.{Tree, node_of}
+use Rattle.pt_composite.specs.Composite.{trees_of}
+use Rattle.pt_composite.specs.Fresh.{AreEmpty, IsFresh, AllFresh}
+use Rattle.pt_build.specs.Recorded.{recorded_at}
+use Rattle.pt_build.specs.Trees.{Starts, StartsAs, IsTree, AreTrees, of_actor, of_sdf, no_trees, more_trees}
+use Rattle.pt_build.specs.Built.{IsBuilt, AreBuilt, built_actor, built_sdf, none_built, more_built, actor_node}
+
+mutual
+  pub built-tree : {net : Net} {starts : Starts} {k : ℕ} {s : Shown} → IsBuilt net starts k s → IsTree net (StartsAs starts) k (node_of s)
+  built-tree (built_actor k e a at undirected is) = of_actor k e a at undirected is
+  built-tree {net = net} {starts = starts} (built_sdf k e kids s at sdf all is) =
+      subst (λ t. IsTree net (StartsAs starts) k t) (sym is.node) (of_sdf k e (trees_of kids) is.inside is.plan at sdf (built-trees all) is.is_inside is.planned)
+
+  pub built-trees : {net : Net} {starts : Starts} {ks : List ℕ} {ss : List Shown} → AreBuilt net starts ks ss → AreTrees net (StartsAs starts) ks (trees_of ss)
+  built-trees none_built = no_trees
+  built-trees (more_built k ks s ss one all) = more_trees k ks (node_of s) (trees_of ss) (built-tree one) (built-trees all)
+
+-- one child more
+pub built-snoc : {net : Net} {starts : Starts} {ks : List ℕ} {ss : List Shown} (k : ℕ) (s : Shown) → AreBuilt net starts ks ss → IsBuilt net starts k s → AreBuilt net starts (ks ++ k ∷ []) (ss ++ s ∷ [])
+built-snoc k s none_built one = more_built k [] s [] one none_built
+built-snoc k s (more_built j js t ts first all) one = more_built j (js ++ k ∷ []) t (ts ++ s ∷ []) first (built-snoc k s all one)
+
+pub fresh-snoc : (ss : List Shown) (s : Shown) → AllFresh ss → IsFresh s → AllFresh (ss ++ s ∷ [])
+fresh-snoc [] s all one = (one, tt)
+fresh-snoc (t ∷ ss) s all one = (all.0, fresh-snoc ss s all.1 one)
+
+pub recorded-empty : (f : ℕ → RecordedPort) → ((n : ℕ) → ((f n).trace ≡ []) × ((f n).noted ≡ [])) → (ns : List ℕ) → AreEmpty (map f ns)
+recorded-empty f none [] = tt
+recorded-empty f none (n ∷ ns) = ((none n).0, (none n).1, recorded-empty f none ns)
+
+-- the node of a library actor is fresh
+pub actor-fresh : (a : FlowActor) (path : List ℕ) (records : List RecordedPort) → IsSteadyActor (Flow a) → IfSome (rate a) IsCount → AreEmpty records → IsFresh (actor_node a path records)
+actor-fresh a path records steady rated empty = record {
+  live = refl;
+  fit = (tt, tt);
+  steady = steady;
+  rated = rated;
+  start = (refl, refl);
+  fitting = tt;
+  plans = tt;
+  unrecorded = (empty, tt);
+}

@@ -1,0 +1,17 @@
+use Rattle.std.proofs.Common.{ℕ, ◌+◌, ◌-◌, ◌*◌, take, map}
+use Rattle.pt_node.specs.Shown.{shown}
+use Rattle.pt_composite.specs.Fresh.{AllFresh}
+use Rattle.pt_build.specs.Built.{AreBuilt}
+use Rattle.pt_build.proofs.builder.Builder.+tree.Given as goal
+
+abbrev pub decreases-node_at : goal.decreases-node_at
+decreases-node_at l = 2 * (32 - l.depth) + 1
+
+abbrev pub decreases-children_at : goal.decreases-children_at
+decreases-children_at l = 2 * (32 - l.depth)
+
+abbrev pub invariant-children_at-loop-number : goal.invariant-children_at-loop-number
+invariant-children_at-loop-number l = record {
+  built : AreBuilt l.self.net.now l.self.starts.now (take l.number-index l.numbers) (map shown l.children.items);
+  fresh : AllFresh (map shown l.children.items);
+}

@@ -1,0 +1,34 @@
+use Rattle.std.proofs.Common.{◌≡◌, ℕ, List, map, refl, sym, subst}
+use Rattle.pt_graph.specs.declared.net.Net.{Net}
+use Rattle.pt_graph.specs.declared.net.NetEntity.{NetEntity}
+use Rattle.pt_node.specs.Recorded.{RecordedPort}
+use Rattle.pt_node.specs.Shown.{Shown, shown, shown_node}
+use Rattle.pt_composite.specs.Around.{Around, around_of}
+use Rattle.pt_composite.specs.Composite.{IsComposite, CompositeFaultStands}
+use Rattle.pt_composite.specs.Fresh.{AreEmpty}
+use Rattle.pt_build.specs.Recorded.{recorded_at, recorded_of, numbers_at}
+use Rattle.pt_build.specs.Built.{built_sdf}
+use Rattle.pt_build.proofs.FaultLaws.{fault-stands}
+use Rattle.pt_build.proofs.TreeLaws.{recorded-empty}
+use Rattle.pt_build.proofs.builder.Builder.composite_at.Goals as goal
+
+pub composite-requires-clause-empty : goal.composite-requires-clause-empty
+composite-requires-clause-empty c =
+    let net : Net = c.args.self.now.net.now in
+    subst (λ rs. AreEmpty rs) (sym c.in_ok-records.ensures) (recorded-empty (recorded_at net c.args.entity.now) (λ n. (refl, refl)) (numbers_at c.args.k net.recorded.items))
+
+pub returns-in-Ok-clause-built : goal.returns-in-Ok-clause-built
+returns-in-Ok-clause-built c =
+    let e : NetEntity = c.args.entity.now in
+    let kids : List Shown = map shown c.args.children.items in
+    let s : Shown = shown_node c.in-Ok.node in
+    built_sdf c.args.k e kids s c.requires.entity c.requires.sdf c.requires.children
+    (subst (λ (a : Around). IsComposite a kids e.path (recorded_of c.args.self.now.net.now c.args.k e) s) c.in_ok-wiring.ensures
+    (subst (λ (t : List ℕ). IsComposite (around_of c.in_ok-wiring.wiring) kids t (recorded_of c.args.self.now.net.now c.args.k e) s) c.in_ok-path.ensures
+    (subst (λ (rs : List RecordedPort). IsComposite (around_of c.in_ok-wiring.wiring) kids c.in_ok-path.path rs s) c.in_ok-records.ensures c.in-Ok.ensures.node)))
+
+pub returns-in-Err-clause-stands : goal.returns-in-Err-clause-stands
+returns-in-Err-clause-stands c =
+    let kids : List Shown = map shown c.args.children.items in
+    fault-stands c.args.self.now.net.now c.args.self.now.starts.now c.args.k c.args.entity.now kids c.in-Err.fault c.fault_at.result c.requires.entity c.requires.sdf c.requires.children
+    (subst (λ (a : Around). CompositeFaultStands a kids c.in-Err.fault) c.in_ok-wiring.ensures c.in-Err.ensures.stands) c.fault_at.ensures

@@ -1,0 +1,13 @@
+use Rattle.std.proofs.Common.{None, List, true, map, ap, ◌∙◌}
+use Rattle.pt_meaning.specs.Tree as tree
+use Rattle.pt_node.specs.declared.body.Body.TheVariants as body
+use Rattle.pt_node.specs.declared.node.Node.{Node}
+use Rattle.pt_node.specs.declared.node.Node.TheOpen as opens
+use Rattle.pt_node.specs.declared.node.Node.TheViews.{out-roll-Node}
+use Rattle.pt_node.specs.Shown.{Branch, shown, level, all_of}
+use Rattle.pt_build.proofs.builder.actor_node.Goals as goal
+
+pub returns : goal.returns
+returns c =
+    let r : opens.Node-F Node = record { past = record { made = 0; last = None }; body = body.Actor c.args.held; children = c.new.result; records = c.args.records; path = c.args.path; live = true } in
+    ap (λ (x : opens.Node-F Node). level x) (out-roll-Node r) ∙ ap (λ (v : List Node). Branch (record { past = tree.unfired; body = body.Actor c.args.held; records = c.args.records; path = c.args.path; live = true }) (all_of (map shown v))) c.new.ensures.items

@@ -1,0 +1,3 @@
+pub mod Trees
+pub mod Recorded
+pub mod Built

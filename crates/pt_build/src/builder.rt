@@ -1,0 +1,328 @@
+ghost use Rattle.std.specs.Prelude.{◌≡◌, ◌≤◌, ◌<◌, IfOk, IfSome, IfNone, Some, None, true, false, slice_get};
+ghost use Rattle.pt_node.specs.declared.library.LibraryActor.TheVariants.{Flow};
+ghost use Rattle.pt_node.specs.Shown.{shown_node};
+ghost use Rattle.pt_build.specs.Trees.{is_sdf, IsUndirected, StartsAs};
+ghost use Rattle.pt_lib_flow.specs.declared.flow_actor.FlowActor.{FlowActor};
+ghost use Rattle.pt_build.specs.Built.{IsToldAs, held_node};
+
+use crate::building::BuildFault;
+use crate::numbering::{numbers_at, record_lists};
+use crate::records::records_of;
+use crate::wiring::{inputs_of, narrow_sources, outputs_of};
+use pt_composite::{CompositeFault, Wiring, composite};
+use pt_firing::{Counts, Fires};
+use pt_graph::{Net, NetEntity};
+use pt_lib_flow::FlowActor;
+use pt_moml::{Code, Refusal};
+use pt_node::{Body, Held, LibraryActor, Node, Past, Records};
+use pt_plan::PlanFault;
+use pt_value::Text;
+use pt_wiring::{Insides, Numbers};
+use std::alloc::{AllocError, Global};
+
+/// How many composites may stand one in another: more than a document can have.
+const MOST_LEVELS: u32 = 32;
+
+/// A net with what its nodes are made from.
+#[derive(Drop)]
+pub(crate) struct Builder<'a> {
+    net: &'a Net,
+    starts: &'a [Option<FlowActor>],
+    insides: Insides,
+    records: Vec<Numbers>,
+}
+
+/// The entity of that number, if there is one.
+fn entity_in(entities: &[NetEntity], k: usize) -> Option<&NetEntity>
+    ensures some { IfSome result (λ entity. slice_get entities.now k ≡ Some entity.now) }
+    ensures none { IfNone result (slice_get entities.now k ≡ None) }
+{
+    match entities.get(k) {
+        Some(entity) => Some(entity),
+        None => None,
+    }
+}
+
+/// The actor that the entity of that number starts as, if there is one.
+fn start_in(starts: &[Option<FlowActor>], k: usize) -> Option<&FlowActor>
+    ensures some { IfSome result (λ actor. StartsAs starts.now k actor.now) }
+    ensures none { IfNone result ((a : FlowActor) → StartsAs starts.now k a → ⊥) }
+{
+    match starts.get(k) {
+        Some(Some(actor)) => Some(actor),
+        Some(None) => None,
+        None => None,
+    }
+}
+
+/// Whether no more composites may stand in one that stands below so many.
+fn is_deepest(depth: u32) -> bool
+    ensures yes { result ≡ true → 32 ≤ depth }
+    ensures no { result ≡ false → depth < 32 }
+{
+    depth >= MOST_LEVELS
+}
+
+/// Whether the entity is a library actor.
+fn is_undirected(entity: &NetEntity) -> bool
+    ensures yes { result ≡ true → IsUndirected entity.now }
+    ensures no { result ≡ false → IsUndirected entity.now → ⊥ }
+{
+    match &entity.director {
+        Some(_) => false,
+        None => true,
+    }
+}
+
+/// Whether the entity is a composite with the SDF director.
+fn is_sdf(entity: &NetEntity) -> bool
+    ensures { result ≡ is_sdf entity.now }
+{
+    match &entity.director {
+        Some(director) => {
+            entity.class.as_str() == "Composite" && director.class.as_str() == "SDF"
+        }
+        None => false,
+    }
+}
+
+/// The answer for a composite that isn't built, of that path.
+fn fault_at(alloc: Global, fault: CompositeFault, path: &Text) -> BuildFault
+    ensures { IsToldAs fault path.now result }
+{
+    let code = match fault {
+        CompositeFault::Malformed => return BuildFault::Unbuilt,
+        CompositeFault::Unplanned(PlanFault::Rates) => Code::Rates,
+        CompositeFault::Unplanned(PlanFault::Limit) => Code::Limit,
+        CompositeFault::Unplanned(PlanFault::Deadlock) => Code::SdfDeadlock,
+        CompositeFault::Unplanned(PlanFault::Memory) | CompositeFault::Memory => {
+            return BuildFault::Memory;
+        }
+    };
+    match path.copy(alloc) {
+        Ok(path) => BuildFault::Refused(Refusal { code, path }),
+        Err(_) => BuildFault::Memory,
+    }
+}
+
+/// An actor beside its start.
+fn held_of(alloc: Global, actor: &FlowActor) -> Result<Held, AllocError>
+    ensures { IfOk result (λ held. held ≡ record { start = Flow actor.now; actor = Flow actor.now }) }
+{
+    Ok(Held {
+        start: LibraryActor::Flow(actor.copy(alloc)?),
+        actor: LibraryActor::Flow(actor.copy(alloc)?),
+    })
+}
+
+/// The node of a library actor at its start.
+fn actor_node(alloc: Global, held: Held, path: Text, records: Records) -> Node
+    ensures { shown_node result ≡ held_node held path records }
+{
+    Node {
+        past: Past {
+            made: 0,
+            last: None,
+        },
+        body: Body::Actor(held),
+        children: Vec::new(alloc),
+        records,
+        path,
+        live: true,
+    }
+}
+
+impl<'a> Builder<'a> {
+    ghost use Rattle.std.specs.Prelude.{◌≡◌, ℕ, ◌<◌, IfOk, IfErr, length, map, true};
+    ghost use Rattle.pt_lib_flow.specs.FlowActor.{is_steady};
+    ghost use Rattle.pt_wiring.specs.Inside.{children_of};
+    ghost use Rattle.pt_node.specs.Shown.{shown, shown_node};
+    ghost use Rattle.pt_composite.specs.Around.{around_of};
+    ghost use Rattle.pt_composite.specs.Fresh.{IsFresh, AllFresh};
+    ghost use Rattle.pt_build.specs.Recorded.{recorded_of};
+    ghost use Rattle.pt_build.specs.Trees.{IsEntity, IsSdf, IsUndirected, AreStarted, StartsAs, around_in};
+    ghost use Rattle.pt_build.specs.Built.{IsBuilt, AreBuilt, IsPrepared, IsNested, IsReached, HasRoom, BuildFaultStands};
+
+    pub(crate) fn of(
+        alloc: Global,
+        net: &'a Net,
+        starts: &'a [Option<FlowActor>],
+    ) -> Result<Builder<'a>, AllocError>
+        ensures { IfOk result (λ b. (b.net.now ≡ net.now) × (b.starts.now ≡ starts.now) × IsPrepared b) }
+    {
+        let insides = Insides::of(alloc, net)?;
+        let records = record_lists(alloc, net.entities.len(), &net.recorded)?;
+        Ok(Builder {
+            net,
+            starts,
+            insides,
+            records,
+        })
+    }
+
+    /// The recorded outputs of the entity of that number.
+    fn records_at(&self, alloc: Global, k: usize, entity: &NetEntity) -> Result<Records, AllocError>
+        requires prepared { IsPrepared self.now }
+        requires entity { IsEntity self.now.net.now k entity.now }
+        ensures { IfOk result (λ records. records ≡ recorded_of self.now.net.now k entity.now) }
+    {
+        records_of(alloc, self.net, entity, numbers_at(&self.records, k))
+    }
+
+    /// The entity of that number.
+    fn entity_at(&self, k: usize) -> Result<&NetEntity, BuildFault>
+        requires { (depth : ℕ) × IsNested self.now.net.now k depth }
+        ensures at { IfOk result (λ entity. IsEntity self.now.net.now k entity.now) }
+        ensures stands { IfErr result (BuildFaultStands self.now.net.now self.now.starts.now) }
+    {
+        let Some(entity) = entity_in(&self.net.entities, k) else {
+            return Err(BuildFault::Unbuilt);
+        };
+        Ok(entity)
+    }
+
+    /// The node of a library actor that needs the same at each firing.
+    fn steady_at(
+        &self,
+        alloc: Global,
+        k: usize,
+        entity: &NetEntity,
+        actor: &FlowActor,
+    ) -> Result<Node, AllocError>
+        requires prepared { IsPrepared self.now }
+        requires started { AreStarted self.now.starts.now }
+        requires entity { IsEntity self.now.net.now k entity.now }
+        requires undirected { IsUndirected entity.now }
+        requires actor { StartsAs self.now.starts.now k actor.now }
+        requires steady { is_steady actor.now ≡ true }
+        ensures built { IfOk result (λ node. IsBuilt self.now.net.now self.now.starts.now k (shown_node node)) }
+        ensures fresh { IfOk result (λ node. IsFresh (shown_node node)) }
+    {
+        let records = self.records_at(alloc, k, entity)?;
+        let path = entity.path.copy(alloc)?;
+        let held = held_of(alloc, actor)?;
+        Ok(actor_node(alloc, held, path, records))
+    }
+
+    /// The node of a library actor.
+    fn actor_at(&self, alloc: Global, k: usize, entity: &NetEntity) -> Result<Node, BuildFault>
+        requires prepared { IsPrepared self.now }
+        requires started { AreStarted self.now.starts.now }
+        requires entity { IsEntity self.now.net.now k entity.now }
+        requires undirected { IsUndirected entity.now }
+        ensures built { IfOk result (λ node. IsBuilt self.now.net.now self.now.starts.now k (shown_node node)) }
+        ensures fresh { IfOk result (λ node. IsFresh (shown_node node)) }
+        ensures stands { IfErr result (BuildFaultStands self.now.net.now self.now.starts.now) }
+    {
+        let Some(actor) = start_in(self.starts, k) else {
+            return Err(BuildFault::Unbuilt);
+        };
+        if actor.is_steady() {
+            Ok(self.steady_at(alloc, k, entity, actor)?)
+        } else {
+            Err(BuildFault::Unbuilt)
+        }
+    }
+
+    /// The wiring of the composite of that number.
+    fn wiring_of(&self, alloc: Global, k: usize, entity: &NetEntity) -> Result<Wiring, AllocError>
+        requires prepared { IsPrepared self.now }
+        requires entity { IsEntity self.now.net.now k entity.now }
+        ensures { IfOk result (λ wiring. around_of wiring ≡ around_in self.now.net.now k entity.now) }
+    {
+        Ok(Wiring {
+            sources: narrow_sources(alloc, self.insides.sources[k].as_slice())?,
+            places: Counts::of(Vec::from_slice(alloc, self.insides.places[k].as_slice())?),
+            inputs: inputs_of(&entity.ports)?,
+            outputs: outputs_of(&entity.ports)?,
+        })
+    }
+
+    /// The node of an SDF composite round its children.
+    fn composite_at(
+        &self,
+        alloc: Global,
+        k: usize,
+        entity: &NetEntity,
+        children: Vec<Node>,
+    ) -> Result<Node, BuildFault>
+        requires prepared { IsPrepared self.now }
+        requires entity { IsEntity self.now.net.now k entity.now }
+        requires sdf { IsSdf entity.now }
+        requires children { AreBuilt self.now.net.now self.now.starts.now (children_of self.now.net.now.entities.items k) (map shown children.items) }
+        requires fresh { AllFresh (map shown children.items) }
+        ensures built { IfOk result (λ node. IsBuilt self.now.net.now self.now.starts.now k (shown_node node)) }
+        ensures fresh { IfOk result (λ node. IsFresh (shown_node node)) }
+        ensures stands { IfErr result (BuildFaultStands self.now.net.now self.now.starts.now) }
+    {
+        let wiring = self.wiring_of(alloc, k, entity)?;
+        let path = entity.path.copy(alloc)?;
+        let records = self.records_at(alloc, k, entity)?;
+        match composite(alloc, children, wiring, path, records) {
+            Ok(node) => Ok(node),
+            Err(fault) => Err(fault_at(alloc, fault, &entity.path)),
+        }
+    }
+
+    /// Whether the entity, which isn't a library actor, is an SDF composite that documents can have at this depth.
+    fn check_composite(&self, k: usize, depth: u32, entity: &NetEntity) -> Result<(), BuildFault>
+        requires reached { IsReached self.now k depth }
+        requires entity { IsEntity self.now.net.now k entity.now }
+        requires directed { IsUndirected entity.now → ⊥ }
+        ensures sdf { IfOk result (λ _. IsSdf entity.now) }
+        ensures room { IfOk result (λ _. HasRoom self.now k depth) }
+        ensures stands { IfErr result (BuildFaultStands self.now.net.now self.now.starts.now) }
+    {
+        if is_deepest(depth) {
+            return Err(BuildFault::Unbuilt);
+        }
+        if is_sdf(entity) {
+            Ok(())
+        } else {
+            Err(BuildFault::Unbuilt)
+        }
+    }
+
+    /// The numbers of the children of an entity.
+    fn children_of(&self, k: usize) -> &[usize]
+        requires prepared { IsPrepared self.now }
+        requires there { k < length self.now.net.now.entities.items }
+        ensures { result.now ≡ children_of self.now.net.now.entities.items k }
+    {
+        self.insides.children[k].as_slice()
+    }
+
+    /// The node of the entity of that number, which stands below so many composites.
+    #[cycle(tree)]
+    pub(crate) fn node_at(&self, alloc: Global, k: usize, depth: u32) -> Result<Node, BuildFault>
+        requires { IsReached self.now k depth }
+        ensures built { IfOk result (λ node. IsBuilt self.now.net.now self.now.starts.now k (shown_node node)) }
+        ensures fresh { IfOk result (λ node. IsFresh (shown_node node)) }
+        ensures stands { IfErr result (BuildFaultStands self.now.net.now self.now.starts.now) }
+    {
+        let entity = self.entity_at(k)?;
+        if is_undirected(entity) {
+            return self.actor_at(alloc, k, entity);
+        }
+        self.check_composite(k, depth, entity)?;
+        let children = self.children_at(alloc, k, depth)?;
+        self.composite_at(alloc, k, entity, children)
+    }
+
+    /// The nodes of the children of a composite, which stands below so many composites.
+    #[cycle(tree)]
+    fn children_at(&self, alloc: Global, k: usize, depth: u32) -> Result<Vec<Node>, BuildFault>
+        requires { HasRoom self.now k depth }
+        ensures built { IfOk result (λ nodes. AreBuilt self.now.net.now self.now.starts.now (children_of self.now.net.now.entities.items k) (map shown nodes.items)) }
+        ensures fresh { IfOk result (λ nodes. AllFresh (map shown nodes.items)) }
+        ensures stands { IfErr result (BuildFaultStands self.now.net.now self.now.starts.now) }
+    {
+        let numbers = self.children_of(k);
+        let mut children = Vec::new(alloc);
+        for number in numbers {
+            let node = self.node_at(alloc, *number, depth + 1)?;
+            children.push(node)?;
+        }
+        Ok(children)
+    }
+}

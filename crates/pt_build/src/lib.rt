@@ -1,0 +1,10 @@
+//! The tree of nodes that an engine fires, from a net.
+#![tactic(auto)]
+
+mod builder;
+mod building;
+mod numbering;
+mod records;
+mod wiring;
+
+pub use building::{BuildFault, build};
