@@ -7,8 +7,6 @@ mod expr;
 mod exprs;
 mod fault;
 mod operators;
-#[cfg(test)]
-mod tests;
 
 pub use env::Env;
 pub use evaluation::eval;

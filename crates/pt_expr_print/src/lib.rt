@@ -3,8 +3,6 @@
 
 mod again;
 mod printed;
-#[cfg(test)]
-mod tests;
 mod words;
 
 pub use again::reread;

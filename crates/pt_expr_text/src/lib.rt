@@ -9,8 +9,6 @@ mod level;
 mod literal;
 mod node;
 mod parser;
-#[cfg(test)]
-mod tests;
 mod word;
 mod words;
 

@@ -6,8 +6,6 @@ mod fault;
 mod laws;
 mod operators;
 mod rule;
-#[cfg(test)]
-mod tests;
 mod tree;
 
 pub use env::TypeEnv;

@@ -15,8 +15,6 @@ mod params;
 mod partial;
 mod step;
 mod strict;
-#[cfg(test)]
-mod tests;
 mod tokens;
 
 pub use actor::{Actor, Fires};

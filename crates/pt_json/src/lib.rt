@@ -8,6 +8,3 @@ mod value;
 pub use json::Scratch;
 pub use reading::{Unread, read};
 pub use value::Value;
-
-#[cfg(test)]
-mod tests;

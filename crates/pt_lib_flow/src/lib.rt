@@ -24,8 +24,6 @@ mod repeat;
 mod sample_delay;
 mod scale;
 mod sequence;
-#[cfg(test)]
-mod tests;
 mod up_sample;
 
 pub use absolute_value::AbsoluteValue;

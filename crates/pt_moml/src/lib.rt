@@ -33,6 +33,3 @@ pub use names::{is_layout, is_name, is_reserved, path_below, refused_below};
 pub use refusal::{DocFault, Refusal, refused};
 pub use rules::property_director;
 pub use tables::{CLASSES, DIRECTORS};
-
-#[cfg(test)]
-mod tests;

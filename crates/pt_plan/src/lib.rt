@@ -6,8 +6,6 @@ mod inside;
 mod laws;
 mod planning;
 mod rooms;
-#[cfg(test)]
-mod tests;
 
 pub use inside::Inside;
 pub use laws::{plans_are_unique, plans_exclude_faults};

@@ -6,8 +6,6 @@ mod laws;
 mod parts;
 mod rates;
 mod ratio;
-#[cfg(test)]
-mod tests;
 
 pub use edge::Edge;
 pub use laws::{repetitions_are_unique, solutions_exclude_faults};

@@ -3,8 +3,6 @@
 
 mod channels;
 mod queue;
-#[cfg(test)]
-mod tests;
 
 pub use channels::Channels;
 pub use queue::Queue;

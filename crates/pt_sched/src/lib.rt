@@ -8,8 +8,6 @@ mod lists;
 mod plan;
 mod run;
 mod search;
-#[cfg(test)]
-mod tests;
 
 pub use edge::{SchedEdge, are_channels};
 pub use laws::{

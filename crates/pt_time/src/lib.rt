@@ -2,7 +2,5 @@
 #![tactic(auto)]
 
 mod tag;
-#[cfg(test)]
-mod tests;
 
 pub use tag::{Tag, after, clamp, local, outer};

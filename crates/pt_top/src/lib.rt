@@ -10,6 +10,3 @@ mod status;
 
 pub use run::run_program;
 pub use status::Status;
-
-#[cfg(test)]
-mod tests;

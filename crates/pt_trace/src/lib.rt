@@ -4,8 +4,6 @@
 mod meetings;
 mod report;
 mod run_end;
-#[cfg(test)]
-mod tests;
 mod trace;
 mod writing;
 

@@ -6,8 +6,6 @@ mod laws;
 mod printed;
 mod record;
 mod rules;
-#[cfg(test)]
-mod tests;
 mod token;
 mod ty;
 

@@ -5,8 +5,6 @@ mod fields;
 mod items;
 mod name;
 mod printed;
-#[cfg(test)]
-mod tests;
 mod text;
 mod token;
 

@@ -1,5 +1,5 @@
-use crate::{Inside, PlanFault, plan};
 use pt_firing::Counts;
+use pt_plan::{Inside, PlanFault, plan};
 use pt_sdf::{CorePlan, Source};
 use std::alloc::{AllocError, Global};
 use std::process::Abort;

@@ -1,4 +1,4 @@
-use crate::{Scratch, Unread, Value, read};
+use pt_json::{Scratch, Unread, Value, read};
 use std::alloc::Global;
 
 /// The whole number at the member `a`.

@@ -1,4 +1,4 @@
-use super::*;
+use pt_time::{Tag, after, clamp, local, outer};
 
 const fn tag(time: u64, step: u32) -> Tag {
     Tag { time, step }

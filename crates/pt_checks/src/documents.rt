@@ -1,4 +1,4 @@
-use super::*;
+use pt_moml::{Class, DocFault, read};
 use std::alloc::{AllocError, Global};
 use std::test::Fail;
 

@@ -1,7 +1,6 @@
 mod tables;
 
-use crate::again::reread;
-use crate::printed::print;
+use pt_expr_print::{print, reread};
 use pt_expr_text::{ParseFault, parse};
 use pt_value::Text;
 use std::alloc::{AllocError, Global};

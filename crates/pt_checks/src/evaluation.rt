@@ -2,8 +2,9 @@ ghost use Rattle.std.specs.Prelude.{◌≡◌, IfOk};
 ghost use Rattle.pt_expr.specs.Expr.{tree_of};
 ghost use Rattle.pt_expr.specs.Tree.{Binary};
 
-use super::*;
-use crate::operators::{characters, within};
+use pt_expr::{
+    BinaryOp, Env, EvalFault, Expr, Exprs, NamedExpr, NamedExprs, characters, eval, within,
+};
 use pt_value::{Items, Text, Token, print};
 use std::alloc::{AllocError, Global};
 use std::test::Fail;

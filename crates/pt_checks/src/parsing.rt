@@ -1,7 +1,5 @@
-use crate::fault::ParseFault;
-use crate::parser::parse;
-use crate::words::split;
 use pt_expr::{BinaryOp, Expr};
+use pt_expr_text::{ParseFault, parse, split};
 use std::alloc::{AllocError, Global};
 use std::test::Fail;
 

@@ -1,6 +1,6 @@
-use super::*;
 use pt_firing::OpenGate;
 use pt_io::{MemSink, MemSource};
+use pt_top::{Status, run_program};
 use std::alloc::{AllocError, Global};
 use std::test::Fail;
 

@@ -1,7 +1,7 @@
 ghost use Rattle.std.specs.Prelude.{◌≡◌, ◌≤◌, length, sum};
 
-use crate::{Plan, SchedEdge, SchedFault, are_channels, schedule};
 use pt_rates::Edge;
+use pt_sched::{Plan, SchedEdge, SchedFault, are_channels, schedule};
 use std::alloc::Global;
 use std::process::Abort;
 use std::test::Fail;

@@ -1,6 +1,6 @@
-use super::*;
 use pt_firing::{Blocked, Place, Rows, RunFault};
 use pt_time::Tag;
+use pt_trace::{MeetingLine, Meetings, Report, RunEnd, Trace, text};
 use pt_value::{Items, Text, Token};
 use std::alloc::{AllocError, Global};
 use std::test::Fail;

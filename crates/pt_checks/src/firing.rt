@@ -1,6 +1,9 @@
 ghost use Rattle.std.specs.Prelude.{◌≡◌, IfOk, length};
 
-use super::*;
+use pt_firing::{
+    Counts, Inputs, OpenGate, Outputs, Partial, Ports, RunFault, Step, StepFault, Tokens, TriState,
+    Values,
+};
 use pt_value::{Text, Token, print};
 use std::alloc::{AllocError, Global};
 use std::test::Fail;

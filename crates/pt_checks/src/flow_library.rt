@@ -1,7 +1,10 @@
-use super::*;
-use crate::flow_actor::FlowActor;
 use pt_expr::{BinaryOp, Expr};
 use pt_firing::{Actor, Fires, Inputs, Partial, Step, Tokens};
+use pt_lib_flow::{
+    AbsoluteValue, Accumulator, AddSubtract, BooleanSelect, BooleanSwitch, Const, Counter,
+    DownSample, Expression, FlowActor, MultiplyDivide, Params, PortTypes, Ports, Ramp, Repeat,
+    SampleDelay, Scale, Sequence, UpSample, Values,
+};
 use pt_time::Tag;
 use pt_types::Ty;
 use pt_value::{Items, Text, Token, print};

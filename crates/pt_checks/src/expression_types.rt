@@ -1,5 +1,5 @@
-use super::*;
 use pt_expr::{BinaryOp, Expr, Exprs, NamedExpr, NamedExprs};
+use pt_expr_type::{ExprRule, TypeEnv, TypeFault, field, type_of};
 use pt_types::{Rule, Ty, least, print};
 use pt_value::Text;
 use std::alloc::{AllocError, Global};

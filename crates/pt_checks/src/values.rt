@@ -1,4 +1,4 @@
-use super::*;
+use pt_value::{Fields, Items, Text, Token, is_name, print};
 use std::alloc::{AllocError, Global};
 use std::test::Fail;
 

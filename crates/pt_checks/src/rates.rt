@@ -1,4 +1,4 @@
-use crate::{Edge, RatesFault, are_channels, solve};
+use pt_rates::{Edge, RatesFault, are_channels, solve};
 use std::alloc::Global;
 use std::process::Abort;
 use std::test::Fail;

@@ -1,4 +1,4 @@
-use super::*;
+use pt_recv::{Channels, Queue};
 use pt_value::Token;
 use std::test::Fail;
 

@@ -1,4 +1,4 @@
-use super::*;
+use pt_types::{ElementTy, RecordTy, Rule, Ty, below, join, least, print};
 use pt_value::Text;
 use std::alloc::{AllocError, Global};
 use std::test::Fail;
