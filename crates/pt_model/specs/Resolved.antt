@@ -1,0 +1,44 @@
+-- What stands before the model of a net: its values, its types, and the actors that its entities start as.
+use Rattle.std.specs.Prelude.{◌≡◌, ℕ, List, length, Option, Some, None, slice_get}
+use Rattle.pt_types.specs.Datatype.{Datatype}
+use Rattle.pt_typing.specs.declared.variable.Variable.TheVariants.{Port}
+use Rattle.pt_typing.specs.Least.{Assignment}
+use Rattle.pt_moml.specs.declared.code.Code.{Code}
+use Rattle.pt_graph.specs.declared.net.Net.{Net}
+use Rattle.pt_graph.specs.declared.net.NetEntity.{NetEntity}
+use Rattle.pt_graph.specs.Net.{NetEntityTree}
+use Rattle.pt_values.specs.declared.values.Values.{Values}
+use Rattle.pt_values.specs.Scopes.{net_view}
+use Rattle.pt_values.specs.Valued.{IsValued}
+use Rattle.pt_resolve.specs.Typing.{IsTyping}
+use Rattle.pt_resolve.specs.Faults.{IsBroken}
+use Rattle.pt_lib_flow.specs.declared.flow_actor.FlowActor.{FlowActor}
+use Rattle.pt_start.specs.Started.{PortTyping, IsStart}
+use Rattle.pt_start.specs.Misplaced.{IsMisplaced}
+use Rattle.pt_build.specs.Trees.{IsEntity, IsUndirected, Starts}
+
+-- The texts of a net come to these values, these are its types, and they break nowhere.
+pub record IsResolved (net : Net) (values : Values) (typing : Assignment) : Type 0 where
+  pub valued : IsValued (net_view net) values
+  pub typed : IsTyping net values typing
+  pub sound : (e : NetEntityTree) → IsBroken net values typing e → ⊥
+
+-- each entity may stand where it stands
+abbrev pub IsPlaced : Net → Values → Type 0
+IsPlaced net values = (cause : Code) (k : ℕ) → IsMisplaced (net_view net) values cause k → ⊥
+
+-- the types of ports, by the numbers of their entities and their own
+abbrev pub port_typing : Assignment → PortTyping
+port_typing typing k i = typing.types (Port k i)
+
+-- What the entities of a net start as: a library actor as the actor that its parameters, channels and types start, if the library has one, and a composite as none.
+pub record AreStartsOf (net : Net) (values : Values) (typing : Assignment) (starts : Starts) : Type 0 where
+  pub counted : length starts ≡ length net.entities.items
+  pub actors : (k : ℕ) (e : NetEntity) → IsEntity net k e → IsUndirected e → (start : Option FlowActor) × (slice_get starts k ≡ Some start) × IsStart net values (port_typing typing) k start
+  pub others : (k : ℕ) (e : NetEntity) → IsEntity net k e → (IsUndirected e → ⊥) → slice_get starts k ≡ Some None
+
+-- A net without faults of its texts, its types and its places, with what its entities start as.
+pub record IsStarted (net : Net) (values : Values) (typing : Assignment) (starts : Starts) : Type 0 where
+  pub resolved : IsResolved net values typing
+  pub placed : IsPlaced net values
+  pub started : AreStartsOf net values typing starts

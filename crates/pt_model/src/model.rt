@@ -1,0 +1,61 @@
+ghost use Rattle.std.specs.Prelude.{◌≡◌, length, IfOk, IfErr};
+ghost use Rattle.pt_moml.specs.Document.{JobTree};
+ghost use Rattle.pt_graph.specs.Net.{IsNetOf};
+ghost use Rattle.pt_node.specs.Shown.{shown_node};
+ghost use Rattle.pt_run.specs.Start.{IsRunnable};
+ghost use Rattle.pt_run.specs.Ports.{AreNumbered};
+ghost use Rattle.pt_model.specs.Model.{IsModel};
+ghost use Rattle.pt_model.specs.Refused.{FaultStands};
+ghost use Rattle.pt_model.specs.declared.model.ModelFault.TheVariants as fault;
+
+use pt_graph::Net;
+use pt_moml::Refusal;
+use pt_node::Node;
+use pt_run::SdfJob;
+use std::alloc::{AllocError, AllocFailed, Global};
+use thiserror::Error;
+
+/// The model of a net: the tree of its nodes at their start, and what the job asks of the top.
+#[derive(Drop)]
+pub struct Model {
+    pub top: Node,
+    pub job: SdfJob,
+}
+
+/// Why a net has no model.
+#[derive(Debug, Drop, Error)]
+pub enum ModelFault {
+    #[error(transparent)]
+    Refused(Refusal),
+    #[error("out of memory")]
+    Memory,
+}
+
+impl From<AllocError> for ModelFault {
+    ghost from_gives = { λ _ e. e ≡ fault.Memory };
+
+    fn from(_: AllocError) -> Self {
+        ModelFault::Memory
+    }
+}
+
+impl<T: Drop> From<AllocFailed<T>> for ModelFault {
+    ghost from_gives = { λ _ e. e ≡ fault.Memory };
+
+    fn from(_: AllocFailed<T>) -> Self {
+        ModelFault::Memory
+    }
+}
+
+/// The model of the net of a job: its texts are evaluated, its types found, its actors started, its composites planned, and what the job supplies is put to the
+/// inputs of the top. Refuses a net for the first kind of fault that stands: values, types, places, plans, inputs.
+pub fn model_of(_alloc: Global, _net: &Net) -> Result<Model, ModelFault>
+    requires { (job : JobTree) × IsNetOf job _net.now }
+    ensures model { IfOk result (λ model. IsModel _net.now (shown_node model.top) model.job) }
+    ensures runnable { IfOk result (λ model. IsRunnable model.job.takes (shown_node model.top)) }
+    ensures lists { IfOk result (λ model. length model.job.inputs.items ≡ length model.job.takes) }
+    ensures numbered { IfOk result (λ model. AreNumbered (length _net.now.recorded.items) (shown_node model.top)) }
+    ensures stands { IfErr result (FaultStands _net.now) }
+{
+    Err(ModelFault::Memory)
+}
