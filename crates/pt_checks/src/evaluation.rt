@@ -2,10 +2,8 @@ ghost use Rattle.std.specs.Prelude.{◌≡◌, IfOk};
 ghost use Rattle.pt_expr.specs.Expr.{tree_of};
 ghost use Rattle.pt_expr.specs.Tree.{Binary};
 
-use pt_expr::{
-    BinaryOp, Env, EvalFault, Expr, Exprs, NamedExpr, NamedExprs, characters, eval, within,
-};
-use pt_value::{Items, Text, Token, print};
+use pt_expr::{BinaryOp, Env, EvalFault, Expr, Exprs, NamedExpr, NamedExprs, eval};
+use pt_value::{Text, Token, print};
 use std::alloc::{AllocError, Global};
 use std::test::Fail;
 
@@ -48,23 +46,42 @@ fn a_zero_divisor_is_a_fault(rt: HostRuntime) -> Result<(), Fail> {
 
 #[test]
 fn a_text_is_as_long_as_its_characters(rt: HostRuntime) -> Result<(), Fail> {
-    for (text, length) in [("", 0), ("abc", 3), ("h\u{e9}", 2), ("\u{1f642}!", 2)] {
-        assert_eq!(rt; characters(text), length);
+    let alloc = rt.alloc();
+    let env = Env::new(alloc);
+    for (text, length) in [
+        ("", "0"),
+        ("abc", "3"),
+        ("h\u{e9}", "2"),
+        ("\u{1f642}!", "2"),
+    ] {
+        let words = Expr::Words(Text::of(alloc, text)?);
+        let tree = Expr::Length(Box::new(alloc, words)?);
+        assert!(rt; shows(alloc, eval(alloc, &tree, &env), length)?);
     }
     Ok(())
 }
 
+/// An array literal of the part `x`.
+fn array_of_x(alloc: Global) -> Result<Expr, AllocError> {
+    let name = Expr::Name(Text::of(alloc, "x")?);
+    Ok(Expr::List(Exprs::of(vec![in alloc; name]?)))
+}
+
 #[test]
-fn a_token_may_have_size_65536_and_no_more(rt: HostRuntime) -> Result<(), Fail> {
+fn an_array_may_have_size_65536_and_no_more(rt: HostRuntime) -> Result<(), Fail> {
     let alloc = rt.alloc();
     let mut text = String::new(alloc);
-    for _ in 0..65_535u32 {
+    for _ in 0..65_534u32 {
         text.push('a')?;
     }
-    let largest = Token::Text(Text::of(alloc, text.as_str())?);
-    assert!(rt; within(largest.copy(alloc)?).is_ok());
-    let larger = Token::Array(Items::of(vec![in alloc; largest]?));
-    assert!(rt; shows(alloc, within(larger), "a token above the greatest size")?);
+    let tree = array_of_x(alloc)?;
+    let mut env = Env::new(alloc);
+    env.bind("x", Some(Token::Text(Text::of(alloc, text.as_str())?)))?;
+    assert!(rt; eval(alloc, &tree, &env).is_ok());
+    text.push('a')?;
+    env.bind("x", Some(Token::Text(Text::of(alloc, text.as_str())?)))?;
+    let answer = eval(alloc, &tree, &env);
+    assert!(rt; shows(alloc, answer, "a token above the greatest size")?);
     Ok(())
 }
 

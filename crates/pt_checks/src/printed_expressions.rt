@@ -1,12 +1,14 @@
+mod no_trees;
 mod tables;
 
+use no_trees::SYNTAX;
 use pt_expr_print::{print, reread};
 use pt_expr_text::{ParseFault, parse};
 use pt_value::Text;
 use std::alloc::{AllocError, Global};
 use std::process::Abort;
 use std::test::Fail;
-use tables::{CALLS, CHOICES, LITERALS, OPERATORS, PARTS, SIGNS, SYNTAX};
+use tables::{CALLS, CHOICES, LITERALS, OPERATORS, PARTS, SIGNS};
 
 /// The printed text of the tree that a text reads as.
 fn printed(alloc: Global, text: &str) -> Result<Text, ParseFault> {
