@@ -1,8 +1,8 @@
 ghost use Rattle.std.specs.Prelude.{◌≡◌, IfOk, length};
 
 use pt_firing::{
-    Counts, Inputs, OpenGate, Outputs, Partial, Ports, RunFault, Step, StepFault, Tokens, TriState,
-    Values,
+    Counts, Gate, Inputs, OpenGate, Outputs, Partial, Ports, RunFault, Step, StepFault, Tokens,
+    TriState, Values,
 };
 use pt_value::{Text, Token, print};
 use std::alloc::{AllocError, Global};
