@@ -1,0 +1,7 @@
+pub mod LeafLaws
+pub mod Walk
+pub mod Nesting
+pub mod Matching
+pub mod Nodes
+pub mod Numbering
+pub mod Telling
