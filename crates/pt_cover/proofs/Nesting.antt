@@ -34,7 +34,7 @@ place-order p xs i j l = elim (cases_order i j) [
 ]
 
 -- an element of a list of views
-viewed : {X Y : Type 0} (f : X → Y) (o : Option X) (y : Y) → option_map f o ≡ Some y → (x : X) × (o ≡ Some x) × (f x ≡ y)
+pub viewed : {X Y : Type 0} (f : X → Y) (o : Option X) (y : Y) → option_map f o ≡ Some y → (x : X) × (o ≡ Some x) × (f x ≡ y)
 viewed f None y e = absurd (none-some y e)
 viewed f (Some x) y e = (x, refl, same_Some (f x) y e)
 

@@ -24,12 +24,12 @@ pub record AreRooted (net : Net) : Type 0 where
 
 module _ (net : Net) (starts : Starts) where
   -- the number of nodes of entities that pass
-  mutual
-    abbrev pub nodes : (ℕ → Bool) → {k : ℕ} {s : Shown} → IsBuilt net starts k s → ℕ
+  abbrev mutual
+    pub nodes : (ℕ → Bool) → {k : ℕ} {s : Shown} → IsBuilt net starts k s → ℕ
     nodes f (built_actor k e a at undirected is) = one_if (f k)
     nodes f (built_sdf k e kids s at sdf are is) = one_if (f k) + nodes_in f are
 
-    abbrev pub nodes_in : (ℕ → Bool) → {ks : List ℕ} {kids : List Shown} → AreBuilt net starts ks kids → ℕ
+    pub nodes_in : (ℕ → Bool) → {ks : List ℕ} {kids : List Shown} → AreBuilt net starts ks kids → ℕ
     nodes_in f none_built = 0
     nodes_in f (more_built k ks s ss b bs) = nodes f b + nodes_in f bs
 

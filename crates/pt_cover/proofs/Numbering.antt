@@ -2,19 +2,14 @@
 use Rattle.std.proofs.Common.{◌≡◌, ◌⊎◌, inl, inr, ◌≤◌, ◌<◌, ◌+◌, ℕ, zero, suc, List, [], ◌∷◌, ◌++◌, Bool, true, false, not, nat_eq, Option, Some, None, map, length, take, filter, codes, bytes_eq, option_map, ◌||◌, refl, sym, ap, ap₂, subst, ◌∙◌, arith, length-append}
 use Rattle.std.specs.Prelude.{IsTrue}
 use Rattle.std.proofs.lemmas.Bool.{cases_eq, eq-eqb, ne_eqb}
-use Rattle.std.proofs.lemmas.List.Elements.{Contains-append_cases}
 use Rattle.std.proofs.lemmas.Option.{none-some, same_Some, slice_get-map, slice_get_within}
 use Rattle.std.proofs.lemmas.Slice.Eq.{bytes_eq-Decides}
-use Rattle.std.specs.List.{AllZip, Contains, slice_get}
-use Rattle.pt_moml.specs.Document.{parts, JobTree}
-use Rattle.pt_moml.specs.Classes.{ClassPort}
+use Rattle.std.specs.List.{slice_get}
+use Rattle.pt_moml.specs.Document.{JobTree}
 use Rattle.pt_graph.specs.declared.net.Net.{Net}
 use Rattle.pt_graph.specs.declared.net.NetEntity.{NetEntity}
 use Rattle.pt_graph.specs.declared.net.NetPort.{NetPort}
-use Rattle.pt_graph.specs.Standing.{Standing, is_kept, entities}
-use Rattle.pt_graph.specs.Table.{PortAt, numbered_ports, ports_from, ports_of, tables_of}
-use Rattle.pt_graph.specs.Net.{NetEntityTree, entity_view, entity_tree, Records, IsNetOf}
-use Rattle.pt_graph.proofs.Members.{contains_here, contains_later, contains_cases, slice_contains}
+use Rattle.pt_graph.specs.Net.{entity_view, IsNetOf}
 use Rattle.pt_values.specs.Scopes.{net_view, is_composite_class}
 use Rattle.pt_start.specs.Nested.{IsNested}
 use Rattle.pt_wiring.specs.Inside.{is_number, is_child}
@@ -30,9 +25,9 @@ use Rattle.pt_build.specs.Recorded.{numbers_at, recorded_at, recorded_of}
 use Rattle.pt_build.specs.Built.{IsBuilt, AreBuilt, built_actor, built_sdf, none_built, more_built}
 use Rattle.pt_run.specs.Ports.{Listed, own_ports, seen_below, ports_in, ports_below, listed_if, of_number, outputs_in, outputs_below, AreBelow, AreNumbered}
 use Rattle.pt_cover.specs.Leaves.{ActorsAreLeaves, AreStartedByClass}
-use Rattle.pt_cover.proofs.Walk.{ArePlaced, all-placed}
-use Rattle.pt_cover.proofs.Nesting.{IsRooted, viewed, get-within, entity-there, net-nested, net-rooted}
+use Rattle.pt_cover.proofs.Nesting.{IsRooted, get-within, net-nested, net-rooted}
 use Rattle.pt_cover.proofs.Matching.{one_if, times_in, matching, numbers-match, times-matching, AllBelow, matching-below}
+use Rattle.pt_cover.proofs.Recorded.{recorded-there}
 use Rattle.pt_cover.proofs.Nodes.{AreChildless, AreRooted, nodes, nodes_in, one-node}
 
 -- ---- library actors have nothing within them
@@ -68,53 +63,6 @@ entities-rooted net r = record { top = λ e at. r.top (entity_view e) (view-at 0
   where
     view-at : (n : ℕ) (x : NetEntity) → IsEntity net n x → slice_get (map entity_view net.entities.items) n ≡ Some (entity_view x)
     view-at n x h = slice_get-map entity_view net.entities.items n ∙ ap (λ (p : Option NetEntity). option_map entity_view p) h
-
--- ---- each recorded port is of an entity that is there
-
-one-standing : (e : ℕ) (s : Standing) (p : PortAt) (n : ℕ) (ps : List ClassPort) → Contains (numbered_ports e s n ps) p → s ≡ p.standing
-one-standing e s p n [] v = absurd (omega (arith, v.1))
-one-standing e s p n (q ∷ ps) v = by_place (contains_cases (record { entity = e; standing = s; number = n; port = q }) (numbered_ports e s (n + 1) ps) p v) (λ u. one-standing e s p (n + 1) ps u)
-  where
-    by_place : (record { entity = e; standing = s; number = n; port = q } ≡ p) ⊎ Contains (numbered_ports e s (n + 1) ps) p → (Contains (numbered_ports e s (n + 1) ps) p → s ≡ p.standing) → s ≡ p.standing
-    by_place (inl g) rest = ap (λ (x : PortAt). x.standing) g
-    by_place (inr u) rest = rest u
-
-port-standing : (e : ℕ) (all : List Standing) (p : PortAt) → Contains (ports_from e all) p → Contains all p.standing
-port-standing e [] p w = absurd (omega (arith, w.1))
-port-standing e (s ∷ ss) p w = by_part (Contains-append_cases (numbered_ports e s 0 (ports_of (parts s.tree))) (ports_from (e + 1) ss) p w) (λ v. port-standing (e + 1) ss p v)
-  where
-    by_part : Contains (numbered_ports e s 0 (ports_of (parts s.tree))) p ⊎ Contains (ports_from (e + 1) ss) p → (Contains (ports_from (e + 1) ss) p → Contains ss p.standing) → Contains (s ∷ ss) p.standing
-    by_part (inl v) rest = subst (λ (x : Standing). Contains (s ∷ ss) x) (one-standing e s p 0 (ports_of (parts s.tree)) v) (contains_here s ss)
-    by_part (inr v) rest = contains_later s ss p.standing (rest v)
-
--- the text and the entity of a recorded port
-pub record IsRecordedOf (net : Net) (n : ℕ) (port : NetPort) : Type 0 where
-  pub text : List ℕ
-  pub text_is : slice_get net.records.items n ≡ Some text
-  pub entity : NetEntity
-  pub is_entity : IsEntity net port.entity entity
-
-zip-at : {A B : Type 0} (R : A → B → Type 0) (xs : List A) (ys : List B) (k : ℕ) (y : B) → AllZip R xs ys → slice_get ys k ≡ Some y → (x : A) × (slice_get xs k ≡ Some x) × R x y
-zip-at R [] [] k y all at = absurd (none-some y at)
-zip-at R [] (z ∷ ys) k y all at = absurd all
-zip-at R (x ∷ xs) [] k y all at = absurd all
-zip-at R (x ∷ xs) (z ∷ ys) zero y all at = (x, refl, subst (R x) (same_Some z y at) all.0)
-zip-at R (x ∷ xs) (z ∷ ys) (suc k) y all at = zip-at R xs ys k y all.1 at
-
-pub recorded-there : (job : JobTree) (net : Net) → ActorsAreLeaves job → IsNetOf job net → (n : ℕ) (port : NetPort) → slice_get net.recorded.items n ≡ Some port → IsRecordedOf net n port
-recorded-there job net leaves is n port at =
-    let z = zip-at (Records (tables_of job)) job.records net.recorded.items n port is.recorded at in
-    let p = z.2.0 in
-    let names = z.2.1 in
-    let s = slice_contains (entities job) p.standing (port-standing 0 (entities job) p names.there) in
-    let seen : slice_get (map entity_view net.entities.items) p.standing.number ≡ Some (entity_tree p.standing) = entity-there (entities job) (net_view net) (all-placed job leaves) is.each_entity is.each_transparent s.0 p.standing s.1 names.kept in
-    let held = viewed entity_view (slice_get net.entities.items p.standing.number) (entity_tree p.standing) (sym (slice_get-map entity_view net.entities.items p.standing.number) ∙ seen) in
-    record {
-      text = z.0;
-      text_is = ap (λ (ts : List (List ℕ)). slice_get ts n) is.records ∙ z.1;
-      entity = held.0;
-      is_entity = subst (λ (q : NetPort). IsEntity net q.entity held.0) (sym z.2.2) held.1;
-    }
 
 -- ---- ports of one number
 

@@ -4,6 +4,7 @@ use Rattle.std.proofs.lemmas.Bool.{eqb-true}
 use Rattle.std.proofs.lemmas.Option.{none-some, same_Some}
 use Rattle.std.specs.List.{slice_get}
 use Rattle.pt_moml.specs.Document.{JobTree}
+use Rattle.pt_moml.specs.Names.{below}
 use Rattle.pt_meaning.specs.Basics.{Path}
 use Rattle.pt_graph.specs.declared.net.Net.{Net}
 use Rattle.pt_graph.specs.declared.net.NetEntity.{NetEntity}
@@ -21,7 +22,8 @@ use Rattle.pt_run.specs.Ports.{Listed, own_ports, seen_below, ports_in, ports_be
 use Rattle.pt_cover.specs.Leaves.{ActorsAreLeaves, AreStartedByClass}
 use Rattle.pt_cover.specs.Told.{IsRecordedAt, AreTold}
 use Rattle.pt_cover.proofs.Matching.{AllPass, numbers-match, matching-passes}
-use Rattle.pt_cover.proofs.Numbering.{IsRecordedOf, recorded-there, numbered}
+use Rattle.pt_cover.proofs.Recorded.{IsRecordedOf, recorded-there}
+use Rattle.pt_cover.proofs.Numbering.{numbered}
 
 -- ---- of all listed ports
 
@@ -50,11 +52,11 @@ record HasNumber (P : Listed → Type 0) (n : ℕ) (x : Listed) : Type 0 where
 
 of-number : (P : Listed → Type 0) (n : ℕ) (xs : List Listed) → All P xs → All (HasNumber P n) (of_number n xs)
 of-number P n [] all = tt
-of-number P n (x ∷ xs) all = chosen (nat_eq x.output.number n) refl
+of-number P n (x ∷ xs) all = chosen (nat_eq x.output.number n) refl (of-number P n xs all.1)
   where
-    chosen : (b : Bool) → nat_eq x.output.number n ≡ b → All (HasNumber P n) (listed_if b x (of_number n xs))
-    chosen true e = (record { holds = all.0; number_is = eqb-true x.output.number n e }, of-number P n xs all.1)
-    chosen false e = of-number P n xs all.1
+    chosen : (b : Bool) → nat_eq x.output.number n ≡ b → All (HasNumber P n) (of_number n xs) → All (HasNumber P n) (listed_if b x (of_number n xs))
+    chosen true e rest = (record { holds = all.0; number_is = eqb-true x.output.number n e }, rest)
+    chosen false e rest = rest
 
 -- each of so many numbers from one on is that of one port
 abbrev AreOnce : (from count : ℕ) → List Listed → Type 0
@@ -99,20 +101,27 @@ own-told net s k e recorded at text (m ∷ ms) all =
     let port = all.0.0 in
     let there : slice_get net.recorded.items m ≡ Some port = all.0.1 in
     let r = recorded m port there in
+    let here : IsEntity net port.entity e = subst (λ (j : ℕ). IsEntity net j e) (sym (eqb-true port.entity k all.0.2)) at in
+    let same : r.entity ≡ e = same_Some r.entity e (sym r.is_entity ∙ here) in
+    let text_of : r.text ≡ text_in (slice_get net.records.items m) = sym (ap text_in r.text_is) in
     (record {
-      port = port;
+      recorded = port;
       is_recorded = there;
       entity = e;
-      is_entity = subst (λ (j : ℕ). IsEntity net j e) (sym (eqb-true port.entity k all.0.2)) at;
+      is_entity = here;
+      port = r.own;
+      is_port = subst (λ (d : NetEntity). slice_get d.ports.items port.port ≡ Some r.own) same r.is_port;
+      output = r.output;
       place = text;
       port_is = ap (λ (p : Option NetPort). port_number e.ports.items (port_in p)) there;
       number_is = refl;
-      text_is = r.text_is ∙ sym (ap (λ (t : Option (List ℕ)). Some (text_in t)) r.text_is);
+      text_is = r.text_is ∙ ap Some text_of;
+      names = sym text_of ∙ r.names ∙ ap (λ (d : NetEntity). below d.path r.own.name) same;
     }, own-told net s k e recorded at text ms all.1)
 
 -- seen from its composite
 child-told : (net : Net) (s kid : Shown) (i : ℕ) → ((p : Path) → text_at (outline_of s) (i ∷ p) ≡ text_at (outline_of kid) p) → (x : Listed) → IsTold net kid x → IsTold net s (record { path = i ∷ x.path; output = x.output })
-child-told net s kid i same x t = record { port = t.port; is_recorded = t.is_recorded; entity = t.entity; is_entity = t.is_entity; place = same x.path ∙ t.place; port_is = t.port_is; number_is = t.number_is; text_is = t.text_is }
+child-told net s kid i same x t = record { recorded = t.recorded; is_recorded = t.is_recorded; entity = t.entity; is_entity = t.is_entity; port = t.port; is_port = t.is_port; output = t.output; place = same x.path ∙ t.place; port_is = t.port_is; number_is = t.number_is; text_is = t.text_is; names = t.names }
 
 abbrev KidsTold : Net → List Shown → Type 0
 KidsTold net [] = Unit {0}
