@@ -6,3 +6,4 @@ pub mod Nodes
 pub mod Recorded
 pub mod Numbering
 pub mod Telling
+pub mod Paths

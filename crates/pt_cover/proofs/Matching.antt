@@ -95,3 +95,8 @@ passes-from {X = X} f all i (x ∷ xs) same =
 
 pub matching-passes : {X : Type 0} (f : X → Bool) (xs : List X) → AllPass f xs (matching f 0 xs)
 matching-passes f xs = passes-from f xs 0 xs (λ d x at. (let here : d ≡ 0 + d = omega arith in subst (λ (n : ℕ). slice_get xs n ≡ Some x) here at))
+
+-- where none passes there are none
+pub matching-none : {X : Type 0} (f : X → Bool) (i : ℕ) (xs : List X) → ((d : ℕ) (x : X) → slice_get xs d ≡ Some x → f x ≡ false) → matching f i xs ≡ []
+matching-none f i [] fails = refl
+matching-none f i (x ∷ xs) fails = ap (λ (b : Bool). child_if b i (matching f (suc i) xs)) (fails 0 x refl) ∙ matching-none f (suc i) xs (λ d y at. fails (suc d) y at)

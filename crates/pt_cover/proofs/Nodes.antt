@@ -22,6 +22,12 @@ pub record AreRooted (net : Net) : Type 0 where
   pub top : (e : NetEntity) → IsEntity net 0 e → e.parent ≡ None
   pub others : (k : ℕ) (e : NetEntity) → 0 < k → IsEntity net k e → (j : ℕ) × (e.parent ≡ Some j) × (j < k)
 
+-- an entity is among the children of what it stands in alone, once
+pub among : (net : Net) (o : ℕ) (d : NetEntity) → IsEntity net o d → (c : ℕ) → times_in o (children_of net.entities.items c) ≡ one_if (is_child c d)
+among net o d there c =
+    let at : 0 + o ≡ o = omega arith in
+    ap (times_in o) (children-match c 0 net.entities.items) ∙ subst (λ (n : ℕ). times_in n (matching (is_child c) 0 net.entities.items) ≡ one_if (is_child c d)) at (times-matching (is_child c) 0 o net.entities.items d there)
+
 module _ (net : Net) (starts : Starts) where
   -- the number of nodes of entities that pass
   abbrev mutual
@@ -45,17 +51,12 @@ module _ (net : Net) (starts : Starts) where
 
   -- an entity has a node where the tree begins at it, and one in each node that it is a child of
   module _ (childless : AreChildless net starts) (o : ℕ) (d : NetEntity) (there : IsEntity net o d) where
-    among : (c : ℕ) → times_in o (children_of net.entities.items c) ≡ one_if (is_child c d)
-    among c =
-        let at : 0 + o ≡ o = omega arith in
-        ap (times_in o) (children-match c 0 net.entities.items) ∙ subst (λ (n : ℕ). times_in n (matching (is_child c) 0 net.entities.items) ≡ one_if (is_child c d)) at (times-matching (is_child c) 0 o net.entities.items d there)
-
     mutual
       by-parents : {k : ℕ} {s : Shown} (b : IsBuilt net starts k s) → nodes (nat_eq o) b ≡ one_if (nat_eq o k) + nodes (λ c. is_child c d) b
       by-parents (built_actor k e a at undirected is) = let none : one_if (is_child k d) ≡ 0 = ap one_if (childless k e a at is o d there) in omega (arith, none)
       by-parents (built_sdf k e kids s at sdf are is) =
           let within : nodes_in (nat_eq o) are ≡ times_in o (children_of net.entities.items k) + nodes_in (λ c. is_child c d) are = by-parents-in are in
-          let counted = among k in
+          let counted = among net o d there k in
           omega (arith, within, counted)
 
       by-parents-in : {ks : List ℕ} {kids : List Shown} (bs : AreBuilt net starts ks kids) → nodes_in (nat_eq o) bs ≡ times_in o ks + nodes_in (λ c. is_child c d) bs

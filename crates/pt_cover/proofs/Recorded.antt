@@ -110,7 +110,7 @@ record IsPort (ports : List Port) (p : PortAt) : Type 0 where
 port-at : (ports : List Port) (p : PortAt) → map port_view ports ≡ net_ports (parts p.standing.tree) → slice_get (ports_of (parts p.standing.tree)) p.number ≡ Some p.port → IsPort ports p
 port-at ports p are at =
     let seen : option_map (λ (x : Port). head (port_view x)) (slice_get ports p.number) ≡ Some (class_head p.port) =
-      sym (slice_get-map (λ (x : Port). head (port_view x)) ports p.number) ∙ ap (λ (hs : List Head). slice_get hs p.number) (heads-view ports ∙ ap (map head) are ∙ heads (parts p.standing.tree)) ∙ slice_get-map class_head (ports_of (parts p.standing.tree)) p.number ∙ ap (option_map class_head) at in
+    sym (slice_get-map (λ (x : Port). head (port_view x)) ports p.number) ∙ ap (λ (hs : List Head). slice_get hs p.number) (heads-view ports ∙ ap (map head) are ∙ heads (parts p.standing.tree)) ∙ slice_get-map class_head (ports_of (parts p.standing.tree)) p.number ∙ ap (option_map class_head) at in
     let w = viewed (λ (x : Port). head (port_view x)) (slice_get ports p.number) (class_head p.port) seen in
     record { own = w.0; at = w.1; name_is = ap (λ (h : Head). h.name) w.2; direction_is = ap (λ (h : Head). h.direction) w.2 }
   where

@@ -103,21 +103,23 @@ own-told net s k e recorded at text (m ∷ ms) all =
     let r = recorded m port there in
     let here : IsEntity net port.entity e = subst (λ (j : ℕ). IsEntity net j e) (sym (eqb-true port.entity k all.0.2)) at in
     let same : r.entity ≡ e = same_Some r.entity e (sym r.is_entity ∙ here) in
-    let text_of : r.text ≡ text_in (slice_get net.records.items m) = sym (ap text_in r.text_is) in
-    (record {
-      recorded = port;
-      is_recorded = there;
-      entity = e;
-      is_entity = here;
-      port = r.own;
-      is_port = subst (λ (d : NetEntity). slice_get d.ports.items port.port ≡ Some r.own) same r.is_port;
-      output = r.output;
-      place = text;
-      port_is = ap (λ (p : Option NetPort). port_number e.ports.items (port_in p)) there;
-      number_is = refl;
-      text_is = r.text_is ∙ ap Some text_of;
-      names = sym text_of ∙ r.names ∙ ap (λ (d : NetEntity). below d.path r.own.name) same;
-    }, own-told net s k e recorded at text ms all.1)
+    let text_of : r.text ≡ text_in (slice_get net.records.items m) = sym (ap text_in r.text_is) in (
+      record {
+        recorded = port;
+        is_recorded = there;
+        entity = e;
+        is_entity = here;
+        port = r.own;
+        is_port = subst (λ (d : NetEntity). slice_get d.ports.items port.port ≡ Some r.own) same r.is_port;
+        output = r.output;
+        place = text;
+        port_is = ap (λ (p : Option NetPort). port_number e.ports.items (port_in p)) there;
+        number_is = refl;
+        text_is = r.text_is ∙ ap Some text_of;
+        names = sym text_of ∙ r.names ∙ ap (λ (d : NetEntity). below d.path r.own.name) same;
+      },
+      own-told net s k e recorded at text ms all.1,
+    )
 
 -- seen from its composite
 child-told : (net : Net) (s kid : Shown) (i : ℕ) → ((p : Path) → text_at (outline_of s) (i ∷ p) ≡ text_at (outline_of kid) p) → (x : Listed) → IsTold net kid x → IsTold net s (record { path = i ∷ x.path; output = x.output })

@@ -12,6 +12,7 @@ use Rattle.pt_build.specs.Built.{IsBuilt}
 use Rattle.pt_run.specs.Ports.{AreNumbered}
 use Rattle.pt_cover.specs.Leaves.{ActorsAreLeaves, AreStartedByClass}
 use Rattle.pt_cover.specs.Told.{AreTold}
+use Rattle.pt_cover.specs.Paths.{IsCover}
 
 -- in the job of a document only Composites and Modal entities have entities within them
 abbrev pub ActorsOfDocumentsAreLeaves : Type 0
@@ -28,3 +29,7 @@ PortsAreNumbered = (job : JobTree) (net : Net) (starts : Starts) (s : Shown) →
 -- and in the order of these numbers each is the port of the net, at the node of its entity
 abbrev pub PortsHavePlaces : Type 0
 PortsHavePlaces = (job : JobTree) (net : Net) (starts : Starts) (s : Shown) → ActorsAreLeaves job → IsNetOf job net → AreStartedByClass net starts → IsBuilt net starts 0 s → AreTold net s
+
+-- to each entity of the net leads one path of the tree, and at that path stands the text of its own path, as a fault tells it
+abbrev pub TextsAreAtPaths : Type 0
+TextsAreAtPaths = (job : JobTree) (net : Net) (starts : Starts) (s : Shown) → ActorsAreLeaves job → IsNetOf job net → AreStartedByClass net starts → IsBuilt net starts 0 s → IsCover net s

@@ -1,4 +1,4 @@
-ghost use Rattle.pt_cover.specs.Laws.{ActorsOfDocumentsAreLeaves, NetsAreNested, PortsAreNumbered, PortsHavePlaces};
+ghost use Rattle.pt_cover.specs.Laws.{ActorsOfDocumentsAreLeaves, NetsAreNested, PortsAreNumbered, PortsHavePlaces, TextsAreAtPaths};
 
 /// In the job of a document only Composites and Modal entities have entities within them.
 pub fn actors_of_documents_are_leaves()
@@ -18,4 +18,9 @@ pub fn ports_are_numbered()
 /// In the order of their numbers the recorded ports of the tree are those of the net, each at the node of its entity.
 pub fn ports_have_places()
     ensures { PortsHavePlaces }
+{}
+
+/// To each entity leads one path of the tree, at which the text of its own path stands.
+pub fn texts_are_at_paths()
+    ensures { TextsAreAtPaths }
 {}
