@@ -1,4 +1,4 @@
-pub mod LeafLaws
+pub mod Reading
 pub mod Walk
 pub mod Nesting
 pub mod Matching
@@ -7,3 +7,5 @@ pub mod Recorded
 pub mod Numbering
 pub mod Telling
 pub mod Paths
+pub mod Distinct
+pub mod Starting

@@ -12,7 +12,7 @@ use Rattle.pt_build.specs.Built.{IsBuilt}
 use Rattle.pt_run.specs.Ports.{AreNumbered}
 use Rattle.pt_cover.specs.Leaves.{ActorsAreLeaves, AreStartedByClass}
 use Rattle.pt_cover.specs.Told.{AreTold}
-use Rattle.pt_cover.specs.Paths.{IsCover}
+use Rattle.pt_cover.specs.Paths.{IsCover, AreApart}
 
 -- in the job of a document only Composites and Modal entities have entities within them
 abbrev pub ActorsOfDocumentsAreLeaves : Type 0
@@ -33,3 +33,7 @@ PortsHavePlaces = (job : JobTree) (net : Net) (starts : Starts) (s : Shown) → 
 -- to each entity of the net leads one path of the tree, and at that path stands the text of its own path, as a fault tells it
 abbrev pub TextsAreAtPaths : Type 0
 TextsAreAtPaths = (job : JobTree) (net : Net) (starts : Starts) (s : Shown) → ActorsAreLeaves job → IsNetOf job net → AreStartedByClass net starts → IsBuilt net starts 0 s → IsCover net s
+
+-- in the net of a document such a text is that of one entity
+abbrev pub PathsAreDistinct : Type 0
+PathsAreDistinct = (bytes : List ℕ) (job : JobTree) (net : Net) → IsJobOf bytes job → IsNetOf job net → AreApart net

@@ -6,6 +6,7 @@ use Rattle.pt_graph.specs.declared.net.NetEntity.{NetEntity}
 use Rattle.pt_wiring.specs.Inside.{children_of}
 use Rattle.pt_node.specs.Shown.{Shown}
 use Rattle.pt_node.specs.View.{outline_of, text_at}
+use Rattle.pt_build.specs.Trees.{IsEntity}
 
 -- the entity to which a path leads from entity k: each step goes to the child of that number, in the order of the document
 abbrev pub entity_at : List NetEntity → ℕ → Path → Option ℕ
@@ -26,3 +27,7 @@ pub record HasOnePath (es : List NetEntity) (o : ℕ) : Type 0 where
 pub record IsCover (net : Net) (s : Shown) : Type 0 where
   pub texts : (p : Path) → text_at (outline_of s) p ≡ text_of net.entities.items (entity_at net.entities.items 0 p)
   pub paths : (o : ℕ) → o < length net.entities.items → HasOnePath net.entities.items o
+
+-- no two entities have one path as a text
+abbrev pub AreApart : Net → Type 0
+AreApart net = (k j : ℕ) (e d : NetEntity) → IsEntity net k e → IsEntity net j d → e.path ≡ d.path → k ≡ j

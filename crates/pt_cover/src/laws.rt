@@ -1,4 +1,4 @@
-ghost use Rattle.pt_cover.specs.Laws.{ActorsOfDocumentsAreLeaves, NetsAreNested, PortsAreNumbered, PortsHavePlaces, TextsAreAtPaths};
+ghost use Rattle.pt_cover.specs.Laws.{ActorsOfDocumentsAreLeaves, NetsAreNested, PortsAreNumbered, PortsHavePlaces, TextsAreAtPaths, PathsAreDistinct};
 
 /// In the job of a document only Composites and Modal entities have entities within them.
 pub fn actors_of_documents_are_leaves()
@@ -23,4 +23,9 @@ pub fn ports_have_places()
 /// To each entity leads one path of the tree, at which the text of its own path stands.
 pub fn texts_are_at_paths()
     ensures { TextsAreAtPaths }
+{}
+
+/// In the net of a document no two entities have one path as a text.
+pub fn paths_are_distinct()
+    ensures { PathsAreDistinct }
 {}

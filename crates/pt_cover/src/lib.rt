@@ -4,6 +4,6 @@
 mod laws;
 
 pub use laws::{
-    actors_of_documents_are_leaves, nets_are_nested, ports_are_numbered, ports_have_places,
-    texts_are_at_paths,
+    actors_of_documents_are_leaves, nets_are_nested, paths_are_distinct, ports_are_numbered,
+    ports_have_places, texts_are_at_paths,
 };
