@@ -1,0 +1,11 @@
+pub mod Reading
+pub mod Walk
+pub mod Nesting
+pub mod Matching
+pub mod Nodes
+pub mod Recorded
+pub mod Numbering
+pub mod Telling
+pub mod Paths
+pub mod Distinct
+pub mod Starting

@@ -1,0 +1,4 @@
+pub mod Leaves
+pub mod Told
+pub mod Paths
+pub mod Laws
