@@ -1,3 +1,4 @@
 pub mod Steps
 pub mod Parts
 pub mod PlainNets
+pub mod Breaks
