@@ -1,3 +1,5 @@
 pub mod Steps
 pub mod Parts
 pub mod PlainNets
+pub mod Breaks
+pub mod Examples

@@ -1,6 +1,7 @@
 //! The types of a net: what passes at each of its ports.
 #![tactic(auto)]
 
+mod faults;
 mod frames;
 mod inequalities;
 mod names;
@@ -12,8 +13,9 @@ mod seeds;
 mod tables;
 mod top;
 
+pub use faults::broken;
 pub use frames::{Frame, Frames};
 pub use inequalities::inequalities_of;
-pub use plain::net_typing;
+pub use plain::{is_plain, net_typing};
 pub use row::{PortType, PortTypeRow, Seed, SeedRow};
 pub use tables::{PORT_TYPES, SEEDS};
