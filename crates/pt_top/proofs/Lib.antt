@@ -1,10 +1,2 @@
-pub mod Integers
-pub mod InputLaws
-pub mod ActorLaws
-pub mod ModelLaws
 pub mod ReportLaws
-pub mod Lines
 pub mod AnswerLaws
-pub mod OneMeaning
-pub mod SameNets
-pub mod Completeness

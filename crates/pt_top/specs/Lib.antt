@@ -1,4 +1,2 @@
-pub mod Integer
-pub mod Model
 pub mod Reply
 pub mod Outcome

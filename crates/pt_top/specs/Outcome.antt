@@ -1,28 +1,22 @@
 -- What a run of the program tells, and why.
-use Rattle.std.specs.Prelude.{◌≡◌, ◌⊎◌, ℕ, ◌+◌, ◌<◌, ◌≤◌, List, [], ◌∷◌, length, take, Option, Some, codes}
+use Rattle.std.specs.Prelude.{◌≡◌, ◌⊎◌, ℕ, ◌+◌, ◌<◌, ◌≤◌, List, [], length, take, Option, Some, codes}
 use Rattle.std.specs.Io.KnownBytes.{Appends}
 use Rattle.pt_io.specs.Causes.{Rose}
+use Rattle.pt_words.specs.declared.words.Words.{Words}
+use Rattle.pt_words.specs.Line.{IsLine, run_within}
 use Rattle.pt_moml.specs.declared.refusal.Refusal.{Refusal}
 use Rattle.pt_moml.specs.declared.code.Code.{Code}
-use Rattle.pt_moml.specs.declared.code.Code.TheVariants as causes
 use Rattle.pt_moml.specs.Document.{JobTree}
-use Rattle.pt_moml.specs.Names.{top_path}
 use Rattle.pt_moml.specs.Reading.{IsJobOf}
 use Rattle.pt_moml.specs.Stands as reading
 use Rattle.pt_graph.specs.declared.net.Net.{Net}
 use Rattle.pt_graph.specs.Net.{IsNetOf}
 use Rattle.pt_graph.specs.Stands as linking
-use Rattle.pt_meaning.specs.Machine as machine
-use Rattle.pt_meaning.specs.Job.{IsStuckPlace}
-use Rattle.pt_meaning.specs.Schedule.{sdf_top}
-use Rattle.pt_meaning.specs.Node as tree
-use Rattle.pt_flat.specs.Actors.{rows}
-use Rattle.pt_flat.specs.Model.{start_of, HasNoOrder}
-use Rattle.pt_flat.specs.Run.{RunEnd, AllDone, Overflow}
-use Rattle.pt_top.specs.Model.{FlatModel, IsModel, IsUnbuilt}
-use Rattle.pt_top.specs.Reply.{line, refusal_text, IsReport}
+use Rattle.pt_model.specs.Refused as unmodelled
+use Rattle.pt_top.specs.Reply.{line, refusal_text, IsReport, IsAffordableNet}
 use Rattle.pt_top.specs.declared.status.Status.{Status}
-use Rattle.pt_top.specs.declared.status.Status.TheVariants.{Done, Words, Document, Fault, Read, Write, Memory, Length}
+use Rattle.pt_top.specs.declared.status.Status.TheVariants as status
+use Rattle.pt_top.specs.declared.status.Status.TheVariants.{Done, Document, Fault, Budget, Read, Write, Memory, Length}
 
 -- ---- documents
 
@@ -30,80 +24,88 @@ use Rattle.pt_top.specs.declared.status.Status.TheVariants.{Done, Words, Documen
 abbrev pub IsWellLinked : JobTree → Type 0
 IsWellLinked job = (code : Code) (path : List ℕ) → linking.Stands code path job → ⊥
 
--- The document is accepted: no refusal stands in it. These are its job and its net.
-pub record IsAccepted (bytes : List ℕ) (job : JobTree) (net : Net) : Type 0 where
+-- No refusal stands in the text of a document, nor in its links. These are its job and its net.
+pub record HasNet (bytes : List ℕ) (job : JobTree) (net : Net) : Type 0 where
   pub is_job : IsJobOf bytes job
   pub is_net : IsNetOf job net
   pub well_formed : reading.IsClean bytes
   pub well_linked : IsWellLinked job
 
--- A document is refused for a cause that stands in its text, or in how its links join its ports, or since its form isn't built.
+-- A document is refused for a cause that stands in its text, in how its links join its ports, or in its net.
 pub data IsRefused (bytes : List ℕ) (r : Refusal) : Type 0 where
   in_text : reading.Stands r.code r.path bytes → IsRefused bytes r
   in_links : (job : JobTree) → IsJobOf bytes job → reading.IsClean bytes → linking.Stands r.code r.path job → IsRefused bytes r
-  unbuilt : (job : JobTree) (net : Net) → IsAccepted bytes job net → IsUnbuilt net → r ≡ record { code = causes.Unbuilt; path = top_path } → IsRefused bytes r
+  in_net : (job : JobTree) (net : Net) → HasNet bytes job net → unmodelled.IsRefused net r → IsRefused bytes r
 
--- the report of a run of an accepted document
-pub record IsReportOf (bytes : List ℕ) (end : RunEnd) (text : List ℕ) : Type 0 where
+-- the report of a run of a document within a budget
+pub record IsReportOf (bytes : List ℕ) (budget : ℕ) (status : Status) (text : List ℕ) : Type 0 where
   pub job : JobTree
   pub net : Net
-  pub accepted : IsAccepted bytes job net
-  pub report : IsReport net end text
+  pub accepted : HasNet bytes job net
+  pub report : IsReport net budget status text
 
 -- A status and its text answer a job.
-abbrev pub AnswersJob : JobTree → Status → List ℕ → Type 0
-AnswersJob job Done text = (net : Net) × IsNetOf job net × IsWellLinked job × IsReport net AllDone text
-AnswersJob job Fault text = (net : Net) × IsNetOf job net × IsWellLinked job × (actor firing : ℕ) × IsReport net (Overflow actor firing) text
-AnswersJob job Document text = (r : Refusal) × (linking.Stands r.code r.path job ⊎ ((net : Net) × IsNetOf job net × IsWellLinked job × IsUnbuilt net × (r ≡ record { code = causes.Unbuilt; path = top_path }))) × (text ≡ refusal_text r)
-AnswersJob job _ text = ⊥
+abbrev pub AnswersJob : JobTree → (budget : ℕ) → Status → List ℕ → Type 0
+AnswersJob job budget Done text = (net : Net) × IsNetOf job net × IsWellLinked job × IsReport net budget Done text
+AnswersJob job budget Fault text = (net : Net) × IsNetOf job net × IsWellLinked job × IsReport net budget Fault text
+AnswersJob job budget Budget text = (net : Net) × IsNetOf job net × IsWellLinked job × IsReport net budget Budget text
+AnswersJob job budget Document text = (r : Refusal) × (linking.Stands r.code r.path job ⊎ ((net : Net) × IsNetOf job net × IsWellLinked job × unmodelled.IsRefused net r)) × (text ≡ refusal_text r)
+AnswersJob job budget _ text = ⊥
 
 -- A status and its text answer a document.
-abbrev pub Answers : List ℕ → Status → List ℕ → Type 0
-Answers bytes Done text = IsReportOf bytes AllDone text
-Answers bytes Fault text = (actor firing : ℕ) × IsReportOf bytes (Overflow actor firing) text
-Answers bytes Document text = (r : Refusal) × IsRefused bytes r × (text ≡ refusal_text r)
-Answers bytes Memory text = text ≡ line (codes "refused memory")
-Answers bytes _ text = ⊥
+abbrev pub Answers : List ℕ → (budget : ℕ) → Status → List ℕ → Type 0
+Answers bytes budget Done text = IsReportOf bytes budget Done text
+Answers bytes budget Fault text = IsReportOf bytes budget Fault text
+Answers bytes budget Budget text = IsReportOf bytes budget Budget text
+Answers bytes budget Document text = (r : Refusal) × IsRefused bytes r × (text ≡ refusal_text r)
+Answers bytes budget Memory text = text ≡ line (codes "refused memory")
+Answers bytes budget _ text = ⊥
 
--- a flat model's meaning has no stuck place
-abbrev pub IsNeverStuck : FlatModel → Type 0
-IsNeverStuck m = (f : machine.Fault) → IsStuckPlace rows tree.no_meetings (sdf_top m.iterations [] []) (start_of m.actors m.feeds) f → ⊥
+-- No refusal of the document stands, and no model of its net is stuck anywhere or comes to the budget.
+pub record IsFaultless (bytes : List ℕ) (budget : ℕ) : Type 0 where
+  pub accepted : (r : Refusal) → IsRefused bytes r → ⊥
+  pub affordable : (job : JobTree) (net : Net) → HasNet bytes job net → IsAffordableNet net budget
 
--- The document is accepted, its form is built, and its meaning has no stuck place.
-pub record IsFaultless (bytes : List ℕ) : Type 0 where
-  pub job : JobTree
-  pub net : Net
-  pub accepted : IsAccepted bytes job net
-  pub model : FlatModel
-  pub is_model : IsModel net model
-  pub ordered : HasNoOrder model.feeds → ⊥
-  pub never_stuck : IsNeverStuck model
+-- the model ran to its end, or memory ran out
+abbrev pub IsReported : Status → Type 0
+IsReported told = (told ≡ Done) ⊎ (told ≡ Memory)
 
 -- ---- runs of the program
 
 abbrev pub limit : ℕ
 limit = 16777216
 
-abbrev pub IsLine : List (List ℕ) → Type 0
-IsLine words = words ≡ codes "run" ∷ []
+-- the words are a line that reads a document and runs it within this budget
+abbrev pub IsRunLine : List (List ℕ) → (budget : ℕ) → Type 0
+IsRunLine words budget = IsLine words (run_within budget)
 
--- A status and its text are due: for these words, where these bytes were taken from the source.
-abbrev pub IsDue : List (List ℕ) → List ℕ → Type 0 → Type 0 → Status → List ℕ → Type 0
-IsDue words bytes rose ended Words text = (IsLine words → ⊥) × (bytes ≡ []) × (text ≡ line (codes "refused words"))
-IsDue words bytes rose ended Read text = IsLine words × rose × (length bytes ≤ limit) × (text ≡ line (codes "refused read"))
-IsDue words bytes rose ended Length text = IsLine words × (length bytes ≡ limit + 1) × (text ≡ line (codes "refused length"))
-IsDue words bytes rose ended Memory text = IsLine words × (length bytes ≤ limit) × (text ≡ line (codes "refused memory"))
-IsDue words bytes rose ended Done text = IsLine words × (length bytes ≤ limit) × ended × Answers bytes Done text
-IsDue words bytes rose ended Fault text = IsLine words × (length bytes ≤ limit) × ended × Answers bytes Fault text
-IsDue words bytes rose ended Document text = IsLine words × (length bytes ≤ limit) × ended × Answers bytes Document text
-IsDue words bytes rose ended _ text = ⊥
+-- A status and its text are due for a run within a budget, where these bytes were taken from the source.
+abbrev pub IsDueFor : (budget : ℕ) → List ℕ → (rose ended : Type 0) → Status → List ℕ → Type 0
+IsDueFor budget bytes rose ended Read text = rose × (length bytes ≤ limit) × (text ≡ line (codes "refused read"))
+IsDueFor budget bytes rose ended Length text = (length bytes ≡ limit + 1) × (text ≡ line (codes "refused length"))
+IsDueFor budget bytes rose ended Memory text = (length bytes ≤ limit) × (text ≡ line (codes "refused memory"))
+IsDueFor budget bytes rose ended Done text = (length bytes ≤ limit) × ended × Answers bytes budget Done text
+IsDueFor budget bytes rose ended Fault text = (length bytes ≤ limit) × ended × Answers bytes budget Fault text
+IsDueFor budget bytes rose ended Budget text = (length bytes ≤ limit) × ended × Answers bytes budget Budget text
+IsDueFor budget bytes rose ended Document text = (length bytes ≤ limit) × ended × Answers bytes budget Document text
+IsDueFor budget bytes rose ended _ text = ⊥
+
+-- The same for any words: those that are no line are refused, and nothing is taken.
+abbrev pub IsDue : List (List ℕ) → List ℕ → (rose ended : Type 0) → Status → List ℕ → Type 0
+IsDue words bytes rose ended s text =
+    ((budget : ℕ) × IsRunLine words budget × IsDueFor budget bytes rose ended s text) ⊎
+    ((s ≡ status.Words) × ((asked : Words) → IsLine words asked → ⊥) × (bytes ≡ []) × (text ≡ line (codes "refused words")))
 
 -- The text went out whole and its status was told, or a write failed behind a part of it.
 pub record Tells (before after : ℕ) (old new : Option (List ℕ)) (due : Status) (text : List ℕ) (told : Status) : Type 0 where
   pub later : before ≤ after
   pub written : ((told ≡ due) × Appends old new text) ⊎ ((told ≡ Write) × Rose before after × (n : ℕ) × (n < length text) × Appends old new (take n text))
 
--- No device failed, so a faultless document is answered by its whole report, or memory ran out.
+-- No device failed, so a document that is faultless within the budget is answered by its whole report, or memory ran out.
+abbrev pub IsCompleteFor : (budget : ℕ) → (left : Option (List ℕ)) → (read_rose written_rose : Type 0) → Status → Type 0
+IsCompleteFor budget left read_rose written_rose told =
+    (bytes : List ℕ) → left ≡ Some bytes → length bytes ≤ limit → IsFaultless bytes budget → (read_rose → ⊥) → (written_rose → ⊥) → IsReported told
+
+-- The same for any words, with the budget that they give.
 abbrev pub IsComplete : (words : List (List ℕ)) → (left : Option (List ℕ)) → (read_rose written_rose : Type 0) → Status → Type 0
-IsComplete words left read_rose written_rose told =
-    (bytes : List ℕ) → IsLine words → left ≡ Some bytes → length bytes ≤ limit → IsFaultless bytes → (read_rose → ⊥) → (written_rose → ⊥) → (told ≡ Done) ⊎ (told ≡ Memory)
+IsComplete words left read_rose written_rose told = (budget : ℕ) → IsRunLine words budget → IsCompleteFor budget left read_rose written_rose told

@@ -1,20 +1,22 @@
--- What is answered to a net: its report, or that its form isn't built.
-use Rattle.std.specs.Prelude.{◌≡◌, ℕ, zero, suc, List, [], ◌∷◌, ◌++◌, drop, codes, decimal, ℤ, option_map, unwrap_or, slice_get}
+-- What is answered to a net: the report of a run of its model, or the line of a refusal.
+use Rattle.std.specs.Prelude.{◌≡◌, ℕ, List, [], ◌∷◌, ◌++◌, length, codes, decimal}
 use Rattle.pt_moml.specs.declared.refusal.Refusal.{Refusal}
-use Rattle.pt_moml.specs.declared.code.Code.TheVariants.{Unbuilt}
 use Rattle.pt_moml.specs.Codes.{code_number, code_name}
-use Rattle.pt_moml.specs.Names.{top_path}
-use Rattle.pt_graph.specs.declared.net.NetEntity.{NetEntity}
 use Rattle.pt_graph.specs.declared.net.Net.{Net}
-use Rattle.pt_firing.specs.declared.fault.RunFault.TheVariants.{Overflow}
-use Rattle.pt_trace.specs.declared.run_end.RunEnd.{RunEnd}
-use Rattle.pt_trace.specs.declared.run_end.RunEnd.TheVariants as ends
-use Rattle.pt_trace.specs.Report.{Trace, Report}
+use Rattle.pt_trace.specs.Report.{Report}
 use Rattle.pt_trace.specs.ReportText.{report_text}
-use Rattle.pt_flat.specs.Run as flat
+use Rattle.pt_node.specs.Shown.{Shown}
+use Rattle.pt_node.specs.View.{node_of, outline_of}
+use Rattle.pt_run.specs.declared.job.SdfJob.{SdfJob}
+use Rattle.pt_run.specs.declared.ended.Ended.{Ended}
+use Rattle.pt_run.specs.declared.ended.Ended.TheVariants as ended
+use Rattle.pt_run.specs.Ports.{AreNumbered, recorded_ports, told_of}
+use Rattle.pt_run.specs.Report.{end_of}
+use Rattle.pt_run.specs.Run.{IsRun, IsAffordable}
+use Rattle.pt_model.specs.Model.{IsModel}
+use Rattle.pt_model.specs.Refused as unmodelled
 use Rattle.pt_top.specs.declared.status.Status.{Status}
-use Rattle.pt_top.specs.declared.status.Status.TheVariants.{Done, Document, Fault}
-use Rattle.pt_top.specs.Model.{FlatModel, IsModel, IsUnbuilt}
+use Rattle.pt_top.specs.declared.status.Status.TheVariants.{Done, Document, Fault, Budget}
 
 abbrev pub line : List ℕ → List ℕ
 line text = text ++ 10 ∷ []
@@ -23,43 +25,41 @@ line text = text ++ 10 ∷ []
 abbrev pub refusal_text : Refusal → List ℕ
 refusal_text r = codes "refused " ++ (decimal (code_number r.code) ++ (codes " " ++ (code_name r.code ++ (codes " " ++ line r.path))))
 
--- the recorded numbers under the texts that name their ports
-abbrev pub told_traces : List (List ℕ) → List (List ℤ) → List Trace
-told_traces [] numbers = []
-told_traces (text ∷ texts) [] = []
-told_traces (text ∷ texts) (ns ∷ numbers) = record { text = text; tokens = flat.stamped ns } ∷ told_traces texts numbers
-
-abbrev pub report_of : List (List ℕ) → List (List ℤ) → RunEnd → Report
-report_of texts numbers end = record { traces = told_traces texts numbers; meetings = []; end = end }
-
--- the path of the entity at this number
-abbrev pub path_at : List NetEntity → ℕ → List ℕ
-path_at es i = unwrap_or (option_map (λ e. e.path) (slice_get es i)) []
-
--- the entities of a net behind its top, which its actors are
-abbrev pub actors_in : Net → List NetEntity
-actors_in net = drop 1 net.entities.items
-
-abbrev pub end_in : Net → flat.RunEnd → RunEnd
-end_in net flat.AllDone = ends.Iterations
-end_in net (flat.Overflow actor firing) = ends.Fault (record { path = path_at (actors_in net) actor; firing = firing; kind = Overflow })
-
 -- the status of a run by how it ended
-abbrev pub status_in : flat.RunEnd → Status
-status_in flat.AllDone = Done
-status_in (flat.Overflow actor firing) = Fault
+abbrev pub status_of : Ended → Status
+status_of ended.Iterations = Done
+status_of ended.Inputs = Done
+status_of (ended.Fault place) = Fault
+status_of (ended.Spent firings) = Budget
 
--- A run of the model of a net, with its report.
-pub record IsReport (net : Net) (end : flat.RunEnd) (text : List ℕ) : Type 0 where
-  pub model : FlatModel
-  pub is_model : IsModel net model
-  pub traces : List (List ℤ)
-  pub is_run : flat.IsRun model.actors model.feeds model.iterations model.recorded traces end
-  pub printed : text ≡ report_text (report_of net.records.items traces (end_in net end))
+-- what a tree has recorded of the ports that the net records, in the order of the document, and how the run ended
+abbrev pub report_of : Net → Shown → Ended → Report
+report_of net top e = record { traces = told_of (recorded_ports (length net.recorded.items) top); meetings = []; end = end_of e }
+
+-- A run of the model of a net within a budget, with its status and the text of its report.
+pub record IsReport (net : Net) (budget : ℕ) (status : Status) (text : List ℕ) : Type 0 where
+  -- the tree before the run, with one recorded port for each number of those that the net records, and what the job asks of its top
+  pub top : Shown
+  pub job : SdfJob
+  pub is_model : IsModel net top job
+  pub numbered : AreNumbered (length net.recorded.items) top
+  -- the tree after it, which has kept the names of its nodes and of its recorded ports
+  pub after : Shown
+  pub named : outline_of after ≡ outline_of top
+  -- how the run ended, and what is told of it
+  pub ended : Ended
+  pub is_run : IsRun job budget top after ended
+  pub told : status ≡ status_of ended
+  pub printed : text ≡ report_text (report_of net after ended)
 
 -- A status and its text answer a net.
-abbrev pub AnswersNet : Net → Status → List ℕ → Type 0
-AnswersNet net Done text = IsReport net flat.AllDone text
-AnswersNet net Fault text = (actor firing : ℕ) × IsReport net (flat.Overflow actor firing) text
-AnswersNet net Document text = IsUnbuilt net × (text ≡ refusal_text (record { code = Unbuilt; path = top_path }))
-AnswersNet net _ text = ⊥
+abbrev pub AnswersNet : Net → (budget : ℕ) → Status → List ℕ → Type 0
+AnswersNet net budget Done text = IsReport net budget Done text
+AnswersNet net budget Fault text = IsReport net budget Fault text
+AnswersNet net budget Budget text = IsReport net budget Budget text
+AnswersNet net budget Document text = (r : Refusal) × unmodelled.IsRefused net r × (text ≡ refusal_text r)
+AnswersNet net budget _ text = ⊥
+
+-- no model of the net is stuck anywhere, and each stays below the budget
+abbrev pub IsAffordableNet : Net → (budget : ℕ) → Type 0
+IsAffordableNet net budget = (top : Shown) (job : SdfJob) → IsModel net top job → IsAffordable job budget (node_of top)

@@ -1,30 +1,40 @@
 // What answers a document.
-ghost use Rattle.std.specs.Prelude.{IfOk};
+ghost use Rattle.std.specs.Prelude.{◌≡◌, ◌⊎◌, ◌<◌, IfOk};
 ghost use Rattle.pt_moml.specs.View.{job_view};
-ghost use Rattle.pt_top.specs.Outcome.{Answers, AnswersJob};
+ghost use Rattle.pt_graph.specs.declared.net.Net.{Net};
+ghost use Rattle.pt_graph.specs.Net.{IsNetOf};
+ghost use Rattle.pt_top.specs.declared.status.Status.TheVariants.{Done, Document};
+ghost use Rattle.pt_top.specs.Reply.{IsAffordableNet};
+ghost use Rattle.pt_top.specs.Outcome.{Answers, AnswersJob, IsWellLinked, IsFaultless};
 
 use crate::report::{Reply, refuse, reply_to_net};
 use pt_graph::flatten;
 use pt_moml::{DocFault, Job, read};
 use std::alloc::{AllocError, Global};
 
-/// The answer to a job, unless memory runs out for it.
-fn answer_job(alloc: Global, job: &Job) -> Result<Reply, AllocError>
-    ensures { IfOk result (λ r. AnswersJob (job_view job.now) r.status r.text.items) }
+/// The answer to a job within a budget, unless memory runs out for it.
+fn answer_job(alloc: Global, job: &Job, budget: u64) -> Result<Reply, AllocError>
+    requires { 0 < budget }
+    ensures answers { IfOk result (λ r. AnswersJob (job_view job.now) budget r.status r.text.items) }
+    // Where the models are affordable, what isn't done is refused.
+    ensures complete { ((net : Net) → IsNetOf (job_view job.now) net → IsWellLinked (job_view job.now) → IsAffordableNet net budget)
+        → IfOk result (λ r. (r.status ≡ Done) ⊎ (r.status ≡ Document)) }
 {
     match flatten(alloc, job) {
-        Ok(net) => reply_to_net(alloc, &net),
+        Ok(net) => reply_to_net(alloc, &net, budget),
         Err(DocFault::Refused(refusal)) => refuse(alloc, &refusal),
         Err(DocFault::Memory) => Err(AllocError),
     }
 }
 
-/// The answer to a document's bytes, unless memory runs out for it.
-pub fn answer(alloc: Global, bytes: &[u8]) -> Result<Reply, AllocError>
-    ensures { IfOk result (λ r. Answers bytes.now r.status r.text.items) }
+/// The answer to a document's bytes within a budget, unless memory runs out for it.
+pub fn answer(alloc: Global, bytes: &[u8], budget: u64) -> Result<Reply, AllocError>
+    requires { 0 < budget }
+    ensures answers { IfOk result (λ r. Answers bytes.now budget r.status r.text.items) }
+    ensures complete { IsFaultless bytes.now budget → IfOk result (λ r. r.status ≡ Done) }
 {
     match read(alloc, bytes) {
-        Ok(job) => answer_job(alloc, &job),
+        Ok(job) => answer_job(alloc, &job, budget),
         Err(DocFault::Refused(refusal)) => refuse(alloc, &refusal),
         Err(DocFault::Memory) => Err(AllocError),
     }

@@ -2,8 +2,6 @@
 #![tactic(auto)]
 
 mod answer;
-mod integer;
-mod model;
 mod report;
 mod run;
 mod status;

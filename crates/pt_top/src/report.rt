@@ -1,25 +1,24 @@
 // What is answered to a net.
-ghost use Rattle.std.specs.Prelude.{◌≡◌, IfOk, string_bytes};
-ghost use Rattle.pt_moml.specs.Names.{top_path};
-ghost use Rattle.pt_moml.specs.declared.code.Code.TheVariants.{Unbuilt};
-ghost use Rattle.pt_flat.specs.Model.{IsLawful};
-ghost use Rattle.pt_meaning.specs.Tag.{origin};
-ghost use Rattle.pt_value.specs.declared.token.Token.TheVariants.{Int};
-ghost use Rattle.pt_flat.specs.Run.{end_of};
-ghost use Rattle.pt_flat.specs.Run as flat;
-ghost use Rattle.pt_top.specs.declared.status.Status.TheVariants.{Document};
-ghost use Rattle.pt_top.specs.Model.{IsModel, flat_model};
-ghost use Rattle.pt_top.specs.Reply.{told_traces, path_at, actors_in, end_in, status_in, refusal_text, IsReport, AnswersNet};
+ghost use Rattle.std.specs.Prelude.{◌≡◌, ◌⊎◌, ◌<◌, length, IfOk};
+ghost use Rattle.pt_moml.specs.Document.{JobTree};
+ghost use Rattle.pt_graph.specs.Net.{IsNetOf};
+ghost use Rattle.pt_node.specs.Shown.{shown_node};
+ghost use Rattle.pt_node.specs.View.{node_of};
+ghost use Rattle.pt_run.specs.Start.{IsRunnable};
+ghost use Rattle.pt_run.specs.Ports.{AreNumbered};
+ghost use Rattle.pt_run.specs.Run.{IsAffordable};
+ghost use Rattle.pt_model.specs.Model.{IsModel};
+ghost use Rattle.pt_top.specs.declared.status.Status.TheVariants.{Done, Document};
+ghost use Rattle.pt_top.specs.Reply as reply;
+ghost use Rattle.pt_top.specs.Reply.{refusal_text, IsReport, AnswersNet, IsAffordableNet};
 
-use crate::model::{Model, ModelFault, model_of};
 use crate::status::Status;
-use pt_firing::{Place, RunFault};
-use pt_flat::{Ended, Numbers, run_flat};
-use pt_graph::{Net, NetEntity};
-use pt_moml::{Code, Refusal};
-use pt_time::Tag;
-use pt_trace::{Report, RunEnd, Trace, text};
-use pt_value::{Text, Token};
+use pt_graph::Net;
+use pt_model::{ModelFault, model_of};
+use pt_moml::Refusal;
+use pt_node::Node;
+use pt_run::{Ended, SdfJob, numbers_stay, report, run};
+use pt_trace::text;
 use std::alloc::{AllocError, Global};
 
 /// A status, and the text that goes with it.
@@ -27,77 +26,6 @@ use std::alloc::{AllocError, Global};
 pub struct Reply {
     pub status: Status,
     pub text: Vec<u8>,
-}
-
-const ORIGIN: Tag = Tag { time: 0, step: 0 };
-
-/// A number as a token at the origin of time.
-fn stamped(number: &i64) -> (Tag, Token)
-    ensures { result ≡ (origin, Int number.now) }
-{
-    (ORIGIN, Token::Int(*number))
-}
-
-#[tactic(auto, using(crate::proofs::ReportLaws::stamped_more))]
-fn tokens_of(alloc: Global, numbers: &[i64]) -> Result<Vec<(Tag, Token)>, AllocError>
-    ensures { IfOk result (λ tokens. tokens.items ≡ flat.stamped numbers.now) }
-{
-    let mut tokens = Vec::with_capacity(alloc, numbers.len())?;
-    for number in numbers {
-        tokens.push(stamped(number))?;
-    }
-    Ok(tokens)
-}
-
-fn trace_of(alloc: Global, text: &Text, numbers: &Numbers) -> Result<Trace, AllocError>
-    ensures { IfOk result (λ trace. trace ≡ record { text = text.now; tokens = flat.stamped numbers.now }) }
-{
-    Ok(Trace {
-        text: text.copy(alloc)?,
-        tokens: tokens_of(alloc, numbers.as_slice())?,
-    })
-}
-
-/// The traces of the numbers that the ports of these texts gave.
-fn traces_of(alloc: Global, texts: &[Text], numbers: &[Numbers]) -> Result<Vec<Trace>, AllocError>
-    ensures { IfOk result (λ traces. traces.items ≡ told_traces texts.now numbers.now) }
-{
-    let mut traces = Vec::new(alloc);
-    for place in 0..texts.len().min(numbers.len()) {
-        traces.push(trace_of(alloc, &texts[place], &numbers[place])?)?;
-    }
-    Ok(traces)
-}
-
-fn path_of(alloc: Global, entities: &[NetEntity], number: usize) -> Result<Text, AllocError>
-    ensures { IfOk result (λ path. path ≡ path_at entities.now number) }
-{
-    match entities.get(number) {
-        Some(entity) => entity.path.copy(alloc),
-        None => Text::of(alloc, ""),
-    }
-}
-
-fn path_of_actor(alloc: Global, net: &Net, actor: usize) -> Result<Text, AllocError>
-    ensures { IfOk result (λ path. path ≡ path_at (actors_in net.now) actor) }
-{
-    match net.entities.split_first() {
-        Some((_, actors)) => path_of(alloc, actors, actor),
-        None => Text::of(alloc, ""),
-    }
-}
-
-fn end_of_run(alloc: Global, net: &Net, ended: Ended) -> Result<RunEnd, AllocError>
-    ensures { IfOk result (λ end. end ≡ end_in net.now (end_of ended)) }
-{
-    match ended {
-        Ended::Iterations => Ok(RunEnd::Iterations),
-        Ended::Overflow { actor, firing } => Ok(RunEnd::Fault(Place {
-            path: path_of_actor(alloc, net, actor)?,
-            firing,
-            kind: RunFault::Overflow,
-        })),
-    }
 }
 
 /// The answer that refuses a document.
@@ -114,53 +42,54 @@ pub fn refuse(alloc: Global, refusal: &Refusal) -> Result<Reply, AllocError>
     })
 }
 
-/// The refusal of a form that isn't built yet.
-fn unbuilt(alloc: Global) -> Result<Reply, AllocError>
-    ensures { IfOk result (λ r. (r.status ≡ Document) × (r.text.items ≡ refusal_text (record { code = Unbuilt; path = top_path }))) }
-{
-    refuse(
-        alloc,
-        &Refusal {
-            code: Code::Unbuilt,
-            path: Text::of(alloc, ".")?,
-        },
-    )
-}
-
-fn status_of(ended: Ended) -> Status
-    ensures { result ≡ status_in (end_of ended) }
+fn status_of(ended: &Ended) -> Status
+    ensures { result ≡ reply.status_of ended.now }
 {
     match ended {
         Ended::Iterations => Status::Done,
-        Ended::Overflow { .. } => Status::Fault,
+        Ended::Inputs => Status::Done,
+        Ended::Fault(_) => Status::Fault,
+        Ended::Spent(_) => Status::Budget,
     }
 }
 
-/// Runs a model of a net.
-fn run_model(alloc: Global, net: &Net, model: &Model) -> Result<Reply, AllocError>
-    requires model { IsModel net.now (flat_model model.now) }
-    requires lawful { IsLawful model.now.flat.actors.items model.now.flat.feeds.items model.now.flat.order.items }
-    ensures { IfOk result (λ r. (end : flat.RunEnd) × (r.status ≡ status_in end) × IsReport net.now end r.text.items) }
+/// Runs the model of a net within a budget, and reports the run.
+fn report_run(
+    alloc: Global,
+    net: &Net,
+    top: &mut Node,
+    job: &SdfJob,
+    budget: u64,
+) -> Result<Reply, AllocError>
+    requires model { IsModel net.now (shown_node top.old) job.now }
+    requires runnable { IsRunnable job.now.takes (shown_node top.old) }
+    requires lists { length job.now.inputs.items ≡ length job.now.takes }
+    requires numbered { AreNumbered (length net.now.recorded.items) (shown_node top.old) }
+    requires budget { 0 < budget }
+    ensures report { IfOk result (λ r. IsReport net.now budget r.status r.text.items) }
+    ensures complete { IsAffordable job.now budget (node_of (shown_node top.old)) → IfOk result (λ r. r.status ≡ Done) }
 {
-    let ran = run_flat(alloc, &model.flat, model.iterations, &model.recorded)?;
-    let report = Report {
-        traces: traces_of(alloc, &net.records, &ran.traces)?,
-        meetings: Vec::new(alloc),
-        end: end_of_run(alloc, net, ran.ended)?,
-    };
+    numbers_stay();
+    let ended = run(alloc, top, job, budget)?;
+    let status = status_of(&ended);
+    let report = report(alloc, top, ended, net.recorded.len())?;
     Ok(Reply {
-        status: status_of(ran.ended),
+        status,
         text: text(alloc, &report)?,
     })
 }
 
-/// The answer to a net, unless memory runs out for it.
-pub fn reply_to_net(alloc: Global, net: &Net) -> Result<Reply, AllocError>
-    ensures { IfOk result (λ r. AnswersNet net.now r.status r.text.items) }
+/// The answer to the net of a job within a budget, unless memory runs out for it.
+pub fn reply_to_net(alloc: Global, net: &Net, budget: u64) -> Result<Reply, AllocError>
+    requires net { (job : JobTree) × IsNetOf job net.now }
+    requires budget { 0 < budget }
+    ensures answers { IfOk result (λ r. AnswersNet net.now budget r.status r.text.items) }
+    // Where the models are affordable, what isn't done is refused.
+    ensures complete { IsAffordableNet net.now budget → IfOk result (λ r. (r.status ≡ Done) ⊎ (r.status ≡ Document)) }
 {
     match model_of(alloc, net) {
-        Ok(model) => run_model(alloc, net, &model),
-        Err(ModelFault::Unbuilt) => unbuilt(alloc),
+        Ok(mut model) => report_run(alloc, net, &mut model.top, &model.job, budget),
+        Err(ModelFault::Refused(refusal)) => refuse(alloc, &refusal),
         Err(ModelFault::Memory) => Err(AllocError),
     }
 }

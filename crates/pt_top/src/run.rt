@@ -1,25 +1,20 @@
-ghost use Rattle.std.specs.Prelude.{◌≡◌, ◌+◌, ◌↔◌, List, ℕ, length, map, string_bytes, IsTrue, OnOk};
-ghost use Rattle.std.specs.Io.KnownBytes.{Appends, Consumes, IsAtEnd};
+ghost use Rattle.std.specs.Prelude.{◌≡◌, ◌<◌, List, ℕ, map, string_bytes};
+ghost use Rattle.std.specs.Io.KnownBytes.{Consumes, IsAtEnd};
 ghost use Rattle.pt_io.specs.Causes.{Rose};
 ghost use Rattle.pt_top.specs.declared.status.Status.{Status};
-ghost use Rattle.pt_top.specs.Outcome.{IsLine, IsDue, Answers, Tells, IsComplete, limit};
+ghost use Rattle.pt_top.specs.Outcome.{Answers, IsFaultless, IsReported, IsDueFor, IsDue, Tells, IsCompleteFor, IsComplete};
 
 use crate::answer::answer;
 use crate::status::Status;
 use pt_firing::Gate;
 use pt_io::{ReadAll, Sink, Source, read_all, write_all};
+use pt_words::{WordsFault, read};
 use std::alloc::Global;
 use std::sync::Wait;
 use std::thread::Threads;
 
 /// Documents have at most this many bytes.
 const LIMIT: usize = 16_777_216;
-
-fn is_line(words: &[String]) -> bool
-    ensures { IsTrue result ↔ IsLine (map string_bytes words.now) }
-{
-    words.len() == 1 && words[0].as_str() == "run"
-}
 
 /// Writes the text that is due, and tells its status.
 fn finish<K: Sink>(sink: &mut K, status: Status, text: &[u8]) -> Status
@@ -31,20 +26,46 @@ fn finish<K: Sink>(sink: &mut K, status: Status, text: &[u8]) -> Status
     }
 }
 
-/// Answers a document.
-fn finish_document<K: Sink>(alloc: Global, bytes: &[u8], sink: &mut K) -> Status
-    ensures { (due : Status) × (text : List ℕ) × Answers bytes.now due text
+/// Answers a document within a budget.
+fn finish_document<K: Sink>(alloc: Global, bytes: &[u8], budget: u64, sink: &mut K) -> Status
+    requires { 0 < budget }
+    ensures { (due : Status) × (text : List ℕ) × Answers bytes.now budget due text × (IsFaultless bytes.now budget → IsReported due)
         × Tells (K.faults sink.old) (K.faults sink.new) (K.taken sink.old) (K.taken sink.new) due text result }
 {
-    match answer(alloc, bytes) {
+    match answer(alloc, bytes, budget) {
         Ok(reply) => finish(sink, reply.status, &reply.text),
         Err(_) => finish(sink, Status::Memory, b"refused memory\n"),
     }
 }
 
-/// All that the program does: reads a document to its end, runs its model and writes the report, or the line of a refusal.
-/// The words are those of the command line without the program's name. No thread is started yet, so `rt` and `gate` wait
-/// for the directors that use them.
+/// Reads a document to its end and answers it within a budget.
+fn run_document<S: Source, K: Sink>(
+    alloc: Global,
+    budget: u64,
+    source: &mut S,
+    sink: &mut K,
+) -> Status
+    requires { 0 < budget }
+    ensures outcome { (due : Status) × (text bytes : List ℕ)
+        × Consumes (S.left source.old) (S.left source.new) bytes
+        × IsDueFor budget bytes (Rose (S.faults source.old) (S.faults source.new)) (IsAtEnd (S.left source.new)) due text
+        × Tells (K.faults sink.old) (K.faults sink.new) (K.taken sink.old) (K.taken sink.new) due text result }
+    ensures complete { IsCompleteFor budget (S.left source.old)
+        (Rose (S.faults source.old) (S.faults source.new)) (Rose (K.faults sink.old) (K.faults sink.new)) result }
+    ensures read { result ≡ Status.Read → Rose (S.faults source.old) (S.faults source.new) }
+    ensures write { result ≡ Status.Write → Rose (K.faults sink.old) (K.faults sink.new) }
+{
+    match read_all(alloc, source, LIMIT) {
+        Ok(bytes) => finish_document(alloc, &bytes, budget, sink),
+        Err(ReadAll::Failed) => finish(sink, Status::Read, b"refused read\n"),
+        Err(ReadAll::TooLong) => finish(sink, Status::Length, b"refused length\n"),
+        Err(ReadAll::Memory) => finish(sink, Status::Memory, b"refused memory\n"),
+    }
+}
+
+/// All that the program does: reads a document to its end, runs its model within the budget that the words give and writes
+/// the report, or the line of a refusal. The words are those of the command line without the program's name. No thread is
+/// started yet, so `rt` and `gate` wait for the directors that use them.
 pub fn run_program<R: Threads + Wait + Sync, S: Source, K: Sink, G: Gate + Sync>(
     _rt: &R,
     alloc: Global,
@@ -58,20 +79,15 @@ pub fn run_program<R: Threads + Wait + Sync, S: Source, K: Sink, G: Gate + Sync>
         × Consumes (S.left source.old) (S.left source.new) bytes
         × IsDue (map string_bytes words.now) bytes (Rose (S.faults source.old) (S.faults source.new)) (IsAtEnd (S.left source.new)) due text
         × Tells (K.faults sink.old) (K.faults sink.new) (K.taken sink.old) (K.taken sink.new) due text result }
-    // A document that is accepted and built, and whose meaning has no stuck place, has its report, unless memory or a device fails.
+    // A document that isn't refused, and whose model is never stuck and stays below the budget, has its report, unless memory or a device fails.
     ensures complete { IsComplete (map string_bytes words.now) (S.left source.old)
         (Rose (S.faults source.old) (S.faults source.new)) (Rose (K.faults sink.old) (K.faults sink.new)) result }
     // Reading or writing is told to have failed only where it did.
     ensures read { result ≡ Status.Read → Rose (S.faults source.old) (S.faults source.new) }
     ensures write { result ≡ Status.Write → Rose (K.faults sink.old) (K.faults sink.new) }
 {
-    if !is_line(words) {
-        return finish(sink, Status::Words, b"refused words\n");
-    }
-    match read_all(alloc, source, LIMIT) {
-        Ok(bytes) => finish_document(alloc, &bytes, sink),
-        Err(ReadAll::Failed) => finish(sink, Status::Read, b"refused read\n"),
-        Err(ReadAll::TooLong) => finish(sink, Status::Length, b"refused length\n"),
-        Err(ReadAll::Memory) => finish(sink, Status::Memory, b"refused memory\n"),
+    match read(words) {
+        Ok(asked) => run_document(alloc, asked.budget, source, sink),
+        Err(WordsFault::Refused) => finish(sink, Status::Words, b"refused words\n"),
     }
 }

@@ -1,4 +1,0 @@
-pub mod Actors
-pub mod Model
-pub mod Turns
-pub mod Run
