@@ -1,5 +1,5 @@
 -- How many tokens a firing gives on each output: none, or as many as its rate.
-use Rattle.std.proofs.Common.{◌≡◌, ℕ, zero, suc, ◌≤◌, List, [], ◌∷◌, length, map, replicate, nat_eq, nat_le, Bool, true, false, not, ◌&&◌, ◌⊎◌, inl, inr, Option, Some, None, ℤ, pos, negsuc, refl, sym, ap, subst, ◌∙◌, slice_get, arith, if◌then◌else◌}
+use Rattle.std.proofs.Common.{◌≡◌, ℕ, zero, suc, List, [], ◌∷◌, length, map, replicate, nat_eq, nat_le, Bool, true, false, not, ◌&&◌, ◌⊎◌, inl, inr, Option, Some, None, ℤ, pos, negsuc, refl, ap, subst, ◌∙◌, arith, if◌then◌else◌}
 use Rattle.std.specs.Prelude.{option_map, int_le, unsigned_abs, nat_lt, codes, chars, take, ◌^◌}
 use Rattle.std.specs.List.{AllByRecursion}
 use Rattle.std.proofs.lemmas.Bool.{eqb-true, leb-true}
@@ -35,7 +35,7 @@ use Rattle.pt_lib_data.specs.RecordDisassembler as record_disassembler
 use Rattle.pt_lib_data.specs.SequenceToArray as sequence_to_array
 use Rattle.pt_lib_data.specs.StringLength as string_length
 use Rattle.pt_lib_data.specs.Function as function
-use Rattle.pt_lib_data.specs.DataActor.{rates, step, with_needs, start_in, started_as, start}
+use Rattle.pt_lib_data.specs.DataActor.{rates, step, with_needs, start_in, start}
 use Rattle.pt_lib_data.specs.Laws.{IsRate, AreGiven}
 use Rattle.pt_lib_data.proofs.Steadiness.{as-answered}
 
