@@ -2,12 +2,9 @@
 use Rattle.std.proofs.Common.{◌≡◌, ℕ, List, [], ◌∷◌, ◌++◌, map, refl, sym, ap, subst, ◌∙◌, true}
 use Rattle.pt_meaning.specs.Tree as tree
 use Rattle.pt_graph.specs.declared.net.Net.{Net}
-use Rattle.pt_lib_flow.specs.declared.flow_actor.FlowActor.{FlowActor}
-use Rattle.std.specs.Prelude.{IfSome}
-use Rattle.pt_lib_flow.specs.FlowActor.{rate}
-use Rattle.pt_lib_flow.specs.Rates.{IsCount}
-use Rattle.pt_node.specs.declared.library.LibraryActor.TheVariants.{Flow}
-use Rattle.pt_node.specs.Live.{IsSteadyActor}
+use Rattle.pt_library.specs.declared.library_actor.LibraryActor.{LibraryActor}
+use Rattle.pt_library.specs.Laws.{IsRatedActor}
+use Rattle.pt_library.specs.Steady.{IsSteadyActor}
 use Rattle.pt_node.specs.Recorded.{RecordedPort}
 use Rattle.pt_node.specs.Shown.{Shown}
 use Rattle.pt_node.specs.View.{Tree, node_of}
@@ -41,7 +38,7 @@ recorded-empty f none [] = tt
 recorded-empty f none (n ∷ ns) = ((none n).0, (none n).1, recorded-empty f none ns)
 
 -- the node of a library actor is fresh
-pub actor-fresh : (a : FlowActor) (path : List ℕ) (records : List RecordedPort) → IsSteadyActor (Flow a) → IfSome (rate a) IsCount → AreEmpty records → IsFresh (actor_node a path records)
+pub actor-fresh : (a : LibraryActor) (path : List ℕ) (records : List RecordedPort) → IsSteadyActor a → IsRatedActor a → AreEmpty records → IsFresh (actor_node a path records)
 actor-fresh a path records steady rated empty = record {
   live = refl;
   fit = (tt, tt);

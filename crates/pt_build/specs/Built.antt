@@ -8,15 +8,14 @@ use Rattle.pt_moml.specs.declared.refusal.Refusal.{Refusal}
 use Rattle.pt_graph.specs.declared.net.Net.{Net}
 use Rattle.pt_graph.specs.declared.net.NetEntity.{NetEntity}
 use Rattle.pt_wiring.specs.Inside.{children_of, AreInsides}
-use Rattle.pt_lib_flow.specs.declared.flow_actor.FlowActor.{FlowActor}
-use Rattle.pt_lib_flow.specs.FlowActor.{is_steady}
+use Rattle.pt_library.specs.declared.library_actor.LibraryActor.{LibraryActor}
+use Rattle.pt_library.specs.LibraryActor.{is_steady}
 use Rattle.pt_plan.specs.declared.inside.Inside.{Inside}
 use Rattle.pt_plan.specs.declared.planning.PlanFault.{PlanFault}
 use Rattle.pt_plan.specs.declared.planning.PlanFault.TheVariants as plan_fault
 use Rattle.pt_plan.specs.Fault.{FaultStands}
 use Rattle.pt_node.specs.declared.body.Body.TheVariants as body
 use Rattle.pt_node.specs.declared.body.Held.{Held}
-use Rattle.pt_node.specs.declared.library.LibraryActor.TheVariants.{Flow}
 use Rattle.pt_node.specs.Recorded.{RecordedPort}
 use Rattle.pt_node.specs.Shown.{Shown, Branch, none}
 use Rattle.pt_build.specs.declared.building.BuildFault.{BuildFault}
@@ -34,12 +33,12 @@ abbrev pub held_node : Held → (path : List ℕ) → List RecordedPort → Show
 held_node held path records = Branch (record { past = tree.unfired; body = body.Actor held; records = records; path = path; live = true }) none
 
 -- a node of a library actor, as it starts
-abbrev pub actor_node : FlowActor → (path : List ℕ) → List RecordedPort → Shown
-actor_node a path records = held_node (record { start = Flow a; actor = Flow a }) path records
+abbrev pub actor_node : LibraryActor → (path : List ℕ) → List RecordedPort → Shown
+actor_node a path records = held_node (record { start = a; actor = a }) path records
 
 mutual
   pub data IsBuilt (net : Net) (starts : Starts) : ℕ → Shown → Type 0 where
-    built_actor : (k : ℕ) (e : NetEntity) (a : FlowActor) → IsEntity net k e → IsUndirected e → StartsAs starts k a → IsBuilt net starts k (actor_node a e.path (recorded_of net k e))
+    built_actor : (k : ℕ) (e : NetEntity) (a : LibraryActor) → IsEntity net k e → IsUndirected e → StartsAs starts k a → IsBuilt net starts k (actor_node a e.path (recorded_of net k e))
     built_sdf : (k : ℕ) (e : NetEntity) (kids : List Shown) (s : Shown) → IsEntity net k e → IsSdf e → AreBuilt net starts (children_of net.entities.items k) kids →
         IsComposite (around_in net k e) kids e.path (recorded_of net k e) s → IsBuilt net starts k s
 
@@ -81,8 +80,8 @@ pub record IsRefused (net : Net) (starts : Starts) (r : Refusal) : Type 0 where
 pub data IsUnbuilt (net : Net) (starts : Starts) : Type 0 where
   absent : ((e : NetEntity) → IsEntity net 0 e → ⊥) → IsUnbuilt net starts
   other_director : (k : ℕ) (e : NetEntity) → IsEntity net k e → (IsUndirected e → ⊥) → is_sdf e ≡ false → IsUnbuilt net starts
-  unstarted : (k : ℕ) (e : NetEntity) → IsEntity net k e → IsUndirected e → ((a : FlowActor) → StartsAs starts k a → ⊥) → IsUnbuilt net starts
-  unsteady : (k : ℕ) (e : NetEntity) (a : FlowActor) → IsEntity net k e → IsUndirected e → StartsAs starts k a → is_steady a ≡ false → IsUnbuilt net starts
+  unstarted : (k : ℕ) (e : NetEntity) → IsEntity net k e → IsUndirected e → ((a : LibraryActor) → StartsAs starts k a → ⊥) → IsUnbuilt net starts
+  unsteady : (k : ℕ) (e : NetEntity) (a : LibraryActor) → IsEntity net k e → IsUndirected e → StartsAs starts k a → is_steady a ≡ false → IsUnbuilt net starts
   malformed : (k : ℕ) (e : NetEntity) (kids : List Shown) → IsEntity net k e → IsSdf e → AreBuilt net starts (children_of net.entities.items k) kids → (HasInside (around_in net k e) (trees_of kids) → ⊥) → IsUnbuilt net starts
   deep : (k : ℕ) → IsNested net k 32 → IsUnbuilt net starts
 

@@ -7,13 +7,12 @@ use Rattle.pt_graph.specs.declared.net.Net.{Net}
 use Rattle.pt_graph.specs.declared.net.NetDirector.{NetDirector}
 use Rattle.pt_graph.specs.declared.net.NetEntity.{NetEntity}
 use Rattle.pt_wiring.specs.Inside.{children_of, place_count, source_of, channels_in, is_input, is_output}
-use Rattle.pt_lib_flow.specs.declared.flow_actor.FlowActor.{FlowActor}
+use Rattle.pt_library.specs.declared.library_actor.LibraryActor.{LibraryActor}
 use Rattle.pt_lib_flow.specs.declared.params.Params.{Params}
-use Rattle.pt_lib_flow.specs.FlowActor.{start}
+use Rattle.pt_library.specs.LibraryActor.{start}
 use Rattle.pt_plan.specs.declared.inside.Inside.{Inside}
 use Rattle.pt_plan.specs.PlanOf.{IsPlanOf}
-use Rattle.pt_node.specs.declared.library.LibraryActor.TheVariants.{Flow}
-use Rattle.pt_node.specs.LibraryActor.{rows}
+use Rattle.pt_library.specs.LibraryActor.{rows}
 use Rattle.pt_node.specs.View.{Tree}
 use Rattle.pt_composite.specs.Around.{Around, IsInsideOf}
 
@@ -51,24 +50,24 @@ around_in net k e = record {
 
 -- Which actor each entity starts as.
 abbrev pub Starts : Type 0
-Starts = List (Option FlowActor)
+Starts = List (Option LibraryActor)
 
 -- the entity of that number starts as this actor
-abbrev pub StartsAs : Starts → ℕ → FlowActor → Type 0
+abbrev pub StartsAs : Starts → ℕ → LibraryActor → Type 0
 StartsAs starts k a = slice_get starts k ≡ Some (Some a)
 
 -- each of these actors is one that parameters start
 abbrev pub AreStarted : Starts → Type 0
-AreStarted starts = (k : ℕ) (a : FlowActor) → StartsAs starts k a → (params : Params) × (start params ≡ Some a)
+AreStarted starts = (k : ℕ) (a : LibraryActor) → StartsAs starts k a → (params : Params) × (start params ≡ Some a)
 
 -- This is the tree of the entity of that number, at its start. A library actor is as it starts. A composite of SDF is around the trees of its children in the order
 -- of the document, its plan is that of its inside, and its channels hold the first tokens.
 mutual
-  pub data IsTree (net : Net) (IsStart : ℕ → FlowActor → Type 0) : ℕ → Tree → Type 0 where
-    of_actor : (k : ℕ) (e : NetEntity) (a : FlowActor) → IsEntity net k e → IsUndirected e → IsStart k a → IsTree net IsStart k (tree.actor (Flow a))
+  pub data IsTree (net : Net) (IsStart : ℕ → LibraryActor → Type 0) : ℕ → Tree → Type 0 where
+    of_actor : (k : ℕ) (e : NetEntity) (a : LibraryActor) → IsEntity net k e → IsUndirected e → IsStart k a → IsTree net IsStart k (tree.actor a)
     of_sdf : (k : ℕ) (e : NetEntity) (kids : List Tree) (x : Inside) (p : SdfPlan) → IsEntity net k e → IsSdf e → AreTrees net IsStart (children_of net.entities.items k) kids →
         IsInsideOf (around_in net k e) kids x → IsPlanOf x p → IsTree net IsStart k (tree.composite (tree.Sdf p (first_held rows kids p.net.sources)) kids)
 
-  pub data AreTrees (net : Net) (IsStart : ℕ → FlowActor → Type 0) : List ℕ → List Tree → Type 0 where
+  pub data AreTrees (net : Net) (IsStart : ℕ → LibraryActor → Type 0) : List ℕ → List Tree → Type 0 where
     no_trees : AreTrees net IsStart [] []
     more_trees : (k : ℕ) (ks : List ℕ) (t : Tree) (ts : List Tree) → IsTree net IsStart k t → AreTrees net IsStart ks ts → AreTrees net IsStart (k ∷ ks) (t ∷ ts)

@@ -1,8 +1,7 @@
 ghost use Rattle.std.specs.Prelude.{◌≡◌, ◌≤◌, ◌<◌, IfOk, IfSome, IfNone, Some, None, true, false, slice_get};
-ghost use Rattle.pt_node.specs.declared.library.LibraryActor.TheVariants.{Flow};
 ghost use Rattle.pt_node.specs.Shown.{shown_node};
 ghost use Rattle.pt_build.specs.Trees.{is_sdf, IsUndirected, StartsAs};
-ghost use Rattle.pt_lib_flow.specs.declared.flow_actor.FlowActor.{FlowActor};
+ghost use Rattle.pt_library.specs.declared.library_actor.LibraryActor.{LibraryActor};
 ghost use Rattle.pt_build.specs.Built.{IsToldAs, held_node};
 
 use crate::building::BuildFault;
@@ -12,9 +11,9 @@ use crate::wiring::{inputs_of, narrow_sources, outputs_of};
 use pt_composite::{CompositeFault, Wiring, composite};
 use pt_firing::{Counts, Fires};
 use pt_graph::{Net, NetEntity};
-use pt_lib_flow::FlowActor;
+use pt_library::LibraryActor;
 use pt_moml::{Code, Refusal};
-use pt_node::{Body, Held, LibraryActor, Node, Past, Records};
+use pt_node::{Body, Held, Node, Past, Records};
 use pt_plan::PlanFault;
 use pt_value::Text;
 use pt_wiring::{Insides, Numbers};
@@ -27,7 +26,7 @@ const MOST_LEVELS: u32 = 32;
 #[derive(Drop)]
 pub(crate) struct Builder<'a> {
     net: &'a Net,
-    starts: &'a [Option<FlowActor>],
+    starts: &'a [Option<LibraryActor>],
     insides: Insides,
     records: Vec<Numbers>,
 }
@@ -44,9 +43,9 @@ fn entity_in(entities: &[NetEntity], k: usize) -> Option<&NetEntity>
 }
 
 /// The actor that the entity of that number starts as, if there is one.
-fn start_in(starts: &[Option<FlowActor>], k: usize) -> Option<&FlowActor>
+fn start_in(starts: &[Option<LibraryActor>], k: usize) -> Option<&LibraryActor>
     ensures some { IfSome result (λ actor. StartsAs starts.now k actor.now) }
-    ensures none { IfNone result ((a : FlowActor) → StartsAs starts.now k a → ⊥) }
+    ensures none { IfNone result ((a : LibraryActor) → StartsAs starts.now k a → ⊥) }
 {
     match starts.get(k) {
         Some(Some(actor)) => Some(actor),
@@ -106,12 +105,12 @@ fn fault_at(alloc: Global, fault: CompositeFault, path: &Text) -> BuildFault
 }
 
 /// An actor beside its start.
-fn held_of(alloc: Global, actor: &FlowActor) -> Result<Held, AllocError>
-    ensures { IfOk result (λ held. held ≡ record { start = Flow actor.now; actor = Flow actor.now }) }
+fn held_of(alloc: Global, actor: &LibraryActor) -> Result<Held, AllocError>
+    ensures { IfOk result (λ held. held ≡ record { start = actor.now; actor = actor.now }) }
 {
     Ok(Held {
-        start: LibraryActor::Flow(actor.copy(alloc)?),
-        actor: LibraryActor::Flow(actor.copy(alloc)?),
+        start: actor.copy(alloc)?,
+        actor: actor.copy(alloc)?,
     })
 }
 
@@ -134,7 +133,7 @@ fn actor_node(alloc: Global, held: Held, path: Text, records: Records) -> Node
 
 impl<'a> Builder<'a> {
     ghost use Rattle.std.specs.Prelude.{◌≡◌, ℕ, ◌<◌, IfOk, IfErr, length, map, true};
-    ghost use Rattle.pt_lib_flow.specs.FlowActor.{is_steady};
+    ghost use Rattle.pt_library.specs.LibraryActor.{is_steady};
     ghost use Rattle.pt_wiring.specs.Inside.{children_of};
     ghost use Rattle.pt_node.specs.Shown.{shown, shown_node};
     ghost use Rattle.pt_composite.specs.Around.{around_of};
@@ -146,7 +145,7 @@ impl<'a> Builder<'a> {
     pub(crate) fn of(
         alloc: Global,
         net: &'a Net,
-        starts: &'a [Option<FlowActor>],
+        starts: &'a [Option<LibraryActor>],
     ) -> Result<Builder<'a>, AllocError>
         ensures { IfOk result (λ b. (b.net.now ≡ net.now) × (b.starts.now ≡ starts.now) × IsPrepared b) }
     {
@@ -187,7 +186,7 @@ impl<'a> Builder<'a> {
         alloc: Global,
         k: usize,
         entity: &NetEntity,
-        actor: &FlowActor,
+        actor: &LibraryActor,
     ) -> Result<Node, AllocError>
         requires prepared { IsPrepared self.now }
         requires started { AreStarted self.now.starts.now }

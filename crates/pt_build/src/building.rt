@@ -8,7 +8,7 @@ ghost use Rattle.pt_build.specs.declared.building.BuildFault.TheVariants as faul
 
 use crate::builder::Builder;
 use pt_graph::Net;
-use pt_lib_flow::FlowActor;
+use pt_library::LibraryActor;
 use pt_moml::Refusal;
 use pt_node::Node;
 use std::alloc::{AllocError, AllocFailed, Global};
@@ -44,7 +44,7 @@ impl<T: Drop> From<AllocFailed<T>> for BuildFault {
 }
 
 /// The tree of a net at its start, whose library actors start as these by the numbers of their entities.
-pub fn build(alloc: Global, net: &Net, starts: &[Option<FlowActor>]) -> Result<Node, BuildFault>
+pub fn build(alloc: Global, net: &Net, starts: &[Option<LibraryActor>]) -> Result<Node, BuildFault>
     requires { AreStarted starts.now }
     ensures tree { IfOk result (λ node. IsTree net.now (StartsAs starts.now) 0 (node_of (shown_node node))) }
     ensures built { IfOk result (λ node. IsBuilt net.now starts.now 0 (shown_node node)) }

@@ -23,7 +23,7 @@ use Rattle.pt_plan.specs.Inside.{IsInside}
 use Rattle.pt_plan.specs.PlanOf.{IsPlanOf}
 use Rattle.pt_node.specs.declared.body.Body.TheVariants as body
 use Rattle.pt_node.specs.declared.director.Director.TheVariants as director
-use Rattle.pt_node.specs.LibraryActor.{rows}
+use Rattle.pt_library.specs.LibraryActor.{rows}
 use Rattle.pt_node.specs.Recorded.{RecordedPort}
 use Rattle.pt_node.specs.Shown.{Shown, AllShown, Branch, Frame, all_of, list_of}
 use Rattle.pt_node.specs.View.{Tree, node_of, nodes_of}

@@ -10,7 +10,7 @@ use Rattle.pt_meaning.specs.Tree as tree
 use Rattle.pt_value.specs.declared.token.Token.{Token}
 use Rattle.pt_sdf.specs.declared.plan.Source.{Source}
 use Rattle.pt_sdf.specs.Plan.{source_of}
-use Rattle.pt_node.specs.LibraryActor.{rows}
+use Rattle.pt_library.specs.LibraryActor.{rows}
 use Rattle.pt_node.specs.declared.node.Node.{Node}
 use Rattle.pt_node.specs.Shown.{Shown, shown, shown_node}
 use Rattle.pt_node.proofs.Link.{shown-node}

@@ -7,7 +7,7 @@ use Rattle.pt_meaning.specs.Machine.{Counts}
 use Rattle.pt_meaning.specs.NodeFacts.{facts_of}
 use Rattle.pt_meaning.specs.Running.{total}
 use Rattle.pt_sdf.specs.ByNeed.{needs_of, planned}
-use Rattle.pt_node.specs.LibraryActor.{rows}
+use Rattle.pt_library.specs.LibraryActor.{rows}
 use Rattle.pt_node.specs.declared.node.Node.{Node}
 use Rattle.pt_node.specs.Shown.{Shown, shown, shown_node}
 use Rattle.pt_node.specs.View.{Tree, node_of}

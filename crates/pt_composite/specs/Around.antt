@@ -8,7 +8,7 @@ use Rattle.pt_sdf.specs.ByNeed.{needs_of, planned}
 use Rattle.pt_sdf.specs.Plan.{source_of}
 use Rattle.pt_plan.specs.declared.inside.Inside.{Inside}
 use Rattle.pt_plan.specs.Inside.{IsInside}
-use Rattle.pt_node.specs.LibraryActor.{rows}
+use Rattle.pt_library.specs.LibraryActor.{rows}
 use Rattle.pt_node.specs.View.{Tree}
 use Rattle.pt_composite.specs.declared.wiring.Wiring.{Wiring}
 use Rattle.pt_composite.specs.Rates.{HaveRates}

@@ -6,7 +6,7 @@ use Rattle.pt_meaning.specs.Tree as tree
 use Rattle.pt_plan.specs.declared.inside.Inside.{Inside}
 use Rattle.pt_plan.specs.PlanOf.{IsPlanOf}
 use Rattle.pt_plan.specs.Fault.{FaultStands}
-use Rattle.pt_node.specs.LibraryActor.{rows}
+use Rattle.pt_library.specs.LibraryActor.{rows}
 use Rattle.pt_node.specs.Recorded.{RecordedPort}
 use Rattle.pt_node.specs.declared.node.Node.{Node}
 use Rattle.pt_node.specs.Shown.{Shown, Branch, Frame, shown, all_of, list_of}

@@ -1,20 +1,14 @@
 -- How many tokens a node gives in a firing, on each of its outputs.
-use Rattle.std.specs.Prelude.{◌≡◌, ℕ, List, [], ◌∷◌, map, Option, Some, None, IfSome, Vec}
+use Rattle.std.specs.Prelude.{◌≡◌, ℕ, List, [], ◌∷◌, map, Option, Some, None, Vec}
 use Rattle.std.specs.Global.{Global}
 use Rattle.pt_meaning.specs.Tree as tree
 use Rattle.pt_value.specs.declared.token.Token.{Token}
-use Rattle.pt_lib_flow.specs.FlowActor as flow
-use Rattle.pt_lib_flow.specs.Rates.{IsCount}
 use Rattle.pt_node.specs.declared.body.Body.{Body}
 use Rattle.pt_node.specs.declared.body.Body.TheVariants.{Actor, Composite}
-use Rattle.pt_node.specs.declared.library.LibraryActor.{LibraryActor}
-use Rattle.pt_node.specs.declared.library.LibraryActor.TheVariants.{Flow}
+use Rattle.pt_library.specs.LibraryActor as library
+use Rattle.pt_library.specs.Laws.{IsRatedActor}
 use Rattle.pt_node.specs.Shown.{Shown, Branch}
 use Rattle.pt_node.specs.View.{Tree}
-
--- a number for each output of an actor, where it doesn't vary
-abbrev pub actor_rates : LibraryActor → Option (List ℕ)
-actor_rates (Flow actor) = flow.rates actor
 
 -- An SDF composite gives what its plan says for an iteration. Composites of the other directors aren't built.
 abbrev pub core_rates : tree.Core Token → Option (List ℕ)
@@ -25,8 +19,9 @@ core_rates (tree.De p) = None
 core_rates (tree.Rv p X) = None
 core_rates (tree.Modal chart m) = None
 
+-- a number for each output, where it doesn't vary: of a library actor those of its library
 abbrev pub rates_of : Tree → Option (List ℕ)
-rates_of (tree.Actor h a b) = actor_rates b
+rates_of (tree.Actor h a b) = library.rates b
 rates_of (tree.Composite h c d kids) = core_rates d
 
 -- these are the rates of the children
@@ -40,10 +35,7 @@ AreRates kids None = (rates : List (List ℕ)) → HaveRates kids rates → ⊥
 
 -- ---- what is known of rates
 
--- a rate is from 1 to 1,000,000, as that of each actor which is started from parameters
-abbrev pub IsRatedActor : LibraryActor → Type 0
-IsRatedActor (Flow actor) = IfSome (flow.rate actor) IsCount
-
+-- those of an actor are from 1 to 1,000,000, as of each that is started from parameters
 abbrev pub IsRatedBody : Body → Type 0
 IsRatedBody (Actor held) = IsRatedActor held.actor
 IsRatedBody (Composite director) = Unit {0}

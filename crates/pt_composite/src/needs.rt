@@ -2,7 +2,7 @@ ghost use Rattle.std.specs.Prelude.{◌≡◌, ℕ, ◌++◌, ◌+◌, List, Opt
 ghost use Rattle.pt_meaning.specs.NodeFacts.{facts_of};
 ghost use Rattle.pt_meaning.specs.Running.{total};
 ghost use Rattle.pt_sdf.specs.ByNeed.{needs_of, planned};
-ghost use Rattle.pt_node.specs.LibraryActor.{rows};
+ghost use Rattle.pt_library.specs.LibraryActor.{rows};
 ghost use Rattle.pt_node.specs.Shown.{shown, shown_node};
 ghost use Rattle.pt_node.specs.View.{node_of};
 ghost use Rattle.pt_composite.specs.Composite.{trees_of};

@@ -3,7 +3,7 @@ ghost use Rattle.pt_meaning.specs.Start.{first_held, first_of, first_of_node};
 ghost use Rattle.std.specs.Prelude.{Some};
 ghost use Rattle.pt_recv.specs.Lines.{list_at};
 ghost use Rattle.pt_sdf.specs.Plan.{source_of};
-ghost use Rattle.pt_node.specs.LibraryActor.{rows};
+ghost use Rattle.pt_library.specs.LibraryActor.{rows};
 ghost use Rattle.pt_node.specs.Shown.{shown, shown_node};
 ghost use Rattle.pt_node.specs.View.{node_of};
 ghost use Rattle.pt_composite.specs.Around.{first_counts};

@@ -1,4 +1,6 @@
-mod RowLaws
+pub mod RowLaws
 mod Present
 mod Tokens
 mod Assembled
+pub mod Steadiness
+pub mod Giving

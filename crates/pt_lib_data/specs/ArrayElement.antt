@@ -8,7 +8,6 @@ use Rattle.pt_value.specs.declared.token.Token.TheVariants as token
 use Rattle.pt_firing.specs.declared.fault.RunFault.TheVariants.{Index}
 use Rattle.pt_firing.specs.Params.{int_or}
 use Rattle.pt_firing.specs.Row.{token_at}
-use Rattle.pt_lib_data.specs.declared.params.Params.{Params}
 use Rattle.pt_lib_data.specs.Reply.{Reply, Fails, one, nothing}
 
 abbrev pub element : List Value → ℤ → Option Token
@@ -31,5 +30,5 @@ abbrev pub give : ℤ → Streams Token → Reply
 give index X = of_token index (token_at X 0)
 
 -- by its parameter index, else 0
-abbrev pub start : Params → Option ℤ
-start params = int_or (codes "index") (pos 0) params.values
+abbrev pub start : List (List ℕ × Token) → Option ℤ
+start values = int_or (codes "index") (pos 0) values

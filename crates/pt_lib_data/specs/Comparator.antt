@@ -7,7 +7,6 @@ use Rattle.pt_value.specs.declared.token.Token.TheVariants as token
 use Rattle.pt_firing.specs.Row.{number_at}
 use Rattle.pt_lib_data.specs.declared.comparator.Relation.{Relation}
 use Rattle.pt_lib_data.specs.declared.comparator.Relation.TheVariants.{Less, LessEqual, Greater, GreaterEqual, Equal}
-use Rattle.pt_lib_data.specs.declared.params.Params.{Params}
 use Rattle.pt_lib_data.specs.Params.{text_or}
 use Rattle.pt_lib_data.specs.Reply.{Reply, one, nothing}
 
@@ -34,5 +33,5 @@ relation_by None = None
 relation_by (Some text) = relation_of text
 
 -- by its parameter comparison, else the greater
-abbrev pub start : Params → Option Relation
-start params = relation_by (text_or (codes "comparison") (codes ">") params.values)
+abbrev pub start : List (List ℕ × Token) → Option Relation
+start values = relation_by (text_or (codes "comparison") (codes ">") values)

@@ -7,7 +7,6 @@ use Rattle.pt_lib_data.specs.declared.function.Class.{Class}
 use Rattle.pt_lib_data.specs.declared.function.Class.TheVariants as class
 use Rattle.pt_lib_data.specs.declared.function.Function.{Function}
 use Rattle.pt_lib_data.specs.declared.function.Function.TheVariants.{ArrayElement, ArrayToSequence, Comparator, Discard, ElementsToArray, Equals, Limiter, LogicFunction, LogicalNot, RecordAssembler, RecordDisassembler, SequenceToArray, StringLength}
-use Rattle.pt_lib_data.specs.declared.params.Params.{Params}
 use Rattle.pt_lib_data.specs.Reply.{Reply}
 use Rattle.pt_lib_data.specs.ArrayElement as array_element
 use Rattle.pt_lib_data.specs.ArrayToSequence as array_to_sequence
@@ -70,22 +69,38 @@ outputs (RecordDisassembler names) = length names
 outputs (SequenceToArray count) = 1
 outputs StringLength = 1
 
+-- How many tokens a firing gives on each output, where each input has the tokens that it needs, of the types of its row. An ArrayToSequence gives those of an array of its length.
+abbrev pub rates : Function → List ℕ
+rates (ArrayElement index) = 1 ∷ []
+rates (ArrayToSequence count) = count ∷ []
+rates (Comparator relation) = 1 ∷ []
+rates Discard = []
+rates ElementsToArray = 1 ∷ []
+rates Equals = 1 ∷ []
+rates (Limiter range) = 1 ∷ []
+rates (LogicFunction gate) = 1 ∷ []
+rates LogicalNot = 1 ∷ []
+rates (RecordAssembler names) = 1 ∷ []
+rates (RecordDisassembler names) = replicate (length names) 1
+rates (SequenceToArray count) = 1 ∷ []
+rates StringLength = 1 ∷ []
+
 -- the classes by name
 abbrev pub class_of : List ℕ → Option Class
 class_of name = if bytes_eq name (codes "ArrayElement") then Some class.ArrayElement else (if bytes_eq name (codes "ArrayToSequence") then Some class.ArrayToSequence else (if bytes_eq name (codes "Comparator") then Some class.Comparator else (if bytes_eq name (codes "Discard") then Some class.Discard else (if bytes_eq name (codes "ElementsToArray") then Some class.ElementsToArray else (if bytes_eq name (codes "Equals") then Some class.Equals else (if bytes_eq name (codes "Limiter") then Some class.Limiter else (if bytes_eq name (codes "LogicFunction") then Some class.LogicFunction else (if bytes_eq name (codes "LogicalNot") then Some class.LogicalNot else (if bytes_eq name (codes "RecordAssembler") then Some class.RecordAssembler else (if bytes_eq name (codes "RecordDisassembler") then Some class.RecordDisassembler else (if bytes_eq name (codes "SequenceToArray") then Some class.SequenceToArray else (if bytes_eq name (codes "StringLength") then Some class.StringLength else None))))))))))))
 
--- what the parameters start, if they are such as the row of the class has them
-abbrev pub start_as : Class → Params → Option Function
-start_as class.ArrayElement params = option_map ArrayElement (array_element.start params)
-start_as class.ArrayToSequence params = option_map ArrayToSequence (sequence_to_array.start params)
-start_as class.Comparator params = option_map Comparator (comparator.start params)
-start_as class.Discard params = Some Discard
-start_as class.ElementsToArray params = Some ElementsToArray
-start_as class.Equals params = Some Equals
-start_as class.Limiter params = option_map Limiter (limiter.start params)
-start_as class.LogicFunction params = option_map LogicFunction (logic_function.start params)
-start_as class.LogicalNot params = Some LogicalNot
-start_as class.RecordAssembler params = Some (RecordAssembler (names_but (codes "output") params.ports))
-start_as class.RecordDisassembler params = Some (RecordDisassembler (names_but (codes "input") params.ports))
-start_as class.SequenceToArray params = option_map SequenceToArray (sequence_to_array.start params)
-start_as class.StringLength params = Some StringLength
+-- what these parameters start, where so many channels come to each port, if they are such as the row of the class has them
+abbrev pub start_as : Class → List (List ℕ × Token) → List (List ℕ × ℕ) → Option Function
+start_as class.ArrayElement values ports = option_map ArrayElement (array_element.start values)
+start_as class.ArrayToSequence values ports = option_map ArrayToSequence (sequence_to_array.start values)
+start_as class.Comparator values ports = option_map Comparator (comparator.start values)
+start_as class.Discard values ports = Some Discard
+start_as class.ElementsToArray values ports = Some ElementsToArray
+start_as class.Equals values ports = Some Equals
+start_as class.Limiter values ports = option_map Limiter (limiter.start values)
+start_as class.LogicFunction values ports = option_map LogicFunction (logic_function.start values)
+start_as class.LogicalNot values ports = Some LogicalNot
+start_as class.RecordAssembler values ports = Some (RecordAssembler (names_but (codes "output") ports))
+start_as class.RecordDisassembler values ports = Some (RecordDisassembler (names_but (codes "input") ports))
+start_as class.SequenceToArray values ports = option_map SequenceToArray (sequence_to_array.start values)
+start_as class.StringLength values ports = Some StringLength

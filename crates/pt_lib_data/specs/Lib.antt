@@ -18,3 +18,4 @@ pub mod StringLength
 -- The library.
 pub mod Function
 pub mod DataActor
+pub mod Laws

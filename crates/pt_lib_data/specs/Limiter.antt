@@ -6,7 +6,6 @@ use Rattle.pt_value.specs.declared.token.Token.TheVariants as token
 use Rattle.pt_firing.specs.Params.{value_under}
 use Rattle.pt_firing.specs.Row.{number_at}
 use Rattle.pt_lib_data.specs.declared.limiter.Limiter.{Limiter}
-use Rattle.pt_lib_data.specs.declared.params.Params.{Params}
 use Rattle.pt_lib_data.specs.Reply.{Reply, one, on}
 
 abbrev pub nearest : Limiter → ℤ → ℤ
@@ -20,5 +19,5 @@ abbrev pub start_by : Option Token → Option Token → Option Limiter
 start_by (Some (token.Int bottom)) (Some (token.Int top)) = if int_le bottom top then Some (record { bottom = bottom; top = top }) else None
 start_by first second = None
 
-abbrev pub start : Params → Option Limiter
-start params = start_by (value_under (codes "bottom") params.values) (value_under (codes "top") params.values)
+abbrev pub start : List (List ℕ × Token) → Option Limiter
+start values = start_by (value_under (codes "bottom") values) (value_under (codes "top") values)

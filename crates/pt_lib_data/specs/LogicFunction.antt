@@ -6,7 +6,6 @@ use Rattle.pt_value.specs.declared.token.Token.TheVariants as token
 use Rattle.pt_firing.specs.Row.{truth_in}
 use Rattle.pt_lib_data.specs.declared.logic_function.Gate.{Gate}
 use Rattle.pt_lib_data.specs.declared.logic_function.Gate.TheVariants.{And, Or, Xor, Nand, Nor, Xnor}
-use Rattle.pt_lib_data.specs.declared.params.Params.{Params}
 use Rattle.pt_lib_data.specs.Params.{text_or}
 use Rattle.pt_lib_data.specs.Reply.{Reply, one, nothing}
 
@@ -48,5 +47,5 @@ gate_by None = None
 gate_by (Some text) = gate_of text
 
 -- by its parameter function, else and
-abbrev pub start : Params → Option Gate
-start params = gate_by (text_or (codes "function") (codes "and") params.values)
+abbrev pub start : List (List ℕ × Token) → Option Gate
+start values = gate_by (text_or (codes "function") (codes "and") values)

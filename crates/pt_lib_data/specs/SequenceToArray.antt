@@ -3,7 +3,6 @@ use Rattle.std.specs.Prelude.{ℕ, nat_le, pos, unsigned_abs, length, take, List
 use Rattle.pt_meaning.specs.Basics.{Streams, at}
 use Rattle.pt_value.specs.declared.token.Token.{Token}
 use Rattle.pt_firing.specs.Params.{int_within}
-use Rattle.pt_lib_data.specs.declared.params.Params.{Params}
 use Rattle.pt_lib_data.specs.ElementsToArray.{array_of}
 use Rattle.pt_lib_data.specs.Reply.{Reply, nothing, sized}
 
@@ -11,8 +10,5 @@ abbrev pub give : ℕ → Streams Token → Reply
 give count X = if nat_le count (length (at X 0)) then sized (array_of (take count (at X 0))) else nothing
 
 -- a length from 1 to 1,000,000
-abbrev pub length_in : List (List ℕ × Token) → Option ℕ
-length_in values = option_map unsigned_abs (int_within (codes "arrayLength") (pos 1) (pos 1) (pos 1000000) values)
-
-abbrev pub start : Params → Option ℕ
-start params = length_in params.values
+abbrev pub start : List (List ℕ × Token) → Option ℕ
+start values = option_map unsigned_abs (int_within (codes "arrayLength") (pos 1) (pos 1) (pos 1000000) values)

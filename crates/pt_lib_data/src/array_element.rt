@@ -4,17 +4,16 @@ ghost use Rattle.pt_value.specs.Token.{token_of};
 ghost use Rattle.pt_lib_data.specs.Reply.{Tells};
 ghost use Rattle.pt_lib_data.specs.ArrayElement as array_element;
 
-use crate::params::Params;
 use crate::reply::{nothing, one};
-use pt_firing::{Inputs, RunFault, Step};
+use pt_firing::{Inputs, RunFault, Step, Values};
 use pt_value::{Items, Token};
 use std::alloc::Global;
 
 /// The index that the parameters say.
-pub(crate) fn start(params: &Params) -> Option<i64>
-    ensures { result ≡ array_element.start params.now }
+pub(crate) fn start(values: &Values) -> Option<i64>
+    ensures { result ≡ array_element.start values.now }
 {
-    params.values.int_or("index", 0)
+    values.int_or("index", 0)
 }
 
 fn nth(items: &Items, place: usize) -> Option<&Token>

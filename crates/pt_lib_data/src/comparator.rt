@@ -2,9 +2,9 @@ ghost use Rattle.std.specs.Prelude.{◌≡◌};
 ghost use Rattle.pt_lib_data.specs.Reply.{Tells};
 ghost use Rattle.pt_lib_data.specs.Comparator as comparator;
 
-use crate::params::{Params, text_or};
+use crate::params::text_or;
 use crate::reply::{nothing, one};
-use pt_firing::{Inputs, Step};
+use pt_firing::{Inputs, Step, Values};
 use pt_value::Token;
 
 /// `Comparator`: how its left input is compared with its right one.
@@ -32,10 +32,10 @@ impl Relation {
     }
 
     /// The relation that the parameters say, if they are such as the row has them.
-    pub(crate) fn start(params: &Params) -> Option<Relation>
-        ensures { result ≡ comparator.start params.now }
+    pub(crate) fn start(values: &Values) -> Option<Relation>
+        ensures { result ≡ comparator.start values.now }
     {
-        match text_or(&params.values, "comparison", ">") {
+        match text_or(values, "comparison", ">") {
             Some(text) => Relation::of(text),
             None => None,
         }

@@ -1,9 +1,9 @@
 ghost use Rattle.std.specs.Prelude.{◌≡◌, Some, IsSome, IfOk};
+ghost use Rattle.pt_lib_data.specs.DataActor as data_actor;
 ghost use Rattle.pt_lib_data.specs.DataActor.{start, started_as};
 
 use crate::function::{Class, Function};
-use crate::params::Params;
-use pt_firing::{Actor, Counts, Fires, Inputs, Need, Partial, Step, strict_early};
+use pt_firing::{Actor, Counts, Fires, Inputs, Need, Partial, Ports, Step, Values, strict_early};
 use pt_time::Tag;
 use pt_value::Token;
 use std::alloc::{AllocError, Global};
@@ -16,12 +16,18 @@ pub struct DataActor {
 }
 
 impl DataActor {
-    /// The actor that the parameters start, if the class is one of this library and they are such as its row has them.
-    pub fn started(alloc: Global, params: &Params) -> Result<Option<DataActor>, AllocError>
-        ensures { IfOk result (λ actor. actor ≡ start params.now) }
+    /// The actor of a class that these parameters start, where so many channels come to each port, if the class is one of this
+    /// library and they are such as its row has them. Of the parameters one that is taken as it is written is a text.
+    pub fn started(
+        alloc: Global,
+        class: &str,
+        values: &Values,
+        ports: &Ports,
+    ) -> Result<Option<DataActor>, AllocError>
+        ensures { IfOk result (λ actor. actor ≡ start class.now values.now ports.now) }
     {
-        match Class::of(params.class.as_str()) {
-            Some(class) => DataActor::started_as(alloc, class, params),
+        match Class::of(class) {
+            Some(class) => DataActor::started_as(alloc, class, values, ports),
             None => Ok(None),
         }
     }
@@ -29,14 +35,15 @@ impl DataActor {
     fn started_as(
         alloc: Global,
         class: Class,
-        params: &Params,
+        values: &Values,
+        ports: &Ports,
     ) -> Result<Option<DataActor>, AllocError>
-        ensures { IfOk result (λ actor. actor ≡ started_as class params.now) }
+        ensures { IfOk result (λ actor. actor ≡ started_as class values.now ports.now) }
     {
-        let Some(function) = Function::start(alloc, class, params)? else {
+        let Some(function) = Function::start(alloc, class, values, ports)? else {
             return Ok(None);
         };
-        let needed = function.needed(alloc, params.ports.channels("input"))?;
+        let needed = function.needed(alloc, ports.channels("input"))?;
         Ok(Some(DataActor { function, needed }))
     }
 
@@ -46,9 +53,21 @@ impl DataActor {
     {
         self.function.outputs()
     }
-}
 
-ghost use Rattle.pt_lib_data.specs.DataActor as data_actor;
+    /// How many tokens a firing gives on each output, where each input has the tokens that it needs, of the types of its row.
+    pub fn rates(&self, alloc: Global) -> Result<Counts, AllocError>
+        ensures { IfOk result (λ rates. rates ≡ data_actor.rates self.now) }
+    {
+        self.function.rates(alloc)
+    }
+
+    /// Whether it needs the same at each firing. Each of these actors does.
+    pub fn is_steady(&self) -> bool
+        ensures { result ≡ data_actor.is_steady self.now }
+    {
+        true
+    }
+}
 
 impl Fires for DataActor {
     ghost use Rattle.pt_lib_data.specs.DataActor as data_actor;

@@ -5,13 +5,12 @@ ghost use Rattle.pt_lib_data.specs.Function as function;
 use crate::comparator::Relation;
 use crate::limiter::Limiter;
 use crate::logic_function::Gate;
-use crate::params::Params;
 use crate::places::{one_each, so_many};
 use crate::{
     array_element, array_to_sequence, discard, elements_to_array, equals, logical_not,
     record_assembler, record_disassembler, sequence_to_array, string_length,
 };
-use pt_firing::{Counts, Inputs, Names, Step};
+use pt_firing::{Counts, Inputs, Names, Ports, Step, Values};
 use std::alloc::{AllocError, Global};
 
 /// The classes of this library.
@@ -78,29 +77,30 @@ impl Function {
     pub(crate) fn start(
         alloc: Global,
         class: Class,
-        params: &Params,
+        values: &Values,
+        ports: &Ports,
     ) -> Result<Option<Function>, AllocError>
-        ensures { IfOk result (λ f. f ≡ function.start_as class params.now) }
+        ensures { IfOk result (λ f. f ≡ function.start_as class values.now ports.now) }
     {
         Ok(match class {
-            Class::ArrayElement => array_element::start(params).map(Function::ArrayElement),
-            Class::ArrayToSequence => sequence_to_array::start(params).map(
+            Class::ArrayElement => array_element::start(values).map(Function::ArrayElement),
+            Class::ArrayToSequence => sequence_to_array::start(values).map(
                 Function::ArrayToSequence,
             ),
-            Class::Comparator => Relation::start(params).map(Function::Comparator),
+            Class::Comparator => Relation::start(values).map(Function::Comparator),
             Class::Discard => Some(Function::Discard),
             Class::ElementsToArray => Some(Function::ElementsToArray),
             Class::Equals => Some(Function::Equals),
-            Class::Limiter => Limiter::start(params).map(Function::Limiter),
-            Class::LogicFunction => Gate::start(params).map(Function::LogicFunction),
+            Class::Limiter => Limiter::start(values).map(Function::Limiter),
+            Class::LogicFunction => Gate::start(values).map(Function::LogicFunction),
             Class::LogicalNot => Some(Function::LogicalNot),
-            Class::RecordAssembler => Some(Function::RecordAssembler(
-                params.ports.names_but(alloc, "output")?,
-            )),
-            Class::RecordDisassembler => Some(Function::RecordDisassembler(
-                params.ports.names_but(alloc, "input")?,
-            )),
-            Class::SequenceToArray => sequence_to_array::start(params).map(
+            Class::RecordAssembler => Some(Function::RecordAssembler(ports.names_but(
+                alloc, "output",
+            )?)),
+            Class::RecordDisassembler => Some(Function::RecordDisassembler(ports.names_but(
+                alloc, "input",
+            )?)),
+            Class::SequenceToArray => sequence_to_array::start(values).map(
                 Function::SequenceToArray,
             ),
             Class::StringLength => Some(Function::StringLength),
@@ -146,6 +146,27 @@ impl Function {
             | Function::RecordAssembler(_)
             | Function::SequenceToArray(_)
             | Function::StringLength => 1,
+        }
+    }
+
+    /// How many tokens a firing gives on each output.
+    pub(crate) fn rates(&self, alloc: Global) -> Result<Counts, AllocError>
+        ensures { IfOk result (λ rates. rates ≡ function.rates self.now) }
+    {
+        match self {
+            Function::ArrayToSequence(length) => so_many(alloc, *length),
+            Function::Discard => one_each(alloc, 0),
+            Function::RecordDisassembler(names) => one_each(alloc, names.len()),
+            Function::ArrayElement(_)
+            | Function::Comparator(_)
+            | Function::ElementsToArray
+            | Function::Equals
+            | Function::Limiter(_)
+            | Function::LogicFunction(_)
+            | Function::LogicalNot
+            | Function::RecordAssembler(_)
+            | Function::SequenceToArray(_)
+            | Function::StringLength => one_each(alloc, 1),
         }
     }
 

@@ -2,9 +2,8 @@ ghost use Rattle.std.specs.Prelude.{◌≡◌};
 ghost use Rattle.pt_lib_data.specs.Reply.{Tells};
 ghost use Rattle.pt_lib_data.specs.Limiter as limiter;
 
-use crate::params::Params;
 use crate::reply::{nothing, one};
-use pt_firing::{Inputs, Step};
+use pt_firing::{Inputs, Step, Values};
 use pt_value::Token;
 
 /// `Limiter`: the range to which it brings its input.
@@ -16,12 +15,12 @@ pub struct Limiter {
 
 impl Limiter {
     /// The range that the parameters say, if they are such as the row has them.
-    pub(crate) fn start(params: &Params) -> Option<Limiter>
-        ensures { result ≡ limiter.start params.now }
+    pub(crate) fn start(values: &Values) -> Option<Limiter>
+        ensures { result ≡ limiter.start values.now }
     {
         let (Some(Token::Int(bottom)), Some(Token::Int(top))) = (
-            params.values.get("bottom"),
-            params.values.get("top"),
+            values.get("bottom"),
+            values.get("top"),
         ) else {
             return None;
         };

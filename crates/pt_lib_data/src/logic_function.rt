@@ -2,9 +2,9 @@ ghost use Rattle.std.specs.Prelude.{◌≡◌, ◌≤◌, ◌<◌, ◌+◌, ◌^
 ghost use Rattle.pt_lib_data.specs.Reply.{Tells};
 ghost use Rattle.pt_lib_data.specs.LogicFunction as logic_function;
 
-use crate::params::{Params, text_or};
+use crate::params::text_or;
 use crate::reply::{nothing, one};
-use pt_firing::{Inputs, Step};
+use pt_firing::{Inputs, Step, Values};
 use pt_value::Token;
 
 /// `LogicFunction`: what it makes of its present inputs.
@@ -74,10 +74,10 @@ impl Gate {
     }
 
     /// The gate that the parameters say, if they are such as the row has them.
-    pub(crate) fn start(params: &Params) -> Option<Gate>
-        ensures { result ≡ logic_function.start params.now }
+    pub(crate) fn start(values: &Values) -> Option<Gate>
+        ensures { result ≡ logic_function.start values.now }
     {
-        match text_or(&params.values, "function", "and") {
+        match text_or(values, "function", "and") {
             Some(text) => Gate::of(text),
             None => None,
         }

@@ -4,17 +4,16 @@ ghost use Rattle.pt_meaning.specs.Basics.{at};
 ghost use Rattle.pt_lib_data.specs.Reply.{Tells};
 ghost use Rattle.pt_lib_data.specs.SequenceToArray as sequence_to_array;
 
-use crate::params::Params;
 use crate::reply::{nothing, sized};
-use pt_firing::{Inputs, Step};
+use pt_firing::{Inputs, Step, Values};
 use pt_value::{Items, Token};
 use std::alloc::{AllocError, Global};
 
 /// The length that the parameters say, if they are such as the row has them.
-pub(crate) fn start(params: &Params) -> Option<usize>
-    ensures { result ≡ sequence_to_array.start params.now }
+pub(crate) fn start(values: &Values) -> Option<usize>
+    ensures { result ≡ sequence_to_array.start values.now }
 {
-    match params.values.int_within("arrayLength", 1, 1, 1_000_000) {
+    match values.int_within("arrayLength", 1, 1, 1_000_000) {
         Some(length) => Some(length.unsigned_abs() as usize),
         None => None,
     }

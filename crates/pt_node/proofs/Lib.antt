@@ -1,5 +1,3 @@
 pub mod RecordedLaws
-pub mod LibraryLaws
 pub mod Link
-pub mod SteadyLaws
 pub mod OutlineLaws

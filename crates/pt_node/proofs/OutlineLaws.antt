@@ -5,7 +5,7 @@ use Rattle.pt_value.specs.declared.token.Token.{Token}
 use Rattle.pt_node.specs.Recorded.{RecordedPort, noting, recording, unnoted}
 use Rattle.pt_node.specs.Shown.{Shown, Branch}
 use Rattle.pt_node.specs.Firing.{noted, bare, recorded}
-use Rattle.pt_node.specs.View.{Heading, heading_of, Named, outline_of, outlines_of}
+use Rattle.pt_node.specs.View.{heading_of, Named, outline_of, outlines_of}
 
 headings-stay : (f : RecordedPort → RecordedPort) → ((r : RecordedPort) → heading_of (f r) ≡ heading_of r) → (rs : List RecordedPort) → map heading_of (map f rs) ≡ map heading_of rs
 headings-stay f h [] = refl

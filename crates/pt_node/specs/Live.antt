@@ -1,30 +1,19 @@
 -- When a node may fire: no firing of it is under way, and each composite fits its children.
-use Rattle.std.specs.Prelude.{◌≡◌, List, [], ◌∷◌, Bool, true, length, Option, Some}
+use Rattle.std.specs.Prelude.{◌≡◌, Bool, true, length}
 use Rattle.pt_meaning.specs.Basics.{Tag, Streams}
 use Rattle.pt_meaning.specs.Tree as tree
 use Rattle.pt_meaning.specs.NodeFacts as facts
-use Rattle.pt_meaning.specs.Closed.{on_answer}
 use Rattle.pt_value.specs.declared.token.Token.{Token}
 use Rattle.pt_sdf.specs.State.{Idle}
 use Rattle.pt_sdf.specs.Chain.{IsFor}
 use Rattle.pt_node.specs.declared.director.Director.{Director}
 use Rattle.pt_node.specs.declared.director.Director.TheVariants.{Sdf}
-use Rattle.pt_node.specs.declared.library.LibraryActor.{LibraryActor}
-use Rattle.pt_node.specs.LibraryActor as library
+use Rattle.pt_library.specs.LibraryActor as library
+use Rattle.pt_library.specs.Steady.{IsSteadyActor}
 use Rattle.pt_node.specs.declared.body.Body.{Body}
 use Rattle.pt_node.specs.declared.body.Body.TheVariants.{Actor, Composite}
 use Rattle.pt_node.specs.Shown.{Shown, AllShown, Branch, none, more}
 use Rattle.pt_node.specs.View.{nodes_of}
-
--- the actor after some firings, where each of them is done
-abbrev pub after : List (Tag × Streams Token) → LibraryActor → Option LibraryActor
-after [] a = Some a
-after (f ∷ fs) a = on_answer (after fs) (library.step f.0 a f.1)
-
--- Whatever it fires, its need stays the same, and its step takes any inputs. A source with a limit isn't steady: once it is over it needs nothing more.
-pub record IsSteadyActor (a : LibraryActor) : Type 0 where
-  pub needs : (fs : List (Tag × Streams Token)) (b : LibraryActor) → after fs a ≡ Some b → library.need b ≡ library.need a
-  pub takes : (fs : List (Tag × Streams Token)) (b : LibraryActor) → after fs a ≡ Some b → (tag : Tag) (X : Streams Token) → library.Takes tag b X
 
 -- a composite of SDF is steady
 abbrev pub IsSteadyBody : Body → Type 0

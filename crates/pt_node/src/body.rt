@@ -1,8 +1,8 @@
 ghost use Rattle.std.specs.Prelude.{◌≡◌, IfOk};
 
 use crate::director::Director;
-use crate::library::LibraryActor;
 use pt_firing::Fires;
+use pt_library::LibraryActor;
 use std::alloc::{AllocError, Global};
 
 /// A library actor beside its start, to which a reset brings it back.

@@ -3,7 +3,7 @@ ghost use Rattle.pt_node.specs.declared.node.Node.{out-Node};
 ghost use Rattle.pt_node.specs.Shown.{shown_node};
 ghost use Rattle.pt_meaning.specs.NodeFacts as facts;
 ghost use Rattle.pt_firing.specs.Need.{need_of};
-ghost use Rattle.pt_node.specs.LibraryActor as library;
+ghost use Rattle.pt_library.specs.LibraryActor as library;
 ghost use Rattle.pt_node.specs.Live.{is_live};
 ghost use Rattle.pt_node.specs.View.{node_of};
 ghost use Rattle.pt_node.specs.Firing.{noted, bare, recorded};

@@ -9,7 +9,7 @@ use Rattle.pt_firing.specs.declared.answer.Answer.TheVariants as answer
 use Rattle.pt_firing.specs.declared.answer.Place.{Place}
 use Rattle.pt_records.specs.Fired.{FiresTo, LeavesOff}
 use Rattle.pt_records.specs.Shut.{IsShut}
-use Rattle.pt_node.specs.LibraryActor.{rows}
+use Rattle.pt_library.specs.LibraryActor.{rows}
 use Rattle.pt_node.specs.Shown.{Shown}
 use Rattle.pt_node.specs.Firing as firing
 use Rattle.pt_node.specs.Live.{IsLive}

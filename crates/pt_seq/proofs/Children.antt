@@ -6,7 +6,7 @@ use Rattle.pt_meaning.specs.Tree as tree
 use Rattle.pt_meaning.specs.NodeFacts.{facts_of, need_of}
 use Rattle.pt_records.specs.Kept.{kept_at}
 use Rattle.pt_sdf.specs.ByNeed.{needs_of}
-use Rattle.pt_node.specs.LibraryActor.{rows}
+use Rattle.pt_library.specs.LibraryActor.{rows}
 use Rattle.pt_node.specs.Shown.{Shown, all_of}
 use Rattle.pt_node.specs.View.{Trees, node_of, nodes_of, kept_of, kepts_of, count_of, counts_of, outline_of, outlines_of, with, depth, depths, text_at, text_below}
 use Rattle.pt_node.specs.Live.{IsFit, AllFit, IsSteady, AllSteady}

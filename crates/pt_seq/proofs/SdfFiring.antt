@@ -30,12 +30,12 @@ use Rattle.pt_sdf.specs.State.{Closed, needs_at, lent_of, left_of, Allows, IsEno
 use Rattle.pt_sdf.specs.Chain.{IsFor}
 use Rattle.pt_sdf.specs.Clauses.{State}
 use Rattle.pt_node.specs.declared.director.Director.TheVariants.{Sdf}
-use Rattle.pt_node.specs.LibraryActor.{rows}
+use Rattle.pt_library.specs.LibraryActor.{rows}
 use Rattle.pt_node.specs.Shown.{Shown, all_of}
 use Rattle.pt_node.specs.View as view
 use Rattle.pt_node.specs.View.{Tree, Heading, node_of, nodes_of, kept_of, kepts_of, outline_of, outlines_of, text_at, text_below, count_of, counts_of}
 use Rattle.pt_node.specs.Live.{IsFit, AllFit, IsReady}
-use Rattle.pt_node.proofs.LibraryLaws.{rows_lawful}
+use Rattle.pt_library.proofs.RowLaws.{rows_lawful}
 use Rattle.pt_seq.specs.Within.{outcome, IsLeftOff, IsStuckIn, sdf_node, IsStuck, fault_of, StaysSteady}
 use Rattle.pt_seq.specs.Between.{Going}
 use Rattle.pt_seq.proofs.Children.{nodes-set, kepts-set, kepts-at, nodes-get, kepts-long, nodes-long, nodes-again, fit-set, steady-get, steady-set, text-get, needs-set}

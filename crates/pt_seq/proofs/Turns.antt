@@ -25,7 +25,7 @@ use Rattle.pt_records.specs.Kept.{Kept, Entry, kept_by, GrewBy, TracesTold}
 use Rattle.pt_records.specs.Fired.{FiresTo, SticksAt, LeavesOff}
 use Rattle.pt_records.specs.Shut.{IsShut}
 use Rattle.pt_records.proofs.ShutSteps.{nothing-is-shut, stepped-is-shut}
-use Rattle.pt_node.proofs.LibraryLaws.{rows_lawful}
+use Rattle.pt_library.proofs.RowLaws.{rows_lawful}
 use Rattle.pt_records.proofs.GrowthLaws.{grew-none, grew-joined, grew-record}
 use Rattle.pt_sdf.specs.State.{Idle, Closed, lent_in, lent_of, left_of, in_stage, begun, asked, if_told, own_of, owed, closed}
 use Rattle.pt_sdf.specs.Chain.{IsFor}
@@ -35,15 +35,16 @@ use Rattle.pt_node.specs.declared.body.Body.TheVariants as body
 use Rattle.pt_node.specs.declared.body.Held.{Held}
 use Rattle.pt_node.specs.declared.director.Director.{Director}
 use Rattle.pt_node.specs.declared.director.Director.TheVariants.{Sdf}
-use Rattle.pt_node.specs.declared.library.LibraryActor.{LibraryActor}
-use Rattle.pt_node.specs.LibraryActor as library
-use Rattle.pt_node.specs.LibraryActor.{rows}
+use Rattle.pt_library.specs.declared.library_actor.LibraryActor.{LibraryActor}
+use Rattle.pt_library.specs.LibraryActor as library
+use Rattle.pt_library.specs.LibraryActor.{rows}
 use Rattle.pt_node.specs.Recorded.{RecordedPort, noting, recording, unnoted, trace_of}
 use Rattle.pt_node.specs.Shown.{Shown, AllShown, Branch, Frame, all_of}
 use Rattle.pt_node.specs.Firing as firing
 use Rattle.pt_node.specs.View.{Tree, heading_of, node_of, nodes_of, node_with, entry_of, kept_of, kepts_of, outline_of, outlines_of, text_at, count_of, counts_of}
 use Rattle.pt_node.specs.Live as live
-use Rattle.pt_node.specs.Live.{IsFit, AllFit, IsReady, IsLive, IsSteady, IsSteadyBody, IsSteadyActor}
+use Rattle.pt_library.specs.Steady.{after, IsSteadyActor}
+use Rattle.pt_node.specs.Live.{IsFit, AllFit, IsReady, IsLive, IsSteady, IsSteadyBody}
 use Rattle.pt_seq.specs.declared.fire.Within.{Within}
 use Rattle.pt_seq.specs.declared.fire.Within.TheVariants.{Done, Fault, Spent, Memory}
 use Rattle.pt_seq.specs.declared.fire.Turn.{Turn}
@@ -216,10 +217,10 @@ actor-goes f held held' ks tag X Memory a = λ m. off-none m (tree.Actor f.past 
 
 steady-next : (tag : Tag) (X out : Streams Token) (a b : LibraryActor) → library.step tag a X ≡ tree.Gives b out → IsSteadyActor a → IsSteadyActor b × (library.need b ≡ library.need a)
 steady-next tag X out a b e st =
-    let same : library.need b ≡ library.need a = st.needs ((tag, X) ∷ []) b (ap (λ r. on_answer (live.after []) r) e) in (
+    let same : library.need b ≡ library.need a = st.needs ((tag, X) ∷ []) b (ap (λ r. on_answer (after []) r) e) in (
       record {
-        needs = λ fs c q. st.needs ((tag, X) ∷ fs) c (ap (λ r. on_answer (live.after fs) r) e ∙ q) ∙ sym same;
-        takes = λ fs c q t Y. st.takes ((tag, X) ∷ fs) c (ap (λ r. on_answer (live.after fs) r) e ∙ q) t Y;
+        needs = λ fs c q. st.needs ((tag, X) ∷ fs) c (ap (λ r. on_answer (after fs) r) e ∙ q) ∙ sym same;
+        takes = λ fs c q t Y. st.takes ((tag, X) ∷ fs) c (ap (λ r. on_answer (after fs) r) e ∙ q) t Y;
       },
       same,
     )

@@ -13,7 +13,7 @@ use Rattle.pt_records.specs.SoFar.{SoFar}
 use Rattle.pt_sdf.specs.State.{Open}
 use Rattle.pt_sdf.specs.Chain.{IsFor}
 use Rattle.pt_sdf.specs.Clauses.{State, IsAsked}
-use Rattle.pt_node.specs.LibraryActor.{rows}
+use Rattle.pt_library.specs.LibraryActor.{rows}
 use Rattle.pt_node.specs.Shown.{Shown, AllShown, all_of}
 use Rattle.pt_node.specs.View.{nodes_of, kepts_of, outlines_of, counts_of}
 use Rattle.pt_node.specs.Live.{AllFit, AllSteady}

@@ -23,8 +23,8 @@ use Rattle.pt_records.specs.Shut.{IsShut}
 use Rattle.pt_sdf.specs.State.{Idle, lent_in, after_told, closed, owed, own_of}
 use Rattle.pt_sdf.specs.Chain.{IsFor}
 use Rattle.pt_sdf.specs.Clauses.{State, IsAsked}
-use Rattle.pt_node.specs.LibraryActor.{rows}
-use Rattle.pt_node.specs.LibraryActor as library
+use Rattle.pt_library.specs.LibraryActor.{rows}
+use Rattle.pt_library.specs.LibraryActor as library
 use Rattle.pt_node.specs.declared.body.Held.{Held}
 use Rattle.pt_node.specs.declared.director.Director.{Director}
 use Rattle.pt_node.specs.declared.director.Director.TheVariants.{Sdf}

@@ -1,7 +1,7 @@
 ghost use Rattle.std.specs.Prelude.{◌≡◌, ◌+◌, ◌<◌, ◌≤◌, ◌^◌, length, Some, IsSome, map};
 ghost use Rattle.pt_sdf.specs.State.{Idle, Closed, asked_child, lent_in};
 ghost use Rattle.pt_node.specs.declared.node.Node.{out-Node};
-ghost use Rattle.pt_node.specs.LibraryActor as library;
+ghost use Rattle.pt_library.specs.LibraryActor as library;
 ghost use Rattle.pt_node.specs.Shown.{shown, shown_node, all_of};
 ghost use Rattle.pt_node.specs.View.{outline_of, outlines_of, count_of, counts_of};
 ghost use Rattle.pt_node.specs.Live.{IsLive, IsFit, Takes, AllFit, IsReady, TakenBy};

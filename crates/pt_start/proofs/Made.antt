@@ -14,8 +14,8 @@ use Rattle.pt_values.specs.Valued.{IsEntityValued}
 use Rattle.pt_values.specs.Valued as valued
 use Rattle.pt_types.specs.Datatype.{Datatype}
 use Rattle.pt_lib_flow.specs.declared.params.Params.{Params}
-use Rattle.pt_lib_flow.specs.declared.flow_actor.FlowActor.{FlowActor}
-use Rattle.pt_lib_flow.specs.FlowActor.{start}
+use Rattle.pt_library.specs.declared.library_actor.LibraryActor.{LibraryActor}
+use Rattle.pt_library.specs.LibraryActor.{start}
 use Rattle.pt_start.specs.declared.starts.Starts.{Starts}
 use Rattle.pt_start.specs.Nested.{AreRound}
 use Rattle.pt_start.specs.Started.{ends_at, counted_port, typed_port, type_at, ArePortTypes, IsActor, IsStart, PortTyping}
@@ -94,7 +94,7 @@ module _ (s : Starts) (k : ℕ) (e : NetEntity) (vs : EntityValues) (counts : Li
       let short : i < length (get_or s.counts.items k []) = omega (arith, high, long, map-length port_view e.ports.items) in
       ap (λ (row : List ℕ). get_or row i 0) counts_at ∙ ready.prepared.counts k i short
 
-  pub is-start : (found : Option FlowActor) → found ≡ start params → (typing : PortTyping) → ArePortTypes s.net.now typing k types → IsStart s.net.now s.values.now typing k found
+  pub is-start : (found : Option LibraryActor) → found ≡ start params → (typing : PortTyping) → ArePortTypes s.net.now typing k types → IsStart s.net.now s.values.now typing k found
   is-start found is typing typed = record {
     params = params;
     started_from = record {

@@ -10,7 +10,8 @@ use Rattle.pt_moml.specs.View.{property_view, properties_view}
 use Rattle.pt_parameter.specs.declared.parameter_value.ParameterValue.{ParameterValue}
 use Rattle.pt_parameter.specs.declared.parameter_value.ParameterValue.TheVariants as parameter
 use Rattle.pt_values.specs.Scopes.{Bindings, bound}
-use Rattle.pt_start.specs.Started.{given_tokens, given_tree, token_under, seen_token}
+use Rattle.pt_start.specs.Started.{given_tokens, own_tokens, given_tree, token_under, seen_token}
+use Rattle.pt_start.specs.Own.{own_token}
 use Rattle.pt_start.specs.Frames.{with_token, token_in, named_tokens}
 use Rattle.pt_start.proofs.Loops.{drop-at, drop-read, drop-unread, drop-all}
 
@@ -35,6 +36,32 @@ given-step ps vs i p short is = given-by ps vs i p (slice_get vs i) (drop-at ps 
 
 pub given-all : (ps : List Property) (vs : List ParameterValue) (i : ℕ) → length ps ≤ i → given_tokens (properties_view (drop i ps)) (drop i vs) ≡ []
 given-all ps vs i h = ap (λ qs. given_tokens (properties_view qs) (drop i vs)) (drop-all ps i h)
+
+-- ---- the own parameters of an actor
+
+own-none : (ps : List PropertyTree) → own_tokens ps [] ≡ []
+own-none [] = refl
+own-none (p ∷ ps) = refl
+
+one-own : (p : PropertyTree) (ps : List PropertyTree) (v : ParameterValue) (vs : List ParameterValue) → own_tokens (p ∷ ps) (v ∷ vs) ≡ own_token p (Some v) ++ own_tokens ps vs
+one-own p ps (parameter.Token t) vs = refl
+one-own p ps (parameter.Tree e) vs = refl
+one-own p ps parameter.Word vs = refl
+
+own-by : (ps : List Property) (vs : List ParameterValue) (i : ℕ) (p : Property) (o : Option ParameterValue) → drop i ps ≡ p ∷ drop (i + 1) ps → slice_get vs i ≡ o → own_tokens (properties_view (drop i ps)) (drop i vs) ≡ own_token (property_view p) o ++ own_tokens (properties_view (drop (i + 1) ps)) (drop (i + 1) vs)
+own-by ps vs i p None here at =
+    let none = drop-unread vs i at in
+    ap (λ us. own_tokens (properties_view (drop i ps)) us) none.0 ∙ own-none (properties_view (drop i ps)) ∙ sym (own-none (properties_view (drop (i + 1) ps))) ∙ ap (λ us. own_tokens (properties_view (drop (i + 1) ps)) us) (sym none.1)
+own-by ps vs i p (Some v) here at =
+    ap₂ (λ qs us. own_tokens (properties_view qs) us) here (drop-read vs i v at) ∙ one-own (property_view p) (properties_view (drop (i + 1) ps)) v (drop (i + 1) vs)
+
+pub own-step : (ps : List Property) (vs : List ParameterValue) (i : ℕ) (p : Property) → i < length ps → p ≡ get_or ps i p → own_tokens (properties_view (drop i ps)) (drop i vs) ≡ own_token (property_view p) (slice_get vs i) ++ own_tokens (properties_view (drop (i + 1) ps)) (drop (i + 1) vs)
+own-step ps vs i p short is = own-by ps vs i p (slice_get vs i) (drop-at ps i p short is) refl
+
+pub own-all : (ps : List Property) (vs : List ParameterValue) (i : ℕ) → length ps ≤ i → own_tokens (properties_view (drop i ps)) (drop i vs) ≡ []
+own-all ps vs i h = ap (λ qs. own_tokens (properties_view qs) (drop i vs)) (drop-all ps i h)
+
+-- ---- the parameters of a transparent composite
 
 named-none : (ps : List PropertyTree) → named_tokens ps [] ≡ []
 named-none [] = refl

@@ -1,6 +1,7 @@
 pub mod Nested
 pub mod Started
 pub mod Counts
+pub mod Own
 pub mod Frames
 pub mod PortTypes
 pub mod Seen

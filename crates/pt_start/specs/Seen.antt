@@ -16,7 +16,7 @@ use Rattle.pt_start.specs.declared.round.Round.{Round}
 use Rattle.pt_start.specs.declared.starts.Starts.{Starts}
 use Rattle.pt_start.specs.Nested.{AreRound, IsNested}
 use Rattle.pt_lib_flow.specs.declared.params.Params.{Params}
-use Rattle.pt_start.specs.Started.{given_tokens, given_tree, seen_tokens}
+use Rattle.pt_start.specs.Started.{own_tokens, given_tree, seen_tokens}
 use Rattle.pt_start.specs.Frames.{AreKept, AreTransparentKept}
 use Rattle.pt_start.specs.Counts.{AreCounts, AreSized, port_with}
 use Rattle.pt_start.specs.PortTypes.{named_types}
@@ -73,7 +73,7 @@ round_of e = record { within = e.within; parent = e.parent }
 -- and the types of its ports
 pub record IsMade (net : NetTree) (e : NetEntity) (vs : EntityValues) (counts : List ℕ) (types : List Datatype) (params : Params) : Type 0 where
   pub class_is : params.class ≡ e.class
-  pub values_are : (seen : Bindings) → SeesIn net (round_of e) seen → params.values ≡ given_tokens (properties_view e.parameters.items) vs.parameters.items ++ seen_tokens seen (given_tree vs.parameters.items)
+  pub values_are : (seen : Bindings) → SeesIn net (round_of e) seen → params.values ≡ own_tokens (properties_view e.parameters.items) vs.parameters.items ++ seen_tokens seen (given_tree vs.parameters.items)
   pub ports_are : params.ports ≡ map (port_with counts) (enumerate_from 0 (map port_view e.ports.items))
   pub types_are : params.types ≡ named_types (map port_view e.ports.items) types
   pub tree_is : option_map tree_of params.tree ≡ given_tree vs.parameters.items

@@ -4,6 +4,7 @@ use Rattle.std.specs.List.{enumerate_from, filter_map}
 use Rattle.pt_value.specs.Value.{Value}
 use Rattle.pt_value.specs.Token.{token_of}
 use Rattle.pt_value.specs.declared.token.Token.{Token}
+use Rattle.pt_value.specs.declared.token.Token.TheVariants as token
 use Rattle.pt_types.specs.Datatype.{Datatype}
 use Rattle.pt_expr.specs.Tree.{Tree}
 use Rattle.pt_expr.specs.Expr.{tree_of}
@@ -16,10 +17,10 @@ use Rattle.pt_parameter.specs.declared.parameter_value.ParameterValue.TheVariant
 use Rattle.pt_parameter.specs.Texts.{names_in}
 use Rattle.pt_values.specs.declared.values.EntityValues.{EntityValues}
 use Rattle.pt_values.specs.declared.values.Values.{Values}
-use Rattle.pt_values.specs.Scopes.{Bindings, bound, net_view, Sees}
+use Rattle.pt_values.specs.Scopes.{Bindings, bound, net_view, text_of, Sees}
 use Rattle.pt_lib_flow.specs.declared.params.Params.{Params}
-use Rattle.pt_lib_flow.specs.declared.flow_actor.FlowActor.{FlowActor}
-use Rattle.pt_lib_flow.specs.FlowActor.{start}
+use Rattle.pt_library.specs.declared.library_actor.LibraryActor.{LibraryActor}
+use Rattle.pt_library.specs.LibraryActor.{start}
 
 -- ---- ports
 
@@ -64,6 +65,14 @@ given_tokens (p ∷ ps) (parameter.Token t ∷ vs) = (property_name p, t) ∷ gi
 given_tokens (p ∷ ps) (parameter.Tree e ∷ vs) = given_tokens ps vs
 given_tokens (p ∷ ps) (parameter.Word ∷ vs) = given_tokens ps vs
 
+-- the own parameters of an actor by name: those that have tokens, and as texts those that are taken as they are written
+abbrev pub own_tokens : List PropertyTree → List ParameterValue → List (List ℕ × Token)
+own_tokens [] vs = []
+own_tokens (p ∷ ps) [] = []
+own_tokens (p ∷ ps) (parameter.Token t ∷ vs) = (property_name p, t) ∷ own_tokens ps vs
+own_tokens (p ∷ ps) (parameter.Tree e ∷ vs) = own_tokens ps vs
+own_tokens (p ∷ ps) (parameter.Word ∷ vs) = (property_name p, token.Text (text_of p)) ∷ own_tokens ps vs
+
 -- the tree of an expression, if there is one
 abbrev pub given_tree : List ParameterValue → Option Tree
 given_tree [] = None
@@ -91,7 +100,7 @@ seen_tokens seen (Some t) = filter_map (seen_token seen) (names_in t)
 -- it: its class, its own parameters before those that its tree names, and its ports with their types
 pub record IsFrom (ks : List Channel) (typing : PortTyping) (k : ℕ) (e : NetEntityTree) (vs : List ParameterValue) (seen : Bindings) (params : Params) : Type 0 where
   pub class_is : params.class ≡ e.class
-  pub values_are : params.values ≡ given_tokens e.parameters vs ++ seen_tokens seen (given_tree vs)
+  pub values_are : params.values ≡ own_tokens e.parameters vs ++ seen_tokens seen (given_tree vs)
   pub ports_are : params.ports ≡ ports_of ks k e
   pub types_are : params.types ≡ types_of typing k e
   pub tree_is : option_map tree_of params.tree ≡ given_tree vs
@@ -113,9 +122,9 @@ pub record IsStartedFrom (net : Net) (values : Values) (typing : PortTyping) (k 
   pub sees : Sees (net_view net) entity.within entity.parent seen
   pub from : IsFrom net.channels.items typing k entity held.parameters.items seen params
 
--- the actor of the entity of that number, at its start; none where its row has no start of that: the class isn't one of the
+-- the actor of the entity of that number, at its start; none where its row has no start of that: the class isn't one of a
 -- library, or it isn't used as its row has it
-pub record IsStart (net : Net) (values : Values) (typing : PortTyping) (k : ℕ) (actor : Option FlowActor) : Type 0 where
+pub record IsStart (net : Net) (values : Values) (typing : PortTyping) (k : ℕ) (actor : Option LibraryActor) : Type 0 where
   pub params : Params
   pub started_from : IsStartedFrom net values typing k params
   pub is : start params ≡ actor

@@ -1,9 +1,12 @@
-ghost use Rattle.std.specs.Prelude.{◌≡◌, ◌++◌, IfOk, OnOk, option_map, slice_get};
+ghost use Rattle.std.specs.Prelude.{◌≡◌, ◌++◌, IfOk, OnOk, Some, option_map, slice_get};
 ghost use Rattle.pt_moml.specs.Document.{property_name};
 ghost use Rattle.pt_moml.specs.View.{property_view, properties_view};
 ghost use Rattle.pt_expr.specs.Expr.{tree_of};
-ghost use Rattle.pt_start.specs.Started.{given_tokens, given_tree};
+ghost use Rattle.pt_parameter.specs.declared.parameter_value.ParameterValue.TheVariants.{Word};
+ghost use Rattle.pt_values.specs.Scopes.{text_of};
+ghost use Rattle.pt_start.specs.Started.{own_tokens, given_tree};
 ghost use Rattle.pt_start.specs.Frames.{with_token, token_in};
+ghost use Rattle.pt_start.specs.Own.{own_token};
 
 use pt_expr::Expr;
 use pt_moml::Property;
@@ -46,22 +49,58 @@ pub fn add_token(
     }
 }
 
-/// The parameters that have tokens, by name.
-pub fn given_tokens(
+/// The text of a property.
+fn text_of(property: &Property) -> &str
+    ensures { result.now ≡ text_of (property_view property.now) }
+{
+    match &property.value {
+        Some(text) => text.as_str(),
+        None => "",
+    }
+}
+
+/// Adds the name of a property with its text.
+fn add_text(
+    alloc: Global,
+    property: &Property,
+    tokens: &mut Vec<(Text, Token)>,
+) -> Result<(), AllocError>
+    ensures { OnOk result (tokens.new.items ≡ tokens.old.items ++ own_token (property_view property.now) (Some Word)) }
+{
+    let text = Text::of(alloc, text_of(property))?;
+    tokens.push((property.name.copy(alloc)?, Token::Text(text)))?;
+    Ok(())
+}
+
+/// Adds a parameter with its token, or with its text where that is taken as it is written.
+fn add_own(
+    alloc: Global,
+    property: &Property,
+    value: Option<&ParameterValue>,
+    tokens: &mut Vec<(Text, Token)>,
+) -> Result<(), AllocError>
+    ensures { OnOk result (tokens.new.items ≡ tokens.old.items ++ own_token (property_view property.now) (option_map (λ v. v.now) value.entry)) }
+{
+    match value {
+        Some(ParameterValue::Token(token)) => {
+            add_token(alloc, name_of(property), Some(token), tokens)
+        }
+        Some(ParameterValue::Word) => add_text(alloc, property, tokens),
+        Some(ParameterValue::Tree(_)) | None => Ok(()),
+    }
+}
+
+/// The own parameters of an actor by name: those that have tokens, and as texts those that are taken as they are written.
+pub fn own_tokens(
     alloc: Global,
     properties: &[Property],
     values: &[ParameterValue],
 ) -> Result<Vec<(Text, Token)>, AllocError>
-    ensures { IfOk result (λ tokens. tokens.items ≡ given_tokens (properties_view properties.now) values.now) }
+    ensures { IfOk result (λ tokens. tokens.items ≡ own_tokens (properties_view properties.now) values.now) }
 {
     let mut tokens = Vec::new(alloc);
     for (number, property) in properties.iter().enumerate() {
-        add_token(
-            alloc,
-            name_of(property),
-            token_at(values, number),
-            &mut tokens,
-        )?;
+        add_own(alloc, property, values.get(number), &mut tokens)?;
     }
     Ok(tokens)
 }

@@ -11,12 +11,13 @@ ghost use Rattle.pt_start.specs.Seen.{IsPrepared, IsReady, SeesIn, SeesNothing, 
 
 use crate::counts::{Counts, counts_of};
 use crate::frames::{opaque_names, transparent_names};
-use crate::given::{add_token, given_tokens, given_tree};
+use crate::given::{add_token, given_tree, own_tokens};
 use crate::ports::{counted_ports, typed_ports};
 use crate::round::Round;
 use pt_expr::Expr;
 use pt_graph::{Net, NetEntity};
-use pt_lib_flow::{FlowActor, Params, PortTypes, Ports, Values as Tokens};
+use pt_lib_flow::{Params, PortTypes, Ports, Values as Tokens};
+use pt_library::LibraryActor;
 use pt_parameter::{Names, names_of};
 use pt_types::Ty;
 use pt_value::{Text, Token};
@@ -142,9 +143,9 @@ impl<'a> Starts<'a> {
     ) -> Result<Tokens, AllocError>
         requires ready { IsReady self.now }
         requires round { AreRound (net_view self.now.net.now) entity.now.within entity.now.parent }
-        ensures { IfOk result (λ tokens. (seen : Bindings) → SeesIn (net_view self.now.net.now) (round_of entity.now) seen → tokens ≡ started.given_tokens (properties_view entity.now.parameters.items) held.now.parameters.items ++ seen_tokens seen (option_map (λ e. tree_of e.now) tree.entry)) }
+        ensures { IfOk result (λ tokens. (seen : Bindings) → SeesIn (net_view self.now.net.now) (round_of entity.now) seen → tokens ≡ started.own_tokens (properties_view entity.now.parameters.items) held.now.parameters.items ++ seen_tokens seen (option_map (λ e. tree_of e.now) tree.entry)) }
     {
-        let mut tokens = given_tokens(alloc, &entity.parameters, &held.parameters)?;
+        let mut tokens = own_tokens(alloc, &entity.parameters, &held.parameters)?;
         if let Some(tree) = tree {
             let names = names_of(alloc, tree)?;
             self.add_seen(alloc, Round::of_entity(entity), &names, &mut tokens)?;
@@ -180,14 +181,14 @@ impl<'a> Starts<'a> {
         })
     }
 
-    /// The actor of the entity of this number, whose ports have these types, at its start; none where the library has no start of
+    /// The actor of the entity of this number, whose ports have these types, at its start; none where no library has a start of
     /// that.
     pub fn actor(
         &self,
         alloc: Global,
         number: usize,
         types: &[Ty],
-    ) -> Result<Option<FlowActor>, AllocError>
+    ) -> Result<Option<LibraryActor>, AllocError>
         requires ready { IsReady self.now }
         requires actor { IsActor self.now.net.now number }
         ensures { IfOk result (λ actor. (typing : PortTyping) → ArePortTypes self.now.net.now typing number (map type_of types.now) → IsStart self.now.net.now self.now.values.now typing number actor) }
@@ -200,6 +201,6 @@ impl<'a> Starts<'a> {
             &self.counts[number],
             types,
         )?;
-        FlowActor::started(alloc, &params)
+        LibraryActor::started(alloc, &params)
     }
 }

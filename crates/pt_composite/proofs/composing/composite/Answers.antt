@@ -13,7 +13,7 @@ use Rattle.pt_node.specs.declared.director.Director.TheVariants as director
 use Rattle.pt_node.specs.declared.node.Node.{Node}
 use Rattle.pt_node.specs.declared.node.Node.TheOpen as opens
 use Rattle.pt_node.specs.declared.node.Node.TheViews.{out-roll-Node}
-use Rattle.pt_node.specs.LibraryActor.{rows}
+use Rattle.pt_library.specs.LibraryActor.{rows}
 use Rattle.pt_node.specs.Shown.{Shown, Branch, shown, shown_node, level, all_of}
 use Rattle.pt_node.specs.View.{Tree}
 use Rattle.pt_composite.specs.Around.{Around, around_of, IsInsideOf, IsInsideIf}

@@ -4,7 +4,7 @@ use Rattle.pt_meaning.specs.Streams.{get}
 use Rattle.pt_sdf.specs.declared.plan.Source.{Source}
 use Rattle.pt_sdf.specs.Plan.{source_of}
 use Rattle.pt_node.specs.declared.node.Node.{Node}
-use Rattle.pt_node.specs.LibraryActor.{rows}
+use Rattle.pt_library.specs.LibraryActor.{rows}
 use Rattle.pt_node.specs.Shown.{shown}
 use Rattle.pt_node.specs.View.{Tree, node_of}
 use Rattle.pt_composite.proofs.NodeLaws.{trees, tree-at, get-past, get-none}

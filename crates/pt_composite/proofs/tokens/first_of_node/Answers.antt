@@ -2,7 +2,7 @@ use Rattle.std.proofs.Common.{Some, map, sym, ap, ◌∙◌}
 use Rattle.pt_meaning.specs.Start.{first_of_node}
 use Rattle.pt_node.specs.declared.body.Body.{Body}
 use Rattle.pt_node.specs.declared.node.Node.{out-Node}
-use Rattle.pt_node.specs.LibraryActor.{rows}
+use Rattle.pt_library.specs.LibraryActor.{rows}
 use Rattle.pt_node.specs.Shown.{shown, all_of}
 use Rattle.pt_node.specs.View.{node_with, nodes_of}
 use Rattle.pt_composite.proofs.tokens.first_of_node.Goals as goal

@@ -4,7 +4,7 @@ use Rattle.pt_sdf.specs.declared.plan.Source.TheVariants.{Own}
 use Rattle.pt_sdf.specs.Plan.{source_of}
 use Rattle.pt_meaning.specs.Basics.{Streams}
 use Rattle.pt_value.specs.declared.token.Token.{Token}
-use Rattle.pt_node.specs.LibraryActor.{rows}
+use Rattle.pt_library.specs.LibraryActor.{rows}
 use Rattle.pt_node.specs.Shown.{shown}
 use Rattle.pt_composite.specs.Composite.{trees_of}
 use Rattle.pt_composite.proofs.HeldLaws.{held-none, held-long, held-all}

@@ -1,20 +1,19 @@
 use Rattle.std.proofs.Common.{◌≡◌, ℕ, List, Some, refl, sym, ap, subst, ◌∙◌}
-use Rattle.pt_lib_flow.specs.declared.flow_actor.FlowActor.{FlowActor}
+use Rattle.pt_library.specs.declared.library_actor.LibraryActor.{LibraryActor}
 use Rattle.pt_lib_flow.specs.declared.params.Params.{Params}
-use Rattle.pt_lib_flow.specs.FlowActor.{start}
-use Rattle.pt_lib_flow.proofs.Bounds.{started-gives}
+use Rattle.pt_library.specs.LibraryActor.{start}
+use Rattle.pt_library.proofs.RateLaws.{started-rated}
 use Rattle.pt_node.specs.declared.body.Held.{Held}
-use Rattle.pt_node.specs.declared.library.LibraryActor.TheVariants.{Flow}
 use Rattle.pt_node.specs.Recorded.{RecordedPort}
 use Rattle.pt_node.specs.Shown.{Shown, shown_node}
-use Rattle.pt_node.proofs.SteadyLaws.{told-steady}
+use Rattle.pt_library.proofs.SteadyLaws.{told-steady}
 use Rattle.pt_composite.specs.Fresh.{IsFresh}
 use Rattle.pt_build.specs.Recorded.{recorded_at, recorded_of, numbers_at}
 use Rattle.pt_build.specs.Built.{IsBuilt, built_actor, held_node, actor_node}
 use Rattle.pt_build.proofs.TreeLaws.{actor-fresh, recorded-empty}
 use Rattle.pt_build.proofs.builder.Builder.steady_at.Goals as goal
 
-shows : (s : Shown) (held : Held) (a : FlowActor) (path text : List ℕ) (records rs : List RecordedPort) → s ≡ held_node held path records → held ≡ record { start = Flow a; actor = Flow a } → path ≡ text → records ≡ rs → s ≡ actor_node a text rs
+shows : (s : Shown) (held : Held) (a : LibraryActor) (path text : List ℕ) (records rs : List RecordedPort) → s ≡ held_node held path records → held ≡ record { start = a; actor = a } → path ≡ text → records ≡ rs → s ≡ actor_node a text rs
 shows s held a path text records rs is held_is path_is records_are =
     is ∙ ap (λ (h : Held). held_node h path records) held_is ∙ ap (λ (p : List ℕ). actor_node a p records) path_is ∙ ap (λ (v : List RecordedPort). actor_node a text v) records_are
 
@@ -34,4 +33,4 @@ returns-clause-fresh c =
     let started : (params : Params) × (start params ≡ Some a) = c.requires.started c.args.k a c.requires.actor in
     subst (λ (s : Shown). IsFresh s)
     (sym (shows _ c.in_ok-held.held a c.in_ok-path.path e.path c.in_ok-records.records (recorded_of net c.args.k e) c.actor_node.ensures c.in_ok-held.ensures c.in_ok-path.ensures c.in_ok-records.ensures))
-    (actor-fresh a e.path (recorded_of net c.args.k e) (told-steady (Flow a) c.requires.steady) (started-gives started.0 a started.1) (recorded-empty (recorded_at net e) (λ n. (refl, refl)) (numbers_at c.args.k net.recorded.items)))
+    (actor-fresh a e.path (recorded_of net c.args.k e) (told-steady a c.requires.steady) (started-rated started.0 a started.1) (recorded-empty (recorded_at net e) (λ n. (refl, refl)) (numbers_at c.args.k net.recorded.items)))

@@ -1,0 +1,4 @@
+pub mod RowLaws
+pub mod SteadyLaws
+pub mod RateLaws
+pub mod Classes

@@ -1,0 +1,70 @@
+-- How many tokens an actor gives, by its library.
+use Rattle.std.proofs.Common.{◌≡◌, ℕ, zero, suc, List, [], ◌∷◌, length, map, Option, Some, None, refl, subst}
+use Rattle.std.specs.Prelude.{option_map, IfSome}
+use Rattle.std.specs.Option.{option_or}
+use Rattle.std.specs.List.{AllByRecursion}
+use Rattle.pt_meaning.specs.Basics.{Tag, Streams}
+use Rattle.pt_meaning.specs.Machine.{Counts}
+use Rattle.pt_meaning.specs.Node.{Gives}
+use Rattle.pt_value.specs.declared.token.Token.{Token}
+use Rattle.pt_lib_data.specs.declared.data_actor.DataActor.{DataActor}
+use Rattle.pt_lib_data.specs.DataActor as data_actor
+use Rattle.pt_lib_data.specs.Laws.{IsRate, AreGiven}
+use Rattle.pt_lib_data.proofs.Giving as data_laws
+use Rattle.pt_lib_flow.specs.declared.flow_actor.FlowActor.{FlowActor}
+use Rattle.pt_lib_flow.specs.declared.params.Params.{Params}
+use Rattle.pt_lib_flow.specs.FlowActor as flow_actor
+use Rattle.pt_lib_flow.specs.Laws.{IsGiven}
+use Rattle.pt_lib_flow.specs.Rates.{IsCount}
+use Rattle.pt_lib_flow.proofs.Bounds as flow_bounds
+use Rattle.pt_lib_flow.proofs.Giving as flow_laws
+use Rattle.pt_library.specs.declared.library_actor.LibraryActor.{LibraryActor}
+use Rattle.pt_library.specs.declared.library_actor.LibraryActor.TheVariants.{Flow, Data}
+use Rattle.pt_library.specs.LibraryActor as library
+use Rattle.pt_library.specs.Laws.{IsRatedActor}
+use Rattle.pt_library.proofs.RowLaws.{held-gives}
+
+-- ---- from 1 to 1,000,000
+
+one-rate : (o : Option ℕ) → IfSome o IsCount → IfSome (option_map (λ n. n ∷ []) o) (AllByRecursion IsCount)
+one-rate None h = tt
+one-rate (Some n) h = (h, tt)
+
+-- the rate of an actor of flow, where its rates are such
+pub its-rate : (o : Option ℕ) → IfSome (option_map (λ n. n ∷ []) o) (AllByRecursion IsCount) → IfSome o IsCount
+its-rate None h = tt
+its-rate (Some n) h = h.0
+
+all-counts : (ns : List ℕ) → AllByRecursion IsRate ns → AllByRecursion IsCount ns
+all-counts [] h = tt
+all-counts (n ∷ ns) h = (record { least = h.0.0; most = h.0.1 }, all-counts ns h.1)
+
+by-library : (o : Option FlowActor) (p : Option DataActor) (a : LibraryActor) → option_or (option_map Flow o) (option_map Data p) ≡ Some a → ((b : FlowActor) → o ≡ Some b → IsRatedActor (Flow b)) → ((b : DataActor) → p ≡ Some b → IsRatedActor (Data b)) → IsRatedActor a
+by-library (Some b) p a e f g = let same : Flow b ≡ a = cc in subst IsRatedActor same (f b refl)
+by-library None (Some b) a e f g = let same : Data b ≡ a = cc in subst IsRatedActor same (g b refl)
+by-library None None a e f g = absurd (cc)
+
+pub started-rated : (params : Params) (a : LibraryActor) → library.start params ≡ Some a → IsRatedActor a
+started-rated params a e =
+    by-library (flow_actor.start params) (data_actor.start params.class params.values params.ports) a e (λ b h. one-rate (flow_actor.rate b) (flow_bounds.started-gives params b h)) (λ b h. all-counts (data_actor.rates b) (data_laws.rates-bounded params.class params.values params.ports b h))
+
+-- ---- what is given
+
+one-given : (o : Option ℕ) (given : List ℕ) (out : Streams Token) → option_map (λ n. n ∷ []) o ≡ Some given → ((n : ℕ) → o ≡ Some n → IsGiven n out) → AreGiven given out
+one-given None given out e h = absurd (cc)
+one-given (Some n) given out e h =
+    let same : (n ∷ []) ≡ given = cc in
+    subst (λ ns. AreGiven ns out) same at_port
+  where
+    at_port : AreGiven (n ∷ []) out
+    at_port zero rate k = let here : n ≡ rate = cc in subst (λ m. IsGiven m out) here (h n refl)
+    at_port (suc port) rate k = absurd (cc)
+
+pub rates-given : (tag : Tag) (a b : LibraryActor) (X out : Streams Token) (given : List ℕ) → library.rates a ≡ Some given → library.need a ≡ Counts (map length X) → library.step tag a X ≡ Gives b out → AreGiven given out
+rates-given tag (Flow a) b X out given e supplied h =
+    let gave = held-gives Flow (flow_actor.step tag a X) b out h in
+    one-given (flow_actor.rate a) given out e (λ n k. flow_laws.rates-given tag a gave.0 X out n k supplied gave.2)
+rates-given tag (Data a) b X out given e supplied h =
+    let gave = held-gives Data (data_actor.step tag a X) b out h in
+    let same : data_actor.rates a ≡ given = cc in
+    subst (λ ns. AreGiven ns out) same (data_laws.rates-given tag a gave.0 X out gave.2)

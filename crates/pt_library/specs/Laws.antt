@@ -1,0 +1,35 @@
+-- The laws of the libraries: which classes they have, which actors are steady, and how many tokens an actor gives.
+use Rattle.std.specs.Prelude.{◌≡◌, ℕ, List, length, map, true, Some, None, IsSome, IfSome}
+use Rattle.std.specs.List.{AllByRecursion}
+use Rattle.pt_meaning.specs.Basics.{Tag, Streams}
+use Rattle.pt_meaning.specs.Machine.{Counts}
+use Rattle.pt_meaning.specs.Node.{Gives}
+use Rattle.pt_value.specs.declared.token.Token.{Token}
+use Rattle.pt_lib_data.specs.Function as function
+use Rattle.pt_lib_data.specs.Laws.{AreGiven}
+use Rattle.pt_lib_flow.specs.declared.params.Params.{Params}
+use Rattle.pt_lib_flow.specs.FlowActor as flow_actor
+use Rattle.pt_lib_flow.specs.Rates.{IsCount}
+use Rattle.pt_library.specs.declared.library_actor.LibraryActor.{LibraryActor}
+use Rattle.pt_library.specs.LibraryActor.{is_steady, need, rates, step, start}
+use Rattle.pt_library.specs.Steady.{IsSteadyActor}
+
+-- a class of one library is none of the other
+abbrev pub ClassesAreOfOneLibrary : Type 0
+ClassesAreOfOneLibrary = (name : List ℕ) → IsSome (flow_actor.class_of name) → function.class_of name ≡ None
+
+-- an actor that its library tells to be steady is so, whatever it fires
+abbrev pub ToldActorsAreSteady : Type 0
+ToldActorsAreSteady = (a : LibraryActor) → is_steady a ≡ true → IsSteadyActor a
+
+-- its rates, where they don't vary, are from 1 to 1,000,000
+abbrev pub IsRatedActor : LibraryActor → Type 0
+IsRatedActor a = IfSome (rates a) (AllByRecursion IsCount)
+
+-- so are those of each actor that is started from parameters
+abbrev pub RatesAreCounts : Type 0
+RatesAreCounts = (params : Params) (a : LibraryActor) → start params ≡ Some a → IsRatedActor a
+
+-- A firing on as many tokens as the actor needs gives on each output as many as its rate, or none: where an input is absent or of another type, or a source is over.
+abbrev pub RatesAreGiven : Type 0
+RatesAreGiven = (tag : Tag) (a b : LibraryActor) (X out : Streams Token) (given : List ℕ) → rates a ≡ Some given → need a ≡ Counts (map length X) → step tag a X ≡ Gives b out → AreGiven given out

@@ -1,0 +1,3 @@
+pub mod LibraryActor
+pub mod Steady
+pub mod Laws

@@ -1,0 +1,17 @@
+-- Actors that need the same at each firing.
+use Rattle.std.specs.Prelude.{◌≡◌, List, [], ◌∷◌, Option, Some}
+use Rattle.pt_meaning.specs.Basics.{Tag, Streams}
+use Rattle.pt_meaning.specs.Closed.{on_answer}
+use Rattle.pt_value.specs.declared.token.Token.{Token}
+use Rattle.pt_library.specs.declared.library_actor.LibraryActor.{LibraryActor}
+use Rattle.pt_library.specs.LibraryActor as library
+
+-- the actor after some firings, where each of them is done
+abbrev pub after : List (Tag × Streams Token) → LibraryActor → Option LibraryActor
+after [] a = Some a
+after (f ∷ fs) a = on_answer (after fs) (library.step f.0 a f.1)
+
+-- Whatever it fires, its need stays the same, and its step takes any inputs. A source with a limit isn't steady: once it is over it needs nothing more.
+pub record IsSteadyActor (a : LibraryActor) : Type 0 where
+  pub needs : (fs : List (Tag × Streams Token)) (b : LibraryActor) → after fs a ≡ Some b → library.need b ≡ library.need a
+  pub takes : (fs : List (Tag × Streams Token)) (b : LibraryActor) → after fs a ≡ Some b → (tag : Tag) (X : Streams Token) → library.Takes tag b X

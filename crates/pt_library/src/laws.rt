@@ -1,0 +1,29 @@
+ghost use Rattle.pt_meaning.specs.Lawful.{LawfulRows};
+ghost use Rattle.pt_library.specs.LibraryActor.{rows};
+ghost use Rattle.pt_library.specs.Laws.{ClassesAreOfOneLibrary, ToldActorsAreSteady, RatesAreCounts, RatesAreGiven};
+
+/// The rows of all libraries are lawful, since those of each are.
+#[tactic(auto, using(crate::proofs::RowLaws::rows_lawful))]
+pub fn rows_are_lawful()
+    ensures { LawfulRows rows }
+{}
+
+/// A class of one library is none of the other.
+pub fn classes_are_of_one_library()
+    ensures { ClassesAreOfOneLibrary }
+{}
+
+/// An actor that its library tells to be steady needs the same at each firing, whatever it fires, and takes any inputs.
+pub fn told_actors_are_steady()
+    ensures { ToldActorsAreSteady }
+{}
+
+/// The rates of an actor that is started are from 1 to 1,000,000.
+pub fn rates_are_counts()
+    ensures { RatesAreCounts }
+{}
+
+/// A firing on as many tokens as the actor needs gives on each output as many as its rate, or none.
+pub fn rates_are_given()
+    ensures { RatesAreGiven }
+{}

@@ -1,0 +1,12 @@
+//! The library actors: those of each library, in one enum.
+#![tactic(auto)]
+
+mod laws;
+mod library_actor;
+
+pub use laws::{
+    classes_are_of_one_library, rates_are_counts, rates_are_given, rows_are_lawful,
+    told_actors_are_steady,
+};
+pub use library_actor::LibraryActor;
+pub use pt_lib_flow::Params;

@@ -1,0 +1,122 @@
+ghost use Rattle.std.specs.Prelude.{◌≡◌, IfOk, IfSome, option_map};
+ghost use Rattle.pt_lib_flow.specs.FlowActor as flow_actor;
+ghost use Rattle.pt_lib_flow.specs.Rates.{IsCount};
+ghost use Rattle.pt_library.specs.LibraryActor as library;
+ghost use Rattle.pt_library.specs.Laws.{IsRatedActor};
+
+use pt_firing::{Actor, Counts, Fires, Inputs, Need, Partial, Step};
+use pt_lib_data::DataActor;
+use pt_lib_flow::{FlowActor, Params};
+use pt_time::Tag;
+use pt_value::Token;
+use std::alloc::{AllocError, Global};
+
+/// An actor of the libraries, by its library.
+#[derive(Drop)]
+pub enum LibraryActor {
+    Flow(FlowActor),
+    Data(DataActor),
+}
+
+/// The same code for whichever library the actor is of.
+macro_rules! of_library {
+    ($held:expr, $actor:ident => $code:expr) => {
+        match $held {
+            LibraryActor::Flow($actor) => $code,
+            LibraryActor::Data($actor) => $code,
+        }
+    };
+}
+
+/// How many tokens a firing gives on the one output, where the number doesn't vary.
+fn flow_rates(alloc: Global, actor: &FlowActor) -> Result<Option<Counts>, AllocError>
+    requires { IfSome (flow_actor.rate actor.now) IsCount }
+    ensures { IfOk result (λ rates. rates ≡ flow_actor.rates actor.now) }
+{
+    match actor.rate() {
+        Some(rate) => Ok(Some(Counts::of(vec![in alloc; rate]?))),
+        None => Ok(None),
+    }
+}
+
+impl LibraryActor {
+    /// The actor that the parameters start, if the class is one of a library and they are such as its row has them.
+    pub fn started(alloc: Global, params: &Params) -> Result<Option<LibraryActor>, AllocError>
+        ensures { IfOk result (λ actor. actor ≡ library.start params.now) }
+    {
+        if let Some(actor) = FlowActor::started(alloc, params)? {
+            return Ok(Some(LibraryActor::Flow(actor)));
+        }
+        match DataActor::started(alloc, params.class.as_str(), &params.values, &params.ports)? {
+            Some(actor) => Ok(Some(LibraryActor::Data(actor))),
+            None => Ok(None),
+        }
+    }
+
+    /// How many tokens a firing gives on each output, where the numbers don't vary.
+    pub fn rates(&self, alloc: Global) -> Result<Option<Counts>, AllocError>
+        requires { IsRatedActor self.now }
+        ensures { IfOk result (λ rates. rates ≡ library.rates self.now) }
+    {
+        match self {
+            LibraryActor::Flow(actor) => flow_rates(alloc, actor),
+            LibraryActor::Data(actor) => Ok(Some(actor.rates(alloc)?)),
+        }
+    }
+
+    /// Whether it needs the same at each firing.
+    pub fn is_steady(&self) -> bool
+        ensures { result ≡ library.is_steady self.now }
+    {
+        of_library!(self, actor => actor.is_steady())
+    }
+}
+
+impl Fires for LibraryActor {
+    ghost use Rattle.pt_library.specs.LibraryActor as library;
+
+    ghost step = { library.step };
+
+    ghost Takes = { library.Takes };
+
+    ghost IsSpare = { library.IsSpare };
+
+    fn step(&mut self, alloc: Global, tag: Tag, inputs: &Inputs<'_>) -> Step {
+        of_library!(self, actor => actor.step(alloc, tag, inputs))
+    }
+
+    fn copy(&self, alloc: Global) -> Result<LibraryActor, AllocError> {
+        Ok(match self {
+            LibraryActor::Flow(actor) => LibraryActor::Flow(actor.copy(alloc)?),
+            LibraryActor::Data(actor) => LibraryActor::Data(actor.copy(alloc)?),
+        })
+    }
+}
+
+impl Actor for LibraryActor {
+    ghost use Rattle.pt_library.specs.LibraryActor as library;
+
+    ghost first = { library.first };
+
+    ghost need = { library.need };
+
+    ghost next = { library.next };
+
+    ghost early = { library.early };
+
+    fn first(&self) -> &[Token] {
+        of_library!(self, actor => actor.first())
+    }
+
+    fn need(&self) -> Need<'_> {
+        of_library!(self, actor => actor.need())
+    }
+
+    fn early(&self, alloc: Global, tag: Tag, partial: &Partial) -> Result<Partial, AllocError> {
+        of_library!(self, actor => actor.early(alloc, tag, partial))
+    }
+
+    fn next(&self) -> Option<Tag> {
+        of_library!(self, actor => actor.next())
+    }
+}
