@@ -6,7 +6,7 @@ use Rattle.std.specs.List.{slice_get}
 use Rattle.pt_graph.specs.declared.net.Net.{Net}
 use Rattle.pt_graph.specs.declared.net.NetEntity.{NetEntity}
 use Rattle.pt_wiring.specs.Inside.{is_number, is_child, children_of}
-use Rattle.pt_lib_flow.specs.declared.flow_actor.FlowActor.{FlowActor}
+use Rattle.pt_library.specs.declared.library_actor.LibraryActor.{LibraryActor}
 use Rattle.pt_node.specs.Shown.{Shown}
 use Rattle.pt_build.specs.Trees.{IsEntity, Starts, StartsAs}
 use Rattle.pt_build.specs.Built.{IsBuilt, AreBuilt, built_actor, built_sdf, none_built, more_built}
@@ -15,7 +15,7 @@ use Rattle.pt_cover.proofs.Nesting.{get-within}
 
 -- what starts as an actor has nothing within it
 abbrev pub AreChildless : Net → Starts → Type 0
-AreChildless net starts = (k : ℕ) (e : NetEntity) (a : FlowActor) → IsEntity net k e → StartsAs starts k a → (o : ℕ) (d : NetEntity) → IsEntity net o d → is_child k d ≡ false
+AreChildless net starts = (k : ℕ) (e : NetEntity) (a : LibraryActor) → IsEntity net k e → StartsAs starts k a → (o : ℕ) (d : NetEntity) → IsEntity net o d → is_child k d ≡ false
 
 -- the entities of a net: each but the first stands in one before it
 pub record AreRooted (net : Net) : Type 0 where

@@ -13,10 +13,16 @@ use Rattle.pt_graph.specs.Net.{entity_view, IsNetOf}
 use Rattle.pt_values.specs.Scopes.{net_view, is_composite_class}
 use Rattle.pt_start.specs.Nested.{IsNested}
 use Rattle.pt_wiring.specs.Inside.{is_number, is_child}
-use Rattle.pt_lib_flow.specs.declared.flow_actor.FlowActor.{FlowActor}
+use Rattle.pt_library.specs.declared.library_actor.LibraryActor.{LibraryActor}
 use Rattle.pt_lib_flow.specs.declared.flow_actor.Class.{Class}
 use Rattle.pt_lib_flow.specs.declared.params.Params.{Params}
-use Rattle.pt_lib_flow.specs.FlowActor.{class_of, start, start_in}
+use Rattle.pt_lib_flow.specs.FlowActor as flow_actor
+use Rattle.pt_lib_data.specs.declared.function.Class.{Class as DataClass}
+use Rattle.pt_lib_data.specs.Function as function
+use Rattle.pt_lib_data.specs.DataActor as data_actor
+use Rattle.pt_library.specs.LibraryActor.{start}
+use Rattle.pt_library.specs.declared.library_actor.LibraryActor.TheVariants.{Flow, Data}
+use Rattle.std.specs.Option.{option_or}
 use Rattle.pt_node.specs.Recorded.{RecordedPort}
 use Rattle.pt_node.specs.Shown.{Shown, AllShown, Branch, none, more, list_of}
 use Rattle.pt_composite.specs.Composite.{frame_in, children_in}
@@ -32,14 +38,20 @@ use Rattle.pt_cover.proofs.Nodes.{AreChildless, AreRooted, nodes, nodes_in, one-
 
 -- ---- library actors have nothing within them
 
--- the library has no class of this name
-no-class : (class : List ℕ) → IsTrue (is_composite_class class) → class_of class ≡ None
-no-class class passes = by-name (bytes_eq class (codes "Composite")) (bytes_eq class (codes "Modal")) refl refl passes
+-- no library has a class of this name
+no-class : {C : Type 0} (class_of : List ℕ → Option C) → class_of (codes "Composite") ≡ None → class_of (codes "Modal") ≡ None → (class : List ℕ) → IsTrue (is_composite_class class) → class_of class ≡ None
+no-class class_of composite modal class passes = by-name (bytes_eq class (codes "Composite")) (bytes_eq class (codes "Modal")) refl refl passes
   where
     by-name : (b c : Bool) → bytes_eq class (codes "Composite") ≡ b → bytes_eq class (codes "Modal") ≡ c → (b || c) ≡ true → class_of class ≡ None
-    by-name true c is also passes = ap class_of ((bytes_eq-Decides class (codes "Composite")).0 is)
-    by-name false true is also passes = ap class_of ((bytes_eq-Decides class (codes "Modal")).0 also)
+    by-name true c is also passes = ap class_of ((bytes_eq-Decides class (codes "Composite")).0 is) ∙ composite
+    by-name false true is also passes = ap class_of ((bytes_eq-Decides class (codes "Modal")).0 also) ∙ modal
     by-name false false is also passes = absurd cc
+
+no-start : (params : Params) → IsTrue (is_composite_class params.class) → start params ≡ None
+no-start params passes =
+    let flow : flow_actor.start params ≡ None = ap (λ (c : Option Class). flow_actor.start_in c params) (no-class flow_actor.class_of refl refl params.class passes) in
+    let data : data_actor.start params.class params.values params.ports ≡ None = ap (λ (c : Option DataClass). data_actor.start_in c params.values params.ports) (no-class function.class_of refl refl params.class passes) in
+    ap (λ o. option_or (option_map Flow o) (option_map Data (data_actor.start params.class params.values params.ports))) flow ∙ ap (λ o. option_or None (option_map Data o)) data
 
 pub childless : (net : Net) (starts : Starts) → IsNested (net_view net) → AreStartedByClass net starts → AreChildless net starts
 childless net starts nested started k e a at is o d there = of-parent d.parent refl
@@ -51,7 +63,7 @@ childless net starts nested started k e a at is o d there = of-parent d.parent r
     never h =
         let composite : IsTrue (is_composite_class e.class) = (nested.entities o (entity_view d) (view-at o d there)).opaque k (entity_view e) h (view-at k e at) in
         let from = started k e a at is in
-        let none : start from.0 ≡ None = ap (λ (c : Option Class). start_in c from.0) (no-class from.0.class (subst (λ c. IsTrue (is_composite_class c)) (sym from.1) composite)) in
+        let none : start from.0 ≡ None = no-start from.0 (subst (λ c. IsTrue (is_composite_class c)) (sym from.1) composite) in
         none-some a (sym none ∙ from.2)
 
     of-parent : (p : Option ℕ) → d.parent ≡ p → is_number k d.parent ≡ false

@@ -8,12 +8,12 @@ use Rattle.pt_graph.specs.declared.net.NetEntity.{NetEntity}
 use Rattle.pt_graph.specs.Net.{NetEntityTree, entity_view}
 use Rattle.pt_values.specs.declared.values.Values.{Values}
 use Rattle.pt_start.specs.Started.{PortTyping, IsStart}
-use Rattle.pt_lib_flow.specs.declared.flow_actor.FlowActor.{FlowActor}
+use Rattle.pt_library.specs.declared.library_actor.LibraryActor.{LibraryActor}
 use Rattle.pt_lib_flow.specs.declared.params.Params.{Params}
-use Rattle.pt_lib_flow.specs.FlowActor.{start}
+use Rattle.pt_library.specs.LibraryActor.{start}
 use Rattle.pt_build.specs.Trees.{IsEntity}
 
-pub by-class : (net : Net) (values : Values) (typing : PortTyping) (k : ℕ) (e : NetEntity) (a : FlowActor) → IsEntity net k e → IsStart net values typing k (Some a) → (params : Params) × (params.class ≡ e.class) × (start params ≡ Some a)
+pub by-class : (net : Net) (values : Values) (typing : PortTyping) (k : ℕ) (e : NetEntity) (a : LibraryActor) → IsEntity net k e → IsStart net values typing k (Some a) → (params : Params) × (params.class ≡ e.class) × (start params ≡ Some a)
 by-class net values typing k e a at started =
     let f = started.started_from in
     let seen : slice_get (map entity_view net.entities.items) k ≡ Some (entity_view e) = slice_get-map entity_view net.entities.items k ∙ ap (λ (o : Option NetEntity). option_map entity_view o) at in

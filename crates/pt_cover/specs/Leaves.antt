@@ -4,9 +4,9 @@ use Rattle.pt_moml.specs.Document.{EntityTree, EntityTrees, entity, no_entities,
 use Rattle.pt_graph.specs.declared.net.Net.{Net}
 use Rattle.pt_graph.specs.declared.net.NetEntity.{NetEntity}
 use Rattle.pt_values.specs.Scopes.{is_composite_class}
-use Rattle.pt_lib_flow.specs.declared.flow_actor.FlowActor.{FlowActor}
+use Rattle.pt_library.specs.declared.library_actor.LibraryActor.{LibraryActor}
 use Rattle.pt_lib_flow.specs.declared.params.Params.{Params}
-use Rattle.pt_lib_flow.specs.FlowActor.{start}
+use Rattle.pt_library.specs.LibraryActor.{start}
 use Rattle.pt_build.specs.Trees.{IsEntity, Starts, StartsAs}
 
 -- there is an entity among these
@@ -29,4 +29,4 @@ ActorsAreLeaves job = HasLeafActors job.model
 
 -- what an entity starts as is started by parameters of its own class, as pt_start does it; so Composites and Modal entities start as nothing
 abbrev pub AreStartedByClass : Net → Starts → Type 0
-AreStartedByClass net starts = (k : ℕ) (e : NetEntity) (a : FlowActor) → IsEntity net k e → StartsAs starts k a → (params : Params) × (params.class ≡ e.class) × (start params ≡ Some a)
+AreStartedByClass net starts = (k : ℕ) (e : NetEntity) (a : LibraryActor) → IsEntity net k e → StartsAs starts k a → (params : Params) × (params.class ≡ e.class) × (start params ≡ Some a)
