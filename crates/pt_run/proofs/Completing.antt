@@ -11,7 +11,7 @@ use Rattle.pt_meaning.specs.Tree.{paths_of}
 use Rattle.pt_value.specs.declared.token.Token.{Token}
 use Rattle.pt_firing.specs.declared.answer.Answer.TheVariants as answer
 use Rattle.pt_firing.specs.declared.answer.Place.{Place}
-use Rattle.pt_node.specs.LibraryActor.{rows}
+use Rattle.pt_library.specs.LibraryActor.{rows}
 use Rattle.pt_node.specs.Live as live
 use Rattle.pt_node.specs.Shown.{Shown}
 use Rattle.pt_node.specs.View.{node_of, count_of, outline_of, text_at}

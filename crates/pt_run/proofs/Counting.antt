@@ -10,7 +10,7 @@ use Rattle.pt_records.specs.Kept.{Kept, Entry, kept_at, kept_by, GrewBy, count_k
 use Rattle.pt_records.proofs.GrowthLaws.{grew-count}
 use Rattle.pt_node.specs.declared.body.Body.{Body}
 use Rattle.pt_node.specs.declared.body.Body.TheVariants.{Actor, Composite}
-use Rattle.pt_node.specs.LibraryActor.{rows}
+use Rattle.pt_library.specs.LibraryActor.{rows}
 use Rattle.pt_node.specs.Shown.{Shown, AllShown, Branch, none, more}
 use Rattle.pt_node.specs.View.{node_of, nodes_of, node_with, entry_of, kept_of, kepts_of, count_of, counts_of, Outline, Outlines, Named, end, with, outline_of, outlines_of}
 use Rattle.pt_run.specs.Start.{IsBranched, HasLeaves, AllHaveLeaves}

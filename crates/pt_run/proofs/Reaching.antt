@@ -27,14 +27,14 @@ use Rattle.pt_records.proofs.SoFarLaws.{recorded-done}
 use Rattle.pt_node.specs.declared.body.Body.{Body}
 use Rattle.pt_node.specs.declared.body.Body.TheVariants as body
 use Rattle.pt_node.specs.declared.director.Director.TheVariants.{Sdf}
-use Rattle.pt_node.specs.declared.library.LibraryActor.{LibraryActor}
-use Rattle.pt_node.specs.LibraryActor.{rows}
+use Rattle.pt_library.specs.declared.library_actor.LibraryActor.{LibraryActor}
+use Rattle.pt_library.specs.LibraryActor.{rows}
 use Rattle.pt_node.specs.Shown.{Shown, AllShown, Branch, none, more}
 use Rattle.pt_node.specs.View as view
 use Rattle.pt_node.specs.View.{node_of, nodes_of, node_with, kept_of, outline_of}
 use Rattle.pt_node.specs.Live as live
 use Rattle.pt_node.specs.Live.{IsLive}
-use Rattle.pt_node.proofs.LibraryLaws.{rows_lawful}
+use Rattle.pt_library.proofs.RowLaws.{rows_lawful}
 use Rattle.pt_seq.specs.Within.{AnswersTo}
 use Rattle.pt_run.specs.Ports.{recorded_ports, ports_of, traces_of}
 use Rattle.pt_run.specs.Start.{takes_of, IsRunnable}

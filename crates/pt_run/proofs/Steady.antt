@@ -13,10 +13,10 @@ use Rattle.pt_lib_flow.specs.FlowActor as flow_actor
 use Rattle.pt_lib_flow.specs.Limit.{is_over, is_called, after_one, source_need}
 use Rattle.pt_lib_flow.specs.Ramp as ramp
 use Rattle.pt_lib_flow.specs.Scale as scale
-use Rattle.pt_node.specs.declared.library.LibraryActor.{LibraryActor}
-use Rattle.pt_node.specs.declared.library.LibraryActor.TheVariants.{Flow}
-use Rattle.pt_node.specs.LibraryActor as library
-use Rattle.pt_node.specs.Live.{after, IsSteadyActor}
+use Rattle.pt_library.specs.declared.library_actor.LibraryActor.{LibraryActor}
+use Rattle.pt_library.specs.declared.library_actor.LibraryActor.TheVariants.{Flow}
+use Rattle.pt_library.specs.LibraryActor as library
+use Rattle.pt_library.specs.Steady.{after, IsSteadyActor}
 
 some-same : {A : Type 0} (a b : A) → Some a ≡ Some b → a ≡ b
 some-same a b e = cc

@@ -9,8 +9,8 @@ use Rattle.pt_sdf.specs.Clauses.{State}
 use Rattle.pt_sdf.specs.State.{started}
 use Rattle.pt_node.specs.declared.body.Body.TheVariants.{Actor, Composite}
 use Rattle.pt_node.specs.declared.director.Director.TheVariants.{Sdf}
-use Rattle.pt_node.specs.declared.library.LibraryActor.{LibraryActor}
-use Rattle.pt_node.specs.declared.library.LibraryActor.TheVariants.{Flow}
+use Rattle.pt_library.specs.declared.library_actor.LibraryActor.{LibraryActor}
+use Rattle.pt_library.specs.declared.library_actor.LibraryActor.TheVariants.{Flow}
 use Rattle.pt_node.specs.Recorded.{RecordedPort}
 use Rattle.pt_node.specs.Shown.{Shown, Branch, none, more}
 

@@ -8,8 +8,8 @@ use Rattle.pt_meaning.specs.Schedule.{sdf_top}
 use Rattle.pt_meaning.specs.Headline.{Ending, Defined, Faulty, Spent, IsReportOf, count_in}
 use Rattle.pt_meaning.specs.Step.{no_meetings}
 use Rattle.pt_value.specs.declared.token.Token.{Token}
-use Rattle.pt_node.specs.declared.library.LibraryActor.{LibraryActor}
-use Rattle.pt_node.specs.LibraryActor.{rows}
+use Rattle.pt_library.specs.declared.library_actor.LibraryActor.{LibraryActor}
+use Rattle.pt_library.specs.LibraryActor.{rows}
 use Rattle.pt_node.specs.Shown.{Shown}
 use Rattle.pt_node.specs.View.{Tree, node_of, outline_of, text_at}
 use Rattle.pt_seq.specs.Within.{fault_of}

@@ -6,7 +6,7 @@ use Rattle.pt_laws.specs.Heights.{IsFitting}
 use Rattle.pt_laws.specs.StartedRuns.{ArePlans}
 use Rattle.pt_node.specs.declared.body.Body.{Body}
 use Rattle.pt_node.specs.declared.body.Body.TheVariants.{Actor, Composite}
-use Rattle.pt_node.specs.LibraryActor.{rows}
+use Rattle.pt_library.specs.LibraryActor.{rows}
 use Rattle.pt_node.specs.Shown.{Shown, AllShown, Branch, none, more}
 use Rattle.pt_node.specs.View.{node_of}
 use Rattle.pt_node.specs.Live.{IsLive}
