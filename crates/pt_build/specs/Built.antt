@@ -1,5 +1,5 @@
 -- What the nodes of the code are that are built from a net: each entity under its path and with its recorded outputs, as it starts.
-use Rattle.std.specs.Prelude.{◌≡◌, ℕ, suc, ◌<◌, ◌≤◌, List, [], ◌∷◌, Option, Some, None, true, false, length}
+use Rattle.std.specs.Prelude.{◌≡◌, ℕ, suc, ◌<◌, ◌≤◌, List, [], ◌∷◌, true, false, length}
 use Rattle.std.specs.List.{Contains}
 use Rattle.pt_meaning.specs.Tree as tree
 use Rattle.pt_moml.specs.declared.code.Code.{Code}

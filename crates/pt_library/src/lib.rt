@@ -9,4 +9,3 @@ pub use laws::{
     told_actors_are_steady,
 };
 pub use library_actor::LibraryActor;
-pub use pt_lib_flow::Params;

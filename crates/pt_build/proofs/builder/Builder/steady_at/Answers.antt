@@ -5,7 +5,7 @@ use Rattle.pt_library.specs.LibraryActor.{start}
 use Rattle.pt_library.proofs.RateLaws.{started-rated}
 use Rattle.pt_node.specs.declared.body.Held.{Held}
 use Rattle.pt_node.specs.Recorded.{RecordedPort}
-use Rattle.pt_node.specs.Shown.{Shown, shown_node}
+use Rattle.pt_node.specs.Shown.{Shown}
 use Rattle.pt_library.proofs.SteadyLaws.{told-steady}
 use Rattle.pt_composite.specs.Fresh.{IsFresh}
 use Rattle.pt_build.specs.Recorded.{recorded_at, recorded_of, numbers_at}
