@@ -1,3 +1,10 @@
 pub mod Steps
 pub mod Parts
 pub mod PlainNets
+pub mod SaidNames
+pub mod SaidTypes
+pub mod SaidWords
+pub mod SaidRecords
+pub mod SaidLaws
+pub mod SaidChecked
+pub mod SaidTexts

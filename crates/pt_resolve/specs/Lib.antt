@@ -4,3 +4,4 @@ pub mod Inequalities
 pub mod Views
 pub mod Typing
 pub mod Faults
+pub mod SaidWords
