@@ -12,6 +12,7 @@ mod said;
 mod seeds;
 mod tables;
 mod top;
+mod words;
 
 pub use frames::{Frame, Frames};
 pub use inequalities::inequalities_of;

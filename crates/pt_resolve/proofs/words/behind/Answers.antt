@@ -1,6 +1,6 @@
 use Rattle.std.proofs.Common.{◌≡◌, List, ℕ, Some, None, Bool, true, false, cond, bytes_eq, length, take, drop, sym, ap, ◌∙◌}
 use Rattle.pt_moml.proofs.TextWords.{behind_short, behind_is}
-use Rattle.pt_resolve.proofs.said.behind.Goals as goal
+use Rattle.pt_resolve.proofs.words.behind.Goals as goal
 
 pub returns-then-word-text : goal.returns-then-word-text
 returns-then-word-text c = behind_short c.args.word.now c.args.text.now c.if-word-text.true
