@@ -8,3 +8,4 @@ pub mod SaidRecords
 pub mod SaidLaws
 pub mod SaidChecked
 pub mod SaidTexts
+pub mod DeclaredLaws

@@ -5,3 +5,4 @@ pub mod Views
 pub mod Typing
 pub mod Faults
 pub mod SaidWords
+pub mod DeclaredTypes

@@ -303,7 +303,7 @@ fn step<'a>(alloc: Global, place: Place<'a>) -> Result<Next<'a>, AllocError>
 
 /// The type of a text, read word by word.
 #[tactic(auto, unfolding(crate::specs::SaidWords::type_in, crate::specs::SaidWords::leads))]
-fn type_in(alloc: Global, text: &str) -> Result<Option<Ty>, AllocError>
+pub(crate) fn type_in(alloc: Global, text: &str) -> Result<Option<Ty>, AllocError>
     ensures { IfOk result (λ t. option_map type_of t ≡ said.type_in text.now) }
 {
     let mut place = Place {
