@@ -1,21 +1,24 @@
 -- In a net that is plain nothing comes from Modal entities or from declared types.
-use Rattle.std.proofs.Common.{◌≡◌, ℕ, zero, suc, Bool, true, not, List, [], ◌∷◌, map, Option, Some, None, sym, ap, ◌∙◌}
-use Rattle.std.specs.Prelude.{slice_get, codes}
+use Rattle.std.proofs.Common.{◌≡◌, ℕ, zero, suc, Bool, true, not, List, [], ◌∷◌, map, Option, Some, None, sym, ap, ◌∙◌, refl}
+use Rattle.std.specs.Prelude.{slice_get, codes, ◌&&◌}
 use Rattle.std.specs.Str.{bytes_eq}
 use Rattle.std.specs.List.{list_all}
 use Rattle.std.specs.Option.{is_none}
 use Rattle.pt_types.specs.Datatype.{Datatype}
 use Rattle.pt_types.proofs.Fields.{and_left, and_right}
 use Rattle.pt_types.proofs.Order.{bytes_eq-refl}
+use Rattle.pt_moml.specs.declared.job.Port.{Port}
 use Rattle.pt_moml.specs.Document.{PortTree}
+use Rattle.pt_moml.specs.View.{port_view}
 use Rattle.pt_graph.specs.declared.net.Net.{Net}
+use Rattle.pt_graph.specs.declared.net.NetEntity.{NetEntity}
 use Rattle.pt_graph.specs.Net.{NetEntityTree, entity_view}
 use Rattle.pt_values.specs.declared.values.Values.{Values}
 use Rattle.pt_typing.specs.Least.{Assignment, IsLeast}
 use Rattle.pt_resolve.specs.Inequalities.{inequalities}
 use Rattle.pt_resolve.specs.Typing.{Declares, IsLowerByModal, of_input, of_output, of_action, is_plain, ArePlain, port_counts, IsTyping}
 
-some-same : {A : Type 0} (x y : A) → Some x ≡ Some y → x ≡ y
+pub some-same : {A : Type 0} (x y : A) → Some x ≡ Some y → x ≡ y
 some-same x y e = cc
 
 all-at : {A : Type 0} (f : A → Bool) (xs : List A) (k : ℕ) (x : A) → list_all f xs ≡ true → slice_get xs k ≡ Some x → f x ≡ true
@@ -28,19 +31,31 @@ no-text : (o : Option (List ℕ)) (text : List ℕ) → is_none o ≡ true → o
 no-text None text h e = cc
 no-text (Some t) text h e = cc
 
-not-Modal : (e : NetEntityTree) → is_plain e ≡ true → e.class ≡ codes "Modal" → ⊥
+pub not-Modal : (e : NetEntityTree) → is_plain e ≡ true → e.class ≡ codes "Modal" → ⊥
 not-Modal e h m =
     let same : bytes_eq e.class (codes "Modal") ≡ true = ap (λ n. bytes_eq n (codes "Modal")) m ∙ bytes_eq-refl (codes "Modal") in
     let differs : not (bytes_eq e.class (codes "Modal")) ≡ true = and_left (not (bytes_eq e.class (codes "Modal"))) (list_all (λ (p : PortTree). is_none p.declared) e.ports) h in
     let wrong : not true ≡ true = ap not (sym same) ∙ differs in
     cc
 
-undeclared : (e : NetEntityTree) (i : ℕ) (p : PortTree) (t : Datatype) → is_plain e ≡ true → slice_get e.ports i ≡ Some p → Declares p t → ⊥
+pub undeclared : (e : NetEntityTree) (i : ℕ) (p : PortTree) (t : Datatype) → is_plain e ≡ true → slice_get e.ports i ≡ Some p → Declares p t → ⊥
 undeclared e i p t h there d =
     no-text p.declared d.text (all-at (λ (q : PortTree). is_none q.declared) e.ports i p (and_right (not (bytes_eq e.class (codes "Modal"))) (list_all (λ (q : PortTree). is_none q.declared) e.ports) h) there) d.is
 
+-- ---- what the program holds
+
+pub undeclared_views : (ports : List Port) → list_all (λ p. is_none p.declared) ports ≡ list_all (λ p. is_none p.declared) (map port_view ports)
+undeclared_views [] = refl
+undeclared_views (p ∷ ps) = ap (λ b. is_none p.declared && b) (undeclared_views ps)
+
+pub plain_views : (es : List NetEntity) → list_all (λ e. is_plain (entity_view e)) es ≡ list_all is_plain (map entity_view es)
+plain_views [] = refl
+plain_views (e ∷ es) = ap (λ b. is_plain (entity_view e) && b) (plain_views es)
+
+-- ---- typings
+
 module _ (net : Net) (values : Values) (plain : ArePlain net) where
-  plain-at : (k : ℕ) (e : NetEntityTree) → slice_get (map entity_view net.entities.items) k ≡ Some e → is_plain e ≡ true
+  pub plain-at : (k : ℕ) (e : NetEntityTree) → slice_get (map entity_view net.entities.items) k ≡ Some e → is_plain e ≡ true
   plain-at k e there = all-at is_plain (map entity_view net.entities.items) k e plain there
 
   none-by-modal : (a : Assignment) (k i : ℕ) (t : Datatype) → IsLowerByModal net values a k i t → ⊥

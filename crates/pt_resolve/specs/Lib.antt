@@ -4,5 +4,6 @@ pub mod Inequalities
 pub mod Views
 pub mod Typing
 pub mod Faults
+pub mod Broken
 pub mod SaidWords
 pub mod DeclaredTypes

@@ -169,7 +169,7 @@ fn supply_at(supplies: &[Vec<Option<Token>>], index: usize) -> Option<&Vec<Optio
 }
 
 /// What the texts of an entity of this number come to.
-fn values_at(values: &[EntityValues], number: usize) -> Option<&EntityValues>
+pub(crate) fn values_at(values: &[EntityValues], number: usize) -> Option<&EntityValues>
     ensures { option_map (λ v. valued.entity_view v.now) result ≡ slice_get (map valued.entity_view values.now) number }
 {
     values.get(number)

@@ -2,6 +2,7 @@
 #![tactic(auto)]
 
 mod declared;
+mod faults;
 mod frames;
 mod inequalities;
 mod names;
@@ -15,9 +16,10 @@ mod tables;
 mod top;
 mod words;
 
+pub use faults::broken;
 pub use frames::{Frame, Frames};
 pub use inequalities::inequalities_of;
-pub use plain::net_typing;
+pub use plain::{is_plain, net_typing};
 pub use row::{PortType, PortTypeRow, Seed, SeedRow};
 pub use said::ty_said;
 pub use tables::{PORT_TYPES, SEEDS};

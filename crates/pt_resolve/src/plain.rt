@@ -1,13 +1,45 @@
-ghost use Rattle.std.specs.Prelude.{◌≡◌, IfOk, map};
+ghost use Rattle.std.specs.Prelude.{◌≡◌, IfOk, map, true, false};
+ghost use Rattle.std.specs.Option.{is_none};
+ghost use Rattle.std.specs.List.{list_all};
 ghost use Rattle.pt_graph.specs.Net.{entity_view};
 ghost use Rattle.pt_typing.specs.Least.{assignment};
-ghost use Rattle.pt_resolve.specs.Typing.{port_count, ArePlain, IsTyping};
+ghost use Rattle.pt_resolve.specs.Typing.{port_count, is_plain, ArePlain, IsTyping};
 
 use crate::inequalities::inequalities_of;
 use pt_graph::{Net, NetEntity};
+use pt_moml::Port;
 use pt_typing::{Typing, least_typing};
 use pt_values::Values;
 use std::alloc::{AllocError, Global};
+
+fn are_undeclared(ports: &[Port]) -> bool
+    ensures { result ≡ list_all (λ p. is_none p.declared) ports.now }
+{
+    ports.iter().all(|port| port.declared.is_none())
+}
+
+/// Whether an entity isn't Modal, and none of its ports declares a type.
+#[tactic(auto, using(crate::proofs::PlainNets::undeclared_views))]
+fn is_plain_entity(entity: &NetEntity) -> bool
+    ensures { result ≡ is_plain (entity_view entity.now) }
+{
+    entity.class.as_str() != "Modal" && are_undeclared(&entity.ports)
+}
+
+fn are_plain(entities: &[NetEntity]) -> bool
+    ensures { result ≡ list_all (λ e. is_plain (entity_view e)) entities.now }
+{
+    entities.iter().all(is_plain_entity)
+}
+
+/// Whether a net is plain: no entity is Modal, and no port declares a type.
+#[tactic(auto, using(crate::proofs::PlainNets::plain_views))]
+pub fn is_plain(net: &Net) -> bool
+    ensures yes { result ≡ true → ArePlain net.now }
+    ensures no { result ≡ false → ArePlain net.now → ⊥ }
+{
+    are_plain(&net.entities)
+}
 
 /// How many ports an entity has. More than fit 32 bits are told as want of memory.
 fn port_count(entity: &NetEntity) -> Result<u32, AllocError>
