@@ -1,6 +1,7 @@
 pub mod Steps
 pub mod Parts
 pub mod PlainNets
+pub mod DeclaredBounds
 pub mod Breaks
 pub mod SaidNames
 pub mod SaidTypes

@@ -1,6 +1,7 @@
 //! The types of a net: what passes at each of its ports.
 #![tactic(auto)]
 
+mod bounds;
 mod declared;
 mod faults;
 mod frames;
