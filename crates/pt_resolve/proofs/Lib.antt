@@ -10,4 +10,6 @@ pub mod SaidRecords
 pub mod SaidLaws
 pub mod SaidChecked
 pub mod SaidTexts
+pub mod SaidExamples
 pub mod DeclaredLaws
+pub mod Examples

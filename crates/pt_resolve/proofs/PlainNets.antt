@@ -1,5 +1,5 @@
 -- In a net that is plain nothing comes from Modal entities.
-use Rattle.std.proofs.Common.{◌≡◌, ℕ, zero, suc, Bool, true, not, List, [], ◌∷◌, ◌++◌, map, Option, Some, None, sym, ap, ◌∙◌, refl}
+use Rattle.std.proofs.Common.{◌≡◌, ℕ, zero, suc, Bool, true, not, List, [], ◌∷◌, ◌++◌, map, Some, sym, ap, ◌∙◌, refl}
 use Rattle.std.specs.Prelude.{slice_get, codes, ◌&&◌}
 use Rattle.std.specs.Str.{bytes_eq}
 use Rattle.std.specs.List.{list_all}
@@ -7,14 +7,11 @@ use Rattle.std.proofs.lemmas.List.Elements.{All-append}
 use Rattle.pt_types.specs.Datatype.{Datatype}
 use Rattle.pt_types.proofs.Fields.{and_left, and_right}
 use Rattle.pt_types.proofs.Order.{bytes_eq-refl}
-use Rattle.pt_moml.specs.declared.job.Port.{Port}
-use Rattle.pt_moml.specs.Document.{PortTree}
-use Rattle.pt_moml.specs.View.{port_view}
 use Rattle.pt_graph.specs.declared.net.Net.{Net}
 use Rattle.pt_graph.specs.declared.net.NetEntity.{NetEntity}
 use Rattle.pt_graph.specs.Net.{NetEntityTree, entity_view}
 use Rattle.pt_values.specs.declared.values.Values.{Values}
-use Rattle.pt_typing.specs.Least.{Assignment, IsMet, Meets, IsLeast}
+use Rattle.pt_typing.specs.Least.{Assignment, IsMet, IsLeast}
 use Rattle.pt_resolve.specs.Inequalities.{inequalities}
 use Rattle.pt_resolve.specs.DeclaredTypes.{declared}
 use Rattle.pt_resolve.specs.Typing.{IsLowerByModal, of_input, of_output, of_action, is_plain, is_undeclared, ArePlain, port_counts, IsTyping}

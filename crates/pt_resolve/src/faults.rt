@@ -44,7 +44,7 @@ fn is_above(row: PortType, ty: &Ty) -> bool
     }
 }
 
-/// The same of the port of this number of an entity.
+/// Whether a port is general, or above what its row allows: the port `index` of the entity `number`.
 fn is_port_above(
     alloc: Global,
     typing: &Typing,
@@ -59,7 +59,7 @@ fn is_port_above(
     Ok(is_above(port_type(class, port), &ty))
 }
 
-/// Whether a port of an entity is general, or above what its row allows.
+/// Whether one of the ports of an entity is general, or above what its row allows.
 fn has_port_above(
     alloc: Global,
     typing: &Typing,
@@ -107,7 +107,7 @@ fn has_untyped(alloc: Global, typing: &Typing, place: &Place) -> Result<bool, Al
     Ok(false)
 }
 
-/// The same, where nothing is untyped in an entity whose texts come to nothing.
+/// Whether a parameter is an expression without a type, where an entity without values has none.
 fn has_untyped_at(
     alloc: Global,
     frames: &Frames,
@@ -163,14 +163,8 @@ fn first_broken(
     ensures { IfOk result (λ found. found ≡ first_broken (frames_view frames.now) (assignment typing.now) 0 (map entity_view entities.now) (map valued.entity_view values.now)) }
 {
     for (number, entity) in entities.iter().enumerate() {
-        if breaks(
-            alloc,
-            frames,
-            typing,
-            number,
-            entity,
-            values_at(values, number),
-        )? {
+        let own = values_at(values, number);
+        if breaks(alloc, frames, typing, number, entity, own)? {
             return Ok(Some(number));
         }
     }

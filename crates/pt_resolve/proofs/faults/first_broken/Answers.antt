@@ -14,15 +14,15 @@ returns-then-branch c =
     let i = c.loop-number.number in
     let frames = frames_view c.args.frames.now in
     let a = assignment c.args.typing.now in
-    first-here frames a c.args.entities.now c.args.values.now i c.index-entities-number.result (option_map (λ v. valued.entity_view v.now) c.values_at.result)
+    first-here frames a c.args.entities.now c.args.values.now i c.index-entities-number.result (option_map (λ v. valued.entity_view v.now) c.values_at-own.result)
     (first_broken frames a 0 (map entity_view c.args.entities.now) (map valued.entity_view c.args.values.now)) c.loop-number-test.true c.index-entities-number.is
-    (first-mapped valued.entity_view c.args.values.now i ∙ sym c.values_at.ensures) c.loop-number.invariant (sym c.in_ok-breaks.ensures ∙ c.if-branch.true)
+    (first-mapped valued.entity_view c.args.values.now i ∙ sym c.values_at-own.ensures) c.loop-number.invariant (sym c.in_ok-breaks.ensures ∙ c.if-branch.true)
 
 pub loop-number-preserved : goal.loop-number-preserved
 loop-number-preserved c =
     let i = c.loop-number.number in
     let frames = frames_view c.args.frames.now in
     let a = assignment c.args.typing.now in
-    first-later frames a c.args.entities.now c.args.values.now i c.index-entities-number.result (option_map (λ v. valued.entity_view v.now) c.values_at.result)
+    first-later frames a c.args.entities.now c.args.values.now i c.index-entities-number.result (option_map (λ v. valued.entity_view v.now) c.values_at-own.result)
     (first_broken frames a 0 (map entity_view c.args.entities.now) (map valued.entity_view c.args.values.now)) c.loop-number-test.true c.index-entities-number.is
-    (first-mapped valued.entity_view c.args.values.now i ∙ sym c.values_at.ensures) c.loop-number.invariant (sym c.in_ok-breaks.ensures ∙ c.if-branch.false)
+    (first-mapped valued.entity_view c.args.values.now i ∙ sym c.values_at-own.ensures) c.loop-number.invariant (sym c.in_ok-breaks.ensures ∙ c.if-branch.false)
