@@ -1,9 +1,11 @@
 -- The tests tell where the typing of a plain net breaks.
-use Rattle.std.proofs.Common.{◌≡◌, ◌⊎◌, inl, inr, ℕ, zero, suc, ◌+◌, ◌<◌, Bool, true, false, if◌then◌else◌, List, [], ◌∷◌, length, map, drop, get_or, Option, Some, None, refl, sym, ap, subst, ◌∙◌, arith}
+use Rattle.std.proofs.Common.{◌≡◌, ◌⊎◌, inl, inr, ℕ, zero, suc, ◌+◌, ◌<◌, Bool, true, false, ◌||◌, if◌then◌else◌, List, [], ◌∷◌, length, map, drop, get_or, Option, Some, None, refl, sym, ap, subst, ◌∙◌, arith}
 use Rattle.std.proofs.lemmas.Bool.{both_ways, or_cases, or_parts, not-true, not-false, cond-true, cond-false}
 use Rattle.std.specs.Prelude.{slice_get}
 use Rattle.std.specs.List.{Contains, list_any}
 use Rattle.pt_moml.specs.Document.{PortTree}
+use Rattle.pt_types.specs.Datatype.{Datatype}
+use Rattle.pt_types.specs.Order.{is_below}
 use Rattle.pt_expr.specs.Tree.{Tree}
 use Rattle.pt_expr_type.specs.Types.{Types}
 use Rattle.pt_graph.specs.declared.net.Net.{Net}
@@ -22,11 +24,12 @@ use Rattle.pt_typing.specs.Least.{Assignment}
 use Rattle.pt_resolve.specs.Rows.{port_type}
 use Rattle.pt_resolve.specs.Frames.{Frames, frames_of, seen_types, first, behind}
 use Rattle.pt_resolve.specs.Inequalities.{inputs_of, known}
-use Rattle.pt_resolve.specs.Typing.{ArePlain}
+use Rattle.pt_resolve.specs.Typing.{Declares, ArePlain}
 use Rattle.pt_resolve.specs.Faults.{is_above, IsBroken, at_port, above_declared, in_tree, guard, set_action, clash_in}
-use Rattle.pt_resolve.specs.Broken.{has_port_above, lacks_type, has_untyped, breaks, first_broken}
+use Rattle.pt_resolve.specs.Broken.{has_port_above, has_port_over, lacks_type, has_untyped, breaks, first_broken}
 use Rattle.pt_resolve.proofs.Steps.{one-more, drop-one, behind-drop}
-use Rattle.pt_resolve.proofs.PlainNets.{some-same, not-Modal, undeclared, plain-at}
+use Rattle.pt_resolve.proofs.DeclaredBounds.{port-over, no-port-over}
+use Rattle.pt_resolve.proofs.PlainNets.{some-same, not-Modal, plain-at}
 
 -- ---- numbers
 
@@ -166,12 +169,21 @@ module _ (net : Net) (values : Values) (a : Assignment) where
       let t = untyped-tree a k e (types_round e) r.0 r.2 in
       in_tree k e v t.0 at there (subst (Contains v.parameters) t.1 r.1) t.2
 
+  port-broken : (k : ℕ) (e : NetEntityTree) → slice_get entities k ≡ Some e → (has_port_above a k e.class 0 e.ports || has_port_over a k 0 e.ports) ≡ true → IsBroken net values a e
+  port-broken k e at h =
+      elim (or_cases (has_port_above a k e.class 0 e.ports) (has_port_over a k 0 e.ports) h) [
+        | inl above ↦
+            let r = port-above a k e.class 0 e.ports above in
+            at_port k r.0 e r.1 at r.2 (subst (λ n. is_above (port_type e.class r.1) (a.types (Port k n)) ≡ true) (from-none r.0) r.3)
+        | inr over ↦
+            let r = port-over a k 0 e.ports over in
+            above_declared k r.at e r.port r.over.bound at r.is r.over.declares (ap (λ n. is_below (a.types (Port k n)) r.over.bound) (sym (from-none r.at)) ∙ r.over.over)
+      ]
+
   breaks-broken : (k : ℕ) (e : NetEntityTree) → slice_get entities k ≡ Some e → breaks (frames_of net values) a k e (slice_get given k) ≡ true → IsBroken net values a e
   breaks-broken k e at h =
-      elim (or_cases (has_port_above a k e.class 0 e.ports) (has_untyped a k e (types_round e) (slice_get given k)) h) [
-        | inl port ↦
-            let r = port-above a k e.class 0 e.ports port in
-            at_port k r.0 e r.1 at r.2 (subst (λ n. is_above (port_type e.class r.1) (a.types (Port k n)) ≡ true) (from-none r.0) r.3)
+      elim (or_cases (has_port_above a k e.class 0 e.ports || has_port_over a k 0 e.ports) (has_untyped a k e (types_round e) (slice_get given k)) h) [
+        | inl port ↦ port-broken k e at port
         | inr tree ↦ untyped-broken k e (slice_get given k) at refl tree
       ]
 
@@ -190,21 +202,28 @@ module _ (net : Net) (values : Values) (a : Assignment) where
   whole-at : (k : ℕ) (e : NetEntityTree) → first_broken (frames_of net values) a 0 entities given ≡ None → slice_get entities k ≡ Some e → breaks (frames_of net values) a k e (slice_get given k) ≡ false
   whole-at k e h at = ap (λ n. breaks (frames_of net values) a n e (slice_get given k)) (sym (from-none k)) ∙ none-breaks (frames_of net values) a 0 entities given h k e at
 
+  -- neither its ports nor its expressions break the typing
+  ports-whole : (k : ℕ) (e : NetEntityTree) → breaks (frames_of net values) a k e (slice_get given k) ≡ false → (has_port_above a k e.class 0 e.ports ≡ false) × (has_port_over a k 0 e.ports ≡ false)
+  ports-whole k e h = or_parts (has_port_above a k e.class 0 e.ports) (has_port_over a k 0 e.ports) (or_parts (has_port_above a k e.class 0 e.ports || has_port_over a k 0 e.ports) (has_untyped a k e (types_round e) (slice_get given k)) h).0
+
   port-whole : (k i : ℕ) (e : NetEntityTree) (p : PortTree) → breaks (frames_of net values) a k e (slice_get given k) ≡ false → slice_get e.ports i ≡ Some p → is_above (port_type e.class p) (a.types (Port k i)) ≡ false
   port-whole k i e p h there =
-      ap (λ n. is_above (port_type e.class p) (a.types (Port k n))) (sym (from-none i))
-      ∙ no-port-above a k e.class 0 e.ports (or_parts (has_port_above a k e.class 0 e.ports) (has_untyped a k e (types_round e) (slice_get given k)) h).0 i p there
+      ap (λ n. is_above (port_type e.class p) (a.types (Port k n))) (sym (from-none i)) ∙ no-port-above a k e.class 0 e.ports (ports-whole k e h).0 i p there
+
+  bound-whole : (k i : ℕ) (e : NetEntityTree) (p : PortTree) (t : Datatype) → breaks (frames_of net values) a k e (slice_get given k) ≡ false → slice_get e.ports i ≡ Some p → Declares p t → is_below (a.types (Port k i)) t ≡ true
+  bound-whole k i e p t h there d =
+      ap (λ n. is_below (a.types (Port k n)) t) (sym (from-none i)) ∙ no-port-over a k 0 e.ports (ports-whole k e h).1 i p t there d
 
   tree-whole : (k : ℕ) (e : NetEntityTree) (v : EntityView) (t : Tree) → breaks (frames_of net values) a k e (slice_get given k) ≡ false → slice_get given k ≡ Some v → Contains v.parameters (held.Read t) → has_type (names_types a.types (inputs_of k e) (known (types_round e) (names_in t))) t ≡ true
   tree-whole k e v t h there c =
-      let typed : has_untyped a k e (types_round e) (slice_get given k) ≡ false = (or_parts (has_port_above a k e.class 0 e.ports) (has_untyped a k e (types_round e) (slice_get given k)) h).1 in
+      let typed : has_untyped a k e (types_round e) (slice_get given k) ≡ false = (or_parts (has_port_above a k e.class 0 e.ports || has_port_over a k 0 e.ports) (has_untyped a k e (types_round e) (slice_get given k)) h).1 in
       let each : list_any (lacks_type a k e (types_round e)) v.parameters ≡ false = ap (has_untyped a k e (types_round e)) (sym there) ∙ typed in
       not-false (has_type (names_types a.types (inputs_of k e) (known (types_round e) (names_in t))) t) (none-passes (lacks_type a k e (types_round e)) v.parameters each (held.Read t) c)
 
   -- where none is found no entity of a plain net is broken
   pub none-broken : ArePlain net → first_broken (frames_of net values) a 0 entities given ≡ None → (e : NetEntityTree) → IsBroken net values a e → ⊥
   none-broken plain h e (at_port k i e' p at there above) = both_ways (is_above (port_type e'.class p) (a.types (Port k i))) (port-whole k i e' p (whole-at k e' h at) there) above
-  none-broken plain h e (above_declared k i e' p t at there d wrong) = undeclared e' i p t (plain-at net values plain k e' at) there d
+  none-broken plain h e (above_declared k i e' p t at there d wrong) = both_ways (is_below (a.types (Port k i)) t) wrong (bound-whole k i e' p t (whole-at k e' h at) there d)
   none-broken plain h e (in_tree k e' v t at there c wrong) = both_ways (has_type (names_types a.types (inputs_of k e') (known (types_round e') (names_in t))) t) wrong (tree-whole k e' v t (whole-at k e' h at) there c)
   none-broken plain h e (guard m e' v inner tr t r c ty wrong) = not-Modal e' (plain-at net values plain m e' r.at) r.is_modal
   none-broken plain h e (set_action m e' v inner tr x t s r c d ty var wrong) = not-Modal e' (plain-at net values plain m e' r.at) r.is_modal

@@ -1,5 +1,5 @@
 -- By hand: a comparator, and an expression that negates an input, with inputs of different types.
-use Rattle.std.proofs.Common.{◌≡◌, true, false, [], ◌∷◌, None, Some, refl}
+use Rattle.std.proofs.Common.{◌≡◌, ℕ, true, false, List, [], ◌∷◌, None, Some, refl}
 use Rattle.std.specs.Prelude.{codes}
 use Rattle.pt_moml.specs.declared.job.Direction.TheVariants.{Input}
 use Rattle.pt_moml.specs.Document.{PortTree}
@@ -11,7 +11,8 @@ use Rattle.pt_parameter.specs.Given as held
 use Rattle.pt_typing.specs.Least.{Assignment}
 use Rattle.pt_resolve.specs.Rows.{port_type, port_rows}
 use Rattle.pt_resolve.specs.Typing.{is_plain}
-use Rattle.pt_resolve.specs.Broken.{has_port_above, lacks_type}
+use Rattle.pt_resolve.specs.SaidWords.{begin, go_on, leads, type_in}
+use Rattle.pt_resolve.specs.Broken.{has_port_above, has_port_over, lacks_type}
 
 abbrev left : PortTree
 left = record { name = codes "left"; direction = Input; declared = None; properties = [] }
@@ -22,15 +23,12 @@ comparator = record { path = codes ".m.c"; class = codes "Comparator"; director 
 abbrev all_of : Datatype → Assignment
 all_of t = record { types = λ v. t; elsewhere = Unknown }
 
--- it is plain, and would not be as a Modal, or with a port that declares a type
+-- it is plain, and would not be as a Modal
 plain : is_plain comparator ≡ true
 plain = refl
 
 modal : is_plain (record comparator { class = codes "Modal" }) ≡ false
 modal = refl
-
-declared : is_plain (record comparator { ports = (record { name = codes "left"; direction = Input; declared = Some (codes "int"); properties = [] }) ∷ [] }) ≡ false
-declared = refl
 
 -- integers, or nothing, are within its row, and truth values are not
 integers : has_port_above (all_of Int) 1 (codes "Comparator") 0 (left ∷ []) ≡ false
@@ -44,6 +42,26 @@ nothing = refl
 truth_values : has_port_above (all_of Boolean) 1 (codes "Comparator") 0 (left ∷ []) ≡ true
 unfolding port_type port_rows
 truth_values = refl
+
+-- the same where the port declares `int`, whatever its row says, and a text that is no type's asks nothing
+abbrev declared : List ℕ → PortTree
+declared text = record { name = codes "left"; direction = Input; declared = Some text; properties = [] }
+
+declared_integers : has_port_over (all_of Int) 1 0 (declared (codes "int") ∷ []) ≡ false
+unfolding type_in leads begin go_on
+declared_integers = refl
+
+declared_nothing : has_port_over (all_of Unknown) 1 0 (declared (codes "int") ∷ []) ≡ false
+unfolding type_in leads begin go_on
+declared_nothing = refl
+
+declared_truth_values : has_port_over (all_of Boolean) 1 0 (left ∷ declared (codes "int") ∷ []) ≡ true
+unfolding type_in leads begin go_on
+declared_truth_values = refl
+
+declared_no_type : has_port_over (all_of Boolean) 1 0 (declared (codes "integer") ∷ []) ≡ false
+unfolding type_in leads begin go_on
+declared_no_type = refl
 
 abbrev nothing_seen : Types
 nothing_seen name = None

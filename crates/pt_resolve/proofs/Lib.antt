@@ -1,5 +1,15 @@
 pub mod Steps
 pub mod Parts
 pub mod PlainNets
+pub mod DeclaredBounds
 pub mod Breaks
+pub mod SaidNames
+pub mod SaidTypes
+pub mod SaidWords
+pub mod SaidRecords
+pub mod SaidLaws
+pub mod SaidChecked
+pub mod SaidTexts
+pub mod SaidExamples
+pub mod DeclaredLaws
 pub mod Examples

@@ -1,22 +1,21 @@
--- In a net that is plain nothing comes from Modal entities or from declared types.
-use Rattle.std.proofs.Common.{◌≡◌, ℕ, zero, suc, Bool, true, not, List, [], ◌∷◌, map, Option, Some, None, sym, ap, ◌∙◌, refl}
+-- In a net that is plain nothing comes from Modal entities.
+use Rattle.std.proofs.Common.{◌≡◌, ℕ, zero, suc, Bool, true, not, List, [], ◌∷◌, ◌++◌, map, Some, sym, ap, ◌∙◌, refl}
 use Rattle.std.specs.Prelude.{slice_get, codes, ◌&&◌}
 use Rattle.std.specs.Str.{bytes_eq}
 use Rattle.std.specs.List.{list_all}
-use Rattle.std.specs.Option.{is_none}
+use Rattle.std.proofs.lemmas.List.Elements.{All-append}
 use Rattle.pt_types.specs.Datatype.{Datatype}
 use Rattle.pt_types.proofs.Fields.{and_left, and_right}
 use Rattle.pt_types.proofs.Order.{bytes_eq-refl}
-use Rattle.pt_moml.specs.declared.job.Port.{Port}
-use Rattle.pt_moml.specs.Document.{PortTree}
-use Rattle.pt_moml.specs.View.{port_view}
 use Rattle.pt_graph.specs.declared.net.Net.{Net}
 use Rattle.pt_graph.specs.declared.net.NetEntity.{NetEntity}
 use Rattle.pt_graph.specs.Net.{NetEntityTree, entity_view}
 use Rattle.pt_values.specs.declared.values.Values.{Values}
-use Rattle.pt_typing.specs.Least.{Assignment, IsLeast}
+use Rattle.pt_typing.specs.Least.{Assignment, IsMet, IsLeast}
 use Rattle.pt_resolve.specs.Inequalities.{inequalities}
-use Rattle.pt_resolve.specs.Typing.{Declares, IsLowerByModal, of_input, of_output, of_action, is_plain, ArePlain, port_counts, IsTyping}
+use Rattle.pt_resolve.specs.DeclaredTypes.{declared}
+use Rattle.pt_resolve.specs.Typing.{IsLowerByModal, of_input, of_output, of_action, is_plain, is_undeclared, ArePlain, port_counts, IsTyping}
+use Rattle.pt_resolve.proofs.DeclaredLaws.{All-left, All-right, declared-all, declared-each}
 
 pub some-same : {A : Type 0} (x y : A) → Some x ≡ Some y → x ≡ y
 some-same x y e = cc
@@ -27,26 +26,13 @@ all-at f [] (suc k) x h e = cc
 all-at f (y ∷ ys) zero x h e = ap f (sym (some-same y x e)) ∙ and_left (f y) (list_all f ys) h
 all-at f (y ∷ ys) (suc k) x h e = all-at f ys k x (and_right (f y) (list_all f ys) h) e
 
-no-text : (o : Option (List ℕ)) (text : List ℕ) → is_none o ≡ true → o ≡ Some text → ⊥
-no-text None text h e = cc
-no-text (Some t) text h e = cc
-
 pub not-Modal : (e : NetEntityTree) → is_plain e ≡ true → e.class ≡ codes "Modal" → ⊥
 not-Modal e h m =
     let same : bytes_eq e.class (codes "Modal") ≡ true = ap (λ n. bytes_eq n (codes "Modal")) m ∙ bytes_eq-refl (codes "Modal") in
-    let differs : not (bytes_eq e.class (codes "Modal")) ≡ true = and_left (not (bytes_eq e.class (codes "Modal"))) (list_all (λ (p : PortTree). is_none p.declared) e.ports) h in
-    let wrong : not true ≡ true = ap not (sym same) ∙ differs in
+    let wrong : not true ≡ true = ap not (sym same) ∙ h in
     cc
 
-pub undeclared : (e : NetEntityTree) (i : ℕ) (p : PortTree) (t : Datatype) → is_plain e ≡ true → slice_get e.ports i ≡ Some p → Declares p t → ⊥
-undeclared e i p t h there d =
-    no-text p.declared d.text (all-at (λ (q : PortTree). is_none q.declared) e.ports i p (and_right (not (bytes_eq e.class (codes "Modal"))) (list_all (λ (q : PortTree). is_none q.declared) e.ports) h) there) d.is
-
 -- ---- what the program holds
-
-pub undeclared_views : (ports : List Port) → list_all (λ p. is_none p.declared) ports ≡ list_all (λ p. is_none p.declared) (map port_view ports)
-undeclared_views [] = refl
-undeclared_views (p ∷ ps) = ap (λ b. is_none p.declared && b) (undeclared_views ps)
 
 pub plain_views : (es : List NetEntity) → list_all (λ e. is_plain (entity_view e)) es ≡ list_all is_plain (map entity_view es)
 plain_views [] = refl
@@ -56,19 +42,21 @@ plain_views (e ∷ es) = ap (λ b. is_plain (entity_view e) && b) (plain_views e
 
 module _ (net : Net) (values : Values) (plain : ArePlain net) where
   pub plain-at : (k : ℕ) (e : NetEntityTree) → slice_get (map entity_view net.entities.items) k ≡ Some e → is_plain e ≡ true
-  plain-at k e there = all-at is_plain (map entity_view net.entities.items) k e plain there
+  plain-at k e there = all-at is_plain (map entity_view net.entities.items) k e (and_left (list_all is_plain (map entity_view net.entities.items)) (list_all is_undeclared net.transparent.items) plain) there
 
   none-by-modal : (a : Assignment) (k i : ℕ) (t : Datatype) → IsLowerByModal net values a k i t → ⊥
   none-by-modal a k i t (of_input m k' i' j modal e p q r hp hq n d) = not-Modal modal (plain-at m modal r.modal_at) r.is_modal
   none-by-modal a k i t (of_output m k' i' j modal e p q r hp hq n d) = not-Modal modal (plain-at m modal r.modal_at) r.is_modal
   none-by-modal a k i t (of_action m i' e v inner p tr act t' r hp ht ha n ty) = not-Modal e (plain-at m e r.at) r.is_modal
 
-  pub plain-typing : (a : Assignment) → IsLeast (port_counts net) (inequalities net values) a → IsTyping net values a
+  -- the least types that meet the inequalities, with those of declared types, are the typing
+  pub plain-typing : (a : Assignment) → IsLeast (port_counts net) (inequalities net values ++ declared net) a → IsTyping net values a
   plain-typing a h = record {
     above = record {
-      meets = h.meets;
-      declared = λ k i e p t at there d. absurd (undeclared e i p t (plain-at k e at) there d);
+      meets = record { are_types = h.meets.are_types; is_type = h.meets.is_type; outside = h.meets.outside; met = All-left (IsMet a) (inequalities net values) (declared net) h.meets.met };
+      declared = declared-each (IsMet a) net (All-right (IsMet a) (inequalities net values) (declared net) h.meets.met);
       modal = λ k i t m. absurd (none-by-modal a k i t m);
     };
-    least = λ b m. h.least b m.meets;
+    least = λ b m.
+        h.least b (record { are_types = m.meets.are_types; is_type = m.meets.is_type; outside = m.meets.outside; met = All-append (IsMet b) (inequalities net values) (declared net) m.meets.met (declared-all (IsMet b) net m.declared) });
   }

@@ -2,6 +2,8 @@
 use Rattle.std.specs.Prelude.{ℕ, suc, List, [], ◌∷◌, Bool, false, not, ◌||◌, Option, Some, None, if◌then◌else◌}
 use Rattle.std.specs.List.{list_any}
 use Rattle.pt_moml.specs.Document.{PortTree}
+use Rattle.pt_types.specs.Datatype.{Datatype}
+use Rattle.pt_types.specs.Order.{is_below}
 use Rattle.pt_expr_type.specs.Types.{Types}
 use Rattle.pt_graph.specs.Net.{NetEntityTree}
 use Rattle.pt_parameter.specs.Texts.{names_in}
@@ -14,12 +16,28 @@ use Rattle.pt_typing.specs.Least.{Assignment}
 use Rattle.pt_resolve.specs.Rows.{port_type}
 use Rattle.pt_resolve.specs.Frames.{Frames, seen_types, first, behind}
 use Rattle.pt_resolve.specs.Inequalities.{inputs_of, known}
+use Rattle.pt_resolve.specs.SaidWords.{type_in}
 use Rattle.pt_resolve.specs.Faults.{is_above}
 
 -- a port of this entity, from this number on, is general or above what its row allows
 abbrev pub has_port_above : Assignment → ℕ → List ℕ → ℕ → List PortTree → Bool
 has_port_above typing k class i [] = false
 has_port_above typing k class i (p ∷ ps) = is_above (port_type class p) (typing.types (Port k i)) || has_port_above typing k class (suc i) ps
+
+-- a type isn't below another, where there is one
+abbrev pub is_over_type : Datatype → Option Datatype → Bool
+is_over_type t None = false
+is_over_type t (Some s) = not (is_below t s)
+
+-- a type isn't below the one that a port declares
+abbrev pub is_over : Datatype → Option (List ℕ) → Bool
+is_over t None = false
+is_over t (Some text) = is_over_type t (type_in text)
+
+-- a port of this entity, from this number on, isn't below what it declares
+abbrev pub has_port_over : Assignment → ℕ → ℕ → List PortTree → Bool
+has_port_over typing k i [] = false
+has_port_over typing k i (p ∷ ps) = is_over (typing.types (Port k i)) p.declared || has_port_over typing k (suc i) ps
 
 -- a parameter is an expression without a type
 abbrev pub lacks_type : Assignment → ℕ → NetEntityTree → Types → Held → Bool
@@ -34,7 +52,7 @@ has_untyped typing k e types (Some v) = list_any (lacks_type typing k e types) v
 
 -- the typing breaks at the entity of this number
 abbrev pub breaks : Frames → Assignment → ℕ → NetEntityTree → Option EntityView → Bool
-breaks frames typing k e v = has_port_above typing k e.class 0 e.ports || has_untyped typing k e (seen_types frames e.within e.parent) v
+breaks frames typing k e v = (has_port_above typing k e.class 0 e.ports || has_port_over typing k 0 e.ports) || has_untyped typing k e (seen_types frames e.within e.parent) v
 
 -- the number of the first of these entities, numbered from this number on, at which the typing breaks
 abbrev pub first_broken : Frames → Assignment → ℕ → List NetEntityTree → List EntityView → Option ℕ

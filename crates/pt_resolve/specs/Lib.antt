@@ -5,3 +5,5 @@ pub mod Views
 pub mod Typing
 pub mod Faults
 pub mod Broken
+pub mod SaidWords
+pub mod DeclaredTypes

@@ -15,6 +15,7 @@ use Rattle.pt_expr.specs.Tree.{Tree}
 use Rattle.pt_expr_type.specs.Types.{Types, or_else}
 use Rattle.pt_expr_type.specs.Rule.{type_or_general}
 use Rattle.pt_expr_type.specs.ByName.{by_name}
+use Rattle.pt_graph.specs.declared.net.Transparent.{Transparent}
 use Rattle.pt_graph.specs.declared.net.Net.{Net}
 use Rattle.pt_graph.specs.Net.{NetEntityTree, entity_view}
 use Rattle.pt_parameter.specs.Texts.{types_of as types_of_scope, IsRead}
@@ -121,9 +122,17 @@ pub record IsTyping (net : Net) (values : Values) (typing : Assignment) : Type 0
 
 -- ---- nets that are plain
 
--- an entity that isn't Modal, and no port of which declares a type
+-- an entity that isn't Modal
 abbrev pub is_plain : NetEntityTree → Bool
-is_plain e = not (bytes_eq e.class (codes "Modal")) && list_all (λ p. is_none p.declared) e.ports
+is_plain e = not (bytes_eq e.class (codes "Modal"))
+
+-- a transparent composite no port of which declares a type
+abbrev pub is_undeclared : Transparent → Bool
+is_undeclared c = list_all (λ p. is_none p.declared) c.ports.items
+
+-- no entity is Modal, and no port of a transparent composite declares a type: a net doesn't say which channels pass there
+abbrev pub are_plain : Net → Bool
+are_plain net = list_all is_plain (map entity_view net.entities.items) && list_all is_undeclared net.transparent.items
 
 abbrev pub ArePlain : Net → Type 0
-ArePlain net = list_all is_plain (map entity_view net.entities.items) ≡ true
+ArePlain net = are_plain net ≡ true

@@ -13,6 +13,7 @@ ghost use Rattle.pt_resolve.specs.Faults.{is_above, IsBroken};
 ghost use Rattle.pt_resolve.specs.Broken.{has_port_above, lacks_type, has_untyped, breaks, first_broken};
 ghost use Rattle.pt_resolve.specs.Views.{frames_view, types_at};
 
+use crate::bounds::has_port_over;
 use crate::frames::Frames;
 use crate::inequalities::values_at;
 use crate::place::Place;
@@ -145,6 +146,9 @@ fn breaks(
     if has_port_above(alloc, typing, number, entity.class.as_str(), &entity.ports)? {
         return Ok(true);
     }
+    if has_port_over(alloc, typing, number, &entity.ports)? {
+        return Ok(true);
+    }
     has_untyped_at(alloc, frames, typing, number, entity, values)
 }
 
@@ -167,8 +171,8 @@ fn first_broken(
     Ok(None)
 }
 
-/// The number of the first entity at which the typing of a plain net breaks, if there is one: a port is general or above what its
-/// row allows, or an expression has no type.
+/// The number of the first entity at which the typing of a plain net breaks, if there is one: a port is general, above what its
+/// row allows, or not below what it declares, or an expression has no type.
 pub fn broken(
     alloc: Global,
     net: &Net,

@@ -1,6 +1,8 @@
 //! The types of a net: what passes at each of its ports.
 #![tactic(auto)]
 
+mod bounds;
+mod declared;
 mod faults;
 mod frames;
 mod inequalities;
@@ -9,13 +11,16 @@ mod place;
 mod plain;
 mod row;
 mod rows;
+mod said;
 mod seeds;
 mod tables;
 mod top;
+mod words;
 
 pub use faults::broken;
 pub use frames::{Frame, Frames};
 pub use inequalities::inequalities_of;
 pub use plain::{is_plain, net_typing};
 pub use row::{PortType, PortTypeRow, Seed, SeedRow};
+pub use said::ty_said;
 pub use tables::{PORT_TYPES, SEEDS};

@@ -3,10 +3,11 @@ ghost use Rattle.std.specs.Option.{is_none};
 ghost use Rattle.std.specs.List.{list_all};
 ghost use Rattle.pt_graph.specs.Net.{entity_view};
 ghost use Rattle.pt_typing.specs.Least.{assignment};
-ghost use Rattle.pt_resolve.specs.Typing.{port_count, is_plain, ArePlain, IsTyping};
+ghost use Rattle.pt_resolve.specs.Typing.{port_count, is_plain, is_undeclared, ArePlain, IsTyping};
 
+use crate::declared::add_declared;
 use crate::inequalities::inequalities_of;
-use pt_graph::{Net, NetEntity};
+use pt_graph::{Net, NetEntity, Transparent};
 use pt_moml::Port;
 use pt_typing::{Typing, least_typing};
 use pt_values::Values;
@@ -18,12 +19,11 @@ fn are_undeclared(ports: &[Port]) -> bool
     ports.iter().all(|port| port.declared.is_none())
 }
 
-/// Whether an entity isn't Modal, and none of its ports declares a type.
-#[tactic(auto, using(crate::proofs::PlainNets::undeclared_views))]
+/// Whether an entity isn't Modal.
 fn is_plain_entity(entity: &NetEntity) -> bool
     ensures { result ≡ is_plain (entity_view entity.now) }
 {
-    entity.class.as_str() != "Modal" && are_undeclared(&entity.ports)
+    entity.class.as_str() != "Modal"
 }
 
 fn are_plain(entities: &[NetEntity]) -> bool
@@ -32,13 +32,26 @@ fn are_plain(entities: &[NetEntity]) -> bool
     entities.iter().all(is_plain_entity)
 }
 
-/// Whether a net is plain: no entity is Modal, and no port declares a type.
+/// Whether no port of a transparent composite declares a type.
+fn is_undeclared(composite: &Transparent) -> bool
+    ensures { result ≡ is_undeclared composite.now }
+{
+    are_undeclared(&composite.ports)
+}
+
+fn all_undeclared(composites: &[Transparent]) -> bool
+    ensures { result ≡ list_all is_undeclared composites.now }
+{
+    composites.iter().all(is_undeclared)
+}
+
+/// Whether a net is plain: no entity is Modal, and no port of a transparent composite declares a type.
 #[tactic(auto, using(crate::proofs::PlainNets::plain_views))]
 pub fn is_plain(net: &Net) -> bool
     ensures yes { result ≡ true → ArePlain net.now }
     ensures no { result ≡ false → ArePlain net.now → ⊥ }
 {
-    are_plain(&net.entities)
+    are_plain(&net.entities) && all_undeclared(&net.transparent)
 }
 
 /// How many ports an entity has. More than fit 32 bits are told as want of memory.
@@ -63,13 +76,14 @@ fn port_counts(alloc: Global, entities: &[NetEntity]) -> Result<Vec<u32>, AllocE
     Ok(counts)
 }
 
-/// The typing of a net without Modal entities, in which no port declares a type: the least types of its ports and rows that meet
-/// all inequalities.
+/// The typing of a net without Modal entities, in which no port of a transparent composite declares a type: the least types of its
+/// ports and rows that meet all inequalities and are above what ports declare.
 pub fn net_typing(alloc: Global, net: &Net, values: &Values) -> Result<Typing, AllocError>
     requires { ArePlain net.now }
     ensures { IfOk result (λ t. IsTyping net.now values.now (assignment t)) }
 {
     let counts = port_counts(alloc, &net.entities)?;
-    let inequalities = inequalities_of(alloc, net, values)?;
+    let mut inequalities = inequalities_of(alloc, net, values)?;
+    add_declared(alloc, &net.entities, &mut inequalities)?;
     least_typing(alloc, counts.as_slice(), inequalities.as_slice())
 }
