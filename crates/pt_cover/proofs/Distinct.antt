@@ -1,19 +1,19 @@
 -- No two entities of a document have one path: the names of what is within one entity differ, and a name has no dot.
-use Rattle.std.proofs.Common.{◌≡◌, ◌⊎◌, inl, inr, ◌≤◌, ◌<◌, ◌+◌, ℕ, zero, suc, List, [], ◌∷◌, ◌++◌, Bool, true, false, cond, ◌&&◌, ◌||◌, Option, Some, None, length, map, filter, option_map, nat_lt, nat_le, slice_index, codes, bytes_eq, refl, sym, ap, subst, ◌∙◌, arith, length-append, append_assoc, append-nil}
+use Rattle.std.proofs.Common.{◌≡◌, ◌⊎◌, inl, inr, ◌<◌, ℕ, List, [], ◌∷◌, ◌++◌, Bool, true, false, cond, ◌&&◌, ◌||◌, Some, length, filter, option_map, nat_lt, nat_le, slice_index, codes, bytes_eq, refl, sym, ap, subst, ◌∙◌, arith, length-append, append_assoc, append-nil}
 use Rattle.std.proofs.lemmas.List.{append_cancel_left}
 use Rattle.std.proofs.lemmas.List.Folds.{list_any-append}
-use Rattle.std.proofs.lemmas.Option.{none-some, same_Some, slice_get-map, slice_get_within}
+use Rattle.std.proofs.lemmas.Option.{none-some, slice_get-map}
 use Rattle.std.proofs.lemmas.Bool.{cases_order, ltb-true}
 use Rattle.std.proofs.lemmas.Slice.Eq.{bytes_eq-Decides}
 use Rattle.std.specs.List.{list_all, list_any, slice_get}
 use Rattle.pt_moml.specs.Document.{EntityTree, EntityTrees, entity, no_entities, one_entity, entity_name, JobTree}
-use Rattle.pt_moml.specs.Names.{is_first, is_later, is_name, has_name, are_distinct, are_distinct_after, top_path, below}
+use Rattle.pt_moml.specs.Names.{is_first, is_later, is_name, has_name, are_distinct_after, top_path, below}
 use Rattle.pt_moml.specs.Reading.{IsJobOf}
 use Rattle.pt_graph.specs.declared.net.Net.{Net}
 use Rattle.pt_graph.specs.declared.net.NetEntity.{NetEntity}
 use Rattle.pt_graph.specs.Standing.{Standing, Round, is_kept, standing, round_in, no_round, with_entity, with_entities, entities}
 use Rattle.pt_graph.specs.Net.{NetEntityTree, entity_view, entity_tree, IsNetOf}
-use Rattle.pt_values.proofs.Document.{get-left, get-last, get-cases}
+use Rattle.pt_values.proofs.Document.{get-cases}
 use Rattle.pt_values.proofs.Places.{place, rises, filter-place}
 use Rattle.pt_build.specs.Trees.{IsEntity}
 use Rattle.pt_cover.proofs.Reading.{IsSound, AreSound, names_of, documents-sound}

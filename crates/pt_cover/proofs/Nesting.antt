@@ -1,18 +1,18 @@
 -- The net of a job whose actors are leaves: its composites are nested, and all its entities stand in the top.
-use Rattle.std.proofs.Common.{◌≡◌, ◌⊎◌, inl, inr, ◌≤◌, ◌<◌, ◌-◌, ℕ, zero, suc, List, Bool, true, false, not, Option, Some, None, length, map, take, filter, refl, sym, ap, subst, ◌∙◌, arith}
+use Rattle.std.proofs.Common.{◌≡◌, ◌⊎◌, inl, inr, ◌<◌, ◌-◌, ℕ, List, Bool, true, false, not, Option, Some, None, length, map, take, filter, refl, sym, ap, subst, ◌∙◌, arith}
 use Rattle.std.specs.Prelude.{IsTrue, option_map}
 use Rattle.std.proofs.lemmas.Bool.{cases_order}
 use Rattle.std.proofs.lemmas.Option.{none-some, same_Some, slice_get-map, slice_get_cases}
 use Rattle.std.specs.List.{count_by, slice_get}
-use Rattle.pt_moml.specs.Document.{parts, JobTree}
+use Rattle.pt_moml.specs.Document.{JobTree}
 use Rattle.pt_graph.specs.declared.net.Net.{Net}
-use Rattle.pt_graph.specs.Standing.{Standing, Round, is_kept, kept_count, no_round, entities}
+use Rattle.pt_graph.specs.Standing.{Standing, Round, is_kept, entities}
 use Rattle.pt_graph.specs.Net.{NetEntityTree, TransparentTree, IsNetOf, entity_tree, transparent_tree}
 use Rattle.pt_values.specs.Scopes.{NetTree, net_view, is_composite_class}
 use Rattle.pt_values.proofs.Places.{place, rises, filter-place, place-count, count-below, counts}
 use Rattle.pt_start.specs.Nested.{IsTransparentIn, AreRound, IsNested}
 use Rattle.pt_cover.specs.Leaves.{ActorsAreLeaves}
-use Rattle.pt_cover.proofs.Walk.{IsHolder, IsLeft, IsWithin, IsTop, IsPlaced, ArePlaced, all-placed}
+use Rattle.pt_cover.proofs.Walk.{IsHolder, IsLeft, IsWithin, IsTop, ArePlaced, all-placed}
 
 -- ---- what passes a test, by its number among what passes
 

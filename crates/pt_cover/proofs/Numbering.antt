@@ -1,8 +1,8 @@
 -- Each recorded port of a net has its number in the tree that is built from it, once.
-use Rattle.std.proofs.Common.{◌≡◌, ◌⊎◌, inl, inr, ◌≤◌, ◌<◌, ◌+◌, ℕ, zero, suc, List, [], ◌∷◌, ◌++◌, Bool, true, false, not, nat_eq, Option, Some, None, map, length, take, filter, codes, bytes_eq, option_map, ◌||◌, refl, sym, ap, ap₂, subst, ◌∙◌, arith, length-append}
+use Rattle.std.proofs.Common.{◌≡◌, inl, inr, ◌<◌, ◌+◌, ℕ, suc, List, [], ◌∷◌, ◌++◌, Bool, true, false, nat_eq, Option, Some, None, map, length, codes, bytes_eq, option_map, ◌||◌, refl, sym, ap, ap₂, subst, ◌∙◌, arith}
 use Rattle.std.specs.Prelude.{IsTrue}
 use Rattle.std.proofs.lemmas.Bool.{cases_eq, eq-eqb, ne_eqb}
-use Rattle.std.proofs.lemmas.Option.{none-some, same_Some, slice_get-map, slice_get_within}
+use Rattle.std.proofs.lemmas.Option.{none-some, slice_get-map}
 use Rattle.std.proofs.lemmas.Slice.Eq.{bytes_eq-Decides}
 use Rattle.std.specs.List.{slice_get}
 use Rattle.pt_moml.specs.Document.{JobTree}
@@ -12,8 +12,7 @@ use Rattle.pt_graph.specs.declared.net.NetPort.{NetPort}
 use Rattle.pt_graph.specs.Net.{entity_view, IsNetOf}
 use Rattle.pt_values.specs.Scopes.{net_view, is_composite_class}
 use Rattle.pt_start.specs.Nested.{IsNested}
-use Rattle.pt_wiring.specs.Inside.{is_number, is_child}
-use Rattle.pt_library.specs.declared.library_actor.LibraryActor.{LibraryActor}
+use Rattle.pt_wiring.specs.Inside.{is_number}
 use Rattle.pt_lib_flow.specs.declared.flow_actor.Class.{Class}
 use Rattle.pt_lib_flow.specs.declared.params.Params.{Params}
 use Rattle.pt_lib_flow.specs.FlowActor as flow_actor
@@ -26,7 +25,7 @@ use Rattle.std.specs.Option.{option_or}
 use Rattle.pt_node.specs.Recorded.{RecordedPort}
 use Rattle.pt_node.specs.Shown.{Shown, AllShown, Branch, none, more, list_of}
 use Rattle.pt_composite.specs.Composite.{frame_in, children_in}
-use Rattle.pt_build.specs.Trees.{IsEntity, Starts, StartsAs}
+use Rattle.pt_build.specs.Trees.{IsEntity, Starts}
 use Rattle.pt_build.specs.Recorded.{numbers_at, recorded_at, recorded_of}
 use Rattle.pt_build.specs.Built.{IsBuilt, AreBuilt, built_actor, built_sdf, none_built, more_built}
 use Rattle.pt_run.specs.Ports.{Listed, own_ports, seen_below, ports_in, ports_below, listed_if, of_number, outputs_in, outputs_below, AreBelow, AreNumbered}

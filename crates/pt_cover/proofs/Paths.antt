@@ -1,7 +1,7 @@
 -- To each entity of a net leads one path of the tree that is built, and at that path stands its text.
-use Rattle.std.proofs.Common.{◌≡◌, ◌⊎◌, inl, inr, ◌≤◌, ◌<◌, ◌+◌, ℕ, zero, suc, List, [], ◌∷◌, ◌++◌, Bool, true, false, nat_eq, Option, Some, None, length, refl, sym, ap, ap₂, subst, ◌∙◌, arith}
+use Rattle.std.proofs.Common.{◌≡◌, ◌⊎◌, inl, inr, ◌<◌, ℕ, zero, suc, List, [], ◌∷◌, ◌++◌, Bool, true, false, nat_eq, Option, Some, None, length, refl, sym, ap, ap₂, subst, ◌∙◌, arith}
 use Rattle.std.specs.Prelude.{option_map, option_and_then}
-use Rattle.std.proofs.lemmas.Bool.{eqb-true, eq-eqb, ne_eqb}
+use Rattle.std.proofs.lemmas.Bool.{eqb-true, eq-eqb}
 use Rattle.std.proofs.lemmas.Option.{none-some, same_Some, slice_get_within}
 use Rattle.std.specs.List.{slice_get}
 use Rattle.pt_meaning.specs.Basics.{Path}
@@ -11,7 +11,7 @@ use Rattle.pt_graph.specs.declared.net.NetEntity.{NetEntity}
 use Rattle.pt_graph.specs.Net.{IsNetOf}
 use Rattle.pt_wiring.specs.Inside.{is_number, is_child, children_of}
 use Rattle.pt_node.specs.Shown.{Shown, AllShown, Branch, none, more, list_of}
-use Rattle.pt_node.specs.View.{Outlines, outline_of, outlines_of, text_at, text_below}
+use Rattle.pt_node.specs.View.{outline_of, outlines_of, text_at, text_below}
 use Rattle.pt_composite.specs.Composite.{frame_in, children_in}
 use Rattle.pt_build.specs.Trees.{IsEntity, Starts}
 use Rattle.pt_build.specs.Built.{IsBuilt, AreBuilt, built_actor, built_sdf, none_built, more_built}

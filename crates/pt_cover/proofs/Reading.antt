@@ -1,6 +1,6 @@
 -- What the entities of a document are: only Composites and Modal entities have entities within them, since an actor has no field for them, and the names of
 -- these are names that differ.
-use Rattle.std.proofs.Common.{◌≡◌, ℕ, List, [], ◌∷◌, ◌++◌, Bool, true, false, cond, Option, Some, None, Result, Ok, Err, codes, bytes_eq, option_map, ◌||◌, refl, sym, ap, ◌∙◌, subst}
+use Rattle.std.proofs.Common.{◌≡◌, ℕ, List, [], ◌∷◌, ◌++◌, Bool, true, false, cond, Option, Some, None, Result, Ok, codes, bytes_eq, option_map, ◌||◌, refl, sym, ap, ◌∙◌, subst}
 use Rattle.std.specs.Prelude.{IsTrue, is_some}
 use Rattle.std.proofs.Common.{Ordering, Less, Equal, Greater, map}
 use Rattle.std.specs.Ordering.{nat_cmp, match_ordering}
@@ -18,13 +18,12 @@ use Rattle.pt_moml.specs.declared.code.Code.TheVariants.{Name}
 use Rattle.pt_moml.specs.Names.{is_among, is_name, are_distinct, below, top_path}
 use Rattle.pt_moml.specs.Outcome.{◌>>=◌}
 use Rattle.pt_moml.specs.Fields.{listed, name_at, optional_list, text_at, distinct_at}
-use Rattle.pt_moml.specs.Forms as forms
-use Rattle.pt_moml.specs.Forms.{keys, Field}
+use Rattle.pt_moml.specs.Forms.{Field}
 use Rattle.pt_moml.specs.Reading.{named, entity_fields, properties_field, ports_field, relations_field, link_at, states_field, initial_field, transition_at, parts_at, entity_from, entities_in, entities_under, entities_at, entity_items, entities_field, limits_at, model_at, version_at, job_fields, input_at, job_of, IsJobOf}
 use Rattle.pt_moml.proofs.Chains.{good, bind_ok, never_ok, test_ok}
 use Rattle.pt_moml.proofs.Entities.{in_is}
 use Rattle.pt_moml.proofs.FieldLaws.{name_ok}
-use Rattle.pt_moml.proofs.EntityLaws.{Steps, steps}
+use Rattle.pt_moml.proofs.EntityLaws.{steps}
 use Rattle.pt_moml.proofs.ObjectLaws.{listed_ok, absent_field}
 use Rattle.pt_values.specs.Scopes.{is_composite_class}
 use Rattle.pt_cover.specs.Leaves.{has_entities, HasLeafActors, HaveLeafActors, ActorsAreLeaves}

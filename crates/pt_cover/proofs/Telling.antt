@@ -1,5 +1,5 @@
 -- In the order of their numbers the recorded ports of a built tree are those of the net, each at the node of its entity.
-use Rattle.std.proofs.Common.{◌≡◌, ◌≤◌, ◌<◌, ◌+◌, ℕ, zero, suc, List, [], ◌∷◌, ◌++◌, Bool, true, false, nat_eq, Option, Some, None, map, length, refl, sym, ap, subst, ◌∙◌, arith, length-append}
+use Rattle.std.proofs.Common.{◌≡◌, ◌≤◌, ◌<◌, ◌+◌, ℕ, zero, suc, List, [], ◌∷◌, ◌++◌, Bool, true, false, nat_eq, Option, Some, map, length, refl, sym, ap, subst, ◌∙◌, arith, length-append}
 use Rattle.std.proofs.lemmas.Bool.{eqb-true}
 use Rattle.std.proofs.lemmas.Option.{none-some, same_Some}
 use Rattle.std.specs.List.{slice_get}
@@ -13,7 +13,7 @@ use Rattle.pt_graph.specs.Net.{IsNetOf}
 use Rattle.pt_wiring.specs.Inside.{port_number}
 use Rattle.pt_node.specs.Recorded.{RecordedPort}
 use Rattle.pt_node.specs.Shown.{Shown, AllShown, Branch, none, more, list_of}
-use Rattle.pt_node.specs.View.{Outline, Outlines, outline_of, outlines_of, text_at, text_below}
+use Rattle.pt_node.specs.View.{outline_of, outlines_of, text_at, text_below}
 use Rattle.pt_composite.specs.Composite.{frame_in, children_in}
 use Rattle.pt_build.specs.Trees.{IsEntity, Starts}
 use Rattle.pt_build.specs.Recorded.{numbers_at, port_in, text_in, recorded_at, recorded_of}

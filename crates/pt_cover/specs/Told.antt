@@ -1,5 +1,5 @@
 -- What each trace of a report is of.
-use Rattle.std.specs.Prelude.{◌≡◌, ℕ, List, length, Some, true, slice_get}
+use Rattle.std.specs.Prelude.{◌≡◌, ℕ, length, Some, true, slice_get}
 use Rattle.pt_moml.specs.declared.job.Port.{Port}
 use Rattle.pt_moml.specs.Names.{below}
 use Rattle.pt_graph.specs.declared.net.Net.{Net}
