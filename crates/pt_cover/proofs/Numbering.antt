@@ -48,9 +48,9 @@ no-class class_of composite modal class passes = by-name (bytes_eq class (codes 
 
 no-start : (params : Params) → IsTrue (is_composite_class params.class) → start params ≡ None
 no-start params passes =
-    let flow : flow_actor.start params ≡ None = ap (λ (c : Option Class). flow_actor.start_in c params) (no-class flow_actor.class_of refl refl params.class passes) in
-    let data : data_actor.start params.class params.values params.ports ≡ None = ap (λ (c : Option DataClass). data_actor.start_in c params.values params.ports) (no-class function.class_of refl refl params.class passes) in
-    ap (λ o. option_or (option_map Flow o) (option_map Data (data_actor.start params.class params.values params.ports))) flow ∙ ap (λ o. option_or None (option_map Data o)) data
+    let of-flow : flow_actor.start params ≡ None = ap (λ (c : Option Class). flow_actor.start_in c params) (no-class flow_actor.class_of refl refl params.class passes) in
+    let of-data : data_actor.start params.class params.values params.ports ≡ None = ap (λ (c : Option DataClass). data_actor.start_in c params.values params.ports) (no-class function.class_of refl refl params.class passes) in
+    ap (λ o. option_or (option_map Flow o) (option_map Data (data_actor.start params.class params.values params.ports))) of-flow ∙ ap (λ o. option_or None (option_map Data o)) of-data
 
 pub childless : (net : Net) (starts : Starts) → IsNested (net_view net) → AreStartedByClass net starts → AreChildless net starts
 childless net starts nested started k e a at is o d there = of-parent d.parent refl
