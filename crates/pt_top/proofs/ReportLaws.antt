@@ -1,5 +1,7 @@
--- The text of a report, from the parts of the report.
-use Rattle.std.proofs.Common.{◌≡◌, List, [], length, ap, ◌∙◌}
+-- The text of a report from the parts of the report, and what a refusal answers.
+use Rattle.std.proofs.Common.{◌≡◌, ℕ, List, [], length, Result, Ok, Err, IfOk, ap, sym, subst, ◌∙◌}
+use Rattle.std.specs.declared.alloc.AllocError.{AllocError}
+use Rattle.pt_moml.specs.declared.refusal.Refusal.{Refusal}
 use Rattle.pt_graph.specs.declared.net.Net.{Net}
 use Rattle.pt_trace.specs.declared.run_end.RunEnd.{RunEnd}
 use Rattle.pt_trace.specs.Report.{Trace, Meetings, Report}
@@ -8,11 +10,19 @@ use Rattle.pt_node.specs.Shown.{Shown}
 use Rattle.pt_run.specs.declared.ended.Ended.{Ended}
 use Rattle.pt_run.specs.Ports.{recorded_ports, told_of}
 use Rattle.pt_run.specs.Report.{end_of}
-use Rattle.pt_top.specs.Reply.{report_of}
+use Rattle.pt_model.specs.Refused.{IsRefused}
+use Rattle.pt_top.specs.declared.report.Reply.{Reply}
+use Rattle.pt_top.specs.declared.status.Status.TheVariants.{Document}
+use Rattle.pt_top.specs.Reply.{refusal_text, report_of, AnswersNet}
 
-pub same-text : (net : Net) (top : Shown) (e : Ended) (r : Report) → r.traces ≡ told_of (recorded_ports (length net.recorded.items) top) → r.meetings ≡ [] → r.end ≡ end_of e → report_text r ≡ report_text (report_of net top e)
-same-text net top e r traces meetings end =
+pub same-text : (net : Net) (top : Shown) (e : Ended) (count : ℕ) (r : Report) → count ≡ length net.recorded.items → r.traces ≡ told_of (recorded_ports count top) → r.meetings ≡ [] → r.end ≡ end_of e → report_text r ≡ report_text (report_of net top e)
+same-text net top e count r counted traces meetings end =
     let told = told_of (recorded_ports (length net.recorded.items) top) in
-    ap (λ (ts : List Trace). report_text (record { traces = ts; meetings = r.meetings; end = r.end })) traces ∙
+    ap (λ (ts : List Trace). report_text (record { traces = ts; meetings = r.meetings; end = r.end })) (traces ∙ ap (λ n. told_of (recorded_ports n top)) counted) ∙
     ap (λ (ms : List Meetings). report_text (record { traces = told; meetings = ms; end = r.end })) meetings ∙
     ap (λ (x : RunEnd). report_text (record { traces = told; meetings = []; end = x })) end
+
+-- a refusal of a net answers it
+pub refusal-answers : (net : Net) (budget : ℕ) (why : Refusal) (reply : Result Reply AllocError) → IfOk reply (λ r. (r.status ≡ Document) × (r.text.items ≡ refusal_text why)) → IsRefused net why → IfOk reply (λ r. AnswersNet net budget r.status r.text.items)
+refusal-answers net budget why (Ok r) h stands = subst (λ s. AnswersNet net budget s r.text.items) (sym h.0) (why, stands, h.1)
+refusal-answers net budget why (Err e) h stands = tt

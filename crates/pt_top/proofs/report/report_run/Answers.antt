@@ -1,19 +1,27 @@
-use Rattle.std.proofs.Common.{◌∙◌}
+use Rattle.std.proofs.Common.{◌≡◌, length, sym, subst, ◌∙◌}
 use Rattle.pt_node.specs.Shown.{shown_node}
+use Rattle.pt_run.specs.Ports.{AreNumbered}
 use Rattle.pt_top.proofs.ReportLaws.{same-text}
 use Rattle.pt_top.proofs.report.report_run.Goals as goal
 
+-- the tree after the run has the numbers that it had before
+pub report-requires : goal.report-requires
+report-requires c =
+    let counted : c.len.result ≡ length c.args.net.now.recorded.items = c.len.ensures ∙ c.args.net.now.recorded.ok.0 in
+    subst (λ count. AreNumbered count (shown_node c.run.new.top)) (sym counted) (c.numbers_stay.ensures (length c.args.net.now.recorded.items) (shown_node c.args.top.now) (shown_node c.run.new.top) c.run.ensures.outline c.requires.numbered)
+
 -- the tree that was run, and its report
 pub returns-clause-report : goal.returns-clause-report
-returns-clause-report c = record {
-  top = shown_node c.args.top.now;
-  job = c.args.job.now;
-  is_model = c.requires.model;
-  numbered = c.requires.numbered;
-  after = shown_node c.run.new.top;
-  named = c.run.ensures.outline;
-  ended = c.in_ok-ended.ended;
-  is_run = c.in_ok-ended.ensures.report;
-  told = c.status_of-status.ensures;
-  printed = c.in_ok-text.ensures ∙ same-text c.args.net.now (shown_node c.run.new.top) c.in_ok-ended.ended c.in_ok-report.report c.in_ok-report.ensures.traces c.in_ok-report.ensures.meetings c.in_ok-report.ensures.end;
-}
+returns-clause-report c =
+    let counted : c.len.result ≡ length c.args.net.now.recorded.items = c.len.ensures ∙ c.args.net.now.recorded.ok.0 in record {
+      top = shown_node c.args.top.now;
+      job = c.args.job.now;
+      is_model = c.requires.model;
+      numbered = c.requires.numbered;
+      after = shown_node c.run.new.top;
+      named = c.run.ensures.outline;
+      ended = c.in_ok-ended.ended;
+      is_run = c.in_ok-ended.ensures.report;
+      told = c.status_of-status.ensures;
+      printed = c.in_ok-text.ensures ∙ same-text c.args.net.now (shown_node c.run.new.top) c.in_ok-ended.ended c.len.result c.in_ok-report.report counted c.in_ok-report.ensures.traces c.in_ok-report.ensures.meetings c.in_ok-report.ensures.end;
+    }
