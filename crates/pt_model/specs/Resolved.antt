@@ -31,6 +31,11 @@ IsPlaced net values = (cause : Code) (k : ℕ) → IsMisplaced (net_view net) va
 abbrev pub port_typing : Assignment → PortTyping
 port_typing typing k i = typing.types (Port k i)
 
+-- what one entity of a net starts as
+pub record IsStartOf (net : Net) (values : Values) (typing : Assignment) (k : ℕ) (e : NetEntity) (start : Option FlowActor) : Type 0 where
+  pub actor : IsUndirected e → IsStart net values (port_typing typing) k start
+  pub other : (IsUndirected e → ⊥) → start ≡ None
+
 -- What the entities of a net start as: a library actor as the actor that its parameters, channels and types start, if the library has one, and a composite as none.
 pub record AreStartsOf (net : Net) (values : Values) (typing : Assignment) (starts : Starts) : Type 0 where
   pub counted : length starts ≡ length net.entities.items
