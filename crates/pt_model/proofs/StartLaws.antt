@@ -45,6 +45,9 @@ starts-actor net values typing k e s undirected is = record { actor = λ u. is; 
 pub starts-none : (net : Net) (values : Values) (typing : Assignment) (k : ℕ) (e : NetEntity) → (IsUndirected e → ⊥) → IsStartOf net values typing k e None
 starts-none net values typing k e directed = record { actor = λ undirected. absurd (directed undirected); other = λ u. refl }
 
+pub start-same : (n m : Net) (v w : Values) (typing : Assignment) (k : ℕ) (e : NetEntity) (s : Option FlowActor) → n ≡ m → v ≡ w → IsStartOf n v typing k e s → IsStartOf m w typing k e s
+start-same n m v w typing k e s net_is values_are is = subst (λ (x : Net). IsStartOf x w typing k e s) net_is (subst (λ (y : Values). IsStartOf n y typing k e s) values_are is)
+
 -- ---- all entities
 
 -- so many entities start as these
