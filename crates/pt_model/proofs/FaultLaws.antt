@@ -1,6 +1,6 @@
 -- Why each refusal stands.
-use Rattle.std.proofs.Common.{◌≡◌, ℕ, ◌<◌, List, length, map, refl, sym, ap, subst, ◌∙◌, arith}
-use Rattle.std.specs.Prelude.{Some, None, slice_get}
+use Rattle.std.proofs.Common.{◌≡◌, ℕ, ◌<◌, List, length, map, sym, ap, subst, ◌∙◌}
+use Rattle.std.specs.Prelude.{Some, slice_get}
 use Rattle.std.proofs.lemmas.Option.{slice_get_within}
 use Rattle.pt_moml.specs.declared.code.Code.{Code}
 use Rattle.pt_moml.specs.declared.code.Code.TheVariants as code
@@ -24,7 +24,6 @@ use Rattle.pt_job.specs.Inputs as inputs
 use Rattle.pt_job.proofs.Members.{unmapped}
 use Rattle.pt_node.specs.Shown.{Shown}
 use Rattle.pt_build.specs.Trees.{IsEntity, Starts}
-use Rattle.pt_build.specs.Built as built
 use Rattle.pt_build.specs.Built.{IsBuilt}
 use Rattle.pt_model.specs.declared.model.ModelFault.{ModelFault}
 use Rattle.pt_model.specs.declared.model.ModelFault.TheVariants.{Refused, Memory}

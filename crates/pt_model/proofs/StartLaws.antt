@@ -1,16 +1,15 @@
 -- What the entities of a net start as, one by one.
-use Rattle.std.proofs.Common.{◌≡◌, ℕ, ◌+◌, ◌<◌, ◌≤◌, ◌⊎◌, inl, inr, List, [], ◌∷◌, ◌++◌, length, refl, sym, ap, subst, ◌∙◌, arith}
-use Rattle.std.specs.Prelude.{Option, Some, None, slice_get}
-use Rattle.std.proofs.lemmas.Option.{none-some, same_Some, slice_get_within}
+use Rattle.std.proofs.Common.{◌≡◌, ℕ, ◌+◌, ◌<◌, inl, inr, List, [], ◌∷◌, ◌++◌, length, map, refl, sym, ap, subst, ◌∙◌, arith}
+use Rattle.std.specs.List.{enumerate_from}
+use Rattle.std.specs.Prelude.{Option, Some, None, option_map, slice_get}
 use Rattle.std.proofs.lemmas.Bool.{cases_order}
 use Rattle.std.proofs.lemmas.List.{length_push}
+use Rattle.std.proofs.lemmas.Option.{none-some, same_Some, slice_get_within}
+use Rattle.pt_moml.specs.View.{port_view}
 use Rattle.pt_graph.specs.declared.net.Net.{Net}
 use Rattle.pt_graph.specs.declared.net.NetDirector.{NetDirector}
 use Rattle.pt_graph.specs.declared.net.NetEntity.{NetEntity}
 use Rattle.pt_graph.specs.Net.{NetEntityTree, entity_view, director_view}
-use Rattle.std.specs.Prelude.{option_map, map}
-use Rattle.pt_moml.specs.View.{port_view}
-use Rattle.std.specs.List.{enumerate_from}
 use Rattle.pt_types.specs.Datatype.{Datatype}
 use Rattle.pt_typing.specs.Least.{Assignment}
 use Rattle.pt_values.specs.declared.values.Values.{Values}
@@ -19,7 +18,9 @@ use Rattle.pt_lib_flow.specs.declared.params.Params.{Params}
 use Rattle.pt_lib_flow.specs.FlowActor.{start}
 use Rattle.pt_start.specs.Started.{PortTyping, type_at, ArePortTypes, IsActor, IsStart}
 use Rattle.pt_start.proofs.Outward.{view-at}
-use Rattle.pt_build.specs.Trees.{IsEntity, IsUndirected, Starts, StartsAs, AreStarted}
+use Rattle.pt_build.specs.Trees.{IsEntity, IsUndirected, Starts, AreStarted}
+use Rattle.pt_cover.specs.Leaves.{AreStartedByClass}
+use Rattle.pt_cover.proofs.Starting.{by-class}
 use Rattle.pt_model.specs.Resolved.{port_typing, IsStartOf, AreStartsOf}
 use Rattle.pt_model.proofs.Lists.{read, get-last, get-before}
 
@@ -85,20 +86,22 @@ first-all net values typing count starts all are = record {
     short : (k : ℕ) (e : NetEntity) → IsEntity net k e → k < count
     short k e at = let h = slice_get_within net.entities.items k e at in omega (arith, all, h)
 
--- each actor is one that parameters start
-pub are-started : (net : Net) (values : Values) (typing : Assignment) (starts : Starts) → AreStartsOf net values typing starts → AreStarted starts
-are-started net values typing starts are k a is = by_director found.0.director refl
+-- each actor is one that parameters of the class of its entity start
+pub started-by-class : (net : Net) (values : Values) (typing : Assignment) (starts : Starts) → AreStartsOf net values typing starts → AreStartedByClass net starts
+started-by-class net values typing starts are k e a at is = by_director e.director refl
   where
-    there : k < length net.entities.items
-    there = let h = slice_get_within starts k (Some a) is in omega (arith, h, are.counted)
-
-    found : (e : NetEntity) × IsEntity net k e
-    found = read net.entities.items k there
-
-    by_director : (d : Option NetDirector) → found.0.director ≡ d → (params : Params) × (start params ≡ Some a)
+    by_director : (d : Option NetDirector) → e.director ≡ d → (params : Params) × (params.class ≡ e.class) × (start params ≡ Some a)
     by_director None undirected =
-        let r = are.actors k found.0 found.1 undirected in
-        (r.2.params, r.2.is ∙ same_Some r.0 (Some a) (sym r.1 ∙ is))
+        let r = are.actors k e at undirected in
+        by-class net values (port_typing typing) k e a at (subst (λ (s : Option FlowActor). IsStart net values (port_typing typing) k s) (same_Some r.0 (Some a) (sym r.1 ∙ is)) r.2)
     by_director (Some d) directed =
-        let none : slice_get starts k ≡ Some None = are.others k found.0 found.1 (λ undirected. none-some d (sym undirected ∙ directed)) in
+        let none : slice_get starts k ≡ Some None = are.others k e at (λ undirected. none-some d (sym undirected ∙ directed)) in
         absurd (none-some a (same_Some None (Some a) (sym none ∙ is)))
+
+-- so each is one that parameters start
+pub are-started : (net : Net) (values : Values) (typing : Assignment) (starts : Starts) → AreStartsOf net values typing starts → AreStarted starts
+are-started net values typing starts are k a is =
+    let there : k < length net.entities.items = let h = slice_get_within starts k (Some a) is in omega (arith, h, are.counted) in
+    let found : (e : NetEntity) × IsEntity net k e = read net.entities.items k there in
+    let by = started-by-class net values typing starts are k found.0 a found.1 is in
+    (by.0, by.2)

@@ -15,13 +15,13 @@ use Rattle.pt_value.specs.declared.token.Token.{Token}
 use Rattle.pt_graph.specs.declared.net.Net.{Net}
 use Rattle.pt_graph.specs.declared.net.NetDirector.{NetDirector}
 use Rattle.pt_graph.specs.declared.net.NetEntity.{NetEntity}
-use Rattle.pt_graph.specs.Net.{NetEntityTree, director_view, entity_view}
+use Rattle.pt_graph.specs.Net.{director_view, entity_view}
 use Rattle.pt_wiring.specs.Inside.{is_inward, is_input}
 use Rattle.pt_values.specs.declared.values.Values.{Values}
 use Rattle.pt_values.specs.Scopes.{net_view}
 use Rattle.pt_values.specs.Sites.{is_input_port, port_name, inputs_of}
 use Rattle.pt_start.specs.Places.{director_in}
-use Rattle.pt_start.specs.Misplaced.{is_undirected_top, undirected}
+use Rattle.pt_start.specs.Misplaced.{undirected}
 use Rattle.pt_start.proofs.Outward.{view-at}
 use Rattle.pt_job.specs.Inputs.{inputs_at, own_inputs, ComeTo, AreSupplied}
 use Rattle.pt_node.specs.declared.body.Body.{Body}

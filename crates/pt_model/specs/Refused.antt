@@ -24,7 +24,7 @@ use Rattle.pt_build.specs.Built as built
 use Rattle.pt_build.specs.Built.{IsBuilt}
 use Rattle.pt_model.specs.declared.model.ModelFault.{ModelFault}
 use Rattle.pt_model.specs.declared.model.ModelFault.TheVariants.{Refused, Memory}
-use Rattle.pt_model.specs.Resolved.{IsResolved, IsPlaced, IsStarted}
+use Rattle.pt_model.specs.Resolved.{IsResolved, IsStarted}
 
 -- What isn't built yet: Modal entities and ports that declare a type, trees that pt_build can't build, and an SDF top without a number of iterations.
 pub data IsUnbuilt (net : Net) : Type 0 where

@@ -1,6 +1,5 @@
 -- What stands before the model of a net: its values, its types, and the actors that its entities start as.
-use Rattle.std.specs.Prelude.{◌≡◌, ℕ, List, length, Option, Some, None, slice_get}
-use Rattle.pt_types.specs.Datatype.{Datatype}
+use Rattle.std.specs.Prelude.{◌≡◌, ℕ, length, Option, Some, None, slice_get}
 use Rattle.pt_typing.specs.declared.variable.Variable.TheVariants.{Port}
 use Rattle.pt_typing.specs.Least.{Assignment}
 use Rattle.pt_moml.specs.declared.code.Code.{Code}

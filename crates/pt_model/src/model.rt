@@ -4,6 +4,7 @@ ghost use Rattle.pt_graph.specs.Net.{IsNetOf};
 ghost use Rattle.pt_node.specs.Shown.{shown_node};
 ghost use Rattle.pt_run.specs.Start.{IsRunnable};
 ghost use Rattle.pt_run.specs.Ports.{AreNumbered};
+ghost use Rattle.pt_cover.specs.Leaves.{ActorsAreLeaves};
 ghost use Rattle.pt_model.specs.Model.{IsModel};
 ghost use Rattle.pt_model.specs.Refused.{FaultStands, fault_of};
 ghost use Rattle.pt_model.specs.declared.model.ModelFault.TheVariants as fault;
@@ -65,7 +66,7 @@ impl From<DocFault> for ModelFault {
 /// The model of the net of a job: its texts are evaluated, its types found, its actors started, its composites planned, and what the job supplies is put to the
 /// inputs of the top. Refuses a net for the first kind of fault that stands: values, types, places, plans, inputs.
 pub fn model_of(alloc: Global, net: &Net) -> Result<Model, ModelFault>
-    requires { (job : JobTree) × IsNetOf job net.now }
+    requires { (job : JobTree) × ActorsAreLeaves job × IsNetOf job net.now }
     ensures model { IfOk result (λ model. IsModel net.now (shown_node model.top) model.job) }
     ensures runnable { IfOk result (λ model. IsRunnable model.job.takes (shown_node model.top)) }
     ensures lists { IfOk result (λ model. length model.job.inputs.items ≡ length model.job.takes) }

@@ -1,4 +1,4 @@
-ghost use Rattle.std.specs.Prelude.{◌≡◌, IfOk, IfErr};
+ghost use Rattle.std.specs.Prelude.{IfOk, IfErr};
 ghost use Rattle.pt_moml.specs.Document.{JobTree};
 ghost use Rattle.pt_graph.specs.Net.{IsNetOf};
 ghost use Rattle.pt_values.specs.Scopes.{net_view};

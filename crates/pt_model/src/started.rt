@@ -1,9 +1,10 @@
-ghost use Rattle.std.specs.Prelude.{◌≡◌, IfOk, IfErr};
+ghost use Rattle.std.specs.Prelude.{IfOk, IfErr};
 ghost use Rattle.pt_moml.specs.Document.{JobTree};
 ghost use Rattle.pt_graph.specs.Net.{IsNetOf};
 ghost use Rattle.pt_values.specs.Scopes.{net_view};
 ghost use Rattle.pt_typing.specs.Least.{Assignment, assignment};
 ghost use Rattle.pt_start.specs.Nested.{IsNested};
+ghost use Rattle.pt_cover.specs.Leaves.{ActorsAreLeaves};
 ghost use Rattle.pt_model.specs.Resolved.{IsResolved, IsPlaced, IsStarted};
 ghost use Rattle.pt_model.specs.Refused.{FaultStands};
 
@@ -43,7 +44,7 @@ fn check_places(alloc: Global, net: &Net, values: &Values) -> Result<(), ModelFa
 impl Started {
     /// Evaluates the texts of the net of a job, finds its types and starts its actors.
     pub(crate) fn of(alloc: Global, net: &Net) -> Result<Started, ModelFault>
-        requires { (job : JobTree) × IsNetOf job net.now }
+        requires { (job : JobTree) × ActorsAreLeaves job × IsNetOf job net.now }
         ensures started { IfOk result (λ s. IsStarted net.now s.values (assignment s.typing) s.starts.items) }
         ensures stands { IfErr result (FaultStands net.now) }
     {

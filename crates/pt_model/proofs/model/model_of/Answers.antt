@@ -1,6 +1,7 @@
 use Rattle.std.proofs.Common.{refl}
 use Rattle.pt_typing.specs.Least.{assignment}
 use Rattle.pt_node.specs.Shown.{shown_node}
+use Rattle.pt_model.proofs.StartLaws.{started-by-class}
 use Rattle.pt_model.proofs.TopLaws.{is-runnable}
 use Rattle.pt_model.proofs.model.model_of.Goals as goal
 
@@ -24,4 +25,6 @@ returns-clause-runnable c =
 
 pub returns-clause-numbered : goal.returns-clause-numbered
 returns-clause-numbered c =
-    c.ports_are_numbered.ensures c.requires.0 c.args.net.now c.in_ok-started.started.starts.items (shown_node c.in_ok-top.top) c.requires.1 c.in_ok-top.ensures.built
+    let s = c.in_ok-started.started in
+    let by_class = started-by-class c.args.net.now s.values (assignment s.typing) s.starts.items c.in_ok-started.ensures.started.started in
+    c.ports_are_numbered.ensures c.requires.0 c.args.net.now s.starts.items (shown_node c.in_ok-top.top) c.requires.1 c.requires.2 by_class c.in_ok-top.ensures.built
