@@ -1,0 +1,5 @@
+pub mod Lists
+pub mod PortTypes
+pub mod StartLaws
+pub mod FaultLaws
+pub mod TopLaws

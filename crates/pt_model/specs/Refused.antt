@@ -1,6 +1,9 @@
 -- Why a net has no model. A fault of one kind is told only where none of the kinds before it stands: values, types, places, plans, inputs.
 use Rattle.std.specs.Prelude.{◌≡◌, ℕ, List, None}
+use Rattle.pt_moml.specs.declared.code.Code.{Code}
 use Rattle.pt_moml.specs.declared.code.Code.TheVariants as code
+use Rattle.pt_moml.specs.declared.refusal.DocFault.{DocFault}
+use Rattle.pt_moml.specs.declared.refusal.DocFault.TheVariants as faults
 use Rattle.pt_moml.specs.declared.refusal.Refusal.{Refusal}
 use Rattle.pt_moml.specs.Names.{top_path}
 use Rattle.pt_graph.specs.declared.net.Net.{Net}
@@ -21,7 +24,7 @@ use Rattle.pt_build.specs.Built as built
 use Rattle.pt_build.specs.Built.{IsBuilt}
 use Rattle.pt_model.specs.declared.model.ModelFault.{ModelFault}
 use Rattle.pt_model.specs.declared.model.ModelFault.TheVariants.{Refused, Memory}
-use Rattle.pt_model.specs.Resolved.{IsResolved, IsPlaced, IsStarted}
+use Rattle.pt_model.specs.Resolved.{IsResolved, IsStarted}
 
 -- What isn't built yet: Modal entities and ports that declare a type, trees that pt_build can't build, and an SDF top without a number of iterations.
 pub data IsUnbuilt (net : Net) : Type 0 where
@@ -37,6 +40,16 @@ pub data IsRefused (net : Net) (r : Refusal) : Type 0 where
   for_plan : (values : Values) (typing : Assignment) (starts : Starts) → IsStarted net values typing starts → built.IsRefused net starts r → IsRefused net r
   for_inputs : (values : Values) (typing : Assignment) (starts : Starts) (top : Shown) → IsStarted net values typing starts → IsBuilt net starts 0 top → r.code ≡ code.Inputs → IsInputFault (net_view net) r.path → IsRefused net r
   unbuilt : IsUnbuilt net → r ≡ record { code = code.Unbuilt; path = top_path } → IsRefused net r
+
+-- a fault of a document, as a fault of its net
+abbrev pub fault_of : DocFault → ModelFault
+fault_of faults.Memory = Memory
+fault_of (faults.Refused r) = Refused r
+
+-- a fault is want of memory, or a refusal for this cause at this path
+abbrev pub IsTold : ModelFault → Code → List ℕ → Type 0
+IsTold Memory cause path = Unit {0}
+IsTold (Refused r) cause path = r ≡ record { code = cause; path = path }
 
 -- a fault is want of memory, or a refusal that stands
 abbrev pub FaultStands : Net → ModelFault → Type 0

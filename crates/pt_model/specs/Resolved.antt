@@ -1,6 +1,5 @@
 -- What stands before the model of a net: its values, its types, and the actors that its entities start as.
-use Rattle.std.specs.Prelude.{◌≡◌, ℕ, List, length, Option, Some, None, slice_get}
-use Rattle.pt_types.specs.Datatype.{Datatype}
+use Rattle.std.specs.Prelude.{◌≡◌, ℕ, length, Option, Some, None, slice_get}
 use Rattle.pt_typing.specs.declared.variable.Variable.TheVariants.{Port}
 use Rattle.pt_typing.specs.Least.{Assignment}
 use Rattle.pt_moml.specs.declared.code.Code.{Code}
@@ -12,7 +11,7 @@ use Rattle.pt_values.specs.Scopes.{net_view}
 use Rattle.pt_values.specs.Valued.{IsValued}
 use Rattle.pt_resolve.specs.Typing.{IsTyping}
 use Rattle.pt_resolve.specs.Faults.{IsBroken}
-use Rattle.pt_lib_flow.specs.declared.flow_actor.FlowActor.{FlowActor}
+use Rattle.pt_library.specs.declared.library_actor.LibraryActor.{LibraryActor}
 use Rattle.pt_start.specs.Started.{PortTyping, IsStart}
 use Rattle.pt_start.specs.Misplaced.{IsMisplaced}
 use Rattle.pt_build.specs.Trees.{IsEntity, IsUndirected, Starts}
@@ -31,10 +30,15 @@ IsPlaced net values = (cause : Code) (k : ℕ) → IsMisplaced (net_view net) va
 abbrev pub port_typing : Assignment → PortTyping
 port_typing typing k i = typing.types (Port k i)
 
+-- what one entity of a net starts as
+pub record IsStartOf (net : Net) (values : Values) (typing : Assignment) (k : ℕ) (e : NetEntity) (start : Option LibraryActor) : Type 0 where
+  pub actor : IsUndirected e → IsStart net values (port_typing typing) k start
+  pub other : (IsUndirected e → ⊥) → start ≡ None
+
 -- What the entities of a net start as: a library actor as the actor that its parameters, channels and types start, if the library has one, and a composite as none.
 pub record AreStartsOf (net : Net) (values : Values) (typing : Assignment) (starts : Starts) : Type 0 where
   pub counted : length starts ≡ length net.entities.items
-  pub actors : (k : ℕ) (e : NetEntity) → IsEntity net k e → IsUndirected e → (start : Option FlowActor) × (slice_get starts k ≡ Some start) × IsStart net values (port_typing typing) k start
+  pub actors : (k : ℕ) (e : NetEntity) → IsEntity net k e → IsUndirected e → (start : Option LibraryActor) × (slice_get starts k ≡ Some start) × IsStart net values (port_typing typing) k start
   pub others : (k : ℕ) (e : NetEntity) → IsEntity net k e → (IsUndirected e → ⊥) → slice_get starts k ≡ Some None
 
 -- A net without faults of its texts, its types and its places, with what its entities start as.

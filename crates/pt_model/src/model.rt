@@ -4,12 +4,17 @@ ghost use Rattle.pt_graph.specs.Net.{IsNetOf};
 ghost use Rattle.pt_node.specs.Shown.{shown_node};
 ghost use Rattle.pt_run.specs.Start.{IsRunnable};
 ghost use Rattle.pt_run.specs.Ports.{AreNumbered};
+ghost use Rattle.pt_cover.specs.Leaves.{ActorsAreLeaves};
 ghost use Rattle.pt_model.specs.Model.{IsModel};
-ghost use Rattle.pt_model.specs.Refused.{FaultStands};
+ghost use Rattle.pt_model.specs.Refused.{FaultStands, fault_of};
 ghost use Rattle.pt_model.specs.declared.model.ModelFault.TheVariants as fault;
 
+use crate::job::job_of;
+use crate::started::Started;
+use crate::tree::tree_of;
+use pt_cover::ports_are_numbered;
 use pt_graph::Net;
-use pt_moml::Refusal;
+use pt_moml::{DocFault, Refusal};
 use pt_node::Node;
 use pt_run::SdfJob;
 use std::alloc::{AllocError, AllocFailed, Global};
@@ -47,15 +52,30 @@ impl<T: Drop> From<AllocFailed<T>> for ModelFault {
     }
 }
 
+impl From<DocFault> for ModelFault {
+    ghost from_gives = { λ f e. e ≡ fault_of f };
+
+    fn from(fault: DocFault) -> Self {
+        match fault {
+            DocFault::Refused(refusal) => ModelFault::Refused(refusal),
+            DocFault::Memory => ModelFault::Memory,
+        }
+    }
+}
+
 /// The model of the net of a job: its texts are evaluated, its types found, its actors started, its composites planned, and what the job supplies is put to the
 /// inputs of the top. Refuses a net for the first kind of fault that stands: values, types, places, plans, inputs.
-pub fn model_of(_alloc: Global, _net: &Net) -> Result<Model, ModelFault>
-    requires { (job : JobTree) × IsNetOf job _net.now }
-    ensures model { IfOk result (λ model. IsModel _net.now (shown_node model.top) model.job) }
+pub fn model_of(alloc: Global, net: &Net) -> Result<Model, ModelFault>
+    requires { (job : JobTree) × ActorsAreLeaves job × IsNetOf job net.now }
+    ensures model { IfOk result (λ model. IsModel net.now (shown_node model.top) model.job) }
     ensures runnable { IfOk result (λ model. IsRunnable model.job.takes (shown_node model.top)) }
     ensures lists { IfOk result (λ model. length model.job.inputs.items ≡ length model.job.takes) }
-    ensures numbered { IfOk result (λ model. AreNumbered (length _net.now.recorded.items) (shown_node model.top)) }
-    ensures stands { IfErr result (FaultStands _net.now) }
+    ensures numbered { IfOk result (λ model. AreNumbered (length net.now.recorded.items) (shown_node model.top)) }
+    ensures stands { IfErr result (FaultStands net.now) }
 {
-    Err(ModelFault::Memory)
+    ports_are_numbered();
+    let started = Started::of(alloc, net)?;
+    let top = tree_of(alloc, net, &started)?;
+    let job = job_of(alloc, net, &started, &top)?;
+    Ok(Model { top, job })
 }

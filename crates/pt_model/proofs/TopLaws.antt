@@ -1,0 +1,143 @@
+-- What is known of the node at the top of a net.
+use Rattle.std.proofs.Common.{◌≡◌, ℕ, ◌+◌, List, [], ◌∷◌, length, map, filter, refl, sym, ap, subst, ◌∙◌, Bool, true, false, cond, arith}
+use Rattle.std.specs.Prelude.{Option, Some, None, option_map, count_by, nat_eq, ◌&&◌}
+use Rattle.std.proofs.lemmas.List.Recursion.{is_count_by}
+use Rattle.std.specs.Option.{is_none}
+use Rattle.std.proofs.lemmas.Option.{none-some, same_Some}
+use Rattle.pt_meaning.specs.Tree as tree
+use Rattle.pt_moml.specs.declared.code.Code.TheVariants as code
+use Rattle.pt_moml.specs.declared.job.Direction.{Direction}
+use Rattle.pt_moml.specs.declared.job.Direction.TheVariants.{Input, Output}
+use Rattle.pt_moml.specs.declared.job.Port.{Port}
+use Rattle.pt_moml.specs.Document.{PropertyTree, PortTree}
+use Rattle.pt_moml.specs.View.{port_view}
+use Rattle.pt_value.specs.declared.token.Token.{Token}
+use Rattle.pt_graph.specs.declared.net.Net.{Net}
+use Rattle.pt_graph.specs.declared.net.NetDirector.{NetDirector}
+use Rattle.pt_graph.specs.declared.net.NetEntity.{NetEntity}
+use Rattle.pt_graph.specs.Net.{director_view, entity_view}
+use Rattle.pt_wiring.specs.Inside.{is_inward, is_input}
+use Rattle.pt_values.specs.declared.values.Values.{Values}
+use Rattle.pt_values.specs.Scopes.{net_view}
+use Rattle.pt_values.specs.Sites.{is_input_port, port_name, inputs_of}
+use Rattle.pt_start.specs.Places.{director_in}
+use Rattle.pt_start.specs.Misplaced.{undirected}
+use Rattle.pt_start.proofs.Outward.{view-at}
+use Rattle.pt_job.specs.Inputs.{inputs_at, own_inputs, ComeTo, AreSupplied}
+use Rattle.pt_node.specs.declared.body.Body.{Body}
+use Rattle.pt_node.specs.declared.body.Body.TheVariants.{Actor, Composite}
+use Rattle.pt_node.specs.Recorded.{RecordedPort}
+use Rattle.pt_node.specs.Shown.{Shown, AllShown, Branch, none, more, all_of, list_of}
+use Rattle.pt_node.specs.View.{node_of, nodes_of, node_with}
+use Rattle.pt_composite.specs.Composite.{children_in}
+use Rattle.pt_composite.specs.Fresh as fresh
+use Rattle.pt_composite.specs.Fresh.{IsFresh}
+use Rattle.pt_build.specs.Trees.{IsEntity, IsUndirected, Starts}
+use Rattle.pt_build.specs.Built.{IsBuilt, AreBuilt, built_actor, built_sdf, none_built, more_built}
+use Rattle.pt_run.specs.Start.{IsBranched, HasLeaves, AllHaveLeaves, AreUntold, IsUnrecorded, AllUnrecorded, takes_of, IsRunnable}
+use Rattle.pt_model.specs.Resolved.{IsPlaced}
+use Rattle.pt_model.proofs.Lists.{zip-length}
+
+-- ---- the top is a composite
+
+top-misplaced : (d : Option NetDirector) → d ≡ None → (nat_eq 0 0 && is_none (director_in (option_map director_view d))) ≡ true
+top-misplaced d e = ap (λ (x : Option NetDirector). nat_eq 0 0 && is_none (director_in (option_map director_view x))) e
+
+-- where each entity may stand where it stands, the top has a director
+pub top-directed : (net : Net) (values : Values) (e : NetEntity) → IsPlaced net values → IsEntity net 0 e → IsUndirected e → ⊥
+top-directed net values e placed at is =
+    placed code.Place 0 (record { entity = entity_view e; at = view-at entity_view net.entities.items 0 e at; refused = undirected (top-misplaced e.director is) })
+
+-- the node at the top takes so many tokens from each own input
+pub record HasTakes (net : Net) (s : Shown) : Type 0 where
+  pub entity : NetEntity
+  pub at : IsEntity net 0 entity
+  pub takes : List ℕ
+  pub is : takes_of (node_of s) ≡ Some takes
+  pub counted : length takes ≡ count_by is_input entity.ports.items
+
+takes-at : {net : Net} {starts : Starts} {k : ℕ} {s : Shown} (values : Values) → IsPlaced net values → k ≡ 0 → IsBuilt net starts k s → HasTakes net s
+takes-at {net = net} values placed first (built_actor k e a at is starts_as) = absurd (top-directed net values e placed (subst (λ j. IsEntity net j e) first at) is)
+takes-at {net = net} values placed first (built_sdf k e kids s at sdf all is) = record {
+  entity = e;
+  at = subst (λ j. IsEntity net j e) first at;
+  takes = is.plan.takes;
+  is = ap takes_of is.node;
+  counted = is.planned.takes ∙ is.is_inside.inputs;
+}
+
+pub top-takes : (net : Net) (values : Values) (starts : Starts) (s : Shown) → IsPlaced net values → IsBuilt net starts 0 s → HasTakes net s
+top-takes net values starts s placed is = takes-at values placed refl is
+
+-- ---- what comes to its inputs
+
+inward : (name : List ℕ) (d : Direction) (declared : Option (List ℕ)) (properties : List PropertyTree) → is_input_port (record { name = name; direction = d; declared = declared; properties = properties }) ≡ is_inward d
+inward name Input declared properties = refl
+inward name Output declared properties = refl
+
+if-counted : (b : Bool) (p : PortTree) (ps : List PortTree) → length (map port_name (cond b (p ∷ ps) ps)) ≡ cond b (1 + length (map port_name ps)) (length (map port_name ps))
+if-counted true p ps = omega arith
+if-counted false p ps = refl
+
+input-more : (p : Port) (ps : List Port) → length (map port_name (filter is_input_port (map port_view (p ∷ ps)))) ≡ cond (is_input p) (1 + length (map port_name (filter is_input_port (map port_view ps)))) (length (map port_name (filter is_input_port (map port_view ps))))
+input-more p ps =
+    let v : PortTree = port_view p in
+    let vs : List PortTree = filter is_input_port (map port_view ps) in
+    if-counted (is_input_port v) v vs ∙ ap (λ b. cond b (1 + length (map port_name vs)) (length (map port_name vs))) (inward v.name v.direction v.declared v.properties)
+
+inputs-counted : (ps : List Port) → length (map port_name (filter is_input_port (map port_view ps))) ≡ count_by is_input ps
+inputs-counted ps = is_count_by (λ (qs : List Port). length (map port_name (filter is_input_port (map port_view qs)))) is_input refl input-more ps
+
+pub lists-counted : (net : Net) (values : Values) (s : Shown) (lists : List (List Token)) (takes : List ℕ) → HasTakes net s → AreSupplied (net_view net) values lists → takes_of (node_of s) ≡ Some takes → length lists ≡ length takes
+lists-counted net values s lists takes has supplied is =
+    let own : own_inputs (net_view net) ≡ inputs_of (entity_view has.entity) = ap inputs_at (view-at entity_view net.entities.items 0 has.entity has.at) in
+    let same : has.takes ≡ takes = same_Some has.takes takes (sym has.is ∙ is) in
+    sym (zip-length (ComeTo (net_view net) values) (own_inputs (net_view net)) lists supplied) ∙ ap (λ (v : List (List ℕ)). length v) own ∙ inputs-counted has.entity.ports.items ∙ sym has.counted ∙ ap (λ (v : List ℕ). length v) same
+
+-- ---- library actors have no children
+
+all-list : (ks : AllShown) → all_of (list_of ks) ≡ ks
+all-list none = refl
+all-list (more s ss) = ap (λ v. more s v) (all-list ss)
+
+branched : (h : tree.Past) (b : Body) (ks : AllShown) (takes : List ℕ) → takes_of (node_with h b (nodes_of ks)) ≡ Some takes → IsBranched b ks
+branched h (Actor held) ks takes e = absurd (none-some takes e)
+branched h (Composite director) ks takes e = tt
+
+composite-leaves : (s : Shown) (kids : List Shown) (takes : List ℕ) → takes_of (node_of s) ≡ Some takes → children_in s ≡ kids → AllHaveLeaves (all_of kids) → HasLeaves s
+composite-leaves (Branch f ks) kids takes e children leaves = (branched f.past f.body ks takes e, subst (λ v. AllHaveLeaves v) (sym (ap all_of children) ∙ all-list ks) leaves)
+
+mutual
+  pub built-leaves : {net : Net} {starts : Starts} {k : ℕ} {s : Shown} → IsBuilt net starts k s → HasLeaves s
+  built-leaves (built_actor k e a at is starts_as) = (refl, tt)
+  built-leaves (built_sdf k e kids s at sdf all is) = composite-leaves s kids is.plan.takes (ap takes_of is.node) is.children (all-leaves all)
+
+  all-leaves : {net : Net} {starts : Starts} {ks : List ℕ} {ss : List Shown} → AreBuilt net starts ks ss → AllHaveLeaves (all_of ss)
+  all-leaves none_built = tt
+  all-leaves (more_built k ks s ss one all) = (built-leaves one, all-leaves all)
+
+-- ---- nothing is recorded
+
+are-untold : (rs : List RecordedPort) → fresh.AreEmpty rs → AreUntold rs
+are-untold [] h = tt
+are-untold (r ∷ rs) h = (h.0, are-untold rs h.2)
+
+mutual
+  is-unrecorded : (s : Shown) → fresh.IsUnrecorded s → IsUnrecorded s
+  is-unrecorded (Branch f ks) h = (are-untold f.records h.0, all-unrecorded ks h.1)
+
+  all-unrecorded : (ss : AllShown) → fresh.AllUnrecorded ss → AllUnrecorded ss
+  all-unrecorded none h = tt
+  all-unrecorded (more s ss) h = (is-unrecorded s h.0, all-unrecorded ss h.1)
+
+-- a top that is fresh and built may be run
+pub is-runnable : (net : Net) (starts : Starts) (s : Shown) (takes : List ℕ) → IsBuilt net starts 0 s → IsFresh s → takes_of (node_of s) ≡ Some takes → IsRunnable takes s
+is-runnable net starts s takes built is takes_are = record {
+  live = (is.live, is.fit);
+  start = is.start;
+  fitting = is.fitting;
+  planned = is.plans;
+  leaves = built-leaves built;
+  unrecorded = is-unrecorded s is.unrecorded;
+  takes_are = takes_are;
+}

@@ -1,0 +1,27 @@
+ghost use Rattle.std.specs.Prelude.{◌<◌, length};
+ghost use Rattle.pt_graph.specs.declared.net.NetEntity.{NetEntity};
+ghost use Rattle.pt_build.specs.Trees.{IsEntity};
+ghost use Rattle.pt_model.specs.Refused.{IsTold};
+ghost use Rattle.pt_moml.specs.Names.{top_path};
+ghost use Rattle.pt_moml.specs.declared.code.Code.TheVariants as code;
+
+use crate::model::ModelFault;
+use pt_graph::Net;
+use pt_moml::{Code, refused};
+use std::alloc::Global;
+
+/// A refusal of the entity of that number for this cause, if there is memory for its path.
+pub(crate) fn refusal_of_entity(alloc: Global, code: Code, net: &Net, number: usize) -> ModelFault
+    requires { number < length net.now.entities.items }
+    ensures { (e : NetEntity) → IsEntity net.now number e → IsTold result code e.path }
+{
+    let entity = &net.entities[number];
+    ModelFault::from(refused(alloc, code, entity.path.as_str()))
+}
+
+/// A refusal of a net whose form isn't built yet, if there is memory for the path of the top.
+pub(crate) fn unbuilt(alloc: Global) -> ModelFault
+    ensures { IsTold result code.Unbuilt top_path }
+{
+    ModelFault::from(refused(alloc, Code::Unbuilt, "."))
+}

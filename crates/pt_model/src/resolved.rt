@@ -1,0 +1,43 @@
+ghost use Rattle.std.specs.Prelude.{IfOk, IfErr};
+ghost use Rattle.pt_moml.specs.Document.{JobTree};
+ghost use Rattle.pt_graph.specs.Net.{IsNetOf};
+ghost use Rattle.pt_values.specs.Scopes.{net_view};
+ghost use Rattle.pt_values.specs.Valued.{IsValued};
+ghost use Rattle.pt_typing.specs.Least.{assignment};
+ghost use Rattle.pt_model.specs.Resolved.{IsResolved};
+ghost use Rattle.pt_model.specs.Refused.{FaultStands};
+
+use crate::model::ModelFault;
+use crate::refusal::{refusal_of_entity, unbuilt};
+use pt_graph::Net;
+use pt_moml::Code;
+use pt_resolve::{broken, is_plain, net_typing};
+use pt_typing::Typing;
+use pt_values::{Values, nets_are_ordered, values_of};
+use std::alloc::Global;
+
+/// What the texts of the net of a job come to.
+pub(crate) fn values_in(alloc: Global, net: &Net) -> Result<Values, ModelFault>
+    requires { (job : JobTree) × IsNetOf job net.now }
+    ensures valued { IfOk result (IsValued (net_view net.now)) }
+    ensures stands { IfErr result (FaultStands net.now) }
+{
+    nets_are_ordered();
+    Ok(values_of(alloc, net)?)
+}
+
+/// The types of a net whose texts come to these values, which break nowhere.
+pub(crate) fn typing_in(alloc: Global, net: &Net, values: &Values) -> Result<Typing, ModelFault>
+    requires { IsValued (net_view net.now) values.now }
+    ensures resolved { IfOk result (λ typing. IsResolved net.now values.now (assignment typing)) }
+    ensures stands { IfErr result (FaultStands net.now) }
+{
+    if !is_plain(net) {
+        return Err(unbuilt(alloc));
+    }
+    let typing = net_typing(alloc, net, values)?;
+    match broken(alloc, net, values, &typing)? {
+        Some(number) => Err(refusal_of_entity(alloc, Code::Type, net, number)),
+        None => Ok(typing),
+    }
+}
