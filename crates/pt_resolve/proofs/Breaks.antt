@@ -27,17 +27,11 @@ use Rattle.pt_resolve.specs.Inequalities.{inputs_of, known}
 use Rattle.pt_resolve.specs.Typing.{Declares, ArePlain}
 use Rattle.pt_resolve.specs.Faults.{is_above, IsBroken, at_port, above_declared, in_tree, guard, set_action, clash_in}
 use Rattle.pt_resolve.specs.Broken.{has_port_above, has_port_over, lacks_type, has_untyped, breaks, first_broken}
-use Rattle.pt_resolve.proofs.Steps.{one-more, drop-one, behind-drop}
+use Rattle.pt_resolve.proofs.Steps.{some-same, none-more, from-next, one-more, drop-one, behind-drop}
 use Rattle.pt_resolve.proofs.DeclaredBounds.{port-over, no-port-over}
-use Rattle.pt_resolve.proofs.PlainNets.{some-same, not-Modal, plain-at}
+use Rattle.pt_resolve.proofs.PlainNets.{not-Modal, plain-at}
 
 -- ---- numbers
-
-none-more : (i : ℕ) → i ≡ i + 0
-none-more i = omega arith
-
-from-next : (i j : ℕ) → suc i + j ≡ i + suc j
-from-next i j = omega arith
 
 from-none : (j : ℕ) → 0 + j ≡ j
 from-none j = omega arith

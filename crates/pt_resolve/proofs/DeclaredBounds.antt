@@ -1,5 +1,5 @@
 -- The tests tell which ports aren't below what they declare.
-use Rattle.std.proofs.Common.{◌≡◌, inl, inr, ℕ, zero, suc, ◌+◌, true, false, not, List, [], ◌∷◌, Option, Some, None, refl, sym, ap, subst, ◌∙◌, arith}
+use Rattle.std.proofs.Common.{◌≡◌, inl, inr, ℕ, zero, suc, ◌+◌, true, false, not, List, [], ◌∷◌, Option, Some, None, refl, sym, ap, subst, ◌∙◌}
 use Rattle.std.proofs.lemmas.Bool.{or_cases, or_parts, not-true, not-false}
 use Rattle.std.specs.Prelude.{slice_get}
 use Rattle.pt_types.specs.Datatype.{Datatype}
@@ -10,11 +10,9 @@ use Rattle.pt_typing.specs.Least.{Assignment}
 use Rattle.pt_resolve.specs.Typing.{Declares}
 use Rattle.pt_resolve.specs.SaidWords.{type_in}
 use Rattle.pt_resolve.specs.Broken.{is_over_type, is_over, has_port_over}
+use Rattle.pt_resolve.proofs.Steps.{some-same, none-more, from-next}
 use Rattle.pt_resolve.proofs.SaidLaws.{read_is_said}
 use Rattle.pt_resolve.proofs.SaidTexts.{one_type}
-
-some-same : (p q : PortTree) → Some p ≡ Some q → p ≡ q
-some-same p q e = cc
 
 -- ---- one port
 
@@ -40,12 +38,6 @@ below-declared p t s d h =
     not-false (is_below t s) (sym one ∙ h)
 
 -- ---- the ports of an entity
-
-none-more : (i : ℕ) → i ≡ i + 0
-none-more i = omega arith
-
-from-next : (i j : ℕ) → suc i + j ≡ i + suc j
-from-next i j = omega arith
 
 pub record OverPort (a : Assignment) (k i : ℕ) (ps : List PortTree) : Type 0 where
   pub at : ℕ

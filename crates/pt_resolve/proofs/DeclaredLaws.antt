@@ -12,11 +12,9 @@ use Rattle.pt_typing.specs.Views.{Inequality}
 use Rattle.pt_resolve.specs.Typing.{Declares}
 use Rattle.pt_resolve.specs.SaidWords.{type_in}
 use Rattle.pt_resolve.specs.DeclaredTypes.{of_type, of_text, of_declared, declared_from, declared}
+use Rattle.pt_resolve.proofs.Steps.{some-same}
 use Rattle.pt_resolve.proofs.SaidLaws.{read_is_said}
 use Rattle.pt_resolve.proofs.SaidTexts.{one_type}
-
-some-same : {A : Type 0} (x y : A) → Some x ≡ Some y → x ≡ y
-some-same x y e = cc
 
 module _ (P : Inequality → Type 0) where
   pub All-left : (xs ys : List Inequality) → All P (xs ++ ys) → All P xs

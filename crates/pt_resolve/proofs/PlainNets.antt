@@ -15,10 +15,8 @@ use Rattle.pt_typing.specs.Least.{Assignment, IsMet, IsLeast}
 use Rattle.pt_resolve.specs.Inequalities.{inequalities}
 use Rattle.pt_resolve.specs.DeclaredTypes.{declared}
 use Rattle.pt_resolve.specs.Typing.{IsLowerByModal, of_input, of_output, of_action, is_plain, is_undeclared, ArePlain, port_counts, IsTyping}
+use Rattle.pt_resolve.proofs.Steps.{some-same}
 use Rattle.pt_resolve.proofs.DeclaredLaws.{All-left, All-right, declared-all, declared-each}
-
-pub some-same : {A : Type 0} (x y : A) → Some x ≡ Some y → x ≡ y
-some-same x y e = cc
 
 all-at : {A : Type 0} (f : A → Bool) (xs : List A) (k : ℕ) (x : A) → list_all f xs ≡ true → slice_get xs k ≡ Some x → f x ≡ true
 all-at f [] zero x h e = cc

@@ -1,6 +1,7 @@
 -- The type that is read is the one that the text says.
 use Rattle.std.proofs.Common.{◌≡◌, ◌<◌, ◌≤◌, ◌+◌, ◌-◌, ◌&&◌, ℕ, zero, suc, List, [], ◌∷◌, ◌++◌, length, take, drop, Some, None, Bool, true, false, not, codes, if◌then◌else◌, refl, sym, ap, subst, ◌∙◌, append_assoc, arith, length-append}
 use Rattle.std.specs.List.{list_all, prefix_len}
+use Rattle.std.proofs.lemmas.Bool.{not-true}
 use Rattle.std.proofs.Math.Seq.{take-append_seam, drop-append_seam}
 use Rattle.pt_moml.specs.Names.{is_later, has_name}
 use Rattle.pt_moml.specs.TypeTexts.{TypeTree, int_type, boolean_type, string_type, array_type, record_type, FieldTrees, last_field, one_field, type_text, fields_text, is_field_name, has_names, have_names, IsTextOf}
@@ -9,8 +10,9 @@ use Rattle.pt_types.specs.Datatype.{Datatype}
 use Rattle.pt_types.proofs.Fields.{and_left, and_right}
 use Rattle.pt_resolve.specs.Typing.{said, said_fields}
 use Rattle.pt_resolve.specs.SaidWords.{Fields, Open, in_array, in_record, Place, Goes, named_or, field, begin, go_on, step, from_next, leads, record_said, type_in}
+use Rattle.pt_resolve.proofs.Steps.{append-none}
 use Rattle.pt_resolve.proofs.SaidNames.{letters}
-use Rattle.pt_resolve.proofs.SaidRecords.{append-none, record-said}
+use Rattle.pt_resolve.proofs.SaidRecords.{record-said}
 
 -- a place where a type is wanted, and one behind a type
 abbrev pub wants : List Open → List ℕ → Place
@@ -18,10 +20,6 @@ wants around text = record { ty = None; around = around; rest = text }
 
 abbrev pub after : Datatype → List Open → List ℕ → Place
 after t around text = record { ty = Some t; around = around; rest = text }
-
-not_true : (b : Bool) → not b ≡ true → b ≡ false
-not_true true h = absurd cc
-not_true false h = refl
 
 letters_end : (name : List ℕ) (rest : List ℕ) → list_all is_later name ≡ true → prefix_len is_later (name ++ (32 ∷ rest)) ≡ length name
 letters_end [] rest h = refl
@@ -91,7 +89,7 @@ mutual
       let own = and_left (is_field_name name && not (has_name names name)) (has_names t) h in
       let inner = and_right (is_field_name name && not (has_name names name)) (has_names t) h in
       let good = and_left (is_field_name name) (not (has_name names name)) own in
-      let fresh = not_true (has_name names name) (and_right (is_field_name name) (not (has_name names name)) own) in
+      let fresh = not-true (has_name names name) (and_right (is_field_name name) (not (has_name names name)) own) in
       let text : (name ++ (codes " = " ++ (type_text t ++ codes "}"))) ++ rest ≡ name ++ (codes " = " ++ (type_text t ++ (codes "}" ++ rest))) = append_assoc name (codes " = " ++ (type_text t ++ codes "}")) rest ∙ ap (λ (s : List ℕ). name ++ (codes " = " ++ s)) (append_assoc (type_text t) (codes "}") rest) in
       let size : length (name ++ (codes " = " ++ (type_text t ++ codes "}"))) ≡ length name + (3 + (length (type_text t) + 1)) = omega (arith, length-append name (codes " = " ++ (type_text t ++ codes "}")), length_pair (codes " = ") (type_text t) (codes "}")) in (
         named names before around name (type_text t ++ (codes "}" ++ rest)),
@@ -104,7 +102,7 @@ mutual
       let both = and_right (is_field_name name && not (has_name names name)) (has_names t && have_names (names ++ name ∷ []) fs) h in
       let inner = and_left (has_names t) (have_names (names ++ name ∷ []) fs) both in
       let good = and_left (is_field_name name) (not (has_name names name)) own in
-      let fresh = not_true (has_name names name) (and_right (is_field_name name) (not (has_name names name)) own) in
+      let fresh = not-true (has_name names name) (and_right (is_field_name name) (not (has_name names name)) own) in
       let next : Fields = before ++ (name, said t) ∷ [] in
       let later = fields_within fs (names ++ name ∷ []) next around rest (and_right (has_names t) (have_names (names ++ name ∷ []) fs) both) in
       let whole : next ++ said_fields fs ≡ before ++ said_fields (one_field name t fs) = append_assoc before ((name, said t) ∷ []) (said_fields fs) in

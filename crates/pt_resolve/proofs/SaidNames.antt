@@ -41,9 +41,9 @@ letters name h = and_right _ (list_all is_later name) (and_left (is_name name) _
 pub field_name-utf8 : (name : List ℕ) → is_field_name name ≡ true → IsUtf8 name
 field_name-utf8 name h = IsUtf8-from_ascii name (all-ascii name (letters name h))
 
-not-true : (b : Bool) → (b ≡ true → ⊥) → b ≡ false
-not-true true h = absurd (h refl)
-not-true false h = refl
+false-unless : (b : Bool) → (b ≡ true → ⊥) → b ≡ false
+false-unless true h = absurd (h refl)
+false-unless false h = refl
 
 pub no_field_name : (name : List ℕ) → (IsUtf8 name → ⊥) → is_field_name name ≡ false
-no_field_name name h = not-true (is_field_name name) (λ e. h (field_name-utf8 name e))
+no_field_name name h = false-unless (is_field_name name) (λ e. h (field_name-utf8 name e))

@@ -4,7 +4,7 @@ use Rattle.std.specs.Prelude.{nat_le, nat_lt, ◌==◌}
 use Rattle.std.specs.List.{list_all}
 use Rattle.std.specs.Str.{bytes_eq}
 use Rattle.std.specs.Char.{is_ascii_alphabetic, is_ascii_alphanumeric}
-use Rattle.std.proofs.lemmas.Bool.{le-leb}
+use Rattle.std.proofs.lemmas.Bool.{le-leb, not-true}
 use Rattle.std.proofs.lemmas.List.Sums.{sum_by-cons}
 use Rattle.pt_types.specs.Datatype.{types_of}
 use Rattle.pt_types.specs.Normal.{record_of}
@@ -18,10 +18,7 @@ use Rattle.pt_expr_type.specs.ByName.{by_name}
 use Rattle.pt_expr_type.specs.Typing.{where_true, or_general}
 use Rattle.pt_resolve.specs.Typing.{said_fields}
 use Rattle.pt_resolve.specs.SaidWords.{record_said}
-
-pub append-none : {A : Type 0} (xs : List A) → xs ++ [] ≡ xs
-append-none [] = refl
-append-none (x ∷ xs) = ap (λ ys. x ∷ ys) (append-none xs)
+use Rattle.pt_resolve.proofs.Steps.{append-none}
 
 -- ---- names
 
@@ -122,10 +119,6 @@ names_of fs = map (λ f. f.0) (said_fields fs)
 named-of : (name : List ℕ) → is_field_name name ≡ true → is_name name ≡ true
 unfolding is_field_name
 named-of name h = name-is name (and_left (moml.is_name name) _ h)
-
-not-true : (b : Bool) → not b ≡ true → b ≡ false
-not-true true h = cc
-not-true false h = refl
 
 are-new : (fs : FieldTrees) (before : List (List ℕ)) → have_names before fs ≡ true → AreNew before (names_of fs)
 unfolding has_names

@@ -9,11 +9,9 @@ use Rattle.pt_types.specs.Datatype.{Datatype}
 use Rattle.pt_types.specs.Ty.{type_of}
 use Rattle.pt_resolve.specs.Typing.{said}
 use Rattle.pt_resolve.specs.SaidWords.{Says, type_in}
+use Rattle.pt_resolve.proofs.Steps.{some-same}
 use Rattle.pt_resolve.proofs.SaidLaws.{read_is_said}
 use Rattle.pt_resolve.proofs.SaidChecked.{type_in-taken}
-
-some-same : (x y : Datatype) → Some x ≡ Some y → x ≡ y
-some-same x y e = cc
 
 pub no_type : (text : List ℕ) → type_in text ≡ None → (read : TypeTree) → IsTextOf text read → ⊥
 no_type text none read is = let e : Some (said read) ≡ None = sym (read_is_said text read is) ∙ none in cc

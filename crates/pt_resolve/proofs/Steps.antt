@@ -1,7 +1,16 @@
 -- Lists that loops make, one element after the other.
-use Rattle.std.proofs.Common.{◌≡◌, ℕ, zero, suc, ◌+◌, ◌<◌, ◌≤◌, List, [], ◌∷◌, ◌++◌, length, map, drop, get_or, refl, sym, ap, ◌∙◌, append_assoc, arith}
+use Rattle.std.proofs.Common.{◌≡◌, ℕ, zero, suc, ◌+◌, ◌<◌, ◌≤◌, List, [], ◌∷◌, ◌++◌, length, map, drop, get_or, Some, refl, sym, ap, ◌∙◌, append_assoc, arith}
 use Rattle.std.specs.Prelude.{slice_get, option_map}
 use Rattle.pt_resolve.specs.Frames.{first, behind}
+
+pub some-same : {A : Type 0} (x y : A) → Some x ≡ Some y → x ≡ y
+some-same x y e = cc
+
+pub none-more : (i : ℕ) → i ≡ i + 0
+none-more i = omega arith
+
+pub from-next : (i j : ℕ) → suc i + j ≡ i + suc j
+from-next i j = omega arith
 
 pub one-more : (i : ℕ) → suc i ≡ i + 1
 one-more i = omega arith
