@@ -2,6 +2,7 @@
 ghost use Rattle.std.specs.Prelude.{◌≡◌, ◌⊎◌, ◌<◌, length, IfOk};
 ghost use Rattle.pt_moml.specs.Document.{JobTree};
 ghost use Rattle.pt_graph.specs.Net.{IsNetOf};
+ghost use Rattle.pt_cover.specs.Leaves.{ActorsAreLeaves};
 ghost use Rattle.pt_node.specs.Shown.{shown_node};
 ghost use Rattle.pt_node.specs.View.{node_of};
 ghost use Rattle.pt_run.specs.Start.{IsRunnable};
@@ -81,7 +82,7 @@ fn report_run(
 
 /// The answer to the net of a job within a budget, unless memory runs out for it.
 pub fn reply_to_net(alloc: Global, net: &Net, budget: u64) -> Result<Reply, AllocError>
-    requires net { (job : JobTree) × IsNetOf job net.now }
+    requires net { (job : JobTree) × ActorsAreLeaves job × IsNetOf job net.now }
     requires budget { 0 < budget }
     ensures answers { IfOk result (λ r. AnswersNet net.now budget r.status r.text.items) }
     // Where the models are affordable, what isn't done is refused.
