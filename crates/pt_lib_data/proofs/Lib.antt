@@ -4,3 +4,4 @@ mod Tokens
 mod Assembled
 pub mod Steadiness
 pub mod Giving
+pub mod Bounds

@@ -1,4 +1,4 @@
--- The laws of the library: what stays the same from firing to firing, and how many tokens an actor gives.
+-- The laws of the library: what stays the same from firing to firing, and how many tokens an actor needs and gives.
 use Rattle.std.specs.Prelude.{◌≡◌, ℕ, ◌≤◌, ◌⊎◌, List, length, true, Some, slice_get}
 use Rattle.std.specs.List.{AllByRecursion}
 use Rattle.pt_meaning.specs.Basics.{Tag, Streams, at}
@@ -18,6 +18,10 @@ IsRate n = (1 ≤ n) × (n ≤ 1000000)
 -- the rates of an actor that is started are from 1 to 1,000,000
 abbrev pub RatesAreBounded : Type 0
 RatesAreBounded = (class : List ℕ) (values : List (List ℕ × Token)) (ports : List (List ℕ × ℕ)) (a : DataActor) → start class values ports ≡ Some a → AllByRecursion IsRate (rates a)
+
+-- it needs from 1 to 1,000,000 tokens at each of its places
+abbrev pub NeedsAreBounded : Type 0
+NeedsAreBounded = (class : List ℕ) (values : List (List ℕ × Token)) (ports : List (List ℕ × ℕ)) (a : DataActor) → start class values ports ≡ Some a → AllByRecursion IsRate a.needed
 
 -- on each output nothing is given, or as many tokens as its rate
 abbrev pub AreGiven : List ℕ → Streams Token → Type 0

@@ -1,6 +1,6 @@
 ghost use Rattle.pt_meaning.specs.Lawful.{LawfulRows};
 ghost use Rattle.pt_lib_data.specs.DataActor.{rows};
-ghost use Rattle.pt_lib_data.specs.Laws.{SteadyActorsStay, RatesAreBounded, RatesAreGiven};
+ghost use Rattle.pt_lib_data.specs.Laws.{SteadyActorsStay, NeedsAreBounded, RatesAreBounded, RatesAreGiven};
 
 /// The rows of the library are lawful: what an actor gives early grows with what is known, and is kept by its step.
 #[tactic(auto, using(crate::proofs::RowLaws::rows_lawful))]
@@ -11,6 +11,11 @@ pub fn rows_are_lawful()
 /// After a firing a steady actor needs what it needed, and is steady.
 pub fn steady_actors_stay()
     ensures { SteadyActorsStay }
+{}
+
+/// An actor that is started needs from 1 to 1,000,000 tokens at each of its places.
+pub fn needs_are_bounded()
+    ensures { NeedsAreBounded }
 {}
 
 /// The rates of an actor that is started are from 1 to 1,000,000.

@@ -24,6 +24,8 @@ mod string_length;
 pub use comparator::Relation;
 pub use data_actor::DataActor;
 pub use function::{Class, Function};
-pub use laws::{rates_are_bounded, rates_are_given, rows_are_lawful, steady_actors_stay};
+pub use laws::{
+    needs_are_bounded, rates_are_bounded, rates_are_given, rows_are_lawful, steady_actors_stay,
+};
 pub use limiter::Limiter;
 pub use logic_function::Gate;

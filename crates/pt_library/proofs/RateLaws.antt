@@ -1,5 +1,5 @@
--- How many tokens an actor gives, by its library.
-use Rattle.std.proofs.Common.{◌≡◌, ℕ, zero, suc, List, [], ◌∷◌, length, map, Option, Some, None, refl, subst}
+-- How many tokens an actor needs and gives, by its library.
+use Rattle.std.proofs.Common.{◌≡◌, ℕ, zero, suc, List, [], ◌∷◌, length, map, true, Option, Some, None, refl, subst}
 use Rattle.std.specs.Prelude.{option_map, IfSome}
 use Rattle.std.specs.Option.{option_or}
 use Rattle.std.specs.List.{AllByRecursion}
@@ -10,12 +10,13 @@ use Rattle.pt_value.specs.declared.token.Token.{Token}
 use Rattle.pt_lib_data.specs.declared.data_actor.DataActor.{DataActor}
 use Rattle.pt_lib_data.specs.DataActor as data_actor
 use Rattle.pt_lib_data.specs.Laws.{IsRate, AreGiven}
+use Rattle.pt_lib_data.proofs.Bounds as data_bounds
 use Rattle.pt_lib_data.proofs.Giving as data_laws
 use Rattle.pt_lib_flow.specs.declared.flow_actor.FlowActor.{FlowActor}
 use Rattle.pt_lib_flow.specs.declared.params.Params.{Params}
 use Rattle.pt_lib_flow.specs.FlowActor as flow_actor
 use Rattle.pt_lib_flow.specs.Laws.{IsGiven}
-use Rattle.pt_lib_flow.specs.Rates.{IsCount}
+use Rattle.pt_lib_flow.specs.Rates.{IsCount, IsCounted}
 use Rattle.pt_lib_flow.proofs.Bounds as flow_bounds
 use Rattle.pt_lib_flow.proofs.Giving as flow_laws
 use Rattle.pt_library.specs.declared.library_actor.LibraryActor.{LibraryActor}
@@ -39,14 +40,18 @@ all-counts : (ns : List ℕ) → AllByRecursion IsRate ns → AllByRecursion IsC
 all-counts [] h = tt
 all-counts (n ∷ ns) h = (record { least = h.0.0; most = h.0.1 }, all-counts ns h.1)
 
-by-library : (o : Option FlowActor) (p : Option DataActor) (a : LibraryActor) → option_or (option_map Flow o) (option_map Data p) ≡ Some a → ((b : FlowActor) → o ≡ Some b → IsRatedActor (Flow b)) → ((b : DataActor) → p ≡ Some b → IsRatedActor (Data b)) → IsRatedActor a
-by-library (Some b) p a e f g = let same : Flow b ≡ a = cc in subst IsRatedActor same (f b refl)
-by-library None (Some b) a e f g = let same : Data b ≡ a = cc in subst IsRatedActor same (g b refl)
-by-library None None a e f g = absurd (cc)
+by-library : (P : LibraryActor → Type 0) (o : Option FlowActor) (p : Option DataActor) (a : LibraryActor) → option_or (option_map Flow o) (option_map Data p) ≡ Some a → ((b : FlowActor) → o ≡ Some b → P (Flow b)) → ((b : DataActor) → p ≡ Some b → P (Data b)) → P a
+by-library P (Some b) p a e f g = let same : Flow b ≡ a = cc in subst P same (f b refl)
+by-library P None (Some b) a e f g = let same : Data b ≡ a = cc in subst P same (g b refl)
+by-library P None None a e f g = absurd (cc)
 
 pub started-rated : (params : Params) (a : LibraryActor) → library.start params ≡ Some a → IsRatedActor a
 started-rated params a e =
-    by-library (flow_actor.start params) (data_actor.start params.class params.values params.ports) a e (λ b h. one-rate (flow_actor.rate b) (flow_bounds.started-gives params b h)) (λ b h. all-counts (data_actor.rates b) (data_laws.rates-bounded params.class params.values params.ports b h))
+    by-library IsRatedActor (flow_actor.start params) (data_actor.start params.class params.values params.ports) a e (λ b h. one-rate (flow_actor.rate b) (flow_bounds.started-gives params b h)) (λ b h. all-counts (data_actor.rates b) (data_bounds.rates-bounded params.class params.values params.ports b h))
+
+pub started-needs : (params : Params) (a : LibraryActor) → library.start params ≡ Some a → library.is_steady a ≡ true → IsCounted (library.need a)
+started-needs params a e =
+    by-library (λ c. library.is_steady c ≡ true → IsCounted (library.need c)) (flow_actor.start params) (data_actor.start params.class params.values params.ports) a e (λ b h. flow_bounds.started-needs params b h) (λ b h steady. all-counts b.needed (data_bounds.needs-bounded params.class params.values params.ports b h))
 
 -- ---- what is given
 

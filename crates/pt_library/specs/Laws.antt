@@ -9,7 +9,7 @@ use Rattle.pt_lib_data.specs.Function as function
 use Rattle.pt_lib_data.specs.Laws.{AreGiven}
 use Rattle.pt_lib_flow.specs.declared.params.Params.{Params}
 use Rattle.pt_lib_flow.specs.FlowActor as flow_actor
-use Rattle.pt_lib_flow.specs.Rates.{IsCount}
+use Rattle.pt_lib_flow.specs.Rates.{IsCount, IsCounted}
 use Rattle.pt_library.specs.declared.library_actor.LibraryActor.{LibraryActor}
 use Rattle.pt_library.specs.LibraryActor.{is_steady, need, rates, step, start}
 use Rattle.pt_library.specs.Steady.{IsSteadyActor}
@@ -22,11 +22,15 @@ ClassesAreOfOneLibrary = (name : List ℕ) → IsSome (flow_actor.class_of name)
 abbrev pub ToldActorsAreSteady : Type 0
 ToldActorsAreSteady = (a : LibraryActor) → is_steady a ≡ true → IsSteadyActor a
 
+-- a steady actor, once it is started, needs from 1 to 1,000,000 tokens at each of its places
+abbrev pub SteadyNeedsAreCounts : Type 0
+SteadyNeedsAreCounts = (params : Params) (a : LibraryActor) → start params ≡ Some a → is_steady a ≡ true → IsCounted (need a)
+
 -- its rates, where they don't vary, are from 1 to 1,000,000
 abbrev pub IsRatedActor : LibraryActor → Type 0
 IsRatedActor a = IfSome (rates a) (AllByRecursion IsCount)
 
--- so are those of each actor that is started from parameters
+-- so are those of each actor that is started
 abbrev pub RatesAreCounts : Type 0
 RatesAreCounts = (params : Params) (a : LibraryActor) → start params ≡ Some a → IsRatedActor a
 

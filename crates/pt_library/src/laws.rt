@@ -1,6 +1,6 @@
 ghost use Rattle.pt_meaning.specs.Lawful.{LawfulRows};
 ghost use Rattle.pt_library.specs.LibraryActor.{rows};
-ghost use Rattle.pt_library.specs.Laws.{ClassesAreOfOneLibrary, ToldActorsAreSteady, RatesAreCounts, RatesAreGiven};
+ghost use Rattle.pt_library.specs.Laws.{ClassesAreOfOneLibrary, ToldActorsAreSteady, SteadyNeedsAreCounts, RatesAreCounts, RatesAreGiven};
 
 /// The rows of all libraries are lawful, since those of each are.
 #[tactic(auto, using(crate::proofs::RowLaws::rows_lawful))]
@@ -16,6 +16,11 @@ pub fn classes_are_of_one_library()
 /// An actor that its library tells to be steady needs the same at each firing, whatever it fires, and takes any inputs.
 pub fn told_actors_are_steady()
     ensures { ToldActorsAreSteady }
+{}
+
+/// A steady actor, once it is started, needs from 1 to 1,000,000 tokens at each of its places.
+pub fn steady_needs_are_counts()
+    ensures { SteadyNeedsAreCounts }
 {}
 
 /// The rates of an actor that is started are from 1 to 1,000,000.

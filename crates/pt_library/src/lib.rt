@@ -6,6 +6,6 @@ mod library_actor;
 
 pub use laws::{
     classes_are_of_one_library, rates_are_counts, rates_are_given, rows_are_lawful,
-    told_actors_are_steady,
+    steady_needs_are_counts, told_actors_are_steady,
 };
 pub use library_actor::LibraryActor;
