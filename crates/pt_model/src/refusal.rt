@@ -1,9 +1,9 @@
 ghost use Rattle.std.specs.Prelude.{◌<◌, length};
+ghost use Rattle.pt_moml.specs.Names.{top_path};
+ghost use Rattle.pt_moml.specs.declared.code.Code.TheVariants as code;
 ghost use Rattle.pt_graph.specs.declared.net.NetEntity.{NetEntity};
 ghost use Rattle.pt_build.specs.Trees.{IsEntity};
 ghost use Rattle.pt_model.specs.Refused.{IsTold};
-ghost use Rattle.pt_moml.specs.Names.{top_path};
-ghost use Rattle.pt_moml.specs.declared.code.Code.TheVariants as code;
 
 use crate::model::ModelFault;
 use pt_graph::Net;
