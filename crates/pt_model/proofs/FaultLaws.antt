@@ -1,5 +1,5 @@
 -- Why each refusal stands.
-use Rattle.std.proofs.Common.{◌≡◌, ℕ, ◌<◌, List, length, map, sym, ap, subst, ◌∙◌}
+use Rattle.std.proofs.Common.{◌≡◌, ℕ, ◌<◌, length, map, sym, ap, subst, ◌∙◌}
 use Rattle.std.specs.Prelude.{Some, slice_get}
 use Rattle.std.proofs.lemmas.Option.{slice_get_within}
 use Rattle.pt_moml.specs.declared.code.Code.{Code}
@@ -8,13 +8,11 @@ use Rattle.pt_moml.specs.declared.refusal.DocFault.{DocFault}
 use Rattle.pt_moml.specs.declared.refusal.DocFault.TheVariants as faults
 use Rattle.pt_moml.specs.declared.refusal.Refusal.{Refusal}
 use Rattle.pt_moml.specs.Names.{top_path}
-use Rattle.pt_moml.specs.Outcome.{IsRefusal}
 use Rattle.pt_graph.specs.declared.net.Net.{Net}
 use Rattle.pt_graph.specs.declared.net.NetEntity.{NetEntity}
 use Rattle.pt_graph.specs.Net.{NetEntityTree, entity_view}
 use Rattle.pt_values.specs.declared.values.Values.{Values}
 use Rattle.pt_values.specs.Scopes.{net_view}
-use Rattle.pt_values.specs.Valued as valued
 use Rattle.pt_values.specs.Valued.{IsValued}
 use Rattle.pt_typing.specs.Least.{Assignment}
 use Rattle.pt_resolve.specs.Typing.{IsTyping}
@@ -28,20 +26,11 @@ use Rattle.pt_build.specs.Built.{IsBuilt}
 use Rattle.pt_model.specs.declared.model.ModelFault.{ModelFault}
 use Rattle.pt_model.specs.declared.model.ModelFault.TheVariants.{Refused, Memory}
 use Rattle.pt_model.specs.Resolved.{IsResolved, IsStarted}
-use Rattle.pt_model.specs.Refused.{IsUnbuilt, IsTold, fault_of, FaultStands, for_values, for_types, for_place, for_inputs, unbuilt}
-
--- a refusal of a document for a cause at a path is one of its net
-pub told-of : (m : ModelFault) (f : DocFault) (cause : Code) (path : List ℕ) → m ≡ fault_of f → IsRefusal f cause path → IsTold m cause path
-told-of m faults.Memory cause path e h = subst (λ v. IsTold v cause path) (sym e) tt
-told-of m (faults.Refused r) cause path e h = subst (λ v. IsTold v cause path) (sym e) h
+use Rattle.pt_model.specs.Refused.{IsUnbuilt, IsTold, fault_of, FaultStands, for_types, for_place, for_inputs, unbuilt}
 
 pub unbuilt-stands : (net : Net) (m : ModelFault) → IsUnbuilt net → IsTold m code.Unbuilt top_path → FaultStands net m
 unbuilt-stands net Memory is told = tt
 unbuilt-stands net (Refused r) is told = unbuilt is told
-
-pub values-stand : (net : Net) (f : DocFault) → valued.IsFaultOf (net_view net) f → FaultStands net (fault_of f)
-values-stand net faults.Memory h = tt
-values-stand net (faults.Refused r) h = for_values h
 
 pub inputs-stand : (net : Net) (values : Values) (typing : Assignment) (starts : Starts) (top : Shown) (f : DocFault) → IsStarted net values typing starts → IsBuilt net starts 0 top → inputs.IsFaultOf (net_view net) f → FaultStands net (fault_of f)
 inputs-stand net values typing starts top faults.Memory started is h = tt
