@@ -28,6 +28,14 @@ const PROCESSES: &str =
 
 const VERSION_THREE: &str = r#"{"version":3,"model":{"name":"top","class":"Composite"}}"#;
 
+/// A product of two texts, which has no type.
+const TEXTS: &str =
+    r#"{"version":1,"model":{"name":"top","class":"Composite","properties":[{"name":"director","class":"SDF","properties":[{"name":"iterations","value":"1"}]}],"entities":[{"name":"a","class":"Const","properties":[{"name":"value","value":"\"x\""}]},{"name":"b","class":"Scale","properties":[{"name":"factor","value":"2"}]}],"relations":[{"name":"r"}],"links":[{"port":"a.output","relation":"r"},{"port":"b.input","relation":"r"}]},"record":["b.output"]}"#;
+
+/// Two composites of SDF in one another, at two firings of the inner one's ramp for one of the outer sum.
+const NESTED: &str =
+    r#"{"version":1,"model":{"name":"top","class":"Composite","properties":[{"name":"director","class":"SDF","properties":[{"name":"iterations","value":"2"}]}],"entities":[{"name":"inner","class":"Composite","properties":[{"name":"director","class":"SDF"}],"ports":[{"name":"o","output":true}],"entities":[{"name":"r","class":"Ramp"}],"relations":[{"name":"i"}],"links":[{"port":"r.output","relation":"i"},{"port":"o","relation":"i"}]},{"name":"two","class":"SequenceToArray","properties":[{"name":"arrayLength","value":"2"}]}],"relations":[{"name":"a"}],"links":[{"port":"inner.o","relation":"a"},{"port":"two.input","relation":"a"}]},"record":["two.output"]}"#;
+
 const NOT_BUILT: &str =
     r#"{"version":1,"model":{"name":"top","class":"Composite","properties":[{"name":"director","class":"DE"}]}}"#;
 
@@ -70,6 +78,12 @@ fn documents_are_answered(rt: HostRuntime) -> Result<(), Fail> {
             Status::Document,
             "refused 14 Parameter iterations\n",
         ),
+        (TEXTS, Status::Document, "refused 19 Type b\n"),
+        (
+            NESTED,
+            Status::Done,
+            "trace two.output\n0 0.0 {0, 1}\n1 0.0 {2, 3}\nend iterations\n",
+        ),
         (VERSION_THREE, Status::Document, "refused 11 Shape .\n"),
         (NOT_BUILT, Status::Document, "refused 40 Unbuilt .\n"),
         ("{\"version\":1,", Status::Document, "refused 10 Json .\n"),
@@ -86,10 +100,45 @@ fn documents_are_answered(rt: HostRuntime) -> Result<(), Fail> {
     Ok(())
 }
 
+/// The answer to the ramp and the scale under these words. An iteration makes three firings, that of the top among them.
+#[test]
+fn a_run_stops_at_its_budget(rt: HostRuntime) -> Result<(), Fail> {
+    let alloc = rt.alloc();
+    for (texts, status, text) in [
+        (
+            &["run", "--budget", "3"][..],
+            Status::Budget,
+            "trace Scale.output\n0 0.0 0\nend budget 3\n",
+        ),
+        (
+            &["run", "--budget=9"][..],
+            Status::Budget,
+            "trace Scale.output\n0 0.0 0\n1 0.0 2\n2 0.0 4\nend budget 9\n",
+        ),
+        (&["run", "--budget=10"][..], Status::Done, RAMP_SCALE_REPORT),
+    ] {
+        let words = words_of(alloc, texts)?;
+        let mut source = MemSource::new(RAMP_SCALE.as_bytes().to_vec(alloc)?, Vec::new(alloc));
+        let mut sink = MemSink::new(alloc, 7, ROOM, Vec::new(alloc))?;
+        assert_eq!(rt;
+            run_program(&rt, alloc, &words, &mut source, &mut sink, &OpenGate),
+            status
+        );
+        assert_eq!(rt; sink.bytes(), text.as_bytes());
+    }
+    Ok(())
+}
+
 #[test]
 fn other_words_are_refused_and_nothing_is_read(rt: HostRuntime) -> Result<(), Fail> {
     let alloc = rt.alloc();
-    for texts in [&[][..], &["run", "run"][..], &["help"][..], &["Run"][..]] {
+    for texts in [
+        &[][..],
+        &["run", "run"][..],
+        &["help"][..],
+        &["Run"][..],
+        &["run", "--budget=0"][..],
+    ] {
         let words = words_of(alloc, texts)?;
         let mut source = MemSource::new(RAMP_SCALE.as_bytes().to_vec(alloc)?, Vec::new(alloc));
         let mut sink = MemSink::new(alloc, 7, ROOM, Vec::new(alloc))?;
