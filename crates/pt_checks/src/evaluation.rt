@@ -61,30 +61,6 @@ fn a_text_is_as_long_as_its_characters(rt: HostRuntime) -> Result<(), Fail> {
     Ok(())
 }
 
-/// An array literal of the part `x`.
-fn array_of_x(alloc: Global) -> Result<Expr, AllocError> {
-    let name = Expr::Name(Text::of(alloc, "x")?);
-    Ok(Expr::List(Exprs::of(vec![in alloc; name]?)))
-}
-
-#[test]
-fn an_array_may_have_size_65536_and_no_more(rt: HostRuntime) -> Result<(), Fail> {
-    let alloc = rt.alloc();
-    let mut text = String::new(alloc);
-    for _ in 0..65_534u32 {
-        text.push('a')?;
-    }
-    let tree = array_of_x(alloc)?;
-    let mut env = Env::new(alloc);
-    env.bind("x", Some(Token::Text(Text::of(alloc, text.as_str())?)))?;
-    assert!(rt; eval(alloc, &tree, &env).is_ok());
-    text.push('a')?;
-    env.bind("x", Some(Token::Text(Text::of(alloc, text.as_str())?)))?;
-    let answer = eval(alloc, &tree, &env);
-    assert!(rt; shows(alloc, answer, "a token above the greatest size")?);
-    Ok(())
-}
-
 #[test]
 fn the_parts_of_literals_are_kept_in_order(rt: HostRuntime) -> Result<(), Fail> {
     let alloc = rt.alloc();
