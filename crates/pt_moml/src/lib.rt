@@ -33,3 +33,4 @@ pub use names::{is_layout, is_name, is_reserved, path_below, refused_below};
 pub use refusal::{DocFault, Refusal, refused};
 pub use rules::property_director;
 pub use tables::{CLASSES, DIRECTORS};
+pub use type_text::{behind, is_field_name, leading_name};

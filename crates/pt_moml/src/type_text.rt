@@ -34,7 +34,7 @@ enum Next<'a> {
 }
 
 /// What is left behind a word.
-fn behind<'a>(word: &[u8], text: &'a [u8]) -> Option<&'a [u8]>
+pub fn behind<'a>(word: &[u8], text: &'a [u8]) -> Option<&'a [u8]>
     ensures { option_map (λ t. t.now) result ≡ types.behind word.now text.now }
 {
     if word.len() > text.len() {
@@ -45,7 +45,7 @@ fn behind<'a>(word: &[u8], text: &'a [u8]) -> Option<&'a [u8]>
 }
 
 /// The name at the front of a text, and what is left behind it.
-fn leading_name<'a>(text: &'a [u8]) -> (&'a [u8], &'a [u8])
+pub fn leading_name<'a>(text: &'a [u8]) -> (&'a [u8], &'a [u8])
     ensures name { result.0.now ≡ take (prefix_len names.is_later text.now) text.now }
     ensures rest { result.1.now ≡ drop (prefix_len names.is_later text.now) text.now }
 {
@@ -64,7 +64,7 @@ fn no_names<'a>(alloc: Global) -> NameSet<&'a [u8]>
 
 /// A name that isn't a word of the expression language.
 #[tactic(auto, unfolding(crate::specs::TypeTexts::is_field_name))]
-fn is_field_name(name: &[u8]) -> bool
+pub fn is_field_name(name: &[u8]) -> bool
     ensures { result ≡ texts.is_field_name name.now }
 {
     is_name_of_bytes(name) && !is_word(name)

@@ -5,12 +5,11 @@ ghost use Rattle.pt_parameter.specs.Names.{held};
 ghost use Rattle.pt_resolve.specs.Frames.{with_value, with_given, no_names, values_held, some_value, held_of, given_of, values_of_tokens, frames_of, entity_frames, transparent_frames, innermost, seen_within, seen};
 ghost use Rattle.pt_resolve.specs.Views.{frame_view, frames_view};
 
-use crate::names::name_of;
 use pt_graph::{Net, NetEntity, Transparent};
 use pt_moml::Property;
 use pt_parameter::{Names, ParameterValue};
 use pt_value::Token;
-use pt_values::{EntityValues, Values};
+use pt_values::{EntityValues, Values, name_of};
 use std::alloc::{AllocError, Global};
 
 /// How many entities stand in one another at most.

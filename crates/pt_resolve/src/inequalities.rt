@@ -11,7 +11,6 @@ ghost use Rattle.pt_resolve.specs.Inequalities.{of_channel, is_given, of_standar
 ghost use Rattle.pt_resolve.specs.Views.{frames_view, port_numbers, IsAdded};
 
 use crate::frames::Frames;
-use crate::names::name_of;
 use crate::place::{Place, add};
 use crate::row::SeedRow;
 use crate::seeds::{joined_with, standard_type};
@@ -23,7 +22,7 @@ use pt_parameter::standard_of;
 use pt_types::Ty;
 use pt_typing::{Inequality, Term, Variable};
 use pt_value::Token;
-use pt_values::{EntityValues, Values};
+use pt_values::{EntityValues, Values, name_of};
 use std::alloc::{AllocError, Global};
 
 /// What is at the source of each channel is below what is at its place.

@@ -6,7 +6,6 @@ mod declared;
 mod faults;
 mod frames;
 mod inequalities;
-mod names;
 mod place;
 mod plain;
 mod row;

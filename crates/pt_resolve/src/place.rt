@@ -11,7 +11,6 @@ ghost use Rattle.pt_resolve.specs.Inequalities.{input_at, inputs_of, with_type, 
 ghost use Rattle.pt_resolve.specs.Views.{types_at, IsAdded};
 
 use crate::frames::Frames;
-use crate::names::name_of;
 use crate::row::{PortType, Seed};
 use crate::rows::{port_type, seed_of};
 use crate::seeds::seeded;
@@ -22,7 +21,7 @@ use pt_parameter::{ParameterValue, names_of, type_of_token};
 use pt_types::Ty;
 use pt_typing::{Inequality, Term, TreeTerm, Variable};
 use pt_value::{Text, Token};
-use pt_values::EntityValues;
+use pt_values::{EntityValues, name_of};
 use std::alloc::{AllocError, Global};
 
 /// An entity of a net, by its number, with what its parameters have and what is seen round it.

@@ -10,9 +10,10 @@ ghost use Rattle.pt_expr_type.specs.Entry.{typed_entry};
 ghost use Rattle.pt_resolve.specs.SaidWords as said;
 ghost use Rattle.pt_resolve.specs.SaidWords.{Says, names_view, stack_view, place_view, next_view};
 
-use crate::words::{behind, field_name, leading_name};
+use crate::words::field_name;
 use indexmap::IndexSet;
 use pt_expr_type::{TypeFault, record_of};
+use pt_moml::{behind, leading_name};
 use pt_types::Ty;
 use pt_value::Text;
 use std::alloc::{AllocError, Global};

@@ -1,6 +1,7 @@
 //! The types of what passes at a port: their order, their joins, and the least types that meet given rules.
 #![tactic(auto)]
 
+mod due;
 mod element;
 mod laws;
 mod printed;

@@ -5,6 +5,7 @@ ghost use Rattle.pt_types.specs.Rank.{room};
 ghost use Rattle.pt_types.specs.Rules.{AllBelow, AreMet, IsReached, IsLeastSolution, IsRaised};
 ghost use Rattle.pt_types.specs.Ty.{type_of};
 
+use crate::due::Due;
 use crate::ty::{Ty, below, join};
 use std::alloc::{AllocError, Global};
 
@@ -120,6 +121,8 @@ fn raise_all<R: Rule>(
 }
 
 /// The rules that read a changed number, and those that read what they change, until no change is left.
+///
+/// It goes by waves, and a rule has its turn once in each, however many of the numbers that it reads have changed.
 fn spread<R: Rule>(
     alloc: Global,
     rules: &[R],
@@ -133,33 +136,12 @@ fn spread<R: Rule>(
     ensures reached { OnOk result (IsReached R.target_of R.value_of rules.now (map type_of types.new.items)) }
     ensures room { OnOk result (room (map type_of types.new.items) ≤ room (map type_of types.old.items)) }
 {
-    while let Some(number) = changed.pop() {
-        raise_readers(alloc, rules, readers, number, types, changed)?;
+    let mut due = Due::new(alloc, rules.len())?;
+    while !changed.is_empty() {
+        due.gather(readers, changed)?;
+        raise_some(alloc, rules, due.indexes(), types, changed)?;
     }
     Ok(())
-}
-
-/// The rules that read a number.
-fn raise_readers<R: Rule>(
-    alloc: Global,
-    rules: &[R],
-    readers: &[Vec<usize>],
-    number: u32,
-    types: &mut Vec<Ty>,
-    changed: &mut Vec<u32>,
-) -> Result<(), AllocError>
-    requires targets { All (λ rule. R.target_of rule < length types.old.items) rules.now }
-    requires reached { IsReached R.target_of R.value_of rules.now (map type_of types.old.items) }
-    ensures counted { OnOk result (length types.new.items ≡ length types.old.items) }
-    ensures reached { OnOk result (IsReached R.target_of R.value_of rules.now (map type_of types.new.items)) }
-    ensures room { OnOk result (room (map type_of types.new.items) ≤ room (map type_of types.old.items)) }
-    ensures work { OnOk result
-        (2 * room (map type_of types.new.items) + length changed.new.items ≤ 2 * room (map type_of types.old.items) + length changed.old.items) }
-{
-    match readers.get(number as usize) {
-        Some(indexes) => raise_some(alloc, rules, indexes.as_slice(), types, changed),
-        None => Ok(()),
-    }
 }
 
 /// The rules of some indexes, one after the other.
