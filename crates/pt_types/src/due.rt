@@ -27,7 +27,11 @@ impl Due {
     }
 
     /// The readers of all numbers that have changed, in place of those before. No change is left then.
-    pub(crate) fn gather(&mut self, readers: &[Vec<usize>], changed: &mut Vec<u32>) -> Result<(), AllocError>
+    pub(crate) fn gather(
+        &mut self,
+        readers: &[Vec<usize>],
+        changed: &mut Vec<u32>,
+    ) -> Result<(), AllocError>
         ensures { OnOk result (changed.new.items ≡ []) }
     {
         self.clear();
