@@ -58,3 +58,9 @@ untyped types names n e found short is none =
 
 pub typed-all : (types : List (List ℕ × Datatype)) (names : List (List ℕ)) (n : ℕ) (found : List (List ℕ × Datatype)) → length names ≤ n → Some found ≡ behind found (typed_names types (drop n names))
 typed-all types names n found past = ap Some (sym (append-nil found)) ∙ sym (ap (λ ns. behind found (typed_names types ns)) (nothing-left names n past))
+
+-- a table of the entries from number n + 1 on, with entry n put into it
+pub table-more : (es : List (List ℕ × Ty)) (n : ℕ) (e : List ℕ × Ty) (key : List ℕ) (t : Datatype) (old new : List ℕ → Option Datatype) → n < length es → e ≡ get_or es n e → key ≡ e.0 → t ≡ type_of e.1 → ((name : List ℕ) → new name ≡ (if bytes_eq key name then Some t else old name)) →
+    ((name : List ℕ) → old name ≡ type_named name (map typed_entry (drop (n + 1) es))) → (name : List ℕ) → new name ≡ type_named name (map typed_entry (drop n es))
+table-more es n e key t old new short is named typed put rest name =
+    put name ∙ ap (λ v. if bytes_eq v name then Some t else old name) named ∙ ap (λ v. if bytes_eq e.0 name then Some v else old name) typed ∙ ap (λ o. if bytes_eq e.0 name then Some (type_of e.1) else o) (rest name) ∙ sym (type-here name es n e short is)

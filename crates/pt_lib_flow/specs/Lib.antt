@@ -6,6 +6,8 @@ pub mod AddSubtract
 pub mod Const
 pub mod TreeCode
 pub mod PortTypes
+pub mod TypeTable
+pub mod Number
 pub mod Formula
 pub mod Expression
 pub mod Extreme

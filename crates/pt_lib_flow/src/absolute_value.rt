@@ -1,4 +1,5 @@
 ghost use Rattle.std.specs.Prelude.{◌≡◌, IfOk};
+ghost use Rattle.pt_lib_flow.specs.Number.{GivesNumber};
 ghost use Rattle.pt_lib_flow.specs.AbsoluteValue as absolute_value;
 
 use crate::params::Params;
@@ -29,6 +30,13 @@ impl AbsoluteValue {
         ensures { IfOk result (λ actor. actor ≡ absolute_value.start _params.now) }
     {
         Ok(Some(AbsoluteValue::new(alloc)?))
+    }
+
+    /// Makes the firing where it gives a number. Else it makes none.
+    pub(crate) fn number(&self, inputs: &Inputs<'_>) -> Option<i64>
+        ensures { GivesNumber absolute_value.step self.now inputs.now result self.now }
+    {
+        inputs.number_at(0)?.checked_abs()
     }
 }
 

@@ -1,5 +1,6 @@
 ghost use Rattle.std.specs.Prelude.{◌≡◌, ◌+◌, IfOk};
 ghost use Rattle.pt_lib_flow.specs.Accumulator.{before};
+ghost use Rattle.pt_lib_flow.specs.Number.{GivesNumber};
 ghost use Rattle.pt_lib_flow.specs.Accumulator as accumulator;
 
 use crate::params::Params;
@@ -50,6 +51,15 @@ impl Accumulator {
         } else {
             self.sum
         }
+    }
+
+    /// Makes the firing where it gives a number. Else it makes none.
+    pub(crate) fn number(&mut self, inputs: &Inputs<'_>) -> Option<i64>
+        ensures { GivesNumber accumulator.step self.old inputs.now result self.new }
+    {
+        let sum = self.before(inputs).checked_add(inputs.number_at(0)?)?;
+        self.sum = sum;
+        Some(sum)
     }
 }
 

@@ -1,5 +1,6 @@
 ghost use Rattle.std.specs.Prelude.{◌≡◌, ◌+◌, IfOk};
 ghost use Rattle.pt_lib_flow.specs.Row.{sum_of};
+ghost use Rattle.pt_lib_flow.specs.Number.{GivesNumber};
 ghost use Rattle.pt_lib_flow.specs.AddSubtract as add_subtract;
 
 use crate::number::sum_between;
@@ -47,6 +48,13 @@ impl AddSubtract {
         let plus = sum_between(inputs, 0, middle);
         let minus = sum_between(inputs, middle, end);
         plus.without(minus)
+    }
+
+    /// Makes the firing where it gives a number. Else it makes none.
+    pub(crate) fn number(&self, inputs: &Inputs<'_>) -> Option<i64>
+        ensures { GivesNumber add_subtract.step self.now inputs.now result self.now }
+    {
+        i64::try_from(self.sum(inputs)?).ok()
     }
 }
 

@@ -1,5 +1,6 @@
 ghost use Rattle.std.specs.Prelude.{◌≡◌, IfOk};
 ghost use Rattle.pt_lib_flow.specs.Limit.{is_endless};
+ghost use Rattle.pt_lib_flow.specs.Number.{GivesNumber};
 ghost use Rattle.pt_lib_flow.specs.Const as constant;
 
 use crate::limit::{Limit, is_called};
@@ -54,6 +55,20 @@ impl Const {
         ensures { result ≡ is_endless self.now.limit }
     {
         self.limit.is_endless()
+    }
+
+    /// Makes the firing where it gives a number. Else it makes none.
+    pub(crate) fn number(&mut self, inputs: &Inputs<'_>) -> Option<i64>
+        ensures { GivesNumber constant.step self.old inputs.now result self.new }
+    {
+        let Token::Int(number) = self.value else {
+            return None;
+        };
+        if self.limit.is_over() || !is_called(inputs) {
+            return None;
+        }
+        self.limit = self.limit.after_one();
+        Some(number)
     }
 }
 

@@ -1,5 +1,7 @@
 ghost use Rattle.std.specs.Prelude.{◌≡◌, IfOk, IfSome, IsSome};
 ghost use Rattle.pt_lib_flow.specs.Rates.{IsCount};
+ghost use Rattle.pt_lib_flow.specs.Number.{GivesNumber};
+ghost use Rattle.pt_lib_flow.specs.FlowActor as flow_actor;
 ghost use Rattle.pt_lib_flow.specs.FlowActor.{class_of, start_as, start, outputs, rate, is_steady};
 
 use crate::absolute_value::AbsoluteValue;
@@ -261,6 +263,31 @@ impl FlowActor {
             | FlowActor::SampleDelay(_)
             | FlowActor::Scale(_)
             | FlowActor::UpSample(_) => true,
+        }
+    }
+
+    /// Makes a firing that gives one integer, and nothing else. Where it makes none, `step` makes the firing.
+    pub fn number(&mut self, inputs: &Inputs<'_>) -> Option<i64>
+        ensures { GivesNumber flow_actor.step self.old inputs.now result self.new }
+    {
+        match self {
+            FlowActor::AbsoluteValue(actor) => actor.number(inputs),
+            FlowActor::Accumulator(actor) => actor.number(inputs),
+            FlowActor::AddSubtract(actor) => actor.number(inputs),
+            FlowActor::Const(actor) => actor.number(inputs),
+            FlowActor::Ramp(actor) => actor.number(inputs),
+            FlowActor::Scale(actor) => actor.number(inputs),
+            FlowActor::BooleanSelect(_)
+            | FlowActor::BooleanSwitch(_)
+            | FlowActor::Counter(_)
+            | FlowActor::DownSample(_)
+            | FlowActor::Expression(_)
+            | FlowActor::Extreme(_)
+            | FlowActor::MultiplyDivide(_)
+            | FlowActor::Repeat(_)
+            | FlowActor::SampleDelay(_)
+            | FlowActor::Sequence(_)
+            | FlowActor::UpSample(_) => None,
         }
     }
 }

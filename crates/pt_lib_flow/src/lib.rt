@@ -24,6 +24,7 @@ mod repeat;
 mod sample_delay;
 mod scale;
 mod sequence;
+mod type_table;
 mod up_sample;
 
 pub use absolute_value::AbsoluteValue;

@@ -3,6 +3,7 @@ ghost use Rattle.pt_types.specs.Ty.{type_of};
 ghost use Rattle.pt_expr_type.specs.Entry.{typed_entry};
 ghost use Rattle.pt_lib_flow.specs.PortTypes.{type_named, typed_names};
 
+use crate::type_table::TypeTable;
 use pt_firing::Names;
 use pt_types::Ty;
 use pt_value::Text;
@@ -61,9 +62,10 @@ impl PortTypes {
     pub fn typed(&self, alloc: Global, names: &Names) -> Result<Option<PortTypes>, AllocError>
         ensures { IfOk result (λ typed. typed ≡ typed_names self.now names.now) }
     {
+        let table = TypeTable::of(alloc, self.as_slice())?;
         let mut types = Vec::new(alloc);
         for name in names.as_slice() {
-            let Some(ty) = self.get(name.as_str()) else {
+            let Some(ty) = table.get(name.as_str()) else {
                 return Ok(None);
             };
             types.push((name.copy(alloc)?, ty.copy(alloc)?))?;

@@ -1,5 +1,6 @@
 ghost use Rattle.std.specs.Prelude.{◌≡◌, IfOk};
 ghost use Rattle.pt_lib_flow.specs.Limit.{is_endless};
+ghost use Rattle.pt_lib_flow.specs.Number.{GivesNumber};
 ghost use Rattle.pt_lib_flow.specs.Ramp as ramp;
 
 use crate::limit::{Limit, is_called};
@@ -65,6 +66,21 @@ impl Ramp {
         ensures { result ≡ is_endless self.now.limit }
     {
         self.limit.is_endless()
+    }
+
+    /// Makes the firing where it gives a number. Else it makes none.
+    pub(crate) fn number(&mut self, inputs: &Inputs<'_>) -> Option<i64>
+        ensures { GivesNumber ramp.step self.old inputs.now result self.new }
+    {
+        if self.limit.is_over() || !is_called(inputs) {
+            return None;
+        }
+        let Ok(given) = i64::try_from(self.next) else {
+            return None;
+        };
+        self.next = i128::from(given) + i128::from(self.step);
+        self.limit = self.limit.after_one();
+        Some(given)
     }
 }
 

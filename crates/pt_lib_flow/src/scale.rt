@@ -1,4 +1,5 @@
 ghost use Rattle.std.specs.Prelude.{◌≡◌, IfOk};
+ghost use Rattle.pt_lib_flow.specs.Number.{GivesNumber};
 ghost use Rattle.pt_lib_flow.specs.Scale as scale;
 
 use crate::params::Params;
@@ -34,6 +35,13 @@ impl Scale {
             Some(factor) => Ok(Some(Scale::new(alloc, factor)?)),
             None => Ok(None),
         }
+    }
+
+    /// Makes the firing where it gives a number. Else it makes none.
+    pub(crate) fn number(&self, inputs: &Inputs<'_>) -> Option<i64>
+        ensures { GivesNumber scale.step self.now inputs.now result self.now }
+    {
+        inputs.number_at(0)?.checked_mul(self.factor)
     }
 }
 

@@ -1,6 +1,7 @@
 ghost use Rattle.std.specs.Prelude.{◌≡◌, IfOk, IfSome, option_map};
 ghost use Rattle.pt_lib_flow.specs.FlowActor as flow_actor;
 ghost use Rattle.pt_lib_flow.specs.Rates.{IsCount};
+ghost use Rattle.pt_lib_flow.specs.Number.{GivesNumber};
 ghost use Rattle.pt_library.specs.LibraryActor as library;
 ghost use Rattle.pt_library.specs.Laws.{IsRatedActor};
 
@@ -69,6 +70,16 @@ impl LibraryActor {
         ensures { result ≡ library.is_steady self.now }
     {
         of_library!(self, actor => actor.is_steady())
+    }
+
+    /// Makes a firing that gives one integer, and nothing else. Where it makes none, `step` makes the firing.
+    pub fn number(&mut self, inputs: &Inputs<'_>) -> Option<i64>
+        ensures { GivesNumber library.step self.old inputs.now result self.new }
+    {
+        match self {
+            LibraryActor::Flow(actor) => actor.number(inputs),
+            LibraryActor::Data(_) => None,
+        }
     }
 }
 

@@ -253,3 +253,8 @@ module _ (F : List Feed) (k : ℕ) (a : 0 < k) (b : k ≤ length F) where
       by-moves true t =
           at-is (set out (get_or F (k - 1) no_feed).port []) (get_or F j no_feed).port ∙ get_or-set_other out (get_or F (k - 1) no_feed).port (get_or F j no_feed).port [] [] (λ z. m j (k - 1) l (omega arith) t z) ∙ sym (at-is out (get_or F j no_feed).port)
       by-moves false t = refl
+
+-- what the one port has, at whatever port there is
+pub on-one-port : {T : Type 0} (xs : List T) (port : ℕ) → port < 1 → xs ≡ at (xs ∷ []) port
+on-one-port xs zero h = refl
+on-one-port xs (suc port) h = absurd (omega arith)

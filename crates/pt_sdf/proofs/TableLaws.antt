@@ -1,5 +1,6 @@
 -- Lists that are made number by number.
 use Rattle.std.proofs.Common.{◌≡◌, ℕ, zero, suc, ◌+◌, ◌<◌, List, [], ◌∷◌, ◌++◌, Bool, true, false, ◌&&◌, length, get_or, take, nat_eq, refl, ap, sym, ◌∙◌, arith, add-one, add-zero, eqb-true, eq-eqb}
+use Rattle.std.proofs.lemmas.Bool.Decides.{nat_tests}
 use Rattle.pt_meaning.specs.Streams.{Streams, at}
 use Rattle.pt_meaning.specs.Rounds.{has_rates}
 use Rattle.pt_meaning.specs.Running.{total}
@@ -56,3 +57,13 @@ rates-short [] [] n = absurd (n refl)
 rates-short [] (x ∷ out) n = refl
 rates-short (r ∷ rs) [] n = refl
 rates-short (r ∷ rs) (x ∷ out) n = either-false (nat_eq r (length x)) (has_rates rs out) (rates-short rs out (λ e. n (ap (λ k. suc k) e)))
+
+-- rates that aren't those of one port don't fit one token
+pub one-lacks : {T : Type 0} (ns : List ℕ) (t : T) → (length ns ≡ 1 → ⊥) → nat_eq (length ns) 1 ≡ has_rates ns ((t ∷ []) ∷ [])
+one-lacks [] t e = refl
+one-lacks (n ∷ []) t e = absurd (e refl)
+one-lacks (n ∷ (m ∷ ns)) t e = let long : nat_eq (length (n ∷ (m ∷ ns))) 1 ≡ false = grind (arith, nat_tests, e) in long ∙ nothing (nat_eq n 1)
+  where
+    nothing : (b : Bool) → false ≡ (b && false)
+    nothing true = refl
+    nothing false = refl

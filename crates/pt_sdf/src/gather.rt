@@ -83,7 +83,20 @@ pub(crate) fn gather(
 {
     for k in 0..n {
         let c = from + k;
-        let room = rooms[c].take();
-        lent[k] = take_first(channels, c as u32, needs[c], room);
+        lent[k] = take_needed(channels, c as u32, needs[c], &mut rooms[c]);
     }
+}
+
+/// Takes the first `n` tokens of a channel. The room for them is used where there is more than one.
+fn take_needed(channels: &mut Channels, c: u32, n: usize, room: &mut Option<Vec<Token>>) -> Tokens
+    requires given { c < length channels.old.lists }
+    requires enough { n ≤ length (list_at channels.old.lists c) }
+    requires room { HasRoom n room.old }
+    ensures taken { result ≡ take n (list_at channels.old.lists c) }
+    ensures lists { channels.new.lists ≡ slice_set channels.old.lists c (drop n (list_at channels.old.lists c)) }
+{
+    if n < 2 {
+        return take_one(channels, c, n);
+    }
+    take_first(channels, c, n, room.take())
 }

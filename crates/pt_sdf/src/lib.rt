@@ -4,6 +4,7 @@
 mod chain;
 mod feeds;
 mod gather;
+mod number;
 mod outlets;
 mod plan;
 mod rooms;

@@ -45,7 +45,20 @@ pub(crate) fn fill_rooms(
     ensures made { OnOk result (HaveRooms needs.now rooms.new.items from n) }
 {
     for k in 0..n {
-        rooms[from + k] = room_for(alloc, needs[from + k])?;
+        let c = from + k;
+        fill_room(alloc, &mut rooms[c], needs[c])?;
     }
+    Ok(())
+}
+
+/// Makes room for so many tokens. Where none is needed and none is there, it stays so; after an `Err` there is no less than before.
+fn fill_room(alloc: Global, room: &mut Option<Vec<Token>>, n: usize) -> Result<(), AllocError>
+    ensures kept { HasRoom n room.old → HasRoom n room.new }
+    ensures made { OnOk result (HasRoom n room.new) }
+{
+    if n < 2 && room.is_none() {
+        return Ok(());
+    }
+    *room = room_for(alloc, n)?;
     Ok(())
 }

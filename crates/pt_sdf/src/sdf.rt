@@ -2,6 +2,7 @@ ghost use Rattle.std.specs.Prelude.{◌≡◌, ◌↔◌, ◌<◌, length, IfOk,
 
 use crate::feeds::{Feed, feeds_of};
 use crate::gather::gather;
+use crate::number::{is_one, scatter_number};
 use crate::outlets::hand_out;
 use crate::plan::CorePlan;
 use crate::rooms::{fill_rooms, rooms_for};
@@ -71,7 +72,8 @@ impl Model for Core {
 }
 
 impl Core {
-    ghost use Rattle.std.specs.Prelude.{◌≡◌, ◌↔◌, ◌<◌, length, List, IfOk, IsSome, IsTrue, OnOk, OnErr, Option, Some, None};
+    ghost use Rattle.std.specs.Prelude.{◌≡◌, ◌↔◌, ◌<◌, [], ◌∷◌, length, List, IfOk, IsSome, IsTrue, OnOk, OnErr, Option, Some, None};
+    ghost use Rattle.pt_value.specs.declared.token.Token.TheVariants.{Int};
     ghost use Rattle.pt_meaning.specs.Basics as basics;
     ghost use Rattle.pt_meaning.specs.Kahn.{firsts};
     ghost use Rattle.pt_meaning.specs.Tree as tree;
@@ -198,6 +200,26 @@ impl Core {
             &self.feeds[i],
             outputs,
         )?;
+        (self.left, self.at) = place_after(self.plan.order.len(), self.left, self.at);
+        self.stage = Stage::Open;
+        Ok(())
+    }
+
+    /// Takes the number that the firing of the child gave as the one token on its one port. After an `Err` the core is as before.
+    pub fn told_number(&mut self, alloc: Global, child: u32, number: i64) -> Result<(), AllocError>
+        requires asked { asked_child self.old.stage ≡ Some child }
+        ensures told { OnOk result (self.new ≡ after_told child ((Int number ∷ []) ∷ []) self.old) }
+        ensures kept { OnErr result (self.new ≡ self.old) }
+    {
+        let i = child as usize;
+        if !is_one(self.plan.rates[i].as_slice()) {
+            self.stage = Stage::Wrong(child);
+            return Ok(());
+        }
+        let from = self.offsets[i];
+        let n = self.plan.places.as_slice()[i];
+        fill_rooms(alloc, &mut self.rooms, self.plan.needs.as_slice(), from, n)?;
+        scatter_number(&mut self.channels, &self.feeds[i], number)?;
         (self.left, self.at) = place_after(self.plan.order.len(), self.left, self.at);
         self.stage = Stage::Open;
         Ok(())

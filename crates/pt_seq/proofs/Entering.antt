@@ -1,8 +1,11 @@
 -- The firing of a node of the code, by what its body is.
-use Rattle.std.proofs.Common.{◌≡◌, false, map, sym, ap, subst, ◌∙◌}
+use Rattle.std.proofs.Common.{◌≡◌, ℤ, [], ◌∷◌, false, map, sym, ap, subst, ◌∙◌}
 use Rattle.pt_meaning.specs.Basics.{Tag, Streams}
+use Rattle.pt_meaning.specs.Tree as tree
 use Rattle.pt_value.specs.declared.token.Token.{Token}
-use Rattle.pt_node.specs.declared.node.Node.{Node, roll-Node}
+use Rattle.pt_value.specs.declared.token.Token.TheVariants.{Int}
+use Rattle.pt_library.specs.LibraryActor as library
+use Rattle.pt_node.specs.declared.node.Node.{Node, roll-Node, out-Node}
 use Rattle.pt_node.specs.declared.node.Node.TheViews.{out-roll-Node}
 use Rattle.pt_node.specs.declared.node.Node.TheOpen as opens
 use Rattle.pt_node.specs.declared.body.Body.{Body}
@@ -10,9 +13,11 @@ use Rattle.pt_node.specs.declared.body.Body.TheVariants as body
 use Rattle.pt_node.specs.declared.body.Held.{Held}
 use Rattle.pt_node.specs.declared.director.Director.{Director}
 use Rattle.pt_node.specs.Shown.{Shown, AllShown, Branch, Frame, shown, shown_node, level, all_of}
+use Rattle.pt_node.specs.View.{outline_of, count_of}
 use Rattle.pt_node.specs.Live.{IsFit}
 use Rattle.pt_seq.specs.declared.fire.Within.{Within}
-use Rattle.pt_seq.specs.Within.{WithinTo, StaysFit, ActorTo, DirectorTo, DirectorStaysFit}
+use Rattle.pt_seq.specs.declared.fire.Within.TheVariants.{Done}
+use Rattle.pt_seq.specs.Within.{WithinTo, StaysFit, ActorTo, DirectorTo, DirectorStaysFit, GaveNumber, records_of}
 use Rattle.pt_seq.proofs.Turns.{actor-goes, actor-fit, composite-goes, composite-fit}
 
 -- the fields of a node, with another body
@@ -59,3 +64,28 @@ module _ (n n' : Node) (r r' : opens.Node-F Node) (d d' : Director) (ks' : AllSh
   composite-stays fit =
       subst (λ s. StaysFit s w (shown_node n')) (sym (old-is n r (body.Composite d) e is))
       (subst (λ s. StaysFit (with-body r (body.Composite d)) w s) (sym new-composite) (composite-fit (frame-in r) d d' (all_of (map shown r.children.items)) ks' w fit))
+
+-- a firing that gave one number on the one port of a node without recorded ports
+module _ (n n' : Node) (r r' : opens.Node-F Node) (held held' : Held) (e : roll-Node r ≡ n) (e' : roll-Node r' ≡ n') (is : r.body ≡ body.Actor held) (X : Streams Token) (k : ℤ) (gives : (tag : Tag) → library.step tag held.actor X ≡ tree.Gives held'.actor ((Int k ∷ []) ∷ [])) (start : held'.start ≡ held.start)
+    (now : level r' ≡ Branch (record { past = r.past; body = body.Actor held'; records = r.records; path = r.path; live = false }) (all_of (map shown r.children.items))) where
+  old-shown : shown_node n ≡ with-body r (body.Actor held)
+  old-shown = old-is n r (body.Actor held) e is
+
+  new-shown : shown_node n' ≡ Branch (record { past = r.past; body = body.Actor held'; records = r.records; path = r.path; live = false }) (all_of (map shown r.children.items))
+  new-shown = ap (λ m. shown_node m) (sym e') ∙ ap (λ x. level x) (out-roll-Node r') ∙ now
+
+  pub gave-number : IsFit (shown_node n) → r.records ≡ [] → GaveNumber (shown_node n) X k (shown_node n')
+  gave-number fit none = record {
+    goes = λ tag. actor-enters n n' r r' held held' e e' is tag X (Done ((Int k ∷ []) ∷ [])) (gives tag, start) now;
+    fit = let tag : Tag = record { time = 0; step = 0 } in actor-stays n n' r r' held held' e e' is tag X (Done ((Int k ∷ []) ∷ [])) (gives tag, start) now fit;
+    outline = ap (λ s. outline_of s) new-shown ∙ sym (ap (λ s. outline_of s) old-shown);
+    count = ap (λ s. count_of s) new-shown ∙ sym (ap (λ s. count_of s) old-shown);
+    unrecorded = ap (λ s. records_of s) new-shown ∙ none;
+  }
+
+-- a node whose fields were written, and which then isn't live
+abbrev pub not-live : opens.Node-F Node → opens.Node-F Node
+not-live x = record { past = x.past; body = x.body; children = x.children; records = x.records; path = x.path; live = false }
+
+pub no-longer-live : (r : opens.Node-F Node) → level (not-live (out-Node (roll-Node r))) ≡ Branch (record { past = r.past; body = r.body; records = r.records; path = r.path; live = false }) (all_of (map shown r.children.items))
+no-longer-live r = ap (λ (x : opens.Node-F Node). Branch (record { past = x.past; body = x.body; records = x.records; path = x.path; live = false }) (all_of (map shown x.children.items))) (out-roll-Node r)

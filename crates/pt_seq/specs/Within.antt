@@ -1,5 +1,5 @@
 -- What a firing of a node comes to among the definitions, before and after it is recorded.
-use Rattle.std.specs.Prelude.{◌≡◌, ℕ, ◌+◌, ◌<◌, ◌≤◌, List, [], ◌⊎◌, true, false, Some, get_or}
+use Rattle.std.specs.Prelude.{◌≡◌, ℕ, ℤ, ◌+◌, ◌<◌, ◌≤◌, List, [], ◌∷◌, ◌⊎◌, true, false, Option, Some, None, get_or}
 use Rattle.pt_meaning.specs.Basics.{Tag, Streams, Path}
 use Rattle.pt_meaning.specs.Machine.{Outcome}
 use Rattle.pt_meaning.specs.Machine as machine
@@ -10,6 +10,7 @@ use Rattle.pt_meaning.specs.Tree as tree
 use Rattle.pt_meaning.specs.NodeFacts.{facts_of, need_of}
 use Rattle.pt_meaning.specs.Step.{step_at, Step}
 use Rattle.pt_value.specs.declared.token.Token.{Token}
+use Rattle.pt_value.specs.declared.token.Token.TheVariants.{Int}
 use Rattle.pt_firing.specs.declared.answer.Answer.{Answer}
 use Rattle.pt_firing.specs.declared.answer.Answer.TheVariants as answer
 use Rattle.pt_firing.specs.declared.answer.Place.{Place}
@@ -20,7 +21,7 @@ use Rattle.pt_firing.specs.RunFault.{code_of}
 use Rattle.pt_records.specs.Kept.{Kept, Entry, kept_by}
 use Rattle.pt_records.specs.Fired.{FiresTo, SticksAt, LeavesOff}
 use Rattle.pt_records.specs.Shut.{IsShut}
-use Rattle.pt_sdf.specs.State.{Idle, lent_in, after_told, closed, owed, own_of}
+use Rattle.pt_sdf.specs.State.{Idle, Open, Wrong, lent_in, after_told, closed, owed, own_of}
 use Rattle.pt_sdf.specs.Chain.{IsFor}
 use Rattle.pt_sdf.specs.Clauses.{State, IsAsked}
 use Rattle.pt_library.specs.LibraryActor.{rows}
@@ -28,6 +29,7 @@ use Rattle.pt_library.specs.LibraryActor as library
 use Rattle.pt_node.specs.declared.body.Held.{Held}
 use Rattle.pt_node.specs.declared.director.Director.{Director}
 use Rattle.pt_node.specs.declared.director.Director.TheVariants.{Sdf}
+use Rattle.pt_node.specs.Recorded.{RecordedPort}
 use Rattle.pt_node.specs.Shown.{Shown, AllShown, Branch}
 use Rattle.pt_node.specs.Firing.{noted, bare, recorded}
 use Rattle.pt_node.specs.View as view
@@ -160,6 +162,30 @@ path_of (Branch f ks) = f.path
 
 abbrev pub made_of : Shown → ℕ
 made_of (Branch f ks) = f.past.made
+
+-- the recorded ports of a node
+abbrev pub records_of : Shown → List RecordedPort
+records_of (Branch f ks) = f.records
+
+-- A firing of a node without recorded ports, whatever its tag, that is done with one number on its one port. It isn't recorded yet.
+pub record GaveNumber (old : Shown) (X : Streams Token) (n : ℤ) (new : Shown) : Type 0 where
+  pub goes : (tag : Tag) → WithinTo old tag X (Done ((Int n ∷ []) ∷ [])) new
+  pub fit : StaysFit old (Done ((Int n ∷ []) ∷ [])) new
+  pub outline : outline_of new ≡ outline_of old
+  pub count : count_of new ≡ count_of old
+  pub unrecorded : records_of new ≡ []
+
+-- such a firing was made, or nothing was done
+abbrev pub QuickTo : Shown → Streams Token → Option ℤ → Shown → Type 0
+QuickTo old X (Some n) new = GaveNumber old X n new
+QuickTo old X None new = new ≡ old
+
+-- the core, which was told what a child gave, was asked again: it goes on and the child's firing is recorded, or the child is told as stuck, or there was no memory for that
+abbrev pub AskedAgain : State → Shown → Tag → Turn → State → Shown → Type 0
+AskedAgain s mid tag (turn.Next ask) s' after = (s.stage ≡ Open) × IsAsked s ask s' × (after ≡ recorded tag mid)
+AskedAgain s mid tag (turn.Fault place) s' after = ((i : ℕ) × (s.stage ≡ Wrong i)) × (place.path ≡ path_of mid) × (place.firing ≡ made_of mid) × (place.kind ≡ Rate) × (after ≡ mid)
+AskedAgain s mid tag turn.Spent s' after = ⊥
+AskedAgain s mid tag turn.Memory s' after = after ≡ mid
 
 -- the core was told what child i gave: with its rates, the firing is recorded and the core was asked again; with others, the child is told as stuck; for want of memory nothing is recorded
 abbrev pub TellTo : State → Shown → ℕ → Tag → Streams Token → Turn → State → Shown → Type 0

@@ -1,12 +1,14 @@
-ghost use Rattle.std.specs.Prelude.{◌≡◌, ◌+◌, ◌<◌, ◌≤◌, ◌^◌, length, Some, IsSome, map};
+ghost use Rattle.std.specs.Prelude.{◌≡◌, ◌+◌, ◌<◌, ◌≤◌, ◌^◌, [], ◌∷◌, length, Some, IsSome, map};
+ghost use Rattle.pt_value.specs.declared.token.Token.TheVariants.{Int};
 ghost use Rattle.pt_sdf.specs.State.{Idle, Closed, asked_child, lent_in};
+ghost use Rattle.pt_sdf.specs.Clauses.{MayAsk};
 ghost use Rattle.pt_node.specs.declared.node.Node.{out-Node};
 ghost use Rattle.pt_library.specs.LibraryActor as library;
 ghost use Rattle.pt_node.specs.Shown.{shown, shown_node, all_of};
 ghost use Rattle.pt_node.specs.View.{outline_of, outlines_of, count_of, counts_of};
 ghost use Rattle.pt_node.specs.Live.{IsLive, IsFit, Takes, AllFit, IsReady, TakenBy};
 ghost use Rattle.pt_node.specs.declared.director.Director.TheVariants.{Sdf};
-ghost use Rattle.pt_seq.specs.Within.{WithinTo, SpendsAll, StaysFit, DirectorTo, DirectorStaysFit, SdfTo, SdfStaysFit, TurnTo, TurnSpends, AnswersTo, ActorTo, IsFaultAt, TellTo, FinishTo};
+ghost use Rattle.pt_seq.specs.Within.{WithinTo, SpendsAll, StaysFit, DirectorTo, DirectorStaysFit, SdfTo, SdfStaysFit, TurnTo, TurnSpends, AnswersTo, ActorTo, IsFaultAt, QuickTo, AskedAgain, TellTo, FinishTo, records_of};
 
 use pt_firing::{Answer, Ask, Fires, Inputs, Outputs, Place, RunFault, Step};
 use pt_node::{Body, Director, Held, Node};
@@ -204,6 +206,78 @@ fn fire_child(
     ensures outline { outline_of (shown_node child.new) ≡ outline_of (shown_node child.old) }
     ensures counted { count_of (shown_node child.new) + left.new ≡ count_of (shown_node child.old) + left.old }
 {
+    let Some(given) = quick(child, &core.lent()) else {
+        return fire_any(alloc, core, child, number, tag, left);
+    };
+    if *left == 0 {
+        return Turn::Spent;
+    }
+    tell_number(alloc, core, child, number, tag, left, given)
+}
+
+/// One firing of a library actor of which no output is recorded, where it gives one number. The firing isn't recorded. Where no number is given, nothing was done.
+fn quick(node: &mut Node, inputs: &Inputs<'_>) -> Option<i64>
+    requires fit { IsFit (shown_node node.old) }
+    ensures goes { QuickTo (shown_node node.old) inputs.now result (shown_node node.new) }
+    ensures past { (out-Node node.new).past ≡ (out-Node node.old).past }
+{
+    if !node.records.as_slice().is_empty() {
+        return None;
+    }
+    match &mut node.body {
+        Body::Actor(held) => {
+            let given = held.actor.number(inputs)?;
+            node.live = false;
+            Some(given)
+        }
+        Body::Composite(_) => None,
+    }
+}
+
+/// Tells the core the number that the child gave. The child's firing is recorded where it gave its rates.
+fn tell_number(
+    alloc: Global,
+    core: &mut pt_sdf::Core,
+    child: &mut Node,
+    number: u32,
+    tag: Tag,
+    left: &mut u64,
+    given: i64,
+) -> Turn
+    requires asked { asked_child core.old.stage ≡ Some number }
+    requires left { 0 < left.old }
+    requires unrecorded { records_of (shown_node child.old) ≡ [] }
+    ensures goes { TellTo core.old (shown_node child.old) number tag ((Int given ∷ []) ∷ []) result core.new (shown_node child.new) }
+    ensures spends { TurnSpends result left.old left.new }
+    ensures lowered { left.new ≤ left.old }
+    ensures outline { outline_of (shown_node child.new) ≡ outline_of (shown_node child.old) }
+    ensures counted { count_of (shown_node child.new) + left.new ≡ count_of (shown_node child.old) + left.old }
+{
+    if child.past.made == u64::MAX || core.told_number(alloc, number, given).is_err() {
+        return Turn::Memory;
+    }
+    ask_again(alloc, core, child, tag, left)
+}
+
+/// A turn of a child of any kind.
+#[cycle(fire)]
+fn fire_any(
+    alloc: Global,
+    core: &mut pt_sdf::Core,
+    child: &mut Node,
+    number: u32,
+    tag: Tag,
+    left: &mut u64,
+) -> Turn
+    requires asked { asked_child core.old.stage ≡ Some number }
+    requires fit { IsFit (shown_node child.old) }
+    requires inputs { Takes tag (shown_node child.old) (lent_in core.old.stage) }
+    ensures goes { TurnTo core.old (shown_node child.old) number tag result core.new (shown_node child.new) }
+    ensures spends { TurnSpends result left.old left.new }
+    ensures lowered { left.new ≤ left.old }
+    ensures outline { outline_of (shown_node child.new) ≡ outline_of (shown_node child.old) }
+    ensures counted { count_of (shown_node child.new) + left.new ≡ count_of (shown_node child.old) + left.old }
+{
     let outputs = match fire(alloc, child, tag, &core.lent(), left) {
         Within::Done(outputs) => outputs,
         Within::Fault(place) => return Turn::Fault(place),
@@ -240,6 +314,26 @@ fn tell(
     if core.told(alloc, number, outputs).is_err() {
         return Turn::Memory;
     }
+    ask_again(alloc, core, child, tag, left)
+}
+
+/// Asks the core again, which was told what the child gave. The child's firing is recorded where it gave its rates.
+fn ask_again(
+    alloc: Global,
+    core: &mut pt_sdf::Core,
+    child: &mut Node,
+    tag: Tag,
+    left: &mut u64,
+) -> Turn
+    requires told { MayAsk core.old.stage }
+    requires made { (out-Node child.old).past.made + 1 < 2 ^ 64 }
+    requires left { 0 < left.old }
+    ensures goes { AskedAgain core.old (shown_node child.old) tag result core.new (shown_node child.new) }
+    ensures spends { TurnSpends result left.old left.new }
+    ensures lowered { left.new ≤ left.old }
+    ensures outline { outline_of (shown_node child.new) ≡ outline_of (shown_node child.old) }
+    ensures counted { count_of (shown_node child.new) + left.new ≡ count_of (shown_node child.old) + left.old }
+{
     match core.ask() {
         Ask::Faulted(kind, _) => match fault_at(alloc, &child.path, child.past.made, kind) {
             Within::Fault(place) => Turn::Fault(place),

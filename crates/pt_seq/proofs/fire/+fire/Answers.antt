@@ -1,27 +1,41 @@
-use Rattle.std.proofs.Common.{◌≡◌, ap, arith, map, sym, subst, ◌∙◌, refl}
+use Rattle.std.proofs.Common.{◌≡◌, ℤ, w64, SFits, rules, [], ◌∷◌, ap, arith, map, sym, subst, ◌∙◌, refl}
+use Rattle.std.proofs.lemmas.Int.{to_z-of_z}
+use Rattle.pt_value.specs.declared.token.Token.TheVariants.{Int}
 use Rattle.pt_node.specs.Shown.{shown, shown_node}
 use Rattle.pt_sdf.specs.State.{begun}
+use Rattle.pt_seq.specs.Within.{TellTo}
 use Rattle.pt_seq.specs.Between.{Between}
 use Rattle.pt_seq.proofs.Turns.{off-none, turn-stuck, turn-off, turn-off-done, turn-after, between-begun, off-between, finish-goes, finish-fit}
 use Rattle.pt_seq.proofs.Loop.{on-ok, index-in, child-asked, child-fit, child-in, child-depth, loop-next, loop-outlines, loop-counted, loop-fault, loop-off}
 use Rattle.pt_seq.proofs.Entering.{actor-enters, actor-stays, composite-enters, composite-stays}
 use Rattle.pt_seq.proofs.fire.+fire.Goals as goal
 
-pub fire_child-returns-in-Fault-clause-goes : goal.fire_child-returns-in-Fault-clause-goes
-fire_child-returns-in-Fault-clause-goes t c = turn-stuck c.args.core.now (shown_node c.args.child.now) (shown_node c.fire.new.node) c.args.number c.args.tag c.lent.result c.in-Fault.place c.args.core.now c.lent.ensures c.in-Fault.ensures.goes
+pub fire_any-returns-in-Fault-clause-goes : goal.fire_any-returns-in-Fault-clause-goes
+fire_any-returns-in-Fault-clause-goes t c = turn-stuck c.args.core.now (shown_node c.args.child.now) (shown_node c.fire.new.node) c.args.number c.args.tag c.lent.result c.in-Fault.place c.args.core.now c.lent.ensures c.in-Fault.ensures.goes
 
-pub fire_child-returns-in-Spent-clause-goes : goal.fire_child-returns-in-Spent-clause-goes
-fire_child-returns-in-Spent-clause-goes t c = turn-off (shown_node c.args.child.now) (shown_node c.fire.new.node) c.args.tag c.lent.result _ c.lent.ensures c.in-Spent.ensures.goes
+pub fire_any-returns-in-Spent-clause-goes : goal.fire_any-returns-in-Spent-clause-goes
+fire_any-returns-in-Spent-clause-goes t c = turn-off (shown_node c.args.child.now) (shown_node c.fire.new.node) c.args.tag c.lent.result _ c.lent.ensures c.in-Spent.ensures.goes
 
-pub fire_child-returns-in-Memory-clause-goes : goal.fire_child-returns-in-Memory-clause-goes
-fire_child-returns-in-Memory-clause-goes t c = turn-off (shown_node c.args.child.now) (shown_node c.fire.new.node) c.args.tag c.lent.result _ c.lent.ensures c.in-Memory.ensures.goes
+pub fire_any-returns-in-Memory-clause-goes : goal.fire_any-returns-in-Memory-clause-goes
+fire_any-returns-in-Memory-clause-goes t c = turn-off (shown_node c.args.child.now) (shown_node c.fire.new.node) c.args.tag c.lent.result _ c.lent.ensures c.in-Memory.ensures.goes
 
-pub fire_child-returns-then-left-eq0-clause-goes : goal.fire_child-returns-then-left-eq0-clause-goes
-fire_child-returns-then-left-eq0-clause-goes t c = turn-off-done (shown_node c.args.child.now) (shown_node c.fire.new.node) c.args.tag c.lent.result _ c.in-Done.outputs c.lent.ensures c.in-Done.ensures.goes
+pub fire_any-returns-then-left-eq0-clause-goes : goal.fire_any-returns-then-left-eq0-clause-goes
+fire_any-returns-then-left-eq0-clause-goes t c = turn-off-done (shown_node c.args.child.now) (shown_node c.fire.new.node) c.args.tag c.lent.result _ c.in-Done.outputs c.lent.ensures c.in-Done.ensures.goes
+
+pub fire_any-returns-clause-goes : goal.fire_any-returns-clause-goes
+fire_any-returns-clause-goes t c =
+    turn-after c.args.core.now (shown_node c.args.child.now) (shown_node c.fire.new.node) c.args.number c.args.tag c.lent.result c.in-Done.outputs c.tell.result c.tell.new.core (shown_node c.tell.new.child) c.lent.ensures c.in-Done.ensures.goes c.in-Done.ensures.fit c.in-Done.ensures.outline (ap (λ p. p.made) c.in-Done.ensures.past) c.tell.ensures.goes
 
 pub fire_child-returns-clause-goes : goal.fire_child-returns-clause-goes
 fire_child-returns-clause-goes t c =
-    turn-after c.args.core.now (shown_node c.args.child.now) (shown_node c.fire.new.node) c.args.number c.args.tag c.lent.result c.in-Done.outputs c.tell.result c.tell.new.core (shown_node c.tell.new.child) c.lent.ensures c.in-Done.ensures.goes c.in-Done.ensures.fit c.in-Done.ensures.outline (ap (λ p. p.made) c.in-Done.ensures.past) c.tell.ensures.goes
+    let gave = c.in-Some.ensures.goes in
+    let n : ℤ = c.in-Some.given in
+    let fits : SFits w64 n = search rules in
+    let told = subst (λ z. TellTo c.args.core.now (shown_node c.quick.new.node) c.args.number c.args.tag ((Int z ∷ []) ∷ []) c.tell_number.result c.tell_number.new.core (shown_node c.tell_number.new.child)) (to_z-of_z w64 n fits) c.tell_number.ensures.goes in
+    turn-after c.args.core.now (shown_node c.args.child.now) (shown_node c.quick.new.node) c.args.number c.args.tag c.lent.result ((Int n ∷ []) ∷ []) c.tell_number.result c.tell_number.new.core (shown_node c.tell_number.new.child) c.lent.ensures (gave.goes c.args.tag) gave.fit gave.outline (ap (λ p. p.made) c.in-Some.ensures.past) told
+
+pub fire_child-returns-then-left-eq0-clause-goes : goal.fire_child-returns-then-left-eq0-clause-goes
+fire_child-returns-then-left-eq0-clause-goes t c = turn-off-done (shown_node c.args.child.now) (shown_node c.quick.new.node) c.args.tag c.lent.result _ _ c.lent.ensures (c.in-Some.ensures.goes.goes c.args.tag)
 
 pub fire_sdf-returns-then-is_err-clause-goes : goal.fire_sdf-returns-then-is_err-clause-goes
 fire_sdf-returns-then-is_err-clause-goes t c = λ m h e. off-none m _ _ _ _

@@ -1,7 +1,7 @@
 use Rattle.std.proofs.Common.{ap, ◌∙◌}
 use Rattle.pt_node.specs.Shown.{shown_node}
 use Rattle.pt_node.specs.View.{outline_of}
-use Rattle.pt_node.proofs.OutlineLaws.{outline_bare, outline_recorded}
+use Rattle.pt_node.proofs.OutlineLaws.{outline_bare}
 use Rattle.pt_seq.proofs.fire.tell.Goals as goal
 use Rattle.pt_seq.proofs.fire.tell.Goals.{then-child-via-then-child, then-child-via-else-child+then-is_err}
 
@@ -15,11 +15,5 @@ returns-then-child-clause-outline c =
 pub returns-then-is_err-2-clause-outline : goal.returns-then-is_err-2-clause-outline
 returns-then-is_err-2-clause-outline c = outline_bare (shown_node c.note.new.self) (shown_node c.args.child.now) c.note.ensures.kept
 
-pub returns-in-Fault-clause-outline : goal.returns-in-Fault-clause-outline
-returns-in-Fault-clause-outline c = outline_bare (shown_node c.note.new.self) (shown_node c.args.child.now) c.note.ensures.kept
-
-pub returns-in-Faulted-clause-outline : goal.returns-in-Faulted-clause-outline
-returns-in-Faulted-clause-outline c = outline_bare (shown_node c.note.new.self) (shown_node c.args.child.now) c.note.ensures.kept
-
 pub returns-clause-outline : goal.returns-clause-outline
-returns-clause-outline c = ap (λ s. outline_of s) c.record.ensures ∙ outline_recorded c.args.tag (shown_node c.note.new.self) ∙ outline_bare (shown_node c.note.new.self) (shown_node c.args.child.now) c.note.ensures.kept
+returns-clause-outline c = c.ask_again.ensures.outline ∙ outline_bare (shown_node c.note.new.self) (shown_node c.args.child.now) c.note.ensures.kept

@@ -1,0 +1,42 @@
+use Rattle.std.proofs.Common.{sym, subst, refl}
+use Rattle.pt_lib_flow.specs.declared.flow_actor.FlowActor.TheVariants.{AbsoluteValue, Accumulator, AddSubtract, Const, Ramp, Scale}
+use Rattle.pt_lib_flow.specs.FlowActor as flow_actor
+use Rattle.pt_lib_flow.specs.AbsoluteValue as absolute_value
+use Rattle.pt_lib_flow.specs.Accumulator as accumulator
+use Rattle.pt_lib_flow.specs.AddSubtract as add_subtract
+use Rattle.pt_lib_flow.specs.Const as constant
+use Rattle.pt_lib_flow.specs.Ramp as ramp
+use Rattle.pt_lib_flow.specs.Scale as scale
+use Rattle.pt_lib_flow.specs.Number.{GivesNumber}
+use Rattle.pt_lib_flow.proofs.Held.{held-number}
+use Rattle.pt_lib_flow.proofs.flow_actor.FlowActor.number.Goals as goal
+
+pub returns-in-AbsoluteValue : goal.returns-in-AbsoluteValue
+returns-in-AbsoluteValue c =
+    let X = c.args.inputs.now in
+    subst (λ s. GivesNumber flow_actor.step s X c.number.result (AbsoluteValue c.in-AbsoluteValue.actor)) (sym c.in-AbsoluteValue.is) (held-number AbsoluteValue absolute_value.step flow_actor.step c.in-AbsoluteValue.actor c.in-AbsoluteValue.actor X c.number.result (λ tag. refl) c.number.ensures)
+
+pub returns-in-Accumulator : goal.returns-in-Accumulator
+returns-in-Accumulator c =
+    let X = c.args.inputs.now in
+    subst (λ s. GivesNumber flow_actor.step s X c.number-in-Accumulator.result (Accumulator c.number-in-Accumulator.new.self)) (sym c.in-Accumulator.is) (held-number Accumulator accumulator.step flow_actor.step c.in-Accumulator.actor c.number-in-Accumulator.new.self X c.number-in-Accumulator.result (λ tag. refl) c.number-in-Accumulator.ensures)
+
+pub returns-in-AddSubtract : goal.returns-in-AddSubtract
+returns-in-AddSubtract c =
+    let X = c.args.inputs.now in
+    subst (λ s. GivesNumber flow_actor.step s X c.number-in-AddSubtract.result (AddSubtract c.in-AddSubtract.actor)) (sym c.in-AddSubtract.is) (held-number AddSubtract add_subtract.step flow_actor.step c.in-AddSubtract.actor c.in-AddSubtract.actor X c.number-in-AddSubtract.result (λ tag. refl) c.number-in-AddSubtract.ensures)
+
+pub returns-in-Const : goal.returns-in-Const
+returns-in-Const c =
+    let X = c.args.inputs.now in
+    subst (λ s. GivesNumber flow_actor.step s X c.number-in-Const.result (Const c.number-in-Const.new.self)) (sym c.in-Const.is) (held-number Const constant.step flow_actor.step c.in-Const.actor c.number-in-Const.new.self X c.number-in-Const.result (λ tag. refl) c.number-in-Const.ensures)
+
+pub returns-in-Ramp : goal.returns-in-Ramp
+returns-in-Ramp c =
+    let X = c.args.inputs.now in
+    subst (λ s. GivesNumber flow_actor.step s X c.number-in-Ramp.result (Ramp c.number-in-Ramp.new.self)) (sym c.in-Ramp.is) (held-number Ramp ramp.step flow_actor.step c.in-Ramp.actor c.number-in-Ramp.new.self X c.number-in-Ramp.result (λ tag. refl) c.number-in-Ramp.ensures)
+
+pub returns-in-Scale : goal.returns-in-Scale
+returns-in-Scale c =
+    let X = c.args.inputs.now in
+    subst (λ s. GivesNumber flow_actor.step s X c.number-in-Scale.result (Scale c.in-Scale.actor)) (sym c.in-Scale.is) (held-number Scale scale.step flow_actor.step c.in-Scale.actor c.in-Scale.actor X c.number-in-Scale.result (λ tag. refl) c.number-in-Scale.ensures)
