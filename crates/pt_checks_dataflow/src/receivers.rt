@@ -40,3 +40,53 @@ fn two_channels_keep_their_tokens_apart(rt: HostRuntime) -> Result<(), Fail> {
     assert_eq!(rt; copy.len(0), 1);
     Ok(())
 }
+
+#[test]
+fn a_channel_gives_its_tokens_in_the_order_of_the_puts(rt: HostRuntime) -> Result<(), Fail> {
+    let mut channels = Channels::new(rt.alloc(), 2)?;
+    channels.ready(0, 3)?;
+    channels.put_number(0, 4);
+    channels.put(0, Token::Bool(true));
+    channels.put_number(0, 7);
+    assert_eq!(rt; channels.len(0), 3);
+    assert_eq!(rt; channels.spare(0), 0);
+    assert_eq!(rt; channels.tokens(0).count(), 3);
+    assert_eq!(rt; channels.take_number(0), Some(4));
+    assert!(rt;
+        channels
+            .take(0)
+            .map_or(false, |token| token.same(&Token::Bool(true)))
+    );
+    assert!(rt;
+        channels
+            .take(0)
+            .map_or(false, |token| token.same(&Token::Int(7)))
+    );
+    assert_eq!(rt; channels.take_number(0), None);
+    assert!(rt; channels.take(0).is_none());
+    assert_eq!(rt; channels.spare(0), 3);
+    Ok(())
+}
+
+#[test]
+fn a_front_moves_behind_the_other_tokens(rt: HostRuntime) -> Result<(), Fail> {
+    let mut channels = Channels::new(rt.alloc(), 2)?;
+    channels.ready(0, 2)?;
+    channels.ready(1, 1)?;
+    channels.put(0, Token::Int(4));
+    channels.put(0, Token::Int(7));
+    channels.move_front(0, 0);
+    channels.move_front(0, 1);
+    assert_eq!(rt; channels.len(0), 1);
+    assert!(rt;
+        channels
+            .take(0)
+            .map_or(false, |token| token.same(&Token::Int(4)))
+    );
+    assert!(rt;
+        channels
+            .take(1)
+            .map_or(false, |token| token.same(&Token::Int(7)))
+    );
+    Ok(())
+}

@@ -1,7 +1,11 @@
-ghost use Rattle.std.specs.Prelude.{◌≡◌, ◌+◌, ◌-◌, ◌<◌, ◌≤◌, [], IfOk, OnOk, IsOk, is_ok, is_some, if◌then◌else◌, length, max, replicate, slice_get, slice_set};
+ghost use Rattle.std.specs.Prelude.{◌≡◌, ◌+◌, ◌-◌, ◌^◌, ◌<◌, ◌≤◌, [], IfOk, IfSome, OnOk, IsOk, IsTrue, is_ok, is_some, if◌then◌else◌, length, max, replicate, slice_get, slice_set};
+ghost use Rattle.pt_value.specs.declared.token.Token.TheVariants.{Int};
+ghost use Rattle.pt_recv.specs.Fronts as fronts;
+ghost use Rattle.pt_recv.specs.Fronts.{front_at};
 ghost use Rattle.pt_recv.specs.Lines.{list_at, spare_at, pushed, popped, moved, raised, lowered};
 
-use pt_pool::{Cells, Pool};
+use crate::waiting::Waiting;
+use pt_pool::Pool;
 use pt_value::Token;
 use std::alloc::{AllocError, Global};
 use std::marker::Model;
@@ -10,6 +14,8 @@ use std::marker::Model;
 #[derive(Drop)]
 pub struct Channels {
     pool: Pool<Token>,
+    // The front token of a channel that was empty when the token came. It isn't in the region; those behind it are.
+    fronts: Vec<Option<Token>>,
     count: u32,
 }
 
@@ -22,11 +28,13 @@ impl Model for Channels {
 
     ghost coded = { lines_code coded_token };
 
-    ghost view = { λ c. record { lists = c.pool.lists; spares = c.pool.spares } };
+    ghost use Rattle.pt_recv.specs.Fronts.{joined, lessened, AreCovered};
+
+    ghost view = { λ c. record { lists = joined c.fronts.items c.pool.lists; spares = lessened c.fronts.items c.pool.spares } };
 
     ghost use Rattle.std.specs.Prelude.{◌≡◌, length};
 
-    ghost invariant = { λ c. record { lists : length c.pool.lists ≡ c.count; spares : length c.pool.spares ≡ c.count } };
+    ghost invariant = { λ c. record { lists : length c.pool.lists ≡ c.count; spares : length c.pool.spares ≡ c.count; fronts : length c.fronts.items ≡ c.count; covered : AreCovered c.fronts.items c.pool.lists c.pool.spares } };
 }
 
 impl Channels {
@@ -36,10 +44,16 @@ impl Channels {
         ensures spares { IfOk result (λ channels. channels.spares ≡ replicate n 0) }
     {
         let mut pool = Pool::with_cells(alloc, 0)?;
+        let mut fronts = Vec::with_capacity(alloc, n as usize)?;
         for _ in 0..n {
             pool.queue()?;
+            fronts.push(None)?;
         }
-        Ok(Channels { pool, count: n })
+        Ok(Channels {
+            pool,
+            fronts,
+            count: n,
+        })
     }
 
     /// Makes the spare of channel `c` at least `n`.
@@ -50,7 +64,14 @@ impl Channels {
         ensures room { OnOk result (n ≤ spare_at self.new.spares c) }
         ensures succeeds { n ≤ spare_at self.old.spares c → IsOk result }
     {
-        self.pool.reserve(c, n)
+        if n <= self.spare(c) {
+            return Ok(());
+        }
+        let waiting = self.pool.len(c);
+        let Some(cells) = cells_for(&self.fronts[c as usize], waiting, n) else {
+            return Err(AllocError);
+        };
+        self.pool.reserve(c, cells)
     }
 
     /// Puts a token at the back of channel `c`, which has a spare. It takes no memory.
@@ -60,7 +81,25 @@ impl Channels {
         ensures lists { self.new.lists ≡ pushed self.old.lists c token }
         ensures spares { self.new.spares ≡ lowered self.old.spares c }
     {
-        self.pool.push(c, token);
+        if is_clear(&self.fronts, &self.pool, c) {
+            set_front(&mut self.fronts[c as usize], token);
+        } else {
+            self.pool.push(c, token);
+        }
+    }
+
+    /// Puts a number at the back of channel `c`, which has a spare. It takes no memory, and moves no token.
+    pub fn put_number(&mut self, c: u32, n: i64)
+        requires given { c < length self.old.lists }
+        requires spare { 0 < spare_at self.old.spares c }
+        ensures lists { self.new.lists ≡ pushed self.old.lists c (Int n) }
+        ensures spares { self.new.spares ≡ lowered self.old.spares c }
+    {
+        if is_clear(&self.fronts, &self.pool, c) {
+            set_front(&mut self.fronts[c as usize], Token::Int(n));
+        } else {
+            self.pool.push(c, Token::Int(n));
+        }
     }
 
     /// Takes the front of channel `c`, whose spare rises, or `None` where it is empty.
@@ -70,10 +109,24 @@ impl Channels {
         ensures lists { self.new.lists ≡ popped self.old.lists c }
         ensures spares { self.new.spares ≡ (if is_some result then raised self.old.spares c else self.old.spares) }
     {
+        if self.fronts[c as usize].is_some() {
+            return self.fronts[c as usize].take();
+        }
         self.pool.pop(c)
     }
 
-    /// Moves the front of one channel to the back of another, or of the same one, and copies nothing.
+    /// Takes the front of channel `c` where it is a number that waits apart from the others, and moves no token. `None` says
+    /// nothing of the channel.
+    pub fn take_number(&mut self, c: u32) -> Option<i64>
+        requires { c < length self.old.lists }
+        ensures front { IfSome result (λ n. slice_get (list_at self.old.lists c) 0 ≡ Some (Int n)) }
+        ensures lists { self.new.lists ≡ (if is_some result then popped self.old.lists c else self.old.lists) }
+        ensures spares { self.new.spares ≡ (if is_some result then raised self.old.spares c else self.old.spares) }
+    {
+        take_front_number(&mut self.fronts[c as usize])
+    }
+
+    /// Moves the front of one channel to the back of another, or of the same one.
     pub fn move_front(&mut self, from: u32, to: u32)
         requires given_from { from < length self.old.lists }
         requires given_to { to < length self.old.lists }
@@ -82,7 +135,9 @@ impl Channels {
         ensures lists { self.new.lists ≡ moved self.old.lists from to }
         ensures spares { self.new.spares ≡ lowered (raised self.old.spares from) to }
     {
-        self.pool.move_front(from, to);
+        if let Some(token) = self.take(from) {
+            self.put(to, token);
+        }
     }
 
     /// How many tokens channel `c` has.
@@ -90,7 +145,7 @@ impl Channels {
         requires { c < length self.now.lists }
         ensures { result ≡ length (list_at self.now.lists c) }
     {
-        self.pool.len(c)
+        self.pool.len(c) + kept_for(&self.fronts[c as usize])
     }
 
     /// How many more tokens channel `c` has room for.
@@ -98,15 +153,18 @@ impl Channels {
         requires { c < length self.now.lists }
         ensures { result ≡ spare_at self.now.spares c }
     {
-        self.pool.spare(c)
+        self.pool.spare(c) - kept_for(&self.fronts[c as usize])
     }
 
     /// The tokens of channel `c` from front to back. It takes no memory.
-    pub fn tokens(&self, c: u32) -> Cells<'_, Token>
+    pub fn tokens(&self, c: u32) -> Waiting<'_>
         requires { c < length self.now.lists }
         ensures { result ≡ list_at self.now.lists c }
     {
-        self.pool.items(c)
+        Waiting {
+            front: self.fronts[c as usize].as_ref(),
+            rest: self.pool.items(c),
+        }
     }
 
     /// Other channels with the same tokens, and as much room.
@@ -140,4 +198,54 @@ impl Channels {
         }
         Ok(())
     }
+}
+
+/// Whether a channel has no token, neither in front nor in the region.
+fn is_clear(fronts: &[Option<Token>], pool: &Pool<Token>, c: u32) -> bool
+    requires front { c < length fronts.now }
+    requires list { c < length pool.now.lists }
+    ensures front { IsTrue result → front_at fronts.now c ≡ None }
+    ensures list { IsTrue result → list_at pool.now.lists c ≡ [] }
+{
+    fronts[c as usize].is_none() && pool.len(c) == 0
+}
+
+/// How many cells are to be reserved for `n` more tokens of a channel with this front, and so many tokens in the region.
+/// `None` where its tokens couldn't be counted any more.
+fn cells_for(front: &Option<Token>, waiting: usize, n: usize) -> Option<usize>
+    ensures cells { IfSome result (λ cells. cells ≡ n + fronts.kept_for front.now) }
+    ensures counted { IfSome result (λ cells. waiting + cells < 2 ^ 64) }
+{
+    let cells = n.checked_add(kept_for(front))?;
+    waiting.checked_add(cells)?;
+    Some(cells)
+}
+
+/// How many reserved cells a channel with this front leaves unused.
+fn kept_for(front: &Option<Token>) -> usize
+    ensures { result ≡ fronts.kept_for front.now }
+{
+    match front {
+        None => 0,
+        Some(_) => 1,
+    }
+}
+
+fn set_front(front: &mut Option<Token>, token: Token)
+    ensures { front.new ≡ Some token }
+{
+    *front = Some(token);
+}
+
+/// Takes a front that is a number. It is read where it stands, since a token that was just written is slow to move.
+fn take_front_number(front: &mut Option<Token>) -> Option<i64>
+    ensures number { IfSome result (λ n. front.old ≡ Some (Int n)) }
+    ensures front { front.new ≡ (if is_some result then None else front.old) }
+{
+    let Some(Token::Int(number)) = &*front else {
+        return None;
+    };
+    let n = *number;
+    *front = None;
+    Some(n)
 }

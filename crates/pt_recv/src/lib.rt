@@ -3,6 +3,8 @@
 
 mod channels;
 mod queue;
+mod waiting;
 
 pub use channels::Channels;
 pub use queue::Queue;
+pub use waiting::Waiting;

@@ -53,6 +53,9 @@ fn take_one(channels: &mut Channels, c: u32, n: usize) -> Tokens
     if n == 0 {
         return Tokens::new();
     }
+    if let Some(number) = channels.take_number(c) {
+        return Tokens::one(Token::Int(number));
+    }
     match channels.take(c) {
         Some(token) => Tokens::one(token),
         None => Tokens::new(),

@@ -7,7 +7,6 @@ ghost use Rattle.pt_sdf.specs.Feeds.{no_feed, target_of, put_back, AreThere, Are
 
 use crate::feeds::Feed;
 use pt_recv::Channels;
-use pt_value::Token;
 use std::alloc::AllocError;
 
 /// Whether the rates are those of an actor that gives one token on its one port.
@@ -62,6 +61,6 @@ fn put_on_each(channels: &mut Channels, feeds: &[Feed], number: i64)
     ensures { channels.new.lists ≡ put_back (map target_of feeds.now) ((Int number ∷ []) ∷ []) channels.old.lists }
 {
     for k in (0..feeds.len()).rev() {
-        channels.put(feeds[k].channel, Token::Int(number));
+        channels.put_number(feeds[k].channel, number);
     }
 }

@@ -1,6 +1,5 @@
-use Rattle.std.proofs.Common.{◌≡◌, ℕ, ◌-◌, ◌<◌, ◌≤◌, List, [], ◌∷◌, ◌++◌, length, get_or, drop, map, ap, ◌∙◌, sym, subst, arith, refl, length-set}
+use Rattle.std.proofs.Common.{ℕ, ◌-◌, ◌<◌, ◌≤◌, List, [], ◌∷◌, ◌++◌, length, get_or, map, ap, ◌∙◌, sym, subst, arith, refl, length-set}
 use Rattle.std.proofs.Common.{ℤ, w64, to_z, of_z}
-use Rattle.std.proofs.lemmas.Int.{to_z-of_z}
 use Rattle.std.proofs.lemmas.List.{drop_all}
 use Rattle.pt_meaning.specs.Streams.{Streams}
 use Rattle.pt_recv.specs.Lines.{spare_at, list_at}
@@ -22,11 +21,11 @@ loop-k-init c =
       room = c.requires.room;
     }
 
-pub put-requires-clause-given : goal.put-requires-clause-given
-put-requires-clause-given c = omega (arith, c.requires.there.channels (c.loop-k.k - 1) (omega (arith, c.loop-k-test.true, c.loop-k.auto.k)), c.loop-k.invariant.counted)
+pub put_number-requires-clause-given : goal.put_number-requires-clause-given
+put_number-requires-clause-given c = omega (arith, c.requires.there.channels (c.loop-k.k - 1) (omega (arith, c.loop-k-test.true, c.loop-k.auto.k)), c.loop-k.invariant.counted)
 
-pub put-requires-clause-spare : goal.put-requires-clause-spare
-put-requires-clause-spare c = c.loop-k.invariant.room (c.loop-k.k - 1) (omega (arith, c.loop-k-test.true))
+pub put_number-requires-clause-spare : goal.put_number-requires-clause-spare
+put_number-requires-clause-spare c = c.loop-k.invariant.room (c.loop-k.k - 1) (omega (arith, c.loop-k-test.true))
 
 pub loop-k-preserved : goal.loop-k-preserved
 loop-k-preserved c =
@@ -38,9 +37,9 @@ loop-k-preserved c =
     let n : ℤ = to_z w64 (of_z w64 c.args.number) in
     let ts : List Token = Int n ∷ [] in
     record {
-      lists = next-put F k a b (ts ∷ []) c.args.channels.now.lists c.loop-k.channels.lists c.put.new.self.lists f ts refl c.loop-k.invariant.lists (on-one-port ts f.port (c.requires.there.ports (k - 1) (omega (arith, a, b)))) c.put.ensures.lists;
-      counted = ap (λ v. length v) c.put.ensures.lists ∙ length-set c.loop-k.channels.lists f.channel (list_at c.loop-k.channels.lists f.channel ++ ts) ∙ c.loop-k.invariant.counted;
+      lists = next-put F k a b (ts ∷ []) c.args.channels.now.lists c.loop-k.channels.lists c.put_number.new.self.lists f ts refl c.loop-k.invariant.lists (on-one-port ts f.port (c.requires.there.ports (k - 1) (omega (arith, a, b)))) c.put_number.ensures.lists;
+      counted = ap (λ v. length v) c.put_number.ensures.lists ∙ length-set c.loop-k.channels.lists f.channel (list_at c.loop-k.channels.lists f.channel ++ ts) ∙ c.loop-k.invariant.counted;
       room = λ j l.
-          subst (λ v. 0 < v) (sym (ap (λ v. spare_at v (get_or F j no_feed).channel) c.put.ensures.spares ∙ spare-other c.loop-k.channels.spares f.channel (get_or F j no_feed).channel (λ z. c.requires.apart j (k - 1) l (omega (arith, a, b)) z)))
+          subst (λ v. 0 < v) (sym (ap (λ v. spare_at v (get_or F j no_feed).channel) c.put_number.ensures.spares ∙ spare-other c.loop-k.channels.spares f.channel (get_or F j no_feed).channel (λ z. c.requires.apart j (k - 1) l (omega (arith, a, b)) z)))
           (c.loop-k.invariant.room j (omega (arith, l)));
     }
