@@ -62,6 +62,7 @@ impl<T: Drop> Pool<T> {
 
     /// Makes the spare of queue `q` at least `n`, with new cells where the free ones that no queue has
     /// reserved don't suffice. After an `Err` there may be more free cells than before.
+    #[inline(never)]
     pub fn reserve(&mut self, q: u32, n: usize) -> Result<(), AllocError>
         requires { q < length self.old.lists }
         ensures lists { self.new.lists ≡ self.old.lists }
@@ -103,6 +104,7 @@ impl<T: Drop> Pool<T> {
     }
 
     /// Puts `value` at the back of queue `q`, in a cell that the queue has reserved.
+    #[inline(never)]
     pub fn push(&mut self, q: u32, value: T)
         requires given { q < length self.old.lists }
         requires spare { 0 < spare_at self.old.spares q }
@@ -116,6 +118,7 @@ impl<T: Drop> Pool<T> {
     }
 
     /// Takes the front of queue `q`, whose cell stays reserved for `q`, or `None` where the queue is empty.
+    #[inline(never)]
     pub fn pop(&mut self, q: u32) -> Option<T>
         requires { q < length self.old.lists }
         ensures front { result ≡ slice_get (list_at self.old.lists q) 0 }

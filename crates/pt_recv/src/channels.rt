@@ -57,6 +57,7 @@ impl Channels {
     }
 
     /// Makes the spare of channel `c` at least `n`.
+    #[inline(always)]
     pub fn ready(&mut self, c: u32, n: usize) -> Result<(), AllocError>
         requires { c < length self.old.lists }
         ensures lists { self.new.lists ≡ self.old.lists }
@@ -89,6 +90,7 @@ impl Channels {
     }
 
     /// Puts a number at the back of channel `c`, which has a spare. It takes no memory, and moves no token.
+    #[inline(always)]
     pub fn put_number(&mut self, c: u32, n: i64)
         requires given { c < length self.old.lists }
         requires spare { 0 < spare_at self.old.spares c }
@@ -117,6 +119,7 @@ impl Channels {
 
     /// Takes the front of channel `c` where it is a number that waits apart from the others, and moves no token. `None` says
     /// nothing of the channel.
+    #[inline(always)]
     pub fn take_number(&mut self, c: u32) -> Option<i64>
         requires { c < length self.old.lists }
         ensures front { IfSome result (λ n. slice_get (list_at self.old.lists c) 0 ≡ Some (Int n)) }
@@ -141,6 +144,7 @@ impl Channels {
     }
 
     /// How many tokens channel `c` has.
+    #[inline(always)]
     pub fn len(&self, c: u32) -> usize
         requires { c < length self.now.lists }
         ensures { result ≡ length (list_at self.now.lists c) }
@@ -149,6 +153,7 @@ impl Channels {
     }
 
     /// How many more tokens channel `c` has room for.
+    #[inline(always)]
     pub fn spare(&self, c: u32) -> usize
         requires { c < length self.now.lists }
         ensures { result ≡ spare_at self.now.spares c }
@@ -201,6 +206,7 @@ impl Channels {
 }
 
 /// Whether a channel has no token, neither in front nor in the region.
+#[inline(always)]
 fn is_clear(fronts: &[Option<Token>], pool: &Pool<Token>, c: u32) -> bool
     requires front { c < length fronts.now }
     requires list { c < length pool.now.lists }
@@ -212,6 +218,7 @@ fn is_clear(fronts: &[Option<Token>], pool: &Pool<Token>, c: u32) -> bool
 
 /// How many cells are to be reserved for `n` more tokens of a channel with this front, and so many tokens in the region.
 /// `None` where its tokens couldn't be counted any more.
+#[inline(never)]
 fn cells_for(front: &Option<Token>, waiting: usize, n: usize) -> Option<usize>
     ensures cells { IfSome result (λ cells. cells ≡ n + fronts.kept_for front.now) }
     ensures counted { IfSome result (λ cells. waiting + cells < 2 ^ 64) }
@@ -222,6 +229,7 @@ fn cells_for(front: &Option<Token>, waiting: usize, n: usize) -> Option<usize>
 }
 
 /// How many reserved cells a channel with this front leaves unused.
+#[inline(always)]
 fn kept_for(front: &Option<Token>) -> usize
     ensures { result ≡ fronts.kept_for front.now }
 {
@@ -231,6 +239,7 @@ fn kept_for(front: &Option<Token>) -> usize
     }
 }
 
+#[inline(always)]
 fn set_front(front: &mut Option<Token>, token: Token)
     ensures { front.new ≡ Some token }
 {
@@ -238,6 +247,7 @@ fn set_front(front: &mut Option<Token>, token: Token)
 }
 
 /// Takes a front that is a number. It is read where it stands, since a token that was just written is slow to move.
+#[inline(always)]
 fn take_front_number(front: &mut Option<Token>) -> Option<i64>
     ensures number { IfSome result (λ n. front.old ≡ Some (Int n)) }
     ensures front { front.new ≡ (if is_some result then None else front.old) }

@@ -53,9 +53,6 @@ fn take_one(channels: &mut Channels, c: u32, n: usize) -> Tokens
     if n == 0 {
         return Tokens::new();
     }
-    if let Some(number) = channels.take_number(c) {
-        return Tokens::one(Token::Int(number));
-    }
     match channels.take(c) {
         Some(token) => Tokens::one(token),
         None => Tokens::new(),
@@ -63,6 +60,7 @@ fn take_one(channels: &mut Channels, c: u32, n: usize) -> Tokens
 }
 
 /// Takes what `n` places from this one on need, and lends it: the lists of these places are then the first ones.
+#[inline(always)]
 pub(crate) fn gather(
     channels: &mut Channels,
     rooms: &mut Vec<Option<Vec<Token>>>,
@@ -86,11 +84,36 @@ pub(crate) fn gather(
 {
     for k in 0..n {
         let c = from + k;
-        lent[k] = take_needed(channels, c as u32, needs[c], &mut rooms[c]);
+        lend(channels, c as u32, needs[c], &mut rooms[c], &mut lent[k]);
     }
 }
 
+/// Lends the first `n` tokens of a channel, in place of what was lent before. A single number is the common case, and is written in place.
+#[inline(always)]
+fn lend(
+    channels: &mut Channels,
+    c: u32,
+    n: usize,
+    room: &mut Option<Vec<Token>>,
+    place: &mut Tokens,
+)
+    requires given { c < length channels.old.lists }
+    requires enough { n ≤ length (list_at channels.old.lists c) }
+    requires room { HasRoom n room.old }
+    ensures taken { place.new ≡ take n (list_at channels.old.lists c) }
+    ensures lists { channels.new.lists ≡ slice_set channels.old.lists c (drop n (list_at channels.old.lists c)) }
+{
+    if n == 1 {
+        if let Some(number) = channels.take_number(c) {
+            *place = Tokens::one(Token::Int(number));
+            return;
+        }
+    }
+    *place = take_needed(channels, c, n, room);
+}
+
 /// Takes the first `n` tokens of a channel. The room for them is used where there is more than one.
+#[inline(never)]
 fn take_needed(channels: &mut Channels, c: u32, n: usize, room: &mut Option<Vec<Token>>) -> Tokens
     requires given { c < length channels.old.lists }
     requires enough { n ≤ length (list_at channels.old.lists c) }

@@ -10,6 +10,7 @@ use pt_recv::Channels;
 use std::alloc::AllocError;
 
 /// Whether the rates are those of an actor that gives one token on its one port.
+#[inline(always)]
 pub(crate) fn is_one(rates: &[usize]) -> bool
     ensures { (token : Token) → result ≡ has_rates rates.now ((token ∷ []) ∷ []) }
 {
@@ -17,6 +18,7 @@ pub(crate) fn is_one(rates: &[usize]) -> bool
 }
 
 /// Puts a number on the channels that a row feeds from its one port. After an `Err` the channels are as before.
+#[inline(always)]
 pub(crate) fn scatter_number(
     channels: &mut Channels,
     feeds: &[Feed],
@@ -32,6 +34,7 @@ pub(crate) fn scatter_number(
 }
 
 /// Makes room for one token on each channel, so that the moves after it can't fail.
+#[inline(always)]
 fn make_room(channels: &mut Channels, feeds: &[Feed]) -> Result<(), AllocError>
     requires there { AreThere (length channels.old.lists) 1 feeds.now }
     ensures lists { channels.new.lists ≡ channels.old.lists }
@@ -44,6 +47,7 @@ fn make_room(channels: &mut Channels, feeds: &[Feed]) -> Result<(), AllocError>
 }
 
 /// Makes room for one token on a channel.
+#[inline(always)]
 fn make_room_on(channels: &mut Channels, c: u32) -> Result<(), AllocError>
     requires { c < length channels.old.lists }
     ensures lists { channels.new.lists ≡ channels.old.lists }
@@ -54,6 +58,7 @@ fn make_room_on(channels: &mut Channels, c: u32) -> Result<(), AllocError>
 }
 
 /// Puts the number on each channel, in room that was made.
+#[inline(always)]
 fn put_on_each(channels: &mut Channels, feeds: &[Feed], number: i64)
     requires there { AreThere (length channels.old.lists) 1 feeds.now }
     requires apart { AreApart feeds.now }

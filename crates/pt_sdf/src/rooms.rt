@@ -5,6 +5,7 @@ use pt_value::Token;
 use std::alloc::{AllocError, Global};
 
 /// Room for so many tokens. One or none needs no room.
+#[inline(never)]
 pub(crate) fn room_for(alloc: Global, n: usize) -> Result<Option<Vec<Token>>, AllocError>
     ensures { IfOk result (λ room. HasRoom n room) }
 {
@@ -31,6 +32,7 @@ pub(crate) fn rooms_for(
 }
 
 /// Makes room again at `n` places from this one on. After an `Err` no place has less room than before.
+#[inline(always)]
 pub(crate) fn fill_rooms(
     alloc: Global,
     rooms: &mut Vec<Option<Vec<Token>>>,
@@ -52,6 +54,7 @@ pub(crate) fn fill_rooms(
 }
 
 /// Makes room for so many tokens. Where none is needed and none is there, it stays so; after an `Err` there is no less than before.
+#[inline(always)]
 fn fill_room(alloc: Global, room: &mut Option<Vec<Token>>, n: usize) -> Result<(), AllocError>
     ensures kept { HasRoom n room.old → HasRoom n room.new }
     ensures made { OnOk result (HasRoom n room.new) }

@@ -132,6 +132,7 @@ impl Core {
     }
 
     /// What comes next. It takes no memory, and moves the inputs of a child that it asks for out of their channels.
+    #[inline(always)]
     pub fn ask(&mut self) -> Ask
         requires { MayAsk self.old.stage }
         ensures { IsAsked self.old result self.new }
@@ -143,6 +144,7 @@ impl Core {
         }
     }
 
+    #[inline(always)]
     fn ask_next(&mut self) -> Ask
         requires { self.old.stage ≡ Open }
         ensures { IsAsked self.old result self.new }
@@ -167,6 +169,7 @@ impl Core {
     }
 
     /// The inputs of the child just asked for. It takes no memory.
+    #[inline(always)]
     pub fn lent(&self) -> Inputs<'_>
         requires { IsSome (asked_child self.now.stage) }
         ensures { result ≡ lent_in self.now.stage }
@@ -206,6 +209,7 @@ impl Core {
     }
 
     /// Takes the number that the firing of the child gave as the one token on its one port. After an `Err` the core is as before.
+    #[inline(always)]
     pub fn told_number(&mut self, alloc: Global, child: u32, number: i64) -> Result<(), AllocError>
         requires asked { asked_child self.old.stage ≡ Some child }
         ensures told { OnOk result (self.new ≡ after_told child ((Int number ∷ []) ∷ []) self.old) }

@@ -146,6 +146,7 @@ fn fault_at(alloc: Global, path: &Text, firing: u64, kind: RunFault) -> Within
 
 /// One firing of an SDF composite: its core says which child fires next.
 #[cycle(fire)]
+#[inline(never)]
 fn fire_sdf(
     alloc: Global,
     core: &mut pt_sdf::Core,
@@ -189,6 +190,7 @@ fn fire_sdf(
 
 /// A turn of the child that the core asked for: it fires, the core is told what it gave, and where its rates are right its firing is recorded.
 #[cycle(fire)]
+#[inline(always)]
 fn fire_child(
     alloc: Global,
     core: &mut pt_sdf::Core,
@@ -216,6 +218,7 @@ fn fire_child(
 }
 
 /// One firing of a library actor of which no output is recorded, where it gives one number. The firing isn't recorded. Where no number is given, nothing was done.
+#[inline(always)]
 fn quick(node: &mut Node, inputs: &Inputs<'_>) -> Option<i64>
     requires fit { IsFit (shown_node node.old) }
     ensures goes { QuickTo (shown_node node.old) inputs.now result (shown_node node.new) }
@@ -235,6 +238,7 @@ fn quick(node: &mut Node, inputs: &Inputs<'_>) -> Option<i64>
 }
 
 /// Tells the core the number that the child gave. The child's firing is recorded where it gave its rates.
+#[inline(always)]
 fn tell_number(
     alloc: Global,
     core: &mut pt_sdf::Core,
@@ -261,6 +265,7 @@ fn tell_number(
 
 /// A turn of a child of any kind.
 #[cycle(fire)]
+#[inline(never)]
 fn fire_any(
     alloc: Global,
     core: &mut pt_sdf::Core,
@@ -318,6 +323,7 @@ fn tell(
 }
 
 /// Asks the core again, which was told what the child gave. The child's firing is recorded where it gave its rates.
+#[inline(always)]
 fn ask_again(
     alloc: Global,
     core: &mut pt_sdf::Core,

@@ -6,11 +6,11 @@ use Rattle.pt_sdf.proofs.gather.gather.Goals as goal
 pub loop-k-init : goal.loop-k-init
 loop-k-init c = record { lent = refl; left = sym (skip-zero c.args.from c.args.channels.now.lists); others = λ c' h. refl; rooms = refl; counted = refl }
 
-pub take_needed-requires-clause-given : goal.take_needed-requires-clause-given
-take_needed-requires-clause-given c = omega (arith, c.requires.places, c.loop-k-test.true, taken-long c.loop-k.channels.lists c.args.channels.now.lists c.args.from c.loop-k.k (drop c.args.from c.args.needs.now) c.loop-k.invariant.left)
+pub lend-requires-clause-given : goal.lend-requires-clause-given
+lend-requires-clause-given c = omega (arith, c.requires.places, c.loop-k-test.true, taken-long c.loop-k.channels.lists c.args.channels.now.lists c.args.from c.loop-k.k (drop c.args.from c.args.needs.now) c.loop-k.invariant.left)
 
-pub take_needed-requires-clause-enough : goal.take_needed-requires-clause-enough
-take_needed-requires-clause-enough c =
+pub lend-requires-clause-enough : goal.lend-requires-clause-enough
+lend-requires-clause-enough c =
     subst (λ v. get_or c.args.needs.now (c.args.from + c.loop-k.k) 0 ≤ length v) (sym (next-list c.loop-k.channels.lists c.args.channels.now.lists c.args.from c.loop-k.k (drop c.args.from c.args.needs.now) c.loop-k.invariant.left)) (c.requires.enough c.loop-k.k c.loop-k-test.true)
 
 pub loop-k-preserved : goal.loop-k-preserved
@@ -21,12 +21,12 @@ loop-k-preserved c =
     let n : get_or c.args.needs.now (c.args.from + k) 0 ≡ get_or (drop c.args.from c.args.needs.now) k 0 = sym (get_or-drop c.args.from c.args.needs.now k 0) in
     record {
       lent =
-          take_more_set c.loop-k.lent.items k c.take_needed.result (omega (arith, c.requires.lists, c.loop-k-test.true, c.loop-k.invariant.counted)) ∙
-          next-taken c.loop-k.channels.lists c.args.channels.now.lists c.args.from c.loop-k.k (drop c.args.from c.args.needs.now) c.loop-k.invariant.left _ _ _ h l n c.take_needed.ensures.taken c.loop-k.invariant.lent;
-      left = next-left c.loop-k.channels.lists c.args.channels.now.lists c.args.from c.loop-k.k (drop c.args.from c.args.needs.now) c.loop-k.invariant.left _ _ h l n c.take_needed.ensures.lists;
-      others = λ c' b. get_or-set_other c.loop-k.rooms.items (c.args.from + k) c' c.take_needed.new.room None (λ e. apart c.args.from k c' b e) ∙ c.loop-k.invariant.others c' (wider c.args.from k c' b);
-      rooms = length-set c.loop-k.rooms.items (c.args.from + k) c.take_needed.new.room ∙ c.loop-k.invariant.rooms;
-      counted = length-set c.loop-k.lent.items k c.take_needed.result ∙ c.loop-k.invariant.counted;
+          take_more_set c.loop-k.lent.items k c.lend.new.place (omega (arith, c.requires.lists, c.loop-k-test.true, c.loop-k.invariant.counted)) ∙
+          next-taken c.loop-k.channels.lists c.args.channels.now.lists c.args.from c.loop-k.k (drop c.args.from c.args.needs.now) c.loop-k.invariant.left _ _ _ h l n c.lend.ensures.taken c.loop-k.invariant.lent;
+      left = next-left c.loop-k.channels.lists c.args.channels.now.lists c.args.from c.loop-k.k (drop c.args.from c.args.needs.now) c.loop-k.invariant.left _ _ h l n c.lend.ensures.lists;
+      others = λ c' b. get_or-set_other c.loop-k.rooms.items (c.args.from + k) c' c.lend.new.room None (λ e. apart c.args.from k c' b e) ∙ c.loop-k.invariant.others c' (wider c.args.from k c' b);
+      rooms = length-set c.loop-k.rooms.items (c.args.from + k) c.lend.new.room ∙ c.loop-k.invariant.rooms;
+      counted = length-set c.loop-k.lent.items k c.lend.new.place ∙ c.loop-k.invariant.counted;
     }
   where
     apart : (o k c : ℕ) → (c < o) ⊎ (o + (k + 1) ≤ c) → c ≡ o + k → ⊥
