@@ -1,5 +1,5 @@
 -- A job that its budget allows ends as the definitions say; and the loop over the iterations.
-use Rattle.std.proofs.Common.{◌≡◌, ℕ, suc, ◌+◌, ◌-◌, ◌<◌, ◌≤◌, List, Bool, true, false, length, sym, ap, subst, ◌∙◌, arith}
+use Rattle.std.proofs.Common.{◌≡◌, ℕ, suc, ◌+◌, ◌<◌, List, Bool, true, false, length, sym, ap, subst, ◌∙◌, arith}
 use Rattle.pt_meaning.specs.Basics.{Streams}
 use Rattle.pt_meaning.specs.Tag.{origin}
 use Rattle.pt_meaning.specs.Step.{no_meetings}
@@ -77,23 +77,32 @@ module _ (j : SdfJob) (budget : ℕ) (old : Shown) (run : IsRunnable j.takes old
             told new (Faulty (fault_of k.0 place)) (o ∙ g.reached.outline) (stuck-within j.iterations j.takes j.inputs.items old run n now g.reached l s X e budget new (fault_of k.0 place) k.2),
           )
 
-      pub ends-spent : (made count : ℕ) → AnswersTo now origin X left (answer.Spent made) new → count ≡ count_of new → IsRun j budget old new (ended.Spent count)
-      ends-spent made count a c = told new (Spent count) (o ∙ g.reached.outline) (spent-within j.iterations j.takes j.inputs.items old run n now g.reached l s X e budget count new o (a.2 no_meetings) c (omega (arith, a.0, a.1, c, g.counted)))
+      -- so much is left after it
+      module _ (after : ℕ) (h : count_of new + after ≡ count_of now + left) where
+        counted : after + count_of new ≡ budget
+        counted = omega (arith, h, g.counted)
 
-      reached-then : (out : Streams Token) → AnswersTo now origin X left (answer.Done out) new → Reached j.iterations j.takes j.inputs.items old (suc n) new
-      reached-then out a = one-more j.iterations j.takes j.inputs.items old n now g.reached l s X e out left new a o
+        pub ends-spent : (made : ℕ) → AnswersTo now origin X left (answer.Spent made) new → IsRun j budget old new (ended.Spent budget)
+        ends-spent made a =
+            let all : budget ≡ count_of new = omega (arith, a.0, a.1, counted, h) in
+            told new (Spent budget) (o ∙ g.reached.outline) (spent-within j.iterations j.takes j.inputs.items old run n now g.reached l s X e budget budget new o (a.2 no_meetings) all (omega arith))
 
-      pub ends-after : (out : Streams Token) (count : ℕ) → AnswersTo now origin X left (answer.Done out) new → count ≡ count_of new → budget ≤ count → IsRun j budget old new (ended.Spent count)
-      ends-after out count a c b = told new (Spent count) (o ∙ g.reached.outline) (spent-between j.iterations j.takes j.inputs.items old run (suc n) new (reached-then out a) budget count c b)
+        reached-then : (out : Streams Token) → AnswersTo now origin X left (answer.Done out) new → Reached j.iterations j.takes j.inputs.items old (suc n) new
+        reached-then out a = one-more j.iterations j.takes j.inputs.items old n now g.reached l s X e out left new a o
 
-      pub goes-on : (out : Streams Token) (count : ℕ) → AnswersTo now origin X left (answer.Done out) new → count ≡ count_of new → count < budget → GoingTo (n + 1) new (budget - count)
-      goes-on out count a c b =
-          let one : suc n ≡ n + 1 = omega arith in
-          record {
-            reached = subst (λ n. Reached j.iterations j.takes j.inputs.items old n new) one (reached-then out a);
-            counted = omega (arith, c, b);
-            some = omega (arith, b);
-          }
+        pub ends-after : (out : Streams Token) → AnswersTo now origin X left (answer.Done out) new → after ≡ 0 → IsRun j budget old new (ended.Spent budget)
+        ends-after out a z =
+            let all : budget ≡ count_of new = omega (arith, z, counted) in
+            told new (Spent budget) (o ∙ g.reached.outline) (spent-between j.iterations j.takes j.inputs.items old run (suc n) new (reached-then out a) budget budget all (omega arith))
+
+        pub goes-on : (out : Streams Token) → AnswersTo now origin X left (answer.Done out) new → 0 < after → GoingTo (n + 1) new after
+        goes-on out a some =
+            let one : suc n ≡ n + 1 = omega arith in
+            record {
+              reached = subst (λ n. Reached j.iterations j.takes j.inputs.items old n new) one (reached-then out a);
+              counted = counted;
+              some = some;
+            }
 
 -- what a test of a bool says
 pub is-true : (b a : Bool) → b ≡ a → b ≡ true → a ≡ true

@@ -4,7 +4,7 @@ use Rattle.pt_trace.specs.Report.{Trace}
 use Rattle.pt_node.specs.declared.node.Node.{Node}
 use Rattle.pt_node.specs.Recorded.{RecordedPort}
 use Rattle.pt_node.specs.Shown.{Shown, shown, shown_node, all_of}
-use Rattle.pt_node.specs.View.{count_of, counts_of, depth, depths, outline_of, outlines_of}
+use Rattle.pt_node.specs.View.{depth, depths, outline_of, outlines_of}
 use Rattle.pt_node.proofs.Link.{shown-node}
 use Rattle.pt_run.specs.Ports.{outputs_in, outputs_below, AreBelow, told, filled}
 use Rattle.pt_run.proofs.Gathering.{filled-append, filled-length, below-left, below-right}
@@ -29,12 +29,6 @@ child-next items k d l e = ap (λ v. map shown v) (drop-more items k d l e) ∙ 
 
 pub child-last : (items : List Node) (k : ℕ) → length items ≤ k → from_child k items ≡ []
 child-last items k l = ap (λ v. map shown v) (drop-all items k l)
-
-pub count_next : (items : List Node) (k count sum total : ℕ) (d : Node) → count + counts_of (all_of (from_child k items)) ≡ total → k < length items → d ≡ get_or items k d → sum ≡ count + count_of (shown_node d) → sum + counts_of (all_of (from_child (k + 1) items)) ≡ total
-count_next items k count sum total d h l e s = let next : counts_of (all_of (from_child k items)) ≡ count_of (shown_node d) + counts_of (all_of (from_child (k + 1) items)) = ap (λ v. counts_of (all_of v)) (child-next items k d l e) in omega (arith, h, s, next)
-
-pub count_last : (items : List Node) (k count total : ℕ) → count + counts_of (all_of (from_child k items)) ≡ total → length items ≤ k → count ≡ total
-count_last items k count total h l = let last : counts_of (all_of (from_child k items)) ≡ 0 = ap (λ v. counts_of (all_of v)) (child-last items k l) in omega (arith, h, last)
 
 -- a child is less deep than its node
 pub kid_depth : (items : List Node) (k : ℕ) (d : Node) → k < length items → d ≡ get_or items k d → depth (outline_of (shown_node d)) ≤ depths (outlines_of (all_of (map shown items)))

@@ -1,7 +1,6 @@
 //! Running the top of a tree of nodes as a job says, and the report of it.
 #![tactic(auto)]
 
-mod count;
 mod ended;
 mod job;
 mod reporting;

@@ -4,12 +4,11 @@ ghost use Rattle.pt_node.specs.View.{node_of, outline_of};
 ghost use Rattle.pt_run.specs.Start.{IsRunnable};
 ghost use Rattle.pt_run.specs.Run.{IsRun, IsAffordable, IsDefined};
 
-use crate::count::firings;
 use crate::ended::Ended;
 use crate::job::SdfJob;
 use pt_firing::{Answer, Inputs};
 use pt_node::Node;
-use pt_seq::fire_seq;
+use pt_seq::fire_within;
 use pt_time::Tag;
 use std::alloc::{AllocError, Global};
 
@@ -31,18 +30,16 @@ pub fn run(alloc: Global, top: &mut Node, job: &SdfJob, budget: u64) -> Result<E
             return Ok(Ended::Inputs);
         }
         let inputs = job.portions(alloc, iteration)?;
-        match fire_seq(alloc, top, ORIGIN, &Inputs::of(&inputs), left) {
+        match fire_within(alloc, top, ORIGIN, &Inputs::of(&inputs), &mut left) {
             Answer::Done(_) => {}
             Answer::Fault(place) => return Ok(Ended::Fault(place)),
-            Answer::Spent(_) => return Ok(Ended::Spent(firings(top)?)),
+            Answer::Spent(_) => return Ok(Ended::Spent(budget)),
             Answer::Full(_) => unreachable!(),
             Answer::Memory => return Err(AllocError),
         }
-        let count = firings(top)?;
-        if count >= budget {
-            return Ok(Ended::Spent(count));
+        if left == 0 {
+            return Ok(Ended::Spent(budget));
         }
-        left = budget - count;
     }
     Ok(Ended::Iterations)
 }

@@ -49,13 +49,31 @@ pub fn fire_seq(
     ensures outline { outline_of (shown_node node.new) ≡ outline_of (shown_node node.old) }
 {
     let mut left = allowance;
-    let outputs = match fire(alloc, node, tag, inputs, &mut left) {
+    fire_within(alloc, node, tag, inputs, &mut left)
+}
+
+/// The same by what is left of an allowance, which is lowered by each firing that is recorded.
+pub fn fire_within(
+    alloc: Global,
+    node: &mut Node,
+    tag: Tag,
+    inputs: &Inputs<'_>,
+    left: &mut u64,
+) -> Answer
+    requires live { IsLive (shown_node node.old) }
+    requires inputs { Takes tag (shown_node node.old) inputs.now }
+    ensures answers { AnswersTo (shown_node node.old) tag inputs.now left.old result (shown_node node.new) }
+    ensures outline { outline_of (shown_node node.new) ≡ outline_of (shown_node node.old) }
+    ensures counted { count_of (shown_node node.new) + left.new ≡ count_of (shown_node node.old) + left.old }
+{
+    let allowance = *left;
+    let outputs = match fire(alloc, node, tag, inputs, left) {
         Within::Done(outputs) => outputs,
         Within::Fault(place) => return Answer::Fault(place),
         Within::Spent => return Answer::Spent(allowance),
         Within::Memory => return Answer::Memory,
     };
-    if left == 0 {
+    if *left == 0 {
         return Answer::Spent(allowance);
     }
     if node.past.made == u64::MAX {
@@ -65,6 +83,7 @@ pub fn fire_seq(
         return Answer::Memory;
     }
     node.record(tag);
+    *left -= 1;
     Answer::Done(outputs)
 }
 

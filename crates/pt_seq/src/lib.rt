@@ -3,4 +3,4 @@
 
 mod fire;
 
-pub use fire::fire_seq;
+pub use fire::{fire_seq, fire_within};
