@@ -71,11 +71,11 @@ fn a_channel_gives_its_tokens_in_the_order_of_the_puts(rt: HostRuntime) -> Resul
 #[test]
 fn a_front_moves_behind_the_other_tokens(rt: HostRuntime) -> Result<(), Fail> {
     let mut channels = Channels::new(rt.alloc(), 2)?;
-    channels.ready(0, 2)?;
-    channels.ready(1, 1)?;
+    channels.ready(0, 3)?;
     channels.put(0, Token::Int(4));
     channels.put(0, Token::Int(7));
     channels.move_front(0, 0);
+    channels.ready(1, 1)?;
     channels.move_front(0, 1);
     assert_eq!(rt; channels.len(0), 1);
     assert!(rt;

@@ -3,7 +3,7 @@ use Rattle.std.proofs.Common.{◌≡◌, ℕ, zero, suc, ◌+◌, ◌-◌, ◌^�
 use Rattle.std.proofs.lemmas.Bool.{cases_eq, false≢true}
 use Rattle.std.proofs.lemmas.List.{set-get_or}
 use Rattle.std.specs.List.{cons_option}
-use Rattle.pt_recv.specs.Fronts.{kept_for, joined, lessened, front_at, IsCovered, AreCovered}
+use Rattle.pt_recv.specs.Fronts.{kept_for, joined, lessened, IsCovered, AreCovered}
 use Rattle.pt_recv.specs.Lines.{list_at, spare_at, pushed, popped, raised, lowered}
 
 module _ {T : Type 0} where

@@ -1,12 +1,12 @@
 -- The tokens of channels, each of which may have its front token apart from the others.
-use Rattle.std.specs.Prelude.{ℕ, ◌+◌, ◌-◌, ◌*◌, ◌^◌, ◌<◌, ◌≤◌, List, [], ◌∷◌, Option, Some, None, length, slice_index_or}
+use Rattle.std.specs.Prelude.{ℕ, ◌+◌, ◌-◌, ◌^◌, ◌<◌, ◌≤◌, List, [], ◌∷◌, Option, Some, None, length, slice_index_or}
 use Rattle.std.specs.Borrow.{Bor}
 use Rattle.std.specs.List.{cons_option}
 use Rattle.std.specs.Option.{option_copied}
 use Rattle.pt_pool.specs.Queues.{list_at, spare_at}
 
 module _ {T : Type 0} where
-  -- how many reserved cells a channel leaves unused, so that its front may go behind the others' cells: one where it has a front
+  -- how many of its reserved cells a channel leaves unused: one where it has a front, which takes no cell itself
   abbrev pub kept_for : Option T → ℕ
   kept_for None = 0
   kept_for (Some _) = 1

@@ -1,4 +1,4 @@
-ghost use Rattle.std.specs.Prelude.{◌≡◌, ◌+◌, ◌-◌, ◌^◌, ◌<◌, ◌≤◌, [], IfOk, IfSome, OnOk, IsOk, IsTrue, is_ok, is_some, if◌then◌else◌, length, max, replicate, slice_get, slice_set};
+ghost use Rattle.std.specs.Prelude.{◌≡◌, ℤ, ◌+◌, ◌-◌, ◌^◌, ◌<◌, ◌≤◌, [], IfOk, IfSome, OnOk, IsOk, IsSome, IsTrue, is_ok, is_some, if◌then◌else◌, length, max, replicate, slice_get, slice_set};
 ghost use Rattle.pt_value.specs.declared.token.Token.TheVariants.{Int};
 ghost use Rattle.pt_recv.specs.Fronts as fronts;
 ghost use Rattle.pt_recv.specs.Fronts.{front_at};
@@ -212,6 +212,7 @@ fn is_clear(fronts: &[Option<Token>], pool: &Pool<Token>, c: u32) -> bool
     requires list { c < length pool.now.lists }
     ensures front { IsTrue result → front_at fronts.now c ≡ None }
     ensures list { IsTrue result → list_at pool.now.lists c ≡ [] }
+    ensures clear { front_at fronts.now c ≡ None → list_at pool.now.lists c ≡ [] → IsTrue result }
 {
     fronts[c as usize].is_none() && pool.len(c) == 0
 }
@@ -222,6 +223,7 @@ fn is_clear(fronts: &[Option<Token>], pool: &Pool<Token>, c: u32) -> bool
 fn cells_for(front: &Option<Token>, waiting: usize, n: usize) -> Option<usize>
     ensures cells { IfSome result (λ cells. cells ≡ n + fronts.kept_for front.now) }
     ensures counted { IfSome result (λ cells. waiting + cells < 2 ^ 64) }
+    ensures some { waiting + n + fronts.kept_for front.now < 2 ^ 64 → IsSome result }
 {
     let cells = n.checked_add(kept_for(front))?;
     waiting.checked_add(cells)?;
@@ -250,6 +252,7 @@ fn set_front(front: &mut Option<Token>, token: Token)
 #[inline(always)]
 fn take_front_number(front: &mut Option<Token>) -> Option<i64>
     ensures number { IfSome result (λ n. front.old ≡ Some (Int n)) }
+    ensures some { (n : ℤ) → front.old ≡ Some (Int n) → IsSome result }
     ensures front { front.new ≡ (if is_some result then None else front.old) }
 {
     let Some(Token::Int(number)) = &*front else {
