@@ -109,11 +109,28 @@ fn lend(
             return;
         }
     }
+    lend_any(channels, c, n, room, place);
+}
+
+/// The same for any number of tokens of any kind.
+#[inline(never)]
+fn lend_any(
+    channels: &mut Channels,
+    c: u32,
+    n: usize,
+    room: &mut Option<Vec<Token>>,
+    place: &mut Tokens,
+)
+    requires given { c < length channels.old.lists }
+    requires enough { n ≤ length (list_at channels.old.lists c) }
+    requires room { HasRoom n room.old }
+    ensures taken { place.new ≡ take n (list_at channels.old.lists c) }
+    ensures lists { channels.new.lists ≡ slice_set channels.old.lists c (drop n (list_at channels.old.lists c)) }
+{
     *place = take_needed(channels, c, n, room);
 }
 
 /// Takes the first `n` tokens of a channel. The room for them is used where there is more than one.
-#[inline(never)]
 fn take_needed(channels: &mut Channels, c: u32, n: usize, room: &mut Option<Vec<Token>>) -> Tokens
     requires given { c < length channels.old.lists }
     requires enough { n ≤ length (list_at channels.old.lists c) }

@@ -62,6 +62,15 @@ fn fill_room(alloc: Global, room: &mut Option<Vec<Token>>, n: usize) -> Result<(
     if n < 2 && room.is_none() {
         return Ok(());
     }
+    refill(alloc, room, n)
+}
+
+/// Makes room for so many tokens. After an `Err` there is no less than before.
+#[inline(never)]
+fn refill(alloc: Global, room: &mut Option<Vec<Token>>, n: usize) -> Result<(), AllocError>
+    ensures kept { HasRoom n room.old → HasRoom n room.new }
+    ensures made { OnOk result (HasRoom n room.new) }
+{
     *room = room_for(alloc, n)?;
     Ok(())
 }
