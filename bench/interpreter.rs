@@ -1,9 +1,9 @@
 //! A hand-written interpreter of flat dataflow models, to measure ptrun against.
 //!
-//! It reads the same documents on standard input and writes the same reports, for models of Ramp, Scale and
-//! AddSubtract under SDF whose actors stand right in the top. It does what such a model needs and no more: each
-//! actor fires once an iteration, in an order found once. It refuses nothing by name; a document that it doesn't
-//! know ends it with a panic. Plain Rust over std alone: `rustc --edition 2021 -O interpreter.rs`.
+//! It reads the same documents on standard input and writes the same reports, for models of Ramp, Scale,
+//! AddSubtract, UpSample and DownSample under SDF whose actors stand right in the top. It does what such a model
+//! needs and no more: an iteration is an order of firings that is found once. It refuses nothing by name; a document
+//! that it doesn't know ends it with a panic. Plain Rust over std alone: `rustc --edition 2021 -O interpreter.rs`.
 
 use std::collections::{HashMap, VecDeque};
 use std::io::{Read, Write};
@@ -129,6 +129,26 @@ enum Actor {
     Ramp { init: i64, step: i64 },
     Scale { factor: i64 },
     AddSubtract,
+    UpSample { factor: usize, phase: usize },
+    DownSample { factor: usize, phase: usize },
+}
+
+impl Actor {
+    /// How many tokens a firing takes from each channel.
+    fn takes(&self) -> usize {
+        match self {
+            Actor::DownSample { factor, .. } => *factor,
+            _ => 1,
+        }
+    }
+
+    /// How many tokens a firing gives to each channel.
+    fn gives(&self) -> usize {
+        match self {
+            Actor::UpSample { factor, .. } => *factor,
+            _ => 1,
+        }
+    }
 }
 
 /// An actor with the channels at its ports, and what it has fired and recorded.
@@ -160,6 +180,14 @@ fn actor_of(entity: &Json) -> Actor {
             factor: entity.parameter("factor", 1),
         },
         "AddSubtract" => Actor::AddSubtract,
+        "UpSample" => Actor::UpSample {
+            factor: entity.parameter("factor", 2) as usize,
+            phase: entity.parameter("phase", 0) as usize,
+        },
+        "DownSample" => Actor::DownSample {
+            factor: entity.parameter("factor", 2) as usize,
+            phase: entity.parameter("phase", 0) as usize,
+        },
         other => panic!("the class {other}"),
     }
 }
@@ -210,22 +238,71 @@ fn join(top: &Json, nodes: &mut [Node]) -> Vec<(usize, usize)> {
     channels
 }
 
-/// An order in which each actor stands behind those that feed it.
-fn ordered(nodes: &[Node], channels: &[(usize, usize)]) -> Vec<usize> {
-    let mut missing: Vec<usize> = nodes.iter().map(|node| node.plus.len() + node.minus.len()).collect();
-    let mut order: Vec<usize> = (0..nodes.len()).filter(|&node| missing[node] == 0).collect();
-    let mut next = 0;
-    while next < order.len() {
-        for &channel in &nodes[order[next]].outputs {
-            let place = channels[channel].1;
-            missing[place] -= 1;
-            if missing[place] == 0 {
-                order.push(place);
-            }
-        }
-        next += 1;
+fn divisor(mut a: u64, mut b: u64) -> u64 {
+    while b != 0 {
+        (a, b) = (b, a % b);
     }
-    assert!(order.len() == nodes.len(), "no loop");
+    a
+}
+
+/// How often each actor fires in an iteration: the least whole numbers with which each channel gets as many tokens as
+/// are taken from it.
+fn repetitions(nodes: &[Node], channels: &[(usize, usize)]) -> Vec<usize> {
+    let mut ends: Vec<Vec<(usize, u64, u64)>> = vec![Vec::new(); nodes.len()];
+    for &(from, to) in channels {
+        let (gives, takes) = (nodes[from].actor.gives() as u64, nodes[to].actor.takes() as u64);
+        ends[from].push((to, gives, takes));
+        ends[to].push((from, takes, gives));
+    }
+    let mut ratios: Vec<Option<(u64, u64)>> = vec![None; nodes.len()];
+    let mut counts = vec![0; nodes.len()];
+    for root in 0..nodes.len() {
+        if ratios[root].is_some() {
+            continue;
+        }
+        ratios[root] = Some((1, 1));
+        let mut part = vec![root];
+        let mut next = 0;
+        while next < part.len() {
+            let (above, below) = ratios[part[next]].expect("a ratio");
+            for &(other, gives, takes) in &ends[part[next]] {
+                if ratios[other].is_none() {
+                    let common = divisor(above * gives, below * takes);
+                    ratios[other] = Some((above * gives / common, below * takes / common));
+                    part.push(other);
+                }
+            }
+            next += 1;
+        }
+        let multiple = part.iter().fold(1, |so_far, &node| {
+            let below = ratios[node].expect("a ratio").1;
+            so_far / divisor(so_far, below) * below
+        });
+        for node in part {
+            let (above, below) = ratios[node].expect("a ratio");
+            counts[node] = (multiple / below * above) as usize;
+        }
+    }
+    counts
+}
+
+/// An order of firings in which no token lacks: whoever can fire does so as often as it can.
+fn ordered(nodes: &[Node], channels: &[(usize, usize)]) -> Vec<usize> {
+    let mut left = repetitions(nodes, channels);
+    let mut held = vec![0; channels.len()];
+    let mut waiting: VecDeque<usize> = (0..nodes.len()).collect();
+    let mut order = Vec::new();
+    while let Some(number) = waiting.pop_front() {
+        let node = &nodes[number];
+        while left[number] > 0 && node.places().all(|&place| held[place] >= node.actor.takes()) {
+            node.places().for_each(|&place| held[place] -= node.actor.takes());
+            node.outputs.iter().for_each(|&channel| held[channel] += node.actor.gives());
+            left[number] -= 1;
+            order.push(number);
+        }
+        waiting.extend(node.outputs.iter().map(|&channel| channels[channel].1).filter(|&place| left[place] > 0));
+    }
+    assert!(left.iter().all(|&count| count == 0), "no loop");
     order
 }
 
@@ -273,7 +350,11 @@ fn sum(channels: &mut [VecDeque<i64>], places: &[usize]) -> i128 {
 }
 
 impl Node {
-    /// What one firing gives, or nothing where it leaves 64 bits.
+    fn places(&self) -> impl Iterator<Item = &usize> {
+        self.plus.iter().chain(&self.minus)
+    }
+
+    /// What one firing gives, where it is one number, or nothing where it leaves 64 bits.
     fn step(&self, channels: &mut [VecDeque<i64>]) -> Option<i64> {
         match self.actor {
             Actor::Ramp { init, step } => {
@@ -281,18 +362,34 @@ impl Node {
             }
             Actor::Scale { factor } => take(channels, self.plus[0]).checked_mul(factor),
             Actor::AddSubtract => i64::try_from(sum(channels, &self.plus) - sum(channels, &self.minus)).ok(),
+            Actor::DownSample { factor, phase } => {
+                let taken = channels[self.plus[0]].drain(..factor);
+                taken.rev().nth(phase)
+            }
+            Actor::UpSample { .. } => unreachable!("a burst"),
         }
     }
 
-    fn fire(&mut self, channels: &mut [VecDeque<i64>]) -> bool {
-        let Some(token) = self.step(channels) else { return false };
-        self.firings += 1;
+    fn give(&mut self, channels: &mut [VecDeque<i64>], token: i64) {
         for &channel in &self.outputs {
             channels[channel].push_back(token);
         }
         if let Some(recorded) = &mut self.recorded {
             recorded.push(token);
         }
+    }
+
+    fn fire(&mut self, channels: &mut [VecDeque<i64>]) -> bool {
+        if let Actor::UpSample { factor, phase } = self.actor {
+            let token = take(channels, self.plus[0]);
+            for number in 0..factor {
+                self.give(channels, if number == phase { token } else { 0 });
+            }
+        } else {
+            let Some(token) = self.step(channels) else { return false };
+            self.give(channels, token);
+        }
+        self.firings += 1;
         true
     }
 }
