@@ -1,11 +1,17 @@
 ghost use Rattle.std.specs.Prelude.{◌≡◌, length, IfOk, IfErr};
 ghost use Rattle.pt_moml.specs.Document.{JobTree};
 ghost use Rattle.pt_graph.specs.Net.{IsNetOf};
+ghost use Rattle.pt_typing.specs.Least.{assignment};
+ghost use Rattle.pt_composite.specs.Fresh.{IsFresh};
 ghost use Rattle.pt_node.specs.Shown.{shown_node};
+ghost use Rattle.pt_node.specs.View.{node_of};
+ghost use Rattle.pt_build.specs.Trees.{IsTree, StartsAs};
+ghost use Rattle.pt_build.specs.Built.{IsBuilt};
 ghost use Rattle.pt_run.specs.Start.{IsRunnable};
 ghost use Rattle.pt_run.specs.Ports.{AreNumbered};
 ghost use Rattle.pt_cover.specs.Leaves.{ActorsAreLeaves};
 ghost use Rattle.pt_model.specs.Model.{IsModel};
+ghost use Rattle.pt_model.specs.Resolved.{IsStarted};
 ghost use Rattle.pt_model.specs.Refused.{FaultStands, fault_of};
 ghost use Rattle.pt_model.specs.declared.model.ModelFault.TheVariants as fault;
 
@@ -63,6 +69,33 @@ impl From<DocFault> for ModelFault {
     }
 }
 
+/// The model of a net with this tree.
+fn with_job(alloc: Global, net: &Net, started: &Started, top: Node) -> Result<Model, ModelFault>
+    requires started { IsStarted net.now started.now.values (assignment started.now.typing) started.now.starts.items }
+    requires tree { IsTree net.now (StartsAs started.now.starts.items) 0 (node_of (shown_node top)) }
+    requires built { IsBuilt net.now started.now.starts.items 0 (shown_node top) }
+    ensures top { IfOk result (λ model. model.top ≡ top) }
+    ensures model { IfOk result (λ model. IsModel net.now (shown_node model.top) model.job) }
+    ensures lists { IfOk result (λ model. length model.job.inputs.items ≡ length model.job.takes) }
+    ensures stands { IfErr result (FaultStands net.now) }
+{
+    let job = job_of(alloc, net, started, &top)?;
+    Ok(Model { top, job })
+}
+
+/// The model of a net whose entities start as these.
+fn model_with(alloc: Global, net: &Net, started: &Started) -> Result<Model, ModelFault>
+    requires { IsStarted net.now started.now.values (assignment started.now.typing) started.now.starts.items }
+    ensures model { IfOk result (λ model. IsModel net.now (shown_node model.top) model.job) }
+    ensures built { IfOk result (λ model. IsBuilt net.now started.now.starts.items 0 (shown_node model.top)) }
+    ensures fresh { IfOk result (λ model. IsFresh (shown_node model.top)) }
+    ensures lists { IfOk result (λ model. length model.job.inputs.items ≡ length model.job.takes) }
+    ensures stands { IfErr result (FaultStands net.now) }
+{
+    let top = tree_of(alloc, net, started)?;
+    with_job(alloc, net, started, top)
+}
+
 /// The model of the net of a job: its texts are evaluated, its types found, its actors started, its composites planned, and what the job supplies is put to the
 /// inputs of the top. Refuses a net for the first kind of fault that stands: values, types, places, plans, inputs. In the job only composites have entities within
 /// them, as in that of each document.
@@ -76,7 +109,5 @@ pub fn model_of(alloc: Global, net: &Net) -> Result<Model, ModelFault>
 {
     ports_are_numbered();
     let started = Started::of(alloc, net)?;
-    let top = tree_of(alloc, net, &started)?;
-    let job = job_of(alloc, net, &started, &top)?;
-    Ok(Model { top, job })
+    model_with(alloc, net, &started)
 }
