@@ -1,8 +1,6 @@
 -- What the tests together say: the channels are those of the definition, and no refusal stands.
 use Rattle.std.proofs.Common.{◌≡◌, ℕ, not, IsTrue, ◌↔◌, List, length, map, filter, sym, ap, subst, ◌∙◌, arith}
 use Rattle.std.specs.List.{Contains, AllZip}
-use Rattle.std.specs.Prelude.{Result, IfOk, Vec}
-use Rattle.std.proofs.lemmas.Result.{IfOk-weaker}
 use Rattle.pt_moml.specs.declared.code.Code.{Code}
 use Rattle.pt_moml.specs.declared.code.Code.TheVariants as code
 use Rattle.pt_moml.specs.declared.refusal.DocFault.{DocFault}
@@ -16,7 +14,7 @@ use Rattle.pt_graph.specs.Table.{PortAt, Tables, tables_of}
 use Rattle.pt_graph.specs.Wires.{is_input}
 use Rattle.pt_moml.specs.View.{input_view}
 use Rattle.pt_graph.specs.Standing.{Standing, is_kept, entities}
-use Rattle.pt_graph.specs.Net.{IsNetOf, entity_view, entity_tree, transparent_view, transparent_tree, wires, all_places, channel, IsChannel, IsChannelTo, Records}
+use Rattle.pt_graph.specs.Net.{IsNetOf, AreJoints, entity_view, entity_tree, transparent_view, transparent_tree, wires, all_places, channel, IsChannel, IsChannelTo, Records}
 use Rattle.pt_graph.specs.Stands.{IsLinkFault, names_nothing, twice_outside, twice_inside, no_source, no_link, no_link_inside, passed_on, no_channel, too_few_channels, IsTwoSources, IsRecordFault, names_no_port, repeated, IsTold, StandsIn, IsFaultIn}
 use Rattle.pt_graph.specs.Wiring.{AllNamed, AreOwned, AreFine, HaveChannels}
 use Rattle.pt_graph.specs.Sources.{HaveOneSource}
@@ -72,11 +70,9 @@ module _ (t : Tables) (one : HaveOneSource t) (own : AreOwned t) (fine : AreFine
   are_channels named enough = record { exactly = exactly; numbered = numbered; no_link_fault = no_link_fault named enough; no_two_sources = no_two_sources t one }
 
 -- the same where the program holds the tables behind references
-pub ok_channels : {A E : Type 0} (t u v : Tables) (r : Result (Vec Channel A) E) → u ≡ t → v ≡ u → AreOwned t → AllNamed t → AreFine u → HaveChannels u → HaveOneSource u → IfOk r (λ ks. AllZip (IsGoodChannel v) (all_places v) ks.items) → IfOk r (λ ks. AreChannels t ks.items)
-ok_channels t u v r e f own named fine enough one good =
-    IfOk-weaker r (λ ks. AllZip (IsGoodChannel t) (all_places t) ks.items) (λ ks. AreChannels t ks.items)
-    (λ ks g. are_channels t (subst HaveOneSource e one) own (subst AreFine e fine) ks.items g named (subst HaveChannels e enough))
-    (subst (λ (x : Tables). IfOk r (λ ks. AllZip (IsGoodChannel x) (all_places x) ks.items)) (f ∙ e) good)
+pub held_channels : (t u v : Tables) (channels : List Channel) → u ≡ t → v ≡ u → AreOwned t → AllNamed t → AreFine u → HaveChannels u → HaveOneSource u → AllZip (IsGoodChannel v) (all_places v) channels → AreChannels t channels
+held_channels t u v channels e f own named fine enough one good =
+    are_channels t (subst HaveOneSource e one) own (subst AreFine e fine) channels (subst (λ (x : Tables). AllZip (IsGoodChannel x) (all_places x) channels) (f ∙ e) good) named (subst HaveChannels e enough)
 
 -- what the tests of the links, and those of the relation groups, tell is a fault
 pub link_told : (t : Tables) (fault : DocFault) → IsTold code.Link (IsLinkFault t) fault → (records : List (List ℕ)) → IsFaultIn t records fault
@@ -113,12 +109,14 @@ none_stands t records channels recorded all few named distinct cause path = none
     none _ w = absurd w
 
 -- what the program makes of the tables of a job is its net
-pub net_of : (job : JobTree) (ss : List Standing) (t : Tables) (net : Net) → ss ≡ entities job → t ≡ tables_of job → map entity_view net.entities.items ≡ map entity_tree (filter is_kept ss) → map transparent_view net.transparent.items ≡ map transparent_tree (filter (λ s. not (is_kept s)) ss) → AreChannels t net.channels.items → map input_view net.inputs.items ≡ job.inputs → net.records.items ≡ job.records → AllZip (Records t) job.records net.recorded.items → IsNetOf job net
-net_of job ss t net e is made made_transparent all inputs records recorded = record {
+pub net_of : (job : JobTree) (ss : List Standing) (t : Tables) (net : Net) → ss ≡ entities job → t ≡ tables_of job → map entity_view net.entities.items ≡ map entity_tree (filter is_kept ss) → map transparent_view net.transparent.items ≡ map transparent_tree (filter (λ s. not (is_kept s)) ss) → AreChannels t net.channels.items → net.relation_count ≡ length t.relations → AreJoints t net.joints.items → map input_view net.inputs.items ≡ job.inputs → net.records.items ≡ job.records → AllZip (Records t) job.records net.recorded.items → IsNetOf job net
+net_of job ss t net e is made made_transparent all count joints inputs records recorded = record {
   each_entity = made ∙ ap (λ (xs : List Standing). map entity_tree (filter is_kept xs)) e;
   each_transparent = made_transparent ∙ ap (λ (xs : List Standing). map transparent_tree (filter (λ s. not (is_kept s)) xs)) e;
   channels = (subst (λ (u : Tables). AreChannels u net.channels.items) is all).exactly;
   numbered = (subst (λ (u : Tables). AreChannels u net.channels.items) is all).numbered;
+  relations = count ∙ ap (λ (u : Tables). length u.relations) is;
+  joints = subst (λ (u : Tables). AreJoints u net.joints.items) is joints;
   inputs = inputs;
   records = records;
   recorded = subst (λ (u : Tables). AllZip (Records u) job.records net.recorded.items) is recorded;

@@ -3,6 +3,7 @@ pub mod Groups
 pub mod Standing
 pub mod Table
 pub mod Wires
+pub mod Joints
 pub mod Net
 pub mod Stands
 pub mod Survey

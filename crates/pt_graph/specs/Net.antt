@@ -1,5 +1,5 @@
 -- The net of a job.
-use Rattle.std.specs.Prelude.{◌≡◌, ℕ, ◌↔◌, List, [], map, filter, Bool, IsTrue, not, ◌&&◌, Option, Some, None, option_map, unwrap_or, if◌then◌else◌, bytes_eq, codes}
+use Rattle.std.specs.Prelude.{◌≡◌, ℕ, ◌↔◌, List, [], length, map, filter, Bool, IsTrue, not, ◌&&◌, Option, Some, None, option_map, unwrap_or, if◌then◌else◌, bytes_eq, codes}
 use Rattle.std.specs.List.{AllZip, Contains, find, filter_map}
 use Rattle.std.specs.Option.{option_eq, is_none}
 use Rattle.pt_moml.specs.declared.job.State.{State}
@@ -11,12 +11,14 @@ use Rattle.pt_graph.specs.declared.wire.Wire.{Wire}
 use Rattle.pt_graph.specs.declared.net.End.{End}
 use Rattle.pt_graph.specs.declared.net.Channel.{Channel}
 use Rattle.pt_graph.specs.declared.net.NetPort.{NetPort}
+use Rattle.pt_graph.specs.declared.net.Joint.{Joint}
 use Rattle.pt_graph.specs.declared.net.NetDirector.{NetDirector}
 use Rattle.pt_graph.specs.declared.net.NetEntity.{NetEntity}
 use Rattle.pt_graph.specs.declared.net.Transparent.{Transparent}
 use Rattle.pt_graph.specs.declared.net.Net.{Net}
 use Rattle.pt_graph.specs.Standing.{Standing, is_kept, is_director, entities}
 use Rattle.pt_graph.specs.Table.{PortAt, Tables, joined_ports, tables_of, port_path}
+use Rattle.pt_graph.specs.Joints.{IsJointOf}
 use Rattle.pt_graph.specs.Wires.{wire_of, is_input, Place, places, Reaches}
 
 -- what the links join that name what is there
@@ -129,6 +131,10 @@ pub record IsChannelTo (t : Tables) (place : Place) (k : Channel) : Type 0 where
   pub reaches : ReachesIn t source source_at place
   pub is : k ≡ channel source_at place
 
+-- what each link joins, in the order of the document
+abbrev pub AreJoints : Tables → List Joint → Type 0
+AreJoints t joints = AllZip (IsJointOf t.ports) (wires t) joints
+
 -- a text names an output port of a library actor or an opaque composite
 pub record Names (t : Tables) (text : List ℕ) (p : PortAt) : Type 0 where
   pub there : Contains t.ports p
@@ -154,12 +160,14 @@ transparent_view t =
     record { path = t.path; parent = t.parent; within = t.within; ports = map view.port_view t.ports.items; parameters = view.properties_view t.parameters.items }
 
 -- the net of a job: its library actors and opaque composites, its transparent composites, and exactly its channels, in the
--- order of their places; what comes in and what is recorded
+-- order of their places; how many relations it has, and what its links join; what comes in and what is recorded
 pub record IsNetOf (job : JobTree) (net : Net) : Type 0 where
   pub each_entity : map entity_view net.entities.items ≡ map entity_tree (filter is_kept (entities job))
   pub each_transparent : map transparent_view net.transparent.items ≡ map transparent_tree (filter (λ s. not (is_kept s)) (entities job))
   pub channels : (k : Channel) → Contains net.channels.items k ↔ IsChannel (tables_of job) k
   pub numbered : AllZip (IsChannelTo (tables_of job)) (all_places (tables_of job)) net.channels.items
+  pub relations : net.relation_count ≡ length (tables_of job).relations
+  pub joints : AreJoints (tables_of job) net.joints.items
   pub inputs : map view.input_view net.inputs.items ≡ job.inputs
   pub records : net.records.items ≡ job.records
   pub recorded : AllZip (Records (tables_of job)) job.records net.recorded.items

@@ -3,17 +3,18 @@ ghost use Rattle.pt_moml.specs.declared.code.Code.{Code};
 ghost use Rattle.pt_moml.specs.declared.code.Code.TheVariants as code;
 ghost use Rattle.pt_moml.specs.Names.{top_path};
 ghost use Rattle.pt_moml.specs.View.{job_view};
-ghost use Rattle.pt_graph.specs.Net.{IsNetOf};
+ghost use Rattle.pt_graph.specs.Net.{AreJoints, IsNetOf};
 ghost use Rattle.pt_graph.specs.Stands.{IsTold, IsFaultIn, IsFaultOf, Stands};
 ghost use Rattle.pt_graph.specs.Survey.{tables_view};
 ghost use Rattle.pt_graph.specs.Wiring.{AreOwned};
 ghost use Rattle.pt_graph.specs.ChannelTable.{AreChannels, AreTooMany};
 
-use crate::channels::channels_of;
+use crate::channels::{channels_of, number};
 use crate::checks::{check_counts, check_ports};
 use crate::copies::{inputs, texts};
 use crate::entities::{net_entities, transparent_composites};
-use crate::net::{Channel, Net};
+use crate::joints::joints;
+use crate::net::{Channel, Joint, Net};
 use crate::origins::Origins;
 use crate::records::recorded;
 use crate::refusal::refused_at;
@@ -31,10 +32,19 @@ const MOST_CHANNELS: usize = 100_000;
 /// How many ports may be recorded.
 const MOST_RECORDS: usize = 10_000;
 
-/// The channels of a job with these tables. Refuses a link, a place without a source and a relation group with two.
-fn channels(alloc: Global, tables: &Tables) -> Result<Vec<Channel>, DocFault>
+/// The channels of a net, and what its links join.
+#[derive(Drop)]
+struct Passages {
+    channels: Vec<Channel>,
+    joints: Vec<Joint>,
+}
+
+/// The channels of a job with these tables, and what its links join. Refuses a link, a place without a source and a
+/// relation group with two.
+fn paths(alloc: Global, tables: &Tables) -> Result<Passages, DocFault>
     requires { AreOwned (tables_view tables.now) }
-    ensures ok { IfOk result (λ channels. AreChannels (tables_view tables.now) channels.items) }
+    ensures channels { IfOk result (λ paths. AreChannels (tables_view tables.now) paths.channels.items) }
+    ensures joints { IfOk result (λ paths. AreJoints (tables_view tables.now) paths.joints.items) }
     ensures told { IfErr result (λ fault. (records : List (List ℕ)) → IsFaultIn (tables_view tables.now) records fault) }
 {
     let wiring = Wiring::of(alloc, tables)?;
@@ -42,7 +52,9 @@ fn channels(alloc: Global, tables: &Tables) -> Result<Vec<Channel>, DocFault>
     check_counts(alloc, &wiring)?;
     check_groups(alloc, &wiring)?;
     let origins = Origins::of(alloc, &wiring)?;
-    channels_of(alloc, &origins)
+    let channels = channels_of(alloc, &origins)?;
+    let joints = joints(alloc, &wiring)?;
+    Ok(Passages { channels, joints })
 }
 
 /// Refuses too many channels or recorded ports.
@@ -70,13 +82,15 @@ pub fn flatten(alloc: Global, job: &Job) -> Result<Net, DocFault>
 {
     let entities = survey(alloc, job)?;
     let tables = tables_of(alloc, &entities)?;
-    let channels = channels(alloc, &tables)?;
-    check_limits(alloc, &channels, &job.records)?;
+    let paths = paths(alloc, &tables)?;
+    check_limits(alloc, &paths.channels, &job.records)?;
     let recorded = recorded(alloc, &tables, &job.records)?;
     Ok(Net {
         entities: net_entities(alloc, &entities)?,
         transparent: transparent_composites(alloc, &entities)?,
-        channels,
+        channels: paths.channels,
+        relation_count: number(tables.relations.len())?,
+        joints: paths.joints,
         inputs: inputs(alloc, &job.inputs)?,
         records: texts(alloc, &job.records)?,
         recorded,

@@ -7,6 +7,7 @@ mod copies;
 mod entities;
 mod flattening;
 mod groups;
+mod joints;
 mod names;
 mod net;
 mod origins;
@@ -21,5 +22,5 @@ mod wire;
 mod wiring;
 
 pub use flattening::flatten;
-pub use net::{Channel, End, Net, NetDirector, NetEntity, NetPort, Transparent};
+pub use net::{Channel, End, Joint, JointPort, Net, NetDirector, NetEntity, NetPort, Transparent};
 pub use refusal::shown;

@@ -25,6 +25,22 @@ pub struct NetPort {
     pub port: u32,
 }
 
+/// A port that links join. A transparent composite has its number among those.
+#[derive(Clone, Copy, Debug, PartialEq, Eq)]
+pub enum JointPort {
+    Entity { entity: u32, port: u32 },
+    Transparent { composite: u32, port: u32 },
+}
+
+/// What a link joins: a port and a relation, or two relations, which are numbered in the order of the document. An input
+/// takes tokens from a relation outside and gives them to one inside, an output the other way round.
+#[derive(Clone, Copy, Debug, PartialEq, Eq)]
+pub enum Joint {
+    Takes { port: JointPort, relation: u32 },
+    Gives { port: JointPort, relation: u32 },
+    Bond { first: u32, second: u32 },
+}
+
 /// The director of an opaque composite, by the class of its property.
 #[derive(Debug, Drop)]
 pub struct NetDirector {
@@ -62,13 +78,15 @@ pub struct Transparent {
 }
 
 /// A model as its library actors and opaque composites, in the order of the document with the top first, and the
-/// channels between their ports. The channels of each composite are in the order of their numbers. `recorded` has the
-/// port that each text of `records` names.
+/// channels between their ports. The channels of each composite are in the order of their numbers. `joints` has what each
+/// link joins, in the order of the document, and `recorded` the port that each text of `records` names.
 #[derive(Debug, Drop)]
 pub struct Net {
     pub entities: Vec<NetEntity>,
     pub transparent: Vec<Transparent>,
     pub channels: Vec<Channel>,
+    pub relation_count: u32,
+    pub joints: Vec<Joint>,
     pub inputs: Vec<Input>,
     pub records: Vec<Text>,
     pub recorded: Vec<NetPort>,
