@@ -82,6 +82,17 @@ pub(crate) fn gather(
     ensures rooms { length rooms.new.items ≡ length rooms.old.items }
     ensures counted { length lent.new.items ≡ length lent.old.items }
 {
+    if n == 1 {
+        // The common case, which needs no walk.
+        lend(
+            channels,
+            from as u32,
+            needs[from],
+            &mut rooms[from],
+            &mut lent[0],
+        );
+        return;
+    }
     for k in 0..n {
         let c = from + k;
         lend(channels, c as u32, needs[c], &mut rooms[c], &mut lent[k]);
