@@ -15,7 +15,7 @@ returns-then-n-eq1-clause-left c =
     (next-left X X o 0 (drop o c.args.needs.now) (sym (skip-zero o X)) _ _ (omega (arith, c.requires.needed, c.if-n-eq1.true, length-drop o c.args.needs.now)) (omega (arith, c.requires.places, c.if-n-eq1.true)) (sym (get_or-drop o c.args.needs.now 0 0)) taken)
 
 pub loop-k-init : goal.loop-k-init
-loop-k-init c = record { lent = refl; left = sym (skip-zero c.args.from c.args.channels.now.lists); others = λ c' h. refl; rooms = refl; counted = refl }
+loop-k-init c = record { lent = refl; left = sym (skip-zero c.args.from c.args.channels.now.lists); others = λ c' h. refl; rooms = refl; counted = c.lighten.ensures }
 
 pub lend-requires-in-loop-k-clause-given : goal.lend-requires-in-loop-k-clause-given
 lend-requires-in-loop-k-clause-given c = omega (arith, c.requires.places, c.loop-k-test.true, taken-long c.loop-k.channels.lists c.args.channels.now.lists c.args.from c.loop-k.k (drop c.args.from c.args.needs.now) c.loop-k.invariant.left)
