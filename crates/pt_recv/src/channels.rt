@@ -100,7 +100,7 @@ impl Channels {
         if is_clear(&self.fronts, &self.pool, c) {
             set_front(&mut self.fronts[c as usize], Token::Int(n));
         } else {
-            self.pool.push(c, Token::Int(n));
+            push_number(&mut self.pool, c, n);
         }
     }
 
@@ -239,6 +239,17 @@ fn kept_for(front: &Option<Token>) -> usize
         None => 0,
         Some(_) => 1,
     }
+}
+
+/// Puts a number into the region, where its channel isn't empty.
+#[inline(never)]
+fn push_number(pool: &mut Pool<Token>, c: u32, n: i64)
+    requires given { c < length pool.old.lists }
+    requires spare { 0 < spare_at pool.old.spares c }
+    ensures lists { pool.new.lists ≡ pushed pool.old.lists c (Int n) }
+    ensures spares { pool.new.spares ≡ lowered pool.old.spares c }
+{
+    pool.push(c, Token::Int(n));
 }
 
 #[inline(always)]

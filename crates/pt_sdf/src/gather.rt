@@ -1,4 +1,5 @@
-ghost use Rattle.std.specs.Prelude.{◌≡◌, ℕ, ◌+◌, ◌^◌, ◌<◌, ◌≤◌, ◌⊎◌, ◌++◌, length, take, drop, get_or, slice_set, None, vec_len, vec_capacity};
+ghost use Rattle.std.specs.Prelude.{◌≡◌, ℕ, ◌+◌, ◌^◌, ◌<◌, ◌≤◌, ◌⊎◌, ◌++◌, [], ◌∷◌, length, take, drop, get_or, slice_set, None, vec_len, vec_capacity};
+ghost use Rattle.pt_value.specs.declared.token.Token.TheVariants.{Int};
 ghost use Rattle.pt_recv.specs.Lines.{list_at, popped};
 ghost use Rattle.pt_meaning.specs.Kahn.{firsts};
 ghost use Rattle.pt_sdf.specs.ByNeed.{skip_at};
@@ -7,6 +8,7 @@ ghost use Rattle.pt_sdf.specs.Rooms.{HasRoom, HaveRooms};
 use pt_firing::Tokens;
 use pt_recv::Channels;
 use pt_value::Token;
+use std::mem;
 
 /// Takes the first `n` tokens of a channel into room that was made. It takes no memory.
 pub(crate) fn take_first(
@@ -65,6 +67,7 @@ pub(crate) fn gather(
     channels: &mut Channels,
     rooms: &mut Vec<Option<Vec<Token>>>,
     lent: &mut Vec<Tokens>,
+    heavy: &mut usize,
     needs: &[usize],
     from: usize,
     n: usize,
@@ -82,13 +85,65 @@ pub(crate) fn gather(
     ensures rooms { length rooms.new.items ≡ length rooms.old.items }
     ensures counted { length lent.new.items ≡ length lent.old.items }
 {
+    lighten(lent, heavy);
+    if n == 1 {
+        // The common case, which needs no walk.
+        lend(
+            channels,
+            from as u32,
+            needs[from],
+            &mut rooms[from],
+            &mut lent[0],
+            heavy,
+            1,
+        );
+        return;
+    }
     for k in 0..n {
         let c = from + k;
-        lend(channels, c as u32, needs[c], &mut rooms[c], &mut lent[k]);
+        lend(
+            channels,
+            c as u32,
+            needs[c],
+            &mut rooms[c],
+            &mut lent[k],
+            heavy,
+            k + 1,
+        );
     }
 }
 
+/// Lets go of what was lent before, where it isn't numbers alone.
+#[inline(always)]
+fn lighten(lent: &mut Vec<Tokens>, heavy: &mut usize)
+    ensures { length lent.new.items ≡ length lent.old.items }
+{
+    if *heavy > 0 {
+        clear(lent, *heavy);
+        *heavy = 0;
+    }
+}
+
+/// Lets go of what was lent at the first `n` places.
+#[inline(never)]
+fn clear(lent: &mut Vec<Tokens>, n: usize)
+    ensures { length lent.new.items ≡ length lent.old.items }
+{
+    for k in 0..n.min(lent.len()) {
+        lent[k] = Tokens::new();
+    }
+}
+
+/// Lends a number. What was lent at this place is a number or nothing, which has nothing to let go of.
+#[inline(always)]
+fn set_number(place: &mut Tokens, number: i64)
+    ensures { place.new ≡ Int number ∷ [] }
+{
+    mem::forget(mem::replace(place, Tokens::one(Token::Int(number))));
+}
+
 /// Lends the first `n` tokens of a channel, in place of what was lent before. A single number is the common case, and is written in place.
+/// Where it is anything else, the first `count` places are heavy.
 #[inline(always)]
 fn lend(
     channels: &mut Channels,
@@ -96,6 +151,8 @@ fn lend(
     n: usize,
     room: &mut Option<Vec<Token>>,
     place: &mut Tokens,
+    heavy: &mut usize,
+    count: usize,
 )
     requires given { c < length channels.old.lists }
     requires enough { n ≤ length (list_at channels.old.lists c) }
@@ -105,10 +162,11 @@ fn lend(
 {
     if n == 1 {
         if let Some(number) = channels.take_number(c) {
-            *place = Tokens::one(Token::Int(number));
+            set_number(place, number);
             return;
         }
     }
+    *heavy = count;
     lend_any(channels, c, n, room, place);
 }
 

@@ -1,7 +1,7 @@
 ghost use Rattle.std.specs.Prelude.{◌≡◌, ℕ, ◌<◌, ◌≤◌, [], ◌∷◌, length, map, get_or, OnOk, is_ok, if◌then◌else◌};
 ghost use Rattle.pt_value.specs.declared.token.Token.{Token};
 ghost use Rattle.pt_value.specs.declared.token.Token.TheVariants.{Int};
-ghost use Rattle.pt_recv.specs.Lines.{spare_at};
+ghost use Rattle.pt_recv.specs.Lines.{spare_at, pushed};
 ghost use Rattle.pt_meaning.specs.Rounds.{has_rates};
 ghost use Rattle.pt_sdf.specs.Feeds.{no_feed, target_of, put_back, AreThere, AreApart};
 
@@ -28,8 +28,22 @@ pub(crate) fn scatter_number(
     requires apart { AreApart feeds.now }
     ensures { channels.new.lists ≡ (if is_ok result then put_back (map target_of feeds.now) ((Int number ∷ []) ∷ []) channels.old.lists else channels.old.lists) }
 {
+    if feeds.len() == 1 {
+        return put_on_one(channels, feeds[0].channel, number);
+    }
     make_room(channels, feeds)?;
     put_on_each(channels, feeds, number);
+    Ok(())
+}
+
+/// Puts the number on the channel of a row that feeds no other: the common case, which needs no walk.
+#[inline(always)]
+fn put_on_one(channels: &mut Channels, c: u32, number: i64) -> Result<(), AllocError>
+    requires { c < length channels.old.lists }
+    ensures { channels.new.lists ≡ (if is_ok result then pushed channels.old.lists c (Int number) else channels.old.lists) }
+{
+    make_room_on(channels, c)?;
+    channels.put_number(c, number);
     Ok(())
 }
 

@@ -46,6 +46,10 @@ pub(crate) fn fill_rooms(
     ensures kept { (c : ℕ) → HasRoom (get_or needs.now c 0) (get_or rooms.old.items c None) → HasRoom (get_or needs.now c 0) (get_or rooms.new.items c None) }
     ensures made { OnOk result (HaveRooms needs.now rooms.new.items from n) }
 {
+    if n == 1 {
+        // The common case, which needs no walk.
+        return fill_room(alloc, &mut rooms[from], needs[from]);
+    }
     for k in 0..n {
         let c = from + k;
         fill_room(alloc, &mut rooms[c], needs[c])?;

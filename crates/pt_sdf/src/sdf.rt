@@ -46,6 +46,8 @@ pub struct Core {
     // Room for the tokens of each place of each child that needs several.
     rooms: Vec<Option<Vec<Token>>>,
     lent: Vec<Tokens>,
+    // At so many of the first places something else than a number may have been lent, which is to be let go of.
+    heavy: usize,
     staged: Queue,
     tag: Tag,
     turns: usize,
@@ -96,6 +98,7 @@ impl Core {
             channels: first.copy(alloc)?,
             rooms: rooms_for(alloc, plan.needs.as_slice())?,
             lent: empty_lists(alloc, plan.places.as_slice())?,
+            heavy: 0,
             staged: Queue::new(alloc),
             tag: ORIGIN,
             turns: 0,
@@ -160,6 +163,7 @@ impl Core {
             &mut self.channels,
             &mut self.rooms,
             &mut self.lent,
+            &mut self.heavy,
             self.plan.needs.as_slice(),
             from,
             n,
@@ -283,6 +287,7 @@ impl Core {
             channels: self.channels.copy(alloc)?,
             rooms: rooms_for(alloc, plan.needs.as_slice())?,
             lent: copies_of_lists(alloc, &self.lent)?,
+            heavy: self.heavy,
             staged: Queue::new(alloc),
             tag: self.tag,
             turns: self.turns,

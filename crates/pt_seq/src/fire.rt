@@ -228,7 +228,9 @@ fn fire_child(
     ensures counted { count_of (shown_node child.new) + left.new ≡ count_of (shown_node child.old) + left.old }
 {
     let Some(given) = quick(child, &core.lent()) else {
-        return fire_any(alloc, core, child, number, tag, left);
+        // In a place of its own, so that the turn of a number stays out of memory.
+        let turn = fire_any(alloc, core, child, number, tag, left);
+        return turn;
     };
     if *left == 0 {
         return Turn::Spent;

@@ -1,16 +1,27 @@
-use Rattle.std.proofs.Common.{◌≡◌, ℕ, ◌+◌, ◌<◌, ◌≤◌, ◌⊎◌, inl, inr, length, drop, get_or, None, refl, sym, ◌∙◌, subst, arith, length-set, length-drop}
+use Rattle.std.proofs.Common.{◌≡◌, ℕ, ◌+◌, ◌<◌, ◌≤◌, ◌⊎◌, inl, inr, [], length, take, drop, get_or, set, None, refl, sym, ◌∙◌, subst, arith, length-set, length-drop}
 use Rattle.std.proofs.lemmas.List.{take_more_set, get_or-set_other, get_or-drop}
+use Rattle.pt_sdf.specs.ByNeed.{skip_at}
 use Rattle.pt_sdf.proofs.Lists.{skip-zero, taken-long, next-list, next-left, next-taken}
 use Rattle.pt_sdf.proofs.gather.gather.Goals as goal
 
+pub returns-then-n-eq1-clause-left : goal.returns-then-n-eq1-clause-left
+returns-then-n-eq1-clause-left c =
+    let X = c.args.channels.now.lists in
+    let o = c.args.from in
+    let z : o ≡ o + 0 = omega arith in
+    let taken = subst (λ v. c.lend.new.channels.lists ≡ set X v (drop (get_or c.args.needs.now v 0) (get_or X v []))) z c.lend.ensures.lists in
+    let one : c.args.n ≡ 1 = omega (arith, c.if-n-eq1.true) in
+    subst (λ v. c.lend.new.channels.lists ≡ skip_at o (take v (drop o c.args.needs.now)) X) (sym one)
+    (next-left X X o 0 (drop o c.args.needs.now) (sym (skip-zero o X)) _ _ (omega (arith, c.requires.needed, c.if-n-eq1.true, length-drop o c.args.needs.now)) (omega (arith, c.requires.places, c.if-n-eq1.true)) (sym (get_or-drop o c.args.needs.now 0 0)) taken)
+
 pub loop-k-init : goal.loop-k-init
-loop-k-init c = record { lent = refl; left = sym (skip-zero c.args.from c.args.channels.now.lists); others = λ c' h. refl; rooms = refl; counted = refl }
+loop-k-init c = record { lent = refl; left = sym (skip-zero c.args.from c.args.channels.now.lists); others = λ c' h. refl; rooms = refl; counted = c.lighten.ensures }
 
-pub lend-requires-clause-given : goal.lend-requires-clause-given
-lend-requires-clause-given c = omega (arith, c.requires.places, c.loop-k-test.true, taken-long c.loop-k.channels.lists c.args.channels.now.lists c.args.from c.loop-k.k (drop c.args.from c.args.needs.now) c.loop-k.invariant.left)
+pub lend-requires-in-loop-k-clause-given : goal.lend-requires-in-loop-k-clause-given
+lend-requires-in-loop-k-clause-given c = omega (arith, c.requires.places, c.loop-k-test.true, taken-long c.loop-k.channels.lists c.args.channels.now.lists c.args.from c.loop-k.k (drop c.args.from c.args.needs.now) c.loop-k.invariant.left)
 
-pub lend-requires-clause-enough : goal.lend-requires-clause-enough
-lend-requires-clause-enough c =
+pub lend-requires-in-loop-k-clause-enough : goal.lend-requires-in-loop-k-clause-enough
+lend-requires-in-loop-k-clause-enough c =
     subst (λ v. get_or c.args.needs.now (c.args.from + c.loop-k.k) 0 ≤ length v) (sym (next-list c.loop-k.channels.lists c.args.channels.now.lists c.args.from c.loop-k.k (drop c.args.from c.args.needs.now) c.loop-k.invariant.left)) (c.requires.enough c.loop-k.k c.loop-k-test.true)
 
 pub loop-k-preserved : goal.loop-k-preserved
@@ -21,12 +32,12 @@ loop-k-preserved c =
     let n : get_or c.args.needs.now (c.args.from + k) 0 ≡ get_or (drop c.args.from c.args.needs.now) k 0 = sym (get_or-drop c.args.from c.args.needs.now k 0) in
     record {
       lent =
-          take_more_set c.loop-k.lent.items k c.lend.new.place (omega (arith, c.requires.lists, c.loop-k-test.true, c.loop-k.invariant.counted)) ∙
-          next-taken c.loop-k.channels.lists c.args.channels.now.lists c.args.from c.loop-k.k (drop c.args.from c.args.needs.now) c.loop-k.invariant.left _ _ _ h l n c.lend.ensures.taken c.loop-k.invariant.lent;
-      left = next-left c.loop-k.channels.lists c.args.channels.now.lists c.args.from c.loop-k.k (drop c.args.from c.args.needs.now) c.loop-k.invariant.left _ _ h l n c.lend.ensures.lists;
-      others = λ c' b. get_or-set_other c.loop-k.rooms.items (c.args.from + k) c' c.lend.new.room None (λ e. apart c.args.from k c' b e) ∙ c.loop-k.invariant.others c' (wider c.args.from k c' b);
-      rooms = length-set c.loop-k.rooms.items (c.args.from + k) c.lend.new.room ∙ c.loop-k.invariant.rooms;
-      counted = length-set c.loop-k.lent.items k c.lend.new.place ∙ c.loop-k.invariant.counted;
+          take_more_set c.loop-k.lent.items k c.lend-in-loop-k.new.place (omega (arith, c.requires.lists, c.loop-k-test.true, c.loop-k.invariant.counted)) ∙
+          next-taken c.loop-k.channels.lists c.args.channels.now.lists c.args.from c.loop-k.k (drop c.args.from c.args.needs.now) c.loop-k.invariant.left _ _ _ h l n c.lend-in-loop-k.ensures.taken c.loop-k.invariant.lent;
+      left = next-left c.loop-k.channels.lists c.args.channels.now.lists c.args.from c.loop-k.k (drop c.args.from c.args.needs.now) c.loop-k.invariant.left _ _ h l n c.lend-in-loop-k.ensures.lists;
+      others = λ c' b. get_or-set_other c.loop-k.rooms.items (c.args.from + k) c' c.lend-in-loop-k.new.room None (λ e. apart c.args.from k c' b e) ∙ c.loop-k.invariant.others c' (wider c.args.from k c' b);
+      rooms = length-set c.loop-k.rooms.items (c.args.from + k) c.lend-in-loop-k.new.room ∙ c.loop-k.invariant.rooms;
+      counted = length-set c.loop-k.lent.items k c.lend-in-loop-k.new.place ∙ c.loop-k.invariant.counted;
     }
   where
     apart : (o k c : ℕ) → (c < o) ⊎ (o + (k + 1) ≤ c) → c ≡ o + k → ⊥

@@ -33,11 +33,8 @@ invariant_of-self c =
       covered = covered-front fs c.self.inside.pool.lists c.self.inside.pool.spares c.args.c held.covered (Some (Int (to_z w64 (of_z w64 c.args.n)))) in_fronts some;
     }
 
-pub push-requires-clause-given : goal.push-requires-clause-given
-push-requires-clause-given c = in-lists _ _ _ _ c.self.invariant.lists c.self.invariant.spares c.self.invariant.fronts _ (ap (λ v. v.lists) c.self.view_is) c.args.c c.requires.given
-
-pub push-requires-clause-spare : goal.push-requires-clause-spare
-push-requires-clause-spare c = omega (arith, c.requires.spare, ap (λ v. get_or v.spares c.args.c 0) c.self.view_is, lessened-at c.self.inside.fronts.items c.self.inside.pool.spares c.args.c)
+pub push_number-requires-clause-spare : goal.push_number-requires-clause-spare
+push_number-requires-clause-spare c = omega (arith, c.requires.spare, ap (λ v. get_or v.spares c.args.c 0) c.self.view_is, lessened-at c.self.inside.fronts.items c.self.inside.pool.spares c.args.c)
 
 pub invariant_of-self-else-is_clear : goal.invariant_of-self-else-is_clear
 invariant_of-self-else-is_clear c =
@@ -51,7 +48,7 @@ invariant_of-self-else-is_clear c =
     let in_spares = in-spares _ _ _ _ held.lists held.spares held.fronts _ seen q c.requires.given in
     let some : 0 < get_or ss q 0 - kept_for (get_or fs q None) = omega (arith, c.requires.spare, ap (λ v. get_or v.spares q 0) c.self.view_is, lessened-at fs ss q) in
     let more : length (get_or ls q [] ++ (Int (to_z w64 (of_z w64 c.args.n))) ∷ []) + (get_or ss q 0 - 1) < 2 ^ 64 = omega (arith, some, length-append (get_or ls q []) ((Int (to_z w64 (of_z w64 c.args.n))) ∷ []), (held.covered q).counted) in
-    rw (c.push.ensures.lists, c.push.ensures.spares) record {
+    rw (c.push_number.ensures.lists, c.push_number.ensures.spares) record {
       lists = length-set ls q (get_or ls q [] ++ (Int (to_z w64 (of_z w64 c.args.n))) ∷ []) ∙ held.lists;
       spares = length-set ss q (get_or ss q 0 - 1) ∙ held.spares;
       fronts = held.fronts;
@@ -89,7 +86,7 @@ returns-else-is_clear-clause-lists c =
     let seen = ap (λ v. v.lists) c.self.view_is in
     let in_lists = in-lists _ _ _ _ held.lists held.spares held.fronts _ seen q c.requires.given in
     let in_fronts = in-fronts _ _ _ _ held.lists held.spares held.fronts _ seen q c.requires.given in
-    ap (joined fs) c.push.ensures.lists ∙ pushed-behind fs ls q in_fronts in_lists (Int (to_z w64 (of_z w64 c.args.n))) ∙ ap (λ v. pushed v q (Int (to_z w64 (of_z w64 c.args.n)))) seen ∙ ap (λ z. pushed c.args.self.now.lists q (Int z)) (to_z-of_z w64 c.args.n c.ranges.n)
+    ap (joined fs) c.push_number.ensures.lists ∙ pushed-behind fs ls q in_fronts in_lists (Int (to_z w64 (of_z w64 c.args.n))) ∙ ap (λ v. pushed v q (Int (to_z w64 (of_z w64 c.args.n)))) seen ∙ ap (λ z. pushed c.args.self.now.lists q (Int z)) (to_z-of_z w64 c.args.n c.ranges.n)
 
 pub returns-else-is_clear-clause-spares : goal.returns-else-is_clear-clause-spares
 returns-else-is_clear-clause-spares c =
@@ -98,4 +95,4 @@ returns-else-is_clear-clause-spares c =
     let ss = c.self.inside.pool.spares in
     let q = c.args.c in
     let in_fronts = in-fronts _ _ _ _ held.lists held.spares held.fronts _ (ap (λ v. v.lists) c.self.view_is) q c.requires.given in
-    ap (lessened fs) c.push.ensures.spares ∙ lowered-behind fs ss q in_fronts ∙ ap (λ v. lowered v.spares q) c.self.view_is
+    ap (lessened fs) c.push_number.ensures.spares ∙ lowered-behind fs ss q in_fronts ∙ ap (λ v. lowered v.spares q) c.self.view_is
