@@ -12,15 +12,14 @@ use Rattle.pt_expr.specs.Tree.{Tree}
 use Rattle.pt_graph.specs.declared.net.NetEntity.{NetEntity}
 use Rattle.pt_graph.specs.Net.{NetEntityTree, entity_view}
 use Rattle.pt_graph.proofs.Members.{contains_here, contains_later, contains_cases}
-use Rattle.pt_expr_text.specs.Text.{ReadsAs}
-use Rattle.pt_parameter.specs.Texts.{IsRead, names_in}
+use Rattle.pt_parameter.specs.Texts.{names_in}
 use Rattle.pt_values.specs.Valued.{EntityView}
 use Rattle.pt_typing.specs.declared.variable.Variable.TheVariants.{Port}
 use Rattle.pt_typing.specs.Views.{Inequality}
 use Rattle.pt_resolve.specs.Frames.{Frames}
 use Rattle.pt_resolve.specs.Inequalities.{below}
 use Rattle.pt_resolve.specs.ModalScopes.{ModalScope, modal_term, is_in_scope, IsReadIn}
-use Rattle.pt_resolve.specs.Modals.{IsReadAs, ActionTree, TransitionTrees, IsOutputRead, IsTransitionRead, Chart, of_action_at, of_action, of_actions, of_transitions, of_charts, IsModalAt, IsChartOf, IsChartIn, HasChart, AreCharts, IsChartAdded, kept, added}
+use Rattle.pt_resolve.specs.Modals.{IsParsedAs, IsReadAs, ActionTree, TransitionTrees, IsOutputRead, IsTransitionRead, Chart, of_action_at, of_action, of_actions, of_transitions, of_charts, IsModalAt, IsChartOf, IsChartIn, HasChart, AreCharts, IsChartAdded, kept, added}
 use Rattle.pt_resolve.proofs.Steps.{some-same}
 use Rattle.pt_resolve.proofs.DeclaredLaws.{All-left, All-right}
 
@@ -33,13 +32,13 @@ read-as s text (Some u) t r h = ap Some (sym (r.1 t h))
 pub is-read : (s : ModalScope) (text : List ℕ) (o : Option Tree) (t : Tree) → IsReadAs s text o → o ≡ Some t → IsReadIn s text t
 is-read s text o t r e = (subst (λ q. IsReadAs s text q) e r).0
 
--- what the reader finds, where its names are in scope
-pub read-in : (s : ModalScope) (text : List ℕ) (t : Tree) → IsRead text t → ((other : Tree) → ReadsAs text other → other ≡ t) → (o : Option Tree) → o ≡ (if list_all (is_in_scope s) (names_in t) then Some t else None) → IsReadAs s text o
-read-in s text t read only o is = subst (IsReadAs s text) (sym is) (by_test (list_all (is_in_scope s) (names_in t)) refl)
+-- what is read, where its names are in scope
+pub read-in : (s : ModalScope) (text : List ℕ) (t : Tree) → IsParsedAs text (Some t) → (o : Option Tree) → o ≡ (if list_all (is_in_scope s) (names_in t) then Some t else None) → IsReadAs s text o
+read-in s text t r o is = subst (IsReadAs s text) (sym is) (by_test (list_all (is_in_scope s) (names_in t)) refl)
   where
     by_test : (b : Bool) → list_all (is_in_scope s) (names_in t) ≡ b → IsReadAs s text (if b then Some t else None)
-    by_test true named = (record { is_read = read; named = named }, λ other r. only other r.is_read.reads)
-    by_test false strange = λ other r. both_ways (list_all (is_in_scope s) (names_in t)) strange (subst (λ u. list_all (is_in_scope s) (names_in u) ≡ true) (only other r.is_read.reads) r.named)
+    by_test true named = (record { is_read = r.0; named = named }, λ other q. r.1 other q.is_read)
+    by_test false strange = λ other q. both_ways (list_all (is_in_scope s) (names_in t)) strange (subst (λ u. list_all (is_in_scope s) (names_in u) ≡ true) (r.1 other q.is_read) q.named)
 
 -- ---- inequalities of output actions
 

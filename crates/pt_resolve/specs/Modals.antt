@@ -9,6 +9,7 @@ use Rattle.pt_moml.specs.Document.{PortTree, TransitionTree}
 use Rattle.pt_expr.specs.Tree.{Tree}
 use Rattle.pt_graph.specs.declared.net.Net.{Net}
 use Rattle.pt_graph.specs.Net.{NetEntityTree, entity_view}
+use Rattle.pt_parameter.specs.Texts.{IsRead}
 use Rattle.pt_values.specs.declared.values.Values.{Values}
 use Rattle.pt_values.specs.Valued.{EntityView}
 use Rattle.pt_values.specs.Valued as valued
@@ -63,7 +64,12 @@ refined es = of_children (map modal_ports es) 0 es
 
 -- ---- what texts read as
 
--- the one tree that reads as a text there, or none
+-- the one tree that reads as a text, or none
+abbrev pub IsParsedAs : List ℕ → Option Tree → Type 0
+IsParsedAs text (Some t) = IsRead text t × ((other : Tree) → IsRead text other → other ≡ t)
+IsParsedAs text None = (t : Tree) → IsRead text t → ⊥
+
+-- the same where its names are in scope
 abbrev pub IsReadAs : ModalScope → List ℕ → Option Tree → Type 0
 IsReadAs s text (Some t) = IsReadIn s text t × ((other : Tree) → IsReadIn s text other → other ≡ t)
 IsReadAs s text None = (t : Tree) → IsReadIn s text t → ⊥

@@ -5,7 +5,7 @@ ghost use Rattle.pt_moml.specs.View.{transition_view};
 ghost use Rattle.pt_expr.specs.Expr.{tree_of};
 ghost use Rattle.pt_parameter.specs.Texts.{names_in};
 ghost use Rattle.pt_resolve.specs.ModalScopes.{is_in_scope};
-ghost use Rattle.pt_resolve.specs.Modals.{IsReadAs, IsOutputRead, IsSetRead, IsTransitionRead};
+ghost use Rattle.pt_resolve.specs.Modals.{IsParsedAs, IsReadAs, IsOutputRead, IsSetRead, IsTransitionRead};
 ghost use Rattle.pt_resolve.specs.Views.{scope_view, action_view, transition_trees};
 
 use crate::modal_scope::ModalScope;
@@ -30,6 +30,18 @@ pub(crate) struct TransitionTrees {
     pub(crate) set: Vec<ActionTree>,
 }
 
+/// The tree that a text reads as, or `None` where it is too deep or no tree reads as it.
+fn parsed(alloc: Global, text: &str) -> Result<Option<Expr>, AllocError>
+    ensures { IfOk result (λ t. IsParsedAs text.now (option_map tree_of t)) }
+{
+    match parse(alloc, text) {
+        Ok(tree) => Ok(Some(tree)),
+        Err(ParseFault::Syntax) => Ok(None),
+        Err(ParseFault::Deep) => Ok(None),
+        Err(ParseFault::Memory) => Err(AllocError),
+    }
+}
+
 /// A tree, where all its names are in scope.
 fn in_scope(alloc: Global, scope: &ModalScope, tree: Expr) -> Result<Option<Expr>, AllocError>
     ensures { IfOk result (λ t. option_map tree_of t ≡ (if list_all (is_in_scope (scope_view scope.now)) (names_in (tree_of tree)) then Some (tree_of tree) else None)) }
@@ -41,14 +53,13 @@ fn in_scope(alloc: Global, scope: &ModalScope, tree: Expr) -> Result<Option<Expr
     }
 }
 
-/// The tree that a text reads as, or `None` where it is too deep, no tree reads as it, or one of its names isn't in scope.
+/// The tree that a text reads as, where all its names are in scope.
 fn read_text(alloc: Global, scope: &ModalScope, text: &str) -> Result<Option<Expr>, AllocError>
     ensures { IfOk result (λ t. IsReadAs (scope_view scope.now) text.now (option_map tree_of t)) }
 {
-    match parse(alloc, text) {
-        Ok(tree) => in_scope(alloc, scope, tree),
-        Err(ParseFault::Syntax | ParseFault::Deep) => Ok(None),
-        Err(ParseFault::Memory) => Err(AllocError),
+    match parsed(alloc, text)? {
+        Some(tree) => in_scope(alloc, scope, tree),
+        None => Ok(None),
     }
 }
 

@@ -12,7 +12,7 @@ returns-in-Some-clause-some c =
     let values = c.args.values.now in
     let a = assignment c.args.typing.now in
     let same = first-told net values a _ _ _ c.in_ok-frames.ensures c.deref.ensures.value c.deref-2.ensures.value in
-    λ k is. found-broken net values a k (sym same ∙ sym c.in_ok-first_broken.ensures ∙ c.in-Some.is ∙ is)
+    λ k is. found-broken net values a k (sym same ∙ sym c.in_ok-number.ensures ∙ c.in-Some.is ∙ is)
 
 pub returns-in-None-clause-some : goal.returns-in-None-clause-some
 returns-in-None-clause-some c =
@@ -30,5 +30,5 @@ returns-in-None-clause-none c =
     let a = assignment c.args.typing.now in
     let same = first-told net values a _ _ _ c.in_ok-frames.ensures c.deref.ensures.value c.deref-2.ensures.value in
     IfOk-weaker c.failing.result _ _
-    (λ found f is. none-broken net values a f.charts (charts-told net values _ _ _ f.charts c.in_ok-frames.ensures c.deref-3.ensures.value c.deref-4.ensures.value f.are) (sym f.is ∙ is) (sym same ∙ sym c.in_ok-first_broken.ensures ∙ c.in-None.is))
+    (λ found f is. none-broken net values a f.charts (charts-told net values _ _ _ f.charts c.in_ok-frames.ensures c.deref-3.ensures.value c.deref-4.ensures.value f.are) (sym f.is ∙ is) (sym same ∙ sym c.in_ok-number.ensures ∙ c.in-None.is))
     c.failing.ensures
