@@ -1,7 +1,8 @@
 pub mod Steps
 pub mod Parts
-pub mod PlainNets
 pub mod DeclaredBounds
+pub mod Passing
+pub mod ModalBreaks
 pub mod Breaks
 pub mod SaidNames
 pub mod SaidTypes
@@ -12,4 +13,8 @@ pub mod SaidChecked
 pub mod SaidTexts
 pub mod SaidExamples
 pub mod DeclaredLaws
+pub mod RefinementLaws
+pub mod ChartLaws
+pub mod NetTypings
 pub mod Examples
+pub mod ModalExamples

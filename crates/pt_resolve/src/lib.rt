@@ -2,12 +2,17 @@
 #![tactic(auto)]
 
 mod bounds;
+mod charts;
 mod declared;
 mod faults;
 mod frames;
 mod inequalities;
+mod modal_faults;
+mod modal_scope;
+mod modal_texts;
 mod place;
 mod plain;
+mod refinements;
 mod row;
 mod rows;
 mod said;
