@@ -1,0 +1,4 @@
+pub mod StreamLaws
+pub mod FlowLaws
+pub mod RoundLaws
+pub mod NodeLaws

@@ -1,0 +1,3 @@
+pub mod Signature
+pub mod TypedTree
+pub mod TypedRuns

@@ -1,0 +1,3 @@
+//! Laws of the types of tokens in a run: each is the contract of a public function, which has no code.
+#![tactic(auto)]
+
