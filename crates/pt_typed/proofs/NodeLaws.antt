@@ -12,7 +12,7 @@ use Rattle.pt_meaning.specs.Meetings.{Meets, below_child}
 use Rattle.pt_meaning.specs.Children.{Child, numbered, nodes, child_facts, with_number, child_step}
 use Rattle.pt_meaning.specs.Node.{Rows, Core, Sdf, Pn, Sr, De, Rv, Modal, Past, Answer, Gives, Fails, Node, Nodes, Actor, Composite, none, more, list_of, nodes_of, facts_of, as_node, director, step_at, actor_outcome, made_of, height, fired_at, Step}
 use Rattle.pt_meaning.specs.Job.{Schedule, Turn, Fire, Ends, Limit as AtLimit, Course, Standing, Goes, Ended, Halted, on_step, on_turn, goes_on, after, log_of, begin, meaning}
-use Rattle.pt_typed.specs.Signature.{Signature, Signatures, below, AreOf, IsTypedEvent, IsTypedLog}
+use Rattle.pt_typed.specs.Signature.{Signature, Signatures, below, AreOf, AreAllOf, IsTypedEvent, IsTypedLog}
 use Rattle.pt_typed.specs.TypedTree.{kinds_from, IsTypedSdf, IsTypedCore, IsTypedNode, AreTypedNodes}
 use Rattle.pt_typed.specs.TypedRuns.{ActorsKeepKinds, KindsWiden, IsTypedOutcome, StepsKeepKinds, AreTypedTurns, MeaningKeepsKinds}
 use Rattle.pt_typed.proofs.FlowLaws.{GoodOutcome, KeepsKinds, typed-silent, typed-then, typed-own}
@@ -77,7 +77,7 @@ module _ {T K A : Type 0} (Has : K → T → Type 0) (Below : K → K → Type 0
     as-node-typed (Stuck fs l) n X t g = within-typed sigs h.made l g
 
   module _ (sigs : Signatures K) (step : Stepping T (Child (Node T A))) (keeps : (i : ℕ) → KeepsKinds Has (below sigs i) (GoodChild sigs i) step) (k : ℕ) (ms : List Meeting) (tag : Tag) (h : Past) (c : Core T) (kids : Nodes T A) (inputs : Streams T) where
-    director-typed : (d : Core T) → IsTypedCore Has Below Fits sigs (length (list_of kids)) d → AreTypedNodes Has Below Fits sigs 0 kids → AreOf Has (sigs []).places inputs →
+    director-typed : (d : Core T) → IsTypedCore Has Below Fits sigs (length (list_of kids)) d → AreTypedNodes Has Below Fits sigs 0 kids → AreAllOf Has (sigs []).places inputs →
         IsTypedOutcome Has Below Fits rows sigs (director (child_facts (facts_of rows)) step k ms tag h c d (numbered 0 (list_of kids)) inputs)
     director-typed (Sdf p X) t s a =
         let Y = arrived p.net.sources inputs X in
@@ -90,7 +90,7 @@ module _ {T K A : Type 0} (Has : K → T → Type 0) (Below : K → K → Type 0
           (numbered-length 0 (list_of kids) ∙ sym t.places_counted)
           t.sized (numbered-good sigs 0 kids s) t.fed
           (omega (arith, t.room, arrived-length Has Below Fits widens sigs (GoodChild sigs) p.net.sources inputs X))
-          (arrived-of Has Below Fits widens sigs (GoodChild sigs) p.net.sources (kinds_from sigs 0 p.net.places) inputs X t.fed a t.held)
+          (arrived-of Has Below Fits widens sigs (GoodChild sigs) p.net.sources (kinds_from sigs 0 p.net.places) inputs X t.fed a.1 t.held)
           (fired_all m p.repetitions) _ k)
     director-typed (Pn p X) t s a = absurd t
     director-typed (Sr p) t s a = absurd t
@@ -98,11 +98,11 @@ module _ {T K A : Type 0} (Has : K → T → Type 0) (Below : K → K → Type 0
     director-typed (Rv p X) t s a = absurd t
     director-typed (Modal chart m) t s a = absurd t
 
-  actor-typed : (sigs : Signatures K) (tag : Tag) (h : Past) (a b : A) (inputs : Streams T) → Fits (sigs []) b → AreOf Has (sigs []).places inputs → (r : Answer T A) → rows.react tag b inputs ≡ r → IsTypedOutcome Has Below Fits rows sigs (actor_outcome tag h a r)
+  actor-typed : (sigs : Signatures K) (tag : Tag) (h : Past) (a b : A) (inputs : Streams T) → Fits (sigs []) b → AreAllOf Has (sigs []).places inputs → (r : Answer T A) → rows.react tag b inputs ≡ r → IsTypedOutcome Has Below Fits rows sigs (actor_outcome tag h a r)
   actor-typed sigs tag h a b inputs f i (Gives z out) e = let w = acts (sigs []) b z tag inputs out f i e in (w.1, w.0, typed-silent Has sigs)
   actor-typed sigs tag h a b inputs f i (Fails code) e = typed-silent Has sigs
 
-  pub level-typed : (sigs : Signatures K) (k d : ℕ) (m : Meets) (tag : Tag) (node : Node T A) (inputs : Streams T) → IsTypedNode Has Below Fits sigs node → AreOf Has (sigs []).places inputs → IsTypedOutcome Has Below Fits rows sigs (step_at rows k d m tag node inputs)
+  pub level-typed : (sigs : Signatures K) (k d : ℕ) (m : Meets) (tag : Tag) (node : Node T A) (inputs : Streams T) → IsTypedNode Has Below Fits sigs node → AreAllOf Has (sigs []).places inputs → IsTypedOutcome Has Below Fits rows sigs (step_at rows k d m tag node inputs)
   unfolding step_at
   level-typed sigs k zero m tag node inputs t a = typed-silent Has sigs
   level-typed sigs k (suc d) m tag (Actor h a b) inputs t i = actor-typed sigs tag h a b inputs t i (rows.react tag b inputs) refl
@@ -111,7 +111,7 @@ module _ {T K A : Type 0} (Has : K → T → Type 0) (Below : K → K → Type 0
       (λ j tag' s X g a. numbered-outcome sigs j s.number (step_at rows k d (below_child s.number m) tag' s.node X) g.0 (level-typed (below sigs j) k d (below_child s.number m) tag' s.node X g.1 a))
       k (m [] h.made) tag h c kids inputs e t.0 t.1 i
 
-  recorded-typed : (sigs : Signatures K) (n : ℕ) (tag : Tag) (inputs : Streams T) (r : Outcome T (Node T A)) → AreOf Has (sigs []).places inputs → IsTypedOutcome Has Below Fits rows sigs r → IsTypedOutcome Has Below Fits rows sigs (recorded n tag inputs r)
+  recorded-typed : (sigs : Signatures K) (n : ℕ) (tag : Tag) (inputs : Streams T) (r : Outcome T (Node T A)) → AreAllOf Has (sigs []).places inputs → IsTypedOutcome Has Below Fits rows sigs r → IsTypedOutcome Has Below Fits rows sigs (recorded n tag inputs r)
   recorded-typed sigs n tag inputs (Done s out l) a t = (t.0, t.1, typed-then Has sigs l (own (record { number = n; tag = tag; inputs = inputs; outputs = out })) t.2 (typed-own Has sigs n tag inputs out a t.1))
   recorded-typed sigs n tag inputs (Stuck fs l) a t = t
 
@@ -130,7 +130,7 @@ module _ {T K A : Type 0} (Has : K → T → Type 0) (Below : K → K → Type 0
   on-step-typed sigs c tag (Done top out l) t o = (o.0, typed-then Has sigs c.log l t o.2)
   on-step-typed sigs c tag (Stuck fs l) t o = typed-then Has sigs c.log l t o
 
-  turn-typed : (sigs : Signatures K) (k : ℕ) (m : Meets) (c : Course T A) (turn : Turn T) → IsTypedNode Has Below Fits sigs c.top → IsTypedLog Has sigs c.log → ((tag : Tag) (inputs : Streams T) → turn ≡ Fire tag inputs → AreOf Has (sigs []).places inputs) → IsTypedStanding sigs (on_turn k rows m c turn)
+  turn-typed : (sigs : Signatures K) (k : ℕ) (m : Meets) (c : Course T A) (turn : Turn T) → IsTypedNode Has Below Fits sigs c.top → IsTypedLog Has sigs c.log → ((tag : Tag) (inputs : Streams T) → turn ≡ Fire tag inputs → AreAllOf Has (sigs []).places inputs) → IsTypedStanding sigs (on_turn k rows m c turn)
   turn-typed sigs k m c (Fire tag inputs) t l a = on-step-typed sigs c tag (Step k rows m c.top tag inputs) l (steps-typed sigs k m c.top tag inputs t (a tag inputs refl))
   turn-typed sigs k m c (Ends e) t l a = l
   turn-typed sigs k m c AtLimit t l a = l

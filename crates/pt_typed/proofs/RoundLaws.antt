@@ -87,7 +87,7 @@ module _ {T K A S : Type 0} (Has : K → T → Type 0) (Below : K → K → Type
         let front = subst (λ v. AreOf Has places (take v X)) z.0 (take-of Has places rest X a) in
         let back = subst (λ v. AreOf Has rest (drop v X)) z.0 (drop-of Has places rest X a) in
         let long : length (take n X) ≡ n = length-take-within n X (omega (arith, r)) in
-        let f = flow-good Has (below sigs i) (Good i) facts (rated facts l.rates step) (rated-keeps Has (below sigs i) (Good i) facts step l.rates (keeps i)) tag (within l.firings k) s (take n X) g.0 front in
+        let f = flow-good Has (below sigs i) (Good i) facts (rated facts l.rates step) (rated-keeps Has (below sigs i) (Good i) facts step l.rates (keeps i)) tag (within l.firings k) s (take n X) g.0 (long ∙ sym z.0, front) in
         (subst (λ v. GoodFlow Has (below sigs i) (Good i) v (flow facts (rated facts l.rates step) tag (within l.firings k) s (take n X))) long f,
          flows-good (suc i) ns cs k ss (drop n X) (omega (arith, c)) (omega (arith, e)) z.1 g.1 (omega (arith, r, length-drop n X)) back)
 

@@ -78,16 +78,16 @@ module _ {T K : Type 0} (Has : K → T → Type 0) where
   abbrev pub FrontOf : List K → ℕ → Front T → Type 0
   FrontOf ks n Lacks = Unit {0}
   FrontOf ks n Ends = Unit {0}
-  FrontOf ks n (Takes got left) = AreOf Has ks got × AreOf Has ks left × (length left ≡ n)
+  FrontOf ks n (Takes got left) = AreOf Has ks got × AreOf Has ks left × (length left ≡ n) × (length got ≡ n)
 
   if-long-of : (b : Bool) (n : ℕ) (k : K) (ks : List K) (xs : List T) (m : ℕ) (f : Front T) → AllOf Has k xs → FrontOf ks m f → FrontOf (k ∷ ks) (suc m) (if_long b n xs f)
-  if-long-of true n k ks xs m (Takes got left) a b = ((all-take (Has k) n xs a, b.0), (all-drop (Has k) n xs a, b.1), ap (λ v. suc v) b.2)
+  if-long-of true n k ks xs m (Takes got left) a b = ((all-take (Has k) n xs a, b.0), (all-drop (Has k) n xs a, b.1), ap (λ v. suc v) b.2, ap (λ v. suc v) b.3)
   if-long-of true n k ks xs m Lacks a b = tt
   if-long-of true n k ks xs m Ends a b = tt
   if-long-of false n k ks xs m f a b = tt
 
   pub counted-of : (ns : List ℕ) (ks : List K) (X : Streams T) → AreOf Has ks X → FrontOf ks (length X) (counted ns X)
-  counted-of [] ks [] a = (tt, tt, refl)
+  counted-of [] ks [] a = (tt, tt, refl, refl)
   counted-of (n ∷ ns) [] (xs ∷ X) a = absurd a
   counted-of (n ∷ ns) (k ∷ ks) (xs ∷ X) a = if-long-of (nat_le n (length xs)) n k ks xs (length X) (counted ns X) a.0 (counted-of ns ks X a.1)
   counted-of [] ks (xs ∷ X) a = tt

@@ -1,5 +1,5 @@
 -- Signatures: of which kind the tokens at each place and on each output of a node are. A kind says of each token whether it is of it.
-use Rattle.std.specs.Prelude.{◌≡◌, ℕ, List, [], ◌∷◌, Option, Some, None}
+use Rattle.std.specs.Prelude.{◌≡◌, ℕ, List, [], ◌∷◌, length}
 use Rattle.std.specs.List.{AllByRecursion}
 use Rattle.pt_meaning.specs.Basics.{Streams, Log, Path, Firing, Event, Finished, Met}
 
@@ -26,9 +26,13 @@ module _ {T K : Type 0} (Has : K → T → Type 0) where
   AreOf [] (xs ∷ X) = ⊥
   AreOf (k ∷ ks) (xs ∷ X) = AllOf k xs × AreOf ks X
 
+  -- and just as many
+  abbrev pub AreAllOf : List K → Streams T → Type 0
+  AreAllOf ks X = (length X ≡ length ks) × AreOf ks X
+
   -- a finished firing took and gave tokens of these kinds only
   abbrev pub IsTypedEvent : Signature K → Event T → Type 0
-  IsTypedEvent s (Finished within f) = AreOf s.places f.inputs × AreOf s.outputs f.outputs
+  IsTypedEvent s (Finished within f) = AreAllOf s.places f.inputs × AreOf s.outputs f.outputs
   IsTypedEvent s (Met within n m) = Unit {0}
 
   -- so did each finished firing of a log, by the signature of its path

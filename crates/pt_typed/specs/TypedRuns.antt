@@ -5,13 +5,13 @@ use Rattle.pt_meaning.specs.Machine.{Done, Stuck, Outcome}
 use Rattle.pt_meaning.specs.Meetings.{Meets}
 use Rattle.pt_meaning.specs.Node.{Rows, Node, Gives, Step}
 use Rattle.pt_meaning.specs.Job.{Schedule, Fire, meaning}
-use Rattle.pt_typed.specs.Signature.{Signature, Signatures, AreOf, IsTypedLog}
+use Rattle.pt_typed.specs.Signature.{Signature, Signatures, AreOf, AreAllOf, IsTypedLog}
 use Rattle.pt_typed.specs.TypedTree.{IsTypedNode}
 
 module _ {T K A : Type 0} (Has : K → T → Type 0) (Below : K → K → Type 0) (Fits : Signature K → A → Type 0) (rows : Rows T A) where
   -- An actor that fits a signature keeps to it, whatever it fires: on inputs of the kinds of its places it gives tokens of those of its outputs, and fits it again.
   abbrev pub ActorsKeepKinds : Type 0
-  ActorsKeepKinds = (s : Signature K) (a b : A) (tag : Tag) (X out : Streams T) → Fits s a → AreOf Has s.places X → rows.react tag a X ≡ Gives b out → AreOf Has s.outputs out × Fits s b
+  ActorsKeepKinds = (s : Signature K) (a b : A) (tag : Tag) (X out : Streams T) → Fits s a → AreAllOf Has s.places X → rows.react tag a X ≡ Gives b out → AreOf Has s.outputs out × Fits s b
 
   -- what is of a kind below another is of that too
   abbrev pub KindsWiden : Type 0
@@ -24,11 +24,11 @@ module _ {T K A : Type 0} (Has : K → T → Type 0) (Below : K → K → Type 0
 
   -- so is each firing of a typed node on inputs of the kinds of its places
   abbrev pub StepsKeepKinds : Type 0
-  StepsKeepKinds = (sigs : Signatures K) (k : ℕ) (m : Meets) (node : Node T A) (tag : Tag) (inputs : Streams T) → IsTypedNode Has Below Fits sigs node → AreOf Has (sigs []).places inputs → IsTypedOutcome sigs (Step k rows m node tag inputs)
+  StepsKeepKinds = (sigs : Signatures K) (k : ℕ) (m : Meets) (node : Node T A) (tag : Tag) (inputs : Streams T) → IsTypedNode Has Below Fits sigs node → AreAllOf Has (sigs []).places inputs → IsTypedOutcome sigs (Step k rows m node tag inputs)
 
   -- the job asks for firings of the top on inputs of the kinds of its places
   abbrev pub AreTypedTurns : Signatures K → Schedule T A → Type 0
-  AreTypedTurns sigs plan = (fired : ℕ) (last : Option Tag) (top : Node T A) (tag : Tag) (inputs : Streams T) → plan fired last top ≡ Fire tag inputs → AreOf Has (sigs []).places inputs
+  AreTypedTurns sigs plan = (fired : ℕ) (last : Option Tag) (top : Node T A) (tag : Tag) (inputs : Streams T) → plan fired last top ≡ Fire tag inputs → AreAllOf Has (sigs []).places inputs
 
   -- the log of such a job keeps to the signatures, at each fuel
   abbrev pub MeaningKeepsKinds : Type 0
