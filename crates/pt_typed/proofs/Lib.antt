@@ -5,3 +5,6 @@ pub mod NodeLaws
 pub mod TypeLaws
 pub mod RecordLaws
 pub mod DataLaws
+pub mod FlowActorLaws
+pub mod ActorLaws
+pub mod TypedRunLaws

@@ -1,3 +1,8 @@
-//! Laws of the types of tokens in a run: each is the contract of a public function, which has no code.
+//! Laws of the types of tokens in a run: a checked model never meets a value of the wrong type. Each is the contract of a public function, which has no code.
 #![tactic(auto)]
 
+mod laws;
+
+pub use laws::{
+    first_tokens_are_typed, rows_keep_types, typed_runs_keep_types, typed_steps_keep_types,
+};

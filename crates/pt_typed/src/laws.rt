@@ -1,0 +1,21 @@
+ghost use Rattle.pt_typed.specs.Laws.{RowsKeepTypes, FirstTokensAreTyped, TypedStepsKeepTypes, TypedRunsKeepTypes};
+
+/// An actor whose row is met by the types of its places and outputs keeps to them, whatever it fires.
+pub fn rows_keep_types()
+    ensures { RowsKeepTypes }
+{}
+
+/// Its first tokens are of the type of each of its outputs.
+pub fn first_tokens_are_typed()
+    ensures { FirstTokensAreTyped }
+{}
+
+/// In a tree of SDF composites and typed actors along whose channels types go up, each firing keeps to the types.
+pub fn typed_steps_keep_types()
+    ensures { TypedStepsKeepTypes }
+{}
+
+/// So does the log of a job, at each fuel.
+pub fn typed_runs_keep_types()
+    ensures { TypedRunsKeepTypes }
+{}
