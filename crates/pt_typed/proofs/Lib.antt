@@ -8,3 +8,5 @@ pub mod DataLaws
 pub mod FlowActorLaws
 pub mod ActorLaws
 pub mod TypedRunLaws
+pub mod NetLaws
+pub mod TreeLaws

@@ -6,3 +6,6 @@ pub mod TypedData
 pub mod TypedFlow
 pub mod TypedActor
 pub mod Laws
+pub mod NetTypes
+pub mod TempTrees
+pub mod TypedNet
