@@ -10,3 +10,4 @@ pub mod ActorLaws
 pub mod TypedRunLaws
 pub mod NetLaws
 pub mod TreeLaws
+pub mod Examples

@@ -1,4 +1,5 @@
 ghost use Rattle.pt_typed.specs.Laws.{RowsKeepTypes, FirstTokensAreTyped, TypedStepsKeepTypes, TypedRunsKeepTypes};
+ghost use Rattle.pt_typed.specs.TypedNet.{TreesAreTyped, NetsKeepTypes};
 
 /// An actor whose row is met by the types of its places and outputs keeps to them, whatever it fires.
 pub fn rows_keep_types()
@@ -18,4 +19,14 @@ pub fn typed_steps_keep_types()
 /// So does the log of a job, at each fuel.
 pub fn typed_runs_keep_types()
     ensures { TypedRunsKeepTypes }
+{}
+
+/// The tree of a net is typed by the types of its ports: where its channels stand in order, types go up along them, and each actor's row is met.
+pub fn trees_are_typed()
+    ensures { TreesAreTyped }
+{}
+
+/// A run of the tree of such a net never meets a token of another type than its port's.
+pub fn tokens_are_typed()
+    ensures { NetsKeepTypes }
 {}

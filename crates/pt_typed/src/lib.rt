@@ -4,5 +4,6 @@
 mod laws;
 
 pub use laws::{
-    first_tokens_are_typed, rows_keep_types, typed_runs_keep_types, typed_steps_keep_types,
+    first_tokens_are_typed, rows_keep_types, tokens_are_typed, trees_are_typed,
+    typed_runs_keep_types, typed_steps_keep_types,
 };
