@@ -11,3 +11,6 @@ pub mod TypedRunLaws
 pub mod NetLaws
 pub mod TreeLaws
 pub mod Examples
+pub mod FlowStarts
+pub mod DataStarts
+pub mod PortFacts

@@ -23,7 +23,8 @@ use Rattle.pt_typing.specs.declared.variable.Variable.TheVariants as variable
 use Rattle.pt_typing.specs.Least.{Assignment}
 use Rattle.pt_typed.specs.Signature.{Signature, Signatures, below}
 use Rattle.pt_typed.specs.TypedTree.{kind_of, kinds_from, AreSized, IsFed, AreFed}
-use Rattle.pt_typed.specs.NetTypes.{source_type, place_type, TypesGoUp, arrivals, goes_out, departures, number_if, port_numbers, port_types, by_director, types_of, types_at, entity_at, types_below, BeginsIn, at_own, at_child, IsWired}
+use Rattle.pt_cover.specs.Paths.{entity_at}
+use Rattle.pt_typed.specs.NetTypes.{source_type, place_type, TypesGoUp, arrivals, goes_out, departures, number_if, port_numbers, port_types, by_director, types_of, types_at, types_below, BeginsIn, at_own, at_child, IsWired}
 
 -- ---- lists
 

@@ -32,7 +32,7 @@ use Rattle.pt_plan.specs.PlanOf.{IsPlanOf}
 use Rattle.pt_node.specs.View.{Tree}
 use Rattle.pt_composite.specs.Around.{IsInsideOf}
 use Rattle.pt_composite.specs.Rates.{rates_of}
-use Rattle.pt_typed.specs.TempTrees.{Starts, StartsAs, IsEntity, has_sdf, is_sdf, around_in, IsTree, of_actor, of_sdf, AreTrees, no_trees, more_trees}
+use Rattle.pt_build.specs.Trees.{Starts, StartsAs, IsEntity, has_sdf, is_sdf, around_in, IsTree, of_actor, of_sdf, AreTrees, no_trees, more_trees}
 use Rattle.pt_typed.specs.Signature.{Signature, Signatures, below, AreOf, AreAllOf, IsTypedLog}
 use Rattle.pt_typed.specs.TokenTypes.{IsTokenOf}
 use Rattle.pt_typed.specs.TypedActor.{MeetsRow, IsTypedActor}

@@ -7,5 +7,5 @@ pub mod TypedFlow
 pub mod TypedActor
 pub mod Laws
 pub mod NetTypes
-pub mod TempTrees
 pub mod TypedNet
+pub mod NetRows

@@ -13,6 +13,7 @@ use Rattle.pt_graph.specs.declared.net.NetEntity.{NetEntity}
 use Rattle.pt_wiring.specs.Inside.{children_of, comes_to, channels_in, is_input, is_output}
 use Rattle.pt_typing.specs.declared.variable.Variable.TheVariants as variable
 use Rattle.pt_typing.specs.Least.{Assignment}
+use Rattle.pt_cover.specs.Paths.{entity_at}
 use Rattle.pt_typed.specs.Signature.{Signature, Signatures}
 
 -- ---- channels
@@ -68,11 +69,6 @@ types_of net typing k (Some e) =
 abbrev pub types_at : Net → Assignment → Option ℕ → Signature Datatype
 types_at net typing None = record { places = []; outputs = [] }
 types_at net typing (Some k) = types_of net typing k (slice_get net.entities.items k)
-
--- the entity to which a path leads from entity k
-abbrev pub entity_at : List NetEntity → ℕ → Path → Option ℕ
-entity_at es k [] = Some k
-entity_at es k (i ∷ p) = option_and_then (λ c. entity_at es c p) (slice_get (children_of es k) i)
 
 -- the types of each node of the tree of the net from entity k on
 abbrev pub types_below : Net → Assignment → ℕ → Signatures Datatype

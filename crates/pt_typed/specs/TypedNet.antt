@@ -11,7 +11,7 @@ use Rattle.pt_typing.specs.Least.{Assignment}
 use Rattle.pt_library.specs.declared.library_actor.LibraryActor.{LibraryActor}
 use Rattle.pt_library.specs.LibraryActor.{rows}
 use Rattle.pt_node.specs.View.{Tree}
-use Rattle.pt_typed.specs.TempTrees.{Starts, StartsAs, IsTree}
+use Rattle.pt_build.specs.Trees.{Starts, StartsAs, IsTree}
 use Rattle.pt_typed.specs.Signature.{AreAllOf, IsTypedLog}
 use Rattle.pt_typed.specs.TokenTypes.{IsTokenOf}
 use Rattle.pt_typed.specs.TypedActor.{MeetsRow, IsTypedActor}
