@@ -14,3 +14,6 @@ pub mod Examples
 pub mod FlowStarts
 pub mod DataStarts
 pub mod PortFacts
+pub mod ClassPorts
+pub mod FlowClasses
+pub mod DataClasses
