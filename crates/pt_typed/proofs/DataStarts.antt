@@ -82,7 +82,7 @@ function-asked places outputs class.RecordDisassembler values ports f e h = let 
 function-asked places outputs class.SequenceToArray values ports f e h = let w = mapped SequenceToArray (sequence_to_array.start values) f e in subst (IsTypedFunction places outputs) w.2 h
 function-asked places outputs class.StringLength values ports f e h = let same : StringLength ≡ f = cc in subst (IsTypedFunction places outputs) same h
 
-with-needs : (ports : List (List ℕ × ℕ)) (o : Option Function) (a : DataActor) → with_needs ports o ≡ Some a → (f : Function) × (o ≡ Some f) × (a.function ≡ f)
+pub with-needs : (ports : List (List ℕ × ℕ)) (o : Option Function) (a : DataActor) → with_needs ports o ≡ Some a → (f : Function) × (o ≡ Some f) × (a.function ≡ f)
 with-needs ports None a e = absurd (cc)
 with-needs ports (Some f) a e = (f, refl, sym (some-function _ a e))
   where

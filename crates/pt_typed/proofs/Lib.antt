@@ -17,3 +17,4 @@ pub mod PortFacts
 pub mod ClassPorts
 pub mod FlowClasses
 pub mod DataClasses
+pub mod RowsMet

@@ -146,7 +146,7 @@ all-filtered P test [] a = tt
 all-filtered P test (x ∷ xs) a = filtered-by P test x (filter test xs) (test x) refl a.0 (all-filtered P test xs a.1)
 
 -- the types of the channels that end at an entity
-types-at-ends : (typing : Assignment) (k : ℕ) (cs : List Channel) → AllByRecursion (λ (c : Channel). c.to.entity ≡ k) cs → map (place_type typing) cs ≡ port_types typing k (map (λ (c : Channel). c.to.port) cs)
+pub types-at-ends : (typing : Assignment) (k : ℕ) (cs : List Channel) → AllByRecursion (λ (c : Channel). c.to.entity ≡ k) cs → map (place_type typing) cs ≡ port_types typing k (map (λ (c : Channel). c.to.port) cs)
 types-at-ends typing k [] a = refl
 types-at-ends typing k (c ∷ cs) a = ap₂ (λ t ts. t ∷ ts) (ap (λ n. typing.types (variable.Port n c.to.port)) a.0) (types-at-ends typing k cs a.1)
 
@@ -154,9 +154,16 @@ all-implied : {X : Type 0} (P Q : X → Type 0) → ((x : X) → P x → Q x) �
 all-implied P Q h [] a = tt
 all-implied P Q h (x ∷ xs) a = (h x a.0, all-implied P Q h xs a.1)
 
-and-first : (a b : Bool) → (a && b) ≡ true → a ≡ true
+pub and-first : (a b : Bool) → (a && b) ≡ true → a ≡ true
 and-first true b e = refl
 and-first false b e = e
+
+-- what comes to an entity ends there
+pub ends-of : (net : Net) (k : ℕ) → AllByRecursion (λ (c : Channel). c.to.entity ≡ k) (arrivals net.channels.items k)
+ends-of net k =
+    let ks = net.channels.items in
+    all-implied (λ (x : Channel). Contains ks x × (comes_to k x ≡ true)) (λ (x : Channel). x.to.entity ≡ k) (λ x h. eqb-true x.to.entity k (and-first (nat_eq x.to.entity k) (not (nat_eq x.composite k)) h.1)) (arrivals ks k)
+    (all-filtered (Contains ks) (comes_to k) ks (recursion_from_All (Contains ks) ks (All-contains_itself ks)))
 
 module _ (net : Net) (typing : Assignment) (wired : IsWired net) where
   abbrev es : List NetEntity

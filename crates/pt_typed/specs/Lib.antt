@@ -9,3 +9,4 @@ pub mod Laws
 pub mod NetTypes
 pub mod TypedNet
 pub mod NetRows
+pub mod RowLaw
