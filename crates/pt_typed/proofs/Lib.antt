@@ -18,3 +18,4 @@ pub mod ClassPorts
 pub mod FlowClasses
 pub mod DataClasses
 pub mod RowsMet
+pub mod TypedNets

@@ -1,5 +1,6 @@
 ghost use Rattle.pt_typed.specs.Laws.{RowsKeepTypes, FirstTokensAreTyped, TypedStepsKeepTypes, TypedRunsKeepTypes};
 ghost use Rattle.pt_typed.specs.TypedNet.{TreesAreTyped, NetsKeepTypes};
+ghost use Rattle.pt_typed.specs.RowLaw.{TypingsGoUp, PlainRowsAreMet, TypedNetsKeepTypes};
 
 /// An actor whose row is met by the types of its places and outputs keeps to them, whatever it fires.
 pub fn rows_keep_types()
@@ -21,12 +22,27 @@ pub fn typed_runs_keep_types()
     ensures { TypedRunsKeepTypes }
 {}
 
-/// The tree of a net is typed by the types of its ports: where its channels stand in order, types go up along them, and each actor's row is met.
+/// The tree of a net is typed by the types of its ports: where its channels stand in order, types go up along them, and the row of each actor is met.
 pub fn trees_are_typed()
     ensures { TreesAreTyped }
 {}
 
-/// A run of the tree of such a net never meets a token of another type than its port's.
-pub fn tokens_are_typed()
+/// The log of a run of such a tree keeps to the types of the ports.
+pub fn nets_keep_types()
     ensures { NetsKeepTypes }
+{}
+
+/// Along each channel of a net its typing goes up.
+pub fn typings_go_up()
+    ensures { TypingsGoUp }
+{}
+
+/// The typing of a net meets the row of each actor that makes what it gives of its inputs, of numbers and of truth values.
+pub fn plain_rows_are_met()
+    ensures { PlainRowsAreMet }
+{}
+
+/// A run of the tree of a net never meets a token of another type than its port's.
+pub fn tokens_are_typed()
+    ensures { TypedNetsKeepTypes }
 {}

@@ -1,0 +1,27 @@
+-- A run of the tree of a net with its typing.
+use Rattle.std.proofs.Common.{◌≡◌, ℕ, Bool, true, false, refl, []}
+use Rattle.pt_graph.specs.declared.net.Net.{Net}
+use Rattle.pt_values.specs.declared.values.Values.{Values}
+use Rattle.pt_typing.specs.Least.{Assignment}
+use Rattle.pt_resolve.specs.Typing.{IsTyping}
+use Rattle.pt_library.specs.declared.library_actor.LibraryActor.{LibraryActor}
+use Rattle.pt_build.specs.Trees.{Starts, StartsAs}
+use Rattle.pt_typed.specs.TypedActor.{MeetsRow}
+use Rattle.pt_typed.specs.NetTypes.{types_below}
+use Rattle.pt_typed.specs.NetRows.{HaveClassPorts, is_plain_actor}
+use Rattle.pt_typed.specs.TypedNet.{MeetRows}
+use Rattle.pt_typed.specs.RowLaw.{AreStartedIn, MeetOtherRows, TypedNetsKeepTypes}
+use Rattle.pt_typed.proofs.PortFacts.{channels-go-up}
+use Rattle.pt_typed.proofs.RowsMet.{plain-rows-met}
+use Rattle.pt_typed.proofs.TreeLaws.{nets-keep-types}
+
+meet-rows : (net : Net) (values : Values) (typing : Assignment) (starts : Starts) → HaveClassPorts net → IsTyping net values typing → AreStartedIn net values typing starts → MeetOtherRows net typing starts → MeetRows net typing starts
+meet-rows net values typing starts have typed started others k a is = by_test (is_plain_actor a) refl
+  where
+    by_test : (b : Bool) → is_plain_actor a ≡ b → MeetsRow (types_below net typing k []) a
+    by_test true p = let w = started k a is in plain-rows-met net values typing k w.0 a w.1 w.2 (have k w.0 w.1 w.2) typed w.3 p
+    by_test false p = others k a is p
+
+pub typed-nets-keep-types : TypedNetsKeepTypes
+typed-nets-keep-types net values typing starts top wired have typed started others is iterations takes inputs e a k =
+    nets-keep-types net typing starts top wired (channels-go-up net values typing typed) (meet-rows net values typing starts have typed started others) is iterations takes inputs e a k
