@@ -19,3 +19,5 @@ pub mod FlowClasses
 pub mod DataClasses
 pub mod RowsMet
 pub mod TypedNets
+pub mod SeedLaws
+pub mod SeededRows

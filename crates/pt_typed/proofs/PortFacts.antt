@@ -32,11 +32,11 @@ use Rattle.pt_typed.specs.NetTypes.{source_type, place_type, TypesGoUp}
 
 -- ---- lists
 
-all-front : {X : Type 0} (P : X → Type 0) (xs ys : List X) → AllByRecursion P (xs ++ ys) → AllByRecursion P xs
+pub all-front : {X : Type 0} (P : X → Type 0) (xs ys : List X) → AllByRecursion P (xs ++ ys) → AllByRecursion P xs
 all-front P [] ys a = tt
 all-front P (x ∷ xs) ys a = (a.0, all-front P xs ys a.1)
 
-all-back : {X : Type 0} (P : X → Type 0) (xs ys : List X) → AllByRecursion P (xs ++ ys) → AllByRecursion P ys
+pub all-back : {X : Type 0} (P : X → Type 0) (xs ys : List X) → AllByRecursion P (xs ++ ys) → AllByRecursion P ys
 all-back P [] ys a = a
 all-back P (x ∷ xs) ys a = all-back P xs ys a.1
 

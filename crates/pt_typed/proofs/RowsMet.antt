@@ -62,12 +62,12 @@ use Rattle.pt_typed.proofs.DataClasses as data_classes
 
 -- ---- which class
 
-one-of-two : {F D A : Type 0} (f : F → A) (d : D → A) (o : Option F) (p : Option D) (a : A) → option_or (option_map f o) (option_map d p) ≡ Some a → ((x : F) × (o ≡ Some x) × (f x ≡ a)) ⊎ ((y : D) × (p ≡ Some y) × (d y ≡ a))
+pub one-of-two : {F D A : Type 0} (f : F → A) (d : D → A) (o : Option F) (p : Option D) (a : A) → option_or (option_map f o) (option_map d p) ≡ Some a → ((x : F) × (o ≡ Some x) × (f x ≡ a)) ⊎ ((y : D) × (p ≡ Some y) × (d y ≡ a))
 one-of-two f d (Some x) p a e = inl (x, refl, same_Some (f x) a e)
 one-of-two f d None (Some y) a e = inr (y, refl, same_Some (d y) a e)
 one-of-two f d None None a e = absurd (cc)
 
-flow-in : (o : Option FlowClass) (params : Params) (a : FlowActor) → flow_actor.start_in o params ≡ Some a → (c : FlowClass) × (o ≡ Some c) × (flow_actor.start_as c params ≡ Some a)
+pub flow-in : (o : Option FlowClass) (params : Params) (a : FlowActor) → flow_actor.start_in o params ≡ Some a → (c : FlowClass) × (o ≡ Some c) × (flow_actor.start_as c params ≡ Some a)
 flow-in None params a e = absurd (cc)
 flow-in (Some c) params a e = (c, refl, e)
 
@@ -129,7 +129,7 @@ outputs-numbered : (i : ℕ) (ps : List Port) → port_numbers is_output i ps �
 outputs-numbered i [] = refl
 outputs-numbered i (p ∷ ps) = number-by p.direction p i (port_numbers is_output (suc i) ps) refl ∙ ap (out_if p.direction i) (outputs-numbered (suc i) ps)
 
-viewed : {X Y : Type 0} (f : X → Y) (xs : List X) (n : ℕ) (x : X) → slice_get xs n ≡ Some x → slice_get (map f xs) n ≡ Some (f x)
+pub viewed : {X Y : Type 0} (f : X → Y) (xs : List X) (n : ℕ) (x : X) → slice_get xs n ≡ Some x → slice_get (map f xs) n ≡ Some (f x)
 viewed f [] n x e = absurd (cc)
 viewed f (y ∷ xs) zero x e = ap (λ z. Some (f z)) (same_Some y x e)
 viewed f (y ∷ xs) (suc n) x e = viewed f xs n x e
@@ -144,7 +144,7 @@ module _ (net : Net) (values : Values) (typing : Assignment) (k : ℕ) (e : NetE
 
   -- the class by its name: its row, whose ports are the entity's
   module _ (name : List ℕ) (named : params.class ≡ name) (heads : List (List ℕ × Direction)) (heads-are : heads_in (kind_of name) ≡ heads) (declares : declares_in (kind_of name) ≡ None) where
-    its-class : e.class ≡ name
+    pub its-class : e.class ≡ name
     its-class = sym classed ∙ named
 
     kind : kind_of name ≡ Some (Actor has.class)
@@ -162,19 +162,19 @@ module _ (net : Net) (values : Values) (typing : Assignment) (k : ℕ) (e : NetE
     its-directions : map (λ (p : PortTree). p.direction) (entity_view e).ports ≡ map (λ (h : List ℕ × Direction). h.1) heads
     its-directions = directions-are (entity_view e).ports ∙ ap (map (λ (h : List ℕ × Direction). h.1)) its-heads
 
-    its-places : (types_below net typing k []).places ≡ map types (ends_from (channels_at net k) 0 (map (λ (h : List ℕ × Direction). h.1) heads))
+    pub its-places : (types_below net typing k []).places ≡ map types (ends_from (channels_at net k) 0 (map (λ (h : List ℕ × Direction). h.1) heads))
     its-places =
         ap (λ (o : Option NetEntity). (types_of net typing k o).places) at
         ∙ ap (λ o. by_director o (port_types typing k (port_numbers is_input 0 e.ports.items)) (map (place_type typing) (arrivals net.channels.items k))) undirected
         ∙ types-at-ends typing k (arrivals net.channels.items k) (ends-of net k)
         ∙ ap (port_types typing k) (has.ends ∙ ap (ends_from (channels_at net k) 0) its-directions)
 
-    its-outputs : (types_below net typing k []).outputs ≡ map types (outs_from 0 (map (λ (h : List ℕ × Direction). h.1) heads))
+    pub its-outputs : (types_below net typing k []).outputs ≡ map types (outs_from 0 (map (λ (h : List ℕ × Direction). h.1) heads))
     its-outputs =
         ap (λ (o : Option NetEntity). (types_of net typing k o).outputs) at
         ∙ ap (port_types typing k) (outputs-numbered 0 e.ports.items ∙ ap (outs_from 0) its-directions)
 
-    its-facts : PortFacts row types 0 (map (head_type name) heads)
+    pub its-facts : PortFacts row types 0 (map (head_type name) heads)
     its-facts =
         let facts = entity-facts net values typing k (entity_view e) v typed (viewed entity_view net.entities.items k e at) held in
         subst (λ hs. PortFacts row types 0 (map (head_type name) hs)) its-heads (subst (λ n. PortFacts row types 0 (map (head_type n) (map head (entity_view e).ports))) its-class facts)

@@ -1,10 +1,13 @@
 -- What the ports of a library actor of a net are, by its class, and which classes take what passes from their inputs alone.
-use Rattle.std.specs.Prelude.{◌≡◌, ℕ, suc, ◌++◌, List, [], ◌∷◌, map, replicate, count_by, Bool, true, false, Option, Some, None, slice_get}
+use Rattle.std.specs.Prelude.{◌≡◌, ℕ, suc, ◌++◌, List, [], ◌∷◌, length, map, replicate, count_by, Bool, true, false, Option, Some, None, slice_get}
 use Rattle.pt_moml.specs.declared.job.Direction.{Direction}
 use Rattle.pt_moml.specs.declared.job.Direction.TheVariants.{Input, Output}
 use Rattle.pt_moml.specs.declared.classes.Arity.TheVariants.{Single}
 use Rattle.pt_moml.specs.Classes.{Class, ClassPort, Actor, kind_of}
-use Rattle.pt_moml.specs.Document.{PortTree}
+use Rattle.std.specs.List.{AllByRecursion}
+use Rattle.pt_moml.specs.Document.{PortTree, PropertyTree}
+use Rattle.pt_parameter.specs.declared.parameter_value.ParameterValue.{ParameterValue}
+use Rattle.pt_parameter.specs.declared.parameter_value.ParameterValue.TheVariants as parameter
 use Rattle.pt_graph.specs.declared.net.Channel.{Channel}
 use Rattle.pt_graph.specs.declared.net.Net.{Net}
 use Rattle.pt_graph.specs.declared.net.NetEntity.{NetEntity}
@@ -83,3 +86,38 @@ is_plain_function StringLength = true
 abbrev pub is_plain_actor : LibraryActor → Bool
 is_plain_actor (Flow a) = is_plain_flow a
 is_plain_actor (Data a) = is_plain_function a.function
+
+-- It gives tokens of a parameter: the value of a Const, the values of a Sequence, the first tokens of a SampleDelay.
+abbrev pub is_seeded_flow : FlowActor → Bool
+is_seeded_flow (AbsoluteValue a) = false
+is_seeded_flow (Accumulator a) = false
+is_seeded_flow (AddSubtract a) = false
+is_seeded_flow (BooleanSelect a) = false
+is_seeded_flow (BooleanSwitch a) = false
+is_seeded_flow (Const a) = true
+is_seeded_flow (Counter a) = false
+is_seeded_flow (DownSample a) = false
+is_seeded_flow (Expression a) = false
+is_seeded_flow (Extreme a) = false
+is_seeded_flow (MultiplyDivide a) = false
+is_seeded_flow (Ramp a) = false
+is_seeded_flow (Repeat a) = false
+is_seeded_flow (SampleDelay a) = true
+is_seeded_flow (Scale a) = false
+is_seeded_flow (Sequence a) = true
+is_seeded_flow (UpSample a) = false
+
+abbrev pub is_seeded_actor : LibraryActor → Bool
+is_seeded_actor (Flow a) = is_seeded_flow a
+is_seeded_actor (Data a) = false
+
+-- a parameter has a token, and is no tree and no word
+abbrev pub IsTokenHeld : ParameterValue → Type 0
+IsTokenHeld (parameter.Token t) = Unit {0}
+IsTokenHeld (parameter.Tree e) = ⊥
+IsTokenHeld parameter.Word = ⊥
+
+-- each parameter has one
+pub record HoldsTokens (ps : List PropertyTree) (vs : List ParameterValue) : Type 0 where
+  pub counted : length vs ≡ length ps
+  pub held : AllByRecursion IsTokenHeld vs

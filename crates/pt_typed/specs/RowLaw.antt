@@ -20,7 +20,7 @@ use Rattle.pt_typed.specs.Signature.{AreAllOf, IsTypedLog}
 use Rattle.pt_typed.specs.TokenTypes.{IsTokenOf}
 use Rattle.pt_typed.specs.TypedActor.{MeetsRow}
 use Rattle.pt_typed.specs.NetTypes.{TypesGoUp, types_below, IsWired}
-use Rattle.pt_typed.specs.NetRows.{HasClassPorts, HaveClassPorts, is_plain_actor}
+use Rattle.pt_typed.specs.NetRows.{HasClassPorts, HaveClassPorts, is_plain_actor, is_seeded_actor, HoldsTokens}
 
 -- the types of ports, by the numbers of their entities and their own
 abbrev pub types_of_ports : Assignment → PortTyping
@@ -50,3 +50,9 @@ TypedNetsKeepTypes =
     (net : Net) (values : Values) (typing : Assignment) (starts : Starts) (top : Tree) → IsWired net → HaveClassPorts net → IsTyping net values typing → AreStartedIn net values typing starts → MeetOtherRows net typing starts → IsTree net (StartsAs starts) 0 top →
     (iterations : ℕ) (takes : List ℕ) (inputs : Streams Token) → length takes ≡ length inputs → AreAllOf IsTokenOf (types_below net typing 0 []).places inputs →
     (k : ℕ) → IsTypedLog IsTokenOf (types_below net typing 0) (meaning k rows no_meetings (sdf_top iterations takes inputs) top)
+
+-- The same of an actor that gives tokens of its parameters, each of which has a token.
+abbrev pub SeededRowsAreMet : Type 0
+SeededRowsAreMet =
+    (net : Net) (values : Values) (typing : Assignment) (k : ℕ) (e : NetEntity) (a : LibraryActor) → slice_get net.entities.items k ≡ Some e → e.director ≡ None → HasClassPorts net k e → IsTyping net values typing → (started : IsStart net values (types_of_ports typing) k (Some a)) →
+    is_seeded_actor a ≡ true → HoldsTokens started.started_from.entity.parameters started.started_from.held.parameters.items → MeetsRow (types_below net typing k []) a
