@@ -36,13 +36,20 @@ PlainRowsAreMet =
     (net : Net) (values : Values) (typing : Assignment) (k : ℕ) (e : NetEntity) (a : LibraryActor) → slice_get net.entities.items k ≡ Some e → e.director ≡ None → HasClassPorts net k e → IsTyping net values typing → IsStart net values (types_of_ports typing) k (Some a) →
     is_plain_actor a ≡ true → MeetsRow (types_below net typing k []) a
 
--- each library actor of a net starts as its parameters and types start it
-abbrev pub AreStartedIn : Net → Values → Assignment → Starts → Type 0
-AreStartedIn net values typing starts = (k : ℕ) (a : LibraryActor) → StartsAs starts k a → (e : NetEntity) × (slice_get net.entities.items k ≡ Some e) × (e.director ≡ None) × IsStart net values (types_of_ports typing) k (Some a)
+-- The same of an actor that gives tokens of its parameters, each of which has a token.
+abbrev pub SeededRowsAreMet : Type 0
+SeededRowsAreMet =
+    (net : Net) (values : Values) (typing : Assignment) (k : ℕ) (e : NetEntity) (a : LibraryActor) → slice_get net.entities.items k ≡ Some e → e.director ≡ None → HasClassPorts net k e → IsTyping net values typing → (started : IsStart net values (types_of_ports typing) k (Some a)) →
+    is_seeded_actor a ≡ true → HoldsTokens started.started_from.entity.parameters started.started_from.held.parameters.items → MeetsRow (types_below net typing k []) a
 
--- the rows of the other actors are met: of those that give tokens of parameters, fields, or values of expressions
+-- each library actor of a net starts as its parameters and types start it, and where it gives tokens of its parameters these are tokens
+abbrev pub AreStartedIn : Net → Values → Assignment → Starts → Type 0
+AreStartedIn net values typing starts = (k : ℕ) (a : LibraryActor) → StartsAs starts k a →
+    (e : NetEntity) × (slice_get net.entities.items k ≡ Some e) × (e.director ≡ None) × (started : IsStart net values (types_of_ports typing) k (Some a)) × (is_seeded_actor a ≡ true → HoldsTokens started.started_from.entity.parameters started.started_from.held.parameters.items)
+
+-- the rows of the other actors are met: of those that give fields, records, or values of expressions
 abbrev pub MeetOtherRows : Net → Assignment → Starts → Type 0
-MeetOtherRows net typing starts = (k : ℕ) (a : LibraryActor) → StartsAs starts k a → is_plain_actor a ≡ false → MeetsRow (types_below net typing k []) a
+MeetOtherRows net typing starts = (k : ℕ) (a : LibraryActor) → StartsAs starts k a → is_plain_actor a ≡ false → is_seeded_actor a ≡ false → MeetsRow (types_below net typing k []) a
 
 -- In a run of the tree of a net with its typing, at each fuel, each finished firing took at each place only tokens of the type of its port, and gave on each output only tokens of the type of that.
 abbrev pub TypedNetsKeepTypes : Type 0
@@ -50,9 +57,3 @@ TypedNetsKeepTypes =
     (net : Net) (values : Values) (typing : Assignment) (starts : Starts) (top : Tree) → IsWired net → HaveClassPorts net → IsTyping net values typing → AreStartedIn net values typing starts → MeetOtherRows net typing starts → IsTree net (StartsAs starts) 0 top →
     (iterations : ℕ) (takes : List ℕ) (inputs : Streams Token) → length takes ≡ length inputs → AreAllOf IsTokenOf (types_below net typing 0 []).places inputs →
     (k : ℕ) → IsTypedLog IsTokenOf (types_below net typing 0) (meaning k rows no_meetings (sdf_top iterations takes inputs) top)
-
--- The same of an actor that gives tokens of its parameters, each of which has a token.
-abbrev pub SeededRowsAreMet : Type 0
-SeededRowsAreMet =
-    (net : Net) (values : Values) (typing : Assignment) (k : ℕ) (e : NetEntity) (a : LibraryActor) → slice_get net.entities.items k ≡ Some e → e.director ≡ None → HasClassPorts net k e → IsTyping net values typing → (started : IsStart net values (types_of_ports typing) k (Some a)) →
-    is_seeded_actor a ≡ true → HoldsTokens started.started_from.entity.parameters started.started_from.held.parameters.items → MeetsRow (types_below net typing k []) a

@@ -1,6 +1,6 @@
 ghost use Rattle.pt_typed.specs.Laws.{RowsKeepTypes, FirstTokensAreTyped, TypedStepsKeepTypes, TypedRunsKeepTypes};
 ghost use Rattle.pt_typed.specs.TypedNet.{TreesAreTyped, NetsKeepTypes};
-ghost use Rattle.pt_typed.specs.RowLaw.{TypingsGoUp, PlainRowsAreMet, TypedNetsKeepTypes};
+ghost use Rattle.pt_typed.specs.RowLaw.{TypingsGoUp, PlainRowsAreMet, SeededRowsAreMet, TypedNetsKeepTypes};
 
 /// An actor whose row is met by the types of its places and outputs keeps to them, whatever it fires.
 pub fn rows_keep_types()
@@ -40,6 +40,11 @@ pub fn typings_go_up()
 /// The typing of a net meets the row of each actor that makes what it gives of its inputs, of numbers and of truth values.
 pub fn plain_rows_are_met()
     ensures { PlainRowsAreMet }
+{}
+
+/// So does it meet the row of each actor that gives tokens of its parameters.
+pub fn seeded_rows_are_met()
+    ensures { SeededRowsAreMet }
 {}
 
 /// A run of the tree of a net never meets a token of another type than its port's.
