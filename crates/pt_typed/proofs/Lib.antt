@@ -21,3 +21,4 @@ pub mod RowsMet
 pub mod TypedNets
 pub mod SeedLaws
 pub mod SeededRows
+pub mod InputLaws

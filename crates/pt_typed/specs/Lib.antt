@@ -10,3 +10,4 @@ pub mod NetTypes
 pub mod TypedNet
 pub mod NetRows
 pub mod RowLaw
+pub mod InputLaw
