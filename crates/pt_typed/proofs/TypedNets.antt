@@ -13,6 +13,7 @@ use Rattle.pt_typed.specs.TypedNet.{MeetRows}
 use Rattle.pt_typed.specs.RowLaw.{AreStartedIn, MeetOtherRows, TypedNetsKeepTypes}
 use Rattle.pt_typed.proofs.PortFacts.{channels-go-up}
 use Rattle.pt_typed.proofs.RowsMet.{plain-rows-met}
+use Rattle.pt_typed.proofs.InputLaws.{inputs-typed}
 use Rattle.pt_typed.proofs.SeededRows.{seeded-rows-met}
 use Rattle.pt_typed.proofs.TreeLaws.{nets-keep-types}
 
@@ -25,5 +26,5 @@ meet-rows net values typing starts have typed started others k a is = by_tests (
     by_tests false p false q = others k a is p q
 
 pub typed-nets-keep-types : TypedNetsKeepTypes
-typed-nets-keep-types net values typing starts top wired have typed started others is iterations takes inputs e a k =
-    nets-keep-types net typing starts top wired (channels-go-up net values typing typed) (meet-rows net values typing starts have typed started others) is iterations takes inputs e a k
+typed-nets-keep-types net values typing starts e d top j wired have typed started others is at directed own supplied lists k =
+    nets-keep-types net typing starts top wired (channels-go-up net values typing typed) (meet-rows net values typing starts have typed started others) is j.iterations j.takes j.inputs.items lists (inputs-typed net values typing e d j.inputs.items at directed own typed supplied) k

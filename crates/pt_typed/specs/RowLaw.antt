@@ -1,12 +1,15 @@
 -- The typing of a net meets the rows of the actors that its entities start as.
 use Rattle.std.specs.Prelude.{◌≡◌, ℕ, List, [], length, true, false, ◌⊎◌, Some, None, slice_get}
-use Rattle.pt_meaning.specs.Basics.{Streams}
 use Rattle.pt_meaning.specs.Step.{no_meetings}
-use Rattle.pt_meaning.specs.Schedule.{sdf_top}
 use Rattle.pt_meaning.specs.Job.{meaning}
-use Rattle.pt_value.specs.declared.token.Token.{Token}
 use Rattle.pt_graph.specs.declared.net.Net.{Net}
+use Rattle.pt_graph.specs.declared.net.NetDirector.{NetDirector}
 use Rattle.pt_graph.specs.declared.net.NetEntity.{NetEntity}
+use Rattle.pt_graph.specs.Net.{entity_view}
+use Rattle.pt_values.specs.Scopes.{net_view}
+use Rattle.pt_job.specs.Inputs.{AreSupplied}
+use Rattle.pt_run.specs.declared.job.SdfJob.{SdfJob}
+use Rattle.pt_run.specs.Run.{schedule}
 use Rattle.pt_values.specs.declared.values.Values.{Values}
 use Rattle.pt_typing.specs.declared.variable.Variable.TheVariants as variable
 use Rattle.pt_typing.specs.Least.{Assignment}
@@ -16,9 +19,10 @@ use Rattle.pt_library.specs.declared.library_actor.LibraryActor.{LibraryActor}
 use Rattle.pt_library.specs.LibraryActor.{rows}
 use Rattle.pt_node.specs.View.{Tree}
 use Rattle.pt_build.specs.Trees.{Starts, StartsAs, IsTree}
-use Rattle.pt_typed.specs.Signature.{AreAllOf, IsTypedLog}
+use Rattle.pt_typed.specs.Signature.{IsTypedLog}
 use Rattle.pt_typed.specs.TokenTypes.{IsTokenOf}
 use Rattle.pt_typed.specs.TypedActor.{MeetsRow}
+use Rattle.pt_typed.specs.InputLaw.{HaveOwnNames}
 use Rattle.pt_typed.specs.NetTypes.{TypesGoUp, types_below, IsWired}
 use Rattle.pt_typed.specs.NetRows.{HasClassPorts, HaveClassPorts, is_plain_actor, is_seeded_actor, HoldsTokens}
 
@@ -51,9 +55,9 @@ AreStartedIn net values typing starts = (k : ℕ) (a : LibraryActor) → StartsA
 abbrev pub MeetOtherRows : Net → Assignment → Starts → Type 0
 MeetOtherRows net typing starts = (k : ℕ) (a : LibraryActor) → StartsAs starts k a → is_plain_actor a ≡ false → is_seeded_actor a ≡ false → MeetsRow (types_below net typing k []) a
 
--- In a run of the tree of a net with its typing, at each fuel, each finished firing took at each place only tokens of the type of its port, and gave on each output only tokens of the type of that.
+-- In a run of the tree of a net with its typing, on the tokens that are supplied, at each fuel, each finished firing took at each place only tokens of the type of its port, and gave on each output only tokens of the type of that.
 abbrev pub TypedNetsKeepTypes : Type 0
 TypedNetsKeepTypes =
-    (net : Net) (values : Values) (typing : Assignment) (starts : Starts) (top : Tree) → IsWired net → HaveClassPorts net → IsTyping net values typing → AreStartedIn net values typing starts → MeetOtherRows net typing starts → IsTree net (StartsAs starts) 0 top →
-    (iterations : ℕ) (takes : List ℕ) (inputs : Streams Token) → length takes ≡ length inputs → AreAllOf IsTokenOf (types_below net typing 0 []).places inputs →
-    (k : ℕ) → IsTypedLog IsTokenOf (types_below net typing 0) (meaning k rows no_meetings (sdf_top iterations takes inputs) top)
+    (net : Net) (values : Values) (typing : Assignment) (starts : Starts) (e : NetEntity) (d : NetDirector) (top : Tree) (j : SdfJob) → IsWired net → HaveClassPorts net → IsTyping net values typing → AreStartedIn net values typing starts → MeetOtherRows net typing starts → IsTree net (StartsAs starts) 0 top →
+    slice_get net.entities.items 0 ≡ Some e → e.director ≡ Some d → HaveOwnNames (entity_view e).ports → AreSupplied (net_view net) values j.inputs.items → length j.takes ≡ length j.inputs.items →
+    (k : ℕ) → IsTypedLog IsTokenOf (types_below net typing 0) (meaning k rows no_meetings (schedule j) top)

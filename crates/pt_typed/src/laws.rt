@@ -1,5 +1,6 @@
 ghost use Rattle.pt_typed.specs.Laws.{RowsKeepTypes, FirstTokensAreTyped, TypedStepsKeepTypes, TypedRunsKeepTypes};
 ghost use Rattle.pt_typed.specs.TypedNet.{TreesAreTyped, NetsKeepTypes};
+ghost use Rattle.pt_typed.specs.InputLaw.{InputsAreTyped};
 ghost use Rattle.pt_typed.specs.RowLaw.{TypingsGoUp, PlainRowsAreMet, SeededRowsAreMet, TypedNetsKeepTypes};
 
 /// An actor whose row is met by the types of its places and outputs keeps to them, whatever it fires.
@@ -45,6 +46,11 @@ pub fn plain_rows_are_met()
 /// So does it meet the row of each actor that gives tokens of its parameters.
 pub fn seeded_rows_are_met()
     ensures { SeededRowsAreMet }
+{}
+
+/// The tokens that a job supplies are of the types of the top's inputs.
+pub fn inputs_are_typed()
+    ensures { InputsAreTyped }
 {}
 
 /// A run of the tree of a net never meets a token of another type than its port's.
