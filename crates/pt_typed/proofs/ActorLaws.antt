@@ -1,5 +1,5 @@
 -- The actors of all libraries.
-use Rattle.std.proofs.Common.{◌≡◌, ℕ, List, [], ◌∷◌, Option, Some, None, refl, sym, ap, subst, ◌∙◌}
+use Rattle.std.proofs.Common.{◌≡◌, ℕ, List, [], ◌∷◌, Option, Some, refl, sym, ap, subst, ◌∙◌}
 use Rattle.std.specs.List.{AllByRecursion}
 use Rattle.pt_meaning.specs.Basics.{Tag, Streams}
 use Rattle.pt_meaning.specs.Streams.{get}
@@ -7,18 +7,14 @@ use Rattle.pt_meaning.specs.Closed.{on_answer}
 use Rattle.pt_meaning.specs.Node.{Answer, Gives, Fails}
 use Rattle.pt_value.specs.declared.token.Token.{Token}
 use Rattle.pt_types.specs.Datatype.{Datatype}
-use Rattle.pt_lib_flow.specs.declared.flow_actor.FlowActor.{FlowActor}
 use Rattle.pt_lib_flow.specs.FlowActor as flow_actor
-use Rattle.pt_lib_data.specs.declared.data_actor.DataActor.{DataActor}
 use Rattle.pt_lib_data.specs.DataActor as data_actor
 use Rattle.pt_library.specs.declared.library_actor.LibraryActor.{LibraryActor}
 use Rattle.pt_library.specs.declared.library_actor.LibraryActor.TheVariants.{Flow, Data}
-use Rattle.pt_library.specs.LibraryActor.{step, held_as, first, rows}
+use Rattle.pt_library.specs.LibraryActor.{step, held_as, first}
 use Rattle.pt_library.specs.Steady.{after}
-use Rattle.pt_typed.specs.Signature.{Signature, AreOf, AreAllOf}
+use Rattle.pt_typed.specs.Signature.{AreOf, AreAllOf}
 use Rattle.pt_typed.specs.TokenTypes.{IsTokenOf}
-use Rattle.pt_typed.specs.TypedFlow.{IsTypedFlow}
-use Rattle.pt_typed.specs.TypedData.{IsTypedFunction}
 use Rattle.pt_typed.specs.TypedActor.{Types, MeetsRow, AreTypedFirings, IsTypedActor}
 use Rattle.pt_typed.proofs.FlowActorLaws as flows
 use Rattle.pt_typed.proofs.DataLaws as functions

@@ -1,6 +1,5 @@
 -- The ports of a class as its row lists them, and the places of its actors.
-use Rattle.std.proofs.Common.{◌≡◌, ℕ, zero, suc, ◌+◌, List, [], ◌∷◌, ◌++◌, length, map, replicate, Bool, true, false, Option, Some, None, refl, sym, ap, subst, ◌∙◌, slice_get, arith}
-use Rattle.std.specs.Prelude.{option_map}
+use Rattle.std.proofs.Common.{◌≡◌, ℕ, zero, suc, ◌+◌, List, [], ◌∷◌, ◌++◌, map, replicate, Option, Some, None, refl, sym, ap, subst, ◌∙◌, slice_get, arith}
 use Rattle.std.specs.List.{AllByRecursion}
 use Rattle.pt_meaning.specs.Streams.{get}
 use Rattle.pt_moml.specs.declared.job.Direction.{Direction}
@@ -61,9 +60,10 @@ single-by n Output arity.ManyOrNone h = tt
 
 pub singles-from : (counts : ℕ → ℕ) (i : ℕ) (ps : List ClassPort) → ((j : ℕ) (p : ClassPort) → slice_get ps j ≡ Some p → p.direction ≡ Input → p.arity ≡ arity.Single → counts (i + j) ≡ 1) → SinglesFrom counts i (map class_mark ps)
 singles-from counts i [] h = tt
-singles-from counts i (p ∷ ps) h =
-    (single-by (counts i) p.direction p.arity (λ d a. ap counts (let z : i ≡ i + 0 = omega arith in z) ∙ h 0 p refl d a),
-     singles-from counts (suc i) ps (λ j q e d a. ap counts (let z : suc i + j ≡ i + suc j = omega arith in z) ∙ h (suc j) q e d a))
+singles-from counts i (p ∷ ps) h = (
+  single-by (counts i) p.direction p.arity (λ d a. ap counts (let z : i ≡ i + 0 = omega arith in z) ∙ h 0 p refl d a),
+  singles-from counts (suc i) ps (λ j q e d a. ap counts (let z : suc i + j ≡ i + suc j = omega arith in z) ∙ h (suc j) q e d a),
+)
 
 -- the numbers of outputs, from this number on
 abbrev pub out_if : Direction → ℕ → List ℕ → List ℕ

@@ -1,15 +1,12 @@
 -- The classes of data actors: what the typing of a net says of their ports is what they ask.
-use Rattle.std.proofs.Common.{◌≡◌, ℕ, zero, suc, ◌+◌, List, [], ◌∷◌, ◌++◌, length, map, replicate, Bool, true, false, Option, Some, None, refl, sym, ap, subst, ◌∙◌}
+use Rattle.std.proofs.Common.{◌≡◌, ℕ, List, [], ◌∷◌, map, Bool, true, false, None, refl}
 use Rattle.std.specs.Prelude.{codes}
-use Rattle.std.specs.List.{AllByRecursion}
-use Rattle.pt_meaning.specs.Streams.{get}
 use Rattle.pt_moml.specs.declared.job.Direction.{Direction}
 use Rattle.pt_moml.specs.declared.job.Direction.TheVariants.{Input, Output}
 use Rattle.pt_moml.specs.declared.classes.Arity.{Arity}
 use Rattle.pt_moml.specs.declared.classes.Arity.TheVariants as arity
 use Rattle.pt_moml.specs.Classes.{kind_of, class_row, classes}
 use Rattle.pt_types.specs.Datatype.{Datatype}
-use Rattle.pt_types.specs.Order.{IsBelow}
 use Rattle.pt_types.proofs.Order.{below-trans}
 use Rattle.pt_resolve.specs.declared.row.PortType.{PortType}
 use Rattle.pt_resolve.specs.declared.row.PortType.TheVariants as port
@@ -21,7 +18,7 @@ use Rattle.pt_lib_data.specs.declared.function.Class.TheVariants as class
 use Rattle.pt_typed.specs.NetRows.{ends_from}
 use Rattle.pt_typed.proofs.PortFacts.{PortFacts, head_type}
 use Rattle.pt_typed.proofs.DataStarts.{name_of, DataAsks}
-use Rattle.pt_typed.proofs.ClassPorts.{heads_in, marks_in, declares_in, SinglesFrom, outs_from, one-array, all-ports}
+use Rattle.pt_typed.proofs.ClassPorts.{heads_in, marks_in, declares_in, outs_from, one-array, all-ports}
 
 -- ---- the ports of the classes
 

@@ -1,7 +1,7 @@
 -- Each data actor gives tokens of the types of its outputs, where its inputs are of those of its places.
-use Rattle.std.proofs.Common.{◌≡◌, ℕ, zero, suc, List, [], ◌∷◌, length, map, replicate, take, Bool, true, false, not, nat_eq, nat_le, Option, Some, None, ℤ, pos, negsuc, refl, sym, ap, subst, ◌∙◌, slice_get, if◌then◌else◌}
+use Rattle.std.proofs.Common.{◌≡◌, ℕ, zero, suc, List, [], ◌∷◌, length, map, replicate, take, Bool, true, false, not, nat_eq, nat_le, Option, Some, None, ℤ, pos, negsuc, refl, sym, subst, slice_get, if◌then◌else◌}
 use Rattle.std.specs.Prelude.{nat_lt, chars, ◌^◌, option_map}
-use Rattle.std.specs.List.{AllByRecursion, zip}
+use Rattle.std.specs.List.{AllByRecursion}
 use Rattle.pt_meaning.specs.Basics.{Tag, Streams, at}
 use Rattle.pt_meaning.specs.Streams.{get}
 use Rattle.pt_meaning.specs.Node as node
@@ -18,8 +18,7 @@ use Rattle.pt_types.proofs.Order.{below-trans, below-refl}
 use Rattle.pt_expr.specs.Outcome as outcome
 use Rattle.pt_expr.specs.Outcome.{Outcome}
 use Rattle.pt_expr.specs.RecordOf.{record_of}
-use Rattle.pt_expr_type.specs.Typing.{or_general}
-use Rattle.pt_expr_type.specs.TreeType.{element, field}
+use Rattle.pt_expr_type.specs.TreeType.{field}
 use Rattle.pt_expr_type.proofs.Values.{Of, Sound, field-sound}
 use Rattle.pt_expr.specs.Meaning as meaning
 use Rattle.pt_value.specs.Record.{field_at}
@@ -44,8 +43,8 @@ use Rattle.pt_lib_data.specs.StringLength as string_length
 use Rattle.pt_lib_data.specs.Function as function
 use Rattle.pt_lib_data.specs.DataActor.{step}
 use Rattle.pt_lib_data.proofs.Steadiness.{as-answered}
-use Rattle.pt_typed.specs.Signature.{AllOf, AreOf, AreAllOf}
-use Rattle.pt_typed.specs.TokenTypes.{IsTokenOf, IsUnder, ToFirst, elements_of, field_of}
+use Rattle.pt_typed.specs.Signature.{AreOf, AreAllOf}
+use Rattle.pt_typed.specs.TokenTypes.{IsTokenOf, IsUnder, ToFirst, elements_of}
 use Rattle.pt_typed.specs.TypedData.{TakesArrays, TakeFields, IsTypedFunction}
 use Rattle.pt_typed.proofs.StreamLaws.{AreGiven, at-given, all-take}
 use Rattle.pt_typed.proofs.TypeLaws.{of-value, token-wider, elements-of, array-of-tokens, found-below, token-of, all-of}

@@ -1,6 +1,6 @@
 -- Which function the parameters of a class of data start, and what that class asks of types.
-use Rattle.std.proofs.Common.{◌≡◌, ℕ, zero, suc, List, [], ◌∷◌, length, Bool, true, false, Option, Some, None, ℤ, refl, sym, ap, subst, ◌∙◌, if◌then◌else◌}
-use Rattle.std.specs.Prelude.{codes, option_map, bytes_eq}
+use Rattle.std.proofs.Common.{◌≡◌, ℕ, List, Bool, true, false, Option, Some, None, refl, sym, ap, subst, ◌∙◌, if◌then◌else◌}
+use Rattle.std.specs.Prelude.{codes, bytes_eq}
 use Rattle.std.proofs.lemmas.Slice.Eq.{bytes_eq-Decides}
 use Rattle.pt_meaning.specs.Streams.{get}
 use Rattle.pt_value.specs.declared.token.Token.{Token}
@@ -17,7 +17,6 @@ use Rattle.pt_lib_data.specs.Comparator as comparator
 use Rattle.pt_lib_data.specs.Limiter as limiter
 use Rattle.pt_lib_data.specs.LogicFunction as logic_function
 use Rattle.pt_lib_data.specs.SequenceToArray as sequence_to_array
-use Rattle.pt_lib_data.specs.Function as function
 use Rattle.pt_lib_data.specs.Function.{class_of, start_as}
 use Rattle.pt_lib_data.specs.DataActor.{with_needs, started_as}
 use Rattle.pt_typed.specs.TokenTypes.{IsUnder, ToFirst, elements_of}

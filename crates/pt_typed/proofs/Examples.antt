@@ -1,10 +1,9 @@
 -- By hand: a ramp that feeds a scale in an SDF composite.
-use Rattle.std.proofs.Common.{◌≡◌, ℕ, zero, suc, List, [], ◌∷◌, true, false, refl, arith, pos}
-use Rattle.pt_meaning.specs.Basics.{Event, Finished}
+use Rattle.std.proofs.Common.{◌≡◌, zero, suc, [], ◌∷◌, true, false, refl, arith, pos}
+use Rattle.pt_meaning.specs.Basics.{Finished}
 use Rattle.pt_meaning.specs.Sdf.{SdfPlan}
-use Rattle.pt_meaning.specs.Net.{Source, Output}
+use Rattle.pt_meaning.specs.Net.{Output}
 use Rattle.pt_meaning.specs.Tree as tree
-use Rattle.pt_value.specs.declared.token.Token.{Token}
 use Rattle.pt_value.specs.declared.token.Token.TheVariants as token
 use Rattle.pt_types.specs.Datatype.{Datatype, Int, Boolean}
 use Rattle.pt_types.specs.Order.{IsBelow}
@@ -12,9 +11,9 @@ use Rattle.pt_lib_flow.specs.declared.flow_actor.FlowActor.TheVariants.{Ramp, Sc
 use Rattle.pt_lib_flow.specs.declared.limit.Limit.TheVariants.{Endless}
 use Rattle.pt_library.specs.declared.library_actor.LibraryActor.{LibraryActor}
 use Rattle.pt_library.specs.declared.library_actor.LibraryActor.TheVariants.{Flow}
-use Rattle.pt_typed.specs.Signature.{Signature, Signatures, AreOf, IsTypedEvent}
+use Rattle.pt_typed.specs.Signature.{Signatures, IsTypedEvent}
 use Rattle.pt_typed.specs.TokenTypes.{IsTokenOf}
-use Rattle.pt_typed.specs.TypedActor.{Types, MeetsRow, IsTypedActor}
+use Rattle.pt_typed.specs.TypedActor.{MeetsRow, IsTypedActor}
 use Rattle.pt_typed.specs.TypedTree.{kinds_from, AreFed, IsTypedNode}
 use Rattle.pt_typed.proofs.ActorLaws.{rows-type}
 
@@ -46,9 +45,9 @@ plan = record { net = record { sources = Output 0 0 ∷ []; places = 0 ∷ 1 ∷
 -- the composite is typed
 composite_is_typed : IsTypedNode IsTokenOf IsBelow IsTypedActor (types Int) (tree.composite (tree.Sdf plan ([] ∷ [])) (tree.actor ramp ∷ tree.actor scale ∷ []))
 composite_is_typed = (
-    record { places_counted = refl; repetitions_counted = refl; rates_counted = refl; sized = (refl, (refl, tt)); fed = (refl, tt); room = omega arith; held = (tt, tt) },
-    (rows-type (types Int (0 ∷ [])) ramp ramp_meets, (rows-type (types Int (1 ∷ [])) scale scale_meets, tt)),
-  )
+  record { places_counted = refl; repetitions_counted = refl; rates_counted = refl; sized = (refl, (refl, tt)); fed = (refl, tt); room = omega arith; held = (tt, tt) },
+  (rows-type (types Int (0 ∷ [])) ramp ramp_meets, (rows-type (types Int (1 ∷ [])) scale scale_meets, tt)),
+)
 
 -- its channel would break where the scale took truth values
 channel_breaks : AreFed {A = LibraryActor} IsTokenOf IsBelow IsTypedActor (types Boolean) plan.net.sources (kinds_from (types Boolean) 0 plan.net.places) → false ≡ true

@@ -1,5 +1,5 @@
 -- Each flow actor gives tokens of the types of its outputs, where its inputs are of those of its places, and its state is such as its row asks again.
-use Rattle.std.proofs.Common.{◌≡◌, ℕ, zero, suc, List, [], ◌∷◌, ◌++◌, length, replicate, drop, Bool, true, false, ◌&&◌, Option, Some, None, Result, Ok, Err, ℤ, pos, nat_abs, ◌+ℤ◌, ◌*ℤ◌, refl, sym, ap, subst, ◌∙◌, slice_get, if◌then◌else◌}
+use Rattle.std.proofs.Common.{◌≡◌, ℕ, zero, suc, List, [], ◌∷◌, replicate, drop, Bool, true, false, Option, Some, None, Result, Ok, Err, ℤ, pos, nat_abs, ◌+ℤ◌, ◌*ℤ◌, refl, subst, slice_get, if◌then◌else◌}
 use Rattle.std.specs.Prelude.{option_map, bytes_eq, IfSome}
 use Rattle.std.specs.List.{AllByRecursion}
 use Rattle.pt_meaning.specs.Basics.{Tag, Streams, at}
@@ -20,7 +20,7 @@ use Rattle.pt_expr.specs.Outcome.{Outcome}
 use Rattle.pt_expr.specs.Scope.{Scope}
 use Rattle.pt_expr_type.specs.Typing.{Typing, Has, Clash, or_general}
 use Rattle.pt_expr_type.specs.Types.{Types}
-use Rattle.pt_expr_type.specs.TreeType.{tree_type, are_bound, IsTyped}
+use Rattle.pt_expr_type.specs.TreeType.{tree_type, are_bound}
 use Rattle.pt_expr_type.specs.Laws.{IsHeld, Keeps, IsOfType}
 use Rattle.pt_expr_type.specs.Rule.{type_or_general}
 use Rattle.pt_expr_type.proofs.Sound.{typed-sound}
@@ -36,7 +36,7 @@ use Rattle.pt_lib_flow.specs.declared.boolean_select.Turn.TheVariants as turns
 use Rattle.pt_lib_flow.specs.declared.boolean_switch.BooleanSwitch as switches
 use Rattle.pt_lib_flow.specs.declared.multiply_divide.MultiplyDivide as ratios
 use Rattle.pt_lib_flow.specs.declared.sequence.Sequence as sequences
-use Rattle.pt_lib_flow.specs.Row.{gives, rests, exactly, fits_i64, on_present, first_in, token_at, number_at, truth_at, sum_of}
+use Rattle.pt_lib_flow.specs.Row.{gives, rests, exactly, fits_i64, on_present, token_at, number_at, truth_at, sum_of}
 use Rattle.pt_lib_flow.specs.Limit.{is_over, after_one, is_called, source}
 use Rattle.pt_lib_flow.specs.Rates.{repeated}
 use Rattle.pt_lib_flow.specs.Formula.{Formula, names, parameters, with_name, with_inputs, parameter_types, with_type, with_types, types_of, is_of, are_of}
@@ -53,16 +53,15 @@ use Rattle.pt_lib_flow.specs.Expression as expression
 use Rattle.pt_lib_flow.specs.Extreme as extreme
 use Rattle.pt_lib_flow.specs.MultiplyDivide as multiply_divide
 use Rattle.pt_lib_flow.specs.Ramp as ramp
-use Rattle.pt_lib_flow.specs.Repeat as repeat
 use Rattle.pt_lib_flow.specs.SampleDelay as sample_delay
 use Rattle.pt_lib_flow.specs.Scale as scale
 use Rattle.pt_lib_flow.specs.Sequence as sequence
 use Rattle.pt_lib_flow.specs.UpSample as up_sample
 use Rattle.pt_typed.specs.Signature.{AreOf}
 use Rattle.pt_typed.specs.TokenTypes.{IsTokenOf, IsUnder, ToFirst}
-use Rattle.pt_typed.specs.TypedFlow.{ToBoth, IsValueOf, IsTypedFlow}
-use Rattle.pt_typed.proofs.StreamLaws.{AreGiven, at-given, all-append}
-use Rattle.pt_typed.proofs.TypeLaws.{of-value, token-wider, token-of, all-of}
+use Rattle.pt_typed.specs.TypedFlow.{IsValueOf, IsTypedFlow}
+use Rattle.pt_typed.proofs.StreamLaws.{at-given, all-append}
+use Rattle.pt_typed.proofs.TypeLaws.{of-value, token-of, all-of}
 
 -- ---- what an answer gives, and the state that it leaves
 
@@ -103,7 +102,6 @@ called us Q P false X a r q p h = by_test (is_called X)
     by_test false = none us Q P a q p
 
 -- ---- integers
-
 
 added : (us : List Datatype) (a : accumulators.Accumulator) (sum : ℤ) (o : Option ℤ) → ToFirst (λ u. IsBelow Int u) us → Leaves us (λ s. ToFirst (λ u. IsBelow Int u) us) (accumulator.added a sum o)
 added us a sum None h = none us (λ u. IsBelow Int u) (λ s. ToFirst (λ u. IsBelow Int u) us) (accumulator.at_sum a sum) h h

@@ -1,11 +1,10 @@
 -- The stream function of a child whose firings keep to its signature keeps to it.
-use Rattle.std.proofs.Common.{◌≡◌, ℕ, zero, suc, List, [], ◌∷◌, ◌++◌, Bool, true, false, length, take, drop, Option, Some, None, refl, sym, ap, subst, arith, ◌∙◌}
-use Rattle.std.specs.List.{AllByRecursion}
-use Rattle.pt_meaning.specs.Basics.{Tag, Streams, Log, Path, silent, log_then, own}
-use Rattle.pt_meaning.specs.Machine.{Fault, Outcome, Done, Stuck, Stepping, Facts, Front, Lacks, Ends, Takes, front}
-use Rattle.pt_meaning.specs.Flow.{Flow, flow, on_outcome, on_front, after_firing}
+use Rattle.std.proofs.Common.{◌≡◌, ℕ, zero, suc, List, [], ◌∷◌, Bool, true, false, length, Option, Some, None, refl, ◌∙◌}
+use Rattle.pt_meaning.specs.Basics.{Tag, Streams, Log, silent, log_then, own}
+use Rattle.pt_meaning.specs.Machine.{Outcome, Done, Stuck, Stepping, Facts, Front, Lacks, Ends, Takes, front}
+use Rattle.pt_meaning.specs.Flow.{Flow, flow, on_outcome, on_front}
 use Rattle.pt_meaning.specs.Rounds.{rated, rated_outcome, if_rated, has_rates}
-use Rattle.pt_typed.specs.Signature.{Signature, Signatures, AreOf, AreAllOf, IsTypedEvent, IsTypedLog}
+use Rattle.pt_typed.specs.Signature.{Signatures, AreOf, AreAllOf, IsTypedEvent, IsTypedLog}
 use Rattle.pt_typed.proofs.StreamLaws.{all-append, joined-of, FrontOf, front-of}
 
 module _ {T K : Type 0} (Has : K → T → Type 0) where

@@ -6,7 +6,6 @@ use Rattle.std.specs.List.{AllByRecursion, AllZip}
 use Rattle.std.proofs.lemmas.List.Quantifiers.{position-Some}
 use Rattle.std.proofs.lemmas.Slice.Eq.{bytes_eq-Decides}
 use Rattle.std.proofs.lemmas.Option.{same_Some}
-use Rattle.pt_meaning.specs.Basics.{Streams}
 use Rattle.pt_value.specs.Value.{Value}
 use Rattle.pt_value.specs.Token.{value_of}
 use Rattle.pt_value.specs.declared.token.Token.{Token}
@@ -20,9 +19,8 @@ use Rattle.pt_moml.specs.declared.job.Direction.{Direction}
 use Rattle.pt_moml.specs.declared.job.Direction.TheVariants.{Input, Output}
 use Rattle.pt_moml.specs.declared.job.Port.{Port}
 use Rattle.pt_moml.specs.Document.{PortTree, InputTree}
-use Rattle.pt_moml.specs.View.{port_view, input_view}
+use Rattle.pt_moml.specs.View.{port_view}
 use Rattle.pt_graph.specs.declared.net.Net.{Net}
-use Rattle.pt_graph.specs.declared.net.NetDirector.{NetDirector}
 use Rattle.pt_graph.specs.declared.net.NetEntity.{NetEntity}
 use Rattle.pt_graph.specs.Net.{NetEntityTree, entity_view}
 use Rattle.pt_wiring.specs.Inside.{is_inward, is_input}
@@ -33,14 +31,14 @@ use Rattle.pt_values.specs.Valued.{inputs_view}
 use Rattle.pt_values.specs.Valued as valued
 use Rattle.pt_typing.specs.declared.variable.Variable.TheVariants as variable
 use Rattle.pt_typing.specs.Least.{Assignment, IsMet}
-use Rattle.pt_resolve.specs.Frames.{frames_of, first, behind}
-use Rattle.pt_resolve.specs.Inequalities.{of_channel, of_entities, of_inputs, of_supply, joined_one, joined_with, PortNumbers, no_ports, with_port, with_ports, top_ports}
+use Rattle.pt_resolve.specs.Frames.{frames_of}
+use Rattle.pt_resolve.specs.Inequalities.{of_channel, of_entities, of_inputs, of_supply, joined_with, PortNumbers, no_ports, with_port, with_ports, top_ports}
 use Rattle.pt_resolve.specs.Typing.{IsTyping}
-use Rattle.pt_job.specs.Inputs.{inputs_at, own_inputs, named_ports, input_to, token_lists, AreTokensOf, ComeTo, AreSupplied}
-use Rattle.pt_typed.specs.Signature.{AreOf, AreAllOf}
+use Rattle.pt_job.specs.Inputs.{inputs_at, own_inputs, named_ports, input_to, AreTokensOf, ComeTo}
+use Rattle.pt_typed.specs.Signature.{AreAllOf}
 use Rattle.pt_typed.specs.TokenTypes.{IsTokenOf}
-use Rattle.pt_typed.specs.NetTypes.{place_type, arrivals, number_if, port_numbers, port_types, by_director, types_of, types_below}
-use Rattle.pt_typed.specs.InputLaw.{HaveOwnNames, InputsAreTyped}
+use Rattle.pt_typed.specs.NetTypes.{place_type, arrivals, number_if, port_numbers, port_types, by_director, types_of}
+use Rattle.pt_typed.specs.InputLaw.{InputsAreTyped}
 use Rattle.pt_typed.proofs.PortFacts.{all-met, all-front, all-back}
 use Rattle.pt_typed.proofs.RowsMet.{viewed}
 
@@ -165,9 +163,9 @@ inputs-typed net values typing e d inputs at directed own typed supplied =
     let names : own_inputs (net_view net) ≡ inputs_of (entity_view e) = ap inputs_at top in
     let ports-is : top_ports es ≡ with_ports no_ports 0 (entity_view e).ports = top-ports es (entity_view e) top in
     let all = ports-typed net values typing typed 0 e.ports.items inputs (λ n p g.
-        ap (λ (f : PortNumbers). f p.name) ports-is
-        ∙ numbered no_ports 0 (entity_view e).ports n (port_view p) (viewed port_view e.ports.items n p g) (λ m q l there same. absurd (omega (arith, l, own m n q (port_view p) there (viewed port_view e.ports.items n p g) same))))
-        (subst (λ ns. AllZip (ComeTo (net_view net) values) ns inputs) names supplied) in
+    ap (λ (f : PortNumbers). f p.name) ports-is
+    ∙ numbered no_ports 0 (entity_view e).ports n (port_view p) (viewed port_view e.ports.items n p g) (λ m q l there same. absurd (omega (arith, l, own m n q (port_view p) there (viewed port_view e.ports.items n p g) same))))
+    (subst (λ ns. AllZip (ComeTo (net_view net) values) ns inputs) names supplied) in
     subst (λ ts. AreAllOf IsTokenOf ts inputs) (sym (ap (λ (o : Option NetEntity). (types_of net typing 0 o).places) at ∙ ap (λ o. by_director o (port_types typing 0 (port_numbers is_input 0 e.ports.items)) (map (place_type typing) (arrivals net.channels.items 0))) directed)) all
   where
     top-ports : (es : List NetEntityTree) (t : NetEntityTree) → slice_get es 0 ≡ Some t → top_ports es ≡ with_ports no_ports 0 t.ports

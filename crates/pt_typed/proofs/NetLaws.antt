@@ -1,5 +1,5 @@
 -- Along each channel of a composite of a net types go up, in the numbers that its director uses.
-use Rattle.std.proofs.Common.{◌≡◌, ℕ, zero, suc, ◌+◌, ◌≤◌, List, [], ◌∷◌, ◌++◌, Bool, true, false, ◌&&◌, not, nat_eq, length, take, drop, map, Option, Some, None, refl, sym, ap, ap₂, subst, arith, ◌∙◌, append_assoc, slice_get, if◌then◌else◌}
+use Rattle.std.proofs.Common.{◌≡◌, ℕ, zero, suc, ◌+◌, ◌≤◌, List, [], ◌∷◌, ◌++◌, Bool, true, false, ◌&&◌, not, nat_eq, length, take, map, Option, Some, None, refl, sym, ap, ap₂, subst, arith, ◌∙◌, append_assoc, slice_get, if◌then◌else◌}
 use Rattle.std.specs.Prelude.{filter, flat_map, count_by}
 use Rattle.std.specs.List.{AllByRecursion, Contains}
 use Rattle.std.proofs.lemmas.Bool.{eq-eqb, ne_eqb, eqb-true, le-leb}
@@ -210,8 +210,8 @@ module _ (net : Net) (typing : Assignment) (wired : IsWired net) where
         let one : f ≡ e = same_Some f e (sym there ∙ ap (slice_get es) here ∙ at) in
         let port' : slice_get e.ports.items n ≡ Some p = subst (λ (y : NetEntity). slice_get y.ports.items n ≡ Some p) one port in
         let own : source_of es x ≡ Own (count_by is_input (take n e.ports.items)) =
-            ap (λ b. if b then Own (port_number (ports_at es x.from.entity) n) else Output (child_number es x.from.entity) (port_number (ports_at es x.from.entity) n)) (eq-eqb x.from.entity x.composite same)
-            ∙ ap (λ m. Own m) (ap (λ ps. port_number ps n) (ap ports_in (ap (slice_get es) here ∙ at)) ∙ input-number e.ports.items n p port' way) in
+        ap (λ b. if b then Own (port_number (ports_at es x.from.entity) n) else Output (child_number es x.from.entity) (port_number (ports_at es x.from.entity) n)) (eq-eqb x.from.entity x.composite same)
+        ∙ ap (λ m. Own m) (ap (λ ps. port_number ps n) (ap ports_in (ap (slice_get es) here ∙ at)) ∙ input-number e.ports.items n p port' way) in
         ap (kind_of (types_below net typing k)) own
         ∙ ap (λ ts. get ts (count_by is_input (take n e.ports.items))) own-places
         ∙ get-map (λ m. typing.types (variable.Port k m)) (port_numbers is_input 0 e.ports.items) (count_by is_input (take n e.ports.items)) n (number-at is_input e.ports.items n p port' way)
@@ -221,8 +221,8 @@ module _ (net : Net) (typing : Assignment) (wired : IsWired net) where
         let j = x.from.entity in
         let number : slice_get (children_of es k) (child_number es j) ≡ Some j = sym (get-is (children_of es k) (child_number es j)) ∙ child-number es j k f e there (round ∙ ap (λ m. Some m) inside) at in
         let out : source_of es x ≡ Output (child_number es j) (count_by is_output (take n f.ports.items)) =
-            ap (λ b. if b then Own (port_number (ports_at es j) n) else Output (child_number es j) (port_number (ports_at es j) n)) (ne_eqb j x.composite other)
-            ∙ ap (λ m. Output (child_number es j) m) (ap (λ ps. port_number ps n) (ap ports_in there) ∙ output-number f.ports.items n p port way) in
+        ap (λ b. if b then Own (port_number (ports_at es j) n) else Output (child_number es j) (port_number (ports_at es j) n)) (ne_eqb j x.composite other)
+        ∙ ap (λ m. Output (child_number es j) m) (ap (λ ps. port_number ps n) (ap ports_in there) ∙ output-number f.ports.items n p port way) in
         ap (kind_of (types_below net typing k)) out
         ∙ ap (λ (s : Signatures Datatype). get (s []).outputs (count_by is_output (take n f.ports.items))) (child-below (child_number es j) j number)
         ∙ ap (λ (o : Option NetEntity). get (types_of net typing j o).outputs (count_by is_output (take n f.ports.items))) there
@@ -237,9 +237,10 @@ module _ (net : Net) (typing : Assignment) (wired : IsWired net) where
 
     places-from : (i : ℕ) (cs : List ℕ) → ((j c : ℕ) → slice_get cs j ≡ Some c → (types_below net typing k ((i + j) ∷ [])).places ≡ map (place_type typing) (arrivals ks c)) → PlacesFrom i cs
     places-from i [] h = tt
-    places-from i (c ∷ cs) h =
-        (subst (λ m. (types_below net typing k (m ∷ [])).places ≡ map (place_type typing) (arrivals ks c)) (let z : i + 0 ≡ i = omega arith in z) (h 0 c refl),
-         places-from (suc i) cs (λ j b e'. subst (λ m. (types_below net typing k (m ∷ [])).places ≡ map (place_type typing) (arrivals ks b)) (let z : i + suc j ≡ suc i + j = omega arith in z) (h (suc j) b e')))
+    places-from i (c ∷ cs) h = (
+      subst (λ m. (types_below net typing k (m ∷ [])).places ≡ map (place_type typing) (arrivals ks c)) (let z : i + 0 ≡ i = omega arith in z) (h 0 c refl),
+      places-from (suc i) cs (λ j b e'. subst (λ m. (types_below net typing k (m ∷ [])).places ≡ map (place_type typing) (arrivals ks b)) (let z : i + suc j ≡ suc i + j = omega arith in z) (h (suc j) b e')),
+    )
 
     place-at : (j c : ℕ) → slice_get (children_of es k) j ≡ Some c → (types_below net typing k (j ∷ [])).places ≡ map (place_type typing) (arrivals ks c)
     place-at j c there =

@@ -1,18 +1,15 @@
 -- A firing of a typed tree keeps to the kinds of its nodes, and so does the meaning of a job.
-use Rattle.std.proofs.Common.{◌≡◌, ℕ, zero, suc, ◌≤◌, List, [], ◌∷◌, ◌++◌, Bool, true, false, length, Option, Some, None, refl, sym, ap, subst, arith, ◌∙◌}
+use Rattle.std.proofs.Common.{◌≡◌, ℕ, zero, suc, List, [], ◌∷◌, length, refl, sym, ap, arith, ◌∙◌}
 use Rattle.std.specs.List.{AllByRecursion}
-use Rattle.pt_meaning.specs.Basics.{Tag, Streams, Log, Path, Meeting, Event, Finished, Met, silent, log_then, own, log_below, marked_event, all_marked, within_firing}
-use Rattle.pt_meaning.specs.Machine.{Fault, Outcome, Done, Stuck, Stepping, Facts, recorded}
-use Rattle.pt_meaning.specs.Flow.{Flow}
-use Rattle.pt_meaning.specs.Net.{Inside, Source, Net}
-use Rattle.pt_meaning.specs.Running.{total}
-use Rattle.pt_meaning.specs.Rounds.{Limit}
-use Rattle.pt_meaning.specs.Dataflow.{SdfPlan, arrived, iterations, sdf_limits, fired_all, kahn}
+use Rattle.pt_meaning.specs.Basics.{Tag, Streams, Log, Meeting, Event, Finished, Met, own, all_marked, within_firing}
+use Rattle.pt_meaning.specs.Machine.{Outcome, Done, Stuck, Stepping, recorded}
+use Rattle.pt_meaning.specs.Net.{Inside}
+use Rattle.pt_meaning.specs.Dataflow.{SdfPlan, arrived, iterations, sdf_limits, fired_all}
 use Rattle.pt_meaning.specs.Meetings.{Meets, below_child}
 use Rattle.pt_meaning.specs.Children.{Child, numbered, nodes, child_facts, with_number, child_step}
-use Rattle.pt_meaning.specs.Node.{Rows, Core, Sdf, Pn, Sr, De, Rv, Modal, Past, Answer, Gives, Fails, Node, Nodes, Actor, Composite, none, more, list_of, nodes_of, facts_of, as_node, director, step_at, actor_outcome, made_of, height, fired_at, Step}
-use Rattle.pt_meaning.specs.Job.{Schedule, Turn, Fire, Ends, Limit as AtLimit, Course, Standing, Goes, Ended, Halted, on_step, on_turn, goes_on, after, log_of, begin, meaning}
-use Rattle.pt_typed.specs.Signature.{Signature, Signatures, below, AreOf, AreAllOf, IsTypedEvent, IsTypedLog}
+use Rattle.pt_meaning.specs.Node.{Rows, Core, Sdf, Pn, Sr, De, Rv, Modal, Past, Answer, Gives, Fails, Node, Nodes, Actor, Composite, none, more, list_of, nodes_of, facts_of, as_node, director, step_at, actor_outcome, made_of, height, Step}
+use Rattle.pt_meaning.specs.Job.{Schedule, Turn, Fire, Ends, Limit as AtLimit, Course, Standing, Goes, Ended, Halted, on_step, on_turn, goes_on, after, log_of, begin}
+use Rattle.pt_typed.specs.Signature.{Signature, Signatures, below, AreAllOf, IsTypedEvent, IsTypedLog}
 use Rattle.pt_typed.specs.TypedTree.{kinds_from, IsTypedSdf, IsTypedCore, IsTypedNode, AreTypedNodes}
 use Rattle.pt_typed.specs.TypedRuns.{ActorsKeepKinds, KindsWiden, IsTypedOutcome, StepsKeepKinds, AreTypedTurns, MeaningKeepsKinds}
 use Rattle.pt_typed.proofs.FlowLaws.{GoodOutcome, KeepsKinds, typed-silent, typed-then, typed-own}
@@ -64,16 +61,22 @@ module _ {T K A : Type 0} (Has : K → T → Type 0) (Below : K → K → Type 0
     as-node-typed : (r : Outcome T (Inside (Streams T) (Child (Node T A)))) (n : ℕ) (X : Streams T) → IsTypedSdf Has Below Fits sigs n p X →
         GoodInside Has Below Fits widens sigs (GoodChild sigs) (child_facts (facts_of rows)) step keeps tag p.net.places r → IsTypedOutcome Has Below Fits rows sigs (as_node tag h c (λ Y. Sdf p Y) r)
     as-node-typed (Done x out l) n X t g =
-        let same : length (list_of (nodes_of (nodes x.kids))) ≡ n = nodes-length x.kids ∙ (g.3 ∙ t.places_counted) in
-        ((record {
-            places_counted = t.places_counted ∙ sym same;
-            repetitions_counted = t.repetitions_counted ∙ sym same;
-            rates_counted = t.rates_counted ∙ sym same;
-            sized = t.sized;
-            fed = t.fed;
-            room = g.1;
-            held = g.0;
-          }, nodes-typed sigs 0 x.kids g.2), g.4, within-typed sigs h.made l g.5)
+        let same : length (list_of (nodes_of (nodes x.kids))) ≡ n = nodes-length x.kids ∙ (g.3 ∙ t.places_counted) in (
+          (
+            record {
+              places_counted = t.places_counted ∙ sym same;
+              repetitions_counted = t.repetitions_counted ∙ sym same;
+              rates_counted = t.rates_counted ∙ sym same;
+              sized = t.sized;
+              fed = t.fed;
+              room = g.1;
+              held = g.0;
+            },
+            nodes-typed sigs 0 x.kids g.2,
+          ),
+          g.4,
+          within-typed sigs h.made l g.5,
+        )
     as-node-typed (Stuck fs l) n X t g = within-typed sigs h.made l g
 
   module _ (sigs : Signatures K) (step : Stepping T (Child (Node T A))) (keeps : (i : ℕ) → KeepsKinds Has (below sigs i) (GoodChild sigs i) step) (k : ℕ) (ms : List Meeting) (tag : Tag) (h : Past) (c : Core T) (kids : Nodes T A) (inputs : Streams T) where
@@ -86,12 +89,12 @@ module _ {T K A : Type 0} (Has : K → T → Type 0) (Below : K → K → Type 0
         let count = length (list_of kids) in
         as-node-typed sigs step keeps k tag h c p _ count X t
         (kahn-good Has Below Fits widens sigs (GoodChild sigs) (child_facts (facts_of rows)) step keeps tag p.net (sdf_limits m p.repetitions p.rates) its Y
-          (limits-length m p.repetitions p.rates count t.repetitions_counted t.rates_counted ∙ sym t.places_counted)
-          (numbered-length 0 (list_of kids) ∙ sym t.places_counted)
-          t.sized (numbered-good sigs 0 kids s) t.fed
-          (omega (arith, t.room, arrived-length Has Below Fits widens sigs (GoodChild sigs) p.net.sources inputs X))
-          (arrived-of Has Below Fits widens sigs (GoodChild sigs) p.net.sources (kinds_from sigs 0 p.net.places) inputs X t.fed a.1 t.held)
-          (fired_all m p.repetitions) _ k)
+        (limits-length m p.repetitions p.rates count t.repetitions_counted t.rates_counted ∙ sym t.places_counted)
+        (numbered-length 0 (list_of kids) ∙ sym t.places_counted)
+        t.sized (numbered-good sigs 0 kids s) t.fed
+        (omega (arith, t.room, arrived-length Has Below Fits widens sigs (GoodChild sigs) p.net.sources inputs X))
+        (arrived-of Has Below Fits widens sigs (GoodChild sigs) p.net.sources (kinds_from sigs 0 p.net.places) inputs X t.fed a.1 t.held)
+        (fired_all m p.repetitions) _ k)
     director-typed (Pn p X) t s a = absurd t
     director-typed (Sr p) t s a = absurd t
     director-typed (De p) t s a = absurd t

@@ -1,7 +1,7 @@
 -- What the typing of a net says of the ports of an entity.
-use Rattle.std.proofs.Common.{◌≡◌, ℕ, zero, suc, ◌+◌, List, [], ◌∷◌, ◌++◌, length, map, Bool, true, false, Option, Some, None, refl, sym, ap, subst, ◌∙◌, slice_get, arith}
+use Rattle.std.proofs.Common.{◌≡◌, ℕ, zero, suc, ◌+◌, List, [], ◌∷◌, ◌++◌, map, Some, refl, ap, subst, slice_get, arith}
 use Rattle.std.proofs.lemmas.List.Elements.{recursion_from_All}
-use Rattle.std.specs.List.{AllByRecursion, Contains, All}
+use Rattle.std.specs.List.{AllByRecursion}
 use Rattle.std.proofs.lemmas.List.Elements.{All-contains, All-from_recursion}
 use Rattle.pt_types.specs.Datatype.{Datatype, Int, Boolean, Words}
 use Rattle.pt_types.specs.Normal.{array_of}
@@ -18,14 +18,12 @@ use Rattle.pt_values.specs.declared.values.Values.{Values}
 use Rattle.pt_values.specs.Scopes.{net_view}
 use Rattle.pt_values.specs.Valued.{EntityView, inputs_view}
 use Rattle.pt_values.specs.Valued as valued
-use Rattle.pt_typing.specs.declared.variable.Variable.{Variable}
 use Rattle.pt_typing.specs.declared.variable.Variable.TheVariants.{Port, Row}
 use Rattle.pt_typing.specs.Least.{Assignment, IsMet}
-use Rattle.pt_typing.specs.Views.{Inequality}
 use Rattle.pt_resolve.specs.declared.row.PortType.{PortType}
 use Rattle.pt_resolve.specs.declared.row.PortType.TheVariants as port
 use Rattle.pt_resolve.specs.Rows.{port_type, port_type_in, port_rows, declared_output, seedings}
-use Rattle.pt_resolve.specs.Frames.{Frames, frames_of, seen_types, first, behind}
+use Rattle.pt_resolve.specs.Frames.{Frames, frames_of, seen_types}
 use Rattle.pt_resolve.specs.Inequalities.{of_channel, of_port, of_ports, of_parameters, of_standards, of_entity, of_entities, of_inputs, top_ports, inequalities}
 use Rattle.pt_resolve.specs.Typing.{IsTyping}
 use Rattle.pt_typed.specs.NetTypes.{source_type, place_type, TypesGoUp}
@@ -112,9 +110,10 @@ port-fact typing k e v types i name port.Field a = tt
 
 ports-facts : (typing : Assignment) (k : ℕ) (e : NetEntityTree) (v : EntityView) (types : Types) (i : ℕ) (ps : List PortTree) → AllByRecursion (IsMet typing) (of_ports k e v types i ps) → PortFacts (typing.types (Row k)) (λ n. typing.types (Port k n)) i (map (port_type e.class) ps)
 ports-facts typing k e v types i [] a = tt
-ports-facts typing k e v types i (p ∷ ps) a =
-    (port-fact typing k e v types i p.name (port_type e.class p) (all-front (IsMet typing) (of_port k e v types i p.name (port_type e.class p)) (of_ports k e v types (suc i) ps) a),
-     ports-facts typing k e v types (suc i) ps (all-back (IsMet typing) (of_port k e v types i p.name (port_type e.class p)) (of_ports k e v types (suc i) ps) a))
+ports-facts typing k e v types i (p ∷ ps) a = (
+  port-fact typing k e v types i p.name (port_type e.class p) (all-front (IsMet typing) (of_port k e v types i p.name (port_type e.class p)) (of_ports k e v types (suc i) ps) a),
+  ports-facts typing k e v types (suc i) ps (all-back (IsMet typing) (of_port k e v types i p.name (port_type e.class p)) (of_ports k e v types (suc i) ps) a),
+)
 
 -- the ports by their names and directions
 abbrev pub head : PortTree → List ℕ × Direction

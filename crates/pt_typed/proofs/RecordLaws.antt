@@ -1,28 +1,27 @@
 -- A record of tokens of some types is of the type that is recorded of these.
-use Rattle.std.proofs.Common.{◌≡◌, ℕ, zero, suc, List, [], ◌∷◌, length, map, Bool, true, false, ◌&&◌, Option, Some, None, refl, sym, ap, subst, ◌∙◌, arith, drop, if◌then◌else◌}
+use Rattle.std.proofs.Common.{◌≡◌, ℕ, List, [], ◌∷◌, length, map, Bool, true, false, ◌&&◌, refl, ap, subst, ◌∙◌, arith, if◌then◌else◌}
 use Rattle.std.specs.Prelude.{bytes_eq}
-use Rattle.std.specs.List.{AllByRecursion, zip}
-use Rattle.pt_meaning.specs.Basics.{Streams, at}
+use Rattle.std.specs.List.{zip}
+use Rattle.pt_meaning.specs.Basics.{Streams}
 use Rattle.pt_value.specs.Value as val
 use Rattle.pt_value.specs.Value.{Value, Named, named_of}
-use Rattle.pt_value.specs.Token.{value_of, token_of}
 use Rattle.pt_value.specs.Record as records
 use Rattle.pt_value.specs.declared.token.Token.{Token}
-use Rattle.pt_types.specs.Datatype.{Datatype, Record, General, FieldTypes, types_of}
+use Rattle.pt_types.specs.Datatype.{Datatype, Record, types_of}
 use Rattle.pt_types.specs.Normal.{record_of}
 use Rattle.pt_types.specs.Order.{is_below, are_below, IsBelow}
 use Rattle.pt_types.specs.Token.{type_of_value, field_types}
 use Rattle.pt_types.proofs.Fields.{and_both}
 use Rattle.pt_types.proofs.Joins.{normal-below}
-use Rattle.pt_types.proofs.Order.{bytes_eq-refl, below-trans, above-General}
+use Rattle.pt_types.proofs.Order.{bytes_eq-refl, below-trans}
 use Rattle.pt_expr.specs.Outcome.{Outcome, Gives, Stops, Wrong}
 use Rattle.pt_expr.specs.RecordOf as recording
-use Rattle.pt_expr_type.specs.Typing.{Typing, Has, Clash, where_true, or_general}
+use Rattle.pt_expr_type.specs.Typing.{where_true, or_general}
 use Rattle.pt_expr_type.specs.ByName.{by_name, put}
 use Rattle.pt_expr_type.specs.TreeType.{recorded}
-use Rattle.pt_expr_type.proofs.Values.{Of, Sound}
-use Rattle.pt_firing.specs.Row.{first_in, token_at, all_present}
-use Rattle.pt_lib_data.specs.RecordAssembler.{with_field, fields}
+use Rattle.pt_expr_type.proofs.Values.{Of}
+use Rattle.pt_firing.specs.Row.{all_present}
+use Rattle.pt_lib_data.specs.RecordAssembler.{fields}
 use Rattle.pt_typed.specs.Signature.{AreOf}
 use Rattle.pt_typed.specs.TokenTypes.{IsTokenOf}
 

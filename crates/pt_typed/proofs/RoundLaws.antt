@@ -1,18 +1,18 @@
 -- The rounds of a composite whose children keep to their signatures keep to the kinds of its channels.
 use Rattle.std.proofs.Common.{◌≡◌, ℕ, zero, suc, ◌+◌, ◌≤◌, List, [], ◌∷◌, ◌++◌, Bool, true, false, ◌&&◌, length, take, drop, Option, Some, None, refl, sym, ap, subst, arith, ◌∙◌, length-append, length-drop, append_assoc}
 use Rattle.std.specs.List.{AllByRecursion}
-use Rattle.pt_meaning.specs.Basics.{Tag, Streams, Log, Path, at, silent, log_then, own, log_below}
+use Rattle.pt_meaning.specs.Basics.{Tag, Streams, Log, Path, at, log_below}
 use Rattle.pt_meaning.specs.Streams.{get}
 use Rattle.pt_meaning.specs.Machine.{Fault, Outcome, Done, Stuck, Stepping, Facts}
 use Rattle.pt_meaning.specs.Flow.{Flow, flow}
 use Rattle.pt_meaning.specs.Net.{Inside, Source, Own, Output, Net}
 use Rattle.pt_meaning.specs.Running.{total}
-use Rattle.pt_meaning.specs.Rounds.{Limit, within, rated, gave, fed, refill, flows, round}
-use Rattle.pt_meaning.specs.Kahn.{arrival, arrived, faults_of, logs_of, states_of, left_by, skip_places, firsts, behind, lengths, if_settled, firing, settled, kahn}
+use Rattle.pt_meaning.specs.Rounds.{Limit, within, rated, gave, refill, flows, round}
+use Rattle.pt_meaning.specs.Kahn.{arrived, faults_of, logs_of, states_of, left_by, skip_places, firsts, behind, lengths, if_settled, firing, settled, kahn}
 use Rattle.pt_typed.specs.Signature.{Signature, Signatures, below, AllOf, AreOf, IsTypedEvent, IsTypedLog}
-use Rattle.pt_typed.specs.TypedTree.{kind_of, kinds_from, AreSized, IsFed, AreFed}
+use Rattle.pt_typed.specs.TypedTree.{kinds_from, AreSized, IsFed, AreFed}
 use Rattle.pt_typed.proofs.StreamLaws.{all-append, all-mono, AreGiven, at-given, take-of, drop-of, append-of, firsts-of, behind-of}
-use Rattle.pt_typed.proofs.FlowLaws.{GoodOutcome, KeepsKinds, rated-keeps, GoodFlow, flow-good}
+use Rattle.pt_typed.proofs.FlowLaws.{KeepsKinds, rated-keeps, GoodFlow, flow-good}
 
 length-take-within : {B : Type 0} (n : ℕ) (xs : List B) → n ≤ length xs → length (take n xs) ≡ n
 length-take-within zero xs h = refl
@@ -87,9 +87,10 @@ module _ {T K A S : Type 0} (Has : K → T → Type 0) (Below : K → K → Type
         let front = subst (λ v. AreOf Has places (take v X)) z.0 (take-of Has places rest X a) in
         let back = subst (λ v. AreOf Has rest (drop v X)) z.0 (drop-of Has places rest X a) in
         let long : length (take n X) ≡ n = length-take-within n X (omega (arith, r)) in
-        let f = flow-good Has (below sigs i) (Good i) facts (rated facts l.rates step) (rated-keeps Has (below sigs i) (Good i) facts step l.rates (keeps i)) tag (within l.firings k) s (take n X) g.0 (long ∙ sym z.0, front) in
-        (subst (λ v. GoodFlow Has (below sigs i) (Good i) v (flow facts (rated facts l.rates step) tag (within l.firings k) s (take n X))) long f,
-         flows-good (suc i) ns cs k ss (drop n X) (omega (arith, c)) (omega (arith, e)) z.1 g.1 (omega (arith, r, length-drop n X)) back)
+        let f = flow-good Has (below sigs i) (Good i) facts (rated facts l.rates step) (rated-keeps Has (below sigs i) (Good i) facts step l.rates (keeps i)) tag (within l.firings k) s (take n X) g.0 (long ∙ sym z.0, front) in (
+          subst (λ v. GoodFlow Has (below sigs i) (Good i) v (flow facts (rated facts l.rates step) tag (within l.firings k) s (take n X))) long f,
+          flows-good (suc i) ns cs k ss (drop n X) (omega (arith, c)) (omega (arith, e)) z.1 g.1 (omega (arith, r, length-drop n X)) back,
+        )
 
     -- ---- what the children leave
 
@@ -151,13 +152,14 @@ module _ {T K A S : Type 0} (Has : K → T → Type 0) (Below : K → K → Type
         let Y = skip_places ns X in
         let ms = counts (lengths Y) in
         let outs = skip-of 0 ns X z a in
-        settled-good b ns (record { held = left_by fs ++ behind ms Y; kids = states_of fs }) (firsts ms Y) (log_below (logs_of fs)) (faults_of 0 fs)
-        (left-of 0 ns fs (behind ms Y) z g (behind-of Has ms (sigs []).outputs Y outs),
-         omega (arith, length-append (left_by fs) (behind ms Y), left-length 0 ns fs g),
-         states-good 0 ns fs g,
-         states-counted 0 ns fs g,
-         firsts-of Has ms (sigs []).outputs Y outs,
-         logs-typed ns fs g)
+        settled-good b ns (record { held = left_by fs ++ behind ms Y; kids = states_of fs }) (firsts ms Y) (log_below (logs_of fs)) (faults_of 0 fs) (
+          left-of 0 ns fs (behind ms Y) z g (behind-of Has ms (sigs []).outputs Y outs),
+          omega (arith, length-append (left_by fs) (behind ms Y), left-length 0 ns fs g),
+          states-good 0 ns fs g,
+          states-counted 0 ns fs g,
+          firsts-of Has ms (sigs []).outputs Y outs,
+          logs-typed ns fs g,
+        )
 
     module _ (net : Net) (limits : List Limit) (kids : List S) (X : Streams T) (limited : length limits ≡ length net.places) (counted : length kids ≡ length net.places) (sized : AreSized sigs 0 net.places) (good : AreGood 0 kids)
         (fed-by : AreFed {A = A} Has Below Fits sigs net.sources (kinds_from sigs 0 net.places)) (room : total net.places ≤ length X) (held : AreOf Has (kinds_from sigs 0 net.places) X) where

@@ -1,17 +1,15 @@
 -- The typing of a net meets the rows of the actors that its entities start as.
-use Rattle.std.proofs.Common.{◌≡◌, ◌⊎◌, inl, inr, ℕ, zero, suc, ◌+◌, List, [], ◌∷◌, ◌++◌, length, map, Bool, true, false, not, Option, Some, None, refl, sym, ap, ap₂, subst, ◌∙◌, slice_get, arith}
+use Rattle.std.proofs.Common.{◌≡◌, ◌⊎◌, inl, inr, ℕ, zero, suc, ◌+◌, List, [], ◌∷◌, map, true, false, not, Option, Some, None, refl, sym, ap, ap₂, subst, ◌∙◌, slice_get, arith}
 use Rattle.std.specs.Prelude.{option_map, codes}
 use Rattle.std.specs.Option.{option_or}
-use Rattle.std.proofs.lemmas.Option.{same_Some, slice_get-map}
+use Rattle.std.proofs.lemmas.Option.{same_Some}
 use Rattle.pt_moml.specs.declared.job.Direction.{Direction}
 use Rattle.pt_moml.specs.declared.job.Direction.TheVariants.{Input, Output}
 use Rattle.pt_moml.specs.declared.job.Port.{Port}
-use Rattle.pt_moml.specs.declared.classes.Arity.TheVariants.{Single}
-use Rattle.pt_moml.specs.Classes.{Class, ClassPort, Kind, Actor, kind_of}
+use Rattle.pt_moml.specs.Classes.{ClassPort, Actor, kind_of}
 use Rattle.pt_moml.specs.Document.{PortTree}
 use Rattle.pt_moml.specs.View.{port_view}
 use Rattle.pt_types.specs.Datatype.{Datatype}
-use Rattle.pt_graph.specs.declared.net.Channel.{Channel}
 use Rattle.pt_graph.specs.declared.net.Net.{Net}
 use Rattle.pt_graph.specs.declared.net.NetEntity.{NetEntity}
 use Rattle.pt_graph.specs.Table.{joined_ports, declared_port}
@@ -22,7 +20,6 @@ use Rattle.pt_values.specs.Valued as valued
 use Rattle.pt_typing.specs.declared.variable.Variable.TheVariants as variable
 use Rattle.pt_typing.specs.Least.{Assignment}
 use Rattle.pt_resolve.specs.Typing.{IsTyping}
-use Rattle.pt_start.specs.Started.{IsStart}
 use Rattle.pt_lib_flow.specs.declared.params.Params.{Params}
 use Rattle.pt_lib_flow.specs.declared.flow_actor.FlowActor.{FlowActor}
 use Rattle.pt_lib_flow.specs.declared.flow_actor.FlowActor.TheVariants as flow
@@ -44,16 +41,15 @@ use Rattle.pt_lib_data.specs.DataActor as data_actor
 use Rattle.pt_library.specs.declared.library_actor.LibraryActor.{LibraryActor}
 use Rattle.pt_library.specs.declared.library_actor.LibraryActor.TheVariants.{Flow, Data}
 use Rattle.pt_library.specs.LibraryActor.{start}
-use Rattle.pt_typed.specs.Signature.{Signature}
 use Rattle.pt_typed.specs.TypedActor.{MeetsRow}
 use Rattle.pt_typed.specs.TypedFlow.{IsTypedFlow}
 use Rattle.pt_typed.specs.TypedData.{IsTypedFunction}
 use Rattle.pt_typed.specs.NetTypes.{arrivals, place_type, number_if, port_numbers, port_types, by_director, types_of, types_below}
 use Rattle.pt_typed.specs.NetRows.{ends_from, channels_at, HasClassPorts, is_plain_flow, is_plain_function, is_plain_actor}
-use Rattle.pt_typed.specs.RowLaw.{types_of_ports, PlainRowsAreMet}
+use Rattle.pt_typed.specs.RowLaw.{PlainRowsAreMet}
 use Rattle.pt_typed.proofs.NetLaws.{types-at-ends, ends-of}
 use Rattle.pt_typed.proofs.PortFacts.{PortFacts, head, head_type, entity-facts}
-use Rattle.pt_typed.proofs.ClassPorts.{class_head, class_mark, heads_in, marks_in, declares_in, SinglesFrom, singles-from, out_if, outs_from}
+use Rattle.pt_typed.proofs.ClassPorts.{class_head, heads_in, marks_in, declares_in, SinglesFrom, singles-from, out_if, outs_from}
 use Rattle.pt_typed.proofs.FlowStarts as flows
 use Rattle.pt_typed.proofs.FlowStarts.{mapped}
 use Rattle.pt_typed.proofs.DataStarts as functions
@@ -183,7 +179,7 @@ module _ (net : Net) (values : Values) (typing : Assignment) (k : ℕ) (e : NetE
     its-singles =
         subst (λ o. SinglesFrom (channels_at net k) 0 (marks_in o)) (sym kind)
         (singles-from (channels_at net k) 0 has.class.ports (λ j p there d a. ap (channels_at net k) (let z : 0 + j ≡ j = omega arith in z) ∙
-          has.single j p (ap (λ ps. slice_get ps j) (ap₂ (λ o ds. joined_ports o (map declared_port ds) has.class.ports) undeclared (has.none undeclared)) ∙ there) d a))
+        has.single j p (ap (λ ps. slice_get ps j) (ap₂ (λ o ds. joined_ports o (map declared_port ds) has.class.ports) undeclared (has.none undeclared)) ∙ there) d a))
 
   flow-meets : (c : FlowClass) (a : FlowActor) → flow_actor.class_of params.class ≡ Some c → flow_actor.start_as c params ≡ Some a → is_plain_flow a ≡ true → MeetsRow (types_below net typing k []) (Flow a)
   flow-meets c a is started p =
@@ -193,8 +189,8 @@ module _ (net : Net) (values : Values) (typing : Assignment) (k : ℕ) (e : NetE
       let heads = flow_classes.heads_of c in
       let declares = flow_classes.plain-declares c plain in
       let fits = flow_classes.flow-fits c row types (channels_at net k) params plain
-          (subst (λ ts. PortFacts row types 0 ts) (flow_classes.types-are c) (its-facts name named heads (flow_classes.heads-are c) declares))
-          (subst (λ ms. SinglesFrom (channels_at net k) 0 ms) (flow_classes.marks-are c) (its-singles name named heads (flow_classes.heads-are c) declares)) in
+      (subst (λ ts. PortFacts row types 0 ts) (flow_classes.types-are c) (its-facts name named heads (flow_classes.heads-are c) declares))
+      (subst (λ ms. SinglesFrom (channels_at net k) 0 ms) (flow_classes.marks-are c) (its-singles name named heads (flow_classes.heads-are c) declares)) in
       let asked = flows.flow-asked _ _ c params a started fits in
       subst (λ ps. IsTypedFlow ps (types_below net typing k []).outputs a) (sym (its-places name named heads (flow_classes.heads-are c) declares))
       (subst (λ us. IsTypedFlow (map types (ends_from (channels_at net k) 0 (map (λ (h : List ℕ × Direction). h.1) heads))) us a) (sym (its-outputs name named heads (flow_classes.heads-are c) declares)) asked)

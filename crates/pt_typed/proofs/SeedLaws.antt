@@ -1,15 +1,13 @@
 -- The tokens that parameters give are of the type of the row of their entity.
-use Rattle.std.proofs.Common.{◌≡◌, ℕ, zero, suc, ◌+◌, List, [], ◌∷◌, ◌++◌, length, map, Bool, true, false, not, ◌&&◌, ◌||◌, Option, Some, None, ℤ, pos, refl, sym, ap, subst, ◌∙◌, arith, if◌then◌else◌}
+use Rattle.std.proofs.Common.{◌≡◌, ℕ, List, [], ◌∷◌, length, map, Bool, true, false, not, ◌||◌, Option, Some, None, refl, ap, subst, ◌∙◌, arith, if◌then◌else◌}
 use Rattle.std.specs.Prelude.{codes, bytes_eq}
-use Rattle.std.specs.List.{AllByRecursion, list_any}
+use Rattle.std.specs.List.{AllByRecursion}
 use Rattle.std.proofs.lemmas.Slice.Eq.{bytes_eq-Decides}
 use Rattle.std.proofs.lemmas.Option.{same_Some}
-use Rattle.pt_value.specs.Value as val
 use Rattle.pt_value.specs.Value.{Value, Values, no_values, value_then, values_of}
 use Rattle.pt_value.specs.Token.{value_of, token_of}
 use Rattle.pt_value.specs.declared.token.Token.{Token}
-use Rattle.pt_value.specs.declared.token.Token.TheVariants as token
-use Rattle.pt_types.specs.Datatype.{Datatype, Unknown, Int}
+use Rattle.pt_types.specs.Datatype.{Datatype, Int}
 use Rattle.pt_types.specs.Order.{IsBelow}
 use Rattle.pt_types.specs.Join.{join}
 use Rattle.pt_types.specs.Token.{type_of_value}
@@ -27,12 +25,12 @@ use Rattle.pt_typing.specs.Terms.{Fixed}
 use Rattle.pt_typing.specs.Least.{Assignment, IsMet}
 use Rattle.pt_resolve.specs.declared.row.Seed.{Seed}
 use Rattle.pt_resolve.specs.declared.row.Seed.TheVariants as seed
-use Rattle.pt_resolve.specs.Rows.{seedings, seed_of, seed_in, seeded, joined_values, elements_type, standard_type}
-use Rattle.pt_resolve.specs.Inequalities.{of_seed, of_value, of_parameter, of_parameters, of_standards, is_given}
-use Rattle.pt_start.specs.Started.{own_tokens, given_tokens, given_tree}
+use Rattle.pt_resolve.specs.Rows.{seedings, seed_of, seeded, joined_values}
+use Rattle.pt_resolve.specs.Inequalities.{of_seed, of_parameters, of_standards, is_given}
+use Rattle.pt_start.specs.Started.{own_tokens, given_tree}
 use Rattle.pt_typed.specs.TokenTypes.{IsTokenOf}
 use Rattle.pt_typed.specs.TypedFlow.{IsValueOf}
-use Rattle.pt_typed.specs.NetRows.{IsTokenHeld, HoldsTokens}
+use Rattle.pt_typed.specs.NetRows.{IsTokenHeld}
 use Rattle.pt_typed.proofs.TypeLaws.{of-value}
 use Rattle.pt_typed.proofs.PortFacts.{all-front, all-back}
 

@@ -1,9 +1,8 @@
 -- The typing of a net meets the rows of the actors that give tokens of their parameters.
-use Rattle.std.proofs.Common.{◌≡◌, ◌⊎◌, inl, inr, ℕ, zero, suc, ◌+◌, List, [], ◌∷◌, ◌++◌, length, map, replicate, Bool, true, false, Option, Some, None, refl, sym, ap, subst, ◌∙◌, slice_get}
-use Rattle.std.specs.Prelude.{codes, option_map, ℤ, pos}
+use Rattle.std.proofs.Common.{◌≡◌, ◌⊎◌, inl, inr, ℕ, List, [], ◌∷◌, ◌++◌, map, Bool, true, false, Option, Some, None, refl, sym, ap, subst, ◌∙◌, slice_get}
+use Rattle.std.specs.Prelude.{codes, pos}
 use Rattle.std.specs.List.{AllByRecursion}
 use Rattle.std.proofs.lemmas.Option.{same_Some}
-use Rattle.pt_meaning.specs.Streams.{get}
 use Rattle.pt_moml.specs.declared.job.Direction.{Direction}
 use Rattle.pt_moml.specs.Classes.{kind_of, class_row, classes}
 use Rattle.pt_moml.specs.Document.{PropertyTree}
@@ -12,7 +11,6 @@ use Rattle.pt_value.specs.Token.{value_of, token_of}
 use Rattle.pt_value.specs.declared.token.Token.{Token}
 use Rattle.pt_value.specs.declared.token.Token.TheVariants as token
 use Rattle.pt_types.specs.Datatype.{Datatype, Unknown, Int}
-use Rattle.pt_types.specs.Order.{IsBelow}
 use Rattle.pt_types.specs.Token.{type_of_value}
 use Rattle.pt_types.proofs.Order.{below-trans}
 use Rattle.pt_graph.specs.declared.net.Net.{Net}
@@ -24,11 +22,11 @@ use Rattle.pt_values.specs.declared.values.Values.{Values}
 use Rattle.pt_values.specs.Valued as valued
 use Rattle.pt_typing.specs.declared.variable.Variable.TheVariants as variable
 use Rattle.pt_typing.specs.Least.{Assignment, IsMet}
-use Rattle.pt_resolve.specs.Rows.{seedings, seeded, elements_type, joined_values}
+use Rattle.pt_resolve.specs.Rows.{seedings, joined_values}
 use Rattle.pt_resolve.specs.Frames.{frames_of, seen_types}
 use Rattle.pt_resolve.specs.Inequalities.{of_ports, of_parameters, of_standards}
 use Rattle.pt_resolve.specs.Typing.{IsTyping}
-use Rattle.pt_start.specs.Started.{own_tokens, seen_tokens, given_tree, IsStart}
+use Rattle.pt_start.specs.Started.{own_tokens, seen_tokens}
 use Rattle.pt_firing.specs.Params.{value_under, channels_to, bool_or}
 use Rattle.pt_lib_flow.specs.declared.params.Params.{Params}
 use Rattle.pt_lib_flow.specs.declared.limit.Limit.{Limit}
@@ -64,18 +62,18 @@ use Rattle.pt_lib_data.specs.DataActor as data_actor
 use Rattle.pt_library.specs.declared.library_actor.LibraryActor.{LibraryActor}
 use Rattle.pt_library.specs.declared.library_actor.LibraryActor.TheVariants.{Flow, Data}
 use Rattle.pt_library.specs.LibraryActor.{start}
-use Rattle.pt_typed.specs.TokenTypes.{IsTokenOf, IsUnder}
+use Rattle.pt_typed.specs.TokenTypes.{IsTokenOf}
 use Rattle.pt_typed.specs.TypedActor.{MeetsRow}
-use Rattle.pt_typed.specs.TypedFlow.{IsValueOf, IsTypedFlow}
+use Rattle.pt_typed.specs.TypedFlow.{IsTypedFlow}
 use Rattle.pt_typed.specs.NetTypes.{types_below}
 use Rattle.pt_typed.specs.NetRows.{ends_from, channels_at, HasClassPorts, is_seeded_flow, is_seeded_actor, HoldsTokens}
-use Rattle.pt_typed.specs.RowLaw.{types_of_ports, SeededRowsAreMet}
+use Rattle.pt_typed.specs.RowLaw.{SeededRowsAreMet}
 use Rattle.pt_typed.proofs.PortFacts.{PortFacts, all-front, all-back, entity-met}
-use Rattle.pt_typed.proofs.ClassPorts.{heads_in, declares_in, outs_from, one-port}
+use Rattle.pt_typed.proofs.ClassPorts.{declares_in, outs_from, one-port}
 use Rattle.pt_typed.proofs.FlowStarts as flows
 use Rattle.pt_typed.proofs.FlowStarts.{mapped}
 use Rattle.pt_typed.proofs.FlowClasses as flow_classes
-use Rattle.pt_typed.proofs.RowsMet.{viewed, one-of-two, flow-in, its-class, its-places, its-outputs, its-facts}
+use Rattle.pt_typed.proofs.RowsMet.{viewed, one-of-two, flow-in, its-places, its-outputs, its-facts}
 use Rattle.pt_typed.proofs.SeedLaws.{value-met, not-given, no-tree, elements-below, tokens-of-values, const-seed, sequence-seed, delay-seed, delay-standard}
 
 -- ---- what starts
@@ -166,23 +164,27 @@ module _ (net : Net) (values : Values) (typing : Assignment) (k : ℕ) (e : NetE
       let given = own-value (codes "value") (Some w.0.value) (const-value (value_under (codes "value") params.values) (limit_in params.values) (channels_to (codes "trigger") params.ports) w.0 w.1) in
       subst (λ b. MeetsRow (types_below net typing k []) (Flow b)) w.2
       (as-class class.Const (flow.Const w.0) is const-declares (λ named f.
-        below-trans (type_of_value (value_of w.0.value)) row (types 1) (value-met typing k (codes "Const") (codes "value") seed.Whole ps vs w.0.value const-seed holds.counted holds.held (parameters-met (codes "Const") named) given) f.1.0.0))
+      below-trans (type_of_value (value_of w.0.value)) row (types 1) (value-met typing k (codes "Const") (codes "value") seed.Whole ps vs w.0.value const-seed holds.counted holds.held (parameters-met (codes "Const") named) given) f.1.0.0))
   seeded-meets class.Sequence a is started s =
       let w = mapped flow.Sequence (sequence.start params) a started in
       let given = own-value (codes "values") (Some (token.Array w.0.values)) (sequence-values (value_under (codes "values") params.values) (bool_or (codes "repeat") false params.values) (channels_to (codes "trigger") params.ports) w.0 w.1) in
       subst (λ b. MeetsRow (types_below net typing k []) (Flow b)) w.2
       (as-class class.Sequence (flow.Sequence w.0) is sequence-declares (λ named f.
-        elements-below Unknown (types 1) w.0.values (below-trans (joined_values Unknown (values_of w.0.values)) row (types 1) (value-met typing k (codes "Sequence") (codes "values") seed.Elements ps vs (token.Array w.0.values) sequence-seed holds.counted holds.held (parameters-met (codes "Sequence") named) given) f.1.0.0)))
+      elements-below Unknown (types 1) w.0.values (below-trans (joined_values Unknown (values_of w.0.values)) row (types 1) (value-met typing k (codes "Sequence") (codes "values") seed.Elements ps vs (token.Array w.0.values) sequence-seed holds.counted holds.held (parameters-met (codes "Sequence") named) given) f.1.0.0)))
   seeded-meets class.SampleDelay a is started s =
       let w = mapped flow.SampleDelay (sample_delay.start params) a started in
       subst (λ b. MeetsRow (types_below net typing k []) (Flow b)) w.2
-      (as-class class.SampleDelay (flow.SampleDelay w.0) is delay-declares (λ named f.
-        (one-port types (channels_at net k 0) 0 (types 1) (below-trans (types 0) row (types 1) f.0.1 f.1.0.0),
-         (elim (delay-tokens (value_under (codes "initialOutputs") params.values) w.0 w.1) as (λ x. AllByRecursion (IsTokenOf (types 1)) w.0.initial) [
-           | inl g ↦ subst (λ ts. AllByRecursion (IsTokenOf (types 1)) ts) (sym g.2) (tokens-of-values (types 1) g.0 (elements-below Unknown (types 1) g.0 (below-trans (joined_values Unknown (values_of g.0)) row (types 1)
-               (value-met typing k (codes "SampleDelay") (codes "initialOutputs") seed.Elements ps vs (token.Array g.0) delay-seed holds.counted holds.held (parameters-met (codes "SampleDelay") named) (own-value (codes "initialOutputs") (Some (token.Array g.0)) g.1)) f.1.0.0)))
-           | inr g ↦ subst (λ ts. AllByRecursion (IsTokenOf (types 1)) ts) (sym g.1) (below-trans Int row (types 1) (delay-standard typing k ps (not-given (codes "initialOutputs") ps vs holds.counted holds.held (own-value (codes "initialOutputs") None g.0)) (standards-met (codes "SampleDelay") named)) f.1.0.0, tt)
-         ], tt))))
+      (as-class class.SampleDelay (flow.SampleDelay w.0) is delay-declares (λ named f. (
+        one-port types (channels_at net k 0) 0 (types 1) (below-trans (types 0) row (types 1) f.0.1 f.1.0.0),
+        (
+          elim (delay-tokens (value_under (codes "initialOutputs") params.values) w.0 w.1) as (λ x. AllByRecursion (IsTokenOf (types 1)) w.0.initial) [
+            | inl g ↦ subst (λ ts. AllByRecursion (IsTokenOf (types 1)) ts) (sym g.2) (tokens-of-values (types 1) g.0 (elements-below Unknown (types 1) g.0 (below-trans (joined_values Unknown (values_of g.0)) row (types 1)
+                (value-met typing k (codes "SampleDelay") (codes "initialOutputs") seed.Elements ps vs (token.Array g.0) delay-seed holds.counted holds.held (parameters-met (codes "SampleDelay") named) (own-value (codes "initialOutputs") (Some (token.Array g.0)) g.1)) f.1.0.0)))
+            | inr g ↦ subst (λ ts. AllByRecursion (IsTokenOf (types 1)) ts) (sym g.1) (below-trans Int row (types 1) (delay-standard typing k ps (not-given (codes "initialOutputs") ps vs holds.counted holds.held (own-value (codes "initialOutputs") None g.0)) (standards-met (codes "SampleDelay") named)) f.1.0.0, tt)
+          ],
+          tt,
+        ),
+      )))
   seeded-meets class.AbsoluteValue a is started s = let w = mapped flow.AbsoluteValue (absolute_value.start params) a started in let no : false ≡ true = ap is_seeded_flow w.2 ∙ s in absurd (cc)
   seeded-meets class.Accumulator a is started s = let w = mapped flow.Accumulator (accumulator.start params) a started in let no : false ≡ true = ap is_seeded_flow w.2 ∙ s in absurd (cc)
   seeded-meets class.AddSubtract a is started s = let w = mapped flow.AddSubtract (add_subtract.start params) a started in let no : false ≡ true = ap is_seeded_flow w.2 ∙ s in absurd (cc)
@@ -213,5 +215,5 @@ seeded-rows-met net values typing k e a at undirected has typed started s holds 
     let vs = from.held.parameters.items in
     let holds-here : HoldsTokens (entity_view e).parameters vs = subst (λ (d : NetEntityTree). HoldsTokens d.parameters vs) (sym view) holds in
     let values-are : params.values ≡ own_tokens (entity_view e).parameters vs =
-        from.from.values_are ∙ ap (λ o. own_tokens from.entity.parameters vs ++ seen_tokens from.seen o) (no-tree vs holds.held) ∙ append-none (own_tokens from.entity.parameters vs) ∙ ap (λ (d : NetEntityTree). own_tokens d.parameters vs) (sym view) in
+    from.from.values_are ∙ ap (λ o. own_tokens from.entity.parameters vs ++ seen_tokens from.seen o) (no-tree vs holds.held) ∙ append-none (own_tokens from.entity.parameters vs) ∙ ap (λ (d : NetEntityTree). own_tokens d.parameters vs) (sym view) in
     all-meet net values typing k e at undirected has typed params (from.from.class_is ∙ ap (λ (d : NetEntityTree). d.class) (sym view)) (valued.entity_view from.held) (viewed valued.entity_view values.entities.items k from.held from.held_at) vs refl holds-here values-are a started.is s

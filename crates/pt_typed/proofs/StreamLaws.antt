@@ -1,11 +1,11 @@
 -- Streams of tokens of given kinds: their parts, and what is joined of them.
-use Rattle.std.proofs.Common.{◌≡◌, ℕ, zero, suc, ◌+◌, ◌≤◌, List, [], ◌∷◌, ◌++◌, Bool, true, false, length, take, drop, Option, Some, None, refl, sym, ap, subst, arith, ◌∙◌, nat_le}
+use Rattle.std.proofs.Common.{◌≡◌, ℕ, zero, suc, List, [], ◌∷◌, ◌++◌, Bool, true, false, length, take, drop, Option, Some, None, refl, ap, arith, nat_le}
 use Rattle.std.specs.List.{AllByRecursion}
 use Rattle.pt_meaning.specs.Basics.{Streams, at, joined}
 use Rattle.pt_meaning.specs.Streams.{get}
 use Rattle.pt_meaning.specs.Machine.{Need, Over, Counts, Any, Front, Lacks, Ends, Takes, if_long, counted, front}
 use Rattle.pt_meaning.specs.Kahn.{firsts, behind}
-use Rattle.pt_typed.specs.Signature.{Signature, AllOf, AreOf}
+use Rattle.pt_typed.specs.Signature.{AllOf, AreOf}
 
 module _ {T : Type 0} (P : T → Type 0) where
   pub all-append : (xs ys : List T) → AllByRecursion P xs → AllByRecursion P ys → AllByRecursion P (xs ++ ys)

@@ -1,5 +1,5 @@
 -- The tree of a net is typed by the types of the net.
-use Rattle.std.proofs.Common.{◌≡◌, ℕ, zero, suc, ◌+◌, ◌*◌, ◌≤◌, List, [], ◌∷◌, ◌++◌, Bool, true, false, ◌&&◌, length, map, take, drop, nat_lt, Option, Some, None, refl, sym, ap, subst, arith, ◌∙◌, length-append, slice_get}
+use Rattle.std.proofs.Common.{◌≡◌, ℕ, zero, suc, ◌+◌, ◌*◌, ◌≤◌, List, [], ◌∷◌, Bool, true, false, ◌&&◌, length, map, drop, nat_lt, Option, Some, None, refl, sym, ap, subst, arith, ◌∙◌, length-append, slice_get}
 use Rattle.std.proofs.lemmas.List.{length-map}
 use Rattle.std.proofs.lemmas.Option.{same_Some}
 use Rattle.std.proofs.lemmas.Bool.{eqb-true}
@@ -13,8 +13,7 @@ use Rattle.pt_meaning.specs.Sdf.{SdfPlan}
 use Rattle.pt_meaning.specs.Start.{first_of_node, first_of, first_held}
 use Rattle.pt_meaning.specs.Schedule.{portions, suffice, if_more, sdf_top}
 use Rattle.pt_meaning.specs.Step.{no_meetings}
-use Rattle.pt_meaning.specs.Job.{Turn, Fire, Ends}
-use Rattle.pt_meaning.specs.Tree as tree
+use Rattle.pt_meaning.specs.Job.{Fire}
 use Rattle.pt_meaning.specs.Tree.{list_of, nodes_of, Actor, Composite}
 use Rattle.pt_value.specs.declared.token.Token.{Token}
 use Rattle.pt_types.specs.Datatype.{Datatype}
@@ -26,14 +25,14 @@ use Rattle.pt_graph.specs.declared.net.NetEntity.{NetEntity}
 use Rattle.pt_wiring.specs.Inside.{children_of, place_count, source_of, channels_in, is_within}
 use Rattle.pt_typing.specs.Least.{Assignment}
 use Rattle.pt_library.specs.declared.library_actor.LibraryActor.{LibraryActor}
-use Rattle.pt_library.specs.LibraryActor.{rows, first}
+use Rattle.pt_library.specs.LibraryActor.{rows}
 use Rattle.pt_plan.specs.declared.inside.Inside.{Inside}
 use Rattle.pt_plan.specs.PlanOf.{IsPlanOf}
 use Rattle.pt_node.specs.View.{Tree}
 use Rattle.pt_composite.specs.Around.{IsInsideOf}
 use Rattle.pt_composite.specs.Rates.{rates_of}
-use Rattle.pt_build.specs.Trees.{Starts, StartsAs, IsEntity, has_sdf, is_sdf, around_in, IsTree, of_actor, of_sdf, AreTrees, no_trees, more_trees}
-use Rattle.pt_typed.specs.Signature.{Signature, Signatures, below, AreOf, AreAllOf, IsTypedLog}
+use Rattle.pt_build.specs.Trees.{Starts, StartsAs, has_sdf, around_in, IsTree, of_actor, of_sdf, AreTrees, no_trees, more_trees}
+use Rattle.pt_typed.specs.Signature.{Signatures, AreOf, AreAllOf}
 use Rattle.pt_typed.specs.TokenTypes.{IsTokenOf}
 use Rattle.pt_typed.specs.TypedActor.{MeetsRow, IsTypedActor}
 use Rattle.pt_typed.specs.TypedTree.{kind_of, kinds_from, AreSized, AreFed, IsTypedSdf, IsTypedNode, AreTypedNodes}
@@ -106,9 +105,11 @@ module _ (net : Net) (typing : Assignment) (starts : Starts) (wired : IsWired ne
 
     held-along : (cs : List Channel) → AllByRecursion (λ x. Contains net.channels.items x × (is_within k x ≡ true)) cs → AreOf IsTokenOf (map (place_type typing) cs) (first_held rows kids (map (source_of net.entities.items) cs))
     held-along [] a = tt
-    held-along (x ∷ cs) a =
-        (all-mono (IsTokenOf (source_type typing x)) (IsTokenOf (place_type typing x)) (λ t h. token-wider (source_type typing x) (place_type typing x) t (up x a.0.0) h) (first_of rows kids (source_of net.entities.items x))
-          (source-first (source_of net.entities.items x) (source_type typing x) (source-kind net typing wired k e d at directed x (eqb-true x.composite k a.0.1) (wired.begin x a.0.0))), held-along cs a.1)
+    held-along (x ∷ cs) a = (
+      all-mono (IsTokenOf (source_type typing x)) (IsTokenOf (place_type typing x)) (λ t h. token-wider (source_type typing x) (place_type typing x) t (up x a.0.0) h) (first_of rows kids (source_of net.entities.items x))
+          (source-first (source_of net.entities.items x) (source_type typing x) (source-kind net typing wired k e d at directed x (eqb-true x.composite k a.0.1) (wired.begin x a.0.0))),
+      held-along cs a.1,
+    )
 
     held-of : AreOf IsTokenOf (kinds_from sigs 0 (map (place_count net.channels.items) (children_of net.entities.items k))) (first_held rows kids (map (source_of net.entities.items) (channels_in net.channels.items k)))
     held-of = subst (λ ts. AreOf IsTokenOf ts (first_held rows kids (map (source_of net.entities.items) (channels_in net.channels.items k)))) (sym (kinds-are net typing wired k e d at directed)) (held-along (channels_in net.channels.items k) (all-filtered (Contains net.channels.items) (is_within k) net.channels.items (their-own net typing wired)))
@@ -122,8 +123,8 @@ module _ (net : Net) (typing : Assignment) (starts : Starts) (wired : IsWired ne
         let sized-here = subst (λ ns. AreSized sigs 0 ns) (sym places) (sized net typing wired k e d at directed) in
         let long = kinds-long sigs 0 p.net.places sized-here in
         let whole : length (kinds_from sigs 0 p.net.places) ≡ length (first_held rows kids p.net.sources) =
-            ap (λ ns. length (kinds_from sigs 0 ns)) places ∙ ap length (kinds-are net typing wired k e d at directed) ∙ length-map (channels_in net.channels.items k) (place_type typing)
-            ∙ sym (length-map (channels_in net.channels.items k) (source_of net.entities.items)) ∙ ap length (sym sources) ∙ sym (held-length kids p.net.sources) in
+        ap (λ ns. length (kinds_from sigs 0 ns)) places ∙ ap length (kinds-are net typing wired k e d at directed) ∙ length-map (channels_in net.channels.items k) (place_type typing)
+        ∙ sym (length-map (channels_in net.channels.items k) (source_of net.entities.items)) ∙ ap length (sym sources) ∙ sym (held-length kids p.net.sources) in
         let rated : length p.rates ≡ length kids = ap length plan.rates ∙ sym (length-map x.rates.items (λ (rs : List ℕ). Some rs)) ∙ ap length inside.rates ∙ length-map kids rates_of in
         record {
           places_counted = count;
@@ -150,9 +151,10 @@ module _ (net : Net) (typing : Assignment) (starts : Starts) (wired : IsWired ne
         AreTypedNodes IsTokenOf IsBelow IsTypedActor (types_below net typing k) i (nodes_of ts)
     trees-typed no_trees k e d at directed i h = tt
     trees-typed (more_trees c cs t ts a b) k e d at directed i h =
-        let here : slice_get (children_of net.entities.items k) i ≡ Some c = ap (slice_get (children_of net.entities.items k)) (let z : i ≡ i + 0 = omega arith in z) ∙ h 0 c refl in
-        (subst (λ (s : Signatures Datatype). IsTypedNode IsTokenOf IsBelow IsTypedActor s t) (sym (child-below net typing wired k e d at directed i c here)) (tree-typed a),
-         trees-typed b k e d at directed (suc i) (λ j n g. ap (slice_get (children_of net.entities.items k)) (let z : suc i + j ≡ i + suc j = omega arith in z) ∙ h (suc j) n g))
+        let here : slice_get (children_of net.entities.items k) i ≡ Some c = ap (slice_get (children_of net.entities.items k)) (let z : i ≡ i + 0 = omega arith in z) ∙ h 0 c refl in (
+          subst (λ (s : Signatures Datatype). IsTypedNode IsTokenOf IsBelow IsTypedActor s t) (sym (child-below net typing wired k e d at directed i c here)) (tree-typed a),
+          trees-typed b k e d at directed (suc i) (λ j n g. ap (slice_get (children_of net.entities.items k)) (let z : suc i + j ≡ i + suc j = omega arith in z) ∙ h (suc j) n g),
+        )
 
 pub trees-are-typed : TreesAreTyped
 trees-are-typed net typing starts k t wired up meet is = tree-typed net typing starts wired up meet is

@@ -1,35 +1,28 @@
 -- The types of tokens that are made of others, and of parts of them.
-use Rattle.std.proofs.Common.{◌≡◌, ℕ, zero, suc, List, [], ◌∷◌, length, map, Bool, true, false, ◌&&◌, Option, Some, None, refl, sym, ap, subst, ◌∙◌, arith, slice_get, drop, take, if◌then◌else◌}
-use Rattle.std.specs.Prelude.{option_map, bytes_eq}
-use Rattle.std.specs.List.{AllByRecursion, zip}
-use Rattle.pt_meaning.specs.Basics.{Streams, at}
-use Rattle.pt_meaning.specs.Streams.{get}
+use Rattle.std.proofs.Common.{◌≡◌, List, [], ◌∷◌, map, Option, Some, None, refl, sym, subst}
+use Rattle.std.specs.Prelude.{option_map}
+use Rattle.std.specs.List.{AllByRecursion}
 use Rattle.pt_value.specs.Value as val
 use Rattle.pt_value.specs.Value.{Value, Values, no_values, value_then, Named, values_of, list_of, named_of, fields_of}
 use Rattle.pt_value.specs.Token.{value_of, token_of, value_of-token_of}
-use Rattle.pt_value.specs.Record.{field_at}
 use Rattle.pt_value.specs.declared.token.Token.{Token}
 use Rattle.pt_value.specs.declared.token.Token.TheVariants as token
-use Rattle.pt_types.specs.Datatype.{Datatype, Unknown, Int, Boolean, Words, Array, Record, General, FieldTypes, no_fields, field_then}
-use Rattle.pt_types.specs.Normal.{normal, array_of, record_of, IsType}
-use Rattle.pt_types.specs.Order.{is_below, are_below, IsBelow}
-use Rattle.pt_types.specs.Join.{join}
-use Rattle.pt_types.specs.Token.{type_of_value, join_of, field_types}
-use Rattle.pt_types.proofs.Fields.{and_left, and_right}
-use Rattle.pt_types.proofs.Joins.{below-normal, normal-below, normal_is_type, join-below}
+use Rattle.pt_types.specs.Datatype.{Datatype, Unknown, Int, Boolean, Words, Array, Record, General}
+use Rattle.pt_types.specs.Normal.{normal, array_of}
+use Rattle.pt_types.specs.Order.{IsBelow}
+use Rattle.pt_types.specs.Token.{type_of_value, join_of}
+use Rattle.pt_types.proofs.Joins.{below-normal, normal-below, normal_is_type}
 use Rattle.pt_types.proofs.Parts.{array_of-normal}
-use Rattle.pt_types.proofs.Order.{same_bytes, below-trans, below-refl, above-General}
-use Rattle.pt_expr.specs.Outcome.{Outcome, Gives, Stops, Wrong}
+use Rattle.pt_types.proofs.Order.{below-trans, above-General}
 use Rattle.pt_expr.specs.Meaning as meaning
 use Rattle.pt_expr_type.specs.Typing.{Typing, Has, Clash, or_general}
-use Rattle.pt_expr_type.specs.TreeType.{element, field, type_in}
+use Rattle.pt_expr_type.specs.TreeType.{element}
 use Rattle.pt_expr_type.proofs.JoinLaws.{join-first, join-second, join-least}
-use Rattle.pt_expr_type.proofs.Values.{Of, Sound, never-unknown, field-sound}
-use Rattle.pt_firing.specs.Row.{first_in, token_at}
+use Rattle.pt_expr_type.proofs.Values.{Of, Sound, never-unknown}
+use Rattle.pt_firing.specs.Row.{first_in}
 use Rattle.pt_lib_data.specs.RecordDisassembler.{as_list}
-use Rattle.pt_typed.specs.Signature.{AllOf, AreOf}
-use Rattle.pt_typed.specs.TokenTypes.{IsTokenOf, IsUnder, elements_of, field_of}
-use Rattle.pt_typed.proofs.StreamLaws.{AreGiven, at-given}
+use Rattle.pt_typed.specs.TokenTypes.{IsTokenOf, IsUnder}
+use Rattle.pt_typed.proofs.StreamLaws.{AreGiven}
 
 -- the token of a value is of the value's type
 pub of-value : (u : Datatype) (v : Value) → Of u v → IsTokenOf u (token_of v)

@@ -1,11 +1,10 @@
 -- A run of the tree of a net with its typing.
-use Rattle.std.proofs.Common.{◌≡◌, ℕ, Bool, true, false, refl, []}
+use Rattle.std.proofs.Common.{◌≡◌, Bool, true, false, refl, []}
 use Rattle.pt_graph.specs.declared.net.Net.{Net}
 use Rattle.pt_values.specs.declared.values.Values.{Values}
 use Rattle.pt_typing.specs.Least.{Assignment}
 use Rattle.pt_resolve.specs.Typing.{IsTyping}
-use Rattle.pt_library.specs.declared.library_actor.LibraryActor.{LibraryActor}
-use Rattle.pt_build.specs.Trees.{Starts, StartsAs}
+use Rattle.pt_build.specs.Trees.{Starts}
 use Rattle.pt_typed.specs.TypedActor.{MeetsRow}
 use Rattle.pt_typed.specs.NetTypes.{types_below}
 use Rattle.pt_typed.specs.NetRows.{HaveClassPorts, is_plain_actor, is_seeded_actor}

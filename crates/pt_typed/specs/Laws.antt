@@ -1,8 +1,7 @@
 -- The laws of this crate.
-use Rattle.std.specs.Prelude.{◌≡◌, ℕ, List, [], ◌∷◌, Some}
+use Rattle.std.specs.Prelude.{◌≡◌, ℕ, Some}
 use Rattle.std.specs.List.{AllByRecursion}
 use Rattle.pt_meaning.specs.Streams.{get}
-use Rattle.pt_value.specs.declared.token.Token.{Token}
 use Rattle.pt_types.specs.Datatype.{Datatype}
 use Rattle.pt_types.specs.Order.{IsBelow}
 use Rattle.pt_library.specs.declared.library_actor.LibraryActor.{LibraryActor}

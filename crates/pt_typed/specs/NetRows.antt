@@ -1,5 +1,5 @@
 -- What the ports of a library actor of a net are, by its class, and which classes take what passes from their inputs alone.
-use Rattle.std.specs.Prelude.{◌≡◌, ℕ, suc, ◌++◌, List, [], ◌∷◌, length, map, replicate, count_by, Bool, true, false, Option, Some, None, slice_get}
+use Rattle.std.specs.Prelude.{◌≡◌, ℕ, suc, ◌++◌, List, [], ◌∷◌, length, map, replicate, count_by, Bool, true, false, Some, None, slice_get}
 use Rattle.pt_moml.specs.declared.job.Direction.{Direction}
 use Rattle.pt_moml.specs.declared.job.Direction.TheVariants.{Input, Output}
 use Rattle.pt_moml.specs.declared.classes.Arity.TheVariants.{Single}

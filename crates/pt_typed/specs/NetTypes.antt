@@ -1,8 +1,6 @@
 -- The types at the places of the entities of a net and on their outputs, and what a net with right links keeps.
-use Rattle.std.specs.Prelude.{◌≡◌, ℕ, suc, ◌++◌, List, [], ◌∷◌, length, map, filter, flat_map, Bool, true, false, ◌&&◌, nat_eq, Option, Some, None, slice_get}
+use Rattle.std.specs.Prelude.{◌≡◌, ℕ, suc, ◌++◌, List, [], ◌∷◌, map, filter, flat_map, Bool, true, false, ◌&&◌, nat_eq, Option, Some, None, slice_get}
 use Rattle.std.specs.List.{Contains}
-use Rattle.std.specs.Option.{option_and_then}
-use Rattle.pt_meaning.specs.Basics.{Path}
 use Rattle.pt_moml.specs.declared.job.Port.{Port}
 use Rattle.pt_types.specs.Datatype.{Datatype}
 use Rattle.pt_types.specs.Order.{IsBelow}

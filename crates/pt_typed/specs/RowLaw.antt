@@ -1,5 +1,5 @@
 -- The typing of a net meets the rows of the actors that its entities start as.
-use Rattle.std.specs.Prelude.{◌≡◌, ℕ, List, [], length, true, false, ◌⊎◌, Some, None, slice_get}
+use Rattle.std.specs.Prelude.{◌≡◌, ℕ, [], length, true, false, Some, None, slice_get}
 use Rattle.pt_meaning.specs.Step.{no_meetings}
 use Rattle.pt_meaning.specs.Job.{meaning}
 use Rattle.pt_graph.specs.declared.net.Net.{Net}

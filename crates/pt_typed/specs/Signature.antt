@@ -1,7 +1,7 @@
 -- Signatures: of which kind the tokens at each place and on each output of a node are. A kind says of each token whether it is of it.
 use Rattle.std.specs.Prelude.{◌≡◌, ℕ, List, [], ◌∷◌, length}
 use Rattle.std.specs.List.{AllByRecursion}
-use Rattle.pt_meaning.specs.Basics.{Streams, Log, Path, Firing, Event, Finished, Met}
+use Rattle.pt_meaning.specs.Basics.{Streams, Log, Path, Event, Finished, Met}
 
 -- the kinds at the places of a node, and on its outputs, in the order of their numbers
 pub record Signature (K : Type 0) : Type 0 where

@@ -1,9 +1,8 @@
 -- What the row of each flow actor asks of the types of its places and of its outputs, and of the tokens that it holds.
-use Rattle.std.specs.Prelude.{ℕ, List, [], ◌∷◌, Option, Some, None, IfSome}
+use Rattle.std.specs.Prelude.{List, [], ◌∷◌}
 use Rattle.std.specs.List.{AllByRecursion}
 use Rattle.pt_meaning.specs.Streams.{get}
 use Rattle.pt_value.specs.Value.{Value}
-use Rattle.pt_value.specs.declared.token.Token.{Token}
 use Rattle.pt_types.specs.Datatype.{Datatype, Int}
 use Rattle.pt_types.specs.Order.{IsBelow}
 use Rattle.pt_types.specs.Token.{type_of_value}

@@ -1,6 +1,6 @@
 -- A run of a typed tree: whatever is finished in it took and gave tokens of the kinds of its node alone.
 use Rattle.std.specs.Prelude.{◌≡◌, ℕ, [], Option}
-use Rattle.pt_meaning.specs.Basics.{Tag, Streams, Log}
+use Rattle.pt_meaning.specs.Basics.{Tag, Streams}
 use Rattle.pt_meaning.specs.Machine.{Done, Stuck, Outcome}
 use Rattle.pt_meaning.specs.Meetings.{Meets}
 use Rattle.pt_meaning.specs.Node.{Rows, Node, Gives, Step}
