@@ -1,0 +1,58 @@
+-- By hand: a ramp that feeds a scale in an SDF composite.
+use Rattle.std.proofs.Common.{◌≡◌, zero, suc, [], ◌∷◌, true, false, refl, arith, pos}
+use Rattle.pt_meaning.specs.Basics.{Finished}
+use Rattle.pt_meaning.specs.Sdf.{SdfPlan}
+use Rattle.pt_meaning.specs.Net.{Output}
+use Rattle.pt_meaning.specs.Tree as tree
+use Rattle.pt_value.specs.declared.token.Token.TheVariants as token
+use Rattle.pt_types.specs.Datatype.{Datatype, Int, Boolean}
+use Rattle.pt_types.specs.Order.{IsBelow}
+use Rattle.pt_lib_flow.specs.declared.flow_actor.FlowActor.TheVariants.{Ramp, Scale}
+use Rattle.pt_lib_flow.specs.declared.limit.Limit.TheVariants.{Endless}
+use Rattle.pt_library.specs.declared.library_actor.LibraryActor.{LibraryActor}
+use Rattle.pt_library.specs.declared.library_actor.LibraryActor.TheVariants.{Flow}
+use Rattle.pt_typed.specs.Signature.{Signatures, IsTypedEvent}
+use Rattle.pt_typed.specs.TokenTypes.{IsTokenOf}
+use Rattle.pt_typed.specs.TypedActor.{MeetsRow, IsTypedActor}
+use Rattle.pt_typed.specs.TypedTree.{kinds_from, AreFed, IsTypedNode}
+use Rattle.pt_typed.proofs.ActorLaws.{rows-type}
+
+abbrev ramp : LibraryActor
+ramp = Flow (Ramp (record { next = pos 0; step = pos 1; limit = Endless; places = 0 }))
+
+abbrev scale : LibraryActor
+scale = Flow (Scale (record { factor = pos 2; places = 1 }))
+
+-- the types of both, where the input of the scale is of this type
+abbrev types : Datatype → Signatures Datatype
+types input [] = record { places = []; outputs = [] }
+types input (zero ∷ p) = record { places = []; outputs = Int ∷ [] }
+types input (suc i ∷ p) = record { places = input ∷ []; outputs = Int ∷ [] }
+
+-- both meet their rows, and the ramp doesn't where its output is of truth values
+ramp_meets : MeetsRow (types Int (0 ∷ [])) ramp
+ramp_meets = refl
+
+scale_meets : MeetsRow (types Int (1 ∷ [])) scale
+scale_meets = refl
+
+ramp_does_not : MeetsRow (record { places = []; outputs = Boolean ∷ [] }) ramp → false ≡ true
+ramp_does_not h = h
+
+abbrev plan : SdfPlan
+plan = record { net = record { sources = Output 0 0 ∷ []; places = 0 ∷ 1 ∷ [] }; repetitions = 1 ∷ 1 ∷ []; takes = []; gives = []; rates = (1 ∷ []) ∷ (1 ∷ []) ∷ [] }
+
+-- the composite is typed
+composite_is_typed : IsTypedNode IsTokenOf IsBelow IsTypedActor (types Int) (tree.composite (tree.Sdf plan ([] ∷ [])) (tree.actor ramp ∷ tree.actor scale ∷ []))
+composite_is_typed = (
+  record { places_counted = refl; repetitions_counted = refl; rates_counted = refl; sized = (refl, (refl, tt)); fed = (refl, tt); room = omega arith; held = (tt, tt) },
+  (rows-type (types Int (0 ∷ [])) ramp ramp_meets, (rows-type (types Int (1 ∷ [])) scale scale_meets, tt)),
+)
+
+-- its channel would break where the scale took truth values
+channel_breaks : AreFed {A = LibraryActor} IsTokenOf IsBelow IsTypedActor (types Boolean) plan.net.sources (kinds_from (types Boolean) 0 plan.net.places) → false ≡ true
+channel_breaks h = h.0
+
+-- and so would an event that gives a truth value where integers are due
+event_breaks : IsTypedEvent IsTokenOf (types Int (0 ∷ [])) (Finished [] (record { number = 0; tag = record { time = 0; step = 0 }; inputs = []; outputs = (token.Bool true ∷ []) ∷ [] })) → false ≡ true
+event_breaks h = h.1.0.0

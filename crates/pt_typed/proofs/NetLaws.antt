@@ -1,0 +1,281 @@
+-- Along each channel of a composite of a net types go up, in the numbers that its director uses.
+use Rattle.std.proofs.Common.{◌≡◌, ℕ, zero, suc, ◌+◌, ◌≤◌, List, [], ◌∷◌, ◌++◌, Bool, true, false, ◌&&◌, not, nat_eq, length, take, map, Option, Some, None, refl, sym, ap, ap₂, subst, arith, ◌∙◌, append_assoc, slice_get, if◌then◌else◌}
+use Rattle.std.specs.Prelude.{filter, flat_map, count_by}
+use Rattle.std.specs.List.{AllByRecursion, Contains}
+use Rattle.std.proofs.lemmas.Bool.{eq-eqb, ne_eqb, eqb-true, le-leb}
+use Rattle.std.proofs.lemmas.Option.{same_Some}
+use Rattle.std.specs.Option.{option_and_then}
+use Rattle.pt_meaning.specs.Basics.{Path}
+use Rattle.std.proofs.lemmas.List.{length-map}
+use Rattle.std.proofs.lemmas.List.Sums.{length-filter}
+use Rattle.std.proofs.lemmas.List.Elements.{All-contains_itself, recursion_from_All}
+use Rattle.pt_meaning.specs.Streams.{get}
+use Rattle.pt_meaning.specs.Net.{Own, Output}
+use Rattle.pt_moml.specs.declared.job.Port.{Port}
+use Rattle.pt_types.specs.Datatype.{Datatype}
+use Rattle.pt_types.specs.Order.{IsBelow}
+use Rattle.pt_graph.specs.declared.net.Channel.{Channel}
+use Rattle.pt_graph.specs.declared.net.Net.{Net}
+use Rattle.pt_graph.specs.declared.net.NetDirector.{NetDirector}
+use Rattle.pt_graph.specs.declared.net.NetEntity.{NetEntity}
+use Rattle.pt_wiring.specs.Inside.{is_number, is_child, child_if, children_from, children_of, number_among, parent_of, child_number, is_input, is_output, number_by, port_number, ports_in, ports_at, source_of, is_within, channels_in, comes_to, place_count}
+use Rattle.pt_typing.specs.declared.variable.Variable.TheVariants as variable
+use Rattle.pt_typing.specs.Least.{Assignment}
+use Rattle.pt_typed.specs.Signature.{Signature, Signatures, below}
+use Rattle.pt_typed.specs.TypedTree.{kind_of, kinds_from, AreSized, IsFed, AreFed}
+use Rattle.pt_cover.specs.Paths.{entity_at}
+use Rattle.pt_typed.specs.NetTypes.{source_type, place_type, TypesGoUp, arrivals, goes_out, departures, number_if, port_numbers, port_types, by_director, types_of, types_at, types_below, BeginsIn, at_own, at_child, IsWired}
+
+-- ---- lists
+
+pub get-map : {X Y : Type 0} (f : X → Y) (xs : List X) (n : ℕ) (x : X) → get xs n ≡ Some x → get (map f xs) n ≡ Some (f x)
+get-map f [] n x e = absurd (cc)
+get-map f (y ∷ xs) zero x e = let same : y ≡ x = cc in ap (λ v. Some (f v)) same
+get-map f (y ∷ xs) (suc n) x e = get-map f xs n x e
+
+-- ---- the numbers of ports
+
+skip-number : (b : Bool) (i : ℕ) (ns : List ℕ) (q : Port) (qs : List Port) (r : Option ℕ) → get ns (length qs) ≡ r → get (number_if b i ns) (length (if b then q ∷ qs else qs)) ≡ r
+skip-number true i ns q qs r h = h
+skip-number false i ns q qs r h = h
+
+first-number : (b : Bool) (i : ℕ) (ns : List ℕ) → b ≡ true → get (number_if b i ns) 0 ≡ Some i
+first-number true i ns e = refl
+first-number false i ns e = absurd (cc)
+
+-- so many ports of its direction stand before port n
+numbered-at : (test : Port → Bool) (i : ℕ) (ps : List Port) (n : ℕ) (p : Port) → slice_get ps n ≡ Some p → test p ≡ true → get (port_numbers test i ps) (length (filter test (take n ps))) ≡ Some (i + n)
+numbered-at test i [] n p e t = absurd (cc)
+numbered-at test i (q ∷ ps) zero p e t =
+    let same : q ≡ p = cc in
+    first-number (test q) i (port_numbers test (suc i) ps) (ap test same ∙ t) ∙ ap (λ v. Some v) (let z : i ≡ i + 0 = omega arith in z)
+numbered-at test i (q ∷ ps) (suc n) p e t =
+    skip-number (test q) i (port_numbers test (suc i) ps) q (filter test (take n ps)) (Some (i + suc n)) (numbered-at test (suc i) ps n p e t ∙ ap (λ v. Some v) (let z : suc i + n ≡ i + suc n = omega arith in z))
+
+pub number-at : (test : Port → Bool) (ps : List Port) (n : ℕ) (p : Port) → slice_get ps n ≡ Some p → test p ≡ true → get (port_numbers test 0 ps) (count_by test (take n ps)) ≡ Some n
+number-at test ps n p e t =
+    subst (λ m. get (port_numbers test 0 ps) m ≡ Some n) (length-filter test (take n ps)) (numbered-at test 0 ps n p e t ∙ ap (λ v. Some v) (let z : 0 + n ≡ n = omega arith in z))
+
+-- ---- the numbers of children
+
+skip-child : (b : Bool) (i m : ℕ) (ns ms : List ℕ) (r : Option ℕ) → get ns (length ms) ≡ r → get (child_if b i ns) (length (child_if b m ms)) ≡ r
+skip-child true i m ns ms r h = h
+skip-child false i m ns ms r h = h
+
+first-child : (b : Bool) (i : ℕ) (ns : List ℕ) → b ≡ true → get (child_if b i ns) 0 ≡ Some i
+first-child true i ns e = refl
+first-child false i ns e = absurd (cc)
+
+is-child : (c : ℕ) (e : NetEntity) → e.parent ≡ Some c → is_child c e ≡ true
+is-child c e p = ap (λ o. is_number c o) p ∙ eq-eqb c c refl
+
+-- so many children stand before entity j
+child-at : (c i : ℕ) (es : List NetEntity) (j m : ℕ) (e : NetEntity) → slice_get es j ≡ Some e → e.parent ≡ Some c → get (children_from c i es) (length (children_from c m (take j es))) ≡ Some (i + j)
+child-at c i [] j m e at p = absurd (cc)
+child-at c i (d ∷ es) zero m e at p =
+    let same : d ≡ e = cc in
+    first-child (is_child c d) i (children_from c (suc i) es) (ap (is_child c) same ∙ is-child c e p) ∙ ap (λ v. Some v) (let z : i ≡ i + 0 = omega arith in z)
+child-at c i (d ∷ es) (suc j) m e at p =
+    skip-child (is_child c d) i m (children_from c (suc i) es) (children_from c (suc m) (take j es)) (Some (i + suc j)) (child-at c (suc i) es j (suc m) e at p ∙ ap (λ v. Some v) (let z : suc i + j ≡ i + suc j = omega arith in z))
+
+short-of : {X : Type 0} (xs : List X) (i : ℕ) (x : X) → slice_get xs i ≡ Some x → suc i ≤ length xs
+short-of [] i x e = absurd (cc)
+short-of (y ∷ xs) zero x e = omega arith
+short-of (y ∷ xs) (suc i) x e = omega (arith, short-of xs i x e)
+
+pub child-number : (es : List NetEntity) (j c : ℕ) (e d : NetEntity) → slice_get es j ≡ Some e → e.parent ≡ Some c → slice_get es c ≡ Some d → get (children_of es c) (child_number es j) ≡ Some j
+child-number es j c e d at p there =
+    let parent : parent_of (slice_get es j) ≡ Some c = ap parent_of at ∙ p in
+    let number : child_number es j ≡ length (children_of (take j es) c) = ap (number_among (take j es) (length es)) parent ∙ ap (λ b. if b then length (children_of (take j es) c) else 0) (le-leb (suc c) (length es) (short-of es c d there)) in
+    subst (λ n. get (children_of es c) n ≡ Some j) (sym number) (child-at c 0 es j 0 e at p ∙ ap (λ v. Some v) (let z : 0 + j ≡ j = omega arith in z))
+
+-- each child stands in the composite
+abbrev Stands : ℕ → ℕ → List NetEntity → ℕ → Type 0
+Stands c i es j = (m : ℕ) × (f : NetEntity) × (j ≡ i + m) × (slice_get es m ≡ Some f) × (f.parent ≡ Some c)
+
+number-is : (c : ℕ) (o : Option ℕ) → is_number c o ≡ true → o ≡ Some c
+number-is c None e = absurd (cc)
+number-is c (Some p) e = ap (λ v. Some v) (eqb-true p c e)
+
+child-from : (c i : ℕ) (es : List NetEntity) (n j : ℕ) → slice_get (children_from c i es) n ≡ Some j → Stands c i es j
+child-from c i [] n j e = absurd (cc)
+child-from c i (d ∷ es) n j e = by_test (is_child c d) refl n e (λ m h. child-from c (suc i) es m j h)
+  where
+    later : Stands c (suc i) es j → Stands c i (d ∷ es) j
+    later w = (suc w.0, w.1, w.2 ∙ (let z : suc i + w.0 ≡ i + suc w.0 = omega arith in z), w.3, w.4)
+
+    by_test : (b : Bool) → is_child c d ≡ b → (m : ℕ) → slice_get (child_if b i (children_from c (suc i) es)) m ≡ Some j → ((m : ℕ) → slice_get (children_from c (suc i) es) m ≡ Some j → Stands c (suc i) es j) → Stands c i (d ∷ es) j
+    by_test true t zero h ih = let same : i ≡ j = cc in (0, d, sym same ∙ (let z : i ≡ i + 0 = omega arith in z), refl, number-is c d.parent t)
+    by_test true t (suc m) h ih = later (ih m h)
+    by_test false t m h ih = later (ih m h)
+
+pub child-stands : (c : ℕ) (es : List NetEntity) (n j : ℕ) → slice_get (children_of es c) n ≡ Some j → (f : NetEntity) × (slice_get es j ≡ Some f) × (f.parent ≡ Some c)
+child-stands c es n j e =
+    let w = child-from c 0 es n j e in
+    (w.1, ap (slice_get es) (w.2 ∙ (let z : 0 + w.0 ≡ w.0 = omega arith in z)) ∙ w.3, w.4)
+
+-- ---- the numbers of sources
+
+input-number : (ps : List Port) (n : ℕ) (p : Port) → slice_get ps n ≡ Some p → is_input p ≡ true → port_number ps n ≡ count_by is_input (take n ps)
+input-number ps n p e t = ap (number_by (take n ps)) e ∙ ap (λ b. if b then count_by is_input (take n ps) else count_by is_output (take n ps)) t
+
+not-input : (b : Bool) → not b ≡ true → b ≡ false
+not-input true e = absurd (cc)
+not-input false e = refl
+
+output-number : (ps : List Port) (n : ℕ) (p : Port) → slice_get ps n ≡ Some p → is_output p ≡ true → port_number ps n ≡ count_by is_output (take n ps)
+output-number ps n p e t = ap (number_by (take n ps)) e ∙ ap (λ b. if b then count_by is_input (take n ps) else count_by is_output (take n ps)) (not-input (is_input p) t)
+
+pub get-is : {X : Type 0} (xs : List X) (n : ℕ) → get xs n ≡ slice_get xs n
+get-is [] n = refl
+get-is (x ∷ xs) zero = refl
+get-is (x ∷ xs) (suc n) = get-is xs n
+
+map-append : {X Y : Type 0} (f : X → Y) (xs ys : List X) → map f (xs ++ ys) ≡ map f xs ++ map f ys
+map-append f [] ys = refl
+map-append f (x ∷ xs) ys = ap (λ v. f x ∷ v) (map-append f xs ys)
+
+-- ---- the channels of a composite
+
+filtered-by : {X : Type 0} (P : X → Type 0) (test : X → Bool) (x : X) (ys : List X) (b : Bool) → test x ≡ b → P x → AllByRecursion (λ y. P y × (test y ≡ true)) ys → AllByRecursion (λ y. P y × (test y ≡ true)) (if b then x ∷ ys else ys)
+filtered-by P test x ys true e p a = ((p, e), a)
+filtered-by P test x ys false e p a = a
+
+pub all-filtered : {X : Type 0} (P : X → Type 0) (test : X → Bool) (xs : List X) → AllByRecursion P xs → AllByRecursion (λ x. P x × (test x ≡ true)) (filter test xs)
+all-filtered P test [] a = tt
+all-filtered P test (x ∷ xs) a = filtered-by P test x (filter test xs) (test x) refl a.0 (all-filtered P test xs a.1)
+
+-- the types of the channels that end at an entity
+pub types-at-ends : (typing : Assignment) (k : ℕ) (cs : List Channel) → AllByRecursion (λ (c : Channel). c.to.entity ≡ k) cs → map (place_type typing) cs ≡ port_types typing k (map (λ (c : Channel). c.to.port) cs)
+types-at-ends typing k [] a = refl
+types-at-ends typing k (c ∷ cs) a = ap₂ (λ t ts. t ∷ ts) (ap (λ n. typing.types (variable.Port n c.to.port)) a.0) (types-at-ends typing k cs a.1)
+
+all-implied : {X : Type 0} (P Q : X → Type 0) → ((x : X) → P x → Q x) → (xs : List X) → AllByRecursion P xs → AllByRecursion Q xs
+all-implied P Q h [] a = tt
+all-implied P Q h (x ∷ xs) a = (h x a.0, all-implied P Q h xs a.1)
+
+pub and-first : (a b : Bool) → (a && b) ≡ true → a ≡ true
+and-first true b e = refl
+and-first false b e = e
+
+-- what comes to an entity ends there
+pub ends-of : (net : Net) (k : ℕ) → AllByRecursion (λ (c : Channel). c.to.entity ≡ k) (arrivals net.channels.items k)
+ends-of net k =
+    let ks = net.channels.items in
+    all-implied (λ (x : Channel). Contains ks x × (comes_to k x ≡ true)) (λ (x : Channel). x.to.entity ≡ k) (λ x h. eqb-true x.to.entity k (and-first (nat_eq x.to.entity k) (not (nat_eq x.composite k)) h.1)) (arrivals ks k)
+    (all-filtered (Contains ks) (comes_to k) ks (recursion_from_All (Contains ks) ks (All-contains_itself ks)))
+
+module _ (net : Net) (typing : Assignment) (wired : IsWired net) where
+  abbrev es : List NetEntity
+  es = net.entities.items
+
+  abbrev ks : List Channel
+  ks = net.channels.items
+
+  pub their-own : AllByRecursion (Contains ks) ks
+  their-own = recursion_from_All (Contains ks) ks (All-contains_itself ks)
+
+  -- what ends at a composite ends at its inputs, and its own outputs' channels end at these
+  pub input-types : (k c : ℕ) (e : NetEntity) (d : NetDirector) → slice_get es k ≡ Some e → e.director ≡ Some d → e.parent ≡ Some c → map (place_type typing) (arrivals ks k) ≡ port_types typing k (port_numbers is_input 0 e.ports.items)
+  input-types k c e d at directed round =
+      types-at-ends typing k (arrivals ks k) (all-implied (λ (x : Channel). Contains ks x × (comes_to k x ≡ true)) (λ (x : Channel). x.to.entity ≡ k) (λ x h. eqb-true x.to.entity k (and-first (nat_eq x.to.entity k) (not (nat_eq x.composite k)) h.1)) (arrivals ks k) (all-filtered (Contains ks) (comes_to k) ks their-own))
+      ∙ ap (port_types typing k) (wired.inputs k c e d at directed round)
+
+  pub output-types : (k : ℕ) (e : NetEntity) (d : NetDirector) → slice_get es k ≡ Some e → e.director ≡ Some d → map (place_type typing) (departures ks k) ≡ port_types typing k (port_numbers is_output 0 e.ports.items)
+  output-types k e d at directed =
+      types-at-ends typing k (departures ks k) (all-implied (λ (x : Channel). Contains ks x × (goes_out k x ≡ true)) (λ (x : Channel). x.to.entity ≡ k) (λ x h. eqb-true x.to.entity k (and-first (nat_eq x.to.entity k) (nat_eq x.composite k) h.1)) (departures ks k) (all-filtered (Contains ks) (goes_out k) ks their-own))
+      ∙ ap (port_types typing k) (wired.outputs k e d at directed)
+
+  -- the types at the places of an entity in a composite are those of the channels that end there
+  pub places-are : (k c : ℕ) (e : NetEntity) → slice_get es k ≡ Some e → e.parent ≡ Some c → (o : Option NetDirector) → e.director ≡ o → (types_of net typing k (Some e)).places ≡ map (place_type typing) (arrivals ks k)
+  places-are k c e at round None d = ap (λ o. by_director o (port_types typing k (port_numbers is_input 0 e.ports.items)) (map (place_type typing) (arrivals ks k))) d
+  places-are k c e at round (Some x) d = ap (λ o. by_director o (port_types typing k (port_numbers is_input 0 e.ports.items)) (map (place_type typing) (arrivals ks k))) d ∙ sym (input-types k c e x at d round)
+
+  -- the type of what begins at a source
+  module _ (k : ℕ) (e : NetEntity) (d : NetDirector) (at : slice_get es k ≡ Some e) (directed : e.director ≡ Some d) where
+    own-places : (types_below net typing k []).places ≡ port_types typing k (port_numbers is_input 0 e.ports.items)
+    own-places = ap (λ (o : Option NetEntity). (types_of net typing k o).places) at ∙ ap (λ o. by_director o (port_types typing k (port_numbers is_input 0 e.ports.items)) (map (place_type typing) (arrivals ks k))) directed
+
+    pub own-outputs : (types_below net typing k []).outputs ≡ port_types typing k (port_numbers is_output 0 e.ports.items)
+    own-outputs = ap (λ (o : Option NetEntity). (types_of net typing k o).outputs) at
+
+    -- a child is below it
+    pub child-below : (i c : ℕ) → slice_get (children_of es k) i ≡ Some c → below (types_below net typing k) i ≡ types_below net typing c
+    child-below i c there = ap (λ (o : Option ℕ). λ (p : Path). types_at net typing (option_and_then (λ n. entity_at es n p) o)) there
+
+    pub source-kind : (x : Channel) → x.composite ≡ k → BeginsIn net x → kind_of (types_below net typing k) (source_of es x) ≡ Some (source_type typing x)
+    source-kind x inside (at_own f p same there port way) =
+        let n = x.from.port in
+        let here : x.from.entity ≡ k = same ∙ inside in
+        let one : f ≡ e = same_Some f e (sym there ∙ ap (slice_get es) here ∙ at) in
+        let port' : slice_get e.ports.items n ≡ Some p = subst (λ (y : NetEntity). slice_get y.ports.items n ≡ Some p) one port in
+        let own : source_of es x ≡ Own (count_by is_input (take n e.ports.items)) =
+        ap (λ b. if b then Own (port_number (ports_at es x.from.entity) n) else Output (child_number es x.from.entity) (port_number (ports_at es x.from.entity) n)) (eq-eqb x.from.entity x.composite same)
+        ∙ ap (λ m. Own m) (ap (λ ps. port_number ps n) (ap ports_in (ap (slice_get es) here ∙ at)) ∙ input-number e.ports.items n p port' way) in
+        ap (kind_of (types_below net typing k)) own
+        ∙ ap (λ ts. get ts (count_by is_input (take n e.ports.items))) own-places
+        ∙ get-map (λ m. typing.types (variable.Port k m)) (port_numbers is_input 0 e.ports.items) (count_by is_input (take n e.ports.items)) n (number-at is_input e.ports.items n p port' way)
+        ∙ ap (λ m. Some (typing.types (variable.Port m n))) (sym here)
+    source-kind x inside (at_child f p other there round port way) =
+        let n = x.from.port in
+        let j = x.from.entity in
+        let number : slice_get (children_of es k) (child_number es j) ≡ Some j = sym (get-is (children_of es k) (child_number es j)) ∙ child-number es j k f e there (round ∙ ap (λ m. Some m) inside) at in
+        let out : source_of es x ≡ Output (child_number es j) (count_by is_output (take n f.ports.items)) =
+        ap (λ b. if b then Own (port_number (ports_at es j) n) else Output (child_number es j) (port_number (ports_at es j) n)) (ne_eqb j x.composite other)
+        ∙ ap (λ m. Output (child_number es j) m) (ap (λ ps. port_number ps n) (ap ports_in there) ∙ output-number f.ports.items n p port way) in
+        ap (kind_of (types_below net typing k)) out
+        ∙ ap (λ (s : Signatures Datatype). get (s []).outputs (count_by is_output (take n f.ports.items))) (child-below (child_number es j) j number)
+        ∙ ap (λ (o : Option NetEntity). get (types_of net typing j o).outputs (count_by is_output (take n f.ports.items))) there
+        ∙ get-map (λ m. typing.types (variable.Port j m)) (port_numbers is_output 0 f.ports.items) (count_by is_output (take n f.ports.items)) n (number-at is_output f.ports.items n p port way)
+
+    -- ---- the kinds of its channels
+
+    -- what stands at each place of a child
+    abbrev PlacesFrom : ℕ → List ℕ → Type 0
+    PlacesFrom i [] = Unit {0}
+    PlacesFrom i (c ∷ cs) = ((types_below net typing k (i ∷ [])).places ≡ map (place_type typing) (arrivals ks c)) × PlacesFrom (suc i) cs
+
+    places-from : (i : ℕ) (cs : List ℕ) → ((j c : ℕ) → slice_get cs j ≡ Some c → (types_below net typing k ((i + j) ∷ [])).places ≡ map (place_type typing) (arrivals ks c)) → PlacesFrom i cs
+    places-from i [] h = tt
+    places-from i (c ∷ cs) h = (
+      subst (λ m. (types_below net typing k (m ∷ [])).places ≡ map (place_type typing) (arrivals ks c)) (let z : i + 0 ≡ i = omega arith in z) (h 0 c refl),
+      places-from (suc i) cs (λ j b e'. subst (λ m. (types_below net typing k (m ∷ [])).places ≡ map (place_type typing) (arrivals ks b)) (let z : i + suc j ≡ suc i + j = omega arith in z) (h (suc j) b e')),
+    )
+
+    place-at : (j c : ℕ) → slice_get (children_of es k) j ≡ Some c → (types_below net typing k (j ∷ [])).places ≡ map (place_type typing) (arrivals ks c)
+    place-at j c there =
+        let w = child-stands k es j c there in
+        ap (λ (s : Signatures Datatype). (s []).places) (child-below j c there)
+        ∙ ap (λ (o : Option NetEntity). (types_of net typing c o).places) w.1
+        ∙ places-are c k w.0 w.1 w.2 w.0.director refl
+
+    all-places : PlacesFrom 0 (children_of es k)
+    all-places = places-from 0 (children_of es k) (λ j c there. subst (λ m. (types_below net typing k (m ∷ [])).places ≡ map (place_type typing) (arrivals ks c)) (let z : j ≡ 0 + j = omega arith in z) (place-at j c there))
+
+    kinds-of : (i : ℕ) (cs : List ℕ) → PlacesFrom i cs → kinds_from (types_below net typing k) i (map (place_count ks) cs) ≡ map (place_type typing) (flat_map (arrivals ks) cs ++ departures ks k)
+    kinds-of i [] a = own-outputs ∙ sym (output-types k e d at directed)
+    kinds-of i (c ∷ cs) a =
+        ap₂ (λ xs ys. xs ++ ys) a.0 (kinds-of (suc i) cs a.1)
+        ∙ sym (map-append (place_type typing) (arrivals ks c) (flat_map (arrivals ks) cs ++ departures ks k))
+        ∙ ap (map (place_type typing)) (sym (append_assoc (arrivals ks c) (flat_map (arrivals ks) cs) (departures ks k)))
+
+    pub kinds-are : kinds_from (types_below net typing k) 0 (map (place_count ks) (children_of es k)) ≡ map (place_type typing) (channels_in ks k)
+    kinds-are = kinds-of 0 (children_of es k) all-places ∙ ap (map (place_type typing)) (sym (wired.grouped k e d at directed))
+
+    sized-from : (i : ℕ) (cs : List ℕ) → PlacesFrom i cs → AreSized (types_below net typing k) i (map (place_count ks) cs)
+    sized-from i [] a = tt
+    sized-from i (c ∷ cs) a = (ap length a.0 ∙ length-map (arrivals ks c) (place_type typing) ∙ length-filter (comes_to c) ks, sized-from (suc i) cs a.1)
+
+    pub sized : AreSized (types_below net typing k) 0 (map (place_count ks) (children_of es k))
+    sized = sized-from 0 (children_of es k) all-places
+
+    -- ---- types go up
+
+    module _ {T A : Type 0} (Has : Datatype → T → Type 0) (Fits : Signature Datatype → A → Type 0) (up : TypesGoUp net typing) where
+      fed-along : (cs : List Channel) → AllByRecursion (λ x. Contains ks x × (is_within k x ≡ true)) cs → AreFed {A = A} Has IsBelow Fits (types_below net typing k) (map (source_of es) cs) (map (place_type typing) cs)
+      fed-along [] a = tt
+      fed-along (x ∷ cs) a =
+          (subst (λ o. IsFed {A = A} Has IsBelow Fits o (place_type typing x)) (sym (source-kind x (eqb-true x.composite k a.0.1) (wired.begin x a.0.0))) (up x a.0.0), fed-along cs a.1)
+
+      pub fed : AreFed {A = A} Has IsBelow Fits (types_below net typing k) (map (source_of es) (channels_in ks k)) (kinds_from (types_below net typing k) 0 (map (place_count ks) (children_of es k)))
+      fed = subst (λ ts. AreFed {A = A} Has IsBelow Fits (types_below net typing k) (map (source_of es) (channels_in ks k)) ts) (sym kinds-are) (fed-along (channels_in ks k) (all-filtered (Contains ks) (is_within k) ks their-own))

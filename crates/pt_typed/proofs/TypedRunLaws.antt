@@ -1,0 +1,24 @@
+-- Runs of trees of library actors, by the laws of runs of typed trees.
+use Rattle.pt_value.specs.declared.token.Token.{Token}
+use Rattle.pt_types.specs.Datatype.{Datatype}
+use Rattle.pt_types.specs.Order.{IsBelow}
+use Rattle.pt_library.specs.declared.library_actor.LibraryActor.{LibraryActor}
+use Rattle.pt_library.specs.LibraryActor.{rows}
+use Rattle.pt_typed.specs.TokenTypes.{IsTokenOf}
+use Rattle.pt_typed.specs.TypedActor.{IsTypedActor}
+use Rattle.pt_typed.specs.TypedRuns.{ActorsKeepKinds, KindsWiden, StepsKeepKinds, MeaningKeepsKinds}
+use Rattle.pt_typed.proofs.TypeLaws.{token-wider}
+use Rattle.pt_typed.proofs.ActorLaws.{typed-stays}
+use Rattle.pt_typed.proofs.NodeLaws.{steps-typed, meaning-typed}
+
+types-widen : KindsWiden {T = Token} {K = Datatype} {A = LibraryActor} IsTokenOf IsBelow IsTypedActor rows
+types-widen s t x h k = token-wider s t x h k
+
+actors-keep : ActorsKeepKinds {T = Token} {K = Datatype} {A = LibraryActor} IsTokenOf IsBelow IsTypedActor rows
+actors-keep s a b tag X out h i e = typed-stays s a b tag X out h i e
+
+pub steps-keep : StepsKeepKinds IsTokenOf IsBelow IsTypedActor rows
+steps-keep = steps-typed IsTokenOf IsBelow IsTypedActor rows types-widen actors-keep
+
+pub runs-keep : MeaningKeepsKinds IsTokenOf IsBelow IsTypedActor rows
+runs-keep = meaning-typed IsTokenOf IsBelow IsTypedActor rows types-widen actors-keep

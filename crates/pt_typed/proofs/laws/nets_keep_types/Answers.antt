@@ -1,0 +1,5 @@
+use Rattle.pt_typed.proofs.TreeLaws.{nets-keep-types}
+use Rattle.pt_typed.proofs.laws.nets_keep_types.Goals as goal
+
+pub returns : goal.returns
+returns c = nets-keep-types

@@ -1,0 +1,13 @@
+pub mod Signature
+pub mod TypedTree
+pub mod TypedRuns
+pub mod TokenTypes
+pub mod TypedData
+pub mod TypedFlow
+pub mod TypedActor
+pub mod Laws
+pub mod NetTypes
+pub mod TypedNet
+pub mod NetRows
+pub mod RowLaw
+pub mod InputLaw

@@ -1,0 +1,123 @@
+-- What the ports of a library actor of a net are, by its class, and which classes take what passes from their inputs alone.
+use Rattle.std.specs.Prelude.{◌≡◌, ℕ, suc, ◌++◌, List, [], ◌∷◌, length, map, replicate, count_by, Bool, true, false, Some, None, slice_get}
+use Rattle.pt_moml.specs.declared.job.Direction.{Direction}
+use Rattle.pt_moml.specs.declared.job.Direction.TheVariants.{Input, Output}
+use Rattle.pt_moml.specs.declared.classes.Arity.TheVariants.{Single}
+use Rattle.pt_moml.specs.Classes.{Class, ClassPort, Actor, kind_of}
+use Rattle.std.specs.List.{AllByRecursion}
+use Rattle.pt_moml.specs.Document.{PortTree, PropertyTree}
+use Rattle.pt_parameter.specs.declared.parameter_value.ParameterValue.{ParameterValue}
+use Rattle.pt_parameter.specs.declared.parameter_value.ParameterValue.TheVariants as parameter
+use Rattle.pt_graph.specs.declared.net.Channel.{Channel}
+use Rattle.pt_graph.specs.declared.net.Net.{Net}
+use Rattle.pt_graph.specs.declared.net.NetEntity.{NetEntity}
+use Rattle.pt_graph.specs.Table.{joined_ports, declared_port}
+use Rattle.pt_graph.specs.Net.{row_port, entity_view}
+use Rattle.pt_start.specs.Started.{ends_at}
+use Rattle.pt_lib_flow.specs.declared.flow_actor.FlowActor.{FlowActor}
+use Rattle.pt_lib_flow.specs.declared.flow_actor.FlowActor.TheVariants.{AbsoluteValue, Accumulator, AddSubtract, BooleanSelect, BooleanSwitch, Const, Counter, DownSample, Expression, Extreme, MultiplyDivide, Ramp, Repeat, SampleDelay, Scale, Sequence, UpSample}
+use Rattle.pt_lib_data.specs.declared.function.Function.{Function}
+use Rattle.pt_lib_data.specs.declared.function.Function.TheVariants.{ArrayElement, ArrayToSequence, Comparator, Discard, ElementsToArray, Equals, Limiter, LogicFunction, LogicalNot, RecordAssembler, RecordDisassembler, SequenceToArray, StringLength}
+use Rattle.pt_library.specs.declared.library_actor.LibraryActor.{LibraryActor}
+use Rattle.pt_library.specs.declared.library_actor.LibraryActor.TheVariants.{Flow, Data}
+use Rattle.pt_typed.specs.NetTypes.{arrivals}
+
+-- so many channels end at each input, and they stand in the order of the ports, from this number on
+abbrev pub ends_if : Direction → (count i : ℕ) → List ℕ
+ends_if Input count i = replicate count i
+ends_if Output count i = []
+
+abbrev pub ends_from : (ℕ → ℕ) → ℕ → List Direction → List ℕ
+ends_from counts i [] = []
+ends_from counts i (d ∷ ds) = ends_if d (counts i) i ++ ends_from counts (suc i) ds
+
+-- how many channels end at a port of an entity
+abbrev pub channels_at : Net → ℕ → ℕ → ℕ
+channels_at net k i = count_by (ends_at k i) net.channels.items
+
+-- The ports of a library actor are those of its class, and what it declares where its class allows that. The channels to it stand in their order, and each single input has one.
+pub record HasClassPorts (net : Net) (k : ℕ) (e : NetEntity) : Type 0 where
+  pub class : Class
+  pub declared : List PortTree
+  pub kind : kind_of e.class ≡ Some (Actor class)
+  pub ports : (entity_view e).ports ≡ joined_ports class.declares declared (map row_port class.ports)
+  pub none : class.declares ≡ None → declared ≡ []
+  pub ends : map (λ (c : Channel). c.to.port) (arrivals net.channels.items k) ≡ ends_from (channels_at net k) 0 (map (λ (p : PortTree). p.direction) (entity_view e).ports)
+  pub single : (i : ℕ) (p : ClassPort) → slice_get (joined_ports class.declares (map declared_port declared) class.ports) i ≡ Some p → p.direction ≡ Input → p.arity ≡ Single → channels_at net k i ≡ 1
+
+abbrev pub HaveClassPorts : Net → Type 0
+HaveClassPorts net = (k : ℕ) (e : NetEntity) → slice_get net.entities.items k ≡ Some e → e.director ≡ None → HasClassPorts net k e
+
+-- What it gives is made of its inputs, and of numbers and truth values: it gives no token of a parameter, and no field or value of an expression.
+abbrev pub is_plain_flow : FlowActor → Bool
+is_plain_flow (AbsoluteValue a) = true
+is_plain_flow (Accumulator a) = true
+is_plain_flow (AddSubtract a) = true
+is_plain_flow (BooleanSelect a) = true
+is_plain_flow (BooleanSwitch a) = true
+is_plain_flow (Const a) = false
+is_plain_flow (Counter a) = true
+is_plain_flow (DownSample a) = true
+is_plain_flow (Expression a) = false
+is_plain_flow (Extreme a) = true
+is_plain_flow (MultiplyDivide a) = true
+is_plain_flow (Ramp a) = true
+is_plain_flow (Repeat a) = true
+is_plain_flow (SampleDelay a) = false
+is_plain_flow (Scale a) = true
+is_plain_flow (Sequence a) = false
+is_plain_flow (UpSample a) = true
+
+abbrev pub is_plain_function : Function → Bool
+is_plain_function (ArrayElement index) = true
+is_plain_function (ArrayToSequence count) = true
+is_plain_function (Comparator relation) = true
+is_plain_function Discard = true
+is_plain_function ElementsToArray = true
+is_plain_function Equals = true
+is_plain_function (Limiter range) = true
+is_plain_function (LogicFunction gate) = true
+is_plain_function LogicalNot = true
+is_plain_function (RecordAssembler names) = false
+is_plain_function (RecordDisassembler names) = false
+is_plain_function (SequenceToArray count) = true
+is_plain_function StringLength = true
+
+abbrev pub is_plain_actor : LibraryActor → Bool
+is_plain_actor (Flow a) = is_plain_flow a
+is_plain_actor (Data a) = is_plain_function a.function
+
+-- It gives tokens of a parameter: the value of a Const, the values of a Sequence, the first tokens of a SampleDelay.
+abbrev pub is_seeded_flow : FlowActor → Bool
+is_seeded_flow (AbsoluteValue a) = false
+is_seeded_flow (Accumulator a) = false
+is_seeded_flow (AddSubtract a) = false
+is_seeded_flow (BooleanSelect a) = false
+is_seeded_flow (BooleanSwitch a) = false
+is_seeded_flow (Const a) = true
+is_seeded_flow (Counter a) = false
+is_seeded_flow (DownSample a) = false
+is_seeded_flow (Expression a) = false
+is_seeded_flow (Extreme a) = false
+is_seeded_flow (MultiplyDivide a) = false
+is_seeded_flow (Ramp a) = false
+is_seeded_flow (Repeat a) = false
+is_seeded_flow (SampleDelay a) = true
+is_seeded_flow (Scale a) = false
+is_seeded_flow (Sequence a) = true
+is_seeded_flow (UpSample a) = false
+
+abbrev pub is_seeded_actor : LibraryActor → Bool
+is_seeded_actor (Flow a) = is_seeded_flow a
+is_seeded_actor (Data a) = false
+
+-- a parameter has a token, and is no tree and no word
+abbrev pub IsTokenHeld : ParameterValue → Type 0
+IsTokenHeld (parameter.Token t) = Unit {0}
+IsTokenHeld (parameter.Tree e) = ⊥
+IsTokenHeld parameter.Word = ⊥
+
+-- each parameter has one
+pub record HoldsTokens (ps : List PropertyTree) (vs : List ParameterValue) : Type 0 where
+  pub counted : length vs ≡ length ps
+  pub held : AllByRecursion IsTokenHeld vs

@@ -1,0 +1,33 @@
+-- Library actors that keep to the types of their places and outputs.
+use Rattle.std.specs.Prelude.{◌≡◌, List, [], ◌∷◌, Some}
+use Rattle.pt_meaning.specs.Basics.{Tag, Streams}
+use Rattle.pt_meaning.specs.Node.{Gives}
+use Rattle.pt_value.specs.declared.token.Token.{Token}
+use Rattle.pt_types.specs.Datatype.{Datatype}
+use Rattle.pt_library.specs.declared.library_actor.LibraryActor.{LibraryActor}
+use Rattle.pt_library.specs.declared.library_actor.LibraryActor.TheVariants.{Flow, Data}
+use Rattle.pt_library.specs.LibraryActor.{step}
+use Rattle.pt_library.specs.Steady.{after}
+use Rattle.pt_typed.specs.Signature.{Signature, AreOf, AreAllOf}
+use Rattle.pt_typed.specs.TokenTypes.{IsTokenOf}
+use Rattle.pt_typed.specs.TypedFlow.{IsTypedFlow}
+use Rattle.pt_typed.specs.TypedData.{IsTypedFunction}
+
+-- the types at the places of a node and on its outputs
+abbrev pub Types : Type 0
+Types = Signature Datatype
+
+-- what the row of an actor asks of these types, and of the tokens that the actor holds
+abbrev pub MeetsRow : Types → LibraryActor → Type 0
+MeetsRow s (Flow actor) = IsTypedFlow s.places s.outputs actor
+MeetsRow s (Data actor) = IsTypedFunction s.places s.outputs actor.function
+
+-- each of these firings is on tokens of the types of the places
+abbrev pub AreTypedFirings : Types → List (Tag × Streams Token) → Type 0
+AreTypedFirings s [] = Unit {0}
+AreTypedFirings s (f ∷ fs) = AreAllOf IsTokenOf s.places f.1 × AreTypedFirings s fs
+
+-- A typed actor: whatever it has fired on tokens of the types of its places, on such tokens it gives tokens of the types of its outputs.
+abbrev pub IsTypedActor : Types → LibraryActor → Type 0
+IsTypedActor s a =
+    (fs : List (Tag × Streams Token)) → AreTypedFirings s fs → (b c : LibraryActor) → after fs a ≡ Some b → (tag : Tag) (X out : Streams Token) → AreAllOf IsTokenOf s.places X → step tag b X ≡ Gives c out → AreOf IsTokenOf s.outputs out

@@ -1,0 +1,34 @@
+-- The tree of a net, whose library actors meet their rows by the types of the net.
+use Rattle.std.specs.Prelude.{◌≡◌, ℕ, [], length, List}
+use Rattle.pt_meaning.specs.Basics.{Streams}
+use Rattle.pt_meaning.specs.Step.{no_meetings}
+use Rattle.pt_meaning.specs.Schedule.{sdf_top}
+use Rattle.pt_meaning.specs.Job.{meaning}
+use Rattle.pt_value.specs.declared.token.Token.{Token}
+use Rattle.pt_types.specs.Order.{IsBelow}
+use Rattle.pt_graph.specs.declared.net.Net.{Net}
+use Rattle.pt_typing.specs.Least.{Assignment}
+use Rattle.pt_library.specs.declared.library_actor.LibraryActor.{LibraryActor}
+use Rattle.pt_library.specs.LibraryActor.{rows}
+use Rattle.pt_node.specs.View.{Tree}
+use Rattle.pt_build.specs.Trees.{Starts, StartsAs, IsTree}
+use Rattle.pt_typed.specs.Signature.{AreAllOf, IsTypedLog}
+use Rattle.pt_typed.specs.TokenTypes.{IsTokenOf}
+use Rattle.pt_typed.specs.TypedActor.{MeetsRow, IsTypedActor}
+use Rattle.pt_typed.specs.TypedTree.{IsTypedNode}
+use Rattle.pt_typed.specs.NetTypes.{TypesGoUp, types_below, IsWired}
+
+-- the types of each entity are such as the row of the actor asks that it starts as
+abbrev pub MeetRows : Net → Assignment → Starts → Type 0
+MeetRows net typing starts = (k : ℕ) (a : LibraryActor) → StartsAs starts k a → MeetsRow (types_below net typing k []) a
+
+-- the tree of such a net is typed, and each node has the types of its entity
+abbrev pub TreesAreTyped : Type 0
+TreesAreTyped = (net : Net) (typing : Assignment) (starts : Starts) (k : ℕ) (t : Tree) → IsWired net → TypesGoUp net typing → MeetRows net typing starts → IsTree net (StartsAs starts) k t → IsTypedNode IsTokenOf IsBelow IsTypedActor (types_below net typing k) t
+
+-- In a run of it on inputs of the types of the top's inputs, at each fuel, each finished firing took at each place only tokens of the type of its port, and gave on each output only tokens of the type of that.
+abbrev pub NetsKeepTypes : Type 0
+NetsKeepTypes =
+    (net : Net) (typing : Assignment) (starts : Starts) (top : Tree) → IsWired net → TypesGoUp net typing → MeetRows net typing starts → IsTree net (StartsAs starts) 0 top →
+    (iterations : ℕ) (takes : List ℕ) (inputs : Streams Token) → length takes ≡ length inputs → AreAllOf IsTokenOf (types_below net typing 0 []).places inputs →
+    (k : ℕ) → IsTypedLog IsTokenOf (types_below net typing 0) (meaning k rows no_meetings (sdf_top iterations takes inputs) top)

@@ -1,0 +1,67 @@
+-- Trees whose nodes fit their signatures: along each channel what its source gives is of a kind that its place takes.
+use Rattle.std.specs.Prelude.{◌≡◌, ℕ, suc, ◌≤◌, List, [], ◌∷◌, ◌++◌, Option, Some, None, length}
+use Rattle.pt_meaning.specs.Basics.{Streams}
+use Rattle.pt_meaning.specs.Streams.{get}
+use Rattle.pt_meaning.specs.Net.{Source, Own, Output}
+use Rattle.pt_meaning.specs.Running.{total}
+use Rattle.pt_meaning.specs.Sdf.{SdfPlan}
+use Rattle.pt_meaning.specs.Tree.{Core, Sdf, Pn, Sr, De, Rv, Modal, Node, Nodes, Actor, Composite, none, more, list_of}
+use Rattle.pt_typed.specs.Signature.{Signature, Signatures, below, AreOf}
+
+-- the kind of what a source gives within a composite: that of the own input, or that of the child's output; none where there is no such port
+abbrev pub kind_of : {K : Type 0} → Signatures K → Source → Option K
+kind_of sigs (Own port) = get (sigs []).places port
+kind_of sigs (Output child port) = get (sigs (child ∷ [])).outputs port
+
+-- the kinds of the channels of a composite, in the order of their numbers: those at the places of its children from child i on, so many children, and then those of its own outputs
+abbrev pub kinds_from : {K : Type 0} → Signatures K → (i : ℕ) → List ℕ → List K
+kinds_from sigs i [] = (sigs []).outputs
+kinds_from sigs i (n ∷ ns) = (sigs (i ∷ [])).places ++ kinds_from sigs (suc i) ns
+
+-- each child from child i on has as many places as the net says
+abbrev pub AreSized : {K : Type 0} → Signatures K → (i : ℕ) → List ℕ → Type 0
+AreSized sigs i [] = Unit {0}
+AreSized sigs i (n ∷ ns) = (length (sigs (i ∷ [])).places ≡ n) × AreSized sigs (suc i) ns
+
+module _ {T K A : Type 0} (Has : K → T → Type 0) (Below : K → K → Type 0) (Fits : Signature K → A → Type 0) where
+  -- what comes from a source is of the kind; nothing comes from a port that isn't there
+  abbrev pub IsFed : Option K → K → Type 0
+  IsFed None k = Unit {0}
+  IsFed (Some j) k = Below j k
+
+  -- channel by channel
+  abbrev pub AreFed : Signatures K → List Source → List K → Type 0
+  AreFed sigs [] [] = Unit {0}
+  AreFed sigs (c ∷ cs) (k ∷ ks) = IsFed (kind_of sigs c) k × AreFed sigs cs ks
+  AreFed sigs [] (k ∷ ks) = ⊥
+  AreFed sigs (c ∷ cs) [] = ⊥
+
+  -- A composite of SDF of so many children: its plan has an entry for each of them, its channels lead from kind to kind, and so are the tokens that they hold.
+  pub record IsTypedSdf (sigs : Signatures K) (count : ℕ) (p : SdfPlan) (X : Streams T) : Type 0 where
+    pub places_counted : length p.net.places ≡ count
+    pub repetitions_counted : length p.repetitions ≡ count
+    pub rates_counted : length p.rates ≡ count
+    pub sized : AreSized sigs 0 p.net.places
+    pub fed : AreFed sigs p.net.sources (kinds_from sigs 0 p.net.places)
+    pub room : total p.net.places ≤ length X
+    pub held : AreOf Has (kinds_from sigs 0 p.net.places) X
+
+  -- a composite by its director; the laws are of SDF alone
+  abbrev pub IsTypedCore : Signatures K → ℕ → Core T → Type 0
+  IsTypedCore sigs n (Sdf p X) = IsTypedSdf sigs n p X
+  IsTypedCore sigs n (Pn p X) = ⊥
+  IsTypedCore sigs n (Sr p) = ⊥
+  IsTypedCore sigs n (De p) = ⊥
+  IsTypedCore sigs n (Rv p X) = ⊥
+  IsTypedCore sigs n (Modal chart m) = ⊥
+
+  -- each library actor fits its signature, and each composite is such a one
+  abbrev mutual
+    pub IsTypedNode : Signatures K → Node T A → Type 0
+    IsTypedNode sigs (Actor h a b) = Fits (sigs []) b
+    IsTypedNode sigs (Composite h c d kids) = IsTypedCore sigs (length (list_of kids)) d × AreTypedNodes sigs 0 kids
+
+    -- the children from child i on
+    pub AreTypedNodes : Signatures K → (i : ℕ) → Nodes T A → Type 0
+    AreTypedNodes sigs i none = Unit {0}
+    AreTypedNodes sigs i (more n ns) = IsTypedNode (below sigs i) n × AreTypedNodes sigs (suc i) ns

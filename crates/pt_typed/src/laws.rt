@@ -1,0 +1,59 @@
+ghost use Rattle.pt_typed.specs.Laws.{RowsKeepTypes, FirstTokensAreTyped, TypedStepsKeepTypes, TypedRunsKeepTypes};
+ghost use Rattle.pt_typed.specs.TypedNet.{TreesAreTyped, NetsKeepTypes};
+ghost use Rattle.pt_typed.specs.InputLaw.{InputsAreTyped};
+ghost use Rattle.pt_typed.specs.RowLaw.{TypingsGoUp, PlainRowsAreMet, SeededRowsAreMet, TypedNetsKeepTypes};
+
+/// An actor whose row is met by the types of its places and outputs keeps to them, whatever it fires.
+pub fn rows_keep_types()
+    ensures { RowsKeepTypes }
+{}
+
+/// Its first tokens are of the type of each of its outputs.
+pub fn first_tokens_are_typed()
+    ensures { FirstTokensAreTyped }
+{}
+
+/// In a tree of SDF composites and typed actors along whose channels types go up, each firing keeps to the types.
+pub fn typed_steps_keep_types()
+    ensures { TypedStepsKeepTypes }
+{}
+
+/// So does the log of a job, at each fuel.
+pub fn typed_runs_keep_types()
+    ensures { TypedRunsKeepTypes }
+{}
+
+/// The tree of a net is typed by the types of its ports: where its channels stand in order, types go up along them, and the row of each actor is met.
+pub fn trees_are_typed()
+    ensures { TreesAreTyped }
+{}
+
+/// The log of a run of such a tree keeps to the types of the ports.
+pub fn nets_keep_types()
+    ensures { NetsKeepTypes }
+{}
+
+/// Along each channel of a net its typing goes up.
+pub fn typings_go_up()
+    ensures { TypingsGoUp }
+{}
+
+/// The typing of a net meets the row of each actor that makes what it gives of its inputs, of numbers and of truth values.
+pub fn plain_rows_are_met()
+    ensures { PlainRowsAreMet }
+{}
+
+/// So does it meet the row of each actor that gives tokens of its parameters.
+pub fn seeded_rows_are_met()
+    ensures { SeededRowsAreMet }
+{}
+
+/// The tokens that a job supplies are of the types of the top's inputs.
+pub fn inputs_are_typed()
+    ensures { InputsAreTyped }
+{}
+
+/// A run of the tree of a net never meets a token of another type than its port's.
+pub fn tokens_are_typed()
+    ensures { TypedNetsKeepTypes }
+{}

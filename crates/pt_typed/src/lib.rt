@@ -1,0 +1,10 @@
+//! Laws of the types of tokens in a run: a checked model never meets a value of the wrong type. Each is the contract of a public function, which has no code.
+#![tactic(auto)]
+
+mod laws;
+
+pub use laws::{
+    first_tokens_are_typed, inputs_are_typed, nets_keep_types, plain_rows_are_met, rows_keep_types,
+    seeded_rows_are_met, tokens_are_typed, trees_are_typed, typed_runs_keep_types,
+    typed_steps_keep_types, typings_go_up,
+};
