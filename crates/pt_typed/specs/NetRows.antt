@@ -1,5 +1,5 @@
 -- What the ports of a library actor of a net are, by its class, and which classes take what passes from their inputs alone.
-use Rattle.std.specs.Prelude.{◌≡◌, ℕ, suc, ◌++◌, List, [], ◌∷◌, length, map, replicate, count_by, Bool, true, false, Some, None, slice_get}
+use Rattle.std.specs.Prelude.{◌≡◌, ℕ, suc, ◌++◌, List, [], ◌∷◌, length, map, replicate, count_by, bytes_eq, Bool, true, false, Some, None, slice_get}
 use Rattle.pt_moml.specs.declared.job.Direction.{Direction}
 use Rattle.pt_moml.specs.declared.job.Direction.TheVariants.{Input, Output}
 use Rattle.pt_moml.specs.declared.classes.Arity.TheVariants.{Single}
@@ -35,13 +35,14 @@ ends_from counts i (d ∷ ds) = ends_if d (counts i) i ++ ends_from counts (suc 
 abbrev pub channels_at : Net → ℕ → ℕ → ℕ
 channels_at net k i = count_by (ends_at k i) net.channels.items
 
--- The ports of a library actor are those of its class, and what it declares where its class allows that. The channels to it stand in their order, and each single input has one.
+-- The ports of a library actor are those of its class, and what it declares where its class allows that, in the direction that the class says and under other names. The channels to it stand in their order, and each single input has one.
 pub record HasClassPorts (net : Net) (k : ℕ) (e : NetEntity) : Type 0 where
   pub class : Class
   pub declared : List PortTree
   pub kind : kind_of e.class ≡ Some (Actor class)
   pub ports : (entity_view e).ports ≡ joined_ports class.declares declared (map row_port class.ports)
   pub none : class.declares ≡ None → declared ≡ []
+  pub fit : AllByRecursion (λ (p : PortTree). (class.declares ≡ Some p.direction) × AllByRecursion (λ (q : ClassPort). bytes_eq p.name q.name ≡ false) class.ports) declared
   pub ends : map (λ (c : Channel). c.to.port) (arrivals net.channels.items k) ≡ ends_from (channels_at net k) 0 (map (λ (p : PortTree). p.direction) (entity_view e).ports)
   pub single : (i : ℕ) (p : ClassPort) → slice_get (joined_ports class.declares (map declared_port declared) class.ports) i ≡ Some p → p.direction ≡ Input → p.arity ≡ Single → channels_at net k i ≡ 1
 
