@@ -23,3 +23,4 @@ pub mod SeedLaws
 pub mod SeededRows
 pub mod InputLaws
 pub mod RecordRows
+pub mod RecordsMet

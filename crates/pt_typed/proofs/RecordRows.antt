@@ -31,7 +31,7 @@ use Rattle.pt_typed.specs.TypedData.{TakeFields}
 use Rattle.pt_typed.specs.NetRows.{ends_if, ends_from}
 use Rattle.pt_typed.proofs.ClassPorts.{class_head, class_mark, SingleIf, SinglesFrom, out_if, outs_from}
 
-input-test : (p : PortTree) (d : Direction) → is_input_port (record p { direction = d }) ≡ is_inward d
+pub input-test : (p : PortTree) (d : Direction) → is_input_port (record p { direction = d }) ≡ is_inward d
 input-test p Input = refl
 input-test p Output = refl
 
@@ -88,27 +88,27 @@ module _ (ks : List Channel) (typing : Assignment) (k : ℕ) (counts : ℕ → �
 
 -- ---- the rows of the classes
 
-one-row : (qs : List ClassPort) (h : List ℕ × Direction) → map class_head qs ≡ h ∷ [] → (q : ClassPort) × (qs ≡ q ∷ []) × (class_head q ≡ h)
+pub one-row : (qs : List ClassPort) (h : List ℕ × Direction) → map class_head qs ≡ h ∷ [] → (q : ClassPort) × (qs ≡ q ∷ []) × (class_head q ≡ h)
 one-row [] h e = absurd (cc)
 one-row (q ∷ []) h e = let same : class_head q ≡ h = cc in (q, refl, same)
 one-row (q ∷ r ∷ qs) h e = absurd (cc)
 
-directions-all : (o : Option Direction) (d : Direction) (rows : List ClassPort) (ps : List PortTree) → o ≡ Some d → AllByRecursion (λ (p : PortTree). (o ≡ Some p.direction) × AllByRecursion (λ (q : ClassPort). bytes_eq p.name q.name ≡ false) rows) ps → AllByRecursion (λ (p : PortTree). d ≡ p.direction) ps
+pub directions-all : (o : Option Direction) (d : Direction) (rows : List ClassPort) (ps : List PortTree) → o ≡ Some d → AllByRecursion (λ (p : PortTree). (o ≡ Some p.direction) × AllByRecursion (λ (q : ClassPort). bytes_eq p.name q.name ≡ false) rows) ps → AllByRecursion (λ (p : PortTree). d ≡ p.direction) ps
 directions-all o d rows [] e a = tt
 directions-all o d rows (p ∷ ps) e a = (same_Some d p.direction (sym e ∙ a.0.0), directions-all o d rows ps e a.1)
 
 -- declared inputs stand before the output
-outs-behind : (i : ℕ) (ps : List PortTree) → AllByRecursion (λ (p : PortTree). Input ≡ p.direction) ps → outs_from i (map (λ (p : PortTree). p.direction) ps ++ (Output ∷ [])) ≡ (i + length ps) ∷ []
+pub outs-behind : (i : ℕ) (ps : List PortTree) → AllByRecursion (λ (p : PortTree). Input ≡ p.direction) ps → outs_from i (map (λ (p : PortTree). p.direction) ps ++ (Output ∷ [])) ≡ (i + length ps) ∷ []
 outs-behind i [] a = ap (λ n. n ∷ []) (let z : i ≡ i + 0 = omega arith in z)
 outs-behind i (p ∷ ps) a =
     ap (λ d. out_if d i (outs_from (suc i) (map (λ (q : PortTree). q.direction) ps ++ (Output ∷ [])))) (sym a.0) ∙ outs-behind (suc i) ps a.1 ∙ ap (λ n. n ∷ []) (let z : suc i + length ps ≡ i + suc (length ps) = omega arith in z)
 
 -- declared outputs have no places
-no-ends : (counts : ℕ → ℕ) (i : ℕ) (ps : List PortTree) → AllByRecursion (λ (p : PortTree). Output ≡ p.direction) ps → ends_from counts i (map (λ (p : PortTree). p.direction) ps) ≡ []
+pub no-ends : (counts : ℕ → ℕ) (i : ℕ) (ps : List PortTree) → AllByRecursion (λ (p : PortTree). Output ≡ p.direction) ps → ends_from counts i (map (λ (p : PortTree). p.direction) ps) ≡ []
 no-ends counts i [] a = refl
 no-ends counts i (p ∷ ps) a = ap (λ d. ends_if d (counts i) i ++ ends_from counts (suc i) (map (λ (q : PortTree). q.direction) ps)) (sym a.0) ∙ no-ends counts (suc i) ps a.1
 
-no-inputs : (k i : ℕ) (ps : List PortTree) → AllByRecursion (λ (p : PortTree). Output ≡ p.direction) ps → inputs_from k i ps ≡ []
+pub no-inputs : (k i : ℕ) (ps : List PortTree) → AllByRecursion (λ (p : PortTree). Output ≡ p.direction) ps → inputs_from k i ps ≡ []
 no-inputs k i [] a = refl
 no-inputs k i (p ∷ ps) a = ap (λ t. (if t then (p.name, variable.Port k i) ∷ [] else []) ++ inputs_from k (suc i) ps) (input-test p p.direction ∙ ap is_inward (sym a.0)) ∙ no-inputs k (suc i) ps a.1
 
@@ -121,6 +121,6 @@ inputs-ok ks typing k counts o i (p ∷ ds) q e a s n d =
     (subst (λ x. PortIf ks typing k counts (codes "output") x i p.name) way (subst (λ m. bytes_eq p.name m ≡ false) named a.0.1.0, subst (λ x. SingleIf (counts i) (x, arity.Single)) (sym way) s.0),
      inputs-ok ks typing k counts o (suc i) ds q e a.1 s.1 n d)
 
-one-field : (types : ℕ → Datatype) (n : ℕ) (name : List ℕ) (u : Datatype) → IsBelow (or_general (field name (types 0))) u → IsUnder (field_of name (get (map types (replicate n 0 ++ [])) 0)) u
+pub one-field : (types : ℕ → Datatype) (n : ℕ) (name : List ℕ) (u : Datatype) → IsBelow (or_general (field name (types 0))) u → IsUnder (field_of name (get (map types (replicate n 0 ++ [])) 0)) u
 one-field types zero name u h = tt
 one-field types (suc n) name u h = h
