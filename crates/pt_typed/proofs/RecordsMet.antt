@@ -36,22 +36,34 @@ use Rattle.pt_resolve.specs.Typing.{IsTyping}
 use Rattle.pt_start.specs.Started.{counted_port, ports_of}
 use Rattle.pt_lib_flow.specs.declared.params.Params.{Params}
 use Rattle.pt_lib_data.specs.declared.data_actor.DataActor.{DataActor}
+use Rattle.pt_lib_data.specs.declared.function.Function.{Function}
 use Rattle.pt_lib_data.specs.declared.function.Function.TheVariants as made
+use Rattle.pt_lib_data.specs.declared.function.Class.{Class as DataClass}
+use Rattle.pt_lib_data.specs.ArrayElement as array_element
+use Rattle.pt_lib_data.specs.Comparator as comparator
+use Rattle.pt_lib_data.specs.Limiter as limiter
+use Rattle.pt_lib_data.specs.LogicFunction as logic_function
+use Rattle.pt_lib_data.specs.SequenceToArray as sequence_to_array
+use Rattle.pt_lib_flow.specs.FlowActor as flow_actor
 use Rattle.pt_lib_data.specs.declared.function.Class.TheVariants as kinds
 use Rattle.pt_lib_data.specs.Function as function
 use Rattle.pt_lib_data.specs.DataActor as data_actor
-use Rattle.pt_library.specs.declared.library_actor.LibraryActor.TheVariants.{Data}
+use Rattle.pt_library.specs.declared.library_actor.LibraryActor.{LibraryActor}
+use Rattle.pt_library.specs.declared.library_actor.LibraryActor.TheVariants.{Flow, Data}
+use Rattle.pt_library.specs.LibraryActor.{start}
 use Rattle.pt_typed.specs.TokenTypes.{IsUnder, ToFirst, field_of}
 use Rattle.pt_typed.specs.TypedActor.{MeetsRow}
 use Rattle.pt_typed.specs.TypedData.{IsTypedFunction}
 use Rattle.pt_typed.specs.NetTypes.{arrivals, place_type, port_numbers, port_types, by_director, types_of, types_below}
-use Rattle.pt_typed.specs.NetRows.{ends_if, ends_from, channels_at, HasClassPorts}
+use Rattle.pt_typed.specs.NetRows.{ends_if, ends_from, channels_at, HasClassPorts, is_record_function, is_record_actor}
+use Rattle.pt_typed.specs.RowLaw.{types_of_ports, RecordRowsAreMet}
 use Rattle.pt_typed.proofs.NetLaws.{types-at-ends, ends-of}
 use Rattle.pt_typed.proofs.PortFacts.{head, head_type, all-front, all-back, entity-met}
 use Rattle.pt_typed.proofs.ClassPorts.{class_head, class_mark, heads_in, declares_in, SinglesFrom, singles-from, outs_from}
 use Rattle.pt_typed.proofs.DataStarts as functions
 use Rattle.pt_typed.proofs.DataClasses as data_classes
-use Rattle.pt_typed.proofs.RowsMet.{viewed, outputs-numbered}
+use Rattle.pt_typed.proofs.FlowStarts.{mapped}
+use Rattle.pt_typed.proofs.RowsMet.{viewed, outputs-numbered, one-of-two, data-in}
 use Rattle.pt_typed.proofs.RecordRows.{one-row, FieldIf, FieldsIf, entries-are, fields-taken, directions-all, outs-behind, no-ends, no-inputs, inputs-ok, one-field, input-test}
 
 assembler-declares : declares_in (kind_of (codes "RecordAssembler")) ≡ Some Input
@@ -199,3 +211,41 @@ module _ (net : Net) (values : Values) (typing : Assignment) (k : ℕ) (e : NetE
           (subst (λ us. IsTypedFunction (map types (replicate (counts 0) 0 ++ [])) us (made.RecordDisassembler (names_but (codes "input") params.ports))) (sym (outputs-by all ports))
           (subst (λ ns. IsTypedFunction (map types (replicate (counts 0) 0 ++ [])) (map types (outs_from 0 (ways all))) (made.RecordDisassembler ns)) (sym (names-by (codes "input") all ports)) taken)) in
       functions.data-asked (types_below net typing k []).places (types_below net typing k []).outputs kinds.RecordDisassembler params.values params.ports a started asks
+
+-- ---- which class
+
+other-function : {P : Type 0} (f g : Function) → g ≡ f → is_record_function g ≡ false → is_record_function f ≡ true → P
+other-function f g e n p = absurd (let no : false ≡ true = sym n ∙ ap is_record_function e ∙ p in cc)
+
+module _ (net : Net) (values : Values) (typing : Assignment) (k : ℕ) (e : NetEntity) (at : slice_get net.entities.items k ≡ Some e) (undirected : e.director ≡ None) (has : HasClassPorts net k e) (typed : IsTyping net values typing) (params : Params)
+    (classed : params.class ≡ e.class) (v : valued.EntityView) (held : slice_get (map valued.entity_view values.entities.items) k ≡ Some v) (ports-are : params.ports ≡ ports_of net.channels.items k (entity_view e)) where
+  by-class : (c : DataClass) (a : DataActor) → function.class_of params.class ≡ Some c → data_actor.started_as c params.values params.ports ≡ Some a → (f : Function) → function.start_as c params.values params.ports ≡ Some f → is_record_function f ≡ true → MeetsRow (types_below net typing k []) (Data a)
+  by-class kinds.ArrayElement a is started f e' p = let w = mapped made.ArrayElement (array_element.start params.values) f e' in other-function f (made.ArrayElement w.0) w.2 refl p
+  by-class kinds.ArrayToSequence a is started f e' p = let w = mapped made.ArrayToSequence (sequence_to_array.start params.values) f e' in other-function f (made.ArrayToSequence w.0) w.2 refl p
+  by-class kinds.Comparator a is started f e' p = let w = mapped made.Comparator (comparator.start params.values) f e' in other-function f (made.Comparator w.0) w.2 refl p
+  by-class kinds.Discard a is started f e' p = other-function f made.Discard (same_Some made.Discard f e') refl p
+  by-class kinds.ElementsToArray a is started f e' p = other-function f made.ElementsToArray (same_Some made.ElementsToArray f e') refl p
+  by-class kinds.Equals a is started f e' p = other-function f made.Equals (same_Some made.Equals f e') refl p
+  by-class kinds.Limiter a is started f e' p = let w = mapped made.Limiter (limiter.start params.values) f e' in other-function f (made.Limiter w.0) w.2 refl p
+  by-class kinds.LogicFunction a is started f e' p = let w = mapped made.LogicFunction (logic_function.start params.values) f e' in other-function f (made.LogicFunction w.0) w.2 refl p
+  by-class kinds.LogicalNot a is started f e' p = other-function f made.LogicalNot (same_Some made.LogicalNot f e') refl p
+  by-class kinds.RecordAssembler a is started f e' p = assembler-meets net values typing k e at undirected has typed params classed v held ports-are a is started
+  by-class kinds.RecordDisassembler a is started f e' p = disassembler-meets net values typing k e at undirected has typed params classed v held ports-are a is started
+  by-class kinds.SequenceToArray a is started f e' p = let w = mapped made.SequenceToArray (sequence_to_array.start params.values) f e' in other-function f (made.SequenceToArray w.0) w.2 refl p
+  by-class kinds.StringLength a is started f e' p = other-function f made.StringLength (same_Some made.StringLength f e') refl p
+
+  record-meets : (a : LibraryActor) → start params ≡ Some a → is_record_actor a ≡ true → MeetsRow (types_below net typing k []) a
+  record-meets a started p = elim (one-of-two Flow Data (flow_actor.start params) (data_actor.start params.class params.values params.ports) a started) [
+    | inl w ↦ absurd (let no : false ≡ true = ap is_record_actor w.2 ∙ p in cc)
+    | inr w ↦ (
+        let c = data-in (function.class_of params.class) params w.0 w.1 in
+        let f = functions.with-needs params.ports (function.start_as c.0 params.values params.ports) w.0 c.2 in
+        subst (MeetsRow (types_below net typing k [])) w.2 (by-class c.0 w.0 c.1 c.2 f.0 f.1 (ap is_record_function (sym f.2) ∙ ap is_record_actor w.2 ∙ p)))
+  ]
+
+pub record-rows-met : RecordRowsAreMet
+record-rows-met net values typing k e a at undirected has typed started p =
+    let from = started.started_from in
+    let view : entity_view e ≡ from.entity = same_Some (entity_view e) from.entity (sym (viewed entity_view net.entities.items k e at) ∙ from.at) in
+    record-meets net values typing k e at undirected has typed started.params (from.from.class_is ∙ ap (λ (d : NetEntityTree). d.class) (sym view)) (valued.entity_view from.held) (viewed valued.entity_view values.entities.items k from.held from.held_at)
+    (from.from.ports_are ∙ ap (ports_of net.channels.items k) (sym view)) a started.is p

@@ -67,7 +67,7 @@ pub flow-in : (o : Option FlowClass) (params : Params) (a : FlowActor) → flow_
 flow-in None params a e = absurd (cc)
 flow-in (Some c) params a e = (c, refl, e)
 
-data-in : (o : Option DataClass) (params : Params) (a : DataActor) → data_actor.start_in o params.values params.ports ≡ Some a → (c : DataClass) × (o ≡ Some c) × (data_actor.started_as c params.values params.ports ≡ Some a)
+pub data-in : (o : Option DataClass) (params : Params) (a : DataActor) → data_actor.start_in o params.values params.ports ≡ Some a → (c : DataClass) × (o ≡ Some c) × (data_actor.started_as c params.values params.ports ≡ Some a)
 data-in None params a e = absurd (cc)
 data-in (Some c) params a e = (c, refl, e)
 

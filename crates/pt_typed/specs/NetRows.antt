@@ -122,3 +122,23 @@ IsTokenHeld parameter.Word = ⊥
 pub record HoldsTokens (ps : List PropertyTree) (vs : List ParameterValue) : Type 0 where
   pub counted : length vs ≡ length ps
   pub held : AllByRecursion IsTokenHeld vs
+
+-- it makes records of its inputs, or takes them apart
+abbrev pub is_record_function : Function → Bool
+is_record_function (ArrayElement index) = false
+is_record_function (ArrayToSequence count) = false
+is_record_function (Comparator relation) = false
+is_record_function Discard = false
+is_record_function ElementsToArray = false
+is_record_function Equals = false
+is_record_function (Limiter range) = false
+is_record_function (LogicFunction gate) = false
+is_record_function LogicalNot = false
+is_record_function (RecordAssembler names) = true
+is_record_function (RecordDisassembler names) = true
+is_record_function (SequenceToArray count) = false
+is_record_function StringLength = false
+
+abbrev pub is_record_actor : LibraryActor → Bool
+is_record_actor (Flow a) = false
+is_record_actor (Data a) = is_record_function a.function
