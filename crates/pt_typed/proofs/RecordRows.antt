@@ -1,5 +1,5 @@
 -- The typing of a net meets the rows of the actors that make records and take them apart.
-use Rattle.std.proofs.Common.{◌≡◌, ℕ, zero, suc, ◌+◌, List, [], ◌∷◌, ◌++◌, length, map, replicate, Bool, true, false, Option, Some, None, refl, sym, ap, subst, ◌∙◌, slice_get, arith, if◌then◌else◌}
+use Rattle.std.proofs.Common.{◌≡◌, ℕ, zero, suc, ◌+◌, List, [], ◌∷◌, ◌++◌, length, map, replicate, true, false, Option, Some, refl, sym, ap, subst, ◌∙◌, arith, if◌then◌else◌}
 use Rattle.std.specs.Prelude.{codes, bytes_eq}
 use Rattle.std.specs.List.{AllByRecursion, zip, enumerate_from}
 use Rattle.pt_meaning.specs.Streams.{get}
@@ -117,9 +117,10 @@ pub inputs-ok : (ks : List Channel) (typing : Assignment) (k : ℕ) (counts : �
 inputs-ok ks typing k counts o i [] q e a s n d = (subst (λ x. PortIf ks typing k counts (codes "output") x i q.name) (sym d) n, tt)
 inputs-ok ks typing k counts o i (p ∷ ds) q e a s n d =
     let way : Input ≡ p.direction = same_Some Input p.direction (sym e ∙ a.0.0) in
-    let named : q.name ≡ codes "output" = (bytes_eq-Decides q.name (codes "output")).0 n in
-    (subst (λ x. PortIf ks typing k counts (codes "output") x i p.name) way (subst (λ m. bytes_eq p.name m ≡ false) named a.0.1.0, subst (λ x. SingleIf (counts i) (x, arity.Single)) (sym way) s.0),
-     inputs-ok ks typing k counts o (suc i) ds q e a.1 s.1 n d)
+    let named : q.name ≡ codes "output" = (bytes_eq-Decides q.name (codes "output")).0 n in (
+      subst (λ x. PortIf ks typing k counts (codes "output") x i p.name) way (subst (λ m. bytes_eq p.name m ≡ false) named a.0.1.0, subst (λ x. SingleIf (counts i) (x, arity.Single)) (sym way) s.0),
+      inputs-ok ks typing k counts o (suc i) ds q e a.1 s.1 n d,
+    )
 
 pub one-field : (types : ℕ → Datatype) (n : ℕ) (name : List ℕ) (u : Datatype) → IsBelow (or_general (field name (types 0))) u → IsUnder (field_of name (get (map types (replicate n 0 ++ [])) 0)) u
 one-field types zero name u h = tt

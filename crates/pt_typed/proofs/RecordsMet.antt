@@ -1,5 +1,5 @@
 -- The typing of a net meets the rows of a RecordAssembler and of a RecordDisassembler.
-use Rattle.std.proofs.Common.{◌≡◌, ◌⊎◌, inl, inr, ℕ, zero, suc, ◌+◌, List, [], ◌∷◌, ◌++◌, length, map, replicate, Bool, true, false, Option, Some, None, refl, sym, ap, subst, ◌∙◌, slice_get, arith, if◌then◌else◌}
+use Rattle.std.proofs.Common.{◌≡◌, inl, inr, ℕ, zero, suc, ◌+◌, List, [], ◌∷◌, ◌++◌, length, map, replicate, true, false, Option, Some, None, refl, sym, ap, subst, ◌∙◌, slice_get, arith, if◌then◌else◌}
 use Rattle.std.specs.Prelude.{codes, bytes_eq}
 use Rattle.std.specs.List.{AllByRecursion, zip, enumerate_from}
 use Rattle.std.proofs.lemmas.Option.{same_Some}
@@ -14,7 +14,6 @@ use Rattle.pt_types.specs.Order.{IsBelow}
 use Rattle.pt_expr_type.specs.Types.{Types}
 use Rattle.pt_expr_type.specs.Typing.{or_general}
 use Rattle.pt_expr_type.specs.TreeType.{field, recorded}
-use Rattle.pt_graph.specs.declared.net.Channel.{Channel}
 use Rattle.pt_graph.specs.declared.net.Net.{Net}
 use Rattle.pt_graph.specs.declared.net.NetEntity.{NetEntity}
 use Rattle.pt_graph.specs.Table.{joined_ports, declared_port}
@@ -23,11 +22,9 @@ use Rattle.pt_firing.specs.Params.{names_but}
 use Rattle.pt_wiring.specs.Inside.{is_inward, is_input}
 use Rattle.pt_values.specs.declared.values.Values.{Values}
 use Rattle.pt_values.specs.Valued as valued
-use Rattle.pt_typing.specs.declared.variable.Variable.{Variable}
 use Rattle.pt_typing.specs.declared.variable.Variable.TheVariants as variable
 use Rattle.pt_typing.specs.Least.{Assignment, IsMet}
 use Rattle.pt_typing.specs.Terms.{entry_in}
-use Rattle.pt_resolve.specs.declared.row.PortType.{PortType}
 use Rattle.pt_resolve.specs.declared.row.PortType.TheVariants as port
 use Rattle.pt_resolve.specs.Rows.{port_type, port_rows, seedings}
 use Rattle.pt_resolve.specs.Frames.{frames_of, seen_types}
@@ -56,10 +53,10 @@ use Rattle.pt_typed.specs.TypedActor.{MeetsRow}
 use Rattle.pt_typed.specs.TypedData.{IsTypedFunction}
 use Rattle.pt_typed.specs.NetTypes.{arrivals, place_type, port_numbers, port_types, by_director, types_of, types_below}
 use Rattle.pt_typed.specs.NetRows.{ends_if, ends_from, channels_at, HasClassPorts, is_record_function, is_record_actor}
-use Rattle.pt_typed.specs.RowLaw.{types_of_ports, RecordRowsAreMet}
+use Rattle.pt_typed.specs.RowLaw.{RecordRowsAreMet}
 use Rattle.pt_typed.proofs.NetLaws.{types-at-ends, ends-of}
 use Rattle.pt_typed.proofs.PortFacts.{head, head_type, all-front, all-back, entity-met}
-use Rattle.pt_typed.proofs.ClassPorts.{class_head, class_mark, heads_in, declares_in, SinglesFrom, singles-from, outs_from}
+use Rattle.pt_typed.proofs.ClassPorts.{class_head, heads_in, declares_in, singles-from, outs_from}
 use Rattle.pt_typed.proofs.DataStarts as functions
 use Rattle.pt_typed.proofs.DataClasses as data_classes
 use Rattle.pt_typed.proofs.FlowStarts.{mapped}
@@ -159,11 +156,11 @@ module _ (net : Net) (values : Values) (typing : Assignment) (k : ℕ) (e : NetE
       let below = subst (λ t. AllByRecursion (IsMet typing) (of_port k (entity_view e) v seen n q.name t)) passes (subst (λ m. AllByRecursion (IsMet typing) (of_port k (entity_view e) v seen m q.name (port_type e.class (row_port q)))) (let z : 0 + n ≡ n = omega arith in z) met) in
       let taken : IsBelow (or_general (recorded (map (entry_in typing.types) (inputs_from k 0 all)))) (types n) = subst (λ ps. IsBelow (or_general (recorded (map (entry_in typing.types) (inputs_from k 0 ps)))) (types n)) ports below.0 in
       let here : IsBelow (or_general (recorded (zip (names_but (codes "output") params.ports) (types_below net typing k []).places))) (types n) =
-          subst (λ ts. IsBelow (or_general (recorded (zip (names_but (codes "output") params.ports) ts))) (types n)) (sym (places-by all ports))
-          (subst (λ ns. IsBelow (or_general (recorded (zip ns (map types (ends_from counts 0 (ways all)))))) (types n)) (sym (names-by (codes "output") all ports))
-          (subst (λ es. IsBelow (or_general (recorded es)) (types n)) (sym entries) taken)) in
+      subst (λ ts. IsBelow (or_general (recorded (zip (names_but (codes "output") params.ports) ts))) (types n)) (sym (places-by all ports))
+      (subst (λ ns. IsBelow (or_general (recorded (zip ns (map types (ends_from counts 0 (ways all)))))) (types n)) (sym (names-by (codes "output") all ports))
+      (subst (λ es. IsBelow (or_general (recorded es)) (types n)) (sym entries) taken)) in
       let asks : ToFirst (λ u. IsBelow (or_general (recorded (zip (names_but (codes "output") params.ports) (types_below net typing k []).places))) u) (types_below net typing k []).outputs =
-          subst (λ us. ToFirst (λ u. IsBelow (or_general (recorded (zip (names_but (codes "output") params.ports) (types_below net typing k []).places))) u) us) (sym (outputs-by all ports ∙ ap (map types) outs)) here in
+      subst (λ us. ToFirst (λ u. IsBelow (or_general (recorded (zip (names_but (codes "output") params.ports) (types_below net typing k []).places))) u) us) (sym (outputs-by all ports ∙ ap (map types) outs)) here in
       functions.data-asked (types_below net typing k []).places (types_below net typing k []).outputs kinds.RecordAssembler params.values params.ports a started asks
 
   -- the declared outputs of a RecordDisassembler, behind its one input
@@ -173,9 +170,10 @@ module _ (net : Net) (values : Values) (typing : Assignment) (k : ℕ) (e : NetE
   fields-ok name o i (p ∷ ds) c ins under d f a =
       let passes : port_type e.class p ≡ port.Field = type-by-head e.class p ∙ ap (λ n. head_type n (head p)) c ∙ ap (λ w. head_type (codes "RecordDisassembler") (p.name, w)) (sym d.0) ∙ disassembled p.name in
       let met = subst (λ t. AllByRecursion (IsMet typing) (of_port k (entity_view e) v seen i p.name t)) passes (all-front (IsMet typing) (of_port k (entity_view e) v seen i p.name (port_type e.class p)) (of_ports k (entity_view e) v seen (suc i) ds) a) in
-      let below = subst (λ xs. AllByRecursion (IsMet typing) (of_fields (variable.Port k i) p.name xs)) ins met in
-      (subst (λ w. FieldIf net.channels.items typing k counts (codes "input") o w i p.name) d.0 (f.0, under p.name (types i) below.0),
-       fields-ok name o (suc i) ds c ins under d.1 f.1 (all-back (IsMet typing) (of_port k (entity_view e) v seen i p.name (port_type e.class p)) (of_ports k (entity_view e) v seen (suc i) ds) a))
+      let below = subst (λ xs. AllByRecursion (IsMet typing) (of_fields (variable.Port k i) p.name xs)) ins met in (
+        subst (λ w. FieldIf net.channels.items typing k counts (codes "input") o w i p.name) d.0 (f.0, under p.name (types i) below.0),
+        fields-ok name o (suc i) ds c ins under d.1 f.1 (all-back (IsMet typing) (of_port k (entity_view e) v seen i p.name (port_type e.class p)) (of_ports k (entity_view e) v seen (suc i) ds) a),
+      )
 
   names-apart : (q : ClassPort) (ds : List PortTree) → q.name ≡ codes "input" → AllByRecursion (λ (p : PortTree). (has.class.declares ≡ Some p.direction) × AllByRecursion (λ (r : ClassPort). bytes_eq p.name r.name ≡ false) (q ∷ [])) ds → AllByRecursion (λ (p : PortTree). bytes_eq p.name (codes "input") ≡ false) ds
   names-apart q [] e' a = tt
@@ -197,19 +195,20 @@ module _ (net : Net) (values : Values) (typing : Assignment) (k : ℕ) (e : NetE
       let fit = subst (λ qs. AllByRecursion (λ (p : PortTree). (has.class.declares ≡ Some p.direction) × AllByRecursion (λ (r : ClassPort). bytes_eq p.name r.name ≡ false) qs) ds) row.1 has.fit in
       let dirs = directions-all has.class.declares Output (q ∷ []) ds declares fit in
       let ins : inputs_of k (entity_view e) ≡ (q.name, variable.Port k 0) ∷ [] =
-          ap (inputs_from k 0) ports ∙ ap (λ t. (if t then (q.name, variable.Port k 0) ∷ [] else []) ++ inputs_from k 1 ds) (input-test (row_port q) q.direction ∙ ap is_inward way) ∙ ap (λ xs. (q.name, variable.Port k 0) ∷ xs) (no-inputs k 1 ds dirs) in
+      ap (inputs_from k 0) ports ∙ ap (λ t. (if t then (q.name, variable.Port k 0) ∷ [] else []) ++ inputs_from k 1 ds) (input-test (row_port q) q.direction ∙ ap is_inward way) ∙ ap (λ xs. (q.name, variable.Port k 0) ∷ xs) (no-inputs k 1 ds dirs) in
       let ends : ends_from counts 0 (ways all) ≡ replicate (counts 0) 0 ++ [] = ap (λ d. ends_if d (counts 0) 0 ++ ends_from counts 1 (ways ds)) way ∙ ap (λ xs. replicate (counts 0) 0 ++ xs) (no-ends counts 1 ds dirs) in
       let o = get (map types (replicate (counts 0) 0 ++ [])) 0 in
       let met : AllByRecursion (IsMet typing) (of_ports k (entity_view e) v seen 1 ds) =
-          all-back (IsMet typing) (of_port k (entity_view e) v seen 0 q.name (port_type e.class (row_port q))) (of_ports k (entity_view e) v seen 1 ds) (subst (λ ps. AllByRecursion (IsMet typing) (of_ports k (entity_view e) v seen 0 ps)) ports ports-met) in
-      let ok : FieldsIf net.channels.items typing k counts (codes "input") o 0 all =
-          (subst (λ w. FieldIf net.channels.items typing k counts (codes "input") o w 0 q.name) (sym way) ((bytes_eq-Decides q.name (codes "input")).1 named),
-           fields-ok q.name o 1 ds its-class ins (λ m u h. one-field types (counts 0) m u h) dirs (names-apart q ds named fit) met) in
+      all-back (IsMet typing) (of_port k (entity_view e) v seen 0 q.name (port_type e.class (row_port q))) (of_ports k (entity_view e) v seen 1 ds) (subst (λ ps. AllByRecursion (IsMet typing) (of_ports k (entity_view e) v seen 0 ps)) ports ports-met) in
+      let ok : FieldsIf net.channels.items typing k counts (codes "input") o 0 all = (
+        subst (λ w. FieldIf net.channels.items typing k counts (codes "input") o w 0 q.name) (sym way) ((bytes_eq-Decides q.name (codes "input")).1 named),
+        fields-ok q.name o 1 ds its-class ins (λ m u h. one-field types (counts 0) m u h) dirs (names-apart q ds named fit) met,
+      ) in
       let taken = fields-taken net.channels.items typing k counts (codes "input") o 0 0 all ok in
       let asks : IsTypedFunction (types_below net typing k []).places (types_below net typing k []).outputs (made.RecordDisassembler (names_but (codes "input") params.ports)) =
-          subst (λ ts. IsTypedFunction ts (types_below net typing k []).outputs (made.RecordDisassembler (names_but (codes "input") params.ports))) (sym (places-by all ports ∙ ap (map types) ends))
-          (subst (λ us. IsTypedFunction (map types (replicate (counts 0) 0 ++ [])) us (made.RecordDisassembler (names_but (codes "input") params.ports))) (sym (outputs-by all ports))
-          (subst (λ ns. IsTypedFunction (map types (replicate (counts 0) 0 ++ [])) (map types (outs_from 0 (ways all))) (made.RecordDisassembler ns)) (sym (names-by (codes "input") all ports)) taken)) in
+      subst (λ ts. IsTypedFunction ts (types_below net typing k []).outputs (made.RecordDisassembler (names_but (codes "input") params.ports))) (sym (places-by all ports ∙ ap (map types) ends))
+      (subst (λ us. IsTypedFunction (map types (replicate (counts 0) 0 ++ [])) us (made.RecordDisassembler (names_but (codes "input") params.ports))) (sym (outputs-by all ports))
+      (subst (λ ns. IsTypedFunction (map types (replicate (counts 0) 0 ++ [])) (map types (outs_from 0 (ways all))) (made.RecordDisassembler ns)) (sym (names-by (codes "input") all ports)) taken)) in
       functions.data-asked (types_below net typing k []).places (types_below net typing k []).outputs kinds.RecordDisassembler params.values params.ports a started asks
 
 -- ---- which class
