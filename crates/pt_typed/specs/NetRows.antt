@@ -27,6 +27,7 @@ abbrev pub ends_if : Direction → (count i : ℕ) → List ℕ
 ends_if Input count i = replicate count i
 ends_if Output count i = []
 
+-- the same of all ports
 abbrev pub ends_from : (ℕ → ℕ) → ℕ → List Direction → List ℕ
 ends_from counts i [] = []
 ends_from counts i (d ∷ ds) = ends_if d (counts i) i ++ ends_from counts (suc i) ds
@@ -46,6 +47,7 @@ pub record HasClassPorts (net : Net) (k : ℕ) (e : NetEntity) : Type 0 where
   pub ends : map (λ (c : Channel). c.to.port) (arrivals net.channels.items k) ≡ ends_from (channels_at net k) 0 (map (λ (p : PortTree). p.direction) (entity_view e).ports)
   pub single : (i : ℕ) (p : ClassPort) → slice_get (joined_ports class.declares (map declared_port declared) class.ports) i ≡ Some p → p.direction ≡ Input → p.arity ≡ Single → channels_at net k i ≡ 1
 
+-- so it is of each library actor
 abbrev pub HaveClassPorts : Net → Type 0
 HaveClassPorts net = (k : ℕ) (e : NetEntity) → slice_get net.entities.items k ≡ Some e → e.director ≡ None → HasClassPorts net k e
 
@@ -69,6 +71,7 @@ is_plain_flow (Scale a) = true
 is_plain_flow (Sequence a) = false
 is_plain_flow (UpSample a) = true
 
+-- the same of what the data actors make of their inputs
 abbrev pub is_plain_function : Function → Bool
 is_plain_function (ArrayElement index) = true
 is_plain_function (ArrayToSequence count) = true
@@ -84,6 +87,7 @@ is_plain_function (RecordDisassembler names) = false
 is_plain_function (SequenceToArray count) = true
 is_plain_function StringLength = true
 
+-- the same of the actors of both libraries
 abbrev pub is_plain_actor : LibraryActor → Bool
 is_plain_actor (Flow a) = is_plain_flow a
 is_plain_actor (Data a) = is_plain_function a.function
@@ -108,6 +112,7 @@ is_seeded_flow (Scale a) = false
 is_seeded_flow (Sequence a) = true
 is_seeded_flow (UpSample a) = false
 
+-- no data actor gives tokens of a parameter
 abbrev pub is_seeded_actor : LibraryActor → Bool
 is_seeded_actor (Flow a) = is_seeded_flow a
 is_seeded_actor (Data a) = false
@@ -139,6 +144,7 @@ is_record_function (RecordDisassembler names) = true
 is_record_function (SequenceToArray count) = false
 is_record_function StringLength = false
 
+-- no flow actor makes or takes apart records
 abbrev pub is_record_actor : LibraryActor → Bool
 is_record_actor (Flow a) = false
 is_record_actor (Data a) = is_record_function a.function
