@@ -22,3 +22,5 @@ pub mod TypedNets
 pub mod SeedLaws
 pub mod SeededRows
 pub mod InputLaws
+pub mod RecordRows
+pub mod RecordsMet

@@ -67,7 +67,7 @@ pub flow-in : (o : Option FlowClass) (params : Params) (a : FlowActor) → flow_
 flow-in None params a e = absurd (cc)
 flow-in (Some c) params a e = (c, refl, e)
 
-data-in : (o : Option DataClass) (params : Params) (a : DataActor) → data_actor.start_in o params.values params.ports ≡ Some a → (c : DataClass) × (o ≡ Some c) × (data_actor.started_as c params.values params.ports ≡ Some a)
+pub data-in : (o : Option DataClass) (params : Params) (a : DataActor) → data_actor.start_in o params.values params.ports ≡ Some a → (c : DataClass) × (o ≡ Some c) × (data_actor.started_as c params.values params.ports ≡ Some a)
 data-in None params a e = absurd (cc)
 data-in (Some c) params a e = (c, refl, e)
 
@@ -121,7 +121,7 @@ number-by : (d : Direction) (p : Port) (i : ℕ) (ns : List ℕ) → p.direction
 number-by Input p i ns e = ap (λ d. number_if (not (is_inward d)) i ns) e
 number-by Output p i ns e = ap (λ d. number_if (not (is_inward d)) i ns) e
 
-outputs-numbered : (i : ℕ) (ps : List Port) → port_numbers is_output i ps ≡ outs_from i (map (λ (p : PortTree). p.direction) (map port_view ps))
+pub outputs-numbered : (i : ℕ) (ps : List Port) → port_numbers is_output i ps ≡ outs_from i (map (λ (p : PortTree). p.direction) (map port_view ps))
 outputs-numbered i [] = refl
 outputs-numbered i (p ∷ ps) = number-by p.direction p i (port_numbers is_output (suc i) ps) refl ∙ ap (out_if p.direction i) (outputs-numbered (suc i) ps)
 

@@ -18,9 +18,10 @@ RowsKeepTypes = (s : Types) (a : LibraryActor) → MeetsRow s a → IsTypedActor
 abbrev pub FirstTokensAreTyped : Type 0
 FirstTokensAreTyped = (s : Types) (a : LibraryActor) (port : ℕ) (u : Datatype) → MeetsRow s a → get s.outputs port ≡ Some u → AllByRecursion (IsTokenOf u) (first a)
 
--- in a typed tree of SDF composites and typed actors each firing keeps to the types, and so does the log of a job
+-- in a typed tree of SDF composites and typed actors each firing keeps to the types
 abbrev pub TypedStepsKeepTypes : Type 0
 TypedStepsKeepTypes = StepsKeepKinds IsTokenOf IsBelow IsTypedActor rows
 
+-- and so does the log of a job, at each fuel
 abbrev pub TypedRunsKeepTypes : Type 0
 TypedRunsKeepTypes = MeaningKeepsKinds IsTokenOf IsBelow IsTypedActor rows

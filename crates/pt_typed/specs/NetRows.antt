@@ -1,5 +1,5 @@
 -- What the ports of a library actor of a net are, by its class, and which classes take what passes from their inputs alone.
-use Rattle.std.specs.Prelude.{◌≡◌, ℕ, suc, ◌++◌, List, [], ◌∷◌, length, map, replicate, count_by, Bool, true, false, Some, None, slice_get}
+use Rattle.std.specs.Prelude.{◌≡◌, ℕ, suc, ◌++◌, List, [], ◌∷◌, length, map, replicate, count_by, bytes_eq, Bool, true, false, Some, None, slice_get}
 use Rattle.pt_moml.specs.declared.job.Direction.{Direction}
 use Rattle.pt_moml.specs.declared.job.Direction.TheVariants.{Input, Output}
 use Rattle.pt_moml.specs.declared.classes.Arity.TheVariants.{Single}
@@ -27,6 +27,7 @@ abbrev pub ends_if : Direction → (count i : ℕ) → List ℕ
 ends_if Input count i = replicate count i
 ends_if Output count i = []
 
+-- the same of all ports
 abbrev pub ends_from : (ℕ → ℕ) → ℕ → List Direction → List ℕ
 ends_from counts i [] = []
 ends_from counts i (d ∷ ds) = ends_if d (counts i) i ++ ends_from counts (suc i) ds
@@ -35,16 +36,18 @@ ends_from counts i (d ∷ ds) = ends_if d (counts i) i ++ ends_from counts (suc 
 abbrev pub channels_at : Net → ℕ → ℕ → ℕ
 channels_at net k i = count_by (ends_at k i) net.channels.items
 
--- The ports of a library actor are those of its class, and what it declares where its class allows that. The channels to it stand in their order, and each single input has one.
+-- The ports of a library actor are those of its class, and what it declares where its class allows that, in the direction that the class says and under other names. The channels to it stand in their order, and each single input has one.
 pub record HasClassPorts (net : Net) (k : ℕ) (e : NetEntity) : Type 0 where
   pub class : Class
   pub declared : List PortTree
   pub kind : kind_of e.class ≡ Some (Actor class)
   pub ports : (entity_view e).ports ≡ joined_ports class.declares declared (map row_port class.ports)
   pub none : class.declares ≡ None → declared ≡ []
+  pub fit : AllByRecursion (λ (p : PortTree). (class.declares ≡ Some p.direction) × AllByRecursion (λ (q : ClassPort). bytes_eq p.name q.name ≡ false) class.ports) declared
   pub ends : map (λ (c : Channel). c.to.port) (arrivals net.channels.items k) ≡ ends_from (channels_at net k) 0 (map (λ (p : PortTree). p.direction) (entity_view e).ports)
   pub single : (i : ℕ) (p : ClassPort) → slice_get (joined_ports class.declares (map declared_port declared) class.ports) i ≡ Some p → p.direction ≡ Input → p.arity ≡ Single → channels_at net k i ≡ 1
 
+-- so it is of each library actor
 abbrev pub HaveClassPorts : Net → Type 0
 HaveClassPorts net = (k : ℕ) (e : NetEntity) → slice_get net.entities.items k ≡ Some e → e.director ≡ None → HasClassPorts net k e
 
@@ -68,6 +71,7 @@ is_plain_flow (Scale a) = true
 is_plain_flow (Sequence a) = false
 is_plain_flow (UpSample a) = true
 
+-- the same of what the data actors make of their inputs
 abbrev pub is_plain_function : Function → Bool
 is_plain_function (ArrayElement index) = true
 is_plain_function (ArrayToSequence count) = true
@@ -83,6 +87,7 @@ is_plain_function (RecordDisassembler names) = false
 is_plain_function (SequenceToArray count) = true
 is_plain_function StringLength = true
 
+-- the same of the actors of both libraries
 abbrev pub is_plain_actor : LibraryActor → Bool
 is_plain_actor (Flow a) = is_plain_flow a
 is_plain_actor (Data a) = is_plain_function a.function
@@ -107,6 +112,7 @@ is_seeded_flow (Scale a) = false
 is_seeded_flow (Sequence a) = true
 is_seeded_flow (UpSample a) = false
 
+-- no data actor gives tokens of a parameter
 abbrev pub is_seeded_actor : LibraryActor → Bool
 is_seeded_actor (Flow a) = is_seeded_flow a
 is_seeded_actor (Data a) = false
@@ -121,3 +127,24 @@ IsTokenHeld parameter.Word = ⊥
 pub record HoldsTokens (ps : List PropertyTree) (vs : List ParameterValue) : Type 0 where
   pub counted : length vs ≡ length ps
   pub held : AllByRecursion IsTokenHeld vs
+
+-- it makes records of its inputs, or takes them apart
+abbrev pub is_record_function : Function → Bool
+is_record_function (ArrayElement index) = false
+is_record_function (ArrayToSequence count) = false
+is_record_function (Comparator relation) = false
+is_record_function Discard = false
+is_record_function ElementsToArray = false
+is_record_function Equals = false
+is_record_function (Limiter range) = false
+is_record_function (LogicFunction gate) = false
+is_record_function LogicalNot = false
+is_record_function (RecordAssembler names) = true
+is_record_function (RecordDisassembler names) = true
+is_record_function (SequenceToArray count) = false
+is_record_function StringLength = false
+
+-- no flow actor makes or takes apart records
+abbrev pub is_record_actor : LibraryActor → Bool
+is_record_actor (Flow a) = false
+is_record_actor (Data a) = is_record_function a.function

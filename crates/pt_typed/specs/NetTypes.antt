@@ -16,10 +16,11 @@ use Rattle.pt_typed.specs.Signature.{Signature, Signatures}
 
 -- ---- channels
 
--- the types at the two ends of a channel
+-- the type at the source of a channel
 abbrev pub source_type : Assignment → Channel → Datatype
 source_type typing k = typing.types (variable.Port k.from.entity k.from.port)
 
+-- the type at its place
 abbrev pub place_type : Assignment → Channel → Datatype
 place_type typing k = typing.types (variable.Port k.to.entity k.to.port)
 
@@ -31,15 +32,17 @@ TypesGoUp net typing = (k : Channel) → Contains net.channels.items k → IsBel
 abbrev pub arrivals : List Channel → ℕ → List Channel
 arrivals ks i = filter (comes_to i) ks
 
--- the channels that end at own outputs of a composite
+-- the channel ends at an own output of this composite
 abbrev pub goes_out : ℕ → Channel → Bool
 goes_out c k = nat_eq k.to.entity c && nat_eq k.composite c
 
+-- all of them
 abbrev pub departures : List Channel → ℕ → List Channel
 departures ks c = filter (goes_out c) ks
 
 -- ---- entities
 
+-- a number before others, where it is so
 abbrev pub number_if : Bool → ℕ → List ℕ → List ℕ
 number_if true i ns = i ∷ ns
 number_if false i ns = ns
@@ -64,6 +67,7 @@ types_of net typing k None = record { places = []; outputs = [] }
 types_of net typing k (Some e) =
     record { places = by_director e.director (port_types typing k (port_numbers is_input 0 e.ports.items)) (map (place_type typing) (arrivals net.channels.items k)); outputs = port_types typing k (port_numbers is_output 0 e.ports.items) }
 
+-- those of an entity by its number, if there is one
 abbrev pub types_at : Net → Assignment → Option ℕ → Signature Datatype
 types_at net typing None = record { places = []; outputs = [] }
 types_at net typing (Some k) = types_of net typing k (slice_get net.entities.items k)

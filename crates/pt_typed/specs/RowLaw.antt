@@ -24,7 +24,7 @@ use Rattle.pt_typed.specs.TokenTypes.{IsTokenOf}
 use Rattle.pt_typed.specs.TypedActor.{MeetsRow}
 use Rattle.pt_typed.specs.InputLaw.{HaveOwnNames}
 use Rattle.pt_typed.specs.NetTypes.{TypesGoUp, types_below, IsWired}
-use Rattle.pt_typed.specs.NetRows.{HasClassPorts, HaveClassPorts, is_plain_actor, is_seeded_actor, HoldsTokens}
+use Rattle.pt_typed.specs.NetRows.{HasClassPorts, HaveClassPorts, is_plain_actor, is_seeded_actor, is_record_actor, HoldsTokens}
 
 -- the types of ports, by the numbers of their entities and their own
 abbrev pub types_of_ports : Assignment → PortTyping
@@ -46,14 +46,20 @@ SeededRowsAreMet =
     (net : Net) (values : Values) (typing : Assignment) (k : ℕ) (e : NetEntity) (a : LibraryActor) → slice_get net.entities.items k ≡ Some e → e.director ≡ None → HasClassPorts net k e → IsTyping net values typing → (started : IsStart net values (types_of_ports typing) k (Some a)) →
     is_seeded_actor a ≡ true → HoldsTokens started.started_from.entity.parameters started.started_from.held.parameters.items → MeetsRow (types_below net typing k []) a
 
+-- The same of an actor that makes records of its inputs, or takes them apart.
+abbrev pub RecordRowsAreMet : Type 0
+RecordRowsAreMet =
+    (net : Net) (values : Values) (typing : Assignment) (k : ℕ) (e : NetEntity) (a : LibraryActor) → slice_get net.entities.items k ≡ Some e → e.director ≡ None → HasClassPorts net k e → IsTyping net values typing → IsStart net values (types_of_ports typing) k (Some a) →
+    is_record_actor a ≡ true → MeetsRow (types_below net typing k []) a
+
 -- each library actor of a net starts as its parameters and types start it, and where it gives tokens of its parameters these are tokens
 abbrev pub AreStartedIn : Net → Values → Assignment → Starts → Type 0
 AreStartedIn net values typing starts = (k : ℕ) (a : LibraryActor) → StartsAs starts k a →
     (e : NetEntity) × (slice_get net.entities.items k ≡ Some e) × (e.director ≡ None) × (started : IsStart net values (types_of_ports typing) k (Some a)) × (is_seeded_actor a ≡ true → HoldsTokens started.started_from.entity.parameters started.started_from.held.parameters.items)
 
--- the rows of the other actors are met: of those that give fields, records, or values of expressions
+-- the rows of the other actors are met: of those that give values of expressions
 abbrev pub MeetOtherRows : Net → Assignment → Starts → Type 0
-MeetOtherRows net typing starts = (k : ℕ) (a : LibraryActor) → StartsAs starts k a → is_plain_actor a ≡ false → is_seeded_actor a ≡ false → MeetsRow (types_below net typing k []) a
+MeetOtherRows net typing starts = (k : ℕ) (a : LibraryActor) → StartsAs starts k a → is_plain_actor a ≡ false → is_seeded_actor a ≡ false → is_record_actor a ≡ false → MeetsRow (types_below net typing k []) a
 
 -- In a run of the tree of a net with its typing, on the tokens that are supplied, at each fuel, each finished firing took at each place only tokens of the type of its port, and gave on each output only tokens of the type of that.
 abbrev pub TypedNetsKeepTypes : Type 0

@@ -12,6 +12,7 @@ pub record Signature (K : Type 0) : Type 0 where
 abbrev pub Signatures : Type 0 → Type 0
 Signatures K = Path → Signature K
 
+-- those below child i
 abbrev pub below : {K : Type 0} → Signatures K → ℕ → Signatures K
 below sigs i p = sigs (i ∷ p)
 

@@ -26,5 +26,6 @@ ToFirst P (u ∷ us) = P u
 abbrev pub elements_of : Option Datatype → Option Datatype
 elements_of o = option_map (λ t. or_general (element t)) o
 
+-- that of a field under a name
 abbrev pub field_of : List ℕ → Option Datatype → Option Datatype
 field_of name o = option_map (λ t. or_general (field name t)) o

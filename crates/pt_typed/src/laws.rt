@@ -1,7 +1,7 @@
 ghost use Rattle.pt_typed.specs.Laws.{RowsKeepTypes, FirstTokensAreTyped, TypedStepsKeepTypes, TypedRunsKeepTypes};
 ghost use Rattle.pt_typed.specs.TypedNet.{TreesAreTyped, NetsKeepTypes};
 ghost use Rattle.pt_typed.specs.InputLaw.{InputsAreTyped};
-ghost use Rattle.pt_typed.specs.RowLaw.{TypingsGoUp, PlainRowsAreMet, SeededRowsAreMet, TypedNetsKeepTypes};
+ghost use Rattle.pt_typed.specs.RowLaw.{TypingsGoUp, PlainRowsAreMet, SeededRowsAreMet, RecordRowsAreMet, TypedNetsKeepTypes};
 
 /// An actor whose row is met by the types of its places and outputs keeps to them, whatever it fires.
 pub fn rows_keep_types()
@@ -46,6 +46,11 @@ pub fn plain_rows_are_met()
 /// So does it meet the row of each actor that gives tokens of its parameters.
 pub fn seeded_rows_are_met()
     ensures { SeededRowsAreMet }
+{}
+
+/// So does it meet the row of each actor that makes records of its inputs, or takes them apart.
+pub fn record_rows_are_met()
+    ensures { RecordRowsAreMet }
 {}
 
 /// The tokens that a job supplies are of the types of the top's inputs.
