@@ -1,11 +1,9 @@
-ghost use Rattle.std.specs.Prelude.{◌≡◌, length, IfOk, IfErr};
+ghost use Rattle.std.specs.Prelude.{◌≡◌, length, Ok, Err, IfOk, IfErr};
 ghost use Rattle.pt_moml.specs.Document.{JobTree};
 ghost use Rattle.pt_graph.specs.Net.{IsNetOf};
 ghost use Rattle.pt_typing.specs.Least.{assignment};
 ghost use Rattle.pt_composite.specs.Fresh.{IsFresh};
 ghost use Rattle.pt_node.specs.Shown.{shown_node};
-ghost use Rattle.pt_node.specs.View.{node_of};
-ghost use Rattle.pt_build.specs.Trees.{IsTree, StartsAs};
 ghost use Rattle.pt_build.specs.Built.{IsBuilt};
 ghost use Rattle.pt_run.specs.Start.{IsRunnable};
 ghost use Rattle.pt_run.specs.Ports.{AreNumbered};
@@ -69,18 +67,21 @@ impl From<DocFault> for ModelFault {
     }
 }
 
-/// The model of a net with this tree.
-fn with_job(alloc: Global, net: &Net, started: &Started, top: Node) -> Result<Model, ModelFault>
-    requires started { IsStarted net.now started.now.values (assignment started.now.typing) started.now.starts.items }
-    requires tree { IsTree net.now (StartsAs started.now.starts.items) 0 (node_of (shown_node top)) }
-    requires built { IsBuilt net.now started.now.starts.items 0 (shown_node top) }
-    ensures top { IfOk result (λ model. model.top ≡ top) }
-    ensures model { IfOk result (λ model. IsModel net.now (shown_node model.top) model.job) }
-    ensures lists { IfOk result (λ model. length model.job.inputs.items ≡ length model.job.takes) }
-    ensures stands { IfErr result (FaultStands net.now) }
+/// Lets a tree go. A call of its own keeps what that takes out of the proofs of its callers.
+fn let_go(_top: Node) {}
+
+/// The model of this tree, where the job could be asked for.
+fn with_job(top: Node, job: Result<SdfJob, ModelFault>) -> Result<Model, ModelFault>
+    ensures ok { IfOk result (λ model. (model.top ≡ top) × (job ≡ Ok model.job)) }
+    ensures fault { IfErr result (λ fault. job ≡ Err fault) }
 {
-    let job = job_of(alloc, net, started, &top)?;
-    Ok(Model { top, job })
+    match job {
+        Ok(job) => Ok(Model { top, job }),
+        Err(fault) => {
+            let_go(top);
+            Err(fault)
+        }
+    }
 }
 
 /// The model of a net whose entities start as these.
@@ -93,7 +94,8 @@ fn model_with(alloc: Global, net: &Net, started: &Started) -> Result<Model, Mode
     ensures stands { IfErr result (FaultStands net.now) }
 {
     let top = tree_of(alloc, net, started)?;
-    with_job(alloc, net, started, top)
+    let job = job_of(alloc, net, started, &top);
+    with_job(top, job)
 }
 
 /// The model of the net of a job: its texts are evaluated, its types found, its actors started, its composites planned, and what the job supplies is put to the
