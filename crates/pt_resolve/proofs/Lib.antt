@@ -3,6 +3,7 @@ pub mod Parts
 pub mod PlainNets
 pub mod DeclaredBounds
 pub mod Breaks
+pub mod CompositeBreaks
 pub mod SaidNames
 pub mod SaidTypes
 pub mod SaidWords

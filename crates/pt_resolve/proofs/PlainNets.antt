@@ -1,6 +1,6 @@
 -- In a net that is plain nothing comes from Modal entities.
 use Rattle.std.proofs.Common.{◌≡◌, ℕ, zero, suc, Bool, true, not, List, [], ◌∷◌, ◌++◌, map, Some, sym, ap, ◌∙◌, refl}
-use Rattle.std.specs.Prelude.{slice_get, codes, ◌&&◌}
+use Rattle.std.specs.Prelude.{All, slice_get, codes, ◌&&◌}
 use Rattle.std.specs.Str.{bytes_eq}
 use Rattle.std.specs.List.{list_all}
 use Rattle.std.proofs.lemmas.List.Elements.{All-append}
@@ -11,10 +11,12 @@ use Rattle.pt_graph.specs.declared.net.Net.{Net}
 use Rattle.pt_graph.specs.declared.net.NetEntity.{NetEntity}
 use Rattle.pt_graph.specs.Net.{NetEntityTree, entity_view}
 use Rattle.pt_values.specs.declared.values.Values.{Values}
+use Rattle.pt_typing.specs.Views.{Inequality}
 use Rattle.pt_typing.specs.Least.{Assignment, IsMet, IsLeast}
 use Rattle.pt_resolve.specs.Inequalities.{inequalities}
+use Rattle.pt_resolve.specs.Passing.{port_counts, passing}
 use Rattle.pt_resolve.specs.DeclaredTypes.{declared}
-use Rattle.pt_resolve.specs.Typing.{IsLowerByModal, of_input, of_output, of_action, is_plain, is_undeclared, ArePlain, port_counts, IsTyping}
+use Rattle.pt_resolve.specs.Typing.{IsLowerByModal, of_input, of_output, of_action, is_plain, ArePlain, IsTyping}
 use Rattle.pt_resolve.proofs.Steps.{some-same}
 use Rattle.pt_resolve.proofs.DeclaredLaws.{All-left, All-right, declared-all, declared-each}
 
@@ -40,21 +42,29 @@ plain_views (e ∷ es) = ap (λ b. is_plain (entity_view e) && b) (plain_views e
 
 module _ (net : Net) (values : Values) (plain : ArePlain net) where
   pub plain-at : (k : ℕ) (e : NetEntityTree) → slice_get (map entity_view net.entities.items) k ≡ Some e → is_plain e ≡ true
-  plain-at k e there = all-at is_plain (map entity_view net.entities.items) k e (and_left (list_all is_plain (map entity_view net.entities.items)) (list_all is_undeclared net.transparent.items) plain) there
+  plain-at k e there = all-at is_plain (map entity_view net.entities.items) k e plain there
 
   none-by-modal : (a : Assignment) (k i : ℕ) (t : Datatype) → IsLowerByModal net values a k i t → ⊥
   none-by-modal a k i t (of_input m k' i' j modal e p q r hp hq n d) = not-Modal modal (plain-at m modal r.modal_at) r.is_modal
   none-by-modal a k i t (of_output m k' i' j modal e p q r hp hq n d) = not-Modal modal (plain-at m modal r.modal_at) r.is_modal
   none-by-modal a k i t (of_action m i' e v inner p tr act t' r hp ht ha n ty) = not-Modal e (plain-at m e r.at) r.is_modal
 
-  -- the least types that meet the inequalities, with those of declared types, are the typing
-  pub plain-typing : (a : Assignment) → IsLeast (port_counts net) (inequalities net values ++ declared net) a → IsTyping net values a
+  -- the inequalities of a net, with those of declared types and of what passes between ports and relations
+  abbrev pub all : List Inequality
+  all = (inequalities net values ++ declared net) ++ passing net
+
+  -- the least types that meet all of them are the typing
+  pub plain-typing : (a : Assignment) → IsLeast (port_counts net) all a → IsTyping net values a
   plain-typing a h = record {
     above = record {
-      meets = record { are_types = h.meets.are_types; is_type = h.meets.is_type; outside = h.meets.outside; met = All-left (IsMet a) (inequalities net values) (declared net) h.meets.met };
-      declared = declared-each (IsMet a) net (All-right (IsMet a) (inequalities net values) (declared net) h.meets.met);
+      meets = record { are_types = h.meets.are_types; is_type = h.meets.is_type; outside = h.meets.outside; met = All-left (IsMet a) (inequalities net values) (declared net) own };
+      passes = All-right (IsMet a) (inequalities net values ++ declared net) (passing net) h.meets.met;
+      declared = declared-each (IsMet a) net (All-right (IsMet a) (inequalities net values) (declared net) own);
       modal = λ k i t m. absurd (none-by-modal a k i t m);
     };
     least = λ b m.
-        h.least b (record { are_types = m.meets.are_types; is_type = m.meets.is_type; outside = m.meets.outside; met = All-append (IsMet b) (inequalities net values) (declared net) m.meets.met (declared-all (IsMet b) net m.declared) });
+        h.least b (record { are_types = m.meets.are_types; is_type = m.meets.is_type; outside = m.meets.outside; met = All-append (IsMet b) (inequalities net values ++ declared net) (passing net) (All-append (IsMet b) (inequalities net values) (declared net) m.meets.met (declared-all (IsMet b) net m.declared)) m.passes });
   }
+    where
+      own : All (IsMet a) (inequalities net values ++ declared net)
+      own = All-left (IsMet a) (inequalities net values ++ declared net) (passing net) h.meets.met

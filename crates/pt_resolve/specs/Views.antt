@@ -1,6 +1,10 @@
 -- What the program holds while it makes inequalities.
 use Rattle.std.specs.Prelude.{◌≡◌, ◌++◌, List, map}
+use Rattle.std.specs.Borrow.{Bor}
 use Rattle.indexmap.specs.IndexMap.{get_by_text}
+use Rattle.pt_moml.specs.declared.job.Port.{Port}
+use Rattle.pt_moml.specs.Document.{PortTree}
+use Rattle.pt_moml.specs.View.{port_view}
 use Rattle.pt_typing.specs.declared.term.Inequality.{Inequality as GivenInequality}
 use Rattle.pt_typing.specs.Views.{Inequality, inequality_view}
 use Rattle.pt_expr_type.specs.Types.{Types}
@@ -24,6 +28,10 @@ types_at p = seen_types (frames_view p.frames.now) p.entity.now.within p.entity.
 
 abbrev pub port_numbers : TopPorts → PortNumbers
 port_numbers ports name = get_by_text ports.numbers name
+
+-- the ports of some entities and transparent composites
+abbrev pub port_lists : List (Bor (List Port)) → List (List PortTree)
+port_lists lists = map (λ ps. map port_view ps.now) lists
 
 -- some more inequalities behind those that there were
 abbrev pub IsAdded : List GivenInequality → List GivenInequality → List Inequality → Type 0

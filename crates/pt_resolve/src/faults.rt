@@ -173,7 +173,7 @@ fn first_broken(
 
 /// The number of the first entity at which the typing of a plain net breaks, if there is one: a port is general, above what its
 /// row allows, or not below what it declares, or an expression has no type.
-pub fn broken(
+pub(crate) fn broken_entity(
     alloc: Global,
     net: &Net,
     values: &Values,

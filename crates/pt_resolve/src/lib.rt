@@ -2,10 +2,13 @@
 #![tactic(auto)]
 
 mod bounds;
+mod breaking;
+mod composites;
 mod declared;
 mod faults;
 mod frames;
 mod inequalities;
+mod joints;
 mod place;
 mod plain;
 mod row;
@@ -16,7 +19,7 @@ mod tables;
 mod top;
 mod words;
 
-pub use faults::broken;
+pub use breaking::{BrokenAt, broken};
 pub use frames::{Frame, Frames};
 pub use inequalities::inequalities_of;
 pub use plain::{is_plain, net_typing};

@@ -1,23 +1,16 @@
 ghost use Rattle.std.specs.Prelude.{◌≡◌, IfOk, map, true, false};
-ghost use Rattle.std.specs.Option.{is_none};
 ghost use Rattle.std.specs.List.{list_all};
 ghost use Rattle.pt_graph.specs.Net.{entity_view};
 ghost use Rattle.pt_typing.specs.Least.{assignment};
-ghost use Rattle.pt_resolve.specs.Typing.{port_count, is_plain, is_undeclared, ArePlain, IsTyping};
+ghost use Rattle.pt_resolve.specs.Typing.{is_plain, ArePlain, IsTyping};
 
 use crate::declared::add_declared;
 use crate::inequalities::inequalities_of;
-use pt_graph::{Net, NetEntity, Transparent};
-use pt_moml::Port;
+use crate::joints::{add_passing, all_ports, port_counts};
+use pt_graph::{Net, NetEntity};
 use pt_typing::{Typing, least_typing};
 use pt_values::Values;
 use std::alloc::{AllocError, Global};
-
-fn are_undeclared(ports: &[Port]) -> bool
-    ensures { result ≡ list_all (λ p. is_none p.declared) ports.now }
-{
-    ports.iter().all(|port| port.declared.is_none())
-}
 
 /// Whether an entity isn't Modal.
 fn is_plain_entity(entity: &NetEntity) -> bool
@@ -32,58 +25,25 @@ fn are_plain(entities: &[NetEntity]) -> bool
     entities.iter().all(is_plain_entity)
 }
 
-/// Whether no port of a transparent composite declares a type.
-fn is_undeclared(composite: &Transparent) -> bool
-    ensures { result ≡ is_undeclared composite.now }
-{
-    are_undeclared(&composite.ports)
-}
-
-fn all_undeclared(composites: &[Transparent]) -> bool
-    ensures { result ≡ list_all is_undeclared composites.now }
-{
-    composites.iter().all(is_undeclared)
-}
-
-/// Whether a net is plain: no entity is Modal, and no port of a transparent composite declares a type.
+/// Whether a net is plain: no entity is Modal.
 #[tactic(auto, using(crate::proofs::PlainNets::plain_views))]
 pub fn is_plain(net: &Net) -> bool
     ensures yes { result ≡ true → ArePlain net.now }
     ensures no { result ≡ false → ArePlain net.now → ⊥ }
 {
-    are_plain(&net.entities) && all_undeclared(&net.transparent)
+    are_plain(&net.entities)
 }
 
-/// How many ports an entity has. More than fit 32 bits are told as want of memory.
-fn port_count(entity: &NetEntity) -> Result<u32, AllocError>
-    ensures { IfOk result (λ n. n ≡ port_count (entity_view entity.now)) }
-{
-    let count = entity.ports.len();
-    if count < u32::MAX as usize {
-        Ok(count as u32)
-    } else {
-        Err(AllocError)
-    }
-}
-
-fn port_counts(alloc: Global, entities: &[NetEntity]) -> Result<Vec<u32>, AllocError>
-    ensures { IfOk result (λ counts. counts.items ≡ map port_count (map entity_view entities.now)) }
-{
-    let mut counts = Vec::with_capacity(alloc, entities.len())?;
-    for entity in entities {
-        counts.push(port_count(entity)?)?;
-    }
-    Ok(counts)
-}
-
-/// The typing of a net without Modal entities, in which no port of a transparent composite declares a type: the least types of its
-/// ports and rows that meet all inequalities and are above what ports declare.
+/// The typing of a net without Modal entities: the least types of its ports, rows and relations that meet all inequalities and
+/// are above what ports declare.
 pub fn net_typing(alloc: Global, net: &Net, values: &Values) -> Result<Typing, AllocError>
     requires { ArePlain net.now }
     ensures { IfOk result (λ t. IsTyping net.now values.now (assignment t)) }
 {
-    let counts = port_counts(alloc, &net.entities)?;
+    let lists = all_ports(alloc, net)?;
+    let counts = port_counts(alloc, &lists, net.relation_count)?;
     let mut inequalities = inequalities_of(alloc, net, values)?;
-    add_declared(alloc, &net.entities, &mut inequalities)?;
+    add_declared(alloc, &lists, &mut inequalities)?;
+    add_passing(net, &mut inequalities)?;
     least_typing(alloc, counts.as_slice(), inequalities.as_slice())
 }

@@ -2,7 +2,7 @@ use Rattle.std.proofs.Common.{sym, ◌∙◌}
 use Rattle.std.proofs.lemmas.Result.{IfOk-weaker}
 use Rattle.pt_typing.specs.Least.{assignment}
 use Rattle.pt_resolve.proofs.Breaks.{first-told, found-broken, none-broken}
-use Rattle.pt_resolve.proofs.faults.broken.Goals as goal
+use Rattle.pt_resolve.proofs.faults.broken_entity.Goals as goal
 
 pub returns-clause-some : goal.returns-clause-some
 returns-clause-some c =
