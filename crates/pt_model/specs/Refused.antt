@@ -26,7 +26,7 @@ use Rattle.pt_model.specs.declared.model.ModelFault.{ModelFault}
 use Rattle.pt_model.specs.declared.model.ModelFault.TheVariants.{Refused, Memory}
 use Rattle.pt_model.specs.Resolved.{IsResolved, IsStarted}
 
--- What isn't built yet: Modal entities, types that ports of transparent composites declare, trees that pt_build can't build, and an SDF top without a number of iterations.
+-- What isn't built yet: Modal entities, trees that pt_build can't build, and an SDF top without a number of iterations.
 pub data IsUnbuilt (net : Net) : Type 0 where
   not_plain : (ArePlain net → ⊥) → IsUnbuilt net
   no_tree : (values : Values) (typing : Assignment) (starts : Starts) → IsStarted net values typing starts → built.IsUnbuilt net starts → IsUnbuilt net
