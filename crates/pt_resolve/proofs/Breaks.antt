@@ -1,11 +1,12 @@
--- The tests tell where the typing of a plain net breaks.
+-- The tests tell where the typing of a net breaks.
 use Rattle.std.proofs.Common.{◌≡◌, ◌⊎◌, inl, inr, ℕ, zero, suc, ◌+◌, ◌<◌, Bool, true, false, ◌||◌, if◌then◌else◌, List, [], ◌∷◌, length, map, drop, get_or, Option, Some, None, refl, sym, ap, subst, ◌∙◌, arith}
 use Rattle.std.proofs.lemmas.Bool.{both_ways, or_cases, or_parts, not-true, not-false, cond-true, cond-false}
 use Rattle.std.specs.Prelude.{slice_get}
 use Rattle.std.specs.List.{Contains, list_any}
 use Rattle.pt_moml.specs.Document.{PortTree}
-use Rattle.pt_types.specs.Datatype.{Datatype}
+use Rattle.pt_types.specs.Datatype.{Datatype, Boolean}
 use Rattle.pt_types.specs.Order.{is_below}
+use Rattle.pt_types.specs.Token.{type_of_value}
 use Rattle.pt_expr.specs.Tree.{Tree}
 use Rattle.pt_expr_type.specs.Types.{Types}
 use Rattle.pt_graph.specs.declared.net.Net.{Net}
@@ -24,12 +25,16 @@ use Rattle.pt_typing.specs.Least.{Assignment}
 use Rattle.pt_resolve.specs.Rows.{port_type}
 use Rattle.pt_resolve.specs.Frames.{Frames, frames_of, seen_types, first, behind}
 use Rattle.pt_resolve.specs.Inequalities.{inputs_of, known}
-use Rattle.pt_resolve.specs.Typing.{Declares, ArePlain}
+use Rattle.pt_resolve.specs.ModalScopes.{modal_types}
+use Rattle.pt_resolve.specs.Modals.{Chart, AreCharts}
+use Rattle.pt_resolve.specs.Typing.{Declares, scope_of}
 use Rattle.pt_resolve.specs.Faults.{is_above, IsBroken, at_port, above_declared, in_tree, guard, set_action, clash_in}
+use Rattle.pt_resolve.specs.ModalFaults.{first_failing}
 use Rattle.pt_resolve.specs.Broken.{has_port_above, has_port_over, lacks_type, has_untyped, breaks, first_broken}
 use Rattle.pt_resolve.proofs.Steps.{some-same, none-more, from-next, one-more, drop-one, behind-drop}
 use Rattle.pt_resolve.proofs.DeclaredBounds.{port-over, no-port-over}
-use Rattle.pt_resolve.proofs.PlainNets.{not-Modal, plain-at}
+use Rattle.pt_resolve.proofs.Passing.{one-passes, none-passes, some-now, none-now}
+use Rattle.pt_resolve.proofs.ModalBreaks.{guards-true, sets-within, texts-typed}
 
 -- ---- numbers
 
@@ -58,22 +63,6 @@ no-port-above a k class i (q ∷ ps) h (suc j) p e =
 
 -- ---- expressions
 
-contains-next : {A : Type 0} (x : A) (xs : List A) (y : A) → Contains xs y → Contains (x ∷ xs) y
-contains-next x xs y c = (suc c.0, omega (arith, c.1), c.2)
-
-one-passes : (f : Held → Bool) (hs : List Held) → list_any f hs ≡ true → (h : Held) × Contains hs h × (f h ≡ true)
-one-passes f [] e = cc
-one-passes f (h ∷ hs) e =
-    elim (or_cases (f h) (list_any f hs) e) [
-      | inl here ↦ (h, (0, omega arith, refl), here)
-      | inr later ↦ let r = one-passes f hs later in (r.0, contains-next h hs r.0 r.1, r.2)
-    ]
-
-none-passes : (f : Held → Bool) (hs : List Held) → list_any f hs ≡ false → (h : Held) → Contains hs h → f h ≡ false
-none-passes f [] e h (k, short, is) = absurd (omega (arith, short))
-none-passes f (g ∷ hs) e h (zero, short, is) = ap f (sym is) ∙ (or_parts (f g) (list_any f hs) e).0
-none-passes f (g ∷ hs) e h (suc k, short, is) = none-passes f hs (or_parts (f g) (list_any f hs) e).1 h (k, omega (arith, short), is)
-
 untyped-tree : (a : Assignment) (k : ℕ) (e : NetEntityTree) (types : Types) (h : Held) → lacks_type a k e types h ≡ true → (t : Tree) × (h ≡ held.Read t) × (has_type (names_types a.types (inputs_of k e) (known types (names_in t))) t ≡ false)
 untyped-tree a k e types (held.Token v) h = cc
 untyped-tree a k e types (held.Read t) h = (t, refl, not-true (has_type (names_types a.types (inputs_of k e) (known types (names_in t))) t) h)
@@ -96,14 +85,6 @@ record Found (frames : Frames) (a : Assignment) (i : ℕ) (es : List NetEntityTr
   number : k ≡ i + at
   is : slice_get es at ≡ Some entity
   broken : breaks frames a k entity (slice_get vs at) ≡ true
-
-some-now : (b : Bool) (i k : ℕ) (rest : Option ℕ) → (if b then Some i else rest) ≡ Some k → ((b ≡ true) × (i ≡ k)) ⊎ (rest ≡ Some k)
-some-now true i k rest h = inl (refl, some-same i k h)
-some-now false i k rest h = inr h
-
-none-now : (b : Bool) (i : ℕ) (rest : Option ℕ) → (if b then Some i else rest) ≡ None → (b ≡ false) × (rest ≡ None)
-none-now true i rest h = let wrong : ⊥ = cc in absurd wrong
-none-now false i rest h = (refl, h)
 
 first-breaks : (frames : Frames) (a : Assignment) (i : ℕ) (es : List NetEntityTree) (vs : List EntityView) (k : ℕ) → first_broken frames a i es vs ≡ Some k → Found frames a i es vs k
 first-breaks frames a i [] vs k h = cc
@@ -214,11 +195,12 @@ module _ (net : Net) (values : Values) (a : Assignment) where
       let each : list_any (lacks_type a k e (types_round e)) v.parameters ≡ false = ap (has_untyped a k e (types_round e)) (sym there) ∙ typed in
       not-false (has_type (names_types a.types (inputs_of k e) (known (types_round e) (names_in t))) t) (none-passes (lacks_type a k e (types_round e)) v.parameters each (held.Read t) c)
 
-  -- where none is found no entity of a plain net is broken
-  pub none-broken : ArePlain net → first_broken (frames_of net values) a 0 entities given ≡ None → (e : NetEntityTree) → IsBroken net values a e → ⊥
-  none-broken plain h e (at_port k i e' p at there above) = both_ways (is_above (port_type e'.class p) (a.types (Port k i))) (port-whole k i e' p (whole-at k e' h at) there) above
-  none-broken plain h e (above_declared k i e' p t at there d wrong) = both_ways (is_below (a.types (Port k i)) t) wrong (bound-whole k i e' p t (whole-at k e' h at) there d)
-  none-broken plain h e (in_tree k e' v t at there c wrong) = both_ways (has_type (names_types a.types (inputs_of k e') (known (types_round e') (names_in t))) t) wrong (tree-whole k e' v t (whole-at k e' h at) there c)
-  none-broken plain h e (guard m e' v inner tr t r c ty wrong) = not-Modal e' (plain-at net values plain m e' r.at) r.is_modal
-  none-broken plain h e (set_action m e' v inner tr x t s r c d ty var wrong) = not-Modal e' (plain-at net values plain m e' r.at) r.is_modal
-  none-broken plain h e (clash_in m e' v inner text t r c d wrong) = not-Modal e' (plain-at net values plain m e' r.at) r.is_modal
+  -- where none is found, and no guard or action breaks the typing, no entity is broken
+  module _ (cs : List Chart) (are : AreCharts (frames_of net values) entities given (length entities) cs) (none : first_failing a cs ≡ None) (h : first_broken (frames_of net values) a 0 entities given ≡ None) where
+    pub none-broken : (e : NetEntityTree) → IsBroken net values a e → ⊥
+    none-broken e (at_port k i e' p at there above) = both_ways (is_above (port_type e'.class p) (a.types (Port k i))) (port-whole k i e' p (whole-at k e' h at) there) above
+    none-broken e (above_declared k i e' p t at there d wrong) = both_ways (is_below (a.types (Port k i)) t) wrong (bound-whole k i e' p t (whole-at k e' h at) there d)
+    none-broken e (in_tree k e' v t at there c wrong) = both_ways (has_type (names_types a.types (inputs_of k e') (known (types_round e') (names_in t))) t) wrong (tree-whole k e' v t (whole-at k e' h at) there c)
+    none-broken e (guard m e' v tr t modal c ty wrong) = both_ways (is_below t Boolean) wrong (guards-true a net values cs are none m e' v modal tr t c ty)
+    none-broken e (set_action m e' v tr x t first modal c d ty variable wrong) = both_ways (is_below t (type_of_value first)) wrong (sets-within a net values cs are none m e' v modal tr x t first c d ty variable)
+    none-broken e (clash_in m e' v text t modal there read wrong) = both_ways (has_type (modal_types a (scope_of net values m e' v) t) t) wrong (texts-typed a net values cs are none m e' v modal text t there read)

@@ -10,7 +10,6 @@ use Rattle.pt_expr_type.specs.Types.{Types}
 use Rattle.pt_parameter.specs.Given as held
 use Rattle.pt_typing.specs.Least.{Assignment}
 use Rattle.pt_resolve.specs.Rows.{port_type, port_rows}
-use Rattle.pt_resolve.specs.Typing.{is_plain}
 use Rattle.pt_resolve.specs.SaidWords.{begin, go_on, leads, type_in}
 use Rattle.pt_resolve.specs.Broken.{has_port_above, has_port_over, lacks_type}
 
@@ -22,13 +21,6 @@ comparator = record { path = codes ".m.c"; class = codes "Comparator"; director 
 
 abbrev all_of : Datatype → Assignment
 all_of t = record { types = λ v. t; elsewhere = Unknown }
-
--- it is plain, and would not be as a Modal
-plain : is_plain comparator ≡ true
-plain = refl
-
-modal : is_plain (record comparator { class = codes "Modal" }) ≡ false
-modal = refl
 
 -- integers, or nothing, are within its row, and truth values are not
 integers : has_port_above (all_of Int) 1 (codes "Comparator") 0 (left ∷ []) ≡ false

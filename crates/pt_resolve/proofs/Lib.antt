@@ -1,7 +1,8 @@
 pub mod Steps
 pub mod Parts
-pub mod PlainNets
 pub mod DeclaredBounds
+pub mod Passing
+pub mod ModalBreaks
 pub mod Breaks
 pub mod CompositeBreaks
 pub mod SaidNames
@@ -13,4 +14,8 @@ pub mod SaidChecked
 pub mod SaidTexts
 pub mod SaidExamples
 pub mod DeclaredLaws
+pub mod RefinementLaws
+pub mod ChartLaws
+pub mod NetTypings
 pub mod Examples
+pub mod ModalExamples

@@ -148,3 +148,9 @@ transparent_frames-more cs vs i c frame old new whole short is view more h =
     ∙ (λ j. transparent_frame c (first-raw vs i j) ∷ transparent_frames (drop (i + 1) cs) (behind-raw vs i j))
     ∙ ap (λ f. f ∷ next) (sym view) in
     frames-more frame old new now next whole more split h
+
+-- ---- tokens
+
+pub some-values : (ts : List Token) → map some_value ts ≡ map Some (map value_of ts)
+some-values [] = refl
+some-values (t ∷ ts) = ap (λ vs. Some (value_of t) ∷ vs) (some-values ts)

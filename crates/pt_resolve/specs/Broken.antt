@@ -1,4 +1,4 @@
--- Tests that tell where the typing of a plain net breaks.
+-- Tests that tell where the typing of a net breaks, but in guards and actions.
 use Rattle.std.specs.Prelude.{ℕ, suc, ◌+◌, List, [], ◌∷◌, Bool, false, not, ◌||◌, Option, Some, None, if◌then◌else◌}
 use Rattle.std.specs.List.{list_any}
 use Rattle.pt_moml.specs.Document.{PortTree}

@@ -1,22 +1,21 @@
 -- Where the typing of a net is at fault.
 use Rattle.std.specs.Prelude.{◌≡◌, ℕ, List, map, Bool, not, Some, slice_get, true, false}
 use Rattle.std.specs.List.{Contains}
+use Rattle.pt_value.specs.Value.{Value}
 use Rattle.pt_moml.specs.declared.job.OutputAction.{OutputAction}
 use Rattle.pt_moml.specs.declared.job.SetAction.{SetAction}
 use Rattle.pt_moml.specs.Document.{PortTree, TransitionTree}
 use Rattle.pt_types.specs.Datatype.{Datatype, Int, Boolean, Words}
 use Rattle.pt_types.specs.Order.{is_below}
+use Rattle.pt_types.specs.Token.{type_of_value}
 use Rattle.pt_expr.specs.Comparable.{is_general}
 use Rattle.pt_expr.specs.Tree.{Tree}
-use Rattle.pt_expr_type.specs.Typing.{Clash}
 use Rattle.pt_expr_type.specs.Types.{Types}
-use Rattle.pt_expr_type.specs.TreeType.{tree_type}
 use Rattle.pt_graph.specs.declared.net.Net.{Net}
 use Rattle.pt_graph.specs.Net.{NetEntityTree, TransparentTree, entity_view, transparent_view}
-use Rattle.pt_parameter.specs.Texts.{IsRead, names_in}
+use Rattle.pt_parameter.specs.Texts.{names_in}
 use Rattle.pt_parameter.specs.Given.{Read}
 use Rattle.pt_values.specs.declared.values.Values.{Values}
-use Rattle.pt_values.specs.Scopes.{Bindings}
 use Rattle.pt_values.specs.Valued.{EntityView}
 use Rattle.pt_values.specs.Valued as valued
 use Rattle.pt_typing.specs.declared.variable.Variable.TheVariants.{Port}
@@ -30,7 +29,8 @@ use Rattle.pt_resolve.specs.Rows.{port_type}
 use Rattle.pt_resolve.specs.Frames.{frames_of, seen_types}
 use Rattle.pt_resolve.specs.Inequalities.{inputs_of, known}
 use Rattle.pt_resolve.specs.Passing.{composite_port}
-use Rattle.pt_resolve.specs.Typing.{Declares, IsTyping, modal_types, variable_type, variables, IsModal, HasTypeIn}
+use Rattle.pt_resolve.specs.ModalScopes.{variable_values, modal_types, IsReadIn}
+use Rattle.pt_resolve.specs.Typing.{Declares, IsTyping, IsModal, scope_of, HasTypeIn}
 
 -- a guard or an action of an entity
 pub data IsTextIn (e : NetEntityTree) : List ℕ → Type 0 where
@@ -61,11 +61,11 @@ pub data IsBroken (net : Net) (values : Values) (typing : Assignment) : NetEntit
   -- an expression has no type. Its names are in scope, so it has a clash
   in_tree : (k : ℕ) (e : NetEntityTree) (v : EntityView) (t : Tree) → slice_get (map entity_view net.entities.items) k ≡ Some e → slice_get (map valued.entity_view values.entities.items) k ≡ Some v → Contains v.parameters (Read t) → has_type (expression_types net values typing k e t) t ≡ false → IsBroken net values typing e
   -- a guard is no truth value
-  guard : (m : ℕ) (e : NetEntityTree) (v : EntityView) (inner : Bindings) (tr : TransitionTree) (t : Datatype) → IsModal net values m e v inner → Contains e.transitions tr → HasTypeIn typing m e v inner tr.guard t → is_below t Boolean ≡ false → IsBroken net values typing e
-  -- a set action gives what its Variable doesn't hold
-  set_action : (m : ℕ) (e : NetEntityTree) (v : EntityView) (inner : Bindings) (tr : TransitionTree) (a : SetAction) (t s : Datatype) → IsModal net values m e v inner → Contains e.transitions tr → Contains tr.set a → HasTypeIn typing m e v inner a.value t → variable_type (variables e v) a.name ≡ Some s → is_below t s ≡ false → IsBroken net values typing e
-  -- a guard or an action has a clash
-  clash_in : (m : ℕ) (e : NetEntityTree) (v : EntityView) (inner : Bindings) (text : List ℕ) (t : Tree) → IsModal net values m e v inner → IsTextIn e text → IsRead text t → tree_type (modal_types typing m e v inner) t ≡ Clash → IsBroken net values typing e
+  guard : (m : ℕ) (e : NetEntityTree) (v : EntityView) (tr : TransitionTree) (t : Datatype) → IsModal net values m e v → Contains e.transitions tr → HasTypeIn typing (scope_of net values m e v) tr.guard t → is_below t Boolean ≡ false → IsBroken net values typing e
+  -- a set action gives what its Variable doesn't hold, whose type is that of its first value
+  set_action : (m : ℕ) (e : NetEntityTree) (v : EntityView) (tr : TransitionTree) (a : SetAction) (t : Datatype) (first : Value) → IsModal net values m e v → Contains e.transitions tr → Contains tr.set a → HasTypeIn typing (scope_of net values m e v) a.value t → variable_values e v a.name ≡ Some first → is_below t (type_of_value first) ≡ false → IsBroken net values typing e
+  -- a guard or an action has no type. Its names are in scope, so it has a clash
+  clash_in : (m : ℕ) (e : NetEntityTree) (v : EntityView) (text : List ℕ) (t : Tree) → IsModal net values m e v → IsTextIn e text → IsReadIn (scope_of net values m e v) text t → has_type (modal_types typing (scope_of net values m e v) t) t ≡ false → IsBroken net values typing e
 
 -- a port of this transparent composite is general, or isn't below what it declares
 pub data IsBrokenComposite (net : Net) (typing : Assignment) : TransparentTree → Type 0 where

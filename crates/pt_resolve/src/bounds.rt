@@ -13,7 +13,7 @@ use pt_value::Text;
 use std::alloc::{AllocError, Global};
 
 /// Whether a type isn't below another, where there is one.
-fn is_over_type(ty: &Ty, bound: &Option<Ty>) -> bool
+pub(crate) fn is_over_type(ty: &Ty, bound: &Option<Ty>) -> bool
     ensures { result ≡ is_over_type (type_of ty.now) (option_map type_of bound.now) }
 {
     match bound {

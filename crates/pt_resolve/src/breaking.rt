@@ -1,6 +1,5 @@
 ghost use Rattle.std.specs.Prelude.{IfOk, MatchOption};
 ghost use Rattle.pt_typing.specs.Least.{assignment};
-ghost use Rattle.pt_resolve.specs.Typing.{ArePlain};
 ghost use Rattle.pt_resolve.specs.Faults.{IsBrokenAt, IsWhole};
 
 use crate::composites::{first_general, first_over};
@@ -17,15 +16,15 @@ pub enum BrokenAt {
     Transparent(usize),
 }
 
-/// Where the typing of a plain net breaks, if it does. At an entity a port is general, above what its row allows, or not below
-/// what it declares, or an expression has no type. At a transparent composite a port is general, or not below what it declares.
+/// Where the typing of a net breaks, if it does. At an entity a port is general, above what its row allows, or not below what it
+/// declares; an expression, a guard or an action has no type; a guard is no truth value; or a set action gives what its Variable
+/// doesn't hold. At a transparent composite a port is general, or not below what it declares.
 pub fn broken(
     alloc: Global,
     net: &Net,
     values: &Values,
     typing: &Typing,
 ) -> Result<Option<BrokenAt>, AllocError>
-    requires plain { ArePlain net.now }
     ensures { IfOk result (λ found. MatchOption found (IsWhole net.now values.now (assignment typing.now)) (IsBrokenAt net.now values.now (assignment typing.now))) }
 {
     let first = net.entities.len();

@@ -8,14 +8,16 @@ ghost use Rattle.pt_typing.specs.declared.variable.Variable.TheVariants as varia
 ghost use Rattle.pt_typing.specs.Least.{assignment};
 ghost use Rattle.pt_resolve.specs.Rows.{port_type};
 ghost use Rattle.pt_resolve.specs.Frames.{seen_types};
-ghost use Rattle.pt_resolve.specs.Typing.{ArePlain};
 ghost use Rattle.pt_resolve.specs.Faults.{is_above, IsBroken};
 ghost use Rattle.pt_resolve.specs.Broken.{has_port_above, lacks_type, has_untyped, breaks, first_broken};
+ghost use Rattle.pt_resolve.specs.ModalFaults.{IsFailing};
 ghost use Rattle.pt_resolve.specs.Views.{frames_view, types_at};
 
 use crate::bounds::has_port_over;
+use crate::charts::charts_of;
 use crate::frames::Frames;
 use crate::inequalities::values_at;
+use crate::modal_faults::first_failing;
 use crate::place::Place;
 use crate::row::PortType;
 use crate::rows::port_type;
@@ -171,18 +173,38 @@ fn first_broken(
     Ok(None)
 }
 
-/// The number of the first entity at which the typing of a plain net breaks, if there is one: a port is general, above what its
-/// row allows, or not below what it declares, or an expression has no type.
+/// The number of a Modal entity in which the typing breaks in a guard or an action, if there is one.
+fn failing(
+    alloc: Global,
+    frames: &Frames,
+    typing: &Typing,
+    entities: &[NetEntity],
+    values: &[EntityValues],
+) -> Result<Option<usize>, AllocError>
+    ensures { IfOk result (λ found. IsFailing (frames_view frames.now) (assignment typing.now) (map entity_view entities.now) (map valued.entity_view values.now) found) }
+{
+    let charts = charts_of(alloc, frames, entities, values)?;
+    match first_failing(alloc, typing, &charts)? {
+        Some(number) => Ok(Some(number as usize)),
+        None => Ok(None),
+    }
+}
+
+/// The number of an entity at which the typing of a net breaks, if there is one: a port is general, above what its row
+/// allows, or not below what it declares; an expression, a guard or an action has no type; a guard is no truth value; or a set
+/// action gives what its Variable doesn't hold.
 pub(crate) fn broken_entity(
     alloc: Global,
     net: &Net,
     values: &Values,
     typing: &Typing,
 ) -> Result<Option<usize>, AllocError>
-    requires plain { ArePlain net.now }
     ensures some { IfOk result (λ found. (k : ℕ) → found ≡ Some k → (e : NetEntityTree) × (slice_get (map entity_view net.now.entities.items) k ≡ Some e) × IsBroken net.now values.now (assignment typing.now) e) }
     ensures none { IfOk result (λ found. found ≡ None → (e : NetEntityTree) → IsBroken net.now values.now (assignment typing.now) e → ⊥) }
 {
     let frames = Frames::of(alloc, net, values)?;
-    first_broken(alloc, &frames, typing, &net.entities, &values.entities)
+    match first_broken(alloc, &frames, typing, &net.entities, &values.entities)? {
+        Some(number) => Ok(Some(number)),
+        None => failing(alloc, &frames, typing, &net.entities, &values.entities),
+    }
 }

@@ -83,7 +83,7 @@ fn names_given(
 }
 
 /// The tokens under the names of the parameters of a transparent composite.
-fn names_of_tokens(
+pub(crate) fn names_of_tokens(
     alloc: Global,
     properties: &[Property],
     tokens: &[Token],

@@ -17,7 +17,7 @@ pub(crate) struct TopPorts {
 }
 
 impl TopPorts {
-    fn new(alloc: Global) -> TopPorts
+    pub(crate) fn new(alloc: Global) -> TopPorts
         ensures { (name : List ℕ) → port_numbers result name ≡ None }
     {
         TopPorts {
@@ -41,7 +41,8 @@ impl TopPorts {
         self.numbers.get(name).copied()
     }
 
-    fn of_ports(alloc: Global, ports: &[Port]) -> Result<TopPorts, AllocError>
+    /// These ports.
+    pub(crate) fn of_ports(alloc: Global, ports: &[Port]) -> Result<TopPorts, AllocError>
         ensures { IfOk result (λ top. (name : List ℕ) → port_numbers top name ≡ with_ports no_ports 0 (map port_view ports.now) name) }
     {
         let mut top = TopPorts::new(alloc);

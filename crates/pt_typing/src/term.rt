@@ -77,7 +77,7 @@ impl TreeTerm {
     }
 
     /// The type of the expression, or general where it has none.
-    fn value(&self, alloc: Global, numbers: &Numbers, types: &[Ty]) -> Result<Ty, AllocError>
+    pub fn value(&self, alloc: Global, numbers: &Numbers, types: &[Ty]) -> Result<Ty, AllocError>
         ensures { IfOk result (λ t. ty.type_of t ≡ meaning (assigned numbers.now (map ty.type_of types.now)) (tree_view self.now)) }
     {
         let env = self.names(alloc, numbers, types)?;

@@ -2,8 +2,8 @@ ghost use Rattle.std.specs.Prelude.{◌≡◌, IfOk, List, ℕ, map};
 ghost use Rattle.std.specs.List.{AllZip};
 ghost use Rattle.pt_types.specs.Ty as ty;
 ghost use Rattle.pt_expr.specs.Expr.{tree_of};
-ghost use Rattle.pt_typing.specs.Terms.{names_types, has_type};
-ghost use Rattle.pt_typing.specs.Views.{inequality_view, known_entry, IsRuleOf};
+ghost use Rattle.pt_typing.specs.Terms.{meaning, names_types, has_type};
+ghost use Rattle.pt_typing.specs.Views.{inequality_view, known_entry, tree_view, IsRuleOf};
 ghost use Rattle.pt_typing.specs.Least.{IsLeast, assignment};
 
 use crate::numbers::Numbers;
@@ -65,5 +65,11 @@ impl Typing {
         ensures { IfOk result (λ b. b ≡ has_type (names_types (assignment self.now).types tree.now.ports.items (map known_entry tree.now.known.items)) (tree_of tree.now.tree)) }
     {
         tree.is_typed(alloc, &self.numbers, &self.types)
+    }
+    /// The type of an expression, or general where it has none.
+    pub fn tree_ty(&self, alloc: Global, tree: &TreeTerm) -> Result<Ty, AllocError>
+        ensures { IfOk result (λ t. ty.type_of t ≡ meaning (assignment self.now).types (tree_view tree.now)) }
+    {
+        tree.value(alloc, &self.numbers, &self.types)
     }
 }

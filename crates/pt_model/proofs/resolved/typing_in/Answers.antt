@@ -6,8 +6,7 @@ use Rattle.pt_typing.specs.Least.{Assignment, assignment}
 use Rattle.pt_resolve.specs.declared.breaking.BrokenAt.{BrokenAt}
 use Rattle.pt_resolve.specs.declared.breaking.BrokenAt.TheVariants.{Entity, Transparent}
 use Rattle.pt_resolve.specs.Faults.{IsBrokenAt, IsWhole}
-use Rattle.pt_model.specs.Refused.{not_plain}
-use Rattle.pt_model.proofs.FaultLaws.{number-below, types-stand, composite-below, composite-stands, unbuilt-stands}
+use Rattle.pt_model.proofs.FaultLaws.{number-below, types-stand, composite-below, composite-stands}
 use Rattle.pt_model.proofs.resolved.typing_in.Goals as goal
 
 abbrev IsFound : Net → Values → Assignment → Option BrokenAt → Type 0
@@ -15,9 +14,6 @@ IsFound net values a found = MatchOption found (IsWhole net values a) (IsBrokenA
 
 broken-there : (net : Net) (values : Values) (a : Assignment) (found : Option BrokenAt) (at place : BrokenAt) → IsFound net values a found → found ≡ Some at → at ≡ place → IsBrokenAt net values a place
 broken-there net values a found at place h is same = subst (IsBrokenAt net values a) same (subst (IsFound net values a) is h)
-
-pub returns-then-not-is_plain-clause-stands : goal.returns-then-not-is_plain-clause-stands
-returns-then-not-is_plain-clause-stands c = unbuilt-stands c.args.net.now c.unbuilt.result (not_plain (c.is_plain.ensures.no c.if-not-is_plain.true)) c.unbuilt.ensures
 
 pub refusal_of_entity-requires : goal.refusal_of_entity-requires
 refusal_of_entity-requires c =
