@@ -10,13 +10,14 @@ use Rattle.pt_moml.specs.declared.refusal.Refusal.{Refusal}
 use Rattle.pt_moml.specs.Names.{top_path}
 use Rattle.pt_graph.specs.declared.net.Net.{Net}
 use Rattle.pt_graph.specs.declared.net.NetEntity.{NetEntity}
-use Rattle.pt_graph.specs.Net.{NetEntityTree, entity_view}
+use Rattle.pt_graph.specs.declared.net.Transparent.{Transparent}
+use Rattle.pt_graph.specs.Net.{NetEntityTree, TransparentTree, entity_view, transparent_view}
 use Rattle.pt_values.specs.declared.values.Values.{Values}
 use Rattle.pt_values.specs.Scopes.{net_view}
 use Rattle.pt_values.specs.Valued.{IsValued}
 use Rattle.pt_typing.specs.Least.{Assignment}
 use Rattle.pt_resolve.specs.Typing.{IsTyping}
-use Rattle.pt_resolve.specs.Faults.{IsBroken}
+use Rattle.pt_resolve.specs.Faults.{IsBroken, IsBrokenComposite, at_entity, at_composite}
 use Rattle.pt_start.specs.Misplaced.{IsMisplaced}
 use Rattle.pt_job.specs.Inputs as inputs
 use Rattle.pt_job.proofs.Members.{unmapped}
@@ -47,7 +48,20 @@ types-stand net values typing k e m is typed at broken told =
   where
     by_fault : (f : ModelFault) (x : NetEntity) → entity_view x ≡ e → IsTold f code.Type x.path → FaultStands net f
     by_fault Memory x seen h = tt
-    by_fault (Refused s) x seen h = for_types values is (ap (λ (v : Refusal). v.code) h) (record { typing = typing; is = typed; entity = e; broken = broken; told = ap (λ (v : Refusal). v.path) h ∙ ap (λ (v : NetEntityTree). v.path) seen })
+    by_fault (Refused s) x seen h = for_types values is (ap (λ (v : Refusal). v.code) h) (record { typing = typing; is = typed; breaks = at_entity e broken (ap (λ (v : Refusal). v.path) h ∙ ap (λ (v : NetEntityTree). v.path) seen) })
+
+-- the same of a transparent composite
+pub composite-below : (net : Net) (c : ℕ) (e : TransparentTree) → slice_get (map transparent_view net.transparent.items) c ≡ Some e → c < length net.transparent.items
+composite-below net c e at = let r = unmapped transparent_view net.transparent.items c e at in slice_get_within net.transparent.items c r.0 r.1
+
+pub composite-stands : (net : Net) (values : Values) (typing : Assignment) (c : ℕ) (e : TransparentTree) (m : ModelFault) → IsValued (net_view net) values → IsTyping net values typing → slice_get (map transparent_view net.transparent.items) c ≡ Some e → IsBrokenComposite net typing e → ((x : Transparent) → slice_get net.transparent.items c ≡ Some x → IsTold m code.Type x.path) → FaultStands net m
+composite-stands net values typing c e m is typed at broken told =
+    let r = unmapped transparent_view net.transparent.items c e at in
+    by_fault m r.0 r.2 (told r.0 r.1)
+  where
+    by_fault : (f : ModelFault) (x : Transparent) → transparent_view x ≡ e → IsTold f code.Type x.path → FaultStands net f
+    by_fault Memory x seen h = tt
+    by_fault (Refused s) x seen h = for_types values is (ap (λ (v : Refusal). v.code) h) (record { typing = typing; is = typed; breaks = at_composite e broken (ap (λ (v : Refusal). v.path) h ∙ ap (λ (v : TransparentTree). v.path) seen) })
 
 pub place-stands : (net : Net) (values : Values) (typing : Assignment) (cause : Code) (k : ℕ) (m : ModelFault) → IsResolved net values typing → IsMisplaced (net_view net) values cause k → ((x : NetEntity) → IsEntity net k x → IsTold m cause x.path) → FaultStands net m
 place-stands net values typing cause k m resolved misplaced told =

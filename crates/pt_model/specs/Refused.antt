@@ -13,7 +13,6 @@ use Rattle.pt_values.specs.Scopes.{net_view}
 use Rattle.pt_values.specs.Valued as valued
 use Rattle.pt_values.specs.Valued.{IsValued}
 use Rattle.pt_typing.specs.Least.{Assignment}
-use Rattle.pt_resolve.specs.Typing.{ArePlain}
 use Rattle.pt_resolve.specs.Faults.{IsTypeFault}
 use Rattle.pt_start.specs.Misplaced.{IsMisplaced}
 use Rattle.pt_job.specs.Inputs.{IsInputFault}
@@ -26,9 +25,8 @@ use Rattle.pt_model.specs.declared.model.ModelFault.{ModelFault}
 use Rattle.pt_model.specs.declared.model.ModelFault.TheVariants.{Refused, Memory}
 use Rattle.pt_model.specs.Resolved.{IsResolved, IsStarted}
 
--- What isn't built yet: types that ports of transparent composites declare, trees that pt_build can't build, as those of Modal entities, and an SDF top without a number of iterations.
+-- What isn't built yet: trees that pt_build can't build, as those of Modal entities, and an SDF top without a number of iterations.
 pub data IsUnbuilt (net : Net) : Type 0 where
-  not_plain : (ArePlain net → ⊥) → IsUnbuilt net
   no_tree : (values : Values) (typing : Assignment) (starts : Starts) → IsStarted net values typing starts → built.IsUnbuilt net starts → IsUnbuilt net
   no_iterations : (values : Values) → IsValued (net_view net) values → iterations (net_view net) values ≡ None → IsUnbuilt net
 

@@ -5,12 +5,11 @@ use Rattle.pt_typing.specs.Least.{Assignment}
 use Rattle.pt_moml.specs.declared.code.Code.{Code}
 use Rattle.pt_graph.specs.declared.net.Net.{Net}
 use Rattle.pt_graph.specs.declared.net.NetEntity.{NetEntity}
-use Rattle.pt_graph.specs.Net.{NetEntityTree}
 use Rattle.pt_values.specs.declared.values.Values.{Values}
 use Rattle.pt_values.specs.Scopes.{net_view}
 use Rattle.pt_values.specs.Valued.{IsValued}
 use Rattle.pt_resolve.specs.Typing.{IsTyping}
-use Rattle.pt_resolve.specs.Faults.{IsBroken}
+use Rattle.pt_resolve.specs.Faults.{IsWhole}
 use Rattle.pt_library.specs.declared.library_actor.LibraryActor.{LibraryActor}
 use Rattle.pt_start.specs.Started.{PortTyping, IsStart}
 use Rattle.pt_start.specs.Misplaced.{IsMisplaced}
@@ -20,7 +19,7 @@ use Rattle.pt_build.specs.Trees.{IsEntity, IsUndirected, Starts}
 pub record IsResolved (net : Net) (values : Values) (typing : Assignment) : Type 0 where
   pub valued : IsValued (net_view net) values
   pub typed : IsTyping net values typing
-  pub sound : (e : NetEntityTree) → IsBroken net values typing e → ⊥
+  pub sound : IsWhole net values typing
 
 -- each entity may stand where it stands
 abbrev pub IsPlaced : Net → Values → Type 0

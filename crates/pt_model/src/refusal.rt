@@ -1,7 +1,8 @@
-ghost use Rattle.std.specs.Prelude.{◌<◌, length};
+ghost use Rattle.std.specs.Prelude.{◌≡◌, ◌<◌, length, Some, slice_get};
 ghost use Rattle.pt_moml.specs.Names.{top_path};
 ghost use Rattle.pt_moml.specs.declared.code.Code.TheVariants as code;
 ghost use Rattle.pt_graph.specs.declared.net.NetEntity.{NetEntity};
+ghost use Rattle.pt_graph.specs.declared.net.Transparent.{Transparent};
 ghost use Rattle.pt_build.specs.Trees.{IsEntity};
 ghost use Rattle.pt_model.specs.Refused.{IsTold};
 
@@ -17,6 +18,20 @@ pub(crate) fn refusal_of_entity(alloc: Global, code: Code, net: &Net, number: us
 {
     let entity = &net.entities[number];
     ModelFault::from(refused(alloc, code, entity.path.as_str()))
+}
+
+/// The same of the transparent composite of that number.
+pub(crate) fn refusal_of_composite(
+    alloc: Global,
+    code: Code,
+    net: &Net,
+    number: usize,
+) -> ModelFault
+    requires { number < length net.now.transparent.items }
+    ensures { (c : Transparent) → slice_get net.now.transparent.items number ≡ Some c → IsTold result code c.path }
+{
+    let composite = &net.transparent[number];
+    ModelFault::from(refused(alloc, code, composite.path.as_str()))
 }
 
 /// A refusal of a net whose form isn't built yet, if there is memory for the path of the top.

@@ -8,10 +8,10 @@ ghost use Rattle.pt_model.specs.Resolved.{IsResolved};
 ghost use Rattle.pt_model.specs.Refused.{FaultStands};
 
 use crate::model::ModelFault;
-use crate::refusal::{refusal_of_entity, unbuilt};
+use crate::refusal::{refusal_of_composite, refusal_of_entity};
 use pt_graph::Net;
 use pt_moml::Code;
-use pt_resolve::{broken, is_plain, net_typing};
+use pt_resolve::{BrokenAt, broken, net_typing};
 use pt_typing::Typing;
 use pt_values::{Values, nets_are_ordered, values_of};
 use std::alloc::Global;
@@ -32,12 +32,12 @@ pub(crate) fn typing_in(alloc: Global, net: &Net, values: &Values) -> Result<Typ
     ensures resolved { IfOk result (λ typing. IsResolved net.now values.now (assignment typing)) }
     ensures stands { IfErr result (FaultStands net.now) }
 {
-    if !is_plain(net) {
-        return Err(unbuilt(alloc));
-    }
     let typing = net_typing(alloc, net, values)?;
     match broken(alloc, net, values, &typing)? {
-        Some(number) => Err(refusal_of_entity(alloc, Code::Type, net, number)),
+        Some(BrokenAt::Entity(number)) => Err(refusal_of_entity(alloc, Code::Type, net, number)),
+        Some(BrokenAt::Transparent(number)) => {
+            Err(refusal_of_composite(alloc, Code::Type, net, number))
+        }
         None => Ok(typing),
     }
 }

@@ -1,14 +1,14 @@
 -- All inequalities of declared types hold exactly where each type that a port declares holds of it.
-use Rattle.std.proofs.Common.{◌≡◌, ℕ, zero, suc, ◌+◌, List, [], ◌∷◌, ◌++◌, map, Option, Some, None, refl, sym, ap, subst, ◌∙◌, arith}
+use Rattle.std.proofs.Common.{◌≡◌, ℕ, zero, suc, ◌+◌, List, [], ◌∷◌, ◌++◌, Option, Some, None, refl, sym, ap, subst, ◌∙◌, arith}
 use Rattle.std.specs.Prelude.{All, slice_get}
 use Rattle.std.proofs.lemmas.List.Elements.{All-nil, All-cons, All-head, All-tail, All-append}
 use Rattle.pt_types.specs.Datatype.{Datatype}
 use Rattle.pt_moml.specs.Document.{PortTree}
 use Rattle.pt_graph.specs.declared.net.Net.{Net}
-use Rattle.pt_graph.specs.Net.{NetEntityTree, entity_view}
 use Rattle.pt_typing.specs.declared.variable.Variable.TheVariants.{Port}
 use Rattle.pt_typing.specs.Terms.{Fixed}
 use Rattle.pt_typing.specs.Views.{Inequality}
+use Rattle.pt_resolve.specs.Passing.{all_ports}
 use Rattle.pt_resolve.specs.Typing.{Declares}
 use Rattle.pt_resolve.specs.SaidWords.{type_in}
 use Rattle.pt_resolve.specs.DeclaredTypes.{of_type, of_text, of_declared, declared_from, declared}
@@ -69,32 +69,32 @@ module _ (P : Inequality → Type 0) where
   ports-each k i (q ∷ ps) h (suc j) p t there d =
       one-before k i j t (ports-each k (suc i) ps (All-right (of_text k i q.declared) (of_declared k (suc i) ps) h) j p t there d)
 
-  -- each type that a port of these entities declares holds of it
-  abbrev AreHeld : ℕ → List NetEntityTree → Type 0
-  AreHeld k es = (j i : ℕ) (e : NetEntityTree) (p : PortTree) (t : Datatype) → slice_get es j ≡ Some e → slice_get e.ports i ≡ Some p → Declares p t → Holds (j + k) i t
+  -- each type that one of these ports declares holds of it
+  abbrev AreHeld : ℕ → List (List PortTree) → Type 0
+  AreHeld k es = (j i : ℕ) (e : List PortTree) (p : PortTree) (t : Datatype) → slice_get es j ≡ Some e → slice_get e i ≡ Some p → Declares p t → Holds (j + k) i t
 
-  entities-all : (k : ℕ) (es : List NetEntityTree) → AreHeld k es → All P (declared_from k es)
+  entities-all : (k : ℕ) (es : List (List PortTree)) → AreHeld k es → All P (declared_from k es)
   entities-all k [] h = All-nil P
   entities-all k (e ∷ es) h =
-      All-append P (of_declared k 0 e.ports) (declared_from (suc k) es)
-      (ports-all k 0 e.ports (λ i p t there d. subst (λ n. Holds n (i + 0) t) (let s : 0 + k ≡ k = omega arith in s) (subst (λ n. Holds (0 + k) n t) (let s : i ≡ i + 0 = omega arith in s) (h 0 i e p t refl there d))))
+      All-append P (of_declared k 0 e) (declared_from (suc k) es)
+      (ports-all k 0 e (λ i p t there d. subst (λ n. Holds n (i + 0) t) (let s : 0 + k ≡ k = omega arith in s) (subst (λ n. Holds (0 + k) n t) (let s : i ≡ i + 0 = omega arith in s) (h 0 i e p t refl there d))))
       (entities-all (suc k) es (λ j i f p t at there d. subst (λ n. Holds n i t) (let s : suc j + k ≡ j + suc k = omega arith in s) (h (suc j) i f p t at there d)))
 
-  entities-each : (k : ℕ) (es : List NetEntityTree) → All P (declared_from k es) → AreHeld k es
+  entities-each : (k : ℕ) (es : List (List PortTree)) → All P (declared_from k es) → AreHeld k es
   entities-each k [] h zero i e p t at there d = cc
   entities-each k [] h (suc j) i e p t at there d = cc
   entities-each k (f ∷ es) h zero i e p t at there d =
-      let own : slice_get f.ports i ≡ Some p = ap (λ g. slice_get g.ports i) (some-same f e at) ∙ there in
-      subst (λ n. Holds n i t) (let s : k ≡ 0 + k = omega arith in s) (subst (λ n. Holds k n t) (let s : i + 0 ≡ i = omega arith in s) (ports-each k 0 f.ports (All-left (of_declared k 0 f.ports) (declared_from (suc k) es) h) i p t own d))
+      let own : slice_get f i ≡ Some p = ap (λ g. slice_get g i) (some-same f e at) ∙ there in
+      subst (λ n. Holds n i t) (let s : k ≡ 0 + k = omega arith in s) (subst (λ n. Holds k n t) (let s : i + 0 ≡ i = omega arith in s) (ports-each k 0 f (All-left (of_declared k 0 f) (declared_from (suc k) es) h) i p t own d))
   entities-each k (f ∷ es) h (suc j) i e p t at there d =
-      subst (λ n. Holds n i t) (let s : j + suc k ≡ suc j + k = omega arith in s) (entities-each (suc k) es (All-right (of_declared k 0 f.ports) (declared_from (suc k) es) h) j i e p t at there d)
+      subst (λ n. Holds n i t) (let s : j + suc k ≡ suc j + k = omega arith in s) (entities-each (suc k) es (All-right (of_declared k 0 f) (declared_from (suc k) es) h) j i e p t at there d)
 
   -- the same of a net
   abbrev pub IsHeld : Net → Type 0
-  IsHeld net = (k i : ℕ) (e : NetEntityTree) (p : PortTree) (t : Datatype) → slice_get (map entity_view net.entities.items) k ≡ Some e → slice_get e.ports i ≡ Some p → Declares p t → Holds k i t
+  IsHeld net = (k i : ℕ) (ps : List PortTree) (p : PortTree) (t : Datatype) → slice_get (all_ports net) k ≡ Some ps → slice_get ps i ≡ Some p → Declares p t → Holds k i t
 
   pub declared-all : (net : Net) → IsHeld net → All P (declared net)
-  declared-all net h = entities-all 0 (map entity_view net.entities.items) (λ j i e p t at there d. subst (λ n. Holds n i t) (let s : j ≡ j + 0 = omega arith in s) (h j i e p t at there d))
+  declared-all net h = entities-all 0 (all_ports net) (λ j i e p t at there d. subst (λ n. Holds n i t) (let s : j ≡ j + 0 = omega arith in s) (h j i e p t at there d))
 
   pub declared-each : (net : Net) → All P (declared net) → IsHeld net
-  declared-each net h k i e p t at there d = subst (λ n. Holds n i t) (let s : k + 0 ≡ k = omega arith in s) (entities-each 0 (map entity_view net.entities.items) h k i e p t at there d)
+  declared-each net h k i e p t at there d = subst (λ n. Holds n i t) (let s : k + 0 ≡ k = omega arith in s) (entities-each 0 (all_ports net) h k i e p t at there d)

@@ -4,6 +4,7 @@ pub mod DeclaredBounds
 pub mod Passing
 pub mod ModalBreaks
 pub mod Breaks
+pub mod CompositeBreaks
 pub mod SaidNames
 pub mod SaidTypes
 pub mod SaidWords

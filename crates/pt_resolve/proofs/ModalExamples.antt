@@ -7,13 +7,14 @@ use Rattle.pt_moml.specs.declared.job.Direction.TheVariants.{Input, Output}
 use Rattle.pt_moml.specs.Document.{PortTree, property, no_properties}
 use Rattle.pt_types.specs.Datatype.{Datatype, Unknown, Int, Boolean}
 use Rattle.pt_expr.specs.declared.expr.BinaryOp.TheVariants.{Equal}
-use Rattle.pt_expr.specs.Tree.{Name}
+use Rattle.pt_expr.specs.Tree.{Tree, Name}
 use Rattle.pt_expr.specs.Tree as tree
 use Rattle.pt_graph.specs.Net.{NetEntityTree}
 use Rattle.pt_values.specs.Valued.{EntityView}
 use Rattle.pt_typing.specs.declared.variable.Variable.TheVariants.{Port}
 use Rattle.pt_typing.specs.Terms.{Same, TreeOf}
 use Rattle.pt_typing.specs.Least.{Assignment}
+use Rattle.pt_resolve.specs.Frames.{Frames}
 use Rattle.pt_resolve.specs.Inequalities.{below}
 use Rattle.pt_resolve.specs.ModalScopes.{ModalScope, modal_scope}
 use Rattle.pt_resolve.specs.Modals.{refined, of_action}

@@ -1,5 +1,5 @@
 -- The least types that meet all inequalities are the typing of a net.
-use Rattle.std.proofs.Common.{◌≡◌, ℕ, List, ◌++◌, length, map, Some, refl, sym, ap, subst, ◌∙◌}
+use Rattle.std.proofs.Common.{◌≡◌, ℕ, ◌<◌, List, ◌++◌, length, map, Some, refl, sym, ap, subst, ◌∙◌}
 use Rattle.std.specs.Prelude.{All, slice_get}
 use Rattle.std.specs.List.{Contains}
 use Rattle.std.proofs.lemmas.Option.{slice_get_within}
@@ -22,10 +22,11 @@ use Rattle.pt_typing.specs.Views.{Inequality}
 use Rattle.pt_typing.specs.Least.{Assignment, IsMet, Meets, IsLeast}
 use Rattle.pt_resolve.specs.Frames.{Frames, frames_of}
 use Rattle.pt_resolve.specs.Inequalities.{inequalities, below}
+use Rattle.pt_resolve.specs.Passing.{all_ports, port_counts, passing}
 use Rattle.pt_resolve.specs.DeclaredTypes.{declared_from, declared}
 use Rattle.pt_resolve.specs.ModalScopes.{ModalScope, own_ports, modal_term}
 use Rattle.pt_resolve.specs.Modals.{like, refined, of_transitions, of_charts, Chart, AreCharts, AreAll}
-use Rattle.pt_resolve.specs.Typing.{IsRefinement, IsModal, scope_of, HasTypeIn, IsLowerByModal, of_input, of_output, of_action, port_counts, AreAbove, IsTyping}
+use Rattle.pt_resolve.specs.Typing.{IsRefinement, IsModal, scope_of, HasTypeIn, IsLowerByModal, of_input, of_output, of_action, AreAbove, IsTyping}
 use Rattle.pt_resolve.proofs.DeclaredLaws.{All-left, All-right, declared-all, declared-each}
 use Rattle.pt_resolve.proofs.RefinementLaws.{refined-all, refined-each}
 use Rattle.pt_resolve.proofs.ChartLaws.{charts-all, charts-each, transitions-all, transitions-each}
@@ -86,28 +87,36 @@ module _ (net : Net) (values : Values) where
       (subst (λ ds. AreCharts (frames_of net values) (map entity_view ds) (map valued.entity_view vs) (length (map entity_view ds)) cs) e
       (subst (λ g. AreCharts g (map entity_view es) (map valued.entity_view vs) (length (map entity_view es)) cs) f h))
 
-  pub all-made : (cs : List Chart) → AreChartsOf cs → (es fs : List NetEntity) (first second third fourth : List Inequality) → es ≡ net.entities.items → fs ≡ net.entities.items → first ≡ inequalities net values → second ≡ first ++ declared_from 0 (map entity_view es) → third ≡ second ++ refined (map entity_view fs) → fourth ≡ third ++ of_charts cs → AreAll net values fourth
-  all-made cs are es fs first second third fourth e f one two three four = record {
+  pub all-made : (cs : List Chart) → AreChartsOf cs → (pss : List (List PortTree)) (fs : List NetEntity) (first second third fourth fifth : List Inequality) → pss ≡ all_ports net → fs ≡ net.entities.items → first ≡ inequalities net values → second ≡ first ++ declared_from 0 pss → third ≡ second ++ refined (map entity_view fs) → fourth ≡ third ++ of_charts cs → fifth ≡ fourth ++ passing net → AreAll net values fifth
+  all-made cs are pss fs first second third fourth fifth e f one two three four five = record {
     charts = cs;
     are = are;
-    is = four ∙ ap (λ qs. qs ++ of_charts cs) (three ∙ (λ j. (two ∙ (λ k. one k ++ declared_from 0 (map entity_view (e k)))) j ++ refined (map entity_view (f j))));
+    is = five ∙ ap (λ qs. qs ++ passing net) (four ∙ ap (λ qs. qs ++ of_charts cs) (three ∙ (λ j. (two ∙ (λ k. one k ++ declared_from 0 (e k))) j ++ refined (map entity_view (f j)))));
   }
 
   -- ---- all inequalities
 
   -- meeting all inequalities is being above all that there is
   module _ (cs : List Chart) (are : AreChartsOf cs) where
+    abbrev own : List Inequality
+    own = inequalities net values ++ declared net
+
+    abbrev most : List Inequality
+    most = (own ++ refined entities) ++ of_charts cs
+
     abbrev all : List Inequality
-    all = ((inequalities net values ++ declared net) ++ refined entities) ++ of_charts cs
+    all = most ++ passing net
 
     above : (a : Assignment) → Meets (port_counts net) all a → AreAbove net values a
     above a m =
-        let front : All (IsMet a) ((inequalities net values ++ declared net) ++ refined entities) = All-left (IsMet a) ((inequalities net values ++ declared net) ++ refined entities) (of_charts cs) m.met in
-        let first : All (IsMet a) (inequalities net values ++ declared net) = All-left (IsMet a) (inequalities net values ++ declared net) (refined entities) front in
+        let near : All (IsMet a) most = All-left (IsMet a) most (passing net) m.met in
+        let front : All (IsMet a) (own ++ refined entities) = All-left (IsMet a) (own ++ refined entities) (of_charts cs) near in
+        let first : All (IsMet a) own = All-left (IsMet a) own (refined entities) front in
         record {
           meets = record { are_types = m.are_types; is_type = m.is_type; outside = m.outside; met = All-left (IsMet a) (inequalities net values) (declared net) first };
+          passes = All-right (IsMet a) most (passing net) m.met;
           declared = declared-each (IsMet a) net (All-right (IsMet a) (inequalities net values) (declared net) first);
-          modal = modal-met a cs are (All-right (IsMet a) (inequalities net values ++ declared net) (refined entities) front) (All-right (IsMet a) ((inequalities net values ++ declared net) ++ refined entities) (of_charts cs) m.met);
+          modal = modal-met a cs are (All-right (IsMet a) own (refined entities) front) (All-right (IsMet a) (own ++ refined entities) (of_charts cs) near);
         }
 
     meets : (a : Assignment) → AreAbove net values a → Meets (port_counts net) all a
@@ -116,11 +125,13 @@ module _ (net : Net) (values : Values) where
       is_type = m.meets.is_type;
       outside = m.meets.outside;
       met =
-          All-append (IsMet a) ((inequalities net values ++ declared net) ++ refined entities) (of_charts cs)
-          (All-append (IsMet a) (inequalities net values ++ declared net) (refined entities)
+          All-append (IsMet a) most (passing net)
+          (All-append (IsMet a) (own ++ refined entities) (of_charts cs)
+          (All-append (IsMet a) own (refined entities)
           (All-append (IsMet a) (inequalities net values) (declared net) m.meets.met (declared-all (IsMet a) net m.declared))
           (refinements-met a m.modal))
-          (charts-met a cs are m.modal);
+          (charts-met a cs are m.modal))
+          m.passes;
     }
 
   pub net-typing : (a : Assignment) (qs : List Inequality) → AreAll net values qs → IsLeast (port_counts net) qs a → IsTyping net values a

@@ -1,11 +1,12 @@
 -- Tests that tell where the typing of a net breaks, but in guards and actions.
-use Rattle.std.specs.Prelude.{ℕ, suc, List, [], ◌∷◌, Bool, false, not, ◌||◌, Option, Some, None, if◌then◌else◌}
+use Rattle.std.specs.Prelude.{ℕ, suc, ◌+◌, List, [], ◌∷◌, Bool, false, not, ◌||◌, Option, Some, None, if◌then◌else◌}
 use Rattle.std.specs.List.{list_any}
 use Rattle.pt_moml.specs.Document.{PortTree}
 use Rattle.pt_types.specs.Datatype.{Datatype}
 use Rattle.pt_types.specs.Order.{is_below}
+use Rattle.pt_expr.specs.Comparable.{is_general}
 use Rattle.pt_expr_type.specs.Types.{Types}
-use Rattle.pt_graph.specs.Net.{NetEntityTree}
+use Rattle.pt_graph.specs.Net.{NetEntityTree, TransparentTree}
 use Rattle.pt_parameter.specs.Texts.{names_in}
 use Rattle.pt_parameter.specs.Given as held
 use Rattle.pt_parameter.specs.Given.{Held}
@@ -58,3 +59,16 @@ breaks frames typing k e v = (has_port_above typing k e.class 0 e.ports || has_p
 abbrev pub first_broken : Frames → Assignment → ℕ → List NetEntityTree → List EntityView → Option ℕ
 first_broken frames typing k [] vs = None
 first_broken frames typing k (e ∷ es) vs = if breaks frames typing k e (first vs) then Some k else first_broken frames typing (suc k) es (behind vs)
+
+-- ---- transparent composites
+
+-- a port of this number, from this number on, is general
+abbrev pub has_general : Assignment → ℕ → ℕ → List PortTree → Bool
+has_general typing k i [] = false
+has_general typing k i (p ∷ ps) = is_general (typing.types (Port k i)) || has_general typing k (suc i) ps
+
+-- the number of the first of these transparent composites, numbered from this number on, whose ports meet a test. The test is told
+-- the number of the ports, which are numbered from another number on
+abbrev pub first_such : (ℕ → List PortTree → Bool) → ℕ → ℕ → List TransparentTree → Option ℕ
+first_such test first c [] = None
+first_such test first c (e ∷ es) = if test (first + c) e.ports then Some c else first_such test first (suc c) es

@@ -1,13 +1,13 @@
--- The inequalities that declared types make: the type that a port declares is below it.
-use Rattle.std.specs.Prelude.{ℕ, suc, List, [], ◌∷◌, ◌++◌, map, Option, Some, None}
+-- The inequalities that declared types make: the type that a port of an entity or of a transparent composite declares is below it.
+use Rattle.std.specs.Prelude.{ℕ, suc, List, [], ◌∷◌, ◌++◌, Option, Some, None}
 use Rattle.pt_types.specs.Datatype.{Datatype}
 use Rattle.pt_moml.specs.Document.{PortTree}
 use Rattle.pt_graph.specs.declared.net.Net.{Net}
-use Rattle.pt_graph.specs.Net.{NetEntityTree, entity_view}
 use Rattle.pt_typing.specs.declared.variable.Variable.TheVariants.{Port}
 use Rattle.pt_typing.specs.Terms.{Fixed}
 use Rattle.pt_typing.specs.Views.{Inequality}
 use Rattle.pt_resolve.specs.Inequalities.{below}
+use Rattle.pt_resolve.specs.Passing.{all_ports}
 use Rattle.pt_resolve.specs.SaidWords.{type_in}
 
 abbrev pub of_type : ℕ → ℕ → Option Datatype → List Inequality
@@ -24,11 +24,11 @@ abbrev pub of_declared : ℕ → ℕ → List PortTree → List Inequality
 of_declared k i [] = []
 of_declared k i (p ∷ ps) = of_text k i p.declared ++ of_declared k (suc i) ps
 
--- those of the entities from this number on
-abbrev pub declared_from : ℕ → List NetEntityTree → List Inequality
+-- those of the entities and the transparent composites from this number on, which have these ports
+abbrev pub declared_from : ℕ → List (List PortTree) → List Inequality
 declared_from k [] = []
-declared_from k (e ∷ es) = of_declared k 0 e.ports ++ declared_from (suc k) es
+declared_from k (ps ∷ pss) = of_declared k 0 ps ++ declared_from (suc k) pss
 
 -- those of a net
 abbrev pub declared : Net → List Inequality
-declared net = declared_from 0 (map entity_view net.entities.items)
+declared net = declared_from 0 (all_ports net)

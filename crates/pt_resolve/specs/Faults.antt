@@ -12,7 +12,7 @@ use Rattle.pt_expr.specs.Comparable.{is_general}
 use Rattle.pt_expr.specs.Tree.{Tree}
 use Rattle.pt_expr_type.specs.Types.{Types}
 use Rattle.pt_graph.specs.declared.net.Net.{Net}
-use Rattle.pt_graph.specs.Net.{NetEntityTree, entity_view}
+use Rattle.pt_graph.specs.Net.{NetEntityTree, TransparentTree, entity_view, transparent_view}
 use Rattle.pt_parameter.specs.Texts.{names_in}
 use Rattle.pt_parameter.specs.Given.{Read}
 use Rattle.pt_values.specs.declared.values.Values.{Values}
@@ -21,11 +21,14 @@ use Rattle.pt_values.specs.Valued as valued
 use Rattle.pt_typing.specs.declared.variable.Variable.TheVariants.{Port}
 use Rattle.pt_typing.specs.Terms.{names_types, has_type}
 use Rattle.pt_typing.specs.Least.{Assignment}
+use Rattle.pt_resolve.specs.declared.breaking.BrokenAt.{BrokenAt}
+use Rattle.pt_resolve.specs.declared.breaking.BrokenAt.TheVariants.{Entity, Transparent}
 use Rattle.pt_resolve.specs.declared.row.PortType.{PortType}
 use Rattle.pt_resolve.specs.declared.row.PortType.TheVariants as port
 use Rattle.pt_resolve.specs.Rows.{port_type}
 use Rattle.pt_resolve.specs.Frames.{frames_of, seen_types}
 use Rattle.pt_resolve.specs.Inequalities.{inputs_of, known}
+use Rattle.pt_resolve.specs.Passing.{composite_port}
 use Rattle.pt_resolve.specs.ModalScopes.{variable_values, modal_types, IsReadIn}
 use Rattle.pt_resolve.specs.Typing.{Declares, IsTyping, IsModal, scope_of, HasTypeIn}
 
@@ -64,10 +67,28 @@ pub data IsBroken (net : Net) (values : Values) (typing : Assignment) : NetEntit
   -- a guard or an action has no type. Its names are in scope, so it has a clash
   clash_in : (m : ℕ) (e : NetEntityTree) (v : EntityView) (text : List ℕ) (t : Tree) → IsModal net values m e v → IsTextIn e text → IsReadIn (scope_of net values m e v) text t → has_type (modal_types typing (scope_of net values m e v) t) t ≡ false → IsBroken net values typing e
 
+-- a port of this transparent composite is general, or isn't below what it declares
+pub data IsBrokenComposite (net : Net) (typing : Assignment) : TransparentTree → Type 0 where
+  general_port : (c i : ℕ) (e : TransparentTree) (p : PortTree) → slice_get (map transparent_view net.transparent.items) c ≡ Some e → slice_get e.ports i ≡ Some p → is_general (typing.types (composite_port net c i)) ≡ true → IsBrokenComposite net typing e
+  over_declared : (c i : ℕ) (e : TransparentTree) (p : PortTree) (t : Datatype) → slice_get (map transparent_view net.transparent.items) c ≡ Some e → slice_get e.ports i ≡ Some p → Declares p t → is_below (typing.types (composite_port net c i)) t ≡ false → IsBrokenComposite net typing e
+
+-- the typing breaks at the entity, or at the transparent composite, of this number
+abbrev pub IsBrokenAt : Net → Values → Assignment → BrokenAt → Type 0
+IsBrokenAt net values typing (Entity k) = (e : NetEntityTree) × (slice_get (map entity_view net.entities.items) k ≡ Some e) × IsBroken net values typing e
+IsBrokenAt net values typing (Transparent c) = (e : TransparentTree) × (slice_get (map transparent_view net.transparent.items) c ≡ Some e) × IsBrokenComposite net typing e
+
+-- the typing breaks nowhere
+pub record IsWhole (net : Net) (values : Values) (typing : Assignment) : Type 0 where
+  pub entities : (e : NetEntityTree) → IsBroken net values typing e → ⊥
+  pub composites : (e : TransparentTree) → IsBrokenComposite net typing e → ⊥
+
+-- the typing breaks at an entity, or at a transparent composite, of this path
+pub data BreaksAt (net : Net) (values : Values) (typing : Assignment) (path : List ℕ) : Type 0 where
+  at_entity : (e : NetEntityTree) → IsBroken net values typing e → path ≡ e.path → BreaksAt net values typing path
+  at_composite : (e : TransparentTree) → IsBrokenComposite net typing e → path ≡ e.path → BreaksAt net values typing path
+
 -- the typing of a net breaks at this path
 pub record IsTypeFault (net : Net) (values : Values) (path : List ℕ) : Type 0 where
   pub typing : Assignment
   pub is : IsTyping net values typing
-  pub entity : NetEntityTree
-  pub broken : IsBroken net values typing entity
-  pub told : path ≡ entity.path
+  pub breaks : BreaksAt net values typing path

@@ -19,6 +19,7 @@ use Rattle.pt_typing.specs.Terms.{Same}
 use Rattle.pt_typing.specs.Views.{Inequality}
 use Rattle.pt_resolve.specs.Frames.{Frames, frames_of}
 use Rattle.pt_resolve.specs.Inequalities.{PortNumbers, no_ports, below, inequalities}
+use Rattle.pt_resolve.specs.Passing.{passing}
 use Rattle.pt_resolve.specs.DeclaredTypes.{declared}
 use Rattle.pt_resolve.specs.ModalScopes.{is_modal, own_ports, ModalScope, modal_scope, modal_term, IsReadIn}
 
@@ -164,4 +165,4 @@ pub data IsChartAdded (frames : Frames) (m : ℕ) (e : NetEntityTree) (o : Optio
 pub record AreAll (net : Net) (values : Values) (qs : List Inequality) : Type 0 where
   pub charts : List Chart
   pub are : AreCharts (frames_of net values) (map entity_view net.entities.items) (map valued.entity_view values.entities.items) (length (map entity_view net.entities.items)) charts
-  pub is : qs ≡ ((inequalities net values ++ declared net) ++ refined (map entity_view net.entities.items)) ++ of_charts charts
+  pub is : qs ≡ (((inequalities net values ++ declared net) ++ refined (map entity_view net.entities.items)) ++ of_charts charts) ++ passing net

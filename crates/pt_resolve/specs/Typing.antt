@@ -1,7 +1,6 @@
 -- The typing of a net: the least types that meet all inequalities (the book, "The Type System").
-use Rattle.std.specs.Prelude.{◌≡◌, ℕ, List, [], ◌∷◌, length, map, Some, None, Bool, true, slice_get, codes}
-use Rattle.std.specs.List.{Contains, list_all}
-use Rattle.std.specs.Option.{is_none}
+use Rattle.std.specs.Prelude.{◌≡◌, ℕ, List, [], ◌∷◌, All, map, Some, None, slice_get, codes}
+use Rattle.std.specs.List.{Contains}
 use Rattle.pt_moml.specs.declared.job.Direction.TheVariants.{Input, Output}
 use Rattle.pt_moml.specs.declared.job.OutputAction.{OutputAction}
 use Rattle.pt_moml.specs.Document.{PortTree, TransitionTree}
@@ -12,16 +11,16 @@ use Rattle.pt_types.specs.Order.{IsBelow}
 use Rattle.pt_expr.specs.Tree.{Tree}
 use Rattle.pt_expr_type.specs.Rule.{type_or_general}
 use Rattle.pt_expr_type.specs.ByName.{by_name}
-use Rattle.pt_graph.specs.declared.net.Transparent.{Transparent}
 use Rattle.pt_graph.specs.declared.net.Net.{Net}
 use Rattle.pt_graph.specs.Net.{NetEntityTree, entity_view}
 use Rattle.pt_values.specs.declared.values.Values.{Values}
 use Rattle.pt_values.specs.Valued.{EntityView}
 use Rattle.pt_values.specs.Valued as valued
 use Rattle.pt_typing.specs.declared.variable.Variable.TheVariants.{Port}
-use Rattle.pt_typing.specs.Least.{Assignment, Meets, IsUnder}
+use Rattle.pt_typing.specs.Least.{Assignment, IsMet, Meets, IsUnder}
 use Rattle.pt_resolve.specs.Frames.{frames_of}
 use Rattle.pt_resolve.specs.Inequalities.{inequalities}
+use Rattle.pt_resolve.specs.Passing.{all_ports, port_counts, passing}
 use Rattle.pt_resolve.specs.ModalScopes.{own_ports, ModalScope, modal_scope, modal_types, IsReadIn}
 
 -- ---- types that texts say
@@ -83,33 +82,16 @@ pub data IsLowerByModal (net : Net) (values : Values) (typing : Assignment) : �
 
 -- ---- the typing
 
-abbrev pub port_count : NetEntityTree → ℕ
-port_count e = length e.ports
-
-abbrev pub port_counts : Net → List ℕ
-port_counts net = map port_count (map entity_view net.entities.items)
-
--- types of the ports and of the rows of a net that meet all lower bounds
+-- types of the ports, of the rows and of the relations of a net that meet all lower bounds
 pub record AreAbove (net : Net) (values : Values) (typing : Assignment) : Type 0 where
   pub meets : Meets (port_counts net) (inequalities net values) typing
-  -- what a port declares is below it
-  pub declared : (k i : ℕ) (e : NetEntityTree) (p : PortTree) (t : Datatype) → slice_get (map entity_view net.entities.items) k ≡ Some e → slice_get e.ports i ≡ Some p → Declares p t → IsBelow t (typing.types (Port k i))
+  -- what passes between ports and relations
+  pub passes : All (IsMet typing) (passing net)
+  -- what a port of an entity or of a transparent composite declares is below it
+  pub declared : (k i : ℕ) (ps : List PortTree) (p : PortTree) (t : Datatype) → slice_get (all_ports net) k ≡ Some ps → slice_get ps i ≡ Some p → Declares p t → IsBelow t (typing.types (Port k i))
   pub modal : (k i : ℕ) (t : Datatype) → IsLowerByModal net values typing k i t → IsBelow t (typing.types (Port k i))
 
 -- the typing: of all types that meet the lower bounds the least
 pub record IsTyping (net : Net) (values : Values) (typing : Assignment) : Type 0 where
   pub above : AreAbove net values typing
   pub least : (other : Assignment) → AreAbove net values other → IsUnder typing other
-
--- ---- nets that are plain
-
--- a transparent composite no port of which declares a type
-abbrev pub is_undeclared : Transparent → Bool
-is_undeclared c = list_all (λ p. is_none p.declared) c.ports.items
-
--- no port of a transparent composite declares a type: a net doesn't say which channels pass there
-abbrev pub are_plain : Net → Bool
-are_plain net = list_all is_undeclared net.transparent.items
-
-abbrev pub ArePlain : Net → Type 0
-ArePlain net = are_plain net ≡ true

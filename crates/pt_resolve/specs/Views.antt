@@ -1,7 +1,11 @@
 -- What the program holds while it makes inequalities.
 use Rattle.std.specs.Prelude.{◌≡◌, ◌++◌, List, map, Some, None, option_map}
+use Rattle.std.specs.Borrow.{Bor}
 use Rattle.pt_expr.specs.Expr.{tree_of}
 use Rattle.indexmap.specs.IndexMap.{get_by_text}
+use Rattle.pt_moml.specs.declared.job.Port.{Port}
+use Rattle.pt_moml.specs.Document.{PortTree}
+use Rattle.pt_moml.specs.View.{port_view}
 use Rattle.pt_typing.specs.declared.term.Inequality.{Inequality as GivenInequality}
 use Rattle.pt_typing.specs.Views.{Inequality, inequality_view}
 use Rattle.pt_expr_type.specs.Types.{Types}
@@ -31,6 +35,10 @@ types_at p = seen_types (frames_view p.frames.now) p.entity.now.within p.entity.
 
 abbrev pub port_numbers : TopPorts → PortNumbers
 port_numbers ports name = get_by_text ports.numbers name
+
+-- the ports of some entities and transparent composites
+abbrev pub port_lists : List (Bor (List Port)) → List (List PortTree)
+port_lists lists = map (λ ps. map port_view ps.now) lists
 
 abbrev pub scope_view : GivenScope → ModalScope
 scope_view s = record { number = s.number; ports = port_numbers s.ports; variables = held s.variables; around = seen (frames_view s.frames.now) None (Some s.number) }

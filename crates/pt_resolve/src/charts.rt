@@ -1,5 +1,5 @@
 // Modal entities with their texts, and the inequalities of output actions.
-ghost use Rattle.std.specs.Prelude.{IfOk, OnOk, map, option_map, length};
+ghost use Rattle.std.specs.Prelude.{◌≡◌, IfOk, OnOk, map, option_map, length};
 ghost use Rattle.pt_expr.specs.Expr.{tree_of};
 ghost use Rattle.pt_graph.specs.Net.{entity_view};
 ghost use Rattle.pt_values.specs.Valued as valued;

@@ -1,14 +1,12 @@
 ghost use Rattle.std.specs.Prelude.{◌≡◌, OnOk, map, option_map};
 ghost use Rattle.pt_types.specs.Ty.{type_of};
 ghost use Rattle.pt_moml.specs.View.{port_view};
-ghost use Rattle.pt_graph.specs.Net.{entity_view};
 ghost use Rattle.pt_typing.specs.Views.{inequality_view};
 ghost use Rattle.pt_resolve.specs.DeclaredTypes.{of_type, of_text, of_declared, declared_from};
-ghost use Rattle.pt_resolve.specs.Views.{IsAdded};
+ghost use Rattle.pt_resolve.specs.Views.{IsAdded, port_lists};
 
 use crate::place::add;
 use crate::said::type_in;
-use pt_graph::NetEntity;
 use pt_moml::Port;
 use pt_types::Ty;
 use pt_typing::{Inequality, Term, Variable};
@@ -49,7 +47,7 @@ fn add_text(
     }
 }
 
-/// What the ports of an entity declare is below them.
+/// What the ports of an entity or of a transparent composite declare is below them.
 fn add_ports(
     alloc: Global,
     number: usize,
@@ -64,28 +62,16 @@ fn add_ports(
     Ok(())
 }
 
-/// What the ports of an entity of this number declare is below them.
-fn add_entity(
-    alloc: Global,
-    number: usize,
-    entity: &NetEntity,
-    inequalities: &mut Vec<Inequality>,
-) -> Result<(), AllocError>
-    ensures { OnOk result (IsAdded inequalities.old.items inequalities.new.items (of_declared number 0 (entity_view entity.now).ports)) }
-{
-    add_ports(alloc, number, &entity.ports, inequalities)
-}
-
-/// The type that a port declares is below it.
+/// The type that a port of an entity or of a transparent composite declares is below it.
 pub(crate) fn add_declared(
     alloc: Global,
-    entities: &[NetEntity],
+    lists: &[&[Port]],
     inequalities: &mut Vec<Inequality>,
 ) -> Result<(), AllocError>
-    ensures { OnOk result (IsAdded inequalities.old.items inequalities.new.items (declared_from 0 (map entity_view entities.now))) }
+    ensures { OnOk result (IsAdded inequalities.old.items inequalities.new.items (declared_from 0 (port_lists lists.now))) }
 {
-    for (number, entity) in entities.iter().enumerate() {
-        add_entity(alloc, number, entity, inequalities)?;
+    for (number, ports) in lists.iter().enumerate() {
+        add_ports(alloc, number, ports, inequalities)?;
     }
     Ok(())
 }

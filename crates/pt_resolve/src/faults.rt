@@ -8,7 +8,6 @@ ghost use Rattle.pt_typing.specs.declared.variable.Variable.TheVariants as varia
 ghost use Rattle.pt_typing.specs.Least.{assignment};
 ghost use Rattle.pt_resolve.specs.Rows.{port_type};
 ghost use Rattle.pt_resolve.specs.Frames.{seen_types};
-ghost use Rattle.pt_resolve.specs.Typing.{ArePlain};
 ghost use Rattle.pt_resolve.specs.Faults.{is_above, IsBroken};
 ghost use Rattle.pt_resolve.specs.Broken.{has_port_above, lacks_type, has_untyped, breaks, first_broken};
 ghost use Rattle.pt_resolve.specs.ModalFaults.{IsFailing};
@@ -191,16 +190,15 @@ fn failing(
     }
 }
 
-/// The number of an entity at which the typing of a plain net breaks, if there is one: a port is general, above what its row
+/// The number of an entity at which the typing of a net breaks, if there is one: a port is general, above what its row
 /// allows, or not below what it declares; an expression, a guard or an action has no type; a guard is no truth value; or a set
 /// action gives what its Variable doesn't hold.
-pub fn broken(
+pub(crate) fn broken_entity(
     alloc: Global,
     net: &Net,
     values: &Values,
     typing: &Typing,
 ) -> Result<Option<usize>, AllocError>
-    requires plain { ArePlain net.now }
     ensures some { IfOk result (λ found. (k : ℕ) → found ≡ Some k → (e : NetEntityTree) × (slice_get (map entity_view net.now.entities.items) k ≡ Some e) × IsBroken net.now values.now (assignment typing.now) e) }
     ensures none { IfOk result (λ found. found ≡ None → (e : NetEntityTree) → IsBroken net.now values.now (assignment typing.now) e → ⊥) }
 {

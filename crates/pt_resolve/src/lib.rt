@@ -2,16 +2,19 @@
 #![tactic(auto)]
 
 mod bounds;
+mod breaking;
 mod charts;
+mod composites;
 mod declared;
 mod faults;
 mod frames;
 mod inequalities;
+mod joints;
 mod modal_faults;
 mod modal_scope;
 mod modal_texts;
+mod net_types;
 mod place;
-mod plain;
 mod refinements;
 mod row;
 mod rows;
@@ -21,10 +24,10 @@ mod tables;
 mod top;
 mod words;
 
-pub use faults::broken;
+pub use breaking::{BrokenAt, broken};
 pub use frames::{Frame, Frames};
 pub use inequalities::inequalities_of;
-pub use plain::{is_plain, net_typing};
+pub use net_types::net_typing;
 pub use row::{PortType, PortTypeRow, Seed, SeedRow};
 pub use said::ty_said;
 pub use tables::{PORT_TYPES, SEEDS};

@@ -1,0 +1,43 @@
+ghost use Rattle.std.specs.Prelude.{IfOk, MatchOption};
+ghost use Rattle.pt_typing.specs.Least.{assignment};
+ghost use Rattle.pt_resolve.specs.Faults.{IsBrokenAt, IsWhole};
+
+use crate::composites::{first_general, first_over};
+use crate::faults::broken_entity;
+use pt_graph::Net;
+use pt_typing::Typing;
+use pt_values::Values;
+use std::alloc::{AllocError, Global};
+
+/// Where a typing breaks: at an entity, or at a transparent composite, by its number among those.
+#[derive(Clone, Copy, Debug, PartialEq, Eq)]
+pub enum BrokenAt {
+    Entity(usize),
+    Transparent(usize),
+}
+
+/// Where the typing of a net breaks, if it does. At an entity a port is general, above what its row allows, or not below what it
+/// declares; an expression, a guard or an action has no type; a guard is no truth value; or a set action gives what its Variable
+/// doesn't hold. At a transparent composite a port is general, or not below what it declares.
+pub fn broken(
+    alloc: Global,
+    net: &Net,
+    values: &Values,
+    typing: &Typing,
+) -> Result<Option<BrokenAt>, AllocError>
+    ensures { IfOk result (λ found. MatchOption found (IsWhole net.now values.now (assignment typing.now)) (IsBrokenAt net.now values.now (assignment typing.now))) }
+{
+    let first = net.entities.len();
+    match first_over(alloc, typing, first, &net.transparent)? {
+        Some(composite) => return Ok(Some(BrokenAt::Transparent(composite))),
+        None => {}
+    }
+    match broken_entity(alloc, net, values, typing)? {
+        Some(entity) => return Ok(Some(BrokenAt::Entity(entity))),
+        None => {}
+    }
+    match first_general(alloc, typing, first, &net.transparent)? {
+        Some(composite) => Ok(Some(BrokenAt::Transparent(composite))),
+        None => Ok(None),
+    }
+}

@@ -1,0 +1,51 @@
+ghost use Rattle.std.specs.Prelude.{◌≡◌, IfOk, map};
+ghost use Rattle.pt_typing.specs.Views.{inequality_view};
+ghost use Rattle.pt_typing.specs.Least.{assignment};
+ghost use Rattle.pt_resolve.specs.Passing as passing;
+ghost use Rattle.pt_resolve.specs.Modals.{AreAll};
+ghost use Rattle.pt_resolve.specs.Typing.{IsTyping};
+ghost use Rattle.pt_resolve.specs.Views.{port_lists};
+
+use crate::charts::{add_charts, charts_of};
+use crate::declared::add_declared;
+use crate::frames::Frames;
+use crate::inequalities::inequalities_of;
+use crate::joints::{add_passing, all_ports, port_counts};
+use crate::refinements::add_refinements;
+use pt_graph::Net;
+use pt_moml::Port;
+use pt_typing::{Inequality, Typing, least_typing};
+use pt_values::Values;
+use std::alloc::{AllocError, Global};
+
+/// The inequalities of a net with these ports, with those of the types that ports declare, those of Modal entities, and those
+/// between ports and relations.
+fn all_inequalities(
+    alloc: Global,
+    net: &Net,
+    values: &Values,
+    lists: &[&[Port]],
+) -> Result<Vec<Inequality>, AllocError>
+    requires lists { port_lists lists.now ≡ passing.all_ports net.now }
+    ensures { IfOk result (λ qs. AreAll net.now values.now (map inequality_view qs.items)) }
+{
+    let mut inequalities = inequalities_of(alloc, net, values)?;
+    add_declared(alloc, lists, &mut inequalities)?;
+    add_refinements(alloc, &net.entities, &mut inequalities)?;
+    let frames = Frames::of(alloc, net, values)?;
+    let charts = charts_of(alloc, &frames, &net.entities, &values.entities)?;
+    add_charts(alloc, &charts, &mut inequalities)?;
+    add_passing(net, &mut inequalities)?;
+    Ok(inequalities)
+}
+
+/// The typing of a net: the least types of its ports, rows and relations that meet all inequalities, are above what ports
+/// declare, and are what Modal entities ask for.
+pub fn net_typing(alloc: Global, net: &Net, values: &Values) -> Result<Typing, AllocError>
+    ensures { IfOk result (λ t. IsTyping net.now values.now (assignment t)) }
+{
+    let lists = all_ports(alloc, net)?;
+    let counts = port_counts(alloc, &lists, net.relation_count)?;
+    let inequalities = all_inequalities(alloc, net, values, &lists)?;
+    least_typing(alloc, counts.as_slice(), inequalities.as_slice())
+}
