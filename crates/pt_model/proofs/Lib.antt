@@ -3,3 +3,4 @@ pub mod PortTypes
 pub mod StartLaws
 pub mod FaultLaws
 pub mod TopLaws
+pub mod Outcomes

@@ -1,8 +1,8 @@
 -- The tests tell where the typing breaks in guards and actions.
-use Rattle.std.proofs.Common.{◌≡◌, inl, inr, ℕ, Bool, true, false, ◌||◌, List, [], ◌∷◌, length, map, Option, Some, None, refl, sym, ap, ◌∙◌, arith}
+use Rattle.std.proofs.Common.{◌≡◌, inl, inr, ℕ, true, false, ◌||◌, List, [], ◌∷◌, length, map, Option, Some, None, refl, sym, ap, ◌∙◌, arith}
 use Rattle.std.specs.Prelude.{option_map, slice_get}
 use Rattle.std.specs.List.{Contains, list_any}
-use Rattle.std.proofs.lemmas.Bool.{both_ways, or_cases, or_parts, not-true, not-false}
+use Rattle.std.proofs.lemmas.Bool.{or_cases, or_parts, not-true, not-false}
 use Rattle.std.proofs.lemmas.Option.{slice_get_within}
 use Rattle.pt_value.specs.Value.{Value}
 use Rattle.pt_moml.specs.declared.job.OutputAction.{OutputAction}
@@ -23,7 +23,7 @@ use Rattle.pt_typing.specs.Terms.{has_type}
 use Rattle.pt_typing.specs.Least.{Assignment}
 use Rattle.pt_resolve.specs.Frames.{frames_of}
 use Rattle.pt_resolve.specs.ModalScopes.{ModalScope, variable_values, modal_types, IsReadIn}
-use Rattle.pt_resolve.specs.Modals.{IsReadAs, ActionTree, TransitionTrees, IsOutputRead, IsSetRead, IsTransitionRead, Chart, IsChartIn, AreCharts}
+use Rattle.pt_resolve.specs.Modals.{IsReadAs, ActionTree, TransitionTrees, IsOutputRead, IsSetRead, IsTransitionRead, Chart, AreCharts}
 use Rattle.pt_resolve.specs.Typing.{IsModal, scope_of, HasTypeIn}
 use Rattle.pt_resolve.specs.Faults.{IsTextIn, of_guard, of_output, of_set, IsBroken, guard, set_action, clash_in}
 use Rattle.pt_resolve.specs.Broken.{is_over_type}

@@ -14,7 +14,6 @@ use Rattle.pt_values.specs.Valued.{EntityView}
 use Rattle.pt_typing.specs.declared.variable.Variable.TheVariants.{Port}
 use Rattle.pt_typing.specs.Terms.{Same, TreeOf}
 use Rattle.pt_typing.specs.Least.{Assignment}
-use Rattle.pt_resolve.specs.Frames.{Frames}
 use Rattle.pt_resolve.specs.Inequalities.{below}
 use Rattle.pt_resolve.specs.ModalScopes.{ModalScope, modal_scope}
 use Rattle.pt_resolve.specs.Modals.{refined, of_action}

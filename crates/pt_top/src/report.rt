@@ -15,7 +15,7 @@ ghost use Rattle.pt_top.specs.Reply.{refusal_text, IsReport, AnswersNet, IsAffor
 
 use crate::status::Status;
 use pt_graph::Net;
-use pt_model::{ModelFault, model_of};
+use pt_model::{Model, ModelFault, model_of};
 use pt_moml::Refusal;
 use pt_node::Node;
 use pt_run::{Ended, SdfJob, numbers_stay, report, run};
@@ -80,6 +80,29 @@ fn report_run(
     })
 }
 
+/// Lets a model go. A call of its own keeps what that takes out of the proofs of its callers.
+fn let_go(_model: Model) {}
+
+/// Runs the model of a net within a budget, reports the run and lets the model go.
+fn report_model(
+    alloc: Global,
+    net: &Net,
+    mut model: Model,
+    budget: u64,
+) -> Result<Reply, AllocError>
+    requires model { IsModel net.now (shown_node model.top) model.job }
+    requires runnable { IsRunnable model.job.takes (shown_node model.top) }
+    requires lists { length model.job.inputs.items ≡ length model.job.takes }
+    requires numbered { AreNumbered (length net.now.recorded.items) (shown_node model.top) }
+    requires budget { 0 < budget }
+    ensures report { IfOk result (λ r. IsReport net.now budget r.status r.text.items) }
+    ensures complete { IsAffordable model.job budget (node_of (shown_node model.top)) → IfOk result (λ r. r.status ≡ Done) }
+{
+    let reply = report_run(alloc, net, &mut model.top, &model.job, budget);
+    let_go(model);
+    reply
+}
+
 /// The answer to the net of a job within a budget, unless memory runs out for it.
 pub fn reply_to_net(alloc: Global, net: &Net, budget: u64) -> Result<Reply, AllocError>
     requires net { (job : JobTree) × ActorsAreLeaves job × IsNetOf job net.now }
@@ -89,7 +112,7 @@ pub fn reply_to_net(alloc: Global, net: &Net, budget: u64) -> Result<Reply, Allo
     ensures complete { IsAffordableNet net.now budget → IfOk result (λ r. (r.status ≡ Done) ⊎ (r.status ≡ Document)) }
 {
     match model_of(alloc, net) {
-        Ok(mut model) => report_run(alloc, net, &mut model.top, &model.job, budget),
+        Ok(model) => report_model(alloc, net, model, budget),
         Err(ModelFault::Refused(refusal)) => refuse(alloc, &refusal),
         Err(ModelFault::Memory) => Err(AllocError),
     }

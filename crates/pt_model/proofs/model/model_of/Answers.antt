@@ -1,6 +1,17 @@
 use Rattle.pt_typing.specs.Least.{assignment}
 use Rattle.pt_node.specs.Shown.{shown_node}
+use Rattle.pt_model.proofs.Outcomes.{on-ok, at-ok}
 use Rattle.pt_model.proofs.StartLaws.{started-by-class}
 use Rattle.pt_model.proofs.TopLaws.{is-runnable}
 use Rattle.pt_model.proofs.model.model_of.Goals as goal
 
+pub returns-clause-runnable : goal.returns-clause-runnable
+returns-clause-runnable c = on-ok c.model_with.result (λ model is.
+    let made = at-ok _ is c.model_with.ensures.model in
+    is-runnable c.args.net.now c.in_ok-started.started.starts.items (shown_node model.top) model.job.takes (at-ok _ is c.model_with.ensures.built) (at-ok _ is c.model_with.ensures.fresh) made.takes_are)
+
+pub returns-clause-numbered : goal.returns-clause-numbered
+returns-clause-numbered c = on-ok c.model_with.result (λ model is.
+    let s = c.in_ok-started.started in
+    let by_class = started-by-class c.args.net.now s.values (assignment s.typing) s.starts.items c.in_ok-started.ensures.started.started in
+    c.ports_are_numbered.ensures c.requires.0 c.args.net.now s.starts.items (shown_node model.top) c.requires.1 c.requires.2 by_class (at-ok _ is c.model_with.ensures.built))

@@ -1,10 +1,9 @@
-use Rattle.std.proofs.Common.{map, sym, ◌∙◌}
+use Rattle.std.proofs.Common.{map, sym}
 use Rattle.std.specs.Prelude.{option_map}
-use Rattle.std.proofs.lemmas.Option.{slice_get_read}
 use Rattle.pt_graph.specs.Net.{entity_view}
 use Rattle.pt_values.specs.Valued as valued
 use Rattle.pt_resolve.specs.Views.{frames_view, chart_view}
-use Rattle.pt_resolve.proofs.ChartLaws.{no-charts, charts-more, entity-at}
+use Rattle.pt_resolve.proofs.ChartLaws.{charts-more, entity-at}
 use Rattle.pt_resolve.proofs.charts.charts_of.Goals as goal
 
 pub loop-number-preserved : goal.loop-number-preserved

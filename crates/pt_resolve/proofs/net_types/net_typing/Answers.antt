@@ -11,7 +11,7 @@ use Rattle.pt_resolve.proofs.NetTypings.{net-typing}
 use Rattle.pt_resolve.proofs.net_types.net_typing.Goals as goal
 
 pub all_inequalities-requires : goal.all_inequalities-requires
-all_inequalities-requires c = ap port_lists c.deref-2.ensures.value ∙ c.in_ok-lists.ensures
+all_inequalities-requires c = record { lists = ap port_lists c.deref-2.ensures.value ∙ c.in_ok-lists.ensures }
 
 pub returns : goal.returns
 returns c =

@@ -1,0 +1,27 @@
+use Rattle.std.specs.Prelude.{IsOk}
+use Rattle.std.proofs.Common.{refl, sym, subst}
+use Rattle.std.specs.Prelude.{◌≡◌, Some}
+use Rattle.pt_typing.specs.Least.{assignment}
+use Rattle.pt_node.specs.Shown.{shown_node}
+use Rattle.pt_node.specs.View.{node_of}
+use Rattle.pt_build.specs.Trees.{IsTree, StartsAs}
+use Rattle.pt_build.specs.Built.{IsBuilt}
+use Rattle.pt_run.specs.Start.{takes_of}
+use Rattle.pt_model.proofs.Outcomes.{on-ok, at-ok}
+use Rattle.pt_model.proofs.model.model_with.Goals as goal
+
+pub returns-clause-model : goal.returns-clause-model
+returns-clause-model c = on-ok c.with_job.result (λ model is.
+    let told = at-ok _ is c.with_job.ensures.ok in
+    record {
+      values = c.args.started.now.values;
+      typing = assignment c.args.started.now.typing;
+      starts = c.args.started.now.starts.items;
+      started = c.requires;
+      tree = subst (λ top. IsTree c.args.net.now (StartsAs c.args.started.now.starts.items) 0 (node_of (shown_node top))) (sym told.0) c.in_ok-top.ensures.tree;
+      built = subst (λ top. IsBuilt c.args.net.now c.args.started.now.starts.items 0 (shown_node top)) (sym told.0) c.in_ok-top.ensures.built;
+      accepted = c.job_of-job.ensures.accepted (subst (λ job. IsOk job) (sym told.1) refl);
+      supplied = at-ok _ told.1 c.job_of-job.ensures.supplied;
+      iterations_are = at-ok _ told.1 c.job_of-job.ensures.iterations;
+      takes_are = subst (λ top. takes_of (node_of (shown_node top)) ≡ Some model.job.takes) (sym told.0) (at-ok _ told.1 c.job_of-job.ensures.takes);
+    })
