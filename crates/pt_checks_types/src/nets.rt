@@ -3,7 +3,7 @@ ghost use Rattle.pt_moml.specs.Document.{JobTree};
 ghost use Rattle.pt_graph.specs.Net.{IsNetOf};
 
 use pt_graph::{Net, NetEntity, flatten};
-use pt_moml::{Direction, Port, read};
+use pt_moml::{Direction, Job, Port, read};
 use pt_resolve::{BrokenAt, broken, net_typing};
 use pt_types::print;
 use pt_typing::{Typing, Variable};
@@ -12,12 +12,24 @@ use std::alloc::{AllocError, Global};
 use std::fs;
 use std::test::Fail;
 
+/// The net of a job, if it has one.
+fn net_of_job(alloc: Global, job: &Job) -> Option<Net>
+    ensures { IfSome result (λ net. (job : JobTree) × IsNetOf job net) }
+{
+    match flatten(alloc, job) {
+        Ok(net) => Some(net),
+        Err(_) => None,
+    }
+}
+
 /// The net of a document, if it has one.
 fn net_of(alloc: Global, document: &str) -> Option<Net>
     ensures { IfSome result (λ net. (job : JobTree) × IsNetOf job net) }
 {
-    let job = read(alloc, document.as_bytes()).ok()?;
-    flatten(alloc, &job).ok()
+    match read(alloc, document.as_bytes()) {
+        Ok(job) => net_of_job(alloc, &job),
+        Err(_) => None,
+    }
 }
 
 /// What its texts come to, if they come to something.
