@@ -67,10 +67,7 @@ impl From<DocFault> for ModelFault {
     }
 }
 
-/// Lets a tree go. A call of its own keeps what that takes out of the proofs of its callers.
-fn let_go(_top: Node) {}
-
-/// The model of this tree, where the job could be asked for.
+/// The model of this tree, where the job could be asked for. A tree is let go by a call, which keeps what that takes out of the proof.
 fn with_job(top: Node, job: Result<SdfJob, ModelFault>) -> Result<Model, ModelFault>
     ensures ok { IfOk result (λ model. (model.top ≡ top) × (job ≡ Ok model.job)) }
     ensures fault { IfErr result (λ fault. job ≡ Err fault) }
@@ -78,7 +75,7 @@ fn with_job(top: Node, job: Result<SdfJob, ModelFault>) -> Result<Model, ModelFa
     match job {
         Ok(job) => Ok(Model { top, job }),
         Err(fault) => {
-            let_go(top);
+            drop(top);
             Err(fault)
         }
     }

@@ -80,10 +80,8 @@ fn report_run(
     })
 }
 
-/// Lets a model go. A call of its own keeps what that takes out of the proofs of its callers.
-fn let_go(_model: Model) {}
-
-/// Runs the model of a net within a budget, reports the run and lets the model go.
+/// Runs the model of a net within a budget and reports the run. The model is let go by a call, which keeps what that takes out of the
+/// proof.
 fn report_model(
     alloc: Global,
     net: &Net,
@@ -99,7 +97,7 @@ fn report_model(
     ensures complete { IsAffordable model.job budget (node_of (shown_node model.top)) → IfOk result (λ r. r.status ≡ Done) }
 {
     let reply = report_run(alloc, net, &mut model.top, &model.job, budget);
-    let_go(model);
+    drop(model);
     reply
 }
 
