@@ -1,5 +1,5 @@
 #!/usr/bin/env python3
-"""Print documents.txt, which the test reads, from nets.txt, which people read: a line for each net, with its name, its document
+"""Print documents.txt, which the program reads, from nets.txt, which people read: a line for each net, with its name, its document
 and what is wanted between tabs.
 
 An entity is `NAME: CLASS(ports) parameter=value | parameter=value`, a composite `NAME: Composite DIRECTOR(ports)` with what is

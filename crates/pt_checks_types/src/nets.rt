@@ -9,8 +9,6 @@ use pt_types::print;
 use pt_typing::{Typing, Variable};
 use pt_values::{Values, nets_are_ordered, values_of};
 use std::alloc::{AllocError, Global};
-use std::fs;
-use std::test::Fail;
 
 /// The net of a job, if it has one.
 fn net_of_job(alloc: Global, job: &Job) -> Option<Net>
@@ -130,19 +128,13 @@ fn is_document_typed_so(alloc: Global, document: &str, wanted: &str) -> Result<b
     }
 }
 
-#[test]
-fn nets_have_the_types_worked_by_hand(rt: HostRuntime) -> Result<(), Fail> {
-    let table = fs::read_to_string(&rt, "documents.txt")?;
-    let mut count = 0u32;
-    for line in table.lines() {
-        let (name, rest) = line.split_once("\t").ok_or("a line without a name")?;
-        let (document, wanted) = rest.split_once("\t").ok_or("a line without an answer")?;
-        assert!(rt;
-            is_document_typed_so(rt.alloc(), document, wanted)?,
-            "{name}"
-        );
-        count = count.wrapping_add(1);
+/// Whether a row of the table holds: between tabs the name of a net, its document and what is wanted.
+pub fn holds(alloc: Global, row: &str) -> Result<bool, AllocError> {
+    let Some((_name, rest)) = row.split_once("\t") else {
+        return Ok(false);
+    };
+    match rest.split_once("\t") {
+        Some((document, wanted)) => is_document_typed_so(alloc, document, wanted),
+        None => Ok(false),
     }
-    assert_eq!(rt; count, 119);
-    Ok(())
 }
