@@ -117,8 +117,7 @@ impl Channels {
         self.pool.pop(c)
     }
 
-    /// Takes the front of channel `c` where it is a number that waits apart from the others, and moves no token. `None` says
-    /// nothing of the channel.
+    /// Takes the front of channel `c` where it is a number. `None` says nothing of the channel.
     #[inline(always)]
     pub fn take_number(&mut self, c: u32) -> Option<i64>
         requires { c < length self.old.lists }
@@ -126,7 +125,45 @@ impl Channels {
         ensures lists { self.new.lists ≡ (if is_some result then popped self.old.lists c else self.old.lists) }
         ensures spares { self.new.spares ≡ (if is_some result then raised self.old.spares c else self.old.spares) }
     {
+        match self.take_apart(c) {
+            Some(n) => Some(n),
+            None => self.take_behind(c),
+        }
+    }
+
+    // The same of a number that waits apart from the others. It moves no token.
+    #[inline(always)]
+    fn take_apart(&mut self, c: u32) -> Option<i64>
+        requires { c < length self.old.lists }
+        ensures front { IfSome result (λ n. slice_get (list_at self.old.lists c) 0 ≡ Some (Int n)) }
+        ensures lists { self.new.lists ≡ (if is_some result then popped self.old.lists c else self.old.lists) }
+        ensures spares { self.new.spares ≡ (if is_some result then raised self.old.spares c else self.old.spares) }
+    {
         take_front_number(&mut self.fronts[c as usize])
+    }
+
+    // The same of a number that waits in the region.
+    #[inline(never)]
+    fn take_behind(&mut self, c: u32) -> Option<i64>
+        requires { c < length self.old.lists }
+        ensures front { IfSome result (λ n. slice_get (list_at self.old.lists c) 0 ≡ Some (Int n)) }
+        ensures lists { self.new.lists ≡ (if is_some result then popped self.old.lists c else self.old.lists) }
+        ensures spares { self.new.spares ≡ (if is_some result then raised self.old.spares c else self.old.spares) }
+    {
+        let n = self.first_number(c)?;
+        self.take(c);
+        Some(n)
+    }
+
+    // The front of channel `c`, where it is a number.
+    fn first_number(&self, c: u32) -> Option<i64>
+        requires { c < length self.now.lists }
+        ensures { IfSome result (λ n. slice_get (list_at self.now.lists c) 0 ≡ Some (Int n)) }
+    {
+        match self.tokens(c).next() {
+            Some(Token::Int(n)) => Some(*n),
+            _ => None,
+        }
     }
 
     /// Moves the front of one channel to the back of another, or of the same one.

@@ -1,7 +1,7 @@
 use Rattle.std.proofs.Common.{◌≡◌, ap, ◌∙◌, sym, subst, arith, Some, None, IfSome, slice_get, is_some, if◌then◌else◌}
 use Rattle.pt_recv.specs.Lines.{list_at, popped, raised}
 use Rattle.pt_recv.proofs.FrontLaws.{front-is, in-lists, in-fronts, taken-first, taken-lists, taken-spares}
-use Rattle.pt_recv.proofs.channels.Channels.take_number.Goals as goal
+use Rattle.pt_recv.proofs.channels.Channels.take_apart.Goals as goal
 use Rattle.pt_value.specs.declared.token.Token.TheVariants.{Int}
 
 pub index_mut-requires : goal.index_mut-requires
