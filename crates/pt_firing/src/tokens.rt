@@ -1,4 +1,4 @@
-ghost use Rattle.std.specs.Prelude.{◌≡◌, ◌↔◌, [], ◌∷◌, ◌++◌, length, is_ok, IsOk, IsTrue, IfOk, if◌then◌else◌};
+ghost use Rattle.std.specs.Prelude.{◌≡◌, ◌↔◌, [], ◌∷◌, ◌++◌, length, is_ok, IsOk, IsTrue, IfOk, IfSome, if◌then◌else◌};
 ghost use Rattle.pt_firing.specs.Tokens.{tokens_in};
 
 use pt_value::Token;
@@ -123,6 +123,20 @@ impl Tokens {
         ensures left { self.new ≡ [] }
     {
         mem::replace(self, Tokens::new())
+    }
+
+    /// The room of a list that has or had several tokens, emptied, leaving no token. `None` where it has no room.
+    pub fn take_room(&mut self) -> Option<Vec<Token>>
+        ensures room { IfSome result (λ room. room.items ≡ []) }
+        ensures left { self.new ≡ [] }
+    {
+        match mem::replace(&mut self.held, Held::Nothing) {
+            Held::Many(mut tokens) => {
+                tokens.clear();
+                Some(tokens)
+            }
+            Held::Nothing | Held::One(_) => None,
+        }
     }
 
     pub(crate) fn into_held(self) -> Held

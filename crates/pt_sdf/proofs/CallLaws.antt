@@ -220,11 +220,11 @@ module _ (p : SdfPlan) (needs order room offsets : List ℕ) (feeds : List (Vec 
     finish-state tag = same-state _ _ refl refl refl (d ∙ ap (λ v. take v held ++ behind (map (λ n. turns * n) p.gives) (drop v held)) f) refl refl refl refl
 
 -- a child is asked for
-pub ask-state : (p : SdfPlan) (needs order : List ℕ) (first held held' lent lent' : Streams Token) (turns left place child o n : ℕ) (tag : Tag) (stage : declared.Stage) → o ≡ place_of p.net.places child → n ≡ get_or p.net.places child 0 → take n lent' ≡ firsts (take n (drop o needs)) (take n (drop o held)) →
+pub ask-state : (p : SdfPlan) (needs order : List ℕ) (first held held' lent lent' : Streams Token) (turns left place child o n : ℕ) (tag : Tag) (stage : declared.Stage) → o ≡ place_of p.net.places child → n ≡ get_or p.net.places child 0 → take n (drop o lent') ≡ firsts (take n (drop o needs)) (take n (drop o held)) →
     held' ≡ skip_at o (take n (drop o needs)) held → state_of p needs order first held' lent' turns left place tag (code.Asked child) ≡ asked child (state_of p needs order first held lent turns left place tag stage)
 ask-state p needs order first held held' lent lent' turns left place child o n tag stage a b l d =
-    let given : take (get_or p.net.places child 0) lent' ≡ firsts (take (get_or p.net.places child 0) (drop (place_of p.net.places child) needs)) (take (get_or p.net.places child 0) (drop (place_of p.net.places child) held)) =
-    ap (λ v. take v lent') (sym b) ∙ l ∙ ap₂ (λ x y. firsts (take y (drop x needs)) (take y (drop x held))) a b
+    let given : take (get_or p.net.places child 0) (drop (place_of p.net.places child) lent') ≡ firsts (take (get_or p.net.places child 0) (drop (place_of p.net.places child) needs)) (take (get_or p.net.places child 0) (drop (place_of p.net.places child) held)) =
+    sym (ap₂ (λ x y. take y (drop x lent')) a b) ∙ l ∙ ap₂ (λ x y. firsts (take y (drop x needs)) (take y (drop x held))) a b
     in
     same-state _ _ refl refl refl (d ∙ ap₂ (λ x y. skip_at x (take y (drop x needs)) held) a b) refl refl refl (ap (λ v. Asked child v) given)
 

@@ -14,13 +14,14 @@ use Rattle.pt_sdf.specs.declared.sdf.Stage as declared
 use Rattle.pt_sdf.specs.declared.sdf.Stage.TheVariants as code
 use Rattle.pt_sdf.specs.declared.sdf.Core.TheInside.{Inside}
 use Rattle.pt_sdf.specs.ByNeed.{place_of, skip_at}
-use Rattle.pt_sdf.specs.State.{Open, Idle, Closed, Allows, IsEnough, asked_child, asked, begun, after_told, closed}
+use Rattle.pt_sdf.specs.State.{Open, Idle, Closed, Allows, IsEnough, asked_child, lent_in, asked, begun, after_told, closed}
 use Rattle.pt_sdf.specs.Clauses.{State}
 use Rattle.pt_sdf.specs.Plan.{source_of, plan_of}
 use Rattle.pt_sdf.specs.Feeds.{target_of, put_back, allowed_by, AreThere, AreApart, MovesOnce}
 use Rattle.pt_sdf.specs.Rooms.{HasRoom, HaveRooms}
-use Rattle.pt_sdf.specs.Core.{state_of, state_in, left_at_first, place_behind, busy, Sound, IsSound}
+use Rattle.pt_sdf.specs.Core.{stage_of, state_of, state_in, left_at_first, place_behind, busy, Sound, IsSound}
 use Rattle.pt_sdf.proofs.Lists.{read-at, at-is}
+use Rattle.pt_sdf.proofs.NeedLaws.{part-fits}
 use Rattle.pt_sdf.proofs.SoundLaws.{child-there, offset-is, total-fits, enough, may-fire, ask-sound, stage-open, stage-idle, stage-closed, child-asked, told-there, told-firings, told-sound, told-kept, wrong-sound}
 use Rattle.pt_sdf.proofs.CallLaws.{whole-fired, row-apart, row-moves, row-there, child-ports, child-puts, own-ports, own-arrives, own-turns, begin-sound, begin-state, finish-sound, finish-state, ask-state, told-state, wrong-state}
 
@@ -66,8 +67,8 @@ module _ (i : Inside) (s : IsSound i) (g : i.stage ≡ code.Open) (l : 0 < i.lef
         let t = total-fits (plan_of i.plan) i.plan.needs i.plan.order.items i.plan.room i.offsets.items i.feeds.items i.first.lists i.channels.lists i.rooms.items i.lent.items i.staged.list i.turns i.left i.at i.stage s child asked-there in
         (omega (arith, t.0, asked-place, m), omega (arith, t.1, asked-place, m), omega (arith, t.2, asked-place, m))
 
-    pub asked-lists : n ≤ length i.lent.items
-    asked-lists = omega (arith, s.lists child asked-there, m)
+    pub asked-lists : o + n ≤ length i.lent.items
+    asked-lists = omega (arith, s.lists, part-fits i.plan.places child asked-there, asked-place, m)
 
     pub asked-enough : (k : ℕ) → k < n → get_or i.plan.needs (o + k) 0 ≤ length (get_or i.channels.lists (o + k) [])
     asked-enough k h =
@@ -88,7 +89,7 @@ module _ (i : Inside) (s : IsSound i) (g : i.stage ≡ code.Open) (l : 0 < i.lef
           (a ∙ ap₂ (λ x y. skip_at x (take y (drop x i.plan.needs)) i.channels.lists) asked-place m)
           (subst (λ v. (c : ℕ) → (c < v) ⊎ (v + get_or i.plan.places child 0 ≤ c) → get_or rooms' c None ≡ get_or i.rooms.items c None) asked-place (subst (λ v. (c : ℕ) → (c < o) ⊎ (o + v ≤ c) → get_or rooms' c None ≡ get_or i.rooms.items c None) m b)) r q
 
-      pub asked-state : take n lent' ≡ firsts (take n (drop o i.plan.needs)) (take n (drop o i.channels.lists)) →
+      pub asked-state : take n (drop o lent') ≡ firsts (take n (drop o i.plan.needs)) (take n (drop o i.channels.lists)) →
           state_of (plan_of i.plan) i.plan.needs i.plan.order.items i.first.lists held' lent' i.turns i.left i.at i.tag (code.Asked child) ≡ asked child (state_in i)
       asked-state b = ask-state (plan_of i.plan) i.plan.needs i.plan.order.items i.first.lists i.channels.lists held' i.lent.items lent' i.turns i.left i.at child o n i.tag i.stage asked-place m b a
 
@@ -179,6 +180,12 @@ module _ (i : Inside) (s : IsSound i) (child : ℕ) (g : i.stage ≡ code.Asked 
     told-fits =
         let t = total-fits (plan_of i.plan) i.plan.needs i.plan.order.items i.plan.room i.offsets.items i.feeds.items i.first.lists i.channels.lists i.rooms.items i.lent.items i.staged.list i.turns i.left i.at i.stage s child told-child in
         (omega (arith, t.1, told-place, m), omega (arith, t.2, told-place, m))
+
+    pub told-lists : o + n ≤ length i.lent.items
+    told-lists = omega (arith, s.lists, part-fits i.plan.places child told-child, told-place, m)
+
+    pub told-lent : lent_in (state_in i).stage ≡ take n (drop o i.lent.items)
+    told-lent = ap (λ v. lent_in (stage_of i.plan.places i.lent.items v)) g ∙ sym (ap₂ (λ x y. take y (drop x i.lent.items)) told-place m)
 
     pub told-rooms : (rooms' : List (Option (Vec Token Global))) → HaveRooms i.plan.needs rooms' o n → HaveRooms i.plan.needs rooms' (place_of i.plan.places child) (get_or i.plan.places child 0)
     told-rooms rooms' h = subst (λ v. HaveRooms i.plan.needs rooms' v (get_or i.plan.places child 0)) told-place (subst (λ v. HaveRooms i.plan.needs rooms' o v) m h)

@@ -97,7 +97,7 @@ fired-never w o (q ∷ qs) (p ∷ ps) e h = ap₂ (λ k v. k ∷ v) (ap (λ v. w
 
 -- a core that begins
 pub start-sound : (p : SdfPlan) (needs order room offsets : List ℕ) (feeds : List (Vec Feed Global)) (first : Streams Token) (rooms : List (Option (Vec Token Global))) (lent : Streams Token) (staged : List Token) → IsLawful p needs order room first → offsets ≡ begins 0 p.net.places → AreFeeds (length p.net.places) p.net.sources feeds →
-    length rooms ≡ length needs → HaveRooms needs rooms 0 (length needs) → ((i : ℕ) → i < length p.net.places → get_or p.net.places i 0 ≤ length lent) → staged ≡ [] → Sound p needs order room offsets feeds first first rooms lent staged 0 0 0 code.Idle
+    length rooms ≡ length needs → HaveRooms needs rooms 0 (length needs) → length lent ≡ total p.net.places → staged ≡ [] → Sound p needs order room offsets feeds first first rooms lent staged 0 0 0 code.Idle
 start-sound p needs order room offsets feeds first rooms lent staged l o f n r w g = record {
   lawful = l;
   places_begin = o;
@@ -289,7 +289,7 @@ module _ (p : SdfPlan) (needs order room offsets : List ℕ) (feeds : List (Vec 
     rooms_counted = n ∙ s.rooms_counted;
     roomy = λ i k h b z.
         subst (λ v. HasRoom (get_or needs (place_of p.net.places i + k) 0) v) (sym (r (place_of p.net.places i + k) (places-apart p.net.places child i k there h b (λ q. z (ap (λ v. Some v) (sym q)))))) (s.roomy i k h b (λ q. absurd (cc)));
-    lists = λ i h. subst (λ v. get_or p.net.places i 0 ≤ v) (sym m) (s.lists i h);
+    lists = m ∙ s.lists;
     none_staged = s.none_staged;
   }
 

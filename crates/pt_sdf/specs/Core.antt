@@ -1,5 +1,5 @@
 -- The fields of a core, and the state that contracts see.
-use Rattle.std.specs.Prelude.{◌≡◌, ℕ, suc, ◌+◌, ◌-◌, ◌*◌, ◌<◌, ◌≤◌, List, [], ◌∷◌, length, take, get_or, set, Bool, true, false, Option, Some, None, Vec}
+use Rattle.std.specs.Prelude.{◌≡◌, ℕ, suc, ◌+◌, ◌-◌, ◌*◌, ◌<◌, ◌≤◌, List, [], ◌∷◌, length, take, drop, get_or, set, Bool, true, false, Option, Some, None, Vec}
 use Rattle.std.specs.Global.{Global}
 use Rattle.pt_meaning.specs.Tag.{Tag}
 use Rattle.pt_meaning.specs.Streams.{Streams, at}
@@ -18,11 +18,11 @@ use Rattle.pt_sdf.specs.Lawful.{occurs, rate_at, IsLawful}
 use Rattle.pt_sdf.specs.Feeds.{AreFeeds}
 use Rattle.pt_sdf.specs.Rooms.{HasRoom}
 
--- the stage, where the places of the asked child have their tokens at the front of the lent lists
+-- the stage, where the places of the asked child have their tokens in their lent lists
 abbrev pub stage_of : (places : List ℕ) → Streams Token → declared.Stage → Stage Token
 stage_of places lent code.Idle = Idle
 stage_of places lent code.Open = Open
-stage_of places lent (code.Asked child) = Asked child (take (get_or places child 0) lent)
+stage_of places lent (code.Asked child) = Asked child (take (get_or places child 0) (drop (place_of places child) lent))
 stage_of places lent (code.Wrong child) = Wrong child
 stage_of places lent code.Closed = Closed
 
@@ -114,7 +114,7 @@ pub record Sound (p : SdfPlan) (needs order room offsets : List ℕ) (feeds : Li
   pub level : AreLevel p needs first held turns (taken_by (busy stage) (fired_from (turns - left) (take at order) 0 p.repetitions)) (fired_from (turns - left) (take at order) 0 p.repetitions)
   pub rooms_counted : length rooms ≡ total p.net.places
   pub roomy : HaveRoom p.net.places needs rooms (busy stage)
-  pub lists : (i : ℕ) → i < length p.net.places → get_or p.net.places i 0 ≤ length lent
+  pub lists : length lent ≡ total p.net.places
   pub none_staged : staged ≡ []
 
 abbrev pub IsSound : Inside → Type 0

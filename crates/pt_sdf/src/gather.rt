@@ -1,4 +1,4 @@
-ghost use Rattle.std.specs.Prelude.{◌≡◌, ℕ, ◌+◌, ◌^◌, ◌<◌, ◌≤◌, ◌⊎◌, ◌++◌, [], ◌∷◌, length, take, drop, get_or, slice_set, None, vec_len, vec_capacity};
+ghost use Rattle.std.specs.Prelude.{◌≡◌, ℕ, ◌+◌, ◌^◌, ◌<◌, ◌≤◌, ◌⊎◌, ◌++◌, [], ◌∷◌, length, take, drop, get_or, slice_set, Some, None, IfSome, vec_len, vec_capacity};
 ghost use Rattle.pt_value.specs.declared.token.Token.TheVariants.{Int};
 ghost use Rattle.pt_recv.specs.Lines.{list_at, popped};
 ghost use Rattle.pt_meaning.specs.Kahn.{firsts};
@@ -61,13 +61,25 @@ fn take_one(channels: &mut Channels, c: u32, n: usize) -> Tokens
     }
 }
 
-/// Takes what `n` places from this one on need, and lends it: the lists of these places are then the first ones.
+/// Places from one on, up to another.
+#[derive(Clone, Copy, Debug)]
+pub(crate) struct Span {
+    pub(crate) from: usize,
+    pub(crate) to: usize,
+}
+
+impl Span {
+    /// No place.
+    pub(crate) const NONE: Span = Span { from: 0, to: 0 };
+}
+
+/// Takes what `n` places from this one on need, and lends it in the lists of these places.
 #[inline(always)]
 pub(crate) fn gather(
     channels: &mut Channels,
     rooms: &mut Vec<Option<Vec<Token>>>,
     lent: &mut Vec<Tokens>,
-    heavy: &mut usize,
+    heavy: &mut Span,
     needs: &[usize],
     from: usize,
     n: usize,
@@ -76,16 +88,17 @@ pub(crate) fn gather(
     requires places { from + n ≤ length channels.old.lists }
     requires needed { from + n ≤ length needs.now }
     requires roomy { from + n ≤ length rooms.old.items }
-    requires lists { n ≤ length lent.old.items }
+    requires lists { from + n ≤ length lent.old.items }
     requires enough { (k : ℕ) → k < n → get_or needs.now (from + k) 0 ≤ length (list_at channels.old.lists (from + k)) }
     requires room { HaveRooms needs.now rooms.old.items from n }
-    ensures lent { take n lent.new.items ≡ firsts (take n (drop from needs.now)) (take n (drop from channels.old.lists)) }
+    ensures lent { take n (drop from lent.new.items) ≡ firsts (take n (drop from needs.now)) (take n (drop from channels.old.lists)) }
     ensures left { channels.new.lists ≡ skip_at from (take n (drop from needs.now)) channels.old.lists }
     ensures others { (c : ℕ) → (c < from) ⊎ (from + n ≤ c) → get_or rooms.new.items c None ≡ get_or rooms.old.items c None }
     ensures rooms { length rooms.new.items ≡ length rooms.old.items }
     ensures counted { length lent.new.items ≡ length lent.old.items }
 {
     lighten(lent, heavy);
+    let all = Span { from, to: from + n };
     if n == 1 {
         // The common case, which needs no walk.
         lend(
@@ -93,9 +106,9 @@ pub(crate) fn gather(
             from as u32,
             needs[from],
             &mut rooms[from],
-            &mut lent[0],
+            &mut lent[from],
             heavy,
-            1,
+            all,
         );
         return;
     }
@@ -106,31 +119,31 @@ pub(crate) fn gather(
             c as u32,
             needs[c],
             &mut rooms[c],
-            &mut lent[k],
+            &mut lent[c],
             heavy,
-            k + 1,
+            all,
         );
     }
 }
 
 /// Lets go of what was lent before, where it isn't numbers alone.
 #[inline(always)]
-fn lighten(lent: &mut Vec<Tokens>, heavy: &mut usize)
+fn lighten(lent: &mut Vec<Tokens>, heavy: &mut Span)
     ensures { length lent.new.items ≡ length lent.old.items }
 {
-    if *heavy > 0 {
+    if heavy.from < heavy.to {
         clear(lent, *heavy);
-        *heavy = 0;
+        *heavy = Span::NONE;
     }
 }
 
-/// Lets go of what was lent at the first `n` places.
+/// Lets go of what was lent at these places, and keeps the room for it.
 #[inline(never)]
-fn clear(lent: &mut Vec<Tokens>, n: usize)
+fn clear(lent: &mut Vec<Tokens>, span: Span)
     ensures { length lent.new.items ≡ length lent.old.items }
 {
-    for k in 0..n.min(lent.len()) {
-        lent[k] = Tokens::new();
+    for c in span.from..span.to.min(lent.len()) {
+        lent[c].clear();
     }
 }
 
@@ -143,7 +156,7 @@ fn set_number(place: &mut Tokens, number: i64)
 }
 
 /// Lends the first `n` tokens of a channel, in place of what was lent before. A single number is the common case, and is written in place.
-/// Where it is anything else, the first `count` places are heavy.
+/// Where it is anything else, all places of its child are heavy.
 #[inline(always)]
 fn lend(
     channels: &mut Channels,
@@ -151,8 +164,8 @@ fn lend(
     n: usize,
     room: &mut Option<Vec<Token>>,
     place: &mut Tokens,
-    heavy: &mut usize,
-    count: usize,
+    heavy: &mut Span,
+    all: Span,
 )
     requires given { c < length channels.old.lists }
     requires enough { n ≤ length (list_at channels.old.lists c) }
@@ -166,7 +179,7 @@ fn lend(
             return;
         }
     }
-    *heavy = count;
+    *heavy = all;
     lend_any(channels, c, n, room, place);
 }
 
@@ -185,19 +198,23 @@ fn lend_any(
     ensures taken { place.new ≡ take n (list_at channels.old.lists c) }
     ensures lists { channels.new.lists ≡ slice_set channels.old.lists c (drop n (list_at channels.old.lists c)) }
 {
-    *place = take_needed(channels, c, n, room);
+    if n < 2 {
+        *place = take_one(channels, c, n);
+        return;
+    }
+    *place = match room_again(place, n) {
+        Some(tokens) => take_first(channels, c, n, Some(tokens)),
+        None => take_first(channels, c, n, room.take()),
+    };
 }
 
-/// Takes the first `n` tokens of a channel. The room for them is used where there is more than one.
-fn take_needed(channels: &mut Channels, c: u32, n: usize, room: &mut Option<Vec<Token>>) -> Tokens
-    requires given { c < length channels.old.lists }
-    requires enough { n ≤ length (list_at channels.old.lists c) }
-    requires room { HasRoom n room.old }
-    ensures taken { result ≡ take n (list_at channels.old.lists c) }
-    ensures lists { channels.new.lists ≡ slice_set channels.old.lists c (drop n (list_at channels.old.lists c)) }
+/// The room that was lent at this place before, where it is enough for so many tokens.
+fn room_again(place: &mut Tokens, n: usize) -> Option<Vec<Token>>
+    ensures { IfSome result (λ room. HasRoom n (Some room)) }
 {
-    if n < 2 {
-        return take_one(channels, c, n);
+    let room = place.take_room()?;
+    if room.capacity() < n {
+        return None;
     }
-    take_first(channels, c, n, room.take())
+    Some(room)
 }

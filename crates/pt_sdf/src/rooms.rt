@@ -1,4 +1,4 @@
-ghost use Rattle.std.specs.Prelude.{◌≡◌, ℕ, ◌+◌, ◌<◌, ◌≤◌, length, get_or, IfOk, OnOk, None};
+ghost use Rattle.std.specs.Prelude.{◌≡◌, ℕ, ◌+◌, ◌<◌, ◌≤◌, length, get_or, IfOk, OnOk, IsTrue, None};
 ghost use Rattle.pt_sdf.specs.Rooms.{HasRoom, HaveRooms};
 
 use pt_value::Token;
@@ -75,6 +75,19 @@ fn refill(alloc: Global, room: &mut Option<Vec<Token>>, n: usize) -> Result<(), 
     ensures kept { HasRoom n room.old → HasRoom n room.new }
     ensures made { OnOk result (HasRoom n room.new) }
 {
+    if has_room(room, n) {
+        return Ok(());
+    }
     *room = room_for(alloc, n)?;
     Ok(())
+}
+
+/// Whether room for so many tokens is there.
+fn has_room(room: &Option<Vec<Token>>, n: usize) -> bool
+    ensures { IsTrue result → HasRoom n room.now }
+{
+    match room {
+        Some(tokens) => n <= tokens.capacity() && tokens.is_empty(),
+        None => n < 2,
+    }
 }

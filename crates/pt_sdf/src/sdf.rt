@@ -1,7 +1,7 @@
 ghost use Rattle.std.specs.Prelude.{◌≡◌, ◌↔◌, ◌<◌, length, IfOk, IsTrue, OnOk, OnErr, Option, Some, List};
 
 use crate::feeds::{Feed, feeds_of};
-use crate::gather::gather;
+use crate::gather::{Span, gather};
 use crate::number::{is_one, scatter_number};
 use crate::outlets::hand_out;
 use crate::plan::CorePlan;
@@ -43,11 +43,12 @@ pub struct Core {
     feeds: Vec<Vec<Feed>>,
     first: Channels,
     channels: Channels,
-    // Room for the tokens of each place of each child that needs several.
+    // Room for the tokens of each place of each child that needs several, until the first firing of the child lends it.
     rooms: Vec<Option<Vec<Token>>>,
+    // What was lent last at each place of each child.
     lent: Vec<Tokens>,
-    // At so many of the first places something else than a number may have been lent, which is to be let go of.
-    heavy: usize,
+    // At these places something else than a number may be lent, which is to be let go of.
+    heavy: Span,
     staged: Queue,
     tag: Tag,
     turns: usize,
@@ -97,8 +98,8 @@ impl Core {
             feeds: feeds_of(alloc, &plan)?,
             channels: first.copy(alloc)?,
             rooms: rooms_for(alloc, plan.needs.as_slice())?,
-            lent: empty_lists(alloc, plan.places.as_slice())?,
-            heavy: 0,
+            lent: empty_lists(alloc, plan.needs.as_slice().len())?,
+            heavy: Span::NONE,
             staged: Queue::new(alloc),
             tag: ORIGIN,
             turns: 0,
@@ -179,9 +180,11 @@ impl Core {
         ensures { result ≡ lent_in self.now.stage }
     {
         match self.stage {
-            Stage::Asked(child) => Inputs::of(
-                &self.lent[..self.plan.places.as_slice()[child as usize]],
-            ),
+            Stage::Asked(child) => {
+                let from = self.offsets[child as usize];
+                let n = self.plan.places.as_slice()[child as usize];
+                Inputs::of(&self.lent[from..from + n])
+            }
             Stage::Idle | Stage::Open | Stage::Wrong(_) | Stage::Closed => Inputs::of(&[]),
         }
     }

@@ -22,13 +22,12 @@ pub(crate) fn offsets_of(alloc: Global, places: &[usize]) -> Result<Vec<usize>, 
     Ok(offsets)
 }
 
-/// As many empty lists as the child with most places has.
-pub(crate) fn empty_lists(alloc: Global, places: &[usize]) -> Result<Vec<Tokens>, AllocError>
-    ensures { IfOk result (λ lists. (i : ℕ) → i < length places.now → get_or places.now i 0 ≤ length lists.items) }
+/// So many empty lists.
+pub(crate) fn empty_lists(alloc: Global, n: usize) -> Result<Vec<Tokens>, AllocError>
+    ensures { IfOk result (λ lists. length lists.items ≡ n) }
 {
-    let most = places.iter().copied().max().unwrap_or(0);
-    let mut lists = Vec::with_capacity(alloc, most)?;
-    for _ in 0..most {
+    let mut lists = Vec::with_capacity(alloc, n)?;
+    for _ in 0..n {
         lists.push_reserved(Tokens::new());
     }
     Ok(lists)

@@ -1,5 +1,5 @@
-use Rattle.std.proofs.Common.{◌≡◌, ℕ, ◌+◌, ◌<◌, ◌≤◌, ◌⊎◌, inl, inr, [], length, take, drop, get_or, set, None, refl, sym, ◌∙◌, subst, arith, length-set, length-drop}
-use Rattle.std.proofs.lemmas.List.{take_more_set, get_or-set_other, get_or-drop}
+use Rattle.std.proofs.Common.{◌≡◌, ℕ, ◌+◌, ◌<◌, ◌≤◌, ◌⊎◌, inl, inr, [], length, take, drop, get_or, set, None, refl, ap, sym, ◌∙◌, subst, arith, length-set, length-drop}
+use Rattle.std.proofs.lemmas.List.{drop-set-add, take_more_set, get_or-set_other, get_or-drop}
 use Rattle.pt_sdf.specs.ByNeed.{skip_at}
 use Rattle.pt_sdf.proofs.Lists.{skip-zero, taken-long, next-list, next-left, next-taken}
 use Rattle.pt_sdf.proofs.gather.gather.Goals as goal
@@ -32,12 +32,13 @@ loop-k-preserved c =
     let n : get_or c.args.needs.now (c.args.from + k) 0 ≡ get_or (drop c.args.from c.args.needs.now) k 0 = sym (get_or-drop c.args.from c.args.needs.now k 0) in
     record {
       lent =
-          take_more_set c.loop-k.lent.items k c.lend-in-loop-k.new.place (omega (arith, c.requires.lists, c.loop-k-test.true, c.loop-k.invariant.counted)) ∙
+          ap (λ v. take (k + 1) v) (drop-set-add c.args.from c.loop-k.lent.items k c.lend-in-loop-k.new.place) ∙
+          take_more_set (drop c.args.from c.loop-k.lent.items) k c.lend-in-loop-k.new.place (omega (arith, c.requires.lists, c.loop-k-test.true, c.loop-k.invariant.counted, length-drop c.args.from c.loop-k.lent.items)) ∙
           next-taken c.loop-k.channels.lists c.args.channels.now.lists c.args.from c.loop-k.k (drop c.args.from c.args.needs.now) c.loop-k.invariant.left _ _ _ h l n c.lend-in-loop-k.ensures.taken c.loop-k.invariant.lent;
       left = next-left c.loop-k.channels.lists c.args.channels.now.lists c.args.from c.loop-k.k (drop c.args.from c.args.needs.now) c.loop-k.invariant.left _ _ h l n c.lend-in-loop-k.ensures.lists;
       others = λ c' b. get_or-set_other c.loop-k.rooms.items (c.args.from + k) c' c.lend-in-loop-k.new.room None (λ e. apart c.args.from k c' b e) ∙ c.loop-k.invariant.others c' (wider c.args.from k c' b);
       rooms = length-set c.loop-k.rooms.items (c.args.from + k) c.lend-in-loop-k.new.room ∙ c.loop-k.invariant.rooms;
-      counted = length-set c.loop-k.lent.items k c.lend-in-loop-k.new.place ∙ c.loop-k.invariant.counted;
+      counted = length-set c.loop-k.lent.items (c.args.from + k) c.lend-in-loop-k.new.place ∙ c.loop-k.invariant.counted;
     }
   where
     apart : (o k c : ℕ) → (c < o) ⊎ (o + (k + 1) ≤ c) → c ≡ o + k → ⊥

@@ -3,4 +3,4 @@ use Rattle.std.specs.Vec.{vec_len, vec_capacity}
 use Rattle.pt_sdf.proofs.tables.empty_lists.Given as goal
 
 abbrev pub invariant-loop : goal.invariant-loop
-invariant-loop l = (vec_len l.lists ≡ l.counter) × (l.most ≤ vec_capacity l.lists)
+invariant-loop l = (vec_len l.lists ≡ l.counter) × (l.n ≤ vec_capacity l.lists)

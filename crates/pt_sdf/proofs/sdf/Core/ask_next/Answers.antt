@@ -5,7 +5,7 @@ use Rattle.pt_sdf.specs.State.{Allows, IsEnough, in_stage, asked, Closed}
 use Rattle.pt_sdf.specs.Clauses.{State}
 use Rattle.pt_sdf.specs.Rooms.{HaveRooms}
 use Rattle.pt_sdf.proofs.SoundLaws.{begins-long}
-use Rattle.pt_sdf.proofs.CoreLaws.{is-open, enough-fired, asked-there, asked-fits, asked-enough, asked-rooms, asked-sound, asked-state, asked-allowed}
+use Rattle.pt_sdf.proofs.CoreLaws.{is-open, enough-fired, asked-there, asked-fits, asked-lists, asked-enough, asked-rooms, asked-sound, asked-state, asked-allowed}
 use Rattle.pt_sdf.proofs.sdf.Core.ask_next.Goals as goal
 
 pub returns-then-self-eq0 : goal.returns-then-self-eq0
@@ -32,6 +32,10 @@ gather-requires-clause-needed c =
 pub gather-requires-clause-roomy : goal.gather-requires-clause-roomy
 gather-requires-clause-roomy c =
     (asked-fits c.self.inside c.self.invariant (is-open c.self.inside c.args.self.now c.self.view_is c.requires) (omega (arith, c.if-self-eq0.false)) c.index-child.result.now c.index-child.ensures c.index-from.result.now _ c.index-from.ensures (ap (λ v. get_or v c.index-child.result.now 0) c.as_slice.ensures)).2
+
+pub gather-requires-clause-lists : goal.gather-requires-clause-lists
+gather-requires-clause-lists c =
+    asked-lists c.self.inside c.self.invariant (is-open c.self.inside c.args.self.now c.self.view_is c.requires) (omega (arith, c.if-self-eq0.false)) c.index-child.result.now c.index-child.ensures c.index-from.result.now _ c.index-from.ensures (ap (λ v. get_or v c.index-child.result.now 0) c.as_slice.ensures)
 
 pub gather-requires-clause-enough : goal.gather-requires-clause-enough
 gather-requires-clause-enough c k h =

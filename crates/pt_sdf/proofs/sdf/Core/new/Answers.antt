@@ -18,7 +18,7 @@ invariant_of-result c =
     (start-sound (plan_of c.args.plan) c.args.plan.needs c.args.plan.order.items c.args.plan.room c.in_ok-offsets_of.field-0.items c.in_ok-feeds_of.field-0.items c.args.first.lists c.in_ok-rooms_for.field-0.items c.in_ok-empty_lists.field-0.items c.new.result.list c.requires.lawful
     (c.in_ok-offsets_of.ensures ∙ ap (λ v. begins 0 v) c.as_slice-2.ensures) c.in_ok-feeds_of.ensures (c.in_ok-rooms_for.ensures.counted ∙ ap (λ v. length v) c.as_slice-3.ensures)
     (subst (λ v. HaveRooms v c.in_ok-rooms_for.field-0.items 0 (length v)) c.as_slice-3.ensures c.in_ok-rooms_for.ensures.made)
-    (λ i h. subst (λ v. i < length v → get_or v i 0 ≤ length c.in_ok-empty_lists.field-0.items) c.as_slice-4.ensures (c.in_ok-empty_lists.ensures i) h) c.new.ensures))
+    (c.in_ok-empty_lists.ensures ∙ ap (λ v. length v) c.as_slice-4.ensures ∙ c.requires.lawful.needed) c.new.ensures))
 
 pub returns : goal.returns
 returns c = new-state (plan_of c.args.plan) c.args.plan.needs c.args.plan.order.items c.args.first.lists c.make_ready.new.channels.lists c.in_ok-copy.field-0.lists c.in_ok-empty_lists.field-0.items c.make_ready.ensures (ap (λ (l : Lines Token). l.lists) c.in_ok-copy.ensures ∙ c.make_ready.ensures) c.requires.lawful.repetitions
