@@ -19,9 +19,10 @@ use Rattle.pt_sdf.specs.declared.plan.CorePlan.{CorePlan}
 use Rattle.pt_sdf.specs.Plan.{source_of, plan_of, IsSamePlan}
 use Rattle.pt_sdf.specs.Clauses.{State}
 use Rattle.pt_sdf.specs.Lawful.{occurs, IsNamed}
-use Rattle.pt_sdf.specs.Feeds.{row_of, port_of, targets, target_of, rows_in, put_back, allowed_by, AreFeeds, AreThere, AreApart, MovesOnce}
+use Rattle.pt_sdf.specs.Feeds.{Target, row_of, port_of, targets, target_of, rows_in, put_back, allowed_by, AreFeeds, AreThere, AreApart, MovesOnce}
 use Rattle.pt_sdf.specs.Rooms.{HasRoom, HaveRooms}
-use Rattle.pt_sdf.specs.Core.{fired_from, state_of, begins, left_at_first, busy, taken_by, StageFits, IsPosition, IsLevel, AreLevel, HaveRoom, Sound}
+use Rattle.pt_sdf.specs.Lanes.{begins}
+use Rattle.pt_sdf.specs.Core.{fired_from, state_of, left_at_first, busy, taken_by, StageFits, IsPosition, IsLevel, AreLevel, HaveRoom, Sound}
 use Rattle.pt_sdf.proofs.Lists.{at-is, skip-before, skip-long}
 use Rattle.pt_sdf.proofs.NeedLaws.{part-fits, skip-behind}
 use Rattle.pt_sdf.proofs.FeedLaws.{IsWithin, put-back-is, row-puts, row-arrives, allow-is, feeds-there, feeds-apart}
@@ -92,6 +93,15 @@ module _ (p : SdfPlan) (needs order room offsets : List ℕ) (feeds : List (Vec 
   pub child-puts : (child : ℕ) (row : Vec Feed Global) (out held' : Streams Token) → child < length p.net.places → row ≡ get_or feeds child row → held' ≡ put_back (map target_of row.items) out held → held' ≡ plus held (puts child out p.net.sources)
   child-puts child row out held' c e d =
       d ∙ ap (λ v. put_back v out held) (row-targets child row (omega (arith, c)) e) ∙ put-back-is (length p.net.places) child out p.net.sources held (sym s.counted) ∙ ap (λ v. plus held v) (row-puts (length p.net.places) child out p.net.sources c)
+
+  -- the same by the targets of its row
+  pub child-puts-on : (child : ℕ) (ts : List Target) (out held' : Streams Token) → child < length p.net.places → map target_of (get_or (rows_in feeds) child []) ≡ ts → held' ≡ put_back ts out held → held' ≡ plus held (puts child out p.net.sources)
+  child-puts-on child ts out held' c e d =
+      d ∙ ap (λ v. put_back v out held) (sym e ∙ s.fed.targets.each child (omega (arith, c))) ∙ put-back-is (length p.net.places) child out p.net.sources held (sym s.counted) ∙ ap (λ v. plus held v) (row-puts (length p.net.places) child out p.net.sources c)
+
+  pub child-feeds-there : (child : ℕ) (out : Streams Token) → child < length p.net.places → has_rates (get_or p.rates child []) out ≡ true → AreThere (length held) (length out) (get_or (rows_in feeds) child [])
+  child-feeds-there child out c r =
+      feeds-there (length p.net.places) child (get_or (rows_in feeds) child []) p.net.sources (s.fed.targets.each child (omega (arith, c))) (length held) (length out) (omega (arith, s.counted)) (child-ports child out c r)
 
   -- the own inputs
   pub own-ports : {T : Type 0} (inputs : Streams T) → length inputs ≡ length p.takes → (x : ℕ) (d : Source) → x < length p.net.sources → row_of (length p.net.places) (get_or p.net.sources x d) ≡ length p.net.places → port_of (get_or p.net.sources x d) < length inputs

@@ -2,6 +2,7 @@ pub mod CallLaws
 pub mod ChainLaws
 pub mod CoreLaws
 pub mod FeedLaws
+pub mod LaneLaws
 pub mod LevelLaws
 pub mod Lists
 pub mod MarkLaws

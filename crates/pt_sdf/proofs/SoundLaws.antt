@@ -22,7 +22,8 @@ use Rattle.pt_sdf.specs.State.{Idle, Open, Closed, Allows, asked_child}
 use Rattle.pt_sdf.specs.Lawful.{occurs, IsNamed, IsLawful}
 use Rattle.pt_sdf.specs.Feeds.{AreFeeds}
 use Rattle.pt_sdf.specs.Rooms.{HasRoom, HaveRooms}
-use Rattle.pt_sdf.specs.Core.{stage_of, fired_from, state_of, place_behind, begins, busy, taken_by, IsPosition, IsLevel, AreLevel, Sound}
+use Rattle.pt_sdf.specs.Lanes.{begins}
+use Rattle.pt_sdf.specs.Core.{stage_of, fired_from, state_of, place_behind, busy, taken_by, IsPosition, IsLevel, AreLevel, Sound}
 use Rattle.pt_sdf.proofs.Lists.{read-at, at-is, skip-untouched, skip-before, skip-there, skip-long}
 use Rattle.pt_sdf.proofs.NeedLaws.{allows, part-fits, length-part, get-part}
 use Rattle.pt_sdf.proofs.FeedLaws.{IsWithin}
@@ -277,7 +278,7 @@ module _ (p : SdfPlan) (needs order room offsets : List ℕ) (feeds : List (Vec 
       (level-own k (subst (λ j. k < get_or p.net.places j 0) z b))) (λ z. level-other i k h b z) (cases_eq i child)
 
   pub ask-sound : (held' : Streams Token) (rooms' : List (Option (Vec Token Global))) (lent' : Streams Token) → held' ≡ skip_at (place_of p.net.places child) (take (get_or p.net.places child 0) (drop (place_of p.net.places child) needs)) held →
-      ((c : ℕ) → (c < place_of p.net.places child) ⊎ (place_of p.net.places child + get_or p.net.places child 0 ≤ c) → get_or rooms' c None ≡ get_or rooms c None) → length rooms' ≡ length rooms → length lent' ≡ length lent →
+      ((c : ℕ) → (c < place_of p.net.places child) ⊎ (place_of p.net.places child + get_or p.net.places child 0 ≤ c) ⊎ (get_or needs c 0 ≤ 1) → get_or rooms' c None ≡ get_or rooms c None) → length rooms' ≡ length rooms → length lent' ≡ length lent →
       Sound p needs order room offsets feeds first held' rooms' lent' staged turns left place (code.Asked child)
   ask-sound held' rooms' lent' d r n m = record {
     lawful = s.lawful;
@@ -288,10 +289,16 @@ module _ (p : SdfPlan) (needs order room offsets : List ℕ) (feeds : List (Vec 
     level = subst (λ v. AreLevel p needs first v turns firings' firings) (sym d) level-asked;
     rooms_counted = n ∙ s.rooms_counted;
     roomy = λ i k h b z.
-        subst (λ v. HasRoom (get_or needs (place_of p.net.places i + k) 0) v) (sym (r (place_of p.net.places i + k) (places-apart p.net.places child i k there h b (λ q. z (ap (λ v. Some v) (sym q)))))) (s.roomy i k h b (λ q. absurd (cc)));
+        subst (λ v. HasRoom (get_or needs (place_of p.net.places i + k) 0) v)
+        (sym (r (place_of p.net.places i + k) (⊎_elim (λ q. inr (inr (z (ap (λ v. Some v) (sym q))))) (λ q. apart (places-apart p.net.places child i k there h b q)) (cases_eq i child))))
+        (s.roomy i k h b (λ q. absurd (cc)));
     lists = m ∙ s.lists;
     none_staged = s.none_staged;
   }
+    where
+      apart : {A B C : Type 0} → A ⊎ B → A ⊎ B ⊎ C
+      apart (inl a) = inl a
+      apart (inr b) = inr (inl b)
 
 -- child x was told what it gave
 module _ (p : SdfPlan) (needs order room offsets : List ℕ) (feeds : List (Vec Feed Global)) (first held : Streams Token) (rooms : List (Option (Vec Token Global))) (lent : Streams Token) (staged : List Token) (turns left place child : ℕ) (s : Sound p needs order room offsets feeds first held rooms lent staged turns left place (code.Asked child)) where
@@ -365,7 +372,7 @@ module _ (p : SdfPlan) (needs order room offsets : List ℕ) (feeds : List (Vec 
     position = subst (λ (v : ℕ × ℕ). IsPosition order turns v.0 v.1 code.Open) (sym e) (position-by (nat_eq (place + 1) (length order)) refl);
     level = subst (λ v. AreLevel p needs first held' turns v v) (sym (told-firings next e)) (subst (λ v. AreLevel p needs first v turns (set firings-told child (get_or firings-told child 0 + 1)) (set firings-told child (get_or firings-told child 0 + 1))) (sym d) (level-of out r));
     rooms_counted = n ∙ s.rooms_counted;
-    roomy = λ i k h b z. ⊎_elim (λ q. subst (λ j. HasRoom (get_or needs (place_of p.net.places j + k) 0) (get_or rooms' (place_of p.net.places j + k) None)) (sym q) (made k (subst (λ j. k < get_or p.net.places j 0) q b))) (λ q. kept (place_of p.net.places i + k) (s.roomy i k h b (λ w. q (some-same child i w)))) (cases_eq i child);
+    roomy = λ i k h b z. ⊎_elim (λ q. subst (λ j. HasRoom (get_or needs (place_of p.net.places j + k) 0) (get_or rooms' (place_of p.net.places j + k) None)) (sym q) (made k (subst (λ j. k < get_or p.net.places j 0) q b))) (λ q. kept (place_of p.net.places i + k) (s.roomy i k h b (λ w. absurd (q (some-same child i w))))) (cases_eq i child);
     lists = s.lists;
     none_staged = g;
   }

@@ -4,7 +4,7 @@ use Rattle.std.proofs.lemmas.Bool.Decides.{nat_tests}
 use Rattle.pt_meaning.specs.Streams.{Streams, at}
 use Rattle.pt_meaning.specs.Rounds.{has_rates}
 use Rattle.pt_meaning.specs.Running.{total}
-use Rattle.pt_sdf.specs.Core.{begins}
+use Rattle.pt_sdf.specs.Lanes.{begins}
 
 begins-next : (o : ℕ) (ps : List ℕ) (k : ℕ) → k < length ps → begins o (take (suc k) ps) ≡ begins o (take k ps) ++ (o + total (take k ps)) ∷ []
 begins-next o [] k h = absurd (omega arith)

@@ -17,6 +17,7 @@ use Rattle.pt_sdf.specs.Plan.{plan_of}
 use Rattle.pt_sdf.specs.Lawful.{occurs, rate_at, IsLawful}
 use Rattle.pt_sdf.specs.Feeds.{AreFeeds}
 use Rattle.pt_sdf.specs.Rooms.{HasRoom}
+use Rattle.pt_sdf.specs.Lanes.{begins, AreLanes}
 
 -- the stage, where the places of the asked child have their tokens in their lent lists
 abbrev pub stage_of : (places : List ℕ) → Streams Token → declared.Stage → Stage Token
@@ -57,11 +58,6 @@ abbrev pub place_behind : (is_last : Bool) → (left at : ℕ) → ℕ × ℕ
 place_behind true left at = (left - 1, 0)
 place_behind false left at = (left, at + 1)
 
--- where the places of each child begin
-abbrev pub begins : ℕ → List ℕ → List ℕ
-begins o [] = []
-begins o (p ∷ ps) = o ∷ begins (o + p) ps
-
 -- the child that was asked for last, where its firing isn't done
 abbrev pub busy : declared.Stage → Option ℕ
 busy code.Idle = None
@@ -99,10 +95,10 @@ AreLevel p needs first held turns taken fired =
     (i k : ℕ) → i < length p.net.places → k < get_or p.net.places i 0 →
     IsLevel p turns (length (at first (place_of p.net.places i + k))) (length (at held (place_of p.net.places i + k))) (get_or needs (place_of p.net.places i + k) 0) i taken fired (get_or p.net.sources (place_of p.net.places i + k) (Own 0))
 
--- each place has its room, but for those of the child whose firing isn't done
+-- each place has its room, but for those that need several tokens of the child whose firing isn't done
 abbrev pub HaveRoom : (places needs : List ℕ) → List (Option (Vec Token Global)) → Option ℕ → Type 0
 HaveRoom places needs rooms child =
-    (i k : ℕ) → i < length places → k < get_or places i 0 → (child ≡ Some i → ⊥) → HasRoom (get_or needs (place_of places i + k) 0) (get_or rooms (place_of places i + k) None)
+    (i k : ℕ) → i < length places → k < get_or places i 0 → (child ≡ Some i → get_or needs (place_of places i + k) 0 ≤ 1) → HasRoom (get_or needs (place_of places i + k) 0) (get_or rooms (place_of places i + k) None)
 
 -- what a core keeps
 pub record Sound (p : SdfPlan) (needs order room offsets : List ℕ) (feeds : List (Vec Feed Global)) (first held : Streams Token) (rooms : List (Option (Vec Token Global))) (lent : Streams Token) (staged : List Token) (turns left at : ℕ) (stage : declared.Stage) : Type 0 where
@@ -119,4 +115,9 @@ pub record Sound (p : SdfPlan) (needs order room offsets : List ℕ) (feeds : Li
 
 abbrev pub IsSound : Inside → Type 0
 IsSound c =
-    Sound (plan_of c.plan) c.plan.needs c.plan.order.items c.plan.room c.offsets.items c.feeds.items c.first.lists c.channels.lists c.rooms.items c.lent.items c.staged.list c.turns c.left c.at c.stage
+    Sound (plan_of c.plan) c.plan.needs c.plan.order.items c.plan.room c.tables.offsets.items c.tables.feeds.items c.first.lists c.channels.lists c.rooms.items c.lent.items c.staged.list c.turns c.left c.at c.stage
+
+-- and what is simple of its children
+pub record IsWhole (c : Inside) : Type 0 where
+  pub sound : IsSound c
+  pub lanes : AreLanes c.plan.places c.plan.needs c.plan.rates.items c.tables.feeds.items c.tables.lanes.items

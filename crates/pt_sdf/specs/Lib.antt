@@ -6,5 +6,6 @@ pub mod Plan
 pub mod Lawful
 pub mod Feeds
 pub mod Rooms
+pub mod Lanes
 pub mod Core
 pub mod Chain

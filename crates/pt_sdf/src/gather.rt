@@ -1,4 +1,4 @@
-ghost use Rattle.std.specs.Prelude.{◌≡◌, ℕ, ◌+◌, ◌^◌, ◌<◌, ◌≤◌, ◌⊎◌, ◌++◌, [], ◌∷◌, length, take, drop, get_or, slice_set, Some, None, IfSome, vec_len, vec_capacity};
+ghost use Rattle.std.specs.Prelude.{◌≡◌, ℕ, ◌+◌, ◌^◌, ◌<◌, ◌≤◌, ◌⊎◌, ◌++◌, [], ◌∷◌, length, take, drop, get_or, slice_set, Some, None, IfSome, true, false, vec_len, vec_capacity};
 ghost use Rattle.pt_value.specs.declared.token.Token.TheVariants.{Int};
 ghost use Rattle.pt_recv.specs.Lines.{list_at, popped};
 ghost use Rattle.pt_meaning.specs.Kahn.{firsts};
@@ -93,7 +93,7 @@ pub(crate) fn gather(
     requires room { HaveRooms needs.now rooms.old.items from n }
     ensures lent { take n (drop from lent.new.items) ≡ firsts (take n (drop from needs.now)) (take n (drop from channels.old.lists)) }
     ensures left { channels.new.lists ≡ skip_at from (take n (drop from needs.now)) channels.old.lists }
-    ensures others { (c : ℕ) → (c < from) ⊎ (from + n ≤ c) → get_or rooms.new.items c None ≡ get_or rooms.old.items c None }
+    ensures others { (c : ℕ) → (c < from) ⊎ (from + n ≤ c) ⊎ (get_or needs.now c 0 ≤ 1) → get_or rooms.new.items c None ≡ get_or rooms.old.items c None }
     ensures rooms { length rooms.new.items ≡ length rooms.old.items }
     ensures counted { length lent.new.items ≡ length lent.old.items }
 {
@@ -126,9 +126,26 @@ pub(crate) fn gather(
     }
 }
 
+/// Lends the first token of a channel at its place, where it is a number. False: nothing was lent.
+#[inline(always)]
+pub(crate) fn lend_number(channels: &mut Channels, lent: &mut Vec<Tokens>, c: u32) -> bool
+    requires given { c < length channels.old.lists }
+    requires place { c < length lent.old.items }
+    ensures lent { result ≡ true → lent.new.items ≡ slice_set lent.old.items c (take 1 (list_at channels.old.lists c)) }
+    ensures left { result ≡ true → channels.new.lists ≡ slice_set channels.old.lists c (drop 1 (list_at channels.old.lists c)) }
+    ensures lists { result ≡ false → channels.new.lists ≡ channels.old.lists }
+    ensures others { result ≡ false → lent.new.items ≡ lent.old.items }
+{
+    let Some(number) = channels.take_number(c) else {
+        return false;
+    };
+    set_number(&mut lent[c as usize], number);
+    true
+}
+
 /// Lets go of what was lent before, where it isn't numbers alone.
 #[inline(always)]
-fn lighten(lent: &mut Vec<Tokens>, heavy: &mut Span)
+pub(crate) fn lighten(lent: &mut Vec<Tokens>, heavy: &mut Span)
     ensures { length lent.new.items ≡ length lent.old.items }
 {
     if heavy.from < heavy.to {
@@ -171,6 +188,7 @@ fn lend(
     requires enough { n ≤ length (list_at channels.old.lists c) }
     requires room { HasRoom n room.old }
     ensures taken { place.new ≡ take n (list_at channels.old.lists c) }
+    ensures room { n ≤ 1 → room.new ≡ room.old }
     ensures lists { channels.new.lists ≡ slice_set channels.old.lists c (drop n (list_at channels.old.lists c)) }
 {
     if n == 1 {
@@ -196,6 +214,7 @@ fn lend_any(
     requires enough { n ≤ length (list_at channels.old.lists c) }
     requires room { HasRoom n room.old }
     ensures taken { place.new ≡ take n (list_at channels.old.lists c) }
+    ensures room { n ≤ 1 → room.new ≡ room.old }
     ensures lists { channels.new.lists ≡ slice_set channels.old.lists c (drop n (list_at channels.old.lists c)) }
 {
     if n < 2 {

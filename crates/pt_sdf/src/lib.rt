@@ -4,6 +4,7 @@
 mod chain;
 mod feeds;
 mod gather;
+mod lanes;
 mod number;
 mod outlets;
 mod plan;

@@ -4,8 +4,10 @@ ghost use Rattle.pt_value.specs.declared.token.Token.TheVariants.{Int};
 ghost use Rattle.pt_recv.specs.Lines.{spare_at, pushed};
 ghost use Rattle.pt_meaning.specs.Rounds.{has_rates};
 ghost use Rattle.pt_sdf.specs.Feeds.{no_feed, target_of, put_back, AreThere, AreApart};
+ghost use Rattle.pt_sdf.specs.Lanes.{targets_of, IsOutletIn};
 
 use crate::feeds::Feed;
+use crate::lanes::Outlet;
 use pt_recv::Channels;
 use std::alloc::AllocError;
 
@@ -36,7 +38,23 @@ pub(crate) fn scatter_number(
     Ok(())
 }
 
-/// Puts the number on the channel of a row that feeds no other: the common case, which needs no walk.
+/// Puts a number on the channel that an outlet feeds, if it feeds one. After an `Err` the channels are as before.
+#[inline(always)]
+pub(crate) fn put_on_outlet(
+    channels: &mut Channels,
+    outlet: Outlet,
+    number: i64,
+) -> Result<(), AllocError>
+    requires { IsOutletIn (length channels.old.lists) outlet }
+    ensures { channels.new.lists ≡ (if is_ok result then put_back (targets_of outlet) ((Int number ∷ []) ∷ []) channels.old.lists else channels.old.lists) }
+{
+    match outlet {
+        Outlet::One(c) => put_on_one(channels, c, number),
+        Outlet::Nothing | Outlet::Several => Ok(()),
+    }
+}
+
+/// Puts a number on a channel. After an `Err` the channels are as before.
 #[inline(always)]
 fn put_on_one(channels: &mut Channels, c: u32, number: i64) -> Result<(), AllocError>
     requires { c < length channels.old.lists }

@@ -1,14 +1,13 @@
 ghost use Rattle.std.specs.Prelude.{◌≡◌, ◌↔◌, ◌<◌, length, IfOk, IsTrue, OnOk, OnErr, Option, Some, List};
 
-use crate::feeds::{Feed, feeds_of};
-use crate::gather::{Span, gather};
-use crate::number::{is_one, scatter_number};
+use crate::gather::{Span, gather, lend_number, lighten};
+use crate::number::{is_one, put_on_outlet, scatter_number};
 use crate::outlets::hand_out;
 use crate::plan::CorePlan;
 use crate::rooms::{fill_rooms, rooms_for};
 use crate::scatter::{copies_of, scatter};
 use crate::tables::{
-    copies_of_lists, empty_lists, fits_rates, make_ready, offsets_of, place_after, turns_of,
+    Tables, copies_of_lists, empty_lists, fits_rates, make_ready, place_after, turns_of,
 };
 use crate::turns::iterations;
 use pt_firing::{Ask, Counts, Inputs, Outputs, RunFault, Tokens};
@@ -17,6 +16,7 @@ use pt_time::Tag;
 use pt_value::Token;
 use std::alloc::{AllocError, Global};
 use std::marker::Model;
+use std::slice;
 
 /// The tag of a core that hasn't begun.
 const ORIGIN: Tag = Tag { time: 0, step: 0 };
@@ -37,10 +37,7 @@ pub(crate) enum Stage {
 #[derive(Drop)]
 pub struct Core {
     plan: CorePlan,
-    // Where the places of each child begin.
-    offsets: Vec<usize>,
-    // The channels that each child feeds, and those that the own inputs feed.
-    feeds: Vec<Vec<Feed>>,
+    tables: Tables,
     first: Channels,
     channels: Channels,
     // Room for the tokens of each place of each child that needs several, until the first firing of the child lends it.
@@ -67,11 +64,11 @@ impl Model for Core {
 
     ghost coded = { coded_state coded_token };
 
-    ghost use Rattle.pt_sdf.specs.Core.{state_in, IsSound};
+    ghost use Rattle.pt_sdf.specs.Core.{state_in, IsWhole};
 
     ghost view = { state_in };
 
-    ghost invariant = { IsSound };
+    ghost invariant = { IsWhole };
 }
 
 impl Core {
@@ -94,8 +91,7 @@ impl Core {
         let mut first = first;
         make_ready(&mut first, plan.room.as_slice())?;
         Ok(Core {
-            offsets: offsets_of(alloc, plan.places.as_slice())?,
-            feeds: feeds_of(alloc, &plan)?,
+            tables: Tables::of(alloc, &plan)?,
             channels: first.copy(alloc)?,
             rooms: rooms_for(alloc, plan.needs.as_slice())?,
             lent: empty_lists(alloc, plan.needs.as_slice().len())?,
@@ -119,7 +115,7 @@ impl Core {
         ensures kept { OnErr result (self.new ≡ self.old) }
     {
         let arrived = copies_of(alloc, inputs)?;
-        let arrivals = &self.feeds[self.plan.places.len()];
+        let arrivals = &self.tables.feeds[self.plan.places.len()];
         scatter(
             alloc,
             &mut self.channels,
@@ -148,8 +144,28 @@ impl Core {
         }
     }
 
+    // A child with one place that needs one number there is the common case, and needs no walk.
     #[inline(always)]
     fn ask_next(&mut self) -> Ask
+        requires { self.old.stage ≡ Open }
+        ensures { IsAsked self.old result self.new }
+    {
+        if self.left > 0 {
+            let child = self.plan.order[self.at];
+            if let Some(c) = self.tables.lanes[child as usize].inlet {
+                lighten(&mut self.lent, &mut self.heavy);
+                if lend_number(&mut self.channels, &mut self.lent, c) {
+                    self.stage = Stage::Asked(child);
+                    return Ask::Fire(child, self.tag);
+                }
+            }
+        }
+        self.ask_any()
+    }
+
+    // The same for a child of any kind, or where there is none to ask for.
+    #[inline(never)]
+    fn ask_any(&mut self) -> Ask
         requires { self.old.stage ≡ Open }
         ensures { IsAsked self.old result self.new }
     {
@@ -158,7 +174,7 @@ impl Core {
             return Ask::Finished;
         }
         let child = self.plan.order[self.at];
-        let from = self.offsets[child as usize];
+        let from = self.tables.offsets[child as usize];
         let n = self.plan.places.as_slice()[child as usize];
         gather(
             &mut self.channels,
@@ -181,7 +197,10 @@ impl Core {
     {
         match self.stage {
             Stage::Asked(child) => {
-                let from = self.offsets[child as usize];
+                if let Some(c) = self.tables.lanes[child as usize].inlet {
+                    return Inputs::of(slice::from_ref(&self.lent[c as usize]));
+                }
+                let from = self.tables.offsets[child as usize];
                 let n = self.plan.places.as_slice()[child as usize];
                 Inputs::of(&self.lent[from..from + n])
             }
@@ -200,14 +219,14 @@ impl Core {
             self.stage = Stage::Wrong(child);
             return Ok(());
         }
-        let from = self.offsets[i];
+        let from = self.tables.offsets[i];
         let n = self.plan.places.as_slice()[i];
         fill_rooms(alloc, &mut self.rooms, self.plan.needs.as_slice(), from, n)?;
         scatter(
             alloc,
             &mut self.channels,
             &mut self.staged,
-            &self.feeds[i],
+            &self.tables.feeds[i],
             outputs,
         )?;
         (self.left, self.at) = place_after(self.plan.order.len(), self.left, self.at);
@@ -222,15 +241,32 @@ impl Core {
         ensures told { OnOk result (self.new ≡ after_told child ((Int number ∷ []) ∷ []) self.old) }
         ensures kept { OnErr result (self.new ≡ self.old) }
     {
+        let outlet = self.tables.lanes[child as usize].outlet;
+        if outlet.is_several() {
+            return self.told_any_number(alloc, child, number);
+        }
+        put_on_outlet(&mut self.channels, outlet, number)?;
+        (self.left, self.at) = place_after(self.plan.order.len(), self.left, self.at);
+        self.stage = Stage::Open;
+        Ok(())
+    }
+
+    // The same for a child that feeds several channels, needs several tokens, or gives other numbers of them.
+    #[inline(never)]
+    fn told_any_number(&mut self, alloc: Global, child: u32, number: i64) -> Result<(), AllocError>
+        requires asked { asked_child self.old.stage ≡ Some child }
+        ensures told { OnOk result (self.new ≡ after_told child ((Int number ∷ []) ∷ []) self.old) }
+        ensures kept { OnErr result (self.new ≡ self.old) }
+    {
         let i = child as usize;
         if !is_one(self.plan.rates[i].as_slice()) {
             self.stage = Stage::Wrong(child);
             return Ok(());
         }
-        let from = self.offsets[i];
+        let from = self.tables.offsets[i];
         let n = self.plan.places.as_slice()[i];
         fill_rooms(alloc, &mut self.rooms, self.plan.needs.as_slice(), from, n)?;
-        scatter_number(&mut self.channels, &self.feeds[i], number)?;
+        scatter_number(&mut self.channels, &self.tables.feeds[i], number)?;
         (self.left, self.at) = place_after(self.plan.order.len(), self.left, self.at);
         self.stage = Stage::Open;
         Ok(())
@@ -284,8 +320,7 @@ impl Core {
     {
         let plan = self.plan.copy(alloc)?;
         Ok(Core {
-            offsets: offsets_of(alloc, plan.places.as_slice())?,
-            feeds: feeds_of(alloc, &plan)?,
+            tables: Tables::of(alloc, &plan)?,
             first: self.first.copy(alloc)?,
             channels: self.channels.copy(alloc)?,
             rooms: rooms_for(alloc, plan.needs.as_slice())?,

@@ -1,13 +1,57 @@
 ghost use Rattle.std.specs.Prelude.{◌≡◌, ℕ, ◌^◌, ◌<◌, ◌≤◌, length, get_or, IfOk, nat_eq, ◌+◌};
 ghost use Rattle.pt_meaning.specs.Rounds.{has_rates};
-ghost use Rattle.pt_sdf.specs.Core.{begins, left_at_first, place_behind};
+ghost use Rattle.pt_meaning.specs.Running.{total};
+ghost use Rattle.pt_sdf.specs.Core.{left_at_first, place_behind};
+ghost use Rattle.pt_sdf.specs.Lanes.{begins, AreTables};
 
+use crate::feeds::{Feed, feeds_of};
+use crate::lanes::{Lane, lanes_of};
+use crate::plan::CorePlan;
 use pt_firing::{Outputs, Tokens};
 use pt_recv::Channels;
 use std::alloc::{AllocError, Global};
 
+/// What is worked out of a plan once.
+#[derive(Drop)]
+pub(crate) struct Tables {
+    /// Where the places of each child begin.
+    pub(crate) offsets: Vec<usize>,
+    /// The channels that each child feeds, and behind them those that the own inputs feed.
+    pub(crate) feeds: Vec<Vec<Feed>>,
+    /// What is simple of each child.
+    pub(crate) lanes: Vec<Lane>,
+}
+
+impl Tables {
+    pub(crate) fn of(alloc: Global, plan: &CorePlan) -> Result<Tables, AllocError>
+        requires few { length plan.now.sources.items < 2 ^ 32 }
+        requires rates { length plan.now.rates.items ≡ length plan.now.places }
+        requires needed { length plan.now.needs ≡ total plan.now.places }
+        requires channels { total plan.now.places ≤ length plan.now.sources.items }
+        requires children { length plan.now.places < usize.MAX }
+        ensures { IfOk result (AreTables plan.now) }
+    {
+        let places = plan.places.as_slice();
+        let offsets = offsets_of(alloc, places)?;
+        let feeds = feeds_of(alloc, plan)?;
+        let lanes = lanes_of(
+            alloc,
+            places,
+            plan.needs.as_slice(),
+            &plan.rates,
+            &offsets,
+            &feeds,
+        )?;
+        Ok(Tables {
+            offsets,
+            feeds,
+            lanes,
+        })
+    }
+}
+
 /// Where the places of each child begin. `places` has so many in all that their number is in range.
-pub(crate) fn offsets_of(alloc: Global, places: &[usize]) -> Result<Vec<usize>, AllocError>
+fn offsets_of(alloc: Global, places: &[usize]) -> Result<Vec<usize>, AllocError>
     ensures { IfOk result (λ offsets. offsets.items ≡ begins 0 places.now) }
 {
     let mut offsets = Vec::with_capacity(alloc, places.len())?;

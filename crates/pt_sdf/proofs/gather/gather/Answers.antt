@@ -1,7 +1,9 @@
-use Rattle.std.proofs.Common.{◌≡◌, ℕ, ◌+◌, ◌<◌, ◌≤◌, ◌⊎◌, inl, inr, [], length, take, drop, get_or, set, None, refl, ap, sym, ◌∙◌, subst, arith, length-set, length-drop}
-use Rattle.std.proofs.lemmas.List.{drop-set-add, take_more_set, get_or-set_other, get_or-drop}
+use Rattle.std.proofs.Common.{◌≡◌, ℕ, ◌+◌, ◌<◌, ◌≤◌, ◌⊎◌, inl, inr, ⊎_elim, [], length, take, drop, get_or, set, Option, None, Vec, Global, refl, ap, sym, ◌∙◌, subst, arith, length-set, length-drop}
+use Rattle.std.proofs.lemmas.List.{drop-set-add, take_more_set, get_or-set_same, get_or-set_other, get_or-drop}
+use Rattle.std.proofs.lemmas.Bool.{cases_eq}
+use Rattle.pt_value.specs.declared.token.Token.{Token}
 use Rattle.pt_sdf.specs.ByNeed.{skip_at}
-use Rattle.pt_sdf.proofs.Lists.{skip-zero, taken-long, next-list, next-left, next-taken}
+use Rattle.pt_sdf.proofs.Lists.{read-at, skip-zero, taken-long, next-list, next-left, next-taken}
 use Rattle.pt_sdf.proofs.gather.gather.Goals as goal
 
 pub returns-then-n-eq1-clause-left : goal.returns-then-n-eq1-clause-left
@@ -36,15 +38,28 @@ loop-k-preserved c =
           take_more_set (drop c.args.from c.loop-k.lent.items) k c.lend-in-loop-k.new.place (omega (arith, c.requires.lists, c.loop-k-test.true, c.loop-k.invariant.counted, length-drop c.args.from c.loop-k.lent.items)) ∙
           next-taken c.loop-k.channels.lists c.args.channels.now.lists c.args.from c.loop-k.k (drop c.args.from c.args.needs.now) c.loop-k.invariant.left _ _ _ h l n c.lend-in-loop-k.ensures.taken c.loop-k.invariant.lent;
       left = next-left c.loop-k.channels.lists c.args.channels.now.lists c.args.from c.loop-k.k (drop c.args.from c.args.needs.now) c.loop-k.invariant.left _ _ h l n c.lend-in-loop-k.ensures.lists;
-      others = λ c' b. get_or-set_other c.loop-k.rooms.items (c.args.from + k) c' c.lend-in-loop-k.new.room None (λ e. apart c.args.from k c' b e) ∙ c.loop-k.invariant.others c' (wider c.args.from k c' b);
+      others = λ c' b.
+          let at : ℕ = c.args.from + k in
+          let old : Option (Vec Token Global) = c.index_mut-in-loop-k.result.now in
+          let fits : at < length c.loop-k.rooms.items = omega (arith, c.requires.roomy, c.loop-k-test.true, c.loop-k.invariant.rooms) in
+          ⊎_elim
+          (λ e.
+          let few = small c.args.from k c' (get_or c.args.needs.now c' 0) b e in
+          ap (λ v. get_or (set c.loop-k.rooms.items at c.lend-in-loop-k.new.room) v None) e ∙ get_or-set_same c.loop-k.rooms.items at c.lend-in-loop-k.new.room None fits ∙
+          c.lend-in-loop-k.ensures.room (subst (λ v. get_or c.args.needs.now v 0 ≤ 1) e few) ∙ read-at c.loop-k.rooms.items at old None fits c.index_mut-in-loop-k.ensures.value ∙
+          ap (λ v. get_or c.loop-k.rooms.items v None) (sym e) ∙ c.loop-k.invariant.others c' (inr (inr few)))
+          (λ e. get_or-set_other c.loop-k.rooms.items at c' c.lend-in-loop-k.new.room None e ∙ c.loop-k.invariant.others c' (wider c.args.from k c' (get_or c.args.needs.now c' 0) b e))
+          (cases_eq c' at);
       rooms = length-set c.loop-k.rooms.items (c.args.from + k) c.lend-in-loop-k.new.room ∙ c.loop-k.invariant.rooms;
       counted = length-set c.loop-k.lent.items (c.args.from + k) c.lend-in-loop-k.new.place ∙ c.loop-k.invariant.counted;
     }
   where
-    apart : (o k c : ℕ) → (c < o) ⊎ (o + (k + 1) ≤ c) → c ≡ o + k → ⊥
-    apart o k c (inl h) e = omega arith
-    apart o k c (inr h) e = omega arith
+    small : (o k c n : ℕ) → (c < o) ⊎ (o + (k + 1) ≤ c) ⊎ (n ≤ 1) → c ≡ o + k → n ≤ 1
+    small o k c n (inl h) e = absurd (omega arith)
+    small o k c n (inr (inl h)) e = absurd (omega arith)
+    small o k c n (inr (inr h)) e = h
 
-    wider : (o k c : ℕ) → (c < o) ⊎ (o + (k + 1) ≤ c) → (c < o) ⊎ (o + k ≤ c)
-    wider o k c (inl h) = inl h
-    wider o k c (inr h) = inr (omega arith)
+    wider : (o k c n : ℕ) → (c < o) ⊎ (o + (k + 1) ≤ c) ⊎ (n ≤ 1) → (c ≡ o + k → ⊥) → (c < o) ⊎ (o + k ≤ c) ⊎ (n ≤ 1)
+    wider o k c n (inl h) e = inl h
+    wider o k c n (inr (inl h)) e = inr (inl (omega arith))
+    wider o k c n (inr (inr h)) e = inr (inr h)

@@ -1,7 +1,7 @@
 use Rattle.std.proofs.Common.{◌≡◌, length, take}
 use Rattle.std.specs.Vec.{vec_len, vec_capacity}
 use Rattle.pt_meaning.specs.Running.{total}
-use Rattle.pt_sdf.specs.Core.{begins}
+use Rattle.pt_sdf.specs.Lanes.{begins}
 use Rattle.pt_sdf.proofs.tables.offsets_of.Given as goal
 
 abbrev pub invariant-loop-n : goal.invariant-loop-n

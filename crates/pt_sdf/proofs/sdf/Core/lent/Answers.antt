@@ -3,34 +3,52 @@ use Rattle.pt_sdf.specs.State.{lent_in}
 use Rattle.pt_sdf.specs.Clauses.{State}
 use Rattle.pt_sdf.proofs.SoundLaws.{begins-long}
 use Rattle.pt_sdf.proofs.CoreLaws.{told-child, told-lists, told-lent}
+use Rattle.pt_sdf.proofs.LaneLaws.{inlet-of, lent-there, inlet-is}
 use Rattle.pt_sdf.proofs.sdf.Core.lent.Goals as goal
 
 pub index-from-requires : goal.index-from-requires
 index-from-requires c =
-    let h : c.in-Asked.child < length c.self.inside.plan.places = told-child c.self.inside c.self.invariant c.in-Asked.child c.in-Asked.is in
-    omega (arith, h, ap (λ v. length v) c.self.invariant.places_begin, c.self.inside.offsets.ok.0, begins-long 0 c.self.inside.plan.places)
+    let h : c.in-Asked.child < length c.self.inside.plan.places = told-child c.self.inside c.self.invariant.sound c.in-Asked.child c.in-Asked.is in
+    omega (arith, h, ap (λ v. length v) c.self.invariant.sound.places_begin, c.self.inside.tables.offsets.ok.0, begins-long 0 c.self.inside.plan.places)
 
 pub overflow_add-from : goal.overflow_add-from
 overflow_add-from c =
-    let l = told-lists c.self.inside c.self.invariant c.in-Asked.child c.in-Asked.is c.index-from.result.now _ c.index-from.ensures (ap (λ v. get_or v c.in-Asked.child 0) c.as_slice.ensures) in
+    let l = told-lists c.self.inside c.self.invariant.sound c.in-Asked.child c.in-Asked.is c.index-from.result.now _ c.index-from.ensures (ap (λ v. get_or v c.in-Asked.child 0) c.as_slice.ensures) in
     omega (arith, l, ap (λ v. length v) c.deref.ensures.value, c.deref.type_inv.0)
 
 pub offset_bounds-deref-from : goal.offset_bounds-deref-from
 offset_bounds-deref-from c =
-    let l = told-lists c.self.inside c.self.invariant c.in-Asked.child c.in-Asked.is c.index-from.result.now _ c.index-from.ensures (ap (λ v. get_or v c.in-Asked.child 0) c.as_slice.ensures) in
+    let l = told-lists c.self.inside c.self.invariant.sound c.in-Asked.child c.in-Asked.is c.index-from.result.now _ c.index-from.ensures (ap (λ v. get_or v c.in-Asked.child 0) c.as_slice.ensures) in
     omega (arith, l, ap (λ v. length v) c.deref.ensures.value, c.deref.type_inv.1)
 
 pub slice_bounds-of-end : goal.slice_bounds-of-end
 slice_bounds-of-end c =
-    let l = told-lists c.self.inside c.self.invariant c.in-Asked.child c.in-Asked.is c.index-from.result.now _ c.index-from.ensures (ap (λ v. get_or v c.in-Asked.child 0) c.as_slice.ensures) in
+    let l = told-lists c.self.inside c.self.invariant.sound c.in-Asked.child c.in-Asked.is c.index-from.result.now _ c.index-from.ensures (ap (λ v. get_or v c.in-Asked.child 0) c.as_slice.ensures) in
     omega (arith, l, ap (λ v. length v) c.deref.ensures.value)
 
-pub returns-in-Asked : goal.returns-in-Asked
-returns-in-Asked c =
+pub returns-in_default : goal.returns-in_default
+returns-in_default c =
     let n : ℕ = get_or c.as_slice.result.now c.in-Asked.child 0 in
-    c.of.ensures ∙ ap (λ v. take v (drop c.index-from.result.now c.deref.result.now)) (more c.index-from.result.now n) ∙ ap (λ v. take n (drop c.index-from.result.now v)) c.deref.ensures.value
-    ∙ sym (told-lent c.self.inside c.self.invariant c.in-Asked.child c.in-Asked.is c.index-from.result.now n c.index-from.ensures (ap (λ v. get_or v c.in-Asked.child 0) c.as_slice.ensures))
+    c.of-in-Asked.ensures ∙ ap (λ v. take v (drop c.index-from.result.now c.deref.result.now)) (more c.index-from.result.now n) ∙ ap (λ v. take n (drop c.index-from.result.now v)) c.deref.ensures.value
+    ∙ sym (told-lent c.self.inside c.self.invariant.sound c.in-Asked.child c.in-Asked.is c.index-from.result.now n c.index-from.ensures (ap (λ v. get_or v c.in-Asked.child 0) c.as_slice.ensures))
     ∙ ap (λ (s : State). lent_in s.stage) c.self.view_is
   where
     more : (o n : ℕ) → o + n - o ≡ n
     more o n = omega arith
+
+pub returns-in-Some : goal.returns-in-Some
+returns-in-Some c =
+    let h : c.in-Asked.child < length c.self.inside.plan.places = told-child c.self.inside c.self.invariant.sound c.in-Asked.child c.in-Asked.is in
+    let a = inlet-of c.self.inside c.self.invariant c.in-Asked.child h c.index.result.now c.index.ensures c.in-Some.c c.in-Some.is in
+    c.of.ensures ∙ c.from_ref.ensures.value ∙ inlet-is c.self.inside c.self.invariant.sound c.in-Asked.child c.in-Asked.is c.in-Some.c a c.index-in-Some.result.now c.index-in-Some.ensures ∙ ap (λ (s : State). lent_in s.stage) c.self.view_is
+
+pub index-requires-in-Some : goal.index-requires-in-Some
+index-requires-in-Some c =
+    let h : c.in-Asked.child < length c.self.inside.plan.places = told-child c.self.inside c.self.invariant.sound c.in-Asked.child c.in-Asked.is in
+    let a = inlet-of c.self.inside c.self.invariant c.in-Asked.child h c.index.result.now c.index.ensures c.in-Some.c c.in-Some.is in
+    omega (arith, lent-there c.self.inside c.self.invariant.sound c.in-Asked.child c.in-Asked.is c.in-Some.c a, c.self.inside.lent.ok.0)
+
+pub index-requires : goal.index-requires
+index-requires c =
+    let h : c.in-Asked.child < length c.self.inside.plan.places = told-child c.self.inside c.self.invariant.sound c.in-Asked.child c.in-Asked.is in
+    omega (arith, h, c.self.invariant.lanes.counted, c.self.inside.tables.lanes.ok.0)

@@ -11,64 +11,68 @@ use Rattle.pt_sdf.proofs.sdf.Core.told.Goals as goal
 
 pub index-from-requires : goal.index-from-requires
 index-from-requires c =
-    let h : c.args.child < length c.self.inside.plan.places = told-child c.self.inside c.self.invariant c.args.child (is-asked c.self.inside c.args.self.now c.args.child c.self.view_is c.requires.asked) in
-    omega (arith, h, ap (λ v. length v) c.self.invariant.places_begin, c.self.inside.offsets.ok.0, begins-long 0 c.self.inside.plan.places)
+    let h : c.args.child < length c.self.inside.plan.places = told-child c.self.inside c.self.invariant.sound c.args.child (is-asked c.self.inside c.args.self.now c.args.child c.self.view_is c.requires.asked) in
+    omega (arith, h, ap (λ v. length v) c.self.invariant.sound.places_begin, c.self.inside.tables.offsets.ok.0, begins-long 0 c.self.inside.plan.places)
 
 pub fill_rooms-requires-clause-places : goal.fill_rooms-requires-clause-places
 fill_rooms-requires-clause-places c =
-    (told-fits c.self.inside c.self.invariant c.args.child (is-asked c.self.inside c.args.self.now c.args.child c.self.view_is c.requires.asked) c.index-from.result.now _ c.index-from.ensures (ap (λ v. get_or v c.args.child 0) c.as_slice-2.ensures)).1
+    (told-fits c.self.inside c.self.invariant.sound c.args.child (is-asked c.self.inside c.args.self.now c.args.child c.self.view_is c.requires.asked) c.index-from.result.now _ c.index-from.ensures (ap (λ v. get_or v c.args.child 0) c.as_slice-2.ensures)).1
 
 pub fill_rooms-requires-clause-needed : goal.fill_rooms-requires-clause-needed
 fill_rooms-requires-clause-needed c =
     subst (λ v. c.index-from.result.now + get_or c.as_slice-2.result.now c.args.child 0 ≤ length v) (sym c.as_slice-3.ensures)
-    (told-fits c.self.inside c.self.invariant c.args.child (is-asked c.self.inside c.args.self.now c.args.child c.self.view_is c.requires.asked) c.index-from.result.now _ c.index-from.ensures (ap (λ v. get_or v c.args.child 0) c.as_slice-2.ensures)).0
+    (told-fits c.self.inside c.self.invariant.sound c.args.child (is-asked c.self.inside c.args.self.now c.args.child c.self.view_is c.requires.asked) c.index-from.result.now _ c.index-from.ensures (ap (λ v. get_or v c.args.child 0) c.as_slice-2.ensures)).0
 
 pub scatter-requires-clause-there : goal.scatter-requires-clause-there
 scatter-requires-clause-there c =
     let g = is-asked c.self.inside c.args.self.now c.args.child c.self.view_is c.requires.asked in
     let r : has_rates (get_or c.self.inside.plan.rates.items c.args.child []) c.args.outputs ≡ true =
-    ap (λ v. has_rates v c.args.outputs) (sym (c.as_slice.ensures ∙ rates-read c.self.inside c.self.invariant c.args.child c.index.result.now (told-child c.self.inside c.self.invariant c.args.child g) c.index.ensures)) ∙ sym c.fits_rates.ensures ∙ c.if-not-fits_rates.false
+    ap (λ v. has_rates v c.args.outputs) (sym (c.as_slice.ensures ∙ rates-read c.self.inside c.self.invariant.sound c.args.child c.index.result.now (told-child c.self.inside c.self.invariant.sound c.args.child g) c.index.ensures)) ∙ sym c.fits_rates.ensures ∙ c.if-not-fits_rates.false
     in
-    subst (λ v. AreThere (length c.self.inside.channels.lists) (length c.args.outputs) v) (sym c.deref.ensures.value) (told-into c.self.inside c.self.invariant c.args.child g c.args.outputs r c.index-2.result.now c.index-2.ensures)
+    subst (λ v. AreThere (length c.self.inside.channels.lists) (length c.args.outputs) v) (sym c.deref.ensures.value) (told-into c.self.inside c.self.invariant.sound c.args.child g c.args.outputs r c.index-2.result.now c.index-2.ensures)
 
 pub scatter-requires-clause-apart : goal.scatter-requires-clause-apart
 scatter-requires-clause-apart c =
     let g = is-asked c.self.inside c.args.self.now c.args.child c.self.view_is c.requires.asked in
     let r : has_rates (get_or c.self.inside.plan.rates.items c.args.child []) c.args.outputs ≡ true =
-    ap (λ v. has_rates v c.args.outputs) (sym (c.as_slice.ensures ∙ rates-read c.self.inside c.self.invariant c.args.child c.index.result.now (told-child c.self.inside c.self.invariant c.args.child g) c.index.ensures)) ∙ sym c.fits_rates.ensures ∙ c.if-not-fits_rates.false
+    ap (λ v. has_rates v c.args.outputs) (sym (c.as_slice.ensures ∙ rates-read c.self.inside c.self.invariant.sound c.args.child c.index.result.now (told-child c.self.inside c.self.invariant.sound c.args.child g) c.index.ensures)) ∙ sym c.fits_rates.ensures ∙ c.if-not-fits_rates.false
     in
-    subst (λ v. AreApart v) (sym c.deref.ensures.value) (told-apart c.self.inside c.self.invariant c.args.child g c.args.outputs r c.index-2.result.now c.index-2.ensures)
+    subst (λ v. AreApart v) (sym c.deref.ensures.value) (told-apart c.self.inside c.self.invariant.sound c.args.child g c.args.outputs r c.index-2.result.now c.index-2.ensures)
 
 pub scatter-requires-clause-moves : goal.scatter-requires-clause-moves
 scatter-requires-clause-moves c =
     let g = is-asked c.self.inside c.args.self.now c.args.child c.self.view_is c.requires.asked in
     let r : has_rates (get_or c.self.inside.plan.rates.items c.args.child []) c.args.outputs ≡ true =
-    ap (λ v. has_rates v c.args.outputs) (sym (c.as_slice.ensures ∙ rates-read c.self.inside c.self.invariant c.args.child c.index.result.now (told-child c.self.inside c.self.invariant c.args.child g) c.index.ensures)) ∙ sym c.fits_rates.ensures ∙ c.if-not-fits_rates.false
+    ap (λ v. has_rates v c.args.outputs) (sym (c.as_slice.ensures ∙ rates-read c.self.inside c.self.invariant.sound c.args.child c.index.result.now (told-child c.self.inside c.self.invariant.sound c.args.child g) c.index.ensures)) ∙ sym c.fits_rates.ensures ∙ c.if-not-fits_rates.false
     in
-    subst (λ v. MovesOnce v) (sym c.deref.ensures.value) (told-moves c.self.inside c.self.invariant c.args.child g c.args.outputs r c.index-2.result.now c.index-2.ensures)
+    subst (λ v. MovesOnce v) (sym c.deref.ensures.value) (told-moves c.self.inside c.self.invariant.sound c.args.child g c.args.outputs r c.index-2.result.now c.index-2.ensures)
 
 pub invariant_of-self-2 : goal.invariant_of-self-2
 invariant_of-self-2 c =
     let g = is-asked c.self.inside c.args.self.now c.args.child c.self.view_is c.requires.asked in
     let r : has_rates (get_or c.self.inside.plan.rates.items c.args.child []) c.args.outputs ≡ true =
-    ap (λ v. has_rates v c.args.outputs) (sym (c.as_slice.ensures ∙ rates-read c.self.inside c.self.invariant c.args.child c.index.result.now (told-child c.self.inside c.self.invariant c.args.child g) c.index.ensures)) ∙ sym c.fits_rates.ensures ∙ c.if-not-fits_rates.false
+    ap (λ v. has_rates v c.args.outputs) (sym (c.as_slice.ensures ∙ rates-read c.self.inside c.self.invariant.sound c.args.child c.index.result.now (told-child c.self.inside c.self.invariant.sound c.args.child g) c.index.ensures)) ∙ sym c.fits_rates.ensures ∙ c.if-not-fits_rates.false
     in
     let n : c.len.result ≡ length c.self.inside.plan.order.items = omega (arith, c.len.ensures, c.self.inside.plan.order.ok.0) in
-    told-goes-on c.self.inside c.self.invariant c.args.child g c.args.outputs r c.index-2.result.now c.index-2.ensures c.scatter.new.channels.lists
+    record {
+      sound =
+          told-goes-on c.self.inside c.self.invariant.sound c.args.child g c.args.outputs r c.index-2.result.now c.index-2.ensures c.scatter.new.channels.lists
     (c.in_ok-scatter.ensures.lists ∙ ap (λ v. put_back (map target_of v) c.args.outputs c.self.inside.channels.lists) c.deref.ensures.value) c.place_after.result
     (c.place_after.ensures ∙ ap (λ v. place_behind (nat_eq (c.self.inside.at + 1) v) c.self.inside.left c.self.inside.at) n) c.fill_rooms.new.rooms.items c.scatter.new.staged.list c.in_ok-scatter.ensures.empty c.in_ok-fill_rooms.ensures.counted
     (λ k. subst (λ v. HasRoom (get_or v k 0) (get_or c.self.inside.rooms.items k None) → HasRoom (get_or v k 0) (get_or c.fill_rooms.new.rooms.items k None)) c.as_slice-3.ensures (c.in_ok-fill_rooms.ensures.kept k))
-    (told-rooms c.self.inside c.self.invariant c.args.child g c.index-from.result.now (get_or c.as_slice-2.result.now c.args.child 0) c.index-from.ensures (ap (λ v. get_or v c.args.child 0) c.as_slice-2.ensures) c.fill_rooms.new.rooms.items
-    (subst (λ v. HaveRooms v c.fill_rooms.new.rooms.items c.index-from.result.now (get_or c.as_slice-2.result.now c.args.child 0)) c.as_slice-3.ensures c.in_ok-fill_rooms.ensures.made))
+    (told-rooms c.self.inside c.self.invariant.sound c.args.child g c.index-from.result.now (get_or c.as_slice-2.result.now c.args.child 0) c.index-from.ensures (ap (λ v. get_or v c.args.child 0) c.as_slice-2.ensures) c.fill_rooms.new.rooms.items
+    (subst (λ v. HaveRooms v c.fill_rooms.new.rooms.items c.index-from.result.now (get_or c.as_slice-2.result.now c.args.child 0)) c.as_slice-3.ensures c.in_ok-fill_rooms.ensures.made));
+      lanes = c.self.invariant.lanes;
+    }
 
 pub returns-clause-told : goal.returns-clause-told
 returns-clause-told c =
     let g = is-asked c.self.inside c.args.self.now c.args.child c.self.view_is c.requires.asked in
     let r : has_rates (get_or c.self.inside.plan.rates.items c.args.child []) c.args.outputs ≡ true =
-    ap (λ v. has_rates v c.args.outputs) (sym (c.as_slice.ensures ∙ rates-read c.self.inside c.self.invariant c.args.child c.index.result.now (told-child c.self.inside c.self.invariant c.args.child g) c.index.ensures)) ∙ sym c.fits_rates.ensures ∙ c.if-not-fits_rates.false
+    ap (λ v. has_rates v c.args.outputs) (sym (c.as_slice.ensures ∙ rates-read c.self.inside c.self.invariant.sound c.args.child c.index.result.now (told-child c.self.inside c.self.invariant.sound c.args.child g) c.index.ensures)) ∙ sym c.fits_rates.ensures ∙ c.if-not-fits_rates.false
     in
     let n : c.len.result ≡ length c.self.inside.plan.order.items = omega (arith, c.len.ensures, c.self.inside.plan.order.ok.0) in
-    told-is c.self.inside c.self.invariant c.args.child g c.args.outputs r c.index-2.result.now c.index-2.ensures c.scatter.new.channels.lists
+    told-is c.self.inside c.self.invariant.sound c.args.child g c.args.outputs r c.index-2.result.now c.index-2.ensures c.scatter.new.channels.lists
     (c.in_ok-scatter.ensures.lists ∙ ap (λ v. put_back (map target_of v) c.args.outputs c.self.inside.channels.lists) c.deref.ensures.value) c.place_after.result
     (c.place_after.ensures ∙ ap (λ v. place_behind (nat_eq (c.self.inside.at + 1) v) c.self.inside.left c.self.inside.at) n) ∙
     ap (λ (s : State). after_told c.args.child c.args.outputs s) c.self.view_is

@@ -1,0 +1,74 @@
+-- What is simple of the children of a plan, so that their firings need no walk.
+use Rattle.std.specs.Prelude.{◌≡◌, ℕ, ◌+◌, ◌<◌, ◌≤◌, Bool, true, false, List, [], ◌∷◌, length, map, get_or, None, IfSome, Vec}
+use Rattle.std.specs.Global.{Global}
+use Rattle.pt_sdf.specs.declared.feeds.Feed.{Feed}
+use Rattle.pt_sdf.specs.declared.lanes.Lane.{Lane}
+use Rattle.pt_sdf.specs.declared.lanes.Outlet.{Outlet}
+use Rattle.pt_sdf.specs.declared.lanes.Outlet.TheVariants.{Nothing, One, Several}
+use Rattle.pt_sdf.specs.declared.plan.CorePlan.{CorePlan}
+use Rattle.pt_sdf.specs.declared.tables.Tables.{Tables}
+use Rattle.pt_sdf.specs.ByNeed.{place_of}
+use Rattle.pt_sdf.specs.Plan.{source_of}
+use Rattle.pt_sdf.specs.Feeds.{Target, target_of, rows_in, AreFeeds}
+
+-- where the places of each child begin
+abbrev pub begins : ℕ → List ℕ → List ℕ
+begins o [] = []
+begins o (p ∷ ps) = o ∷ begins (o + p) ps
+
+-- none of the places of a child needs several tokens
+abbrev pub NeedsFew : (needs : List ℕ) → (from places : ℕ) → Type 0
+NeedsFew needs from places = (k : ℕ) → k < places → get_or needs (from + k) 0 ≤ 1
+
+-- the child has one place, and needs one token there
+pub record IsInlet (needs : List ℕ) (from places c : ℕ) : Type 0 where
+  pub place : c ≡ from
+  pub alone : places ≡ 1
+  pub need : get_or needs from 0 ≡ 1
+
+-- the child gives one token on its one port, and its port feeds these channels alone; none of its places needs several tokens
+pub record IsOutlet (needs : List ℕ) (from places : ℕ) (rates : List ℕ) (feeds : List Feed) (targets : List Target) : Type 0 where
+  pub rate : rates ≡ 1 ∷ []
+  pub fed : map target_of feeds ≡ targets
+  pub few : NeedsFew needs from places
+
+abbrev pub FitsOutlet : (needs : List ℕ) → (from places : ℕ) → (rates : List ℕ) → List Feed → Outlet → Type 0
+FitsOutlet needs from places rates feeds Nothing = IsOutlet needs from places rates feeds []
+FitsOutlet needs from places rates feeds (One c) = IsOutlet needs from places rates feeds (record { channel = c; port = 0 } ∷ [])
+FitsOutlet needs from places rates feeds Several = Unit {0}
+
+abbrev pub is_several : Outlet → Bool
+is_several Nothing = false
+is_several (One c) = false
+is_several Several = true
+
+-- what an outlet feeds
+abbrev pub targets_of : Outlet → List Target
+targets_of Nothing = []
+targets_of (One c) = record { channel = c; port = 0 } ∷ []
+targets_of Several = []
+
+-- its channel is one of so many
+abbrev pub IsOutletIn : (count : ℕ) → Outlet → Type 0
+IsOutletIn count Nothing = Unit {0}
+IsOutletIn count (One c) = c < count
+IsOutletIn count Several = Unit {0}
+
+-- what is told of a child is so
+pub record IsLane (needs : List ℕ) (from places : ℕ) (rates : List ℕ) (feeds : List Feed) (lane : Lane) : Type 0 where
+  pub inlet : IfSome lane.inlet (λ c. IsInlet needs from places c)
+  pub outlet : FitsOutlet needs from places rates feeds lane.outlet
+
+abbrev pub no_lane : Lane
+no_lane = record { inlet = None; outlet = Several }
+
+-- and of each of some children
+pub record AreLanes (places needs : List ℕ) (rates : List (List ℕ)) (feeds : List (Vec Feed Global)) (lanes : List Lane) : Type 0 where
+  pub counted : length lanes ≡ length places
+  pub each : (i : ℕ) → i < length places → IsLane needs (place_of places i) (get_or places i 0) (get_or rates i []) (get_or (rows_in feeds) i []) (get_or lanes i no_lane)
+
+-- what is worked out of a plan
+pub record AreTables (plan : CorePlan) (tables : Tables) : Type 0 where
+  pub begin : tables.offsets.items ≡ begins 0 plan.places
+  pub fed : AreFeeds (length plan.places) (map source_of plan.sources.items) tables.feeds.items
+  pub lanes : AreLanes plan.places plan.needs plan.rates.items tables.feeds.items tables.lanes.items

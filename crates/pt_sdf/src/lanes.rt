@@ -1,0 +1,124 @@
+ghost use Rattle.std.specs.Prelude.{◌≡◌, ℕ, ◌+◌, ◌^◌, ◌<◌, ◌≤◌, length, get_or, IfOk, IfSome, IsTrue};
+ghost use Rattle.pt_sdf.specs.ByNeed.{place_of};
+ghost use Rattle.pt_sdf.specs.Lanes.{NeedsFew, IsInlet, FitsOutlet, IsLane, AreLanes};
+
+use crate::feeds::Feed;
+use pt_firing::Counts;
+use std::alloc::{AllocError, Global};
+
+/// What is simple of a child, so that its firings need no walk over places and feeds.
+#[derive(Clone, Copy, Debug)]
+pub(crate) struct Lane {
+    /// The channel of its one place, where it has one and needs one token there.
+    pub(crate) inlet: Option<u32>,
+    pub(crate) outlet: Outlet,
+}
+
+/// What a child feeds that gives one token on its one port, and needs several at no place.
+#[derive(Clone, Copy, Debug)]
+pub(crate) enum Outlet {
+    Nothing,
+    One(u32),
+    /// Several channels, or it isn't such a child.
+    Several,
+}
+
+impl Outlet {
+    ghost use Rattle.std.specs.Prelude.{◌≡◌};
+    ghost use Rattle.pt_sdf.specs.Lanes.{is_several};
+
+    #[inline(always)]
+    pub(crate) fn is_several(self) -> bool
+        ensures { result ≡ is_several self }
+    {
+        matches!(self, Outlet::Several)
+    }
+}
+
+/// The lanes of children with these places, needs, rates and feeds, whose places begin at `offsets`.
+pub(crate) fn lanes_of(
+    alloc: Global,
+    places: &[usize],
+    needs: &[usize],
+    rates: &[Counts],
+    offsets: &[usize],
+    feeds: &[Vec<Feed>],
+) -> Result<Vec<Lane>, AllocError>
+    requires few { length needs.now < 2 ^ 32 }
+    requires offsets { (i : ℕ) → i < length places.now → get_or offsets.now i 0 ≡ place_of places.now i }
+    requires offsets_counted { length offsets.now ≡ length places.now }
+    requires rates_counted { length rates.now ≡ length places.now }
+    requires feeds_counted { length places.now < length feeds.now }
+    requires needed { (i : ℕ) → i < length places.now → place_of places.now i + get_or places.now i 0 ≤ length needs.now }
+    ensures { IfOk result (λ lanes. AreLanes places.now needs.now rates.now feeds.now lanes.items) }
+{
+    let mut lanes = Vec::with_capacity(alloc, places.len())?;
+    for i in 0..places.len() {
+        let lane = lane_of(
+            needs,
+            offsets[i],
+            places[i],
+            rates[i].as_slice(),
+            &feeds[i],
+        );
+        lanes.push_reserved(lane);
+    }
+    Ok(lanes)
+}
+
+/// The lane of a child whose places begin at `from`.
+fn lane_of(needs: &[usize], from: usize, places: usize, rates: &[usize], feeds: &[Feed]) -> Lane
+    requires few { length needs.now < 2 ^ 32 }
+    requires needed { from + places ≤ length needs.now }
+    ensures { IsLane needs.now from places rates.now feeds.now result }
+{
+    Lane {
+        inlet: inlet_of(needs, from, places),
+        outlet: outlet_of(needs, from, places, rates, feeds),
+    }
+}
+
+fn inlet_of(needs: &[usize], from: usize, places: usize) -> Option<u32>
+    requires few { length needs.now < 2 ^ 32 }
+    requires needed { from + places ≤ length needs.now }
+    ensures { IfSome result (λ c. IsInlet needs.now from places c) }
+{
+    if places == 1 && needs[from] == 1 {
+        Some(from as u32)
+    } else {
+        None
+    }
+}
+
+fn outlet_of(
+    needs: &[usize],
+    from: usize,
+    places: usize,
+    rates: &[usize],
+    feeds: &[Feed],
+) -> Outlet
+    requires needed { from + places ≤ length needs.now }
+    ensures { FitsOutlet needs.now from places rates.now feeds.now result }
+{
+    if !needs_few(needs, from, places) {
+        return Outlet::Several;
+    }
+    match (rates, feeds) {
+        ([1], []) => Outlet::Nothing,
+        ([1], [feed]) if feed.port == 0 => Outlet::One(feed.channel),
+        _ => Outlet::Several,
+    }
+}
+
+/// Whether none of the places needs several tokens.
+fn needs_few(needs: &[usize], from: usize, places: usize) -> bool
+    requires needed { from + places ≤ length needs.now }
+    ensures { IsTrue result → NeedsFew needs.now from places }
+{
+    for k in 0..places {
+        if needs[from + k] > 1 {
+            return false;
+        }
+    }
+    true
+}
