@@ -54,13 +54,7 @@ pub(crate) fn lanes_of(
 {
     let mut lanes = Vec::with_capacity(alloc, places.len())?;
     for i in 0..places.len() {
-        let lane = lane_of(
-            needs,
-            offsets[i],
-            places[i],
-            rates[i].as_slice(),
-            &feeds[i],
-        );
+        let lane = lane_of(needs, offsets[i], places[i], rates[i].as_slice(), &feeds[i]);
         lanes.push_reserved(lane);
     }
     Ok(lanes)
@@ -90,13 +84,7 @@ fn inlet_of(needs: &[usize], from: usize, places: usize) -> Option<u32>
     }
 }
 
-fn outlet_of(
-    needs: &[usize],
-    from: usize,
-    places: usize,
-    rates: &[usize],
-    feeds: &[Feed],
-) -> Outlet
+fn outlet_of(needs: &[usize], from: usize, places: usize, rates: &[usize], feeds: &[Feed]) -> Outlet
     requires needed { from + places ≤ length needs.now }
     ensures { FitsOutlet needs.now from places rates.now feeds.now result }
 {

@@ -52,8 +52,8 @@ invariant_of-self-2 c =
     record {
       sound =
           asked-sound c.self.inside c.self.invariant.sound (is-open c.self.inside c.args.self.now c.self.view_is c.requires) (omega (arith, c.if-self-eq0.false)) c.index-child.result.now c.index-child.ensures c.index-from.result.now _ c.index-from.ensures (ap (λ v. get_or v c.index-child.result.now 0) c.as_slice.ensures)
-    c.gather.new.channels.lists c.gather.new.lent.items c.gather.new.rooms.items
-    (c.gather.ensures.left ∙ ap (λ v. skip_at c.index-from.result.now (take (get_or c.as_slice.result.now c.index-child.result.now 0) (drop c.index-from.result.now v)) c.self.inside.channels.lists) c.as_slice-2.ensures) (subst (λ v. (k : ℕ) → (k < c.index-from.result.now) ⊎ (c.index-from.result.now + get_or c.as_slice.result.now c.index-child.result.now 0 ≤ k) ⊎ (get_or v k 0 ≤ 1) → get_or c.gather.new.rooms.items k None ≡ get_or c.self.inside.rooms.items k None) c.as_slice-2.ensures c.gather.ensures.others) c.gather.ensures.rooms c.gather.ensures.counted;
+          c.gather.new.channels.lists c.gather.new.lent.items c.gather.new.rooms.items
+          (c.gather.ensures.left ∙ ap (λ v. skip_at c.index-from.result.now (take (get_or c.as_slice.result.now c.index-child.result.now 0) (drop c.index-from.result.now v)) c.self.inside.channels.lists) c.as_slice-2.ensures) (subst (λ v. (k : ℕ) → (k < c.index-from.result.now) ⊎ (c.index-from.result.now + get_or c.as_slice.result.now c.index-child.result.now 0 ≤ k) ⊎ (get_or v k 0 ≤ 1) → get_or c.gather.new.rooms.items k None ≡ get_or c.self.inside.rooms.items k None) c.as_slice-2.ensures c.gather.ensures.others) c.gather.ensures.rooms c.gather.ensures.counted;
       lanes = c.self.invariant.lanes;
     }
 

@@ -43,8 +43,7 @@ returns-then-lend_number c =
     let l : 0 < c.self.inside.left = omega (arith, c.if-self-gt0.true) in
     let child : ℕ = c.index-child.result.now in
     let h : child < length c.self.inside.plan.places = asked-there c.self.inside c.self.invariant.sound g l child c.index-child.ensures in
-    let a : IsInlet c.self.inside.plan.needs (place_of c.self.inside.plan.places child) (get_or c.self.inside.plan.places child 0) c.in-Some.c = inlet-of c.self.inside c.self.invariant child h c.index.result.now c.index.ensures c.in-Some.c c.in-Some.is in
-    (
+    let a : IsInlet c.self.inside.plan.needs (place_of c.self.inside.plan.places child) (get_or c.self.inside.plan.places child 0) c.in-Some.c = inlet-of c.self.inside c.self.invariant child h c.index.result.now c.index.ensures c.in-Some.c c.in-Some.is in (
       c.requires,
       subst (λ (s : State). child < length s.plan.net.places) c.self.view_is h,
       subst (λ (s : State). Allows s child) c.self.view_is (asked-allowed c.self.inside c.self.invariant.sound g l child c.index-child.ensures),

@@ -43,8 +43,8 @@ invariant_of-self-2 c =
     record {
       sound =
           begun-sound c.self.inside c.self.invariant.sound row e c.in_ok-arrived.arrived c.scatter.new.channels.lists d (is-idle c.self.inside c.args.self.now c.self.view_is c.requires.idle) c.iterations-self-inside.result c.turns_of-self-inside.result
-    (c.iterations-self-inside.ensures ∙ ap₂ (λ x y. or_one (allowed_by x (map target_of y) c.scatter.new.channels.lists)) c.as_slice.ensures c.deref-2.ensures.value)
-    (c.turns_of-self-inside.ensures ∙ ap (λ v. left_at_first v c.iterations-self-inside.result) c.deref-3.ensures.value) c.scatter.new.staged.list c.in_ok-scatter.ensures.empty;
+          (c.iterations-self-inside.ensures ∙ ap₂ (λ x y. or_one (allowed_by x (map target_of y) c.scatter.new.channels.lists)) c.as_slice.ensures c.deref-2.ensures.value)
+          (c.turns_of-self-inside.ensures ∙ ap (λ v. left_at_first v c.iterations-self-inside.result) c.deref-3.ensures.value) c.scatter.new.staged.list c.in_ok-scatter.ensures.empty;
       lanes = c.self.invariant.lanes;
     }
 

@@ -9,7 +9,7 @@ invariant_of-self-2 c =
     record {
       sound =
           finished-sound c.self.inside c.self.invariant.sound (is-closed c.self.inside c.args.self.now c.self.view_is c.requires) c.len.result (c.len.result - c.len-2.result) n (ap (λ v. c.len.result - v) c.len-2.ensures) c.hand_out.new.channels.lists
-    (c.in_ok-outputs.ensures.left ∙
-    ap (λ v. take (c.len.result - c.len-2.result) c.self.inside.channels.lists ++ behind (map (λ n. c.self.inside.turns * n) v) (drop (c.len.result - c.len-2.result) c.self.inside.channels.lists)) c.as_slice.ensures);
+          (c.in_ok-outputs.ensures.left ∙
+          ap (λ v. take (c.len.result - c.len-2.result) c.self.inside.channels.lists ++ behind (map (λ n. c.self.inside.turns * n) v) (drop (c.len.result - c.len-2.result) c.self.inside.channels.lists)) c.as_slice.ensures);
       lanes = c.self.invariant.lanes;
     }

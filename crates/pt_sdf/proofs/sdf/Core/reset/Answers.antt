@@ -16,9 +16,9 @@ invariant_of-self c =
     record {
       sound =
           subst (λ v. Sound (plan_of c.self.inside.plan) c.self.inside.plan.needs c.self.inside.plan.order.items c.self.inside.plan.room c.self.inside.tables.offsets.items c.self.inside.tables.feeds.items c.self.inside.first.lists v c.in_ok-rooms.rooms.items c.self.inside.lent.items c.self.inside.staged.list 0 0 0 code.Idle)
-    (sym (ap (λ (l : Lines Token). l.lists) c.in_ok-self-inside.ensures))
-    (start-sound (plan_of c.self.inside.plan) c.self.inside.plan.needs c.self.inside.plan.order.items c.self.inside.plan.room c.self.inside.tables.offsets.items c.self.inside.tables.feeds.items c.self.inside.first.lists c.in_ok-rooms.rooms.items c.self.inside.lent.items c.self.inside.staged.list c.self.invariant.sound.lawful
-    c.self.invariant.sound.places_begin c.self.invariant.sound.fed (c.in_ok-rooms.ensures.counted ∙ ap (λ v. length v) c.as_slice.ensures) (subst (λ v. HaveRooms v c.in_ok-rooms.rooms.items 0 (length v)) c.as_slice.ensures c.in_ok-rooms.ensures.made) c.self.invariant.sound.lists c.self.invariant.sound.none_staged);
+          (sym (ap (λ (l : Lines Token). l.lists) c.in_ok-self-inside.ensures))
+          (start-sound (plan_of c.self.inside.plan) c.self.inside.plan.needs c.self.inside.plan.order.items c.self.inside.plan.room c.self.inside.tables.offsets.items c.self.inside.tables.feeds.items c.self.inside.first.lists c.in_ok-rooms.rooms.items c.self.inside.lent.items c.self.inside.staged.list c.self.invariant.sound.lawful
+          c.self.invariant.sound.places_begin c.self.invariant.sound.fed (c.in_ok-rooms.ensures.counted ∙ ap (λ v. length v) c.as_slice.ensures) (subst (λ v. HaveRooms v c.in_ok-rooms.rooms.items 0 (length v)) c.as_slice.ensures c.in_ok-rooms.ensures.made) c.self.invariant.sound.lists c.self.invariant.sound.none_staged);
       lanes = c.self.invariant.lanes;
     }
 

@@ -56,11 +56,11 @@ invariant_of-self-2 c =
     record {
       sound =
           told-goes-on c.self.inside c.self.invariant.sound c.args.child g (given c.args.number) r c.index-2.result.now c.index-2.ensures c.scatter_number.new.channels.lists
-    (c.in_ok-scatter_number.ensures ∙ ap₂ (λ v z. put_back (map target_of v) (given z) c.self.inside.channels.lists) c.deref.ensures.value (to_z-of_z w64 c.args.number c.ranges.number)) c.place_after.result
-    (c.place_after.ensures ∙ ap (λ v. place_behind (nat_eq (c.self.inside.at + 1) v) c.self.inside.left c.self.inside.at) n) c.fill_rooms.new.rooms.items c.self.inside.staged.list c.self.invariant.sound.none_staged c.in_ok-fill_rooms.ensures.counted
-    (λ k. subst (λ v. HasRoom (get_or v k 0) (get_or c.self.inside.rooms.items k None) → HasRoom (get_or v k 0) (get_or c.fill_rooms.new.rooms.items k None)) c.as_slice-3.ensures (c.in_ok-fill_rooms.ensures.kept k))
-    (told-rooms c.self.inside c.self.invariant.sound c.args.child g c.index-from.result.now (get_or c.as_slice-2.result.now c.args.child 0) c.index-from.ensures (ap (λ v. get_or v c.args.child 0) c.as_slice-2.ensures) c.fill_rooms.new.rooms.items
-    (subst (λ v. HaveRooms v c.fill_rooms.new.rooms.items c.index-from.result.now (get_or c.as_slice-2.result.now c.args.child 0)) c.as_slice-3.ensures c.in_ok-fill_rooms.ensures.made));
+          (c.in_ok-scatter_number.ensures ∙ ap₂ (λ v z. put_back (map target_of v) (given z) c.self.inside.channels.lists) c.deref.ensures.value (to_z-of_z w64 c.args.number c.ranges.number)) c.place_after.result
+          (c.place_after.ensures ∙ ap (λ v. place_behind (nat_eq (c.self.inside.at + 1) v) c.self.inside.left c.self.inside.at) n) c.fill_rooms.new.rooms.items c.self.inside.staged.list c.self.invariant.sound.none_staged c.in_ok-fill_rooms.ensures.counted
+          (λ k. subst (λ v. HasRoom (get_or v k 0) (get_or c.self.inside.rooms.items k None) → HasRoom (get_or v k 0) (get_or c.fill_rooms.new.rooms.items k None)) c.as_slice-3.ensures (c.in_ok-fill_rooms.ensures.kept k))
+          (told-rooms c.self.inside c.self.invariant.sound c.args.child g c.index-from.result.now (get_or c.as_slice-2.result.now c.args.child 0) c.index-from.ensures (ap (λ v. get_or v c.args.child 0) c.as_slice-2.ensures) c.fill_rooms.new.rooms.items
+          (subst (λ v. HaveRooms v c.fill_rooms.new.rooms.items c.index-from.result.now (get_or c.as_slice-2.result.now c.args.child 0)) c.as_slice-3.ensures c.in_ok-fill_rooms.ensures.made));
       lanes = c.self.invariant.lanes;
     }
 

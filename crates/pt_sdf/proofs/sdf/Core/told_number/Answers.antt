@@ -37,6 +37,6 @@ returns-clause-told c =
     let o = outlet-of c.self.inside c.self.invariant c.args.child h c.index.result.now c.index.ensures (sym c.is_several.ensures ∙ c.if-is_several.false) in
     let n : c.len.result ≡ length c.self.inside.plan.order.items = omega (arith, c.len.ensures, c.self.inside.plan.order.ok.0) in
     outlet-state c.self.inside c.self.invariant.sound c.args.child g (Int c.args.number) (targets_of c.index.result.now.outlet) o
-          c.put_on_outlet.new.channels.lists (c.in_ok-put_on_outlet.ensures ∙ ap (λ z. put_back (targets_of c.index.result.now.outlet) ((Int z ∷ []) ∷ []) c.self.inside.channels.lists) (to_z-of_z w64 c.args.number c.ranges.number)) c.place_after.result
-          (c.place_after.ensures ∙ ap (λ v. place_behind (nat_eq (c.self.inside.at + 1) v) c.self.inside.left c.self.inside.at) n) ∙
-          ap (λ (s : State). after_told c.args.child ((Int c.args.number ∷ []) ∷ []) s) c.self.view_is
+    c.put_on_outlet.new.channels.lists (c.in_ok-put_on_outlet.ensures ∙ ap (λ z. put_back (targets_of c.index.result.now.outlet) ((Int z ∷ []) ∷ []) c.self.inside.channels.lists) (to_z-of_z w64 c.args.number c.ranges.number)) c.place_after.result
+    (c.place_after.ensures ∙ ap (λ v. place_behind (nat_eq (c.self.inside.at + 1) v) c.self.inside.left c.self.inside.at) n) ∙
+    ap (λ (s : State). after_told c.args.child ((Int c.args.number ∷ []) ∷ []) s) c.self.view_is
