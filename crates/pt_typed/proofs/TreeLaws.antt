@@ -1,5 +1,5 @@
 -- The tree of a net is typed by the types of the net.
-use Rattle.std.proofs.Common.{◌≡◌, ℕ, zero, suc, ◌+◌, ◌*◌, ◌≤◌, List, [], ◌∷◌, Bool, true, false, ◌&&◌, length, map, drop, nat_lt, Option, Some, None, refl, sym, ap, subst, arith, ◌∙◌, length-append, slice_get}
+use Rattle.std.proofs.Common.{◌≡◌, ℕ, zero, suc, ◌+◌, ◌*◌, ◌≤◌, List, [], ◌∷◌, Bool, true, false, length, map, drop, nat_lt, Option, Some, None, refl, sym, ap, subst, arith, ◌∙◌, length-append, slice_get}
 use Rattle.std.proofs.lemmas.List.{length-map}
 use Rattle.std.proofs.lemmas.Option.{same_Some}
 use Rattle.std.proofs.lemmas.Bool.{eqb-true}
@@ -31,7 +31,8 @@ use Rattle.pt_plan.specs.PlanOf.{IsPlanOf}
 use Rattle.pt_node.specs.View.{Tree}
 use Rattle.pt_composite.specs.Around.{IsInsideOf}
 use Rattle.pt_composite.specs.Rates.{rates_of}
-use Rattle.pt_build.specs.Trees.{Starts, StartsAs, has_sdf, around_in, IsTree, of_actor, of_sdf, AreTrees, no_trees, more_trees}
+use Rattle.pt_build.specs.Trees.{Starts, StartsAs, around_in, IsTree, of_actor, of_sdf, AreTrees, no_trees, more_trees}
+use Rattle.pt_order.proofs.TreeCover.{sdf-directed}
 use Rattle.pt_typed.specs.Signature.{Signatures, AreOf, AreAllOf}
 use Rattle.pt_typed.specs.TokenTypes.{IsTokenOf}
 use Rattle.pt_typed.specs.TypedActor.{MeetsRow, IsTypedActor}
@@ -44,12 +45,6 @@ use Rattle.pt_typed.proofs.TypeLaws.{token-wider}
 use Rattle.pt_typed.proofs.ActorLaws.{rows-type, first-tokens}
 use Rattle.pt_typed.proofs.TypedRunLaws.{runs-keep}
 use Rattle.pt_typed.proofs.NetLaws.{all-filtered, child-below, source-kind, kinds-are, sized, fed, their-own}
-
--- a composite of SDF has a director
-sdf-directed : (o : Option NetDirector) (b : Bool) → (b && has_sdf o) ≡ true → (d : NetDirector) × (o ≡ Some d)
-sdf-directed None true h = absurd (let e : false ≡ true = h in cc)
-sdf-directed None false h = absurd (let e : false ≡ true = h in cc)
-sdf-directed (Some d) b h = (d, refl)
 
 -- ---- lengths
 

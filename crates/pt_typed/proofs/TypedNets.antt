@@ -5,11 +5,14 @@ use Rattle.pt_values.specs.declared.values.Values.{Values}
 use Rattle.pt_typing.specs.Least.{Assignment}
 use Rattle.pt_resolve.specs.Typing.{IsTyping}
 use Rattle.pt_build.specs.Trees.{Starts}
+use Rattle.pt_cover.specs.Leaves.{AreStartedByClass}
+use Rattle.pt_cover.proofs.Starting.{by-class}
+use Rattle.pt_order.proofs.NetsInOrder.{nets-in-order}
 use Rattle.pt_typed.specs.TypedActor.{MeetsRow}
 use Rattle.pt_typed.specs.NetTypes.{types_below}
 use Rattle.pt_typed.specs.NetRows.{HaveClassPorts, is_plain_actor, is_seeded_actor, is_record_actor}
 use Rattle.pt_typed.specs.TypedNet.{MeetRows}
-use Rattle.pt_typed.specs.RowLaw.{AreStartedIn, MeetOtherRows, TypedNetsKeepTypes}
+use Rattle.pt_typed.specs.RowLaw.{types_of_ports, AreStartedIn, MeetOtherRows, TypedNetsKeepTypes}
 use Rattle.pt_typed.proofs.PortFacts.{channels-go-up}
 use Rattle.pt_typed.proofs.RecordsMet.{record-rows-met}
 use Rattle.pt_typed.proofs.RowsMet.{plain-rows-met}
@@ -26,6 +29,12 @@ meet-rows net values typing starts have typed started others k a is = by_tests (
     by_tests false p false q true t = let w = started k a is in record-rows-met net values typing k w.0 a w.1 w.2 (have k w.0 w.1 w.2) typed w.3 t
     by_tests false p false q false t = others k a is p q t
 
+-- what is started so is started by parameters of its class
+by-class-started : (net : Net) (values : Values) (typing : Assignment) (starts : Starts) → AreStartedIn net values typing starts → AreStartedByClass net starts
+by-class-started net values typing starts started k e a at is = let w = started k a is in by-class net values (types_of_ports typing) k e a at w.3
+
 pub typed-nets-keep-types : TypedNetsKeepTypes
-typed-nets-keep-types net values typing starts e d top j wired have typed started others is at directed own supplied lists k =
-    nets-keep-types net typing starts top wired (channels-go-up net values typing typed) (meet-rows net values typing starts have typed started others) is j.iterations j.takes j.inputs.items lists (inputs-typed net values typing e d j.inputs.items at directed own typed supplied) k
+typed-nets-keep-types net values typing starts e d top j doc typed started others is at directed supplied lists k =
+    let order = nets-in-order net starts e d top doc (by-class-started net values typing starts started) is at directed in
+    nets-keep-types net typing starts top order.wired (channels-go-up net values typing typed) (meet-rows net values typing starts order.class_ports typed started others) is j.iterations j.takes j.inputs.items lists
+    (inputs-typed net values typing e d j.inputs.items at directed (order.own_names 0 e d at directed) typed supplied) k

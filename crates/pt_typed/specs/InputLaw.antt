@@ -1,8 +1,7 @@
 -- The tokens that a job supplies to the inputs of the top are of the types of these.
-use Rattle.std.specs.Prelude.{◌≡◌, ℕ, [], List, Some, slice_get}
+use Rattle.std.specs.Prelude.{◌≡◌, [], Some, slice_get}
 use Rattle.pt_meaning.specs.Basics.{Streams}
 use Rattle.pt_value.specs.declared.token.Token.{Token}
-use Rattle.pt_moml.specs.Document.{PortTree}
 use Rattle.pt_graph.specs.declared.net.Net.{Net}
 use Rattle.pt_graph.specs.declared.net.NetDirector.{NetDirector}
 use Rattle.pt_graph.specs.declared.net.NetEntity.{NetEntity}
@@ -12,13 +11,10 @@ use Rattle.pt_values.specs.Scopes.{net_view}
 use Rattle.pt_typing.specs.Least.{Assignment}
 use Rattle.pt_resolve.specs.Typing.{IsTyping}
 use Rattle.pt_job.specs.Inputs.{AreSupplied}
+pub use Rattle.pt_order.specs.ClassPorts.{HaveOwnNames}
 use Rattle.pt_typed.specs.Signature.{AreAllOf}
 use Rattle.pt_typed.specs.TokenTypes.{IsTokenOf}
 use Rattle.pt_typed.specs.NetTypes.{types_below}
-
--- no two ports have one name
-abbrev pub HaveOwnNames : List PortTree → Type 0
-HaveOwnNames ps = (i j : ℕ) (p q : PortTree) → slice_get ps i ≡ Some p → slice_get ps j ≡ Some q → p.name ≡ q.name → i ≡ j
 
 -- for each input of the top as many streams, of the types of these
 abbrev pub InputsAreTyped : Type 0

@@ -5,7 +5,6 @@ use Rattle.pt_meaning.specs.Job.{meaning}
 use Rattle.pt_graph.specs.declared.net.Net.{Net}
 use Rattle.pt_graph.specs.declared.net.NetDirector.{NetDirector}
 use Rattle.pt_graph.specs.declared.net.NetEntity.{NetEntity}
-use Rattle.pt_graph.specs.Net.{entity_view}
 use Rattle.pt_values.specs.Scopes.{net_view}
 use Rattle.pt_job.specs.Inputs.{AreSupplied}
 use Rattle.pt_run.specs.declared.job.SdfJob.{SdfJob}
@@ -22,9 +21,9 @@ use Rattle.pt_build.specs.Trees.{Starts, StartsAs, IsTree}
 use Rattle.pt_typed.specs.Signature.{IsTypedLog}
 use Rattle.pt_typed.specs.TokenTypes.{IsTokenOf}
 use Rattle.pt_typed.specs.TypedActor.{MeetsRow}
-use Rattle.pt_typed.specs.InputLaw.{HaveOwnNames}
-use Rattle.pt_typed.specs.NetTypes.{TypesGoUp, types_below, IsWired}
-use Rattle.pt_typed.specs.NetRows.{HasClassPorts, HaveClassPorts, is_plain_actor, is_seeded_actor, is_record_actor, HoldsTokens}
+use Rattle.pt_order.specs.Laws.{IsNetOfDocument}
+use Rattle.pt_typed.specs.NetTypes.{TypesGoUp, types_below}
+use Rattle.pt_typed.specs.NetRows.{HasClassPorts, is_plain_actor, is_seeded_actor, is_record_actor, HoldsTokens}
 
 -- the types of ports, by the numbers of their entities and their own
 abbrev pub types_of_ports : Assignment → PortTyping
@@ -61,9 +60,9 @@ AreStartedIn net values typing starts = (k : ℕ) (a : LibraryActor) → StartsA
 abbrev pub MeetOtherRows : Net → Assignment → Starts → Type 0
 MeetOtherRows net typing starts = (k : ℕ) (a : LibraryActor) → StartsAs starts k a → is_plain_actor a ≡ false → is_seeded_actor a ≡ false → is_record_actor a ≡ false → MeetsRow (types_below net typing k []) a
 
--- In a run of the tree of a net with its typing, on the tokens that are supplied, at each fuel, each finished firing took at each place only tokens of the type of its port, and gave on each output only tokens of the type of that.
+-- In a run of the tree of the net of a document with its typing, on the tokens that are supplied, at each fuel, each finished firing took at each place only tokens of the type of its port, and gave on each output only tokens of the type of that.
 abbrev pub TypedNetsKeepTypes : Type 0
 TypedNetsKeepTypes =
-    (net : Net) (values : Values) (typing : Assignment) (starts : Starts) (e : NetEntity) (d : NetDirector) (top : Tree) (j : SdfJob) → IsWired net → HaveClassPorts net → IsTyping net values typing → AreStartedIn net values typing starts → MeetOtherRows net typing starts → IsTree net (StartsAs starts) 0 top →
-    slice_get net.entities.items 0 ≡ Some e → e.director ≡ Some d → HaveOwnNames (entity_view e).ports → AreSupplied (net_view net) values j.inputs.items → length j.takes ≡ length j.inputs.items →
+    (net : Net) (values : Values) (typing : Assignment) (starts : Starts) (e : NetEntity) (d : NetDirector) (top : Tree) (j : SdfJob) → IsNetOfDocument net → IsTyping net values typing → AreStartedIn net values typing starts → MeetOtherRows net typing starts → IsTree net (StartsAs starts) 0 top →
+    slice_get net.entities.items 0 ≡ Some e → e.director ≡ Some d → AreSupplied (net_view net) values j.inputs.items → length j.takes ≡ length j.inputs.items →
     (k : ℕ) → IsTypedLog IsTokenOf (types_below net typing 0) (meaning k rows no_meetings (schedule j) top)

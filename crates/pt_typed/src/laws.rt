@@ -58,8 +58,8 @@ pub fn inputs_are_typed()
     ensures { InputsAreTyped }
 {}
 
-/// Where a net is wired as its entities say, its parameters have their tokens and the rows of its expressions are met, a run of its
-/// tree never meets a token of another type than its port's.
+/// Where the parameters of the net of a document have their tokens and the rows of its expressions are met, a run of its tree never
+/// meets a token of another type than its port's.
 pub fn tokens_are_typed()
     ensures { TypedNetsKeepTypes }
 {}

@@ -1,0 +1,16 @@
+pub mod ReadParts
+pub mod PortRules
+pub mod Standings
+pub mod PortTables
+pub mod Owners
+pub mod Blocks
+pub mod Ends
+pub mod PlaceBlocks
+pub mod Sides
+pub mod NetStandings
+pub mod LinkFacts
+pub mod WiredNets
+pub mod ClassPortsHeld
+pub mod Children
+pub mod TreeCover
+pub mod NetsInOrder

@@ -1,0 +1,90 @@
+-- How many links the ports of a net have in which no link is at fault.
+use Rattle.std.proofs.Common.{◌≡◌, ◌⊎◌, inl, inr, ◌<◌, ℕ, List, [], ◌∷◌, Bool, true, false, not, cond, ◌&&◌, ◌||◌, Some, length, map, bytes_eq, codes, refl, sym, ap, ◌∙◌, arith}
+use Rattle.std.specs.Option.{is_some, is_none}
+use Rattle.std.proofs.lemmas.Bool.{and_from, and_parts, or_parts}
+use Rattle.std.proofs.lemmas.Option.{none-some, same_Some, slice_get-map}
+use Rattle.std.proofs.lemmas.Slice.Eq.{bytes_eq-Decides}
+use Rattle.std.specs.List.{slice_get}
+use Rattle.pt_moml.specs.declared.classes.Arity.TheVariants.{Single}
+use Rattle.pt_moml.specs.Classes.{ClassPort, kind_of}
+use Rattle.pt_moml.specs.Document.{Parts, parts, JobTree}
+use Rattle.pt_graph.specs.declared.net.Net.{Net}
+use Rattle.pt_graph.specs.declared.net.NetEntity.{NetEntity}
+use Rattle.pt_graph.specs.Standing.{Standing, Round, is_kept, is_composite, is_modal, no_round, entities}
+use Rattle.pt_graph.specs.Table.{PortAt, Tables, tables_of, port_path, declared_port, ports_of_kind, ports_of}
+use Rattle.pt_graph.specs.Wires.{is_input, outside_of, inside_of}
+use Rattle.pt_graph.specs.Net.{NetEntityTree, entity_view, entity_tree, wires, IsNetOf}
+use Rattle.pt_graph.specs.Stands.{has_one_at_most, has_one, twice_outside, twice_inside, no_link, no_link_inside, needs_link}
+use Rattle.pt_build.specs.Trees.{IsSdf, has_sdf}
+use Rattle.pt_cover.proofs.Walk.{ArePlaced}
+use Rattle.pt_cover.proofs.Nesting.{viewed}
+use Rattle.pt_order.specs.Laws.{HasNoLinkFault}
+use Rattle.pt_order.proofs.Standings.{IsIn, AreSeen}
+use Rattle.pt_order.proofs.Owners.{port-there}
+use Rattle.pt_order.proofs.NetStandings.{entity-of}
+
+one-long : (xs : List ℕ) → (1 < length xs → ⊥) → (xs ≡ [] → ⊥) → length xs ≡ 1
+one-long [] short some = absurd (some refl)
+one-long (x ∷ []) short some = refl
+one-long (x ∷ y ∷ xs) short some = absurd (short (omega arith))
+
+-- a Composite is no Modal entity, and its ports are single
+modal-not : (own : Parts) → is_composite own ≡ true → is_modal own ≡ false
+modal-not own e = ap (λ (c : List ℕ). bytes_eq c (codes "Modal")) ((bytes_eq-Decides own.class (codes "Composite")).0 e)
+
+composite-ports : (own : Parts) → is_composite own ≡ true → ports_of own ≡ map declared_port own.ports
+unfolding ports_of kind_of
+composite-ports own e = ap (λ (c : List ℕ). ports_of_kind (kind_of c) (map declared_port own.ports)) ((bytes_eq-Decides own.class (codes "Composite")).0 e)
+
+pub composite-single : (own : Parts) (i : ℕ) (q : ClassPort) → is_composite own ≡ true → slice_get (ports_of own) i ≡ Some q → q.arity ≡ Single
+composite-single own i q e at =
+    let v = viewed declared_port (slice_get own.ports i) q (sym (slice_get-map declared_port own.ports i) ∙ ap (λ ps. slice_get ps i) (sym (composite-ports own e)) ∙ at) in
+    ap (λ (p : ClassPort). p.arity) (sym v.2)
+
+-- the class of an SDF composite
+pub sdf-composite : (e : NetEntity) (s : Standing) → entity_view e ≡ entity_tree s → IsSdf e → is_composite (parts s.tree) ≡ true
+sdf-composite e s same sdf = ap (λ (x : NetEntityTree). bytes_eq x.class (codes "Composite")) (sym same) ∙ (and_parts (bytes_eq e.class (codes "Composite")) (has_sdf e.director) sdf).0
+
+-- what isn't in the net is a Composite
+left-composite : (s : Standing) → is_kept s ≡ false → is_composite (parts s.tree) ≡ true
+left-composite s out = of-not (is_composite (parts s.tree)) (or_parts (is_none s.round.outer) (not (is_composite (parts s.tree))) (or_parts (is_none s.round.outer || not (is_composite (parts s.tree))) s.is_directed out).0).1
+  where
+    of-not : (b : Bool) → not b ≡ false → b ≡ true
+    of-not true e = refl
+    of-not false e = absurd (let h : true ≡ false = e in cc)
+
+module _ (job : JobTree) (net : Net) (seen : AreSeen (entities job)) (placed : ArePlaced (entities job)) (is : IsNetOf job net) (clean : HasNoLinkFault (tables_of job)) where
+  abbrev t : Tables
+  t = tables_of job
+
+  -- what stands in an SDF composite is no refinement
+  module _ (s : Standing) (c : ℕ) (f : NetEntity) (round : s.round.parent ≡ Some c) (at : slice_get net.entities.items c ≡ Some f) (sdf : IsSdf f) where
+    holder-composite : (i : IsIn (entities job) s.round) → is_composite (parts i.outer_at.tree) ≡ true
+    holder-composite i = chosen (is_kept i.outer_at) refl
+      where
+        chosen : (b : Bool) → is_kept i.outer_at ≡ b → is_composite (parts i.outer_at.tree) ≡ true
+        chosen true kept =
+            let number : i.outer_at.number ≡ c = same_Some i.outer_at.number c (sym (ap (λ (r : Round). r.parent) i.is ∙ ap (λ b. cond b (Some i.outer_at.number) i.outer_at.round.parent) kept) ∙ round) in
+            let e = entity-of job net placed is i.outer i.outer_at i.at kept in
+            let same : e.0 ≡ f = same_Some e.0 f (sym e.1 ∙ ap (slice_get net.entities.items) number ∙ at) in
+            sdf-composite f i.outer_at (ap (λ (x : NetEntity). entity_view x) (sym same) ∙ e.2) sdf
+        chosen false out = left-composite i.outer_at out
+
+    within : (s.round ≡ no_round) ⊎ IsIn (entities job) s.round → (is_some s.round.outer ≡ true) × (not s.round.is_refinement ≡ true)
+    within (inl top) = absurd (none-some c (sym (ap (λ (r : Round). r.parent) top) ∙ round))
+    within (inr i) = (ap (λ (r : Round). is_some r.outer) i.is, ap (λ (r : Round). not r.is_refinement) i.is ∙ ap not (modal-not (parts i.outer_at.tree) (holder-composite i)))
+
+  -- a single input there has one link
+  pub single-linked : (g : ℕ) (p : PortAt) (c : ℕ) (f : NetEntity) → slice_get t.ports g ≡ Some p → is_kept p.standing ≡ true → is_input p ≡ true → p.port.arity ≡ Single → p.standing.round.parent ≡ Some c → slice_get net.entities.items c ≡ Some f → IsSdf f → length (outside_of (wires t) g) ≡ 1
+  single-linked g p c f there kept input single round at sdf =
+      let w = within p.standing c f round at sdf (seen p.entity p.standing (port-there (entities job) seen placed g p there)).round in
+      let needs : needs_link p ≡ true =
+      and_from (is_input p && has_one p.port.arity && is_kept p.standing && is_some p.standing.round.outer) (not p.standing.round.is_refinement)
+      (and_from (is_input p && has_one p.port.arity && is_kept p.standing) (is_some p.standing.round.outer)
+      (and_from (is_input p && has_one p.port.arity) (is_kept p.standing) (and_from (is_input p) (has_one p.port.arity) input (ap has_one single)) kept) w.0) w.1 in
+      one-long (outside_of (wires t) g) (λ many. clean (port_path p) (twice_outside g p there (ap has_one_at_most single) many)) (λ none. clean (port_path p) (no_link g p there needs none))
+
+  -- a port of a composite with a director has one inside
+  pub inside-linked : (g : ℕ) (p : PortAt) → slice_get t.ports g ≡ Some p → is_composite (parts p.standing.tree) ≡ true → p.standing.is_directed ≡ true → length (inside_of (wires t) g) ≡ 1
+  inside-linked g p there composite directed =
+      one-long (inside_of (wires t) g) (λ many. clean (port_path p) (twice_inside g p there many)) (λ none. clean (port_path p) (no_link_inside g p there (and_from (is_composite (parts p.standing.tree)) p.standing.is_directed composite directed) none))

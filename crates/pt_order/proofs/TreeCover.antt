@@ -1,0 +1,157 @@
+-- Each entity of a net of which a tree is built is in that tree: a library actor that is started, or a composite of SDF.
+use Rattle.std.proofs.Common.{◌≡◌, ◌<◌, ℕ, zero, suc, List, Bool, true, false, ◌&&◌, ◌||◌, cond, Option, Some, None, codes, bytes_eq, refl, sym, ap, subst, ◌∙◌, arith}
+use Rattle.std.specs.Prelude.{option_map}
+use Rattle.std.specs.Option.{option_or}
+use Rattle.std.proofs.lemmas.Bool.{both_ways, eq-eqb}
+use Rattle.std.proofs.lemmas.Option.{none-some, same_Some, slice_get_within}
+use Rattle.std.proofs.lemmas.Slice.Eq.{bytes_eq-Decides}
+use Rattle.std.specs.List.{slice_get}
+use Rattle.pt_moml.specs.Document.{JobTree}
+use Rattle.pt_moml.specs.Classes.{Class as ClassRow, Kind, Composite, Modal, Actor, kind_of, class_row}
+use Rattle.pt_graph.specs.declared.net.Net.{Net}
+use Rattle.pt_graph.specs.declared.net.NetDirector.{NetDirector}
+use Rattle.pt_graph.specs.declared.net.NetEntity.{NetEntity}
+use Rattle.pt_graph.specs.Net.{IsNetOf}
+use Rattle.pt_values.specs.Scopes.{is_composite_class}
+use Rattle.pt_wiring.specs.Inside.{is_number, is_child, children_of, child_number}
+use Rattle.pt_lib_flow.specs.declared.flow_actor.Class.{Class}
+use Rattle.pt_lib_flow.specs.declared.params.Params.{Params}
+use Rattle.pt_lib_flow.specs.FlowActor as flow_actor
+use Rattle.pt_lib_data.specs.declared.function.Class.{Class as DataClass}
+use Rattle.pt_lib_data.specs.Function as function
+use Rattle.pt_lib_data.specs.DataActor as data_actor
+use Rattle.pt_library.specs.declared.library_actor.LibraryActor.{LibraryActor}
+use Rattle.pt_library.specs.declared.library_actor.LibraryActor.TheVariants.{Flow, Data}
+use Rattle.pt_library.specs.LibraryActor.{start}
+use Rattle.pt_node.specs.View.{Tree}
+use Rattle.pt_build.specs.Trees.{Starts, StartsAs, IsEntity, IsSdf, has_sdf, IsTree, of_actor, of_sdf, AreTrees, no_trees, more_trees}
+use Rattle.pt_cover.specs.Leaves.{ActorsAreLeaves, AreStartedByClass}
+use Rattle.pt_cover.proofs.Nesting.{get-within, net-nested, net-rooted}
+use Rattle.pt_cover.proofs.Nodes.{AreChildless, AreRooted}
+use Rattle.pt_cover.proofs.Numbering.{childless, entities-rooted}
+use Rattle.pt_order.proofs.Children.{child-number, get-is}
+
+-- ---- what starts as an actor is of a class of actors
+
+-- no library has a class of this name
+no-class : {C : Type 0} (class_of : List ℕ → Option C) → class_of (codes "Composite") ≡ None → class_of (codes "Modal") ≡ None → (class : List ℕ) → is_composite_class class ≡ true → class_of class ≡ None
+no-class class_of composite modal class passes = by-name (bytes_eq class (codes "Composite")) (bytes_eq class (codes "Modal")) refl refl passes
+  where
+    by-name : (b c : Bool) → bytes_eq class (codes "Composite") ≡ b → bytes_eq class (codes "Modal") ≡ c → (b || c) ≡ true → class_of class ≡ None
+    by-name true c is also passes = ap class_of ((bytes_eq-Decides class (codes "Composite")).0 is) ∙ composite
+    by-name false true is also passes = ap class_of ((bytes_eq-Decides class (codes "Modal")).0 also) ∙ modal
+    by-name false false is also passes = absurd cc
+
+no-start : (params : Params) → is_composite_class params.class ≡ true → start params ≡ None
+no-start params passes =
+    let of-flow : flow_actor.start params ≡ None = ap (λ (c : Option Class). flow_actor.start_in c params) (no-class flow_actor.class_of refl refl params.class passes) in
+    let of-data : data_actor.start params.class params.values params.ports ≡ None = ap (λ (c : Option DataClass). data_actor.start_in c params.values params.ports) (no-class function.class_of refl refl params.class passes) in
+    ap (λ o. option_or (option_map Flow o) (option_map Data (data_actor.start params.class params.values params.ports))) of-flow ∙ ap (λ o. option_or None (option_map Data o)) of-data
+
+-- a class that is no composite's is one of actors
+pub actor-kind : (class : List ℕ) (kind : Kind) → kind_of class ≡ Some kind → is_composite_class class ≡ false → (row : ClassRow) × (kind_of class ≡ Some (Actor row))
+unfolding kind_of
+actor-kind class kind e other = by-name (bytes_eq class (codes "Composite")) (bytes_eq class (codes "Modal")) refl refl other
+  where
+    of-row : (o : Option ClassRow) → kind_of class ≡ option_map Actor o → (row : ClassRow) × (kind_of class ≡ Some (Actor row))
+    of-row None is = absurd (none-some kind (sym is ∙ e))
+    of-row (Some row) is = (row, is)
+
+    by-name : (b c : Bool) → bytes_eq class (codes "Composite") ≡ b → bytes_eq class (codes "Modal") ≡ c → (b || c) ≡ false → (row : ClassRow) × (kind_of class ≡ Some (Actor row))
+    by-name true c is also o = absurd (let h : true ≡ false = o in cc)
+    by-name false true is also o = absurd (let h : true ≡ false = o in cc)
+    by-name false false is also o = of-row (class_row class) (ap (λ b. cond b (Some Composite) (cond (bytes_eq class (codes "Modal")) (Some Modal) (option_map Actor (class_row class)))) is ∙ ap (λ c. cond c (Some Modal) (option_map Actor (class_row class))) also)
+
+-- ---- the trees of entities
+
+-- a composite of SDF has a director
+pub sdf-directed : (o : Option NetDirector) (b : Bool) → (b && has_sdf o) ≡ true → (d : NetDirector) × (o ≡ Some d)
+sdf-directed None true h = absurd (let e : false ≡ true = h in cc)
+sdf-directed None false h = absurd (let e : false ≡ true = h in cc)
+sdf-directed (Some d) b h = (d, refl)
+
+module _ (job : JobTree) (net : Net) (starts : Starts) (top : Tree) (leaves : ActorsAreLeaves job) (is : IsNetOf job net) (by_class : AreStartedByClass net starts) (tree : IsTree net (StartsAs starts) 0 top) where
+  abbrev HasTree : ℕ → Type 0
+  HasTree k = (t : Tree) × IsTree net (StartsAs starts) k t
+
+  tree-among : {cs : List ℕ} {ts : List Tree} → AreTrees net (StartsAs starts) cs ts → (i c : ℕ) → slice_get cs i ≡ Some c → HasTree c
+  tree-among no_trees i c at = absurd (none-some c at)
+  tree-among (more_trees k ks t ts a b) zero c at = subst HasTree (same_Some k c at) (t, a)
+  tree-among (more_trees k ks t ts a b) (suc i) c at = tree-among b i c at
+
+  rooted : AreRooted net
+  rooted = entities-rooted net (net-rooted job net leaves is)
+
+  alone : AreChildless net starts
+  alone = childless net starts (net-nested job net leaves is) by_class
+
+  number-of : (c : ℕ) (o : Option ℕ) → o ≡ Some c → is_number c o ≡ true
+  number-of c o e = ap (is_number c) e ∙ eq-eqb c c refl
+
+  -- what stands in an entity that has a tree has one
+  tree-below : {j : ℕ} {t : Tree} → IsTree net (StartsAs starts) j t → (k : ℕ) (e : NetEntity) → IsEntity net k e → e.parent ≡ Some j → HasTree k
+  tree-below (of_actor j f a at undirected started) k e there round = absurd (both_ways (is_child j e) (alone j f a at started k e there) (number-of j e.parent round))
+  tree-below (of_sdf j f kids x p at sdf trees inside plan) k e there round =
+      let number : slice_get (children_of net.entities.items j) (child_number net.entities.items k) ≡ Some k = sym (get-is (children_of net.entities.items j) (child_number net.entities.items k)) ∙ child-number net.entities.items k j e f there round at in
+      tree-among trees (child_number net.entities.items k) k number
+
+  tree-within : (n k : ℕ) → k < n → (e : NetEntity) → IsEntity net k e → HasTree k
+  tree-within zero k below e at = absurd (omega (arith, below))
+  tree-within (suc n) zero below e at = (top, tree)
+  tree-within (suc n) (suc k) below e at =
+      let r = rooted.others (suc k) e (omega arith) at in
+      let w = slice_get_within net.entities.items (suc k) e at in
+      let f = get-within net.entities.items r.0 (omega (arith, r.2, w)) in
+      let h : HasTree r.0 = tree-within n r.0 (omega (arith, r.2, below)) f.0 f.1 in
+      tree-below {t = h.0} h.1 (suc k) e at r.1
+
+  tree-at : (k : ℕ) (e : NetEntity) → IsEntity net k e → HasTree k
+  tree-at k e at = tree-within (suc k) k (omega arith) e at
+
+  -- ---- so each entity is
+
+  of-directed : {k : ℕ} {t : Tree} → IsTree net (StartsAs starts) k t → (e : NetEntity) (d : NetDirector) → IsEntity net k e → e.director ≡ Some d → IsSdf e
+  of-directed (of_actor k f a there undirected started) e d at directed = let same : f ≡ e = same_Some f e (sym there ∙ at) in absurd (none-some d (sym (subst (λ (x : NetEntity). x.director ≡ None) same undirected) ∙ directed))
+  of-directed (of_sdf k f kids x p there sdf trees inside plan) e d at directed = subst IsSdf (same_Some f e (sym there ∙ at)) sdf
+
+  -- one with a director is a composite of SDF
+  pub directed-sdf : (k : ℕ) (e : NetEntity) (d : NetDirector) → IsEntity net k e → e.director ≡ Some d → IsSdf e
+  directed-sdf k e d at directed = of-directed (tree-at k e at).1 e d at directed
+
+  of-holder : {j : ℕ} {t : Tree} → IsTree net (StartsAs starts) j t → (k : ℕ) (e : NetEntity) → IsEntity net k e → e.parent ≡ Some j → (f : NetEntity) × IsEntity net j f × IsSdf f
+  of-holder (of_actor j f a at undirected started) k e there round = absurd (both_ways (is_child j e) (alone j f a at started k e there) (number-of j e.parent round))
+  of-holder (of_sdf j f kids x p at sdf trees inside plan) k e there round = (f, at, sdf)
+
+  -- each entity but the top stands in one before it
+  pub stands-in : (k : ℕ) (e : NetEntity) → IsEntity net k e → (k ≡ 0 → ⊥) → (j : ℕ) × (e.parent ≡ Some j)
+  stands-in zero e at later = absurd (later refl)
+  stands-in (suc k) e at later = let r = rooted.others (suc k) e (omega arith) at in (r.0, r.1)
+
+  parent-below : (k j : ℕ) (e : NetEntity) → IsEntity net k e → e.parent ≡ Some j → j < k
+  parent-below zero j e at round = absurd (none-some j (sym (rooted.top e at) ∙ round))
+  parent-below (suc k) j e at round = let r = rooted.others (suc k) e (omega arith) at in let same : r.0 ≡ j = same_Some r.0 j (sym r.1 ∙ round) in omega (arith, same, r.2)
+
+  -- and that is a composite of SDF
+  pub holder-sdf : (k j : ℕ) (e : NetEntity) → IsEntity net k e → e.parent ≡ Some j → (f : NetEntity) × IsEntity net j f × IsSdf f
+  holder-sdf k j e at round =
+      let w = slice_get_within net.entities.items k e at in
+      let f = get-within net.entities.items j (omega (arith, w, parent-below k j e at round)) in
+      of-holder (tree-at j f.0 f.1).1 k e at round
+
+  of-undirected : {k : ℕ} {t : Tree} → IsTree net (StartsAs starts) k t → (e : NetEntity) → IsEntity net k e → e.director ≡ None → (a : LibraryActor) × StartsAs starts k a
+  of-undirected (of_actor k f a there undirected started) e at none = (a, started)
+  of-undirected (of_sdf k f kids x p there sdf trees inside plan) e at none =
+      let same : f ≡ e = same_Some f e (sym there ∙ at) in
+      let w = sdf-directed e.director (bytes_eq e.class (codes "Composite")) (subst IsSdf same sdf) in
+      absurd (none-some w.0 (sym none ∙ w.1))
+
+  -- and one without is of a class of library actors
+  pub undirected-class : (k : ℕ) (e : NetEntity) → IsEntity net k e → e.director ≡ None → is_composite_class e.class ≡ false
+  undirected-class k e at none =
+      let s = of-undirected (tree-at k e at).1 e at none in
+      let from = by_class k e s.0 at s.1 in
+      by-test from.0 from.1 from.2 (is_composite_class e.class) refl
+    where
+      by-test : {a : LibraryActor} (params : Params) → params.class ≡ e.class → start params ≡ Some a → (b : Bool) → is_composite_class e.class ≡ b → is_composite_class e.class ≡ false
+      by-test params class started true h = absurd (none-some _ (sym (no-start params (ap is_composite_class class ∙ h)) ∙ started))
+      by-test params class started false h = h
