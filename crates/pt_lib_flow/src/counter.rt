@@ -1,6 +1,7 @@
 ghost use Rattle.std.specs.Prelude.{◌≡◌, IfOk};
 ghost use Rattle.pt_lib_flow.specs.Counter.{is_up, is_down, change};
 ghost use Rattle.pt_lib_flow.specs.Counter as counter;
+ghost use Rattle.pt_lib_flow.specs.Number.{GivesNumber};
 
 use crate::params::Params;
 use pt_firing::{
@@ -49,6 +50,15 @@ impl Counter {
         ensures { result ≡ is_down self.now inputs.now }
     {
         inputs.is_present(if self.has_increment { 1 } else { 0 })
+    }
+
+    /// Makes the firing where it gives a number. Else it makes none.
+    pub(crate) fn number(&mut self, inputs: &Inputs<'_>) -> Option<i64>
+        ensures { GivesNumber counter.step self.old inputs.now result self.new }
+    {
+        let change = change(self.is_up(inputs), self.is_down(inputs))?;
+        self.count = self.count.checked_add(change)?;
+        Some(self.count)
     }
 }
 

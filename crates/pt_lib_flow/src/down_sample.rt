@@ -1,4 +1,5 @@
 ghost use Rattle.std.specs.Prelude.{◌≡◌, ◌-◌, [], ◌∷◌, IfOk};
+ghost use Rattle.pt_lib_flow.specs.Number.{GivesNumber};
 ghost use Rattle.pt_lib_flow.specs.DownSample as down_sample;
 
 use crate::params::Params;
@@ -34,6 +35,16 @@ impl DownSample {
         match factor_and_phase(&params.values) {
             Some((factor, phase)) => Ok(Some(DownSample::new(alloc, factor, phase)?)),
             None => Ok(None),
+        }
+    }
+
+    /// Makes the firing where it gives a number. Else it makes none.
+    pub(crate) fn number(&self, inputs: &Inputs<'_>) -> Option<i64>
+        ensures { GivesNumber down_sample.step self.now inputs.now result self.now }
+    {
+        match first_list(inputs).get(self.index) {
+            Some(Token::Int(number)) => Some(*number),
+            _ => None,
         }
     }
 }

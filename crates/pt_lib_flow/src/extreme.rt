@@ -1,5 +1,6 @@
 ghost use Rattle.std.specs.Prelude.{◌≡◌, IfOk};
-ghost use Rattle.pt_lib_flow.specs.Extreme.{of_two, better, extreme, start};
+ghost use Rattle.pt_lib_flow.specs.Extreme.{of_two, better, extreme, start, step};
+ghost use Rattle.pt_lib_flow.specs.Number.{GivesNumber};
 
 use crate::params::Params;
 use pt_firing::{Actor, Fires, Inputs, Need, OneEach, Outputs, Partial, Step, strict_early};
@@ -71,6 +72,13 @@ impl Extreme {
         ensures { IfOk result (λ actor. actor ≡ start side params.now) }
     {
         Ok(Some(Extreme::new(alloc, side, params.ports.channels("input"))?))
+    }
+
+    /// Makes the firing where it gives a number. Else it makes none.
+    pub(crate) fn number(&self, inputs: &Inputs<'_>) -> Option<i64>
+        ensures { GivesNumber step self.now inputs.now result self.now }
+    {
+        self.side.of_places(inputs)
     }
 }
 

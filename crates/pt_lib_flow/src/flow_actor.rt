@@ -1,6 +1,6 @@
 ghost use Rattle.std.specs.Prelude.{◌≡◌, IfOk, IfSome, IsSome};
 ghost use Rattle.pt_lib_flow.specs.Rates.{IsCount};
-ghost use Rattle.pt_lib_flow.specs.Number.{GivesNumber};
+ghost use Rattle.pt_lib_flow.specs.Number.{GivesNumber, GivesNumbers};
 ghost use Rattle.pt_lib_flow.specs.FlowActor as flow_actor;
 ghost use Rattle.pt_lib_flow.specs.FlowActor.{class_of, start_as, start, outputs, rate, is_steady};
 
@@ -275,19 +275,44 @@ impl FlowActor {
             FlowActor::Accumulator(actor) => actor.number(inputs),
             FlowActor::AddSubtract(actor) => actor.number(inputs),
             FlowActor::Const(actor) => actor.number(inputs),
+            FlowActor::Counter(actor) => actor.number(inputs),
+            FlowActor::DownSample(actor) => actor.number(inputs),
+            FlowActor::Extreme(actor) => actor.number(inputs),
+            FlowActor::MultiplyDivide(actor) => actor.number(inputs),
             FlowActor::Ramp(actor) => actor.number(inputs),
+            FlowActor::SampleDelay(actor) => actor.number(inputs),
             FlowActor::Scale(actor) => actor.number(inputs),
             FlowActor::BooleanSelect(_)
             | FlowActor::BooleanSwitch(_)
+            | FlowActor::Expression(_)
+            | FlowActor::Repeat(_)
+            | FlowActor::Sequence(_)
+            | FlowActor::UpSample(_) => None,
+        }
+    }
+
+    /// Makes a firing that gives integers on its one port, and nothing else. `given` has them then, in order. Where it makes none, `step` makes the firing.
+    pub fn numbers(&self, inputs: &Inputs<'_>, given: &mut Vec<i64>) -> bool
+        ensures { GivesNumbers flow_actor.step self.now inputs.now result given.new.items self.now }
+    {
+        match self {
+            FlowActor::Repeat(actor) => actor.numbers(inputs, given),
+            FlowActor::UpSample(actor) => actor.numbers(inputs, given),
+            FlowActor::AbsoluteValue(_)
+            | FlowActor::Accumulator(_)
+            | FlowActor::AddSubtract(_)
+            | FlowActor::BooleanSelect(_)
+            | FlowActor::BooleanSwitch(_)
+            | FlowActor::Const(_)
             | FlowActor::Counter(_)
             | FlowActor::DownSample(_)
             | FlowActor::Expression(_)
             | FlowActor::Extreme(_)
             | FlowActor::MultiplyDivide(_)
-            | FlowActor::Repeat(_)
+            | FlowActor::Ramp(_)
             | FlowActor::SampleDelay(_)
-            | FlowActor::Sequence(_)
-            | FlowActor::UpSample(_) => None,
+            | FlowActor::Scale(_)
+            | FlowActor::Sequence(_) => false,
         }
     }
 }

@@ -1,6 +1,7 @@
 ghost use Rattle.std.specs.Prelude.{◌≡◌, ◌≤◌, ◌+◌, IfOk, length, take, drop};
 ghost use Rattle.pt_lib_flow.specs.MultiplyDivide.{of_two, after, after_all, quotient_of, ratio_of};
 ghost use Rattle.pt_lib_flow.specs.Row.{present};
+ghost use Rattle.pt_lib_flow.specs.Number.{GivesNumber};
 ghost use Rattle.pt_lib_flow.specs.MultiplyDivide as multiply_divide;
 
 use crate::number::sum_between;
@@ -49,6 +50,16 @@ impl MultiplyDivide {
             return None;
         }
         Some(quotient(inputs, middle))
+    }
+
+    /// Makes the firing where it gives a number. Else it makes none.
+    pub(crate) fn number(&self, inputs: &Inputs<'_>) -> Option<i64>
+        ensures { GivesNumber multiply_divide.step self.now inputs.now result self.now }
+    {
+        match self.ratio(inputs) {
+            Some(Ok(number)) => Some(number),
+            _ => None,
+        }
     }
 }
 

@@ -1,4 +1,6 @@
-ghost use Rattle.std.specs.Prelude.{◌≡◌, [], ◌∷◌, IfOk};
+ghost use Rattle.std.specs.Prelude.{◌≡◌, [], ◌∷◌, ◌++◌, map, true, IfOk};
+ghost use Rattle.pt_value.specs.declared.token.Token.TheVariants.{Int};
+ghost use Rattle.pt_lib_flow.specs.Number.{GivesNumbers};
 ghost use Rattle.pt_lib_flow.specs.Rates.{IsCount, repeated};
 ghost use Rattle.pt_lib_flow.specs.Repeat as repeat;
 
@@ -46,6 +48,42 @@ impl Repeat {
             [size, ..] => self.times * *size,
         }
     }
+
+    /// Makes the firing where it gives numbers, and puts them into the buffer. Else it makes none.
+    pub(crate) fn numbers(&self, inputs: &Inputs<'_>, given: &mut Vec<i64>) -> bool
+        ensures { GivesNumbers repeat.step self.now inputs.now result given.new.items self.now }
+    {
+        given.clear();
+        put_repeated(given, self.times, first_list(inputs))
+    }
+}
+
+/// Puts copies of a block into an empty buffer, where its tokens are numbers and there is memory for them.
+fn put_repeated(given: &mut Vec<i64>, times: usize, block: &[Token]) -> bool
+    requires { given.old.items ≡ [] }
+    ensures { result ≡ true → map Int given.new.items ≡ repeated times block.now }
+{
+    for _ in 0..times {
+        if !put_numbers(given, block) {
+            return false;
+        }
+    }
+    true
+}
+
+/// Puts tokens behind some numbers, where they are numbers and there is memory for them.
+fn put_numbers(given: &mut Vec<i64>, tokens: &[Token]) -> bool
+    ensures { result ≡ true → map Int given.new.items ≡ map Int given.old.items ++ tokens.now }
+{
+    for token in tokens {
+        let Token::Int(number) = token else {
+            return false;
+        };
+        if given.push(*number).is_err() {
+            return false;
+        }
+    }
+    true
 }
 
 /// Copies of a block, one behind the other.

@@ -1,4 +1,5 @@
 ghost use Rattle.std.specs.Prelude.{◌≡◌, IfOk, option_map};
+ghost use Rattle.pt_lib_flow.specs.Number.{GivesNumber};
 ghost use Rattle.pt_lib_flow.specs.SampleDelay.{initial_of};
 ghost use Rattle.pt_lib_flow.specs.SampleDelay as sample_delay;
 
@@ -35,6 +36,13 @@ impl SampleDelay {
             Some(initial) => Ok(Some(SampleDelay::new(alloc, initial)?)),
             None => Ok(None),
         }
+    }
+
+    /// Makes the firing where it gives a number. Else it makes none.
+    pub(crate) fn number(&self, inputs: &Inputs<'_>) -> Option<i64>
+        ensures { GivesNumber sample_delay.step self.now inputs.now result self.now }
+    {
+        inputs.number_at(0)
     }
 }
 

@@ -8,7 +8,7 @@ use Rattle.pt_value.specs.declared.token.Token.{Token}
 use Rattle.pt_lib_data.specs.DataActor as data_actor
 use Rattle.pt_lib_flow.specs.declared.params.Params.{Params}
 use Rattle.pt_lib_flow.specs.FlowActor as flow_actor
-pub use Rattle.pt_lib_flow.specs.Number.{GivesNumber}
+pub use Rattle.pt_lib_flow.specs.Number.{GivesNumber, GivesNumbers}
 use Rattle.pt_library.specs.declared.library_actor.LibraryActor.{LibraryActor}
 use Rattle.pt_library.specs.declared.library_actor.LibraryActor.TheVariants.{Flow, Data}
 

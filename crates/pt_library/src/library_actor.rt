@@ -1,7 +1,7 @@
 ghost use Rattle.std.specs.Prelude.{◌≡◌, IfOk, IfSome, option_map};
 ghost use Rattle.pt_lib_flow.specs.FlowActor as flow_actor;
 ghost use Rattle.pt_lib_flow.specs.Rates.{IsCount};
-ghost use Rattle.pt_lib_flow.specs.Number.{GivesNumber};
+ghost use Rattle.pt_lib_flow.specs.Number.{GivesNumber, GivesNumbers};
 ghost use Rattle.pt_library.specs.LibraryActor as library;
 ghost use Rattle.pt_library.specs.Laws.{IsRatedActor};
 
@@ -79,6 +79,16 @@ impl LibraryActor {
         match self {
             LibraryActor::Flow(actor) => actor.number(inputs),
             LibraryActor::Data(_) => None,
+        }
+    }
+
+    /// Makes a firing that gives integers on its one port, and nothing else. `given` has them then, in order. Where it makes none, `step` makes the firing.
+    pub fn numbers(&self, inputs: &Inputs<'_>, given: &mut Vec<i64>) -> bool
+        ensures { GivesNumbers library.step self.now inputs.now result given.new.items self.now }
+    {
+        match self {
+            LibraryActor::Flow(actor) => actor.numbers(inputs, given),
+            LibraryActor::Data(_) => false,
         }
     }
 }

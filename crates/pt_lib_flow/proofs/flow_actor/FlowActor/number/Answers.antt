@@ -1,11 +1,16 @@
 use Rattle.std.proofs.Common.{sym, subst, refl}
-use Rattle.pt_lib_flow.specs.declared.flow_actor.FlowActor.TheVariants.{AbsoluteValue, Accumulator, AddSubtract, Const, Ramp, Scale}
+use Rattle.pt_lib_flow.specs.declared.flow_actor.FlowActor.TheVariants.{AbsoluteValue, Accumulator, AddSubtract, Const, Counter, DownSample, Extreme, MultiplyDivide, Ramp, SampleDelay, Scale}
 use Rattle.pt_lib_flow.specs.FlowActor as flow_actor
 use Rattle.pt_lib_flow.specs.AbsoluteValue as absolute_value
 use Rattle.pt_lib_flow.specs.Accumulator as accumulator
 use Rattle.pt_lib_flow.specs.AddSubtract as add_subtract
 use Rattle.pt_lib_flow.specs.Const as constant
+use Rattle.pt_lib_flow.specs.Counter as counter
+use Rattle.pt_lib_flow.specs.DownSample as down_sample
+use Rattle.pt_lib_flow.specs.Extreme as extreme
+use Rattle.pt_lib_flow.specs.MultiplyDivide as multiply_divide
 use Rattle.pt_lib_flow.specs.Ramp as ramp
+use Rattle.pt_lib_flow.specs.SampleDelay as sample_delay
 use Rattle.pt_lib_flow.specs.Scale as scale
 use Rattle.pt_lib_flow.specs.Number.{GivesNumber}
 use Rattle.pt_lib_flow.proofs.Held.{held-number}
@@ -40,3 +45,28 @@ pub returns-in-Scale : goal.returns-in-Scale
 returns-in-Scale c =
     let X = c.args.inputs.now in
     subst (λ s. GivesNumber flow_actor.step s X c.number-in-Scale.result (Scale c.in-Scale.actor)) (sym c.in-Scale.is) (held-number Scale scale.step flow_actor.step c.in-Scale.actor c.in-Scale.actor X c.number-in-Scale.result (λ tag. refl) c.number-in-Scale.ensures)
+
+pub returns-in-Counter : goal.returns-in-Counter
+returns-in-Counter c =
+    let X = c.args.inputs.now in
+    subst (λ s. GivesNumber flow_actor.step s X c.number-in-Counter.result (Counter c.number-in-Counter.new.self)) (sym c.in-Counter.is) (held-number Counter counter.step flow_actor.step c.in-Counter.actor c.number-in-Counter.new.self X c.number-in-Counter.result (λ tag. refl) c.number-in-Counter.ensures)
+
+pub returns-in-DownSample : goal.returns-in-DownSample
+returns-in-DownSample c =
+    let X = c.args.inputs.now in
+    subst (λ s. GivesNumber flow_actor.step s X c.number-in-DownSample.result (DownSample c.in-DownSample.actor)) (sym c.in-DownSample.is) (held-number DownSample down_sample.step flow_actor.step c.in-DownSample.actor c.in-DownSample.actor X c.number-in-DownSample.result (λ tag. refl) c.number-in-DownSample.ensures)
+
+pub returns-in-Extreme : goal.returns-in-Extreme
+returns-in-Extreme c =
+    let X = c.args.inputs.now in
+    subst (λ s. GivesNumber flow_actor.step s X c.number-in-Extreme.result (Extreme c.in-Extreme.actor)) (sym c.in-Extreme.is) (held-number Extreme extreme.step flow_actor.step c.in-Extreme.actor c.in-Extreme.actor X c.number-in-Extreme.result (λ tag. refl) c.number-in-Extreme.ensures)
+
+pub returns-in-MultiplyDivide : goal.returns-in-MultiplyDivide
+returns-in-MultiplyDivide c =
+    let X = c.args.inputs.now in
+    subst (λ s. GivesNumber flow_actor.step s X c.number-in-MultiplyDivide.result (MultiplyDivide c.in-MultiplyDivide.actor)) (sym c.in-MultiplyDivide.is) (held-number MultiplyDivide multiply_divide.step flow_actor.step c.in-MultiplyDivide.actor c.in-MultiplyDivide.actor X c.number-in-MultiplyDivide.result (λ tag. refl) c.number-in-MultiplyDivide.ensures)
+
+pub returns-in-SampleDelay : goal.returns-in-SampleDelay
+returns-in-SampleDelay c =
+    let X = c.args.inputs.now in
+    subst (λ s. GivesNumber flow_actor.step s X c.number-in-SampleDelay.result (SampleDelay c.in-SampleDelay.actor)) (sym c.in-SampleDelay.is) (held-number SampleDelay sample_delay.step flow_actor.step c.in-SampleDelay.actor c.in-SampleDelay.actor X c.number-in-SampleDelay.result (λ tag. refl) c.number-in-SampleDelay.ensures)
