@@ -1,0 +1,7 @@
+ghost use Rattle.pt_model.specs.Typed.{ModelsKeepTypes};
+
+/// A run of the model of the net of a document, which is wired as its entities say, never meets a token of another type than its
+/// port's.
+pub fn models_keep_types()
+    ensures { ModelsKeepTypes }
+{}
