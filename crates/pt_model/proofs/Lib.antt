@@ -4,3 +4,4 @@ pub mod StartLaws
 pub mod FaultLaws
 pub mod TopLaws
 pub mod Outcomes
+pub mod TypedLaws

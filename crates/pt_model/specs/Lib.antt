@@ -1,3 +1,4 @@
 pub mod Resolved
 pub mod Model
 pub mod Refused
+pub mod Typed

@@ -2,6 +2,7 @@
 #![tactic(auto)]
 
 mod job;
+mod laws;
 mod model;
 mod refusal;
 mod resolved;
@@ -9,4 +10,5 @@ mod started;
 mod starts;
 mod tree;
 
+pub use laws::models_keep_types;
 pub use model::{Model, ModelFault, model_of};

@@ -24,3 +24,12 @@ pub mod SeededRows
 pub mod InputLaws
 pub mod RecordRows
 pub mod RecordsMet
+pub mod FormulaTypes
+pub mod SeenFrames
+pub mod FormulaNames
+pub mod HeldLaws
+pub mod HeldRows
+pub mod ExpressionPorts
+pub mod ExpressionRows
+pub mod DocumentRules
+pub mod DocumentNames

@@ -72,7 +72,7 @@ unfolding kind_of class_row classes
 disassembler-declares = refl
 
 -- what passes at a port, by its name and direction
-type-by-head : (class : List ℕ) (p : PortTree) → port_type class p ≡ head_type class (head p)
+pub type-by-head : (class : List ℕ) (p : PortTree) → port_type class p ≡ head_type class (head p)
 unfolding head_type port_type
 type-by-head class p = refl
 
@@ -84,7 +84,7 @@ disassembled : (name : List ℕ) → head_type (codes "RecordDisassembler") (nam
 unfolding head_type
 disassembled name = refl
 
-port-at : (typing : Assignment) (k : ℕ) (e : NetEntityTree) (v : valued.EntityView) (types : Types) (i : ℕ) (ps : List PortTree) (n : ℕ) (p : PortTree) → AllByRecursion (IsMet typing) (of_ports k e v types i ps) → slice_get ps n ≡ Some p → AllByRecursion (IsMet typing) (of_port k e v types (i + n) p.name (port_type e.class p))
+pub port-at : (typing : Assignment) (k : ℕ) (e : NetEntityTree) (v : valued.EntityView) (types : Types) (i : ℕ) (ps : List PortTree) (n : ℕ) (p : PortTree) → AllByRecursion (IsMet typing) (of_ports k e v types i ps) → slice_get ps n ≡ Some p → AllByRecursion (IsMet typing) (of_port k e v types (i + n) p.name (port_type e.class p))
 port-at typing k e v types i [] n p a g = absurd (cc)
 port-at typing k e v types i (q ∷ ps) zero p a g =
     subst (λ m. AllByRecursion (IsMet typing) (of_port k e v types m p.name (port_type e.class p))) (let z : i ≡ i + 0 = omega arith in z)
@@ -93,11 +93,11 @@ port-at typing k e v types i (q ∷ ps) (suc n) p a g =
     subst (λ m. AllByRecursion (IsMet typing) (of_port k e v types m p.name (port_type e.class p))) (let z : suc i + n ≡ i + suc n = omega arith in z)
     (port-at typing k e v types (suc i) ps n p (all-back (IsMet typing) (of_port k e v types i q.name (port_type e.class q)) (of_ports k e v types (suc i) ps) a) g)
 
-last-at : (ps : List PortTree) (p : PortTree) → slice_get (ps ++ (p ∷ [])) (length ps) ≡ Some p
+pub last-at : (ps : List PortTree) (p : PortTree) → slice_get (ps ++ (p ∷ [])) (length ps) ≡ Some p
 last-at [] p = refl
 last-at (q ∷ ps) p = last-at ps p
 
-directions-behind : (ps : List PortTree) (p : PortTree) → map (λ (q : PortTree). q.direction) (ps ++ (p ∷ [])) ≡ map (λ (q : PortTree). q.direction) ps ++ (p.direction ∷ [])
+pub directions-behind : (ps : List PortTree) (p : PortTree) → map (λ (q : PortTree). q.direction) (ps ++ (p ∷ [])) ≡ map (λ (q : PortTree). q.direction) ps ++ (p.direction ∷ [])
 directions-behind [] p = refl
 directions-behind (q ∷ ps) p = ap (λ ds. q.direction ∷ ds) (directions-behind ps p)
 

@@ -67,13 +67,14 @@ use Rattle.pt_typed.specs.TypedActor.{MeetsRow}
 use Rattle.pt_typed.specs.TypedFlow.{IsTypedFlow}
 use Rattle.pt_typed.specs.NetTypes.{types_below}
 use Rattle.pt_typed.specs.NetRows.{ends_from, channels_at, HasClassPorts, is_seeded_flow, is_seeded_actor, HoldsTokens}
-use Rattle.pt_typed.specs.RowLaw.{SeededRowsAreMet}
+use Rattle.pt_typed.specs.RowLaw.{types_of_ports, SeededRowsAreMet}
 use Rattle.pt_typed.proofs.PortFacts.{PortFacts, all-front, all-back, entity-met}
 use Rattle.pt_typed.proofs.ClassPorts.{declares_in, outs_from, one-port}
 use Rattle.pt_typed.proofs.FlowStarts as flows
 use Rattle.pt_typed.proofs.FlowStarts.{mapped}
 use Rattle.pt_typed.proofs.FlowClasses as flow_classes
 use Rattle.pt_typed.proofs.RowsMet.{viewed, one-of-two, flow-in, its-places, its-outputs, its-facts}
+use Rattle.pt_typed.proofs.HeldRows.{parameters-hold-tokens}
 use Rattle.pt_typed.proofs.SeedLaws.{value-met, not-given, no-tree, elements-below, tokens-of-values, const-seed, sequence-seed, delay-seed, delay-standard}
 
 -- ---- what starts
@@ -208,8 +209,9 @@ module _ (net : Net) (values : Values) (typing : Assignment) (k : ℕ) (e : NetE
   ]
 
 pub seeded-rows-met : SeededRowsAreMet
-seeded-rows-met net values typing k e a at undirected has typed started s holds =
+seeded-rows-met net values typing k e a at undirected has valued-so typed started s =
     let from = started.started_from in
+    let holds = parameters-hold-tokens net values (types_of_ports typing) k a valued-so started s in
     let params = started.params in
     let view : entity_view e ≡ from.entity = same_Some (entity_view e) from.entity (sym (viewed entity_view net.entities.items k e at) ∙ from.at) in
     let vs = from.held.parameters.items in

@@ -1,40 +1,105 @@
--- A run of the tree of a net with its typing.
-use Rattle.std.proofs.Common.{◌≡◌, Bool, true, false, refl, []}
+-- A run of the tree of the net of a document with its typing.
+use Rattle.std.proofs.Common.{◌≡◌, Bool, true, false, Some, refl, [], subst, sym}
 use Rattle.pt_graph.specs.declared.net.Net.{Net}
 use Rattle.pt_values.specs.declared.values.Values.{Values}
+use Rattle.pt_values.specs.Scopes.{net_view}
+use Rattle.pt_values.specs.Valued.{IsValued}
 use Rattle.pt_typing.specs.Least.{Assignment}
 use Rattle.pt_resolve.specs.Typing.{IsTyping}
+use Rattle.pt_start.specs.Nested.{IsNested}
+use Rattle.pt_start.specs.Started.{IsStart}
+use Rattle.pt_lib_flow.specs.Formula.{Formula}
+use Rattle.pt_lib_flow.specs.declared.flow_actor.FlowActor.{FlowActor}
+use Rattle.pt_lib_flow.specs.declared.flow_actor.FlowActor.TheVariants as flow
+use Rattle.pt_lib_data.specs.declared.function.Function.{Function}
+use Rattle.pt_lib_data.specs.declared.function.Function.TheVariants as made
+use Rattle.pt_library.specs.declared.library_actor.LibraryActor.{LibraryActor}
+use Rattle.pt_library.specs.declared.library_actor.LibraryActor.TheVariants.{Flow, Data}
 use Rattle.pt_build.specs.Trees.{Starts}
 use Rattle.pt_cover.specs.Leaves.{AreStartedByClass}
 use Rattle.pt_cover.proofs.Starting.{by-class}
+use Rattle.pt_cover.proofs.Reading.{documents-leaves}
+use Rattle.pt_cover.proofs.Nesting.{net-nested}
 use Rattle.pt_order.proofs.NetsInOrder.{nets-in-order}
 use Rattle.pt_typed.specs.TypedActor.{MeetsRow}
 use Rattle.pt_typed.specs.NetTypes.{types_below}
-use Rattle.pt_typed.specs.NetRows.{HaveClassPorts, is_plain_actor, is_seeded_actor, is_record_actor}
+use Rattle.pt_typed.specs.NetRows.{HaveClassPorts, is_plain_flow, is_plain_function, is_plain_actor, is_seeded_flow, is_seeded_actor, is_record_function, is_record_actor}
+use Rattle.pt_typed.specs.OwnNames.{HavePortNames, HaveClassParameters}
 use Rattle.pt_typed.specs.TypedNet.{MeetRows}
-use Rattle.pt_typed.specs.RowLaw.{types_of_ports, AreStartedIn, MeetOtherRows, TypedNetsKeepTypes}
+use Rattle.pt_typed.specs.RowLaw.{types_of_ports, AreStartedIn, TypedNetsKeepTypes}
 use Rattle.pt_typed.proofs.PortFacts.{channels-go-up}
 use Rattle.pt_typed.proofs.RecordsMet.{record-rows-met}
 use Rattle.pt_typed.proofs.RowsMet.{plain-rows-met}
 use Rattle.pt_typed.proofs.InputLaws.{inputs-typed}
 use Rattle.pt_typed.proofs.SeededRows.{seeded-rows-met}
+use Rattle.pt_typed.proofs.ExpressionRows.{expression-rows-met}
+use Rattle.pt_typed.proofs.DocumentNames.{documents-named}
 use Rattle.pt_typed.proofs.TreeLaws.{nets-keep-types}
 
-meet-rows : (net : Net) (values : Values) (typing : Assignment) (starts : Starts) → HaveClassPorts net → IsTyping net values typing → AreStartedIn net values typing starts → MeetOtherRows net typing starts → MeetRows net typing starts
-meet-rows net values typing starts have typed started others k a is = by_tests (is_plain_actor a) refl (is_seeded_actor a) refl (is_record_actor a) refl
-  where
-    by_tests : (b : Bool) → is_plain_actor a ≡ b → (s : Bool) → is_seeded_actor a ≡ s → (r : Bool) → is_record_actor a ≡ r → MeetsRow (types_below net typing k []) a
-    by_tests true p s q r t = let w = started k a is in plain-rows-met net values typing k w.0 a w.1 w.2 (have k w.0 w.1 w.2) typed w.3 p
-    by_tests false p true q r t = let w = started k a is in seeded-rows-met net values typing k w.0 a w.1 w.2 (have k w.0 w.1 w.2) typed w.3 q (w.4 q)
-    by_tests false p false q true t = let w = started k a is in record-rows-met net values typing k w.0 a w.1 w.2 (have k w.0 w.1 w.2) typed w.3 t
-    by_tests false p false q false t = others k a is p q t
+-- ---- the actors that are left are Expressions
+
+flow-left : (a : FlowActor) → is_plain_flow a ≡ false → is_seeded_flow a ≡ false → (f : Formula) × (a ≡ flow.Expression f)
+flow-left (flow.Expression f) p q = (f, refl)
+flow-left (flow.AbsoluteValue a) p q = absurd (cc)
+flow-left (flow.Accumulator a) p q = absurd (cc)
+flow-left (flow.AddSubtract a) p q = absurd (cc)
+flow-left (flow.BooleanSelect a) p q = absurd (cc)
+flow-left (flow.BooleanSwitch a) p q = absurd (cc)
+flow-left (flow.Const a) p q = absurd (cc)
+flow-left (flow.Counter a) p q = absurd (cc)
+flow-left (flow.DownSample a) p q = absurd (cc)
+flow-left (flow.Extreme a) p q = absurd (cc)
+flow-left (flow.MultiplyDivide a) p q = absurd (cc)
+flow-left (flow.Ramp a) p q = absurd (cc)
+flow-left (flow.Repeat a) p q = absurd (cc)
+flow-left (flow.SampleDelay a) p q = absurd (cc)
+flow-left (flow.Scale a) p q = absurd (cc)
+flow-left (flow.Sequence a) p q = absurd (cc)
+flow-left (flow.UpSample a) p q = absurd (cc)
+
+no-function-left : (g : Function) → is_plain_function g ≡ false → is_record_function g ≡ false → ⊥
+no-function-left (made.ArrayElement x) p r = cc
+no-function-left (made.ArrayToSequence x) p r = cc
+no-function-left (made.Comparator x) p r = cc
+no-function-left made.Discard p r = cc
+no-function-left made.ElementsToArray p r = cc
+no-function-left made.Equals p r = cc
+no-function-left (made.Limiter x) p r = cc
+no-function-left (made.LogicFunction x) p r = cc
+no-function-left made.LogicalNot p r = cc
+no-function-left (made.RecordAssembler x) p r = cc
+no-function-left (made.RecordDisassembler x) p r = cc
+no-function-left (made.SequenceToArray x) p r = cc
+no-function-left made.StringLength p r = cc
+
+actor-left : (a : LibraryActor) → is_plain_actor a ≡ false → is_seeded_actor a ≡ false → is_record_actor a ≡ false → (f : Formula) × (a ≡ Flow (flow.Expression f))
+actor-left (Flow a) p q r = let w = flow-left a p q in (w.0, λ i. Flow (w.1 i))
+actor-left (Data a) p q r = absurd (no-function-left a.function p r)
+
+-- ---- all rows
+
+module _ (net : Net) (values : Values) (typing : Assignment) (starts : Starts) (have : HaveClassPorts net) (names : HavePortNames net) (parameters : HaveClassParameters (net_view net)) (nested : IsNested (net_view net)) (valued : IsValued (net_view net) values) (typed : IsTyping net values typing) (started : AreStartedIn net values typing starts) where
+  pub meet-rows : MeetRows net typing starts
+  meet-rows k a is = by_tests (is_plain_actor a) refl (is_seeded_actor a) refl (is_record_actor a) refl
+    where
+      by_tests : (b : Bool) → is_plain_actor a ≡ b → (s : Bool) → is_seeded_actor a ≡ s → (r : Bool) → is_record_actor a ≡ r → MeetsRow (types_below net typing k []) a
+      by_tests true p s q r t = let w = started k a is in plain-rows-met net values typing k w.0 a w.1 w.2 (have k w.0 w.1 w.2) typed w.3 p
+      by_tests false p true q r t = let w = started k a is in seeded-rows-met net values typing k w.0 a w.1 w.2 (have k w.0 w.1 w.2) valued typed w.3 q
+      by_tests false p false q true t = let w = started k a is in record-rows-met net values typing k w.0 a w.1 w.2 (have k w.0 w.1 w.2) typed w.3 t
+      by_tests false p false q false t =
+          let w = started k a is in
+          let f = actor-left a p q t in
+          subst (MeetsRow (types_below net typing k [])) (sym f.1)
+          (expression-rows-met net values typing k w.0 f.0 w.1 (have k w.0 w.1 w.2) (names k w.0 w.1) valued nested parameters typed (subst (λ b. IsStart net values (types_of_ports typing) k (Some b)) f.1 w.3))
 
 -- what is started so is started by parameters of its class
 by-class-started : (net : Net) (values : Values) (typing : Assignment) (starts : Starts) → AreStartedIn net values typing starts → AreStartedByClass net starts
 by-class-started net values typing starts started k e a at is = let w = started k a is in by-class net values (types_of_ports typing) k e a at w.3
 
 pub typed-nets-keep-types : TypedNetsKeepTypes
-typed-nets-keep-types net values typing starts e d top j doc typed started others is at directed supplied lists k =
+typed-nets-keep-types net values typing starts e d top j doc valued typed started is at directed supplied lists k =
     let order = nets-in-order net starts e d top doc (by-class-started net values typing starts started) is at directed in
-    nets-keep-types net typing starts top order.wired (channels-go-up net values typing typed) (meet-rows net values typing starts order.class_ports typed started others) is j.iterations j.takes j.inputs.items lists
+    let named = documents-named doc.bytes doc.job net doc.read doc.made in
+    let nested = net-nested doc.job net (documents-leaves doc.bytes doc.job doc.read) doc.made in
+    nets-keep-types net typing starts top order.wired (channels-go-up net values typing typed) (meet-rows net values typing starts order.class_ports named.1 named.0 nested valued typed started) is j.iterations j.takes j.inputs.items lists
     (inputs-typed net values typing e d j.inputs.items at directed (order.own_names 0 e d at directed) typed supplied) k

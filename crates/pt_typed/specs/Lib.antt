@@ -11,3 +11,7 @@ pub mod TypedNet
 pub mod NetRows
 pub mod RowLaw
 pub mod InputLaw
+pub mod OwnNames
+pub mod HeldLaw
+pub mod ExpressionLaw
+pub mod DocumentLaw

@@ -1,11 +1,14 @@
 -- The typing of a net meets the rows of the actors that its entities start as.
-use Rattle.std.specs.Prelude.{◌≡◌, ℕ, [], length, true, false, Some, None, slice_get}
+use Rattle.std.specs.Prelude.{◌≡◌, ℕ, List, [], length, true, Some, None, slice_get}
 use Rattle.pt_meaning.specs.Step.{no_meetings}
 use Rattle.pt_meaning.specs.Job.{meaning}
+use Rattle.pt_moml.specs.Document.{JobTree}
+use Rattle.pt_moml.specs.Reading.{IsJobOf}
 use Rattle.pt_graph.specs.declared.net.Net.{Net}
 use Rattle.pt_graph.specs.declared.net.NetDirector.{NetDirector}
 use Rattle.pt_graph.specs.declared.net.NetEntity.{NetEntity}
 use Rattle.pt_values.specs.Scopes.{net_view}
+use Rattle.pt_values.specs.Valued.{IsValued}
 use Rattle.pt_job.specs.Inputs.{AreSupplied}
 use Rattle.pt_run.specs.declared.job.SdfJob.{SdfJob}
 use Rattle.pt_run.specs.Run.{schedule}
@@ -23,7 +26,7 @@ use Rattle.pt_typed.specs.TokenTypes.{IsTokenOf}
 use Rattle.pt_typed.specs.TypedActor.{MeetsRow}
 use Rattle.pt_order.specs.Laws.{IsNetOfDocument}
 use Rattle.pt_typed.specs.NetTypes.{TypesGoUp, types_below}
-use Rattle.pt_typed.specs.NetRows.{HasClassPorts, is_plain_actor, is_seeded_actor, is_record_actor, HoldsTokens}
+use Rattle.pt_typed.specs.NetRows.{HasClassPorts, is_plain_actor, is_seeded_actor, is_record_actor}
 
 -- the types of ports, by the numbers of their entities and their own
 abbrev pub types_of_ports : Assignment → PortTyping
@@ -39,11 +42,11 @@ PlainRowsAreMet =
     (net : Net) (values : Values) (typing : Assignment) (k : ℕ) (e : NetEntity) (a : LibraryActor) → slice_get net.entities.items k ≡ Some e → e.director ≡ None → HasClassPorts net k e → IsTyping net values typing → IsStart net values (types_of_ports typing) k (Some a) →
     is_plain_actor a ≡ true → MeetsRow (types_below net typing k []) a
 
--- The same of an actor that gives tokens of its parameters, each of which has a token.
+-- The same of an actor that gives tokens of its parameters, which come to these values.
 abbrev pub SeededRowsAreMet : Type 0
 SeededRowsAreMet =
-    (net : Net) (values : Values) (typing : Assignment) (k : ℕ) (e : NetEntity) (a : LibraryActor) → slice_get net.entities.items k ≡ Some e → e.director ≡ None → HasClassPorts net k e → IsTyping net values typing → (started : IsStart net values (types_of_ports typing) k (Some a)) →
-    is_seeded_actor a ≡ true → HoldsTokens started.started_from.entity.parameters started.started_from.held.parameters.items → MeetsRow (types_below net typing k []) a
+    (net : Net) (values : Values) (typing : Assignment) (k : ℕ) (e : NetEntity) (a : LibraryActor) → slice_get net.entities.items k ≡ Some e → e.director ≡ None → HasClassPorts net k e → IsValued (net_view net) values → IsTyping net values typing → IsStart net values (types_of_ports typing) k (Some a) →
+    is_seeded_actor a ≡ true → MeetsRow (types_below net typing k []) a
 
 -- The same of an actor that makes records of its inputs, or takes them apart.
 abbrev pub RecordRowsAreMet : Type 0
@@ -51,18 +54,13 @@ RecordRowsAreMet =
     (net : Net) (values : Values) (typing : Assignment) (k : ℕ) (e : NetEntity) (a : LibraryActor) → slice_get net.entities.items k ≡ Some e → e.director ≡ None → HasClassPorts net k e → IsTyping net values typing → IsStart net values (types_of_ports typing) k (Some a) →
     is_record_actor a ≡ true → MeetsRow (types_below net typing k []) a
 
--- each library actor of a net starts as its parameters and types start it, and where it gives tokens of its parameters these are tokens
+-- each library actor of a net starts as its parameters and types start it
 abbrev pub AreStartedIn : Net → Values → Assignment → Starts → Type 0
-AreStartedIn net values typing starts = (k : ℕ) (a : LibraryActor) → StartsAs starts k a →
-    (e : NetEntity) × (slice_get net.entities.items k ≡ Some e) × (e.director ≡ None) × (started : IsStart net values (types_of_ports typing) k (Some a)) × (is_seeded_actor a ≡ true → HoldsTokens started.started_from.entity.parameters started.started_from.held.parameters.items)
-
--- the rows of the other actors are met: of those that give values of expressions
-abbrev pub MeetOtherRows : Net → Assignment → Starts → Type 0
-MeetOtherRows net typing starts = (k : ℕ) (a : LibraryActor) → StartsAs starts k a → is_plain_actor a ≡ false → is_seeded_actor a ≡ false → is_record_actor a ≡ false → MeetsRow (types_below net typing k []) a
+AreStartedIn net values typing starts = (k : ℕ) (a : LibraryActor) → StartsAs starts k a → (e : NetEntity) × (slice_get net.entities.items k ≡ Some e) × (e.director ≡ None) × IsStart net values (types_of_ports typing) k (Some a)
 
 -- In a run of the tree of the net of a document with its typing, on the tokens that are supplied, at each fuel, each finished firing took at each place only tokens of the type of its port, and gave on each output only tokens of the type of that.
 abbrev pub TypedNetsKeepTypes : Type 0
 TypedNetsKeepTypes =
-    (net : Net) (values : Values) (typing : Assignment) (starts : Starts) (e : NetEntity) (d : NetDirector) (top : Tree) (j : SdfJob) → IsNetOfDocument net → IsTyping net values typing → AreStartedIn net values typing starts → MeetOtherRows net typing starts → IsTree net (StartsAs starts) 0 top →
+    (net : Net) (values : Values) (typing : Assignment) (starts : Starts) (e : NetEntity) (d : NetDirector) (top : Tree) (j : SdfJob) → IsNetOfDocument net → IsValued (net_view net) values → IsTyping net values typing → AreStartedIn net values typing starts → IsTree net (StartsAs starts) 0 top →
     slice_get net.entities.items 0 ≡ Some e → e.director ≡ Some d → AreSupplied (net_view net) values j.inputs.items → length j.takes ≡ length j.inputs.items →
     (k : ℕ) → IsTypedLog IsTokenOf (types_below net typing 0) (meaning k rows no_meetings (schedule j) top)

@@ -1,6 +1,9 @@
 ghost use Rattle.pt_typed.specs.Laws.{RowsKeepTypes, FirstTokensAreTyped, TypedStepsKeepTypes, TypedRunsKeepTypes};
 ghost use Rattle.pt_typed.specs.TypedNet.{TreesAreTyped, NetsKeepTypes};
 ghost use Rattle.pt_typed.specs.InputLaw.{InputsAreTyped};
+ghost use Rattle.pt_typed.specs.HeldLaw.{ParametersHoldTokens};
+ghost use Rattle.pt_typed.specs.DocumentLaw.{DocumentsAreNamed};
+ghost use Rattle.pt_typed.specs.ExpressionLaw.{ExpressionRowsAreMet};
 ghost use Rattle.pt_typed.specs.RowLaw.{TypingsGoUp, PlainRowsAreMet, SeededRowsAreMet, RecordRowsAreMet, TypedNetsKeepTypes};
 
 /// An actor whose row is met by the types of its places and outputs keeps to them, whatever it fires.
@@ -53,13 +56,28 @@ pub fn record_rows_are_met()
     ensures { RecordRowsAreMet }
 {}
 
+/// Each parameter of a Const, a Sequence and a SampleDelay has a token.
+pub fn parameters_hold_tokens()
+    ensures { ParametersHoldTokens }
+{}
+
+/// The typing of a net meets the row of each Expression.
+pub fn expression_rows_are_met()
+    ensures { ExpressionRowsAreMet }
+{}
+
+/// In the net of a document parameters and ports have names as the classes of their entities say.
+pub fn documents_are_named()
+    ensures { DocumentsAreNamed }
+{}
+
 /// The tokens that a job supplies are of the types of the top's inputs.
 pub fn inputs_are_typed()
     ensures { InputsAreTyped }
 {}
 
-/// Where the parameters of the net of a document have their tokens and the rows of its expressions are met, a run of its tree never
-/// meets a token of another type than its port's.
+/// A run of the tree of the net of a document, with its values, its typing and actors that start by these, never meets a token of
+/// another type than its port's.
 pub fn tokens_are_typed()
     ensures { TypedNetsKeepTypes }
 {}

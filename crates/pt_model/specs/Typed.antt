@@ -1,0 +1,21 @@
+-- A run of the model of the net of a document never meets a token of another type than its port's.
+use Rattle.std.specs.Prelude.{ℕ}
+use Rattle.pt_meaning.specs.Step.{no_meetings}
+use Rattle.pt_meaning.specs.Job.{meaning}
+use Rattle.pt_graph.specs.declared.net.Net.{Net}
+use Rattle.pt_library.specs.LibraryActor.{rows}
+use Rattle.pt_node.specs.Shown.{Shown}
+use Rattle.pt_node.specs.View.{node_of}
+use Rattle.pt_run.specs.declared.job.SdfJob.{SdfJob}
+use Rattle.pt_run.specs.Run.{schedule}
+use Rattle.pt_typed.specs.Signature.{IsTypedLog}
+use Rattle.pt_typed.specs.TokenTypes.{IsTokenOf}
+use Rattle.pt_typed.specs.NetTypes.{types_below}
+use Rattle.pt_order.specs.Laws.{IsNetOfDocument}
+use Rattle.pt_model.specs.Model.{IsModel}
+
+-- In the meaning of the model of the net of a document, at each fuel, each finished firing took at each place only tokens of the type that the net has there, and gave on each output only tokens of the type of that.
+abbrev pub ModelsKeepTypes : Type 0
+ModelsKeepTypes =
+    (net : Net) (top : Shown) (j : SdfJob) → IsNetOfDocument net → (model : IsModel net top j) →
+    (k : ℕ) → IsTypedLog IsTokenOf (types_below net model.typing 0) (meaning k rows no_meetings (schedule j) (node_of top))
