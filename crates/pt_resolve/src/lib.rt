@@ -15,13 +15,13 @@ mod modal_scope;
 mod modal_texts;
 mod net_types;
 mod place;
+mod port_numbers;
 mod refinements;
 mod row;
 mod rows;
 mod said;
 mod seeds;
 mod tables;
-mod top;
 mod words;
 
 pub use breaking::{BrokenAt, broken};
