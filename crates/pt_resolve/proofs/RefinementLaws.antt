@@ -12,7 +12,7 @@ use Rattle.pt_moml.specs.Document.{PortTree}
 use Rattle.pt_graph.specs.declared.net.NetEntity.{NetEntity}
 use Rattle.pt_graph.specs.Net.{NetEntityTree, entity_view}
 use Rattle.pt_values.proofs.Turns.{view-take}
-use Rattle.pt_resolve.specs.declared.top.TopPorts.{TopPorts}
+use Rattle.pt_resolve.specs.declared.port_numbers.PortNumbers.{PortNumbers as GivenNumbers}
 use Rattle.pt_resolve.specs.Views.{port_numbers}
 use Rattle.pt_typing.specs.declared.variable.Variable.TheVariants.{Port}
 use Rattle.pt_typing.specs.Views.{Inequality}
@@ -55,7 +55,7 @@ modal-round (e ∷ es) (suc m) ports name i h k =
     record { modal = r.modal; at = r.at; is = r.is; port = r.port }
 
 -- the ports of one entity more, as the program makes them
-pub tables-more : (es : List NetEntity) (i : ℕ) (e : NetEntity) → i < length es → e ≡ get_or es i e → (old new : List TopPorts) (t : TopPorts) → new ≡ old ++ t ∷ [] → ((name : List ℕ) → port_numbers t name ≡ modal_ports (entity_view e) name) → map port_numbers old ≡ map modal_ports (map entity_view (take i es)) → map port_numbers new ≡ map modal_ports (map entity_view (take (i + 1) es))
+pub tables-more : (es : List NetEntity) (i : ℕ) (e : NetEntity) → i < length es → e ≡ get_or es i e → (old new : List GivenNumbers) (t : GivenNumbers) → new ≡ old ++ t ∷ [] → ((name : List ℕ) → port_numbers t name ≡ modal_ports (entity_view e) name) → map port_numbers old ≡ map modal_ports (map entity_view (take i es)) → map port_numbers new ≡ map modal_ports (map entity_view (take (i + 1) es))
 tables-more es i e short is old new t more own h =
     ap (map port_numbers) more
     ∙ map-append port_numbers old (t ∷ [])

@@ -13,7 +13,7 @@ use Rattle.pt_parameter.specs.Names.{held}
 use Rattle.pt_resolve.specs.declared.frames.Frame.{Frame as GivenFrame}
 use Rattle.pt_resolve.specs.declared.frames.Frames.{Frames as GivenFrames}
 use Rattle.pt_resolve.specs.declared.place.Place.{Place}
-use Rattle.pt_resolve.specs.declared.top.TopPorts.{TopPorts}
+use Rattle.pt_resolve.specs.declared.port_numbers.PortNumbers.{PortNumbers as GivenNumbers}
 use Rattle.pt_resolve.specs.declared.modal_scope.ModalScope.{ModalScope as GivenScope}
 use Rattle.pt_resolve.specs.declared.modal_texts.ActionTree.{ActionTree as GivenAction}
 use Rattle.pt_resolve.specs.declared.modal_texts.TransitionTrees.{TransitionTrees as GivenTrees}
@@ -33,7 +33,7 @@ frames_view f = record { entities = map frame_view f.entities.items; transparent
 abbrev pub types_at : Place → Types
 types_at p = seen_types (frames_view p.frames.now) p.entity.now.within p.entity.now.parent
 
-abbrev pub port_numbers : TopPorts → PortNumbers
+abbrev pub port_numbers : GivenNumbers → PortNumbers
 port_numbers ports name = get_by_text ports.numbers name
 
 -- the ports of some entities and transparent composites

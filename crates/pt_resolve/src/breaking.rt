@@ -28,13 +28,11 @@ pub fn broken(
     ensures { IfOk result (λ found. MatchOption found (IsWhole net.now values.now (assignment typing.now)) (IsBrokenAt net.now values.now (assignment typing.now))) }
 {
     let first = net.entities.len();
-    match first_over(alloc, typing, first, &net.transparent)? {
-        Some(composite) => return Ok(Some(BrokenAt::Transparent(composite))),
-        None => {}
+    if let Some(composite) = first_over(alloc, typing, first, &net.transparent)? {
+        return Ok(Some(BrokenAt::Transparent(composite)));
     }
-    match broken_entity(alloc, net, values, typing)? {
-        Some(entity) => return Ok(Some(BrokenAt::Entity(entity))),
-        None => {}
+    if let Some(entity) = broken_entity(alloc, net, values, typing)? {
+        return Ok(Some(BrokenAt::Entity(entity)));
     }
     match first_general(alloc, typing, first, &net.transparent)? {
         Some(composite) => Ok(Some(BrokenAt::Transparent(composite))),

@@ -12,10 +12,10 @@ ghost use Rattle.pt_resolve.specs.Views.{frames_view, port_numbers, IsAdded};
 
 use crate::frames::Frames;
 use crate::place::{Place, add};
+use crate::port_numbers::PortNumbers;
 use crate::row::SeedRow;
 use crate::seeds::{joined_with, standard_type};
 use crate::tables::SEEDS;
-use crate::top::TopPorts;
 use pt_graph::{Channel, Net, NetEntity};
 use pt_moml::{Input, Property};
 use pt_parameter::standard_of;
@@ -197,7 +197,7 @@ fn add_supply(
 
 fn add_inputs(
     alloc: Global,
-    ports: &TopPorts,
+    ports: &PortNumbers,
     inputs: &[Input],
     supplies: &[Vec<Option<Token>>],
     inequalities: &mut Vec<Inequality>,
@@ -220,7 +220,7 @@ pub fn inequalities_of(
     ensures { IfOk result (λ qs. map inequality_view qs.items ≡ inequalities net.now values.now) }
 {
     let frames = Frames::of(alloc, net, values)?;
-    let ports = TopPorts::of(alloc, &net.entities)?;
+    let ports = PortNumbers::of(alloc, &net.entities)?;
     let mut list = Vec::with_capacity(alloc, net.channels.len())?;
     add_channels(&net.channels, &mut list)?;
     add_entities(alloc, &frames, &net.entities, &values.entities, &mut list)?;

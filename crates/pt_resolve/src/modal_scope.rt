@@ -13,7 +13,7 @@ ghost use Rattle.pt_resolve.specs.ModalScopes.{modal_scope, values_in, value_typ
 ghost use Rattle.pt_resolve.specs.Views.{frames_view, scope_view};
 
 use crate::frames::{Frames, names_of_tokens};
-use crate::top::TopPorts;
+use crate::port_numbers::PortNumbers;
 use pt_expr::Expr;
 use pt_graph::NetEntity;
 use pt_parameter::{Names, names_of, type_of_token};
@@ -30,7 +30,7 @@ const MARK: &str = "_isPresent";
 #[derive(Drop)]
 pub(crate) struct ModalScope<'a> {
     pub(crate) number: u32,
-    pub(crate) ports: TopPorts,
+    pub(crate) ports: PortNumbers,
     pub(crate) variables: Names,
     pub(crate) frames: &'a Frames,
 }
@@ -103,7 +103,7 @@ impl<'a> ModalScope<'a> {
     {
         Ok(ModalScope {
             number: short_number(number)?,
-            ports: TopPorts::of_ports(alloc, &entity.ports)?,
+            ports: PortNumbers::of_ports(alloc, &entity.ports)?,
             variables: names_of_tokens(alloc, &entity.variables, &values.variables)?,
             frames,
         })

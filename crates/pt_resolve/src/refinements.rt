@@ -7,7 +7,7 @@ ghost use Rattle.pt_resolve.specs.Modals.{of_like, of_refinement, modal_ports, o
 ghost use Rattle.pt_resolve.specs.Views.{port_numbers, IsAdded};
 
 use crate::place::add;
-use crate::top::TopPorts;
+use crate::port_numbers::PortNumbers;
 use pt_graph::NetEntity;
 use pt_moml::{Direction, Port};
 use pt_typing::{Inequality, Term, Variable};
@@ -21,18 +21,18 @@ pub(crate) fn is_modal(entity: &NetEntity) -> bool
 }
 
 /// The ports of an entity that refinements share.
-fn modal_ports(alloc: Global, entity: &NetEntity) -> Result<TopPorts, AllocError>
+fn modal_ports(alloc: Global, entity: &NetEntity) -> Result<PortNumbers, AllocError>
     ensures { IfOk result (λ ports. (name : List ℕ) → port_numbers ports name ≡ modal_ports (entity_view entity.now) name) }
 {
     if is_modal(entity) {
-        TopPorts::of_ports(alloc, &entity.ports)
+        PortNumbers::of_ports(alloc, &entity.ports)
     } else {
-        Ok(TopPorts::new(alloc))
+        Ok(PortNumbers::new(alloc))
     }
 }
 
 /// For each entity the ports that refinements share.
-fn port_tables(alloc: Global, entities: &[NetEntity]) -> Result<Vec<TopPorts>, AllocError>
+fn port_tables(alloc: Global, entities: &[NetEntity]) -> Result<Vec<PortNumbers>, AllocError>
     ensures { IfOk result (λ tables. map port_numbers tables.items ≡ map modal_ports (map entity_view entities.now)) }
 {
     let mut tables = Vec::with_capacity(alloc, entities.len())?;
@@ -66,7 +66,7 @@ fn add_like(
 
 /// What passes at the ports of a refinement and at those of the Modal entity of this number.
 fn add_refinement(
-    table: &TopPorts,
+    table: &PortNumbers,
     modal: u32,
     entity: usize,
     ports: &[Port],
@@ -82,7 +82,7 @@ fn add_refinement(
 }
 
 /// The ports of the entity of this number, if it is there.
-fn table_at(tables: &[TopPorts], number: u32) -> Option<&TopPorts>
+fn table_at(tables: &[PortNumbers], number: u32) -> Option<&PortNumbers>
     ensures { option_map (λ t. port_numbers t.now) result ≡ slice_get (map port_numbers tables.now) number }
 {
     tables.get(number as usize)
@@ -90,7 +90,7 @@ fn table_at(tables: &[TopPorts], number: u32) -> Option<&TopPorts>
 
 /// What passes at the ports of an entity within a Modal one.
 fn add_within(
-    tables: &[TopPorts],
+    tables: &[PortNumbers],
     modal: u32,
     entity: usize,
     ports: &[Port],
@@ -106,7 +106,7 @@ fn add_within(
 
 /// What passes at the ports of an entity, where it is a refinement.
 fn add_child(
-    tables: &[TopPorts],
+    tables: &[PortNumbers],
     number: usize,
     entity: &NetEntity,
     inequalities: &mut Vec<Inequality>,
@@ -121,7 +121,7 @@ fn add_child(
 
 /// What passes at the ports of refinements.
 fn add_children(
-    tables: &[TopPorts],
+    tables: &[PortNumbers],
     entities: &[NetEntity],
     inequalities: &mut Vec<Inequality>,
 ) -> Result<(), AllocError>

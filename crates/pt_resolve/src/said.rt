@@ -230,15 +230,15 @@ fn with_field(
 fn behind_part<'a>(
     alloc: Global,
     ty: Ty,
-    open: OpenRecord<'a>,
+    unclosed: OpenRecord<'a>,
     around: Vec<Open<'a>>,
     text: &'a [u8],
 ) -> Result<Next<'a>, AllocError>
     ensures { IfOk result
-        (λ next. next_view next ≡ said.behind_field (names_view open.entry.names) (map typed_entry open.entry.fields.items ++ (open.entry.name.now, type_of ty) ∷ []) (stack_view around.entry.items) text.entry.now) }
+        (λ next. next_view next ≡ said.behind_field (names_view unclosed.entry.names) (map typed_entry unclosed.entry.fields.items ++ (unclosed.entry.name.now, type_of ty) ∷ []) (stack_view around.entry.items) text.entry.now) }
 {
-    let fields = with_field(alloc, open.fields, open.name, ty)?;
-    behind_field(alloc, open.names, fields, around, text)
+    let fields = with_field(alloc, unclosed.fields, unclosed.name, ty)?;
+    behind_field(alloc, unclosed.names, fields, around, text)
 }
 
 /// The array of a type.
@@ -289,7 +289,7 @@ fn go_on<'a>(
     match around.pop() {
         None => Ok(Next::Ends(if_nothing(ty, text))),
         Some(Open::Array) => behind_element(alloc, ty, around, text),
-        Some(Open::Record(open)) => behind_part(alloc, ty, open, around, text),
+        Some(Open::Record(unclosed)) => behind_part(alloc, ty, unclosed, around, text),
     }
 }
 

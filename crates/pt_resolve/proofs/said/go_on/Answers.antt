@@ -11,4 +11,4 @@ returns c =
     let t = type_of c.args.ty in
     let text = c.args.text.now in
     IfOk-weaker c.behind_part.result _ (λ (next : Next). next_view next ≡ go_on t (stack_view c.args.around.items) text)
-    (λ next e. e ∙ sym (behind-record t c.args.around.items c.pop.new.self.items c.in-Some-Record.open text (c.in-Some-Record.ensures.items ∙ ap (λ o. c.pop.new.self.items ++ o ∷ []) c.in-Some-Record.field-0-is))) c.behind_part.ensures
+    (λ next e. e ∙ sym (behind-record t c.args.around.items c.pop.new.self.items c.in-Some-Record.unclosed text (c.in-Some-Record.ensures.items ∙ ap (λ o. c.pop.new.self.items ++ o ∷ []) c.in-Some-Record.field-0-is))) c.behind_part.ensures

@@ -10,17 +10,17 @@ use pt_moml::Port;
 use std::alloc::{AllocError, Global};
 use std::hash::{BuildHasherDefault, DefaultHasher};
 
-/// The ports of the top by their names.
+/// The ports of an entity by their names: the number of each.
 #[derive(Drop)]
-pub(crate) struct TopPorts {
+pub(crate) struct PortNumbers {
     numbers: IndexMap<String, usize, BuildHasherDefault<DefaultHasher>>,
 }
 
-impl TopPorts {
-    pub(crate) fn new(alloc: Global) -> TopPorts
+impl PortNumbers {
+    pub(crate) fn new(alloc: Global) -> PortNumbers
         ensures { (name : List ℕ) → port_numbers result name ≡ None }
     {
-        TopPorts {
+        PortNumbers {
             numbers: IndexMap::with_hasher(alloc, BuildHasherDefault::new()),
         }
     }
@@ -42,23 +42,23 @@ impl TopPorts {
     }
 
     /// These ports.
-    pub(crate) fn of_ports(alloc: Global, ports: &[Port]) -> Result<TopPorts, AllocError>
-        ensures { IfOk result (λ top. (name : List ℕ) → port_numbers top name ≡ with_ports no_ports 0 (map port_view ports.now) name) }
+    pub(crate) fn of_ports(alloc: Global, ports: &[Port]) -> Result<PortNumbers, AllocError>
+        ensures { IfOk result (λ numbers. (name : List ℕ) → port_numbers numbers name ≡ with_ports no_ports 0 (map port_view ports.now) name) }
     {
-        let mut top = TopPorts::new(alloc);
+        let mut numbers = PortNumbers::new(alloc);
         for (number, port) in ports.iter().enumerate() {
-            top.put(alloc, port.name.as_str(), number)?;
+            numbers.put(alloc, port.name.as_str(), number)?;
         }
-        Ok(top)
+        Ok(numbers)
     }
 
     /// The ports of the first of these entities.
-    pub(crate) fn of(alloc: Global, entities: &[NetEntity]) -> Result<TopPorts, AllocError>
-        ensures { IfOk result (λ top. (name : List ℕ) → port_numbers top name ≡ top_ports (map entity_view entities.now) name) }
+    pub(crate) fn of(alloc: Global, entities: &[NetEntity]) -> Result<PortNumbers, AllocError>
+        ensures { IfOk result (λ numbers. (name : List ℕ) → port_numbers numbers name ≡ top_ports (map entity_view entities.now) name) }
     {
         match entities.first() {
-            Some(entity) => TopPorts::of_ports(alloc, &entity.ports),
-            None => Ok(TopPorts::new(alloc)),
+            Some(entity) => PortNumbers::of_ports(alloc, &entity.ports),
+            None => Ok(PortNumbers::new(alloc)),
         }
     }
 }

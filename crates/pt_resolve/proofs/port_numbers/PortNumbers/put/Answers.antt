@@ -3,7 +3,7 @@ use Rattle.std.specs.Prelude.{string_bytes}
 use Rattle.std.specs.Str.{bytes_eq}
 use Rattle.std.proofs.lemmas.Map.Text.{hash_map_updates_text}
 use Rattle.pt_resolve.specs.Views.{port_numbers}
-use Rattle.pt_resolve.proofs.top.TopPorts.put.Goals as goal
+use Rattle.pt_resolve.proofs.port_numbers.PortNumbers.put.Goals as goal
 
 pub returns : goal.returns
 returns c =
