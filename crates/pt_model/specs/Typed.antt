@@ -14,8 +14,10 @@ use Rattle.pt_typed.specs.NetTypes.{types_below}
 use Rattle.pt_order.specs.Laws.{IsNetOfDocument}
 use Rattle.pt_model.specs.Model.{IsModel}
 
--- In the meaning of the model of the net of a document, at each fuel, each finished firing took at each place only tokens of the type that the net has there, and gave on each output only tokens of the type of that.
+-- In the meaning of a model of a net, at each fuel, each finished firing took at each place only tokens of the type that the net has there, and gave on each output only tokens of the type of that.
+abbrev pub KeepsTypes : (net : Net) (top : Shown) (j : SdfJob) → IsModel net top j → Type 0
+KeepsTypes net top j model = (k : ℕ) → IsTypedLog IsTokenOf (types_below net model.typing 0) (meaning k rows no_meetings (schedule j) (node_of top))
+
+-- So it is of each model of the net of a document.
 abbrev pub ModelsKeepTypes : Type 0
-ModelsKeepTypes =
-    (net : Net) (top : Shown) (j : SdfJob) → IsNetOfDocument net → (model : IsModel net top j) →
-    (k : ℕ) → IsTypedLog IsTokenOf (types_below net model.typing 0) (meaning k rows no_meetings (schedule j) (node_of top))
+ModelsKeepTypes = (net : Net) (top : Shown) (j : SdfJob) → IsNetOfDocument net → (model : IsModel net top j) → KeepsTypes net top j model

@@ -3,14 +3,16 @@ use Rattle.std.proofs.Common.{◌≡◌, ℕ, List, Result, Ok, Err, IfOk, ◌�
 use Rattle.std.specs.declared.alloc.AllocError.{AllocError}
 use Rattle.pt_moml.specs.Document.{JobTree}
 use Rattle.pt_moml.specs.Reading.{IsJobOf}
+use Rattle.pt_moml.specs.declared.code.Code.TheVariants as code
 use Rattle.pt_moml.specs.Stands as reading
 use Rattle.pt_graph.specs.declared.net.Net.{Net}
 use Rattle.pt_graph.specs.Net.{IsNetOf}
 use Rattle.pt_top.specs.declared.report.Reply.{Reply}
 use Rattle.pt_top.specs.declared.status.Status.{Status}
 use Rattle.pt_top.specs.declared.status.Status.TheVariants.{Done, Words, Document, Fault, Budget, Read, Write, Memory, Queue, Length}
-use Rattle.pt_top.specs.Reply.{AnswersNet}
-use Rattle.pt_top.specs.Outcome.{in_links, in_net, AnswersJob, Answers, IsWellLinked, IsFaultless, IsDueFor, limit}
+use Rattle.pt_model.proofs.TypedLaws.{models-keep-types}
+use Rattle.pt_top.specs.Reply.{IsReport, AnswersNet}
+use Rattle.pt_top.specs.Outcome.{in_links, in_net, IsReportOf, AnswersJob, Answers, IsWellLinked, IsFaultless, IsDueFor, limit}
 
 from-net : (job : JobTree) (net : Net) (budget : ℕ) → IsNetOf job net → IsWellLinked job → (s : Status) (text : List ℕ) → AnswersNet net budget s text → AnswersJob job budget s text
 from-net job net budget n c Done text a = (net, n, c, a)
@@ -29,10 +31,20 @@ pub net-answers : (job : JobTree) (net : Net) (budget : ℕ) (reply : Result Rep
 net-answers job net budget (Ok r) n c a = from-net job net budget n c r.status r.text.items a
 net-answers job net budget (Err e) n c a = tt
 
+-- a report of the net of a document is that of the document
+reported : (bytes : List ℕ) (job : JobTree) (budget : ℕ) → IsJobOf bytes job → reading.IsClean bytes → (s : Status) (text : List ℕ) (net : Net) → IsNetOf job net → IsWellLinked job → IsReport net budget s text → IsReportOf bytes budget s text
+reported bytes job budget j c s text net n l a = record {
+  job = job;
+  net = net;
+  accepted = record { is_job = j; is_net = n; well_formed = c; well_linked = l };
+  report = a;
+  typed = models-keep-types net a.top a.job (record { bytes = bytes; job = job; read = j; made = n; clean = λ path h. l code.Link path h }) a.is_model;
+}
+
 from-job : (bytes : List ℕ) (job : JobTree) (budget : ℕ) → IsJobOf bytes job → reading.IsClean bytes → (s : Status) (text : List ℕ) → AnswersJob job budget s text → Answers bytes budget s text
-from-job bytes job budget j c Done text (net, n, l, a) = record { job = job; net = net; accepted = record { is_job = j; is_net = n; well_formed = c; well_linked = l }; report = a }
-from-job bytes job budget j c Fault text (net, n, l, a) = record { job = job; net = net; accepted = record { is_job = j; is_net = n; well_formed = c; well_linked = l }; report = a }
-from-job bytes job budget j c Budget text (net, n, l, a) = record { job = job; net = net; accepted = record { is_job = j; is_net = n; well_formed = c; well_linked = l }; report = a }
+from-job bytes job budget j c Done text (net, n, l, a) = reported bytes job budget j c Done text net n l a
+from-job bytes job budget j c Fault text (net, n, l, a) = reported bytes job budget j c Fault text net n l a
+from-job bytes job budget j c Budget text (net, n, l, a) = reported bytes job budget j c Budget text net n l a
 from-job bytes job budget j c Document text (r, inl h, t) = (r, in_links job j c h, t)
 from-job bytes job budget j c Document text (r, inr (net, n, l, h), t) = (r, in_net job net (record { is_job = j; is_net = n; well_formed = c; well_linked = l }) h, t)
 from-job bytes job budget j c Words text a = absurd a

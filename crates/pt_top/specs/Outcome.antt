@@ -13,6 +13,7 @@ use Rattle.pt_graph.specs.declared.net.Net.{Net}
 use Rattle.pt_graph.specs.Net.{IsNetOf}
 use Rattle.pt_graph.specs.Stands as linking
 use Rattle.pt_model.specs.Refused as unmodelled
+use Rattle.pt_model.specs.Typed.{KeepsTypes}
 use Rattle.pt_top.specs.Reply.{line, refusal_text, IsReport, IsAffordableNet}
 use Rattle.pt_top.specs.declared.status.Status.{Status}
 use Rattle.pt_top.specs.declared.status.Status.TheVariants as status
@@ -37,12 +38,13 @@ pub data IsRefused (bytes : List ℕ) (r : Refusal) : Type 0 where
   in_links : (job : JobTree) → IsJobOf bytes job → reading.IsClean bytes → linking.Stands r.code r.path job → IsRefused bytes r
   in_net : (job : JobTree) (net : Net) → HasNet bytes job net → unmodelled.IsRefused net r → IsRefused bytes r
 
--- the report of a run of a document within a budget
+-- The report of a run of a document within a budget. In the meaning of its model no firing met a token of another type than its port's.
 pub record IsReportOf (bytes : List ℕ) (budget : ℕ) (status : Status) (text : List ℕ) : Type 0 where
   pub job : JobTree
   pub net : Net
   pub accepted : HasNet bytes job net
   pub report : IsReport net budget status text
+  pub typed : KeepsTypes net report.top report.job report.is_model
 
 -- A status and its text answer a job.
 abbrev pub AnswersJob : JobTree → (budget : ℕ) → Status → List ℕ → Type 0
