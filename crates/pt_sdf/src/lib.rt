@@ -5,6 +5,7 @@ mod chain;
 mod feeds;
 mod gather;
 mod number;
+mod numbers;
 mod outlets;
 mod plan;
 mod rooms;
