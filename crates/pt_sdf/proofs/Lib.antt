@@ -7,6 +7,7 @@ pub mod LevelLaws
 pub mod Lists
 pub mod MarkLaws
 pub mod NeedLaws
+pub mod NumberLaws
 pub mod OrderLaws
 pub mod OutletLaws
 pub mod SoundLaws

@@ -58,6 +58,16 @@ rates-short [] (x ∷ out) n = refl
 rates-short (r ∷ rs) [] n = refl
 rates-short (r ∷ rs) (x ∷ out) n = either-false (nat_eq r (length x)) (has_rates rs out) (rates-short rs out (λ e. n (ap (λ k. suc k) e)))
 
+-- rates that aren't those of one port don't fit one list
+pub one-list-lacks : {T : Type 0} (ns : List ℕ) (xs : List T) → (length ns ≡ 1 → ⊥) → nat_eq (length ns) 1 ≡ has_rates ns (xs ∷ [])
+one-list-lacks [] xs e = refl
+one-list-lacks (n ∷ []) xs e = absurd (e refl)
+one-list-lacks (n ∷ (m ∷ ns)) xs e = let long : nat_eq (length (n ∷ (m ∷ ns))) 1 ≡ false = grind (arith, nat_tests, e) in long ∙ nothing (nat_eq n (length xs))
+  where
+    nothing : (b : Bool) → false ≡ (b && false)
+    nothing true = refl
+    nothing false = refl
+
 -- rates that aren't those of one port don't fit one token
 pub one-lacks : {T : Type 0} (ns : List ℕ) (t : T) → (length ns ≡ 1 → ⊥) → nat_eq (length ns) 1 ≡ has_rates ns ((t ∷ []) ∷ [])
 one-lacks [] t e = refl

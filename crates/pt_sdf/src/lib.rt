@@ -6,6 +6,7 @@ mod feeds;
 mod gather;
 mod lanes;
 mod number;
+mod numbers;
 mod outlets;
 mod plan;
 mod rooms;

@@ -2,6 +2,7 @@ ghost use Rattle.std.specs.Prelude.{◌≡◌, ◌↔◌, ◌<◌, length, IfOk,
 
 use crate::gather::{Span, gather, lend_number, lighten};
 use crate::number::{is_one, put_on_outlet, scatter_number};
+use crate::numbers::{are_all_of_one, scatter_numbers};
 use crate::outlets::hand_out;
 use crate::plan::CorePlan;
 use crate::rooms::{fill_rooms, rooms_for};
@@ -72,7 +73,7 @@ impl Model for Core {
 }
 
 impl Core {
-    ghost use Rattle.std.specs.Prelude.{◌≡◌, ◌↔◌, ◌<◌, [], ◌∷◌, length, List, IfOk, IsSome, IsTrue, OnOk, OnErr, Option, Some, None};
+    ghost use Rattle.std.specs.Prelude.{◌≡◌, ◌↔◌, ◌<◌, [], ◌∷◌, length, map, List, IfOk, IsSome, IsTrue, OnOk, OnErr, Option, Some, None};
     ghost use Rattle.pt_value.specs.declared.token.Token.TheVariants.{Int};
     ghost use Rattle.pt_meaning.specs.Basics as basics;
     ghost use Rattle.pt_meaning.specs.Kahn.{firsts};
@@ -355,5 +356,30 @@ impl Core {
         ensures { result.now ≡ self.now.plan.gives }
     {
         &self.plan.gives
+    }
+
+    /// Takes the numbers that the firing of the child gave as the tokens on its one port. After an `Err` the core is as before.
+    pub fn told_numbers(
+        &mut self,
+        alloc: Global,
+        child: u32,
+        numbers: &[i64],
+    ) -> Result<(), AllocError>
+        requires asked { asked_child self.old.stage ≡ Some child }
+        ensures told { OnOk result (self.new ≡ after_told child (map Int numbers.now ∷ []) self.old) }
+        ensures kept { OnErr result (self.new ≡ self.old) }
+    {
+        let i = child as usize;
+        if !are_all_of_one(self.plan.rates[i].as_slice(), numbers.len()) {
+            self.stage = Stage::Wrong(child);
+            return Ok(());
+        }
+        let from = self.tables.offsets[i];
+        let n = self.plan.places.as_slice()[i];
+        fill_rooms(alloc, &mut self.rooms, self.plan.needs.as_slice(), from, n)?;
+        scatter_numbers(&mut self.channels, &self.tables.feeds[i], numbers)?;
+        (self.left, self.at) = place_after(self.plan.order.len(), self.left, self.at);
+        self.stage = Stage::Open;
+        Ok(())
     }
 }

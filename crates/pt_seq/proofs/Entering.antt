@@ -1,5 +1,5 @@
 -- The firing of a node of the code, by what its body is.
-use Rattle.std.proofs.Common.{◌≡◌, ℤ, [], ◌∷◌, false, map, sym, ap, subst, ◌∙◌}
+use Rattle.std.proofs.Common.{◌≡◌, ℤ, List, [], ◌∷◌, Bool, true, false, map, sym, ap, subst, ◌∙◌}
 use Rattle.pt_meaning.specs.Basics.{Tag, Streams}
 use Rattle.pt_meaning.specs.Tree as tree
 use Rattle.pt_value.specs.declared.token.Token.{Token}
@@ -17,7 +17,7 @@ use Rattle.pt_node.specs.View.{outline_of, count_of}
 use Rattle.pt_node.specs.Live.{IsFit}
 use Rattle.pt_seq.specs.declared.fire.Within.{Within}
 use Rattle.pt_seq.specs.declared.fire.Within.TheVariants.{Done}
-use Rattle.pt_seq.specs.Within.{WithinTo, StaysFit, ActorTo, DirectorTo, DirectorStaysFit, GaveNumber, records_of}
+use Rattle.pt_seq.specs.Within.{WithinTo, StaysFit, ActorTo, DirectorTo, DirectorStaysFit, Gave, SeveralTo, records_of}
 use Rattle.pt_seq.proofs.Turns.{actor-goes, actor-fit, composite-goes, composite-fit}
 
 -- the fields of a node, with another body
@@ -65,8 +65,8 @@ module _ (n n' : Node) (r r' : opens.Node-F Node) (d d' : Director) (ks' : AllSh
       subst (λ s. StaysFit s w (shown_node n')) (sym (old-is n r (body.Composite d) e is))
       (subst (λ s. StaysFit (with-body r (body.Composite d)) w s) (sym new-composite) (composite-fit (frame-in r) d d' (all_of (map shown r.children.items)) ks' w fit))
 
--- a firing that gave one number on the one port of a node without recorded ports
-module _ (n n' : Node) (r r' : opens.Node-F Node) (held held' : Held) (e : roll-Node r ≡ n) (e' : roll-Node r' ≡ n') (is : r.body ≡ body.Actor held) (X : Streams Token) (k : ℤ) (gives : (tag : Tag) → library.step tag held.actor X ≡ tree.Gives held'.actor ((Int k ∷ []) ∷ [])) (start : held'.start ≡ held.start)
+-- a firing of a node without recorded ports that gave these outputs
+module _ (n n' : Node) (r r' : opens.Node-F Node) (held held' : Held) (e : roll-Node r ≡ n) (e' : roll-Node r' ≡ n') (is : r.body ≡ body.Actor held) (X out : Streams Token) (gives : (tag : Tag) → library.step tag held.actor X ≡ tree.Gives held'.actor out) (start : held'.start ≡ held.start)
     (now : level r' ≡ Branch (record { past = r.past; body = body.Actor held'; records = r.records; path = r.path; live = false }) (all_of (map shown r.children.items))) where
   old-shown : shown_node n ≡ with-body r (body.Actor held)
   old-shown = old-is n r (body.Actor held) e is
@@ -74,10 +74,10 @@ module _ (n n' : Node) (r r' : opens.Node-F Node) (held held' : Held) (e : roll-
   new-shown : shown_node n' ≡ Branch (record { past = r.past; body = body.Actor held'; records = r.records; path = r.path; live = false }) (all_of (map shown r.children.items))
   new-shown = ap (λ m. shown_node m) (sym e') ∙ ap (λ x. level x) (out-roll-Node r') ∙ now
 
-  pub gave-number : IsFit (shown_node n) → r.records ≡ [] → GaveNumber (shown_node n) X k (shown_node n')
-  gave-number fit none = record {
-    goes = λ tag. actor-enters n n' r r' held held' e e' is tag X (Done ((Int k ∷ []) ∷ [])) (gives tag, start) now;
-    fit = let tag : Tag = record { time = 0; step = 0 } in actor-stays n n' r r' held held' e e' is tag X (Done ((Int k ∷ []) ∷ [])) (gives tag, start) now fit;
+  pub gave-out : IsFit (shown_node n) → r.records ≡ [] → Gave (shown_node n) X out (shown_node n')
+  gave-out fit none = record {
+    goes = λ tag. actor-enters n n' r r' held held' e e' is tag X (Done out) (gives tag, start) now;
+    fit = let tag : Tag = record { time = 0; step = 0 } in actor-stays n n' r r' held held' e e' is tag X (Done out) (gives tag, start) now fit;
     outline = ap (λ s. outline_of s) new-shown ∙ sym (ap (λ s. outline_of s) old-shown);
     count = ap (λ s. count_of s) new-shown ∙ sym (ap (λ s. count_of s) old-shown);
     unrecorded = ap (λ s. records_of s) new-shown ∙ none;
@@ -89,3 +89,11 @@ not-live x = record { past = x.past; body = x.body; children = x.children; recor
 
 pub no-longer-live : (r : opens.Node-F Node) → level (not-live (out-Node (roll-Node r))) ≡ Branch (record { past = r.past; body = r.body; records = r.records; path = r.path; live = false }) (all_of (map shown r.children.items))
 no-longer-live r = ap (λ (x : opens.Node-F Node). Branch (record { past = x.past; body = x.body; records = x.records; path = x.path; live = false }) (all_of (map shown x.children.items))) (out-roll-Node r)
+
+-- one of which nothing else was written
+pub only-not-live : (r : opens.Node-F Node) (b : Body) → r.body ≡ b → level (not-live r) ≡ Branch (record { past = r.past; body = b; records = r.records; path = r.path; live = false }) (all_of (map shown r.children.items))
+only-not-live r b is = ap (λ x. Branch (record { past = r.past; body = x; records = r.records; path = r.path; live = false }) (all_of (map shown r.children.items))) is
+
+-- such a firing that gave numbers
+pub some-given : (old new : Shown) (X : Streams Token) (b : Bool) (ns : List ℤ) → SeveralTo old X b ns new → b ≡ true → Gave old X (map Int ns ∷ []) new
+some-given old new X b ns g is = subst (λ v. SeveralTo old X v ns new) is g

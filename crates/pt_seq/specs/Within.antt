@@ -1,5 +1,5 @@
 -- What a firing of a node comes to among the definitions, before and after it is recorded.
-use Rattle.std.specs.Prelude.{◌≡◌, ℕ, ℤ, ◌+◌, ◌<◌, ◌≤◌, List, [], ◌∷◌, ◌⊎◌, true, false, Option, Some, None, get_or}
+use Rattle.std.specs.Prelude.{◌≡◌, ℕ, ℤ, ◌+◌, ◌<◌, ◌≤◌, List, [], ◌∷◌, map, ◌⊎◌, Bool, true, false, Option, Some, None, get_or}
 use Rattle.pt_meaning.specs.Basics.{Tag, Streams, Path}
 use Rattle.pt_meaning.specs.Machine.{Outcome}
 use Rattle.pt_meaning.specs.Machine as machine
@@ -167,18 +167,23 @@ made_of (Branch f ks) = f.past.made
 abbrev pub records_of : Shown → List RecordedPort
 records_of (Branch f ks) = f.records
 
--- A firing of a node without recorded ports, whatever its tag, that is done with one number on its one port. It isn't recorded yet.
-pub record GaveNumber (old : Shown) (X : Streams Token) (n : ℤ) (new : Shown) : Type 0 where
-  pub goes : (tag : Tag) → WithinTo old tag X (Done ((Int n ∷ []) ∷ [])) new
-  pub fit : StaysFit old (Done ((Int n ∷ []) ∷ [])) new
+-- A firing of a node without recorded ports, whatever its tag, that is done with these outputs. It isn't recorded yet.
+pub record Gave (old : Shown) (X out : Streams Token) (new : Shown) : Type 0 where
+  pub goes : (tag : Tag) → WithinTo old tag X (Done out) new
+  pub fit : StaysFit old (Done out) new
   pub outline : outline_of new ≡ outline_of old
   pub count : count_of new ≡ count_of old
   pub unrecorded : records_of new ≡ []
 
--- such a firing was made, or nothing was done
+-- such a firing was made and gave one number on its one port, or nothing was done
 abbrev pub QuickTo : Shown → Streams Token → Option ℤ → Shown → Type 0
-QuickTo old X (Some n) new = GaveNumber old X n new
+QuickTo old X (Some n) new = Gave old X ((Int n ∷ []) ∷ []) new
 QuickTo old X None new = new ≡ old
+
+-- such a firing was made and gave just these numbers on its one port, or nothing was done
+abbrev pub SeveralTo : Shown → Streams Token → Bool → List ℤ → Shown → Type 0
+SeveralTo old X true ns new = Gave old X (map Int ns ∷ []) new
+SeveralTo old X false ns new = new ≡ old
 
 -- the core, which was told what a child gave, was asked again: it goes on and the child's firing is recorded, or the child is told as stuck, or there was no memory for that
 abbrev pub AskedAgain : State → Shown → Tag → Turn → State → Shown → Type 0

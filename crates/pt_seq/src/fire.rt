@@ -10,6 +10,7 @@ ghost use Rattle.pt_node.specs.Live.{IsLive, IsFit, Takes, AllFit, IsReady, Take
 ghost use Rattle.pt_node.specs.declared.director.Director.TheVariants.{Sdf};
 ghost use Rattle.pt_seq.specs.Within.{WithinTo, SpendsAll, StaysFit, DirectorTo, DirectorStaysFit, SdfTo, SdfStaysFit, TurnTo, TurnSpends, AnswersTo, ActorTo, IsFaultAt, QuickTo, AskedAgain, TellTo, FinishTo, records_of};
 
+use crate::numbers::{several, tell_numbers};
 use pt_firing::{Answer, Ask, Fires, Inputs, Outputs, Place, RunFault, Step};
 use pt_node::{Body, Director, Held, Node};
 use pt_time::Tag;
@@ -187,6 +188,7 @@ fn fire_sdf(
     if core.begin(alloc, tag, inputs).is_err() {
         return Within::Memory;
     }
+    let mut given = Vec::new(alloc);
     let mut next = core.ask();
     loop {
         match next {
@@ -194,7 +196,8 @@ fn fire_sdf(
                 if *left == 0 {
                     return Within::Spent;
                 }
-                match fire_child(alloc, core, &mut children[child as usize], child, tag, left) {
+                let node = &mut children[child as usize];
+                match fire_child(alloc, core, node, child, tag, left, &mut given) {
                     Turn::Next(ask) => next = ask,
                     Turn::Fault(place) => return Within::Fault(place),
                     Turn::Spent => return Within::Spent,
@@ -217,6 +220,7 @@ fn fire_child(
     number: u32,
     tag: Tag,
     left: &mut u64,
+    given: &mut Vec<i64>,
 ) -> Turn
     requires asked { asked_child core.old.stage ≡ Some number }
     requires fit { IsFit (shown_node child.old) }
@@ -227,15 +231,15 @@ fn fire_child(
     ensures outline { outline_of (shown_node child.new) ≡ outline_of (shown_node child.old) }
     ensures counted { count_of (shown_node child.new) + left.new ≡ count_of (shown_node child.old) + left.old }
 {
-    let Some(given) = quick(child, &core.lent()) else {
+    let Some(one) = quick(child, &core.lent()) else {
         // In a place of its own, so that the turn of a number stays out of memory.
-        let turn = fire_any(alloc, core, child, number, tag, left);
+        let turn = fire_several(alloc, core, child, number, tag, left, given);
         return turn;
     };
     if *left == 0 {
         return Turn::Spent;
     }
-    tell_number(alloc, core, child, number, tag, left, given)
+    tell_number(alloc, core, child, number, tag, left, one)
 }
 
 /// One firing of a library actor of which no output is recorded, where it gives one number. The firing isn't recorded. Where no number is given, nothing was done.
@@ -282,6 +286,36 @@ fn tell_number(
         return Turn::Memory;
     }
     ask_again(alloc, core, child, tag, left)
+}
+
+/// A turn of a child that gives numbers alone, which go by a buffer, or of one of any kind.
+#[cycle(fire)]
+#[inline(never)]
+fn fire_several(
+    alloc: Global,
+    core: &mut pt_sdf::Core,
+    child: &mut Node,
+    number: u32,
+    tag: Tag,
+    left: &mut u64,
+    given: &mut Vec<i64>,
+) -> Turn
+    requires asked { asked_child core.old.stage ≡ Some number }
+    requires fit { IsFit (shown_node child.old) }
+    requires inputs { Takes tag (shown_node child.old) (lent_in core.old.stage) }
+    ensures goes { TurnTo core.old (shown_node child.old) number tag result core.new (shown_node child.new) }
+    ensures spends { TurnSpends result left.old left.new }
+    ensures lowered { left.new ≤ left.old }
+    ensures outline { outline_of (shown_node child.new) ≡ outline_of (shown_node child.old) }
+    ensures counted { count_of (shown_node child.new) + left.new ≡ count_of (shown_node child.old) + left.old }
+{
+    if !several(child, &core.lent(), given) {
+        return fire_any(alloc, core, child, number, tag, left);
+    }
+    if *left == 0 {
+        return Turn::Spent;
+    }
+    tell_numbers(alloc, core, child, number, tag, left, given)
 }
 
 /// A turn of a child of any kind.
@@ -345,7 +379,7 @@ fn tell(
 
 /// Asks the core again, which was told what the child gave. The child's firing is recorded where it gave its rates.
 #[inline(always)]
-fn ask_again(
+pub(crate) fn ask_again(
     alloc: Global,
     core: &mut pt_sdf::Core,
     child: &mut Node,

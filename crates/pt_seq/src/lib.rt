@@ -2,5 +2,6 @@
 #![tactic(auto)]
 
 mod fire;
+mod numbers;
 
 pub use fire::{fire_seq, fire_within};

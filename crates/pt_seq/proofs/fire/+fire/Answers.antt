@@ -7,7 +7,7 @@ use Rattle.pt_seq.specs.Within.{TellTo}
 use Rattle.pt_seq.specs.Between.{Between}
 use Rattle.pt_seq.proofs.Turns.{off-none, turn-stuck, turn-off, turn-off-done, turn-after, between-begun, off-between, finish-goes, finish-fit}
 use Rattle.pt_seq.proofs.Loop.{on-ok, index-in, child-asked, child-fit, child-in, child-depth, loop-next, loop-outlines, loop-counted, loop-fault, loop-off}
-use Rattle.pt_seq.proofs.Entering.{actor-enters, actor-stays, composite-enters, composite-stays}
+use Rattle.pt_seq.proofs.Entering.{actor-enters, actor-stays, composite-enters, composite-stays, some-given}
 use Rattle.pt_seq.proofs.fire.+fire.Goals as goal
 
 pub fire_any-returns-in-Fault-clause-goes : goal.fire_any-returns-in-Fault-clause-goes
@@ -26,10 +26,21 @@ pub fire_any-returns-clause-goes : goal.fire_any-returns-clause-goes
 fire_any-returns-clause-goes t c =
     turn-after c.args.core.now (shown_node c.args.child.now) (shown_node c.fire.new.node) c.args.number c.args.tag c.lent.result c.in-Done.outputs c.tell.result c.tell.new.core (shown_node c.tell.new.child) c.lent.ensures c.in-Done.ensures.goes c.in-Done.ensures.fit c.in-Done.ensures.outline (ap (λ p. p.made) c.in-Done.ensures.past) c.tell.ensures.goes
 
+pub fire_several-returns-then-left-eq0-clause-goes : goal.fire_several-returns-then-left-eq0-clause-goes
+fire_several-returns-then-left-eq0-clause-goes t c =
+    let gave = some-given (shown_node c.args.child.now) (shown_node c.several.new.node) c.lent.result c.several.result c.several.new.given.items c.several.ensures.goes c.if-not-several.false in
+    turn-off-done (shown_node c.args.child.now) (shown_node c.several.new.node) c.args.tag c.lent.result _ _ c.lent.ensures (gave.goes c.args.tag)
+
+pub fire_several-returns-clause-goes : goal.fire_several-returns-clause-goes
+fire_several-returns-clause-goes t c =
+    let gave = some-given (shown_node c.args.child.now) (shown_node c.several.new.node) c.lent.result c.several.result c.several.new.given.items c.several.ensures.goes c.if-not-several.false in
+    turn-after c.args.core.now (shown_node c.args.child.now) (shown_node c.several.new.node) c.args.number c.args.tag c.lent.result (map Int c.several.new.given.items ∷ []) c.tell_numbers.result c.tell_numbers.new.core (shown_node c.tell_numbers.new.child) c.lent.ensures (gave.goes c.args.tag) gave.fit gave.outline (ap (λ p. p.made) c.several.ensures.past)
+    (subst (λ v. TellTo c.args.core.now (shown_node c.several.new.node) c.args.number c.args.tag (map Int v ∷ []) c.tell_numbers.result c.tell_numbers.new.core (shown_node c.tell_numbers.new.child)) c.deref.ensures.value c.tell_numbers.ensures.goes)
+
 pub fire_child-returns-clause-goes : goal.fire_child-returns-clause-goes
 fire_child-returns-clause-goes t c =
     let gave = c.in-Some.ensures.goes in
-    let n : ℤ = c.in-Some.given in
+    let n : ℤ = c.in-Some.one in
     let fits : SFits w64 n = search rules in
     let told = subst (λ z. TellTo c.args.core.now (shown_node c.quick.new.node) c.args.number c.args.tag ((Int z ∷ []) ∷ []) c.tell_number.result c.tell_number.new.core (shown_node c.tell_number.new.child)) (to_z-of_z w64 n fits) c.tell_number.ensures.goes in
     turn-after c.args.core.now (shown_node c.args.child.now) (shown_node c.quick.new.node) c.args.number c.args.tag c.lent.result ((Int n ∷ []) ∷ []) c.tell_number.result c.tell_number.new.core (shown_node c.tell_number.new.child) c.lent.ensures (gave.goes c.args.tag) gave.fit gave.outline (ap (λ p. p.made) c.in-Some.ensures.past) told
@@ -48,72 +59,72 @@ fire_sdf-loop-next-init t c =
 pub fire_sdf-returns-then-left-eq0-clause-goes : goal.fire_sdf-returns-then-left-eq0-clause-goes
 fire_sdf-returns-then-left-eq0-clause-goes t c = off-between c.args.core.now (map shown c.args.children.now.items) (map shown c.loop-next.children.items) c.args.tag c.args.inputs.now c.args.left.now c.loop-next.left c.loop-next.next c.loop-next.core c.loop-next.invariant
 
-pub fire_sdf-index_mut-requires : goal.fire_sdf-index_mut-requires
-fire_sdf-index_mut-requires t c =
+pub fire_sdf-index_mut-node-requires : goal.fire_sdf-index_mut-node-requires
+fire_sdf-index_mut-node-requires t c =
     let h = index-in c.args.core.now (map shown c.args.children.now.items) c.loop-next.children.items c.args.tag c.in-Fire.field-1 c.args.inputs.now c.args.left.now c.loop-next.left c.in-Fire.child c.loop-next.core c.loop-next.next c.loop-next.invariant c.in-Fire.is in grind (arith, h)
 
 pub fire_sdf-fire_child-requires : goal.fire_sdf-fire_child-requires
 fire_sdf-fire_child-requires t c =
     let kids = c.loop-next.children.items in
-    let deep = child-depth c.args.core.now (map shown c.args.children.now.items) kids c.args.tag c.in-Fire.field-1 c.args.inputs.now c.args.left.now c.loop-next.left c.in-Fire.child c.loop-next.core c.loop-next.next c.loop-next.invariant c.in-Fire.is c.index_mut.result.now c.index_mut.ensures.value in (
+    let deep = child-depth c.args.core.now (map shown c.args.children.now.items) kids c.args.tag c.in-Fire.field-1 c.args.inputs.now c.args.left.now c.loop-next.left c.in-Fire.child c.loop-next.core c.loop-next.next c.loop-next.invariant c.in-Fire.is c.index_mut-node.result.now c.index_mut-node.ensures.value in (
       omega (arith, c.decreases, deep),
       (
-        child-asked c.args.core.now (map shown c.args.children.now.items) kids c.args.tag c.in-Fire.field-1 c.args.inputs.now c.args.left.now c.loop-next.left c.in-Fire.child c.loop-next.core c.loop-next.next c.loop-next.invariant c.in-Fire.is c.index_mut.result.now c.index_mut.ensures.value,
+        child-asked c.args.core.now (map shown c.args.children.now.items) kids c.args.tag c.in-Fire.field-1 c.args.inputs.now c.args.left.now c.loop-next.left c.in-Fire.child c.loop-next.core c.loop-next.next c.loop-next.invariant c.in-Fire.is c.index_mut-node.result.now c.index_mut-node.ensures.value,
         (
-          child-fit c.args.core.now (map shown c.args.children.now.items) kids c.args.tag c.in-Fire.field-1 c.args.inputs.now c.args.left.now c.loop-next.left c.in-Fire.child c.loop-next.core c.loop-next.next c.loop-next.invariant c.in-Fire.is c.index_mut.result.now c.index_mut.ensures.value,
-          child-in c.args.core.now (map shown c.args.children.now.items) kids c.args.tag c.in-Fire.field-1 c.args.inputs.now c.args.left.now c.loop-next.left c.in-Fire.child c.loop-next.core c.loop-next.next c.loop-next.invariant c.in-Fire.is c.index_mut.result.now c.index_mut.ensures.value,
+          child-fit c.args.core.now (map shown c.args.children.now.items) kids c.args.tag c.in-Fire.field-1 c.args.inputs.now c.args.left.now c.loop-next.left c.in-Fire.child c.loop-next.core c.loop-next.next c.loop-next.invariant c.in-Fire.is c.index_mut-node.result.now c.index_mut-node.ensures.value,
+          child-in c.args.core.now (map shown c.args.children.now.items) kids c.args.tag c.in-Fire.field-1 c.args.inputs.now c.args.left.now c.loop-next.left c.in-Fire.child c.loop-next.core c.loop-next.next c.loop-next.invariant c.in-Fire.is c.index_mut-node.result.now c.index_mut-node.ensures.value,
         ),
       ),
     )
 
 pub fire_sdf-loop-next-preserved : goal.fire_sdf-loop-next-preserved
 fire_sdf-loop-next-preserved t c =
-    loop-next c.args.core.now (map shown c.args.children.now.items) c.loop-next.children.items c.args.tag c.in-Fire.field-1 c.args.inputs.now c.args.left.now c.loop-next.left c.in-Fire.child c.loop-next.core c.loop-next.next c.loop-next.invariant c.in-Fire.is c.index_mut.result.now c.index_mut.ensures.value
+    loop-next c.args.core.now (map shown c.args.children.now.items) c.loop-next.children.items c.args.tag c.in-Fire.field-1 c.args.inputs.now c.args.left.now c.loop-next.left c.in-Fire.child c.loop-next.core c.loop-next.next c.loop-next.invariant c.in-Fire.is c.index_mut-node.result.now c.index_mut-node.ensures.value
     c.fire_child.new.child c.in-Next.ask c.fire_child.new.core c.fire_child.new.left c.in-Next.ensures.goes c.in-Next.ensures.outline c.in-Next.ensures.counted c.in-Next.ensures.lowered
 
 pub fire_sdf-returns-in-Fault-clause-goes : goal.fire_sdf-returns-in-Fault-clause-goes
 fire_sdf-returns-in-Fault-clause-goes t c =
-    loop-fault c.args.core.now (map shown c.args.children.now.items) c.loop-next.children.items c.args.tag c.in-Fire.field-1 c.args.inputs.now c.args.left.now c.loop-next.left c.in-Fire.child c.loop-next.core c.loop-next.next c.loop-next.invariant c.in-Fire.is c.index_mut.result.now c.index_mut.ensures.value
+    loop-fault c.args.core.now (map shown c.args.children.now.items) c.loop-next.children.items c.args.tag c.in-Fire.field-1 c.args.inputs.now c.args.left.now c.loop-next.left c.in-Fire.child c.loop-next.core c.loop-next.next c.loop-next.invariant c.in-Fire.is c.index_mut-node.result.now c.index_mut-node.ensures.value
     c.fire_child.new.child c.in-Fault.place c.fire_child.new.core c.in-Fault.ensures.goes
 
 pub fire_sdf-returns-in-Fault-clause-outlines : goal.fire_sdf-returns-in-Fault-clause-outlines
 fire_sdf-returns-in-Fault-clause-outlines t c =
-    loop-outlines c.args.core.now (map shown c.args.children.now.items) c.loop-next.children.items c.args.tag c.in-Fire.field-1 c.args.inputs.now c.args.left.now c.loop-next.left c.in-Fire.child c.loop-next.core c.loop-next.next c.loop-next.invariant c.in-Fire.is c.index_mut.result.now c.index_mut.ensures.value
+    loop-outlines c.args.core.now (map shown c.args.children.now.items) c.loop-next.children.items c.args.tag c.in-Fire.field-1 c.args.inputs.now c.args.left.now c.loop-next.left c.in-Fire.child c.loop-next.core c.loop-next.next c.loop-next.invariant c.in-Fire.is c.index_mut-node.result.now c.index_mut-node.ensures.value
     c.fire_child.new.child c.in-Fault.ensures.outline
 
 pub fire_sdf-returns-in-Fault-clause-counted : goal.fire_sdf-returns-in-Fault-clause-counted
 fire_sdf-returns-in-Fault-clause-counted t c =
-    loop-counted c.args.core.now (map shown c.args.children.now.items) c.loop-next.children.items c.args.tag c.in-Fire.field-1 c.args.inputs.now c.args.left.now c.loop-next.left c.in-Fire.child c.loop-next.core c.loop-next.next c.loop-next.invariant c.in-Fire.is c.index_mut.result.now c.index_mut.ensures.value
+    loop-counted c.args.core.now (map shown c.args.children.now.items) c.loop-next.children.items c.args.tag c.in-Fire.field-1 c.args.inputs.now c.args.left.now c.loop-next.left c.in-Fire.child c.loop-next.core c.loop-next.next c.loop-next.invariant c.in-Fire.is c.index_mut-node.result.now c.index_mut-node.ensures.value
     c.fire_child.new.child c.fire_child.new.left c.in-Fault.ensures.counted
 
 pub fire_sdf-returns-in-Spent-clause-goes : goal.fire_sdf-returns-in-Spent-clause-goes
 fire_sdf-returns-in-Spent-clause-goes t c =
-    loop-off c.args.core.now (map shown c.args.children.now.items) c.loop-next.children.items c.args.tag c.in-Fire.field-1 c.args.inputs.now c.args.left.now c.loop-next.left c.in-Fire.child c.loop-next.core c.loop-next.next c.loop-next.invariant c.in-Fire.is c.index_mut.result.now c.index_mut.ensures.value
+    loop-off c.args.core.now (map shown c.args.children.now.items) c.loop-next.children.items c.args.tag c.in-Fire.field-1 c.args.inputs.now c.args.left.now c.loop-next.left c.in-Fire.child c.loop-next.core c.loop-next.next c.loop-next.invariant c.in-Fire.is c.index_mut-node.result.now c.index_mut-node.ensures.value
     c.fire_child.new.child c.in-Spent.ensures.goes
 
 pub fire_sdf-returns-in-Spent-clause-outlines : goal.fire_sdf-returns-in-Spent-clause-outlines
 fire_sdf-returns-in-Spent-clause-outlines t c =
-    loop-outlines c.args.core.now (map shown c.args.children.now.items) c.loop-next.children.items c.args.tag c.in-Fire.field-1 c.args.inputs.now c.args.left.now c.loop-next.left c.in-Fire.child c.loop-next.core c.loop-next.next c.loop-next.invariant c.in-Fire.is c.index_mut.result.now c.index_mut.ensures.value
+    loop-outlines c.args.core.now (map shown c.args.children.now.items) c.loop-next.children.items c.args.tag c.in-Fire.field-1 c.args.inputs.now c.args.left.now c.loop-next.left c.in-Fire.child c.loop-next.core c.loop-next.next c.loop-next.invariant c.in-Fire.is c.index_mut-node.result.now c.index_mut-node.ensures.value
     c.fire_child.new.child c.in-Spent.ensures.outline
 
 pub fire_sdf-returns-in-Spent-clause-counted : goal.fire_sdf-returns-in-Spent-clause-counted
 fire_sdf-returns-in-Spent-clause-counted t c =
-    loop-counted c.args.core.now (map shown c.args.children.now.items) c.loop-next.children.items c.args.tag c.in-Fire.field-1 c.args.inputs.now c.args.left.now c.loop-next.left c.in-Fire.child c.loop-next.core c.loop-next.next c.loop-next.invariant c.in-Fire.is c.index_mut.result.now c.index_mut.ensures.value
+    loop-counted c.args.core.now (map shown c.args.children.now.items) c.loop-next.children.items c.args.tag c.in-Fire.field-1 c.args.inputs.now c.args.left.now c.loop-next.left c.in-Fire.child c.loop-next.core c.loop-next.next c.loop-next.invariant c.in-Fire.is c.index_mut-node.result.now c.index_mut-node.ensures.value
     c.fire_child.new.child c.fire_child.new.left c.in-Spent.ensures.counted
 
 pub fire_sdf-returns-in-Memory-clause-goes : goal.fire_sdf-returns-in-Memory-clause-goes
 fire_sdf-returns-in-Memory-clause-goes t c =
-    loop-off c.args.core.now (map shown c.args.children.now.items) c.loop-next.children.items c.args.tag c.in-Fire.field-1 c.args.inputs.now c.args.left.now c.loop-next.left c.in-Fire.child c.loop-next.core c.loop-next.next c.loop-next.invariant c.in-Fire.is c.index_mut.result.now c.index_mut.ensures.value
+    loop-off c.args.core.now (map shown c.args.children.now.items) c.loop-next.children.items c.args.tag c.in-Fire.field-1 c.args.inputs.now c.args.left.now c.loop-next.left c.in-Fire.child c.loop-next.core c.loop-next.next c.loop-next.invariant c.in-Fire.is c.index_mut-node.result.now c.index_mut-node.ensures.value
     c.fire_child.new.child c.in-Memory.ensures.goes
 
 pub fire_sdf-returns-in-Memory-clause-outlines : goal.fire_sdf-returns-in-Memory-clause-outlines
 fire_sdf-returns-in-Memory-clause-outlines t c =
-    loop-outlines c.args.core.now (map shown c.args.children.now.items) c.loop-next.children.items c.args.tag c.in-Fire.field-1 c.args.inputs.now c.args.left.now c.loop-next.left c.in-Fire.child c.loop-next.core c.loop-next.next c.loop-next.invariant c.in-Fire.is c.index_mut.result.now c.index_mut.ensures.value
+    loop-outlines c.args.core.now (map shown c.args.children.now.items) c.loop-next.children.items c.args.tag c.in-Fire.field-1 c.args.inputs.now c.args.left.now c.loop-next.left c.in-Fire.child c.loop-next.core c.loop-next.next c.loop-next.invariant c.in-Fire.is c.index_mut-node.result.now c.index_mut-node.ensures.value
     c.fire_child.new.child c.in-Memory.ensures.outline
 
 pub fire_sdf-returns-in-Memory-clause-counted : goal.fire_sdf-returns-in-Memory-clause-counted
 fire_sdf-returns-in-Memory-clause-counted t c =
-    loop-counted c.args.core.now (map shown c.args.children.now.items) c.loop-next.children.items c.args.tag c.in-Fire.field-1 c.args.inputs.now c.args.left.now c.loop-next.left c.in-Fire.child c.loop-next.core c.loop-next.next c.loop-next.invariant c.in-Fire.is c.index_mut.result.now c.index_mut.ensures.value
+    loop-counted c.args.core.now (map shown c.args.children.now.items) c.loop-next.children.items c.args.tag c.in-Fire.field-1 c.args.inputs.now c.args.left.now c.loop-next.left c.in-Fire.child c.loop-next.core c.loop-next.next c.loop-next.invariant c.in-Fire.is c.index_mut-node.result.now c.index_mut-node.ensures.value
     c.fire_child.new.child c.fire_child.new.left c.in-Memory.ensures.counted
 
 pub fire_sdf-returns-in-Finished-clause-goes : goal.fire_sdf-returns-in-Finished-clause-goes

@@ -5,19 +5,22 @@ use Rattle.pt_seq.specs.Between.{Between}
 use Rattle.pt_seq.proofs.fire.+fire.Given as goal
 
 abbrev pub decreases-fire : goal.decreases-fire
-decreases-fire l = 5 * depth (outline_of (shown_node l.node.now))
+decreases-fire l = 6 * depth (outline_of (shown_node l.node.now))
 
 abbrev pub decreases-fire_composite : goal.decreases-fire_composite
-decreases-fire_composite l = 5 * depths (outlines_of (all_of (map shown l.children.now.items))) + 4
+decreases-fire_composite l = 6 * depths (outlines_of (all_of (map shown l.children.now.items))) + 5
 
 abbrev pub decreases-fire_sdf : goal.decreases-fire_sdf
-decreases-fire_sdf l = 5 * depths (outlines_of (all_of (map shown l.children.now.items))) + 3
+decreases-fire_sdf l = 6 * depths (outlines_of (all_of (map shown l.children.now.items))) + 4
 
 abbrev pub decreases-fire_child : goal.decreases-fire_child
-decreases-fire_child l = 5 * depth (outline_of (shown_node l.child.now)) + 2
+decreases-fire_child l = 6 * depth (outline_of (shown_node l.child.now)) + 3
+
+abbrev pub decreases-fire_several : goal.decreases-fire_several
+decreases-fire_several l = 6 * depth (outline_of (shown_node l.child.now)) + 2
 
 abbrev pub decreases-fire_any : goal.decreases-fire_any
-decreases-fire_any l = 5 * depth (outline_of (shown_node l.child.now)) + 1
+decreases-fire_any l = 6 * depth (outline_of (shown_node l.child.now)) + 1
 
 abbrev pub invariant-fire_sdf-loop-next : goal.invariant-fire_sdf-loop-next
 invariant-fire_sdf-loop-next l = Between l.fn.core (map shown l.fn.children.items) l.fn.tag l.inputs l.fn.left l.next l.core (map shown l.children.items) l.left

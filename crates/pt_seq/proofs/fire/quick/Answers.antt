@@ -1,15 +1,16 @@
-use Rattle.std.proofs.Common.{◌≡◌, ℤ, w64, SFits, rules, [], refl, sym, subst, ◌∙◌}
+use Rattle.std.proofs.Common.{◌≡◌, ℤ, w64, SFits, rules, [], ◌∷◌, refl, sym, subst, ◌∙◌}
 use Rattle.std.proofs.lemmas.Bool.{eqb-true}
 use Rattle.std.proofs.lemmas.Int.{to_z-of_z}
 use Rattle.std.proofs.lemmas.List.{nil_from_length}
+use Rattle.pt_value.specs.declared.token.Token.TheVariants.{Int}
 use Rattle.pt_node.specs.declared.node.Node.{Node, roll-Node, out-Node}
 use Rattle.pt_node.specs.declared.node.Node.TheViews.{roll-out-Node}
 use Rattle.pt_node.specs.declared.node.Node.TheOpen as opens
 use Rattle.pt_node.specs.declared.body.Body.TheVariants as body
 use Rattle.pt_node.specs.declared.body.Held.{Held}
 use Rattle.pt_node.specs.Shown.{shown_node}
-use Rattle.pt_seq.specs.Within.{GaveNumber}
-use Rattle.pt_seq.proofs.Entering.{gave-number, not-live, no-longer-live}
+use Rattle.pt_seq.specs.Within.{Gave}
+use Rattle.pt_seq.proofs.Entering.{gave-out, not-live, no-longer-live}
 use Rattle.pt_seq.proofs.fire.quick.Goals as goal
 
 pub returns-in_ok-given-in-Actor-clause-goes : goal.returns-in_ok-given-in-Actor-clause-goes
@@ -23,5 +24,5 @@ returns-in_ok-given-in-Actor-clause-goes c =
     let none : r.records ≡ [] = sym c.as_slice.ensures ∙ nil_from_length _ (eqb-true _ _ (sym c.is_empty.ensures ∙ c.if-not-is_empty.false)) in
     let written : opens.Node-F Node = record { past = r.past; body = body.Actor held'; children = r.children; records = r.records; path = r.path; live = r.live } in
     let r' : opens.Node-F Node = not-live (out-Node (roll-Node written)) in
-    subst (λ z. GaveNumber (shown_node n) c.args.inputs.now z (shown_node (roll-Node r'))) (sym (to_z-of_z w64 given fits))
-    (gave-number n (roll-Node r') r r' held held' (roll-out-Node n) refl c.in-Actor.is c.args.inputs.now given c.in_ok-given-in-Actor.ensures refl (no-longer-live written) c.requires.fit none)
+    subst (λ z. Gave (shown_node n) c.args.inputs.now ((Int z ∷ []) ∷ []) (shown_node (roll-Node r'))) (sym (to_z-of_z w64 given fits))
+    (gave-out n (roll-Node r') r r' held held' (roll-out-Node n) refl c.in-Actor.is c.args.inputs.now ((Int given ∷ []) ∷ []) c.in_ok-given-in-Actor.ensures refl (no-longer-live written) c.requires.fit none)

@@ -1,0 +1,38 @@
+use Rattle.std.proofs.Common.{ℕ, ◌-◌, ◌<◌, ◌≤◌, List, [], ◌∷◌, ◌++◌, length, get_or, map, ap, ◌∙◌, sym, subst, arith, refl, length-set}
+use Rattle.std.proofs.lemmas.List.{drop_all}
+use Rattle.pt_recv.specs.Lines.{list_at}
+use Rattle.pt_value.specs.declared.token.Token.{Token}
+use Rattle.pt_value.specs.declared.token.Token.TheVariants.{Int}
+use Rattle.pt_sdf.specs.declared.feeds.Feed.{Feed}
+use Rattle.pt_sdf.specs.Feeds.{no_feed, target_of, put_back}
+use Rattle.pt_sdf.proofs.FeedLaws.{next-put, on-one-port}
+use Rattle.pt_sdf.proofs.numbers.put_on_each.Goals as goal
+
+pub loop-k-init : goal.loop-k-init
+loop-k-init c = record {
+  lists = ap (λ v. put_back (map target_of v) (map Int c.args.numbers.now ∷ []) c.args.channels.now.lists) (sym (drop_all (length c.args.feeds.now) c.args.feeds.now (omega arith)));
+  counted = refl;
+  room = c.requires.room;
+}
+
+pub put_numbers-requires-clause-given : goal.put_numbers-requires-clause-given
+put_numbers-requires-clause-given c = omega (arith, c.requires.there.channels (c.loop-k.k - 1) (omega (arith, c.loop-k-test.true, c.loop-k.auto.k)), c.loop-k.invariant.counted)
+
+pub put_numbers-requires-clause-room : goal.put_numbers-requires-clause-room
+put_numbers-requires-clause-room c = c.loop-k.invariant.room (c.loop-k.k - 1) (omega (arith, c.loop-k-test.true))
+
+pub loop-k-preserved : goal.loop-k-preserved
+loop-k-preserved c =
+    let F : List Feed = c.args.feeds.now in
+    let k : ℕ = c.loop-k.k in
+    let f : Feed = get_or F (k - 1) no_feed in
+    let a : 0 < k = c.loop-k-test.true in
+    let b : k ≤ length F = omega (arith, c.loop-k.auto.k) in
+    let ts : List Token = map Int c.args.numbers.now in
+    record {
+      lists = next-put F k a b (ts ∷ []) c.args.channels.now.lists c.loop-k.channels.lists c.put_numbers.new.channels.lists f ts refl c.loop-k.invariant.lists (on-one-port ts f.port (c.requires.there.ports (k - 1) (omega (arith, a, b)))) c.put_numbers.ensures.lists;
+      counted = ap (λ v. length v) c.put_numbers.ensures.lists ∙ length-set c.loop-k.channels.lists f.channel (list_at c.loop-k.channels.lists f.channel ++ ts) ∙ c.loop-k.invariant.counted;
+      room = λ j l.
+          subst (λ v. length c.args.numbers.now ≤ v) (sym (c.put_numbers.ensures.others (get_or F j no_feed).channel (λ z. c.requires.apart j (k - 1) l (omega (arith, a, b)) z)))
+          (c.loop-k.invariant.room j (omega (arith, l)));
+    }

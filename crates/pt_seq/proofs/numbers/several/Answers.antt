@@ -1,0 +1,22 @@
+use Rattle.std.proofs.Common.{◌≡◌, [], ◌∷◌, map, refl, sym, subst, ◌∙◌}
+use Rattle.std.proofs.lemmas.Bool.{eqb-true}
+use Rattle.std.proofs.lemmas.List.{nil_from_length}
+use Rattle.pt_value.specs.declared.token.Token.TheVariants.{Int}
+use Rattle.pt_library.specs.LibraryActor as library
+use Rattle.pt_library.specs.LibraryActor.{GivesNumbers}
+use Rattle.pt_node.specs.declared.node.Node.{Node, roll-Node, out-Node}
+use Rattle.pt_node.specs.declared.node.Node.TheViews.{roll-out-Node}
+use Rattle.pt_node.specs.declared.node.Node.TheOpen as opens
+use Rattle.pt_node.specs.declared.body.Body.TheVariants as body
+use Rattle.pt_node.specs.declared.body.Held.{Held}
+use Rattle.pt_seq.proofs.Entering.{gave-out, not-live, only-not-live}
+use Rattle.pt_seq.proofs.numbers.several.Goals as goal
+
+pub returns-else-not-numbers-clause-goes : goal.returns-else-not-numbers-clause-goes
+returns-else-not-numbers-clause-goes c =
+    let n : Node = c.args.node.now in
+    let r : opens.Node-F Node = out-Node n in
+    let held : Held = c.in-Actor.held in
+    let none : r.records ≡ [] = sym c.as_slice.ensures ∙ nil_from_length _ (eqb-true _ _ (sym c.is_empty.ensures ∙ c.if-not-is_empty.false)) in
+    let gave = subst (λ b. GivesNumbers library.step held.actor c.args.inputs.now b c.numbers.new.given.items held.actor) c.if-not-numbers.false c.numbers.ensures in
+    gave-out n (roll-Node (not-live r)) r (not-live r) held held (roll-out-Node n) refl c.in-Actor.is c.args.inputs.now (map Int c.numbers.new.given.items ∷ []) gave refl (only-not-live r (body.Actor held) c.in-Actor.is) c.requires.fit none
