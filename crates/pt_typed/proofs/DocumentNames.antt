@@ -4,8 +4,6 @@ use Rattle.std.specs.Prelude.{option_map, filter, IsTrue}
 use Rattle.std.specs.List.{AllByRecursion, list_all}
 use Rattle.std.specs.Option.{is_none}
 use Rattle.std.proofs.lemmas.Option.{same_Some}
-use Rattle.std.proofs.lemmas.Bool.{false≢true}
-use Rattle.std.proofs.lemmas.List.Folds.{list_any-append}
 use Rattle.std.proofs.lemmas.Slice.Eq.{bytes_eq-Decides}
 use Rattle.pt_types.proofs.Fields.{and_left, and_right}
 use Rattle.pt_moml.specs.declared.code.Code.{Code}
@@ -14,19 +12,22 @@ use Rattle.pt_moml.specs.declared.job.Direction.{Direction}
 use Rattle.pt_moml.specs.declared.job.Direction.TheVariants.{Input, Output}
 use Rattle.pt_moml.specs.Document.{PropertyTree, property_name, property_class, PortTree, Parts, parts}
 use Rattle.pt_moml.specs.Classes.{Class, ClassPort, Kind, Composite, Modal, Actor, classes, class_in, class_row, kind_of}
-use Rattle.pt_moml.specs.Names.{is_among, is_layout, is_reserved, has_name, are_distinct_after, are_distinct, below}
+use Rattle.pt_moml.specs.Names.{is_among, is_layout, is_reserved, are_distinct, below}
 use Rattle.pt_moml.specs.Rules.{parameter_names, is_of_modal}
+use Rattle.pt_moml.proofs.RuleLaws.{rules_clean}
 use Rattle.pt_moml.specs.Stands.{IsIn, BreaksRule, unknown_parameter, in_parameter, reserved_name, in_value, in_variable, in_property, in_parameters, port_is_there}
 use Rattle.pt_graph.specs.Standing.{Standing, is_kept, is_composite, entities}
 use Rattle.pt_graph.specs.Table.{joined_ports}
 use Rattle.pt_graph.specs.Net.{NetEntityTree, TransparentTree, is_parameter, row_port, net_ports_of_kind, net_ports, entity_tree, transparent_tree, entity_view}
 use Rattle.pt_values.specs.Scopes.{is_composite_class}
+use Rattle.pt_order.proofs.ReadParts.{IsRead}
+use Rattle.pt_order.proofs.Standings.{documents-seen}
+use Rattle.pt_order.proofs.PortRules.{own-names}
 use Rattle.pt_typed.specs.InputLaw.{HaveOwnNames}
 use Rattle.pt_typed.specs.OwnNames.{AreFreelyNamed}
 use Rattle.pt_typed.specs.DocumentLaw.{DocumentsAreNamed}
 use Rattle.pt_typed.proofs.RowsMet.{viewed}
 use Rattle.pt_typed.proofs.SeenFrames.{unviewed}
-use Rattle.pt_typed.proofs.DocumentRules.{KeepsRules, StandsRuled, documents-ruled}
 
 -- ---- lists
 
@@ -34,6 +35,10 @@ all-at : {X : Type 0} (P : X → Type 0) (xs : List X) (n : ℕ) (x : X) → All
 all-at P [] n x a e = absurd (cc)
 all-at P (y ∷ xs) zero x a e = subst P (same_Some y x e) a.0
 all-at P (y ∷ xs) (suc n) x a e = all-at P xs n x a.1 e
+
+all-from : {X : Type 0} (P : X → Type 0) (xs : List X) → ((n : ℕ) (x : X) → slice_get xs n ≡ Some x → P x) → AllByRecursion P xs
+all-from P [] h = tt
+all-from P (x ∷ xs) h = (h 0 x refl, all-from P xs (λ n y e. h (suc n) y e))
 
 all-kept : {X : Type 0} (P : X → Type 0) (test : X → Bool) (xs : List X) → AllByRecursion P xs → AllByRecursion (λ x. (test x ≡ true) × P x) (filter test xs)
 all-kept P test [] a = tt
@@ -83,7 +88,11 @@ composite-kind class kind composite e = by_name (bytes_eq class (codes "Composit
     by_name false true one e = inr (sym (same_Some Modal kind e))
     by_name false false one e = absurd (cc)
 
-module _ (own : Parts) (r : KeepsRules own) where
+-- no refusal stands in an entity that is read
+unbroken : (own : Parts) (r : IsRead own) (cause : Code) (path : List ℕ) → BreaksRule r.here own.properties own.ports r.kind cause path → ⊥
+unbroken own r cause path b = rules_clean r.here r.kind own.properties own.ports cause path b r.given r.rules
+
+module _ (own : Parts) (r : IsRead own) where
   abbrev Breaks : Kind → Code → List ℕ → Type 0
   Breaks kind cause path = BreaksRule r.here own.properties own.ports kind cause path
 
@@ -93,56 +102,19 @@ module _ (own : Parts) (r : KeepsRules own) where
       let kind : Actor class ≡ r.kind = same_Some (Actor class) r.kind (sym e ∙ r.kind_is) in
       kept-all (λ (p : PropertyTree). is_among (parameter_names class.parameters) (property_name p) ≡ true) is_parameter own.properties (λ p there passes.
       not-false (is_among (parameter_names class.parameters) (property_name p)) (λ strange.
-      r.kept code.Parameter (below r.here (property_name p)) (subst (λ k. Breaks k code.Parameter (below r.here (property_name p))) kind (in_parameters class (in_parameter p there (unknown_parameter (parameter-plain p passes).0 strange))))))
+      unbroken own r code.Parameter (below r.here (property_name p)) (subst (λ k. Breaks k code.Parameter (below r.here (property_name p))) kind (in_parameters class (in_parameter p there (unknown_parameter (parameter-plain p passes).0 strange))))))
 
   -- of a composite
   free-parameters : IsTrue (is_composite_class own.class) → AreFreelyNamed (filter is_parameter own.properties)
   free-parameters composite =
       kept-all (λ (p : PropertyTree). is_reserved (property_name p) ≡ false) is_parameter own.properties (λ p there passes.
-      not-reserved (is_reserved (property_name p)) (λ reserved. r.kept code.Name r.here (broken p there (parameter-plain p passes) reserved (composite-kind own.class r.kind composite r.kind_is))))
+      not-reserved (is_reserved (property_name p)) (λ reserved. unbroken own r code.Name r.here (broken p there (parameter-plain p passes) reserved (composite-kind own.class r.kind composite r.kind_is))))
     where
       broken : (p : PropertyTree) → IsIn p own.properties → (is_layout (property_name p) ≡ false) × (property_class p ≡ None) → is_reserved (property_name p) ≡ true → (r.kind ≡ Composite) ⊎ (r.kind ≡ Modal) → Breaks r.kind code.Name r.here
       broken p there plain reserved (inl is) = subst (λ k. Breaks k code.Name r.here) (sym is) (in_property p there (in_value plain.0 plain.1 (reserved_name reserved)))
       broken p there plain reserved (inr is) = subst (λ k. Breaks k code.Name r.here) (sym is) (in_property p there (in_variable plain.0 (ap is_of_modal plain.1) (reserved_name reserved)))
 
 -- ---- names of ports
-
--- of ports whose names differ each has its own
-has-last : (seen : List (List ℕ)) (name : List ℕ) → has_name (seen ++ (name ∷ [])) name ≡ true
-has-last seen name = list_any-append (bytes_eq name) seen (name ∷ []) ∙ ends (has_name seen name) (bytes_eq name name) ((bytes_eq-Decides name name).1 refl)
-  where
-    ends : (a b : Bool) → b ≡ true → (a || (b || false)) ≡ true
-    ends true b e = refl
-    ends false true e = refl
-    ends false false e = absurd (cc)
-
-has-more : (seen : List (List ℕ)) (first name : List ℕ) → has_name seen name ≡ true → has_name (seen ++ (first ∷ [])) name ≡ true
-has-more seen first name e = list_any-append (bytes_eq name) seen (first ∷ []) ∙ ap (λ b. b || (bytes_eq name first || false)) e
-
-split-first : (b : Bool) (rest : Bool) → (if b then false else rest) ≡ true → (b ≡ false) × (rest ≡ true)
-split-first true rest e = absurd (cc)
-split-first false rest e = (refl, e)
-
-abbrev names : List PortTree → List (List ℕ)
-names ps = map (λ (p : PortTree). p.name) ps
-
-unseen : (seen : List (List ℕ)) (ps : List PortTree) → are_distinct_after seen (names ps) ≡ true → (n : ℕ) (p : PortTree) → slice_get ps n ≡ Some p → has_name seen p.name ≡ true → ⊥
-unseen seen [] e n p at h = cc
-unseen seen (q ∷ ps) e zero p at h = let w = split-first (has_name seen q.name) (are_distinct_after (seen ++ (q.name ∷ [])) (names ps)) e in false≢true (sym w.0 ∙ ap (λ (x : PortTree). has_name seen x.name) (same_Some q p at) ∙ h)
-unseen seen (q ∷ ps) e (suc n) p at h = let w = split-first (has_name seen q.name) (are_distinct_after (seen ++ (q.name ∷ [])) (names ps)) e in unseen (seen ++ (q.name ∷ [])) ps w.1 n p at (has-more seen q.name p.name h)
-
-own-names : (seen : List (List ℕ)) (ps : List PortTree) → are_distinct_after seen (names ps) ≡ true → HaveOwnNames ps
-own-names seen [] e i j p q at there same = absurd (cc)
-own-names seen (x ∷ ps) e zero zero p q at there same = refl
-own-names seen (x ∷ ps) e zero (suc j) p q at there same =
-    let w = split-first (has_name seen x.name) (are_distinct_after (seen ++ (x.name ∷ [])) (names ps)) e in
-    absurd (unseen (seen ++ (x.name ∷ [])) ps w.1 j q there (ap (has_name (seen ++ (x.name ∷ []))) (sym same ∙ ap (λ (y : PortTree). y.name) (sym (same_Some x p at))) ∙ has-last seen x.name))
-own-names seen (x ∷ ps) e (suc i) zero p q at there same =
-    let w = split-first (has_name seen x.name) (are_distinct_after (seen ++ (x.name ∷ [])) (names ps)) e in
-    absurd (unseen (seen ++ (x.name ∷ [])) ps w.1 i p at (ap (has_name (seen ++ (x.name ∷ []))) (same ∙ ap (λ (y : PortTree). y.name) (sym (same_Some x q there))) ∙ has-last seen x.name))
-own-names seen (x ∷ ps) e (suc i) (suc j) p q at there same =
-    let w = split-first (has_name seen x.name) (are_distinct_after (seen ++ (x.name ∷ [])) (names ps)) e in
-    ap (λ n. suc n) (own-names (seen ++ (x.name ∷ [])) ps w.1 i j p q at there same)
 
 -- two lists of ports, where no name stands in both
 get-either : {X : Type 0} (xs ys : List X) (n : ℕ) (x : X) → slice_get (xs ++ ys) n ≡ Some x → (slice_get xs n ≡ Some x) ⊎ ((m : ℕ) × (n ≡ length xs + m) × (slice_get ys m ≡ Some x))
@@ -191,7 +163,7 @@ kind-apart name c e = by_name (bytes_eq name (codes "Composite")) (bytes_eq name
     by_name false false None is g = absurd (cc)
     by_name false false (Some x) is g = let same : x ≡ c = (let h : Actor x ≡ Actor c = same_Some (Actor x) (Actor c) g in cc) in all-classes-apart name c (is ∙ ap (λ y. Some y) same)
 
-rows-named : (ps : List ClassPort) → names (map row_port ps) ≡ map (λ (p : ClassPort). p.name) ps
+rows-named : (ps : List ClassPort) → map (λ (p : PortTree). p.name) (map row_port ps) ≡ map (λ (p : ClassPort). p.name) ps
 rows-named [] = refl
 rows-named (p ∷ ps) = ap (λ ns. p.name ∷ ns) (rows-named ps)
 
@@ -209,15 +181,15 @@ in-at [] n p e = absurd (cc)
 in-at (q ∷ ps) zero p e = inl (sym (same_Some q p e))
 in-at (q ∷ ps) (suc n) p e = inr (in-at ps n p e)
 
-module _ (own : Parts) (r : KeepsRules own) where
+module _ (own : Parts) (r : IsRead own) where
   declared-own : HaveOwnNames own.ports
-  declared-own = own-names [] own.ports r.distinct
+  declared-own = own-names own.ports r.distinct
 
   -- what is declared has other names than the ports of the class
   declared-other : (class : Class) → kind_of own.class ≡ Some (Actor class) → AreOtherNames own.ports (map row_port class.ports)
   declared-other class e i j p q at there same =
       let kind : Actor class ≡ r.kind = same_Some (Actor class) r.kind (sym e ∙ r.kind_is) in
-      r.kept code.Name r.here (subst (λ k. BreaksRule r.here own.properties own.ports k code.Name r.here) kind (port_is_there class p (in-at own.ports i p at) (ap (is_among (map (λ (x : ClassPort). x.name) class.ports)) same ∙ among-at class.ports j q there)))
+      unbroken own r code.Name r.here (subst (λ k. BreaksRule r.here own.properties own.ports k code.Name r.here) kind (port_is_there class p (in-at own.ports i p at) (ap (is_among (map (λ (x : ClassPort). x.name) class.ports)) same ∙ among-at class.ports j q there)))
 
   joined-own : (o : Option Direction) (xs ys : List PortTree) → HaveOwnNames xs → HaveOwnNames ys → AreOtherNames xs ys → HaveOwnNames (joined_ports o xs ys)
   joined-own None xs ys f g other = both-own xs ys f g other
@@ -232,10 +204,14 @@ module _ (own : Parts) (r : KeepsRules own) where
       by_kind (Some Composite) e = declared-own
       by_kind (Some Modal) e = declared-own
       by_kind (Some (Actor class)) e =
-          let rows : HaveOwnNames (map row_port class.ports) = own-names [] (map row_port class.ports) (ap are_distinct (rows-named class.ports) ∙ kind-apart own.class class e) in
+          let rows : HaveOwnNames (map row_port class.ports) = own-names (map row_port class.ports) (ap are_distinct (rows-named class.ports) ∙ kind-apart own.class class e) in
           joined-own class.declares own.ports (map row_port class.ports) declared-own rows (declared-other class e)
 
 -- ---- the net
+
+-- the parts of an entity are as they are read
+abbrev StandsRead : Standing → Type 0
+StandsRead s = IsRead (parts s.tree)
 
 -- what is left out of the net is a Composite
 left-out : (outer directed composite : Bool) → not (outer || not composite || directed) ≡ true → composite ≡ true
@@ -245,18 +221,18 @@ left-out false directed false e = absurd (cc)
 
 pub documents-named : DocumentsAreNamed
 documents-named bytes job net is of =
-    let ruled = documents-ruled bytes job is in
-    let kept = all-kept StandsRuled is_kept (entities job) ruled in
-    let left = all-kept StandsRuled (λ s. not (is_kept s)) (entities job) ruled in
-    let entity : (k : ℕ) (e : NetEntityTree) → slice_get (map entity_view net.entities.items) k ≡ Some e → (s : Standing) × KeepsRules (parts s.tree) × (entity_tree s ≡ e) =
-    λ k e at. (let w = unviewed entity_tree (filter is_kept (entities job)) k e (ap (λ es. slice_get es k) (sym of.each_entity) ∙ at) in (w.0, (all-at (λ s. (is_kept s ≡ true) × StandsRuled s) (filter is_kept (entities job)) k w.0 kept w.1).1, w.2)) in (
+    let read = all-from StandsRead (entities job) (λ n s at. (documents-seen bytes job is n s at).read) in
+    let kept = all-kept StandsRead is_kept (entities job) read in
+    let left = all-kept StandsRead (λ s. not (is_kept s)) (entities job) read in
+    let entity : (k : ℕ) (e : NetEntityTree) → slice_get (map entity_view net.entities.items) k ≡ Some e → (s : Standing) × IsRead (parts s.tree) × (entity_tree s ≡ e) =
+    λ k e at. (let w = unviewed entity_tree (filter is_kept (entities job)) k e (ap (λ es. slice_get es k) (sym of.each_entity) ∙ at) in (w.0, (all-at (λ s. (is_kept s ≡ true) × StandsRead s) (filter is_kept (entities job)) k w.0 kept w.1).1, w.2)) in (
       record {
         actors = λ k e class at kind. (let w = entity k e at in
             subst (λ (t : NetEntityTree). AllByRecursion (λ (p : PropertyTree). is_among (parameter_names class.parameters) (property_name p) ≡ true) t.parameters) w.2 (class-parameters (parts w.0.tree) w.1 class (ap (λ (t : NetEntityTree). kind_of t.class) w.2 ∙ kind)));
         composites = λ k e at composite. (let w = entity k e at in
             subst (λ (t : NetEntityTree). AreFreelyNamed t.parameters) w.2 (free-parameters (parts w.0.tree) w.1 (ap (λ (t : NetEntityTree). is_composite_class t.class) w.2 ∙ composite)));
         transparent = λ t c at. (let w = unviewed transparent_tree (filter (λ s. not (is_kept s)) (entities job)) t c (ap (λ cs. slice_get cs t) (sym of.each_transparent) ∙ at) in
-            let a = all-at (λ s. (not (is_kept s) ≡ true) × StandsRuled s) (filter (λ s. not (is_kept s)) (entities job)) t w.0 left w.1 in
+            let a = all-at (λ s. (not (is_kept s) ≡ true) × StandsRead s) (filter (λ s. not (is_kept s)) (entities job)) t w.0 left w.1 in
             let composite : bytes_eq (parts w.0.tree).class (codes "Composite") ≡ true = left-out (is_none w.0.round.outer) w.0.is_directed (is_composite (parts w.0.tree)) a.0 in
             subst (λ (x : TransparentTree). AreFreelyNamed x.parameters) w.2 (free-parameters (parts w.0.tree) a.1 (ap (λ b. b || bytes_eq (parts w.0.tree).class (codes "Modal")) composite)));
       },

@@ -31,5 +31,4 @@ pub mod HeldLaws
 pub mod HeldRows
 pub mod ExpressionPorts
 pub mod ExpressionRows
-pub mod DocumentRules
 pub mod DocumentNames

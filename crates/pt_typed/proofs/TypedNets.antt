@@ -16,10 +16,10 @@ use Rattle.pt_lib_data.specs.declared.function.Function.TheVariants as made
 use Rattle.pt_library.specs.declared.library_actor.LibraryActor.{LibraryActor}
 use Rattle.pt_library.specs.declared.library_actor.LibraryActor.TheVariants.{Flow, Data}
 use Rattle.pt_build.specs.Trees.{Starts}
-use Rattle.pt_cover.specs.Leaves.{AreStartedByClass}
-use Rattle.pt_cover.proofs.Starting.{by-class}
 use Rattle.pt_cover.proofs.Reading.{documents-leaves}
 use Rattle.pt_cover.proofs.Nesting.{net-nested}
+use Rattle.pt_cover.specs.Leaves.{AreStartedByClass}
+use Rattle.pt_cover.proofs.Starting.{by-class}
 use Rattle.pt_order.proofs.NetsInOrder.{nets-in-order}
 use Rattle.pt_typed.specs.TypedActor.{MeetsRow}
 use Rattle.pt_typed.specs.NetTypes.{types_below}
@@ -98,8 +98,8 @@ by-class-started net values typing starts started k e a at is = let w = started 
 
 pub typed-nets-keep-types : TypedNetsKeepTypes
 typed-nets-keep-types net values typing starts e d top j doc valued typed started is at directed supplied lists k =
-    let order = nets-in-order net starts e d top doc (by-class-started net values typing starts started) is at directed in
     let named = documents-named doc.bytes doc.job net doc.read doc.made in
     let nested = net-nested doc.job net (documents-leaves doc.bytes doc.job doc.read) doc.made in
+    let order = nets-in-order net starts e d top doc (by-class-started net values typing starts started) is at directed in
     nets-keep-types net typing starts top order.wired (channels-go-up net values typing typed) (meet-rows net values typing starts order.class_ports named.1 named.0 nested valued typed started) is j.iterations j.takes j.inputs.items lists
-    (inputs-typed net values typing e d j.inputs.items at directed (order.own_names 0 e d at directed) typed supplied) k
+    (inputs-typed net values typing e d j.inputs.items at directed (named.1 0 e at) typed supplied) k

@@ -1,9 +1,7 @@
 -- The typing of a net meets the rows of the actors that its entities start as.
-use Rattle.std.specs.Prelude.{◌≡◌, ℕ, List, [], length, true, Some, None, slice_get}
+use Rattle.std.specs.Prelude.{◌≡◌, ℕ, [], length, true, Some, None, slice_get}
 use Rattle.pt_meaning.specs.Step.{no_meetings}
 use Rattle.pt_meaning.specs.Job.{meaning}
-use Rattle.pt_moml.specs.Document.{JobTree}
-use Rattle.pt_moml.specs.Reading.{IsJobOf}
 use Rattle.pt_graph.specs.declared.net.Net.{Net}
 use Rattle.pt_graph.specs.declared.net.NetDirector.{NetDirector}
 use Rattle.pt_graph.specs.declared.net.NetEntity.{NetEntity}
@@ -21,10 +19,10 @@ use Rattle.pt_library.specs.declared.library_actor.LibraryActor.{LibraryActor}
 use Rattle.pt_library.specs.LibraryActor.{rows}
 use Rattle.pt_node.specs.View.{Tree}
 use Rattle.pt_build.specs.Trees.{Starts, StartsAs, IsTree}
+use Rattle.pt_order.specs.Laws.{IsNetOfDocument}
 use Rattle.pt_typed.specs.Signature.{IsTypedLog}
 use Rattle.pt_typed.specs.TokenTypes.{IsTokenOf}
 use Rattle.pt_typed.specs.TypedActor.{MeetsRow}
-use Rattle.pt_order.specs.Laws.{IsNetOfDocument}
 use Rattle.pt_typed.specs.NetTypes.{TypesGoUp, types_below}
 use Rattle.pt_typed.specs.NetRows.{HasClassPorts, is_plain_actor, is_seeded_actor, is_record_actor}
 

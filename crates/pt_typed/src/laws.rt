@@ -76,8 +76,7 @@ pub fn inputs_are_typed()
     ensures { InputsAreTyped }
 {}
 
-/// A run of the tree of the net of a document, with its values, its typing and actors that start by these, never meets a token of
-/// another type than its port's.
+/// A run of the tree of the net of a document never meets a token of another type than its port's.
 pub fn tokens_are_typed()
     ensures { TypedNetsKeepTypes }
 {}
