@@ -16,6 +16,7 @@ pub mod SaidExamples
 pub mod DeclaredLaws
 pub mod RefinementLaws
 pub mod ChartLaws
+pub mod ReadableLaws
 pub mod NetTypings
 pub mod Examples
 pub mod ModalExamples

@@ -4,7 +4,9 @@ use Rattle.std.specs.Prelude.{codes}
 use Rattle.pt_value.specs.Value as value
 use Rattle.pt_moml.specs.declared.job.Direction.{Direction}
 use Rattle.pt_moml.specs.declared.job.Direction.TheVariants.{Input, Output}
-use Rattle.pt_moml.specs.Document.{PortTree, property, no_properties}
+use Rattle.pt_moml.specs.declared.job.OutputAction.{OutputAction}
+use Rattle.pt_moml.specs.declared.job.SetAction.{SetAction}
+use Rattle.pt_moml.specs.Document.{PortTree, property, no_properties, TransitionTree}
 use Rattle.pt_types.specs.Datatype.{Datatype, Unknown, Int, Boolean}
 use Rattle.pt_expr.specs.declared.expr.BinaryOp.TheVariants.{Equal}
 use Rattle.pt_expr.specs.Tree.{Tree, Name}
@@ -15,9 +17,10 @@ use Rattle.pt_typing.specs.declared.variable.Variable.TheVariants.{Port}
 use Rattle.pt_typing.specs.Terms.{Same, TreeOf}
 use Rattle.pt_typing.specs.Least.{Assignment}
 use Rattle.pt_resolve.specs.Inequalities.{below}
-use Rattle.pt_resolve.specs.ModalScopes.{ModalScope, modal_scope}
+use Rattle.pt_resolve.specs.ModalScopes.{ModalScope, modal_scope, is_in_scope}
 use Rattle.pt_resolve.specs.Modals.{refined, of_action}
 use Rattle.pt_resolve.specs.ModalFaults.{guard_fails, output_fails, set_fails}
+use Rattle.pt_resolve.specs.Readable.{texts_of}
 
 abbrev port : List ℕ → Direction → PortTree
 port name direction = record { name = name; direction = direction; declared = None; properties = [] }
@@ -98,3 +101,26 @@ truth_values = refl
 
 no_variable : set_fails (all_of Boolean) scope (codes "k", Some (tree.Bool true)) ≡ false
 no_variable = refl
+
+-- ports may be named and asked about, outputs too; a Variable may be named and not asked about; and nothing else is in scope
+output_named : is_in_scope scope (codes "y") ≡ true
+output_named = refl
+
+output_asked : is_in_scope scope (codes "y_isPresent") ≡ true
+output_asked = refl
+
+variable_named : is_in_scope scope (codes "n") ≡ true
+variable_named = refl
+
+variable_asked : is_in_scope scope (codes "n_isPresent") ≡ false
+variable_asked = refl
+
+other_named : is_in_scope scope (codes "k") ≡ false
+other_named = refl
+
+abbrev transition : List ℕ → List OutputAction → List SetAction → TransitionTree
+transition guard output set = record { from = []; to = []; guard = guard; preemptive = false; history = true; output = output; set = set }
+
+-- the texts of two transitions, in the order in which they are read
+texts_read : (a b c d : List ℕ) → texts_of (transition a (record { port = codes "y"; value = b } ∷ []) (record { name = codes "n"; value = c } ∷ []) ∷ transition d [] [] ∷ []) ≡ a ∷ b ∷ c ∷ d ∷ []
+texts_read a b c d = refl

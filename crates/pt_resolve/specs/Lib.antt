@@ -11,3 +11,4 @@ pub mod Broken
 pub mod ModalFaults
 pub mod SaidWords
 pub mod DeclaredTypes
+pub mod Readable
