@@ -1,4 +1,4 @@
--- Why a net has no model. A fault of one kind is told only where none of the kinds before it stands: values, types, places, plans, inputs.
+-- Why a net has no model. A fault of one kind is told only where none of the kinds before it stands: values, guards and actions, types, places, plans, inputs.
 use Rattle.std.specs.Prelude.{◌≡◌, ℕ, List, None}
 use Rattle.pt_moml.specs.declared.code.Code.{Code}
 use Rattle.pt_moml.specs.declared.code.Code.TheVariants as code
@@ -14,6 +14,7 @@ use Rattle.pt_values.specs.Valued as valued
 use Rattle.pt_values.specs.Valued.{IsValued}
 use Rattle.pt_typing.specs.Least.{Assignment}
 use Rattle.pt_resolve.specs.Faults.{IsTypeFault}
+use Rattle.pt_resolve.specs.Readable.{AreReadable, IsUnreadableAt}
 use Rattle.pt_start.specs.Misplaced.{IsMisplaced}
 use Rattle.pt_job.specs.Inputs.{IsInputFault}
 use Rattle.pt_job.specs.Iterations.{iterations}
@@ -30,10 +31,11 @@ pub data IsUnbuilt (net : Net) : Type 0 where
   no_tree : (values : Values) (typing : Assignment) (starts : Starts) → IsStarted net values typing starts → built.IsUnbuilt net starts → IsUnbuilt net
   no_iterations : (values : Values) → IsValued (net_view net) values → iterations (net_view net) values ≡ None → IsUnbuilt net
 
--- A refusal of a net stands: for a text, for types, for where an entity stands, for a composite without a plan, for an input of the top, or since its form isn't built.
+-- A refusal of a net stands: for a text, for a guard or an action of a Modal entity, for types, for where an entity stands, for a composite without a plan, for an input of the top, or since its form isn't built.
 pub data IsRefused (net : Net) (r : Refusal) : Type 0 where
   for_values : valued.Stands (net_view net) r.code r.path → IsRefused net r
-  for_types : (values : Values) → IsValued (net_view net) values → r.code ≡ code.Type → IsTypeFault net values r.path → IsRefused net r
+  for_guards : (values : Values) (k : ℕ) (e : NetEntity) → IsValued (net_view net) values → IsUnreadableAt net values r.code k → IsEntity net k e → r.path ≡ e.path → IsRefused net r
+  for_types : (values : Values) → IsValued (net_view net) values → AreReadable net values → r.code ≡ code.Type → IsTypeFault net values r.path → IsRefused net r
   for_place : (values : Values) (typing : Assignment) (k : ℕ) (e : NetEntity) → IsResolved net values typing → IsMisplaced (net_view net) values r.code k → IsEntity net k e → r.path ≡ e.path → IsRefused net r
   for_plan : (values : Values) (typing : Assignment) (starts : Starts) → IsStarted net values typing starts → built.IsRefused net starts r → IsRefused net r
   for_inputs : (values : Values) (typing : Assignment) (starts : Starts) (top : Shown) → IsStarted net values typing starts → IsBuilt net starts 0 top → r.code ≡ code.Inputs → IsInputFault (net_view net) r.path → IsRefused net r

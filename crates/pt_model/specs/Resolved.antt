@@ -10,14 +10,16 @@ use Rattle.pt_values.specs.Scopes.{net_view}
 use Rattle.pt_values.specs.Valued.{IsValued}
 use Rattle.pt_resolve.specs.Typing.{IsTyping}
 use Rattle.pt_resolve.specs.Faults.{IsWhole}
+use Rattle.pt_resolve.specs.Readable.{AreReadable}
 use Rattle.pt_library.specs.declared.library_actor.LibraryActor.{LibraryActor}
 use Rattle.pt_start.specs.Started.{PortTyping, IsStart}
 use Rattle.pt_start.specs.Misplaced.{IsMisplaced}
 use Rattle.pt_build.specs.Trees.{IsEntity, IsUndirected, Starts}
 
--- The texts of a net come to these values, these are its types, and they break nowhere.
+-- The texts of a net come to these values, guards and actions are readable, these are its types, and they break nowhere.
 pub record IsResolved (net : Net) (values : Values) (typing : Assignment) : Type 0 where
   pub valued : IsValued (net_view net) values
+  pub readable : AreReadable net values
   pub typed : IsTyping net values typing
   pub sound : IsWhole net values typing
 

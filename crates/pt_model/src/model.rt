@@ -96,8 +96,8 @@ fn model_with(alloc: Global, net: &Net, started: &Started) -> Result<Model, Mode
 }
 
 /// The model of the net of a job: its texts are evaluated, its types found, its actors started, its composites planned, and what the job supplies is put to the
-/// inputs of the top. Refuses a net for the first kind of fault that stands: values, types, places, plans, inputs. In the job only composites have entities within
-/// them, as in that of each document.
+/// inputs of the top. Refuses a net for the first kind of fault that stands: values, guards and actions, types, places, plans, inputs. In the job only composites
+/// have entities within them, as in that of each document.
 pub fn model_of(alloc: Global, net: &Net) -> Result<Model, ModelFault>
     requires { (job : JobTree) × ActorsAreLeaves job × IsNetOf job net.now }
     ensures model { IfOk result (λ model. IsModel net.now (shown_node model.top) model.job) }

@@ -4,6 +4,7 @@ ghost use Rattle.pt_graph.specs.Net.{IsNetOf};
 ghost use Rattle.pt_values.specs.Scopes.{net_view};
 ghost use Rattle.pt_values.specs.Valued.{IsValued};
 ghost use Rattle.pt_typing.specs.Least.{assignment};
+ghost use Rattle.pt_resolve.specs.Readable.{AreReadable};
 ghost use Rattle.pt_model.specs.Resolved.{IsResolved};
 ghost use Rattle.pt_model.specs.Refused.{FaultStands};
 
@@ -11,24 +12,40 @@ use crate::model::ModelFault;
 use crate::refusal::{refusal_of_composite, refusal_of_entity};
 use pt_graph::Net;
 use pt_moml::Code;
-use pt_resolve::{BrokenAt, broken, net_typing};
+use pt_resolve::{BrokenAt, broken, net_typing, unreadable};
 use pt_typing::Typing;
 use pt_values::{Values, nets_are_ordered, values_of};
 use std::alloc::Global;
 
-/// What the texts of the net of a job come to.
+/// Refuses a Modal entity for a guard or an action that isn't readable.
+fn check_guards(alloc: Global, net: &Net, values: &Values) -> Result<(), ModelFault>
+    requires { IsValued (net_view net.now) values.now }
+    ensures readable { IfOk result (λ _. AreReadable net.now values.now) }
+    ensures stands { IfErr result (FaultStands net.now) }
+{
+    match unreadable(alloc, net, values)? {
+        Some((code, number)) => Err(refusal_of_entity(alloc, code, net, number)),
+        None => Ok(()),
+    }
+}
+
+/// What the texts of the net of a job come to, where guards and actions are readable.
 pub(crate) fn values_in(alloc: Global, net: &Net) -> Result<Values, ModelFault>
     requires { (job : JobTree) × IsNetOf job net.now }
     ensures valued { IfOk result (IsValued (net_view net.now)) }
+    ensures readable { IfOk result (AreReadable net.now) }
     ensures stands { IfErr result (FaultStands net.now) }
 {
     nets_are_ordered();
-    Ok(values_of(alloc, net)?)
+    let values = values_of(alloc, net)?;
+    check_guards(alloc, net, &values)?;
+    Ok(values)
 }
 
 /// The types of a net whose texts come to these values, which break nowhere.
 pub(crate) fn typing_in(alloc: Global, net: &Net, values: &Values) -> Result<Typing, ModelFault>
-    requires { IsValued (net_view net.now) values.now }
+    requires valued { IsValued (net_view net.now) values.now }
+    requires readable { AreReadable net.now values.now }
     ensures resolved { IfOk result (λ typing. IsResolved net.now values.now (assignment typing)) }
     ensures stands { IfErr result (FaultStands net.now) }
 {
