@@ -24,10 +24,10 @@ use Rattle.pt_values.specs.Valued.{EntityView}
 use Rattle.pt_values.specs.Valued as valued
 use Rattle.pt_values.proofs.Unique.{one-tree}
 use Rattle.pt_resolve.specs.Frames.{Frames, frames_of}
-use Rattle.pt_resolve.specs.ModalScopes.{ModalScope, is_modal, modal_scope, is_in_scope, IsReadIn}
+use Rattle.pt_resolve.specs.ModalScopes.{ModalScope, is_modal, modal_scope, is_in_scope}
 use Rattle.pt_resolve.specs.Modals.{IsModalAt}
-use Rattle.pt_resolve.specs.Readable.{IsNamed, IsReadable, IsUnreadable, IsFirstUnreadable, IsFoundIn, texts_of, IsEntityReadable, IsEntityUnreadable, AreReadableBelow, IsFirstOf, AreReadable, IsUnreadableAt, ReadableTextsAreClean}
-use Rattle.pt_resolve.specs.Typing.{IsModal, scope_of}
+use Rattle.pt_resolve.specs.Readable.{IsReadable, IsUnreadable, IsFirstUnreadable, IsFoundIn, texts_of, IsEntityReadable, IsEntityUnreadable, AreReadableBelow, IsFirstOf, AreReadable, IsUnreadableAt, ReadableTextsAreClean}
+use Rattle.pt_resolve.specs.Typing.{scope_of}
 use Rattle.pt_resolve.proofs.Steps.{some-same, drop-one, drop-past}
 use Rattle.pt_resolve.proofs.RefinementLaws.{modal-class}
 

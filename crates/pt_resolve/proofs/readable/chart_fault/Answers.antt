@@ -1,4 +1,4 @@
-use Rattle.std.proofs.Common.{map, subst, ◌∙◌, ap}
+use Rattle.std.proofs.Common.{map, subst}
 use Rattle.std.proofs.lemmas.Result.{IfOk-weaker}
 use Rattle.pt_moml.specs.View.{transition_view}
 use Rattle.pt_resolve.specs.Readable.{texts_of, IsFoundIn}
