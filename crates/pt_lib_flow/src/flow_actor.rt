@@ -282,11 +282,11 @@ impl FlowActor {
             FlowActor::Ramp(actor) => actor.number(inputs),
             FlowActor::SampleDelay(actor) => actor.number(inputs),
             FlowActor::Scale(actor) => actor.number(inputs),
+            FlowActor::Sequence(actor) => actor.number(inputs),
             FlowActor::BooleanSelect(_)
             | FlowActor::BooleanSwitch(_)
             | FlowActor::Expression(_)
             | FlowActor::Repeat(_)
-            | FlowActor::Sequence(_)
             | FlowActor::UpSample(_) => None,
         }
     }

@@ -1,4 +1,5 @@
 ghost use Rattle.std.specs.Prelude.{◌≡◌, ◌<◌, IfOk, length};
+ghost use Rattle.pt_lib_flow.specs.Number.{GivesNumber};
 ghost use Rattle.pt_lib_flow.specs.Sequence.{moved};
 ghost use Rattle.pt_lib_flow.specs.Sequence as sequence;
 
@@ -72,6 +73,21 @@ impl Sequence {
         } else {
             index
         }
+    }
+
+    /// Makes the firing where it gives a number. Else it makes none.
+    pub(crate) fn number(&mut self, inputs: &Inputs<'_>) -> Option<i64>
+        ensures { GivesNumber sequence.step self.old inputs.now result self.new }
+    {
+        let Some(Token::Int(number)) = self.values.get(self.index) else {
+            return None;
+        };
+        if !is_called(inputs) {
+            return None;
+        }
+        let given = *number;
+        self.index = self.moved();
+        Some(given)
     }
 }
 

@@ -1,5 +1,5 @@
 use Rattle.std.proofs.Common.{sym, subst, refl}
-use Rattle.pt_lib_flow.specs.declared.flow_actor.FlowActor.TheVariants.{AbsoluteValue, Accumulator, AddSubtract, Const, Counter, DownSample, Extreme, MultiplyDivide, Ramp, SampleDelay, Scale}
+use Rattle.pt_lib_flow.specs.declared.flow_actor.FlowActor.TheVariants.{AbsoluteValue, Accumulator, AddSubtract, Const, Counter, DownSample, Extreme, MultiplyDivide, Ramp, SampleDelay, Scale, Sequence}
 use Rattle.pt_lib_flow.specs.FlowActor as flow_actor
 use Rattle.pt_lib_flow.specs.AbsoluteValue as absolute_value
 use Rattle.pt_lib_flow.specs.Accumulator as accumulator
@@ -12,6 +12,7 @@ use Rattle.pt_lib_flow.specs.MultiplyDivide as multiply_divide
 use Rattle.pt_lib_flow.specs.Ramp as ramp
 use Rattle.pt_lib_flow.specs.SampleDelay as sample_delay
 use Rattle.pt_lib_flow.specs.Scale as scale
+use Rattle.pt_lib_flow.specs.Sequence as sequence
 use Rattle.pt_lib_flow.specs.Number.{GivesNumber}
 use Rattle.pt_lib_flow.proofs.Held.{held-number}
 use Rattle.pt_lib_flow.proofs.flow_actor.FlowActor.number.Goals as goal
@@ -70,3 +71,8 @@ pub returns-in-SampleDelay : goal.returns-in-SampleDelay
 returns-in-SampleDelay c =
     let X = c.args.inputs.now in
     subst (λ s. GivesNumber flow_actor.step s X c.number-in-SampleDelay.result (SampleDelay c.in-SampleDelay.actor)) (sym c.in-SampleDelay.is) (held-number SampleDelay sample_delay.step flow_actor.step c.in-SampleDelay.actor c.in-SampleDelay.actor X c.number-in-SampleDelay.result (λ tag. refl) c.number-in-SampleDelay.ensures)
+
+pub returns-in-Sequence : goal.returns-in-Sequence
+returns-in-Sequence c =
+    let X = c.args.inputs.now in
+    subst (λ s. GivesNumber flow_actor.step s X c.number-in-Sequence.result (Sequence c.number-in-Sequence.new.self)) (sym c.in-Sequence.is) (held-number Sequence sequence.step flow_actor.step c.in-Sequence.actor c.number-in-Sequence.new.self X c.number-in-Sequence.result (λ tag. refl) c.number-in-Sequence.ensures)
