@@ -1,3 +1,4 @@
+use crate::shown::port_texts;
 use pt_expr::{BinaryOp, Expr};
 use pt_firing::{Actor, Fires, Inputs, Partial, Step, Tokens};
 use pt_lib_flow::{
@@ -7,7 +8,7 @@ use pt_lib_flow::{
 };
 use pt_time::Tag;
 use pt_types::Ty;
-use pt_value::{Items, Text, Token, print};
+use pt_value::{Items, Text, Token};
 use std::alloc::{AllocError, Global};
 use std::test::Fail;
 
@@ -206,80 +207,128 @@ fn lists(alloc: Global, places: &[&[Datum]]) -> Result<Vec<Tokens>, AllocError> 
 
 fn started(alloc: Global, params: &Params) -> Result<Option<FlowActor>, AllocError> {
     match FlowActor::started(alloc, params)? {
-        Some(_) => Ok(Some(FlowActor::start(alloc, params)?)),
+        Some(actor) => {
+            drop(actor);
+            Ok(Some(FlowActor::start(alloc, params)?))
+        }
         None => Ok(None),
     }
 }
 
-/// How many outputs an actor tells of early, while an input is unknown.
-fn told_early(actor: &FlowActor, alloc: Global) -> Result<usize, AllocError> {
-    let partial = Partial::unknown(alloc, 1)?;
-    Ok(actor.early(alloc, START, &partial)?.places())
+/// The actor that these parameters start, if they start one.
+fn actor_of(alloc: Global, params: Params) -> Result<Option<FlowActor>, AllocError> {
+    let actor = started(alloc, &params);
+    drop(params);
+    actor
 }
 
-/// What a step gave, each port followed by a bar.
-fn shown(alloc: Global, step: &Step) -> Result<Vec<u8>, AllocError> {
-    let mut out = Vec::new(alloc);
-    match step {
-        Step::Done(outputs) => {
-            for port in 0..outputs.ports() {
-                for token in outputs.list(port) {
-                    print(token, &mut out)?;
-                    out.push(b' ')?;
-                }
-                out.push(b'|')?;
-            }
-            Ok(out)
-        }
-        Step::Fault(_) => Ok(out),
+/// What a step gave, or nothing for a fault.
+fn shown(alloc: Global, step: Step) -> Result<Vec<u8>, AllocError> {
+    match &step {
+        Step::Done(outputs) => port_texts(alloc, outputs),
+        Step::Fault(_) => Ok(Vec::new(alloc)),
         Step::Memory => Err(AllocError),
     }
 }
 
-/// The text of what a copy of a started actor gives, if it is started and tells early of each output.
-fn fired(alloc: Global, case: &Case) -> Result<Option<Vec<u8>>, AllocError> {
-    let params = params(alloc, case)?;
+/// What an actor gives at its next firing.
+fn fired(alloc: Global, mut actor: FlowActor, lists: &[Tokens]) -> Result<Vec<u8>, AllocError> {
+    let step = actor.step(alloc, START, &Inputs::of(lists));
+    drop(actor);
+    shown(alloc, step)
+}
+
+/// The same of a copy.
+fn copy_fired(alloc: Global, actor: FlowActor, lists: &[Tokens]) -> Result<Vec<u8>, AllocError> {
+    let copy = actor.copy(alloc);
+    drop(actor);
+    fired(alloc, copy?, lists)
+}
+
+/// The text of what a copy of a started actor gives, if it is started.
+fn gives(alloc: Global, case: &Case) -> Result<Option<Vec<u8>>, AllocError> {
     let lists = lists(alloc, case.places)?;
-    let Some(actor) = started(alloc, &params)? else {
-        return Ok(None);
-    };
-    if told_early(&actor, alloc)? != actor.outputs() {
-        return Ok(None);
+    match actor_of(alloc, params(alloc, case)?)? {
+        Some(actor) => Ok(Some(copy_fired(alloc, actor, &lists)?)),
+        None => Ok(None),
     }
-    let mut copy = actor.copy(alloc)?;
-    Ok(Some(shown(alloc, &copy.step(alloc, START, &Inputs::of(&lists)))?))
 }
 
 #[test]
 fn each_class_is_started_and_fires(rt: HostRuntime) -> Result<(), Fail> {
     for case in CASES {
-        let text = fired(rt.alloc(), case)?.ok_or("not started")?;
+        let text = gives(rt.alloc(), case)?.ok_or("not started")?;
         assert_eq!(rt; text.as_slice(), case.gives.as_bytes(), "{}", case.class);
     }
     Ok(())
 }
 
-/// The parameters of an expression with the tree `p + x`, where p is 5, and x an input of integers.
+/// Whether an actor tells early of each output, while an input is unknown.
+fn is_early(alloc: Global, actor: &FlowActor) -> Result<bool, AllocError> {
+    let partial = Partial::unknown(alloc, 1)?;
+    let told = actor.early(alloc, START, &partial)?;
+    Ok(told.places() == actor.outputs())
+}
+
+fn tells_early(alloc: Global, case: &Case) -> Result<Option<bool>, AllocError> {
+    match actor_of(alloc, params(alloc, case)?)? {
+        Some(actor) => {
+            let is_early = is_early(alloc, &actor);
+            drop(actor);
+            Ok(Some(is_early?))
+        }
+        None => Ok(None),
+    }
+}
+
+#[test]
+fn each_class_tells_early_of_each_output(rt: HostRuntime) -> Result<(), Fail> {
+    for case in CASES {
+        assert_eq!(rt;
+            tells_early(rt.alloc(), case)?,
+            Some(true),
+            "{}",
+            case.class
+        );
+    }
+    Ok(())
+}
+
+fn name(alloc: Global, text: &str) -> Result<Box<Expr>, AllocError> {
+    Ok(Box::new(alloc, Expr::Name(Text::of(alloc, text)?))?)
+}
+
+/// The tree `p + x`.
+fn sum(alloc: Global) -> Result<Expr, AllocError> {
+    let p = name(alloc, "p")?;
+    let x = name(alloc, "x")?;
+    Ok(Expr::Binary(BinaryOp::Add, p, x))
+}
+
+/// An input `x` of integers.
+fn integer_input(alloc: Global) -> Result<PortTypes, AllocError> {
+    let x = Text::of(alloc, "x")?;
+    Ok(PortTypes::of(vec![in alloc; (x, Ty::Int)]?))
+}
+
+/// The parameters of an expression with that tree, where p is 5.
 fn sum_params(alloc: Global) -> Result<Params, AllocError> {
-    let p = Box::new(alloc, Expr::Name(Text::of(alloc, "p")?))?;
-    let x = Box::new(alloc, Expr::Name(Text::of(alloc, "x")?))?;
-    let types = vec![in alloc; (Text::of(alloc, "x")?, Ty::Int)]?;
     Ok(Params {
         class: Text::of(alloc, "Expression")?,
         values: values(alloc, &[("p", Datum::Int(5))])?,
         ports: ports(alloc, &[("x", 1), ("output", 1)])?,
-        types: PortTypes::of(types),
-        tree: Some(Expr::Binary(BinaryOp::Add, p, x)),
+        types: integer_input(alloc)?,
+        tree: Some(sum(alloc)?),
     })
 }
 
 /// What that expression shows once it fired with one token.
 fn sum_with(alloc: Global, data: Datum) -> Result<Option<Vec<u8>>, AllocError> {
-    let Some(mut actor) = started(alloc, &sum_params(alloc)?)? else {
-        return Ok(None);
-    };
     let lists = lists(alloc, &[&[data]])?;
-    Ok(Some(shown(alloc, &actor.step(alloc, START, &Inputs::of(&lists)))?))
+    match actor_of(alloc, sum_params(alloc)?)? {
+        Some(actor) => Ok(Some(fired(alloc, actor, &lists)?)),
+        None => Ok(None),
+    }
 }
 
 #[test]
@@ -295,29 +344,39 @@ fn an_expression_gives_the_value_of_its_tree(rt: HostRuntime) -> Result<(), Fail
     Ok(())
 }
 
-/// What an expression without inputs gives, which is a literal.
-fn literal(alloc: Global) -> Result<Option<Step>, AllocError> {
+/// What an expression without inputs gives.
+fn constant(alloc: Global, mut actor: Expression) -> Result<Vec<u8>, AllocError> {
+    let step = actor.step(alloc, START, &Inputs::of(&[]));
+    drop(actor);
+    shown(alloc, step)
+}
+
+/// What a literal gives, if it has a type.
+fn literal(alloc: Global) -> Result<Option<Vec<u8>>, AllocError> {
     let inputs = PortTypes::of(Vec::new(alloc));
     let values = Values::of(Vec::new(alloc));
-    let Some(mut actor) = Expression::new(alloc, inputs, values, Expr::Int(7))? else {
-        return Ok(None);
-    };
-    Ok(Some(actor.step(alloc, START, &Inputs::of(&[]))))
+    match Expression::new(alloc, inputs, values, Expr::Int(7))? {
+        Some(actor) => Ok(Some(constant(alloc, actor)?)),
+        None => Ok(None),
+    }
 }
 
 #[test]
 fn an_expression_without_inputs_is_a_source(rt: HostRuntime) -> Result<(), Fail> {
-    let step = literal(rt.alloc())?.ok_or("not typed")?;
-    let text = shown(rt.alloc(), &step)?;
+    let text = literal(rt.alloc())?.ok_or("not typed")?;
     assert_eq!(rt; text.as_slice(), b"7 |".as_slice());
     Ok(())
 }
 
+/// A delay whose first tokens are 1 and 2.
+fn delay(alloc: Global) -> Result<SampleDelay, AllocError> {
+    let initial = vec![in alloc; Token::Int(1), Token::Int(2)]?;
+    SampleDelay::new(alloc, Tokens::of(initial))
+}
+
 #[test]
 fn a_delay_has_first_tokens(rt: HostRuntime) -> Result<(), Fail> {
-    let alloc = rt.alloc();
-    let initial = vec![in alloc; Token::Int(1), Token::Int(2)]?;
-    let actor = SampleDelay::new(alloc, Tokens::of(initial))?;
+    let actor = delay(rt.alloc())?;
     assert_eq!(rt; actor.first().len(), 2);
     Ok(())
 }

@@ -14,6 +14,8 @@ mod receivers;
 #[cfg(test)]
 mod schedules;
 #[cfg(test)]
+mod shown;
+#[cfg(test)]
 mod tags;
 #[cfg(test)]
 mod traces;

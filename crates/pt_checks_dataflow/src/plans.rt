@@ -63,6 +63,14 @@ struct Want<'a> {
     room: &'a [usize],
 }
 
+fn assert_wanted(rt: &impl Abort, name: &str, plan: &CorePlan, want: &Want<'_>) {
+    assert_eq!(rt; plan.repetitions.as_slice(), want.repetitions, "{name}");
+    assert_eq!(rt; plan.takes.as_slice(), want.takes, "{name}");
+    assert_eq!(rt; plan.gives.as_slice(), want.gives, "{name}");
+    assert_eq!(rt; plan.order.as_slice(), want.order, "{name}");
+    assert_eq!(rt; plan.room.as_slice(), want.room, "{name}");
+}
+
 fn assert_plan(
     rt: &impl Abort,
     alloc: Global,
@@ -72,11 +80,8 @@ fn assert_plan(
 ) -> Result<(), AllocError> {
     match planned(rt, alloc, case)? {
         Ok(plan) => {
-            assert_eq!(rt; plan.repetitions.as_slice(), want.repetitions, "{name}");
-            assert_eq!(rt; plan.takes.as_slice(), want.takes, "{name}");
-            assert_eq!(rt; plan.gives.as_slice(), want.gives, "{name}");
-            assert_eq!(rt; plan.order.as_slice(), want.order, "{name}");
-            assert_eq!(rt; plan.room.as_slice(), want.room, "{name}");
+            assert_wanted(rt, name, &plan, want);
+            drop(plan);
         }
         Err(fault) => assert!(rt; false, "{name}: {fault:?}"),
     }
@@ -91,7 +96,10 @@ fn assert_fault(
     fault: PlanFault,
 ) -> Result<(), AllocError> {
     match planned(rt, alloc, case)? {
-        Ok(_) => assert!(rt; false, "{name}: no {fault:?}"),
+        Ok(plan) => {
+            drop(plan);
+            assert!(rt; false, "{name}: no {fault:?}");
+        }
         Err(met) => assert_eq!(rt; met, fault, "{name}"),
     }
     Ok(())

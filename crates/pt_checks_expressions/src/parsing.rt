@@ -28,6 +28,12 @@ fn repeated(alloc: Global, part: &str, count: u32, end: &str) -> Result<String, 
     Ok(text)
 }
 
+/// How many words a text begins with, and what is left behind them.
+fn words(alloc: Global, text: &str) -> Result<(usize, &str), AllocError> {
+    let (words, left) = split(alloc, text)?;
+    Ok((words.len(), left))
+}
+
 #[test]
 fn a_text_has_so_many_words(rt: HostRuntime) -> Result<(), Fail> {
     for (text, count, rest) in [
@@ -42,11 +48,20 @@ fn a_text_has_so_many_words(rt: HostRuntime) -> Result<(), Fail> {
         ("a&b", 1, "&b"),
         ("1 # 2", 1, "# 2"),
     ] {
-        let (words, left) = split(rt.alloc(), text)?;
-        assert_eq!(rt; words.len(), count, "in {text}");
+        let (found, left) = words(rt.alloc(), text)?;
+        assert_eq!(rt; found, count, "in {text}");
         assert_eq!(rt; left, rest, "behind {text}");
     }
     Ok(())
+}
+
+/// The operators of the tree of a text, and of its two operands.
+fn grouping(
+    alloc: Global,
+    text: &str,
+) -> Result<(Option<BinaryOp>, Option<BinaryOp>, Option<BinaryOp>), ParseFault> {
+    let tree = parse(alloc, text)?;
+    Ok(operators(&tree))
 }
 
 #[test]
@@ -72,10 +87,25 @@ fn operators_group_by_their_levels(rt: HostRuntime) -> Result<(), Fail> {
         ),
         ("a- -b", BinaryOp::Subtract, None, None),
     ] {
-        let tree = parse(rt.alloc(), text)?;
-        assert!(rt; operators(&tree) == (Some(root), left, right), "in {text}");
+        let found = grouping(rt.alloc(), text)?;
+        assert!(rt; found == (Some(root), left, right), "in {text}");
     }
     Ok(())
+}
+
+/// The integer that a text is, if it is a literal.
+fn literal(alloc: Global, text: &str) -> Result<Option<i64>, ParseFault> {
+    match parse(alloc, text)? {
+        Expr::Int(n) => Ok(Some(n)),
+        _ => Ok(None),
+    }
+}
+
+fn is_negation(alloc: Global, text: &str) -> Result<bool, ParseFault> {
+    match parse(alloc, text)? {
+        Expr::Negate(_) => Ok(true),
+        _ => Ok(false),
+    }
 }
 
 #[test]
@@ -86,14 +116,20 @@ fn a_minus_makes_a_literal(rt: HostRuntime) -> Result<(), Fail> {
         ("((9223372036854775807))", i64::MAX),
         ("-9223372036854775808", i64::MIN),
     ] {
-        let tree = parse(rt.alloc(), text)?;
-        assert!(rt; matches!(tree, Expr::Int(n) if n == number), "of {text}");
+        assert_eq!(rt; literal(rt.alloc(), text)?, Some(number), "of {text}");
     }
     for text in ["-(5)", "-5(0)", "-5.x", "- -5"] {
-        let tree = parse(rt.alloc(), text)?;
-        assert!(rt; matches!(tree, Expr::Negate(_)), "of {text}");
+        assert!(rt; is_negation(rt.alloc(), text)?, "of {text}");
     }
     Ok(())
+}
+
+/// Why a text has no tree, if it has none.
+fn fault_of(alloc: Global, text: &str) -> Option<ParseFault> {
+    match parse(alloc, text) {
+        Ok(_) => None,
+        Err(fault) => Some(fault),
+    }
 }
 
 #[test]
@@ -119,27 +155,34 @@ fn some_texts_have_no_tree(rt: HostRuntime) -> Result<(), Fail> {
         "# 1",
         "{a = }",
     ] {
-        let answer = parse(rt.alloc(), text);
-        assert!(rt; matches!(answer, Err(ParseFault::Syntax)), "of {text}");
+        assert_eq!(rt;
+            fault_of(rt.alloc(), text),
+            Some(ParseFault::Syntax),
+            "of {text}"
+        );
     }
     Ok(())
 }
 
 #[test]
 fn a_text_may_be_so_deep_and_no_deeper(rt: HostRuntime) -> Result<(), Fail> {
-    let alloc = rt.alloc();
     for (part, count, end) in [("(", 65, ""), ("!", 257, "a"), ("- ", 257, "a")] {
-        let text = repeated(alloc, part, count, end)?;
-        assert!(rt; matches!(parse(alloc, text.as_str()), Err(ParseFault::Deep)));
+        let text = repeated(rt.alloc(), part, count, end)?;
+        assert_eq!(rt; fault_of(rt.alloc(), text.as_str()), Some(ParseFault::Deep));
     }
     for (part, count, end) in [("!", 256, "a"), ("1+", 256, "-1")] {
-        let text = repeated(alloc, part, count, end)?;
-        assert!(rt; parse(alloc, text.as_str()).is_ok());
+        let text = repeated(rt.alloc(), part, count, end)?;
+        assert_eq!(rt; fault_of(rt.alloc(), text.as_str()), None);
     }
-    let brackets = repeated(alloc, "(", 64, "1")?;
-    let closed = repeated(alloc, ")", 64, "")?;
-    let mut text = brackets;
-    text.push_str(closed.as_str())?;
-    assert!(rt; parse(alloc, text.as_str()).is_ok());
+    Ok(())
+}
+
+#[test]
+fn brackets_may_be_so_deep(rt: HostRuntime) -> Result<(), Fail> {
+    let mut text = repeated(rt.alloc(), "(", 64, "1")?;
+    for _ in 0..64 {
+        text.push_str(")")?;
+    }
+    assert_eq!(rt; fault_of(rt.alloc(), text.as_str()), None);
     Ok(())
 }

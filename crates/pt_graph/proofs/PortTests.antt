@@ -30,15 +30,15 @@ module _ (t : Tables) (g : ℕ) (p : PortAt) (is : slice_get t.ports g ≡ Some 
 
   pub amiss_told : is_amiss p (length out) (length ins) ≡ true → IsLinkFault t (port_path p)
   amiss_told h =
-      elim (or_cases (a || b || c) d h) [
-        | inl abc ↦ elim (or_cases (a || b) c abc) [
-          | inl ab ↦ elim (or_cases a b ab) [
-            | inl e ↦ (let w = and_parts (is_single p) (nat_lt 1 (length out)) e in twice_outside g p is w.0 (ltb-true 1 (length out) w.1))
-            | inr e ↦ twice_inside g p is (ltb-true 1 (length ins) e)
-          ]
-          | inr e ↦ (let w = and_parts (needs_link p) (nat_eq (length out) 0) e in no_link g p is w.0 (nil_from_length out (eqb-true (length out) 0 w.1)))
+      elim (or_cases (a || b) (c || d) h) [
+        | inl ab ↦ elim (or_cases a b ab) [
+          | inl e ↦ (let w = and_parts (is_single p) (nat_lt 1 (length out)) e in twice_outside g p is w.0 (ltb-true 1 (length out) w.1))
+          | inr e ↦ twice_inside g p is (ltb-true 1 (length ins) e)
         ]
-        | inr e ↦ (let w = and_parts (needs_link_inside p) (nat_eq (length ins) 0) e in no_link_inside g p is w.0 (nil_from_length ins (eqb-true (length ins) 0 w.1)))
+        | inr cd ↦ elim (or_cases c d cd) [
+          | inl e ↦ (let w = and_parts (needs_link p) (nat_eq (length out) 0) e in no_link g p is w.0 (nil_from_length out (eqb-true (length out) 0 w.1)))
+          | inr e ↦ (let w = and_parts (needs_link_inside p) (nat_eq (length ins) 0) e in no_link_inside g p is w.0 (nil_from_length ins (eqb-true (length ins) 0 w.1)))
+        ]
       ]
 
   pub lacking_told : lacks_channel p (length out) ≡ true → IsLinkFault t p.standing.path
@@ -56,13 +56,13 @@ module _ (t : Tables) (g : ℕ) (p : PortAt) (is : slice_get t.ports g ≡ Some 
 
   pub fine : is_amiss p (length out) (length ins) ≡ false → lacks_channel p (length out) ≡ false → IsFine t g p
   fine h k =
-      let w = or_parts (a || b || c) d h in
-      let v = or_parts (a || b) c w.0 in
-      let u = or_parts a b v.0 in
+      let w = or_parts (a || b) (c || d) h in
+      let u = or_parts a b w.0 in
+      let v = or_parts c d w.1 in
       record {
         single = λ e. short (is_single p) (length out) u.0 e;
         single_inside = ltb-false 1 (length ins) u.1;
-        linked = λ e nil. not_empty (needs_link p) out v.1 e nil;
-        linked_inside = λ e nil. not_empty (needs_link_inside p) ins w.1 e nil;
+        linked = λ e nil. not_empty (needs_link p) out v.0 e nil;
+        linked_inside = λ e nil. not_empty (needs_link_inside p) ins v.1 e nil;
         has_channel = λ e f nil. not_empty (is_input p && is_many p) out k (and_from (is_input p) (is_many p) e f) nil;
       }

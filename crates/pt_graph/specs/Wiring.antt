@@ -48,9 +48,13 @@ pub record IsFine (t : Tables) (g : ℕ) (p : PortAt) : Type 0 where
 abbrev pub AreFine : Tables → Type 0
 AreFine t = (g : ℕ) (p : PortAt) → slice_get t.ports g ≡ Some p → IsFine t g p
 
+-- a port with so many links outside and inside lacks one
+abbrev pub lacks_link : PortAt → ℕ → ℕ → Bool
+lacks_link p outside inside = (needs_link p && outside == 0) || (needs_link_inside p && inside == 0)
+
 -- a port with so many links outside and inside lacks one, or has too many
 abbrev pub is_amiss : PortAt → ℕ → ℕ → Bool
-is_amiss p outside inside = (is_single p && nat_lt 1 outside) || nat_lt 1 inside || (needs_link p && outside == 0) || (needs_link_inside p && inside == 0)
+is_amiss p outside inside = (is_single p && nat_lt 1 outside) || nat_lt 1 inside || lacks_link p outside inside
 
 -- a multiport with so many links has too few
 abbrev pub lacks_channel : PortAt → ℕ → Bool

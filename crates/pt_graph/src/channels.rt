@@ -25,15 +25,22 @@ pub fn number(n: usize) -> Result<u32, DocFault>
     u32::try_from(n).map_err(|_| DocFault::Memory)
 }
 
+fn end(entity: usize, port: usize, index: usize) -> Result<End, DocFault>
+    ensures ok { IfOk result (λ end. end ≡ record { entity = entity; port = port; index = index }) }
+    ensures err { IfErr result (λ e. e ≡ Memory) }
+{
+    Ok(End {
+        entity: number(entity)?,
+        port: number(port)?,
+        index: number(index)?,
+    })
+}
+
 fn end_at(port: &PlacedPort, index: usize) -> Result<End, DocFault>
     ensures ok { IfOk result (λ end. end ≡ net.end_at (port_at port.now) index) }
     ensures err { IfErr result (λ e. e ≡ Memory) }
 {
-    Ok(End {
-        entity: number(port.placed.number)?,
-        port: number(port.number)?,
-        index: number(index)?,
-    })
+    end(port.placed.number, port.number, index)
 }
 
 /// The composite of a channel to this port.

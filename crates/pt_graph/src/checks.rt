@@ -15,14 +15,18 @@ use crate::wiring::Wiring;
 use pt_moml::{DocFault, Kind, kind_named};
 use std::alloc::{AllocError, Global};
 
+/// Whether a port with so many links outside and inside lacks one.
+fn lacks_link(port: &PlacedPort, outside: usize, inside: usize) -> bool
+    ensures { result ≡ spec.lacks_link (port_at port.now) outside inside }
+{
+    (port.needs_link() && outside == 0) || (port.needs_link_inside() && inside == 0)
+}
+
 /// Whether a port with so many links outside and inside lacks one, or has too many.
 fn is_amiss(port: &PlacedPort, outside: usize, inside: usize) -> bool
     ensures { result ≡ spec.is_amiss (port_at port.now) outside inside }
 {
-    (port.is_single() && 1 < outside)
-        || 1 < inside
-        || (port.needs_link() && outside == 0)
-        || (port.needs_link_inside() && inside == 0)
+    (port.is_single() && 1 < outside) || 1 < inside || lacks_link(port, outside, inside)
 }
 
 /// Whether a multiport with so many links has too few.

@@ -12,7 +12,9 @@ use crate::channels::number;
 use crate::copies::{optional_text, parameters, port, states, text, transitions, variables};
 use crate::net::{NetDirector, NetEntity, Transparent};
 use crate::survey::{Placed, is_director};
-use pt_moml::{ClassPort, Direction, DocFault, Entity, Kind, Port, Property, kind_named};
+use pt_moml::{
+    ClassPort, Direction, DocFault, Entity, Kind, Port, Property, State, Transition, kind_named,
+};
 use pt_value::Text;
 use std::alloc::{AllocError, Global};
 
@@ -108,23 +110,88 @@ fn ports(alloc: Global, entity: &Entity) -> Result<Vec<Port>, AllocError>
     Ok(ports)
 }
 
+/// What an entity of the net is called, and its director.
+#[derive(Drop)]
+struct Title {
+    path: Text,
+    class: Text,
+    director: Option<NetDirector>,
+}
+
+fn named(alloc: Global, placed: &Placed) -> Result<Title, AllocError>
+    ensures path { IfOk result (λ named. named.path ≡ placed.now.path) }
+    ensures class { IfOk result (λ named. named.class ≡ (parts (view.entity_view placed.now.entity.now)).class) }
+    ensures director { IfOk result (λ named. option_map net.director_view named.director ≡ option_map net.director_tree (find is_director (parts (view.entity_view placed.now.entity.now)).properties)) }
+{
+    let entity = placed.entity;
+    Ok(Title {
+        path: text(alloc, &placed.path)?,
+        class: text(alloc, &entity.class)?,
+        director: director(alloc, &entity.properties)?,
+    })
+}
+
+/// The ports of an entity of the net, its parameters and its Variables.
+#[derive(Drop)]
+struct Contents {
+    ports: Vec<Port>,
+    parameters: Vec<Property>,
+    variables: Vec<Property>,
+}
+
+fn given(alloc: Global, entity: &Entity) -> Result<Contents, AllocError>
+    ensures ports { IfOk result (λ given. map view.port_view given.ports.items ≡ net.net_ports (parts (view.entity_view entity.now))) }
+    ensures parameters { IfOk result (λ given. view.properties_view given.parameters.items ≡ filter net.is_parameter (parts (view.entity_view entity.now)).properties) }
+    ensures variables { IfOk result (λ given. view.properties_view given.variables.items ≡ filter net.is_variable (parts (view.entity_view entity.now)).properties) }
+{
+    Ok(Contents {
+        ports: ports(alloc, entity)?,
+        parameters: parameters(alloc, &entity.properties)?,
+        variables: variables(alloc, &entity.properties)?,
+    })
+}
+
+/// The states of an entity of the net, and its transitions.
+#[derive(Drop)]
+struct Behavior {
+    states: Vec<State>,
+    initial: Option<Text>,
+    transitions: Vec<Transition>,
+}
+
+fn modes(alloc: Global, entity: &Entity) -> Result<Behavior, AllocError>
+    ensures states { IfOk result (λ modes. modes.states.items ≡ (parts (view.entity_view entity.now)).states) }
+    ensures initial { IfOk result (λ modes. modes.initial ≡ (parts (view.entity_view entity.now)).initial) }
+    ensures transitions { IfOk result (λ modes. map view.transition_view modes.transitions.items ≡ (parts (view.entity_view entity.now)).transitions) }
+{
+    Ok(Behavior {
+        states: states(alloc, &entity.states)?,
+        initial: optional_text(alloc, &entity.initial)?,
+        transitions: transitions(alloc, &entity.transitions)?,
+    })
+}
+
 fn net_entity(alloc: Global, placed: &Placed) -> Result<NetEntity, DocFault>
     ensures ok { IfOk result (λ entity. net.entity_view entity ≡ net.entity_tree (placed_view placed.now)) }
     ensures err { IfErr result (λ e. e ≡ Memory) }
 {
-    let entity = placed.entity;
+    let parent = optional_number(placed.round.parent)?;
+    let within = optional_number(placed.round.within)?;
+    let named = named(alloc, placed)?;
+    let given = given(alloc, placed.entity)?;
+    let modes = modes(alloc, placed.entity)?;
     Ok(NetEntity {
-        path: text(alloc, &placed.path)?,
-        class: text(alloc, &entity.class)?,
-        director: director(alloc, &entity.properties)?,
-        parent: optional_number(placed.round.parent)?,
-        within: optional_number(placed.round.within)?,
-        ports: ports(alloc, entity)?,
-        parameters: parameters(alloc, &entity.properties)?,
-        variables: variables(alloc, &entity.properties)?,
-        states: states(alloc, &entity.states)?,
-        initial: optional_text(alloc, &entity.initial)?,
-        transitions: transitions(alloc, &entity.transitions)?,
+        path: named.path,
+        class: named.class,
+        director: named.director,
+        parent,
+        within,
+        ports: given.ports,
+        parameters: given.parameters,
+        variables: given.variables,
+        states: modes.states,
+        initial: modes.initial,
+        transitions: modes.transitions,
     })
 }
 
@@ -146,10 +213,12 @@ fn transparent(alloc: Global, placed: &Placed) -> Result<Transparent, DocFault>
     ensures ok { IfOk result (λ entity. net.transparent_view entity ≡ net.transparent_tree (placed_view placed.now)) }
     ensures err { IfErr result (λ e. e ≡ Memory) }
 {
+    let parent = optional_number(placed.round.parent)?;
+    let within = optional_number(placed.round.within)?;
     Ok(Transparent {
         path: text(alloc, &placed.path)?,
-        parent: optional_number(placed.round.parent)?,
-        within: optional_number(placed.round.within)?,
+        parent,
+        within,
         ports: ports(alloc, placed.entity)?,
         parameters: parameters(alloc, &placed.entity.properties)?,
     })

@@ -1,6 +1,7 @@
 ghost use Rattle.std.specs.Prelude.{◌≡◌, length, IfOk, IfErr};
 ghost use Rattle.pt_moml.specs.declared.refusal.DocFault.TheVariants.{Memory};
 ghost use Rattle.pt_graph.specs.declared.net.Joint.TheVariants as joint;
+ghost use Rattle.pt_graph.specs.declared.net.JointPort.TheVariants as kinds;
 ghost use Rattle.pt_graph.specs.Survey.{tables_view, ports_view, port_at};
 ghost use Rattle.pt_graph.specs.Ties.{IsPortWithin};
 ghost use Rattle.pt_graph.specs.Joints as spec;
@@ -16,21 +17,34 @@ use crate::wiring::Wiring;
 use pt_moml::DocFault;
 use std::alloc::Global;
 
+fn entity_port(entity: usize, port: usize) -> Result<JointPort, DocFault>
+    ensures ok { IfOk result (λ found. found ≡ kinds.Entity entity port) }
+    ensures err { IfErr result (λ e. e ≡ Memory) }
+{
+    Ok(JointPort::Entity {
+        entity: number(entity)?,
+        port: number(port)?,
+    })
+}
+
+fn transparent_port(composite: usize, port: usize) -> Result<JointPort, DocFault>
+    ensures ok { IfOk result (λ found. found ≡ kinds.Transparent composite port) }
+    ensures err { IfErr result (λ e. e ≡ Memory) }
+{
+    Ok(JointPort::Transparent {
+        composite: number(composite)?,
+        port: number(port)?,
+    })
+}
+
 fn joint_port(port: &PlacedPort) -> Result<JointPort, DocFault>
     ensures ok { IfOk result (λ found. found ≡ spec.joint_port (port_at port.now)) }
     ensures err { IfErr result (λ e. e ≡ Memory) }
 {
-    let index = number(port.number)?;
     if port.is_kept() {
-        Ok(JointPort::Entity {
-            entity: number(port.placed.number)?,
-            port: index,
-        })
+        entity_port(port.placed.number, port.number)
     } else {
-        Ok(JointPort::Transparent {
-            composite: number(port.entity.saturating_sub(port.placed.number))?,
-            port: index,
-        })
+        transparent_port(port.entity.saturating_sub(port.placed.number), port.number)
     }
 }
 

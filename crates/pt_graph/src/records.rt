@@ -28,14 +28,21 @@ struct Outputs {
     ports: Vec<NetPort>,
 }
 
+fn numbered(entity: usize, port: usize) -> Result<NetPort, DocFault>
+    ensures ok { IfOk result (λ found. found ≡ record { entity = entity; port = port }) }
+    ensures err { IfErr result (λ e. e ≡ Memory) }
+{
+    Ok(NetPort {
+        entity: number(entity)?,
+        port: number(port)?,
+    })
+}
+
 fn net_port(port: &PlacedPort) -> Result<NetPort, DocFault>
     ensures ok { IfOk result (λ found. found ≡ net.net_port (port_at port.now)) }
     ensures err { IfErr result (λ e. e ≡ Memory) }
 {
-    Ok(NetPort {
-        entity: number(port.placed.number)?,
-        port: number(port.number)?,
-    })
+    numbered(port.placed.number, port.number)
 }
 
 impl Outputs {

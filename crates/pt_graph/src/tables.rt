@@ -1,4 +1,4 @@
-ghost use Rattle.std.specs.Prelude.{◌≡◌, ◌++◌, map, IfOk, OnOk};
+ghost use Rattle.std.specs.Prelude.{◌≡◌, ◌++◌, [], ◌∷◌, map, IfOk, OnOk};
 ghost use Rattle.pt_moml.specs.Document.{parts};
 ghost use Rattle.pt_moml.specs.Classes.{port_of};
 ghost use Rattle.pt_moml.specs.View.{entity_view, port_view};
@@ -148,10 +148,7 @@ fn add_declared<'a>(
 fn add_rows<'a>(ports: &mut Vec<PortRow<&'a str>>, rows: &[ClassPort]) -> Result<(), AllocError>
     ensures { OnOk result (map port_of ports.new.items ≡ map port_of ports.old.items ++ map port_of rows.now) }
 {
-    for row in rows {
-        ports.push(*row)?;
-    }
-    Ok(())
+    ports.extend_from_slice(rows)
 }
 
 /// The ports of an entity: those of its class and those that it declares.
@@ -215,6 +212,22 @@ fn add_relations<'t, 'a>(
     Ok(())
 }
 
+fn add_link<'t, 'a>(
+    table: &mut Vec<PlacedLink<'t, 'a>>,
+    composite: usize,
+    placed: &'t Placed<'a>,
+    link: &'a Link,
+) -> Result<(), AllocError>
+    ensures { OnOk result (links_view table.new.items ≡ links_view table.old.items ++ record { composite = composite; standing = placed_view placed.now; link = link.now } ∷ []) }
+{
+    table.push(PlacedLink {
+        composite,
+        placed,
+        link,
+    })?;
+    Ok(())
+}
+
 fn add_links<'t, 'a>(
     table: &mut Vec<PlacedLink<'t, 'a>>,
     composite: usize,
@@ -223,11 +236,7 @@ fn add_links<'t, 'a>(
     ensures { OnOk result (links_view table.new.items ≡ links_view table.old.items ++ spec.links_in composite (placed_view placed.now)) }
 {
     for link in &placed.entity.links {
-        table.push(PlacedLink {
-            composite,
-            placed,
-            link,
-        })?;
+        add_link(table, composite, placed, link)?;
     }
     Ok(())
 }

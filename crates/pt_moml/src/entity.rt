@@ -1,10 +1,11 @@
 // Entities, which may have entities of their own.
-ghost use Rattle.std.specs.Prelude.{◌≡◌, [], codes, map, option_map};
+ghost use Rattle.std.specs.Prelude.{◌≡◌, [], codes, map, option_map, IfOk};
 ghost use Rattle.serde_json.specs.Find.{get};
 ghost use Rattle.pt_json.specs.View.{view, items_view};
 ghost use Rattle.pt_moml.specs.Classes.{kind_view};
 ghost use Rattle.pt_moml.specs.Document.{entity, to_entities};
 ghost use Rattle.pt_moml.specs.Outcome.{Gives};
+ghost use Rattle.pt_moml.specs.Rules as rules;
 ghost use Rattle.pt_moml.specs.Reading.{entity_fields, kind_at, ports_field, relations_field, states_field, initial_field, parts_at, entity_from, entity_at, entities_field, entity_items};
 ghost use Rattle.pt_moml.specs.View.{own_view, port_view, entity_view, entities_view};
 
@@ -184,6 +185,21 @@ fn own_of(
     })
 }
 
+/// The same parts, if their properties and ports are as the kind wants them.
+fn fitting(alloc: Global, here: &str, kind: Kind, own: Own) -> Result<Own, DocFault>
+    ensures rules { Gives (λ _. tt) result
+        (rules.parts_fit here.now (kind_view kind) (own_view own).properties (own_view own).ports) }
+    ensures same { IfOk result (λ same. own_view same ≡ own_view own) }
+{
+    match parts_fit(alloc, here, kind, &own.properties, &own.ports) {
+        Ok(()) => Ok(own),
+        Err(fault) => {
+            drop(own);
+            Err(fault)
+        }
+    }
+}
+
 fn with_entities(own: Own, entities: Vec<Entity>) -> Entity
     ensures { entity_view result
         ≡ entity (own_view own) (to_entities (entities_view entities.items)) }
@@ -225,10 +241,15 @@ pub fn entity_of_name(
 {
     let class = required(alloc, here, value.get("class"))?;
     let kind = kind_of(alloc, here, class.as_str())?;
-    let own = own_of(alloc, here, name, class, kind, value)?;
-    parts_fit(alloc, here, kind, &own.properties, &own.ports)?;
-    let entities = entities_of(alloc, here, value.get("entities"))?;
-    Ok(with_entities(own, entities))
+    let read = own_of(alloc, here, name, class, kind, value)?;
+    let own = fitting(alloc, here, kind, read)?;
+    match entities_of(alloc, here, value.get("entities")) {
+        Ok(entities) => Ok(with_entities(own, entities)),
+        Err(fault) => {
+            drop(own);
+            Err(fault)
+        }
+    }
 }
 
 #[cycle(entities)]
