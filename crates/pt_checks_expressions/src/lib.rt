@@ -6,6 +6,8 @@ mod evaluation;
 #[cfg(test)]
 mod expression_types;
 #[cfg(test)]
+mod least_types;
+#[cfg(test)]
 mod parsing;
 #[cfg(test)]
 mod printed_expressions;

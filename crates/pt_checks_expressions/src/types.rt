@@ -1,4 +1,4 @@
-use pt_types::{ElementTy, RecordTy, Rule, Ty, below, join, least, print};
+use pt_types::{ElementTy, RecordTy, Ty, below, join, print};
 use pt_value::{FieldsFault, Text};
 use std::alloc::{AllocError, Global};
 use std::process::Abort;
@@ -395,57 +395,5 @@ fn a_field_may_not_stand_twice(rt: HostRuntime) -> Result<(), Fail> {
     );
     assert!(rt; !is_record(alloc, &[])?, "no field");
     assert!(rt; !is_record(alloc, &[("1", "int")])?, "no name");
-    Ok(())
-}
-
-/// The target's type is above `int`.
-#[derive(Drop)]
-struct Known {
-    target: u32,
-}
-
-impl Rule for Known {
-    ghost use Rattle.std.specs.Prelude.{refl};
-    ghost use Rattle.pt_types.specs.Datatype.{Int};
-
-    ghost target_of = { λ rule. rule.target };
-
-    ghost value_of = { λ _ _. Int };
-
-    ghost grows = { λ _ _ _ _. refl };
-
-    fn target(&self) -> u32 {
-        self.target
-    }
-
-    fn value(&self, _: Global, _: &[Ty]) -> Result<Ty, AllocError> {
-        Ok(Ty::Int)
-    }
-
-    fn reads(&self) -> &[u32] {
-        &[]
-    }
-}
-
-/// The texts of types, each before a blank.
-fn listed(alloc: Global, types: &[Ty]) -> Result<Vec<u8>, AllocError> {
-    let mut out = Vec::new(alloc);
-    for ty in types {
-        print(ty, &mut out)?;
-        out.push(b' ')?;
-    }
-    Ok(out)
-}
-
-#[test]
-fn what_no_rule_names_stays_unknown(rt: HostRuntime) -> Result<(), Fail> {
-    let rules = [
-        Known { target: 1 },
-        Known { target: 1 },
-        Known { target: 3 },
-    ];
-    let types = least(rt.alloc(), 4, &rules)?;
-    let out = listed(rt.alloc(), &types)?;
-    assert!(rt; out.as_slice() == b"unknown int unknown int ".as_slice());
     Ok(())
 }
