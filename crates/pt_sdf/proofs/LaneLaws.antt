@@ -1,5 +1,5 @@
 -- The calls that need no walk, at the fields of a core.
-use Rattle.std.proofs.Common.{◌≡◌, ℕ, ◌+◌, ◌<◌, List, [], ◌∷◌, true, false, length, IfSome, zero, suc, get_or, set, take, drop, map, nat_eq, Some, refl, ap, ap₂, sym, subst, ◌∙◌, arith, length-set, length-drop}
+use Rattle.std.proofs.Common.{◌≡◌, ℕ, ◌+◌, ◌<◌, List, [], ◌∷◌, true, false, length, zero, suc, get_or, set, take, drop, map, nat_eq, refl, ap, ap₂, sym, subst, ◌∙◌, arith, length-set, length-drop}
 use Rattle.std.proofs.lemmas.Bool.{false≢true}
 use Rattle.std.proofs.lemmas.List.{drop-set, get_or-drop}
 use Rattle.pt_meaning.specs.Streams.{Streams}
@@ -15,9 +15,10 @@ use Rattle.pt_meaning.specs.Running.{plus, puts}
 use Rattle.pt_sdf.specs.Plan.{source_of, plan_of}
 use Rattle.pt_sdf.specs.Feeds.{Target, no_feed, target_of, rows_in, put_back, AreThere}
 use Rattle.pt_sdf.specs.declared.lanes.Lane.{Lane}
+use Rattle.pt_sdf.specs.declared.lanes.Inlet.TheVariants as inlet
 use Rattle.pt_sdf.specs.declared.lanes.Outlet.{Outlet}
 use Rattle.pt_sdf.specs.declared.lanes.Outlet.TheVariants.{Nothing, One, Several}
-use Rattle.pt_sdf.specs.Lanes.{IsInlet, IsOutlet, FitsOutlet, IsLane, IsOutletIn, no_lane, is_several, targets_of}
+use Rattle.pt_sdf.specs.Lanes.{IsInlet, FitsInlet, IsOutlet, FitsOutlet, IsLane, IsOutletIn, no_lane, is_several, targets_of}
 use Rattle.pt_sdf.specs.Core.{stage_of, state_of, state_in, place_behind, Sound, IsSound, IsWhole}
 use Rattle.pt_sdf.proofs.Lists.{read-at, skip-zero, next-left, next-taken}
 use Rattle.pt_sdf.proofs.NeedLaws.{part-fits}
@@ -32,8 +33,11 @@ module _ (i : Inside) (w : IsWhole i) (child : ℕ) (h : child < length i.plan.p
       subst (λ v. IsLane i.plan.needs (place_of i.plan.places child) (get_or i.plan.places child 0) (get_or i.plan.rates.items child []) (get_or (rows_in i.tables.feeds.items) child []) v)
       (sym (read-at i.tables.lanes.items child lane no_lane (omega (arith, h, w.lanes.counted)) e)) (w.lanes.each child h)
 
-  pub inlet-of : (c : ℕ) → lane.inlet ≡ Some c → IsInlet i.plan.needs (place_of i.plan.places child) (get_or i.plan.places child 0) c
-  inlet-of c f = subst (λ v. IfSome v (λ x. IsInlet i.plan.needs (place_of i.plan.places child) (get_or i.plan.places child 0) x)) f is-lane.inlet
+  pub source-of : lane.inlet ≡ inlet.Nothing → get_or i.plan.places child 0 ≡ 0
+  source-of f = subst (λ v. FitsInlet i.plan.needs (place_of i.plan.places child) (get_or i.plan.places child 0) v) f is-lane.inlet
+
+  pub inlet-of : (c : ℕ) → lane.inlet ≡ inlet.One c → IsInlet i.plan.needs (place_of i.plan.places child) (get_or i.plan.places child 0) c
+  inlet-of c f = subst (λ v. FitsInlet i.plan.needs (place_of i.plan.places child) (get_or i.plan.places child 0) v) f is-lane.inlet
 
   pub outlet-of : is_several lane.outlet ≡ false → IsOutlet i.plan.needs (place_of i.plan.places child) (get_or i.plan.places child 0) (get_or i.plan.rates.items child []) (get_or (rows_in i.tables.feeds.items) child []) (targets_of lane.outlet)
   outlet-of f = by lane.outlet f is-lane.outlet
@@ -118,7 +122,31 @@ module _ (i : Inside) (s : IsSound i) (g : i.stage ≡ code.Open) (l : 0 < i.lef
     inlet-state =
         ask-state (plan_of i.plan) i.plan.needs i.plan.order.items i.first.lists i.channels.lists held' i.lent.items lent' i.turns i.left i.at child c 1 i.tag i.stage a.place (sym a.alone) inlet-lent inlet-left
 
+-- a child without places is asked for
+module _ (i : Inside) (s : IsSound i) (g : i.stage ≡ code.Open) (l : 0 < i.left) (child : ℕ) (e : child ≡ get_or i.plan.order.items i.at child) (z : get_or i.plan.places child 0 ≡ 0) (L : Streams Token) (m : length L ≡ length i.lent.items) where
+  source-opened : SoundAt i code.Open
+  source-opened = subst (λ v. SoundAt i v) g s
+
+  source-next : get_or i.plan.order.items i.at 0 ≡ child
+  source-next = sym (read-at i.plan.order.items i.at child 0 (s.position.within l) e)
+
+  nothing-left : i.channels.lists ≡ skip_at (place_of i.plan.places child) (take (get_or i.plan.places child 0) (drop (place_of i.plan.places child) i.plan.needs)) i.channels.lists
+  nothing-left = sym (ap (λ n. skip_at (place_of i.plan.places child) (take n (drop (place_of i.plan.places child) i.plan.needs)) i.channels.lists) z ∙ skip-zero (place_of i.plan.places child) i.channels.lists)
+
+  pub source-sound : Sound (plan_of i.plan) i.plan.needs i.plan.order.items i.plan.room i.tables.offsets.items i.tables.feeds.items i.first.lists i.channels.lists i.rooms.items L i.staged.list i.turns i.left i.at (code.Asked child)
+  source-sound =
+      ask-sound (plan_of i.plan) i.plan.needs i.plan.order.items i.plan.room i.tables.offsets.items i.tables.feeds.items i.first.lists i.channels.lists i.rooms.items i.lent.items i.staged.list i.turns i.left i.at child source-opened l source-next i.channels.lists i.rooms.items L
+      nothing-left (λ k h. refl) refl m
+
+  pub source-state : state_of (plan_of i.plan) i.plan.needs i.plan.order.items i.first.lists i.channels.lists L i.turns i.left i.at i.tag (code.Asked child) ≡ asked child (state_in i)
+  source-state =
+      ask-state (plan_of i.plan) i.plan.needs i.plan.order.items i.first.lists i.channels.lists i.channels.lists i.lent.items L i.turns i.left i.at child (place_of i.plan.places child) 0 i.tag i.stage refl (sym z) refl (sym (skip-zero (place_of i.plan.places child) i.channels.lists))
+
 -- what is lent to it
+pub source-is : (i : Inside) (child : ℕ) → i.stage ≡ code.Asked child → get_or i.plan.places child 0 ≡ 0 → [] ≡ lent_in (state_in i).stage
+source-is i child g z = sym (ap (λ v. lent_in (stage_of i.plan.places i.lent.items v)) g ∙ ap (λ n. take n (drop (place_of i.plan.places child) i.lent.items)) z)
+
+-- what is lent to a child with one place
 module _ (i : Inside) (s : IsSound i) (child : ℕ) (g : i.stage ≡ code.Asked child) (c : ℕ) (a : IsInlet i.plan.needs (place_of i.plan.places child) (get_or i.plan.places child 0) c) where
   pub lent-there : c < length i.lent.items
   lent-there = omega (arith, part-fits i.plan.places child (told-child i s child g), a.place, a.alone, s.lists)

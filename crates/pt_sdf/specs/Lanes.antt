@@ -1,8 +1,10 @@
 -- What is simple of the children of a plan, so that their firings need no walk.
-use Rattle.std.specs.Prelude.{◌≡◌, ℕ, ◌+◌, ◌<◌, ◌≤◌, Bool, true, false, List, [], ◌∷◌, length, map, get_or, None, IfSome, Vec}
+use Rattle.std.specs.Prelude.{◌≡◌, ℕ, ◌+◌, ◌<◌, ◌≤◌, Bool, true, false, List, [], ◌∷◌, length, map, get_or, Vec}
 use Rattle.std.specs.Global.{Global}
 use Rattle.pt_sdf.specs.declared.feeds.Feed.{Feed}
 use Rattle.pt_sdf.specs.declared.lanes.Lane.{Lane}
+use Rattle.pt_sdf.specs.declared.lanes.Inlet.{Inlet}
+use Rattle.pt_sdf.specs.declared.lanes.Inlet.TheVariants as inlet
 use Rattle.pt_sdf.specs.declared.lanes.Outlet.{Outlet}
 use Rattle.pt_sdf.specs.declared.lanes.Outlet.TheVariants.{Nothing, One, Several}
 use Rattle.pt_sdf.specs.declared.plan.CorePlan.{CorePlan}
@@ -25,6 +27,12 @@ pub record IsInlet (needs : List ℕ) (from places c : ℕ) : Type 0 where
   pub place : c ≡ from
   pub alone : places ≡ 1
   pub need : get_or needs from 0 ≡ 1
+
+-- what is told of its places is so
+abbrev pub FitsInlet : (needs : List ℕ) → (from places : ℕ) → Inlet → Type 0
+FitsInlet needs from places inlet.Nothing = places ≡ 0
+FitsInlet needs from places (inlet.One c) = IsInlet needs from places c
+FitsInlet needs from places inlet.Several = Unit {0}
 
 -- the child gives one token on its one port, and its port feeds these channels alone; none of its places needs several tokens
 pub record IsOutlet (needs : List ℕ) (from places : ℕ) (rates : List ℕ) (feeds : List Feed) (targets : List Target) : Type 0 where
@@ -56,11 +64,11 @@ IsOutletIn count Several = Unit {0}
 
 -- what is told of a child is so
 pub record IsLane (needs : List ℕ) (from places : ℕ) (rates : List ℕ) (feeds : List Feed) (lane : Lane) : Type 0 where
-  pub inlet : IfSome lane.inlet (λ c. IsInlet needs from places c)
+  pub inlet : FitsInlet needs from places lane.inlet
   pub outlet : FitsOutlet needs from places rates feeds lane.outlet
 
 abbrev pub no_lane : Lane
-no_lane = record { inlet = None; outlet = Several }
+no_lane = record { inlet = inlet.Several; outlet = Several }
 
 -- and of each of some children
 pub record AreLanes (places needs : List ℕ) (rates : List (List ℕ)) (feeds : List (Vec Feed Global)) (lanes : List Lane) : Type 0 where

@@ -1,6 +1,6 @@
-ghost use Rattle.std.specs.Prelude.{◌≡◌, ℕ, ◌+◌, ◌^◌, ◌<◌, ◌≤◌, length, get_or, IfOk, IfSome, IsTrue};
+ghost use Rattle.std.specs.Prelude.{◌≡◌, ℕ, ◌+◌, ◌^◌, ◌<◌, ◌≤◌, length, get_or, IfOk, IsTrue};
 ghost use Rattle.pt_sdf.specs.ByNeed.{place_of};
-ghost use Rattle.pt_sdf.specs.Lanes.{NeedsFew, IsInlet, FitsOutlet, IsLane, AreLanes};
+ghost use Rattle.pt_sdf.specs.Lanes.{NeedsFew, FitsInlet, FitsOutlet, IsLane, AreLanes};
 
 use crate::feeds::Feed;
 use pt_firing::Counts;
@@ -9,9 +9,18 @@ use std::alloc::{AllocError, Global};
 /// What is simple of a child, so that its firings need no walk over places and feeds.
 #[derive(Clone, Copy, Debug)]
 pub(crate) struct Lane {
-    /// The channel of its one place, where it has one and needs one token there.
-    pub(crate) inlet: Option<u32>,
+    pub(crate) inlet: Inlet,
     pub(crate) outlet: Outlet,
+}
+
+/// What comes to a child.
+#[derive(Clone, Copy, Debug)]
+pub(crate) enum Inlet {
+    /// It has no place.
+    Nothing,
+    /// It has one place, where it needs one token, which this channel brings.
+    One(u32),
+    Several,
 }
 
 /// What a child feeds that gives one token on its one port, and needs several at no place.
@@ -72,15 +81,17 @@ fn lane_of(needs: &[usize], from: usize, places: usize, rates: &[usize], feeds: 
     }
 }
 
-fn inlet_of(needs: &[usize], from: usize, places: usize) -> Option<u32>
+fn inlet_of(needs: &[usize], from: usize, places: usize) -> Inlet
     requires few { length needs.now < 2 ^ 32 }
     requires needed { from + places ≤ length needs.now }
-    ensures { IfSome result (λ c. IsInlet needs.now from places c) }
+    ensures { FitsInlet needs.now from places result }
 {
-    if places == 1 && needs[from] == 1 {
-        Some(from as u32)
+    if places == 0 {
+        Inlet::Nothing
+    } else if places == 1 && needs[from] == 1 {
+        Inlet::One(from as u32)
     } else {
-        None
+        Inlet::Several
     }
 }
 

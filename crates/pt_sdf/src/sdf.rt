@@ -1,6 +1,7 @@
 ghost use Rattle.std.specs.Prelude.{◌≡◌, ◌↔◌, ◌<◌, length, IfOk, IsTrue, OnOk, OnErr, Option, Some, List};
 
 use crate::gather::{Span, gather, lend_number, lighten};
+use crate::lanes::Inlet;
 use crate::number::{is_one, put_on_outlet, scatter_number};
 use crate::numbers::{are_all_of_one, scatter_numbers};
 use crate::outlets::hand_out;
@@ -145,7 +146,7 @@ impl Core {
         }
     }
 
-    // A child with one place that needs one number there is the common case, and needs no walk.
+    // A child without places, or with one that needs one number, is the common case, and needs no walk.
     #[inline(always)]
     fn ask_next(&mut self) -> Ask
         requires { self.old.stage ≡ Open }
@@ -153,12 +154,20 @@ impl Core {
     {
         if self.left > 0 {
             let child = self.plan.order[self.at];
-            if let Some(c) = self.tables.lanes[child as usize].inlet {
-                lighten(&mut self.lent, &mut self.heavy);
-                if lend_number(&mut self.channels, &mut self.lent, c) {
+            match self.tables.lanes[child as usize].inlet {
+                Inlet::Nothing => {
+                    lighten(&mut self.lent, &mut self.heavy);
                     self.stage = Stage::Asked(child);
                     return Ask::Fire(child, self.tag);
                 }
+                Inlet::One(c) => {
+                    lighten(&mut self.lent, &mut self.heavy);
+                    if lend_number(&mut self.channels, &mut self.lent, c) {
+                        self.stage = Stage::Asked(child);
+                        return Ask::Fire(child, self.tag);
+                    }
+                }
+                Inlet::Several => {}
             }
         }
         self.ask_any()
@@ -198,8 +207,12 @@ impl Core {
     {
         match self.stage {
             Stage::Asked(child) => {
-                if let Some(c) = self.tables.lanes[child as usize].inlet {
-                    return Inputs::of(slice::from_ref(&self.lent[c as usize]));
+                match self.tables.lanes[child as usize].inlet {
+                    Inlet::Nothing => return Inputs::of(&[]),
+                    Inlet::One(c) => {
+                        return Inputs::of(slice::from_ref(&self.lent[c as usize]));
+                    }
+                    Inlet::Several => {}
                 }
                 let from = self.tables.offsets[child as usize];
                 let n = self.plan.places.as_slice()[child as usize];
