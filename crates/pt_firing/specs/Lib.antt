@@ -1,4 +1,5 @@
 pub mod Tokens
+pub mod IntInputs
 pub mod Outputs
 pub mod Need
 pub mod RunFault
