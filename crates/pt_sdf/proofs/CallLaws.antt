@@ -14,7 +14,7 @@ use Rattle.pt_sdf.specs.declared.feeds.Feed.{Feed}
 use Rattle.pt_sdf.specs.declared.sdf.Stage as declared
 use Rattle.pt_sdf.specs.declared.sdf.Stage.TheVariants as code
 use Rattle.pt_sdf.specs.ByNeed.{place_of, skip_at}
-use Rattle.pt_sdf.specs.State.{Asked, started, begun, asked, after_told, if_told, closed}
+use Rattle.pt_sdf.specs.State.{Handed, started, begun, asked, handed, after_told, if_told, closed}
 use Rattle.pt_sdf.specs.declared.plan.CorePlan.{CorePlan}
 use Rattle.pt_sdf.specs.Plan.{source_of, plan_of, IsSamePlan}
 use Rattle.pt_sdf.specs.Clauses.{State}
@@ -196,8 +196,8 @@ module _ (p : SdfPlan) (needs order room offsets : List ℕ) (feeds : List (Vec 
   own-begin = omega (arith, s.lawful.channels)
 
   module _ (g : stage ≡ code.Closed) (from : ℕ) (f : from ≡ total p.net.places) (held' : Streams Token) (d : held' ≡ take from held ++ behind (map (λ n. turns * n) p.gives) (drop from held)) where
-    handed : held' ≡ skip_at (total p.net.places) (map (λ n. turns * n) p.gives) held
-    handed =
+    given-out : held' ≡ skip_at (total p.net.places) (map (λ n. turns * n) p.gives) held
+    given-out =
         d ∙ ap (λ v. take v held ++ behind (map (λ n. turns * n) p.gives) (drop v held)) f ∙
         sym (skip-behind (total p.net.places) (map (λ n. turns * n) p.gives) held (omega (arith, length-map p.gives (λ n. turns * n), s.counted, s.lawful.channels)))
 
@@ -207,7 +207,7 @@ module _ (p : SdfPlan) (needs order room offsets : List ℕ) (feeds : List (Vec 
         let F : List ℕ = fired_from (turns - left) (take place order) 0 p.repetitions in
         let fit : c < total p.net.places = omega (arith, b, part-fits p.net.places i h) in
         let same : at held' c ≡ at held c =
-        ap (λ v. at v c) handed ∙ at-is (skip_at (total p.net.places) (map (λ n. turns * n) p.gives) held) c ∙ skip-before (total p.net.places) (map (λ n. turns * n) p.gives) held c fit ∙ sym (at-is held c)
+        ap (λ v. at v c) given-out ∙ at-is (skip_at (total p.net.places) (map (λ n. turns * n) p.gives) held) c ∙ skip-before (total p.net.places) (map (λ n. turns * n) p.gives) held c fit ∙ sym (at-is held c)
         in
         subst (λ v. IsLevel p turns (length (at first c)) (length v) (get_or needs c 0) i F F (get_or p.net.sources c (Own 0))) (sym same)
         (subst (λ v. IsLevel p turns (length (at first c)) (length (at held c)) (get_or needs c 0) i (taken_by (busy v) F) F (get_or p.net.sources c (Own 0))) g (s.level i k h b))
@@ -217,7 +217,7 @@ module _ (p : SdfPlan) (needs order room offsets : List ℕ) (feeds : List (Vec 
       lawful = s.lawful;
       places_begin = s.places_begin;
       fed = s.fed;
-      counted = ap (λ v. length v) handed ∙ skip-long (total p.net.places) (map (λ n. turns * n) p.gives) held ∙ s.counted;
+      counted = ap (λ v. length v) given-out ∙ skip-long (total p.net.places) (map (λ n. turns * n) p.gives) held ∙ s.counted;
       position = record { whole = s.position.whole; within = s.position.within; over = s.position.over; fits = subst (λ v. StageFits v left place order) g s.position.fits };
       level = handed-level;
       rooms_counted = s.rooms_counted;
@@ -229,14 +229,14 @@ module _ (p : SdfPlan) (needs order room offsets : List ℕ) (feeds : List (Vec 
     pub finish-state : (tag : Tag) → state_of p needs order first held' lent turns left place tag code.Idle ≡ closed (state_of p needs order first held lent turns left place tag stage)
     finish-state tag = same-state _ _ refl refl refl (d ∙ ap (λ v. take v held ++ behind (map (λ n. turns * n) p.gives) (drop v held)) f) refl refl refl refl
 
--- a child is asked for
+-- the inputs of a child that was asked for are handed over
 pub ask-state : (p : SdfPlan) (needs order : List ℕ) (first held held' lent lent' : Streams Token) (turns left place child o n : ℕ) (tag : Tag) (stage : declared.Stage) → o ≡ place_of p.net.places child → n ≡ get_or p.net.places child 0 → take n (drop o lent') ≡ firsts (take n (drop o needs)) (take n (drop o held)) →
-    held' ≡ skip_at o (take n (drop o needs)) held → state_of p needs order first held' lent' turns left place tag (code.Asked child) ≡ asked child (state_of p needs order first held lent turns left place tag stage)
+    held' ≡ skip_at o (take n (drop o needs)) held → state_of p needs order first held' lent' turns left place tag (code.Handed child) ≡ handed (asked child (state_of p needs order first held lent turns left place tag stage))
 ask-state p needs order first held held' lent lent' turns left place child o n tag stage a b l d =
     let given : take (get_or p.net.places child 0) (drop (place_of p.net.places child) lent') ≡ firsts (take (get_or p.net.places child 0) (drop (place_of p.net.places child) needs)) (take (get_or p.net.places child 0) (drop (place_of p.net.places child) held)) =
     sym (ap₂ (λ x y. take y (drop x lent')) a b) ∙ l ∙ ap₂ (λ x y. firsts (take y (drop x needs)) (take y (drop x held))) a b
     in
-    same-state _ _ refl refl refl (d ∙ ap₂ (λ x y. skip_at x (take y (drop x needs)) held) a b) refl refl refl (ap (λ v. Asked child v) given)
+    same-state _ _ refl refl refl (d ∙ ap₂ (λ x y. skip_at x (take y (drop x needs)) held) a b) refl refl refl (ap (λ v. Handed child v) given)
 
 -- a child was told
 pub told-state : (p : SdfPlan) (needs order : List ℕ) (first held held' lent : Streams Token) (turns left place child : ℕ) (next : ℕ × ℕ) (tag : Tag) (stage : declared.Stage) (out : Streams Token) → has_rates (get_or p.rates child []) out ≡ true → held' ≡ plus held (puts child out p.net.sources) →

@@ -1,5 +1,5 @@
 -- The laws of the calls, at the fields of a core.
-use Rattle.std.proofs.Common.{◌≡◌, ℕ, ◌+◌, ◌-◌, ◌*◌, ◌<◌, ◌≤◌, ◌⊎◌, ◌++◌, List, [], length, get_or, take, drop, map, nat_eq, true, false, Option, Some, None, Vec, Global, ap, ap₂, sym, subst, ◌∙◌, arith}
+use Rattle.std.proofs.Common.{◌≡◌, ℕ, ◌+◌, ◌-◌, ◌*◌, ◌<◌, ◌≤◌, ◌⊎◌, ◌++◌, List, [], length, get_or, take, drop, map, nat_eq, true, false, Option, Some, None, Vec, Global, refl, ap, ap₂, sym, subst, ◌∙◌, arith}
 use Rattle.std.proofs.lemmas.List.{length-map}
 use Rattle.pt_meaning.specs.Tag.{Tag}
 use Rattle.pt_meaning.specs.Streams.{Streams}
@@ -14,15 +14,15 @@ use Rattle.pt_sdf.specs.declared.sdf.Stage as declared
 use Rattle.pt_sdf.specs.declared.sdf.Stage.TheVariants as code
 use Rattle.pt_sdf.specs.declared.sdf.Core.TheInside.{Inside}
 use Rattle.pt_sdf.specs.ByNeed.{place_of, skip_at}
-use Rattle.pt_sdf.specs.State.{Open, Idle, Closed, Allows, IsEnough, asked_child, lent_in, asked, begun, after_told, closed}
+use Rattle.pt_sdf.specs.State.{Open, Idle, Closed, Allows, IsEnough, asked_child, lent_in, asked, handed, restarted, begun, after_told, closed}
 use Rattle.pt_sdf.specs.Clauses.{State}
 use Rattle.pt_sdf.specs.Plan.{source_of, plan_of}
 use Rattle.pt_sdf.specs.Feeds.{target_of, put_back, allowed_by, AreThere, AreApart, MovesOnce}
 use Rattle.pt_sdf.specs.Rooms.{HasRoom, HaveRooms}
-use Rattle.pt_sdf.specs.Core.{stage_of, state_of, state_in, left_at_first, place_behind, busy, Sound, IsSound}
+use Rattle.pt_sdf.specs.Core.{stage_of, state_of, state_in, with_asked, seen_in, left_at_first, place_behind, busy, Sound, IsSound}
 use Rattle.pt_sdf.proofs.Lists.{read-at, at-is}
 use Rattle.pt_sdf.proofs.NeedLaws.{part-fits}
-use Rattle.pt_sdf.proofs.SoundLaws.{child-there, offset-is, total-fits, enough, may-fire, ask-sound, stage-open, stage-idle, stage-closed, child-asked, told-there, told-firings, told-sound, told-kept, wrong-sound}
+use Rattle.pt_sdf.proofs.SoundLaws.{child-there, offset-is, total-fits, enough, may-fire, ask-sound, asked-alone, stage-open, stage-idle, stage-closed, stage-asked, told-there, told-firings, told-sound, told-kept, wrong-sound}
 use Rattle.pt_sdf.proofs.CallLaws.{whole-fired, row-apart, row-moves, row-there, child-ports, child-puts, own-ports, own-arrives, own-turns, begin-sound, begin-state, finish-sound, finish-state, ask-state, told-state, wrong-state}
 
 -- the same core, by its parts at another stage
@@ -30,21 +30,34 @@ abbrev pub SoundAt : Inside → declared.Stage → Type 0
 SoundAt i stage =
     Sound (plan_of i.plan) i.plan.needs i.plan.order.items i.plan.room i.tables.offsets.items i.tables.feeds.items i.first.lists i.channels.lists i.rooms.items i.lent.items i.staged.list i.turns i.left i.at stage
 
-abbrev StateAt : Inside → State
-StateAt i = state_of (plan_of i.plan) i.plan.needs i.plan.order.items i.first.lists i.channels.lists i.lent.items i.turns i.left i.at i.tag i.stage
-
 -- the stage by what contracts see
-pub is-open : (i : Inside) (v : State) → state_in i ≡ v → v.stage ≡ Open → i.stage ≡ code.Open
-is-open i v e h = stage-open i.plan.places i.lent.items i.stage (ap (λ (s : State). s.stage) e ∙ h)
+pub is-open : (i : Inside) (v : State) → seen_in i ≡ v → v.stage ≡ Open → i.stage ≡ code.Open
+is-open i v e h = stage-open i.plan.places i.lent.items i.stage (state_in i) refl (ap (λ (s : State). s.stage) e ∙ h)
 
-pub is-idle : (i : Inside) (v : State) → state_in i ≡ v → v.stage ≡ Idle → i.stage ≡ code.Idle
-is-idle i v e h = stage-idle i.plan.places i.lent.items i.stage (ap (λ (s : State). s.stage) e ∙ h)
+pub is-idle : (i : Inside) (v : State) → seen_in i ≡ v → v.stage ≡ Idle → i.stage ≡ code.Idle
+is-idle i v e h = stage-idle i.plan.places i.lent.items i.stage (state_in i) refl (ap (λ (s : State). s.stage) e ∙ h)
 
-pub is-closed : (i : Inside) (v : State) → state_in i ≡ v → v.stage ≡ Closed → i.stage ≡ code.Closed
-is-closed i v e h = stage-closed i.plan.places i.lent.items i.stage (ap (λ (s : State). s.stage) e ∙ h)
+pub is-closed : (i : Inside) (v : State) → seen_in i ≡ v → v.stage ≡ Closed → i.stage ≡ code.Closed
+is-closed i v e h = stage-closed i.plan.places i.lent.items i.stage (state_in i) refl (ap (λ (s : State). s.stage) e ∙ h)
 
-pub is-asked : (i : Inside) (v : State) (child : ℕ) → state_in i ≡ v → asked_child v.stage ≡ Some child → i.stage ≡ code.Asked child
-is-asked i v child e h = child-asked i.plan.places i.lent.items i.stage child (ap (λ (s : State). asked_child s.stage) e ∙ h)
+pub is-asked : (i : Inside) (v : State) (child : ℕ) → seen_in i ≡ v → asked_child v.stage ≡ Some child → (i.stage ≡ code.Asked child) ⊎ (i.stage ≡ code.Handed child)
+is-asked i v child e h = stage-asked i.plan.places i.lent.items i.stage (state_in i) child refl (ap (λ (s : State). asked_child s.stage) e ∙ h)
+
+-- what contracts see of a core at a stage
+pub seen-at : (i : Inside) (g : declared.Stage) → i.stage ≡ g → with_asked g (state_in i) ≡ seen_in i
+seen-at i g e = sym (ap (λ v. with_asked v (state_in i)) e)
+
+-- a core starts again from any stage alike
+pub seen-restarted : (i : Inside) → restarted (state_in i) ≡ restarted (seen_in i)
+seen-restarted i = by i.stage (state_in i)
+  where
+    by : (g : declared.Stage) (s : State) → restarted s ≡ restarted (with_asked g s)
+    by code.Idle s = refl
+    by code.Open s = refl
+    by (code.Asked child) s = refl
+    by (code.Handed child) s = refl
+    by (code.Wrong child) s = refl
+    by code.Closed s = refl
 
 -- a child is asked for
 module _ (i : Inside) (s : IsSound i) (g : i.stage ≡ code.Open) (l : 0 < i.left) (child : ℕ) (e : child ≡ get_or i.plan.order.items i.at child) where
@@ -83,19 +96,23 @@ module _ (i : Inside) (s : IsSound i) (g : i.stage ≡ code.Open) (l : 0 < i.lef
 
     module _ (held' lent' : Streams Token) (rooms' : List (Option (Vec Token Global))) (a : held' ≡ skip_at o (take n (drop o i.plan.needs)) i.channels.lists) where
       pub asked-sound : ((c : ℕ) → (c < o) ⊎ (o + n ≤ c) ⊎ (get_or i.plan.needs c 0 ≤ 1) → get_or rooms' c None ≡ get_or i.rooms.items c None) → length rooms' ≡ length i.rooms.items → length lent' ≡ length i.lent.items →
-          Sound (plan_of i.plan) i.plan.needs i.plan.order.items i.plan.room i.tables.offsets.items i.tables.feeds.items i.first.lists held' rooms' lent' i.staged.list i.turns i.left i.at (code.Asked child)
+          Sound (plan_of i.plan) i.plan.needs i.plan.order.items i.plan.room i.tables.offsets.items i.tables.feeds.items i.first.lists held' rooms' lent' i.staged.list i.turns i.left i.at (code.Handed child)
       asked-sound b r q =
           ask-sound (plan_of i.plan) i.plan.needs i.plan.order.items i.plan.room i.tables.offsets.items i.tables.feeds.items i.first.lists i.channels.lists i.rooms.items i.lent.items i.staged.list i.turns i.left i.at child opened l next held' rooms' lent'
           (a ∙ ap₂ (λ x y. skip_at x (take y (drop x i.plan.needs)) i.channels.lists) asked-place m)
           (subst (λ v. (c : ℕ) → (c < v) ⊎ (v + get_or i.plan.places child 0 ≤ c) ⊎ (get_or i.plan.needs c 0 ≤ 1) → get_or rooms' c None ≡ get_or i.rooms.items c None) asked-place (subst (λ v. (c : ℕ) → (c < o) ⊎ (o + v ≤ c) ⊎ (get_or i.plan.needs c 0 ≤ 1) → get_or rooms' c None ≡ get_or i.rooms.items c None) m b)) r q
 
       pub asked-state : take n (drop o lent') ≡ firsts (take n (drop o i.plan.needs)) (take n (drop o i.channels.lists)) →
-          state_of (plan_of i.plan) i.plan.needs i.plan.order.items i.first.lists held' lent' i.turns i.left i.at i.tag (code.Asked child) ≡ asked child (state_in i)
+          state_of (plan_of i.plan) i.plan.needs i.plan.order.items i.first.lists held' lent' i.turns i.left i.at i.tag (code.Handed child) ≡ handed (asked child (state_in i))
       asked-state b = ask-state (plan_of i.plan) i.plan.needs i.plan.order.items i.first.lists i.channels.lists held' i.lent.items lent' i.turns i.left i.at child o n i.tag i.stage asked-place m b a
 
   pub asked-allowed : Allows (state_in i) child
   asked-allowed =
       may-fire (plan_of i.plan) i.plan.needs i.plan.order.items i.plan.room i.tables.offsets.items i.tables.feeds.items i.first.lists i.channels.lists i.rooms.items i.lent.items i.staged.list i.turns i.left i.at i.stage s child l next i.tag (ap busy g)
+
+  -- it takes nothing yet
+  pub ask-alone : SoundAt i (code.Asked child)
+  ask-alone = asked-alone (plan_of i.plan) i.plan.needs i.plan.order.items i.plan.room i.tables.offsets.items i.tables.feeds.items i.first.lists i.channels.lists i.rooms.items i.lent.items i.staged.list i.turns i.left i.at child opened l next
 
 -- the end of a firing
 pub enough-fired : (i : Inside) (s : IsSound i) → i.left ≡ 0 → IsEnough (state_in i)
@@ -147,8 +164,8 @@ module _ (i : Inside) (s : IsSound i) (g : i.stage ≡ code.Closed) (sources fro
       finish-state (plan_of i.plan) i.plan.needs i.plan.order.items i.plan.room i.tables.offsets.items i.tables.feeds.items i.first.lists i.channels.lists i.rooms.items i.lent.items i.staged.list i.turns i.left i.at i.stage s g from finish-from held' d i.tag
 
 -- a child was told
-module _ (i : Inside) (s : IsSound i) (child : ℕ) (g : i.stage ≡ code.Asked child) where
-  told : SoundAt i (code.Asked child)
+module _ (i : Inside) (s : IsSound i) (child : ℕ) (g : i.stage ≡ code.Handed child) where
+  told : SoundAt i (code.Handed child)
   told = subst (λ v. SoundAt i v) g s
 
   pub told-child : child < length i.plan.places
@@ -173,7 +190,7 @@ module _ (i : Inside) (s : IsSound i) (child : ℕ) (g : i.stage ≡ code.Asked 
       (told-kept (plan_of i.plan) i.plan.needs i.plan.order.items i.plan.room i.tables.offsets.items i.tables.feeds.items i.first.lists i.channels.lists i.rooms.items i.lent.items i.staged.list i.turns i.left i.at child told rooms' staged' held' d m n k)
 
   module _ (o n : ℕ) (f : o ≡ get_or i.tables.offsets.items child o) (m : n ≡ get_or i.plan.places child 0) where
-    told-place : o ≡ place_of i.plan.places child
+    pub told-place : o ≡ place_of i.plan.places child
     told-place = offset-is (plan_of i.plan) i.plan.needs i.plan.order.items i.plan.room i.tables.offsets.items i.tables.feeds.items i.first.lists i.channels.lists i.rooms.items i.lent.items i.staged.list i.turns i.left i.at i.stage s child o told-child f
 
     pub told-fits : (o + n ≤ length i.plan.needs) × (o + n ≤ length i.rooms.items)

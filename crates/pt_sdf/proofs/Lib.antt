@@ -2,12 +2,13 @@ pub mod CallLaws
 pub mod ChainLaws
 pub mod CoreLaws
 pub mod FeedLaws
+pub mod HandLaws
+pub mod IntLaws
 pub mod LaneLaws
 pub mod LevelLaws
 pub mod Lists
 pub mod MarkLaws
 pub mod NeedLaws
-pub mod NumberLaws
 pub mod OrderLaws
 pub mod OutletLaws
 pub mod SoundLaws

@@ -174,3 +174,16 @@ spare-kept S c n d = ⊎_elim (λ e. ⊎_elim (λ l. raised e l) (λ l. past l) 
 
     other : (d ≡ c → ⊥) → get_or S d 0 ≤ get_or (set S c (max n (get_or S c 0))) d 0
     other z = subst (λ v. get_or S d 0 ≤ v) (sym (get_or-set_other S c d (max n (get_or S c 0)) 0 z)) (omega arith)
+
+-- nor where tokens are taken
+pub spare-raised : (S : List ℕ) (c n d : ℕ) → get_or S d 0 ≤ get_or (set S c (get_or S c 0 + n)) d 0
+spare-raised S c n d = ⊎_elim (λ e. ⊎_elim (λ l. raised e l) (λ l. past l) (cases_lt c (length S))) (λ z. other z) (cases_eq d c)
+  where
+    raised : d ≡ c → c < length S → get_or S d 0 ≤ get_or (set S c (get_or S c 0 + n)) d 0
+    raised e l = subst (λ j. get_or S j 0 ≤ get_or (set S c (get_or S c 0 + n)) j 0) (sym e) (subst (λ v. get_or S c 0 ≤ v) (sym (get_or-set_same S c (get_or S c 0 + n) 0 l)) (omega arith))
+
+    past : length S ≤ c → get_or S d 0 ≤ get_or (set S c (get_or S c 0 + n)) d 0
+    past l = subst (λ v. get_or S d 0 ≤ get_or v d 0) (sym (set_past S c (get_or S c 0 + n) l)) (omega arith)
+
+    other : (d ≡ c → ⊥) → get_or S d 0 ≤ get_or (set S c (get_or S c 0 + n)) d 0
+    other z = subst (λ v. get_or S d 0 ≤ v) (sym (get_or-set_other S c d (get_or S c 0 + n) 0 z)) (omega arith)

@@ -19,11 +19,12 @@ use Rattle.pt_sdf.specs.declared.sdf.Stage as declared
 use Rattle.pt_sdf.specs.declared.sdf.Stage.TheVariants as code
 use Rattle.pt_sdf.specs.ByNeed.{place_of, skip_at}
 use Rattle.pt_sdf.specs.State.{Idle, Open, Closed, Allows, asked_child}
+use Rattle.pt_sdf.specs.Clauses.{State}
 use Rattle.pt_sdf.specs.Lawful.{occurs, IsNamed, IsLawful}
 use Rattle.pt_sdf.specs.Feeds.{AreFeeds}
 use Rattle.pt_sdf.specs.Rooms.{HasRoom, HaveRooms}
 use Rattle.pt_sdf.specs.Lanes.{begins}
-use Rattle.pt_sdf.specs.Core.{stage_of, fired_from, state_of, place_behind, busy, taken_by, IsPosition, IsLevel, AreLevel, Sound}
+use Rattle.pt_sdf.specs.Core.{stage_of, fired_from, state_of, with_asked, place_behind, busy, taken_by, IsPosition, IsLevel, AreLevel, Sound}
 use Rattle.pt_sdf.proofs.Lists.{read-at, at-is, skip-untouched, skip-before, skip-there, skip-long}
 use Rattle.pt_sdf.proofs.NeedLaws.{allows, part-fits, length-part, get-part}
 use Rattle.pt_sdf.proofs.FeedLaws.{IsWithin}
@@ -120,34 +121,39 @@ start-sound p needs order room offsets feeds first rooms lent staged l o f n r w
         let c : ℕ = place_of p.net.places i + k in
         subst (λ j. HasRoom (get_or needs j 0) (get_or rooms j None)) (zero-add c) (r c (omega (arith, part-fits p.net.places i h, e)))
 
--- the child that is asked for, by the stage
-pub child-asked : (ps : List ℕ) (lent : Streams Token) (g : declared.Stage) (child : ℕ) → asked_child (stage_of ps lent g) ≡ Some child → g ≡ code.Asked child
-child-asked ps lent code.Idle child e = absurd (cc)
-child-asked ps lent code.Open child e = absurd (cc)
-child-asked ps lent (code.Asked i) child e = ap (λ v. code.Asked v) (cc)
-child-asked ps lent (code.Wrong i) child e = absurd (cc)
-child-asked ps lent code.Closed child e = absurd (cc)
+-- the stage, by what contracts see
+module _ (ps : List ℕ) (lent : Streams Token) where
+  pub stage-open : (g : declared.Stage) (s : State) → s.stage ≡ stage_of ps lent g → (with_asked g s).stage ≡ Open → g ≡ code.Open
+  stage-open code.Idle s e h = absurd (cc)
+  stage-open code.Open s e h = refl
+  stage-open (code.Asked i) s e h = absurd (cc)
+  stage-open (code.Handed i) s e h = absurd (cc)
+  stage-open (code.Wrong i) s e h = absurd (cc)
+  stage-open code.Closed s e h = absurd (cc)
 
-pub stage-open : (ps : List ℕ) (lent : Streams Token) (g : declared.Stage) → stage_of ps lent g ≡ Open → g ≡ code.Open
-stage-open ps lent code.Idle e = absurd (cc)
-stage-open ps lent code.Open e = refl
-stage-open ps lent (code.Asked i) e = absurd (cc)
-stage-open ps lent (code.Wrong i) e = absurd (cc)
-stage-open ps lent code.Closed e = absurd (cc)
+  pub stage-idle : (g : declared.Stage) (s : State) → s.stage ≡ stage_of ps lent g → (with_asked g s).stage ≡ Idle → g ≡ code.Idle
+  stage-idle code.Idle s e h = refl
+  stage-idle code.Open s e h = absurd (cc)
+  stage-idle (code.Asked i) s e h = absurd (cc)
+  stage-idle (code.Handed i) s e h = absurd (cc)
+  stage-idle (code.Wrong i) s e h = absurd (cc)
+  stage-idle code.Closed s e h = absurd (cc)
 
-pub stage-idle : (ps : List ℕ) (lent : Streams Token) (g : declared.Stage) → stage_of ps lent g ≡ Idle → g ≡ code.Idle
-stage-idle ps lent code.Idle e = refl
-stage-idle ps lent code.Open e = absurd (cc)
-stage-idle ps lent (code.Asked i) e = absurd (cc)
-stage-idle ps lent (code.Wrong i) e = absurd (cc)
-stage-idle ps lent code.Closed e = absurd (cc)
+  pub stage-closed : (g : declared.Stage) (s : State) → s.stage ≡ stage_of ps lent g → (with_asked g s).stage ≡ Closed → g ≡ code.Closed
+  stage-closed code.Idle s e h = absurd (cc)
+  stage-closed code.Open s e h = absurd (cc)
+  stage-closed (code.Asked i) s e h = absurd (cc)
+  stage-closed (code.Handed i) s e h = absurd (cc)
+  stage-closed (code.Wrong i) s e h = absurd (cc)
+  stage-closed code.Closed s e h = refl
 
-pub stage-closed : (ps : List ℕ) (lent : Streams Token) (g : declared.Stage) → stage_of ps lent g ≡ Closed → g ≡ code.Closed
-stage-closed ps lent code.Idle e = absurd (cc)
-stage-closed ps lent code.Open e = absurd (cc)
-stage-closed ps lent (code.Asked i) e = absurd (cc)
-stage-closed ps lent (code.Wrong i) e = absurd (cc)
-stage-closed ps lent code.Closed e = refl
+  pub stage-asked : (g : declared.Stage) (s : State) (child : ℕ) → s.stage ≡ stage_of ps lent g → asked_child (with_asked g s).stage ≡ Some child → (g ≡ code.Asked child) ⊎ (g ≡ code.Handed child)
+  stage-asked code.Idle s child e h = absurd (cc)
+  stage-asked code.Open s child e h = absurd (cc)
+  stage-asked (code.Asked i) s child e h = inl (ap (λ v. code.Asked v) (cc))
+  stage-asked (code.Handed i) s child e h = inr (ap (λ v. code.Handed v) (cc))
+  stage-asked (code.Wrong i) s child e h = absurd (cc)
+  stage-asked code.Closed s child e h = absurd (cc)
 
 module _ (p : SdfPlan) (needs order room offsets : List ℕ) (feeds : List (Vec Feed Global)) (first held : Streams Token) (rooms : List (Option (Vec Token Global))) (lent : Streams Token) (staged : List Token) (turns left place : ℕ) (stage : declared.Stage) (s : Sound p needs order room offsets feeds first held rooms lent staged turns left place stage) where
   -- how often each child fired
@@ -201,6 +207,37 @@ module _ (p : SdfPlan) (needs order room offsets : List ℕ) (feeds : List (Vec 
       where
         fewer : (w q x t f : ℕ) → f ≡ w * q + x → x + 1 ≤ q → w < t → f < t * q
         fewer w q x t f e h o = let k : (w + 1) * q ≤ t * q = grind arith in omega (arith, e, k)
+
+-- A child was asked for alone: all is as before.
+pub open-again : (p : SdfPlan) (needs order room offsets : List ℕ) (feeds : List (Vec Feed Global)) (first held : Streams Token) (rooms : List (Option (Vec Token Global))) (lent : Streams Token) (staged : List Token) (turns left place child : ℕ) → Sound p needs order room offsets feeds first held rooms lent staged turns left place (code.Asked child) →
+    Sound p needs order room offsets feeds first held rooms lent staged turns left place code.Open
+open-again p needs order room offsets feeds first held rooms lent staged turns left place child s = record {
+  lawful = s.lawful;
+  places_begin = s.places_begin;
+  fed = s.fed;
+  counted = s.counted;
+  position = record { whole = s.position.whole; within = s.position.within; over = s.position.over; fits = tt };
+  level = s.level;
+  rooms_counted = s.rooms_counted;
+  roomy = s.roomy;
+  lists = s.lists;
+  none_staged = s.none_staged;
+}
+
+pub asked-alone : (p : SdfPlan) (needs order room offsets : List ℕ) (feeds : List (Vec Feed Global)) (first held : Streams Token) (rooms : List (Option (Vec Token Global))) (lent : Streams Token) (staged : List Token) (turns left place child : ℕ) → Sound p needs order room offsets feeds first held rooms lent staged turns left place code.Open → 0 < left → get_or order place 0 ≡ child →
+    Sound p needs order room offsets feeds first held rooms lent staged turns left place (code.Asked child)
+asked-alone p needs order room offsets feeds first held rooms lent staged turns left place child s l e = record {
+  lawful = s.lawful;
+  places_begin = s.places_begin;
+  fed = s.fed;
+  counted = s.counted;
+  position = record { whole = s.position.whole; within = s.position.within; over = s.position.over; fits = (l, e) };
+  level = s.level;
+  rooms_counted = s.rooms_counted;
+  roomy = s.roomy;
+  lists = s.lists;
+  none_staged = s.none_staged;
+}
 
 -- places of different children lie apart
 pub places-apart : (ps : List ℕ) (child i k : ℕ) → child < length ps → i < length ps → k < get_or ps i 0 → (i ≡ child → ⊥) → (place_of ps i + k < place_of ps child) ⊎ (place_of ps child + get_or ps child 0 ≤ place_of ps i + k)
@@ -279,7 +316,7 @@ module _ (p : SdfPlan) (needs order room offsets : List ℕ) (feeds : List (Vec 
 
   pub ask-sound : (held' : Streams Token) (rooms' : List (Option (Vec Token Global))) (lent' : Streams Token) → held' ≡ skip_at (place_of p.net.places child) (take (get_or p.net.places child 0) (drop (place_of p.net.places child) needs)) held →
       ((c : ℕ) → (c < place_of p.net.places child) ⊎ (place_of p.net.places child + get_or p.net.places child 0 ≤ c) ⊎ (get_or needs c 0 ≤ 1) → get_or rooms' c None ≡ get_or rooms c None) → length rooms' ≡ length rooms → length lent' ≡ length lent →
-      Sound p needs order room offsets feeds first held' rooms' lent' staged turns left place (code.Asked child)
+      Sound p needs order room offsets feeds first held' rooms' lent' staged turns left place (code.Handed child)
   ask-sound held' rooms' lent' d r n m = record {
     lawful = s.lawful;
     places_begin = s.places_begin;
@@ -301,12 +338,12 @@ module _ (p : SdfPlan) (needs order room offsets : List ℕ) (feeds : List (Vec 
       apart (inr b) = inr (inl b)
 
 -- child x was told what it gave
-module _ (p : SdfPlan) (needs order room offsets : List ℕ) (feeds : List (Vec Feed Global)) (first held : Streams Token) (rooms : List (Option (Vec Token Global))) (lent : Streams Token) (staged : List Token) (turns left place child : ℕ) (s : Sound p needs order room offsets feeds first held rooms lent staged turns left place (code.Asked child)) where
+module _ (p : SdfPlan) (needs order room offsets : List ℕ) (feeds : List (Vec Feed Global)) (first held : Streams Token) (rooms : List (Option (Vec Token Global))) (lent : Streams Token) (staged : List Token) (turns left place child : ℕ) (s : Sound p needs order room offsets feeds first held rooms lent staged turns left place (code.Handed child)) where
   abbrev firings-told : List ℕ
   firings-told = fired_from (turns - left) (take place order) 0 p.repetitions
 
   pub told-there : child < length p.net.places
-  told-there = child-there p needs order room offsets feeds first held rooms lent staged turns left place (code.Asked child) s child s.position.fits.0 s.position.fits.1
+  told-there = child-there p needs order room offsets feeds first held rooms lent staged turns left place (code.Handed child) s child s.position.fits.0 s.position.fits.1
 
   -- the firings by the next place
   told-by : (b : Bool) → nat_eq (place + 1) (length order) ≡ b → fired_from (turns - (place_behind b left place).0) (take (place_behind b left place).1 order) 0 p.repetitions ≡ set firings-told child (get_or firings-told child 0 + 1)
@@ -347,12 +384,12 @@ module _ (p : SdfPlan) (needs order room offsets : List ℕ) (feeds : List (Vec 
       IsLevel p turns (length (at first (place_of p.net.places i + k))) (length (at (plus held (puts child out p.net.sources)) (place_of p.net.places i + k))) (get_or needs (place_of p.net.places i + k) 0) i (set firings-told child (get_or firings-told child 0 + 1)) (set firings-told child (get_or firings-told child 0 + 1)) (get_or p.net.sources (place_of p.net.places i + k) (Own 0))
   level-of out r i k h b =
       let c : ℕ = place_of p.net.places i + k in
-      let f = total-fits p needs order room offsets feeds first held rooms lent staged turns left place (code.Asked child) s i h in
+      let f = total-fits p needs order room offsets feeds first held rooms lent staged turns left place (code.Handed child) s i h in
       let src : Source = get_or p.net.sources c (Own 0) in
       let more : length (at (plus held (puts child out p.net.sources)) c) ≡ length (at held c) + length (puts_on child out src) =
       ap (λ v. length v) (plus-at held (puts child out p.net.sources) c (omega (arith, b, f.0)) ∙ ap (λ v. at held c ++ v) (puts-at child out p.net.sources c (Own 0) (omega (arith, b, f.3)))) ∙ length-append (at held c) (puts_on child out src)
       in
-      let fl : child < length firings-told = omega (arith, told-there, fired-counted p needs order room offsets feeds first held rooms lent staged turns left place (code.Asked child) s) in
+      let fl : child < length firings-told = omega (arith, told-there, fired-counted p needs order room offsets feeds first held rooms lent staged turns left place (code.Handed child) s) in
       subst (λ v. IsLevel p turns (length (at first c)) v (get_or needs c 0) i (set firings-told child (get_or firings-told child 0 + 1)) (set firings-told child (get_or firings-told child 0 + 1)) src) (sym more)
       (level-told p order turns (length (at first c)) (length (at held c)) (get_or needs c 0) i child out (set firings-told child (get_or firings-told child 0 + 1)) firings-told (set firings-told child (get_or firings-told child 0 + 1)) src (s.level i k h b)
       (λ port z. rates-at (get_or p.rates child []) out port r (named port (subst (λ v. IsNamed p v) z (s.lawful.named c (Own 0) (omega (arith, b, f.3)))))) refl (taken-same firings-told child fl) (λ j z. taken-other firings-told child j z))
@@ -382,7 +419,7 @@ module _ (p : SdfPlan) (needs order room offsets : List ℕ) (feeds : List (Vec 
 
   -- where there was no memory, or the rates are wrong, it keeps what it had
   pub told-kept : (rooms' : List (Option (Vec Token Global))) (staged' : List Token) (held' : Streams Token) → held' ≡ held → staged' ≡ [] → length rooms' ≡ length rooms → ((c : ℕ) → HasRoom (get_or needs c 0) (get_or rooms c None) → HasRoom (get_or needs c 0) (get_or rooms' c None)) →
-      Sound p needs order room offsets feeds first held' rooms' lent staged' turns left place (code.Asked child)
+      Sound p needs order room offsets feeds first held' rooms' lent staged' turns left place (code.Handed child)
   told-kept rooms' staged' held' d g n kept = record {
     lawful = s.lawful;
     places_begin = s.places_begin;

@@ -4,7 +4,7 @@ use Rattle.pt_value.specs.declared.token.Token.{Token}
 use Rattle.pt_firing.specs.declared.ask.Ask.{Ask}
 use Rattle.pt_firing.specs.declared.ask.Ask.TheVariants as ask
 use Rattle.pt_firing.specs.declared.fault.RunFault.TheVariants.{Rate}
-use Rattle.pt_sdf.specs.State.{SdfState, Stage, Idle, Open, Asked, Wrong, Closed, Allows, IsEnough, in_stage, asked}
+use Rattle.pt_sdf.specs.State.{SdfState, Stage, Idle, Open, Asked, Handed, Wrong, Closed, Allows, IsEnough, in_stage, asked}
 
 abbrev pub State : Type 0
 State = SdfState Token
@@ -13,7 +13,8 @@ State = SdfState Token
 abbrev pub MayAsk : {T : Type 0} → Stage T → Type 0
 MayAsk Idle = ⊥
 MayAsk Open = Unit {0}
-MayAsk (Asked child lent) = ⊥
+MayAsk (Asked child inputs) = ⊥
+MayAsk (Handed child inputs) = ⊥
 MayAsk (Wrong child) = Unit {0}
 MayAsk Closed = ⊥
 

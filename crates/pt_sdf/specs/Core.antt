@@ -11,7 +11,7 @@ use Rattle.pt_sdf.specs.declared.sdf.Stage as declared
 use Rattle.pt_sdf.specs.declared.sdf.Stage.TheVariants as code
 use Rattle.pt_sdf.specs.declared.sdf.Core.TheInside.{Inside}
 use Rattle.pt_sdf.specs.ByNeed.{place_of}
-use Rattle.pt_sdf.specs.State.{Stage, Idle, Open, Asked, Wrong, Closed, SdfState}
+use Rattle.pt_sdf.specs.State.{Stage, Idle, Open, Handed, Wrong, Closed, SdfState, asked}
 use Rattle.pt_sdf.specs.declared.feeds.Feed.{Feed}
 use Rattle.pt_sdf.specs.Plan.{plan_of}
 use Rattle.pt_sdf.specs.Lawful.{occurs, rate_at, IsLawful}
@@ -19,11 +19,13 @@ use Rattle.pt_sdf.specs.Feeds.{AreFeeds}
 use Rattle.pt_sdf.specs.Rooms.{HasRoom}
 use Rattle.pt_sdf.specs.Lanes.{begins, AreLanes}
 
--- the stage, where the places of the asked child have their tokens in their lent lists
+-- The stage, where the places of a child whose inputs were handed over have their tokens in their lent lists.
+-- Where a child was asked for alone, all stands as before.
 abbrev pub stage_of : (places : List ℕ) → Streams Token → declared.Stage → Stage Token
 stage_of places lent code.Idle = Idle
 stage_of places lent code.Open = Open
-stage_of places lent (code.Asked child) = Asked child (take (get_or places child 0) (drop (place_of places child) lent))
+stage_of places lent (code.Asked child) = Open
+stage_of places lent (code.Handed child) = Handed child (take (get_or places child 0) (drop (place_of places child) lent))
 stage_of places lent (code.Wrong child) = Wrong child
 stage_of places lent code.Closed = Closed
 
@@ -32,7 +34,7 @@ abbrev pub fired_from : (whole : ℕ) (beginning : List ℕ) (i : ℕ) → List 
 fired_from whole beginning i [] = []
 fired_from whole beginning i (q ∷ qs) = (whole * q + occurs i beginning) ∷ fired_from whole beginning (suc i) qs
 
--- what contracts see
+-- what the fields hold
 abbrev pub state_of : SdfPlan → (needs order : List ℕ) → (first held lent : Streams Token) → (turns left at : ℕ) → Tag → declared.Stage → SdfState Token
 state_of p needs order first held lent turns left at tag stage = record {
   plan = p;
@@ -48,6 +50,28 @@ state_of p needs order first held lent turns left at tag stage = record {
 abbrev pub state_in : Inside → SdfState Token
 state_in c = state_of (plan_of c.plan) c.plan.needs c.plan.order.items c.first.lists c.channels.lists c.lent.items c.turns c.left c.at c.tag c.stage
 
+-- a child that was asked for has its inputs, though they still stand on their channels
+abbrev pub with_asked : declared.Stage → SdfState Token → SdfState Token
+with_asked code.Idle s = s
+with_asked code.Open s = s
+with_asked (code.Asked child) s = asked child s
+with_asked (code.Handed child) s = s
+with_asked (code.Wrong child) s = s
+with_asked code.Closed s = s
+
+-- at how many of the n places of the child that was asked for its tokens still stand on the channels
+abbrev pub unmoved : declared.Stage → ℕ → ℕ
+unmoved code.Idle n = 0
+unmoved code.Open n = 0
+unmoved (code.Asked child) n = n
+unmoved (code.Handed child) n = 0
+unmoved (code.Wrong child) n = 0
+unmoved code.Closed n = 0
+
+-- what contracts see
+abbrev pub seen_in : Inside → SdfState Token
+seen_in c = with_asked c.stage (state_in c)
+
 -- how many turns of an order are to be made: one without firings is over at once
 abbrev pub left_at_first : (order : List ℕ) → (turns : ℕ) → ℕ
 left_at_first [] turns = 0
@@ -58,11 +82,12 @@ abbrev pub place_behind : (is_last : Bool) → (left at : ℕ) → ℕ × ℕ
 place_behind true left at = (left - 1, 0)
 place_behind false left at = (left, at + 1)
 
--- the child that was asked for last, where its firing isn't done
+-- the child whose inputs were taken last, where its firing isn't done
 abbrev pub busy : declared.Stage → Option ℕ
 busy code.Idle = None
 busy code.Open = None
-busy (code.Asked child) = Some child
+busy (code.Asked child) = None
+busy (code.Handed child) = Some child
 busy (code.Wrong child) = Some child
 busy code.Closed = None
 
@@ -76,6 +101,7 @@ abbrev pub StageFits : declared.Stage → (left at : ℕ) → List ℕ → Type 
 StageFits code.Idle left at order = left ≡ 0
 StageFits code.Open left at order = Unit {0}
 StageFits (code.Asked child) left at order = (0 < left) × (get_or order at 0 ≡ child)
+StageFits (code.Handed child) left at order = (0 < left) × (get_or order at 0 ≡ child)
 StageFits (code.Wrong child) left at order = (0 < left) × (get_or order at 0 ≡ child)
 StageFits code.Closed left at order = left ≡ 0
 

@@ -1,6 +1,9 @@
 -- What is simple of the children of a plan, so that their firings need no walk.
-use Rattle.std.specs.Prelude.{◌≡◌, ℕ, ◌+◌, ◌<◌, ◌≤◌, Bool, true, false, List, [], ◌∷◌, length, map, get_or, Vec}
+use Rattle.std.specs.Prelude.{◌≡◌, ℕ, ◌+◌, ◌<◌, ◌≤◌, Bool, true, false, ◌&&◌, List, [], ◌∷◌, length, map, drop, get_or, slice_set, Vec}
 use Rattle.std.specs.Global.{Global}
+use Rattle.pt_meaning.specs.Streams.{Streams}
+use Rattle.pt_value.specs.declared.token.Token.{Token}
+use Rattle.pt_recv.specs.Lines.{list_at, spare_at}
 use Rattle.pt_sdf.specs.declared.feeds.Feed.{Feed}
 use Rattle.pt_sdf.specs.declared.lanes.Lane.{Lane}
 use Rattle.pt_sdf.specs.declared.lanes.Inlet.{Inlet}
@@ -18,37 +21,61 @@ abbrev pub begins : ℕ → List ℕ → List ℕ
 begins o [] = []
 begins o (p ∷ ps) = o ∷ begins (o + p) ps
 
--- none of the places of a child needs several tokens
-abbrev pub NeedsFew : (needs : List ℕ) → (from places : ℕ) → Type 0
-NeedsFew needs from places = (k : ℕ) → k < places → get_or needs (from + k) 0 ≤ 1
+-- each of the places of a child needs one token
+abbrev pub NeedsOneEach : (needs : List ℕ) → (from places : ℕ) → Type 0
+NeedsOneEach needs from places = (k : ℕ) → k < places → get_or needs (from + k) 0 ≡ 1
 
--- the child has one place, and needs one token there
-pub record IsInlet (needs : List ℕ) (from places c : ℕ) : Type 0 where
+-- the child has one place, and needs so many tokens there
+pub record IsInlet (needs : List ℕ) (from places c need : ℕ) : Type 0 where
   pub place : c ≡ from
   pub alone : places ≡ 1
-  pub need : get_or needs from 0 ≡ 1
+  pub needed : get_or needs from 0 ≡ need
 
 -- what is told of its places is so
 abbrev pub FitsInlet : (needs : List ℕ) → (from places : ℕ) → Inlet → Type 0
 FitsInlet needs from places inlet.Nothing = places ≡ 0
-FitsInlet needs from places (inlet.One c) = IsInlet needs from places c
+FitsInlet needs from places (inlet.Alone c need) = IsInlet needs from places c need
+FitsInlet needs from places inlet.Each = NeedsOneEach needs from places
 FitsInlet needs from places inlet.Several = Unit {0}
 
--- the child gives one token on its one port, and its port feeds these channels alone; none of its places needs several tokens
-pub record IsOutlet (needs : List ℕ) (from places : ℕ) (rates : List ℕ) (feeds : List Feed) (targets : List Target) : Type 0 where
+-- the child gives one token on its one port, and its port feeds these channels alone
+pub record IsOutlet (rates : List ℕ) (feeds : List Feed) (targets : List Target) : Type 0 where
   pub rate : rates ≡ 1 ∷ []
   pub fed : map target_of feeds ≡ targets
-  pub few : NeedsFew needs from places
 
-abbrev pub FitsOutlet : (needs : List ℕ) → (from places : ℕ) → (rates : List ℕ) → List Feed → Outlet → Type 0
-FitsOutlet needs from places rates feeds Nothing = IsOutlet needs from places rates feeds []
-FitsOutlet needs from places rates feeds (One c) = IsOutlet needs from places rates feeds (record { channel = c; port = 0 } ∷ [])
-FitsOutlet needs from places rates feeds Several = Unit {0}
+abbrev pub FitsOutlet : (rates : List ℕ) → List Feed → Outlet → Type 0
+FitsOutlet rates feeds Nothing = IsOutlet rates feeds []
+FitsOutlet rates feeds (One c) = IsOutlet rates feeds (record { channel = c; port = 0 } ∷ [])
+FitsOutlet rates feeds Several = Unit {0}
 
-abbrev pub is_several : Outlet → Bool
-is_several Nothing = false
-is_several (One c) = false
-is_several Several = true
+-- at most one channel on either side
+abbrev pub is_one_in : Inlet → Bool
+is_one_in inlet.Nothing = true
+is_one_in (inlet.Alone c need) = true
+is_one_in inlet.Each = false
+is_one_in inlet.Several = false
+
+abbrev pub is_one_out : Outlet → Bool
+is_one_out Nothing = true
+is_one_out (One c) = true
+is_one_out Several = false
+
+abbrev pub is_straight : Lane → Bool
+is_straight lane = is_one_in lane.inlet && is_one_out lane.outlet
+
+-- the channels once an inlet has taken what it needs
+abbrev pub left_behind : Inlet → Streams Token → Streams Token
+left_behind inlet.Nothing X = X
+left_behind (inlet.Alone c need) X = slice_set X c (drop need (list_at X c))
+left_behind inlet.Each X = X
+left_behind inlet.Several X = X
+
+-- which are there
+abbrev pub IsInletIn : Streams Token → Inlet → Type 0
+IsInletIn X inlet.Nothing = Unit {0}
+IsInletIn X (inlet.Alone c need) = (c < length X) × (need ≤ length (list_at X c))
+IsInletIn X inlet.Each = Unit {0}
+IsInletIn X inlet.Several = Unit {0}
 
 -- what an outlet feeds
 abbrev pub targets_of : Outlet → List Target
@@ -62,10 +89,16 @@ IsOutletIn count Nothing = Unit {0}
 IsOutletIn count (One c) = c < count
 IsOutletIn count Several = Unit {0}
 
+-- and has room for a token
+abbrev pub HasRoomAt : (spares : List ℕ) → Outlet → Type 0
+HasRoomAt spares Nothing = Unit {0}
+HasRoomAt spares (One c) = 0 < spare_at spares c
+HasRoomAt spares Several = Unit {0}
+
 -- what is told of a child is so
 pub record IsLane (needs : List ℕ) (from places : ℕ) (rates : List ℕ) (feeds : List Feed) (lane : Lane) : Type 0 where
   pub inlet : FitsInlet needs from places lane.inlet
-  pub outlet : FitsOutlet needs from places rates feeds lane.outlet
+  pub outlet : FitsOutlet rates feeds lane.outlet
 
 abbrev pub no_lane : Lane
 no_lane = record { inlet = inlet.Several; outlet = Several }

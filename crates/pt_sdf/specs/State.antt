@@ -8,17 +8,18 @@ use Rattle.pt_meaning.specs.Sdf.{SdfPlan, iterations, sdf_limits}
 use Rattle.pt_meaning.specs.Running.{Asks, plus, puts, total, zeros}
 use Rattle.pt_sdf.specs.ByNeed.{by_need, planned, place_of, skip_at}
 
--- where a firing of the composite stands: there is none, a child may be asked for, one was asked for and has these inputs, one gave another number of tokens than its rates, or all is made
+-- where a firing of the composite stands: there is none, a child may be asked for, one was asked for and has these inputs, which may be handed over to be lent, one gave another number of tokens than its rates, or all is made
 pub data Stage (T : Type 0) : Type 0 where
   Idle : Stage T
   Open : Stage T
-  Asked : (child : ℕ) → (lent : Streams T) → Stage T
+  Asked : (child : ℕ) → (inputs : Streams T) → Stage T
+  Handed : (child : ℕ) → (inputs : Streams T) → Stage T
   Wrong : (child : ℕ) → Stage T
   Closed : Stage T
 
 -- The plan, the tokens that each place of each child needs, what the channels hold at the start and now,
 -- how often each child fired in this firing of the composite, how many iterations this firing makes, its tag, and where it stands.
--- What is lent to a child that was asked for is no longer on the channels.
+-- The inputs of a child that was asked for are no longer on the channels.
 pub record SdfState (T : Type 0) : Type 0 where
   pub plan : SdfPlan
   pub needs : List ℕ
@@ -34,7 +35,8 @@ module _ {T : Type 0} where
   abbrev pub asked_child : Stage T → Option ℕ
   asked_child Idle = None
   asked_child Open = None
-  asked_child (Asked child lent) = Some child
+  asked_child (Asked child inputs) = Some child
+  asked_child (Handed child inputs) = Some child
   asked_child (Wrong child) = None
   asked_child Closed = None
 
@@ -42,7 +44,8 @@ module _ {T : Type 0} where
   abbrev pub lent_in : Stage T → Streams T
   lent_in Idle = []
   lent_in Open = []
-  lent_in (Asked child lent) = lent
+  lent_in (Asked child inputs) = inputs
+  lent_in (Handed child inputs) = inputs
   lent_in (Wrong child) = []
   lent_in Closed = []
 
@@ -81,9 +84,30 @@ module _ {T : Type 0} where
       let X = arrived s.plan.net.sources inputs s.held in
       record { plan = s.plan; needs = s.needs; first = s.first; held = X; fired = zeros s.plan.net.places; turns = iterations s.plan X; tag = tag; stage = Open }
 
-  -- child i is asked for: its inputs are lent
+  -- child i is asked for: its inputs are taken
   abbrev pub asked : ℕ → SdfState T → SdfState T
   asked i s = record { plan = s.plan; needs = s.needs; first = s.first; held = left_of s i; fired = s.fired; turns = s.turns; tag = s.tag; stage = Asked i (lent_of s i) }
+
+  -- the inputs of the child that was asked for are handed over
+  abbrev pub hand : Stage T → Stage T
+  hand Idle = Idle
+  hand Open = Open
+  hand (Asked child inputs) = Handed child inputs
+  hand (Handed child inputs) = Handed child inputs
+  hand (Wrong child) = Wrong child
+  hand Closed = Closed
+
+  abbrev pub handed : SdfState T → SdfState T
+  handed s = in_stage (hand s.stage) s
+
+  -- the inputs of a child were handed over, to be lent
+  abbrev pub IsHanded : Stage T → Type 0
+  IsHanded Idle = ⊥
+  IsHanded Open = ⊥
+  IsHanded (Asked child inputs) = ⊥
+  IsHanded (Handed child inputs) = Unit {0}
+  IsHanded (Wrong child) = ⊥
+  IsHanded Closed = ⊥
 
   -- what child i gave is on the channels, where each port gave as many tokens as its rate says
   abbrev pub if_told : Bool → ℕ → Streams T → SdfState T → SdfState T

@@ -5,7 +5,7 @@ use Rattle.pt_meaning.specs.Tag.{Tag}
 use Rattle.pt_meaning.specs.Streams.{Streams}
 use Rattle.pt_meaning.specs.Net.{Source, Own, Output}
 use Rattle.pt_meaning.specs.Sdf.{SdfPlan}
-use Rattle.pt_sdf.specs.State.{Stage, Idle, Open, Asked, Wrong, Closed, SdfState}
+use Rattle.pt_sdf.specs.State.{Stage, Idle, Open, Asked, Handed, Wrong, Closed, SdfState}
 
 abbrev from_source : Source → ℕ × (ℕ × ℕ)
 from_source (Own port) = (0, (0, port))
@@ -44,16 +44,18 @@ module _ {T : Type 0} where
   abbrev from_stage : Stage T → ℕ × (ℕ × Streams T)
   from_stage Idle = (0, (0, []))
   from_stage Open = (1, (0, []))
-  from_stage (Asked child lent) = (2, (child, lent))
-  from_stage (Wrong child) = (3, (child, []))
-  from_stage Closed = (4, (0, []))
+  from_stage (Asked child inputs) = (2, (child, inputs))
+  from_stage (Handed child inputs) = (3, (child, inputs))
+  from_stage (Wrong child) = (4, (child, []))
+  from_stage Closed = (5, (0, []))
 
   abbrev stage_at : ℕ → ℕ → Streams T → Stage T
-  stage_at zero child lent = Idle
-  stage_at (suc zero) child lent = Open
-  stage_at (suc (suc zero)) child lent = Asked child lent
-  stage_at (suc (suc (suc zero))) child lent = Wrong child
-  stage_at (suc (suc (suc (suc k)))) child lent = Closed
+  stage_at zero child inputs = Idle
+  stage_at (suc zero) child inputs = Open
+  stage_at (suc (suc zero)) child inputs = Asked child inputs
+  stage_at (suc (suc (suc zero))) child inputs = Handed child inputs
+  stage_at (suc (suc (suc (suc zero)))) child inputs = Wrong child
+  stage_at (suc (suc (suc (suc (suc k))))) child inputs = Closed
 
   abbrev to_stage : ℕ × (ℕ × Streams T) → Stage T
   to_stage p = stage_at p.0 p.1.0 p.1.1
@@ -61,7 +63,8 @@ module _ {T : Type 0} where
   pub to_stage-from_stage : (s : Stage T) → to_stage (from_stage s) ≡ s
   to_stage-from_stage Idle = refl
   to_stage-from_stage Open = refl
-  to_stage-from_stage (Asked child lent) = refl
+  to_stage-from_stage (Asked child inputs) = refl
+  to_stage-from_stage (Handed child inputs) = refl
   to_stage-from_stage (Wrong child) = refl
   to_stage-from_stage Closed = refl
 

@@ -126,23 +126,6 @@ pub(crate) fn gather(
     }
 }
 
-/// Lends the first token of a channel at its place, where it is a number. False: nothing was lent.
-#[inline(always)]
-pub(crate) fn lend_number(channels: &mut Channels, lent: &mut Vec<Tokens>, c: u32) -> bool
-    requires given { c < length channels.old.lists }
-    requires place { c < length lent.old.items }
-    ensures lent { result ≡ true → lent.new.items ≡ slice_set lent.old.items c (take 1 (list_at channels.old.lists c)) }
-    ensures left { result ≡ true → channels.new.lists ≡ slice_set channels.old.lists c (drop 1 (list_at channels.old.lists c)) }
-    ensures lists { result ≡ false → channels.new.lists ≡ channels.old.lists }
-    ensures others { result ≡ false → lent.new.items ≡ lent.old.items }
-{
-    let Some(number) = channels.take_number(c) else {
-        return false;
-    };
-    set_number(&mut lent[c as usize], number);
-    true
-}
-
 /// Lets go of what was lent before, where it isn't numbers alone.
 #[inline(always)]
 pub(crate) fn lighten(lent: &mut Vec<Tokens>, heavy: &mut Span)

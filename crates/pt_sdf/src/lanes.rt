@@ -1,6 +1,6 @@
 ghost use Rattle.std.specs.Prelude.{◌≡◌, ℕ, ◌+◌, ◌^◌, ◌<◌, ◌≤◌, length, get_or, IfOk, IsTrue};
 ghost use Rattle.pt_sdf.specs.ByNeed.{place_of};
-ghost use Rattle.pt_sdf.specs.Lanes.{NeedsFew, FitsInlet, FitsOutlet, IsLane, AreLanes};
+ghost use Rattle.pt_sdf.specs.Lanes.{NeedsOneEach, FitsInlet, FitsOutlet, IsLane, AreLanes};
 
 use crate::feeds::Feed;
 use pt_firing::Counts;
@@ -13,35 +13,41 @@ pub(crate) struct Lane {
     pub(crate) outlet: Outlet,
 }
 
+impl Lane {
+    ghost use Rattle.std.specs.Prelude.{◌≡◌};
+    ghost use Rattle.pt_sdf.specs.Lanes.{is_straight};
+
+    /// A firing takes from at most one channel and puts one number on at most one.
+    #[inline(always)]
+    pub(crate) fn is_straight(self) -> bool
+        ensures { result ≡ is_straight self }
+    {
+        match (self.inlet, self.outlet) {
+            (Inlet::Nothing | Inlet::Alone(_, _), Outlet::Nothing | Outlet::One(_)) => true,
+            (_, _) => false,
+        }
+    }
+}
+
 /// What comes to a child.
 #[derive(Clone, Copy, Debug)]
 pub(crate) enum Inlet {
     /// It has no place.
     Nothing,
-    /// It has one place, where it needs one token, which this channel brings.
-    One(u32),
+    /// It has one place, where it needs so many tokens of this channel.
+    Alone(u32, usize),
+    /// It needs one token at each of its places.
+    Each,
     Several,
 }
 
-/// What a child feeds that gives one token on its one port, and needs several at no place.
+/// What a child feeds that gives one token on its one port.
 #[derive(Clone, Copy, Debug)]
 pub(crate) enum Outlet {
     Nothing,
     One(u32),
     /// Several channels, or it isn't such a child.
     Several,
-}
-
-impl Outlet {
-    ghost use Rattle.std.specs.Prelude.{◌≡◌};
-    ghost use Rattle.pt_sdf.specs.Lanes.{is_several};
-
-    #[inline(always)]
-    pub(crate) fn is_several(self) -> bool
-        ensures { result ≡ is_several self }
-    {
-        matches!(self, Outlet::Several)
-    }
 }
 
 /// The lanes of children with these places, needs, rates and feeds, whose places begin at `offsets`.
@@ -77,7 +83,7 @@ fn lane_of(needs: &[usize], from: usize, places: usize, rates: &[usize], feeds: 
 {
     Lane {
         inlet: inlet_of(needs, from, places),
-        outlet: outlet_of(needs, from, places, rates, feeds),
+        outlet: outlet_of(rates, feeds),
     }
 }
 
@@ -88,20 +94,18 @@ fn inlet_of(needs: &[usize], from: usize, places: usize) -> Inlet
 {
     if places == 0 {
         Inlet::Nothing
-    } else if places == 1 && needs[from] == 1 {
-        Inlet::One(from as u32)
+    } else if places == 1 {
+        Inlet::Alone(from as u32, needs[from])
+    } else if needs_one_each(needs, from, places) {
+        Inlet::Each
     } else {
         Inlet::Several
     }
 }
 
-fn outlet_of(needs: &[usize], from: usize, places: usize, rates: &[usize], feeds: &[Feed]) -> Outlet
-    requires needed { from + places ≤ length needs.now }
-    ensures { FitsOutlet needs.now from places rates.now feeds.now result }
+fn outlet_of(rates: &[usize], feeds: &[Feed]) -> Outlet
+    ensures { FitsOutlet rates.now feeds.now result }
 {
-    if !needs_few(needs, from, places) {
-        return Outlet::Several;
-    }
     match (rates, feeds) {
         ([1], []) => Outlet::Nothing,
         ([1], [feed]) if feed.port == 0 => Outlet::One(feed.channel),
@@ -109,13 +113,13 @@ fn outlet_of(needs: &[usize], from: usize, places: usize, rates: &[usize], feeds
     }
 }
 
-/// Whether none of the places needs several tokens.
-fn needs_few(needs: &[usize], from: usize, places: usize) -> bool
+/// Whether each of the places needs one token.
+fn needs_one_each(needs: &[usize], from: usize, places: usize) -> bool
     requires needed { from + places ≤ length needs.now }
-    ensures { IsTrue result → NeedsFew needs.now from places }
+    ensures { IsTrue result → NeedsOneEach needs.now from places }
 {
     for k in 0..places {
-        if needs[from + k] > 1 {
+        if needs[from + k] != 1 {
             return false;
         }
     }

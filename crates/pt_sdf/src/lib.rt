@@ -12,6 +12,7 @@ mod plan;
 mod rooms;
 mod scatter;
 mod sdf;
+mod skip;
 mod tables;
 mod turns;
 

@@ -1,11 +1,15 @@
-ghost use Rattle.std.specs.Prelude.{◌≡◌, ℕ, ◌<◌, ◌≤◌, List, [], ◌∷◌, ◌++◌, length, map, get_or, OnOk, is_ok, if◌then◌else◌, slice_set};
+ghost use Rattle.std.specs.Prelude.{◌≡◌, ℕ, ◌+◌, ◌^◌, ◌<◌, ◌≤◌, List, [], ◌∷◌, length, map, take, drop, get_or, OnOk, IfSome, IsTrue};
 ghost use Rattle.pt_value.specs.declared.token.Token.{Token};
 ghost use Rattle.pt_value.specs.declared.token.Token.TheVariants.{Int};
 ghost use Rattle.pt_recv.specs.Lines.{list_at, spare_at};
+ghost use Rattle.pt_meaning.specs.Kahn.{firsts};
 ghost use Rattle.pt_meaning.specs.Rounds.{has_rates};
+ghost use Rattle.pt_firing.specs.IntInputs.{one_at_each};
 ghost use Rattle.pt_sdf.specs.Feeds.{no_feed, target_of, put_back, AreThere, AreApart};
+ghost use Rattle.pt_sdf.specs.Lanes.{NeedsOneEach};
 
 use crate::feeds::Feed;
+use pt_firing::IntInputs;
 use pt_recv::Channels;
 use std::alloc::AllocError;
 
@@ -16,23 +20,49 @@ pub(crate) fn are_all_of_one(rates: &[usize], n: usize) -> bool
     rates.len() == 1 && rates[0] == n
 }
 
-/// Puts numbers on the channels that a row feeds from its one port. After an `Err` the channels are as before.
-pub(crate) fn scatter_numbers(
-    channels: &mut Channels,
-    feeds: &[Feed],
-    numbers: &[i64],
-) -> Result<(), AllocError>
-    requires there { AreThere (length channels.old.lists) 1 feeds.now }
-    requires apart { AreApart feeds.now }
-    ensures { channels.new.lists ≡ (if is_ok result then put_back (map target_of feeds.now) (map Int numbers.now ∷ []) channels.old.lists else channels.old.lists) }
+/// The first `need` tokens of a channel, where they are integers that stand in front.
+#[inline(always)]
+pub(crate) fn numbers_in_front(
+    channels: &Channels,
+    c: u32,
+    need: usize,
+) -> Option<IntInputs<'_>>
+    requires { c < length channels.now.lists }
+    ensures { IfSome result (λ inputs. inputs ≡ take need (list_at channels.now.lists c) ∷ []) }
 {
-    make_room(channels, feeds, numbers.len())?;
-    put_on_each(channels, feeds, numbers);
-    Ok(())
+    let numbers = channels.numbers(c);
+    if need > numbers.len() {
+        return None;
+    }
+    Some(IntInputs::all_at_one(&numbers[..need]))
+}
+
+/// Puts the first tokens of these channels into the buffer, where they are integers that stand in front, and memory suffices.
+pub(crate) fn first_numbers(
+    channels: &Channels,
+    needs: &[usize],
+    from: usize,
+    n: usize,
+    row: &mut Vec<i64>,
+) -> bool
+    requires few { length channels.now.lists < 2 ^ 32 }
+    requires places { from + n ≤ length channels.now.lists }
+    requires needed { from + n ≤ length needs.now }
+    requires one { NeedsOneEach needs.now from n }
+    ensures { IsTrue result → one_at_each row.new.items ≡ firsts (take n (drop from needs.now)) (take n (drop from channels.now.lists)) }
+{
+    row.clear();
+    for k in 0..n {
+        let numbers = channels.numbers((from + k) as u32);
+        if numbers.is_empty() || row.push(numbers[0]).is_err() {
+            return false;
+        }
+    }
+    true
 }
 
 /// Makes room for so many tokens on each channel, so that the moves after it can't fail.
-fn make_room(channels: &mut Channels, feeds: &[Feed], n: usize) -> Result<(), AllocError>
+pub(crate) fn make_room(channels: &mut Channels, feeds: &[Feed], n: usize) -> Result<(), AllocError>
     requires there { AreThere (length channels.old.lists) 1 feeds.now }
     ensures lists { channels.new.lists ≡ channels.old.lists }
     ensures room { OnOk result ((k : ℕ) → k < length feeds.now → n ≤ spare_at channels.new.spares (get_or feeds.now k no_feed).channel) }
@@ -54,25 +84,13 @@ fn make_room_on(channels: &mut Channels, c: u32, n: usize) -> Result<(), AllocEr
 }
 
 /// Puts the numbers on each channel, in room that was made.
-fn put_on_each(channels: &mut Channels, feeds: &[Feed], numbers: &[i64])
+pub(crate) fn put_on_each(channels: &mut Channels, feeds: &[Feed], numbers: &[i64])
     requires there { AreThere (length channels.old.lists) 1 feeds.now }
     requires apart { AreApart feeds.now }
     requires room { (k : ℕ) → k < length feeds.now → length numbers.now ≤ spare_at channels.old.spares (get_or feeds.now k no_feed).channel }
     ensures { channels.new.lists ≡ put_back (map target_of feeds.now) (map Int numbers.now ∷ []) channels.old.lists }
 {
     for k in (0..feeds.len()).rev() {
-        put_numbers(channels, feeds[k].channel, numbers);
-    }
-}
-
-/// Puts the numbers at the back of a channel that has room for them.
-fn put_numbers(channels: &mut Channels, c: u32, numbers: &[i64])
-    requires given { c < length channels.old.lists }
-    requires room { length numbers.now ≤ spare_at channels.old.spares c }
-    ensures lists { channels.new.lists ≡ slice_set channels.old.lists c (list_at channels.old.lists c ++ map Int numbers.now) }
-    ensures others { (d : ℕ) → (d ≡ c → ⊥) → spare_at channels.new.spares d ≡ spare_at channels.old.spares d }
-{
-    for number in numbers {
-        channels.put_number(c, *number);
+        channels.put_numbers(feeds[k].channel, numbers);
     }
 }

@@ -1,33 +1,43 @@
 ghost use Rattle.std.specs.Prelude.{◌≡◌, ℕ, ◌+◌, ◌^◌, ◌<◌, ◌≤◌, [], ◌++◌, length, map, get_or, OnOk, OnErr, is_ok, if◌then◌else◌, slice_set, take, drop, IfOk, false};
 ghost use Rattle.pt_recv.specs.Lines.{list_at, spare_at, lowered};
 ghost use Rattle.pt_meaning.specs.Streams.{at};
+ghost use Rattle.pt_sdf.specs.ByNeed.{skip_at};
 ghost use Rattle.pt_sdf.specs.Feeds.{no_feed, target_of, put_back, copies_for, AreThere, AreApart, MovesOnce};
 
 use crate::feeds::Feed;
+use crate::skip::skip_places;
 use pt_firing::{Inputs, Outputs, Tokens};
 use pt_recv::{Channels, Queue};
 use pt_value::Token;
 use std::alloc::{AllocError, Global};
 
-/// Puts what a row gave on the channels that it feeds. A token is moved to the first channel of its port, and copied for the others. After an `Err` the channels are as before.
+/// Takes away what `n` places from this one on need, and puts what a row gave on the channels that it feeds. A token is moved to the first channel of its port, and copied for the others. After an `Err` the channels are as before.
 pub(crate) fn scatter(
     alloc: Global,
     channels: &mut Channels,
     staged: &mut Queue,
     feeds: &[Feed],
     outputs: Outputs,
+    needs: &[usize],
+    from: usize,
+    n: usize,
 ) -> Result<(), AllocError>
     requires there { AreThere (length channels.old.lists) (length outputs) feeds.now }
     requires apart { AreApart feeds.now }
     requires moves { MovesOnce feeds.now }
     requires empty { staged.old.list ≡ [] }
-    ensures lists { channels.new.lists ≡ (if is_ok result then put_back (map target_of feeds.now) outputs channels.old.lists else channels.old.lists) }
+    requires few { length channels.old.lists < 2 ^ 32 }
+    requires places { from + n ≤ length channels.old.lists }
+    requires needed { from + n ≤ length needs.now }
+    requires enough { (k : ℕ) → k < n → get_or needs.now (from + k) 0 ≤ length (list_at channels.old.lists (from + k)) }
+    ensures lists { channels.new.lists ≡ (if is_ok result then put_back (map target_of feeds.now) outputs (skip_at from (take n (drop from needs.now)) channels.old.lists) else channels.old.lists) }
     ensures empty { staged.new.list ≡ [] }
 {
     if prepare(alloc, channels, staged, feeds, &outputs).is_err() {
         staged.clear();
         return Err(AllocError);
     }
+    skip_places(channels, needs, from, n);
     deliver(channels, staged, feeds, outputs);
     Ok(())
 }

@@ -1,18 +1,19 @@
 ghost use Rattle.std.specs.Prelude.{◌≡◌, ◌↔◌, ◌<◌, length, IfOk, IsTrue, OnOk, OnErr, Option, Some, List};
 
-use crate::gather::{Span, gather, lend_number, lighten};
+use crate::gather::{Span, gather, lighten};
 use crate::lanes::Inlet;
-use crate::number::{is_one, put_on_outlet, scatter_number};
-use crate::numbers::{are_all_of_one, scatter_numbers};
+use crate::number::{make_room_for, put_on_outlet, skip_inlet};
+use crate::numbers::{are_all_of_one, first_numbers, make_room, numbers_in_front, put_on_each};
 use crate::outlets::hand_out;
 use crate::plan::CorePlan;
 use crate::rooms::{fill_rooms, rooms_for};
 use crate::scatter::{copies_of, scatter};
+use crate::skip::skip_places;
 use crate::tables::{
     Tables, copies_of_lists, empty_lists, fits_rates, make_ready, place_after, turns_of,
 };
 use crate::turns::iterations;
-use pt_firing::{Ask, Counts, Inputs, Outputs, RunFault, Tokens};
+use pt_firing::{Ask, Counts, Inputs, IntInputs, Outputs, RunFault, Tokens};
 use pt_recv::{Channels, Queue};
 use pt_time::Tag;
 use pt_value::Token;
@@ -28,14 +29,33 @@ const ORIGIN: Tag = Tag { time: 0, step: 0 };
 pub(crate) enum Stage {
     Idle,
     Open,
+    /// The inputs of this child still stand on their channels.
     Asked(u32),
+    /// They were moved to their lent lists.
+    Handed(u32),
     Wrong(u32),
     Closed,
+}
+
+impl Stage {
+    ghost use Rattle.std.specs.Prelude.{◌≡◌};
+    ghost use Rattle.pt_sdf.specs.Core.{unmoved};
+
+    /// At how many of the `n` places of the child that was asked for its tokens still stand on the channels.
+    fn unmoved(self, n: usize) -> usize
+        ensures { result ≡ unmoved self n }
+    {
+        match self {
+            Stage::Asked(_) => n,
+            Stage::Idle | Stage::Open | Stage::Handed(_) | Stage::Wrong(_) | Stage::Closed => 0,
+        }
+    }
 }
 
 /// The core of an SDF composite. It never calls a child: it asks for firings and is told what they gave.
 ///
 /// A firing of the composite is `begin`, then `ask` and `told` in turn, and at `Finished` the call `finish`.
+/// Between `ask` and `told` the inputs of the child may be looked at: as integers by `int_inputs`, or, once `hand` has moved them, as tokens by `lent`.
 #[derive(Drop)]
 pub struct Core {
     plan: CorePlan,
@@ -66,21 +86,21 @@ impl Model for Core {
 
     ghost coded = { coded_state coded_token };
 
-    ghost use Rattle.pt_sdf.specs.Core.{state_in, IsWhole};
+    ghost use Rattle.pt_sdf.specs.Core.{seen_in, IsWhole};
 
-    ghost view = { state_in };
+    ghost view = { seen_in };
 
     ghost invariant = { IsWhole };
 }
 
 impl Core {
-    ghost use Rattle.std.specs.Prelude.{◌≡◌, ◌↔◌, ◌<◌, [], ◌∷◌, length, map, List, IfOk, IsSome, IsTrue, OnOk, OnErr, Option, Some, None};
+    ghost use Rattle.std.specs.Prelude.{◌≡◌, ◌↔◌, ◌<◌, [], ◌∷◌, length, map, List, IfOk, IfSome, IsSome, IsTrue, OnOk, OnErr, Option, Some, None};
     ghost use Rattle.pt_value.specs.declared.token.Token.TheVariants.{Int};
     ghost use Rattle.pt_meaning.specs.Basics as basics;
     ghost use Rattle.pt_meaning.specs.Kahn.{firsts};
     ghost use Rattle.pt_meaning.specs.Tree as tree;
     ghost use Rattle.pt_meaning.specs.NodeFacts.{core_wake};
-    ghost use Rattle.pt_sdf.specs.State.{Idle, Open, Closed, asked_child, lent_in, started, restarted, begun, after_told, closed, owed, own_of};
+    ghost use Rattle.pt_sdf.specs.State.{Idle, Open, Closed, asked_child, lent_in, handed, started, restarted, begun, after_told, closed, owed, own_of, IsHanded};
     ghost use Rattle.pt_sdf.specs.Clauses.{MayAsk, IsAsked};
     ghost use Rattle.pt_sdf.specs.Plan.{plan_of};
     ghost use Rattle.pt_sdf.specs.Lawful.{IsLawful};
@@ -124,6 +144,9 @@ impl Core {
             &mut self.staged,
             arrivals,
             arrived,
+            &[],
+            0,
+            0,
         )?;
         self.turns = iterations(&self.channels, arrivals, self.plan.takes.as_slice());
         self.left = turns_of(&self.plan.order, self.turns);
@@ -133,7 +156,7 @@ impl Core {
         Ok(())
     }
 
-    /// What comes next. It takes no memory, and moves the inputs of a child that it asks for out of their channels.
+    /// What comes next. It takes no memory and moves no token.
     #[inline(always)]
     pub fn ask(&mut self) -> Ask
         requires { MayAsk self.old.stage }
@@ -142,40 +165,12 @@ impl Core {
         match self.stage {
             Stage::Wrong(child) => Ask::Faulted(RunFault::Rate, Some(child)),
             Stage::Open => self.ask_next(),
-            Stage::Idle | Stage::Asked(_) | Stage::Closed => unreachable!(),
+            Stage::Idle | Stage::Asked(_) | Stage::Handed(_) | Stage::Closed => unreachable!(),
         }
     }
 
-    // A child without places, or with one that needs one number, is the common case, and needs no walk.
     #[inline(always)]
     fn ask_next(&mut self) -> Ask
-        requires { self.old.stage ≡ Open }
-        ensures { IsAsked self.old result self.new }
-    {
-        if self.left > 0 {
-            let child = self.plan.order[self.at];
-            match self.tables.lanes[child as usize].inlet {
-                Inlet::Nothing => {
-                    lighten(&mut self.lent, &mut self.heavy);
-                    self.stage = Stage::Asked(child);
-                    return Ask::Fire(child, self.tag);
-                }
-                Inlet::One(c) => {
-                    lighten(&mut self.lent, &mut self.heavy);
-                    if lend_number(&mut self.channels, &mut self.lent, c) {
-                        self.stage = Stage::Asked(child);
-                        return Ask::Fire(child, self.tag);
-                    }
-                }
-                Inlet::Several => {}
-            }
-        }
-        self.ask_any()
-    }
-
-    // The same for a child of any kind, or where there is none to ask for.
-    #[inline(never)]
-    fn ask_any(&mut self) -> Ask
         requires { self.old.stage ≡ Open }
         ensures { IsAsked self.old result self.new }
     {
@@ -184,41 +179,70 @@ impl Core {
             return Ask::Finished;
         }
         let child = self.plan.order[self.at];
-        let from = self.tables.offsets[child as usize];
-        let n = self.plan.places.as_slice()[child as usize];
-        gather(
-            &mut self.channels,
-            &mut self.rooms,
-            &mut self.lent,
-            &mut self.heavy,
-            self.plan.needs.as_slice(),
-            from,
-            n,
-        );
         self.stage = Stage::Asked(child);
         Ask::Fire(child, self.tag)
     }
 
-    /// The inputs of the child just asked for. It takes no memory.
+    /// The inputs of the child just asked for, where they are integers that stand in front of their channels: one at each place, for which `row` is a buffer, or some at its only place.
+    /// No token is made or moved. `None` says nothing of the inputs.
     #[inline(always)]
-    pub fn lent(&self) -> Inputs<'_>
+    pub fn int_inputs<'a>(&'a self, row: &'a mut Vec<i64>) -> Option<IntInputs<'a>>
         requires { IsSome (asked_child self.now.stage) }
+        ensures { IfSome result (λ inputs. inputs ≡ lent_in self.now.stage) }
+    {
+        let Stage::Asked(child) = self.stage else {
+            return None;
+        };
+        match self.tables.lanes[child as usize].inlet {
+            Inlet::Nothing => Some(IntInputs::one_at_each(&[])),
+            Inlet::Alone(c, need) => numbers_in_front(&self.channels, c, need),
+            Inlet::Each => {
+                let from = self.tables.offsets[child as usize];
+                let n = self.plan.places.as_slice()[child as usize];
+                if first_numbers(&self.channels, self.plan.needs.as_slice(), from, n, row) {
+                    return Some(IntInputs::one_at_each(row));
+                }
+                None
+            }
+            Inlet::Several => None,
+        }
+    }
+
+    /// Moves the inputs of the child just asked for out of their channels, so that they can be lent. It takes no memory.
+    pub fn hand(&mut self)
+        requires { IsSome (asked_child self.old.stage) }
+        ensures { self.new ≡ handed self.old }
+    {
+        if let Stage::Asked(child) = self.stage {
+            let from = self.tables.offsets[child as usize];
+            let n = self.plan.places.as_slice()[child as usize];
+            gather(
+                &mut self.channels,
+                &mut self.rooms,
+                &mut self.lent,
+                &mut self.heavy,
+                self.plan.needs.as_slice(),
+                from,
+                n,
+            );
+            self.stage = Stage::Handed(child);
+        }
+    }
+
+    /// The inputs of the child just asked for, once they were handed over. It takes no memory.
+    pub fn lent(&self) -> Inputs<'_>
+        requires { IsHanded self.now.stage }
         ensures { result ≡ lent_in self.now.stage }
     {
         match self.stage {
-            Stage::Asked(child) => {
-                match self.tables.lanes[child as usize].inlet {
-                    Inlet::Nothing => return Inputs::of(&[]),
-                    Inlet::One(c) => {
-                        return Inputs::of(slice::from_ref(&self.lent[c as usize]));
-                    }
-                    Inlet::Several => {}
-                }
+            Stage::Handed(child) => {
                 let from = self.tables.offsets[child as usize];
                 let n = self.plan.places.as_slice()[child as usize];
                 Inputs::of(&self.lent[from..from + n])
             }
-            Stage::Idle | Stage::Open | Stage::Wrong(_) | Stage::Closed => Inputs::of(&[]),
+            Stage::Idle | Stage::Open | Stage::Asked(_) | Stage::Wrong(_) | Stage::Closed => {
+                unreachable!()
+            }
         }
     }
 
@@ -229,19 +253,25 @@ impl Core {
         ensures kept { OnErr result (self.new ≡ self.old) }
     {
         let i = child as usize;
+        let from = self.tables.offsets[i];
+        let n = self.plan.places.as_slice()[i];
+        let unmoved = self.stage.unmoved(n);
+        let needs = self.plan.needs.as_slice();
         if !fits_rates(self.plan.rates[i].as_slice(), &outputs) {
+            skip_places(&mut self.channels, needs, from, unmoved);
             self.stage = Stage::Wrong(child);
             return Ok(());
         }
-        let from = self.tables.offsets[i];
-        let n = self.plan.places.as_slice()[i];
-        fill_rooms(alloc, &mut self.rooms, self.plan.needs.as_slice(), from, n)?;
+        fill_rooms(alloc, &mut self.rooms, needs, from, n)?;
         scatter(
             alloc,
             &mut self.channels,
             &mut self.staged,
             &self.tables.feeds[i],
             outputs,
+            needs,
+            from,
+            unmoved,
         )?;
         (self.left, self.at) = place_after(self.plan.order.len(), self.left, self.at);
         self.stage = Stage::Open;
@@ -255,32 +285,47 @@ impl Core {
         ensures told { OnOk result (self.new ≡ after_told child ((Int number ∷ []) ∷ []) self.old) }
         ensures kept { OnErr result (self.new ≡ self.old) }
     {
-        let outlet = self.tables.lanes[child as usize].outlet;
-        if outlet.is_several() {
-            return self.told_any_number(alloc, child, number);
+        let lane = self.tables.lanes[child as usize];
+        let Stage::Asked(_) = self.stage else {
+            return self.told_numbers(alloc, child, slice::from_ref(&number));
+        };
+        if !lane.is_straight() {
+            return self.told_numbers(alloc, child, slice::from_ref(&number));
         }
-        put_on_outlet(&mut self.channels, outlet, number)?;
+        make_room_for(&mut self.channels, lane.outlet)?;
+        skip_inlet(&mut self.channels, lane.inlet);
+        put_on_outlet(&mut self.channels, lane.outlet, number);
         (self.left, self.at) = place_after(self.plan.order.len(), self.left, self.at);
         self.stage = Stage::Open;
         Ok(())
     }
 
-    // The same for a child that feeds several channels, needs several tokens, or gives other numbers of them.
+    /// Takes the numbers that the firing of the child gave as the tokens on its one port. After an `Err` the core is as before.
     #[inline(never)]
-    fn told_any_number(&mut self, alloc: Global, child: u32, number: i64) -> Result<(), AllocError>
+    pub fn told_numbers(
+        &mut self,
+        alloc: Global,
+        child: u32,
+        numbers: &[i64],
+    ) -> Result<(), AllocError>
         requires asked { asked_child self.old.stage ≡ Some child }
-        ensures told { OnOk result (self.new ≡ after_told child ((Int number ∷ []) ∷ []) self.old) }
+        ensures told { OnOk result (self.new ≡ after_told child (map Int numbers.now ∷ []) self.old) }
         ensures kept { OnErr result (self.new ≡ self.old) }
     {
         let i = child as usize;
-        if !is_one(self.plan.rates[i].as_slice()) {
+        let from = self.tables.offsets[i];
+        let n = self.plan.places.as_slice()[i];
+        let unmoved = self.stage.unmoved(n);
+        let needs = self.plan.needs.as_slice();
+        if !are_all_of_one(self.plan.rates[i].as_slice(), numbers.len()) {
+            skip_places(&mut self.channels, needs, from, unmoved);
             self.stage = Stage::Wrong(child);
             return Ok(());
         }
-        let from = self.tables.offsets[i];
-        let n = self.plan.places.as_slice()[i];
-        fill_rooms(alloc, &mut self.rooms, self.plan.needs.as_slice(), from, n)?;
-        scatter_number(&mut self.channels, &self.tables.feeds[i], number)?;
+        fill_rooms(alloc, &mut self.rooms, needs, from, n)?;
+        make_room(&mut self.channels, &self.tables.feeds[i], numbers.len())?;
+        skip_places(&mut self.channels, needs, from, unmoved);
+        put_on_each(&mut self.channels, &self.tables.feeds[i], numbers);
         (self.left, self.at) = place_after(self.plan.order.len(), self.left, self.at);
         self.stage = Stage::Open;
         Ok(())
@@ -369,30 +414,5 @@ impl Core {
         ensures { result.now ≡ self.now.plan.gives }
     {
         &self.plan.gives
-    }
-
-    /// Takes the numbers that the firing of the child gave as the tokens on its one port. After an `Err` the core is as before.
-    pub fn told_numbers(
-        &mut self,
-        alloc: Global,
-        child: u32,
-        numbers: &[i64],
-    ) -> Result<(), AllocError>
-        requires asked { asked_child self.old.stage ≡ Some child }
-        ensures told { OnOk result (self.new ≡ after_told child (map Int numbers.now ∷ []) self.old) }
-        ensures kept { OnErr result (self.new ≡ self.old) }
-    {
-        let i = child as usize;
-        if !are_all_of_one(self.plan.rates[i].as_slice(), numbers.len()) {
-            self.stage = Stage::Wrong(child);
-            return Ok(());
-        }
-        let from = self.tables.offsets[i];
-        let n = self.plan.places.as_slice()[i];
-        fill_rooms(alloc, &mut self.rooms, self.plan.needs.as_slice(), from, n)?;
-        scatter_numbers(&mut self.channels, &self.tables.feeds[i], numbers)?;
-        (self.left, self.at) = place_after(self.plan.order.len(), self.left, self.at);
-        self.stage = Stage::Open;
-        Ok(())
     }
 }

@@ -1,6 +1,6 @@
 use Rattle.std.proofs.Common.{ℕ, ◌-◌, ◌<◌, ◌≤◌, List, [], ◌∷◌, ◌++◌, length, get_or, map, ap, ◌∙◌, sym, subst, arith, refl, length-set}
-use Rattle.std.proofs.lemmas.List.{drop_all}
-use Rattle.pt_recv.specs.Lines.{list_at}
+use Rattle.std.proofs.lemmas.List.{drop_all, get_or-set_other}
+use Rattle.pt_recv.specs.Lines.{list_at, spare_at}
 use Rattle.pt_value.specs.declared.token.Token.{Token}
 use Rattle.pt_value.specs.declared.token.Token.TheVariants.{Int}
 use Rattle.pt_sdf.specs.declared.feeds.Feed.{Feed}
@@ -30,9 +30,9 @@ loop-k-preserved c =
     let b : k ≤ length F = omega (arith, c.loop-k.auto.k) in
     let ts : List Token = map Int c.args.numbers.now in
     record {
-      lists = next-put F k a b (ts ∷ []) c.args.channels.now.lists c.loop-k.channels.lists c.put_numbers.new.channels.lists f ts refl c.loop-k.invariant.lists (on-one-port ts f.port (c.requires.there.ports (k - 1) (omega (arith, a, b)))) c.put_numbers.ensures.lists;
+      lists = next-put F k a b (ts ∷ []) c.args.channels.now.lists c.loop-k.channels.lists c.put_numbers.new.self.lists f ts refl c.loop-k.invariant.lists (on-one-port ts f.port (c.requires.there.ports (k - 1) (omega (arith, a, b)))) c.put_numbers.ensures.lists;
       counted = ap (λ v. length v) c.put_numbers.ensures.lists ∙ length-set c.loop-k.channels.lists f.channel (list_at c.loop-k.channels.lists f.channel ++ ts) ∙ c.loop-k.invariant.counted;
       room = λ j l.
-          subst (λ v. length c.args.numbers.now ≤ v) (sym (c.put_numbers.ensures.others (get_or F j no_feed).channel (λ z. c.requires.apart j (k - 1) l (omega (arith, a, b)) z)))
+          subst (λ v. length c.args.numbers.now ≤ v) (sym (ap (λ v. spare_at v (get_or F j no_feed).channel) c.put_numbers.ensures.spares ∙ get_or-set_other c.loop-k.channels.spares f.channel (get_or F j no_feed).channel (spare_at c.loop-k.channels.spares f.channel - length c.args.numbers.now) 0 (λ z. c.requires.apart j (k - 1) l (omega (arith, a, b)) z)))
           (c.loop-k.invariant.room j (omega (arith, l)));
     }

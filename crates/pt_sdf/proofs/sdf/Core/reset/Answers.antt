@@ -9,6 +9,7 @@ use Rattle.pt_sdf.specs.Rooms.{HaveRooms}
 use Rattle.pt_sdf.specs.Core.{Sound}
 use Rattle.pt_sdf.proofs.SoundLaws.{start-sound}
 use Rattle.pt_sdf.proofs.CallLaws.{new-state}
+use Rattle.pt_sdf.proofs.CoreLaws.{seen-restarted}
 use Rattle.pt_sdf.proofs.sdf.Core.reset.Goals as goal
 
 pub invariant_of-self : goal.invariant_of-self
@@ -25,4 +26,4 @@ invariant_of-self c =
 pub returns-clause-reset : goal.returns-clause-reset
 returns-clause-reset c =
     new-state (plan_of c.self.inside.plan) c.self.inside.plan.needs c.self.inside.plan.order.items c.self.inside.first.lists c.self.inside.first.lists c.in_ok-self-inside.field-0.lists c.self.inside.lent.items refl (ap (λ (l : Lines Token). l.lists) c.in_ok-self-inside.ensures) c.self.invariant.sound.lawful.repetitions ∙
-    ap (λ (s : State). restarted s) c.self.view_is
+    seen-restarted c.self.inside ∙ ap (λ (s : State). restarted s) c.self.view_is
