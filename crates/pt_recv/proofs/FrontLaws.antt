@@ -158,6 +158,68 @@ module _ {N : Type 0} where
             counted = rw (get_or-set_same ls c l [] g, get_or-set_same ss c s 0 h) counted;
           }
 
+-- a step of the run of channel c, as its call tells it
+module _ {N T : Type 0} (token : N → T) (rs : List (List N)) (ls : List (List T)) (ss : List ℕ) (c : ℕ) (h : c < length rs) (g : c < length ls) where
+  same-runs : set rs c (get_or rs c []) ≡ rs
+  same-runs = set-get_or rs c []
+
+  -- items are put at its back, or none
+  module _ (ns after : List N) (put : Bool) (is : after ≡ (if put then get_or rs c [] ++ ns else get_or rs c [])) where
+    pub put-lists : get_or ls c [] ≡ [] → joined token (set rs c after) ls ≡ (if put then set (joined token rs ls) c (list_at (joined token rs ls) c ++ map token ns) else joined token rs ls)
+    put-lists empty = ap (λ v. joined token (set rs c v) ls) is ∙ cases put
+      where
+        cases : (b : Bool) → joined token (set rs c (if b then get_or rs c [] ++ ns else get_or rs c [])) ls ≡ (if b then set (joined token rs ls) c (list_at (joined token rs ls) c ++ map token ns) else joined token rs ls)
+        cases true = pushed-run token rs ls c h g ns empty
+        cases false = ap (λ v. joined token v ls) same-runs
+
+    pub put-spares : lessened (set rs c after) ss ≡ (if put then set (lessened rs ss) c (spare_at (lessened rs ss) c - length ns) else lessened rs ss)
+    put-spares = ap (λ v. lessened (set rs c v) ss) is ∙ cases put
+      where
+        cases : (b : Bool) → lessened (set rs c (if b then get_or rs c [] ++ ns else get_or rs c [])) ss ≡ (if b then set (lessened rs ss) c (spare_at (lessened rs ss) c - length ns) else lessened rs ss)
+        cases true = lowered-run rs ss c h ns
+        cases false = ap (λ v. lessened v ss) same-runs
+
+    pub put-covered : AreCovered rs ls ss → length ns ≤ spare_at (lessened rs ss) c → AreCovered (set rs c after) ls ss
+    put-covered covered room = covered-run rs ls ss c covered after h (omega (arith, ap (λ v. length v) is, few put, (covered c).kept, room, lessened-at rs ss c))
+      where
+        few : (b : Bool) → length (if b then get_or rs c [] ++ ns else get_or rs c []) ≤ length (get_or rs c []) + length ns
+        few true = omega (arith, length-append (get_or rs c []) ns)
+        few false = omega arith
+
+  -- its first item is taken, or there is none
+  module _ (run : List N) (is : get_or rs c [] ≡ run) where
+    pub taken-first : (o : Option N) → o ≡ slice_get run 0 → IfSome o (λ n. slice_get (list_at (joined token rs ls) c) 0 ≡ Some (token n))
+    taken-first o e = subst (λ v. IfSome v (λ n. slice_get (list_at (joined token rs ls) c) 0 ≡ Some (token n))) (sym e) (cases run is)
+      where
+        cases : (r : List N) → get_or rs c [] ≡ r → IfSome (slice_get r 0) (λ n. slice_get (list_at (joined token rs ls) c) 0 ≡ Some (token n))
+        cases [] f = tt
+        cases (n ∷ r) f = ap (λ l. slice_get l 0) (joined-at token rs ls c g ∙ ap (λ v. map token v ++ get_or ls c []) f)
+
+    pub taken-lists : (o : Option N) → o ≡ slice_get run 0 → joined token (set rs c (drop 1 run)) ls ≡ (if is_some o then popped (joined token rs ls) c else joined token rs ls)
+    taken-lists o e = subst (λ v. joined token (set rs c (drop 1 run)) ls ≡ (if is_some v then popped (joined token rs ls) c else joined token rs ls)) (sym e) (cases run is)
+      where
+        cases : (r : List N) → get_or rs c [] ≡ r → joined token (set rs c (drop 1 r)) ls ≡ (if is_some (slice_get r 0) then popped (joined token rs ls) c else joined token rs ls)
+        cases [] f = ap (λ v. joined token (set rs c v) ls) (sym f) ∙ ap (λ v. joined token v ls) same-runs
+        cases (n ∷ r) f = ap (λ v. joined token (set rs c (drop 1 v)) ls) (sym f) ∙ dropped-run token rs ls c h g 1 (omega (arith, ap (λ v. length v) f))
+
+    pub taken-spares : (o : Option N) → o ≡ slice_get run 0 → AreCovered rs ls ss → lessened (set rs c (drop 1 run)) ss ≡ (if is_some o then raised (lessened rs ss) c else lessened rs ss)
+    taken-spares o e covered = subst (λ v. lessened (set rs c (drop 1 run)) ss ≡ (if is_some v then raised (lessened rs ss) c else lessened rs ss)) (sym e) (cases run is)
+      where
+        cases : (r : List N) → get_or rs c [] ≡ r → lessened (set rs c (drop 1 r)) ss ≡ (if is_some (slice_get r 0) then raised (lessened rs ss) c else lessened rs ss)
+        cases [] f = ap (λ v. lessened (set rs c v) ss) (sym f) ∙ ap (λ v. lessened v ss) same-runs
+        cases (n ∷ r) f = ap (λ v. lessened (set rs c (drop 1 v)) ss) (sym f) ∙ raised-run rs ss c h 1 (omega (arith, ap (λ v. length v) f)) (covered c).kept
+
+    pub none-taken : None ≡ slice_get run 0 → (get_or rs c [] ≡ []) × (set rs c (drop 1 run) ≡ rs)
+    none-taken e = cases run is e
+      where
+        cases : (r : List N) → get_or rs c [] ≡ r → None ≡ slice_get r 0 → (get_or rs c [] ≡ []) × (set rs c (drop 1 r) ≡ rs)
+        cases [] f e = (f, ap (λ v. set rs c v) (sym f) ∙ same-runs)
+        cases (n ∷ r) f e = absurd (cc)
+
+  -- its first items are let go
+  pub dropped-covered : (n : ℕ) → AreCovered rs ls ss → AreCovered (set rs c (drop n (get_or rs c []))) ls ss
+  dropped-covered n covered = covered-run rs ls ss c covered (drop n (get_or rs c [])) h (omega (arith, (covered c).kept, length-drop n (get_or rs c [])))
+
 -- so many cells are reserved, where that succeeds
 module _ {N T : Type 0} (rs : List (List N)) (ls : List (List T)) (ss : List ℕ) (c : ℕ) (h : c < length rs) (g : c < length ls) (l : c < length ss) (n cells : ℕ) (is : cells ≡ n + length (get_or rs c [])) where
   abbrev after : Bool → List ℕ
