@@ -45,7 +45,7 @@ module _ {N T : Type 0} (token : N → T) where
     joined-list l = ap (λ v. joined token v (set ls c l)) (sym (set-get_or rs c [])) ∙ joined-set rs ls c (get_or rs c []) l h
 
     -- items go behind those of the run, where the region has none
-    pub pushed-run : (ns : List N) → get_or ls c [] ≡ [] → joined token (set rs c (get_or rs c [] ++ ns)) ls ≡ set (joined token rs ls) c (list_at (joined token rs ls) c ++ map token ns)
+    pushed-run : (ns : List N) → get_or ls c [] ≡ [] → joined token (set rs c (get_or rs c [] ++ ns)) ls ≡ set (joined token rs ls) c (list_at (joined token rs ls) c ++ map token ns)
     pushed-run ns empty =
         joined-run (get_or rs c [] ++ ns) ∙ ap (λ l. set (joined token rs ls) c l) (behind (get_or ls c []) empty ∙ ap (λ l. l ++ map token ns) (sym (joined-at rs ls c g)))
       where
@@ -106,7 +106,7 @@ module _ {N : Type 0} where
     lessened-spare : (s : ℕ) → lessened rs (set ss c s) ≡ set (lessened rs ss) c (s - length (get_or rs c []))
     lessened-spare s = ap (λ v. lessened v (set ss c s)) (sym (set-get_or rs c [])) ∙ lessened-set rs ss c (get_or rs c []) s h
 
-    pub lowered-run : (ns : List N) → lessened (set rs c (get_or rs c [] ++ ns)) ss ≡ set (lessened rs ss) c (spare_at (lessened rs ss) c - length ns)
+    lowered-run : (ns : List N) → lessened (set rs c (get_or rs c [] ++ ns)) ss ≡ set (lessened rs ss) c (spare_at (lessened rs ss) c - length ns)
     lowered-run ns =
         lessened-run (get_or rs c [] ++ ns) ∙ ap (λ s. set (lessened rs ss) c s) (omega (arith, length-append (get_or rs c []) ns, lessened-at rs ss c))
 
@@ -128,7 +128,7 @@ module _ {N : Type 0} where
     behind-spares none false = refl
 
     -- cells are reserved for so many tokens and for as many as the run has
-    pub reserved : (n : ℕ) → lessened rs (set ss c (max (n + length (get_or rs c [])) (get_or ss c 0))) ≡ set (lessened rs ss) c (max n (spare_at (lessened rs ss) c))
+    reserved : (n : ℕ) → lessened rs (set ss c (max (n + length (get_or rs c [])) (get_or ss c 0))) ≡ set (lessened rs ss) c (max n (spare_at (lessened rs ss) c))
     reserved n =
         lessened-spare (max (n + length (get_or rs c [])) (get_or ss c 0)) ∙ ap (λ s. set (lessened rs ss) c s) (omega (arith, lessened-at rs ss c))
 
@@ -143,7 +143,7 @@ module _ {N : Type 0} where
 
     module _ (rs : List (List N)) (ls : List (List T)) (ss : List ℕ) (c : ℕ) (covered : AreCovered rs ls ss) where
       -- the run changes
-      pub covered-run : (r : List N) → c < length rs → length r ≤ get_or ss c 0 → AreCovered (set rs c r) ls ss
+      covered-run : (r : List N) → c < length rs → length r ≤ get_or ss c 0 → AreCovered (set rs c r) ls ss
       covered-run r h kept =
           covered-set rs (set rs c r) ls ls ss ss c covered (λ d other. get_or-set_other rs c d r [] other) (λ d other. refl) (λ d other. refl) record {
             kept = subst (λ v. length v ≤ get_or ss c 0) (sym (get_or-set_same rs c r [] h)) kept;
@@ -215,10 +215,6 @@ module _ {N T : Type 0} (token : N → T) (rs : List (List N)) (ls : List (List 
         cases : (r : List N) → get_or rs c [] ≡ r → None ≡ slice_get r 0 → (get_or rs c [] ≡ []) × (set rs c (drop 1 r) ≡ rs)
         cases [] f e = (f, ap (λ v. set rs c v) (sym f) ∙ same-runs)
         cases (n ∷ r) f e = absurd (cc)
-
-  -- its first items are let go
-  pub dropped-covered : (n : ℕ) → AreCovered rs ls ss → AreCovered (set rs c (drop n (get_or rs c []))) ls ss
-  dropped-covered n covered = covered-run rs ls ss c covered (drop n (get_or rs c [])) h (omega (arith, (covered c).kept, length-drop n (get_or rs c [])))
 
 -- so many cells are reserved, where that succeeds
 module _ {N T : Type 0} (rs : List (List N)) (ls : List (List T)) (ss : List ℕ) (c : ℕ) (h : c < length rs) (g : c < length ls) (l : c < length ss) (n cells : ℕ) (is : cells ≡ n + length (get_or rs c [])) where

@@ -85,10 +85,8 @@ impl Run {
         ensures { self.new ≡ (if result then self.old ++ numbers.now else self.old) }
     {
         self.move_to_start();
-        if numbers.len() > self.numbers.capacity() - self.numbers.len() {
-            return false;
-        }
-        self.numbers.extend_from_slice(numbers).is_ok()
+        numbers.len() <= self.numbers.capacity() - self.numbers.len()
+            && self.numbers.extend_from_slice(numbers).is_ok()
     }
 
     // Moves what is left to the start of the row, where at least half of the row is gone.
