@@ -111,7 +111,7 @@ impl Channels {
         ensures spares { self.new.spares ≡ lowered self.old.spares c }
     {
         if !self.put_apart(c, n) {
-            self.put_behind(c, Token::Int(n));
+            self.put_number_behind(c, n);
         }
     }
 
@@ -129,8 +129,18 @@ impl Channels {
         self.runs[c as usize].push(n)
     }
 
-    // Puts a token into the region.
+    // Puts a number into the region. The token is made here, so that the call above makes none where it isn't needed.
     #[inline(never)]
+    fn put_number_behind(&mut self, c: u32, n: i64)
+        requires given { c < length self.old.lists }
+        requires spare { 0 < spare_at self.old.spares c }
+        ensures lists { self.new.lists ≡ pushed self.old.lists c (Int n) }
+        ensures spares { self.new.spares ≡ lowered self.old.spares c }
+    {
+        self.put_behind(c, Token::Int(n));
+    }
+
+    // Puts a token into the region.
     fn put_behind(&mut self, c: u32, token: Token)
         requires given { c < length self.old.lists }
         requires spare { 0 < spare_at self.old.spares c }
