@@ -23,7 +23,7 @@ returns-in-Some-Int c =
     let in_lists = in-lists Int _ _ _ _ held.lists held.spares held.runs _ seen q c.requires in
     let in_runs = in-runs Int _ _ _ _ held.lists held.spares held.runs _ seen q c.requires in
     let is = run-is rs q in_runs c.index.result.now c.index.ensures in
-    let none : get_or rs q [] ≡ [] = nil_from_length (get_or rs q []) (omega (arith, c.len.ensures, c.if-len-gt0.false, ap (λ v. length v) is)) in
+    let none : get_or rs q [] ≡ [] = nil_from_length (get_or rs q []) (omega (arith, ap (λ v. length v) is)) in
     let fits : SFits w64 c.in-Some-Int.n = search rules in
     ap (λ v. slice_get (list_at v q) 0) (sym seen)
     ∙ first-behind Int rs ls q in_runs in_lists none
