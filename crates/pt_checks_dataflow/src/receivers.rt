@@ -50,7 +50,6 @@ fn a_channel_gives_its_tokens_in_the_order_of_the_puts(rt: HostRuntime) -> Resul
     channels.put_number(0, 7);
     assert_eq!(rt; channels.len(0), 3);
     assert_eq!(rt; channels.spare(0), 0);
-    assert_eq!(rt; channels.tokens(0).count(), 3);
     assert_eq!(rt; channels.take_number(0), Some(4));
     assert!(rt;
         channels
@@ -65,6 +64,29 @@ fn a_channel_gives_its_tokens_in_the_order_of_the_puts(rt: HostRuntime) -> Resul
     assert_eq!(rt; channels.take_number(0), None);
     assert!(rt; channels.take(0).is_none());
     assert_eq!(rt; channels.spare(0), 3);
+    Ok(())
+}
+
+#[test]
+fn integers_on_both_sides_of_a_bool_are_put_and_skipped(rt: HostRuntime) -> Result<(), Fail> {
+    let mut channels = Channels::new(rt.alloc(), 1)?;
+    channels.ready(0, 6)?;
+    channels.put_numbers(0, [4, 7, 9].as_slice());
+    channels.put(0, Token::Bool(true));
+    channels.put_numbers(0, [2, 5].as_slice());
+    assert_eq!(rt; channels.len(0), 6);
+    assert_eq!(rt; channels.spare(0), 0);
+    assert_eq!(rt; channels.numbers(0), [4, 7, 9].as_slice());
+    channels.skip(0, 2);
+    assert_eq!(rt; channels.numbers(0), [9].as_slice());
+    assert_eq!(rt; channels.spare(0), 2);
+    channels.skip(0, 2);
+    assert_eq!(rt; channels.len(0), 2);
+    assert_eq!(rt; channels.take_number(0), Some(2));
+    assert_eq!(rt; channels.take_number(0), Some(5));
+    assert_eq!(rt; channels.spare(0), 6);
+    channels.put_numbers(0, [1, 3].as_slice());
+    assert_eq!(rt; channels.numbers(0), [1, 3].as_slice());
     Ok(())
 }
 

@@ -1,6 +1,6 @@
 -- The step of a copy: a list is copied token by token into an empty one of the same number.
-use Rattle.std.proofs.Common.{◌≡◌, ℕ, ◌+◌, ◌-◌, ◌<◌, suc, List, [], ◌∷◌, ◌++◌, length, get_or, set, take, replicate, sym, ap, subst, ◌∙◌, arith, append_assoc}
-use Rattle.std.proofs.lemmas.List.{length-set, get_or-set_same, set-set, take_more, set_at, length-take-le, get_or_at}
+use Rattle.std.proofs.Common.{◌≡◌, ℕ, ◌+◌, ◌-◌, ◌<◌, zero, suc, List, [], ◌∷◌, ◌++◌, length, get_or, set, take, drop, map, replicate, refl, sym, ap, subst, ◌∙◌, arith, append_assoc, is_some, true, slice_get}
+use Rattle.std.proofs.lemmas.List.{length-set, get_or-set_same, set-set, take_more, set_at, length-take-le, get_or_at, map_push, drop-drop}
 use Rattle.std.proofs.lemmas.Grind.{common_steps}
 
 module _ {X : Type 0} where
@@ -56,3 +56,31 @@ empty-next xs ys c n d l h e =
   where
     split : (n c : ℕ) → c < n → n - c ≡ suc (n - (c + 1))
     split n c h = omega arith
+
+-- a place is changed once more
+changed-twice : {Y : Type 0} (L : List Y) (c : ℕ) (d x : Y) (f : Y → Y) → set (set L c x) c (f (get_or (set L c x) c d)) ≡ set L c (f x)
+changed-twice [] c d x f = refl
+changed-twice (y ∷ L) zero d x f = refl
+changed-twice (y ∷ L) (suc c) d x f = ap (λ v. y ∷ v) (changed-twice L c d x f)
+
+pub changed-again : {Y : Type 0} (B A L : List Y) (c : ℕ) (d x y : Y) → A ≡ set L c x → (f : Y → Y) → B ≡ set A c (f (get_or A c d)) → f x ≡ y → B ≡ set L c y
+changed-again B A L c d x y a f b e = b ∙ ap (λ v. set v c (f (get_or v c d))) a ∙ changed-twice L c d x f ∙ ap (λ v. set L c v) e
+
+-- items are put into an empty list
+pub put-first : {X : Type 0} (B A L : List (List X)) (c : ℕ) (xs : List X) → get_or L c [] ≡ [] → A ≡ L → B ≡ set A c (get_or A c [] ++ xs) → B ≡ set L c xs
+put-first B A L c xs empty a b = b ∙ ap (λ v. set v c (get_or v c [] ++ xs)) a ∙ ap (λ v. set L c (v ++ xs)) empty
+
+-- one item more is put behind a list
+pub put-next : {N X : Type 0} (token : N → X) (B A L : List (List X)) (c k : ℕ) (ns : List N) (d : N) → k < length ns → A ≡ set L c (get_or L c [] ++ map token (take k ns)) → B ≡ set A c (get_or A c [] ++ token (get_or ns k d) ∷ []) → B ≡ set L c (get_or L c [] ++ map token (take (k + 1) ns))
+put-next token B A L c k ns d l a b =
+    changed-again B A L c [] (get_or L c [] ++ map token (take k ns)) (get_or L c [] ++ map token (take (k + 1) ns)) a (λ v. v ++ token (get_or ns k d) ∷ []) b
+    (append_assoc (get_or L c []) (map token (take k ns)) (token (get_or ns k d) ∷ []) ∙ ap (λ v. get_or L c [] ++ v) (sym (map_push token (take k ns) (get_or ns k d)) ∙ ap (λ v. map token v) (sym (take_more ns k d l))))
+
+-- one item more is taken from it
+pub taken-next : {X : Type 0} (B A L : List (List X)) (c k : ℕ) → A ≡ set L c (drop k (get_or L c [])) → B ≡ set A c (drop 1 (get_or A c [])) → B ≡ set L c (drop (k + 1) (get_or L c []))
+taken-next B A L c k a b = changed-again B A L c [] (drop k (get_or L c [])) (drop (k + 1) (get_or L c [])) a (λ v. drop 1 v) b (drop-drop 1 k (get_or L c []))
+
+-- a list that has an item has a first one
+pub has-first : {X : Type 0} (l : List X) → 0 < length l → is_some (slice_get l 0) ≡ true
+has-first [] h = absurd (omega (arith, h))
+has-first (x ∷ l) h = refl

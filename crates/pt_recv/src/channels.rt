@@ -1,10 +1,8 @@
-ghost use Rattle.std.specs.Prelude.{◌≡◌, ℤ, ◌+◌, ◌-◌, ◌^◌, ◌<◌, ◌≤◌, [], IfOk, IfSome, OnOk, IsOk, IsSome, IsTrue, is_ok, is_some, if◌then◌else◌, length, max, replicate, slice_get, slice_set};
+ghost use Rattle.std.specs.Prelude.{◌≡◌, ◌+◌, ◌-◌, ◌^◌, ◌<◌, ◌≤◌, [], ◌++◌, IfOk, IfSome, OnOk, IsOk, is_ok, is_some, if◌then◌else◌, drop, length, map, max, replicate, slice_get, slice_set, take};
 ghost use Rattle.pt_value.specs.declared.token.Token.TheVariants.{Int};
-ghost use Rattle.pt_recv.specs.Fronts as fronts;
-ghost use Rattle.pt_recv.specs.Fronts.{front_at};
 ghost use Rattle.pt_recv.specs.Lines.{list_at, spare_at, pushed, popped, moved, raised, lowered};
 
-use crate::waiting::Waiting;
+use crate::run::Run;
 use pt_pool::Pool;
 use pt_value::Token;
 use std::alloc::{AllocError, Global};
@@ -14,8 +12,8 @@ use std::marker::Model;
 #[derive(Drop)]
 pub struct Channels {
     pool: Pool<Token>,
-    // The front token of a channel that was empty when the token came. It isn't in the region; those behind it are.
-    fronts: Vec<Option<Token>>,
+    // The integers in front of a channel's other tokens, which came while the channel had none in the region.
+    runs: Vec<Run>,
     count: u32,
 }
 
@@ -28,13 +26,14 @@ impl Model for Channels {
 
     ghost coded = { lines_code coded_token };
 
+    ghost use Rattle.pt_value.specs.declared.token.Token.TheVariants.{Int};
     ghost use Rattle.pt_recv.specs.Fronts.{joined, lessened, AreCovered};
 
-    ghost view = { λ c. record { lists = joined c.fronts.items c.pool.lists; spares = lessened c.fronts.items c.pool.spares } };
+    ghost view = { λ c. record { lists = joined Int c.runs.items c.pool.lists; spares = lessened c.runs.items c.pool.spares } };
 
     ghost use Rattle.std.specs.Prelude.{◌≡◌, length};
 
-    ghost invariant = { λ c. record { lists : length c.pool.lists ≡ c.count; spares : length c.pool.spares ≡ c.count; fronts : length c.fronts.items ≡ c.count; covered : AreCovered c.fronts.items c.pool.lists c.pool.spares } };
+    ghost invariant = { λ c. record { lists : length c.pool.lists ≡ c.count; spares : length c.pool.spares ≡ c.count; runs : length c.runs.items ≡ c.count; covered : AreCovered c.runs.items c.pool.lists c.pool.spares } };
 }
 
 impl Channels {
@@ -44,14 +43,14 @@ impl Channels {
         ensures spares { IfOk result (λ channels. channels.spares ≡ replicate n 0) }
     {
         let mut pool = Pool::with_cells(alloc, 0)?;
-        let mut fronts = Vec::with_capacity(alloc, n as usize)?;
+        let mut runs = Vec::with_capacity(alloc, n as usize)?;
         for _ in 0..n {
             pool.queue()?;
-            fronts.push(None)?;
+            runs.push(Run::new(alloc))?;
         }
         Ok(Channels {
             pool,
-            fronts,
+            runs,
             count: n,
         })
     }
@@ -68,10 +67,25 @@ impl Channels {
         if n <= self.spare(c) {
             return Ok(());
         }
+        self.reserve(c, n)
+    }
+
+    // The same where memory may be wanted.
+    #[inline(never)]
+    fn reserve(&mut self, c: u32, n: usize) -> Result<(), AllocError>
+        requires { c < length self.old.lists }
+        ensures lists { self.new.lists ≡ self.old.lists }
+        ensures spares { self.new.spares ≡ (if is_ok result then slice_set self.old.spares c (max n (spare_at self.old.spares c)) else self.old.spares) }
+        ensures room { OnOk result (n ≤ spare_at self.new.spares c) }
+    {
         let waiting = self.pool.len(c);
-        let Some(cells) = cells_for(&self.fronts[c as usize], waiting, n) else {
+        let Some(cells) = n.checked_add(self.runs[c as usize].len()) else {
             return Err(AllocError);
         };
+        let Some(all) = waiting.checked_add(cells) else {
+            return Err(AllocError);
+        };
+        reserve_run(&mut self.runs, c, all)?;
         self.pool.reserve(c, cells)
     }
 
@@ -82,14 +96,13 @@ impl Channels {
         ensures lists { self.new.lists ≡ pushed self.old.lists c token }
         ensures spares { self.new.spares ≡ lowered self.old.spares c }
     {
-        if is_clear(&self.fronts, &self.pool, c) {
-            set_front(&mut self.fronts[c as usize], token);
-        } else {
-            self.pool.push(c, token);
+        match token {
+            Token::Int(n) => self.put_number(c, n),
+            token => self.put_behind(c, token),
         }
     }
 
-    /// Puts a number at the back of channel `c`, which has a spare. It takes no memory, and moves no token.
+    /// Puts a number at the back of channel `c`, which has a spare. It takes no memory, and mostly moves no token.
     #[inline(always)]
     pub fn put_number(&mut self, c: u32, n: i64)
         requires given { c < length self.old.lists }
@@ -97,10 +110,83 @@ impl Channels {
         ensures lists { self.new.lists ≡ pushed self.old.lists c (Int n) }
         ensures spares { self.new.spares ≡ lowered self.old.spares c }
     {
-        if is_clear(&self.fronts, &self.pool, c) {
-            set_front(&mut self.fronts[c as usize], Token::Int(n));
-        } else {
-            push_number(&mut self.pool, c, n);
+        if !self.put_apart(c, n) {
+            self.put_number_behind(c, n);
+        }
+    }
+
+    // The same apart from the region, where the region has no token of the channel, and its run has room.
+    #[inline(always)]
+    fn put_apart(&mut self, c: u32, n: i64) -> bool
+        requires given { c < length self.old.lists }
+        requires spare { 0 < spare_at self.old.spares c }
+        ensures lists { self.new.lists ≡ (if result then pushed self.old.lists c (Int n) else self.old.lists) }
+        ensures spares { self.new.spares ≡ (if result then lowered self.old.spares c else self.old.spares) }
+    {
+        if self.pool.len(c) > 0 {
+            return false;
+        }
+        self.runs[c as usize].push(n)
+    }
+
+    // Puts a number into the region. The token is made here, so that the call above makes none where it isn't needed.
+    #[inline(never)]
+    fn put_number_behind(&mut self, c: u32, n: i64)
+        requires given { c < length self.old.lists }
+        requires spare { 0 < spare_at self.old.spares c }
+        ensures lists { self.new.lists ≡ pushed self.old.lists c (Int n) }
+        ensures spares { self.new.spares ≡ lowered self.old.spares c }
+    {
+        self.put_behind(c, Token::Int(n));
+    }
+
+    // Puts a token into the region.
+    fn put_behind(&mut self, c: u32, token: Token)
+        requires given { c < length self.old.lists }
+        requires spare { 0 < spare_at self.old.spares c }
+        ensures lists { self.new.lists ≡ pushed self.old.lists c token }
+        ensures spares { self.new.spares ≡ lowered self.old.spares c }
+    {
+        self.pool.push(c, token);
+    }
+
+    /// Puts integers at the back of channel `c`, which has room for them. It takes no memory.
+    #[inline(always)]
+    pub fn put_numbers(&mut self, c: u32, numbers: &[i64])
+        requires given { c < length self.old.lists }
+        requires room { length numbers.now ≤ spare_at self.old.spares c }
+        ensures lists { self.new.lists ≡ slice_set self.old.lists c (list_at self.old.lists c ++ map Int numbers.now) }
+        ensures spares { self.new.spares ≡ slice_set self.old.spares c (spare_at self.old.spares c - length numbers.now) }
+    {
+        if !self.put_all_apart(c, numbers) {
+            self.put_each(c, numbers);
+        }
+    }
+
+    // The same apart from the region, where the region has no token of the channel, and its run has room for all.
+    #[inline(always)]
+    fn put_all_apart(&mut self, c: u32, numbers: &[i64]) -> bool
+        requires given { c < length self.old.lists }
+        requires room { length numbers.now ≤ spare_at self.old.spares c }
+        ensures lists { self.new.lists ≡ (if result then slice_set self.old.lists c (list_at self.old.lists c ++ map Int numbers.now) else self.old.lists) }
+        ensures spares { self.new.spares ≡ (if result then slice_set self.old.spares c (spare_at self.old.spares c - length numbers.now) else self.old.spares) }
+    {
+        if self.pool.len(c) > 0 {
+            return false;
+        }
+        self.runs[c as usize].push_all(numbers)
+    }
+
+    // The same one by one.
+    #[inline(never)]
+    fn put_each(&mut self, c: u32, numbers: &[i64])
+        requires given { c < length self.old.lists }
+        requires room { length numbers.now ≤ spare_at self.old.spares c }
+        ensures lists { self.new.lists ≡ slice_set self.old.lists c (list_at self.old.lists c ++ map Int numbers.now) }
+        ensures spares { self.new.spares ≡ slice_set self.old.spares c (spare_at self.old.spares c - length numbers.now) }
+    {
+        for n in numbers {
+            self.put_number(c, *n);
         }
     }
 
@@ -111,10 +197,10 @@ impl Channels {
         ensures lists { self.new.lists ≡ popped self.old.lists c }
         ensures spares { self.new.spares ≡ (if is_some result then raised self.old.spares c else self.old.spares) }
     {
-        if self.fronts[c as usize].is_some() {
-            return self.fronts[c as usize].take();
+        match self.runs[c as usize].take() {
+            Some(n) => Some(Token::Int(n)),
+            None => self.pool.pop(c),
         }
-        self.pool.pop(c)
     }
 
     /// Takes the front of channel `c` where it is a number. `None` says nothing of the channel.
@@ -131,7 +217,7 @@ impl Channels {
         }
     }
 
-    // The same of a number that waits apart from the others. It moves no token.
+    // The same of a number that waits apart from the region.
     #[inline(always)]
     fn take_apart(&mut self, c: u32) -> Option<i64>
         requires { c < length self.old.lists }
@@ -139,7 +225,7 @@ impl Channels {
         ensures lists { self.new.lists ≡ (if is_some result then popped self.old.lists c else self.old.lists) }
         ensures spares { self.new.spares ≡ (if is_some result then raised self.old.spares c else self.old.spares) }
     {
-        take_front_number(&mut self.fronts[c as usize])
+        self.runs[c as usize].take()
     }
 
     // The same of a number that waits in the region.
@@ -150,19 +236,62 @@ impl Channels {
         ensures lists { self.new.lists ≡ (if is_some result then popped self.old.lists c else self.old.lists) }
         ensures spares { self.new.spares ≡ (if is_some result then raised self.old.spares c else self.old.spares) }
     {
-        let n = self.first_number(c)?;
+        let n = self.first_behind(c)?;
         self.take(c);
         Some(n)
     }
 
-    // The front of channel `c`, where it is a number.
-    fn first_number(&self, c: u32) -> Option<i64>
+    // The front of channel `c`, where it is a number in the region.
+    fn first_behind(&self, c: u32) -> Option<i64>
         requires { c < length self.now.lists }
         ensures { IfSome result (λ n. slice_get (list_at self.now.lists c) 0 ≡ Some (Int n)) }
     {
-        match self.tokens(c).next() {
+        if self.runs[c as usize].len() > 0 {
+            return None;
+        }
+        match self.pool.items(c).next() {
             Some(Token::Int(n)) => Some(*n),
             _ => None,
+        }
+    }
+
+    /// Lets go of the first `n` tokens of channel `c`, whose spare rises by as many.
+    #[inline(always)]
+    pub fn skip(&mut self, c: u32, n: usize)
+        requires given { c < length self.old.lists }
+        requires enough { n ≤ length (list_at self.old.lists c) }
+        ensures lists { self.new.lists ≡ slice_set self.old.lists c (drop n (list_at self.old.lists c)) }
+        ensures spares { self.new.spares ≡ slice_set self.old.spares c (spare_at self.old.spares c + n) }
+    {
+        if !self.skip_apart(c, n) {
+            self.skip_each(c, n);
+        }
+    }
+
+    // The same of numbers that wait apart from the region.
+    #[inline(always)]
+    fn skip_apart(&mut self, c: u32, n: usize) -> bool
+        requires { c < length self.old.lists }
+        ensures lists { self.new.lists ≡ (if result then slice_set self.old.lists c (drop n (list_at self.old.lists c)) else self.old.lists) }
+        ensures spares { self.new.spares ≡ (if result then slice_set self.old.spares c (spare_at self.old.spares c + n) else self.old.spares) }
+    {
+        if n > self.runs[c as usize].len() {
+            return false;
+        }
+        self.runs[c as usize].skip(n);
+        true
+    }
+
+    // The same one by one.
+    #[inline(never)]
+    fn skip_each(&mut self, c: u32, n: usize)
+        requires given { c < length self.old.lists }
+        requires enough { n ≤ length (list_at self.old.lists c) }
+        ensures lists { self.new.lists ≡ slice_set self.old.lists c (drop n (list_at self.old.lists c)) }
+        ensures spares { self.new.spares ≡ slice_set self.old.spares c (spare_at self.old.spares c + n) }
+    {
+        for _ in 0..n {
+            self.take(c);
         }
     }
 
@@ -186,7 +315,7 @@ impl Channels {
         requires { c < length self.now.lists }
         ensures { result ≡ length (list_at self.now.lists c) }
     {
-        self.pool.len(c) + kept_for(&self.fronts[c as usize])
+        self.pool.len(c) + self.runs[c as usize].len()
     }
 
     /// How many more tokens channel `c` has room for.
@@ -195,18 +324,16 @@ impl Channels {
         requires { c < length self.now.lists }
         ensures { result ≡ spare_at self.now.spares c }
     {
-        self.pool.spare(c) - kept_for(&self.fronts[c as usize])
+        self.pool.spare(c) - self.runs[c as usize].len()
     }
 
-    /// The tokens of channel `c` from front to back. It takes no memory.
-    pub fn tokens(&self, c: u32) -> Waiting<'_>
+    /// The integers that stand in front of channel `c`'s other tokens: those that are kept apart.
+    #[inline(always)]
+    pub fn numbers(&self, c: u32) -> &[i64]
         requires { c < length self.now.lists }
-        ensures { result ≡ list_at self.now.lists c }
+        ensures { map Int result.now ≡ take (length result.now) (list_at self.now.lists c) }
     {
-        Waiting {
-            front: self.fronts[c as usize].as_ref(),
-            rest: self.pool.items(c),
-        }
+        self.runs[c as usize].as_slice()
     }
 
     /// Other channels with the same tokens, and as much room.
@@ -235,78 +362,18 @@ impl Channels {
             return Err(AllocError);
         };
         copies.ready(c, room)?;
-        for token in self.tokens(c) {
+        copies.put_numbers(c, self.runs[c as usize].as_slice());
+        for token in self.pool.items(c) {
             copies.put(c, token.copy(alloc)?);
         }
         Ok(())
     }
 }
 
-/// Whether a channel has no token, neither in front nor in the region.
-#[inline(always)]
-fn is_clear(fronts: &[Option<Token>], pool: &Pool<Token>, c: u32) -> bool
-    requires front { c < length fronts.now }
-    requires list { c < length pool.now.lists }
-    ensures front { IsTrue result → front_at fronts.now c ≡ None }
-    ensures list { IsTrue result → list_at pool.now.lists c ≡ [] }
-    ensures clear { front_at fronts.now c ≡ None → list_at pool.now.lists c ≡ [] → IsTrue result }
+/// Makes room for `n` integers in the run of channel `c`.
+fn reserve_run(runs: &mut Vec<Run>, c: u32, n: usize) -> Result<(), AllocError>
+    requires { c < length runs.old.items }
+    ensures { runs.new.items ≡ runs.old.items }
 {
-    fronts[c as usize].is_none() && pool.len(c) == 0
-}
-
-/// How many cells are to be reserved for `n` more tokens of a channel with this front, and so many tokens in the region.
-/// `None` where its tokens couldn't be counted any more.
-#[inline(never)]
-fn cells_for(front: &Option<Token>, waiting: usize, n: usize) -> Option<usize>
-    ensures cells { IfSome result (λ cells. cells ≡ n + fronts.kept_for front.now) }
-    ensures counted { IfSome result (λ cells. waiting + cells < 2 ^ 64) }
-    ensures some { waiting + n + fronts.kept_for front.now < 2 ^ 64 → IsSome result }
-{
-    let cells = n.checked_add(kept_for(front))?;
-    waiting.checked_add(cells)?;
-    Some(cells)
-}
-
-/// How many reserved cells a channel with this front leaves unused.
-#[inline(always)]
-fn kept_for(front: &Option<Token>) -> usize
-    ensures { result ≡ fronts.kept_for front.now }
-{
-    match front {
-        None => 0,
-        Some(_) => 1,
-    }
-}
-
-/// Puts a number into the region, where its channel isn't empty.
-#[inline(never)]
-fn push_number(pool: &mut Pool<Token>, c: u32, n: i64)
-    requires given { c < length pool.old.lists }
-    requires spare { 0 < spare_at pool.old.spares c }
-    ensures lists { pool.new.lists ≡ pushed pool.old.lists c (Int n) }
-    ensures spares { pool.new.spares ≡ lowered pool.old.spares c }
-{
-    pool.push(c, Token::Int(n));
-}
-
-#[inline(always)]
-fn set_front(front: &mut Option<Token>, token: Token)
-    ensures { front.new ≡ Some token }
-{
-    *front = Some(token);
-}
-
-/// Takes a front that is a number. It is read where it stands, since a token that was just written is slow to move.
-#[inline(always)]
-fn take_front_number(front: &mut Option<Token>) -> Option<i64>
-    ensures number { IfSome result (λ n. front.old ≡ Some (Int n)) }
-    ensures some { (n : ℤ) → front.old ≡ Some (Int n) → IsSome result }
-    ensures front { front.new ≡ (if is_some result then None else front.old) }
-{
-    let Some(Token::Int(number)) = &*front else {
-        return None;
-    };
-    let n = *number;
-    *front = None;
-    Some(n)
+    runs[c as usize].reserve(n)
 }

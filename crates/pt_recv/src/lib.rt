@@ -3,8 +3,7 @@
 
 mod channels;
 mod queue;
-mod waiting;
+mod run;
 
 pub use channels::Channels;
 pub use queue::Queue;
-pub use waiting::Waiting;

@@ -1,15 +1,16 @@
 use Rattle.std.proofs.Common.{◌≡◌, ◌-◌, [], ◌∙◌, length, replicate, sym, ap, arith}
+use Rattle.pt_value.specs.declared.token.Token.TheVariants.{Int}
 use Rattle.pt_recv.proofs.FrontLaws.{length-joined, length-lessened}
 use Rattle.pt_recv.proofs.LineLaws.{copied-more}
 use Rattle.pt_recv.proofs.channels.Channels.copy.Goals as goal
 
 pub loop-c-init : goal.loop-c-init
 loop-c-init c =
-    let fs = c.self.inside.fronts.items in
+    let rs = c.self.inside.runs.items in
     let all : c.self.inside.count ≡ c.self.inside.count - 0 = omega arith in
     record {
-      channels = ap (λ v. length v.lists) (sym c.self.view_is) ∙ length-joined fs c.self.inside.pool.lists ∙ c.self.invariant.lists;
-      rooms = ap (λ v. length v.spares) (sym c.self.view_is) ∙ length-lessened fs c.self.inside.pool.spares ∙ c.self.invariant.spares;
+      channels = ap (λ v. length v.lists) (sym c.self.view_is) ∙ length-joined Int rs c.self.inside.pool.lists ∙ c.self.invariant.lists;
+      rooms = ap (λ v. length v.spares) (sym c.self.view_is) ∙ length-lessened rs c.self.inside.pool.spares ∙ c.self.invariant.spares;
       lists = c.in_ok-copies.ensures.lists ∙ ap (λ n. replicate n []) all;
       spares = c.in_ok-copies.ensures.spares ∙ ap (λ n. replicate n 0) all;
     }

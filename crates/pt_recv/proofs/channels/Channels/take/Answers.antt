@@ -1,99 +1,103 @@
-use Rattle.std.proofs.Common.{◌≡◌, get_or, ap, ◌∙◌, sym, subst, arith, Some, None, IfSome, is_some, true, if◌then◌else◌, slice_get}
+use Rattle.std.proofs.Common.{ℤ, w64, SFits, rules, set, ap, ap₂, ◌∙◌, sym, arith, Option, Some, is_some, if◌then◌else◌, slice_get}
+use Rattle.std.proofs.lemmas.Int.{to_z-of_z}
+use Rattle.pt_value.specs.declared.token.Token.TheVariants.{Int}
 use Rattle.pt_recv.specs.Fronts.{joined, lessened}
 use Rattle.pt_recv.specs.Lines.{list_at, popped, raised}
-use Rattle.pt_recv.proofs.FrontLaws.{front-is, in-lists, in-fronts, first-is, some-is, if-some, taken-lists, taken-spares, none-is, first-behind, popped-behind, behind-spares}
+use Rattle.pt_recv.proofs.FrontLaws.{run-is, in-lists, in-runs, taken-first, taken-lists, taken-spares, none-taken, first-behind, popped-behind, behind-spares}
 use Rattle.pt_recv.proofs.channels.Channels.take.Goals as goal
 
-pub index-requires : goal.index-requires
-index-requires c = omega (arith, in-fronts _ _ _ _ c.self.invariant.lists c.self.invariant.spares c.self.invariant.fronts _ (ap (λ v. v.lists) c.self.view_is) c.args.c c.requires, c.self.inside.fronts.ok.0)
-
 pub index_mut-requires : goal.index_mut-requires
-index_mut-requires c = omega (arith, in-fronts _ _ _ _ c.self.invariant.lists c.self.invariant.spares c.self.invariant.fronts _ (ap (λ v. v.lists) c.self.view_is) c.args.c c.requires, c.self.inside.fronts.ok.0)
+index_mut-requires c = omega (arith, in-runs Int _ _ _ _ c.self.invariant.lists c.self.invariant.spares c.self.invariant.runs _ (ap (λ v. v.lists) c.self.view_is) c.args.c c.requires, c.self.inside.runs.ok.0)
 
 pub pop-requires : goal.pop-requires
-pop-requires c = in-lists _ _ _ _ c.self.invariant.lists c.self.invariant.spares c.self.invariant.fronts _ (ap (λ v. v.lists) c.self.view_is) c.args.c c.requires
+pop-requires c = in-lists Int _ _ _ _ c.self.invariant.lists c.self.invariant.spares c.self.invariant.runs _ (ap (λ v. v.lists) c.self.view_is) c.args.c c.requires
 
-pub returns-then-is_some-clause-front : goal.returns-then-is_some-clause-front
-returns-then-is_some-clause-front c =
+pub returns-in-Some-clause-front : goal.returns-in-Some-clause-front
+returns-in-Some-clause-front c =
     let held = c.self.invariant in
-    let fs = c.self.inside.fronts.items in
+    let rs = c.self.inside.runs.items in
     let ls = c.self.inside.pool.lists in
+    let ss = c.self.inside.pool.spares in
     let q = c.args.c in
-    let in_lists = in-lists _ _ _ _ held.lists held.spares held.fronts _ (ap (λ v. v.lists) c.self.view_is) q c.requires in
-    let in_fronts = in-fronts _ _ _ _ held.lists held.spares held.fronts _ (ap (λ v. v.lists) c.self.view_is) q c.requires in
-    let was = front-is fs q in_fronts c.index.result.now c.index.ensures in
-    let r = c.take.result in
-    let is = front-is fs q in_fronts c.index_mut.result.now c.index_mut.ensures.value ∙ sym c.take.ensures.value in
-    let some : is_some r ≡ true = ap (λ v. is_some v) (sym is ∙ was) ∙ sym c.is_some.ensures ∙ c.if-is_some.true in
-    first-is fs ls q in_fronts in_lists r is some ∙ ap (λ v. slice_get (list_at v.lists q) 0) c.self.view_is
+    let seen = ap (λ v. v.lists) c.self.view_is in
+    let in_lists = in-lists Int _ _ _ _ held.lists held.spares held.runs _ seen q c.requires in
+    let in_runs = in-runs Int _ _ _ _ held.lists held.spares held.runs _ seen q c.requires in
+    let is = run-is rs q in_runs c.index_mut.result.now c.index_mut.ensures.value in
+    let first = sym c.in-Some.is ∙ c.take.ensures.front in
+    let o : Option ℤ = Some c.in-Some.n in
+    let fits : SFits w64 c.in-Some.n = search rules in
+    ap (λ n. Some (Int n)) (to_z-of_z w64 c.in-Some.n fits) ∙ sym (taken-first Int rs ls ss q in_runs in_lists _ is o first) ∙ ap (λ v. slice_get (list_at v q) 0) seen
 
-pub returns-then-is_some-clause-lists : goal.returns-then-is_some-clause-lists
-returns-then-is_some-clause-lists c =
+pub returns-in-Some-clause-lists : goal.returns-in-Some-clause-lists
+returns-in-Some-clause-lists c =
     let held = c.self.invariant in
-    let fs = c.self.inside.fronts.items in
+    let rs = c.self.inside.runs.items in
     let ls = c.self.inside.pool.lists in
+    let ss = c.self.inside.pool.spares in
     let q = c.args.c in
-    let in_lists = in-lists _ _ _ _ held.lists held.spares held.fronts _ (ap (λ v. v.lists) c.self.view_is) q c.requires in
-    let in_fronts = in-fronts _ _ _ _ held.lists held.spares held.fronts _ (ap (λ v. v.lists) c.self.view_is) q c.requires in
-    let was = front-is fs q in_fronts c.index.result.now c.index.ensures in
-    let r = c.take.result in
-    let is = front-is fs q in_fronts c.index_mut.result.now c.index_mut.ensures.value ∙ sym c.take.ensures.value in
-    let some : is_some r ≡ true = ap (λ v. is_some v) (sym is ∙ was) ∙ sym c.is_some.ensures ∙ c.if-is_some.true in
-    let taken = subst (λ v. IfSome r (λ n. v ≡ Some n)) (sym is) (some-is r) in
-    let after = c.take.ensures.after ∙ sym (if-some r None (get_or fs q None) some) in
-    taken-lists fs ls c.self.inside.pool.spares q in_fronts in_lists (λ n. n) r taken c.take.new.self after
-    ∙ if-some r (popped (joined fs ls) q) (joined fs ls) some
-    ∙ ap (λ v. popped v.lists q) c.self.view_is
+    let seen = ap (λ v. v.lists) c.self.view_is in
+    let in_lists = in-lists Int _ _ _ _ held.lists held.spares held.runs _ seen q c.requires in
+    let in_runs = in-runs Int _ _ _ _ held.lists held.spares held.runs _ seen q c.requires in
+    let is = run-is rs q in_runs c.index_mut.result.now c.index_mut.ensures.value in
+    let first = sym c.in-Some.is ∙ c.take.ensures.front in
+    let o : Option ℤ = Some c.in-Some.n in
+    ap (λ v. joined Int (set rs q v) ls) c.take.ensures.rest ∙ taken-lists Int rs ls ss q in_runs in_lists _ is o first ∙ ap (λ v. popped v q) seen
 
-pub returns-then-is_some-clause-spares : goal.returns-then-is_some-clause-spares
-returns-then-is_some-clause-spares c =
+pub returns-in-Some-clause-spares : goal.returns-in-Some-clause-spares
+returns-in-Some-clause-spares c =
     let held = c.self.invariant in
-    let fs = c.self.inside.fronts.items in
+    let rs = c.self.inside.runs.items in
     let ls = c.self.inside.pool.lists in
+    let ss = c.self.inside.pool.spares in
     let q = c.args.c in
-    let in_lists = in-lists _ _ _ _ held.lists held.spares held.fronts _ (ap (λ v. v.lists) c.self.view_is) q c.requires in
-    let in_fronts = in-fronts _ _ _ _ held.lists held.spares held.fronts _ (ap (λ v. v.lists) c.self.view_is) q c.requires in
-    let was = front-is fs q in_fronts c.index.result.now c.index.ensures in
-    let r = c.take.result in
-    let is = front-is fs q in_fronts c.index_mut.result.now c.index_mut.ensures.value ∙ sym c.take.ensures.value in
-    let some : is_some r ≡ true = ap (λ v. is_some v) (sym is ∙ was) ∙ sym c.is_some.ensures ∙ c.if-is_some.true in
-    let taken = subst (λ v. IfSome r (λ n. v ≡ Some n)) (sym is) (some-is r) in
-    let after = c.take.ensures.after ∙ sym (if-some r None (get_or fs q None) some) in
-    taken-spares fs ls c.self.inside.pool.spares q in_fronts in_lists (λ n. n) r taken c.take.new.self after (held.covered q).kept
-    ∙ ap (λ v. if is_some r then raised v.spares q else v.spares) c.self.view_is
+    let seen = ap (λ v. v.lists) c.self.view_is in
+    let in_lists = in-lists Int _ _ _ _ held.lists held.spares held.runs _ seen q c.requires in
+    let in_runs = in-runs Int _ _ _ _ held.lists held.spares held.runs _ seen q c.requires in
+    let is = run-is rs q in_runs c.index_mut.result.now c.index_mut.ensures.value in
+    let first = sym c.in-Some.is ∙ c.take.ensures.front in
+    let o : Option ℤ = Some c.in-Some.n in
+    ap (λ v. lessened (set rs q v) ss) c.take.ensures.rest ∙ taken-spares Int rs ls ss q in_runs in_lists _ is o first held.covered ∙ ap (λ v. raised v.spares q) c.self.view_is
 
-pub returns-clause-front : goal.returns-clause-front
-returns-clause-front c =
+pub returns-in-None-clause-front : goal.returns-in-None-clause-front
+returns-in-None-clause-front c =
     let held = c.self.invariant in
-    let fs = c.self.inside.fronts.items in
+    let rs = c.self.inside.runs.items in
     let ls = c.self.inside.pool.lists in
+    let ss = c.self.inside.pool.spares in
     let q = c.args.c in
-    let in_lists = in-lists _ _ _ _ held.lists held.spares held.fronts _ (ap (λ v. v.lists) c.self.view_is) q c.requires in
-    let in_fronts = in-fronts _ _ _ _ held.lists held.spares held.fronts _ (ap (λ v. v.lists) c.self.view_is) q c.requires in
-    let was = front-is fs q in_fronts c.index.result.now c.index.ensures in
-    let none = was ∙ none-is c.index.result.now (sym c.is_some.ensures ∙ c.if-is_some.false) in
-    c.pop.ensures.front ∙ sym (first-behind fs ls q in_fronts in_lists none) ∙ ap (λ v. slice_get (list_at v.lists q) 0) c.self.view_is
+    let seen = ap (λ v. v.lists) c.self.view_is in
+    let in_lists = in-lists Int _ _ _ _ held.lists held.spares held.runs _ seen q c.requires in
+    let in_runs = in-runs Int _ _ _ _ held.lists held.spares held.runs _ seen q c.requires in
+    let is = run-is rs q in_runs c.index_mut.result.now c.index_mut.ensures.value in
+    let none = none-taken Int rs ls ss q in_runs in_lists _ is (sym c.in-None.is ∙ c.take.ensures.front) in
+    c.pop.ensures.front ∙ sym (first-behind Int rs ls q in_runs in_lists none.0) ∙ ap (λ v. slice_get (list_at v q) 0) seen
 
-pub returns-clause-lists : goal.returns-clause-lists
-returns-clause-lists c =
+pub returns-in-None-clause-lists : goal.returns-in-None-clause-lists
+returns-in-None-clause-lists c =
     let held = c.self.invariant in
-    let fs = c.self.inside.fronts.items in
+    let rs = c.self.inside.runs.items in
     let ls = c.self.inside.pool.lists in
+    let ss = c.self.inside.pool.spares in
     let q = c.args.c in
-    let in_lists = in-lists _ _ _ _ held.lists held.spares held.fronts _ (ap (λ v. v.lists) c.self.view_is) q c.requires in
-    let in_fronts = in-fronts _ _ _ _ held.lists held.spares held.fronts _ (ap (λ v. v.lists) c.self.view_is) q c.requires in
-    let was = front-is fs q in_fronts c.index.result.now c.index.ensures in
-    let none = was ∙ none-is c.index.result.now (sym c.is_some.ensures ∙ c.if-is_some.false) in
-    ap (joined fs) c.pop.ensures.lists ∙ popped-behind fs ls q in_fronts in_lists none ∙ ap (λ v. popped v.lists q) c.self.view_is
+    let seen = ap (λ v. v.lists) c.self.view_is in
+    let in_lists = in-lists Int _ _ _ _ held.lists held.spares held.runs _ seen q c.requires in
+    let in_runs = in-runs Int _ _ _ _ held.lists held.spares held.runs _ seen q c.requires in
+    let is = run-is rs q in_runs c.index_mut.result.now c.index_mut.ensures.value in
+    let none = none-taken Int rs ls ss q in_runs in_lists _ is (sym c.in-None.is ∙ c.take.ensures.front) in
+    let same = ap (λ v. set rs q v) c.take.ensures.rest ∙ none.1 in
+    ap₂ (joined Int) same c.pop.ensures.lists ∙ popped-behind Int rs ls q in_runs in_lists none.0 ∙ ap (λ v. popped v q) seen
 
-pub returns-clause-spares : goal.returns-clause-spares
-returns-clause-spares c =
+pub returns-in-None-clause-spares : goal.returns-in-None-clause-spares
+returns-in-None-clause-spares c =
     let held = c.self.invariant in
-    let fs = c.self.inside.fronts.items in
+    let rs = c.self.inside.runs.items in
     let ls = c.self.inside.pool.lists in
+    let ss = c.self.inside.pool.spares in
     let q = c.args.c in
-    let in_lists = in-lists _ _ _ _ held.lists held.spares held.fronts _ (ap (λ v. v.lists) c.self.view_is) q c.requires in
-    let in_fronts = in-fronts _ _ _ _ held.lists held.spares held.fronts _ (ap (λ v. v.lists) c.self.view_is) q c.requires in
-    let was = front-is fs q in_fronts c.index.result.now c.index.ensures in
-    let none = was ∙ none-is c.index.result.now (sym c.is_some.ensures ∙ c.if-is_some.false) in
-    ap (lessened fs) c.pop.ensures.spares ∙ behind-spares fs c.self.inside.pool.spares q in_fronts none (is_some c.pop.result) ∙ ap (λ v. if is_some c.pop.result then raised v.spares q else v.spares) c.self.view_is
+    let seen = ap (λ v. v.lists) c.self.view_is in
+    let in_lists = in-lists Int _ _ _ _ held.lists held.spares held.runs _ seen q c.requires in
+    let in_runs = in-runs Int _ _ _ _ held.lists held.spares held.runs _ seen q c.requires in
+    let is = run-is rs q in_runs c.index_mut.result.now c.index_mut.ensures.value in
+    let none = none-taken Int rs ls ss q in_runs in_lists _ is (sym c.in-None.is ∙ c.take.ensures.front) in
+    let same = ap (λ v. set rs q v) c.take.ensures.rest ∙ none.1 in
+    ap₂ lessened same c.pop.ensures.spares ∙ behind-spares rs ss q in_runs none.0 (is_some c.pop.result) ∙ ap (λ v. if is_some c.pop.result then raised v.spares q else v.spares) c.self.view_is

@@ -1,52 +1,50 @@
-use Rattle.std.proofs.Common.{◌≡◌, ap, ◌∙◌, sym, subst, arith, Some, None, IfSome, slice_get, is_some, if◌then◌else◌}
-use Rattle.pt_recv.specs.Lines.{list_at, popped, raised}
-use Rattle.pt_recv.proofs.FrontLaws.{front-is, in-lists, in-fronts, taken-first, taken-lists, taken-spares}
-use Rattle.pt_recv.proofs.channels.Channels.take_apart.Goals as goal
+use Rattle.std.proofs.Common.{◌≡◌, set, ap, ◌∙◌, subst, arith, Some, IfSome, slice_get, is_some, if◌then◌else◌}
 use Rattle.pt_value.specs.declared.token.Token.TheVariants.{Int}
+use Rattle.pt_recv.specs.Fronts.{joined, lessened}
+use Rattle.pt_recv.specs.Lines.{list_at, popped, raised}
+use Rattle.pt_recv.proofs.FrontLaws.{run-is, in-lists, in-runs, taken-first, taken-lists, taken-spares}
+use Rattle.pt_recv.proofs.channels.Channels.take_apart.Goals as goal
 
 pub index_mut-requires : goal.index_mut-requires
-index_mut-requires c = omega (arith, in-fronts _ _ _ _ c.self.invariant.lists c.self.invariant.spares c.self.invariant.fronts _ (ap (λ v. v.lists) c.self.view_is) c.args.c c.requires, c.self.inside.fronts.ok.0)
+index_mut-requires c = omega (arith, in-runs Int _ _ _ _ c.self.invariant.lists c.self.invariant.spares c.self.invariant.runs _ (ap (λ v. v.lists) c.self.view_is) c.args.c c.requires, c.self.inside.runs.ok.0)
 
 pub returns-clause-front : goal.returns-clause-front
 returns-clause-front c =
     let held = c.self.invariant in
-    let fs = c.self.inside.fronts.items in
+    let rs = c.self.inside.runs.items in
     let ls = c.self.inside.pool.lists in
+    let ss = c.self.inside.pool.spares in
     let q = c.args.c in
-    let in_lists = in-lists _ _ _ _ held.lists held.spares held.fronts _ (ap (λ v. v.lists) c.self.view_is) q c.requires in
-    let in_fronts = in-fronts _ _ _ _ held.lists held.spares held.fronts _ (ap (λ v. v.lists) c.self.view_is) q c.requires in
-    let r = c.take_front_number.result in
-    let front = c.index_mut.result.now in
-    let is = front-is fs q in_fronts front c.index_mut.ensures.value in
-    let number = subst (λ v. IfSome r (λ n. v ≡ Some (Int n))) (sym is) c.take_front_number.ensures.number in
-    subst (λ v. IfSome r (λ n. slice_get (list_at v.lists q) 0 ≡ Some (Int n))) c.self.view_is (taken-first fs ls c.self.inside.pool.spares q in_fronts in_lists Int r number)
+    let seen = ap (λ v. v.lists) c.self.view_is in
+    let in_lists = in-lists Int _ _ _ _ held.lists held.spares held.runs _ seen q c.requires in
+    let in_runs = in-runs Int _ _ _ _ held.lists held.spares held.runs _ seen q c.requires in
+    let is = run-is rs q in_runs c.index_mut.result.now c.index_mut.ensures.value in
+    subst (λ v. IfSome c.take.result (λ n. slice_get (list_at v.lists q) 0 ≡ Some (Int n))) c.self.view_is (taken-first Int rs ls ss q in_runs in_lists _ is c.take.result c.take.ensures.front)
 
 pub returns-clause-lists : goal.returns-clause-lists
 returns-clause-lists c =
     let held = c.self.invariant in
-    let fs = c.self.inside.fronts.items in
+    let rs = c.self.inside.runs.items in
     let ls = c.self.inside.pool.lists in
+    let ss = c.self.inside.pool.spares in
     let q = c.args.c in
-    let in_lists = in-lists _ _ _ _ held.lists held.spares held.fronts _ (ap (λ v. v.lists) c.self.view_is) q c.requires in
-    let in_fronts = in-fronts _ _ _ _ held.lists held.spares held.fronts _ (ap (λ v. v.lists) c.self.view_is) q c.requires in
-    let r = c.take_front_number.result in
-    let front = c.index_mut.result.now in
-    let is = front-is fs q in_fronts front c.index_mut.ensures.value in
-    let number = subst (λ v. IfSome r (λ n. v ≡ Some (Int n))) (sym is) c.take_front_number.ensures.number in
-    let after = c.take_front_number.ensures.front ∙ ap (λ v. if is_some r then None else v) (sym is) in
-    taken-lists fs ls c.self.inside.pool.spares q in_fronts in_lists Int r number c.take_front_number.new.front after ∙ ap (λ v. if is_some r then popped v.lists q else v.lists) c.self.view_is
+    let seen = ap (λ v. v.lists) c.self.view_is in
+    let in_lists = in-lists Int _ _ _ _ held.lists held.spares held.runs _ seen q c.requires in
+    let in_runs = in-runs Int _ _ _ _ held.lists held.spares held.runs _ seen q c.requires in
+    let is = run-is rs q in_runs c.index_mut.result.now c.index_mut.ensures.value in
+    ap (λ v. joined Int (set rs q v) ls) c.take.ensures.rest ∙ taken-lists Int rs ls ss q in_runs in_lists _ is c.take.result c.take.ensures.front
+    ∙ ap (λ v. if is_some c.take.result then popped v.lists q else v.lists) c.self.view_is
 
 pub returns-clause-spares : goal.returns-clause-spares
 returns-clause-spares c =
     let held = c.self.invariant in
-    let fs = c.self.inside.fronts.items in
+    let rs = c.self.inside.runs.items in
     let ls = c.self.inside.pool.lists in
+    let ss = c.self.inside.pool.spares in
     let q = c.args.c in
-    let in_lists = in-lists _ _ _ _ held.lists held.spares held.fronts _ (ap (λ v. v.lists) c.self.view_is) q c.requires in
-    let in_fronts = in-fronts _ _ _ _ held.lists held.spares held.fronts _ (ap (λ v. v.lists) c.self.view_is) q c.requires in
-    let r = c.take_front_number.result in
-    let front = c.index_mut.result.now in
-    let is = front-is fs q in_fronts front c.index_mut.ensures.value in
-    let number = subst (λ v. IfSome r (λ n. v ≡ Some (Int n))) (sym is) c.take_front_number.ensures.number in
-    let after = c.take_front_number.ensures.front ∙ ap (λ v. if is_some r then None else v) (sym is) in
-    taken-spares fs ls c.self.inside.pool.spares q in_fronts in_lists Int r number c.take_front_number.new.front after (held.covered q).kept ∙ ap (λ v. if is_some r then raised v.spares q else v.spares) c.self.view_is
+    let seen = ap (λ v. v.lists) c.self.view_is in
+    let in_lists = in-lists Int _ _ _ _ held.lists held.spares held.runs _ seen q c.requires in
+    let in_runs = in-runs Int _ _ _ _ held.lists held.spares held.runs _ seen q c.requires in
+    let is = run-is rs q in_runs c.index_mut.result.now c.index_mut.ensures.value in
+    ap (λ v. lessened (set rs q v) ss) c.take.ensures.rest ∙ taken-spares Int rs ls ss q in_runs in_lists _ is c.take.result c.take.ensures.front held.covered
+    ∙ ap (λ v. if is_some c.take.result then raised v.spares q else v.spares) c.self.view_is
