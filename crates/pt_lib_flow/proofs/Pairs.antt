@@ -1,5 +1,5 @@
 -- The sum and the difference of the numbers at two places.
-use Rattle.std.proofs.Common.{◌≡◌, ℕ, ◌∷◌, [], List, length, Bool, true, ◌&&◌, Option, Some, None, SomeIff, FitsSigned, w64, ℤ, pos, negsuc, ◌+ℤ◌, ◌-ℤ◌, refl, sym, ap, ap₂, ◌∙◌, arith, if◌then◌else◌}
+use Rattle.std.proofs.Common.{◌≡◌, ◌∷◌, [], length, true, ◌&&◌, Option, Some, None, SomeIff, FitsSigned, w64, ℤ, pos, negsuc, ◌+ℤ◌, ◌-ℤ◌, refl, sym, ap, ap₂, ◌∙◌, arith, if◌then◌else◌}
 use Rattle.std.proofs.lemmas.Int.{ints}
 use Rattle.std.proofs.lemmas.Grind.{common_steps}
 use Rattle.pt_meaning.specs.Basics.{Streams}

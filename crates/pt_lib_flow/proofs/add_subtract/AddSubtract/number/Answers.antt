@@ -1,6 +1,5 @@
-use Rattle.std.proofs.Common.{◌≡◌, Some, ◌+ℤ◌, ◌-ℤ◌, SomeIff, FitsSigned, to_z, of_z, w64, ap, ap₂, ◌∙◌, sym, subst, rules, arith}
+use Rattle.std.proofs.Common.{◌≡◌, Some, ◌+ℤ◌, ◌-ℤ◌, SomeIff, FitsSigned, to_z, of_z, w64, ap, ◌∙◌, sym, subst, rules, arith}
 use Rattle.std.proofs.lemmas.Int.{to_z-of_z}
-use Rattle.std.proofs.lemmas.Grind.{common_steps}
 use Rattle.pt_lib_flow.specs.Row.{sum_of, number_at}
 use Rattle.pt_lib_flow.proofs.Pairs.{difference-of, sum-of, sum-given}
 use Rattle.pt_lib_flow.proofs.add_subtract.AddSubtract.number.Goals as goal
