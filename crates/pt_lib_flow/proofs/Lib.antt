@@ -8,6 +8,8 @@ pub mod Formulas
 pub mod Typings
 pub mod Evaluations
 pub mod Repetitions
+pub mod Zeros
+pub mod Pairs
 pub mod Held
 pub mod Steadiness
 pub mod Bounds

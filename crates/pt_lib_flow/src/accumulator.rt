@@ -1,11 +1,10 @@
-ghost use Rattle.std.specs.Prelude.{◌≡◌, ◌+◌, IfOk};
-ghost use Rattle.pt_lib_flow.specs.Accumulator.{before};
+ghost use Rattle.std.specs.Prelude.{◌≡◌, ◌+◌, false, unwrap_or, IfOk, if◌then◌else◌};
 ghost use Rattle.pt_lib_flow.specs.Number.{GivesNumber};
 ghost use Rattle.pt_lib_flow.specs.Accumulator as accumulator;
 
 use crate::params::Params;
 use pt_firing::{
-    Actor, Fires, Inputs, Need, OneEach, Outputs, Partial, RunFault, Step, strict_early,
+    Actor, Fires, Inputs, IntInputs, Need, OneEach, Outputs, Partial, RunFault, Step, strict_early,
 };
 use pt_time::Tag;
 use pt_value::Token;
@@ -42,11 +41,12 @@ impl Accumulator {
         }
     }
 
-    /// The sum before the input is added.
-    fn before(&self, inputs: &Inputs<'_>) -> i64
-        ensures { result ≡ before self.now inputs.now }
+    /// The sum before the input is added, where there is such a reset.
+    #[inline(always)]
+    fn before(&self, reset: Option<bool>) -> i64
+        ensures { result ≡ (if unwrap_or reset false then self.now.init else self.now.sum) }
     {
-        if inputs.truth_at(1).unwrap_or(false) {
+        if reset.unwrap_or(false) {
             self.init
         } else {
             self.sum
@@ -54,10 +54,13 @@ impl Accumulator {
     }
 
     /// Makes the firing where it gives a number. Else it makes none.
-    pub(crate) fn number(&mut self, inputs: &Inputs<'_>) -> Option<i64>
+    #[inline(always)]
+    pub(crate) fn number(&mut self, inputs: &IntInputs<'_>) -> Option<i64>
         ensures { GivesNumber accumulator.step self.old inputs.now result self.new }
     {
-        let sum = self.before(inputs).checked_add(inputs.number_at(0)?)?;
+        let sum = self
+            .before(inputs.truth_at(1))
+            .checked_add(inputs.number_at(0)?)?;
         self.sum = sum;
         Some(sum)
     }
@@ -73,7 +76,7 @@ impl Fires for Accumulator {
     ghost IsSpare = { λ actor. Unit {0} };
 
     fn step(&mut self, _alloc: Global, _tag: Tag, inputs: &Inputs<'_>) -> Step {
-        let before = self.before(inputs);
+        let before = self.before(inputs.truth_at(1));
         match inputs.number_at(0) {
             None => {
                 self.sum = before;

@@ -4,9 +4,10 @@ ghost use Rattle.pt_lib_flow.specs.Number.{GivesNumber};
 ghost use Rattle.pt_lib_flow.specs.AddSubtract as add_subtract;
 
 use crate::number::sum_between;
+use crate::numbered::Numbered;
 use crate::params::Params;
 use pt_firing::{
-    Actor, Fires, Inputs, Need, OneEach, Outputs, Partial, RunFault, Step, strict_early,
+    Actor, Fires, Inputs, IntInputs, Need, OneEach, Outputs, Partial, RunFault, Step, strict_early,
 };
 use pt_time::Tag;
 use pt_value::Token;
@@ -40,8 +41,8 @@ impl AddSubtract {
     }
 
     /// The exact sum, if any number is present.
-    fn sum(&self, inputs: &Inputs<'_>) -> Option<i128>
-        ensures { result ≡ sum_of self.now.plus inputs.now }
+    fn sum<I: Numbered>(&self, inputs: &I) -> Option<i128>
+        ensures { result ≡ sum_of self.now.plus (I.streams inputs.now) }
     {
         let end = inputs.places();
         let middle = self.plus.min(end);
@@ -51,10 +52,15 @@ impl AddSubtract {
     }
 
     /// Makes the firing where it gives a number. Else it makes none.
-    pub(crate) fn number(&self, inputs: &Inputs<'_>) -> Option<i64>
+    #[inline(always)]
+    pub(crate) fn number(&self, inputs: &IntInputs<'_>) -> Option<i64>
         ensures { GivesNumber add_subtract.step self.now inputs.now result self.now }
     {
-        i64::try_from(self.sum(inputs)?).ok()
+        match (self.plus, inputs.places()) {
+            (1, 2) => inputs.number_at(0)?.checked_sub(inputs.number_at(1)?),
+            (2, 2) => inputs.number_at(0)?.checked_add(inputs.number_at(1)?),
+            _ => i64::try_from(self.sum(inputs)?).ok(),
+        }
     }
 }
 

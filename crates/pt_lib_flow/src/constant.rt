@@ -5,7 +5,9 @@ ghost use Rattle.pt_lib_flow.specs.Const as constant;
 
 use crate::limit::{Limit, is_called};
 use crate::params::Params;
-use pt_firing::{Actor, Fires, Inputs, Need, OneEach, Outputs, Partial, Step, strict_early};
+use pt_firing::{
+    Actor, Fires, Inputs, IntInputs, Need, OneEach, Outputs, Partial, Step, strict_early,
+};
 use pt_time::Tag;
 use pt_value::Token;
 use std::alloc::{AllocError, Global};
@@ -58,7 +60,8 @@ impl Const {
     }
 
     /// Makes the firing where it gives a number. Else it makes none.
-    pub(crate) fn number(&mut self, inputs: &Inputs<'_>) -> Option<i64>
+    #[inline(always)]
+    pub(crate) fn number(&mut self, inputs: &IntInputs<'_>) -> Option<i64>
         ensures { GivesNumber constant.step self.old inputs.now result self.new }
     {
         let Token::Int(number) = self.value else {

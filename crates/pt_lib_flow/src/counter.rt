@@ -3,9 +3,10 @@ ghost use Rattle.pt_lib_flow.specs.Counter.{is_up, is_down, change};
 ghost use Rattle.pt_lib_flow.specs.Counter as counter;
 ghost use Rattle.pt_lib_flow.specs.Number.{GivesNumber};
 
+use crate::numbered::Numbered;
 use crate::params::Params;
 use pt_firing::{
-    Actor, Fires, Inputs, Need, OneEach, Outputs, Partial, RunFault, Step, strict_early,
+    Actor, Fires, Inputs, IntInputs, Need, OneEach, Outputs, Partial, RunFault, Step, strict_early,
 };
 use pt_time::Tag;
 use pt_value::Token;
@@ -40,20 +41,23 @@ impl Counter {
         Ok(Some(Counter::new(alloc, increments, decrements)?))
     }
 
-    fn is_up(&self, inputs: &Inputs<'_>) -> bool
-        ensures { result ≡ is_up self.now inputs.now }
+    #[inline(always)]
+    fn is_up<I: Numbered>(&self, inputs: &I) -> bool
+        ensures { result ≡ is_up self.now (I.streams inputs.now) }
     {
         self.has_increment && inputs.is_present(0)
     }
 
-    fn is_down(&self, inputs: &Inputs<'_>) -> bool
-        ensures { result ≡ is_down self.now inputs.now }
+    #[inline(always)]
+    fn is_down<I: Numbered>(&self, inputs: &I) -> bool
+        ensures { result ≡ is_down self.now (I.streams inputs.now) }
     {
         inputs.is_present(if self.has_increment { 1 } else { 0 })
     }
 
     /// Makes the firing where it gives a number. Else it makes none.
-    pub(crate) fn number(&mut self, inputs: &Inputs<'_>) -> Option<i64>
+    #[inline(always)]
+    pub(crate) fn number(&mut self, inputs: &IntInputs<'_>) -> Option<i64>
         ensures { GivesNumber counter.step self.old inputs.now result self.new }
     {
         let change = change(self.is_up(inputs), self.is_down(inputs))?;

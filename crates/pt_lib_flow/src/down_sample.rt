@@ -4,7 +4,9 @@ ghost use Rattle.pt_lib_flow.specs.DownSample as down_sample;
 
 use crate::params::Params;
 use crate::rates::{factor_and_phase, first_list};
-use pt_firing::{Actor, Counts, Fires, Inputs, Need, Outputs, Partial, Step, strict_early};
+use pt_firing::{
+    Actor, Counts, Fires, Inputs, IntInputs, Need, Outputs, Partial, Step, strict_early,
+};
 use pt_time::Tag;
 use pt_value::Token;
 use std::alloc::{AllocError, Global};
@@ -39,13 +41,11 @@ impl DownSample {
     }
 
     /// Makes the firing where it gives a number. Else it makes none.
-    pub(crate) fn number(&self, inputs: &Inputs<'_>) -> Option<i64>
+    #[inline(always)]
+    pub(crate) fn number(&self, inputs: &IntInputs<'_>) -> Option<i64>
         ensures { GivesNumber down_sample.step self.now inputs.now result self.now }
     {
-        match first_list(inputs).get(self.index) {
-            Some(Token::Int(number)) => Some(*number),
-            _ => None,
-        }
+        inputs.list(0).get(self.index).copied()
     }
 }
 

@@ -2,8 +2,11 @@ ghost use Rattle.std.specs.Prelude.{◌≡◌, IfOk};
 ghost use Rattle.pt_lib_flow.specs.Extreme.{of_two, better, extreme, start, step};
 ghost use Rattle.pt_lib_flow.specs.Number.{GivesNumber};
 
+use crate::numbered::Numbered;
 use crate::params::Params;
-use pt_firing::{Actor, Fires, Inputs, Need, OneEach, Outputs, Partial, Step, strict_early};
+use pt_firing::{
+    Actor, Fires, Inputs, IntInputs, Need, OneEach, Outputs, Partial, Step, strict_early,
+};
 use pt_time::Tag;
 use pt_value::Token;
 use std::alloc::{AllocError, Global};
@@ -38,8 +41,8 @@ impl Side {
     }
 
     /// Of the numbers that are present, if there are any.
-    fn of_places(self, inputs: &Inputs<'_>) -> Option<i64>
-        ensures { result ≡ extreme self inputs.now }
+    fn of_places<I: Numbered>(self, inputs: &I) -> Option<i64>
+        ensures { result ≡ extreme self (I.streams inputs.now) }
     {
         let mut best = None;
         for place in 0..inputs.places() {
@@ -75,7 +78,8 @@ impl Extreme {
     }
 
     /// Makes the firing where it gives a number. Else it makes none.
-    pub(crate) fn number(&self, inputs: &Inputs<'_>) -> Option<i64>
+    #[inline(always)]
+    pub(crate) fn number(&self, inputs: &IntInputs<'_>) -> Option<i64>
         ensures { GivesNumber step self.now inputs.now result self.now }
     {
         self.side.of_places(inputs)

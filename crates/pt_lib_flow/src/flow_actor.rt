@@ -22,7 +22,7 @@ use crate::sample_delay::SampleDelay;
 use crate::scale::Scale;
 use crate::sequence::Sequence;
 use crate::up_sample::UpSample;
-use pt_firing::{Actor, Fires, Inputs, Need, Partial, Step, strict_early};
+use pt_firing::{Actor, Fires, Inputs, IntInputs, Need, Partial, Step, strict_early};
 use pt_time::Tag;
 use pt_value::Token;
 use std::alloc::{AllocError, Global};
@@ -267,7 +267,8 @@ impl FlowActor {
     }
 
     /// Makes a firing that gives one integer, and nothing else. Where it makes none, `step` makes the firing.
-    pub fn number(&mut self, inputs: &Inputs<'_>) -> Option<i64>
+    #[inline(always)]
+    pub fn number(&mut self, inputs: &IntInputs<'_>) -> Option<i64>
         ensures { GivesNumber flow_actor.step self.old inputs.now result self.new }
     {
         match self {
@@ -292,7 +293,7 @@ impl FlowActor {
     }
 
     /// Makes a firing that gives integers on its one port, and nothing else. `given` has them then, in order. Where it makes none, `step` makes the firing.
-    pub fn numbers(&self, inputs: &Inputs<'_>, given: &mut Vec<i64>) -> bool
+    pub fn numbers(&self, inputs: &IntInputs<'_>, given: &mut Vec<i64>) -> bool
         ensures { GivesNumbers flow_actor.step self.now inputs.now result given.new.items self.now }
     {
         match self {

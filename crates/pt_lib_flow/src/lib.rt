@@ -16,6 +16,7 @@ mod laws;
 mod limit;
 mod multiply_divide;
 mod number;
+mod numbered;
 mod params;
 mod port_types;
 mod ramp;

@@ -1,7 +1,8 @@
 ghost use Rattle.std.specs.Prelude.{◌≡◌};
 ghost use Rattle.pt_lib_flow.specs.Limit.{limit_of, limit_in, is_over, is_endless, after_one, is_called};
 
-use pt_firing::{Inputs, Values};
+use crate::numbered::Numbered;
+use pt_firing::Values;
 
 /// How often a source may still fire.
 #[derive(Clone, Copy, Debug, PartialEq, Eq)]
@@ -57,8 +58,9 @@ impl Limit {
 }
 
 /// Whether a source has no trigger, or a token there.
-pub(crate) fn is_called(inputs: &Inputs<'_>) -> bool
-    ensures { result ≡ is_called inputs.now }
+#[inline(always)]
+pub(crate) fn is_called<I: Numbered>(inputs: &I) -> bool
+    ensures { result ≡ is_called (I.streams inputs.now) }
 {
-    inputs.places() == 0 || !inputs.list(0).is_empty()
+    inputs.places() == 0 || inputs.is_present(0)
 }

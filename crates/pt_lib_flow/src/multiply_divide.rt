@@ -5,9 +5,10 @@ ghost use Rattle.pt_lib_flow.specs.Number.{GivesNumber};
 ghost use Rattle.pt_lib_flow.specs.MultiplyDivide as multiply_divide;
 
 use crate::number::sum_between;
+use crate::numbered::Numbered;
 use crate::params::Params;
 use pt_firing::{
-    Actor, Fires, Inputs, Need, OneEach, Outputs, Partial, RunFault, Step, strict_early,
+    Actor, Fires, Inputs, IntInputs, Need, OneEach, Outputs, Partial, RunFault, Step, strict_early,
 };
 use pt_time::Tag;
 use pt_value::Token;
@@ -41,8 +42,8 @@ impl MultiplyDivide {
     }
 
     /// The result, if any number is present.
-    fn ratio(&self, inputs: &Inputs<'_>) -> Option<Result<i64, RunFault>>
-        ensures { result ≡ ratio_of self.now.multiply inputs.now }
+    fn ratio<I: Numbered>(&self, inputs: &I) -> Option<Result<i64, RunFault>>
+        ensures { result ≡ ratio_of self.now.multiply (I.streams inputs.now) }
     {
         let end = inputs.places();
         let middle = self.multiply.min(end);
@@ -53,7 +54,8 @@ impl MultiplyDivide {
     }
 
     /// Makes the firing where it gives a number. Else it makes none.
-    pub(crate) fn number(&self, inputs: &Inputs<'_>) -> Option<i64>
+    #[inline(always)]
+    pub(crate) fn number(&self, inputs: &IntInputs<'_>) -> Option<i64>
         ensures { GivesNumber multiply_divide.step self.now inputs.now result self.now }
     {
         match self.ratio(inputs) {
@@ -64,9 +66,9 @@ impl MultiplyDivide {
 }
 
 /// The product of the numbers before a place, divided by each of the others.
-fn quotient(inputs: &Inputs<'_>, middle: usize) -> Result<i64, RunFault>
-    requires { middle ≤ length inputs.now }
-    ensures { result ≡ quotient_of middle inputs.now }
+fn quotient<I: Numbered>(inputs: &I, middle: usize) -> Result<i64, RunFault>
+    requires { middle ≤ length (I.streams inputs.now) }
+    ensures { result ≡ quotient_of middle (I.streams inputs.now) }
 {
     let product = Operation::Times.of_places(inputs, 0, middle, Ok(1));
     Operation::By.of_places(inputs, middle, inputs.places(), product)
@@ -102,16 +104,16 @@ impl Operation {
     }
 
     /// The result with the numbers at the places from one on, up to before another, in order.
-    fn of_places(
+    fn of_places<I: Numbered>(
         self,
-        inputs: &Inputs<'_>,
+        inputs: &I,
         from: usize,
         to: usize,
         start: Result<i64, RunFault>,
     ) -> Result<i64, RunFault>
         requires order { from ≤ to }
-        requires within { to ≤ length inputs.now }
-        ensures { result ≡ after_all self start (present (drop from (take to inputs.now))) }
+        requires within { to ≤ length (I.streams inputs.now) }
+        ensures { result ≡ after_all self start (present (drop from (take to (I.streams inputs.now)))) }
     {
         let mut partial = start;
         for place in from..to {

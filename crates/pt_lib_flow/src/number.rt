@@ -3,7 +3,7 @@ ghost use Rattle.std.specs.Int.{w128};
 ghost use Rattle.pt_meaning.specs.Node.{is_none};
 ghost use Rattle.pt_lib_flow.specs.Row.{with_number, present, total};
 
-use pt_firing::Inputs;
+use crate::numbered::Numbered;
 
 /// The sum of some numbers, and whether there are none.
 #[derive(Clone, Copy, Debug)]
@@ -44,11 +44,11 @@ impl Sum {
 }
 
 /// The sum of the numbers at the places from one on, up to before another.
-pub(crate) fn sum_between(inputs: &Inputs<'_>, from: usize, to: usize) -> Sum
+pub(crate) fn sum_between<I: Numbered>(inputs: &I, from: usize, to: usize) -> Sum
     requires order { from ≤ to }
-    requires within { to ≤ length inputs.now }
-    ensures number { result.number ≡ total (present (drop from (take to inputs.now))) }
-    ensures empty { result.is_empty ≡ is_none (present (drop from (take to inputs.now))) }
+    requires within { to ≤ length (I.streams inputs.now) }
+    ensures number { result.number ≡ total (present (drop from (take to (I.streams inputs.now)))) }
+    ensures empty { result.is_empty ≡ is_none (present (drop from (take to (I.streams inputs.now)))) }
     ensures low { neg_ℤ (pos ((to - from) * 2 ^ 63)) ≤ℤ result.number }
     ensures high { result.number ≤ℤ pos ((to - from) * 2 ^ 63) }
 {

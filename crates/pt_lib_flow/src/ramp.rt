@@ -6,7 +6,7 @@ ghost use Rattle.pt_lib_flow.specs.Ramp as ramp;
 use crate::limit::{Limit, is_called};
 use crate::params::Params;
 use pt_firing::{
-    Actor, Fires, Inputs, Need, OneEach, Outputs, Partial, RunFault, Step, strict_early,
+    Actor, Fires, Inputs, IntInputs, Need, OneEach, Outputs, Partial, RunFault, Step, strict_early,
 };
 use pt_time::Tag;
 use pt_value::Token;
@@ -69,7 +69,8 @@ impl Ramp {
     }
 
     /// Makes the firing where it gives a number. Else it makes none.
-    pub(crate) fn number(&mut self, inputs: &Inputs<'_>) -> Option<i64>
+    #[inline(always)]
+    pub(crate) fn number(&mut self, inputs: &IntInputs<'_>) -> Option<i64>
         ensures { GivesNumber ramp.step self.old inputs.now result self.new }
     {
         if self.limit.is_over() || !is_called(inputs) {

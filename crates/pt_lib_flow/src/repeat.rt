@@ -1,4 +1,4 @@
-ghost use Rattle.std.specs.Prelude.{◌≡◌, [], ◌∷◌, ◌++◌, map, true, IfOk};
+ghost use Rattle.std.specs.Prelude.{◌≡◌, [], ◌∷◌, map, IfOk, OnOk};
 ghost use Rattle.pt_value.specs.declared.token.Token.TheVariants.{Int};
 ghost use Rattle.pt_lib_flow.specs.Number.{GivesNumbers};
 ghost use Rattle.pt_lib_flow.specs.Rates.{IsCount, repeated};
@@ -6,7 +6,9 @@ ghost use Rattle.pt_lib_flow.specs.Repeat as repeat;
 
 use crate::params::Params;
 use crate::rates::{first_list, push_copies, times_and_size};
-use pt_firing::{Actor, Counts, Fires, Inputs, Need, Outputs, Partial, Step, Tokens, strict_early};
+use pt_firing::{
+    Actor, Counts, Fires, Inputs, IntInputs, Need, Outputs, Partial, Step, Tokens, strict_early,
+};
 use pt_time::Tag;
 use pt_value::Token;
 use std::alloc::{AllocError, Global};
@@ -50,40 +52,23 @@ impl Repeat {
     }
 
     /// Makes the firing where it gives numbers, and puts them into the buffer. Else it makes none.
-    pub(crate) fn numbers(&self, inputs: &Inputs<'_>, given: &mut Vec<i64>) -> bool
+    pub(crate) fn numbers(&self, inputs: &IntInputs<'_>, given: &mut Vec<i64>) -> bool
         ensures { GivesNumbers repeat.step self.now inputs.now result given.new.items self.now }
     {
         given.clear();
-        put_repeated(given, self.times, first_list(inputs))
+        put_repeated(given, self.times, inputs.list(0)).is_ok()
     }
 }
 
-/// Puts copies of a block into an empty buffer, where its tokens are numbers and there is memory for them.
-fn put_repeated(given: &mut Vec<i64>, times: usize, block: &[Token]) -> bool
+/// Puts copies of a block into an empty buffer.
+fn put_repeated(given: &mut Vec<i64>, times: usize, block: &[i64]) -> Result<(), AllocError>
     requires { given.old.items ≡ [] }
-    ensures { result ≡ true → map Int given.new.items ≡ repeated times block.now }
+    ensures { OnOk result (map Int given.new.items ≡ repeated times (map Int block.now)) }
 {
     for _ in 0..times {
-        if !put_numbers(given, block) {
-            return false;
-        }
+        given.extend_from_slice(block)?;
     }
-    true
-}
-
-/// Puts tokens behind some numbers, where they are numbers and there is memory for them.
-fn put_numbers(given: &mut Vec<i64>, tokens: &[Token]) -> bool
-    ensures { result ≡ true → map Int given.new.items ≡ map Int given.old.items ++ tokens.now }
-{
-    for token in tokens {
-        let Token::Int(number) = token else {
-            return false;
-        };
-        if given.push(*number).is_err() {
-            return false;
-        }
-    }
-    true
+    Ok(())
 }
 
 /// Copies of a block, one behind the other.

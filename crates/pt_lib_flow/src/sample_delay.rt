@@ -5,7 +5,7 @@ ghost use Rattle.pt_lib_flow.specs.SampleDelay as sample_delay;
 
 use crate::params::Params;
 use pt_firing::{
-    Actor, Fires, Inputs, Need, OneEach, Outputs, Partial, Step, Tokens, strict_early,
+    Actor, Fires, Inputs, IntInputs, Need, OneEach, Outputs, Partial, Step, Tokens, strict_early,
 };
 use pt_time::Tag;
 use pt_value::Token;
@@ -39,7 +39,8 @@ impl SampleDelay {
     }
 
     /// Makes the firing where it gives a number. Else it makes none.
-    pub(crate) fn number(&self, inputs: &Inputs<'_>) -> Option<i64>
+    #[inline(always)]
+    pub(crate) fn number(&self, inputs: &IntInputs<'_>) -> Option<i64>
         ensures { GivesNumber sample_delay.step self.now inputs.now result self.now }
     {
         inputs.number_at(0)

@@ -5,7 +5,9 @@ ghost use Rattle.pt_lib_flow.specs.Sequence as sequence;
 
 use crate::limit::is_called;
 use crate::params::Params;
-use pt_firing::{Actor, Fires, Inputs, Need, OneEach, Outputs, Partial, Step, strict_early};
+use pt_firing::{
+    Actor, Fires, Inputs, IntInputs, Need, OneEach, Outputs, Partial, Step, strict_early,
+};
 use pt_time::Tag;
 use pt_value::{Items, Token};
 use std::alloc::{AllocError, Global};
@@ -76,7 +78,8 @@ impl Sequence {
     }
 
     /// Makes the firing where it gives a number. Else it makes none.
-    pub(crate) fn number(&mut self, inputs: &Inputs<'_>) -> Option<i64>
+    #[inline(always)]
+    pub(crate) fn number(&mut self, inputs: &IntInputs<'_>) -> Option<i64>
         ensures { GivesNumber sequence.step self.old inputs.now result self.new }
     {
         let Some(Token::Int(number)) = self.values.get(self.index) else {

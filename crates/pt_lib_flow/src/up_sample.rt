@@ -1,4 +1,4 @@
-ghost use Rattle.std.specs.Prelude.{◌≡◌, ◌-◌, ◌++◌, [], map, IfOk, OnOk};
+ghost use Rattle.std.specs.Prelude.{◌≡◌, ◌-◌, ◌++◌, [], map, IfOk, IfSome, OnOk};
 ghost use Rattle.pt_value.specs.declared.token.Token.TheVariants.{Int};
 ghost use Rattle.pt_lib_flow.specs.Number.{GivesNumbers};
 ghost use Rattle.pt_lib_flow.specs.Rates.{IsCount};
@@ -8,7 +8,7 @@ ghost use Rattle.pt_lib_flow.specs.UpSample as up_sample;
 use crate::params::Params;
 use crate::rates::factor_and_phase;
 use pt_firing::{
-    Actor, Fires, Inputs, Need, OneEach, Outputs, Partial, Step, Tokens, strict_early,
+    Actor, Fires, Inputs, IntInputs, Need, OneEach, Outputs, Partial, Step, Tokens, strict_early,
 };
 use pt_time::Tag;
 use pt_value::Token;
@@ -53,39 +53,26 @@ impl UpSample {
     }
 
     /// Makes the firing where it gives numbers, and puts them into the buffer. Else it makes none.
-    pub(crate) fn numbers(&self, inputs: &Inputs<'_>, given: &mut Vec<i64>) -> bool
+    pub(crate) fn numbers(&self, inputs: &IntInputs<'_>, given: &mut Vec<i64>) -> bool
         ensures { GivesNumbers up_sample.step self.now inputs.now result given.new.items self.now }
     {
         given.clear();
         match inputs.number_at(0) {
-            Some(input) => put_among_zeros(given, self.before, input, self.after).is_ok(),
+            Some(input) => put_among_zeros(given, self.before, input, self.after).is_some(),
             None => false,
         }
     }
 }
 
 /// Puts a number with so many zeros before it and after it into an empty buffer.
-fn put_among_zeros(
-    given: &mut Vec<i64>,
-    before: usize,
-    number: i64,
-    after: usize,
-) -> Result<(), AllocError>
+fn put_among_zeros(given: &mut Vec<i64>, before: usize, number: i64, after: usize) -> Option<()>
     requires { given.old.items ≡ [] }
-    ensures { OnOk result (map Int given.new.items ≡ among_zeros before number after) }
+    ensures { IfSome result (λ _. map Int given.new.items ≡ among_zeros before number after) }
 {
-    put_zeros(given, before)?;
-    given.push(number)?;
-    put_zeros(given, after)
-}
-
-fn put_zeros(given: &mut Vec<i64>, count: usize) -> Result<(), AllocError>
-    ensures { OnOk result (map Int given.new.items ≡ map Int given.old.items ++ zeros count) }
-{
-    for _ in 0..count {
-        given.push(0)?;
-    }
-    Ok(())
+    let count = before.checked_add(1)?.checked_add(after)?;
+    given.resize(count, 0).ok()?;
+    given[before] = number;
+    Some(())
 }
 
 /// A number with so many zeros before it and after it.

@@ -5,7 +5,7 @@ ghost use Rattle.pt_lib_flow.specs.Number.{GivesNumber, GivesNumbers};
 ghost use Rattle.pt_library.specs.LibraryActor as library;
 ghost use Rattle.pt_library.specs.Laws.{IsRatedActor};
 
-use pt_firing::{Actor, Counts, Fires, Inputs, Need, Partial, Step};
+use pt_firing::{Actor, Counts, Fires, Inputs, IntInputs, Need, Partial, Step};
 use pt_lib_data::DataActor;
 use pt_lib_flow::{FlowActor, Params};
 use pt_time::Tag;
@@ -73,7 +73,8 @@ impl LibraryActor {
     }
 
     /// Makes a firing that gives one integer, and nothing else. Where it makes none, `step` makes the firing.
-    pub fn number(&mut self, inputs: &Inputs<'_>) -> Option<i64>
+    #[inline(always)]
+    pub fn number(&mut self, inputs: &IntInputs<'_>) -> Option<i64>
         ensures { GivesNumber library.step self.old inputs.now result self.new }
     {
         match self {
@@ -83,7 +84,8 @@ impl LibraryActor {
     }
 
     /// Makes a firing that gives integers on its one port, and nothing else. `given` has them then, in order. Where it makes none, `step` makes the firing.
-    pub fn numbers(&self, inputs: &Inputs<'_>, given: &mut Vec<i64>) -> bool
+    #[inline(always)]
+    pub fn numbers(&self, inputs: &IntInputs<'_>, given: &mut Vec<i64>) -> bool
         ensures { GivesNumbers library.step self.now inputs.now result given.new.items self.now }
     {
         match self {

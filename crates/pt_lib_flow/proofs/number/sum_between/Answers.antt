@@ -6,16 +6,16 @@ use Rattle.pt_lib_flow.proofs.Places.{total-more, none-more, nothing-between}
 use Rattle.pt_lib_flow.proofs.number.sum_between.Goals as goal
 
 pub loop-place-init : goal.loop-place-init
-loop-place-init c = record {
-  number = sym (ap (λ Y. total (present Y)) (nothing-between c.args.inputs.now c.args.from));
-  empty = sym (ap (λ Y. is_none (present Y)) (nothing-between c.args.inputs.now c.args.from));
+loop-place-init g c = record {
+  number = sym (ap (λ Y. total (present Y)) (nothing-between (g.I.Numbered.streams c.args.inputs.now) c.args.from));
+  empty = sym (ap (λ Y. is_none (present Y)) (nothing-between (g.I.Numbered.streams c.args.inputs.now) c.args.from));
   low = omega (arith, ints);
   high = omega (arith, ints);
 }
 
 pub loop-place-preserved : goal.loop-place-preserved
-loop-place-preserved c =
-    let X = c.args.inputs.now in
+loop-place-preserved g c =
+    let X = g.I.Numbered.streams c.args.inputs.now in
     let inv = c.loop-place.invariant in
     let order : c.args.from ≤ c.loop-place.place = omega arith in
     let short : c.loop-place.place < length X = omega arith in

@@ -4,4 +4,4 @@ use Rattle.pt_lib_flow.specs.Rates.{repeated}
 use Rattle.pt_lib_flow.proofs.repeat.put_repeated.Given as goal
 
 abbrev pub invariant-loop : goal.invariant-loop
-invariant-loop l = map Int l.given.items ≡ repeated l.counter l.block
+invariant-loop l = map Int l.given.items ≡ repeated l.counter (map Int l.block)

@@ -6,8 +6,8 @@ use Rattle.pt_lib_flow.proofs.Extremes.{best-next}
 use Rattle.pt_lib_flow.proofs.extreme.Side.of_places.Goals as goal
 
 pub loop-place-preserved : goal.loop-place-preserved
-loop-place-preserved c =
-    let X = c.args.inputs.now in
+loop-place-preserved g c =
+    let X = g.I.Numbered.streams c.args.inputs.now in
     let n = c.loop-place.place in
     let rest = present (drop (n + 1) X) in
     let short : n < length X = omega arith in
@@ -15,7 +15,7 @@ loop-place-preserved c =
 
 pub returns : goal.returns
 unfolding best_of
-returns c =
-    let X = c.args.inputs.now in
+returns g c =
+    let X = g.I.Numbered.streams c.args.inputs.now in
     let ends : c.loop-place.place ≡ length X = omega arith in
     sym (ap (λ n. best_of c.args.self c.loop-place.best (present (drop n X))) ends ∙ ap (λ Y. best_of c.args.self c.loop-place.best (present Y)) (nothing-left X)) ∙ c.loop-place.invariant

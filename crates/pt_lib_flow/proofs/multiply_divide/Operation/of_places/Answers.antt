@@ -6,8 +6,8 @@ use Rattle.pt_lib_flow.proofs.Quotients.{after-next}
 use Rattle.pt_lib_flow.proofs.multiply_divide.Operation.of_places.Goals as goal
 
 pub loop-place-preserved : goal.loop-place-preserved
-loop-place-preserved c =
-    let X = c.args.inputs.now in
+loop-place-preserved g c =
+    let X = g.I.Numbered.streams c.args.inputs.now in
     let n = c.loop-place.place in
     let to = c.args.to in
     let op = c.args.self in
@@ -17,8 +17,8 @@ loop-place-preserved c =
 
 pub returns : goal.returns
 unfolding after_all
-returns c =
-    let X = c.args.inputs.now in
+returns g c =
+    let X = g.I.Numbered.streams c.args.inputs.now in
     let to = c.args.to in
     let ends : c.loop-place.place ≡ to = omega (arith, c.requires.order) in
     sym (ap (λ n. after_all c.args.self c.loop-place.partial (present (drop n (take to X)))) ends ∙ ap (λ Y. after_all c.args.self c.loop-place.partial (present Y)) (nothing-below X to)) ∙ c.loop-place.invariant

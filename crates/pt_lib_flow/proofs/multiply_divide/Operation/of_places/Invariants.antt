@@ -4,4 +4,4 @@ use Rattle.pt_lib_flow.specs.MultiplyDivide.{after_all}
 use Rattle.pt_lib_flow.proofs.multiply_divide.Operation.of_places.Given as goal
 
 abbrev pub invariant-loop-place : goal.invariant-loop-place
-invariant-loop-place l = after_all l.self l.partial (present (drop l.place (take l.to l.inputs))) ≡ after_all l.self l.fn.start (present (drop l.from (take l.to l.inputs)))
+invariant-loop-place g l = after_all l.self l.partial (present (drop l.place (take l.to (g.I.Numbered.streams l.inputs)))) ≡ after_all l.self l.fn.start (present (drop l.from (take l.to (g.I.Numbered.streams l.inputs))))
