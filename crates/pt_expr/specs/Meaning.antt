@@ -40,6 +40,10 @@ abbrev pub truth : Value → Outcome Truth
 truth (Bool b) = Gives b
 truth _ = Wrong
 
+-- the truth value itself
+abbrev pub as_truth : Value → Outcome Value
+as_truth v = and_then (truth v) (λ b. Gives (Bool b))
+
 abbrev pub negated : Value → Outcome Value
 negated = of_int (λ n. exact (neg_ℤ n))
 

@@ -1,10 +1,11 @@
 ghost use Rattle.std.specs.Prelude.{◌≡◌, ◌⊎◌, IfOk, IfErr, map};
 ghost use Rattle.pt_value.specs.Token.{value_of, entry_of_pair};
 ghost use Rattle.pt_expr.specs.declared.fault.EvalFault.TheVariants.{Memory};
-ghost use Rattle.pt_expr.specs.Outcome.{Gives, Stops, Wrong};
+ghost use Rattle.pt_expr.specs.Outcome.{Gives, Stops, Wrong, and_then};
 ghost use Rattle.pt_expr.specs.Env.{scope_of};
 ghost use Rattle.pt_expr.specs.Expr.{tree_of, trees_in};
 ghost use Rattle.pt_expr.specs.Tree.{trees_of};
+ghost use Rattle.pt_expr.specs.Meaning as meaning;
 ghost use Rattle.pt_expr.specs.Meaning.{value, values};
 
 use crate::env::Env;
@@ -35,24 +36,7 @@ pub fn eval(alloc: Global, expr: &Expr, env: &Env) -> Result<Token, EvalFault>
         Expr::Record(fields) => record_of(alloc, fields.eval(alloc, env)?),
         Expr::Negate(e) => negated(eval(alloc, e, env)?),
         Expr::Not(e) => denied(eval(alloc, e, env)?),
-        Expr::Binary(BinaryOp::Or, a, b) => {
-            if truth(eval(alloc, a, env)?) {
-                Ok(Token::Bool(true))
-            } else {
-                Ok(Token::Bool(truth(eval(alloc, b, env)?)))
-            }
-        }
-        Expr::Binary(BinaryOp::And, a, b) => {
-            if truth(eval(alloc, a, env)?) {
-                Ok(Token::Bool(truth(eval(alloc, b, env)?)))
-            } else {
-                Ok(Token::Bool(false))
-            }
-        }
-        Expr::Binary(op, a, b) => {
-            let first = eval(alloc, a, env)?;
-            applied(alloc, *op, first, eval(alloc, b, env)?)
-        }
+        Expr::Binary(op, a, b) => operated(alloc, *op, b, env, eval(alloc, a, env)?),
         Expr::Cond(test, a, b) => {
             if truth(eval(alloc, test, env)?) {
                 eval(alloc, a, env)
@@ -62,18 +46,84 @@ pub fn eval(alloc: Global, expr: &Expr, env: &Env) -> Result<Token, EvalFault>
         }
         Expr::Abs(e) => magnitude(eval(alloc, e, env)?),
         Expr::Max(a, b) => {
-            let first = eval(alloc, a, env)?;
-            Ok(greatest(first, eval(alloc, b, env)?))
+            let (a, b) = operands(alloc, b, env, eval(alloc, a, env)?)?;
+            Ok(greatest(a, b))
         }
         Expr::Min(a, b) => {
-            let first = eval(alloc, a, env)?;
-            Ok(least(first, eval(alloc, b, env)?))
+            let (a, b) = operands(alloc, b, env, eval(alloc, a, env)?)?;
+            Ok(least(a, b))
         }
         Expr::Apply(array, index) => {
-            let array = eval(alloc, array, env)?;
-            element(array, eval(alloc, index, env)?)
+            let (array, index) = operands(alloc, index, env, eval(alloc, array, env)?)?;
+            element(array, index)
         }
         Expr::Field(e, name) => field(alloc, eval(alloc, e, env)?, name.as_str()),
         Expr::Length(e) => length_of(eval(alloc, e, env)?),
+    }
+}
+
+/// What an operator makes of its first operand and of the later one, which counts only where the first doesn't decide.
+#[cycle(evaluates)]
+fn operated(
+    alloc: Global,
+    op: BinaryOp,
+    later: &Expr,
+    env: &Env,
+    first: Token,
+) -> Result<Token, EvalFault>
+    requires right { ¬ (meaning.operated op (Gives (value_of first)) (value (scope_of env.now) (tree_of later.now)) ≡ Wrong) }
+    ensures ok { IfOk result (λ t. meaning.operated op (Gives (value_of first)) (value (scope_of env.now) (tree_of later.now)) ≡ Gives (value_of t)) }
+    ensures err { IfErr result (λ fault. (fault ≡ Memory) ⊎ (meaning.operated op (Gives (value_of first)) (value (scope_of env.now) (tree_of later.now)) ≡ Stops fault)) }
+{
+    match op {
+        BinaryOp::Or => {
+            if truth(first) {
+                Ok(Token::Bool(true))
+            } else {
+                truth_of(alloc, later, env)
+            }
+        }
+        BinaryOp::And => {
+            if truth(first) {
+                truth_of(alloc, later, env)
+            } else {
+                Ok(Token::Bool(false))
+            }
+        }
+        _ => {
+            let (first, second) = operands(alloc, later, env, first)?;
+            applied(alloc, op, first, second)
+        }
+    }
+}
+
+/// The truth value that an operand comes to.
+#[cycle(evaluates)]
+fn truth_of(alloc: Global, operand: &Expr, env: &Env) -> Result<Token, EvalFault>
+    requires right { ¬ (and_then (value (scope_of env.now) (tree_of operand.now)) meaning.as_truth ≡ Wrong) }
+    ensures ok { IfOk result (λ t. and_then (value (scope_of env.now) (tree_of operand.now)) meaning.as_truth ≡ Gives (value_of t)) }
+    ensures err { IfErr result (λ fault. (fault ≡ Memory) ⊎ (and_then (value (scope_of env.now) (tree_of operand.now)) meaning.as_truth ≡ Stops fault)) }
+{
+    Ok(Token::Bool(truth(eval(alloc, operand, env)?)))
+}
+
+/// The first operand and what the later one comes to.
+#[cycle(evaluates)]
+fn operands(
+    alloc: Global,
+    later: &Expr,
+    env: &Env,
+    first: Token,
+) -> Result<(Token, Token), EvalFault>
+    requires right { ¬ (value (scope_of env.now) (tree_of later.now) ≡ Wrong) }
+    ensures ok { IfOk result (λ both. (value_of both.0 ≡ value_of first) × (value (scope_of env.now) (tree_of later.now) ≡ Gives (value_of both.1))) }
+    ensures err { IfErr result (λ fault. (fault ≡ Memory) ⊎ (value (scope_of env.now) (tree_of later.now) ≡ Stops fault)) }
+{
+    match eval(alloc, later, env) {
+        Ok(second) => Ok((first, second)),
+        Err(fault) => {
+            drop(first);
+            Err(fault)
+        }
     }
 }

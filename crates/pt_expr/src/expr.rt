@@ -67,12 +67,12 @@ impl Expr {
         match self {
             Expr::Int(n) => Ok(Expr::Int(*n)),
             Expr::Bool(b) => Ok(Expr::Bool(*b)),
-            Expr::Words(text) => Ok(Expr::Words(text.copy(alloc)?)),
-            Expr::Name(name) => Ok(Expr::Name(name.copy(alloc)?)),
-            Expr::List(parts) => Ok(Expr::List(parts.copy(alloc)?)),
-            Expr::Record(fields) => Ok(Expr::Record(fields.copy(alloc)?)),
-            Expr::Negate(e) => Ok(Expr::Negate(e.boxed_copy(alloc)?)),
-            Expr::Not(e) => Ok(Expr::Not(e.boxed_copy(alloc)?)),
+            Expr::Words(text) => text.copy(alloc).map(Expr::Words),
+            Expr::Name(name) => name.copy(alloc).map(Expr::Name),
+            Expr::List(parts) => parts.copy(alloc).map(Expr::List),
+            Expr::Record(fields) => fields.copy(alloc).map(Expr::Record),
+            Expr::Negate(e) => e.boxed_copy(alloc).map(Expr::Negate),
+            Expr::Not(e) => e.boxed_copy(alloc).map(Expr::Not),
             Expr::Binary(op, a, b) => Ok(Expr::Binary(
                 *op,
                 a.boxed_copy(alloc)?,
@@ -83,12 +83,12 @@ impl Expr {
                 yes.boxed_copy(alloc)?,
                 no.boxed_copy(alloc)?,
             )),
-            Expr::Abs(e) => Ok(Expr::Abs(e.boxed_copy(alloc)?)),
+            Expr::Abs(e) => e.boxed_copy(alloc).map(Expr::Abs),
             Expr::Max(a, b) => Ok(Expr::Max(a.boxed_copy(alloc)?, b.boxed_copy(alloc)?)),
             Expr::Min(a, b) => Ok(Expr::Min(a.boxed_copy(alloc)?, b.boxed_copy(alloc)?)),
             Expr::Apply(a, b) => Ok(Expr::Apply(a.boxed_copy(alloc)?, b.boxed_copy(alloc)?)),
             Expr::Field(e, name) => Ok(Expr::Field(e.boxed_copy(alloc)?, name.copy(alloc)?)),
-            Expr::Length(e) => Ok(Expr::Length(e.boxed_copy(alloc)?)),
+            Expr::Length(e) => e.boxed_copy(alloc).map(Expr::Length),
         }
     }
 

@@ -11,6 +11,7 @@ pub mod Nests
 pub mod Entities
 pub mod TypeWords
 pub mod Chains
+pub mod Stages
 pub mod ItemLists
 pub mod FieldLaws
 pub mod ObjectLaws

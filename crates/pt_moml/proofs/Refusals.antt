@@ -14,3 +14,8 @@ fails Y (faults.Refused r) code path told = ap Err (sym told)
 pub bind_same : {A B : Type 0} (read : Result A Refusal) (f g : A → Result B Refusal) → ((a : A) → f a ≡ g a) → (read >>= f) ≡ (read >>= g)
 bind_same (Ok a) f g same = same a
 bind_same (Err r) f g same = refl
+
+-- a chain whose end goes on
+pub bind_on : {A B C : Type 0} (read : Result A Refusal) (f : A → Result B Refusal) (k : B → Result C Refusal) (g : A → Result C Refusal) → ((a : A) → g a ≡ (f a >>= k)) → (read >>= g) ≡ ((read >>= f) >>= k)
+bind_on (Ok a) f k g same = same a
+bind_on (Err r) f k g same = refl

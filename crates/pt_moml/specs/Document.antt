@@ -25,6 +25,10 @@ abbrev pub property_list : PropertyTrees → List PropertyTree
 property_list no_properties = []
 property_list (one_property p ps) = p ∷ property_list ps
 
+-- the property with these properties in it
+abbrev pub filled : PropertyTree → List PropertyTree → PropertyTree
+filled (property name value class inner) ps = property name value class (to_properties ps)
+
 abbrev pub property_name : PropertyTree → List ℕ
 property_name (property name value class inner) = name
 
@@ -55,6 +59,13 @@ pub record TransitionTree : Type 0 where
   pub output : List OutputAction
   pub set : List SetAction
 
+-- how a transition is taken and what it does
+pub record Effect : Type 0 where
+  pub preemptive : Bool
+  pub history : Bool
+  pub output : List OutputAction
+  pub set : List SetAction
+
 -- what an entity has beside its entities
 pub record Parts : Type 0 where
   pub name : List ℕ
@@ -63,6 +74,18 @@ pub record Parts : Type 0 where
   pub ports : List PortTree
   pub relations : List Relation
   pub links : List Link
+  pub states : List State
+  pub initial : Option (List ℕ)
+  pub transitions : List TransitionTree
+
+-- the ports of an entity and what joins those of its entities
+pub record Wiring : Type 0 where
+  pub ports : List PortTree
+  pub relations : List Relation
+  pub links : List Link
+
+-- the states and transitions of a Modal entity
+pub record Machine : Type 0 where
   pub states : List State
   pub initial : Option (List ℕ)
   pub transitions : List TransitionTree
@@ -101,6 +124,11 @@ pub data SupplyTree : Type 0 where
 pub record InputTree : Type 0 where
   pub port : List ℕ
   pub supply : SupplyTree
+
+-- what comes to a model, and what is recorded of it
+pub record Surroundings : Type 0 where
+  pub inputs : List InputTree
+  pub records : List (List ℕ)
 
 -- a whole job
 pub record JobTree : Type 0 where

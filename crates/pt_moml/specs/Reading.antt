@@ -15,10 +15,11 @@ use Rattle.pt_moml.specs.declared.job.State.{State}
 use Rattle.pt_moml.specs.declared.job.OutputAction.{OutputAction}
 use Rattle.pt_moml.specs.declared.job.SetAction.{SetAction}
 use Rattle.pt_moml.specs.declared.job.Event.{Event}
+use Rattle.pt_moml.specs.declared.parts.Way.{Way}
 use Rattle.pt_moml.specs.declared.refusal.Refusal.{Refusal}
 use Rattle.pt_moml.specs.declared.refusal.DocFault.{DocFault}
 use Rattle.pt_moml.specs.declared.refusal.DocFault.TheVariants as faults
-use Rattle.pt_moml.specs.Document.{PropertyTree, property, to_properties, property_name, PortTree, TransitionTree, Parts, EntityTree, entity, to_entities, entity_name, tokens, events, InputTree, JobTree}
+use Rattle.pt_moml.specs.Document.{PropertyTree, property, to_properties, property_name, PortTree, TransitionTree, Effect, Parts, Wiring, Machine, EntityTree, entity, to_entities, entity_name, tokens, events, InputTree, Surroundings, JobTree}
 use Rattle.pt_moml.specs.Classes.{Kind, Modal, kind_of}
 use Rattle.pt_moml.specs.Outcome.{◌>>=◌, refused}
 use Rattle.pt_moml.specs.Names.{top_path, below}
@@ -91,6 +92,13 @@ unfoldable pub declared_at : List ℕ → Option Data → Result (Option (List �
 declared_at path None = Ok None
 declared_at path (Some d) = text_at path d >>= λ s. if is_type_text s then Ok (Some s) else refused Shape path
 
+-- the direction that the fields of a port say
+unfoldable pub facing_at : List ℕ → Data → Result Direction Refusal
+facing_at path d = do
+  input ← optional_truth path (get (codes "input") d)
+  output ← optional_truth path (get (codes "output") d)
+  direction_at path input output
+
 unfoldable pub port_at : List ℕ → Data → Result PortTree Refusal
 port_at path d = do
   _ ← listed path port_fields d
@@ -153,6 +161,21 @@ set_at path d = do
 abbrev pub transition_fields : List (List ℕ)
 transition_fields = codes "from" ∷ codes "to" ∷ codes "guard" ∷ codes "preemptive" ∷ codes "history" ∷ codes "output" ∷ codes "set" ∷ []
 
+unfoldable pub way_at : List ℕ → Data → Result Way Refusal
+way_at path d = do
+  from ← required_text path (get (codes "from") d)
+  to ← required_text path (get (codes "to") d)
+  guard ← required_text path (get (codes "guard") d)
+  Ok (record { from = from; to = to; guard = guard })
+
+unfoldable pub effect_at : List ℕ → Data → Result Effect Refusal
+effect_at path d = do
+  preemptive ← optional_truth path (get (codes "preemptive") d)
+  history ← required_truth path (get (codes "history") d)
+  output ← optional_list output_at path (get (codes "output") d)
+  set ← optional_list set_at path (get (codes "set") d)
+  Ok (record { preemptive = preemptive; history = history; output = output; set = set })
+
 unfoldable pub transition_at : List ℕ → Data → Result TransitionTree Refusal
 transition_at path d = do
   _ ← listed path transition_fields d
@@ -195,6 +218,20 @@ unfoldable pub initial_field : List ℕ → Kind → Option Data → Result (Opt
 initial_field here Modal field = required_text here field >>= λ s. Ok (Some s)
 initial_field here _ field = Ok None
 
+unfoldable pub wiring_at : List ℕ → Data → Result Wiring Refusal
+wiring_at here d = do
+  ports ← ports_field here (get (codes "ports") d)
+  relations ← relations_field here (get (codes "relations") d)
+  links ← optional_list link_at here (get (codes "links") d)
+  Ok (record { ports = ports; relations = relations; links = links })
+
+unfoldable pub machine_at : List ℕ → Kind → Data → Result Machine Refusal
+machine_at here kind d = do
+  states ← states_field here kind (get (codes "states") d)
+  initial ← initial_field here kind (get (codes "initial") d)
+  transitions ← optional_list transition_at here (get (codes "transitions") d)
+  Ok (record { states = states; initial = initial; transitions = transitions })
+
 -- what an entity has beside its entities
 unfoldable pub parts_at : (here name class : List ℕ) → Kind → Data → Result Parts Refusal
 parts_at here name class kind d = do
@@ -207,6 +244,15 @@ parts_at here name class kind d = do
   initial ← initial_field here kind (get (codes "initial") d)
   transitions ← optional_list transition_at here (get (codes "transitions") d)
   Ok (record { name = name; class = class; properties = properties; ports = ports; relations = relations; links = links; states = states; initial = initial; transitions = transitions })
+
+-- the same, of the kind that the entity's class says and as that kind wants it
+unfoldable pub own_at : (here name : List ℕ) → Data → Result Parts Refusal
+own_at here name d = do
+  class ← required_text here (get (codes "class") d)
+  kind ← kind_at here class
+  own ← parts_at here name class kind d
+  _ ← parts_fit here kind own.properties own.ports
+  Ok own
 
 -- one entity, given its name and what its entities read as
 unfoldable pub entity_from : (here name : List ℕ) → Data → Result (List EntityTree) Refusal → Result EntityTree Refusal
@@ -300,6 +346,12 @@ model_at (Some d) = do
 
 abbrev pub job_fields : List (List ℕ)
 job_fields = codes "version" ∷ codes "model" ∷ codes "inputs" ∷ codes "record" ∷ []
+
+unfoldable pub surroundings_at : Data → Result Surroundings Refusal
+surroundings_at d = do
+  inputs ← optional_list input_at top_path (get (codes "inputs") d)
+  records ← optional_list text_at top_path (get (codes "record") d)
+  Ok (record { inputs = inputs; records = records })
 
 unfoldable pub job_of : Data → Result JobTree Refusal
 job_of d = do

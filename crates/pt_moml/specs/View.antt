@@ -1,6 +1,6 @@
 -- The document that a value of the program stands for.
 use Rattle.std.specs.Prelude.{List, map}
-use Rattle.pt_moml.specs.Document.{PropertyTree, property, to_properties, PortTree, TransitionTree, Parts, EntityTree, entity, to_entities, SupplyTree, tokens, events, InputTree, JobTree}
+use Rattle.pt_moml.specs.Document.{PropertyTree, property, to_properties, PortTree, TransitionTree, Effect, Parts, Wiring, Machine, EntityTree, entity, to_entities, SupplyTree, tokens, events, InputTree, Surroundings, JobTree}
 use Rattle.pt_moml.specs.declared.job.Property.{Property, fold-Property}
 use Rattle.pt_moml.specs.declared.job.Property.TheOpen.{Property-F}
 use Rattle.pt_moml.specs.declared.job.Port.{Port}
@@ -8,6 +8,10 @@ use Rattle.pt_moml.specs.declared.job.Transition.{Transition}
 use Rattle.pt_moml.specs.declared.job.Entity.{Entity, fold-Entity}
 use Rattle.pt_moml.specs.declared.job.Entity.TheOpen.{Entity-F}
 use Rattle.pt_moml.specs.declared.entity.Own.{Own}
+use Rattle.pt_moml.specs.declared.entity.Wiring.{Wiring as Wired}
+use Rattle.pt_moml.specs.declared.entity.Machine.{Machine as Run}
+use Rattle.pt_moml.specs.declared.parts.Effect.{Effect as Done}
+use Rattle.pt_moml.specs.declared.document.Surroundings.{Surroundings as Around}
 use Rattle.pt_moml.specs.declared.job.Supply.{Supply}
 use Rattle.pt_moml.specs.declared.job.Supply.TheVariants.{Tokens, Events}
 use Rattle.pt_moml.specs.declared.job.Input.{Input}
@@ -51,7 +55,19 @@ input_view i = record { port = i.port; supply = supply_view i.supply }
 abbrev pub job_view : Job → JobTree
 job_view j = record { model = entity_view j.model; inputs = map input_view j.inputs.items; records = j.records.items }
 
+abbrev pub wiring_view : Wired → Wiring
+wiring_view w = record { ports = map port_view w.ports.items; relations = w.relations.items; links = w.links.items }
+
+abbrev pub machine_view : Run → Machine
+machine_view m = record { states = m.states.items; initial = m.initial; transitions = map transition_view m.transitions.items }
+
 -- what an entity has beside its entities
 abbrev pub own_view : Own → Parts
 own_view o =
-    record { name = o.name; class = o.class; properties = properties_view o.properties.items; ports = map port_view o.ports.items; relations = o.relations.items; links = o.links.items; states = o.states.items; initial = o.initial; transitions = map transition_view o.transitions.items }
+    record { name = o.name; class = o.class; properties = properties_view o.properties.items; ports = map port_view o.wiring.ports.items; relations = o.wiring.relations.items; links = o.wiring.links.items; states = o.machine.states.items; initial = o.machine.initial; transitions = map transition_view o.machine.transitions.items }
+
+abbrev pub effect_view : Done → Effect
+effect_view e = record { preemptive = e.preemptive; history = e.history; output = e.output.items; set = e.set.items }
+
+abbrev pub surroundings_view : Around → Surroundings
+surroundings_view a = record { inputs = map input_view a.inputs.items; records = a.records.items }

@@ -2,17 +2,18 @@
 ghost use Rattle.std.specs.Prelude.{◌≡◌, map, option_map, IfOk, IfErr, OnOk};
 ghost use Rattle.pt_json.specs.View.{view};
 ghost use Rattle.pt_moml.specs.Outcome.{Gives};
-ghost use Rattle.pt_moml.specs.Reading.{version_at, limits_at, model_at, job_of, IsJobOf, IsReadFault};
+ghost use Rattle.pt_moml.specs.Reading.{version_at, limits_at, model_at, surroundings_at, job_of, IsJobOf, IsReadFault};
 ghost use Rattle.pt_moml.specs.Stands.{FaultStands, IsClean};
-ghost use Rattle.pt_moml.specs.View.{entity_view, job_view};
+ghost use Rattle.pt_moml.specs.View.{entity_view, surroundings_view, job_view};
 
 use crate::code::Code;
 use crate::entity::entity_of_name;
 use crate::fields::{has_fields, list_or_empty, name_of};
-use crate::job::{Entity, Job};
+use crate::job::{Entity, Input, Job};
 use crate::limits::is_within;
 use crate::refusal::{DocFault, refused};
 use pt_json::{Scratch, Unread, Value};
+use pt_value::Text;
 use std::alloc::Global;
 
 fn check_version(alloc: Global, field: Option<&Value>) -> Result<(), DocFault>
@@ -55,20 +56,39 @@ fn model_of(alloc: Global, field: Option<&Value>) -> Result<Entity, DocFault>
     }
 }
 
-#[tactic(auto, unfolding(crate::specs::Reading::job_of))]
+/// What comes to a model, and what is recorded of it.
+#[derive(Drop)]
+struct Surroundings {
+    inputs: Vec<Input>,
+    records: Vec<Text>,
+}
+
+#[tactic(auto, unfolding(crate::specs::Reading::surroundings_at))]
+fn surroundings_of(alloc: Global, value: &Value) -> Result<Surroundings, DocFault>
+    ensures { Gives surroundings_view result (surroundings_at (view value.now)) }
+{
+    let inputs = list_or_empty(alloc, ".", value.get("inputs"))?;
+    let records = list_or_empty(alloc, ".", value.get("record"))?;
+    Ok(Surroundings { inputs, records })
+}
+
 fn job_at(alloc: Global, value: &Value) -> Result<Job, DocFault>
     ensures { Gives job_view result (job_of (view value.now)) }
 {
     has_fields(alloc, ".", value, &["version", "model", "inputs", "record"])?;
     check_version(alloc, value.get("version"))?;
     let model = model_of(alloc, value.get("model"))?;
-    let inputs = list_or_empty(alloc, ".", value.get("inputs"))?;
-    let records = list_or_empty(alloc, ".", value.get("record"))?;
-    Ok(Job {
-        model,
-        inputs,
-        records,
-    })
+    match surroundings_of(alloc, value) {
+        Ok(around) => Ok(Job {
+            model,
+            inputs: around.inputs,
+            records: around.records,
+        }),
+        Err(fault) => {
+            drop(model);
+            Err(fault)
+        }
+    }
 }
 
 fn read_exactly(alloc: Global, bytes: &[u8]) -> Result<Job, DocFault>

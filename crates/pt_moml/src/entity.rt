@@ -6,8 +6,8 @@ ghost use Rattle.pt_moml.specs.Classes.{kind_view};
 ghost use Rattle.pt_moml.specs.Document.{entity, to_entities};
 ghost use Rattle.pt_moml.specs.Outcome.{Gives};
 ghost use Rattle.pt_moml.specs.Rules as rules;
-ghost use Rattle.pt_moml.specs.Reading.{entity_fields, kind_at, ports_field, relations_field, states_field, initial_field, parts_at, entity_from, entity_at, entities_field, entity_items};
-ghost use Rattle.pt_moml.specs.View.{own_view, port_view, entity_view, entities_view};
+ghost use Rattle.pt_moml.specs.Reading.{entity_fields, kind_at, ports_field, relations_field, states_field, initial_field, wiring_at, machine_at, parts_at, own_at, entity_from, entity_at, entities_field, entity_items};
+ghost use Rattle.pt_moml.specs.View.{wiring_view, machine_view, own_view, port_view, entity_view, entities_view};
 
 use crate::classes::{Kind, kind_named};
 use crate::code::Code;
@@ -21,18 +21,30 @@ use pt_json::Value;
 use pt_value::Text;
 use std::alloc::Global;
 
+/// The ports of an entity and what joins those of its entities.
+#[derive(Drop)]
+struct Wiring {
+    ports: Vec<Port>,
+    relations: Vec<Relation>,
+    links: Vec<Link>,
+}
+
+/// The states and transitions of a Modal entity.
+#[derive(Drop)]
+struct Machine {
+    states: Vec<State>,
+    initial: Option<Text>,
+    transitions: Vec<Transition>,
+}
+
 /// What an entity has beside its entities.
 #[derive(Drop)]
 struct Own {
     name: Text,
     class: Text,
     properties: Vec<Property>,
-    ports: Vec<Port>,
-    relations: Vec<Relation>,
-    links: Vec<Link>,
-    states: Vec<State>,
-    initial: Option<Text>,
-    transitions: Vec<Transition>,
+    wiring: Wiring,
+    machine: Machine,
 }
 
 impl Named for Entity {
@@ -152,8 +164,36 @@ fn initial_of(
     }
 }
 
-#[tactic(auto, unfolding(crate::specs::Reading::parts_at))]
-fn own_of(
+#[tactic(auto, unfolding(crate::specs::Reading::wiring_at))]
+fn wiring_of(alloc: Global, here: &str, value: &Value) -> Result<Wiring, DocFault>
+    ensures { Gives wiring_view result (wiring_at here.now (view value.now)) }
+{
+    let ports = ports_of(alloc, here, value.get("ports"))?;
+    let relations = relations_of(alloc, here, value.get("relations"))?;
+    let links = list_or_empty(alloc, here, value.get("links"))?;
+    Ok(Wiring {
+        ports,
+        relations,
+        links,
+    })
+}
+
+#[tactic(auto, unfolding(crate::specs::Reading::machine_at))]
+fn machine_of(alloc: Global, here: &str, kind: Kind, value: &Value) -> Result<Machine, DocFault>
+    ensures { Gives machine_view result (machine_at here.now (kind_view kind) (view value.now)) }
+{
+    let states = states_of(alloc, here, kind, value.get("states"))?;
+    let initial = initial_of(alloc, here, kind, value.get("initial"))?;
+    let transitions = list_or_empty(alloc, here, value.get("transitions"))?;
+    Ok(Machine {
+        states,
+        initial,
+        transitions,
+    })
+}
+
+/// What an entity of this name and class has beside its entities.
+fn parts_of(
     alloc: Global,
     here: &str,
     name: Text,
@@ -166,22 +206,14 @@ fn own_of(
 {
     has_fields(alloc, here, value, fields_of(kind))?;
     let properties = properties_of(alloc, here, value.get("properties"))?;
-    let ports = ports_of(alloc, here, value.get("ports"))?;
-    let relations = relations_of(alloc, here, value.get("relations"))?;
-    let links = list_or_empty(alloc, here, value.get("links"))?;
-    let states = states_of(alloc, here, kind, value.get("states"))?;
-    let initial = initial_of(alloc, here, kind, value.get("initial"))?;
-    let transitions = list_or_empty(alloc, here, value.get("transitions"))?;
+    let wiring = wiring_of(alloc, here, value)?;
+    let machine = machine_of(alloc, here, kind, value)?;
     Ok(Own {
         name,
         class,
         properties,
-        ports,
-        relations,
-        links,
-        states,
-        initial,
-        transitions,
+        wiring,
+        machine,
     })
 }
 
@@ -191,13 +223,24 @@ fn fitting(alloc: Global, here: &str, kind: Kind, own: Own) -> Result<Own, DocFa
         (rules.parts_fit here.now (kind_view kind) (own_view own).properties (own_view own).ports) }
     ensures same { IfOk result (λ same. own_view same ≡ own_view own) }
 {
-    match parts_fit(alloc, here, kind, &own.properties, &own.ports) {
+    match parts_fit(alloc, here, kind, &own.properties, &own.wiring.ports) {
         Ok(()) => Ok(own),
         Err(fault) => {
             drop(own);
             Err(fault)
         }
     }
+}
+
+/// What an entity of this name has beside its entities, as its class wants it.
+#[tactic(auto, unfolding(crate::specs::Reading::own_at))]
+fn own_of(alloc: Global, here: &str, name: Text, value: &Value) -> Result<Own, DocFault>
+    ensures { Gives own_view result (own_at here.now name (view value.now)) }
+{
+    let class = required(alloc, here, value.get("class"))?;
+    let kind = kind_of(alloc, here, class.as_str())?;
+    let own = parts_of(alloc, here, name, class, kind, value)?;
+    fitting(alloc, here, kind, own)
 }
 
 fn with_entities(own: Own, entities: Vec<Entity>) -> Entity
@@ -208,13 +251,13 @@ fn with_entities(own: Own, entities: Vec<Entity>) -> Entity
         name: own.name,
         class: own.class,
         properties: own.properties,
-        ports: own.ports,
+        ports: own.wiring.ports,
         entities,
-        relations: own.relations,
-        links: own.links,
-        states: own.states,
-        initial: own.initial,
-        transitions: own.transitions,
+        relations: own.wiring.relations,
+        links: own.wiring.links,
+        states: own.machine.states,
+        initial: own.machine.initial,
+        transitions: own.machine.transitions,
     }
 }
 
@@ -229,7 +272,6 @@ fn entity_of(alloc: Global, path: &str, value: &Value) -> Result<Entity, DocFaul
 
 /// The entity of this path and name.
 #[cycle(entities)]
-#[tactic(auto, unfolding(crate::specs::Reading::entity_from))]
 pub fn entity_of_name(
     alloc: Global,
     here: &str,
@@ -239,10 +281,7 @@ pub fn entity_of_name(
     ensures { Gives entity_view result
         (entity_from here.now name (view value.now) (entities_field here.now (get (codes "entities") (view value.now)))) }
 {
-    let class = required(alloc, here, value.get("class"))?;
-    let kind = kind_of(alloc, here, class.as_str())?;
-    let read = own_of(alloc, here, name, class, kind, value)?;
-    let own = fitting(alloc, here, kind, read)?;
+    let own = own_of(alloc, here, name, value)?;
     match entities_of(alloc, here, value.get("entities")) {
         Ok(entities) => Ok(with_entities(own, entities)),
         Err(fault) => {

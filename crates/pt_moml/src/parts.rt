@@ -2,7 +2,8 @@
 ghost use Rattle.std.specs.Prelude.{◌≡◌, option_map};
 ghost use Rattle.pt_json.specs.View.{view};
 ghost use Rattle.pt_moml.specs.Outcome.{Gives};
-ghost use Rattle.pt_moml.specs.Reading.{direction_at, declared_at, port_link, relations_link};
+ghost use Rattle.pt_moml.specs.Reading.{direction_at, facing_at, declared_at, port_link, relations_link, way_at, effect_at};
+ghost use Rattle.pt_moml.specs.View.{effect_view};
 
 use crate::code::Code;
 use crate::fields::{
@@ -31,6 +32,16 @@ fn direction_of(
         (false, true) => Ok(Direction::Output),
         _ => Err(refused(alloc, Code::Shape, path)),
     }
+}
+
+/// The direction that the fields of a port say.
+#[tactic(auto, unfolding(crate::specs::Reading::facing_at))]
+fn facing(alloc: Global, path: &str, value: &Value) -> Result<Direction, DocFault>
+    ensures { Gives (λ d. d) result (facing_at path.now (view value.now)) }
+{
+    let is_input = truth_or_false(alloc, path, value.get("input"))?;
+    let is_output = truth_or_false(alloc, path, value.get("output"))?;
+    direction_of(alloc, path, is_input, is_output)
 }
 
 /// The text of a declared type.
@@ -69,7 +80,6 @@ impl Part for Port {
 
     ghost of_more = { map_push port_view };
 
-    #[tactic(auto, unfolding(crate::specs::Reading::port_at))]
     fn read(alloc: Global, path: &str, value: &Value) -> Result<Port, DocFault> {
         has_fields(
             alloc,
@@ -78,9 +88,7 @@ impl Part for Port {
             &["name", "input", "output", "type", "properties"],
         )?;
         let name = name_of(alloc, path, value.get("name"))?;
-        let is_input = truth_or_false(alloc, path, value.get("input"))?;
-        let is_output = truth_or_false(alloc, path, value.get("output"))?;
-        let direction = direction_of(alloc, path, is_input, is_output)?;
+        let direction = facing(alloc, path, value)?;
         let declared = declared_of(alloc, path, value.get("type"))?;
         let properties = properties_of(alloc, path, value.get("properties"))?;
         Ok(Port {
@@ -290,6 +298,49 @@ impl Part for SetAction {
     }
 }
 
+/// Where a transition leads and when it may be taken.
+#[derive(Drop)]
+struct Way {
+    from: Text,
+    to: Text,
+    guard: Text,
+}
+
+#[tactic(auto, unfolding(crate::specs::Reading::way_at))]
+fn way_of(alloc: Global, path: &str, value: &Value) -> Result<Way, DocFault>
+    ensures { Gives (λ w. w) result (way_at path.now (view value.now)) }
+{
+    let from = required(alloc, path, value.get("from"))?;
+    let to = required(alloc, path, value.get("to"))?;
+    let guard = required(alloc, path, value.get("guard"))?;
+    Ok(Way { from, to, guard })
+}
+
+/// How a transition is taken and what it does.
+#[derive(Drop)]
+struct Effect {
+    preemptive: bool,
+    history: bool,
+    output: Vec<OutputAction>,
+    set: Vec<SetAction>,
+}
+
+#[tactic(auto, unfolding(crate::specs::Reading::effect_at))]
+fn effect_of(alloc: Global, path: &str, value: &Value) -> Result<Effect, DocFault>
+    ensures { Gives effect_view result (effect_at path.now (view value.now)) }
+{
+    let preemptive = truth_or_false(alloc, path, value.get("preemptive"))?;
+    let history = truth(alloc, path, value.get("history"))?;
+    let output = list_or_empty(alloc, path, value.get("output"))?;
+    let set = list_or_empty(alloc, path, value.get("set"))?;
+    Ok(Effect {
+        preemptive,
+        history,
+        output,
+        set,
+    })
+}
+
 impl Part for Transition {
     ghost use Rattle.std.specs.Prelude.{map, refl};
     ghost use Rattle.std.proofs.lemmas.List.{map_push};
@@ -309,7 +360,6 @@ impl Part for Transition {
 
     ghost of_more = { map_push transition_view };
 
-    #[tactic(auto, unfolding(crate::specs::Reading::transition_at))]
     fn read(alloc: Global, path: &str, value: &Value) -> Result<Transition, DocFault> {
         has_fields(
             alloc,
@@ -325,21 +375,16 @@ impl Part for Transition {
                 "set",
             ],
         )?;
-        let from = required(alloc, path, value.get("from"))?;
-        let to = required(alloc, path, value.get("to"))?;
-        let guard = required(alloc, path, value.get("guard"))?;
-        let preemptive = truth_or_false(alloc, path, value.get("preemptive"))?;
-        let history = truth(alloc, path, value.get("history"))?;
-        let output = list_or_empty(alloc, path, value.get("output"))?;
-        let set = list_or_empty(alloc, path, value.get("set"))?;
+        let way = way_of(alloc, path, value)?;
+        let effect = effect_of(alloc, path, value)?;
         Ok(Transition {
-            from,
-            to,
-            guard,
-            preemptive,
-            history,
-            output,
-            set,
+            from: way.from,
+            to: way.to,
+            guard: way.guard,
+            preemptive: effect.preemptive,
+            history: effect.history,
+            output: effect.output,
+            set: effect.set,
         })
     }
 }

@@ -1,9 +1,10 @@
 // Properties, which may have properties of their own.
-ghost use Rattle.std.specs.Prelude.{◌≡◌, List, map, [], option_map};
+ghost use Rattle.std.specs.Prelude.{◌≡◌, List, Ok, map, [], option_map};
 ghost use Rattle.pt_json.specs.View.{view, items_view};
 ghost use Rattle.pt_moml.specs.View.{property_view, properties_view};
 ghost use Rattle.pt_moml.specs.Outcome.{Gives};
-ghost use Rattle.pt_moml.specs.Reading.{property_at, properties_field, property_items};
+ghost use Rattle.pt_moml.specs.Document.{filled};
+ghost use Rattle.pt_moml.specs.Reading.{property_from, property_at, properties_field, property_items};
 
 use crate::code::Code;
 use crate::fields::{Named, has_fields, name_of, names_differ, optional};
@@ -30,10 +31,10 @@ impl Named for Property {
     }
 }
 
-#[cycle(properties)]
+/// A property without the properties in it.
 #[tactic(auto, unfolding(crate::specs::Reading::property_from))]
-fn property_of(alloc: Global, path: &str, value: &Value) -> Result<Property, DocFault>
-    ensures { Gives property_view result (property_at path.now (view value.now)) }
+fn bare_property(alloc: Global, path: &str, value: &Value) -> Result<Property, DocFault>
+    ensures { Gives property_view result (property_from path.now (view value.now) (Ok [])) }
 {
     has_fields(
         alloc,
@@ -44,13 +45,32 @@ fn property_of(alloc: Global, path: &str, value: &Value) -> Result<Property, Doc
     let name = name_of(alloc, path, value.get("name"))?;
     let text = optional(alloc, path, value.get("value"))?;
     let class = optional(alloc, path, value.get("class"))?;
-    let properties = properties_of(alloc, path, value.get("properties"))?;
     Ok(Property {
         name,
         value: text,
         class,
-        properties,
+        properties: Vec::new(alloc),
     })
+}
+
+fn with_properties(bare: Property, properties: Vec<Property>) -> Property
+    ensures { property_view result ≡ filled (property_view bare) (properties_view properties.items) }
+{
+    Property { properties, ..bare }
+}
+
+#[cycle(properties)]
+fn property_of(alloc: Global, path: &str, value: &Value) -> Result<Property, DocFault>
+    ensures { Gives property_view result (property_at path.now (view value.now)) }
+{
+    let bare = bare_property(alloc, path, value)?;
+    match properties_of(alloc, path, value.get("properties")) {
+        Ok(properties) => Ok(with_properties(bare, properties)),
+        Err(fault) => {
+            drop(bare);
+            Err(fault)
+        }
+    }
 }
 
 /// The properties at a field.
