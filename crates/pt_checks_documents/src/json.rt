@@ -17,20 +17,14 @@ fn is_no_json(alloc: Global, bytes: &[u8]) -> bool {
 
 #[test]
 fn the_last_of_equal_names_counts(rt: HostRuntime) {
-    let alloc = rt.alloc();
-    assert_eq!(rt;
-        whole_at_a(alloc, b"{\"a\": 1, \"b\": 2, \"\\u0061\": 3}"),
-        Some(3)
-    );
-    assert_eq!(rt;
-        whole_at_a(alloc, b"{\"b\": {\"a\": 1}, \"a\": [[1], {}, -1e3]}"),
-        None
-    );
-    assert_eq!(rt;
-        whole_at_a(alloc, b"{\"a\": 18446744073709551615}"),
-        Some(u64::MAX)
-    );
-    assert_eq!(rt; whole_at_a(alloc, b"{\"a\": 18446744073709551616}"), None);
+    for (text, number) in [
+        ("{\"a\": 1, \"b\": 2, \"\\u0061\": 3}", Some(3)),
+        ("{\"b\": {\"a\": 1}, \"a\": [[1], {}, -1e3]}", None),
+        ("{\"a\": 18446744073709551615}", Some(u64::MAX)),
+        ("{\"a\": 18446744073709551616}", None),
+    ] {
+        assert!(rt; whole_at_a(rt.alloc(), text.as_bytes()) == number, "{text}");
+    }
 }
 
 #[test]
