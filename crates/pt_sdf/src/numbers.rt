@@ -22,11 +22,7 @@ pub(crate) fn are_all_of_one(rates: &[usize], n: usize) -> bool
 
 /// The first `need` tokens of a channel, where they are integers that stand in front.
 #[inline(always)]
-pub(crate) fn numbers_in_front(
-    channels: &Channels,
-    c: u32,
-    need: usize,
-) -> Option<IntInputs<'_>>
+pub(crate) fn numbers_in_front(channels: &Channels, c: u32, need: usize) -> Option<IntInputs<'_>>
     requires { c < length channels.now.lists }
     ensures { IfSome result (λ inputs. inputs ≡ take need (list_at channels.now.lists c) ∷ []) }
 {

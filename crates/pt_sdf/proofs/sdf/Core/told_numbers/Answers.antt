@@ -57,8 +57,10 @@ fill_rooms-requires-clause-needed c = subst (λ v. c.index-from.result.now + (ge
 pub make_room-requires : goal.make_room-requires
 make_room-requires c =
     let r : has_rates (get_or c.self.inside.plan.rates.items c.args.child []) (given c.args.numbers.now) ≡ true = ap (λ v. has_rates v (given c.args.numbers.now)) (sym (c.as_slice-2.ensures ∙ rates-read c.self.inside c.self.invariant.sound c.args.child c.index.result.now (busy-there c.self.inside c.self.invariant.sound c.args.child (is-asked c.self.inside c.args.self.now c.args.child c.self.view_is c.requires.asked)) c.index.ensures)) ∙ sym (c.are_all_of_one.ensures (map Int c.args.numbers.now) (length-map c.args.numbers.now Int)) ∙ c.if-not-are_all_of_one.false in
-    record { there = subst (λ v. AreThere v 1 c.deref.result.now) (skip-long c.index-from.result.now (take c.unmoved-unmoved.result (drop c.index-from.result.now c.self.inside.plan.needs)) c.self.inside.channels.lists)
-    (subst (λ v. AreThere (length (skip_at c.index-from.result.now (take c.unmoved-unmoved.result (drop c.index-from.result.now c.self.inside.plan.needs)) c.self.inside.channels.lists)) 1 v) (sym c.deref.ensures.value) (told-into (handing c.self.inside c.args.child (skip_at c.index-from.result.now (take c.unmoved-unmoved.result (drop c.index-from.result.now c.self.inside.plan.needs)) c.self.inside.channels.lists)) (handing-sound c.self.inside c.self.invariant.sound c.args.child (is-asked c.self.inside c.args.self.now c.args.child c.self.view_is c.requires.asked) c.index-from.result.now (get_or c.as_slice.result.now c.args.child 0) c.unmoved-unmoved.result c.index-from.ensures (ap (λ v. get_or v c.args.child 0) c.as_slice.ensures) c.unmoved-unmoved.ensures (skip_at c.index-from.result.now (take c.unmoved-unmoved.result (drop c.index-from.result.now c.self.inside.plan.needs)) c.self.inside.channels.lists) refl) c.args.child refl (given c.args.numbers.now) r c.index-2.result.now c.index-2.ensures)) }
+    record {
+      there = subst (λ v. AreThere v 1 c.deref.result.now) (skip-long c.index-from.result.now (take c.unmoved-unmoved.result (drop c.index-from.result.now c.self.inside.plan.needs)) c.self.inside.channels.lists)
+          (subst (λ v. AreThere (length (skip_at c.index-from.result.now (take c.unmoved-unmoved.result (drop c.index-from.result.now c.self.inside.plan.needs)) c.self.inside.channels.lists)) 1 v) (sym c.deref.ensures.value) (told-into (handing c.self.inside c.args.child (skip_at c.index-from.result.now (take c.unmoved-unmoved.result (drop c.index-from.result.now c.self.inside.plan.needs)) c.self.inside.channels.lists)) (handing-sound c.self.inside c.self.invariant.sound c.args.child (is-asked c.self.inside c.args.self.now c.args.child c.self.view_is c.requires.asked) c.index-from.result.now (get_or c.as_slice.result.now c.args.child 0) c.unmoved-unmoved.result c.index-from.ensures (ap (λ v. get_or v c.args.child 0) c.as_slice.ensures) c.unmoved-unmoved.ensures (skip_at c.index-from.result.now (take c.unmoved-unmoved.result (drop c.index-from.result.now c.self.inside.plan.needs)) c.self.inside.channels.lists) refl) c.args.child refl (given c.args.numbers.now) r c.index-2.result.now c.index-2.ensures));
+    }
 
 pub invariant_of-self-2 : goal.invariant_of-self-2
 invariant_of-self-2 c =
