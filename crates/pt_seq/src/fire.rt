@@ -10,7 +10,7 @@ ghost use Rattle.pt_node.specs.Live.{IsLive, IsFit, Takes, AllFit, IsReady, Take
 ghost use Rattle.pt_node.specs.declared.director.Director.TheVariants.{Sdf};
 ghost use Rattle.pt_seq.specs.Within.{WithinTo, SpendsAll, StaysFit, DirectorTo, DirectorStaysFit, SdfTo, SdfStaysFit, TurnTo, TurnSpends, AnswersTo, ActorTo, IsFaultAt, QuickTo, AskedAgain, TellTo, FinishTo, records_of};
 
-use crate::numbers::{several, tell_numbers};
+use crate::numbers::{Buffers, several, tell_numbers};
 use pt_firing::{Answer, Ask, Fires, Inputs, Outputs, Place, RunFault, Step};
 use pt_node::{Body, Director, Held, Node};
 use pt_time::Tag;
@@ -188,7 +188,7 @@ fn fire_sdf(
     if core.begin(alloc, tag, inputs).is_err() {
         return Within::Memory;
     }
-    let mut given = Vec::new(alloc);
+    let mut buffers = Buffers::new(alloc);
     let mut next = core.ask();
     loop {
         match next {
@@ -197,7 +197,7 @@ fn fire_sdf(
                     return Within::Spent;
                 }
                 let node = &mut children[child as usize];
-                match fire_child(alloc, core, node, child, tag, left, &mut given) {
+                match fire_child(alloc, core, node, child, tag, left, &mut buffers) {
                     Turn::Next(ask) => next = ask,
                     Turn::Fault(place) => return Within::Fault(place),
                     Turn::Spent => return Within::Spent,
@@ -220,7 +220,7 @@ fn fire_child(
     number: u32,
     tag: Tag,
     left: &mut u64,
-    given: &mut Vec<i64>,
+    buffers: &mut Buffers,
 ) -> Turn
     requires asked { asked_child core.old.stage ≡ Some number }
     requires fit { IsFit (shown_node child.old) }
@@ -231,9 +231,9 @@ fn fire_child(
     ensures outline { outline_of (shown_node child.new) ≡ outline_of (shown_node child.old) }
     ensures counted { count_of (shown_node child.new) + left.new ≡ count_of (shown_node child.old) + left.old }
 {
-    let Some(one) = quick(child, &core.lent()) else {
+    let Some(one) = quick(core, child, &mut buffers.row) else {
         // In a place of its own, so that the turn of a number stays out of memory.
-        let turn = fire_several(alloc, core, child, number, tag, left, given);
+        let turn = fire_several(alloc, core, child, number, tag, left, buffers);
         return turn;
     };
     if *left == 0 {
@@ -242,11 +242,12 @@ fn fire_child(
     tell_number(alloc, core, child, number, tag, left, one)
 }
 
-/// One firing of a library actor of which no output is recorded, where it gives one number. The firing isn't recorded. Where no number is given, nothing was done.
+/// One firing of a library actor of which no output is recorded, where it takes numbers and gives one. The firing isn't recorded. Where no number is given, nothing was done.
 #[inline(always)]
-fn quick(node: &mut Node, inputs: &Inputs<'_>) -> Option<i64>
+fn quick(core: &pt_sdf::Core, node: &mut Node, row: &mut Vec<i64>) -> Option<i64>
+    requires asked { IsSome (asked_child core.now.stage) }
     requires fit { IsFit (shown_node node.old) }
-    ensures goes { QuickTo (shown_node node.old) inputs.now result (shown_node node.new) }
+    ensures goes { QuickTo (shown_node node.old) (lent_in core.now.stage) result (shown_node node.new) }
     ensures past { (out-Node node.new).past ≡ (out-Node node.old).past }
 {
     if !node.records.as_slice().is_empty() {
@@ -254,7 +255,8 @@ fn quick(node: &mut Node, inputs: &Inputs<'_>) -> Option<i64>
     }
     match &mut node.body {
         Body::Actor(held) => {
-            let given = held.actor.number(inputs)?;
+            let inputs = core.int_inputs(row)?;
+            let given = held.actor.number(&inputs)?;
             node.live = false;
             Some(given)
         }
@@ -298,7 +300,7 @@ fn fire_several(
     number: u32,
     tag: Tag,
     left: &mut u64,
-    given: &mut Vec<i64>,
+    buffers: &mut Buffers,
 ) -> Turn
     requires asked { asked_child core.old.stage ≡ Some number }
     requires fit { IsFit (shown_node child.old) }
@@ -309,13 +311,13 @@ fn fire_several(
     ensures outline { outline_of (shown_node child.new) ≡ outline_of (shown_node child.old) }
     ensures counted { count_of (shown_node child.new) + left.new ≡ count_of (shown_node child.old) + left.old }
 {
-    if !several(child, &core.lent(), given) {
+    if !several(core, child, buffers) {
         return fire_any(alloc, core, child, number, tag, left);
     }
     if *left == 0 {
         return Turn::Spent;
     }
-    tell_numbers(alloc, core, child, number, tag, left, given)
+    tell_numbers(alloc, core, child, number, tag, left, &buffers.given)
 }
 
 /// A turn of a child of any kind.
@@ -338,6 +340,7 @@ fn fire_any(
     ensures outline { outline_of (shown_node child.new) ≡ outline_of (shown_node child.old) }
     ensures counted { count_of (shown_node child.new) + left.new ≡ count_of (shown_node child.old) + left.old }
 {
+    core.hand();
     let outputs = match fire(alloc, child, tag, &core.lent(), left) {
         Within::Done(outputs) => outputs,
         Within::Fault(place) => return Turn::Fault(place),

@@ -1,6 +1,6 @@
-ghost use Rattle.std.specs.Prelude.{◌≡◌, ◌+◌, ◌<◌, ◌≤◌, [], ◌∷◌, Some, map};
+ghost use Rattle.std.specs.Prelude.{◌≡◌, ◌+◌, ◌<◌, ◌≤◌, [], ◌∷◌, Some, IsSome, map};
 ghost use Rattle.pt_value.specs.declared.token.Token.TheVariants.{Int};
-ghost use Rattle.pt_sdf.specs.State.{asked_child};
+ghost use Rattle.pt_sdf.specs.State.{asked_child, lent_in};
 ghost use Rattle.pt_node.specs.declared.node.Node.{out-Node};
 ghost use Rattle.pt_node.specs.Shown.{shown_node};
 ghost use Rattle.pt_node.specs.View.{outline_of, count_of};
@@ -8,15 +8,33 @@ ghost use Rattle.pt_node.specs.Live.{IsFit};
 ghost use Rattle.pt_seq.specs.Within.{TurnSpends, SeveralTo, TellTo, records_of};
 
 use crate::fire::{Turn, ask_again};
-use pt_firing::Inputs;
 use pt_node::{Body, Node};
 use pt_time::Tag;
 use std::alloc::Global;
 
-/// One firing of a library actor of which no output is recorded, where it gives numbers alone, which the buffer has then. The firing isn't recorded. Where that isn't told, nothing was done.
-pub(crate) fn several(node: &mut Node, inputs: &Inputs<'_>, given: &mut Vec<i64>) -> bool
+/// Where firings of numbers alone take and give them.
+#[derive(Drop)]
+pub(crate) struct Buffers {
+    /// One number for each place of an actor.
+    pub(crate) row: Vec<i64>,
+    /// The numbers that it gave.
+    pub(crate) given: Vec<i64>,
+}
+
+impl Buffers {
+    pub(crate) fn new(alloc: Global) -> Buffers {
+        Buffers {
+            row: Vec::new(alloc),
+            given: Vec::new(alloc),
+        }
+    }
+}
+
+/// One firing of a library actor of which no output is recorded, where it takes and gives numbers alone, which the buffer has then. The firing isn't recorded. Where that isn't told, nothing was done.
+pub(crate) fn several(core: &pt_sdf::Core, node: &mut Node, buffers: &mut Buffers) -> bool
+    requires asked { IsSome (asked_child core.now.stage) }
     requires fit { IsFit (shown_node node.old) }
-    ensures goes { SeveralTo (shown_node node.old) inputs.now result given.new.items (shown_node node.new) }
+    ensures goes { SeveralTo (shown_node node.old) (lent_in core.now.stage) result buffers.new.given.items (shown_node node.new) }
     ensures past { (out-Node node.new).past ≡ (out-Node node.old).past }
 {
     if !node.records.as_slice().is_empty() {
@@ -24,7 +42,10 @@ pub(crate) fn several(node: &mut Node, inputs: &Inputs<'_>, given: &mut Vec<i64>
     }
     match &node.body {
         Body::Actor(held) => {
-            if !held.actor.numbers(inputs, given) {
+            let Some(inputs) = core.int_inputs(&mut buffers.row) else {
+                return false;
+            };
+            if !held.actor.numbers(&inputs, &mut buffers.given) {
                 return false;
             }
             node.live = false;

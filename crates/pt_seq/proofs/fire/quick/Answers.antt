@@ -3,6 +3,7 @@ use Rattle.std.proofs.lemmas.Bool.{eqb-true}
 use Rattle.std.proofs.lemmas.Int.{to_z-of_z}
 use Rattle.std.proofs.lemmas.List.{nil_from_length}
 use Rattle.pt_value.specs.declared.token.Token.TheVariants.{Int}
+use Rattle.pt_sdf.specs.State.{lent_in}
 use Rattle.pt_node.specs.declared.node.Node.{Node, roll-Node, out-Node}
 use Rattle.pt_node.specs.declared.node.Node.TheViews.{roll-out-Node}
 use Rattle.pt_node.specs.declared.node.Node.TheOpen as opens
@@ -24,5 +25,6 @@ returns-in_ok-given-in-Actor-clause-goes c =
     let none : r.records ≡ [] = sym c.as_slice.ensures ∙ nil_from_length _ (eqb-true _ _ (sym c.is_empty.ensures ∙ c.if-not-is_empty.false)) in
     let written : opens.Node-F Node = record { past = r.past; body = body.Actor held'; children = r.children; records = r.records; path = r.path; live = r.live } in
     let r' : opens.Node-F Node = not-live (out-Node (roll-Node written)) in
-    subst (λ z. Gave (shown_node n) c.args.inputs.now ((Int z ∷ []) ∷ []) (shown_node (roll-Node r'))) (sym (to_z-of_z w64 given fits))
-    (gave-out n (roll-Node r') r r' held held' (roll-out-Node n) refl c.in-Actor.is c.args.inputs.now ((Int given ∷ []) ∷ []) c.in_ok-given-in-Actor.ensures refl (no-longer-live written) c.requires.fit none)
+    subst (λ z. Gave (shown_node n) (lent_in c.args.core.now.stage) ((Int z ∷ []) ∷ []) (shown_node (roll-Node r'))) (sym (to_z-of_z w64 given fits))
+    (subst (λ X. Gave (shown_node n) X ((Int given ∷ []) ∷ []) (shown_node (roll-Node r'))) c.in_ok-inputs-in-Actor.ensures
+    (gave-out n (roll-Node r') r r' held held' (roll-out-Node n) refl c.in-Actor.is c.in_ok-inputs-in-Actor.inputs ((Int given ∷ []) ∷ []) c.in_ok-given-in-Actor.ensures refl (no-longer-live written) c.requires.fit none))

@@ -9,6 +9,8 @@ use Rattle.pt_node.specs.declared.node.Node.TheViews.{roll-out-Node}
 use Rattle.pt_node.specs.declared.node.Node.TheOpen as opens
 use Rattle.pt_node.specs.declared.body.Body.TheVariants as body
 use Rattle.pt_node.specs.declared.body.Held.{Held}
+use Rattle.pt_node.specs.Shown.{shown_node}
+use Rattle.pt_seq.specs.Within.{Gave}
 use Rattle.pt_seq.proofs.Entering.{gave-out, not-live, only-not-live}
 use Rattle.pt_seq.proofs.numbers.several.Goals as goal
 
@@ -18,5 +20,6 @@ returns-else-not-numbers-clause-goes c =
     let r : opens.Node-F Node = out-Node n in
     let held : Held = c.in-Actor.held in
     let none : r.records ≡ [] = sym c.as_slice.ensures ∙ nil_from_length _ (eqb-true _ _ (sym c.is_empty.ensures ∙ c.if-not-is_empty.false)) in
-    let gave = subst (λ b. GivesNumbers library.step held.actor c.args.inputs.now b c.numbers.new.given.items held.actor) c.if-not-numbers.false c.numbers.ensures in
-    gave-out n (roll-Node (not-live r)) r (not-live r) held held (roll-out-Node n) refl c.in-Actor.is c.args.inputs.now (map Int c.numbers.new.given.items ∷ []) gave refl (only-not-live r (body.Actor held) c.in-Actor.is) c.requires.fit none
+    let gave = subst (λ b. GivesNumbers library.step held.actor c.in-Some.inputs b c.numbers.new.given.items held.actor) c.if-not-numbers.false c.numbers.ensures in
+    subst (λ X. Gave (shown_node n) X (map Int c.numbers.new.given.items ∷ []) (shown_node (roll-Node (not-live r)))) c.in-Some.ensures
+    (gave-out n (roll-Node (not-live r)) r (not-live r) held held (roll-out-Node n) refl c.in-Actor.is c.in-Some.inputs (map Int c.numbers.new.given.items ∷ []) gave refl (only-not-live r (body.Actor held) c.in-Actor.is) c.requires.fit none)
