@@ -27,3 +27,7 @@ module _ {X : Type 0} (all : Outcome (List X)) (made : Value → X) (done : List
 
   pub next-gives : (v : Value) → Before → o ≡ Gives v → all ≡ behind (done ++ made v ∷ []) left
   next-gives v e gives = e ∙ behind-next made done o left ∙ ap (λ p. and_then p (λ v. behind (done ++ made v ∷ []) left)) gives
+
+-- an operator that takes both of its operands
+pub strict : (o later : Outcome Value) (go : Value → Value → Outcome Value) (x y : Value) → o ≡ Gives x → later ≡ Gives y → and_then o (λ u. and_then later (go u)) ≡ go x y
+strict o later go x y first second = ap (λ p. and_then p (λ u. and_then later (go u))) first ∙ ap (λ p. and_then p (go x)) second
