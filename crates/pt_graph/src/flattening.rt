@@ -6,7 +6,7 @@ ghost use Rattle.pt_moml.specs.View.{job_view};
 ghost use Rattle.pt_graph.specs.Net.{AreJoints, IsNetOf};
 ghost use Rattle.pt_graph.specs.Stands.{IsTold, IsFaultIn, IsFaultOf, Stands};
 ghost use Rattle.pt_graph.specs.Survey.{tables_view};
-ghost use Rattle.pt_graph.specs.Wiring.{AreOwned};
+ghost use Rattle.pt_graph.specs.Wiring.{IsWiring, AllNamed, AreOwned};
 ghost use Rattle.pt_graph.specs.ChannelTable.{AreChannels, AreTooMany};
 
 use crate::channels::{channels_of, number};
@@ -39,6 +39,40 @@ struct Passages {
     joints: Vec<Joint>,
 }
 
+/// The channels of a job with these wires. Refuses a link, a place without a source and a relation group with two.
+fn checked_channels(alloc: Global, wiring: &Wiring) -> Result<Vec<Channel>, DocFault>
+    requires wiring { IsWiring wiring.now }
+    requires named { AllNamed (tables_view wiring.now.tables.now) }
+    ensures ok { IfOk result (λ channels. AreChannels (tables_view wiring.now.tables.now) channels.items) }
+    ensures told { IfErr result (λ fault. (records : List (List ℕ)) → IsFaultIn (tables_view wiring.now.tables.now) records fault) }
+{
+    check_ports(alloc, wiring)?;
+    check_counts(alloc, wiring)?;
+    check_groups(alloc, wiring)?;
+    let origins = Origins::of(alloc, wiring)?;
+    let channels = channels_of(alloc, &origins);
+    drop(origins);
+    channels
+}
+
+/// The same channels, and what the links join.
+fn wired_paths(alloc: Global, wiring: &Wiring) -> Result<Passages, DocFault>
+    requires wiring { IsWiring wiring.now }
+    requires named { AllNamed (tables_view wiring.now.tables.now) }
+    ensures channels { IfOk result (λ paths. AreChannels (tables_view wiring.now.tables.now) paths.channels.items) }
+    ensures joints { IfOk result (λ paths. AreJoints (tables_view wiring.now.tables.now) paths.joints.items) }
+    ensures told { IfErr result (λ fault. (records : List (List ℕ)) → IsFaultIn (tables_view wiring.now.tables.now) records fault) }
+{
+    let channels = checked_channels(alloc, wiring)?;
+    match joints(alloc, wiring) {
+        Ok(joints) => Ok(Passages { channels, joints }),
+        Err(fault) => {
+            drop(channels);
+            Err(fault)
+        }
+    }
+}
+
 /// The channels of a job with these tables, and what its links join. Refuses a link, a place without a source and a
 /// relation group with two.
 fn paths(alloc: Global, tables: &Tables) -> Result<Passages, DocFault>
@@ -48,13 +82,9 @@ fn paths(alloc: Global, tables: &Tables) -> Result<Passages, DocFault>
     ensures told { IfErr result (λ fault. (records : List (List ℕ)) → IsFaultIn (tables_view tables.now) records fault) }
 {
     let wiring = Wiring::of(alloc, tables)?;
-    check_ports(alloc, &wiring)?;
-    check_counts(alloc, &wiring)?;
-    check_groups(alloc, &wiring)?;
-    let origins = Origins::of(alloc, &wiring)?;
-    let channels = channels_of(alloc, &origins)?;
-    let joints = joints(alloc, &wiring)?;
-    Ok(Passages { channels, joints })
+    let paths = wired_paths(alloc, &wiring);
+    drop(wiring);
+    paths
 }
 
 /// Refuses too many channels or recorded ports.
