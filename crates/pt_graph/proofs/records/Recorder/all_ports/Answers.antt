@@ -1,4 +1,4 @@
-use Rattle.std.proofs.Common.{ℕ, ◌+◌, List, [], subst, sym}
+use Rattle.std.proofs.Common.{◌+◌, List, [], subst, sym}
 use Rattle.pt_graph.specs.declared.net.NetPort.{NetPort}
 use Rattle.pt_graph.specs.Survey.{tables_view}
 use Rattle.pt_graph.proofs.RecordSteps.{AreRecorded, recorded_more, distinct}
@@ -10,7 +10,7 @@ loop-number-preserved c =
     let records = c.args.self.now.records.now in
     let n = c.loop-number.number in
     let h = c.in_ok-port.ensures.ok in
-    subst (λ (ps : List NetPort). AreRecorded t records (n + 1) ps) (sym c.in_ok-push.ensures.items) (recorded_more t records n [] c.loop-number.ports.items c.in_ok-port.field-0 c.loop-number-test.true h.first h.named c.loop-number.invariant)
+    subst (λ (ps : List NetPort). AreRecorded t records (n + 1) ps) (sym {A = List NetPort} c.in_ok-push.ensures.items) (recorded_more t records n [] c.loop-number.ports.items c.in_ok-port.field-0 c.loop-number-test.true h.first h.named c.loop-number.invariant)
 
 pub returns-clause-distinct : goal.returns-clause-distinct
 returns-clause-distinct c = distinct (tables_view c.args.self.now.tables.now) c.args.self.now.records.now c.loop-number.number c.loop-number.ports.items c.loop-number-test.false c.loop-number.invariant
