@@ -47,8 +47,8 @@ pub record IsRecorded (t : Tables) (records : List (List ℕ)) (n : ℕ) (port :
 
 -- what the program looks texts up in
 pub record Looks (t : Tables) (records : List (List ℕ)) (r : Recorder) : Type 0 where
-  pub firsts : (name : Name) → get name_eq r.firsts name ≡ position (bytes_eq name.now) records
-  pub places : (name : Name) → get name_eq r.places name ≡ position (bytes_eq name.now) (map (λ o. o.path) (outputs_of t.ports))
+  pub firsts : (name : Name) → get name_eq r.firsts.numbers name ≡ position (bytes_eq name.now) records
+  pub places : (name : Name) → get name_eq r.places.numbers name ≡ position (bytes_eq name.now) (map (λ o. o.path) (outputs_of t.ports))
   pub ports : r.ports.now ≡ map (λ o. o.port) (outputs_of t.ports)
 
 abbrev pub IsRecorder : Recorder → Type 0

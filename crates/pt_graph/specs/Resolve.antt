@@ -25,9 +25,9 @@ outside_text p = entity_name p.standing.tree ++ codes "." ++ p.port.name
 
 -- the three maps have the ports and relations that a text names
 pub record AreNames (t : Tables) (names : Names) : Type 0 where
-  pub inside : (c : ℕ) (text : Name) → get pair_eq names.inside (c, text) ≡ position (names_inside c text.now) t.ports
-  pub outside : (c : ℕ) (text : Name) → get child_eq names.outside (Some c, text) ≡ position (names_outside c text.now) t.ports
-  pub relations : (c : ℕ) (text : Name) → get pair_eq names.relations (c, text) ≡ position (names_relation c text.now) t.relations
+  pub inside : (c : ℕ) (text : Name) → get pair_eq names.inside.numbers (c, text) ≡ position (names_inside c text.now) t.ports
+  pub outside : (c : ℕ) (text : Name) → get child_eq names.outside.numbers (Some c, text) ≡ position (names_outside c text.now) t.ports
+  pub relations : (c : ℕ) (text : Name) → get pair_eq names.relations.numbers (c, text) ≡ position (names_relation c text.now) t.relations
 
 abbrev pub IsNames : Names → Type 0
 IsNames names = AreNames (tables_view names.tables.now) names

@@ -195,6 +195,15 @@ fn net_entity(alloc: Global, placed: &Placed) -> Result<NetEntity, DocFault>
     })
 }
 
+fn add_entity(alloc: Global, entities: &mut Vec<NetEntity>, placed: &Placed) -> Result<(), DocFault>
+    ensures ok { OnOk result (map net.entity_view entities.new.items ≡ map net.entity_view entities.old.items ++ net.entity_tree (placed_view placed.now) ∷ []) }
+    ensures err { IfErr result (λ e. e ≡ Memory) }
+{
+    let entity = net_entity(alloc, placed)?;
+    entities.push(entity)?;
+    Ok(())
+}
+
 /// The entities that stay in the net.
 pub fn net_entities(alloc: Global, table: &[Placed]) -> Result<Vec<NetEntity>, DocFault>
     ensures ok { IfOk result (λ entities. map net.entity_view entities.items ≡ map net.entity_tree (filter is_kept (table_view table.now))) }
@@ -203,7 +212,7 @@ pub fn net_entities(alloc: Global, table: &[Placed]) -> Result<Vec<NetEntity>, D
     let mut entities = Vec::new(alloc);
     for placed in table {
         if placed.is_kept() {
-            entities.push(net_entity(alloc, placed)?)?;
+            add_entity(alloc, &mut entities, placed)?;
         }
     }
     Ok(entities)
@@ -224,6 +233,19 @@ fn transparent(alloc: Global, placed: &Placed) -> Result<Transparent, DocFault>
     })
 }
 
+fn add_transparent(
+    alloc: Global,
+    entities: &mut Vec<Transparent>,
+    placed: &Placed,
+) -> Result<(), DocFault>
+    ensures ok { OnOk result (map net.transparent_view entities.new.items ≡ map net.transparent_view entities.old.items ++ net.transparent_tree (placed_view placed.now) ∷ []) }
+    ensures err { IfErr result (λ e. e ≡ Memory) }
+{
+    let entity = transparent(alloc, placed)?;
+    entities.push(entity)?;
+    Ok(())
+}
+
 /// The transparent composites.
 pub fn transparent_composites(alloc: Global, table: &[Placed]) -> Result<Vec<Transparent>, DocFault>
     ensures ok { IfOk result (λ entities. map net.transparent_view entities.items ≡ map net.transparent_tree (filter (λ s. not (is_kept s)) (table_view table.now))) }
@@ -232,7 +254,7 @@ pub fn transparent_composites(alloc: Global, table: &[Placed]) -> Result<Vec<Tra
     let mut entities = Vec::new(alloc);
     for placed in table {
         if !placed.is_kept() {
-            entities.push(transparent(alloc, placed)?)?;
+            add_transparent(alloc, &mut entities, placed)?;
         }
     }
     Ok(entities)

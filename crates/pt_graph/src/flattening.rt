@@ -1,12 +1,15 @@
-ghost use Rattle.std.specs.Prelude.{◌≡◌, ℕ, List, length, IfOk, IfErr, OnOk};
+ghost use Rattle.std.specs.Prelude.{◌≡◌, ℕ, List, length, map, filter, not, IfOk, IfErr, OnOk};
 ghost use Rattle.pt_moml.specs.declared.code.Code.{Code};
 ghost use Rattle.pt_moml.specs.declared.code.Code.TheVariants as code;
+ghost use Rattle.pt_moml.specs.declared.refusal.DocFault.TheVariants.{Memory};
 ghost use Rattle.pt_moml.specs.Names.{top_path};
-ghost use Rattle.pt_moml.specs.View.{job_view};
+ghost use Rattle.pt_moml.specs.View.{job_view, input_view};
+ghost use Rattle.pt_graph.specs.Net as net;
 ghost use Rattle.pt_graph.specs.Net.{AreJoints, IsNetOf};
+ghost use Rattle.pt_graph.specs.Standing.{is_kept};
 ghost use Rattle.pt_graph.specs.Stands.{IsTold, IsFaultIn, IsFaultOf, Stands};
-ghost use Rattle.pt_graph.specs.Survey.{tables_view};
-ghost use Rattle.pt_graph.specs.Wiring.{AreOwned};
+ghost use Rattle.pt_graph.specs.Survey.{table_view, tables_view};
+ghost use Rattle.pt_graph.specs.Wiring.{IsWiring, AllNamed, AreOwned};
 ghost use Rattle.pt_graph.specs.ChannelTable.{AreChannels, AreTooMany};
 
 use crate::channels::{channels_of, number};
@@ -14,15 +17,15 @@ use crate::checks::{check_counts, check_ports};
 use crate::copies::{inputs, texts};
 use crate::entities::{net_entities, transparent_composites};
 use crate::joints::joints;
-use crate::net::{Channel, Joint, Net};
+use crate::net::{Channel, Joint, Net, NetEntity, Transparent};
 use crate::origins::Origins;
 use crate::records::recorded;
 use crate::refusal::refused_at;
 use crate::sources::check_groups;
-use crate::survey::survey;
+use crate::survey::{Placed, survey};
 use crate::tables::{Tables, tables_of};
 use crate::wiring::Wiring;
-use pt_moml::{Code, DocFault, Job};
+use pt_moml::{Code, DocFault, Input, Job};
 use pt_value::Text;
 use std::alloc::Global;
 
@@ -39,6 +42,40 @@ struct Passages {
     joints: Vec<Joint>,
 }
 
+/// The channels of a job with these wires. Refuses a link, a place without a source and a relation group with two.
+fn checked_channels(alloc: Global, wiring: &Wiring) -> Result<Vec<Channel>, DocFault>
+    requires wiring { IsWiring wiring.now }
+    requires named { AllNamed (tables_view wiring.now.tables.now) }
+    ensures ok { IfOk result (λ channels. AreChannels (tables_view wiring.now.tables.now) channels.items) }
+    ensures told { IfErr result (λ fault. (records : List (List ℕ)) → IsFaultIn (tables_view wiring.now.tables.now) records fault) }
+{
+    check_ports(alloc, wiring)?;
+    check_counts(alloc, wiring)?;
+    check_groups(alloc, wiring)?;
+    let origins = Origins::of(alloc, wiring)?;
+    let channels = channels_of(alloc, &origins);
+    drop(origins);
+    channels
+}
+
+/// The same channels, and what the links join.
+fn wired_paths(alloc: Global, wiring: &Wiring) -> Result<Passages, DocFault>
+    requires wiring { IsWiring wiring.now }
+    requires named { AllNamed (tables_view wiring.now.tables.now) }
+    ensures channels { IfOk result (λ paths. AreChannels (tables_view wiring.now.tables.now) paths.channels.items) }
+    ensures joints { IfOk result (λ paths. AreJoints (tables_view wiring.now.tables.now) paths.joints.items) }
+    ensures told { IfErr result (λ fault. (records : List (List ℕ)) → IsFaultIn (tables_view wiring.now.tables.now) records fault) }
+{
+    let channels = checked_channels(alloc, wiring)?;
+    match joints(alloc, wiring) {
+        Ok(joints) => Ok(Passages { channels, joints }),
+        Err(fault) => {
+            drop(channels);
+            Err(fault)
+        }
+    }
+}
+
 /// The channels of a job with these tables, and what its links join. Refuses a link, a place without a source and a
 /// relation group with two.
 fn paths(alloc: Global, tables: &Tables) -> Result<Passages, DocFault>
@@ -48,13 +85,9 @@ fn paths(alloc: Global, tables: &Tables) -> Result<Passages, DocFault>
     ensures told { IfErr result (λ fault. (records : List (List ℕ)) → IsFaultIn (tables_view tables.now) records fault) }
 {
     let wiring = Wiring::of(alloc, tables)?;
-    check_ports(alloc, &wiring)?;
-    check_counts(alloc, &wiring)?;
-    check_groups(alloc, &wiring)?;
-    let origins = Origins::of(alloc, &wiring)?;
-    let channels = channels_of(alloc, &origins)?;
-    let joints = joints(alloc, &wiring)?;
-    Ok(Passages { channels, joints })
+    let paths = wired_paths(alloc, &wiring);
+    drop(wiring);
+    paths
 }
 
 /// Refuses too many channels or recorded ports.
@@ -66,6 +99,30 @@ fn check_limits(alloc: Global, channels: &[Channel], records: &[Text]) -> Result
         return Err(refused_at(alloc, Code::Limit, "."));
     }
     Ok(())
+}
+
+/// What a net has of its job as it stands there.
+#[derive(Drop)]
+struct Copies {
+    entities: Vec<NetEntity>,
+    transparent: Vec<Transparent>,
+    inputs: Vec<Input>,
+    records: Vec<Text>,
+}
+
+fn copied(alloc: Global, job: &Job, table: &[Placed]) -> Result<Copies, DocFault>
+    ensures entities { IfOk result (λ copied. map net.entity_view copied.entities.items ≡ map net.entity_tree (filter is_kept (table_view table.now))) }
+    ensures transparent { IfOk result (λ copied. map net.transparent_view copied.transparent.items ≡ map net.transparent_tree (filter (λ s. not (is_kept s)) (table_view table.now))) }
+    ensures inputs { IfOk result (λ copied. map input_view copied.inputs.items ≡ map input_view job.now.inputs.items) }
+    ensures records { IfOk result (λ copied. copied.records.items ≡ job.now.records.items) }
+    ensures err { IfErr result (λ e. e ≡ Memory) }
+{
+    Ok(Copies {
+        entities: net_entities(alloc, table)?,
+        transparent: transparent_composites(alloc, table)?,
+        inputs: inputs(alloc, &job.inputs)?,
+        records: texts(alloc, &job.records)?,
+    })
 }
 
 /// The net of a job: its library actors and opaque composites, and a channel for each path of links, relations and
@@ -85,14 +142,16 @@ pub fn flatten(alloc: Global, job: &Job) -> Result<Net, DocFault>
     let paths = paths(alloc, &tables)?;
     check_limits(alloc, &paths.channels, &job.records)?;
     let recorded = recorded(alloc, &tables, &job.records)?;
+    let relation_count = number(tables.relations.len())?;
+    let copied = copied(alloc, job, &entities)?;
     Ok(Net {
-        entities: net_entities(alloc, &entities)?,
-        transparent: transparent_composites(alloc, &entities)?,
+        entities: copied.entities,
+        transparent: copied.transparent,
         channels: paths.channels,
-        relation_count: number(tables.relations.len())?,
+        relation_count,
         joints: paths.joints,
-        inputs: inputs(alloc, &job.inputs)?,
-        records: texts(alloc, &job.records)?,
+        inputs: copied.inputs,
+        records: copied.records,
         recorded,
     })
 }

@@ -7,17 +7,29 @@ use std::hash::{BuildHasherDefault, DefaultHasher, Hash};
 
 /// Numbers by key. Under the fast hasher that maps have by default a document could hold any number of names of one hash,
 /// and each look-up would walk over all of them. Under this one such names are hard to find.
-pub type Places<K> = IndexMap<K, usize, BuildHasherDefault<DefaultHasher>>;
+#[derive(Drop)]
+pub struct Places<K: Copy + Eq + Hash> {
+    numbers: IndexMap<K, usize, BuildHasherDefault<DefaultHasher>>,
+}
+
+impl<K: Copy + Eq + Hash> Places<K> {
+    /// The number of a key.
+    pub fn get(&self, key: &K) -> Option<usize>
+        ensures { result ≡ get K.eq self.now.numbers key.now }
+    {
+        self.numbers.get(key).copied()
+    }
+}
 
 /// The number of each key, the first one where it stands more than once.
 pub fn first_places<K: Copy + Eq + Hash>(alloc: Global, keys: &[K]) -> Result<Places<K>, AllocError>
-    ensures { IfOk result (λ places. (key : K) → get K.eq places key ≡ position (K.eq key) keys.now) }
+    ensures { IfOk result (λ places. (key : K) → get K.eq places.numbers key ≡ position (K.eq key) keys.now) }
 {
-    let mut places = IndexMap::with_hasher(alloc, BuildHasherDefault::new());
+    let mut numbers = IndexMap::with_hasher(alloc, BuildHasherDefault::new());
     for (number, key) in keys.iter().enumerate() {
-        if !places.contains_key(key) {
-            places.insert(*key, number)?;
+        if !numbers.contains_key(key) {
+            numbers.insert(*key, number)?;
         }
     }
-    Ok(places)
+    Ok(Places { numbers })
 }

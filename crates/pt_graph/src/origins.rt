@@ -1,4 +1,4 @@
-ghost use Rattle.std.specs.Prelude.{◌≡◌, ℕ, ◌<◌, ◌++◌, length, Some, None, All, IfOk, OnOk, MatchOption, slice_get};
+ghost use Rattle.std.specs.Prelude.{◌≡◌, ℕ, ◌<◌, ◌++◌, length, true, Some, None, All, IfOk, OnOk, MatchOption, slice_get};
 ghost use Rattle.std.specs.List.{filter_map};
 ghost use Rattle.pt_graph.specs.Survey.{tables_view, port_at};
 ghost use Rattle.pt_graph.specs.Net as net;
@@ -82,6 +82,35 @@ fn class_sources(
     Ok(sources)
 }
 
+/// The classes of relations that are joined.
+fn classes(alloc: Global, wiring: &Wiring) -> Result<Vec<usize>, AllocError>
+    requires wiring { IsWiring wiring.now }
+    requires fine { AreFine (tables_view wiring.now.tables.now) }
+    ensures { IfOk result (λ class. IsGrouping (length (tables_view wiring.now.tables.now).relations) (spec.ways (tables_view wiring.now.tables.now)) class.items) }
+{
+    let ways = ways(alloc, wiring)?;
+    let class = group(alloc, wiring.tables.relations.len(), &ways);
+    drop(ways);
+    class
+}
+
+/// One of the sources of each of these classes.
+fn sources_of(
+    alloc: Global,
+    wiring: &Wiring,
+    class: &[usize],
+) -> Result<Vec<Option<usize>>, AllocError>
+    requires wiring { IsWiring wiring.now }
+    requires relations { length class.now ≡ length (tables_view wiring.now.tables.now).relations }
+    requires classes { All (λ c. c < length class.now) class.now }
+    ensures { IfOk result (λ found. AreOrigins (length class.now) (length (sources.gifts (tables_view wiring.now.tables.now) true)) class.now (sources.gifts (tables_view wiring.now.tables.now) true) found.items) }
+{
+    let gifts = gifts(alloc, wiring, true)?;
+    let sources = class_sources(alloc, class, &gifts);
+    drop(gifts);
+    sources
+}
+
 impl<'o, 'w, 't, 'a> Origins<'o, 'w, 't, 'a> {
     /// The sources of these wires.
     pub fn of(
@@ -93,13 +122,18 @@ impl<'o, 'w, 't, 'a> Origins<'o, 'w, 't, 'a> {
         ensures wiring { IfOk result (λ origins. origins.wiring.now ≡ wiring.now) }
         ensures origins { IfOk result AreTrue }
     {
-        let class = group(alloc, wiring.tables.relations.len(), &ways(alloc, wiring)?)?;
-        let sources = class_sources(alloc, &class, &gifts(alloc, wiring, true)?)?;
-        Ok(Origins {
-            wiring,
-            class,
-            sources,
-        })
+        let class = classes(alloc, wiring)?;
+        match sources_of(alloc, wiring, &class) {
+            Ok(sources) => Ok(Origins {
+                wiring,
+                class,
+                sources,
+            }),
+            Err(fault) => {
+                drop(class);
+                Err(fault)
+            }
+        }
     }
 
     /// The port of which the tokens of a relation come, if it has a source.

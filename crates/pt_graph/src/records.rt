@@ -76,7 +76,7 @@ impl Outputs {
 
 /// The first place of each text.
 fn text_places<'k>(alloc: Global, texts: &'k [Text]) -> Result<Places<&'k str>, AllocError>
-    ensures { IfOk result (λ places. (name : Bor (List ℕ)) → get name_eq places name ≡ position (bytes_eq name.now) texts.now) }
+    ensures { IfOk result (λ places. (name : Bor (List ℕ)) → get name_eq places.numbers name ≡ position (bytes_eq name.now) texts.now) }
 {
     let mut keys = Vec::with_capacity(alloc, texts.len())?;
     for text in texts {
@@ -113,20 +113,27 @@ impl<'k, 't, 'a> Recorder<'k, 't, 'a> {
         ensures records { IfOk result (λ recorder. recorder.records.now ≡ records.now) }
         ensures recorder { IfOk result IsRecorder }
     {
-        Ok(Recorder {
-            tables,
-            records,
-            ports: &outputs.ports,
-            firsts: text_places(alloc, records)?,
-            places: text_places(alloc, &outputs.paths)?,
-        })
+        let firsts = text_places(alloc, records)?;
+        match text_places(alloc, &outputs.paths) {
+            Ok(places) => Ok(Recorder {
+                tables,
+                records,
+                ports: &outputs.ports,
+                firsts,
+                places,
+            }),
+            Err(fault) => {
+                drop(firsts);
+                Err(fault)
+            }
+        }
     }
 
     fn first(&self, text: &str) -> Option<usize>
         requires { IsRecorder self.now }
         ensures { result ≡ position (bytes_eq text.now) self.now.records.now }
     {
-        self.firsts.get(text).copied()
+        self.firsts.get(&text)
     }
 
     /// Whether the text stands at this number for the first time.
@@ -144,7 +151,7 @@ impl<'k, 't, 'a> Recorder<'k, 't, 'a> {
         requires { IsRecorder self.now }
         ensures { result ≡ position (bytes_eq text.now) (map (λ o. o.path) (outputs_of (tables_view self.now.tables.now).ports)) }
     {
-        self.places.get(text).copied()
+        self.places.get(&text)
     }
 
     /// The port that the text of this number names.
@@ -163,6 +170,38 @@ impl<'k, 't, 'a> Recorder<'k, 't, 'a> {
             None => Err(refused_record(alloc, text)),
         }
     }
+
+    /// The port that each text names.
+    fn all_ports(&self, alloc: Global) -> Result<Vec<NetPort>, DocFault>
+        requires { IsRecorder self.now }
+        ensures ok { IfOk result (λ ports. AllZip (net.Records (tables_view self.now.tables.now)) self.now.records.now ports.items) }
+        ensures distinct { OnOk result (AreDistinct self.now.records.now) }
+        ensures told { IfErr result (IsTold code.Record (IsRecordFault (tables_view self.now.tables.now) self.now.records.now)) }
+    {
+        let mut ports = Vec::with_capacity(alloc, self.records.len())?;
+        for number in 0..self.records.len() {
+            ports.push(self.port(alloc, number)?)?;
+        }
+        Ok(ports)
+    }
+}
+
+/// The port that each text names, where these are the output ports.
+fn recorded_among(
+    alloc: Global,
+    tables: &Tables,
+    records: &[Text],
+    outputs: &Outputs,
+) -> Result<Vec<NetPort>, DocFault>
+    requires { AreOutputs (outputs_of (tables_view tables.now).ports) outputs.now }
+    ensures ok { IfOk result (λ ports. AllZip (net.Records (tables_view tables.now)) records.now ports.items) }
+    ensures distinct { OnOk result (AreDistinct records.now) }
+    ensures told { IfErr result (IsTold code.Record (IsRecordFault (tables_view tables.now) records.now)) }
+{
+    let recorder = Recorder::of(alloc, tables, records, outputs)?;
+    let ports = recorder.all_ports(alloc);
+    drop(recorder);
+    ports
 }
 
 /// The port that each text names. Refuses a text that names no output port of the net, or that stands there before.
@@ -172,10 +211,7 @@ pub fn recorded(alloc: Global, tables: &Tables, records: &[Text]) -> Result<Vec<
     ensures told { IfErr result (IsTold code.Record (IsRecordFault (tables_view tables.now) records.now)) }
 {
     let outputs = Outputs::of(alloc, &tables.ports)?;
-    let recorder = Recorder::of(alloc, tables, records, &outputs)?;
-    let mut ports = Vec::with_capacity(alloc, records.len())?;
-    for number in 0..records.len() {
-        ports.push(recorder.port(alloc, number)?)?;
-    }
-    Ok(ports)
+    let ports = recorded_among(alloc, tables, records, &outputs);
+    drop(outputs);
+    ports
 }

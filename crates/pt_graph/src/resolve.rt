@@ -41,7 +41,7 @@ fn inside_places<'k>(
     alloc: Global,
     ports: &'k [PlacedPort],
 ) -> Result<Places<(usize, &'k str)>, AllocError>
-    ensures { IfOk result (λ places. (c : ℕ) (text : Bor (List ℕ)) → get pair_eq places (c, text) ≡ position (wires.names_inside c text.now) (ports_view ports.now)) }
+    ensures { IfOk result (λ places. (c : ℕ) (text : Bor (List ℕ)) → get pair_eq places.numbers (c, text) ≡ position (wires.names_inside c text.now) (ports_view ports.now)) }
 {
     let mut keys = Vec::with_capacity(alloc, ports.len())?;
     for port in ports {
@@ -56,7 +56,7 @@ fn outside_places<'k>(
     texts: &'k [Text],
 ) -> Result<Places<(Option<usize>, &'k str)>, AllocError>
     requires texts { texts.now ≡ map outside_text (ports_view ports.now) }
-    ensures { IfOk result (λ places. (c : ℕ) (text : Bor (List ℕ)) → get child_eq places (Some c, text) ≡ position (wires.names_outside c text.now) (ports_view ports.now)) }
+    ensures { IfOk result (λ places. (c : ℕ) (text : Bor (List ℕ)) → get child_eq places.numbers (Some c, text) ≡ position (wires.names_outside c text.now) (ports_view ports.now)) }
 {
     let mut keys = Vec::with_capacity(alloc, ports.len())?;
     for (number, port) in ports.iter().enumerate() {
@@ -69,7 +69,7 @@ fn relation_places<'k>(
     alloc: Global,
     relations: &'k [PlacedRelation],
 ) -> Result<Places<(usize, &'k str)>, AllocError>
-    ensures { IfOk result (λ places. (c : ℕ) (text : Bor (List ℕ)) → get pair_eq places (c, text) ≡ position (wires.names_relation c text.now) (relations_view relations.now)) }
+    ensures { IfOk result (λ places. (c : ℕ) (text : Bor (List ℕ)) → get pair_eq places.numbers (c, text) ≡ position (wires.names_relation c text.now) (relations_view relations.now)) }
 {
     let mut keys = Vec::with_capacity(alloc, relations.len())?;
     for relation in relations {
@@ -89,33 +89,48 @@ impl<'k, 't, 'a> Names<'k, 't, 'a> {
         ensures tables { IfOk result (λ names. names.tables.now ≡ tables.now) }
         ensures names { IfOk result IsNames }
     {
-        Ok(Names {
-            tables,
-            inside: inside_places(alloc, &tables.ports)?,
-            outside: outside_places(alloc, &tables.ports, texts)?,
-            relations: relation_places(alloc, &tables.relations)?,
-        })
+        let inside = inside_places(alloc, &tables.ports)?;
+        let outside = match outside_places(alloc, &tables.ports, texts) {
+            Ok(outside) => outside,
+            Err(fault) => {
+                drop(inside);
+                return Err(fault);
+            }
+        };
+        match relation_places(alloc, &tables.relations) {
+            Ok(relations) => Ok(Names {
+                tables,
+                inside,
+                outside,
+                relations,
+            }),
+            Err(fault) => {
+                drop(inside);
+                drop(outside);
+                Err(fault)
+            }
+        }
     }
 
     fn port_inside(&self, composite: usize, text: &str) -> Option<usize>
         requires { IsNames self.now }
         ensures { result ≡ position (wires.names_inside composite text.now) (tables_view self.now.tables.now).ports }
     {
-        self.inside.get(&(composite, text)).copied()
+        self.inside.get(&(composite, text))
     }
 
     fn port_outside(&self, composite: usize, text: &str) -> Option<usize>
         requires { IsNames self.now }
         ensures { result ≡ position (wires.names_outside composite text.now) (tables_view self.now.tables.now).ports }
     {
-        self.outside.get(&(Some(composite), text)).copied()
+        self.outside.get(&(Some(composite), text))
     }
 
     fn relation(&self, composite: usize, text: &str) -> Option<usize>
         requires { IsNames self.now }
         ensures { result ≡ wires.relation_named (tables_view self.now.tables.now).ports (tables_view self.now.tables.now).relations composite text.now }
     {
-        self.relations.get(&(composite, text)).copied()
+        self.relations.get(&(composite, text))
     }
 
     /// What a link joins, or `None` where it names no port or no relation.
@@ -159,12 +174,25 @@ impl<'k, 't, 'a> Names<'k, 't, 'a> {
     }
 }
 
+/// What the links of these tables join, whose ports have these texts from outside.
+fn wires_among(alloc: Global, tables: &Tables, texts: &[Text]) -> Result<Vec<Wire>, DocFault>
+    requires texts { texts.now ≡ map outside_text (tables_view tables.now).ports }
+    ensures ok { IfOk result (λ joined. map (wires.wire_of (tables_view tables.now).ports (tables_view tables.now).relations) (tables_view tables.now).links ≡ map Some joined.items) }
+    ensures told { IfErr result (IsTold code.Link (IsLinkFault (tables_view tables.now))) }
+{
+    let names = Names::of(alloc, tables, texts)?;
+    let joined = names.wires(alloc);
+    drop(names);
+    joined
+}
+
 /// What the links of these tables join, in the order of the document. Refuses a link that names no port or no relation.
 pub fn wires_of(alloc: Global, tables: &Tables) -> Result<Vec<Wire>, DocFault>
     ensures ok { IfOk result (λ joined. map (wires.wire_of (tables_view tables.now).ports (tables_view tables.now).relations) (tables_view tables.now).links ≡ map Some joined.items) }
     ensures told { IfErr result (IsTold code.Link (IsLinkFault (tables_view tables.now))) }
 {
     let texts = outside_texts(alloc, &tables.ports)?;
-    let names = Names::of(alloc, tables, &texts)?;
-    names.wires(alloc)
+    let joined = wires_among(alloc, tables, &texts);
+    drop(texts);
+    joined
 }

@@ -104,6 +104,20 @@ impl<'a> Placed<'a> {
 impl<'a> Entities<'a> {
     ghost use Rattle.pt_graph.specs.Survey.{IsCounted};
 
+    /// Appends an entity whose number in the net comes next.
+    fn push(&mut self, placed: Placed<'a>) -> Result<(), AllocError>
+        requires counted { IsCounted self.old }
+        ensures counted { OnOk result (IsCounted self.new) }
+        ensures table { OnOk result (table_view self.new.table.items ≡ table_view self.old.table.items ++ placed_view placed.entry ∷ []) }
+    {
+        let is_kept = placed.is_kept();
+        self.table.push(placed)?;
+        if is_kept {
+            self.kept += 1;
+        }
+        Ok(())
+    }
+
     /// Appends an entity, and gives what stands round its children.
     fn add(
         &mut self,
@@ -125,11 +139,7 @@ impl<'a> Entities<'a> {
             entity,
         };
         let inside = placed.round_inside(self.table.len());
-        let is_kept = placed.is_kept();
-        self.table.push(placed)?;
-        if is_kept {
-            self.kept += 1;
-        }
+        self.push(placed)?;
         Ok(inside)
     }
 

@@ -241,6 +241,25 @@ fn add_links<'t, 'a>(
     Ok(())
 }
 
+impl<'t, 'a> Tables<'t, 'a> {
+    /// Adds the ports, relations and links of the entity of this number.
+    fn add(
+        &mut self,
+        alloc: Global,
+        number: usize,
+        placed: &'t Placed<'a>,
+    ) -> Result<(), AllocError>
+        ensures entities { OnOk result (self.new.entities.now ≡ self.old.entities.now) }
+        ensures ports { OnOk result (ports_view self.new.ports.items ≡ ports_view self.old.ports.items ++ spec.numbered_ports number (placed_view placed.now) 0 (spec.ports_of (parts (placed_view placed.now).tree))) }
+        ensures relations { OnOk result (relations_view self.new.relations.items ≡ relations_view self.old.relations.items ++ spec.relations_in number (placed_view placed.now)) }
+        ensures links { OnOk result (links_view self.new.links.items ≡ links_view self.old.links.items ++ spec.links_in number (placed_view placed.now)) }
+    {
+        add_ports(alloc, &mut self.ports, number, placed)?;
+        add_relations(&mut self.relations, number, placed)?;
+        add_links(&mut self.links, number, placed)
+    }
+}
+
 /// The tables of a job with these entities.
 pub fn tables_of<'t, 'a>(
     alloc: Global,
@@ -248,18 +267,14 @@ pub fn tables_of<'t, 'a>(
 ) -> Result<Tables<'t, 'a>, AllocError>
     ensures { IfOk result (λ tables. tables_view tables ≡ spec.tables_from (table_view entities.now)) }
 {
-    let mut ports = Vec::new(alloc);
-    let mut relations = Vec::new(alloc);
-    let mut links = Vec::new(alloc);
-    for (number, placed) in entities.iter().enumerate() {
-        add_ports(alloc, &mut ports, number, placed)?;
-        add_relations(&mut relations, number, placed)?;
-        add_links(&mut links, number, placed)?;
-    }
-    Ok(Tables {
+    let mut tables = Tables {
         entities,
-        ports,
-        relations,
-        links,
-    })
+        ports: Vec::new(alloc),
+        relations: Vec::new(alloc),
+        links: Vec::new(alloc),
+    };
+    for (number, placed) in entities.iter().enumerate() {
+        tables.add(alloc, number, placed)?;
+    }
+    Ok(tables)
 }

@@ -4,7 +4,7 @@ use Rattle.std.specs.List.{AllZip}
 use Rattle.pt_moml.specs.declared.code.Code.{Code}
 use Rattle.pt_moml.specs.declared.code.Code.TheVariants.{Limit}
 use Rattle.pt_moml.specs.Names.{top_path}
-use Rattle.pt_moml.specs.View.{job_view, input_view}
+use Rattle.pt_moml.specs.View.{job_view}
 use Rattle.pt_graph.specs.declared.survey.Placed.{Placed}
 use Rattle.pt_graph.specs.declared.net.Channel.{Channel}
 use Rattle.pt_graph.specs.declared.tables.PlacedRelation.{PlacedRelation}
@@ -48,12 +48,10 @@ returns-in_err-check_limits-clause-refused c =
 pub returns-clause-net : goal.returns-clause-net
 returns-clause-net c =
     let is : tables_view c.in_ok-tables.tables ≡ tables_of (job_view c.args.job.now) = c.in_ok-tables.ensures ∙ ap (λ (ps : List Placed). tables_from (table_view ps)) c.deref.ensures.value ∙ ap tables_from c.in_ok-entities.ensures in
-    let made = c.in_ok-net_entities.ensures.ok ∙ ap (λ (ps : List Placed). map entity_tree (filter is_kept (table_view ps))) c.deref-5.ensures.value in
-    let transparent = c.in_ok-transparent_composites.ensures.ok ∙ ap (λ (ps : List Placed). map transparent_tree (filter (λ s. not (is_kept s)) (table_view ps))) c.deref-6.ensures.value in
-    let inputs = c.in_ok-inputs.ensures ∙ ap (map input_view) c.deref-7.ensures.value in
-    let records = c.in_ok-texts.ensures ∙ c.deref-8.ensures.value in
+    let made = c.in_ok-copied.ensures.entities ∙ ap (λ (ps : List Placed). map entity_tree (filter is_kept (table_view ps))) c.deref-5.ensures.value in
+    let transparent = c.in_ok-copied.ensures.transparent ∙ ap (λ (ps : List Placed). map transparent_tree (filter (λ s. not (is_kept s)) (table_view ps))) c.deref-5.ensures.value in
     let recorded = subst (λ (rs : List (List ℕ)). AllZip (Records (tables_view c.in_ok-tables.tables)) rs c.in_ok-recorded.recorded.items) c.deref-4.ensures.value c.in_ok-recorded.ensures.ok in
-    net_of (job_view c.args.job.now) _ _ _ c.in_ok-entities.ensures is made transparent c.in_ok-paths.ensures.channels (c.in_ok-number.ensures.ok ∙ counted c.in_ok-tables.tables.relations c.len.result c.len.ensures) c.in_ok-paths.ensures.joints inputs records recorded
+    net_of (job_view c.args.job.now) _ _ _ c.in_ok-entities.ensures is made transparent c.in_ok-paths.ensures.channels (c.in_ok-relation_count.ensures.ok ∙ counted c.in_ok-tables.tables.relations c.len.result c.len.ensures) c.in_ok-paths.ensures.joints c.in_ok-copied.ensures.inputs c.in_ok-copied.ensures.records recorded
 
 pub returns-clause-accepted : goal.returns-clause-accepted
 returns-clause-accepted c =

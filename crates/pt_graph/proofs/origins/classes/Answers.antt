@@ -1,13 +1,11 @@
-use Rattle.std.proofs.Common.{◌≡◌, ℕ, ◌<◌, List, true, length, sym, ap, subst, ◌∙◌, arith, Vec, Global}
+use Rattle.std.proofs.Common.{◌≡◌, ℕ, List, length, sym, subst, ◌∙◌, arith, Vec, Global}
 use Rattle.std.proofs.lemmas.List.{length-map}
-use Rattle.std.specs.List.{All}
 use Rattle.pt_graph.specs.declared.tables.PlacedRelation.{PlacedRelation}
 use Rattle.pt_graph.specs.Survey.{tables_view, relation_at, relations_view}
 use Rattle.pt_graph.specs.Origins.{ways}
 use Rattle.pt_graph.proofs.GroupSteps.{AreEnds}
-use Rattle.pt_graph.proofs.GiftFacts.{gifts_below}
 use Rattle.pt_graph.proofs.WayFacts.{ways_below}
-use Rattle.pt_graph.proofs.origins.Origins.of.Goals as goal
+use Rattle.pt_graph.proofs.origins.classes.Goals as goal
 
 count_of : (relations : Vec PlacedRelation Global) (n : ℕ) → n ≡ relations.len → n ≡ length (relations_view relations.items)
 count_of relations n e = omega (arith, length-map relations.items relation_at, relations.ok.0)
@@ -15,14 +13,7 @@ count_of relations n e = omega (arith, length-map relations.items relation_at, r
 ends_of : (n m : ℕ) (xs ys : List (ℕ × ℕ)) → n ≡ m → xs ≡ ys → AreEnds m ys → AreEnds n xs
 ends_of n m xs ys e f all = subst (λ k. AreEnds k xs) (sym e) (subst (λ zs. AreEnds m zs) (sym f) all)
 
-pub group-requires : goal.group-requires
-group-requires c =
+pub group-class-requires : goal.group-class-requires
+group-class-requires c =
     let t = tables_view c.args.wiring.now.tables.now in
     record { ends = ends_of c.len.result (length t.relations) c.deref.result.now (ways t) (count_of c.args.wiring.now.tables.now.relations c.len.result c.len.ensures) (c.deref.ensures.value ∙ c.in_ok-ways.ensures) (ways_below t c.requires.wiring.owned c.requires.fine c.requires.wiring.within) }
-
-pub class_sources-requires-clause-relations : goal.class_sources-requires-clause-relations
-class_sources-requires-clause-relations c =
-    let t = tables_view c.args.wiring.now.tables.now in
-    let n = count_of c.args.wiring.now.tables.now.relations c.len.result c.len.ensures in
-    let size : length c.deref-2.result.now ≡ length t.relations = ap (λ gs. length gs) c.deref-2.ensures.value ∙ c.in_ok-class.ensures.each ∙ n in
-    subst (λ k. All (λ gift. gift.1 < k) c.deref-3.result.now) (sym size) (subst (λ gs. All (λ gift. gift.1 < length t.relations) gs) (sym (c.deref-3.ensures.value ∙ c.in_ok-gifts.ensures)) (gifts_below t c.requires.wiring.within true))
