@@ -14,14 +14,14 @@ fn show(tokens: &[Token], out: &mut Vec<u8>) -> Result<(), AllocError> {
 }
 
 /// The texts of tokens, each before a blank.
-pub fn texts(alloc: Global, tokens: &[Token]) -> Result<Vec<u8>, AllocError> {
+pub(crate) fn texts(alloc: Global, tokens: &[Token]) -> Result<Vec<u8>, AllocError> {
     let mut out = Vec::new(alloc);
     show(tokens, &mut out)?;
     Ok(out)
 }
 
 /// The texts of the tokens of each port, and a bar behind each port.
-pub fn port_texts(alloc: Global, outputs: &Outputs) -> Result<Vec<u8>, AllocError> {
+pub(crate) fn port_texts(alloc: Global, outputs: &Outputs) -> Result<Vec<u8>, AllocError> {
     let mut out = Vec::new(alloc);
     for port in 0..outputs.ports() {
         show(outputs.list(port), &mut out)?;

@@ -1,4 +1,4 @@
--- A run of the model of the net of a document never meets a token of another type than its port's.
+-- No finished firing in a run of the model of the net of a document takes or gives a token of another type than its port's.
 use Rattle.std.specs.Prelude.{ℕ}
 use Rattle.pt_meaning.specs.Step.{no_meetings}
 use Rattle.pt_meaning.specs.Job.{meaning}

@@ -38,7 +38,7 @@ pub data IsRefused (bytes : List ℕ) (r : Refusal) : Type 0 where
   in_links : (job : JobTree) → IsJobOf bytes job → reading.IsClean bytes → linking.Stands r.code r.path job → IsRefused bytes r
   in_net : (job : JobTree) (net : Net) → HasNet bytes job net → unmodelled.IsRefused net r → IsRefused bytes r
 
--- The report of a run of a document within a budget. In the meaning of its model no firing met a token of another type than its port's.
+-- The report of a run of a document within a budget. In the meaning of its model no finished firing took or gave a token of another type than its port's.
 pub record IsReportOf (bytes : List ℕ) (budget : ℕ) (status : Status) (text : List ℕ) : Type 0 where
   pub job : JobTree
   pub net : Net

@@ -76,7 +76,7 @@ pub fn inputs_are_typed()
     ensures { InputsAreTyped }
 {}
 
-/// A run of the tree of the net of a document never meets a token of another type than its port's.
+/// No finished firing in a run of the tree of the net of a document takes or gives a token of another type than its port's.
 pub fn tokens_are_typed()
     ensures { TypedNetsKeepTypes }
 {}
