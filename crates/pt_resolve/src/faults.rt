@@ -7,7 +7,7 @@ ghost use Rattle.pt_values.specs.Valued as valued;
 ghost use Rattle.pt_typing.specs.declared.variable.Variable.TheVariants as variable;
 ghost use Rattle.pt_typing.specs.Least.{assignment};
 ghost use Rattle.pt_resolve.specs.Rows.{port_type};
-ghost use Rattle.pt_resolve.specs.Frames.{seen_types};
+ghost use Rattle.pt_resolve.specs.Frames.{frames_of, seen_types};
 ghost use Rattle.pt_resolve.specs.Faults.{is_above, IsBroken};
 ghost use Rattle.pt_resolve.specs.Broken.{has_port_above, lacks_type, has_untyped, breaks, first_broken};
 ghost use Rattle.pt_resolve.specs.ModalFaults.{IsFailing};
@@ -184,9 +184,29 @@ fn failing(
     ensures { IfOk result (λ found. IsFailing (frames_view frames.now) (assignment typing.now) (map entity_view entities.now) (map valued.entity_view values.now) found) }
 {
     let charts = charts_of(alloc, frames, entities, values)?;
-    match first_failing(alloc, typing, &charts)? {
+    let found = first_failing(alloc, typing, &charts);
+    drop(charts);
+    match found? {
         Some(number) => Ok(Some(number as usize)),
         None => Ok(None),
+    }
+}
+
+/// The number of an entity at which the typing of a net with these frames breaks, if there is one.
+fn broken_among(
+    alloc: Global,
+    frames: &Frames,
+    net: &Net,
+    values: &Values,
+    typing: &Typing,
+) -> Result<Option<usize>, AllocError>
+    requires frames { frames_view frames.now ≡ frames_of net.now values.now }
+    ensures some { IfOk result (λ found. (k : ℕ) → found ≡ Some k → (e : NetEntityTree) × (slice_get (map entity_view net.now.entities.items) k ≡ Some e) × IsBroken net.now values.now (assignment typing.now) e) }
+    ensures none { IfOk result (λ found. found ≡ None → (e : NetEntityTree) → IsBroken net.now values.now (assignment typing.now) e → ⊥) }
+{
+    match first_broken(alloc, frames, typing, &net.entities, &values.entities)? {
+        Some(number) => Ok(Some(number)),
+        None => failing(alloc, frames, typing, &net.entities, &values.entities),
     }
 }
 
@@ -203,8 +223,7 @@ pub(crate) fn broken_entity(
     ensures none { IfOk result (λ found. found ≡ None → (e : NetEntityTree) → IsBroken net.now values.now (assignment typing.now) e → ⊥) }
 {
     let frames = Frames::of(alloc, net, values)?;
-    match first_broken(alloc, &frames, typing, &net.entities, &values.entities)? {
-        Some(number) => Ok(Some(number)),
-        None => failing(alloc, &frames, typing, &net.entities, &values.entities),
-    }
+    let found = broken_among(alloc, &frames, net, values, typing);
+    drop(frames);
+    found
 }

@@ -7,7 +7,8 @@ ghost use Rattle.pt_graph.specs.Net.{entity_view};
 ghost use Rattle.pt_values.specs.Valued as valued;
 ghost use Rattle.pt_typing.specs.Views.{inequality_view};
 ghost use Rattle.pt_resolve.specs.Rows.{seeding};
-ghost use Rattle.pt_resolve.specs.Inequalities.{of_channel, is_given, of_standard, of_standards, of_entity, of_entities, joined_one, joined_with, supply_view, of_supply, of_inputs, inequalities};
+ghost use Rattle.pt_resolve.specs.Frames.{frames_of};
+ghost use Rattle.pt_resolve.specs.Inequalities.{of_channel, is_given, of_standard, of_standards, of_entity, of_entities, joined_one, joined_with, supply_view, of_supply, of_inputs, top_ports, inequalities};
 ghost use Rattle.pt_resolve.specs.Views.{frames_view, port_numbers, IsAdded};
 
 use crate::frames::Frames;
@@ -211,6 +212,42 @@ fn add_inputs(
     Ok(())
 }
 
+/// What is within the entities of a net.
+fn add_valued(
+    alloc: Global,
+    net: &Net,
+    values: &Values,
+    inequalities: &mut Vec<Inequality>,
+) -> Result<(), AllocError>
+    ensures { OnOk result (IsAdded inequalities.old.items inequalities.new.items (of_entities (frames_of net.now values.now) 0 (map entity_view net.now.entities.items) (map valued.entity_view values.now.entities.items))) }
+{
+    let frames = Frames::of(alloc, net, values)?;
+    let added = add_entities(
+        alloc,
+        &frames,
+        &net.entities,
+        &values.entities,
+        inequalities,
+    );
+    drop(frames);
+    added
+}
+
+/// The tokens of the inputs of a net are below their ports.
+fn add_supplied(
+    alloc: Global,
+    net: &Net,
+    values: &Values,
+    inequalities: &mut Vec<Inequality>,
+) -> Result<(), AllocError>
+    ensures { OnOk result (IsAdded inequalities.old.items inequalities.new.items (of_inputs (top_ports (map entity_view net.now.entities.items)) (map input_view net.now.inputs.items) (map supply_view values.now.inputs.items))) }
+{
+    let ports = PortNumbers::of(alloc, &net.entities)?;
+    let added = add_inputs(alloc, &ports, &net.inputs, &values.inputs, inequalities);
+    drop(ports);
+    added
+}
+
 /// The inequalities between the types of a net, but those of its Modal entities and of the types that ports declare.
 pub fn inequalities_of(
     alloc: Global,
@@ -219,11 +256,9 @@ pub fn inequalities_of(
 ) -> Result<Vec<Inequality>, AllocError>
     ensures { IfOk result (λ qs. map inequality_view qs.items ≡ inequalities net.now values.now) }
 {
-    let frames = Frames::of(alloc, net, values)?;
-    let ports = PortNumbers::of(alloc, &net.entities)?;
     let mut list = Vec::with_capacity(alloc, net.channels.len())?;
     add_channels(&net.channels, &mut list)?;
-    add_entities(alloc, &frames, &net.entities, &values.entities, &mut list)?;
-    add_inputs(alloc, &ports, &net.inputs, &values.inputs, &mut list)?;
+    add_valued(alloc, net, values, &mut list)?;
+    add_supplied(alloc, net, values, &mut list)?;
     Ok(list)
 }

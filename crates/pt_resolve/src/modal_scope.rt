@@ -101,12 +101,20 @@ impl<'a> ModalScope<'a> {
     ) -> Result<ModalScope<'a>, AllocError>
         ensures { IfOk result (λ s. scope_view s ≡ modal_scope (frames_view frames.now) number (entity_view entity.now) (valued.entity_view values.now)) }
     {
-        Ok(ModalScope {
-            number: short_number(number)?,
-            ports: PortNumbers::of_ports(alloc, &entity.ports)?,
-            variables: names_of_tokens(alloc, &entity.variables, &values.variables)?,
-            frames,
-        })
+        let number = short_number(number)?;
+        let ports = PortNumbers::of_ports(alloc, &entity.ports)?;
+        match names_of_tokens(alloc, &entity.variables, &values.variables) {
+            Ok(variables) => Ok(ModalScope {
+                number,
+                ports,
+                variables,
+                frames,
+            }),
+            Err(fault) => {
+                drop(ports);
+                Err(fault)
+            }
+        }
     }
 
     /// Adds the port of a name.

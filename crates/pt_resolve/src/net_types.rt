@@ -1,12 +1,15 @@
-ghost use Rattle.std.specs.Prelude.{◌≡◌, IfOk, map};
+ghost use Rattle.std.specs.Prelude.{◌≡◌, IfOk, length, map};
+ghost use Rattle.pt_graph.specs.Net.{entity_view};
+ghost use Rattle.pt_values.specs.Valued as valued;
 ghost use Rattle.pt_typing.specs.Views.{inequality_view};
 ghost use Rattle.pt_typing.specs.Least.{assignment};
 ghost use Rattle.pt_resolve.specs.Passing as passing;
-ghost use Rattle.pt_resolve.specs.Modals.{AreAll};
+ghost use Rattle.pt_resolve.specs.Frames.{frames_of};
+ghost use Rattle.pt_resolve.specs.Modals.{AreCharts, AreAll};
 ghost use Rattle.pt_resolve.specs.Typing.{IsTyping};
-ghost use Rattle.pt_resolve.specs.Views.{port_lists};
+ghost use Rattle.pt_resolve.specs.Views.{port_lists, frames_view, chart_view};
 
-use crate::charts::{add_charts, charts_of};
+use crate::charts::{Chart, add_charts, charts_of};
 use crate::declared::add_declared;
 use crate::frames::Frames;
 use crate::inequalities::inequalities_of;
@@ -17,6 +20,44 @@ use pt_moml::Port;
 use pt_typing::{Inequality, Typing, least_typing};
 use pt_values::Values;
 use std::alloc::{AllocError, Global};
+
+/// The inequalities of a net with these ports and charts.
+fn inequalities_with(
+    alloc: Global,
+    net: &Net,
+    values: &Values,
+    lists: &[&[Port]],
+    charts: &[Chart],
+) -> Result<Vec<Inequality>, AllocError>
+    requires lists { port_lists lists.now ≡ passing.all_ports net.now }
+    requires charts { AreCharts (frames_of net.now values.now) (map entity_view net.now.entities.items) (map valued.entity_view values.now.entities.items) (length (map entity_view net.now.entities.items)) (map chart_view charts.now) }
+    ensures { IfOk result (λ qs. AreAll net.now values.now (map inequality_view qs.items)) }
+{
+    let mut inequalities = inequalities_of(alloc, net, values)?;
+    add_declared(alloc, lists, &mut inequalities)?;
+    add_refinements(alloc, &net.entities, &mut inequalities)?;
+    add_charts(alloc, charts, &mut inequalities)?;
+    add_passing(net, &mut inequalities)?;
+    Ok(inequalities)
+}
+
+/// The inequalities of a net with these ports and frames.
+fn inequalities_among(
+    alloc: Global,
+    net: &Net,
+    values: &Values,
+    lists: &[&[Port]],
+    frames: &Frames,
+) -> Result<Vec<Inequality>, AllocError>
+    requires lists { port_lists lists.now ≡ passing.all_ports net.now }
+    requires frames { frames_view frames.now ≡ frames_of net.now values.now }
+    ensures { IfOk result (λ qs. AreAll net.now values.now (map inequality_view qs.items)) }
+{
+    let charts = charts_of(alloc, frames, &net.entities, &values.entities)?;
+    let made = inequalities_with(alloc, net, values, lists, &charts);
+    drop(charts);
+    made
+}
 
 /// The inequalities of a net with these ports, with those of the types that ports declare, those of Modal entities, and those
 /// between ports and relations.
@@ -29,14 +70,28 @@ fn all_inequalities(
     requires lists { port_lists lists.now ≡ passing.all_ports net.now }
     ensures { IfOk result (λ qs. AreAll net.now values.now (map inequality_view qs.items)) }
 {
-    let mut inequalities = inequalities_of(alloc, net, values)?;
-    add_declared(alloc, lists, &mut inequalities)?;
-    add_refinements(alloc, &net.entities, &mut inequalities)?;
     let frames = Frames::of(alloc, net, values)?;
-    let charts = charts_of(alloc, &frames, &net.entities, &values.entities)?;
-    add_charts(alloc, &charts, &mut inequalities)?;
-    add_passing(net, &mut inequalities)?;
-    Ok(inequalities)
+    let made = inequalities_among(alloc, net, values, lists, &frames);
+    drop(frames);
+    made
+}
+
+/// The least types at these ports that meet all inequalities.
+fn typing_at(
+    alloc: Global,
+    net: &Net,
+    values: &Values,
+    lists: &[&[Port]],
+    counts: &[u32],
+) -> Result<Typing, AllocError>
+    requires lists { port_lists lists.now ≡ passing.all_ports net.now }
+    requires counts { counts.now ≡ passing.port_counts net.now }
+    ensures { IfOk result (λ t. IsTyping net.now values.now (assignment t)) }
+{
+    let inequalities = all_inequalities(alloc, net, values, lists)?;
+    let typing = least_typing(alloc, counts, inequalities.as_slice());
+    drop(inequalities);
+    typing
 }
 
 /// The typing of a net: the least types of its ports, rows and relations that meet all inequalities, are above what ports
@@ -46,6 +101,8 @@ pub fn net_typing(alloc: Global, net: &Net, values: &Values) -> Result<Typing, A
 {
     let lists = all_ports(alloc, net)?;
     let counts = port_counts(alloc, &lists, net.relation_count)?;
-    let inequalities = all_inequalities(alloc, net, values, &lists)?;
-    least_typing(alloc, counts.as_slice(), inequalities.as_slice())
+    let typing = typing_at(alloc, net, values, &lists, counts.as_slice());
+    drop(counts);
+    drop(lists);
+    typing
 }

@@ -121,7 +121,9 @@ fn chart_fault(
     ensures { IfOk result (IsFoundIn (modal_scope (frames_view frames.now) number (entity_view entity.now) (valued.entity_view values.now)) (texts_of (entity_view entity.now).transitions)) }
 {
     let scope = ModalScope::of(alloc, frames, number, entity, values)?;
-    transitions_fault(alloc, &scope, &entity.transitions)
+    let found = transitions_fault(alloc, &scope, &entity.transitions);
+    drop(scope);
+    found
 }
 
 /// The same of an entity that is Modal and has values; of another nothing is refused.
@@ -172,7 +174,9 @@ pub fn unreadable(
     ensures { IfOk result (λ found. MatchOption found (AreReadable net.now values.now) (λ at. IsUnreadableAt net.now values.now at.0 at.1)) }
 {
     let frames = Frames::of(alloc, net, values)?;
-    first_unreadable(alloc, &frames, &net.entities, &values.entities)
+    let found = first_unreadable(alloc, &frames, &net.entities, &values.entities);
+    drop(frames);
+    found
 }
 
 /// Where guards and actions are expressions over what they may name, none of them is refused.

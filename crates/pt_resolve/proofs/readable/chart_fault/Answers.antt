@@ -7,8 +7,8 @@ use Rattle.pt_resolve.proofs.readable.chart_fault.Goals as goal
 
 pub returns : goal.returns
 returns c =
-    IfOk-weaker c.transitions_fault.result _ _
+    IfOk-weaker c.transitions_fault-found.result _ _
     (λ found w.
     subst (λ s. IsFoundIn s (texts_of (map transition_view c.args.entity.now.transitions.items)) found) c.in_ok-scope.ensures
     (subst (λ ts. IsFoundIn (scope_view c.in_ok-scope.scope) (texts_of (map transition_view ts)) found) c.deref.ensures.value w))
-    c.transitions_fault.ensures
+    c.transitions_fault-found.ensures

@@ -8,20 +8,20 @@ use Rattle.pt_resolve.specs.Views.{frames_view, port_numbers}
 use Rattle.pt_resolve.proofs.Parts.{some-values}
 use Rattle.pt_resolve.proofs.modal_scope.ModalScope.of.Goals as goal
 
-pub returns : goal.returns
-returns c =
+pub returns-in-Ok : goal.returns-in-Ok
+returns-in-Ok c =
     let e = c.args.entity.now in
     let tokens = c.args.values.now.variables.items in
-    let ports : (name : List ℕ) → port_numbers c.in_ok-of_ports.field-0 name ≡ with_ports no_ports 0 (map port_view e.ports.items) name =
-    λ name. c.in_ok-of_ports.ensures name ∙ ap (λ ps. with_ports no_ports 0 (map port_view ps) name) c.deref.ensures.value in
-    let variables : (name : List ℕ) → held c.in_ok-names_of_tokens.field-0 name ≡ with_given no_names (properties_view e.variables.items) (map Some (map value_of tokens)) name =
+    let ports : (name : List ℕ) → port_numbers c.in_ok-ports.ports name ≡ with_ports no_ports 0 (map port_view e.ports.items) name =
+    λ name. c.in_ok-ports.ensures name ∙ ap (λ ps. with_ports no_ports 0 (map port_view ps) name) c.deref.ensures.value in
+    let variables : (name : List ℕ) → held c.in-Ok.variables name ≡ with_given no_names (properties_view e.variables.items) (map Some (map value_of tokens)) name =
     λ name.
-    c.in_ok-names_of_tokens.ensures name
+    c.in-Ok.ensures name
     ∙ (λ j. with_given no_names (properties_view (c.deref-2.ensures.value j)) (map some_value (c.deref-3.ensures.value j)) name)
     ∙ ap (λ vs. with_given no_names (properties_view e.variables.items) vs name) (some-values tokens) in
     λ j. record {
-      number = c.in_ok-short_number.ensures j;
+      number = c.in_ok-number.ensures j;
       ports = λ name. ports name j;
       variables = λ name. variables name j;
-      around = seen (frames_view c.args.frames.now) None (Some (c.in_ok-short_number.ensures j));
+      around = seen (frames_view c.args.frames.now) None (Some (c.in_ok-number.ensures j));
     }
