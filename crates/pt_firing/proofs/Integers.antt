@@ -1,9 +1,7 @@
 -- The integers that a firing takes, place by place.
-use Rattle.std.proofs.Common.{◌≡◌, ℕ, ℤ, zero, suc, ◌<◌, ◌≤◌, List, [], ◌∷◌, length, map, get_or, None, refl, ap, arith}
+use Rattle.std.proofs.Common.{◌≡◌, ℕ, ℤ, zero, suc, ◌<◌, ◌≤◌, List, [], ◌∷◌, length, map, get_or, None, true, false, nat_eq, refl, ap, arith}
 use Rattle.pt_meaning.specs.Basics.{at}
 use Rattle.pt_value.specs.declared.token.Token.TheVariants.{Int}
-use Rattle.pt_firing.specs.declared.int_inputs.Form.{Form}
-use Rattle.pt_firing.specs.declared.int_inputs.Form.TheVariants.{OneAtEach, AllAtOne}
 use Rattle.pt_firing.specs.IntInputs.{one_at_each, streams_of}
 use Rattle.pt_firing.specs.Row.{truth_in, truth_at}
 
@@ -29,7 +27,19 @@ no-truth-each [] place = refl
 no-truth-each (n ∷ ns) zero = refl
 no-truth-each (n ∷ ns) (suc place) = no-truth-each ns place
 
-pub no-truth : (form : Form) (ns : List ℤ) (place : ℕ) → truth_at (streams_of form ns) place ≡ None
-no-truth OneAtEach ns place = no-truth-each ns place
-no-truth AllAtOne ns zero = no-truth-among ns
-no-truth AllAtOne ns (suc place) = refl
+no-truth-only : (ns : List ℤ) (place : ℕ) → truth_at (map Int ns ∷ []) place ≡ None
+no-truth-only ns zero = no-truth-among ns
+no-truth-only ns (suc place) = refl
+
+pub no-truth : (places : ℕ) (ns : List ℤ) (place : ℕ) → truth_at (streams_of places ns) place ≡ None
+no-truth places ns place = no-truth-by (nat_eq places (length ns))
+  where
+    no-truth-by : (same : Bool) → truth_at (if same then one_at_each ns else map Int ns ∷ []) place ≡ None
+    no-truth-by true = no-truth-each ns place
+    no-truth-by false = no-truth-only ns place
+
+-- integers at the only place stand as they are
+pub all-at-one : (ns : List ℤ) → streams_of 1 ns ≡ map Int ns ∷ []
+all-at-one [] = refl
+all-at-one (n ∷ []) = refl
+all-at-one (n ∷ m ∷ ns) = refl

@@ -11,14 +11,8 @@ use std::slice;
 #[derive(Drop)]
 pub struct IntInputs<'a> {
     numbers: &'a [i64],
-    form: Form,
-}
-
-/// How integers stand at the places.
-#[derive(Clone, Copy, Debug)]
-pub(crate) enum Form {
-    OneAtEach,
-    AllAtOne,
+    // As many as there are integers, where each place has one; else one, which has them all.
+    places: usize,
 }
 
 impl<'a> Model for IntInputs<'a> {
@@ -32,9 +26,11 @@ impl<'a> Model for IntInputs<'a> {
 
     ghost coded = { coded_list (coded_list coded_token) };
 
-    ghost use Rattle.pt_firing.specs.IntInputs.{streams_of};
+    ghost use Rattle.pt_firing.specs.IntInputs.{streams_of, AreFor};
 
-    ghost view = { λ i. streams_of i.form i.numbers.now };
+    ghost view = { λ i. streams_of i.places i.numbers.now };
+
+    ghost invariant = { λ i. AreFor i.places i.numbers.now };
 }
 
 impl<'a> IntInputs<'a> {
@@ -45,7 +41,7 @@ impl<'a> IntInputs<'a> {
     {
         IntInputs {
             numbers,
-            form: Form::OneAtEach,
+            places: numbers.len(),
         }
     }
 
@@ -54,19 +50,14 @@ impl<'a> IntInputs<'a> {
     pub fn all_at_one(numbers: &'a [i64]) -> IntInputs<'a>
         ensures { result ≡ map Int numbers.now ∷ [] }
     {
-        IntInputs {
-            numbers,
-            form: Form::AllAtOne,
-        }
+        IntInputs { numbers, places: 1 }
     }
 
+    #[inline(always)]
     pub fn places(&self) -> usize
         ensures { result ≡ length self.now }
     {
-        match self.form {
-            Form::OneAtEach => self.numbers.len(),
-            Form::AllAtOne => 1,
-        }
+        self.places
     }
 
     /// The integers at a place: none where there is no such place.
@@ -74,15 +65,10 @@ impl<'a> IntInputs<'a> {
     pub fn list(&self, place: usize) -> &'a [i64]
         ensures { map Int result.now ≡ at self.now place }
     {
-        match self.form {
-            Form::OneAtEach => {
-                match self.numbers.get(place) {
-                    Some(number) => slice::from_ref(number),
-                    None => &[],
-                }
-            }
-            Form::AllAtOne => { if place == 0 { self.numbers } else { &[] } }
+        if self.places == self.numbers.len() {
+            return one_of(self.numbers, place);
         }
+        if place == 0 { self.numbers } else { &[] }
     }
 
     /// The first integer at a place, if there is one.
@@ -90,17 +76,19 @@ impl<'a> IntInputs<'a> {
     pub fn number_at(&self, place: usize) -> Option<i64>
         ensures { result ≡ number_at self.now place }
     {
+        if place == 0 {
+            // In either form.
+            return self.numbers.first().copied();
+        }
         self.list(place).first().copied()
     }
 
     /// The first truth value at a place, of which there is none.
     #[inline(always)]
-    pub fn truth_at(&self, place: usize) -> Option<bool>
-        ensures { result ≡ truth_at self.now place }
+    pub fn truth_at(&self, _place: usize) -> Option<bool>
+        ensures { result ≡ truth_at self.now _place }
     {
-        match self.form {
-            Form::OneAtEach | Form::AllAtOne => None,
-        }
+        None
     }
 
     /// Whether a place has an integer.
@@ -109,5 +97,16 @@ impl<'a> IntInputs<'a> {
         ensures { result ≡ is_present self.now place }
     {
         !self.list(place).is_empty()
+    }
+}
+
+/// The number of that place alone, if there is such a place.
+#[inline(always)]
+fn one_of(numbers: &[i64], place: usize) -> &[i64]
+    ensures { map Int result.now ≡ at (one_at_each numbers.now) place }
+{
+    match numbers.get(place) {
+        Some(number) => slice::from_ref(number),
+        None => &[],
     }
 }

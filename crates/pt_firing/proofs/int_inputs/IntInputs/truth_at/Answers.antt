@@ -4,4 +4,4 @@ use Rattle.pt_firing.proofs.Integers.{no-truth}
 use Rattle.pt_firing.proofs.int_inputs.IntInputs.truth_at.Goals as goal
 
 pub returns : goal.returns
-returns c = sym (ap (λ X. truth_at X c.args.place) (sym c.self.view_is) ∙ no-truth c.self.inside.form c.self.inside.numbers.now c.args.place)
+returns c = sym (ap (λ X. truth_at X c.args._place) (sym c.self.view_is) ∙ no-truth c.self.inside.places c.self.inside.numbers.now c.args._place)
