@@ -85,10 +85,12 @@ impl<'a> IntInputs<'a> {
 
     /// The first truth value at a place, of which there is none.
     #[inline(always)]
-    pub fn truth_at(&self, _place: usize) -> Option<bool>
-        ensures { result ≡ truth_at self.now _place }
+    pub fn truth_at(&self, place: usize) -> Option<bool>
+        ensures { result ≡ truth_at self.now place }
     {
-        None
+        match self.list(place) {
+            [] | [_, ..] => None,
+        }
     }
 
     /// Whether a place has an integer.

@@ -89,6 +89,32 @@ impl Channels {
         self.pool.reserve(c, cells)
     }
 
+    /// Puts a number at the back of channel `c`, where that is a matter of one store: the channel has a spare, and nothing needs to be moved. `false` says that nothing was done.
+    #[inline(always)]
+    pub fn push_number(&mut self, c: u32, n: i64) -> bool
+        requires { c < length self.old.lists }
+        ensures lists { self.new.lists ≡ (if result then pushed self.old.lists c (Int n) else self.old.lists) }
+        ensures spares { self.new.spares ≡ (if result then lowered self.old.spares c else self.old.spares) }
+    {
+        if self.spare(c) == 0 {
+            return false;
+        }
+        self.put_apart(c, n, false)
+    }
+
+    /// Puts integers at the back of channel `c`, where it has room for them and nothing needs to be moved. `false` says that nothing was done.
+    #[inline(always)]
+    pub fn push_numbers(&mut self, c: u32, numbers: &[i64]) -> bool
+        requires { c < length self.old.lists }
+        ensures lists { self.new.lists ≡ (if result then slice_set self.old.lists c (list_at self.old.lists c ++ map Int numbers.now) else self.old.lists) }
+        ensures spares { self.new.spares ≡ (if result then slice_set self.old.spares c (spare_at self.old.spares c - length numbers.now) else self.old.spares) }
+    {
+        if numbers.len() > self.spare(c) {
+            return false;
+        }
+        self.put_all_apart(c, numbers, false)
+    }
+
     /// Puts a token at the back of channel `c`, which has a spare. It takes no memory.
     pub fn put(&mut self, c: u32, token: Token)
         requires given { c < length self.old.lists }
@@ -110,14 +136,14 @@ impl Channels {
         ensures lists { self.new.lists ≡ pushed self.old.lists c (Int n) }
         ensures spares { self.new.spares ≡ lowered self.old.spares c }
     {
-        if !self.put_apart(c, n) {
+        if !self.put_apart(c, n, true) {
             self.put_number_behind(c, n);
         }
     }
 
-    // The same apart from the region, where the region has no token of the channel, and its run has room.
+    // The same apart from the region, where the region has no token of the channel, and its run has room, behind what is there or once that is moved.
     #[inline(always)]
-    fn put_apart(&mut self, c: u32, n: i64) -> bool
+    fn put_apart(&mut self, c: u32, n: i64, may_move: bool) -> bool
         requires given { c < length self.old.lists }
         requires spare { 0 < spare_at self.old.spares c }
         ensures lists { self.new.lists ≡ (if result then pushed self.old.lists c (Int n) else self.old.lists) }
@@ -126,7 +152,7 @@ impl Channels {
         if self.pool.len(c) > 0 {
             return false;
         }
-        self.runs[c as usize].push(n)
+        self.runs[c as usize].push(n, may_move)
     }
 
     // Puts a number into the region. The token is made here, so that the call above makes none where it isn't needed.
@@ -158,14 +184,14 @@ impl Channels {
         ensures lists { self.new.lists ≡ slice_set self.old.lists c (list_at self.old.lists c ++ map Int numbers.now) }
         ensures spares { self.new.spares ≡ slice_set self.old.spares c (spare_at self.old.spares c - length numbers.now) }
     {
-        if !self.put_all_apart(c, numbers) {
+        if !self.put_all_apart(c, numbers, true) {
             self.put_each(c, numbers);
         }
     }
 
-    // The same apart from the region, where the region has no token of the channel, and its run has room for all.
+    // The same apart from the region, where the region has no token of the channel, and its run has room for all, behind what is there or once that is moved.
     #[inline(always)]
-    fn put_all_apart(&mut self, c: u32, numbers: &[i64]) -> bool
+    fn put_all_apart(&mut self, c: u32, numbers: &[i64], may_move: bool) -> bool
         requires given { c < length self.old.lists }
         requires room { length numbers.now ≤ spare_at self.old.spares c }
         ensures lists { self.new.lists ≡ (if result then slice_set self.old.lists c (list_at self.old.lists c ++ map Int numbers.now) else self.old.lists) }
@@ -174,7 +200,7 @@ impl Channels {
         if self.pool.len(c) > 0 {
             return false;
         }
-        self.runs[c as usize].push_all(numbers)
+        self.runs[c as usize].push_all(numbers, may_move)
     }
 
     // The same one by one.

@@ -43,14 +43,17 @@ impl Run {
             .reserve(places.saturating_sub(self.numbers.len()))
     }
 
-    /// Puts an integer at the back, or answers `false` where there is no room.
+    /// Puts an integer at the back, or answers `false` where there is no room. Where the row ends, what is left is moved to its start, if it may be.
     #[inline(always)]
-    pub(crate) fn push(&mut self, n: i64) -> bool
+    pub(crate) fn push(&mut self, n: i64, may_move: bool) -> bool
         ensures { self.new ≡ (if result then self.old ++ n ∷ [] else self.old) }
     {
         if self.numbers.len() < self.numbers.capacity() {
             self.numbers.push_reserved(n);
             return true;
+        }
+        if !may_move {
+            return false;
         }
         self.push_moved(n)
     }
@@ -68,12 +71,15 @@ impl Run {
         true
     }
 
-    /// Puts integers at the back, or answers `false` where there is no room for all, and puts none.
+    /// Puts integers at the back, or answers `false` where there is no room for all, and puts none. Where the row ends, what is left is moved to its start, if it may be.
     #[inline(always)]
-    pub(crate) fn push_all(&mut self, numbers: &[i64]) -> bool
+    pub(crate) fn push_all(&mut self, numbers: &[i64], may_move: bool) -> bool
         ensures { self.new ≡ (if result then self.old ++ numbers.now else self.old) }
     {
         if numbers.len() > self.numbers.capacity() - self.numbers.len() {
+            if !may_move {
+                return false;
+            }
             return self.push_all_moved(numbers);
         }
         self.numbers.extend_from_slice(numbers).is_ok()
