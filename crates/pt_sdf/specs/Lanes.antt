@@ -1,15 +1,12 @@
 -- What is simple of the children of a plan, so that their firings need no walk.
-use Rattle.std.specs.Prelude.{◌≡◌, ℕ, ◌+◌, ◌<◌, ◌≤◌, Bool, true, false, ◌&&◌, List, [], ◌∷◌, length, map, drop, get_or, slice_set, Vec}
+use Rattle.std.specs.Prelude.{◌≡◌, ℕ, ◌+◌, ◌<◌, List, [], ◌∷◌, length, map, get_or, Option, Some, None, Vec}
 use Rattle.std.specs.Global.{Global}
-use Rattle.pt_meaning.specs.Streams.{Streams}
-use Rattle.pt_value.specs.declared.token.Token.{Token}
-use Rattle.pt_recv.specs.Lines.{list_at, spare_at}
 use Rattle.pt_sdf.specs.declared.feeds.Feed.{Feed}
 use Rattle.pt_sdf.specs.declared.lanes.Lane.{Lane}
 use Rattle.pt_sdf.specs.declared.lanes.Inlet.{Inlet}
 use Rattle.pt_sdf.specs.declared.lanes.Inlet.TheVariants as inlet
 use Rattle.pt_sdf.specs.declared.lanes.Outlet.{Outlet}
-use Rattle.pt_sdf.specs.declared.lanes.Outlet.TheVariants.{Nothing, One, Several}
+use Rattle.pt_sdf.specs.declared.lanes.Outlet.TheVariants.{Nothing, One, Burst, Several}
 use Rattle.pt_sdf.specs.declared.plan.CorePlan.{CorePlan}
 use Rattle.pt_sdf.specs.declared.tables.Tables.{Tables}
 use Rattle.pt_sdf.specs.ByNeed.{place_of}
@@ -38,62 +35,37 @@ FitsInlet needs from places (inlet.Alone c need) = IsInlet needs from places c n
 FitsInlet needs from places inlet.Each = NeedsOneEach needs from places
 FitsInlet needs from places inlet.Several = Unit {0}
 
--- the child gives one token on its one port, and its port feeds these channels alone
-pub record IsOutlet (rates : List ℕ) (feeds : List Feed) (targets : List Target) : Type 0 where
-  pub rate : rates ≡ 1 ∷ []
-  pub fed : map target_of feeds ≡ targets
-
-abbrev pub FitsOutlet : (rates : List ℕ) → List Feed → Outlet → Type 0
-FitsOutlet rates feeds Nothing = IsOutlet rates feeds []
-FitsOutlet rates feeds (One c) = IsOutlet rates feeds (record { channel = c; port = 0 } ∷ [])
-FitsOutlet rates feeds Several = Unit {0}
-
--- at most one channel on either side
-abbrev pub is_one_in : Inlet → Bool
-is_one_in inlet.Nothing = true
-is_one_in (inlet.Alone c need) = true
-is_one_in inlet.Each = false
-is_one_in inlet.Several = false
-
-abbrev pub is_one_out : Outlet → Bool
-is_one_out Nothing = true
-is_one_out (One c) = true
-is_one_out Several = false
-
-abbrev pub is_straight : Lane → Bool
-is_straight lane = is_one_in lane.inlet && is_one_out lane.outlet
-
--- the channels once an inlet has taken what it needs
-abbrev pub left_behind : Inlet → Streams Token → Streams Token
-left_behind inlet.Nothing X = X
-left_behind (inlet.Alone c need) X = slice_set X c (drop need (list_at X c))
-left_behind inlet.Each X = X
-left_behind inlet.Several X = X
-
--- which are there
-abbrev pub IsInletIn : Streams Token → Inlet → Type 0
-IsInletIn X inlet.Nothing = Unit {0}
-IsInletIn X (inlet.Alone c need) = (c < length X) × (need ≤ length (list_at X c))
-IsInletIn X inlet.Each = Unit {0}
-IsInletIn X inlet.Several = Unit {0}
-
 -- what an outlet feeds
 abbrev pub targets_of : Outlet → List Target
 targets_of Nothing = []
 targets_of (One c) = record { channel = c; port = 0 } ∷ []
+targets_of (Burst c rate) = record { channel = c; port = 0 } ∷ []
 targets_of Several = []
 
--- its channel is one of so many
-abbrev pub IsOutletIn : (count : ℕ) → Outlet → Type 0
-IsOutletIn count Nothing = Unit {0}
-IsOutletIn count (One c) = c < count
-IsOutletIn count Several = Unit {0}
+-- how many tokens the child gives, where that is told
+abbrev pub count_of : Outlet → Option ℕ
+count_of Nothing = Some 1
+count_of (One c) = Some 1
+count_of (Burst c rate) = Some rate
+count_of Several = None
 
--- and has room for a token
-abbrev pub HasRoomAt : (spares : List ℕ) → Outlet → Type 0
-HasRoomAt spares Nothing = Unit {0}
-HasRoomAt spares (One c) = 0 < spare_at spares c
-HasRoomAt spares Several = Unit {0}
+-- the child gives so many tokens on its one port, which feeds these channels alone
+pub record IsOutlet (rates : List ℕ) (feeds : List Feed) (count : ℕ) (targets : List Target) : Type 0 where
+  pub rate : rates ≡ count ∷ []
+  pub fed : map target_of feeds ≡ targets
+
+abbrev pub FitsOutlet : (rates : List ℕ) → List Feed → Outlet → Type 0
+FitsOutlet rates feeds Nothing = IsOutlet rates feeds 1 (targets_of Nothing)
+FitsOutlet rates feeds (One c) = IsOutlet rates feeds 1 (targets_of (One c))
+FitsOutlet rates feeds (Burst c rate) = IsOutlet rates feeds rate (targets_of (Burst c rate))
+FitsOutlet rates feeds Several = Unit {0}
+
+-- its channel is one of so many
+abbrev pub IsOutletIn : (channel_count : ℕ) → Outlet → Type 0
+IsOutletIn n Nothing = Unit {0}
+IsOutletIn n (One c) = c < n
+IsOutletIn n (Burst c rate) = c < n
+IsOutletIn n Several = Unit {0}
 
 -- what is told of a child is so
 pub record IsLane (needs : List ℕ) (from places : ℕ) (rates : List ℕ) (feeds : List Feed) (lane : Lane) : Type 0 where

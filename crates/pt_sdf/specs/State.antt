@@ -49,6 +49,15 @@ module _ {T : Type 0} where
   lent_in (Wrong child) = []
   lent_in Closed = []
 
+  -- the child that was told last gave another number of tokens than its rates say
+  abbrev pub is_wrong : Stage T → Bool
+  is_wrong Idle = false
+  is_wrong Open = false
+  is_wrong (Asked child inputs) = false
+  is_wrong (Handed child inputs) = false
+  is_wrong (Wrong child) = true
+  is_wrong Closed = false
+
   -- what child i needs
   abbrev pub needs_at : SdfState T → ℕ → List ℕ
   needs_at s i = take (get_or s.plan.net.places i 0) (drop (place_of s.plan.net.places i) s.needs)

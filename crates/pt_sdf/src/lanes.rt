@@ -13,22 +13,6 @@ pub(crate) struct Lane {
     pub(crate) outlet: Outlet,
 }
 
-impl Lane {
-    ghost use Rattle.std.specs.Prelude.{◌≡◌};
-    ghost use Rattle.pt_sdf.specs.Lanes.{is_straight};
-
-    /// A firing takes from at most one channel and puts one number on at most one.
-    #[inline(always)]
-    pub(crate) fn is_straight(self) -> bool
-        ensures { result ≡ is_straight self }
-    {
-        match (self.inlet, self.outlet) {
-            (Inlet::Nothing | Inlet::Alone(_, _), Outlet::Nothing | Outlet::One(_)) => true,
-            (_, _) => false,
-        }
-    }
-}
-
 /// What comes to a child.
 #[derive(Clone, Copy, Debug)]
 pub(crate) enum Inlet {
@@ -41,11 +25,15 @@ pub(crate) enum Inlet {
     Several,
 }
 
-/// What a child feeds that gives one token on its one port.
+/// What a child feeds that has one port.
 #[derive(Clone, Copy, Debug)]
 pub(crate) enum Outlet {
+    /// It gives one token, on no channel.
     Nothing,
+    /// It gives one token on this channel alone.
     One(u32),
+    /// It gives so many tokens on this channel alone.
+    Burst(u32, usize),
     /// Several channels, or it isn't such a child.
     Several,
 }
@@ -109,6 +97,7 @@ fn outlet_of(rates: &[usize], feeds: &[Feed]) -> Outlet
     match (rates, feeds) {
         ([1], []) => Outlet::Nothing,
         ([1], [feed]) if feed.port == 0 => Outlet::One(feed.channel),
+        ([rate], [feed]) if feed.port == 0 => Outlet::Burst(feed.channel, *rate),
         _ => Outlet::Several,
     }
 }

@@ -1,4 +1,4 @@
-ghost use Rattle.std.specs.Prelude.{◌≡◌, ℕ, ◌+◌, ◌^◌, ◌<◌, ◌≤◌, List, [], ◌∷◌, length, map, take, drop, get_or, OnOk, IfSome, IsTrue};
+ghost use Rattle.std.specs.Prelude.{◌≡◌, ℕ, ◌+◌, ◌-◌, ◌^◌, ◌<◌, ◌≤◌, List, [], ◌∷◌, ◌++◌, length, map, slice_set, take, drop, get_or, OnOk, IfSome, IsTrue};
 ghost use Rattle.pt_value.specs.declared.token.Token.{Token};
 ghost use Rattle.pt_value.specs.declared.token.Token.TheVariants.{Int};
 ghost use Rattle.pt_recv.specs.Lines.{list_at, spare_at};
@@ -87,6 +87,20 @@ pub(crate) fn put_on_each(channels: &mut Channels, feeds: &[Feed], numbers: &[i6
     ensures { channels.new.lists ≡ put_back (map target_of feeds.now) (map Int numbers.now ∷ []) channels.old.lists }
 {
     for k in (0..feeds.len()).rev() {
-        channels.put_numbers(feeds[k].channel, numbers);
+        put_on_one(channels, feeds[k].channel, numbers);
+    }
+}
+
+/// Puts the numbers on a channel, in room that was made. A single number is the common case, and a matter of one store.
+#[inline(always)]
+fn put_on_one(channels: &mut Channels, c: u32, numbers: &[i64])
+    requires given { c < length channels.old.lists }
+    requires room { length numbers.now ≤ spare_at channels.old.spares c }
+    ensures lists { channels.new.lists ≡ slice_set channels.old.lists c (list_at channels.old.lists c ++ map Int numbers.now) }
+    ensures spares { channels.new.spares ≡ slice_set channels.old.spares c (spare_at channels.old.spares c - length numbers.now) }
+{
+    match numbers {
+        [number] => channels.put_number(c, *number),
+        _ => channels.put_numbers(c, numbers),
     }
 }

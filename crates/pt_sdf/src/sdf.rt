@@ -2,7 +2,7 @@ ghost use Rattle.std.specs.Prelude.{◌≡◌, ◌↔◌, ◌<◌, length, IfOk,
 
 use crate::gather::{Span, gather, lighten};
 use crate::lanes::Inlet;
-use crate::number::{make_room_for, put_on_outlet, skip_inlet};
+use crate::number::{give_number, give_numbers, skip_inlet};
 use crate::numbers::{are_all_of_one, first_numbers, make_room, numbers_in_front, put_on_each};
 use crate::outlets::hand_out;
 use crate::plan::CorePlan;
@@ -19,7 +19,6 @@ use pt_time::Tag;
 use pt_value::Token;
 use std::alloc::{AllocError, Global};
 use std::marker::Model;
-use std::slice;
 
 /// The tag of a core that hasn't begun.
 const ORIGIN: Tag = Tag { time: 0, step: 0 };
@@ -94,13 +93,13 @@ impl Model for Core {
 }
 
 impl Core {
-    ghost use Rattle.std.specs.Prelude.{◌≡◌, ◌↔◌, ◌<◌, [], ◌∷◌, length, map, List, IfOk, IfSome, IsSome, IsTrue, OnOk, OnErr, Option, Some, None};
+    ghost use Rattle.std.specs.Prelude.{◌≡◌, ◌↔◌, ◌<◌, [], ◌∷◌, length, map, List, IfOk, IfSome, IsSome, IsTrue, OnOk, OnErr, Option, Some, None, if◌then◌else◌};
     ghost use Rattle.pt_value.specs.declared.token.Token.TheVariants.{Int};
     ghost use Rattle.pt_meaning.specs.Basics as basics;
     ghost use Rattle.pt_meaning.specs.Kahn.{firsts};
     ghost use Rattle.pt_meaning.specs.Tree as tree;
     ghost use Rattle.pt_meaning.specs.NodeFacts.{core_wake};
-    ghost use Rattle.pt_sdf.specs.State.{Idle, Open, Closed, asked_child, lent_in, handed, started, restarted, begun, after_told, closed, owed, own_of, IsHanded};
+    ghost use Rattle.pt_sdf.specs.State.{Idle, Open, Closed, asked_child, lent_in, handed, started, restarted, begun, after_told, closed, owed, own_of, IsHanded, is_wrong};
     ghost use Rattle.pt_sdf.specs.Clauses.{MayAsk, IsAsked};
     ghost use Rattle.pt_sdf.specs.Plan.{plan_of};
     ghost use Rattle.pt_sdf.specs.Lawful.{IsLawful};
@@ -169,6 +168,18 @@ impl Core {
         }
     }
 
+    /// Whether the child that was told last gave another number of tokens than its rates say.
+    #[inline(always)]
+    pub fn is_wrong(&self) -> bool
+        requires { MayAsk self.now.stage }
+        ensures { result ≡ is_wrong self.now.stage }
+    {
+        match self.stage {
+            Stage::Wrong(_) => true,
+            Stage::Idle | Stage::Open | Stage::Asked(_) | Stage::Handed(_) | Stage::Closed => false,
+        }
+    }
+
     #[inline(always)]
     fn ask_next(&mut self) -> Ask
         requires { self.old.stage ≡ Open }
@@ -194,8 +205,8 @@ impl Core {
             return None;
         };
         match self.tables.lanes[child as usize].inlet {
-            Inlet::Nothing => Some(IntInputs::one_at_each(&[])),
             Inlet::Alone(c, need) => numbers_in_front(&self.channels, c, need),
+            Inlet::Nothing => Some(IntInputs::one_at_each(&[])),
             Inlet::Each => {
                 let from = self.tables.offsets[child as usize];
                 let n = self.plan.places.as_slice()[child as usize];
@@ -278,26 +289,59 @@ impl Core {
         Ok(())
     }
 
-    /// Takes the number that the firing of the child gave as the one token on its one port. After an `Err` the core is as before.
+    /// Takes the number that the firing of the child gave as the one token on its one port, where it feeds at most one channel and no memory is wanted. `false` says that nothing was done.
     #[inline(always)]
-    pub fn told_number(&mut self, alloc: Global, child: u32, number: i64) -> Result<(), AllocError>
+    pub fn told_number(&mut self, child: u32, number: i64) -> bool
         requires asked { asked_child self.old.stage ≡ Some child }
-        ensures told { OnOk result (self.new ≡ after_told child ((Int number ∷ []) ∷ []) self.old) }
-        ensures kept { OnErr result (self.new ≡ self.old) }
+        ensures { self.new ≡ (if result then after_told child ((Int number ∷ []) ∷ []) self.old else self.old) }
     {
-        let lane = self.tables.lanes[child as usize];
         let Stage::Asked(_) = self.stage else {
-            return self.told_numbers(alloc, child, slice::from_ref(&number));
+            return false;
         };
-        if !lane.is_straight() {
-            return self.told_numbers(alloc, child, slice::from_ref(&number));
+        let i = child as usize;
+        let lane = self.tables.lanes[i];
+        if !give_number(&mut self.channels, lane.outlet, number) {
+            return false;
         }
-        make_room_for(&mut self.channels, lane.outlet)?;
-        skip_inlet(&mut self.channels, lane.inlet);
-        put_on_outlet(&mut self.channels, lane.outlet, number);
+        let from = self.tables.offsets[i];
+        let n = self.plan.places.as_slice()[i];
+        skip_inlet(
+            &mut self.channels,
+            lane.inlet,
+            self.plan.needs.as_slice(),
+            from,
+            n,
+        );
         (self.left, self.at) = place_after(self.plan.order.len(), self.left, self.at);
         self.stage = Stage::Open;
-        Ok(())
+        true
+    }
+
+    /// The same of several numbers for one channel.
+    fn told_burst(&mut self, child: u32, numbers: &[i64]) -> bool
+        requires asked { asked_child self.old.stage ≡ Some child }
+        ensures { self.new ≡ (if result then after_told child (map Int numbers.now ∷ []) self.old else self.old) }
+    {
+        let Stage::Asked(_) = self.stage else {
+            return false;
+        };
+        let i = child as usize;
+        let lane = self.tables.lanes[i];
+        if !give_numbers(&mut self.channels, lane.outlet, numbers) {
+            return false;
+        }
+        let from = self.tables.offsets[i];
+        let n = self.plan.places.as_slice()[i];
+        skip_inlet(
+            &mut self.channels,
+            lane.inlet,
+            self.plan.needs.as_slice(),
+            from,
+            n,
+        );
+        (self.left, self.at) = place_after(self.plan.order.len(), self.left, self.at);
+        self.stage = Stage::Open;
+        true
     }
 
     /// Takes the numbers that the firing of the child gave as the tokens on its one port. After an `Err` the core is as before.
@@ -308,6 +352,19 @@ impl Core {
         child: u32,
         numbers: &[i64],
     ) -> Result<(), AllocError>
+        requires asked { asked_child self.old.stage ≡ Some child }
+        ensures told { OnOk result (self.new ≡ after_told child (map Int numbers.now ∷ []) self.old) }
+        ensures kept { OnErr result (self.new ≡ self.old) }
+    {
+        if self.told_burst(child, numbers) {
+            return Ok(());
+        }
+        self.told_anyhow(alloc, child, numbers)
+    }
+
+    /// The same, where room may have to be made on any number of channels.
+    #[inline(never)]
+    fn told_anyhow(&mut self, alloc: Global, child: u32, numbers: &[i64]) -> Result<(), AllocError>
         requires asked { asked_child self.old.stage ≡ Some child }
         ensures told { OnOk result (self.new ≡ after_told child (map Int numbers.now ∷ []) self.old) }
         ensures kept { OnErr result (self.new ≡ self.old) }

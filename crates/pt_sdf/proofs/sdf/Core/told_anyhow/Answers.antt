@@ -14,7 +14,7 @@ use Rattle.pt_sdf.proofs.Lists.{skip-long}
 use Rattle.pt_sdf.proofs.SoundLaws.{begins-long}
 use Rattle.pt_sdf.proofs.CoreLaws.{is-asked, told-wrong, wrongly-told, told-into, told-apart, told-moves, told-goes-on, told-is, rates-read}
 use Rattle.pt_sdf.proofs.HandLaws.{handing, busy-there, busy-fits, busy-rooms, unmoved-fits, unmoved-enough, handing-sound, handing-told}
-use Rattle.pt_sdf.proofs.sdf.Core.told_numbers.Goals as goal
+use Rattle.pt_sdf.proofs.sdf.Core.told_anyhow.Goals as goal
 
 abbrev given : List ℤ → Streams Token
 given ns = map Int ns ∷ []
