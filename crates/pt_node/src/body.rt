@@ -8,8 +8,8 @@ use std::alloc::{AllocError, Global};
 /// A library actor beside its start, to which a reset brings it back.
 #[derive(Drop)]
 pub struct Held {
-    pub start: LibraryActor,
     pub actor: LibraryActor,
+    pub start: LibraryActor,
 }
 
 /// What a node is: a library actor, or a composite with its director.

@@ -1,4 +1,5 @@
-ghost use Rattle.std.specs.Prelude.{◌≡◌, ◌+◌, ◌<◌, ◌^◌, IfOk};
+ghost use Rattle.std.specs.Prelude.{◌≡◌, ◌+◌, ◌<◌, ◌^◌, [], ◌∷◌, map, IfOk};
+ghost use Rattle.pt_value.specs.declared.token.Token.TheVariants.{Int};
 ghost use Rattle.pt_node.specs.declared.node.Node.{out-Node};
 ghost use Rattle.pt_node.specs.Shown.{shown_node};
 ghost use Rattle.pt_meaning.specs.NodeFacts as facts;
@@ -19,14 +20,15 @@ use std::alloc::{AllocError, Global};
 /// A node of the tree of a model, with its past and what is recorded of it. A library actor has no children.
 #[derive(Drop)]
 pub struct Node {
+    // What a firing of integers reads and writes stands in front, so that it is in few lines of the cache.
     pub past: Past,
-    pub body: Body,
-    pub children: Vec<Node>,
     pub records: Records,
-    /// Its path from the top, as a report tells it.
-    pub path: Text,
     /// False from the begin of a firing on, until it is recorded. After one that isn't the node fires no more.
     pub live: bool,
+    pub body: Body,
+    pub children: Vec<Node>,
+    /// Its path from the top, as a report tells it.
+    pub path: Text,
 }
 
 impl Node {
@@ -55,7 +57,17 @@ impl Node {
         self.records.note(alloc, tag, outputs)
     }
 
+    /// Notes the integers that a firing gave on the one output. Nothing is recorded by that.
+    #[inline(always)]
+    pub fn note_numbers(&mut self, tag: Tag, numbers: &[i64]) -> Result<(), AllocError>
+        ensures noted { IfOk result (λ _. shown_node self.new ≡ noted tag (map Int numbers.now ∷ []) (shown_node self.old)) }
+        ensures kept { bare (shown_node self.new) ≡ bare (shown_node self.old) }
+    {
+        self.records.note_numbers(tag, numbers)
+    }
+
     /// Records a firing at the tag, with what was noted of it. The node is live again.
+    #[inline(always)]
     pub fn record(&mut self, tag: Tag)
         requires { (out-Node self.old).past.made + 1 < 2 ^ 64 }
         ensures { shown_node self.new ≡ recorded tag (shown_node self.old) }

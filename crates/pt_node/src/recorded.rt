@@ -1,5 +1,6 @@
-ghost use Rattle.std.specs.Prelude.{◌≡◌, ◌++◌, [], IfOk, length, map, take};
+ghost use Rattle.std.specs.Prelude.{◌≡◌, ◌++◌, [], ◌∷◌, IfOk, length, map, take};
 ghost use Rattle.pt_meaning.specs.Basics.{with_tag};
+ghost use Rattle.pt_value.specs.declared.token.Token.TheVariants.{Int};
 ghost use Rattle.pt_node.specs.Recorded.{noting, recording, unnoted, empty};
 
 use pt_firing::Outputs;
@@ -78,6 +79,18 @@ impl Recorded {
         note_all(alloc, tag, outputs.list(self.port), &mut self.tokens)
     }
 
+    /// Notes the integers that a firing gave on its one output, in place of what was noted before.
+    pub fn note_numbers(&mut self, tag: Tag, numbers: &[i64]) -> Result<(), AllocError>
+        ensures noted { IfOk result (λ _. self.new ≡ noting tag (map Int numbers.now ∷ []) self.old) }
+        ensures recorded { unnoted self.new ≡ unnoted self.old }
+    {
+        self.tokens.truncate(self.recorded);
+        if self.port > 0 {
+            return Ok(());
+        }
+        note_each(tag, numbers, &mut self.tokens)
+    }
+
     /// Records what was noted.
     pub fn record(&mut self)
         ensures { self.new ≡ recording self.old }
@@ -136,6 +149,18 @@ impl Records {
         Ok(())
     }
 
+    /// Notes the integers that a firing gave on the one output of the node. After want of memory nothing more is recorded.
+    pub fn note_numbers(&mut self, tag: Tag, numbers: &[i64]) -> Result<(), AllocError>
+        ensures noted { IfOk result (λ _. self.new ≡ map (noting tag (map Int numbers.now ∷ [])) self.old) }
+        ensures recorded { map unnoted self.new ≡ map unnoted self.old }
+    {
+        for k in 0..self.ports.len() {
+            let port = &mut self.ports[k];
+            port.note_numbers(tag, numbers)?;
+        }
+        Ok(())
+    }
+
     /// Records what was noted.
     pub fn record(&mut self)
         ensures { self.new ≡ map recording self.old }
@@ -170,6 +195,17 @@ fn note_all(
 {
     for token in tokens {
         noted.push((tag, token.copy(alloc)?))?;
+    }
+    Ok(())
+}
+
+/// Puts the integers behind those that are there, each with the tag.
+fn note_each(tag: Tag, numbers: &[i64], noted: &mut Vec<(Tag, Token)>) -> Result<(), AllocError>
+    ensures noted { IfOk result (λ _. noted.new.items ≡ noted.old.items ++ with_tag tag (map Int numbers.now)) }
+    ensures before { take (length noted.old.items) noted.new.items ≡ noted.old.items }
+{
+    for number in numbers {
+        noted.push((tag, Token::Int(*number)))?;
     }
     Ok(())
 }

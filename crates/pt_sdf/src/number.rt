@@ -32,7 +32,9 @@ pub(crate) fn give_numbers(channels: &mut Channels, outlet: Outlet, numbers: &[i
 {
     match outlet {
         Outlet::Burst(c, rate) => rate == numbers.len() && channels.push_numbers(c, numbers),
-        Outlet::Nothing | Outlet::One(_) | Outlet::Several => false,
+        Outlet::One(c) => numbers.len() == 1 && channels.push_numbers(c, numbers),
+        Outlet::Nothing => numbers.len() == 1,
+        Outlet::Several => false,
     }
 }
 

@@ -1,7 +1,7 @@
 ghost use Rattle.std.specs.Prelude.{◌≡◌, ◌↔◌, ◌<◌, length, IfOk, IsTrue, OnOk, OnErr, Option, Some, List};
 
 use crate::gather::{Span, gather, lighten};
-use crate::lanes::Inlet;
+use crate::lanes::{Inlet, Outlet};
 use crate::number::{give_number, give_numbers, skip_inlet};
 use crate::numbers::{are_all_of_one, first_numbers, make_room, numbers_in_front, put_on_each};
 use crate::outlets::hand_out;
@@ -219,6 +219,17 @@ impl Core {
         }
     }
 
+    /// Whether the child just asked for gives several numbers, or none, to one channel. A hint of how it may fire.
+    #[inline(always)]
+    pub fn gives_several(&self, child: u32) -> bool
+        requires { asked_child self.now.stage ≡ Some child }
+    {
+        match self.tables.lanes[child as usize].outlet {
+            Outlet::Burst(_, _) => true,
+            Outlet::Nothing | Outlet::One(_) | Outlet::Several => false,
+        }
+    }
+
     /// Moves the inputs of the child just asked for out of their channels, so that they can be lent. It takes no memory.
     pub fn hand(&mut self)
         requires { IsSome (asked_child self.old.stage) }
@@ -293,7 +304,8 @@ impl Core {
     #[inline(always)]
     pub fn told_number(&mut self, child: u32, number: i64) -> bool
         requires asked { asked_child self.old.stage ≡ Some child }
-        ensures { self.new ≡ (if result then after_told child ((Int number ∷ []) ∷ []) self.old else self.old) }
+        ensures told { self.new ≡ (if result then after_told child ((Int number ∷ []) ∷ []) self.old else self.old) }
+        ensures right { IsTrue result → self.new.stage ≡ Open }
     {
         let Stage::Asked(_) = self.stage else {
             return false;
@@ -318,6 +330,7 @@ impl Core {
     }
 
     /// The same of several numbers for one channel.
+    #[inline(always)]
     fn told_burst(&mut self, child: u32, numbers: &[i64]) -> bool
         requires asked { asked_child self.old.stage ≡ Some child }
         ensures { self.new ≡ (if result then after_told child (map Int numbers.now ∷ []) self.old else self.old) }
@@ -345,7 +358,7 @@ impl Core {
     }
 
     /// Takes the numbers that the firing of the child gave as the tokens on its one port. After an `Err` the core is as before.
-    #[inline(never)]
+    #[inline(always)]
     pub fn told_numbers(
         &mut self,
         alloc: Global,

@@ -17,7 +17,7 @@ use Rattle.pt_node.specs.View.{outline_of, count_of}
 use Rattle.pt_node.specs.Live.{IsFit}
 use Rattle.pt_seq.specs.declared.fire.Within.{Within}
 use Rattle.pt_seq.specs.declared.fire.Within.TheVariants.{Done}
-use Rattle.pt_seq.specs.Within.{WithinTo, StaysFit, ActorTo, DirectorTo, DirectorStaysFit, Gave, SeveralTo, records_of}
+use Rattle.pt_seq.specs.Within.{WithinTo, StaysFit, ActorTo, DirectorTo, DirectorStaysFit, Gave, SeveralTo}
 use Rattle.pt_seq.proofs.Turns.{actor-goes, actor-fit, composite-goes, composite-fit}
 
 -- the fields of a node, with another body
@@ -65,7 +65,7 @@ module _ (n n' : Node) (r r' : opens.Node-F Node) (d d' : Director) (ks' : AllSh
       subst (λ s. StaysFit s w (shown_node n')) (sym (old-is n r (body.Composite d) e is))
       (subst (λ s. StaysFit (with-body r (body.Composite d)) w s) (sym new-composite) (composite-fit (frame-in r) d d' (all_of (map shown r.children.items)) ks' w fit))
 
--- a firing of a node without recorded ports that gave these outputs
+-- a firing of a node that gave these outputs
 module _ (n n' : Node) (r r' : opens.Node-F Node) (held held' : Held) (e : roll-Node r ≡ n) (e' : roll-Node r' ≡ n') (is : r.body ≡ body.Actor held) (X out : Streams Token) (gives : (tag : Tag) → library.step tag held.actor X ≡ tree.Gives held'.actor out) (start : held'.start ≡ held.start)
     (now : level r' ≡ Branch (record { past = r.past; body = body.Actor held'; records = r.records; path = r.path; live = false }) (all_of (map shown r.children.items))) where
   old-shown : shown_node n ≡ with-body r (body.Actor held)
@@ -74,13 +74,12 @@ module _ (n n' : Node) (r r' : opens.Node-F Node) (held held' : Held) (e : roll-
   new-shown : shown_node n' ≡ Branch (record { past = r.past; body = body.Actor held'; records = r.records; path = r.path; live = false }) (all_of (map shown r.children.items))
   new-shown = ap (λ m. shown_node m) (sym e') ∙ ap (λ x. level x) (out-roll-Node r') ∙ now
 
-  pub gave-out : IsFit (shown_node n) → r.records ≡ [] → Gave (shown_node n) X out (shown_node n')
-  gave-out fit none = record {
+  pub gave-out : IsFit (shown_node n) → Gave (shown_node n) X out (shown_node n')
+  gave-out fit = record {
     goes = λ tag. actor-enters n n' r r' held held' e e' is tag X (Done out) (gives tag, start) now;
     fit = let tag : Tag = record { time = 0; step = 0 } in actor-stays n n' r r' held held' e e' is tag X (Done out) (gives tag, start) now fit;
     outline = ap (λ s. outline_of s) new-shown ∙ sym (ap (λ s. outline_of s) old-shown);
     count = ap (λ s. count_of s) new-shown ∙ sym (ap (λ s. count_of s) old-shown);
-    unrecorded = ap (λ s. records_of s) new-shown ∙ none;
   }
 
 -- a node whose fields were written, and which then isn't live

@@ -3,12 +3,12 @@ use Rattle.std.proofs.Common.{◌≡◌, ℕ, Some, ap, sym, subst, ◌∙◌, r
 use Rattle.pt_meaning.specs.Basics.{Tag, Streams}
 use Rattle.pt_value.specs.declared.token.Token.{Token}
 use Rattle.pt_sdf.specs.State.{Stage, Idle, Open, Asked, Handed, Wrong, Closed, asked_child, lent_in, hand, handed, IsHanded}
-use Rattle.pt_sdf.specs.Clauses.{State, IsAsked}
+use Rattle.pt_sdf.specs.Clauses.{State}
 use Rattle.pt_sdf.proofs.HandLaws.{told-handed}
 use Rattle.pt_node.specs.Shown.{Shown}
 use Rattle.pt_node.specs.Live as live
-use Rattle.pt_seq.specs.declared.fire.Turn.{Turn}
-use Rattle.pt_seq.specs.declared.fire.Turn.TheVariants as turn
+use Rattle.pt_seq.specs.declared.turn.Turn.{Turn}
+use Rattle.pt_seq.specs.declared.turn.Turn.TheVariants as turn
 use Rattle.pt_seq.specs.Within.{TellTo}
 
 lent-handed : (g : Stage Token) → lent_in (hand g) ≡ lent_in g
@@ -47,7 +47,7 @@ handed-once s t i a e = subst (λ (v : State). IsHanded v.stage) (sym e) (is-han
 
 -- and what is told comes to the same
 told-so : (s : State) (mid : Shown) (i : ℕ) (tag : Tag) (out : Streams Token) (t : Turn) (s' : State) (after : Shown) → TellTo (handed s) mid i tag out t s' after → TellTo s mid i tag out t s' after
-told-so s mid i tag out (turn.Next a) s' after g = (g.0, subst (λ v. IsAsked v a s') (told-handed i out s) g.1, g.2)
+told-so s mid i tag out turn.Done s' after g = (g.0, g.1 ∙ told-handed i out s, g.2)
 told-so s mid i tag out (turn.Fault place) s' after g = g
 told-so s mid i tag out turn.Spent s' after g = g
 told-so s mid i tag out turn.Memory s' after g = g

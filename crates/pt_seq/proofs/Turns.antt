@@ -29,7 +29,7 @@ use Rattle.pt_library.proofs.RowLaws.{rows_lawful}
 use Rattle.pt_records.proofs.GrowthLaws.{grew-none, grew-joined, grew-record}
 use Rattle.pt_sdf.specs.State.{Idle, Closed, lent_in, lent_of, left_of, in_stage, begun, asked, if_told, own_of, owed, closed}
 use Rattle.pt_sdf.specs.Chain.{IsFor}
-use Rattle.pt_sdf.specs.Clauses.{State, IsAsked}
+use Rattle.pt_sdf.specs.Clauses.{State}
 use Rattle.pt_node.specs.declared.body.Body.{Body}
 use Rattle.pt_node.specs.declared.body.Body.TheVariants as body
 use Rattle.pt_node.specs.declared.body.Held.{Held}
@@ -47,10 +47,10 @@ use Rattle.pt_library.specs.Steady.{after, IsSteadyActor}
 use Rattle.pt_node.specs.Live.{IsFit, AllFit, IsReady, IsLive, IsSteady, IsSteadyBody}
 use Rattle.pt_seq.specs.declared.fire.Within.{Within}
 use Rattle.pt_seq.specs.declared.fire.Within.TheVariants.{Done, Fault, Spent, Memory}
-use Rattle.pt_seq.specs.declared.fire.Turn.{Turn}
-use Rattle.pt_seq.specs.declared.fire.Turn.TheVariants as turn
+use Rattle.pt_seq.specs.declared.turn.Turn.{Turn}
+use Rattle.pt_seq.specs.declared.turn.Turn.TheVariants as turn
 use Rattle.pt_seq.specs.Within.{outcome, IsLeftOff, IsStuckIn, fired, sdf_node, IsStuck, fault_of, WithinTo, StaysSteady, StaysFit, SdfTo, SdfStaysFit, ChildFired, TurnTo, TellTo, FinishTo, ActorTo, DirectorTo, DirectorStaysFit, path_of, made_of}
-use Rattle.pt_seq.specs.Between.{Between}
+use Rattle.pt_seq.specs.Between.{At, Between}
 use Rattle.pt_seq.proofs.Children.{nodes-get, outlines-set, counts-set, steady-get}
 use Rattle.pt_seq.proofs.SdfFiring.{children-long, begun-going, going-on, asked-now, left-between, left-within, stuck-within, unrated-within, sdf-done}
 
@@ -150,12 +150,12 @@ made-own (Branch g ks) = go g.body
 
 pub turn-told : (s : State) (old mid : Shown) (i : ℕ) (tag : Tag) (out : Streams Token) (t : Turn) (s' : State) (after : Shown) → WithinTo old tag (lent_in s.stage) (Done out) mid → StaysFit old (Done out) mid → outline_of mid ≡ outline_of old → made_of mid ≡ made_of old →
     TellTo s mid i tag out t s' after → TurnTo s old i tag t s' after
-turn-told s old mid i tag out (turn.Next a) s' after w f o p t =
+turn-told s old mid i tag out turn.Done s' after w f o p t =
     let same : after ≡ firing.recorded tag (firing.noted tag out mid) = t.2 in
     record {
       out = out;
       rated = t.0;
-      asked = t.1;
+      told = t.1;
       fires = λ m. subst (λ v. FiresTo (λ k. Step k rows m (node_of old) tag (lent_in s.stage)) (node_of v) out (kept_of old) (kept_of v)) (sym same) (step-fires m old mid tag (lent_in s.stage) out (w m));
       fit = subst (λ v. IsFit v) (sym same) (fit-recorded tag out mid f.0);
       steady = subst (λ v. StaysSteady old v) (sym same) (steady-recorded tag out old mid f.1);
@@ -248,58 +248,57 @@ composite-fit f (Sdf s) (Sdf s') ks ks' Spent g = tt
 composite-fit f (Sdf s) (Sdf s') ks ks' Memory g = tt
 
 -- the loop
-pub between-begun : (before core₁ core₂ : State) (olds : List Shown) (tag : Tag) (X : Streams Token) (left : ℕ) (next : Ask) → IsReady (Sdf before) (all_of olds) → AllFit (all_of olds) → core₁ ≡ begun tag X before → IsAsked core₁ next core₂ → Between before olds tag X left next core₂ olds left
-between-begun before core₁ core₂ olds tag X left next ready fit e a = record {
-  state = begun tag X before;
-  stage = refl;
-  asked = subst (λ s. IsAsked s next core₂) e a;
-  going = begun-going before olds tag X ready fit;
-  outlines = refl;
-  counted = refl;
-  lowered = omega arith;
-}
+pub at-begun : (before core : State) (olds : List Shown) (tag : Tag) (X : Streams Token) (left : ℕ) → IsReady (Sdf before) (all_of olds) → AllFit (all_of olds) → core ≡ begun tag X before → At before olds tag X left core olds left
+at-begun before core olds tag X left ready fit e =
+    subst (λ s. At before olds tag X left s olds left) (sym e)
+    (record {
+      stage = refl;
+      going = begun-going before olds tag X ready fit;
+      outlines = refl;
+      counted = refl;
+      lowered = omega arith;
+    })
 
-module _ (before : State) (olds now : List Shown) (tag at : Tag) (X : Streams Token) (allowance left i : ℕ) (core : State) (b : Between before olds tag X allowance (ask.Fire i at) core now left) where
+module _ (before : State) (olds now : List Shown) (tag when : Tag) (X : Streams Token) (allowance left i : ℕ) (core : State) (b : Between before olds tag X allowance (ask.Fire i when) core now left) where
   pub core-is : core ≡ asked i b.state
   core-is = b.asked.4
 
   pub child-there : i < length now
-  child-there = omega (arith, b.asked.1, children-long b.state now b.going.fitting)
+  child-there = omega (arith, b.asked.1, children-long b.state now b.at.going.fitting)
 
   module _ (child after : Shown) (e : get now i ≡ Some child) where
-    pub between-next : (next : Ask) (core' : State) (left' : ℕ) → ChildFired core child i tag next core' after → outline_of after ≡ outline_of child → count_of after + left' ≡ count_of child + left → left' ≤ left → Between before olds tag X allowance next core' (set now i after) left'
-    between-next next core' left' f o c l =
-        let g : ChildFired (asked i b.state) child i tag next core' after = subst (λ s. ChildFired s child i tag next core' after) core-is f in
-        record {
-          state = if_told true i g.out (asked i b.state);
+    pub at-next : (core' : State) (left' : ℕ) → ChildFired core child i tag core' after → outline_of after ≡ outline_of child → count_of after + left' ≡ count_of child + left → left' ≤ left → At before olds tag X allowance core' (set now i after) left'
+    at-next core' left' f o c l =
+        let g : ChildFired (asked i b.state) child i tag core' after = subst (λ s. ChildFired s child i tag core' after) core-is f in
+        subst (λ s. At before olds tag X allowance s (set now i after) left') (sym (g.told ∙ ap (λ r. if_told r i g.out (asked i b.state)) g.rated))
+        (record {
           stage = refl;
-          asked = subst (λ r. IsAsked (if_told r i g.out (asked i b.state)) next core') g.rated g.asked;
-          going = going-on before olds now tag X b.state b.going i child after g.out e b.asked.2 g.rated g.fires g.fit g.steady;
-          outlines = outlines-set now i child after e o ∙ b.outlines;
-          counted = counts-set now i child after left left' (counts_of (all_of olds) + allowance) e c b.counted;
-          lowered = omega (arith, l, b.lowered);
-        }
+          going = going-on before olds now tag X b.state b.at.going i child after g.out e b.asked.2 g.rated g.fires g.fit g.steady;
+          outlines = outlines-set now i child after e o ∙ b.at.outlines;
+          counted = counts-set now i child after left left' (counts_of (all_of olds) + allowance) e c b.at.counted;
+          lowered = omega (arith, l, b.at.lowered);
+        })
 
     pub outlines-next : outline_of after ≡ outline_of child → outlines_of (all_of (set now i after)) ≡ outlines_of (all_of olds)
-    outlines-next o = outlines-set now i child after e o ∙ b.outlines
+    outlines-next o = outlines-set now i child after e o ∙ b.at.outlines
 
     pub counted-next : (left' : ℕ) → count_of after + left' ≡ count_of child + left → counts_of (all_of (set now i after)) + left' ≡ counts_of (all_of olds) + allowance
-    counted-next left' c = counts-set now i child after left left' (counts_of (all_of olds) + allowance) e c b.counted
+    counted-next left' c = counts-set now i child after left left' (counts_of (all_of olds) + allowance) e c b.at.counted
 
     pub fault-next : (place : Place) (core' : State) → TurnTo core child i tag (turn.Fault place) core' after → SdfTo before (all_of olds) tag X (Fault place) core' (all_of (set now i after))
     fault-next place core' t = go (subst (λ s. TurnTo s child i tag (turn.Fault place) core' after) core-is t)
       where
         go : TurnTo (asked i b.state) child i tag (turn.Fault place) core' after → SdfTo before (all_of olds) tag X (Fault place) core' (all_of (set now i after))
-        go (inl sticks) = stuck-within before olds now tag X b.state b.going i child after e b.asked.2 place sticks b.outlines
-        go (inr u) = unrated-within before olds now tag X b.state b.going i child after e b.asked.2 place u.next u.out u.unrated u.fires u.path u.firing u.kind b.outlines
+        go (inl sticks) = stuck-within before olds now tag X b.state b.at.going i child after e b.asked.2 place sticks b.at.outlines
+        go (inr u) = unrated-within before olds now tag X b.state b.at.going i child after e b.asked.2 place u.next u.out u.unrated u.fires u.path u.firing u.kind b.at.outlines
 
     pub off-next : ((m : Meets) → IsLeftOff m (node_of child) tag (lent_in core.stage) (kept_of child) (kept_of after)) → (m : Meets) (h : tree.Past) (en : Entry Token) → IsLeftOff m (sdf_node h before (all_of olds)) tag X (kept_by en (kepts_of (all_of olds))) (kept_by en (kepts_of (all_of (set now i after))))
-    off-next off = left-within before olds now tag X b.state b.going i child after e b.asked.2 (subst (λ (s : State). (m : Meets) → IsLeftOff m (node_of child) tag (lent_in s.stage) (kept_of child) (kept_of after)) core-is off)
+    off-next off = left-within before olds now tag X b.state b.at.going i child after e b.asked.2 (subst (λ (s : State). (m : Meets) → IsLeftOff m (node_of child) tag (lent_in s.stage) (kept_of child) (kept_of after)) core-is off)
 
 -- between two firings
 pub off-between : (before : State) (olds now : List Shown) (tag : Tag) (X : Streams Token) (allowance left : ℕ) (next : Ask) (core : State) → Between before olds tag X allowance next core now left → (m : Meets) (h : tree.Past) (en : Entry Token) →
     IsLeftOff m (sdf_node h before (all_of olds)) tag X (kept_by en (kepts_of (all_of olds))) (kept_by en (kepts_of (all_of now)))
-off-between before olds now tag X allowance left next core b m h en = left-between before olds now tag X b.state b.going m h en
+off-between before olds now tag X allowance left next core b m h en = left-between before olds now tag X b.state b.at.going m h en
 
 longer : {A : Type 0} (n : ℕ) (X Y : List A) → n ≤ length X → n ≤ length (take n X ++ Y)
 longer n X Y h = omega (arith, length-take-le n X h, length-append (take n X) Y)
@@ -314,7 +313,7 @@ module _ (before : State) (olds now : List Shown) (tag : Tag) (X : Streams Token
       let f' : FinishTo (in_stage Closed b.state) (Done out) core' = subst (λ s. FinishTo s (Done out) core') closed-is f in
       subst (λ s. FiresTo (outcome m (sdf_node h before (all_of olds)) tag X) (sdf_node (tree.fired_at tag h) s (all_of now)) out (kept_by en (kepts_of (all_of olds))) (kept_by en (kepts_of (all_of now)))) (sym f'.0)
       (subst (λ o. FiresTo (outcome m (sdf_node h before (all_of olds)) tag X) (sdf_node (tree.fired_at tag h) (closed (in_stage Closed b.state)) (all_of now)) o (kept_by en (kepts_of (all_of olds))) (kept_by en (kepts_of (all_of now)))) (sym f'.1)
-      (sdf-done before olds now tag X b.state b.going b.asked.1 m h en))
+      (sdf-done before olds now tag X b.state b.at.going b.asked.1 m h en))
   finish-goes (Fault place) f = absurd f
   finish-goes Spent f = absurd f
   finish-goes Memory f = off-between before olds now tag X allowance left ask.Finished core b
@@ -322,7 +321,7 @@ module _ (before : State) (olds now : List Shown) (tag : Tag) (X : Streams Token
   pub finish-fit : (w : Within) → FinishTo core w core' → SdfStaysFit before (all_of olds) w core' (all_of now)
   finish-fit (Done out) f =
       let f' : FinishTo (in_stage Closed b.state) (Done out) core' = subst (λ s. FinishTo s (Done out) core') closed-is f in
-      let g = b.going in
+      let g = b.at.going in
       subst (λ (s : State). (s.plan ≡ before.plan) × (s.first ≡ before.first) × (s.stage ≡ Idle) × IsFor (facts_of rows) s (tree.list_of (nodes_of (all_of now))) × live.AllSteady (all_of now) × AllFit (all_of now)) (sym f'.0) (
         g.plan,
         g.first,
@@ -368,8 +367,8 @@ takes-body tag h (body.Composite (Sdf s)) ks Y got rest steady e = long-counted 
 takes-front : (tag : Tag) (s : Shown) (Y got rest : Streams Token) → IsSteady s → front (need_of rows (node_of s)) Y ≡ Takes got rest → live.Takes tag s got
 takes-front tag (Branch g ks) Y got rest steady e = takes-body tag g.past g.body ks Y got rest steady e
 
-pub child-takes : (before : State) (olds now : List Shown) (tag at : Tag) (X : Streams Token) (allowance left i : ℕ) (core : State) → Between before olds tag X allowance (ask.Fire i at) core now left → (child : Shown) → get now i ≡ Some child → live.Takes tag child (lent_in core.stage)
-child-takes before olds now tag at X allowance left i core b child e =
-    let a = asked-now b.state now i child b.going.fitting e b.asked.2 in
+pub child-takes : (before : State) (olds now : List Shown) (tag when : Tag) (X : Streams Token) (allowance left i : ℕ) (core : State) → Between before olds tag X allowance (ask.Fire i when) core now left → (child : Shown) → get now i ≡ Some child → live.Takes tag child (lent_in core.stage)
+child-takes before olds now tag when X allowance left i core b child e =
+    let a = asked-now b.state now i child b.at.going.fitting e b.asked.2 in
     let r = asks-front (facts_of rows) i b.state.plan.net.places _ b.state.fired (tree.list_of (nodes_of (all_of now))) b.state.held (lent_of b.state i) (left_of b.state i) (node_of child) a.asks (nodes-get now i child e) in
-    subst (λ (s : State). live.Takes tag child (lent_in s.stage)) (sym b.asked.4) (takes-front tag child r.0 (lent_of b.state i) r.1 (steady-get now i child e b.going.steady) r.2)
+    subst (λ (s : State). live.Takes tag child (lent_in s.stage)) (sym b.asked.4) (takes-front tag child r.0 (lent_of b.state i) r.1 (steady-get now i child e b.at.going.steady) r.2)

@@ -14,31 +14,31 @@ use Rattle.pt_value.specs.declared.token.Token.TheVariants.{Int}
 use Rattle.pt_firing.specs.declared.answer.Answer.{Answer}
 use Rattle.pt_firing.specs.declared.answer.Answer.TheVariants as answer
 use Rattle.pt_firing.specs.declared.answer.Place.{Place}
-use Rattle.pt_firing.specs.declared.ask.Ask.{Ask}
 use Rattle.pt_firing.specs.declared.fault.RunFault.{RunFault}
 use Rattle.pt_firing.specs.declared.fault.RunFault.TheVariants.{Rate}
 use Rattle.pt_firing.specs.RunFault.{code_of}
 use Rattle.pt_records.specs.Kept.{Kept, Entry, kept_by}
 use Rattle.pt_records.specs.Fired.{FiresTo, SticksAt, LeavesOff}
 use Rattle.pt_records.specs.Shut.{IsShut}
-use Rattle.pt_sdf.specs.State.{Idle, Open, Wrong, lent_in, after_told, closed, owed, own_of}
+use Rattle.pt_sdf.specs.State.{Stage, Idle, lent_in, is_wrong, after_told, closed, owed, own_of}
 use Rattle.pt_sdf.specs.Chain.{IsFor}
-use Rattle.pt_sdf.specs.Clauses.{State, IsAsked}
+use Rattle.pt_sdf.specs.Clauses.{State}
 use Rattle.pt_library.specs.LibraryActor.{rows}
 use Rattle.pt_library.specs.LibraryActor as library
 use Rattle.pt_node.specs.declared.body.Held.{Held}
 use Rattle.pt_node.specs.declared.director.Director.{Director}
 use Rattle.pt_node.specs.declared.director.Director.TheVariants.{Sdf}
-use Rattle.pt_node.specs.Recorded.{RecordedPort}
 use Rattle.pt_node.specs.Shown.{Shown, AllShown, Branch}
 use Rattle.pt_node.specs.Firing.{noted, bare, recorded}
 use Rattle.pt_node.specs.View as view
 use Rattle.pt_node.specs.View.{Tree, Heading, node_of, nodes_of, kept_of, kepts_of, count_of, Outline, Outlines, outline_of, outlines_of, text_at, text_below}
-use Rattle.pt_node.specs.Live.{IsFit, AllFit, IsLive, IsSteady, AllSteady}
+use Rattle.pt_node.specs.Live.{IsFit, AllFit, IsLive, IsSteady, AllSteady, Takes}
 use Rattle.pt_seq.specs.declared.fire.Within.{Within}
 use Rattle.pt_seq.specs.declared.fire.Within.TheVariants.{Done, Fault, Spent, Memory}
-use Rattle.pt_seq.specs.declared.fire.Turn.{Turn}
-use Rattle.pt_seq.specs.declared.fire.Turn.TheVariants as turn
+use Rattle.pt_seq.specs.declared.turn.Turn.{Turn}
+use Rattle.pt_seq.specs.declared.turn.Turn.TheVariants as turn
+use Rattle.pt_seq.specs.declared.numbers.Quick.{Quick}
+use Rattle.pt_seq.specs.declared.numbers.Quick.TheVariants as quick
 
 -- the outcome of a firing at each fuel, without the node's own record
 abbrev pub outcome : Meets → Tree → Tag → Streams Token → ℕ → Outcome Token Tree
@@ -108,11 +108,11 @@ SdfStaysFit s ks (Fault place) s' ks' = Unit {0}
 SdfStaysFit s ks Spent s' ks' = Unit {0}
 SdfStaysFit s ks Memory s' ks' = Unit {0}
 
--- child i, that the core asked for, has fired and its firing is recorded: the core was told what it gave and was asked again
-pub record ChildFired (s : State) (child : Shown) (i : ℕ) (tag : Tag) (next : Ask) (s' : State) (after : Shown) : Type 0 where
+-- child i, that the core asked for, has fired and its firing is recorded: the core was told what it gave, which is as its rates say
+pub record ChildFired (s : State) (child : Shown) (i : ℕ) (tag : Tag) (s' : State) (after : Shown) : Type 0 where
   pub out : Streams Token
   pub rated : has_rates (get_or s.plan.rates i []) out ≡ true
-  pub asked : IsAsked (after_told i out s) next s'
+  pub told : s' ≡ after_told i out s
   pub fires : (m : Meets) → FiresTo (λ k. Step k rows m (node_of child) tag (lent_in s.stage)) (node_of after) out (kept_of child) (kept_of after)
   pub fit : IsFit after
   pub steady : StaysSteady child after
@@ -129,14 +129,14 @@ pub record ChildUnrated (s : State) (child : Shown) (i : ℕ) (tag : Tag) (place
 
 -- what a turn of child i comes to
 abbrev pub TurnTo : State → Shown → ℕ → Tag → Turn → State → Shown → Type 0
-TurnTo s child i tag (turn.Next ask) s' after = ChildFired s child i tag ask s' after
+TurnTo s child i tag turn.Done s' after = ChildFired s child i tag s' after
 TurnTo s child i tag (turn.Fault place) s' after = ((m : Meets) → IsStuck m (node_of child) tag (lent_in s.stage) (outline_of child) place (kept_of child) (kept_of after)) ⊎ ChildUnrated s child i tag place after
 TurnTo s child i tag turn.Spent s' after = (m : Meets) → IsLeftOff m (node_of child) tag (lent_in s.stage) (kept_of child) (kept_of after)
 TurnTo s child i tag turn.Memory s' after = (m : Meets) → IsLeftOff m (node_of child) tag (lent_in s.stage) (kept_of child) (kept_of after)
 
 -- a turn that goes on spends some of the allowance, and one that is told to have spent it spends all
 abbrev pub TurnSpends : Turn → ℕ → ℕ → Type 0
-TurnSpends (turn.Next ask) left left' = left' < left
+TurnSpends turn.Done left left' = left' < left
 TurnSpends (turn.Fault place) left left' = Unit {0}
 TurnSpends turn.Spent left left' = left' ≡ 0
 TurnSpends turn.Memory left left' = Unit {0}
@@ -163,41 +163,61 @@ path_of (Branch f ks) = f.path
 abbrev pub made_of : Shown → ℕ
 made_of (Branch f ks) = f.past.made
 
--- the recorded ports of a node
-abbrev pub records_of : Shown → List RecordedPort
-records_of (Branch f ks) = f.records
-
--- A firing of a node without recorded ports, whatever its tag, that is done with these outputs. It isn't recorded yet.
+-- A firing of a node, whatever its tag, that is done with these outputs. It isn't recorded yet.
 pub record Gave (old : Shown) (X out : Streams Token) (new : Shown) : Type 0 where
   pub goes : (tag : Tag) → WithinTo old tag X (Done out) new
   pub fit : StaysFit old (Done out) new
   pub outline : outline_of new ≡ outline_of old
   pub count : count_of new ≡ count_of old
-  pub unrecorded : records_of new ≡ []
 
 -- such a firing was made and gave one number on its one port, or nothing was done
-abbrev pub QuickTo : Shown → Streams Token → Option ℤ → Shown → Type 0
-QuickTo old X (Some n) new = Gave old X ((Int n ∷ []) ∷ []) new
-QuickTo old X None new = new ≡ old
+abbrev pub NumberTo : Shown → Streams Token → Option ℤ → Shown → Type 0
+NumberTo old X (Some n) new = Gave old X ((Int n ∷ []) ∷ []) new
+NumberTo old X None new = new ≡ old
 
 -- such a firing was made and gave just these numbers on its one port, or nothing was done
 abbrev pub SeveralTo : Shown → Streams Token → Bool → List ℤ → Shown → Type 0
 SeveralTo old X true ns new = Gave old X (map Int ns ∷ []) new
 SeveralTo old X false ns new = new ≡ old
 
--- the core, which was told what a child gave, was asked again: it goes on and the child's firing is recorded, or the child is told as stuck, or there was no memory for that
-abbrev pub AskedAgain : State → Shown → Tag → Turn → State → Shown → Type 0
-AskedAgain s mid tag (turn.Next ask) s' after = (s.stage ≡ Open) × IsAsked s ask s' × (after ≡ recorded tag mid)
-AskedAgain s mid tag (turn.Fault place) s' after = ((i : ℕ) × (s.stage ≡ Wrong i)) × (place.path ≡ path_of mid) × (place.firing ≡ made_of mid) × (place.kind ≡ Rate) × (after ≡ mid)
-AskedAgain s mid tag turn.Spent s' after = ⊥
-AskedAgain s mid tag turn.Memory s' after = after ≡ mid
+-- the same once the number of firings is known to be as before
+abbrev pub Given : Option ℤ → Shown → Streams Token → Shown → Type 0
+Given (Some n) old X new = Gave old X ((Int n ∷ []) ∷ []) new × (made_of new ≡ made_of old)
+Given None old X new = new ≡ old
 
--- the core was told what child i gave: with its rates, the firing is recorded and the core was asked again; with others, the child is told as stuck; for want of memory nothing is recorded
+-- the turn of child i, which takes and gives numbers alone, is done, or its firing gave a number of which the core wasn't told yet, or none was made
+abbrev pub QuickTo : State → Shown → ℕ → Tag → Quick → State → Shown → Type 0
+QuickTo s child i tag quick.Done s' after = ChildFired s child i tag s' after
+QuickTo s child i tag (quick.Open given) s' after = (s' ≡ s) × Given given child (lent_in s.stage) after
+
+-- a turn that is done spends some of the allowance, and another none
+abbrev pub QuickSpends : Quick → ℕ → ℕ → Type 0
+QuickSpends quick.Done left left' = left' < left
+QuickSpends (quick.Open given) left left' = left' ≡ left
+
+-- the core was told what a child gave, and stands at this stage: it goes on and the child's firing is recorded, or the child is told as stuck, or there was no memory for that
+abbrev pub EndsTurn : Stage Token → Shown → Tag → Turn → Shown → Type 0
+EndsTurn stage mid tag turn.Done after = (is_wrong stage ≡ false) × (after ≡ recorded tag mid)
+EndsTurn stage mid tag (turn.Fault place) after = (is_wrong stage ≡ true) × (place.path ≡ path_of mid) × (place.firing ≡ made_of mid) × (place.kind ≡ Rate) × (after ≡ mid)
+EndsTurn stage mid tag turn.Spent after = ⊥
+EndsTurn stage mid tag turn.Memory after = after ≡ mid
+
+-- the core was told what child i gave: with its rates, the firing is recorded; with others, the child is told as stuck; for want of memory nothing is recorded
 abbrev pub TellTo : State → Shown → ℕ → Tag → Streams Token → Turn → State → Shown → Type 0
-TellTo s mid i tag out (turn.Next ask) s' after = (has_rates (get_or s.plan.rates i []) out ≡ true) × IsAsked (after_told i out s) ask s' × (after ≡ recorded tag (noted tag out mid))
+TellTo s mid i tag out turn.Done s' after = (has_rates (get_or s.plan.rates i []) out ≡ true) × (s' ≡ after_told i out s) × (after ≡ recorded tag (noted tag out mid))
 TellTo s mid i tag out (turn.Fault place) s' after = (has_rates (get_or s.plan.rates i []) out ≡ false) × (place.path ≡ path_of mid) × (place.firing ≡ made_of mid) × (place.kind ≡ Rate) × (bare after ≡ bare mid)
 TellTo s mid i tag out turn.Spent s' after = ⊥
 TellTo s mid i tag out turn.Memory s' after = bare after ≡ bare mid
+
+-- the turn of a child whose firing gave one number already, or of one that fires now
+abbrev pub TurnFrom : Option ℤ → State → Shown → ℕ → Tag → Turn → State → Shown → Type 0
+TurnFrom (Some n) s mid i tag t s' after = TellTo s mid i tag ((Int n ∷ []) ∷ []) t s' after
+TurnFrom None s child i tag t s' after = TurnTo s child i tag t s' after
+
+-- one that fires now fits, and takes these inputs
+abbrev pub MayFire : Option ℤ → Tag → Shown → Streams Token → Type 0
+MayFire (Some n) tag child X = Unit {0}
+MayFire None tag child X = IsFit child × Takes tag child X
 
 -- the own outputs were handed out, or there was no memory for them
 abbrev pub FinishTo : State → Within → State → Type 0

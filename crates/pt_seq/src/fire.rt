@@ -1,35 +1,27 @@
 ghost use Rattle.std.specs.Prelude.{◌≡◌, ◌+◌, ◌<◌, ◌≤◌, ◌^◌, [], ◌∷◌, length, Some, IsSome, map};
 ghost use Rattle.pt_value.specs.declared.token.Token.TheVariants.{Int};
-ghost use Rattle.pt_sdf.specs.State.{Idle, Closed, asked_child, lent_in};
-ghost use Rattle.pt_sdf.specs.Clauses.{MayAsk};
+ghost use Rattle.pt_sdf.specs.State.{Closed, asked_child, lent_in};
 ghost use Rattle.pt_node.specs.declared.node.Node.{out-Node};
 ghost use Rattle.pt_library.specs.LibraryActor as library;
 ghost use Rattle.pt_node.specs.Shown.{shown, shown_node, all_of};
 ghost use Rattle.pt_node.specs.View.{outline_of, outlines_of, count_of, counts_of};
 ghost use Rattle.pt_node.specs.Live.{IsLive, IsFit, Takes, AllFit, IsReady, TakenBy};
 ghost use Rattle.pt_node.specs.declared.director.Director.TheVariants.{Sdf};
-ghost use Rattle.pt_seq.specs.Within.{WithinTo, SpendsAll, StaysFit, DirectorTo, DirectorStaysFit, SdfTo, SdfStaysFit, TurnTo, TurnSpends, AnswersTo, ActorTo, IsFaultAt, QuickTo, AskedAgain, TellTo, FinishTo, records_of};
+ghost use Rattle.pt_seq.specs.Within.{WithinTo, SpendsAll, StaysFit, DirectorTo, DirectorStaysFit, SdfTo, SdfStaysFit, TurnTo, TurnFrom, TurnSpends, MayFire, AnswersTo, ActorTo, IsFaultAt, TellTo, FinishTo};
 
-use crate::numbers::{Buffers, several, tell_numbers};
-use pt_firing::{Answer, Ask, Fires, Inputs, Outputs, Place, RunFault, Step};
+use crate::numbers::{Buffers, Pause, fire_numbers, several, tell_numbers};
+use crate::turn::{Turn, end_turn};
+use pt_firing::{Answer, Fires, Inputs, Outputs, Place, RunFault, Step};
 use pt_node::{Body, Director, Held, Node};
 use pt_time::Tag;
 use pt_value::Text;
 use std::alloc::Global;
+use std::slice;
 
 /// How a firing went that isn't recorded yet.
 #[derive(Drop)]
 pub(crate) enum Within {
     Done(Outputs),
-    Fault(Place),
-    Spent,
-    Memory,
-}
-
-/// How a turn of a child went: the core asks for the next one, or the firing of the composite ends here.
-#[derive(Drop)]
-pub(crate) enum Turn {
-    Next(Ask),
     Fault(Place),
     Spent,
     Memory,
@@ -155,7 +147,7 @@ fn fire_actor(
 }
 
 /// The firing of that number is stuck at the path.
-fn fault_at(alloc: Global, path: &Text, firing: u64, kind: RunFault) -> Within
+pub(crate) fn fault_at(alloc: Global, path: &Text, firing: u64, kind: RunFault) -> Within
     ensures { IsFaultAt path.now firing kind result }
 {
     match path.copy(alloc) {
@@ -189,135 +181,60 @@ fn fire_sdf(
         return Within::Memory;
     }
     let mut buffers = Buffers::new(alloc);
-    let mut next = core.ask();
     loop {
-        match next {
-            Ask::Fire(child, _) => {
-                if *left == 0 {
-                    return Within::Spent;
-                }
-                let node = &mut children[child as usize];
-                match fire_child(alloc, core, node, child, tag, left, &mut buffers) {
-                    Turn::Next(ask) => next = ask,
+        match fire_numbers(core, children, tag, left, &mut buffers.row) {
+            Pause::Turn(number, given) => {
+                let child = &mut children[number as usize];
+                match fire_child(alloc, core, child, number, given, tag, left, &mut buffers) {
+                    Turn::Done => {}
                     Turn::Fault(place) => return Within::Fault(place),
                     Turn::Spent => return Within::Spent,
                     Turn::Memory => return Within::Memory,
                 }
             }
-            Ask::Finished => return finish(alloc, core),
-            _ => unreachable!(),
+            Pause::Finished => return finish(alloc, core),
+            Pause::Spent => return Within::Spent,
         }
     }
 }
 
-/// A turn of the child that the core asked for: it fires, the core is told what it gave, and where its rates are right its firing is recorded.
+/// The turn of a child whose firing gave one number already, or of one that fires now: it gives numbers alone, which go by a buffer, or is of any kind.
 #[cycle(fire)]
-#[inline(always)]
+#[inline(never)]
 fn fire_child(
     alloc: Global,
     core: &mut pt_sdf::Core,
     child: &mut Node,
     number: u32,
+    given: Option<i64>,
     tag: Tag,
     left: &mut u64,
     buffers: &mut Buffers,
-) -> Turn
-    requires asked { asked_child core.old.stage ≡ Some number }
-    requires fit { IsFit (shown_node child.old) }
-    requires inputs { Takes tag (shown_node child.old) (lent_in core.old.stage) }
-    ensures goes { TurnTo core.old (shown_node child.old) number tag result core.new (shown_node child.new) }
-    ensures spends { TurnSpends result left.old left.new }
-    ensures lowered { left.new ≤ left.old }
-    ensures outline { outline_of (shown_node child.new) ≡ outline_of (shown_node child.old) }
-    ensures counted { count_of (shown_node child.new) + left.new ≡ count_of (shown_node child.old) + left.old }
-{
-    let Some(one) = quick(core, child, &mut buffers.row) else {
-        // In a place of its own, so that the turn of a number stays out of memory.
-        let turn = fire_several(alloc, core, child, number, tag, left, buffers);
-        return turn;
-    };
-    if *left == 0 {
-        return Turn::Spent;
-    }
-    tell_number(alloc, core, child, number, tag, left, one)
-}
-
-/// One firing of a library actor of which no output is recorded, where it takes numbers and gives one. The firing isn't recorded. Where no number is given, nothing was done.
-#[inline(always)]
-fn quick(core: &pt_sdf::Core, node: &mut Node, row: &mut Vec<i64>) -> Option<i64>
-    requires asked { IsSome (asked_child core.now.stage) }
-    requires fit { IsFit (shown_node node.old) }
-    ensures goes { QuickTo (shown_node node.old) (lent_in core.now.stage) result (shown_node node.new) }
-    ensures past { (out-Node node.new).past ≡ (out-Node node.old).past }
-{
-    if !node.records.as_slice().is_empty() {
-        return None;
-    }
-    match &mut node.body {
-        Body::Actor(held) => {
-            let inputs = core.int_inputs(row)?;
-            let given = held.actor.number(&inputs)?;
-            node.live = false;
-            Some(given)
-        }
-        Body::Composite(_) => None,
-    }
-}
-
-/// Tells the core the number that the child gave. The child's firing is recorded where it gave its rates.
-#[inline(always)]
-fn tell_number(
-    alloc: Global,
-    core: &mut pt_sdf::Core,
-    child: &mut Node,
-    number: u32,
-    tag: Tag,
-    left: &mut u64,
-    given: i64,
 ) -> Turn
     requires asked { asked_child core.old.stage ≡ Some number }
     requires left { 0 < left.old }
-    requires unrecorded { records_of (shown_node child.old) ≡ [] }
-    ensures goes { TellTo core.old (shown_node child.old) number tag ((Int given ∷ []) ∷ []) result core.new (shown_node child.new) }
+    requires fit { MayFire given tag (shown_node child.old) (lent_in core.old.stage) }
+    ensures goes { TurnFrom given core.old (shown_node child.old) number tag result core.new (shown_node child.new) }
     ensures spends { TurnSpends result left.old left.new }
     ensures lowered { left.new ≤ left.old }
     ensures outline { outline_of (shown_node child.new) ≡ outline_of (shown_node child.old) }
     ensures counted { count_of (shown_node child.new) + left.new ≡ count_of (shown_node child.old) + left.old }
 {
-    if child.past.made == u64::MAX || core.told_number(alloc, number, given).is_err() {
-        return Turn::Memory;
+    if let Some(given) = given {
+        return tell_numbers(
+            alloc,
+            core,
+            child,
+            number,
+            tag,
+            left,
+            slice::from_ref(&given),
+        );
     }
-    ask_again(alloc, core, child, tag, left)
-}
-
-/// A turn of a child that gives numbers alone, which go by a buffer, or of one of any kind.
-#[cycle(fire)]
-#[inline(never)]
-fn fire_several(
-    alloc: Global,
-    core: &mut pt_sdf::Core,
-    child: &mut Node,
-    number: u32,
-    tag: Tag,
-    left: &mut u64,
-    buffers: &mut Buffers,
-) -> Turn
-    requires asked { asked_child core.old.stage ≡ Some number }
-    requires fit { IsFit (shown_node child.old) }
-    requires inputs { Takes tag (shown_node child.old) (lent_in core.old.stage) }
-    ensures goes { TurnTo core.old (shown_node child.old) number tag result core.new (shown_node child.new) }
-    ensures spends { TurnSpends result left.old left.new }
-    ensures lowered { left.new ≤ left.old }
-    ensures outline { outline_of (shown_node child.new) ≡ outline_of (shown_node child.old) }
-    ensures counted { count_of (shown_node child.new) + left.new ≡ count_of (shown_node child.old) + left.old }
-{
-    if !several(core, child, buffers) {
-        return fire_any(alloc, core, child, number, tag, left);
+    if several(core, child, buffers) {
+        return tell_numbers(alloc, core, child, number, tag, left, &buffers.given);
     }
-    if *left == 0 {
-        return Turn::Spent;
-    }
-    tell_numbers(alloc, core, child, number, tag, left, &buffers.given)
+    fire_any(alloc, core, child, number, tag, left)
 }
 
 /// A turn of a child of any kind.
@@ -377,38 +294,7 @@ fn tell(
     if core.told(alloc, number, outputs).is_err() {
         return Turn::Memory;
     }
-    ask_again(alloc, core, child, tag, left)
-}
-
-/// Asks the core again, which was told what the child gave. The child's firing is recorded where it gave its rates.
-#[inline(always)]
-pub(crate) fn ask_again(
-    alloc: Global,
-    core: &mut pt_sdf::Core,
-    child: &mut Node,
-    tag: Tag,
-    left: &mut u64,
-) -> Turn
-    requires told { MayAsk core.old.stage }
-    requires made { (out-Node child.old).past.made + 1 < 2 ^ 64 }
-    requires left { 0 < left.old }
-    ensures goes { AskedAgain core.old (shown_node child.old) tag result core.new (shown_node child.new) }
-    ensures spends { TurnSpends result left.old left.new }
-    ensures lowered { left.new ≤ left.old }
-    ensures outline { outline_of (shown_node child.new) ≡ outline_of (shown_node child.old) }
-    ensures counted { count_of (shown_node child.new) + left.new ≡ count_of (shown_node child.old) + left.old }
-{
-    match core.ask() {
-        Ask::Faulted(kind, _) => match fault_at(alloc, &child.path, child.past.made, kind) {
-            Within::Fault(place) => Turn::Fault(place),
-            _ => Turn::Memory,
-        },
-        next => {
-            child.record(tag);
-            *left -= 1;
-            Turn::Next(next)
-        }
-    }
+    end_turn(alloc, core, child, tag, left)
 }
 
 /// The own outputs of a composite whose children have fired enough.

@@ -3,5 +3,6 @@
 
 mod fire;
 mod numbers;
+mod turn;
 
 pub use fire::{fire_seq, fire_within};

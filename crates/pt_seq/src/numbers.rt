@@ -1,13 +1,18 @@
-ghost use Rattle.std.specs.Prelude.{◌≡◌, ◌+◌, ◌<◌, ◌≤◌, [], ◌∷◌, Some, IsSome, map};
+ghost use Rattle.std.specs.Prelude.{◌≡◌, ◌+◌, ◌<◌, ◌≤◌, ◌∷◌, [], List, ℕ, Some, IsSome, map};
+ghost use Rattle.pt_meaning.specs.Basics.{Streams};
+ghost use Rattle.pt_value.specs.declared.token.Token.{Token};
 ghost use Rattle.pt_value.specs.declared.token.Token.TheVariants.{Int};
 ghost use Rattle.pt_sdf.specs.State.{asked_child, lent_in};
+ghost use Rattle.pt_sdf.specs.Clauses.{State};
 ghost use Rattle.pt_node.specs.declared.node.Node.{out-Node};
-ghost use Rattle.pt_node.specs.Shown.{shown_node};
+ghost use Rattle.pt_node.specs.Shown.{Shown, shown, shown_node};
 ghost use Rattle.pt_node.specs.View.{outline_of, count_of};
 ghost use Rattle.pt_node.specs.Live.{IsFit};
-ghost use Rattle.pt_seq.specs.Within.{TurnSpends, SeveralTo, TellTo, records_of};
+ghost use Rattle.pt_seq.specs.Within.{TurnSpends, QuickTo, QuickSpends, NumberTo, SeveralTo, TellTo};
+ghost use Rattle.pt_seq.specs.Between.{At, IsUnderWay, Paused};
 
-use crate::fire::{Turn, ask_again};
+use crate::turn::{Turn, end_turn};
+use pt_firing::Ask;
 use pt_node::{Body, Node};
 use pt_time::Tag;
 use std::alloc::Global;
@@ -30,16 +35,115 @@ impl Buffers {
     }
 }
 
-/// One firing of a library actor of which no output is recorded, where it takes and gives numbers alone, which the buffer has then. The firing isn't recorded. Where that isn't told, nothing was done.
+/// What ends a row of firings that give one number each.
+#[derive(Clone, Copy, Debug)]
+pub(crate) enum Pause {
+    /// It is the turn of this child, whose firing gave this number already, of which the core isn't told yet, or isn't made.
+    Turn(u32, Option<i64>),
+    /// The children have fired enough.
+    Finished,
+    Spent,
+}
+
+/// How the turn of a child went that may give one number.
+#[derive(Clone, Copy, Debug)]
+enum Quick {
+    Done,
+    /// The firing gave this number, of which the core isn't told yet, or wasn't made.
+    Open(Option<i64>),
+}
+
+/// Makes one firing of a child after another, in the order of the core, as long as each takes integers and gives one, of which nothing is recorded and no memory is wanted.
+/// This is the inner loop of a run. It calls nothing but what is inlined, so that it stays in registers.
+#[inline(never)]
+pub(crate) fn fire_numbers(
+    core: &mut pt_sdf::Core,
+    children: &mut Vec<Node>,
+    tag: Tag,
+    left: &mut u64,
+    row: &mut Vec<i64>,
+) -> Pause
+    requires under { IsUnderWay tag core.old (map shown children.old.items) left.old }
+    ensures { (before : State) (olds : List Shown) (X : Streams Token) (allowance : ℕ) → At before olds tag X allowance core.old (map shown children.old.items) left.old → Paused before olds tag X allowance result core.new (map shown children.new.items) left.new }
+{
+    loop {
+        let number = match core.ask() {
+            Ask::Fire(child, _) => child,
+            Ask::Finished => return Pause::Finished,
+            _ => unreachable!(),
+        };
+        if *left == 0 {
+            return Pause::Spent;
+        }
+        let child = &mut children[number as usize];
+        if let Quick::Open(given) = turn_of_number(core, child, number, tag, left, row) {
+            return Pause::Turn(number, given);
+        }
+    }
+}
+
+/// The turn of a child that may give one number.
+#[inline(always)]
+fn turn_of_number(
+    core: &mut pt_sdf::Core,
+    child: &mut Node,
+    number: u32,
+    tag: Tag,
+    left: &mut u64,
+    row: &mut Vec<i64>,
+) -> Quick
+    requires asked { asked_child core.old.stage ≡ Some number }
+    requires fit { IsFit (shown_node child.old) }
+    requires left { 0 < left.old }
+    ensures goes { QuickTo core.old (shown_node child.old) number tag result core.new (shown_node child.new) }
+    ensures spends { QuickSpends result left.old left.new }
+    ensures outline { outline_of (shown_node child.new) ≡ outline_of (shown_node child.old) }
+    ensures counted { count_of (shown_node child.new) + left.new ≡ count_of (shown_node child.old) + left.old }
+{
+    if core.gives_several(number) {
+        return Quick::Open(None);
+    }
+    let Some(given) = fire_number(core, child, row) else {
+        return Quick::Open(None);
+    };
+    if child.past.made == u64::MAX || !child.records.as_slice().is_empty() {
+        return Quick::Open(Some(given));
+    }
+    if !core.told_number(number, given) {
+        return Quick::Open(Some(given));
+    }
+    child.record(tag);
+    *left -= 1;
+    Quick::Done
+}
+
+/// One firing of a library actor, where it takes numbers and gives one. The firing isn't recorded. Where no number is given, nothing was done.
+#[inline(always)]
+fn fire_number(core: &pt_sdf::Core, node: &mut Node, row: &mut Vec<i64>) -> Option<i64>
+    requires asked { IsSome (asked_child core.now.stage) }
+    requires fit { IsFit (shown_node node.old) }
+    ensures goes { NumberTo (shown_node node.old) (lent_in core.now.stage) result (shown_node node.new) }
+    ensures past { (out-Node node.new).past ≡ (out-Node node.old).past }
+{
+    match &mut node.body {
+        Body::Actor(held) => {
+            let inputs = core.int_inputs(row)?;
+            let given = held.actor.number(&inputs)?;
+            node.live = false;
+            Some(given)
+        }
+        Body::Composite(_) => None,
+    }
+}
+
+/// One firing of a library actor, where it takes and gives numbers alone, which the buffer has then. The firing isn't recorded. Where that isn't told, nothing was done.
+#[inline(always)]
 pub(crate) fn several(core: &pt_sdf::Core, node: &mut Node, buffers: &mut Buffers) -> bool
     requires asked { IsSome (asked_child core.now.stage) }
     requires fit { IsFit (shown_node node.old) }
     ensures goes { SeveralTo (shown_node node.old) (lent_in core.now.stage) result buffers.new.given.items (shown_node node.new) }
     ensures past { (out-Node node.new).past ≡ (out-Node node.old).past }
 {
-    if !node.records.as_slice().is_empty() {
-        return false;
-    }
     match &node.body {
         Body::Actor(held) => {
             let Some(inputs) = core.int_inputs(&mut buffers.row) else {
@@ -56,6 +160,7 @@ pub(crate) fn several(core: &pt_sdf::Core, node: &mut Node, buffers: &mut Buffer
 }
 
 /// Tells the core the numbers that the child gave. The child's firing is recorded where it gave its rates.
+#[inline(always)]
 pub(crate) fn tell_numbers(
     alloc: Global,
     core: &mut pt_sdf::Core,
@@ -67,15 +172,17 @@ pub(crate) fn tell_numbers(
 ) -> Turn
     requires asked { asked_child core.old.stage ≡ Some number }
     requires left { 0 < left.old }
-    requires unrecorded { records_of (shown_node child.old) ≡ [] }
     ensures goes { TellTo core.old (shown_node child.old) number tag (map Int given.now ∷ []) result core.new (shown_node child.new) }
     ensures spends { TurnSpends result left.old left.new }
     ensures lowered { left.new ≤ left.old }
     ensures outline { outline_of (shown_node child.new) ≡ outline_of (shown_node child.old) }
     ensures counted { count_of (shown_node child.new) + left.new ≡ count_of (shown_node child.old) + left.old }
 {
-    if child.past.made == u64::MAX || core.told_numbers(alloc, number, given).is_err() {
+    if child.past.made == u64::MAX || child.note_numbers(tag, given).is_err() {
         return Turn::Memory;
     }
-    ask_again(alloc, core, child, tag, left)
+    if core.told_numbers(alloc, number, given).is_err() {
+        return Turn::Memory;
+    }
+    end_turn(alloc, core, child, tag, left)
 }

@@ -16,4 +16,4 @@ pub returns-then-is_err-2-clause-outline : goal.returns-then-is_err-2-clause-out
 returns-then-is_err-2-clause-outline c = outline_bare (shown_node c.note.new.self) (shown_node c.args.child.now) c.note.ensures.kept
 
 pub returns-clause-outline : goal.returns-clause-outline
-returns-clause-outline c = c.ask_again.ensures.outline ∙ outline_bare (shown_node c.note.new.self) (shown_node c.args.child.now) c.note.ensures.kept
+returns-clause-outline c = c.end_turn.ensures.outline ∙ outline_bare (shown_node c.note.new.self) (shown_node c.args.child.now) c.note.ensures.kept

@@ -1,6 +1,4 @@
 use Rattle.std.proofs.Common.{◌≡◌, [], ◌∷◌, map, refl, sym, subst, ◌∙◌}
-use Rattle.std.proofs.lemmas.Bool.{eqb-true}
-use Rattle.std.proofs.lemmas.List.{nil_from_length}
 use Rattle.pt_value.specs.declared.token.Token.TheVariants.{Int}
 use Rattle.pt_library.specs.LibraryActor as library
 use Rattle.pt_library.specs.LibraryActor.{GivesNumbers}
@@ -19,7 +17,6 @@ returns-else-not-numbers-clause-goes c =
     let n : Node = c.args.node.now in
     let r : opens.Node-F Node = out-Node n in
     let held : Held = c.in-Actor.held in
-    let none : r.records ≡ [] = sym c.as_slice.ensures ∙ nil_from_length _ (eqb-true _ _ (sym c.is_empty.ensures ∙ c.if-not-is_empty.false)) in
     let gave = subst (λ b. GivesNumbers library.step held.actor c.in-Some.inputs b c.numbers.new.given.items held.actor) c.if-not-numbers.false c.numbers.ensures in
     subst (λ X. Gave (shown_node n) X (map Int c.numbers.new.given.items ∷ []) (shown_node (roll-Node (not-live r)))) c.in-Some.ensures
-    (gave-out n (roll-Node (not-live r)) r (not-live r) held held (roll-out-Node n) refl c.in-Actor.is c.in-Some.inputs (map Int c.numbers.new.given.items ∷ []) gave refl (only-not-live r (body.Actor held) c.in-Actor.is) c.requires.fit none)
+    (gave-out n (roll-Node (not-live r)) r (not-live r) held held (roll-out-Node n) refl c.in-Actor.is c.in-Some.inputs (map Int c.numbers.new.given.items ∷ []) gave refl (only-not-live r (body.Actor held) c.in-Actor.is) c.requires.fit)

@@ -1,7 +1,5 @@
 use Rattle.std.proofs.Common.{◌≡◌, ℤ, w64, SFits, rules, [], ◌∷◌, refl, sym, subst, ◌∙◌}
-use Rattle.std.proofs.lemmas.Bool.{eqb-true}
 use Rattle.std.proofs.lemmas.Int.{to_z-of_z}
-use Rattle.std.proofs.lemmas.List.{nil_from_length}
 use Rattle.pt_value.specs.declared.token.Token.TheVariants.{Int}
 use Rattle.pt_sdf.specs.State.{lent_in}
 use Rattle.pt_node.specs.declared.node.Node.{Node, roll-Node, out-Node}
@@ -12,7 +10,7 @@ use Rattle.pt_node.specs.declared.body.Held.{Held}
 use Rattle.pt_node.specs.Shown.{shown_node}
 use Rattle.pt_seq.specs.Within.{Gave}
 use Rattle.pt_seq.proofs.Entering.{gave-out, not-live, no-longer-live}
-use Rattle.pt_seq.proofs.fire.quick.Goals as goal
+use Rattle.pt_seq.proofs.numbers.fire_number.Goals as goal
 
 pub returns-in_ok-given-in-Actor-clause-goes : goal.returns-in_ok-given-in-Actor-clause-goes
 returns-in_ok-given-in-Actor-clause-goes c =
@@ -22,9 +20,8 @@ returns-in_ok-given-in-Actor-clause-goes c =
     let held' : Held = record { start = held.start; actor = c.number.new.self } in
     let given : ℤ = c.in_ok-given-in-Actor.given in
     let fits : SFits w64 given = search rules in
-    let none : r.records ≡ [] = sym c.as_slice.ensures ∙ nil_from_length _ (eqb-true _ _ (sym c.is_empty.ensures ∙ c.if-not-is_empty.false)) in
     let written : opens.Node-F Node = record { past = r.past; body = body.Actor held'; children = r.children; records = r.records; path = r.path; live = r.live } in
     let r' : opens.Node-F Node = not-live (out-Node (roll-Node written)) in
     subst (λ z. Gave (shown_node n) (lent_in c.args.core.now.stage) ((Int z ∷ []) ∷ []) (shown_node (roll-Node r'))) (sym (to_z-of_z w64 given fits))
     (subst (λ X. Gave (shown_node n) X ((Int given ∷ []) ∷ []) (shown_node (roll-Node r'))) c.in_ok-inputs-in-Actor.ensures
-    (gave-out n (roll-Node r') r r' held held' (roll-out-Node n) refl c.in-Actor.is c.in_ok-inputs-in-Actor.inputs ((Int given ∷ []) ∷ []) c.in_ok-given-in-Actor.ensures refl (no-longer-live written) c.requires.fit none))
+    (gave-out n (roll-Node r') r r' held held' (roll-out-Node n) refl c.in-Actor.is c.in_ok-inputs-in-Actor.inputs ((Int given ∷ []) ∷ []) c.in_ok-given-in-Actor.ensures refl (no-longer-live written) c.requires.fit))
