@@ -1,18 +1,17 @@
 -- A child that was asked for, whose inputs stand on their channels or were handed over.
-use Rattle.std.proofs.Common.{◌≡◌, ℕ, zero, suc, ◌+◌, ◌<◌, ◌≤◌, ◌⊎◌, inl, inr, ⊎_elim, List, [], ◌∷◌, Bool, true, false, length, get_or, take, drop, Some, Option, Vec, Global, refl, ap, ap₂, sym, subst, ◌∙◌, arith, zero-add}
+use Rattle.std.proofs.Common.{◌≡◌, ℕ, zero, suc, ◌+◌, ◌<◌, ◌≤◌, ◌⊎◌, ⊎_elim, List, [], ◌∷◌, Bool, true, false, length, get_or, take, drop, Some, Option, Vec, Global, refl, ap, ap₂, sym, subst, ◌∙◌, arith, zero-add}
 use Rattle.pt_meaning.specs.Streams.{Streams}
 use Rattle.pt_meaning.specs.Rounds.{has_rates}
-use Rattle.pt_meaning.specs.Kahn.{firsts}
 use Rattle.pt_value.specs.declared.token.Token.{Token}
 use Rattle.pt_sdf.specs.declared.sdf.Stage as declared
 use Rattle.pt_sdf.specs.declared.sdf.Stage.TheVariants as code
 use Rattle.pt_sdf.specs.declared.sdf.Core.TheInside.{Inside}
 use Rattle.pt_sdf.specs.ByNeed.{place_of, skip_at}
-use Rattle.pt_sdf.specs.State.{Open, asked_child, lent_in, lent_of, asked, handed, in_stage, if_told, after_told}
+use Rattle.pt_sdf.specs.State.{Open, asked_child, asked, handed, in_stage, if_told, after_told}
 use Rattle.pt_sdf.specs.Rooms.{HaveRooms}
 use Rattle.pt_sdf.specs.Clauses.{State}
 use Rattle.pt_sdf.specs.Plan.{plan_of}
-use Rattle.pt_sdf.specs.Core.{state_in, seen_in, unmoved, with_asked, Sound, IsSound}
+use Rattle.pt_sdf.specs.Core.{state_in, seen_in, unmoved, IsSound}
 use Rattle.pt_sdf.proofs.Lists.{skip-zero}
 use Rattle.pt_sdf.proofs.SoundLaws.{open-again, told-kept, offset-is, total-fits, begins-long, begins-at}
 use Rattle.pt_sdf.proofs.CoreLaws.{SoundAt, is-asked, seen-at, asked-there, asked-enough, asked-sound, told-child, told-left}

@@ -1,11 +1,12 @@
 -- The calls that need no walk, at the fields of a core.
-use Rattle.std.proofs.Common.{◌≡◌, ℕ, ◌+◌, ◌<◌, ◌≤◌, List, [], ◌∷◌, true, false, length, zero, suc, get_or, set, take, drop, map, nat_eq, refl, ap, ap₂, sym, subst, ◌∙◌, arith, length-drop, inl}
-use Rattle.std.proofs.lemmas.Bool.{false≢true}
-use Rattle.std.proofs.lemmas.List.{get_or-drop, length-map}
+use Rattle.std.proofs.Common.{◌≡◌, ℕ, ◌+◌, ◌<◌, ◌≤◌, ◌&&◌, List, [], ◌∷◌, ◌++◌, Bool, true, if◌then◌else◌, Some, length, replicate, pos, get_or, set, take, drop, map, nat_eq, refl, ap, ap₂, sym, subst, ◌∙◌, arith, length-drop, length-set, inl}
+use Rattle.std.proofs.lemmas.Bool.Decides.{nat_tests}
+use Rattle.std.proofs.lemmas.List.{get_or-drop, get_or-take, length-take, length-replicate}
 use Rattle.pt_meaning.specs.Streams.{Streams}
 use Rattle.pt_meaning.specs.Rounds.{has_rates}
 use Rattle.pt_meaning.specs.Kahn.{firsts}
 use Rattle.pt_value.specs.declared.token.Token.{Token}
+use Rattle.pt_value.specs.declared.token.Token.TheVariants.{Int}
 use Rattle.pt_sdf.specs.declared.feeds.Feed.{Feed}
 use Rattle.pt_sdf.specs.declared.sdf.Stage.TheVariants as code
 use Rattle.pt_sdf.specs.declared.sdf.Core.TheInside.{Inside}
@@ -15,19 +16,17 @@ use Rattle.pt_meaning.specs.Running.{plus, puts}
 use Rattle.pt_sdf.specs.Plan.{source_of, plan_of}
 use Rattle.pt_sdf.specs.Feeds.{Target, no_feed, target_of, rows_in, put_back, AreThere}
 use Rattle.pt_sdf.specs.declared.lanes.Lane.{Lane}
-use Rattle.pt_sdf.specs.declared.lanes.Inlet.{Inlet}
 use Rattle.pt_sdf.specs.declared.lanes.Inlet.TheVariants as inlet
 use Rattle.pt_sdf.specs.declared.lanes.Outlet.{Outlet}
-use Rattle.pt_sdf.specs.declared.lanes.Outlet.TheVariants.{Nothing, One, Several}
-use Rattle.pt_sdf.specs.Lanes.{IsInlet, FitsInlet, IsOutlet, FitsOutlet, IsLane, IsOutletIn, NeedsOneEach, IsInletIn, left_behind, is_one_in, is_one_out, is_straight, no_lane, targets_of}
+use Rattle.pt_sdf.specs.declared.lanes.Outlet.TheVariants.{Nothing, One, Burst, Several}
+use Rattle.pt_sdf.specs.Lanes.{IsInlet, FitsInlet, IsOutlet, FitsOutlet, IsLane, IsOutletIn, NeedsOneEach, no_lane, targets_of, count_of}
 use Rattle.pt_sdf.specs.Rooms.{HaveRooms}
 use Rattle.pt_sdf.specs.Core.{state_of, state_in, seen_in, unmoved, place_behind, Sound, IsSound, IsWhole}
-use Rattle.pt_sdf.proofs.Lists.{read-at, skip-zero, skip-long, next-left, next-taken}
-use Rattle.pt_laws.proofs.KahnLaws.{and-left, and-right}
-use Rattle.pt_sdf.proofs.SoundLaws.{total-fits, told-sound, told-firings}
+use Rattle.pt_sdf.proofs.Lists.{read-at, skip-zero, skip-long, skip-put, put-keeps, next-left, next-taken}
+use Rattle.pt_sdf.proofs.SoundLaws.{told-sound, told-firings}
 use Rattle.pt_sdf.proofs.CallLaws.{child-puts-on, child-feeds-there, told-state}
 use Rattle.pt_sdf.proofs.CoreLaws.{SoundAt, asked-rooms, told-child}
-use Rattle.pt_sdf.proofs.HandLaws.{reopened, handing, reopened-sound, reopened-left, reopened-next, busy-there, unmoved-enough, offset-read, handing-sound, handing-told}
+use Rattle.pt_sdf.proofs.HandLaws.{reopened, handing, reopened-sound, reopened-left, reopened-next, busy-there, busy-rooms, place-is, unmoved-fits, unmoved-enough, offset-read, handing-sound, handing-told}
 
 -- what is told of a child
 module _ (i : Inside) (w : IsWhole i) (child : ℕ) (h : child < length i.plan.places) (lane : Lane) (e : lane ≡ get_or i.tables.lanes.items child lane) where
@@ -74,113 +73,156 @@ module _ (needs : List ℕ) (X : Streams Token) (from places c need : ℕ) (a : 
       next-taken X X c 0 (drop c needs) (sym (skip-zero c X)) [] (take need (get_or X c [])) need inlet-need inlet-there need-is (ap (λ v. take need (get_or X v [])) zero-more) refl
       ∙ ap₂ (λ x y. firsts (take y (drop x needs)) (take y (drop x X))) a.place (sym a.alone)
 
--- the channels without what a straight lane takes
-pub straight-left : (needs : List ℕ) (X : Streams Token) (from places : ℕ) (o : Inlet) → FitsInlet needs from places o → from + places ≤ length X → from + places ≤ length needs → is_one_in o ≡ true → left_behind o X ≡ skip_at from (take places (drop from needs)) X
-straight-left needs X from places inlet.Nothing f l b z = sym (ap (λ n. skip_at from (take n (drop from needs)) X) f ∙ skip-zero from X)
-straight-left needs X from places (inlet.Alone c need) f l b z = inlet-left needs X from places c need f l b
-straight-left needs X from places inlet.Each f l b z = absurd (false≢true z)
-straight-left needs X from places inlet.Several f l b z = absurd (false≢true z)
+pub if-so : {A : Type 0} {b : Bool} {x : A} (y z : A) → b ≡ true → x ≡ (if b then y else z) → x ≡ y
+if-so y z e f = f ∙ ap (λ v. if v then y else z) e
 
-straight-in : (needs : List ℕ) (X : Streams Token) (from places : ℕ) (o : Inlet) → FitsInlet needs from places o → from + places ≤ length X → ((k : ℕ) → k < places → get_or needs (from + k) 0 ≤ length (get_or X (from + k) [])) → IsInletIn X o
-straight-in needs X from places inlet.Nothing f l n = tt
-straight-in needs X from places (inlet.Alone c need) f l n =
-    let first : get_or needs (from + 0) 0 ≤ length (get_or X (from + 0) []) = n 0 (omega (arith, f.alone)) in
-    let at : from + 0 ≡ from = omega arith in (
-      omega (arith, f.place, f.alone, l),
-      subst (λ v. v ≤ length (get_or X c [])) f.needed (subst (λ v. get_or needs from 0 ≤ length (get_or X v [])) (sym f.place) (subst (λ v. get_or needs v 0 ≤ length (get_or X v [])) at first)),
-    )
-straight-in needs X from places inlet.Each f l n = tt
-straight-in needs X from places inlet.Several f l n = tt
+-- what a child gave on the channel that it feeds
+module _ (o : Outlet) (tokens : List Token) (X : Streams Token) where
+  pub given-long : length (put_back (targets_of o) (tokens ∷ []) X) ≡ length X
+  given-long = by o
+    where
+      by : (o : Outlet) → length (put_back (targets_of o) (tokens ∷ []) X) ≡ length X
+      by Nothing = refl
+      by (One c) = length-set X c (get_or X c [] ++ tokens)
+      by (Burst c rate) = length-set X c (get_or X c [] ++ tokens)
+      by Several = refl
 
--- it was told its number, and feeds these channels alone
-module _ (i : Inside) (s : IsSound i) (child : ℕ) (g : i.stage ≡ code.Handed child) (t : Token) (ts : List Target) (o : IsOutlet (get_or i.plan.rates.items child []) (get_or (rows_in i.tables.feeds.items) child []) ts) where
+  pub given-keeps : (k : ℕ) → length (get_or X k []) ≤ length (get_or (put_back (targets_of o) (tokens ∷ []) X) k [])
+  given-keeps k = by o
+    where
+      by : (o : Outlet) → length (get_or X k []) ≤ length (get_or (put_back (targets_of o) (tokens ∷ []) X) k [])
+      by Nothing = omega arith
+      by (One c) = put-keeps X c tokens k
+      by (Burst c rate) = put-keeps X c tokens k
+      by Several = omega arith
+
+  pub given-skip : (from : ℕ) (ns : List ℕ) → ((k : ℕ) → k < length ns → get_or ns k 0 ≤ length (get_or X (from + k) [])) → skip_at from ns (put_back (targets_of o) (tokens ∷ []) X) ≡ put_back (targets_of o) (tokens ∷ []) (skip_at from ns X)
+  given-skip from ns h = by o
+    where
+      by : (o : Outlet) → skip_at from ns (put_back (targets_of o) (tokens ∷ []) X) ≡ put_back (targets_of o) (tokens ∷ []) (skip_at from ns X)
+      by Nothing = refl
+      by (One c) = skip-put from ns X c tokens h
+      by (Burst c rate) = skip-put from ns X c tokens h
+      by Several = refl
+
+some-same : (a b : ℕ) → Some a ≡ Some b → a ≡ b
+some-same a b e = cc
+
+-- an outlet that tells how many tokens the child gives tells what it feeds
+pub outlet-of : (rates : List ℕ) (feeds : List Feed) (o : Outlet) (n : ℕ) → FitsOutlet rates feeds o → count_of o ≡ Some n → IsOutlet rates feeds n (targets_of o)
+outlet-of rates feeds Nothing n f e = subst (λ v. IsOutlet rates feeds v []) (some-same 1 n e) f
+outlet-of rates feeds (One c) n f e = subst (λ v. IsOutlet rates feeds v (targets_of (One c))) (some-same 1 n e) f
+outlet-of rates feeds (Burst c rate) n f e = subst (λ v. IsOutlet rates feeds v (targets_of (Burst c rate))) (some-same rate n e) f
+outlet-of rates feeds Several n f e = absurd (cc)
+
+-- it was told so many tokens, and feeds these channels alone
+module _ (i : Inside) (s : IsSound i) (child : ℕ) (g : i.stage ≡ code.Handed child) (tokens : List Token) (count : ℕ) (m : length tokens ≡ count) (ts : List Target) (o : IsOutlet (get_or i.plan.rates.items child []) (get_or (rows_in i.tables.feeds.items) child []) count ts) where
   told : SoundAt i (code.Handed child)
   told = subst (λ v. SoundAt i v) g s
 
-  given : Streams Token
-  given = (t ∷ []) ∷ []
-
-  fits : has_rates (get_or i.plan.rates.items child []) ((t ∷ []) ∷ []) ≡ true
-  fits = subst (λ v. has_rates v ((t ∷ []) ∷ []) ≡ true) (sym o.rate) refl
+  fits : has_rates (get_or i.plan.rates.items child []) (tokens ∷ []) ≡ true
+  fits = subst (λ v. has_rates v (tokens ∷ []) ≡ true) (sym o.rate) (subst (λ v. has_rates (v ∷ []) (tokens ∷ []) ≡ true) m (one-rated tokens))
+    where
+      one-rated : (tokens : List Token) → has_rates (length tokens ∷ []) (tokens ∷ []) ≡ true
+      one-rated tokens =
+          let t : nat_eq (length tokens) (length tokens) ≡ true = grind (arith, nat_tests) in
+          ap (λ b. b && true) t
 
   there-all : AreThere (length i.channels.lists) 1 (get_or (rows_in i.tables.feeds.items) child [])
-  there-all = child-feeds-there (plan_of i.plan) i.plan.needs i.plan.order.items i.plan.room i.tables.offsets.items i.tables.feeds.items i.first.lists i.channels.lists i.rooms.items i.lent.items i.staged.list i.turns i.left i.at i.stage s child ((t ∷ []) ∷ []) (told-child i s child g) fits
+  there-all = child-feeds-there (plan_of i.plan) i.plan.needs i.plan.order.items i.plan.room i.tables.offsets.items i.tables.feeds.items i.first.lists i.channels.lists i.rooms.items i.lent.items i.staged.list i.turns i.left i.at i.stage s child (tokens ∷ []) (told-child i s child g) fits
 
-  pub outlet-in : (o : Outlet) → ts ≡ targets_of o → IsOutletIn (length i.channels.lists) o
-  outlet-in Nothing e = tt
-  outlet-in (One c) e = one-there (get_or (rows_in i.tables.feeds.items) child []) c (o.fed ∙ e) there-all
+  pub fed-there : (c : ℕ) → ts ≡ record { channel = c; port = 0 } ∷ [] → c < length i.channels.lists
+  fed-there c e = one-there (get_or (rows_in i.tables.feeds.items) child []) c (o.fed ∙ e) there-all
     where
       one-there : (fs : List Feed) (c : ℕ) → map target_of fs ≡ record { channel = c; port = 0 } ∷ [] → AreThere (length i.channels.lists) 1 fs → c < length i.channels.lists
       one-there [] c e h = absurd (cc)
       one-there (f ∷ fs) c e h = subst (λ v. v < length i.channels.lists) (ap (λ v. (get_or v 0 (target_of no_feed)).channel) e) (h.channels 0 (omega arith))
-  outlet-in Several e = tt
 
-  module _ (held' : Streams Token) (d : held' ≡ put_back ts ((t ∷ []) ∷ []) i.channels.lists) (next : ℕ × ℕ) (n : next ≡ place_behind (nat_eq (i.at + 1) (length i.plan.order.items)) i.left i.at) where
-    puts-are : held' ≡ plus i.channels.lists (puts child ((t ∷ []) ∷ []) (map source_of i.plan.sources.items))
-    puts-are = child-puts-on (plan_of i.plan) i.plan.needs i.plan.order.items i.plan.room i.tables.offsets.items i.tables.feeds.items i.first.lists i.channels.lists i.rooms.items i.lent.items i.staged.list i.turns i.left i.at i.stage s child ts ((t ∷ []) ∷ []) held' (told-child i s child g) o.fed d
+  module _ (held' : Streams Token) (d : held' ≡ put_back ts (tokens ∷ []) i.channels.lists) (next : ℕ × ℕ) (n : next ≡ place_behind (nat_eq (i.at + 1) (length i.plan.order.items)) i.left i.at) where
+    puts-are : held' ≡ plus i.channels.lists (puts child (tokens ∷ []) (map source_of i.plan.sources.items))
+    puts-are = child-puts-on (plan_of i.plan) i.plan.needs i.plan.order.items i.plan.room i.tables.offsets.items i.tables.feeds.items i.first.lists i.channels.lists i.rooms.items i.lent.items i.staged.list i.turns i.left i.at i.stage s child ts (tokens ∷ []) held' (told-child i s child g) o.fed d
 
     pub outlet-sound : HaveRooms i.plan.needs i.rooms.items (place_of i.plan.places child) (get_or i.plan.places child 0) → Sound (plan_of i.plan) i.plan.needs i.plan.order.items i.plan.room i.tables.offsets.items i.tables.feeds.items i.first.lists held' i.rooms.items i.lent.items i.staged.list i.turns next.0 next.1 code.Open
     outlet-sound roomy =
-        told-sound (plan_of i.plan) i.plan.needs i.plan.order.items i.plan.room i.tables.offsets.items i.tables.feeds.items i.first.lists i.channels.lists i.rooms.items i.lent.items i.staged.list i.turns i.left i.at child told ((t ∷ []) ∷ []) held' i.rooms.items i.staged.list next fits puts-are
+        told-sound (plan_of i.plan) i.plan.needs i.plan.order.items i.plan.room i.tables.offsets.items i.tables.feeds.items i.first.lists i.channels.lists i.rooms.items i.lent.items i.staged.list i.turns i.left i.at child told (tokens ∷ []) held' i.rooms.items i.staged.list next fits puts-are
         s.none_staged refl (λ k h. h) roomy n
 
-    pub outlet-state : state_of (plan_of i.plan) i.plan.needs i.plan.order.items i.first.lists held' i.lent.items i.turns next.0 next.1 i.tag code.Open ≡ after_told child ((t ∷ []) ∷ []) (state_in i)
+    pub outlet-state : state_of (plan_of i.plan) i.plan.needs i.plan.order.items i.first.lists held' i.lent.items i.turns next.0 next.1 i.tag code.Open ≡ after_told child (tokens ∷ []) (state_in i)
     outlet-state =
-        told-state (plan_of i.plan) i.plan.needs i.plan.order.items i.first.lists i.channels.lists held' i.lent.items i.turns i.left i.at child next i.tag i.stage ((t ∷ []) ∷ []) fits puts-are
+        told-state (plan_of i.plan) i.plan.needs i.plan.order.items i.first.lists i.channels.lists held' i.lent.items i.turns i.left i.at child next i.tag i.stage (tokens ∷ []) fits puts-are
         (told-firings (plan_of i.plan) i.plan.needs i.plan.order.items i.plan.room i.tables.offsets.items i.tables.feeds.items i.first.lists i.channels.lists i.rooms.items i.lent.items i.staged.list i.turns i.left i.at child told next n)
 
--- a child that was asked for alone gave its number by a straight lane
-module _ (i : Inside) (w : IsWhole i) (child : ℕ) (g : i.stage ≡ code.Asked child) (lane : Lane) (e : lane ≡ get_or i.tables.lanes.items child lane) (z : is_straight lane ≡ true) (t : Token) where
-  there : child < length i.plan.places
-  there = busy-there i w.sound child (inl g)
+-- a child that was asked for alone gave tokens by its lane, and its inputs, at n places from o on, are taken behind that
+module _ (i : Inside) (w : IsWhole i) (child : ℕ) (g : i.stage ≡ code.Asked child) (lane : Lane) (e : lane ≡ get_or i.tables.lanes.items child lane) where
+  pub lane-there : child < length i.plan.places
+  lane-there = busy-there i w.sound child (inl g)
 
-  fits-all : (place_of i.plan.places child + get_or i.plan.places child 0 ≤ length i.channels.lists) × (place_of i.plan.places child + get_or i.plan.places child 0 ≤ length i.plan.needs) × (place_of i.plan.places child + get_or i.plan.places child 0 ≤ length i.rooms.items) × (place_of i.plan.places child + get_or i.plan.places child 0 ≤ length i.plan.sources.items)
-  fits-all =
-      let t = total-fits (plan_of i.plan) i.plan.needs i.plan.order.items i.plan.room i.tables.offsets.items i.tables.feeds.items i.first.lists i.channels.lists i.rooms.items i.lent.items i.staged.list i.turns i.left i.at i.stage w.sound child there in (t.0, t.1, t.2, omega (arith, t.3, length-map i.plan.sources.items source_of))
+  fits-outlet : FitsOutlet (get_or i.plan.rates.items child []) (get_or (rows_in i.tables.feeds.items) child []) lane.outlet
+  fits-outlet = (is-lane i w child lane-there lane e).outlet
 
-  offset : place_of i.plan.places child ≡ get_or i.tables.offsets.items child (place_of i.plan.places child)
-  offset = offset-read i w.sound child there
+  module _ (o n : ℕ) (f : o ≡ get_or i.tables.offsets.items child o) (p : n ≡ get_or i.plan.places child 0) where
+    unmoved-all : n ≡ unmoved i.stage n
+    unmoved-all = sym (ap (λ v. unmoved v n) g)
 
-  unmoved-all : get_or i.plan.places child 0 ≡ unmoved i.stage (get_or i.plan.places child 0)
-  unmoved-all = sym (ap (λ v. unmoved v (get_or i.plan.places child 0)) g)
+    abbrev taken : Streams Token
+    taken = skip_at o (take n (drop o i.plan.needs)) i.channels.lists
 
-  pub straight-inlet : IsInletIn i.channels.lists lane.inlet
-  straight-inlet =
-      straight-in i.plan.needs i.channels.lists (place_of i.plan.places child) (get_or i.plan.places child 0) lane.inlet (is-lane i w child there lane e).inlet fits-all.0
-      (unmoved-enough i w.sound child (inl g) (place_of i.plan.places child) (get_or i.plan.places child 0) (get_or i.plan.places child 0) offset refl unmoved-all)
+    sound : IsSound (handing i child taken)
+    sound = handing-sound i w.sound child (inl g) o n n f p unmoved-all taken refl
 
-  abbrev taken : Streams Token
-  taken = left_behind lane.inlet i.channels.lists
+    pub lane-enough : (k : ℕ) → k < n → get_or i.plan.needs (o + k) 0 ≤ length (get_or i.channels.lists (o + k) [])
+    lane-enough = unmoved-enough i w.sound child (inl g) o n n f p unmoved-all
 
-  taken-is : left_behind lane.inlet i.channels.lists ≡ skip_at (place_of i.plan.places child) (take (get_or i.plan.places child 0) (drop (place_of i.plan.places child) i.plan.needs)) i.channels.lists
-  taken-is = straight-left i.plan.needs i.channels.lists (place_of i.plan.places child) (get_or i.plan.places child 0) lane.inlet (is-lane i w child there lane e).inlet fits-all.0 fits-all.1 (and-left (is_one_in lane.inlet) (is_one_out lane.outlet) z)
+    pub lane-inlet : FitsInlet i.plan.needs o n lane.inlet
+    lane-inlet =
+        subst (λ v. FitsInlet i.plan.needs v n lane.inlet) (sym (place-is i w.sound child (inl g) o n n f p unmoved-all))
+        (subst (λ v. FitsInlet i.plan.needs (place_of i.plan.places child) v lane.inlet) (sym p) (is-lane i w child lane-there lane e).inlet)
 
-  pub straight-long : length (left_behind lane.inlet i.channels.lists) ≡ length i.channels.lists
-  straight-long = ap (λ v. length v) taken-is ∙ skip-long (place_of i.plan.places child) (take (get_or i.plan.places child 0) (drop (place_of i.plan.places child) i.plan.needs)) i.channels.lists
+    pub lane-fits : (o + n ≤ length i.channels.lists) × (o + n ≤ length i.plan.needs)
+    lane-fits = unmoved-fits i w.sound child (inl g) o n n f p unmoved-all
 
-  sound : IsSound (handing i child taken)
-  sound = handing-sound i w.sound child (inl g) (place_of i.plan.places child) (get_or i.plan.places child 0) (get_or i.plan.places child 0) offset refl unmoved-all taken taken-is
+    module _ (tokens : List Token) (count : count_of lane.outlet ≡ Some (length tokens)) (given : Streams Token) (a : given ≡ put_back (targets_of lane.outlet) (tokens ∷ []) i.channels.lists) where
+      pub lane-given-places : o + n ≤ length given
+      lane-given-places = omega (arith, lane-fits.0, ap (λ v. length v) a, given-long lane.outlet tokens i.channels.lists)
 
-  outlet : IsOutlet (get_or i.plan.rates.items child []) (get_or (rows_in i.tables.feeds.items) child []) (targets_of lane.outlet)
-  outlet = by lane.outlet (and-right (is_one_in lane.inlet) (is_one_out lane.outlet) z) (is-lane i w child there lane e).outlet
+      pub lane-given-enough : (k : ℕ) → k < n → get_or i.plan.needs (o + k) 0 ≤ length (get_or given (o + k) [])
+      lane-given-enough k h = omega (arith, lane-enough k h, given-keeps lane.outlet tokens i.channels.lists (o + k), ap (λ v. length (get_or v (o + k) [])) a)
+
+      module _ (held' : Streams Token) (b : held' ≡ skip_at o (take n (drop o i.plan.needs)) given) (next : ℕ × ℕ) (d : next ≡ place_behind (nat_eq (i.at + 1) (length i.plan.order.items)) i.left i.at) where
+        enough-taken : (k : ℕ) → k < length (take n (drop o i.plan.needs)) → get_or (take n (drop o i.plan.needs)) k 0 ≤ length (get_or i.channels.lists (o + k) [])
+        enough-taken k h =
+            let l : k < n = omega (arith, h, length-take n (drop o i.plan.needs)) in
+            subst (λ v. v ≤ length (get_or i.channels.lists (o + k) [])) (sym (get_or-take n (drop o i.plan.needs) k 0 l ∙ get_or-drop o i.plan.needs k 0)) (lane-enough k l)
+
+        put-is : held' ≡ put_back (targets_of lane.outlet) (tokens ∷ []) taken
+        put-is = b ∙ ap (λ v. skip_at o (take n (drop o i.plan.needs)) v) a ∙ given-skip lane.outlet tokens i.channels.lists o (take n (drop o i.plan.needs)) enough-taken
+
+        outlet : IsOutlet (get_or i.plan.rates.items child []) (get_or (rows_in i.tables.feeds.items) child []) (length tokens) (targets_of lane.outlet)
+        outlet = outlet-of (get_or i.plan.rates.items child []) (get_or (rows_in i.tables.feeds.items) child []) lane.outlet (length tokens) fits-outlet count
+
+        pub lane-sound : Sound (plan_of i.plan) i.plan.needs i.plan.order.items i.plan.room i.tables.offsets.items i.tables.feeds.items i.first.lists held' i.rooms.items i.lent.items i.staged.list i.turns next.0 next.1 code.Open
+        lane-sound =
+            outlet-sound (handing i child taken) sound child refl tokens (length tokens) refl (targets_of lane.outlet) outlet held' put-is next d
+            (busy-rooms i w.sound child (inl g) o n n f p unmoved-all i.rooms.items (asked-rooms (reopened i) (reopened-sound i w.sound child g) refl (reopened-left i w.sound child g) child (reopened-next i w.sound child g) o n f p))
+
+        pub lane-state : state_of (plan_of i.plan) i.plan.needs i.plan.order.items i.first.lists held' i.lent.items i.turns next.0 next.1 i.tag code.Open ≡ after_told child (tokens ∷ []) (seen_in i)
+        lane-state =
+            outlet-state (handing i child taken) sound child refl tokens (length tokens) refl (targets_of lane.outlet) outlet held' put-is next d
+            ∙ handing-told i w.sound child (inl g) o n n f p unmoved-all taken refl (tokens ∷ [])
+
+  pub lane-outlet : IsOutletIn (length i.channels.lists) lane.outlet
+  lane-outlet = by lane.outlet fits-outlet
     where
-      by : (o : Outlet) → is_one_out o ≡ true → FitsOutlet (get_or i.plan.rates.items child []) (get_or (rows_in i.tables.feeds.items) child []) o → IsOutlet (get_or i.plan.rates.items child []) (get_or (rows_in i.tables.feeds.items) child []) (targets_of o)
-      by Nothing f o = o
-      by (One c) f o = o
-      by Several f o = absurd (false≢true f)
+      at-place : place_of i.plan.places child ≡ get_or i.tables.offsets.items child (place_of i.plan.places child)
+      at-place = offset-read i w.sound child lane-there
 
-  pub straight-outlet : IsOutletIn (length i.channels.lists) lane.outlet
-  straight-outlet =
-      subst (λ v. IsOutletIn v lane.outlet) straight-long
-      (outlet-in (handing i child taken) sound child refl t (targets_of lane.outlet) outlet lane.outlet refl)
+      fed : (c count : ℕ) → IsOutlet (get_or i.plan.rates.items child []) (get_or (rows_in i.tables.feeds.items) child []) count (record { channel = c; port = 0 } ∷ []) → c < length i.channels.lists
+      fed c count o =
+          subst (λ v. c < v) (skip-long (place_of i.plan.places child) (take (get_or i.plan.places child 0) (drop (place_of i.plan.places child) i.plan.needs)) i.channels.lists)
+          (fed-there (handing i child (taken (place_of i.plan.places child) (get_or i.plan.places child 0) at-place refl)) (sound (place_of i.plan.places child) (get_or i.plan.places child 0) at-place refl) child refl (replicate count (Int (pos 0))) count (length-replicate count (Int (pos 0))) (record { channel = c; port = 0 } ∷ []) o c refl)
 
-  module _ (held' : Streams Token) (d : held' ≡ put_back (targets_of lane.outlet) ((t ∷ []) ∷ []) (left_behind lane.inlet i.channels.lists)) (next : ℕ × ℕ) (n : next ≡ place_behind (nat_eq (i.at + 1) (length i.plan.order.items)) i.left i.at) where
-    pub straight-sound : Sound (plan_of i.plan) i.plan.needs i.plan.order.items i.plan.room i.tables.offsets.items i.tables.feeds.items i.first.lists held' i.rooms.items i.lent.items i.staged.list i.turns next.0 next.1 code.Open
-    straight-sound =
-        outlet-sound (handing i child taken) sound child refl t (targets_of lane.outlet) outlet held' d next n
-        (asked-rooms (reopened i) (reopened-sound i w.sound child g) refl (reopened-left i w.sound child g) child (reopened-next i w.sound child g) (place_of i.plan.places child) (get_or i.plan.places child 0) offset refl)
-
-    pub straight-state : state_of (plan_of i.plan) i.plan.needs i.plan.order.items i.first.lists held' i.lent.items i.turns next.0 next.1 i.tag code.Open ≡ after_told child ((t ∷ []) ∷ []) (seen_in i)
-    straight-state =
-        outlet-state (handing i child taken) sound child refl t (targets_of lane.outlet) outlet held' d next n
-        ∙ handing-told i w.sound child (inl g) (place_of i.plan.places child) (get_or i.plan.places child 0) (get_or i.plan.places child 0) offset refl unmoved-all taken taken-is ((t ∷ []) ∷ [])
+      by : (o : Outlet) → FitsOutlet (get_or i.plan.rates.items child []) (get_or (rows_in i.tables.feeds.items) child []) o → IsOutletIn (length i.channels.lists) o
+      by Nothing f = tt
+      by (One c) f = fed c 1 f
+      by (Burst c rate) f = fed c rate f
+      by Several f = tt

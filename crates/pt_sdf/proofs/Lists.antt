@@ -1,7 +1,7 @@
 -- Lists of lists, by number.
-use Rattle.std.proofs.Common.{◌≡◌, ℕ, zero, suc, ◌+◌, ◌-◌, ◌<◌, ◌≤◌, max, ⊎_elim, List, [], ◌∷◌, ◌++◌, length, get_or, set, take, drop, Some, None, refl, ap, ap₂, sym, subst, ◌∙◌, arith, append_assoc, add-one, zero-add, suc-add}
+use Rattle.std.proofs.Common.{◌≡◌, ℕ, zero, suc, ◌+◌, ◌-◌, ◌<◌, ◌≤◌, max, ⊎_elim, List, [], ◌∷◌, ◌++◌, length, get_or, set, take, drop, Some, None, refl, ap, ap₂, sym, subst, ◌∙◌, arith, append_assoc, length-append, add-one, zero-add, suc-add}
 use Rattle.std.specs.List.{slice_get}
-use Rattle.std.proofs.lemmas.List.{get_or-set_same, get_or-set_other, set-set, set_past, get_or_past, drop-drop, get_or-drop}
+use Rattle.std.proofs.lemmas.List.{get_or-set_same, get_or-set_other, set-set, set_past, get_or_past, drop-drop, get_or-drop, drop-append-le}
 use Rattle.std.proofs.lemmas.Bool.{cases_eq, cases_lt}
 use Rattle.pt_meaning.specs.Streams.{Streams, at}
 use Rattle.pt_meaning.specs.Kahn.{firsts}
@@ -121,6 +121,28 @@ module _ {T : Type 0} where
   skip-long zero (n ∷ ns) (x ∷ X) = ap (λ k. suc k) (skip-long zero ns X)
   skip-long (suc o) ns [] = refl
   skip-long (suc o) ns (x ∷ X) = ap (λ k. suc k) (skip-long o ns X)
+
+  -- what is put behind a channel that has enough stays when the places take what they need
+  pub skip-put : (o : ℕ) (ns : List ℕ) (X : Streams T) (c : ℕ) (ys : List T) → ((k : ℕ) → k < length ns → get_or ns k 0 ≤ length (get_or X (o + k) [])) → skip_at o ns (set X c (get_or X c [] ++ ys)) ≡ set (skip_at o ns X) c (get_or (skip_at o ns X) c [] ++ ys)
+  skip-put zero ns X c ys h = first ns X c (λ k l. subst (λ j. get_or ns k 0 ≤ length (get_or X j [])) (zero-add k) (h k l))
+    where
+      first : (ns : List ℕ) (X : Streams T) (c : ℕ) → ((k : ℕ) → k < length ns → get_or ns k 0 ≤ length (get_or X k [])) → skip_at 0 ns (set X c (get_or X c [] ++ ys)) ≡ set (skip_at 0 ns X) c (get_or (skip_at 0 ns X) c [] ++ ys)
+      first [] X c h = refl
+      first (n ∷ ns) [] c h = refl
+      first (n ∷ ns) (x ∷ X) zero h = ap (λ v. v ∷ skip_at 0 ns X) (drop-append-le n x ys (h 0 (omega arith)))
+      first (n ∷ ns) (x ∷ X) (suc c) h = ap (λ v. drop n x ∷ v) (first ns X c (λ k l. h (suc k) (omega arith)))
+  skip-put (suc o) ns [] c ys h = refl
+  skip-put (suc o) ns (x ∷ X) zero ys h = refl
+  skip-put (suc o) ns (x ∷ X) (suc c) ys h =
+      ap (λ v. x ∷ v) (skip-put o ns X c ys (λ k l. subst (λ j. get_or ns k 0 ≤ length (get_or (x ∷ X) j [])) (suc-add o k) (h k l)))
+
+  -- no channel has less once something was put behind one
+  pub put-keeps : (X : Streams T) (c : ℕ) (ys : List T) (k : ℕ) → length (get_or X k []) ≤ length (get_or (set X c (get_or X c [] ++ ys)) k [])
+  put-keeps [] c ys k = omega arith
+  put-keeps (x ∷ X) zero ys zero = omega (arith, length-append x ys)
+  put-keeps (x ∷ X) zero ys (suc k) = omega arith
+  put-keeps (x ∷ X) (suc c) ys zero = omega arith
+  put-keeps (x ∷ X) (suc c) ys (suc k) = put-keeps X c ys k
 
   -- what has been taken from places one after another, as far as place k
   module _ (A X : Streams T) (o k : ℕ) (ns : List ℕ) (e : A ≡ skip_at o (take k ns) X) where

@@ -1,4 +1,4 @@
-use Rattle.std.proofs.Common.{◌≡◌, ℤ, pos, ◌+◌, ◌<◌, ◌++◌, ◌∷◌, [], length, get_or, refl, rules, ap, ◌∙◌, arith}
+use Rattle.std.proofs.Common.{◌≡◌, ℤ, pos, ◌<◌, ◌++◌, ◌∷◌, [], length, get_or, refl, rules, ap, ◌∙◌, arith}
 use Rattle.pt_firing.specs.IntInputs.{one_at_each}
 use Rattle.pt_sdf.proofs.IntLaws.{row-more}
 use Rattle.pt_sdf.proofs.numbers.first_numbers.Goals as goal

@@ -1,4 +1,4 @@
-use Rattle.std.proofs.Common.{[], ◌∷◌, List, ap, ◌∙◌, arith}
+use Rattle.std.proofs.Common.{[], ◌∷◌, List, ap, ◌∙◌}
 use Rattle.pt_meaning.specs.Streams.{Streams}
 use Rattle.pt_value.specs.declared.token.Token.{Token}
 use Rattle.pt_recv.specs.Lines.{list_at}

@@ -15,11 +15,11 @@ loop-k-init c = record {
   room = c.requires.room;
 }
 
-pub put_numbers-requires-clause-given : goal.put_numbers-requires-clause-given
-put_numbers-requires-clause-given c = omega (arith, c.requires.there.channels (c.loop-k.k - 1) (omega (arith, c.loop-k-test.true, c.loop-k.auto.k)), c.loop-k.invariant.counted)
+pub put_on_one-requires-clause-given : goal.put_on_one-requires-clause-given
+put_on_one-requires-clause-given c = omega (arith, c.requires.there.channels (c.loop-k.k - 1) (omega (arith, c.loop-k-test.true, c.loop-k.auto.k)), c.loop-k.invariant.counted)
 
-pub put_numbers-requires-clause-room : goal.put_numbers-requires-clause-room
-put_numbers-requires-clause-room c = c.loop-k.invariant.room (c.loop-k.k - 1) (omega (arith, c.loop-k-test.true))
+pub put_on_one-requires-clause-room : goal.put_on_one-requires-clause-room
+put_on_one-requires-clause-room c = c.loop-k.invariant.room (c.loop-k.k - 1) (omega (arith, c.loop-k-test.true))
 
 pub loop-k-preserved : goal.loop-k-preserved
 loop-k-preserved c =
@@ -30,9 +30,9 @@ loop-k-preserved c =
     let b : k ≤ length F = omega (arith, c.loop-k.auto.k) in
     let ts : List Token = map Int c.args.numbers.now in
     record {
-      lists = next-put F k a b (ts ∷ []) c.args.channels.now.lists c.loop-k.channels.lists c.put_numbers.new.self.lists f ts refl c.loop-k.invariant.lists (on-one-port ts f.port (c.requires.there.ports (k - 1) (omega (arith, a, b)))) c.put_numbers.ensures.lists;
-      counted = ap (λ v. length v) c.put_numbers.ensures.lists ∙ length-set c.loop-k.channels.lists f.channel (list_at c.loop-k.channels.lists f.channel ++ ts) ∙ c.loop-k.invariant.counted;
+      lists = next-put F k a b (ts ∷ []) c.args.channels.now.lists c.loop-k.channels.lists c.put_on_one.new.channels.lists f ts refl c.loop-k.invariant.lists (on-one-port ts f.port (c.requires.there.ports (k - 1) (omega (arith, a, b)))) c.put_on_one.ensures.lists;
+      counted = ap (λ v. length v) c.put_on_one.ensures.lists ∙ length-set c.loop-k.channels.lists f.channel (list_at c.loop-k.channels.lists f.channel ++ ts) ∙ c.loop-k.invariant.counted;
       room = λ j l.
-          subst (λ v. length c.args.numbers.now ≤ v) (sym (ap (λ v. spare_at v (get_or F j no_feed).channel) c.put_numbers.ensures.spares ∙ get_or-set_other c.loop-k.channels.spares f.channel (get_or F j no_feed).channel (spare_at c.loop-k.channels.spares f.channel - length c.args.numbers.now) 0 (λ z. c.requires.apart j (k - 1) l (omega (arith, a, b)) z)))
+          subst (λ v. length c.args.numbers.now ≤ v) (sym (ap (λ v. spare_at v (get_or F j no_feed).channel) c.put_on_one.ensures.spares ∙ get_or-set_other c.loop-k.channels.spares f.channel (get_or F j no_feed).channel (spare_at c.loop-k.channels.spares f.channel - length c.args.numbers.now) 0 (λ z. c.requires.apart j (k - 1) l (omega (arith, a, b)) z)))
           (c.loop-k.invariant.room j (omega (arith, l)));
     }

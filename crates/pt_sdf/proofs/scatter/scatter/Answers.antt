@@ -1,4 +1,4 @@
-use Rattle.std.proofs.Common.{◌≡◌, length, take, drop, ap, ◌∙◌, sym, subst}
+use Rattle.std.proofs.Common.{length, take, drop, ap, ◌∙◌, sym, subst}
 use Rattle.pt_sdf.specs.Feeds.{AreThere}
 use Rattle.pt_sdf.proofs.Lists.{skip-long}
 use Rattle.pt_sdf.proofs.scatter.scatter.Goals as goal

@@ -1,5 +1,4 @@
-use Rattle.std.proofs.Common.{◌≡◌, ℕ, ◌+◌, ◌<◌, ◌≤◌, [], length, get_or, set, take, drop, refl, ap, ◌∙◌, sym, subst, arith, length-drop, ⊎_elim, get_or-set_same, get_or-set_other}
-use Rattle.std.proofs.lemmas.Bool.{cases_eq}
+use Rattle.std.proofs.Common.{◌+◌, ◌≤◌, length, get_or, drop, ap, sym, subst, arith, length-drop}
 use Rattle.std.proofs.lemmas.List.{get_or-drop}
 use Rattle.pt_recv.specs.Lines.{spare_at}
 use Rattle.pt_sdf.proofs.Lists.{skip-zero, taken-long, next-list, next-left, spare-raised}

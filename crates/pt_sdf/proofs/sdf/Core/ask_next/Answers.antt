@@ -1,7 +1,6 @@
-use Rattle.std.proofs.Common.{ℕ, ◌<◌, length, get_or, ap, ◌∙◌, sym, subst, arith}
+use Rattle.std.proofs.Common.{ℕ, ◌<◌, length, ap, ◌∙◌, subst, arith}
 use Rattle.pt_sdf.specs.State.{Allows, IsEnough, in_stage, asked, Closed}
 use Rattle.pt_sdf.specs.Clauses.{State}
-use Rattle.pt_sdf.specs.Core.{state_in, IsSound}
 use Rattle.pt_sdf.specs.declared.sdf.Stage.TheVariants as code
 use Rattle.pt_sdf.proofs.CoreLaws.{is-open, seen-at, enough-fired, asked-there, asked-allowed, ask-alone}
 use Rattle.pt_sdf.proofs.sdf.Core.ask_next.Goals as goal

@@ -1,4 +1,4 @@
-use Rattle.std.proofs.Common.{◌≡◌, ℕ, ◌+◌, ◌<◌, ◌≤◌, [], ◌∷◌, length, get_or, take, drop, IfSome, inl, refl, ap, ap₂, ◌∙◌, sym, subst, arith}
+use Rattle.std.proofs.Common.{◌≡◌, ◌+◌, ◌<◌, ◌≤◌, length, get_or, take, drop, inl, refl, ap, ap₂, ◌∙◌, sym, subst, arith}
 use Rattle.pt_meaning.specs.Kahn.{firsts}
 use Rattle.pt_firing.specs.IntInputs.{one_at_each}
 use Rattle.pt_sdf.specs.ByNeed.{place_of}

@@ -1,4 +1,4 @@
-use Rattle.std.proofs.Common.{◌≡◌, ℕ, ◌+◌, ◌-◌, ◌<◌, length, get_or, take, drop, ap, ◌∙◌, sym, arith}
+use Rattle.std.proofs.Common.{◌≡◌, ℕ, ◌+◌, ◌-◌, length, get_or, take, drop, ap, ◌∙◌, sym, arith}
 use Rattle.pt_sdf.specs.State.{lent_in}
 use Rattle.pt_sdf.specs.Clauses.{State}
 use Rattle.pt_sdf.specs.declared.sdf.Stage.TheVariants as code

@@ -1,9 +1,5 @@
-use Rattle.std.proofs.Common.{◌≡◌, ℕ, ℤ, pos, w64, ◌+◌, ◌<◌, ◌≤◌, List, [], ◌∷◌, true, false, None, length, get_or, take, drop, map, nat_eq, refl, ap, ◌∙◌, sym, subst, arith}
-use Rattle.std.proofs.lemmas.List.{length-map}
-use Rattle.pt_meaning.specs.Streams.{Streams}
+use Rattle.std.proofs.Common.{◌≡◌, ◌+◌, ◌≤◌, [], true, false, None, length, get_or, take, drop, map, nat_eq, refl, ap, ◌∙◌, sym, subst, arith}
 use Rattle.pt_meaning.specs.Rounds.{has_rates}
-use Rattle.pt_value.specs.declared.token.Token.{Token}
-use Rattle.pt_value.specs.declared.token.Token.TheVariants.{Int}
 use Rattle.pt_sdf.specs.ByNeed.{skip_at}
 use Rattle.pt_sdf.specs.State.{after_told}
 use Rattle.pt_sdf.specs.Clauses.{State}

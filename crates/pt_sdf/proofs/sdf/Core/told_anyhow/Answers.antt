@@ -1,4 +1,4 @@
-use Rattle.std.proofs.Common.{◌≡◌, ℕ, ℤ, pos, w64, ◌+◌, ◌<◌, ◌≤◌, List, [], ◌∷◌, true, false, None, length, get_or, take, drop, map, nat_eq, refl, ap, ◌∙◌, sym, subst, arith}
+use Rattle.std.proofs.Common.{◌≡◌, ℤ, ◌+◌, ◌≤◌, List, [], ◌∷◌, true, false, None, length, get_or, take, drop, map, nat_eq, refl, ap, ◌∙◌, sym, subst, arith}
 use Rattle.std.proofs.lemmas.List.{length-map}
 use Rattle.pt_meaning.specs.Streams.{Streams}
 use Rattle.pt_meaning.specs.Rounds.{has_rates}
@@ -9,10 +9,10 @@ use Rattle.pt_sdf.specs.State.{after_told}
 use Rattle.pt_sdf.specs.Clauses.{State}
 use Rattle.pt_sdf.specs.Rooms.{HasRoom, HaveRooms}
 use Rattle.pt_sdf.specs.Core.{place_behind}
-use Rattle.pt_sdf.specs.Feeds.{target_of, put_back, AreThere, AreApart, MovesOnce}
+use Rattle.pt_sdf.specs.Feeds.{target_of, put_back, AreThere, AreApart}
 use Rattle.pt_sdf.proofs.Lists.{skip-long}
 use Rattle.pt_sdf.proofs.SoundLaws.{begins-long}
-use Rattle.pt_sdf.proofs.CoreLaws.{is-asked, told-wrong, wrongly-told, told-into, told-apart, told-moves, told-goes-on, told-is, rates-read}
+use Rattle.pt_sdf.proofs.CoreLaws.{is-asked, told-wrong, wrongly-told, told-into, told-apart, told-goes-on, told-is, rates-read}
 use Rattle.pt_sdf.proofs.HandLaws.{handing, busy-there, busy-fits, busy-rooms, unmoved-fits, unmoved-enough, handing-sound, handing-told}
 use Rattle.pt_sdf.proofs.sdf.Core.told_anyhow.Goals as goal
 
