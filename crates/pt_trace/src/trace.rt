@@ -1,6 +1,7 @@
 ghost use Rattle.std.specs.Prelude.{◌≡◌, ◌++◌, OnOk};
 ghost use Rattle.pt_trace.specs.TraceText.{trace_text, token_line, tag_text};
 
+use crate::integer_line::write_integer_line;
 use crate::writing::write_number;
 use pt_time::Tag;
 use pt_value::{Text, Token, print};
@@ -38,6 +39,15 @@ pub(crate) fn write_trace(trace: &Trace, out: &mut Vec<u8>) -> Result<(), AllocE
 }
 
 fn write_token(number: u64, tag: Tag, token: &Token, out: &mut Vec<u8>) -> Result<(), AllocError>
+    ensures { OnOk result (out.new.items ≡ out.old.items ++ token_line number tag token.now) }
+{
+    match token {
+        Token::Int(value) => write_integer_line(number, tag, *value, out),
+        _ => write_line(number, tag, token, out),
+    }
+}
+
+fn write_line(number: u64, tag: Tag, token: &Token, out: &mut Vec<u8>) -> Result<(), AllocError>
     ensures { OnOk result (out.new.items ≡ out.old.items ++ token_line number tag token.now) }
 {
     write_number(number, out)?;
