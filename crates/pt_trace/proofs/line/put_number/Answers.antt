@@ -1,6 +1,6 @@
 use Rattle.std.proofs.Common.{arith}
 use Rattle.std.proofs.lemmas.Fmt.{decimal_digit, length-decimal-le}
-use Rattle.pt_trace.proofs.integer_line.put_number.Goals as goal
+use Rattle.pt_trace.proofs.line.put_number.Goals as goal
 
 pub returns-then-n-lt10-clause-written : goal.returns-then-n-lt10-clause-written
 returns-then-n-lt10-clause-written c = rw (c.put_byte.ensures.written, decimal_digit c.args.n c.if-n-lt10.true)

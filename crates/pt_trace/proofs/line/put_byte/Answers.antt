@@ -1,6 +1,6 @@
 use Rattle.std.proofs.Common.{◌≡◌, ◌+◌, ◌-◌, arith}
 use Rattle.std.proofs.lemmas.List.{drop-set}
-use Rattle.pt_trace.proofs.integer_line.put_byte.Goals as goal
+use Rattle.pt_trace.proofs.line.put_byte.Goals as goal
 
 pub returns-clause-written : goal.returns-clause-written
 returns-clause-written c =

@@ -1,5 +1,5 @@
-//! The line of an integer, which is put into a buffer from its end, and then behind the text at once.
-ghost use Rattle.std.specs.Prelude.{◌≡◌, ◌+◌, ◌≤◌, ◌∷◌, ◌++◌, drop, decimal, OnOk};
+//! The numbers of a token's line, which are put into a buffer from its end, and then behind the text at once.
+ghost use Rattle.std.specs.Prelude.{◌≡◌, ◌+◌, ◌≤◌, ◌∷◌, ◌++◌, drop, codes, decimal, OnOk};
 ghost use Rattle.std.specs.Fmt.{signed_decimal};
 ghost use Rattle.pt_trace.specs.TraceText.{tag_text, token_line};
 ghost use Rattle.pt_value.specs.declared.token.Token.TheVariants.{Int};
@@ -24,6 +24,15 @@ pub(crate) fn write_integer_line(
     out.extend_from_slice(&line[start..])
 }
 
+/// What stands before a token's text: its number and its tag, with a blank behind each.
+pub(crate) fn write_head(number: u64, tag: Tag, out: &mut Vec<u8>) -> Result<(), AllocError>
+    ensures { OnOk result (out.new.items ≡ out.old.items ++ (decimal number ++ (codes " " ++ (tag_text tag ++ codes " ")))) }
+{
+    let mut line = [0; ROOM];
+    let start = put_head(number, tag, &mut line, ROOM);
+    out.extend_from_slice(&line[start..])
+}
+
 /// Puts the line at the end of the buffer, and gives the place where it starts.
 #[inline(always)]
 fn put_line(number: u64, tag: Tag, value: i64, line: &mut [u8; ROOM]) -> usize
@@ -32,7 +41,16 @@ fn put_line(number: u64, tag: Tag, value: i64, line: &mut [u8; ROOM]) -> usize
 {
     let end = put_byte(b'\n', line, ROOM);
     let value = put_integer(value, line, end);
-    let blank = put_byte(b' ', line, value);
+    put_head(number, tag, line, value)
+}
+
+#[inline(always)]
+fn put_head(number: u64, tag: Tag, line: &mut [u8; ROOM], end: usize) -> usize
+    requires { (63 ≤ end) × (end ≤ 96) }
+    ensures within { result ≤ 96 }
+    ensures written { drop result line.new ≡ (decimal number ++ (codes " " ++ (tag_text tag ++ codes " "))) ++ drop end line.old }
+{
+    let blank = put_byte(b' ', line, end);
     let tag = put_tag(tag, line, blank);
     let blank = put_byte(b' ', line, tag);
     put_number(number, line, blank)
