@@ -8,7 +8,7 @@ use itoa::write_digits;
 use pt_time::Tag;
 use std::alloc::AllocError;
 
-/// More than the longest line takes: three numbers of 20 digits, one of 10, a sign and five bytes between and behind them.
+/// More than the longest line takes: three numbers of 20 digits, one of 10, a sign, and four bytes between and behind them.
 const ROOM: usize = 96;
 
 pub(crate) fn write_integer_line(
