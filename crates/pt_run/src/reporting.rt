@@ -81,7 +81,10 @@ fn copies(alloc: Global, trace: &[(Tag, Token)]) -> Result<Vec<(Tag, Token)>, Al
 {
     let mut copies = Vec::with_capacity(alloc, trace.len())?;
     for (tag, token) in trace {
-        copies.push((*tag, token.copy(alloc)?))?;
+        match token {
+            Token::Int(n) => copies.push_reserved((*tag, Token::Int(*n))),
+            _ => copies.push_reserved((*tag, token.copy(alloc)?)),
+        }
     }
     Ok(copies)
 }

@@ -1,6 +1,7 @@
 //! What a run reports, and the text of it.
 #![tactic(auto)]
 
+mod line;
 mod meetings;
 mod report;
 mod run_end;

@@ -1,7 +1,7 @@
 ghost use Rattle.std.specs.Prelude.{◌≡◌, ◌++◌, OnOk};
-ghost use Rattle.pt_trace.specs.TraceText.{trace_text, token_line, tag_text};
+ghost use Rattle.pt_trace.specs.TraceText.{trace_text, token_line};
 
-use crate::writing::write_number;
+use crate::line::{write_head, write_integer_line};
 use pt_time::Tag;
 use pt_value::{Text, Token, print};
 use std::alloc::AllocError;
@@ -40,19 +40,17 @@ pub(crate) fn write_trace(trace: &Trace, out: &mut Vec<u8>) -> Result<(), AllocE
 fn write_token(number: u64, tag: Tag, token: &Token, out: &mut Vec<u8>) -> Result<(), AllocError>
     ensures { OnOk result (out.new.items ≡ out.old.items ++ token_line number tag token.now) }
 {
-    write_number(number, out)?;
-    out.push(b' ')?;
-    write_tag(tag, out)?;
-    out.push(b' ')?;
+    match token {
+        Token::Int(value) => write_integer_line(number, tag, *value, out),
+        _ => write_line(number, tag, token, out),
+    }
+}
+
+fn write_line(number: u64, tag: Tag, token: &Token, out: &mut Vec<u8>) -> Result<(), AllocError>
+    ensures { OnOk result (out.new.items ≡ out.old.items ++ token_line number tag token.now) }
+{
+    write_head(number, tag, out)?;
     print(token, out)?;
     out.push(b'\n')?;
     Ok(())
-}
-
-fn write_tag(tag: Tag, out: &mut Vec<u8>) -> Result<(), AllocError>
-    ensures { OnOk result (out.new.items ≡ out.old.items ++ tag_text tag) }
-{
-    write_number(tag.time, out)?;
-    out.push(b'.')?;
-    write_number(u64::from(tag.step), out)
 }
