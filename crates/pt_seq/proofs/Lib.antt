@@ -5,3 +5,4 @@ pub mod Handing
 pub mod Loop
 pub mod Entering
 pub mod Answering
+pub mod Quickly

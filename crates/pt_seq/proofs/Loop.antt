@@ -12,8 +12,8 @@ use Rattle.pt_firing.specs.declared.ask.Ask.{Ask}
 use Rattle.pt_firing.specs.declared.ask.Ask.TheVariants as ask
 use Rattle.pt_firing.specs.declared.answer.Place.{Place}
 use Rattle.pt_records.specs.Kept.{Entry, kept_by}
-use Rattle.pt_sdf.specs.State.{asked_child, lent_in}
-use Rattle.pt_sdf.specs.Clauses.{State, IsAsked}
+use Rattle.pt_sdf.specs.State.{Stage, Open, Wrong, asked_child, lent_in}
+use Rattle.pt_sdf.specs.Clauses.{State, IsAsked, MayAsk}
 use Rattle.pt_node.specs.declared.node.Node.{Node}
 use Rattle.pt_node.specs.Shown.{Shown, shown, shown_node, all_of}
 use Rattle.pt_node.specs.View.{node_of, kept_of, kepts_of, outline_of, outlines_of, depth, depths, count_of, counts_of}
@@ -32,9 +32,30 @@ pub on-ok : {A E : Type 0} (r : Result A E) (P : Type 0) → is_err r ≡ false 
 on-ok (Ok a) P e h = h
 on-ok (Err x) P e h = absurd (cc)
 
--- the core is asked for the next child
-pub once-asked : (before : State) (olds : List Shown) (tag : Tag) (X : Streams Token) (allowance : ℕ) (s : State) (now : List Shown) (left : ℕ) (next : Ask) (core : State) → At before olds tag X allowance s now left → IsAsked s next core → Between before olds tag X allowance next core now left
-once-asked before olds tag X allowance s now left next core a q = record { state = s; at = a; asked = q }
+-- the core may be asked for the next child, and answers
+pub may-ask : (stage : Stage Token) → stage ≡ Open → MayAsk stage
+may-ask stage e = subst (λ v. MayAsk v) (sym e) tt
+
+pub once-asked : (before : State) (olds : List Shown) (tag : Tag) (X : Streams Token) (allowance : ℕ) (s : State) (now : List Shown) (left : ℕ) (next answer : Ask) (core : State) → At before olds tag X allowance s now left → IsAsked s next core → next ≡ answer → Between before olds tag X allowance answer core now left
+once-asked before olds tag X allowance s now left next answer core a q e = record { state = s; at = a; asked = subst (λ n. IsAsked s n core) e q }
+
+open-not-wrong : (stage : Stage Token) (child : ℕ) → stage ≡ Open → stage ≡ Wrong child → ⊥
+open-not-wrong stage child o w = absurd (cc)
+
+-- with a child's turn or the end
+pub no-other : (s : State) (next : Ask) (core : State) → s.stage ≡ Open → IsAsked s next core → ((i : ℕ) (when : Tag) → next ≡ ask.Fire i when → ⊥) → (next ≡ ask.Finished → ⊥) → ⊥
+no-other s (ask.Fire i when) core o q f g = f i when refl
+no-other s ask.Finished core o q f g = g refl
+no-other s (ask.Faulted kind (Some child)) core o q f g = open-not-wrong s.stage child o q.1
+no-other s (ask.Faulted kind None) core o q f g = q
+no-other s (ask.Early child tag) core o q f g = q
+no-other s (ask.Reset child) core o q f g = q
+no-other s (ask.Get child) core o q f g = q
+no-other s (ask.Put child) core o q f g = q
+no-other s ask.Grow core o q f g = q
+no-other s ask.Meet core o q f g = q
+no-other s ask.Await core o q f g = q
+no-other s ask.Full core o q f g = q
 
 module _ (before : State) (olds : List Shown) (kids : List Node) (tag when : Tag) (X : Streams Token) (allowance left i : ℕ) (core : State) (b : Between before olds tag X allowance (ask.Fire i when) core (map shown kids) left) where
   pub index-in : i < length kids
@@ -91,6 +112,11 @@ may-fire-as None tag child X mid g f t = (subst (λ v. IsFit v) (sym g) f, subst
 turn-from : (given : Option ℤ) (s : State) (child mid : Shown) (i : ℕ) (tag : Tag) (t : Turn) (s' : State) (after : Shown) → Given given child (lent_in s.stage) mid → TurnFrom given s mid i tag t s' after → TurnTo s child i tag t s' after
 turn-from (Some n) s child mid i tag t s' after g f = turn-told s child mid i tag ((Int n ∷ []) ∷ []) t s' after (g.0.goes tag) g.0.fit g.0.outline g.1 f
 turn-from None s child mid i tag t s' after g f = subst (λ v. TurnTo s v i tag t s' after) g f
+
+-- one that gave none before
+pub none-given : (given : Option ℤ) (s : State) (child : Shown) (i : ℕ) (tag : Tag) (t : Turn) (s' : State) (after : Shown) → ((n : ℤ) → given ≡ Some n → ⊥) → TurnTo s child i tag t s' after → TurnFrom given s child i tag t s' after
+none-given (Some n) s child i tag t s' after f to = absurd (f n refl)
+none-given None s child i tag t s' after f to = to
 
 set-again : {A : Type 0} (xs : List A) (i : ℕ) (x y : A) → set (set xs i x) i y ≡ set xs i y
 set-again [] i x y = refl

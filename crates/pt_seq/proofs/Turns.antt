@@ -1,7 +1,7 @@
 -- A turn of a child, and what a firing comes to once it is recorded.
 use Rattle.std.proofs.Common.{◌≡◌, ℕ, zero, suc, ◌+◌, ◌<◌, ◌≤◌, List, [], ◌∷◌, ◌++◌, Bool, true, false, length, map, set, take, drop, Option, Some, refl, sym, ap, subst, ◌∙◌, arith, inl, inr, length-append}
 use Rattle.std.proofs.lemmas.List.{length-take-le}
-use Rattle.pt_meaning.specs.Basics.{Tag, Streams, Log, LogBelow, Firing, silent, log_then, own, at}
+use Rattle.pt_meaning.specs.Basics.{Tag, Streams, Log, LogBelow, Firing, silent, log_then, own}
 use Rattle.pt_meaning.specs.Streams.{get}
 use Rattle.pt_meaning.specs.Machine as machine
 use Rattle.pt_meaning.specs.Machine.{Outcome, Need, Counts, Facts, Front, Takes, Lacks, Ends, counted, if_long, front, recorded}

@@ -63,8 +63,9 @@ pub(crate) fn fire_numbers(
     left: &mut u64,
     row: &mut Vec<i64>,
 ) -> Pause
-    requires under { IsUnderWay tag core.old (map shown children.old.items) left.old }
-    ensures { (before : State) (olds : List Shown) (X : Streams Token) (allowance : ℕ) → At before olds tag X allowance core.old (map shown children.old.items) left.old → Paused before olds tag X allowance result core.new (map shown children.new.items) left.new }
+    requires { IsUnderWay tag core.old (map shown children.old.items) left.old }
+    ensures lowered { left.new ≤ left.old }
+    ensures goes { (before : State) (olds : List Shown) (X : Streams Token) (allowance : ℕ) → At before olds tag X allowance core.old (map shown children.old.items) left.old → Paused before olds tag X allowance result core.new (map shown children.new.items) left.new }
 {
     loop {
         let number = match core.ask() {
@@ -106,7 +107,7 @@ fn turn_of_number(
     let Some(given) = fire_number(core, child, row) else {
         return Quick::Open(None);
     };
-    if child.past.made == u64::MAX || !child.records.as_slice().is_empty() {
+    if !child.records.as_slice().is_empty() || child.past.made == u64::MAX {
         return Quick::Open(Some(given));
     }
     if !core.told_number(number, given) {

@@ -1,7 +1,7 @@
 use Rattle.std.proofs.Common.{◌+◌, ◌*◌, map}
 use Rattle.pt_node.specs.Shown.{shown, shown_node, all_of}
 use Rattle.pt_node.specs.View.{outline_of, outlines_of, depth, depths}
-use Rattle.pt_seq.specs.Between.{Between}
+use Rattle.pt_seq.specs.Between.{At}
 use Rattle.pt_seq.proofs.fire.+fire.Given as goal
 
 abbrev pub decreases-fire : goal.decreases-fire
@@ -16,14 +16,11 @@ decreases-fire_sdf l = 6 * depths (outlines_of (all_of (map shown l.children.now
 abbrev pub decreases-fire_child : goal.decreases-fire_child
 decreases-fire_child l = 6 * depth (outline_of (shown_node l.child.now)) + 3
 
-abbrev pub decreases-fire_several : goal.decreases-fire_several
-decreases-fire_several l = 6 * depth (outline_of (shown_node l.child.now)) + 2
-
 abbrev pub decreases-fire_any : goal.decreases-fire_any
 decreases-fire_any l = 6 * depth (outline_of (shown_node l.child.now)) + 1
 
-abbrev pub invariant-fire_sdf-loop-next : goal.invariant-fire_sdf-loop-next
-invariant-fire_sdf-loop-next l = Between l.fn.core (map shown l.fn.children.items) l.fn.tag l.inputs l.fn.left l.next l.core (map shown l.children.items) l.left
+abbrev pub invariant-fire_sdf-loop-number : goal.invariant-fire_sdf-loop-number
+invariant-fire_sdf-loop-number l = At l.fn.core (map shown l.fn.children.items) l.fn.tag l.inputs l.fn.left l.core (map shown l.children.items) l.left
 
-abbrev pub decreases-fire_sdf-loop-next : goal.decreases-fire_sdf-loop-next
-decreases-fire_sdf-loop-next l = l.left
+abbrev pub decreases-fire_sdf-loop-number : goal.decreases-fire_sdf-loop-number
+decreases-fire_sdf-loop-number l = l.left
