@@ -76,4 +76,15 @@ impl Node {
         self.records.record();
         self.live = true;
     }
+
+    /// The same of a node without recorded outputs.
+    #[inline(always)]
+    pub fn record_alone(&mut self, tag: Tag)
+        requires made { (out-Node self.old).past.made + 1 < 2 ^ 64 }
+        requires alone { (out-Node self.old).records ≡ [] }
+        ensures { shown_node self.new ≡ recorded tag (shown_node self.old) }
+    {
+        self.past = self.past.fired_at(tag);
+        self.live = true;
+    }
 }

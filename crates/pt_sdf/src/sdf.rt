@@ -10,7 +10,7 @@ use crate::rooms::{fill_rooms, rooms_for};
 use crate::scatter::{copies_of, scatter};
 use crate::skip::skip_places;
 use crate::tables::{
-    Tables, copies_of_lists, empty_lists, fits_rates, make_ready, place_after, turns_of,
+    Tables, advance, copies_of_lists, empty_lists, fits_rates, make_ready, turns_of,
 };
 use crate::turns::iterations;
 use pt_firing::{Ask, Counts, Inputs, IntInputs, Outputs, RunFault, Tokens};
@@ -295,7 +295,7 @@ impl Core {
             from,
             unmoved,
         )?;
-        (self.left, self.at) = place_after(self.plan.order.len(), self.left, self.at);
+        advance(self.plan.order.len(), &mut self.left, &mut self.at);
         self.stage = Stage::Open;
         Ok(())
     }
@@ -324,7 +324,7 @@ impl Core {
             from,
             n,
         );
-        (self.left, self.at) = place_after(self.plan.order.len(), self.left, self.at);
+        advance(self.plan.order.len(), &mut self.left, &mut self.at);
         self.stage = Stage::Open;
         true
     }
@@ -352,7 +352,7 @@ impl Core {
             from,
             n,
         );
-        (self.left, self.at) = place_after(self.plan.order.len(), self.left, self.at);
+        advance(self.plan.order.len(), &mut self.left, &mut self.at);
         self.stage = Stage::Open;
         true
     }
@@ -396,7 +396,7 @@ impl Core {
         make_room(&mut self.channels, &self.tables.feeds[i], numbers.len())?;
         skip_places(&mut self.channels, needs, from, unmoved);
         put_on_each(&mut self.channels, &self.tables.feeds[i], numbers);
-        (self.left, self.at) = place_after(self.plan.order.len(), self.left, self.at);
+        advance(self.plan.order.len(), &mut self.left, &mut self.at);
         self.stage = Stage::Open;
         Ok(())
     }

@@ -116,16 +116,17 @@ pub(crate) fn fits_rates(rates: &[usize], outputs: &Outputs) -> bool
     true
 }
 
-/// The place in an order of so many firings, with the number of turns that are left, after one firing more.
-pub(crate) fn place_after(order: usize, left: usize, at: usize) -> (usize, usize)
-    requires within { at < order }
-    requires some { 0 < left }
-    ensures { result ≡ place_behind (nat_eq (at + 1) order) left at }
+/// Goes on to the next place in an order of so many firings, or to the next turn.
+#[inline(always)]
+pub(crate) fn advance(order: usize, left: &mut usize, at: &mut usize)
+    requires within { at.old < order }
+    requires some { 0 < left.old }
+    ensures { (left.new, at.new) ≡ place_behind (nat_eq (at.old + 1) order) left.old at.old }
 {
-    if at + 1 == order {
-        (left - 1, 0)
-    } else {
-        (left, at + 1)
+    *at += 1;
+    if *at == order {
+        *left -= 1;
+        *at = 0;
     }
 }
 

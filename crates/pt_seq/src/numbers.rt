@@ -113,7 +113,7 @@ fn turn_of_number(
     if !core.told_number(number, given) {
         return Quick::Open(Some(given));
     }
-    child.record(tag);
+    child.record_alone(tag);
     *left -= 1;
     Quick::Done
 }

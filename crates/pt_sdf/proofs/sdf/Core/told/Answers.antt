@@ -79,8 +79,8 @@ invariant_of-self-2 c =
     record {
       sound =
           told-goes-on (handing c.self.inside c.args.child (skip_at c.index-from.result.now (take c.unmoved-unmoved.result (drop c.index-from.result.now c.self.inside.plan.needs)) c.self.inside.channels.lists)) (handing-sound c.self.inside c.self.invariant.sound c.args.child (is-asked c.self.inside c.args.self.now c.args.child c.self.view_is c.requires.asked) c.index-from.result.now (get_or c.as_slice.result.now c.args.child 0) c.unmoved-unmoved.result c.index-from.ensures (ap (λ v. get_or v c.args.child 0) c.as_slice.ensures) c.unmoved-unmoved.ensures (skip_at c.index-from.result.now (take c.unmoved-unmoved.result (drop c.index-from.result.now c.self.inside.plan.needs)) c.self.inside.channels.lists) refl) c.args.child refl c.args.outputs r c.index-2.result.now c.index-2.ensures c.scatter.new.channels.lists
-          (c.in_ok-scatter.ensures.lists ∙ ap (λ v. put_back (map target_of v) c.args.outputs (skip_at c.index-from.result.now (take c.unmoved-unmoved.result (drop c.index-from.result.now c.as_slice-needs.result.now)) c.self.inside.channels.lists)) c.deref.ensures.value ∙ ap (λ v. put_back (map target_of c.index-2.result.now.items) c.args.outputs (skip_at c.index-from.result.now (take c.unmoved-unmoved.result (drop c.index-from.result.now v)) c.self.inside.channels.lists)) c.as_slice-needs.ensures) c.place_after.result
-          (c.place_after.ensures ∙ ap (λ v. place_behind (nat_eq (c.self.inside.at + 1) v) c.self.inside.left c.self.inside.at) n) c.fill_rooms.new.rooms.items c.scatter.new.staged.list c.in_ok-scatter.ensures.empty c.in_ok-fill_rooms.ensures.counted
+          (c.in_ok-scatter.ensures.lists ∙ ap (λ v. put_back (map target_of v) c.args.outputs (skip_at c.index-from.result.now (take c.unmoved-unmoved.result (drop c.index-from.result.now c.as_slice-needs.result.now)) c.self.inside.channels.lists)) c.deref.ensures.value ∙ ap (λ v. put_back (map target_of c.index-2.result.now.items) c.args.outputs (skip_at c.index-from.result.now (take c.unmoved-unmoved.result (drop c.index-from.result.now v)) c.self.inside.channels.lists)) c.as_slice-needs.ensures) (c.advance.new.left, c.advance.new.at)
+          (c.advance.ensures ∙ ap (λ v. place_behind (nat_eq (c.self.inside.at + 1) v) c.self.inside.left c.self.inside.at) n) c.fill_rooms.new.rooms.items c.scatter.new.staged.list c.in_ok-scatter.ensures.empty c.in_ok-fill_rooms.ensures.counted
           (λ k. subst (λ v. HasRoom (get_or v k 0) (get_or c.self.inside.rooms.items k None) → HasRoom (get_or v k 0) (get_or c.fill_rooms.new.rooms.items k None)) c.as_slice-needs.ensures (c.in_ok-fill_rooms.ensures.kept k))
           (busy-rooms c.self.inside c.self.invariant.sound c.args.child (is-asked c.self.inside c.args.self.now c.args.child c.self.view_is c.requires.asked) c.index-from.result.now (get_or c.as_slice.result.now c.args.child 0) c.unmoved-unmoved.result c.index-from.ensures (ap (λ v. get_or v c.args.child 0) c.as_slice.ensures) c.unmoved-unmoved.ensures c.fill_rooms.new.rooms.items (subst (λ v. HaveRooms v c.fill_rooms.new.rooms.items c.index-from.result.now (get_or c.as_slice.result.now c.args.child 0)) c.as_slice-needs.ensures c.in_ok-fill_rooms.ensures.made));
       lanes = c.self.invariant.lanes;
@@ -91,7 +91,7 @@ returns-clause-told c =
     let r : has_rates (get_or c.self.inside.plan.rates.items c.args.child []) c.args.outputs ≡ true = ap (λ v. has_rates v c.args.outputs) (sym (c.as_slice-2.ensures ∙ rates-read c.self.inside c.self.invariant.sound c.args.child c.index.result.now (busy-there c.self.inside c.self.invariant.sound c.args.child (is-asked c.self.inside c.args.self.now c.args.child c.self.view_is c.requires.asked)) c.index.ensures)) ∙ sym c.fits_rates.ensures ∙ c.if-not-fits_rates.false in
     let n : c.len.result ≡ length c.self.inside.plan.order.items = omega (arith, c.len.ensures, c.self.inside.plan.order.ok.0) in
     told-is (handing c.self.inside c.args.child (skip_at c.index-from.result.now (take c.unmoved-unmoved.result (drop c.index-from.result.now c.self.inside.plan.needs)) c.self.inside.channels.lists)) (handing-sound c.self.inside c.self.invariant.sound c.args.child (is-asked c.self.inside c.args.self.now c.args.child c.self.view_is c.requires.asked) c.index-from.result.now (get_or c.as_slice.result.now c.args.child 0) c.unmoved-unmoved.result c.index-from.ensures (ap (λ v. get_or v c.args.child 0) c.as_slice.ensures) c.unmoved-unmoved.ensures (skip_at c.index-from.result.now (take c.unmoved-unmoved.result (drop c.index-from.result.now c.self.inside.plan.needs)) c.self.inside.channels.lists) refl) c.args.child refl c.args.outputs r c.index-2.result.now c.index-2.ensures c.scatter.new.channels.lists
-    (c.in_ok-scatter.ensures.lists ∙ ap (λ v. put_back (map target_of v) c.args.outputs (skip_at c.index-from.result.now (take c.unmoved-unmoved.result (drop c.index-from.result.now c.as_slice-needs.result.now)) c.self.inside.channels.lists)) c.deref.ensures.value ∙ ap (λ v. put_back (map target_of c.index-2.result.now.items) c.args.outputs (skip_at c.index-from.result.now (take c.unmoved-unmoved.result (drop c.index-from.result.now v)) c.self.inside.channels.lists)) c.as_slice-needs.ensures) c.place_after.result
-    (c.place_after.ensures ∙ ap (λ v. place_behind (nat_eq (c.self.inside.at + 1) v) c.self.inside.left c.self.inside.at) n)
+    (c.in_ok-scatter.ensures.lists ∙ ap (λ v. put_back (map target_of v) c.args.outputs (skip_at c.index-from.result.now (take c.unmoved-unmoved.result (drop c.index-from.result.now c.as_slice-needs.result.now)) c.self.inside.channels.lists)) c.deref.ensures.value ∙ ap (λ v. put_back (map target_of c.index-2.result.now.items) c.args.outputs (skip_at c.index-from.result.now (take c.unmoved-unmoved.result (drop c.index-from.result.now v)) c.self.inside.channels.lists)) c.as_slice-needs.ensures) (c.advance.new.left, c.advance.new.at)
+    (c.advance.ensures ∙ ap (λ v. place_behind (nat_eq (c.self.inside.at + 1) v) c.self.inside.left c.self.inside.at) n)
     ∙ handing-told c.self.inside c.self.invariant.sound c.args.child (is-asked c.self.inside c.args.self.now c.args.child c.self.view_is c.requires.asked) c.index-from.result.now (get_or c.as_slice.result.now c.args.child 0) c.unmoved-unmoved.result c.index-from.ensures (ap (λ v. get_or v c.args.child 0) c.as_slice.ensures) c.unmoved-unmoved.ensures (skip_at c.index-from.result.now (take c.unmoved-unmoved.result (drop c.index-from.result.now c.self.inside.plan.needs)) c.self.inside.channels.lists) refl c.args.outputs
     ∙ ap (λ (s : State). after_told c.args.child c.args.outputs s) c.self.view_is

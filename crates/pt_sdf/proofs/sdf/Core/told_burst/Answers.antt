@@ -39,12 +39,12 @@ pub invariant_of-self-2 : goal.invariant_of-self-2
 invariant_of-self-2 c =
     let n : c.len.result ≡ length c.self.inside.plan.order.items = omega (arith, c.len.ensures, c.self.inside.plan.order.ok.0) in
     record {
-      sound = lane-sound c.self.inside c.self.invariant c.args.child (asked-now c.self.inside c.args.self.now c.args.child c.self.view_is c.requires.asked c.in-Asked.field-0 c.in-Asked.is) c.index-lane.result.now c.index-lane.ensures c.index-from.result.now (get_or c.as_slice.result.now c.args.child 0) c.index-from.ensures (ap (λ v. get_or v c.args.child 0) c.as_slice.ensures) (map Int c.args.numbers.now) (c.give_numbers.ensures.all c.if-not-give_numbers.false ∙ ap Some (sym (length-map c.args.numbers.now Int))) c.give_numbers.new.channels.lists (if-so _ _ c.if-not-give_numbers.false c.give_numbers.ensures.lists) c.skip_inlet.new.channels.lists (c.skip_inlet.ensures.lists ∙ ap (λ v. skip_at c.index-from.result.now (take (get_or c.as_slice.result.now c.args.child 0) (drop c.index-from.result.now v)) c.give_numbers.new.channels.lists) c.as_slice-2.ensures) c.place_after.result (c.place_after.ensures ∙ ap (λ v. place_behind (nat_eq (c.self.inside.at + 1) v) c.self.inside.left c.self.inside.at) n);
+      sound = lane-sound c.self.inside c.self.invariant c.args.child (asked-now c.self.inside c.args.self.now c.args.child c.self.view_is c.requires.asked c.in-Asked.field-0 c.in-Asked.is) c.index-lane.result.now c.index-lane.ensures c.index-from.result.now (get_or c.as_slice.result.now c.args.child 0) c.index-from.ensures (ap (λ v. get_or v c.args.child 0) c.as_slice.ensures) (map Int c.args.numbers.now) (c.give_numbers.ensures.all c.if-not-give_numbers.false ∙ ap Some (sym (length-map c.args.numbers.now Int))) c.give_numbers.new.channels.lists (if-so _ _ c.if-not-give_numbers.false c.give_numbers.ensures.lists) c.skip_inlet.new.channels.lists (c.skip_inlet.ensures.lists ∙ ap (λ v. skip_at c.index-from.result.now (take (get_or c.as_slice.result.now c.args.child 0) (drop c.index-from.result.now v)) c.give_numbers.new.channels.lists) c.as_slice-2.ensures) (c.advance.new.left, c.advance.new.at) (c.advance.ensures ∙ ap (λ v. place_behind (nat_eq (c.self.inside.at + 1) v) c.self.inside.left c.self.inside.at) n);
       lanes = c.self.invariant.lanes;
     }
 
 pub returns : goal.returns
 returns c =
     let n : c.len.result ≡ length c.self.inside.plan.order.items = omega (arith, c.len.ensures, c.self.inside.plan.order.ok.0) in
-    lane-state c.self.inside c.self.invariant c.args.child (asked-now c.self.inside c.args.self.now c.args.child c.self.view_is c.requires.asked c.in-Asked.field-0 c.in-Asked.is) c.index-lane.result.now c.index-lane.ensures c.index-from.result.now (get_or c.as_slice.result.now c.args.child 0) c.index-from.ensures (ap (λ v. get_or v c.args.child 0) c.as_slice.ensures) (map Int c.args.numbers.now) (c.give_numbers.ensures.all c.if-not-give_numbers.false ∙ ap Some (sym (length-map c.args.numbers.now Int))) c.give_numbers.new.channels.lists (if-so _ _ c.if-not-give_numbers.false c.give_numbers.ensures.lists) c.skip_inlet.new.channels.lists (c.skip_inlet.ensures.lists ∙ ap (λ v. skip_at c.index-from.result.now (take (get_or c.as_slice.result.now c.args.child 0) (drop c.index-from.result.now v)) c.give_numbers.new.channels.lists) c.as_slice-2.ensures) c.place_after.result (c.place_after.ensures ∙ ap (λ v. place_behind (nat_eq (c.self.inside.at + 1) v) c.self.inside.left c.self.inside.at) n)
+    lane-state c.self.inside c.self.invariant c.args.child (asked-now c.self.inside c.args.self.now c.args.child c.self.view_is c.requires.asked c.in-Asked.field-0 c.in-Asked.is) c.index-lane.result.now c.index-lane.ensures c.index-from.result.now (get_or c.as_slice.result.now c.args.child 0) c.index-from.ensures (ap (λ v. get_or v c.args.child 0) c.as_slice.ensures) (map Int c.args.numbers.now) (c.give_numbers.ensures.all c.if-not-give_numbers.false ∙ ap Some (sym (length-map c.args.numbers.now Int))) c.give_numbers.new.channels.lists (if-so _ _ c.if-not-give_numbers.false c.give_numbers.ensures.lists) c.skip_inlet.new.channels.lists (c.skip_inlet.ensures.lists ∙ ap (λ v. skip_at c.index-from.result.now (take (get_or c.as_slice.result.now c.args.child 0) (drop c.index-from.result.now v)) c.give_numbers.new.channels.lists) c.as_slice-2.ensures) (c.advance.new.left, c.advance.new.at) (c.advance.ensures ∙ ap (λ v. place_behind (nat_eq (c.self.inside.at + 1) v) c.self.inside.left c.self.inside.at) n)
     ∙ ap (λ (s : State). after_told c.args.child ((map Int c.args.numbers.now) ∷ []) s) c.self.view_is
