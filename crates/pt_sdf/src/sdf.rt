@@ -2,16 +2,12 @@ ghost use Rattle.std.specs.Prelude.{◌≡◌, ◌↔◌, ◌<◌, length, IfOk,
 
 use crate::gather::{Span, gather, lighten};
 use crate::lanes::{Inlet, Outlet};
-use crate::number::{give_number, give_numbers, skip_inlet};
-use crate::numbers::{are_all_of_one, first_numbers, make_room, numbers_in_front, put_on_each};
+use crate::numbers::{first_numbers, numbers_in_front};
 use crate::outlets::hand_out;
 use crate::plan::CorePlan;
-use crate::rooms::{fill_rooms, rooms_for};
+use crate::rooms::rooms_for;
 use crate::scatter::{copies_of, scatter};
-use crate::skip::skip_places;
-use crate::tables::{
-    Tables, advance, copies_of_lists, empty_lists, fits_rates, make_ready, turns_of,
-};
+use crate::tables::{Tables, copies_of_lists, empty_lists, make_ready, turns_of};
 use crate::turns::iterations;
 use pt_firing::{Ask, Counts, Inputs, IntInputs, Outputs, RunFault, Tokens};
 use pt_recv::{Channels, Queue};
@@ -19,6 +15,8 @@ use pt_time::Tag;
 use pt_value::Token;
 use std::alloc::{AllocError, Global};
 use std::marker::Model;
+
+mod telling;
 
 /// The tag of a core that hasn't begun.
 const ORIGIN: Tag = Tag { time: 0, step: 0 };
@@ -93,7 +91,7 @@ impl Model for Core {
 }
 
 impl Core {
-    ghost use Rattle.std.specs.Prelude.{◌≡◌, ◌↔◌, ◌<◌, [], ◌∷◌, length, map, List, IfOk, IfSome, IsSome, IsTrue, OnOk, OnErr, Option, Some, None, if◌then◌else◌};
+    ghost use Rattle.std.specs.Prelude.{◌≡◌, ◌↔◌, ◌<◌, [], ◌∷◌, length, map, List, IfOk, IfSome, IsSome, IsTrue, OnOk, OnErr, Option, Some, None};
     ghost use Rattle.pt_value.specs.declared.token.Token.TheVariants.{Int};
     ghost use Rattle.pt_meaning.specs.Basics as basics;
     ghost use Rattle.pt_meaning.specs.Kahn.{firsts};
@@ -165,18 +163,6 @@ impl Core {
             Stage::Wrong(child) => Ask::Faulted(RunFault::Rate, Some(child)),
             Stage::Open => self.ask_next(),
             Stage::Idle | Stage::Asked(_) | Stage::Handed(_) | Stage::Closed => unreachable!(),
-        }
-    }
-
-    /// Whether the child that was told last gave another number of tokens than its rates say.
-    #[inline(always)]
-    pub fn is_wrong(&self) -> bool
-        requires { MayAsk self.now.stage }
-        ensures { result ≡ is_wrong self.now.stage }
-    {
-        match self.stage {
-            Stage::Wrong(_) => true,
-            Stage::Idle | Stage::Open | Stage::Asked(_) | Stage::Handed(_) | Stage::Closed => false,
         }
     }
 
@@ -266,139 +252,6 @@ impl Core {
                 unreachable!()
             }
         }
-    }
-
-    /// Takes what the firing of the child gave: a list for each of its ports. After an `Err` the core is as before.
-    pub fn told(&mut self, alloc: Global, child: u32, outputs: Outputs) -> Result<(), AllocError>
-        requires asked { asked_child self.old.stage ≡ Some child }
-        ensures told { OnOk result (self.new ≡ after_told child outputs self.old) }
-        ensures kept { OnErr result (self.new ≡ self.old) }
-    {
-        let i = child as usize;
-        let from = self.tables.offsets[i];
-        let n = self.plan.places.as_slice()[i];
-        let unmoved = self.stage.unmoved(n);
-        let needs = self.plan.needs.as_slice();
-        if !fits_rates(self.plan.rates[i].as_slice(), &outputs) {
-            skip_places(&mut self.channels, needs, from, unmoved);
-            self.stage = Stage::Wrong(child);
-            return Ok(());
-        }
-        fill_rooms(alloc, &mut self.rooms, needs, from, n)?;
-        scatter(
-            alloc,
-            &mut self.channels,
-            &mut self.staged,
-            &self.tables.feeds[i],
-            outputs,
-            needs,
-            from,
-            unmoved,
-        )?;
-        advance(self.plan.order.len(), &mut self.left, &mut self.at);
-        self.stage = Stage::Open;
-        Ok(())
-    }
-
-    /// Takes the number that the firing of the child gave as the one token on its one port, where it feeds at most one channel and no memory is wanted. `false` says that nothing was done.
-    #[inline(always)]
-    pub fn told_number(&mut self, child: u32, number: i64) -> bool
-        requires asked { asked_child self.old.stage ≡ Some child }
-        ensures told { self.new ≡ (if result then after_told child ((Int number ∷ []) ∷ []) self.old else self.old) }
-        ensures right { IsTrue result → self.new.stage ≡ Open }
-    {
-        let Stage::Asked(_) = self.stage else {
-            return false;
-        };
-        let i = child as usize;
-        let lane = self.tables.lanes[i];
-        if !give_number(&mut self.channels, lane.outlet, number) {
-            return false;
-        }
-        let from = self.tables.offsets[i];
-        let n = self.plan.places.as_slice()[i];
-        skip_inlet(
-            &mut self.channels,
-            lane.inlet,
-            self.plan.needs.as_slice(),
-            from,
-            n,
-        );
-        advance(self.plan.order.len(), &mut self.left, &mut self.at);
-        self.stage = Stage::Open;
-        true
-    }
-
-    /// The same of several numbers for one channel.
-    #[inline(always)]
-    fn told_burst(&mut self, child: u32, numbers: &[i64]) -> bool
-        requires asked { asked_child self.old.stage ≡ Some child }
-        ensures { self.new ≡ (if result then after_told child (map Int numbers.now ∷ []) self.old else self.old) }
-    {
-        let Stage::Asked(_) = self.stage else {
-            return false;
-        };
-        let i = child as usize;
-        let lane = self.tables.lanes[i];
-        if !give_numbers(&mut self.channels, lane.outlet, numbers) {
-            return false;
-        }
-        let from = self.tables.offsets[i];
-        let n = self.plan.places.as_slice()[i];
-        skip_inlet(
-            &mut self.channels,
-            lane.inlet,
-            self.plan.needs.as_slice(),
-            from,
-            n,
-        );
-        advance(self.plan.order.len(), &mut self.left, &mut self.at);
-        self.stage = Stage::Open;
-        true
-    }
-
-    /// Takes the numbers that the firing of the child gave as the tokens on its one port. After an `Err` the core is as before.
-    #[inline(always)]
-    pub fn told_numbers(
-        &mut self,
-        alloc: Global,
-        child: u32,
-        numbers: &[i64],
-    ) -> Result<(), AllocError>
-        requires asked { asked_child self.old.stage ≡ Some child }
-        ensures told { OnOk result (self.new ≡ after_told child (map Int numbers.now ∷ []) self.old) }
-        ensures kept { OnErr result (self.new ≡ self.old) }
-    {
-        if self.told_burst(child, numbers) {
-            return Ok(());
-        }
-        self.told_anyhow(alloc, child, numbers)
-    }
-
-    /// The same, where room may have to be made on any number of channels.
-    #[inline(never)]
-    fn told_anyhow(&mut self, alloc: Global, child: u32, numbers: &[i64]) -> Result<(), AllocError>
-        requires asked { asked_child self.old.stage ≡ Some child }
-        ensures told { OnOk result (self.new ≡ after_told child (map Int numbers.now ∷ []) self.old) }
-        ensures kept { OnErr result (self.new ≡ self.old) }
-    {
-        let i = child as usize;
-        let from = self.tables.offsets[i];
-        let n = self.plan.places.as_slice()[i];
-        let unmoved = self.stage.unmoved(n);
-        let needs = self.plan.needs.as_slice();
-        if !are_all_of_one(self.plan.rates[i].as_slice(), numbers.len()) {
-            skip_places(&mut self.channels, needs, from, unmoved);
-            self.stage = Stage::Wrong(child);
-            return Ok(());
-        }
-        fill_rooms(alloc, &mut self.rooms, needs, from, n)?;
-        make_room(&mut self.channels, &self.tables.feeds[i], numbers.len())?;
-        skip_places(&mut self.channels, needs, from, unmoved);
-        put_on_each(&mut self.channels, &self.tables.feeds[i], numbers);
-        advance(self.plan.order.len(), &mut self.left, &mut self.at);
-        self.stage = Stage::Open;
-        Ok(())
     }
 
     /// Hands out the own outputs. After an `Err` the core is as before.
