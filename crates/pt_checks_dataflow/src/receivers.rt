@@ -91,6 +91,25 @@ fn integers_on_both_sides_of_a_bool_are_put_and_skipped(rt: HostRuntime) -> Resu
 }
 
 #[test]
+fn numbers_are_put_at_once_or_not_at_all(rt: HostRuntime) -> Result<(), Fail> {
+    let mut channels = Channels::new(rt.alloc(), 1)?;
+    assert!(rt; !channels.push_number(0, 4));
+    channels.ready(0, 3)?;
+    assert!(rt; channels.push_number(0, 4));
+    assert!(rt; !channels.push_numbers(0, [7, 9, 2].as_slice()));
+    assert!(rt; channels.push_numbers(0, [7, 9].as_slice()));
+    assert!(rt; !channels.push_number(0, 1));
+    assert_eq!(rt; channels.numbers(0), [4, 7, 9].as_slice());
+    assert_eq!(rt; channels.take_number(0), Some(4));
+    channels.put(0, Token::Bool(true));
+    assert_eq!(rt; channels.take_number(0), Some(7));
+    assert_eq!(rt; channels.spare(0), 1);
+    // The region has a token of the channel.
+    assert!(rt; !channels.push_number(0, 1));
+    Ok(())
+}
+
+#[test]
 fn a_front_moves_behind_the_other_tokens(rt: HostRuntime) -> Result<(), Fail> {
     let mut channels = Channels::new(rt.alloc(), 2)?;
     channels.ready(0, 3)?;
