@@ -54,7 +54,7 @@ enum Quick {
 }
 
 /// Makes one firing of a child after another, in the order of the core, as long as each takes integers and gives one, of which nothing is recorded and no memory is wanted.
-/// This is the inner loop of a run. It calls nothing but what is inlined, so that it stays in registers.
+/// This is the inner loop of a run. On its common path it calls nothing, so that it stays in registers.
 #[inline(never)]
 pub(crate) fn fire_numbers(
     core: &mut pt_sdf::Core,
