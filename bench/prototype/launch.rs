@@ -1,0 +1,6 @@
+extern "C" {
+    fn proto_main();
+}
+fn main() {
+    unsafe { proto_main() }
+}

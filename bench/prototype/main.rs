@@ -1,0 +1,440 @@
+//! KIND SIZE ITERATIONS [WORD]: a model of bench/generate is built and fired, and a checksum of its trace is printed.
+//! WORD: `bursts` is the interpreter's order of firings, `turns` one firing after another; else it is pt_sched's. `sizes` prints sizes.
+use crate::pt_firing::{Actor, Answer, Counts, Inputs, Need, Ports, Tokens, Values};
+use crate::pt_lib_flow::Params;
+use crate::pt_library::LibraryActor;
+use crate::pt_node::{Body, Director, Held, Node, Past, Recorded, Records};
+use crate::pt_recv::Channels;
+use crate::pt_sdf::{Core, CorePlan, Source};
+use crate::pt_seq::fire_within;
+use crate::pt_time::Tag;
+use crate::pt_value::{Text, Token};
+use crate::pt_firing::Fires;
+use crate::rstd::alloc::GLOBAL;
+use crate::rstd::vec::Vec as Row;
+use std::collections::VecDeque;
+use std::vec::Vec;
+use std::vec;
+
+#[derive(Clone)]
+struct Entity {
+    name: String,
+    class: &'static str,
+    values: Vec<(&'static str, i64)>,
+    plus: Vec<usize>,
+    minus: Vec<usize>,
+    outputs: Vec<usize>,
+    /// The channel numbers of the core, of its places in order.
+    takes: usize,
+    gives: usize,
+}
+
+fn entity(name: String, class: &'static str, values: &[(&'static str, i64)]) -> Entity {
+    let value = |key: &str, default: i64| values.iter().find(|v| v.0 == key).map_or(default, |v| v.1) as usize;
+    Entity {
+        takes: if class == "DownSample" { value("factor", 2) } else { 1 },
+        gives: if class == "UpSample" { value("factor", 2) } else { 1 },
+        name,
+        class,
+        values: values.to_vec(),
+        plus: vec![],
+        minus: vec![],
+        outputs: vec![],
+    }
+}
+
+/// The entities, the relations (a source, and the ends), and the number of the recorded entity.
+fn document(kind: &str, size: usize) -> (Vec<Entity>, Vec<(usize, Vec<(usize, &'static str)>)>, usize) {
+    let mut e = vec![];
+    let mut groups = vec![];
+    let row = |e: Vec<Entity>| {
+        let groups = (1..e.len()).map(|k| (k - 1, vec![(k, "input")])).collect::<Vec<_>>();
+        let last = e.len() - 1;
+        (e, groups, last)
+    };
+    match kind {
+        "pairs" => {
+            for n in 0..size {
+                e.push(entity(format!("a{n}"), "Ramp", &[("init", n as i64)]));
+                e.push(entity(format!("b{n}"), "Scale", &[("factor", n as i64 + 1)]));
+                groups.push((2 * n, vec![(2 * n + 1, "input")]));
+            }
+        }
+        "fan" => {
+            e.push(entity("ramp".into(), "Ramp", &[]));
+            for n in 0..size {
+                e.push(entity(format!("b{n}"), "Scale", &[("factor", n as i64 + 1)]));
+            }
+            groups.push((0, (1..=size).map(|k| (k, "input")).collect()));
+        }
+        "chain" => {
+            e.push(entity("ramp".into(), "Ramp", &[]));
+            for n in 0..size {
+                e.push(entity(format!("b{n}"), "Scale", &[("factor", -1)]));
+            }
+            return row(e);
+        }
+        "sum" => {
+            e.push(entity("ramp".into(), "Ramp", &[]));
+            e.push(entity("sum".into(), "AddSubtract", &[]));
+            groups.push((0, vec![(1, "plus"); size]));
+        }
+        "stages" => {
+            e.push(entity("ramp".into(), "Ramp", &[]));
+            for n in 0..size {
+                let factor = 2 + n as i64 % 4;
+                e.push(entity(format!("u{n}"), "UpSample", &[("factor", factor)]));
+                e.push(entity(format!("s{n}"), "Scale", &[("factor", -1)]));
+                e.push(entity(format!("d{n}"), "DownSample", &[("factor", factor)]));
+            }
+            return row(e);
+        }
+        "discs" => {
+            e.push(entity("ramp".into(), "Ramp", &[]));
+            for n in 0..size {
+                for (stage, (up, down)) in [(2, 3), (2, 7), (8, 7), (5, 1)].into_iter().enumerate() {
+                    e.push(entity(format!("u{n}x{stage}"), "UpSample", &[("factor", up)]));
+                    e.push(entity(format!("d{n}x{stage}"), "DownSample", &[("factor", down)]));
+                }
+            }
+            return row(e);
+        }
+        // Not of bench/generate: every actor's numbers come to the recorded one. `verify` has its document.
+        "mixed" => {
+            e.push(entity("ramp".into(), "Ramp", &[("init", 3), ("step", 2)]));
+            for n in 0..size {
+                let k = n as i64;
+                e.push(entity(format!("a{n}"), "Scale", &[("factor", k + 2)]));
+                e.push(entity(format!("u{n}"), "UpSample", &[("factor", 3), ("phase", k % 3)]));
+                e.push(entity(format!("s{n}"), "Scale", &[("factor", -1 - k)]));
+                e.push(entity(format!("d{n}"), "DownSample", &[("factor", 3), ("phase", 2 - k % 3)]));
+            }
+            e.push(entity("sum".into(), "AddSubtract", &[]));
+            e.push(entity("out".into(), "Scale", &[("factor", 7)]));
+            let sum = 4 * size + 1;
+            groups.push((0, (0..size).map(|n| (4 * n + 1, "input")).collect()));
+            for n in 0..size {
+                for step in 1..4 {
+                    groups.push((4 * n + step, vec![(4 * n + step + 1, "input")]));
+                }
+                groups.push((4 * n + 4, vec![(sum, if n % 2 == 0 { "plus" } else { "minus" })]));
+            }
+            groups.push((sum, vec![(sum + 1, "input")]));
+        }
+        _ => panic!("kind"),
+    }
+    let last = e.len() - 1;
+    (e, groups, last)
+}
+
+/// Channels by the places where they end, in the order of the children: the ends of each.
+fn join(e: &mut [Entity], groups: &[(usize, Vec<(usize, &'static str)>)]) -> Vec<(usize, usize)> {
+    let mut of: Vec<(Vec<usize>, Vec<usize>)> = vec![(vec![], vec![]); e.len()];
+    for (source, ends) in groups {
+        for (node, port) in ends {
+            if *port == "minus" { of[*node].1.push(*source) } else { of[*node].0.push(*source) }
+        }
+    }
+    let mut channels = vec![];
+    for (node, (plus, minus)) in of.into_iter().enumerate() {
+        for source in plus {
+            e[node].plus.push(channels.len());
+            e[source].outputs.push(channels.len());
+            channels.push((source, node));
+        }
+        for source in minus {
+            e[node].minus.push(channels.len());
+            e[source].outputs.push(channels.len());
+            channels.push((source, node));
+        }
+    }
+    channels
+}
+
+fn divisor(mut a: u64, mut b: u64) -> u64 {
+    while b != 0 {
+        (a, b) = (b, a % b);
+    }
+    a
+}
+
+fn repetitions(nodes: &[Entity], channels: &[(usize, usize)]) -> Vec<usize> {
+    let mut ends: Vec<Vec<(usize, u64, u64)>> = vec![Vec::new(); nodes.len()];
+    for &(from, to) in channels {
+        let (gives, takes) = (nodes[from].gives as u64, nodes[to].takes as u64);
+        ends[from].push((to, gives, takes));
+        ends[to].push((from, takes, gives));
+    }
+    let mut ratios: Vec<Option<(u64, u64)>> = vec![None; nodes.len()];
+    let mut counts = vec![0; nodes.len()];
+    for root in 0..nodes.len() {
+        if ratios[root].is_some() {
+            continue;
+        }
+        ratios[root] = Some((1, 1));
+        let mut part = vec![root];
+        let mut next = 0;
+        while next < part.len() {
+            let (above, below) = ratios[part[next]].unwrap();
+            for &(other, gives, takes) in &ends[part[next]] {
+                if ratios[other].is_none() {
+                    let common = divisor(above * gives, below * takes);
+                    ratios[other] = Some((above * gives / common, below * takes / common));
+                    part.push(other);
+                }
+            }
+            next += 1;
+        }
+        let multiple = part.iter().fold(1, |so_far, &node| {
+            let below = ratios[node].unwrap().1;
+            so_far / divisor(so_far, below) * below
+        });
+        for node in part {
+            let (above, below) = ratios[node].unwrap();
+            counts[node] = (multiple / below * above) as usize;
+        }
+    }
+    counts
+}
+
+/// The order of the firings, and the most tokens that each channel holds then.
+fn ordered(nodes: &[Entity], channels: &[(usize, usize)], by_turns: bool) -> (Vec<u32>, Vec<usize>) {
+    let mut left = repetitions(nodes, channels);
+    let mut held = vec![0; channels.len()];
+    let mut room = vec![0; channels.len()];
+    let mut waiting: VecDeque<usize> = (0..nodes.len()).collect();
+    let mut order = Vec::new();
+    while let Some(number) = waiting.pop_front() {
+        let node = &nodes[number];
+        let places = || node.plus.iter().chain(&node.minus);
+        let mut fired = false;
+        while left[number] > 0 && places().all(|&place| held[place] >= node.takes) {
+            places().for_each(|&place| held[place] -= node.takes);
+            node.outputs.iter().for_each(|&channel| {
+                held[channel] += node.gives;
+                room[channel] = room[channel].max(held[channel]);
+            });
+            left[number] -= 1;
+            order.push(number as u32);
+            fired = true;
+            if by_turns {
+                break;
+            }
+        }
+        if by_turns {
+            if left.iter().any(|&count| count > 0) {
+                waiting.push_back(number);
+            }
+            let _ = fired;
+            continue;
+        }
+        waiting.extend(node.outputs.iter().map(|&channel| channels[channel].1).filter(|&place| left[place] > 0));
+    }
+    assert!(left.iter().all(|&count| count == 0), "no loop");
+    (order, room)
+}
+
+/// The order of pt_sched: of the children that can fire, whoever was given its last token goes first.
+fn scheduled(nodes: &[Entity], channels: &[(usize, usize)]) -> (Vec<u32>, Vec<usize>) {
+    let q = repetitions(nodes, channels);
+    let n = nodes.len();
+    let (mut held, mut room) = (vec![0usize; channels.len()], vec![0usize; channels.len()]);
+    let mut ins = vec![vec![]; n];
+    let mut outs = vec![vec![]; n];
+    for (c, (from, to)) in channels.iter().enumerate() {
+        outs[*from].push(c);
+        ins[*to].push(c);
+    }
+    let (mut short, mut lacking) = (vec![false; channels.len()], vec![0usize; n]);
+    let mut ready: Vec<usize> = vec![];
+    let mut fired = vec![0; n];
+    let mut order = vec![];
+    fn look(nodes: &[Entity], channels: &[(usize, usize)], held: &[usize], short: &mut [bool], lacking: &mut [usize], c: usize) -> bool {
+        let to = channels[c].1;
+        let now = held[c] < nodes[to].takes;
+        if short[c] == now {
+            return false;
+        }
+        short[c] = now;
+        if now { lacking[to] += 1 } else { lacking[to] -= 1 }
+        !now
+    }
+    for c in 0..channels.len() {
+        look(nodes, channels, &held, &mut short, &mut lacking, c);
+    }
+    for child in (0..n).rev() {
+        if lacking[child] == 0 {
+            ready.push(child);
+        }
+    }
+    loop {
+        let can = |child: usize, held: &[usize], fired: &[usize]| fired[child] < q[child] && ins[child].iter().all(|&c| held[c] >= nodes[child].takes);
+        let mut next = None;
+        while let Some(child) = ready.pop() {
+            if can(child, &held, &fired) {
+                next = Some(child);
+                break;
+            }
+        }
+        let Some(child) = next.or_else(|| (0..n).find(|&child| can(child, &held, &fired))) else { break };
+        order.push(child as u32);
+        fired[child] += 1;
+        for &c in &ins[child] {
+            held[c] -= nodes[child].takes;
+        }
+        for &c in &outs[child] {
+            held[c] += nodes[child].gives;
+            room[c] = room[c].max(held[c]);
+        }
+        for &c in &ins[child] {
+            look(nodes, channels, &held, &mut short, &mut lacking, c);
+        }
+        if lacking[child] == 0 {
+            ready.push(child);
+        }
+        for &c in &outs[child] {
+            if look(nodes, channels, &held, &mut short, &mut lacking, c) && lacking[channels[c].1] == 0 {
+                ready.push(channels[c].1);
+            }
+        }
+    }
+    assert!(fired == q, "no loop");
+    (order, room)
+}
+
+fn text(words: &str) -> Text {
+    Text::of(GLOBAL, words).ok().unwrap()
+}
+
+fn row<T>(items: impl IntoIterator<Item = T>) -> Row<T> {
+    let mut made = Row::new(GLOBAL);
+    for item in items {
+        made.push(item).ok().unwrap();
+    }
+    made
+}
+
+fn counts(items: impl IntoIterator<Item = usize>) -> Counts {
+    Counts::of(row(items))
+}
+
+fn actor_of(e: &Entity) -> LibraryActor {
+    let params = Params {
+        class: text(e.class),
+        values: Values::of(row(e.values.iter().map(|(name, value)| (text(name), Token::Int(*value))))),
+        ports: Ports::of(row([
+            (text("plus"), e.plus.len() as u32),
+            (text("minus"), e.minus.len() as u32),
+            (text("input"), e.plus.len() as u32),
+        ])),
+    };
+    LibraryActor::started(GLOBAL, &params).ok().unwrap().unwrap()
+}
+
+fn node_of(e: &Entity, recorded: bool) -> Node {
+    let start = actor_of(e);
+    let actor = start.copy(GLOBAL).ok().unwrap();
+    Node {
+        past: Past { made: 0, last: None },
+        body: Body::Actor(Held { start, actor }),
+        children: Row::new(GLOBAL),
+        records: Records::of(row(recorded.then(|| Recorded::new(GLOBAL, 0, 0, text("output"))))),
+        path: text(&e.name),
+        live: true,
+    }
+}
+
+pub fn sizes() {
+    use crate::pt_lib_flow::FlowActor;
+    println!(
+        "sizes: Node {} Core {} LibraryActor {} FlowActor {} Held {} Body {} Token {} Tokens {} Option<Token> {} Channels {}",
+        size_of::<Node>(), size_of::<Core>(), size_of::<LibraryActor>(), size_of::<FlowActor>(), size_of::<Held>(),
+        size_of::<Body>(), size_of::<Token>(), size_of::<Tokens>(), size_of::<Option<Token>>(), size_of::<Channels>()
+    );
+}
+
+pub fn build(kind: &str, size: usize, by: &str) -> (Node, usize, usize) {
+    let (mut entities, groups, last) = document(kind, size);
+    let channels = join(&mut entities, &groups);
+    let (order, room) = match by {
+        "bursts" => ordered(&entities, &channels, false),
+        "turns" => ordered(&entities, &channels, true),
+        _ => scheduled(&entities, &channels),
+    };
+    let firings = order.len();
+    let children = row(entities.iter().enumerate().map(|(k, e)| node_of(e, k == last)));
+    let mut needs = vec![];
+    for child in children.as_slice() {
+        let Body::Actor(held) = &child.body else { panic!() };
+        let Need::All(need) = held.actor.need() else { panic!() };
+        needs.extend(need.as_slice().iter().copied());
+    }
+    assert!(needs.len() == channels.len());
+    let rates = row(children.as_slice().iter().map(|child| {
+        let Body::Actor(held) = &child.body else { panic!() };
+        held.actor.rates(GLOBAL).ok().unwrap().unwrap()
+    }));
+    let plan = CorePlan {
+        sources: row(channels.iter().map(|(from, _)| Source::Output(*from as u32, 0))),
+        places: counts(entities.iter().map(|e| e.plus.len() + e.minus.len())),
+        needs: counts(needs),
+        rates,
+        repetitions: counts(repetitions(&entities, &channels)),
+        takes: counts([]),
+        gives: counts([]),
+        order: row(order),
+        room: counts(room),
+    };
+    let first = Channels::new(GLOBAL, channels.len() as u32).ok().unwrap();
+    let core = Core::new(GLOBAL, plan, first).ok().unwrap();
+    let top = Node {
+        past: Past { made: 0, last: None },
+        body: Body::Composite(Director::Sdf(core)),
+        children,
+        records: Records::of(Row::new(GLOBAL)),
+        path: text("top"),
+        live: true,
+    };
+    (top, firings, last)
+}
+
+#[inline(never)]
+pub fn run(top: &mut Node, iterations: u64) {
+    let mut left = u64::MAX;
+    for _ in 0..iterations {
+        let inputs: Row<Tokens> = Row::new(GLOBAL);
+        match fire_within(GLOBAL, top, Tag { time: 0, step: 0 }, &Inputs::of(&inputs), &mut left) {
+            Answer::Done(_) => {}
+            _ => panic!("not done"),
+        }
+    }
+}
+
+fn checksum(numbers: impl Iterator<Item = i64>) -> (u64, u64) {
+    let (mut sum, mut count) = (0u64, 0u64);
+    for n in numbers {
+        sum = sum.wrapping_mul(1_000_003).wrapping_add(n as u64);
+        count += 1;
+    }
+    (sum, count)
+}
+
+#[no_mangle]
+pub extern "C" fn proto_main() {
+    let words: Vec<String> = std::env::args().skip(1).collect();
+    let (kind, size, iterations) = (&words[0], words[1].parse().unwrap(), words[2].parse().unwrap());
+    let by = words.get(3).map_or("", |word| word);
+    let (mut top, firings, last) = build(kind, size, by);
+    run(&mut top, iterations);
+    let child = &top.children[last];
+    let trace = child.records.as_slice()[0].trace();
+    let (sum, count) = checksum(trace.iter().map(|(_, token)| match token {
+        Token::Int(n) => *n,
+        _ => panic!(),
+    }));
+    println!("checksum {sum:016x} tokens {count} firings {} an iteration {}", (firings as u64 + 1) * iterations, firings + 1);
+    if words.get(3).is_some_and(|word| word == "sizes") {
+        sizes();
+    }
+    std::process::exit(0);
+}
