@@ -5,6 +5,9 @@
 //! needs and no more: an iteration is an order of firings that is found once. It refuses nothing by name; a document
 //! that it doesn't know ends it with a panic. Plain Rust over std alone: `rustc --edition 2021 -O interpreter.rs`.
 
+mod balance;
+
+use balance::repetitions;
 use std::collections::{HashMap, VecDeque};
 use std::io::{Read, Write};
 
@@ -238,57 +241,12 @@ fn join(top: &Json, nodes: &mut [Node]) -> Vec<(usize, usize)> {
     channels
 }
 
-fn divisor(mut a: u64, mut b: u64) -> u64 {
-    while b != 0 {
-        (a, b) = (b, a % b);
-    }
-    a
-}
-
-/// How often each actor fires in an iteration: the least whole numbers with which each channel gets as many tokens as
-/// are taken from it.
-fn repetitions(nodes: &[Node], channels: &[(usize, usize)]) -> Vec<usize> {
-    let mut ends: Vec<Vec<(usize, u64, u64)>> = vec![Vec::new(); nodes.len()];
-    for &(from, to) in channels {
-        let (gives, takes) = (nodes[from].actor.gives() as u64, nodes[to].actor.takes() as u64);
-        ends[from].push((to, gives, takes));
-        ends[to].push((from, takes, gives));
-    }
-    let mut ratios: Vec<Option<(u64, u64)>> = vec![None; nodes.len()];
-    let mut counts = vec![0; nodes.len()];
-    for root in 0..nodes.len() {
-        if ratios[root].is_some() {
-            continue;
-        }
-        ratios[root] = Some((1, 1));
-        let mut part = vec![root];
-        let mut next = 0;
-        while next < part.len() {
-            let (above, below) = ratios[part[next]].expect("a ratio");
-            for &(other, gives, takes) in &ends[part[next]] {
-                if ratios[other].is_none() {
-                    let common = divisor(above * gives, below * takes);
-                    ratios[other] = Some((above * gives / common, below * takes / common));
-                    part.push(other);
-                }
-            }
-            next += 1;
-        }
-        let multiple = part.iter().fold(1, |so_far, &node| {
-            let below = ratios[node].expect("a ratio").1;
-            so_far / divisor(so_far, below) * below
-        });
-        for node in part {
-            let (above, below) = ratios[node].expect("a ratio");
-            counts[node] = (multiple / below * above) as usize;
-        }
-    }
-    counts
-}
-
 /// An order of firings in which no token lacks: whoever can fire does so as often as it can.
 fn ordered(nodes: &[Node], channels: &[(usize, usize)]) -> Vec<usize> {
-    let mut left = repetitions(nodes, channels);
+    let flows = channels
+        .iter()
+        .map(|&(from, to)| (from, to, nodes[from].actor.gives(), nodes[to].actor.takes()));
+    let mut left = repetitions(nodes.len(), flows);
     let mut held = vec![0; channels.len()];
     let mut waiting: VecDeque<usize> = (0..nodes.len()).collect();
     let mut order = Vec::new();

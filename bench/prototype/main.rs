@@ -1,5 +1,6 @@
 //! KIND SIZE ITERATIONS [WORD]: a model of bench/generate is built and fired, and a checksum of its trace is printed.
 //! WORD: `bursts` is the interpreter's order of firings, `turns` one firing after another; else it is pt_sched's. `sizes` prints sizes.
+use crate::balance::repetitions;
 use crate::pt_firing::{Actor, Answer, Counts, Inputs, Need, Ports, Tokens, Values};
 use crate::pt_lib_flow::Params;
 use crate::pt_library::LibraryActor;
@@ -151,55 +152,13 @@ fn join(e: &mut [Entity], groups: &[(usize, Vec<(usize, &'static str)>)]) -> Vec
     channels
 }
 
-fn divisor(mut a: u64, mut b: u64) -> u64 {
-    while b != 0 {
-        (a, b) = (b, a % b);
-    }
-    a
-}
-
-fn repetitions(nodes: &[Entity], channels: &[(usize, usize)]) -> Vec<usize> {
-    let mut ends: Vec<Vec<(usize, u64, u64)>> = vec![Vec::new(); nodes.len()];
-    for &(from, to) in channels {
-        let (gives, takes) = (nodes[from].gives as u64, nodes[to].takes as u64);
-        ends[from].push((to, gives, takes));
-        ends[to].push((from, takes, gives));
-    }
-    let mut ratios: Vec<Option<(u64, u64)>> = vec![None; nodes.len()];
-    let mut counts = vec![0; nodes.len()];
-    for root in 0..nodes.len() {
-        if ratios[root].is_some() {
-            continue;
-        }
-        ratios[root] = Some((1, 1));
-        let mut part = vec![root];
-        let mut next = 0;
-        while next < part.len() {
-            let (above, below) = ratios[part[next]].unwrap();
-            for &(other, gives, takes) in &ends[part[next]] {
-                if ratios[other].is_none() {
-                    let common = divisor(above * gives, below * takes);
-                    ratios[other] = Some((above * gives / common, below * takes / common));
-                    part.push(other);
-                }
-            }
-            next += 1;
-        }
-        let multiple = part.iter().fold(1, |so_far, &node| {
-            let below = ratios[node].unwrap().1;
-            so_far / divisor(so_far, below) * below
-        });
-        for node in part {
-            let (above, below) = ratios[node].unwrap();
-            counts[node] = (multiple / below * above) as usize;
-        }
-    }
-    counts
+fn repetitions_of(nodes: &[Entity], channels: &[(usize, usize)]) -> Vec<usize> {
+    repetitions(nodes.len(), channels.iter().map(|&(from, to)| (from, to, nodes[from].gives, nodes[to].takes)))
 }
 
 /// The order of the firings, and the most tokens that each channel holds then.
 fn ordered(nodes: &[Entity], channels: &[(usize, usize)], by_turns: bool) -> (Vec<u32>, Vec<usize>) {
-    let mut left = repetitions(nodes, channels);
+    let mut left = repetitions_of(nodes, channels);
     let mut held = vec![0; channels.len()];
     let mut room = vec![0; channels.len()];
     let mut waiting: VecDeque<usize> = (0..nodes.len()).collect();
@@ -207,7 +166,6 @@ fn ordered(nodes: &[Entity], channels: &[(usize, usize)], by_turns: bool) -> (Ve
     while let Some(number) = waiting.pop_front() {
         let node = &nodes[number];
         let places = || node.plus.iter().chain(&node.minus);
-        let mut fired = false;
         while left[number] > 0 && places().all(|&place| held[place] >= node.takes) {
             places().for_each(|&place| held[place] -= node.takes);
             node.outputs.iter().for_each(|&channel| {
@@ -216,7 +174,6 @@ fn ordered(nodes: &[Entity], channels: &[(usize, usize)], by_turns: bool) -> (Ve
             });
             left[number] -= 1;
             order.push(number as u32);
-            fired = true;
             if by_turns {
                 break;
             }
@@ -225,7 +182,6 @@ fn ordered(nodes: &[Entity], channels: &[(usize, usize)], by_turns: bool) -> (Ve
             if left.iter().any(|&count| count > 0) {
                 waiting.push_back(number);
             }
-            let _ = fired;
             continue;
         }
         waiting.extend(node.outputs.iter().map(|&channel| channels[channel].1).filter(|&place| left[place] > 0));
@@ -236,7 +192,7 @@ fn ordered(nodes: &[Entity], channels: &[(usize, usize)], by_turns: bool) -> (Ve
 
 /// The order of pt_sched: of the children that can fire, whoever was given its last token goes first.
 fn scheduled(nodes: &[Entity], channels: &[(usize, usize)]) -> (Vec<u32>, Vec<usize>) {
-    let q = repetitions(nodes, channels);
+    let q = repetitions_of(nodes, channels);
     let n = nodes.len();
     let (mut held, mut room) = (vec![0usize; channels.len()], vec![0usize; channels.len()]);
     let mut ins = vec![vec![]; n];
@@ -379,7 +335,7 @@ pub fn build(kind: &str, size: usize, by: &str) -> (Node, usize, usize) {
         places: counts(entities.iter().map(|e| e.plus.len() + e.minus.len())),
         needs: counts(needs),
         rates,
-        repetitions: counts(repetitions(&entities, &channels)),
+        repetitions: counts(repetitions_of(&entities, &channels)),
         takes: counts([]),
         gives: counts([]),
         order: row(order),
