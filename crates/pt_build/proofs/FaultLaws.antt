@@ -1,20 +1,20 @@
 -- The answer for a composite that isn't built stands.
 use Rattle.std.proofs.Common.{◌≡◌, ℕ, List, [], ◌∷◌, ◌++◌, ◌+◌, ◌<◌, length, take, map, get_or, sym, ap, subst, ◌∙◌}
 use Rattle.std.proofs.lemmas.List.{take_more}
-use Rattle.pt_graph.specs.declared.net.Net.{Net}
-use Rattle.pt_graph.specs.declared.net.NetEntity.{NetEntity}
-use Rattle.pt_wiring.specs.Inside.{children_of}
+use Rattle.pt_net.specs.declared.net.Net.{Net}
+use Rattle.pt_net.specs.declared.net.NetEntity.{NetEntity}
+use Rattle.pt_net.specs.Inside.{children_of}
 use Rattle.pt_node.specs.declared.node.Node.{Node}
 use Rattle.pt_node.specs.Shown.{Shown, shown, shown_node}
 use Rattle.pt_node.proofs.Link.{shown-node}
-use Rattle.pt_composite.specs.declared.composing.CompositeFault.{CompositeFault}
-use Rattle.pt_composite.specs.declared.composing.CompositeFault.TheVariants as composite_fault
-use Rattle.pt_composite.specs.Composite.{CompositeFaultStands}
-use Rattle.pt_composite.specs.Fresh.{IsFresh, AllFresh}
-use Rattle.pt_build.specs.declared.building.BuildFault.{BuildFault}
-use Rattle.pt_build.specs.declared.building.BuildFault.TheVariants.{Refused, Unbuilt, Memory}
-use Rattle.pt_build.specs.Trees.{IsEntity, IsSdf, around_in, Starts}
-use Rattle.pt_build.specs.Built.{AreBuilt, IsBuilt, IsToldAs, BuildFaultStands, malformed}
+use Rattle.pt_trees.specs.declared.composite_fault.CompositeFault.{CompositeFault}
+use Rattle.pt_trees.specs.declared.composite_fault.CompositeFault.TheVariants as composite_fault
+use Rattle.pt_trees.specs.Composite.{CompositeFaultStands}
+use Rattle.pt_trees.specs.Fresh.{IsFresh, AllFresh}
+use Rattle.pt_trees.specs.declared.build_fault.BuildFault.{BuildFault}
+use Rattle.pt_trees.specs.declared.build_fault.BuildFault.TheVariants.{Refused, Unbuilt, Memory}
+use Rattle.pt_trees.specs.Trees.{IsEntity, IsSdf, around_in, Starts}
+use Rattle.pt_trees.specs.Built.{AreBuilt, IsBuilt, IsToldAs, BuildFaultStands, malformed}
 use Rattle.pt_build.proofs.TreeLaws.{built-snoc, fresh-snoc}
 
 pub fault-stands : (net : Net) (starts : Starts) (k : ℕ) (e : NetEntity) (kids : List Shown) (fault : CompositeFault) (answer : BuildFault) → IsEntity net k e → IsSdf e → AreBuilt net starts (children_of net.entities.items k) kids →

@@ -2,14 +2,15 @@
 use Rattle.std.proofs.Common.{◌≡◌, ℕ, suc, ◌≤◌, ◌<◌, ◌+◌, List, [], ◌∷◌, ◌++◌, length, take, map, get_or, sym, subst, ◌∙◌, arith}
 use Rattle.std.specs.List.{Contains}
 use Rattle.std.proofs.lemmas.List.{take_all, get_or_default}
-use Rattle.pt_graph.specs.declared.net.Net.{Net}
-use Rattle.pt_wiring.specs.Inside.{children_of}
+use Rattle.pt_net.specs.declared.net.Net.{Net}
+use Rattle.pt_net.specs.Inside.{children_of}
 use Rattle.pt_node.specs.declared.node.Node.{Node}
 use Rattle.pt_node.specs.Shown.{Shown, shown, shown_node}
-use Rattle.pt_composite.specs.Fresh.{AllFresh}
+use Rattle.pt_trees.specs.Fresh.{AllFresh}
 use Rattle.pt_build.specs.declared.builder.Builder.{Builder}
-use Rattle.pt_build.specs.Trees.{Starts}
-use Rattle.pt_build.specs.Built.{AreBuilt, IsBuilt, none_built, IsNested, within, IsReached, HasRoom, IsUnbuilt, deep}
+use Rattle.pt_trees.specs.Trees.{Starts}
+use Rattle.pt_trees.specs.Built.{AreBuilt, IsBuilt, none_built, IsNested, within, IsUnbuilt, deep}
+use Rattle.pt_build.specs.Reached.{IsReached, HasRoom}
 use Rattle.pt_build.proofs.FaultLaws.{children-more}
 
 among : (numbers : List ℕ) (i number : ℕ) → i < length numbers → number ≡ get_or numbers i number → Contains numbers number

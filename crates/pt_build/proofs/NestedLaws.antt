@@ -3,11 +3,11 @@ use Rattle.std.proofs.Common.{◌≡◌, ℕ, zero, suc, ◌+◌, ◌<◌, List,
 use Rattle.std.specs.Prelude.{slice_get}
 use Rattle.std.specs.List.{Contains}
 use Rattle.std.proofs.lemmas.Option.{none-some, same_Some, slice_get-get_or}
-use Rattle.pt_graph.specs.declared.net.Net.{Net}
-use Rattle.pt_graph.specs.declared.net.NetEntity.{NetEntity}
-use Rattle.pt_wiring.specs.Inside.{is_child, child_if, children_from, children_of}
-use Rattle.pt_build.specs.Trees.{Starts, IsEntity}
-use Rattle.pt_build.specs.Built.{IsNested, at_top, within, IsUnbuilt, absent}
+use Rattle.pt_net.specs.declared.net.Net.{Net}
+use Rattle.pt_net.specs.declared.net.NetEntity.{NetEntity}
+use Rattle.pt_net.specs.Inside.{is_child, child_if, children_from, children_of}
+use Rattle.pt_trees.specs.Trees.{Starts, IsEntity}
+use Rattle.pt_trees.specs.Built.{IsNested, at_top, within, IsUnbuilt, absent}
 
 -- number j is that of one of these entities, from number i on
 record IsAmong (i : ℕ) (es : List NetEntity) (j : ℕ) : Type 0 where

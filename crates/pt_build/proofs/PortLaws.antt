@@ -4,8 +4,8 @@ use Rattle.std.proofs.Math.ListN.{get_or-eq_default}
 use Rattle.std.proofs.lemmas.Option.{slice_get_past}
 use Rattle.std.proofs.lemmas.Bool.{cases_order}
 use Rattle.std.proofs.lemmas.List.{map_more}
-use Rattle.pt_moml.specs.declared.job.Port.{Port}
-use Rattle.pt_wiring.specs.Inside.{port_number, number_by}
+use Rattle.pt_document.specs.declared.job.Port.{Port}
+use Rattle.pt_net.specs.Inside.{port_number, number_by}
 use Rattle.pt_wiring.specs.Ports.{ArePortNumbers}
 use Rattle.pt_node.specs.Recorded.{RecordedPort}
 

@@ -1,10 +1,10 @@
 -- The numbers of recorded outputs, entity by entity.
 use Rattle.std.proofs.Common.{◌≡◌, ℕ, suc, ◌+◌, ◌<◌, ◌≤◌, List, [], ◌∷◌, ◌++◌, Bool, true, false, length, get_or, set, nat_eq, refl, sym, ap, ◌∙◌, subst, arith, inl, inr, append-nil, get_or-set_same, get_or-set_other, length-set}
 use Rattle.std.proofs.lemmas.Bool.{cases_order, eq-eqb}
-use Rattle.pt_graph.specs.declared.net.NetPort.{NetPort}
-use Rattle.pt_wiring.specs.Inside.{child_if}
+use Rattle.pt_net.specs.declared.net.NetPort.{NetPort}
+use Rattle.pt_net.specs.Inside.{child_if}
 use Rattle.pt_wiring.proofs.ChildLaws.{not-same}
-use Rattle.pt_build.specs.Recorded.{numbers_from, numbers_at, AreRecordLists}
+use Rattle.pt_trees.specs.Recorded.{numbers_from, numbers_at, AreRecordLists}
 
 number_if-append : (b : Bool) (i : ℕ) (xs ys : List ℕ) → child_if b i (xs ++ ys) ≡ child_if b i xs ++ ys
 number_if-append true i xs ys = refl

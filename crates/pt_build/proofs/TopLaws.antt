@@ -1,14 +1,15 @@
 -- The whole tree, from the node at the top.
 use Rattle.std.proofs.Common.{◌≡◌, ℕ, ◌≤◌, Result, Ok, Err, sym, subst, arith}
 use Rattle.std.specs.Prelude.{IfOk, IfErr}
-use Rattle.pt_graph.specs.declared.net.Net.{Net}
+use Rattle.pt_net.specs.declared.net.Net.{Net}
 use Rattle.pt_node.specs.declared.node.Node.{Node}
 use Rattle.pt_node.specs.Shown.{shown_node}
 use Rattle.pt_node.specs.View.{node_of}
 use Rattle.pt_build.specs.declared.builder.Builder.{Builder}
-use Rattle.pt_build.specs.declared.building.BuildFault.{BuildFault}
-use Rattle.pt_build.specs.Trees.{Starts, StartsAs, AreStarted, IsTree}
-use Rattle.pt_build.specs.Built.{IsBuilt, IsPrepared, IsReached, at_top, BuildFaultStands}
+use Rattle.pt_trees.specs.declared.build_fault.BuildFault.{BuildFault}
+use Rattle.pt_trees.specs.Trees.{Starts, StartsAs, AreStarted, IsTree}
+use Rattle.pt_trees.specs.Built.{IsBuilt, at_top, BuildFaultStands}
+use Rattle.pt_build.specs.Reached.{IsPrepared, IsReached}
 use Rattle.pt_build.proofs.TreeLaws.{built-tree}
 
 pub reach-top : (b : Builder) (starts : Starts) → b.starts.now ≡ starts → IsPrepared b → AreStarted starts → IsReached b 0 0

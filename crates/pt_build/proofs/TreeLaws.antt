@@ -1,16 +1,16 @@
 -- The nodes that are built are the tree of the net.
 use Rattle.std.proofs.Common.{◌≡◌, ℕ, List, [], ◌∷◌, ◌++◌, map, refl, sym, subst}
-use Rattle.pt_graph.specs.declared.net.Net.{Net}
+use Rattle.pt_net.specs.declared.net.Net.{Net}
 use Rattle.pt_library.specs.declared.library_actor.LibraryActor.{LibraryActor}
 use Rattle.pt_library.specs.Laws.{IsRatedActor}
 use Rattle.pt_library.specs.Steady.{IsSteadyActor}
 use Rattle.pt_node.specs.Recorded.{RecordedPort}
 use Rattle.pt_node.specs.Shown.{Shown}
 use Rattle.pt_node.specs.View.{node_of}
-use Rattle.pt_composite.specs.Composite.{trees_of}
-use Rattle.pt_composite.specs.Fresh.{AreEmpty, IsFresh, AllFresh}
-use Rattle.pt_build.specs.Trees.{Starts, StartsAs, IsTree, AreTrees, of_actor, of_sdf, no_trees, more_trees}
-use Rattle.pt_build.specs.Built.{IsBuilt, AreBuilt, built_actor, built_sdf, none_built, more_built, actor_node}
+use Rattle.pt_trees.specs.Composite.{trees_of}
+use Rattle.pt_trees.specs.Fresh.{AreEmpty, IsFresh, AllFresh}
+use Rattle.pt_trees.specs.Trees.{Starts, StartsAs, IsTree, AreTrees, of_actor, of_sdf, no_trees, more_trees}
+use Rattle.pt_trees.specs.Built.{IsBuilt, AreBuilt, built_actor, built_sdf, none_built, more_built, actor_node}
 
 mutual
   pub built-tree : {net : Net} {starts : Starts} {k : ℕ} {s : Shown} → IsBuilt net starts k s → IsTree net (StartsAs starts) k (node_of s)

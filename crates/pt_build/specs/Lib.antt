@@ -1,3 +1,1 @@
-pub mod Trees
-pub mod Recorded
-pub mod Built
+pub mod Reached

@@ -1,20 +1,20 @@
 ghost use Rattle.std.specs.Prelude.{◌≡◌, ◌≤◌, ◌<◌, IfOk, IfSome, IfNone, Some, None, true, false, slice_get};
 ghost use Rattle.pt_node.specs.Shown.{shown_node};
-ghost use Rattle.pt_build.specs.Trees.{is_sdf, IsUndirected, StartsAs};
+ghost use Rattle.pt_trees.specs.Trees.{is_sdf, IsUndirected, StartsAs};
 ghost use Rattle.pt_library.specs.declared.library_actor.LibraryActor.{LibraryActor};
-ghost use Rattle.pt_build.specs.Built.{IsToldAs, held_node};
+ghost use Rattle.pt_trees.specs.Built.{IsToldAs, held_node};
 
-use crate::building::BuildFault;
 use crate::numbering::{numbers_at, record_lists};
 use crate::records::records_of;
 use crate::wiring::{inputs_of, narrow_sources, outputs_of};
-use pt_composite::{CompositeFault, Wiring, composite};
+use pt_composite::composite;
+use pt_document::{Code, Refusal};
 use pt_firing::{Counts, Fires};
-use pt_graph::{Net, NetEntity};
 use pt_library::LibraryActor;
-use pt_moml::{Code, Refusal};
+use pt_net::{Net, NetEntity};
 use pt_node::{Body, Held, Node, Past, Records};
 use pt_plan::PlanFault;
+use pt_trees::{BuildFault, CompositeFault, Wiring};
 use pt_value::Text;
 use pt_wiring::{Insides, Numbers};
 use std::alloc::{AllocError, Global};
@@ -134,13 +134,14 @@ fn actor_node(alloc: Global, held: Held, path: Text, records: Records) -> Node
 impl<'a> Builder<'a> {
     ghost use Rattle.std.specs.Prelude.{◌≡◌, ℕ, ◌<◌, IfOk, IfErr, length, map, true};
     ghost use Rattle.pt_library.specs.LibraryActor.{is_steady};
-    ghost use Rattle.pt_wiring.specs.Inside.{children_of};
+    ghost use Rattle.pt_net.specs.Inside.{children_of};
     ghost use Rattle.pt_node.specs.Shown.{shown, shown_node};
-    ghost use Rattle.pt_composite.specs.Around.{around_of};
-    ghost use Rattle.pt_composite.specs.Fresh.{IsFresh, AllFresh};
-    ghost use Rattle.pt_build.specs.Recorded.{recorded_of};
-    ghost use Rattle.pt_build.specs.Trees.{IsEntity, IsSdf, IsUndirected, AreStarted, StartsAs, around_in};
-    ghost use Rattle.pt_build.specs.Built.{IsBuilt, AreBuilt, IsPrepared, IsNested, IsReached, HasRoom, BuildFaultStands};
+    ghost use Rattle.pt_trees.specs.Around.{around_of};
+    ghost use Rattle.pt_trees.specs.Fresh.{IsFresh, AllFresh};
+    ghost use Rattle.pt_trees.specs.Recorded.{recorded_of};
+    ghost use Rattle.pt_trees.specs.Trees.{IsEntity, IsSdf, IsUndirected, AreStarted, StartsAs, around_in};
+    ghost use Rattle.pt_trees.specs.Built.{IsBuilt, AreBuilt, IsNested, BuildFaultStands};
+    ghost use Rattle.pt_build.specs.Reached.{IsPrepared, IsReached, HasRoom};
 
     pub(crate) fn of(
         alloc: Global,

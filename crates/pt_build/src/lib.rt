@@ -7,4 +7,4 @@ mod numbering;
 mod records;
 mod wiring;
 
-pub use building::{BuildFault, build};
+pub use building::build;

@@ -1,8 +1,8 @@
 ghost use Rattle.std.specs.Prelude.{◌≡◌, ℕ, ◌<◌, ◌++◌, ◌∷◌, [], List, length, get_or, IfOk, OnOk};
-ghost use Rattle.pt_graph.specs.declared.net.NetPort.{NetPort};
-ghost use Rattle.pt_build.specs.Recorded.{AreRecordLists, numbers_at};
+ghost use Rattle.pt_net.specs.declared.net.NetPort.{NetPort};
+ghost use Rattle.pt_trees.specs.Recorded.{AreRecordLists, numbers_at};
 
-use pt_graph::NetPort;
+use pt_net::NetPort;
 use pt_wiring::Numbers;
 use std::alloc::{AllocError, Global};
 

@@ -1,8 +1,8 @@
 ghost use Rattle.std.specs.Prelude.{◌≡◌, IfOk, map, slice_get};
 ghost use Rattle.pt_wiring.specs.Ports.{ArePortNumbers};
-ghost use Rattle.pt_build.specs.Recorded.{recorded_at, port_in, text_in};
+ghost use Rattle.pt_trees.specs.Recorded.{recorded_at, port_in, text_in};
 
-use pt_graph::{Net, NetEntity};
+use pt_net::{Net, NetEntity};
 use pt_node::{Recorded, Records};
 use pt_value::Text;
 use pt_wiring::{Numbers, number_at, port_numbers};

@@ -1,9 +1,9 @@
 ghost use Rattle.std.specs.Prelude.{◌≡◌, IfOk, map, count_by};
 ghost use Rattle.pt_sdf.specs.Plan.{source_of};
 ghost use Rattle.pt_wiring.specs.Channels.{source_view};
-ghost use Rattle.pt_wiring.specs.Inside.{is_input, is_output};
+ghost use Rattle.pt_net.specs.Inside.{is_input, is_output};
 
-use pt_moml::{Direction, Port};
+use pt_document::{Direction, Port};
 use pt_wiring::Source;
 use std::alloc::{AllocError, Global};
 

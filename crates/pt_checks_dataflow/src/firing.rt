@@ -1,164 +1,136 @@
-ghost use Rattle.std.specs.Prelude.{◌≡◌, ◌<◌, IfOk, length};
-
-use crate::shown::{port_texts, texts};
-use pt_firing::{
-    Counts, Gate, Inputs, Names, OpenGate, Outputs, Partial, Ports, RunFault, Step, StepFault,
-    Tokens, TriState, Values,
-};
-use pt_value::{Text, Token};
+use crate::written::{lists, part, show, show_ports, size, token, tokens};
+use pt_firing::{Counts, Inputs, Outputs, Partial, Tokens, TriState};
+use pt_table::{Answers, put, put_number};
+use pt_value::print;
 use std::alloc::{AllocError, Global};
-use std::test::Fail;
 
-fn tokens(alloc: Global, numbers: &[i64]) -> Result<Tokens, AllocError> {
-    let mut tokens = Tokens::new();
-    for n in numbers {
-        tokens.push(alloc, Token::Int(*n))?;
+/// The questions about tokens, outputs, inputs and what is known of places.
+pub struct Firing;
+
+impl Answers for Firing {
+    fn answer(
+        &self,
+        alloc: Global,
+        section: &str,
+        question: &str,
+        out: &mut Vec<u8>,
+    ) -> Result<(), AllocError> {
+        match section {
+            "copy of tokens" => copy_tokens(alloc, tokens(alloc, question)?, out),
+            "tokens taken" => take_tokens(alloc, tokens(alloc, question)?, out),
+            "outputs" => show_ports(&outputs(alloc, question)?, out),
+            "copy of outputs" => copy_outputs(alloc, outputs(alloc, question)?, out),
+            "port taken" => take_port(outputs(alloc, question)?, size(part(question, "take")), out),
+            "one output" => take_port(Outputs::one(token(alloc, question)?), 0, out),
+            "lists of outputs" => {
+                let count = Outputs::of(lists(alloc, question)?).ports();
+                put_number(alloc, out, count as i128)
+            }
+            "inputs" => show_inputs(alloc, &lists(alloc, question)?, out),
+            _ => answer_about_places(alloc, section, question, out),
+        }
     }
-    Ok(tokens)
 }
 
-#[test]
-fn a_fault_prints_its_number(rt: HostRuntime) {
-    let faults = [
-        (RunFault::DivideByZero, 30),
-        (RunFault::Overflow, 31),
-        (RunFault::Index, 32),
-        (RunFault::Size, 33),
-        (RunFault::Rate, 34),
-        (RunFault::SecondToken, 35),
-        (RunFault::Causality, 36),
-        (RunFault::Ambiguous, 37),
-        (RunFault::TimeLimit, 38),
-        (RunFault::Length, 39),
-    ];
-    for (fault, code) in faults {
-        assert_eq!(rt; fault.code(), code);
+fn answer_about_places(
+    alloc: Global,
+    section: &str,
+    question: &str,
+    out: &mut Vec<u8>,
+) -> Result<(), AllocError> {
+    match section {
+        "counts" => tell_lengths(alloc, question, out),
+        "known" => put(out, kind(&known(alloc, question)?)),
+        "tokens of a known place" => known_tokens(alloc, known(alloc, question)?, out),
+        "places" => show_places(alloc, &places(alloc, question)?, out),
+        "copy of places" => copy_places(alloc, places(alloc, question)?, out),
+        "states" => {
+            let count = Partial::of(states(alloc, question)?).places();
+            put_number(alloc, out, count as i128)
+        }
+        _ => put(out, "no such section"),
     }
 }
 
-fn copy_texts(alloc: Global, list: &Tokens) -> Result<Vec<u8>, AllocError> {
-    let copy = list.copy(alloc)?;
-    texts(alloc, copy.as_slice())
+/// How many tokens a list has, and the texts of its copy.
+fn copy_tokens(alloc: Global, list: Tokens, out: &mut Vec<u8>) -> Result<(), AllocError> {
+    let count = list.len();
+    let copy = list.copy(alloc);
+    drop(list);
+    put_number(alloc, out, count as i128)?;
+    put(out, ": ")?;
+    show(copy?.as_slice(), out)?;
+    put(out, "|")
 }
 
-fn taken_texts(alloc: Global, list: &mut Tokens) -> Result<Vec<u8>, AllocError> {
+/// The texts of the tokens that are taken, and whether none is left.
+fn take_tokens(alloc: Global, mut list: Tokens, out: &mut Vec<u8>) -> Result<(), AllocError> {
     let mut taken = Vec::new(alloc);
     for token in list.take() {
         taken.push(token)?;
     }
-    texts(alloc, &taken)
+    let is_empty = list.is_empty();
+    drop(list);
+    show(&taken, out)?;
+    put(
+        out,
+        if is_empty {
+            "and none left"
+        } else {
+            "and more"
+        },
+    )
 }
 
-#[test]
-fn a_copy_keeps_the_order_of_tokens(rt: HostRuntime) -> Result<(), Fail> {
-    for (numbers, text) in [([].as_slice(), ""), (&[7], "7 "), (&[3, 1, 2], "3 1 2 ")] {
-        let list = tokens(rt.alloc(), numbers)?;
-        assert_eq!(rt; list.len(), numbers.len());
-        let copied = copy_texts(rt.alloc(), &list)?;
-        assert_eq!(rt; copied.as_slice(), text.as_bytes());
+/// The outputs of so many ports with some tokens, one by one: `ports 3; tokens 0 1, 2 5` puts 1 at the port 0 and 5 at the port 2.
+fn outputs(alloc: Global, written: &str) -> Result<Outputs, AllocError> {
+    let mut outputs = Outputs::none(size(part(written, "ports")));
+    for pair in part(written, "tokens").split(", ") {
+        let (port, word) = pair.split_once(' ').unwrap_or((pair, ""));
+        let port = size(port);
+        if port < outputs.ports() {
+            outputs.push(alloc, port, token(alloc, word)?)?;
+        }
     }
-    Ok(())
-}
-
-#[test]
-fn tokens_are_taken_in_their_order(rt: HostRuntime) -> Result<(), Fail> {
-    for (numbers, text) in [([].as_slice(), ""), (&[7], "7 "), (&[3, 1, 2], "3 1 2 ")] {
-        let mut list = tokens(rt.alloc(), numbers)?;
-        let taken = taken_texts(rt.alloc(), &mut list)?;
-        assert_eq!(rt; taken.as_slice(), text.as_bytes());
-        assert!(rt; list.is_empty());
-    }
-    Ok(())
-}
-
-fn with(alloc: Global, mut outputs: Outputs, port: usize, n: i64) -> Result<Outputs, AllocError>
-    requires { port < length outputs }
-    ensures { IfOk result (λ more. length more ≡ length outputs) }
-{
-    outputs.push(alloc, port, Token::Int(n))?;
     Ok(outputs)
 }
 
-/// Tokens on the first and the last of three ports.
-fn spread_out(alloc: Global) -> Result<Outputs, AllocError>
-    ensures { IfOk result (λ outputs. length outputs ≡ 3) }
-{
-    let one = with(alloc, Outputs::none(3), 0, 1)?;
-    let two = with(alloc, one, 2, 5)?;
-    with(alloc, two, 0, 2)
-}
-
-fn spread_texts(alloc: Global) -> Result<Vec<u8>, AllocError> {
-    let outputs = spread_out(alloc)?;
-    port_texts(alloc, &outputs)
-}
-
-fn copied_texts(alloc: Global) -> Result<Vec<u8>, AllocError> {
-    let outputs = spread_out(alloc)?;
+fn copy_outputs(alloc: Global, outputs: Outputs, out: &mut Vec<u8>) -> Result<(), AllocError> {
     let copy = outputs.copy(alloc);
     drop(outputs);
-    port_texts(alloc, &copy?)
-}
-
-#[test]
-fn outputs_have_a_list_for_each_port(rt: HostRuntime) -> Result<(), Fail> {
-    let listed = spread_texts(rt.alloc())?;
-    assert_eq!(rt; listed.as_slice(), b"1 2 ||5 |".as_slice());
-    let copied = copied_texts(rt.alloc())?;
-    assert_eq!(rt; copied.as_slice(), b"1 2 ||5 |".as_slice());
-    Ok(())
+    show_ports(&copy?, out)
 }
 
 /// The texts of the tokens that are taken of a port.
-fn port_taken(alloc: Global, mut outputs: Outputs, port: usize) -> Result<Vec<u8>, AllocError>
-    requires { port < length outputs }
-{
+fn take_port(mut outputs: Outputs, port: usize, out: &mut Vec<u8>) -> Result<(), AllocError> {
+    if outputs.ports() <= port {
+        return put(out, "no such port");
+    }
     let taken = outputs.take(port);
     drop(outputs);
-    texts(alloc, taken.as_slice())
+    show(taken.as_slice(), out)?;
+    put(out, "|")
 }
 
-#[test]
-fn outputs_are_taken_port_by_port(rt: HostRuntime) -> Result<(), Fail> {
-    let outputs = spread_out(rt.alloc())?;
-    let taken = port_taken(rt.alloc(), outputs, 2)?;
-    assert_eq!(rt; taken.as_slice(), b"5 ".as_slice());
-    let one = Outputs::one(Token::Bool(true));
-    let taken = port_taken(rt.alloc(), one, 0)?;
-    assert_eq!(rt; taken.as_slice(), b"true ".as_slice());
-    Ok(())
-}
-
-#[test]
-fn each_list_is_of_a_port(rt: HostRuntime) -> Result<(), Fail> {
-    let lists = vec![in rt.alloc(); Tokens::one(Token::Bool(true)), Tokens::new()]?;
-    assert_eq!(rt; Outputs::of(lists).ports(), 2);
-    Ok(())
-}
-
-/// A list of one token, and one of two.
-fn lists(alloc: Global) -> Result<Vec<Tokens>, AllocError> {
-    let mut lists = Vec::new(alloc);
-    for numbers in [[1].as_slice(), &[2, 3]] {
-        lists.push(tokens(alloc, numbers)?)?;
+/// How many places the inputs have, and the texts of their tokens.
+fn show_inputs(alloc: Global, lists: &[Tokens], out: &mut Vec<u8>) -> Result<(), AllocError> {
+    let inputs = Inputs::of(lists);
+    put_number(alloc, out, inputs.places() as i128)?;
+    put(out, ": ")?;
+    for place in 0..inputs.places() {
+        show(inputs.list(place), out)?;
+        put(out, "|")?;
     }
-    Ok(lists)
-}
-
-#[test]
-fn inputs_lend_a_list_for_each_place(rt: HostRuntime) -> Result<(), Fail> {
-    let lists = lists(rt.alloc())?;
-    let inputs = Inputs::of(&lists);
-    assert!(rt; inputs.places() == 2);
-    let lent = texts(rt.alloc(), inputs.list(1))?;
-    assert_eq!(rt; lent.as_slice(), b"2 3 ".as_slice());
     Ok(())
 }
 
-/// The copy of the numbers 1 and 2.
-fn one_and_two(alloc: Global) -> Result<Counts, AllocError> {
-    let counts = Counts::of(vec![in alloc; 1, 2]?);
-    counts.copy(alloc)
+/// A copy of the counts that are written between blanks.
+fn counts(alloc: Global, written: &str) -> Result<Counts, AllocError> {
+    let mut counts = Vec::new(alloc);
+    for word in written.split_whitespace() {
+        counts.push(size(word))?;
+    }
+    Counts::of(counts).copy(alloc)
 }
 
 /// Whether these are the lengths of the lists.
@@ -172,17 +144,23 @@ fn are_lengths(counts: &Counts, lists: &[Tokens]) -> bool {
     true
 }
 
-#[test]
-fn counts_are_the_lengths_of_lists(rt: HostRuntime) -> Result<(), Fail> {
-    let lists = lists(rt.alloc())?;
-    let counts = one_and_two(rt.alloc())?;
-    assert!(rt; are_lengths(&counts, &lists));
-    assert_eq!(rt; counts.len(), 2);
-    Ok(())
+/// How many counts there are, and whether they are the lengths of some lists.
+fn tell_lengths(alloc: Global, written: &str, out: &mut Vec<u8>) -> Result<(), AllocError> {
+    let lists = lists(alloc, part(written, "lists"))?;
+    let counts = counts(alloc, part(written, "counts"))?;
+    put_number(alloc, out, counts.len() as i128)?;
+    put(
+        out,
+        if are_lengths(&counts, &lists) {
+            ", the lengths"
+        } else {
+            ", not the lengths"
+        },
+    )
 }
 
-fn known(alloc: Global, numbers: &[i64]) -> Result<TriState, AllocError> {
-    Ok(TriState::known(tokens(alloc, numbers)?))
+fn known(alloc: Global, written: &str) -> Result<TriState, AllocError> {
+    Ok(TriState::known(tokens(alloc, written)?))
 }
 
 fn kind(state: &TriState) -> &'static str {
@@ -194,128 +172,56 @@ fn kind(state: &TriState) -> &'static str {
     }
 }
 
-#[test]
-fn known_tokens_are_absent_present_or_more(rt: HostRuntime) -> Result<(), Fail> {
-    for (numbers, text) in [
-        ([].as_slice(), "absent"),
-        (&[1], "present"),
-        (&[1, 2], "more"),
-    ] {
-        let state = known(rt.alloc(), numbers)?;
-        assert_eq!(rt; kind(&state), text);
-    }
-    Ok(())
-}
-
-/// The texts of the tokens of a place where these are known.
-fn known_texts(alloc: Global, numbers: &[i64]) -> Result<Vec<u8>, AllocError> {
-    let state = known(alloc, numbers)?;
+fn known_tokens(alloc: Global, state: TriState, out: &mut Vec<u8>) -> Result<(), AllocError> {
     let tokens = state.tokens(alloc);
     drop(state);
-    texts(alloc, tokens?.as_slice())
+    show(tokens?.as_slice(), out)?;
+    put(out, "|")
 }
 
-#[test]
-fn what_is_known_of_a_place_are_tokens(rt: HostRuntime) -> Result<(), Fail> {
-    let text = known_texts(rt.alloc(), &[1, 2])?;
-    assert_eq!(rt; text.as_slice(), b"1 2 ".as_slice());
-    Ok(())
-}
-
-/// A token at the second of two places.
-fn half_known(alloc: Global) -> Result<Partial, AllocError>
-    ensures { IfOk result (λ partial. length partial ≡ 2) }
-{
-    let present = known(alloc, &[1])?;
-    let mut partial = Partial::unknown(alloc, 2)?;
-    partial.set(1, present);
+/// So many unknown places, of which one is set to what is known: `count 2; set 1; known 7`.
+fn places(alloc: Global, written: &str) -> Result<Partial, AllocError> {
+    let state = known(alloc, part(written, "known"))?;
+    let mut partial = Partial::unknown(alloc, size(part(written, "count")))?;
+    let place = size(part(written, "set"));
+    if place < partial.places() {
+        partial.set(place, state);
+    }
     Ok(partial)
 }
 
-fn half_known_copy(alloc: Global) -> Result<Partial, AllocError>
-    ensures { IfOk result (λ partial. length partial ≡ 2) }
-{
-    let partial = half_known(alloc)?;
-    partial.copy(alloc)
-}
-
-#[test]
-fn a_place_is_unknown_until_it_is_set(rt: HostRuntime) -> Result<(), Fail> {
-    let partial = half_known(rt.alloc())?;
-    assert!(rt; partial.places() == 2);
-    assert!(rt; matches!(partial.get(0), TriState::Unknown));
-    let copy = half_known_copy(rt.alloc())?;
-    assert!(rt; copy.places() == 2);
-    assert!(rt; matches!(copy.get(1), TriState::Present(Token::Int(1))));
-    Ok(())
-}
-
-#[test]
-fn each_state_is_of_a_place(rt: HostRuntime) -> Result<(), Fail> {
-    let more = known(rt.alloc(), &[1, 2])?;
-    let both = Partial::of(vec![in rt.alloc(); TriState::Absent, more]?);
-    assert_eq!(rt; both.places(), 2);
-    Ok(())
-}
-
-#[test]
-fn a_step_tells_its_fault(rt: HostRuntime) {
-    assert!(rt; matches!(&Step::from(Ok(Outputs::none(0))), Step::Done(_)));
-    assert!(rt;
-        matches!(
-            &Step::from(Err(StepFault::from(RunFault::Index))),
-            Step::Fault(RunFault::Index)
-        )
-    );
-    assert!(rt; matches!(&Step::from(Err(StepFault::Memory)), Step::Memory));
-    OpenGate.reach(0, 0);
-}
-
-fn values(alloc: Global) -> Result<Values, AllocError> {
-    let init = (Text::of(alloc, "init")?, Token::Int(7));
-    let values = Values::of(vec![in alloc; init]?);
-    values.copy(alloc)
-}
-
-#[test]
-fn parameters_are_found_by_name(rt: HostRuntime) -> Result<(), Fail> {
-    let values = values(rt.alloc())?;
-    assert_eq!(rt; values.as_slice().len(), 1);
-    assert_eq!(rt; values.int_or("init", 0), Some(7));
-    assert_eq!(rt; values.int_or("step", 1), Some(1));
-    assert_eq!(rt; values.int_within("init", 0, 0, 6), None);
-    assert_eq!(rt; values.bool_or("init", true), None);
-    Ok(())
-}
-
-fn ports(alloc: Global) -> Result<Ports, AllocError> {
-    let mut ports = Vec::new(alloc);
-    for (name, count) in [("output", 2), ("plus", 3)] {
-        ports.push((Text::of(alloc, name)?, count))?;
+fn show_state(state: &TriState, out: &mut Vec<u8>) -> Result<(), AllocError> {
+    put(out, kind(state))?;
+    match state {
+        TriState::Present(token) => {
+            put(out, " ")?;
+            print(token, out)
+        }
+        _ => Ok(()),
     }
-    Ok(Ports::of(ports))
 }
 
-#[test]
-fn ports_are_found_by_name(rt: HostRuntime) -> Result<(), Fail> {
-    let ports = ports(rt.alloc())?;
-    assert_eq!(rt; ports.channels("plus"), 3);
-    assert_eq!(rt; ports.channels("minus"), 0);
+fn show_places(alloc: Global, partial: &Partial, out: &mut Vec<u8>) -> Result<(), AllocError> {
+    put_number(alloc, out, partial.places() as i128)?;
+    put(out, ":")?;
+    for place in 0..partial.places() {
+        put(out, " ")?;
+        show_state(partial.get(place), out)?;
+    }
     Ok(())
 }
 
-/// A copy of the names of the ports but one.
-fn names_but(alloc: Global, output: &str) -> Result<Names, AllocError> {
-    let ports = ports(alloc)?;
-    let names = ports.names_but(alloc, output);
-    drop(ports);
-    names?.copy(alloc)
+fn copy_places(alloc: Global, partial: Partial, out: &mut Vec<u8>) -> Result<(), AllocError> {
+    let copy = partial.copy(alloc);
+    drop(partial);
+    show_places(alloc, &copy?, out)
 }
 
-#[test]
-fn ports_have_names_but_for_one(rt: HostRuntime) -> Result<(), Fail> {
-    let names = names_but(rt.alloc(), "output")?;
-    assert_eq!(rt; names.len(), 1);
-    assert!(rt; names.as_slice().iter().all(|name| name.as_str() == "plus"));
-    Ok(())
+/// What is known of each of some places, between slashes.
+fn states(alloc: Global, written: &str) -> Result<Vec<TriState>, AllocError> {
+    let mut states = Vec::new(alloc);
+    for list in written.split('/') {
+        states.push(known(alloc, list)?)?;
+    }
+    Ok(states)
 }

@@ -1,208 +1,49 @@
-use crate::shown::port_texts;
-use pt_expr::{BinaryOp, Expr};
+use crate::parameters::{ports, values};
+use crate::written::{integer, lists, part, show_ports, tokens};
 use pt_firing::{Actor, Fires, Inputs, Partial, Step, Tokens};
-use pt_lib_flow::{
-    AbsoluteValue, Accumulator, AddSubtract, BooleanSelect, BooleanSwitch, Const, Counter,
-    DownSample, Expression, FlowActor, MultiplyDivide, Params, PortTypes, Ports, Ramp, Repeat,
-    SampleDelay, Scale, Sequence, UpSample, Values,
-};
+use pt_flow_base::{Params, PortTypes};
+use pt_language::{BinaryOp, Expr};
+use pt_lib_flow::{Expression, FlowActor, SampleDelay, Values};
+use pt_table::{Answers, put, put_number};
 use pt_time::Tag;
 use pt_types::Ty;
-use pt_value::{Items, Text, Token};
+use pt_value::Text;
 use std::alloc::{AllocError, Global};
-use std::test::Fail;
+
+/// The questions about library actors: `class C; values NAME TOKEN, ..; ports NAME CHANNELS, ..; places TOKEN .. / TOKEN ..`.
+pub struct FlowLibrary;
+
+impl Answers for FlowLibrary {
+    fn answer(
+        &self,
+        alloc: Global,
+        section: &str,
+        question: &str,
+        out: &mut Vec<u8>,
+    ) -> Result<(), AllocError> {
+        match section {
+            "first firing" => tell_firing(alloc, question, out),
+            "early" => tell_early(alloc, question, out),
+            "p + x" => tell_sum(alloc, question, out),
+            "literal" => tell_literal(alloc, Expr::Int(integer(question)), out),
+            "first tokens of a delay" => tell_first(alloc, tokens(alloc, question)?, out),
+            _ => put(out, "no such section"),
+        }
+    }
+}
 
 const START: Tag = Tag { time: 0, step: 0 };
 
-/// A token, as a table writes it.
-#[derive(Clone, Copy, Debug)]
-enum Datum {
-    Int(i64),
-    Bool(bool),
-    Ints(&'static [i64]),
-}
-
-/// The first firing of an actor: its class, parameters, channels of ports, and tokens of places, with the text of what it gives, where each port ends with a bar.
-#[derive(Debug)]
-struct Case {
-    class: &'static str,
-    values: &'static [(&'static str, Datum)],
-    ports: &'static [(&'static str, u32)],
-    places: &'static [&'static [Datum]],
-    gives: &'static str,
-}
-
-const CASES: &[Case] = &[
-    Case {
-        class: "Const",
-        values: &[("value", Datum::Int(7))],
-        ports: &[],
-        places: &[],
-        gives: "7 |",
-    },
-    Case {
-        class: "Ramp",
-        values: &[("init", Datum::Int(3))],
-        ports: &[],
-        places: &[],
-        gives: "3 |",
-    },
-    Case {
-        class: "Sequence",
-        values: &[("values", Datum::Ints(&[4, 5]))],
-        ports: &[],
-        places: &[],
-        gives: "4 |",
-    },
-    Case {
-        class: "AddSubtract",
-        values: &[],
-        ports: &[("plus", 2), ("minus", 1)],
-        places: &[&[Datum::Int(2)], &[Datum::Int(3)], &[Datum::Int(4)]],
-        gives: "1 |",
-    },
-    Case {
-        class: "MultiplyDivide",
-        values: &[],
-        ports: &[("multiply", 2), ("divide", 1)],
-        places: &[&[Datum::Int(6)], &[Datum::Int(-5)], &[Datum::Int(4)]],
-        gives: "-7 |",
-    },
-    Case {
-        class: "Scale",
-        values: &[("factor", Datum::Int(3))],
-        ports: &[],
-        places: &[&[Datum::Int(-4)]],
-        gives: "-12 |",
-    },
-    Case {
-        class: "Accumulator",
-        values: &[("init", Datum::Int(10))],
-        ports: &[],
-        places: &[&[Datum::Int(5)]],
-        gives: "15 |",
-    },
-    Case {
-        class: "Maximum",
-        values: &[],
-        ports: &[("input", 3)],
-        places: &[&[Datum::Int(2)], &[Datum::Int(9)], &[Datum::Int(4)]],
-        gives: "9 |",
-    },
-    Case {
-        class: "AbsoluteValue",
-        values: &[],
-        ports: &[],
-        places: &[&[Datum::Int(-8)]],
-        gives: "8 |",
-    },
-    Case {
-        class: "DownSample",
-        values: &[("factor", Datum::Int(3)), ("phase", Datum::Int(1))],
-        ports: &[],
-        places: &[&[Datum::Int(1), Datum::Int(2), Datum::Int(3)]],
-        gives: "2 |",
-    },
-    Case {
-        class: "UpSample",
-        values: &[("factor", Datum::Int(3)), ("phase", Datum::Int(1))],
-        ports: &[],
-        places: &[&[Datum::Int(5)]],
-        gives: "0 5 0 |",
-    },
-    Case {
-        class: "Repeat",
-        values: &[("blockSize", Datum::Int(2))],
-        ports: &[],
-        places: &[&[Datum::Int(1), Datum::Int(2)]],
-        gives: "1 2 1 2 |",
-    },
-    Case {
-        class: "SampleDelay",
-        values: &[("initialOutputs", Datum::Ints(&[1]))],
-        ports: &[],
-        places: &[&[Datum::Int(6)]],
-        gives: "6 |",
-    },
-    Case {
-        class: "Counter",
-        values: &[],
-        ports: &[("decrement", 1)],
-        places: &[&[Datum::Bool(true)]],
-        gives: "-1 |",
-    },
-    Case {
-        class: "BooleanSwitch",
-        values: &[],
-        ports: &[],
-        places: &[&[Datum::Int(7)], &[Datum::Bool(false)]],
-        gives: "|7 |",
-    },
-    Case {
-        class: "BooleanSelect",
-        values: &[],
-        ports: &[],
-        places: &[&[], &[], &[Datum::Bool(true)]],
-        gives: "|",
-    },
-];
-
-fn token(alloc: Global, datum: Datum) -> Result<Token, AllocError> {
-    match datum {
-        Datum::Int(n) => Ok(Token::Int(n)),
-        Datum::Bool(b) => Ok(Token::Bool(b)),
-        Datum::Ints(numbers) => array(alloc, numbers),
-    }
-}
-
-fn array(alloc: Global, numbers: &[i64]) -> Result<Token, AllocError> {
-    let mut items = Vec::new(alloc);
-    for n in numbers {
-        items.push(Token::Int(*n))?;
-    }
-    Ok(Token::Array(Items::of(items)))
-}
-
-fn values(alloc: Global, entries: &[(&str, Datum)]) -> Result<Values, AllocError> {
-    let mut values = Vec::new(alloc);
-    for (name, datum) in entries {
-        values.push((Text::of(alloc, *name)?, token(alloc, *datum)?))?;
-    }
-    Ok(Values::of(values))
-}
-
-fn ports(alloc: Global, entries: &[(&str, u32)]) -> Result<Ports, AllocError> {
-    let mut ports = Vec::new(alloc);
-    for (name, count) in entries {
-        ports.push((Text::of(alloc, *name)?, *count))?;
-    }
-    Ok(Ports::of(ports))
-}
-
-fn params(alloc: Global, case: &Case) -> Result<Params, AllocError> {
+fn params(alloc: Global, written: &str) -> Result<Params, AllocError> {
+    let values = values(alloc, part(written, "values"))?;
+    let ports = ports(alloc, part(written, "ports"))?;
     Ok(Params {
-        class: Text::of(alloc, case.class)?,
-        values: values(alloc, case.values)?,
-        ports: ports(alloc, case.ports)?,
+        class: Text::of(alloc, part(written, "class"))?,
+        values,
+        ports,
         types: PortTypes::of(Vec::new(alloc)),
         tree: None,
     })
-}
-
-fn tokens(alloc: Global, data: &[Datum]) -> Result<Tokens, AllocError> {
-    let mut tokens = Tokens::new();
-    for datum in data {
-        tokens.push(alloc, token(alloc, *datum)?)?;
-    }
-    Ok(tokens)
-}
-
-fn lists(alloc: Global, places: &[&[Datum]]) -> Result<Vec<Tokens>, AllocError> {
-    let mut lists = Vec::new(alloc);
-    for data in places {
-        lists.push(tokens(alloc, *data)?)?;
-    }
-    Ok(lists)
 }
 
 fn started(alloc: Global, params: &Params) -> Result<Option<FlowActor>, AllocError> {
@@ -222,45 +63,54 @@ fn actor_of(alloc: Global, params: Params) -> Result<Option<FlowActor>, AllocErr
     actor
 }
 
-/// What a step gave, or nothing for a fault.
-fn shown(alloc: Global, step: Step) -> Result<Vec<u8>, AllocError> {
+/// What a step gave, or that it is stuck.
+fn show(step: Step, out: &mut Vec<u8>) -> Result<(), AllocError> {
     match &step {
-        Step::Done(outputs) => port_texts(alloc, outputs),
-        Step::Fault(_) => Ok(Vec::new(alloc)),
+        Step::Done(outputs) => show_ports(outputs, out),
+        Step::Fault(_) => put(out, "stuck"),
         Step::Memory => Err(AllocError),
     }
 }
 
-/// What an actor gives at its next firing.
-fn fired(alloc: Global, mut actor: FlowActor, lists: &[Tokens]) -> Result<Vec<u8>, AllocError> {
-    let step = actor.step(alloc, START, &Inputs::of(lists));
+/// What an actor gives at its next firing on tokens of its places.
+fn fires(
+    alloc: Global,
+    mut actor: FlowActor,
+    places: &str,
+    out: &mut Vec<u8>,
+) -> Result<(), AllocError> {
+    let lists = lists(alloc, places)?;
+    let step = actor.step(alloc, START, &Inputs::of(&lists));
     drop(actor);
-    shown(alloc, step)
+    show(step, out)
 }
 
 /// The same of a copy.
-fn copy_fired(alloc: Global, actor: FlowActor, lists: &[Tokens]) -> Result<Vec<u8>, AllocError> {
+fn copy_fires(
+    alloc: Global,
+    actor: FlowActor,
+    places: &str,
+    out: &mut Vec<u8>,
+) -> Result<(), AllocError> {
     let copy = actor.copy(alloc);
     drop(actor);
-    fired(alloc, copy?, lists)
+    fires(alloc, copy?, places, out)
 }
 
-/// The text of what a copy of a started actor gives, if it is started.
-fn gives(alloc: Global, case: &Case) -> Result<Option<Vec<u8>>, AllocError> {
-    let lists = lists(alloc, case.places)?;
-    match actor_of(alloc, params(alloc, case)?)? {
-        Some(actor) => Ok(Some(copy_fired(alloc, actor, &lists)?)),
-        None => Ok(None),
+/// What a copy of the started actor gives.
+fn tell_firing(alloc: Global, written: &str, out: &mut Vec<u8>) -> Result<(), AllocError> {
+    match actor_of(alloc, params(alloc, written)?)? {
+        Some(actor) => copy_fires(alloc, actor, part(written, "places"), out),
+        None => put(out, "not started"),
     }
 }
 
-#[test]
-fn each_class_is_started_and_fires(rt: HostRuntime) -> Result<(), Fail> {
-    for case in CASES {
-        let text = gives(rt.alloc(), case)?.ok_or("not started")?;
-        assert_eq!(rt; text.as_slice(), case.gives.as_bytes(), "{}", case.class);
+/// What the expression `p + x` gives.
+fn tell_sum(alloc: Global, places: &str, out: &mut Vec<u8>) -> Result<(), AllocError> {
+    match actor_of(alloc, sum_params(alloc)?)? {
+        Some(actor) => fires(alloc, actor, places, out),
+        None => put(out, "not started"),
     }
-    Ok(())
 }
 
 /// Whether an actor tells early of each output, while an input is unknown.
@@ -270,28 +120,22 @@ fn is_early(alloc: Global, actor: &FlowActor) -> Result<bool, AllocError> {
     Ok(told.places() == actor.outputs())
 }
 
-fn tells_early(alloc: Global, case: &Case) -> Result<Option<bool>, AllocError> {
-    match actor_of(alloc, params(alloc, case)?)? {
+fn tell_early(alloc: Global, written: &str, out: &mut Vec<u8>) -> Result<(), AllocError> {
+    match actor_of(alloc, params(alloc, written)?)? {
         Some(actor) => {
             let is_early = is_early(alloc, &actor);
             drop(actor);
-            Ok(Some(is_early?))
+            put(
+                out,
+                if is_early? {
+                    "each output"
+                } else {
+                    "not each output"
+                },
+            )
         }
-        None => Ok(None),
+        None => put(out, "not started"),
     }
-}
-
-#[test]
-fn each_class_tells_early_of_each_output(rt: HostRuntime) -> Result<(), Fail> {
-    for case in CASES {
-        assert_eq!(rt;
-            tells_early(rt.alloc(), case)?,
-            Some(true),
-            "{}",
-            case.class
-        );
-    }
-    Ok(())
 }
 
 fn name(alloc: Global, text: &str) -> Result<Box<Expr>, AllocError> {
@@ -313,70 +157,37 @@ fn integer_input(alloc: Global) -> Result<PortTypes, AllocError> {
 
 /// The parameters of an expression with that tree, where p is 5.
 fn sum_params(alloc: Global) -> Result<Params, AllocError> {
+    let tree = sum(alloc)?;
+    let types = integer_input(alloc)?;
+    let params = params(alloc, "class Expression; values p 5; ports x 1, output 1")?;
     Ok(Params {
-        class: Text::of(alloc, "Expression")?,
-        values: values(alloc, &[("p", Datum::Int(5))])?,
-        ports: ports(alloc, &[("x", 1), ("output", 1)])?,
-        types: integer_input(alloc)?,
-        tree: Some(sum(alloc)?),
+        types,
+        tree: Some(tree),
+        ..params
     })
 }
 
-/// What that expression shows once it fired with one token.
-fn sum_with(alloc: Global, data: Datum) -> Result<Option<Vec<u8>>, AllocError> {
-    let lists = lists(alloc, &[&[data]])?;
-    match actor_of(alloc, sum_params(alloc)?)? {
-        Some(actor) => Ok(Some(fired(alloc, actor, &lists)?)),
-        None => Ok(None),
-    }
-}
-
-#[test]
-fn an_expression_gives_the_value_of_its_tree(rt: HostRuntime) -> Result<(), Fail> {
-    for (data, gives) in [
-        (Datum::Int(2), "7 |"),
-        (Datum::Bool(true), "|"),
-        (Datum::Int(-6), "-1 |"),
-    ] {
-        let text = sum_with(rt.alloc(), data)?.ok_or("not started")?;
-        assert_eq!(rt; text.as_slice(), gives.as_bytes(), "{data:?}");
-    }
-    Ok(())
-}
-
 /// What an expression without inputs gives.
-fn constant(alloc: Global, mut actor: Expression) -> Result<Vec<u8>, AllocError> {
+fn fires_alone(mut actor: Expression, alloc: Global, out: &mut Vec<u8>) -> Result<(), AllocError> {
     let step = actor.step(alloc, START, &Inputs::of(&[]));
     drop(actor);
-    shown(alloc, step)
+    show(step, out)
 }
 
 /// What a literal gives, if it has a type.
-fn literal(alloc: Global) -> Result<Option<Vec<u8>>, AllocError> {
+fn tell_literal(alloc: Global, tree: Expr, out: &mut Vec<u8>) -> Result<(), AllocError> {
     let inputs = PortTypes::of(Vec::new(alloc));
     let values = Values::of(Vec::new(alloc));
-    match Expression::new(alloc, inputs, values, Expr::Int(7))? {
-        Some(actor) => Ok(Some(constant(alloc, actor)?)),
-        None => Ok(None),
+    match Expression::new(alloc, inputs, values, tree)? {
+        Some(actor) => fires_alone(actor, alloc, out),
+        None => put(out, "not typed"),
     }
 }
 
-#[test]
-fn an_expression_without_inputs_is_a_source(rt: HostRuntime) -> Result<(), Fail> {
-    let text = literal(rt.alloc())?.ok_or("not typed")?;
-    assert_eq!(rt; text.as_slice(), b"7 |".as_slice());
-    Ok(())
-}
-
-/// A delay whose first tokens are 1 and 2.
-fn delay(alloc: Global) -> Result<SampleDelay, AllocError> {
-    let initial = vec![in alloc; Token::Int(1), Token::Int(2)]?;
-    SampleDelay::new(alloc, Tokens::of(initial))
-}
-
-#[test]
-fn a_delay_has_first_tokens(rt: HostRuntime) -> Result<(), Fail> {
-    let actor = delay(rt.alloc())?;
-    assert_eq!(rt; actor.first().len(), 2);
-    Ok(())
+/// How many first tokens a delay has.
+fn tell_first(alloc: Global, initial: Tokens, out: &mut Vec<u8>) -> Result<(), AllocError> {
+    let actor = SampleDelay::new(alloc, initial)?;
+    let count = actor.first().len();
+    drop(actor);
+    put_number(alloc, out, count as i128)
 }

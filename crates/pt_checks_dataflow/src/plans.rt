@@ -1,304 +1,126 @@
+use crate::written::{part, size, small};
 use pt_firing::Counts;
-use pt_plan::{Inside, PlanFault, plan};
+use pt_plan::{Inside, plan};
 use pt_sdf::{CorePlan, Source};
+use pt_table::{Answers, put};
 use std::alloc::{AllocError, Global};
-use std::process::Abort;
-use std::test::Fail;
 
-/// An inside by its lists: the ports of all children stand in one list of rates, child by child.
-#[derive(Clone, Copy)]
-struct Case<'a> {
-    sources: &'a [Source],
-    places: &'a [usize],
-    needs: &'a [usize],
-    ports: &'a [usize],
-    rates: &'a [usize],
-    first: &'a [usize],
-    inputs: u32,
-    outputs: u32,
-}
+/// The questions about the plan of an inside, which is written by its lists.
+pub struct Plans;
 
-fn counts(alloc: Global, numbers: &[usize]) -> Result<Counts, AllocError> {
-    Ok(Counts::of(Vec::from_slice(alloc, numbers)?))
-}
-
-fn rates_of(alloc: Global, ports: &[usize], rates: &[usize]) -> Result<Vec<Counts>, AllocError> {
-    let mut rows = Vec::new(alloc);
-    let mut numbers = rates.iter();
-    for count in ports {
-        let mut row = Vec::new(alloc);
-        for _ in 0..*count {
-            row.push(numbers.next().copied().unwrap_or(0))?;
+impl Answers for Plans {
+    fn answer(
+        &self,
+        alloc: Global,
+        section: &str,
+        question: &str,
+        out: &mut Vec<u8>,
+    ) -> Result<(), AllocError> {
+        match section {
+            "plan" => tell(alloc, inside(alloc, question)?, out),
+            _ => put(out, "no such section"),
         }
-        rows.push(Counts::of(row))?;
     }
-    Ok(rows)
 }
 
-fn planned(
-    rt: &impl Abort,
-    alloc: Global,
-    case: &Case<'_>,
-) -> Result<Result<CorePlan, PlanFault>, AllocError> {
-    let inside = Inside {
-        sources: Vec::from_slice(alloc, case.sources)?,
-        places: counts(alloc, case.places)?,
-        needs: counts(alloc, case.needs)?,
-        rates: rates_of(alloc, case.ports, case.rates)?,
-        first: counts(alloc, case.first)?,
-        inputs: case.inputs,
-        outputs: case.outputs,
-    };
-    assert!(rt; inside.is_well_formed());
-    Ok(plan(alloc, inside))
-}
-
-/// What a plan says.
-#[derive(Clone, Copy)]
-struct Want<'a> {
-    repetitions: &'a [usize],
-    takes: &'a [usize],
-    gives: &'a [usize],
-    order: &'a [u32],
-    room: &'a [usize],
-}
-
-fn assert_wanted(rt: &impl Abort, name: &str, plan: &CorePlan, want: &Want<'_>) {
-    assert_eq!(rt; plan.repetitions.as_slice(), want.repetitions, "{name}");
-    assert_eq!(rt; plan.takes.as_slice(), want.takes, "{name}");
-    assert_eq!(rt; plan.gives.as_slice(), want.gives, "{name}");
-    assert_eq!(rt; plan.order.as_slice(), want.order, "{name}");
-    assert_eq!(rt; plan.room.as_slice(), want.room, "{name}");
-}
-
-fn assert_plan(
-    rt: &impl Abort,
-    alloc: Global,
-    name: &str,
-    case: &Case<'_>,
-    want: &Want<'_>,
-) -> Result<(), AllocError> {
-    match planned(rt, alloc, case)? {
-        Ok(plan) => {
-            assert_wanted(rt, name, &plan, want);
-            drop(plan);
+/// Numbers between blanks; `-` is none.
+fn numbers(alloc: Global, written: &str) -> Result<Vec<usize>, AllocError> {
+    let mut numbers = Vec::new(alloc);
+    for word in written.split_whitespace() {
+        if word != "-" {
+            numbers.push(size(word))?;
         }
-        Err(fault) => assert!(rt; false, "{name}: {fault:?}"),
     }
-    Ok(())
+    Ok(numbers)
 }
 
-fn assert_fault(
-    rt: &impl Abort,
-    alloc: Global,
-    name: &str,
-    case: &Case<'_>,
-    fault: PlanFault,
-) -> Result<(), AllocError> {
-    match planned(rt, alloc, case)? {
-        Ok(plan) => {
-            drop(plan);
-            assert!(rt; false, "{name}: no {fault:?}");
-        }
-        Err(met) => assert_eq!(rt; met, fault, "{name}"),
-    }
-    Ok(())
+/// The counts of this name.
+fn counts(alloc: Global, written: &str, name: &str) -> Result<Counts, AllocError> {
+    Ok(Counts::of(numbers(alloc, part(written, name))?))
 }
 
-#[test]
-fn plans_are_those_worked_by_hand(rt: HostRuntime) -> Result<(), Fail> {
-    let rows = [
-        (
-            "a ramp, a repeat of two, and arrays of three",
-            Case {
-                sources: &[Source::Output(0, 0), Source::Output(1, 0)],
-                places: &[0, 1, 1],
-                needs: &[1, 3],
-                ports: &[1, 1, 1],
-                rates: &[1, 2, 1],
-                first: &[0, 0],
-                inputs: 0,
-                outputs: 0,
-            },
-            Want {
-                repetitions: &[3, 3, 2],
-                takes: &[],
-                gives: &[],
-                order: &[0, 1, 0, 1, 2, 0, 1, 2],
-                room: &[1, 4],
-            },
-        ),
-        (
-            "a sum of its own delayed output and a constant",
-            Case {
-                sources: &[
-                    Source::Output(1, 0),
-                    Source::Output(2, 0),
-                    Source::Output(0, 0),
-                ],
-                places: &[2, 1, 0],
-                needs: &[1, 1, 1],
-                ports: &[1, 1, 1],
-                rates: &[1, 1, 1],
-                first: &[1, 0, 0],
-                inputs: 0,
-                outputs: 0,
-            },
-            Want {
-                repetitions: &[1, 1, 1],
-                takes: &[],
-                gives: &[],
-                order: &[2, 0, 1],
-                room: &[1, 1, 1],
-            },
-        ),
-        (
-            "arrays of two between own ports, with a first token behind them",
-            Case {
-                sources: &[Source::Own(0), Source::Output(0, 0)],
-                places: &[1],
-                needs: &[2],
-                ports: &[1],
-                rates: &[1],
-                first: &[0, 1],
-                inputs: 1,
-                outputs: 1,
-            },
-            Want {
-                repetitions: &[1],
-                takes: &[2],
-                gives: &[1],
-                order: &[0],
-                room: &[2, 2],
-            },
-        ),
-        (
-            "no channels",
-            Case {
-                sources: &[],
-                places: &[0, 0],
-                needs: &[],
-                ports: &[1, 0],
-                rates: &[5],
-                first: &[],
-                inputs: 1,
-                outputs: 0,
-            },
-            Want {
-                repetitions: &[1, 1],
-                takes: &[1],
-                gives: &[],
-                order: &[0, 1],
-                room: &[],
-            },
-        ),
-        (
-            "two parts",
-            Case {
-                sources: &[Source::Output(0, 0), Source::Output(2, 0)],
-                places: &[0, 1, 0, 1],
-                needs: &[1, 3],
-                ports: &[1, 0, 1, 0],
-                rates: &[2, 1],
-                first: &[0, 0],
-                inputs: 0,
-                outputs: 0,
-            },
-            Want {
-                repetitions: &[1, 2, 3, 1],
-                takes: &[],
-                gives: &[],
-                order: &[0, 1, 1, 2, 2, 2, 3],
-                room: &[2, 3],
-            },
-        ),
-    ];
-    for (name, case, want) in &rows {
-        assert_plan(&rt, rt.alloc(), name, case, want)?;
+/// The rates of the ports of each child, between slashes.
+fn rates(alloc: Global, written: &str) -> Result<Vec<Counts>, AllocError> {
+    let mut rates = Vec::new(alloc);
+    if written.is_empty() {
+        return Ok(rates);
     }
-    Ok(())
+    for row in written.split('/') {
+        rates.push(Counts::of(numbers(alloc, row)?))?;
+    }
+    Ok(rates)
 }
 
-#[test]
-fn what_has_no_plan_is_told(rt: HostRuntime) -> Result<(), Fail> {
-    let rows = [
-        (
-            "a sum of a ramp and of the ramp repeated twice",
-            Case {
-                sources: &[
-                    Source::Output(1, 0),
-                    Source::Output(2, 0),
-                    Source::Output(1, 0),
-                ],
-                places: &[2, 0, 1],
-                needs: &[1, 1, 1],
-                ports: &[1, 1, 1],
-                rates: &[1, 1, 2],
-                first: &[0, 0, 0],
-                inputs: 0,
-                outputs: 0,
-            },
-            PlanFault::Rates,
-        ),
-        (
-            "a sum of its own output",
-            Case {
-                sources: &[Source::Output(0, 0)],
-                places: &[1],
-                needs: &[1],
-                ports: &[1],
-                rates: &[1],
-                first: &[0],
-                inputs: 0,
-                outputs: 0,
-            },
-            PlanFault::Deadlock,
-        ),
-        (
-            "999,983 firings each of the first two, and 999,979 of the last",
-            Case {
-                sources: &[Source::Output(0, 0), Source::Output(1, 0)],
-                places: &[0, 1, 1],
-                needs: &[1, 999_983],
-                ports: &[1, 1, 1],
-                rates: &[1, 999_979, 1],
-                first: &[0, 0],
-                inputs: 0,
-                outputs: 0,
-            },
-            PlanFault::Limit,
-        ),
-        (
-            "two firings put a million tokens each",
-            Case {
-                sources: &[Source::Output(2, 0), Source::Output(0, 0)],
-                places: &[1, 1, 0],
-                needs: &[1, 1_000_000],
-                ports: &[1, 0, 1],
-                rates: &[1_000_000, 2],
-                first: &[0, 0],
-                inputs: 0,
-                outputs: 0,
-            },
-            PlanFault::Limit,
-        ),
-        (
-            "more own ports than an iteration has firings",
-            Case {
-                sources: &[],
-                places: &[],
-                needs: &[],
-                ports: &[],
-                rates: &[],
-                first: &[],
-                inputs: 1_000_001,
-                outputs: 0,
-            },
-            PlanFault::Limit,
-        ),
-    ];
-    for (name, case, fault) in &rows {
-        assert_fault(&rt, rt.alloc(), name, case, *fault)?;
+/// Where a channel begins: `1.0` at the child 1 and its output 0, `0` at the own input 0.
+fn source(word: &str) -> Source {
+    match word.split_once('.') {
+        Some((child, output)) => Source::Output(small(child), small(output)),
+        None => Source::Own(small(word)),
     }
-    Ok(())
+}
+
+fn sources(alloc: Global, written: &str) -> Result<Vec<Source>, AllocError> {
+    let mut sources = Vec::new(alloc);
+    for word in written.split_whitespace() {
+        sources.push(source(word))?;
+    }
+    Ok(sources)
+}
+
+/// The places and the needs of the children, and the first tokens of the channels.
+#[derive(Drop)]
+struct Counted {
+    places: Counts,
+    needs: Counts,
+    first: Counts,
+}
+
+fn counted_of(alloc: Global, written: &str) -> Result<Counted, AllocError> {
+    Ok(Counted {
+        places: counts(alloc, written, "places")?,
+        needs: counts(alloc, written, "needs")?,
+        first: counts(alloc, written, "first")?,
+    })
+}
+
+fn inside(alloc: Global, written: &str) -> Result<Inside, AllocError> {
+    let sources = sources(alloc, part(written, "sources"))?;
+    let rates = rates(alloc, part(written, "rates"))?;
+    let Counted {
+        places,
+        needs,
+        first,
+    } = counted_of(alloc, written)?;
+    Ok(Inside {
+        sources,
+        places,
+        needs,
+        rates,
+        first,
+        inputs: small(part(written, "inputs")),
+        outputs: small(part(written, "outputs")),
+    })
+}
+
+fn show(alloc: Global, name: &str, counts: &[usize], out: &mut Vec<u8>) -> Result<(), AllocError> {
+    put(out, &format!(in alloc; "{name} {counts:?}")?)
+}
+
+fn show_plan(alloc: Global, plan: &CorePlan, out: &mut Vec<u8>) -> Result<(), AllocError> {
+    show(alloc, "repetitions", plan.repetitions.as_slice(), out)?;
+    show(alloc, ", takes", plan.takes.as_slice(), out)?;
+    show(alloc, ", gives", plan.gives.as_slice(), out)?;
+    let order = plan.order.as_slice();
+    put(out, &format!(in alloc; ", order {order:?}")?)?;
+    show(alloc, ", room", plan.room.as_slice(), out)
+}
+
+fn tell(alloc: Global, inside: Inside, out: &mut Vec<u8>) -> Result<(), AllocError> {
+    if !inside.is_well_formed() {
+        return put(out, "not well formed");
+    }
+    match plan(alloc, inside) {
+        Ok(plan) => show_plan(alloc, &plan, out),
+        Err(fault) => put(out, &format!(in alloc; "{fault:?}")?),
+    }
 }

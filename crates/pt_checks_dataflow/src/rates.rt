@@ -1,93 +1,122 @@
-use pt_rates::{Edge, RatesFault, are_channels, solve};
-use std::alloc::Global;
-use std::process::Abort;
-use std::test::Fail;
+use crate::written::{natural, small};
+use pt_rates::{Edge, are_channels, solve};
+use pt_sched::{Plan, SchedEdge, SchedFault, schedule};
+use pt_table::{Answers, put};
+use std::alloc::{AllocError, Global};
+use std::str::SplitWhitespace;
 
-fn edge(from: u32, produced: u64, to: u32, consumed: u64) -> Edge {
-    Edge {
-        from,
-        produced,
-        to,
-        consumed,
+/// The questions about rates and schedules: how many nodes there are, and the balance equations of the channels.
+pub struct Rates;
+
+impl Answers for Rates {
+    fn answer(
+        &self,
+        alloc: Global,
+        section: &str,
+        question: &str,
+        out: &mut Vec<u8>,
+    ) -> Result<(), AllocError> {
+        let (count, equations) = question.split_once(':').unwrap_or((question, ""));
+        let channels = channels(alloc, equations)?;
+        match section {
+            "rates" => tell_rates(alloc, small(count), &edges(alloc, &channels)?, out),
+            "schedules" => tell_schedule(alloc, small(count), &channels, out),
+            _ => put(out, "no such section"),
+        }
     }
 }
 
-fn solved(rt: &impl Abort, alloc: Global, n: u32, edges: &[Edge]) -> Result<Vec<u64>, RatesFault> {
-    assert!(rt; are_channels(n, edges));
-    solve(alloc, n, edges)
+/// The next word, where it is a number, and behind it a sign is left out.
+fn next(words: &mut SplitWhitespace<'_>) -> u64 {
+    let number = natural(words.next().unwrap_or("0"));
+    words.next();
+    number
 }
 
-#[test]
-fn a_chain_fires_by_its_rates(rt: HostRuntime) -> Result<(), Fail> {
-    // A ramp, a repeat of two, and arrays of three.
-    let q = solved(&rt, rt.alloc(), 3, &[edge(0, 1, 1, 1), edge(1, 2, 2, 3)])?;
-    assert_eq!(rt; q.as_slice(), [3, 3, 2].as_slice());
-    // From the samples of a compact disc to those of a digital tape, in five stages.
-    let stages = [
-        edge(0, 1, 1, 1),
-        edge(1, 2, 2, 3),
-        edge(2, 2, 3, 7),
-        edge(3, 8, 4, 7),
-        edge(4, 5, 5, 1),
-    ];
-    let q = solved(&rt, rt.alloc(), 6, &stages)?;
-    assert_eq!(rt; q.as_slice(), [147, 147, 98, 28, 32, 160].as_slice());
-    Ok(())
-}
-
-#[test]
-fn each_part_has_its_own_least_solution(rt: HostRuntime) -> Result<(), Fail> {
-    let q = solved(
-        &rt,
-        rt.alloc(),
-        6,
-        &[edge(4, 2, 0, 1), edge(3, 6, 5, 4), edge(1, 1, 1, 1)],
-    )?;
-    assert_eq!(rt; q.as_slice(), [2, 1, 1, 2, 1, 3].as_slice());
-    let q = solved(&rt, rt.alloc(), 0, &[])?;
-    assert_eq!(rt; q.len(), 0);
-    Ok(())
-}
-
-fn assert_fault(rt: &impl Abort, answer: Result<Vec<u64>, RatesFault>, fault: RatesFault) {
-    match answer {
-        Ok(_) => assert!(rt; false, "no {fault:?}"),
-        Err(met) => assert_eq!(rt; met, fault),
+/// A channel by its equation, with its first tokens: `0 * 1 = 1 * 1 + 2`.
+fn channel(equation: &str) -> SchedEdge {
+    let mut words = equation.split_whitespace();
+    let from = next(&mut words);
+    let produced = next(&mut words);
+    let to = next(&mut words);
+    let consumed = next(&mut words);
+    SchedEdge {
+        edge: Edge {
+            from: u32::try_from(from).unwrap_or(u32::MAX),
+            produced,
+            to: u32::try_from(to).unwrap_or(u32::MAX),
+            consumed,
+        },
+        initial: next(&mut words),
     }
 }
 
-#[test]
-fn what_has_no_solution_is_told(rt: HostRuntime) -> Result<(), Fail> {
-    // A ramp feeds a sum at once, and by way of a repeat of two.
-    let edges = [edge(0, 1, 1, 1), edge(0, 1, 2, 1), edge(2, 2, 1, 1)];
-    assert_fault(
-        &rt,
-        solved(&rt, rt.alloc(), 3, &edges),
-        RatesFault::Inconsistent(2),
-    );
-    assert_fault(
-        &rt,
-        solved(&rt, rt.alloc(), 1, &[edge(0, 2, 0, 1)]),
-        RatesFault::Inconsistent(0),
-    );
-    // 999,983 firings each of the first two, and 999,979 of the last.
-    let edges = [edge(0, 1, 1, 1), edge(1, 999_979, 2, 999_983)];
-    assert_fault(
-        &rt,
-        solved(&rt, rt.alloc(), 3, &edges),
-        RatesFault::Sum(2_999_945),
-    );
-    assert_fault(
-        &rt,
-        solved(&rt, rt.alloc(), 1_000_001, &[]),
-        RatesFault::Sum(1_000_001),
-    );
-    // Two firings put a million tokens each.
-    let edges = [edge(2, 2, 0, 1), edge(0, 1_000_000, 1, 1_000_000)];
-    assert_fault(
-        &rt,
-        solved(&rt, rt.alloc(), 3, &edges),
-        RatesFault::Tokens(1),
-    );
-    Ok(())
+fn channels(alloc: Global, equations: &str) -> Result<Vec<SchedEdge>, AllocError> {
+    let mut channels = Vec::new(alloc);
+    for equation in equations.split(", ") {
+        if !equation.trim().is_empty() {
+            channels.push(channel(equation))?;
+        }
+    }
+    Ok(channels)
+}
+
+fn edges(alloc: Global, channels: &[SchedEdge]) -> Result<Vec<Edge>, AllocError> {
+    let mut edges = Vec::new(alloc);
+    for channel in channels {
+        edges.push(channel.edge)?;
+    }
+    Ok(edges)
+}
+
+/// The repetition vector, or why there is none.
+fn tell_rates(
+    alloc: Global,
+    count: u32,
+    edges: &[Edge],
+    out: &mut Vec<u8>,
+) -> Result<(), AllocError> {
+    if !are_channels(count, edges) {
+        return put(out, "no channels");
+    }
+    let text = match solve(alloc, count, edges) {
+        Ok(q) => format!(in alloc; "{q:?}"),
+        Err(fault) => format!(in alloc; "{fault:?}"),
+    };
+    put(out, &text?)
+}
+
+/// The schedule by the repetition vector, if there is one.
+fn scheduled(
+    alloc: Global,
+    count: u32,
+    channels: &[SchedEdge],
+    edges: &[Edge],
+) -> Option<Result<Plan, SchedFault>> {
+    if !are_channels(count, edges) || !pt_sched::are_channels(count, channels) {
+        return None;
+    }
+    match solve(alloc, count, edges) {
+        Ok(q) if q.len() == count as usize => Some(schedule(alloc, count, channels, &q)),
+        _ => None,
+    }
+}
+
+/// The order and the greatest lengths of the channels, or why there is none.
+fn tell_schedule(
+    alloc: Global,
+    count: u32,
+    channels: &[SchedEdge],
+    out: &mut Vec<u8>,
+) -> Result<(), AllocError> {
+    let edges = edges(alloc, channels)?;
+    tell_rates(alloc, count, &edges, out)?;
+    let text = match scheduled(alloc, count, channels, &edges) {
+        Some(Ok(Plan { order, lengths })) => format!(in alloc;
+            " in the order {order:?} with {lengths:?}"
+        ),
+        Some(Err(fault)) => format!(in alloc; " {fault:?}"),
+        None => return put(out, " not scheduled"),
+    };
+    put(out, &text?)
 }

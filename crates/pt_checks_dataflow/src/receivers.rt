@@ -1,133 +1,311 @@
+ghost use Rattle.std.specs.Prelude.{◌≡◌, ◌<◌, length};
+
+use crate::written::{integer, size, small, token};
 use pt_recv::{Channels, Queue};
-use pt_value::Token;
-use std::test::Fail;
+use pt_table::{Answers, put, put_number};
+use pt_value::{Token, print};
+use std::alloc::{AllocError, Global};
 
-#[test]
-fn a_copy_of_a_queue_gives_its_tokens_in_order(rt: HostRuntime) -> Result<(), Fail> {
-    let mut queue = Queue::new(rt.alloc());
-    queue.reserve(2)?;
-    for number in [4, 7] {
-        assert!(rt; queue.put(Token::Int(number)).is_ok());
+/// The questions about queues and channels: scripts of calls, each of which has its answer behind a `=` where it gives one.
+pub struct Receivers;
+
+impl Answers for Receivers {
+    fn answer(
+        &self,
+        alloc: Global,
+        section: &str,
+        question: &str,
+        out: &mut Vec<u8>,
+    ) -> Result<(), AllocError> {
+        match section {
+            "a queue" => run_queue(alloc, question, out),
+            "one channel" => run(alloc, &mut Channels::new(alloc, 1)?, 1, question, out),
+            "two channels" => run(alloc, &mut Channels::new(alloc, 2)?, 2, question, out),
+            _ => put(out, "no such section"),
+        }
     }
-    let mut copy = queue.copy(rt.alloc())?;
-    assert_eq!(rt; copy.len(), 2);
-    assert!(rt;
-        copy.take()
-            .map_or(false, |token| token.same(&Token::Int(4)))
-    );
-    assert!(rt;
-        copy.take()
-            .map_or(false, |token| token.same(&Token::Int(7)))
-    );
-    assert!(rt; copy.take().is_none());
+}
+
+/// The call of a part of a script, without the answer; what is written begins like it.
+fn call<'s>(part: &'s str, out: &mut Vec<u8>) -> Result<&'s str, AllocError> {
+    let (call, _) = part.split_once(" = ").unwrap_or((part, ""));
+    put(out, if out.is_empty() { "" } else { ", " })?;
+    put(out, call)?;
+    Ok(call)
+}
+
+fn tell(answer: &str, out: &mut Vec<u8>) -> Result<(), AllocError> {
+    put(out, " = ")?;
+    put(out, answer)
+}
+
+fn tell_whether(answer: bool, out: &mut Vec<u8>) -> Result<(), AllocError> {
+    tell(if answer { "yes" } else { "no" }, out)
+}
+
+fn tell_count(alloc: Global, count: usize, out: &mut Vec<u8>) -> Result<(), AllocError> {
+    put(out, " = ")?;
+    put_number(alloc, out, count as i128)
+}
+
+fn tell_token(taken: Option<Token>, out: &mut Vec<u8>) -> Result<(), AllocError> {
+    match taken {
+        Some(token) => {
+            put(out, " = ")?;
+            print(&token, out)
+        }
+        None => tell("none", out),
+    }
+}
+
+fn tell_number(alloc: Global, taken: Option<i64>, out: &mut Vec<u8>) -> Result<(), AllocError> {
+    match taken {
+        Some(number) => {
+            put(out, " = ")?;
+            put_number(alloc, out, i128::from(number))
+        }
+        None => tell("none", out),
+    }
+}
+
+fn copy_queue(alloc: Global, queue: &mut Queue) -> Result<(), AllocError> {
+    let copy = queue.copy(alloc)?;
+    *queue = copy;
     Ok(())
 }
 
-#[test]
-fn two_channels_keep_their_tokens_apart(rt: HostRuntime) -> Result<(), Fail> {
-    let mut channels = Channels::new(rt.alloc(), 2)?;
-    channels.ready(0, 1)?;
-    channels.ready(1, 1)?;
-    channels.put(0, Token::Int(4));
-    channels.put(1, Token::Bool(true));
-    let mut copy = channels.copy(rt.alloc())?;
-    assert_eq!(rt; copy.spare(1), 0);
-    assert!(rt;
-        copy.take(1)
-            .map_or(false, |token| token.same(&Token::Bool(true)))
-    );
-    assert_eq!(rt; copy.spare(1), 1);
-    assert_eq!(rt; copy.len(0), 1);
+fn act_on_queue(
+    alloc: Global,
+    queue: &mut Queue,
+    call: &str,
+    out: &mut Vec<u8>,
+) -> Result<(), AllocError> {
+    let (name, word) = call.split_once(' ').unwrap_or((call, ""));
+    match name {
+        "reserve" => queue.reserve(size(word)),
+        "put" => tell_whether(queue.put(token(alloc, word)?).is_ok(), out),
+        "take" => tell_token(queue.take(), out),
+        "len" => tell_count(alloc, queue.len(), out),
+        "copy" => copy_queue(alloc, queue),
+        _ => tell("no such call", out),
+    }
+}
+
+fn run_queue(alloc: Global, script: &str, out: &mut Vec<u8>) -> Result<(), AllocError> {
+    let mut queue = Queue::new(alloc);
+    for part in script.split(", ") {
+        let call = call(part, out)?;
+        act_on_queue(alloc, &mut queue, call, out)?;
+    }
     Ok(())
 }
 
-#[test]
-fn a_channel_gives_its_tokens_in_the_order_of_the_puts(rt: HostRuntime) -> Result<(), Fail> {
-    let mut channels = Channels::new(rt.alloc(), 2)?;
-    channels.ready(0, 3)?;
-    channels.put_number(0, 4);
-    channels.put(0, Token::Bool(true));
-    channels.put_number(0, 7);
-    assert_eq!(rt; channels.len(0), 3);
-    assert_eq!(rt; channels.spare(0), 0);
-    assert_eq!(rt; channels.take_number(0), Some(4));
-    assert!(rt;
-        channels
-            .take(0)
-            .map_or(false, |token| token.same(&Token::Bool(true)))
-    );
-    assert!(rt;
-        channels
-            .take(0)
-            .map_or(false, |token| token.same(&Token::Int(7)))
-    );
-    assert_eq!(rt; channels.take_number(0), None);
-    assert!(rt; channels.take(0).is_none());
-    assert_eq!(rt; channels.spare(0), 3);
+fn numbers(alloc: Global, written: &str) -> Result<Vec<i64>, AllocError> {
+    let mut numbers = Vec::new(alloc);
+    for word in written.split_whitespace() {
+        numbers.push(integer(word))?;
+    }
+    Ok(numbers)
+}
+
+fn put_token(
+    alloc: Global,
+    channels: &mut Channels,
+    c: u32,
+    word: &str,
+    out: &mut Vec<u8>,
+) -> Result<(), AllocError>
+    requires given { c < length channels.old.lists }
+    ensures counted { length channels.new.lists ≡ length channels.old.lists }
+{
+    let token = token(alloc, word)?;
+    if channels.spare(c) == 0 {
+        return tell("no spare", out);
+    }
+    channels.put(c, token);
     Ok(())
 }
 
-#[test]
-fn integers_on_both_sides_of_a_bool_are_put_and_skipped(rt: HostRuntime) -> Result<(), Fail> {
-    let mut channels = Channels::new(rt.alloc(), 1)?;
-    channels.ready(0, 6)?;
-    channels.put_numbers(0, [4, 7, 9].as_slice());
-    channels.put(0, Token::Bool(true));
-    channels.put_numbers(0, [2, 5].as_slice());
-    assert_eq!(rt; channels.len(0), 6);
-    assert_eq!(rt; channels.spare(0), 0);
-    assert_eq!(rt; channels.numbers(0), [4, 7, 9].as_slice());
-    channels.skip(0, 2);
-    assert_eq!(rt; channels.numbers(0), [9].as_slice());
-    assert_eq!(rt; channels.spare(0), 2);
-    channels.skip(0, 2);
-    assert_eq!(rt; channels.len(0), 2);
-    assert_eq!(rt; channels.take_number(0), Some(2));
-    assert_eq!(rt; channels.take_number(0), Some(5));
-    assert_eq!(rt; channels.spare(0), 6);
-    channels.put_numbers(0, [1, 3].as_slice());
-    assert_eq!(rt; channels.numbers(0), [1, 3].as_slice());
+fn put_one(channels: &mut Channels, c: u32, word: &str, out: &mut Vec<u8>) -> Result<(), AllocError>
+    requires given { c < length channels.old.lists }
+    ensures counted { length channels.new.lists ≡ length channels.old.lists }
+{
+    if channels.spare(c) == 0 {
+        return tell("no spare", out);
+    }
+    channels.put_number(c, integer(word));
     Ok(())
 }
 
-#[test]
-fn numbers_are_put_at_once_or_not_at_all(rt: HostRuntime) -> Result<(), Fail> {
-    let mut channels = Channels::new(rt.alloc(), 1)?;
-    assert!(rt; !channels.push_number(0, 4));
-    channels.ready(0, 3)?;
-    assert!(rt; channels.push_number(0, 4));
-    assert!(rt; !channels.push_numbers(0, [7, 9, 2].as_slice()));
-    assert!(rt; channels.push_numbers(0, [7, 9].as_slice()));
-    assert!(rt; !channels.push_number(0, 1));
-    assert_eq!(rt; channels.numbers(0), [4, 7, 9].as_slice());
-    assert_eq!(rt; channels.take_number(0), Some(4));
-    channels.put(0, Token::Bool(true));
-    assert_eq!(rt; channels.take_number(0), Some(7));
-    assert_eq!(rt; channels.spare(0), 1);
-    // The region has a token of the channel.
-    assert!(rt; !channels.push_number(0, 1));
+fn put_all(
+    alloc: Global,
+    channels: &mut Channels,
+    c: u32,
+    written: &str,
+    out: &mut Vec<u8>,
+) -> Result<(), AllocError>
+    requires given { c < length channels.old.lists }
+    ensures counted { length channels.new.lists ≡ length channels.old.lists }
+{
+    let numbers = numbers(alloc, written)?;
+    if channels.spare(c) < numbers.len() {
+        return tell("no spare", out);
+    }
+    channels.put_numbers(c, &numbers);
     Ok(())
 }
 
-#[test]
-fn a_front_moves_behind_the_other_tokens(rt: HostRuntime) -> Result<(), Fail> {
-    let mut channels = Channels::new(rt.alloc(), 2)?;
-    channels.ready(0, 3)?;
-    channels.put(0, Token::Int(4));
-    channels.put(0, Token::Int(7));
-    channels.move_front(0, 0);
-    channels.ready(1, 1)?;
-    channels.move_front(0, 1);
-    assert_eq!(rt; channels.len(0), 1);
-    assert!(rt;
-        channels
-            .take(0)
-            .map_or(false, |token| token.same(&Token::Int(4)))
-    );
-    assert!(rt;
-        channels
-            .take(1)
-            .map_or(false, |token| token.same(&Token::Int(7)))
-    );
+fn push_all(
+    alloc: Global,
+    channels: &mut Channels,
+    c: u32,
+    written: &str,
+    out: &mut Vec<u8>,
+) -> Result<(), AllocError>
+    requires given { c < length channels.old.lists }
+    ensures counted { length channels.new.lists ≡ length channels.old.lists }
+{
+    let numbers = numbers(alloc, written)?;
+    tell_whether(channels.push_numbers(c, &numbers), out)
+}
+
+fn skip(channels: &mut Channels, c: u32, count: usize, out: &mut Vec<u8>) -> Result<(), AllocError>
+    requires given { c < length channels.old.lists }
+    ensures counted { length channels.new.lists ≡ length channels.old.lists }
+{
+    if channels.len(c) < count {
+        return tell("too few", out);
+    }
+    channels.skip(c, count);
+    Ok(())
+}
+
+fn move_front(
+    channels: &mut Channels,
+    count: u32,
+    from: u32,
+    to: u32,
+    out: &mut Vec<u8>,
+) -> Result<(), AllocError>
+    requires counted { length channels.old.lists ≡ count }
+    requires given { from < count }
+    ensures counted { length channels.new.lists ≡ count }
+{
+    if to >= count || channels.len(from) == 0 || channels.spare(to) == 0 {
+        return tell("no move", out);
+    }
+    channels.move_front(from, to);
+    Ok(())
+}
+
+fn tell_numbers(
+    alloc: Global,
+    channels: &Channels,
+    c: u32,
+    out: &mut Vec<u8>,
+) -> Result<(), AllocError>
+    requires given { c < length channels.now.lists }
+{
+    put(out, " =")?;
+    for number in channels.numbers(c) {
+        put(out, " ")?;
+        put_number(alloc, out, i128::from(*number))?;
+    }
+    Ok(())
+}
+
+/// The calls that put tokens.
+fn act_in(
+    alloc: Global,
+    channels: &mut Channels,
+    c: u32,
+    name: &str,
+    rest: &str,
+    out: &mut Vec<u8>,
+) -> Result<(), AllocError>
+    requires given { c < length channels.old.lists }
+    ensures counted { length channels.new.lists ≡ length channels.old.lists }
+{
+    match name {
+        "ready" => channels.ready(c, size(rest)),
+        "put" => put_token(alloc, channels, c, rest, out),
+        "put_number" => put_one(channels, c, rest, out),
+        "put_numbers" => put_all(alloc, channels, c, rest, out),
+        "push_number" => tell_whether(channels.push_number(c, integer(rest)), out),
+        "push_numbers" => push_all(alloc, channels, c, rest, out),
+        _ => tell("no such call", out),
+    }
+}
+
+/// The calls that take tokens or look at them, and the others.
+fn act(
+    alloc: Global,
+    channels: &mut Channels,
+    c: u32,
+    name: &str,
+    rest: &str,
+    out: &mut Vec<u8>,
+) -> Result<(), AllocError>
+    requires given { c < length channels.old.lists }
+    ensures counted { length channels.new.lists ≡ length channels.old.lists }
+{
+    match name {
+        "take" => tell_token(channels.take(c), out),
+        "take_number" => tell_number(alloc, channels.take_number(c), out),
+        "skip" => skip(channels, c, size(rest), out),
+        "len" => tell_count(alloc, channels.len(c), out),
+        "spare" => tell_count(alloc, channels.spare(c), out),
+        "numbers" => tell_numbers(alloc, channels, c, out),
+        _ => act_in(alloc, channels, c, name, rest, out),
+    }
+}
+
+fn copy(alloc: Global, channels: &mut Channels) -> Result<(), AllocError>
+    ensures counted { length channels.new.lists ≡ length channels.old.lists }
+{
+    let copy = channels.copy(alloc)?;
+    *channels = copy;
+    Ok(())
+}
+
+/// A call on one of so many channels: its name, the channel, and what else it takes.
+fn act_on(
+    alloc: Global,
+    channels: &mut Channels,
+    count: u32,
+    call: &str,
+    out: &mut Vec<u8>,
+) -> Result<(), AllocError>
+    requires counted { length channels.old.lists ≡ count }
+    ensures counted { length channels.new.lists ≡ count }
+{
+    if call == "copy" {
+        return copy(alloc, channels);
+    }
+    let (name, rest) = call.split_once(' ').unwrap_or((call, ""));
+    let (number, rest) = rest.split_once(' ').unwrap_or((rest, ""));
+    let c = small(number);
+    if c >= count {
+        tell("no such channel", out)
+    } else if name == "move_front" {
+        move_front(channels, count, c, small(rest), out)
+    } else {
+        act(alloc, channels, c, name, rest, out)
+    }
+}
+
+fn run(
+    alloc: Global,
+    channels: &mut Channels,
+    count: u32,
+    script: &str,
+    out: &mut Vec<u8>,
+) -> Result<(), AllocError>
+    requires counted { length channels.old.lists ≡ count }
+{
+    for part in script.split(", ") {
+        let call = call(part, out)?;
+        act_on(alloc, channels, count, call, out)?;
+    }
     Ok(())
 }

@@ -1,49 +1,54 @@
+use crate::written::{natural, small};
+use pt_table::{Answers, put, put_number};
 use pt_time::{Tag, after, clamp, local, outer};
+use std::alloc::{AllocError, Global};
 
-const fn tag(time: u64, step: u32) -> Tag {
-    Tag { time, step }
-}
+/// The questions about tags, each written as its time and its microstep: `3.5`.
+pub struct Tags;
 
-#[test]
-fn a_zero_delay_is_the_next_microstep(rt: HostRuntime) {
-    let cases = [
-        (tag(0, 0), 0, Some(tag(0, 1))),
-        (tag(3, 5), 0, Some(tag(3, 6))),
-        (tag(3, 5), 2, Some(tag(5, 0))),
-        (tag(0, 2_147_483_647), 0, Some(tag(0, 2_147_483_648))),
-        (tag(0, 2_147_483_648), 0, None),
-        (tag(0, 2_147_483_648), 1, Some(tag(1, 0))),
-        (
-            tag(0, 0),
-            4_611_686_018_427_387_904,
-            Some(tag(4_611_686_018_427_387_904, 0)),
-        ),
-        (tag(1, 0), 4_611_686_018_427_387_904, None),
-        (tag(1, 0), 18_446_744_073_709_551_615, None),
-    ];
-    for (from, delay, later) in cases {
-        assert_eq!(rt; after(from, delay), later, "{delay} after {from:?}");
+impl Answers for Tags {
+    fn answer(
+        &self,
+        alloc: Global,
+        section: &str,
+        question: &str,
+        out: &mut Vec<u8>,
+    ) -> Result<(), AllocError> {
+        let (first, second) = question.split_once(", ").unwrap_or((question, ""));
+        let from = tag(first);
+        let found = match section {
+            "after" => after(from, natural(second)),
+            "local" => inside(from, natural(second)),
+            "outer" => outer(from, natural(second)),
+            "clamp" => clamp(from, tag(second)),
+            _ => None,
+        };
+        match found {
+            Some(tag) => show(alloc, tag, out),
+            None => put(out, "none"),
+        }
     }
 }
 
-#[test]
-fn a_lag_is_taken_off_inside_and_added_outside(rt: HostRuntime) {
-    assert_eq!(rt; local(Tag { time: 7, step: 2 }, 3), tag(4, 2));
-    assert_eq!(rt; outer(tag(4, 2), 3), Some(tag(7, 2)));
-    assert_eq!(rt; outer(tag(1, 0), 4_611_686_018_427_387_904), None);
+fn tag(written: &str) -> Tag {
+    let (time, step) = written.split_once('.').unwrap_or((written, ""));
+    Tag {
+        time: natural(time),
+        step: small(step),
+    }
 }
 
-#[test]
-fn the_next_tag_is_one_microstep_after_the_last_at_least(rt: HostRuntime) {
-    let cases = [
-        (tag(5, 0), tag(4, 9), Some(tag(5, 0))),
-        (tag(5, 3), tag(5, 2), Some(tag(5, 3))),
-        (tag(5, 2), tag(5, 2), Some(tag(5, 3))),
-        (tag(0, 0), tag(5, 2), Some(tag(5, 3))),
-        (tag(0, 0), tag(5, 2_147_483_648), None),
-        (tag(6, 0), tag(5, 2_147_483_648), Some(tag(6, 0))),
-    ];
-    for (next, last, clamped) in cases {
-        assert_eq!(rt; clamp(next, last), clamped, "{next:?} and {last:?}");
+/// The tag within a refinement, which lags by no more than the time.
+fn inside(from: Tag, lag: u64) -> Option<Tag> {
+    if lag <= from.time {
+        Some(local(from, lag))
+    } else {
+        None
     }
+}
+
+fn show(alloc: Global, tag: Tag, out: &mut Vec<u8>) -> Result<(), AllocError> {
+    put_number(alloc, out, i128::from(tag.time))?;
+    put(out, ".")?;
+    put_number(alloc, out, i128::from(tag.step))
 }

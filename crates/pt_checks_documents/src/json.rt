@@ -1,5 +1,29 @@
 use pt_json::{Scratch, Unread, Value, read};
-use std::alloc::Global;
+use pt_table::{Answers, put, put_number};
+use std::alloc::{AllocError, Global};
+
+/// The questions about bytes of JSON.
+pub struct Json;
+
+impl Answers for Json {
+    fn answer(
+        &self,
+        alloc: Global,
+        section: &str,
+        question: &str,
+        out: &mut Vec<u8>,
+    ) -> Result<(), AllocError> {
+        match section {
+            "whole number at a" => match whole_at_a(alloc, question.as_bytes()) {
+                Some(number) => put_number(alloc, out, i128::from(number)),
+                None => put(out, "none"),
+            },
+            "JSON" => put(out, kind(alloc, question.as_bytes())),
+            "one byte of JSON" => put(out, kind(alloc, &[byte(question)])),
+            _ => put(out, "no such section"),
+        }
+    }
+}
 
 /// The whole number at the member `a`.
 fn whole_at_a(alloc: Global, bytes: &[u8]) -> Option<u64> {
@@ -10,27 +34,17 @@ fn whole_at_a(alloc: Global, bytes: &[u8]) -> Option<u64> {
     }
 }
 
-fn is_no_json(alloc: Global, bytes: &[u8]) -> bool {
+/// Whether bytes are JSON.
+fn kind(alloc: Global, bytes: &[u8]) -> &'static str {
     let mut scratch = Scratch::new(alloc);
-    matches!(read(alloc, bytes, &mut scratch), Err(Unread::NoJson))
-}
-
-#[test]
-fn the_last_of_equal_names_counts(rt: HostRuntime) {
-    for (text, number) in [
-        ("{\"a\": 1, \"b\": 2, \"\\u0061\": 3}", Some(3)),
-        ("{\"b\": {\"a\": 1}, \"a\": [[1], {}, -1e3]}", None),
-        ("{\"a\": 18446744073709551615}", Some(u64::MAX)),
-        ("{\"a\": 18446744073709551616}", None),
-    ] {
-        assert!(rt; whole_at_a(rt.alloc(), text.as_bytes()) == number, "{text}");
+    match read(alloc, bytes, &mut scratch) {
+        Ok(_) => "yes",
+        Err(Unread::NoJson) => "no",
+        Err(_) => "not read",
     }
 }
 
-#[test]
-fn what_is_no_json_is_told(rt: HostRuntime) {
-    let alloc = rt.alloc();
-    for bytes in [b"1e999".as_slice(), b"\xff", b"", b"[1 2]", b"{\"a\": 1} 2"] {
-        assert!(rt; is_no_json(alloc, bytes), "{bytes:?}");
-    }
+/// The byte that is written in hexadecimal.
+fn byte(written: &str) -> u8 {
+    u8::from_str_radix(written, 16).unwrap_or(b'0')
 }

@@ -1,134 +1,148 @@
-ghost use Rattle.std.specs.Prelude.{◌≡◌, IfOk};
-ghost use Rattle.pt_expr.specs.Expr.{tree_of};
-ghost use Rattle.pt_expr.specs.Meaning.{value};
-ghost use Rattle.pt_expr.specs.Outcome.{Wrong};
-ghost use Rattle.pt_expr.specs.Scope.{Scope};
-ghost use Rattle.pt_expr.specs.Tree.{Int, Binary, Words, Length};
+ghost use Rattle.pt_expr.specs.Env.{scope_of};
+ghost use Rattle.pt_language.specs.Laws.{Keeps};
+ghost use Rattle.pt_expr_type.specs.TypeEnv.{types_in};
 
-use pt_expr::{BinaryOp, Env, EvalFault, Expr, Exprs, NamedExpr, NamedExprs, eval};
+use crate::parsing::cause;
+use pt_expr::{Env, eval};
+use pt_expr_text::parse;
+use pt_expr_type::{TypeEnv, type_of, typed_trees_are_sound};
+use pt_language::{EvalFault, Expr, Exprs, NamedExpr, NamedExprs};
+use pt_table::{Answers, put, put_number};
 use pt_value::{Text, Token, print};
 use std::alloc::{AllocError, Global};
-use std::test::Fail;
 
-fn printed(alloc: Global, token: &Token) -> Result<Vec<u8>, AllocError> {
-    let mut out = Vec::new(alloc);
-    print(token, &mut out)?;
-    Ok(out)
+/// The questions about the values of expressions.
+pub struct Evaluation;
+
+impl Answers for Evaluation {
+    fn answer(
+        &self,
+        alloc: Global,
+        section: &str,
+        question: &str,
+        out: &mut Vec<u8>,
+    ) -> Result<(), AllocError> {
+        match section {
+            "value" => tell_value(alloc, question, out),
+            "value of the copy" => tell_value_of_copy(alloc, question, out),
+            "bound again" => bind_again(alloc, question, out),
+            "parts" => tell_parts(alloc, question, out),
+            "fields" => tell_fields(alloc, question, out),
+            _ => put(out, "no such section"),
+        }
+    }
 }
 
 /// The text of a value, or of a fault.
-fn shown(alloc: Global, answer: Result<Token, EvalFault>) -> Result<Vec<u8>, AllocError> {
+fn tell(
+    alloc: Global,
+    answer: Result<Token, EvalFault>,
+    out: &mut Vec<u8>,
+) -> Result<(), AllocError> {
     match answer {
-        Ok(token) => printed(alloc, &token),
-        Err(fault) => Ok(fault.to_string(alloc)?.into_bytes()),
+        Ok(token) => print(&token, out),
+        Err(fault) => put(out, &fault.to_string(alloc)?),
+    }
+}
+
+/// What a tree comes to by these names, if it has a type.
+fn value(
+    alloc: Global,
+    tree: &Expr,
+    env: &Env,
+    types: &TypeEnv,
+    out: &mut Vec<u8>,
+) -> Result<(), AllocError>
+    requires keeps { Keeps (types_in types.now) (scope_of env.now) }
+{
+    typed_trees_are_sound();
+    match type_of(alloc, tree, types) {
+        Ok(_) => tell(alloc, eval(alloc, tree, env), out),
+        Err(fault) => put(out, &fault.to_string(alloc)?),
     }
 }
 
 /// What a tree comes to where no name is bound.
-fn comes_to(alloc: Global, tree: Expr) -> Result<Vec<u8>, AllocError>
-    requires right { (scope : Scope) → ¬ (value scope (tree_of tree) ≡ Wrong) }
-{
+fn closed_value(alloc: Global, tree: &Expr, out: &mut Vec<u8>) -> Result<(), AllocError> {
     let env = Env::new(alloc);
-    let answer = eval(alloc, &tree, &env);
-    drop(tree);
-    drop(env);
-    shown(alloc, answer)
+    let types = TypeEnv::new(alloc);
+    value(alloc, tree, &env, &types, out)
 }
 
-/// The same of a copy.
-fn copy_comes_to(alloc: Global, tree: Expr) -> Result<Vec<u8>, AllocError>
-    requires right { (scope : Scope) → ¬ (value scope (tree_of tree) ≡ Wrong) }
-{
+fn tell_value(alloc: Global, text: &str, out: &mut Vec<u8>) -> Result<(), AllocError> {
+    match parse(alloc, text) {
+        Ok(tree) => closed_value(alloc, &tree, out),
+        Err(fault) => put(out, cause(fault)),
+    }
+}
+
+fn closed_value_of_copy(alloc: Global, tree: Expr, out: &mut Vec<u8>) -> Result<(), AllocError> {
     let copy = tree.copy(alloc);
     drop(tree);
-    comes_to(alloc, copy?)
+    closed_value(alloc, &copy?, out)
 }
 
-fn between(alloc: Global, op: BinaryOp, first: i64, second: i64) -> Result<Expr, AllocError>
-    ensures { IfOk result (λ e. tree_of e ≡ Binary op (Int first) (Int second)) }
-{
-    let first = Box::new(alloc, Expr::Int(first))?;
-    let second = Box::new(alloc, Expr::Int(second))?;
-    Ok(Expr::Binary(op, first, second))
-}
-
-#[test]
-fn a_sum_is_evaluated(rt: HostRuntime) -> Result<(), Fail> {
-    let sum = between(rt.alloc(), BinaryOp::Add, 1, 2)?;
-    let out = comes_to(rt.alloc(), sum)?;
-    assert_eq!(rt; out.as_slice(), b"3".as_slice());
-    Ok(())
-}
-
-#[test]
-fn the_copy_of_a_sum_is_evaluated(rt: HostRuntime) -> Result<(), Fail> {
-    let sum = between(rt.alloc(), BinaryOp::Add, 1, 2)?;
-    let out = copy_comes_to(rt.alloc(), sum)?;
-    assert_eq!(rt; out.as_slice(), b"3".as_slice());
-    Ok(())
-}
-
-#[test]
-fn a_zero_divisor_is_a_fault(rt: HostRuntime) -> Result<(), Fail> {
-    let quotient = between(rt.alloc(), BinaryOp::Divide, 1, 0)?;
-    let out = comes_to(rt.alloc(), quotient)?;
-    assert_eq!(rt; out.as_slice(), b"division by zero".as_slice());
-    Ok(())
-}
-
-#[test]
-fn a_name_may_be_bound_again(rt: HostRuntime) -> Result<(), Fail> {
-    let mut env = Env::new(rt.alloc());
-    env.bind("x", Some(Token::Int(5)))?;
-    env.bind("x", None)?;
-    Ok(())
-}
-
-/// The length of a text, as a tree.
-fn length_of(alloc: Global, text: &str) -> Result<Expr, AllocError>
-    ensures { IfOk result (λ e. tree_of e ≡ Length (Words text.now)) }
-{
-    let words = Expr::Words(Text::of(alloc, text)?);
-    Ok(Expr::Length(Box::new(alloc, words)?))
-}
-
-#[test]
-fn a_text_is_as_long_as_its_characters(rt: HostRuntime) -> Result<(), Fail> {
-    for (text, length) in [
-        ("", "0"),
-        ("abc", "3"),
-        ("h\u{e9}", "2"),
-        ("\u{1f642}!", "2"),
-    ] {
-        let tree = length_of(rt.alloc(), text)?;
-        let out = comes_to(rt.alloc(), tree)?;
-        assert!(rt; out.as_slice() == length.as_bytes(), "of {text}");
+fn tell_value_of_copy(alloc: Global, text: &str, out: &mut Vec<u8>) -> Result<(), AllocError> {
+    match parse(alloc, text) {
+        Ok(tree) => closed_value_of_copy(alloc, tree, out),
+        Err(fault) => put(out, cause(fault)),
     }
-    Ok(())
 }
 
-/// An integer and a truth value.
-fn parts(alloc: Global) -> Result<Exprs, AllocError> {
-    Ok(Exprs::of(vec![in alloc; Expr::Int(1), Expr::Bool(true)]?))
+/// Binds a name to a number, and then to nothing, which tells that memory was ample.
+fn bind_again(alloc: Global, name: &str, out: &mut Vec<u8>) -> Result<(), AllocError> {
+    let mut env = Env::new(alloc);
+    env.bind(name, Some(Token::Int(5)))?;
+    env.bind(name, None)?;
+    put(out, "bound")
 }
 
-/// The field `y`, which is a list of those.
-fn fields(alloc: Global) -> Result<NamedExprs, AllocError> {
-    let name = Text::of(alloc, "y")?;
-    let value = Expr::List(parts(alloc)?);
-    Ok(NamedExprs::of(vec![in alloc; NamedExpr { name, value }]?))
+fn literal(word: &str) -> Expr {
+    match word.parse::<i64>() {
+        Ok(number) => Expr::Int(number),
+        Err(_) => Expr::Bool(word == "true"),
+    }
 }
 
-#[test]
-fn the_parts_of_an_array_are_kept(rt: HostRuntime) -> Result<(), Fail> {
-    let parts = parts(rt.alloc())?;
-    assert!(rt; parts.len() == 2 && !parts.is_empty() && parts.as_slice().len() == 2);
-    Ok(())
+/// Literals, between blanks.
+fn literals(alloc: Global, written: &str) -> Result<Exprs, AllocError> {
+    let mut parts = Vec::new(alloc);
+    for word in written.split_whitespace() {
+        parts.push(literal(word))?;
+    }
+    Ok(Exprs::of(parts))
 }
 
-#[test]
-fn the_fields_of_a_record_are_kept(rt: HostRuntime) -> Result<(), Fail> {
-    let fields = fields(rt.alloc())?;
-    assert!(rt; fields.len() == 1 && !fields.is_empty() && fields.as_slice().len() == 1);
-    Ok(())
+/// How many there are: by the count, by the slice, and whether there are none.
+fn tell_counts(
+    alloc: Global,
+    counts: (usize, usize, bool),
+    out: &mut Vec<u8>,
+) -> Result<(), AllocError> {
+    put_number(alloc, out, counts.0 as i128)?;
+    put(out, ", in the slice ")?;
+    put_number(alloc, out, counts.1 as i128)?;
+    put(out, if counts.2 { ", empty" } else { ", not empty" })
+}
+
+fn tell_parts(alloc: Global, written: &str, out: &mut Vec<u8>) -> Result<(), AllocError> {
+    let parts = literals(alloc, written)?;
+    let counts = (parts.len(), parts.as_slice().len(), parts.is_empty());
+    drop(parts);
+    tell_counts(alloc, counts, out)
+}
+
+/// A field of a list of literals.
+fn field(alloc: Global, written: &str) -> Result<NamedExpr, AllocError> {
+    let (name, list) = written.split_once(" = ").unwrap_or((written, ""));
+    let name = Text::of(alloc, name)?;
+    let value = Expr::List(literals(alloc, list)?);
+    Ok(NamedExpr { name, value })
+}
+
+fn tell_fields(alloc: Global, written: &str, out: &mut Vec<u8>) -> Result<(), AllocError> {
+    let fields = NamedExprs::of(vec![in alloc; field(alloc, written)?]?);
+    let counts = (fields.len(), fields.as_slice().len(), fields.is_empty());
+    drop(fields);
+    tell_counts(alloc, counts, out)
 }

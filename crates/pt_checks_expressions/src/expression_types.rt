@@ -1,32 +1,32 @@
-use pt_expr::{Expr, NamedExpr, NamedExprs};
+use crate::parsing::cause;
+use crate::types::base;
 use pt_expr_text::parse;
-use pt_expr_type::{ExprRule, TypeEnv, TypeFault, type_of};
+use pt_expr_type::{ExprRule, TypeEnv, type_of};
+use pt_language::{Expr, NamedExpr, NamedExprs};
+use pt_table::{Answers, put, put_number};
 use pt_types::{Rule, Ty, least, print};
 use pt_value::Text;
 use std::alloc::{AllocError, Global};
-use std::test::Fail;
 
-fn printed(alloc: Global, ty: &Ty) -> Result<Vec<u8>, AllocError> {
-    let mut out = Vec::new(alloc);
-    print(ty, &mut out)?;
-    Ok(out)
-}
+/// The questions about the types of expressions, and about the least types that meet rules.
+pub struct ExpressionTypes;
 
-/// The text of a type, or of a fault.
-fn shown(alloc: Global, answer: Result<Ty, TypeFault>) -> Result<Vec<u8>, AllocError> {
-    match answer {
-        Ok(ty) => printed(alloc, &ty),
-        Err(fault) => Ok(fault.to_string(alloc)?.into_bytes()),
-    }
-}
-
-/// A type without parts.
-fn base(text: &str) -> Ty {
-    match text {
-        "int" => Ty::Int,
-        "boolean" => Ty::Boolean,
-        "string" => Ty::Words,
-        _ => Ty::Unknown,
+impl Answers for ExpressionTypes {
+    fn answer(
+        &self,
+        alloc: Global,
+        section: &str,
+        question: &str,
+        out: &mut Vec<u8>,
+    ) -> Result<(), AllocError> {
+        match section {
+            "type" => tell_type(alloc, question, out),
+            "type of a field" => tell_type_of_field(alloc, question, out),
+            "least types by expressions" => tell_types_by_expressions(alloc, question, out),
+            "numbers read" => tell_numbers_read(alloc, question, out),
+            "least types above int" => tell_types_above_int(alloc, question, out),
+            _ => put(out, "no such section"),
+        }
     }
 }
 
@@ -46,48 +46,22 @@ fn names(alloc: Global) -> Result<TypeEnv, AllocError> {
     Ok(env)
 }
 
-const CLASH: &str = "an operand of another type";
-
-const UNBOUND: &str = "a name that isn't bound";
-
-/// Expressions over those names, each beside its type.
-const TYPES: [(&str, &str); 17] = [
-    ("x", "int"),
-    ("x_isPresent", "boolean"),
-    ("y", UNBOUND),
-    ("y_isPresent", UNBOUND),
-    ("{}", "arrayType(unknown)"),
-    ("{x, u}", "arrayType(int)"),
-    ("{x, s}", "general"),
-    ("{k = {x, u}}", "{k = arrayType(int)}"),
-    ("s + u", "string"),
-    ("true + true", CLASH),
-    ("x == u", "boolean"),
-    ("s < u", CLASH),
-    ("u ? 1 : true", "general"),
-    ("{x, u}(0)", "int"),
-    ("{k = {x, u}}.k", "arrayType(int)"),
-    ("s.length()", "int"),
-    ("!x", CLASH),
-];
-
-/// The type of a tree, or why it has none.
-fn type_text(alloc: Global, tree: Expr) -> Result<Vec<u8>, AllocError> {
+/// The text of the type of a tree over those names, or of a fault.
+fn tell(alloc: Global, tree: &Expr, out: &mut Vec<u8>) -> Result<(), AllocError> {
     let env = names(alloc)?;
-    let answer = type_of(alloc, &tree, &env);
-    drop(tree);
+    let answer = type_of(alloc, tree, &env);
     drop(env);
-    shown(alloc, answer)
+    match answer {
+        Ok(ty) => print(&ty, out),
+        Err(fault) => put(out, &fault.to_string(alloc)?),
+    }
 }
 
-#[test]
-fn expressions_have_the_types_of_the_profile(rt: HostRuntime) -> Result<(), Fail> {
-    for (expression, text) in &TYPES {
-        let tree = parse(rt.alloc(), expression)?;
-        let out = type_text(rt.alloc(), tree)?;
-        assert!(rt; out.as_slice() == text.as_bytes(), "{expression}: {text}");
+fn tell_type(alloc: Global, text: &str, out: &mut Vec<u8>) -> Result<(), AllocError> {
+    match parse(alloc, text) {
+        Ok(tree) => tell(alloc, &tree, out),
+        Err(fault) => put(out, cause(fault)),
     }
-    Ok(())
 }
 
 /// A record of one field, whose name may be none.
@@ -98,83 +72,131 @@ fn record(alloc: Global, field: &str) -> Result<Expr, AllocError> {
     Ok(Expr::Record(NamedExprs::of(fields)))
 }
 
-#[test]
-fn a_field_has_a_name(rt: HostRuntime) -> Result<(), Fail> {
-    for (field, text) in [("k", "{k = int}"), ("1", CLASH)] {
-        let tree = record(rt.alloc(), field)?;
-        let out = type_text(rt.alloc(), tree)?;
-        assert!(rt; out.as_slice() == text.as_bytes(), "{field}: {text}");
-    }
-    Ok(())
+fn tell_type_of_field(alloc: Global, name: &str, out: &mut Vec<u8>) -> Result<(), AllocError> {
+    let tree = record(alloc, name)?;
+    tell(alloc, &tree, out)
 }
 
-/// The rule that the type of this expression is below that of the target, where each name in it has the type at its number.
-fn rule(
-    alloc: Global,
-    target: u32,
-    expression: &str,
-    names: &[(&str, u32)],
-) -> Result<ExprRule, Fail> {
-    let names = numbered(alloc, names)?;
-    let tree = parse(alloc, expression)?;
-    Ok(ExprRule::new(alloc, target, tree, names)?)
+fn number(word: &str) -> u32 {
+    word.trim().parse::<u32>().unwrap_or(0)
 }
 
-fn numbered(alloc: Global, names: &[(&str, u32)]) -> Result<Vec<(Text, u32)>, AllocError> {
+/// Names with their numbers: `x 0, y 1`.
+fn numbered(alloc: Global, written: &str) -> Result<Vec<(Text, u32)>, AllocError> {
     let mut numbered = Vec::new(alloc);
-    for (name, number) in names {
-        numbered.push((Text::of(alloc, name)?, *number))?;
+    for part in written.split(", ") {
+        if let Some((name, place)) = part.split_once(' ') {
+            numbered.push((Text::of(alloc, name)?, number(place)))?;
+        }
     }
     Ok(numbered)
 }
 
-/// An expression whose name has no number, one with a name, and a literal, each with its target.
-const RULES: [(u32, &str, &[(&str, u32)]); 3] = [
-    (2, "x", &[]),
-    (1, "x < 1", &[("x", 0)]),
-    (0, "3", &[]),
-];
+/// The rule that the type of an expression is below that of the target, where each name in it has the type at its number:
+/// `1: x < 1: x 0`, where `true` stands in place of what has no tree.
+fn rule(alloc: Global, written: &str) -> Result<ExprRule, AllocError> {
+    let (target, rest) = written.split_once(": ").unwrap_or((written, ""));
+    let (text, names) = rest.split_once(": ").unwrap_or((rest, ""));
+    let names = numbered(alloc, names)?;
+    let tree = parse(alloc, text).unwrap_or(Expr::Bool(true));
+    ExprRule::new(alloc, number(target), tree, names)
+}
 
-fn rules(alloc: Global) -> Result<Vec<ExprRule>, Fail> {
+fn rules(alloc: Global, written: &str) -> Result<Vec<ExprRule>, AllocError> {
     let mut rules = Vec::new(alloc);
-    for (target, expression, names) in &RULES {
-        rules.push(rule(alloc, *target, expression, *names)?)?;
+    for one in written.split("; ") {
+        rules.push(rule(alloc, one)?)?;
     }
     Ok(rules)
 }
 
-/// The least types of the first three numbers by some rules for them.
-fn three_types(alloc: Global, rules: &[ExprRule]) -> Result<Vec<Ty>, AllocError> {
-    if rules.iter().all(|rule| rule.target < 3) {
-        least(alloc, 3, rules)
+/// The least types of so many numbers by some rules for them.
+fn least_types<R: Rule>(alloc: Global, count: u32, rules: &[R]) -> Result<Vec<Ty>, AllocError> {
+    if rules.iter().all(|rule| rule.target() < count) {
+        least(alloc, count, rules)
     } else {
         Ok(Vec::new(alloc))
     }
 }
 
-/// The texts of types, each before a blank.
-fn listed(alloc: Global, types: &[Ty]) -> Result<Vec<u8>, AllocError> {
-    let mut out = Vec::new(alloc);
+/// The texts of types, between blanks.
+fn tell_types(types: &[Ty], out: &mut Vec<u8>) -> Result<(), AllocError> {
     for ty in types {
-        print(ty, &mut out)?;
-        out.push(b' ')?;
+        put(out, if out.is_empty() { "" } else { " " })?;
+        print(ty, out)?;
     }
-    Ok(out)
+    Ok(())
 }
 
-#[test]
-fn a_rule_carries_the_type_of_an_expression(rt: HostRuntime) -> Result<(), Fail> {
-    let rules = rules(rt.alloc())?;
-    let types = three_types(rt.alloc(), &rules);
+/// The number of types and what is said of them: `3 types by ..`.
+fn counted(written: &str) -> (u32, &str) {
+    let (count, rest) = written.split_once(" by ").unwrap_or(("0", written));
+    (number(count), rest)
+}
+
+fn tell_types_by_expressions(
+    alloc: Global,
+    written: &str,
+    out: &mut Vec<u8>,
+) -> Result<(), AllocError> {
+    let (count, rest) = counted(written);
+    let rules = rules(alloc, rest)?;
+    let types = least_types(alloc, count, &rules);
     drop(rules);
-    let out = listed(rt.alloc(), &types?)?;
-    assert_eq!(rt; out.as_slice(), b"int boolean general ".as_slice());
+    tell_types(&types?, out)
+}
+
+fn tell_numbers_read(alloc: Global, written: &str, out: &mut Vec<u8>) -> Result<(), AllocError> {
+    let rule = rule(alloc, written)?;
+    for place in rule.reads() {
+        put(out, if out.is_empty() { "" } else { " " })?;
+        put_number(alloc, out, i128::from(*place))?;
+    }
     Ok(())
 }
 
-#[test]
-fn a_rule_reads_the_numbers_of_its_names(rt: HostRuntime) -> Result<(), Fail> {
-    let carried = rule(rt.alloc(), 1, "x < 1", &[("x", 0)])?;
-    assert_eq!(rt; carried.reads(), [0u32].as_slice());
-    Ok(())
+/// The target's type is above `int`.
+#[derive(Drop)]
+struct AboveInt {
+    target: u32,
+}
+
+impl Rule for AboveInt {
+    ghost use Rattle.std.specs.Prelude.{refl};
+    ghost use Rattle.pt_datatypes.specs.Datatype.{Int};
+
+    ghost target_of = { λ rule. rule.target };
+
+    ghost value_of = { λ _ _. Int };
+
+    ghost grows = { λ _ _ _ _. refl };
+
+    fn target(&self) -> u32 {
+        self.target
+    }
+
+    fn value(&self, _: Global, _: &[Ty]) -> Result<Ty, AllocError> {
+        Ok(Ty::Int)
+    }
+
+    fn reads(&self) -> &[u32] {
+        &[]
+    }
+}
+
+fn targets(alloc: Global, written: &str) -> Result<Vec<AboveInt>, AllocError> {
+    let mut rules = Vec::new(alloc);
+    for word in written.split_whitespace() {
+        let target = number(word);
+        rules.push(AboveInt { target })?;
+    }
+    Ok(rules)
+}
+
+fn tell_types_above_int(alloc: Global, written: &str, out: &mut Vec<u8>) -> Result<(), AllocError> {
+    let (count, rest) = counted(written);
+    let rules = targets(alloc, rest)?;
+    let types = least_types(alloc, count, &rules);
+    drop(rules);
+    tell_types(&types?, out)
 }

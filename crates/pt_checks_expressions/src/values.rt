@@ -1,206 +1,191 @@
+use pt_table::{Answers, put, put_number};
 use pt_value::{Fields, FieldsFault, Items, Text, Token, is_name, print};
 use std::alloc::{AllocError, Global};
-use std::test::Fail;
 
-/// A token, as a table writes it.
-#[derive(Clone, Copy)]
-enum Datum {
-    Int(i64),
-    Bool(bool),
-    Words(&'static str),
-    Ints(&'static [i64]),
-    /// An array of arrays.
-    Rows(&'static [&'static [i64]]),
-    /// The record in which the first of these names has the value 1, the next one 2, and so on.
-    Named(&'static [&'static str]),
+/// The questions about tokens, which are written without the parser of expressions.
+pub struct Values;
+
+impl Answers for Values {
+    fn answer(
+        &self,
+        alloc: Global,
+        section: &str,
+        question: &str,
+        out: &mut Vec<u8>,
+    ) -> Result<(), AllocError> {
+        match section {
+            "printed" => printed(alloc, question, out),
+            "size" => size(alloc, question, out),
+            "copy" => copied(alloc, question, out),
+            "same" => compared(alloc, question, out),
+            "fields" => listed(alloc, question, out),
+            "no such field" => not_found(alloc, question, out),
+            "no record" => refused(alloc, question, out),
+            "name" => put(
+                out,
+                if is_name(question.as_bytes()) {
+                    "yes"
+                } else {
+                    "no"
+                },
+            ),
+            _ => put(out, "no such section"),
+        }
+    }
 }
 
-fn words(alloc: Global, text: &str) -> Result<Token, AllocError> {
-    Ok(Token::Text(Text::of(alloc, text)?))
+/// A token that is no array of other kinds: `int 7`, `bool true`, `text abc`, `ints 1 2` or `named "y" "x"`.
+fn part(alloc: Global, written: &str) -> Result<Token, FieldsFault> {
+    let (kind, rest) = written.split_once(' ').unwrap_or((written, ""));
+    match kind {
+        "int" => Ok(Token::Int(number(rest))),
+        "bool" => Ok(Token::Bool(rest == "true")),
+        "text" => Ok(Token::Text(Text::of(alloc, rest)?)),
+        "ints" => Ok(numbers(alloc, rest)?),
+        _ => Ok(Token::Record(fields(alloc, rest)?)),
+    }
 }
 
-fn numbers(alloc: Global, numbers: &[i64]) -> Result<Token, AllocError> {
+fn number(written: &str) -> i64 {
+    written.parse::<i64>().unwrap_or(0)
+}
+
+fn numbers(alloc: Global, written: &str) -> Result<Token, AllocError> {
     let mut tokens = Vec::new(alloc);
-    for n in numbers {
-        tokens.push(Token::Int(*n))?;
+    for word in written.split_whitespace() {
+        tokens.push(Token::Int(number(word)))?;
     }
     Ok(Token::Array(Items::of(tokens)))
 }
 
-fn rows(alloc: Global, rows: &[&[i64]]) -> Result<Token, AllocError> {
-    let mut tokens = Vec::new(alloc);
-    for row in rows {
-        tokens.push(numbers(alloc, row)?)?;
-    }
-    Ok(Token::Array(Items::of(tokens)))
-}
-
-fn named(alloc: Global, names: &[&str]) -> Result<Vec<(Text, Token)>, AllocError> {
+/// Names between quotes, of which the first has the value 1, the next one 2, and so on.
+fn named(alloc: Global, written: &str) -> Result<Vec<(Text, Token)>, AllocError> {
     let mut fields = Vec::new(alloc);
-    let mut value = 0;
-    for name in names {
-        value = i64::wrapping_add(value, 1);
-        fields.push((Text::of(alloc, name)?, Token::Int(value)))?;
+    let mut value = 0i64;
+    for (place, name) in written.split('"').enumerate() {
+        if place % 2 == 1 {
+            value = value.wrapping_add(1);
+            fields.push((Text::of(alloc, name)?, Token::Int(value)))?;
+        }
     }
     Ok(fields)
 }
 
-fn fields(alloc: Global, names: &[&str]) -> Result<Fields, FieldsFault> {
-    Fields::of(alloc, named(alloc, names)?)
+fn fields(alloc: Global, written: &str) -> Result<Fields, FieldsFault> {
+    Fields::of(alloc, named(alloc, written)?)
 }
 
-fn record(alloc: Global, names: &[&str]) -> Result<Token, FieldsFault> {
-    Ok(Token::Record(fields(alloc, names)?))
-}
-
-fn token(alloc: Global, datum: Datum) -> Result<Token, FieldsFault> {
-    match datum {
-        Datum::Int(n) => Ok(Token::Int(n)),
-        Datum::Bool(b) => Ok(Token::Bool(b)),
-        Datum::Words(text) => Ok(words(alloc, text)?),
-        Datum::Ints(ints) => Ok(numbers(alloc, ints)?),
-        Datum::Rows(lists) => Ok(rows(alloc, lists)?),
-        Datum::Named(names) => record(alloc, names),
-    }
-}
-
-/// What is written behind `> ` when the token is printed there.
-fn printed(alloc: Global, datum: Datum) -> Result<Vec<u8>, FieldsFault> {
-    let token = token(alloc, datum)?;
-    let mut out = Vec::from_slice(alloc, b"> ")?;
-    print(&token, &mut out)?;
-    Ok(out)
-}
-
-/// Tokens, each beside its text behind `> `.
-static PRINTED: [(Datum, &str); 11] = [
-    (Datum::Int(0), "> 0"),
-    (Datum::Int(i64::MIN), "> -9223372036854775808"),
-    (Datum::Bool(true), "> true"),
-    (Datum::Bool(false), "> false"),
-    (Datum::Words(""), "> \"\""),
-    (
-        Datum::Words("a\"b\\c\nd\te\rf\u{1}g\u{e9}"),
-        "> \"a\\\"b\\\\c\\nd\\te\\rf\u{1}g\u{e9}\"",
-    ),
-    (Datum::Ints(&[]), "> {}"),
-    (Datum::Ints(&[1]), "> {1}"),
-    (Datum::Ints(&[1, -2, 3]), "> {1, -2, 3}"),
-    (Datum::Named(&["y", "x"]), "> {x = 2, y = 1}"),
-    (Datum::Rows(&[&[1], &[]]), "> {{1}, {}}"),
-];
-
-#[test]
-fn tokens_print_as_the_language_writes_them(rt: HostRuntime) -> Result<(), Fail> {
-    for (datum, text) in &PRINTED {
-        let out = printed(rt.alloc(), *datum)?;
-        assert!(rt; out.as_slice() == text.as_bytes(), "{text}");
-    }
-    Ok(())
-}
-
-/// Tokens with their sizes.
-static SIZES: [(Datum, u64); 7] = [
-    (Datum::Int(7), 1),
-    (Datum::Bool(true), 1),
-    (Datum::Words(""), 1),
-    (Datum::Words("h\u{e9}"), 4),
-    (Datum::Ints(&[]), 1),
-    (Datum::Ints(&[1, 2, 3]), 4),
-    (Datum::Named(&["long", "x"]), 8),
-];
-
-#[test]
-fn a_size_counts_bytes_and_parts(rt: HostRuntime) -> Result<(), Fail> {
-    for (datum, size) in &SIZES {
-        let token = token(rt.alloc(), *datum)?;
-        assert_eq!(rt; token.size(), *size);
-    }
-    Ok(())
-}
-
-fn are_same(alloc: Global, first: Datum, second: Datum) -> Result<bool, FieldsFault> {
-    let first = token(alloc, first)?;
-    let second = token(alloc, second)?;
-    Ok(first.same(&second))
-}
-
-/// The array of a record and a text.
-fn mixed(alloc: Global) -> Result<Token, Fail> {
+/// The array of what is written behind `each`, between semicolons.
+fn array(alloc: Global, written: &str) -> Result<Token, FieldsFault> {
     let mut tokens = Vec::new(alloc);
-    for datum in [Datum::Named(&["b", "a"]), Datum::Words("t")] {
-        tokens.push(token(alloc, datum)?)?;
+    for one in written.split("; ") {
+        let token = part(alloc, one)?;
+        tokens.push(token).map_err(AllocError::from)?;
     }
     Ok(Token::Array(Items::of(tokens)))
 }
 
-#[test]
-fn a_copy_is_the_same_token(rt: HostRuntime) -> Result<(), Fail> {
-    let token = mixed(rt.alloc())?;
-    let copy = token.copy(rt.alloc())?;
-    assert!(rt; token.same(&copy));
-    let other = numbers(rt.alloc(), &[1, 2])?;
-    assert!(rt; !token.same(&other));
-    Ok(())
-}
-
-#[test]
-fn tokens_of_two_kinds_differ(rt: HostRuntime) -> Result<(), Fail> {
-    let alloc = rt.alloc();
-    assert!(rt; !are_same(alloc, Datum::Int(1), Datum::Bool(true))?);
-    assert!(rt; are_same(alloc, Datum::Int(1), Datum::Int(1))?);
-    Ok(())
-}
-
-/// Whether the field of this number has this name, and its value is found by the name.
-fn is_found(fields: &Fields, number: usize, name: &str) -> bool {
-    match (fields.as_slice().get(number), fields.get(name)) {
-        (Some(field), Some(token)) => field.name.as_str() == name && token.same(&field.value),
-        _ => false,
+fn token(alloc: Global, written: &str) -> Result<Token, FieldsFault> {
+    match written.strip_prefix("each ") {
+        Some(parts) => array(alloc, parts),
+        None => part(alloc, written),
     }
 }
 
-#[test]
-fn fields_are_found_by_name_in_the_order_of_names(rt: HostRuntime) -> Result<(), Fail> {
-    let fields = fields(rt.alloc(), &["y", "_z", "x", "Z9"])?;
-    for (number, name) in ["Z9", "_z", "x", "y"].into_iter().enumerate() {
-        assert!(rt; is_found(&fields, number, name), "{name}");
-    }
-    assert!(rt; fields.get("X").is_none());
-    assert_eq!(rt; fields.len(), 4);
-    Ok(())
+/// Why there is no token or no record.
+fn tell_fault(alloc: Global, fault: &FieldsFault, out: &mut Vec<u8>) -> Result<(), AllocError> {
+    put(out, &fault.to_string(alloc)?)
 }
 
-/// Why the names make no record, if they make none.
-fn fault_of(alloc: Global, names: &[&str]) -> Result<Option<String>, AllocError> {
-    match Fields::of(alloc, named(alloc, names)?) {
-        Ok(_) => Ok(None),
-        Err(fault) => Ok(Some(fault.to_string(alloc)?)),
+/// What is written behind `> ` when the token is printed there.
+fn printed(alloc: Global, written: &str, out: &mut Vec<u8>) -> Result<(), AllocError> {
+    match token(alloc, written) {
+        Ok(token) => {
+            put(out, "> ")?;
+            print(&token, out)
+        }
+        Err(fault) => tell_fault(alloc, &fault, out),
     }
 }
 
-/// A name of 65 characters.
-const LONG: &str = "a23456789_123456789_123456789_123456789_123456789_123456789_12345";
-
-/// Names that make no record, with the reason.
-static FAULTS: [(&[&str], &str); 6] = [
-    (&[], "no field"),
-    (&["x", "y", "x"], "the field x is repeated"),
-    (&["x", "9"], "9 is no name"),
-    (&[""], " is no name"),
-    (&["a b"], "a b is no name"),
-    (
-        &[LONG],
-        "a23456789_123456789_123456789_123456789_123456789_123456789_12345 is no name",
-    ),
-];
-
-#[test]
-fn fields_without_a_record_say_why(rt: HostRuntime) -> Result<(), Fail> {
-    for (names, text) in &FAULTS {
-        let fault = fault_of(rt.alloc(), *names)?.ok_or("a record")?;
-        assert_eq!(rt; fault.as_str(), *text);
+fn size(alloc: Global, written: &str, out: &mut Vec<u8>) -> Result<(), AllocError> {
+    match token(alloc, written) {
+        Ok(token) => put_number(alloc, out, i128::from(token.size())),
+        Err(fault) => tell_fault(alloc, &fault, out),
     }
-    assert!(rt; is_name(&LONG.as_bytes()[..64]));
+}
+
+fn tell_same(first: &Token, second: &Token, out: &mut Vec<u8>) -> Result<(), AllocError> {
+    put(
+        out,
+        if first.same(second) {
+            "same"
+        } else {
+            "another"
+        },
+    )
+}
+
+fn tell_copy(alloc: Global, token: &Token, out: &mut Vec<u8>) -> Result<(), AllocError> {
+    let copy = token.copy(alloc)?;
+    tell_same(token, &copy, out)
+}
+
+fn copied(alloc: Global, written: &str, out: &mut Vec<u8>) -> Result<(), AllocError> {
+    match token(alloc, written) {
+        Ok(token) => tell_copy(alloc, &token, out),
+        Err(fault) => tell_fault(alloc, &fault, out),
+    }
+}
+
+fn compared(alloc: Global, written: &str, out: &mut Vec<u8>) -> Result<(), AllocError> {
+    let (first, second) = written.split_once(" and ").unwrap_or((written, ""));
+    match (token(alloc, first), token(alloc, second)) {
+        (Ok(first), Ok(second)) => tell_same(&first, &second, out),
+        _ => put(out, "no tokens"),
+    }
+}
+
+/// The names of fields in their order, each of which finds its own value.
+fn tell_fields(alloc: Global, fields: &Fields, out: &mut Vec<u8>) -> Result<(), AllocError> {
+    put_number(alloc, out, fields.len() as i128)?;
+    for field in fields.as_slice() {
+        let name = field.name.as_str();
+        let is_found = match fields.get(name) {
+            Some(token) => token.same(&field.value),
+            None => false,
+        };
+        put(out, if is_found { " " } else { " not found: " })?;
+        put(out, name)?;
+    }
     Ok(())
+}
+
+fn listed(alloc: Global, written: &str, out: &mut Vec<u8>) -> Result<(), AllocError> {
+    match fields(alloc, written) {
+        Ok(fields) => tell_fields(alloc, &fields, out),
+        Err(fault) => tell_fault(alloc, &fault, out),
+    }
+}
+
+fn not_found(alloc: Global, written: &str, out: &mut Vec<u8>) -> Result<(), AllocError> {
+    let (name, names) = written.split_once(" of ").unwrap_or((written, ""));
+    match fields(alloc, names) {
+        Ok(fields) => put(
+            out,
+            if fields.get(name).is_none() {
+                "none"
+            } else {
+                "one"
+            },
+        ),
+        Err(fault) => tell_fault(alloc, &fault, out),
+    }
+}
+
+fn refused(alloc: Global, written: &str, out: &mut Vec<u8>) -> Result<(), AllocError> {
+    match fields(alloc, written) {
+        Ok(_) => put(out, "a record"),
+        Err(fault) => tell_fault(alloc, &fault, out),
+    }
 }

@@ -1,13 +1,16 @@
 ghost use Rattle.std.specs.Prelude.{IfOk, IfSome};
-ghost use Rattle.pt_moml.specs.Document.{JobTree};
-ghost use Rattle.pt_graph.specs.Net.{IsNetOf};
+ghost use Rattle.pt_document.specs.Document.{JobTree};
+ghost use Rattle.pt_net.specs.Net.{IsNetOf};
 
-use pt_graph::{Net, NetEntity, flatten};
-use pt_moml::{Direction, Job, Port, read};
+use pt_document::{Direction, Job, Port};
+use pt_graph::flatten;
+use pt_moml::read;
+use pt_net::{Net, NetEntity};
 use pt_resolve::{BrokenAt, broken, net_typing};
+use pt_scopes::{Values, nets_are_ordered};
 use pt_types::print;
 use pt_typing::{Typing, Variable};
-use pt_values::{Values, nets_are_ordered, values_of};
+use pt_values::values_of;
 use std::alloc::{AllocError, Global};
 
 /// The net of a job, if it has one.

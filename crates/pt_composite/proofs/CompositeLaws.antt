@@ -28,9 +28,9 @@ use Rattle.pt_node.specs.Recorded.{RecordedPort}
 use Rattle.pt_node.specs.Shown.{Shown, AllShown, Branch, Frame, all_of, list_of}
 use Rattle.pt_node.specs.View.{Tree, node_of, nodes_of}
 use Rattle.pt_node.specs.Live.{IsFit, AllFit, IsSteady, AllSteady}
-use Rattle.pt_composite.specs.Around.{Around, IsInsideOf}
-use Rattle.pt_composite.specs.Fresh.{AreEmpty, IsUnrecorded, AllUnrecorded, IsFresh, AllFresh}
-use Rattle.pt_composite.specs.Composite.{trees_of, frame_in, children_in, IsComposite}
+use Rattle.pt_trees.specs.Around.{Around, IsInsideOf}
+use Rattle.pt_trees.specs.Fresh.{AreEmpty, IsUnrecorded, AllUnrecorded, IsFresh, AllFresh}
+use Rattle.pt_trees.specs.Composite.{trees_of, frame_in, children_in, IsComposite}
 use Rattle.pt_composite.proofs.NeedLaws.{needs-length, planned-length}
 use Rattle.pt_composite.proofs.HeldLaws.{held-length}
 

@@ -5,7 +5,7 @@ use Rattle.pt_plan.specs.declared.inside.Inside.{Inside}
 use Rattle.pt_plan.specs.Inside.{IsInside}
 use Rattle.pt_sdf.specs.Plan.{source_of}
 use Rattle.pt_node.specs.View.{Tree}
-use Rattle.pt_composite.specs.Around.{Around, IsInsideOf, HasInside}
+use Rattle.pt_trees.specs.Around.{Around, IsInsideOf, HasInside}
 use Rattle.pt_composite.specs.Needs.{NeedAll}
 use Rattle.pt_composite.proofs.NeedLaws.{planned-same}
 use Rattle.pt_composite.proofs.PlanLaws.{sources-same, inside-same}

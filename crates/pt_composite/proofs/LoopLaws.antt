@@ -16,9 +16,9 @@ use Rattle.pt_node.specs.Shown.{Shown, shown, shown_node}
 use Rattle.pt_node.proofs.Link.{shown-node}
 use Rattle.pt_meaning.specs.Streams.{get}
 use Rattle.pt_node.specs.View.{Tree, node_of}
-use Rattle.pt_composite.specs.Around.{first_counts}
-use Rattle.pt_composite.specs.Fresh.{AllFresh}
-use Rattle.pt_composite.specs.Rates.{rates_of, HaveRates, IsRated, AllRated}
+use Rattle.pt_trees.specs.Around.{first_counts}
+use Rattle.pt_trees.specs.Fresh.{AllFresh}
+use Rattle.pt_trees.specs.Rates.{rates_of, HaveRates, IsRated, AllRated}
 use Rattle.pt_composite.proofs.HeldLaws.{held_to, held-append, held-empty, held-more}
 use Rattle.pt_composite.proofs.NodeLaws.{trees, trees-more, tree-at, get-map, map-append}
 

@@ -12,7 +12,7 @@ use Rattle.pt_node.specs.declared.node.Node.{Node}
 use Rattle.pt_node.specs.Shown.{Shown, shown, shown_node}
 use Rattle.pt_node.specs.View.{Tree, node_of}
 use Rattle.pt_node.proofs.Link.{shown-node}
-use Rattle.pt_composite.specs.Composite.{trees_of}
+use Rattle.pt_trees.specs.Composite.{trees_of}
 use Rattle.pt_composite.specs.Needs.{Needs, NeedAll}
 use Rattle.pt_composite.proofs.NeedLaws.{needs-append, needs-length, planned-length, total-append, planned-snoc, need-at}
 

@@ -1,5 +1,1 @@
-pub mod Rates
 pub mod Needs
-pub mod Around
-pub mod Fresh
-pub mod Composite

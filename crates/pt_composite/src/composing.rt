@@ -1,38 +1,17 @@
-ghost use Rattle.std.specs.Prelude.{◌≡◌, IfOk, IfErr, map};
+ghost use Rattle.std.specs.Prelude.{IfOk, IfErr, map};
 ghost use Rattle.pt_node.specs.Shown.{shown, shown_node};
-ghost use Rattle.pt_composite.specs.Around.{around_of};
-ghost use Rattle.pt_composite.specs.Fresh.{AllFresh, AreEmpty};
-ghost use Rattle.pt_composite.specs.Composite.{IsComposite, CompositeFaultStands};
-ghost use Rattle.pt_composite.specs.declared.composing.CompositeFault.TheVariants as fault;
+ghost use Rattle.pt_trees.specs.Around.{around_of};
+ghost use Rattle.pt_trees.specs.Fresh.{AllFresh, AreEmpty};
+ghost use Rattle.pt_trees.specs.Composite.{IsComposite, CompositeFaultStands};
 
 use crate::inside::inside_of;
 use crate::tokens::first_tokens;
-use crate::wiring::Wiring;
 use pt_node::{Body, Director, Node, Past, Records};
-use pt_plan::{PlanFault, plan};
+use pt_plan::plan;
 use pt_sdf::Core;
+use pt_trees::{CompositeFault, Wiring};
 use pt_value::Text;
-use std::alloc::{AllocError, Global};
-use thiserror::Error;
-
-/// Why a composite isn't built.
-#[derive(Clone, Copy, Debug, PartialEq, Eq, Error)]
-pub enum CompositeFault {
-    #[error("what is within isn't well formed")]
-    Malformed,
-    #[error("there is no plan")]
-    Unplanned(PlanFault),
-    #[error("out of memory")]
-    Memory,
-}
-
-impl From<AllocError> for CompositeFault {
-    ghost from_gives = { λ _ e. e ≡ fault.Memory };
-
-    fn from(_: AllocError) -> Self {
-        CompositeFault::Memory
-    }
-}
+use std::alloc::Global;
 
 /// The SDF composite round these children, at its start.
 pub fn composite(

@@ -1,16 +1,16 @@
 ghost use Rattle.std.specs.Prelude.{IfOk, map};
 ghost use Rattle.pt_node.specs.Shown.{shown};
-ghost use Rattle.pt_composite.specs.Around.{around_of, IsInsideIf};
-ghost use Rattle.pt_composite.specs.Composite.{trees_of};
-ghost use Rattle.pt_composite.specs.Rates.{AllRated};
+ghost use Rattle.pt_trees.specs.Around.{around_of, IsInsideIf};
+ghost use Rattle.pt_trees.specs.Composite.{trees_of};
+ghost use Rattle.pt_trees.specs.Rates.{AllRated};
 
 use crate::needs::needs_of;
 use crate::rates::rates_of;
 use crate::tokens::first_counts;
-use crate::wiring::Wiring;
 use pt_firing::Counts;
 use pt_node::Node;
 use pt_plan::Inside;
+use pt_trees::Wiring;
 use std::alloc::{AllocError, Global};
 
 /// The inside of a composite round these children, if it is well formed.

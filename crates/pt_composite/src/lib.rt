@@ -6,7 +6,5 @@ mod inside;
 mod needs;
 mod rates;
 mod tokens;
-mod wiring;
 
-pub use composing::{CompositeFault, composite};
-pub use wiring::Wiring;
+pub use composing::composite;

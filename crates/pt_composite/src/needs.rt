@@ -5,7 +5,7 @@ ghost use Rattle.pt_sdf.specs.ByNeed.{needs_of, planned};
 ghost use Rattle.pt_library.specs.LibraryActor.{rows};
 ghost use Rattle.pt_node.specs.Shown.{shown, shown_node};
 ghost use Rattle.pt_node.specs.View.{node_of};
-ghost use Rattle.pt_composite.specs.Composite.{trees_of};
+ghost use Rattle.pt_trees.specs.Composite.{trees_of};
 ghost use Rattle.pt_composite.specs.Needs.{IsAdded, AreNeeds};
 
 use pt_firing::Need;

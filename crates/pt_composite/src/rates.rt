@@ -1,8 +1,8 @@
 ghost use Rattle.std.specs.Prelude.{◌≡◌, IfOk, map};
 ghost use Rattle.pt_node.specs.Shown.{shown, shown_node};
 ghost use Rattle.pt_node.specs.View.{node_of};
-ghost use Rattle.pt_composite.specs.Rates.{rates_of, AreRates, IsRated, AllRated};
-ghost use Rattle.pt_composite.specs.Composite.{trees_of};
+ghost use Rattle.pt_trees.specs.Rates.{rates_of, AreRates, IsRated, AllRated};
+ghost use Rattle.pt_trees.specs.Composite.{trees_of};
 
 use pt_firing::Counts;
 use pt_node::{Body, Director, Node};

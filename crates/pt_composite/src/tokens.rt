@@ -6,8 +6,8 @@ ghost use Rattle.pt_sdf.specs.Plan.{source_of};
 ghost use Rattle.pt_library.specs.LibraryActor.{rows};
 ghost use Rattle.pt_node.specs.Shown.{shown, shown_node};
 ghost use Rattle.pt_node.specs.View.{node_of};
-ghost use Rattle.pt_composite.specs.Around.{first_counts};
-ghost use Rattle.pt_composite.specs.Composite.{trees_of};
+ghost use Rattle.pt_trees.specs.Around.{first_counts};
+ghost use Rattle.pt_trees.specs.Composite.{trees_of};
 
 use pt_firing::{Actor, Counts};
 use pt_node::{Body, Node};

@@ -6,16 +6,16 @@ use Rattle.std.proofs.lemmas.Option.{none-some, slice_get-map}
 use Rattle.std.proofs.lemmas.Bool.{cases_order, ltb-true}
 use Rattle.std.proofs.lemmas.Slice.Eq.{bytes_eq-Decides}
 use Rattle.std.specs.List.{list_all, list_any, slice_get}
-use Rattle.pt_moml.specs.Document.{EntityTree, EntityTrees, entity, no_entities, one_entity, entity_name, JobTree}
-use Rattle.pt_moml.specs.Names.{is_first, is_later, is_name, has_name, are_distinct_after, top_path, below}
+use Rattle.pt_document.specs.Document.{EntityTree, EntityTrees, entity, no_entities, one_entity, entity_name, JobTree}
+use Rattle.pt_document.specs.Names.{is_first, is_later, is_name, has_name, are_distinct_after, top_path, below}
 use Rattle.pt_moml.specs.Reading.{IsJobOf}
-use Rattle.pt_graph.specs.declared.net.Net.{Net}
-use Rattle.pt_graph.specs.declared.net.NetEntity.{NetEntity}
-use Rattle.pt_graph.specs.Standing.{Standing, Round, is_kept, standing, round_in, no_round, with_entity, with_entities, entities}
-use Rattle.pt_graph.specs.Net.{NetEntityTree, entity_view, entity_tree, IsNetOf}
-use Rattle.pt_values.proofs.Document.{get-cases}
-use Rattle.pt_values.proofs.Places.{place, rises, filter-place}
-use Rattle.pt_build.specs.Trees.{IsEntity}
+use Rattle.pt_net.specs.declared.net.Net.{Net}
+use Rattle.pt_net.specs.declared.net.NetEntity.{NetEntity}
+use Rattle.pt_net.specs.Standing.{Standing, Round, is_kept, standing, round_in, no_round, with_entity, with_entities, entities}
+use Rattle.pt_net.specs.Net.{NetEntityTree, entity_view, entity_tree, IsNetOf}
+use Rattle.pt_scopes.proofs.Document.{get-cases}
+use Rattle.pt_scopes.proofs.Places.{place, rises, filter-place}
+use Rattle.pt_trees.specs.Trees.{IsEntity}
 use Rattle.pt_cover.proofs.Reading.{IsSound, AreSound, names_of, documents-sound}
 use Rattle.pt_cover.proofs.Nesting.{viewed}
 

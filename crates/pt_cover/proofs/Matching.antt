@@ -3,10 +3,10 @@ use Rattle.std.proofs.Common.{◌≡◌, ℕ, zero, suc, ◌+◌, ◌<◌, ◌�
 use Rattle.std.proofs.lemmas.Bool.{eq-eqb, ne_eqb}
 use Rattle.std.proofs.lemmas.Option.{none-some, same_Some}
 use Rattle.std.specs.List.{slice_get}
-use Rattle.pt_graph.specs.declared.net.NetEntity.{NetEntity}
-use Rattle.pt_graph.specs.declared.net.NetPort.{NetPort}
-use Rattle.pt_wiring.specs.Inside.{child_if, is_child, children_from}
-use Rattle.pt_build.specs.Recorded.{numbers_from}
+use Rattle.pt_net.specs.declared.net.NetEntity.{NetEntity}
+use Rattle.pt_net.specs.declared.net.NetPort.{NetPort}
+use Rattle.pt_net.specs.Inside.{child_if, is_child, children_from}
+use Rattle.pt_trees.specs.Recorded.{numbers_from}
 
 -- one or none
 abbrev pub one_if : Bool → ℕ

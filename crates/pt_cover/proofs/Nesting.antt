@@ -4,12 +4,12 @@ use Rattle.std.specs.Prelude.{IsTrue, option_map}
 use Rattle.std.proofs.lemmas.Bool.{cases_order}
 use Rattle.std.proofs.lemmas.Option.{none-some, same_Some, slice_get-map, slice_get_cases}
 use Rattle.std.specs.List.{count_by, slice_get}
-use Rattle.pt_moml.specs.Document.{JobTree}
-use Rattle.pt_graph.specs.declared.net.Net.{Net}
-use Rattle.pt_graph.specs.Standing.{Standing, Round, is_kept, entities}
-use Rattle.pt_graph.specs.Net.{NetEntityTree, TransparentTree, IsNetOf, entity_tree, transparent_tree}
-use Rattle.pt_values.specs.Scopes.{NetTree, net_view, is_composite_class}
-use Rattle.pt_values.proofs.Places.{place, rises, filter-place, place-count, count-below, counts}
+use Rattle.pt_document.specs.Document.{JobTree}
+use Rattle.pt_net.specs.declared.net.Net.{Net}
+use Rattle.pt_net.specs.Standing.{Standing, Round, is_kept, entities}
+use Rattle.pt_net.specs.Net.{NetEntityTree, TransparentTree, IsNetOf, entity_tree, transparent_tree}
+use Rattle.pt_scopes.specs.Scopes.{NetTree, net_view, is_composite_class}
+use Rattle.pt_scopes.proofs.Places.{place, rises, filter-place, place-count, count-below, counts}
 use Rattle.pt_start.specs.Nested.{IsTransparentIn, AreRound, IsNested}
 use Rattle.pt_cover.specs.Leaves.{ActorsAreLeaves}
 use Rattle.pt_cover.proofs.Walk.{IsHolder, IsLeft, IsWithin, IsTop, ArePlaced, all-placed}

@@ -2,13 +2,13 @@
 use Rattle.std.proofs.Common.{◌≡◌, ◌<◌, ◌+◌, ℕ, zero, suc, List, Bool, false, nat_eq, Option, Some, None, refl, ap, subst, ◌∙◌, arith}
 use Rattle.std.proofs.lemmas.Bool.{ne_eqb}
 use Rattle.std.proofs.lemmas.Option.{slice_get_within}
-use Rattle.pt_graph.specs.declared.net.Net.{Net}
-use Rattle.pt_graph.specs.declared.net.NetEntity.{NetEntity}
-use Rattle.pt_wiring.specs.Inside.{is_number, is_child, children_of}
+use Rattle.pt_net.specs.declared.net.Net.{Net}
+use Rattle.pt_net.specs.declared.net.NetEntity.{NetEntity}
+use Rattle.pt_net.specs.Inside.{is_number, is_child, children_of}
 use Rattle.pt_library.specs.declared.library_actor.LibraryActor.{LibraryActor}
 use Rattle.pt_node.specs.Shown.{Shown}
-use Rattle.pt_build.specs.Trees.{IsEntity, Starts, StartsAs}
-use Rattle.pt_build.specs.Built.{IsBuilt, AreBuilt, built_actor, built_sdf, none_built, more_built}
+use Rattle.pt_trees.specs.Trees.{IsEntity, Starts, StartsAs}
+use Rattle.pt_trees.specs.Built.{IsBuilt, AreBuilt, built_actor, built_sdf, none_built, more_built}
 use Rattle.pt_cover.proofs.Matching.{one_if, times_in, matching, children-match, times-matching}
 use Rattle.pt_cover.proofs.Nesting.{get-within}
 

@@ -5,16 +5,16 @@ use Rattle.std.proofs.lemmas.Bool.{cases_eq, eq-eqb, ne_eqb}
 use Rattle.std.proofs.lemmas.Option.{none-some, slice_get-map}
 use Rattle.std.proofs.lemmas.Slice.Eq.{bytes_eq-Decides}
 use Rattle.std.specs.List.{slice_get}
-use Rattle.pt_moml.specs.Document.{JobTree}
-use Rattle.pt_graph.specs.declared.net.Net.{Net}
-use Rattle.pt_graph.specs.declared.net.NetEntity.{NetEntity}
-use Rattle.pt_graph.specs.declared.net.NetPort.{NetPort}
-use Rattle.pt_graph.specs.Net.{entity_view, IsNetOf}
-use Rattle.pt_values.specs.Scopes.{net_view, is_composite_class}
+use Rattle.pt_document.specs.Document.{JobTree}
+use Rattle.pt_net.specs.declared.net.Net.{Net}
+use Rattle.pt_net.specs.declared.net.NetEntity.{NetEntity}
+use Rattle.pt_net.specs.declared.net.NetPort.{NetPort}
+use Rattle.pt_net.specs.Net.{entity_view, IsNetOf}
+use Rattle.pt_scopes.specs.Scopes.{net_view, is_composite_class}
 use Rattle.pt_start.specs.Nested.{IsNested}
-use Rattle.pt_wiring.specs.Inside.{is_number}
+use Rattle.pt_net.specs.Inside.{is_number}
 use Rattle.pt_lib_flow.specs.declared.flow_actor.Class.{Class}
-use Rattle.pt_lib_flow.specs.declared.params.Params.{Params}
+use Rattle.pt_flow_base.specs.declared.params.Params.{Params}
 use Rattle.pt_lib_flow.specs.FlowActor as flow_actor
 use Rattle.pt_lib_data.specs.declared.function.Class.{Class as DataClass}
 use Rattle.pt_lib_data.specs.Function as function
@@ -24,11 +24,11 @@ use Rattle.pt_library.specs.declared.library_actor.LibraryActor.TheVariants.{Flo
 use Rattle.std.specs.Option.{option_or}
 use Rattle.pt_node.specs.Recorded.{RecordedPort}
 use Rattle.pt_node.specs.Shown.{Shown, AllShown, Branch, none, more, list_of}
-use Rattle.pt_composite.specs.Composite.{frame_in, children_in}
-use Rattle.pt_build.specs.Trees.{IsEntity, Starts}
-use Rattle.pt_build.specs.Recorded.{numbers_at, recorded_at, recorded_of}
-use Rattle.pt_build.specs.Built.{IsBuilt, AreBuilt, built_actor, built_sdf, none_built, more_built}
-use Rattle.pt_run.specs.Ports.{Listed, own_ports, seen_below, ports_in, ports_below, listed_if, of_number, outputs_in, outputs_below, AreBelow, AreNumbered}
+use Rattle.pt_trees.specs.Composite.{frame_in, children_in}
+use Rattle.pt_trees.specs.Trees.{IsEntity, Starts}
+use Rattle.pt_trees.specs.Recorded.{numbers_at, recorded_at, recorded_of}
+use Rattle.pt_trees.specs.Built.{IsBuilt, AreBuilt, built_actor, built_sdf, none_built, more_built}
+use Rattle.pt_trees.specs.Ports.{Listed, own_ports, seen_below, ports_in, ports_below, listed_if, of_number, outputs_in, outputs_below, AreBelow, AreNumbered}
 use Rattle.pt_cover.specs.Leaves.{ActorsAreLeaves, AreStartedByClass}
 use Rattle.pt_cover.proofs.Nesting.{IsRooted, get-within, net-nested, net-rooted}
 use Rattle.pt_cover.proofs.Matching.{one_if, times_in, matching, numbers-match, times-matching, AllBelow, matching-below}

@@ -5,16 +5,16 @@ use Rattle.std.proofs.lemmas.Bool.{eqb-true, eq-eqb}
 use Rattle.std.proofs.lemmas.Option.{none-some, same_Some, slice_get_within}
 use Rattle.std.specs.List.{slice_get}
 use Rattle.pt_meaning.specs.Basics.{Path}
-use Rattle.pt_moml.specs.Document.{JobTree}
-use Rattle.pt_graph.specs.declared.net.Net.{Net}
-use Rattle.pt_graph.specs.declared.net.NetEntity.{NetEntity}
-use Rattle.pt_graph.specs.Net.{IsNetOf}
-use Rattle.pt_wiring.specs.Inside.{is_number, is_child, children_of}
+use Rattle.pt_document.specs.Document.{JobTree}
+use Rattle.pt_net.specs.declared.net.Net.{Net}
+use Rattle.pt_net.specs.declared.net.NetEntity.{NetEntity}
+use Rattle.pt_net.specs.Net.{IsNetOf}
+use Rattle.pt_net.specs.Inside.{is_number, is_child, children_of}
 use Rattle.pt_node.specs.Shown.{Shown, AllShown, Branch, none, more, list_of}
 use Rattle.pt_node.specs.View.{outline_of, outlines_of, text_at, text_below}
-use Rattle.pt_composite.specs.Composite.{frame_in, children_in}
-use Rattle.pt_build.specs.Trees.{IsEntity, Starts}
-use Rattle.pt_build.specs.Built.{IsBuilt, AreBuilt, built_actor, built_sdf, none_built, more_built}
+use Rattle.pt_trees.specs.Composite.{frame_in, children_in}
+use Rattle.pt_trees.specs.Trees.{IsEntity, Starts}
+use Rattle.pt_trees.specs.Built.{IsBuilt, AreBuilt, built_actor, built_sdf, none_built, more_built}
 use Rattle.pt_cover.specs.Leaves.{ActorsAreLeaves, AreStartedByClass}
 use Rattle.pt_cover.specs.Paths.{entity_at, text_of, HasOnePath, IsCover}
 use Rattle.pt_cover.proofs.Matching.{one_if, times_in, matching, children-match, AllPass, matching-none, matching-passes}

@@ -8,24 +8,24 @@ use Rattle.std.proofs.lemmas.Option.{same_Some}
 use Rattle.std.specs.Cmp.Lexicographic.{slice_cmp}
 use Rattle.serde_json.specs.Data.{Data, null, boolean, number, string, array, object, Items, no_items, item, Members, no_members, member}
 use Rattle.serde_json.specs.Find.{get}
-use Rattle.pt_moml.specs.declared.job.Link.{Link}
-use Rattle.pt_moml.specs.declared.job.Relation.{Relation}
-use Rattle.pt_moml.specs.declared.job.State.{State}
-use Rattle.pt_moml.specs.declared.refusal.Refusal.{Refusal}
-use Rattle.pt_moml.specs.Document.{PropertyTree, PortTree, TransitionTree, Parts, EntityTree, EntityTrees, entity, no_entities, one_entity, to_entities, entity_name, JobTree}
-use Rattle.pt_moml.specs.Classes.{Class, Kind, Composite, Modal, Actor, kind_of, class_row}
-use Rattle.pt_moml.specs.declared.code.Code.TheVariants.{Name}
-use Rattle.pt_moml.specs.Names.{is_among, is_name, are_distinct, below, top_path}
-use Rattle.pt_moml.specs.Outcome.{◌>>=◌}
+use Rattle.pt_document.specs.declared.job.Link.{Link}
+use Rattle.pt_document.specs.declared.job.Relation.{Relation}
+use Rattle.pt_document.specs.declared.job.State.{State}
+use Rattle.pt_document.specs.declared.refusal.Refusal.{Refusal}
+use Rattle.pt_document.specs.Document.{PropertyTree, PortTree, TransitionTree, Parts, EntityTree, EntityTrees, entity, no_entities, one_entity, to_entities, entity_name, JobTree}
+use Rattle.pt_document.specs.Classes.{Class, Kind, Composite, Modal, Actor, kind_of, class_row}
+use Rattle.pt_document.specs.declared.code.Code.TheVariants.{Name}
+use Rattle.pt_document.specs.Names.{is_among, is_name, are_distinct, below, top_path}
+use Rattle.pt_document.specs.Outcome.{◌>>=◌}
 use Rattle.pt_moml.specs.Fields.{listed, name_at, optional_list, text_at, distinct_at}
 use Rattle.pt_moml.specs.Forms.{Field}
 use Rattle.pt_moml.specs.Reading.{named, entity_fields, properties_field, ports_field, relations_field, link_at, states_field, initial_field, transition_at, parts_at, entity_from, entities_in, entities_under, entities_at, entity_items, entities_field, limits_at, model_at, version_at, job_fields, input_at, job_of, IsJobOf}
-use Rattle.pt_moml.proofs.Chains.{good, bind_ok, never_ok, test_ok}
+use Rattle.pt_document.proofs.Chains.{good, bind_ok, never_ok, test_ok}
 use Rattle.pt_moml.proofs.Entities.{in_is}
 use Rattle.pt_moml.proofs.FieldLaws.{name_ok}
 use Rattle.pt_moml.proofs.EntityLaws.{steps}
 use Rattle.pt_moml.proofs.ObjectLaws.{listed_ok, absent_field}
-use Rattle.pt_values.specs.Scopes.{is_composite_class}
+use Rattle.pt_scopes.specs.Scopes.{is_composite_class}
 use Rattle.pt_cover.specs.Leaves.{has_entities, HasLeafActors, HaveLeafActors, ActorsAreLeaves}
 
 -- the names of these entities

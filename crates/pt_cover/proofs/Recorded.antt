@@ -5,24 +5,25 @@ use Rattle.std.proofs.lemmas.List.{map-append}
 use Rattle.std.proofs.lemmas.List.Elements.{Contains-append_cases}
 use Rattle.std.proofs.lemmas.Option.{none-some, same_Some, slice_get-map}
 use Rattle.std.specs.List.{AllZip, Contains, slice_get}
-use Rattle.pt_moml.specs.declared.job.Direction.{Direction}
-use Rattle.pt_moml.specs.declared.job.Direction.TheVariants.{Input, Output}
-use Rattle.pt_moml.specs.declared.job.Port.{Port}
-use Rattle.pt_moml.specs.Document.{PortTree, Parts, parts, JobTree}
-use Rattle.pt_moml.specs.Classes.{ClassPort, Kind, Composite, Modal, Actor, kind_of}
-use Rattle.pt_moml.specs.Names.{below}
-use Rattle.pt_moml.specs.View.{port_view}
-use Rattle.pt_graph.specs.declared.net.Net.{Net}
-use Rattle.pt_graph.specs.declared.net.NetEntity.{NetEntity}
-use Rattle.pt_graph.specs.declared.net.NetPort.{NetPort}
-use Rattle.pt_graph.specs.Standing.{Standing, entities}
-use Rattle.pt_graph.specs.Table.{PortAt, declared_port, joined_ports, ports_of_kind, ports_of, numbered_ports, ports_from, tables_of, port_path}
-use Rattle.pt_graph.specs.Wires as wires
-use Rattle.pt_graph.specs.Net.{NetEntityTree, row_port, net_ports_of_kind, net_ports, net_port, entity_view, entity_tree, Records, IsNetOf}
-use Rattle.pt_graph.proofs.Members.{contains_here, contains_later, contains_cases, slice_contains}
-use Rattle.pt_values.specs.Scopes.{net_view}
-use Rattle.pt_wiring.specs.Inside.{is_inward, is_output}
-use Rattle.pt_build.specs.Trees.{IsEntity}
+use Rattle.pt_document.specs.declared.job.Direction.{Direction}
+use Rattle.pt_document.specs.declared.job.Direction.TheVariants.{Input, Output}
+use Rattle.pt_document.specs.declared.job.Port.{Port}
+use Rattle.pt_document.specs.Document.{PortTree, Parts, parts, JobTree}
+use Rattle.pt_document.specs.Classes.{ClassPort, Kind, Composite, Modal, Actor, kind_of}
+use Rattle.pt_document.specs.Names.{below}
+use Rattle.pt_document.specs.View.{port_view}
+use Rattle.pt_net.specs.declared.net.Net.{Net}
+use Rattle.pt_net.specs.declared.net.NetEntity.{NetEntity}
+use Rattle.pt_net.specs.declared.net.NetPort.{NetPort}
+use Rattle.pt_net.specs.Standing.{Standing, entities}
+use Rattle.pt_net.specs.Table.{PortAt, declared_port, joined_ports, ports_of_kind, ports_of, numbered_ports, ports_from, tables_of, port_path}
+use Rattle.pt_net.specs.Wires as wires
+use Rattle.pt_net.specs.Net.{NetEntityTree, row_port, net_ports_of_kind, net_ports, net_port, entity_view, entity_tree, Records, IsNetOf}
+use Rattle.pt_net.proofs.Opaque.{opaque_kept}
+use Rattle.pt_net.proofs.Members.{contains_here, contains_later, contains_cases, slice_contains}
+use Rattle.pt_scopes.specs.Scopes.{net_view}
+use Rattle.pt_net.specs.Inside.{is_inward, is_output}
+use Rattle.pt_trees.specs.Trees.{IsEntity}
 use Rattle.pt_cover.specs.Leaves.{ActorsAreLeaves}
 use Rattle.pt_cover.proofs.Walk.{all-placed}
 use Rattle.pt_cover.proofs.Nesting.{viewed, entity-there}
@@ -169,6 +170,6 @@ recorded-there job net leaves is n port at =
     let names = z.2.1 in
     let there = port-in 0 (entities job) p names.there in
     let s = slice_contains (entities job) p.standing there.there in
-    let seen : slice_get (map entity_view net.entities.items) p.standing.number ≡ Some (entity_tree p.standing) = entity-there (entities job) (net_view net) (all-placed job leaves) is.each_entity is.each_transparent s.0 p.standing s.1 names.kept in
+    let seen : slice_get (map entity_view net.entities.items) p.standing.number ≡ Some (entity_tree p.standing) = entity-there (entities job) (net_view net) (all-placed job leaves) is.each_entity is.each_transparent s.0 p.standing s.1 (opaque_kept p.standing names.opaque) in
     let held = viewed entity_view (slice_get net.entities.items p.standing.number) (entity_tree p.standing) (sym (slice_get-map entity_view net.entities.items p.standing.number) ∙ seen) in
     described net n port z.0 p held.0 (ap (λ (ts : List (List ℕ)). slice_get ts n) is.records ∙ z.1) names.told names.output z.2.2 there.at held.1 held.2

@@ -3,15 +3,15 @@ use Rattle.std.proofs.Common.{◌≡◌, ℕ, Option, Some, map, sym, ap, ◌∙
 use Rattle.std.specs.Prelude.{option_map}
 use Rattle.std.proofs.lemmas.Option.{same_Some, slice_get-map}
 use Rattle.std.specs.List.{slice_get}
-use Rattle.pt_graph.specs.declared.net.Net.{Net}
-use Rattle.pt_graph.specs.declared.net.NetEntity.{NetEntity}
-use Rattle.pt_graph.specs.Net.{NetEntityTree, entity_view}
-use Rattle.pt_values.specs.declared.values.Values.{Values}
+use Rattle.pt_net.specs.declared.net.Net.{Net}
+use Rattle.pt_net.specs.declared.net.NetEntity.{NetEntity}
+use Rattle.pt_net.specs.Net.{NetEntityTree, entity_view}
+use Rattle.pt_scopes.specs.declared.values.Values.{Values}
 use Rattle.pt_start.specs.Started.{PortTyping, IsStart}
 use Rattle.pt_library.specs.declared.library_actor.LibraryActor.{LibraryActor}
-use Rattle.pt_lib_flow.specs.declared.params.Params.{Params}
+use Rattle.pt_flow_base.specs.declared.params.Params.{Params}
 use Rattle.pt_library.specs.LibraryActor.{start}
-use Rattle.pt_build.specs.Trees.{IsEntity}
+use Rattle.pt_trees.specs.Trees.{IsEntity}
 
 pub by-class : (net : Net) (values : Values) (typing : PortTyping) (k : ℕ) (e : NetEntity) (a : LibraryActor) → IsEntity net k e → IsStart net values typing k (Some a) → (params : Params) × (params.class ≡ e.class) × (start params ≡ Some a)
 by-class net values typing k e a at started =

@@ -3,22 +3,22 @@ use Rattle.std.proofs.Common.{◌≡◌, ◌≤◌, ◌<◌, ◌+◌, ℕ, zero,
 use Rattle.std.proofs.lemmas.Bool.{eqb-true}
 use Rattle.std.proofs.lemmas.Option.{none-some, same_Some}
 use Rattle.std.specs.List.{slice_get}
-use Rattle.pt_moml.specs.Document.{JobTree}
-use Rattle.pt_moml.specs.Names.{below}
+use Rattle.pt_document.specs.Document.{JobTree}
+use Rattle.pt_document.specs.Names.{below}
 use Rattle.pt_meaning.specs.Basics.{Path}
-use Rattle.pt_graph.specs.declared.net.Net.{Net}
-use Rattle.pt_graph.specs.declared.net.NetEntity.{NetEntity}
-use Rattle.pt_graph.specs.declared.net.NetPort.{NetPort}
-use Rattle.pt_graph.specs.Net.{IsNetOf}
-use Rattle.pt_wiring.specs.Inside.{port_number}
+use Rattle.pt_net.specs.declared.net.Net.{Net}
+use Rattle.pt_net.specs.declared.net.NetEntity.{NetEntity}
+use Rattle.pt_net.specs.declared.net.NetPort.{NetPort}
+use Rattle.pt_net.specs.Net.{IsNetOf}
+use Rattle.pt_net.specs.Inside.{port_number}
 use Rattle.pt_node.specs.Recorded.{RecordedPort}
 use Rattle.pt_node.specs.Shown.{Shown, AllShown, Branch, none, more, list_of}
 use Rattle.pt_node.specs.View.{outline_of, outlines_of, text_at, text_below}
-use Rattle.pt_composite.specs.Composite.{frame_in, children_in}
-use Rattle.pt_build.specs.Trees.{IsEntity, Starts}
-use Rattle.pt_build.specs.Recorded.{numbers_at, port_in, text_in, recorded_at, recorded_of}
-use Rattle.pt_build.specs.Built.{IsBuilt, AreBuilt, built_actor, built_sdf, none_built, more_built}
-use Rattle.pt_run.specs.Ports.{Listed, own_ports, seen_below, ports_in, ports_below, listed_if, of_number, by_number, recorded_ports}
+use Rattle.pt_trees.specs.Composite.{frame_in, children_in}
+use Rattle.pt_trees.specs.Trees.{IsEntity, Starts}
+use Rattle.pt_trees.specs.Recorded.{numbers_at, port_in, text_in, recorded_at, recorded_of}
+use Rattle.pt_trees.specs.Built.{IsBuilt, AreBuilt, built_actor, built_sdf, none_built, more_built}
+use Rattle.pt_trees.specs.Ports.{Listed, own_ports, seen_below, ports_in, ports_below, listed_if, of_number, by_number, recorded_ports}
 use Rattle.pt_cover.specs.Leaves.{ActorsAreLeaves, AreStartedByClass}
 use Rattle.pt_cover.specs.Told.{IsRecordedAt, AreTold}
 use Rattle.pt_cover.proofs.Matching.{AllPass, numbers-match, matching-passes}

@@ -4,11 +4,11 @@ use Rattle.std.specs.Prelude.{IsTrue}
 use Rattle.std.proofs.lemmas.List.{length-append, take-append-le, take_at}
 use Rattle.std.proofs.lemmas.Option.{none-some, same_Some, slice_get_within}
 use Rattle.std.specs.List.{slice_get}
-use Rattle.pt_moml.specs.Document.{EntityTree, EntityTrees, entity, no_entities, one_entity, entity_name, parts, JobTree}
-use Rattle.pt_moml.specs.Names.{top_path, below}
-use Rattle.pt_graph.specs.Standing.{Standing, Round, is_kept, is_kept_as, is_composite, standing, kept_count, round_in, no_round, with_entity, with_entities, entities}
-use Rattle.pt_values.specs.Scopes.{is_composite_class}
-use Rattle.pt_values.proofs.Document.{get-left, get-last, get-cases}
+use Rattle.pt_document.specs.Document.{EntityTree, EntityTrees, entity, no_entities, one_entity, entity_name, parts, JobTree}
+use Rattle.pt_document.specs.Names.{top_path, below}
+use Rattle.pt_net.specs.Standing.{Standing, Round, is_kept, is_kept_as, is_composite, standing, kept_count, round_in, no_round, with_entity, with_entities, entities}
+use Rattle.pt_scopes.specs.Scopes.{is_composite_class}
+use Rattle.pt_scopes.proofs.Document.{get-left, get-last, get-cases}
 use Rattle.pt_cover.specs.Leaves.{has_entities, HasLeafActors, HaveLeafActors, ActorsAreLeaves}
 
 -- before this place stands an entity that stays in the net, under that number there, and that may have others within it

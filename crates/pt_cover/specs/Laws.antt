@@ -1,15 +1,15 @@
 -- Laws of the tree that is built from the net of a job: each entity has one node.
 use Rattle.std.specs.Prelude.{ℕ, List, length}
-use Rattle.pt_moml.specs.Document.{JobTree}
+use Rattle.pt_document.specs.Document.{JobTree}
 use Rattle.pt_moml.specs.Reading.{IsJobOf}
-use Rattle.pt_graph.specs.declared.net.Net.{Net}
-use Rattle.pt_graph.specs.Net.{IsNetOf}
-use Rattle.pt_values.specs.Scopes.{net_view}
+use Rattle.pt_net.specs.declared.net.Net.{Net}
+use Rattle.pt_net.specs.Net.{IsNetOf}
+use Rattle.pt_scopes.specs.Scopes.{net_view}
 use Rattle.pt_start.specs.Nested.{IsNested}
 use Rattle.pt_node.specs.Shown.{Shown}
-use Rattle.pt_build.specs.Trees.{Starts}
-use Rattle.pt_build.specs.Built.{IsBuilt}
-use Rattle.pt_run.specs.Ports.{AreNumbered}
+use Rattle.pt_trees.specs.Trees.{Starts}
+use Rattle.pt_trees.specs.Built.{IsBuilt}
+use Rattle.pt_trees.specs.Ports.{AreNumbered}
 use Rattle.pt_cover.specs.Leaves.{ActorsAreLeaves, AreStartedByClass}
 use Rattle.pt_cover.specs.Told.{AreTold}
 use Rattle.pt_cover.specs.Paths.{IsCover, AreApart}

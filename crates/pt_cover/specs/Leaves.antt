@@ -1,13 +1,13 @@
 -- What has nothing within it: library actors, in a job and among what the entities of a net start as.
 use Rattle.std.specs.Prelude.{◌≡◌, ℕ, Bool, true, false, IsTrue, Some}
-use Rattle.pt_moml.specs.Document.{EntityTree, EntityTrees, entity, no_entities, one_entity, JobTree}
-use Rattle.pt_graph.specs.declared.net.Net.{Net}
-use Rattle.pt_graph.specs.declared.net.NetEntity.{NetEntity}
-use Rattle.pt_values.specs.Scopes.{is_composite_class}
+use Rattle.pt_document.specs.Document.{EntityTree, EntityTrees, entity, no_entities, one_entity, JobTree}
+use Rattle.pt_net.specs.declared.net.Net.{Net}
+use Rattle.pt_net.specs.declared.net.NetEntity.{NetEntity}
+use Rattle.pt_scopes.specs.Scopes.{is_composite_class}
 use Rattle.pt_library.specs.declared.library_actor.LibraryActor.{LibraryActor}
-use Rattle.pt_lib_flow.specs.declared.params.Params.{Params}
+use Rattle.pt_flow_base.specs.declared.params.Params.{Params}
 use Rattle.pt_library.specs.LibraryActor.{start}
-use Rattle.pt_build.specs.Trees.{IsEntity, Starts, StartsAs}
+use Rattle.pt_trees.specs.Trees.{IsEntity, Starts, StartsAs}
 
 -- there is an entity among these
 abbrev pub has_entities : EntityTrees → Bool

@@ -1,12 +1,12 @@
 -- Which entity of a net stands at a path of the tree that is built from it.
 use Rattle.std.specs.Prelude.{◌≡◌, ℕ, ◌<◌, List, [], ◌∷◌, length, Option, Some, option_map, option_and_then, slice_get}
 use Rattle.pt_meaning.specs.Basics.{Path}
-use Rattle.pt_graph.specs.declared.net.Net.{Net}
-use Rattle.pt_graph.specs.declared.net.NetEntity.{NetEntity}
-use Rattle.pt_wiring.specs.Inside.{children_of}
+use Rattle.pt_net.specs.declared.net.Net.{Net}
+use Rattle.pt_net.specs.declared.net.NetEntity.{NetEntity}
+use Rattle.pt_net.specs.Inside.{children_of}
 use Rattle.pt_node.specs.Shown.{Shown}
 use Rattle.pt_node.specs.View.{outline_of, text_at}
-use Rattle.pt_build.specs.Trees.{IsEntity}
+use Rattle.pt_trees.specs.Trees.{IsEntity}
 
 -- the entity to which a path leads from entity k: each step goes to the child of that number, in the order of the document
 abbrev pub entity_at : List NetEntity → ℕ → Path → Option ℕ

@@ -1,15 +1,15 @@
 -- What each trace of a report is of.
 use Rattle.std.specs.Prelude.{◌≡◌, ℕ, length, Some, true, slice_get}
-use Rattle.pt_moml.specs.declared.job.Port.{Port}
-use Rattle.pt_moml.specs.Names.{below}
-use Rattle.pt_graph.specs.declared.net.Net.{Net}
-use Rattle.pt_graph.specs.declared.net.NetEntity.{NetEntity}
-use Rattle.pt_graph.specs.declared.net.NetPort.{NetPort}
-use Rattle.pt_wiring.specs.Inside.{is_output, port_number}
+use Rattle.pt_document.specs.declared.job.Port.{Port}
+use Rattle.pt_document.specs.Names.{below}
+use Rattle.pt_net.specs.declared.net.Net.{Net}
+use Rattle.pt_net.specs.declared.net.NetEntity.{NetEntity}
+use Rattle.pt_net.specs.declared.net.NetPort.{NetPort}
+use Rattle.pt_net.specs.Inside.{is_output, port_number}
 use Rattle.pt_node.specs.Shown.{Shown}
 use Rattle.pt_node.specs.View.{outline_of, text_at}
-use Rattle.pt_build.specs.Trees.{IsEntity}
-use Rattle.pt_run.specs.Ports.{Listed, recorded_ports}
+use Rattle.pt_trees.specs.Trees.{IsEntity}
+use Rattle.pt_trees.specs.Ports.{Listed, recorded_ports}
 
 -- In a tree that is built from a net, this is the recorded port of number n. It is the output of an entity that the net records under that number; it stands
 -- at the node whose text is the path of that entity, and has its number among the outputs there. It is told under the text that the document records it by,

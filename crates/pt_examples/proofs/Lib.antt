@@ -1,3 +1,4 @@
+mod Parts
 pub mod SmallLaws
 pub mod DataflowExamples
 pub mod NetworkExamples
@@ -9,4 +10,6 @@ pub mod EdgeExamples
 pub mod NestingExamples
 pub mod JamExample
 pub mod ReportExample
+pub mod WrongReportsExamples
 pub mod ClosedLogsExamples
+pub mod UnlawfulExamples

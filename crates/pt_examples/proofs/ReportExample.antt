@@ -1,5 +1,5 @@
 -- The example of a report is one.
-use Rattle.std.proofs.Common.{◌≡◌, ◌≤◌, ◌⊎◌, inl, inr, ℕ, zero, suc, List, [], ◌∷◌, ◌++◌, length, Some, None, Bool, true, false, nat_le, refl, ap, subst, arith}
+use Rattle.std.proofs.Common.{◌≡◌, ◌≤◌, ◌⊎◌, inl, inr, ℕ, zero, suc, List, [], ◌∷◌, ◌++◌, length, Some, None, Bool, true, false, nat_le, refl, sym, ap, subst, arith}
 use Rattle.pt_meaning.specs.Tag.{origin}
 use Rattle.pt_meaning.specs.Streams.{IsPrefix, get}
 use Rattle.pt_meaning.specs.Log.{Path, Firing, Event, Finished, Log, meetings_in, firings_in}
@@ -14,7 +14,8 @@ use Rattle.pt_meaning.specs.Tree.{Core, Sdf}
 use Rattle.pt_laws.proofs.MeaningLaws.{meaning_grows}
 use Rattle.pt_examples.specs.Small.{Token, Act, int, rows}
 use Rattle.pt_examples.specs.Dataflow.{doubled}
-use Rattle.pt_examples.specs.Reports.{once, scale_alone, ReportExample, UnclosedExample}
+use Rattle.pt_examples.proofs.Parts.{part-of-all, prefix-has}
+use Rattle.pt_examples.specs.Reports.{once, one_each, scale_alone, ReportExample, UnclosedExample}
 use Rattle.pt_examples.proofs.SmallLaws.{small_is_lawful}
 
 -- the three firings, and the log of them
@@ -136,23 +137,37 @@ has_cause (suc (suc j) ∷ p) c e i q n h = absurd (cc)
 has_cause (zero ∷ j ∷ p) c e i q n h = absurd (cc)
 has_cause (suc zero ∷ j ∷ p) c e i q n h = absurd (cc)
 
+all_counted : (p : Path) → firings_in (all_told p) ≡ one_each p
+all_counted [] = refl
+all_counted (zero ∷ []) = refl
+all_counted (suc zero ∷ []) = refl
+all_counted (suc (suc i) ∷ []) = refl
+all_counted (zero ∷ j ∷ p) = refl
+all_counted (suc zero ∷ j ∷ p) = refl
+all_counted (suc (suc i) ∷ j ∷ p) = refl
+
+-- at each fuel the meaning's log is a part of it
+all_there : (k : ℕ) (p : Path) (n : ℕ) (r : Path) (e : Event Token) → CameWithin (meaning k rows no_meetings once doubled) p n r e → Has e (all_told (p ++ r))
+all_there k p n r e w = prefix-has e (meaning k rows no_meetings once doubled (p ++ r)) (all_told (p ++ r)) (subst (λ xs. IsPrefix (meaning k rows no_meetings once doubled (p ++ r)) xs) (sym (is_all (p ++ r))) (part-of-all small_is_lawful once doubled 5 Iterations course (ends 5 (omega arith)) k (p ++ r))) w.0
+
 pub report_example : ReportExample
 unfolding after
 report_example = record {
   log = all_told;
+  counted = all_counted;
   legal = λ p n. (0, refl);
   met = no_meeting;
   prefix = (5, is_prefix);
+  under_way = none_under_way;
   shut = λ k h. record {
     inside = record {
-      under_way = none_under_way;
       caused = has_cause;
       begun = λ p n r e w f. absurd (all_finished p n r e w f);
       enclosed = λ p i b e. absurd (cc);
       finished = λ p n r e w. let z = within_first p n r e w in let y = z.1 in omega (arith, y);
-      whole = λ p n r e w k l r' g v. absurd (let z = within_first p n r e w in let y = z.1 in omega (arith, y, l));
+      whole = λ p n l r e w. all_there k p n r e w;
     };
-    next = λ b e. absurd (cc);
+    next = λ p b e. absurd (cc);
   };
   told = (refl, tt);
   caused = ((5, is_meaning), (5, course, ends 5 (omega arith)), omega arith);
@@ -160,9 +175,9 @@ report_example = record {
 
 -- the Scale's token was given by no firing of the log, and in dataflow nothing is given early
 pub unclosed_example : UnclosedExample
-unclosed_example whole closed = let now = closed.begun [] 0 (1 ∷ []) (Finished (0 ∷ []) of_scale) (inl refl, refl) refl in go (closed.caused [] start refl 1 0 0 (inr (refl, now.0, now.1)))
+unclosed_example whole way closed = let now = closed.begun [] 0 (1 ∷ []) (Finished (0 ∷ []) of_scale) (inl refl, refl) refl in go (closed.caused [] start refl 1 0 0 (inr (refl, now.0, now.1)))
   where
-    go : IsCausedAt rows doubled scale_alone closed.under_way [] start 1 0 0 → ⊥
-    go (inl (r, few, inl zero_is, below)) = subst (λ c. IsPrefix (taken rows doubled scale_alone closed.under_way [] 1 0 c 0) []) zero_is below
+    go : IsCausedAt rows doubled scale_alone way [] start 1 0 0 → ⊥
+    go (inl (r, few, inl zero_is, below)) = subst (λ c. IsPrefix (taken rows doubled scale_alone way [] 1 0 c 0) []) zero_is below
     go (inl (r, few, inr modal, below)) = absurd (cc)
     go (inr (tick, b, begun, now, xs, known, below)) = absurd (cc)

@@ -13,7 +13,7 @@ use Rattle.pt_examples.specs.Small.{Token, Num, Array, int, number, Act, Const, 
 use Rattle.pt_examples.specs.Dataflow.{twice}
 use Rattle.pt_examples.specs.Networks.{inverse}
 use Rattle.pt_examples.specs.Rendezvous.{of_top}
-use Rattle.pt_examples.specs.Modals.{input_is, always, goes, one_in_one_out, counter}
+use Rattle.pt_examples.specs.Modals.{input_is, always, goes, with_variables, one_in_one_out, counter}
 use Rattle.pt_examples.specs.Models.{sdf, pn, sr, de, rv, modal, run, run_under, Running, EndedBy, StuckIn, told, moment, place, at_origin, timed}
 
 -- Two ways to a reset. The outer Modal has modes run, whose refinement is the inner Modal, and hold: to hold, preemptive, on 9; to run on 0.
@@ -36,7 +36,7 @@ outer history =
 abbrev pub two_resets : (history : Bool) → Node Token Act
 two_resets history =
     sr (Output 0 0 ∷ []) (0 ∷ 1 ∷ []) 0
-    (actor (Sequence (int 0 ∷ int 0 ∷ int 1 ∷ int 0 ∷ int 0 ∷ int 9 ∷ int 0 ∷ int 0 ∷ int 0 ∷ [])) ∷ modal (outer history) [] (modal inner [] (counter ∷ []) ∷ []) ∷ [])
+    (actor (Sequence (int 0 ∷ int 0 ∷ int 1 ∷ int 0 ∷ int 0 ∷ int 9 ∷ int 0 ∷ int 0 ∷ int 0 ∷ [])) ∷ modal (outer history) (modal inner (counter ∷ []) ∷ []) ∷ [])
 
 -- A Merge with a starved input: the first source gives 1 and 2, the second is over from the start. Each token meets the Merge and then the Discard, and both channels of the Merge stay silent at the end.
 abbrev pub starved : Node Token Act
@@ -74,13 +74,13 @@ on_off history =
     record { refinement = None; preemptive = []; others = goes always 0 history ∷ [] } ∷ [])
 
 abbrev pub re_entered : (history : Bool) → Node Token Act
-re_entered history = de (Output 0 0 ∷ Output 1 0 ∷ []) (0 ∷ 1 ∷ 1 ∷ []) 0 (actor (clock 2 ((0, int 1) ∷ [])) ∷ twice ∷ modal (on_off history) [] (counter ∷ []) ∷ [])
+re_entered history = de (Output 0 0 ∷ Output 1 0 ∷ []) (0 ∷ 1 ∷ 1 ∷ []) 0 (actor (clock 2 ((0, int 1) ∷ [])) ∷ twice ∷ modal (on_off history) (counter ∷ []) ∷ [])
 
 -- A Modal in a mode without a refinement gives nothing, which under SDF is another number of tokens than its rate.
 abbrev pub silent_mode : Node Token Act
 silent_mode =
     sdf (Output 0 0 ∷ Output 1 0 ∷ []) (0 ∷ 1 ∷ 1 ∷ []) (1 ∷ 1 ∷ 1 ∷ []) [] [] ((1 ∷ []) ∷ (1 ∷ []) ∷ [] ∷ [])
-    (actor ramp ∷ modal (one_in_one_out (record { refinement = None; preemptive = []; others = [] } ∷ [])) [] [] ∷ actor (Discard 1) ∷ [])
+    (actor ramp ∷ modal (one_in_one_out (record { refinement = None; preemptive = []; others = [] } ∷ [])) [] ∷ actor (Discard 1) ∷ [])
 
 -- A process that is over beside an endless one: the one token 5 is added to 0, and then the adder lacks a token for ever, while the Ramp goes on. At fuel 4 the Ramp has made four firings, and no fuel is enough.
 abbrev pub over_beside_endless : Node Token Act
@@ -98,7 +98,7 @@ by_ones history =
     record { refinement = None; preemptive = []; others = goes (input_is 1) 0 history ∷ [] } ∷ [])
 
 abbrev pub woken_again : (history : Bool) → Node Token Act
-woken_again history = de (Output 0 0 ∷ []) (0 ∷ 1 ∷ []) 0 (actor (clock 2 ((0, int 1) ∷ [])) ∷ modal (by_ones history) [] (constant_inside ∷ []) ∷ [])
+woken_again history = de (Output 0 0 ∷ []) (0 ∷ 1 ∷ []) 0 (actor (clock 2 ((0, int 1) ∷ [])) ∷ modal (by_ones history) (constant_inside ∷ []) ∷ [])
 
 -- Pending entries out of order: a refinement of DE around a delay of 0, off on 2 and on on 3, with history.
 -- Token 1 at 0.0 leaves at 0.1. Token 2 at 0.5 is pending for 0.6, and the Modal goes off. It is on again at 5.0 with lag 5. Token 4 at 5.1 comes at the local 0.1 and is pending for 0.2, before the other: it leaves at 5.2, and token 2 at 5.6.
@@ -112,7 +112,7 @@ two_three =
     record { refinement = None; preemptive = []; others = goes (input_is 3) 0 true ∷ [] } ∷ [])
 
 abbrev pub out_of_order : Node Token Act
-out_of_order = de (Own 0 ∷ []) (1 ∷ []) 1 (modal two_three [] (delaying ∷ []) ∷ [])
+out_of_order = de (Own 0 ∷ []) (1 ∷ []) 1 (modal two_three (delaying ∷ []) ∷ [])
 
 -- Guards: two that are enabled and then a faulty one. The fault decides.
 abbrev pub faulty : Scope Token → Test
@@ -122,7 +122,7 @@ abbrev pub faulty_guard : Chart Token
 faulty_guard = one_in_one_out (record { refinement = None; preemptive = goes always 0 true ∷ goes always 0 true ∷ goes faulty 0 true ∷ []; others = [] } ∷ [])
 
 abbrev pub guarded : Node Token Act
-guarded = sr (Output 0 0 ∷ []) (0 ∷ 1 ∷ []) 0 (actor (Sequence (int 7 ∷ [])) ∷ modal faulty_guard [] [] ∷ [])
+guarded = sr (Output 0 0 ∷ []) (0 ∷ 1 ∷ []) 0 (actor (Sequence (int 7 ∷ [])) ∷ modal faulty_guard [] ∷ [])
 
 -- Actions: the output is 1, then the input, then the Variable if it is 3 or more; the Variable becomes one more, and then twice that. At first the Variable is 0, and the inputs are 7, absent, 9.
 -- Tick 0: the input 7 replaces 1, and the Variable becomes 2. Tick 1: the input is absent, so that 1 stays; the Variable becomes 6. Tick 2: the Variable 6 replaces the input 9, and becomes 14.
@@ -148,7 +148,7 @@ acting = record {
 }
 
 abbrev pub actions : Node Token Act
-actions = sr (Own 0 ∷ []) (1 ∷ []) 1 (modal (one_in_one_out (record { refinement = None; preemptive = []; others = acting ∷ [] } ∷ [])) (int 0 ∷ []) [] ∷ [])
+actions = sr (Own 0 ∷ []) (1 ∷ []) 1 (modal (with_variables (int 0 ∷ []) (record { refinement = None; preemptive = []; others = acting ∷ [] } ∷ [])) [] ∷ [])
 
 -- A fault in the third of three tokens at one tag: a network gives 2, 1, 0 at once, and the inverse fires three times. The first two firings stand in the log, with 0 and 1.
 abbrev pub three_at_once : Node Token Act

@@ -11,4 +11,6 @@ pub mod Nesting
 pub mod Jams
 pub mod Worked
 pub mod Reports
+pub mod WrongReports
 pub mod ClosedLogs
+pub mod Unlawful

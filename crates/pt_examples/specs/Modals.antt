@@ -38,9 +38,13 @@ always scope = On
 abbrev pub goes : (Scope Token → Test) → (target : ℕ) (history : Bool) → Transition Token
 goes guard target history = record { guard = guard; outputs = []; sets = []; target = target; history = history }
 
--- one input and one output, which are also those of each refinement
+-- one input and one output, which are also those of each refinement, and Variables with these first values; it begins in mode 0
+abbrev pub with_variables : List Token → List (Mode Token) → Chart Token
+with_variables values modes = chart_of 1 1 0 values modes (λ i. 0 ∷ []) (λ i. Some 0 ∷ [])
+
+-- the same without Variables
 abbrev pub one_in_one_out : List (Mode Token) → Chart Token
-one_in_one_out modes = chart_of 1 1 modes (λ i. 0 ∷ []) (λ i. Some 0 ∷ [])
+one_in_one_out modes = with_variables [] modes
 
 -- the refinement: a Ramp with a trigger, under SDF
 abbrev pub counter : Node Token Act
@@ -59,7 +63,7 @@ ambiguous = one_in_one_out (record { refinement = Some 0; preemptive = goes alwa
 
 -- under SR, by the inputs 0, 0, 1, 0, 0: it counts in ticks 0 and 1, goes to hold in tick 2, returns in tick 3, and counts in tick 4
 abbrev pub below_source : Chart Token → Node Token Act
-below_source chart = sr (Output 0 0 ∷ []) (0 ∷ 1 ∷ []) 0 (actor (Sequence (int 0 ∷ int 0 ∷ int 1 ∷ int 0 ∷ int 0 ∷ [])) ∷ modal chart [] (counter ∷ []) ∷ [])
+below_source chart = sr (Output 0 0 ∷ []) (0 ∷ 1 ∷ []) 0 (actor (Sequence (int 0 ∷ int 0 ∷ int 1 ∷ int 0 ∷ int 0 ∷ [])) ∷ modal chart (counter ∷ []) ∷ [])
 
 -- the numbers of the firings
 abbrev pub numbers : List (Event Token) → List ℕ
@@ -72,7 +76,7 @@ abbrev pub clocked : Node Token Act
 clocked = de (Own 0 ∷ Output 1 0 ∷ []) (1 ∷ 0 ∷ []) 1 (actor (Discard 1) ∷ actor (clock 3 ((0, int 1) ∷ [])) ∷ [])
 
 abbrev pub below_clock : Chart Token → Node Token Act
-below_clock chart = de (Output 0 0 ∷ []) (0 ∷ 1 ∷ []) 0 (actor (clock 2 ((0, int 1) ∷ [])) ∷ modal chart [] (clocked ∷ []) ∷ [])
+below_clock chart = de (Output 0 0 ∷ []) (0 ∷ 1 ∷ []) 0 (actor (clock 2 ((0, int 1) ∷ [])) ∷ modal chart (clocked ∷ []) ∷ [])
 
 -- Mode on (0) with this refinement and mode off (1): on to off by the guard, off to on on 1, both with history.
 abbrev pub on_and_off : (Scope Token → Test) → Chart Token

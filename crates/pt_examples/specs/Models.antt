@@ -1,10 +1,10 @@
 -- Composites of the small library at their start, and how a run of one is told.
-use Rattle.std.specs.Prelude.{ℕ, List, [], ◌∷◌, Bool}
+use Rattle.std.specs.Prelude.{ℕ, List, [], ◌∷◌, length, Bool}
 use Rattle.pt_meaning.specs.Tag.{Tag}
 use Rattle.pt_meaning.specs.Log.{Path, trace}
 use Rattle.pt_meaning.specs.Machine.{Fault}
 use Rattle.pt_meaning.specs.Net.{Source}
-use Rattle.pt_meaning.specs.Modal.{Chart, Stay}
+use Rattle.pt_meaning.specs.Modal.{Chart, first_modes}
 use Rattle.pt_meaning.specs.Meetings.{Meets}
 use Rattle.pt_meaning.specs.Rendezvous.{RvPlan, first_places}
 use Rattle.pt_meaning.specs.Tree.{Sdf, Pn, Sr, De, Rv, Modal, Node, composite}
@@ -37,13 +37,9 @@ rv sources places barriers takes kids = at_first (record { net = record { source
     at_first : RvPlan → List (Node Token Act) → Node Token Act
     at_first p kids = composite (Rv p (first_places p)) kids
 
--- a Modal in mode 0, with the first values of its Variables
-abbrev pub modal : Chart Token → List Token → List (Node Token Act) → Node Token Act
-modal chart values kids = composite (Modal chart (record { mode = 0; values = values; stays = fresh kids })) kids
-  where
-    fresh : List (Node Token Act) → List Stay
-    fresh [] = []
-    fresh (kid ∷ kids) = record { standing = 0; lag = 0 } ∷ fresh kids
+-- a Modal with its refinements
+abbrev pub modal : Chart Token → List (Node Token Act) → Node Token Act
+modal chart kids = composite (Modal chart (first_modes chart (length kids))) kids
 
 -- the run at fuel k, of at most k firings, without meetings and under meetings
 abbrev pub run : ℕ → Schedule Token Act → Node Token Act → Standing Token Act

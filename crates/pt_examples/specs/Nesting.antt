@@ -28,10 +28,10 @@ abbrev pub innermost : Node Token Act
 innermost = de (Own 0 ∷ Output 1 0 ∷ []) (1 ∷ 0 ∷ []) 1 (actor (Discard 1) ∷ actor (clock 2 ((0, int 1) ∷ [])) ∷ [])
 
 abbrev pub with_modal : Node Token Act
-with_modal = de (Own 0 ∷ Output 0 0 ∷ []) (1 ∷ []) 1 (modal (on_and_off 1) [] (innermost ∷ []) ∷ [])
+with_modal = de (Own 0 ∷ Output 0 0 ∷ []) (1 ∷ []) 1 (modal (on_and_off 1) (innermost ∷ []) ∷ [])
 
 abbrev pub two_lags : Node Token Act
-two_lags = de (Own 0 ∷ []) (1 ∷ []) 1 (modal (on_and_off 2) [] (with_modal ∷ []) ∷ [])
+two_lags = de (Own 0 ∷ []) (1 ∷ []) 1 (modal (on_and_off 2) (with_modal ∷ []) ∷ [])
 
 abbrev pub switching_events : List (List (Tag × Token))
 switching_events = ((moment 1 0, int 1) ∷ (moment 2 0, int 2) ∷ (moment 5 0, int 2) ∷ (moment 6 0, int 1) ∷ []) ∷ []
@@ -93,7 +93,7 @@ by_turns =
     record { refinement = Some 1; preemptive = []; others = goes always 0 true ∷ [] } ∷ [])
 
 abbrev pub taking_turns : Node Token Act
-taking_turns = modal by_turns [] (scaled_by (actor (Scale (pos 2))) ∷ scaled_by (actor (Scale (negsuc 0))) ∷ [])
+taking_turns = modal by_turns (scaled_by (actor (Scale (pos 2))) ∷ scaled_by (actor (Scale (negsuc 0))) ∷ [])
 
 abbrev pub modal_in_pn_in_sdf : Node Token Act
 modal_in_pn_in_sdf =
@@ -124,7 +124,7 @@ stop_and_go history =
     record { refinement = None; preemptive = []; others = goes (input_is 0) 0 history ∷ [] } ∷ [])
 
 abbrev pub refined_by : Node Token Act → List Token → (history : Bool) → Node Token Act
-refined_by refinement inputs history = sr (Output 0 0 ∷ []) (0 ∷ 1 ∷ []) 0 (actor (Sequence inputs) ∷ modal (stop_and_go history) [] (refinement ∷ []) ∷ [])
+refined_by refinement inputs history = sr (Output 0 0 ∷ []) (0 ∷ 1 ∷ []) 0 (actor (Sequence inputs) ∷ modal (stop_and_go history) (refinement ∷ []) ∷ [])
 
 abbrev pub five_to_eight : List Token
 five_to_eight = int 5 ∷ int 1 ∷ int 0 ∷ int 7 ∷ int 8 ∷ []

@@ -15,7 +15,9 @@ ghost use Rattle.pt_examples.specs.Edges.{EdgeExamples};
 ghost use Rattle.pt_examples.specs.Nesting.{NestingExamples};
 ghost use Rattle.pt_examples.specs.Jams.{JamExample};
 ghost use Rattle.pt_examples.specs.Reports.{ReportExample, UnclosedExample};
+ghost use Rattle.pt_examples.specs.WrongReports.{UnderstatedExample, HollowExample, CauselessExample, MisnumberedExample, OfAnotherRunExample};
 ghost use Rattle.pt_examples.specs.ClosedLogs.{ClosedLogsExamples};
+ghost use Rattle.pt_examples.specs.Unlawful.{UnlawfulExamples};
 
 /// The small library of the examples keeps what every library of actors owes.
 pub fn small_library_is_lawful()
@@ -77,7 +79,37 @@ pub fn unclosed_example()
     ensures { UnclosedExample }
 {}
 
+/// No report leaves out a token that a composite took in a firing under way.
+pub fn understated_report_example()
+    ensures { UnderstatedExample }
+{}
+
+/// No report tells a finished firing of a composite without what came within it.
+pub fn hollow_report_example()
+    ensures { HollowExample }
+{}
+
+/// No report tells a fault without what led to it.
+pub fn causeless_report_example()
+    ensures { CauselessExample }
+{}
+
+/// No report tells a fault with another number than that of the stuck firing.
+pub fn misnumbered_report_example()
+    ensures { MisnumberedExample }
+{}
+
+/// No report has the log of another run than its own.
+pub fn report_of_another_run_example()
+    ensures { OfAnotherRunExample }
+{}
+
 /// The logs of a model of each director, and of nested ones, are closed at any fuel.
 pub fn closed_logs_examples()
     ensures { ClosedLogsExamples }
+{}
+
+/// What goes wrong in each model that isn't lawful, and that it isn't at its start, doesn't fit or isn't planned.
+pub fn unlawful_examples()
+    ensures { UnlawfulExamples }
 {}

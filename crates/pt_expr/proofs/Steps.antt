@@ -1,8 +1,8 @@
 -- The parts of a literal that are evaluated so far, and those that are left.
 use Rattle.std.proofs.Common.{◌≡◌, List, [], ◌∷◌, ◌++◌, refl, sym, ap, ◌∙◌, append_assoc}
 use Rattle.pt_value.specs.Value.{Value}
-use Rattle.pt_expr.specs.declared.fault.EvalFault.{EvalFault}
-use Rattle.pt_expr.specs.Outcome.{Outcome, Gives, Stops, Wrong, and_then}
+use Rattle.pt_language.specs.declared.eval_fault.EvalFault.{EvalFault}
+use Rattle.pt_language.specs.Outcome.{Outcome, Gives, Stops, Wrong, and_then}
 
 -- some parts are done, and the others come behind them
 abbrev pub behind : {X : Type 0} → List X → Outcome (List X) → Outcome (List X)

@@ -3,13 +3,13 @@ use Rattle.std.specs.Prelude.{Bool as Truth}
 use Rattle.std.specs.Prelude.{◌≡◌, ℕ, zero, suc, ◌+◌, ℤ, pos, neg_ℤ, List, [], ◌∷◌, map, codes, true, false, Some, None, if◌then◌else◌, refl}
 use Rattle.std.specs.Str.{bytes_eq}
 use Rattle.pt_value.specs.Value.{Value, Int, Bool, Words, Array, Record, values_of, named_of}
-use Rattle.pt_expr.specs.declared.expr.BinaryOp.TheVariants as op
-use Rattle.pt_expr.specs.declared.fault.EvalFault.TheVariants.{DivideByZero, Overflow, Index, Absent}
-use Rattle.pt_expr.specs.Tree as tree
-use Rattle.pt_expr.specs.Tree.{Tree, Binary, Cond, Abs, Max, Min, Negate, Not, Apply, Field, Length, trees_of}
-use Rattle.pt_expr.specs.Scope.{Scope}
-use Rattle.pt_expr.specs.Outcome.{Outcome, Gives, Stops, Wrong}
-use Rattle.pt_expr.specs.Meaning.{value}
+use Rattle.pt_language.specs.declared.expr.BinaryOp.TheVariants as op
+use Rattle.pt_language.specs.declared.eval_fault.EvalFault.TheVariants.{DivideByZero, Overflow, Index, Absent}
+use Rattle.pt_language.specs.Tree as tree
+use Rattle.pt_language.specs.Tree.{Tree, Binary, Cond, Abs, Max, Min, Negate, Not, Apply, Field, Length, trees_of}
+use Rattle.pt_language.specs.Scope.{Scope}
+use Rattle.pt_language.specs.Outcome.{Outcome, Gives, Stops, Wrong}
+use Rattle.pt_language.specs.Meaning.{value}
 
 abbrev minus : ℕ → ℤ
 minus n = neg_ℤ (pos n)

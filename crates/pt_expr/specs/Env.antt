@@ -3,7 +3,7 @@ use Rattle.std.specs.Prelude.{option_map}
 use Rattle.indexmap.specs.IndexMap.{get_by_text}
 use Rattle.pt_value.specs.Token.{value_of}
 use Rattle.pt_expr.specs.declared.env.Env.{Env}
-use Rattle.pt_expr.specs.Scope.{Scope}
+use Rattle.pt_language.specs.Scope.{Scope}
 
 -- what is bound under each name
 abbrev pub scope_of : Env → Scope

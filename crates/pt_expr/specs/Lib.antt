@@ -1,10 +1,1 @@
-pub mod Tree
-pub mod Expr
-pub mod Parts
-pub mod Outcome
-pub mod Same
-pub mod Scope
 pub mod Env
-pub mod Comparable
-pub mod RecordOf
-pub mod Meaning

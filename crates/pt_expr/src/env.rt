@@ -1,13 +1,13 @@
 ghost use Rattle.std.specs.Prelude.{◌≡◌, ◌⊎◌, OnOk, OnErr, IfOk, IfErr, None, Some, List, ℕ, option_map, if◌then◌else◌};
 ghost use Rattle.std.specs.Str.{bytes_eq};
 ghost use Rattle.pt_value.specs.Token.{value_of};
-ghost use Rattle.pt_expr.specs.declared.fault.EvalFault.TheVariants.{Memory};
-ghost use Rattle.pt_expr.specs.Outcome.{Gives, Stops, Wrong};
-ghost use Rattle.pt_expr.specs.Scope.{named, port_in, presence};
+ghost use Rattle.pt_language.specs.declared.eval_fault.EvalFault.TheVariants.{Memory};
+ghost use Rattle.pt_language.specs.Outcome.{Gives, Stops, Wrong};
+ghost use Rattle.pt_language.specs.Scope.{named, port_in, presence};
 ghost use Rattle.pt_expr.specs.Env.{scope_of};
 
-use crate::fault::EvalFault;
 use indexmap::IndexMap;
+use pt_language::EvalFault;
 use pt_value::Token;
 use std::alloc::{AllocError, Global};
 

@@ -1,27 +1,25 @@
 ghost use Rattle.std.specs.Prelude.{◌≡◌, ◌⊎◌, IfOk, IfErr, map};
 ghost use Rattle.pt_value.specs.Token.{value_of, entry_of_pair};
-ghost use Rattle.pt_expr.specs.declared.fault.EvalFault.TheVariants.{Memory};
-ghost use Rattle.pt_expr.specs.Outcome.{Gives, Stops, Wrong, and_then};
+ghost use Rattle.pt_language.specs.declared.eval_fault.EvalFault.TheVariants.{Memory};
+ghost use Rattle.pt_language.specs.Outcome.{Gives, Stops, Wrong, and_then};
 ghost use Rattle.pt_expr.specs.Env.{scope_of};
-ghost use Rattle.pt_expr.specs.Expr.{tree_of, trees_in};
-ghost use Rattle.pt_expr.specs.Tree.{trees_of};
-ghost use Rattle.pt_expr.specs.Meaning as meaning;
-ghost use Rattle.pt_expr.specs.Meaning.{value, values};
+ghost use Rattle.pt_language.specs.Expr.{tree_of, trees_in, fields_in};
+ghost use Rattle.pt_language.specs.Tree.{trees_of, named_of};
+ghost use Rattle.pt_language.specs.Meaning as meaning;
+ghost use Rattle.pt_language.specs.Meaning.{value, values, named_values};
 
 use crate::env::Env;
-use crate::expr::{BinaryOp, Expr};
-use crate::exprs::Exprs;
-use crate::fault::EvalFault;
 use crate::operators::{
     applied, denied, element, field, greatest, least, length_of, magnitude, negated, record_of,
     truth, within,
 };
-use pt_value::{Items, Token};
-use std::alloc::Global;
+use pt_language::{BinaryOp, EvalFault, Expr, Exprs, NamedExprs};
+use pt_value::{Items, Text, Token};
+use std::alloc::{AllocError, Global};
 
 /// What an expression comes to where its names are bound as in `env`.
 #[cycle(evaluates)]
-#[tactic(auto, using(crate::specs::Parts::tree_of_array, crate::specs::Parts::tree_of_record))]
+#[tactic(auto, using(pt_language::specs::Parts::tree_of_array, pt_language::specs::Parts::tree_of_record))]
 pub fn eval(alloc: Global, expr: &Expr, env: &Env) -> Result<Token, EvalFault>
     requires right { ¬ (value (scope_of env.now) (tree_of expr.now) ≡ Wrong) }
     ensures ok { IfOk result (λ t. value (scope_of env.now) (tree_of expr.now) ≡ Gives (value_of t)) }
@@ -32,8 +30,8 @@ pub fn eval(alloc: Global, expr: &Expr, env: &Env) -> Result<Token, EvalFault>
         Expr::Bool(b) => Ok(Token::Bool(*b)),
         Expr::Words(text) => Ok(Token::Text(text.copy(alloc)?)),
         Expr::Name(name) => env.token(alloc, name.as_str()),
-        Expr::List(parts) => within(Token::Array(Items::of(parts.eval(alloc, env)?))),
-        Expr::Record(fields) => record_of(alloc, fields.eval(alloc, env)?),
+        Expr::List(parts) => within(Token::Array(Items::of(part_values(alloc, parts, env)?))),
+        Expr::Record(fields) => record_of(alloc, field_values(alloc, fields, env)?),
         Expr::Negate(e) => negated(eval(alloc, e, env)?),
         Expr::Not(e) => denied(eval(alloc, e, env)?),
         Expr::Binary(op, a, b) => operated(alloc, *op, b, env, eval(alloc, a, env)?),
@@ -126,4 +124,41 @@ fn operands(
             Err(fault)
         }
     }
+}
+
+/// What the parts come to, from left to right.
+#[cycle(evaluates)]
+fn part_values(alloc: Global, parts: &Exprs, env: &Env) -> Result<Vec<Token>, EvalFault>
+    requires right { ¬ (values (scope_of env.now) (trees_of (trees_in parts.now)) ≡ Wrong) }
+    ensures ok { IfOk result (λ tokens. values (scope_of env.now) (trees_of (trees_in parts.now)) ≡ Gives (map value_of tokens.items)) }
+    ensures err { IfErr result (λ fault. (fault ≡ Memory) ⊎ (values (scope_of env.now) (trees_of (trees_in parts.now)) ≡ Stops fault)) }
+{
+    let mut tokens = Vec::with_capacity(alloc, parts.len())?;
+    for part in parts.as_slice() {
+        tokens
+            .push(eval(alloc, part, env)?)
+            .map_err(AllocError::from)?;
+    }
+    Ok(tokens)
+}
+
+/// What the fields come to, from left to right.
+#[cycle(evaluates)]
+fn field_values(
+    alloc: Global,
+    fields: &NamedExprs,
+    env: &Env,
+) -> Result<Vec<(Text, Token)>, EvalFault>
+    requires right { ¬ (named_values (scope_of env.now) (named_of (fields_in fields.now)) ≡ Wrong) }
+    ensures ok { IfOk result (λ pairs. named_values (scope_of env.now) (named_of (fields_in fields.now)) ≡ Gives (map entry_of_pair pairs.items)) }
+    ensures err { IfErr result (λ fault. (fault ≡ Memory) ⊎ (named_values (scope_of env.now) (named_of (fields_in fields.now)) ≡ Stops fault)) }
+{
+    let mut pairs = Vec::with_capacity(alloc, fields.len())?;
+    for field in fields.as_slice() {
+        let name = field.name.copy(alloc)?;
+        pairs
+            .push((name, eval(alloc, &field.value, env)?))
+            .map_err(AllocError::from)?;
+    }
+    Ok(pairs)
 }

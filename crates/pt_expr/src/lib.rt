@@ -3,13 +3,7 @@
 
 mod env;
 mod evaluation;
-mod expr;
-mod exprs;
-mod fault;
 mod operators;
 
 pub use env::Env;
 pub use evaluation::eval;
-pub use expr::{BinaryOp, Expr};
-pub use exprs::{Exprs, NamedExpr, NamedExprs};
-pub use fault::EvalFault;

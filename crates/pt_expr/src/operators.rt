@@ -2,12 +2,11 @@
 ghost use Rattle.std.specs.Prelude.{◌≡◌, ◌⊎◌, ◌++◌, IfOk, IfErr, OnErr, map, option_map, slice_get, length, chars, pos};
 ghost use Rattle.pt_value.specs.Value.{Int, Words};
 ghost use Rattle.pt_value.specs.Token.{value_of, entry_of_pair};
-ghost use Rattle.pt_expr.specs.declared.fault.EvalFault.TheVariants.{Memory};
-ghost use Rattle.pt_expr.specs.Outcome.{Gives, Stops, Wrong, and_then};
-ghost use Rattle.pt_expr.specs.Meaning as meaning;
+ghost use Rattle.pt_language.specs.declared.eval_fault.EvalFault.TheVariants.{Memory};
+ghost use Rattle.pt_language.specs.Outcome.{Gives, Stops, Wrong, and_then};
+ghost use Rattle.pt_language.specs.Meaning as meaning;
 
-use crate::expr::BinaryOp;
-use crate::fault::EvalFault;
+use pt_language::{BinaryOp, EvalFault};
 use pt_value::{Fields, Items, Text, Token};
 use std::alloc::Global;
 

@@ -3,14 +3,14 @@ use Rattle.std.specs.Prelude.{◌≡◌, ℕ, zero, suc, ◌+◌, pos, neg_ℤ, 
 use Rattle.std.specs.Str.{bytes_eq, chars}
 use Rattle.pt_value.specs.Value as val
 use Rattle.pt_value.specs.Value.{Value, Int, Words, Array, Record, values_of, named_of}
-use Rattle.pt_expr.specs.declared.fault.EvalFault.TheVariants.{DivideByZero, Overflow, Index, Absent}
-use Rattle.pt_expr.specs.Tree.{Tree}
-use Rattle.pt_expr.specs.Scope.{Scope}
-use Rattle.pt_expr.specs.Outcome.{Outcome, Gives, Stops, Wrong}
-use Rattle.pt_expr.specs.Meaning.{value}
-use Rattle.pt_expr_text.specs.declared.word.Word.{Word}
-use Rattle.pt_expr_text.specs.Words.{Found, word_at, without_blanks}
-use Rattle.pt_expr_text.specs.Descent.{expression, ◌>>=◌}
+use Rattle.pt_language.specs.declared.eval_fault.EvalFault.TheVariants.{DivideByZero, Overflow, Index, Absent}
+use Rattle.pt_language.specs.Tree.{Tree}
+use Rattle.pt_language.specs.Scope.{Scope}
+use Rattle.pt_language.specs.Outcome.{Outcome, Gives, Stops, Wrong}
+use Rattle.pt_language.specs.Meaning.{value}
+use Rattle.pt_language.specs.declared.word.Word.{Word}
+use Rattle.pt_language.specs.Words.{Found, word_at, without_blanks}
+use Rattle.pt_language.specs.Descent.{expression, ◌>>=◌}
 
 -- the words of a text, where it is words to its end
 abbrev one_more : (List ℕ → Option (List Word)) → Found → List ℕ → Option (List Word)

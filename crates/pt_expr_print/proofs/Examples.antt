@@ -1,9 +1,9 @@
 -- Printed texts worked by hand from the rules: each tree stands over its text.
 use Rattle.std.specs.Prelude.{◌≡◌, ℕ, pos, negsuc, [], ◌∷◌, map, codes, true, refl}
 use Rattle.std.specs.Fmt.{digits}
-use Rattle.pt_expr.specs.declared.expr.BinaryOp.TheVariants as op
-use Rattle.pt_expr.specs.Tree as tree
-use Rattle.pt_expr.specs.Tree.{Tree, Int, Words, Name, Array, Record, Negate, Not, Binary, Cond, Abs, Max, Min, Apply, Field, Length, trees_of, named_of}
+use Rattle.pt_language.specs.declared.expr.BinaryOp.TheVariants as op
+use Rattle.pt_language.specs.Tree as tree
+use Rattle.pt_language.specs.Tree.{Tree, Int, Words, Name, Array, Record, Negate, Not, Binary, Cond, Abs, Max, Min, Apply, Field, Length, trees_of, named_of}
 use Rattle.pt_expr_print.specs.Printed.{printed}
 
 abbrev i : ℕ → Tree

@@ -1,9 +1,9 @@
 -- The parts of a literal are at most as high as all of them together.
 use Rattle.std.proofs.Common.{◌≡◌, ℕ, zero, suc, ◌<◌, ◌≤◌, List, [], ◌∷◌, length, map, get_or, ap, arith}
-use Rattle.pt_expr.specs.declared.expr.Expr.{Expr}
-use Rattle.pt_expr.specs.declared.exprs.NamedExpr.{NamedExpr}
-use Rattle.pt_expr.specs.Tree.{Tree, height, height_of_trees, height_of_named, trees_of, named_of}
-use Rattle.pt_expr.specs.Expr.{tree_of, entry_of}
+use Rattle.pt_language.specs.declared.expr.Expr.{Expr}
+use Rattle.pt_language.specs.declared.exprs.NamedExpr.{NamedExpr}
+use Rattle.pt_language.specs.Tree.{Tree, height, height_of_trees, height_of_named, trees_of, named_of}
+use Rattle.pt_language.specs.Expr.{tree_of, entry_of}
 
 in_trees : (es : List Expr) (i : ℕ) (e : Expr) → i < length es → e ≡ get_or es i e → height (tree_of e) ≤ height_of_trees (trees_of (map tree_of es))
 in_trees [] i e short is = absurd (omega arith)

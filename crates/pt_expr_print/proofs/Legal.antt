@@ -1,14 +1,14 @@
 -- Trees that some text reads as.
 use Rattle.std.proofs.Common.{◌≡◌, ℕ, zero, suc, ◌<◌, ◌≤◌, ◌^◌, ℤ, pos, negsuc, neg_ℤ, List, [], ◌∷◌, ◌++◌, length, map, true, Some, arith}
 use Rattle.std.specs.List.{prefix_len}
-use Rattle.pt_expr.specs.Tree as tree
-use Rattle.pt_expr.specs.Tree.{Tree, Int, Words, Array, Record, Negate, Binary, Cond, Apply, Field, Length, Trees, no_trees, tree_then, NamedTrees, no_fields, field_then, fields_of}
-use Rattle.pt_expr_text.specs.declared.word.Word.{Word}
-use Rattle.pt_expr_text.specs.declared.word.Word.TheVariants.{Digits, Quoted, Name}
-use Rattle.pt_expr_text.specs.declared.word.Word.TheVariants as word
-use Rattle.pt_expr_text.specs.Words.{continues_name, begins_name, name_of}
-use Rattle.pt_expr_text.specs.Grammar.{Phrase, Reads, ReadsParts, ReadsFields, AllDiffer}
-use Rattle.pt_expr_text.specs.Grammar as g
+use Rattle.pt_language.specs.Tree as tree
+use Rattle.pt_language.specs.Tree.{Tree, Int, Words, Array, Record, Negate, Binary, Cond, Apply, Field, Length, Trees, no_trees, tree_then, NamedTrees, no_fields, field_then, fields_of}
+use Rattle.pt_language.specs.declared.word.Word.{Word}
+use Rattle.pt_language.specs.declared.word.Word.TheVariants.{Digits, Quoted, Name}
+use Rattle.pt_language.specs.declared.word.Word.TheVariants as word
+use Rattle.pt_language.specs.Words.{continues_name, begins_name, name_of}
+use Rattle.pt_language.specs.Grammar.{Phrase, Reads, ReadsParts, ReadsFields, AllDiffer}
+use Rattle.pt_language.specs.Grammar as g
 
 -- letters, digits and underscores that make this word
 abbrev pub Begins : List ℕ → Type 0

@@ -2,10 +2,10 @@
 use Rattle.std.proofs.Common.{◌≡◌, ℕ, suc, ◌+◌, ◌<◌, List, [], ◌∷◌, ◌++◌, length, take, get_or, map, codes, refl, sym, ap, ◌∙◌, append_assoc, arith}
 use Rattle.std.proofs.lemmas.List.{take_more, append-nil, length-take-le}
 use Rattle.pt_value.specs.Printed.{separated_by, more_after, separator_before}
-use Rattle.pt_expr.specs.declared.expr.Expr.{Expr}
-use Rattle.pt_expr.specs.declared.exprs.NamedExpr.{NamedExpr}
-use Rattle.pt_expr.specs.Tree.{trees_of, named_of}
-use Rattle.pt_expr.specs.Expr.{tree_of, entry_of}
+use Rattle.pt_language.specs.declared.expr.Expr.{Expr}
+use Rattle.pt_language.specs.declared.exprs.NamedExpr.{NamedExpr}
+use Rattle.pt_language.specs.Tree.{trees_of, named_of}
+use Rattle.pt_language.specs.Expr.{tree_of, entry_of}
 use Rattle.pt_expr_print.specs.Printed.{printed, printed_field, each_printed, each_named}
 
 abbrev pub array_body : List Expr → List ℕ

@@ -8,11 +8,11 @@ use Rattle.std.specs.Fmt.{decimal}
 use Rattle.std.specs.Str.{all_ascii_digits}
 use Rattle.std.specs.Char.{is_ascii_digit}
 use Rattle.pt_value.specs.Printed.{escaped, quoted}
-use Rattle.pt_expr_text.specs.declared.word.Word.{Word}
-use Rattle.pt_expr_text.specs.declared.word.Word.TheVariants.{Digits, Quoted, Name}
-use Rattle.pt_expr_text.specs.declared.word.Word.TheVariants as word
-use Rattle.pt_expr_text.specs.declared.word.Symbol.TheVariants as symbol
-use Rattle.pt_expr_text.specs.Words.{Found, Splits, stops, goes_on, word_at, without_blanks, is_blank, begins_name, continues_name, name_at, name_of, digits_at, number_of, string_at, behind}
+use Rattle.pt_language.specs.declared.word.Word.{Word}
+use Rattle.pt_language.specs.declared.word.Word.TheVariants.{Digits, Quoted, Name}
+use Rattle.pt_language.specs.declared.word.Word.TheVariants as word
+use Rattle.pt_language.specs.declared.word.Symbol.TheVariants as symbol
+use Rattle.pt_language.specs.Words.{Found, Splits, stops, goes_on, word_at, without_blanks, is_blank, begins_name, continues_name, name_at, name_of, digits_at, number_of, string_at, behind}
 use Rattle.pt_expr_print.proofs.Legal.{IsSpelled}
 
 -- no letter, digit or underscore stands at the front

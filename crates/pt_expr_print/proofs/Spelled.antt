@@ -4,12 +4,12 @@ use Rattle.std.proofs.lemmas.Bool.Decides.{nat_tests}
 use Rattle.std.proofs.lemmas.Option.{some_pair_parts}
 use Rattle.std.specs.List.{prefix_len}
 use Rattle.std.specs.Char.{is_ascii_digit}
-use Rattle.pt_expr_text.specs.declared.word.Word.{Word}
-use Rattle.pt_expr_text.specs.declared.word.Word.TheVariants.{Digits, Quoted, Name}
-use Rattle.pt_expr_text.specs.declared.word.Word.TheVariants as word
-use Rattle.pt_expr_text.specs.declared.word.Symbol.{Symbol}
-use Rattle.pt_expr_text.specs.declared.word.Symbol.TheVariants as symbol
-use Rattle.pt_expr_text.specs.Words.{Found, Splits, stops, goes_on, word_at, without_blanks, begins_name, continues_name, name_at, name_of, digits_at, quoted_at, string_at, symbol_at, symbol_of_one, symbol_of_two}
+use Rattle.pt_language.specs.declared.word.Word.{Word}
+use Rattle.pt_language.specs.declared.word.Word.TheVariants.{Digits, Quoted, Name}
+use Rattle.pt_language.specs.declared.word.Word.TheVariants as word
+use Rattle.pt_language.specs.declared.word.Symbol.{Symbol}
+use Rattle.pt_language.specs.declared.word.Symbol.TheVariants as symbol
+use Rattle.pt_language.specs.Words.{Found, Splits, stops, goes_on, word_at, without_blanks, begins_name, continues_name, name_at, name_of, digits_at, quoted_at, string_at, symbol_at, symbol_of_one, symbol_of_two}
 use Rattle.pt_expr_print.proofs.Legal.{Begins, IsSpelled, IsNameWord, IsWord, AreWords}
 
 -- all of a run passes

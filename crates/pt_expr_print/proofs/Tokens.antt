@@ -3,7 +3,7 @@ use Rattle.std.proofs.Common.{◌≡◌, ℕ, suc, ◌+◌, ◌<◌, ◌≤◌, 
 use Rattle.std.specs.List.{prefix_len, list_all}
 use Rattle.std.specs.Str.{bytes_eq}
 use Rattle.std.specs.Char.{is_ascii_alphanumeric}
-use Rattle.std.specs.Prelude.{◌||◌, ◌==◌, IsTrue}
+use Rattle.std.specs.Prelude.{◌||◌, ◌==◌, not, codes, IsTrue}
 use Rattle.std.proofs.lemmas.Bool.Decides.{nat_tests}
 use Rattle.std.proofs.lemmas.List.Sums.{sum_by-cons}
 use Rattle.std.proofs.lemmas.Slice.Eq.{bytes_eq-Decides}
@@ -11,27 +11,28 @@ use Rattle.std.proofs.lemmas.Option.{some_pair_parts}
 use Rattle.std.proofs.lemmas.List.Sorted.{IsPermutation-refl}
 use Rattle.pt_value.specs.Value as val
 use Rattle.pt_value.specs.Value.{Value, Values, no_values, value_then, Named, size, size_of_values, size_of_named, list_of, values_of, fields_of, named_of, values_of-list_of, named_of-fields_of}
-use Rattle.pt_value.specs.Name.{IsName, HasNameForm, ContinuesName}
+use Rattle.pt_value.specs.Name.{IsName, HasNameForm, ContinuesName, is_reserved}
 use Rattle.pt_value.specs.Record.{IsRecord, IsBelow, names}
 use Rattle.pt_value.specs.Printed as token
 use Rattle.pt_value.specs.Printed.{in_braces}
 use Rattle.pt_value.proofs.Names.{bytes_eq-differ, IsBelow-differ}
-use Rattle.pt_expr.specs.Tree as tree
-use Rattle.pt_expr.specs.Scope.{Scope}
-use Rattle.pt_expr.specs.Outcome.{Gives, Stops, Wrong, and_then}
-use Rattle.pt_expr.specs.declared.fault.EvalFault.TheVariants.{Size}
-use Rattle.pt_expr.specs.RecordOf.{record_of, by_name, make_record, is_name, has_name_form}
-use Rattle.pt_expr.specs.Meaning.{value, values, named_values, within, arrayed, recorded, fits}
-use Rattle.pt_expr.proofs.Ordered.{by_name-record}
-use Rattle.pt_expr_text.specs.Words.{continues_name}
-use Rattle.pt_expr_text.specs.Grammar.{AllDiffer, IsAmong}
-use Rattle.pt_expr_text.specs.declared.word.Word.{Word}
-use Rattle.pt_expr_text.specs.Descent.{expression}
-use Rattle.pt_expr_text.specs.Text.{ReadsAs}
-use Rattle.pt_expr_text.proofs.Complete.{whole_read}
-use Rattle.pt_expr_text.proofs.Same.{one_list}
+use Rattle.pt_language.specs.Tree as tree
+use Rattle.pt_language.specs.Scope.{Scope}
+use Rattle.pt_language.specs.Outcome.{Gives, Stops, Wrong, and_then}
+use Rattle.pt_language.specs.declared.eval_fault.EvalFault.TheVariants.{Size}
+use Rattle.pt_language.specs.RecordOf.{record_of, by_name, make_record, is_name, has_name_form}
+use Rattle.pt_language.specs.Meaning.{value, values, named_values, within, arrayed, recorded, fits}
+use Rattle.pt_language.proofs.Ordered.{by_name-record}
+use Rattle.pt_language.specs.Words.{continues_name, name_of}
+use Rattle.pt_language.specs.Grammar.{AllDiffer, IsAmong}
+use Rattle.pt_language.specs.declared.word.Word.{Word}
+use Rattle.pt_language.specs.declared.word.Word.TheVariants as word
+use Rattle.pt_language.specs.Descent.{expression}
+use Rattle.pt_language.specs.Text.{ReadsAs}
+use Rattle.pt_language.proofs.Complete.{whole_read}
+use Rattle.pt_language.proofs.Same.{one_list}
 use Rattle.pt_expr_print.specs.Printed.{printed, each_printed, each_named, printed_field}
-use Rattle.pt_expr_print.specs.Literal.{literal, literals, named_literals, IsFree, IsWritable, AreWritable, HaveWritable}
+use Rattle.pt_expr_print.specs.Literal.{literal, literals, named_literals, IsWritable, AreWritable, HaveWritable}
 use Rattle.pt_expr_print.proofs.Legal.{IsLegal, AreLegal, HaveLegal, HasField, IsLiteral, IsNameWord}
 use Rattle.pt_expr_print.proofs.Spelled.{continues}
 use Rattle.pt_expr_print.proofs.Whole.{legal_reads}
@@ -62,9 +63,25 @@ name_runs (c ∷ cs) h = one (continues_name c) (h 0 0 (omega arith)) (name_runs
     one true e k = omega (arith, k)
     one false e k = cc
 
-spelled : (name : List ℕ) → IsName name → IsFree name → IsNameWord name
-spelled [] h f = absurd h.form
-spelled (c ∷ cs) h f = record { begins = h.form.0; runs = all_runs (continues_name c) (continues c h.form.0) (name_runs cs h.form.1); is = f }
+short_of : (n : ℕ) → n ≤ 64 → leb n 64 ≡ true
+short_of n h = grind (arith, nat_tests)
+
+-- a name is none of the words that expressions reserve, so it is read as a name
+either : (a b : Bool) → (a || b) ≡ false → (a ≡ false) × (b ≡ false)
+either true b e = absurd (cc)
+either false b e = (refl, e)
+
+read_as_name : (name : List ℕ) → is_reserved name ≡ false → length name ≤ 64 → name_of name ≡ Some (word.Name name)
+read_as_name name free short =
+    let a = either (bytes_eq name (codes "true") || bytes_eq name (codes "false") || bytes_eq name (codes "abs") || bytes_eq name (codes "max")) (bytes_eq name (codes "min")) free in
+    let b = either (bytes_eq name (codes "true") || bytes_eq name (codes "false") || bytes_eq name (codes "abs")) (bytes_eq name (codes "max")) a.0 in
+    let c = either (bytes_eq name (codes "true") || bytes_eq name (codes "false")) (bytes_eq name (codes "abs")) b.0 in
+    let d = either (bytes_eq name (codes "true")) (bytes_eq name (codes "false")) c.0 in
+    rw (d.0, d.1, c.1, b.1, a.1, short_of (length name) short) refl
+
+spelled : (name : List ℕ) → IsName name → IsNameWord name
+spelled [] h = absurd h.form
+spelled (c ∷ cs) h = record { begins = h.form.0; runs = all_runs (continues_name c) (continues c h.form.0) (name_runs cs h.form.1); is = read_as_name (c ∷ cs) h.free h.short }
   where
     all_runs : (b : Bool) → b ≡ true → prefix_len continues_name cs ≡ length cs → cond b (1 + prefix_len continues_name cs) 0 ≡ suc (length cs)
     all_runs true e k = omega (arith, k)
@@ -120,7 +137,7 @@ mutual
 
   legal_named : (fs : Named) → All IsName (names (fields_of fs)) → HaveWritable fs → HaveLegal (named_literals fs)
   legal_named val.no_fields n h = tt
-  legal_named (val.field_then name v fs) n h = ((spelled name (n 0 [] (omega arith)) h.0.0, legal_literal v h.0.1), legal_named fs (λ i d below. n (suc i) d (omega arith)) h.1)
+  legal_named (val.field_then name v fs) n h = ((spelled name (n 0 [] (omega arith)), legal_literal v h.0), legal_named fs (λ i d below. n (suc i) d (omega arith)) h.1)
 
 -- the printed text of a token reads as its literal
 pub token_reads : (v : Value) → IsWritable v → ReadsAs (token.printed v) (literal v)
@@ -133,9 +150,6 @@ both false b e f = cc
 
 once : (n : ℕ) → n ≤ 1 → leb n 1 ≡ true
 once n h = grind (arith, nat_tests)
-
-short_of : (n : ℕ) → n ≤ 64 → leb n 64 ≡ true
-short_of n h = grind (arith, nat_tests)
 
 fits_size : (n : ℕ) → n ≤ 65536 → leb n 65536 ≡ true
 fits_size n h = grind (arith, nat_tests)
@@ -187,7 +201,7 @@ all_names : (ns : List (List ℕ)) → All IsName ns → list_all is_name ns ≡
 all_names [] h = refl
 all_names (n ∷ ns) h =
     let one = h 0 [] (omega arith) in
-    both _ _ (both _ _ (form_of n one.form) (short_of (length n) one.short)) (all_names ns (λ i d below. h (suc i) d (omega arith)))
+    both _ _ (both _ _ (both _ _ (form_of n one.form) (short_of (length n) one.short)) (ap not one.free)) (all_names ns (λ i d below. h (suc i) d (omega arith)))
 
 makes_record : (ns : List (List ℕ)) → 0 < length ns → All IsName ns → AllPairs IsBelow ns → make_record ns ≡ true
 makes_record [] some h a = absurd (omega arith)
@@ -221,7 +235,7 @@ mutual
   literal_named : (scope : Scope) (fs : Named) → HaveWritable fs → size_of_named fs ≤ 65536 → named_values scope (named_literals fs) ≡ Gives (fields_of fs)
   literal_named scope val.no_fields h s = refl
   literal_named scope (val.field_then name v fs) h s =
-      ap (λ o. and_then o (λ u. and_then (named_values scope (named_literals fs)) (λ ps. Gives ((name, u) ∷ ps)))) (literal_value scope v h.0.1 (omega arith))
+      ap (λ o. and_then o (λ u. and_then (named_values scope (named_literals fs)) (λ ps. Gives ((name, u) ∷ ps)))) (literal_value scope v h.0 (omega arith))
       ∙ ap (λ o. and_then o (λ ps. Gives ((name, v) ∷ ps))) (literal_named scope fs h.1 (omega arith))
 
 -- a text reads as one tree

@@ -2,18 +2,18 @@
 use Rattle.std.proofs.Common.{◌≡◌, ℕ, suc, ℤ, pos, negsuc, List, [], ◌∷◌, ◌++◌, Bool, true, false, Result, Ok, Err, IfOk, codes, refl, sym, subst, append-nil, arith}
 use Rattle.std.specs.Fmt.{signed_decimal, decimal}
 use Rattle.pt_value.specs.Printed.{more_after, in_braces, separated_by, printed_truth}
-use Rattle.pt_expr.specs.declared.expr.BinaryOp.{BinaryOp}
-use Rattle.pt_expr.specs.declared.expr.BinaryOp.TheVariants as op
-use Rattle.pt_expr.specs.Tree as tree
-use Rattle.pt_expr.specs.Tree.{Tree, Int, Words, Array, Record, Negate, Binary, Cond, Apply, Field, Length, Trees, no_trees, tree_then, NamedTrees, no_fields, field_then}
-use Rattle.pt_expr.specs.declared.expr.Expr.{Expr}
-use Rattle.pt_expr.specs.Expr.{tree_of}
-use Rattle.pt_expr_text.specs.declared.word.Word.{Word}
-use Rattle.pt_expr_text.specs.declared.word.Word.TheVariants.{Digits, Quoted}
-use Rattle.pt_expr_text.specs.declared.word.Word.TheVariants as word
-use Rattle.pt_expr_text.specs.declared.word.Symbol.TheVariants.{True, False, Abs, Max, Min, Open, Close, OpenBrace, CloseBrace, Comma, Dot, Question, Colon, Assign, Not, Minus}
-use Rattle.pt_expr_text.specs.Words.{Splits, stops}
-use Rattle.pt_expr_text.specs.Text.{ReadsAs}
+use Rattle.pt_language.specs.declared.expr.BinaryOp.{BinaryOp}
+use Rattle.pt_language.specs.declared.expr.BinaryOp.TheVariants as op
+use Rattle.pt_language.specs.Tree as tree
+use Rattle.pt_language.specs.Tree.{Tree, Int, Words, Array, Record, Negate, Binary, Cond, Apply, Field, Length, Trees, no_trees, tree_then, NamedTrees, no_fields, field_then}
+use Rattle.pt_language.specs.declared.expr.Expr.{Expr}
+use Rattle.pt_language.specs.Expr.{tree_of}
+use Rattle.pt_language.specs.declared.word.Word.{Word}
+use Rattle.pt_language.specs.declared.word.Word.TheVariants.{Digits, Quoted}
+use Rattle.pt_language.specs.declared.word.Word.TheVariants as word
+use Rattle.pt_language.specs.declared.word.Symbol.TheVariants.{True, False, Abs, Max, Min, Open, Close, OpenBrace, CloseBrace, Comma, Dot, Question, Colon, Assign, Not, Minus}
+use Rattle.pt_language.specs.Words.{Splits, stops}
+use Rattle.pt_language.specs.Text.{ReadsAs}
 use Rattle.pt_expr_print.specs.Printed.{printed, each_printed, each_named, printed_field, sign, is_bare_operand, is_bare_base, in_parentheses, bare_or_not, pair}
 use Rattle.pt_expr_print.specs.Readable.{IsReadable}
 use Rattle.pt_expr_print.proofs.Legal.{IsLegal, AreLegal, HaveLegal, IsSpelled, IsNameWord, legal}

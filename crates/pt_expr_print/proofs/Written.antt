@@ -1,17 +1,17 @@
 -- The words of a printed tree, and that they read as it.
 use Rattle.std.proofs.Common.{◌≡◌, ℕ, suc, ℤ, pos, negsuc, List, [], ◌∷◌, ◌++◌, Bool, true, false, codes, refl, sym, subst, ◌∙◌, append-nil, append_assoc}
-use Rattle.pt_expr.specs.declared.expr.BinaryOp.{BinaryOp}
-use Rattle.pt_expr.specs.declared.expr.BinaryOp.TheVariants as op
-use Rattle.pt_expr.specs.Tree as tree
-use Rattle.pt_expr.specs.Tree.{Tree, Int, Words, Array, Record, Negate, Binary, Cond, Apply, Field, Length, Trees, no_trees, tree_then, NamedTrees, no_fields, field_then, fields_of}
-use Rattle.pt_expr_text.specs.declared.word.Word.{Word}
-use Rattle.pt_expr_text.specs.declared.word.Word.TheVariants.{Digits, Quoted}
-use Rattle.pt_expr_text.specs.declared.word.Word.TheVariants as word
-use Rattle.pt_expr_text.specs.declared.word.Symbol.{Symbol}
-use Rattle.pt_expr_text.specs.declared.word.Symbol.TheVariants.{True, False, Abs, Max, Min, Open, Close, OpenBrace, CloseBrace, Comma, Dot, Question, Colon, Assign, Not, Minus, Plus, Star, Slash, Percent, Less, LessEqual, Greater, GreaterEqual, Equal, Unequal, And, Or}
-use Rattle.pt_expr_text.specs.declared.level.Level.TheVariants as level
-use Rattle.pt_expr_text.specs.Grammar.{Reads, ReadsParts, ReadsFields, AllDiffer}
-use Rattle.pt_expr_text.specs.Grammar as g
+use Rattle.pt_language.specs.declared.expr.BinaryOp.{BinaryOp}
+use Rattle.pt_language.specs.declared.expr.BinaryOp.TheVariants as op
+use Rattle.pt_language.specs.Tree as tree
+use Rattle.pt_language.specs.Tree.{Tree, Int, Words, Array, Record, Negate, Binary, Cond, Apply, Field, Length, Trees, no_trees, tree_then, NamedTrees, no_fields, field_then, fields_of}
+use Rattle.pt_language.specs.declared.word.Word.{Word}
+use Rattle.pt_language.specs.declared.word.Word.TheVariants.{Digits, Quoted}
+use Rattle.pt_language.specs.declared.word.Word.TheVariants as word
+use Rattle.pt_language.specs.declared.word.Symbol.{Symbol}
+use Rattle.pt_language.specs.declared.word.Symbol.TheVariants.{True, False, Abs, Max, Min, Open, Close, OpenBrace, CloseBrace, Comma, Dot, Question, Colon, Assign, Not, Minus, Plus, Star, Slash, Percent, Less, LessEqual, Greater, GreaterEqual, Equal, Unequal, And, Or}
+use Rattle.pt_language.specs.declared.level.Level.TheVariants as level
+use Rattle.pt_language.specs.Grammar.{Reads, ReadsParts, ReadsFields, AllDiffer}
+use Rattle.pt_language.specs.Grammar as g
 use Rattle.pt_expr_print.specs.Printed.{is_bare_operand, is_bare_base}
 use Rattle.pt_expr_print.proofs.Legal.{IsLegal, AreLegal, HaveLegal}
 

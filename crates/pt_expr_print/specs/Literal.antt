@@ -1,13 +1,11 @@
 -- The literals of values: what the printed text of a token reads as.
-use Rattle.std.specs.Prelude.{◌≡◌, ℕ, List, IsTrue, Some}
+use Rattle.std.specs.Prelude.{IsTrue}
 use Rattle.pt_value.specs.Value as val
 use Rattle.pt_value.specs.Value.{Value, Values, no_values, value_then, Named, fields_of}
 use Rattle.pt_value.specs.Record.{IsRecord}
-use Rattle.pt_expr.specs.Tree as tree
-use Rattle.pt_expr.specs.Tree.{Tree, Trees, no_trees, tree_then, NamedTrees}
-use Rattle.pt_expr.specs.Meaning.{fits}
-use Rattle.pt_expr_text.specs.declared.word.Word.TheVariants as word
-use Rattle.pt_expr_text.specs.Words.{name_of}
+use Rattle.pt_language.specs.Tree as tree
+use Rattle.pt_language.specs.Tree.{Tree, Trees, no_trees, tree_then, NamedTrees}
+use Rattle.pt_language.specs.Meaning.{fits}
 
 -- an integer, a truth value, a text, an array or a record as it is written
 abbrev mutual
@@ -28,11 +26,7 @@ abbrev mutual
   named_literals val.no_fields = tree.no_fields
   named_literals (val.field_then name v fs) = tree.field_then name (literal v) (named_literals fs)
 
--- a name that isn't one of the words that expressions reserve
-abbrev pub IsFree : List ℕ → Type 0
-IsFree name = name_of name ≡ Some (word.Name name)
-
--- what an expression can write: integers of 64 bits, and lawful records, at each level, under names that aren't reserved
+-- what an expression can write: integers of 64 bits, and lawful records, at each level
 abbrev mutual
   pub IsWritable : Value → Type 0
   IsWritable (val.Int n) = IsTrue (fits n)
@@ -47,4 +41,4 @@ abbrev mutual
 
   pub HaveWritable : Named → Type 0
   HaveWritable val.no_fields = Unit {0}
-  HaveWritable (val.field_then name v fs) = (IsFree name × IsWritable v) × HaveWritable fs
+  HaveWritable (val.field_then name v fs) = IsWritable v × HaveWritable fs

@@ -2,10 +2,10 @@
 use Rattle.std.specs.Prelude.{ℕ, pos, negsuc, List, [], ◌∷◌, ◌++◌, Bool, true, false, codes}
 use Rattle.std.specs.Fmt.{signed_decimal}
 use Rattle.pt_value.specs.Printed.{quoted, in_braces, printed_truth}
-use Rattle.pt_expr.specs.declared.expr.BinaryOp.{BinaryOp}
-use Rattle.pt_expr.specs.declared.expr.BinaryOp.TheVariants as op
-use Rattle.pt_expr.specs.Tree as tree
-use Rattle.pt_expr.specs.Tree.{Tree, Int, Words, Name, Array, Record, Negate, Not, Binary, Cond, Abs, Max, Min, Apply, Field, Length, Trees, no_trees, tree_then, NamedTrees, no_fields, field_then}
+use Rattle.pt_language.specs.declared.expr.BinaryOp.{BinaryOp}
+use Rattle.pt_language.specs.declared.expr.BinaryOp.TheVariants as op
+use Rattle.pt_language.specs.Tree as tree
+use Rattle.pt_language.specs.Tree.{Tree, Int, Words, Name, Array, Record, Negate, Not, Binary, Cond, Abs, Max, Min, Apply, Field, Length, Trees, no_trees, tree_then, NamedTrees, no_fields, field_then}
 
 -- an operator, with a blank on each side
 abbrev pub sign : BinaryOp → List ℕ

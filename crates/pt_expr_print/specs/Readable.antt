@@ -1,7 +1,7 @@
 -- Which trees texts read as.
 use Rattle.std.specs.Prelude.{ℕ, List}
-use Rattle.pt_expr.specs.Tree.{Tree}
-use Rattle.pt_expr_text.specs.Text.{ReadsAs}
+use Rattle.pt_language.specs.Tree.{Tree}
+use Rattle.pt_language.specs.Text.{ReadsAs}
 
 -- some text reads as the tree
 abbrev pub IsReadable : Tree → Type 0

@@ -1,12 +1,12 @@
 ghost use Rattle.std.specs.Prelude.{◌≡◌, IfOk};
-ghost use Rattle.pt_expr.specs.Expr.{tree_of};
-ghost use Rattle.pt_expr_text.specs.Deep.{IsDeep};
+ghost use Rattle.pt_language.specs.Expr.{tree_of};
+ghost use Rattle.pt_language.specs.Deep.{IsDeep};
 ghost use Rattle.pt_expr_print.specs.Printed.{printed};
 ghost use Rattle.pt_expr_print.specs.Readable.{IsReadable};
 
 use crate::printed::print;
-use pt_expr::Expr;
-use pt_expr_text::{ParseFault, parse};
+use pt_expr_text::parse;
+use pt_language::{Expr, ParseFault};
 use std::alloc::Global;
 
 /// A tree by way of its printed text: the same tree, unless that text has too many bytes, brackets or operators to be read.

@@ -1,13 +1,13 @@
 ghost use Rattle.std.specs.Prelude.{◌≡◌, ◌++◌, IfOk, OnOk, string_bytes};
 ghost use Rattle.pt_value.specs.Printed.{in_braces};
-ghost use Rattle.pt_expr.specs.Expr.{tree_of, trees_in, fields_in};
-ghost use Rattle.pt_expr.specs.Tree.{trees_of, named_of, Cond};
-ghost use Rattle.pt_expr_text.specs.Text.{ReadsAs};
+ghost use Rattle.pt_language.specs.Expr.{tree_of, trees_in, fields_in};
+ghost use Rattle.pt_language.specs.Tree.{trees_of, named_of, Cond};
+ghost use Rattle.pt_language.specs.Text.{ReadsAs};
 ghost use Rattle.pt_expr_print.specs.Printed.{printed, each_printed, each_named, in_parentheses, pair, bare_or_not, is_bare_operand, is_bare_base};
 ghost use Rattle.pt_expr_print.specs.Readable.{IsReadable};
 
 use crate::words::{separator, sign, write_bool, write_int, write_quoted};
-use pt_expr::{Expr, Exprs, NamedExprs};
+use pt_language::{Expr, Exprs, NamedExprs};
 use pt_value::Text;
 use std::alloc::{AllocError, Global};
 
@@ -23,7 +23,7 @@ pub fn print(alloc: Global, tree: &Expr) -> Result<Text, AllocError>
 }
 
 #[cycle(writes)]
-#[tactic(auto, using(pt_expr::specs::Parts::tree_of_array, pt_expr::specs::Parts::tree_of_record))]
+#[tactic(auto, using(pt_language::specs::Parts::tree_of_array, pt_language::specs::Parts::tree_of_record))]
 fn write(tree: &Expr, out: &mut String) -> Result<(), AllocError>
     ensures { OnOk result (string_bytes out.new ≡ string_bytes out.old ++ printed (tree_of tree.now)) }
 {

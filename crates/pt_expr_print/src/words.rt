@@ -4,7 +4,7 @@ ghost use Rattle.pt_value.specs.Printed.{quoted, escaped, printed_truth, separat
 ghost use Rattle.pt_expr_print.specs.Printed.{sign};
 
 use itoa::Buffer;
-use pt_expr::BinaryOp;
+use pt_language::BinaryOp;
 use std::alloc::AllocError;
 
 pub(crate) fn write_int(n: i64, out: &mut String) -> Result<(), AllocError>

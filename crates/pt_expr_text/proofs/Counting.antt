@@ -1,7 +1,7 @@
 -- A turn of the count of open brackets.
 use Rattle.std.proofs.Common.{◌≡◌, ℕ, suc, ◌+◌, ◌<◌, ◌≤◌, List, [], ◌∷◌, length, drop, get_or, max, refl, sym, ◌∙◌, ap, subst, drop-cons, add-one, arith}
-use Rattle.pt_expr_text.specs.declared.word.Word.{Word}
-use Rattle.pt_expr_text.specs.Deep.{most_open, open_behind}
+use Rattle.pt_language.specs.declared.word.Word.{Word}
+use Rattle.pt_language.specs.Deep.{most_open, open_behind}
 
 at_least : (n : ℕ) (ws : List Word) → n ≤ most_open n ws
 at_least n [] = omega arith

@@ -2,10 +2,4 @@ pub mod Cuts
 pub mod Numbers
 pub mod Strings
 pub mod Splitting
-pub mod Turns
-pub mod Steps
-pub mod Sound
-pub mod Same
-pub mod Complete
-pub mod Whole
 pub mod Counting

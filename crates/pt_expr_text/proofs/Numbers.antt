@@ -6,7 +6,7 @@ use Rattle.std.specs.Char.{is_ascii_digit}
 use Rattle.std.specs.Str.Parse.{ParsesUnsigned, digits_value}
 use Rattle.std.specs.Result.{OkIff}
 use Rattle.std.proofs.lemmas.Str.Parse.{IsNumeralModel, numerals_by_value, tells_all_ascii_digits, parse_digits}
-use Rattle.pt_expr_text.specs.Words.{number_of}
+use Rattle.pt_language.specs.Words.{number_of}
 
 by_outcome : {E : Type 0} (bs : List ℕ) (r : Result ℕ E) → 0 < length bs → OkIff r ((0 < length bs) × (digits_value 10 bs < 2 ^ 64)) (digits_value 10 bs) → MatchResult r (λ n. n ≡ number_of bs) (λ _. 0xffff_ffff_ffff_ffff ≡ number_of bs)
 by_outcome bs (Ok n) some h = omega (arith, h.0.1, h.1)

@@ -1,7 +1,7 @@
 -- Words from a text whose blanks at the front are gone.
 use Rattle.std.proofs.Common.{◌≡◌, List, ◌∷◌, [], ◌++◌, ℕ, Option, Some, None, sym, subst, refl}
-use Rattle.pt_expr_text.specs.declared.word.Word.{Word}
-use Rattle.pt_expr_text.specs.Words.{Splits, stops, goes_on, word_at, without_blanks}
+use Rattle.pt_language.specs.declared.word.Word.{Word}
+use Rattle.pt_language.specs.Words.{Splits, stops, goes_on, word_at, without_blanks}
 
 -- the same words, where the blanks are gone already
 pub data SplitsFrom : List ℕ → List Word → List ℕ → Type 0 where

@@ -2,7 +2,7 @@
 use Rattle.std.proofs.Common.{◌≡◌, ℕ, suc, ◌+◌, List, [], ◌∷◌, ◌++◌, take, drop, Bool, true, false, cond, not, ◌&&◌, eqb, Option, Some, None, option_map, refl, sym, ◌∙◌, ap, subst, append_assoc, append-nil, arith}
 use Rattle.std.proofs.lemmas.Option.{some_pair_parts, none-some, same_Some}
 use Rattle.std.specs.List.{prefix_len}
-use Rattle.pt_expr_text.specs.Words.{string_at, escape_at, escaped, escape_of, escape_mark, mark_at, behind, is_plain}
+use Rattle.pt_language.specs.Words.{string_at, escape_at, escaped, escape_of, escape_mark, mark_at, behind, is_plain}
 
 abbrev Content : Type 0
 Content = Option (List ℕ × List ℕ)

@@ -1,9 +1,8 @@
 ghost use Rattle.std.specs.Prelude.{◌≡◌, ◌↔◌, ◌≤◌, ◌<◌, ◌+◌, IsTrue, false, length};
-ghost use Rattle.pt_expr_text.specs.Deep.{most_open, open_behind, counted, ends_operand, is_counted, IsTooFull};
+ghost use Rattle.pt_language.specs.Deep.{most_open, open_behind, counted, ends_operand, is_counted, IsTooFull};
 
 use crate::front::bare_digits;
-use crate::level::binding;
-use crate::word::{Symbol, Word};
+use pt_language::{Symbol, Word, binding};
 
 /// The most brackets that may be open at a word.
 const MOST_BRACKETS: usize = 64;

@@ -1,18 +1,15 @@
 ghost use Rattle.std.specs.Prelude.{map, length};
-ghost use Rattle.pt_expr.specs.Expr.{tree_of, entry_of};
-ghost use Rattle.pt_expr_text.specs.Fault.{Gives};
-ghost use Rattle.pt_expr_text.specs.Descent.{expression, choice, minus, list_at, record_at, at_level, operand_at, joined, compared_with, second, unary, postfix, suffixes, suffix, primary, primary_symbol, in_braces, listed, named, one_operand, two_operands};
+ghost use Rattle.pt_language.specs.Expr.{tree_of, entry_of};
+ghost use Rattle.pt_language.specs.ReaderFault.{Gives};
+ghost use Rattle.pt_language.specs.Descent.{expression, choice, minus, list_at, record_at, at_level, operand_at, joined, compared_with, second, unary, postfix, suffixes, suffix, primary, primary_symbol, in_braces, listed, named, one_operand, two_operands};
 
-use crate::fault::ParseFault;
 use crate::front::{
     after, bare_digits, begins_record, expect, field_named, name_first, operator_first,
     suffix_first,
 };
-use crate::level::Level;
 use crate::literal::{has_repeated, negative, positive, signed_literal};
 use crate::node;
-use crate::word::{Symbol, Word};
-use pt_expr::{BinaryOp, Expr, NamedExpr};
+use pt_language::{BinaryOp, Expr, Level, NamedExpr, ParseFault, Symbol, Word};
 use std::alloc::{AllocError, Global};
 
 /// The expression at the front of some words, and the words behind it. At most `depth` expressions stand in one another there.

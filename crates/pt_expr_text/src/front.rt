@@ -1,14 +1,11 @@
 ghost use Rattle.std.specs.Prelude.{◌≡◌, Some, option_map};
-ghost use Rattle.pt_expr.specs.Expr.{tree_of};
-ghost use Rattle.pt_expr_text.specs.Fault.{Gives};
-ghost use Rattle.pt_expr_text.specs.Symbol.{after};
-ghost use Rattle.pt_expr_text.specs.Descent.{operator_first, bare_digits, suffix_first, empty_call, field_named, name_first, begins_record};
+ghost use Rattle.pt_language.specs.Expr.{tree_of};
+ghost use Rattle.pt_language.specs.ReaderFault.{Gives};
+ghost use Rattle.pt_language.specs.Symbol.{after};
+ghost use Rattle.pt_language.specs.Descent.{operator_first, bare_digits, suffix_first, empty_call, field_named, name_first, begins_record};
 
-use crate::fault::ParseFault;
-use crate::level::{Level, binding_at};
 use crate::node;
-use crate::word::{Symbol, Word};
-use pt_expr::{BinaryOp, Expr};
+use pt_language::{BinaryOp, Expr, Level, ParseFault, Symbol, Word, binding_at};
 use pt_value::Text;
 use std::alloc::Global;
 

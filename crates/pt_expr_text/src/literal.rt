@@ -3,13 +3,11 @@ ghost use Rattle.std.proofs.Common.{cond};
 ghost use denote.Ref.{Bor};
 ghost use Rattle.std.specs.Cmp.Lexicographic.{pointwise};
 ghost use Rattle.std.specs.HashSet.{contains};
-ghost use Rattle.pt_expr.specs.Expr.{tree_of, entry_of};
-ghost use Rattle.pt_expr_text.specs.Fault.{Gives};
-ghost use Rattle.pt_expr_text.specs.Descent.{signed_literal, negative, positive, has_repeated};
+ghost use Rattle.pt_language.specs.Expr.{tree_of, entry_of};
+ghost use Rattle.pt_language.specs.ReaderFault.{Gives};
+ghost use Rattle.pt_language.specs.Descent.{signed_literal, negative, positive, has_repeated};
 
-use crate::fault::ParseFault;
-use crate::word::Word;
-use pt_expr::{Expr, NamedExpr};
+use pt_language::{Expr, NamedExpr, ParseFault, Word};
 use std::alloc::{AllocError, Global};
 use std::collections::HashSet;
 

@@ -1,8 +1,8 @@
 ghost use Rattle.std.specs.Prelude.{◌≡◌, IfOk, map};
-ghost use Rattle.pt_expr.specs.Expr.{tree_of, entry_of};
-ghost use Rattle.pt_expr.specs.Tree.{Array, Record, trees_of, named_of, Negate, Not, Binary, Cond, Abs, Max, Min, Apply, Field, Length};
+ghost use Rattle.pt_language.specs.Expr.{tree_of, entry_of};
+ghost use Rattle.pt_language.specs.Tree.{Array, Record, trees_of, named_of, Negate, Not, Binary, Cond, Abs, Max, Min, Apply, Field, Length};
 
-use pt_expr::{BinaryOp, Expr, Exprs, NamedExpr, NamedExprs};
+use pt_language::{BinaryOp, Expr, Exprs, NamedExpr, NamedExprs};
 use pt_value::Text;
 use std::alloc::{AllocError, Global};
 

@@ -1,14 +1,13 @@
 ghost use Rattle.std.specs.Prelude.{◌≡◌, IfOk, IsErrOf};
-ghost use Rattle.pt_expr.specs.Expr.{tree_of};
-ghost use Rattle.pt_expr.specs.Tree.{Tree};
-ghost use Rattle.pt_expr_text.specs.Deep.{IsDeep};
-ghost use Rattle.pt_expr_text.specs.Text.{ReadsAs};
+ghost use Rattle.pt_language.specs.Expr.{tree_of};
+ghost use Rattle.pt_language.specs.Tree.{Tree};
+ghost use Rattle.pt_language.specs.Deep.{IsDeep};
+ghost use Rattle.pt_language.specs.Text.{ReadsAs};
 
 use crate::deep::is_too_full;
 use crate::descent::expression;
-use crate::fault::ParseFault;
 use crate::words::split;
-use pt_expr::Expr;
+use pt_language::{Expr, ParseFault};
 use std::alloc::Global;
 
 /// The most bytes that a text may have.

@@ -2,9 +2,9 @@ ghost use Rattle.std.specs.Prelude.{◌≡◌, true, ◌+◌, ◌<◌, ◌≤◌
 ghost use Rattle.std.specs.List.{prefix_len};
 ghost use Rattle.std.specs.Char.{is_ascii_digit};
 ghost use Rattle.std.specs.Str.{IsCharBoundary, IsUtf8, all_ascii_digits};
-ghost use Rattle.pt_expr_text.specs.Words.{Splits, word_at, name_at, name_of, escape_of, digits_at, number_of, symbol_found, quoted_at, is_plain, mark_at, symbol_of_two, symbol_of_one, is_blank, without_blanks, continues_name};
+ghost use Rattle.pt_language.specs.Words.{Splits, word_at, name_at, name_of, escape_of, digits_at, number_of, symbol_found, quoted_at, is_plain, mark_at, symbol_of_two, symbol_of_one, is_blank, without_blanks, continues_name};
 
-use crate::word::{Symbol, Word};
+use pt_language::{Symbol, Word};
 use pt_value::Text;
 use std::alloc::{AllocError, Global};
 

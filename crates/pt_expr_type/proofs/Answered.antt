@@ -1,20 +1,20 @@
 -- What the program answers on a tree, left to right, against what stands of the tree.
 use Rattle.std.proofs.Common.{◌≡◌, ◌∷◌, Bool, true, false, ◌&&◌, Option, Some, None, refl, ap, subst, ◌∙◌}
 use Rattle.std.specs.Prelude.{unwrap_or, is_some}
-use Rattle.pt_types.specs.Datatype.{Datatype, Unknown}
-use Rattle.pt_types.specs.Normal.{array_of}
-use Rattle.pt_types.specs.Join.{join}
-use Rattle.pt_types.proofs.Fields.{and_both}
-use Rattle.pt_expr.specs.Tree as tree
-use Rattle.pt_expr.specs.Tree.{Tree, Trees, no_trees, tree_then, NamedTrees}
-use Rattle.pt_expr_type.specs.declared.fault.TypeFault.{TypeFault}
-use Rattle.pt_expr_type.specs.declared.fault.TypeFault.TheVariants as fault
-use Rattle.pt_expr_type.specs.Typing as typing
-use Rattle.pt_expr_type.specs.Typing.{Typing, Has, Clash}
-use Rattle.pt_expr_type.specs.Types.{Types, type_under}
-use Rattle.pt_expr_type.specs.TreeType.{tree_type, parts_type, named_types, are_bound, are_parts_bound, are_fields_bound, IsTyped, number, truth, operated, calculated, chosen, applied, field, length_of, recorded}
-use Rattle.pt_expr_type.specs.Answer.{Answer, Gives, Stops, and_then, judged, looked_up, answer, parts_answer, named_answer}
-use Rattle.pt_expr_type.specs.Fault.{Stands}
+use Rattle.pt_datatypes.specs.Datatype.{Datatype, Unknown}
+use Rattle.pt_datatypes.specs.Normal.{array_of}
+use Rattle.pt_datatypes.specs.Join.{join}
+use Rattle.pt_datatypes.proofs.Fields.{and_both}
+use Rattle.pt_language.specs.Tree as tree
+use Rattle.pt_language.specs.Tree.{Tree, Trees, no_trees, tree_then, NamedTrees}
+use Rattle.pt_language.specs.declared.type_fault.TypeFault.{TypeFault}
+use Rattle.pt_language.specs.declared.type_fault.TypeFault.TheVariants as fault
+use Rattle.pt_language.specs.Typing as typing
+use Rattle.pt_language.specs.Typing.{Typing, Has, Clash}
+use Rattle.pt_language.specs.Types.{Types, type_under}
+use Rattle.pt_language.specs.TreeType.{tree_type, parts_type, named_types, are_bound, are_parts_bound, are_fields_bound, IsTyped, number, truth, operated, calculated, chosen, applied, field, length_of, recorded}
+use Rattle.pt_language.specs.Answer.{Answer, Gives, Stops, and_then, judged, looked_up, answer, parts_answer, named_answer}
+use Rattle.pt_language.specs.TypeFault.{Stands}
 
 -- the answer agrees with the typing, where it is asked whether all names are bound
 abbrev pub Agrees : {A : Type 0} → Bool → Typing A → Answer A → Type 0

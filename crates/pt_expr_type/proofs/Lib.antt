@@ -1,12 +1,6 @@
 pub mod Answered
-pub mod Heights
-pub mod JoinLaws
-pub mod Making
 pub mod Numbers
 pub mod Parts
 pub mod RecordTypes
-pub mod Records
-pub mod Sound
 pub mod Steps
 pub mod Table
-pub mod Values

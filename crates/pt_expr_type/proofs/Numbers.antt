@@ -4,10 +4,10 @@ use Rattle.std.specs.Prelude.{slice_get}
 use Rattle.std.specs.Str.{bytes_eq}
 use Rattle.std.proofs.lemmas.List.{take_more}
 use Rattle.pt_types.specs.declared.ty.Ty.{Ty}
-use Rattle.pt_types.specs.Datatype.{Datatype}
+use Rattle.pt_datatypes.specs.Datatype.{Datatype}
 use Rattle.pt_types.specs.Ty.{type_of}
-use Rattle.pt_expr_type.specs.Types.{or_else}
-use Rattle.pt_expr_type.specs.Rule.{numbered}
+use Rattle.pt_language.specs.Types.{or_else}
+use Rattle.pt_language.specs.Rule.{numbered}
 
 pub slice_get-at : (ts : List Ty) (k : ℕ) (t : Ty) → k < length ts → t ≡ get_or ts k t → slice_get (map type_of ts) k ≡ Some (type_of t)
 slice_get-at [] k t short is = absurd (omega arith)

@@ -2,11 +2,11 @@
 use Rattle.std.proofs.Common.{◌≡◌, ℕ, zero, suc, ◌<◌, ◌≤◌, inl, inr, sym, true, ◌&&◌, List, [], ◌∷◌, length, map, get_or, leb, subst, arith}
 use Rattle.std.proofs.lemmas.Bool.{le-leb}
 use Rattle.pt_types.specs.declared.record.FieldTy.{FieldTy}
-use Rattle.pt_types.specs.Datatype.{Datatype, Array, Record, General, FieldTypes, types_of, depth, depth_of_fields, nodes, nodes_of_fields}
-use Rattle.pt_types.specs.Normal.{is_plain, are_plain, is_proper, IsType}
+use Rattle.pt_datatypes.specs.Datatype.{Datatype, Array, Record, General, FieldTypes, types_of, depth, depth_of_fields, nodes, nodes_of_fields}
+use Rattle.pt_datatypes.specs.Normal.{is_plain, are_plain, is_proper, IsType}
 use Rattle.pt_types.specs.Ty.{written, entry_of}
-use Rattle.pt_types.proofs.Fields.{and_left, and_right, and_both}
-use Rattle.pt_types.proofs.Joins.{normal-proper, type_cases, proper-plain, proper-depth, proper-nodes}
+use Rattle.pt_datatypes.proofs.Fields.{and_left, and_right, and_both}
+use Rattle.pt_datatypes.proofs.Joins.{normal-proper, type_cases, proper-plain, proper-depth, proper-nodes}
 
 proper-from : (t : Datatype) → is_plain t ≡ true → depth t ≤ 8 → nodes t ≤ 1024 → is_proper t ≡ true
 proper-from t plain deep many = and_both (is_plain t) (leb (depth t) 8 && leb (nodes t) 1024) plain (and_both (leb (depth t) 8) (leb (nodes t) 1024) (le-leb (depth t) 8 deep) (le-leb (nodes t) 1024 many))

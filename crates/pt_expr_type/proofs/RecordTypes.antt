@@ -3,21 +3,21 @@ use Rattle.std.proofs.Common.{◌≡◌, ℕ, List, [], ◌∷◌, map, true, fa
 use Rattle.std.proofs.lemmas.Simd.{map-map}
 use Rattle.std.proofs.lemmas.List.Sorted.{IsPermutation-map}
 use Rattle.pt_types.specs.declared.ty.Ty.{Ty}
-use Rattle.pt_types.specs.Datatype.{Datatype, Record, types_of, field_then}
-use Rattle.pt_types.specs.Normal.{normal, normal_fields, record_of}
-use Rattle.pt_types.specs.RecordType.{names, IsRecordType, AreRecordNames}
+use Rattle.pt_datatypes.specs.Datatype.{Datatype, Record, types_of, field_then}
+use Rattle.pt_datatypes.specs.Normal.{normal, normal_fields, record_of}
+use Rattle.pt_datatypes.specs.RecordType.{names, IsRecordType, AreRecordNames}
 use Rattle.pt_types.specs.Ty.{type_of, written, entry_of_pair}
-use Rattle.pt_types.proofs.Joins.{normal_is_type}
-use Rattle.pt_types.proofs.Parts.{record_of-normal}
-use Rattle.pt_expr.specs.RecordOf.{make_record}
-use Rattle.pt_expr_type.specs.ByName.{by_name}
-use Rattle.pt_expr_type.specs.Entry.{typed_entry}
-use Rattle.pt_expr_type.specs.Typing.{where_true}
-use Rattle.pt_expr_type.specs.declared.fault.TypeFault.TheVariants.{Clash}
-use Rattle.pt_expr_type.specs.Answer.{Gives, Stops, judged}
-use Rattle.pt_expr_type.specs.TreeType.{recorded}
-use Rattle.pt_expr_type.proofs.Records.{by_name-record}
-use Rattle.pt_expr_type.proofs.Making.{make_record-lawful}
+use Rattle.pt_datatypes.proofs.Joins.{normal_is_type}
+use Rattle.pt_datatypes.proofs.Parts.{record_of-normal}
+use Rattle.pt_language.specs.RecordOf.{make_record}
+use Rattle.pt_language.specs.ByName.{by_name}
+use Rattle.pt_types.specs.Entry.{typed_entry}
+use Rattle.pt_language.specs.Typing.{where_true}
+use Rattle.pt_language.specs.declared.type_fault.TypeFault.TheVariants.{Clash}
+use Rattle.pt_language.specs.Answer.{Gives, Stops, judged}
+use Rattle.pt_language.specs.TreeType.{recorded}
+use Rattle.pt_language.proofs.Records.{by_name-record}
+use Rattle.pt_language.proofs.Making.{make_record-lawful}
 
 abbrev normal_entry : List ℕ × Datatype → List ℕ × Datatype
 normal_entry f = (f.0, normal f.1)

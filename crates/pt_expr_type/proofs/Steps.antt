@@ -1,13 +1,13 @@
 -- Answers on several trees one by one.
 use Rattle.std.proofs.Common.{◌≡◌, List, [], ◌∷◌, ◌++◌, refl, sym, ap, ◌∙◌, append_assoc}
-use Rattle.pt_types.specs.Datatype.{Datatype, Unknown}
-use Rattle.pt_types.specs.Join.{joined, join}
-use Rattle.pt_types.proofs.Joins.{normal_is_type}
-use Rattle.pt_expr.specs.Tree.{Trees, no_trees, tree_then}
-use Rattle.pt_expr_type.specs.declared.fault.TypeFault.{TypeFault}
-use Rattle.pt_expr_type.specs.Types.{Types}
-use Rattle.pt_expr_type.specs.Answer.{Answer, Gives, Stops, and_then, answer, parts_answer}
-use Rattle.pt_expr_type.proofs.JoinLaws.{join-assoc}
+use Rattle.pt_datatypes.specs.Datatype.{Datatype, Unknown}
+use Rattle.pt_datatypes.specs.Join.{joined, join}
+use Rattle.pt_datatypes.proofs.Joins.{normal_is_type}
+use Rattle.pt_language.specs.Tree.{Trees, no_trees, tree_then}
+use Rattle.pt_language.specs.declared.type_fault.TypeFault.{TypeFault}
+use Rattle.pt_language.specs.Types.{Types}
+use Rattle.pt_language.specs.Answer.{Answer, Gives, Stops, and_then, answer, parts_answer}
+use Rattle.pt_language.proofs.JoinLaws.{join-assoc}
 
 -- what is left, behind what is done
 abbrev pub behind : {X : Type 0} → List X → Answer (List X) → Answer (List X)

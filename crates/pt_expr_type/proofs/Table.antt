@@ -1,13 +1,13 @@
 -- Types of expressions worked by hand from the rules of the language, row by row: each tree stands over its type or a clash.
 use Rattle.std.specs.Prelude.{◌≡◌, ℕ, zero, suc, pos, List, [], ◌∷◌, map, codes, true, false, Some, None, if◌then◌else◌, refl}
 use Rattle.std.specs.Str.{bytes_eq}
-use Rattle.pt_types.specs.Datatype.{Datatype, Unknown, Int, Boolean, Words, Array, Record, General, types_of}
-use Rattle.pt_expr.specs.declared.expr.BinaryOp.TheVariants as op
-use Rattle.pt_expr.specs.Tree as tree
-use Rattle.pt_expr.specs.Tree.{Tree, Binary, Cond, Abs, Max, Min, Negate, Not, Apply, Field, Length, trees_of}
-use Rattle.pt_expr_type.specs.Typing.{Typing, Has, Clash}
-use Rattle.pt_expr_type.specs.Types.{Types}
-use Rattle.pt_expr_type.specs.TreeType.{tree_type, are_bound}
+use Rattle.pt_datatypes.specs.Datatype.{Datatype, Unknown, Int, Boolean, Words, Array, Record, General, types_of}
+use Rattle.pt_language.specs.declared.expr.BinaryOp.TheVariants as op
+use Rattle.pt_language.specs.Tree as tree
+use Rattle.pt_language.specs.Tree.{Tree, Binary, Cond, Abs, Max, Min, Negate, Not, Apply, Field, Length, trees_of}
+use Rattle.pt_language.specs.Typing.{Typing, Has, Clash}
+use Rattle.pt_language.specs.Types.{Types}
+use Rattle.pt_language.specs.TreeType.{tree_type, are_bound}
 
 abbrev i : ℕ → Tree
 i n = tree.Int (pos n)

@@ -1,12 +1,1 @@
-pub mod Typing
-pub mod Types
-pub mod ByName
-pub mod TreeType
 pub mod TypeEnv
-pub mod Fault
-pub mod Entry
-pub mod Answer
-pub mod Rule
-pub mod Laws
-pub mod Grows
-pub mod RuleGrows

@@ -3,7 +3,7 @@ use Rattle.std.specs.Prelude.{option_map}
 use Rattle.indexmap.specs.IndexMap.{get_by_text}
 use Rattle.pt_types.specs.Ty.{type_of}
 use Rattle.pt_expr_type.specs.declared.env.TypeEnv.{TypeEnv}
-use Rattle.pt_expr_type.specs.Types.{Types}
+use Rattle.pt_language.specs.Types.{Types}
 
 -- the type under each name
 abbrev pub types_in : TypeEnv → Types

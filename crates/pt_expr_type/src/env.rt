@@ -1,14 +1,14 @@
 ghost use Rattle.std.specs.Prelude.{◌≡◌, ◌⊎◌, OnOk, OnErr, IfOk, IfErr, None, Some, List, ℕ, option_map, if◌then◌else◌};
 ghost use Rattle.std.specs.Str.{bytes_eq};
 ghost use Rattle.pt_types.specs.Ty.{type_of};
-ghost use Rattle.pt_expr.specs.Scope.{port_in};
-ghost use Rattle.pt_expr_type.specs.declared.fault.TypeFault.TheVariants.{Memory};
-ghost use Rattle.pt_expr_type.specs.Answer.{Gives, Stops, looked_up};
-ghost use Rattle.pt_expr_type.specs.Types.{type_under, presence_type};
+ghost use Rattle.pt_language.specs.Scope.{port_in};
+ghost use Rattle.pt_language.specs.declared.type_fault.TypeFault.TheVariants.{Memory};
+ghost use Rattle.pt_language.specs.Answer.{Gives, Stops, looked_up};
+ghost use Rattle.pt_language.specs.Types.{type_under, presence_type};
 ghost use Rattle.pt_expr_type.specs.TypeEnv.{types_in};
 
-use crate::fault::TypeFault;
 use indexmap::IndexMap;
+use pt_language::TypeFault;
 use pt_types::Ty;
 use std::alloc::{AllocError, Global};
 

@@ -1,4 +1,4 @@
-ghost use Rattle.pt_expr_type.specs.Laws.{TypedTreesAreSound, TreeTypesGrow, ProperTreesAreTyped};
+ghost use Rattle.pt_language.specs.Laws.{TypedTreesAreSound, TreeTypesGrow, ProperTreesAreTyped};
 
 /// Where tokens are of the types of their names, an expression that has a type is never wrong, and its value is of that type.
 pub fn typed_trees_are_sound()

@@ -1,16 +1,15 @@
 //! What each operator makes of the types of its operands.
 ghost use Rattle.std.specs.Prelude.{◌≡◌, ◌⊎◌, IfOk, IfErr, map};
 ghost use Rattle.pt_types.specs.Ty.{type_of, written};
-ghost use Rattle.pt_types.specs.Normal.{IsType};
-ghost use Rattle.pt_types.specs.Join.{join};
-ghost use Rattle.pt_types.specs.Datatype.{Record, types_of};
-ghost use Rattle.pt_expr_type.specs.declared.fault.TypeFault.TheVariants.{Memory};
-ghost use Rattle.pt_expr_type.specs.Answer.{Gives, Stops, judged};
-ghost use Rattle.pt_expr_type.specs.Entry.{typed_entry};
-ghost use Rattle.pt_expr_type.specs.TreeType as types;
+ghost use Rattle.pt_datatypes.specs.Normal.{IsType};
+ghost use Rattle.pt_datatypes.specs.Join.{join};
+ghost use Rattle.pt_datatypes.specs.Datatype.{Record, types_of};
+ghost use Rattle.pt_language.specs.declared.type_fault.TypeFault.TheVariants.{Memory};
+ghost use Rattle.pt_language.specs.Answer.{Gives, Stops, judged};
+ghost use Rattle.pt_types.specs.Entry.{typed_entry};
+ghost use Rattle.pt_language.specs.TreeType as types;
 
-use crate::fault::TypeFault;
-use pt_expr::BinaryOp;
+use pt_language::{BinaryOp, TypeFault};
 use pt_types::{RecordTy, Ty, below, join};
 use pt_value::{FieldsFault, Text};
 use std::alloc::Global;

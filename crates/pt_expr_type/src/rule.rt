@@ -1,15 +1,14 @@
 ghost use Rattle.std.specs.Prelude.{◌≡◌, IfOk, OnOk, map, List, ℕ, None, slice_get, if◌then◌else◌};
 ghost use Rattle.std.specs.Str.{bytes_eq};
 ghost use Rattle.pt_types.specs.Ty as ty;
-ghost use Rattle.pt_expr.specs.Expr.{tree_of};
-ghost use Rattle.pt_expr_type.specs.Rule.{numbered};
-ghost use Rattle.pt_expr_type.specs.Types.{or_else};
+ghost use Rattle.pt_language.specs.Expr.{tree_of};
+ghost use Rattle.pt_language.specs.Rule.{numbered};
+ghost use Rattle.pt_language.specs.Types.{or_else};
 ghost use Rattle.pt_expr_type.specs.TypeEnv.{types_in};
 
 use crate::env::TypeEnv;
-use crate::fault::TypeFault;
 use crate::tree::type_of;
-use pt_expr::Expr;
+use pt_language::{Expr, TypeFault};
 use pt_types::{Rule, Ty};
 use pt_value::Text;
 use std::alloc::{AllocError, Global};
@@ -78,9 +77,9 @@ fn bind_number(
 
 impl Rule for ExprRule {
     ghost use Rattle.std.specs.Prelude.{map};
-    ghost use Rattle.pt_expr.specs.Expr.{tree_of};
-    ghost use Rattle.pt_expr_type.specs.Rule.{numbered, type_or_general};
-    ghost use Rattle.pt_expr_type.specs.RuleGrows.{type_or_general-grows};
+    ghost use Rattle.pt_language.specs.Expr.{tree_of};
+    ghost use Rattle.pt_language.specs.Rule.{numbered, type_or_general};
+    ghost use Rattle.pt_language.specs.RuleGrows.{type_or_general-grows};
 
     ghost target_of = { λ rule. rule.target };
 

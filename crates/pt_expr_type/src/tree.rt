@@ -1,21 +1,20 @@
 ghost use Rattle.std.specs.Prelude.{◌≡◌, ◌⊎◌, IfOk, IfErr, map};
 ghost use Rattle.pt_types.specs.Ty as ty;
-ghost use Rattle.pt_expr.specs.Expr.{tree_of, trees_in, fields_in};
-ghost use Rattle.pt_expr.specs.Tree.{trees_of, named_of};
-ghost use Rattle.pt_expr_type.specs.declared.fault.TypeFault.TheVariants.{Memory};
-ghost use Rattle.pt_expr_type.specs.Answer as answers;
-ghost use Rattle.pt_expr_type.specs.Answer.{Gives, Stops};
-ghost use Rattle.pt_expr_type.specs.Entry.{typed_entry};
-ghost use Rattle.pt_expr_type.specs.Fault.{Stands};
-ghost use Rattle.pt_expr_type.specs.TreeType.{IsTyped};
+ghost use Rattle.pt_language.specs.Expr.{tree_of, trees_in, fields_in};
+ghost use Rattle.pt_language.specs.Tree.{trees_of, named_of};
+ghost use Rattle.pt_language.specs.declared.type_fault.TypeFault.TheVariants.{Memory};
+ghost use Rattle.pt_language.specs.Answer as answers;
+ghost use Rattle.pt_language.specs.Answer.{Gives, Stops};
+ghost use Rattle.pt_types.specs.Entry.{typed_entry};
+ghost use Rattle.pt_language.specs.TypeFault.{Stands};
+ghost use Rattle.pt_language.specs.TreeType.{IsTyped};
 ghost use Rattle.pt_expr_type.specs.TypeEnv.{types_in};
 
 use crate::env::TypeEnv;
-use crate::fault::TypeFault;
 use crate::operators::{
     applied, calculated, chosen, field, length_of, number, operated, record_of, truth,
 };
-use pt_expr::{Expr, Exprs, NamedExprs};
+use pt_language::{Expr, Exprs, NamedExprs, TypeFault};
 use pt_types::{Ty, join};
 use pt_value::Text;
 use std::alloc::{AllocError, Global};
@@ -31,7 +30,7 @@ pub fn type_of(alloc: Global, expr: &Expr, env: &TypeEnv) -> Result<Ty, TypeFaul
 }
 
 #[cycle(answers)]
-#[tactic(auto, using(pt_expr::specs::Parts::tree_of_array, pt_expr::specs::Parts::tree_of_record))]
+#[tactic(auto, using(pt_language::specs::Parts::tree_of_array, pt_language::specs::Parts::tree_of_record))]
 fn answer(alloc: Global, expr: &Expr, env: &TypeEnv) -> Result<Ty, TypeFault>
     ensures ok { IfOk result (λ t. answers.answer (types_in env.now) (tree_of expr.now) ≡ Gives (ty.type_of t)) }
     ensures err { IfErr result (λ fault. (fault ≡ Memory) ⊎ (answers.answer (types_in env.now) (tree_of expr.now) ≡ Stops fault)) }

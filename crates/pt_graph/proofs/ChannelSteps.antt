@@ -4,16 +4,16 @@ use Rattle.std.proofs.lemmas.Bool.{both_ways}
 use Rattle.std.proofs.lemmas.List.{take_more, length-take-le, append_assoc, append-nil}
 use Rattle.std.proofs.lemmas.List.Elements.{Contains-append_left, Contains-append_right}
 use Rattle.std.specs.List.{Contains, AllZip, slice_get, flat_map, enumerate_from}
-use Rattle.pt_graph.specs.declared.net.Channel.{Channel}
-use Rattle.pt_graph.specs.Table.{PortAt, Tables, port_path}
-use Rattle.pt_graph.specs.Wires.{is_input, taken_from, Place, places_along, places_of, input_places, output_places}
-use Rattle.pt_graph.specs.declared.wire.Wire.{Wire}
-use Rattle.pt_graph.specs.Standing.{is_kept}
-use Rattle.pt_graph.specs.Net.{wires, all_places, channel, ReachesIn}
-use Rattle.pt_graph.specs.Stands.{IsLinkFault, no_source, passed_on}
+use Rattle.pt_net.specs.declared.net.Channel.{Channel}
+use Rattle.pt_net.specs.Table.{PortAt, Tables, port_path}
+use Rattle.pt_net.specs.Wires.{is_input, taken_from, Place, places_along, places_of, input_places, output_places}
+use Rattle.pt_net.specs.declared.wire.Wire.{Wire}
+use Rattle.pt_net.specs.Standing.{is_opaque, is_kept}
+use Rattle.pt_net.specs.Net.{wires, all_places, channel, ReachesIn}
+use Rattle.pt_net.specs.Stands.{IsLinkFault, no_source, passed_on}
 use Rattle.pt_graph.specs.Origins.{IsSourceOf, HasNoSource}
 use Rattle.pt_graph.specs.ChannelTable.{IsGoodChannel, Adds, place_at}
-use Rattle.pt_graph.proofs.Members.{zip_push, contains_here, contains_later, contains_flat_map, contains_enumerate}
+use Rattle.pt_net.proofs.Members.{zip_push, contains_here, contains_later, contains_flat_map, contains_enumerate}
 
 module _ (t : Tables) (place : Place) where
   reaches_of : (g : ℕ) (s : IsSourceOf t place.relation g) → ReachesIn t g s.at place
@@ -29,13 +29,13 @@ module _ (t : Tables) (place : Place) where
     reaches : ReachesIn t g p place
     reaches = subst (λ (q : PortAt). ReachesIn t g q place) same (reaches_of g s)
 
-    pub passed : Contains (all_places t) place → IsTrue (not (is_input place.at)) → IsTrue (is_input p) → p.entity ≡ place.at.entity → IsLinkFault t (port_path place.at)
-    passed there output input own = passed_on g p place there output input reaches own
+    pub passed : Contains (all_places t) place → IsTrue (is_opaque place.at.standing) → IsTrue (not (is_input place.at)) → IsTrue (is_input p) → p.entity ≡ place.at.entity → IsLinkFault t (port_path place.at)
+    passed there opaque output input own = passed_on g p place there opaque output input reaches own
 
-    pub added : (test : Bool) → (IsTrue test ↔ (IsTrue (not (is_input place.at)) × IsTrue (is_input p) × (p.entity ≡ place.at.entity))) → test ≡ false → (old new : List Channel) (k : Channel) → k ≡ channel p place → new ≡ old ++ k ∷ [] → Adds t (place ∷ []) old new
+    pub added : (test : Bool) → (IsTrue test ↔ (IsTrue (is_opaque place.at.standing) × IsTrue (not (is_input place.at)) × IsTrue (is_input p) × (p.entity ≡ place.at.entity))) → test ≡ false → (old new : List Channel) (k : Channel) → k ≡ channel p place → new ≡ old ++ k ∷ [] → Adds t (place ∷ []) old new
     added test tells failed old new k is_k is_new before zip =
         subst (λ ks. AllZip (IsGoodChannel t) (before ++ place ∷ []) ks) (sym is_new)
-        (zip_push (IsGoodChannel t) before old place k zip (record { source = g; source_at = p; reaches = reaches; is = is_k; apart = λ a b e. both_ways test failed (tells.1 (a, b, e)) }))
+        (zip_push (IsGoodChannel t) before old place k zip (record { source = g; source_at = p; reaches = reaches; is = is_k; apart = λ o a b e. both_ways test failed (tells.1 (o, a, b, e)) }))
 
 -- ---- the places of a port
 

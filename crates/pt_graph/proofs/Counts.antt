@@ -5,14 +5,14 @@ use Rattle.std.proofs.lemmas.List.{take_more, length-take-le, take_all, get_or_d
 use Rattle.std.proofs.lemmas.List.Elements.{All-nil, All-cons, All-head, All-tail, All-append, All-contains_itself}
 use Rattle.std.proofs.lemmas.List.Sums.{sum_by_push}
 use Rattle.std.specs.List.{All, Contains, sum_by, enumerate_from}
-use Rattle.pt_graph.proofs.Members.{enumerate-push}
-use Rattle.pt_moml.specs.Document.{parts}
-use Rattle.pt_moml.specs.Classes.{ClassPort}
-use Rattle.pt_graph.specs.declared.wire.Wire.{Wire}
-use Rattle.pt_graph.specs.Standing.{Standing}
-use Rattle.pt_graph.specs.Table.{PortAt, Tables, numbered_ports, ports_from, ports_of, tables_from}
-use Rattle.pt_graph.specs.Net.{wires}
-use Rattle.pt_graph.specs.Stands.{input_channels, channels_in}
+use Rattle.pt_net.proofs.Members.{enumerate-push}
+use Rattle.pt_document.specs.Document.{parts}
+use Rattle.pt_document.specs.Classes.{ClassPort}
+use Rattle.pt_net.specs.declared.wire.Wire.{Wire}
+use Rattle.pt_net.specs.Standing.{Standing}
+use Rattle.pt_net.specs.Table.{PortAt, Tables, numbered_ports, ports_from, ports_of, tables_from}
+use Rattle.pt_net.specs.Net.{wires}
+use Rattle.pt_net.specs.Stands.{input_channels, channels_in}
 use Rattle.pt_graph.specs.Wiring.{IsOwned, AreOwned, AreCounts}
 
 numbered_owned : (m e : ℕ) (s : Standing) (n : ℕ) (ps all : List ClassPort) → e < m → All (Contains all) ps → all ≡ ports_of (parts s.tree) → All (IsOwned m) (numbered_ports e s n ps)

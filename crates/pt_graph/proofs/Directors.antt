@@ -1,10 +1,10 @@
 -- What a contract sees of a director.
 use Rattle.std.proofs.Common.{◌≡◌, ℕ, List, [], Option, filter, unwrap_or, sym, ap, ◌∙◌, rules}
-use Rattle.pt_moml.specs.declared.job.Property.{Property, out-Property, the_lemmas}
-use Rattle.pt_moml.specs.Document.{PropertyTree, to_properties, property_list, property_class, inner_properties}
-use Rattle.pt_moml.specs.View.{property_view, properties_view}
-use Rattle.pt_moml.proofs.Trees.{property_list_of}
-use Rattle.pt_graph.specs.Net.{DirectorTree, director_tree, is_parameter}
+use Rattle.pt_document.specs.declared.job.Property.{Property, out-Property, the_lemmas}
+use Rattle.pt_document.specs.Document.{PropertyTree, to_properties, property_list, property_class, inner_properties}
+use Rattle.pt_document.specs.View.{property_view, properties_view}
+use Rattle.pt_document.proofs.Trees.{property_list_of}
+use Rattle.pt_net.specs.Net.{DirectorTree, director_tree, is_parameter}
 
 class-view : (p : Property) → property_class (property_view p) ≡ (out-Property p).class
 class-view p = search (rules, the_lemmas)

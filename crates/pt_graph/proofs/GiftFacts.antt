@@ -2,18 +2,18 @@
 use Rattle.std.proofs.Common.{◌≡◌, ℕ, ◌+◌, ◌<◌, Bool, true, false, not, ◌||◌, cond, Some, None, List, [], length, get_or, map, nat_eq, refl, sym, ap, subst, arith}
 use Rattle.std.proofs.lemmas.List.Elements.{All-contains, Contains-get_or}
 use Rattle.std.specs.List.{All, Contains, filter_map, enumerate_from, slice_get}
-use Rattle.pt_graph.specs.declared.wire.Wire.{Wire}
-use Rattle.pt_graph.specs.declared.wire.Wire.TheVariants.{Outside, Inside, Bond}
-use Rattle.pt_graph.specs.Standing.{is_kept}
-use Rattle.pt_graph.specs.Table.{PortAt, RelationAt, Tables, relation_path}
-use Rattle.pt_graph.specs.Stands.{IsTwoSources}
-use Rattle.pt_graph.specs.Joined.{Joined, here, along, against, Pairs, IsGrouping}
-use Rattle.pt_graph.specs.Wires.{relation_outside, relation_inside, outside_of, inside_of, is_input, given_to, taken_from, IsOneGroup, Gives}
+use Rattle.pt_net.specs.declared.wire.Wire.{Wire}
+use Rattle.pt_net.specs.declared.wire.Wire.TheVariants.{Outside, Inside, Bond}
+use Rattle.pt_net.specs.Standing.{is_kept}
+use Rattle.pt_net.specs.Table.{PortAt, RelationAt, Tables, relation_path}
+use Rattle.pt_net.specs.Stands.{IsTwoSources}
+use Rattle.pt_net.specs.Joined.{Joined, here, along, against, Pairs, IsGrouping}
+use Rattle.pt_net.specs.Wires.{relation_outside, relation_inside, outside_of, inside_of, is_input, given_to, taken_from, IsOneGroup, Gives}
 use Rattle.pt_graph.specs.Ties.{IsWithin}
-use Rattle.pt_graph.specs.Net.{wires}
+use Rattle.pt_net.specs.Net.{wires}
 use Rattle.pt_graph.specs.Sources.{giving, gifts, gifts_among, bond_of, HaveOneSource, HasOneGiver, HasTwoGivers}
 pub use Rattle.pt_graph.proofs.GroupSteps.{AreEnds}
-use Rattle.pt_graph.proofs.Members.{contains_map, map_contains, contains_filter_map, filter_map_contains, contains_flat_map, flat_map_contains, contains_enumerate, enumerate_contains}
+use Rattle.pt_net.proofs.Members.{contains_map, map_contains, contains_filter_map, filter_map_contains, contains_flat_map, flat_map_contains, contains_enumerate, enumerate_contains}
 
 -- ---- gifts
 

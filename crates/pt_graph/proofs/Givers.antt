@@ -3,10 +3,10 @@ use Rattle.std.proofs.Common.{◌≡◌, ◌≢◌, ℕ, ◌+◌, ◌<◌, ◌�
 use Rattle.std.proofs.lemmas.Bool.{cases_eq}
 use Rattle.std.proofs.lemmas.List.{get_or_default}
 use Rattle.std.specs.List.{Contains}
-use Rattle.pt_graph.specs.declared.wire.Wire.{Wire}
-use Rattle.pt_graph.specs.Table.{PortAt}
+use Rattle.pt_net.specs.declared.wire.Wire.{Wire}
+use Rattle.pt_net.specs.Table.{PortAt}
 use Rattle.pt_graph.specs.Sources.{giving, gifts_among, HasOneGiver, HasTwoGivers, AreGivers}
-use Rattle.pt_graph.proofs.Members.{flat_more}
+use Rattle.pt_net.proofs.Members.{flat_more}
 
 abbrev pub Gift : Type 0
 Gift = ℕ × ℕ

@@ -4,7 +4,7 @@ use Rattle.std.proofs.lemmas.Bool.{cases_eq}
 use Rattle.std.proofs.lemmas.List.{get_or_default}
 use Rattle.std.proofs.lemmas.List.Elements.{All-contains, Contains-append_left, Contains-append_right, Contains-append_cases}
 use Rattle.std.specs.List.{All, Contains}
-use Rattle.pt_graph.specs.Joined.{Joined, here, along, against, Pairs, IsGrouping}
+use Rattle.pt_net.specs.Joined.{Joined, here, along, against, Pairs, IsGrouping}
 use Rattle.pt_graph.specs.Groups.{members, Agree, Relabels, Moves, Merges}
 
 -- the things before i got the group, and no others changed theirs

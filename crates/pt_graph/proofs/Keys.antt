@@ -3,7 +3,7 @@ use Rattle.std.proofs.Common.{◌≡◌, ℕ, ◌+◌, ◌<◌, List, [], ◌∷
 use Rattle.std.proofs.lemmas.List.{map_push, map_more, get_or-map, length-map}
 use Rattle.pt_graph.specs.declared.tables.PlacedPort.{PlacedPort}
 use Rattle.pt_graph.specs.Survey.{port_at, ports_view}
-use Rattle.pt_graph.specs.Table.{PortAt, RelationAt}
+use Rattle.pt_net.specs.Table.{PortAt, RelationAt}
 use Rattle.pt_graph.specs.Resolve.{Name, outside_text}
 
 abbrev pub pair_view : ℕ × Name → ℕ × List ℕ

@@ -9,7 +9,6 @@ pub mod WireFacts
 pub mod PortTests
 pub mod Counts
 pub mod Directors
-pub mod Members
 pub mod Givers
 pub mod GiftFacts
 pub mod Singles

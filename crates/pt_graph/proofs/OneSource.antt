@@ -3,11 +3,11 @@
 use Rattle.std.proofs.Common.{◌≡◌, ℕ, List, Some, Bool, true, false, not, IsTrue, refl, ap, subst}
 use Rattle.std.proofs.lemmas.Bool.{both_ways, not-true}
 use Rattle.std.specs.List.{Contains, slice_get}
-use Rattle.pt_graph.specs.declared.wire.Wire.{Wire}
-use Rattle.pt_graph.specs.Standing.{is_kept}
-use Rattle.pt_graph.specs.Table.{PortAt}
-use Rattle.pt_graph.specs.Joined.{here, along, against}
-use Rattle.pt_graph.specs.Wires.{outside_of, inside_of, is_input, taken_from, given_to, IsOneGroup, Meets, bonded, crossed, AreJoined, Gives, IsSource, Place, Reaches}
+use Rattle.pt_net.specs.declared.wire.Wire.{Wire}
+use Rattle.pt_net.specs.Standing.{is_kept}
+use Rattle.pt_net.specs.Table.{PortAt}
+use Rattle.pt_net.specs.Joined.{here, along, against}
+use Rattle.pt_net.specs.Wires.{outside_of, inside_of, is_input, taken_from, given_to, IsOneGroup, Meets, bonded, crossed, AreJoined, Gives, IsSource, Place, Reaches}
 use Rattle.pt_graph.proofs.GroupSteps.{after_path, back_path}
 
 -- no relation group has two sources

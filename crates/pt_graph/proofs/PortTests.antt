@@ -3,10 +3,10 @@ use Rattle.std.proofs.Common.{◌≡◌, ℕ, ◌≤◌, inl, inr, Bool, true, f
 use Rattle.std.proofs.lemmas.Bool.{or_cases, or_parts, and_parts, and_cases, and_from, ltb-true, ltb-false, eqb-true, both_ways}
 use Rattle.std.proofs.lemmas.List.{nil_from_length}
 use Rattle.std.specs.List.{slice_get}
-use Rattle.pt_graph.specs.Table.{PortAt, Tables, port_path}
-use Rattle.pt_graph.specs.Wires.{is_input, outside_of, inside_of}
-use Rattle.pt_graph.specs.Net.{wires}
-use Rattle.pt_graph.specs.Stands.{IsLinkFault, twice_outside, twice_inside, no_link, no_link_inside, no_channel, is_single, is_many, needs_link, needs_link_inside}
+use Rattle.pt_net.specs.Table.{PortAt, Tables, port_path}
+use Rattle.pt_net.specs.Wires.{is_input, outside_of, inside_of}
+use Rattle.pt_net.specs.Net.{wires}
+use Rattle.pt_net.specs.Stands.{IsLinkFault, twice_outside, twice_inside, no_link, no_link_inside, no_channel, is_single, is_many, needs_link, needs_link_inside}
 use Rattle.pt_graph.specs.Wiring.{IsFine, is_amiss, lacks_channel}
 
 module _ (t : Tables) (g : ℕ) (p : PortAt) (is : slice_get t.ports g ≡ Some p) where

@@ -9,16 +9,16 @@ use Rattle.std.proofs.lemmas.Iterator.Adapters.{position_from-zero}
 use Rattle.std.proofs.lemmas.List.Elements.{filter_map-append}
 use Rattle.std.specs.Option.{option_map}
 use Rattle.std.specs.List.{AllZip, slice_get, position, position_from}
-use Rattle.pt_graph.specs.declared.net.NetPort.{NetPort}
+use Rattle.pt_net.specs.declared.net.NetPort.{NetPort}
 use Rattle.pt_graph.specs.declared.tables.PlacedPort.{PlacedPort}
 use Rattle.pt_graph.specs.Survey.{port_at, ports_view}
-use Rattle.pt_graph.specs.Standing.{is_kept}
-use Rattle.pt_graph.specs.Table.{PortAt, Tables, port_path, shown}
-use Rattle.pt_graph.specs.Wires.{is_input}
-use Rattle.pt_graph.specs.Net.{net_port, Names, Records}
-use Rattle.pt_graph.specs.Stands.{IsRecordFault, names_no_port, repeated}
+use Rattle.pt_net.specs.Standing.{is_opaque}
+use Rattle.pt_net.specs.Table.{PortAt, Tables, port_path, shown}
+use Rattle.pt_net.specs.Wires.{is_input}
+use Rattle.pt_net.specs.Net.{net_port, Names, Records}
+use Rattle.pt_net.specs.Stands.{IsRecordFault, names_no_port, repeated}
 use Rattle.pt_graph.specs.Recorded.{OutputAt, output_of, outputs_of, AreDistinct}
-use Rattle.pt_graph.proofs.Members.{zip_push, contains_slice, slice_contains, contains_filter_map, filter_map_contains, contains_map}
+use Rattle.pt_net.proofs.Members.{zip_push, contains_slice, slice_contains, contains_filter_map, filter_map_contains, contains_map}
 
 -- the first texts have their ports, and each stands there for the first time
 pub record AreRecorded (t : Tables) (records : List (List ℕ)) (n : ℕ) (ports : List NetPort) : Type 0 where
@@ -80,23 +80,23 @@ module _ (t : Tables) (text : List ℕ) where
   abbrev paths : List (List ℕ)
   paths = map (λ o. o.path) all
 
-  output_is : (p : PortAt) → IsTrue (is_kept p.standing) → IsTrue (not (is_input p)) → output_of p ≡ Some (record { path = port_path p; port = net_port p })
-  output_is p kept output = ap (λ (b : Bool). cond b (Some (record { path = port_path p; port = net_port p })) None) (and_from (is_kept p.standing) (not (is_input p)) kept output)
+  output_is : (p : PortAt) → IsTrue (is_opaque p.standing) → IsTrue (not (is_input p)) → output_of p ≡ Some (record { path = port_path p; port = net_port p })
+  output_is p opaque output = ap (λ (b : Bool). cond b (Some (record { path = port_path p; port = net_port p })) None) (and_from (is_opaque p.standing) (not (is_input p)) opaque output)
 
   pub unnamed : position (bytes_eq text) paths ≡ None → (p : PortAt) → Names t text p → ⊥
   unnamed e p n =
       let o : OutputAt = record { path = port_path p; port = net_port p } in
-      let w = contains_filter_map output_of t.ports p o n.there (output_is p n.kept n.output) in
+      let w = contains_filter_map output_of t.ports p o n.there (output_is p n.opaque n.output) in
       let v = contains_map (λ q. q.path) all o w in
       let s = slice_contains paths (port_path p) v in
       no_position (bytes_eq text) paths e s.0 (port_path p) s.1 (subst (λ x. bytes_eq x (port_path p) ≡ true) n.told (text_same (port_path p)))
 
-  output_from : (p : PortAt) (o : OutputAt) → output_of p ≡ Some o → (IsTrue (is_kept p.standing)) × (IsTrue (not (is_input p))) × (port_path p ≡ o.path) × (o.port ≡ net_port p)
-  output_from p o e = chosen (is_kept p.standing && not (is_input p)) refl e
+  output_from : (p : PortAt) (o : OutputAt) → output_of p ≡ Some o → (IsTrue (is_opaque p.standing)) × (IsTrue (not (is_input p))) × (port_path p ≡ o.path) × (o.port ≡ net_port p)
+  output_from p o e = chosen (is_opaque p.standing && not (is_input p)) refl e
     where
-      chosen : (b : Bool) → (is_kept p.standing && not (is_input p)) ≡ b → cond b (Some (record { path = port_path p; port = net_port p })) None ≡ Some o → (IsTrue (is_kept p.standing)) × (IsTrue (not (is_input p))) × (port_path p ≡ o.path) × (o.port ≡ net_port p)
+      chosen : (b : Bool) → (is_opaque p.standing && not (is_input p)) ≡ b → cond b (Some (record { path = port_path p; port = net_port p })) None ≡ Some o → (IsTrue (is_opaque p.standing)) × (IsTrue (not (is_input p))) × (port_path p ≡ o.path) × (o.port ≡ net_port p)
       chosen true h e' =
-          let a = and_parts (is_kept p.standing) (not (is_input p)) h in
+          let a = and_parts (is_opaque p.standing) (not (is_input p)) h in
           let made : OutputAt = record { path = port_path p; port = net_port p } in
           let same : made ≡ o = cc in
           (a.0, a.1, ap (λ (q : OutputAt). q.path) same, sym (ap (λ (q : OutputAt). q.port) same))
@@ -114,7 +114,7 @@ module _ (t : Tables) (text : List ℕ) where
           let path_same : o.path ≡ text = cc in
           let w = filter_map_contains output_of t.ports o (contains_slice all place o h) in
           let v = output_from w.0 o w.2 in
-          (w.0, record { there = w.1; kept = v.0; output = v.1; told = v.2 ∙ path_same }, sym port_same ∙ v.3)
+          (w.0, record { there = w.1; opaque = v.0; output = v.1; told = v.2 ∙ path_same }, sym port_same ∙ v.3)
 
   pub place_below : (place : ℕ) → position (bytes_eq text) paths ≡ Some place → place < length (map (λ o. o.port) all)
   place_below place e = omega (arith, slice_get_within paths place text (position_text text paths place e), length-map all (λ (o : OutputAt). o.path), length-map all (λ (o : OutputAt). o.port))

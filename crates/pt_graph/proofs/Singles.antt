@@ -5,15 +5,15 @@ use Rattle.std.proofs.lemmas.List.{get_or_default}
 use Rattle.std.proofs.lemmas.List.Elements.{All-contains}
 use Rattle.std.specs.List.{Contains}
 use Rattle.std.specs.Option.{is_none, option_map}
-use Rattle.pt_moml.specs.Document.{Parts, parts}
-use Rattle.pt_moml.specs.Classes.{ClassPort, Composite, Modal, Actor, class_row, kind_of}
-use Rattle.pt_graph.specs.Standing.{Standing, is_kept, is_composite}
-use Rattle.pt_graph.specs.Table.{PortAt, Tables, declared_port, ports_of_kind, ports_of}
-use Rattle.pt_graph.specs.Wires.{outside_of, inside_of, is_input}
-use Rattle.pt_graph.specs.Net.{wires}
-use Rattle.pt_graph.specs.Stands.{is_single, has_one_at_most}
+use Rattle.pt_document.specs.Document.{Parts, parts}
+use Rattle.pt_document.specs.Classes.{ClassPort, Composite, Modal, Actor, class_row, kind_of}
+use Rattle.pt_net.specs.Standing.{Standing, is_kept, is_composite}
+use Rattle.pt_net.specs.Table.{PortAt, Tables, declared_port, ports_of_kind, ports_of}
+use Rattle.pt_net.specs.Wires.{outside_of, inside_of, is_input}
+use Rattle.pt_net.specs.Net.{wires}
+use Rattle.pt_net.specs.Stands.{is_single, has_one_at_most}
 use Rattle.pt_graph.specs.Wiring.{IsOwned, AreOwned, AreFine}
-use Rattle.pt_graph.proofs.Members.{map_contains, contains_slice}
+use Rattle.pt_net.proofs.Members.{map_contains, contains_slice}
 use Rattle.pt_graph.proofs.OneSource.{AreSingle}
 
 composite_ports : (own : Parts) → is_composite own ≡ true → ports_of own ≡ map declared_port own.ports

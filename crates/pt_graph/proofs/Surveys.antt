@@ -1,11 +1,11 @@
 -- Entities of the program and of the document.
 use Rattle.std.proofs.Common.{◌≡◌, ℕ, ◌+◌, ◌<◌, ◌≤◌, List, [], ◌∷◌, ◌++◌, length, get_or, drop, sym, ap, ◌∙◌, rules}
 use Rattle.std.proofs.lemmas.List.{drop_more, drop_all}
-use Rattle.pt_moml.specs.declared.job.Entity.{Entity, out-Entity, the_lemmas}
-use Rattle.pt_moml.specs.Document.{EntityTree, entity, entity_name, parts, to_entities}
-use Rattle.pt_moml.specs.View.{entity_view, entities_view}
-use Rattle.pt_moml.specs.Names.{below}
-use Rattle.pt_graph.specs.Standing.{Round, Standing, standing, round_in, with_entity, with_entities}
+use Rattle.pt_document.specs.declared.job.Entity.{Entity, out-Entity, the_lemmas}
+use Rattle.pt_document.specs.Document.{EntityTree, entity, entity_name, parts, to_entities}
+use Rattle.pt_document.specs.View.{entity_view, entities_view}
+use Rattle.pt_document.specs.Names.{below}
+use Rattle.pt_net.specs.Standing.{Round, Standing, standing, round_in, with_entity, with_entities}
 
 pub name-view : (e : Entity) → entity_name (entity_view e) ≡ (out-Entity e).name
 name-view e = search (rules, the_lemmas)

@@ -4,9 +4,9 @@ use Rattle.std.proofs.lemmas.Bool.{cases_eq, eq-eqb, ne_eqb}
 use Rattle.std.proofs.lemmas.List.{append-nil, get_or-map, map-set, take_more}
 use Rattle.std.proofs.lemmas.List.Elements.{filter_map-append}
 use Rattle.std.specs.List.{filter_map, cons_option}
-use Rattle.pt_graph.specs.declared.wire.Wire.{Wire}
-use Rattle.pt_graph.specs.declared.wire.Wire.TheVariants.{Outside, Inside, Bond}
-use Rattle.pt_graph.specs.Wires.{relation_outside, relation_inside, outside_of, inside_of}
+use Rattle.pt_net.specs.declared.wire.Wire.{Wire}
+use Rattle.pt_net.specs.declared.wire.Wire.TheVariants.{Outside, Inside, Bond}
+use Rattle.pt_net.specs.Wires.{relation_outside, relation_inside, outside_of, inside_of}
 use Rattle.pt_graph.specs.Ties.{rows, appended, outside_with, inside_with, IsPortWithin, AreTied}
 
 abbrev Row : Type 0

@@ -1,27 +1,27 @@
 -- What the tests together say: the channels are those of the definition, and no refusal stands.
 use Rattle.std.proofs.Common.{◌≡◌, ℕ, not, IsTrue, ◌↔◌, List, length, map, filter, sym, ap, subst, ◌∙◌, arith}
 use Rattle.std.specs.List.{Contains, AllZip}
-use Rattle.pt_moml.specs.declared.code.Code.{Code}
-use Rattle.pt_moml.specs.declared.code.Code.TheVariants as code
-use Rattle.pt_moml.specs.declared.refusal.DocFault.{DocFault}
-use Rattle.pt_moml.specs.declared.refusal.DocFault.TheVariants as faults
-use Rattle.pt_moml.specs.Document.{JobTree}
-use Rattle.pt_moml.specs.Names.{top_path}
-use Rattle.pt_graph.specs.declared.net.Channel.{Channel}
-use Rattle.pt_graph.specs.declared.net.NetPort.{NetPort}
-use Rattle.pt_graph.specs.declared.net.Net.{Net}
-use Rattle.pt_graph.specs.Table.{PortAt, Tables, tables_of}
-use Rattle.pt_graph.specs.Wires.{is_input}
-use Rattle.pt_moml.specs.View.{input_view}
-use Rattle.pt_graph.specs.Standing.{Standing, is_kept, entities}
-use Rattle.pt_graph.specs.Net.{IsNetOf, AreJoints, entity_view, entity_tree, transparent_view, transparent_tree, wires, all_places, channel, IsChannel, IsChannelTo, Records}
-use Rattle.pt_graph.specs.Stands.{IsLinkFault, names_nothing, twice_outside, twice_inside, no_source, no_link, no_link_inside, passed_on, no_channel, too_few_channels, IsTwoSources, IsRecordFault, names_no_port, repeated, IsTold, StandsIn, IsFaultIn}
+use Rattle.pt_document.specs.declared.code.Code.{Code}
+use Rattle.pt_document.specs.declared.code.Code.TheVariants as code
+use Rattle.pt_document.specs.declared.refusal.DocFault.{DocFault}
+use Rattle.pt_document.specs.declared.refusal.DocFault.TheVariants as faults
+use Rattle.pt_document.specs.Document.{JobTree}
+use Rattle.pt_document.specs.Names.{top_path}
+use Rattle.pt_net.specs.declared.net.Channel.{Channel}
+use Rattle.pt_net.specs.declared.net.NetPort.{NetPort}
+use Rattle.pt_net.specs.declared.net.Net.{Net}
+use Rattle.pt_net.specs.Table.{PortAt, Tables, tables_of}
+use Rattle.pt_net.specs.Wires.{is_input}
+use Rattle.pt_document.specs.View.{input_view}
+use Rattle.pt_net.specs.Standing.{Standing, is_kept, entities}
+use Rattle.pt_net.specs.Net.{IsNetOf, AreJoints, entity_view, entity_tree, transparent_view, transparent_tree, wires, all_places, channel, IsChannel, IsChannelTo, Records}
+use Rattle.pt_net.specs.Stands.{IsLinkFault, names_nothing, twice_outside, twice_inside, no_source, no_link, no_link_inside, passed_on, no_channel, too_few_channels, IsTwoSources, IsRecordFault, names_no_port, repeated, IsTold, StandsIn, IsFaultIn}
 use Rattle.pt_graph.specs.Wiring.{AllNamed, AreOwned, AreFine, HaveChannels}
 use Rattle.pt_graph.specs.Sources.{HaveOneSource}
 use Rattle.pt_graph.specs.ChannelTable.{IsGoodChannel, AreChannels, AreTooMany}
 use Rattle.pt_graph.specs.Recorded.{AreDistinct}
 use Rattle.pt_graph.proofs.GroupSteps.{after_path, back_path}
-use Rattle.pt_graph.proofs.Members.{zip_left, zip_right, zip_weaker, zip_length}
+use Rattle.pt_net.proofs.Members.{zip_left, zip_right, zip_weaker, zip_length}
 use Rattle.pt_graph.proofs.OneSource.{AreSingle, reached_once}
 use Rattle.pt_graph.proofs.Singles.{are_single}
 
@@ -59,10 +59,10 @@ module _ (t : Tables) (one : HaveOneSource t) (own : AreOwned t) (fine : AreFine
       let z = zip_left (IsGoodChannel t) (all_places t) channels place good w in none z.2.source z.2.source_at z.2.reaches
   no_link_fault named enough path (no_link g p is need nil) = (fine g p is).linked need nil
   no_link_fault named enough path (no_link_inside g p is need nil) = (fine g p is).linked_inside need nil
-  no_link_fault named enough path (passed_on g p place w output input reaches own') =
+  no_link_fault named enough path (passed_on g p place w opaque output input reaches own') =
       let z = zip_left (IsGoodChannel t) (all_places t) channels place good w in
       let same = (reached_once t.ports (wires t) one single place g z.2.source p z.2.source_at reaches z.2.reaches).1 in
-      z.2.apart output (subst (λ (q : PortAt). IsTrue (is_input q)) same input) (subst (λ (q : PortAt). q.entity ≡ place.at.entity) same own')
+      z.2.apart opaque output (subst (λ (q : PortAt). IsTrue (is_input q)) same input) (subst (λ (q : PortAt). q.entity ≡ place.at.entity) same own')
   no_link_fault named enough path (no_channel g p is input many nil) = (fine g p is).has_channel input many nil
   no_link_fault named enough path (too_few_channels e s is few) = omega (arith, few, enough e s is)
 

@@ -5,19 +5,19 @@ use Rattle.std.proofs.lemmas.List.{get_or_default}
 use Rattle.std.proofs.lemmas.List.Elements.{All-contains, Contains-append_left, Contains-append_right, Contains-append_cases, Contains-get_or}
 use Rattle.std.specs.Option.{MatchOption, is_some}
 use Rattle.std.specs.List.{All, Contains, filter_map, enumerate_from, slice_get}
-use Rattle.pt_graph.specs.declared.wire.Wire.{Wire}
-use Rattle.pt_graph.specs.declared.wire.Wire.TheVariants.{Bond}
-use Rattle.pt_graph.specs.Standing.{is_kept}
-use Rattle.pt_graph.specs.Table.{PortAt, Tables}
-use Rattle.pt_graph.specs.Joined.{Joined, Pairs, IsGrouping}
-use Rattle.pt_graph.specs.Wires.{outside_of, inside_of, Meets, bonded, crossed, AreJoined}
+use Rattle.pt_net.specs.declared.wire.Wire.{Wire}
+use Rattle.pt_net.specs.declared.wire.Wire.TheVariants.{Bond}
+use Rattle.pt_net.specs.Standing.{is_kept}
+use Rattle.pt_net.specs.Table.{PortAt, Tables}
+use Rattle.pt_net.specs.Joined.{Joined, Pairs, IsGrouping}
+use Rattle.pt_net.specs.Wires.{outside_of, inside_of, Meets, bonded, crossed, AreJoined}
 use Rattle.pt_graph.specs.Ties.{IsWithin}
-use Rattle.pt_graph.specs.Net.{wires}
+use Rattle.pt_net.specs.Net.{wires}
 use Rattle.pt_graph.specs.Sources.{bond_of, gifts}
 use Rattle.pt_graph.specs.Origins.{first_pair, crossing, crossings_among, ways, IsSourceOf, HasNoSource, AreOrigins}
 use Rattle.pt_graph.specs.Wiring.{IsOwned, AreOwned, AreFine}
 use Rattle.pt_graph.proofs.GroupSteps.{AreEnds}
-use Rattle.pt_graph.proofs.Members.{contains_here, contains_slice, contains_flat_map, flat_map_contains, contains_filter_map, filter_map_contains, contains_enumerate, enumerate_contains}
+use Rattle.pt_net.proofs.Members.{contains_here, contains_slice, contains_flat_map, flat_map_contains, contains_filter_map, filter_map_contains, contains_enumerate, enumerate_contains}
 use Rattle.pt_graph.proofs.GiftFacts.{gift_gives, gives_gift, given_below, joined_by, outside_below, inside_below, bonds_below, bond_is}
 use Rattle.pt_graph.proofs.Singles.{transparent_single, one_of}
 

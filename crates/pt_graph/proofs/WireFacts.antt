@@ -5,14 +5,14 @@ use Rattle.std.proofs.lemmas.List.Quantifiers.{position-Some}
 use Rattle.std.proofs.lemmas.Option.{slice_get-get_or, slice_get-map}
 use Rattle.std.specs.Option.{option_map}
 use Rattle.std.specs.List.{All, Contains, filter_map, cons_option, position, slice_get}
-use Rattle.pt_moml.specs.declared.job.Link.{Link}
-use Rattle.pt_moml.specs.declared.job.Link.TheVariants as link
-use Rattle.pt_graph.specs.declared.wire.Wire.{Wire}
-use Rattle.pt_graph.specs.declared.wire.Wire.TheVariants.{Outside, Inside, Bond}
-use Rattle.pt_graph.specs.Table.{PortAt, RelationAt, Tables}
-use Rattle.pt_graph.specs.Wires.{names_inside, names_outside, names_relation, relation_named, end_of_text, joined_at, bonded_at, wire_between, wire_of}
+use Rattle.pt_document.specs.declared.job.Link.{Link}
+use Rattle.pt_document.specs.declared.job.Link.TheVariants as link
+use Rattle.pt_net.specs.declared.wire.Wire.{Wire}
+use Rattle.pt_net.specs.declared.wire.Wire.TheVariants.{Outside, Inside, Bond}
+use Rattle.pt_net.specs.Table.{PortAt, RelationAt, Tables}
+use Rattle.pt_net.specs.Wires.{names_inside, names_outside, names_relation, relation_named, end_of_text, joined_at, bonded_at, wire_between, wire_of}
 use Rattle.pt_graph.specs.Ties.{IsWithin, IsPortWithin}
-use Rattle.pt_graph.specs.Net.{wires}
+use Rattle.pt_net.specs.Net.{wires}
 
 All-filter_map : {X Y : Type 0} (f : X → Option Y) (P : Y → Type 0) → ((x : X) (y : Y) → f x ≡ Some y → P y) → (xs : List X) → All P (filter_map f xs)
 All-filter_map f P holds [] = All-nil P

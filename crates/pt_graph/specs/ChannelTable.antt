@@ -1,20 +1,21 @@
 -- Channels as the program makes them, place by place.
 use Rattle.std.specs.Prelude.{◌≡◌, ℕ, ◌<◌, ◌⊎◌, ◌↔◌, List, [], ◌∷◌, ◌++◌, Some, slice_get, Bool, IsTrue, not, if◌then◌else◌}
 use Rattle.std.specs.List.{AllZip, Contains, flat_map, enumerate_from}
-use Rattle.pt_graph.specs.declared.net.Channel.{Channel}
-use Rattle.pt_graph.specs.declared.wire.Wire.{Wire}
-use Rattle.pt_graph.specs.Table.{PortAt, Tables}
-use Rattle.pt_graph.specs.Wires.{is_input, Place, input_places, output_places}
-use Rattle.pt_graph.specs.Net.{all_places, channel, ReachesIn, IsChannel, IsChannelTo}
-use Rattle.pt_graph.specs.Stands.{IsLinkFault, IsTwoSources, most_channels, most_records}
+use Rattle.pt_net.specs.declared.net.Channel.{Channel}
+use Rattle.pt_net.specs.declared.wire.Wire.{Wire}
+use Rattle.pt_net.specs.Standing.{is_opaque}
+use Rattle.pt_net.specs.Table.{PortAt, Tables}
+use Rattle.pt_net.specs.Wires.{is_input, Place, input_places, output_places}
+use Rattle.pt_net.specs.Net.{all_places, channel, ReachesIn, IsChannel, IsChannelTo}
+use Rattle.pt_net.specs.Stands.{IsLinkFault, IsTwoSources, most_channels, most_records}
 
--- the channel to a place from a source that isn't an own input of the composite whose own output the place is
+-- the channel to a place from a source that isn't an own input of the opaque composite whose own output the place is
 pub record IsGoodChannel (t : Tables) (place : Place) (k : Channel) : Type 0 where
   pub source : ℕ
   pub source_at : PortAt
   pub reaches : ReachesIn t source source_at place
   pub is : k ≡ channel source_at place
-  pub apart : IsTrue (not (is_input place.at)) → IsTrue (is_input source_at) → source_at.entity ≡ place.at.entity → ⊥
+  pub apart : IsTrue (is_opaque place.at.standing) → IsTrue (not (is_input place.at)) → IsTrue (is_input source_at) → source_at.entity ≡ place.at.entity → ⊥
 
 -- there are channels for these places beside those that there were
 abbrev pub Adds : Tables → List Place → List Channel → List Channel → Type 0

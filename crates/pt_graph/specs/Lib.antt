@@ -1,11 +1,4 @@
-pub mod Joined
 pub mod Groups
-pub mod Standing
-pub mod Table
-pub mod Wires
-pub mod Joints
-pub mod Net
-pub mod Stands
 pub mod Survey
 pub mod Resolve
 pub mod Ties

@@ -1,13 +1,13 @@
 -- The source of each relation.
 use Rattle.std.specs.Prelude.{◌≡◌, ℕ, ◌<◌, List, [], ◌∷◌, ◌++◌, length, true, Option, Some, None, IsSome, if◌then◌else◌, slice_index, slice_index_or}
 use Rattle.std.specs.List.{Contains, flat_map, filter_map, enumerate_from}
-use Rattle.pt_graph.specs.declared.wire.Wire.{Wire}
+use Rattle.pt_net.specs.declared.wire.Wire.{Wire}
 use Rattle.pt_graph.specs.declared.origins.Origins.{Origins}
-use Rattle.pt_graph.specs.Standing.{is_kept}
-use Rattle.pt_graph.specs.Table.{PortAt, Tables}
-use Rattle.pt_graph.specs.Joined.{IsGrouping}
-use Rattle.pt_graph.specs.Wires.{outside_of, inside_of, AreJoined, IsSource}
-use Rattle.pt_graph.specs.Net.{wires}
+use Rattle.pt_net.specs.Standing.{is_kept}
+use Rattle.pt_net.specs.Table.{PortAt, Tables}
+use Rattle.pt_net.specs.Joined.{IsGrouping}
+use Rattle.pt_net.specs.Wires.{outside_of, inside_of, AreJoined, IsSource}
+use Rattle.pt_net.specs.Net.{wires}
 use Rattle.pt_graph.specs.Sources.{bond_of, gifts}
 use Rattle.pt_graph.specs.Survey.{tables_view}
 use Rattle.pt_graph.specs.Wiring.{IsWiring, AreFine}

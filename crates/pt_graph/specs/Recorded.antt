@@ -5,12 +5,12 @@ use Rattle.std.specs.Borrow.{Bor}
 use Rattle.std.specs.Cmp.Lexicographic.{pointwise}
 use Rattle.std.specs.Prelude.{nat_eq, bytes_eq, slice_index_or, []}
 use Rattle.indexmap.specs.IndexMap.{get}
-use Rattle.pt_graph.specs.declared.net.NetPort.{NetPort}
+use Rattle.pt_net.specs.declared.net.NetPort.{NetPort}
 use Rattle.pt_graph.specs.declared.records.Outputs.{Outputs}
-use Rattle.pt_graph.specs.Standing.{is_kept}
-use Rattle.pt_graph.specs.Table.{PortAt, Tables, port_path}
-use Rattle.pt_graph.specs.Wires.{is_input}
-use Rattle.pt_graph.specs.Net.{net_port, Records}
+use Rattle.pt_net.specs.Standing.{is_opaque}
+use Rattle.pt_net.specs.Table.{PortAt, Tables, port_path}
+use Rattle.pt_net.specs.Wires.{is_input}
+use Rattle.pt_net.specs.Net.{net_port, Records}
 use Rattle.pt_graph.specs.declared.records.Recorder.{Recorder}
 use Rattle.pt_graph.specs.Survey.{tables_view}
 
@@ -20,7 +20,7 @@ pub record OutputAt : Type 0 where
   pub port : NetPort
 
 abbrev pub output_of : PortAt → Option OutputAt
-output_of p = if is_kept p.standing && not (is_input p) then Some (record { path = port_path p; port = net_port p }) else None
+output_of p = if is_opaque p.standing && not (is_input p) then Some (record { path = port_path p; port = net_port p }) else None
 
 abbrev pub outputs_of : List PortAt → List OutputAt
 outputs_of ports = filter_map output_of ports

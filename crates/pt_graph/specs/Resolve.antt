@@ -4,11 +4,11 @@ use Rattle.std.specs.Cmp.Lexicographic.{pointwise}
 use Rattle.std.specs.Option.{option_eq}
 use Rattle.std.specs.Borrow.{Bor}
 use Rattle.indexmap.specs.IndexMap.{get}
-use Rattle.pt_moml.specs.Document.{entity_name}
+use Rattle.pt_document.specs.Document.{entity_name}
 use Rattle.pt_graph.specs.declared.resolve.Names.{Names}
-use Rattle.pt_graph.specs.Table.{PortAt, Tables}
+use Rattle.pt_net.specs.Table.{PortAt, Tables}
 use Rattle.pt_graph.specs.Survey.{tables_view}
-use Rattle.pt_graph.specs.Wires.{names_inside, names_outside, names_relation}
+use Rattle.pt_net.specs.Wires.{names_inside, names_outside, names_relation}
 
 abbrev pub Name : Type 0
 Name = Bor (List ℕ)

@@ -1,12 +1,12 @@
 -- What gives tokens to which relations, as a list, and who gives to a group.
 use Rattle.std.specs.Prelude.{◌≡◌, ◌≢◌, ℕ, ◌<◌, List, [], map, length, Bool, not, ◌||◌, Option, Some, None, if◌then◌else◌, slice_index, slice_index_or}
 use Rattle.std.specs.List.{Contains, flat_map, enumerate_from}
-use Rattle.pt_graph.specs.declared.wire.Wire.{Wire}
-use Rattle.pt_graph.specs.declared.wire.Wire.TheVariants.{Outside, Inside, Bond}
-use Rattle.pt_graph.specs.Standing.{is_kept}
-use Rattle.pt_graph.specs.Table.{PortAt, Tables}
-use Rattle.pt_graph.specs.Wires.{given_to, Gives, IsOneGroup}
-use Rattle.pt_graph.specs.Net.{wires}
+use Rattle.pt_net.specs.declared.wire.Wire.{Wire}
+use Rattle.pt_net.specs.declared.wire.Wire.TheVariants.{Outside, Inside, Bond}
+use Rattle.pt_net.specs.Standing.{is_kept}
+use Rattle.pt_net.specs.Table.{PortAt, Tables}
+use Rattle.pt_net.specs.Wires.{given_to, Gives, IsOneGroup}
+use Rattle.pt_net.specs.Net.{wires}
 
 -- the relations to which a port gives tokens, if its entity stays in the net or that isn't asked for
 abbrev pub giving : List Wire → Bool → ℕ × PortAt → List ℕ

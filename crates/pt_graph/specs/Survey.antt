@@ -1,7 +1,7 @@
 -- What a contract sees of the tables of a job.
 use Rattle.std.specs.Prelude.{◌≡◌, List, map}
-use Rattle.pt_moml.specs.Classes.{port_of}
-use Rattle.pt_moml.specs.View.{entity_view}
+use Rattle.pt_document.specs.Classes.{port_of}
+use Rattle.pt_document.specs.View.{entity_view}
 use Rattle.pt_graph.specs.declared.survey.Placed.{Placed}
 use Rattle.pt_graph.specs.declared.survey.Entities.{Entities}
 use Rattle.pt_graph.specs.declared.tables.PlacedPort.{PlacedPort}
@@ -9,8 +9,8 @@ use Rattle.pt_graph.specs.declared.tables.PlacedRelation.{PlacedRelation}
 use Rattle.pt_graph.specs.declared.tables.PlacedLink.{PlacedLink}
 use Rattle.pt_graph.specs.declared.tables.Tables.{Tables as HeldTables}
 use Rattle.pt_graph.specs.declared.survey.Round.{Round as HeldRound}
-use Rattle.pt_graph.specs.Standing.{Round, Standing, kept_count}
-use Rattle.pt_graph.specs.Table.{PortAt, RelationAt, LinkAt, Tables}
+use Rattle.pt_net.specs.Standing.{Round, Standing, kept_count}
+use Rattle.pt_net.specs.Table.{PortAt, RelationAt, LinkAt, Tables}
 
 abbrev pub round_view : HeldRound → Round
 round_view r = record { outer = r.outer; parent = r.parent; within = r.within; is_refinement = r.is_refinement }

@@ -2,14 +2,14 @@
 use Rattle.std.specs.Prelude.{◌≡◌, ◌≢◌, ℕ, ◌<◌, ◌≤◌, List, [], length, Bool, IsTrue, ◌&&◌, ◌||◌, ◌==◌, nat_lt, ◌-◌, ◌^◌, min, take, slice_index, Some, None, slice_get}
 use Rattle.std.specs.List.{All, Contains}
 use Rattle.pt_graph.specs.declared.wiring.Wiring.{Wiring}
-use Rattle.pt_graph.specs.Table.{PortAt, LinkAt, Tables, ports_of}
-use Rattle.pt_moml.specs.Document.{parts}
+use Rattle.pt_net.specs.Table.{PortAt, LinkAt, Tables, ports_of}
+use Rattle.pt_document.specs.Document.{parts}
 use Rattle.pt_graph.specs.Survey.{tables_view}
-use Rattle.pt_graph.specs.Wires.{wire_of, is_input, outside_of, inside_of}
+use Rattle.pt_net.specs.Wires.{wire_of, is_input, outside_of, inside_of}
 use Rattle.pt_graph.specs.Ties.{rows, IsWithin, AreTied}
-use Rattle.pt_graph.specs.Net.{wires}
-use Rattle.pt_graph.specs.Stands.{is_single, is_many, needs_link, needs_link_inside, least_channels, channels_in}
-use Rattle.pt_graph.specs.Standing.{Standing}
+use Rattle.pt_net.specs.Net.{wires}
+use Rattle.pt_net.specs.Stands.{is_single, is_many, needs_link, needs_link_inside, least_channels, channels_in}
+use Rattle.pt_net.specs.Standing.{Standing}
 
 -- each link names what is there
 abbrev pub AllNamed : Tables → Type 0

@@ -1,20 +1,20 @@
 ghost use Rattle.std.specs.Prelude.{◌≡◌, ◌≢◌, ℕ, ◌<◌, ◌≤◌, ◌++◌, [], ◌∷◌, length, Some, IsTrue, not, ◌↔◌, IfOk, IfErr, OnOk, slice_get};
 ghost use Rattle.std.specs.List.{Contains, AllZip};
-ghost use Rattle.pt_moml.specs.declared.code.Code.TheVariants as code;
-ghost use Rattle.pt_moml.specs.declared.refusal.DocFault.TheVariants.{Memory};
-ghost use Rattle.pt_graph.specs.Standing.{is_kept};
+ghost use Rattle.pt_document.specs.declared.code.Code.TheVariants as code;
+ghost use Rattle.pt_document.specs.declared.refusal.DocFault.TheVariants.{Memory};
+ghost use Rattle.pt_net.specs.Standing.{is_opaque, is_kept};
 ghost use Rattle.pt_graph.specs.Survey.{tables_view, port_at};
-ghost use Rattle.pt_graph.specs.Wires as wires;
-ghost use Rattle.pt_graph.specs.Net as net;
-ghost use Rattle.pt_graph.specs.Stands.{IsTold, IsLinkFault, most_channels};
+ghost use Rattle.pt_net.specs.Wires as wires;
+ghost use Rattle.pt_net.specs.Net as net;
+ghost use Rattle.pt_net.specs.Stands.{IsTold, IsLinkFault, most_channels};
 ghost use Rattle.pt_graph.specs.Origins.{AreTrue};
 ghost use Rattle.pt_graph.specs.ChannelTable.{IsGoodChannel, Adds, IsPlaceAt, AddsAt, places_on, side_among};
 
-use crate::net::{Channel, End};
 use crate::origins::Origins;
 use crate::refusal::refused_port;
 use crate::tables::PlacedPort;
-use pt_moml::DocFault;
+use pt_document::DocFault;
+use pt_net::{Channel, End};
 use std::alloc::Global;
 
 /// A number of the net. One that doesn't fit is told as want of memory: a document has fewer of each kind.
@@ -65,15 +65,15 @@ fn channel(from: &PlacedPort, to: &PlacedPort, index: usize) -> Result<Channel, 
     })
 }
 
-/// Whether an own input reaches an own output of the same composite.
+/// Whether an own input reaches an own output of the same opaque composite.
 fn is_passed_on(from: &PlacedPort, to: &PlacedPort) -> bool
-    ensures { IsTrue result ↔ (IsTrue (not (wires.is_input (port_at to.now))) × IsTrue (wires.is_input (port_at from.now)) × (from.now.entity ≡ to.now.entity)) }
+    ensures { IsTrue result ↔ (IsTrue (is_opaque (port_at to.now).standing) × IsTrue (not (wires.is_input (port_at to.now))) × IsTrue (wires.is_input (port_at from.now)) × (from.now.entity ≡ to.now.entity)) }
 {
-    !to.is_input() && from.is_input() && from.entity == to.entity
+    to.is_opaque() && !to.is_input() && from.is_input() && from.entity == to.entity
 }
 
 /// Adds the channel to a place: the link of this index at the port of this number. Refuses a place without a source, and
-/// an own output that an own input reaches.
+/// an own output of an opaque composite that an own input reaches.
 fn add_channel(
     alloc: Global,
     origins: &Origins,
@@ -161,8 +161,8 @@ fn add_side(
     Ok(())
 }
 
-/// The channels, in the order of their places. Refuses a place without a source, and an own output that an own input
-/// reaches.
+/// The channels, in the order of their places. Refuses a place without a source, and an own output of an opaque composite
+/// that an own input reaches.
 pub fn channels_of(alloc: Global, origins: &Origins) -> Result<Vec<Channel>, DocFault>
     requires { AreTrue origins.now }
     ensures ok { IfOk result (λ channels. AllZip (IsGoodChannel (tables_view origins.now.wiring.now.tables.now)) (net.all_places (tables_view origins.now.wiring.now.tables.now)) channels.items) }

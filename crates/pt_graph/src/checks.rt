@@ -1,10 +1,10 @@
 ghost use Rattle.std.specs.Prelude.{◌≡◌, ℕ, ◌<◌, length, Some, slice_get, IfOk, IfErr, OnOk};
-ghost use Rattle.pt_moml.specs.declared.code.Code.TheVariants as code;
-ghost use Rattle.pt_graph.specs.Table.{PortAt};
+ghost use Rattle.pt_document.specs.declared.code.Code.TheVariants as code;
+ghost use Rattle.pt_net.specs.Table.{PortAt};
 ghost use Rattle.pt_graph.specs.Survey.{tables_view, placed_view, port_at};
-ghost use Rattle.pt_graph.specs.Stands as stands;
-ghost use Rattle.pt_graph.specs.Stands.{IsTold, IsLinkFault};
-ghost use Rattle.pt_graph.specs.Net as net;
+ghost use Rattle.pt_net.specs.Stands as stands;
+ghost use Rattle.pt_net.specs.Stands.{IsTold, IsLinkFault};
+ghost use Rattle.pt_net.specs.Net as net;
 ghost use Rattle.pt_graph.specs.Wiring as spec;
 ghost use Rattle.pt_graph.specs.Wiring.{IsWiring, IsFine, AreFine, AreCounts, HaveChannels};
 
@@ -12,7 +12,7 @@ use crate::refusal::{refused_entity, refused_port};
 use crate::survey::Placed;
 use crate::tables::PlacedPort;
 use crate::wiring::Wiring;
-use pt_moml::{DocFault, Kind, kind_named};
+use pt_document::{DocFault, Kind, kind_named};
 use std::alloc::{AllocError, Global};
 
 /// Whether a port with so many links outside and inside lacks one.

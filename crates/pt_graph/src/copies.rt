@@ -1,8 +1,8 @@
 ghost use Rattle.std.specs.Prelude.{◌≡◌, ◌++◌, [], ◌∷◌, map, filter, IfOk, OnOk};
-ghost use Rattle.pt_moml.specs.View as view;
-ghost use Rattle.pt_graph.specs.Net as net;
+ghost use Rattle.pt_document.specs.View as view;
+ghost use Rattle.pt_net.specs.Net as net;
 
-use pt_moml::{
+use pt_document::{
     Event, Input, OutputAction, Port, Property, SetAction, State, Supply, Transition, is_layout,
 };
 use pt_value::Text;

@@ -1,20 +1,20 @@
 ghost use Rattle.std.specs.Prelude.{◌≡◌, ◌++◌, [], ◌∷◌, map, filter, not, option_map, unwrap_or, IfOk, IfErr, OnOk};
 ghost use Rattle.std.specs.List.{find};
-ghost use Rattle.pt_moml.specs.declared.refusal.DocFault.TheVariants.{Memory};
-ghost use Rattle.pt_moml.specs.Document.{parts};
-ghost use Rattle.pt_moml.specs.Classes.{port_of};
-ghost use Rattle.pt_moml.specs.View as view;
-ghost use Rattle.pt_graph.specs.Standing.{is_director, is_kept};
+ghost use Rattle.pt_document.specs.declared.refusal.DocFault.TheVariants.{Memory};
+ghost use Rattle.pt_document.specs.Document.{parts};
+ghost use Rattle.pt_document.specs.Classes.{port_of};
+ghost use Rattle.pt_document.specs.View as view;
+ghost use Rattle.pt_net.specs.Standing.{is_director, is_kept};
 ghost use Rattle.pt_graph.specs.Survey.{placed_view, table_view};
-ghost use Rattle.pt_graph.specs.Net as net;
+ghost use Rattle.pt_net.specs.Net as net;
 
 use crate::channels::number;
 use crate::copies::{optional_text, parameters, port, states, text, transitions, variables};
-use crate::net::{NetDirector, NetEntity, Transparent};
 use crate::survey::{Placed, is_director};
-use pt_moml::{
+use pt_document::{
     ClassPort, Direction, DocFault, Entity, Kind, Port, Property, State, Transition, kind_named,
 };
+use pt_net::{NetDirector, NetEntity, Transparent};
 use pt_value::Text;
 use std::alloc::{AllocError, Global};
 

@@ -1,5 +1,5 @@
 ghost use Rattle.std.specs.Prelude.{◌≡◌, ◌≢◌, ℕ, ◌<◌, length, slice_index, All, IfOk, OnOk};
-ghost use Rattle.pt_graph.specs.Joined.{IsGrouping};
+ghost use Rattle.pt_net.specs.Joined.{IsGrouping};
 ghost use Rattle.pt_graph.specs.Groups.{IsKept, Relabels, Moves, Merges};
 
 use std::alloc::{AllocError, Global};

@@ -1,20 +1,19 @@
 ghost use Rattle.std.specs.Prelude.{◌≡◌, length, IfOk, IfErr};
-ghost use Rattle.pt_moml.specs.declared.refusal.DocFault.TheVariants.{Memory};
-ghost use Rattle.pt_graph.specs.declared.net.Joint.TheVariants as joint;
-ghost use Rattle.pt_graph.specs.declared.net.JointPort.TheVariants as kinds;
+ghost use Rattle.pt_document.specs.declared.refusal.DocFault.TheVariants.{Memory};
+ghost use Rattle.pt_net.specs.declared.net.Joint.TheVariants as joint;
+ghost use Rattle.pt_net.specs.declared.net.JointPort.TheVariants as kinds;
 ghost use Rattle.pt_graph.specs.Survey.{tables_view, ports_view, port_at};
 ghost use Rattle.pt_graph.specs.Ties.{IsPortWithin};
-ghost use Rattle.pt_graph.specs.Joints as spec;
-ghost use Rattle.pt_graph.specs.Joints.{IsJointOf};
-ghost use Rattle.pt_graph.specs.Net.{AreJoints};
+ghost use Rattle.pt_net.specs.Joints as spec;
+ghost use Rattle.pt_net.specs.Joints.{IsJointOf};
+ghost use Rattle.pt_net.specs.Net.{AreJoints};
 ghost use Rattle.pt_graph.specs.Wiring.{IsWiring};
 
 use crate::channels::number;
-use crate::net::{Joint, JointPort};
 use crate::tables::PlacedPort;
-use crate::wire::Wire;
 use crate::wiring::Wiring;
-use pt_moml::DocFault;
+use pt_document::DocFault;
+use pt_net::{Joint, JointPort, Wire};
 use std::alloc::Global;
 
 fn entity_port(entity: usize, port: usize) -> Result<JointPort, DocFault>

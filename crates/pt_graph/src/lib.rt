@@ -9,7 +9,6 @@ mod flattening;
 mod groups;
 mod joints;
 mod names;
-mod net;
 mod origins;
 mod records;
 mod refusal;
@@ -18,9 +17,6 @@ mod sources;
 mod survey;
 mod tables;
 mod ties;
-mod wire;
 mod wiring;
 
 pub use flattening::flatten;
-pub use net::{Channel, End, Joint, JointPort, Net, NetDirector, NetEntity, NetPort, Transparent};
-pub use refusal::shown;

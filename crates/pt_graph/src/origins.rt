@@ -1,11 +1,11 @@
 ghost use Rattle.std.specs.Prelude.{◌≡◌, ℕ, ◌<◌, ◌++◌, length, true, Some, None, All, IfOk, OnOk, MatchOption, slice_get};
 ghost use Rattle.std.specs.List.{filter_map};
 ghost use Rattle.pt_graph.specs.Survey.{tables_view, port_at};
-ghost use Rattle.pt_graph.specs.Net as net;
+ghost use Rattle.pt_net.specs.Net as net;
 ghost use Rattle.pt_graph.specs.Sources as sources;
 ghost use Rattle.pt_graph.specs.Origins as spec;
 ghost use Rattle.pt_graph.specs.Origins.{IsSourceOf, HasNoSource, AreOrigins, AreTrue};
-ghost use Rattle.pt_graph.specs.Joined.{IsGrouping};
+ghost use Rattle.pt_net.specs.Joined.{IsGrouping};
 ghost use Rattle.pt_graph.specs.Wiring.{IsWiring, AreFine};
 
 use crate::groups::group;

@@ -2,22 +2,22 @@ ghost use Rattle.std.specs.Prelude.{◌≡◌, ◌≢◌, ℕ, ◌<◌, ◌≤�
 ghost use Rattle.std.specs.Borrow.{Bor};
 ghost use Rattle.std.specs.List.{AllZip};
 ghost use Rattle.indexmap.specs.IndexMap.{get};
-ghost use Rattle.pt_moml.specs.declared.code.Code.TheVariants as code;
-ghost use Rattle.pt_moml.specs.declared.refusal.DocFault.TheVariants.{Memory};
-ghost use Rattle.pt_moml.specs.Outcome.{IsRefusal};
-ghost use Rattle.pt_graph.specs.Table as table;
+ghost use Rattle.pt_document.specs.declared.code.Code.TheVariants as code;
+ghost use Rattle.pt_document.specs.declared.refusal.DocFault.TheVariants.{Memory};
+ghost use Rattle.pt_document.specs.Outcome.{IsRefusal};
+ghost use Rattle.pt_net.specs.Table as table;
 ghost use Rattle.pt_graph.specs.Survey.{tables_view, ports_view, port_at};
-ghost use Rattle.pt_graph.specs.Net as net;
-ghost use Rattle.pt_graph.specs.Stands.{IsTold, IsRecordFault};
+ghost use Rattle.pt_net.specs.Net as net;
+ghost use Rattle.pt_net.specs.Stands.{IsTold, IsRecordFault};
 ghost use Rattle.pt_graph.specs.Recorded.{outputs_of, AreOutputs, name_eq, AreDistinct, IsRecorder, IsRecorded};
 
 use crate::channels::number;
 use crate::names::{Places, first_places};
-use crate::net::NetPort;
-use crate::refusal::{refused_at, shown};
+use crate::refusal::refused_at;
 use crate::survey::path_below;
 use crate::tables::{PlacedPort, Tables};
-use pt_moml::{Code, DocFault};
+use pt_document::{Code, DocFault};
+use pt_net::{NetPort, shown};
 use pt_value::Text;
 use std::alloc::{AllocError, Global};
 
@@ -51,7 +51,7 @@ impl Outputs {
         ensures ports { OnOk result (self.new.ports.items ≡ self.old.ports.items ++ map (λ o. o.port) (outputs_of (port_at port.now ∷ []))) }
         ensures err { IfErr result (λ e. e ≡ Memory) }
     {
-        if port.is_kept() && !port.is_input() {
+        if port.is_opaque() && !port.is_input() {
             let path = path_below(alloc, port.placed.path.as_str(), port.port.name)?;
             self.paths.push(path)?;
             self.ports.push(net_port(port)?)?;
@@ -204,7 +204,8 @@ fn recorded_among(
     ports
 }
 
-/// The port that each text names. Refuses a text that names no output port of the net, or that stands there before.
+/// The port that each text names. Refuses a text that names no output port of a library actor or an opaque composite, or
+/// that stands there before.
 pub fn recorded(alloc: Global, tables: &Tables, records: &[Text]) -> Result<Vec<NetPort>, DocFault>
     ensures ok { IfOk result (λ ports. AllZip (net.Records (tables_view tables.now)) records.now ports.items) }
     ensures distinct { OnOk result (AreDistinct records.now) }

@@ -1,29 +1,15 @@
-ghost use Rattle.std.specs.Prelude.{◌≡◌};
-ghost use Rattle.pt_moml.specs.Names.{below};
-ghost use Rattle.pt_moml.specs.Outcome.{IsRefusal};
-ghost use Rattle.pt_moml.specs.declared.code.Code.TheVariants as code;
-ghost use Rattle.pt_graph.specs.Table as table;
+ghost use Rattle.pt_document.specs.Names.{below};
+ghost use Rattle.pt_document.specs.Outcome.{IsRefusal};
+ghost use Rattle.pt_document.specs.declared.code.Code.TheVariants as code;
+ghost use Rattle.pt_net.specs.Table as table;
 ghost use Rattle.pt_graph.specs.Survey.{port_at, relation_at, link_at, placed_view};
 
 use crate::survey::{Placed, path_below};
 use crate::tables::{PlacedLink, PlacedPort, PlacedRelation};
-use pt_moml::{Code, DocFault, Link, Refusal, is_name};
+use pt_document::{Code, DocFault, Link, Refusal};
+use pt_net::shown;
 use pt_value::Text;
 use std::alloc::Global;
-
-/// Whether a text is names joined by dots.
-fn is_dotted(text: &str) -> bool
-    ensures { result ≡ table.is_dotted text.now }
-{
-    text.split('.').all(|name| is_name(name))
-}
-
-/// How a text of the document is printed in a path.
-pub fn shown(text: &str) -> &str
-    ensures { result.now ≡ table.shown text.now }
-{
-    if is_dotted(text) { text } else { "?" }
-}
 
 /// A refusal for this cause at this path.
 pub fn refused_at(alloc: Global, code: Code, path: &str) -> DocFault

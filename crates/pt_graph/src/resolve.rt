@@ -1,17 +1,17 @@
 ghost use Rattle.std.specs.Prelude.{◌≡◌, ℕ, List, map, Some, position, IfOk, IfErr, option_map};
 ghost use Rattle.std.specs.Borrow.{Bor};
 ghost use Rattle.indexmap.specs.IndexMap.{get};
-ghost use Rattle.pt_moml.specs.declared.code.Code.TheVariants as code;
+ghost use Rattle.pt_document.specs.declared.code.Code.TheVariants as code;
 ghost use Rattle.pt_graph.specs.Resolve.{pair_eq, child_eq, outside_text, IsNames};
 ghost use Rattle.pt_graph.specs.Survey.{ports_view, relations_view, tables_view, link_at};
-ghost use Rattle.pt_graph.specs.Wires as wires;
-ghost use Rattle.pt_graph.specs.Stands.{IsTold, IsLinkFault};
+ghost use Rattle.pt_net.specs.Wires as wires;
+ghost use Rattle.pt_net.specs.Stands.{IsTold, IsLinkFault};
 
 use crate::names::{Places, first_places};
 use crate::refusal::refused_link;
 use crate::tables::{PlacedLink, PlacedPort, PlacedRelation, Tables};
-use crate::wire::Wire;
-use pt_moml::{DocFault, Link};
+use pt_document::{DocFault, Link};
+use pt_net::Wire;
 use pt_value::Text;
 use std::alloc::{AllocError, Global};
 

@@ -1,12 +1,12 @@
 ghost use Rattle.std.specs.Prelude.{◌≡◌, ◌≤◌, [], ◌∷◌, ◌++◌, length, map, IfOk, OnOk};
 ghost use Rattle.std.specs.List.{list_any};
-ghost use Rattle.pt_moml.specs.View.{property_view, entity_view, job_view};
-ghost use Rattle.pt_moml.specs.Document.{parts};
-ghost use Rattle.pt_moml.specs.Names as names;
-ghost use Rattle.pt_graph.specs.Standing as standing;
+ghost use Rattle.pt_document.specs.View.{property_view, entity_view, job_view};
+ghost use Rattle.pt_document.specs.Document.{parts};
+ghost use Rattle.pt_document.specs.Names as names;
+ghost use Rattle.pt_net.specs.Standing as standing;
 ghost use Rattle.pt_graph.specs.Survey.{placed_view, table_view, round_view};
 
-use pt_moml::{Entity, Job, Property, director_named, is_layout};
+use pt_document::{Entity, Job, Property, director_named, is_layout};
 use pt_value::Text;
 use std::alloc::{AllocError, Global};
 
@@ -38,7 +38,7 @@ struct Entities<'a> {
 }
 
 /// The path of what has this name in the entity of that path.
-#[tactic(auto, unfolding(pt_moml::specs::Names::below))]
+#[tactic(auto, unfolding(pt_document::specs::Names::below))]
 pub fn path_below(alloc: Global, path: &str, name: &str) -> Result<Text, AllocError>
     ensures { IfOk result (λ text. text ≡ names.below path.now name.now) }
 {
@@ -71,6 +71,13 @@ fn has_director(properties: &[Property]) -> bool
 }
 
 impl<'a> Placed<'a> {
+    /// Whether the entity is opaque: any but a Composite without a director.
+    pub fn is_opaque(&self) -> bool
+        ensures { result ≡ standing.is_opaque (placed_view self.now) }
+    {
+        self.entity.class.as_str() != "Composite" || self.is_directed
+    }
+
     /// Whether the entity stays in the net.
     pub fn is_kept(&self) -> bool
         ensures { result ≡ standing.is_kept (placed_view self.now) }
@@ -165,7 +172,7 @@ impl<'a> Entities<'a> {
 }
 
 /// The entities of a job in the order of the document, the top first.
-#[tactic(auto, unfolding(crate::specs::Standing::entities))]
+#[tactic(auto, unfolding(pt_net::specs::Standing::entities))]
 pub fn survey<'a>(alloc: Global, job: &'a Job) -> Result<Vec<Placed<'a>>, AllocError>
     ensures { IfOk result (λ table. table_view table.items ≡ standing.entities (job_view job.now)) }
 {

@@ -1,15 +1,15 @@
 ghost use Rattle.std.specs.Prelude.{◌≡◌, ◌++◌, [], ◌∷◌, map, IfOk, OnOk};
-ghost use Rattle.pt_moml.specs.Document.{parts};
-ghost use Rattle.pt_moml.specs.Classes.{port_of};
-ghost use Rattle.pt_moml.specs.View.{entity_view, port_view};
+ghost use Rattle.pt_document.specs.Document.{parts};
+ghost use Rattle.pt_document.specs.Classes.{port_of};
+ghost use Rattle.pt_document.specs.View.{entity_view, port_view};
 ghost use Rattle.pt_graph.specs.Survey.{placed_view, table_view, port_at, ports_view, relations_view, links_view, tables_view};
-ghost use Rattle.pt_graph.specs.Standing.{is_kept};
-ghost use Rattle.pt_graph.specs.Table as spec;
-ghost use Rattle.pt_graph.specs.Wires as wires;
-ghost use Rattle.pt_graph.specs.Stands as stands;
+ghost use Rattle.pt_net.specs.Standing.{is_opaque, is_kept};
+ghost use Rattle.pt_net.specs.Table as spec;
+ghost use Rattle.pt_net.specs.Wires as wires;
+ghost use Rattle.pt_net.specs.Stands as stands;
 
 use crate::survey::Placed;
-use pt_moml::{Arity, ClassPort, Direction, Entity, Kind, Link, Port, PortRow, kind_named};
+use pt_document::{Arity, ClassPort, Direction, Entity, Kind, Link, Port, PortRow, kind_named};
 use std::alloc::{AllocError, Global};
 
 /// A port, with its entity and its number there.
@@ -96,6 +96,13 @@ impl PlacedPort<'_, '_> {
         self.placed.is_kept()
     }
 
+    /// Whether the entity of the port is opaque.
+    pub fn is_opaque(&self) -> bool
+        ensures { result ≡ is_opaque (port_at self.now).standing }
+    {
+        self.placed.is_opaque()
+    }
+
     /// Whether the port has one channel at most.
     pub fn is_single(&self) -> bool
         ensures { result ≡ stands.is_single (port_at self.now) }
@@ -152,7 +159,7 @@ fn add_rows<'a>(ports: &mut Vec<PortRow<&'a str>>, rows: &[ClassPort]) -> Result
 }
 
 /// The ports of an entity: those of its class and those that it declares.
-#[tactic(auto, unfolding(crate::specs::Table::ports_of))]
+#[tactic(auto, unfolding(pt_net::specs::Table::ports_of))]
 fn ports_of<'a>(alloc: Global, entity: &'a Entity) -> Result<Vec<PortRow<&'a str>>, AllocError>
     ensures { IfOk result (λ ports. map port_of ports.items ≡ spec.ports_of (parts (entity_view entity.now))) }
 {

@@ -1,7 +1,7 @@
 ghost use Rattle.std.specs.Prelude.{◌≡◌, ◌<◌, ◌++◌, [], ◌∷◌, length, map, slice_index_or, slice_set, replicate, All, IfOk, OnOk};
 ghost use Rattle.pt_graph.specs.Ties.{IsPortWithin, AreTied, rows, outside_with, inside_with};
 
-use crate::wire::Wire;
+use pt_net::Wire;
 use std::alloc::{AllocError, Global};
 
 /// The relations to which each port is linked from outside and from inside, in the order of the links.

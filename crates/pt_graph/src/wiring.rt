@@ -1,18 +1,18 @@
 ghost use Rattle.std.specs.Prelude.{◌≡◌, ℕ, ◌<◌, length, Some, slice_get, IfOk, IfErr, OnOk};
-ghost use Rattle.pt_moml.specs.declared.code.Code.TheVariants as code;
-ghost use Rattle.pt_graph.specs.Table.{PortAt};
+ghost use Rattle.pt_document.specs.declared.code.Code.TheVariants as code;
+ghost use Rattle.pt_net.specs.Table.{PortAt};
 ghost use Rattle.pt_graph.specs.Survey.{tables_view, port_at};
-ghost use Rattle.pt_graph.specs.Wires as spec;
-ghost use Rattle.pt_graph.specs.Net as net;
-ghost use Rattle.pt_graph.specs.Stands.{IsTold, IsLinkFault};
+ghost use Rattle.pt_net.specs.Wires as spec;
+ghost use Rattle.pt_net.specs.Net as net;
+ghost use Rattle.pt_net.specs.Stands.{IsTold, IsLinkFault};
 ghost use Rattle.pt_graph.specs.Wiring.{IsWiring, AllNamed, AreOwned};
 
 use crate::refusal::{refused_entity, refused_port};
 use crate::resolve::wires_of;
 use crate::tables::{PlacedPort, Tables};
 use crate::ties::Ties;
-use crate::wire::Wire;
-use pt_moml::DocFault;
+use pt_document::DocFault;
+use pt_net::Wire;
 use std::alloc::Global;
 
 /// The wires of a job, with the relations at each of its ports.

@@ -7,17 +7,17 @@ use Rattle.std.proofs.lemmas.List.Quantifiers.{position-Some}
 use Rattle.std.proofs.lemmas.Option.{slice_get-get_or, slice_get_within, get_or_from_slice_get, slice_get-map}
 use Rattle.std.specs.List.{Contains, list_all, slice_get}
 use Rattle.std.specs.Option.{is_some, option_eq, option_map}
-use Rattle.pt_moml.specs.declared.code.Code.TheVariants as code
-use Rattle.pt_moml.specs.declared.refusal.Refusal.{Refusal}
-use Rattle.pt_moml.specs.declared.refusal.DocFault.{DocFault}
-use Rattle.pt_moml.specs.declared.refusal.DocFault.TheVariants as faults
-use Rattle.pt_moml.specs.declared.job.Input.{Input}
-use Rattle.pt_moml.specs.Document.{InputTree, SupplyTree, tokens, events}
-use Rattle.pt_moml.specs.Outcome.{IsRefusal}
-use Rattle.pt_moml.specs.View.{input_view}
-use Rattle.pt_graph.specs.Table.{shown}
-use Rattle.pt_values.specs.Scopes.{NetTree}
-use Rattle.pt_job.specs.Inputs.{own_inputs, named_ports, input_to, is_full, is_port, is_first, fits, IsInputFault, names_no_port, repeated, has_events, has_absent, IsFaultOf}
+use Rattle.pt_document.specs.declared.code.Code.TheVariants as code
+use Rattle.pt_document.specs.declared.refusal.Refusal.{Refusal}
+use Rattle.pt_document.specs.declared.refusal.DocFault.{DocFault}
+use Rattle.pt_document.specs.declared.refusal.DocFault.TheVariants as faults
+use Rattle.pt_document.specs.declared.job.Input.{Input}
+use Rattle.pt_document.specs.Document.{InputTree, SupplyTree, tokens, events}
+use Rattle.pt_document.specs.Outcome.{IsRefusal}
+use Rattle.pt_document.specs.View.{input_view}
+use Rattle.pt_net.specs.Table.{shown}
+use Rattle.pt_scopes.specs.Scopes.{NetTree}
+use Rattle.pt_scopes.specs.Inputs.{own_inputs, named_ports, input_to, is_full, is_port, is_first, fits, IsInputFault, names_no_port, repeated, has_events, has_absent, IsFaultOf}
 use Rattle.pt_job.proofs.Members.{contains_here, contains_later, contains_cases, none_in_nil, contains_slice, slice_contains, unmapped, text_same, no_position, position_text, contains_position, position_contains}
 
 pub told : (net : NetTree) (fault : DocFault) (path : List ℕ) → IsRefusal fault code.Inputs path → IsInputFault net path → IsFaultOf net fault

@@ -7,12 +7,12 @@ use Rattle.std.specs.List.{AllZip, Contains, slice_get}
 use Rattle.std.specs.Option.{option_map}
 use Rattle.pt_value.specs.declared.token.Token.{Token}
 use Rattle.pt_value.specs.Token.{value_of}
-use Rattle.pt_moml.specs.Document.{InputTree, SupplyTree, tokens, events}
-use Rattle.pt_values.specs.declared.values.Values.{Values}
-use Rattle.pt_values.specs.Scopes.{NetTree}
-use Rattle.pt_values.specs.Sites.{texts_of_supply}
-use Rattle.pt_values.specs.Valued.{IsSupplied, IsInputValued, IsValued}
-use Rattle.pt_job.specs.Inputs.{named_ports, input_to, token_lists, IsInputFault, has_events, has_absent}
+use Rattle.pt_document.specs.Document.{InputTree, SupplyTree, tokens, events}
+use Rattle.pt_scopes.specs.declared.values.Values.{Values}
+use Rattle.pt_scopes.specs.Scopes.{NetTree}
+use Rattle.pt_scopes.specs.Sites.{texts_of_supply}
+use Rattle.pt_scopes.specs.Valued.{IsSupplied, IsInputValued, IsValued}
+use Rattle.pt_scopes.specs.Inputs.{named_ports, input_to, token_lists, IsInputFault, has_events, has_absent}
 use Rattle.pt_job.proofs.Members.{contains_here, contains_later, contains_cases, none_in_nil, contains_slice, unmapped, zip_at, position_text}
 
 absent_text : (texts : List (Option (List ℕ))) (ts : List (Option Token)) → AllZip IsSupplied texts (map (option_map value_of) ts) → Contains ts None → Contains texts None

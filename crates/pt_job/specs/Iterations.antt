@@ -2,13 +2,13 @@
 use Rattle.std.specs.Prelude.{ℕ, ℤ, pos, int_lt, nat_abs, List, Bool, Option, Some, None, slice_get, position, bytes_eq, codes, if◌then◌else◌}
 use Rattle.pt_value.specs.declared.token.Token.{Token}
 use Rattle.pt_value.specs.declared.token.Token.TheVariants as token
-use Rattle.pt_moml.specs.Document.{PropertyTree, property_name}
-use Rattle.pt_graph.specs.Net.{NetEntityTree, DirectorTree}
-use Rattle.pt_parameter.specs.declared.parameter_value.ParameterValue.{ParameterValue}
-use Rattle.pt_parameter.specs.declared.parameter_value.ParameterValue.TheVariants as parameter
-use Rattle.pt_values.specs.declared.values.EntityValues.{EntityValues}
-use Rattle.pt_values.specs.declared.values.Values.{Values}
-use Rattle.pt_values.specs.Scopes.{NetTree}
+use Rattle.pt_document.specs.Document.{PropertyTree, property_name}
+use Rattle.pt_net.specs.Net.{NetEntityTree, DirectorTree}
+use Rattle.pt_scopes.specs.declared.parameter_value.ParameterValue.{ParameterValue}
+use Rattle.pt_scopes.specs.declared.parameter_value.ParameterValue.TheVariants as parameter
+use Rattle.pt_scopes.specs.declared.values.EntityValues.{EntityValues}
+use Rattle.pt_scopes.specs.declared.values.Values.{Values}
+use Rattle.pt_scopes.specs.Scopes.{NetTree}
 
 -- an integer from nought on, as a number
 abbrev pub count : ℤ → Option ℕ

@@ -1,4 +1,3 @@
-pub mod Inputs
 pub mod Iterations
 pub mod Lookup
 pub mod Names

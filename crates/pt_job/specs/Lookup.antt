@@ -1,10 +1,10 @@
 -- What the program looks inputs up in.
 use Rattle.std.specs.Prelude.{◌≡◌, position, bytes_eq}
 use Rattle.indexmap.specs.IndexMap.{get}
-use Rattle.pt_values.specs.Scopes.{NetTree, net_view}
+use Rattle.pt_scopes.specs.Scopes.{NetTree, net_view}
 use Rattle.pt_job.specs.declared.lookup.Lookup.{Lookup}
 use Rattle.pt_job.specs.Names.{Name, name_eq}
-use Rattle.pt_job.specs.Inputs.{own_inputs, input_to}
+use Rattle.pt_scopes.specs.Inputs.{own_inputs, input_to}
 
 -- the maps have the input ports of the top, and the first input that names each port
 pub record Looks (net : NetTree) (l : Lookup) : Type 0 where

@@ -1,17 +1,17 @@
 ghost use Rattle.std.specs.Prelude.{◌≡◌, ℕ, List, map, Some, None, IsOk, IfOk, IfErr};
 ghost use Rattle.std.specs.List.{Contains};
-ghost use Rattle.pt_values.specs.Scopes.{net_view};
-ghost use Rattle.pt_values.specs.Valued.{IsValued};
-ghost use Rattle.pt_job.specs.Inputs.{ComeTo, AreSupplied, IsInputFault, IsFaultOf};
+ghost use Rattle.pt_scopes.specs.Scopes.{net_view};
+ghost use Rattle.pt_scopes.specs.Valued.{IsValued};
+ghost use Rattle.pt_scopes.specs.Inputs.{ComeTo, AreSupplied, IsInputFault, IsFaultOf};
 ghost use Rattle.pt_job.specs.Lookup.{IsLookup};
 
 use crate::lookup::Lookup;
 use crate::ports::own_inputs;
+use pt_document::DocFault;
 use pt_firing::Tokens;
-use pt_graph::Net;
-use pt_moml::DocFault;
+use pt_net::Net;
+use pt_scopes::Values;
 use pt_value::Token;
-use pt_values::Values;
 use std::alloc::{AllocError, Global};
 
 /// Tokens, none of which is absent.

@@ -1,14 +1,13 @@
 ghost use Rattle.std.specs.Prelude.{◌≡◌, option_map, position, slice_get};
-ghost use Rattle.pt_moml.specs.View.{property_view, properties_view};
-ghost use Rattle.pt_graph.specs.Net.{director_view};
-ghost use Rattle.pt_values.specs.Scopes.{net_view};
+ghost use Rattle.pt_document.specs.View.{property_view, properties_view};
+ghost use Rattle.pt_net.specs.Net.{director_view};
+ghost use Rattle.pt_scopes.specs.Scopes.{net_view};
 ghost use Rattle.pt_job.specs.Iterations as spec;
 
-use pt_graph::{Net, NetDirector};
-use pt_moml::Property;
-use pt_parameter::ParameterValue;
+use pt_document::Property;
+use pt_net::{Net, NetDirector};
+use pt_scopes::{ParameterValue, Values};
 use pt_value::Token;
-use pt_values::Values;
 
 /// An integer from nought on, as a number.
 fn count(number: i64) -> Option<u64>

@@ -1,14 +1,14 @@
 ghost use Rattle.std.specs.Prelude.{◌≡◌, ℕ, List, IsOk, IfOk, IfErr, slice_get, Some};
-ghost use Rattle.pt_moml.specs.View.{input_view};
-ghost use Rattle.pt_values.specs.Scopes.{net_view};
-ghost use Rattle.pt_job.specs.Inputs as inputs;
-ghost use Rattle.pt_job.specs.Inputs.{IsInputFault, IsFaultOf};
+ghost use Rattle.pt_document.specs.View.{input_view};
+ghost use Rattle.pt_scopes.specs.Scopes.{net_view};
+ghost use Rattle.pt_scopes.specs.Inputs as inputs;
+ghost use Rattle.pt_scopes.specs.Inputs.{IsInputFault, IsFaultOf};
 ghost use Rattle.pt_job.specs.Lookup.{IsLookup};
 
 use crate::names::{Places, name_places};
 use crate::ports::{is_full, named_ports, own_inputs};
-use pt_graph::{Net, shown};
-use pt_moml::{Code, DocFault, Input, refused};
+use pt_document::{Code, DocFault, Input, refused};
+use pt_net::{Net, shown};
 use std::alloc::{AllocError, Global};
 
 /// The input ports of the top, and the inputs of a net by the ports that they name.

@@ -1,15 +1,15 @@
 ghost use Rattle.std.specs.Prelude.{◌≡◌, map, filter, IfOk};
 ghost use Rattle.std.specs.List.{list_all};
 ghost use Rattle.std.specs.Option.{is_some};
-ghost use Rattle.pt_moml.specs.View.{port_view, input_view, supply_view};
-ghost use Rattle.pt_values.specs.Scopes.{net_view};
-ghost use Rattle.pt_values.specs.Sites.{port_name, is_input_port};
+ghost use Rattle.pt_document.specs.View.{port_view, input_view, supply_view};
+ghost use Rattle.pt_scopes.specs.Scopes.{net_view};
+ghost use Rattle.pt_scopes.specs.Sites.{port_name, is_input_port};
 ghost use Rattle.pt_job.specs.Names.{texts};
-ghost use Rattle.pt_job.specs.Inputs as inputs;
-ghost use Rattle.pt_job.specs.Inputs.{own_inputs};
+ghost use Rattle.pt_scopes.specs.Inputs as inputs;
+ghost use Rattle.pt_scopes.specs.Inputs.{own_inputs};
 
-use pt_graph::Net;
-use pt_moml::{Direction, Input, Port, Supply};
+use pt_document::{Direction, Input, Port, Supply};
+use pt_net::Net;
 use pt_value::Text;
 use std::alloc::{AllocError, Global};
 

@@ -150,13 +150,24 @@ module _ {T A : Type 0} (rows : Rows T A) (steps : ℕ → Stepping T (Node T A)
             ap₂ (λ v w. v ++ w) (all-append pick (t.inside []) (own t.record_of []) ∙ ap (λ v. v ++ (pick t.record_of ++ [])) (all-quiet pick (t.inside []) quiet) ∙ append-nil (pick t.record_of)) (next.told pick);
       }
 
-  -- and what it doesn't finish
+  -- and what it doesn't finish: what is under way in the child is what its step says
+  pub record OfStep (l part_log : Log T) (way : UnderWay T) (z : Child (Node T A)) (b : Begun T) : Type 0 where
+    pub before : Log T
+    pub fits : IsFitting z.node
+    pub closed : ClosedIn rows u n₀ before idle
+    pub kept : KeptIn rows u n₀ z.node before
+    pub is_way : way ≡ ((sound z.number).under_way u n₀ z.node before fits closed kept b.tag b.inputs).0
+    pub logged : log_then before (log_in (steps z.number b.tag z.node b.inputs)) ≡ log_then l part_log
+    pub number : z.number ≡ i
+
   pub record ChildAfter (l part_log : Log T) (ts : List (Turned T)) (b : Option (Begun T)) (z : Child (Node T A)) : Type 0 where
     pub way : UnderWay T
     pub under : way [] ≡ b
     pub closed : ClosedIn rows u n₀ (log_then l part_log) way
     pub finished : b ≡ None → ClosedIn rows u n₀ (log_then l part_log) idle × KeptIn rows u n₀ z.node (log_then l part_log)
     pub told : (pick : Firing T → List T) → all_of pick (part_log []) ≡ of_turns pick ts
+    pub idle_if : b ≡ None → way ≡ idle
+    pub of_step : (begun : Begun T) → b ≡ Some begun → OfStep l part_log way z begun
 
   pub part-sound : (s z : Child (Node T A)) (l part_log : Log T) (ts : List (Turned T)) (b : Option (Begun T)) → s.number ≡ i → IsFitting s.node → ClosedIn rows u n₀ l idle → KeptIn rows u n₀ s.node l → PartOf (child_facts (facts_of rows)) (child_step steps) s part_log ts b z → ChildAfter l part_log ts b z
   part-sound s z l part_log ts b e f c k p = go b p.first (chain-sound ts s z l p.first e f c k p.chain) p.rest p.ends p.whole
@@ -171,7 +182,12 @@ module _ {T A : Type 0} (rows : Rows T A) (steps : ℕ → Stepping T (Node T A)
             closed = closed;
             finished = λ q. (closed, subst (λ v. KeptIn rows u n₀ z.node (log_then l v)) same ch.kept);
             told = λ pick. ap (λ (v : Log T). all_of pick (v [])) (sym same) ∙ ch.told pick;
+            idle_if = λ q. refl;
+            of_step = λ x q. absurd (none-some x q);
           }
+        where
+          none-some : (x : Begun T) → None ≡ Some x → ⊥
+          none-some x e = cc
       go (Some b) first ch rest ends whole =
           let inner = ends ∙ log-with_number z.number (steps z.number b.tag z.node b.inputs) in
           let under = (sound z.number).under_way u n₀ z.node (log_then l first) ch.fits ch.closed ch.kept b.tag b.inputs in
@@ -183,7 +199,12 @@ module _ {T A : Type 0} (rows : Rows T A) (steps : ℕ → Stepping T (Node T A)
             closed = subst (λ v. ClosedIn rows u n₀ v under.0) all under.2;
             finished = λ q. absurd (some-none b q);
             told = λ pick. ap (λ (v : Log T). all_of pick (v [])) whole ∙ all-append pick (first []) (rest []) ∙ ap₂ (λ v w. v ++ w) (ch.told pick) (all-quiet pick (rest []) quiet) ∙ append-nil (of_turns pick ts);
+            idle_if = λ q. absurd (some-none b q);
+            of_step = λ x q. subst (λ (y : Begun T). OfStep l part_log under.0 z y) (same-begun x q) (record { before = log_then l first; fits = ch.fits; closed = ch.closed; kept = ch.kept; is_way = refl; logged = all; number = ch.number });
           }
         where
           some-none : (x : Begun T) → Some x ≡ None → ⊥
           some-none x e = cc
+
+          same-begun : (x : Begun T) → Some b ≡ Some x → b ≡ x
+          same-begun x e = cc

@@ -12,14 +12,14 @@ use Rattle.pt_laws.specs.Heights.{IsFitting}
 use Rattle.pt_meaning.specs.Streams.{IsPrefix}
 use Rattle.pt_meaning.specs.Machine.{Known}
 use Rattle.pt_meaning.specs.Rounds.{Source, Own, Output}
-use Rattle.pt_meaning.specs.Closed.{Begun, UnderWay, is_modal, keeps_tokens, HasBegun, MayKnow, IsNext}
+use Rattle.pt_meaning.specs.Closed.{Begun, UnderWay, is_modal, keeps_tokens, HasBegun, MayKnow, ComesTo, IsNext}
 use Rattle.pt_laws.specs.Channels.{held_at, source_of}
 use Rattle.pt_laws.specs.LogsOfRuns.{log_in}
 use Rattle.pt_laws.specs.SoundRuns.{idle, ClosedIn, AllClosedIn, on_place, IsWired, IsSamePlan, given_by, KeptIn, AllKeptIn, takes_now, gives_now}
 use Rattle.pt_laws.specs.ClosedRuns.{IsAtStart, AllAtStart, FiringsKeepClosed, MeaningIsClosed, ClosedAtPaths, own_event, LevelsGoOn}
 use Rattle.pt_laws.proofs.ClosedLaws.{closed-caused, closed-enclosed, closed-within}
 use Rattle.pt_laws.proofs.LevelLaws.{count-append, added, level-under-way, level-done, node-kept}
-use Rattle.pt_laws.proofs.ClosedSteps.{sound-at}
+use Rattle.pt_laws.proofs.ClosedSteps.{sound-at, comes-at}
 
 pub firings-keep-closed : {T A : Type 0} → FiringsKeepClosed T A
 firings-keep-closed rows law k d m = sound-at rows law k d m
@@ -84,9 +84,9 @@ module _ {T A : Type 0} (rows : Rows T A) (law : LawfulRows rows) (k : ℕ) (m :
   abbrev pub Course₀ : Course T A → Type 0
   Course₀ c = IsFitting c.top × ClosedIn rows false top c.log idle × KeptIn rows false top c.top c.log × (firings_in (c.log []) ≡ c.fired) × (after k rows m plan c.fired (begin top) ≡ Goes c)
 
-  -- a firing under way is the job's next
+  -- each firing under way is the next of its path
   abbrev pub Nexts : Log T → UnderWay T → Type 0
-  Nexts l way = (b : Begun T) → way [] ≡ Some b → IsNext rows m plan top (firings_in (l [])) b
+  Nexts l way = (p : Path) (b : Begun T) → way p ≡ Some b → IsNext rows m plan top l p b
 
   abbrev pub ClosedStanding : Standing T A → Type 0
   ClosedStanding (Goes c) = Course₀ c
@@ -116,12 +116,6 @@ module _ {T A : Type 0} (rows : Rows T A) (law : LawfulRows rows) (k : ℕ) (m :
   stepped : (c : Course T A) → Course₀ c → (tag : Tag) (X : Streams T) → plan c.fired c.last c.top ≡ Fire tag X → ClosedStanding (on_step c tag (Step k rows m c.top tag X))
   stepped c h tag X turn = go (step_at rows k (height c.top) m tag c.top X) refl
     where
-      same : (b : Begun T) (o : Option (Begun T)) → o ≡ Some (record { tag = tag; inputs = X }) → o ≡ Some b → record { tag = tag; inputs = X } ≡ b
-      same b o e g = some-begun (record { tag = tag; inputs = X }) b (sym e ∙ g)
-        where
-          some-begun : (a b : Begun T) → Some a ≡ Some b → a ≡ b
-          some-begun a b e = cc
-
       go : (r : Outcome T (Node T A)) → step_at rows k (height c.top) m tag c.top X ≡ r → ClosedStanding (on_step c tag (recorded (made_of c.top) tag X r))
       go (Done z out l) e =
           let s = sound-at rows law k (height c.top) m in
@@ -138,13 +132,21 @@ module _ {T A : Type 0} (rows : Rows T A) (law : LawfulRows rows) (k : ℕ) (m :
           let counts : c.fired ≡ firings_in (c.log [] ++ l []) = let a = count-append (c.log []) (l []) in omega (arith, a, quiet, h.3) in (
             w.0,
             subst (λ r. ClosedIn rows false top (log_then c.log (log_in r)) w.0) e w.2,
-            λ b g. let x = same b (w.0 []) w.1 g in (k, c, ap (λ v. after k rows m plan v (begin top)) (sym counts) ∙ h.4, turn ∙ ap (λ (v : Begun T). Turn.Fire v.tag v.inputs) x),
+            λ p b g. record {
+              fuel = k;
+              course = c;
+              tag = tag;
+              inputs = X;
+              before = ap (λ v. after k rows m plan v (begin top)) (sym counts) ∙ h.4;
+              next = turn;
+              comes = subst (λ r. ComesTo rows p m (λ q. firings_in (log_then c.log (log_in r) q)) c.top tag X b) e (comes-at rows law k (height c.top) m false top c.top c.log h.0 h.1 h.2 tag X p b g);
+            },
           )
 
   turned : (c : Course T A) → Course₀ c → (t : Turn T) → plan c.fired c.last c.top ≡ t → ClosedStanding (on_turn k rows m c t)
   turned c h (Fire tag X) e = stepped c h tag X e
   turned c h (Ends e) t = h
-  turned c h Limit t = (idle, h.1, λ b g. absurd (no-begun b g))
+  turned c h Limit t = (idle, h.1, λ p b g. absurd (no-begun b g))
 
   pub run-closed : (n : ℕ) (c : Course T A) → Course₀ c → ClosedStanding (after k rows m plan n c)
   unfolding after
@@ -157,8 +159,8 @@ module _ {T A : Type 0} (rows : Rows T A) (law : LawfulRows rows) (k : ℕ) (m :
       go (Halted fs l) g ih = g
 
   log-closed : (s : Standing T A) → ClosedStanding s → (way : UnderWay T) × ClosedIn rows false top (log_of s) way × Nexts (log_of s) way
-  log-closed (Goes c) h = (idle, h.1, λ b g. absurd (no-begun b g))
-  log-closed (Ended e c) h = (idle, h.1, λ b g. absurd (no-begun b g))
+  log-closed (Goes c) h = (idle, h.1, λ p b g. absurd (no-begun b g))
+  log-closed (Ended e c) h = (idle, h.1, λ p b g. absurd (no-begun b g))
   log-closed (Halted fs l) h = h
 
   pub meaning-closed : IsFitting top → IsAtStart top → (way : UnderWay T) × ClosedIn rows false top (meaning k rows m plan top) way × Nexts (meaning k rows m plan top) way

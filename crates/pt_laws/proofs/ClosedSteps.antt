@@ -1,18 +1,19 @@
 -- A step at any fuel and below any number of levels keeps logs closed.
-use Rattle.std.proofs.Common.{◌≡◌, ◌⊎◌, ℕ, zero, suc, ◌+◌, List, [], ◌∷◌, ◌++◌, Bool, true, false, ◌||◌, length, Some, None, inl, inr, refl, sym, ap, subst, arith, ◌∙◌, append-nil, append_assoc}
+use Rattle.std.proofs.Common.{◌≡◌, ◌⊎◌, ℕ, zero, suc, ◌+◌, List, [], ◌∷◌, ◌++◌, Bool, true, false, ◌||◌, length, Option, Some, None, inl, inr, refl, sym, ap, subst, arith, ◌∙◌, append-nil, append_assoc}
 use Rattle.std.proofs.Math.Path.{fun_ext}
 use Rattle.pt_meaning.specs.Basics.{Tag, Streams, Log, Path, Firing, Event, Finished, Met, firings_in, silent, log_then, own, Meeting}
 use Rattle.pt_meaning.specs.Machine.{Outcome, Done, Stuck, Stepping, Facts, Partial, Known, partial_at}
 use Rattle.pt_meaning.specs.Dataflow.{Inside, sdf, pn}
-use Rattle.pt_meaning.specs.Tick.{sr, de, if_whole}
+use Rattle.pt_meaning.specs.Tick.{sr, sr_active, sr_turn, de, if_whole}
 use Rattle.pt_meaning.specs.Modal.{modal}
 use Rattle.pt_meaning.specs.Meetings.{Meets, below_child}
 use Rattle.pt_meaning.specs.Rendezvous.{rv}
-use Rattle.pt_meaning.specs.Children.{Child, numbered, child_facts}
+use Rattle.pt_meaning.specs.Children.{Child, numbered, child_facts, child_step}
 use Rattle.pt_meaning.specs.Node.{Rows, Answer, Gives, Fails, Core, Sdf, Pn, Sr, De, Rv, Modal, Past, Node, Nodes, Actor, Composite, list_of, facts_of, actor_outcome, as_node, director, fired_at, level, step_at, made_of}
 use Rattle.pt_meaning.specs.Lawful.{LawfulRows}
 use Rattle.pt_laws.specs.CompositeRuns.{steps_below}
-use Rattle.pt_meaning.specs.Closed.{Has, Begun, UnderWay, rounds_of, is_modal, state_after, on_answer}
+use Rattle.pt_meaning.specs.Asked.{AsksInTick, IsAsked}
+use Rattle.pt_meaning.specs.Closed.{Has, Begun, UnderWay, rounds_of, is_modal, state_after, on_answer, ComesTo}
 use Rattle.pt_laws.specs.Heights.{IsFitting}
 use Rattle.pt_laws.specs.LogsOfRuns.{log_in}
 use Rattle.pt_laws.specs.SoundRuns.{log_in_child, idle, IsBare, ClosedIn, IsWired, IsLedTo, KeptIn, SoundStep}
@@ -21,16 +22,22 @@ use Rattle.pt_laws.proofs.HeightLaws.{firing-keeps, numbered-length, sdf-bounds-
 use Rattle.pt_laws.proofs.TickNodeLaws.{sr-early, de-early}
 use Rattle.pt_laws.proofs.ClosedLaws.{child-closed}
 use Rattle.pt_laws.proofs.LevelLaws.{added, count-append, level-under-way, has-either}
-use Rattle.pt_laws.proofs.SoundLaws.{composite-under, composite-path, composite-way, composite-done, all-ways}
+use Rattle.pt_laws.proofs.SoundLaws.{composite-under, composite-path, composite-way, composite-comes, composite-done, all-ways}
 use Rattle.pt_laws.proofs.ExplainRounds.{kahn-explained}
 use Rattle.pt_laws.proofs.ExplainModal.{modal-explained}
-use Rattle.pt_laws.proofs.ExplainTurns.{sr-turning, de-turning}
+use Rattle.pt_laws.proofs.ExplainTurns.{sr-turning, sr-begun, de-turning, de-begun}
 use Rattle.pt_laws.proofs.ExplainTicks.{tick-explained}
 use Rattle.pt_laws.proofs.ExplainMeetings.{rv-explained}
 
 if-early : {T : Type 0} (b : Bool) (vs : List (Partial T)) (port : ℕ) (xs : List T) → partial_at (if_whole b vs) port ≡ Known xs → partial_at vs port ≡ Known xs
 if-early true vs port xs e = e
 if-early false vs port xs e = absurd (cc)
+
+pub kept-made : {T A : Type 0} (rows : Rows T A) (u : Bool) (n₀ n : Node T A) (l : Log T) → KeptIn rows u n₀ n l → firings_in (l []) ≡ made_of n
+kept-made rows u (Actor h₀ a₀ b₀) (Actor h a b) l k = k.0
+kept-made rows u (Actor h₀ a₀ b₀) (Composite h c d kids) l k = absurd k
+kept-made rows u (Composite h₀ c₀ d₀ kids₀) (Actor h a b) l k = absurd k
+kept-made rows u (Composite h₀ c₀ d₀ kids₀) (Composite h c d kids) l k = k.0.made
 
 -- the firing of a composite at any director is one explained
 module _ {T A : Type 0} (rows : Rows T A) (law : LawfulRows rows) (k d : ℕ) (m : Meets) (ms : List Meeting) (tag : Tag) (h : Past) (c : Core T) (kids : Nodes T A) (inputs : Streams T) where
@@ -46,25 +53,32 @@ module _ {T A : Type 0} (rows : Rows T A) (law : LawfulRows rows) (k d : ℕ) (m
   some_child : Core T → Child (Node T A)
   some_child e = record { number = 0; node = Composite h c e kids }
 
-  pub director-explained : (e : Core T) → IsFitting (Composite h c e kids) → IsWired e → (P : Outcome T (Node T A) → Type 0) → ((H : Type 0) (core : H → Core T) (r : Outcome T (Inside H (Child (Node T A)))) → Explained facts (steps_below rows k d m) tag inputs e core its r → P (as_node tag h c core r)) →
+  pub director-explained : (e : Core T) → IsFitting (Composite h c e kids) → IsWired e → (P : Outcome T (Node T A) → Type 0) → ((H : Type 0) (core : H → Core T) (r : Outcome T (Inside H (Child (Node T A)))) → Explained facts (steps_below rows k d m) ms h.made tag inputs e core its r → P (as_node tag h c core r)) →
       P (director facts (steps_below rows k d m) k ms tag h c e its inputs)
   director-explained (Sdf p X) f w P go =
       go (Streams T) (Sdf p) (sdf facts (steps_below rows k d m) p k tag (record { held = X; kids = its }) inputs)
-      (kahn-explained facts (steps_below rows k d m) tag p.net _ _ _ its X inputs (Sdf p X) (Sdf p) (some_child (Sdf p X)) k (record { core_wired = λ Y g. g; place = λ i q. refl; core_place = λ Y i q. refl; source = λ i q. refl; at_tag = refl; same = λ Y. record { sources = λ i q. refl; modal = refl; keeps = refl } })
+      (kahn-explained facts (steps_below rows k d m) tag p.net _ _ _ its X inputs (Sdf p X) (Sdf p) (some_child (Sdf p X)) k ms h.made (record { core_wired = λ Y g. g; place = λ i q. refl; core_place = λ Y i q. refl; source = λ i q. refl; at_tag = refl; same = λ Y. record { sources = λ i q. refl; modal = refl; keeps = refl }; asks = λ i z got a. (refl, a) })
       (sdf-bounds-count _ p.repetitions p.rates (length p.net.places) (f.1.1 ∙ sym f.1.0) (f.1.2 ∙ sym f.1.0)) (count ∙ sym f.1.0) w)
   director-explained (Pn p X) f w P go =
       go (Streams T) (Pn p) (pn facts (steps_below rows k d m) p k tag (record { held = X; kids = its }) inputs)
-      (kahn-explained facts (steps_below rows k d m) tag p.net _ _ _ its X inputs (Pn p X) (Pn p) (some_child (Pn p X)) k (record { core_wired = λ Y g. g; place = λ i q. refl; core_place = λ Y i q. refl; source = λ i q. refl; at_tag = refl; same = λ Y. record { sources = λ i q. refl; modal = refl; keeps = refl } })
+      (kahn-explained facts (steps_below rows k d m) tag p.net _ _ _ its X inputs (Pn p X) (Pn p) (some_child (Pn p X)) k ms h.made (record { core_wired = λ Y g. g; place = λ i q. refl; core_place = λ Y i q. refl; source = λ i q. refl; at_tag = refl; same = λ Y. record { sources = λ i q. refl; modal = refl; keeps = refl }; asks = λ i z got a. (refl, a) })
       (pn-bounds-count p.net.places) (count ∙ sym f.1) w)
   director-explained (Sr p) f w P go =
       go (Streams T) (λ X. Sr p) (sr facts (steps_below rows k d m) p k h.made tag its inputs)
-      (tick-explained facts (steps_below rows k d m) _ _ _ tag (sr-turning facts (steps_below rows k d m) tag) (sr-early rows law k d m) (λ t s vs port xs e. e) p.net _ its inputs (some_child (Sr p)) k (Sr p) (λ X. Sr p) (λ Y. tt) (λ i q. refl) (λ i q. refl) refl refl (λ Y. record { sources = λ i q. refl; modal = refl; keeps = refl }) (count ∙ sym f.1))
+      (tick-explained facts (steps_below rows k d m) _ _ _ tag (sr-turning facts (steps_below rows k d m) tag) (sr-early rows law k d m) (λ t s vs port xs e. e) p.net _ its inputs (some_child (Sr p)) k (Sr p) (λ X. Sr p) (λ Y. tt) (λ i q. refl) (λ i q. refl) refl refl (λ Y. record { sources = λ i q. refl; modal = refl; keeps = refl }) (count ∙ sym f.1) ms h.made sr-asks)
+    where
+      sr-asks : (i : ℕ) (first : Child (Node T A)) (lists : Streams T) (b : Begun T) → AsksInTick facts.early sr_active (sr_turn facts (steps_below rows k d m)) tag p.net its inputs i first lists → sr_active {T = T} tag first lists ≡ true → (sr-turning facts (steps_below rows k d m) tag).way first lists ≡ Some b →
+          IsAsked facts (steps_below rows k d m) ms h.made (Sr p) its tag inputs i ((sr-turning facts (steps_below rows k d m) tag).end first lists) b.tag b.inputs
+      sr-asks i first lists b a act e =
+          let r = sr-begun facts (steps_below rows k d m) tag first lists b e in
+          ((((sr-turning facts (steps_below rows k d m) tag).is first lists).begun_tagged b e), record { round = a.round; inputs_known = a.inputs_known ∙ ap (λ v. Option.Some v) (sym r.0); state = a.state ∙ ap (λ v. Option.Some v) (sym r.1) })
   director-explained (De p) f w P go =
       go (Streams T) (λ X. De p) (de facts (steps_below rows k d m) p k tag its inputs)
-      (tick-explained facts (steps_below rows k d m) _ _ _ tag (de-turning facts (steps_below rows k d m) tag) (de-early rows law k d m) (λ t s vs port xs e. if-early (facts.whole s) (facts.early t s vs) port xs e) p.net _ its inputs (some_child (De p)) k (De p) (λ X. De p) (λ Y. tt) (λ i q. refl) (λ i q. refl) refl refl (λ Y. record { sources = λ i q. refl; modal = refl; keeps = refl }) (count ∙ sym f.1))
+      (tick-explained facts (steps_below rows k d m) _ _ _ tag (de-turning facts (steps_below rows k d m) tag) (de-early rows law k d m) (λ t s vs port xs e. if-early (facts.whole s) (facts.early t s vs) port xs e) p.net _ its inputs (some_child (De p)) k (De p) (λ X. De p) (λ Y. tt) (λ i q. refl) (λ i q. refl) refl refl (λ Y. record { sources = λ i q. refl; modal = refl; keeps = refl }) (count ∙ sym f.1) ms h.made
+      (λ i first lists b a act e. ((((de-turning facts (steps_below rows k d m) tag).is first lists).begun_tagged b e), first, lists, a, act, de-begun facts (steps_below rows k d m) tag first lists b e)))
   director-explained (Rv p X) f w P go =
-      go _ (Rv p) (rv facts (steps_below rows k d m) p k h.made ms tag X its inputs) (rv-explained facts (steps_below rows k d m) tag p X inputs its (some_child (Rv p X)) k h.made ms (f.1.0 ∙ sym count) (f.1.1 ∙ sym count) (f.1.2 ∙ sym count) w)
-  director-explained (Modal chart n) f w P go = go _ (Modal chart) (modal chart facts (steps_below rows k d m) h.made tag n its inputs) (modal-explained chart facts (steps_below rows k d m) h.made tag n its inputs (some_child (Modal chart n)))
+      go _ (Rv p) (rv facts (steps_below rows k d m) p k h.made ms tag X its inputs) (rv-explained facts (steps_below rows k d m) tag p X inputs its (some_child (Rv p X)) h.made ms k (f.1.0 ∙ sym count) (f.1.1 ∙ sym count) (f.1.2 ∙ sym count) w)
+  director-explained (Modal chart n) f w P go = go _ (Modal chart) (modal chart facts (steps_below rows k d m) h.made tag n its inputs) (modal-explained chart facts (steps_below rows k d m) h.made tag n its inputs (some_child (Modal chart n)) ms)
 
 -- a firing of which nothing is made yet
 module _ {T A : Type 0} (rows : Rows T A) (t : Tag) (X : Streams T) where
@@ -162,17 +176,35 @@ module _ {T A : Type 0} (rows : Rows T A) (law : LawfulRows rows) (k d : ℕ) (m
       director-explained rows law k d m (m [] h.made) t h s kids X g f e.0.wired (λ o. IsBare (log_in o []) × (firings_in (log_in o []) ≡ 0))
       (λ H core r x. composite-path rows below sound t u h₀ c₀ d₀ kids₀ h s g kids l c e f X core r x)
 
-  level-under : (u : Bool) (n₀ n : Node T A) (l : Log T) → IsFitting n → ClosedIn rows u n₀ l idle → KeptIn rows u n₀ n l → (t : Tag) (X : Streams T) → (way : UnderWay T) × (way [] ≡ Some (record { tag = t; inputs = X })) × ClosedIn rows u n₀ (log_then l (log_in (next t n X))) way
-  unfolding begun
-  level-under u n₀ (Actor h a b) l f c e t X = (begun rows t X, refl, subst (λ (v : Log T). ClosedIn rows u n₀ (log_then l v) (begun rows t X)) (sym (actor-quiet rows t X h a (rows.react t b X))) (begun-closed rows t X u n₀ (Actor h a b) l c e))
-  level-under u (Actor h₀ a₀ b₀) (Composite h s g kids) l f c e t X = absurd e
-  level-under u (Composite h₀ c₀ d₀ kids₀) (Composite h s g kids) l f c e t X =
-      director-explained rows law k d m (m [] h.made) t h s kids X g f e.0.wired (λ o. (way : UnderWay T) × (way [] ≡ Some (record { tag = t; inputs = X })) × ClosedIn rows u (Composite h₀ c₀ d₀ kids₀) (log_then l (log_in o)) way)
+  -- a firing under way in a child is one that the child's step comes to
+  abbrev pub Comes : Type 0
+  Comes = (i : ℕ) (u : Bool) (n₀ n : Node T A) (l : Log T) (f : IsFitting n) (c : ClosedIn rows u n₀ l idle) (e : KeptIn rows u n₀ n l) (t : Tag) (X : Streams T) (p : Path) (b : Begun T) → ((sound i).under_way u n₀ n l f c e t X).0 p ≡ Some b →
+      ComesTo rows p (below_child i m) (λ q. firings_in (log_then l (log_in (below i t n X)) q)) n t X b
+
+  abbrev pub InChild : Past → Core T → Nodes T A → Tag → Streams T → Log T → (i : ℕ) (p : Path) (b : Begun T) → Type 0
+  InChild h g kids t X all i p b =
+      (child : Child (Node T A)) × (within : Tag) × (got : Streams T) × IsAsked (child_facts (facts_of rows)) (child_step below) (m [] h.made) h.made g (numbered 0 (list_of kids)) t X i child within got × ComesTo rows p (below_child i m) (λ q. firings_in (all (i ∷ q))) child.node within got b
+
+  pub level-ways : (u : Bool) (h₀ : Past) (c₀ d₀ : Core T) (kids₀ : Nodes T A) (h : Past) (s g : Core T) (kids : Nodes T A) (l : Log T) → IsFitting (Composite h s g kids) → ClosedIn rows u (Composite h₀ c₀ d₀ kids₀) l idle → KeptIn rows u (Composite h₀ c₀ d₀ kids₀) (Composite h s g kids) l → (t : Tag) (X : Streams T) →
+      (way : UnderWay T) × (way [] ≡ Some (record { tag = t; inputs = X })) × ClosedIn rows u (Composite h₀ c₀ d₀ kids₀) (log_then l (log_in (next t (Composite h s g kids) X))) way ×
+      (Comes → (i : ℕ) (p : Path) (b : Begun T) → way (i ∷ p) ≡ Some b → InChild h g kids t X (log_then l (log_in (next t (Composite h s g kids) X))) i p b)
+  level-ways u h₀ c₀ d₀ kids₀ h s g kids l f c e t X =
+      director-explained rows law k d m (m [] h.made) t h s kids X g f e.0.wired
+      (λ o. (way : UnderWay T) × (way [] ≡ Some (record { tag = t; inputs = X })) × ClosedIn rows u (Composite h₀ c₀ d₀ kids₀) (log_then l (log_in o)) way × (Comes → (i : ℕ) (p : Path) (b : Begun T) → way (i ∷ p) ≡ Some b → InChild h g kids t X (log_then l (log_in o)) i p b))
       (λ H core r x. (
         all-ways rows below sound t u h₀ c₀ d₀ kids₀ h s g kids l c e f X core r x,
         composite-way rows below sound t u h₀ c₀ d₀ kids₀ h s g kids l c e f X core r x,
         composite-under rows below sound t u h₀ c₀ d₀ kids₀ h s g kids l c e f X core r x,
+        λ comes i p b w.
+            let y = composite-comes rows below sound t u h₀ c₀ d₀ kids₀ h s g kids l c e f X core r x (λ j q count n v Y z. ComesTo rows q (below_child j m) count n v Y z) comes i p b w in
+            (x.ends i, y.0.tag, y.0.inputs, x.asked i y.0 y.1, y.2),
       ))
+
+  level-under : (u : Bool) (n₀ n : Node T A) (l : Log T) → IsFitting n → ClosedIn rows u n₀ l idle → KeptIn rows u n₀ n l → (t : Tag) (X : Streams T) → (way : UnderWay T) × (way [] ≡ Some (record { tag = t; inputs = X })) × ClosedIn rows u n₀ (log_then l (log_in (next t n X))) way
+  unfolding begun
+  level-under u n₀ (Actor h a b) l f c e t X = (begun rows t X, refl, subst (λ (v : Log T). ClosedIn rows u n₀ (log_then l v) (begun rows t X)) (sym (actor-quiet rows t X h a (rows.react t b X))) (begun-closed rows t X u n₀ (Actor h a b) l c e))
+  level-under u (Actor h₀ a₀ b₀) (Composite h s g kids) l f c e t X = absurd e
+  level-under u (Composite h₀ c₀ d₀ kids₀) (Composite h s g kids) l f c e t X = let r = level-ways u h₀ c₀ d₀ kids₀ h s g kids l f c e t X in (r.0, r.1, r.2)
 
   level-done : (u : Bool) (n₀ n z : Node T A) (l : Log T) → IsFitting n → ClosedIn rows u n₀ l idle → KeptIn rows u n₀ n l → (t : Tag) (X out : Streams T) (j : Log T) → next t n X ≡ Done z out j →
       ClosedIn rows u n₀ (log_then l (log_then j (own (record { number = made_of n; tag = t; inputs = X; outputs = out })))) idle × KeptIn rows u n₀ z (log_then l (log_then j (own (record { number = made_of n; tag = t; inputs = X; outputs = out }))))
@@ -199,3 +231,29 @@ sound-at rows law k (suc d) m = record {
   under_way = level-under rows law k d m (λ i. sound-at rows law k d (below_child i m));
   done = level-done rows law k d m (λ i. sound-at rows law k d (below_child i m));
 }
+
+-- each firing under way in a step is one that the step comes to
+pub comes-at : {T A : Type 0} (rows : Rows T A) (law : LawfulRows rows) (k d : ℕ) (m : Meets) (u : Bool) (n₀ n : Node T A) (l : Log T) (f : IsFitting n) (c : ClosedIn rows u n₀ l idle) (e : KeptIn rows u n₀ n l) (t : Tag) (X : Streams T) (p : Path) (b : Begun T) → ((sound-at rows law k d m).under_way u n₀ n l f c e t X).0 p ≡ Some b →
+    ComesTo rows p m (λ q. firings_in (log_then l (log_in (step_at rows k d m t n X)) q)) n t X b
+unfolding sound-at step_at begun level-under
+comes-at {T} {A} rows law k d m u n₀ n l f c e t X [] b g = (made, sym (same (sym (((sound-at rows law k d m).under_way u n₀ n l f c e t X).1) ∙ g)))
+  where
+    same : Some (record { tag = t; inputs = X }) ≡ Some b → record { tag = t; inputs = X } ≡ b
+    same h = cc
+
+    made : made_of n ≡ firings_in (l [] ++ log_in (step_at rows k d m t n X) [])
+    made = omega (arith, count-append (l []) (log_in (step_at rows k d m t n X) []), ((sound-at rows law k d m).own_path u n₀ n l f c e t X).1, kept-made rows u n₀ n l e)
+comes-at rows law k zero m u n₀ n l f c e t X (i ∷ p) b g = absurd (cc)
+comes-at rows law k (suc d) m u n₀ (Actor h a s) l f c e t X (i ∷ p) b g = absurd (cc)
+comes-at rows law k (suc d) m u (Actor h₀ a₀ s₀) (Composite h s o kids) l f c e t X (i ∷ p) b g = absurd e
+comes-at rows law k (suc d) m u (Composite h₀ c₀ d₀ kids₀) (Composite h s o kids) l f c e t X (i ∷ p) b g =
+    let r = (level-ways rows law k d m (λ j. sound-at rows law k d (below_child j m)) u h₀ c₀ d₀ kids₀ h s o kids l f c e t X).3 (λ j. comes-at rows law k d (below_child j m)) i p b g in (
+      omega (arith, count-append (l []) (log_in (step_at rows k (suc d) m t (Composite h s o kids) X) []), ((sound-at rows law k (suc d) m).own_path u (Composite h₀ c₀ d₀ kids₀) (Composite h s o kids) l f c e t X).1, e.0.made),
+      k,
+      d,
+      r.0,
+      r.1,
+      r.2,
+      r.3,
+      r.4,
+    )

@@ -1,10 +1,10 @@
 -- A stream function explained: the firings that it makes, what they take, and what they give.
-use Rattle.std.proofs.Common.{◌≡◌, ℕ, zero, suc, List, [], ◌∷◌, ◌++◌, Bool, true, false, nat_le, length, take, drop, Option, Some, None, refl, sym, ap, subst, ◌∙◌, append_assoc}
+use Rattle.std.proofs.Common.{◌≡◌, ℕ, zero, suc, List, [], ◌∷◌, ◌++◌, Bool, true, false, nat_le, length, take, drop, Option, Some, None, ◌≤◌, refl, sym, ap, ap₂, subst, arith, ◌∙◌, append_assoc}
 use Rattle.std.proofs.lemmas.List.{take-append-drop}
 use Rattle.std.proofs.Math.Path.{fun_ext}
 use Rattle.pt_meaning.specs.Basics.{Tag, Streams, at, Log, silent, log_then, own}
 use Rattle.pt_meaning.specs.Machine.{Need, Over, Counts, Any, Outcome, Done, Stuck, Stepping, Facts, Front, Lacks, Ends, Takes, front, counted, if_long}
-use Rattle.pt_meaning.specs.Flow.{Flow, flow, on_outcome, on_front}
+use Rattle.pt_meaning.specs.Flow.{Flow, Stopped, flow, halted, after_firing, on_outcome, on_front}
 use Rattle.pt_meaning.specs.Rounds.{rated, rated_outcome, if_rated, has_rates}
 use Rattle.pt_meaning.specs.Closed.{Begun}
 use Rattle.pt_laws.specs.LogsOfRuns.{log_in}
@@ -145,6 +145,64 @@ module _ {T S : Type 0} (facts : Facts T S) (step : Stepping T S) (r : Option (L
   unfolding flow
   flow-is zero s X = halted-is s X _ refl refl refl refl
   flow-is (suc n) s X = front-is n (flow-is n) s X (front (facts.need s) X) refl
+
+-- The firing that a stream function doesn't finish: it made some before, and this is the next one, on the tokens that its need asks for.
+pub record Stopping {T S : Type 0} (facts : Facts T S) (step : Stepping T S) (tag : Tag) (n : ℕ) (s : S) (X : Streams T) (z : S) (b : Begun T) : Type 0 where
+  pub made : ℕ
+  pub left : Streams T
+  pub before : suc made ≤ n
+  pub fired : (flow facts step tag made s X).fired ≡ made
+  pub state : (flow facts step tag made s X).state ≡ z
+  pub takes : front (facts.need z) (flow facts step tag made s X).left ≡ Takes b.inputs left
+
+module _ {T S : Type 0} (facts : Facts T S) (step : Stepping T S) (tag : Tag) where
+  none-stops : (b : Begun T) → None ≡ Some b → ⊥
+  none-stops b e = cc
+
+  pub stopping : (n : ℕ) (s : S) (X : Streams T) (b : Begun T) → stuck_of facts step tag n s X ≡ Some b → Stopping facts step tag n s X (flow facts step tag n s X).state b
+  unfolding flow
+  stopping zero s X b e = absurd (none-stops b e)
+  stopping (suc n) s X b e = by_front (front (facts.need s) X) refl e (λ z left. stopping n z left b)
+    where
+      some-begun : (got : Streams T) → Some (record { tag = tag; inputs = got }) ≡ Some b → got ≡ b.inputs
+      some-begun got g = ap (λ (v : Begun T). v.inputs) (same g)
+        where
+          same : Some (record { tag = tag; inputs = got }) ≡ Some b → record { tag = tag; inputs = got } ≡ b
+          same g = cc
+
+      on-fired : (got left : Streams T) → front (facts.need s) X ≡ Takes got left → (z : S) (out : Streams T) (l : Log T) → step tag s got ≡ Done z out l → (m : ℕ) →
+          on_front facts step tag (flow facts step tag m) s X (front (facts.need s) X) ≡ after_firing out (log_then l (own (record { number = facts.made s; tag = tag; inputs = got; outputs = out }))) (flow facts step tag m z left)
+      on-fired got left f z out l d m = ap (λ v. on_front facts step tag (flow facts step tag m) s X v) f ∙ ap (λ r. on_outcome facts step tag (flow facts step tag m) s X got left r) d
+
+      by_outcome : (got left : Streams T) → front (facts.need s) X ≡ Takes got left → (o : Outcome T S) → step tag s got ≡ o → stuck_on facts step tag (stuck_of facts step tag n) got left o ≡ Some b → ((z : S) (left : Streams T) → stuck_of facts step tag n z left ≡ Some b → Stopping facts step tag n z left (flow facts step tag n z left).state b) →
+          Stopping facts step tag (suc n) s X (on_front facts step tag (flow facts step tag n) s X (front (facts.need s) X)).state b
+      by_outcome got left f (Done z out l) d e ih =
+          let r = ih z left e in
+          let all = on-fired got left f z out l d in
+          record {
+            made = suc r.made;
+            left = r.left;
+            before = omega (arith, r.before);
+            fired = ap (λ (v : Flow T S). v.fired) (all r.made) ∙ ap (λ v. suc v) r.fired;
+            state = ap (λ (v : Flow T S). v.state) (all r.made) ∙ r.state ∙ sym (ap (λ (v : Flow T S). v.state) (all n));
+            takes = ap₂ (λ (v : S) (w : Streams T). front (facts.need v) w) (ap (λ (v : Flow T S). v.state) (all n)) (ap (λ (v : Flow T S). v.left) (all r.made)) ∙ r.takes;
+          }
+      by_outcome got left f (Stuck fs l) d e ih =
+          let halts : on_front facts step tag (flow facts step tag n) s X (front (facts.need s) X) ≡ halted (Stopped fs) s X l = ap (λ v. on_front facts step tag (flow facts step tag n) s X v) f ∙ ap (λ r. on_outcome facts step tag (flow facts step tag n) s X got left r) d in
+          record {
+            made = 0;
+            left = left;
+            before = omega arith;
+            fired = refl;
+            state = sym (ap (λ (v : Flow T S). v.state) halts);
+            takes = ap (λ (v : S). front (facts.need v) X) (ap (λ (v : Flow T S). v.state) halts) ∙ f ∙ ap (λ v. Takes v left) (some-begun got e);
+          }
+
+      by_front : (f : Front T) → front (facts.need s) X ≡ f → stuck_front facts step tag (stuck_of facts step tag n) s f ≡ Some b → ((z : S) (left : Streams T) → stuck_of facts step tag n z left ≡ Some b → Stopping facts step tag n z left (flow facts step tag n z left).state b) →
+          Stopping facts step tag (suc n) s X (on_front facts step tag (flow facts step tag n) s X (front (facts.need s) X)).state b
+      by_front Lacks f e ih = absurd (none-stops b e)
+      by_front Ends f e ih = absurd (none-stops b e)
+      by_front (Takes got left) f e ih = by_outcome got left f (step tag s got) refl e ih
 
 -- a stream function that isn't stuck has no unfinished firing
 module _ {T S : Type 0} (facts : Facts T S) (step : Stepping T S) (tag : Tag) where

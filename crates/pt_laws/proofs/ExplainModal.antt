@@ -2,7 +2,7 @@
 use Rattle.std.proofs.Common.{◌≡◌, ◌⊎◌, ℕ, zero, suc, ◌≤◌, List, [], ◌∷◌, ◌++◌, Bool, true, false, nat_eq, length, Option, Some, None, if◌then◌else◌, inl, inr, refl, sym, ap, subst, arith, ◌∙◌, append-nil}
 use Rattle.std.proofs.lemmas.Bool.Decides.{nat_tests}
 use Rattle.std.proofs.Math.Path.{fun_ext}
-use Rattle.pt_meaning.specs.Basics.{Tag, Streams, at, Log, Path, silent, log_then, own, log_below}
+use Rattle.pt_meaning.specs.Basics.{Tag, Streams, at, Log, Path, Meeting, silent, log_then, own, log_below}
 use Rattle.pt_meaning.specs.Machine.{Fault, Outcome, Done, Stuck, Stepping, Facts, recorded}
 use Rattle.pt_meaning.specs.Dataflow.{Inside, prefixed}
 use Rattle.pt_meaning.specs.Modal.{unfired_outputs, Chart, Modes, Choice, Nothing, One, Wrong, Acted, Acts, Fails, chosen, change_at, change_if, get, reset_unless, local, lag_of, picked, shown, below_number, stuck, taken, afterwards, put_state, on_refinement, at_refinement, with_refinement, preempted, modal}
@@ -12,6 +12,7 @@ use Rattle.pt_laws.specs.LogsOfRuns.{log_at, log_in}
 use Rattle.pt_meaning.specs.Streams.{IsPrefix}
 use Rattle.pt_meaning.specs.Closed.{Begun, as_own, inputs_at, begun_at}
 use Rattle.pt_laws.specs.SoundRuns.{IsSamePlan}
+use Rattle.pt_meaning.specs.Asked.{IsAsked}
 use Rattle.pt_laws.specs.Explained.{Turned, PartOf, IfDone, Explained, of_turns, gives_in}
 use Rattle.pt_laws.proofs.Order.{IsPrefix-refl}
 
@@ -83,7 +84,7 @@ picked-exact [] inputs q ts = tt
 picked-exact (p ∷ ps) inputs zero ts = IsPrefix-refl (at inputs p)
 picked-exact (p ∷ ps) inputs (suc q) ts = picked-exact ps inputs q ts
 
-module _ {T S : Type 0} (chart : Chart T) (facts : Facts T S) (step : Stepping T S) (made : ℕ) (tag : Tag) (m : Modes T) (ks : List S) (inputs : Streams T) (any : S) where
+module _ {T S : Type 0} (chart : Chart T) (facts : Facts T S) (step : Stepping T S) (made : ℕ) (tag : Tag) (m : Modes T) (ks : List S) (inputs : Streams T) (any : S) (ms : List Meeting) where
   -- an entry that may be reset
   changed : {B : Type 0} (i : ℕ) (f : B → B) (xs : List B) (j : ℕ) (y : B) → get (change_at i f xs) j ≡ Some y → (x : B) × (get xs j ≡ Some x) × ((y ≡ x) ⊎ ((i ≡ j) × (y ≡ f x)))
   changed i f [] j y e = absurd (cc)
@@ -164,7 +165,7 @@ module _ {T S : Type 0} (chart : Chart T) (facts : Facts T S) (step : Stepping T
   after-log zs out l (Wrong code) = refl
 
   Explains : Outcome T (Inside (Modes T) S) → Type 0
-  Explains r = Explained facts step tag inputs (Modal chart m) (Modal chart) ks r
+  Explains r = Explained facts step ms made tag inputs (Modal chart m) (Modal chart) ks r
 
   -- no child fires
   none-fires : (r : Outcome T (Inside (Modes T) S)) → log_in r ≡ silent → Ends (λ i. []) ks r → Explains r
@@ -182,6 +183,7 @@ module _ {T S : Type 0} (chart : Chart T) (facts : Facts T S) (step : Stepping T
     beyond = λ i g. (refl, refl, refl);
     tagged = λ i b g. absurd (no-begun b g);
     counted = λ i q. inl tt;
+    asked = λ i b g. absurd (no-begun b g);
     done = h;
   }
     where
@@ -219,7 +221,7 @@ module _ {T S : Type 0} (chart : Chart T) (facts : Facts T S) (step : Stepping T
   within-list (x ∷ xs) (suc i) zero s e h = absurd (omega arith)
   within-list (x ∷ xs) (suc i) (suc j) s e h = nat-below i j ∙ within-list xs i j s e (omega (arith, h))
 
-  module _ (i : ℕ) (s : S) (e : get ks i ≡ Some s) (t : Tag) (lag : ℕ) (lagging : t ≡ local tag lag) where
+  module _ (i : ℕ) (s : S) (e : get ks i ≡ Some s) (t : Tag) (lagging : t ≡ local tag (lag_of m.stays i)) (calm : chosen 0 (chart.preemptive m.mode m.values inputs) ≡ Nothing) (current : chart.refinement m.mode ≡ Some i) where
     abbrev got : Streams T
     got = picked (chart.in_ports i) inputs
 
@@ -253,6 +255,7 @@ module _ {T S : Type 0} (chart : Chart T) (facts : Facts T S) (step : Stepping T
       beyond = λ j h. let n : nat_eq i j ≡ false = within-list ks i j s e h in (alone-other i j L n, ap (λ b. if b then turn ∷ [] else []) n, refl);
       tagged = λ j b g. absurd (no-begun b g);
       counted = λ j q. inl (subst (λ v. IsPrefix v (gives_in inputs (one_turn i turn) (as_own (get (chart.in_ports j) q)))) (sym (append-nil (of_turns (inputs_at q) (one_turn i turn j)))) (turn-fed i turn refl j q));
+      asked = λ j b g. absurd (no-begun b g);
       done = ends;
     }
       where
@@ -298,6 +301,7 @@ module _ {T S : Type 0} (chart : Chart T) (facts : Facts T S) (step : Stepping T
       beyond = λ j h. let n : nat_eq i j ≡ false = within-list ks i j s e h in (alone-other i j l n, refl, ap (λ b. if b then Some begun else None) n);
       tagged = λ j b g. tagged_by j b (nat_eq i j) g;
       counted = λ j q. inl (fed_by j q (nat_eq i j) refl);
+      asked = λ j b g. asked_by j b (nat_eq i j) refl g;
       done = tt;
     }
       where
@@ -305,8 +309,18 @@ module _ {T S : Type 0} (chart : Chart T) (facts : Facts T S) (step : Stepping T
         begun = record { tag = t; inputs = got }
 
         tagged_by : (j : ℕ) (b : Begun T) (v : Bool) → (if v then Some begun else None) ≡ Some b → (lag : ℕ) × (b.tag ≡ local tag lag)
-        tagged_by j b true g = (lag, ap (λ (w : Begun T). w.tag) (sym (some-of begun b g)) ∙ lagging)
+        tagged_by j b true g = (lag_of m.stays i, ap (λ (w : Begun T). w.tag) (sym (some-of begun b g)) ∙ lagging)
         tagged_by j b false g = absurd (clash g)
+          where
+            clash : None ≡ Some b → ⊥
+            clash e = cc
+
+        asked_by : (j : ℕ) (b : Begun T) (v : Bool) → nat_eq i j ≡ v → (if v then Some begun else None) ≡ Some b → IsAsked facts step ms made (Modal chart m) ks tag inputs j (state_or any ks j) b.tag b.inputs
+        asked_by j b true n g =
+            let here : IsAsked facts step ms made (Modal chart m) ks tag inputs i (state_or any ks i) begun.tag begun.inputs = (lagging, calm, current, e ∙ ap (λ v. Option.Some v) (state-of any ks i s e), refl) in
+            subst (λ (w : Begun T). IsAsked facts step ms made (Modal chart m) ks tag inputs j (state_or any ks j) w.tag w.inputs) (some-of begun b g)
+            (subst (λ v. IsAsked facts step ms made (Modal chart m) ks tag inputs v (state_or any ks v) begun.tag begun.inputs) (same-number i j n) here)
+        asked_by j b false n g = absurd (clash g)
           where
             clash : None ≡ Some b → ⊥
             clash e = cc
@@ -347,19 +361,24 @@ module _ {T S : Type 0} (chart : Chart T) (facts : Facts T S) (step : Stepping T
   unfolding AllFed
   none-fed i q = tt
 
-  at-explained : (i : ℕ) (o : Option S) → get ks i ≡ o → Explains (at_refinement chart facts step made tag m ks inputs i o)
-  at-explained i None e = none-fires (Stuck [] silent) refl tt
-  at-explained i (Some s) e = refinement-explained i s e (local tag (lag_of m.stays i)) (lag_of m.stays i) refl (step (local tag (lag_of m.stays i)) s (picked (chart.in_ports i) inputs)) refl
+  Calm : Type 0
+  Calm = chosen 0 (chart.preemptive m.mode m.values inputs) ≡ Nothing
 
-  with-explained : (o : Option ℕ) → Explains (with_refinement chart facts step made tag m ks inputs o)
-  with-explained None = none-fires (afterwards chart facts step made tag m ks inputs (unfired_outputs chart) silent (chosen 0 (chart.others m.mode m.values inputs (unfired_outputs chart)))) (after-log ks (unfired_outputs chart) silent (chosen 0 (chart.others m.mode m.values inputs (unfired_outputs chart)))) (after-ends (λ i. []) none-fed ks refl (unfired_outputs chart) silent (chosen 0 (chart.others m.mode m.values inputs (unfired_outputs chart))))
-  with-explained (Some i) = at-explained i (get ks i) refl
+  at-explained : (i : ℕ) (o : Option S) → get ks i ≡ o → Calm → chart.refinement m.mode ≡ Some i → Explains (at_refinement chart facts step made tag m ks inputs i o)
+  unfolding Calm
+  at-explained i None e calm r = none-fires (Stuck [] silent) refl tt
+  at-explained i (Some s) e calm r = refinement-explained i s e (local tag (lag_of m.stays i)) refl calm r (step (local tag (lag_of m.stays i)) s (picked (chart.in_ports i) inputs)) refl
 
-  cases-explained : (c : Choice) → Explains (preempted chart facts step made tag m ks inputs c)
-  cases-explained Nothing = with-explained (chart.refinement m.mode)
-  cases-explained (One n) = none-fires (taken chart facts step made tag true n m ks silent (chart.act true m.mode n m.values inputs (unfired_outputs chart))) (taken-log true n ks silent (chart.act true m.mode n m.values inputs (unfired_outputs chart))) (taken-ends (λ i. []) none-fed ks refl true n silent (chart.act true m.mode n m.values inputs (unfired_outputs chart)))
-  cases-explained (Wrong code) = none-fires (stuck chart facts step made code silent) refl tt
+  with-explained : (o : Option ℕ) → chart.refinement m.mode ≡ o → Calm → Explains (with_refinement chart facts step made tag m ks inputs o)
+  with-explained None r calm = none-fires (afterwards chart facts step made tag m ks inputs (unfired_outputs chart) silent (chosen 0 (chart.others m.mode m.values inputs (unfired_outputs chart)))) (after-log ks (unfired_outputs chart) silent (chosen 0 (chart.others m.mode m.values inputs (unfired_outputs chart)))) (after-ends (λ i. []) none-fed ks refl (unfired_outputs chart) silent (chosen 0 (chart.others m.mode m.values inputs (unfired_outputs chart))))
+  with-explained (Some i) r calm = at-explained i (get ks i) refl calm r
 
-  pub modal-explained : Explained facts step tag inputs (Modal chart m) (Modal chart) ks (modal chart facts step made tag m ks inputs)
+  cases-explained : (c : Choice) → chosen 0 (chart.preemptive m.mode m.values inputs) ≡ c → Explains (preempted chart facts step made tag m ks inputs c)
+  unfolding Calm
+  cases-explained Nothing e = with-explained (chart.refinement m.mode) refl e
+  cases-explained (One n) e = none-fires (taken chart facts step made tag true n m ks silent (chart.act true m.mode n m.values inputs (unfired_outputs chart))) (taken-log true n ks silent (chart.act true m.mode n m.values inputs (unfired_outputs chart))) (taken-ends (λ i. []) none-fed ks refl true n silent (chart.act true m.mode n m.values inputs (unfired_outputs chart)))
+  cases-explained (Wrong code) e = none-fires (stuck chart facts step made code silent) refl tt
+
+  pub modal-explained : Explained facts step ms made tag inputs (Modal chart m) (Modal chart) ks (modal chart facts step made tag m ks inputs)
   unfolding Explains
-  modal-explained = cases-explained (chosen 0 (chart.preemptive m.mode m.values inputs))
+  modal-explained = cases-explained (chosen 0 (chart.preemptive m.mode m.values inputs)) refl

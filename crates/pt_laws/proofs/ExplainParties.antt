@@ -37,8 +37,8 @@ pub turns-append : {T : Type 0} (pick : Firing T → List T) (xs ys : List (Turn
 turns-append pick [] ys = refl
 turns-append pick (t ∷ xs) ys = ap (λ v. pick t.record_of ++ v) (turns-append pick xs ys) ∙ sym (append_assoc (pick t.record_of) (of_turns pick xs) (of_turns pick ys))
 
--- A process in the middle of a firing, explained: what it has made, and the firing that it doesn't finish.
-pub record PartyIs {T S : Type 0} (facts : Facts T S) (step : Stepping T S) (tag : Tag) (ks : List S) (ts : List (Turned T)) (i : ℕ) (p : Party T S) : Type 0 where
+-- A process in the middle of a firing, explained: what it has made, and the firing that it doesn't finish, for which it was asked.
+pub record PartyIs {T S : Type 0} (facts : Facts T S) (step : Stepping T S) (tag : Tag) (ks : List S) (Asks : ℕ → S → Streams T → Type 0) (ts : List (Turned T)) (i : ℕ) (p : Party T S) : Type 0 where
   pub start : S
   pub at_start : get ks i ≡ Some start
   pub way : Option (Begun T)
@@ -46,10 +46,11 @@ pub record PartyIs {T S : Type 0} (facts : Facts T S) (step : Stepping T S) (tag
   pub well : p.mood ≡ Well → way ≡ None
   pub begins : (b : Begun T) → way ≡ Some b → (q : ℕ) → IsPrefix (at b.inputs q) (at p.got q)
   pub tagged : (b : Begun T) → way ≡ Some b → b.tag ≡ tag
+  pub asks : (b : Begun T) → way ≡ Some b → Asks i p.state b.inputs
 
-module _ {T S : Type 0} (facts : Facts T S) (step : Stepping T S) (tag : Tag) (plan : RvPlan) (ks : List S) where
+module _ {T S : Type 0} (facts : Facts T S) (step : Stepping T S) (tag : Tag) (plan : RvPlan) (ks : List S) (Asks : ℕ → S → Streams T → Type 0) where
   abbrev Is : List (Turned T) → ℕ → Party T S → Type 0
-  Is ts i p = PartyIs facts step tag ks ts i p
+  Is ts i p = PartyIs facts step tag ks Asks ts i p
 
   -- the firing that a process makes
   turn_of : Party T S → Outcome T S → List (Turned T)
@@ -88,9 +89,9 @@ module _ {T S : Type 0} (facts : Facts T S) (step : Stepping T S) (tag : Tag) (p
     stays : Is (ts ++ []) i p
     stays = subst (λ v. Is v i p) (sym (append-nil ts)) h
 
-    fired-is : (r : Outcome T S) → step tag p.state p.got ≡ r → p.mood ≡ Well → Is (ts ++ turn_of p r) i (fired facts step tag plan.net.sources i p (recorded (facts.made p.state) tag p.got r))
+    fired-is : (r : Outcome T S) → step tag p.state p.got ≡ r → p.mood ≡ Well → Asks i p.state p.got → Is (ts ++ turn_of p r) i (fired facts step tag plan.net.sources i p (recorded (facts.made p.state) tag p.got r))
     unfolding turn_of
-    fired-is (Stuck fs l) e w = record {
+    fired-is (Stuck fs l) e w due = record {
       start = h.start;
       at_start = h.at_start;
       way = Some (record { tag = tag; inputs = p.got });
@@ -98,11 +99,12 @@ module _ {T S : Type 0} (facts : Facts T S) (step : Stepping T S) (tag : Tag) (p
       well = λ g. absurd (broken-well fs g);
       begins = λ b g q. subst (λ (v : Begun T). IsPrefix (at v.inputs q) (at p.got q)) (some-begun b g) (IsPrefix-refl (at p.got q));
       tagged = λ b g. sym (ap (λ (v : Begun T). v.tag) (some-begun b g));
+      asks = λ b g. subst (λ (v : Begun T). Asks i p.state v.inputs) (some-begun b g) due;
     }
       where
         some-begun : (b : Begun T) → Some (record { tag = tag; inputs = p.got }) ≡ Some b → record { tag = tag; inputs = p.got } ≡ b
         some-begun b g = cc
-    fired-is (Done s out l) e w = record {
+    fired-is (Done s out l) e w due = record {
       start = h.start;
       at_start = h.at_start;
       way = None;
@@ -110,6 +112,7 @@ module _ {T S : Type 0} (facts : Facts T S) (step : Stepping T S) (tag : Tag) (p
       well = λ g. refl;
       begins = λ b g. absurd (clash b g);
       tagged = λ b g. absurd (clash b g);
+      asks = λ b g. absurd (clash b g);
     }
       where
         turn : Turned T
@@ -118,12 +121,12 @@ module _ {T S : Type 0} (facts : Facts T S) (step : Stepping T S) (tag : Tag) (p
         clash : (b : Begun T) → None ≡ Some b → ⊥
         clash b g = cc
 
-    advance-is : Is (ts ++ next_turns (next_event facts p) p) i (advance facts step tag plan.net.sources i p)
+    advance-is : (next_event facts p ≡ Fires → Asks i p.state p.got) → Is (ts ++ next_turns (next_event facts p) p) i (advance facts step tag plan.net.sources i p)
     unfolding next_turns
-    advance-is = go (next_event facts p) refl
+    advance-is due = go (next_event facts p) refl
       where
         go : (n : Next) → next_event facts p ≡ n → Is (ts ++ next_turns n p) i (if_fires facts step tag plan.net.sources n i p)
-        go Fires e = fired-is (step tag p.state p.got) refl (fires-well facts p e)
+        go Fires e = fired-is (step tag p.state p.got) refl (fires-well facts p e) (due e)
         go Puts e = stays
         go (Gets q) e = stays
         go GetsAny e = stays
@@ -131,13 +134,17 @@ module _ {T S : Type 0} (facts : Facts T S) (step : Stepping T S) (tag : Tag) (p
         go Idle e = stays
         go Sticks e = stays
 
-  pub advanced-is : (k : ℕ) (ts : List (Turned T)) (i : ℕ) (p : Party T S) → Is ts i p → Is (ts ++ turns_in k i p) i (advanced facts step tag plan.net.sources k i p)
+  -- each firing that the process then makes is one for which it is asked
+  abbrev pub AllAsked : ℕ → Party T S → Type 0
+  AllAsked i p = (j : ℕ) → next_event facts (advanced facts step tag plan.net.sources j i p) ≡ Fires → Asks i (advanced facts step tag plan.net.sources j i p).state (advanced facts step tag plan.net.sources j i p).got
+
+  pub advanced-is : (k : ℕ) (ts : List (Turned T)) (i : ℕ) (p : Party T S) → Is ts i p → AllAsked i p → Is (ts ++ turns_in k i p) i (advanced facts step tag plan.net.sources k i p)
   unfolding advanced turns_in
-  advanced-is zero ts i p h = stays ts i p h
-  advanced-is (suc k) ts i p h =
+  advanced-is zero ts i p h due = stays ts i p h
+  advanced-is (suc k) ts i p h due =
       let now = next_turns (next_event facts p) p in
       let p' = advance facts step tag plan.net.sources i p in
-      subst (λ v. Is v i (advanced facts step tag plan.net.sources k i p')) (append_assoc ts now (turns_in k i p')) (advanced-is k (ts ++ now) i p' (advance-is ts i p h))
+      subst (λ v. Is v i (advanced facts step tag plan.net.sources k i p')) (append_assoc ts now (turns_in k i p')) (advanced-is k (ts ++ now) i p' (advance-is ts i p h (due 0)) (λ j. due (suc j)))
 
   -- each process of a list
   pub all_turns : ℕ → ℕ → List (Party T S) → ℕ → List (Turned T)

@@ -2,7 +2,7 @@
 use Rattle.std.proofs.Common.{◌≡◌, ℕ, zero, suc, ◌≤◌, ◌<◌, List, [], ◌∷◌, ◌++◌, Bool, true, false, ◌&&◌, length, take, drop, Option, Some, None, inl, refl, sym, ap, subst, arith, ◌∙◌, append_assoc, append-nil, length-append, nat_lt, if◌then◌else◌}
 use Rattle.std.proofs.lemmas.List.{length-take-le, length-drop}
 use Rattle.std.proofs.Math.Path.{fun_ext}
-use Rattle.pt_meaning.specs.Basics.{Tag, Streams, at, Log, Path, silent, log_below}
+use Rattle.pt_meaning.specs.Basics.{Tag, Streams, at, Log, Path, Meeting, silent, log_below}
 use Rattle.pt_meaning.specs.Machine.{Stepping, Facts}
 use Rattle.pt_meaning.specs.Flow.{Flow, flow}
 use Rattle.pt_meaning.specs.Rounds.{Source, Own, Output, Net, Limit, within, rated, gave, fed, refill, flows, round, all_at_rest}
@@ -13,6 +13,7 @@ use Rattle.pt_meaning.specs.Node.{Core}
 use Rattle.pt_meaning.specs.Running.{total}
 use Rattle.pt_laws.specs.LogsOfRuns.{log_at}
 use Rattle.pt_meaning.specs.Streams.{IsPrefix}
+use Rattle.pt_meaning.specs.Asked.{AsksOn, AsksInRounds, IsAsked}
 use Rattle.pt_laws.specs.Channels as channels
 use Rattle.pt_meaning.specs.Closed.{Begun, if_there, inputs_at, outputs_at, begun_at, is_modal, IsTagBelow}
 use Rattle.pt_laws.specs.Channels.{further, channel_at, tokens_in}
@@ -26,7 +27,7 @@ use Rattle.pt_laws.proofs.KahnLaws.{and-left, and-right, at-rest, fixed}
 use Rattle.pt_laws.proofs.LogLaws.{log-of-settled}
 use Rattle.pt_laws.proofs.SettledLaws.{round-long, rest-free}
 use Rattle.pt_laws.proofs.FiringLaws.{arrived-long, flows-left, flows-count}
-use Rattle.pt_laws.proofs.ExplainFlows.{turns_of, stuck_of, FlowIs, flow-is, free-unstuck}
+use Rattle.pt_laws.proofs.ExplainFlows.{turns_of, stuck_of, FlowIs, flow-is, stopping, free-unstuck}
 
 -- the firings of each child, by its number
 module _ {T S : Type 0} (facts : Facts T S) (step : Stepping T S) (tag : Tag) where
@@ -203,8 +204,23 @@ module _ {T S : Type 0} (facts : Facts T S) (step : Stepping T S) (tag : Tag) wh
   states-count [] = refl
   states-count (f ∷ fs) = ap (λ n. suc n) (states-count fs)
 
+-- a firing that a child doesn't finish is one that it is asked for
+within-limit : (c : Option ℕ) (m k : ℕ) → suc m ≤ within c k → suc m ≤ within c (suc m)
+within-limit None m k h = omega arith
+within-limit (Some c) m k h = omega arith
+
+module _ {T S : Type 0} (facts : Facts T S) (step : Stepping T S) (tag : Tag) where
+  asks-at : (ns : List ℕ) (cs : List Limit) (k : ℕ) (ss : List S) (X : Streams T) (d : S) (i : ℕ) (b : Begun T) → stuck_at facts step tag ns cs k ss X i ≡ Some b → AsksOn facts step tag i ns cs ss X (end_at facts step tag (flows facts step tag ns cs k ss X) d i) b.inputs
+  asks-at [] cs k ss X d i b e = absurd (cc)
+  asks-at (n ∷ ns) [] k ss X d i b e = absurd (cc)
+  asks-at (n ∷ ns) (c ∷ cs) k [] X d i b e = absurd (cc)
+  asks-at (n ∷ ns) (c ∷ cs) k (s ∷ ss) X d zero b e =
+      let r = stopping facts (rated facts c.rates step) tag (within c.firings k) s (take n X) b e in
+      record { made = r.made; left = r.left; fired = r.fired; state = r.state; takes = r.takes; allowed = within-limit c.firings r.made k r.before }
+  asks-at (n ∷ ns) (c ∷ cs) k (s ∷ ss) X d (suc i) b e = asks-at ns cs k ss (drop n X) d i b e
+
 -- a firing of rounds, explained
-module _ {T S : Type 0} (facts : Facts T S) (step : Stepping T S) (tag : Tag) (net : Net) (limits : List Limit) (enough : List (Flow T S) → Bool) (counts : List ℕ → List ℕ) (ks : List S) (X inputs : Streams T) (d : Core T) (core : Streams T → Core T) (any : S) (k : ℕ) where
+module _ {T S : Type 0} (facts : Facts T S) (step : Stepping T S) (tag : Tag) (net : Net) (limits : List Limit) (enough : List (Flow T S) → Bool) (counts : List ℕ → List ℕ) (ks : List S) (X inputs : Streams T) (d : Core T) (core : Streams T → Core T) (any : S) (k : ℕ) (ms : List Meeting) (made : ℕ) where
   abbrev start : Streams T
   start = arrived net.sources inputs X
 
@@ -221,6 +237,7 @@ module _ {T S : Type 0} (facts : Facts T S) (step : Stepping T S) (tag : Tag) (n
     pub source : (i q : ℕ) → channels.source_of d i q ≡ channels.source_in net i q
     pub at_tag : IsTagBelow (is_modal d) tag tag
     pub same : (Y : Streams T) → IsSamePlan (core Y) d
+    pub asks : (i : ℕ) (child : S) (got : Streams T) → AsksInRounds facts step tag net limits ks start i child got → IsAsked facts step ms made d ks tag inputs i child tag got
 
   module _ (reads : Reads) (a : length limits ≡ length net.places) (b : length ks ≡ length net.places) (w : total net.places ≤ length X) where
     wide : total net.places ≤ length end_round
@@ -282,7 +299,7 @@ module _ {T S : Type 0} (facts : Facts T S) (step : Stepping T S) (tag : Tag) (n
     if-well true e ms out = well (e refl) ms
     if-well false e ms out = tt
 
-    pub kahn-explained : Explained facts step tag inputs d core ks (kahn facts step tag net limits enough counts ks start k)
+    pub kahn-explained : Explained facts step ms made tag inputs d core ks (kahn facts step tag net limits enough counts ks start k)
     unfolding kahn
     kahn-explained = record {
       events = [];
@@ -297,5 +314,8 @@ module _ {T S : Type 0} (facts : Facts T S) (step : Stepping T S) (tag : Tag) (n
       beyond = λ i h. beyond-at facts step tag net.places limits k ks end_round i h;
       tagged = λ i w e. subst (λ v. IsTagBelow (is_modal d) tag v) (sym (stuck-tagged facts step tag net.places limits k ks end_round i w e)) reads.at_tag;
       counted = λ i q. inl (all-taken i q);
+      asked = λ i w e.
+          subst (λ v. IsAsked facts step ms made d ks tag inputs i (end_at facts step tag end_flows any i) v w.inputs) (sym (stuck-tagged facts step tag net.places limits k ks end_round i w e))
+          (reads.asks i (end_at facts step tag end_flows any i) w.inputs (k, asks-at facts step tag net.places limits k ks end_round any i w e));
       done = if-well (settled facts step tag net limits ks start k && enough end_flows) (λ e. and-left _ _ e) (counts (lengths (skip_places net.places end_round))) _;
     }

@@ -40,23 +40,23 @@ token-grows (suc r) y (xs ∷ X) zero = IsPrefix-refl xs
 token-grows (suc r) y (xs ∷ X) (suc q) = token-grows r y X q
 
 -- A scene explained: each process, and the meetings.
-pub record SceneIs {T S : Type 0} (facts : Facts T S) (step : Stepping T S) (tag : Tag) (ks : List S) (τ : ℕ → List (Turned T)) (sc : Scene T S) : Type 0 where
-  pub parties : (i : ℕ) (p : Party T S) → get sc.parties i ≡ Some p → PartyIs facts step tag ks (τ i) i p
+pub record SceneIs {T S : Type 0} (facts : Facts T S) (step : Stepping T S) (tag : Tag) (ks : List S) (Asks : ℕ → S → Streams T → Type 0) (τ : ℕ → List (Turned T)) (sc : Scene T S) : Type 0 where
+  pub parties : (i : ℕ) (p : Party T S) → get sc.parties i ≡ Some p → PartyIs facts step tag ks Asks (τ i) i p
   pub bare : IsBare sc.met
   pub quiet : firings_in sc.met ≡ 0
   pub count : length sc.parties ≡ length ks
   pub beyond : (i : ℕ) → length ks ≤ i → τ i ≡ []
 
-module _ {T S : Type 0} (facts : Facts T S) (step : Stepping T S) (tag : Tag) (net : Net) (ks : List S) (τ : ℕ → List (Turned T)) where
+module _ {T S : Type 0} (facts : Facts T S) (step : Stepping T S) (tag : Tag) (net : Net) (ks : List S) (Asks : ℕ → S → Streams T → Type 0) (τ : ℕ → List (Turned T)) where
   abbrev Holds : Scene T S → Type 0
-  Holds sc = SceneIs facts step tag ks τ sc
+  Holds sc = SceneIs facts step tag ks Asks τ sc
 
   abbrev Is : ℕ → Party T S → Type 0
-  Is i p = PartyIs facts step tag ks (τ i) i p
+  Is i p = PartyIs facts step tag ks Asks (τ i) i p
 
   -- a token is sent
   put-made : (i : ℕ) (p : Party T S) → Is i p → Is i (with_put_made p)
-  put-made i p h = record { start = h.start; at_start = h.at_start; way = h.way; whole = h.whole; well = h.well; begins = h.begins; tagged = h.tagged }
+  put-made i p h = record { start = h.start; at_start = h.at_start; way = h.way; whole = h.whole; well = h.well; begins = h.begins; tagged = h.tagged; asks = h.asks }
 
   sent-is : (s : Option Source) (sc : Scene T S) → Holds sc → Holds (sent s sc)
   sent-is None sc h = h
@@ -75,7 +75,7 @@ module _ {T S : Type 0} (facts : Facts T S) (step : Stepping T S) (tag : Tag) (n
 
   -- and received
   with-token-is : (i q : ℕ) (x : T) (p : Party T S) → Is i p → Is i (with_token q x p)
-  with-token-is i q x p h = record { start = h.start; at_start = h.at_start; way = h.way; whole = h.whole; well = h.well; begins = λ b e r. IsPrefix-trans _ _ _ (h.begins b e r) (token-grows q x p.got r); tagged = h.tagged }
+  with-token-is i q x p h = record { start = h.start; at_start = h.at_start; way = h.way; whole = h.whole; well = h.well; begins = λ b e r. IsPrefix-trans _ _ _ (h.begins b e r) (token-grows q x p.got r); tagged = h.tagged; asks = h.asks }
 
   received-is : (x : T) (t : Target) (sc : Scene T S) → Holds sc → Holds (received x t sc)
   received-is x (Outlet o) sc h = record { parties = h.parties; bare = h.bare; quiet = h.quiet; count = h.count; beyond = h.beyond }

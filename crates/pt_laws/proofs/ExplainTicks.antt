@@ -2,7 +2,7 @@
 use Rattle.std.proofs.Common.{◌≡◌, ◌⊎◌, ℕ, zero, suc, ◌+◌, ◌≤◌, List, [], ◌∷◌, Bool, true, false, ◌&&◌, length, take, drop, Option, Some, None, nat_lt, ◌++◌, if◌then◌else◌, inl, inr, refl, sym, ap, subst, arith, ◌∙◌}
 use Rattle.std.proofs.lemmas.Bool.Decides.{nat_tests}
 use Rattle.std.proofs.Math.Path.{fun_ext}
-use Rattle.pt_meaning.specs.Basics.{Tag, Streams, at, Log, Path, silent, log_below}
+use Rattle.pt_meaning.specs.Basics.{Tag, Streams, at, Log, Path, Meeting, silent, log_below}
 use Rattle.pt_meaning.specs.Machine.{Fault, Outcome, Done, Stuck, Stepping, Facts, Partial, Unknown, Known, partial_at}
 use Rattle.pt_meaning.specs.Rounds.{Source, Own, Output, Net}
 use Rattle.pt_meaning.specs.Dataflow.{if_settled}
@@ -13,6 +13,7 @@ use Rattle.pt_meaning.specs.Rendezvous.{with_meetings}
 use Rattle.pt_meaning.specs.Node.{Core}
 use Rattle.pt_laws.specs.LogsOfRuns.{log_at, log_in}
 use Rattle.pt_meaning.specs.Streams.{IsPrefix}
+use Rattle.pt_meaning.specs.Asked.{known_places, AsksInTick, IsAsked}
 use Rattle.pt_laws.specs.Channels as channels
 use Rattle.pt_meaning.specs.Closed.{Begun, if_there, inputs_at, outputs_at, begun_at, is_modal, keeps_tokens, IsTagBelow}
 use Rattle.pt_laws.specs.Channels.{further, channel_at}
@@ -194,6 +195,34 @@ module _ {T S : Type 0} (facts : Facts T S) (step : Stepping T S) (early : Earli
       go (Some X) h = active_go X (active tag s X) h
   begun-tagged-in (n ∷ ns) (s ∷ ss) V (suc i) b h = begun-tagged-in ns ss (drop n V) i b h
 
+  -- a child that begins a firing which it doesn't finish: its inputs are known, and it is active
+  pub record Begins (any : S) (ns : List ℕ) (ss : List S) (V : List (Partial T)) (i : ℕ) (b : Begun T) : Type 0 where
+    pub first : S
+    pub lists : Streams T
+    pub inputs_known : known (known_places ns i V) ≡ Some lists
+    pub there : get ss i ≡ Some first
+    pub is_active : active tag first lists ≡ true
+    pub begun : turning.way first lists ≡ Some b
+    pub end : end_in any ns ss V i ≡ turning.end first lists
+
+  begins-in : (any : S) (ns : List ℕ) (ss : List S) (V : List (Partial T)) (i : ℕ) (b : Begun T) → way_in ns ss V i ≡ Some b → Begins any ns ss V i b
+  begins-in any [] ss V i b h = absurd (cc)
+  begins-in any (n ∷ ns) [] V i b h = absurd (cc)
+  begins-in any (n ∷ ns) (s ∷ ss) V zero b h = go (known (take n V)) refl h
+    where
+      clash : None ≡ Some b → ⊥
+      clash e = cc
+
+      active_go : (X : Streams T) → known (take n V) ≡ Some X → (c : Bool) → active tag s X ≡ c → way_if s X c ≡ Some b → Begins any (n ∷ ns) (s ∷ ss) V zero b
+      active_go X k true a h = record { first = s; lists = X; inputs_known = k; there = refl; is_active = a; begun = h; end = ap (λ o. end_known s o) k ∙ ap (λ c. end_if s X c) a }
+      active_go X k false a h = absurd (clash h)
+
+      go : (o : Option (Streams T)) → known (take n V) ≡ o → way_known s o ≡ Some b → Begins any (n ∷ ns) (s ∷ ss) V zero b
+      go None k h = absurd (clash h)
+      go (Some X) k h = active_go X k (active tag s X) refl h
+  begins-in any (n ∷ ns) (s ∷ ss) V (suc i) b h =
+      let r = begins-in any ns ss (drop n V) i b h in record { first = r.first; lists = r.lists; inputs_known = r.inputs_known; there = r.there; is_active = r.is_active; begun = r.begun; end = r.end }
+
   -- as often as it takes them
   known-takes : (s : S) (vs : List (Partial T)) (q : ℕ) → IsOf (of_turns (inputs_at q) (turns_known s (known vs)) ++ begun_at (way_known s (known vs)) q) (partial_at vs q)
   known-takes s vs q = go (known vs) refl
@@ -301,7 +330,8 @@ module _ {T S : Type 0} (facts : Facts T S) (step : Stepping T S) (early : Earli
   turns_val j i = turns_in facts step early active turn tag turning net.places ks (valuation early active turn tag net ks inputs j) i
 
   -- a tick over this director's core
-  module _ (d : Core T) (core : Streams T → Core T) (core_wired : (Y : Streams T) → IsWired (core Y)) (source : (i q : ℕ) → channels.source_of d i q ≡ channels.source_in net i q) (place : (i q : ℕ) → on_place d i q ≡ []) (at_tag : IsTagBelow (is_modal d) tag tag) (none_kept : keeps_tokens d ≡ false) (same : (Y : Streams T) → IsSamePlan (core Y) d) (a : length ks ≡ length net.places) where
+  module _ (d : Core T) (core : Streams T → Core T) (core_wired : (Y : Streams T) → IsWired (core Y)) (source : (i q : ℕ) → channels.source_of d i q ≡ channels.source_in net i q) (place : (i q : ℕ) → on_place d i q ≡ []) (at_tag : IsTagBelow (is_modal d) tag tag) (none_kept : keeps_tokens d ≡ false) (same : (Y : Streams T) → IsSamePlan (core Y) d) (a : length ks ≡ length net.places) (ms : List Meeting) (made : ℕ)
+      (asks : (i : ℕ) (first : S) (lists : Streams T) (b : Begun T) → AsksInTick early active turn tag net ks inputs i first lists → active tag first lists ≡ true → turning.way first lists ≡ Some b → IsAsked facts step ms made d ks tag inputs i (turning.end first lists) b.tag b.inputs) where
     -- what may be known of each place
     value-at : (rs : List (Reaction T S)) (cs : List Source) (c : ℕ) → (get cs c ≡ None) × (partial_at (valued rs inputs cs) c ≡ Unknown) ⊎ ((s : Source) × (get cs c ≡ Some s) × (partial_at (valued rs inputs cs) c ≡ value_of rs inputs s))
     value-at rs [] c = inl (refl, refl)
@@ -431,7 +461,7 @@ module _ {T S : Type 0} (facts : Facts T S) (step : Stepping T S) (early : Earli
         clash : false ≡ true → ⊥
         clash g = cc
 
-    pub tick-explained : Explained facts step tag inputs d core ks (tick early active turn tag net blame ks inputs k)
+    pub tick-explained : Explained facts step ms made tag inputs d core ks (tick early active turn tag net blame ks inputs k)
     unfolding tick val
     tick-explained = record {
       events = [];
@@ -446,5 +476,8 @@ module _ {T S : Type 0} (facts : Facts T S) (step : Stepping T S) (early : Earli
       beyond = λ i h. beyond-in facts step early active turn tag turning net.places ks now i h;
       tagged = λ i w e. subst (λ v. IsTagBelow (is_modal d) tag v) (sym (begun-tagged-in facts step early active turn tag turning net.places ks now i w e)) at_tag;
       counted = all-taken;
+      asked = λ i b e.
+          let r = begins-in facts step early active turn tag turning any net.places ks now i b e in
+          subst (λ z. IsAsked facts step ms made d ks tag inputs i z b.tag b.inputs) (sym r.end) (asks i r.first r.lists b (record { round = k; inputs_known = r.inputs_known; state = r.there }) r.is_active r.begun);
       done = if-well (is_least early active turn tag net ks inputs k && all_fired now_reactions) (λ e. and-right _ _ e) (λ e. and-left _ _ e) _ _;
     }

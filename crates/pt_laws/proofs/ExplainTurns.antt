@@ -1,9 +1,10 @@
 -- The turns of children under SR and DE explained.
-use Rattle.std.proofs.Common.{◌≡◌, ℕ, zero, suc, max, List, [], ◌∷◌, ◌++◌, Bool, true, false, Option, Some, None, if◌then◌else◌, refl, sym, ap, subst, ◌∙◌, append_assoc, append-nil}
+use Rattle.std.proofs.Common.{◌≡◌, ℕ, zero, suc, max, List, [], ◌∷◌, ◌++◌, Bool, true, false, Option, Some, None, if◌then◌else◌, inl, inr, refl, sym, ap, subst, ◌∙◌, append_assoc, append-nil}
 use Rattle.std.proofs.Math.Path.{fun_ext}
 use Rattle.pt_meaning.specs.Basics.{Tag, Streams, at, joined, Log, silent, log_then, own}
 use Rattle.pt_meaning.specs.Machine.{Fault, Outcome, Done, Stuck, Stepping, Facts, recorded}
 use Rattle.pt_meaning.specs.Tick.{all_single, single_outcome, if_single, sr_turn, heads, tails, rows_from, rows_of, longest, follows, and_then, by_rows, whole_or_rows, de_turn}
+use Rattle.pt_meaning.specs.Asked.{IsTurnAt}
 use Rattle.pt_laws.specs.LogsOfRuns.{log_in}
 use Rattle.pt_meaning.specs.Streams.{IsPrefix}
 use Rattle.pt_meaning.specs.Closed.{Begun, inputs_at, outputs_at, begun_at}
@@ -114,6 +115,28 @@ module _ {T S : Type 0} (facts : Facts T S) (step : Stepping T S) (tag : Tag) wh
 
   pub sr-turning : Turning facts step (sr_turn facts step) tag
   sr-turning = record { turns = λ s X. sr_turns s X (step tag s X); way = λ s X. sr_way X (step tag s X); end = λ s X. sr_end s (step tag s X); is = λ s X. sr-is s X (step tag s X) refl; counts = λ s X. sr-counts s X (step tag s X) }
+
+  -- the firing that isn't finished is on all inputs
+  pub sr-begun : (s : S) (X : Streams T) (b : Begun T) → sr-turning.way s X ≡ Some b → (b.inputs ≡ X) × (sr-turning.end s X ≡ s)
+  unfolding sr-turning
+  sr-begun s X b e = go (step tag s X) e
+    where
+      some-inputs : Some (record { tag = tag; inputs = X }) ≡ Some b → b.inputs ≡ X
+      some-inputs g = ap (λ (v : Begun T). v.inputs) (sym (same g))
+        where
+          same : Some (record { tag = tag; inputs = X }) ≡ Some b → record { tag = tag; inputs = X } ≡ b
+          same g = cc
+
+      none-begun : None ≡ Some b → ⊥
+      none-begun g = cc
+
+      single : (c : Bool) (z : S) → (if c then None else Some (record { tag = tag; inputs = X })) ≡ Some b → (b.inputs ≡ X) × ((if c then z else s) ≡ s)
+      single true z g = absurd (none-begun g)
+      single false z g = (some-inputs g, refl)
+
+      go : (o : Outcome T S) → sr_way X o ≡ Some b → (b.inputs ≡ X) × (sr_end s o ≡ s)
+      go (Done z out l) g = single (all_single out) z g
+      go (Stuck fs l) g = (some-inputs g, refl)
 
   -- DE: the whole lists at once
   abbrev pub whole_turns : S → Streams T → Outcome T S → List (Turned T)
@@ -257,3 +280,43 @@ module _ {T S : Type 0} (facts : Facts T S) (step : Stepping T S) (tag : Tag) wh
       go : (s : S) (X : Streams T) (b : Bool) → TurnIs facts step tag s X (whole_or_rows b facts step tag s X) (de_turns s X b) (de_way s X b) (de_end s X b)
       go s X true = whole-is s X (step tag s X) refl
       go s X false = rows-is (rows_of X) X s
+
+  -- the firing that isn't finished is on the whole lists, or on a row behind those that are
+  rows-begun : (Xs : List (Streams T)) (s : S) (b : Begun T) → rows_way Xs s ≡ Some b → (before behind : List (Streams T)) × (out : Streams T) × (l : Log T) × (Xs ≡ before ++ (b.inputs ∷ behind)) × (by_rows facts step tag before s ≡ Done (rows_end Xs s) out l)
+  rows-begun [] s b e = absurd (clash e)
+    where
+      clash : None ≡ Some b → ⊥
+      clash e = cc
+  rows-begun (X ∷ Xs) s b e = go (step tag s X) refl e (λ z. rows-begun Xs z b)
+    where
+      some-inputs : Some (record { tag = tag; inputs = X }) ≡ Some b → X ≡ b.inputs
+      some-inputs g = ap (λ (v : Begun T). v.inputs) (same g)
+        where
+          same : Some (record { tag = tag; inputs = X }) ≡ Some b → record { tag = tag; inputs = X } ≡ b
+          same g = cc
+
+      go : (o : Outcome T S) → step tag s X ≡ o → way_then (rows_way Xs) X o ≡ Some b → ((z : S) → rows_way Xs z ≡ Some b → (before behind : List (Streams T)) × (out : Streams T) × (l : Log T) × (Xs ≡ before ++ (b.inputs ∷ behind)) × (by_rows facts step tag before z ≡ Done (rows_end Xs z) out l)) →
+          (before behind : List (Streams T)) × (out : Streams T) × (l : Log T) × (X ∷ Xs ≡ before ++ (b.inputs ∷ behind)) × (by_rows facts step tag before s ≡ Done (end_then (rows_end Xs) s o) out l)
+      go (Stuck fs l) d g ih = ([], Xs, [], silent, ap (λ (v : Streams T). v ∷ Xs) (some-inputs g), refl)
+      go (Done z out l) d g ih =
+          let r = ih z g in
+          let L : Log T = log_then l (own (turn_of s X out l).record_of) in
+          (X ∷ r.0, r.1, joined out r.2, log_then L r.3, ap (λ v. X ∷ v) r.4, ap (λ o. and_then (by_rows facts step tag r.0) (recorded (facts.made s) tag X o)) d ∙ ap (λ o. follows out L o) r.5)
+
+  pub de-begun : (s : S) (X : Streams T) (b : Begun T) → de-turning.way s X ≡ Some b → IsTurnAt facts step tag s X (de-turning.end s X) b.inputs
+  unfolding de-turning
+  de-begun s X b e = go (facts.whole s) refl e
+    where
+      whole_by : (o : Outcome T S) → whole_way X o ≡ Some b → (whole_end s o ≡ s) × (b.inputs ≡ X)
+      whole_by (Done z out l) g = absurd (clash g)
+        where
+          clash : None ≡ Some b → ⊥
+          clash g = cc
+      whole_by (Stuck fs l) g = (refl, ap (λ (v : Begun T). v.inputs) (sym (same g)))
+        where
+          same : Some (record { tag = tag; inputs = X }) ≡ Some b → record { tag = tag; inputs = X } ≡ b
+          same g = cc
+
+      go : (w : Bool) → facts.whole s ≡ w → de_way s X w ≡ Some b → IsTurnAt facts step tag s X (de_end s X w) b.inputs
+      go true e g = let r = whole_by (step tag s X) g in inl (e, r.0, r.1)
+      go false e g = let r = rows-begun (rows_of X) s b g in inr (e, r.0, r.1, r.2, r.3, r.4, r.5)

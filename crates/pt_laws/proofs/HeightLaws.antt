@@ -7,14 +7,14 @@ use Rattle.pt_meaning.specs.Flow.{Flow}
 use Rattle.pt_meaning.specs.Rounds.{Net, Limit, Source, Own, Output, flows, round}
 use Rattle.pt_meaning.specs.Dataflow.{Inside, states_of, kahn, if_settled, sdf_limits, pn_limits}
 use Rattle.pt_meaning.specs.Tick.{Activity, Earliness, reactions, reaction_states, tick}
-use Rattle.pt_meaning.specs.Modal.{unfired_outputs, Chart, Modes, Choice, Nothing, One, Wrong, Acted, Acts, Fails, taken, afterwards, on_refinement, at_refinement, with_refinement, preempted, change_at, change_if, get}
+use Rattle.pt_meaning.specs.Modal.{unfired_outputs, Chart, Modes, Choice, Nothing, One, Wrong, Acted, Acts, Fails, taken, afterwards, on_refinement, at_refinement, with_refinement, preempted, change_at, change_if, left_at, entered_at, fresh_unless, get}
 use Rattle.pt_meaning.specs.Process.{Put, Party, all_advanced, all_got, all_puts, party_states, with_put_made, with_token}
 use Rattle.pt_meaning.specs.Meetings.{Meets, Scene, offers, Target, Place, Outlet, Hop, hops_in, sent, received, passed, meet, below_child}
 use Rattle.pt_meaning.specs.Rendezvous as rendezvous
 use Rattle.pt_meaning.specs.Rendezvous.{RvPlan, Places, ended, if_ended, if_meets, under_meetings, left_in, seated, rv}
 use Rattle.pt_meaning.specs.Children.{Child, numbered, nodes, child_facts, with_number, child_step}
 use Rattle.pt_meaning.specs.Node.{Rows, Core, Sdf, Pn, Sr, De, Rv, Modal, Past, Answer, Gives, Fails, Node, Nodes, Actor, Composite, none, more, list_of, nodes_of, facts_of, as_node, director, step_at, actor_outcome, made_of, height, heights, reset_of, reset_all}
-use Rattle.pt_laws.specs.Heights.{HasEntries, IsFitting, AllFitting, KeepsHeight, FiringKeepsHeight, StepKeepsHeight, ResetKeepsHeight, LevelsAgree, StepIsAtAnyLevel}
+use Rattle.pt_laws.specs.Heights.{FitsRefinements, HasEntries, IsFitting, AllFitting, KeepsHeight, FiringKeepsHeight, StepKeepsHeight, ResetKeepsHeight, LevelsAgree, StepIsAtAnyLevel}
 use Rattle.pt_laws.proofs.AlikeLaws.{Alike, AllFrom, KidsFrom, kahn-alike, kahn-from, tick-alike, tick-from, sr-alike, de-alike, modal-alike, modal-from, under-alike, under-from, seated-from}
 
 -- the director of a composite, where the steps of its children agree on all that they come to
@@ -68,29 +68,43 @@ module _ {T S : Type 0} (facts : Facts T S) (step : Stepping T S) (tag : Tag) (n
   if-changed-count None f xs = refl
   if-changed-count (Some i) f xs = change-count i f xs
 
-  module _ (chart : Chart T) (made : ℕ) (m : Modes T) where
-    taken-count : (early : Bool) (t : ℕ) (kids : List S) (l : Log T) (a : Acted T) → length kids ≡ n → KidsCount n (taken chart facts step made tag early t m kids l a)
-    taken-count early t kids l (Acts out values) e = if-changed-count _ _ kids ∙ e
+  -- a Modal: the times of its refinements stay as many
+  StaysCount : Outcome T (Inside (Modes T) S) → Type 0
+  StaysCount (Done x out l) = (length x.kids ≡ n) × (length x.held.stays ≡ n)
+  StaysCount (Stuck fs l) = Unit {0}
+
+  module _ (chart : Chart T) (made : ℕ) (m : Modes T) (stays : length m.stays ≡ n) where
+    taken-count : (early : Bool) (t : ℕ) (kids : List S) (l : Log T) (a : Acted T) → length kids ≡ n → StaysCount (taken chart facts step made tag early t m kids l a)
+    unfolding StaysCount
+    taken-count early t kids l (Acts out values) e =
+        let to = chart.refinement (chart.target early m.mode t) in
+        let left = change_if (chart.refinement m.mode) (left_at tag.time) m.stays in
+        let fresh = change_if to (fresh_unless (chart.keeps_history early m.mode t)) left in
+        (if-changed-count _ _ kids ∙ e, if-changed-count to (entered_at tag.time) fresh ∙ if-changed-count to (fresh_unless (chart.keeps_history early m.mode t)) left ∙ if-changed-count (chart.refinement m.mode) (left_at tag.time) m.stays ∙ stays)
     taken-count early t kids l (Fails code) e = tt
 
-    after-count : (kids : List S) (inputs out : Streams T) (l : Log T) (c : Choice) → length kids ≡ n → KidsCount n (afterwards chart facts step made tag m kids inputs out l c)
-    after-count kids inputs out l Nothing e = e
+    after-count : (kids : List S) (inputs out : Streams T) (l : Log T) (c : Choice) → length kids ≡ n → StaysCount (afterwards chart facts step made tag m kids inputs out l c)
+    unfolding StaysCount
+    after-count kids inputs out l Nothing e = (e, stays)
     after-count kids inputs out l (One t) e = taken-count false t kids l _ e
     after-count kids inputs out l (Wrong code) e = tt
 
-    refined-count : (i : ℕ) (kids : List S) (inputs : Streams T) (r : Outcome T S) → length kids ≡ n → KidsCount n (on_refinement chart facts step made tag i m kids inputs r)
+    refined-count : (i : ℕ) (kids : List S) (inputs : Streams T) (r : Outcome T S) → length kids ≡ n → StaysCount (on_refinement chart facts step made tag i m kids inputs r)
+    unfolding StaysCount
     refined-count i kids inputs (Stuck fs l) e = tt
     refined-count i kids inputs (Done s out l) e = after-count _ inputs _ _ _ (change-count i _ kids ∙ e)
 
-    at-count : (kids : List S) (inputs : Streams T) (i : ℕ) (o : Option S) → length kids ≡ n → KidsCount n (at_refinement chart facts step made tag m kids inputs i o)
+    at-count : (kids : List S) (inputs : Streams T) (i : ℕ) (o : Option S) → length kids ≡ n → StaysCount (at_refinement chart facts step made tag m kids inputs i o)
+    unfolding StaysCount
     at-count kids inputs i None e = tt
     at-count kids inputs i (Some s) e = refined-count i kids inputs _ e
 
-    with-count : (kids : List S) (inputs : Streams T) (o : Option ℕ) → length kids ≡ n → KidsCount n (with_refinement chart facts step made tag m kids inputs o)
+    with-count : (kids : List S) (inputs : Streams T) (o : Option ℕ) → length kids ≡ n → StaysCount (with_refinement chart facts step made tag m kids inputs o)
     with-count kids inputs None e = after-count kids inputs (unfired_outputs chart) _ _ e
     with-count kids inputs (Some i) e = at-count kids inputs i (get kids i) e
 
-    cases-count : (kids : List S) (inputs : Streams T) (c : Choice) → length kids ≡ n → KidsCount n (preempted chart facts step made tag m kids inputs c)
+    cases-count : (kids : List S) (inputs : Streams T) (c : Choice) → length kids ≡ n → StaysCount (preempted chart facts step made tag m kids inputs c)
+    unfolding StaysCount
     cases-count kids inputs Nothing e = with-count kids inputs (chart.refinement m.mode) e
     cases-count kids inputs (One t) e = taken-count true t kids _ _ e
     cases-count kids inputs (Wrong code) e = tt
@@ -257,6 +271,11 @@ unfolding EntriesOf
 plain-entries n core (Done x out l) e g = (e, g x.held)
 plain-entries n core (Stuck fs l) e g = tt
 
+stays-entries : {T A : Type 0} (facts : Facts T (Child (Node T A))) (step : Stepping T (Child (Node T A))) (tag : Tag) (n : ℕ) (chart : Chart T) (r : Outcome T (Inside (Modes T) (Child (Node T A)))) → StaysCount facts step tag n r → FitsRefinements n chart → EntriesOf n (Modal chart) r
+unfolding EntriesOf StaysCount
+stays-entries facts step tag n chart (Done x out l) e g = (e.0, (e.1, g))
+stays-entries facts step tag n chart (Stuck fs l) e g = tt
+
 places-entries : {T A : Type 0} (facts : Facts T (Child (Node T A))) (step : Stepping T (Child (Node T A))) (tag : Tag) (n : ℕ) (p : RvPlan) (r : Outcome T (Inside (Places T) (Child (Node T A)))) → PlacesCount facts step tag n r → length p.barriers ≡ n → EntriesOf n (Rv p) r
 unfolding EntriesOf PlacesCount
 places-entries facts step tag n p (Done x out l) e g = (e.0, (g, e.1, e.2))
@@ -297,7 +316,7 @@ module _ {T A : Type 0} (facts : Facts T (Child (Node T A))) (step : Stepping T 
       (λ e. places-entries facts step tag _ p _ (under-count facts step tag _ p.net k h.made ms _ (seated-count facts step tag 0 _ p.barriers X.got X.puts its e.0 e.1 e.2 count)) e.0)
   director-keeps (Modal chart m) =
       as-node-keeps tag h c (Modal chart m) (Modal chart) kids _ (modal-from facts step step Keeps alike chart h.made tag m its its (all-keep its) inputs)
-      (λ e. plain-entries _ (Modal chart) _ (cases-count facts step tag _ chart h.made m its inputs _ count) (λ X. tt))
+      (λ e. stays-entries facts step tag _ chart _ (cases-count facts step tag _ chart h.made m e.0 its inputs _ count) e.1)
 
 -- any node, at any number of levels
 as-kept : {T A : Type 0} (node next : Node T A) (r : Outcome T (Node T A)) (out : Streams T) (l : Log T) → NodeKeeps node r → r ≡ Done next out l → KeepsHeight node next

@@ -1,7 +1,7 @@
 -- A firing at any fuel logs later than what was before.
 use Rattle.std.proofs.Common.{◌≡◌, ◌⊎◌, ℕ, zero, suc, ◌+◌, ◌≤◌, List, [], ◌∷◌, ◌++◌, Bool, ◌||◌, length, Option, Some, None, inl, inr, refl, sym, ap, subst, arith, ◌∙◌, append-nil}
 use Rattle.std.proofs.Math.Path.{fun_ext}
-use Rattle.pt_meaning.specs.Basics.{Tag, Streams, Log, Path, Firing, Event, firings_in, silent, log_then, own, log_below, within_firing}
+use Rattle.pt_meaning.specs.Basics.{Tag, Streams, Log, Path, Firing, Event, firings_in, silent, log_then, own, log_below, within_firing, Meeting}
 use Rattle.pt_meaning.specs.Machine.{Outcome, Done, Stepping}
 use Rattle.pt_meaning.specs.Dataflow.{Inside}
 use Rattle.pt_meaning.specs.Modal.{get}
@@ -76,9 +76,9 @@ module _ {T A : Type 0} (rows : Rows T A) (steps : ℕ → Stepping T (Node T A)
         subst (λ v. ComesLater l v) (log-assoc A h.1 rest ∙ ap (λ v. log_then v rest) (sym h.5)) (later-joins l A (log_then h.1 rest) now next)
 
 -- the firing of a composite, explained
-module _ {T A H : Type 0} (rows : Rows T A) (steps : ℕ → Stepping T (Node T A)) (sound : (i : ℕ) → SoundStep rows (steps i)) (later : (i : ℕ) → LaterStep rows (steps i)) (tag : Tag) (u : Bool) (h₀ : Past) (c₀ d₀ : Core T) (kids₀ : Nodes T A) (h : Past) (c d : Core T) (kids : Nodes T A) (l : Log T)
+module _ {T A H : Type 0} {ms : List Meeting} (rows : Rows T A) (steps : ℕ → Stepping T (Node T A)) (sound : (i : ℕ) → SoundStep rows (steps i)) (later : (i : ℕ) → LaterStep rows (steps i)) (tag : Tag) (u : Bool) (h₀ : Past) (c₀ d₀ : Core T) (kids₀ : Nodes T A) (h : Past) (c d : Core T) (kids : Nodes T A) (l : Log T)
     (closed : ClosedIn rows u (Composite h₀ c₀ d₀ kids₀) l idle) (kept : KeptIn rows u (Composite h₀ c₀ d₀ kids₀) (Composite h c d kids) l) (fits : IsFitting (Composite h c d kids)) (inputs : Streams T) (core : H → Core T) (r : Outcome T (Inside H (Child (Node T A))))
-    (x : Explained (child_facts (facts_of rows)) (child_step steps) tag inputs d core (numbered 0 (list_of kids)) r) where
+    (x : Explained (child_facts (facts_of rows)) (child_step steps) ms h.made tag inputs d core (numbered 0 (list_of kids)) r) where
   abbrev v : Bool
   v = u || is_modal c₀
 

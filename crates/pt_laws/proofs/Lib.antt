@@ -6,6 +6,7 @@ pub mod TickLaws
 pub mod RunLaws
 pub mod Indexed
 pub mod StuckLaws
+pub mod AskedLaws
 pub mod LeastLaws
 pub mod ModalLaw
 pub mod PartyLaws

@@ -59,7 +59,7 @@ one-outcome = record {
 
 pub reports-agree : {T A : Type 0} → ReportsAgree T A
 reports-agree = record {
-  no_fault = λ rows law m plan top e recorded budget maximum traces f a r. no-place rows law m plan top e f a r.caused;
-  its_end = λ rows law m plan top e e' recorded budget maximum traces a r. one-end rows law m plan top e e' a r.caused.1;
-  never_told = λ rows m plan top recorded budget maximum traces f none r. none f r.caused;
+  no_fault = λ rows law m plan top e recorded budget maximum counts traces f a r. no-place rows law m plan top e f a r.caused.0;
+  its_end = λ rows law m plan top e e' recorded budget maximum counts traces a r. one-end rows law m plan top e e' a r.caused.1;
+  never_told = λ rows m plan top recorded budget maximum counts traces f none r. none f r.caused.0;
 }

@@ -1,7 +1,7 @@
 -- A composite whose director's firing is explained keeps logs closed, where the steps of its children do.
 use Rattle.std.proofs.Common.{◌≡◌, ◌⊎◌, ℕ, zero, suc, ◌+◌, ◌<◌, ◌≤◌, List, [], ◌∷◌, ◌++◌, Bool, true, false, ◌||◌, nat_le, length, Option, Some, None, inl, inr, refl, sym, ap, ap₂, subst, arith, ◌∙◌, append-nil, append_assoc}
 use Rattle.std.proofs.Math.Path.{fun_ext}
-use Rattle.pt_meaning.specs.Basics.{Tag, Streams, at, Log, Path, Firing, Event, Finished, firings_in, log_then, own, log_below, within_firing, all_marked}
+use Rattle.pt_meaning.specs.Basics.{Tag, Streams, at, Log, Path, Firing, Event, Finished, Meeting, firings_in, log_then, own, log_below, within_firing, all_marked}
 use Rattle.pt_meaning.specs.Streams.{IsPrefix}
 use Rattle.pt_meaning.specs.Machine.{Outcome, Done, Stepping, Partial, Known, partial_at}
 use Rattle.pt_meaning.specs.Rounds.{Source, Own, Output}
@@ -20,10 +20,10 @@ use Rattle.pt_laws.specs.Explained.{of_turns, takes_in, gives_in, MaySay, Nothin
 use Rattle.pt_laws.proofs.CompositeLaws.{log-as-node}
 use Rattle.pt_laws.proofs.FiringLaws.{DoneWithin, done-within}
 use Rattle.pt_laws.proofs.HeightLaws.{numbered-length}
-use Rattle.pt_laws.proofs.ClosedLaws.{unmarked-none, split-unmarked, state-unmarked, child-closed, child-or-beyond}
+use Rattle.pt_laws.proofs.ClosedLaws.{count-unmarked, unmarked-none, split-unmarked, state-unmarked, child-closed, child-or-beyond}
 use Rattle.pt_laws.proofs.RecordLaws.{le-true, all-quiet}
 use Rattle.pt_laws.proofs.ChannelLaws.{SamePlace, same-place}
-use Rattle.pt_laws.proofs.LevelLaws.{count-append, added, given-up, own-up, given-none, level-under-way, level-done, node-kept}
+use Rattle.pt_laws.proofs.LevelLaws.{count-append, unmarked-marked, added, given-up, own-up, given-none, level-under-way, level-done, node-kept}
 use Rattle.pt_laws.proofs.ChainLaws.{numbered-get, nodes-get, nodes-long, kept-child, fitting-child, reset-kept, no-finished, ChildAfter, part-sound}
 
 child-within : {T A : Type 0} (ks : Nodes T A) (i : ℕ) (k : Node T A) → child_of ks i ≡ Some k → i < length (list_of ks)
@@ -47,9 +47,9 @@ within-added {T} n es ls = fun_ext one
     one (i ∷ p) = refl
 
 -- the firing of a composite, explained
-module _ {T A H : Type 0} (rows : Rows T A) (steps : ℕ → Stepping T (Node T A)) (sound : (i : ℕ) → SoundStep rows (steps i)) (tag : Tag) (u : Bool) (h₀ : Past) (c₀ d₀ : Core T) (kids₀ : Nodes T A) (h : Past) (c d : Core T) (kids : Nodes T A) (l : Log T)
+module _ {T A H : Type 0} {ms : List Meeting} (rows : Rows T A) (steps : ℕ → Stepping T (Node T A)) (sound : (i : ℕ) → SoundStep rows (steps i)) (tag : Tag) (u : Bool) (h₀ : Past) (c₀ d₀ : Core T) (kids₀ : Nodes T A) (h : Past) (c d : Core T) (kids : Nodes T A) (l : Log T)
     (closed : ClosedIn rows u (Composite h₀ c₀ d₀ kids₀) l idle) (kept : KeptIn rows u (Composite h₀ c₀ d₀ kids₀) (Composite h c d kids) l) (fits : IsFitting (Composite h c d kids)) (inputs : Streams T) (core : H → Core T) (r : Outcome T (Inside H (Child (Node T A))))
-    (x : Explained (child_facts (facts_of rows)) (child_step steps) tag inputs d core (numbered 0 (list_of kids)) r) where
+    (x : Explained (child_facts (facts_of rows)) (child_step steps) ms h.made tag inputs d core (numbered 0 (list_of kids)) r) where
   new : Log T
   new = log_below x.logs
 
@@ -253,6 +253,57 @@ module _ {T A H : Type 0} (rows : Rows T A) (steps : ℕ → Stepping T (Node T 
   pub composite-way : all-ways [] ≡ Some (record { tag = tag; inputs = inputs })
   unfolding all-ways
   composite-way = refl
+
+  -- What is under way in a child is one firing for which the child was asked, or is within one. So it holds where it holds of what the child's step says.
+  module _ (Holds : (child : ℕ) → Path → (count : Path → ℕ) → Node T A → Tag → Streams T → Begun T → Type 0)
+      (comes : (i : ℕ) (u : Bool) (n₀ n : Node T A) (l : Log T) (f : IsFitting n) (c : ClosedIn rows u n₀ l idle) (k : KeptIn rows u n₀ n l) (t : Tag) (X : Streams T) (p : Path) (b : Begun T) → ((sound i).under_way u n₀ n l f c k t X).0 p ≡ Some b → Holds i p (λ q. firings_in (log_then l (log_in (steps i t n X)) q)) n t X b) where
+    abbrev here : Log T
+    here = log_in (as_node tag h c core r)
+
+    -- the firings finished within a child, as the composite's log tells them
+    abbrev by_child : ℕ → Path → ℕ
+    by_child i = λ q. firings_in (log_then (log_in_child i l) (log_at x.logs i) q)
+
+    abbrev by_all : ℕ → Path → ℕ
+    by_all i = λ q. firings_in (log_then l here (i ∷ q))
+
+    child-counts : (i : ℕ) → by_child i ≡ by_all i
+    child-counts i = fun_ext (λ q. one q)
+      where
+        one : (q : Path) → firings_in (log_in_child i l q ++ log_at x.logs i q) ≡ firings_in (l (i ∷ q) ++ here (i ∷ q))
+        one q =
+            let is : here (i ∷ q) ≡ all_marked h.made (log_below x.logs (i ∷ q)) = ap (λ (w : Log T). w (i ∷ q)) (log-as-node tag h c core r ∙ ap (λ w. within_firing h.made w) x.log) in
+            let a = count-append (log_in_child i l q) (log_at x.logs i q) in
+            let b = count-append (l (i ∷ q)) (here (i ∷ q)) in
+            let old = count-unmarked (l (i ∷ q)) in
+            let new : firings_in (here (i ∷ q)) ≡ firings_in (log_at x.logs i q) = ap (λ es. firings_in es) is ∙ sym (count-unmarked (all_marked h.made (log_below x.logs (i ∷ q)))) ∙ ap (λ es. firings_in es) (unmarked-marked h.made (log_below x.logs (i ∷ q)) ∙ ap (λ (w : Log T). w q) (below-log x.logs i)) in
+            a ∙ ap₂ (λ v w. v + w) old (sym new) ∙ sym b
+
+    abbrev InChild : (i : ℕ) → Path → Begun T → Type 0
+    InChild i p b = (begun : Begun T) × (x.way i ≡ Some begun) × Holds i p (λ q. firings_in (log_then l here (i ∷ q))) (x.ends i).node begun.tag begun.inputs b
+
+    pub composite-comes : (i : ℕ) (p : Path) (b : Begun T) → all-ways (i ∷ p) ≡ Some b → (begun : Begun T) × (x.way i ≡ Some begun) × Holds i p (λ q. firings_in (log_then l here (i ∷ q))) (x.ends i).node begun.tag begun.inputs b
+    unfolding all-ways Child₀ ways-at
+    composite-comes i p b e = go (in-children i) e
+      where
+        clash : (o : Option (Begun T)) → o ≡ None → o ≡ Some b → ⊥
+        clash o f g = no (sym f ∙ g)
+          where
+            no : None ≡ Some b → ⊥
+            no e = cc
+
+        by_way : (k₀ : Node T A) (f : child_of kids₀ i ≡ Some k₀) → (after i k₀ f).way p ≡ Some b → (o : Option (Begun T)) → x.way i ≡ o → InChild i p b
+        by_way k₀ f e None g = absurd (clash ((after i k₀ f).way p) (ap (λ (w : UnderWay T). w p) ((after i k₀ f).idle_if g)) e)
+        by_way k₀ f e (Some begun) g =
+            let s = (after i k₀ f).of_step begun g in
+            let told = comes (x.ends i).number v k₀ (x.ends i).node s.before s.fits s.closed s.kept begun.tag begun.inputs p b (sym (ap (λ (w : UnderWay T). w p) s.is_way) ∙ e) in
+            let numbered_so = subst (λ n. Holds n p (λ q. firings_in (log_then s.before (log_in (steps (x.ends i).number begun.tag (x.ends i).node begun.inputs)) q)) (x.ends i).node begun.tag begun.inputs b) s.number told in
+            let logged_so = subst (λ (w : Log T). Holds i p (λ q. firings_in (w q)) (x.ends i).node begun.tag begun.inputs b) s.logged numbered_so in
+            (begun, g, subst (λ (w : Path → ℕ). Holds i p w (x.ends i).node begun.tag begun.inputs b) (child-counts i) logged_so)
+
+        go : (o : Child₀ i) → ways-at i o p ≡ Some b → InChild i p b
+        go (inl k₀) e = by_way k₀.0 k₀.1 e (x.way i) refl
+        go (inr m) e = absurd (clash None refl e)
 
   pub composite-path : IsBare (log_in (as_node tag h c core r) []) × (firings_in (log_in (as_node tag h c core r) []) ≡ 0)
   composite-path =

@@ -12,9 +12,9 @@ use Rattle.pt_meaning.specs.Start.{first_held}
 use Rattle.pt_laws.specs.Channels.{channel_at}
 use Rattle.pt_laws.specs.SoundRuns.{got_by, waiting_in, on_its_way, count_at, HasRooms, IsWired}
 use Rattle.pt_laws.specs.ClosedRuns.{IsFirst, IsAtStart, AllAtStart}
-use Rattle.pt_laws.specs.StartedRuns.{IsPlanned, ArePlans, AllPlans, StartedLogsAreClosed, StartedLogsAreShut}
+use Rattle.pt_laws.specs.StartedRuns.{IsThere, AllThere, IsPlanned, ArePlans, AllPlans, StartedLogsAreClosed, StartedLogsAreShut}
 use Rattle.pt_meaning.specs.Log.{Log, LogBelow}
-use Rattle.pt_meaning.specs.Closed.{IsClosedRun}
+use Rattle.pt_meaning.specs.Closed.{UnderWay, IsClosedRun}
 use Rattle.pt_meaning.specs.Job.{Standing, Goes, Ended, Halted, after, begin, log_of, meaning}
 use Rattle.pt_laws.specs.Promises.{StandsOn}
 use Rattle.pt_laws.proofs.Order.{IsPrefix-refl, IsPrefix-antisym}
@@ -64,13 +64,19 @@ first-way {T} p i q (Some c) = ap₂ (λ a b. a ++ b) (none-there {T = T} p.net.
     none-waits (Some (Own j)) = ap (λ us. tokens_on c us) (no-put {T = T} p.takes j)
     none-waits (Some (Output j port)) = ap (λ us. tokens_on c us) (no-put {T = T} p.net.places j)
 
+-- a channel of a whole net begins at what is there
+its-there : (inputs children : ℕ) (cs : List Source) (c : ℕ) (s : Source) → AllThere inputs children cs → get cs c ≡ Some s → IsThere inputs children s
+its-there inputs children [] c s g e = absurd (cc)
+its-there inputs children (d ∷ cs) zero s g e = let same : d ≡ s = cc in subst (λ v. IsThere inputs children v) same g.0
+its-there inputs children (d ∷ cs) (suc c) s g e = its-there inputs children cs c s g.1 e
+
 first-core : {T A : Type 0} (rows : Rows T A) (kids : List (Node T A)) (c : Core T) → IsPlanned c → start.IsFirstCore rows kids c → IsFirst c
 first-core rows kids (Sdf p X) g f = (subst (λ v. IsWired (Sdf p v)) (sym f) (let a = held-long rows kids p.net.sources in omega (arith, a, g)), λ i q. refl)
-first-core rows kids (Pn p X) g f = (subst (λ v. IsWired (Pn p v)) (sym f) (let a = held-long rows kids p.net.sources in omega (arith, a, g)), λ i q. refl)
+first-core rows kids (Pn p X) g f = (subst (λ v. IsWired (Pn p v)) (sym f) (let a = held-long rows kids p.net.sources in omega (arith, a, g.channels)), λ i q. refl)
 first-core rows kids (Sr p) g f = (tt, λ i q. refl)
 first-core rows kids (De p) g f = (tt, λ i q. refl)
 first-core {T} rows kids (Rv p X) g f = (
-  subst (λ v. HasRooms p.net v) (sym f) (record { gathers = λ i. gathered-long T p.net.places i; sends = λ c j e. subst (λ v. j < v) (sym (puts-long T p.takes)) (g c j e) }),
+  subst (λ v. HasRooms p.net v) (sym f) (record { gathers = λ i. gathered-long T p.net.places i; sends = λ c j e. subst (λ v. j < v) (sym (puts-long T p.takes)) (its-there (length p.takes) (length p.net.places) p.net.sources c (Own j) g.there e) }),
   λ i q. ap (λ v. on_its_way p.net v i q (channel_at p.net.places i q)) f ∙ first-way {T = T} p i q (channel_at p.net.places i q),
 )
 first-core rows kids (Modal chart m) g f = (tt, λ i q. refl)
@@ -85,7 +91,7 @@ mutual
   first-nodes rows (more n ns) g s = (first-node rows n g.0 s.0, first-nodes rows ns g.1 s.1)
 
 pub started-logs-are-closed : {T A : Type 0} → StartedLogsAreClosed T A
-started-logs-are-closed rows law m plan top f g s k k' o = logs-are-closed rows law m plan top f (first-node rows top g s) k k' o
+started-logs-are-closed rows law m plan top f g s k = logs-are-closed rows law m plan top f (first-node rows top g s) k
 
 -- a run at a greater fuel has at least the log of one before
 stands-below : {T A : Type 0} (s t : Standing T A) → StandsOn s t → LogBelow (log_of s) (log_of t)
@@ -98,11 +104,14 @@ stands-below (Halted (f ∷ fs) l) (Goes c) h = absurd h
 stands-below (Halted (f ∷ fs) l) (Ended e c) h = absurd h
 
 pub started-logs-are-shut : {T A : Type 0} → StartedLogsAreShut T A
-started-logs-are-shut {T} {A} rows law m plan top f g s fuel k below = go (either-order fuel k)
+started-logs-are-shut {T} {A} rows law m plan top f g s fuel = (closed.0, λ k below. go k below (either-order fuel k))
   where
-    go : (fuel ≤ k) ⊎ (k ≤ fuel) → IsClosedRun rows m plan top (meaning k rows m plan top) (meaning fuel rows m plan top)
-    go (inl o) = started-logs-are-closed rows law m plan top f g s fuel k o
-    go (inr o) =
+    closed : (way : UnderWay T) × ((k : ℕ) → fuel ≤ k → IsClosedRun rows m plan top (meaning k rows m plan top) (meaning fuel rows m plan top) way)
+    closed = started-logs-are-closed rows law m plan top f g s fuel
+
+    go : (k : ℕ) → LogBelow (meaning fuel rows m plan top) (meaning k rows m plan top) → (fuel ≤ k) ⊎ (k ≤ fuel) → IsClosedRun rows m plan top (meaning k rows m plan top) (meaning fuel rows m plan top) closed.0
+    go k below (inl o) = closed.1 k o
+    go k below (inr o) =
         let other = stands-below (after k rows m plan k (begin top)) (after fuel rows m plan fuel (begin top)) (meaning_grows rows law m plan top k fuel o) in
         let same : meaning fuel rows m plan top ≡ meaning k rows m plan top = fun_ext (λ p. IsPrefix-antisym (meaning fuel rows m plan top p) (meaning k rows m plan top p) (below p) (other p)) in
-        subst (λ (l : Log T). IsClosedRun rows m plan top l (meaning fuel rows m plan top)) same (started-logs-are-closed rows law m plan top f g s fuel fuel (omega arith))
+        subst (λ (l : Log T). IsClosedRun rows m plan top l (meaning fuel rows m plan top) closed.0) same (closed.1 fuel (omega arith))

@@ -144,33 +144,35 @@ rounds-end {T} {A} rows u (j ∷ p) (Composite h c d kids) l way k e n g w = go 
 
 pub part-is-closed : {T A : Type 0} → PartIsClosed T A
 part-is-closed {T} {A} rows top m l more way way' same closed whole later = record {
-  under_way = way;
   caused = λ p c e i q n g. closed-caused rows false p top l way closed c e i q n g;
   enclosed = λ p i b e. closed-enclosed rows false p top l way closed i b e;
   begun = λ p n r e w made. (closed-within rows false p top l way closed n r e w).1 (sym made);
   finished = λ p n r e w. (closed-within rows false p top l way closed n r e w).0;
-  whole = λ p n r e w k a r' g v. either p n k r' g (closed-within rows false p top l way closed n r e w).0 a v r' refl (has-either g (l (p ++ r')) (more (p ++ r')) (subst (λ (u : Log T). Has g (u (p ++ r'))) same v.0));
+  whole = λ p k a r g v. either p k r g a v r refl (has-either g (l (p ++ r)) (more (p ++ r)) (subst (λ (u : Log T). Has g (u (p ++ r))) same v.0));
 }
   where
-    either : (p : Path) (n k : ℕ) (r : Path) (g : Event T) → n < suc (firings_in (l p)) → k < n → CameWithin m p k r g → (r' : Path) → r ≡ r' → Has g (l (p ++ r)) ⊎ Has g (more (p ++ r)) → Has g (l (p ++ r))
-    either p n k r g b a v r' e (inl h) = h
-    either p n k r g b a v [] e (inr h) = absurd (rounds-end rows false p top m way' whole g k (subst (λ q. Has g (m q)) (ap (λ u. p ++ u) e ∙ append-nil p) v.0) v.1)
-    either p n k r g b a v (i ∷ q) e (inr h) =
+    either : (p : Path) (k : ℕ) (r : Path) (g : Event T) → k < firings_in (l p) → CameWithin m p k r g → (r' : Path) → r ≡ r' → Has g (l (p ++ r)) ⊎ Has g (more (p ++ r)) → Has g (l (p ++ r))
+    either p k r g a v r' e (inl h) = h
+    either p k r g a v [] e (inr h) = absurd (rounds-end rows false p top m way' whole g k (subst (λ q. Has g (m q)) (ap (λ u. p ++ u) e ∙ append-nil p) v.0) v.1)
+    either p k r g a v (i ∷ q) e (inr h) =
         let w = later p i q g (subst (λ u. Has g (more (p ++ u))) e h) in
         let same_number : k ≡ w.0 = some-nat k w.0 (sym v.1 ∙ w.1) in
-        absurd (omega (arith, same_number, w.2, a, b))
+        absurd (omega (arith, same_number, w.2, a))
       where
         some-nat : (x y : ℕ) → Some x ≡ Some y → x ≡ y
         some-nat x y e = cc
 
 -- and of a run, where the firing under way is the job's next
-pub part-of-run : {T A : Type 0} (rows : Rows T A) (m : Meets) (plan : Schedule T A) (top : Node T A) (n l more : Log T) (way way' : UnderWay T) → n ≡ log_then l more → ClosedIn rows false top l way → ClosedIn rows false top n way' → ComesLater l more → ((b : Begun T) → way [] ≡ Some b → IsNext rows m plan top (firings_in (l [])) b) → IsClosedRun rows m plan top n l
+pub part-of-run : {T A : Type 0} (rows : Rows T A) (m : Meets) (plan : Schedule T A) (top : Node T A) (n l more : Log T) (way way' : UnderWay T) → n ≡ log_then l more → ClosedIn rows false top l way → ClosedIn rows false top n way' → ComesLater l more → ((p : Path) (b : Begun T) → way p ≡ Some b → IsNext rows m plan top l p b) → IsClosedRun rows m plan top n l way
 unfolding part-is-closed
 part-of-run rows m plan top n l more way way' same closed whole later next = record { inside = part-is-closed rows top n l more way way' same closed whole later; next = next }
 
 pub logs-are-closed : {T A : Type 0} → LogsAreClosed T A
-logs-are-closed rows law m plan top f s k k' o =
-    let w = meaning-is-whole rows law m plan top f s k k' o in
-    let a = meaning-closed rows law k m plan top f s in
-    let b = meaning-closed rows law k' m plan top f s in
-    part-of-run rows m plan top (meaning k' rows m plan top) (meaning k rows m plan top) w.0 a.0 b.0 w.1 a.1 b.1 w.2 a.2
+logs-are-closed rows law m plan top f s k =
+    let a = meaning-closed rows law k m plan top f s in (
+      a.0,
+      λ k' o.
+          let w = meaning-is-whole rows law m plan top f s k k' o in
+          let b = meaning-closed rows law k' m plan top f s in
+          part-of-run rows m plan top (meaning k' rows m plan top) (meaning k rows m plan top) w.0 a.0 b.0 w.1 a.1 b.1 w.2 a.2,
+    )

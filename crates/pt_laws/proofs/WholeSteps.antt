@@ -2,7 +2,7 @@
 use Rattle.std.proofs.Common.{◌≡◌, ◌⊎◌, ℕ, zero, suc, ◌+◌, ◌≤◌, List, [], ◌∷◌, ◌++◌, Bool, ◌||◌, length, Option, Some, None, inl, inr, refl, sym, ap, ap₂, subst, arith, ◌∙◌, append-nil}
 use Rattle.std.proofs.lemmas.List.{append_cancel_left}
 use Rattle.std.proofs.Math.Path.{fun_ext}
-use Rattle.pt_meaning.specs.Basics.{Tag, Streams, Log, Path, Firing, Event, Finished, Met, firings_in, silent, log_then, own}
+use Rattle.pt_meaning.specs.Basics.{Tag, Streams, Log, Path, Firing, Event, Finished, Met, firings_in, silent, log_then, own, Meeting}
 use Rattle.pt_meaning.specs.Machine.{Outcome, Done, Stuck, Stepping}
 use Rattle.pt_meaning.specs.Dataflow.{Inside}
 use Rattle.pt_meaning.specs.Modal.{get}
@@ -25,7 +25,7 @@ use Rattle.pt_laws.proofs.MeetingIndex.{some-same}
 use Rattle.pt_laws.proofs.ClosedLaws.{child-or-beyond}
 use Rattle.pt_laws.proofs.LevelLaws.{has-right, count-append, unmarked-append}
 use Rattle.pt_laws.proofs.ChainLaws.{no-finished}
-use Rattle.pt_laws.proofs.ClosedSteps.{director-explained, actor-quiet, sound-at}
+use Rattle.pt_laws.proofs.ClosedSteps.{kept-made, director-explained, actor-quiet, sound-at}
 use Rattle.pt_laws.proofs.LaterLaws.{later-below, later-joins, later-nothing, later-own}
 use Rattle.pt_laws.proofs.LaterSteps.{turn-sound, part-later, as-added, composite-inside, KidNow, kid-now, none-there, logged, later-at}
 
@@ -57,12 +57,6 @@ cut {A} (x ∷ xs) ys (z ∷ zs) ms e d =
 nothing-left : {A : Type 0} (xs ys : List A) → [] ≡ xs ++ ys → ys ≡ []
 nothing-left [] ys e = sym e
 nothing-left (x ∷ xs) ys e = absurd (cc)
-
-kept-made : {T A : Type 0} (rows : Rows T A) (u : Bool) (n₀ n : Node T A) (l : Log T) → KeptIn rows u n₀ n l → firings_in (l []) ≡ made_of n
-kept-made rows u (Actor h₀ a₀ b₀) (Actor h a b) l k = k.0
-kept-made rows u (Actor h₀ a₀ b₀) (Composite h c d kids) l k = absurd k
-kept-made rows u (Composite h₀ c₀ d₀ kids₀) (Actor h a b) l k = absurd k
-kept-made rows u (Composite h₀ c₀ d₀ kids₀) (Composite h c d kids) l k = k.0.made
 
 -- What a child has logged of a firing that it doesn't finish: no record of its own, all of it within the firing that is due, and what a firing of the child logs behind it comes later.
 pub record IsAsked {T A : Type 0} (further : ℕ → Stepping T (Node T A)) (s : Child (Node T A)) (l asked : Log T) : Type 0 where
@@ -197,10 +191,10 @@ module _ {T A : Type 0} (rows : Rows T A) (steps further : ℕ → Stepping T (N
       }))
 
 -- the firing of a composite, explained at both
-module _ {T A H H' : Type 0} (rows : Rows T A) (steps further : ℕ → Stepping T (Node T A)) (sound : (i : ℕ) → SoundStep rows (steps i)) (sound' : (i : ℕ) → SoundStep rows (further i)) (later : (i : ℕ) → LaterStep rows (steps i)) (later' : (i : ℕ) → LaterStep rows (further i))
+module _ {T A H H' : Type 0} {ms : List Meeting} (rows : Rows T A) (steps further : ℕ → Stepping T (Node T A)) (sound : (i : ℕ) → SoundStep rows (steps i)) (sound' : (i : ℕ) → SoundStep rows (further i)) (later : (i : ℕ) → LaterStep rows (steps i)) (later' : (i : ℕ) → LaterStep rows (further i))
     (whole : (i : ℕ) → WholeStep rows (steps i) (further i)) (grows : Grows (child_step steps) (child_step further)) (tag tag' : Tag) (u : Bool) (h₀ : Past) (c₀ d₀ : Core T) (kids₀ : Nodes T A) (h : Past) (c d : Core T) (kids : Nodes T A) (l : Log T) (closed : ClosedIn rows u (Composite h₀ c₀ d₀ kids₀) l idle)
     (kept : KeptIn rows u (Composite h₀ c₀ d₀ kids₀) (Composite h c d kids) l) (fits : IsFitting (Composite h c d kids)) (X X' : Streams T) (core : H → Core T) (core' : H' → Core T) (r : Outcome T (Inside H (Child (Node T A)))) (r' : Outcome T (Inside H' (Child (Node T A))))
-    (x : Explained (child_facts (facts_of rows)) (child_step steps) tag X d core (numbered 0 (list_of kids)) r) (x' : Explained (child_facts (facts_of rows)) (child_step further) tag' X' d core' (numbered 0 (list_of kids)) r') (more : Log T) (same : log_in (as_node tag' h c core' r') ≡ log_then (log_in (as_node tag h c core r)) more) where
+    (x : Explained (child_facts (facts_of rows)) (child_step steps) ms h.made tag X d core (numbered 0 (list_of kids)) r) (x' : Explained (child_facts (facts_of rows)) (child_step further) ms h.made tag' X' d core' (numbered 0 (list_of kids)) r') (more : Log T) (same : log_in (as_node tag' h c core' r') ≡ log_then (log_in (as_node tag h c core r)) more) where
   abbrev here : Log T
   here = log_in (as_node tag h c core r)
 

@@ -31,9 +31,9 @@ abbrev mutual
 abbrev pub FiringsKeepClosed : Type 0 → Type 0 → Type 0
 FiringsKeepClosed T A = (rows : Rows T A) → LawfulRows rows → (k d : ℕ) (m : Meets) → SoundStep rows (step_at rows k d m)
 
--- so the meaning's log is closed at any fuel, and the top's firing under way, if there is one, is the job's next
+-- so the meaning's log is closed at any fuel, and each firing under way is the next of its path
 abbrev pub MeaningIsClosed : Type 0 → Type 0 → Type 0
-MeaningIsClosed T A = (rows : Rows T A) → LawfulRows rows → (m : Meets) (plan : Schedule T A) (top : Node T A) → IsFitting top → IsAtStart top → (k : ℕ) → (way : UnderWay T) × ClosedIn rows false top (meaning k rows m plan top) way × ((b : Begun T) → way [] ≡ Some b → IsNext rows m plan top (firings_in (meaning k rows m plan top [])) b)
+MeaningIsClosed T A = (rows : Rows T A) → LawfulRows rows → (m : Meets) (plan : Schedule T A) (top : Node T A) → IsFitting top → IsAtStart top → (k : ℕ) → (way : UnderWay T) × ClosedIn rows false top (meaning k rows m plan top) way × ((p : Path) (b : Begun T) → way p ≡ Some b → IsNext rows m plan top (meaning k rows m plan top) p b)
 
 -- what is closed level by level is so at each path: each token taken has its cause, a firing under way stands within another, and what came within a firing of a composite came within one that is finished or under way
 pub record ClosedAtPaths (T A : Type 0) : Type 0 where

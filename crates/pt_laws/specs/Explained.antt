@@ -1,6 +1,6 @@
 -- How a director's firing is made up of firings of its children: which were made, what they took, and where it came from.
 use Rattle.std.specs.Prelude.{◌≡◌, ◌⊎◌, ℕ, ◌≤◌, List, [], ◌∷◌, ◌++◌, true, false, length, Option, Some, None}
-use Rattle.pt_meaning.specs.Basics.{Tag, Streams, at, Log, Firing, Event, firings_in, silent, log_then, own, log_below}
+use Rattle.pt_meaning.specs.Basics.{Tag, Streams, at, Log, Firing, Meeting, Event, firings_in, silent, log_then, own, log_below}
 use Rattle.pt_meaning.specs.Streams.{IsPrefix}
 use Rattle.pt_meaning.specs.Machine.{Outcome, Done, Stuck, Stepping, Facts, Partial, Unknown, Known, partial_at}
 use Rattle.pt_meaning.specs.Rounds.{Source, Own, Output}
@@ -8,6 +8,7 @@ use Rattle.pt_meaning.specs.Dataflow.{Inside}
 use Rattle.pt_meaning.specs.Modal.{get}
 use Rattle.pt_meaning.specs.Rendezvous.{with_meetings}
 use Rattle.pt_meaning.specs.Node.{Core}
+use Rattle.pt_meaning.specs.Asked.{IsAsked}
 use Rattle.pt_laws.specs.Channels as channels
 use Rattle.pt_meaning.specs.Closed.{Begun, inputs_at, outputs_at, begun_at, is_modal, keeps_tokens, IsTagBelow}
 use Rattle.pt_laws.specs.LogsOfRuns.{log_at, log_in}
@@ -78,8 +79,8 @@ abbrev pub IfDone : {T S H : Type 0} → Facts T S → Streams T → Core T → 
 IfDone facts inputs d core ks turns way ends (Done x out l) = DoneWell facts inputs d core ks turns way ends x
 IfDone facts inputs d core ks turns way ends (Stuck fs l) = Unit {0}
 
--- A firing of a director over the children ks, explained: its log is what the children log, below their numbers, and what stands at its own path (meetings).
-pub record Explained {T S H : Type 0} (facts : Facts T S) (step : Stepping T S) (tag : Tag) (inputs : Streams T) (d : Core T) (core : H → Core T) (ks : List S) (r : Outcome T (Inside H S)) : Type 0 where
+-- A firing of a director over the children ks, the composite's firing of number made under the meetings ms, explained: its log is what the children log, below their numbers, and what stands at its own path (meetings).
+pub record Explained {T S H : Type 0} (facts : Facts T S) (step : Stepping T S) (ms : List Meeting) (made : ℕ) (tag : Tag) (inputs : Streams T) (d : Core T) (core : H → Core T) (ks : List S) (r : Outcome T (Inside H S)) : Type 0 where
   pub events : List (Event T)
   pub bare : IsBare events
   pub quiet : firings_in events ≡ 0
@@ -92,4 +93,5 @@ pub record Explained {T S H : Type 0} (facts : Facts T S) (step : Stepping T S) 
   pub beyond : (i : ℕ) → length ks ≤ i → (log_at logs i ≡ silent) × (turns i ≡ []) × (way i ≡ None)
   pub tagged : (i : ℕ) (b : Begun T) → way i ≡ Some b → IsTagBelow (is_modal d) tag b.tag
   pub counted : (i q : ℕ) → IsTakenWell facts d ks inputs turns way tag i q
+  pub asked : (i : ℕ) (b : Begun T) → way i ≡ Some b → IsAsked facts step ms made d ks tag inputs i (ends i) b.tag b.inputs
   pub done : IfDone facts inputs d core ks turns way ends r

@@ -1,9 +1,15 @@
 -- The height of a node: how it is kept, and that levels above it change nothing.
-use Rattle.std.specs.Prelude.{◌≡◌, ℕ, ◌≤◌, length}
+use Rattle.std.specs.Prelude.{◌≡◌, ℕ, ◌≤◌, ◌<◌, length, Some}
 use Rattle.pt_meaning.specs.Basics.{Tag, Streams, Log}
 use Rattle.pt_meaning.specs.Machine.{Done, recorded}
+use Rattle.pt_meaning.specs.Modal.{Chart}
 use Rattle.pt_meaning.specs.Meetings.{Meets}
 use Rattle.pt_meaning.specs.Node.{Rows, Core, Sdf, Pn, Sr, De, Rv, Modal, Node, Nodes, Actor, Composite, none, more, list_of, made_of, reset_of, step_at, height, Step}
+
+-- A chart fits n refinements: what a mode names is one of them, and of each it lists what every own output has of it.
+pub record FitsRefinements {T : Type 0} (n : ℕ) (chart : Chart T) : Type 0 where
+  pub named : (mode i : ℕ) → chart.refinement mode ≡ Some i → i < n
+  pub outputs : (i : ℕ) → i < n → length (chart.out_ports i) ≡ chart.outputs
 
 -- the plan of a composite of n children has an entry for each of them
 abbrev pub HasEntries : {T : Type 0} → ℕ → Core T → Type 0
@@ -12,7 +18,7 @@ HasEntries n (Pn p X) = length p.net.places ≡ n
 HasEntries n (Sr p) = length p.net.places ≡ n
 HasEntries n (De p) = length p.net.places ≡ n
 HasEntries n (Rv p X) = (length p.barriers ≡ n) × (length X.got ≡ n) × (length X.puts ≡ n)
-HasEntries n (Modal chart m) = Unit {0}
+HasEntries n (Modal chart m) = (length m.stays ≡ n) × FitsRefinements n chart
 
 -- and so has that of each composite within
 abbrev mutual

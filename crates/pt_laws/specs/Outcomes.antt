@@ -17,6 +17,6 @@ pub record OneOutcome (T A : Type 0) : Type 0 where
 
 -- a report of a job that ends, under the meetings that it tells, tells no fault, and no other end; and one of a job without stuck places tells no fault
 pub record ReportsAgree (T A : Type 0) : Type 0 where
-  pub no_fault : (rows : Rows T A) → LawfulRows rows → (m : Meets) (plan : Schedule T A) (top : Node T A) (e : End) (recorded : List Port) (budget : ℕ) (maximum : Path → ℕ) (traces : List (List (Tag × T))) (f : Fault) → EndsBy rows m plan top e → IsReportOf rows m plan top recorded budget maximum traces (Faulty f) → ⊥
-  pub its_end : (rows : Rows T A) → LawfulRows rows → (m : Meets) (plan : Schedule T A) (top : Node T A) (e e' : End) (recorded : List Port) (budget : ℕ) (maximum : Path → ℕ) (traces : List (List (Tag × T))) → EndsBy rows m plan top e → IsReportOf rows m plan top recorded budget maximum traces (Defined e') → e' ≡ e
-  pub never_told : (rows : Rows T A) (m : Meets) (plan : Schedule T A) (top : Node T A) (recorded : List Port) (budget : ℕ) (maximum : Path → ℕ) (traces : List (List (Tag × T))) (f : Fault) → ((g : Fault) → IsStuckPlace rows m plan top g → ⊥) → IsReportOf rows m plan top recorded budget maximum traces (Faulty f) → ⊥
+  pub no_fault : (rows : Rows T A) → LawfulRows rows → (m : Meets) (plan : Schedule T A) (top : Node T A) (e : End) (recorded : List Port) (budget : ℕ) (maximum counts : Path → ℕ) (traces : List (List (Tag × T))) (f : Fault) → EndsBy rows m plan top e → IsReportOf rows m plan top recorded budget maximum counts traces (Faulty f) → ⊥
+  pub its_end : (rows : Rows T A) → LawfulRows rows → (m : Meets) (plan : Schedule T A) (top : Node T A) (e e' : End) (recorded : List Port) (budget : ℕ) (maximum counts : Path → ℕ) (traces : List (List (Tag × T))) → EndsBy rows m plan top e → IsReportOf rows m plan top recorded budget maximum counts traces (Defined e') → e' ≡ e
+  pub never_told : (rows : Rows T A) (m : Meets) (plan : Schedule T A) (top : Node T A) (recorded : List Port) (budget : ℕ) (maximum counts : Path → ℕ) (traces : List (List (Tag × T))) (f : Fault) → ((g : Fault) → IsStuckPlace rows m plan top g → ⊥) → IsReportOf rows m plan top recorded budget maximum counts traces (Faulty f) → ⊥

@@ -45,8 +45,8 @@ MeaningIsWhole T A = (rows : Rows T A) → LawfulRows rows → (m : Meets) (plan
 
 -- a log that is closed level by level, and behind which the whole goes on later, is closed as a part of the whole
 abbrev pub PartIsClosed : Type 0 → Type 0 → Type 0
-PartIsClosed T A = (rows : Rows T A) (top : Node T A) (m l more : Log T) (way way' : UnderWay T) → m ≡ log_then l more → ClosedIn rows false top l way → ClosedIn rows false top m way' → ComesLater l more → IsClosed rows top m l
+PartIsClosed T A = (rows : Rows T A) (top : Node T A) (m l more : Log T) (way way' : UnderWay T) → m ≡ log_then l more → ClosedIn rows false top l way → ClosedIn rows false top m way' → ComesLater l more → IsClosed rows top m l way
 
--- So the meaning's log at any fuel is closed as a part of that at each greater one.
+-- So the meaning's log at any fuel is closed as a part of that at each greater one, beside the same firings under way.
 abbrev pub LogsAreClosed : Type 0 → Type 0 → Type 0
-LogsAreClosed T A = (rows : Rows T A) → LawfulRows rows → (m : Meets) (plan : Schedule T A) (top : Node T A) → IsFitting top → IsAtStart top → (k k' : ℕ) → k ≤ k' → IsClosedRun rows m plan top (meaning k' rows m plan top) (meaning k rows m plan top)
+LogsAreClosed T A = (rows : Rows T A) → LawfulRows rows → (m : Meets) (plan : Schedule T A) (top : Node T A) → IsFitting top → IsAtStart top → (k : ℕ) → (way : UnderWay T) × ((k' : ℕ) → k ≤ k' → IsClosedRun rows m plan top (meaning k' rows m plan top) (meaning k rows m plan top) way)

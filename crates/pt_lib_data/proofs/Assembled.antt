@@ -7,10 +7,10 @@ use Rattle.pt_value.specs.Record.{IsRecord, IsRepeated, names}
 use Rattle.pt_value.specs.Name.{IsName}
 use Rattle.pt_value.specs.Token.{value_of, entry_of_pair}
 use Rattle.pt_value.specs.declared.token.Token.{Token}
-use Rattle.pt_expr.specs.Outcome.{Outcome, Gives, Wrong}
-use Rattle.pt_expr.specs.RecordOf.{record_of, make_record, by_name}
-use Rattle.pt_expr.proofs.Ordered.{by_name-record}
-use Rattle.pt_expr_type.proofs.Making.{make_record-lawful, make_record-no_name, make_record-repeated}
+use Rattle.pt_language.specs.Outcome.{Outcome, Gives, Wrong}
+use Rattle.pt_language.specs.RecordOf.{record_of, make_record, by_name}
+use Rattle.pt_language.proofs.Ordered.{by_name-record}
+use Rattle.pt_language.proofs.Making.{make_record-lawful, make_record-no_name, make_record-repeated}
 use Rattle.pt_firing.specs.Row.{token_at}
 use Rattle.pt_lib_data.specs.RecordAssembler.{with_field, fields}
 

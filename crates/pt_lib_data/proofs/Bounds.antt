@@ -3,7 +3,7 @@ use Rattle.std.proofs.Common.{◌≡◌, ℕ, zero, suc, List, replicate, Bool, 
 use Rattle.std.specs.Prelude.{option_map, int_le, unsigned_abs, codes}
 use Rattle.std.specs.List.{AllByRecursion}
 use Rattle.std.proofs.lemmas.Bool.{leb-true}
-use Rattle.pt_types.proofs.Fields.{and_left, and_right}
+use Rattle.pt_datatypes.proofs.Fields.{and_left, and_right}
 use Rattle.pt_value.specs.declared.token.Token.{Token}
 use Rattle.pt_firing.specs.Params.{int_or, only_within, channels_to}
 use Rattle.pt_lib_data.specs.declared.data_actor.DataActor.{DataActor}

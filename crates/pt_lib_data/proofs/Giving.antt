@@ -8,9 +8,9 @@ use Rattle.pt_value.specs.Value.{Value, size}
 use Rattle.pt_value.specs.Token.{token_of, value_of}
 use Rattle.pt_value.specs.declared.token.Token.{Token}
 use Rattle.pt_value.specs.declared.token.Token.TheVariants as token
-use Rattle.pt_expr.specs.Outcome as outcome
-use Rattle.pt_expr.specs.Outcome.{Outcome}
-use Rattle.pt_expr.specs.RecordOf.{record_of}
+use Rattle.pt_language.specs.Outcome as outcome
+use Rattle.pt_language.specs.Outcome.{Outcome}
+use Rattle.pt_language.specs.RecordOf.{record_of}
 use Rattle.pt_firing.specs.Row.{token_at, number_at, truth_at, all_present}
 use Rattle.pt_firing.specs.declared.fault.RunFault.TheVariants.{Size, Length, Overflow}
 use Rattle.pt_lib_data.specs.declared.comparator.Relation.{Relation}

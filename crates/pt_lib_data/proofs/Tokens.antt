@@ -4,7 +4,7 @@ use Rattle.std.specs.Borrow.{Bor}
 use Rattle.pt_value.specs.Value.{Value}
 use Rattle.pt_value.specs.Token.{value_of, token_of, token_of-value_of, same_token}
 use Rattle.pt_value.specs.declared.token.Token.{Token}
-use Rattle.pt_expr.specs.Same.{is_same, is_same-decides}
+use Rattle.pt_language.specs.Same.{is_same, is_same-decides}
 
 pub as-token : (o : Option (Bor Token)) (v : Option Value) → option_map (λ t. value_of t.now) o ≡ v → option_map (λ t. t.now) o ≡ option_map token_of v
 as-token None v e = ap (option_map token_of) e

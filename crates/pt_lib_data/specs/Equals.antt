@@ -4,7 +4,7 @@ use Rattle.pt_meaning.specs.Basics.{Streams}
 use Rattle.pt_value.specs.Token.{value_of}
 use Rattle.pt_value.specs.declared.token.Token.{Token}
 use Rattle.pt_value.specs.declared.token.Token.TheVariants as token
-use Rattle.pt_expr.specs.Same.{is_same}
+use Rattle.pt_language.specs.Same.{is_same}
 use Rattle.pt_firing.specs.Row.{first_in, token_at}
 use Rattle.pt_lib_data.specs.Reply.{Reply, one, on}
 

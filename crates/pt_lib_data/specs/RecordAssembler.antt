@@ -4,8 +4,8 @@ use Rattle.pt_meaning.specs.Basics.{Streams}
 use Rattle.pt_value.specs.Value.{Value}
 use Rattle.pt_value.specs.Token.{value_of, token_of}
 use Rattle.pt_value.specs.declared.token.Token.{Token}
-use Rattle.pt_expr.specs.Outcome.{Outcome, Gives, Stops, Wrong}
-use Rattle.pt_expr.specs.RecordOf.{record_of}
+use Rattle.pt_language.specs.Outcome.{Outcome, Gives, Stops, Wrong}
+use Rattle.pt_language.specs.RecordOf.{record_of}
 use Rattle.pt_firing.specs.Row.{token_at, all_present}
 use Rattle.pt_lib_data.specs.Reply.{Reply, nothing, sized}
 

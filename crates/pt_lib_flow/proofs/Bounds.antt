@@ -6,7 +6,7 @@ use Rattle.std.proofs.lemmas.Bool.{leb-true, ltb-true}
 use Rattle.pt_meaning.specs.Basics.{Tag, Streams}
 use Rattle.pt_meaning.specs.Node.{Answer, Gives}
 use Rattle.pt_meaning.specs.Machine.{Need}
-use Rattle.pt_types.proofs.Fields.{and_left, and_right}
+use Rattle.pt_datatypes.proofs.Fields.{and_left, and_right}
 use Rattle.pt_value.specs.Value.{Value}
 use Rattle.pt_value.specs.declared.token.Token.{Token}
 use Rattle.pt_firing.specs.Params.{int_or, only_within}
@@ -14,30 +14,30 @@ use Rattle.pt_lib_flow.specs.declared.flow_actor.FlowActor.{FlowActor}
 use Rattle.pt_lib_flow.specs.declared.flow_actor.FlowActor.TheVariants.{AbsoluteValue, Accumulator, AddSubtract, BooleanSelect, BooleanSwitch, Const, Counter, DownSample, Expression, Extreme, MultiplyDivide, Ramp, Repeat, SampleDelay, Scale, Sequence, UpSample}
 use Rattle.pt_lib_flow.specs.declared.flow_actor.Class.{Class}
 use Rattle.pt_lib_flow.specs.declared.flow_actor.Class.TheVariants as class
-use Rattle.pt_lib_flow.specs.declared.extreme.Side.TheVariants.{Greatest, Least}
-use Rattle.pt_lib_flow.specs.declared.params.Params.{Params}
+use Rattle.pt_flow_numbers.specs.declared.extreme.Side.TheVariants.{Greatest, Least}
+use Rattle.pt_flow_base.specs.declared.params.Params.{Params}
 use Rattle.pt_lib_flow.specs.declared.down_sample.DownSample as downs
 use Rattle.pt_lib_flow.specs.declared.up_sample.UpSample as ups
 use Rattle.pt_lib_flow.specs.declared.repeat.Repeat as repeats
-use Rattle.pt_lib_flow.specs.Row.{one_each}
-use Rattle.pt_lib_flow.specs.Limit.{is_over, source_need}
-use Rattle.pt_lib_flow.specs.Rates.{IsCount, IsCounted, phased, factor_and_phase, repeated_block, times_and_size}
+use Rattle.pt_flow_base.specs.Row.{one_each}
+use Rattle.pt_flow_base.specs.Limit.{is_over, source_need}
+use Rattle.pt_flow_base.specs.Rates.{IsCount, IsCounted, phased, factor_and_phase, repeated_block, times_and_size}
 use Rattle.pt_lib_flow.specs.FlowActor.{need, step, rate, is_steady, start_as, start_in, start, class_of}
-use Rattle.pt_lib_flow.specs.AbsoluteValue as absolute_value
-use Rattle.pt_lib_flow.specs.Accumulator as accumulator
-use Rattle.pt_lib_flow.specs.AddSubtract as add_subtract
+use Rattle.pt_flow_numbers.specs.AbsoluteValue as absolute_value
+use Rattle.pt_flow_numbers.specs.Accumulator as accumulator
+use Rattle.pt_flow_numbers.specs.AddSubtract as add_subtract
 use Rattle.pt_lib_flow.specs.BooleanSelect as boolean_select
 use Rattle.pt_lib_flow.specs.BooleanSwitch as boolean_switch
 use Rattle.pt_lib_flow.specs.Const as constant
-use Rattle.pt_lib_flow.specs.Counter as counter
+use Rattle.pt_flow_numbers.specs.Counter as counter
 use Rattle.pt_lib_flow.specs.DownSample as down_sample
 use Rattle.pt_lib_flow.specs.Expression as expression
-use Rattle.pt_lib_flow.specs.Extreme as extreme
-use Rattle.pt_lib_flow.specs.MultiplyDivide as multiply_divide
-use Rattle.pt_lib_flow.specs.Ramp as ramp
+use Rattle.pt_flow_numbers.specs.Extreme as extreme
+use Rattle.pt_flow_numbers.specs.MultiplyDivide as multiply_divide
+use Rattle.pt_flow_numbers.specs.Ramp as ramp
 use Rattle.pt_lib_flow.specs.Repeat as repeat
 use Rattle.pt_lib_flow.specs.SampleDelay as sample_delay
-use Rattle.pt_lib_flow.specs.Scale as scale
+use Rattle.pt_flow_numbers.specs.Scale as scale
 use Rattle.pt_lib_flow.specs.Sequence as sequence
 use Rattle.pt_lib_flow.specs.UpSample as up_sample
 

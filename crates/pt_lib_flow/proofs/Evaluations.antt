@@ -6,11 +6,11 @@ use Rattle.pt_meaning.specs.Node.{Answer, Gives as Given, Fails}
 use Rattle.pt_value.specs.Value.{Value}
 use Rattle.pt_value.specs.Token.{value_of, token_of-value_of}
 use Rattle.pt_value.specs.declared.token.Token.{Token}
-use Rattle.pt_expr.specs.declared.fault.EvalFault.{EvalFault}
-use Rattle.pt_expr.specs.declared.fault.EvalFault.TheVariants.{DivideByZero, Overflow, Index, Size, Absent, Memory}
-use Rattle.pt_expr.specs.Outcome.{Outcome, Gives, Stops}
-use Rattle.pt_expr.specs.Scope.{Scope}
-use Rattle.pt_expr.specs.Meaning.{value}
+use Rattle.pt_language.specs.declared.eval_fault.EvalFault.{EvalFault}
+use Rattle.pt_language.specs.declared.eval_fault.EvalFault.TheVariants.{DivideByZero, Overflow, Index, Size, Absent, Memory}
+use Rattle.pt_language.specs.Outcome.{Outcome, Gives, Stops}
+use Rattle.pt_language.specs.Scope.{Scope}
+use Rattle.pt_language.specs.Meaning.{value}
 use Rattle.pt_firing.specs.Row.{rests}
 use Rattle.pt_firing.specs.Step.{Makes}
 use Rattle.pt_firing.specs.declared.step.Step.{Step}

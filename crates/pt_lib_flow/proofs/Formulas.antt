@@ -5,14 +5,14 @@ use Rattle.pt_meaning.specs.Basics.{Streams}
 use Rattle.pt_value.specs.Value.{Value}
 use Rattle.pt_value.specs.Token.{value_of}
 use Rattle.pt_value.specs.declared.token.Token.{Token}
-use Rattle.pt_expr.specs.Scope.{Scope}
+use Rattle.pt_language.specs.Scope.{Scope}
 use Rattle.pt_firing.specs.Row.{token_at}
 use Rattle.pt_firing.proofs.Named.{value-found, value-later}
 use Rattle.std.proofs.lemmas.List.{length-map}
 use Rattle.std.proofs.Math.ListN.{get_or-map}
-use Rattle.pt_types.specs.Datatype.{Datatype}
+use Rattle.pt_datatypes.specs.Datatype.{Datatype}
 use Rattle.pt_types.specs.declared.ty.Ty.{Ty}
-use Rattle.pt_expr_type.specs.Entry.{typed_entry}
+use Rattle.pt_types.specs.Entry.{typed_entry}
 use Rattle.pt_lib_flow.specs.Formula.{names, parameters, with_name, with_inputs, is_among}
 
 pub drop-one : {T : Type 0} (X : List T) (n : ℕ) → drop 1 (drop n X) ≡ drop (suc n) X

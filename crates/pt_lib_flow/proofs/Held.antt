@@ -7,7 +7,7 @@ use Rattle.pt_firing.specs.Step.{Makes}
 use Rattle.pt_firing.specs.declared.step.Step.{Step}
 use Rattle.pt_firing.specs.declared.step.Step.TheVariants as made
 use Rattle.pt_lib_flow.specs.FlowActor.{held_as}
-use Rattle.pt_lib_flow.specs.Number.{GivesNumber, GivesNumbers}
+use Rattle.pt_flow_base.specs.Number.{GivesNumber, GivesNumbers}
 
 pub held-makes : {S A : Type 0} (held : S → A) (r : Answer Token S) (old new : S) (s : Step) → Makes r old s new → Makes (held_as held r) (held old) s (held new)
 held-makes held (Gives next streams) old new (made.Done outputs) m = (m.0, ap held m.1)

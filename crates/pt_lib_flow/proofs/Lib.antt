@@ -1,15 +1,8 @@
 pub mod RowLaws
-pub mod Places
-pub mod Extremes
-pub mod Quotients
 pub mod Sequences
-pub mod TypedPorts
 pub mod Formulas
 pub mod Typings
 pub mod Evaluations
-pub mod Repetitions
-pub mod Zeros
-pub mod Pairs
 pub mod Held
 pub mod Steadiness
 pub mod Bounds

@@ -6,8 +6,8 @@ use Rattle.pt_value.specs.declared.token.Token.{Token}
 use Rattle.pt_firing.specs.Step.{Makes}
 use Rattle.pt_firing.specs.declared.step.Step.TheVariants as made
 use Rattle.pt_lib_flow.specs.declared.sequence.Sequence.{Sequence}
-use Rattle.pt_lib_flow.specs.Row.{gives, rests}
-use Rattle.pt_lib_flow.specs.Limit.{is_called}
+use Rattle.pt_flow_base.specs.Row.{gives, rests}
+use Rattle.pt_flow_base.specs.Limit.{is_called}
 use Rattle.pt_lib_flow.specs.Sequence.{given, step, moved, index_after}
 
 pub sequence-gives : (tag : Tag) (a : Sequence) (X : Streams Token) (t : Token) (out : Streams Token) (n : ℕ) → Some (value_of t) ≡ slice_get a.values a.index → is_called X ≡ true → out ≡ (t ∷ []) ∷ [] → n ≡ index_after a.cyclic (length a.values) a.index →

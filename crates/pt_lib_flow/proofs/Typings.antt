@@ -5,29 +5,29 @@ use Rattle.pt_meaning.specs.Basics.{Streams}
 use Rattle.pt_value.specs.Value.{Value}
 use Rattle.pt_value.specs.Token.{value_of}
 use Rattle.pt_value.specs.declared.token.Token.{Token}
-use Rattle.pt_types.specs.Datatype.{Datatype}
+use Rattle.pt_datatypes.specs.Datatype.{Datatype}
 use Rattle.pt_types.specs.declared.ty.Ty.{Ty}
 use Rattle.pt_types.specs.Ty.{type_of}
-use Rattle.pt_types.specs.Token.{type_of_value}
-use Rattle.pt_types.proofs.Fields.{and_left, and_right, and_both}
-use Rattle.pt_types.proofs.Order.{below-refl}
-use Rattle.pt_expr.specs.Outcome.{Outcome, Wrong}
-use Rattle.pt_expr.specs.Scope.{Scope}
-use Rattle.pt_expr_type.specs.declared.fault.TypeFault.TheVariants as fault
-use Rattle.pt_expr_type.specs.Entry.{typed_entry}
-use Rattle.pt_expr_type.specs.Fault.{Stands}
-use Rattle.pt_expr_type.specs.Typing.{Typing, Has, Clash}
-use Rattle.pt_expr_type.specs.Types.{Types}
-use Rattle.pt_expr_type.specs.TreeType.{tree_type, are_bound, IsTyped}
-use Rattle.pt_expr_type.specs.Laws.{IsHeld, Keeps, IsOfType}
-use Rattle.pt_expr_type.proofs.Sound.{typed-sound}
+use Rattle.pt_datatypes.specs.Token.{type_of_value}
+use Rattle.pt_datatypes.proofs.Fields.{and_left, and_right, and_both}
+use Rattle.pt_datatypes.proofs.Order.{below-refl}
+use Rattle.pt_language.specs.Outcome.{Outcome, Wrong}
+use Rattle.pt_language.specs.Scope.{Scope}
+use Rattle.pt_language.specs.declared.type_fault.TypeFault.TheVariants as fault
+use Rattle.pt_types.specs.Entry.{typed_entry}
+use Rattle.pt_language.specs.TypeFault.{Stands}
+use Rattle.pt_language.specs.Typing.{Typing, Has, Clash}
+use Rattle.pt_language.specs.Types.{Types}
+use Rattle.pt_language.specs.TreeType.{tree_type, are_bound, IsTyped}
+use Rattle.pt_language.specs.Laws.{IsHeld, Keeps, IsOfType}
+use Rattle.pt_language.proofs.TypeSound.{typed-sound}
 use Rattle.pt_firing.specs.Params.{value_under}
 use Rattle.pt_firing.specs.Row.{token_at}
 use Rattle.pt_firing.proofs.Named.{value-found, value-later}
 use Rattle.pt_lib_flow.specs.Formula.{Formula, names, parameters, with_name, with_inputs, parameter_types, with_type, with_types, types_of, has_type, is_typed, is_of, are_of}
 use Rattle.pt_lib_flow.specs.Expression.{scope, outcome}
 use Rattle.pt_lib_flow.proofs.Formulas.{drop-one, first-dropped}
-use Rattle.pt_lib_flow.proofs.TypedPorts.{front}
+use Rattle.pt_flow_base.proofs.TypedPorts.{front}
 
 -- ---- what is bound is of the types
 

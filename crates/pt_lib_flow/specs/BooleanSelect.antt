@@ -6,8 +6,8 @@ use Rattle.pt_meaning.specs.Node.{Answer}
 use Rattle.pt_value.specs.declared.token.Token.{Token}
 use Rattle.pt_lib_flow.specs.declared.boolean_select.Turn.{Turn}
 use Rattle.pt_lib_flow.specs.declared.boolean_select.Turn.TheVariants.{Control, Input}
-use Rattle.pt_lib_flow.specs.declared.params.Params.{Params}
-use Rattle.pt_lib_flow.specs.Row.{gives, rests, token_at, truth_at, on_present}
+use Rattle.pt_flow_base.specs.declared.params.Params.{Params}
+use Rattle.pt_flow_base.specs.Row.{gives, rests, token_at, truth_at, on_present}
 
 abbrev pub need : Turn → Need
 need Control = Counts (0 ∷ 0 ∷ 1 ∷ [])

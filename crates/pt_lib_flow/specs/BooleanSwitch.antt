@@ -5,8 +5,8 @@ use Rattle.pt_meaning.specs.Machine.{Need}
 use Rattle.pt_meaning.specs.Node.{Answer, Gives}
 use Rattle.pt_value.specs.declared.token.Token.{Token}
 use Rattle.pt_lib_flow.specs.declared.boolean_switch.BooleanSwitch.{BooleanSwitch}
-use Rattle.pt_lib_flow.specs.declared.params.Params.{Params}
-use Rattle.pt_lib_flow.specs.Row.{one_each, token_at, truth_at}
+use Rattle.pt_flow_base.specs.declared.params.Params.{Params}
+use Rattle.pt_flow_base.specs.Row.{one_each, token_at, truth_at}
 
 abbrev pub need : BooleanSwitch → Need
 need actor = one_each actor.places

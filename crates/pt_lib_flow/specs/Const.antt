@@ -6,11 +6,11 @@ use Rattle.pt_meaning.specs.Node.{Answer}
 use Rattle.pt_value.specs.declared.token.Token.{Token}
 use Rattle.pt_value.specs.Token.{IsScalar}
 use Rattle.pt_lib_flow.specs.declared.constant.Const.{Const}
-use Rattle.pt_lib_flow.specs.declared.params.Params.{Params}
+use Rattle.pt_flow_base.specs.declared.params.Params.{Params}
 use Rattle.pt_firing.specs.Params.{value_under, channels_to}
-use Rattle.pt_lib_flow.specs.declared.limit.Limit.{Limit}
-use Rattle.pt_lib_flow.specs.Row.{gives}
-use Rattle.pt_lib_flow.specs.Limit.{limit_in, is_over, after_one, source, source_need}
+use Rattle.pt_flow_base.specs.declared.limit.Limit.{Limit}
+use Rattle.pt_flow_base.specs.Row.{gives}
+use Rattle.pt_flow_base.specs.Limit.{limit_in, is_over, after_one, source, source_need}
 
 abbrev pub need : Const → Need
 need actor = source_need (is_over actor.limit) actor.places

@@ -5,9 +5,9 @@ use Rattle.pt_meaning.specs.Machine.{Need, Counts}
 use Rattle.pt_meaning.specs.Node.{Answer}
 use Rattle.pt_value.specs.declared.token.Token.{Token}
 use Rattle.pt_lib_flow.specs.declared.down_sample.DownSample.{DownSample}
-use Rattle.pt_lib_flow.specs.declared.params.Params.{Params}
-use Rattle.pt_lib_flow.specs.Row.{gives, on_present}
-use Rattle.pt_lib_flow.specs.Rates.{factor_and_phase}
+use Rattle.pt_flow_base.specs.declared.params.Params.{Params}
+use Rattle.pt_flow_base.specs.Row.{gives, on_present}
+use Rattle.pt_flow_base.specs.Rates.{factor_and_phase}
 
 abbrev pub need : DownSample → Need
 need actor = Counts actor.needed

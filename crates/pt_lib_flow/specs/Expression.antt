@@ -7,23 +7,23 @@ use Rattle.pt_meaning.specs.Node.{Answer, Fails}
 use Rattle.pt_value.specs.Value.{Value}
 use Rattle.pt_value.specs.Token.{token_of}
 use Rattle.pt_value.specs.declared.token.Token.{Token}
-use Rattle.pt_types.specs.Datatype.{Datatype}
-use Rattle.pt_expr.specs.declared.expr.Expr.{Expr}
-use Rattle.pt_expr.specs.declared.fault.EvalFault.{EvalFault}
-use Rattle.pt_expr.specs.declared.fault.EvalFault.TheVariants.{DivideByZero, Overflow, Index, Size, Absent, Memory}
-use Rattle.pt_expr.specs.Outcome.{Outcome, Gives, Stops, Wrong}
-use Rattle.pt_expr.specs.Scope.{Scope}
-use Rattle.pt_expr.specs.Tree.{Tree}
-use Rattle.pt_expr.specs.Meaning.{value}
-use Rattle.pt_expr.specs.Expr.{tree_of}
+use Rattle.pt_datatypes.specs.Datatype.{Datatype}
+use Rattle.pt_language.specs.declared.expr.Expr.{Expr}
+use Rattle.pt_language.specs.declared.eval_fault.EvalFault.{EvalFault}
+use Rattle.pt_language.specs.declared.eval_fault.EvalFault.TheVariants.{DivideByZero, Overflow, Index, Size, Absent, Memory}
+use Rattle.pt_language.specs.Outcome.{Outcome, Gives, Stops, Wrong}
+use Rattle.pt_language.specs.Scope.{Scope}
+use Rattle.pt_language.specs.Tree.{Tree}
+use Rattle.pt_language.specs.Meaning.{value}
+use Rattle.pt_language.specs.Expr.{tree_of}
 use Rattle.pt_firing.specs.RunFault.{code_of}
 use Rattle.pt_firing.specs.declared.fault.RunFault.TheVariants as run
 use Rattle.pt_firing.specs.declared.step.Step.{Step}
 use Rattle.pt_firing.specs.declared.step.Step.TheVariants as made
 use Rattle.pt_firing.specs.Params.{names_but}
 use Rattle.pt_firing.specs.Row.{one_each, gives, rests}
-use Rattle.pt_lib_flow.specs.declared.params.Params.{Params}
-use Rattle.pt_lib_flow.specs.PortTypes.{typed_names}
+use Rattle.pt_flow_base.specs.declared.params.Params.{Params}
+use Rattle.pt_flow_base.specs.PortTypes.{typed_names}
 use Rattle.pt_lib_flow.specs.Formula.{Formula, names, parameters, with_inputs, is_typed, are_of}
 
 abbrev pub need : Formula → Need

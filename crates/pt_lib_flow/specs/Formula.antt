@@ -6,15 +6,15 @@ use Rattle.pt_meaning.specs.Basics.{Streams}
 use Rattle.pt_value.specs.Value.{Value}
 use Rattle.pt_value.specs.Token.{value_of, coded_token}
 use Rattle.pt_value.specs.declared.token.Token.{Token}
-use Rattle.pt_types.specs.Datatype.{Datatype}
-use Rattle.pt_types.specs.DatatypeCode.{coded_type}
-use Rattle.pt_types.specs.Order.{is_below}
-use Rattle.pt_types.specs.Token.{type_of_value}
-use Rattle.pt_expr.specs.Scope.{Scope}
-use Rattle.pt_expr.specs.Tree.{Tree}
-use Rattle.pt_expr_type.specs.Typing.{Typing, Has, Clash}
-use Rattle.pt_expr_type.specs.Types.{Types}
-use Rattle.pt_expr_type.specs.TreeType.{tree_type, are_bound}
+use Rattle.pt_datatypes.specs.Datatype.{Datatype}
+use Rattle.pt_datatypes.specs.DatatypeCode.{coded_type}
+use Rattle.pt_datatypes.specs.Order.{is_below}
+use Rattle.pt_datatypes.specs.Token.{type_of_value}
+use Rattle.pt_language.specs.Scope.{Scope}
+use Rattle.pt_language.specs.Tree.{Tree}
+use Rattle.pt_language.specs.Typing.{Typing, Has, Clash}
+use Rattle.pt_language.specs.Types.{Types}
+use Rattle.pt_language.specs.TreeType.{tree_type, are_bound}
 use Rattle.pt_firing.specs.Params.{value_under}
 use Rattle.pt_firing.specs.Row.{token_at}
 use Rattle.pt_lib_flow.specs.TreeCode.{coded_tree}

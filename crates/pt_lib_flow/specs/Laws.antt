@@ -5,8 +5,8 @@ use Rattle.pt_meaning.specs.Machine.{Counts}
 use Rattle.pt_meaning.specs.Node.{Gives}
 use Rattle.pt_value.specs.declared.token.Token.{Token}
 use Rattle.pt_lib_flow.specs.declared.flow_actor.FlowActor.{FlowActor}
-use Rattle.pt_lib_flow.specs.declared.params.Params.{Params}
-use Rattle.pt_lib_flow.specs.Rates.{IsCount, IsCounted}
+use Rattle.pt_flow_base.specs.declared.params.Params.{Params}
+use Rattle.pt_flow_base.specs.Rates.{IsCount, IsCounted}
 use Rattle.pt_lib_flow.specs.FlowActor.{need, rate, is_steady, step, start}
 
 -- after a firing a steady actor needs what it needed, and is steady

@@ -5,8 +5,8 @@ use Rattle.pt_meaning.specs.Machine.{Need, Counts}
 use Rattle.pt_meaning.specs.Node.{Answer, Gives}
 use Rattle.pt_value.specs.declared.token.Token.{Token}
 use Rattle.pt_lib_flow.specs.declared.repeat.Repeat.{Repeat}
-use Rattle.pt_lib_flow.specs.declared.params.Params.{Params}
-use Rattle.pt_lib_flow.specs.Rates.{times_and_size, repeated}
+use Rattle.pt_flow_base.specs.declared.params.Params.{Params}
+use Rattle.pt_flow_base.specs.Rates.{times_and_size, repeated}
 
 abbrev pub need : Repeat → Need
 need actor = Counts actor.needed

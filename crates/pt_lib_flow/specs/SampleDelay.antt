@@ -8,8 +8,8 @@ use Rattle.pt_value.specs.declared.token.Token.{Token}
 use Rattle.pt_value.specs.declared.token.Token.TheVariants.{Int, Array}
 use Rattle.pt_firing.specs.Params.{value_under}
 use Rattle.pt_lib_flow.specs.declared.sample_delay.SampleDelay.{SampleDelay}
-use Rattle.pt_lib_flow.specs.declared.params.Params.{Params}
-use Rattle.pt_lib_flow.specs.Row.{one_each, gives, token_at, on_present}
+use Rattle.pt_flow_base.specs.declared.params.Params.{Params}
+use Rattle.pt_flow_base.specs.Row.{one_each, gives, token_at, on_present}
 
 abbrev pub first : SampleDelay → List Token
 first actor = actor.initial

@@ -7,11 +7,11 @@ use Rattle.pt_value.specs.Value.{Value}
 use Rattle.pt_value.specs.Token.{token_of}
 use Rattle.pt_value.specs.declared.token.Token.{Token}
 use Rattle.pt_lib_flow.specs.declared.sequence.Sequence.{Sequence}
-use Rattle.pt_lib_flow.specs.declared.params.Params.{Params}
+use Rattle.pt_flow_base.specs.declared.params.Params.{Params}
 use Rattle.pt_firing.specs.Params.{value_under, bool_or, channels_to}
 use Rattle.pt_value.specs.declared.token.Token.TheVariants.{Array}
-use Rattle.pt_lib_flow.specs.Row.{one_each, rests, gives}
-use Rattle.pt_lib_flow.specs.Limit.{is_called}
+use Rattle.pt_flow_base.specs.Row.{one_each, rests, gives}
+use Rattle.pt_flow_base.specs.Limit.{is_called}
 
 -- the value that is next, none behind the last
 abbrev pub due : Sequence → Option Value

@@ -5,10 +5,10 @@ use Rattle.std.proofs.Common.{ap}
 use Rattle.pt_value.specs.Value as value
 use Rattle.pt_value.specs.Value.{Value, Values, no_values, value_then}
 use Rattle.pt_value.specs.ValueCode.{coded_value}
-use Rattle.pt_expr.specs.declared.expr.BinaryOp.{BinaryOp}
-use Rattle.pt_expr.specs.declared.expr.BinaryOp.TheVariants.{Or, And, Equal, Unequal, Less, LessEqual, Greater, GreaterEqual, Add, Subtract, Multiply, Divide, Remainder}
-use Rattle.pt_expr.specs.Tree as tree
-use Rattle.pt_expr.specs.Tree.{Tree, Trees, NamedTrees, no_trees, tree_then}
+use Rattle.pt_language.specs.declared.expr.BinaryOp.{BinaryOp}
+use Rattle.pt_language.specs.declared.expr.BinaryOp.TheVariants.{Or, And, Equal, Unequal, Less, LessEqual, Greater, GreaterEqual, Add, Subtract, Multiply, Divide, Remainder}
+use Rattle.pt_language.specs.Tree as tree
+use Rattle.pt_language.specs.Tree.{Tree, Trees, NamedTrees, no_trees, tree_then}
 
 -- operators by number, there and back
 abbrev number_of : BinaryOp → ℕ

@@ -6,9 +6,9 @@ use Rattle.pt_meaning.specs.Node.{Answer, Gives}
 use Rattle.pt_value.specs.declared.token.Token.{Token}
 use Rattle.pt_value.specs.declared.token.Token.TheVariants.{Int}
 use Rattle.pt_lib_flow.specs.declared.up_sample.UpSample.{UpSample}
-use Rattle.pt_lib_flow.specs.declared.params.Params.{Params}
-use Rattle.pt_lib_flow.specs.Row.{one_each, number_at, on_present}
-use Rattle.pt_lib_flow.specs.Rates.{factor_and_phase}
+use Rattle.pt_flow_base.specs.declared.params.Params.{Params}
+use Rattle.pt_flow_base.specs.Row.{one_each, number_at, on_present}
+use Rattle.pt_flow_base.specs.Rates.{factor_and_phase}
 
 abbrev pub need : UpSample → Need
 need actor = one_each actor.places

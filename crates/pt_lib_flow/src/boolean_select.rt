@@ -1,8 +1,8 @@
 ghost use Rattle.std.specs.Prelude.{◌≡◌, IfOk};
 ghost use Rattle.pt_lib_flow.specs.BooleanSelect as boolean_select;
 
-use crate::params::Params;
 use pt_firing::{Actor, Counts, Fires, Inputs, Need, Outputs, Partial, Step, strict_early};
+use pt_flow_base::Params;
 use pt_time::Tag;
 use pt_value::Token;
 use std::alloc::{AllocError, Global};

@@ -2,8 +2,8 @@ ghost use Rattle.std.specs.Prelude.{◌≡◌, IfOk};
 ghost use Rattle.pt_lib_flow.specs.BooleanSwitch.{on_named};
 ghost use Rattle.pt_lib_flow.specs.BooleanSwitch as boolean_switch;
 
-use crate::params::Params;
 use pt_firing::{Actor, Fires, Inputs, Need, OneEach, Outputs, Partial, Step, strict_early};
+use pt_flow_base::Params;
 use pt_time::Tag;
 use pt_value::Token;
 use std::alloc::{AllocError, Global};

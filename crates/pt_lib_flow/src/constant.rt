@@ -1,13 +1,12 @@
 ghost use Rattle.std.specs.Prelude.{◌≡◌, IfOk};
-ghost use Rattle.pt_lib_flow.specs.Limit.{is_endless};
-ghost use Rattle.pt_lib_flow.specs.Number.{GivesNumber};
+ghost use Rattle.pt_flow_base.specs.Limit.{is_endless};
+ghost use Rattle.pt_flow_base.specs.Number.{GivesNumber};
 ghost use Rattle.pt_lib_flow.specs.Const as constant;
 
-use crate::limit::{Limit, is_called};
-use crate::params::Params;
 use pt_firing::{
     Actor, Fires, Inputs, IntInputs, Need, OneEach, Outputs, Partial, Step, strict_early,
 };
+use pt_flow_base::{Limit, Params, is_called};
 use pt_time::Tag;
 use pt_value::Token;
 use std::alloc::{AllocError, Global};

@@ -1,12 +1,11 @@
 ghost use Rattle.std.specs.Prelude.{◌≡◌, ◌-◌, [], ◌∷◌, IfOk};
-ghost use Rattle.pt_lib_flow.specs.Number.{GivesNumber};
+ghost use Rattle.pt_flow_base.specs.Number.{GivesNumber};
 ghost use Rattle.pt_lib_flow.specs.DownSample as down_sample;
 
-use crate::params::Params;
-use crate::rates::{factor_and_phase, first_list};
 use pt_firing::{
     Actor, Counts, Fires, Inputs, IntInputs, Need, Outputs, Partial, Step, strict_early,
 };
+use pt_flow_base::{Params, factor_and_phase, first_list};
 use pt_time::Tag;
 use pt_value::Token;
 use std::alloc::{AllocError, Global};

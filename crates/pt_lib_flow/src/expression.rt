@@ -1,23 +1,23 @@
 ghost use Rattle.std.specs.Prelude.{◌≡◌, ◌⊎◌, IfOk, IfErr, OnOk, List, ℕ, map, true, false};
 ghost use Rattle.pt_value.specs.Token.{value_of};
 ghost use Rattle.pt_types.specs.Ty.{type_of};
-ghost use Rattle.pt_expr.specs.declared.fault.EvalFault.TheVariants.{Memory};
-ghost use Rattle.pt_expr.specs.Outcome.{Gives, Stops};
+ghost use Rattle.pt_language.specs.declared.eval_fault.EvalFault.TheVariants.{Memory};
+ghost use Rattle.pt_language.specs.Outcome.{Gives, Stops};
 ghost use Rattle.pt_expr.specs.Env.{scope_of};
-ghost use Rattle.pt_expr.specs.Expr.{tree_of};
-ghost use Rattle.pt_expr_type.specs.Entry.{typed_entry};
+ghost use Rattle.pt_language.specs.Expr.{tree_of};
+ghost use Rattle.pt_types.specs.Entry.{typed_entry};
 ghost use Rattle.pt_expr_type.specs.TypeEnv.{types_in};
 ghost use Rattle.pt_firing.specs.Row.{token_at};
 ghost use Rattle.pt_lib_flow.specs.Formula.{names, parameters, with_inputs, is_among, parameter_types, with_types, types_of, is_typed, is_of, are_of};
 ghost use Rattle.pt_lib_flow.specs.Expression as expression;
 
-use crate::params::Params;
-use crate::port_types::PortTypes;
-use pt_expr::{Env, EvalFault, Expr, eval};
-use pt_expr_type::{TypeEnv, TypeFault};
+use pt_expr::{Env, eval};
+use pt_expr_type::TypeEnv;
 use pt_firing::{
     Actor, Fires, Inputs, Need, OneEach, Outputs, Partial, RunFault, Step, Values, strict_early,
 };
+use pt_flow_base::{Params, PortTypes};
+use pt_language::{EvalFault, Expr, TypeFault};
 use pt_time::Tag;
 use pt_types::{Ty, type_of_token};
 use pt_value::{Text, Token};
@@ -39,7 +39,7 @@ pub struct Expression {
 impl Model for Expression {
     ghost use Rattle.std.specs.Prelude.{◌≡◌, length, true};
     ghost use Rattle.pt_expr.specs.Env.{scope_of};
-    ghost use Rattle.pt_expr.specs.Expr.{tree_of};
+    ghost use Rattle.pt_language.specs.Expr.{tree_of};
     ghost use Rattle.pt_lib_flow.specs.Formula.{Formula, coded_formula, names, HasParameters, is_typed};
 
     ghost Value = { Formula };

@@ -1,14 +1,13 @@
 ghost use Rattle.std.specs.Prelude.{◌≡◌, [], ◌∷◌, map, IfOk, OnOk};
 ghost use Rattle.pt_value.specs.declared.token.Token.TheVariants.{Int};
-ghost use Rattle.pt_lib_flow.specs.Number.{GivesNumbers};
-ghost use Rattle.pt_lib_flow.specs.Rates.{IsCount, repeated};
+ghost use Rattle.pt_flow_base.specs.Number.{GivesNumbers};
+ghost use Rattle.pt_flow_base.specs.Rates.{IsCount, repeated};
 ghost use Rattle.pt_lib_flow.specs.Repeat as repeat;
 
-use crate::params::Params;
-use crate::rates::{first_list, push_copies, times_and_size};
 use pt_firing::{
     Actor, Counts, Fires, Inputs, IntInputs, Need, Outputs, Partial, Step, Tokens, strict_early,
 };
+use pt_flow_base::{Params, first_list, push_copies, times_and_size};
 use pt_time::Tag;
 use pt_value::Token;
 use std::alloc::{AllocError, Global};

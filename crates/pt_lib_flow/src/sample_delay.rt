@@ -1,12 +1,12 @@
 ghost use Rattle.std.specs.Prelude.{◌≡◌, IfOk, option_map};
-ghost use Rattle.pt_lib_flow.specs.Number.{GivesNumber};
+ghost use Rattle.pt_flow_base.specs.Number.{GivesNumber};
 ghost use Rattle.pt_lib_flow.specs.SampleDelay.{initial_of};
 ghost use Rattle.pt_lib_flow.specs.SampleDelay as sample_delay;
 
-use crate::params::Params;
 use pt_firing::{
     Actor, Fires, Inputs, IntInputs, Need, OneEach, Outputs, Partial, Step, Tokens, strict_early,
 };
+use pt_flow_base::Params;
 use pt_time::Tag;
 use pt_value::Token;
 use std::alloc::{AllocError, Global};

@@ -1,13 +1,12 @@
 ghost use Rattle.std.specs.Prelude.{◌≡◌, ◌<◌, IfOk, length};
-ghost use Rattle.pt_lib_flow.specs.Number.{GivesNumber};
+ghost use Rattle.pt_flow_base.specs.Number.{GivesNumber};
 ghost use Rattle.pt_lib_flow.specs.Sequence.{moved};
 ghost use Rattle.pt_lib_flow.specs.Sequence as sequence;
 
-use crate::limit::is_called;
-use crate::params::Params;
 use pt_firing::{
     Actor, Fires, Inputs, IntInputs, Need, OneEach, Outputs, Partial, Step, strict_early,
 };
+use pt_flow_base::{Params, is_called};
 use pt_time::Tag;
 use pt_value::{Items, Token};
 use std::alloc::{AllocError, Global};

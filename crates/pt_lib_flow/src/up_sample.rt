@@ -1,15 +1,14 @@
 ghost use Rattle.std.specs.Prelude.{◌≡◌, ◌-◌, ◌++◌, [], map, IfOk, IfSome, OnOk};
 ghost use Rattle.pt_value.specs.declared.token.Token.TheVariants.{Int};
-ghost use Rattle.pt_lib_flow.specs.Number.{GivesNumbers};
-ghost use Rattle.pt_lib_flow.specs.Rates.{IsCount};
+ghost use Rattle.pt_flow_base.specs.Number.{GivesNumbers};
+ghost use Rattle.pt_flow_base.specs.Rates.{IsCount};
 ghost use Rattle.pt_lib_flow.specs.UpSample.{zeros, among_zeros};
 ghost use Rattle.pt_lib_flow.specs.UpSample as up_sample;
 
-use crate::params::Params;
-use crate::rates::factor_and_phase;
 use pt_firing::{
     Actor, Fires, Inputs, IntInputs, Need, OneEach, Outputs, Partial, Step, Tokens, strict_early,
 };
+use pt_flow_base::{Params, factor_and_phase};
 use pt_time::Tag;
 use pt_value::Token;
 use std::alloc::{AllocError, Global};

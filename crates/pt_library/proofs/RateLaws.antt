@@ -13,10 +13,10 @@ use Rattle.pt_lib_data.specs.Laws.{IsRate, AreGiven}
 use Rattle.pt_lib_data.proofs.Bounds as data_bounds
 use Rattle.pt_lib_data.proofs.Giving as data_laws
 use Rattle.pt_lib_flow.specs.declared.flow_actor.FlowActor.{FlowActor}
-use Rattle.pt_lib_flow.specs.declared.params.Params.{Params}
+use Rattle.pt_flow_base.specs.declared.params.Params.{Params}
 use Rattle.pt_lib_flow.specs.FlowActor as flow_actor
 use Rattle.pt_lib_flow.specs.Laws.{IsGiven}
-use Rattle.pt_lib_flow.specs.Rates.{IsCount, IsCounted}
+use Rattle.pt_flow_base.specs.Rates.{IsCount, IsCounted}
 use Rattle.pt_lib_flow.proofs.Bounds as flow_bounds
 use Rattle.pt_lib_flow.proofs.Giving as flow_laws
 use Rattle.pt_library.specs.declared.library_actor.LibraryActor.{LibraryActor}

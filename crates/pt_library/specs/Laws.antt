@@ -7,9 +7,9 @@ use Rattle.pt_meaning.specs.Node.{Gives}
 use Rattle.pt_value.specs.declared.token.Token.{Token}
 use Rattle.pt_lib_data.specs.Function as function
 use Rattle.pt_lib_data.specs.Laws.{AreGiven}
-use Rattle.pt_lib_flow.specs.declared.params.Params.{Params}
+use Rattle.pt_flow_base.specs.declared.params.Params.{Params}
 use Rattle.pt_lib_flow.specs.FlowActor as flow_actor
-use Rattle.pt_lib_flow.specs.Rates.{IsCount, IsCounted}
+use Rattle.pt_flow_base.specs.Rates.{IsCount, IsCounted}
 use Rattle.pt_library.specs.declared.library_actor.LibraryActor.{LibraryActor}
 use Rattle.pt_library.specs.LibraryActor.{is_steady, need, rates, step, start}
 use Rattle.pt_library.specs.Steady.{IsSteadyActor}

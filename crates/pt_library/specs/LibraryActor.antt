@@ -6,9 +6,9 @@ use Rattle.pt_meaning.specs.Machine.{Need, Partial}
 use Rattle.pt_meaning.specs.Node.{Answer, Gives, Fails, Rows}
 use Rattle.pt_value.specs.declared.token.Token.{Token}
 use Rattle.pt_lib_data.specs.DataActor as data_actor
-use Rattle.pt_lib_flow.specs.declared.params.Params.{Params}
+use Rattle.pt_flow_base.specs.declared.params.Params.{Params}
 use Rattle.pt_lib_flow.specs.FlowActor as flow_actor
-pub use Rattle.pt_lib_flow.specs.Number.{GivesNumber, GivesNumbers}
+pub use Rattle.pt_flow_base.specs.Number.{GivesNumber, GivesNumbers}
 use Rattle.pt_library.specs.declared.library_actor.LibraryActor.{LibraryActor}
 use Rattle.pt_library.specs.declared.library_actor.LibraryActor.TheVariants.{Flow, Data}
 

@@ -1,13 +1,14 @@
 ghost use Rattle.std.specs.Prelude.{◌≡◌, IfOk, IfSome, option_map};
 ghost use Rattle.pt_lib_flow.specs.FlowActor as flow_actor;
-ghost use Rattle.pt_lib_flow.specs.Rates.{IsCount};
-ghost use Rattle.pt_lib_flow.specs.Number.{GivesNumber, GivesNumbers};
+ghost use Rattle.pt_flow_base.specs.Rates.{IsCount};
+ghost use Rattle.pt_flow_base.specs.Number.{GivesNumber, GivesNumbers};
 ghost use Rattle.pt_library.specs.LibraryActor as library;
 ghost use Rattle.pt_library.specs.Laws.{IsRatedActor};
 
 use pt_firing::{Actor, Counts, Fires, Inputs, IntInputs, Need, Partial, Step};
+use pt_flow_base::Params;
 use pt_lib_data::DataActor;
-use pt_lib_flow::{FlowActor, Params};
+use pt_lib_flow::FlowActor;
 use pt_time::Tag;
 use pt_value::Token;
 use std::alloc::{AllocError, Global};

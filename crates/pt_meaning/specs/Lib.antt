@@ -32,8 +32,6 @@ pub mod Node
 pub mod Start
 pub mod Job
 pub mod Schedule
-pub mod Closed
-pub mod Headline
 -- The words of laws, and what a library of actors owes.
 pub mod Laws
 pub mod Lawful
@@ -43,3 +41,6 @@ pub mod Places
 pub mod Jam
 pub mod AnyOrder
 pub mod Asked
+-- What a report promises.
+pub mod Closed
+pub mod Headline

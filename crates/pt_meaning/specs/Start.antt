@@ -1,8 +1,8 @@
 -- A model at its start: nothing has fired, and the channels hold the first tokens of the actors that feed them.
-use Rattle.std.specs.Prelude.{◌≡◌, List, [], ◌∷◌, Option, Some, None}
+use Rattle.std.specs.Prelude.{◌≡◌, List, [], ◌∷◌, length, Option, Some, None}
 use Rattle.pt_meaning.specs.Streams.{Streams, get}
 use Rattle.pt_meaning.specs.Net.{Source, Own, Output}
-use Rattle.pt_meaning.specs.Modal.{Stay}
+use Rattle.pt_meaning.specs.Modal.{first_modes}
 use Rattle.pt_meaning.specs.Rendezvous.{first_places}
 use Rattle.pt_meaning.specs.Tree.{Rows, Core, Sdf, Pn, Sr, De, Rv, Modal, unfired, Node, Nodes, Actor, Composite, none, more, list_of}
 
@@ -22,19 +22,14 @@ abbrev pub first_held : {T A : Type 0} → Rows T A → List (Node T A) → List
 first_held rows kids [] = []
 first_held rows kids (c ∷ cs) = first_of rows kids c ∷ first_held rows kids cs
 
--- no refinement has been entered but the initial one, at time 0
-abbrev pub AllFresh : List Stay → Type 0
-AllFresh [] = Unit {0}
-AllFresh (r ∷ rs) = (r ≡ record { standing = 0; lag = 0 }) × AllFresh rs
-
--- a director holds what it has at the start: a Modal is in its initial mode, with the first values of its Variables
+-- a director holds what it has at the start: a Modal is in its initial mode, with the first values of its Variables and the times of each of its refinements
 abbrev pub IsFirstCore : {T A : Type 0} → Rows T A → List (Node T A) → Core T → Type 0
 IsFirstCore rows kids (Sdf p X) = X ≡ first_held rows kids p.net.sources
 IsFirstCore rows kids (Pn p X) = X ≡ first_held rows kids p.net.sources
 IsFirstCore rows kids (Sr p) = Unit {0}
 IsFirstCore rows kids (De p) = Unit {0}
 IsFirstCore rows kids (Rv p X) = X ≡ first_places p
-IsFirstCore rows kids (Modal chart m) = AllFresh m.stays
+IsFirstCore rows kids (Modal chart m) = m ≡ first_modes chart (length kids)
 
 -- A node is at its start: it and all within have not fired, and each is in its start state.
 abbrev mutual

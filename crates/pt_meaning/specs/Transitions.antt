@@ -117,10 +117,12 @@ keeps_by None = true
 keeps_by (Some t) = t.history
 
 -- The chart of these modes. Preemptive guards and actions see no output of the refinement, since it isn't fired.
-abbrev pub chart_of : {T : Type 0} → (inputs outputs : ℕ) → List (Mode T) → (in_ports : ℕ → List ℕ) → (out_ports : ℕ → List (Option ℕ)) → Chart T
-chart_of inputs outputs modes in_ports out_ports = record {
+abbrev pub chart_of : {T : Type 0} → (inputs outputs : ℕ) → (initial : ℕ) → (values : List T) → List (Mode T) → (in_ports : ℕ → List ℕ) → (out_ports : ℕ → List (Option ℕ)) → Chart T
+chart_of inputs outputs initial values modes in_ports out_ports = record {
   inputs = inputs;
   outputs = outputs;
+  initial = initial;
+  values = values;
   preemptive = λ mode values got. tests (mode_in modes mode).preemptive (record { values = values; inputs = got; given = [] });
   others = λ mode values got given. tests (mode_in modes mode).others (record { values = values; inputs = got; given = given });
   act = λ early mode n values got given. acted_by (transition_in modes early mode n) (record { values = values; inputs = got; given = given });

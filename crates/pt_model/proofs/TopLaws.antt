@@ -5,38 +5,38 @@ use Rattle.std.proofs.lemmas.List.Recursion.{is_count_by}
 use Rattle.std.specs.Option.{is_none}
 use Rattle.std.proofs.lemmas.Option.{none-some, same_Some}
 use Rattle.pt_meaning.specs.Tree as tree
-use Rattle.pt_moml.specs.declared.code.Code.TheVariants as code
-use Rattle.pt_moml.specs.declared.job.Direction.{Direction}
-use Rattle.pt_moml.specs.declared.job.Direction.TheVariants.{Input, Output}
-use Rattle.pt_moml.specs.declared.job.Port.{Port}
-use Rattle.pt_moml.specs.Document.{PropertyTree, PortTree}
-use Rattle.pt_moml.specs.View.{port_view}
+use Rattle.pt_document.specs.declared.code.Code.TheVariants as code
+use Rattle.pt_document.specs.declared.job.Direction.{Direction}
+use Rattle.pt_document.specs.declared.job.Direction.TheVariants.{Input, Output}
+use Rattle.pt_document.specs.declared.job.Port.{Port}
+use Rattle.pt_document.specs.Document.{PropertyTree, PortTree}
+use Rattle.pt_document.specs.View.{port_view}
 use Rattle.pt_value.specs.declared.token.Token.{Token}
-use Rattle.pt_graph.specs.declared.net.Net.{Net}
-use Rattle.pt_graph.specs.declared.net.NetDirector.{NetDirector}
-use Rattle.pt_graph.specs.declared.net.NetEntity.{NetEntity}
-use Rattle.pt_graph.specs.Net.{director_view, entity_view}
-use Rattle.pt_wiring.specs.Inside.{is_inward, is_input}
-use Rattle.pt_values.specs.declared.values.Values.{Values}
-use Rattle.pt_values.specs.Scopes.{net_view}
-use Rattle.pt_values.specs.Sites.{is_input_port, port_name, inputs_of}
+use Rattle.pt_net.specs.declared.net.Net.{Net}
+use Rattle.pt_net.specs.declared.net.NetDirector.{NetDirector}
+use Rattle.pt_net.specs.declared.net.NetEntity.{NetEntity}
+use Rattle.pt_net.specs.Net.{director_view, entity_view}
+use Rattle.pt_net.specs.Inside.{is_inward, is_input}
+use Rattle.pt_scopes.specs.declared.values.Values.{Values}
+use Rattle.pt_scopes.specs.Scopes.{net_view}
+use Rattle.pt_scopes.specs.Sites.{is_input_port, port_name, inputs_of}
 use Rattle.pt_start.specs.Places.{director_in}
 use Rattle.pt_start.specs.Misplaced.{undirected}
 use Rattle.pt_start.proofs.Outward.{view-at}
-use Rattle.pt_job.specs.Inputs.{inputs_at, own_inputs, ComeTo, AreSupplied}
+use Rattle.pt_scopes.specs.Inputs.{inputs_at, own_inputs, ComeTo, AreSupplied}
 use Rattle.pt_node.specs.declared.body.Body.{Body}
 use Rattle.pt_node.specs.declared.body.Body.TheVariants.{Actor, Composite}
 use Rattle.pt_node.specs.Recorded.{RecordedPort}
 use Rattle.pt_node.specs.Shown.{Shown, AllShown, Branch, none, more, all_of, list_of}
 use Rattle.pt_node.specs.View.{node_of, nodes_of, node_with}
-use Rattle.pt_composite.specs.Composite.{children_in}
-use Rattle.pt_composite.specs.Fresh as fresh
-use Rattle.pt_composite.specs.Fresh.{IsFresh}
-use Rattle.pt_build.specs.Trees.{IsEntity, IsUndirected, Starts}
-use Rattle.pt_build.specs.Built.{IsBuilt, AreBuilt, built_actor, built_sdf, none_built, more_built}
-use Rattle.pt_run.specs.Start.{IsBranched, HasLeaves, AllHaveLeaves, AreUntold, IsUnrecorded, AllUnrecorded, takes_of, IsRunnable}
-use Rattle.pt_model.specs.Resolved.{IsPlaced}
-use Rattle.pt_model.proofs.Lists.{zip-length}
+use Rattle.pt_trees.specs.Composite.{children_in}
+use Rattle.pt_trees.specs.Fresh as fresh
+use Rattle.pt_trees.specs.Fresh.{IsFresh}
+use Rattle.pt_trees.specs.Trees.{IsEntity, IsUndirected, Starts}
+use Rattle.pt_trees.specs.Built.{IsBuilt, AreBuilt, built_actor, built_sdf, none_built, more_built}
+use Rattle.pt_trees.specs.Start.{IsBranched, HasLeaves, AllHaveLeaves, AreUntold, IsUnrecorded, AllUnrecorded, takes_of, IsRunnable}
+use Rattle.pt_elaboration.specs.Resolved.{IsPlaced}
+use Rattle.pt_elaboration.proofs.Lists.{zip-length}
 
 -- ---- the top is a composite
 

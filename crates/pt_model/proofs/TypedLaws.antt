@@ -2,20 +2,20 @@
 use Rattle.std.proofs.Common.{◌≡◌, ◌<◌, length, refl, sym, subst, ◌∙◌, arith}
 use Rattle.std.specs.Prelude.{Option, Some, None, slice_get}
 use Rattle.std.proofs.lemmas.Option.{none-some, same_Some, slice_get_within}
-use Rattle.pt_graph.specs.declared.net.Net.{Net}
-use Rattle.pt_graph.specs.declared.net.NetDirector.{NetDirector}
-use Rattle.pt_graph.specs.declared.net.NetEntity.{NetEntity}
+use Rattle.pt_net.specs.declared.net.Net.{Net}
+use Rattle.pt_net.specs.declared.net.NetDirector.{NetDirector}
+use Rattle.pt_net.specs.declared.net.NetEntity.{NetEntity}
 use Rattle.pt_typing.specs.Least.{Assignment}
-use Rattle.pt_values.specs.declared.values.Values.{Values}
+use Rattle.pt_scopes.specs.declared.values.Values.{Values}
 use Rattle.pt_library.specs.declared.library_actor.LibraryActor.{LibraryActor}
 use Rattle.pt_start.specs.Started.{IsStart}
 use Rattle.pt_node.specs.View.{node_of}
-use Rattle.pt_build.specs.Trees.{IsEntity, Starts}
+use Rattle.pt_trees.specs.Trees.{IsEntity, Starts}
 use Rattle.pt_typed.specs.RowLaw.{types_of_ports, AreStartedIn}
 use Rattle.pt_typed.proofs.TypedNets.{typed-nets-keep-types}
-use Rattle.pt_model.specs.Resolved.{IsPlaced, AreStartsOf}
+use Rattle.pt_elaboration.specs.Resolved.{IsPlaced, AreStartsOf}
 use Rattle.pt_model.specs.Typed.{ModelsKeepTypes}
-use Rattle.pt_model.proofs.Lists.{read}
+use Rattle.pt_elaboration.proofs.Lists.{read}
 use Rattle.pt_model.proofs.TopLaws.{top-directed, top-takes, lists-counted}
 
 -- each library actor starts as its parameters and types start it

@@ -1,4 +1,2 @@
-pub mod Resolved
 pub mod Model
-pub mod Refused
 pub mod Typed

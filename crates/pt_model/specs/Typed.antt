@@ -2,12 +2,12 @@
 use Rattle.std.specs.Prelude.{ℕ}
 use Rattle.pt_meaning.specs.Step.{no_meetings}
 use Rattle.pt_meaning.specs.Job.{meaning}
-use Rattle.pt_graph.specs.declared.net.Net.{Net}
+use Rattle.pt_net.specs.declared.net.Net.{Net}
 use Rattle.pt_library.specs.LibraryActor.{rows}
 use Rattle.pt_node.specs.Shown.{Shown}
 use Rattle.pt_node.specs.View.{node_of}
-use Rattle.pt_run.specs.declared.job.SdfJob.{SdfJob}
-use Rattle.pt_run.specs.Run.{schedule}
+use Rattle.pt_trees.specs.declared.job.SdfJob.{SdfJob}
+use Rattle.pt_trees.specs.Run.{schedule}
 use Rattle.pt_typed.specs.Signature.{IsTypedLog}
 use Rattle.pt_typed.specs.TokenTypes.{IsTokenOf}
 use Rattle.pt_typed.specs.NetTypes.{types_below}

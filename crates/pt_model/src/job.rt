@@ -1,23 +1,21 @@
 ghost use Rattle.std.specs.Prelude.{◌≡◌, ℕ, List, Some, length, IsOk, IfOk, IfErr};
 ghost use Rattle.pt_typing.specs.Least.{assignment};
-ghost use Rattle.pt_values.specs.Scopes.{net_view};
-ghost use Rattle.pt_job.specs.Inputs.{AreSupplied, IsInputFault};
+ghost use Rattle.pt_scopes.specs.Scopes.{net_view};
+ghost use Rattle.pt_scopes.specs.Inputs.{AreSupplied, IsInputFault};
 ghost use Rattle.pt_job.specs.Iterations.{iterations};
 ghost use Rattle.pt_node.specs.Shown.{shown_node};
 ghost use Rattle.pt_node.specs.View.{node_of};
-ghost use Rattle.pt_build.specs.Built.{IsBuilt};
-ghost use Rattle.pt_run.specs.Start.{takes_of};
-ghost use Rattle.pt_model.specs.Resolved.{IsStarted};
-ghost use Rattle.pt_model.specs.Refused.{FaultStands};
+ghost use Rattle.pt_trees.specs.Built.{IsBuilt};
+ghost use Rattle.pt_trees.specs.Start.{takes_of};
+ghost use Rattle.pt_elaboration.specs.Resolved.{IsStarted};
+ghost use Rattle.pt_elaboration.specs.Refused.{FaultStands};
 
-use crate::model::ModelFault;
-use crate::refusal::unbuilt;
-use crate::started::Started;
 use crate::tree::takes_of;
-use pt_graph::Net;
+use pt_elaboration::{ModelFault, Started, unbuilt};
 use pt_job::{iterations, supply};
+use pt_net::Net;
 use pt_node::Node;
-use pt_run::SdfJob;
+use pt_trees::SdfJob;
 use std::alloc::Global;
 
 /// What a job asks of the top of its net: the tokens that it supplies, and its number of iterations.

@@ -4,11 +4,7 @@
 mod job;
 mod laws;
 mod model;
-mod refusal;
-mod resolved;
-mod started;
-mod starts;
 mod tree;
 
 pub use laws::models_keep_types;
-pub use model::{Model, ModelFault, model_of};
+pub use model::{Model, model_of};

@@ -1,70 +1,32 @@
 ghost use Rattle.std.specs.Prelude.{◌≡◌, length, Ok, Err, IfOk, IfErr};
-ghost use Rattle.pt_moml.specs.Document.{JobTree};
-ghost use Rattle.pt_graph.specs.Net.{IsNetOf};
+ghost use Rattle.pt_document.specs.Document.{JobTree};
+ghost use Rattle.pt_net.specs.Net.{IsNetOf};
 ghost use Rattle.pt_typing.specs.Least.{assignment};
-ghost use Rattle.pt_composite.specs.Fresh.{IsFresh};
+ghost use Rattle.pt_trees.specs.Fresh.{IsFresh};
 ghost use Rattle.pt_node.specs.Shown.{shown_node};
-ghost use Rattle.pt_build.specs.Built.{IsBuilt};
-ghost use Rattle.pt_run.specs.Start.{IsRunnable};
-ghost use Rattle.pt_run.specs.Ports.{AreNumbered};
+ghost use Rattle.pt_trees.specs.Built.{IsBuilt};
+ghost use Rattle.pt_trees.specs.Start.{IsRunnable};
+ghost use Rattle.pt_trees.specs.Ports.{AreNumbered};
 ghost use Rattle.pt_cover.specs.Leaves.{ActorsAreLeaves};
 ghost use Rattle.pt_model.specs.Model.{IsModel};
-ghost use Rattle.pt_model.specs.Resolved.{IsStarted};
-ghost use Rattle.pt_model.specs.Refused.{FaultStands, fault_of};
-ghost use Rattle.pt_model.specs.declared.model.ModelFault.TheVariants as fault;
+ghost use Rattle.pt_elaboration.specs.Resolved.{IsStarted};
+ghost use Rattle.pt_elaboration.specs.Refused.{FaultStands};
+ghost use Rattle.pt_elaboration.specs.declared.fault.ModelFault.TheVariants as fault;
 
 use crate::job::job_of;
-use crate::started::Started;
 use crate::tree::tree_of;
 use pt_cover::ports_are_numbered;
-use pt_graph::Net;
-use pt_moml::{DocFault, Refusal};
+use pt_elaboration::{ModelFault, Started};
+use pt_net::Net;
 use pt_node::Node;
-use pt_run::SdfJob;
-use std::alloc::{AllocError, AllocFailed, Global};
-use thiserror::Error;
+use pt_trees::SdfJob;
+use std::alloc::Global;
 
 /// The model of a net: the tree of its nodes at their start, and what the job asks of the top.
 #[derive(Drop)]
 pub struct Model {
     pub top: Node,
     pub job: SdfJob,
-}
-
-/// Why a net has no model.
-#[derive(Debug, Drop, Error)]
-pub enum ModelFault {
-    #[error(transparent)]
-    Refused(Refusal),
-    #[error("out of memory")]
-    Memory,
-}
-
-impl From<AllocError> for ModelFault {
-    ghost from_gives = { λ _ e. e ≡ fault.Memory };
-
-    fn from(_: AllocError) -> Self {
-        ModelFault::Memory
-    }
-}
-
-impl<T: Drop> From<AllocFailed<T>> for ModelFault {
-    ghost from_gives = { λ _ e. e ≡ fault.Memory };
-
-    fn from(_: AllocFailed<T>) -> Self {
-        ModelFault::Memory
-    }
-}
-
-impl From<DocFault> for ModelFault {
-    ghost from_gives = { λ f e. e ≡ fault_of f };
-
-    fn from(fault: DocFault) -> Self {
-        match fault {
-            DocFault::Refused(refusal) => ModelFault::Refused(refusal),
-            DocFault::Memory => ModelFault::Memory,
-        }
-    }
 }
 
 /// The model of this tree, where the job could be asked for. A tree is let go by a call, which keeps what that takes out of the proof.

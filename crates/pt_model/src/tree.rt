@@ -1,21 +1,20 @@
 ghost use Rattle.std.specs.Prelude.{◌≡◌, Some, IfOk, IfErr, List, ℕ};
 ghost use Rattle.pt_typing.specs.Least.{assignment};
-ghost use Rattle.pt_composite.specs.Fresh.{IsFresh};
+ghost use Rattle.pt_trees.specs.Fresh.{IsFresh};
 ghost use Rattle.pt_node.specs.Shown.{shown_node};
 ghost use Rattle.pt_node.specs.View.{core_of, node_of};
-ghost use Rattle.pt_build.specs.Trees.{IsTree, StartsAs};
-ghost use Rattle.pt_build.specs.Built.{IsBuilt};
-ghost use Rattle.pt_run.specs.Start.{core_takes, takes_of};
-ghost use Rattle.pt_model.specs.Resolved.{IsStarted};
-ghost use Rattle.pt_model.specs.Refused.{FaultStands};
+ghost use Rattle.pt_trees.specs.Trees.{IsTree, StartsAs};
+ghost use Rattle.pt_trees.specs.Built.{IsBuilt};
+ghost use Rattle.pt_trees.specs.Start.{core_takes, takes_of};
+ghost use Rattle.pt_elaboration.specs.Resolved.{IsStarted};
+ghost use Rattle.pt_elaboration.specs.Refused.{FaultStands};
 
-use crate::model::ModelFault;
-use crate::refusal::unbuilt;
-use crate::started::Started;
-use pt_build::{BuildFault, build};
+use pt_build::build;
+use pt_elaboration::{ModelFault, Started, unbuilt};
 use pt_firing::Counts;
-use pt_graph::Net;
+use pt_net::Net;
 use pt_node::{Body, Director, Node};
+use pt_trees::BuildFault;
 use std::alloc::Global;
 
 /// The tree of a net whose entities start as these.

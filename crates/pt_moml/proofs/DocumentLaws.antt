@@ -4,23 +4,23 @@ use Rattle.std.specs.Prelude.{IfOk, IfErr, OnOk}
 use Rattle.std.proofs.lemmas.Bool.Decides.{nat_tests}
 use Rattle.serde_json.specs.Data.{Data}
 use Rattle.serde_json.specs.Find.{get}
-use Rattle.pt_moml.specs.declared.code.Code.{Code}
-use Rattle.pt_moml.specs.declared.code.Code.TheVariants as code
-use Rattle.pt_moml.specs.declared.refusal.Refusal.{Refusal}
-use Rattle.pt_moml.specs.declared.refusal.DocFault.{DocFault}
-use Rattle.pt_moml.specs.declared.refusal.DocFault.TheVariants as faults
-use Rattle.pt_moml.specs.Document.{EntityTree, JobTree}
-use Rattle.pt_moml.specs.Names.{is_name, top_path}
-use Rattle.pt_moml.specs.Outcome.{refused}
+use Rattle.pt_document.specs.declared.code.Code.{Code}
+use Rattle.pt_document.specs.declared.code.Code.TheVariants as code
+use Rattle.pt_document.specs.declared.refusal.Refusal.{Refusal}
+use Rattle.pt_document.specs.declared.refusal.DocFault.{DocFault}
+use Rattle.pt_document.specs.declared.refusal.DocFault.TheVariants as faults
+use Rattle.pt_document.specs.Document.{EntityTree, JobTree}
+use Rattle.pt_document.specs.Names.{is_name, top_path}
+use Rattle.pt_document.specs.Outcome.{refused}
 use Rattle.pt_moml.specs.Fields.{listed, text_at, name_at, optional_list}
 use Rattle.pt_moml.specs.Limits.{Nest, nest_field, count, levels, most_entities, most_levels, is_within}
 use Rattle.pt_moml.specs.Forms as forms
 use Rattle.pt_moml.specs.Forms.{Form, list, object}
 use Rattle.pt_moml.specs.Reading.{is_one, version_at, limits_at, model_at, job_of, job_fields, input_at, entity_from, entities_field, IsDocument, IsJobOf, IsFirstRefusal, IsReadFault}
-use Rattle.pt_moml.specs.View.{job_view}
-use Rattle.pt_moml.specs.declared.job.Job.{Job}
+use Rattle.pt_document.specs.View.{job_view}
+use Rattle.pt_document.specs.declared.job.Job.{Job}
 use Rattle.pt_moml.specs.Stands.{Faulty, unknown_field, is_object_of, no_version, as_whole, text_in, InJob, in_job_form, too_many, too_deep, model_without_name, model_not_named, in_model, Stands, no_document, in_document, FaultStands, IsClean}
-use Rattle.pt_moml.proofs.Chains.{Is, good, is_refused, bind_err, bind_ok, never_err, never_ok, test_err, test_ok}
+use Rattle.pt_document.proofs.Chains.{Is, good, is_refused, bind_err, bind_ok, never_err, never_ok, test_err, test_ok}
 use Rattle.pt_moml.proofs.FieldLaws.{Fine, absent, ReadsAt, FineAt, moved, required_reads, text_reads, optional_list_reads, name_told, name_ok}
 use Rattle.pt_moml.proofs.ObjectLaws.{AllFine, at_field, fine_object, listed_told, listed_ok}
 use Rattle.pt_moml.proofs.PlainObjects.{input_reads}

@@ -2,14 +2,14 @@
 use Rattle.std.proofs.Common.{◌≡◌, ℕ, List, [], ◌∷◌, ◌++◌, Option, Some, None, Result, Ok, refl, ap, ◌∙◌, codes}
 use Rattle.serde_json.specs.Data.{Data, null, boolean, number, string, array, object, Items, no_items, item}
 use Rattle.serde_json.specs.Find.{get, get_member}
-use Rattle.pt_moml.specs.declared.refusal.Refusal.{Refusal}
-use Rattle.pt_moml.specs.Document.{EntityTree}
-use Rattle.pt_moml.specs.Names.{below}
-use Rattle.pt_moml.specs.Outcome.{◌>>=◌}
+use Rattle.pt_document.specs.declared.refusal.Refusal.{Refusal}
+use Rattle.pt_document.specs.Document.{EntityTree}
+use Rattle.pt_document.specs.Names.{below}
+use Rattle.pt_document.specs.Outcome.{◌>>=◌}
 use Rattle.pt_moml.specs.Fields.{name_at, items_at}
 use Rattle.pt_moml.specs.Reading.{entity_from, entity_at, entities_in, entities_under, entities_at, entity_items, entities_field}
 use Rattle.pt_moml.proofs.FoundFields.{found, under_is}
-use Rattle.pt_moml.proofs.Refusals.{bind_same}
+use Rattle.pt_document.proofs.Refusals.{bind_same}
 
 abbrev Read : Type 0
 Read = Result (List EntityTree) Refusal

@@ -3,19 +3,19 @@ use Rattle.std.proofs.Common.{◌≡◌, inl, inr, List, [], ◌∷◌, ℕ, Res
 use Rattle.std.specs.Prelude.{option_and_then, is_some}
 use Rattle.serde_json.specs.Data.{Data}
 use Rattle.serde_json.specs.Find.{get, as_str}
-use Rattle.pt_moml.specs.declared.job.Relation.{Relation}
-use Rattle.pt_moml.specs.declared.job.State.{State}
-use Rattle.pt_moml.specs.declared.refusal.Refusal.{Refusal}
-use Rattle.pt_moml.specs.Classes.{Class, Kind, Composite, Modal, Actor}
-use Rattle.pt_moml.specs.Names.{is_among}
-use Rattle.pt_moml.specs.Outcome.{◌>>=◌}
+use Rattle.pt_document.specs.declared.job.Relation.{Relation}
+use Rattle.pt_document.specs.declared.job.State.{State}
+use Rattle.pt_document.specs.declared.refusal.Refusal.{Refusal}
+use Rattle.pt_document.specs.Classes.{Class, Kind, Composite, Modal, Actor}
+use Rattle.pt_document.specs.Names.{is_among}
+use Rattle.pt_document.specs.Outcome.{◌>>=◌}
 use Rattle.pt_moml.specs.Fields.{listed, name_at, required_text, optional_text, optional_list, distinct_at}
 use Rattle.pt_moml.specs.Forms as forms
 use Rattle.pt_moml.specs.Forms.{Object, Field, Form, fields, keys, object, list, named}
 use Rattle.pt_moml.specs.Reading.{relation_at, state_at, properties_field, port_at, ports_field, relations_field, link_at, states_field, initial_field, transition_at, parts_at}
 use Rattle.pt_moml.specs.Reading.{named as named_list}
 use Rattle.pt_moml.specs.Stands.{IsIn, text_in}
-use Rattle.pt_moml.proofs.Chains.{good, bind_ok, never_err}
+use Rattle.pt_document.proofs.Chains.{good, bind_ok, never_err}
 use Rattle.pt_moml.proofs.FieldLaws.{Fine, Reads, ReadsAt, FineAt, NamesRead, required_reads, then_good, text_reads, fine_text, name_ok, optional_list_reads, required_named_reads, optional_named_reads}
 use Rattle.pt_moml.proofs.ObjectLaws.{Chain, chain_end, chain_step, chain_known, chain_skip, known_object_reads, absent_field}
 use Rattle.pt_moml.proofs.PlainObjects.{relation_reads, state_reads, link_reads, transition_reads}

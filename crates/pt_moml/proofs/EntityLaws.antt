@@ -2,23 +2,23 @@
 use Rattle.std.proofs.Common.{◌≡◌, ◌<◌, inl, inr, List, [], ℕ, zero, suc, Result, Ok, Err, Option, Some, None, true, false, codes, map, refl, sym, ap, ◌∙◌, subst, arith}
 use Rattle.serde_json.specs.Data.{Data, null, boolean, number, string, array, object as members_of, Items, depth}
 use Rattle.serde_json.specs.Find.{get, get_item, as_array}
-use Rattle.pt_moml.specs.declared.code.Code.{Code}
-use Rattle.pt_moml.specs.declared.code.Code.TheVariants as code
-use Rattle.pt_moml.specs.declared.job.Link.{Link}
-use Rattle.pt_moml.specs.declared.job.Relation.{Relation}
-use Rattle.pt_moml.specs.declared.job.State.{State}
-use Rattle.pt_moml.specs.declared.refusal.Refusal.{Refusal}
-use Rattle.pt_moml.specs.Document.{PropertyTree, PortTree, TransitionTree, Parts, EntityTree, entity, to_entities, entity_name}
-use Rattle.pt_moml.specs.Classes.{Kind, kind_of}
-use Rattle.pt_moml.specs.Names.{is_name, are_distinct, below}
-use Rattle.pt_moml.specs.Outcome.{refused}
+use Rattle.pt_document.specs.declared.code.Code.{Code}
+use Rattle.pt_document.specs.declared.code.Code.TheVariants as code
+use Rattle.pt_document.specs.declared.job.Link.{Link}
+use Rattle.pt_document.specs.declared.job.Relation.{Relation}
+use Rattle.pt_document.specs.declared.job.State.{State}
+use Rattle.pt_document.specs.declared.refusal.Refusal.{Refusal}
+use Rattle.pt_document.specs.Document.{PropertyTree, PortTree, TransitionTree, Parts, EntityTree, entity, to_entities, entity_name}
+use Rattle.pt_document.specs.Classes.{Kind, kind_of}
+use Rattle.pt_document.specs.Names.{is_name, are_distinct, below}
+use Rattle.pt_document.specs.Outcome.{refused}
 use Rattle.pt_moml.specs.Fields.{listed, required_text, name_at, items_at, optional_list, distinct_at}
 use Rattle.pt_moml.specs.Rules.{parts_fit}
 use Rattle.pt_moml.specs.Reading.{named, kind_given, kind_at, entity_fields, properties_field, ports_field, relations_field, link_at, states_field, initial_field, transition_at, parts_at, entity_from, entity_at, entities_in, entities_at, entity_items, entities_field}
 use Rattle.pt_moml.specs.Forms as forms
 use Rattle.pt_moml.specs.Forms.{object}
 use Rattle.pt_moml.specs.Stands.{Faulty, BreaksRule, InEntity, no_class, unknown_class, in_form, in_rule, no_children, child_without_name, child_not_named, in_child, same_child_names, text_in}
-use Rattle.pt_moml.proofs.Chains.{Is, good, is_refused, bind_err, bind_ok, never_err, never_ok, test_err, test_ok}
+use Rattle.pt_document.proofs.Chains.{Is, good, is_refused, bind_err, bind_ok, never_err, never_ok, test_err, test_ok}
 use Rattle.pt_moml.proofs.Depths.{field_item_depth}
 use Rattle.pt_moml.proofs.Entities.{items_are}
 use Rattle.pt_moml.proofs.ItemLists.{items_told, items_clean, items_named, AreNames, not_distinct, distinct_clean}

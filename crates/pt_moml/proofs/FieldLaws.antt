@@ -3,22 +3,22 @@ use Rattle.std.proofs.Common.{◌≡◌, ◌⊎◌, inl, inr, List, [], ℕ, Res
 use Rattle.std.specs.Prelude.{option_and_then}
 use Rattle.serde_json.specs.Data.{Data, null, boolean, number, string, array, object as members_of, Items}
 use Rattle.serde_json.specs.Find.{get_item, as_str, as_array, as_bool}
-use Rattle.pt_moml.specs.declared.code.Code.{Code}
-use Rattle.pt_moml.specs.declared.code.Code.TheVariants.{Shape, Name}
-use Rattle.pt_moml.specs.declared.refusal.Refusal.{Refusal}
-use Rattle.pt_moml.specs.Outcome.{◌>>=◌, refused}
-use Rattle.pt_moml.specs.Names.{is_name, are_distinct}
-use Rattle.pt_moml.specs.TypeTexts.{TypeTree, IsTextOf}
-use Rattle.pt_moml.specs.TypeWords.{is_type_text}
+use Rattle.pt_document.specs.declared.code.Code.{Code}
+use Rattle.pt_document.specs.declared.code.Code.TheVariants.{Shape, Name}
+use Rattle.pt_document.specs.declared.refusal.Refusal.{Refusal}
+use Rattle.pt_document.specs.Outcome.{◌>>=◌, refused}
+use Rattle.pt_document.specs.Names.{is_name, are_distinct}
+use Rattle.pt_document.specs.TypeTexts.{TypeTree, IsTextOf}
+use Rattle.pt_document.specs.TypeWords.{is_type_text}
 use Rattle.pt_moml.specs.Fields.{text_at, required_text, optional_text, name_at, truth_at, required_truth, optional_truth, whole, required_whole, items_at, required_list, optional_list, distinct_at}
 use Rattle.pt_moml.specs.Forms as forms
 use Rattle.pt_moml.specs.Forms.{Form, list, named}
 use Rattle.pt_moml.specs.Reading.{declared_at, token_at}
 use Rattle.pt_moml.specs.Reading.{named as named_list}
 use Rattle.pt_moml.specs.Stands.{Faulty, no_text, no_name, not_a_name, no_type, not_a_type, no_truth, no_whole, no_token, no_list, in_item, in_list, same_names, as_whole, text_in, is_null}
-use Rattle.pt_moml.proofs.TypeLaws.{text_is_taken}
-use Rattle.pt_moml.proofs.TypeSound.{taken_is_text}
-use Rattle.pt_moml.proofs.Chains.{Is, good, is_refused, bind_err, bind_ok, never_err, never_ok, test_err, test_ok}
+use Rattle.pt_document.proofs.TypeLaws.{text_is_taken}
+use Rattle.pt_document.proofs.TypeSound.{taken_is_text}
+use Rattle.pt_document.proofs.Chains.{Is, good, is_refused, bind_err, bind_ok, never_err, never_ok, test_err, test_ok}
 use Rattle.pt_moml.proofs.ItemLists.{items_told, items_clean, items_named, AreNames, not_distinct, distinct_clean}
 
 -- no refusal stands in the value

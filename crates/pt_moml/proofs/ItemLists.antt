@@ -4,11 +4,11 @@ use Rattle.std.specs.Prelude.{option_and_then}
 use Rattle.std.proofs.lemmas.Slice.Eq.{bytes_eq-Decides}
 use Rattle.serde_json.specs.Data.{Data, Items, no_items, item}
 use Rattle.serde_json.specs.Find.{get_item}
-use Rattle.pt_moml.specs.declared.refusal.Refusal.{Refusal}
-use Rattle.pt_moml.specs.Names.{has_name, are_distinct_after}
+use Rattle.pt_document.specs.declared.refusal.Refusal.{Refusal}
+use Rattle.pt_document.specs.Names.{has_name, are_distinct_after}
 use Rattle.pt_moml.specs.Fields.{items_at}
 use Rattle.pt_moml.specs.Stands.{text_in, HasRepeatedName}
-use Rattle.pt_moml.proofs.Chains.{bind_err, bind_ok}
+use Rattle.pt_document.proofs.Chains.{bind_err, bind_ok}
 
 -- a list that isn't read has an item that isn't
 pub items_told : {A : Type 0} (read : Data → Result A Refusal) (done : List A) (ds : Items) (r : Refusal) → items_at read done ds ≡ Err r → (i : ℕ) × (x : Data) × (get_item i ds ≡ Some x) × (read x ≡ Err r)

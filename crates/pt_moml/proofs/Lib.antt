@@ -1,16 +1,10 @@
-pub mod Lists
 pub mod Members
-pub mod DistinctNames
-pub mod Refusals
 pub mod Depths
 pub mod FoundFields
 pub mod Properties
-pub mod Trees
 pub mod PropertyViews
 pub mod Nests
 pub mod Entities
-pub mod TypeWords
-pub mod Chains
 pub mod Stages
 pub mod ItemLists
 pub mod FieldLaws
@@ -22,6 +16,3 @@ pub mod RuleLaws
 pub mod EntityForms
 pub mod EntityLaws
 pub mod DocumentLaws
-pub mod TextWords
-pub mod TypeLaws
-pub mod TypeSound

@@ -9,7 +9,7 @@ use Rattle.std.specs.Ordering.{match_ordering}
 use Rattle.serde_json.specs.Data.{Data, Members, no_members, member, put}
 use Rattle.pt_json.specs.View.{members_after, view, members_view}
 use Rattle.pt_json.specs.declared.value.Value.{Value}
-use Rattle.pt_moml.specs.Names.{is_among}
+use Rattle.pt_document.specs.Names.{is_among}
 use Rattle.pt_moml.specs.Fields.{has_only}
 
 -- each of these is among the names

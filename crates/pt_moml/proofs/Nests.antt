@@ -6,7 +6,7 @@ use Rattle.serde_json.specs.Data.{Data, null, boolean, number, string, array, ob
 use Rattle.serde_json.specs.Find.{get, get_member}
 use Rattle.pt_json.specs.View.{view, items_view}
 use Rattle.pt_json.specs.declared.value.Value.{Value}
-use Rattle.pt_moml.proofs.Lists.{drop_item}
+use Rattle.pt_document.proofs.Lists.{drop_item}
 use Rattle.pt_moml.specs.Limits.{Nest, no_nest, one_nest, count, levels, nest_in, nest_under, nest_at, nest_items, nest_field, room_behind, is_within}
 use Rattle.pt_moml.proofs.FoundFields.{found, under_is}
 

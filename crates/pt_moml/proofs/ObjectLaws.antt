@@ -6,15 +6,15 @@ use Rattle.std.proofs.lemmas.Map.Text.{is_eq-slice_cmp}
 use Rattle.std.proofs.lemmas.Slice.Eq.{bytes_eq-Decides}
 use Rattle.serde_json.specs.Data.{Data, null, boolean, number, string, array, object as members_of, Members, no_members, member}
 use Rattle.serde_json.specs.Find.{get, get_member}
-use Rattle.pt_moml.specs.declared.code.Code.{Code}
-use Rattle.pt_moml.specs.declared.code.Code.TheVariants.{Shape}
-use Rattle.pt_moml.specs.declared.refusal.Refusal.{Refusal}
-use Rattle.pt_moml.specs.Outcome.{◌>>=◌}
-use Rattle.pt_moml.specs.Names.{is_among}
+use Rattle.pt_document.specs.declared.code.Code.{Code}
+use Rattle.pt_document.specs.declared.code.Code.TheVariants.{Shape}
+use Rattle.pt_document.specs.declared.refusal.Refusal.{Refusal}
+use Rattle.pt_document.specs.Outcome.{◌>>=◌}
+use Rattle.pt_document.specs.Names.{is_among}
 use Rattle.pt_moml.specs.Fields.{has_only, listed}
 use Rattle.pt_moml.specs.Forms.{Object, Field, fields, keys, object}
 use Rattle.pt_moml.specs.Stands.{Faulty, unknown_field, missing_field, in_field, undirected, IsIn, is_object_of, is_directed}
-use Rattle.pt_moml.proofs.Chains.{Is, is_refused, bind_err, bind_ok, never_err, test_err, test_ok}
+use Rattle.pt_document.proofs.Chains.{Is, is_refused, bind_err, bind_ok, never_err, test_err, test_ok}
 use Rattle.pt_moml.proofs.FieldLaws.{Fine, Reads, AtField, absent, within, FineAt, ReadsAt, moved}
 
 -- nothing is refused at these fields

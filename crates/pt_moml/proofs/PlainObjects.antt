@@ -3,8 +3,8 @@ use Rattle.std.proofs.Common.{◌≡◌, inl, inr, List, ℕ, Bool, true, false,
 use Rattle.std.specs.Prelude.{is_some}
 use Rattle.serde_json.specs.Data.{Data}
 use Rattle.serde_json.specs.Find.{get}
-use Rattle.pt_moml.specs.declared.code.Code.{Code}
-use Rattle.pt_moml.specs.declared.refusal.Refusal.{Refusal}
+use Rattle.pt_document.specs.declared.code.Code.{Code}
+use Rattle.pt_document.specs.declared.refusal.Refusal.{Refusal}
 use Rattle.pt_moml.specs.Fields.{required_text, optional_text, name_at, required_truth, optional_truth, required_whole, required_list, optional_list}
 use Rattle.pt_moml.specs.Forms as forms
 use Rattle.pt_moml.specs.Forms.{list, object}

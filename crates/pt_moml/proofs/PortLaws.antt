@@ -4,17 +4,17 @@ use Rattle.std.specs.Prelude.{option_and_then, unwrap_or}
 use mathlib.Core.Bool.{xor}
 use Rattle.serde_json.specs.Data.{Data}
 use Rattle.serde_json.specs.Find.{get, as_bool}
-use Rattle.pt_moml.specs.declared.code.Code.TheVariants.{Shape}
-use Rattle.pt_moml.specs.declared.job.Direction.{Direction}
-use Rattle.pt_moml.specs.declared.refusal.Refusal.{Refusal}
-use Rattle.pt_moml.specs.Document.{PortTree, PropertyTree}
-use Rattle.pt_moml.specs.Outcome.{◌>>=◌}
+use Rattle.pt_document.specs.declared.code.Code.TheVariants.{Shape}
+use Rattle.pt_document.specs.declared.job.Direction.{Direction}
+use Rattle.pt_document.specs.declared.refusal.Refusal.{Refusal}
+use Rattle.pt_document.specs.Document.{PortTree, PropertyTree}
+use Rattle.pt_document.specs.Outcome.{◌>>=◌}
 use Rattle.pt_moml.specs.Fields.{listed, name_at, optional_truth}
 use Rattle.pt_moml.specs.Forms as forms
 use Rattle.pt_moml.specs.Forms.{Field, named, object}
 use Rattle.pt_moml.specs.Reading.{port_fields, port_at, direction_at, declared_at, properties_field}
 use Rattle.pt_moml.specs.Stands.{undirected, is_true_in}
-use Rattle.pt_moml.proofs.Chains.{Is, good, is_refused, bind_err, bind_ok, never_ok}
+use Rattle.pt_document.proofs.Chains.{Is, good, is_refused, bind_err, bind_ok, never_ok}
 use Rattle.pt_moml.proofs.FieldLaws.{Reads, NamesRead, name_reads, name_ok, optional_truth_reads, truth_ok, declared_reads, moved}
 use Rattle.pt_moml.proofs.ObjectLaws.{Chain, chain_end, chain_step, object_reads}
 use Rattle.pt_moml.proofs.PropertyLaws.{properties_reads}

@@ -2,13 +2,13 @@
 use Rattle.std.proofs.Common.{◌≡◌, ℕ, List, [], ◌∷◌, ◌++◌, Option, Some, None, Result, Ok, Err, refl, ap, ◌∙◌, codes}
 use Rattle.serde_json.specs.Data.{Data, null, boolean, number, string, array, object, Items, no_items, item}
 use Rattle.serde_json.specs.Find.{get, get_member}
-use Rattle.pt_moml.specs.declared.refusal.Refusal.{Refusal}
-use Rattle.pt_moml.specs.Document.{PropertyTree, property, to_properties, filled}
-use Rattle.pt_moml.specs.Outcome.{◌>>=◌}
+use Rattle.pt_document.specs.declared.refusal.Refusal.{Refusal}
+use Rattle.pt_document.specs.Document.{PropertyTree, property, to_properties, filled}
+use Rattle.pt_document.specs.Outcome.{◌>>=◌}
 use Rattle.pt_moml.specs.Fields.{listed, name_at, optional_text, items_at}
 use Rattle.pt_moml.specs.Reading.{property_fields, property_from, property_at, properties_in, properties_under, properties_at, property_items, properties_field}
 use Rattle.pt_moml.proofs.FoundFields.{found, under_is}
-use Rattle.pt_moml.proofs.Refusals.{bind_same}
+use Rattle.pt_document.proofs.Refusals.{bind_same}
 
 abbrev Read : Type 0
 Read = Result (List PropertyTree) Refusal

@@ -2,13 +2,13 @@
 use Rattle.std.proofs.Common.{◌≡◌, ◌<◌, inl, inr, List, [], ℕ, zero, suc, Result, Option, Some, false, codes, refl, sym, ap, ◌∙◌, subst, arith}
 use Rattle.serde_json.specs.Data.{Data, null, boolean, number, string, array, object as members_of, depth}
 use Rattle.serde_json.specs.Find.{get}
-use Rattle.pt_moml.specs.declared.refusal.Refusal.{Refusal}
-use Rattle.pt_moml.specs.Document.{PropertyTree, property, property_name, to_properties}
+use Rattle.pt_document.specs.declared.refusal.Refusal.{Refusal}
+use Rattle.pt_document.specs.Document.{PropertyTree, property, property_name, to_properties}
 use Rattle.pt_moml.specs.Fields.{listed, name_at, optional_text}
 use Rattle.pt_moml.specs.Forms as forms
 use Rattle.pt_moml.specs.Forms.{named, list, object}
 use Rattle.pt_moml.specs.Reading.{property_fields, property_from, property_at, properties_in, properties_at, property_items, properties_field}
-use Rattle.pt_moml.proofs.Chains.{good, bind_ok}
+use Rattle.pt_document.proofs.Chains.{good, bind_ok}
 use Rattle.pt_moml.proofs.Depths.{field_item_depth}
 use Rattle.pt_moml.proofs.FieldLaws.{Reads, ReadsAt, ItemsRead, NamesRead, optional_reads, name_reads, name_ok, optional_text_reads, items_read, named_value, no_named_reads}
 use Rattle.pt_moml.proofs.ObjectLaws.{chain_end, chain_step, object_reads}

@@ -1,11 +1,11 @@
 -- What a contract sees of a property's fields.
 use Rattle.std.proofs.Common.{◌≡◌, ℕ, List, Some, sym, ap, ◌∙◌, rules}
-use Rattle.pt_moml.specs.declared.job.Property.{Property, out-Property, the_lemmas}
-use Rattle.pt_moml.specs.Document.{to_properties, property_list, property_class, inner_properties}
-use Rattle.pt_moml.specs.Classes.{DirectorClass, director_row}
+use Rattle.pt_document.specs.declared.job.Property.{Property, out-Property, the_lemmas}
+use Rattle.pt_document.specs.Document.{to_properties, property_list, property_class, inner_properties}
+use Rattle.pt_document.specs.Classes.{DirectorClass, director_row}
 use Rattle.pt_moml.specs.Rules.{classed_fits, director_fits, parameters_fit}
-use Rattle.pt_moml.specs.View.{property_view, properties_view}
-use Rattle.pt_moml.proofs.Trees.{property_list_of}
+use Rattle.pt_document.specs.View.{property_view, properties_view}
+use Rattle.pt_document.proofs.Trees.{property_list_of}
 
 class-view : (p : Property) → property_class (property_view p) ≡ (out-Property p).class
 class-view p = search (rules, the_lemmas)

@@ -1,16 +1,16 @@
 -- What is refused by the rules on properties and ports stands there, and where they are kept nothing stands.
 use Rattle.std.proofs.Common.{◌≡◌, ◌&&◌, inl, inr, List, [], ◌∷◌, ℕ, Result, Ok, Err, Option, Some, None, Bool, true, false, not, cond, map, refl, sym, ap, ◌∙◌, subst}
 use Rattle.std.specs.Prelude.{is_some}
-use Rattle.pt_moml.specs.declared.code.Code.{Code}
-use Rattle.pt_moml.specs.declared.code.Code.TheVariants as code
-use Rattle.pt_moml.specs.declared.refusal.Refusal.{Refusal}
-use Rattle.pt_moml.specs.Document.{PropertyTree, property_name, property_value, property_class, inner_properties, PortTree}
-use Rattle.pt_moml.specs.Classes.{ClassParameter, Class, DirectorClass, director_row, Kind, Composite, Modal, Actor}
-use Rattle.pt_moml.specs.Names.{below, is_among, is_layout, is_reserved}
-use Rattle.pt_moml.specs.Outcome.{refused}
+use Rattle.pt_document.specs.declared.code.Code.{Code}
+use Rattle.pt_document.specs.declared.code.Code.TheVariants as code
+use Rattle.pt_document.specs.declared.refusal.Refusal.{Refusal}
+use Rattle.pt_document.specs.Document.{PropertyTree, property_name, property_value, property_class, inner_properties, PortTree}
+use Rattle.pt_document.specs.Classes.{ClassParameter, Class, DirectorClass, director_row, Kind, Composite, Modal, Actor}
+use Rattle.pt_document.specs.Names.{below, is_among, is_layout, is_reserved}
+use Rattle.pt_document.specs.Outcome.{refused}
 use Rattle.pt_moml.specs.Rules.{each, parameter_names, parameter_fits, is_needed, parameter_given, parameters_fit, value_fits, director_fits, classed_fits, composite_property, is_of_modal, modal_property, directors_among, at_most_one, director_at, rate_rows, port_fits, is_direction, declared_fits, enough_ports, parts_fit}
 use Rattle.pt_moml.specs.Stands.{IsIn, BreaksParameter, with_class, unknown_parameter, without_value, BreaksParameters, in_parameter, missing_parameter, BreaksValue, reserved_name, no_value, BreaksProperty, in_value, no_director, in_director, no_variable, in_variable, BreaksPort, reserved_port, in_rate, BreaksRule, in_property, two_directors, in_port_of_composite, in_port_of_modal, in_parameters, no_ports, other_direction, port_is_there, in_port_of_actor}
-use Rattle.pt_moml.proofs.Chains.{Is, is_refused, bind_err, bind_ok, never_err, never_ok}
+use Rattle.pt_document.proofs.Chains.{Is, is_refused, bind_err, bind_ok, never_err, never_ok}
 
 abbrev Checked : Type 0
 Checked = Result (Unit {0}) Refusal

@@ -2,22 +2,22 @@
 use Rattle.std.proofs.Common.{◌≡◌, ℕ, List, Option, Bool, Result, Ok, Err, codes, refl}
 use Rattle.serde_json.specs.Data.{Data}
 use Rattle.serde_json.specs.Find.{get}
-use Rattle.pt_moml.specs.declared.refusal.Refusal.{Refusal}
-use Rattle.pt_moml.specs.declared.job.Direction.{Direction}
-use Rattle.pt_moml.specs.declared.job.Relation.{Relation}
-use Rattle.pt_moml.specs.declared.job.Link.{Link}
-use Rattle.pt_moml.specs.declared.job.State.{State}
-use Rattle.pt_moml.specs.declared.job.OutputAction.{OutputAction}
-use Rattle.pt_moml.specs.declared.job.SetAction.{SetAction}
+use Rattle.pt_document.specs.declared.refusal.Refusal.{Refusal}
+use Rattle.pt_document.specs.declared.job.Direction.{Direction}
+use Rattle.pt_document.specs.declared.job.Relation.{Relation}
+use Rattle.pt_document.specs.declared.job.Link.{Link}
+use Rattle.pt_document.specs.declared.job.State.{State}
+use Rattle.pt_document.specs.declared.job.OutputAction.{OutputAction}
+use Rattle.pt_document.specs.declared.job.SetAction.{SetAction}
 use Rattle.pt_moml.specs.declared.parts.Way.{Way}
-use Rattle.pt_moml.specs.Document.{PropertyTree, PortTree, TransitionTree, Parts, EntityTree, entity, to_entities, Effect, Wiring, Machine, InputTree, Surroundings, JobTree}
-use Rattle.pt_moml.specs.Classes.{Kind}
-use Rattle.pt_moml.specs.Outcome.{◌>>=◌}
-use Rattle.pt_moml.specs.Names.{top_path}
+use Rattle.pt_document.specs.Document.{PropertyTree, PortTree, TransitionTree, Parts, EntityTree, entity, to_entities, Effect, Wiring, Machine, InputTree, Surroundings, JobTree}
+use Rattle.pt_document.specs.Classes.{Kind}
+use Rattle.pt_document.specs.Outcome.{◌>>=◌}
+use Rattle.pt_document.specs.Names.{top_path}
 use Rattle.pt_moml.specs.Fields.{text_at, required_text, name_at, required_truth, optional_truth, listed, optional_list}
 use Rattle.pt_moml.specs.Rules.{parts_fit}
 use Rattle.pt_moml.specs.Reading.{direction_at, link_at, output_at, set_at, kind_at, ports_field, relations_field, states_field, initial_field, input_at, port_fields, properties_field, declared_at, facing_at, port_at, transition_fields, way_at, effect_at, transition_at, entity_fields, wiring_at, machine_at, parts_at, own_at, entity_from, job_fields, version_at, model_at, surroundings_at, job_of}
-use Rattle.pt_moml.proofs.Refusals.{bind_on}
+use Rattle.pt_document.proofs.Refusals.{bind_on}
 
 abbrev pub port_in_stages : List ℕ → Data → Result PortTree Refusal
 port_in_stages path d = do

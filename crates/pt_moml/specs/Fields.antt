@@ -2,10 +2,10 @@
 use Rattle.std.specs.Prelude.{ℕ, List, [], ◌∷◌, ◌++◌, Bool, true, false, Option, Some, None, option_and_then, Result, Ok, if◌then◌else◌}
 use Rattle.serde_json.specs.Data.{Data, boolean, string, array, object, Items, no_items, item, Members, no_members, member}
 use Rattle.serde_json.specs.Find.{as_number, as_u64}
-use Rattle.pt_moml.specs.declared.code.Code.TheVariants.{Shape, Name}
-use Rattle.pt_moml.specs.declared.refusal.Refusal.{Refusal}
-use Rattle.pt_moml.specs.Names.{is_name, is_among, are_distinct}
-use Rattle.pt_moml.specs.Outcome.{◌>>=◌, refused}
+use Rattle.pt_document.specs.declared.code.Code.TheVariants.{Shape, Name}
+use Rattle.pt_document.specs.declared.refusal.Refusal.{Refusal}
+use Rattle.pt_document.specs.Names.{is_name, is_among, are_distinct}
+use Rattle.pt_document.specs.Outcome.{◌>>=◌, refused}
 
 -- ---- single values
 

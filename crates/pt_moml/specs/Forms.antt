@@ -1,6 +1,6 @@
 -- The table of the format: which fields an object has, and what stands at each.
 use Rattle.std.specs.Prelude.{ℕ, List, [], ◌∷◌, Bool, true, false, codes, is_some, map, if◌then◌else◌}
-use Rattle.pt_moml.specs.Classes.{Kind, Composite, Modal, Actor}
+use Rattle.pt_document.specs.Classes.{Kind, Composite, Modal, Actor}
 
 -- the objects of a document
 pub data Object : Type 0 where

@@ -1,11 +1,4 @@
-pub mod Codes
-pub mod Document
-pub mod View
-pub mod Classes
-pub mod Outcome
-pub mod Names
-pub mod TypeTexts
-pub mod TypeWords
+pub mod StageView
 pub mod Fields
 pub mod Rules
 pub mod Limits

@@ -5,25 +5,25 @@ use Rattle.std.specs.Cmp.Lexicographic.{slice_cmp}
 use Rattle.serde_json.specs.Data.{Data, null, array, object, Items, no_items, item, Members, no_members, member}
 use Rattle.serde_json.specs.Find.{get, as_number, as_u64}
 use Rattle.serde_json.specs.Read.{read}
-use Rattle.pt_moml.specs.declared.code.Code.TheVariants.{Json, Shape, Class, Limit}
-use Rattle.pt_moml.specs.declared.job.Direction.{Direction}
-use Rattle.pt_moml.specs.declared.job.Direction.TheVariants.{Input, Output}
-use Rattle.pt_moml.specs.declared.job.Relation.{Relation}
-use Rattle.pt_moml.specs.declared.job.Link.{Link}
-use Rattle.pt_moml.specs.declared.job.Link.TheVariants.{Port, Relations}
-use Rattle.pt_moml.specs.declared.job.State.{State}
-use Rattle.pt_moml.specs.declared.job.OutputAction.{OutputAction}
-use Rattle.pt_moml.specs.declared.job.SetAction.{SetAction}
-use Rattle.pt_moml.specs.declared.job.Event.{Event}
+use Rattle.pt_document.specs.declared.code.Code.TheVariants.{Json, Shape, Class, Limit}
+use Rattle.pt_document.specs.declared.job.Direction.{Direction}
+use Rattle.pt_document.specs.declared.job.Direction.TheVariants.{Input, Output}
+use Rattle.pt_document.specs.declared.job.Relation.{Relation}
+use Rattle.pt_document.specs.declared.job.Link.{Link}
+use Rattle.pt_document.specs.declared.job.Link.TheVariants.{Port, Relations}
+use Rattle.pt_document.specs.declared.job.State.{State}
+use Rattle.pt_document.specs.declared.job.OutputAction.{OutputAction}
+use Rattle.pt_document.specs.declared.job.SetAction.{SetAction}
+use Rattle.pt_document.specs.declared.job.Event.{Event}
 use Rattle.pt_moml.specs.declared.parts.Way.{Way}
-use Rattle.pt_moml.specs.declared.refusal.Refusal.{Refusal}
-use Rattle.pt_moml.specs.declared.refusal.DocFault.{DocFault}
-use Rattle.pt_moml.specs.declared.refusal.DocFault.TheVariants as faults
-use Rattle.pt_moml.specs.Document.{PropertyTree, property, to_properties, property_name, PortTree, TransitionTree, Effect, Parts, Wiring, Machine, EntityTree, entity, to_entities, entity_name, tokens, events, InputTree, Surroundings, JobTree}
-use Rattle.pt_moml.specs.Classes.{Kind, Modal, kind_of}
-use Rattle.pt_moml.specs.Outcome.{◌>>=◌, refused}
-use Rattle.pt_moml.specs.Names.{top_path, below}
-use Rattle.pt_moml.specs.TypeWords.{is_type_text}
+use Rattle.pt_document.specs.declared.refusal.Refusal.{Refusal}
+use Rattle.pt_document.specs.declared.refusal.DocFault.{DocFault}
+use Rattle.pt_document.specs.declared.refusal.DocFault.TheVariants as faults
+use Rattle.pt_document.specs.Document.{PropertyTree, property, to_properties, property_name, PortTree, TransitionTree, Effect, Parts, Wiring, Machine, EntityTree, entity, to_entities, entity_name, tokens, events, InputTree, Surroundings, JobTree}
+use Rattle.pt_document.specs.Classes.{Kind, Modal, kind_of}
+use Rattle.pt_document.specs.Outcome.{◌>>=◌, refused}
+use Rattle.pt_document.specs.Names.{top_path, below}
+use Rattle.pt_document.specs.TypeWords.{is_type_text}
 use Rattle.pt_moml.specs.Fields.{text_at, required_text, optional_text, name_at, required_truth, optional_truth, required_whole, listed, required_list, optional_list, distinct_at}
 use Rattle.pt_moml.specs.Rules.{parts_fit}
 use Rattle.pt_moml.specs.Limits.{nest_field, is_within}

@@ -1,18 +1,18 @@
 -- What the parts of an entity have to keep beside their form.
 use Rattle.std.specs.Prelude.{ℕ, ◌&&◌, List, [], ◌∷◌, Bool, true, false, not, codes, Option, Some, None, Result, Ok, if◌then◌else◌, is_some, option_and_then, map, bytes_eq}
 use Rattle.std.specs.List.{filter_map}
-use Rattle.pt_moml.specs.declared.code.Code.TheVariants as code
-use Rattle.pt_moml.specs.declared.job.Direction.{Direction}
-use Rattle.pt_moml.specs.declared.job.Direction.TheVariants.{Input, Output}
-use Rattle.pt_moml.specs.declared.classes.Need.{Need}
-use Rattle.pt_moml.specs.declared.classes.Need.TheVariants.{Optional, Required, RequiredAtTop}
-use Rattle.pt_moml.specs.declared.classes.Director.{Director}
-use Rattle.pt_moml.specs.declared.classes.Director.TheVariants as director
-use Rattle.pt_moml.specs.declared.refusal.Refusal.{Refusal}
-use Rattle.pt_moml.specs.Document.{PropertyTree, property_name, property_value, property_class, inner_properties, PortTree}
-use Rattle.pt_moml.specs.Classes.{ClassParameter, Class, DirectorClass, director_row, Kind, Composite, Modal, Actor}
-use Rattle.pt_moml.specs.Outcome.{◌>>=◌, refused}
-use Rattle.pt_moml.specs.Names.{top_path, below, is_among, is_layout, is_reserved}
+use Rattle.pt_document.specs.declared.code.Code.TheVariants as code
+use Rattle.pt_document.specs.declared.job.Direction.{Direction}
+use Rattle.pt_document.specs.declared.job.Direction.TheVariants.{Input, Output}
+use Rattle.pt_document.specs.declared.classes.Need.{Need}
+use Rattle.pt_document.specs.declared.classes.Need.TheVariants.{Optional, Required, RequiredAtTop}
+use Rattle.pt_document.specs.declared.classes.Director.{Director}
+use Rattle.pt_document.specs.declared.classes.Director.TheVariants as director
+use Rattle.pt_document.specs.declared.refusal.Refusal.{Refusal}
+use Rattle.pt_document.specs.Document.{PropertyTree, property_name, property_value, property_class, inner_properties, PortTree}
+use Rattle.pt_document.specs.Classes.{ClassParameter, Class, DirectorClass, director_row, Kind, Composite, Modal, Actor}
+use Rattle.pt_document.specs.Outcome.{◌>>=◌, refused}
+use Rattle.pt_document.specs.Names.{top_path, below, is_among, is_layout, is_reserved}
 
 -- each of these keeps the rule
 abbrev pub each : {A : Type 0} → (A → Result (Unit {0}) Refusal) → List A → Result (Unit {0}) Refusal

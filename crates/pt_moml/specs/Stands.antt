@@ -3,14 +3,14 @@ use Rattle.std.specs.Prelude.{◌≡◌, ◌<◌, ◌+◌, ◌⊎◌, ℕ, List,
 use Rattle.std.specs.Bool.{xor}
 use Rattle.serde_json.specs.Data.{Data, null, object as members_of, Items}
 use Rattle.serde_json.specs.Find.{get, get_item, as_str, as_array, as_bool, as_number, as_u64}
-use Rattle.pt_moml.specs.declared.code.Code.{Code}
-use Rattle.pt_moml.specs.declared.code.Code.TheVariants.{Json, Shape, Name, Class, Parameter, Limit}
-use Rattle.pt_moml.specs.declared.refusal.DocFault.{DocFault}
-use Rattle.pt_moml.specs.declared.refusal.DocFault.TheVariants as faults
-use Rattle.pt_moml.specs.Document.{PropertyTree, property_name, property_value, property_class, inner_properties, PortTree, Parts}
-use Rattle.pt_moml.specs.Classes.{ClassParameter, Class as ClassOf, DirectorClass, director_row, Kind, Composite, Modal, Actor, kind_of}
-use Rattle.pt_moml.specs.Names.{is_name, is_among, is_layout, is_reserved, below, top_path}
-use Rattle.pt_moml.specs.TypeTexts.{TypeTree, IsTextOf}
+use Rattle.pt_document.specs.declared.code.Code.{Code}
+use Rattle.pt_document.specs.declared.code.Code.TheVariants.{Json, Shape, Name, Class, Parameter, Limit}
+use Rattle.pt_document.specs.declared.refusal.DocFault.{DocFault}
+use Rattle.pt_document.specs.declared.refusal.DocFault.TheVariants as faults
+use Rattle.pt_document.specs.Document.{PropertyTree, property_name, property_value, property_class, inner_properties, PortTree, Parts}
+use Rattle.pt_document.specs.Classes.{ClassParameter, Class as ClassOf, DirectorClass, director_row, Kind, Composite, Modal, Actor, kind_of}
+use Rattle.pt_document.specs.Names.{is_name, is_among, is_layout, is_reserved, below, top_path}
+use Rattle.pt_document.specs.TypeTexts.{TypeTree, IsTextOf}
 use Rattle.pt_moml.specs.Forms as forms
 use Rattle.pt_moml.specs.Forms.{Object, Form, Field, fields, keys, object, list, named, job, entity, port, port_link, relations_link, tokens_input, events_input}
 use Rattle.pt_moml.specs.Fields.{has_only}

@@ -1,17 +1,16 @@
 // The whole document.
 ghost use Rattle.std.specs.Prelude.{◌≡◌, map, option_map, IfOk, IfErr, OnOk};
 ghost use Rattle.pt_json.specs.View.{view};
-ghost use Rattle.pt_moml.specs.Outcome.{Gives};
+ghost use Rattle.pt_document.specs.Outcome.{Gives};
 ghost use Rattle.pt_moml.specs.Reading.{version_at, limits_at, model_at, surroundings_at, job_of, IsJobOf, IsReadFault};
 ghost use Rattle.pt_moml.specs.Stands.{FaultStands, IsClean};
-ghost use Rattle.pt_moml.specs.View.{entity_view, surroundings_view, job_view};
+ghost use Rattle.pt_document.specs.View.{entity_view, job_view};
+ghost use Rattle.pt_moml.specs.StageView.{surroundings_view};
 
-use crate::code::Code;
 use crate::entity::entity_of_name;
 use crate::fields::{has_fields, list_or_empty, name_of};
-use crate::job::{Entity, Input, Job};
 use crate::limits::is_within;
-use crate::refusal::{DocFault, refused};
+use pt_document::{Code, DocFault, Entity, Input, Job, refused};
 use pt_json::{Scratch, Unread, Value};
 use pt_value::Text;
 use std::alloc::Global;

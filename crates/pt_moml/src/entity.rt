@@ -2,21 +2,21 @@
 ghost use Rattle.std.specs.Prelude.{◌≡◌, [], codes, map, option_map, IfOk};
 ghost use Rattle.serde_json.specs.Find.{get};
 ghost use Rattle.pt_json.specs.View.{view, items_view};
-ghost use Rattle.pt_moml.specs.Classes.{kind_view};
-ghost use Rattle.pt_moml.specs.Document.{entity, to_entities};
-ghost use Rattle.pt_moml.specs.Outcome.{Gives};
+ghost use Rattle.pt_document.specs.Classes.{kind_view};
+ghost use Rattle.pt_document.specs.Document.{entity, to_entities};
+ghost use Rattle.pt_document.specs.Outcome.{Gives};
 ghost use Rattle.pt_moml.specs.Rules as rules;
 ghost use Rattle.pt_moml.specs.Reading.{entity_fields, kind_at, ports_field, relations_field, states_field, initial_field, wiring_at, machine_at, parts_at, own_at, entity_from, entity_at, entities_field, entity_items};
-ghost use Rattle.pt_moml.specs.View.{wiring_view, machine_view, own_view, port_view, entity_view, entities_view};
+ghost use Rattle.pt_document.specs.View.{port_view, entity_view, entities_view};
+ghost use Rattle.pt_moml.specs.StageView.{wiring_view, machine_view, own_view};
 
-use crate::classes::{Kind, kind_named};
-use crate::code::Code;
 use crate::fields::{Named, has_fields, list, list_or_empty, name_of, names_differ, required};
-use crate::job::{Entity, Link, Port, Property, Relation, State, Transition};
-use crate::names::path_below;
 use crate::property::properties_of;
-use crate::refusal::{DocFault, refused};
 use crate::rules::parts_fit;
+use pt_document::{
+    Code, DocFault, Entity, Kind, Link, Port, Property, Relation, State, Transition, kind_named,
+    path_below, refused,
+};
 use pt_json::Value;
 use pt_value::Text;
 use std::alloc::Global;
@@ -49,8 +49,8 @@ struct Own {
 
 impl Named for Entity {
     ghost use Rattle.std.specs.Prelude.{map, refl};
-    ghost use Rattle.pt_moml.specs.Document.{entity_name};
-    ghost use Rattle.pt_moml.specs.View.{entity_view, entities_view};
+    ghost use Rattle.pt_document.specs.Document.{entity_name};
+    ghost use Rattle.pt_document.specs.View.{entity_view, entities_view};
 
     ghost name = { λ e. entity_name (entity_view e) };
 

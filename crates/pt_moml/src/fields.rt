@@ -2,14 +2,12 @@
 ghost use Rattle.std.specs.Prelude.{◌≡◌, List, ℕ, map, [], ◌∷◌, ◌++◌, Ok, Err, Some, Result, option_map, string_bytes};
 ghost use Rattle.serde_json.specs.Data.{Data};
 ghost use Rattle.pt_json.specs.View.{view, items_view, members_view};
-ghost use Rattle.pt_moml.specs.declared.refusal.Refusal.{Refusal};
-ghost use Rattle.pt_moml.specs.Outcome.{Gives, IsRefusal};
+ghost use Rattle.pt_document.specs.declared.refusal.Refusal.{Refusal};
+ghost use Rattle.pt_document.specs.Outcome.{Gives, IsRefusal};
 ghost use Rattle.pt_moml.specs.Fields.{text_at, required_text, optional_text, name_at, truth_at, required_truth, optional_truth, required_whole, has_only, listed, items_at, required_list, optional_list, distinct_at};
 
-use crate::code::Code;
-use crate::names::{NameSet, is_name, is_one_of};
-use crate::refusal::{DocFault, refused};
 use indexmap::IndexSet;
+use pt_document::{Code, DocFault, NameSet, is_name, is_one_of, refused};
 use pt_json::Value;
 use pt_value::Text;
 use std::alloc::Global;

@@ -1,13 +1,12 @@
 // The tokens that come to the top.
 ghost use Rattle.std.specs.Prelude.{◌≡◌};
 ghost use Rattle.pt_json.specs.View.{view};
-ghost use Rattle.pt_moml.specs.View.{input_view};
-ghost use Rattle.pt_moml.specs.Outcome.{Gives};
+ghost use Rattle.pt_document.specs.View.{input_view};
+ghost use Rattle.pt_document.specs.Outcome.{Gives};
 ghost use Rattle.pt_moml.specs.Reading.{tokens_input, events_input};
 
 use crate::fields::{Part, has_fields, list, required, text_of, whole_number};
-use crate::job::{Event, Input, Supply};
-use crate::refusal::DocFault;
+use pt_document::{DocFault, Event, Input, Supply};
 use pt_json::Value;
 use pt_value::Text;
 use std::alloc::Global;
@@ -59,7 +58,7 @@ impl Part for Option<Text> {
 
 impl Part for Event {
     ghost use Rattle.std.specs.Prelude.{refl};
-    ghost use Rattle.pt_moml.specs.declared.job.Event.{Event};
+    ghost use Rattle.pt_document.specs.declared.job.Event.{Event};
     ghost use Rattle.pt_moml.specs.Reading.{event_at};
 
     ghost Tree = { Event };
@@ -117,8 +116,8 @@ fn input_of_events(alloc: Global, path: &str, value: &Value) -> Result<Input, Do
 impl Part for Input {
     ghost use Rattle.std.specs.Prelude.{map, refl};
     ghost use Rattle.std.proofs.lemmas.List.{map_push};
-    ghost use Rattle.pt_moml.specs.Document.{InputTree};
-    ghost use Rattle.pt_moml.specs.View.{input_view};
+    ghost use Rattle.pt_document.specs.Document.{InputTree};
+    ghost use Rattle.pt_document.specs.View.{input_view};
     ghost use Rattle.pt_moml.specs.Reading.{input_at};
 
     ghost Tree = { InputTree };

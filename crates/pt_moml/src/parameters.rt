@@ -1,17 +1,15 @@
 // The parameters of classes, directors and ports.
 ghost use Rattle.std.specs.Prelude.{◌≡◌, map};
-ghost use Rattle.pt_moml.specs.Classes.{parameter_of};
-ghost use Rattle.pt_moml.specs.Document.{property_name};
-ghost use Rattle.pt_moml.specs.Names.{is_among};
-ghost use Rattle.pt_moml.specs.Outcome.{Gives};
+ghost use Rattle.pt_document.specs.Classes.{parameter_of};
+ghost use Rattle.pt_document.specs.Document.{property_name};
+ghost use Rattle.pt_document.specs.Names.{is_among};
+ghost use Rattle.pt_document.specs.Outcome.{Gives};
 ghost use Rattle.pt_moml.specs.Rules as rules;
-ghost use Rattle.pt_moml.specs.View.{property_view, properties_view};
+ghost use Rattle.pt_document.specs.View.{property_view, properties_view};
 
-use crate::classes::{ClassParameter, Need};
-use crate::code::Code;
-use crate::job::Property;
-use crate::names::{is_layout, refused_below};
-use crate::refusal::{DocFault, refused};
+use pt_document::{
+    ClassParameter, Code, DocFault, Need, Property, is_layout, refused, refused_below,
+};
 use std::alloc::Global;
 
 fn has_parameter(rows: &[ClassParameter], name: &str) -> bool

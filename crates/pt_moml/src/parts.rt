@@ -1,19 +1,19 @@
 // The parts of an entity that read alike wherever they stand.
 ghost use Rattle.std.specs.Prelude.{◌≡◌, option_map};
 ghost use Rattle.pt_json.specs.View.{view};
-ghost use Rattle.pt_moml.specs.Outcome.{Gives};
+ghost use Rattle.pt_document.specs.Outcome.{Gives};
 ghost use Rattle.pt_moml.specs.Reading.{direction_at, facing_at, declared_at, port_link, relations_link, way_at, effect_at};
-ghost use Rattle.pt_moml.specs.View.{effect_view};
+ghost use Rattle.pt_moml.specs.StageView.{effect_view};
 
-use crate::code::Code;
 use crate::fields::{
     Named, Part, has_fields, list_or_empty, name_of, optional, required, text_of, truth,
     truth_or_false,
 };
-use crate::job::{Direction, Link, OutputAction, Port, Relation, SetAction, State, Transition};
 use crate::property::properties_of;
-use crate::refusal::{DocFault, refused};
-use crate::type_text::is_type_text;
+use pt_document::{
+    Code, Direction, DocFault, Link, OutputAction, Port, Relation, SetAction, State, Transition,
+    is_type_text, refused,
+};
 use pt_json::Value;
 use pt_value::Text;
 use std::alloc::Global;
@@ -64,8 +64,8 @@ fn declared_of(alloc: Global, path: &str, field: Option<&Value>) -> Result<Optio
 impl Part for Port {
     ghost use Rattle.std.specs.Prelude.{map, refl};
     ghost use Rattle.std.proofs.lemmas.List.{map_push};
-    ghost use Rattle.pt_moml.specs.Document.{PortTree};
-    ghost use Rattle.pt_moml.specs.View.{port_view};
+    ghost use Rattle.pt_document.specs.Document.{PortTree};
+    ghost use Rattle.pt_document.specs.View.{port_view};
     ghost use Rattle.pt_moml.specs.Reading.{port_at};
 
     ghost Tree = { PortTree };
@@ -102,7 +102,7 @@ impl Part for Port {
 
 impl Named for Port {
     ghost use Rattle.std.specs.Prelude.{map, refl};
-    ghost use Rattle.pt_moml.specs.View.{port_view};
+    ghost use Rattle.pt_document.specs.View.{port_view};
 
     ghost name = { λ p. p.name };
 
@@ -119,7 +119,7 @@ impl Named for Port {
 
 impl Part for Relation {
     ghost use Rattle.std.specs.Prelude.{refl};
-    ghost use Rattle.pt_moml.specs.declared.job.Relation.{Relation};
+    ghost use Rattle.pt_document.specs.declared.job.Relation.{Relation};
     ghost use Rattle.pt_moml.specs.Reading.{relation_at};
 
     ghost Tree = { Relation };
@@ -180,7 +180,7 @@ fn link_of_relations(alloc: Global, path: &str, value: &Value) -> Result<Link, D
 
 impl Part for Link {
     ghost use Rattle.std.specs.Prelude.{refl};
-    ghost use Rattle.pt_moml.specs.declared.job.Link.{Link};
+    ghost use Rattle.pt_document.specs.declared.job.Link.{Link};
     ghost use Rattle.pt_moml.specs.Reading.{link_at};
 
     ghost Tree = { Link };
@@ -206,7 +206,7 @@ impl Part for Link {
 
 impl Part for State {
     ghost use Rattle.std.specs.Prelude.{refl};
-    ghost use Rattle.pt_moml.specs.declared.job.State.{State};
+    ghost use Rattle.pt_document.specs.declared.job.State.{State};
     ghost use Rattle.pt_moml.specs.Reading.{state_at};
 
     ghost Tree = { State };
@@ -248,7 +248,7 @@ impl Named for State {
 
 impl Part for OutputAction {
     ghost use Rattle.std.specs.Prelude.{refl};
-    ghost use Rattle.pt_moml.specs.declared.job.OutputAction.{OutputAction};
+    ghost use Rattle.pt_document.specs.declared.job.OutputAction.{OutputAction};
     ghost use Rattle.pt_moml.specs.Reading.{output_at};
 
     ghost Tree = { OutputAction };
@@ -274,7 +274,7 @@ impl Part for OutputAction {
 
 impl Part for SetAction {
     ghost use Rattle.std.specs.Prelude.{refl};
-    ghost use Rattle.pt_moml.specs.declared.job.SetAction.{SetAction};
+    ghost use Rattle.pt_document.specs.declared.job.SetAction.{SetAction};
     ghost use Rattle.pt_moml.specs.Reading.{set_at};
 
     ghost Tree = { SetAction };
@@ -344,8 +344,8 @@ fn effect_of(alloc: Global, path: &str, value: &Value) -> Result<Effect, DocFaul
 impl Part for Transition {
     ghost use Rattle.std.specs.Prelude.{map, refl};
     ghost use Rattle.std.proofs.lemmas.List.{map_push};
-    ghost use Rattle.pt_moml.specs.Document.{TransitionTree};
-    ghost use Rattle.pt_moml.specs.View.{transition_view};
+    ghost use Rattle.pt_document.specs.Document.{TransitionTree};
+    ghost use Rattle.pt_document.specs.View.{transition_view};
     ghost use Rattle.pt_moml.specs.Reading.{transition_at};
 
     ghost Tree = { TransitionTree };

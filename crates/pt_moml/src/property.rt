@@ -1,22 +1,20 @@
 // Properties, which may have properties of their own.
 ghost use Rattle.std.specs.Prelude.{◌≡◌, List, Ok, map, [], option_map};
 ghost use Rattle.pt_json.specs.View.{view, items_view};
-ghost use Rattle.pt_moml.specs.View.{property_view, properties_view};
-ghost use Rattle.pt_moml.specs.Outcome.{Gives};
-ghost use Rattle.pt_moml.specs.Document.{filled};
+ghost use Rattle.pt_document.specs.View.{property_view, properties_view};
+ghost use Rattle.pt_document.specs.Outcome.{Gives};
+ghost use Rattle.pt_document.specs.Document.{filled};
 ghost use Rattle.pt_moml.specs.Reading.{property_from, property_at, properties_field, property_items};
 
-use crate::code::Code;
 use crate::fields::{Named, has_fields, name_of, names_differ, optional};
-use crate::job::Property;
-use crate::refusal::{DocFault, refused};
+use pt_document::{Code, DocFault, Property, refused};
 use pt_json::Value;
 use std::alloc::Global;
 
 impl Named for Property {
     ghost use Rattle.std.specs.Prelude.{map, refl};
-    ghost use Rattle.pt_moml.specs.Document.{property_name};
-    ghost use Rattle.pt_moml.specs.View.{property_view, properties_view};
+    ghost use Rattle.pt_document.specs.Document.{property_name};
+    ghost use Rattle.pt_document.specs.View.{property_view, properties_view};
 
     ghost name = { λ p. property_name (property_view p) };
 

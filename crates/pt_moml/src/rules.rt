@@ -1,21 +1,18 @@
 // What the properties and ports of an entity have to keep beside their form.
 ghost use Rattle.std.specs.Prelude.{◌≡◌, map, option_map};
-ghost use Rattle.pt_moml.specs.Classes.{class_of, director_of, parameter_of, port_of, kind_view};
-ghost use Rattle.pt_moml.specs.Document.{property_class};
-ghost use Rattle.pt_moml.specs.Names.{is_among};
-ghost use Rattle.pt_moml.specs.Outcome.{Gives};
+ghost use Rattle.pt_document.specs.Classes.{class_of, director_of, parameter_of, port_of, kind_view};
+ghost use Rattle.pt_document.specs.Document.{property_class};
+ghost use Rattle.pt_document.specs.Names.{is_among};
+ghost use Rattle.pt_document.specs.Outcome.{Gives};
 ghost use Rattle.pt_moml.specs.Rules as rules;
-ghost use Rattle.pt_moml.specs.View.{property_view, properties_view, port_view};
+ghost use Rattle.pt_document.specs.View.{property_view, properties_view, port_view};
 
-use crate::classes::{
-    Class, ClassParameter, ClassPort, Director, DirectorClass, Kind, Need, ParameterRow,
-    director_named,
-};
-use crate::code::Code;
-use crate::job::{Direction, Port, Property};
-use crate::names::{is_layout, is_reserved, refused_below};
 use crate::parameters::{each_fits, parameters_fit};
-use crate::refusal::{DocFault, refused};
+use pt_document::{
+    Class, ClassParameter, ClassPort, Code, Direction, Director, DirectorClass, DocFault, Kind,
+    Need, ParameterRow, Port, Property, director_named, is_layout, is_reserved, refused,
+    refused_below,
+};
 use std::alloc::Global;
 
 /// A parameter of a name that isn't reserved, or a Variable, has a value.

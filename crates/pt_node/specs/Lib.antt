@@ -3,3 +3,4 @@ pub mod Shown
 pub mod View
 pub mod Live
 pub mod Firing
+pub mod Stuck

@@ -2,8 +2,8 @@
 use Rattle.std.proofs.Common.{◌≡◌, ℕ, zero, suc, ◌+◌, ◌≤◌, List, [], ◌∷◌, Bool, true, false, length, take, Option, Some, None, refl, sym, ap, subst, arith, ◌∙◌, slice_get, if◌then◌else◌}
 use Rattle.std.proofs.lemmas.Bool.{eq-eqb, eqb-true, le-leb}
 use Rattle.pt_meaning.specs.Streams.{get}
-use Rattle.pt_graph.specs.declared.net.NetEntity.{NetEntity}
-use Rattle.pt_wiring.specs.Inside.{is_number, is_child, child_if, children_from, children_of, number_among, parent_of, child_number}
+use Rattle.pt_net.specs.declared.net.NetEntity.{NetEntity}
+use Rattle.pt_net.specs.Inside.{is_number, is_child, child_if, children_from, children_of, number_among, parent_of, child_number}
 
 pub get-is : {X : Type 0} (xs : List X) (n : ℕ) → get xs n ≡ slice_get xs n
 get-is [] n = refl

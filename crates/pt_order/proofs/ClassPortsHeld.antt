@@ -3,20 +3,20 @@ use Rattle.std.proofs.Common.{◌≡◌, ℕ, suc, ◌+◌, true, not, cond, ◌
 use Rattle.std.specs.Prelude.{option_map}
 use Rattle.std.proofs.lemmas.Option.{slice_get-map}
 use Rattle.std.specs.List.{count_by, slice_get}
-use Rattle.pt_moml.specs.declared.job.Direction.{Direction}
-use Rattle.pt_moml.specs.declared.job.Direction.TheVariants.{Input, Output}
-use Rattle.pt_moml.specs.Classes.{ClassPort, Class, Kind, Actor, kind_of}
-use Rattle.pt_moml.specs.Document.{Parts, parts, JobTree}
-use Rattle.pt_graph.specs.declared.net.Net.{Net}
-use Rattle.pt_graph.specs.declared.net.NetDirector.{NetDirector}
-use Rattle.pt_graph.specs.declared.net.NetEntity.{NetEntity}
-use Rattle.pt_graph.specs.Standing.{entities}
-use Rattle.pt_graph.specs.Table.{joined_ports, declared_port, ports_of_kind, ports_of, tables_of}
-use Rattle.pt_graph.specs.Wires.{is_inward, outside_of, inside_of}
-use Rattle.pt_graph.specs.Net.{NetEntityTree, net_ports_of_kind, entity_view, wires, IsNetOf}
-use Rattle.pt_values.specs.Scopes.{net_view}
+use Rattle.pt_document.specs.declared.job.Direction.{Direction}
+use Rattle.pt_document.specs.declared.job.Direction.TheVariants.{Input, Output}
+use Rattle.pt_document.specs.Classes.{ClassPort, Class, Kind, Actor, kind_of}
+use Rattle.pt_document.specs.Document.{Parts, parts, JobTree}
+use Rattle.pt_net.specs.declared.net.Net.{Net}
+use Rattle.pt_net.specs.declared.net.NetDirector.{NetDirector}
+use Rattle.pt_net.specs.declared.net.NetEntity.{NetEntity}
+use Rattle.pt_net.specs.Standing.{entities}
+use Rattle.pt_net.specs.Table.{joined_ports, declared_port, ports_of_kind, ports_of, tables_of}
+use Rattle.pt_net.specs.Wires.{is_inward, outside_of, inside_of}
+use Rattle.pt_net.specs.Net.{NetEntityTree, net_ports_of_kind, entity_view, wires, IsNetOf}
+use Rattle.pt_scopes.specs.Scopes.{net_view}
 use Rattle.pt_start.specs.Nested.{IsNested}
-use Rattle.pt_build.specs.Trees.{IsSdf}
+use Rattle.pt_trees.specs.Trees.{IsSdf}
 use Rattle.pt_cover.proofs.Walk.{ArePlaced}
 use Rattle.pt_order.specs.ClassPorts.{ends_from, channels_at, HasClassPorts}
 use Rattle.pt_order.specs.Laws.{HasNoLinkFault}

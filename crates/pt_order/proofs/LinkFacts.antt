@@ -5,17 +5,17 @@ use Rattle.std.proofs.lemmas.Bool.{and_from, and_parts, or_parts}
 use Rattle.std.proofs.lemmas.Option.{none-some, same_Some, slice_get-map}
 use Rattle.std.proofs.lemmas.Slice.Eq.{bytes_eq-Decides}
 use Rattle.std.specs.List.{slice_get}
-use Rattle.pt_moml.specs.declared.classes.Arity.TheVariants.{Single}
-use Rattle.pt_moml.specs.Classes.{ClassPort, kind_of}
-use Rattle.pt_moml.specs.Document.{Parts, parts, JobTree}
-use Rattle.pt_graph.specs.declared.net.Net.{Net}
-use Rattle.pt_graph.specs.declared.net.NetEntity.{NetEntity}
-use Rattle.pt_graph.specs.Standing.{Standing, Round, is_kept, is_composite, is_modal, no_round, entities}
-use Rattle.pt_graph.specs.Table.{PortAt, Tables, tables_of, port_path, declared_port, ports_of_kind, ports_of}
-use Rattle.pt_graph.specs.Wires.{is_input, outside_of, inside_of}
-use Rattle.pt_graph.specs.Net.{NetEntityTree, entity_view, entity_tree, wires, IsNetOf}
-use Rattle.pt_graph.specs.Stands.{has_one_at_most, has_one, twice_outside, twice_inside, no_link, no_link_inside, needs_link}
-use Rattle.pt_build.specs.Trees.{IsSdf, has_sdf}
+use Rattle.pt_document.specs.declared.classes.Arity.TheVariants.{Single}
+use Rattle.pt_document.specs.Classes.{ClassPort, kind_of}
+use Rattle.pt_document.specs.Document.{Parts, parts, JobTree}
+use Rattle.pt_net.specs.declared.net.Net.{Net}
+use Rattle.pt_net.specs.declared.net.NetEntity.{NetEntity}
+use Rattle.pt_net.specs.Standing.{Standing, Round, is_kept, is_composite, is_modal, no_round, entities}
+use Rattle.pt_net.specs.Table.{PortAt, Tables, tables_of, port_path, declared_port, ports_of_kind, ports_of}
+use Rattle.pt_net.specs.Wires.{is_input, outside_of, inside_of}
+use Rattle.pt_net.specs.Net.{NetEntityTree, entity_view, entity_tree, wires, IsNetOf}
+use Rattle.pt_net.specs.Stands.{has_one_at_most, has_one, twice_outside, twice_inside, no_link, no_link_inside, needs_link}
+use Rattle.pt_trees.specs.Trees.{IsSdf, has_sdf}
 use Rattle.pt_cover.proofs.Walk.{ArePlaced}
 use Rattle.pt_cover.proofs.Nesting.{viewed}
 use Rattle.pt_order.specs.Laws.{HasNoLinkFault}

@@ -5,20 +5,20 @@ use Rattle.std.proofs.lemmas.Bool.{cases_order}
 use Rattle.std.proofs.lemmas.List.{map-append}
 use Rattle.std.proofs.lemmas.Option.{none-some, same_Some, slice_get-map}
 use Rattle.std.specs.List.{find, list_any, slice_get}
-use Rattle.pt_moml.specs.declared.job.Direction.{Direction}
-use Rattle.pt_moml.specs.declared.job.Direction.TheVariants.{Input, Output}
-use Rattle.pt_moml.specs.declared.job.Port.{Port}
-use Rattle.pt_moml.specs.Classes.{ClassPort, Kind, Composite, Modal, Actor, kind_of}
-use Rattle.pt_moml.specs.Document.{PropertyTree, PortTree, Parts, parts, JobTree}
-use Rattle.pt_moml.specs.View.{port_view}
-use Rattle.pt_graph.specs.declared.net.Net.{Net}
-use Rattle.pt_graph.specs.declared.net.NetDirector.{NetDirector}
-use Rattle.pt_graph.specs.declared.net.NetEntity.{NetEntity}
-use Rattle.pt_graph.specs.Standing.{Standing, is_kept, is_director, has_director, entities}
-use Rattle.pt_graph.specs.Table.{declared_port, joined_ports, ports_of_kind, ports_of}
-use Rattle.pt_graph.specs.Net.{NetEntityTree, director_tree, director_view, row_port, net_ports_of_kind, net_ports, entity_tree, entity_view, IsNetOf}
-use Rattle.pt_values.specs.Scopes.{net_view}
-use Rattle.pt_values.proofs.Places.{place, rises, filter-place, place-count}
+use Rattle.pt_document.specs.declared.job.Direction.{Direction}
+use Rattle.pt_document.specs.declared.job.Direction.TheVariants.{Input, Output}
+use Rattle.pt_document.specs.declared.job.Port.{Port}
+use Rattle.pt_document.specs.Classes.{ClassPort, Kind, Composite, Modal, Actor, kind_of}
+use Rattle.pt_document.specs.Document.{PropertyTree, PortTree, Parts, parts, JobTree}
+use Rattle.pt_document.specs.View.{port_view}
+use Rattle.pt_net.specs.declared.net.Net.{Net}
+use Rattle.pt_net.specs.declared.net.NetDirector.{NetDirector}
+use Rattle.pt_net.specs.declared.net.NetEntity.{NetEntity}
+use Rattle.pt_net.specs.Standing.{Standing, is_kept, is_director, has_director, entities}
+use Rattle.pt_net.specs.Table.{declared_port, joined_ports, ports_of_kind, ports_of}
+use Rattle.pt_net.specs.Net.{NetEntityTree, director_tree, director_view, row_port, net_ports_of_kind, net_ports, entity_tree, entity_view, IsNetOf}
+use Rattle.pt_scopes.specs.Scopes.{net_view}
+use Rattle.pt_scopes.proofs.Places.{place, rises, filter-place, place-count}
 use Rattle.pt_cover.proofs.Walk.{ArePlaced}
 use Rattle.pt_cover.proofs.Nesting.{viewed, entity-there}
 use Rattle.pt_order.proofs.PlaceBlocks.{way}

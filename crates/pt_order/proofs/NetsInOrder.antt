@@ -3,17 +3,17 @@ use Rattle.std.proofs.Common.{◌≡◌, ℕ, List, true, Some, codes, sym, ap, 
 use Rattle.std.proofs.lemmas.Option.{none-some, same_Some}
 use Rattle.std.proofs.lemmas.Slice.Eq.{bytes_eq-Decides}
 use Rattle.std.specs.List.{slice_get}
-use Rattle.pt_moml.specs.Classes.{kind_of}
-use Rattle.pt_moml.specs.Document.{Parts, parts}
-use Rattle.pt_graph.specs.declared.net.Net.{Net}
-use Rattle.pt_graph.specs.declared.net.NetDirector.{NetDirector}
-use Rattle.pt_graph.specs.declared.net.NetEntity.{NetEntity}
-use Rattle.pt_graph.specs.Standing.{is_composite, entities}
-use Rattle.pt_graph.specs.Net.{NetEntityTree, net_ports_of_kind, net_ports, entity_view}
-use Rattle.pt_values.specs.Scopes.{net_view}
+use Rattle.pt_document.specs.Classes.{kind_of}
+use Rattle.pt_document.specs.Document.{Parts, parts}
+use Rattle.pt_net.specs.declared.net.Net.{Net}
+use Rattle.pt_net.specs.declared.net.NetDirector.{NetDirector}
+use Rattle.pt_net.specs.declared.net.NetEntity.{NetEntity}
+use Rattle.pt_net.specs.Standing.{is_composite, entities}
+use Rattle.pt_net.specs.Net.{NetEntityTree, net_ports_of_kind, net_ports, entity_view}
+use Rattle.pt_scopes.specs.Scopes.{net_view}
 use Rattle.pt_start.specs.Nested.{IsNested}
 use Rattle.pt_node.specs.View.{Tree}
-use Rattle.pt_build.specs.Trees.{Starts, StartsAs, IsTree}
+use Rattle.pt_trees.specs.Trees.{Starts, StartsAs, IsTree}
 use Rattle.pt_cover.specs.Leaves.{ActorsAreLeaves, AreStartedByClass}
 use Rattle.pt_cover.proofs.Reading.{documents-leaves}
 use Rattle.pt_cover.proofs.Walk.{ArePlaced, all-placed}

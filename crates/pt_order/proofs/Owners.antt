@@ -5,13 +5,13 @@ use Rattle.std.proofs.lemmas.List.Elements.{Contains-append_cases}
 use Rattle.std.proofs.lemmas.Option.{none-some, same_Some}
 use Rattle.std.specs.Prelude.{unwrap_or}
 use Rattle.std.specs.List.{Contains, enumerate_from, flat_map, slice_get}
-use Rattle.pt_graph.specs.declared.wire.Wire.TheVariants.{Outside, Inside, Bond}
-use Rattle.pt_graph.specs.Joined.{here, along, against}
-use Rattle.pt_graph.specs.Standing.{Standing, Round, is_kept, round_in, no_round}
-use Rattle.pt_graph.specs.Table.{PortAt, RelationAt, Tables, tables_from}
-use Rattle.pt_graph.specs.Wires.{outside_of, inside_of, is_input, taken_from, Meets, bonded, crossed, AreJoined, IsSource, Place, places_along, places_of, input_places, output_places}
-use Rattle.pt_graph.specs.Net.{wires, all_places, composite_of}
-use Rattle.pt_graph.proofs.Members.{contains_here, contains_later, contains_cases, contains_slice, flat_map_contains, enumerate_contains}
+use Rattle.pt_net.specs.declared.wire.Wire.TheVariants.{Outside, Inside, Bond}
+use Rattle.pt_net.specs.Joined.{here, along, against}
+use Rattle.pt_net.specs.Standing.{Standing, Round, is_kept, round_in, no_round}
+use Rattle.pt_net.specs.Table.{PortAt, RelationAt, Tables, tables_from}
+use Rattle.pt_net.specs.Wires.{outside_of, inside_of, is_input, taken_from, Meets, bonded, crossed, AreJoined, IsSource, Place, places_along, places_of, input_places, output_places}
+use Rattle.pt_net.specs.Net.{wires, all_places, composite_of}
+use Rattle.pt_net.proofs.Members.{contains_here, contains_later, contains_cases, contains_slice, flat_map_contains, enumerate_contains}
 use Rattle.pt_cover.proofs.Walk.{IsWithin, IsTop, ArePlaced}
 use Rattle.pt_order.proofs.Standings.{IsIn, AreSeen}
 use Rattle.pt_order.proofs.PortTables.{port-of, relation-of, IsLaid, laid, laid-outside, laid-inside}

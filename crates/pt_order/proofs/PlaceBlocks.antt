@@ -5,15 +5,15 @@ use Rattle.std.proofs.lemmas.List.Concat.{flat_map-append}
 use Rattle.std.proofs.lemmas.List.Sums.{sum_by-cons}
 use Rattle.std.proofs.lemmas.Option.{none-some, same_Some}
 use Rattle.std.specs.List.{AllByRecursion, AllZip, Contains, count_by, enumerate_from, flat_map, slice_get}
-use Rattle.pt_moml.specs.declared.job.Direction.{Direction}
-use Rattle.pt_moml.specs.Classes.{ClassPort}
-use Rattle.pt_moml.specs.Document.{parts}
-use Rattle.pt_graph.specs.declared.net.Channel.{Channel}
-use Rattle.pt_graph.specs.Standing.{Standing, is_kept}
-use Rattle.pt_graph.specs.Table.{PortAt, ports_of, numbered_ports, ports_from}
-use Rattle.pt_graph.specs.Wires.{Place, places_along}
-use Rattle.pt_graph.specs.Net.{composite_of}
-use Rattle.pt_graph.proofs.Members.{contains_here}
+use Rattle.pt_document.specs.declared.job.Direction.{Direction}
+use Rattle.pt_document.specs.Classes.{ClassPort}
+use Rattle.pt_document.specs.Document.{parts}
+use Rattle.pt_net.specs.declared.net.Channel.{Channel}
+use Rattle.pt_net.specs.Standing.{Standing, is_kept}
+use Rattle.pt_net.specs.Table.{PortAt, ports_of, numbered_ports, ports_from}
+use Rattle.pt_net.specs.Wires.{Place, places_along}
+use Rattle.pt_net.specs.Net.{composite_of}
+use Rattle.pt_net.proofs.Members.{contains_here}
 use Rattle.pt_order.proofs.Blocks.{all-append, all-by, AreBlocks}
 use Rattle.pt_order.proofs.Ends.{spread}
 

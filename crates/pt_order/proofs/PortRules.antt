@@ -4,15 +4,15 @@ use Rattle.std.proofs.lemmas.Bool.{both_ways, false_from_ne_true}
 use Rattle.std.proofs.lemmas.Option.{none-some, same_Some}
 use Rattle.std.proofs.lemmas.Slice.Eq.{bytes_eq-Decides}
 use Rattle.std.specs.List.{AllByRecursion, slice_get}
-use Rattle.pt_moml.specs.declared.code.Code.TheVariants.{Shape, Name}
-use Rattle.pt_moml.specs.declared.job.Direction.{Direction}
-use Rattle.pt_moml.specs.declared.job.Direction.TheVariants.{Input, Output}
-use Rattle.pt_moml.specs.Document.{PortTree, Parts}
-use Rattle.pt_moml.specs.Classes.{ClassPort, Class, Kind, Actor, kind_of}
-use Rattle.pt_moml.specs.Names.{is_among, has_name, are_distinct, are_distinct_after}
-use Rattle.pt_moml.specs.Outcome.{refused}
+use Rattle.pt_document.specs.declared.code.Code.TheVariants.{Shape, Name}
+use Rattle.pt_document.specs.declared.job.Direction.{Direction}
+use Rattle.pt_document.specs.declared.job.Direction.TheVariants.{Input, Output}
+use Rattle.pt_document.specs.Document.{PortTree, Parts}
+use Rattle.pt_document.specs.Classes.{ClassPort, Class, Kind, Actor, kind_of}
+use Rattle.pt_document.specs.Names.{is_among, has_name, are_distinct, are_distinct_after}
+use Rattle.pt_document.specs.Outcome.{refused}
 use Rattle.pt_moml.specs.Rules.{each, parameters_fit, enough_ports, is_direction, declared_fits, port_fits, parts_fit}
-use Rattle.pt_moml.proofs.Chains.{good, bind_ok, never_ok}
+use Rattle.pt_document.proofs.Chains.{good, bind_ok, never_ok}
 use Rattle.pt_moml.proofs.ItemLists.{has_name-new, has_name-old}
 use Rattle.pt_order.proofs.ReadParts.{IsRead}
 

@@ -6,18 +6,18 @@ use Rattle.std.proofs.lemmas.List.Quantifiers.{position-Some}
 use Rattle.std.proofs.lemmas.Option.{none-some, same_Some, slice_get-get_or}
 use Rattle.std.specs.List.{Contains, position, slice_get}
 use Rattle.std.specs.Option.{option_eq}
-use Rattle.pt_moml.specs.declared.job.Link.{Link}
-use Rattle.pt_moml.specs.declared.job.Link.TheVariants as link
-use Rattle.pt_moml.specs.declared.job.Relation.{Relation}
-use Rattle.pt_moml.specs.Classes.{ClassPort}
-use Rattle.pt_moml.specs.Document.{parts, entity_name}
-use Rattle.pt_graph.specs.declared.wire.Wire.{Wire}
-use Rattle.pt_graph.specs.declared.wire.Wire.TheVariants.{Outside, Inside, Bond}
-use Rattle.pt_graph.specs.Standing.{Standing}
-use Rattle.pt_graph.specs.Table.{PortAt, RelationAt, Tables, ports_of, numbered_ports, ports_from, relations_in, relations_from}
-use Rattle.pt_graph.specs.Wires.{names_inside, names_outside, names_relation, relation_named, end_of_text, joined_at, bonded_at, wire_between, wire_of, relation_outside, relation_inside, outside_of, inside_of}
-use Rattle.pt_graph.specs.Net.{wires}
-use Rattle.pt_graph.proofs.Members.{filter_map_contains, map_contains, contains_cases}
+use Rattle.pt_document.specs.declared.job.Link.{Link}
+use Rattle.pt_document.specs.declared.job.Link.TheVariants as link
+use Rattle.pt_document.specs.declared.job.Relation.{Relation}
+use Rattle.pt_document.specs.Classes.{ClassPort}
+use Rattle.pt_document.specs.Document.{parts, entity_name}
+use Rattle.pt_net.specs.declared.wire.Wire.{Wire}
+use Rattle.pt_net.specs.declared.wire.Wire.TheVariants.{Outside, Inside, Bond}
+use Rattle.pt_net.specs.Standing.{Standing}
+use Rattle.pt_net.specs.Table.{PortAt, RelationAt, Tables, ports_of, numbered_ports, ports_from, relations_in, relations_from}
+use Rattle.pt_net.specs.Wires.{names_inside, names_outside, names_relation, relation_named, end_of_text, joined_at, bonded_at, wire_between, wire_of, relation_outside, relation_inside, outside_of, inside_of}
+use Rattle.pt_net.specs.Net.{wires}
+use Rattle.pt_net.proofs.Members.{filter_map_contains, map_contains, contains_cases}
 
 -- ---- ports
 

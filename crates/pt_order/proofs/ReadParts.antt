@@ -5,19 +5,19 @@ use Rattle.std.specs.Ordering.{nat_cmp, match_ordering}
 use Rattle.std.specs.Cmp.Lexicographic.{slice_cmp}
 use Rattle.serde_json.specs.Data.{Data, null, boolean, number, string, array, object, Items, no_items, item, Members, no_members, member}
 use Rattle.serde_json.specs.Find.{get}
-use Rattle.pt_moml.specs.declared.code.Code.TheVariants.{Name}
-use Rattle.pt_moml.specs.declared.job.Link.{Link}
-use Rattle.pt_moml.specs.declared.job.Relation.{Relation}
-use Rattle.pt_moml.specs.declared.job.State.{State}
-use Rattle.pt_moml.specs.declared.refusal.Refusal.{Refusal}
-use Rattle.pt_moml.specs.Document.{PropertyTree, PortTree, TransitionTree, Parts, EntityTree, EntityTrees, entity, no_entities, one_entity, to_entities, entity_name, JobTree}
-use Rattle.pt_moml.specs.Classes.{Kind, kind_of}
-use Rattle.pt_moml.specs.Names.{are_distinct, below, top_path}
-use Rattle.pt_moml.specs.Outcome.{◌>>=◌}
+use Rattle.pt_document.specs.declared.code.Code.TheVariants.{Name}
+use Rattle.pt_document.specs.declared.job.Link.{Link}
+use Rattle.pt_document.specs.declared.job.Relation.{Relation}
+use Rattle.pt_document.specs.declared.job.State.{State}
+use Rattle.pt_document.specs.declared.refusal.Refusal.{Refusal}
+use Rattle.pt_document.specs.Document.{PropertyTree, PortTree, TransitionTree, Parts, EntityTree, EntityTrees, entity, no_entities, one_entity, to_entities, entity_name, JobTree}
+use Rattle.pt_document.specs.Classes.{Kind, kind_of}
+use Rattle.pt_document.specs.Names.{are_distinct, below, top_path}
+use Rattle.pt_document.specs.Outcome.{◌>>=◌}
 use Rattle.pt_moml.specs.Fields.{listed, name_at, optional_list, text_at, distinct_at}
 use Rattle.pt_moml.specs.Rules.{parts_fit}
 use Rattle.pt_moml.specs.Reading.{named, entity_fields, properties_field, port_at, ports_field, relations_field, link_at, states_field, initial_field, transition_at, parts_at, entity_from, entities_in, entities_under, entities_at, entity_items, entities_field, limits_at, model_at, version_at, job_fields, input_at, job_of, IsJobOf}
-use Rattle.pt_moml.proofs.Chains.{good, bind_ok, never_ok, test_ok}
+use Rattle.pt_document.proofs.Chains.{good, bind_ok, never_ok, test_ok}
 use Rattle.pt_moml.proofs.EntityLaws.{steps}
 
 -- an entity is of a kind, its properties and ports are as that wants them, and its ports have names that differ

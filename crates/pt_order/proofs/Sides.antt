@@ -3,13 +3,13 @@ use Rattle.std.proofs.Common.{◌≡◌, ℕ, ◌+◌, Bool, true, false, not, c
 use Rattle.std.specs.Prelude.{unwrap_or}
 use Rattle.std.proofs.lemmas.Option.{none-some}
 use Rattle.std.specs.List.{AllZip, enumerate_from, flat_map, slice_get}
-use Rattle.pt_moml.specs.declared.job.Direction.{Direction}
-use Rattle.pt_graph.specs.declared.net.Channel.{Channel}
-use Rattle.pt_graph.specs.Standing.{Standing, is_kept}
-use Rattle.pt_graph.specs.Table.{PortAt, Tables, tables_from}
-use Rattle.pt_graph.specs.Wires.{is_inward, is_input, outside_of, inside_of, taken_from, Place, places_along, input_places, output_places}
-use Rattle.pt_graph.specs.Net.{wires, all_places, IsChannelTo}
-use Rattle.pt_graph.proofs.Members.{zip_weaker}
+use Rattle.pt_document.specs.declared.job.Direction.{Direction}
+use Rattle.pt_net.specs.declared.net.Channel.{Channel}
+use Rattle.pt_net.specs.Standing.{Standing, is_kept}
+use Rattle.pt_net.specs.Table.{PortAt, Tables, tables_from}
+use Rattle.pt_net.specs.Wires.{is_inward, is_input, outside_of, inside_of, taken_from, Place, places_along, input_places, output_places}
+use Rattle.pt_net.specs.Net.{wires, all_places, IsChannelTo}
+use Rattle.pt_net.proofs.Members.{zip_weaker}
 use Rattle.pt_cover.proofs.Walk.{ArePlaced}
 use Rattle.pt_order.proofs.Standings.{AreSeen}
 use Rattle.pt_order.proofs.Blocks.{AreBlocks}

@@ -2,11 +2,11 @@
 use Rattle.std.proofs.Common.{◌≡◌, ◌⊎◌, inl, inr, ℕ, List, [], ◌∷◌, ◌++◌, Some, length, refl, subst}
 use Rattle.std.proofs.lemmas.Option.{none-some}
 use Rattle.std.specs.List.{slice_get}
-use Rattle.pt_moml.specs.Document.{EntityTree, EntityTrees, entity, no_entities, one_entity, entity_name, parts, JobTree}
-use Rattle.pt_moml.specs.Names.{top_path, below}
+use Rattle.pt_document.specs.Document.{EntityTree, EntityTrees, entity, no_entities, one_entity, entity_name, parts, JobTree}
+use Rattle.pt_document.specs.Names.{top_path, below}
 use Rattle.pt_moml.specs.Reading.{IsJobOf}
-use Rattle.pt_graph.specs.Standing.{Standing, Round, standing, has_director, round_in, no_round, with_entity, with_entities, entities}
-use Rattle.pt_values.proofs.Document.{get-left, get-last, get-cases}
+use Rattle.pt_net.specs.Standing.{Standing, Round, standing, has_director, round_in, no_round, with_entity, with_entities, entities}
+use Rattle.pt_scopes.proofs.Document.{get-left, get-last, get-cases}
 use Rattle.pt_order.proofs.ReadParts.{IsRead, IsReadWhole, AreRead, documents-read}
 
 -- one of these entities is round something

@@ -6,16 +6,16 @@ use Rattle.std.proofs.lemmas.Bool.{both_ways, eq-eqb}
 use Rattle.std.proofs.lemmas.Option.{none-some, same_Some, slice_get_within}
 use Rattle.std.proofs.lemmas.Slice.Eq.{bytes_eq-Decides}
 use Rattle.std.specs.List.{slice_get}
-use Rattle.pt_moml.specs.Document.{JobTree}
-use Rattle.pt_moml.specs.Classes.{Class as ClassRow, Kind, Composite, Modal, Actor, kind_of, class_row}
-use Rattle.pt_graph.specs.declared.net.Net.{Net}
-use Rattle.pt_graph.specs.declared.net.NetDirector.{NetDirector}
-use Rattle.pt_graph.specs.declared.net.NetEntity.{NetEntity}
-use Rattle.pt_graph.specs.Net.{IsNetOf}
-use Rattle.pt_values.specs.Scopes.{is_composite_class}
-use Rattle.pt_wiring.specs.Inside.{is_number, is_child, children_of, child_number}
+use Rattle.pt_document.specs.Document.{JobTree}
+use Rattle.pt_document.specs.Classes.{Class as ClassRow, Kind, Composite, Modal, Actor, kind_of, class_row}
+use Rattle.pt_net.specs.declared.net.Net.{Net}
+use Rattle.pt_net.specs.declared.net.NetDirector.{NetDirector}
+use Rattle.pt_net.specs.declared.net.NetEntity.{NetEntity}
+use Rattle.pt_net.specs.Net.{IsNetOf}
+use Rattle.pt_scopes.specs.Scopes.{is_composite_class}
+use Rattle.pt_net.specs.Inside.{is_number, is_child, children_of, child_number}
 use Rattle.pt_lib_flow.specs.declared.flow_actor.Class.{Class}
-use Rattle.pt_lib_flow.specs.declared.params.Params.{Params}
+use Rattle.pt_flow_base.specs.declared.params.Params.{Params}
 use Rattle.pt_lib_flow.specs.FlowActor as flow_actor
 use Rattle.pt_lib_data.specs.declared.function.Class.{Class as DataClass}
 use Rattle.pt_lib_data.specs.Function as function
@@ -24,7 +24,7 @@ use Rattle.pt_library.specs.declared.library_actor.LibraryActor.{LibraryActor}
 use Rattle.pt_library.specs.declared.library_actor.LibraryActor.TheVariants.{Flow, Data}
 use Rattle.pt_library.specs.LibraryActor.{start}
 use Rattle.pt_node.specs.View.{Tree}
-use Rattle.pt_build.specs.Trees.{Starts, StartsAs, IsEntity, IsSdf, has_sdf, IsTree, of_actor, of_sdf, AreTrees, no_trees, more_trees}
+use Rattle.pt_trees.specs.Trees.{Starts, StartsAs, IsEntity, IsSdf, has_sdf, IsTree, of_actor, of_sdf, AreTrees, no_trees, more_trees}
 use Rattle.pt_cover.specs.Leaves.{ActorsAreLeaves, AreStartedByClass}
 use Rattle.pt_cover.proofs.Nesting.{get-within, net-nested, net-rooted}
 use Rattle.pt_cover.proofs.Nodes.{AreChildless, AreRooted}

@@ -3,26 +3,26 @@ use Rattle.std.proofs.Common.{◌≡◌, ℕ, suc, ◌+◌, Bool, true, false, n
 use Rattle.std.proofs.lemmas.Option.{same_Some, slice_get-map}
 use Rattle.std.specs.List.{AllByRecursion, flat_map, slice_get}
 use Rattle.std.specs.Prelude.{option_map}
-use Rattle.pt_moml.specs.declared.job.Direction.{Direction}
-use Rattle.pt_moml.specs.declared.job.Direction.TheVariants.{Input, Output}
-use Rattle.pt_moml.specs.declared.job.Port.{Port}
-use Rattle.pt_moml.specs.declared.classes.Arity.TheVariants.{Single}
-use Rattle.pt_moml.specs.Classes.{ClassPort}
-use Rattle.pt_moml.specs.Document.{parts, JobTree}
-use Rattle.pt_graph.specs.declared.net.Channel.{Channel}
-use Rattle.pt_graph.specs.declared.net.Net.{Net}
-use Rattle.pt_graph.specs.declared.net.NetDirector.{NetDirector}
-use Rattle.pt_graph.specs.declared.net.NetEntity.{NetEntity}
-use Rattle.pt_graph.specs.Standing.{Standing, is_kept, is_composite, entities}
-use Rattle.pt_graph.specs.Table.{PortAt, Tables, tables_of, ports_of}
-use Rattle.pt_graph.specs.Wires.{is_inward, is_input as is_input_at, outside_of, inside_of}
-use Rattle.pt_graph.specs.Net.{NetEntityTree, entity_view, entity_tree, wires, composite_of, IsChannel, IsNetOf}
-use Rattle.pt_graph.proofs.Members.{contains_slice}
-use Rattle.pt_values.specs.Scopes.{net_view}
+use Rattle.pt_document.specs.declared.job.Direction.{Direction}
+use Rattle.pt_document.specs.declared.job.Direction.TheVariants.{Input, Output}
+use Rattle.pt_document.specs.declared.job.Port.{Port}
+use Rattle.pt_document.specs.declared.classes.Arity.TheVariants.{Single}
+use Rattle.pt_document.specs.Classes.{ClassPort}
+use Rattle.pt_document.specs.Document.{parts, JobTree}
+use Rattle.pt_net.specs.declared.net.Channel.{Channel}
+use Rattle.pt_net.specs.declared.net.Net.{Net}
+use Rattle.pt_net.specs.declared.net.NetDirector.{NetDirector}
+use Rattle.pt_net.specs.declared.net.NetEntity.{NetEntity}
+use Rattle.pt_net.specs.Standing.{Standing, is_kept, is_composite, entities}
+use Rattle.pt_net.specs.Table.{PortAt, Tables, tables_of, ports_of}
+use Rattle.pt_net.specs.Wires.{is_inward, is_input as is_input_at, outside_of, inside_of}
+use Rattle.pt_net.specs.Net.{NetEntityTree, entity_view, entity_tree, wires, composite_of, IsChannel, IsNetOf}
+use Rattle.pt_net.proofs.Members.{contains_slice}
+use Rattle.pt_scopes.specs.Scopes.{net_view}
 use Rattle.pt_start.specs.Nested.{IsNested}
-use Rattle.pt_wiring.specs.Inside as wiring
-use Rattle.pt_wiring.specs.Inside.{is_number, children_from, children_of, channels_in, is_input, is_output}
-use Rattle.pt_build.specs.Trees.{IsSdf}
+use Rattle.pt_net.specs.Inside as wiring
+use Rattle.pt_net.specs.Inside.{is_number, children_from, children_of, channels_in, is_input, is_output}
+use Rattle.pt_trees.specs.Trees.{IsSdf}
 use Rattle.pt_cover.proofs.Walk.{ArePlaced}
 use Rattle.pt_cover.proofs.Nesting.{viewed}
 use Rattle.pt_order.specs.Wired.{arrivals, departures, goes_out, number_if, port_numbers, BeginsIn, at_own, at_child, IsWired}

@@ -1,16 +1,16 @@
 -- What the ports of a library actor of a net are, by its class, and how many channels end there.
 use Rattle.std.specs.Prelude.{◌≡◌, ℕ, suc, ◌++◌, List, [], ◌∷◌, map, replicate, count_by, bytes_eq, false, Some, None, slice_get}
 use Rattle.std.specs.List.{AllByRecursion}
-use Rattle.pt_moml.specs.declared.job.Direction.{Direction}
-use Rattle.pt_moml.specs.declared.job.Direction.TheVariants.{Input, Output}
-use Rattle.pt_moml.specs.declared.classes.Arity.TheVariants.{Single}
-use Rattle.pt_moml.specs.Classes.{Class, ClassPort, Actor, kind_of}
-use Rattle.pt_moml.specs.Document.{PortTree}
-use Rattle.pt_graph.specs.declared.net.Channel.{Channel}
-use Rattle.pt_graph.specs.declared.net.Net.{Net}
-use Rattle.pt_graph.specs.declared.net.NetEntity.{NetEntity}
-use Rattle.pt_graph.specs.Table.{joined_ports, declared_port}
-use Rattle.pt_graph.specs.Net.{row_port, entity_view}
+use Rattle.pt_document.specs.declared.job.Direction.{Direction}
+use Rattle.pt_document.specs.declared.job.Direction.TheVariants.{Input, Output}
+use Rattle.pt_document.specs.declared.classes.Arity.TheVariants.{Single}
+use Rattle.pt_document.specs.Classes.{Class, ClassPort, Actor, kind_of}
+use Rattle.pt_document.specs.Document.{PortTree}
+use Rattle.pt_net.specs.declared.net.Channel.{Channel}
+use Rattle.pt_net.specs.declared.net.Net.{Net}
+use Rattle.pt_net.specs.declared.net.NetEntity.{NetEntity}
+use Rattle.pt_net.specs.Table.{joined_ports, declared_port}
+use Rattle.pt_net.specs.Net.{row_port, entity_view}
 use Rattle.pt_start.specs.Started.{ends_at}
 use Rattle.pt_order.specs.Wired.{arrivals}
 

@@ -1,15 +1,15 @@
 -- The net of a document without faults of links is wired as its entities say.
 use Rattle.std.specs.Prelude.{◌≡◌, ℕ, List, Some, slice_get}
-use Rattle.pt_moml.specs.Document.{JobTree}
+use Rattle.pt_document.specs.Document.{JobTree}
 use Rattle.pt_moml.specs.Reading.{IsJobOf}
-use Rattle.pt_graph.specs.declared.net.Net.{Net}
-use Rattle.pt_graph.specs.declared.net.NetDirector.{NetDirector}
-use Rattle.pt_graph.specs.declared.net.NetEntity.{NetEntity}
-use Rattle.pt_graph.specs.Table.{Tables, tables_of}
-use Rattle.pt_graph.specs.Stands.{IsLinkFault}
-use Rattle.pt_graph.specs.Net.{entity_view, IsNetOf}
+use Rattle.pt_net.specs.declared.net.Net.{Net}
+use Rattle.pt_net.specs.declared.net.NetDirector.{NetDirector}
+use Rattle.pt_net.specs.declared.net.NetEntity.{NetEntity}
+use Rattle.pt_net.specs.Table.{Tables, tables_of}
+use Rattle.pt_net.specs.Stands.{IsLinkFault}
+use Rattle.pt_net.specs.Net.{entity_view, IsNetOf}
 use Rattle.pt_node.specs.View.{Tree}
-use Rattle.pt_build.specs.Trees.{Starts, StartsAs, IsTree}
+use Rattle.pt_trees.specs.Trees.{Starts, StartsAs, IsTree}
 use Rattle.pt_cover.specs.Leaves.{AreStartedByClass}
 use Rattle.pt_order.specs.Wired.{IsWired}
 use Rattle.pt_order.specs.ClassPorts.{HaveOwnNames, HaveClassPorts}

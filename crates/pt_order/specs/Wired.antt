@@ -1,12 +1,12 @@
 -- How the channels of a net stand: in the order of their places, from ports that are there.
 use Rattle.std.specs.Prelude.{◌≡◌, ℕ, suc, ◌++◌, List, [], ◌∷◌, map, filter, flat_map, Bool, true, false, ◌&&◌, nat_eq, Some, slice_get}
 use Rattle.std.specs.List.{Contains}
-use Rattle.pt_moml.specs.declared.job.Port.{Port}
-use Rattle.pt_graph.specs.declared.net.Channel.{Channel}
-use Rattle.pt_graph.specs.declared.net.Net.{Net}
-use Rattle.pt_graph.specs.declared.net.NetDirector.{NetDirector}
-use Rattle.pt_graph.specs.declared.net.NetEntity.{NetEntity}
-use Rattle.pt_wiring.specs.Inside.{children_of, comes_to, channels_in, is_input, is_output}
+use Rattle.pt_document.specs.declared.job.Port.{Port}
+use Rattle.pt_net.specs.declared.net.Channel.{Channel}
+use Rattle.pt_net.specs.declared.net.Net.{Net}
+use Rattle.pt_net.specs.declared.net.NetDirector.{NetDirector}
+use Rattle.pt_net.specs.declared.net.NetEntity.{NetEntity}
+use Rattle.pt_net.specs.Inside.{children_of, comes_to, channels_in, is_input, is_output}
 
 -- ---- channels
 

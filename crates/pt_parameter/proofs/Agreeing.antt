@@ -4,20 +4,20 @@ use Rattle.std.specs.Prelude.{Option, unwrap_or}
 use Rattle.std.specs.List.{Contains}
 use Rattle.std.proofs.lemmas.List.Elements.{Contains-append_left, Contains-append_right}
 use Rattle.pt_value.specs.Value.{Value}
-use Rattle.pt_types.specs.Datatype.{Datatype, Unknown}
-use Rattle.pt_types.specs.Normal.{array_of}
-use Rattle.pt_types.specs.Join.{join}
-use Rattle.pt_expr.specs.Scope.{Scope, named, looked_up, presence_in, port_in}
-use Rattle.pt_expr.specs.Outcome as outcome
-use Rattle.pt_expr.specs.Meaning as meaning
-use Rattle.pt_expr.specs.Meaning.{value, values, named_values}
-use Rattle.pt_expr.specs.Tree as tree
-use Rattle.pt_expr.specs.Tree.{Tree, Trees, no_trees, tree_then, NamedTrees}
-use Rattle.pt_expr_type.specs.Typing as typing
-use Rattle.pt_expr_type.specs.Types.{Types, type_under, or_else, presence_type}
-use Rattle.pt_expr_type.specs.TreeType as types
-use Rattle.pt_expr_type.specs.TreeType.{tree_type, parts_type, named_types}
-use Rattle.pt_parameter.specs.Texts.{names_in, names_in_parts, names_in_fields}
+use Rattle.pt_datatypes.specs.Datatype.{Datatype, Unknown}
+use Rattle.pt_datatypes.specs.Normal.{array_of}
+use Rattle.pt_datatypes.specs.Join.{join}
+use Rattle.pt_language.specs.Scope.{Scope, named, looked_up, presence_in, port_in}
+use Rattle.pt_language.specs.Outcome as outcome
+use Rattle.pt_language.specs.Meaning as meaning
+use Rattle.pt_language.specs.Meaning.{value, values, named_values}
+use Rattle.pt_language.specs.Tree as tree
+use Rattle.pt_language.specs.Tree.{Tree, Trees, no_trees, tree_then, NamedTrees}
+use Rattle.pt_language.specs.Typing as typing
+use Rattle.pt_language.specs.Types.{Types, type_under, or_else, presence_type}
+use Rattle.pt_language.specs.TreeType as types
+use Rattle.pt_language.specs.TreeType.{tree_type, parts_type, named_types}
+use Rattle.pt_scopes.specs.Texts.{names_in, names_in_parts, names_in_fields}
 
 module _ {A : Type 0} (f g : List ℕ → Option A) where
   -- both have the same under each of the names

@@ -6,22 +6,22 @@ use Rattle.std.specs.List.{Contains}
 use Rattle.std.proofs.lemmas.List.Elements.{Contains-append_left, Contains-append_right, Contains-append_cases}
 use Rattle.pt_value.specs.Value.{Value}
 use Rattle.pt_value.proofs.Names.{bytes_eq-same}
-use Rattle.pt_types.specs.Datatype.{Datatype}
-use Rattle.pt_types.specs.Token.{type_of_value}
-use Rattle.pt_types.proofs.Order.{below-refl, same_bytes}
-use Rattle.pt_types.proofs.Fields.{and_both}
-use Rattle.pt_expr.specs.declared.fault.EvalFault.{EvalFault}
-use Rattle.pt_expr.specs.Outcome.{Gives, Stops, Wrong}
-use Rattle.pt_expr.specs.Scope.{Scope, port_in}
-use Rattle.pt_expr.specs.Meaning.{value}
-use Rattle.pt_expr.specs.Tree as tree
-use Rattle.pt_expr.specs.Tree.{Tree, Trees, no_trees, tree_then, NamedTrees}
-use Rattle.pt_expr_type.specs.Typing.{Clash}
-use Rattle.pt_expr_type.specs.Types.{Types, is_bound, or_else, presence_type}
-use Rattle.pt_expr_type.specs.TreeType.{tree_type, are_bound, are_parts_bound, are_fields_bound, IsTyped}
-use Rattle.pt_expr_type.specs.Laws.{Keeps, IsHeld, IsOfType, TypedTreesAreSound}
-use Rattle.pt_parameter.specs.Texts.{IsRead, names_in, names_in_parts, names_in_fields, types_of, type_of_held, AreKnown, HasValue, HasClash, HasFault}
-use Rattle.pt_parameter.specs.Binding.{IsHeldAs, IsFree, AreBound}
+use Rattle.pt_datatypes.specs.Datatype.{Datatype}
+use Rattle.pt_datatypes.specs.Token.{type_of_value}
+use Rattle.pt_datatypes.proofs.Order.{below-refl, same_bytes}
+use Rattle.pt_datatypes.proofs.Fields.{and_both}
+use Rattle.pt_language.specs.declared.eval_fault.EvalFault.{EvalFault}
+use Rattle.pt_language.specs.Outcome.{Gives, Stops, Wrong}
+use Rattle.pt_language.specs.Scope.{Scope, port_in}
+use Rattle.pt_language.specs.Meaning.{value}
+use Rattle.pt_language.specs.Tree as tree
+use Rattle.pt_language.specs.Tree.{Tree, Trees, no_trees, tree_then, NamedTrees}
+use Rattle.pt_language.specs.Typing.{Clash}
+use Rattle.pt_language.specs.Types.{Types, is_bound, or_else, presence_type}
+use Rattle.pt_language.specs.TreeType.{tree_type, are_bound, are_parts_bound, are_fields_bound, IsTyped}
+use Rattle.pt_language.specs.Laws.{Keeps, IsHeld, IsOfType, TypedTreesAreSound}
+use Rattle.pt_scopes.specs.Texts.{IsRead, names_in, names_in_parts, names_in_fields, types_of, type_of_held, AreKnown, HasValue, HasClash, HasFault}
+use Rattle.pt_scopes.specs.Binding.{IsHeldAs, IsFree, AreBound}
 use Rattle.pt_parameter.proofs.Agreeing.{value-same, type-same}
 
 -- ---- one name more

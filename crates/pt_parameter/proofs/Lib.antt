@@ -1,9 +1,3 @@
-pub mod NameSteps
 pub mod Agreeing
-pub mod TokenTypes
 pub mod Binding
-pub mod Fitting
 pub mod Told
-pub mod NameTests
-pub mod Pairs
-pub mod Elements

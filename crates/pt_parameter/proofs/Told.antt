@@ -2,22 +2,22 @@
 use Rattle.std.proofs.Common.{◌≡◌, ◌⊎◌, inl, inr, ℕ, List, None, sym, subst, ◌∙◌}
 use Rattle.std.specs.Prelude.{Some}
 use Rattle.pt_value.specs.Value.{Value}
-use Rattle.pt_types.specs.Datatype.{Datatype}
-use Rattle.pt_moml.specs.declared.code.Code.{Code}
-use Rattle.pt_moml.specs.declared.code.Code.TheVariants as code
-use Rattle.pt_expr.specs.declared.fault.EvalFault.{EvalFault}
-use Rattle.pt_expr.specs.declared.fault.EvalFault.TheVariants as evaluation
-use Rattle.pt_expr.specs.Outcome.{Stops}
-use Rattle.pt_expr.specs.Scope.{Scope}
-use Rattle.pt_expr.specs.Meaning.{value}
-use Rattle.pt_expr.specs.Tree.{Tree}
-use Rattle.pt_expr_type.specs.Types.{Types}
-use Rattle.pt_expr_type.specs.TreeType.{IsTyped}
-use Rattle.pt_parameter.specs.declared.fault.TextFault.{TextFault}
-use Rattle.pt_parameter.specs.declared.fault.TextFault.TheVariants.{Refused, Memory}
-use Rattle.pt_parameter.specs.TextFault.{of_evaluation, IsTold}
-use Rattle.pt_parameter.specs.Texts.{IsRead, IsBound, IsReaderFault, IsTextFault, HasValue, names_in}
-use Rattle.pt_parameter.specs.Binding.{AreBound, HasStrange, TreeGives, IsTreeValueFault}
+use Rattle.pt_datatypes.specs.Datatype.{Datatype}
+use Rattle.pt_document.specs.declared.code.Code.{Code}
+use Rattle.pt_document.specs.declared.code.Code.TheVariants as code
+use Rattle.pt_language.specs.declared.eval_fault.EvalFault.{EvalFault}
+use Rattle.pt_language.specs.declared.eval_fault.EvalFault.TheVariants as evaluation
+use Rattle.pt_language.specs.Outcome.{Stops}
+use Rattle.pt_language.specs.Scope.{Scope}
+use Rattle.pt_language.specs.Meaning.{value}
+use Rattle.pt_language.specs.Tree.{Tree}
+use Rattle.pt_language.specs.Types.{Types}
+use Rattle.pt_language.specs.TreeType.{IsTyped}
+use Rattle.pt_scopes.specs.declared.fault.TextFault.{TextFault}
+use Rattle.pt_scopes.specs.declared.fault.TextFault.TheVariants.{Refused, Memory}
+use Rattle.pt_scopes.specs.TextFault.{of_evaluation, IsTold}
+use Rattle.pt_scopes.specs.Texts.{IsRead, IsBound, IsReaderFault, IsTextFault, HasValue, names_in}
+use Rattle.pt_scopes.specs.Binding.{AreBound, HasStrange, TreeGives, IsTreeValueFault}
 use Rattle.pt_parameter.proofs.Binding.{has-value, has-clash, has-fault}
 
 pub weaker : (P Q : Code → Type 0) → ((cause : Code) → P cause → Q cause) → (fault : TextFault) → IsTold P fault → IsTold Q fault

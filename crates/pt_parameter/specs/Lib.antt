@@ -1,9 +1,1 @@
-pub mod Forms
-pub mod Texts
-pub mod Names
-pub mod TextFault
-pub mod TokenType
-pub mod PortNames
-pub mod Binding
-pub mod Given
-pub mod Agreement
+pub mod ParametersView

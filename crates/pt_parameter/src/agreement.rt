@@ -2,16 +2,14 @@ ghost use Rattle.std.specs.Prelude.{◌≡◌, map, length, option_map};
 ghost use Rattle.std.specs.List.{list_all};
 ghost use Rattle.pt_value.specs.Token.{value_of};
 ghost use Rattle.std.specs.Str.{bytes_eq};
-ghost use Rattle.pt_moml.specs.Document.{property_name};
-ghost use Rattle.pt_moml.specs.View.{property_view};
-ghost use Rattle.pt_parameter.specs.Given.{held_view};
-ghost use Rattle.pt_parameter.specs.Agreement as agreement;
-ghost use Rattle.pt_parameter.specs.Agreement.{parameters_view};
+ghost use Rattle.pt_document.specs.Document.{property_name};
+ghost use Rattle.pt_document.specs.View.{property_view};
+ghost use Rattle.pt_scopes.specs.Given.{held_view};
+ghost use Rattle.pt_scopes.specs.Agreement as agreement;
+ghost use Rattle.pt_parameter.specs.ParametersView.{parameters_view};
 
-use crate::form::Standard;
-use crate::forms::standard_of;
-use crate::parameter_value::ParameterValue;
-use pt_moml::Property;
+use pt_document::Property;
+use pt_scopes::{ParameterValue, Standard, standard_of};
 use pt_value::Token;
 
 /// The most tokens that an actor gives in one firing.

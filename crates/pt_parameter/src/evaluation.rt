@@ -1,24 +1,23 @@
 ghost use Rattle.std.specs.Prelude.{◌≡◌, ◌++◌, [], ◌∷◌, ℕ, List, IfOk, IfErr, OnOk, None, true};
 ghost use Rattle.pt_value.specs.Token.{value_of};
-ghost use Rattle.pt_moml.specs.declared.code.Code.TheVariants as code;
+ghost use Rattle.pt_document.specs.declared.code.Code.TheVariants as code;
 ghost use Rattle.pt_expr.specs.Env.{scope_of};
-ghost use Rattle.pt_expr.specs.Expr.{tree_of};
-ghost use Rattle.pt_expr_type.specs.Laws.{Keeps};
-ghost use Rattle.pt_expr_type.specs.TreeType.{are_bound};
+ghost use Rattle.pt_language.specs.Expr.{tree_of};
+ghost use Rattle.pt_language.specs.Laws.{Keeps};
+ghost use Rattle.pt_language.specs.TreeType.{are_bound};
 ghost use Rattle.pt_expr_type.specs.TypeEnv.{types_in};
-ghost use Rattle.pt_parameter.specs.Names.{seen_scope};
-ghost use Rattle.pt_parameter.specs.Binding.{AreBound, HasStrange, TreeGives, IsTreeValueFault};
-ghost use Rattle.pt_parameter.specs.Texts.{HasValue, IsTextFault};
-ghost use Rattle.pt_parameter.specs.TextFault.{IsTold};
+ghost use Rattle.pt_scopes.specs.Names.{seen_scope};
+ghost use Rattle.pt_scopes.specs.Binding.{AreBound, HasStrange, TreeGives, IsTreeValueFault};
+ghost use Rattle.pt_scopes.specs.Texts.{HasValue, IsTextFault};
+ghost use Rattle.pt_scopes.specs.TextFault.{IsTold};
 
-use crate::fault::TextFault;
 use crate::reading::read;
-use crate::scope::Seen;
-use crate::token_type::type_of_token;
-use crate::tree_names::names_of;
-use pt_expr::{Env, Expr, eval};
-use pt_expr_type::{TypeEnv, TypeFault, type_of, typed_trees_are_sound};
-use pt_moml::Code;
+use pt_document::Code;
+use pt_expr::{Env, eval};
+use pt_expr_type::{TypeEnv, type_of, typed_trees_are_sound};
+use pt_language::{Expr, TypeFault};
+use pt_scopes::{Seen, TextFault, names_of};
+use pt_types::type_of_token;
 use pt_value::{Text, Token};
 use std::alloc::Global;
 

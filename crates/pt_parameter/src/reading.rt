@@ -1,12 +1,12 @@
 ghost use Rattle.std.specs.Prelude.{◌≡◌, IfOk, IfErr};
-ghost use Rattle.pt_expr.specs.Expr.{tree_of};
-ghost use Rattle.pt_parameter.specs.Texts.{IsRead, IsReaderFault};
-ghost use Rattle.pt_parameter.specs.TextFault.{IsTold};
+ghost use Rattle.pt_language.specs.Expr.{tree_of};
+ghost use Rattle.pt_scopes.specs.Texts.{IsRead, IsReaderFault};
+ghost use Rattle.pt_scopes.specs.TextFault.{IsTold};
 
-use crate::fault::TextFault;
-use pt_expr::Expr;
-use pt_expr_text::{ParseFault, parse};
-use pt_moml::Code;
+use pt_document::Code;
+use pt_expr_text::parse;
+use pt_language::{Expr, ParseFault};
+use pt_scopes::TextFault;
 use std::alloc::Global;
 
 /// The tree that a text reads as.

@@ -3,7 +3,7 @@ use Rattle.std.proofs.Common.{◌≡◌, ℕ, zero, suc, ◌+◌, ◌≤◌, Lis
 use Rattle.std.proofs.Math.Path.{fun_ext}
 use Rattle.pt_meaning.specs.Tag.{Tag}
 use Rattle.pt_meaning.specs.Streams.{Streams, get}
-use Rattle.pt_meaning.specs.Log.{Path, Log, Firing, Event, Finished, Met, firings_in, silent, log_then, own, log_below, within_firing, all_marked}
+use Rattle.pt_meaning.specs.Log.{Path, Log, Firing, Meeting, Event, Finished, Met, firings_in, silent, log_then, own, log_below, within_firing, all_marked}
 use Rattle.pt_meaning.specs.Machine.{Outcome, Done, Stuck, Stepping, recorded}
 use Rattle.pt_meaning.specs.Net.{Inside}
 use Rattle.pt_meaning.specs.Meetings.{Meets, below_child}
@@ -184,8 +184,8 @@ module _ {T A : Type 0} (rows : Rows T A) (steps : ℕ → Stepping T (Node T A)
       subst (λ (v : Log T). ChainCounts s z v) same c
 
 -- the firing of a composite, explained
-module _ {T A H : Type 0} (rows : Rows T A) (steps : ℕ → Stepping T (Node T A)) (owed : (i : ℕ) → CountingStep rows (steps i)) (tag : Tag) (h : Past) (c d : Core T) (kids : Nodes T A) (inputs : Streams T) (fit : IsFitting (Composite h c d kids)) (w : AreWired (Composite h c d kids)) (core : H → Core T) (r : Outcome T (Inside H (Child (Node T A))))
-    (x : Explained (child_facts (facts_of rows)) (child_step steps) tag inputs d core (numbered 0 (list_of kids)) r) where
+module _ {T A H : Type 0} {ms : List Meeting} (rows : Rows T A) (steps : ℕ → Stepping T (Node T A)) (owed : (i : ℕ) → CountingStep rows (steps i)) (tag : Tag) (h : Past) (c d : Core T) (kids : Nodes T A) (inputs : Streams T) (fit : IsFitting (Composite h c d kids)) (w : AreWired (Composite h c d kids)) (core : H → Core T) (r : Outcome T (Inside H (Child (Node T A))))
+    (x : Explained (child_facts (facts_of rows)) (child_step steps) ms h.made tag inputs d core (numbered 0 (list_of kids)) r) where
   as-added : log_in (as_node tag h c core r) ≡ added h.made x.events (log_below x.logs)
   as-added = log-as-node tag h c core r ∙ ap (λ v. within_firing h.made v) x.log ∙ within-added h.made x.events x.logs
 

@@ -9,6 +9,7 @@ use Rattle.pt_meaning.specs.Net.{Net}
 use Rattle.pt_meaning.specs.Rounds.{Limit, gave}
 use Rattle.pt_meaning.specs.Dataflow.{arrived}
 use Rattle.pt_meaning.specs.Kahn.{states_of, logs_of, skip_places}
+use Rattle.pt_meaning.specs.Children.{numbered, child_facts}
 use Rattle.pt_meaning.specs.Running.{runs, Asks}
 use Rattle.pt_meaning.specs.Closed.{Begun, if_there, inputs_at, begun_at}
 use Rattle.pt_laws.specs.LogsOfRuns.{RunningWith, log_at}
@@ -29,6 +30,15 @@ asked-there facts i [] cs ms ss held got left a q = absurd a
 asked-there facts i (n ∷ ns) [] ms ss held got left a q = absurd a
 asked-there facts i (n ∷ ns) (c ∷ cs) [] ss held got left a q = absurd a
 asked-there facts i (n ∷ ns) (c ∷ cs) (m ∷ ms) [] held got left a q = absurd a
+
+-- so it is of the children with their numbers
+pub asks-numbered : {T S : Type 0} (facts : Facts T S) (b i : ℕ) (ns : List ℕ) (cs : List Limit) (ms : List ℕ) (ss : List S) (held got left : Streams T) → Asks facts i ns cs ms ss held got left → Asks (child_facts facts) i ns cs ms (numbered b ss) held got left
+asks-numbered facts b zero (n ∷ ns) (c ∷ cs) (m ∷ ms) (s ∷ ss) held got left a = a
+asks-numbered facts b (suc i) (n ∷ ns) (c ∷ cs) (m ∷ ms) (s ∷ ss) held got left a = (a.0, asks-numbered facts (suc b) i ns cs ms ss (drop n held) got a.0 a.1, a.2)
+asks-numbered facts b i [] cs ms ss held got left a = absurd a
+asks-numbered facts b i (n ∷ ns) [] ms ss held got left a = absurd a
+asks-numbered facts b i (n ∷ ns) (c ∷ cs) [] ss held got left a = absurd a
+asks-numbered facts b i (n ∷ ns) (c ∷ cs) (m ∷ ms) [] held got left a = absurd a
 
 module _ {T S : Type 0} (facts : Facts T S) (step : Stepping T S) (tag : Tag) where
   -- nothing is made beyond the children

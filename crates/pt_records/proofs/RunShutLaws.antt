@@ -1,16 +1,17 @@
 -- A run of the top that is left off has a closed log.
-use Rattle.std.proofs.Common.{◌≡◌, ℕ, suc, ◌+◌, ◌≤◌, List, [], ◌∷◌, ◌++◌, false, Some, None, refl, sym, ap, subst, arith, ◌∙◌}
+use Rattle.std.proofs.Common.{◌≡◌, ℕ, suc, ◌+◌, ◌≤◌, List, [], ◌∷◌, ◌++◌, false, Option, Some, None, inl, refl, sym, ap, subst, arith, ◌∙◌}
 use Rattle.std.proofs.lemmas.List.{append_cancel_left}
 use Rattle.std.proofs.Math.Path.{fun_ext}
 use Rattle.pt_meaning.specs.Tag.{Tag}
 use Rattle.pt_meaning.specs.Streams.{Streams}
 use Rattle.pt_meaning.specs.Log.{Path, Log, LogBelow, Firing, Event, firings_in, log_then, own}
-use Rattle.pt_meaning.specs.Machine.{Outcome, Done, Stuck, recorded}
+use Rattle.pt_meaning.specs.Machine.{Fault, Outcome, Done, Stuck, recorded}
 use Rattle.pt_meaning.specs.Meetings.{Meets}
 use Rattle.pt_meaning.specs.Tree.{Rows, Node, made_of, height}
 use Rattle.pt_meaning.specs.Step.{step_at, Step}
-use Rattle.pt_meaning.specs.Job.{Turn, Fire, Schedule, Course, on_step, on_turn, goes_on, after, log_of, begin, meaning}
+use Rattle.pt_meaning.specs.Job.{Fire, Schedule, Course, on_step, on_turn, goes_on, after, log_of, begin, meaning}
 use Rattle.pt_meaning.specs.Closed.{Has, Begun, UnderWay, IsClosedRun, IsNext}
+use Rattle.pt_meaning.specs.Headline.{IsUpTo}
 use Rattle.pt_meaning.specs.Lawful.{LawfulRows}
 use Rattle.pt_laws.specs.LogsOfRuns.{log_in}
 use Rattle.pt_laws.specs.SoundRuns.{idle, ClosedIn}
@@ -29,7 +30,7 @@ use Rattle.pt_records.specs.Shut.{IsShutAt, IsShut, IsReached, RunsAreShut}
 use Rattle.pt_records.proofs.ShutSteps.{later-front}
 
 -- the log of a step that is done is that of the firing without the record, and then the record, which is in no part of it
-module _ {T A : Type 0} (rows : Rows T A) (m : Meets) (n₀ node : Node T A) (tag : Tag) (inputs : Streams T) (l log : Log T) (shut : IsShutAt rows m false n₀ node tag inputs l log) (k : ℕ) where
+module _ {T A : Type 0} (rows : Rows T A) (m : Meets) (n₀ node : Node T A) (tag : Tag) (inputs : Streams T) (place : Option Fault) (l log : Log T) (shut : IsShutAt rows m false n₀ node tag inputs place l log) (k : ℕ) where
   abbrev Further : Outcome T (Node T A) → Type 0
   Further r = (more : Log T) × (log_in (recorded (made_of node) tag inputs r) ≡ log_then log more) × ComesLater (log_then l log) more
 
@@ -68,8 +69,8 @@ module _ {T A : Type 0} (rows : Rows T A) (law : LawfulRows rows) (m : Meets) (p
   from-here k j o e = ap (λ v. log_of (after k rows m plan v (begin top))) e ∙ ap (λ s. log_of s) (after-then rows law k m plan top n j (begin top) ∙ ap (λ s. goes_on (after k rows m plan j) s) (r.goes.1 k o))
 
   -- a log that is closed level by level, and goes on later at some greater fuel, is closed as a part of the meaning's
-  part-of : (l : Log T) (way : UnderWay T) → ClosedIn rows false top l way → ((b : Begun T) → way [] ≡ Some b → IsNext rows m plan top (firings_in (l [])) b) → (k k' : ℕ) → k ≤ k' → (more : Log T) → meaning k' rows m plan top ≡ log_then l more → ComesLater l more → LogBelow l (meaning k rows m plan top) →
-      IsClosedRun rows m plan top (meaning k rows m plan top) l
+  part-of : (l : Log T) (way : UnderWay T) → ClosedIn rows false top l way → ((p : Path) (b : Begun T) → way p ≡ Some b → IsNext rows m plan top l p b) → (k k' : ℕ) → k ≤ k' → (more : Log T) → meaning k' rows m plan top ≡ log_then l more → ComesLater l more → LogBelow l (meaning k rows m plan top) →
+      IsClosedRun rows m plan top (meaning k rows m plan top) l way
   part-of l way closed next k k' o more same later below =
       let w = log-behind l (meaning k rows m plan top) below in
       let g = meaning-is-whole rows law m plan top r.fitting first k k' o in
@@ -78,41 +79,37 @@ module _ {T A : Type 0} (rows : Rows T A) (law : LawfulRows rows) (m : Meets) (p
       let whole = meaning-closed rows law k m plan top r.fitting first in
       part-of-run rows m plan top (meaning k rows m plan top) l w.0 way whole.0 w.1 closed whole.1 front next
 
-  pub run-between : (k : ℕ) → LogBelow c.log (meaning k rows m plan top) → IsClosedRun rows m plan top (meaning k rows m plan top) c.log
+  pub run-between : (k : ℕ) → LogBelow c.log (meaning k rows m plan top) → IsClosedRun rows m plan top (meaning k rows m plan top) c.log idle
   run-between k below =
       let k' : ℕ = n + (k + r.goes.0) in
       let g = run-later rows law k' k' (omega arith) m plan top (k + r.goes.0) c fine in
-      part-of c.log idle fine.1 (λ b e. absurd (none-some b e)) k k' (omega arith) g.0 (from-here k' (k + r.goes.0) (omega arith) refl ∙ g.1) g.2 below
+      part-of c.log idle fine.1 (λ p b e. absurd (none-some b e)) k k' (omega arith) g.0 (from-here k' (k + r.goes.0) (omega arith) refl ∙ g.1) g.2 below
     where
       none-some : (b : Begun T) → None ≡ Some b → ⊥
       none-some b e = cc
 
-  module _ (tag : Tag) (inputs : Streams T) (turn : plan c.fired c.last c.top ≡ Fire tag inputs) (log : Log T) (shut : IsShut rows m c.top tag inputs log) (below : FromSome (λ k. LogBelow log (log_in (Step k rows m c.top tag inputs)))) where
-    at_it : IsShutAt rows m false top c.top tag inputs c.log log
+  module _ (tag : Tag) (inputs : Streams T) (turn : plan c.fired c.last c.top ≡ Fire tag inputs) (place : Option Fault) (log : Log T) (shut : IsShut rows m c.top tag inputs place log) (below : FromSome (λ k. LogBelow log (log_in (Step k rows m c.top tag inputs)))) where
+    pub at_it : IsShutAt rows m false top c.top tag inputs place c.log log
     at_it = shut false top c.log (record { fitting = fine.0; closed = fine.1; kept = fine.2 })
 
     abbrev all : Log T
     all = log_then c.log log
 
-    -- the firing under way is the job's next
-    nexts : (b : Begun T) → at_it.way [] ≡ Some b → IsNext rows m plan top (firings_in (all [])) b
-    nexts b e =
+    -- each firing under way is the next of its path
+    nexts : (p : Path) (b : Begun T) → at_it.way p ≡ Some b → IsNext rows m plan top all p b
+    nexts p b e =
         let s = stood r.goes.0 (omega arith) in
         let fired : firings_in (all []) ≡ c.fired = omega (arith, count-append (c.log []) (log []), at_it.quiet, s.3) in
-        let same : record { tag = tag; inputs = inputs } ≡ b = some-begun (record { tag = tag; inputs = inputs }) b (sym at_it.under ∙ e) in
-        (r.goes.0, c, ap (λ v. after r.goes.0 rows m plan v (begin top)) fired ∙ s.4, turn ∙ ap (λ (v : Begun T). Turn.Fire v.tag v.inputs) same)
-      where
-        some-begun : (x y : Begun T) → Some x ≡ Some y → x ≡ y
-        some-begun x y e = cc
+        record { fuel = r.goes.0; course = c; tag = tag; inputs = inputs; before = ap (λ v. after r.goes.0 rows m plan v (begin top)) fired ∙ s.4; next = turn; comes = at_it.comes p b e }
 
     module _ (k : ℕ) (o : below.0 ≤ k) (j : ℕ) where
       stepped : (q : Outcome T (Node T A)) → step_at rows k (height c.top) m tag c.top inputs ≡ q → GoesBehind rows law k k (omega arith) m plan top all (log_of (goes_on (after k rows m plan j) (on_step c tag (recorded (made_of c.top) tag inputs q))))
       unfolding after_firing
       stepped (Stuck fs inner) e =
-          let g = further rows m top c.top tag inputs c.log log at_it k (Stuck fs inner) e (subst (λ q. LogBelow log (log_in (recorded (made_of c.top) tag inputs q))) e (below.1 k o)) in
+          let g = further rows m top c.top tag inputs place c.log log at_it k (Stuck fs inner) e (subst (λ q. LogBelow log (log_in (recorded (made_of c.top) tag inputs q))) e (below.1 k o)) in
           (g.0, ap (λ v. log_then c.log v) g.1 ∙ log-assoc c.log log g.0, g.2)
       stepped (Done z out inner) e =
-          let g = further rows m top c.top tag inputs c.log log at_it k (Done z out inner) e (subst (λ q. LogBelow log (log_in (recorded (made_of c.top) tag inputs q))) e (below.1 k o)) in
+          let g = further rows m top c.top tag inputs place c.log log at_it k (Done z out inner) e (subst (λ q. LogBelow log (log_in (recorded (made_of c.top) tag inputs q))) e (below.1 k o)) in
           let f : Firing T = record { number = made_of c.top; tag = tag; inputs = inputs; outputs = out } in
           let now : log_then c.log (log_then inner (own f)) ≡ log_then all g.0 = ap (λ v. log_then c.log v) g.1 ∙ log-assoc c.log log g.0 in
           let w = run-later rows law k k (omega arith) m plan top j (after_firing rows law k k (omega arith) m plan top c tag inputs z out inner) (fine-done rows law k k (omega arith) m plan top k c fine tag inputs z out inner e) in
@@ -122,7 +119,11 @@ module _ {T A : Type 0} (rows : Rows T A) (law : LawfulRows rows) (m : Meets) (p
       unfolding after
       from-turn = subst (λ t. GoesBehind rows law k k (omega arith) m plan top all (log_of (goes_on (after k rows m plan j) (on_turn k rows m c t)))) (sym turn) (stepped (step_at rows k (height c.top) m tag c.top inputs) refl)
 
-    pub run-within : (k : ℕ) → LogBelow all (meaning k rows m plan top) → IsClosedRun rows m plan top (meaning k rows m plan top) all
+    -- and where it is stuck at a place, the log goes up to that
+    pub up-to : (f : Fault) → place ≡ Some f → IsUpTo all at_it.way f
+    up-to f e = let w = at_it.placed f e in (w.0, inl (w.1, w.2))
+
+    pub run-within : (k : ℕ) → LogBelow all (meaning k rows m plan top) → IsClosedRun rows m plan top (meaning k rows m plan top) all at_it.way
     run-within k part =
         let j : ℕ = k + r.goes.0 + below.0 in
         let k' : ℕ = n + suc j in
@@ -130,4 +131,11 @@ module _ {T A : Type 0} (rows : Rows T A) (law : LawfulRows rows) (m : Meets) (p
         part-of all at_it.way at_it.closed nexts k k' (omega arith) g.0 (from-here k' (suc j) (omega arith) refl ∙ g.1) g.2 part
 
 pub runs-are-shut : {T A : Type 0} → RunsAreShut T A
-runs-are-shut = record { between = run-between; within = run-within }
+runs-are-shut = record {
+  between = λ rows law m plan top n c r. (idle, run-between rows law m plan top n c r);
+  within = λ rows law m plan top n c r tag inputs turn place log shut below. (
+    (at_it rows law m plan top n c r tag inputs turn place log shut below).way,
+    run-within rows law m plan top n c r tag inputs turn place log shut below,
+    up-to rows law m plan top n c r tag inputs turn place log shut below,
+  );
+}

@@ -3,23 +3,24 @@ use Rattle.std.proofs.Common.{◌≡◌, ◌⊎◌, ℕ, zero, suc, ◌+◌, ◌
 use Rattle.std.proofs.Math.Path.{fun_ext}
 use Rattle.pt_meaning.specs.Tag.{Tag}
 use Rattle.pt_meaning.specs.Streams.{IsPrefix, Streams, get}
-use Rattle.pt_meaning.specs.Log.{Path, Log, LogBelow, Firing, Event, firings_in, silent, log_then, log_below, within_firing}
+use Rattle.pt_meaning.specs.Log.{Path, Log, LogBelow, Firing, Event, firings_in, silent, log_then, log_below, within_firing, all_marked}
 use Rattle.pt_meaning.specs.Machine.{Stepping, Facts}
 use Rattle.pt_meaning.specs.Net.{Inside, Source, Own, Output}
 use Rattle.pt_meaning.specs.Dataflow.{SdfPlan}
-use Rattle.pt_meaning.specs.Machine.{Outcome}
+use Rattle.pt_meaning.specs.Machine.{Fault, Outcome}
 use Rattle.pt_meaning.specs.Meetings.{Meets, below_child}
 use Rattle.pt_meaning.specs.Children.{Child, numbered, child_facts, child_step}
 use Rattle.pt_meaning.specs.Tree.{Rows, Core, Sdf, Past, Node, Nodes, Actor, Composite, list_of, height, heights}
 use Rattle.pt_meaning.specs.NodeFacts.{facts_of}
 use Rattle.pt_meaning.specs.Step.{as_node, step_at}
 use Rattle.pt_meaning.specs.Lawful.{LawfulRows}
-use Rattle.pt_meaning.specs.Closed.{Has, child_of, Begun, UnderWay, is_modal, rounds_of, inputs_at, outputs_at, begun_at}
+use Rattle.pt_meaning.specs.Closed.{Has, child_of, Begun, UnderWay, is_modal, rounds_of, inputs_at, outputs_at, begun_at, ComesTo}
+use Rattle.pt_meaning.specs.Asked.{AsksInRounds}
 use Rattle.pt_laws.specs.Channels as channels
 use Rattle.pt_laws.specs.Channels.{channel_at, tokens_in}
 use Rattle.pt_laws.specs.Heights.{IsFitting}
 use Rattle.pt_laws.specs.LogsOfRuns.{log_in, log_at}
-use Rattle.pt_laws.specs.CompositeRuns.{SdfRun, sdf_bounds}
+use Rattle.pt_laws.specs.CompositeRuns.{SdfRun, steps_below, sdf_bounds, sdf_start}
 use Rattle.pt_laws.specs.SoundRuns.{log_in_child, idle, ClosedIn, KeptIn, on_place, part, all_of, takes_now, gives_now, SoundStep}
 use Rattle.pt_laws.specs.Explained.{Turned, of_turns, gives_in, takes_in, Explained}
 use Rattle.pt_laws.specs.WholeRuns.{ComesLater, LaterStep}
@@ -27,7 +28,7 @@ use Rattle.pt_laws.proofs.JoinLaws.{log-assoc}
 use Rattle.pt_laws.proofs.HeightLaws.{numbered-length, sdf-bounds-count, levels-agree}
 use Rattle.pt_laws.proofs.CompositeLaws.{steps-grow}
 use Rattle.pt_laws.proofs.RecordLaws.{all-append, all-quiet}
-use Rattle.pt_laws.proofs.ClosedLaws.{child-closed, child-or-beyond}
+use Rattle.pt_laws.proofs.ClosedLaws.{count-unmarked, child-closed, child-or-beyond}
 use Rattle.pt_laws.proofs.LevelLaws.{added, count-append, has-left, has-right, level-under-way, unmarked-append, unmarked-marked}
 use Rattle.pt_laws.proofs.ChainLaws.{numbered-get, kept-child, fitting-child, ChainSound, chain-sound}
 use Rattle.pt_laws.proofs.SoundLaws.{below-log}
@@ -53,22 +54,24 @@ within-none {T} n ls = fun_ext one
     one [] = refl
     one (i ∷ p) = refl
 
--- What child z has logged of a firing that it doesn't finish, at a fuel k: nothing where it has begun none, and else a log that is shut.
-abbrev pub IsLeft : {T A : Type 0} → Rows T A → (k d : ℕ) → Meets → Child (Node T A) → Option (Begun T) → Log T → Type 0
-IsLeft rows k d m z None rest = rest ≡ silent
-IsLeft rows k d m z (Some b) rest = IsShut rows (below_child z.number m) z.node b.tag b.inputs rest × (height z.node ≤ d) × LogBelow rest (log_in (step_at rows k d (below_child z.number m) b.tag z.node b.inputs))
+-- What child z has logged of a firing that it doesn't finish, at a fuel k: nothing where it has begun none, and else a log that is shut, as stuck at a place where one is given.
+abbrev pub IsLeft : {T A : Type 0} → Rows T A → (k d : ℕ) → Meets → Child (Node T A) → Option (Begun T) → Option Fault → Log T → Type 0
+IsLeft rows k d m z None place rest = (rest ≡ silent) × (place ≡ None)
+IsLeft rows k d m z (Some b) place rest = IsShut rows (below_child z.number m) z.node b.tag b.inputs place rest × (height z.node ≤ d) × LogBelow rest (log_in (step_at rows k d (below_child z.number m) b.tag z.node b.inputs))
 
--- An SDF composite is left off: its children have finished the firings of a run, and then logged rest, each of a firing that it doesn't finish. In all they have logged logs.
-pub record IsMiddle {T A : Type 0} (rows : Rows T A) (k : ℕ) (m : Meets) (tag : Tag) (p : SdfPlan) (X : Streams T) (kids : Nodes T A) (inputs : Streams T) (ms : List ℕ) (now : List (Child (Node T A))) (held : Streams T) (ls logs : List (Log T)) (begun : ℕ → Option (Begun T)) (rest : ℕ → Log T) : Type 0 where
+-- An SDF composite is left off: its children have finished the firings of a run, and then logged rest, each of a firing that it doesn't finish and was asked for. In all they have logged logs. Where a place is given, it is one of a child.
+pub record IsMiddle {T A : Type 0} (rows : Rows T A) (k : ℕ) (m : Meets) (tag : Tag) (p : SdfPlan) (X : Streams T) (kids : Nodes T A) (inputs : Streams T) (ms : List ℕ) (now : List (Child (Node T A))) (held : Streams T) (ls logs : List (Log T)) (begun : ℕ → Option (Begun T)) (at : ℕ → Option Fault) (place : Option Fault) (rest : ℕ → Log T) : Type 0 where
   pub run : SdfRun rows k (heights kids) m tag p X kids inputs ms now held ls
   pub joined : (i : ℕ) → log_at logs i ≡ log_then (log_at ls i) (rest i)
-  pub ends : (i : ℕ) (z : Child (Node T A)) → get now i ≡ Some z → IsLeft rows k (heights kids) m z (begun i) (rest i)
-  pub beyond : (i : ℕ) → length (list_of kids) ≤ i → (rest i ≡ silent) × (begun i ≡ None)
+  pub ends : (i : ℕ) (z : Child (Node T A)) → get now i ≡ Some z → IsLeft rows k (heights kids) m z (begun i) (at i) (rest i)
+  pub beyond : (i : ℕ) → length (list_of kids) ≤ i → (rest i ≡ silent) × (begun i ≡ None) × (at i ≡ None)
   pub tagged : (i : ℕ) (b : Begun T) → begun i ≡ Some b → b.tag ≡ tag
   pub takes : (i q : ℕ) → IsPrefix (begun_at (begun i) q) (tokens_in held (channel_at p.net.places i q))
+  pub asks : (i : ℕ) (z : Child (Node T A)) (b : Begun T) → get now i ≡ Some z → begun i ≡ Some b → AsksInRounds (child_facts (facts_of rows)) (steps_below rows k (heights kids) m) tag p.net (sdf_bounds p X inputs) (numbered 0 (list_of kids)) (sdf_start p X inputs) i z b.inputs
+  pub placed : (f : Fault) → place ≡ Some f → (i : ℕ) × (g : Fault) × (at i ≡ Some g) × (f ≡ record { path = i ∷ g.path; firing = g.firing; code = g.code })
 
-module _ {T A : Type 0} (rows : Rows T A) (law : LawfulRows rows) (k : ℕ) (m : Meets) (tag : Tag) (h : Past) (c : Core T) (p : SdfPlan) (X : Streams T) (kids : Nodes T A) (inputs : Streams T) (ms : List ℕ) (now : List (Child (Node T A))) (held : Streams T) (ls logs : List (Log T)) (begun : ℕ → Option (Begun T)) (rest : ℕ → Log T)
-    (x : IsMiddle rows k m tag p X kids inputs ms now held ls logs begun rest) (u : Bool) (h₀ : Past) (c₀ d₀ : Core T) (kids₀ : Nodes T A) (l : Log T) (come : HasCome rows u (Composite h₀ c₀ d₀ kids₀) (Composite h c (Sdf p X) kids) l) where
+module _ {T A : Type 0} (rows : Rows T A) (law : LawfulRows rows) (k : ℕ) (m : Meets) (tag : Tag) (h : Past) (c : Core T) (p : SdfPlan) (X : Streams T) (kids : Nodes T A) (inputs : Streams T) (ms : List ℕ) (now : List (Child (Node T A))) (held : Streams T) (ls logs : List (Log T)) (begun : ℕ → Option (Begun T)) (at : ℕ → Option Fault) (place : Option Fault) (rest : ℕ → Log T)
+    (x : IsMiddle rows k m tag p X kids inputs ms now held ls logs begun at place rest) (u : Bool) (h₀ : Past) (c₀ d₀ : Core T) (kids₀ : Nodes T A) (l : Log T) (come : HasCome rows u (Composite h₀ c₀ d₀ kids₀) (Composite h c (Sdf p X) kids) l) where
   abbrev d : ℕ
   d = heights kids
 
@@ -138,6 +141,11 @@ module _ {T A : Type 0} (rows : Rows T A) (law : LawfulRows rows) (k : ℕ) (m :
     under : way [] ≡ begun i
     closed : ClosedIn rows v k₀ (log_then (log_in_child i l) (log_at logs i)) way
     told : (pick : Firing T → List T) → all_of pick (log_at logs i []) ≡ of_turns pick (turns i)
+    end : Child (Node T A)
+    there : get now i ≡ Some end
+    number : end.number ≡ i
+    comes : (q : Path) (b : Begun T) → way q ≡ Some b → (asked : Begun T) × (begun i ≡ Some asked) × ComesTo rows q (below_child end.number m) (λ r. firings_in (log_then (log_in_child i l) (log_at logs i) r)) end.node asked.tag asked.inputs b
+    placed : (f : Fault) → at i ≡ Some f → (firings_in (log_then (log_in_child i l) (log_at logs i) f.path) ≡ f.firing) × (b : Begun T) × (way f.path ≡ Some b)
 
   left : (i : ℕ) (k₀ : Node T A) → child_of kids₀ i ≡ Some k₀ → Left i k₀
   left i k₀ e = go (begun i) refl (x.ends i (finished i k₀ e).made.end (finished i k₀ e).made.there)
@@ -152,12 +160,23 @@ module _ {T A : Type 0} (rows : Rows T A) (law : LawfulRows rows) (k : ℕ) (m :
       told q pick =
           ap (λ (w : Log T). all_of pick (w [])) (x.joined i) ∙ all-append pick (log_at ls i []) (rest i []) ∙ ap₂ (λ a b. a ++ b) (y.done.told pick) (all-quiet pick (rest i []) q) ∙ append-nil (of_turns pick (turns i))
 
-      go : (b : Option (Begun T)) → begun i ≡ b → IsLeft rows k d m y.made.end b (rest i) → Left i k₀
+      none-begun : (b : Begun T) → None ≡ Some b → ⊥
+      none-begun b e = cc
+
+      none-placed : (f : Fault) → None ≡ Some f → ⊥
+      none-placed f e = cc
+
+      go : (b : Option (Begun T)) → begun i ≡ b → IsLeft rows k d m y.made.end b (at i) (rest i) → Left i k₀
       go None is none = record {
         way = idle;
         under = sym is;
-        closed = subst (λ w. ClosedIn rows v k₀ w idle) (sym (ap (λ w. log_then (log_then (log_in_child i l) (log_at ls i)) w) none ∙ fun_ext (λ q. append-nil ((log_then (log_in_child i l) (log_at ls i)) q))) ∙ whole) y.done.closed;
-        told = told (ap (λ (w : Log T). firings_in (w [])) none);
+        closed = subst (λ w. ClosedIn rows v k₀ w idle) (sym (ap (λ w. log_then (log_then (log_in_child i l) (log_at ls i)) w) none.0 ∙ fun_ext (λ q. append-nil ((log_then (log_in_child i l) (log_at ls i)) q))) ∙ whole) y.done.closed;
+        told = told (ap (λ (w : Log T). firings_in (w [])) none.0);
+        end = y.made.end;
+        there = y.made.there;
+        number = y.done.number;
+        comes = λ q b e. absurd (none-begun b e);
+        placed = λ f e. absurd (none-placed f (sym none.1 ∙ e));
       }
       go (Some b) is shut =
           let at_end = shut.0 v k₀ (log_then (log_in_child i l) (log_at ls i)) (record { fitting = y.done.fits; closed = y.done.closed; kept = y.done.kept }) in
@@ -166,6 +185,11 @@ module _ {T A : Type 0} (rows : Rows T A) (law : LawfulRows rows) (k : ℕ) (m :
             under = at_end.under ∙ sym is;
             closed = subst (λ w. ClosedIn rows v k₀ w at_end.way) whole at_end.closed;
             told = told at_end.quiet;
+            end = y.made.end;
+            there = y.made.there;
+            number = y.done.number;
+            comes = λ q c e. (b, is, subst (λ (w : Log T). ComesTo rows q (below_child y.made.end.number m) (λ r. firings_in (w r)) y.made.end.node b.tag b.inputs c) whole (at_end.comes q c e));
+            placed = λ f e. subst (λ (w : Log T). (firings_in (w f.path) ≡ f.firing) × (c : Begun T) × (at_end.way f.path ≡ Some c)) whole (at_end.placed f e);
           }
 
   -- what is under way
@@ -207,7 +231,7 @@ module _ {T A : Type 0} (rows : Rows T A) (law : LawfulRows rows) (k : ℕ) (m :
   under-at : (i : ℕ) (o : Child₀ i) → ways-at i o [] ≡ begun i
   unfolding Child₀ ways-at
   under-at i (inl y) = (left i y.0 y.1).under
-  under-at i (inr b) = sym (x.beyond i (omega (arith, b.1, counts))).1
+  under-at i (inr b) = sym ((x.beyond i (omega (arith, b.1, counts))).1)
 
   idle-beyond : (i : ℕ) (q : Path) → length (list_of kids₀) ≤ i → (o : Child₀ i) → ways-at i o q ≡ None
   unfolding Child₀ ways-at
@@ -237,6 +261,68 @@ module _ {T A : Type 0} (rows : Rows T A) (law : LawfulRows rows) (k : ℕ) (m :
   unfolding all-ways
   middle-way = refl
 
+  -- the firings finished within a child, as the composite's log tells them
+  abbrev by_child : ℕ → Path → ℕ
+  by_child i = λ r. firings_in (log_then (log_in_child i l) (log_at logs i) r)
+
+  abbrev by_all : ℕ → Path → ℕ
+  by_all i = λ r. firings_in (log_then l (within_firing h.made (log_below logs)) (i ∷ r))
+
+  child-counts : (i : ℕ) → by_child i ≡ by_all i
+  child-counts i = fun_ext (λ r. one r)
+    where
+      one : (r : Path) → firings_in (log_in_child i l r ++ log_at logs i r) ≡ firings_in (l (i ∷ r) ++ all_marked h.made (log_below logs (i ∷ r)))
+      one r =
+          let a = count-append (log_in_child i l r) (log_at logs i r) in
+          let b = count-append (l (i ∷ r)) (all_marked h.made (log_below logs (i ∷ r))) in
+          let old = count-unmarked (l (i ∷ r)) in
+          let new : firings_in (all_marked h.made (log_below logs (i ∷ r))) ≡ firings_in (log_at logs i r) = sym (count-unmarked (all_marked h.made (log_below logs (i ∷ r)))) ∙ ap (λ es. firings_in es) (unmarked-marked h.made (log_below logs (i ∷ r)) ∙ ap (λ (w : Log T). w r) (below-log logs i)) in
+          a ∙ ap₂ (λ v w. v + w) old (sym new) ∙ sym b
+
+  -- each firing under way is one that the composite's comes to
+  pub middle-comes : (q : Path) (b : Begun T) → all-ways q ≡ Some b → ComesTo rows q m (λ r. firings_in (log_then l (within_firing h.made (log_below logs)) r)) (Composite h c (Sdf p X) kids) tag inputs b
+  unfolding all-ways Child₀ ways-at
+  middle-comes [] b e = (omega (arith, come.kept.0.made, append-count), sym (same e))
+    where
+      same : Some (record { tag = tag; inputs = inputs }) ≡ Some b → record { tag = tag; inputs = inputs } ≡ b
+      same g = cc
+
+      append-count : firings_in (l [] ++ []) ≡ firings_in (l [])
+      append-count = ap (λ es. firings_in es) (append-nil (l []))
+  middle-comes (i ∷ q) b e = go (in-children i) e
+    where
+      none-begun : None ≡ Some b → ⊥
+      none-begun e = cc
+
+      go : (o : Child₀ i) → ways-at i o q ≡ Some b → ComesTo rows (i ∷ q) m (λ r. firings_in (log_then l (within_firing h.made (log_below logs)) r)) (Composite h c (Sdf p X) kids) tag inputs b
+      go (inr far) e = absurd (none-begun e)
+      go (inl k₀) e =
+          let y = left i k₀.0 k₀.1 in
+          let w = y.comes q b e in (
+            omega (arith, come.kept.0.made, ap (λ es. firings_in es) (append-nil (l []))),
+            k,
+            d,
+            y.end,
+            w.0.tag,
+            w.0.inputs,
+            (x.tagged i w.0 w.1, x.asks i y.end w.0 y.there w.1),
+            subst (λ (v : Path → ℕ). ComesTo rows q (below_child i m) v y.end.node w.0.tag w.0.inputs b) (child-counts i) (subst (λ n. ComesTo rows q (below_child n m) (by_child i) y.end.node w.0.tag w.0.inputs b) y.number w.2),
+          )
+
+  -- and that of the place is one of them
+  pub middle-placed : (f : Fault) → place ≡ Some f → (firings_in (log_then l (within_firing h.made (log_below logs)) f.path) ≡ f.firing) × (b : Begun T) × (all-ways f.path ≡ Some b)
+  unfolding all-ways Child₀ ways-at
+  middle-placed f e =
+      let w = x.placed f e in
+      subst (λ (v : Fault). (firings_in (log_then l (within_firing h.made (log_below logs)) v.path) ≡ v.firing) × (b : Begun T) × (all-ways v.path ≡ Some b)) (sym w.3) (go w.0 w.1 w.2 (in-children w.0))
+    where
+      none-placed : (g : Fault) → None ≡ Some g → ⊥
+      none-placed g e = cc
+
+      go : (i : ℕ) (g : Fault) → at i ≡ Some g → (o : Child₀ i) → (firings_in (log_then l (within_firing h.made (log_below logs)) (i ∷ g.path)) ≡ g.firing) × (b : Begun T) × (ways-at i o g.path ≡ Some b)
+      go i g a (inl k₀) = let r = (left i k₀.0 k₀.1).placed g a in (ap (λ (v : Path → ℕ). v g.path) (sym (child-counts i)) ∙ r.0, r.1, r.2)
+      go i g a (inr far) = absurd (none-placed g (sym ((x.beyond i (omega (arith, far.1, counts))).2) ∙ a))
+
   pub middle-closed : ClosedIn rows u (Composite h₀ c₀ d₀ kids₀) (log_then l (within_firing h.made (log_below logs))) all-ways
   unfolding all-ways
   middle-closed =
@@ -251,8 +337,8 @@ module _ {T A : Type 0} (rows : Rows T A) (law : LawfulRows rows) (k : ℕ) (m :
           (taken-now facts (child_step steps) tag p.net (sdf_bounds p X inputs) its X inputs ms now held ls x.run bounds_long its_long i q (begun i) (x.takes i q)))
 
   -- what a child has logged of a firing that it doesn't finish
-  asked-off : (i : ℕ) (k₀ : Node T A) (z : Child (Node T A)) → z.number ≡ i → (b : Option (Begun T)) → IsLeft rows k d m z b (rest i) → EndsOff rows steps v k₀ z (rest i)
-  asked-off i k₀ z e None none = inl none
+  asked-off : (i : ℕ) (k₀ : Node T A) (z : Child (Node T A)) → z.number ≡ i → (b : Option (Begun T)) → IsLeft rows k d m z b (at i) (rest i) → EndsOff rows steps v k₀ z (rest i)
+  asked-off i k₀ z e None none = inl none.0
   asked-off i k₀ z e (Some b) shut = inr (λ lz f s g.
       let at_end = shut.0 v k₀ lz (record { fitting = f; closed = s; kept = g }) in
       let w = log-behind _ _ shut.2 in
@@ -263,7 +349,7 @@ module _ {T A : Type 0} (rows : Rows T A) (law : LawfulRows rows) (k : ℕ) (m :
       })
 
   -- a firing at this fuel logs later what is behind
-  module _ {H : Type 0} (tag' : Tag) (X' : Streams T) (core : H → Core T) (r : Outcome T (Inside H (Child (Node T A)))) (y : Explained facts (child_step steps) tag' X' (Sdf p X) core its r) (more : Log T) (same : log_in (as_node tag' h c core r) ≡ log_then (within_firing h.made (log_below logs)) more) where
+  module _ {H : Type 0} (tag' : Tag) (X' : Streams T) (core : H → Core T) (r : Outcome T (Inside H (Child (Node T A)))) (y : Explained facts (child_step steps) (m [] h.made) h.made tag' X' (Sdf p X) core its r) (more : Log T) (same : log_in (as_node tag' h c core r) ≡ log_then (within_firing h.made (log_below logs)) more) where
     abbrev here : Log T
     here = within_firing h.made (log_below logs)
 
@@ -306,14 +392,16 @@ module _ {T A : Type 0} (rows : Rows T A) (law : LawfulRows rows) (k : ℕ) (m :
       (λ H core r y e. explained-later tag' X' core r y more e) same
 
 -- in the middle from some fuel on
-pub middle-is-shut : {T A : Type 0} (rows : Rows T A) → LawfulRows rows → (m : Meets) (tag : Tag) (h : Past) (c : Core T) (p : SdfPlan) (X : Streams T) (kids : Nodes T A) (inputs : Streams T) (ms : List ℕ) (now : List (Child (Node T A))) (held : Streams T) (ls logs : List (Log T)) (begun : ℕ → Option (Begun T)) (rest : ℕ → Log T) (k₀ : ℕ) →
-    ((k : ℕ) → k₀ ≤ k → IsMiddle rows k m tag p X kids inputs ms now held ls logs begun rest) → IsShut rows m (Composite h c (Sdf p X) kids) tag inputs (within_firing h.made (log_below logs))
-middle-is-shut rows law m tag h c p X kids inputs ms now held ls logs begun rest k₀ x u (Actor h₀ a₀ b₀) l come = absurd come.kept
-middle-is-shut rows law m tag h c p X kids inputs ms now held ls logs begun rest k₀ x u (Composite h₀ c₀ d₀ kids₀) l come = record {
+pub middle-is-shut : {T A : Type 0} (rows : Rows T A) → LawfulRows rows → (m : Meets) (tag : Tag) (h : Past) (c : Core T) (p : SdfPlan) (X : Streams T) (kids : Nodes T A) (inputs : Streams T) (ms : List ℕ) (now : List (Child (Node T A))) (held : Streams T) (ls logs : List (Log T)) (begun : ℕ → Option (Begun T)) (at : ℕ → Option Fault) (place : Option Fault) (rest : ℕ → Log T) (k₀ : ℕ) →
+    ((k : ℕ) → k₀ ≤ k → IsMiddle rows k m tag p X kids inputs ms now held ls logs begun at place rest) → IsShut rows m (Composite h c (Sdf p X) kids) tag inputs place (within_firing h.made (log_below logs))
+middle-is-shut rows law m tag h c p X kids inputs ms now held ls logs begun at place rest k₀ x u (Actor h₀ a₀ b₀) l come = absurd come.kept
+middle-is-shut rows law m tag h c p X kids inputs ms now held ls logs begun at place rest k₀ x u (Composite h₀ c₀ d₀ kids₀) l come = record {
   quiet = refl;
-  way = all-ways rows law k₀ m tag h c p X kids inputs ms now held ls logs begun rest (x k₀ (omega arith)) u h₀ c₀ d₀ kids₀ l come;
-  under = middle-way rows law k₀ m tag h c p X kids inputs ms now held ls logs begun rest (x k₀ (omega arith)) u h₀ c₀ d₀ kids₀ l come;
-  closed = middle-closed rows law k₀ m tag h c p X kids inputs ms now held ls logs begun rest (x k₀ (omega arith)) u h₀ c₀ d₀ kids₀ l come;
+  way = all-ways rows law k₀ m tag h c p X kids inputs ms now held ls logs begun at place rest (x k₀ (omega arith)) u h₀ c₀ d₀ kids₀ l come;
+  under = middle-way rows law k₀ m tag h c p X kids inputs ms now held ls logs begun at place rest (x k₀ (omega arith)) u h₀ c₀ d₀ kids₀ l come;
+  closed = middle-closed rows law k₀ m tag h c p X kids inputs ms now held ls logs begun at place rest (x k₀ (omega arith)) u h₀ c₀ d₀ kids₀ l come;
+  comes = middle-comes rows law k₀ m tag h c p X kids inputs ms now held ls logs begun at place rest (x k₀ (omega arith)) u h₀ c₀ d₀ kids₀ l come;
+  placed = middle-placed rows law k₀ m tag h c p X kids inputs ms now held ls logs begun at place rest (x k₀ (omega arith)) u h₀ c₀ d₀ kids₀ l come;
   later = from-greater rows law m (Composite h c (Sdf p X) kids) l (within_firing h.made (log_below logs)) k₀ (suc (heights kids))
-      (λ k o. middle-later rows law k m tag h c p X kids inputs ms now held ls logs begun rest (x k o) u h₀ c₀ d₀ kids₀ l come);
+      (λ k o. middle-later rows law k m tag h c p X kids inputs ms now held ls logs begun at place rest (x k o) u h₀ c₀ d₀ kids₀ l come);
 }

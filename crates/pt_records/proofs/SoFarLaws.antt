@@ -27,8 +27,9 @@ use Rattle.pt_records.specs.Fired.{IsStuckAt}
 use Rattle.pt_records.specs.Shut.{IsShut}
 use Rattle.pt_records.specs.SoFar.{AllLow, GivesRates, IsAsked, SoFarBegins, SoFarGoesOn, SdfSoFar, sdf_left, SdfIsDone, SdfIsStuck, SdfIsUnrated, SdfIsLeftOff, SdfIsLeftOffWithin}
 use Rattle.pt_records.proofs.GrowthLaws.{all-begin, all-go-on, grew-within, all-long}
-use Rattle.pt_records.proofs.ShutSteps.{stepped-is-shut}
-use Rattle.pt_records.proofs.ShutMiddles.{between-is-shut, within-is-shut}
+use Rattle.pt_records.proofs.MiddleLaws.{asks-numbered}
+use Rattle.pt_records.proofs.ShutSteps.{stepped-is-shut, at-own-place}
+use Rattle.pt_records.proofs.ShutMiddles.{below_place, between-is-shut, within-is-shut}
 
 -- lists of children with their numbers
 numbered-at : {S : Type 0} (b : ℕ) (ss : List S) (i n : ℕ) (s : S) (d : Child S) → n ≡ b + i → get ss i ≡ Some s → get_or (numbered b ss) i d ≡ record { number = n; node = s }
@@ -44,14 +45,6 @@ numbered-set {S} b (x ∷ ss) (suc i) n s e = ap (λ cs. let c : Child S = recor
 numbered-nodes : {S : Type 0} (b : ℕ) (ss : List S) → nodes (numbered b ss) ≡ ss
 numbered-nodes b [] = refl
 numbered-nodes b (s ∷ ss) = ap (λ v. s ∷ v) (numbered-nodes (suc b) ss)
-
-asks-numbered : {T S : Type 0} (facts : Facts T S) (b i : ℕ) (ns : List ℕ) (cs : List Limit) (ms : List ℕ) (ss : List S) (held got left : Streams T) → Asks facts i ns cs ms ss held got left → Asks (child_facts facts) i ns cs ms (numbered b ss) held got left
-asks-numbered facts b zero (n ∷ ns) (c ∷ cs) (m ∷ ms) (s ∷ ss) held got left a = a
-asks-numbered facts b (suc i) (n ∷ ns) (c ∷ cs) (m ∷ ms) (s ∷ ss) held got left a = (a.0, asks-numbered facts (suc b) i ns cs ms ss (drop n held) got a.0 a.1, a.2)
-asks-numbered facts b i [] cs ms ss held got left a = absurd a
-asks-numbered facts b i (n ∷ ns) [] ms ss held got left a = absurd a
-asks-numbered facts b i (n ∷ ns) (c ∷ cs) [] ss held got left a = absurd a
-asks-numbered facts b i (n ∷ ns) (c ∷ cs) (m ∷ ms) [] held got left a = absurd a
 
 -- heights
 low-get : {T A : Type 0} (d : ℕ) (ns : List (Node T A)) (i : ℕ) (n : Node T A) → AllLow d ns → get ns i ≡ Some n → height n ≤ d
@@ -223,16 +216,16 @@ module _ {T A : Type 0} (rows : Rows T A) (m : Meets) (tag : Tag) (h : Past) (c 
   grew l g = grew-within h.made (logs_then i l s.logs) e olds (set news i k) (all-go-on i l s.logs olds news k b s.kept g)
 
   -- what is logged is shut, where the child's part of it is
-  pub shut-one : LawfulRows rows → (l : Log T) (k₀ : ℕ) → ((j : ℕ) → k₀ ≤ j → LogBelow l (log_in (step_at rows j (height child) (below_child i m) tag child got))) → IsShut rows (below_child i m) child tag got l → IsShut rows m (Composite h c (Sdf p X) kids) tag inputs (so_far l)
-  shut-one law l k₀ below shut =
-      within-is-shut rows law m tag h c p X kids inputs ms now held s.logs i child got left l a.state a.asks (low-get (heights kids) now i child s.low a.state) (omega (arith, b, all-long s.logs olds news s.kept)) shut (s.run.0 + k₀) (λ j o. (s.run.1 j (omega (arith, o)), below j (omega (arith, o))))
+  pub shut-one : LawfulRows rows → (place : Option Fault) (l : Log T) (k₀ : ℕ) → ((j : ℕ) → k₀ ≤ j → LogBelow l (log_in (step_at rows j (height child) (below_child i m) tag child got))) → IsShut rows (below_child i m) child tag got place l → IsShut rows m (Composite h c (Sdf p X) kids) tag inputs (below_place i place) (so_far l)
+  shut-one law place l k₀ below shut =
+      within-is-shut rows law m tag h c p X kids inputs ms now held s.logs i child got left place l a.state a.asks (low-get (heights kids) now i child s.low a.state) (omega (arith, b, all-long s.logs olds news s.kept)) shut (s.run.0 + k₀) (λ j o. (s.run.1 j (omega (arith, o)), below j (omega (arith, o))))
 
 pub sdf-is-left-off-within : {T A : Type 0} → SdfIsLeftOffWithin T A
 sdf-is-left-off-within rows law m tag h c p X kids inputs e olds ms now held news s i child got left k a b off = record {
   log = within_firing h.made (log_below (logs_then i off.log s.logs));
   beginning = (s.run.0 + off.beginning.0 + suc (total ms), λ j o. within-one rows m tag h c p X kids inputs e olds ms now held news s i child got left k a b j (omega (arith, o)) (omega (arith, o)) off.log (off.beginning.1 j (omega (arith, o))));
   kept = grew rows m tag h c p X kids inputs e olds ms now held news s i child got left k a b off.log off.kept;
-  part = shut-one rows m tag h c p X kids inputs e olds ms now held news s i child got left k a b law off.log off.beginning.0 off.beginning.1 off.part;
+  part = shut-one rows m tag h c p X kids inputs e olds ms now held news s i child got left k a b law None off.log off.beginning.0 off.beginning.1 off.part;
 }
 
 pub sdf-is-stuck : {T A : Type 0} → SdfIsStuck T A
@@ -246,7 +239,7 @@ sdf-is-stuck rows law m tag h c p X kids inputs e olds ms now held news s i chil
         (its-stuck rows m (heights kids) tag p.net (sdf_bounds p X inputs) ms now held i child got left a s.low j r.0 r.1 r.2) r.3 (subst (λ v. LogBelow sticks.log (log_in v)) (sym r.2) r.4),
   );
   kept = grew rows m tag h c p X kids inputs e olds ms now held news s i child got left k a b sticks.log sticks.kept;
-  part = shut-one rows m tag h c p X kids inputs e olds ms now held news s i child got left k a b law sticks.log sticks.stuck.0 (λ j o. let r = sticks.stuck.1 j o in subst (λ v. LogBelow sticks.log (log_in v)) (sym r.2) r.4) sticks.part;
+  part = shut-one rows m tag h c p X kids inputs e olds ms now held news s i child got left k a b law (Some f) sticks.log sticks.stuck.0 (λ j o. let r = sticks.stuck.1 j o in subst (λ v. LogBelow sticks.log (log_in v)) (sym r.2) r.4) sticks.part;
 }
 
 pub sdf-is-unrated : {T A : Type 0} → SdfIsUnrated T A
@@ -260,6 +253,7 @@ sdf-is-unrated rows law m tag h c p X kids inputs e olds ms now held news s i ch
         (its-unrated rows m (heights kids) tag p.net (sdf_bounds p X inputs) ms now held i child got left a s.low j next out fires.log ns r g lacks) (inl refl) (subst (λ v. LogBelow fires.log (log_in v)) (sym r) (λ q. IsPrefix-refl (fires.log q))),
   );
   kept = grew rows m tag h c p X kids inputs e olds ms now held news s i child got left k a b fires.log fires.kept;
-  part = shut-one rows m tag h c p X kids inputs e olds ms now held news s i child got left k a b law fires.log fires.done.0 (λ j o. subst (λ v. LogBelow fires.log (log_in v)) (sym (fires.done.1 j o)) (λ q. IsPrefix-refl (fires.log q)))
-      (subst (λ v. IsShut rows (below_child i m) child tag got (log_in v)) (fires.done.1 fires.done.0 (omega arith)) (stepped-is-shut rows law (below_child i m) child fires.done.0 (height child) (omega arith) tag got));
+  part = shut-one rows m tag h c p X kids inputs e olds ms now held news s i child got left k a b law (Some (record { path = []; firing = made_of child; code = rate_code })) fires.log fires.done.0 (λ j o. subst (λ v. LogBelow fires.log (log_in v)) (sym (fires.done.1 j o)) (λ q. IsPrefix-refl (fires.log q)))
+      (at-own-place rows (below_child i m) child tag got fires.log (record { path = []; firing = made_of child; code = rate_code }) refl refl
+      (subst (λ v. IsShut rows (below_child i m) child tag got None (log_in v)) (fires.done.1 fires.done.0 (omega arith)) (stepped-is-shut rows law (below_child i m) child fires.done.0 (height child) (omega arith) tag got)));
 }

@@ -74,8 +74,8 @@ abbrev pub SdfIsStuck : Type 0 → Type 0 → Type 0
 SdfIsStuck T A = (rows : Rows T A) → LawfulRows rows → (m : Meets) (tag : Tag) (h : Past) (c : Core T) (p : SdfPlan) (X : Streams T) (kids : Nodes T A) (inputs : Streams T) (e : Entry T) (olds : List (Kept T)) (ms : List ℕ) (now : List (Node T A)) (held : Streams T) (news : List (Kept T)) →
     SdfSoFar rows m tag p X kids inputs olds ms now held news →
     (i : ℕ) (child : Node T A) (got left : Streams T) (k : Kept T) (f : Fault) → IsAsked rows p.net (sdf_bounds p X inputs) ms now held i child got left → i < length news →
-    SticksAt (λ fuel. step_at rows fuel (height child) (below_child i m) tag child got) (IsShut rows (below_child i m) child tag got) f (kept_at news i) k →
-    SticksAt (λ fuel. step_at rows fuel (height (Composite h c (Sdf p X) kids)) m tag (Composite h c (Sdf p X) kids) inputs) (IsShut rows m (Composite h c (Sdf p X) kids) tag inputs) (record { path = i ∷ f.path; firing = f.firing; code = f.code }) (kept_by e olds) (kept_by e (set news i k))
+    SticksAt (λ fuel. step_at rows fuel (height child) (below_child i m) tag child got) (IsShut rows (below_child i m) child tag got (Some f)) f (kept_at news i) k →
+    SticksAt (λ fuel. step_at rows fuel (height (Composite h c (Sdf p X) kids)) m tag (Composite h c (Sdf p X) kids) inputs) (IsShut rows m (Composite h c (Sdf p X) kids) tag inputs (Some (record { path = i ∷ f.path; firing = f.firing; code = f.code }))) (record { path = i ∷ f.path; firing = f.firing; code = f.code }) (kept_by e olds) (kept_by e (set news i k))
 
 -- Where a child that was asked gives another number of tokens than its rate, the composite is stuck at the child, and the child's firing has no record.
 abbrev pub SdfIsUnrated : Type 0 → Type 0 → Type 0
@@ -83,17 +83,17 @@ SdfIsUnrated T A = (rows : Rows T A) → LawfulRows rows → (m : Meets) (tag : 
     SdfSoFar rows m tag p X kids inputs olds ms now held news →
     (i : ℕ) (child next : Node T A) (got left out : Streams T) (k : Kept T) (ns : List ℕ) → IsAsked rows p.net (sdf_bounds p X inputs) ms now held i child got left → i < length news →
     FiresTo (λ fuel. step_at rows fuel (height child) (below_child i m) tag child got) next out (kept_at news i) k → rates_at (sdf_bounds p X inputs) i ≡ Some ns → has_rates ns out ≡ false →
-    SticksAt (λ fuel. step_at rows fuel (height (Composite h c (Sdf p X) kids)) m tag (Composite h c (Sdf p X) kids) inputs) (IsShut rows m (Composite h c (Sdf p X) kids) tag inputs) (record { path = i ∷ []; firing = made_of child; code = rate_code }) (kept_by e olds) (kept_by e (set news i k))
+    SticksAt (λ fuel. step_at rows fuel (height (Composite h c (Sdf p X) kids)) m tag (Composite h c (Sdf p X) kids) inputs) (IsShut rows m (Composite h c (Sdf p X) kids) tag inputs (Some (record { path = i ∷ []; firing = made_of child; code = rate_code }))) (record { path = i ∷ []; firing = made_of child; code = rate_code }) (kept_by e olds) (kept_by e (set news i k))
 
 -- The composite may be left off between two firings of children, or within one.
 abbrev pub SdfIsLeftOff : Type 0 → Type 0 → Type 0
 SdfIsLeftOff T A = (rows : Rows T A) → LawfulRows rows → (m : Meets) (tag : Tag) (h : Past) (c : Core T) (p : SdfPlan) (X : Streams T) (kids : Nodes T A) (inputs : Streams T) (e : Entry T) (olds : List (Kept T)) (ms : List ℕ) (now : List (Node T A)) (held : Streams T) (news : List (Kept T)) →
     SdfSoFar rows m tag p X kids inputs olds ms now held news →
-    LeavesOff (λ fuel. step_at rows fuel (height (Composite h c (Sdf p X) kids)) m tag (Composite h c (Sdf p X) kids) inputs) (IsShut rows m (Composite h c (Sdf p X) kids) tag inputs) (kept_by e olds) (kept_by e news)
+    LeavesOff (λ fuel. step_at rows fuel (height (Composite h c (Sdf p X) kids)) m tag (Composite h c (Sdf p X) kids) inputs) (IsShut rows m (Composite h c (Sdf p X) kids) tag inputs None) (kept_by e olds) (kept_by e news)
 
 abbrev pub SdfIsLeftOffWithin : Type 0 → Type 0 → Type 0
 SdfIsLeftOffWithin T A = (rows : Rows T A) → LawfulRows rows → (m : Meets) (tag : Tag) (h : Past) (c : Core T) (p : SdfPlan) (X : Streams T) (kids : Nodes T A) (inputs : Streams T) (e : Entry T) (olds : List (Kept T)) (ms : List ℕ) (now : List (Node T A)) (held : Streams T) (news : List (Kept T)) →
     SdfSoFar rows m tag p X kids inputs olds ms now held news →
     (i : ℕ) (child : Node T A) (got left : Streams T) (k : Kept T) → IsAsked rows p.net (sdf_bounds p X inputs) ms now held i child got left → i < length news →
-    LeavesOff (λ fuel. step_at rows fuel (height child) (below_child i m) tag child got) (IsShut rows (below_child i m) child tag got) (kept_at news i) k →
-    LeavesOff (λ fuel. step_at rows fuel (height (Composite h c (Sdf p X) kids)) m tag (Composite h c (Sdf p X) kids) inputs) (IsShut rows m (Composite h c (Sdf p X) kids) tag inputs) (kept_by e olds) (kept_by e (set news i k))
+    LeavesOff (λ fuel. step_at rows fuel (height child) (below_child i m) tag child got) (IsShut rows (below_child i m) child tag got None) (kept_at news i) k →
+    LeavesOff (λ fuel. step_at rows fuel (height (Composite h c (Sdf p X) kids)) m tag (Composite h c (Sdf p X) kids) inputs) (IsShut rows m (Composite h c (Sdf p X) kids) tag inputs None) (kept_by e olds) (kept_by e (set news i k))

@@ -42,12 +42,8 @@ impl Channels {
         ensures lists { IfOk result (λ channels. channels.lists ≡ replicate n []) }
         ensures spares { IfOk result (λ channels. channels.spares ≡ replicate n 0) }
     {
-        let mut pool = Pool::with_cells(alloc, 0)?;
-        let mut runs = Vec::with_capacity(alloc, n as usize)?;
-        for _ in 0..n {
-            pool.queue()?;
-            runs.push(Run::new(alloc))?;
-        }
+        let runs = empty_runs(alloc, n)?;
+        let pool = empty_queues(alloc, n)?;
         Ok(Channels {
             pool,
             runs,
@@ -402,4 +398,27 @@ fn reserve_run(runs: &mut Vec<Run>, c: u32, n: usize) -> Result<(), AllocError>
     ensures { runs.new.items ≡ runs.old.items }
 {
     runs[c as usize].reserve(n)
+}
+
+/// So many runs without integers.
+fn empty_runs(alloc: Global, n: u32) -> Result<Vec<Run>, AllocError>
+    ensures { IfOk result (λ runs. runs.items ≡ replicate n []) }
+{
+    let mut runs = Vec::with_capacity(alloc, n as usize)?;
+    for _ in 0..n {
+        runs.push_reserved(Run::new(alloc));
+    }
+    Ok(runs)
+}
+
+/// A region of so many empty queues, without cells.
+fn empty_queues(alloc: Global, n: u32) -> Result<Pool<Token>, AllocError>
+    ensures lists { IfOk result (λ pool. pool.lists ≡ replicate n []) }
+    ensures spares { IfOk result (λ pool. pool.spares ≡ replicate n 0) }
+{
+    let mut pool = Pool::with_cells(alloc, 0)?;
+    for _ in 0..n {
+        pool.queue()?;
+    }
+    Ok(pool)
 }

@@ -3,22 +3,22 @@ use Rattle.std.proofs.Common.{◌≡◌, inl, inr, ℕ, zero, suc, ◌+◌, ◌<
 use Rattle.std.proofs.lemmas.Bool.{both_ways, or_cases, or_parts, not-true, not-false, cond-true, cond-false}
 use Rattle.std.specs.Prelude.{slice_get}
 use Rattle.std.specs.List.{Contains, list_any}
-use Rattle.pt_moml.specs.Document.{PortTree}
-use Rattle.pt_types.specs.Datatype.{Datatype, Boolean}
-use Rattle.pt_types.specs.Order.{is_below}
-use Rattle.pt_types.specs.Token.{type_of_value}
-use Rattle.pt_expr.specs.Tree.{Tree}
-use Rattle.pt_expr_type.specs.Types.{Types}
-use Rattle.pt_graph.specs.declared.net.Net.{Net}
-use Rattle.pt_graph.specs.declared.net.NetEntity.{NetEntity}
-use Rattle.pt_graph.specs.Net.{NetEntityTree, entity_view}
-use Rattle.pt_parameter.specs.Texts.{names_in}
-use Rattle.pt_parameter.specs.Given as held
-use Rattle.pt_parameter.specs.Given.{Held}
-use Rattle.pt_values.specs.declared.values.EntityValues.{EntityValues}
-use Rattle.pt_values.specs.declared.values.Values.{Values}
-use Rattle.pt_values.specs.Valued.{EntityView}
-use Rattle.pt_values.specs.Valued as valued
+use Rattle.pt_document.specs.Document.{PortTree}
+use Rattle.pt_datatypes.specs.Datatype.{Datatype, Boolean}
+use Rattle.pt_datatypes.specs.Order.{is_below}
+use Rattle.pt_datatypes.specs.Token.{type_of_value}
+use Rattle.pt_language.specs.Tree.{Tree}
+use Rattle.pt_language.specs.Types.{Types}
+use Rattle.pt_net.specs.declared.net.Net.{Net}
+use Rattle.pt_net.specs.declared.net.NetEntity.{NetEntity}
+use Rattle.pt_net.specs.Net.{NetEntityTree, entity_view}
+use Rattle.pt_scopes.specs.Texts.{names_in}
+use Rattle.pt_scopes.specs.Given as held
+use Rattle.pt_scopes.specs.Given.{Held}
+use Rattle.pt_scopes.specs.declared.values.EntityValues.{EntityValues}
+use Rattle.pt_scopes.specs.declared.values.Values.{Values}
+use Rattle.pt_scopes.specs.Valued.{EntityView}
+use Rattle.pt_scopes.specs.Valued as valued
 use Rattle.pt_typing.specs.declared.variable.Variable.TheVariants.{Port}
 use Rattle.pt_typing.specs.Terms.{names_types, has_type}
 use Rattle.pt_typing.specs.Least.{Assignment}

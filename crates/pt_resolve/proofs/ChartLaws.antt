@@ -6,14 +6,14 @@ use Rattle.std.proofs.Math.Nat.{eq-or-lt_of_le}
 use Rattle.std.proofs.lemmas.Bool.{both_ways}
 use Rattle.std.proofs.lemmas.Option.{slice_get-map, slice_get_read}
 use Rattle.std.proofs.lemmas.List.Elements.{All-nil, All-cons, All-head, All-append, Contains-append_left, Contains-push, Contains-push_cases}
-use Rattle.pt_moml.specs.declared.job.OutputAction.{OutputAction}
-use Rattle.pt_moml.specs.Document.{TransitionTree}
-use Rattle.pt_expr.specs.Tree.{Tree}
-use Rattle.pt_graph.specs.declared.net.NetEntity.{NetEntity}
-use Rattle.pt_graph.specs.Net.{NetEntityTree, entity_view}
-use Rattle.pt_graph.proofs.Members.{contains_here, contains_later, contains_cases}
-use Rattle.pt_parameter.specs.Texts.{names_in}
-use Rattle.pt_values.specs.Valued.{EntityView}
+use Rattle.pt_document.specs.declared.job.OutputAction.{OutputAction}
+use Rattle.pt_document.specs.Document.{TransitionTree}
+use Rattle.pt_language.specs.Tree.{Tree}
+use Rattle.pt_net.specs.declared.net.NetEntity.{NetEntity}
+use Rattle.pt_net.specs.Net.{NetEntityTree, entity_view}
+use Rattle.pt_net.proofs.Members.{contains_here, contains_later, contains_cases}
+use Rattle.pt_scopes.specs.Texts.{names_in}
+use Rattle.pt_scopes.specs.Valued.{EntityView}
 use Rattle.pt_typing.specs.declared.variable.Variable.TheVariants.{Port}
 use Rattle.pt_typing.specs.Views.{Inequality}
 use Rattle.pt_resolve.specs.Frames.{Frames}

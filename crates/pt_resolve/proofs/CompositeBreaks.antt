@@ -2,12 +2,12 @@
 use Rattle.std.proofs.Common.{◌≡◌, ◌⊎◌, inl, inr, ℕ, zero, suc, ◌+◌, ◌<◌, Bool, true, false, if◌then◌else◌, List, [], ◌∷◌, length, map, drop, get_or, Option, Some, None, refl, sym, ap, subst, ◌∙◌, arith}
 use Rattle.std.proofs.lemmas.Bool.{both_ways, or_cases, or_parts, cond-true, cond-false}
 use Rattle.std.specs.Prelude.{slice_get}
-use Rattle.pt_moml.specs.Document.{PortTree}
-use Rattle.pt_types.specs.Order.{is_below}
-use Rattle.pt_expr.specs.Comparable.{is_general}
-use Rattle.pt_graph.specs.declared.net.Net.{Net}
-use Rattle.pt_graph.specs.declared.net.Transparent.{Transparent}
-use Rattle.pt_graph.specs.Net.{TransparentTree, transparent_view}
+use Rattle.pt_document.specs.Document.{PortTree}
+use Rattle.pt_datatypes.specs.Order.{is_below}
+use Rattle.pt_language.specs.Comparable.{is_general}
+use Rattle.pt_net.specs.declared.net.Net.{Net}
+use Rattle.pt_net.specs.declared.net.Transparent.{Transparent}
+use Rattle.pt_net.specs.Net.{TransparentTree, transparent_view}
 use Rattle.pt_typing.specs.declared.variable.Variable.TheVariants.{Port}
 use Rattle.pt_typing.specs.Least.{Assignment}
 use Rattle.pt_resolve.specs.Passing.{first_composite, composite_port}

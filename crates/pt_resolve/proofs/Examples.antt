@@ -1,13 +1,13 @@
 -- By hand: a comparator, and an expression that negates an input, with inputs of different types.
 use Rattle.std.proofs.Common.{◌≡◌, ℕ, true, false, List, [], ◌∷◌, None, Some, refl}
 use Rattle.std.specs.Prelude.{codes}
-use Rattle.pt_moml.specs.declared.job.Direction.TheVariants.{Input}
-use Rattle.pt_moml.specs.Document.{PortTree}
-use Rattle.pt_types.specs.Datatype.{Datatype, Unknown, Int, Boolean}
-use Rattle.pt_graph.specs.Net.{NetEntityTree}
-use Rattle.pt_expr.specs.Tree as tree
-use Rattle.pt_expr_type.specs.Types.{Types}
-use Rattle.pt_parameter.specs.Given as held
+use Rattle.pt_document.specs.declared.job.Direction.TheVariants.{Input}
+use Rattle.pt_document.specs.Document.{PortTree}
+use Rattle.pt_datatypes.specs.Datatype.{Datatype, Unknown, Int, Boolean}
+use Rattle.pt_net.specs.Net.{NetEntityTree}
+use Rattle.pt_language.specs.Tree as tree
+use Rattle.pt_language.specs.Types.{Types}
+use Rattle.pt_scopes.specs.Given as held
 use Rattle.pt_typing.specs.Least.{Assignment}
 use Rattle.pt_resolve.specs.Rows.{port_type, port_rows}
 use Rattle.pt_resolve.specs.SaidWords.{begin, go_on, leads, type_in}

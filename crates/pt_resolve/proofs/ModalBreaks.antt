@@ -5,20 +5,20 @@ use Rattle.std.specs.List.{Contains, list_any}
 use Rattle.std.proofs.lemmas.Bool.{or_cases, or_parts, not-true, not-false}
 use Rattle.std.proofs.lemmas.Option.{slice_get_within}
 use Rattle.pt_value.specs.Value.{Value}
-use Rattle.pt_moml.specs.declared.job.OutputAction.{OutputAction}
-use Rattle.pt_moml.specs.declared.job.SetAction.{SetAction}
-use Rattle.pt_moml.specs.Document.{TransitionTree}
-use Rattle.pt_types.specs.Datatype.{Datatype, Boolean}
-use Rattle.pt_types.specs.Order.{is_below}
-use Rattle.pt_types.specs.Token.{type_of_value}
-use Rattle.pt_expr.specs.Tree.{Tree}
-use Rattle.pt_expr_type.specs.Rule.{type_or_general}
-use Rattle.pt_graph.specs.declared.net.Net.{Net}
-use Rattle.pt_graph.specs.Net.{NetEntityTree, entity_view}
-use Rattle.pt_graph.proofs.Members.{contains_here, contains_later, contains_cases, zip_left, zip_right}
-use Rattle.pt_values.specs.declared.values.Values.{Values}
-use Rattle.pt_values.specs.Valued.{EntityView}
-use Rattle.pt_values.specs.Valued as valued
+use Rattle.pt_document.specs.declared.job.OutputAction.{OutputAction}
+use Rattle.pt_document.specs.declared.job.SetAction.{SetAction}
+use Rattle.pt_document.specs.Document.{TransitionTree}
+use Rattle.pt_datatypes.specs.Datatype.{Datatype, Boolean}
+use Rattle.pt_datatypes.specs.Order.{is_below}
+use Rattle.pt_datatypes.specs.Token.{type_of_value}
+use Rattle.pt_language.specs.Tree.{Tree}
+use Rattle.pt_language.specs.Rule.{type_or_general}
+use Rattle.pt_net.specs.declared.net.Net.{Net}
+use Rattle.pt_net.specs.Net.{NetEntityTree, entity_view}
+use Rattle.pt_net.proofs.Members.{contains_here, contains_later, contains_cases, zip_left, zip_right}
+use Rattle.pt_scopes.specs.declared.values.Values.{Values}
+use Rattle.pt_scopes.specs.Valued.{EntityView}
+use Rattle.pt_scopes.specs.Valued as valued
 use Rattle.pt_typing.specs.Terms.{has_type}
 use Rattle.pt_typing.specs.Least.{Assignment}
 use Rattle.pt_resolve.specs.Frames.{frames_of}

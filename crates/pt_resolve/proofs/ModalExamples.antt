@@ -2,17 +2,17 @@
 use Rattle.std.proofs.Common.{◌≡◌, ℕ, pos, true, false, List, [], ◌∷◌, None, Some, refl}
 use Rattle.std.specs.Prelude.{codes}
 use Rattle.pt_value.specs.Value as value
-use Rattle.pt_moml.specs.declared.job.Direction.{Direction}
-use Rattle.pt_moml.specs.declared.job.Direction.TheVariants.{Input, Output}
-use Rattle.pt_moml.specs.declared.job.OutputAction.{OutputAction}
-use Rattle.pt_moml.specs.declared.job.SetAction.{SetAction}
-use Rattle.pt_moml.specs.Document.{PortTree, property, no_properties, TransitionTree}
-use Rattle.pt_types.specs.Datatype.{Datatype, Unknown, Int, Boolean}
-use Rattle.pt_expr.specs.declared.expr.BinaryOp.TheVariants.{Equal}
-use Rattle.pt_expr.specs.Tree.{Tree, Name}
-use Rattle.pt_expr.specs.Tree as tree
-use Rattle.pt_graph.specs.Net.{NetEntityTree}
-use Rattle.pt_values.specs.Valued.{EntityView}
+use Rattle.pt_document.specs.declared.job.Direction.{Direction}
+use Rattle.pt_document.specs.declared.job.Direction.TheVariants.{Input, Output}
+use Rattle.pt_document.specs.declared.job.OutputAction.{OutputAction}
+use Rattle.pt_document.specs.declared.job.SetAction.{SetAction}
+use Rattle.pt_document.specs.Document.{PortTree, property, no_properties, TransitionTree}
+use Rattle.pt_datatypes.specs.Datatype.{Datatype, Unknown, Int, Boolean}
+use Rattle.pt_language.specs.declared.expr.BinaryOp.TheVariants.{Equal}
+use Rattle.pt_language.specs.Tree.{Tree, Name}
+use Rattle.pt_language.specs.Tree as tree
+use Rattle.pt_net.specs.Net.{NetEntityTree}
+use Rattle.pt_scopes.specs.Valued.{EntityView}
 use Rattle.pt_typing.specs.declared.variable.Variable.TheVariants.{Port}
 use Rattle.pt_typing.specs.Terms.{Same, TreeOf}
 use Rattle.pt_typing.specs.Least.{Assignment}

@@ -4,19 +4,19 @@ use Rattle.std.specs.Prelude.{All, slice_get}
 use Rattle.std.specs.List.{Contains}
 use Rattle.std.proofs.lemmas.Option.{slice_get_within}
 use Rattle.std.proofs.lemmas.List.Elements.{All-append}
-use Rattle.pt_moml.specs.declared.job.Direction.{Direction}
-use Rattle.pt_moml.specs.declared.job.Direction.TheVariants.{Input, Output}
-use Rattle.pt_moml.specs.declared.job.OutputAction.{OutputAction}
-use Rattle.pt_moml.specs.Document.{PortTree, TransitionTree}
-use Rattle.pt_types.specs.Datatype.{Datatype}
-use Rattle.pt_types.specs.Order.{IsBelow}
-use Rattle.pt_graph.specs.declared.net.Net.{Net}
-use Rattle.pt_graph.specs.declared.net.NetEntity.{NetEntity}
-use Rattle.pt_graph.specs.Net.{NetEntityTree, entity_view}
-use Rattle.pt_values.specs.declared.values.EntityValues.{EntityValues}
-use Rattle.pt_values.specs.declared.values.Values.{Values}
-use Rattle.pt_values.specs.Valued.{EntityView}
-use Rattle.pt_values.specs.Valued as valued
+use Rattle.pt_document.specs.declared.job.Direction.{Direction}
+use Rattle.pt_document.specs.declared.job.Direction.TheVariants.{Input, Output}
+use Rattle.pt_document.specs.declared.job.OutputAction.{OutputAction}
+use Rattle.pt_document.specs.Document.{PortTree, TransitionTree}
+use Rattle.pt_datatypes.specs.Datatype.{Datatype}
+use Rattle.pt_datatypes.specs.Order.{IsBelow}
+use Rattle.pt_net.specs.declared.net.Net.{Net}
+use Rattle.pt_net.specs.declared.net.NetEntity.{NetEntity}
+use Rattle.pt_net.specs.Net.{NetEntityTree, entity_view}
+use Rattle.pt_scopes.specs.declared.values.EntityValues.{EntityValues}
+use Rattle.pt_scopes.specs.declared.values.Values.{Values}
+use Rattle.pt_scopes.specs.Valued.{EntityView}
+use Rattle.pt_scopes.specs.Valued as valued
 use Rattle.pt_typing.specs.declared.variable.Variable.TheVariants.{Port}
 use Rattle.pt_typing.specs.Views.{Inequality}
 use Rattle.pt_typing.specs.Least.{Assignment, IsMet, Meets, IsLeast}

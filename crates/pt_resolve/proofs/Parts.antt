@@ -5,32 +5,32 @@ use Rattle.pt_value.specs.declared.token.Token.{Token}
 use Rattle.pt_value.specs.Token.{value_of}
 use Rattle.pt_value.specs.Value.{Value, values_of}
 use Rattle.pt_types.specs.declared.ty.Ty.{Ty}
-use Rattle.pt_types.specs.Datatype.{Datatype}
-use Rattle.pt_types.specs.Normal.{normal}
-use Rattle.pt_types.specs.Join.{join, joined as joined_types}
-use Rattle.pt_types.specs.Token.{type_of_value}
+use Rattle.pt_datatypes.specs.Datatype.{Datatype}
+use Rattle.pt_datatypes.specs.Normal.{normal}
+use Rattle.pt_datatypes.specs.Join.{join, joined as joined_types}
+use Rattle.pt_datatypes.specs.Token.{type_of_value}
 use Rattle.pt_types.specs.Ty.{type_of, written}
-use Rattle.pt_types.proofs.Joins.{normal_is_type}
-use Rattle.pt_moml.specs.declared.job.Property.{Property}
-use Rattle.pt_moml.specs.declared.job.Port.{Port}
-use Rattle.pt_moml.specs.declared.job.Input.{Input}
-use Rattle.pt_moml.specs.Document.{property_name}
-use Rattle.pt_moml.specs.View.{property_view, properties_view, port_view, input_view}
-use Rattle.pt_graph.specs.declared.net.NetEntity.{NetEntity}
-use Rattle.pt_graph.specs.Net.{entity_view}
-use Rattle.pt_parameter.specs.declared.parameter_value.ParameterValue.{ParameterValue}
-use Rattle.pt_parameter.specs.Given.{Held, held_view}
-use Rattle.pt_parameter.proofs.TokenTypes.{value-is_type}
-use Rattle.pt_values.specs.declared.values.EntityValues.{EntityValues}
-use Rattle.pt_values.specs.Valued.{EntityView}
-use Rattle.pt_values.specs.Valued as valued
+use Rattle.pt_datatypes.proofs.Joins.{normal_is_type}
+use Rattle.pt_document.specs.declared.job.Property.{Property}
+use Rattle.pt_document.specs.declared.job.Port.{Port}
+use Rattle.pt_document.specs.declared.job.Input.{Input}
+use Rattle.pt_document.specs.Document.{property_name}
+use Rattle.pt_document.specs.View.{property_view, properties_view, port_view, input_view}
+use Rattle.pt_net.specs.declared.net.NetEntity.{NetEntity}
+use Rattle.pt_net.specs.Net.{entity_view}
+use Rattle.pt_scopes.specs.declared.parameter_value.ParameterValue.{ParameterValue}
+use Rattle.pt_scopes.specs.Given.{Held, held_view}
+use Rattle.pt_types.proofs.TokenTypes.{value-is_type}
+use Rattle.pt_scopes.specs.declared.values.EntityValues.{EntityValues}
+use Rattle.pt_scopes.specs.Valued.{EntityView}
+use Rattle.pt_scopes.specs.Valued as valued
 use Rattle.pt_resolve.specs.Rows.{joined_values}
 use Rattle.pt_resolve.specs.Frames.{Frames, Names, first, joined, with_value, with_given, values_held, some_value, held_of}
-use Rattle.pt_resolve.specs.Inequalities.{joined_one, joined_with, of_parameter, of_parameters, of_entity, of_entities, PortNumbers, with_port, with_ports, of_supply, of_inputs}
+use Rattle.pt_resolve.specs.Inequalities.{joined_one, joined_with, of_parameter, of_parameters, of_entity, of_entities, PortNumbers, with_port, with_ports, with_input, with_inputs, of_supply, of_inputs}
 use Rattle.pt_typing.specs.Views.{Inequality}
 use Rattle.std.specs.Prelude.{Vec}
 use Rattle.std.specs.Global.{Global}
-use Rattle.pt_graph.specs.declared.net.Transparent.{Transparent}
+use Rattle.pt_net.specs.declared.net.Transparent.{Transparent}
 use Rattle.pt_typing.specs.declared.term.Inequality.{Inequality as GivenInequality}
 use Rattle.pt_typing.specs.Views.{inequality_view}
 use Rattle.pt_resolve.specs.declared.frames.Frame.{Frame as GivenFrame}
@@ -81,6 +81,15 @@ ports-more ps i p n old new whole short is e h k name =
     ap (λ (g : PortNumbers). with_ports g (i + 1) (map port_view (drop (i + 1) ps)) name) same
     ∙ ap (λ m. with_ports step m (map port_view (drop (i + 1) ps)) name) (sym (one-more i))
     ∙ ap (λ qs. with_ports old i (map port_view qs) name) (sym (drop-one ps i p short is))
+    ∙ h name
+
+pub own-more : (ps : List Port) (i : ℕ) (p : Port) (old new whole : PortNumbers) → i < length ps → p ≡ get_or ps i p → ((name : List ℕ) → with_inputs old i (map port_view (drop i ps)) name ≡ whole name) → ((other : List ℕ) → new other ≡ with_input i (port_view p) old other) → (name : List ℕ) → with_inputs new (i + 1) (map port_view (drop (i + 1) ps)) name ≡ whole name
+own-more ps i p old new whole short is h k name =
+    let step : PortNumbers = with_input i (port_view p) old in
+    let same : new ≡ step = λ j other. k other j in
+    ap (λ (g : PortNumbers). with_inputs g (i + 1) (map port_view (drop (i + 1) ps)) name) same
+    ∙ ap (λ m. with_inputs step m (map port_view (drop (i + 1) ps)) name) (sym (one-more i))
+    ∙ ap (λ qs. with_inputs old i (map port_view qs) name) (sym (drop-one ps i p short is))
     ∙ h name
 
 -- ---- inequalities

@@ -8,21 +8,21 @@ use Rattle.std.proofs.lemmas.List.{length-map}
 use Rattle.std.proofs.lemmas.List.Sums.{AllPass-from_list_all}
 use Rattle.std.proofs.lemmas.Option.{none-some, slice_get_within}
 use Rattle.std.proofs.lemmas.List.Elements.{All-nil, All-cons, All-head, All-tail, All-append, All-contains}
-use Rattle.pt_moml.specs.declared.code.Code.{Code}
-use Rattle.pt_moml.specs.declared.code.Code.TheVariants as code
-use Rattle.pt_expr.specs.Tree.{Tree}
-use Rattle.pt_expr_text.specs.Text.{ReadsAs}
-use Rattle.pt_expr_text.specs.Deep.{IsDeep}
-use Rattle.pt_graph.specs.declared.net.Net.{Net}
-use Rattle.pt_graph.specs.declared.net.NetEntity.{NetEntity}
-use Rattle.pt_graph.specs.Net.{NetEntityTree, entity_view}
-use Rattle.pt_graph.proofs.Members.{contains_here, contains_later}
-use Rattle.pt_parameter.specs.Texts.{names_in}
-use Rattle.pt_values.specs.declared.values.EntityValues.{EntityValues}
-use Rattle.pt_values.specs.declared.values.Values.{Values}
-use Rattle.pt_values.specs.Valued.{EntityView}
-use Rattle.pt_values.specs.Valued as valued
-use Rattle.pt_values.proofs.Unique.{one-tree}
+use Rattle.pt_document.specs.declared.code.Code.{Code}
+use Rattle.pt_document.specs.declared.code.Code.TheVariants as code
+use Rattle.pt_language.specs.Tree.{Tree}
+use Rattle.pt_language.specs.Text.{ReadsAs}
+use Rattle.pt_language.specs.Deep.{IsDeep}
+use Rattle.pt_net.specs.declared.net.Net.{Net}
+use Rattle.pt_net.specs.declared.net.NetEntity.{NetEntity}
+use Rattle.pt_net.specs.Net.{NetEntityTree, entity_view}
+use Rattle.pt_net.proofs.Members.{contains_here, contains_later}
+use Rattle.pt_scopes.specs.Texts.{names_in}
+use Rattle.pt_scopes.specs.declared.values.EntityValues.{EntityValues}
+use Rattle.pt_scopes.specs.declared.values.Values.{Values}
+use Rattle.pt_scopes.specs.Valued.{EntityView}
+use Rattle.pt_scopes.specs.Valued as valued
+use Rattle.pt_scopes.proofs.Unique.{one-tree}
 use Rattle.pt_resolve.specs.Frames.{Frames, frames_of}
 use Rattle.pt_resolve.specs.ModalScopes.{ModalScope, is_modal, modal_scope, is_in_scope}
 use Rattle.pt_resolve.specs.Modals.{IsModalAt}

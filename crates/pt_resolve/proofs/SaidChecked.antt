@@ -2,11 +2,11 @@
 use Rattle.std.proofs.Common.{◌≡◌, ◌+◌, ℕ, zero, suc, List, [], ◌∷◌, ◌++◌, length, map, take, drop, codes, Option, Some, None, Bool, true, false, if◌then◌else◌, refl, ap, ◌∙◌}
 use Rattle.std.specs.List.{prefix_len}
 use Rattle.std.specs.Option.{is_none, is_some}
-use Rattle.pt_moml.specs.TypeWords as moml
-use Rattle.pt_moml.specs.Names.{is_later}
-use Rattle.pt_moml.specs.TypeWords.{behind, one_more, is_type_text}
-use Rattle.pt_types.specs.Datatype.{Datatype, Int, Boolean, Words}
-use Rattle.pt_types.specs.Normal.{array_of}
+use Rattle.pt_document.specs.TypeWords as moml
+use Rattle.pt_document.specs.Names.{is_later}
+use Rattle.pt_document.specs.TypeWords.{behind, one_more, is_type_text}
+use Rattle.pt_datatypes.specs.Datatype.{Datatype, Int, Boolean, Words}
+use Rattle.pt_datatypes.specs.Normal.{array_of}
 use Rattle.pt_resolve.specs.SaidWords.{Fields, Open, in_array, in_record, Place, Next, Goes, Ends, goes_or, named_or, field, field_or, base_or, after_base_or, begin, begin_nested, record_said, go_on, step, step_at, from_next, leads, type_in}
 
 -- without the types

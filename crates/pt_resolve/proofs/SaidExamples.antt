@@ -1,9 +1,9 @@
 -- By hand: types of texts.
 use Rattle.std.proofs.Common.{◌≡◌, Some, None, refl}
 use Rattle.std.specs.Prelude.{codes}
-use Rattle.pt_moml.specs.Names.{is_name}
-use Rattle.pt_moml.specs.TypeTexts.{is_field_name}
-use Rattle.pt_types.specs.Datatype.{Int, Boolean, Words, Array, Record, no_fields, field_then}
+use Rattle.pt_document.specs.Names.{is_name}
+use Rattle.pt_document.specs.TypeTexts.{is_field_name}
+use Rattle.pt_datatypes.specs.Datatype.{Int, Boolean, Words, Array, Record, no_fields, field_then}
 use Rattle.pt_resolve.specs.SaidWords.{field, begin, go_on, leads, type_in}
 
 array_of_texts : type_in (codes "arrayType(string)") ≡ Some (Array Words)

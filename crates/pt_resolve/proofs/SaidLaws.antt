@@ -3,11 +3,11 @@ use Rattle.std.proofs.Common.{◌≡◌, ◌<◌, ◌≤◌, ◌+◌, ◌-◌, �
 use Rattle.std.specs.List.{list_all, prefix_len}
 use Rattle.std.proofs.lemmas.Bool.{not-true}
 use Rattle.std.proofs.Math.Seq.{take-append_seam, drop-append_seam}
-use Rattle.pt_moml.specs.Names.{is_later, has_name}
-use Rattle.pt_moml.specs.TypeTexts.{TypeTree, int_type, boolean_type, string_type, array_type, record_type, FieldTrees, last_field, one_field, type_text, fields_text, is_field_name, has_names, have_names, IsTextOf}
-use Rattle.pt_moml.specs.TypeWords.{one_more}
-use Rattle.pt_types.specs.Datatype.{Datatype}
-use Rattle.pt_types.proofs.Fields.{and_left, and_right}
+use Rattle.pt_document.specs.Names.{is_later, has_name}
+use Rattle.pt_document.specs.TypeTexts.{TypeTree, int_type, boolean_type, string_type, array_type, record_type, FieldTrees, last_field, one_field, type_text, fields_text, is_field_name, has_names, have_names, IsTextOf}
+use Rattle.pt_document.specs.TypeWords.{one_more}
+use Rattle.pt_datatypes.specs.Datatype.{Datatype}
+use Rattle.pt_datatypes.proofs.Fields.{and_left, and_right}
 use Rattle.pt_resolve.specs.Typing.{said, said_fields}
 use Rattle.pt_resolve.specs.SaidWords.{Fields, Open, in_array, in_record, Place, Goes, named_or, field, begin, go_on, step, from_next, leads, record_said, type_in}
 use Rattle.pt_resolve.proofs.Steps.{append-none}

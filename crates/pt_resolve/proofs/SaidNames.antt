@@ -6,9 +6,9 @@ use Rattle.std.specs.Str.{IsUtf8, IsAscii}
 use Rattle.std.proofs.lemmas.Bool.{leb-true}
 use Rattle.std.proofs.lemmas.Bool.Decides.{nat_tests}
 use Rattle.std.proofs.lemmas.Str.{IsUtf8-from_ascii}
-use Rattle.pt_types.proofs.Fields.{and_left, and_right}
-use Rattle.pt_moml.specs.Names.{is_name, is_first, is_later}
-use Rattle.pt_moml.specs.TypeTexts.{is_field_name}
+use Rattle.pt_datatypes.proofs.Fields.{and_left, and_right}
+use Rattle.pt_document.specs.Names.{is_name, is_first, is_later}
+use Rattle.pt_document.specs.TypeTexts.{is_field_name}
 
 either : (a b : Bool) (goal : Type 0) → (a ≡ true → goal) → (b ≡ true → goal) → (a || b) ≡ true → goal
 either true b goal f g h = f refl

@@ -1,21 +1,23 @@
 -- The fields of a type's text make a record.
 use Rattle.std.proofs.Common.{◌≡◌, ◌+◌, ◌≤◌, ℕ, List, [], ◌∷◌, ◌++◌, map, length, Bool, true, false, cond, not, ◌&&◌, ◌||◌, count_by, refl, sym, ap, subst, ◌∙◌, append_assoc, arith}
-use Rattle.std.specs.Prelude.{nat_le, nat_lt, ◌==◌}
+use Rattle.std.specs.Prelude.{nat_le, nat_lt, ◌==◌, codes, if◌then◌else◌}
 use Rattle.std.specs.List.{list_all}
 use Rattle.std.specs.Str.{bytes_eq}
 use Rattle.std.specs.Char.{is_ascii_alphabetic, is_ascii_alphanumeric}
 use Rattle.std.proofs.lemmas.Bool.{le-leb, not-true}
 use Rattle.std.proofs.lemmas.List.Sums.{sum_by-cons}
-use Rattle.pt_types.specs.Datatype.{types_of}
-use Rattle.pt_types.specs.Normal.{record_of}
-use Rattle.pt_types.proofs.Fields.{and_left, and_right, and_both}
-use Rattle.pt_types.proofs.Order.{same_bytes}
-use Rattle.pt_moml.specs.Names as moml
-use Rattle.pt_moml.specs.Names.{has_name}
-use Rattle.pt_moml.specs.TypeTexts.{FieldTrees, last_field, one_field, is_field_name, has_names, have_names}
-use Rattle.pt_expr.specs.RecordOf.{has_name_form, is_name, differ, make_record}
-use Rattle.pt_expr_type.specs.ByName.{by_name}
-use Rattle.pt_expr_type.specs.Typing.{where_true, or_general}
+use Rattle.pt_datatypes.specs.Datatype.{types_of}
+use Rattle.pt_datatypes.specs.Normal.{record_of}
+use Rattle.pt_datatypes.proofs.Fields.{and_left, and_right, and_both}
+use Rattle.pt_datatypes.proofs.Order.{same_bytes}
+use Rattle.pt_document.specs.Names as moml
+use Rattle.pt_document.specs.Names.{has_name, words}
+use Rattle.pt_document.specs.TypeTexts.{FieldTrees, last_field, one_field, is_field_name, has_names, have_names}
+use Rattle.pt_value.specs.Name.{is_reserved}
+use Rattle.pt_value.proofs.Names.{bytes_eq-same}
+use Rattle.pt_language.specs.RecordOf.{has_name_form, is_name, differ, make_record}
+use Rattle.pt_language.specs.ByName.{by_name}
+use Rattle.pt_language.specs.Typing.{where_true, or_general}
 use Rattle.pt_resolve.specs.Typing.{said_fields}
 use Rattle.pt_resolve.specs.SaidWords.{record_said}
 use Rattle.pt_resolve.proofs.Steps.{append-none}
@@ -56,10 +58,31 @@ all-alnum : (cs : List ℕ) → list_all moml.is_later cs ≡ true → list_all 
 all-alnum [] h = refl
 all-alnum (c ∷ cs) h = and_both (is_ascii_alphanumeric c || c == 95) (list_all (λ d. is_ascii_alphanumeric d || d == 95) cs) (later-alnum c (and_left (moml.is_later c) (list_all moml.is_later cs) h)) (all-alnum cs (and_right (moml.is_later c) (list_all moml.is_later cs) h))
 
-name-is : (name : List ℕ) → moml.is_name name ≡ true → is_name name ≡ true
+-- a text that is none of the words of the expression language is no reserved one
+parted : (b rest : Bool) → not (if b then true else rest) ≡ true → (b ≡ false) × (not rest ≡ true)
+parted true rest h = absurd (cc)
+parted false rest h = (refl, h)
+
+differs-by : (word name : List ℕ) (b : Bool) → bytes_eq name word ≡ b → bytes_eq word name ≡ false → b ≡ false
+differs-by word name true e h = let other : bytes_eq word name ≡ true = bytes_eq-same word name (sym (same_bytes name word e)) in cc
+differs-by word name false e h = refl
+
+differs : (word name : List ℕ) → bytes_eq word name ≡ false → bytes_eq name word ≡ false
+differs word name h = differs-by word name (bytes_eq name word) refl h
+
+free-is : (name : List ℕ) → not (moml.is_among words name) ≡ true → is_reserved name ≡ false
+free-is name h =
+    let a = parted (bytes_eq (codes "true") name) _ h in
+    let b = parted (bytes_eq (codes "false") name) _ a.1 in
+    let c = parted (bytes_eq (codes "abs") name) _ b.1 in
+    let d = parted (bytes_eq (codes "max") name) _ c.1 in
+    let e = parted (bytes_eq (codes "min") name) _ d.1 in
+    rw (differs (codes "true") name a.0, differs (codes "false") name b.0, differs (codes "abs") name c.0, differs (codes "max") name d.0, differs (codes "min") name e.0) refl
+
+formed : (name : List ℕ) → moml.is_name name ≡ true → has_name_form name && nat_le (length name) 64 ≡ true
 unfolding moml.is_name
-name-is [] h = cc
-name-is (c ∷ cs) h =
+formed [] h = cc
+formed (c ∷ cs) h =
     let n : List ℕ = c ∷ cs in
     let all = and_right ((nat_lt 0 (length n) && nat_le (length n) 64) && moml.is_first c) (list_all moml.is_later n) h in
     let front = and_left ((nat_lt 0 (length n) && nat_le (length n) 64) && moml.is_first c) (list_all moml.is_later n) h in
@@ -118,7 +141,9 @@ names_of fs = map (λ f. f.0) (said_fields fs)
 
 named-of : (name : List ℕ) → is_field_name name ≡ true → is_name name ≡ true
 unfolding is_field_name
-named-of name h = name-is name (and_left (moml.is_name name) _ h)
+named-of name h =
+    let free : not (is_reserved name) ≡ true = ap not (free-is name (and_right (moml.is_name name) _ h)) in
+    and_both (has_name_form name && nat_le (length name) 64) (not (is_reserved name)) (formed name (and_left (moml.is_name name) _ h)) free
 
 are-new : (fs : FieldTrees) (before : List (List ℕ)) → have_names before fs ≡ true → AreNew before (names_of fs)
 unfolding has_names

@@ -2,10 +2,10 @@
 use Rattle.std.proofs.Common.{◌≡◌, ℕ, List, Option, Some, None, sym, ap, ◌∙◌}
 use Rattle.std.specs.Prelude.{option_map, MatchOption}
 use Rattle.std.specs.Option.{is_some}
-use Rattle.pt_moml.specs.TypeTexts.{TypeTree, IsTextOf}
-use Rattle.pt_moml.proofs.TypeSound.{taken_is_text}
+use Rattle.pt_document.specs.TypeTexts.{TypeTree, IsTextOf}
+use Rattle.pt_document.proofs.TypeSound.{taken_is_text}
 use Rattle.pt_types.specs.declared.ty.Ty.{Ty}
-use Rattle.pt_types.specs.Datatype.{Datatype}
+use Rattle.pt_datatypes.specs.Datatype.{Datatype}
 use Rattle.pt_types.specs.Ty.{type_of}
 use Rattle.pt_resolve.specs.Typing.{said}
 use Rattle.pt_resolve.specs.SaidWords.{Says, type_in}

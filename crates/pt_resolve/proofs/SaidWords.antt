@@ -1,8 +1,8 @@
 -- One word more of the text of a type.
 use Rattle.std.proofs.Common.{◌≡◌, ℕ, zero, suc, ◌-◌, ◌<◌, List, [], ◌∷◌, ◌++◌, map, reverse, Option, ap, ◌∙◌, arith}
 use Rattle.std.proofs.lemmas.List.{map_push, reverse-append}
-use Rattle.pt_types.specs.Datatype.{Datatype}
-use Rattle.pt_expr_type.specs.Entry.{typed_entry}
+use Rattle.pt_datatypes.specs.Datatype.{Datatype}
+use Rattle.pt_types.specs.Entry.{typed_entry}
 use Rattle.pt_resolve.specs.declared.said.Open.{Open as GivenOpen}
 use Rattle.pt_resolve.specs.declared.said.Open.TheVariants.{Record}
 use Rattle.pt_resolve.specs.declared.said.OpenRecord.{OpenRecord}

@@ -1,16 +1,16 @@
 -- Tests that tell where the typing of a net breaks, but in guards and actions.
 use Rattle.std.specs.Prelude.{ℕ, suc, ◌+◌, List, [], ◌∷◌, Bool, false, not, ◌||◌, Option, Some, None, if◌then◌else◌}
 use Rattle.std.specs.List.{list_any}
-use Rattle.pt_moml.specs.Document.{PortTree}
-use Rattle.pt_types.specs.Datatype.{Datatype}
-use Rattle.pt_types.specs.Order.{is_below}
-use Rattle.pt_expr.specs.Comparable.{is_general}
-use Rattle.pt_expr_type.specs.Types.{Types}
-use Rattle.pt_graph.specs.Net.{NetEntityTree, TransparentTree}
-use Rattle.pt_parameter.specs.Texts.{names_in}
-use Rattle.pt_parameter.specs.Given as held
-use Rattle.pt_parameter.specs.Given.{Held}
-use Rattle.pt_values.specs.Valued.{EntityView}
+use Rattle.pt_document.specs.Document.{PortTree}
+use Rattle.pt_datatypes.specs.Datatype.{Datatype}
+use Rattle.pt_datatypes.specs.Order.{is_below}
+use Rattle.pt_language.specs.Comparable.{is_general}
+use Rattle.pt_language.specs.Types.{Types}
+use Rattle.pt_net.specs.Net.{NetEntityTree, TransparentTree}
+use Rattle.pt_scopes.specs.Texts.{names_in}
+use Rattle.pt_scopes.specs.Given as held
+use Rattle.pt_scopes.specs.Given.{Held}
+use Rattle.pt_scopes.specs.Valued.{EntityView}
 use Rattle.pt_typing.specs.declared.variable.Variable.TheVariants.{Port}
 use Rattle.pt_typing.specs.Terms.{names_types, has_type}
 use Rattle.pt_typing.specs.Least.{Assignment}

@@ -1,8 +1,8 @@
 -- The inequalities that declared types make: the type that a port of an entity or of a transparent composite declares is below it.
 use Rattle.std.specs.Prelude.{ℕ, suc, List, [], ◌∷◌, ◌++◌, Option, Some, None}
-use Rattle.pt_types.specs.Datatype.{Datatype}
-use Rattle.pt_moml.specs.Document.{PortTree}
-use Rattle.pt_graph.specs.declared.net.Net.{Net}
+use Rattle.pt_datatypes.specs.Datatype.{Datatype}
+use Rattle.pt_document.specs.Document.{PortTree}
+use Rattle.pt_net.specs.declared.net.Net.{Net}
 use Rattle.pt_typing.specs.declared.variable.Variable.TheVariants.{Port}
 use Rattle.pt_typing.specs.Terms.{Fixed}
 use Rattle.pt_typing.specs.Views.{Inequality}

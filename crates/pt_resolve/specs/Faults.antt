@@ -2,22 +2,22 @@
 use Rattle.std.specs.Prelude.{◌≡◌, ℕ, List, map, Bool, not, Some, slice_get, true, false}
 use Rattle.std.specs.List.{Contains}
 use Rattle.pt_value.specs.Value.{Value}
-use Rattle.pt_moml.specs.declared.job.OutputAction.{OutputAction}
-use Rattle.pt_moml.specs.declared.job.SetAction.{SetAction}
-use Rattle.pt_moml.specs.Document.{PortTree, TransitionTree}
-use Rattle.pt_types.specs.Datatype.{Datatype, Int, Boolean, Words}
-use Rattle.pt_types.specs.Order.{is_below}
-use Rattle.pt_types.specs.Token.{type_of_value}
-use Rattle.pt_expr.specs.Comparable.{is_general}
-use Rattle.pt_expr.specs.Tree.{Tree}
-use Rattle.pt_expr_type.specs.Types.{Types}
-use Rattle.pt_graph.specs.declared.net.Net.{Net}
-use Rattle.pt_graph.specs.Net.{NetEntityTree, TransparentTree, entity_view, transparent_view}
-use Rattle.pt_parameter.specs.Texts.{names_in}
-use Rattle.pt_parameter.specs.Given.{Read}
-use Rattle.pt_values.specs.declared.values.Values.{Values}
-use Rattle.pt_values.specs.Valued.{EntityView}
-use Rattle.pt_values.specs.Valued as valued
+use Rattle.pt_document.specs.declared.job.OutputAction.{OutputAction}
+use Rattle.pt_document.specs.declared.job.SetAction.{SetAction}
+use Rattle.pt_document.specs.Document.{PortTree, TransitionTree}
+use Rattle.pt_datatypes.specs.Datatype.{Datatype, Int, Boolean, Words}
+use Rattle.pt_datatypes.specs.Order.{is_below}
+use Rattle.pt_datatypes.specs.Token.{type_of_value}
+use Rattle.pt_language.specs.Comparable.{is_general}
+use Rattle.pt_language.specs.Tree.{Tree}
+use Rattle.pt_language.specs.Types.{Types}
+use Rattle.pt_net.specs.declared.net.Net.{Net}
+use Rattle.pt_net.specs.Net.{NetEntityTree, TransparentTree, entity_view, transparent_view}
+use Rattle.pt_scopes.specs.Texts.{names_in}
+use Rattle.pt_scopes.specs.Given.{Read}
+use Rattle.pt_scopes.specs.declared.values.Values.{Values}
+use Rattle.pt_scopes.specs.Valued.{EntityView}
+use Rattle.pt_scopes.specs.Valued as valued
 use Rattle.pt_typing.specs.declared.variable.Variable.TheVariants.{Port}
 use Rattle.pt_typing.specs.Terms.{names_types, has_type}
 use Rattle.pt_typing.specs.Least.{Assignment}

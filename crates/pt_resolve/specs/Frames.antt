@@ -5,18 +5,18 @@ use Rattle.std.specs.Prelude.{Vec}
 use Rattle.std.specs.Global.{Global}
 use Rattle.pt_value.specs.declared.token.Token.{Token}
 use Rattle.pt_value.specs.Token.{value_of}
-use Rattle.pt_moml.specs.Document.{PropertyTree, property_name}
-use Rattle.pt_types.specs.Token.{type_of_value}
-use Rattle.pt_expr_type.specs.Types.{Types, or_else}
-use Rattle.pt_graph.specs.declared.net.NetEntity.{NetEntity}
-use Rattle.pt_graph.specs.declared.net.Transparent.{Transparent}
-use Rattle.pt_graph.specs.declared.net.Net.{Net}
-use Rattle.pt_moml.specs.View.{properties_view}
-use Rattle.pt_parameter.specs.declared.parameter_value.ParameterValue.{ParameterValue}
-use Rattle.pt_parameter.specs.Given as held
-use Rattle.pt_parameter.specs.Given.{Held, held_view}
-use Rattle.pt_values.specs.declared.values.EntityValues.{EntityValues}
-use Rattle.pt_values.specs.declared.values.Values.{Values}
+use Rattle.pt_document.specs.Document.{PropertyTree, property_name}
+use Rattle.pt_datatypes.specs.Token.{type_of_value}
+use Rattle.pt_language.specs.Types.{Types, or_else}
+use Rattle.pt_net.specs.declared.net.NetEntity.{NetEntity}
+use Rattle.pt_net.specs.declared.net.Transparent.{Transparent}
+use Rattle.pt_net.specs.declared.net.Net.{Net}
+use Rattle.pt_document.specs.View.{properties_view}
+use Rattle.pt_scopes.specs.declared.parameter_value.ParameterValue.{ParameterValue}
+use Rattle.pt_scopes.specs.Given as held
+use Rattle.pt_scopes.specs.Given.{Held, held_view}
+use Rattle.pt_scopes.specs.declared.values.EntityValues.{EntityValues}
+use Rattle.pt_scopes.specs.declared.values.Values.{Values}
 
 -- the values under names
 abbrev pub Names : Type 0

@@ -5,24 +5,24 @@ use Rattle.std.specs.Global.{Global}
 use Rattle.pt_value.specs.Value.{Value}
 use Rattle.pt_value.specs.declared.token.Token.{Token}
 use Rattle.pt_value.specs.Token.{value_of}
-use Rattle.pt_moml.specs.Document.{PropertyTree, property_name, PortTree, InputTree}
-use Rattle.pt_types.specs.Datatype.{Datatype, Unknown, Int, Boolean, Words}
-use Rattle.pt_types.specs.Join.{join}
-use Rattle.pt_types.specs.Token.{type_of_value}
-use Rattle.pt_expr.specs.Tree.{Tree}
-use Rattle.pt_expr_type.specs.Types.{Types}
-use Rattle.pt_graph.specs.declared.net.Channel.{Channel}
-use Rattle.pt_graph.specs.declared.net.Net.{Net}
-use Rattle.pt_graph.specs.Net.{NetEntityTree, entity_view}
-use Rattle.pt_parameter.specs.Texts.{names_in}
-use Rattle.pt_parameter.specs.Given as held
-use Rattle.pt_parameter.specs.Given.{Held}
-use Rattle.pt_parameter.specs.Agreement.{standard_of}
-use Rattle.pt_values.specs.declared.values.Values.{Values}
-use Rattle.pt_values.specs.Scopes.{net_view}
-use Rattle.pt_values.specs.Sites.{is_input_port}
-use Rattle.pt_values.specs.Valued.{EntityView, inputs_view}
-use Rattle.pt_values.specs.Valued as valued
+use Rattle.pt_document.specs.Document.{PropertyTree, property_name, PortTree, InputTree}
+use Rattle.pt_datatypes.specs.Datatype.{Datatype, Unknown, Int, Boolean, Words}
+use Rattle.pt_datatypes.specs.Join.{join}
+use Rattle.pt_datatypes.specs.Token.{type_of_value}
+use Rattle.pt_language.specs.Tree.{Tree}
+use Rattle.pt_language.specs.Types.{Types}
+use Rattle.pt_net.specs.declared.net.Channel.{Channel}
+use Rattle.pt_net.specs.declared.net.Net.{Net}
+use Rattle.pt_net.specs.Net.{NetEntityTree, entity_view}
+use Rattle.pt_scopes.specs.Texts.{names_in}
+use Rattle.pt_scopes.specs.Given as held
+use Rattle.pt_scopes.specs.Given.{Held}
+use Rattle.pt_scopes.specs.Agreement.{standard_of}
+use Rattle.pt_scopes.specs.declared.values.Values.{Values}
+use Rattle.pt_scopes.specs.Scopes.{net_view}
+use Rattle.pt_scopes.specs.Sites.{is_input_port}
+use Rattle.pt_scopes.specs.Valued.{EntityView, inputs_view}
+use Rattle.pt_scopes.specs.Valued as valued
 use Rattle.pt_resolve.specs.declared.row.PortType.{PortType}
 use Rattle.pt_resolve.specs.declared.row.PortType.TheVariants as port
 use Rattle.pt_resolve.specs.declared.row.Seed.{Seed}
@@ -162,6 +162,14 @@ abbrev pub with_ports : PortNumbers → ℕ → List PortTree → PortNumbers
 with_ports ports i [] = ports
 with_ports ports i (p ∷ ps) = with_ports (with_port p.name i ports) (suc i) ps
 
+-- the numbers of inputs under their names, the first port of which has this number
+abbrev pub with_input : ℕ → PortTree → PortNumbers → PortNumbers
+with_input i p ports = if is_input_port p then with_port p.name i ports else ports
+
+abbrev pub with_inputs : PortNumbers → ℕ → List PortTree → PortNumbers
+with_inputs ports i [] = ports
+with_inputs ports i (p ∷ ps) = with_inputs (with_input i p ports) (suc i) ps
+
 -- the values of the tokens that the program holds for an input
 abbrev pub supply_view : Vec (Option Token) Global → List (Option Value)
 supply_view ts = map (option_map value_of) ts.items
@@ -171,18 +179,18 @@ of_supply None vs = []
 of_supply (Some i) None = []
 of_supply (Some i) (Some vs) = below (Port 0 i) (Fixed (joined_with Unknown vs)) ∷ []
 
--- the tokens of an input are below the port of that name of the top
+-- the tokens of an input are below the input port of that name of the top; where it has none, they bound nothing
 abbrev pub of_inputs : PortNumbers → List InputTree → List (List (Option Value)) → List Inequality
 of_inputs ports [] vs = []
 of_inputs ports (i ∷ is) vs = of_supply (ports i.port) (first vs) ++ of_inputs ports is (behind vs)
 
-abbrev pub top_ports : List NetEntityTree → PortNumbers
-top_ports [] = no_ports
-top_ports (e ∷ es) = with_ports no_ports 0 e.ports
+abbrev pub top_inputs : List NetEntityTree → PortNumbers
+top_inputs [] = no_ports
+top_inputs (e ∷ es) = with_inputs no_ports 0 e.ports
 
 -- ---- the whole net
 
 -- the inequalities of a net, but those of its Modal entities and of the types that ports declare
 abbrev pub inequalities : Net → Values → List Inequality
 inequalities net values =
-    map of_channel net.channels.items ++ (of_entities (frames_of net values) 0 (map entity_view net.entities.items) (map valued.entity_view values.entities.items) ++ of_inputs (top_ports (map entity_view net.entities.items)) (net_view net).inputs (inputs_view values))
+    map of_channel net.channels.items ++ (of_entities (frames_of net values) 0 (map entity_view net.entities.items) (map valued.entity_view values.entities.items) ++ of_inputs (top_inputs (map entity_view net.entities.items)) (net_view net).inputs (inputs_view values))

@@ -1,13 +1,13 @@
 -- Tests that tell where the typing breaks in guards and actions.
 use Rattle.std.specs.Prelude.{ℕ, List, [], ◌∷◌, Bool, false, not, ◌||◌, Option, Some, None, option_map, length, ◌≡◌, if◌then◌else◌}
 use Rattle.std.specs.List.{list_any}
-use Rattle.pt_types.specs.Datatype.{Boolean}
-use Rattle.pt_types.specs.Order.{is_below}
-use Rattle.pt_types.specs.Token.{type_of_value}
-use Rattle.pt_expr.specs.Tree.{Tree}
-use Rattle.pt_expr_type.specs.Rule.{type_or_general}
-use Rattle.pt_graph.specs.Net.{NetEntityTree}
-use Rattle.pt_values.specs.Valued.{EntityView}
+use Rattle.pt_datatypes.specs.Datatype.{Boolean}
+use Rattle.pt_datatypes.specs.Order.{is_below}
+use Rattle.pt_datatypes.specs.Token.{type_of_value}
+use Rattle.pt_language.specs.Tree.{Tree}
+use Rattle.pt_language.specs.Rule.{type_or_general}
+use Rattle.pt_net.specs.Net.{NetEntityTree}
+use Rattle.pt_scopes.specs.Valued.{EntityView}
 use Rattle.pt_typing.specs.Terms.{has_type}
 use Rattle.pt_typing.specs.Least.{Assignment}
 use Rattle.pt_resolve.specs.Frames.{Frames}

@@ -1,13 +1,13 @@
 -- What guards and actions of a Modal entity may name, with the types that it has.
 use Rattle.std.specs.Prelude.{◌≡◌, ℕ, List, [], ◌∷◌, ◌++◌, map, Option, Some, None, option_map, is_some, Bool, true, false, ◌||◌, bytes_eq, codes}
 use Rattle.std.specs.List.{list_all}
-use Rattle.pt_types.specs.Token.{type_of_value}
-use Rattle.pt_expr.specs.Scope.{port_in}
-use Rattle.pt_expr.specs.Tree.{Tree}
-use Rattle.pt_expr_type.specs.Types.{Types, or_else}
-use Rattle.pt_graph.specs.Net.{NetEntityTree}
-use Rattle.pt_parameter.specs.Texts.{IsRead, names_in}
-use Rattle.pt_values.specs.Valued.{EntityView}
+use Rattle.pt_datatypes.specs.Token.{type_of_value}
+use Rattle.pt_language.specs.Scope.{port_in}
+use Rattle.pt_language.specs.Tree.{Tree}
+use Rattle.pt_language.specs.Types.{Types, or_else}
+use Rattle.pt_net.specs.Net.{NetEntityTree}
+use Rattle.pt_scopes.specs.Texts.{IsRead, names_in}
+use Rattle.pt_scopes.specs.Valued.{EntityView}
 use Rattle.pt_typing.specs.declared.variable.Variable.{Variable}
 use Rattle.pt_typing.specs.declared.variable.Variable.TheVariants.{Port}
 use Rattle.pt_typing.specs.Terms.{Term, TreeOf, names_types}

@@ -1,18 +1,18 @@
 -- The inequalities that Modal entities make.
 use Rattle.std.specs.Prelude.{◌≡◌, ◌<◌, ℕ, suc, List, [], ◌∷◌, ◌++◌, map, Option, Some, None, codes, length, if◌then◌else◌, slice_get}
 use Rattle.std.specs.List.{Contains, AllZip}
-use Rattle.pt_moml.specs.declared.job.Direction.{Direction}
-use Rattle.pt_moml.specs.declared.job.Direction.TheVariants.{Input, Output}
-use Rattle.pt_moml.specs.declared.job.OutputAction.{OutputAction}
-use Rattle.pt_moml.specs.declared.job.SetAction.{SetAction}
-use Rattle.pt_moml.specs.Document.{PortTree, TransitionTree}
-use Rattle.pt_expr.specs.Tree.{Tree}
-use Rattle.pt_graph.specs.declared.net.Net.{Net}
-use Rattle.pt_graph.specs.Net.{NetEntityTree, entity_view}
-use Rattle.pt_parameter.specs.Texts.{IsRead}
-use Rattle.pt_values.specs.declared.values.Values.{Values}
-use Rattle.pt_values.specs.Valued.{EntityView}
-use Rattle.pt_values.specs.Valued as valued
+use Rattle.pt_document.specs.declared.job.Direction.{Direction}
+use Rattle.pt_document.specs.declared.job.Direction.TheVariants.{Input, Output}
+use Rattle.pt_document.specs.declared.job.OutputAction.{OutputAction}
+use Rattle.pt_document.specs.declared.job.SetAction.{SetAction}
+use Rattle.pt_document.specs.Document.{PortTree, TransitionTree}
+use Rattle.pt_language.specs.Tree.{Tree}
+use Rattle.pt_net.specs.declared.net.Net.{Net}
+use Rattle.pt_net.specs.Net.{NetEntityTree, entity_view}
+use Rattle.pt_scopes.specs.Texts.{IsRead}
+use Rattle.pt_scopes.specs.declared.values.Values.{Values}
+use Rattle.pt_scopes.specs.Valued.{EntityView}
+use Rattle.pt_scopes.specs.Valued as valued
 use Rattle.pt_typing.specs.declared.variable.Variable.{Variable}
 use Rattle.pt_typing.specs.declared.variable.Variable.TheVariants.{Port}
 use Rattle.pt_typing.specs.Terms.{Same}

@@ -1,13 +1,13 @@
 -- What passes at the ports of transparent composites and at relations, between the sources of channels and their places.
 use Rattle.std.specs.Prelude.{ℕ, ◌+◌, List, [], ◌∷◌, ◌++◌, length, map, replicate}
 use Rattle.std.specs.List.{flat_map}
-use Rattle.pt_moml.specs.Document.{PortTree}
-use Rattle.pt_graph.specs.declared.net.JointPort.{JointPort}
-use Rattle.pt_graph.specs.declared.net.JointPort.TheVariants.{Entity, Transparent}
-use Rattle.pt_graph.specs.declared.net.Joint.{Joint}
-use Rattle.pt_graph.specs.declared.net.Joint.TheVariants.{Takes, Gives, Bond}
-use Rattle.pt_graph.specs.declared.net.Net.{Net}
-use Rattle.pt_graph.specs.Net.{entity_view, transparent_view}
+use Rattle.pt_document.specs.Document.{PortTree}
+use Rattle.pt_net.specs.declared.net.JointPort.{JointPort}
+use Rattle.pt_net.specs.declared.net.JointPort.TheVariants.{Entity, Transparent}
+use Rattle.pt_net.specs.declared.net.Joint.{Joint}
+use Rattle.pt_net.specs.declared.net.Joint.TheVariants.{Takes, Gives, Bond}
+use Rattle.pt_net.specs.declared.net.Net.{Net}
+use Rattle.pt_net.specs.Net.{entity_view, transparent_view}
 use Rattle.pt_typing.specs.declared.variable.Variable.{Variable}
 use Rattle.pt_typing.specs.declared.variable.Variable.TheVariants.{Port}
 use Rattle.pt_typing.specs.Terms.{Same}

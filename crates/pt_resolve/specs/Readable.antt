@@ -1,16 +1,16 @@
 -- Where a guard or an action of a Modal entity is no expression over what it may name.
 use Rattle.std.specs.Prelude.{◌≡◌, ◌⊎◌, ◌<◌, ℕ, List, [], ◌∷◌, ◌++◌, All, map, true, Option, Some, MatchOption, codes}
 use Rattle.std.specs.List.{Contains, flat_map}
-use Rattle.pt_moml.specs.declared.code.Code.{Code}
-use Rattle.pt_moml.specs.declared.job.OutputAction.{OutputAction}
-use Rattle.pt_moml.specs.declared.job.SetAction.{SetAction}
-use Rattle.pt_moml.specs.Document.{TransitionTree}
-use Rattle.pt_expr.specs.Tree.{Tree}
-use Rattle.pt_graph.specs.declared.net.Net.{Net}
-use Rattle.pt_graph.specs.Net.{NetEntityTree}
-use Rattle.pt_parameter.specs.Texts.{IsTreeFault}
-use Rattle.pt_values.specs.declared.values.Values.{Values}
-use Rattle.pt_values.specs.Valued.{EntityView}
+use Rattle.pt_document.specs.declared.code.Code.{Code}
+use Rattle.pt_document.specs.declared.job.OutputAction.{OutputAction}
+use Rattle.pt_document.specs.declared.job.SetAction.{SetAction}
+use Rattle.pt_document.specs.Document.{TransitionTree}
+use Rattle.pt_language.specs.Tree.{Tree}
+use Rattle.pt_net.specs.declared.net.Net.{Net}
+use Rattle.pt_net.specs.Net.{NetEntityTree}
+use Rattle.pt_scopes.specs.Texts.{IsTreeFault}
+use Rattle.pt_scopes.specs.declared.values.Values.{Values}
+use Rattle.pt_scopes.specs.Valued.{EntityView}
 use Rattle.pt_resolve.specs.Frames.{Frames}
 use Rattle.pt_resolve.specs.ModalScopes.{ModalScope, modal_scope, is_in_scope, IsReadIn}
 use Rattle.pt_resolve.specs.Modals.{IsModalAt}

@@ -1,15 +1,15 @@
 -- What passes at the ports of each class of actors, as the tables of the program list it.
 use Rattle.std.specs.Prelude.{ℕ, List, [], ◌∷◌, map, Option, Some, None, ◌&&◌, bytes_eq, codes, if◌then◌else◌}
-use Rattle.pt_moml.specs.declared.job.Direction.{Direction}
-use Rattle.pt_moml.specs.declared.job.Direction.TheVariants.{Input, Output}
-use Rattle.pt_moml.specs.Document.{PortTree}
+use Rattle.pt_document.specs.declared.job.Direction.{Direction}
+use Rattle.pt_document.specs.declared.job.Direction.TheVariants.{Input, Output}
+use Rattle.pt_document.specs.Document.{PortTree}
 use Rattle.std.specs.Borrow.{Bor}
 use Rattle.pt_value.specs.Value.{Value, Array, Values, no_values, value_then}
-use Rattle.pt_types.specs.Datatype.{Datatype, Unknown, Int, Boolean}
-use Rattle.pt_types.specs.Join.{join}
-use Rattle.pt_types.specs.Token.{type_of_value}
-use Rattle.pt_parameter.specs.declared.form.Standard.{Standard}
-use Rattle.pt_parameter.specs.declared.form.Standard.TheVariants as standard
+use Rattle.pt_datatypes.specs.Datatype.{Datatype, Unknown, Int, Boolean}
+use Rattle.pt_datatypes.specs.Join.{join}
+use Rattle.pt_datatypes.specs.Token.{type_of_value}
+use Rattle.pt_scopes.specs.declared.form.Standard.{Standard}
+use Rattle.pt_scopes.specs.declared.form.Standard.TheVariants as standard
 use Rattle.pt_resolve.specs.declared.row.PortType.{PortType}
 use Rattle.pt_resolve.specs.declared.row.PortType.TheVariants as port
 use Rattle.pt_resolve.specs.declared.row.PortTypeRow.{PortTypeRow}

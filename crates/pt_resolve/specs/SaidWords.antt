@@ -5,15 +5,15 @@ use Rattle.std.specs.Borrow.{Bor}
 use Rattle.std.specs.declared.hash.DefaultHasher.{DefaultHasher}
 use Rattle.std.specs.declared.hash.BuildHasherDefault.{BuildHasherDefault}
 use Rattle.indexmap.specs.IndexSet.{IndexSet}
-use Rattle.pt_moml.specs.Names.{is_later}
-use Rattle.pt_moml.specs.TypeTexts.{TypeTree, IsTextOf}
-use Rattle.pt_moml.specs.TypeWords.{behind, one_more, is_nothing}
-use Rattle.pt_types.specs.Datatype.{Datatype, Int, Boolean, Words}
-use Rattle.pt_types.specs.Normal.{array_of}
+use Rattle.pt_document.specs.Names.{is_later}
+use Rattle.pt_document.specs.TypeTexts.{TypeTree, IsTextOf}
+use Rattle.pt_document.specs.TypeWords.{behind, one_more, is_nothing}
+use Rattle.pt_datatypes.specs.Datatype.{Datatype, Int, Boolean, Words}
+use Rattle.pt_datatypes.specs.Normal.{array_of}
 use Rattle.pt_types.specs.Ty.{type_of}
-use Rattle.pt_expr_type.specs.Entry.{typed_entry}
-use Rattle.pt_expr_type.specs.Typing.{or_general}
-use Rattle.pt_expr_type.specs.TreeType.{recorded}
+use Rattle.pt_types.specs.Entry.{typed_entry}
+use Rattle.pt_language.specs.Typing.{or_general}
+use Rattle.pt_language.specs.TreeType.{recorded}
 use Rattle.pt_resolve.specs.declared.said.Open.{Open as GivenOpen}
 use Rattle.pt_resolve.specs.declared.said.Open.TheVariants as given
 use Rattle.pt_resolve.specs.declared.said.Place.{Place as GivenPlace}

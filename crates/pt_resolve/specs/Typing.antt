@@ -1,21 +1,21 @@
 -- The typing of a net: the least types that meet all inequalities (the book, "The Type System").
 use Rattle.std.specs.Prelude.{◌≡◌, ℕ, List, [], ◌∷◌, All, map, Some, None, slice_get, codes}
 use Rattle.std.specs.List.{Contains}
-use Rattle.pt_moml.specs.declared.job.Direction.TheVariants.{Input, Output}
-use Rattle.pt_moml.specs.declared.job.OutputAction.{OutputAction}
-use Rattle.pt_moml.specs.Document.{PortTree, TransitionTree}
-use Rattle.pt_moml.specs.TypeTexts.{TypeTree, int_type, boolean_type, string_type, array_type, record_type, FieldTrees, last_field, one_field, IsTextOf}
-use Rattle.pt_types.specs.Datatype.{Datatype, Int, Boolean, Words, types_of}
-use Rattle.pt_types.specs.Normal.{array_of, record_of}
-use Rattle.pt_types.specs.Order.{IsBelow}
-use Rattle.pt_expr.specs.Tree.{Tree}
-use Rattle.pt_expr_type.specs.Rule.{type_or_general}
-use Rattle.pt_expr_type.specs.ByName.{by_name}
-use Rattle.pt_graph.specs.declared.net.Net.{Net}
-use Rattle.pt_graph.specs.Net.{NetEntityTree, entity_view}
-use Rattle.pt_values.specs.declared.values.Values.{Values}
-use Rattle.pt_values.specs.Valued.{EntityView}
-use Rattle.pt_values.specs.Valued as valued
+use Rattle.pt_document.specs.declared.job.Direction.TheVariants.{Input, Output}
+use Rattle.pt_document.specs.declared.job.OutputAction.{OutputAction}
+use Rattle.pt_document.specs.Document.{PortTree, TransitionTree}
+use Rattle.pt_document.specs.TypeTexts.{TypeTree, int_type, boolean_type, string_type, array_type, record_type, FieldTrees, last_field, one_field, IsTextOf}
+use Rattle.pt_datatypes.specs.Datatype.{Datatype, Int, Boolean, Words, types_of}
+use Rattle.pt_datatypes.specs.Normal.{array_of, record_of}
+use Rattle.pt_datatypes.specs.Order.{IsBelow}
+use Rattle.pt_language.specs.Tree.{Tree}
+use Rattle.pt_language.specs.Rule.{type_or_general}
+use Rattle.pt_language.specs.ByName.{by_name}
+use Rattle.pt_net.specs.declared.net.Net.{Net}
+use Rattle.pt_net.specs.Net.{NetEntityTree, entity_view}
+use Rattle.pt_scopes.specs.declared.values.Values.{Values}
+use Rattle.pt_scopes.specs.Valued.{EntityView}
+use Rattle.pt_scopes.specs.Valued as valued
 use Rattle.pt_typing.specs.declared.variable.Variable.TheVariants.{Port}
 use Rattle.pt_typing.specs.Least.{Assignment, IsMet, Meets, IsUnder}
 use Rattle.pt_resolve.specs.Frames.{frames_of}

@@ -1,15 +1,15 @@
 -- What the program holds while it makes inequalities.
 use Rattle.std.specs.Prelude.{◌≡◌, ◌++◌, List, map, Some, None, option_map}
 use Rattle.std.specs.Borrow.{Bor}
-use Rattle.pt_expr.specs.Expr.{tree_of}
+use Rattle.pt_language.specs.Expr.{tree_of}
 use Rattle.indexmap.specs.IndexMap.{get_by_text}
-use Rattle.pt_moml.specs.declared.job.Port.{Port}
-use Rattle.pt_moml.specs.Document.{PortTree}
-use Rattle.pt_moml.specs.View.{port_view}
+use Rattle.pt_document.specs.declared.job.Port.{Port}
+use Rattle.pt_document.specs.Document.{PortTree}
+use Rattle.pt_document.specs.View.{port_view}
 use Rattle.pt_typing.specs.declared.term.Inequality.{Inequality as GivenInequality}
 use Rattle.pt_typing.specs.Views.{Inequality, inequality_view}
-use Rattle.pt_expr_type.specs.Types.{Types}
-use Rattle.pt_parameter.specs.Names.{held}
+use Rattle.pt_language.specs.Types.{Types}
+use Rattle.pt_scopes.specs.Names.{held}
 use Rattle.pt_resolve.specs.declared.frames.Frame.{Frame as GivenFrame}
 use Rattle.pt_resolve.specs.declared.frames.Frames.{Frames as GivenFrames}
 use Rattle.pt_resolve.specs.declared.place.Place.{Place}

@@ -1,12 +1,12 @@
 ghost use Rattle.std.specs.Prelude.{◌≡◌, IfOk, map, option_map};
 ghost use Rattle.pt_types.specs.Ty.{type_of};
-ghost use Rattle.pt_moml.specs.View.{port_view};
+ghost use Rattle.pt_document.specs.View.{port_view};
 ghost use Rattle.pt_typing.specs.declared.variable.Variable.TheVariants as variable;
 ghost use Rattle.pt_typing.specs.Least.{assignment};
 ghost use Rattle.pt_resolve.specs.Broken.{is_over_type, is_over, has_port_over};
 
 use crate::said::type_in;
-use pt_moml::Port;
+use pt_document::Port;
 use pt_types::{Ty, below};
 use pt_typing::{Typing, Variable};
 use pt_value::Text;

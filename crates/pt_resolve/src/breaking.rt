@@ -4,9 +4,9 @@ ghost use Rattle.pt_resolve.specs.Faults.{IsBrokenAt, IsWhole};
 
 use crate::composites::{first_general, first_over};
 use crate::faults::broken_entity;
-use pt_graph::Net;
+use pt_net::Net;
+use pt_scopes::Values;
 use pt_typing::Typing;
-use pt_values::Values;
 use std::alloc::{AllocError, Global};
 
 /// Where a typing breaks: at an entity, or at a transparent composite, by its number among those.

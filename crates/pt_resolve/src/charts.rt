@@ -1,8 +1,8 @@
 // Modal entities with their texts, and the inequalities of output actions.
 ghost use Rattle.std.specs.Prelude.{◌≡◌, IfOk, OnOk, map, option_map, length};
-ghost use Rattle.pt_expr.specs.Expr.{tree_of};
-ghost use Rattle.pt_graph.specs.Net.{entity_view};
-ghost use Rattle.pt_values.specs.Valued as valued;
+ghost use Rattle.pt_language.specs.Expr.{tree_of};
+ghost use Rattle.pt_net.specs.Net.{entity_view};
+ghost use Rattle.pt_scopes.specs.Valued as valued;
 ghost use Rattle.pt_resolve.specs.Modals.{of_action_at, of_action, of_actions, of_transitions, of_charts, IsChartOf, IsChartAdded, AreCharts};
 ghost use Rattle.pt_resolve.specs.Views.{frames_view, scope_view, action_view, transition_trees, chart_view, IsAdded};
 
@@ -12,10 +12,10 @@ use crate::modal_scope::ModalScope;
 use crate::modal_texts::{ActionTree, TransitionTrees, read_transitions};
 use crate::place::add;
 use crate::refinements::is_modal;
-use pt_expr::Expr;
-use pt_graph::NetEntity;
+use pt_language::Expr;
+use pt_net::NetEntity;
+use pt_scopes::EntityValues;
 use pt_typing::{Inequality, Term, Variable};
-use pt_values::EntityValues;
 use std::alloc::{AllocError, Global};
 
 /// A Modal entity with what its texts read as.

@@ -1,12 +1,12 @@
 ghost use Rattle.std.specs.Prelude.{◌≡◌, ◌+◌, IfOk, map};
-ghost use Rattle.pt_moml.specs.View.{port_view};
-ghost use Rattle.pt_graph.specs.Net.{transparent_view};
+ghost use Rattle.pt_document.specs.View.{port_view};
+ghost use Rattle.pt_net.specs.Net.{transparent_view};
 ghost use Rattle.pt_typing.specs.Least.{assignment};
 ghost use Rattle.pt_resolve.specs.Broken.{has_general, has_port_over, first_such};
 
 use crate::bounds::has_port_over;
-use pt_graph::Transparent;
-use pt_moml::Port;
+use pt_document::Port;
+use pt_net::Transparent;
 use pt_typing::{Typing, Variable};
 use std::alloc::{AllocError, Global};
 

@@ -1,13 +1,13 @@
 ghost use Rattle.std.specs.Prelude.{◌≡◌, OnOk, map, option_map};
 ghost use Rattle.pt_types.specs.Ty.{type_of};
-ghost use Rattle.pt_moml.specs.View.{port_view};
+ghost use Rattle.pt_document.specs.View.{port_view};
 ghost use Rattle.pt_typing.specs.Views.{inequality_view};
 ghost use Rattle.pt_resolve.specs.DeclaredTypes.{of_type, of_text, of_declared, declared_from};
 ghost use Rattle.pt_resolve.specs.Views.{IsAdded, port_lists};
 
 use crate::place::add;
 use crate::said::type_in;
-use pt_moml::Port;
+use pt_document::Port;
 use pt_types::Ty;
 use pt_typing::{Inequality, Term, Variable};
 use pt_value::Text;

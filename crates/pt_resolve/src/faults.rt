@@ -1,9 +1,9 @@
 ghost use Rattle.std.specs.Prelude.{◌≡◌, IfOk, ℕ, None, Some, map, option_map, slice_get};
 ghost use Rattle.pt_types.specs.Ty.{type_of};
-ghost use Rattle.pt_moml.specs.View.{port_view};
-ghost use Rattle.pt_graph.specs.Net.{NetEntityTree, entity_view};
-ghost use Rattle.pt_parameter.specs.Given.{held_view};
-ghost use Rattle.pt_values.specs.Valued as valued;
+ghost use Rattle.pt_document.specs.View.{port_view};
+ghost use Rattle.pt_net.specs.Net.{NetEntityTree, entity_view};
+ghost use Rattle.pt_scopes.specs.Given.{held_view};
+ghost use Rattle.pt_scopes.specs.Valued as valued;
 ghost use Rattle.pt_typing.specs.declared.variable.Variable.TheVariants as variable;
 ghost use Rattle.pt_typing.specs.Least.{assignment};
 ghost use Rattle.pt_resolve.specs.Rows.{port_type};
@@ -21,12 +21,11 @@ use crate::modal_faults::first_failing;
 use crate::place::Place;
 use crate::row::PortType;
 use crate::rows::port_type;
-use pt_graph::{Net, NetEntity};
-use pt_moml::Port;
-use pt_parameter::ParameterValue;
+use pt_document::Port;
+use pt_net::{Net, NetEntity};
+use pt_scopes::{EntityValues, ParameterValue, Values};
 use pt_types::{Ty, below};
 use pt_typing::{Typing, Variable};
-use pt_values::{EntityValues, Values};
 use std::alloc::{AllocError, Global};
 
 /// Whether what passes at a port is general, or above what the row of its class allows.

@@ -1,15 +1,14 @@
 ghost use Rattle.std.specs.Prelude.{◌≡◌, IfOk, OnOk, List, ℕ, map, option_map, slice_get};
 ghost use Rattle.pt_value.specs.Token.{value_of};
-ghost use Rattle.pt_moml.specs.View.{properties_view};
-ghost use Rattle.pt_parameter.specs.Names.{held};
+ghost use Rattle.pt_document.specs.View.{properties_view};
+ghost use Rattle.pt_scopes.specs.Names.{held};
 ghost use Rattle.pt_resolve.specs.Frames.{with_value, with_given, no_names, values_held, some_value, held_of, given_of, values_of_tokens, frames_of, entity_frames, transparent_frames, innermost, seen_within, seen};
 ghost use Rattle.pt_resolve.specs.Views.{frame_view, frames_view};
 
-use pt_graph::{Net, NetEntity, Transparent};
-use pt_moml::Property;
-use pt_parameter::{Names, ParameterValue};
+use pt_document::Property;
+use pt_net::{Net, NetEntity, Transparent};
+use pt_scopes::{EntityValues, Names, ParameterValue, Values, name_of};
 use pt_value::Token;
-use pt_values::{EntityValues, Values, name_of};
 use std::alloc::{AllocError, Global};
 
 /// How many entities stand in one another at most.

@@ -1,14 +1,14 @@
 ghost use Rattle.std.specs.Prelude.{◌≡◌, IfOk, OnOk, Some, map, option_map, slice_get};
 ghost use Rattle.pt_value.specs.Token.{value_of};
-ghost use Rattle.pt_types.specs.Datatype.{Unknown};
+ghost use Rattle.pt_datatypes.specs.Datatype.{Unknown};
 ghost use Rattle.pt_types.specs.Ty.{type_of};
-ghost use Rattle.pt_moml.specs.View.{properties_view, input_view};
-ghost use Rattle.pt_graph.specs.Net.{entity_view};
-ghost use Rattle.pt_values.specs.Valued as valued;
+ghost use Rattle.pt_document.specs.View.{properties_view, input_view};
+ghost use Rattle.pt_net.specs.Net.{entity_view};
+ghost use Rattle.pt_scopes.specs.Valued as valued;
 ghost use Rattle.pt_typing.specs.Views.{inequality_view};
 ghost use Rattle.pt_resolve.specs.Rows.{seeding};
 ghost use Rattle.pt_resolve.specs.Frames.{frames_of};
-ghost use Rattle.pt_resolve.specs.Inequalities.{of_channel, is_given, of_standard, of_standards, of_entity, of_entities, joined_one, joined_with, supply_view, of_supply, of_inputs, top_ports, inequalities};
+ghost use Rattle.pt_resolve.specs.Inequalities.{of_channel, is_given, of_standard, of_standards, of_entity, of_entities, joined_one, joined_with, supply_view, of_supply, of_inputs, top_inputs, inequalities};
 ghost use Rattle.pt_resolve.specs.Views.{frames_view, port_numbers, IsAdded};
 
 use crate::frames::Frames;
@@ -17,13 +17,12 @@ use crate::port_numbers::PortNumbers;
 use crate::row::SeedRow;
 use crate::seeds::{joined_with, standard_type};
 use crate::tables::SEEDS;
-use pt_graph::{Channel, Net, NetEntity};
-use pt_moml::{Input, Property};
-use pt_parameter::standard_of;
+use pt_document::{Input, Property};
+use pt_net::{Channel, Net, NetEntity};
+use pt_scopes::{EntityValues, Values, name_of, standard_of};
 use pt_types::Ty;
 use pt_typing::{Inequality, Term, Variable};
 use pt_value::Token;
-use pt_values::{EntityValues, Values, name_of};
 use std::alloc::{AllocError, Global};
 
 /// What is at the source of each channel is below what is at its place.
@@ -240,7 +239,7 @@ fn add_supplied(
     values: &Values,
     inequalities: &mut Vec<Inequality>,
 ) -> Result<(), AllocError>
-    ensures { OnOk result (IsAdded inequalities.old.items inequalities.new.items (of_inputs (top_ports (map entity_view net.now.entities.items)) (map input_view net.now.inputs.items) (map supply_view values.now.inputs.items))) }
+    ensures { OnOk result (IsAdded inequalities.old.items inequalities.new.items (of_inputs (top_inputs (map entity_view net.now.entities.items)) (map input_view net.now.inputs.items) (map supply_view values.now.inputs.items))) }
 {
     let ports = PortNumbers::of(alloc, &net.entities)?;
     let added = add_inputs(alloc, &ports, &net.inputs, &values.inputs, inequalities);

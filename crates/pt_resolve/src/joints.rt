@@ -1,13 +1,13 @@
 ghost use Rattle.std.specs.Prelude.{◌≡◌, ◌+◌, ◌++◌, length, IfOk, OnOk, map, replicate};
-ghost use Rattle.pt_moml.specs.View.{port_view};
-ghost use Rattle.pt_graph.specs.Net.{entity_view, transparent_view};
+ghost use Rattle.pt_document.specs.View.{port_view};
+ghost use Rattle.pt_net.specs.Net.{entity_view, transparent_view};
 ghost use Rattle.pt_resolve.specs.Passing as spec;
 ghost use Rattle.pt_resolve.specs.Passing.{all_ports, first_composite, first_relation, port_from, relation_from, of_joint, of_joints};
 ghost use Rattle.pt_resolve.specs.Views.{IsAdded, port_lists};
 
 use crate::place::add;
-use pt_graph::{Joint, JointPort, Net, NetEntity, Transparent};
-use pt_moml::Port;
+use pt_document::Port;
+use pt_net::{Joint, JointPort, Net, NetEntity, Transparent};
 use pt_typing::{Inequality, Term, Variable};
 use std::alloc::{AllocError, Global};
 

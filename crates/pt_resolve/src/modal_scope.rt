@@ -1,12 +1,12 @@
 ghost use Rattle.std.specs.Prelude.{◌≡◌, ◌++◌, IfOk, OnOk, map, option_map};
 ghost use Rattle.std.specs.List.{list_all};
 ghost use Rattle.pt_value.specs.Token.{value_of};
-ghost use Rattle.pt_types.specs.Token.{type_of_value};
-ghost use Rattle.pt_expr.specs.Expr.{tree_of};
-ghost use Rattle.pt_expr.specs.Scope.{port_in};
-ghost use Rattle.pt_graph.specs.Net.{entity_view};
-ghost use Rattle.pt_parameter.specs.Texts.{names_in};
-ghost use Rattle.pt_values.specs.Valued as valued;
+ghost use Rattle.pt_datatypes.specs.Token.{type_of_value};
+ghost use Rattle.pt_language.specs.Expr.{tree_of};
+ghost use Rattle.pt_language.specs.Scope.{port_in};
+ghost use Rattle.pt_net.specs.Net.{entity_view};
+ghost use Rattle.pt_scopes.specs.Texts.{names_in};
+ghost use Rattle.pt_scopes.specs.Valued as valued;
 ghost use Rattle.pt_typing.specs.Views.{known_entry, tree_view};
 ghost use Rattle.pt_resolve.specs.Inequalities.{with_type, known};
 ghost use Rattle.pt_resolve.specs.ModalScopes.{modal_scope, values_in, value_types, is_port, is_in_scope, port_at, port_named, port_asked, ports_named, modal_term};
@@ -14,13 +14,12 @@ ghost use Rattle.pt_resolve.specs.Views.{frames_view, scope_view};
 
 use crate::frames::{Frames, names_of_tokens};
 use crate::port_numbers::PortNumbers;
-use pt_expr::Expr;
-use pt_graph::NetEntity;
-use pt_parameter::{Names, names_of, type_of_token};
-use pt_types::Ty;
+use pt_language::Expr;
+use pt_net::NetEntity;
+use pt_scopes::{EntityValues, Names, names_of};
+use pt_types::{Ty, type_of_token};
 use pt_typing::{TreeTerm, Variable};
 use pt_value::{Text, Token};
-use pt_values::EntityValues;
 use std::alloc::{AllocError, Global};
 
 /// What stands behind the name of a port where an expression asks whether the port has a token.

@@ -1,17 +1,17 @@
 // What the texts of a Modal entity read as.
 ghost use Rattle.std.specs.Prelude.{◌≡◌, IfOk, Some, None, map, option_map, if◌then◌else◌};
 ghost use Rattle.std.specs.List.{AllZip, list_all};
-ghost use Rattle.pt_moml.specs.View.{transition_view};
-ghost use Rattle.pt_expr.specs.Expr.{tree_of};
-ghost use Rattle.pt_parameter.specs.Texts.{names_in};
+ghost use Rattle.pt_document.specs.View.{transition_view};
+ghost use Rattle.pt_language.specs.Expr.{tree_of};
+ghost use Rattle.pt_scopes.specs.Texts.{names_in};
 ghost use Rattle.pt_resolve.specs.ModalScopes.{is_in_scope};
 ghost use Rattle.pt_resolve.specs.Modals.{IsParsedAs, IsReadAs, IsOutputRead, IsSetRead, IsTransitionRead};
 ghost use Rattle.pt_resolve.specs.Views.{scope_view, action_view, transition_trees};
 
 use crate::modal_scope::ModalScope;
-use pt_expr::Expr;
-use pt_expr_text::{ParseFault, parse};
-use pt_moml::{OutputAction, SetAction, Transition};
+use pt_document::{OutputAction, SetAction, Transition};
+use pt_expr_text::parse;
+use pt_language::{Expr, ParseFault};
 use pt_value::Text;
 use std::alloc::{AllocError, Global};
 

@@ -1,6 +1,6 @@
 ghost use Rattle.std.specs.Prelude.{◌≡◌, IfOk, length, map};
-ghost use Rattle.pt_graph.specs.Net.{entity_view};
-ghost use Rattle.pt_values.specs.Valued as valued;
+ghost use Rattle.pt_net.specs.Net.{entity_view};
+ghost use Rattle.pt_scopes.specs.Valued as valued;
 ghost use Rattle.pt_typing.specs.Views.{inequality_view};
 ghost use Rattle.pt_typing.specs.Least.{assignment};
 ghost use Rattle.pt_resolve.specs.Passing as passing;
@@ -15,10 +15,10 @@ use crate::frames::Frames;
 use crate::inequalities::inequalities_of;
 use crate::joints::{add_passing, all_ports, port_counts};
 use crate::refinements::add_refinements;
-use pt_graph::Net;
-use pt_moml::Port;
+use pt_document::Port;
+use pt_net::Net;
+use pt_scopes::Values;
 use pt_typing::{Inequality, Typing, least_typing};
-use pt_values::Values;
 use std::alloc::{AllocError, Global};
 
 /// The inequalities of a net with these ports and charts.

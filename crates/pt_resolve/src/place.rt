@@ -1,11 +1,11 @@
 ghost use Rattle.std.specs.Prelude.{◌≡◌, ◌++◌, ◌∷◌, [], IfOk, OnOk, map, option_map, slice_get};
 ghost use Rattle.pt_value.specs.Token.{value_of};
-ghost use Rattle.pt_expr.specs.Expr.{tree_of};
-ghost use Rattle.pt_moml.specs.View.{port_view, properties_view};
-ghost use Rattle.pt_graph.specs.Net.{entity_view};
-ghost use Rattle.pt_parameter.specs.Texts.{names_in};
-ghost use Rattle.pt_parameter.specs.Given.{held_view};
-ghost use Rattle.pt_values.specs.Valued as valued;
+ghost use Rattle.pt_language.specs.Expr.{tree_of};
+ghost use Rattle.pt_document.specs.View.{port_view, properties_view};
+ghost use Rattle.pt_net.specs.Net.{entity_view};
+ghost use Rattle.pt_scopes.specs.Texts.{names_in};
+ghost use Rattle.pt_scopes.specs.Given.{held_view};
+ghost use Rattle.pt_scopes.specs.Valued as valued;
 ghost use Rattle.pt_typing.specs.Views.{known_entry, tree_view, term_view};
 ghost use Rattle.pt_resolve.specs.Inequalities.{input_at, inputs_of, with_type, known, of_tree, of_held, of_trees, of_fields, of_port, of_ports, of_seed, of_value, of_parameter, of_parameters};
 ghost use Rattle.pt_resolve.specs.Views.{types_at, IsAdded};
@@ -14,14 +14,13 @@ use crate::frames::Frames;
 use crate::row::{PortType, Seed};
 use crate::rows::{port_type, seed_of};
 use crate::seeds::seeded;
-use pt_expr::Expr;
-use pt_graph::NetEntity;
-use pt_moml::{Direction, Port};
-use pt_parameter::{ParameterValue, names_of, type_of_token};
-use pt_types::Ty;
+use pt_document::{Direction, Port};
+use pt_language::Expr;
+use pt_net::NetEntity;
+use pt_scopes::{EntityValues, ParameterValue, name_of, names_of};
+use pt_types::{Ty, type_of_token};
 use pt_typing::{Inequality, Term, TreeTerm, Variable};
 use pt_value::{Text, Token};
-use pt_values::{EntityValues, name_of};
 use std::alloc::{AllocError, Global};
 
 /// An entity of a net, by its number, with what its parameters have and what is seen round it.

@@ -1,12 +1,12 @@
 ghost use Rattle.std.specs.Prelude.{◌≡◌, IfOk, OnOk, List, ℕ, None, map};
-ghost use Rattle.pt_moml.specs.View.{port_view};
-ghost use Rattle.pt_graph.specs.Net.{entity_view};
-ghost use Rattle.pt_resolve.specs.Inequalities.{with_port, with_ports, no_ports, top_ports};
+ghost use Rattle.pt_document.specs.View.{port_view};
+ghost use Rattle.pt_net.specs.Net.{entity_view};
+ghost use Rattle.pt_resolve.specs.Inequalities.{with_port, with_ports, with_input, with_inputs, no_ports, top_inputs};
 ghost use Rattle.pt_resolve.specs.Views.{port_numbers};
 
 use indexmap::IndexMap;
-use pt_graph::NetEntity;
-use pt_moml::Port;
+use pt_document::{Direction, Port};
+use pt_net::NetEntity;
 use std::alloc::{AllocError, Global};
 use std::hash::{BuildHasherDefault, DefaultHasher};
 
@@ -52,12 +52,33 @@ impl PortNumbers {
         Ok(numbers)
     }
 
-    /// The ports of the first of these entities.
+    /// Adds a port, if it is an input.
+    fn put_input(&mut self, alloc: Global, number: usize, port: &Port) -> Result<(), AllocError>
+        ensures { OnOk result ((other : List ℕ) → port_numbers self.new other ≡ with_input number (port_view port.now) (port_numbers self.old) other) }
+    {
+        match port.direction {
+            Direction::Input => self.put(alloc, port.name.as_str(), number),
+            Direction::Output => Ok(()),
+        }
+    }
+
+    /// The inputs among these ports.
+    fn of_inputs(alloc: Global, ports: &[Port]) -> Result<PortNumbers, AllocError>
+        ensures { IfOk result (λ numbers. (name : List ℕ) → port_numbers numbers name ≡ with_inputs no_ports 0 (map port_view ports.now) name) }
+    {
+        let mut numbers = PortNumbers::new(alloc);
+        for (number, port) in ports.iter().enumerate() {
+            numbers.put_input(alloc, number, port)?;
+        }
+        Ok(numbers)
+    }
+
+    /// The inputs of the first of these entities.
     pub(crate) fn of(alloc: Global, entities: &[NetEntity]) -> Result<PortNumbers, AllocError>
-        ensures { IfOk result (λ numbers. (name : List ℕ) → port_numbers numbers name ≡ top_ports (map entity_view entities.now) name) }
+        ensures { IfOk result (λ numbers. (name : List ℕ) → port_numbers numbers name ≡ top_inputs (map entity_view entities.now) name) }
     {
         match entities.first() {
-            Some(entity) => PortNumbers::of_ports(alloc, &entity.ports),
+            Some(entity) => PortNumbers::of_inputs(alloc, &entity.ports),
             None => Ok(PortNumbers::new(alloc)),
         }
     }

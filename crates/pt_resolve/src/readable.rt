@@ -1,12 +1,12 @@
 // Guards and actions of Modal entities that are no expressions over what they may name.
 ghost use Rattle.std.specs.Prelude.{◌≡◌, IfOk, MatchOption, [], ◌∷◌, map, Some, None, length, option_map, if◌then◌else◌};
 ghost use Rattle.std.specs.List.{list_all};
-ghost use Rattle.pt_moml.specs.View.{transition_view};
-ghost use Rattle.pt_moml.specs.declared.code.Code.TheVariants as code;
-ghost use Rattle.pt_expr.specs.Expr.{tree_of};
-ghost use Rattle.pt_graph.specs.Net.{entity_view};
-ghost use Rattle.pt_parameter.specs.Texts.{names_in};
-ghost use Rattle.pt_values.specs.Valued as valued;
+ghost use Rattle.pt_document.specs.View.{transition_view};
+ghost use Rattle.pt_document.specs.declared.code.Code.TheVariants as code;
+ghost use Rattle.pt_language.specs.Expr.{tree_of};
+ghost use Rattle.pt_net.specs.Net.{entity_view};
+ghost use Rattle.pt_scopes.specs.Texts.{names_in};
+ghost use Rattle.pt_scopes.specs.Valued as valued;
 ghost use Rattle.pt_resolve.specs.ModalScopes.{is_in_scope, modal_scope};
 ghost use Rattle.pt_resolve.specs.Readable.{output_text, set_text, transition_texts, texts_of, IsFoundIn, IsEntityReadable, IsEntityUnreadable, AreReadableBelow, IsFirstOf, AreReadable, IsUnreadableAt, ReadableTextsAreClean};
 ghost use Rattle.pt_resolve.specs.Views.{frames_view, scope_view};
@@ -15,11 +15,11 @@ use crate::frames::Frames;
 use crate::inequalities::values_at;
 use crate::modal_scope::ModalScope;
 use crate::refinements::is_modal;
-use pt_expr::Expr;
-use pt_expr_text::{ParseFault, parse};
-use pt_graph::{Net, NetEntity};
-use pt_moml::{Code, OutputAction, SetAction, Transition};
-use pt_values::{EntityValues, Values};
+use pt_document::{Code, OutputAction, SetAction, Transition};
+use pt_expr_text::parse;
+use pt_language::{Expr, ParseFault};
+use pt_net::{Net, NetEntity};
+use pt_scopes::{EntityValues, Values};
 use std::alloc::{AllocError, Global};
 
 /// For what an expression is refused, if it names what isn't in scope.

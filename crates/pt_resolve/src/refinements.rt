@@ -1,15 +1,15 @@
 // The inequalities of refinements of Modal entities.
 ghost use Rattle.std.specs.Prelude.{◌≡◌, IfOk, OnOk, List, ℕ, map, option_map, slice_get};
-ghost use Rattle.pt_moml.specs.View.{port_view};
-ghost use Rattle.pt_graph.specs.Net.{entity_view};
+ghost use Rattle.pt_document.specs.View.{port_view};
+ghost use Rattle.pt_net.specs.Net.{entity_view};
 ghost use Rattle.pt_resolve.specs.ModalScopes.{is_modal};
 ghost use Rattle.pt_resolve.specs.Modals.{of_like, of_refinement, modal_ports, of_round, of_child, of_children, refined};
 ghost use Rattle.pt_resolve.specs.Views.{port_numbers, IsAdded};
 
 use crate::place::add;
 use crate::port_numbers::PortNumbers;
-use pt_graph::NetEntity;
-use pt_moml::{Direction, Port};
+use pt_document::{Direction, Port};
+use pt_net::NetEntity;
 use pt_typing::{Inequality, Term, Variable};
 use std::alloc::{AllocError, Global};
 

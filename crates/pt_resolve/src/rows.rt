@@ -1,10 +1,10 @@
 ghost use Rattle.std.specs.Prelude.{◌≡◌, map};
-ghost use Rattle.pt_moml.specs.View.{port_view};
+ghost use Rattle.pt_document.specs.View.{port_view};
 ghost use Rattle.pt_resolve.specs.Rows.{port_row, seeding, port_type_in, port_type, seed_in, seed_of, declared_output, port_rows, seedings};
 
 use crate::row::{PortType, PortTypeRow, Seed, SeedRow};
 use crate::tables::{PORT_TYPES, SEEDS};
-use pt_moml::{Direction, Port};
+use pt_document::{Direction, Port};
 
 fn port_type_among(rows: &'static [PortTypeRow<&'static str>], class: &str, name: &str) -> PortType
     ensures { result ≡ port_type_in (map port_row rows.now) class.now name.now }

@@ -1,19 +1,20 @@
 // Types that texts say, read word by word: however deep a text nests, nothing recurs. A type more than 8 deep is general, so a part
 // is walked for at most nine arrays and records round it, and the time is about linear in the text.
 ghost use Rattle.std.specs.Prelude.{◌≡◌, ◌∷◌, ◌++◌, [], codes, IfOk, MatchOption, true, Some, None, map, option_map};
-ghost use Rattle.pt_moml.specs.TypeTexts as texts;
-ghost use Rattle.pt_moml.specs.TypeTexts.{TypeTree, IsTextOf};
-ghost use Rattle.pt_moml.specs.TypeWords as words;
-ghost use Rattle.pt_types.specs.Normal.{array_of};
+ghost use Rattle.pt_document.specs.TypeTexts as texts;
+ghost use Rattle.pt_document.specs.TypeTexts.{TypeTree, IsTextOf};
+ghost use Rattle.pt_document.specs.TypeWords as words;
+ghost use Rattle.pt_datatypes.specs.Normal.{array_of};
 ghost use Rattle.pt_types.specs.Ty.{type_of};
-ghost use Rattle.pt_expr_type.specs.Entry.{typed_entry};
+ghost use Rattle.pt_types.specs.Entry.{typed_entry};
 ghost use Rattle.pt_resolve.specs.SaidWords as said;
 ghost use Rattle.pt_resolve.specs.SaidWords.{Says, names_view, stack_view, place_view, next_view};
 
 use crate::words::field_name;
 use indexmap::IndexSet;
-use pt_expr_type::{TypeFault, record_of};
-use pt_moml::{behind, leading_name};
+use pt_document::{behind, leading_name};
+use pt_expr_type::record_of;
+use pt_language::TypeFault;
 use pt_types::Ty;
 use pt_value::Text;
 use std::alloc::{AllocError, Global};

@@ -1,15 +1,15 @@
 ghost use Rattle.std.specs.Prelude.{◌≡◌, IfOk, map};
 ghost use Rattle.pt_value.specs.Token.{value_of};
 ghost use Rattle.pt_value.specs.Value.{values_of};
-ghost use Rattle.pt_types.specs.Datatype.{Unknown};
+ghost use Rattle.pt_datatypes.specs.Datatype.{Unknown};
 ghost use Rattle.pt_types.specs.Ty.{type_of};
-ghost use Rattle.pt_types.specs.Join.{join as join_types};
-ghost use Rattle.pt_types.specs.Token.{type_of_value};
+ghost use Rattle.pt_datatypes.specs.Join.{join as join_types};
+ghost use Rattle.pt_datatypes.specs.Token.{type_of_value};
 ghost use Rattle.pt_resolve.specs.Rows.{seeded, joined_values, standard_type};
 
 use crate::row::Seed;
-use pt_parameter::{Standard, type_of_token};
-use pt_types::{Ty, join};
+use pt_scopes::Standard;
+use pt_types::{Ty, join, type_of_token};
 use pt_value::Token;
 use std::alloc::{AllocError, Global};
 

@@ -1,8 +1,8 @@
 // The words of a type's text.
 ghost use Rattle.std.specs.Prelude.{◌≡◌, Some, None, if◌then◌else◌, option_map};
-ghost use Rattle.pt_moml.specs.TypeTexts as texts;
+ghost use Rattle.pt_document.specs.TypeTexts as texts;
 
-use pt_moml::is_field_name;
+use pt_document::is_field_name;
 use std::str::from_utf8;
 
 /// These bytes as the name of a field.

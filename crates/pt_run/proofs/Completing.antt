@@ -15,19 +15,20 @@ use Rattle.pt_library.specs.LibraryActor.{rows}
 use Rattle.pt_node.specs.Live as live
 use Rattle.pt_node.specs.Shown.{Shown}
 use Rattle.pt_node.specs.View.{node_of, count_of, outline_of, text_at}
-use Rattle.pt_seq.specs.Within.{fault_of, AnswersTo}
-use Rattle.pt_run.specs.declared.job.SdfJob.{SdfJob}
-use Rattle.pt_run.specs.declared.ended.Ended.{Ended}
-use Rattle.pt_run.specs.declared.ended.Ended.TheVariants as ended
-use Rattle.pt_run.specs.Start.{IsRunnable}
-use Rattle.pt_run.specs.Run.{schedule, Reports, IsRun, IsDefined, IsAffordable}
+use Rattle.pt_seq.specs.Within.{AnswersTo}
+use Rattle.pt_node.specs.Stuck.{fault_of}
+use Rattle.pt_trees.specs.declared.job.SdfJob.{SdfJob}
+use Rattle.pt_trees.specs.declared.ended.Ended.{Ended}
+use Rattle.pt_trees.specs.declared.ended.Ended.TheVariants as ended
+use Rattle.pt_trees.specs.Start.{IsRunnable}
+use Rattle.pt_trees.specs.Run.{schedule, Reports, IsRun, IsDefined, IsAffordable}
 use Rattle.pt_run.proofs.Counting.{none-counted}
 use Rattle.pt_run.proofs.Reaching.{Reached, IsLogOf, at-start, one-more, reported, iterations-made, inputs-over, spent-between, spent-within, stuck-within, count-below, takes-fit, portions-length}
 
 pub is_complete : (j : SdfJob) (budget : ℕ) (old new : Shown) (e : Ended) → IsRun j budget old new e → IsAffordable j budget (node_of old) → IsDefined e
 is_complete j budget old new ended.Iterations r a = tt
 is_complete j budget old new ended.Inputs r a = tt
-is_complete j budget old new (ended.Fault place) r a = a.never_stuck (fault_of r.0 place) (r.2 0).caused
+is_complete j budget old new (ended.Fault place) r a = a.never_stuck (fault_of r.0 place) (r.2 0).caused.0
 is_complete j budget old new (ended.Spent firings) r a =
     let p = r 0 in
     let few = count-below p.log (meaning p.prefix.0 rows no_meetings (schedule j) (node_of old)) (paths_of (node_of old)) p.prefix.1 in

@@ -1,5 +1,5 @@
 -- The number of firings that a tree counts is that of the log by which what is kept of it went on.
-use Rattle.std.proofs.Common.{◌≡◌, ℕ, suc, ◌+◌, List, [], ◌∷◌, ◌++◌, refl, sym, ap, ap₂, ◌∙◌, arith}
+use Rattle.std.proofs.Common.{◌≡◌, ℕ, zero, suc, ◌+◌, List, [], ◌∷◌, ◌++◌, refl, sym, ap, ap₂, ◌∙◌, arith}
 use Rattle.pt_meaning.specs.Basics.{Log, Path}
 use Rattle.pt_meaning.specs.Headline as headline
 use Rattle.pt_meaning.specs.Start.{IsAtStart, AllAtStart}
@@ -13,7 +13,7 @@ use Rattle.pt_node.specs.declared.body.Body.TheVariants.{Actor, Composite}
 use Rattle.pt_library.specs.LibraryActor.{rows}
 use Rattle.pt_node.specs.Shown.{Shown, AllShown, Branch, none, more}
 use Rattle.pt_node.specs.View.{node_of, nodes_of, node_with, entry_of, kept_of, kepts_of, count_of, counts_of, Outline, Outlines, Named, end, with, outline_of, outlines_of}
-use Rattle.pt_run.specs.Start.{IsBranched, HasLeaves, AllHaveLeaves}
+use Rattle.pt_trees.specs.Start.{IsBranched, HasLeaves, AllHaveLeaves}
 
 -- the paths of all that has a name
 abbrev mutual
@@ -69,6 +69,25 @@ mutual
   none-below : (ks : AllShown) → AllHaveLeaves ks → AllAtStart rows (nodes_of ks) → counts_of ks ≡ 0
   none-below none h g = refl
   none-below (more s ss) h g = ap₂ (λ a b. a + b) (none-counted s h.0 g.0) (none-below ss h.1 g.1)
+
+-- at no path
+mutual
+  pub none-at : (s : Shown) → HasLeaves s → IsAtStart rows (node_of s) → (p : Path) → (kept_of s p).count ≡ 0
+  none-at (Branch f ks) h g [] = by_body f.body g
+    where
+      by_body : (b : Body) → IsAtStart rows (node_with f.past b (nodes_of ks)) → f.past.made ≡ 0
+      by_body (Actor held) a = ap (λ (h : tree.Past). h.made) a.0
+      by_body (Composite d) a = ap (λ (h : tree.Past). h.made) a.0
+  none-at (Branch f ks) h g (i ∷ p) = by_body f.body h.0 g (λ a. none-at-below ks h.1 a i p)
+    where
+      by_body : (b : Body) → IsBranched b ks → IsAtStart rows (node_with f.past b (nodes_of ks)) → (AllAtStart rows (nodes_of ks) → (kept_at (kepts_of ks) i p).count ≡ 0) → (kept_at (kepts_of ks) i p).count ≡ 0
+      by_body (Actor held) e a below = ap (λ v. (kept_at (kepts_of v) i p).count) e
+      by_body (Composite d) e a below = below a.3
+
+  none-at-below : (ks : AllShown) → AllHaveLeaves ks → AllAtStart rows (nodes_of ks) → (i : ℕ) (p : Path) → (kept_at (kepts_of ks) i p).count ≡ 0
+  none-at-below none h g i p = refl
+  none-at-below (more s ss) h g zero p = none-at s h.0 g.0 p
+  none-at-below (more s ss) h g (suc i) p = none-at-below ss h.1 g.1 i p
 
 -- So a tree that went on from its start by a log counts the firings of the log.
 pub count-is : (old new : Shown) (log : Log Token) → HasLeaves old → IsAtStart rows (node_of old) → outline_of new ≡ outline_of old → GrewBy log (kept_of old) (kept_of new) → count_of new ≡ headline.count_in log (node_of old)

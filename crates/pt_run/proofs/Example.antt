@@ -5,8 +5,8 @@ use Rattle.pt_meaning.specs.Net.{Source, Own, Output}
 use Rattle.pt_value.specs.declared.token.Token.{Token}
 use Rattle.pt_sdf.specs.ByNeed.{place_of}
 use Rattle.pt_sdf.specs.Lawful.{IsLawful, IsNamed, IsSupplied, NeverLacks, occurs}
-use Rattle.pt_run.specs.Ports.{AreNumbered, of_number, ports_in}
-use Rattle.pt_run.specs.Start.{IsRunnable}
+use Rattle.pt_trees.specs.Ports.{AreNumbered, of_number, ports_in}
+use Rattle.pt_trees.specs.Start.{IsRunnable}
 use Rattle.pt_run.specs.Example.{chain_plan, chain}
 use Rattle.pt_run.proofs.Steady.{ramp-steady, scale-steady}
 

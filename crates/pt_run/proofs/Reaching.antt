@@ -11,8 +11,8 @@ use Rattle.pt_meaning.specs.Step.{step_at, Step, no_meetings}
 use Rattle.pt_meaning.specs.Job as job
 use Rattle.pt_meaning.specs.Job.{End, Turn, Fire, Schedule, Course, Standing, Goes, Halted, on_step, on_turn, after, log_of, begin, meaning, IsPrefixOfMeaning, IsMeaning, EndsBy, IsStuckPlace}
 use Rattle.pt_meaning.specs.Schedule.{portions, suffice, if_more, sdf_top}
-use Rattle.pt_meaning.specs.Headline.{Ending, Defined, Faulty, Spent, IsCaused, IsReportOf, count_of}
-use Rattle.pt_meaning.specs.Closed.{IsClosedRun}
+use Rattle.pt_meaning.specs.Headline.{Ending, Defined, Faulty, Spent, IsUpTo, IsCaused, IsReportOf, count_of}
+use Rattle.pt_meaning.specs.Closed.{UnderWay, IsClosedRun}
 use Rattle.pt_laws.specs.LogsOfRuns.{log_in}
 use Rattle.pt_laws.proofs.Order.{IsPrefix-trans, IsPrefix-after}
 use Rattle.pt_laws.proofs.FiringLaws.{done-within}
@@ -36,12 +36,12 @@ use Rattle.pt_node.specs.Live as live
 use Rattle.pt_node.specs.Live.{IsLive}
 use Rattle.pt_library.proofs.RowLaws.{rows_lawful}
 use Rattle.pt_seq.specs.Within.{AnswersTo}
-use Rattle.pt_run.specs.Ports.{recorded_ports, ports_of, traces_of}
-use Rattle.pt_run.specs.Start.{takes_of, IsRunnable}
-use Rattle.pt_run.specs.Run.{no_queues}
+use Rattle.pt_trees.specs.Ports.{recorded_ports, ports_of, traces_of}
+use Rattle.pt_trees.specs.Start.{takes_of, IsRunnable}
+use Rattle.pt_trees.specs.Run.{no_queues, counts_of}
 use Rattle.pt_run.proofs.Course.{after-more, after-below, ended-at, halted-at}
 use Rattle.pt_run.proofs.Unmet.{IsSdfTree, AllSdfTrees, finished-before, no-meetings, meaning-unmet}
-use Rattle.pt_run.proofs.Counting.{count-is}
+use Rattle.pt_run.proofs.Counting.{count-is, none-at}
 use Rattle.pt_run.proofs.Traces.{traces-are}
 
 -- every composite of the code is an SDF composite
@@ -164,18 +164,21 @@ module _ (iterations : ℕ) (takes : List ℕ) (inputs : Streams Token) (top : S
   pub record IsLogOf (budget : ℕ) (new : Shown) (e : Ending) : Type 0 where
     pub log : Log Token
     pub prefix : IsPrefixOfMeaning rows no_meetings plan first log
-    pub shut : (k : ℕ) → LogBelow log (meaning k rows no_meetings plan first) → IsClosedRun rows no_meetings plan first (meaning k rows no_meetings plan first) log
+    pub under_way : UnderWay Token
+    pub shut : (k : ℕ) → LogBelow log (meaning k rows no_meetings plan first) → IsClosedRun rows no_meetings plan first (meaning k rows no_meetings plan first) log under_way
     pub kept : GrewBy log (kept_of top) (kept_of new)
-    pub caused : IsCaused rows no_meetings plan first budget no_queues log e
+    pub caused : IsCaused rows no_meetings plan first budget no_queues log under_way e
 
   pub reported : IsRunnable takes top → (budget : ℕ) (new : Shown) (e : Ending) → outline_of new ≡ outline_of top → IsLogOf budget new e → (count : ℕ) →
-      IsReportOf rows no_meetings plan first (ports_of (recorded_ports count top)) budget no_queues (traces_of (recorded_ports count new)) e
+      IsReportOf rows no_meetings plan first (ports_of (recorded_ports count top)) budget no_queues (counts_of new) (traces_of (recorded_ports count new)) e
   unfolding after
   reported run budget new e o l count = record {
     log = l.log;
+    counted = λ p. omega (arith, (l.kept p).count, none-at top run.leaves run.start p);
     legal = λ p n. (0, refl);
     met = λ p n. sym (no-meetings n (l.log p) (finished-before (l.log p) (meaning l.prefix.0 rows no_meetings plan first p) (l.prefix.1 p) (meaning-unmet rows no_meetings plan first (sdf-node top) l.prefix.0 p)));
     prefix = l.prefix;
+    under_way = l.under_way;
     shut = l.shut;
     told = traces-are l.log count top new run.unrecorded o l.kept;
     caused = l.caused;
@@ -188,8 +191,8 @@ module _ (iterations : ℕ) (takes : List ℕ) (inputs : Streams Token) (top : S
   whole-below : (n : ℕ) (now : Shown) (r : Reached n now) → (k : ℕ) → r.goes.0 ≤ k → n ≤ k → LogBelow r.log (meaning k rows no_meetings plan first)
   whole-below n now r k o l = λ p. subst (λ (s : Standing Token LibraryActor). IsPrefix (log_of s p) (meaning k rows no_meetings plan first p)) (r.goes.1 k o) (after-below rows rows_lawful no_meetings plan first k n l p)
 
-  whole-shut : IsRunnable takes top → (n : ℕ) (now : Shown) (r : Reached n now) → (k : ℕ) → LogBelow r.log (meaning k rows no_meetings plan first) → IsClosedRun rows no_meetings plan first (meaning k rows no_meetings plan first) r.log
-  whole-shut run n now r k b = (runs-are-shut {T = Token} {A = LibraryActor}).between rows rows_lawful no_meetings plan first n (course_at n now r.log) (reached run n now r) k b
+  whole-shut : IsRunnable takes top → (n : ℕ) (now : Shown) (r : Reached n now) → (way : UnderWay Token) × ((k : ℕ) → LogBelow r.log (meaning k rows no_meetings plan first) → IsClosedRun rows no_meetings plan first (meaning k rows no_meetings plan first) r.log way)
+  whole-shut run n now r = (runs-are-shut {T = Token} {A = LibraryActor}).between rows rows_lawful no_meetings plan first n (course_at n now r.log) (reached run n now r)
 
   -- a defined end
   module _ (run : IsRunnable takes top) (n : ℕ) (now : Shown) (r : Reached n now) (e : End) (turn : plan n (last_tag n) (node_of now) ≡ job.Ends e) (budget : ℕ) (few : view.count_of now < budget) where
@@ -204,7 +207,8 @@ module _ (iterations : ℕ) (takes : List ℕ) (inputs : Streams Token) (top : S
         record {
           log = r.log;
           prefix = (k₁, whole-below n now r k₁ (omega arith) (omega arith));
-          shut = whole-shut run n now r;
+          under_way = (whole-shut run n now r).0;
+          shut = (whole-shut run n now r).1;
           kept = r.kept;
           caused = (
             (k₁, λ k o p. sym (ap (λ (s : Standing Token LibraryActor). log_of s p) (ends-at k o))),
@@ -230,14 +234,15 @@ module _ (iterations : ℕ) (takes : List ℕ) (inputs : Streams Token) (top : S
       record {
         log = r.log;
         prefix = (k₁, whole-below n now r k₁ (omega arith) (omega arith));
-        shut = whole-shut run n now r;
+        under_way = (whole-shut run n now r).0;
+        shut = (whole-shut run n now r).1;
         kept = r.kept;
         caused = (e ∙ count-is top now r.log run.leaves run.start r.outline r.kept, b);
       }
 
   -- the run was left off within a firing, with a part of its log
-  module _ (run : IsRunnable takes top) (n : ℕ) (now : Shown) (r : Reached n now) (l : n < iterations) (s : suffice n takes inputs ≡ true) (log : Log Token)
-      (part : IsShut rows no_meetings (node_of now) origin (portions n takes inputs) log) (beginning : FromSome (λ k. LogBelow log (log_in (Step k rows no_meetings (node_of now) origin (portions n takes inputs))))) where
+  module _ (run : IsRunnable takes top) (n : ℕ) (now : Shown) (r : Reached n now) (l : n < iterations) (s : suffice n takes inputs ≡ true) (place : Option Fault) (log : Log Token)
+      (part : IsShut rows no_meetings (node_of now) origin (portions n takes inputs) place log) (beginning : FromSome (λ k. LogBelow log (log_in (Step k rows no_meetings (node_of now) origin (portions n takes inputs))))) where
     pub within-below : (k : ℕ) → max (max r.goes.0 beginning.0) (suc n) ≤ k → LogBelow (log_then r.log log) (meaning k rows no_meetings plan first)
     within-below k o p =
         let step = Step k rows no_meetings (node_of now) origin (portions n takes inputs) in
@@ -246,35 +251,37 @@ module _ (iterations : ℕ) (takes : List ℕ) (inputs : Streams Token) (top : S
         (IsPrefix-after (r.log p) (log p) (log_in step p) (beginning.1 k (omega (arith, o)) p))
         (subst (λ (v : Log Token). IsPrefix (v p) (meaning k rows no_meetings plan first p)) is (after-below rows rows_lawful no_meetings plan first k (suc n) (omega (arith, o)) p))
 
-    pub within-shut : (k : ℕ) → LogBelow (log_then r.log log) (meaning k rows no_meetings plan first) → IsClosedRun rows no_meetings plan first (meaning k rows no_meetings plan first) (log_then r.log log)
-    within-shut k b = (runs-are-shut {T = Token} {A = LibraryActor}).within rows rows_lawful no_meetings plan first n (course_at n now r.log) (reached run n now r) origin (portions n takes inputs) (fires-next n l s (last_tag n) (node_of now)) log part beginning k b
+    pub within-shut : (way : UnderWay Token) × ((k : ℕ) → LogBelow (log_then r.log log) (meaning k rows no_meetings plan first) → IsClosedRun rows no_meetings plan first (meaning k rows no_meetings plan first) (log_then r.log log) way) × ((f : Fault) → place ≡ Some f → IsUpTo (log_then r.log log) way f)
+    within-shut = (runs-are-shut {T = Token} {A = LibraryActor}).within rows rows_lawful no_meetings plan first n (course_at n now r.log) (reached run n now r) origin (portions n takes inputs) (fires-next n l s (last_tag n) (node_of now)) place log part beginning
 
-    pub left-off : (budget : ℕ) (new : Shown) (e : Ending) → GrewBy log (kept_of now) (kept_of new) → IsCaused rows no_meetings plan first budget no_queues (log_then r.log log) e → IsLogOf budget new e
+    pub left-off : (budget : ℕ) (new : Shown) (e : Ending) → GrewBy log (kept_of now) (kept_of new) → IsCaused rows no_meetings plan first budget no_queues (log_then r.log log) within-shut.0 e → IsLogOf budget new e
     left-off budget new e k c = record {
       log = log_then r.log log;
       prefix = (max (max r.goes.0 beginning.0) (suc n), within-below (max (max r.goes.0 beginning.0) (suc n)) (omega arith));
-      shut = within-shut;
+      under_way = within-shut.0;
+      shut = within-shut.1;
       kept = grew-joined r.log log (kept_of top) (kept_of now) (kept_of new) r.kept k;
       caused = c;
     }
 
   -- the budget is spent within a firing
   pub spent-within : IsRunnable takes top → (n : ℕ) (now : Shown) → Reached n now → n < iterations → suffice n takes inputs ≡ true → (X : Streams Token) → X ≡ portions n takes inputs → (budget count : ℕ) (new : Shown) → outline_of new ≡ outline_of now →
-      LeavesOff (λ k. Step k rows no_meetings (node_of now) origin X) (IsShut rows no_meetings (node_of now) origin X) (kept_of now) (kept_of new) → count ≡ view.count_of new → budget ≤ count → IsLogOf budget new (Spent count)
+      LeavesOff (λ k. Step k rows no_meetings (node_of now) origin X) (IsShut rows no_meetings (node_of now) origin X None) (kept_of now) (kept_of new) → count ≡ view.count_of new → budget ≤ count → IsLogOf budget new (Spent count)
   spent-within run n now r l s X e budget count new o a c b =
-      let f : LeavesOff (λ k. Step k rows no_meetings (node_of now) origin (portions n takes inputs)) (IsShut rows no_meetings (node_of now) origin (portions n takes inputs)) (kept_of now) (kept_of new) =
-      subst (λ Y. LeavesOff (λ k. Step k rows no_meetings (node_of now) origin Y) (IsShut rows no_meetings (node_of now) origin Y) (kept_of now) (kept_of new)) e a in
+      let f : LeavesOff (λ k. Step k rows no_meetings (node_of now) origin (portions n takes inputs)) (IsShut rows no_meetings (node_of now) origin (portions n takes inputs) None) (kept_of now) (kept_of new) =
+      subst (λ Y. LeavesOff (λ k. Step k rows no_meetings (node_of now) origin Y) (IsShut rows no_meetings (node_of now) origin Y None) (kept_of now) (kept_of new)) e a in
       let kept : GrewBy (log_then r.log f.log) (kept_of top) (kept_of new) = grew-joined r.log f.log (kept_of top) (kept_of now) (kept_of new) r.kept f.kept in
-      left-off run n now r l s f.log f.part f.beginning budget new (Spent count) f.kept (c ∙ count-is top new (log_then r.log f.log) run.leaves run.start (o ∙ r.outline) kept, b)
+      left-off run n now r l s None f.log f.part f.beginning budget new (Spent count) f.kept (c ∙ count-is top new (log_then r.log f.log) run.leaves run.start (o ∙ r.outline) kept, b)
 
   -- a firing is stuck
   pub stuck-within : IsRunnable takes top → (n : ℕ) (now : Shown) → Reached n now → n < iterations → suffice n takes inputs ≡ true → (X : Streams Token) → X ≡ portions n takes inputs → (budget : ℕ) (new : Shown) (f : Fault) →
-      SticksAt (λ k. Step k rows no_meetings (node_of now) origin X) (IsShut rows no_meetings (node_of now) origin X) f (kept_of now) (kept_of new) → IsLogOf budget new (Faulty f)
+      SticksAt (λ k. Step k rows no_meetings (node_of now) origin X) (IsShut rows no_meetings (node_of now) origin X (Some f)) f (kept_of now) (kept_of new) → IsLogOf budget new (Faulty f)
   stuck-within run n now r l s X e budget new f a =
-      let P : Streams Token → Type 0 = λ Y. SticksAt (λ k. Step k rows no_meetings (node_of now) origin Y) (IsShut rows no_meetings (node_of now) origin Y) f (kept_of now) (kept_of new) in
+      let P : Streams Token → Type 0 = λ Y. SticksAt (λ k. Step k rows no_meetings (node_of now) origin Y) (IsShut rows no_meetings (node_of now) origin Y (Some f)) f (kept_of now) (kept_of new) in
       let g : P (portions n takes inputs) = subst P e a in
       let k₁ : ℕ = max (max r.goes.0 g.stuck.0) (suc n) in
       let there = g.stuck.1 k₁ (omega arith) in
       let halts : after k₁ rows no_meetings plan (suc n) (begin first) ≡ Halted there.0 (log_then r.log there.1) = turned n now r l s k₁ (omega arith) ∙ ap (λ v. on_step (course_at n now r.log) origin v) there.2 in
-      left-off run n now r l s g.log g.part (g.stuck.0, λ k o. let at = g.stuck.1 k o in subst (λ v. LogBelow g.log (log_in v)) (sym at.2) at.4) budget new (Faulty f) g.kept
-      (k₁, there.0, log_then r.log there.1, halted-at rows no_meetings plan first k₁ (suc n) there.0 (log_then r.log there.1) (omega arith) halts, there.3)
+      let begins : FromSome (λ k. LogBelow g.log (log_in (Step k rows no_meetings (node_of now) origin (portions n takes inputs)))) = (g.stuck.0, λ k o. let at = g.stuck.1 k o in subst (λ v. LogBelow g.log (log_in v)) (sym at.2) at.4) in
+      left-off run n now r l s (Some f) g.log g.part begins budget new (Faulty f) g.kept
+      ((k₁, there.0, log_then r.log there.1, halted-at rows no_meetings plan first k₁ (suc n) there.0 (log_then r.log there.1) (omega arith) halts, there.3), (within-shut run n now r l s (Some f) g.log g.part begins).2 f refl)

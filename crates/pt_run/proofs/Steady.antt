@@ -5,14 +5,14 @@ use Rattle.pt_meaning.specs.Node.{Answer, Gives, Fails}
 use Rattle.pt_meaning.specs.Closed.{on_answer}
 use Rattle.pt_value.specs.declared.token.Token.{Token}
 use Rattle.pt_firing.specs.Row.{fits_i64, exactly, rests, on_present, number_at}
-use Rattle.pt_lib_flow.specs.declared.ramp.Ramp.{Ramp}
-use Rattle.pt_lib_flow.specs.declared.scale.Scale.{Scale}
-use Rattle.pt_lib_flow.specs.declared.limit.Limit.TheVariants.{Endless}
+use Rattle.pt_flow_numbers.specs.declared.ramp.Ramp.{Ramp}
+use Rattle.pt_flow_numbers.specs.declared.scale.Scale.{Scale}
+use Rattle.pt_flow_base.specs.declared.limit.Limit.TheVariants.{Endless}
 use Rattle.pt_lib_flow.specs.declared.flow_actor.FlowActor.TheVariants as flow
 use Rattle.pt_lib_flow.specs.FlowActor as flow_actor
-use Rattle.pt_lib_flow.specs.Limit.{is_over, is_called, after_one, source_need}
-use Rattle.pt_lib_flow.specs.Ramp as ramp
-use Rattle.pt_lib_flow.specs.Scale as scale
+use Rattle.pt_flow_base.specs.Limit.{is_over, is_called, after_one, source_need}
+use Rattle.pt_flow_numbers.specs.Ramp as ramp
+use Rattle.pt_flow_numbers.specs.Scale as scale
 use Rattle.pt_library.specs.declared.library_actor.LibraryActor.{LibraryActor}
 use Rattle.pt_library.specs.declared.library_actor.LibraryActor.TheVariants.{Flow}
 use Rattle.pt_library.specs.LibraryActor as library

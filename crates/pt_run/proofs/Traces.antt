@@ -7,8 +7,8 @@ use Rattle.pt_records.specs.Kept.{kept_at, EntryGrew, GrewBy, TracesGrew}
 use Rattle.pt_node.specs.Recorded.{RecordedPort, trace_of}
 use Rattle.pt_node.specs.Shown.{Shown, AllShown, Branch, none, more}
 use Rattle.pt_node.specs.View.{kept_of, kepts_of, Heading, heading_of, outline_of, outlines_of}
-use Rattle.pt_run.specs.Ports.{Listed, own_ports, seen_below, ports_in, ports_below, listed_if, of_number, by_number, recorded_ports, ports_of, traces_of}
-use Rattle.pt_run.specs.Start.{AreUntold, IsUnrecorded, AllUnrecorded}
+use Rattle.pt_trees.specs.Ports.{Listed, own_ports, seen_below, ports_in, ports_below, listed_if, of_number, by_number, recorded_ports, ports_of, traces_of}
+use Rattle.pt_trees.specs.Start.{AreUntold, IsUnrecorded, AllUnrecorded}
 
 -- the same port, with what the log gives on it
 pub record IsTold (log : Log Token) (x y : Listed) : Type 0 where

@@ -6,7 +6,7 @@ use Rattle.pt_node.specs.Recorded.{RecordedPort}
 use Rattle.pt_node.specs.Shown.{Shown, shown, shown_node, all_of}
 use Rattle.pt_node.specs.View.{depth, depths, outline_of, outlines_of}
 use Rattle.pt_node.proofs.Link.{shown-node}
-use Rattle.pt_run.specs.Ports.{outputs_in, outputs_below, AreBelow, told, filled}
+use Rattle.pt_trees.specs.Ports.{outputs_in, outputs_below, AreBelow, told, filled}
 use Rattle.pt_run.proofs.Gathering.{filled-append, filled-length, below-left, below-right}
 
 pub drop-more : {A : Type 0} (xs : List A) (k : ℕ) (d : A) → k < length xs → d ≡ get_or xs k d → drop k xs ≡ d ∷ drop (k + 1) xs

@@ -3,7 +3,7 @@ use Rattle.std.specs.Prelude.{ℕ, List, [], ◌∷◌, true, pos}
 use Rattle.pt_meaning.specs.Net.{Output}
 use Rattle.pt_meaning.specs.Sdf.{SdfPlan}
 use Rattle.pt_meaning.specs.Tree.{unfired}
-use Rattle.pt_lib_flow.specs.declared.limit.Limit.TheVariants.{Endless}
+use Rattle.pt_flow_base.specs.declared.limit.Limit.TheVariants.{Endless}
 use Rattle.pt_lib_flow.specs.declared.flow_actor.FlowActor.TheVariants.{Ramp, Scale}
 use Rattle.pt_sdf.specs.Clauses.{State}
 use Rattle.pt_sdf.specs.State.{started}

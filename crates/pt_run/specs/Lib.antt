@@ -1,5 +1,1 @@
-pub mod Ports
-pub mod Start
-pub mod Run
-pub mod Report
 pub mod Example

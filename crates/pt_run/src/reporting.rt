@@ -1,12 +1,12 @@
 ghost use Rattle.std.specs.Prelude.{◌≡◌, length, replicate, [], IfOk, OnOk};
 ghost use Rattle.pt_node.specs.Shown.{shown_node};
-ghost use Rattle.pt_run.specs.Ports.{AreBelow, AreNumbered, NumbersStay, outputs_in, recorded_ports, told, told_of, filled};
-ghost use Rattle.pt_run.specs.Report.{end_of};
+ghost use Rattle.pt_trees.specs.Ports.{AreBelow, AreNumbered, NumbersStay, outputs_in, recorded_ports, told, told_of, filled};
+ghost use Rattle.pt_trees.specs.Report.{end_of};
 
-use crate::ended::Ended;
 use pt_node::{Node, Recorded};
 use pt_time::Tag;
 use pt_trace::{Report, RunEnd, Trace};
+use pt_trees::Ended;
 use pt_value::{Text, Token};
 use std::alloc::{AllocError, Global};
 

@@ -1,15 +1,15 @@
 ghost use Rattle.std.specs.Prelude.{◌≡◌, ◌<◌, length, IfOk};
 ghost use Rattle.pt_node.specs.Shown.{shown_node};
 ghost use Rattle.pt_node.specs.View.{node_of, outline_of};
-ghost use Rattle.pt_run.specs.Start.{IsRunnable};
-ghost use Rattle.pt_run.specs.Run.{IsRun, IsAffordable, IsDefined};
+ghost use Rattle.pt_trees.specs.Start.{IsRunnable};
+ghost use Rattle.pt_trees.specs.Run.{IsRun, IsAffordable, IsDefined};
 
-use crate::ended::Ended;
-use crate::job::SdfJob;
+use crate::iteration::{has_enough, portions};
 use pt_firing::{Answer, Inputs};
 use pt_node::Node;
 use pt_seq::fire_within;
 use pt_time::Tag;
+use pt_trees::{Ended, SdfJob};
 use std::alloc::{AllocError, Global};
 
 /// The tag of each firing of an SDF top.
@@ -26,10 +26,10 @@ pub fn run(alloc: Global, top: &mut Node, job: &SdfJob, budget: u64) -> Result<E
 {
     let mut left = budget;
     for iteration in 0..job.iterations {
-        if !job.suffices(iteration) {
+        if !has_enough(job, iteration) {
             return Ok(Ended::Inputs);
         }
-        let inputs = job.portions(alloc, iteration)?;
+        let inputs = portions(alloc, job, iteration)?;
         match fire_within(alloc, top, ORIGIN, &Inputs::of(&inputs), &mut left) {
             Answer::Done(_) => {}
             Answer::Fault(place) => return Ok(Ended::Fault(place)),

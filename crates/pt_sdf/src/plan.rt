@@ -34,6 +34,30 @@ pub struct CorePlan {
     pub room: Counts,
 }
 
+/// What a plan says of the children.
+#[derive(Drop)]
+struct ChildRates {
+    places: Counts,
+    needs: Counts,
+    rates: Vec<Counts>,
+}
+
+/// What a plan says of an iteration.
+#[derive(Drop)]
+struct IterationCounts {
+    repetitions: Counts,
+    takes: Counts,
+    gives: Counts,
+}
+
+/// What a plan says of the channels, and the order of the firings.
+#[derive(Drop)]
+struct ChannelLists {
+    sources: Vec<Source>,
+    order: Vec<u32>,
+    room: Counts,
+}
+
 impl CorePlan {
     ghost use Rattle.std.specs.Prelude.{◌≡◌, length, IfOk};
     ghost use Rattle.pt_sdf.specs.Plan.{IsSamePlan};
@@ -42,14 +66,53 @@ impl CorePlan {
     pub fn copy(&self, alloc: Global) -> Result<CorePlan, AllocError>
         ensures { IfOk result (λ plan. IsSamePlan self.now plan) }
     {
+        let children = self.child_rates(alloc)?;
+        let iteration = self.iteration_counts(alloc)?;
+        let channels = self.channel_lists(alloc)?;
         Ok(CorePlan {
-            sources: Vec::from_slice(alloc, &self.sources)?,
+            sources: channels.sources,
+            places: children.places,
+            needs: children.needs,
+            rates: children.rates,
+            repetitions: iteration.repetitions,
+            takes: iteration.takes,
+            gives: iteration.gives,
+            order: channels.order,
+            room: channels.room,
+        })
+    }
+
+    fn child_rates(&self, alloc: Global) -> Result<ChildRates, AllocError>
+        ensures places { IfOk result (λ copy. copy.places ≡ self.now.places) }
+        ensures needs { IfOk result (λ copy. copy.needs ≡ self.now.needs) }
+        ensures rates { IfOk result (λ copy. copy.rates.items ≡ self.now.rates.items) }
+    {
+        Ok(ChildRates {
             places: self.places.copy(alloc)?,
             needs: self.needs.copy(alloc)?,
             rates: copies(alloc, &self.rates)?,
+        })
+    }
+
+    fn iteration_counts(&self, alloc: Global) -> Result<IterationCounts, AllocError>
+        ensures repetitions { IfOk result (λ copy. copy.repetitions ≡ self.now.repetitions) }
+        ensures takes { IfOk result (λ copy. copy.takes ≡ self.now.takes) }
+        ensures gives { IfOk result (λ copy. copy.gives ≡ self.now.gives) }
+    {
+        Ok(IterationCounts {
             repetitions: self.repetitions.copy(alloc)?,
             takes: self.takes.copy(alloc)?,
             gives: self.gives.copy(alloc)?,
+        })
+    }
+
+    fn channel_lists(&self, alloc: Global) -> Result<ChannelLists, AllocError>
+        ensures sources { IfOk result (λ copy. copy.sources.items ≡ self.now.sources.items) }
+        ensures order { IfOk result (λ copy. copy.order.items ≡ self.now.order.items) }
+        ensures room { IfOk result (λ copy. copy.room ≡ self.now.room) }
+    {
+        Ok(ChannelLists {
+            sources: Vec::from_slice(alloc, &self.sources)?,
             order: Vec::from_slice(alloc, &self.order)?,
             room: self.room.copy(alloc)?,
         })

@@ -7,7 +7,7 @@ use crate::outlets::hand_out;
 use crate::plan::CorePlan;
 use crate::rooms::rooms_for;
 use crate::scatter::{copies_of, scatter};
-use crate::tables::{Tables, copies_of_lists, empty_lists, make_ready, turns_of};
+use crate::tables::{Tables, turns_of};
 use crate::turns::iterations;
 use pt_firing::{Ask, Counts, Inputs, IntInputs, Outputs, RunFault, Tokens};
 use pt_recv::{Channels, Queue};
@@ -16,7 +16,10 @@ use pt_value::Token;
 use std::alloc::{AllocError, Global};
 use std::marker::Model;
 
+mod made;
 mod telling;
+
+use made::{at_first, parts_again};
 
 /// The tag of a core that hasn't begun.
 const ORIGIN: Tag = Tag { time: 0, step: 0 };
@@ -108,22 +111,29 @@ impl Core {
         ensures { IfOk result (λ core. core ≡ started (plan_of plan) plan.needs first.lists) }
     {
         let mut first = first;
-        make_ready(&mut first, plan.room.as_slice())?;
-        Ok(Core {
-            tables: Tables::of(alloc, &plan)?,
-            channels: first.copy(alloc)?,
-            rooms: rooms_for(alloc, plan.needs.as_slice())?,
-            lent: empty_lists(alloc, plan.needs.as_slice().len())?,
-            heavy: Span::NONE,
-            staged: Queue::new(alloc),
-            tag: ORIGIN,
-            turns: 0,
-            left: 0,
-            at: 0,
-            stage: Stage::Idle,
-            first,
-            plan,
-        })
+        match at_first(alloc, &plan, &mut first) {
+            Ok((made, lent)) => Ok(Core {
+                tables: made.tables,
+                channels: made.channels,
+                rooms: made.rooms,
+                lent,
+                heavy: Span::NONE,
+                staged: Queue::new(alloc),
+                tag: ORIGIN,
+                turns: 0,
+                left: 0,
+                at: 0,
+                stage: Stage::Idle,
+                first,
+                plan,
+            }),
+            // Let go by calls, which keeps what that takes out of the proof.
+            Err(fault) => {
+                drop(first);
+                drop(plan);
+                Err(fault)
+            }
+        }
     }
 
     /// Begins a firing of the composite at a tag, on a list for each own input. After an `Err` the core is as before.
@@ -301,21 +311,27 @@ impl Core {
         ensures { IfOk result (λ core. core ≡ self.now) }
     {
         let plan = self.plan.copy(alloc)?;
-        Ok(Core {
-            tables: Tables::of(alloc, &plan)?,
-            first: self.first.copy(alloc)?,
-            channels: self.channels.copy(alloc)?,
-            rooms: rooms_for(alloc, plan.needs.as_slice())?,
-            lent: copies_of_lists(alloc, &self.lent)?,
-            heavy: self.heavy,
-            staged: Queue::new(alloc),
-            tag: self.tag,
-            turns: self.turns,
-            left: self.left,
-            at: self.at,
-            stage: self.stage,
-            plan,
-        })
+        match parts_again(alloc, &plan, &self.first, &self.channels, &self.lent) {
+            Ok(copied) => Ok(Core {
+                tables: copied.made.tables,
+                channels: copied.made.channels,
+                rooms: copied.made.rooms,
+                lent: copied.lent,
+                heavy: self.heavy,
+                staged: Queue::new(alloc),
+                tag: self.tag,
+                turns: self.turns,
+                left: self.left,
+                at: self.at,
+                stage: self.stage,
+                first: copied.first,
+                plan,
+            }),
+            Err(fault) => {
+                drop(plan);
+                Err(fault)
+            }
+        }
     }
 
     /// Whether no firing of the composite is under way.

@@ -1,5 +1,5 @@
 -- What a call answers, from the firing that isn't recorded yet.
-use Rattle.std.proofs.Common.{◌≡◌, ℕ, false, ◌+◌, sym, subst, arith, Result, Ok, Err, is_err}
+use Rattle.std.proofs.Common.{◌≡◌, ℕ, false, ◌+◌, None, sym, subst, arith, Result, Ok, Err, is_err}
 use Rattle.std.specs.Prelude.{IfOk}
 use Rattle.pt_meaning.specs.Basics.{Tag, Streams}
 use Rattle.pt_meaning.specs.Meetings.{Meets}
@@ -15,7 +15,8 @@ use Rattle.pt_node.specs.Firing as firing
 use Rattle.pt_node.specs.Live.{IsLive}
 use Rattle.pt_node.specs.View.{node_of, kept_of, count_of}
 use Rattle.pt_seq.specs.declared.fire.Within.TheVariants as within
-use Rattle.pt_seq.specs.Within.{IsLeftOff, fired, fault_of, WithinTo, StaysFit, AnswersTo}
+use Rattle.pt_seq.specs.Within.{IsLeftOff, fired, WithinTo, StaysFit, AnswersTo}
+use Rattle.pt_node.specs.Stuck.{fault_of}
 use Rattle.pt_seq.proofs.Turns.{off-done, step-off, step-stuck, step-fires, live-recorded, kept-bare}
 
 pub if-ok : {A E : Type 0} (r : Result A E) (P : Type 0) → is_err r ≡ false → IfOk r (λ _. P) → P
@@ -26,7 +27,7 @@ module _ (old new : Shown) (tag : Tag) (X : Streams Token) (allowance : ℕ) whe
   pub seq-fault : (place : Place) → WithinTo old tag X (within.Fault place) new → AnswersTo old tag X allowance (answer.Fault place) new
   seq-fault place w = λ m. let k = w m in (k.0, k.1, step-stuck m (node_of old) tag X (fault_of k.0 place) (kept_of old) (kept_of new) k.2)
 
-  pub seq-off : ((m : Meets) → IsLeftOff m (node_of old) tag X (kept_of old) (kept_of new)) → (m : Meets) → LeavesOff (λ k. Step k rows m (node_of old) tag X) (IsShut rows m (node_of old) tag X) (kept_of old) (kept_of new)
+  pub seq-off : ((m : Meets) → IsLeftOff m (node_of old) tag X (kept_of old) (kept_of new)) → (m : Meets) → LeavesOff (λ k. Step k rows m (node_of old) tag X) (IsShut rows m (node_of old) tag X None) (kept_of old) (kept_of new)
   seq-off w m = step-off m (node_of old) tag X (kept_of old) (kept_of new) (w m)
 
   off-after : (out : Streams Token) → WithinTo old tag X (within.Done out) new → (m : Meets) → IsLeftOff m (node_of old) tag X (kept_of old) (kept_of new)
@@ -39,7 +40,7 @@ module _ (old new : Shown) (tag : Tag) (X : Streams Token) (allowance : ℕ) whe
   seq-spent-done out left w z c = seq-spent left (off-after out w) z c
 
   pub seq-memory-done : (out : Streams Token) (after : Shown) → WithinTo old tag X (within.Done out) new → firing.bare after ≡ firing.bare new → AnswersTo old tag X allowance answer.Memory after
-  seq-memory-done out after w e = λ m. subst (λ k. LeavesOff (λ k. Step k rows m (node_of old) tag X) (IsShut rows m (node_of old) tag X) (kept_of old) k) (sym (kept-bare after new e)) (seq-off (off-after out w) m)
+  seq-memory-done out after w e = λ m. subst (λ k. LeavesOff (λ k. Step k rows m (node_of old) tag X) (IsShut rows m (node_of old) tag X None) (kept_of old) k) (sym (kept-bare after new e)) (seq-off (off-after out w) m)
 
   pub seq-done : (out : Streams Token) (after : Shown) → WithinTo old tag X (within.Done out) new → StaysFit old (within.Done out) new → after ≡ firing.recorded tag (firing.noted tag out new) → AnswersTo old tag X allowance (answer.Done out) after
   seq-done out after w f e = (

@@ -36,7 +36,8 @@ use Rattle.pt_node.specs.View as view
 use Rattle.pt_node.specs.View.{Tree, Heading, node_of, nodes_of, kept_of, kepts_of, outline_of, outlines_of, text_at, text_below, count_of, counts_of}
 use Rattle.pt_node.specs.Live.{IsFit, AllFit, IsReady}
 use Rattle.pt_library.proofs.RowLaws.{rows_lawful}
-use Rattle.pt_seq.specs.Within.{outcome, IsLeftOff, IsStuckIn, sdf_node, IsStuck, fault_of, StaysSteady}
+use Rattle.pt_seq.specs.Within.{outcome, IsLeftOff, IsStuckIn, sdf_node, IsStuck, StaysSteady}
+use Rattle.pt_node.specs.Stuck.{fault_of}
 use Rattle.pt_seq.specs.Between.{Going}
 use Rattle.pt_seq.proofs.Children.{nodes-set, kepts-set, kepts-at, nodes-get, kepts-long, nodes-long, nodes-again, fit-set, steady-get, steady-set, text-get, needs-set}
 

@@ -1,5 +1,5 @@
 -- A turn of a child, and what a firing comes to once it is recorded.
-use Rattle.std.proofs.Common.{◌≡◌, ℕ, zero, suc, ◌+◌, ◌<◌, ◌≤◌, List, [], ◌∷◌, ◌++◌, Bool, true, false, length, map, set, take, drop, Option, Some, refl, sym, ap, subst, ◌∙◌, arith, inl, inr, length-append}
+use Rattle.std.proofs.Common.{◌≡◌, ℕ, zero, suc, ◌+◌, ◌<◌, ◌≤◌, List, [], ◌∷◌, ◌++◌, Bool, true, false, length, map, set, take, drop, Option, Some, None, refl, sym, ap, subst, ◌∙◌, arith, inl, inr, length-append}
 use Rattle.std.proofs.lemmas.List.{length-take-le}
 use Rattle.pt_meaning.specs.Basics.{Tag, Streams, Log, LogBelow, Firing, silent, log_then, own}
 use Rattle.pt_meaning.specs.Streams.{get}
@@ -24,7 +24,7 @@ use Rattle.pt_firing.specs.RunFault.{code_of}
 use Rattle.pt_records.specs.Kept.{Kept, Entry, kept_by, GrewBy, TracesTold}
 use Rattle.pt_records.specs.Fired.{FiresTo, SticksAt, LeavesOff}
 use Rattle.pt_records.specs.Shut.{IsShut}
-use Rattle.pt_records.proofs.ShutSteps.{nothing-is-shut, stepped-is-shut}
+use Rattle.pt_records.proofs.ShutSteps.{nothing-is-shut, stepped-is-shut, at-own-place}
 use Rattle.pt_library.proofs.RowLaws.{rows_lawful}
 use Rattle.pt_records.proofs.GrowthLaws.{grew-none, grew-joined, grew-record}
 use Rattle.pt_sdf.specs.State.{Idle, Closed, lent_in, lent_of, left_of, in_stage, begun, asked, if_told, own_of, owed, closed}
@@ -49,7 +49,8 @@ use Rattle.pt_seq.specs.declared.fire.Within.{Within}
 use Rattle.pt_seq.specs.declared.fire.Within.TheVariants.{Done, Fault, Spent, Memory}
 use Rattle.pt_seq.specs.declared.turn.Turn.{Turn}
 use Rattle.pt_seq.specs.declared.turn.Turn.TheVariants as turn
-use Rattle.pt_seq.specs.Within.{outcome, IsLeftOff, IsStuckIn, fired, sdf_node, IsStuck, fault_of, WithinTo, StaysSteady, StaysFit, SdfTo, SdfStaysFit, ChildFired, TurnTo, TellTo, FinishTo, ActorTo, DirectorTo, DirectorStaysFit, path_of, made_of}
+use Rattle.pt_seq.specs.Within.{outcome, IsLeftOff, IsStuckIn, fired, sdf_node, IsStuck, WithinTo, StaysSteady, StaysFit, SdfTo, SdfStaysFit, ChildFired, TurnTo, TellTo, FinishTo, ActorTo, DirectorTo, DirectorStaysFit, path_of, made_of}
+use Rattle.pt_node.specs.Stuck.{fault_of}
 use Rattle.pt_seq.specs.Between.{At, Between}
 use Rattle.pt_seq.proofs.Children.{nodes-get, outlines-set, counts-set, steady-get}
 use Rattle.pt_seq.proofs.SdfFiring.{children-long, begun-going, going-on, asked-now, left-between, left-within, stuck-within, unrated-within, sdf-done}
@@ -63,7 +64,7 @@ off-done m n tag X next out old new f = record {
   log = f.log;
   beginning = (f.done.0, λ k l p. subst (λ r. LogBelow f.log (log_in r)) (sym (f.done.1 k l)) (λ q. IsPrefix-refl (f.log q)) p);
   kept = f.kept;
-  part = subst (λ r. IsShut rows m n tag X (log_in r)) (f.done.1 f.done.0 (omega arith)) (stepped-is-shut rows rows_lawful m n f.done.0 (tree.height n) (omega arith) tag X);
+  part = subst (λ r. IsShut rows m n tag X None (log_in r)) (f.done.1 f.done.0 (omega arith)) (stepped-is-shut rows rows_lawful m n f.done.0 (tree.height n) (omega arith) tag X);
 }
 
 -- with the node's own record
@@ -71,10 +72,10 @@ recorded-begins : {S : Type 0} (n : ℕ) (tag : Tag) (X : Streams Token) (l : Lo
 recorded-begins n tag X l (machine.Done s out k) b p = IsPrefix-trans (l p) (k p) _ (b p) (IsPrefix-append (k p) (own (record { number = n; tag = tag; inputs = X; outputs = out }) p))
 recorded-begins n tag X l (machine.Stuck fs k) b p = b p
 
-pub step-off : (m : Meets) (n : Tree) (tag : Tag) (X : Streams Token) (old new : Kept Token) → IsLeftOff m n tag X old new → LeavesOff (λ k. Step k rows m n tag X) (IsShut rows m n tag X) old new
+pub step-off : (m : Meets) (n : Tree) (tag : Tag) (X : Streams Token) (old new : Kept Token) → IsLeftOff m n tag X old new → LeavesOff (λ k. Step k rows m n tag X) (IsShut rows m n tag X None) old new
 step-off m n tag X old new f = record { log = f.log; beginning = (f.beginning.0, λ k l. recorded-begins (tree.made_of n) tag X f.log (outcome m n tag X k) (f.beginning.1 k l)); kept = f.kept; part = f.part }
 
-pub step-stuck : (m : Meets) (n : Tree) (tag : Tag) (X : Streams Token) (f : machine.Fault) (old new : Kept Token) → IsStuckIn m n tag X f old new → SticksAt (λ k. Step k rows m n tag X) (IsShut rows m n tag X) f old new
+pub step-stuck : (m : Meets) (n : Tree) (tag : Tag) (X : Streams Token) (f : machine.Fault) (old new : Kept Token) → IsStuckIn m n tag X f old new → SticksAt (λ k. Step k rows m n tag X) (IsShut rows m n tag X (Some f)) f old new
 step-stuck m n tag X f old new s = record {
   log = s.log;
   stuck = (s.stuck.0, λ k l. let r = s.stuck.1 k l in (r.0, r.1, ap (λ v. recorded (tree.made_of n) tag X v) r.2, r.3, r.4));
@@ -209,7 +210,7 @@ actor-goes f held held' ks tag X (Fault place) a = λ m.
         log = silent;
         stuck = (0, λ k l. (record { path = []; firing = f.past.made; code = code_of place.kind } ∷ [], silent, actor-step m k f.past held.start held.actor tag X ∙ ap (λ r. actor_outcome tag f.past held.start r) a.0, inl (sym told), λ p. tt));
         kept = grew-none kept;
-        part = nothing-is-shut rows rows_lawful m (tree.Actor f.past held.start held.actor) tag X;
+        part = at-own-place rows m (tree.Actor f.past held.start held.actor) tag X silent (fault_of [] place) refl a.2 (nothing-is-shut rows rows_lawful m (tree.Actor f.past held.start held.actor) tag X);
       },
     )
 actor-goes f held held' ks tag X Spent a = absurd a

@@ -31,7 +31,7 @@ use Rattle.pt_node.specs.declared.director.Director.TheVariants.{Sdf}
 use Rattle.pt_node.specs.Shown.{Shown, AllShown, Branch}
 use Rattle.pt_node.specs.Firing.{noted, bare, recorded}
 use Rattle.pt_node.specs.View as view
-use Rattle.pt_node.specs.View.{Tree, Heading, node_of, nodes_of, kept_of, kepts_of, count_of, Outline, Outlines, outline_of, outlines_of, text_at, text_below}
+use Rattle.pt_node.specs.View.{Tree, Heading, node_of, nodes_of, kept_of, kepts_of, count_of, Outline, outline_of, outlines_of, text_at}
 use Rattle.pt_node.specs.Live.{IsFit, AllFit, IsLive, IsSteady, AllSteady, Takes}
 use Rattle.pt_seq.specs.declared.fire.Within.{Within}
 use Rattle.pt_seq.specs.declared.fire.Within.TheVariants.{Done, Fault, Spent, Memory}
@@ -39,6 +39,7 @@ use Rattle.pt_seq.specs.declared.turn.Turn.{Turn}
 use Rattle.pt_seq.specs.declared.turn.Turn.TheVariants as turn
 use Rattle.pt_seq.specs.declared.numbers.Quick.{Quick}
 use Rattle.pt_seq.specs.declared.numbers.Quick.TheVariants as quick
+use Rattle.pt_node.specs.Stuck.{fault_of}
 
 -- the outcome of a firing at each fuel, without the node's own record
 abbrev pub outcome : Meets → Tree → Tag → Streams Token → ℕ → Outcome Token Tree
@@ -46,20 +47,16 @@ outcome m n tag X k = step_at rows k (tree.height n) m tag n X
 
 -- it was left off in the middle, with a log that is shut
 abbrev pub IsLeftOff : Meets → Tree → Tag → Streams Token → Kept Token → Kept Token → Type 0
-IsLeftOff m n tag X old new = LeavesOff (outcome m n tag X) (IsShut rows m n tag X) old new
+IsLeftOff m n tag X old new = LeavesOff (outcome m n tag X) (IsShut rows m n tag X None) old new
 
--- it is stuck at this place, with a log that is shut
+-- it is stuck at this place, with a log that is shut and goes up to it
 abbrev pub IsStuckIn : Meets → Tree → Tag → Streams Token → machine.Fault → Kept Token → Kept Token → Type 0
-IsStuckIn m n tag X f old new = SticksAt (outcome m n tag X) (IsShut rows m n tag X) f old new
+IsStuckIn m n tag X f old new = SticksAt (outcome m n tag X) (IsShut rows m n tag X (Some f)) f old new
 
 -- a node with one firing more at the tag
 abbrev pub fired : Tag → Tree → Tree
 fired tag (tree.Actor h a b) = tree.Actor (tree.fired_at tag h) a b
 fired tag (tree.Composite h c d kids) = tree.Composite (tree.fired_at tag h) c d kids
-
--- a place that the code tells, by the path of its node
-abbrev pub fault_of : Path → Place → machine.Fault
-fault_of p place = record { path = p; firing = place.firing; code = code_of place.kind }
 
 -- some node of the tree has the path that is told, and the firing is stuck there
 abbrev pub IsStuck : Meets → Tree → Tag → Streams Token → Outline → Place → Kept Token → Kept Token → Type 0
@@ -144,10 +141,10 @@ TurnSpends turn.Memory left left' = Unit {0}
 -- What a call answers: the step is done with the node's own record, or stuck at the place, or it was left off.
 abbrev pub AnswersTo : Shown → Tag → Streams Token → (allowance : ℕ) → Answer → Shown → Type 0
 AnswersTo old tag X allowance (answer.Done out) new = ((m : Meets) → FiresTo (λ k. Step k rows m (node_of old) tag X) (node_of new) out (kept_of old) (kept_of new)) × IsLive new
-AnswersTo old tag X allowance (answer.Fault place) new = (m : Meets) → (p : Path) × (text_at (outline_of old) p ≡ Some place.path) × SticksAt (λ k. Step k rows m (node_of old) tag X) (IsShut rows m (node_of old) tag X) (fault_of p place) (kept_of old) (kept_of new)
-AnswersTo old tag X allowance (answer.Spent count) new = (count_of new ≡ count_of old + count) × (allowance ≤ count) × ((m : Meets) → LeavesOff (λ k. Step k rows m (node_of old) tag X) (IsShut rows m (node_of old) tag X) (kept_of old) (kept_of new))
+AnswersTo old tag X allowance (answer.Fault place) new = (m : Meets) → (p : Path) × (text_at (outline_of old) p ≡ Some place.path) × SticksAt (λ k. Step k rows m (node_of old) tag X) (IsShut rows m (node_of old) tag X (Some (fault_of p place))) (fault_of p place) (kept_of old) (kept_of new)
+AnswersTo old tag X allowance (answer.Spent count) new = (count_of new ≡ count_of old + count) × (allowance ≤ count) × ((m : Meets) → LeavesOff (λ k. Step k rows m (node_of old) tag X) (IsShut rows m (node_of old) tag X None) (kept_of old) (kept_of new))
 AnswersTo old tag X allowance (answer.Full blocked) new = ⊥
-AnswersTo old tag X allowance answer.Memory new = (m : Meets) → LeavesOff (λ k. Step k rows m (node_of old) tag X) (IsShut rows m (node_of old) tag X) (kept_of old) (kept_of new)
+AnswersTo old tag X allowance answer.Memory new = (m : Meets) → LeavesOff (λ k. Step k rows m (node_of old) tag X) (IsShut rows m (node_of old) tag X None) (kept_of old) (kept_of new)
 
 -- the firing of that number is told stuck at the path, or there was no memory for it
 abbrev pub IsFaultAt : List ℕ → ℕ → RunFault → Within → Type 0

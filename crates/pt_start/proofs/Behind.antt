@@ -4,15 +4,15 @@ use Rattle.std.specs.Prelude.{Option, Some, None, option_map, bytes_eq}
 use Rattle.pt_value.specs.Value.{Value}
 use Rattle.pt_value.specs.Token.{value_of}
 use Rattle.pt_value.specs.declared.token.Token.{Token}
-use Rattle.pt_moml.specs.Document.{PropertyTree, property_name}
-use Rattle.pt_parameter.specs.declared.names.Names.{Names}
-use Rattle.pt_parameter.specs.declared.parameter_value.ParameterValue.{ParameterValue}
-use Rattle.pt_parameter.specs.declared.parameter_value.ParameterValue.TheVariants as parameter
-use Rattle.pt_parameter.specs.Given.{Held, held_view}
-use Rattle.pt_parameter.specs.Given as given
-use Rattle.pt_parameter.specs.Names.{held, or_else}
-use Rattle.pt_values.specs.Scopes.{Bindings, bound, Extends}
-use Rattle.pt_values.specs.Valued.{AreInTurn}
+use Rattle.pt_document.specs.Document.{PropertyTree, property_name}
+use Rattle.pt_scopes.specs.declared.names.Names.{Names}
+use Rattle.pt_scopes.specs.declared.parameter_value.ParameterValue.{ParameterValue}
+use Rattle.pt_scopes.specs.declared.parameter_value.ParameterValue.TheVariants as parameter
+use Rattle.pt_scopes.specs.Given.{Held, held_view}
+use Rattle.pt_scopes.specs.Given as given
+use Rattle.pt_scopes.specs.Names.{held, or_else}
+use Rattle.pt_scopes.specs.Scopes.{Bindings, bound, Extends}
+use Rattle.pt_scopes.specs.Valued.{AreInTurn}
 use Rattle.pt_start.specs.Started.{given_tokens}
 use Rattle.pt_start.specs.Frames.{behind, Hold, named_tokens}
 

@@ -3,7 +3,7 @@ use Rattle.std.proofs.Common.{◌≡◌, ℕ, zero, suc, ◌+◌, ◌<◌, List,
 use Rattle.std.specs.Prelude.{count_by}
 use Rattle.std.proofs.lemmas.Bool.{cases_order, eq-eqb, eqb-true}
 use Rattle.std.proofs.lemmas.List.Sums.{sum_by-append}
-use Rattle.pt_graph.specs.declared.net.Channel.{Channel}
+use Rattle.pt_net.specs.declared.net.Channel.{Channel}
 use Rattle.pt_start.specs.Started.{ends_at}
 use Rattle.pt_start.specs.Counts.{one_more, AreCounts}
 

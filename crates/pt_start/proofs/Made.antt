@@ -3,17 +3,17 @@ use Rattle.std.proofs.Common.{◌≡◌, ℕ, zero, suc, ◌+◌, ◌<◌, ◌�
 use Rattle.std.specs.Prelude.{Option, Some, slice_get, count_by}
 use Rattle.std.specs.List.{AllZip, enumerate_from}
 use Rattle.std.proofs.lemmas.Option.{slice_get_within, slice_get-get_or}
-use Rattle.pt_moml.specs.Document.{PortTree}
-use Rattle.pt_moml.specs.View.{port_view}
-use Rattle.pt_graph.specs.declared.net.Channel.{Channel}
-use Rattle.pt_graph.specs.declared.net.NetEntity.{NetEntity}
-use Rattle.pt_graph.specs.Net.{NetEntityTree, entity_view}
-use Rattle.pt_values.specs.declared.values.EntityValues.{EntityValues}
-use Rattle.pt_values.specs.Scopes.{net_view}
-use Rattle.pt_values.specs.Valued.{IsEntityValued}
-use Rattle.pt_values.specs.Valued as valued
-use Rattle.pt_types.specs.Datatype.{Datatype}
-use Rattle.pt_lib_flow.specs.declared.params.Params.{Params}
+use Rattle.pt_document.specs.Document.{PortTree}
+use Rattle.pt_document.specs.View.{port_view}
+use Rattle.pt_net.specs.declared.net.Channel.{Channel}
+use Rattle.pt_net.specs.declared.net.NetEntity.{NetEntity}
+use Rattle.pt_net.specs.Net.{NetEntityTree, entity_view}
+use Rattle.pt_scopes.specs.declared.values.EntityValues.{EntityValues}
+use Rattle.pt_scopes.specs.Scopes.{net_view}
+use Rattle.pt_scopes.specs.Valued.{IsEntityValued}
+use Rattle.pt_scopes.specs.Valued as valued
+use Rattle.pt_datatypes.specs.Datatype.{Datatype}
+use Rattle.pt_flow_base.specs.declared.params.Params.{Params}
 use Rattle.pt_library.specs.declared.library_actor.LibraryActor.{LibraryActor}
 use Rattle.pt_library.specs.LibraryActor.{start}
 use Rattle.pt_start.specs.declared.starts.Starts.{Starts}

@@ -4,11 +4,11 @@ use Rattle.std.proofs.lemmas.Bool.{both_ways, cases_eq}
 use Rattle.std.proofs.lemmas.List.{length-map}
 use Rattle.std.proofs.lemmas.Option.{slice_get-get_or, slice_get_within}
 use Rattle.std.specs.List.{slice_get}
-use Rattle.pt_moml.specs.declared.code.Code.{Code}
-use Rattle.pt_graph.specs.declared.net.NetEntity.{NetEntity}
-use Rattle.pt_graph.specs.Net.{NetEntityTree, entity_view}
-use Rattle.pt_values.specs.declared.values.Values.{Values}
-use Rattle.pt_values.specs.Scopes.{NetTree}
+use Rattle.pt_document.specs.declared.code.Code.{Code}
+use Rattle.pt_net.specs.declared.net.NetEntity.{NetEntity}
+use Rattle.pt_net.specs.Net.{NetEntityTree, entity_view}
+use Rattle.pt_scopes.specs.declared.values.Values.{Values}
+use Rattle.pt_scopes.specs.Scopes.{NetTree}
 use Rattle.pt_start.specs.Places.{IsBarred}
 use Rattle.pt_start.specs.Misplaced.{is_undirected_top, is_limited_under_sdf, IsTimedBelow, IsRefusedThere, undirected, barred, limited, timed, IsMisplaced}
 use Rattle.pt_start.proofs.Outward.{view-at}

@@ -3,10 +3,10 @@ use Rattle.std.proofs.Common.{◌≡◌, ℕ, ◌+◌, ◌<◌, List, [], ◌∷
 use Rattle.std.specs.Prelude.{Option, Some, None, slice_get}
 use Rattle.std.specs.Str.{bytes_eq}
 use Rattle.pt_value.specs.declared.token.Token.{Token}
-use Rattle.pt_moml.specs.declared.job.Property.{Property}
-use Rattle.pt_moml.specs.Document.{PropertyTree, property_name}
-use Rattle.pt_moml.specs.View.{property_view, properties_view}
-use Rattle.pt_parameter.specs.declared.parameter_value.ParameterValue.{ParameterValue}
+use Rattle.pt_document.specs.declared.job.Property.{Property}
+use Rattle.pt_document.specs.Document.{PropertyTree, property_name}
+use Rattle.pt_document.specs.View.{property_view, properties_view}
+use Rattle.pt_scopes.specs.declared.parameter_value.ParameterValue.{ParameterValue}
 use Rattle.pt_start.specs.Frames.{token_in}
 use Rattle.pt_start.specs.Places.{token_named}
 use Rattle.pt_start.proofs.Loops.{drop-at, drop-read, drop-unread}

@@ -3,16 +3,16 @@ use Rattle.std.proofs.Common.{◌≡◌, ℕ, ◌+◌, List, [], ◌∷◌, leng
 use Rattle.std.specs.Prelude.{Option, Some, None, slice_get}
 use Rattle.std.proofs.lemmas.Option.{some_pair_parts}
 use Rattle.pt_value.specs.Value.{Value}
-use Rattle.pt_expr.specs.Tree.{Tree}
-use Rattle.pt_expr.specs.Scope.{Scope}
-use Rattle.pt_expr.specs.Outcome.{Gives}
-use Rattle.pt_expr.specs.Meaning.{value}
-use Rattle.pt_expr_text.specs.Text.{ReadsAs}
-use Rattle.pt_expr_text.proofs.Whole.{read_once}
-use Rattle.pt_moml.specs.Document.{PropertyTree, property_name}
-use Rattle.pt_graph.specs.Net.{NetEntityTree, TransparentTree}
-use Rattle.pt_parameter.specs.Texts.{HasValue}
-use Rattle.pt_values.specs.Scopes.{NetTree, Bindings, bound, text_of, ComesTo, Extends, seen_parameters, Sees, at_top, in_transparent, in_opaque}
+use Rattle.pt_language.specs.Tree.{Tree}
+use Rattle.pt_language.specs.Scope.{Scope}
+use Rattle.pt_language.specs.Outcome.{Gives}
+use Rattle.pt_language.specs.Meaning.{value}
+use Rattle.pt_language.specs.Text.{ReadsAs}
+use Rattle.pt_language.proofs.Whole.{read_once}
+use Rattle.pt_document.specs.Document.{PropertyTree, property_name}
+use Rattle.pt_net.specs.Net.{NetEntityTree, TransparentTree}
+use Rattle.pt_scopes.specs.Texts.{HasValue}
+use Rattle.pt_scopes.specs.Scopes.{NetTree, Bindings, bound, text_of, ComesTo, Extends, seen_parameters, Sees, at_top, in_transparent, in_opaque}
 
 some-same : {A : Type 0} (x y : A) → Some x ≡ Some y → x ≡ y
 some-same x y e = cc

@@ -8,19 +8,19 @@ use Rattle.std.proofs.lemmas.Option.{slice_get-map, slice_get_within, none-some}
 use Rattle.pt_value.specs.Value.{Value}
 use Rattle.pt_value.specs.Token.{value_of}
 use Rattle.pt_value.specs.declared.token.Token.{Token}
-use Rattle.pt_moml.specs.Document.{PropertyTree}
-use Rattle.pt_moml.specs.View.{properties_view}
-use Rattle.pt_graph.specs.declared.net.NetEntity.{NetEntity}
-use Rattle.pt_graph.specs.declared.net.Transparent.{Transparent}
-use Rattle.pt_graph.specs.Net.{NetEntityTree, TransparentTree, entity_view, transparent_view}
-use Rattle.pt_parameter.specs.declared.names.Names.{Names}
-use Rattle.pt_parameter.specs.declared.parameter_value.ParameterValue.{ParameterValue}
-use Rattle.pt_parameter.specs.Given.{held_view}
-use Rattle.pt_parameter.specs.Given as given
-use Rattle.pt_values.specs.declared.values.EntityValues.{EntityValues}
-use Rattle.pt_values.specs.Scopes.{NetTree, Bindings, bound, net_view, Sees, Extends, is_composite_class, seen_parameters}
-use Rattle.pt_values.specs.Valued.{IsEntityValued, IsTransparentValued, AreOwn, AreInTurn}
-use Rattle.pt_values.specs.Valued as valued
+use Rattle.pt_document.specs.Document.{PropertyTree}
+use Rattle.pt_document.specs.View.{properties_view}
+use Rattle.pt_net.specs.declared.net.NetEntity.{NetEntity}
+use Rattle.pt_net.specs.declared.net.Transparent.{Transparent}
+use Rattle.pt_net.specs.Net.{NetEntityTree, TransparentTree, entity_view, transparent_view}
+use Rattle.pt_scopes.specs.declared.names.Names.{Names}
+use Rattle.pt_scopes.specs.declared.parameter_value.ParameterValue.{ParameterValue}
+use Rattle.pt_scopes.specs.Given.{held_view}
+use Rattle.pt_scopes.specs.Given as given
+use Rattle.pt_scopes.specs.declared.values.EntityValues.{EntityValues}
+use Rattle.pt_scopes.specs.Scopes.{NetTree, Bindings, bound, net_view, Sees, Extends, is_composite_class, seen_parameters}
+use Rattle.pt_scopes.specs.Valued.{IsEntityValued, IsTransparentValued, AreOwn, AreInTurn}
+use Rattle.pt_scopes.specs.Valued as valued
 use Rattle.pt_start.specs.declared.round.Round.{Round}
 use Rattle.pt_start.specs.declared.starts.Starts.{Starts}
 use Rattle.pt_start.specs.Nested.{AreRound}

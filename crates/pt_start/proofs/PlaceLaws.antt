@@ -2,10 +2,10 @@
 use Rattle.std.proofs.Common.{◌≡◌, ℕ, ◌+◌, ◌<◌, Bool, true, false, refl, sym, ap, subst, ◌∙◌, arith}
 use Rattle.std.specs.Prelude.{Option, Some, None, not, slice_get}
 use Rattle.std.specs.List.{Contains}
-use Rattle.pt_moml.specs.declared.classes.Director.{Director}
-use Rattle.pt_moml.specs.Classes.{Class, class_row}
-use Rattle.pt_graph.specs.Net.{NetEntityTree}
-use Rattle.pt_values.specs.Scopes.{NetTree}
+use Rattle.pt_document.specs.declared.classes.Director.{Director}
+use Rattle.pt_document.specs.Classes.{Class, class_row}
+use Rattle.pt_net.specs.Net.{NetEntityTree}
+use Rattle.pt_scopes.specs.Scopes.{NetTree}
 use Rattle.pt_start.specs.Places.{director_over, director_of, is_untimed, IsBarred, HasUntimedAbove, here, further}
 use Rattle.pt_start.specs.Seen.{number_or_none}
 

@@ -4,12 +4,12 @@ use Rattle.std.specs.Prelude.{Option, Some, None, option_map, slice_get}
 use Rattle.std.specs.List.{filter_map, cons_option}
 use Rattle.pt_value.specs.declared.token.Token.{Token}
 use Rattle.pt_value.specs.Token.{value_of, token_of-value_of}
-use Rattle.pt_moml.specs.declared.job.Property.{Property}
-use Rattle.pt_moml.specs.Document.{PropertyTree, property_name}
-use Rattle.pt_moml.specs.View.{property_view, properties_view}
-use Rattle.pt_parameter.specs.declared.parameter_value.ParameterValue.{ParameterValue}
-use Rattle.pt_parameter.specs.declared.parameter_value.ParameterValue.TheVariants as parameter
-use Rattle.pt_values.specs.Scopes.{Bindings, bound}
+use Rattle.pt_document.specs.declared.job.Property.{Property}
+use Rattle.pt_document.specs.Document.{PropertyTree, property_name}
+use Rattle.pt_document.specs.View.{property_view, properties_view}
+use Rattle.pt_scopes.specs.declared.parameter_value.ParameterValue.{ParameterValue}
+use Rattle.pt_scopes.specs.declared.parameter_value.ParameterValue.TheVariants as parameter
+use Rattle.pt_scopes.specs.Scopes.{Bindings, bound}
 use Rattle.pt_start.specs.Started.{given_tokens, own_tokens, given_tree, token_under, seen_token}
 use Rattle.pt_start.specs.Own.{own_token}
 use Rattle.pt_start.specs.Frames.{with_token, token_in, named_tokens}

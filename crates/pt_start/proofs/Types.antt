@@ -2,12 +2,12 @@
 use Rattle.std.proofs.Common.{◌≡◌, ℕ, ◌+◌, ◌<◌, List, [], ◌∷◌, ◌++◌, length, get_or, drop, map, refl, sym, ap, ap₂, ◌∙◌}
 use Rattle.std.specs.Prelude.{Option, Some, None, option_map, slice_get}
 use Rattle.pt_types.specs.declared.ty.Ty.{Ty}
-use Rattle.pt_types.specs.Normal.{normal}
+use Rattle.pt_datatypes.specs.Normal.{normal}
 use Rattle.pt_types.specs.Ty.{written, type_of}
-use Rattle.pt_moml.specs.declared.job.Port.{Port}
-use Rattle.pt_moml.specs.Document.{PortTree}
-use Rattle.pt_moml.specs.View.{port_view}
-use Rattle.pt_expr_type.specs.Entry.{typed_entry}
+use Rattle.pt_document.specs.declared.job.Port.{Port}
+use Rattle.pt_document.specs.Document.{PortTree}
+use Rattle.pt_document.specs.View.{port_view}
+use Rattle.pt_types.specs.Entry.{typed_entry}
 use Rattle.pt_start.specs.PortTypes.{named_types, with_type}
 use Rattle.pt_start.proofs.Loops.{drop-at, drop-read, drop-unread}
 

@@ -1,9 +1,9 @@
 -- How many channels end at each port, as far as the channels are looked at.
 use Rattle.std.specs.Prelude.{◌≡◌, ℕ, ◌+◌, ◌<◌, List, [], length, map, get_or, count_by}
 use Rattle.std.proofs.Common.{set}
-use Rattle.pt_moml.specs.Document.{PortTree}
-use Rattle.pt_graph.specs.declared.net.Channel.{Channel}
-use Rattle.pt_graph.specs.declared.net.NetEntity.{NetEntity}
+use Rattle.pt_document.specs.Document.{PortTree}
+use Rattle.pt_net.specs.declared.net.Channel.{Channel}
+use Rattle.pt_net.specs.declared.net.NetEntity.{NetEntity}
 use Rattle.pt_start.specs.Started.{ends_at}
 
 -- one more at this port, where it is there

@@ -4,16 +4,16 @@ use Rattle.std.specs.Global.{Global}
 use Rattle.std.specs.List.{zip}
 use Rattle.pt_value.specs.Token.{value_of}
 use Rattle.pt_value.specs.declared.token.Token.{Token}
-use Rattle.pt_moml.specs.Document.{PropertyTree, property_name}
-use Rattle.pt_moml.specs.View.{properties_view}
-use Rattle.pt_graph.specs.declared.net.NetEntity.{NetEntity}
-use Rattle.pt_graph.specs.declared.net.Transparent.{Transparent}
-use Rattle.pt_parameter.specs.declared.names.Names.{Names}
-use Rattle.pt_parameter.specs.declared.parameter_value.ParameterValue.{ParameterValue}
-use Rattle.pt_parameter.specs.declared.parameter_value.ParameterValue.TheVariants as parameter
-use Rattle.pt_parameter.specs.Names.{held, or_else}
-use Rattle.pt_values.specs.declared.values.EntityValues.{EntityValues}
-use Rattle.pt_values.specs.Scopes.{Bindings, bound, is_composite_class}
+use Rattle.pt_document.specs.Document.{PropertyTree, property_name}
+use Rattle.pt_document.specs.View.{properties_view}
+use Rattle.pt_net.specs.declared.net.NetEntity.{NetEntity}
+use Rattle.pt_net.specs.declared.net.Transparent.{Transparent}
+use Rattle.pt_scopes.specs.declared.names.Names.{Names}
+use Rattle.pt_scopes.specs.declared.parameter_value.ParameterValue.{ParameterValue}
+use Rattle.pt_scopes.specs.declared.parameter_value.ParameterValue.TheVariants as parameter
+use Rattle.pt_scopes.specs.Names.{held, or_else}
+use Rattle.pt_scopes.specs.declared.values.EntityValues.{EntityValues}
+use Rattle.pt_scopes.specs.Scopes.{Bindings, bound, is_composite_class}
 use Rattle.pt_start.specs.Started.{given_tokens}
 
 -- what is seen behind these parameters, in turn

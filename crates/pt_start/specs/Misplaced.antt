@@ -1,15 +1,15 @@
 -- Which entities of a net are refused for where they stand.
 use Rattle.std.specs.Prelude.{◌≡◌, ℕ, Bool, true, false, ◌&&◌, Option, Some, None, nat_eq, slice_get}
 use Rattle.std.specs.Option.{is_some, is_none}
-use Rattle.pt_moml.specs.declared.code.Code.{Code}
-use Rattle.pt_moml.specs.declared.code.Code.TheVariants as code
-use Rattle.pt_moml.specs.declared.classes.Director.{Director}
-use Rattle.pt_moml.specs.declared.classes.Director.TheVariants.{Sdf, Pn, Rendezvous, Sr, De}
-use Rattle.pt_moml.specs.Classes.{class_row}
-use Rattle.pt_graph.specs.Net.{NetEntityTree}
-use Rattle.pt_values.specs.declared.values.EntityValues.{EntityValues}
-use Rattle.pt_values.specs.declared.values.Values.{Values}
-use Rattle.pt_values.specs.Scopes.{NetTree}
+use Rattle.pt_document.specs.declared.code.Code.{Code}
+use Rattle.pt_document.specs.declared.code.Code.TheVariants as code
+use Rattle.pt_document.specs.declared.classes.Director.{Director}
+use Rattle.pt_document.specs.declared.classes.Director.TheVariants.{Sdf, Pn, Rendezvous, Sr, De}
+use Rattle.pt_document.specs.Classes.{class_row}
+use Rattle.pt_net.specs.Net.{NetEntityTree}
+use Rattle.pt_scopes.specs.declared.values.EntityValues.{EntityValues}
+use Rattle.pt_scopes.specs.declared.values.Values.{Values}
+use Rattle.pt_scopes.specs.Scopes.{NetTree}
 use Rattle.pt_start.specs.Places.{director_of, director_over, IsBarred, HasUntimedAbove, is_limited}
 
 abbrev pub is_sdf : Option Director → Bool

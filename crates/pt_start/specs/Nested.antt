@@ -1,7 +1,7 @@
 -- How the composites of a net stand in one another.
 use Rattle.std.specs.Prelude.{◌≡◌, ℕ, ◌<◌, IsTrue, Option, Some, slice_get}
-use Rattle.pt_graph.specs.Net.{NetEntityTree, TransparentTree}
-use Rattle.pt_values.specs.Scopes.{NetTree, is_composite_class}
+use Rattle.pt_net.specs.Net.{NetEntityTree, TransparentTree}
+use Rattle.pt_scopes.specs.Scopes.{NetTree, is_composite_class}
 
 -- the transparent composite of this number is there, and stands in that opaque one
 pub record IsTransparentIn (net : NetTree) (t : ℕ) (parent : Option ℕ) : Type 0 where

@@ -3,13 +3,13 @@ use Rattle.std.specs.Prelude.{◌≡◌, ℕ, pos, int_lt, List, [], ◌∷◌, 
 use Rattle.std.specs.List.{Contains}
 use Rattle.pt_value.specs.declared.token.Token.{Token}
 use Rattle.pt_value.specs.declared.token.Token.TheVariants as token
-use Rattle.pt_moml.specs.declared.classes.Director.{Director}
-use Rattle.pt_moml.specs.declared.classes.Director.TheVariants.{Sdf, Pn, Rendezvous, Sr, De}
-use Rattle.pt_moml.specs.Classes.{Class, DirectorClass, class_row, director_row}
-use Rattle.pt_graph.specs.Net.{NetEntityTree, DirectorTree}
-use Rattle.pt_moml.specs.Document.{PropertyTree, property_name}
-use Rattle.pt_parameter.specs.declared.parameter_value.ParameterValue.{ParameterValue}
-use Rattle.pt_values.specs.Scopes.{NetTree}
+use Rattle.pt_document.specs.declared.classes.Director.{Director}
+use Rattle.pt_document.specs.declared.classes.Director.TheVariants.{Sdf, Pn, Rendezvous, Sr, De}
+use Rattle.pt_document.specs.Classes.{Class, DirectorClass, class_row, director_row}
+use Rattle.pt_net.specs.Net.{NetEntityTree, DirectorTree}
+use Rattle.pt_document.specs.Document.{PropertyTree, property_name}
+use Rattle.pt_scopes.specs.declared.parameter_value.ParameterValue.{ParameterValue}
+use Rattle.pt_scopes.specs.Scopes.{NetTree}
 use Rattle.pt_start.specs.Frames.{token_in}
 
 -- ---- directors

@@ -1,9 +1,9 @@
 -- Ports by name, each with its type.
 use Rattle.std.specs.Prelude.{ℕ, List, [], ◌∷◌, map, Option, Some, None}
 use Rattle.std.specs.List.{zip}
-use Rattle.pt_types.specs.Datatype.{Datatype}
-use Rattle.pt_moml.specs.Document.{PortTree}
-use Rattle.pt_values.specs.Sites.{port_name}
+use Rattle.pt_datatypes.specs.Datatype.{Datatype}
+use Rattle.pt_document.specs.Document.{PortTree}
+use Rattle.pt_scopes.specs.Sites.{port_name}
 
 abbrev pub named_types : List PortTree → List Datatype → List (List ℕ × Datatype)
 named_types ps ts = zip (map port_name ps) ts

@@ -1,21 +1,21 @@
 -- What is found under a name, outward from an entity.
 use Rattle.std.specs.Prelude.{◌≡◌, ℕ, ◌+◌, ◌*◌, ◌<◌, List, ◌++◌, length, map, Option, Some, None, option_map}
 use Rattle.std.specs.List.{enumerate_from}
-use Rattle.pt_types.specs.Datatype.{Datatype}
+use Rattle.pt_datatypes.specs.Datatype.{Datatype}
 use Rattle.pt_value.specs.declared.token.Token.{Token}
 use Rattle.pt_value.specs.Token.{value_of}
-use Rattle.pt_expr.specs.Expr.{tree_of}
-use Rattle.pt_moml.specs.View.{properties_view, port_view}
-use Rattle.pt_graph.specs.declared.net.NetEntity.{NetEntity}
-use Rattle.pt_parameter.specs.declared.names.Names.{Names}
-use Rattle.pt_parameter.specs.Names.{held, or_else}
-use Rattle.pt_values.specs.declared.values.EntityValues.{EntityValues}
-use Rattle.pt_values.specs.Scopes.{NetTree, Bindings, bound, net_view, Sees}
-use Rattle.pt_values.specs.Valued.{IsValued}
+use Rattle.pt_language.specs.Expr.{tree_of}
+use Rattle.pt_document.specs.View.{properties_view, port_view}
+use Rattle.pt_net.specs.declared.net.NetEntity.{NetEntity}
+use Rattle.pt_scopes.specs.declared.names.Names.{Names}
+use Rattle.pt_scopes.specs.Names.{held, or_else}
+use Rattle.pt_scopes.specs.declared.values.EntityValues.{EntityValues}
+use Rattle.pt_scopes.specs.Scopes.{NetTree, Bindings, bound, net_view, Sees}
+use Rattle.pt_scopes.specs.Valued.{IsValued}
 use Rattle.pt_start.specs.declared.round.Round.{Round}
 use Rattle.pt_start.specs.declared.starts.Starts.{Starts}
 use Rattle.pt_start.specs.Nested.{AreRound, IsNested}
-use Rattle.pt_lib_flow.specs.declared.params.Params.{Params}
+use Rattle.pt_flow_base.specs.declared.params.Params.{Params}
 use Rattle.pt_start.specs.Started.{own_tokens, given_tree, seen_tokens}
 use Rattle.pt_start.specs.Frames.{AreKept, AreTransparentKept}
 use Rattle.pt_start.specs.Counts.{AreCounts, AreSized, port_with}

@@ -5,20 +5,20 @@ use Rattle.pt_value.specs.Value.{Value}
 use Rattle.pt_value.specs.Token.{token_of}
 use Rattle.pt_value.specs.declared.token.Token.{Token}
 use Rattle.pt_value.specs.declared.token.Token.TheVariants as token
-use Rattle.pt_types.specs.Datatype.{Datatype}
-use Rattle.pt_expr.specs.Tree.{Tree}
-use Rattle.pt_expr.specs.Expr.{tree_of}
-use Rattle.pt_moml.specs.Document.{PropertyTree, property_name, PortTree}
-use Rattle.pt_graph.specs.declared.net.Channel.{Channel}
-use Rattle.pt_graph.specs.declared.net.Net.{Net}
-use Rattle.pt_graph.specs.Net.{NetEntityTree, entity_view}
-use Rattle.pt_parameter.specs.declared.parameter_value.ParameterValue.{ParameterValue}
-use Rattle.pt_parameter.specs.declared.parameter_value.ParameterValue.TheVariants as parameter
-use Rattle.pt_parameter.specs.Texts.{names_in}
-use Rattle.pt_values.specs.declared.values.EntityValues.{EntityValues}
-use Rattle.pt_values.specs.declared.values.Values.{Values}
-use Rattle.pt_values.specs.Scopes.{Bindings, bound, net_view, text_of, Sees}
-use Rattle.pt_lib_flow.specs.declared.params.Params.{Params}
+use Rattle.pt_datatypes.specs.Datatype.{Datatype}
+use Rattle.pt_language.specs.Tree.{Tree}
+use Rattle.pt_language.specs.Expr.{tree_of}
+use Rattle.pt_document.specs.Document.{PropertyTree, property_name, PortTree}
+use Rattle.pt_net.specs.declared.net.Channel.{Channel}
+use Rattle.pt_net.specs.declared.net.Net.{Net}
+use Rattle.pt_net.specs.Net.{NetEntityTree, entity_view}
+use Rattle.pt_scopes.specs.declared.parameter_value.ParameterValue.{ParameterValue}
+use Rattle.pt_scopes.specs.declared.parameter_value.ParameterValue.TheVariants as parameter
+use Rattle.pt_scopes.specs.Texts.{names_in}
+use Rattle.pt_scopes.specs.declared.values.EntityValues.{EntityValues}
+use Rattle.pt_scopes.specs.declared.values.Values.{Values}
+use Rattle.pt_scopes.specs.Scopes.{Bindings, bound, net_view, text_of, Sees}
+use Rattle.pt_flow_base.specs.declared.params.Params.{Params}
 use Rattle.pt_library.specs.declared.library_actor.LibraryActor.{LibraryActor}
 use Rattle.pt_library.specs.LibraryActor.{start}
 

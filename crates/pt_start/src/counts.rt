@@ -1,8 +1,8 @@
 ghost use Rattle.std.specs.Prelude.{◌≡◌, ℕ, ◌<◌, ◌++◌, ◌∷◌, [], List, length, map, get_or, IfOk, OnOk};
-ghost use Rattle.pt_graph.specs.declared.net.Channel.{Channel};
+ghost use Rattle.pt_net.specs.declared.net.Channel.{Channel};
 ghost use Rattle.pt_start.specs.Counts.{one_more, AreCounts, AreSized};
 
-use pt_graph::{Channel, NetEntity};
+use pt_net::{Channel, NetEntity};
 use std::alloc::{AllocError, Global};
 use std::marker::Model;
 

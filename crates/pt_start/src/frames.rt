@@ -1,16 +1,15 @@
 ghost use Rattle.std.specs.Prelude.{◌≡◌, ℕ, ◌++◌, List, IfOk, OnOk, Some, option_map};
 ghost use Rattle.pt_value.specs.declared.token.Token.{Token};
-ghost use Rattle.pt_moml.specs.View.{properties_view};
-ghost use Rattle.pt_values.specs.Scopes.{is_composite_class};
+ghost use Rattle.pt_document.specs.View.{properties_view};
+ghost use Rattle.pt_scopes.specs.Scopes.{is_composite_class};
 ghost use Rattle.pt_start.specs.Started.{given_tokens};
 ghost use Rattle.pt_start.specs.Frames.{Hold, with_token, named_tokens, IsKept, AreKept, IsTransparentKept, AreTransparentKept};
 
 use crate::given::{name_of, token_at};
-use pt_graph::{NetEntity, Transparent};
-use pt_moml::Property;
-use pt_parameter::{Names, ParameterValue};
+use pt_document::Property;
+use pt_net::{NetEntity, Transparent};
+use pt_scopes::{EntityValues, Names, ParameterValue};
 use pt_value::{Text, Token};
-use pt_values::EntityValues;
 use std::alloc::{AllocError, Global};
 
 /// Puts the token of a name, if it has one, before what is there.

@@ -1,16 +1,16 @@
 ghost use Rattle.std.specs.Prelude.{◌≡◌, ◌++◌, IfOk, OnOk, Some, option_map, slice_get};
-ghost use Rattle.pt_moml.specs.Document.{property_name};
-ghost use Rattle.pt_moml.specs.View.{property_view, properties_view};
-ghost use Rattle.pt_expr.specs.Expr.{tree_of};
-ghost use Rattle.pt_parameter.specs.declared.parameter_value.ParameterValue.TheVariants.{Word};
-ghost use Rattle.pt_values.specs.Scopes.{text_of};
+ghost use Rattle.pt_document.specs.Document.{property_name};
+ghost use Rattle.pt_document.specs.View.{property_view, properties_view};
+ghost use Rattle.pt_language.specs.Expr.{tree_of};
+ghost use Rattle.pt_scopes.specs.declared.parameter_value.ParameterValue.TheVariants.{Word};
+ghost use Rattle.pt_scopes.specs.Scopes.{text_of};
 ghost use Rattle.pt_start.specs.Started.{own_tokens, given_tree};
 ghost use Rattle.pt_start.specs.Frames.{with_token, token_in};
 ghost use Rattle.pt_start.specs.Own.{own_token};
 
-use pt_expr::Expr;
-use pt_moml::Property;
-use pt_parameter::ParameterValue;
+use pt_document::Property;
+use pt_language::Expr;
+use pt_scopes::ParameterValue;
 use pt_value::{Text, Token};
 use std::alloc::{AllocError, Global};
 

@@ -1,12 +1,12 @@
 ghost use Rattle.std.specs.Prelude.{◌≡◌, option_map, codes};
 ghost use Rattle.std.specs.Str.{bytes_eq};
-ghost use Rattle.pt_moml.specs.Document.{property_name};
-ghost use Rattle.pt_moml.specs.View.{property_view, properties_view};
+ghost use Rattle.pt_document.specs.Document.{property_name};
+ghost use Rattle.pt_document.specs.View.{property_view, properties_view};
 ghost use Rattle.pt_start.specs.Places as places;
 
 use crate::given::token_at;
-use pt_moml::Property;
-use pt_parameter::ParameterValue;
+use pt_document::Property;
+use pt_scopes::ParameterValue;
 use pt_value::Token;
 
 fn is_named(property: &Property, name: &str) -> bool

@@ -1,14 +1,14 @@
 ghost use Rattle.std.specs.Prelude.{◌≡◌, true, false, option_map};
-ghost use Rattle.pt_moml.specs.Classes.{class_of};
+ghost use Rattle.pt_document.specs.Classes.{class_of};
 ghost use Rattle.std.specs.List.{Contains};
-ghost use Rattle.pt_graph.specs.Net.{entity_view, director_view};
-ghost use Rattle.pt_values.specs.Scopes.{net_view};
+ghost use Rattle.pt_net.specs.Net.{entity_view, director_view};
+ghost use Rattle.pt_scopes.specs.Scopes.{net_view};
 ghost use Rattle.pt_start.specs.Nested.{IsNested};
 ghost use Rattle.pt_start.specs.Places as places;
 ghost use Rattle.pt_start.specs.Places.{IsBarred, HasUntimedAbove};
 
-use pt_graph::{Net, NetDirector, NetEntity};
-use pt_moml::{Class, Director, class_named, director_named};
+use pt_document::{Class, Director, class_named, director_named};
+use pt_net::{Net, NetDirector, NetEntity};
 
 fn director_in(director: &Option<NetDirector>) -> Option<Director>
     ensures { result ≡ places.director_in (option_map director_view director.now) }

@@ -1,12 +1,12 @@
 ghost use Rattle.std.specs.Prelude.{◌≡◌, ◌++◌, IfOk, OnOk, map, option_map};
 ghost use Rattle.std.specs.List.{enumerate_from};
-ghost use Rattle.pt_moml.specs.View.{port_view};
+ghost use Rattle.pt_document.specs.View.{port_view};
 ghost use Rattle.pt_types.specs.Ty.{type_of};
-ghost use Rattle.pt_expr_type.specs.Entry.{typed_entry};
+ghost use Rattle.pt_types.specs.Entry.{typed_entry};
 ghost use Rattle.pt_start.specs.Counts.{port_with};
 ghost use Rattle.pt_start.specs.PortTypes.{named_types, with_type};
 
-use pt_moml::Port;
+use pt_document::Port;
 use pt_types::Ty;
 use pt_value::Text;
 use std::alloc::{AllocError, Global};

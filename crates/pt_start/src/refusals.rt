@@ -1,18 +1,18 @@
 ghost use Rattle.std.specs.Prelude.{◌≡◌, ℕ, true, false, None, IfSome, option_map};
 ghost use Rattle.std.specs.Option.{is_some};
-ghost use Rattle.pt_moml.specs.declared.code.Code.{Code};
-ghost use Rattle.pt_moml.specs.Classes.{class_row};
-ghost use Rattle.pt_graph.specs.Net.{entity_view};
-ghost use Rattle.pt_values.specs.Scopes.{net_view};
+ghost use Rattle.pt_document.specs.declared.code.Code.{Code};
+ghost use Rattle.pt_document.specs.Classes.{class_row};
+ghost use Rattle.pt_net.specs.Net.{entity_view};
+ghost use Rattle.pt_scopes.specs.Scopes.{net_view};
 ghost use Rattle.pt_start.specs.Nested.{IsNested};
 ghost use Rattle.pt_start.specs.Misplaced as misplaced;
 ghost use Rattle.pt_start.specs.Misplaced.{IsTimedBelow, IsRefusedThere, IsMisplaced};
 
 use crate::limits::is_limited;
 use crate::places::{director_of, director_over, has_untimed_above, is_barred};
-use pt_graph::{Net, NetEntity};
-use pt_moml::{Code, Director, class_named};
-use pt_values::{EntityValues, Values};
+use pt_document::{Code, Director, class_named};
+use pt_net::{Net, NetEntity};
+use pt_scopes::{EntityValues, Values};
 
 fn is_sdf(director: Option<Director>) -> bool
     ensures { result ≡ misplaced.is_sdf director }

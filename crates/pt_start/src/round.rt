@@ -1,6 +1,6 @@
 ghost use Rattle.std.specs.Prelude.{◌≡◌};
 
-use pt_graph::{NetEntity, Transparent};
+use pt_net::{NetEntity, Transparent};
 
 /// What is round an entity or a transparent composite: where it stands in a transparent composite, the number of that one, and
 /// the number of the innermost opaque one.

@@ -1,9 +1,9 @@
 ghost use Rattle.std.specs.Prelude.{◌≡◌, ◌++◌, MatchOption, IfOk, OnOk, map, option_map};
 ghost use Rattle.std.specs.List.{filter_map};
-ghost use Rattle.pt_expr.specs.Expr.{tree_of};
-ghost use Rattle.pt_moml.specs.View.{properties_view};
+ghost use Rattle.pt_language.specs.Expr.{tree_of};
+ghost use Rattle.pt_document.specs.View.{properties_view};
 ghost use Rattle.pt_types.specs.Ty.{type_of};
-ghost use Rattle.pt_values.specs.Scopes.{Bindings, net_view};
+ghost use Rattle.pt_scopes.specs.Scopes.{Bindings, net_view};
 ghost use Rattle.pt_start.specs.Nested.{AreRound};
 ghost use Rattle.pt_start.specs.Started as started;
 ghost use Rattle.pt_start.specs.Started.{PortTyping, ArePortTypes, IsActor, IsStart, seen_token, seen_tokens};
@@ -14,14 +14,14 @@ use crate::frames::{opaque_names, transparent_names};
 use crate::given::{add_token, given_tree, own_tokens};
 use crate::ports::{counted_ports, typed_ports};
 use crate::round::Round;
-use pt_expr::Expr;
-use pt_graph::{Net, NetEntity};
-use pt_lib_flow::{Params, PortTypes, Ports, Values as Tokens};
+use pt_flow_base::{Params, PortTypes};
+use pt_language::Expr;
+use pt_lib_flow::{Ports, Values as Tokens};
 use pt_library::LibraryActor;
-use pt_parameter::{Names, names_of};
+use pt_net::{Net, NetEntity};
+use pt_scopes::{EntityValues, Names, Values, names_of};
 use pt_types::Ty;
 use pt_value::{Text, Token};
-use pt_values::{EntityValues, Values};
 use std::alloc::{AllocError, Global};
 
 /// What library actors of a net are started from, prepared for all of them: how many channels end at each port, and the

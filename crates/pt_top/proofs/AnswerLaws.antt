@@ -1,12 +1,12 @@
 -- The answer to a document, from the answer to its job and to its net.
 use Rattle.std.proofs.Common.{◌≡◌, ℕ, List, Result, Ok, Err, IfOk, ◌⊎◌, inl, inr, subst, ◌≤◌, length, arith}
 use Rattle.std.specs.declared.alloc.AllocError.{AllocError}
-use Rattle.pt_moml.specs.Document.{JobTree}
+use Rattle.pt_document.specs.Document.{JobTree}
 use Rattle.pt_moml.specs.Reading.{IsJobOf}
-use Rattle.pt_moml.specs.declared.code.Code.TheVariants as code
+use Rattle.pt_document.specs.declared.code.Code.TheVariants as code
 use Rattle.pt_moml.specs.Stands as reading
-use Rattle.pt_graph.specs.declared.net.Net.{Net}
-use Rattle.pt_graph.specs.Net.{IsNetOf}
+use Rattle.pt_net.specs.declared.net.Net.{Net}
+use Rattle.pt_net.specs.Net.{IsNetOf}
 use Rattle.pt_top.specs.declared.report.Reply.{Reply}
 use Rattle.pt_top.specs.declared.status.Status.{Status}
 use Rattle.pt_top.specs.declared.status.Status.TheVariants.{Done, Words, Document, Fault, Budget, Read, Write, Memory, Queue, Length}

@@ -1,16 +1,16 @@
 -- The text of a report from the parts of the report, and what a refusal answers.
 use Rattle.std.proofs.Common.{◌≡◌, ℕ, List, [], length, Result, Ok, Err, IfOk, ap, sym, subst, ◌∙◌}
 use Rattle.std.specs.declared.alloc.AllocError.{AllocError}
-use Rattle.pt_moml.specs.declared.refusal.Refusal.{Refusal}
-use Rattle.pt_graph.specs.declared.net.Net.{Net}
+use Rattle.pt_document.specs.declared.refusal.Refusal.{Refusal}
+use Rattle.pt_net.specs.declared.net.Net.{Net}
 use Rattle.pt_trace.specs.declared.run_end.RunEnd.{RunEnd}
 use Rattle.pt_trace.specs.Report.{Trace, Meetings, Report}
 use Rattle.pt_trace.specs.ReportText.{report_text}
 use Rattle.pt_node.specs.Shown.{Shown}
-use Rattle.pt_run.specs.declared.ended.Ended.{Ended}
-use Rattle.pt_run.specs.Ports.{recorded_ports, told_of}
-use Rattle.pt_run.specs.Report.{end_of}
-use Rattle.pt_model.specs.Refused.{IsRefused}
+use Rattle.pt_trees.specs.declared.ended.Ended.{Ended}
+use Rattle.pt_trees.specs.Ports.{recorded_ports, told_of}
+use Rattle.pt_trees.specs.Report.{end_of}
+use Rattle.pt_elaboration.specs.Refused.{IsRefused}
 use Rattle.pt_top.specs.declared.report.Reply.{Reply}
 use Rattle.pt_top.specs.declared.status.Status.TheVariants.{Document}
 use Rattle.pt_top.specs.Reply.{refusal_text, report_of, AnswersNet}

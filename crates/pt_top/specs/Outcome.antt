@@ -4,15 +4,15 @@ use Rattle.std.specs.Io.KnownBytes.{Appends}
 use Rattle.pt_io.specs.Causes.{Rose}
 use Rattle.pt_words.specs.declared.words.Words.{Words}
 use Rattle.pt_words.specs.Line.{IsLine, run_within}
-use Rattle.pt_moml.specs.declared.refusal.Refusal.{Refusal}
-use Rattle.pt_moml.specs.declared.code.Code.{Code}
-use Rattle.pt_moml.specs.Document.{JobTree}
+use Rattle.pt_document.specs.declared.refusal.Refusal.{Refusal}
+use Rattle.pt_document.specs.declared.code.Code.{Code}
+use Rattle.pt_document.specs.Document.{JobTree}
 use Rattle.pt_moml.specs.Reading.{IsJobOf}
 use Rattle.pt_moml.specs.Stands as reading
-use Rattle.pt_graph.specs.declared.net.Net.{Net}
-use Rattle.pt_graph.specs.Net.{IsNetOf}
-use Rattle.pt_graph.specs.Stands as linking
-use Rattle.pt_model.specs.Refused as unmodelled
+use Rattle.pt_net.specs.declared.net.Net.{Net}
+use Rattle.pt_net.specs.Net.{IsNetOf}
+use Rattle.pt_net.specs.Stands as linking
+use Rattle.pt_elaboration.specs.Refused as unmodelled
 use Rattle.pt_model.specs.Typed.{KeepsTypes}
 use Rattle.pt_top.specs.Reply.{line, refusal_text, IsReport, IsAffordableNet}
 use Rattle.pt_top.specs.declared.status.Status.{Status}

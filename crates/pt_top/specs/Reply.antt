@@ -1,20 +1,20 @@
 -- What is answered to a net: the report of a run of its model, or the line of a refusal.
 use Rattle.std.specs.Prelude.{◌≡◌, ℕ, List, [], ◌∷◌, ◌++◌, length, codes, decimal}
-use Rattle.pt_moml.specs.declared.refusal.Refusal.{Refusal}
-use Rattle.pt_moml.specs.Codes.{code_number, code_name}
-use Rattle.pt_graph.specs.declared.net.Net.{Net}
+use Rattle.pt_document.specs.declared.refusal.Refusal.{Refusal}
+use Rattle.pt_document.specs.Codes.{code_number, code_name}
+use Rattle.pt_net.specs.declared.net.Net.{Net}
 use Rattle.pt_trace.specs.Report.{Report}
 use Rattle.pt_trace.specs.ReportText.{report_text}
 use Rattle.pt_node.specs.Shown.{Shown}
 use Rattle.pt_node.specs.View.{node_of, outline_of}
-use Rattle.pt_run.specs.declared.job.SdfJob.{SdfJob}
-use Rattle.pt_run.specs.declared.ended.Ended.{Ended}
-use Rattle.pt_run.specs.declared.ended.Ended.TheVariants as ended
-use Rattle.pt_run.specs.Ports.{AreNumbered, recorded_ports, told_of}
-use Rattle.pt_run.specs.Report.{end_of}
-use Rattle.pt_run.specs.Run.{IsRun, IsAffordable}
+use Rattle.pt_trees.specs.declared.job.SdfJob.{SdfJob}
+use Rattle.pt_trees.specs.declared.ended.Ended.{Ended}
+use Rattle.pt_trees.specs.declared.ended.Ended.TheVariants as ended
+use Rattle.pt_trees.specs.Ports.{AreNumbered, recorded_ports, told_of}
+use Rattle.pt_trees.specs.Report.{end_of}
+use Rattle.pt_trees.specs.Run.{IsRun, IsAffordable}
 use Rattle.pt_model.specs.Model.{IsModel}
-use Rattle.pt_model.specs.Refused as unmodelled
+use Rattle.pt_elaboration.specs.Refused as unmodelled
 use Rattle.pt_top.specs.declared.status.Status.{Status}
 use Rattle.pt_top.specs.declared.status.Status.TheVariants.{Done, Document, Fault, Budget}
 

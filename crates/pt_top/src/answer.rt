@@ -1,8 +1,8 @@
 // What answers a document.
 ghost use Rattle.std.specs.Prelude.{◌≡◌, ◌⊎◌, ◌<◌, IfOk};
-ghost use Rattle.pt_moml.specs.View.{job_view};
-ghost use Rattle.pt_graph.specs.declared.net.Net.{Net};
-ghost use Rattle.pt_graph.specs.Net.{IsNetOf};
+ghost use Rattle.pt_document.specs.View.{job_view};
+ghost use Rattle.pt_net.specs.declared.net.Net.{Net};
+ghost use Rattle.pt_net.specs.Net.{IsNetOf};
 ghost use Rattle.pt_cover.specs.Leaves.{ActorsAreLeaves};
 ghost use Rattle.pt_top.specs.declared.status.Status.TheVariants.{Done, Document};
 ghost use Rattle.pt_top.specs.Reply.{IsAffordableNet};
@@ -10,8 +10,9 @@ ghost use Rattle.pt_top.specs.Outcome.{Answers, AnswersJob, IsWellLinked, IsFaul
 
 use crate::report::{Reply, refuse, reply_to_net};
 use pt_cover::actors_of_documents_are_leaves;
+use pt_document::{DocFault, Job};
 use pt_graph::flatten;
-use pt_moml::{DocFault, Job, read};
+use pt_moml::read;
 use std::alloc::{AllocError, Global};
 
 /// The answer to a job within a budget, unless memory runs out for it.

@@ -1,25 +1,27 @@
 // What is answered to a net.
 ghost use Rattle.std.specs.Prelude.{◌≡◌, ◌⊎◌, ◌<◌, length, IfOk};
-ghost use Rattle.pt_moml.specs.Document.{JobTree};
-ghost use Rattle.pt_graph.specs.Net.{IsNetOf};
+ghost use Rattle.pt_document.specs.Document.{JobTree};
+ghost use Rattle.pt_net.specs.Net.{IsNetOf};
 ghost use Rattle.pt_cover.specs.Leaves.{ActorsAreLeaves};
 ghost use Rattle.pt_node.specs.Shown.{shown_node};
 ghost use Rattle.pt_node.specs.View.{node_of};
-ghost use Rattle.pt_run.specs.Start.{IsRunnable};
-ghost use Rattle.pt_run.specs.Ports.{AreNumbered};
-ghost use Rattle.pt_run.specs.Run.{IsAffordable};
+ghost use Rattle.pt_trees.specs.Start.{IsRunnable};
+ghost use Rattle.pt_trees.specs.Ports.{AreNumbered};
+ghost use Rattle.pt_trees.specs.Run.{IsAffordable};
 ghost use Rattle.pt_model.specs.Model.{IsModel};
 ghost use Rattle.pt_top.specs.declared.status.Status.TheVariants.{Done, Document};
 ghost use Rattle.pt_top.specs.Reply as reply;
 ghost use Rattle.pt_top.specs.Reply.{refusal_text, IsReport, AnswersNet, IsAffordableNet};
 
 use crate::status::Status;
-use pt_graph::Net;
-use pt_model::{Model, ModelFault, model_of};
-use pt_moml::Refusal;
+use pt_document::Refusal;
+use pt_elaboration::ModelFault;
+use pt_model::{Model, model_of};
+use pt_net::Net;
 use pt_node::Node;
-use pt_run::{Ended, SdfJob, numbers_stay, report, run};
+use pt_run::{numbers_stay, report, run};
 use pt_trace::text;
+use pt_trees::{Ended, SdfJob};
 use std::alloc::{AllocError, Global};
 
 /// A status, and the text that goes with it.

@@ -6,7 +6,7 @@ use Rattle.pt_meaning.specs.Streams.{get}
 use Rattle.pt_meaning.specs.Closed.{on_answer}
 use Rattle.pt_meaning.specs.Node.{Answer, Gives, Fails}
 use Rattle.pt_value.specs.declared.token.Token.{Token}
-use Rattle.pt_types.specs.Datatype.{Datatype}
+use Rattle.pt_datatypes.specs.Datatype.{Datatype}
 use Rattle.pt_lib_flow.specs.FlowActor as flow_actor
 use Rattle.pt_lib_data.specs.DataActor as data_actor
 use Rattle.pt_library.specs.declared.library_actor.LibraryActor.{LibraryActor}

@@ -2,15 +2,15 @@
 use Rattle.std.proofs.Common.{◌≡◌, ℕ, zero, suc, ◌+◌, List, [], ◌∷◌, ◌++◌, map, replicate, Option, Some, None, refl, sym, ap, subst, ◌∙◌, slice_get, arith}
 use Rattle.std.specs.List.{AllByRecursion}
 use Rattle.pt_meaning.specs.Streams.{get}
-use Rattle.pt_moml.specs.declared.job.Direction.{Direction}
-use Rattle.pt_moml.specs.declared.job.Direction.TheVariants.{Input, Output}
-use Rattle.pt_moml.specs.declared.classes.Arity.{Arity}
-use Rattle.pt_moml.specs.declared.classes.Arity.TheVariants as arity
-use Rattle.pt_moml.specs.Classes.{ClassPort, Kind, Composite, Modal, Actor}
-use Rattle.pt_types.specs.Datatype.{Datatype}
-use Rattle.pt_types.specs.Order.{IsBelow}
-use Rattle.pt_expr_type.specs.Typing.{or_general}
-use Rattle.pt_expr_type.specs.TreeType.{element}
+use Rattle.pt_document.specs.declared.job.Direction.{Direction}
+use Rattle.pt_document.specs.declared.job.Direction.TheVariants.{Input, Output}
+use Rattle.pt_document.specs.declared.classes.Arity.{Arity}
+use Rattle.pt_document.specs.declared.classes.Arity.TheVariants as arity
+use Rattle.pt_document.specs.Classes.{ClassPort, Kind, Composite, Modal, Actor}
+use Rattle.pt_datatypes.specs.Datatype.{Datatype}
+use Rattle.pt_datatypes.specs.Order.{IsBelow}
+use Rattle.pt_language.specs.Typing.{or_general}
+use Rattle.pt_language.specs.TreeType.{element}
 use Rattle.pt_typed.specs.TokenTypes.{IsUnder, elements_of}
 
 abbrev pub class_head : ClassPort → List ℕ × Direction

@@ -1,18 +1,18 @@
 -- The classes of data actors: what the typing of a net says of their ports is what they ask.
 use Rattle.std.proofs.Common.{◌≡◌, ℕ, List, [], ◌∷◌, map, Bool, true, false, None, refl}
 use Rattle.std.specs.Prelude.{codes}
-use Rattle.pt_moml.specs.declared.job.Direction.{Direction}
-use Rattle.pt_moml.specs.declared.job.Direction.TheVariants.{Input, Output}
-use Rattle.pt_moml.specs.declared.classes.Arity.{Arity}
-use Rattle.pt_moml.specs.declared.classes.Arity.TheVariants as arity
-use Rattle.pt_moml.specs.Classes.{kind_of, class_row, classes}
-use Rattle.pt_types.specs.Datatype.{Datatype}
-use Rattle.pt_types.proofs.Order.{below-trans}
+use Rattle.pt_document.specs.declared.job.Direction.{Direction}
+use Rattle.pt_document.specs.declared.job.Direction.TheVariants.{Input, Output}
+use Rattle.pt_document.specs.declared.classes.Arity.{Arity}
+use Rattle.pt_document.specs.declared.classes.Arity.TheVariants as arity
+use Rattle.pt_document.specs.Classes.{kind_of, class_row, classes}
+use Rattle.pt_datatypes.specs.Datatype.{Datatype}
+use Rattle.pt_datatypes.proofs.Order.{below-trans}
 use Rattle.pt_resolve.specs.declared.row.PortType.{PortType}
 use Rattle.pt_resolve.specs.declared.row.PortType.TheVariants as port
 use Rattle.pt_resolve.specs.Rows.{port_rows}
-use Rattle.pt_expr_type.specs.Typing.{or_general}
-use Rattle.pt_expr_type.specs.TreeType.{element}
+use Rattle.pt_language.specs.Typing.{or_general}
+use Rattle.pt_language.specs.TreeType.{element}
 use Rattle.pt_lib_data.specs.declared.function.Class.{Class}
 use Rattle.pt_lib_data.specs.declared.function.Class.TheVariants as class
 use Rattle.pt_typed.specs.NetRows.{ends_from}

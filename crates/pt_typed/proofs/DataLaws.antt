@@ -10,17 +10,17 @@ use Rattle.pt_value.specs.Value.{Value, size, values_of, named_of, fields_of, fi
 use Rattle.pt_value.specs.Token.{value_of, token_of}
 use Rattle.pt_value.specs.declared.token.Token.{Token}
 use Rattle.pt_value.specs.declared.token.Token.TheVariants as token
-use Rattle.pt_types.specs.Datatype.{Datatype, Int, Boolean}
-use Rattle.pt_types.specs.Normal.{array_of}
-use Rattle.pt_types.specs.Order.{IsBelow}
-use Rattle.pt_types.specs.Token.{join_of}
-use Rattle.pt_types.proofs.Order.{below-trans, below-refl}
-use Rattle.pt_expr.specs.Outcome as outcome
-use Rattle.pt_expr.specs.Outcome.{Outcome}
-use Rattle.pt_expr.specs.RecordOf.{record_of}
-use Rattle.pt_expr_type.specs.TreeType.{field}
-use Rattle.pt_expr_type.proofs.Values.{Of, Sound, field-sound}
-use Rattle.pt_expr.specs.Meaning as meaning
+use Rattle.pt_datatypes.specs.Datatype.{Datatype, Int, Boolean}
+use Rattle.pt_datatypes.specs.Normal.{array_of}
+use Rattle.pt_datatypes.specs.Order.{IsBelow}
+use Rattle.pt_datatypes.specs.Token.{join_of}
+use Rattle.pt_datatypes.proofs.Order.{below-trans, below-refl}
+use Rattle.pt_language.specs.Outcome as outcome
+use Rattle.pt_language.specs.Outcome.{Outcome}
+use Rattle.pt_language.specs.RecordOf.{record_of}
+use Rattle.pt_language.specs.TreeType.{field}
+use Rattle.pt_language.proofs.Values.{Of, Sound, field-sound}
+use Rattle.pt_language.specs.Meaning as meaning
 use Rattle.pt_value.specs.Record.{field_at}
 use Rattle.pt_firing.specs.Row.{first_in, token_at, number_at, truth_at, all_present}
 use Rattle.pt_firing.specs.declared.fault.RunFault.TheVariants.{Size, Length, Overflow}

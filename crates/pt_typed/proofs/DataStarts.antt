@@ -4,8 +4,8 @@ use Rattle.std.specs.Prelude.{codes, bytes_eq}
 use Rattle.std.proofs.lemmas.Slice.Eq.{bytes_eq-Decides}
 use Rattle.pt_meaning.specs.Streams.{get}
 use Rattle.pt_value.specs.declared.token.Token.{Token}
-use Rattle.pt_types.specs.Datatype.{Datatype, Int, Boolean}
-use Rattle.pt_types.specs.Order.{IsBelow}
+use Rattle.pt_datatypes.specs.Datatype.{Datatype, Int, Boolean}
+use Rattle.pt_datatypes.specs.Order.{IsBelow}
 use Rattle.pt_firing.specs.Params.{names_but}
 use Rattle.pt_lib_data.specs.declared.data_actor.DataActor.{DataActor}
 use Rattle.pt_lib_data.specs.declared.function.Class.{Class}

@@ -5,21 +5,21 @@ use Rattle.std.specs.List.{AllByRecursion, list_all}
 use Rattle.std.specs.Option.{is_none}
 use Rattle.std.proofs.lemmas.Option.{same_Some}
 use Rattle.std.proofs.lemmas.Slice.Eq.{bytes_eq-Decides}
-use Rattle.pt_types.proofs.Fields.{and_left, and_right}
-use Rattle.pt_moml.specs.declared.code.Code.{Code}
-use Rattle.pt_moml.specs.declared.code.Code.TheVariants as code
-use Rattle.pt_moml.specs.declared.job.Direction.{Direction}
-use Rattle.pt_moml.specs.declared.job.Direction.TheVariants.{Input, Output}
-use Rattle.pt_moml.specs.Document.{PropertyTree, property_name, property_class, PortTree, Parts, parts}
-use Rattle.pt_moml.specs.Classes.{Class, ClassPort, Kind, Composite, Modal, Actor, classes, class_in, class_row, kind_of}
-use Rattle.pt_moml.specs.Names.{is_among, is_layout, is_reserved, are_distinct, below}
+use Rattle.pt_datatypes.proofs.Fields.{and_left, and_right}
+use Rattle.pt_document.specs.declared.code.Code.{Code}
+use Rattle.pt_document.specs.declared.code.Code.TheVariants as code
+use Rattle.pt_document.specs.declared.job.Direction.{Direction}
+use Rattle.pt_document.specs.declared.job.Direction.TheVariants.{Input, Output}
+use Rattle.pt_document.specs.Document.{PropertyTree, property_name, property_class, PortTree, Parts, parts}
+use Rattle.pt_document.specs.Classes.{Class, ClassPort, Kind, Composite, Modal, Actor, classes, class_in, class_row, kind_of}
+use Rattle.pt_document.specs.Names.{is_among, is_layout, is_reserved, are_distinct, below}
 use Rattle.pt_moml.specs.Rules.{parameter_names, is_of_modal}
 use Rattle.pt_moml.proofs.RuleLaws.{rules_clean}
 use Rattle.pt_moml.specs.Stands.{IsIn, BreaksRule, unknown_parameter, in_parameter, reserved_name, in_value, in_variable, in_property, in_parameters, port_is_there}
-use Rattle.pt_graph.specs.Standing.{Standing, is_kept, is_composite, entities}
-use Rattle.pt_graph.specs.Table.{joined_ports}
-use Rattle.pt_graph.specs.Net.{NetEntityTree, TransparentTree, is_parameter, row_port, net_ports_of_kind, net_ports, entity_tree, transparent_tree, entity_view}
-use Rattle.pt_values.specs.Scopes.{is_composite_class}
+use Rattle.pt_net.specs.Standing.{Standing, is_kept, is_composite, entities}
+use Rattle.pt_net.specs.Table.{joined_ports}
+use Rattle.pt_net.specs.Net.{NetEntityTree, TransparentTree, is_parameter, row_port, net_ports_of_kind, net_ports, entity_tree, transparent_tree, entity_view}
+use Rattle.pt_scopes.specs.Scopes.{is_composite_class}
 use Rattle.pt_order.proofs.ReadParts.{IsRead}
 use Rattle.pt_order.proofs.Standings.{documents-seen}
 use Rattle.pt_order.proofs.PortRules.{own-names}

@@ -5,10 +5,10 @@ use Rattle.pt_meaning.specs.Sdf.{SdfPlan}
 use Rattle.pt_meaning.specs.Net.{Output}
 use Rattle.pt_meaning.specs.Tree as tree
 use Rattle.pt_value.specs.declared.token.Token.TheVariants as token
-use Rattle.pt_types.specs.Datatype.{Datatype, Int, Boolean}
-use Rattle.pt_types.specs.Order.{IsBelow}
+use Rattle.pt_datatypes.specs.Datatype.{Datatype, Int, Boolean}
+use Rattle.pt_datatypes.specs.Order.{IsBelow}
 use Rattle.pt_lib_flow.specs.declared.flow_actor.FlowActor.TheVariants.{Ramp, Scale}
-use Rattle.pt_lib_flow.specs.declared.limit.Limit.TheVariants.{Endless}
+use Rattle.pt_flow_base.specs.declared.limit.Limit.TheVariants.{Endless}
 use Rattle.pt_library.specs.declared.library_actor.LibraryActor.{LibraryActor}
 use Rattle.pt_library.specs.declared.library_actor.LibraryActor.TheVariants.{Flow}
 use Rattle.pt_typed.specs.Signature.{Signatures, IsTypedEvent}

@@ -4,20 +4,20 @@ use Rattle.std.specs.Prelude.{codes, bytes_eq}
 use Rattle.std.specs.List.{AllByRecursion, enumerate_from}
 use Rattle.std.proofs.lemmas.Option.{same_Some}
 use Rattle.std.proofs.lemmas.Slice.Eq.{bytes_eq-Decides}
-use Rattle.pt_types.specs.Datatype.{Datatype}
-use Rattle.pt_moml.specs.declared.job.Direction.TheVariants.{Input, Output}
-use Rattle.pt_moml.specs.Document.{PortTree}
-use Rattle.pt_graph.specs.declared.net.Channel.{Channel}
-use Rattle.pt_wiring.specs.Inside.{is_inward}
-use Rattle.pt_values.specs.Sites.{port_name}
-use Rattle.pt_values.proofs.Document.{get-left}
+use Rattle.pt_datatypes.specs.Datatype.{Datatype}
+use Rattle.pt_document.specs.declared.job.Direction.TheVariants.{Input, Output}
+use Rattle.pt_document.specs.Document.{PortTree}
+use Rattle.pt_net.specs.declared.net.Channel.{Channel}
+use Rattle.pt_net.specs.Inside.{is_inward}
+use Rattle.pt_scopes.specs.Sites.{port_name}
+use Rattle.pt_scopes.proofs.Document.{get-left}
 use Rattle.pt_typing.specs.declared.variable.Variable.TheVariants as variable
 use Rattle.pt_typing.specs.Least.{Assignment}
 use Rattle.pt_typing.specs.Terms.{entry_in}
 use Rattle.pt_resolve.specs.Inequalities.{inputs_from}
 use Rattle.pt_start.specs.Started.{PortTyping, counted_port, typed_port}
 use Rattle.pt_firing.specs.Params.{names_but}
-use Rattle.pt_lib_flow.specs.PortTypes.{type_named, with_typed, typed_names}
+use Rattle.pt_flow_base.specs.PortTypes.{type_named, with_typed, typed_names}
 use Rattle.pt_typed.specs.InputLaw.{HaveOwnNames}
 use Rattle.pt_typed.proofs.RecordRows.{input-test}
 

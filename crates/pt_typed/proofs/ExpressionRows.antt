@@ -4,35 +4,35 @@ use Rattle.std.specs.Prelude.{codes, bytes_eq, option_map}
 use Rattle.std.specs.List.{AllByRecursion, filter_map}
 use Rattle.std.proofs.lemmas.Option.{same_Some}
 use Rattle.std.proofs.lemmas.Slice.Eq.{bytes_eq-Decides}
-use Rattle.pt_moml.specs.declared.job.Direction.{Direction}
-use Rattle.pt_moml.specs.declared.job.Direction.TheVariants.{Input, Output}
-use Rattle.pt_moml.specs.Classes.{ClassPort, Kind, Composite, Modal, Actor, kind_of, class_row, classes}
-use Rattle.pt_moml.specs.Document.{PropertyTree, property_name, PortTree}
-use Rattle.pt_moml.specs.Names.{is_among}
+use Rattle.pt_document.specs.declared.job.Direction.{Direction}
+use Rattle.pt_document.specs.declared.job.Direction.TheVariants.{Input, Output}
+use Rattle.pt_document.specs.Classes.{ClassPort, Kind, Composite, Modal, Actor, kind_of, class_row, classes}
+use Rattle.pt_document.specs.Document.{PropertyTree, property_name, PortTree}
+use Rattle.pt_document.specs.Names.{is_among}
 use Rattle.pt_moml.specs.Rules.{parameter_names}
 use Rattle.pt_value.specs.Value.{Value}
-use Rattle.pt_types.specs.Datatype.{Datatype}
-use Rattle.pt_types.specs.Order.{IsBelow}
-use Rattle.pt_types.specs.Token.{type_of_value}
-use Rattle.pt_types.proofs.Order.{below-trans}
-use Rattle.pt_expr.specs.Tree.{Tree}
-use Rattle.pt_expr.specs.Expr.{tree_of}
-use Rattle.pt_expr.specs.declared.expr.Expr.{Expr}
-use Rattle.pt_expr_type.specs.Types.{Types}
-use Rattle.pt_expr_type.specs.Rule.{type_or_general}
-use Rattle.pt_graph.specs.declared.net.Net.{Net}
-use Rattle.pt_graph.specs.declared.net.NetEntity.{NetEntity}
-use Rattle.pt_graph.specs.Table.{joined_ports}
-use Rattle.pt_graph.specs.Net.{NetEntityTree, row_port, entity_view}
+use Rattle.pt_datatypes.specs.Datatype.{Datatype}
+use Rattle.pt_datatypes.specs.Order.{IsBelow}
+use Rattle.pt_datatypes.specs.Token.{type_of_value}
+use Rattle.pt_datatypes.proofs.Order.{below-trans}
+use Rattle.pt_language.specs.Tree.{Tree}
+use Rattle.pt_language.specs.Expr.{tree_of}
+use Rattle.pt_language.specs.declared.expr.Expr.{Expr}
+use Rattle.pt_language.specs.Types.{Types}
+use Rattle.pt_language.specs.Rule.{type_or_general}
+use Rattle.pt_net.specs.declared.net.Net.{Net}
+use Rattle.pt_net.specs.declared.net.NetEntity.{NetEntity}
+use Rattle.pt_net.specs.Table.{joined_ports}
+use Rattle.pt_net.specs.Net.{NetEntityTree, row_port, entity_view}
 use Rattle.pt_firing.specs.Params.{names_but}
-use Rattle.pt_parameter.specs.Texts.{names_in}
-use Rattle.pt_parameter.specs.Given.{held_view}
-use Rattle.pt_parameter.specs.declared.parameter_value.ParameterValue.{ParameterValue}
-use Rattle.pt_parameter.specs.declared.parameter_value.ParameterValue.TheVariants as parameter
-use Rattle.pt_values.specs.declared.values.Values.{Values}
-use Rattle.pt_values.specs.Scopes.{Bindings, bound, net_view, is_composite_class, Sees}
-use Rattle.pt_values.specs.Valued.{IsValued}
-use Rattle.pt_values.specs.Valued as valued
+use Rattle.pt_scopes.specs.Texts.{names_in}
+use Rattle.pt_scopes.specs.Given.{held_view}
+use Rattle.pt_scopes.specs.declared.parameter_value.ParameterValue.{ParameterValue}
+use Rattle.pt_scopes.specs.declared.parameter_value.ParameterValue.TheVariants as parameter
+use Rattle.pt_scopes.specs.declared.values.Values.{Values}
+use Rattle.pt_scopes.specs.Scopes.{Bindings, bound, net_view, is_composite_class, Sees}
+use Rattle.pt_scopes.specs.Valued.{IsValued}
+use Rattle.pt_scopes.specs.Valued as valued
 use Rattle.pt_typing.specs.declared.variable.Variable.{Variable}
 use Rattle.pt_typing.specs.declared.variable.Variable.TheVariants as variable
 use Rattle.pt_typing.specs.Least.{Assignment, IsMet}
@@ -44,30 +44,30 @@ use Rattle.pt_resolve.specs.Inequalities.{inputs_of, inputs_from, of_tree, of_tr
 use Rattle.pt_resolve.specs.Typing.{IsTyping}
 use Rattle.pt_start.specs.Nested.{IsNested}
 use Rattle.pt_start.specs.Started.{given_tree, seen_token, seen_tokens, ports_of, types_of, IsFrom, IsStart}
-use Rattle.pt_lib_flow.specs.declared.params.Params.{Params}
-use Rattle.pt_lib_flow.specs.declared.extreme.Side.TheVariants.{Greatest, Least}
+use Rattle.pt_flow_base.specs.declared.params.Params.{Params}
+use Rattle.pt_flow_numbers.specs.declared.extreme.Side.TheVariants.{Greatest, Least}
 use Rattle.pt_lib_flow.specs.declared.flow_actor.FlowActor.TheVariants as flow
 use Rattle.pt_lib_flow.specs.declared.flow_actor.Class.{Class as FlowClass}
 use Rattle.pt_lib_flow.specs.declared.flow_actor.Class.TheVariants as class
 use Rattle.pt_lib_flow.specs.FlowActor as flow_actor
 use Rattle.pt_lib_flow.specs.Formula.{Formula, parameter_types, with_types, is_typed}
 use Rattle.pt_lib_flow.specs.Formula as formula
-use Rattle.pt_lib_flow.specs.PortTypes.{typed_names}
-use Rattle.pt_lib_flow.specs.AbsoluteValue as absolute_value
-use Rattle.pt_lib_flow.specs.Accumulator as accumulator
-use Rattle.pt_lib_flow.specs.AddSubtract as add_subtract
+use Rattle.pt_flow_base.specs.PortTypes.{typed_names}
+use Rattle.pt_flow_numbers.specs.AbsoluteValue as absolute_value
+use Rattle.pt_flow_numbers.specs.Accumulator as accumulator
+use Rattle.pt_flow_numbers.specs.AddSubtract as add_subtract
 use Rattle.pt_lib_flow.specs.BooleanSelect as boolean_select
 use Rattle.pt_lib_flow.specs.BooleanSwitch as boolean_switch
 use Rattle.pt_lib_flow.specs.Const as constant
-use Rattle.pt_lib_flow.specs.Counter as counter
+use Rattle.pt_flow_numbers.specs.Counter as counter
 use Rattle.pt_lib_flow.specs.DownSample as down_sample
 use Rattle.pt_lib_flow.specs.Expression as expression
-use Rattle.pt_lib_flow.specs.Extreme as extreme
-use Rattle.pt_lib_flow.specs.MultiplyDivide as multiply_divide
-use Rattle.pt_lib_flow.specs.Ramp as ramp
+use Rattle.pt_flow_numbers.specs.Extreme as extreme
+use Rattle.pt_flow_numbers.specs.MultiplyDivide as multiply_divide
+use Rattle.pt_flow_numbers.specs.Ramp as ramp
 use Rattle.pt_lib_flow.specs.Repeat as repeat
 use Rattle.pt_lib_flow.specs.SampleDelay as sample_delay
-use Rattle.pt_lib_flow.specs.Scale as scale
+use Rattle.pt_flow_numbers.specs.Scale as scale
 use Rattle.pt_lib_flow.specs.Sequence as sequence
 use Rattle.pt_lib_flow.specs.UpSample as up_sample
 use Rattle.pt_lib_data.specs.DataActor as data_actor

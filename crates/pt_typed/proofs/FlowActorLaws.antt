@@ -9,52 +9,52 @@ use Rattle.pt_value.specs.Value.{Value}
 use Rattle.pt_value.specs.Token.{value_of, token_of}
 use Rattle.pt_value.specs.declared.token.Token.{Token}
 use Rattle.pt_value.specs.declared.token.Token.TheVariants as token
-use Rattle.pt_types.specs.Datatype.{Datatype, Int, General}
-use Rattle.pt_types.specs.Order.{IsBelow}
-use Rattle.pt_types.specs.Token.{type_of_value}
-use Rattle.pt_types.proofs.Fields.{and_left, and_right}
-use Rattle.pt_types.proofs.Order.{below-trans, below-refl, above-General}
-use Rattle.pt_expr.specs.declared.fault.EvalFault.TheVariants as fault
-use Rattle.pt_expr.specs.Outcome as outcome
-use Rattle.pt_expr.specs.Outcome.{Outcome}
-use Rattle.pt_expr.specs.Scope.{Scope}
-use Rattle.pt_expr_type.specs.Typing.{Typing, Has, Clash, or_general}
-use Rattle.pt_expr_type.specs.Types.{Types}
-use Rattle.pt_expr_type.specs.TreeType.{tree_type, are_bound}
-use Rattle.pt_expr_type.specs.Laws.{IsHeld, Keeps, IsOfType}
-use Rattle.pt_expr_type.specs.Rule.{type_or_general}
-use Rattle.pt_expr_type.proofs.Sound.{typed-sound}
+use Rattle.pt_datatypes.specs.Datatype.{Datatype, Int, General}
+use Rattle.pt_datatypes.specs.Order.{IsBelow}
+use Rattle.pt_datatypes.specs.Token.{type_of_value}
+use Rattle.pt_datatypes.proofs.Fields.{and_left, and_right}
+use Rattle.pt_datatypes.proofs.Order.{below-trans, below-refl, above-General}
+use Rattle.pt_language.specs.declared.eval_fault.EvalFault.TheVariants as fault
+use Rattle.pt_language.specs.Outcome as outcome
+use Rattle.pt_language.specs.Outcome.{Outcome}
+use Rattle.pt_language.specs.Scope.{Scope}
+use Rattle.pt_language.specs.Typing.{Typing, Has, Clash, or_general}
+use Rattle.pt_language.specs.Types.{Types}
+use Rattle.pt_language.specs.TreeType.{tree_type, are_bound}
+use Rattle.pt_language.specs.Laws.{IsHeld, Keeps, IsOfType}
+use Rattle.pt_language.specs.Rule.{type_or_general}
+use Rattle.pt_language.proofs.TypeSound.{typed-sound}
 use Rattle.pt_firing.specs.Params.{value_under}
 use Rattle.pt_firing.specs.RunFault.{code_of}
 use Rattle.pt_firing.specs.declared.fault.RunFault.{RunFault}
 use Rattle.pt_firing.specs.declared.fault.RunFault.TheVariants.{Overflow}
 use Rattle.pt_lib_flow.specs.declared.flow_actor.FlowActor.{FlowActor}
 use Rattle.pt_lib_flow.specs.declared.flow_actor.FlowActor.TheVariants.{AbsoluteValue, Accumulator, AddSubtract, BooleanSelect, BooleanSwitch, Const, Counter, DownSample, Expression, Extreme, MultiplyDivide, Ramp, Repeat, SampleDelay, Scale, Sequence, UpSample}
-use Rattle.pt_lib_flow.specs.declared.accumulator.Accumulator as accumulators
+use Rattle.pt_flow_numbers.specs.declared.accumulator.Accumulator as accumulators
 use Rattle.pt_lib_flow.specs.declared.boolean_select.Turn.{Turn}
 use Rattle.pt_lib_flow.specs.declared.boolean_select.Turn.TheVariants as turns
 use Rattle.pt_lib_flow.specs.declared.boolean_switch.BooleanSwitch as switches
-use Rattle.pt_lib_flow.specs.declared.multiply_divide.MultiplyDivide as ratios
+use Rattle.pt_flow_numbers.specs.declared.multiply_divide.MultiplyDivide as ratios
 use Rattle.pt_lib_flow.specs.declared.sequence.Sequence as sequences
-use Rattle.pt_lib_flow.specs.Row.{gives, rests, exactly, fits_i64, on_present, token_at, number_at, truth_at, sum_of}
-use Rattle.pt_lib_flow.specs.Limit.{is_over, after_one, is_called, source}
-use Rattle.pt_lib_flow.specs.Rates.{repeated}
+use Rattle.pt_flow_base.specs.Row.{gives, rests, exactly, fits_i64, on_present, token_at, number_at, truth_at, sum_of}
+use Rattle.pt_flow_base.specs.Limit.{is_over, after_one, is_called, source}
+use Rattle.pt_flow_base.specs.Rates.{repeated}
 use Rattle.pt_lib_flow.specs.Formula.{Formula, names, parameters, with_name, with_inputs, parameter_types, with_type, with_types, types_of, is_of, are_of}
 use Rattle.pt_lib_flow.specs.FlowActor.{held_as, step, first}
-use Rattle.pt_lib_flow.specs.AbsoluteValue as absolute_value
-use Rattle.pt_lib_flow.specs.Accumulator as accumulator
-use Rattle.pt_lib_flow.specs.AddSubtract as add_subtract
+use Rattle.pt_flow_numbers.specs.AbsoluteValue as absolute_value
+use Rattle.pt_flow_numbers.specs.Accumulator as accumulator
+use Rattle.pt_flow_numbers.specs.AddSubtract as add_subtract
 use Rattle.pt_lib_flow.specs.BooleanSelect as boolean_select
 use Rattle.pt_lib_flow.specs.BooleanSwitch as boolean_switch
 use Rattle.pt_lib_flow.specs.Const as constant
-use Rattle.pt_lib_flow.specs.Counter as counter
+use Rattle.pt_flow_numbers.specs.Counter as counter
 use Rattle.pt_lib_flow.specs.DownSample as down_sample
 use Rattle.pt_lib_flow.specs.Expression as expression
-use Rattle.pt_lib_flow.specs.Extreme as extreme
-use Rattle.pt_lib_flow.specs.MultiplyDivide as multiply_divide
-use Rattle.pt_lib_flow.specs.Ramp as ramp
+use Rattle.pt_flow_numbers.specs.Extreme as extreme
+use Rattle.pt_flow_numbers.specs.MultiplyDivide as multiply_divide
+use Rattle.pt_flow_numbers.specs.Ramp as ramp
 use Rattle.pt_lib_flow.specs.SampleDelay as sample_delay
-use Rattle.pt_lib_flow.specs.Scale as scale
+use Rattle.pt_flow_numbers.specs.Scale as scale
 use Rattle.pt_lib_flow.specs.Sequence as sequence
 use Rattle.pt_lib_flow.specs.UpSample as up_sample
 use Rattle.pt_typed.specs.Signature.{AreOf}

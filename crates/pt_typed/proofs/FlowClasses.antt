@@ -1,17 +1,17 @@
 -- The classes of flow actors: what the typing of a net says of their ports is what they ask.
 use Rattle.std.proofs.Common.{◌≡◌, ℕ, List, [], ◌∷◌, ◌++◌, map, replicate, Bool, true, false, None, refl}
 use Rattle.std.specs.Prelude.{codes}
-use Rattle.pt_moml.specs.declared.job.Direction.{Direction}
-use Rattle.pt_moml.specs.declared.job.Direction.TheVariants.{Input, Output}
-use Rattle.pt_moml.specs.declared.classes.Arity.{Arity}
-use Rattle.pt_moml.specs.declared.classes.Arity.TheVariants as arity
-use Rattle.pt_moml.specs.Classes.{kind_of, class_row, classes}
-use Rattle.pt_types.specs.Datatype.{Datatype}
-use Rattle.pt_types.proofs.Order.{below-trans}
+use Rattle.pt_document.specs.declared.job.Direction.{Direction}
+use Rattle.pt_document.specs.declared.job.Direction.TheVariants.{Input, Output}
+use Rattle.pt_document.specs.declared.classes.Arity.{Arity}
+use Rattle.pt_document.specs.declared.classes.Arity.TheVariants as arity
+use Rattle.pt_document.specs.Classes.{kind_of, class_row, classes}
+use Rattle.pt_datatypes.specs.Datatype.{Datatype}
+use Rattle.pt_datatypes.proofs.Order.{below-trans}
 use Rattle.pt_resolve.specs.declared.row.PortType.{PortType}
 use Rattle.pt_resolve.specs.declared.row.PortType.TheVariants as port
 use Rattle.pt_resolve.specs.Rows.{port_rows}
-use Rattle.pt_lib_flow.specs.declared.params.Params.{Params}
+use Rattle.pt_flow_base.specs.declared.params.Params.{Params}
 use Rattle.pt_lib_flow.specs.declared.flow_actor.Class.{Class}
 use Rattle.pt_lib_flow.specs.declared.flow_actor.Class.TheVariants as class
 use Rattle.pt_typed.specs.NetRows.{ends_from}

@@ -3,27 +3,27 @@ use Rattle.std.proofs.Common.{◌≡◌, ℕ, List, Bool, true, false, Option, S
 use Rattle.std.specs.Prelude.{codes, option_map, bytes_eq}
 use Rattle.std.proofs.lemmas.Slice.Eq.{bytes_eq-Decides}
 use Rattle.pt_meaning.specs.Streams.{get}
-use Rattle.pt_types.specs.Datatype.{Datatype, Int}
-use Rattle.pt_types.specs.Order.{IsBelow}
-use Rattle.pt_lib_flow.specs.declared.params.Params.{Params}
+use Rattle.pt_datatypes.specs.Datatype.{Datatype, Int}
+use Rattle.pt_datatypes.specs.Order.{IsBelow}
+use Rattle.pt_flow_base.specs.declared.params.Params.{Params}
 use Rattle.pt_lib_flow.specs.declared.flow_actor.Class.{Class}
 use Rattle.pt_lib_flow.specs.declared.flow_actor.Class.TheVariants as class
 use Rattle.pt_lib_flow.specs.declared.flow_actor.FlowActor.{FlowActor}
 use Rattle.pt_lib_flow.specs.declared.flow_actor.FlowActor.TheVariants.{AbsoluteValue, Accumulator, AddSubtract, BooleanSelect, BooleanSwitch, Counter, DownSample, Extreme, MultiplyDivide, Ramp, Repeat, Scale, UpSample}
-use Rattle.pt_lib_flow.specs.declared.extreme.Side.TheVariants.{Greatest, Least}
+use Rattle.pt_flow_numbers.specs.declared.extreme.Side.TheVariants.{Greatest, Least}
 use Rattle.pt_lib_flow.specs.FlowActor.{class_of, start_as}
-use Rattle.pt_lib_flow.specs.AbsoluteValue as absolute_value
-use Rattle.pt_lib_flow.specs.Accumulator as accumulator
-use Rattle.pt_lib_flow.specs.AddSubtract as add_subtract
+use Rattle.pt_flow_numbers.specs.AbsoluteValue as absolute_value
+use Rattle.pt_flow_numbers.specs.Accumulator as accumulator
+use Rattle.pt_flow_numbers.specs.AddSubtract as add_subtract
 use Rattle.pt_lib_flow.specs.BooleanSelect as boolean_select
 use Rattle.pt_lib_flow.specs.BooleanSwitch as boolean_switch
-use Rattle.pt_lib_flow.specs.Counter as counter
+use Rattle.pt_flow_numbers.specs.Counter as counter
 use Rattle.pt_lib_flow.specs.DownSample as down_sample
-use Rattle.pt_lib_flow.specs.Extreme as extreme
-use Rattle.pt_lib_flow.specs.MultiplyDivide as multiply_divide
-use Rattle.pt_lib_flow.specs.Ramp as ramp
+use Rattle.pt_flow_numbers.specs.Extreme as extreme
+use Rattle.pt_flow_numbers.specs.MultiplyDivide as multiply_divide
+use Rattle.pt_flow_numbers.specs.Ramp as ramp
 use Rattle.pt_lib_flow.specs.Repeat as repeat
-use Rattle.pt_lib_flow.specs.Scale as scale
+use Rattle.pt_flow_numbers.specs.Scale as scale
 use Rattle.pt_lib_flow.specs.UpSample as up_sample
 use Rattle.pt_typed.specs.TokenTypes.{IsUnder, ToFirst}
 use Rattle.pt_typed.specs.TypedFlow.{ToBoth, IsTypedFlow}

@@ -8,15 +8,15 @@ use Rattle.std.proofs.lemmas.Bool.{le-leb}
 use Rattle.pt_value.specs.Value.{Value}
 use Rattle.pt_value.specs.Token.{value_of, token_of, value_of-token_of}
 use Rattle.pt_value.specs.declared.token.Token.{Token}
-use Rattle.pt_types.specs.Datatype.{Datatype, Boolean}
-use Rattle.pt_types.specs.Token.{type_of_value}
-use Rattle.pt_types.proofs.Fields.{and_both}
-use Rattle.pt_expr.specs.Scope.{mark, port_in}
-use Rattle.pt_expr_type.specs.Types.{Types, or_else, presence_type}
-use Rattle.pt_moml.specs.Names.{words, presence, ends_in, is_among, is_reserved}
+use Rattle.pt_datatypes.specs.Datatype.{Datatype, Boolean}
+use Rattle.pt_datatypes.specs.Token.{type_of_value}
+use Rattle.pt_datatypes.proofs.Fields.{and_both}
+use Rattle.pt_language.specs.Scope.{mark, port_in}
+use Rattle.pt_language.specs.Types.{Types, or_else, presence_type}
+use Rattle.pt_document.specs.Names.{words, presence, ends_in, is_among, is_reserved}
 use Rattle.pt_firing.specs.Params.{value_under}
 use Rattle.pt_typing.specs.Terms.{named, itself, entry_in, names_types}
-use Rattle.pt_values.specs.Scopes.{Bindings, bound}
+use Rattle.pt_scopes.specs.Scopes.{Bindings, bound}
 use Rattle.pt_resolve.specs.Inequalities.{with_type as known_type, known}
 use Rattle.pt_start.specs.Started.{token_under, seen_token}
 use Rattle.pt_lib_flow.specs.Formula.{parameter_types, with_type, with_types}

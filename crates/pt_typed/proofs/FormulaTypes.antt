@@ -1,18 +1,18 @@
 -- The type of a tree where some of its names may have no types: then it is general, and else that of the tree.
 use Rattle.std.proofs.Common.{◌≡◌, ℕ, List, ◌∷◌, Bool, true, false, Option, Some, None, refl, sym, ap, subst, ◌∙◌, if◌then◌else◌}
 use Rattle.std.specs.Prelude.{is_some, unwrap_or}
-use Rattle.pt_types.specs.Datatype.{Datatype, Unknown, General}
-use Rattle.pt_types.specs.Normal.{array_of}
-use Rattle.pt_types.specs.Order.{IsBelow}
-use Rattle.pt_types.specs.Join.{join}
-use Rattle.pt_types.proofs.Fields.{and_left, and_right, and_both}
-use Rattle.pt_types.proofs.Order.{below-refl, below-General}
-use Rattle.pt_expr.specs.Tree as tree
-use Rattle.pt_expr.specs.Tree.{Tree, Trees, no_trees, tree_then, NamedTrees}
-use Rattle.pt_expr_type.specs.Typing.{Has, and_then, or_general}
-use Rattle.pt_expr_type.specs.Types.{Types, type_under, is_bound}
-use Rattle.pt_expr_type.specs.TreeType.{number, truth, calculated, operated, chosen, applied, field, length_of, recorded, tree_type, parts_type, named_types, are_bound, are_parts_bound, are_fields_bound}
-use Rattle.pt_expr_type.specs.Rule.{type_or_general}
+use Rattle.pt_datatypes.specs.Datatype.{Datatype, Unknown, General}
+use Rattle.pt_datatypes.specs.Normal.{array_of}
+use Rattle.pt_datatypes.specs.Order.{IsBelow}
+use Rattle.pt_datatypes.specs.Join.{join}
+use Rattle.pt_datatypes.proofs.Fields.{and_left, and_right, and_both}
+use Rattle.pt_datatypes.proofs.Order.{below-refl, below-General}
+use Rattle.pt_language.specs.Tree as tree
+use Rattle.pt_language.specs.Tree.{Tree, Trees, no_trees, tree_then, NamedTrees}
+use Rattle.pt_language.specs.Typing.{Has, and_then, or_general}
+use Rattle.pt_language.specs.Types.{Types, type_under, is_bound}
+use Rattle.pt_language.specs.TreeType.{number, truth, calculated, operated, chosen, applied, field, length_of, recorded, tree_type, parts_type, named_types, are_bound, are_parts_bound, are_fields_bound}
+use Rattle.pt_language.specs.Rule.{type_or_general}
 
 -- a name that has a type among the first has the same among the second
 abbrev pub HasAtLeast : Types → Types → Type 0

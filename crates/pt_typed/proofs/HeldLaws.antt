@@ -4,25 +4,25 @@ use Rattle.std.specs.Prelude.{codes, bytes_eq}
 use Rattle.std.specs.List.{list_all, AllByRecursion, AllZip}
 use Rattle.std.proofs.lemmas.Option.{same_Some}
 use Rattle.std.proofs.lemmas.Bool.{false≢true}
-use Rattle.pt_types.proofs.Fields.{and_left, and_right}
-use Rattle.pt_expr.specs.Scope.{Scope}
-use Rattle.pt_expr.specs.declared.expr.Expr.{Expr}
-use Rattle.pt_moml.specs.Document.{PropertyTree, property_name}
-use Rattle.pt_graph.specs.declared.net.Net.{Net}
-use Rattle.pt_graph.specs.Net.{NetEntityTree, entity_view}
-use Rattle.pt_parameter.specs.declared.form.Form.{Form}
-use Rattle.pt_parameter.specs.declared.form.Form.TheVariants as form
-use Rattle.pt_parameter.specs.declared.parameter_value.ParameterValue.{ParameterValue}
-use Rattle.pt_parameter.specs.declared.parameter_value.ParameterValue.TheVariants as parameter
-use Rattle.pt_parameter.specs.Forms.{ParameterForm, forms, form_in, form_of}
-use Rattle.pt_parameter.specs.Given.{held_view, names_port, IsGiven}
-use Rattle.pt_values.specs.declared.values.EntityValues.{EntityValues}
-use Rattle.pt_values.specs.declared.values.Values.{Values}
-use Rattle.pt_values.specs.Scopes.{net_view, bound, text_of, is_composite_class}
-use Rattle.pt_values.specs.Sites.{inputs_of}
-use Rattle.pt_values.specs.ClassParameters.{IsParameterOf}
-use Rattle.pt_values.specs.Valued.{EntityView, AreOwn, IsEntityValued, IsValued}
-use Rattle.pt_values.specs.Valued as valued
+use Rattle.pt_datatypes.proofs.Fields.{and_left, and_right}
+use Rattle.pt_language.specs.Scope.{Scope}
+use Rattle.pt_language.specs.declared.expr.Expr.{Expr}
+use Rattle.pt_document.specs.Document.{PropertyTree, property_name}
+use Rattle.pt_net.specs.declared.net.Net.{Net}
+use Rattle.pt_net.specs.Net.{NetEntityTree, entity_view}
+use Rattle.pt_scopes.specs.declared.form.Form.{Form}
+use Rattle.pt_scopes.specs.declared.form.Form.TheVariants as form
+use Rattle.pt_scopes.specs.declared.parameter_value.ParameterValue.{ParameterValue}
+use Rattle.pt_scopes.specs.declared.parameter_value.ParameterValue.TheVariants as parameter
+use Rattle.pt_scopes.specs.Forms.{ParameterForm, forms, form_in, form_of}
+use Rattle.pt_scopes.specs.Given.{held_view, names_port, IsGiven}
+use Rattle.pt_scopes.specs.declared.values.EntityValues.{EntityValues}
+use Rattle.pt_scopes.specs.declared.values.Values.{Values}
+use Rattle.pt_scopes.specs.Scopes.{net_view, bound, text_of, is_composite_class}
+use Rattle.pt_scopes.specs.Sites.{inputs_of}
+use Rattle.pt_scopes.specs.ClassParameters.{IsParameterOf}
+use Rattle.pt_scopes.specs.Valued.{EntityView, AreOwn, IsEntityValued, IsValued}
+use Rattle.pt_scopes.specs.Valued as valued
 use Rattle.pt_start.specs.Started.{own_tokens}
 use Rattle.pt_typed.specs.NetRows.{IsTokenHeld, HoldsTokens}
 use Rattle.pt_typed.proofs.RowsMet.{viewed}

@@ -3,28 +3,28 @@ use Rattle.std.proofs.Common.{◌≡◌, ℕ, zero, suc, ◌+◌, List, [], ◌�
 use Rattle.std.proofs.lemmas.List.Elements.{recursion_from_All}
 use Rattle.std.specs.List.{AllByRecursion}
 use Rattle.std.proofs.lemmas.List.Elements.{All-contains, All-from_recursion}
-use Rattle.pt_types.specs.Datatype.{Datatype, Int, Boolean, Words}
-use Rattle.pt_types.specs.Normal.{array_of}
-use Rattle.pt_types.specs.Order.{IsBelow}
-use Rattle.pt_expr_type.specs.Types.{Types}
-use Rattle.pt_expr_type.specs.Typing.{or_general}
-use Rattle.pt_expr_type.specs.TreeType.{element}
-use Rattle.pt_moml.specs.declared.job.Direction.{Direction}
-use Rattle.pt_moml.specs.Document.{PortTree}
-use Rattle.pt_graph.specs.declared.net.Channel.{Channel}
-use Rattle.pt_graph.specs.declared.net.Net.{Net}
-use Rattle.pt_graph.specs.Net.{NetEntityTree, entity_view}
-use Rattle.pt_values.specs.declared.values.Values.{Values}
-use Rattle.pt_values.specs.Scopes.{net_view}
-use Rattle.pt_values.specs.Valued.{EntityView, inputs_view}
-use Rattle.pt_values.specs.Valued as valued
+use Rattle.pt_datatypes.specs.Datatype.{Datatype, Int, Boolean, Words}
+use Rattle.pt_datatypes.specs.Normal.{array_of}
+use Rattle.pt_datatypes.specs.Order.{IsBelow}
+use Rattle.pt_language.specs.Types.{Types}
+use Rattle.pt_language.specs.Typing.{or_general}
+use Rattle.pt_language.specs.TreeType.{element}
+use Rattle.pt_document.specs.declared.job.Direction.{Direction}
+use Rattle.pt_document.specs.Document.{PortTree}
+use Rattle.pt_net.specs.declared.net.Channel.{Channel}
+use Rattle.pt_net.specs.declared.net.Net.{Net}
+use Rattle.pt_net.specs.Net.{NetEntityTree, entity_view}
+use Rattle.pt_scopes.specs.declared.values.Values.{Values}
+use Rattle.pt_scopes.specs.Scopes.{net_view}
+use Rattle.pt_scopes.specs.Valued.{EntityView, inputs_view}
+use Rattle.pt_scopes.specs.Valued as valued
 use Rattle.pt_typing.specs.declared.variable.Variable.TheVariants.{Port, Row}
 use Rattle.pt_typing.specs.Least.{Assignment, IsMet}
 use Rattle.pt_resolve.specs.declared.row.PortType.{PortType}
 use Rattle.pt_resolve.specs.declared.row.PortType.TheVariants as port
 use Rattle.pt_resolve.specs.Rows.{port_type, port_type_in, port_rows, declared_output, seedings}
 use Rattle.pt_resolve.specs.Frames.{Frames, frames_of, seen_types}
-use Rattle.pt_resolve.specs.Inequalities.{of_channel, of_port, of_ports, of_parameters, of_standards, of_entity, of_entities, of_inputs, top_ports, inequalities}
+use Rattle.pt_resolve.specs.Inequalities.{of_channel, of_port, of_ports, of_parameters, of_standards, of_entity, of_entities, of_inputs, top_inputs, inequalities}
 use Rattle.pt_resolve.specs.Typing.{IsTyping}
 use Rattle.pt_typed.specs.NetTypes.{source_type, place_type, TypesGoUp}
 
@@ -75,7 +75,7 @@ entity-met net values typing k e v is at held =
     let frames = frames_of net values in
     let es = map entity_view net.entities.items in
     let vs = map valued.entity_view values.entities.items in
-    let rest = of_inputs (top_ports es) (net_view net).inputs (inputs_view values) in
+    let rest = of_inputs (top_inputs es) (net_view net).inputs (inputs_view values) in
     let entities = all-front (IsMet typing) (of_entities frames 0 es vs) rest (all-back (IsMet typing) (map of_channel net.channels.items) (of_entities frames 0 es vs ++ rest) (all-met net values typing is)) in
     subst (λ m. AllByRecursion (IsMet typing) (of_entity frames m e (Some v))) (let z : 0 + k ≡ k = omega arith in z) (entity-at frames typing 0 es vs k e v entities at held)
 

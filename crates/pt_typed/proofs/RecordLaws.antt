@@ -7,19 +7,19 @@ use Rattle.pt_value.specs.Value as val
 use Rattle.pt_value.specs.Value.{Value, Named, named_of}
 use Rattle.pt_value.specs.Record as records
 use Rattle.pt_value.specs.declared.token.Token.{Token}
-use Rattle.pt_types.specs.Datatype.{Datatype, Record, types_of}
-use Rattle.pt_types.specs.Normal.{record_of}
-use Rattle.pt_types.specs.Order.{is_below, are_below, IsBelow}
-use Rattle.pt_types.specs.Token.{type_of_value, field_types}
-use Rattle.pt_types.proofs.Fields.{and_both}
-use Rattle.pt_types.proofs.Joins.{normal-below}
-use Rattle.pt_types.proofs.Order.{bytes_eq-refl, below-trans}
-use Rattle.pt_expr.specs.Outcome.{Outcome, Gives, Stops, Wrong}
-use Rattle.pt_expr.specs.RecordOf as recording
-use Rattle.pt_expr_type.specs.Typing.{where_true, or_general}
-use Rattle.pt_expr_type.specs.ByName.{by_name, put}
-use Rattle.pt_expr_type.specs.TreeType.{recorded}
-use Rattle.pt_expr_type.proofs.Values.{Of}
+use Rattle.pt_datatypes.specs.Datatype.{Datatype, Record, types_of}
+use Rattle.pt_datatypes.specs.Normal.{record_of}
+use Rattle.pt_datatypes.specs.Order.{is_below, are_below, IsBelow}
+use Rattle.pt_datatypes.specs.Token.{type_of_value, field_types}
+use Rattle.pt_datatypes.proofs.Fields.{and_both}
+use Rattle.pt_datatypes.proofs.Joins.{normal-below}
+use Rattle.pt_datatypes.proofs.Order.{bytes_eq-refl, below-trans}
+use Rattle.pt_language.specs.Outcome.{Outcome, Gives, Stops, Wrong}
+use Rattle.pt_language.specs.RecordOf as recording
+use Rattle.pt_language.specs.Typing.{where_true, or_general}
+use Rattle.pt_language.specs.ByName.{by_name, put}
+use Rattle.pt_language.specs.TreeType.{recorded}
+use Rattle.pt_language.proofs.Values.{Of}
 use Rattle.pt_firing.specs.Row.{all_present}
 use Rattle.pt_lib_data.specs.RecordAssembler.{fields}
 use Rattle.pt_typed.specs.Signature.{AreOf}

@@ -3,23 +3,23 @@ use Rattle.std.proofs.Common.{◌≡◌, ℕ, zero, suc, ◌+◌, List, [], ◌�
 use Rattle.std.specs.Prelude.{codes, bytes_eq}
 use Rattle.std.specs.List.{AllByRecursion, zip, enumerate_from}
 use Rattle.pt_meaning.specs.Streams.{get}
-use Rattle.pt_moml.specs.declared.job.Direction.{Direction}
-use Rattle.pt_moml.specs.declared.job.Direction.TheVariants.{Input, Output}
-use Rattle.pt_moml.specs.declared.classes.Arity.TheVariants as arity
-use Rattle.pt_moml.specs.Classes.{ClassPort}
-use Rattle.pt_moml.specs.Document.{PortTree}
-use Rattle.pt_types.specs.Datatype.{Datatype}
-use Rattle.pt_types.specs.Order.{IsBelow}
-use Rattle.pt_expr_type.specs.Typing.{or_general}
-use Rattle.pt_expr_type.specs.TreeType.{field}
-use Rattle.pt_graph.specs.declared.net.Channel.{Channel}
-use Rattle.pt_graph.specs.Table.{declared_port}
-use Rattle.pt_graph.specs.Net.{row_port}
+use Rattle.pt_document.specs.declared.job.Direction.{Direction}
+use Rattle.pt_document.specs.declared.job.Direction.TheVariants.{Input, Output}
+use Rattle.pt_document.specs.declared.classes.Arity.TheVariants as arity
+use Rattle.pt_document.specs.Classes.{ClassPort}
+use Rattle.pt_document.specs.Document.{PortTree}
+use Rattle.pt_datatypes.specs.Datatype.{Datatype}
+use Rattle.pt_datatypes.specs.Order.{IsBelow}
+use Rattle.pt_language.specs.Typing.{or_general}
+use Rattle.pt_language.specs.TreeType.{field}
+use Rattle.pt_net.specs.declared.net.Channel.{Channel}
+use Rattle.pt_net.specs.Table.{declared_port}
+use Rattle.pt_net.specs.Net.{row_port}
 use Rattle.std.proofs.lemmas.Option.{same_Some}
 use Rattle.std.proofs.lemmas.Slice.Eq.{bytes_eq-Decides}
 use Rattle.pt_firing.specs.Params.{names_but}
-use Rattle.pt_wiring.specs.Inside.{is_inward}
-use Rattle.pt_values.specs.Sites.{is_input_port}
+use Rattle.pt_net.specs.Inside.{is_inward}
+use Rattle.pt_scopes.specs.Sites.{is_input_port}
 use Rattle.pt_typing.specs.declared.variable.Variable.{Variable}
 use Rattle.pt_typing.specs.declared.variable.Variable.TheVariants as variable
 use Rattle.pt_typing.specs.Least.{Assignment}

@@ -5,23 +5,23 @@ use Rattle.std.specs.List.{AllByRecursion, zip, enumerate_from}
 use Rattle.std.proofs.lemmas.Option.{same_Some}
 use Rattle.std.proofs.lemmas.Slice.Eq.{bytes_eq-Decides}
 use Rattle.pt_meaning.specs.Streams.{get}
-use Rattle.pt_moml.specs.declared.job.Direction.{Direction}
-use Rattle.pt_moml.specs.declared.job.Direction.TheVariants.{Input, Output}
-use Rattle.pt_moml.specs.Classes.{ClassPort, Actor, kind_of, class_row, classes}
-use Rattle.pt_moml.specs.Document.{PortTree}
-use Rattle.pt_types.specs.Datatype.{Datatype}
-use Rattle.pt_types.specs.Order.{IsBelow}
-use Rattle.pt_expr_type.specs.Types.{Types}
-use Rattle.pt_expr_type.specs.Typing.{or_general}
-use Rattle.pt_expr_type.specs.TreeType.{field, recorded}
-use Rattle.pt_graph.specs.declared.net.Net.{Net}
-use Rattle.pt_graph.specs.declared.net.NetEntity.{NetEntity}
-use Rattle.pt_graph.specs.Table.{joined_ports, declared_port}
-use Rattle.pt_graph.specs.Net.{NetEntityTree, row_port, entity_view}
+use Rattle.pt_document.specs.declared.job.Direction.{Direction}
+use Rattle.pt_document.specs.declared.job.Direction.TheVariants.{Input, Output}
+use Rattle.pt_document.specs.Classes.{ClassPort, Actor, kind_of, class_row, classes}
+use Rattle.pt_document.specs.Document.{PortTree}
+use Rattle.pt_datatypes.specs.Datatype.{Datatype}
+use Rattle.pt_datatypes.specs.Order.{IsBelow}
+use Rattle.pt_language.specs.Types.{Types}
+use Rattle.pt_language.specs.Typing.{or_general}
+use Rattle.pt_language.specs.TreeType.{field, recorded}
+use Rattle.pt_net.specs.declared.net.Net.{Net}
+use Rattle.pt_net.specs.declared.net.NetEntity.{NetEntity}
+use Rattle.pt_net.specs.Table.{joined_ports, declared_port}
+use Rattle.pt_net.specs.Net.{NetEntityTree, row_port, entity_view}
 use Rattle.pt_firing.specs.Params.{names_but}
-use Rattle.pt_wiring.specs.Inside.{is_inward, is_input}
-use Rattle.pt_values.specs.declared.values.Values.{Values}
-use Rattle.pt_values.specs.Valued as valued
+use Rattle.pt_net.specs.Inside.{is_inward, is_input}
+use Rattle.pt_scopes.specs.declared.values.Values.{Values}
+use Rattle.pt_scopes.specs.Valued as valued
 use Rattle.pt_typing.specs.declared.variable.Variable.TheVariants as variable
 use Rattle.pt_typing.specs.Least.{Assignment, IsMet}
 use Rattle.pt_typing.specs.Terms.{entry_in}
@@ -31,7 +31,7 @@ use Rattle.pt_resolve.specs.Frames.{frames_of, seen_types}
 use Rattle.pt_resolve.specs.Inequalities.{inputs_of, inputs_from, of_port, of_ports, of_fields, of_parameters, of_standards}
 use Rattle.pt_resolve.specs.Typing.{IsTyping}
 use Rattle.pt_start.specs.Started.{counted_port, ports_of}
-use Rattle.pt_lib_flow.specs.declared.params.Params.{Params}
+use Rattle.pt_flow_base.specs.declared.params.Params.{Params}
 use Rattle.pt_lib_data.specs.declared.data_actor.DataActor.{DataActor}
 use Rattle.pt_lib_data.specs.declared.function.Function.{Function}
 use Rattle.pt_lib_data.specs.declared.function.Function.TheVariants as made

@@ -3,24 +3,24 @@ use Rattle.std.proofs.Common.{◌≡◌, ◌⊎◌, inl, inr, ℕ, zero, suc, �
 use Rattle.std.specs.Prelude.{option_map, codes}
 use Rattle.std.specs.Option.{option_or}
 use Rattle.std.proofs.lemmas.Option.{same_Some}
-use Rattle.pt_moml.specs.declared.job.Direction.{Direction}
-use Rattle.pt_moml.specs.declared.job.Direction.TheVariants.{Input, Output}
-use Rattle.pt_moml.specs.declared.job.Port.{Port}
-use Rattle.pt_moml.specs.Classes.{ClassPort, Actor, kind_of}
-use Rattle.pt_moml.specs.Document.{PortTree}
-use Rattle.pt_moml.specs.View.{port_view}
-use Rattle.pt_types.specs.Datatype.{Datatype}
-use Rattle.pt_graph.specs.declared.net.Net.{Net}
-use Rattle.pt_graph.specs.declared.net.NetEntity.{NetEntity}
-use Rattle.pt_graph.specs.Table.{joined_ports, declared_port}
-use Rattle.pt_graph.specs.Net.{NetEntityTree, row_port, entity_view}
-use Rattle.pt_wiring.specs.Inside.{is_inward, is_input, is_output}
-use Rattle.pt_values.specs.declared.values.Values.{Values}
-use Rattle.pt_values.specs.Valued as valued
+use Rattle.pt_document.specs.declared.job.Direction.{Direction}
+use Rattle.pt_document.specs.declared.job.Direction.TheVariants.{Input, Output}
+use Rattle.pt_document.specs.declared.job.Port.{Port}
+use Rattle.pt_document.specs.Classes.{ClassPort, Actor, kind_of}
+use Rattle.pt_document.specs.Document.{PortTree}
+use Rattle.pt_document.specs.View.{port_view}
+use Rattle.pt_datatypes.specs.Datatype.{Datatype}
+use Rattle.pt_net.specs.declared.net.Net.{Net}
+use Rattle.pt_net.specs.declared.net.NetEntity.{NetEntity}
+use Rattle.pt_net.specs.Table.{joined_ports, declared_port}
+use Rattle.pt_net.specs.Net.{NetEntityTree, row_port, entity_view}
+use Rattle.pt_net.specs.Inside.{is_inward, is_input, is_output}
+use Rattle.pt_scopes.specs.declared.values.Values.{Values}
+use Rattle.pt_scopes.specs.Valued as valued
 use Rattle.pt_typing.specs.declared.variable.Variable.TheVariants as variable
 use Rattle.pt_typing.specs.Least.{Assignment}
 use Rattle.pt_resolve.specs.Typing.{IsTyping}
-use Rattle.pt_lib_flow.specs.declared.params.Params.{Params}
+use Rattle.pt_flow_base.specs.declared.params.Params.{Params}
 use Rattle.pt_lib_flow.specs.declared.flow_actor.FlowActor.{FlowActor}
 use Rattle.pt_lib_flow.specs.declared.flow_actor.FlowActor.TheVariants as flow
 use Rattle.pt_lib_flow.specs.declared.flow_actor.Class.{Class as FlowClass}

@@ -7,19 +7,19 @@ use Rattle.std.proofs.lemmas.Option.{same_Some}
 use Rattle.pt_value.specs.Value.{Value, Values, no_values, value_then, values_of}
 use Rattle.pt_value.specs.Token.{value_of, token_of}
 use Rattle.pt_value.specs.declared.token.Token.{Token}
-use Rattle.pt_types.specs.Datatype.{Datatype, Int}
-use Rattle.pt_types.specs.Order.{IsBelow}
-use Rattle.pt_types.specs.Join.{join}
-use Rattle.pt_types.specs.Token.{type_of_value}
-use Rattle.pt_types.proofs.Order.{below-trans, below-refl}
-use Rattle.pt_expr_type.proofs.JoinLaws.{join-first, join-second}
-use Rattle.pt_moml.specs.Document.{PropertyTree, property_name}
+use Rattle.pt_datatypes.specs.Datatype.{Datatype, Int}
+use Rattle.pt_datatypes.specs.Order.{IsBelow}
+use Rattle.pt_datatypes.specs.Join.{join}
+use Rattle.pt_datatypes.specs.Token.{type_of_value}
+use Rattle.pt_datatypes.proofs.Order.{below-trans, below-refl}
+use Rattle.pt_language.proofs.JoinLaws.{join-first, join-second}
+use Rattle.pt_document.specs.Document.{PropertyTree, property_name}
 use Rattle.pt_firing.specs.Params.{value_under}
-use Rattle.pt_parameter.specs.Given.{held_view}
-use Rattle.pt_parameter.specs.Agreement.{standard_of}
-use Rattle.pt_parameter.specs.Forms.{forms}
-use Rattle.pt_parameter.specs.declared.parameter_value.ParameterValue.{ParameterValue}
-use Rattle.pt_parameter.specs.declared.parameter_value.ParameterValue.TheVariants as parameter
+use Rattle.pt_scopes.specs.Given.{held_view}
+use Rattle.pt_scopes.specs.Agreement.{standard_of}
+use Rattle.pt_scopes.specs.Forms.{forms}
+use Rattle.pt_scopes.specs.declared.parameter_value.ParameterValue.{ParameterValue}
+use Rattle.pt_scopes.specs.declared.parameter_value.ParameterValue.TheVariants as parameter
 use Rattle.pt_typing.specs.declared.variable.Variable.TheVariants.{Row}
 use Rattle.pt_typing.specs.Terms.{Fixed}
 use Rattle.pt_typing.specs.Least.{Assignment, IsMet}

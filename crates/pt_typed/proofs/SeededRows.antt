@@ -3,23 +3,23 @@ use Rattle.std.proofs.Common.{◌≡◌, ◌⊎◌, inl, inr, ℕ, List, [], ◌
 use Rattle.std.specs.Prelude.{codes, pos}
 use Rattle.std.specs.List.{AllByRecursion}
 use Rattle.std.proofs.lemmas.Option.{same_Some}
-use Rattle.pt_moml.specs.declared.job.Direction.{Direction}
-use Rattle.pt_moml.specs.Classes.{kind_of, class_row, classes}
-use Rattle.pt_moml.specs.Document.{PropertyTree}
+use Rattle.pt_document.specs.declared.job.Direction.{Direction}
+use Rattle.pt_document.specs.Classes.{kind_of, class_row, classes}
+use Rattle.pt_document.specs.Document.{PropertyTree}
 use Rattle.pt_value.specs.Value.{Value, values_of}
 use Rattle.pt_value.specs.Token.{value_of, token_of}
 use Rattle.pt_value.specs.declared.token.Token.{Token}
 use Rattle.pt_value.specs.declared.token.Token.TheVariants as token
-use Rattle.pt_types.specs.Datatype.{Datatype, Unknown, Int}
-use Rattle.pt_types.specs.Token.{type_of_value}
-use Rattle.pt_types.proofs.Order.{below-trans}
-use Rattle.pt_graph.specs.declared.net.Net.{Net}
-use Rattle.pt_graph.specs.declared.net.NetEntity.{NetEntity}
-use Rattle.pt_graph.specs.Net.{NetEntityTree, entity_view}
-use Rattle.pt_parameter.specs.Given.{held_view}
-use Rattle.pt_parameter.specs.declared.parameter_value.ParameterValue.{ParameterValue}
-use Rattle.pt_values.specs.declared.values.Values.{Values}
-use Rattle.pt_values.specs.Valued as valued
+use Rattle.pt_datatypes.specs.Datatype.{Datatype, Unknown, Int}
+use Rattle.pt_datatypes.specs.Token.{type_of_value}
+use Rattle.pt_datatypes.proofs.Order.{below-trans}
+use Rattle.pt_net.specs.declared.net.Net.{Net}
+use Rattle.pt_net.specs.declared.net.NetEntity.{NetEntity}
+use Rattle.pt_net.specs.Net.{NetEntityTree, entity_view}
+use Rattle.pt_scopes.specs.Given.{held_view}
+use Rattle.pt_scopes.specs.declared.parameter_value.ParameterValue.{ParameterValue}
+use Rattle.pt_scopes.specs.declared.values.Values.{Values}
+use Rattle.pt_scopes.specs.Valued as valued
 use Rattle.pt_typing.specs.declared.variable.Variable.TheVariants as variable
 use Rattle.pt_typing.specs.Least.{Assignment, IsMet}
 use Rattle.pt_resolve.specs.Rows.{seedings, joined_values}
@@ -28,8 +28,8 @@ use Rattle.pt_resolve.specs.Inequalities.{of_ports, of_parameters, of_standards}
 use Rattle.pt_resolve.specs.Typing.{IsTyping}
 use Rattle.pt_start.specs.Started.{own_tokens, seen_tokens}
 use Rattle.pt_firing.specs.Params.{value_under, channels_to, bool_or}
-use Rattle.pt_lib_flow.specs.declared.params.Params.{Params}
-use Rattle.pt_lib_flow.specs.declared.limit.Limit.{Limit}
+use Rattle.pt_flow_base.specs.declared.params.Params.{Params}
+use Rattle.pt_flow_base.specs.declared.limit.Limit.{Limit}
 use Rattle.pt_lib_flow.specs.declared.constant.Const as constants
 use Rattle.pt_lib_flow.specs.declared.sequence.Sequence as sequences
 use Rattle.pt_lib_flow.specs.declared.sample_delay.SampleDelay as delays
@@ -37,24 +37,24 @@ use Rattle.pt_lib_flow.specs.declared.flow_actor.FlowActor.{FlowActor}
 use Rattle.pt_lib_flow.specs.declared.flow_actor.FlowActor.TheVariants as flow
 use Rattle.pt_lib_flow.specs.declared.flow_actor.Class.{Class as FlowClass}
 use Rattle.pt_lib_flow.specs.declared.flow_actor.Class.TheVariants as class
-use Rattle.pt_lib_flow.specs.Limit.{limit_in}
+use Rattle.pt_flow_base.specs.Limit.{limit_in}
 use Rattle.pt_lib_flow.specs.FlowActor as flow_actor
 use Rattle.pt_lib_flow.specs.Const as constant
-use Rattle.pt_lib_flow.specs.AbsoluteValue as absolute_value
-use Rattle.pt_lib_flow.specs.Accumulator as accumulator
-use Rattle.pt_lib_flow.specs.AddSubtract as add_subtract
+use Rattle.pt_flow_numbers.specs.AbsoluteValue as absolute_value
+use Rattle.pt_flow_numbers.specs.Accumulator as accumulator
+use Rattle.pt_flow_numbers.specs.AddSubtract as add_subtract
 use Rattle.pt_lib_flow.specs.BooleanSelect as boolean_select
 use Rattle.pt_lib_flow.specs.BooleanSwitch as boolean_switch
-use Rattle.pt_lib_flow.specs.Counter as counter
+use Rattle.pt_flow_numbers.specs.Counter as counter
 use Rattle.pt_lib_flow.specs.DownSample as down_sample
 use Rattle.pt_lib_flow.specs.Expression as expression
-use Rattle.pt_lib_flow.specs.Extreme as extreme
-use Rattle.pt_lib_flow.specs.MultiplyDivide as multiply_divide
-use Rattle.pt_lib_flow.specs.Ramp as ramp
+use Rattle.pt_flow_numbers.specs.Extreme as extreme
+use Rattle.pt_flow_numbers.specs.MultiplyDivide as multiply_divide
+use Rattle.pt_flow_numbers.specs.Ramp as ramp
 use Rattle.pt_lib_flow.specs.Repeat as repeat
-use Rattle.pt_lib_flow.specs.Scale as scale
+use Rattle.pt_flow_numbers.specs.Scale as scale
 use Rattle.pt_lib_flow.specs.UpSample as up_sample
-use Rattle.pt_lib_flow.specs.declared.extreme.Side.TheVariants.{Greatest, Least}
+use Rattle.pt_flow_numbers.specs.declared.extreme.Side.TheVariants.{Greatest, Least}
 use Rattle.pt_resolve.specs.declared.row.Seed.TheVariants as seed
 use Rattle.pt_lib_flow.specs.SampleDelay as sample_delay
 use Rattle.pt_lib_flow.specs.Sequence as sequence

@@ -8,23 +8,23 @@ use Rattle.std.proofs.lemmas.Slice.Eq.{bytes_eq-Decides}
 use Rattle.pt_value.specs.Value.{Value}
 use Rattle.pt_value.specs.Token.{value_of}
 use Rattle.pt_value.specs.declared.token.Token.{Token as HeldToken}
-use Rattle.pt_expr_type.specs.Types.{or_else}
-use Rattle.pt_moml.specs.Document.{PropertyTree, property_name}
-use Rattle.pt_moml.specs.View.{properties_view}
-use Rattle.pt_moml.specs.Names.{is_reserved}
-use Rattle.pt_graph.specs.declared.net.Net.{Net}
-use Rattle.pt_graph.specs.declared.net.NetEntity.{NetEntity}
-use Rattle.pt_graph.specs.declared.net.Transparent.{Transparent}
-use Rattle.pt_graph.specs.Net.{NetEntityTree, TransparentTree, entity_view, transparent_view}
-use Rattle.pt_parameter.specs.Given.{Token, held_view}
-use Rattle.pt_parameter.specs.declared.parameter_value.ParameterValue.{ParameterValue}
-use Rattle.pt_values.specs.declared.values.EntityValues.{EntityValues}
-use Rattle.pt_values.specs.declared.values.Values.{Values}
-use Rattle.pt_values.specs.Scopes.{NetTree, net_view, Bindings, bound, is_composite_class, Extends, Sees, at_top, in_transparent, in_opaque}
-use Rattle.pt_values.specs.Valued.{EntityView, AreInTurn, AreOwn, IsEntityValued, IsTransparentValued, transparent_values, IsValued}
-use Rattle.pt_values.specs.Valued as valued
-use Rattle.pt_values.proofs.Seen.{turn-extends}
-use Rattle.pt_values.proofs.Unique.{one-extension, one-sight}
+use Rattle.pt_language.specs.Types.{or_else}
+use Rattle.pt_document.specs.Document.{PropertyTree, property_name}
+use Rattle.pt_document.specs.View.{properties_view}
+use Rattle.pt_document.specs.Names.{is_reserved}
+use Rattle.pt_net.specs.declared.net.Net.{Net}
+use Rattle.pt_net.specs.declared.net.NetEntity.{NetEntity}
+use Rattle.pt_net.specs.declared.net.Transparent.{Transparent}
+use Rattle.pt_net.specs.Net.{NetEntityTree, TransparentTree, entity_view, transparent_view}
+use Rattle.pt_scopes.specs.Given.{Token, held_view}
+use Rattle.pt_scopes.specs.declared.parameter_value.ParameterValue.{ParameterValue}
+use Rattle.pt_scopes.specs.declared.values.EntityValues.{EntityValues}
+use Rattle.pt_scopes.specs.declared.values.Values.{Values}
+use Rattle.pt_scopes.specs.Scopes.{NetTree, net_view, Bindings, bound, is_composite_class, Extends, Sees, at_top, in_transparent, in_opaque}
+use Rattle.pt_scopes.specs.Valued.{EntityView, AreInTurn, AreOwn, IsEntityValued, IsTransparentValued, transparent_values, IsValued}
+use Rattle.pt_scopes.specs.Valued as valued
+use Rattle.pt_scopes.proofs.SeenLaws.{turn-extends}
+use Rattle.pt_scopes.proofs.Unique.{one-extension, one-sight}
 use Rattle.pt_start.specs.Nested.{AreRound, IsNested}
 use Rattle.pt_resolve.specs.Frames.{Names, put, with_given, no_names, value_held, values_held, Frame, Frames, entity_frame, transparent_frame, entity_frames, transparent_frames, frames_of, innermost, seen_from, seen_within}
 use Rattle.pt_typed.specs.OwnNames.{HaveClassParameters}

@@ -16,22 +16,22 @@ use Rattle.pt_meaning.specs.Step.{no_meetings}
 use Rattle.pt_meaning.specs.Job.{Fire}
 use Rattle.pt_meaning.specs.Tree.{list_of, nodes_of, Actor, Composite}
 use Rattle.pt_value.specs.declared.token.Token.{Token}
-use Rattle.pt_types.specs.Datatype.{Datatype}
-use Rattle.pt_types.specs.Order.{IsBelow}
-use Rattle.pt_graph.specs.declared.net.Channel.{Channel}
-use Rattle.pt_graph.specs.declared.net.Net.{Net}
-use Rattle.pt_graph.specs.declared.net.NetDirector.{NetDirector}
-use Rattle.pt_graph.specs.declared.net.NetEntity.{NetEntity}
-use Rattle.pt_wiring.specs.Inside.{children_of, place_count, source_of, channels_in, is_within}
+use Rattle.pt_datatypes.specs.Datatype.{Datatype}
+use Rattle.pt_datatypes.specs.Order.{IsBelow}
+use Rattle.pt_net.specs.declared.net.Channel.{Channel}
+use Rattle.pt_net.specs.declared.net.Net.{Net}
+use Rattle.pt_net.specs.declared.net.NetDirector.{NetDirector}
+use Rattle.pt_net.specs.declared.net.NetEntity.{NetEntity}
+use Rattle.pt_net.specs.Inside.{children_of, place_count, source_of, channels_in, is_within}
 use Rattle.pt_typing.specs.Least.{Assignment}
 use Rattle.pt_library.specs.declared.library_actor.LibraryActor.{LibraryActor}
 use Rattle.pt_library.specs.LibraryActor.{rows}
 use Rattle.pt_plan.specs.declared.inside.Inside.{Inside}
 use Rattle.pt_plan.specs.PlanOf.{IsPlanOf}
 use Rattle.pt_node.specs.View.{Tree}
-use Rattle.pt_composite.specs.Around.{IsInsideOf}
-use Rattle.pt_composite.specs.Rates.{rates_of}
-use Rattle.pt_build.specs.Trees.{Starts, StartsAs, around_in, IsTree, of_actor, of_sdf, AreTrees, no_trees, more_trees}
+use Rattle.pt_trees.specs.Around.{IsInsideOf}
+use Rattle.pt_trees.specs.Rates.{rates_of}
+use Rattle.pt_trees.specs.Trees.{Starts, StartsAs, around_in, IsTree, of_actor, of_sdf, AreTrees, no_trees, more_trees}
 use Rattle.pt_order.proofs.TreeCover.{sdf-directed}
 use Rattle.pt_typed.specs.Signature.{Signatures, AreOf, AreAllOf}
 use Rattle.pt_typed.specs.TokenTypes.{IsTokenOf}

@@ -7,18 +7,18 @@ use Rattle.pt_value.specs.Value.{Value, Values, no_values, value_then, Named, va
 use Rattle.pt_value.specs.Token.{value_of, token_of, value_of-token_of}
 use Rattle.pt_value.specs.declared.token.Token.{Token}
 use Rattle.pt_value.specs.declared.token.Token.TheVariants as token
-use Rattle.pt_types.specs.Datatype.{Datatype, Unknown, Int, Boolean, Words, Array, Record, General}
-use Rattle.pt_types.specs.Normal.{normal, array_of}
-use Rattle.pt_types.specs.Order.{IsBelow}
-use Rattle.pt_types.specs.Token.{type_of_value, join_of}
-use Rattle.pt_types.proofs.Joins.{below-normal, normal-below, normal_is_type}
-use Rattle.pt_types.proofs.Parts.{array_of-normal}
-use Rattle.pt_types.proofs.Order.{below-trans, above-General}
-use Rattle.pt_expr.specs.Meaning as meaning
-use Rattle.pt_expr_type.specs.Typing.{Typing, Has, Clash, or_general}
-use Rattle.pt_expr_type.specs.TreeType.{element}
-use Rattle.pt_expr_type.proofs.JoinLaws.{join-first, join-second, join-least}
-use Rattle.pt_expr_type.proofs.Values.{Of, Sound, never-unknown}
+use Rattle.pt_datatypes.specs.Datatype.{Datatype, Unknown, Int, Boolean, Words, Array, Record, General}
+use Rattle.pt_datatypes.specs.Normal.{normal, array_of}
+use Rattle.pt_datatypes.specs.Order.{IsBelow}
+use Rattle.pt_datatypes.specs.Token.{type_of_value, join_of}
+use Rattle.pt_datatypes.proofs.Joins.{below-normal, normal-below, normal_is_type}
+use Rattle.pt_datatypes.proofs.Parts.{array_of-normal}
+use Rattle.pt_datatypes.proofs.Order.{below-trans, above-General}
+use Rattle.pt_language.specs.Meaning as meaning
+use Rattle.pt_language.specs.Typing.{Typing, Has, Clash, or_general}
+use Rattle.pt_language.specs.TreeType.{element}
+use Rattle.pt_language.proofs.JoinLaws.{join-first, join-second, join-least}
+use Rattle.pt_language.proofs.Values.{Of, Sound, never-unknown}
 use Rattle.pt_firing.specs.Row.{first_in}
 use Rattle.pt_lib_data.specs.RecordDisassembler.{as_list}
 use Rattle.pt_typed.specs.TokenTypes.{IsTokenOf, IsUnder}

@@ -1,9 +1,9 @@
 -- A run of the tree of the net of a document with its typing.
 use Rattle.std.proofs.Common.{◌≡◌, Bool, true, false, Some, refl, [], subst, sym}
-use Rattle.pt_graph.specs.declared.net.Net.{Net}
-use Rattle.pt_values.specs.declared.values.Values.{Values}
-use Rattle.pt_values.specs.Scopes.{net_view}
-use Rattle.pt_values.specs.Valued.{IsValued}
+use Rattle.pt_net.specs.declared.net.Net.{Net}
+use Rattle.pt_scopes.specs.declared.values.Values.{Values}
+use Rattle.pt_scopes.specs.Scopes.{net_view}
+use Rattle.pt_scopes.specs.Valued.{IsValued}
 use Rattle.pt_typing.specs.Least.{Assignment}
 use Rattle.pt_resolve.specs.Typing.{IsTyping}
 use Rattle.pt_start.specs.Nested.{IsNested}
@@ -15,7 +15,7 @@ use Rattle.pt_lib_data.specs.declared.function.Function.{Function}
 use Rattle.pt_lib_data.specs.declared.function.Function.TheVariants as made
 use Rattle.pt_library.specs.declared.library_actor.LibraryActor.{LibraryActor}
 use Rattle.pt_library.specs.declared.library_actor.LibraryActor.TheVariants.{Flow, Data}
-use Rattle.pt_build.specs.Trees.{Starts}
+use Rattle.pt_trees.specs.Trees.{Starts}
 use Rattle.pt_cover.proofs.Reading.{documents-leaves}
 use Rattle.pt_cover.proofs.Nesting.{net-nested}
 use Rattle.pt_cover.specs.Leaves.{AreStartedByClass}

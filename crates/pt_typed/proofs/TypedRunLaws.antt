@@ -1,7 +1,7 @@
 -- Runs of trees of library actors, by the laws of runs of typed trees.
 use Rattle.pt_value.specs.declared.token.Token.{Token}
-use Rattle.pt_types.specs.Datatype.{Datatype}
-use Rattle.pt_types.specs.Order.{IsBelow}
+use Rattle.pt_datatypes.specs.Datatype.{Datatype}
+use Rattle.pt_datatypes.specs.Order.{IsBelow}
 use Rattle.pt_library.specs.declared.library_actor.LibraryActor.{LibraryActor}
 use Rattle.pt_library.specs.LibraryActor.{rows}
 use Rattle.pt_typed.specs.TokenTypes.{IsTokenOf}

@@ -1,11 +1,11 @@
 -- The typing of a net meets the row of an Expression: the tree has by the types of its places what the net gives it.
 use Rattle.std.specs.Prelude.{◌≡◌, ℕ, [], Some, slice_get}
-use Rattle.pt_graph.specs.declared.net.Net.{Net}
-use Rattle.pt_graph.specs.declared.net.NetEntity.{NetEntity}
-use Rattle.pt_graph.specs.Net.{entity_view}
-use Rattle.pt_values.specs.declared.values.Values.{Values}
-use Rattle.pt_values.specs.Scopes.{net_view}
-use Rattle.pt_values.specs.Valued.{IsValued}
+use Rattle.pt_net.specs.declared.net.Net.{Net}
+use Rattle.pt_net.specs.declared.net.NetEntity.{NetEntity}
+use Rattle.pt_net.specs.Net.{entity_view}
+use Rattle.pt_scopes.specs.declared.values.Values.{Values}
+use Rattle.pt_scopes.specs.Scopes.{net_view}
+use Rattle.pt_scopes.specs.Valued.{IsValued}
 use Rattle.pt_typing.specs.Least.{Assignment}
 use Rattle.pt_resolve.specs.Typing.{IsTyping}
 use Rattle.pt_start.specs.Nested.{IsNested}

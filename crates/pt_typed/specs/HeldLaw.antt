@@ -1,9 +1,9 @@
 -- The parameters of an actor that gives tokens of them.
 use Rattle.std.specs.Prelude.{◌≡◌, ℕ, true, Some}
-use Rattle.pt_graph.specs.declared.net.Net.{Net}
-use Rattle.pt_values.specs.declared.values.Values.{Values}
-use Rattle.pt_values.specs.Scopes.{net_view}
-use Rattle.pt_values.specs.Valued.{IsValued}
+use Rattle.pt_net.specs.declared.net.Net.{Net}
+use Rattle.pt_scopes.specs.declared.values.Values.{Values}
+use Rattle.pt_scopes.specs.Scopes.{net_view}
+use Rattle.pt_scopes.specs.Valued.{IsValued}
 use Rattle.pt_start.specs.Started.{PortTyping, IsStart}
 use Rattle.pt_library.specs.declared.library_actor.LibraryActor.{LibraryActor}
 use Rattle.pt_typed.specs.NetRows.{is_seeded_actor, HoldsTokens}

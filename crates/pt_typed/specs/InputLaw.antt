@@ -2,15 +2,15 @@
 use Rattle.std.specs.Prelude.{◌≡◌, [], Some, slice_get}
 use Rattle.pt_meaning.specs.Basics.{Streams}
 use Rattle.pt_value.specs.declared.token.Token.{Token}
-use Rattle.pt_graph.specs.declared.net.Net.{Net}
-use Rattle.pt_graph.specs.declared.net.NetDirector.{NetDirector}
-use Rattle.pt_graph.specs.declared.net.NetEntity.{NetEntity}
-use Rattle.pt_graph.specs.Net.{entity_view}
-use Rattle.pt_values.specs.declared.values.Values.{Values}
-use Rattle.pt_values.specs.Scopes.{net_view}
+use Rattle.pt_net.specs.declared.net.Net.{Net}
+use Rattle.pt_net.specs.declared.net.NetDirector.{NetDirector}
+use Rattle.pt_net.specs.declared.net.NetEntity.{NetEntity}
+use Rattle.pt_net.specs.Net.{entity_view}
+use Rattle.pt_scopes.specs.declared.values.Values.{Values}
+use Rattle.pt_scopes.specs.Scopes.{net_view}
 use Rattle.pt_typing.specs.Least.{Assignment}
 use Rattle.pt_resolve.specs.Typing.{IsTyping}
-use Rattle.pt_job.specs.Inputs.{AreSupplied}
+use Rattle.pt_scopes.specs.Inputs.{AreSupplied}
 pub use Rattle.pt_order.specs.ClassPorts.{HaveOwnNames}
 use Rattle.pt_typed.specs.Signature.{AreAllOf}
 use Rattle.pt_typed.specs.TokenTypes.{IsTokenOf}

@@ -1,9 +1,9 @@
 -- What the ports of a library actor of a net are, by its class, and which classes take what passes from their inputs alone.
 use Rattle.std.specs.Prelude.{◌≡◌, List, length, Bool, true, false}
 use Rattle.std.specs.List.{AllByRecursion}
-use Rattle.pt_moml.specs.Document.{PropertyTree}
-use Rattle.pt_parameter.specs.declared.parameter_value.ParameterValue.{ParameterValue}
-use Rattle.pt_parameter.specs.declared.parameter_value.ParameterValue.TheVariants as parameter
+use Rattle.pt_document.specs.Document.{PropertyTree}
+use Rattle.pt_scopes.specs.declared.parameter_value.ParameterValue.{ParameterValue}
+use Rattle.pt_scopes.specs.declared.parameter_value.ParameterValue.TheVariants as parameter
 use Rattle.pt_lib_flow.specs.declared.flow_actor.FlowActor.{FlowActor}
 use Rattle.pt_lib_flow.specs.declared.flow_actor.FlowActor.TheVariants.{AbsoluteValue, Accumulator, AddSubtract, BooleanSelect, BooleanSwitch, Const, Counter, DownSample, Expression, Extreme, MultiplyDivide, Ramp, Repeat, SampleDelay, Scale, Sequence, UpSample}
 use Rattle.pt_lib_data.specs.declared.function.Function.{Function}

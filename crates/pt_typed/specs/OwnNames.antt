@@ -1,14 +1,14 @@
 -- The names of the parameters and of the ports of the entities of a net, as a document has them that isn't refused.
 use Rattle.std.specs.Prelude.{◌≡◌, ℕ, List, Some, true, false, IsTrue, slice_get}
 use Rattle.std.specs.List.{AllByRecursion}
-use Rattle.pt_moml.specs.Classes.{Class, Actor, kind_of}
-use Rattle.pt_moml.specs.Document.{PropertyTree, property_name}
-use Rattle.pt_moml.specs.Names.{is_among, is_reserved}
+use Rattle.pt_document.specs.Classes.{Class, Actor, kind_of}
+use Rattle.pt_document.specs.Document.{PropertyTree, property_name}
+use Rattle.pt_document.specs.Names.{is_among, is_reserved}
 use Rattle.pt_moml.specs.Rules.{parameter_names}
-use Rattle.pt_graph.specs.declared.net.Net.{Net}
-use Rattle.pt_graph.specs.declared.net.NetEntity.{NetEntity}
-use Rattle.pt_graph.specs.Net.{NetEntityTree, TransparentTree, entity_view}
-use Rattle.pt_values.specs.Scopes.{NetTree, is_composite_class}
+use Rattle.pt_net.specs.declared.net.Net.{Net}
+use Rattle.pt_net.specs.declared.net.NetEntity.{NetEntity}
+use Rattle.pt_net.specs.Net.{NetEntityTree, TransparentTree, entity_view}
+use Rattle.pt_scopes.specs.Scopes.{NetTree, is_composite_class}
 use Rattle.pt_typed.specs.InputLaw.{HaveOwnNames}
 
 -- no parameter has the name of a word of the language, or one that asks about a port

@@ -2,15 +2,15 @@
 use Rattle.std.specs.Prelude.{◌≡◌, ℕ, [], length, true, Some, None, slice_get}
 use Rattle.pt_meaning.specs.Step.{no_meetings}
 use Rattle.pt_meaning.specs.Job.{meaning}
-use Rattle.pt_graph.specs.declared.net.Net.{Net}
-use Rattle.pt_graph.specs.declared.net.NetDirector.{NetDirector}
-use Rattle.pt_graph.specs.declared.net.NetEntity.{NetEntity}
-use Rattle.pt_values.specs.Scopes.{net_view}
-use Rattle.pt_values.specs.Valued.{IsValued}
-use Rattle.pt_job.specs.Inputs.{AreSupplied}
-use Rattle.pt_run.specs.declared.job.SdfJob.{SdfJob}
-use Rattle.pt_run.specs.Run.{schedule}
-use Rattle.pt_values.specs.declared.values.Values.{Values}
+use Rattle.pt_net.specs.declared.net.Net.{Net}
+use Rattle.pt_net.specs.declared.net.NetDirector.{NetDirector}
+use Rattle.pt_net.specs.declared.net.NetEntity.{NetEntity}
+use Rattle.pt_scopes.specs.Scopes.{net_view}
+use Rattle.pt_scopes.specs.Valued.{IsValued}
+use Rattle.pt_scopes.specs.Inputs.{AreSupplied}
+use Rattle.pt_trees.specs.declared.job.SdfJob.{SdfJob}
+use Rattle.pt_trees.specs.Run.{schedule}
+use Rattle.pt_scopes.specs.declared.values.Values.{Values}
 use Rattle.pt_typing.specs.declared.variable.Variable.TheVariants as variable
 use Rattle.pt_typing.specs.Least.{Assignment}
 use Rattle.pt_resolve.specs.Typing.{IsTyping}
@@ -18,7 +18,7 @@ use Rattle.pt_start.specs.Started.{PortTyping, IsStart}
 use Rattle.pt_library.specs.declared.library_actor.LibraryActor.{LibraryActor}
 use Rattle.pt_library.specs.LibraryActor.{rows}
 use Rattle.pt_node.specs.View.{Tree}
-use Rattle.pt_build.specs.Trees.{Starts, StartsAs, IsTree}
+use Rattle.pt_trees.specs.Trees.{Starts, StartsAs, IsTree}
 use Rattle.pt_order.specs.Laws.{IsNetOfDocument}
 use Rattle.pt_typed.specs.Signature.{IsTypedLog}
 use Rattle.pt_typed.specs.TokenTypes.{IsTokenOf}

@@ -3,7 +3,7 @@ use Rattle.std.specs.Prelude.{◌≡◌, List, [], ◌∷◌, Some}
 use Rattle.pt_meaning.specs.Basics.{Tag, Streams}
 use Rattle.pt_meaning.specs.Node.{Gives}
 use Rattle.pt_value.specs.declared.token.Token.{Token}
-use Rattle.pt_types.specs.Datatype.{Datatype}
+use Rattle.pt_datatypes.specs.Datatype.{Datatype}
 use Rattle.pt_library.specs.declared.library_actor.LibraryActor.{LibraryActor}
 use Rattle.pt_library.specs.declared.library_actor.LibraryActor.TheVariants.{Flow, Data}
 use Rattle.pt_library.specs.LibraryActor.{step}

@@ -2,11 +2,11 @@
 use Rattle.std.specs.Prelude.{ℕ, List, [], ◌∷◌, Option}
 use Rattle.std.specs.List.{AllByRecursion, zip}
 use Rattle.pt_meaning.specs.Streams.{get}
-use Rattle.pt_types.specs.Datatype.{Datatype, Int, Boolean}
-use Rattle.pt_types.specs.Normal.{array_of}
-use Rattle.pt_types.specs.Order.{IsBelow}
-use Rattle.pt_expr_type.specs.Typing.{or_general}
-use Rattle.pt_expr_type.specs.TreeType.{recorded}
+use Rattle.pt_datatypes.specs.Datatype.{Datatype, Int, Boolean}
+use Rattle.pt_datatypes.specs.Normal.{array_of}
+use Rattle.pt_datatypes.specs.Order.{IsBelow}
+use Rattle.pt_language.specs.Typing.{or_general}
+use Rattle.pt_language.specs.TreeType.{recorded}
 use Rattle.pt_lib_data.specs.declared.function.Function.{Function}
 use Rattle.pt_lib_data.specs.declared.function.Function.TheVariants.{ArrayElement, ArrayToSequence, Comparator, Discard, ElementsToArray, Equals, Limiter, LogicFunction, LogicalNot, RecordAssembler, RecordDisassembler, SequenceToArray, StringLength}
 use Rattle.pt_typed.specs.TokenTypes.{IsUnder, ToFirst, elements_of, field_of}

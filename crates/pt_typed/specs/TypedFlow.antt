@@ -3,10 +3,10 @@ use Rattle.std.specs.Prelude.{List, [], ◌∷◌}
 use Rattle.std.specs.List.{AllByRecursion}
 use Rattle.pt_meaning.specs.Streams.{get}
 use Rattle.pt_value.specs.Value.{Value}
-use Rattle.pt_types.specs.Datatype.{Datatype, Int}
-use Rattle.pt_types.specs.Order.{IsBelow}
-use Rattle.pt_types.specs.Token.{type_of_value}
-use Rattle.pt_expr_type.specs.Rule.{type_or_general}
+use Rattle.pt_datatypes.specs.Datatype.{Datatype, Int}
+use Rattle.pt_datatypes.specs.Order.{IsBelow}
+use Rattle.pt_datatypes.specs.Token.{type_of_value}
+use Rattle.pt_language.specs.Rule.{type_or_general}
 use Rattle.pt_lib_flow.specs.declared.flow_actor.FlowActor.{FlowActor}
 use Rattle.pt_lib_flow.specs.declared.flow_actor.FlowActor.TheVariants.{AbsoluteValue, Accumulator, AddSubtract, BooleanSelect, BooleanSwitch, Const, Counter, DownSample, Expression, Extreme, MultiplyDivide, Ramp, Repeat, SampleDelay, Scale, Sequence, UpSample}
 use Rattle.pt_lib_flow.specs.Formula.{types_of}

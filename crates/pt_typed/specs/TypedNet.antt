@@ -5,13 +5,13 @@ use Rattle.pt_meaning.specs.Step.{no_meetings}
 use Rattle.pt_meaning.specs.Schedule.{sdf_top}
 use Rattle.pt_meaning.specs.Job.{meaning}
 use Rattle.pt_value.specs.declared.token.Token.{Token}
-use Rattle.pt_types.specs.Order.{IsBelow}
-use Rattle.pt_graph.specs.declared.net.Net.{Net}
+use Rattle.pt_datatypes.specs.Order.{IsBelow}
+use Rattle.pt_net.specs.declared.net.Net.{Net}
 use Rattle.pt_typing.specs.Least.{Assignment}
 use Rattle.pt_library.specs.declared.library_actor.LibraryActor.{LibraryActor}
 use Rattle.pt_library.specs.LibraryActor.{rows}
 use Rattle.pt_node.specs.View.{Tree}
-use Rattle.pt_build.specs.Trees.{Starts, StartsAs, IsTree}
+use Rattle.pt_trees.specs.Trees.{Starts, StartsAs, IsTree}
 use Rattle.pt_typed.specs.Signature.{AreAllOf, IsTypedLog}
 use Rattle.pt_typed.specs.TokenTypes.{IsTokenOf}
 use Rattle.pt_typed.specs.TypedActor.{MeetsRow, IsTypedActor}

@@ -1,8 +1,4 @@
-pub mod Fields
-pub mod Joins
-pub mod Order
-pub mod Parts
-pub mod Rank
+pub mod FieldLists
 pub mod Records
 pub mod Solutions
 pub mod Texts

@@ -16,7 +16,7 @@ use Rattle.pt_value.proofs.Records.{AllPairs-from_adjacent}
 use Rattle.pt_types.specs.declared.record.FieldTy.{FieldTy}
 use Rattle.pt_types.specs.declared.ty.Ty.{Ty}
 use Rattle.pt_types.specs.declared.ty.Ty.TheVariants as ty
-use Rattle.pt_types.specs.RecordType.{names, IsRecordType}
+use Rattle.pt_datatypes.specs.RecordType.{names, IsRecordType}
 use Rattle.pt_types.specs.Ty.{entry_of, entry_of_pair}
 
 -- some field of a name, which stands for one past the end

@@ -4,19 +4,19 @@ use Rattle.std.proofs.lemmas.List.{length-set, get_or-set_same, get_or-set_other
 use Rattle.std.proofs.lemmas.List.Sums.{sum_by-set}
 use Rattle.std.proofs.lemmas.Bool.{cases_lt}
 use Rattle.std.proofs.Math.ListN.{get_or-map}
-use Rattle.pt_types.specs.Datatype.{Datatype, Unknown}
-use Rattle.pt_types.specs.Order.{is_below, IsBelow}
-use Rattle.pt_types.specs.Normal.{normal, IsType}
-use Rattle.pt_types.specs.Join.{join}
-use Rattle.pt_types.specs.Join.{joined as part_by_part}
-use Rattle.pt_types.specs.Rank.{rank, room}
-use Rattle.pt_types.specs.Rules.{type_at, AllBelow, AreMet, IsReached, IsLeastSolution, IsRaised}
+use Rattle.pt_datatypes.specs.Datatype.{Datatype, Unknown}
+use Rattle.pt_datatypes.specs.Order.{is_below, IsBelow}
+use Rattle.pt_datatypes.specs.Normal.{normal, IsType}
+use Rattle.pt_datatypes.specs.Join.{join}
+use Rattle.pt_datatypes.specs.Join.{joined as part_by_part}
+use Rattle.pt_datatypes.specs.Rank.{rank, room}
+use Rattle.pt_datatypes.specs.Rules.{type_at, AllBelow, AreMet, IsReached, IsLeastSolution, IsRaised}
 use Rattle.pt_types.specs.Ty.{type_of, written}
 use Rattle.pt_types.specs.declared.ty.Ty.{Ty}
 use Rattle.pt_types.specs.declared.ty.Ty.TheVariants as ty
-use Rattle.pt_types.proofs.Order.{below-trans}
-use Rattle.pt_types.proofs.Joins.{normal_is_type, join-is_join}
-use Rattle.pt_types.proofs.Rank.{rank-type, rank-above}
+use Rattle.pt_datatypes.proofs.Order.{below-trans}
+use Rattle.pt_datatypes.proofs.Joins.{normal_is_type, join-is_join}
+use Rattle.pt_datatypes.proofs.Rank.{rank-type, rank-above}
 
 -- what the program holds are types
 pub all_types : (ts : List Ty) → All IsType (map type_of ts)

@@ -1,14 +1,21 @@
 -- The printed text of records, field by field.
-use Rattle.std.proofs.Common.{◌≡◌, ℕ, suc, ◌+◌, ◌<◌, List, [], ◌∷◌, ◌++◌, length, take, get_or, map, codes, refl, sym, ap, ◌∙◌, append_assoc, arith}
-use Rattle.std.proofs.lemmas.List.{take_more, append-nil, length-take-le}
-use Rattle.pt_value.specs.Printed.{separated_by, more_after, separator_before}
+use Rattle.std.proofs.Common.{◌≡◌, ℕ, suc, ◌+◌, ◌<◌, ◌≤◌, List, [], ◌∷◌, ◌++◌, length, take, get_or, map, codes, refl, sym, ap, ◌∙◌, append_assoc, arith}
+use Rattle.std.proofs.lemmas.List.{take_all, take_more, append-nil, length-take-le}
+use Rattle.pt_value.specs.Printed.{in_braces, separated_by, more_after, separator_before}
+use Rattle.pt_value.proofs.Extended.{appended}
 use Rattle.pt_types.specs.declared.record.FieldTy.{FieldTy}
-use Rattle.pt_types.specs.Datatype.{types_of}
+use Rattle.pt_datatypes.specs.Datatype.{Datatype, types_of}
 use Rattle.pt_types.specs.Ty.{written, entry_of}
 use Rattle.pt_types.specs.Printed.{printed_field, each_named}
 
 abbrev pub record_body : List FieldTy → List ℕ
 record_body fs = separated_by (codes ", ") (each_named (types_of (map entry_of fs)))
+
+-- a record, once its last byte is written
+pub record-last : (old mid done new : List ℕ) (fs : List FieldTy) (self : List (List ℕ × Datatype)) (i : ℕ) → map entry_of fs ≡ self → length fs ≤ i → mid ≡ old ++ codes "{" → done ≡ mid ++ record_body (take i fs) → new ≡ done ++ codes "}" → new ≡ old ++ in_braces (each_named (types_of self))
+record-last old mid done new fs self i e l a b c =
+    let body : record_body (take i fs) ≡ separated_by (codes ", ") (each_named (types_of self)) = ap record_body (take_all i fs l) ∙ ap (λ vs. separated_by (codes ", ") (each_named (types_of vs))) e in
+    appended old (codes "{") (separated_by (codes ", ") (each_named (types_of self))) (codes "}") mid done new a (b ∙ ap (λ w. mid ++ w) body) c
 
 -- one text more
 more_after-push : (s : List ℕ) (xs : List (List ℕ)) (y : List ℕ) → more_after s (xs ++ y ∷ []) ≡ (more_after s xs ++ s) ++ y

@@ -10,19 +10,19 @@ use Rattle.pt_value.specs.Record.{IsRecord}
 use Rattle.pt_value.specs.Token as held
 use Rattle.pt_value.specs.Token.{value_of}
 use Rattle.pt_types.specs.declared.record.FieldTy.{FieldTy}
-use Rattle.pt_types.specs.Datatype.{Datatype, Unknown, Int, Boolean, Words, Array, Record, General, FieldTypes, no_fields, field_then, types_of, depth, depth_of_fields, nodes, nodes_of_fields}
-use Rattle.pt_types.specs.Normal.{is_plain, are_plain, is_proper, normal, IsType}
-use Rattle.pt_types.specs.Order.{is_below, are_below, IsBelow}
-use Rattle.pt_types.specs.Join.{joined, join}
-use Rattle.pt_types.specs.Token.{type_of_value, join_of, field_types, each_below, typed_fields}
-use Rattle.pt_types.specs.RecordType as record_type
-use Rattle.pt_types.specs.RecordType.{IsRecordType}
+use Rattle.pt_datatypes.specs.Datatype.{Datatype, Unknown, Int, Boolean, Words, Array, Record, General, FieldTypes, no_fields, field_then, types_of, depth, depth_of_fields, nodes, nodes_of_fields}
+use Rattle.pt_datatypes.specs.Normal.{is_plain, are_plain, is_proper, normal, IsType}
+use Rattle.pt_datatypes.specs.Order.{is_below, are_below, IsBelow}
+use Rattle.pt_datatypes.specs.Join.{joined, join}
+use Rattle.pt_datatypes.specs.Token.{type_of_value, join_of, field_types, each_below, typed_fields}
+use Rattle.pt_datatypes.specs.RecordType as record_type
+use Rattle.pt_datatypes.specs.RecordType.{IsRecordType}
 use Rattle.pt_types.specs.Ty.{written, entry_of}
 use Rattle.std.proofs.lemmas.List.{length-map, take_all}
-use Rattle.pt_types.proofs.Fields.{and_left, and_right, and_both, are_below-length}
-use Rattle.pt_types.proofs.Order.{below-trans, below-General}
-use Rattle.pt_types.proofs.Joins.{bool_cases, normal-proper, normal-not_proper, normal_is_type, proper-plain, proper-depth, proper-nodes, proper-below, joined-first, joined-second, joined-least}
-use Rattle.pt_types.proofs.Parts.{proper-from, element-proper}
+use Rattle.pt_datatypes.proofs.Fields.{and_left, and_right, and_both, are_below-length}
+use Rattle.pt_datatypes.proofs.Order.{below-trans, below-General}
+use Rattle.pt_datatypes.proofs.Joins.{bool_cases, normal-proper, normal-not_proper, normal_is_type, proper-plain, proper-depth, proper-nodes, proper-below, joined-first, joined-second, joined-least}
+use Rattle.pt_datatypes.proofs.Parts.{proper-from, element-proper}
 
 -- ---- a part is lower than the parts together
 

@@ -1,13 +1,4 @@
-pub mod Datatype
-pub mod DatatypeCode
-pub mod RecordType
-pub mod Normal
-pub mod Order
-pub mod Join
-pub mod Laws
-pub mod Rank
-pub mod Rules
 pub mod Ty
 pub mod TyHeight
 pub mod Printed
-pub mod Token
+pub mod Entry

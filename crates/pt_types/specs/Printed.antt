@@ -1,7 +1,7 @@
 -- The text that a type prints as.
 use Rattle.std.specs.Prelude.{ℕ, List, [], ◌∷◌, ◌++◌, codes}
 use Rattle.pt_value.specs.Printed.{in_braces}
-use Rattle.pt_types.specs.Datatype.{Datatype, Unknown, Int, Boolean, Words, Array, Record, General, FieldTypes, no_fields, field_then}
+use Rattle.pt_datatypes.specs.Datatype.{Datatype, Unknown, Int, Boolean, Words, Array, Record, General, FieldTypes, no_fields, field_then}
 
 -- the base types by their words, an array as `arrayType(int)`, a record as `{a = int, b = string}`
 abbrev mutual

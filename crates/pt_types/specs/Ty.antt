@@ -3,8 +3,8 @@ use Rattle.std.specs.Prelude.{ℕ, List}
 use Rattle.pt_types.specs.declared.ty.Ty.{Ty}
 use Rattle.pt_types.specs.declared.ty.Ty.TheVariants as ty
 use Rattle.pt_types.specs.declared.record.FieldTy.{FieldTy}
-use Rattle.pt_types.specs.Datatype.{Datatype, Unknown, Int, Boolean, Words, Array, Record, General, types_of}
-use Rattle.pt_types.specs.Normal.{normal}
+use Rattle.pt_datatypes.specs.Datatype.{Datatype, Unknown, Int, Boolean, Words, Array, Record, General, types_of}
+use Rattle.pt_datatypes.specs.Normal.{normal}
 
 -- as it is written
 abbrev pub written : Ty → Datatype

@@ -6,7 +6,7 @@ use Rattle.pt_types.specs.declared.ty.Ty.{Ty}
 use Rattle.pt_types.specs.declared.ty.Ty.TheVariants as ty
 use Rattle.pt_types.specs.declared.record.FieldTy.{FieldTy}
 use Rattle.pt_types.specs.declared.element.ElementTy.TheDeep.{deep-Ty, deep-FieldTy}
-use Rattle.pt_types.specs.Datatype.{depth, depth_of_fields, types_of}
+use Rattle.pt_datatypes.specs.Datatype.{depth, depth_of_fields, types_of}
 use Rattle.pt_types.specs.Ty.{written, entry_of}
 
 pub deep_le-depth : (t : Ty) → deep-Ty t ≤ depth (written t)

@@ -1,10 +1,10 @@
 ghost use Rattle.std.specs.Prelude.{◌≡◌, ◌++◌, IfOk, OnOk, codes, min};
 ghost use Rattle.pt_value.specs.Printed.{IsExtended};
 ghost use Rattle.pt_types.specs.Printed.{printed};
-ghost use Rattle.pt_types.specs.Datatype.{depth, nodes};
-ghost use Rattle.pt_types.specs.Normal.{is_plain};
-ghost use Rattle.pt_types.specs.Order as order;
-ghost use Rattle.pt_types.specs.Join as joins;
+ghost use Rattle.pt_datatypes.specs.Datatype.{depth, nodes};
+ghost use Rattle.pt_datatypes.specs.Normal.{is_plain};
+ghost use Rattle.pt_datatypes.specs.Order as order;
+ghost use Rattle.pt_datatypes.specs.Join as joins;
 ghost use Rattle.pt_types.specs.Ty.{written};
 
 use crate::ty::Ty;
@@ -19,8 +19,8 @@ pub struct ElementTy {
 }
 
 impl Model for ElementTy {
-    ghost use Rattle.pt_types.specs.Datatype as datatype;
-    ghost use Rattle.pt_types.specs.DatatypeCode.{coded_type};
+    ghost use Rattle.pt_datatypes.specs.Datatype as datatype;
+    ghost use Rattle.pt_datatypes.specs.DatatypeCode.{coded_type};
 
     ghost Value = { datatype.Datatype };
 

@@ -1,4 +1,4 @@
-ghost use Rattle.pt_types.specs.Laws.{TypesAreOrdered, JoinsAreLeast, TypesGrow, PartsStandForTypes};
+ghost use Rattle.pt_datatypes.specs.Laws.{TypesAreOrdered, JoinsAreLeast, TypesGrow, PartsStandForTypes};
 
 /// Types are partially ordered, with a least and a greatest one.
 pub fn types_are_ordered()

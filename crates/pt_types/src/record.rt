@@ -6,12 +6,12 @@ ghost use Rattle.pt_value.specs.Name.{IsName};
 ghost use Rattle.pt_value.specs.FieldsFault.{FaultStands};
 ghost use Rattle.pt_value.specs.Printed.{IsExtended, in_braces};
 ghost use Rattle.pt_types.specs.Printed.{each_named, printed_field};
-ghost use Rattle.pt_types.specs.Datatype.{types_of, depth_of_fields, nodes_of_fields};
-ghost use Rattle.pt_types.specs.Normal.{are_plain};
-ghost use Rattle.pt_types.specs.Order as order;
-ghost use Rattle.pt_types.specs.Join as joins;
+ghost use Rattle.pt_datatypes.specs.Datatype.{types_of, depth_of_fields, nodes_of_fields};
+ghost use Rattle.pt_datatypes.specs.Normal.{are_plain};
+ghost use Rattle.pt_datatypes.specs.Order as order;
+ghost use Rattle.pt_datatypes.specs.Join as joins;
 ghost use Rattle.pt_types.specs.Ty.{entry_of, entry_of_pair, written};
-ghost use Rattle.pt_types.specs.RecordType.{IsRecordType};
+ghost use Rattle.pt_datatypes.specs.RecordType.{IsRecordType};
 
 use crate::printed::write_separator;
 use crate::ty::Ty;
@@ -59,8 +59,8 @@ pub struct RecordTy {
 impl Model for RecordTy {
     ghost use Rattle.std.specs.Prelude.{List, map, ℕ};
     ghost use Rattle.std.specs.Coded.{coded_list, coded_ℕ, coded×};
-    ghost use Rattle.pt_types.specs.Datatype as datatype;
-    ghost use Rattle.pt_types.specs.DatatypeCode.{coded_type};
+    ghost use Rattle.pt_datatypes.specs.Datatype as datatype;
+    ghost use Rattle.pt_datatypes.specs.DatatypeCode.{coded_type};
 
     ghost Value = { List (List ℕ × datatype.Datatype) };
 
@@ -70,7 +70,7 @@ impl Model for RecordTy {
 
     ghost view = { λ x. map entry_of x.fields.items };
 
-    ghost use Rattle.pt_types.specs.RecordType.{IsRecordType};
+    ghost use Rattle.pt_datatypes.specs.RecordType.{IsRecordType};
 
     ghost invariant = { λ x. IsRecordType (map entry_of x.fields.items) };
 

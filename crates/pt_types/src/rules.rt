@@ -1,8 +1,8 @@
 ghost use Rattle.std.specs.Prelude.{◌≡◌, ℕ, ◌+◌, ◌*◌, ◌<◌, ◌≤◌, IfOk, OnOk, IsTrue, IsFalse, map, length, All, List, if◌then◌else◌};
-ghost use Rattle.pt_types.specs.Datatype.{Datatype, Unknown};
-ghost use Rattle.pt_types.specs.Order.{IsBelow};
-ghost use Rattle.pt_types.specs.Rank.{room};
-ghost use Rattle.pt_types.specs.Rules.{AllBelow, AreMet, IsReached, IsLeastSolution, IsRaised};
+ghost use Rattle.pt_datatypes.specs.Datatype.{Datatype, Unknown};
+ghost use Rattle.pt_datatypes.specs.Order.{IsBelow};
+ghost use Rattle.pt_datatypes.specs.Rank.{room};
+ghost use Rattle.pt_datatypes.specs.Rules.{AllBelow, AreMet, IsReached, IsLeastSolution, IsRaised};
 ghost use Rattle.pt_types.specs.Ty.{type_of};
 
 use crate::due::Due;

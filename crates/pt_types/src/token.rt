@@ -1,11 +1,11 @@
 ghost use Rattle.std.specs.Prelude.{◌≡◌, IfOk, IsTrue, true};
 ghost use Rattle.pt_value.specs.Value.{values_of, named_of};
 ghost use Rattle.pt_value.specs.Token.{value_of};
-ghost use Rattle.pt_types.specs.Datatype as datatype;
-ghost use Rattle.pt_types.specs.Datatype.{types_of};
-ghost use Rattle.pt_types.specs.Normal.{is_proper};
-ghost use Rattle.pt_types.specs.Order as order;
-ghost use Rattle.pt_types.specs.Token.{type_of_value, join_of, field_types, each_below, typed_fields};
+ghost use Rattle.pt_datatypes.specs.Datatype as datatype;
+ghost use Rattle.pt_datatypes.specs.Datatype.{types_of};
+ghost use Rattle.pt_datatypes.specs.Normal.{is_proper};
+ghost use Rattle.pt_datatypes.specs.Order as order;
+ghost use Rattle.pt_datatypes.specs.Token.{type_of_value, join_of, field_types, each_below, typed_fields};
 ghost use Rattle.pt_types.specs.Ty.{written, type_of};
 
 use crate::record::{FieldTy, RecordTy};

@@ -1,11 +1,11 @@
 ghost use Rattle.std.specs.Prelude.{◌≡◌, ◌++◌, IfOk, OnOk, min};
 ghost use Rattle.pt_value.specs.Printed.{IsExtended};
 ghost use Rattle.pt_types.specs.Printed.{printed};
-ghost use Rattle.pt_types.specs.Datatype.{depth, nodes};
-ghost use Rattle.pt_types.specs.Normal.{is_plain, is_proper, normal, array_of, record_of};
-ghost use Rattle.pt_types.specs.Order as order;
-ghost use Rattle.pt_types.specs.Join as joins;
-ghost use Rattle.pt_types.specs.Datatype.{types_of};
+ghost use Rattle.pt_datatypes.specs.Datatype.{depth, nodes};
+ghost use Rattle.pt_datatypes.specs.Normal.{is_plain, is_proper, normal, array_of, record_of};
+ghost use Rattle.pt_datatypes.specs.Order as order;
+ghost use Rattle.pt_datatypes.specs.Join as joins;
+ghost use Rattle.pt_datatypes.specs.Datatype.{types_of};
 ghost use Rattle.pt_types.specs.Ty.{written, type_of};
 
 use crate::element::ElementTy;

@@ -4,10 +4,10 @@ use Rattle.std.specs.Str.{bytes_eq}
 use Rattle.std.specs.List.{AllZip}
 use Rattle.std.proofs.lemmas.List.{take_more}
 use Rattle.pt_types.specs.declared.ty.Ty.{Ty}
-use Rattle.pt_types.specs.Datatype.{Datatype}
-use Rattle.pt_types.specs.Normal.{normal}
+use Rattle.pt_datatypes.specs.Datatype.{Datatype}
+use Rattle.pt_datatypes.specs.Normal.{normal}
 use Rattle.pt_types.specs.Ty.{type_of, written}
-use Rattle.pt_expr_type.specs.Types.{Types, or_else}
+use Rattle.pt_language.specs.Types.{Types, or_else}
 use Rattle.pt_typing.specs.Terms.{named, itself}
 use Rattle.pt_typing.specs.Views.{known_entry}
 

@@ -2,9 +2,9 @@
 use Rattle.std.proofs.Common.{◌≡◌, ℕ, zero, suc, ◌+◌, ◌<◌, ◌≤◌, Bool, true, false, List, [], ◌∷◌, ◌++◌, length, get_or, refl, sym, ap, ◌∙◌, if◌then◌else◌, arith}
 use Rattle.std.proofs.Math.Dec.{ltb}
 use Rattle.std.proofs.lemmas.Bool.{lt-ltb, ltb-true, le-ltb, ltb-false}
-use Rattle.pt_types.specs.Datatype.{Datatype, Unknown}
-use Rattle.pt_types.specs.Normal.{IsType}
-use Rattle.pt_types.specs.Rules.{type_at}
+use Rattle.pt_datatypes.specs.Datatype.{Datatype, Unknown}
+use Rattle.pt_datatypes.specs.Normal.{IsType}
+use Rattle.pt_datatypes.specs.Rules.{type_at}
 use Rattle.pt_typing.specs.declared.variable.Variable.{Variable}
 use Rattle.pt_typing.specs.declared.variable.Variable.TheVariants.{Port, Row}
 use Rattle.pt_typing.specs.declared.numbers.Numbers.{Numbers}

@@ -2,10 +2,10 @@
 use Rattle.std.proofs.Common.{◌≡◌, ℕ, zero, suc, ◌+◌, ◌<◌, ◌≤◌, false, List, [], ◌∷◌, length, map, All, refl, sym, ap, subst, ◌∙◌, arith}
 use Rattle.std.specs.List.{AllByRecursion, AllZip}
 use Rattle.std.proofs.lemmas.List.Elements.{All-from_recursion, recursion_from_All}
-use Rattle.pt_types.specs.Datatype.{Datatype, Unknown}
-use Rattle.pt_types.specs.Normal.{IsType}
-use Rattle.pt_types.specs.Order.{IsBelow}
-use Rattle.pt_types.specs.Rules.{type_at, AllBelow, IsSolution, IsLeastSolution}
+use Rattle.pt_datatypes.specs.Datatype.{Datatype, Unknown}
+use Rattle.pt_datatypes.specs.Normal.{IsType}
+use Rattle.pt_datatypes.specs.Order.{IsBelow}
+use Rattle.pt_datatypes.specs.Rules.{type_at, AllBelow, IsSolution, IsLeastSolution}
 use Rattle.pt_typing.specs.declared.variable.Variable.{Variable}
 use Rattle.pt_typing.specs.declared.variable.Variable.TheVariants.{Port, Row}
 use Rattle.pt_typing.specs.declared.term.Inequality.{Inequality as GivenInequality}

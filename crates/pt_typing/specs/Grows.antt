@@ -1,19 +1,19 @@
 -- What a term means grows with the types of its variables.
 use Rattle.std.proofs.Common.{◌≡◌, ℕ, Bool, true, false, List, [], ◌∷◌, map, Option, None, Some, if◌then◌else◌, refl}
 use Rattle.std.specs.Str.{bytes_eq}
-use Rattle.pt_types.specs.Datatype.{Datatype, Array, General}
-use Rattle.pt_types.specs.Order.{IsBelow}
-use Rattle.pt_types.specs.Rules.{AllBelow, type_at}
-use Rattle.pt_types.proofs.Joins.{normal-below}
-use Rattle.pt_types.proofs.Order.{below-refl}
-use Rattle.pt_expr.specs.Tree.{Tree}
-use Rattle.pt_expr_type.specs.Typing.{or_general}
-use Rattle.pt_expr_type.specs.Types.{Types}
-use Rattle.pt_expr_type.specs.TreeType as trees
-use Rattle.pt_expr_type.specs.TreeType.{tree_type, are_bound}
-use Rattle.pt_expr_type.specs.Rule.{type_or_general}
-use Rattle.pt_expr_type.specs.Laws.{IsBelowAt, AreBelow}
-use Rattle.pt_expr_type.specs.Grows.{or_else-below, or_general-below, tree_type-below, bound-same, is-below, element-below, field-below, recorded-below, EntriesBelow}
+use Rattle.pt_datatypes.specs.Datatype.{Datatype, Array, General}
+use Rattle.pt_datatypes.specs.Order.{IsBelow}
+use Rattle.pt_datatypes.specs.Rules.{AllBelow, type_at}
+use Rattle.pt_datatypes.proofs.Joins.{normal-below}
+use Rattle.pt_datatypes.proofs.Order.{below-refl}
+use Rattle.pt_language.specs.Tree.{Tree}
+use Rattle.pt_language.specs.Typing.{or_general}
+use Rattle.pt_language.specs.Types.{Types}
+use Rattle.pt_language.specs.TreeType as trees
+use Rattle.pt_language.specs.TreeType.{tree_type, are_bound}
+use Rattle.pt_language.specs.Rule.{type_or_general}
+use Rattle.pt_language.specs.Laws.{IsBelowAt, AreBelow}
+use Rattle.pt_language.specs.Grows.{or_else-below, or_general-below, tree_type-below, bound-same, is-below, element-below, field-below, recorded-below, EntriesBelow}
 use Rattle.pt_typing.specs.Terms.{Term, Same, Fixed, ArrayOf, ElementOf, FieldOf, RecordOf, TreeOf, meaning, named, itself, names_types, entry_in}
 
 one-below : (b : Bool) (s t : Datatype) → IsBelow s t → IsBelowAt (if b then Some s else None) (if b then Some t else None)

@@ -1,9 +1,9 @@
 -- The least types of variables that meet inequalities (the book, "The Type System").
 use Rattle.std.specs.Prelude.{◌≡◌, ℕ, List, All, map, false}
-use Rattle.pt_types.specs.Datatype.{Datatype}
-use Rattle.pt_types.specs.Normal.{IsType}
-use Rattle.pt_types.specs.Order.{IsBelow}
-use Rattle.pt_types.specs.Rules.{type_at}
+use Rattle.pt_datatypes.specs.Datatype.{Datatype}
+use Rattle.pt_datatypes.specs.Normal.{IsType}
+use Rattle.pt_datatypes.specs.Order.{IsBelow}
+use Rattle.pt_datatypes.specs.Rules.{type_at}
 use Rattle.pt_types.specs.Ty.{type_of}
 use Rattle.pt_typing.specs.declared.variable.Variable.{Variable}
 use Rattle.pt_typing.specs.declared.typing.Typing.{Typing}

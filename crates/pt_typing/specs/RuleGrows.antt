@@ -1,8 +1,8 @@
 -- What a rule makes of types grows with them.
 use Rattle.std.specs.Prelude.{List}
-use Rattle.pt_types.specs.Datatype.{Datatype}
-use Rattle.pt_types.specs.Order.{IsBelow}
-use Rattle.pt_types.specs.Rules.{AllBelow}
+use Rattle.pt_datatypes.specs.Datatype.{Datatype}
+use Rattle.pt_datatypes.specs.Order.{IsBelow}
+use Rattle.pt_datatypes.specs.Rules.{AllBelow}
 use Rattle.pt_typing.specs.declared.rule.Bound.{Bound}
 use Rattle.pt_typing.specs.Grows.{under-grows}
 use Rattle.pt_typing.specs.Numbers.{number_in}

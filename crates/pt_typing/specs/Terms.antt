@@ -1,13 +1,13 @@
 -- Terms of types over type variables (the book, "The Type System").
 use Rattle.std.specs.Prelude.{ℕ, List, [], ◌∷◌, map, Option, Some, None, Bool, true, false, ◌&&◌, bytes_eq, if◌then◌else◌}
-use Rattle.pt_types.specs.Datatype.{Datatype}
+use Rattle.pt_datatypes.specs.Datatype.{Datatype}
 use Rattle.pt_typing.specs.declared.variable.Variable.{Variable}
-use Rattle.pt_types.specs.Normal.{array_of}
-use Rattle.pt_expr.specs.Tree.{Tree}
-use Rattle.pt_expr_type.specs.Typing.{Typing, Has, Clash, or_general}
-use Rattle.pt_expr_type.specs.Types.{Types, or_else}
-use Rattle.pt_expr_type.specs.Rule.{type_or_general}
-use Rattle.pt_expr_type.specs.TreeType as trees
+use Rattle.pt_datatypes.specs.Normal.{array_of}
+use Rattle.pt_language.specs.Tree.{Tree}
+use Rattle.pt_language.specs.Typing.{Typing, Has, Clash, or_general}
+use Rattle.pt_language.specs.Types.{Types, or_else}
+use Rattle.pt_language.specs.Rule.{type_or_general}
+use Rattle.pt_language.specs.TreeType as trees
 
 -- the type of a variable, a type, the array of a variable, the elements of one, a field of one, the record of variables under
 -- names, or the type of a tree whose names are variables, or else have types

@@ -1,10 +1,10 @@
 -- The inequalities that the program holds.
 use Rattle.std.specs.Prelude.{◌≡◌, ℕ, List, map}
 use Rattle.pt_types.specs.declared.ty.Ty.{Ty}
-use Rattle.pt_types.specs.Datatype.{Datatype}
-use Rattle.pt_types.specs.Rules.{type_at}
+use Rattle.pt_datatypes.specs.Datatype.{Datatype}
+use Rattle.pt_datatypes.specs.Rules.{type_at}
 use Rattle.pt_types.specs.Ty.{type_of}
-use Rattle.pt_expr.specs.Expr.{tree_of}
+use Rattle.pt_language.specs.Expr.{tree_of}
 use Rattle.pt_typing.specs.declared.variable.Variable.{Variable}
 use Rattle.pt_typing.specs.declared.term.Term.{Term as GivenTerm}
 use Rattle.pt_typing.specs.declared.term.Term.TheVariants as given

@@ -1,17 +1,17 @@
 ghost use Rattle.std.specs.Prelude.{◌≡◌, ◌<◌, IfOk, OnOk, List, ℕ, map};
 ghost use Rattle.pt_types.specs.Ty as ty;
-ghost use Rattle.pt_expr.specs.Expr.{tree_of};
-ghost use Rattle.pt_expr_type.specs.Typing.{or_general};
-ghost use Rattle.pt_expr_type.specs.TreeType as trees;
+ghost use Rattle.pt_language.specs.Expr.{tree_of};
+ghost use Rattle.pt_language.specs.Typing.{or_general};
+ghost use Rattle.pt_language.specs.TreeType as trees;
 ghost use Rattle.pt_expr_type.specs.TypeEnv.{types_in};
-ghost use Rattle.pt_expr_type.specs.Rule.{type_or_general};
+ghost use Rattle.pt_language.specs.Rule.{type_or_general};
 ghost use Rattle.pt_typing.specs.Terms.{meaning, named, itself, names_types, entry_in, has_type};
 ghost use Rattle.pt_typing.specs.Views.{known_entry, tree_view, term_view, assigned};
 
 use crate::numbers::Numbers;
 use crate::variable::Variable;
-use pt_expr::Expr;
-use pt_expr_type::{TypeEnv, TypeFault, applied, field, record_of, type_of};
+use pt_expr_type::{TypeEnv, applied, field, record_of, type_of};
+use pt_language::{Expr, TypeFault};
 use pt_types::Ty;
 use pt_value::Text;
 use std::alloc::{AllocError, Global};

@@ -1,7 +1,7 @@
 ghost use Rattle.std.specs.Prelude.{◌≡◌, IfOk, List, ℕ, map};
 ghost use Rattle.std.specs.List.{AllZip};
 ghost use Rattle.pt_types.specs.Ty as ty;
-ghost use Rattle.pt_expr.specs.Expr.{tree_of};
+ghost use Rattle.pt_language.specs.Expr.{tree_of};
 ghost use Rattle.pt_typing.specs.Terms.{meaning, names_types, has_type};
 ghost use Rattle.pt_typing.specs.Views.{inequality_view, known_entry, tree_view, IsRuleOf};
 ghost use Rattle.pt_typing.specs.Least.{IsLeast, assignment};

@@ -1,3 +1,4 @@
+pub mod Extended
 pub mod Names
 pub mod Pairs
 pub mod Records

@@ -1,17 +1,35 @@
 -- The printed text of arrays and records, part by part.
-use Rattle.std.proofs.Common.{◌≡◌, ℕ, suc, ◌+◌, ◌<◌, List, [], ◌∷◌, ◌++◌, length, take, get_or, map, codes, refl, sym, ap, ◌∙◌, append_assoc, arith}
-use Rattle.std.proofs.lemmas.List.{take_more, append-nil, length-take-le}
+use Rattle.std.proofs.Common.{◌≡◌, ℕ, suc, ◌+◌, ◌<◌, ◌≤◌, List, [], ◌∷◌, ◌++◌, length, take, get_or, map, codes, refl, sym, ap, ◌∙◌, append_assoc, arith}
+use Rattle.std.proofs.lemmas.List.{take_all, take_more, append-nil, length-take-le}
+use Rattle.std.specs.List.{flat_map}
 use Rattle.pt_value.specs.declared.token.Token.{Token}
 use Rattle.pt_value.specs.declared.fields.Field.{Field}
-use Rattle.pt_value.specs.Value.{values_of, named_of}
+use Rattle.pt_value.specs.Value.{Value, values_of, named_of}
 use Rattle.pt_value.specs.Token.{value_of, entry_of}
-use Rattle.pt_value.specs.Printed.{printed, printed_field, each_printed, each_named, separated_by, more_after, separator_before}
+use Rattle.pt_value.specs.Printed.{escaped, quoted, in_braces, printed, printed_field, each_printed, each_named, separated_by, more_after, separator_before}
+use Rattle.pt_value.proofs.Extended.{appended}
 
 abbrev pub array_body : List Token → List ℕ
 array_body ts = separated_by (codes ", ") (each_printed (values_of (map value_of ts)))
 
 abbrev pub record_body : List Field → List ℕ
 record_body fs = separated_by (codes ", ") (each_named (named_of (map entry_of fs)))
+
+-- a text in quotes, once its last byte is written
+pub quoted-last : (old text items mid done new : List ℕ) (i : ℕ) → items ≡ text → length items ≤ i → mid ≡ old ++ codes "\"" → done ≡ mid ++ flat_map escaped (take i items) → new ≡ done ++ codes "\"" → new ≡ old ++ quoted text
+quoted-last old text items mid done new i e l a b c =
+    appended old (codes "\"") (flat_map escaped text) (codes "\"") mid done new a (b ∙ ap (λ w. mid ++ flat_map escaped w) (take_all i items l ∙ e)) c
+
+-- an array and a record, once their last byte is written
+pub array-last : (old mid done new : List ℕ) (ts : List Token) (self : List Value) (i : ℕ) → map value_of ts ≡ self → length ts ≤ i → mid ≡ old ++ codes "{" → done ≡ mid ++ array_body (take i ts) → new ≡ done ++ codes "}" → new ≡ old ++ in_braces (each_printed (values_of self))
+array-last old mid done new ts self i e l a b c =
+    let body : array_body (take i ts) ≡ separated_by (codes ", ") (each_printed (values_of self)) = ap array_body (take_all i ts l) ∙ ap (λ vs. separated_by (codes ", ") (each_printed (values_of vs))) e in
+    appended old (codes "{") (separated_by (codes ", ") (each_printed (values_of self))) (codes "}") mid done new a (b ∙ ap (λ w. mid ++ w) body) c
+
+pub record-last : (old mid done new : List ℕ) (fs : List Field) (self : List (List ℕ × Value)) (i : ℕ) → map entry_of fs ≡ self → length fs ≤ i → mid ≡ old ++ codes "{" → done ≡ mid ++ record_body (take i fs) → new ≡ done ++ codes "}" → new ≡ old ++ in_braces (each_named (named_of self))
+record-last old mid done new fs self i e l a b c =
+    let body : record_body (take i fs) ≡ separated_by (codes ", ") (each_named (named_of self)) = ap record_body (take_all i fs l) ∙ ap (λ vs. separated_by (codes ", ") (each_named (named_of vs))) e in
+    appended old (codes "{") (separated_by (codes ", ") (each_named (named_of self))) (codes "}") mid done new a (b ∙ ap (λ w. mid ++ w) body) c
 
 -- one text more
 more_after-push : (s : List ℕ) (xs : List (List ℕ)) (y : List ℕ) → more_after s (xs ++ y ∷ []) ≡ (more_after s xs ++ s) ++ y

@@ -1,5 +1,5 @@
--- Names: of entities, ports and parameters, and of the fields of a record.
-use Rattle.std.specs.Prelude.{ℕ, ◌≤◌, List, [], ◌∷◌, length, All, IsTrue, ◌||◌, ◌==◌}
+-- Names of expressions, which are those of the fields of a record.
+use Rattle.std.specs.Prelude.{◌≡◌, ℕ, ◌≤◌, List, [], ◌∷◌, length, All, Bool, false, IsTrue, ◌||◌, ◌==◌, codes, bytes_eq}
 use Rattle.std.specs.Char.{is_ascii_alphabetic, is_ascii_alphanumeric}
 
 -- a letter or an underscore
@@ -15,7 +15,12 @@ abbrev pub HasNameForm : List ℕ → Type 0
 HasNameForm [] = ⊥
 HasNameForm (c ∷ cs) = BeginsName c × All ContinuesName cs
 
--- a name: of that form, with at most 64 bytes
+-- the words that expressions reserve
+abbrev pub is_reserved : List ℕ → Bool
+is_reserved n = bytes_eq n (codes "true") || bytes_eq n (codes "false") || bytes_eq n (codes "abs") || bytes_eq n (codes "max") || bytes_eq n (codes "min")
+
+-- a name: of that form, with at most 64 bytes, and none of these words
 pub record IsName (name : List ℕ) : Type 0 where
   pub form : HasNameForm name
   pub short : length name ≤ 64
+  pub free : is_reserved name ≡ false

@@ -119,7 +119,7 @@ impl Model for Fields {
 }
 
 impl Fields {
-    /// The record of these fields, sorted by name. A text that is no name is told before a name that is repeated.
+    /// The record of these fields, sorted by name. A text that is no name of an expression is told before a name that is repeated.
     pub fn of(alloc: Global, fields: Vec<(Text, Token)>) -> Result<Fields, FieldsFault>
         ensures ok { IfOk result (λ fs. IsPermutation (map entry_of_pair fields.items) fs) }
         ensures lawful { IfOk result IsRecord }

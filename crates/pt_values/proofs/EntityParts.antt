@@ -6,25 +6,25 @@ use Rattle.std.specs.List.{Contains, filter}
 use Rattle.std.proofs.lemmas.List.{map-append}
 use Rattle.std.proofs.lemmas.List.Elements.{filter-append}
 use Rattle.pt_value.specs.Value.{Value}
-use Rattle.pt_moml.specs.declared.code.Code.{Code}
-use Rattle.pt_moml.specs.declared.refusal.DocFault.{DocFault}
-use Rattle.pt_moml.specs.Names.{is_among}
-use Rattle.pt_expr.specs.Scope.{Scope, port_in}
-use Rattle.pt_graph.specs.Net.{NetEntityTree}
-use Rattle.pt_parameter.specs.declared.names.Names.{Names}
-use Rattle.pt_parameter.specs.declared.port_names.PortNames.{PortNames}
-use Rattle.pt_parameter.specs.Names.{held, or_else, in_chain}
-use Rattle.pt_parameter.specs.PortNames.{has_port, has_presence, names_port_of}
-use Rattle.pt_parameter.specs.Given.{Held, Token, names_port, is_presence}
-use Rattle.pt_values.specs.Scopes.{NetTree, Bindings, bound, is_composite_class, seen_parameters, Extends, Sees}
-use Rattle.pt_values.specs.Frames.{Means}
-use Rattle.pt_values.specs.Sites.{inputs_of}
-use Rattle.pt_values.specs.Valued.{EntityView, AreOwn, Stands, IsFaultOf}
-use Rattle.pt_values.specs.ClassParameters.{AreParametersOf, IsClassFault}
-use Rattle.pt_values.specs.Told.{IsToldAt, MeansWith, IsTurn, IsFaultInTurn, IsVariableFault, chain_scope, IsOwn, IsRest, IsEntityIn, IsDirectorFault, IsRateFault, IsFaultWhere}
-use Rattle.pt_values.proofs.Turns.{means-first}
-use Rattle.pt_values.proofs.Seen.{own-extends}
-use Rattle.pt_values.proofs.Standing.{told-stands, own-stands, class-stands, director-stands, variable-stands, rate-stands}
+use Rattle.pt_document.specs.declared.code.Code.{Code}
+use Rattle.pt_document.specs.declared.refusal.DocFault.{DocFault}
+use Rattle.pt_document.specs.Names.{is_among}
+use Rattle.pt_language.specs.Scope.{Scope, port_in}
+use Rattle.pt_net.specs.Net.{NetEntityTree}
+use Rattle.pt_scopes.specs.declared.names.Names.{Names}
+use Rattle.pt_scopes.specs.declared.port_names.PortNames.{PortNames}
+use Rattle.pt_scopes.specs.Names.{held, or_else, in_chain}
+use Rattle.pt_scopes.specs.PortNames.{has_port, has_presence, names_port_of}
+use Rattle.pt_scopes.specs.Given.{Held, Token, names_port, is_presence}
+use Rattle.pt_scopes.specs.Scopes.{NetTree, Bindings, bound, is_composite_class, seen_parameters, Extends, Sees}
+use Rattle.pt_scopes.specs.Frames.{Means}
+use Rattle.pt_scopes.specs.Sites.{inputs_of}
+use Rattle.pt_scopes.specs.Valued.{EntityView, AreOwn, Stands, IsFaultOf}
+use Rattle.pt_scopes.specs.ClassParameters.{AreParametersOf, IsClassFault}
+use Rattle.pt_scopes.specs.Told.{IsToldAt, MeansWith, IsTurn, IsFaultInTurn, IsVariableFault, chain_scope, IsOwn, IsRest, IsEntityIn, IsDirectorFault, IsRateFault, IsFaultWhere}
+use Rattle.pt_scopes.proofs.Turns.{means-first}
+use Rattle.pt_scopes.proofs.SeenLaws.{own-extends}
+use Rattle.pt_scopes.proofs.Standing.{told-stands, own-stands, class-stands, director-stands, variable-stands, rate-stands}
 
 -- ---- names of ports
 

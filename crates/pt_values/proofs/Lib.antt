@@ -1,12 +1,3 @@
-pub mod Turns
-pub mod Pushed
-pub mod Places
-pub mod Document
-pub mod Standing
-pub mod Seen
 pub mod Walking
-pub mod Unique
-pub mod Clean
-pub mod OneMeaning
 pub mod EntityParts
 pub mod Unseen

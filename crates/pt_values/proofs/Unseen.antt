@@ -4,22 +4,22 @@ use Rattle.std.proofs.lemmas.Option.{slice_get-map, slice_get_read}
 use Rattle.std.specs.Prelude.{option_map, Option}
 use Rattle.std.specs.List.{Contains, slice_get}
 use Rattle.pt_value.specs.Value.{Value}
-use Rattle.pt_moml.specs.declared.code.Code.{Code}
-use Rattle.pt_moml.specs.declared.code.Code.TheVariants as code
-use Rattle.pt_moml.specs.declared.job.Event.{Event}
-use Rattle.pt_moml.specs.declared.refusal.DocFault.{DocFault}
-use Rattle.pt_moml.specs.declared.refusal.DocFault.TheVariants as faults
-use Rattle.pt_moml.specs.Document.{PortTree}
-use Rattle.pt_moml.specs.Outcome.{IsRefusal}
-use Rattle.pt_parameter.specs.declared.tables.TheConstants.{RATE}
-use Rattle.pt_parameter.specs.Forms.{fits}
-use Rattle.pt_parameter.specs.Given.{IsValueFault}
-use Rattle.pt_parameter.specs.Texts.{HasValue, IsTextFault}
-use Rattle.pt_values.specs.Scopes.{bound}
-use Rattle.pt_values.specs.Sites.{rate_of, event_text}
-use Rattle.pt_values.specs.Told.{IsToldAt, IsRateFault, IsSupplyFault}
-use Rattle.pt_values.proofs.Turns.{told_weaker}
-use Rattle.pt_values.proofs.Standing.{get-contains}
+use Rattle.pt_document.specs.declared.code.Code.{Code}
+use Rattle.pt_document.specs.declared.code.Code.TheVariants as code
+use Rattle.pt_document.specs.declared.job.Event.{Event}
+use Rattle.pt_document.specs.declared.refusal.DocFault.{DocFault}
+use Rattle.pt_document.specs.declared.refusal.DocFault.TheVariants as faults
+use Rattle.pt_document.specs.Document.{PortTree}
+use Rattle.pt_document.specs.Outcome.{IsRefusal}
+use Rattle.pt_scopes.specs.declared.tables.TheConstants.{RATE}
+use Rattle.pt_scopes.specs.Forms.{fits}
+use Rattle.pt_scopes.specs.Given.{IsValueFault}
+use Rattle.pt_scopes.specs.Texts.{HasValue, IsTextFault}
+use Rattle.pt_scopes.specs.Scopes.{bound}
+use Rattle.pt_scopes.specs.Sites.{rate_of, event_text}
+use Rattle.pt_scopes.specs.Told.{IsToldAt, IsRateFault, IsSupplyFault}
+use Rattle.pt_scopes.proofs.Turns.{told_weaker}
+use Rattle.pt_scopes.proofs.Standing.{get-contains}
 
 pub misfit-told : (path text : List ℕ) (v : Value) (told : DocFault) → HasValue (bound []) text v → fits RATE v ≡ false → IsRefusal told code.Value path → IsToldAt path (IsValueFault (bound []) RATE text) told
 misfit-told path text v faults.Memory comes misfits is = tt

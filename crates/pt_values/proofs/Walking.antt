@@ -10,26 +10,26 @@ use Rattle.std.proofs.lemmas.Bool.{cases_lt}
 use Rattle.pt_value.specs.declared.token.Token.{Token as HeldToken}
 use Rattle.pt_value.specs.Value.{Value}
 use Rattle.pt_value.specs.Token.{value_of}
-use Rattle.pt_moml.specs.declared.refusal.DocFault.{DocFault}
-use Rattle.pt_moml.specs.declared.job.Input.{Input}
-use Rattle.pt_moml.specs.Document.{InputTree}
-use Rattle.pt_moml.specs.View.{input_view, supply_view}
-use Rattle.pt_graph.specs.Net.{NetEntityTree, TransparentTree}
-use Rattle.pt_graph.specs.Table.{shown}
-use Rattle.pt_values.specs.Sites.{texts_of_supply}
-use Rattle.pt_parameter.specs.declared.names.Names.{Names}
-use Rattle.pt_values.specs.declared.scopes.Scopes.{Scopes}
-use Rattle.pt_values.specs.declared.values.EntityValues.{EntityValues}
+use Rattle.pt_document.specs.declared.refusal.DocFault.{DocFault}
+use Rattle.pt_document.specs.declared.job.Input.{Input}
+use Rattle.pt_document.specs.Document.{InputTree}
+use Rattle.pt_document.specs.View.{input_view, supply_view}
+use Rattle.pt_net.specs.Net.{NetEntityTree, TransparentTree}
+use Rattle.pt_net.specs.Table.{shown}
+use Rattle.pt_scopes.specs.Sites.{texts_of_supply}
+use Rattle.pt_scopes.specs.declared.names.Names.{Names}
+use Rattle.pt_scopes.specs.declared.scopes.Scopes.{Scopes}
+use Rattle.pt_scopes.specs.declared.values.EntityValues.{EntityValues}
 use Rattle.pt_values.specs.declared.walk.Walk.{Walk}
-use Rattle.pt_values.specs.Scopes.{NetTree, Bindings, bound, is_composite_class, seen_parameters, Extends, Sees, in_transparent, in_opaque}
-use Rattle.pt_values.specs.Order.{IsBehind, IsOrdered}
-use Rattle.pt_values.specs.Frames.{chain_at, Means, IsSeenIn, AreScopes}
-use Rattle.pt_values.specs.Valued.{EntityView, entity_view, transparent_values, IsEntityValued, IsTransparentValued, IsFaultOf}
-use Rattle.pt_values.specs.Told.{IsTurn, IsEntityIn, IsFaultWhere, IsFaultInTurn, IsToldAt, IsSupplyFault}
-use Rattle.pt_values.specs.declared.scopes.Inside.{Inside}
+use Rattle.pt_scopes.specs.Scopes.{NetTree, Bindings, bound, is_composite_class, seen_parameters, Extends, Sees, in_transparent, in_opaque}
+use Rattle.pt_scopes.specs.Order.{IsBehind, IsOrdered}
+use Rattle.pt_scopes.specs.Frames.{chain_at, Means, IsSeenIn, AreScopes}
+use Rattle.pt_scopes.specs.Valued.{EntityView, entity_view, transparent_values, IsEntityValued, IsTransparentValued, IsFaultOf}
+use Rattle.pt_scopes.specs.Told.{IsTurn, IsEntityIn, IsFaultWhere, IsFaultInTurn, IsToldAt, IsSupplyFault}
+use Rattle.pt_scopes.specs.declared.scopes.Inside.{Inside}
 use Rattle.pt_values.specs.Walk.{IsWalk, IsHeldUp, IsInside, IsFaultFrom, IsTransparentInside, IsTransparentFault}
-use Rattle.pt_values.proofs.Seen.{turn-extends, own-extends, seen-inside, more-opaque, more-transparent}
-use Rattle.pt_values.proofs.Standing.{get-contains, told-stands, turn-stands, input-stands}
+use Rattle.pt_scopes.proofs.SeenLaws.{turn-extends, own-extends, seen-inside, more-opaque, more-transparent}
+use Rattle.pt_scopes.proofs.Standing.{get-contains, told-stands, turn-stands, input-stands}
 
 zip-next : {A B C : Type 0} (R : A → B → Type 0) (f : C → B) (xs : List A) (ys : List C) (x : A) (y : C) → AllZip R (take (length ys) xs) (map f ys) → slice_get xs (length ys) ≡ Some x → R x (f y) → AllZip R (take (length (ys ++ y ∷ [])) xs) (map f (ys ++ y ∷ []))
 zip-next R f [] ys x y h at r = absurd (none-some x at)

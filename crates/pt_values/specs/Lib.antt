@@ -1,9 +1,1 @@
-pub mod Scopes
-pub mod Order
-pub mod Sites
-pub mod Valued
-pub mod Frames
-pub mod Told
 pub mod Walk
-pub mod ClassParameters
-pub mod Laws

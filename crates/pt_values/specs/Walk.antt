@@ -2,16 +2,16 @@
 use Rattle.std.specs.Prelude.{◌≡◌, ℕ, List, ◌∷◌, map, length, take, Option, Some, None, slice_get}
 use Rattle.std.specs.List.{AllZip}
 use Rattle.pt_value.specs.Value.{Value}
-use Rattle.pt_moml.specs.declared.refusal.DocFault.{DocFault}
-use Rattle.pt_graph.specs.Net.{NetEntityTree, TransparentTree}
-use Rattle.pt_values.specs.declared.scopes.Scopes.{Scopes}
-use Rattle.pt_values.specs.declared.scopes.Inside.{Inside}
-use Rattle.pt_values.specs.declared.values.EntityValues.{EntityValues}
+use Rattle.pt_document.specs.declared.refusal.DocFault.{DocFault}
+use Rattle.pt_net.specs.Net.{NetEntityTree, TransparentTree}
+use Rattle.pt_scopes.specs.declared.scopes.Scopes.{Scopes}
+use Rattle.pt_scopes.specs.declared.scopes.Inside.{Inside}
+use Rattle.pt_scopes.specs.declared.values.EntityValues.{EntityValues}
 use Rattle.pt_values.specs.declared.walk.Walk.{Walk}
-use Rattle.pt_values.specs.Scopes.{NetTree, Bindings}
-use Rattle.pt_values.specs.Frames.{chain_at, Means, AreScopes}
-use Rattle.pt_values.specs.Valued.{EntityView, entity_view, transparent_values, IsEntityValued, IsTransparentValued}
-use Rattle.pt_values.specs.Told.{IsToldAt, IsFaultInTurn, IsTurn, IsEntityIn, IsFaultWhere}
+use Rattle.pt_scopes.specs.Scopes.{NetTree, Bindings}
+use Rattle.pt_scopes.specs.Frames.{chain_at, Means, AreScopes}
+use Rattle.pt_scopes.specs.Valued.{EntityView, entity_view, transparent_values, IsEntityValued, IsTransparentValued}
+use Rattle.pt_scopes.specs.Told.{IsToldAt, IsFaultInTurn, IsTurn, IsEntityIn, IsFaultWhere}
 
 -- so many entities and transparent composites are gone through, the first ones of their lists
 pub record IsWalk (net : NetTree) (w : Walk) : Type 0 where

@@ -1,16 +1,17 @@
 ghost use Rattle.std.specs.Prelude.{◌≡◌, IfOk, IfErr, map};
 ghost use Rattle.std.specs.List.{AllZip};
-ghost use Rattle.pt_moml.specs.View.{property_view, properties_view};
-ghost use Rattle.pt_parameter.specs.Given.{held_view, IsGiven, IsGivenFault};
-ghost use Rattle.pt_parameter.specs.Names.{seen_scope};
-ghost use Rattle.pt_parameter.specs.PortNames.{names_port_of};
-ghost use Rattle.pt_values.specs.Sites.{director_form};
-ghost use Rattle.pt_values.specs.Told.{IsToldAt};
-ghost use Rattle.pt_values.specs.ClassParameters.{IsParameterOf, IsFaultAmong, AreParametersOf, IsClassFault};
+ghost use Rattle.pt_document.specs.View.{property_view, properties_view};
+ghost use Rattle.pt_scopes.specs.Given.{held_view, IsGiven, IsGivenFault};
+ghost use Rattle.pt_scopes.specs.Names.{seen_scope};
+ghost use Rattle.pt_scopes.specs.PortNames.{names_port_of};
+ghost use Rattle.pt_scopes.specs.Sites.{director_form};
+ghost use Rattle.pt_scopes.specs.Told.{IsToldAt};
+ghost use Rattle.pt_scopes.specs.ClassParameters.{IsParameterOf, IsFaultAmong, AreParametersOf, IsClassFault};
 
-use crate::parameters::{name_of, text_of, told_as};
-use pt_moml::{Code, DocFault, Property, refused};
-use pt_parameter::{Form, ParameterValue, Parameters, PortNames, Seen, form_of, given};
+use crate::parameters::{text_of, told_as};
+use pt_document::{Code, DocFault, Property, refused};
+use pt_parameter::{Parameters, given};
+use pt_scopes::{Form, ParameterValue, PortNames, Seen, form_of, name_of};
 use std::alloc::Global;
 
 /// Whose parameters are given: an actor of this class, or a director, with the number of the composite round its own. How often

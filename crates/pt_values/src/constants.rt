@@ -3,20 +3,20 @@ ghost use Rattle.std.specs.Prelude.{◌≡◌, IfOk, IfErr, IsTrue, [], ◌∷�
 ghost use Rattle.std.specs.Str.{bytes_eq};
 ghost use Rattle.std.specs.List.{AllZip, find};
 ghost use Rattle.pt_value.specs.Token.{value_of};
-ghost use Rattle.pt_moml.specs.Document.{property_name};
-ghost use Rattle.pt_moml.specs.View.{port_view};
-ghost use Rattle.pt_parameter.specs.declared.tables.TheConstants.{RATE};
-ghost use Rattle.pt_parameter.specs.Forms.{fits};
-ghost use Rattle.pt_parameter.specs.Given.{IsValueFault};
-ghost use Rattle.pt_parameter.specs.Texts.{HasValue, IsTextFault};
-ghost use Rattle.pt_values.specs.Scopes.{bound};
-ghost use Rattle.pt_values.specs.Sites.{rate_of};
-ghost use Rattle.pt_values.specs.Valued.{IsRate};
-ghost use Rattle.pt_values.specs.Told.{IsToldAt, IsRateFault};
+ghost use Rattle.pt_document.specs.Document.{property_name};
+ghost use Rattle.pt_document.specs.View.{port_view};
+ghost use Rattle.pt_scopes.specs.declared.tables.TheConstants.{RATE};
+ghost use Rattle.pt_scopes.specs.Forms.{fits};
+ghost use Rattle.pt_scopes.specs.Given.{IsValueFault};
+ghost use Rattle.pt_scopes.specs.Texts.{HasValue, IsTextFault};
+ghost use Rattle.pt_scopes.specs.Scopes.{bound};
+ghost use Rattle.pt_scopes.specs.Sites.{rate_of};
+ghost use Rattle.pt_scopes.specs.Valued.{IsRate};
+ghost use Rattle.pt_scopes.specs.Told.{IsToldAt, IsRateFault};
 
-use crate::parameters::{name_of, text_of, value_at};
-use pt_moml::{Code, DocFault, Port, refused};
-use pt_parameter::{Names, RATE, Seen, fits};
+use crate::parameters::{text_of, value_at};
+use pt_document::{Code, DocFault, Port, refused};
+use pt_scopes::{Names, RATE, Seen, fits, name_of};
 use pt_value::Token;
 use std::alloc::Global;
 

@@ -1,15 +1,15 @@
 ghost use Rattle.std.specs.Prelude.{◌≡◌, IfOk, IfErr, [], ◌∷◌, map, option_map};
 ghost use Rattle.std.specs.List.{AllZip};
 ghost use Rattle.pt_value.specs.Token.{value_of};
-ghost use Rattle.pt_moml.specs.View.{input_view, supply_view};
-ghost use Rattle.pt_graph.specs.Table.{shown};
-ghost use Rattle.pt_values.specs.Sites.{event_text, texts_of_supply};
-ghost use Rattle.pt_values.specs.Valued.{IsSupplied, IsInputValued};
-ghost use Rattle.pt_values.specs.Told.{IsToldAt, IsSupplyFault};
+ghost use Rattle.pt_document.specs.View.{input_view, supply_view};
+ghost use Rattle.pt_net.specs.Table.{shown};
+ghost use Rattle.pt_scopes.specs.Sites.{event_text, texts_of_supply};
+ghost use Rattle.pt_scopes.specs.Valued.{IsSupplied, IsInputValued};
+ghost use Rattle.pt_scopes.specs.Told.{IsToldAt, IsSupplyFault};
 
 use crate::constants::constant_at;
-use pt_graph::shown;
-use pt_moml::{DocFault, Event, Input, Supply};
+use pt_document::{DocFault, Event, Input, Supply};
+use pt_net::shown;
 use pt_value::{Text, Token};
 use std::alloc::Global;
 

@@ -1,26 +1,19 @@
 ghost use Rattle.std.specs.Prelude.{◌≡◌, IfOk, IfErr, map};
 ghost use Rattle.std.specs.List.{AllZip};
 ghost use Rattle.pt_value.specs.Token.{value_of};
-ghost use Rattle.pt_moml.specs.Document.{property_name};
-ghost use Rattle.pt_moml.specs.View.{property_view, properties_view};
-ghost use Rattle.pt_parameter.specs.Names.{seen_scope};
-ghost use Rattle.pt_parameter.specs.Texts.{HasValue, IsTextFault};
-ghost use Rattle.pt_values.specs.Scopes.{Bindings};
-ghost use Rattle.pt_values.specs.Scopes as scopes;
-ghost use Rattle.pt_values.specs.Frames.{Means};
-ghost use Rattle.pt_values.specs.Told.{IsToldAs, IsToldAt, IsTurn, IsFaultInTurn, IsVariableFault};
+ghost use Rattle.pt_document.specs.View.{property_view, properties_view};
+ghost use Rattle.pt_scopes.specs.Names.{seen_scope};
+ghost use Rattle.pt_scopes.specs.Texts.{HasValue, IsTextFault};
+ghost use Rattle.pt_scopes.specs.Scopes.{Bindings};
+ghost use Rattle.pt_scopes.specs.Scopes as scopes;
+ghost use Rattle.pt_scopes.specs.Frames.{Means};
+ghost use Rattle.pt_scopes.specs.Told.{IsToldAs, IsToldAt, IsTurn, IsFaultInTurn, IsVariableFault};
 
-use pt_moml::{DocFault, Property, refused};
-use pt_parameter::{Names, Seen, TextFault, evaluated};
+use pt_document::{DocFault, Property, refused};
+use pt_parameter::evaluated;
+use pt_scopes::{Names, Seen, TextFault, name_of};
 use pt_value::Token;
 use std::alloc::Global;
-
-/// The name of a property.
-pub fn name_of(property: &Property) -> &str
-    ensures { result.now ≡ property_name (property_view property.now) }
-{
-    property.name.as_str()
-}
 
 /// The text of a property.
 pub fn text_of(property: &Property) -> &str

@@ -1,21 +1,20 @@
 ghost use Rattle.std.specs.Prelude.{◌≡◌, ◌≢◌, ◌<◌, ◌+◌, ℕ, length, IfOk, IfErr, OnOk, Some, None, true, false, slice_get, map, option_map};
 ghost use Rattle.std.specs.List.{AllZip};
 ghost use Rattle.pt_value.specs.Token.{value_of};
-ghost use Rattle.pt_moml.specs.View.{input_view};
-ghost use Rattle.pt_graph.specs.Net as nets;
-ghost use Rattle.pt_values.specs.Scopes.{NetTree, net_view};
-ghost use Rattle.pt_values.specs.Order.{IsOrdered};
-ghost use Rattle.pt_values.specs.Frames.{chain_at};
-ghost use Rattle.pt_values.specs.Valued.{IsInputValued, IsValued, IsFaultOf};
+ghost use Rattle.pt_document.specs.View.{input_view};
+ghost use Rattle.pt_net.specs.Net as nets;
+ghost use Rattle.pt_scopes.specs.Scopes.{NetTree, net_view};
+ghost use Rattle.pt_scopes.specs.Order.{IsOrdered};
+ghost use Rattle.pt_scopes.specs.Frames.{chain_at};
+ghost use Rattle.pt_scopes.specs.Valued.{IsInputValued, IsValued, IsFaultOf};
 ghost use Rattle.pt_values.specs.Walk.{IsWalk, IsHeldUp, IsFound, IsFaultFrom, IsTransparentInside, IsTransparentFault};
 
 use crate::entity::entity_values;
 use crate::inputs::input_tokens;
 use crate::parameters::in_turn;
-use crate::scopes::{Inside, Scopes};
-use crate::values::{EntityValues, Values};
-use pt_graph::{Net, NetEntity, Transparent};
-use pt_moml::{DocFault, Input};
+use pt_document::{DocFault, Input};
+use pt_net::{Net, NetEntity, Transparent};
+use pt_scopes::{EntityValues, Inside, Scopes, Values};
 use pt_value::Token;
 use std::alloc::Global;
 

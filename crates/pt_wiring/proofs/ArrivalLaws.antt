@@ -4,8 +4,8 @@ use Rattle.std.specs.Prelude.{not}
 use Rattle.std.proofs.Math.ListN.{get_or-eq_default}
 use Rattle.std.proofs.lemmas.Bool.{cases_order, eq-eqb}
 use Rattle.std.proofs.lemmas.List.Sums.{count_by-le-length}
-use Rattle.pt_graph.specs.declared.net.Channel.{Channel}
-use Rattle.pt_wiring.specs.Inside.{comes_to, place_count}
+use Rattle.pt_net.specs.declared.net.Channel.{Channel}
+use Rattle.pt_net.specs.Inside.{comes_to, place_count}
 use Rattle.pt_wiring.specs.Channels.{AreArrivals}
 use Rattle.pt_wiring.proofs.ChildLaws.{not-same}
 use Rattle.pt_wiring.proofs.PortLaws.{count-snoc}

@@ -1,8 +1,8 @@
 -- One entity more among the children.
 use Rattle.std.proofs.Common.{◌≡◌, ℕ, suc, ◌+◌, ◌<◌, List, [], ◌∷◌, ◌++◌, Bool, true, false, Some, length, get_or, set, nat_eq, if◌then◌else◌, refl, sym, ap, ◌∙◌, subst, arith, length-append, append-nil, get_or-set_same, get_or-set_other, inl, inr, length-set}
 use Rattle.std.proofs.lemmas.Bool.{lt-ltb, cases_order, eq-eqb, eqb-true}
-use Rattle.pt_graph.specs.declared.net.NetEntity.{NetEntity}
-use Rattle.pt_wiring.specs.Inside.{is_child, is_number, child_if, children_from, children_of, number_among, parent_of}
+use Rattle.pt_net.specs.declared.net.NetEntity.{NetEntity}
+use Rattle.pt_net.specs.Inside.{is_child, is_number, child_if, children_from, children_of, number_among, parent_of}
 use Rattle.pt_wiring.specs.Children.{AreChildren}
 use Rattle.pt_wiring.proofs.Numbered.{each-more}
 

@@ -2,9 +2,9 @@
 use Rattle.std.proofs.Common.{◌≡◌, ℕ, suc, ◌+◌, ◌<◌, List, [], ◌∷◌, Bool, true, false, length, get_or, refl, ap, ap₂, ◌∙◌, arith}
 use Rattle.std.specs.Prelude.{map}
 use Rattle.pt_meaning.specs.Net as net
-use Rattle.pt_graph.specs.declared.net.Channel.{Channel}
-use Rattle.pt_graph.specs.declared.net.NetEntity.{NetEntity}
-use Rattle.pt_wiring.specs.Inside.{is_child, child_if, children_from, ports_at, place_count, AreInsides}
+use Rattle.pt_net.specs.declared.net.Channel.{Channel}
+use Rattle.pt_net.specs.declared.net.NetEntity.{NetEntity}
+use Rattle.pt_net.specs.Inside.{is_child, child_if, children_from, ports_at, place_count, AreInsides}
 use Rattle.pt_wiring.specs.Ports.{ArePortNumbers}
 use Rattle.pt_wiring.specs.Children.{AreChildren}
 use Rattle.pt_wiring.specs.Channels.{AreNumbers, AreSources, AreArrivals, counts_at}

@@ -2,8 +2,8 @@
 use Rattle.std.proofs.Common.{◌≡◌, ℕ, ◌+◌, List, [], ◌∷◌, ◌++◌, Bool, cond, Some, sym, ap, ◌∙◌, arith, length-append}
 use Rattle.std.specs.Prelude.{count_by}
 use Rattle.std.proofs.lemmas.List.Sums.{sum_by-append}
-use Rattle.pt_moml.specs.declared.job.Port.{Port}
-use Rattle.pt_wiring.specs.Inside.{number_by}
+use Rattle.pt_document.specs.declared.job.Port.{Port}
+use Rattle.pt_net.specs.Inside.{number_by}
 use Rattle.pt_wiring.specs.Ports.{ArePortNumbers}
 use Rattle.pt_wiring.proofs.Numbered.{each-more}
 

@@ -3,9 +3,9 @@ use Rattle.std.proofs.Common.{◌≡◌, ℕ, ◌≤◌, List, [], length, take,
 use Rattle.std.proofs.Math.ListN.{get_or-eq_default}
 use Rattle.std.proofs.lemmas.Option.{slice_get_past}
 use Rattle.std.proofs.lemmas.Bool.{cases_order}
-use Rattle.pt_moml.specs.declared.job.Port.{Port}
-use Rattle.pt_graph.specs.declared.net.NetEntity.{NetEntity}
-use Rattle.pt_wiring.specs.Inside.{port_number, number_by, ports_at, ports_in}
+use Rattle.pt_document.specs.declared.job.Port.{Port}
+use Rattle.pt_net.specs.declared.net.NetEntity.{NetEntity}
+use Rattle.pt_net.specs.Inside.{port_number, number_by, ports_at, ports_in}
 use Rattle.pt_wiring.specs.Ports.{ArePortNumbers}
 use Rattle.pt_wiring.specs.Channels.{AreNumbers}
 

@@ -1,11 +1,11 @@
 -- Where channels begin and end, as far as they are looked at.
 use Rattle.std.specs.Prelude.{◌≡◌, ℕ, ◌<◌, List, [], length, map, get_or}
 use Rattle.pt_meaning.specs.Net as net
-use Rattle.pt_graph.specs.declared.net.Channel.{Channel}
-use Rattle.pt_graph.specs.declared.net.NetEntity.{NetEntity}
+use Rattle.pt_net.specs.declared.net.Channel.{Channel}
+use Rattle.pt_net.specs.declared.net.NetEntity.{NetEntity}
 use Rattle.pt_wiring.specs.declared.source.Source.{Source}
 use Rattle.pt_wiring.specs.declared.source.Source.TheVariants.{Own, Output}
-use Rattle.pt_wiring.specs.Inside.{child_number, ports_at, source_of, channels_in, place_count}
+use Rattle.pt_net.specs.Inside.{child_number, ports_at, source_of, channels_in, place_count}
 use Rattle.pt_wiring.specs.Ports.{ArePortNumbers}
 
 abbrev pub source_view : Source → net.Source

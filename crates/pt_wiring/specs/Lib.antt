@@ -1,4 +1,3 @@
-pub mod Inside
 pub mod Children
 pub mod Ports
 pub mod Channels

@@ -1,8 +1,8 @@
 -- The numbers of the ports of an entity, as far as they are looked at.
 use Rattle.std.specs.Prelude.{◌≡◌, ℕ, ◌<◌, List, length, get_or, count_by}
-use Rattle.pt_moml.specs.declared.job.Port.{Port}
+use Rattle.pt_document.specs.declared.job.Port.{Port}
 use Rattle.pt_wiring.specs.declared.ports.PortCounts.{PortCounts}
-use Rattle.pt_wiring.specs.Inside.{is_input, is_output, port_number}
+use Rattle.pt_net.specs.Inside.{is_input, is_output, port_number}
 
 -- each port has its number among those of its direction
 pub record ArePortNumbers (ports : List Port) (numbers : List ℕ) : Type 0 where

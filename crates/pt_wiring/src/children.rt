@@ -1,9 +1,9 @@
 ghost use Rattle.std.specs.Prelude.{◌≡◌, ℕ, ◌<◌, ◌+◌, ◌++◌, ◌∷◌, [], List, length, get_or, IfOk, OnOk};
-ghost use Rattle.pt_graph.specs.declared.net.NetEntity.{NetEntity};
+ghost use Rattle.pt_net.specs.declared.net.NetEntity.{NetEntity};
 ghost use Rattle.pt_wiring.specs.Children.{AreChildren};
 
 use crate::numbers::Numbers;
-use pt_graph::NetEntity;
+use pt_net::NetEntity;
 use std::alloc::{AllocError, Global};
 
 /// The children of each entity, and the number of each entity among the children of its composite.

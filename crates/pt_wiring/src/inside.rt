@@ -1,7 +1,7 @@
 ghost use Rattle.std.specs.Prelude.{◌≡◌, ℕ, ◌<◌, ◌^◌, ◌++◌, ◌∷◌, [], List, length, map, get_or, IfOk, OnOk};
-ghost use Rattle.pt_graph.specs.declared.net.Channel.{Channel};
-ghost use Rattle.pt_graph.specs.declared.net.NetEntity.{NetEntity};
-ghost use Rattle.pt_wiring.specs.Inside.{AreInsides, ports_at};
+ghost use Rattle.pt_net.specs.declared.net.Channel.{Channel};
+ghost use Rattle.pt_net.specs.declared.net.NetEntity.{NetEntity};
+ghost use Rattle.pt_net.specs.Inside.{AreInsides, ports_at};
 ghost use Rattle.pt_wiring.specs.Ports.{ArePortNumbers};
 ghost use Rattle.pt_wiring.specs.Children.{AreChildren};
 ghost use Rattle.pt_wiring.specs.Channels.{AreNumbers, AreSources, AreArrivals, counts_at};
@@ -10,7 +10,7 @@ use crate::children::Children;
 use crate::numbers::Numbers;
 use crate::ports::port_numbers;
 use crate::source::{Numbering, Sources, number_at};
-use pt_graph::{Channel, Net, NetEntity};
+use pt_net::{Channel, Net, NetEntity};
 use std::alloc::{AllocError, Global};
 
 /// What is within each entity of a net, by the number of the entity: the numbers of its children in the net, how many places

@@ -1,9 +1,9 @@
 ghost use Rattle.std.specs.Prelude.{◌≡◌, ℕ, ◌<◌, ◌+◌, ◌^◌, ◌++◌, ◌∷◌, [], List, length, IfOk};
-ghost use Rattle.pt_moml.specs.declared.job.Port.{Port};
+ghost use Rattle.pt_document.specs.declared.job.Port.{Port};
 ghost use Rattle.pt_wiring.specs.Ports.{ArePortNumbers, Count};
 
 use crate::numbers::Numbers;
-use pt_moml::{Direction, Port};
+use pt_document::{Direction, Port};
 use std::alloc::{AllocError, Global};
 
 /// How many inputs and outputs came so far.

@@ -1,10 +1,10 @@
 ghost use Rattle.std.specs.Prelude.{◌≡◌, ◌++◌, ◌∷◌, [], List, map, get_or, OnOk};
-ghost use Rattle.pt_graph.specs.declared.net.NetEntity.{NetEntity};
-ghost use Rattle.pt_wiring.specs.Inside.{source_of, child_number, ports_at, port_number};
+ghost use Rattle.pt_net.specs.declared.net.NetEntity.{NetEntity};
+ghost use Rattle.pt_net.specs.Inside.{source_of, child_number, ports_at, port_number};
 ghost use Rattle.pt_wiring.specs.Channels.{AreNumbers, source_view};
 
 use crate::numbers::Numbers;
-use pt_graph::{Channel, End};
+use pt_net::{Channel, End};
 use std::alloc::{AllocError, Global};
 use std::marker::Model;
 

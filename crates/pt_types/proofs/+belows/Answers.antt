@@ -1,5 +1,6 @@
 use Rattle.std.proofs.Common.{arith}
-use Rattle.pt_types.proofs.Fields.{are_below-length, length-view}
+use Rattle.pt_datatypes.proofs.Fields.{are_below-length}
+use Rattle.pt_types.proofs.FieldLists.{length-view}
 use Rattle.pt_types.proofs.+belows.Goals as goal
 
 pub record::RecordTy::are_below-returns-then-len : goal.record::RecordTy::are_below-returns-then-len

@@ -1,6 +1,6 @@
 use Rattle.std.proofs.Common.{◌≡◌, drop, map}
-use Rattle.pt_types.specs.Datatype.{types_of}
-use Rattle.pt_types.specs.Order.{are_below}
+use Rattle.pt_datatypes.specs.Datatype.{types_of}
+use Rattle.pt_datatypes.specs.Order.{are_below}
 use Rattle.pt_types.specs.Ty.{entry_of}
 use Rattle.pt_types.proofs.+belows.Given as goal
 

@@ -1,5 +1,5 @@
 use Rattle.std.proofs.Common.{◌≡◌, ◌≤◌, drop, map, min, max}
-use Rattle.pt_types.specs.Datatype.{depth_of_fields, types_of}
+use Rattle.pt_datatypes.specs.Datatype.{depth_of_fields, types_of}
 use Rattle.pt_types.specs.Ty.{entry_of}
 use Rattle.pt_types.proofs.+depths.Given as goal
 

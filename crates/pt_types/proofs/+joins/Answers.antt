@@ -1,8 +1,9 @@
 use Rattle.std.proofs.Common.{◌≡◌, ◌<◌, ◌++◌, [], ◌∷◌, length, arith, rules, ap, sym, ◌∙◌, subst}
-use Rattle.pt_types.specs.Datatype.{types_of, fields_of-types_of, types_of-fields_of}
-use Rattle.pt_types.specs.Join.{joined_fields}
-use Rattle.pt_types.specs.RecordType.{names, AreRecordNames}
-use Rattle.pt_types.proofs.Fields.{length-same_names, length-view, names-joined, joined-step, joined-end}
+use Rattle.pt_datatypes.specs.Datatype.{types_of, fields_of-types_of, types_of-fields_of}
+use Rattle.pt_datatypes.specs.Join.{joined_fields}
+use Rattle.pt_datatypes.specs.RecordType.{names, AreRecordNames}
+use Rattle.pt_datatypes.proofs.Fields.{length-same_names, names-joined}
+use Rattle.pt_types.proofs.FieldLists.{length-view, joined-step, joined-end}
 use Rattle.pt_types.proofs.+joins.Goals as goal
 
 pub record::RecordTy::joined-index-requires : goal.record::RecordTy::joined-index-requires

@@ -1,6 +1,6 @@
 use Rattle.std.proofs.Common.{◌≡◌, ◌++◌, drop, map}
-use Rattle.pt_types.specs.Datatype.{types_of, fields_of}
-use Rattle.pt_types.specs.Join.{joined_fields}
+use Rattle.pt_datatypes.specs.Datatype.{types_of, fields_of}
+use Rattle.pt_datatypes.specs.Join.{joined_fields}
 use Rattle.pt_types.specs.Ty.{entry_of}
 use Rattle.pt_types.proofs.+joins.Given as goal
 

@@ -1,5 +1,5 @@
 use Rattle.std.proofs.Common.{◌≡◌, ◌+◌, ◌≤◌, drop, map, min}
-use Rattle.pt_types.specs.Datatype.{nodes_of_fields, types_of}
+use Rattle.pt_datatypes.specs.Datatype.{nodes_of_fields, types_of}
 use Rattle.pt_types.specs.Ty.{entry_of}
 use Rattle.pt_types.proofs.+node_counts.Given as goal
 

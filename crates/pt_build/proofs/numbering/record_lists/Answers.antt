@@ -1,7 +1,7 @@
 use Rattle.std.proofs.Common.{◌<◌, ◌+◌, ℕ, List, length, take, sym, subst, arith}
 use Rattle.std.proofs.lemmas.List.{take_more, length-take-le}
-use Rattle.pt_graph.specs.declared.net.NetPort.{NetPort}
-use Rattle.pt_build.specs.Recorded.{AreRecordLists}
+use Rattle.pt_net.specs.declared.net.NetPort.{NetPort}
+use Rattle.pt_trees.specs.Recorded.{AreRecordLists}
 use Rattle.pt_build.proofs.numbering.record_lists.Goals as goal
 
 pub loop-number-preserved : goal.loop-number-preserved

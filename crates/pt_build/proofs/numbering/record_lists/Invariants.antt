@@ -1,5 +1,5 @@
 use Rattle.std.proofs.Common.{take}
-use Rattle.pt_build.specs.Recorded.{AreRecordLists}
+use Rattle.pt_trees.specs.Recorded.{AreRecordLists}
 use Rattle.pt_build.proofs.numbering.record_lists.Given as goal
 
 abbrev pub invariant-loop-number : goal.invariant-loop-number

@@ -1,5 +1,5 @@
 use Rattle.std.proofs.Common.{◌≡◌, take, map}
-use Rattle.pt_build.specs.Recorded.{recorded_at}
+use Rattle.pt_trees.specs.Recorded.{recorded_at}
 use Rattle.pt_build.proofs.records.records_of.Given as goal
 
 abbrev pub invariant-loop-number : goal.invariant-loop-number

@@ -16,9 +16,9 @@ use Rattle.pt_node.specs.declared.node.Node.TheViews.{out-roll-Node}
 use Rattle.pt_library.specs.LibraryActor.{rows}
 use Rattle.pt_node.specs.Shown.{Shown, Branch, shown, shown_node, level, all_of}
 use Rattle.pt_node.specs.View.{Tree}
-use Rattle.pt_composite.specs.Around.{Around, around_of, IsInsideOf, IsInsideIf}
-use Rattle.pt_composite.specs.Composite.{trees_of, IsComposite}
-use Rattle.pt_composite.specs.Rates.{AllRated}
+use Rattle.pt_trees.specs.Around.{Around, around_of, IsInsideOf, IsInsideIf}
+use Rattle.pt_trees.specs.Composite.{trees_of, IsComposite}
+use Rattle.pt_trees.specs.Rates.{AllRated}
 use Rattle.pt_composite.proofs.LoopLaws.{fresh-rated}
 use Rattle.pt_composite.proofs.CompositeLaws.{composite-is}
 use Rattle.pt_composite.proofs.composing.composite.Goals as goal

@@ -6,9 +6,9 @@ use Rattle.pt_sdf.specs.ByNeed.{planned}
 use Rattle.pt_sdf.specs.Plan.{source_of}
 use Rattle.pt_node.specs.Shown.{shown}
 use Rattle.pt_node.specs.View.{Tree}
-use Rattle.pt_composite.specs.Around.{Around, around_of, first_counts}
-use Rattle.pt_composite.specs.Composite.{trees_of}
-use Rattle.pt_composite.specs.Rates.{AreRates}
+use Rattle.pt_trees.specs.Around.{Around, around_of, first_counts}
+use Rattle.pt_trees.specs.Composite.{trees_of}
+use Rattle.pt_trees.specs.Rates.{AreRates}
 use Rattle.pt_composite.specs.Needs.{NeedAll, AreNeeds}
 use Rattle.pt_composite.proofs.InsideLaws.{none-formed}
 use Rattle.pt_composite.proofs.inside.inside_of.Goals as goal

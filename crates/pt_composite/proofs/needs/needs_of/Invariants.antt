@@ -1,6 +1,6 @@
 use Rattle.std.proofs.Common.{◌≡◌, length, take, map}
 use Rattle.pt_node.specs.Shown.{shown}
-use Rattle.pt_composite.specs.Composite.{trees_of}
+use Rattle.pt_trees.specs.Composite.{trees_of}
 use Rattle.pt_composite.specs.Needs.{NeedAll}
 use Rattle.pt_composite.proofs.needs.needs_of.Given as goal
 

@@ -1,8 +1,8 @@
 use Rattle.std.proofs.Common.{◌≡◌, ◌∙◌, sym, subst, List, ℕ, None, Some, Option}
 use Rattle.pt_node.specs.Shown.{shown_node}
 use Rattle.pt_node.specs.View.{node_of}
-use Rattle.pt_composite.specs.Rates.{rates_of, HaveRates}
-use Rattle.pt_composite.specs.Composite.{trees_of}
+use Rattle.pt_trees.specs.Rates.{rates_of, HaveRates}
+use Rattle.pt_trees.specs.Composite.{trees_of}
 use Rattle.pt_composite.proofs.LoopLaws.{rates-more, rates-none, rated-at}
 use Rattle.pt_composite.proofs.NodeLaws.{trees}
 use Rattle.std.proofs.Common.{take, ◌+◌}

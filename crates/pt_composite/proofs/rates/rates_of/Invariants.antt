@@ -1,7 +1,7 @@
 use Rattle.std.proofs.Common.{take, map}
 use Rattle.pt_node.specs.Shown.{shown}
-use Rattle.pt_composite.specs.Composite.{trees_of}
-use Rattle.pt_composite.specs.Rates.{HaveRates}
+use Rattle.pt_trees.specs.Composite.{trees_of}
+use Rattle.pt_trees.specs.Rates.{HaveRates}
 use Rattle.pt_composite.proofs.rates.rates_of.Given as goal
 
 abbrev pub invariant-loop-child : goal.invariant-loop-child

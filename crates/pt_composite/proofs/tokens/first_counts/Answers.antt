@@ -1,7 +1,7 @@
 use Rattle.std.proofs.Common.{map, ◌∙◌}
 use Rattle.pt_sdf.specs.declared.plan.Source.TheVariants.{Own}
 use Rattle.pt_node.specs.Shown.{shown}
-use Rattle.pt_composite.specs.Composite.{trees_of}
+use Rattle.pt_trees.specs.Composite.{trees_of}
 use Rattle.pt_composite.proofs.LoopLaws.{counts-more}
 use Rattle.pt_composite.proofs.tokens.first_counts.Goals as goal
 

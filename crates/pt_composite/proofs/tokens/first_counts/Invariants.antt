@@ -1,8 +1,8 @@
 use Rattle.std.proofs.Common.{◌≡◌, take, map}
 use Rattle.pt_sdf.specs.Plan.{source_of}
 use Rattle.pt_node.specs.Shown.{shown}
-use Rattle.pt_composite.specs.Around.{first_counts}
-use Rattle.pt_composite.specs.Composite.{trees_of}
+use Rattle.pt_trees.specs.Around.{first_counts}
+use Rattle.pt_trees.specs.Composite.{trees_of}
 use Rattle.pt_composite.proofs.tokens.first_counts.Given as goal
 
 abbrev pub invariant-loop-source : goal.invariant-loop-source

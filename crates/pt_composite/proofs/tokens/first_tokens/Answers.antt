@@ -6,7 +6,7 @@ use Rattle.pt_meaning.specs.Basics.{Streams}
 use Rattle.pt_value.specs.declared.token.Token.{Token}
 use Rattle.pt_library.specs.LibraryActor.{rows}
 use Rattle.pt_node.specs.Shown.{shown}
-use Rattle.pt_composite.specs.Composite.{trees_of}
+use Rattle.pt_trees.specs.Composite.{trees_of}
 use Rattle.pt_composite.proofs.HeldLaws.{held-none, held-long, held-all}
 use Rattle.pt_composite.proofs.LoopLaws.{held-step}
 use Rattle.pt_composite.proofs.tokens.first_tokens.Goals as goal

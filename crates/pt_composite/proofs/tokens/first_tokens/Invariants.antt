@@ -2,7 +2,7 @@ use Rattle.std.proofs.Common.{◌≡◌, length, map}
 use Rattle.pt_sdf.specs.Plan.{source_of}
 use Rattle.pt_library.specs.LibraryActor.{rows}
 use Rattle.pt_node.specs.Shown.{shown}
-use Rattle.pt_composite.specs.Composite.{trees_of}
+use Rattle.pt_trees.specs.Composite.{trees_of}
 use Rattle.pt_composite.proofs.HeldLaws.{held_to}
 use Rattle.pt_composite.proofs.tokens.first_tokens.Given as goal
 

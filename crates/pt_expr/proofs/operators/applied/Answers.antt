@@ -1,7 +1,7 @@
 use Rattle.std.proofs.Common.{not, ap, ◌∙◌}
 use Rattle.pt_value.specs.Token.{value_of}
-use Rattle.pt_expr.specs.Meaning as meaning
-use Rattle.pt_expr.proofs.Comparisons.{compared_right}
+use Rattle.pt_language.specs.Meaning as meaning
+use Rattle.pt_language.proofs.Comparisons.{compared_right}
 use Rattle.pt_expr.proofs.operators.applied.Goals as goal
 
 pub returns-in-Equal-clause-ok : goal.returns-in-Equal-clause-ok

@@ -1,8 +1,8 @@
 use Rattle.std.proofs.Common.{rules, ◌≡◌, IfOk, IfErr, subst, sym, ap, ◌∙◌}
 use Rattle.pt_value.specs.Value.{list_of-values_of}
 use Rattle.pt_value.specs.Token.{value_of}
-use Rattle.pt_expr.specs.Outcome.{Gives, Stops}
-use Rattle.pt_expr.specs.Meaning as meaning
+use Rattle.pt_language.specs.Outcome.{Gives, Stops}
+use Rattle.pt_language.specs.Meaning as meaning
 use Rattle.pt_expr.proofs.operators.element.Goals as goal
 
 pub returns-clause-ok : goal.returns-clause-ok

@@ -2,8 +2,8 @@ use Rattle.std.proofs.Common.{ap, sym, ◌∙◌, option_map}
 use Rattle.pt_value.specs.Value.{fields_of-named_of}
 use Rattle.pt_value.specs.Record.{field_at}
 use Rattle.pt_value.specs.Token.{value_of}
-use Rattle.pt_expr.specs.Outcome.{Gives}
-use Rattle.pt_expr.specs.Meaning as meaning
+use Rattle.pt_language.specs.Outcome.{Gives}
+use Rattle.pt_language.specs.Meaning as meaning
 use Rattle.pt_expr.proofs.operators.field.Goals as goal
 
 pub unreachable-requires : goal.unreachable-requires

@@ -1,8 +1,8 @@
 use Rattle.std.proofs.Common.{◌≡◌, IfOk, pos, length, subst, sym, ap, ◌∙◌}
 use Rattle.pt_value.specs.Value.{list_of-values_of}
 use Rattle.pt_value.specs.Token.{value_of}
-use Rattle.pt_expr.specs.Outcome.{Gives}
-use Rattle.pt_expr.specs.Meaning as meaning
+use Rattle.pt_language.specs.Outcome.{Gives}
+use Rattle.pt_language.specs.Meaning as meaning
 use Rattle.pt_expr.proofs.operators.length_of.Goals as goal
 
 pub returns-in-Array-clause-ok : goal.returns-in-Array-clause-ok

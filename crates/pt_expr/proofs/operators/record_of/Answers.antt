@@ -1,7 +1,7 @@
 use Rattle.std.proofs.Common.{◌≡◌, IfOk, IfErr, subst, sym}
 use Rattle.pt_value.specs.Token.{value_of}
-use Rattle.pt_expr.specs.Outcome.{Gives, Stops}
-use Rattle.pt_expr.proofs.Ordered.{recorded-is, weaken-err}
+use Rattle.pt_language.specs.Outcome.{Gives, Stops}
+use Rattle.pt_language.proofs.Ordered.{recorded-is, weaken-err}
 use Rattle.pt_expr.proofs.operators.record_of.Goals as goal
 
 pub returns-in-Ok-clause-ok : goal.returns-in-Ok-clause-ok

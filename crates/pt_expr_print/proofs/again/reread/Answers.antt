@@ -1,6 +1,6 @@
 use Rattle.std.proofs.Common.{rules}
-use Rattle.pt_expr.specs.Expr.{tree_of}
-use Rattle.pt_expr_text.specs.Text.{ReadsAs}
+use Rattle.pt_language.specs.Expr.{tree_of}
+use Rattle.pt_language.specs.Text.{ReadsAs}
 use Rattle.pt_expr_print.proofs.Whole.{answer_same}
 use Rattle.pt_expr_print.proofs.again.reread.Goals as goal
 

@@ -1,6 +1,6 @@
 use Rattle.std.proofs.Common.{◌≡◌, ◌++◌, ◌+◌, ◌*◌, take, map, max, string_bytes}
-use Rattle.pt_expr.specs.Expr.{tree_of, entry_of, trees_in, fields_in}
-use Rattle.pt_expr.specs.Tree.{trees_of, named_of, height, height_of_trees, height_of_named}
+use Rattle.pt_language.specs.Expr.{tree_of, entry_of, trees_in, fields_in}
+use Rattle.pt_language.specs.Tree.{trees_of, named_of, height, height_of_trees, height_of_named}
 use Rattle.pt_expr_print.proofs.Parts.{array_body, record_body}
 use Rattle.pt_expr_print.proofs.printed.+writes.Given as goal
 

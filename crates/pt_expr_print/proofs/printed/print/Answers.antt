@@ -1,5 +1,5 @@
 use Rattle.std.proofs.Common.{◌≡◌, IfOk, rules}
-use Rattle.pt_expr.specs.Expr.{tree_of}
+use Rattle.pt_language.specs.Expr.{tree_of}
 use Rattle.pt_expr_print.specs.Printed.{printed}
 use Rattle.pt_expr_print.proofs.Whole.{answer_reads}
 use Rattle.pt_expr_print.proofs.printed.print.Goals as goal

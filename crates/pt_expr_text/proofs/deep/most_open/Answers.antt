@@ -1,5 +1,5 @@
 use Rattle.std.proofs.Common.{◌≡◌, ◌+◌, drop, max, arith}
-use Rattle.pt_expr_text.specs.Deep.{most_open}
+use Rattle.pt_language.specs.Deep.{most_open}
 use Rattle.pt_expr_text.proofs.Counting.{most_turn}
 use Rattle.pt_expr_text.proofs.deep.most_open.Goals as goal
 use Rattle.pt_expr_text.proofs.deep.most_open.Goals.{then-most-now, else-most-now}

@@ -1,5 +1,5 @@
 use Rattle.std.proofs.Common.{◌≡◌, ◌≤◌, drop, max, length}
-use Rattle.pt_expr_text.specs.Deep.{most_open}
+use Rattle.pt_language.specs.Deep.{most_open}
 use Rattle.pt_expr_text.proofs.deep.most_open.Given as goal
 
 abbrev pub invariant-loop-word : goal.invariant-loop-word

@@ -1,5 +1,5 @@
 use Rattle.std.proofs.Common.{◌≡◌, ◌≤◌, ◌+◌, length, false}
-use Rattle.pt_expr_text.specs.Deep.{counted}
+use Rattle.pt_language.specs.Deep.{counted}
 use Rattle.pt_expr_text.proofs.deep.operator_count.Given as goal
 
 abbrev pub invariant-loop-word : goal.invariant-loop-word

@@ -1,9 +1,9 @@
 use Rattle.std.proofs.Common.{◌≡◌, ◌++◌, ◌∷◌, [], ◌-◌, ◌+◌, length, map, Option, Some, None, option_map, sym, ◌∙◌, ap, rules, arith}
 use Rattle.std.proofs.lemmas.List.{map-append}
 use Rattle.std.proofs.lemmas.Result.{err_from_is_err_and}
-use Rattle.pt_expr.specs.Expr.{tree_of, entry_of}
-use Rattle.pt_expr_text.specs.Descent.{expression, operand_at, second, suffix, next_operand, next_suffix, listed, named}
-use Rattle.pt_expr_text.proofs.Turns.{turn_more, with_front, list_more, list_ends, list_fault, close_fault, reading_none, reading_more, unary_minus}
+use Rattle.pt_language.specs.Expr.{tree_of, entry_of}
+use Rattle.pt_language.specs.Descent.{expression, operand_at, second, suffix, next_operand, next_suffix, listed, named}
+use Rattle.pt_language.proofs.Turns.{turn_more, with_front, list_more, list_ends, list_fault, close_fault, reading_none, reading_more, unary_minus}
 use Rattle.pt_expr_text.proofs.descent.+expressions.Goals as goal
 
 pub expression-returns-then-depth-eq0 : goal.expression-returns-then-depth-eq0

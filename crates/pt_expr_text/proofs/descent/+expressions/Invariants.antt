@@ -1,8 +1,8 @@
 use Rattle.std.proofs.Common.{◌≡◌, map, ◌+◌, ◌*◌, ◌-◌, ◌^◌, length}
-use Rattle.pt_expr.specs.Expr.{tree_of, entry_of}
-use Rattle.pt_expr_text.specs.Level.{rank}
-use Rattle.pt_expr_text.specs.Descent.{expression, operand_at, repeated, next_operand, next_suffix, listed, named}
-use Rattle.pt_expr_text.proofs.Turns.{with_front}
+use Rattle.pt_language.specs.Expr.{tree_of, entry_of}
+use Rattle.pt_language.specs.Level.{rank}
+use Rattle.pt_language.specs.Descent.{expression, operand_at, repeated, next_operand, next_suffix, listed, named}
+use Rattle.pt_language.proofs.Turns.{with_front}
 use Rattle.pt_expr_text.proofs.descent.+expressions.Given as goal
 
 abbrev pub decreases-expression : goal.decreases-expression

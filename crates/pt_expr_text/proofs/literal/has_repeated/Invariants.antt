@@ -3,8 +3,8 @@ use denote.Ref.{Bor}
 use Rattle.std.specs.Prelude.{nat_eq}
 use Rattle.std.specs.Cmp.Lexicographic.{pointwise}
 use Rattle.std.specs.HashSet.{contains}
-use Rattle.pt_expr.specs.Expr.{entry_of}
-use Rattle.pt_expr_text.specs.Descent.{is_among, repeats_behind, has_repeated}
+use Rattle.pt_language.specs.Expr.{entry_of}
+use Rattle.pt_language.specs.Descent.{is_among, repeats_behind, has_repeated}
 use Rattle.pt_expr_text.proofs.literal.has_repeated.Given as goal
 
 abbrev pub invariant-loop-field : goal.invariant-loop-field

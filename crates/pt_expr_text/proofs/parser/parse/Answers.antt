@@ -2,9 +2,9 @@ use Rattle.std.proofs.Common.{◌≡◌, length, false, sym, subst, rules, arith
 use Rattle.std.specs.Prelude.{IsTrue}
 use Rattle.std.proofs.lemmas.Bool.Decides.{nat_tests}
 use Rattle.std.proofs.lemmas.Result.{err_from_is_err_and}
-use Rattle.pt_expr.specs.Expr.{tree_of}
-use Rattle.pt_expr_text.specs.Deep.{IsTooFull}
-use Rattle.pt_expr_text.proofs.Whole.{whole_tree, not_deep, refused_left, refused_rest, refused_fault, one_tree}
+use Rattle.pt_language.specs.Expr.{tree_of}
+use Rattle.pt_language.specs.Deep.{IsTooFull}
+use Rattle.pt_language.proofs.Whole.{whole_tree, not_deep, refused_left, refused_rest, refused_fault, one_tree}
 use Rattle.pt_expr_text.proofs.parser.parse.Goals as goal
 
 pub returns-then-is_empty-clause-tree : goal.returns-then-is_empty-clause-tree

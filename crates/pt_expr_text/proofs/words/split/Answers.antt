@@ -1,6 +1,6 @@
 use Rattle.std.proofs.Common.{◌≡◌, ◌++◌, ◌∷◌, [], List, ℕ, Some, None, sym, subst, append_assoc, append-nil, rules}
-use Rattle.pt_expr_text.specs.declared.word.Word.{Word}
-use Rattle.pt_expr_text.specs.Words.{Splits, word_at, without_blanks}
+use Rattle.pt_language.specs.declared.word.Word.{Word}
+use Rattle.pt_language.specs.Words.{Splits, word_at, without_blanks}
 use Rattle.pt_expr_text.proofs.Splitting.{SplitsFrom, none, more, splits_from}
 use Rattle.pt_expr_text.proofs.words.split.Goals as goal
 

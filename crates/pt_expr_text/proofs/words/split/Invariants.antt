@@ -1,6 +1,6 @@
 use Rattle.std.proofs.Common.{◌≡◌, ◌++◌, length, List, ℕ}
-use Rattle.pt_expr_text.specs.declared.word.Word.{Word}
-use Rattle.pt_expr_text.specs.Words.{Splits, word_at}
+use Rattle.pt_language.specs.declared.word.Word.{Word}
+use Rattle.pt_language.specs.Words.{Splits, word_at}
 use Rattle.pt_expr_text.proofs.Splitting.{SplitsFrom}
 use Rattle.std.specs.Str.{IsUtf8}
 use Rattle.pt_expr_text.proofs.words.split.Given as goal

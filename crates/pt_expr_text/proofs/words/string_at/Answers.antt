@@ -3,8 +3,8 @@ use Rattle.std.specs.List.{prefix_len}
 use Rattle.std.specs.Char.{encode_utf8}
 use Rattle.std.proofs.lemmas.Str.{encode_ascii}
 use Rattle.std.proofs.lemmas.Grind.{common_steps}
-use Rattle.pt_expr_text.specs.declared.word.Word.TheVariants.{Quoted}
-use Rattle.pt_expr_text.specs.Words.{string_at, mark_at, is_plain}
+use Rattle.pt_language.specs.declared.word.Word.TheVariants.{Quoted}
+use Rattle.pt_language.specs.Words.{string_at, mark_at, is_plain}
 use Rattle.pt_expr_text.proofs.Strings.{turn_end, turn_escape, turn_none}
 use Rattle.pt_expr_text.proofs.words.string_at.Goals as goal
 

@@ -1,6 +1,6 @@
 use Rattle.std.proofs.Common.{◌≡◌, ◌≤◌, length, string_bytes}
 use Rattle.std.specs.Str.{IsUtf8}
-use Rattle.pt_expr_text.specs.Words.{string_at}
+use Rattle.pt_language.specs.Words.{string_at}
 use Rattle.pt_expr_text.proofs.Strings.{behind_all}
 use Rattle.pt_expr_text.proofs.words.string_at.Given as goal
 

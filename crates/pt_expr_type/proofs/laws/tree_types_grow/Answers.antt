@@ -1,4 +1,4 @@
-use Rattle.pt_expr_type.specs.Grows.{tree_type-below}
+use Rattle.pt_language.specs.Grows.{tree_type-below}
 use Rattle.pt_expr_type.proofs.laws.tree_types_grow.Goals as goal
 
 pub returns : goal.returns

@@ -1,4 +1,4 @@
-use Rattle.pt_expr_type.proofs.Sound.{typed-sound}
+use Rattle.pt_language.proofs.TypeSound.{typed-sound}
 use Rattle.pt_expr_type.proofs.laws.typed_trees_are_sound.Goals as goal
 
 pub returns : goal.returns

@@ -1,12 +1,12 @@
 use Rattle.std.proofs.Common.{◌≡◌, true, sym, ap, ◌∙◌}
-use Rattle.pt_types.specs.Datatype.{Boolean}
-use Rattle.pt_types.specs.Normal.{normal}
-use Rattle.pt_types.specs.Order.{is_below}
-use Rattle.pt_types.specs.Join.{joined, join}
+use Rattle.pt_datatypes.specs.Datatype.{Boolean}
+use Rattle.pt_datatypes.specs.Normal.{normal}
+use Rattle.pt_datatypes.specs.Order.{is_below}
+use Rattle.pt_datatypes.specs.Join.{joined, join}
 use Rattle.pt_types.specs.Ty.{type_of}
-use Rattle.pt_types.proofs.Joins.{normal_is_type}
-use Rattle.pt_expr_type.specs.Typing.{where_true}
-use Rattle.pt_expr_type.specs.Answer.{Gives, judged}
+use Rattle.pt_datatypes.proofs.Joins.{normal_is_type}
+use Rattle.pt_language.specs.Typing.{where_true}
+use Rattle.pt_language.specs.Answer.{Gives, judged}
 use Rattle.pt_expr_type.proofs.operators.chosen.Goals as goal
 
 pub returns-then-below-clause-ok : goal.returns-then-below-clause-ok

@@ -1,12 +1,12 @@
 use Rattle.std.proofs.Common.{◌≡◌, ◌+◌, rules, true, Bool, drop, map, if◌then◌else◌, sym, ap, ◌∙◌}
 use Rattle.std.specs.Str.{bytes_eq}
-use Rattle.pt_types.specs.Datatype.{types_of}
-use Rattle.pt_types.specs.Normal.{normal, IsType}
+use Rattle.pt_datatypes.specs.Datatype.{types_of}
+use Rattle.pt_datatypes.specs.Normal.{normal, IsType}
 use Rattle.pt_types.specs.Ty.{type_of, written, entry_of}
-use Rattle.pt_types.proofs.Fields.{drop-at}
-use Rattle.pt_expr_type.specs.Typing.{Has}
-use Rattle.pt_expr_type.specs.Answer.{Gives, judged}
-use Rattle.pt_expr_type.specs.TreeType.{type_in}
+use Rattle.pt_types.proofs.FieldLists.{drop-at}
+use Rattle.pt_language.specs.Typing.{Has}
+use Rattle.pt_language.specs.Answer.{Gives, judged}
+use Rattle.pt_language.specs.TreeType.{type_in}
 use Rattle.pt_expr_type.proofs.Parts.{field_is_type}
 use Rattle.pt_expr_type.proofs.operators.field_in.Goals as goal
 

@@ -1,7 +1,7 @@
 use Rattle.std.proofs.Common.{◌≡◌, drop, map}
-use Rattle.pt_types.specs.Datatype.{types_of}
+use Rattle.pt_datatypes.specs.Datatype.{types_of}
 use Rattle.pt_types.specs.Ty.{entry_of}
-use Rattle.pt_expr_type.specs.TreeType as types
+use Rattle.pt_language.specs.TreeType as types
 use Rattle.pt_expr_type.proofs.operators.field_in.Given as goal
 
 abbrev pub invariant-loop-field : goal.invariant-loop-field

@@ -1,5 +1,5 @@
 use Rattle.std.proofs.Common.{inr, map}
-use Rattle.pt_expr_type.proofs.Making.{make_record-repeated, make_record-no_name}
+use Rattle.pt_language.proofs.Making.{make_record-repeated, make_record-no_name}
 use Rattle.pt_expr_type.proofs.RecordTypes.{recorded-gives, recorded-clash}
 use Rattle.pt_expr_type.proofs.operators.record_of.Goals as goal
 

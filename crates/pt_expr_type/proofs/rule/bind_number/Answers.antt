@@ -1,7 +1,7 @@
 use Rattle.std.proofs.Common.{◌≡◌, map, Some, ap, sym, ◌∙◌}
 use Rattle.std.specs.Prelude.{slice_get}
 use Rattle.std.specs.Str.{bytes_eq}
-use Rattle.pt_types.specs.Normal.{normal}
+use Rattle.pt_datatypes.specs.Normal.{normal}
 use Rattle.pt_types.specs.Ty.{type_of}
 use Rattle.pt_expr_type.specs.TypeEnv.{types_in}
 use Rattle.pt_expr_type.proofs.Numbers.{slice_get-at, slice_get-past, bound-number, unbound-number, on-ok}

@@ -1,16 +1,16 @@
 use Rattle.std.proofs.Common.{◌≡◌, ◌+◌, ◌∷◌, ◌≤◌, suc, drop, map, sym, ap, ◌∙◌, arith, add-one, drop-cons}
-use Rattle.pt_types.specs.Datatype.{Unknown, Array}
-use Rattle.pt_types.specs.Normal.{normal, array_of}
-use Rattle.pt_types.specs.Join.{joined, join}
+use Rattle.pt_datatypes.specs.Datatype.{Unknown, Array}
+use Rattle.pt_datatypes.specs.Normal.{normal, array_of}
+use Rattle.pt_datatypes.specs.Join.{joined, join}
 use Rattle.pt_types.specs.Ty.{type_of, written}
-use Rattle.pt_types.proofs.Joins.{normal_is_type}
-use Rattle.pt_types.proofs.Parts.{array_of-normal}
-use Rattle.pt_expr.specs.Expr.{tree_of, trees_in, fields_in}
-use Rattle.pt_expr.specs.Parts.{tree_of_array}
-use Rattle.pt_expr.specs.Tree.{height, height_of_trees, height_of_named, trees_of, named_of}
-use Rattle.pt_expr_type.specs.Answer.{Gives, and_then, answer, parts_answer}
+use Rattle.pt_datatypes.proofs.Joins.{normal_is_type}
+use Rattle.pt_datatypes.proofs.Parts.{array_of-normal}
+use Rattle.pt_language.specs.Expr.{tree_of, trees_in, fields_in}
+use Rattle.pt_language.specs.Parts.{tree_of_array}
+use Rattle.pt_language.specs.Tree.{height, height_of_trees, height_of_named, trees_of, named_of}
+use Rattle.pt_language.specs.Answer.{Gives, and_then, answer, parts_answer}
 use Rattle.pt_expr_type.specs.TypeEnv.{types_in}
-use Rattle.pt_expr_type.proofs.Heights.{height-part, height-field}
+use Rattle.pt_language.proofs.Heights.{height-part, height-field}
 use Rattle.pt_expr_type.proofs.Steps.{joined_with, none-joined, join-gives}
 use Rattle.pt_expr_type.proofs.tree.+answers.Goals as goal
 

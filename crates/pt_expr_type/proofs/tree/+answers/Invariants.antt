@@ -1,9 +1,9 @@
 use Rattle.std.proofs.Common.{◌≡◌, ◌+◌, ◌*◌, drop, map}
 use Rattle.pt_types.specs.Ty as ty
-use Rattle.pt_expr.specs.Expr.{tree_of, entry_of, trees_in, fields_in}
-use Rattle.pt_expr.specs.Tree.{height, height_of_trees, height_of_named, trees_of, named_of}
-use Rattle.pt_expr_type.specs.Answer as answers
-use Rattle.pt_expr_type.specs.Entry.{typed_entry}
+use Rattle.pt_language.specs.Expr.{tree_of, entry_of, trees_in, fields_in}
+use Rattle.pt_language.specs.Tree.{height, height_of_trees, height_of_named, trees_of, named_of}
+use Rattle.pt_language.specs.Answer as answers
+use Rattle.pt_types.specs.Entry.{typed_entry}
 use Rattle.pt_expr_type.specs.TypeEnv.{types_in}
 use Rattle.pt_expr_type.proofs.Steps.{behind, joined_with}
 use Rattle.pt_expr_type.proofs.tree.+answers.Given as goal

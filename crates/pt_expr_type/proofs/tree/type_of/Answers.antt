@@ -1,15 +1,15 @@
 use Rattle.std.proofs.Common.{◌≡◌, ◌⊎◌, inl, inr, Result, Ok, Err, IfOk, IfErr}
 use Rattle.pt_types.specs.declared.ty.Ty.{Ty}
 use Rattle.pt_types.specs.Ty.{type_of}
-use Rattle.pt_expr.specs.Tree.{Tree}
-use Rattle.pt_expr.specs.Expr.{tree_of}
-use Rattle.pt_expr_type.specs.declared.fault.TypeFault.{TypeFault}
-use Rattle.pt_expr_type.specs.declared.fault.TypeFault.TheVariants.{Memory}
-use Rattle.pt_expr_type.specs.Types.{Types}
+use Rattle.pt_language.specs.Tree.{Tree}
+use Rattle.pt_language.specs.Expr.{tree_of}
+use Rattle.pt_language.specs.declared.type_fault.TypeFault.{TypeFault}
+use Rattle.pt_language.specs.declared.type_fault.TypeFault.TheVariants.{Memory}
+use Rattle.pt_language.specs.Types.{Types}
 use Rattle.pt_expr_type.specs.TypeEnv.{types_in}
-use Rattle.pt_expr_type.specs.TreeType.{IsTyped}
-use Rattle.pt_expr_type.specs.Fault.{Stands}
-use Rattle.pt_expr_type.specs.Answer.{Gives, Stops, answer}
+use Rattle.pt_language.specs.TreeType.{IsTyped}
+use Rattle.pt_language.specs.TypeFault.{Stands}
+use Rattle.pt_language.specs.Answer.{Gives, Stops, answer}
 use Rattle.pt_expr_type.proofs.Answered.{typed-by_answer, stands-by_answer}
 use Rattle.pt_expr_type.proofs.tree.type_of.Goals as goal
 

@@ -2,11 +2,11 @@ use Rattle.std.proofs.Common.{◌≡◌, ℕ, ◌<◌, Some, List, [], ◌∷◌
 use Rattle.std.proofs.lemmas.List.{length-map}
 use Rattle.std.proofs.lemmas.Option.{slice_get_within}
 use Rattle.std.specs.List.{slice_get}
-use Rattle.pt_moml.specs.declared.code.Code.TheVariants as code
+use Rattle.pt_document.specs.declared.code.Code.TheVariants as code
 use Rattle.pt_graph.specs.declared.tables.PlacedPort.{PlacedPort}
-use Rattle.pt_graph.specs.Table.{PortAt, port_path}
+use Rattle.pt_net.specs.Table.{PortAt, port_path}
 use Rattle.pt_graph.specs.Survey.{tables_view, port_at, ports_view}
-use Rattle.pt_graph.specs.Stands.{IsLinkFault}
+use Rattle.pt_net.specs.Stands.{IsLinkFault}
 use Rattle.pt_graph.specs.ChannelTable.{Adds, place_at}
 use Rattle.pt_graph.proofs.Told.{told, number_view}
 use Rattle.pt_graph.proofs.ChannelSteps.{sourceless, passed, added}
@@ -41,7 +41,7 @@ returns-then-is_passed_on-clause-told c =
     let from = c.index-from.result.now in
     let is = here items c.in-Some.source from (slice_get_within (ports_view items) c.in-Some.source s.at s.source.gives.port) c.index-from.ensures in
     let w = c.is_passed_on.ensures.0 c.if-is_passed_on.true in
-    told c.refused_port-then-is_passed_on.result code.Link (port_path port) (IsLinkFault t) c.refused_port-then-is_passed_on.ensures (passed t place c.in-Some.source s (port_at from) is there w.0 w.1 w.2)
+    told c.refused_port-then-is_passed_on.result code.Link (port_path port) (IsLinkFault t) c.refused_port-then-is_passed_on.ensures (passed t place c.in-Some.source s (port_at from) is there w.0 w.1 w.2 w.3)
 
 pub returns-clause-ok : goal.returns-clause-ok
 returns-clause-ok c = λ p named.

@@ -1,12 +1,12 @@
 use Rattle.std.proofs.Common.{◌≡◌, ℕ, ◌+◌, ◌<◌, Some, List, [], ◌∷◌, length, get_or, take, subst}
 use Rattle.std.proofs.lemmas.Option.{slice_get_within, slice_get-get_or}
 use Rattle.std.specs.List.{Contains, slice_get}
-use Rattle.pt_graph.specs.Table.{PortAt}
+use Rattle.pt_net.specs.Table.{PortAt}
 use Rattle.pt_graph.specs.Survey.{tables_view, port_at}
-use Rattle.pt_graph.specs.Wires.{taken_from, places_along}
-use Rattle.pt_graph.specs.Net.{wires, all_places}
+use Rattle.pt_net.specs.Wires.{taken_from, places_along}
+use Rattle.pt_net.specs.Net.{wires, all_places}
 use Rattle.pt_graph.specs.ChannelTable.{place_at}
-use Rattle.pt_graph.proofs.Members.{contains_slice}
+use Rattle.pt_net.proofs.Members.{contains_slice}
 use Rattle.pt_graph.proofs.GiftFacts.{taken_below}
 use Rattle.pt_graph.proofs.ChannelSteps.{along_more, place_contains, adds_more}
 use Rattle.pt_graph.proofs.channels.add_places.Goals as goal

@@ -1,8 +1,8 @@
 use Rattle.std.proofs.Common.{◌+◌, take}
 use Rattle.pt_graph.specs.Survey.{tables_view, port_at}
-use Rattle.pt_graph.specs.Net.{wires}
+use Rattle.pt_net.specs.Net.{wires}
 use Rattle.pt_graph.specs.ChannelTable.{places_on, side_among}
-use Rattle.pt_graph.proofs.Members.{flat_more}
+use Rattle.pt_net.proofs.Members.{flat_more}
 use Rattle.pt_graph.proofs.Told.{read_of, within_of}
 use Rattle.pt_graph.proofs.ChannelSteps.{adds_more}
 use Rattle.pt_graph.proofs.channels.add_side.Goals as goal

@@ -2,11 +2,11 @@ use Rattle.std.proofs.Common.{◌≡◌, ◌<◌, ◌≤◌, Some, subst, arith}
 use Rattle.std.proofs.lemmas.List.{length-map}
 use Rattle.std.proofs.lemmas.Option.{slice_get_within}
 use Rattle.std.specs.List.{slice_get}
-use Rattle.pt_moml.specs.declared.code.Code.TheVariants as code
-use Rattle.pt_graph.specs.Standing.{Standing}
+use Rattle.pt_document.specs.declared.code.Code.TheVariants as code
+use Rattle.pt_net.specs.Standing.{Standing}
 use Rattle.pt_graph.specs.Survey.{tables_view, placed_view, table_view}
-use Rattle.pt_graph.specs.Net.{wires}
-use Rattle.pt_graph.specs.Stands.{IsLinkFault, too_few_channels, least_channels, channels_in}
+use Rattle.pt_net.specs.Net.{wires}
+use Rattle.pt_net.specs.Stands.{IsLinkFault, too_few_channels, least_channels, channels_in}
 use Rattle.pt_graph.proofs.Told.{told, number_view}
 use Rattle.pt_graph.proofs.Counts.{counted, too_few, enough}
 use Rattle.pt_graph.proofs.checks.check_counts.Goals as goal

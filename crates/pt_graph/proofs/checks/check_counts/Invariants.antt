@@ -1,9 +1,9 @@
 use Rattle.std.proofs.Common.{◌≡◌, ℕ, ◌<◌, ◌≤◌, Some}
 use Rattle.std.specs.List.{slice_get}
-use Rattle.pt_graph.specs.Standing.{Standing}
+use Rattle.pt_net.specs.Standing.{Standing}
 use Rattle.pt_graph.specs.Survey.{tables_view}
-use Rattle.pt_graph.specs.Net.{wires}
-use Rattle.pt_graph.specs.Stands.{least_channels, channels_in}
+use Rattle.pt_net.specs.Net.{wires}
+use Rattle.pt_net.specs.Stands.{least_channels, channels_in}
 use Rattle.pt_graph.proofs.checks.check_counts.Given as goal
 
 abbrev pub invariant-loop-number : goal.invariant-loop-number

@@ -1,9 +1,9 @@
 use Rattle.std.proofs.Common.{◌≡◌, sym, subst, ◌∙◌, arith}
 use Rattle.std.proofs.lemmas.List.{length-map}
-use Rattle.pt_moml.specs.declared.code.Code.TheVariants as code
-use Rattle.pt_graph.specs.Table.{port_path}
+use Rattle.pt_document.specs.declared.code.Code.TheVariants as code
+use Rattle.pt_net.specs.Table.{port_path}
 use Rattle.pt_graph.specs.Survey.{tables_view, port_at}
-use Rattle.pt_graph.specs.Stands.{IsLinkFault}
+use Rattle.pt_net.specs.Stands.{IsLinkFault}
 use Rattle.pt_graph.specs.Wiring.{IsFine}
 use Rattle.pt_graph.proofs.Told.{told, number_view}
 use Rattle.pt_graph.proofs.PortTests.{amiss_told, lacking_told, fine}

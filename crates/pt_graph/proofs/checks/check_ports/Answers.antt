@@ -2,7 +2,7 @@ use Rattle.std.proofs.Common.{◌≡◌, Some, arith}
 use Rattle.std.proofs.lemmas.List.{length-map}
 use Rattle.std.proofs.lemmas.Option.{slice_get_within}
 use Rattle.std.specs.List.{slice_get}
-use Rattle.pt_graph.specs.Table.{PortAt}
+use Rattle.pt_net.specs.Table.{PortAt}
 use Rattle.pt_graph.specs.Survey.{tables_view, ports_view, port_at}
 use Rattle.pt_graph.specs.Wiring.{IsFine}
 use Rattle.pt_graph.proofs.checks.check_ports.Goals as goal

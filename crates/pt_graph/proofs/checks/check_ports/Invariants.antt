@@ -1,6 +1,6 @@
 use Rattle.std.proofs.Common.{◌≡◌, ℕ, ◌<◌, Some}
 use Rattle.std.specs.List.{slice_get}
-use Rattle.pt_graph.specs.Table.{PortAt}
+use Rattle.pt_net.specs.Table.{PortAt}
 use Rattle.pt_graph.specs.Survey.{tables_view}
 use Rattle.pt_graph.specs.Wiring.{IsFine}
 use Rattle.pt_graph.proofs.checks.check_ports.Given as goal

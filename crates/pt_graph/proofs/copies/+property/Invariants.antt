@@ -1,5 +1,5 @@
 use Rattle.std.proofs.Common.{◌≡◌, take}
-use Rattle.pt_moml.specs.View.{properties_view}
+use Rattle.pt_document.specs.View.{properties_view}
 use Rattle.pt_graph.proofs.copies.+property.Given as goal
 
 abbrev pub invariant-loop-inner : goal.invariant-loop-inner

@@ -1,5 +1,5 @@
 use Rattle.std.proofs.Common.{◌≡◌, ◌++◌, map, take}
-use Rattle.pt_moml.specs.View.{port_view}
+use Rattle.pt_document.specs.View.{port_view}
 use Rattle.pt_graph.proofs.entities.add_declared.Given as goal
 
 abbrev pub invariant-loop-item : goal.invariant-loop-item

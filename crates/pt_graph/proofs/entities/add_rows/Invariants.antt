@@ -1,7 +1,7 @@
 use Rattle.std.proofs.Common.{◌≡◌, ◌++◌, map, take}
-use Rattle.pt_moml.specs.Classes.{port_of}
-use Rattle.pt_moml.specs.View.{port_view}
-use Rattle.pt_graph.specs.Net.{row_port}
+use Rattle.pt_document.specs.Classes.{port_of}
+use Rattle.pt_document.specs.View.{port_view}
+use Rattle.pt_net.specs.Net.{row_port}
 use Rattle.pt_graph.proofs.entities.add_rows.Given as goal
 
 abbrev pub invariant-loop-row : goal.invariant-loop-row

@@ -1,7 +1,7 @@
 use Rattle.std.proofs.Common.{List, ap, ◌∙◌, filter}
-use Rattle.pt_moml.specs.declared.job.Property.{Property}
-use Rattle.pt_moml.specs.View.{properties_view}
-use Rattle.pt_graph.specs.Net.{is_parameter}
+use Rattle.pt_document.specs.declared.job.Property.{Property}
+use Rattle.pt_document.specs.View.{properties_view}
+use Rattle.pt_net.specs.Net.{is_parameter}
 use Rattle.pt_graph.proofs.Directors.{director-view}
 use Rattle.pt_graph.proofs.entities.director_of.Goals as goal
 

@@ -1,8 +1,8 @@
 use Rattle.std.proofs.Common.{◌≡◌, map, take}
 use Rattle.std.specs.List.{filter}
-use Rattle.pt_graph.specs.Standing.{is_kept}
+use Rattle.pt_net.specs.Standing.{is_kept}
 use Rattle.pt_graph.specs.Survey.{table_view}
-use Rattle.pt_graph.specs.Net.{entity_view, entity_tree}
+use Rattle.pt_net.specs.Net.{entity_view, entity_tree}
 use Rattle.pt_graph.proofs.entities.net_entities.Given as goal
 
 abbrev pub invariant-loop-placed : goal.invariant-loop-placed

@@ -1,9 +1,9 @@
 use Rattle.std.proofs.Common.{◌≡◌, map, take}
 use Rattle.std.specs.Prelude.{not}
 use Rattle.std.specs.List.{filter}
-use Rattle.pt_graph.specs.Standing.{is_kept}
+use Rattle.pt_net.specs.Standing.{is_kept}
 use Rattle.pt_graph.specs.Survey.{table_view}
-use Rattle.pt_graph.specs.Net.{transparent_view, transparent_tree}
+use Rattle.pt_net.specs.Net.{transparent_view, transparent_tree}
 use Rattle.pt_graph.proofs.entities.transparent_composites.Given as goal
 
 abbrev pub invariant-loop-placed : goal.invariant-loop-placed

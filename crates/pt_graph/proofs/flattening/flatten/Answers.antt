@@ -1,19 +1,19 @@
 use Rattle.std.proofs.Common.{◌≡◌, ℕ, List, length, map, filter, not, ap, sym, subst, ◌∙◌, arith, rules, Vec, Global}
 use Rattle.std.proofs.lemmas.List.{length-map}
 use Rattle.std.specs.List.{AllZip}
-use Rattle.pt_moml.specs.declared.code.Code.{Code}
-use Rattle.pt_moml.specs.declared.code.Code.TheVariants.{Limit}
-use Rattle.pt_moml.specs.Names.{top_path}
-use Rattle.pt_moml.specs.View.{job_view}
+use Rattle.pt_document.specs.declared.code.Code.{Code}
+use Rattle.pt_document.specs.declared.code.Code.TheVariants.{Limit}
+use Rattle.pt_document.specs.Names.{top_path}
+use Rattle.pt_document.specs.View.{job_view}
 use Rattle.pt_graph.specs.declared.survey.Placed.{Placed}
-use Rattle.pt_graph.specs.declared.net.Channel.{Channel}
+use Rattle.pt_net.specs.declared.net.Channel.{Channel}
 use Rattle.pt_graph.specs.declared.tables.PlacedRelation.{PlacedRelation}
 use Rattle.pt_graph.specs.Survey.{table_view, tables_view, relation_at, relations_view}
-use Rattle.pt_graph.specs.Standing.{is_kept}
-use Rattle.pt_graph.specs.Table.{Tables, tables_from, tables_of}
+use Rattle.pt_net.specs.Standing.{is_kept}
+use Rattle.pt_net.specs.Table.{Tables, tables_from, tables_of}
 use Rattle.pt_graph.specs.Wiring.{AreOwned}
-use Rattle.pt_graph.specs.Net.{Records, entity_tree, transparent_tree}
-use Rattle.pt_graph.specs.Stands.{StandsIn, IsFaultIn, IsFaultOf, IsTold}
+use Rattle.pt_net.specs.Net.{Records, entity_tree, transparent_tree}
+use Rattle.pt_net.specs.Stands.{StandsIn, IsFaultIn, IsFaultOf, IsTold}
 use Rattle.pt_graph.specs.ChannelTable.{AreTooMany}
 use Rattle.pt_graph.specs.Recorded.{AreDistinct}
 use Rattle.pt_graph.proofs.Counts.{owned}

@@ -1,13 +1,13 @@
 use Rattle.std.proofs.Common.{◌≡◌, ℕ, Bool, not, List, length, get_or, sym, ap, subst, ◌∙◌}
 use Rattle.std.proofs.lemmas.Result.{IfOk-weaker}
-use Rattle.pt_graph.specs.declared.wire.Wire.{Wire}
-use Rattle.pt_graph.specs.declared.wire.Wire.TheVariants.{Outside, Inside}
-use Rattle.pt_graph.specs.declared.net.Joint.{Joint}
+use Rattle.pt_net.specs.declared.wire.Wire.{Wire}
+use Rattle.pt_net.specs.declared.wire.Wire.TheVariants.{Outside, Inside}
+use Rattle.pt_net.specs.declared.net.Joint.{Joint}
 use Rattle.pt_graph.specs.declared.tables.PlacedPort.{PlacedPort}
 use Rattle.pt_graph.specs.Survey.{port_at, ports_view}
 use Rattle.pt_graph.specs.Ties.{IsPortWithin}
-use Rattle.pt_graph.specs.Wires.{is_input}
-use Rattle.pt_graph.specs.Joints.{joint_at, IsJointOf}
+use Rattle.pt_net.specs.Wires.{is_input}
+use Rattle.pt_net.specs.Joints.{joint_at, IsJointOf}
 use Rattle.pt_graph.proofs.Told.{number_view}
 use Rattle.pt_graph.proofs.joints.joint.Goals as goal
 

@@ -1,14 +1,14 @@
 use Rattle.std.proofs.Common.{◌≡◌, ℕ, ◌+◌, ◌<◌, List, [], ◌∷◌, ◌++◌, length, get_or, take, sym, subst}
 use Rattle.std.proofs.lemmas.List.{take_more}
 use Rattle.std.specs.List.{AllZip}
-use Rattle.pt_graph.specs.declared.wire.Wire.{Wire}
-use Rattle.pt_graph.specs.declared.wire.Wire.TheVariants.{Outside}
-use Rattle.pt_graph.specs.declared.net.Joint.{Joint}
+use Rattle.pt_net.specs.declared.wire.Wire.{Wire}
+use Rattle.pt_net.specs.declared.wire.Wire.TheVariants.{Outside}
+use Rattle.pt_net.specs.declared.net.Joint.{Joint}
 use Rattle.pt_graph.specs.declared.tables.PlacedPort.{PlacedPort}
 use Rattle.pt_graph.specs.Survey.{tables_view, ports_view}
-use Rattle.pt_graph.specs.Table.{PortAt}
-use Rattle.pt_graph.specs.Joints.{IsJointOf}
-use Rattle.pt_graph.proofs.Members.{zip_push}
+use Rattle.pt_net.specs.Table.{PortAt}
+use Rattle.pt_net.specs.Joints.{IsJointOf}
+use Rattle.pt_net.proofs.Members.{zip_push}
 use Rattle.pt_graph.proofs.joints.joints.Goals as goal
 
 joint_more : (ports : List PortAt) (wires items : List Wire) (i : ℕ) (joints new : List Joint) (joint : Joint) → items ≡ wires → i < length items → IsJointOf ports (get_or items i (Outside 0 0)) joint → new ≡ joints ++ joint ∷ [] → AllZip (IsJointOf ports) (take i wires) joints → AllZip (IsJointOf ports) (take (i + 1) wires) new

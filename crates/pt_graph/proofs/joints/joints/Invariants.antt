@@ -1,7 +1,7 @@
 use Rattle.std.proofs.Common.{take}
 use Rattle.std.specs.List.{AllZip}
 use Rattle.pt_graph.specs.Survey.{tables_view}
-use Rattle.pt_graph.specs.Joints.{IsJointOf}
+use Rattle.pt_net.specs.Joints.{IsJointOf}
 use Rattle.pt_graph.proofs.joints.joints.Given as goal
 
 abbrev pub invariant-loop-wire : goal.invariant-loop-wire

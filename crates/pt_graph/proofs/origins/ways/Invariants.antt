@@ -1,7 +1,7 @@
 use Rattle.std.proofs.Common.{◌≡◌, ◌++◌, take}
 use Rattle.std.specs.List.{filter_map}
 use Rattle.pt_graph.specs.Survey.{tables_view}
-use Rattle.pt_graph.specs.Net.{wires}
+use Rattle.pt_net.specs.Net.{wires}
 use Rattle.pt_graph.specs.Sources.{bond_of}
 use Rattle.pt_graph.specs.Origins.{crossings_among}
 use Rattle.pt_graph.proofs.origins.ways.Given as goal

@@ -1,7 +1,7 @@
 use Rattle.std.proofs.Common.{◌≡◌, map, drop}
 use Rattle.std.specs.List.{list_any}
-use Rattle.pt_moml.specs.View.{property_view}
-use Rattle.pt_graph.specs.Standing.{is_director}
+use Rattle.pt_document.specs.View.{property_view}
+use Rattle.pt_net.specs.Standing.{is_director}
 use Rattle.pt_graph.proofs.survey.has_director.Given as goal
 
 abbrev pub invariant-loop-property : goal.invariant-loop-property

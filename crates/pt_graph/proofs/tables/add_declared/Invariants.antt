@@ -1,7 +1,7 @@
 use Rattle.std.proofs.Common.{◌≡◌, ◌++◌, map, take}
-use Rattle.pt_moml.specs.Classes.{port_of}
-use Rattle.pt_moml.specs.View.{port_view}
-use Rattle.pt_graph.specs.Table.{declared_port}
+use Rattle.pt_document.specs.Classes.{port_of}
+use Rattle.pt_document.specs.View.{port_view}
+use Rattle.pt_net.specs.Table.{declared_port}
 use Rattle.pt_graph.proofs.tables.add_declared.Given as goal
 
 abbrev pub invariant-loop-port : goal.invariant-loop-port

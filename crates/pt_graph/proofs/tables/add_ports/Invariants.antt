@@ -1,7 +1,7 @@
 use Rattle.std.proofs.Common.{◌≡◌, ◌++◌, map, drop}
-use Rattle.pt_moml.specs.Classes.{port_of}
+use Rattle.pt_document.specs.Classes.{port_of}
 use Rattle.pt_graph.specs.Survey.{placed_view, ports_view}
-use Rattle.pt_graph.specs.Table.{numbered_ports}
+use Rattle.pt_net.specs.Table.{numbered_ports}
 use Rattle.pt_graph.proofs.tables.add_ports.Given as goal
 
 abbrev pub invariant-loop-number : goal.invariant-loop-number

@@ -1,7 +1,7 @@
 use Rattle.std.proofs.Common.{refl, ◌∙◌}
-use Rattle.pt_moml.specs.Document.{parts}
+use Rattle.pt_document.specs.Document.{parts}
 use Rattle.pt_graph.specs.Survey.{placed_view, ports_view, relations_view, links_view}
-use Rattle.pt_graph.specs.Table.{numbered_ports, ports_of, ports_from, relations_in, relations_from, links_in, links_from}
+use Rattle.pt_net.specs.Table.{numbered_ports, ports_of, ports_from, relations_in, relations_from, links_in, links_from}
 use Rattle.pt_graph.proofs.TableSteps.{one_done}
 use Rattle.pt_graph.proofs.tables.tables_of.Goals as goal
 

@@ -1,6 +1,6 @@
 use Rattle.std.proofs.Common.{◌≡◌, ◌++◌, drop}
 use Rattle.pt_graph.specs.Survey.{table_view, ports_view, relations_view, links_view}
-use Rattle.pt_graph.specs.Table.{ports_from, relations_from, links_from}
+use Rattle.pt_net.specs.Table.{ports_from, relations_from, links_from}
 use Rattle.pt_graph.proofs.tables.tables_of.Given as goal
 
 abbrev pub invariant-loop-number : goal.invariant-loop-number

@@ -1,9 +1,9 @@
 use Rattle.std.proofs.Common.{◌+◌, List, map, take, sym, subst}
 use Rattle.std.specs.List.{AllZip}
 use Rattle.pt_value.specs.declared.token.Token.{Token}
-use Rattle.pt_values.specs.Scopes.{net_view}
+use Rattle.pt_scopes.specs.Scopes.{net_view}
 use Rattle.pt_job.specs.Names.{Name}
-use Rattle.pt_job.specs.Inputs.{ComeTo}
+use Rattle.pt_scopes.specs.Inputs.{ComeTo}
 use Rattle.pt_job.proofs.Members.{zip_read}
 use Rattle.pt_job.proofs.inputs.supplied.Goals as goal
 

@@ -1,8 +1,8 @@
 use Rattle.std.proofs.Common.{map, take}
 use Rattle.std.specs.List.{AllZip}
-use Rattle.pt_values.specs.Scopes.{net_view}
+use Rattle.pt_scopes.specs.Scopes.{net_view}
 use Rattle.pt_job.specs.Names.{Name}
-use Rattle.pt_job.specs.Inputs.{ComeTo}
+use Rattle.pt_scopes.specs.Inputs.{ComeTo}
 use Rattle.pt_job.proofs.inputs.supplied.Given as goal
 
 abbrev pub invariant-loop-port : goal.invariant-loop-port

@@ -3,8 +3,8 @@ use Rattle.std.specs.Prelude.{Option}
 use Rattle.std.specs.List.{slice_get}
 use Rattle.std.proofs.lemmas.Option.{slice_get-get_or}
 use Rattle.std.proofs.lemmas.Result.{IfOk-weaker}
-use Rattle.pt_values.specs.Scopes.{net_view}
-use Rattle.pt_job.specs.Inputs.{input_to, token_lists, AreTokensOf}
+use Rattle.pt_scopes.specs.Scopes.{net_view}
+use Rattle.pt_scopes.specs.Inputs.{input_to, token_lists, AreTokensOf}
 use Rattle.pt_job.proofs.Present.{comes, within, full_at, list_at}
 use Rattle.pt_job.proofs.inputs.tokens_to.Goals as goal
 

@@ -1,5 +1,5 @@
 use Rattle.std.proofs.Common.{ℕ, Option, sym, ap, ◌∙◌}
-use Rattle.pt_moml.specs.View.{property_view}
+use Rattle.pt_document.specs.View.{property_view}
 use Rattle.pt_job.specs.Iterations.{count_in, value_at, sets_iterations}
 use Rattle.pt_job.proofs.Positions.{position-map}
 use Rattle.pt_job.proofs.iteration_count.iterations_in.Goals as goal

@@ -1,7 +1,7 @@
 use Rattle.std.proofs.Common.{◌≡◌, map, take}
 use Rattle.std.specs.List.{filter}
-use Rattle.pt_moml.specs.View.{port_view}
-use Rattle.pt_values.specs.Sites.{port_name, is_input_port}
+use Rattle.pt_document.specs.View.{port_view}
+use Rattle.pt_scopes.specs.Sites.{port_name, is_input_port}
 use Rattle.pt_job.specs.Names.{texts}
 use Rattle.pt_job.proofs.ports.input_names.Given as goal
 

@@ -1,5 +1,5 @@
 use Rattle.std.proofs.Common.{◌≡◌, map, take}
-use Rattle.pt_moml.specs.View.{input_view}
+use Rattle.pt_document.specs.View.{input_view}
 use Rattle.pt_job.specs.Names.{texts}
 use Rattle.pt_job.proofs.ports.named_ports.Given as goal
 

@@ -1,6 +1,6 @@
 use Rattle.std.proofs.Common.{◌≡◌, ◌+◌, ◌&&◌, true, false, drop, map, sym, ap, ◌∙◌, rules}
 use Rattle.pt_types.specs.Ty.{type_of}
-use Rattle.pt_expr_type.specs.Entry.{typed_entry}
+use Rattle.pt_types.specs.Entry.{typed_entry}
 use Rattle.pt_firing.specs.Row.{token_at}
 use Rattle.pt_lib_flow.specs.Formula.{is_of, are_of}
 use Rattle.pt_lib_flow.proofs.Typings.{are_of-next}

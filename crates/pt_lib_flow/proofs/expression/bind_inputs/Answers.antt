@@ -2,7 +2,7 @@ use Rattle.std.proofs.Common.{◌≡◌, ◌<◌, length, map, get_or, ◌∙◌
 use Rattle.std.specs.Prelude.{option_map}
 use Rattle.pt_value.specs.Token.{value_of}
 use Rattle.pt_expr.specs.Env.{scope_of}
-use Rattle.pt_expr_type.specs.Entry.{typed_entry}
+use Rattle.pt_types.specs.Entry.{typed_entry}
 use Rattle.pt_lib_flow.specs.Formula.{names}
 use Rattle.pt_lib_flow.proofs.Formulas.{inputs-bound, others-bound, name-at, length-names}
 use Rattle.pt_lib_flow.proofs.expression.bind_inputs.Goals as goal

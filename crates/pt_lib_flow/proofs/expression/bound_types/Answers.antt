@@ -1,9 +1,9 @@
 use Rattle.std.proofs.Common.{◌≡◌, ◌<◌, ◌-◌, ◌+◌, length, drop, sym, ap, ◌∙◌, arith}
 use Rattle.std.specs.Prelude.{option_map}
 use Rattle.pt_value.specs.Token.{value_of}
-use Rattle.pt_types.specs.Normal.{normal}
+use Rattle.pt_datatypes.specs.Normal.{normal}
 use Rattle.pt_types.specs.Ty.{type_of}
-use Rattle.pt_types.specs.Token.{type_of_value}
+use Rattle.pt_datatypes.specs.Token.{type_of_value}
 use Rattle.pt_types.proofs.TokenTypes.{value-is_type}
 use Rattle.pt_expr_type.specs.TypeEnv.{types_in}
 use Rattle.pt_firing.proofs.Named.{nothing-under}

@@ -2,7 +2,7 @@ use Rattle.std.proofs.Common.{◌≡◌, ◌++◌, map, ap, ◌∙◌, arith}
 use Rattle.std.proofs.lemmas.List.{map-append}
 use Rattle.std.proofs.lemmas.Grind.{common_steps}
 use Rattle.pt_value.specs.declared.token.Token.TheVariants.{Int}
-use Rattle.pt_lib_flow.proofs.Repetitions.{repeated-more}
+use Rattle.pt_flow_base.proofs.Repetitions.{repeated-more}
 use Rattle.pt_lib_flow.proofs.repeat.put_repeated.Goals as goal
 
 pub loop-preserved : goal.loop-preserved

@@ -1,5 +1,5 @@
 use Rattle.std.proofs.Common.{◌++◌, ap, ◌∙◌}
-use Rattle.pt_lib_flow.proofs.Repetitions.{repeated-more}
+use Rattle.pt_flow_base.proofs.Repetitions.{repeated-more}
 use Rattle.pt_lib_flow.proofs.repeat.repeated.Goals as goal
 
 pub loop-preserved : goal.loop-preserved

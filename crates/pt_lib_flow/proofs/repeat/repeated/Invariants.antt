@@ -1,5 +1,5 @@
 use Rattle.std.proofs.Common.{◌≡◌}
-use Rattle.pt_lib_flow.specs.Rates.{repeated}
+use Rattle.pt_flow_base.specs.Rates.{repeated}
 use Rattle.pt_lib_flow.proofs.repeat.repeated.Given as goal
 
 abbrev pub invariant-loop : goal.invariant-loop

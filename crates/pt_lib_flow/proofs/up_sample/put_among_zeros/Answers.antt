@@ -2,7 +2,7 @@ use Rattle.std.proofs.Common.{◌≡◌, ◌+◌, pos, map, set, replicate, w64,
 use Rattle.std.proofs.lemmas.Int.{to_z-of_z}
 use Rattle.std.proofs.lemmas.Grind.{common_steps}
 use Rattle.pt_value.specs.declared.token.Token.TheVariants.{Int}
-use Rattle.pt_lib_flow.proofs.Zeros.{is-among}
+use Rattle.pt_flow_base.proofs.Zeros.{is-among}
 use Rattle.pt_lib_flow.proofs.up_sample.put_among_zeros.Goals as goal
 
 pub returns : goal.returns

@@ -2,9 +2,9 @@ use Rattle.std.proofs.Common.{◌≡◌, Some, sym, ap, subst, ◌∙◌, IfErr,
 use Rattle.std.proofs.lemmas.Result.{IfErr-weaker}
 use Rattle.pt_typing.specs.Least.{assignment}
 use Rattle.pt_node.specs.Shown.{shown_node}
-use Rattle.pt_model.specs.declared.model.ModelFault.{ModelFault}
-use Rattle.pt_model.specs.Refused.{no_iterations, fault_of, FaultStands}
-use Rattle.pt_model.proofs.FaultLaws.{inputs-stand, unbuilt-stands}
+use Rattle.pt_elaboration.specs.declared.fault.ModelFault.{ModelFault}
+use Rattle.pt_elaboration.specs.Refused.{no_iterations, fault_of, FaultStands}
+use Rattle.pt_elaboration.proofs.FaultLaws.{inputs-stand, unbuilt-stands}
 use Rattle.pt_model.proofs.TopLaws.{top-takes, lists-counted}
 use Rattle.pt_model.proofs.job.job_of.Goals as goal
 

@@ -1,7 +1,7 @@
 use Rattle.pt_typing.specs.Least.{assignment}
 use Rattle.pt_node.specs.Shown.{shown_node}
 use Rattle.pt_model.proofs.Outcomes.{on-ok, at-ok}
-use Rattle.pt_model.proofs.StartLaws.{started-by-class}
+use Rattle.pt_elaboration.proofs.StartLaws.{started-by-class}
 use Rattle.pt_model.proofs.TopLaws.{is-runnable}
 use Rattle.pt_model.proofs.model.model_of.Goals as goal
 

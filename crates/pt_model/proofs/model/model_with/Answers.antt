@@ -4,9 +4,9 @@ use Rattle.std.specs.Prelude.{◌≡◌, Some}
 use Rattle.pt_typing.specs.Least.{assignment}
 use Rattle.pt_node.specs.Shown.{shown_node}
 use Rattle.pt_node.specs.View.{node_of}
-use Rattle.pt_build.specs.Trees.{IsTree, StartsAs}
-use Rattle.pt_build.specs.Built.{IsBuilt}
-use Rattle.pt_run.specs.Start.{takes_of}
+use Rattle.pt_trees.specs.Trees.{IsTree, StartsAs}
+use Rattle.pt_trees.specs.Built.{IsBuilt}
+use Rattle.pt_trees.specs.Start.{takes_of}
 use Rattle.pt_model.proofs.Outcomes.{on-ok, at-ok}
 use Rattle.pt_model.proofs.model.model_with.Goals as goal
 

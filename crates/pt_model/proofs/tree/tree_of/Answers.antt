@@ -1,13 +1,13 @@
 use Rattle.std.proofs.Common.{sym, subst}
 use Rattle.pt_typing.specs.Least.{assignment}
-use Rattle.pt_build.specs.declared.building.BuildFault.{BuildFault}
-use Rattle.pt_build.specs.declared.building.BuildFault.TheVariants as fault
-use Rattle.pt_build.specs.Trees.{Starts, AreStarted}
-use Rattle.pt_build.specs.Built as built
-use Rattle.pt_build.specs.Built.{BuildFaultStands}
-use Rattle.pt_model.specs.Refused.{for_plan, no_tree}
-use Rattle.pt_model.proofs.StartLaws.{are-started}
-use Rattle.pt_model.proofs.FaultLaws.{unbuilt-stands}
+use Rattle.pt_trees.specs.declared.build_fault.BuildFault.{BuildFault}
+use Rattle.pt_trees.specs.declared.build_fault.BuildFault.TheVariants as fault
+use Rattle.pt_trees.specs.Trees.{Starts, AreStarted}
+use Rattle.pt_trees.specs.Built as built
+use Rattle.pt_trees.specs.Built.{BuildFaultStands}
+use Rattle.pt_elaboration.specs.Refused.{for_plan, no_tree}
+use Rattle.pt_elaboration.proofs.StartLaws.{are-started}
+use Rattle.pt_elaboration.proofs.FaultLaws.{unbuilt-stands}
 use Rattle.pt_model.proofs.tree.tree_of.Goals as goal
 
 pub build-requires : goal.build-requires

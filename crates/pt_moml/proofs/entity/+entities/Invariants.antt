@@ -1,7 +1,7 @@
 use Rattle.std.proofs.Common.{◌≡◌, ◌+◌, ◌*◌, [], drop, option_map}
 use Rattle.serde_json.specs.Data.{depth, items_depth}
 use Rattle.pt_json.specs.View.{view, items_view}
-use Rattle.pt_moml.specs.View.{entities_view}
+use Rattle.pt_document.specs.View.{entities_view}
 use Rattle.pt_moml.specs.Fields.{items_at}
 use Rattle.pt_moml.specs.Reading.{entity_at, entity_items}
 use Rattle.pt_moml.proofs.Depths.{field_depth}

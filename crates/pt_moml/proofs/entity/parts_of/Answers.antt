@@ -1,6 +1,6 @@
 use Rattle.std.proofs.Common.{rules}
 use Rattle.pt_json.specs.View.{view}
-use Rattle.pt_moml.specs.Classes.{kind_view}
+use Rattle.pt_document.specs.Classes.{kind_view}
 use Rattle.pt_moml.proofs.Stages.{parts_are}
 use Rattle.pt_moml.proofs.entity.parts_of.Goals as goal
 

@@ -2,10 +2,10 @@ use Rattle.std.proofs.Common.{◌≡◌, ℕ, List, map, Bool, true, false, Ok, 
 use Rattle.serde_json.specs.Data.{Data, object, Members}
 use Rattle.pt_json.specs.View.{view, members_view}
 use Rattle.pt_json.proofs.Views.{view-Object}
-use Rattle.pt_moml.specs.Outcome.{refused}
+use Rattle.pt_document.specs.Outcome.{refused}
 use Rattle.pt_moml.specs.Fields.{has_only, listed}
-use Rattle.pt_moml.specs.declared.code.Code.TheVariants.{Shape}
-use Rattle.pt_moml.proofs.Refusals.{fails}
+use Rattle.pt_document.specs.declared.code.Code.TheVariants.{Shape}
+use Rattle.pt_document.proofs.Refusals.{fails}
 use Rattle.pt_moml.proofs.fields.has_fields.Goals as goal
 
 of_object : (path : List ℕ) (keys : List (List ℕ)) (d : Data) (ms : Members) (b : Bool) → d ≡ object ms → b ≡ has_only keys ms → listed path keys d ≡ (if b then Ok tt else refused Shape path)

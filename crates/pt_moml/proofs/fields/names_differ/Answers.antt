@@ -1,9 +1,9 @@
 use Rattle.std.proofs.Common.{◌≡◌, false}
-use Rattle.pt_moml.specs.Names.{are_distinct}
+use Rattle.pt_document.specs.Names.{are_distinct}
 use Rattle.pt_moml.specs.Fields.{distinct_at}
-use Rattle.pt_moml.proofs.DistinctNames.{repeats, goes_on}
-use Rattle.pt_moml.proofs.Refusals.{fails}
-use Rattle.pt_moml.specs.declared.code.Code.TheVariants as code
+use Rattle.pt_document.proofs.DistinctNames.{repeats, goes_on}
+use Rattle.pt_document.proofs.Refusals.{fails}
+use Rattle.pt_document.specs.declared.code.Code.TheVariants as code
 use Rattle.pt_moml.proofs.fields.names_differ.Goals as goal
 
 pub returns-then-not-is_new : goal.returns-then-not-is_new

@@ -1,5 +1,5 @@
 use Rattle.std.proofs.Common.{◌≡◌, [], map, drop}
-use Rattle.pt_moml.specs.Names.{are_distinct_after}
+use Rattle.pt_document.specs.Names.{are_distinct_after}
 use Rattle.pt_moml.proofs.fields.names_differ.Given as goal
 
 abbrev pub invariant-loop-part : goal.invariant-loop-part

@@ -1,7 +1,7 @@
 use Rattle.std.proofs.Common.{◌≡◌, map, drop}
 use Rattle.pt_moml.specs.Rules as rules
-use Rattle.pt_moml.specs.View.{properties_view}
-use Rattle.pt_moml.specs.Classes.{parameter_of}
+use Rattle.pt_document.specs.View.{properties_view}
+use Rattle.pt_document.specs.Classes.{parameter_of}
 use Rattle.pt_moml.proofs.parameters.each_given.Given as goal
 
 abbrev pub invariant-loop-row : goal.invariant-loop-row

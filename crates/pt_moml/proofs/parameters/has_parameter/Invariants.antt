@@ -1,6 +1,6 @@
 use Rattle.std.proofs.Common.{◌≡◌, map, drop}
-use Rattle.pt_moml.specs.Classes.{parameter_of}
-use Rattle.pt_moml.specs.Names.{is_among}
+use Rattle.pt_document.specs.Classes.{parameter_of}
+use Rattle.pt_document.specs.Names.{is_among}
 use Rattle.pt_moml.specs.Rules.{parameter_names}
 use Rattle.pt_moml.proofs.parameters.has_parameter.Given as goal
 

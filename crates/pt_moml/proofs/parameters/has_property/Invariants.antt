@@ -1,7 +1,7 @@
 use Rattle.std.proofs.Common.{◌≡◌, map, drop}
-use Rattle.pt_moml.specs.Document.{property_name}
-use Rattle.pt_moml.specs.View.{properties_view}
-use Rattle.pt_moml.specs.Names.{is_among}
+use Rattle.pt_document.specs.Document.{property_name}
+use Rattle.pt_document.specs.View.{properties_view}
+use Rattle.pt_document.specs.Names.{is_among}
 use Rattle.pt_moml.proofs.parameters.has_property.Given as goal
 
 abbrev pub invariant-loop-property : goal.invariant-loop-property

@@ -1,7 +1,7 @@
 use Rattle.std.proofs.Common.{◌≡◌, ◌+◌, ◌*◌, [], drop, option_map}
 use Rattle.serde_json.specs.Data.{depth, items_depth}
 use Rattle.pt_json.specs.View.{view, items_view}
-use Rattle.pt_moml.specs.View.{properties_view}
+use Rattle.pt_document.specs.View.{properties_view}
 use Rattle.pt_moml.specs.Fields.{items_at}
 use Rattle.pt_moml.specs.Reading.{property_at, property_items}
 use Rattle.pt_moml.proofs.Depths.{field_depth}

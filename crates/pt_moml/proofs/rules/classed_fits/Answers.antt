@@ -1,5 +1,5 @@
 use Rattle.std.proofs.Common.{Some, ap, sym, ◌∙◌}
-use Rattle.pt_moml.specs.Classes.{director_of}
+use Rattle.pt_document.specs.Classes.{director_of}
 use Rattle.pt_moml.proofs.PropertyViews.{classed-director}
 use Rattle.pt_moml.proofs.rules.classed_fits.Goals as goal
 

@@ -1,9 +1,9 @@
 use Rattle.std.proofs.Common.{◌≡◌, drop}
 use Rattle.std.proofs.Common.{◌++◌, option_map}
 use Rattle.std.specs.Prelude.{option_to_list}
-use Rattle.pt_moml.specs.Classes.{director_of}
+use Rattle.pt_document.specs.Classes.{director_of}
 use Rattle.pt_moml.specs.Rules.{at_most_one, directors_among}
-use Rattle.pt_moml.specs.View.{properties_view}
+use Rattle.pt_document.specs.View.{properties_view}
 use Rattle.pt_moml.proofs.rules.director_at.Given as goal
 
 abbrev pub invariant-loop-property : goal.invariant-loop-property

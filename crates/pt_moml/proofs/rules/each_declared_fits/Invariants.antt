@@ -1,7 +1,7 @@
 use Rattle.std.proofs.Common.{◌≡◌, map, drop}
 use Rattle.pt_moml.specs.Rules as rules
-use Rattle.pt_moml.specs.View.{port_view}
-use Rattle.pt_moml.specs.Classes.{class_of}
+use Rattle.pt_document.specs.View.{port_view}
+use Rattle.pt_document.specs.Classes.{class_of}
 use Rattle.pt_moml.proofs.rules.each_declared_fits.Given as goal
 
 abbrev pub invariant-loop-port : goal.invariant-loop-port

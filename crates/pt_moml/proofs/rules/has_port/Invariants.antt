@@ -1,6 +1,6 @@
 use Rattle.std.proofs.Common.{◌≡◌, map, drop}
-use Rattle.pt_moml.specs.Classes.{port_of}
-use Rattle.pt_moml.specs.Names.{is_among}
+use Rattle.pt_document.specs.Classes.{port_of}
+use Rattle.pt_document.specs.Names.{is_among}
 use Rattle.pt_moml.proofs.rules.has_port.Given as goal
 
 abbrev pub invariant-loop-port : goal.invariant-loop-port

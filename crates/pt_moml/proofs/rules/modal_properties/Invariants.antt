@@ -1,6 +1,6 @@
 use Rattle.std.proofs.Common.{◌≡◌, drop}
 use Rattle.pt_moml.specs.Rules as rules
-use Rattle.pt_moml.specs.View.{properties_view}
+use Rattle.pt_document.specs.View.{properties_view}
 use Rattle.pt_moml.proofs.rules.modal_properties.Given as goal
 
 abbrev pub invariant-loop-property : goal.invariant-loop-property

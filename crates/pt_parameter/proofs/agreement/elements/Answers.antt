@@ -2,7 +2,7 @@ use Rattle.std.proofs.Common.{Some, sym, ap, ◌∙◌}
 use Rattle.pt_value.specs.declared.token.Token.{Token}
 use Rattle.pt_value.specs.Value.{list_of-values_of}
 use Rattle.pt_value.specs.Token.{value_of}
-use Rattle.pt_parameter.specs.Agreement.{elements}
+use Rattle.pt_scopes.specs.Agreement.{elements}
 use Rattle.pt_parameter.proofs.agreement.elements.Goals as goal
 
 pub returns-in-Array : goal.returns-in-Array

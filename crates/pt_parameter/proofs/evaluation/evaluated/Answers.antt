@@ -2,13 +2,13 @@ use Rattle.std.proofs.Common.{◌≡◌, ℕ, List, subst, ◌∙◌, rules}
 use Rattle.std.proofs.lemmas.Result.{IfOk-weaker, IfErr-weaker}
 use Rattle.pt_value.specs.Token.{value_of}
 use Rattle.pt_expr.specs.Env.{scope_of}
-use Rattle.pt_expr.specs.Expr.{tree_of}
+use Rattle.pt_language.specs.Expr.{tree_of}
 use Rattle.pt_expr_type.specs.TypeEnv.{types_in}
-use Rattle.pt_moml.specs.declared.code.Code.TheVariants as code
-use Rattle.pt_parameter.specs.Names.{seen_scope}
-use Rattle.pt_parameter.specs.Texts.{IsTextFault, names_in}
-use Rattle.pt_parameter.specs.TextFault.{IsTold}
-use Rattle.pt_parameter.specs.Binding.{AreBound, HasStrange, IsTreeValueFault}
+use Rattle.pt_document.specs.declared.code.Code.TheVariants as code
+use Rattle.pt_scopes.specs.Names.{seen_scope}
+use Rattle.pt_scopes.specs.Texts.{IsTextFault, names_in}
+use Rattle.pt_scopes.specs.TextFault.{IsTold}
+use Rattle.pt_scopes.specs.Binding.{AreBound, HasStrange, IsTreeValueFault}
 use Rattle.pt_parameter.proofs.Binding.{keeps, all-bound}
 use Rattle.pt_parameter.proofs.Told.{weaker, strange_told, tree_told, tree_gives}
 use Rattle.pt_parameter.proofs.evaluation.evaluated.Goals as goal

@@ -1,8 +1,8 @@
 use Rattle.std.proofs.Common.{ℕ, List, subst}
-use Rattle.pt_parameter.specs.Names.{seen_scope}
-use Rattle.pt_parameter.specs.PortNames.{names_port_of}
-use Rattle.pt_parameter.specs.Given.{IsInScope}
-use Rattle.pt_parameter.proofs.NameTests.{each-more, each-of_all}
+use Rattle.pt_scopes.specs.Names.{seen_scope}
+use Rattle.pt_scopes.specs.PortNames.{names_port_of}
+use Rattle.pt_scopes.specs.Given.{IsInScope}
+use Rattle.pt_scopes.proofs.NameTests.{each-more, each-of_all}
 use Rattle.pt_parameter.proofs.giving.check_names.Goals as goal
 
 pub loop-name-preserved : goal.loop-name-preserved

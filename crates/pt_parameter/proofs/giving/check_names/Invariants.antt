@@ -1,8 +1,8 @@
 use Rattle.std.proofs.Common.{ℕ, List, take}
 use Rattle.std.specs.List.{Contains}
-use Rattle.pt_parameter.specs.Names.{seen_scope}
-use Rattle.pt_parameter.specs.PortNames.{names_port_of}
-use Rattle.pt_parameter.specs.Given.{IsInScope}
+use Rattle.pt_scopes.specs.Names.{seen_scope}
+use Rattle.pt_scopes.specs.PortNames.{names_port_of}
+use Rattle.pt_scopes.specs.Given.{IsInScope}
 use Rattle.pt_parameter.proofs.giving.check_names.Given as goal
 
 abbrev pub invariant-loop-name : goal.invariant-loop-name

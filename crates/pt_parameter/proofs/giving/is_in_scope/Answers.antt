@@ -2,7 +2,7 @@ use Rattle.std.proofs.Common.{inr, Some, sym, ap, ◌∙◌, Bor}
 use Rattle.std.specs.Prelude.{option_map}
 use Rattle.pt_value.specs.declared.token.Token.{Token}
 use Rattle.pt_value.specs.Token.{value_of}
-use Rattle.pt_parameter.proofs.NameTests.{there}
+use Rattle.pt_scopes.proofs.NameTests.{there}
 use Rattle.pt_parameter.proofs.giving.is_in_scope.Goals as goal
 
 pub returns-else-are_named_by-clause-yes : goal.returns-else-are_named_by-clause-yes

@@ -1,14 +1,14 @@
 use Rattle.std.proofs.Common.{◌≡◌, ℕ, List, subst, ◌∙◌, rules}
 use Rattle.std.specs.List.{Contains}
-use Rattle.pt_expr.specs.Expr.{tree_of}
-use Rattle.pt_moml.specs.declared.code.Code.TheVariants as code
-use Rattle.pt_parameter.specs.Names.{seen_scope}
-use Rattle.pt_parameter.specs.PortNames.{names_port_of}
-use Rattle.pt_parameter.specs.Given.{IsInScope, HasNameOutside}
-use Rattle.pt_parameter.specs.Texts.{IsTreeFault, names_in}
-use Rattle.pt_parameter.specs.TextFault.{IsTold}
+use Rattle.pt_language.specs.Expr.{tree_of}
+use Rattle.pt_document.specs.declared.code.Code.TheVariants as code
+use Rattle.pt_scopes.specs.Names.{seen_scope}
+use Rattle.pt_scopes.specs.PortNames.{names_port_of}
+use Rattle.pt_scopes.specs.Given.{IsInScope, HasNameOutside}
+use Rattle.pt_scopes.specs.Texts.{IsTreeFault, names_in}
+use Rattle.pt_scopes.specs.TextFault.{IsTold}
 use Rattle.pt_parameter.proofs.Told.{weaker}
-use Rattle.pt_parameter.proofs.NameTests.{outside_told}
+use Rattle.pt_scopes.proofs.NameTests.{outside_told}
 use Rattle.pt_parameter.proofs.giving.tree.Goals as goal
 
 pub returns-in_err-check_names-clause-told : goal.returns-in_err-check_names-clause-told

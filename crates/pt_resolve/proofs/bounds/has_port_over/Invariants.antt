@@ -1,5 +1,5 @@
 use Rattle.std.proofs.Common.{◌≡◌, map, drop}
-use Rattle.pt_moml.specs.View.{port_view}
+use Rattle.pt_document.specs.View.{port_view}
 use Rattle.pt_typing.specs.Least.{assignment}
 use Rattle.pt_resolve.specs.Broken.{has_port_over}
 use Rattle.pt_resolve.proofs.bounds.has_port_over.Given as goal

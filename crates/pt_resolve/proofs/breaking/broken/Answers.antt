@@ -1,5 +1,5 @@
 use Rattle.std.proofs.Common.{◌≡◌, ℕ, None, length, ◌∙◌, arith, Vec, Global}
-use Rattle.pt_graph.specs.declared.net.NetEntity.{NetEntity}
+use Rattle.pt_net.specs.declared.net.NetEntity.{NetEntity}
 use Rattle.pt_typing.specs.Least.{assignment}
 use Rattle.pt_resolve.proofs.CompositeBreaks.{over, over-told, over-broken, general, general-told, general-broken, none-broken}
 use Rattle.pt_resolve.proofs.breaking.broken.Goals as goal

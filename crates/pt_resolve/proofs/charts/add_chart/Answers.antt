@@ -1,7 +1,7 @@
 use Rattle.std.proofs.Common.{map, sym, ap, ◌∙◌}
 use Rattle.std.specs.Prelude.{option_map}
-use Rattle.pt_values.specs.Valued as valued
-use Rattle.pt_values.proofs.Turns.{view-push}
+use Rattle.pt_scopes.specs.Valued as valued
+use Rattle.pt_scopes.proofs.Turns.{view-push}
 use Rattle.pt_resolve.specs.Modals.{added}
 use Rattle.pt_resolve.specs.Views.{chart_view}
 use Rattle.pt_resolve.proofs.RefinementLaws.{class-modal}

@@ -1,7 +1,7 @@
 use Rattle.std.proofs.Common.{◌≡◌, ℕ, Bool, true, false, List, map, sym, ◌∙◌}
-use Rattle.pt_moml.specs.Document.{PortTree}
-use Rattle.pt_moml.specs.View.{port_view}
-use Rattle.pt_graph.specs.Net.{transparent_view}
+use Rattle.pt_document.specs.Document.{PortTree}
+use Rattle.pt_document.specs.View.{port_view}
+use Rattle.pt_net.specs.Net.{transparent_view}
 use Rattle.pt_typing.specs.Least.{assignment}
 use Rattle.pt_resolve.specs.Broken.{has_general, first_such}
 use Rattle.pt_resolve.proofs.CompositeBreaks.{such-here, such-later}

@@ -1,6 +1,6 @@
 use Rattle.std.proofs.Common.{◌≡◌, ℕ, Bool, List, map, drop}
-use Rattle.pt_moml.specs.Document.{PortTree}
-use Rattle.pt_graph.specs.Net.{transparent_view}
+use Rattle.pt_document.specs.Document.{PortTree}
+use Rattle.pt_net.specs.Net.{transparent_view}
 use Rattle.pt_typing.specs.Least.{assignment}
 use Rattle.pt_resolve.specs.Broken.{has_port_over, first_such}
 use Rattle.pt_resolve.proofs.composites.first_over.Given as goal

@@ -1,7 +1,7 @@
 use Rattle.std.proofs.Common.{◌≡◌, map, drop}
 use Rattle.std.specs.List.{list_any}
-use Rattle.pt_graph.specs.Net.{entity_view}
-use Rattle.pt_parameter.specs.Given.{held_view}
+use Rattle.pt_net.specs.Net.{entity_view}
+use Rattle.pt_scopes.specs.Given.{held_view}
 use Rattle.pt_typing.specs.Least.{assignment}
 use Rattle.pt_resolve.specs.Views.{types_at}
 use Rattle.pt_resolve.specs.Broken.{lacks_type}

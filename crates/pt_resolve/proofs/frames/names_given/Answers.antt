@@ -1,8 +1,8 @@
 use Rattle.std.proofs.Common.{map, sym, ap, ◌∙◌}
 use Rattle.std.specs.Prelude.{slice_get, option_map}
 use Rattle.pt_value.specs.Token.{value_of}
-use Rattle.pt_parameter.specs.Names.{held}
-use Rattle.pt_moml.specs.View.{properties_view}
+use Rattle.pt_scopes.specs.Names.{held}
+use Rattle.pt_document.specs.View.{properties_view}
 use Rattle.pt_resolve.specs.Frames.{joined, with_given, no_names, values_held}
 use Rattle.pt_resolve.proofs.Steps.{first-drop}
 use Rattle.pt_resolve.proofs.Parts.{given-more, held-joined}

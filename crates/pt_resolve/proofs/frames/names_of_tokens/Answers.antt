@@ -1,8 +1,8 @@
 use Rattle.std.proofs.Common.{map, sym, ◌∙◌}
 use Rattle.std.specs.Prelude.{option_map}
 use Rattle.pt_value.specs.Token.{value_of}
-use Rattle.pt_parameter.specs.Names.{held}
-use Rattle.pt_moml.specs.View.{properties_view}
+use Rattle.pt_scopes.specs.Names.{held}
+use Rattle.pt_document.specs.View.{properties_view}
 use Rattle.pt_resolve.specs.Frames.{with_given, no_names, some_value}
 use Rattle.pt_resolve.proofs.Parts.{given-more, token-joined}
 use Rattle.pt_resolve.proofs.frames.names_of_tokens.Goals as goal

@@ -1,6 +1,6 @@
 use Rattle.std.proofs.Common.{◌≡◌, ℕ, List, map, drop}
-use Rattle.pt_moml.specs.View.{properties_view}
-use Rattle.pt_parameter.specs.Names.{held}
+use Rattle.pt_document.specs.View.{properties_view}
+use Rattle.pt_scopes.specs.Names.{held}
 use Rattle.pt_resolve.specs.Frames.{with_given, no_names, some_value}
 use Rattle.pt_resolve.proofs.frames.names_of_tokens.Given as goal
 

@@ -1,7 +1,7 @@
 use Rattle.std.proofs.Common.{◌≡◌, ℕ, List, ap, ◌∙◌}
 use Rattle.std.specs.Prelude.{slice_get}
-use Rattle.pt_moml.specs.View.{properties_view}
-use Rattle.pt_parameter.specs.Names.{held}
+use Rattle.pt_document.specs.View.{properties_view}
+use Rattle.pt_scopes.specs.Names.{held}
 use Rattle.pt_resolve.specs.Frames.{with_given, no_names, values_of_tokens, transparent_frames}
 use Rattle.pt_resolve.proofs.Parts.{transparent_frames-more}
 use Rattle.pt_resolve.proofs.frames.transparent_frames.Goals as goal

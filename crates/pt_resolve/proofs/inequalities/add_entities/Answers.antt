@@ -1,8 +1,8 @@
 use Rattle.std.proofs.Common.{map, sym, ◌∙◌}
 use Rattle.std.specs.Prelude.{option_map}
 use Rattle.pt_resolve.proofs.Steps.{first-mapped}
-use Rattle.pt_graph.specs.Net.{entity_view}
-use Rattle.pt_values.specs.Valued as valued
+use Rattle.pt_net.specs.Net.{entity_view}
+use Rattle.pt_scopes.specs.Valued as valued
 use Rattle.pt_resolve.specs.Views.{frames_view}
 use Rattle.pt_resolve.specs.Inequalities.{of_entities}
 use Rattle.pt_resolve.proofs.Parts.{entities-more}

@@ -1,7 +1,7 @@
 use Rattle.std.proofs.Common.{◌≡◌, map, sym, ap, ◌∙◌, rules}
 use Rattle.std.specs.Prelude.{option_map}
 use Rattle.pt_resolve.proofs.Steps.{first-mapped}
-use Rattle.pt_moml.specs.View.{input_view}
+use Rattle.pt_document.specs.View.{input_view}
 use Rattle.pt_resolve.specs.Views.{port_numbers}
 use Rattle.pt_resolve.specs.Inequalities.{supply_view, of_inputs}
 use Rattle.pt_resolve.proofs.Parts.{inputs-more}

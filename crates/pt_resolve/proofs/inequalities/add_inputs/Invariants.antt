@@ -1,6 +1,6 @@
 use Rattle.std.proofs.Common.{◌≡◌, ◌++◌, map, drop}
 use Rattle.pt_typing.specs.Views.{inequality_view}
-use Rattle.pt_moml.specs.View.{input_view}
+use Rattle.pt_document.specs.View.{input_view}
 use Rattle.pt_resolve.specs.Views.{port_numbers}
 use Rattle.pt_resolve.specs.Inequalities.{of_inputs, supply_view}
 use Rattle.pt_resolve.proofs.inequalities.add_inputs.Given as goal

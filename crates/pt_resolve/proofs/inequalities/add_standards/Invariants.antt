@@ -1,6 +1,6 @@
 use Rattle.std.proofs.Common.{◌≡◌, ◌++◌, map, drop}
 use Rattle.pt_typing.specs.Views.{inequality_view}
-use Rattle.pt_moml.specs.View.{properties_view}
+use Rattle.pt_document.specs.View.{properties_view}
 use Rattle.pt_resolve.specs.Rows.{seeding}
 use Rattle.pt_resolve.specs.Inequalities.{of_standards}
 use Rattle.pt_resolve.proofs.inequalities.add_standards.Given as goal

@@ -1,5 +1,5 @@
 use Rattle.std.proofs.Common.{◌≡◌, drop}
-use Rattle.pt_moml.specs.View.{properties_view}
+use Rattle.pt_document.specs.View.{properties_view}
 use Rattle.pt_resolve.specs.Inequalities.{is_given}
 use Rattle.pt_resolve.proofs.inequalities.is_given.Given as goal
 

@@ -1,7 +1,7 @@
 use Rattle.std.proofs.Common.{◌≡◌, map, drop}
 use Rattle.std.specs.Prelude.{option_map}
 use Rattle.pt_value.specs.Token.{value_of}
-use Rattle.pt_types.specs.Datatype.{Unknown}
+use Rattle.pt_datatypes.specs.Datatype.{Unknown}
 use Rattle.pt_types.specs.Ty.{type_of}
 use Rattle.pt_resolve.specs.Inequalities.{joined_with}
 use Rattle.pt_resolve.proofs.inequalities.joined.Given as goal

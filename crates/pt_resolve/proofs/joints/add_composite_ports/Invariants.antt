@@ -1,5 +1,5 @@
 use Rattle.std.proofs.Common.{◌≡◌, ◌++◌, map, take}
-use Rattle.pt_graph.specs.Net.{transparent_view}
+use Rattle.pt_net.specs.Net.{transparent_view}
 use Rattle.pt_resolve.specs.Views.{port_lists}
 use Rattle.pt_resolve.proofs.joints.add_composite_ports.Given as goal
 

@@ -1,5 +1,5 @@
 use Rattle.std.proofs.Common.{◌≡◌, ◌++◌, map, take}
-use Rattle.pt_graph.specs.Net.{entity_view}
+use Rattle.pt_net.specs.Net.{entity_view}
 use Rattle.pt_resolve.specs.Views.{port_lists}
 use Rattle.pt_resolve.proofs.joints.add_entity_ports.Given as goal
 

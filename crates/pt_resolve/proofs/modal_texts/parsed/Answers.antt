@@ -1,5 +1,5 @@
 use Rattle.std.proofs.Common.{◌≡◌, Err}
-use Rattle.pt_expr_text.specs.declared.fault.ParseFault.TheVariants.{Syntax}
+use Rattle.pt_language.specs.declared.parse_fault.ParseFault.TheVariants.{Syntax}
 use Rattle.pt_resolve.proofs.modal_texts.parsed.Goals as goal
 
 pub returns-in-Ok : goal.returns-in-Ok

@@ -1,6 +1,6 @@
 use Rattle.std.proofs.Common.{◌+◌, List, map, take, sym, subst}
 use Rattle.std.specs.List.{AllZip}
-use Rattle.pt_values.proofs.Pushed.{zip-next}
+use Rattle.pt_scopes.proofs.Pushed.{zip-next}
 use Rattle.pt_resolve.specs.declared.modal_texts.ActionTree.{ActionTree}
 use Rattle.pt_resolve.specs.Modals.{IsOutputRead}
 use Rattle.pt_resolve.specs.Views.{scope_view, action_view}

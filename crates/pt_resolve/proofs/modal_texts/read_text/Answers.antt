@@ -1,7 +1,7 @@
 use Rattle.std.proofs.Common.{subst}
 use Rattle.std.specs.Prelude.{option_map}
 use Rattle.std.proofs.lemmas.Result.{IfOk-weaker}
-use Rattle.pt_expr.specs.Expr.{tree_of}
+use Rattle.pt_language.specs.Expr.{tree_of}
 use Rattle.pt_resolve.specs.Modals.{IsParsedAs}
 use Rattle.pt_resolve.specs.Views.{scope_view}
 use Rattle.pt_resolve.proofs.ChartLaws.{read-in}

@@ -1,7 +1,7 @@
 use Rattle.std.proofs.Common.{◌+◌, List, map, take, sym, subst}
 use Rattle.std.specs.List.{AllZip}
-use Rattle.pt_moml.specs.View.{transition_view}
-use Rattle.pt_values.proofs.Pushed.{zip-more}
+use Rattle.pt_document.specs.View.{transition_view}
+use Rattle.pt_scopes.proofs.Pushed.{zip-more}
 use Rattle.pt_resolve.specs.declared.modal_texts.TransitionTrees.{TransitionTrees}
 use Rattle.pt_resolve.specs.Modals.{IsTransitionRead}
 use Rattle.pt_resolve.specs.Views.{scope_view, transition_trees}

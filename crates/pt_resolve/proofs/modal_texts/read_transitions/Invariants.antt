@@ -1,6 +1,6 @@
 use Rattle.std.proofs.Common.{take, map}
 use Rattle.std.specs.List.{AllZip}
-use Rattle.pt_moml.specs.View.{transition_view}
+use Rattle.pt_document.specs.View.{transition_view}
 use Rattle.pt_resolve.specs.Modals.{IsTransitionRead}
 use Rattle.pt_resolve.specs.Views.{scope_view, transition_trees}
 use Rattle.pt_resolve.proofs.modal_texts.read_transitions.Given as goal

@@ -1,6 +1,6 @@
 use Rattle.std.proofs.Common.{length, map, sym, subst}
-use Rattle.pt_graph.specs.Net.{entity_view}
-use Rattle.pt_values.specs.Valued as valued
+use Rattle.pt_net.specs.Net.{entity_view}
+use Rattle.pt_scopes.specs.Valued as valued
 use Rattle.pt_resolve.specs.Frames.{frames_of}
 use Rattle.pt_resolve.specs.Modals.{AreCharts}
 use Rattle.pt_resolve.specs.Views.{chart_view}

@@ -1,6 +1,6 @@
 use Rattle.std.proofs.Common.{map, subst}
 use Rattle.std.proofs.lemmas.Result.{IfOk-weaker}
-use Rattle.pt_moml.specs.View.{transition_view}
+use Rattle.pt_document.specs.View.{transition_view}
 use Rattle.pt_resolve.specs.Readable.{texts_of, IsFoundIn}
 use Rattle.pt_resolve.specs.Views.{scope_view}
 use Rattle.pt_resolve.proofs.readable.chart_fault.Goals as goal

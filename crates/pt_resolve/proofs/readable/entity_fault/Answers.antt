@@ -1,8 +1,8 @@
 use Rattle.std.proofs.Common.{sym, ap, ◌∙◌}
 use Rattle.std.specs.Prelude.{option_map}
 use Rattle.std.proofs.lemmas.Result.{IfOk-weaker}
-use Rattle.pt_graph.specs.Net.{entity_view}
-use Rattle.pt_values.specs.Valued as valued
+use Rattle.pt_net.specs.Net.{entity_view}
+use Rattle.pt_scopes.specs.Valued as valued
 use Rattle.pt_resolve.specs.Views.{frames_view}
 use Rattle.pt_resolve.proofs.RefinementLaws.{class-modal}
 use Rattle.pt_resolve.proofs.ReadableLaws.{other-class, no-values, entity-found}

@@ -1,7 +1,7 @@
 use Rattle.std.proofs.Common.{map, sym, subst}
 use Rattle.std.specs.Prelude.{option_map, MatchOption}
-use Rattle.pt_graph.specs.Net.{entity_view}
-use Rattle.pt_values.specs.Valued as valued
+use Rattle.pt_net.specs.Net.{entity_view}
+use Rattle.pt_scopes.specs.Valued as valued
 use Rattle.pt_resolve.specs.Readable.{IsEntityReadable, IsEntityUnreadable}
 use Rattle.pt_resolve.specs.Views.{frames_view}
 use Rattle.pt_resolve.proofs.ChartLaws.{entity-at}

@@ -1,6 +1,6 @@
 use Rattle.std.proofs.Common.{map}
-use Rattle.pt_graph.specs.Net.{entity_view}
-use Rattle.pt_values.specs.Valued as valued
+use Rattle.pt_net.specs.Net.{entity_view}
+use Rattle.pt_scopes.specs.Valued as valued
 use Rattle.pt_resolve.specs.Readable.{AreReadableBelow}
 use Rattle.pt_resolve.specs.Views.{frames_view}
 use Rattle.pt_resolve.proofs.readable.first_unreadable.Given as goal

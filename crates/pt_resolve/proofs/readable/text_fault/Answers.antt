@@ -1,7 +1,7 @@
 use Rattle.std.proofs.Common.{◌≡◌, Err, inl}
 use Rattle.std.proofs.lemmas.Result.{IfOk-weaker}
-use Rattle.pt_expr.specs.Expr.{tree_of}
-use Rattle.pt_expr_text.specs.declared.fault.ParseFault.TheVariants.{Syntax, Deep}
+use Rattle.pt_language.specs.Expr.{tree_of}
+use Rattle.pt_language.specs.declared.parse_fault.ParseFault.TheVariants.{Syntax, Deep}
 use Rattle.pt_resolve.specs.Views.{scope_view}
 use Rattle.pt_resolve.proofs.ReadableLaws.{is-found}
 use Rattle.pt_resolve.proofs.readable.text_fault.Goals as goal

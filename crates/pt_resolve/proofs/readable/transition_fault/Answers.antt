@@ -1,6 +1,6 @@
 use Rattle.std.proofs.Common.{◌++◌, ◌∷◌, [], map, subst}
 use Rattle.std.proofs.lemmas.Result.{IfOk-weaker}
-use Rattle.pt_moml.specs.View.{transition_view}
+use Rattle.pt_document.specs.View.{transition_view}
 use Rattle.pt_resolve.specs.Readable.{output_text, set_text, IsFoundIn}
 use Rattle.pt_resolve.specs.Views.{scope_view}
 use Rattle.pt_resolve.proofs.ReadableLaws.{first-left, first-right, found-behind}

@@ -1,5 +1,5 @@
 use Rattle.std.proofs.Common.{refl, map, subst}
-use Rattle.pt_moml.specs.View.{transition_view}
+use Rattle.pt_document.specs.View.{transition_view}
 use Rattle.pt_resolve.specs.Readable.{transition_texts, texts_of, IsFoundIn}
 use Rattle.pt_resolve.specs.Views.{scope_view}
 use Rattle.pt_resolve.proofs.ReadableLaws.{from-next, found-here, found-none}

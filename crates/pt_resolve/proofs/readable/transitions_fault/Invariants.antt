@@ -1,5 +1,5 @@
 use Rattle.std.proofs.Common.{map}
-use Rattle.pt_moml.specs.View.{transition_view}
+use Rattle.pt_document.specs.View.{transition_view}
 use Rattle.pt_resolve.specs.Readable.{texts_of}
 use Rattle.pt_resolve.specs.Views.{scope_view}
 use Rattle.pt_resolve.proofs.ReadableLaws.{IsFrom}

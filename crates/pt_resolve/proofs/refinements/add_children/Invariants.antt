@@ -1,6 +1,6 @@
 use Rattle.std.proofs.Common.{◌≡◌, ◌++◌, map, drop}
 use Rattle.pt_typing.specs.Views.{inequality_view}
-use Rattle.pt_graph.specs.Net.{entity_view}
+use Rattle.pt_net.specs.Net.{entity_view}
 use Rattle.pt_resolve.specs.Modals.{of_children}
 use Rattle.pt_resolve.specs.Views.{port_numbers}
 use Rattle.pt_resolve.proofs.refinements.add_children.Given as goal

@@ -1,6 +1,6 @@
 use Rattle.std.proofs.Common.{◌≡◌, ◌++◌, map, drop}
 use Rattle.pt_typing.specs.Views.{inequality_view}
-use Rattle.pt_moml.specs.View.{port_view}
+use Rattle.pt_document.specs.View.{port_view}
 use Rattle.pt_resolve.specs.Modals.{of_refinement}
 use Rattle.pt_resolve.specs.Views.{port_numbers}
 use Rattle.pt_resolve.proofs.refinements.add_refinement.Given as goal

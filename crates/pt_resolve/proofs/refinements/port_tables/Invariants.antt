@@ -1,5 +1,5 @@
 use Rattle.std.proofs.Common.{◌≡◌, map, take}
-use Rattle.pt_graph.specs.Net.{entity_view}
+use Rattle.pt_net.specs.Net.{entity_view}
 use Rattle.pt_resolve.specs.Modals.{modal_ports}
 use Rattle.pt_resolve.specs.Views.{port_numbers}
 use Rattle.pt_resolve.proofs.refinements.port_tables.Given as goal

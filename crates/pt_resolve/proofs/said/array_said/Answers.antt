@@ -1,7 +1,7 @@
 use Rattle.std.proofs.Common.{◌≡◌}
 use Rattle.std.proofs.lemmas.Result.{IfOk-weaker}
 use Rattle.pt_types.specs.declared.ty.Ty.{Ty}
-use Rattle.pt_types.specs.Normal.{array_of}
+use Rattle.pt_datatypes.specs.Normal.{array_of}
 use Rattle.pt_types.specs.Ty.{type_of, written}
 use Rattle.pt_resolve.proofs.SaidTypes.{array_typed}
 use Rattle.pt_resolve.proofs.said.array_said.Goals as goal

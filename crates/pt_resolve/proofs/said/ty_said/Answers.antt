@@ -3,7 +3,7 @@ use Rattle.std.specs.Prelude.{option_map, MatchOption}
 use Rattle.std.proofs.lemmas.Result.{IfOk-weaker}
 use Rattle.pt_types.specs.declared.ty.Ty.{Ty}
 use Rattle.pt_types.specs.Ty.{type_of}
-use Rattle.pt_moml.specs.TypeTexts.{TypeTree, IsTextOf}
+use Rattle.pt_document.specs.TypeTexts.{TypeTree, IsTextOf}
 use Rattle.pt_resolve.specs.SaidWords.{Says, type_in}
 use Rattle.pt_resolve.proofs.SaidTexts.{told}
 use Rattle.pt_resolve.proofs.said.ty_said.Goals as goal

@@ -1,4 +1,4 @@
-use Rattle.pt_moml.proofs.TypeWords.{not_new, is_more}
+use Rattle.pt_document.proofs.TypeWords.{not_new, is_more}
 use Rattle.pt_resolve.proofs.said.with_name.Goals as goal
 
 pub returns-then-not-is_new : goal.returns-then-not-is_new

@@ -1,7 +1,7 @@
 use Rattle.std.proofs.Common.{◌≡◌, map, drop}
 use Rattle.pt_value.specs.Token.{value_of}
 use Rattle.pt_value.specs.Value.{values_of}
-use Rattle.pt_types.specs.Datatype.{Unknown}
+use Rattle.pt_datatypes.specs.Datatype.{Unknown}
 use Rattle.pt_types.specs.Ty.{type_of}
 use Rattle.pt_resolve.specs.Rows.{joined_values}
 use Rattle.pt_resolve.proofs.seeds.joined.Given as goal

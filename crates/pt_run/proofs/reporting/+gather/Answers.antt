@@ -2,7 +2,7 @@ use Rattle.std.proofs.Common.{arith, sym, ap, subst, length, map, ◌∙◌, ◌
 use Rattle.pt_node.specs.declared.node.Node.{out-Node}
 use Rattle.pt_node.specs.Shown.{shown, shown_node, all_of}
 use Rattle.pt_node.specs.View.{outline_of, outlines_of, depth, depths}
-use Rattle.pt_run.specs.Ports.{AreBelow, outputs_below, filled}
+use Rattle.pt_trees.specs.Ports.{AreBelow, outputs_below, filled}
 use Rattle.pt_run.proofs.Gathering.{below-left}
 use Rattle.pt_run.proofs.Walking.{Filling, kid_depth, filling_first, filling_kid, filling_next}
 use Rattle.pt_run.proofs.reporting.+gather.Goals as goal

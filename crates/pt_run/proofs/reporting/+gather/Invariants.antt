@@ -1,6 +1,6 @@
 use Rattle.pt_node.specs.Shown.{shown_node}
 use Rattle.pt_node.specs.View.{outline_of, depth}
-use Rattle.pt_run.specs.Ports.{outputs_in, filled}
+use Rattle.pt_trees.specs.Ports.{outputs_in, filled}
 use Rattle.pt_run.proofs.Walking.{FillingKids}
 use Rattle.pt_run.proofs.reporting.+gather.Given as goal
 

@@ -1,5 +1,5 @@
 use Rattle.std.proofs.Common.{drop}
-use Rattle.pt_run.specs.Ports.{filled}
+use Rattle.pt_trees.specs.Ports.{filled}
 use Rattle.pt_run.proofs.Walking.{Filling}
 use Rattle.pt_run.proofs.reporting.gather_own.Given as goal
 

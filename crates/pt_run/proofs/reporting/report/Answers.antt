@@ -1,6 +1,6 @@
 use Rattle.std.proofs.Common.{ap, ◌∙◌}
 use Rattle.pt_node.specs.Shown.{shown_node}
-use Rattle.pt_run.specs.Ports.{outputs_in, filled}
+use Rattle.pt_trees.specs.Ports.{outputs_in, filled}
 use Rattle.pt_run.proofs.Gathering.{gathered}
 use Rattle.pt_run.proofs.reporting.report.Goals as goal
 

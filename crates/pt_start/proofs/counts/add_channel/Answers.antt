@@ -1,6 +1,6 @@
 use Rattle.std.proofs.Common.{◌≡◌, ℕ, ◌<◌, ◌++◌, ◌∷◌, [], List, length, get_or, set, sym, ap, ◌∙◌, subst, arith}
 use Rattle.std.proofs.lemmas.List.{get_or_default}
-use Rattle.pt_graph.specs.declared.net.Channel.{Channel}
+use Rattle.pt_net.specs.declared.net.Channel.{Channel}
 use Rattle.pt_start.specs.Counts.{one_more, AreCounts}
 use Rattle.pt_start.proofs.CountLaws.{counted, same-lengths, one-more-length}
 use Rattle.pt_start.proofs.counts.add_channel.Goals as goal

@@ -1,6 +1,6 @@
 use Rattle.std.proofs.Common.{ℕ, ◌<◌, List, length, take, sym, subst, ◌∙◌, arith}
 use Rattle.std.proofs.lemmas.List.{take_more}
-use Rattle.pt_graph.specs.declared.net.Channel.{Channel}
+use Rattle.pt_net.specs.declared.net.Channel.{Channel}
 use Rattle.pt_start.specs.Counts.{AreCounts}
 use Rattle.pt_start.proofs.counts.counts_of.Goals as goal
 

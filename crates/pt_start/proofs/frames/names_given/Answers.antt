@@ -1,7 +1,7 @@
 use Rattle.std.proofs.Common.{◌≡◌, ◌+◌, ◌++◌, refl, sym, ap, ap₂, ◌∙◌, drop}
 use Rattle.std.specs.Prelude.{option_map, slice_get}
-use Rattle.pt_moml.specs.Document.{property_name}
-use Rattle.pt_moml.specs.View.{property_view, properties_view}
+use Rattle.pt_document.specs.Document.{property_name}
+use Rattle.pt_document.specs.View.{property_view, properties_view}
 use Rattle.pt_start.specs.Started.{given_tokens}
 use Rattle.pt_start.specs.Frames.{with_token, token_in}
 use Rattle.pt_start.proofs.Tokens.{given-step, put-some}

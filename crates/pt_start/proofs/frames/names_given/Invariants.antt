@@ -1,6 +1,6 @@
 use Rattle.std.proofs.Common.{◌≡◌, ℕ, ◌++◌, List, drop}
 use Rattle.pt_value.specs.declared.token.Token.{Token}
-use Rattle.pt_moml.specs.View.{properties_view}
+use Rattle.pt_document.specs.View.{properties_view}
 use Rattle.pt_start.specs.Started.{given_tokens}
 use Rattle.pt_start.specs.Frames.{Hold}
 use Rattle.pt_start.proofs.frames.names_given.Given as goal

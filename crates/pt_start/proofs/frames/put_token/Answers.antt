@@ -3,7 +3,7 @@ use Rattle.std.specs.Prelude.{Option, option_map}
 use Rattle.std.specs.Str.{bytes_eq}
 use Rattle.pt_value.specs.declared.token.Token.{Token}
 use Rattle.pt_value.specs.Token.{value_of}
-use Rattle.pt_parameter.specs.Names.{held}
+use Rattle.pt_scopes.specs.Names.{held}
 use Rattle.pt_start.specs.Frames.{Hold, with_token}
 use Rattle.pt_start.proofs.Behind.{hold-more}
 use Rattle.pt_start.proofs.frames.put_token.Goals as goal

@@ -1,6 +1,6 @@
 use Rattle.std.proofs.Common.{◌≡◌, ◌+◌, ◌++◌, ap, ◌∙◌, drop}
 use Rattle.std.specs.Prelude.{slice_get}
-use Rattle.pt_moml.specs.View.{property_view, properties_view}
+use Rattle.pt_document.specs.View.{property_view, properties_view}
 use Rattle.pt_start.specs.Started.{own_tokens}
 use Rattle.pt_start.specs.Own.{own_token}
 use Rattle.pt_start.proofs.Loops.{get-is}

@@ -1,5 +1,5 @@
 use Rattle.std.proofs.Common.{◌≡◌, ◌++◌, drop}
-use Rattle.pt_moml.specs.View.{properties_view}
+use Rattle.pt_document.specs.View.{properties_view}
 use Rattle.pt_start.specs.Started.{own_tokens}
 use Rattle.pt_start.proofs.given.own_tokens.Given as goal
 

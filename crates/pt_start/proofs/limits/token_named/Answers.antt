@@ -1,7 +1,7 @@
 use Rattle.std.proofs.Common.{◌≡◌, true, false, sym, ◌∙◌}
 use Rattle.std.specs.Str.{bytes_eq}
-use Rattle.pt_moml.specs.Document.{property_name}
-use Rattle.pt_moml.specs.View.{property_view}
+use Rattle.pt_document.specs.Document.{property_name}
+use Rattle.pt_document.specs.View.{property_view}
 use Rattle.pt_start.proofs.NamedTokens.{named-step}
 use Rattle.pt_start.proofs.limits.token_named.Goals as goal
 

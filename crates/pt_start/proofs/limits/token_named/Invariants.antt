@@ -1,5 +1,5 @@
 use Rattle.std.proofs.Common.{◌≡◌, drop}
-use Rattle.pt_moml.specs.View.{properties_view}
+use Rattle.pt_document.specs.View.{properties_view}
 use Rattle.pt_start.specs.Places.{token_named}
 use Rattle.pt_start.proofs.limits.token_named.Given as goal
 

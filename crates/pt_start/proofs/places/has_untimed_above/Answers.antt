@@ -1,7 +1,7 @@
 use Rattle.std.proofs.Common.{◌≡◌, ℕ, ◌+◌, ◌<◌, Some, true, false, sym, ap, subst, ◌∙◌}
 use Rattle.std.specs.Prelude.{Option, slice_get}
-use Rattle.pt_graph.specs.Net.{entity_view}
-use Rattle.pt_values.specs.Scopes.{net_view}
+use Rattle.pt_net.specs.Net.{entity_view}
+use Rattle.pt_scopes.specs.Scopes.{net_view}
 use Rattle.pt_start.specs.Places.{director_of, is_untimed, HasUntimedAbove, here}
 use Rattle.pt_start.specs.Seen.{number_or_none}
 use Rattle.pt_start.proofs.Loops.{get-is}

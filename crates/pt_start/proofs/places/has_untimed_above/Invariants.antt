@@ -1,4 +1,4 @@
-use Rattle.pt_values.specs.Scopes.{net_view}
+use Rattle.pt_scopes.specs.Scopes.{net_view}
 use Rattle.pt_start.specs.Places.{HasUntimedAbove}
 use Rattle.pt_start.specs.Seen.{number_or_none}
 use Rattle.pt_start.proofs.places.has_untimed_above.Given as goal

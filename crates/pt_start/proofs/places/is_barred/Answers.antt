@@ -1,7 +1,7 @@
 use Rattle.std.proofs.Common.{◌≡◌, Some, sym, ap, ◌∙◌}
-use Rattle.pt_moml.specs.Classes.{class_of, class_row}
-use Rattle.pt_graph.specs.Net.{entity_view}
-use Rattle.pt_values.specs.Scopes.{net_view}
+use Rattle.pt_document.specs.Classes.{class_of, class_row}
+use Rattle.pt_net.specs.Net.{entity_view}
+use Rattle.pt_scopes.specs.Scopes.{net_view}
 use Rattle.pt_start.specs.Places.{director_over}
 use Rattle.pt_start.proofs.PlaceLaws.{barred-yes, barred-no}
 use Rattle.pt_start.proofs.places.is_barred.Goals as goal

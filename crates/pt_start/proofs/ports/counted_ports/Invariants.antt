@@ -1,6 +1,6 @@
 use Rattle.std.proofs.Common.{◌≡◌, ◌++◌, drop, map}
 use Rattle.std.specs.List.{enumerate_from}
-use Rattle.pt_moml.specs.View.{port_view}
+use Rattle.pt_document.specs.View.{port_view}
 use Rattle.pt_start.specs.Counts.{port_with}
 use Rattle.pt_start.proofs.ports.counted_ports.Given as goal
 

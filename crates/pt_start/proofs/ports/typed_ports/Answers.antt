@@ -1,8 +1,8 @@
 use Rattle.std.proofs.Common.{◌≡◌, ◌+◌, ◌++◌, ap, ◌∙◌, drop, map}
 use Rattle.std.specs.Prelude.{option_map, slice_get}
 use Rattle.pt_types.specs.Ty.{type_of}
-use Rattle.pt_moml.specs.View.{port_view}
-use Rattle.pt_expr_type.specs.Entry.{typed_entry}
+use Rattle.pt_document.specs.View.{port_view}
+use Rattle.pt_types.specs.Entry.{typed_entry}
 use Rattle.pt_start.specs.PortTypes.{named_types, with_type}
 use Rattle.pt_start.proofs.Loops.{get-is}
 use Rattle.pt_start.proofs.Tokens.{put-some}

@@ -1,7 +1,7 @@
 use Rattle.std.proofs.Common.{◌≡◌, ◌++◌, drop, map}
 use Rattle.pt_types.specs.Ty.{type_of}
-use Rattle.pt_moml.specs.View.{port_view}
-use Rattle.pt_expr_type.specs.Entry.{typed_entry}
+use Rattle.pt_document.specs.View.{port_view}
+use Rattle.pt_types.specs.Entry.{typed_entry}
 use Rattle.pt_start.specs.PortTypes.{named_types}
 use Rattle.pt_start.proofs.ports.typed_ports.Given as goal
 

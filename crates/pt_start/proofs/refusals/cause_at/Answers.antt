@@ -1,6 +1,6 @@
 use Rattle.std.proofs.Common.{◌≡◌, false, sym, ◌∙◌}
-use Rattle.pt_graph.specs.Net.{entity_view}
-use Rattle.pt_values.specs.Scopes.{net_view}
+use Rattle.pt_net.specs.Net.{entity_view}
+use Rattle.pt_scopes.specs.Scopes.{net_view}
 use Rattle.pt_start.specs.Misplaced.{is_undirected_top, is_limited_under_sdf, undirected, barred, limited, timed}
 use Rattle.pt_start.proofs.Misplacing.{none-there}
 use Rattle.pt_start.proofs.refusals.cause_at.Goals as goal

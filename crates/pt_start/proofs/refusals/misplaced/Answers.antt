@@ -1,6 +1,6 @@
 use Rattle.std.proofs.Common.{refl}
-use Rattle.pt_graph.specs.Net.{entity_view}
-use Rattle.pt_values.specs.Scopes.{net_view}
+use Rattle.pt_net.specs.Net.{entity_view}
+use Rattle.pt_scopes.specs.Scopes.{net_view}
 use Rattle.pt_start.proofs.Misplacing.{entity-at, one-more, none-misplaced}
 use Rattle.pt_start.proofs.refusals.misplaced.Goals as goal
 

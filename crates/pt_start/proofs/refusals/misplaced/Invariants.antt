@@ -1,8 +1,8 @@
 use Rattle.std.proofs.Common.{◌≡◌, ℕ, ◌<◌, Some}
 use Rattle.std.specs.List.{slice_get}
-use Rattle.pt_moml.specs.declared.code.Code.{Code}
-use Rattle.pt_graph.specs.Net.{NetEntityTree}
-use Rattle.pt_values.specs.Scopes.{net_view}
+use Rattle.pt_document.specs.declared.code.Code.{Code}
+use Rattle.pt_net.specs.Net.{NetEntityTree}
+use Rattle.pt_scopes.specs.Scopes.{net_view}
 use Rattle.pt_start.specs.Misplaced.{IsRefusedThere}
 use Rattle.pt_start.proofs.refusals.misplaced.Given as goal
 

@@ -1,4 +1,4 @@
-use Rattle.pt_moml.specs.View.{job_view}
+use Rattle.pt_document.specs.View.{job_view}
 use Rattle.pt_top.proofs.AnswerLaws.{job-answers, never-refused}
 use Rattle.pt_top.proofs.answer.answer.Goals as goal
 

@@ -1,5 +1,5 @@
 use Rattle.std.proofs.Common.{subst}
-use Rattle.pt_model.specs.Refused.{FaultStands}
+use Rattle.pt_elaboration.specs.Refused.{FaultStands}
 use Rattle.pt_top.proofs.ReportLaws.{refusal-answers}
 use Rattle.pt_top.proofs.report.reply_to_net.Goals as goal
 

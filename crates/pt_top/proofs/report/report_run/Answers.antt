@@ -1,6 +1,6 @@
 use Rattle.std.proofs.Common.{◌≡◌, length, sym, subst, ◌∙◌}
 use Rattle.pt_node.specs.Shown.{shown_node}
-use Rattle.pt_run.specs.Ports.{AreNumbered}
+use Rattle.pt_trees.specs.Ports.{AreNumbered}
 use Rattle.pt_top.proofs.ReportLaws.{same-text}
 use Rattle.pt_top.proofs.report.report_run.Goals as goal
 

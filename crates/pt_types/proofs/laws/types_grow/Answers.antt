@@ -1,5 +1,5 @@
-use Rattle.pt_types.specs.Datatype.{Array, Record}
-use Rattle.pt_types.proofs.Joins.{normal-below, join-below}
+use Rattle.pt_datatypes.specs.Datatype.{Array, Record}
+use Rattle.pt_datatypes.proofs.Joins.{normal-below, join-below}
 use Rattle.pt_types.proofs.laws.types_grow.Goals as goal
 
 pub returns : goal.returns

@@ -1,5 +1,5 @@
 use Rattle.std.proofs.Common.{◌≡◌, length, map}
-use Rattle.pt_types.specs.Rules.{IsReached}
+use Rattle.pt_datatypes.specs.Rules.{IsReached}
 use Rattle.pt_types.specs.Ty.{type_of}
 use Rattle.pt_types.proofs.Solutions.{Round}
 use Rattle.pt_types.proofs.rules.raise_all.Given as goal

@@ -1,6 +1,6 @@
 use Rattle.std.proofs.Common.{◌≡◌, ◌+◌, ◌*◌, ◌≤◌, length, map}
-use Rattle.pt_types.specs.Rank.{room}
-use Rattle.pt_types.specs.Rules.{IsReached}
+use Rattle.pt_datatypes.specs.Rank.{room}
+use Rattle.pt_datatypes.specs.Rules.{IsReached}
 use Rattle.pt_types.specs.Ty.{type_of}
 use Rattle.pt_types.proofs.rules.spread.Given as goal
 

@@ -2,7 +2,7 @@ use Rattle.std.proofs.Common.{◌≡◌, ◌+◌, ◌++◌, [], ◌∷◌, refl,
 use Rattle.std.proofs.lemmas.List.{length_push}
 use Rattle.std.proofs.lemmas.List.Elements.{All-push}
 use Rattle.pt_types.specs.declared.ty.Ty.TheVariants as ty
-use Rattle.pt_types.specs.Datatype.{Unknown}
+use Rattle.pt_datatypes.specs.Datatype.{Unknown}
 use Rattle.pt_types.specs.Ty.{type_of}
 use Rattle.pt_types.proofs.rules.unknowns.Goals as goal
 

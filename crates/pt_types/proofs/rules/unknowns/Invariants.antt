@@ -1,5 +1,5 @@
 use Rattle.std.proofs.Common.{◌≡◌, length, All}
-use Rattle.pt_types.specs.Datatype.{Unknown}
+use Rattle.pt_datatypes.specs.Datatype.{Unknown}
 use Rattle.pt_types.specs.Ty.{type_of}
 use Rattle.pt_types.proofs.rules.unknowns.Given as goal
 

@@ -2,9 +2,9 @@ use Rattle.std.proofs.Common.{◌≡◌, ◌≤◌, ◌<◌, ◌+◌, ◌-◌, l
 use Rattle.pt_value.specs.Value.{values_of}
 use Rattle.pt_value.specs.Token.{value_of}
 use Rattle.pt_value.specs.declared.token.Token.{Token}
-use Rattle.pt_types.specs.Datatype.{types_of}
-use Rattle.pt_types.specs.Normal.{record_of}
-use Rattle.pt_types.specs.Token.{type_of_value, join_of, typed_fields}
+use Rattle.pt_datatypes.specs.Datatype.{types_of}
+use Rattle.pt_datatypes.specs.Normal.{record_of}
+use Rattle.pt_datatypes.specs.Token.{type_of_value, join_of, typed_fields}
 use Rattle.pt_types.proofs.TokenTypes.{height-item, height-held, join-next, typed-lawful, typed-types, all-taken}
 use Rattle.pt_types.proofs.token.+token_types.Goals as goal
 

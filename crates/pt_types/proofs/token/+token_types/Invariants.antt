@@ -2,7 +2,7 @@ use Rattle.std.proofs.Common.{◌≡◌, ◌≤◌, ◌+◌, ◌*◌, drop, take
 use Rattle.pt_value.specs.Value.{height, height_of_values, height_of_named, values_of, named_of}
 use Rattle.pt_value.specs.Token as held
 use Rattle.pt_value.specs.Token.{value_of}
-use Rattle.pt_types.specs.Token.{join_of, typed_fields}
+use Rattle.pt_datatypes.specs.Token.{join_of, typed_fields}
 use Rattle.pt_types.specs.Ty.{written, entry_of}
 use Rattle.pt_types.proofs.token.+token_types.Given as goal
 

@@ -4,12 +4,12 @@ use Rattle.pt_value.specs.Value.{named_of, values_of}
 use Rattle.pt_value.specs.declared.token.Token.{Token}
 use Rattle.pt_value.specs.Token.{value_of}
 use Rattle.pt_types.specs.declared.ty.Ty.{Ty}
-use Rattle.pt_types.specs.Datatype.{Array, Record, types_of}
-use Rattle.pt_types.specs.Normal.{is_proper}
-use Rattle.pt_types.specs.Order.{is_below, are_below}
-use Rattle.pt_types.specs.Token.{type_of_value, field_types}
+use Rattle.pt_datatypes.specs.Datatype.{Array, Record, types_of}
+use Rattle.pt_datatypes.specs.Normal.{is_proper}
+use Rattle.pt_datatypes.specs.Order.{is_below, are_below}
+use Rattle.pt_datatypes.specs.Token.{type_of_value, field_types}
 use Rattle.pt_types.specs.Ty.{written}
-use Rattle.pt_types.proofs.Parts.{element-proper}
+use Rattle.pt_datatypes.proofs.Parts.{element-proper}
 use Rattle.pt_types.proofs.TokenTypes.{height-item, height-held, array-within, record-within, proper-field, fields-apart}
 use Rattle.pt_types.proofs.token.+withins.Goals as goal
 

@@ -2,9 +2,9 @@ use Rattle.std.proofs.Common.{◌≡◌, ◌+◌, ◌*◌, drop, map}
 use Rattle.pt_value.specs.Value.{height, height_of_values, height_of_named, values_of, named_of}
 use Rattle.pt_value.specs.Token as held
 use Rattle.pt_value.specs.Token.{value_of}
-use Rattle.pt_types.specs.Datatype.{types_of}
-use Rattle.pt_types.specs.Order.{are_below}
-use Rattle.pt_types.specs.Token.{each_below, field_types}
+use Rattle.pt_datatypes.specs.Datatype.{types_of}
+use Rattle.pt_datatypes.specs.Order.{are_below}
+use Rattle.pt_datatypes.specs.Token.{each_below, field_types}
 use Rattle.pt_types.specs.Ty.{written, entry_of}
 use Rattle.pt_types.proofs.token.+withins.Given as goal
 

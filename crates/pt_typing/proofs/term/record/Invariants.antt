@@ -1,6 +1,6 @@
 use Rattle.std.proofs.Common.{◌≡◌, map, take}
 use Rattle.pt_types.specs.Ty as ty
-use Rattle.pt_expr_type.specs.Entry.{typed_entry}
+use Rattle.pt_types.specs.Entry.{typed_entry}
 use Rattle.pt_typing.specs.Terms.{entry_in}
 use Rattle.pt_typing.specs.Views.{assigned}
 use Rattle.pt_typing.proofs.term.record.Given as goal

@@ -1,6 +1,6 @@
 use Rattle.std.proofs.Common.{◌<◌, suc, List, All, map, sym, subst}
 use Rattle.pt_types.specs.Ty as ty
-use Rattle.pt_types.specs.Rules.{IsLeastSolution}
+use Rattle.pt_datatypes.specs.Rules.{IsLeastSolution}
 use Rattle.pt_typing.specs.declared.rule.Bound.{Bound}
 use Rattle.pt_typing.specs.Views.{bound_meaning}
 use Rattle.pt_typing.proofs.Solved.{target_of, targets-short, is-least}

@@ -1,16 +1,16 @@
 use Rattle.std.proofs.Common.{◌+◌, List, take, sym, subst, map, rules}
 use Rattle.std.specs.List.{AllZip}
-use Rattle.pt_moml.specs.Document.{PropertyTree}
-use Rattle.pt_moml.specs.View.{property_view, properties_view}
-use Rattle.pt_parameter.specs.declared.parameter_value.ParameterValue.{ParameterValue}
-use Rattle.pt_parameter.specs.Given.{held_view}
-use Rattle.pt_parameter.specs.Names.{seen_scope}
-use Rattle.pt_parameter.specs.PortNames.{names_port_of}
-use Rattle.pt_values.specs.Sites.{director_form}
-use Rattle.pt_values.specs.Told.{IsToldAt}
-use Rattle.pt_values.specs.ClassParameters.{IsParameterOf, IsFaultAmong}
-use Rattle.pt_values.proofs.Turns.{view-all}
-use Rattle.pt_values.proofs.Pushed.{given-more, given-fault}
+use Rattle.pt_document.specs.Document.{PropertyTree}
+use Rattle.pt_document.specs.View.{property_view, properties_view}
+use Rattle.pt_scopes.specs.declared.parameter_value.ParameterValue.{ParameterValue}
+use Rattle.pt_scopes.specs.Given.{held_view}
+use Rattle.pt_scopes.specs.Names.{seen_scope}
+use Rattle.pt_scopes.specs.PortNames.{names_port_of}
+use Rattle.pt_scopes.specs.Sites.{director_form}
+use Rattle.pt_scopes.specs.Told.{IsToldAt}
+use Rattle.pt_scopes.specs.ClassParameters.{IsParameterOf, IsFaultAmong}
+use Rattle.pt_scopes.proofs.Turns.{view-all}
+use Rattle.pt_scopes.proofs.Pushed.{given-more, given-fault}
 use Rattle.pt_values.proofs.classes.each_given.Goals as goal
 
 pub loop-property-preserved : goal.loop-property-preserved

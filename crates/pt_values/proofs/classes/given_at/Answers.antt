@@ -1,7 +1,7 @@
-use Rattle.pt_parameter.specs.Names.{seen_scope}
-use Rattle.pt_parameter.specs.PortNames.{names_port_of}
-use Rattle.pt_parameter.specs.Given.{IsGivenFault}
-use Rattle.pt_values.proofs.Turns.{told_at}
+use Rattle.pt_scopes.specs.Names.{seen_scope}
+use Rattle.pt_scopes.specs.PortNames.{names_port_of}
+use Rattle.pt_scopes.specs.Given.{IsGivenFault}
+use Rattle.pt_scopes.proofs.Turns.{told_at}
 use Rattle.pt_values.proofs.classes.given_at.Goals as goal
 
 pub returns-in-Err-clause-told : goal.returns-in-Err-clause-told

@@ -1,7 +1,7 @@
 use Rattle.std.proofs.Common.{[], subst, IfErr}
-use Rattle.pt_expr.specs.Scope.{Scope}
-use Rattle.pt_parameter.specs.Texts.{IsTextFault}
-use Rattle.pt_values.specs.Told.{IsToldAt}
+use Rattle.pt_language.specs.Scope.{Scope}
+use Rattle.pt_scopes.specs.Texts.{IsTextFault}
+use Rattle.pt_scopes.specs.Told.{IsToldAt}
 use Rattle.pt_values.proofs.EntityParts.{no-own}
 use Rattle.pt_values.proofs.constants.constant_at.Goals as goal
 

@@ -1,7 +1,7 @@
 use Rattle.std.proofs.Common.{◌≡◌, [], ◌∷◌, Some, sym, rules}
-use Rattle.pt_moml.specs.View.{port_view}
-use Rattle.pt_values.specs.Sites.{rate_of}
-use Rattle.pt_values.specs.Told.{IsToldAt, IsRateFault}
+use Rattle.pt_document.specs.View.{port_view}
+use Rattle.pt_scopes.specs.Sites.{rate_of}
+use Rattle.pt_scopes.specs.Told.{IsToldAt, IsRateFault}
 use Rattle.pt_values.proofs.Unseen.{rate-told}
 use Rattle.pt_values.proofs.constants.rate.Goals as goal
 

@@ -1,7 +1,7 @@
 use Rattle.std.proofs.Common.{◌≡◌, false, sym, ◌∙◌}
 use Rattle.pt_value.specs.Token.{value_of}
-use Rattle.pt_parameter.specs.declared.tables.TheConstants.{RATE}
-use Rattle.pt_parameter.specs.Forms.{fits}
+use Rattle.pt_scopes.specs.declared.tables.TheConstants.{RATE}
+use Rattle.pt_scopes.specs.Forms.{fits}
 use Rattle.pt_values.proofs.Unseen.{misfit-told}
 use Rattle.pt_values.proofs.constants.rate_at.Goals as goal
 

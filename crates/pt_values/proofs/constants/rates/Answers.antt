@@ -3,9 +3,9 @@ use Rattle.std.specs.Prelude.{option_map, Option}
 use Rattle.std.specs.List.{AllZip}
 use Rattle.pt_value.specs.declared.token.Token.{Token}
 use Rattle.pt_value.specs.Token.{value_of}
-use Rattle.pt_moml.specs.View.{port_view}
-use Rattle.pt_values.specs.Valued.{IsRate}
-use Rattle.pt_values.proofs.Pushed.{zip-more}
+use Rattle.pt_document.specs.View.{port_view}
+use Rattle.pt_scopes.specs.Valued.{IsRate}
+use Rattle.pt_scopes.proofs.Pushed.{zip-more}
 use Rattle.pt_values.proofs.constants.rates.Goals as goal
 
 pub loop-port-preserved : goal.loop-port-preserved

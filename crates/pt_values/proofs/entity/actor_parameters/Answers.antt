@@ -1,14 +1,14 @@
 use Rattle.std.proofs.Common.{ℕ, List, map, None, subst, IfOk, IfErr}
 use Rattle.std.specs.Prelude.{Bool}
-use Rattle.pt_moml.specs.declared.job.Property.{Property}
-use Rattle.pt_moml.specs.View.{properties_view}
-use Rattle.pt_expr.specs.Scope.{Scope}
-use Rattle.pt_parameter.specs.Given.{held_view, names_port}
-use Rattle.pt_parameter.specs.PortNames.{names_port_of}
-use Rattle.pt_graph.specs.Net.{entity_view}
-use Rattle.pt_values.specs.Sites.{inputs_of}
-use Rattle.pt_values.specs.ClassParameters.{AreParametersOf, IsClassFault}
-use Rattle.pt_values.specs.Told.{IsToldAt, chain_scope}
+use Rattle.pt_document.specs.declared.job.Property.{Property}
+use Rattle.pt_document.specs.View.{properties_view}
+use Rattle.pt_language.specs.Scope.{Scope}
+use Rattle.pt_scopes.specs.Given.{held_view, names_port}
+use Rattle.pt_scopes.specs.PortNames.{names_port_of}
+use Rattle.pt_net.specs.Net.{entity_view}
+use Rattle.pt_scopes.specs.Sites.{inputs_of}
+use Rattle.pt_scopes.specs.ClassParameters.{AreParametersOf, IsClassFault}
+use Rattle.pt_scopes.specs.Told.{IsToldAt, chain_scope}
 use Rattle.pt_values.proofs.EntityParts.{no-own}
 use Rattle.pt_values.proofs.entity.actor_parameters.Goals as goal
 

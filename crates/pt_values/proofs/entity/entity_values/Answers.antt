@@ -3,16 +3,16 @@ use Rattle.std.specs.Prelude.{option_map}
 use Rattle.std.specs.List.{AllZip}
 use Rattle.std.proofs.lemmas.Result.{IfErr-weaker}
 use Rattle.pt_value.specs.Token.{value_of}
-use Rattle.pt_moml.specs.declared.job.Property.{Property}
-use Rattle.pt_moml.specs.declared.job.Port.{Port}
-use Rattle.pt_moml.specs.declared.refusal.DocFault.{DocFault}
-use Rattle.pt_moml.specs.View.{properties_view, port_view}
-use Rattle.pt_expr.specs.Scope.{Scope}
-use Rattle.pt_graph.specs.Net as nets
-use Rattle.pt_parameter.specs.Names.{held, or_else, in_chain}
-use Rattle.pt_parameter.specs.Given.{held_view}
-use Rattle.pt_values.specs.Valued.{entity_view, IsVariable, IsRate}
-use Rattle.pt_values.specs.Told.{IsToldAt, IsVariableFault, IsRateFault, IsRest, IsFaultWhere}
+use Rattle.pt_document.specs.declared.job.Property.{Property}
+use Rattle.pt_document.specs.declared.job.Port.{Port}
+use Rattle.pt_document.specs.declared.refusal.DocFault.{DocFault}
+use Rattle.pt_document.specs.View.{properties_view, port_view}
+use Rattle.pt_language.specs.Scope.{Scope}
+use Rattle.pt_net.specs.Net as nets
+use Rattle.pt_scopes.specs.Names.{held, or_else, in_chain}
+use Rattle.pt_scopes.specs.Given.{held_view}
+use Rattle.pt_scopes.specs.Valued.{entity_view, IsVariable, IsRate}
+use Rattle.pt_scopes.specs.Told.{IsToldAt, IsVariableFault, IsRateFault, IsRest, IsFaultWhere}
 use Rattle.pt_values.proofs.EntityParts.{director-told, variable-told, rate-told, entity-valued}
 use Rattle.pt_values.proofs.entity.entity_values.Goals as goal
 

@@ -1,7 +1,7 @@
 use Rattle.std.proofs.Common.{◌≡◌, ◌++◌, map}
 use Rattle.std.specs.Vec.Iter.{into_iter_items}
 use Rattle.pt_value.specs.Token.{value_of}
-use Rattle.pt_parameter.specs.Given.{Token, held_view}
+use Rattle.pt_scopes.specs.Given.{Token, held_view}
 use Rattle.pt_values.proofs.entity.held.Given as goal
 
 abbrev pub invariant-loop-token : goal.invariant-loop-token

@@ -1,14 +1,14 @@
 use Rattle.std.proofs.Common.{◌≡◌, ℕ, ◌+◌, ◌<◌, ◌≤◌, ◌++◌, List, [], ◌∷◌, length, get_or, map, take, true, sym, ap, subst, ◌∙◌, add-one}
-use Rattle.pt_moml.specs.declared.job.Port.{Port}
+use Rattle.pt_document.specs.declared.job.Port.{Port}
 use Rattle.std.specs.Prelude.{Bool, if◌then◌else◌}
 use Rattle.std.specs.Str.{bytes_eq}
 use Rattle.std.specs.List.{filter}
-use Rattle.pt_moml.specs.Document.{PortTree}
-use Rattle.pt_moml.specs.Names.{is_among}
-use Rattle.pt_moml.specs.View.{port_view}
-use Rattle.pt_parameter.specs.PortNames.{has_port}
-use Rattle.pt_values.specs.Sites.{is_input_port, port_name}
-use Rattle.pt_values.proofs.Turns.{view-take, view-all}
+use Rattle.pt_document.specs.Document.{PortTree}
+use Rattle.pt_document.specs.Names.{is_among}
+use Rattle.pt_document.specs.View.{port_view}
+use Rattle.pt_scopes.specs.PortNames.{has_port}
+use Rattle.pt_scopes.specs.Sites.{is_input_port, port_name}
+use Rattle.pt_scopes.proofs.Turns.{view-take, view-all}
 use Rattle.pt_values.proofs.EntityParts.{names-same, among-more}
 use Rattle.pt_values.proofs.entity.inputs_of.Goals as goal
 

@@ -1,9 +1,9 @@
 use Rattle.std.proofs.Common.{◌≡◌, ℕ, List, map, take}
 use Rattle.std.specs.List.{filter}
-use Rattle.pt_moml.specs.Names.{is_among}
-use Rattle.pt_moml.specs.View.{port_view}
-use Rattle.pt_parameter.specs.PortNames.{has_port}
-use Rattle.pt_values.specs.Sites.{is_input_port, port_name}
+use Rattle.pt_document.specs.Names.{is_among}
+use Rattle.pt_document.specs.View.{port_view}
+use Rattle.pt_scopes.specs.PortNames.{has_port}
+use Rattle.pt_scopes.specs.Sites.{is_input_port, port_name}
 use Rattle.pt_values.proofs.entity.inputs_of.Given as goal
 
 abbrev pub invariant-loop-port : goal.invariant-loop-port

@@ -1,13 +1,13 @@
 use Rattle.std.proofs.Common.{◌≡◌, ℕ, List, map, true, false, sym, ap, subst, ◌∙◌, IfErr, rules}
 use Rattle.std.proofs.lemmas.Result.{IfErr-weaker}
 use Rattle.pt_value.specs.Token.{value_of}
-use Rattle.pt_moml.specs.declared.job.Property.{Property}
-use Rattle.pt_moml.specs.declared.refusal.DocFault.{DocFault}
-use Rattle.pt_moml.specs.View.{properties_view}
-use Rattle.pt_graph.specs.Net.{entity_view}
-use Rattle.pt_parameter.specs.Given.{held_view}
-use Rattle.pt_values.specs.Scopes.{is_composite_class}
-use Rattle.pt_values.specs.Told.{IsToldAt, IsFaultInTurn, IsTurn, IsFaultWhere}
+use Rattle.pt_document.specs.declared.job.Property.{Property}
+use Rattle.pt_document.specs.declared.refusal.DocFault.{DocFault}
+use Rattle.pt_document.specs.View.{properties_view}
+use Rattle.pt_net.specs.Net.{entity_view}
+use Rattle.pt_scopes.specs.Given.{held_view}
+use Rattle.pt_scopes.specs.Scopes.{is_composite_class}
+use Rattle.pt_scopes.specs.Told.{IsToldAt, IsFaultInTurn, IsTurn, IsFaultWhere}
 use Rattle.pt_values.proofs.EntityParts.{turn-own, class-own, own-told, class-told}
 use Rattle.pt_values.proofs.entity.own_parameters.Goals as goal
 

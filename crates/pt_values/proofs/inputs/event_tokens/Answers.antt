@@ -3,10 +3,10 @@ use Rattle.std.specs.Prelude.{option_map, Option}
 use Rattle.std.specs.List.{AllZip}
 use Rattle.pt_value.specs.declared.token.Token.{Token}
 use Rattle.pt_value.specs.Token.{value_of}
-use Rattle.pt_values.specs.Sites.{event_text}
-use Rattle.pt_values.specs.Valued.{IsSupplied}
-use Rattle.pt_values.specs.Told.{IsToldAt, IsSupplyFault}
-use Rattle.pt_values.proofs.Pushed.{zip-more}
+use Rattle.pt_scopes.specs.Sites.{event_text}
+use Rattle.pt_scopes.specs.Valued.{IsSupplied}
+use Rattle.pt_scopes.specs.Told.{IsToldAt, IsSupplyFault}
+use Rattle.pt_scopes.proofs.Pushed.{zip-more}
 use Rattle.pt_values.proofs.Unseen.{event-told}
 use Rattle.pt_values.proofs.inputs.event_tokens.Goals as goal
 

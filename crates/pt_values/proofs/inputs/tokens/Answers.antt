@@ -3,8 +3,8 @@ use Rattle.std.specs.Prelude.{option_map, Option}
 use Rattle.std.specs.List.{AllZip}
 use Rattle.pt_value.specs.declared.token.Token.{Token}
 use Rattle.pt_value.specs.Token.{value_of}
-use Rattle.pt_values.specs.Valued.{IsSupplied}
-use Rattle.pt_values.proofs.Pushed.{zip-next}
+use Rattle.pt_scopes.specs.Valued.{IsSupplied}
+use Rattle.pt_scopes.proofs.Pushed.{zip-next}
 use Rattle.pt_values.proofs.inputs.tokens.Goals as goal
 
 pub loop-text-preserved : goal.loop-text-preserved

@@ -2,7 +2,7 @@ use Rattle.std.proofs.Common.{take, map}
 use Rattle.std.specs.Prelude.{option_map}
 use Rattle.std.specs.List.{AllZip}
 use Rattle.pt_value.specs.Token.{value_of}
-use Rattle.pt_values.specs.Valued.{IsSupplied}
+use Rattle.pt_scopes.specs.Valued.{IsSupplied}
 use Rattle.pt_values.proofs.inputs.tokens.Given as goal
 
 abbrev pub invariant-loop-text : goal.invariant-loop-text

@@ -3,13 +3,13 @@ use Rattle.std.proofs.lemmas.Result.{IfErr-weaker}
 use Rattle.std.specs.Str.{bytes_eq}
 use Rattle.pt_value.specs.declared.token.Token.{Token}
 use Rattle.pt_value.specs.Token.{value_of}
-use Rattle.pt_moml.specs.declared.refusal.DocFault.{DocFault}
-use Rattle.pt_moml.specs.View.{properties_view}
-use Rattle.pt_parameter.specs.Names.{held}
-use Rattle.pt_values.specs.Scopes.{Bindings}
-use Rattle.pt_values.specs.Frames.{Means}
-use Rattle.pt_values.specs.Told.{IsToldAt, IsFaultInTurn}
-use Rattle.pt_values.proofs.Turns.{turn-first, turn-step, turn-fault, turn-last, view-push}
+use Rattle.pt_document.specs.declared.refusal.DocFault.{DocFault}
+use Rattle.pt_document.specs.View.{properties_view}
+use Rattle.pt_scopes.specs.Names.{held}
+use Rattle.pt_scopes.specs.Scopes.{Bindings}
+use Rattle.pt_scopes.specs.Frames.{Means}
+use Rattle.pt_scopes.specs.Told.{IsToldAt, IsFaultInTurn}
+use Rattle.pt_scopes.proofs.Turns.{turn-first, turn-step, turn-fault, turn-last, view-push}
 use Rattle.pt_values.proofs.parameters.in_turn.Goals as goal
 
 pub loop-property-init : goal.loop-property-init

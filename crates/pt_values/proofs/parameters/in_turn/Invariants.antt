@@ -1,9 +1,9 @@
 use Rattle.std.proofs.Common.{take, map}
 use Rattle.pt_value.specs.Token.{value_of}
-use Rattle.pt_moml.specs.View.{properties_view}
-use Rattle.pt_values.specs.Scopes.{Bindings}
-use Rattle.pt_values.specs.Frames.{Means}
-use Rattle.pt_values.specs.Told.{IsTurn}
+use Rattle.pt_document.specs.View.{properties_view}
+use Rattle.pt_scopes.specs.Scopes.{Bindings}
+use Rattle.pt_scopes.specs.Frames.{Means}
+use Rattle.pt_scopes.specs.Told.{IsTurn}
 use Rattle.pt_values.proofs.parameters.in_turn.Given as goal
 
 abbrev pub invariant-loop-property : goal.invariant-loop-property

@@ -1,6 +1,6 @@
-use Rattle.pt_parameter.specs.Names.{seen_scope}
-use Rattle.pt_parameter.specs.Texts.{IsTextFault}
-use Rattle.pt_values.proofs.Turns.{told_at}
+use Rattle.pt_scopes.specs.Names.{seen_scope}
+use Rattle.pt_scopes.specs.Texts.{IsTextFault}
+use Rattle.pt_scopes.proofs.Turns.{told_at}
 use Rattle.pt_values.proofs.parameters.value_at.Goals as goal
 
 pub returns-in-Err-clause-told : goal.returns-in-Err-clause-told

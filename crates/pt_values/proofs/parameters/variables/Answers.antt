@@ -3,14 +3,14 @@ use Rattle.std.specs.List.{AllZip}
 use Rattle.pt_value.specs.declared.token.Token.{Token}
 use Rattle.pt_value.specs.Value.{Value}
 use Rattle.pt_value.specs.Token.{value_of}
-use Rattle.pt_moml.specs.Document.{PropertyTree}
-use Rattle.pt_moml.specs.View.{property_view, properties_view}
-use Rattle.pt_parameter.specs.Names.{seen_scope}
-use Rattle.pt_parameter.specs.Texts.{HasValue}
-use Rattle.pt_values.specs.Scopes.{text_of}
-use Rattle.pt_values.specs.Told.{IsToldAt, IsVariableFault}
-use Rattle.pt_values.proofs.Turns.{view-all}
-use Rattle.pt_values.proofs.Pushed.{zip-more, variable-fault}
+use Rattle.pt_document.specs.Document.{PropertyTree}
+use Rattle.pt_document.specs.View.{property_view, properties_view}
+use Rattle.pt_scopes.specs.Names.{seen_scope}
+use Rattle.pt_scopes.specs.Texts.{HasValue}
+use Rattle.pt_scopes.specs.Scopes.{text_of}
+use Rattle.pt_scopes.specs.Told.{IsToldAt, IsVariableFault}
+use Rattle.pt_scopes.proofs.Turns.{view-all}
+use Rattle.pt_scopes.proofs.Pushed.{zip-more, variable-fault}
 use Rattle.pt_values.proofs.parameters.variables.Goals as goal
 
 pub loop-property-preserved : goal.loop-property-preserved

@@ -1,10 +1,10 @@
 use Rattle.std.proofs.Common.{take, map}
 use Rattle.std.specs.List.{AllZip}
 use Rattle.pt_value.specs.Token.{value_of}
-use Rattle.pt_moml.specs.View.{properties_view}
-use Rattle.pt_parameter.specs.Names.{seen_scope}
-use Rattle.pt_parameter.specs.Texts.{HasValue}
-use Rattle.pt_values.specs.Scopes.{text_of}
+use Rattle.pt_document.specs.View.{properties_view}
+use Rattle.pt_scopes.specs.Names.{seen_scope}
+use Rattle.pt_scopes.specs.Texts.{HasValue}
+use Rattle.pt_scopes.specs.Scopes.{text_of}
 use Rattle.pt_values.proofs.parameters.variables.Given as goal
 
 abbrev pub invariant-loop-property : goal.invariant-loop-property

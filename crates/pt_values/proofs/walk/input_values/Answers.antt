@@ -6,11 +6,11 @@ use Rattle.std.proofs.lemmas.Result.{IfErr-weaker}
 use Rattle.pt_value.specs.declared.token.Token.{Token}
 use Rattle.pt_value.specs.Value.{Value}
 use Rattle.pt_value.specs.Token.{value_of}
-use Rattle.pt_moml.specs.declared.refusal.DocFault.{DocFault}
-use Rattle.pt_moml.specs.View.{input_view}
-use Rattle.pt_values.specs.Scopes.{NetTree}
-use Rattle.pt_values.specs.Valued.{IsInputValued, IsFaultOf}
-use Rattle.pt_values.proofs.Pushed.{zip-more}
+use Rattle.pt_document.specs.declared.refusal.DocFault.{DocFault}
+use Rattle.pt_document.specs.View.{input_view}
+use Rattle.pt_scopes.specs.Scopes.{NetTree}
+use Rattle.pt_scopes.specs.Valued.{IsInputValued, IsFaultOf}
+use Rattle.pt_scopes.proofs.Pushed.{zip-more}
 use Rattle.pt_values.proofs.Walking.{input-fault}
 use Rattle.pt_values.proofs.walk.input_values.Goals as goal
 

@@ -3,12 +3,12 @@ use Rattle.std.specs.Prelude.{option_map, slice_get}
 use Rattle.std.specs.List.{AllZip}
 use Rattle.std.proofs.lemmas.List.{length-map}
 use Rattle.pt_value.specs.Token.{value_of}
-use Rattle.pt_moml.specs.declared.job.Input.{Input}
-use Rattle.pt_moml.specs.View.{input_view}
-use Rattle.pt_graph.specs.declared.net.Transparent.{Transparent}
-use Rattle.pt_graph.specs.Net.{transparent_view}
-use Rattle.pt_values.specs.Scopes.{net_view}
-use Rattle.pt_values.specs.Valued.{IsInputValued, IsFaultOf}
+use Rattle.pt_document.specs.declared.job.Input.{Input}
+use Rattle.pt_document.specs.View.{input_view}
+use Rattle.pt_net.specs.declared.net.Transparent.{Transparent}
+use Rattle.pt_net.specs.Net.{transparent_view}
+use Rattle.pt_scopes.specs.Scopes.{net_view}
+use Rattle.pt_scopes.specs.Valued.{IsInputValued, IsFaultOf}
 use Rattle.pt_values.proofs.Walking.{view-at, composite-seen, all-entities, entities-whole, transparent-whole}
 use Rattle.pt_values.proofs.walk.values_of.Goals as goal
 

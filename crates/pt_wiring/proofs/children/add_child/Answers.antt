@@ -2,7 +2,7 @@ use Rattle.std.proofs.Common.{◌≡◌, ℕ, ◌<◌, ◌≤◌, Some, None, sy
 use Rattle.std.proofs.lemmas.Bool.{le-ltb}
 use Rattle.std.proofs.lemmas.List.{get_or_default}
 use Rattle.pt_wiring.specs.Children.{AreChildren}
-use Rattle.pt_wiring.specs.Inside.{is_number, number_among, children_of}
+use Rattle.pt_net.specs.Inside.{is_number, number_among, children_of}
 use Rattle.pt_wiring.proofs.ChildLaws.{not-added, added, not-same}
 use Rattle.pt_wiring.proofs.children.add_child.Goals as goal
 

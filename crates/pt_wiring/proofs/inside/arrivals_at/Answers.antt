@@ -1,6 +1,6 @@
 use Rattle.std.proofs.Common.{ℕ, ◌<◌, List, length, take, sym, subst, arith}
 use Rattle.std.proofs.lemmas.List.{take_more, length-take-le}
-use Rattle.pt_graph.specs.declared.net.Channel.{Channel}
+use Rattle.pt_net.specs.declared.net.Channel.{Channel}
 use Rattle.pt_wiring.specs.Channels.{AreArrivals}
 use Rattle.pt_wiring.proofs.ArrivalLaws.{few-arrived}
 use Rattle.pt_wiring.proofs.inside.arrivals_at.Goals as goal

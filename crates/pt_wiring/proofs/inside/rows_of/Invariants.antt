@@ -1,5 +1,5 @@
 use Rattle.std.proofs.Common.{◌≡◌, ℕ, ◌<◌, [], length, get_or}
-use Rattle.pt_wiring.specs.Inside.{ports_at}
+use Rattle.pt_net.specs.Inside.{ports_at}
 use Rattle.pt_wiring.specs.Ports.{ArePortNumbers}
 use Rattle.pt_wiring.proofs.inside.rows_of.Given as goal
 

@@ -1,5 +1,5 @@
 use Rattle.std.proofs.Common.{List, take}
-use Rattle.pt_graph.specs.declared.net.NetEntity.{NetEntity}
+use Rattle.pt_net.specs.declared.net.NetEntity.{NetEntity}
 use Rattle.pt_wiring.specs.Channels.{AreNumbers, AreSources}
 use Rattle.pt_wiring.proofs.inside.sources_of.Given as goal
 

@@ -1,7 +1,7 @@
 use Rattle.std.proofs.Common.{ℕ, ◌+◌, ◌-◌, ◌*◌, take, map}
 use Rattle.pt_node.specs.Shown.{shown}
-use Rattle.pt_composite.specs.Fresh.{AllFresh}
-use Rattle.pt_build.specs.Built.{AreBuilt}
+use Rattle.pt_trees.specs.Fresh.{AllFresh}
+use Rattle.pt_trees.specs.Built.{AreBuilt}
 use Rattle.pt_build.proofs.builder.Builder.+tree.Given as goal
 
 abbrev pub decreases-node_at : goal.decreases-node_at

@@ -1,5 +1,5 @@
 use Rattle.std.proofs.Common.{sym, ◌∙◌}
-use Rattle.pt_build.specs.Built.{unstarted, unsteady}
+use Rattle.pt_trees.specs.Built.{unstarted, unsteady}
 use Rattle.pt_build.proofs.builder.Builder.actor_at.Goals as goal
 
 pub returns-in_default-clause-stands : goal.returns-in_default-clause-stands

@@ -1,6 +1,6 @@
 use Rattle.std.proofs.Common.{sym, ◌∙◌}
 use Rattle.std.proofs.lemmas.Option.{slice_get_within}
-use Rattle.pt_build.specs.Built.{other_director}
+use Rattle.pt_trees.specs.Built.{other_director}
 use Rattle.pt_build.proofs.LoopLaws.{deep-at}
 use Rattle.pt_build.proofs.builder.Builder.check_composite.Goals as goal
 

@@ -1,13 +1,13 @@
 use Rattle.std.proofs.Common.{◌≡◌, ℕ, List, map, refl, sym, subst}
-use Rattle.pt_graph.specs.declared.net.Net.{Net}
-use Rattle.pt_graph.specs.declared.net.NetEntity.{NetEntity}
+use Rattle.pt_net.specs.declared.net.Net.{Net}
+use Rattle.pt_net.specs.declared.net.NetEntity.{NetEntity}
 use Rattle.pt_node.specs.Recorded.{RecordedPort}
 use Rattle.pt_node.specs.Shown.{Shown, shown, shown_node}
-use Rattle.pt_composite.specs.Around.{Around, around_of}
-use Rattle.pt_composite.specs.Composite.{IsComposite, CompositeFaultStands}
-use Rattle.pt_composite.specs.Fresh.{AreEmpty}
-use Rattle.pt_build.specs.Recorded.{recorded_at, recorded_of, numbers_at}
-use Rattle.pt_build.specs.Built.{built_sdf}
+use Rattle.pt_trees.specs.Around.{Around, around_of}
+use Rattle.pt_trees.specs.Composite.{IsComposite, CompositeFaultStands}
+use Rattle.pt_trees.specs.Fresh.{AreEmpty}
+use Rattle.pt_trees.specs.Recorded.{recorded_at, recorded_of, numbers_at}
+use Rattle.pt_trees.specs.Built.{built_sdf}
 use Rattle.pt_build.proofs.FaultLaws.{fault-stands}
 use Rattle.pt_build.proofs.TreeLaws.{recorded-empty}
 use Rattle.pt_build.proofs.builder.Builder.composite_at.Goals as goal

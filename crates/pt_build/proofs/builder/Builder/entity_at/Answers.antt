@@ -1,6 +1,6 @@
 use Rattle.std.proofs.Common.{◌≡◌, List, None, subst}
 use Rattle.std.specs.Prelude.{slice_get}
-use Rattle.pt_graph.specs.declared.net.NetEntity.{NetEntity}
+use Rattle.pt_net.specs.declared.net.NetEntity.{NetEntity}
 use Rattle.pt_build.proofs.NestedLaws.{absent-at}
 use Rattle.pt_build.proofs.builder.Builder.entity_at.Goals as goal
 

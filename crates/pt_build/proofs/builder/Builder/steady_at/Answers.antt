@@ -1,15 +1,15 @@
 use Rattle.std.proofs.Common.{◌≡◌, ℕ, List, Some, refl, sym, ap, subst, ◌∙◌}
 use Rattle.pt_library.specs.declared.library_actor.LibraryActor.{LibraryActor}
-use Rattle.pt_lib_flow.specs.declared.params.Params.{Params}
+use Rattle.pt_flow_base.specs.declared.params.Params.{Params}
 use Rattle.pt_library.specs.LibraryActor.{start}
 use Rattle.pt_library.proofs.RateLaws.{started-rated}
 use Rattle.pt_node.specs.declared.body.Held.{Held}
 use Rattle.pt_node.specs.Recorded.{RecordedPort}
 use Rattle.pt_node.specs.Shown.{Shown}
 use Rattle.pt_library.proofs.SteadyLaws.{told-steady}
-use Rattle.pt_composite.specs.Fresh.{IsFresh}
-use Rattle.pt_build.specs.Recorded.{recorded_at, recorded_of, numbers_at}
-use Rattle.pt_build.specs.Built.{IsBuilt, built_actor, held_node, actor_node}
+use Rattle.pt_trees.specs.Fresh.{IsFresh}
+use Rattle.pt_trees.specs.Recorded.{recorded_at, recorded_of, numbers_at}
+use Rattle.pt_trees.specs.Built.{IsBuilt, built_actor, held_node, actor_node}
 use Rattle.pt_build.proofs.TreeLaws.{actor-fresh, recorded-empty}
 use Rattle.pt_build.proofs.builder.Builder.steady_at.Goals as goal
 

@@ -2,7 +2,7 @@ use Rattle.std.proofs.Common.{◌≡◌, map, ap, ◌∙◌, rules, None, if◌t
 use Rattle.std.specs.Prelude.{slice_get}
 use Rattle.std.specs.Str.{bytes_eq}
 use Rattle.pt_types.specs.Ty.{type_of}
-use Rattle.pt_expr_type.specs.Types.{or_else}
+use Rattle.pt_language.specs.Types.{or_else}
 use Rattle.pt_expr_type.specs.TypeEnv.{types_in}
 use Rattle.pt_expr_type.proofs.Numbers.{numbered-next}
 use Rattle.pt_expr_type.proofs.rule.ExprRule.environment.Goals as goal

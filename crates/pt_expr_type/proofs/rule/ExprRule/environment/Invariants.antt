@@ -1,6 +1,6 @@
 use Rattle.std.proofs.Common.{◌≡◌, ℕ, List, map, take}
 use Rattle.pt_types.specs.Ty.{type_of}
-use Rattle.pt_expr_type.specs.Rule.{numbered}
+use Rattle.pt_language.specs.Rule.{numbered}
 use Rattle.pt_expr_type.specs.TypeEnv.{types_in}
 use Rattle.pt_expr_type.proofs.rule.ExprRule.environment.Given as goal
 

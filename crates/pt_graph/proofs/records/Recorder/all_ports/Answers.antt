@@ -1,5 +1,5 @@
 use Rattle.std.proofs.Common.{◌+◌, List, [], subst, sym}
-use Rattle.pt_graph.specs.declared.net.NetPort.{NetPort}
+use Rattle.pt_net.specs.declared.net.NetPort.{NetPort}
 use Rattle.pt_graph.specs.Survey.{tables_view}
 use Rattle.pt_graph.proofs.RecordSteps.{AreRecorded, recorded_more, distinct}
 use Rattle.pt_graph.proofs.records.Recorder.all_ports.Goals as goal

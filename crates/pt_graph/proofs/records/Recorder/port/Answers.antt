@@ -3,13 +3,13 @@ use Rattle.std.proofs.lemmas.Bool.{both_ways}
 use Rattle.std.proofs.lemmas.List.{get_or_default}
 use Rattle.std.proofs.lemmas.Option.{slice_get-get_or}
 use Rattle.std.specs.List.{position, slice_get}
-use Rattle.pt_moml.specs.declared.code.Code.TheVariants as code
-use Rattle.pt_graph.specs.declared.net.NetPort.{NetPort}
-use Rattle.pt_graph.specs.Table.{shown}
+use Rattle.pt_document.specs.declared.code.Code.TheVariants as code
+use Rattle.pt_net.specs.declared.net.NetPort.{NetPort}
+use Rattle.pt_net.specs.Table.{shown}
 use Rattle.pt_graph.specs.Survey.{tables_view}
-use Rattle.pt_graph.specs.Net.{Records}
+use Rattle.pt_net.specs.Net.{Records}
 use Rattle.pt_graph.specs.Recorded.{outputs_of}
-use Rattle.pt_graph.specs.Stands.{IsRecordFault}
+use Rattle.pt_net.specs.Stands.{IsRecordFault}
 use Rattle.pt_graph.proofs.Told.{told}
 use Rattle.pt_graph.proofs.RecordSteps.{repeated_told, unnamed_told, named, place_below}
 use Rattle.pt_graph.proofs.records.Recorder.port.Goals as goal

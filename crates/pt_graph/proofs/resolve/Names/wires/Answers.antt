@@ -1,8 +1,8 @@
 use Rattle.std.proofs.Common.{sym}
-use Rattle.pt_moml.specs.declared.code.Code.TheVariants as code
+use Rattle.pt_document.specs.declared.code.Code.TheVariants as code
 use Rattle.pt_graph.specs.Survey.{tables_view, link_at}
-use Rattle.pt_graph.specs.Table.{link_path}
-use Rattle.pt_graph.specs.Stands.{IsLinkFault, names_nothing}
+use Rattle.pt_net.specs.Table.{link_path}
+use Rattle.pt_net.specs.Stands.{IsLinkFault, names_nothing}
 use Rattle.pt_graph.proofs.Told.{told, contains_of}
 use Rattle.pt_graph.proofs.resolve.Names.wires.Goals as goal
 

@@ -1,6 +1,6 @@
 use Rattle.std.proofs.Common.{◌≡◌, Some, map, take}
 use Rattle.pt_graph.specs.Survey.{tables_view, links_view}
-use Rattle.pt_graph.specs.Wires.{wire_of}
+use Rattle.pt_net.specs.Wires.{wire_of}
 use Rattle.pt_graph.proofs.resolve.Names.wires.Given as goal
 
 abbrev pub invariant-loop-link : goal.invariant-loop-link

@@ -1,7 +1,7 @@
 use Rattle.std.proofs.Common.{◌≡◌, drop}
-use Rattle.pt_moml.specs.Document.{to_entities}
-use Rattle.pt_moml.specs.View.{entities_view}
-use Rattle.pt_graph.specs.Standing.{with_entities}
+use Rattle.pt_document.specs.Document.{to_entities}
+use Rattle.pt_document.specs.View.{entities_view}
+use Rattle.pt_net.specs.Standing.{with_entities}
 use Rattle.pt_graph.specs.Survey.{table_view, round_view, IsCounted}
 use Rattle.pt_graph.proofs.survey.Entities.+add_all.Given as goal
 

@@ -1,4 +1,4 @@
-use Rattle.pt_graph.specs.declared.wire.Wire.TheVariants.{Outside}
+use Rattle.pt_net.specs.declared.wire.Wire.TheVariants.{Outside}
 use Rattle.pt_graph.specs.Ties.{rows}
 use Rattle.pt_graph.proofs.TieSteps.{tied_more}
 use Rattle.pt_graph.proofs.ties.Ties.of.Goals as goal

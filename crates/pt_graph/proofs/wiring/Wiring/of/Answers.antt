@@ -1,12 +1,12 @@
 use Rattle.std.proofs.Common.{◌≡◌, ℕ, List, length, sym, subst, ◌∙◌, arith, Vec, Global}
 use Rattle.std.proofs.lemmas.List.{length-map}
 use Rattle.std.specs.List.{All}
-use Rattle.pt_graph.specs.declared.wire.Wire.{Wire}
+use Rattle.pt_net.specs.declared.wire.Wire.{Wire}
 use Rattle.pt_graph.specs.declared.tables.PlacedPort.{PlacedPort}
 use Rattle.pt_graph.specs.Survey.{tables_view, ports_view, port_at}
-use Rattle.pt_graph.specs.Wires.{wire_of}
+use Rattle.pt_net.specs.Wires.{wire_of}
 use Rattle.pt_graph.specs.Ties.{IsPortWithin, AreTied, rows}
-use Rattle.pt_graph.specs.Net.{wires}
+use Rattle.pt_net.specs.Net.{wires}
 use Rattle.pt_graph.proofs.WireFacts.{gives_some, wires_are, wires_within, ports_within}
 use Rattle.pt_graph.proofs.wiring.Wiring.of.Goals as goal
 

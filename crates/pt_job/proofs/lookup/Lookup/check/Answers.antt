@@ -1,10 +1,10 @@
 use Rattle.std.proofs.Common.{◌≡◌, false, true, ◌∙◌, sym, ap, refl, subst}
-use Rattle.pt_moml.specs.declared.code.Code.TheVariants as code
-use Rattle.pt_moml.specs.Outcome.{IsRefusal}
-use Rattle.pt_moml.specs.View.{input_view}
-use Rattle.pt_graph.specs.Table.{shown}
-use Rattle.pt_values.specs.Scopes.{net_view}
-use Rattle.pt_job.specs.Inputs.{fits}
+use Rattle.pt_document.specs.declared.code.Code.TheVariants as code
+use Rattle.pt_document.specs.Outcome.{IsRefusal}
+use Rattle.pt_document.specs.View.{input_view}
+use Rattle.pt_net.specs.Table.{shown}
+use Rattle.pt_scopes.specs.Scopes.{net_view}
+use Rattle.pt_scopes.specs.Inputs.{fits}
 use Rattle.pt_job.proofs.Fits.{told, misfit, clean, one_more, read_input, all_fit}
 use Rattle.pt_job.proofs.lookup.Lookup.check.Goals as goal
 

@@ -1,9 +1,9 @@
 use Rattle.std.proofs.Common.{◌≡◌, ℕ, ◌<◌, true, Some, map}
 use Rattle.std.specs.List.{slice_get}
-use Rattle.pt_moml.specs.Document.{InputTree}
-use Rattle.pt_moml.specs.View.{input_view}
-use Rattle.pt_values.specs.Scopes.{net_view}
-use Rattle.pt_job.specs.Inputs.{fits}
+use Rattle.pt_document.specs.Document.{InputTree}
+use Rattle.pt_document.specs.View.{input_view}
+use Rattle.pt_scopes.specs.Scopes.{net_view}
+use Rattle.pt_scopes.specs.Inputs.{fits}
 use Rattle.pt_job.proofs.lookup.Lookup.check.Given as goal
 
 abbrev pub invariant-loop-number : goal.invariant-loop-number

@@ -1,8 +1,8 @@
 use Rattle.std.proofs.Common.{bytes_eq, map, List, ap, ◌∙◌}
 use Rattle.std.specs.List.{position}
-use Rattle.pt_moml.specs.declared.job.Input.{Input}
-use Rattle.pt_moml.specs.Document.{InputTree}
-use Rattle.pt_moml.specs.View.{input_view}
+use Rattle.pt_document.specs.declared.job.Input.{Input}
+use Rattle.pt_document.specs.Document.{InputTree}
+use Rattle.pt_document.specs.View.{input_view}
 use Rattle.pt_job.specs.Names.{Name, texts}
 use Rattle.pt_job.proofs.lookup.Lookup.of.Goals as goal
 

@@ -1,10 +1,10 @@
 use Rattle.std.proofs.Common.{◌≡◌, ◌⊎◌, ℕ, List, true, sym, ap, subst, ◌∙◌}
 use Rattle.std.specs.Prelude.{IfOk, IfErr}
 use Rattle.pt_value.specs.Token.{value_of}
-use Rattle.pt_expr.specs.declared.fault.EvalFault.TheVariants.{Memory}
-use Rattle.pt_expr.specs.Outcome.{Gives, Stops}
+use Rattle.pt_language.specs.declared.eval_fault.EvalFault.TheVariants.{Memory}
+use Rattle.pt_language.specs.Outcome.{Gives, Stops}
 use Rattle.pt_expr.specs.Env.{scope_of}
-use Rattle.pt_expr.specs.Expr.{tree_of}
+use Rattle.pt_language.specs.Expr.{tree_of}
 use Rattle.pt_lib_flow.specs.Formula.{Formula, names, with_inputs, is_typed}
 use Rattle.pt_lib_flow.proofs.Evaluations.{comes-to}
 use Rattle.pt_lib_flow.proofs.Typings.{never-wrong}

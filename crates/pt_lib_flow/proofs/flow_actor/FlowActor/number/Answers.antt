@@ -1,19 +1,19 @@
 use Rattle.std.proofs.Common.{sym, subst, refl}
 use Rattle.pt_lib_flow.specs.declared.flow_actor.FlowActor.TheVariants.{AbsoluteValue, Accumulator, AddSubtract, Const, Counter, DownSample, Extreme, MultiplyDivide, Ramp, SampleDelay, Scale, Sequence}
 use Rattle.pt_lib_flow.specs.FlowActor as flow_actor
-use Rattle.pt_lib_flow.specs.AbsoluteValue as absolute_value
-use Rattle.pt_lib_flow.specs.Accumulator as accumulator
-use Rattle.pt_lib_flow.specs.AddSubtract as add_subtract
+use Rattle.pt_flow_numbers.specs.AbsoluteValue as absolute_value
+use Rattle.pt_flow_numbers.specs.Accumulator as accumulator
+use Rattle.pt_flow_numbers.specs.AddSubtract as add_subtract
 use Rattle.pt_lib_flow.specs.Const as constant
-use Rattle.pt_lib_flow.specs.Counter as counter
+use Rattle.pt_flow_numbers.specs.Counter as counter
 use Rattle.pt_lib_flow.specs.DownSample as down_sample
-use Rattle.pt_lib_flow.specs.Extreme as extreme
-use Rattle.pt_lib_flow.specs.MultiplyDivide as multiply_divide
-use Rattle.pt_lib_flow.specs.Ramp as ramp
+use Rattle.pt_flow_numbers.specs.Extreme as extreme
+use Rattle.pt_flow_numbers.specs.MultiplyDivide as multiply_divide
+use Rattle.pt_flow_numbers.specs.Ramp as ramp
 use Rattle.pt_lib_flow.specs.SampleDelay as sample_delay
-use Rattle.pt_lib_flow.specs.Scale as scale
+use Rattle.pt_flow_numbers.specs.Scale as scale
 use Rattle.pt_lib_flow.specs.Sequence as sequence
-use Rattle.pt_lib_flow.specs.Number.{GivesNumber}
+use Rattle.pt_flow_base.specs.Number.{GivesNumber}
 use Rattle.pt_lib_flow.proofs.Held.{held-number}
 use Rattle.pt_lib_flow.proofs.flow_actor.FlowActor.number.Goals as goal
 

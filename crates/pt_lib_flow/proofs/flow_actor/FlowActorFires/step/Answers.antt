@@ -2,7 +2,7 @@ use Rattle.std.proofs.Common.{sym, subst}
 use Rattle.pt_firing.specs.Step.{Makes}
 use Rattle.pt_lib_flow.specs.declared.flow_actor.FlowActor.TheVariants.{Counter}
 use Rattle.pt_lib_flow.specs.FlowActor as flow_actor
-use Rattle.pt_lib_flow.specs.Counter as counter
+use Rattle.pt_flow_numbers.specs.Counter as counter
 use Rattle.pt_lib_flow.proofs.Held.{held-makes}
 use Rattle.pt_lib_flow.proofs.flow_actor.FlowActorFires.step.Goals as goal
 

@@ -1,6 +1,6 @@
 use Rattle.std.proofs.Common.{◌≡◌, Some, true, ap, ◌∙◌, slice_get, rules}
 use Rattle.pt_value.specs.Token.{value_of}
-use Rattle.pt_lib_flow.specs.Limit.{is_called}
+use Rattle.pt_flow_base.specs.Limit.{is_called}
 use Rattle.pt_lib_flow.proofs.Sequences.{sequence-gives}
 use Rattle.pt_lib_flow.proofs.sequence.SequenceFires.step.Goals as goal
 

@@ -1,9 +1,9 @@
 use Rattle.std.proofs.Common.{◌≡◌, map, true, false, sym, ◌∙◌}
 use Rattle.std.specs.Str.{bytes_eq}
-use Rattle.pt_moml.specs.Document.{property_name}
-use Rattle.pt_moml.specs.View.{property_view}
-use Rattle.pt_parameter.specs.Given.{held_view}
-use Rattle.pt_parameter.proofs.Pairs.{found, passed, get-view}
+use Rattle.pt_document.specs.Document.{property_name}
+use Rattle.pt_document.specs.View.{property_view}
+use Rattle.pt_scopes.specs.Given.{held_view}
+use Rattle.pt_scopes.proofs.Pairs.{found, passed, get-view}
 use Rattle.pt_parameter.proofs.agreement.Parameters.given.Goals as goal
 
 pub returns-then-is_named : goal.returns-then-is_named

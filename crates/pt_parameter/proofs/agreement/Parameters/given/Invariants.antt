@@ -1,9 +1,10 @@
 use Rattle.std.proofs.Common.{◌≡◌, drop, map}
 use Rattle.std.specs.List.{zip}
-use Rattle.pt_moml.specs.Document.{property_name}
-use Rattle.pt_moml.specs.View.{property_view}
-use Rattle.pt_parameter.specs.Given.{held_view}
-use Rattle.pt_parameter.specs.Agreement.{given, parameters_view}
+use Rattle.pt_document.specs.Document.{property_name}
+use Rattle.pt_document.specs.View.{property_view}
+use Rattle.pt_scopes.specs.Given.{held_view}
+use Rattle.pt_scopes.specs.Agreement.{given}
+use Rattle.pt_parameter.specs.ParametersView.{parameters_view}
 use Rattle.pt_parameter.proofs.agreement.Parameters.given.Given as goal
 
 abbrev pub invariant-loop-index : goal.invariant-loop-index

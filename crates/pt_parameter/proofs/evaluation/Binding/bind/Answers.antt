@@ -3,12 +3,12 @@ use Rattle.std.specs.Prelude.{option_map}
 use Rattle.std.specs.Str.{bytes_eq}
 use Rattle.pt_value.specs.declared.token.Token.{Token}
 use Rattle.pt_value.specs.Token.{value_of}
-use Rattle.pt_types.specs.Normal.{normal}
-use Rattle.pt_types.specs.Token.{type_of_value}
+use Rattle.pt_datatypes.specs.Normal.{normal}
+use Rattle.pt_datatypes.specs.Token.{type_of_value}
 use Rattle.pt_expr.specs.Env.{scope_of}
 use Rattle.pt_expr_type.specs.TypeEnv.{types_in}
-use Rattle.pt_parameter.specs.Names.{seen_scope}
-use Rattle.pt_parameter.proofs.TokenTypes.{value-is_type}
+use Rattle.pt_scopes.specs.Names.{seen_scope}
+use Rattle.pt_types.proofs.TokenTypes.{value-is_type}
 use Rattle.pt_parameter.proofs.Binding.{bound-more}
 use Rattle.pt_parameter.proofs.evaluation.Binding.bind.Goals as goal
 

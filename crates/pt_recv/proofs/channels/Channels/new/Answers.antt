@@ -1,4 +1,4 @@
-use Rattle.std.proofs.Common.{◌≡◌, ◌∙◌, [], ap, ap₂, arith, replicate}
+use Rattle.std.proofs.Common.{◌∙◌, [], ap₂}
 use Rattle.std.proofs.lemmas.List.{length-replicate}
 use Rattle.pt_value.specs.declared.token.Token.TheVariants.{Int}
 use Rattle.pt_recv.specs.Fronts.{joined, lessened}
@@ -7,21 +7,15 @@ use Rattle.pt_recv.proofs.channels.Channels.new.Goals as goal
 
 pub invariant_of-result : goal.invariant_of-result
 invariant_of-result c =
-    let is = c.loop.invariant in
-    let all : c.loop.counter ≡ c.args.n = omega (arith, c.loop-test.false, c.loop.auto.counter-end) in
-    rw (is.lists, is.spares, is.runs) record {
-      lists = length-replicate c.loop.counter [] ∙ all;
-      spares = length-replicate c.loop.counter 0 ∙ all;
-      runs = length-replicate c.loop.counter [] ∙ all;
-      covered = covered-none Int c.loop.counter;
+    rw (c.in_ok-pool.ensures.lists, c.in_ok-pool.ensures.spares, c.in_ok-runs.ensures) record {
+      lists = length-replicate c.args.n [];
+      spares = length-replicate c.args.n 0;
+      runs = length-replicate c.args.n [];
+      covered = covered-none Int c.args.n;
     }
 
 pub returns-clause-lists : goal.returns-clause-lists
-returns-clause-lists c =
-    let all : c.loop.counter ≡ c.args.n = omega (arith, c.loop-test.false, c.loop.auto.counter-end) in
-    ap₂ (joined Int) c.loop.invariant.runs c.loop.invariant.lists ∙ joined-none Int c.loop.counter ∙ ap (λ n. replicate n []) all
+returns-clause-lists c = ap₂ (joined Int) c.in_ok-runs.ensures c.in_ok-pool.ensures.lists ∙ joined-none Int c.args.n
 
 pub returns-clause-spares : goal.returns-clause-spares
-returns-clause-spares c =
-    let all : c.loop.counter ≡ c.args.n = omega (arith, c.loop-test.false, c.loop.auto.counter-end) in
-    ap₂ lessened c.loop.invariant.runs c.loop.invariant.spares ∙ lessened-none Int c.loop.counter ∙ ap (λ n. replicate n 0) all
+returns-clause-spares c = ap₂ lessened c.in_ok-runs.ensures c.in_ok-pool.ensures.spares ∙ lessened-none Int c.args.n

@@ -1,7 +1,7 @@
 use Rattle.std.proofs.Common.{◌≡◌, ℕ, List, None, Some, map, ap, ◌∙◌}
 use Rattle.pt_value.specs.Token.{value_of}
-use Rattle.pt_parameter.specs.Names.{held}
-use Rattle.pt_moml.specs.View.{port_view, properties_view}
+use Rattle.pt_scopes.specs.Names.{held}
+use Rattle.pt_document.specs.View.{port_view, properties_view}
 use Rattle.pt_resolve.specs.Frames.{with_given, no_names, some_value, seen}
 use Rattle.pt_resolve.specs.Inequalities.{with_ports, no_ports}
 use Rattle.pt_resolve.specs.Views.{frames_view, port_numbers}

@@ -1,8 +1,8 @@
 use Rattle.std.proofs.Common.{map, sym, ap, ◌∙◌}
 use Rattle.std.specs.Prelude.{slice_get, option_map}
 use Rattle.pt_resolve.proofs.Steps.{first-mapped}
-use Rattle.pt_moml.specs.View.{properties_view}
-use Rattle.pt_parameter.specs.Given.{held_view}
+use Rattle.pt_document.specs.View.{properties_view}
+use Rattle.pt_scopes.specs.Given.{held_view}
 use Rattle.pt_resolve.specs.Inequalities.{of_parameters}
 use Rattle.pt_resolve.proofs.Parts.{parameters-more}
 use Rattle.pt_resolve.proofs.place.Place.add_parameters.Goals as goal

@@ -1,7 +1,7 @@
 use Rattle.std.proofs.Common.{◌≡◌, ◌++◌, map, drop}
 use Rattle.pt_typing.specs.Views.{inequality_view}
-use Rattle.pt_moml.specs.View.{properties_view}
-use Rattle.pt_parameter.specs.Given.{held_view}
+use Rattle.pt_document.specs.View.{properties_view}
+use Rattle.pt_scopes.specs.Given.{held_view}
 use Rattle.pt_resolve.specs.Inequalities.{of_parameters}
 use Rattle.pt_resolve.proofs.place.Place.add_parameters.Given as goal
 

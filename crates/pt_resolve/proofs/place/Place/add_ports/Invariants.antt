@@ -1,9 +1,9 @@
 use Rattle.std.proofs.Common.{◌≡◌, ◌++◌, map, drop}
 use Rattle.pt_typing.specs.Views.{inequality_view}
 use Rattle.pt_resolve.specs.Views.{types_at}
-use Rattle.pt_graph.specs.Net.{entity_view}
-use Rattle.pt_values.specs.Valued as valued
-use Rattle.pt_moml.specs.View.{port_view}
+use Rattle.pt_net.specs.Net.{entity_view}
+use Rattle.pt_scopes.specs.Valued as valued
+use Rattle.pt_document.specs.View.{port_view}
 use Rattle.pt_resolve.specs.Inequalities.{of_ports}
 use Rattle.pt_resolve.proofs.place.Place.add_ports.Given as goal
 

@@ -1,8 +1,8 @@
 use Rattle.std.proofs.Common.{◌≡◌, ◌++◌, map, drop}
 use Rattle.pt_typing.specs.Views.{inequality_view}
 use Rattle.pt_resolve.specs.Views.{types_at}
-use Rattle.pt_graph.specs.Net.{entity_view}
-use Rattle.pt_parameter.specs.Given.{held_view}
+use Rattle.pt_net.specs.Net.{entity_view}
+use Rattle.pt_scopes.specs.Given.{held_view}
 use Rattle.pt_resolve.specs.Inequalities.{of_trees}
 use Rattle.pt_resolve.proofs.place.Place.add_trees.Given as goal
 

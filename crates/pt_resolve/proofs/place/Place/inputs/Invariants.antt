@@ -1,6 +1,6 @@
 use Rattle.std.proofs.Common.{◌≡◌, ◌++◌, map, drop}
-use Rattle.pt_moml.specs.View.{port_view}
-use Rattle.pt_graph.specs.Net.{entity_view}
+use Rattle.pt_document.specs.View.{port_view}
+use Rattle.pt_net.specs.Net.{entity_view}
 use Rattle.pt_resolve.specs.Inequalities.{inputs_from, inputs_of}
 use Rattle.pt_resolve.proofs.place.Place.inputs.Given as goal
 

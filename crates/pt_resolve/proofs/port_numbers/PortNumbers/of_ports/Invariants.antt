@@ -1,5 +1,5 @@
 use Rattle.std.proofs.Common.{◌≡◌, ℕ, List, map, drop}
-use Rattle.pt_moml.specs.View.{port_view}
+use Rattle.pt_document.specs.View.{port_view}
 use Rattle.pt_resolve.specs.Views.{port_numbers}
 use Rattle.pt_resolve.specs.Inequalities.{with_ports, no_ports}
 use Rattle.pt_resolve.proofs.port_numbers.PortNumbers.of_ports.Given as goal

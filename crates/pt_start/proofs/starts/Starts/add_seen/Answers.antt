@@ -1,7 +1,7 @@
 use Rattle.std.proofs.Common.{◌+◌, ◌++◌, ap, ◌∙◌, drop}
 use Rattle.std.specs.Prelude.{option_map}
 use Rattle.std.specs.List.{filter_map}
-use Rattle.pt_values.specs.Scopes.{bound}
+use Rattle.pt_scopes.specs.Scopes.{bound}
 use Rattle.pt_start.specs.Started.{seen_token}
 use Rattle.pt_start.specs.Frames.{with_token}
 use Rattle.pt_start.proofs.Loops.{drop-at}

@@ -1,6 +1,6 @@
 use Rattle.std.proofs.Common.{◌≡◌, ◌++◌, drop}
 use Rattle.std.specs.List.{filter_map}
-use Rattle.pt_values.specs.Scopes.{Bindings, net_view}
+use Rattle.pt_scopes.specs.Scopes.{Bindings, net_view}
 use Rattle.pt_start.specs.Started.{seen_token}
 use Rattle.pt_start.specs.Seen.{SeesIn}
 use Rattle.pt_start.proofs.starts.Starts.add_seen.Given as goal

@@ -1,8 +1,8 @@
 use Rattle.std.proofs.Common.{◌≡◌, refl, sym, ap, ◌∙◌, Some, None}
 use Rattle.std.specs.Prelude.{option_map}
 use Rattle.pt_value.specs.Token.{value_of}
-use Rattle.pt_parameter.specs.Names.{held, or_else}
-use Rattle.pt_values.specs.Scopes.{bound, net_view}
+use Rattle.pt_scopes.specs.Names.{held, or_else}
+use Rattle.pt_scopes.specs.Scopes.{bound, net_view}
 use Rattle.pt_start.specs.Seen.{IsOutward, IsBefore, SeesNothing}
 use Rattle.pt_start.proofs.starts.Starts.find.Goals as goal
 

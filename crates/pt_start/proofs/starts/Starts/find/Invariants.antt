@@ -1,5 +1,5 @@
 use Rattle.std.proofs.Common.{◌≡◌}
-use Rattle.pt_values.specs.Scopes.{Bindings, bound, net_view}
+use Rattle.pt_scopes.specs.Scopes.{Bindings, bound, net_view}
 use Rattle.pt_start.specs.Nested.{AreRound}
 use Rattle.pt_start.specs.Seen.{SeesIn, depth}
 use Rattle.pt_start.proofs.starts.Starts.find.Given as goal

@@ -1,6 +1,6 @@
 use Rattle.std.proofs.Common.{◌≡◌, Some, None, sym, ap, ◌∙◌, subst}
 use Rattle.std.specs.Prelude.{slice_get}
-use Rattle.pt_values.specs.Scopes.{net_view}
+use Rattle.pt_scopes.specs.Scopes.{net_view}
 use Rattle.pt_start.specs.declared.round.Round.{Round}
 use Rattle.pt_start.specs.Seen.{IsOutward}
 use Rattle.pt_start.proofs.Loops.{get-is}

@@ -1,5 +1,6 @@
 use Rattle.std.proofs.Common.{arith}
-use Rattle.pt_types.proofs.Fields.{same_names-length, length-view}
+use Rattle.pt_datatypes.proofs.Fields.{same_names-length}
+use Rattle.pt_types.proofs.FieldLists.{length-view}
 use Rattle.pt_types.proofs.record.RecordTy.same_names.Goals as goal
 
 pub returns-then-len : goal.returns-then-len

@@ -1,6 +1,6 @@
 use Rattle.std.proofs.Common.{◌≡◌, drop, map}
-use Rattle.pt_types.specs.Datatype.{types_of}
-use Rattle.pt_types.specs.Join.{same_names}
+use Rattle.pt_datatypes.specs.Datatype.{types_of}
+use Rattle.pt_datatypes.specs.Join.{same_names}
 use Rattle.pt_types.specs.Ty.{entry_of}
 use Rattle.pt_types.proofs.record.RecordTy.same_names.Given as goal
 

@@ -1,7 +1,7 @@
 use Rattle.std.proofs.Common.{◌≡◌, IfOk, List, ℕ, map, sym, subst}
 use Rattle.pt_types.specs.Ty as ty
-use Rattle.pt_expr_type.specs.Typing.{or_general}
-use Rattle.pt_expr_type.specs.TreeType as trees
+use Rattle.pt_language.specs.Typing.{or_general}
+use Rattle.pt_language.specs.TreeType as trees
 use Rattle.pt_typing.specs.declared.variable.Variable.{Variable}
 use Rattle.pt_typing.specs.declared.term.Term.{Term}
 use Rattle.pt_typing.specs.Terms.{meaning, entry_in}

@@ -1,6 +1,6 @@
 use Rattle.std.proofs.Common.{◌≡◌, ℕ, List, map, take}
 use Rattle.pt_types.specs.Ty as ty
-use Rattle.pt_expr_type.specs.Types.{or_else}
+use Rattle.pt_language.specs.Types.{or_else}
 use Rattle.pt_expr_type.specs.TypeEnv.{types_in}
 use Rattle.pt_typing.specs.Terms.{named, itself}
 use Rattle.pt_typing.specs.Views.{known_entry, assigned}

@@ -1,5 +1,5 @@
 use Rattle.std.proofs.Common.{◌≡◌, ◌-◌, length}
-use Rattle.pt_values.specs.Scopes.{net_view}
+use Rattle.pt_scopes.specs.Scopes.{net_view}
 use Rattle.pt_values.specs.Walk.{IsWalk}
 use Rattle.pt_values.proofs.walk.Walk.enter_entities.Given as goal
 

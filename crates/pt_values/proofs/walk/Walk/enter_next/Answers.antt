@@ -2,14 +2,14 @@ use Rattle.std.proofs.Common.{◌≡◌, ℕ, List, length, map, Option, Some, N
 use Rattle.std.specs.Prelude.{option_map, slice_get, Bool}
 use Rattle.std.proofs.lemmas.Option.{none-some}
 use Rattle.std.proofs.lemmas.Result.{on_ok_weaker, IfOk-weaker, IfErr-weaker}
-use Rattle.pt_moml.specs.declared.refusal.DocFault.{DocFault}
-use Rattle.pt_graph.specs.declared.net.NetEntity.{NetEntity}
-use Rattle.pt_graph.specs.Net as nets
-use Rattle.pt_parameter.proofs.Pairs.{get-view}
+use Rattle.pt_document.specs.declared.refusal.DocFault.{DocFault}
+use Rattle.pt_net.specs.declared.net.NetEntity.{NetEntity}
+use Rattle.pt_net.specs.Net as nets
+use Rattle.pt_scopes.proofs.Pairs.{get-view}
 use Rattle.pt_values.specs.declared.walk.Walk.{Walk}
-use Rattle.pt_values.specs.Scopes.{NetTree, net_view}
-use Rattle.pt_values.specs.Frames.{chain_at}
-use Rattle.pt_values.specs.Valued.{IsFaultOf}
+use Rattle.pt_scopes.specs.Scopes.{NetTree, net_view}
+use Rattle.pt_scopes.specs.Frames.{chain_at}
+use Rattle.pt_scopes.specs.Valued.{IsFaultOf}
 use Rattle.pt_values.specs.Walk.{IsWalk, IsHeldUp}
 use Rattle.pt_values.proofs.Walking.{held-up}
 use Rattle.pt_values.proofs.walk.Walk.enter_next.Goals as goal

@@ -1,10 +1,10 @@
 use Rattle.std.proofs.Common.{◌≡◌, ℕ, List, length, Some, refl, sym, ap, subst, IfErr, rules}
 use Rattle.std.specs.Prelude.{slice_get}
 use Rattle.std.proofs.lemmas.Result.{IfErr-weaker}
-use Rattle.pt_moml.specs.declared.refusal.DocFault.{DocFault}
-use Rattle.pt_graph.specs.Net as nets
-use Rattle.pt_values.specs.Scopes.{NetTree}
-use Rattle.pt_values.specs.Valued.{IsFaultOf}
+use Rattle.pt_document.specs.declared.refusal.DocFault.{DocFault}
+use Rattle.pt_net.specs.Net as nets
+use Rattle.pt_scopes.specs.Scopes.{NetTree}
+use Rattle.pt_scopes.specs.Valued.{IsFaultOf}
 use Rattle.pt_values.specs.Walk.{IsWalk}
 use Rattle.pt_values.proofs.Walking.{transparent-fault, transparent-more}
 use Rattle.pt_values.proofs.walk.Walk.enter_transparent.Goals as goal

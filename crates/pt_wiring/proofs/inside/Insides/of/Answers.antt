@@ -1,7 +1,7 @@
 use Rattle.std.proofs.Common.{◌≡◌, ℕ, ◌<◌, List, [], length, get_or, sym, ap, ◌∙◌, subst}
-use Rattle.pt_graph.specs.declared.net.Channel.{Channel}
-use Rattle.pt_graph.specs.declared.net.NetEntity.{NetEntity}
-use Rattle.pt_wiring.specs.Inside.{ports_at}
+use Rattle.pt_net.specs.declared.net.Channel.{Channel}
+use Rattle.pt_net.specs.declared.net.NetEntity.{NetEntity}
+use Rattle.pt_net.specs.Inside.{ports_at}
 use Rattle.pt_wiring.specs.Ports.{ArePortNumbers}
 use Rattle.pt_wiring.specs.Children.{AreChildren}
 use Rattle.pt_wiring.specs.Channels.{AreSources, AreArrivals, counts_at}

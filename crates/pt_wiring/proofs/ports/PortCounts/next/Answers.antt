@@ -1,6 +1,6 @@
 use Rattle.std.proofs.Common.{◌≡◌, ◌+◌, true, false, sym, ap, ◌∙◌, arith, if◌then◌else◌}
 use Rattle.std.specs.Prelude.{count_by, not}
-use Rattle.pt_wiring.specs.Inside.{is_input, is_output, is_inward}
+use Rattle.pt_net.specs.Inside.{is_input, is_output, is_inward}
 use Rattle.pt_wiring.proofs.PortLaws.{port-more, count-snoc}
 use Rattle.pt_wiring.proofs.ports.PortCounts.next.Goals as goal
 

@@ -1,0 +1,10 @@
+pub mod Datatype
+pub mod DatatypeCode
+pub mod RecordType
+pub mod Normal
+pub mod Order
+pub mod Join
+pub mod Laws
+pub mod Rank
+pub mod Rules
+pub mod Token

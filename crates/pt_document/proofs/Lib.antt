@@ -1,0 +1,9 @@
+pub mod Lists
+pub mod DistinctNames
+pub mod Refusals
+pub mod Trees
+pub mod TypeWords
+pub mod Chains
+pub mod TextWords
+pub mod TypeLaws
+pub mod TypeSound

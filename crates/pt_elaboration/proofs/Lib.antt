@@ -1,0 +1,4 @@
+pub mod Lists
+pub mod PortTypes
+pub mod StartLaws
+pub mod FaultLaws

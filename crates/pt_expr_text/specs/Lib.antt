@@ -1,8 +1,0 @@
-pub mod Words
-pub mod Symbol
-pub mod Level
-pub mod Grammar
-pub mod Fault
-pub mod Descent
-pub mod Deep
-pub mod Text

@@ -1,0 +1,4 @@
+pub mod Places
+pub mod TypedPorts
+pub mod Repetitions
+pub mod Zeros

@@ -1,0 +1,15 @@
+pub mod Comparisons
+pub mod Copied
+pub mod Ordered
+pub mod Turns
+pub mod ReaderSteps
+pub mod ReaderSound
+pub mod Same
+pub mod Complete
+pub mod Whole
+pub mod Heights
+pub mod JoinLaws
+pub mod Making
+pub mod Records
+pub mod TypeSound
+pub mod Values

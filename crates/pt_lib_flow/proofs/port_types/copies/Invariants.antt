@@ -1,6 +1,0 @@
-use Rattle.std.proofs.Common.{◌≡◌, take, map}
-use Rattle.pt_expr_type.specs.Entry.{typed_entry}
-use Rattle.pt_lib_flow.proofs.port_types.copies.Given as goal
-
-abbrev pub invariant-loop-name : goal.invariant-loop-name
-invariant-loop-name l = map typed_entry l.types.items ≡ map typed_entry (take l.name-index l.entries)

@@ -1,5 +1,0 @@
-use Rattle.std.proofs.Common.{◌≡◌, ◌++◌, take}
-use Rattle.pt_lib_flow.proofs.rates.push_copies.Given as goal
-
-abbrev pub invariant-loop-token : goal.invariant-loop-token
-invariant-loop-token l = l.given.items ≡ l.initial.given.items ++ take l.token-index l.tokens

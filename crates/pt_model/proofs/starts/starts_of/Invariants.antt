@@ -1,6 +1,0 @@
-use Rattle.pt_typing.specs.Least.{assignment}
-use Rattle.pt_model.proofs.StartLaws.{AreFirst}
-use Rattle.pt_model.proofs.starts.starts_of.Given as goal
-
-abbrev pub invariant-loop-number : goal.invariant-loop-number
-invariant-loop-number l = AreFirst l.net l.values (assignment l.typing) l.number l.starts.items

@@ -1,0 +1,14 @@
+pub mod NameSteps
+pub mod Fitting
+pub mod NameTests
+pub mod Pairs
+pub mod Elements
+pub mod Turns
+pub mod Pushed
+pub mod Places
+pub mod Document
+pub mod Standing
+pub mod SeenLaws
+pub mod Unique
+pub mod Clean
+pub mod OneMeaning

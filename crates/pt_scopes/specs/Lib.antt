@@ -1,0 +1,17 @@
+pub mod Forms
+pub mod Texts
+pub mod Names
+pub mod TextFault
+pub mod PortNames
+pub mod Binding
+pub mod Given
+pub mod Agreement
+pub mod Scopes
+pub mod Order
+pub mod Sites
+pub mod Valued
+pub mod Frames
+pub mod Told
+pub mod ClassParameters
+pub mod Laws
+pub mod Inputs

@@ -1,0 +1,40 @@
+-- A node as it was built: it may fire, nothing has fired yet, and nothing is recorded.
+use Rattle.std.specs.Prelude.{◌≡◌, List, [], ◌∷◌, true}
+use Rattle.pt_meaning.specs.Start.{IsAtStart}
+use Rattle.pt_laws.specs.Heights.{IsFitting}
+use Rattle.pt_laws.specs.StartedRuns.{ArePlans}
+use Rattle.pt_library.specs.LibraryActor.{rows}
+use Rattle.pt_node.specs.Recorded.{RecordedPort}
+use Rattle.pt_node.specs.Shown.{Shown, AllShown, Branch, none, more}
+use Rattle.pt_node.specs.View.{node_of}
+use Rattle.pt_node.specs.Live.{is_live, IsFit, IsSteady}
+use Rattle.pt_trees.specs.Rates.{IsRated}
+
+-- nothing is recorded of these outputs, nor noted
+abbrev pub AreEmpty : List RecordedPort → Type 0
+AreEmpty [] = Unit {0}
+AreEmpty (r ∷ rs) = (r.trace ≡ []) × (r.noted ≡ []) × AreEmpty rs
+
+-- nor of any output of a node within
+abbrev mutual
+  pub IsUnrecorded : Shown → Type 0
+  IsUnrecorded (Branch f ks) = AreEmpty f.records × AllUnrecorded ks
+
+  pub AllUnrecorded : AllShown → Type 0
+  AllUnrecorded none = Unit {0}
+  AllUnrecorded (more s ss) = IsUnrecorded s × AllUnrecorded ss
+
+-- a node that may fire, at its start, whose plans fit, which needs the same at each firing, and which gives a number of tokens that an actor may give
+pub record IsFresh (s : Shown) : Type 0 where
+  pub live : is_live s ≡ true
+  pub fit : IsFit s
+  pub steady : IsSteady s
+  pub rated : IsRated s
+  pub start : IsAtStart rows (node_of s)
+  pub fitting : IsFitting (node_of s)
+  pub plans : ArePlans (node_of s)
+  pub unrecorded : IsUnrecorded s
+
+abbrev pub AllFresh : List Shown → Type 0
+AllFresh [] = Unit {0}
+AllFresh (s ∷ ss) = IsFresh s × AllFresh ss

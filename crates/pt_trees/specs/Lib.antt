@@ -1,0 +1,11 @@
+pub mod Rates
+pub mod Around
+pub mod Fresh
+pub mod Composite
+pub mod Trees
+pub mod Recorded
+pub mod Built
+pub mod Ports
+pub mod Start
+pub mod Run
+pub mod Report

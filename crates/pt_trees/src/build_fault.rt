@@ -1,0 +1,35 @@
+ghost use Rattle.std.specs.Prelude.{◌≡◌};
+ghost use Rattle.pt_trees.specs.declared.build_fault.BuildFault.TheVariants as fault;
+
+use pt_document::Refusal;
+use std::alloc::{AllocError, AllocFailed};
+use thiserror::Error;
+
+/// Why a net has no tree of nodes.
+#[derive(Debug, Drop, Error)]
+pub enum BuildFault {
+    /// A composite has no plan.
+    #[error(transparent)]
+    Refused(Refusal),
+    /// The net asks for what isn't built yet.
+    #[error("the net isn't built yet")]
+    Unbuilt,
+    #[error("out of memory")]
+    Memory,
+}
+
+impl From<AllocError> for BuildFault {
+    ghost from_gives = { λ _ e. e ≡ fault.Memory };
+
+    fn from(_: AllocError) -> Self {
+        BuildFault::Memory
+    }
+}
+
+impl<T: Drop> From<AllocFailed<T>> for BuildFault {
+    ghost from_gives = { λ _ e. e ≡ fault.Memory };
+
+    fn from(_: AllocFailed<T>) -> Self {
+        BuildFault::Memory
+    }
+}

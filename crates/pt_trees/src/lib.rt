@@ -1,0 +1,14 @@
+//! Trees of nodes: what builds one, what a run of one is, and the faults of either.
+#![tactic(auto)]
+
+mod build_fault;
+mod composite_fault;
+mod ended;
+mod job;
+mod wiring;
+
+pub use build_fault::BuildFault;
+pub use composite_fault::CompositeFault;
+pub use ended::Ended;
+pub use job::SdfJob;
+pub use wiring::Wiring;

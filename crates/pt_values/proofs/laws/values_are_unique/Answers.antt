@@ -1,5 +1,0 @@
-use Rattle.pt_values.proofs.OneMeaning.{one-meaning}
-use Rattle.pt_values.proofs.laws.values_are_unique.Goals as goal
-
-pub returns : goal.returns
-returns c = one-meaning
