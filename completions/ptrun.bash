@@ -1,0 +1,23 @@
+# Completion of bin/ptrun and bin/try for bash: source this file.
+_ptrun() {
+  local word=${COMP_WORDS[COMP_CWORD]} before=${COMP_WORDS[COMP_CWORD - 1]}
+  COMPREPLY=()
+  if [[ $before == --budget ]]; then
+    return
+  elif ((COMP_CWORD == 1)); then
+    local first="run --help --version"
+    [[ ${COMP_WORDS[0]##*/} == ptrun ]] && first="$first --rebuild"
+    mapfile -t COMPREPLY < <(compgen -W "$first" -- "$word")
+  elif [[ $word == -* ]]; then
+    mapfile -t COMPREPLY < <(compgen -W "--budget --help" -- "$word")
+  elif [[ $before == --rebuild ]]; then
+    mapfile -t COMPREPLY < <(compgen -W "run" -- "$word")
+  else
+    compopt -o filenames 2>/dev/null
+    mapfile -t COMPREPLY < <(
+      compgen -d -- "$word"
+      compgen -f -X '!*.json' -- "$word"
+    )
+  fi
+}
+complete -F _ptrun ptrun bin/ptrun ./bin/ptrun bin/try ./bin/try

@@ -1,0 +1,1 @@
+"""What the tools beside ptrun share: documents with places, reports, drawings, waves and pages."""

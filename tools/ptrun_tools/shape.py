@@ -1,0 +1,259 @@
+"""The forms of a document's objects and names: what breaks them within one entity (codes 11 and 12)."""
+
+from __future__ import annotations
+
+import re
+from typing import Iterable, Iterator
+
+from .document import Value
+from .finding import Remark, listed, meant, quoted
+from .model import NAME, RESERVED, Entity, Job, Node
+
+# The fields of each object: their kinds, and an exclamation mark where one is required.
+FORMS: dict[str, dict[str, str]] = {
+    "document": {"version": "number!", "model": "object!", "inputs": "list", "record": "list"},
+    "entity": {
+        "name": "text!", "class": "text!", "properties": "list", "ports": "list", "entities": "list",
+        "relations": "list", "links": "list", "states": "list", "initial": "text", "transitions": "list",
+    },
+    "property": {"name": "text!", "value": "text", "class": "text", "properties": "list"},
+    "port": {"name": "text!", "input": "truth", "output": "truth", "type": "text", "properties": "list"},
+    "relation": {"name": "text!"},
+    "link": {"port": "text", "relation": "text", "relation1": "text", "relation2": "text"},
+    "state": {"name": "text!", "refinement": "text"},
+    "transition": {
+        "from": "text!", "to": "text!", "guard": "text!", "preemptive": "truth", "history": "truth!", "output": "list",
+        "set": "list",
+    },
+    "output action": {"port": "text!", "value": "text!"},
+    "set action": {"name": "text!", "value": "text!"},
+    "input": {"port": "text!", "tokens": "list", "events": "list"},
+    "event": {"time": "number!", "step": "number!", "value": "text!"},
+}
+_KINDS = {"text": "a text in double quotes", "truth": "true or false", "list": "a list", "object": "an object", "number": "a whole number"}
+# Which fields of an entity stand in some classes alone.
+_OF_COMPOSITES = ("relations", "links")
+_OF_MODALS = ("states", "initial", "transitions")
+_WITH_PORTS = ("Composite", "Modal", "Expression", "RecordAssembler", "RecordDisassembler")
+
+
+def allowed_fields(kind: str) -> list[str]:
+    """The fields that an entity of this class may have."""
+    fields = ["name", "class", "properties"]
+    fields += ["ports"] if kind in _WITH_PORTS else []
+    fields += ["entities"] if kind in ("Composite", "Modal") else []
+    fields += _OF_COMPOSITES if kind == "Composite" else []
+    return fields + (list(_OF_MODALS) if kind == "Modal" else [])
+
+
+def form_faults(value: Value, form: str) -> Iterator[Remark]:
+    """What is wrong with one object's own fields."""
+    if value.kind != "object":
+        yield Remark(value, f"An object is wanted here, the {form}.")
+        return
+    fields, node = FORMS[form], Node(value)
+    for name, key in node.keys.items():
+        if name not in fields:
+            yield Remark(key, f"The field {quoted(name)} is unknown. {meant(name, fields)} Fields of this {form}: {listed(fields)}.")
+        elif node.fields[name].kind != fields[name].rstrip("!"):
+            yield Remark(node.fields[name], f"The field '{name}' of this {form} is {_KINDS[fields[name].rstrip('!')]}.")
+    for name, kind in fields.items():
+        if kind.endswith("!") and name not in node.fields:
+            yield Remark(value, f"This {form} lacks its field '{name}', which is {_KINDS[kind[:-1]]}.")
+
+
+def _each(node: Node, field: str, form: str) -> Iterator[Remark]:
+    for item in node.items(field):
+        yield from form_faults(item, form)
+
+
+def shape_faults(job: Job, entity: Entity) -> Iterator[Remark]:
+    """What breaks the form in this entity, and in the whole document where it is the top."""
+    if entity.parent is None:
+        yield from _document_faults(job)
+    yield from _entity_faults(entity)
+    yield from _property_faults(entity)
+    yield from _port_faults(entity)
+    yield from _each(entity, "relations", "relation")
+    yield from _link_faults(entity)
+    yield from _each(entity, "states", "state")
+    for item in entity.items("transitions"):
+        yield from form_faults(item, "transition")
+        yield from _each(Node(item), "output", "output action")
+        yield from _each(Node(item), "set", "set action")
+    for child in entity.items("entities"):
+        yield from (remark for remark in form_faults(child, "entity") if _is_of_parent(remark, child))
+
+
+def _is_of_parent(remark: Remark, child: Value) -> bool:
+    """Whether a fault of a child is reported at the entity around it: its name, or that it is no object."""
+    return child.kind != "object" or "'name'" in remark.text
+
+
+def _document_faults(job: Job) -> Iterator[Remark]:
+    yield from form_faults(job.value, "document")
+    version = job.fields.get("version")
+    if version is not None and version.raw() != "1":
+        yield Remark(version, "The version is the whole number 1.")
+    for item in job.items("record"):
+        if item.kind != "text":
+            yield Remark(item, "The record is a list of texts, the paths of output ports.")
+    for item in job.items("inputs"):
+        yield from form_faults(item, "input")
+        yield from _input_faults(Node(item))
+
+
+def _input_faults(given: Node) -> Iterator[Remark]:
+    if ("tokens" in given.fields) == ("events" in given.fields):
+        yield Remark(given.value, "An input has one of 'tokens' and 'events', and not both.")
+    for item in given.items("tokens"):
+        if item.kind not in ("text", "null"):
+            yield Remark(item, "A token is a text of an expression, as \"1\", or null for none.")
+    for item in given.items("events"):
+        yield from form_faults(item, "event")
+        for field in ("time", "step"):
+            number = Node(item).fields.get(field)
+            if number is not None and not (re.fullmatch(r"[0-9]{1,20}", number.raw()) and int(number.raw()) < 2**64):
+                yield Remark(number, f"The {field} of an event is a whole number from 0, of 64 bits at most.")
+
+
+def _entity_faults(entity: Entity) -> Iterator[Remark]:
+    if entity.parent is None:
+        yield from form_faults(entity.value, "entity")
+    else:
+        yield from (remark for remark in form_faults(entity.value, "entity") if not _is_of_parent(remark, entity.value))
+    allowed = allowed_fields(entity.kind)
+    for name in FORMS["entity"]:
+        if name in entity.keys and name not in allowed and entity.kind:
+            yield Remark(entity.keys[name], f"An entity of class {quoted(entity.kind)} has no '{name}'. It may have: {listed(allowed)}.")
+    if entity.is_modal:
+        for name in ("states", "initial"):
+            if name not in entity.fields:
+                yield Remark(entity.value, f"A Modal has the field '{name}'.")
+
+
+def _property_faults(entity: Entity) -> Iterator[Remark]:
+    waiting = list(entity.items("properties"))
+    while waiting:
+        item = waiting.pop(0)
+        yield from form_faults(item, "property")
+        waiting += Node(item).items("properties")
+    directors = [inner for inner in entity.properties if inner.is_director]
+    for second in directors[1:]:
+        yield Remark(second.at("class"), f"A composite has one director, and this one has {quoted(directors[0].text('class'))} already.")
+
+
+def _port_faults(entity: Entity) -> Iterator[Remark]:
+    for item in entity.items("ports"):
+        yield from form_faults(item, "port")
+        port = Node(item)
+        yield from _each(port, "properties", "property")
+        if port.truth("input") == port.truth("output"):
+            yield Remark(item, "Exactly one of 'input' and 'output' is true at a port.")
+        wrong = "input" if entity.kind == "RecordDisassembler" else "output"
+        if entity.kind in _WITH_PORTS[2:] and port.truth(wrong):
+            right = "outputs" if wrong == "input" else "inputs"
+            yield Remark(port.at(wrong), f"{entity.kind} declares {right}; its {wrong} is there without being declared.")
+        if "type" in port.fields and type_end(port.text("type"), 0) != len(port.text("type")):
+            yield Remark(port.at("type"), "A type is int, boolean, string, arrayType(T) or {a = T, b = T}, with single blanks as shown.")
+    if entity.kind in ("RecordAssembler", "RecordDisassembler") and not entity.ports:
+        yield Remark(entity.value, f"A {entity.kind} declares one port at least.")
+
+
+def _link_faults(entity: Entity) -> Iterator[Remark]:
+    for item in entity.items("links"):
+        yield from form_faults(item, "link")
+        if set(Node(item).fields) not in ({"port", "relation"}, {"relation1", "relation2"}):
+            yield Remark(item, "A link has 'port' and 'relation', or 'relation1' and 'relation2'.")
+
+
+_FIRST_FIELD = re.compile(r"\{([A-Za-z_]\w*) = ", re.ASCII)
+_NEXT_FIELD = re.compile(r", ([A-Za-z_]\w*) = ", re.ASCII)
+
+
+def type_end(text: str, start: int) -> int:
+    """Where the type ends that begins here, or -1. Types in one another are kept on a list, not by recursion."""
+    position, closers = start, []
+    while True:
+        if text.startswith("arrayType(", position):
+            closers.append((")", set()))
+            position += len("arrayType(")
+            continue
+        if field := _FIRST_FIELD.match(text, position):
+            if field[1] in RESERVED or len(field[1]) > 64:
+                return -1
+            closers.append(("}", {field[1]}))
+            position = field.end()
+            continue
+        word = next((word for word in ("int", "boolean", "string") if text.startswith(word, position)), None)
+        if word is None:
+            return -1
+        position += len(word)
+        while closers and text.startswith(closers[-1][0], position):
+            closers.pop()
+            position += 1
+        if not closers:
+            return position
+        following = _NEXT_FIELD.match(text, position)
+        if closers[-1][0] != "}" or not following or following[1] in closers[-1][1] or following[1] in RESERVED:
+            return -1
+        closers[-1][1].add(following[1])
+        position = following.end()
+
+
+def name_faults(job: Job, entity: Entity) -> Iterator[Remark]:
+    """Which names in this entity aren't of the form, are reserved, or are repeated."""
+    if entity.parent is None:
+        yield from _names([entity], "entity")
+    waiting: list[Node] = [entity]
+    while waiting:
+        inner = waiting.pop().nodes("properties")
+        yield from _names(inner, "property")
+        waiting += inner
+    yield from _names(entity.ports, "port")
+    for port in entity.ports:
+        yield from _names(port.nodes("properties"), "property")
+    yield from _names(entity.entities, "entity")
+    yield from _names(entity.relations, "relation")
+    yield from _names(entity.states, "state")
+    yield from _reserved(entity)
+
+
+def _names(nodes: Iterable[Node], what: str) -> Iterator[Remark]:
+    seen: dict[str, Node] = {}
+    for node in nodes:
+        if "name" not in node.fields:
+            continue
+        place = node.at("name")
+        if not NAME.fullmatch(node.name):
+            yield Remark(place, f"{quoted(node.name)} is no name: {_what_breaks(node.name)}")
+        if node.name in seen:
+            line = seen[node.name].value.place().line
+            yield Remark(place, f"The name {quoted(node.name)} stands twice: another {what} of this name is in line {line}.")
+        seen[node.name] = node
+
+
+def _what_breaks(name: str) -> str:
+    if not name:
+        return "it is empty."
+    if len(name) > 64 and name.isascii():
+        return f"it has {len(name):,} bytes, and 64 are the most."
+    if name[0].isdigit():
+        return "it begins with a digit."
+    bad = next((sign for sign in name if not re.fullmatch("[A-Za-z0-9_]", sign)), "")
+    shown = f"{bad!r} (U+{ord(bad):04X})" if bad else "a sign"
+    return f"it has {shown}, and a name has letters from A to Z, digits and underscores alone."
+
+
+def _reserved(entity: Entity) -> Iterator[Remark]:
+    named = list(entity.ports)
+    if entity.is_composite or entity.is_modal:
+        named += entity.parameters + entity.variables
+    for node in named:
+        if node.name in RESERVED or node.name.endswith("_isPresent"):
+            reason = f"{quoted(node.name)} belongs to the expression language, and names no port, parameter or Variable."
+            yield Remark(node.at("name"), reason)
+    there = {"Expression": "output", "RecordAssembler": "output", "RecordDisassembler": "input"}.get(entity.kind)
+    for port in entity.ports:
+        if port.name == there:
+            yield Remark(port.at("name"), f"A {entity.kind} has its port '{there}' without being told.")
