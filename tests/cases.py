@@ -248,15 +248,16 @@ def example_cases() -> list[Case]:
     cases = []
     for path in sorted(EXAMPLES.glob("*.json")):
         text = path.with_suffix(".txt").read_bytes()
+        others = [other.read_bytes() for other in sorted(EXAMPLES.glob(f"{path.stem}.[2-9].txt"))]
         if path.stem not in needs:
             raise BadCase(f"tests/examples has no line for {path.stem}")
         status = status_of_text(text)
         cases.append(Case(
             name=f"examples/{path.stem}",
-            about=f"the example {path.stem} gives its text",
+            about=f"the example {path.stem} gives its text, or one of them",
             words=["run"],
             status=status,
-            outputs=[text],
+            outputs=[text, *others],
             needs=needs[path.stem],
             document=path.read_bytes(),
             schema=schema_answer(None, status),

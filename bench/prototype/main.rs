@@ -2,7 +2,7 @@
 //! WORD: `bursts` is the interpreter's order of firings, `turns` one firing after another; else it is pt_sched's. `sizes` prints sizes.
 use crate::balance::repetitions;
 use crate::pt_firing::{Actor, Answer, Counts, Inputs, Need, Ports, Tokens, Values};
-use crate::pt_lib_flow::Params;
+use crate::pt_flow_base::Params;
 use crate::pt_library::LibraryActor;
 use crate::pt_node::{Body, Director, Held, Node, Past, Recorded, Records};
 use crate::pt_recv::Channels;
