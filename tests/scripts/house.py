@@ -48,7 +48,7 @@ class House(unittest.TestCase):
 
     def call(self, script: str, *words: str, given: str = "", **how) -> subprocess.CompletedProcess:
         command = [str(self.root / script), *words]
-        return subprocess.run(command, input=given, capture_output=True, text=True, env=self.environment(**how), cwd=self.root, timeout=60)
+        return subprocess.run(command, input=given, capture_output=True, text=True, env=self.environment(**how), cwd=self.root, timeout=300)
 
     def asked(self) -> list[str]:
         """What rt was asked so far."""
