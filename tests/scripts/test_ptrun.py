@@ -94,7 +94,7 @@ class Terminal(Program):
         ours, theirs = pty.openpty()
         program = subprocess.Popen([self.root / RUN, "run"], stdin=theirs, stdout=subprocess.PIPE, stderr=subprocess.PIPE, text=True, env=self.environment())
         os.write(ours, b"typed\n\x04")
-        wrote, said = program.communicate(timeout=30)
+        wrote, said = program.communicate(timeout=300)
         os.close(ours)
         os.close(theirs)
         self.assertEqual(wrote, "words: run\ntyped\n")
@@ -124,11 +124,13 @@ class Build(Program):
         self.assertIn("on with 4 at a time", told.stderr)
 
     def test_an_interrupted_build_goes_on(self) -> None:
-        for fake in ("slow", "slow parts"):
+        for fake, first in (("slow", "all check"), ("slow parts", "lib pt_a")):
             build = subprocess.Popen([self.root / BUILD], stderr=subprocess.PIPE, text=True, env=self.environment(fake=fake))
-            time.sleep(2)
+            while not any(line.startswith(first) for line in self.asked()):
+                self.assertIsNone(build.poll())
+                time.sleep(0.05)
             build.send_signal(signal.SIGTERM)
-            _, said = build.communicate(timeout=30)
+            _, said = build.communicate(timeout=300)
             self.assertEqual(build.returncode, 143)
             self.assertIn("the next build goes on from there", said)
         told = self.call(RUN, "run", given="the model\n")

@@ -120,7 +120,7 @@ class Pictures(unittest.TestCase):
 
 class Commands(unittest.TestCase):
     def call(self, *words: str, **more) -> subprocess.CompletedProcess:
-        return subprocess.run([sys.executable, str(ROOT / "bin" / "draw"), *words], capture_output=True, text=True, timeout=60, **more)
+        return subprocess.run([sys.executable, str(ROOT / "bin" / "draw"), *words], capture_output=True, text=True, timeout=300, **more)
 
     def test_without_graphviz_the_dot_text_is_written(self):
         done = self.call(str(EXAMPLES / "desk.json"), env={"PATH": "/nowhere"})

@@ -152,7 +152,7 @@ exit 2
 
 class Commands(unittest.TestCase):
     def call(self, *words: str, **more) -> subprocess.CompletedProcess:
-        return subprocess.run([sys.executable, str(ROOT / "bin" / "explain"), *words], capture_output=True, text=True, timeout=60, **more)
+        return subprocess.run([sys.executable, str(ROOT / "bin" / "explain"), *words], capture_output=True, text=True, timeout=300, **more)
 
     def test_a_program_that_is_named_is_run(self):
         with tempfile.TemporaryDirectory() as folder:

@@ -92,7 +92,7 @@ class Pages(unittest.TestCase):
 
 class Commands(unittest.TestCase):
     def call(self, tool: str, *words: str) -> subprocess.CompletedProcess:
-        return subprocess.run([sys.executable, str(ROOT / "bin" / tool), *words], capture_output=True, text=True, timeout=60)
+        return subprocess.run([sys.executable, str(ROOT / "bin" / tool), *words], capture_output=True, text=True, timeout=300)
 
     def test_each_tool_has_help(self):
         for tool in ("explain", "draw", "waves", "page"):
