@@ -61,7 +61,7 @@ class Case:
         if self.maker is None:
             return self.document
         made = subprocess.run(
-            [sys.executable, str(self.maker)], env=SCRIPT_ENVIRONMENT, stdout=subprocess.PIPE, check=True, timeout=120,
+            [sys.executable, str(self.maker)], env=SCRIPT_ENVIRONMENT, stdout=subprocess.PIPE, check=True, timeout=300,
         )
         return made.stdout
 

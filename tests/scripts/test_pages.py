@@ -1,5 +1,6 @@
 """The manual page and the completions."""
 
+import shlex
 import shutil
 import subprocess
 import unittest
@@ -7,8 +8,9 @@ import unittest
 from house import ROOT
 
 MANUAL = ROOT / "docs" / "ptrun.1"
+FILE = ROOT / "completions" / "ptrun.bash"
 COMPLETE = """
-source {root}/completions/ptrun.bash
+source {file}
 COMP_WORDS=({words})
 COMP_CWORD=$((${{#COMP_WORDS[@]}} - 1))
 _ptrun
@@ -18,7 +20,7 @@ printf '%s\\n' "${{COMPREPLY[@]}}"
 
 def completed(*words: str) -> set[str]:
     """What bash offers for the last of these words, at the top of the repository."""
-    script = COMPLETE.format(root=ROOT, words=" ".join(f"'{word}'" for word in words))
+    script = COMPLETE.format(file=shlex.quote(str(FILE)), words=shlex.join(words))
     told = subprocess.run(["bash", "-c", script], cwd=ROOT, capture_output=True, text=True, check=True)
     return set(told.stdout.split())
 
