@@ -1,5 +1,6 @@
 -- Tokens by the types that they have, and what operators make of them.
 use Rattle.std.proofs.Common.{◌≡◌, ℕ, zero, suc, ℤ, pos, negsuc, Bool, true, false, not, ◌&&◌, List, ◌++◌, length, Option, Some, if◌then◌else◌, refl, sym, ap}
+use Rattle.std.proofs.lemmas.Bool.{false≢true}
 use Rattle.std.specs.Prelude.{slice_get, chars, int_div, ◌+ℤ◌, ◌-ℤ◌, ◌*ℤ◌}
 use Rattle.std.specs.Str.{bytes_eq}
 use Rattle.pt_value.specs.Value as val
@@ -49,27 +50,27 @@ record-of : (fs : Named) (u : Datatype) → Of u (val.Record fs) → IsBelow (Re
 record-of fs u h = below-trans (Record (field_types fs)) (record_of (field_types fs)) u (below-normal (Record (field_types fs))) h
 
 pub never-unknown : (v : Value) → Of Unknown v → ⊥
-never-unknown (val.Int n) h = cc
-never-unknown (val.Bool b) h = cc
-never-unknown (val.Words xs) h = cc
-never-unknown (val.Array vs) h = let e = array-of vs Unknown h in cc
-never-unknown (val.Record fs) h = let e = record-of fs Unknown h in cc
+never-unknown (val.Int n) h = false≢true h
+never-unknown (val.Bool b) h = false≢true h
+never-unknown (val.Words xs) h = false≢true h
+never-unknown (val.Array vs) h = false≢true (array-of vs Unknown h)
+never-unknown (val.Record fs) h = false≢true (record-of fs Unknown h)
 
 -- ---- one operand
 
 pub int-sound : (t : Datatype) (run : ℤ → Outcome Value) → ((n : ℤ) → Sound Of (Has t) (run n)) → (v : Value) → Of Int v → Sound Of (Has t) (meaning.of_int run v)
 int-sound t run all (val.Int n) h = all n
-int-sound t run all (val.Bool b) h = absurd (let e : ⊥ = cc in e)
-int-sound t run all (val.Words xs) h = absurd (let e : ⊥ = cc in e)
-int-sound t run all (val.Array vs) h = absurd (let k = array-of vs Int h in let e : ⊥ = cc in e)
-int-sound t run all (val.Record fs) h = absurd (let k = record-of fs Int h in let e : ⊥ = cc in e)
+int-sound t run all (val.Bool b) h = absurd (false≢true h)
+int-sound t run all (val.Words xs) h = absurd (false≢true h)
+int-sound t run all (val.Array vs) h = absurd (false≢true (array-of vs Int h))
+int-sound t run all (val.Record fs) h = absurd (false≢true (record-of fs Int h))
 
 pub ints-sound : (t : Datatype) (run : ℤ → ℤ → Outcome Value) → ((m n : ℤ) → Sound Of (Has t) (run m n)) → (v w : Value) → Of Int v → Of Int w → Sound Of (Has t) (meaning.of_ints run v w)
 ints-sound t run all (val.Int m) w h k = int-sound t (run m) (all m) w k
-ints-sound t run all (val.Bool b) w h k = absurd (let e : ⊥ = cc in e)
-ints-sound t run all (val.Words xs) w h k = absurd (let e : ⊥ = cc in e)
-ints-sound t run all (val.Array vs) w h k = absurd (let l = array-of vs Int h in let e : ⊥ = cc in e)
-ints-sound t run all (val.Record fs) w h k = absurd (let l = record-of fs Int h in let e : ⊥ = cc in e)
+ints-sound t run all (val.Bool b) w h k = absurd (false≢true h)
+ints-sound t run all (val.Words xs) w h k = absurd (false≢true h)
+ints-sound t run all (val.Array vs) w h k = absurd (false≢true (array-of vs Int h))
+ints-sound t run all (val.Record fs) w h k = absurd (false≢true (record-of fs Int h))
 
 exact-by : (b : Bool) (n : ℤ) → Sound Of (Has Int) (if b then Gives (val.Int n) else Stops Overflow)
 exact-by true n = refl
@@ -114,18 +115,18 @@ ordered-sound run all s t v w h k = two-ints s t Boolean run all v w h k
 
 pub denied-sound : (v : Value) → Of Boolean v → Sound Of (Has Boolean) (meaning.denied v)
 denied-sound (val.Bool b) h = refl
-denied-sound (val.Int n) h = absurd (let e : ⊥ = cc in e)
-denied-sound (val.Words xs) h = absurd (let e : ⊥ = cc in e)
-denied-sound (val.Array vs) h = absurd (let k = array-of vs Boolean h in let e : ⊥ = cc in e)
-denied-sound (val.Record fs) h = absurd (let k = record-of fs Boolean h in let e : ⊥ = cc in e)
+denied-sound (val.Int n) h = absurd (false≢true h)
+denied-sound (val.Words xs) h = absurd (false≢true h)
+denied-sound (val.Array vs) h = absurd (false≢true (array-of vs Boolean h))
+denied-sound (val.Record fs) h = absurd (false≢true (record-of fs Boolean h))
 
 -- a condition, and what follows on either answer
 pub test-sound : (t : Datatype) (run : Bool → Outcome Value) → ((b : Bool) → Sound Of (Has t) (run b)) → (o : Outcome Value) → Sound Of (Has Boolean) o → Sound Of (Has t) (and_then o (λ v. and_then (meaning.truth v) run))
 test-sound t run all (Gives (val.Bool b)) h = all b
-test-sound t run all (Gives (val.Int n)) h = absurd (let e : ⊥ = cc in e)
-test-sound t run all (Gives (val.Words xs)) h = absurd (let e : ⊥ = cc in e)
-test-sound t run all (Gives (val.Array vs)) h = absurd (let k = array-of vs Boolean h in let e : ⊥ = cc in e)
-test-sound t run all (Gives (val.Record fs)) h = absurd (let k = record-of fs Boolean h in let e : ⊥ = cc in e)
+test-sound t run all (Gives (val.Int n)) h = absurd (false≢true h)
+test-sound t run all (Gives (val.Words xs)) h = absurd (false≢true h)
+test-sound t run all (Gives (val.Array vs)) h = absurd (false≢true (array-of vs Boolean h))
+test-sound t run all (Gives (val.Record fs)) h = absurd (false≢true (record-of fs Boolean h))
 test-sound t run all (Stops f) h = tt
 test-sound t run all Wrong h = h
 
@@ -160,23 +161,23 @@ chosen-sound (Has a) (Has b) (Has c) test first second h k l = where-sound Of (i
 sum-sound : (j : Datatype) (x y : Value) → Of j x → Of j y → Sound Of (summed j) (meaning.sum x y)
 sum-sound Unknown x y h k = absurd (never-unknown x h)
 sum-sound Int (val.Int m) (val.Int n) h k = exact-sound (m +ℤ n)
-sum-sound Int (val.Int m) (val.Bool b) h k = absurd (let e : ⊥ = cc in e)
-sum-sound Int (val.Int m) (val.Words xs) h k = absurd (let e : ⊥ = cc in e)
-sum-sound Int (val.Int m) (val.Array vs) h k = absurd (let l = array-of vs Int k in let e : ⊥ = cc in e)
-sum-sound Int (val.Int m) (val.Record fs) h k = absurd (let l = record-of fs Int k in let e : ⊥ = cc in e)
-sum-sound Int (val.Bool b) y h k = absurd (let e : ⊥ = cc in e)
-sum-sound Int (val.Words xs) y h k = absurd (let e : ⊥ = cc in e)
-sum-sound Int (val.Array vs) y h k = absurd (let l = array-of vs Int h in let e : ⊥ = cc in e)
-sum-sound Int (val.Record fs) y h k = absurd (let l = record-of fs Int h in let e : ⊥ = cc in e)
+sum-sound Int (val.Int m) (val.Bool b) h k = absurd (false≢true k)
+sum-sound Int (val.Int m) (val.Words xs) h k = absurd (false≢true k)
+sum-sound Int (val.Int m) (val.Array vs) h k = absurd (false≢true (array-of vs Int k))
+sum-sound Int (val.Int m) (val.Record fs) h k = absurd (false≢true (record-of fs Int k))
+sum-sound Int (val.Bool b) y h k = absurd (false≢true h)
+sum-sound Int (val.Words xs) y h k = absurd (false≢true h)
+sum-sound Int (val.Array vs) y h k = absurd (false≢true (array-of vs Int h))
+sum-sound Int (val.Record fs) y h k = absurd (false≢true (record-of fs Int h))
 sum-sound Words (val.Words xs) (val.Words ys) h k = within-sound Words (val.Words (xs ++ ys)) refl
-sum-sound Words (val.Words xs) (val.Int n) h k = absurd (let e : ⊥ = cc in e)
-sum-sound Words (val.Words xs) (val.Bool b) h k = absurd (let e : ⊥ = cc in e)
-sum-sound Words (val.Words xs) (val.Array vs) h k = absurd (let l = array-of vs Words k in let e : ⊥ = cc in e)
-sum-sound Words (val.Words xs) (val.Record fs) h k = absurd (let l = record-of fs Words k in let e : ⊥ = cc in e)
-sum-sound Words (val.Int n) y h k = absurd (let e : ⊥ = cc in e)
-sum-sound Words (val.Bool b) y h k = absurd (let e : ⊥ = cc in e)
-sum-sound Words (val.Array vs) y h k = absurd (let l = array-of vs Words h in let e : ⊥ = cc in e)
-sum-sound Words (val.Record fs) y h k = absurd (let l = record-of fs Words h in let e : ⊥ = cc in e)
+sum-sound Words (val.Words xs) (val.Int n) h k = absurd (false≢true k)
+sum-sound Words (val.Words xs) (val.Bool b) h k = absurd (false≢true k)
+sum-sound Words (val.Words xs) (val.Array vs) h k = absurd (false≢true (array-of vs Words k))
+sum-sound Words (val.Words xs) (val.Record fs) h k = absurd (false≢true (record-of fs Words k))
+sum-sound Words (val.Int n) y h k = absurd (false≢true h)
+sum-sound Words (val.Bool b) y h k = absurd (false≢true h)
+sum-sound Words (val.Array vs) y h k = absurd (false≢true (array-of vs Words h))
+sum-sound Words (val.Record fs) y h k = absurd (false≢true (record-of fs Words h))
 sum-sound Boolean x y h k = tt
 sum-sound (Array t) x y h k = tt
 sum-sound (Record fs) x y h k = tt
@@ -239,18 +240,18 @@ at-sound (value_then v vs) u h (suc n) = at-sound vs u (below-trans (join_of vs)
 index-sound : (vs : Values) (u : Datatype) → IsBelow (join_of vs) u → (y : Value) → Of Int y → Sound Of (Has u) (meaning.element (val.Array vs) y)
 index-sound vs u h (val.Int (pos n)) k = at-sound vs u h n
 index-sound vs u h (val.Int (negsuc n)) k = tt
-index-sound vs u h (val.Bool b) k = absurd (let e : ⊥ = cc in e)
-index-sound vs u h (val.Words xs) k = absurd (let e : ⊥ = cc in e)
-index-sound vs u h (val.Array ws) k = absurd (let l = array-of ws Int k in let e : ⊥ = cc in e)
-index-sound vs u h (val.Record fs) k = absurd (let l = record-of fs Int k in let e : ⊥ = cc in e)
+index-sound vs u h (val.Bool b) k = absurd (false≢true k)
+index-sound vs u h (val.Words xs) k = absurd (false≢true k)
+index-sound vs u h (val.Array ws) k = absurd (false≢true (array-of ws Int k))
+index-sound vs u h (val.Record fs) k = absurd (false≢true (record-of fs Int k))
 
 element-sound : (s : Datatype) (x y : Value) → Of s x → Of Int y → Sound Of (element s) (meaning.element x y)
 element-sound Unknown x y h k = absurd (never-unknown x h)
 element-sound (Array u) (val.Array vs) y h k = index-sound vs u (array-of vs (Array u) h) y k
-element-sound (Array u) (val.Int n) y h k = absurd (let e : ⊥ = cc in e)
-element-sound (Array u) (val.Bool b) y h k = absurd (let e : ⊥ = cc in e)
-element-sound (Array u) (val.Words xs) y h k = absurd (let e : ⊥ = cc in e)
-element-sound (Array u) (val.Record fs) y h k = absurd (let l = record-of fs (Array u) h in let e : ⊥ = cc in e)
+element-sound (Array u) (val.Int n) y h k = absurd (false≢true h)
+element-sound (Array u) (val.Bool b) y h k = absurd (false≢true h)
+element-sound (Array u) (val.Words xs) y h k = absurd (false≢true h)
+element-sound (Array u) (val.Record fs) y h k = absurd (false≢true (record-of fs (Array u) h))
 element-sound Int x y h k = tt
 element-sound Boolean x y h k = tt
 element-sound Words x y h k = tt
@@ -270,7 +271,7 @@ in-by false t p v o h k = k
 
 in-sound : (fs : Named) (gs : FieldTypes) (name : List ℕ) → are_below (field_types fs) gs ≡ true → Sound Of (type_in gs name) (meaning.there (field_at (val.fields_of fs) name))
 in-sound val.no_fields no_fields name h = tt
-in-sound val.no_fields (field_then n t gs) name h = absurd (let e : ⊥ = cc in e)
+in-sound val.no_fields (field_then n t gs) name h = absurd (false≢true h)
 in-sound (val.field_then m v fs) no_fields name h = tt
 in-sound (val.field_then m v fs) (field_then n t gs) name h =
     let a = and_left (bytes_eq m n && is_below (type_of_value v) t) (are_below (field_types fs) gs) h in
@@ -280,10 +281,10 @@ in-sound (val.field_then m v fs) (field_then n t gs) name h =
 pub field-sound : (name : List ℕ) (s : Datatype) (x : Value) → Of s x → Sound Of (field name s) (meaning.field name x)
 field-sound name Unknown x h = absurd (never-unknown x h)
 field-sound name (Record gs) (val.Record fs) h = in-sound fs gs name (record-of fs (Record gs) h)
-field-sound name (Record gs) (val.Int n) h = absurd (let e : ⊥ = cc in e)
-field-sound name (Record gs) (val.Bool b) h = absurd (let e : ⊥ = cc in e)
-field-sound name (Record gs) (val.Words xs) h = absurd (let e : ⊥ = cc in e)
-field-sound name (Record gs) (val.Array vs) h = absurd (let l = array-of vs (Record gs) h in let e : ⊥ = cc in e)
+field-sound name (Record gs) (val.Int n) h = absurd (false≢true h)
+field-sound name (Record gs) (val.Bool b) h = absurd (false≢true h)
+field-sound name (Record gs) (val.Words xs) h = absurd (false≢true h)
+field-sound name (Record gs) (val.Array vs) h = absurd (false≢true (array-of vs (Record gs) h))
 field-sound name Int x h = tt
 field-sound name Boolean x h = tt
 field-sound name Words x h = tt
@@ -293,15 +294,15 @@ field-sound name General x h = tt
 pub length_of-sound : (s : Datatype) (x : Value) → Of s x → Sound Of (length_of s) (meaning.length_of x)
 length_of-sound Unknown x h = absurd (never-unknown x h)
 length_of-sound Words (val.Words xs) h = exact-sound (pos (length (chars xs)))
-length_of-sound Words (val.Int n) h = absurd (let e : ⊥ = cc in e)
-length_of-sound Words (val.Bool b) h = absurd (let e : ⊥ = cc in e)
-length_of-sound Words (val.Array vs) h = absurd (let l = array-of vs Words h in let e : ⊥ = cc in e)
-length_of-sound Words (val.Record fs) h = absurd (let l = record-of fs Words h in let e : ⊥ = cc in e)
+length_of-sound Words (val.Int n) h = absurd (false≢true h)
+length_of-sound Words (val.Bool b) h = absurd (false≢true h)
+length_of-sound Words (val.Array vs) h = absurd (false≢true (array-of vs Words h))
+length_of-sound Words (val.Record fs) h = absurd (false≢true (record-of fs Words h))
 length_of-sound (Array t) (val.Array vs) h = exact-sound (pos (length (list_of vs)))
-length_of-sound (Array t) (val.Int n) h = absurd (let e : ⊥ = cc in e)
-length_of-sound (Array t) (val.Bool b) h = absurd (let e : ⊥ = cc in e)
-length_of-sound (Array t) (val.Words xs) h = absurd (let e : ⊥ = cc in e)
-length_of-sound (Array t) (val.Record fs) h = absurd (let l = record-of fs (Array t) h in let e : ⊥ = cc in e)
+length_of-sound (Array t) (val.Int n) h = absurd (false≢true h)
+length_of-sound (Array t) (val.Bool b) h = absurd (false≢true h)
+length_of-sound (Array t) (val.Words xs) h = absurd (false≢true h)
+length_of-sound (Array t) (val.Record fs) h = absurd (false≢true (record-of fs (Array t) h))
 length_of-sound Int x h = tt
 length_of-sound Boolean x h = tt
 length_of-sound (Record fs) x h = tt
