@@ -38,6 +38,16 @@ impl FieldTy {
         })
     }
 
+    /// The field of the same name whose type is the join of both types.
+    #[cycle(joins)]
+    fn joined(&self, alloc: Global, other: &FieldTy) -> Result<FieldTy, AllocError>
+        ensures { IfOk result (λ field. entry_of field ≡ (self.now.name, joins.joined (written self.now.ty) (written other.now.ty))) }
+    {
+        let name = self.name.copy(alloc)?;
+        let ty = self.ty.joined(alloc, &other.ty)?;
+        Ok(FieldTy { name, ty })
+    }
+
     #[cycle(writes)]
     fn write(&self, out: &mut Vec<u8>) -> Result<(), AllocError>
         ensures ok { OnOk result (out.new.items ≡ out.old.items ++ printed_field self.now.name (written self.now.ty)) }
@@ -198,10 +208,8 @@ impl RecordTy {
     {
         let mut fields = Vec::with_capacity(alloc, self.fields.len())?;
         for index in 0..self.fields.len() {
-            let mine = &self.fields[index];
-            let name = mine.name.copy(alloc)?;
-            let ty = mine.ty.joined(alloc, &other.fields[index].ty)?;
-            fields.push(FieldTy { name, ty })?;
+            let field = self.fields[index].joined(alloc, &other.fields[index])?;
+            fields.push(field)?;
         }
         Ok(RecordTy { fields })
     }

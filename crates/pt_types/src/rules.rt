@@ -1,9 +1,10 @@
-ghost use Rattle.std.specs.Prelude.{◌≡◌, ℕ, ◌+◌, ◌*◌, ◌<◌, ◌≤◌, IfOk, OnOk, IsTrue, IsFalse, map, length, All, List, if◌then◌else◌};
+ghost use Rattle.std.specs.Prelude.{◌≡◌, ℕ, ◌+◌, ◌*◌, ◌<◌, ◌≤◌, false, IfOk, OnOk, IfSome, IfNone, IsTrue, IsFalse, map, length, All, List, if◌then◌else◌};
 ghost use Rattle.pt_datatypes.specs.Datatype.{Datatype, Unknown};
-ghost use Rattle.pt_datatypes.specs.Order.{IsBelow};
+ghost use Rattle.pt_datatypes.specs.Join as joins;
+ghost use Rattle.pt_datatypes.specs.Order.{IsBelow, is_below};
 ghost use Rattle.pt_datatypes.specs.Rank.{room};
 ghost use Rattle.pt_datatypes.specs.Rules.{AllBelow, AreMet, IsReached, IsLeastSolution, IsRaised};
-ghost use Rattle.pt_types.specs.Ty.{type_of};
+ghost use Rattle.pt_types.specs.Ty.{type_of, written};
 
 use crate::due::Due;
 use crate::ty::{Ty, below, join};
@@ -89,13 +90,23 @@ fn raise<R: Rule>(
 {
     let target = rule.target();
     let value = rule.value(alloc, types)?;
-    if below(&value, &types[target as usize]) {
+    let Some(joined) = raised(alloc, &types[target as usize], value)? else {
         return Ok(false);
-    }
-    let joined = join(alloc, &types[target as usize], &value)?;
-    changed.push(target)?;
+    };
     types[target as usize] = joined;
+    changed.push(target)?;
     Ok(true)
+}
+
+/// The join of a type and a value, where the value isn't below the type.
+fn raised(alloc: Global, ty: &Ty, value: Ty) -> Result<Option<Ty>, AllocError>
+    ensures some { IfOk result (λ raised. IfSome raised (λ joined. (is_below (type_of value) (type_of ty.now) ≡ false) × (written joined ≡ joins.join (type_of ty.now) (type_of value)))) }
+    ensures none { IfOk result (λ raised. IfNone raised (IsBelow (type_of value) (type_of ty.now))) }
+{
+    if below(&value, ty) {
+        return Ok(None);
+    }
+    join(alloc, ty, &value).map(Some)
 }
 
 /// One round over all rules: whether some type was raised.

@@ -3,14 +3,15 @@ ghost use Rattle.pt_value.specs.Value.{values_of, named_of};
 ghost use Rattle.pt_value.specs.Token.{value_of};
 ghost use Rattle.pt_datatypes.specs.Datatype as datatype;
 ghost use Rattle.pt_datatypes.specs.Datatype.{types_of};
-ghost use Rattle.pt_datatypes.specs.Normal.{is_proper};
+ghost use Rattle.pt_datatypes.specs.Normal.{is_proper, normal};
+ghost use Rattle.pt_datatypes.specs.Join as joins;
 ghost use Rattle.pt_datatypes.specs.Order as order;
 ghost use Rattle.pt_datatypes.specs.Token.{type_of_value, join_of, field_types, each_below, typed_fields};
-ghost use Rattle.pt_types.specs.Ty.{written, type_of};
+ghost use Rattle.pt_types.specs.Ty.{entry_of, written, type_of};
 
 use crate::record::{FieldTy, RecordTy};
 use crate::ty::{Ty, join};
-use pt_value::{Fields, Items, Token};
+use pt_value::{Field, Fields, Items, Token};
 use std::alloc::{AllocError, Global};
 
 /// Whether a token is of a type: its own is that one, or below it. It takes no memory.
@@ -100,10 +101,18 @@ fn join_of(alloc: Global, items: &Items) -> Result<Ty, AllocError>
     let mut left = tokens.len();
     while left > 0 {
         left -= 1;
-        let next = type_of_token(alloc, &tokens[left])?;
-        joined = join(alloc, &next, &joined)?;
+        joined = joined_with(alloc, &tokens[left], &joined)?;
     }
     Ok(joined)
+}
+
+/// The join of the type of a token with a type.
+#[cycle(token_types)]
+fn joined_with(alloc: Global, token: &Token, ty: &Ty) -> Result<Ty, AllocError>
+    ensures { IfOk result (λ t. written t ≡ joins.join (normal (type_of_value (value_of token.now))) (type_of ty.now)) }
+{
+    let next = type_of_token(alloc, token)?;
+    join(alloc, &next, ty)
 }
 
 /// The fields of a token, which stand in order, with the types of their values.
@@ -113,9 +122,18 @@ fn types_of_fields(alloc: Global, fields: &Fields) -> Result<RecordTy, AllocErro
 {
     let mut types = Vec::with_capacity(alloc, fields.len())?;
     for field in fields.as_slice() {
-        let name = field.name.copy(alloc)?;
-        let ty = type_of_token(alloc, &field.value)?;
-        types.push(FieldTy { name, ty })?;
+        let typed = typed_field(alloc, field)?;
+        types.push(typed)?;
     }
     Ok(RecordTy::sorted(types))
+}
+
+/// A field with the type of its value.
+#[cycle(token_types)]
+fn typed_field(alloc: Global, field: &Field) -> Result<FieldTy, AllocError>
+    ensures { IfOk result (λ typed. entry_of typed ≡ (field.now.name, type_of_value (value_of field.now.value))) }
+{
+    let name = field.name.copy(alloc)?;
+    let ty = type_of_token(alloc, &field.value)?;
+    Ok(FieldTy { name, ty })
 }

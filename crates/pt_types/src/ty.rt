@@ -5,6 +5,7 @@ ghost use Rattle.pt_datatypes.specs.Datatype.{depth, nodes};
 ghost use Rattle.pt_datatypes.specs.Normal.{is_plain, is_proper, normal, array_of, record_of};
 ghost use Rattle.pt_datatypes.specs.Order as order;
 ghost use Rattle.pt_datatypes.specs.Join as joins;
+ghost use Rattle.pt_datatypes.specs.Datatype as datatype;
 ghost use Rattle.pt_datatypes.specs.Datatype.{types_of};
 ghost use Rattle.pt_types.specs.Ty.{written, type_of};
 
@@ -138,13 +139,8 @@ impl Ty {
             (Ty::Int, Ty::Int) => Ok(Ty::Int),
             (Ty::Boolean, Ty::Boolean) => Ok(Ty::Boolean),
             (Ty::Words, Ty::Words) => Ok(Ty::Words),
-            (Ty::Array(mine), Ty::Array(theirs)) => Ok(Ty::Array(mine.joined(alloc, theirs)?)),
-            (Ty::Record(mine), Ty::Record(theirs)) => {
-                if !mine.same_names(theirs) {
-                    return Ok(Ty::General);
-                }
-                Ok(Ty::Record(mine.joined(alloc, theirs)?))
-            }
+            (Ty::Array(mine), Ty::Array(theirs)) => mine.joined(alloc, theirs).map(Ty::Array),
+            (Ty::Record(mine), Ty::Record(theirs)) => joined_records(alloc, mine, theirs),
             _ => Ok(Ty::General),
         }
     }
@@ -164,6 +160,18 @@ impl Ty {
             Ty::Record(fields) => fields.write(out),
             Ty::General => out.extend_from_slice(b"general"),
         }
+    }
+}
+
+/// The join of two records part by part: general where the names of their fields differ.
+#[cycle(joins)]
+fn joined_records(alloc: Global, mine: &RecordTy, theirs: &RecordTy) -> Result<Ty, AllocError>
+    ensures { IfOk result (λ t. written t ≡ joins.joined (datatype.Record (types_of mine.now)) (datatype.Record (types_of theirs.now))) }
+{
+    if mine.same_names(theirs) {
+        mine.joined(alloc, theirs).map(Ty::Record)
+    } else {
+        Ok(Ty::General)
     }
 }
 

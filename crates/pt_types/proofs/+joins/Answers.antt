@@ -6,16 +6,16 @@ use Rattle.pt_datatypes.proofs.Fields.{length-same_names, names-joined}
 use Rattle.pt_types.proofs.FieldLists.{length-view, joined-step, joined-end}
 use Rattle.pt_types.proofs.+joins.Goals as goal
 
-pub record::RecordTy::joined-index-requires : goal.record::RecordTy::joined-index-requires
-record::RecordTy::joined-index-requires t c =
+pub record::RecordTy::joined-index-requires-in-loop-index : goal.record::RecordTy::joined-index-requires-in-loop-index
+record::RecordTy::joined-index-requires-in-loop-index t c =
     omega (arith, c.loop-index-test.true, c.len.ensures, length-same_names c.args.self.now c.args.other.now c.requires, length-view _ _ c.self.view_is, length-view _ _ c.other.view_is)
 
 pub record::RecordTy::joined-loop-index-preserved : goal.record::RecordTy::joined-loop-index-preserved
 record::RecordTy::joined-loop-index-preserved t c =
     let short : c.loop-index.index < length c.self.inside.fields.items = search rules in
     let short2 : c.loop-index.index < length c.other.inside.fields.items = omega (arith, short, length-same_names c.args.self.now c.args.other.now c.requires, length-view _ _ c.self.view_is, length-view _ _ c.other.view_is) in
-    let e : c.push.new.self.items ≡ c.loop-index.fields.items ++ record { name = c.in_ok-name.name; ty = c.in_ok-ty.ty } ∷ [] = search rules in
-    rw e (joined-step c.loop-index.fields.items c.self.inside.fields.items c.other.inside.fields.items c.loop-index.index c.index-mine.result.now c.index.result.now _ _ short short2 (search rules) (search rules) (search rules) c.loop-index.invariant)
+    let e : c.push.new.self.items ≡ c.loop-index.fields.items ++ c.in_ok-field.field ∷ [] = search rules in
+    rw e (joined-step c.loop-index.fields.items c.self.inside.fields.items c.other.inside.fields.items c.loop-index.index c.index.result.now c.index-in-loop-index.result.now _ _ short short2 (search rules) (search rules) (search rules) c.loop-index.invariant)
 
 all_joined : goal.record::RecordTy::joined-returns
 all_joined t c =
