@@ -42,7 +42,8 @@ impl Names {
     {
         let mut names = Vec::with_capacity(alloc, self.names.len())?;
         for name in &self.names {
-            names.push(name.copy(alloc)?)?;
+            let name = name.copy(alloc)?;
+            names.push_reserved(name);
         }
         Ok(Names { names })
     }

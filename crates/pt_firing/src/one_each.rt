@@ -24,12 +24,8 @@ impl OneEach {
     pub fn of(alloc: Global, places: usize) -> Result<OneEach, AllocError>
         ensures { IfOk result (λ ones. ones ≡ places) }
     {
-        let mut counts = Vec::with_capacity(alloc, places)?;
-        for _ in 0..places {
-            counts.push(1)?;
-        }
         Ok(OneEach {
-            counts: Counts::of(counts),
+            counts: Counts::of(vec![in alloc; 1usize; places]?),
         })
     }
 

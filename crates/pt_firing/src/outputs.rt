@@ -142,7 +142,8 @@ fn copies(alloc: Global, lists: &[Tokens]) -> Result<Vec<Tokens>, AllocError>
 {
     let mut copies = Vec::with_capacity(alloc, lists.len())?;
     for tokens in lists {
-        copies.push(tokens.copy(alloc)?)?;
+        let tokens = tokens.copy(alloc)?;
+        copies.push_reserved(tokens);
     }
     Ok(copies)
 }

@@ -1,4 +1,4 @@
-ghost use Rattle.std.specs.Prelude.{◌≡◌, ◌<◌, ◌∷◌, [], ◌++◌, length, is_ok, IfOk, option_map, replicate, slice_set, slice_index_or, if◌then◌else◌};
+ghost use Rattle.std.specs.Prelude.{◌≡◌, ◌<◌, ◌≤◌, ◌∷◌, [], ◌++◌, length, map, is_ok, IfOk, option_map, replicate, slice_set, slice_index_or, vec_capacity, if◌then◌else◌};
 ghost use Rattle.pt_meaning.specs.Machine as machine;
 ghost use Rattle.pt_meaning.specs.Valuation.{known};
 ghost use Rattle.pt_firing.specs.TriState.{partial_of, tokens_known, if_known};
@@ -154,9 +154,7 @@ impl Partial {
         let mut outputs = outputs;
         let ports = outputs.ports();
         let mut states = Vec::with_capacity(alloc, ports)?;
-        for port in 0..ports {
-            states.push(TriState::known(outputs.take(port)))?;
-        }
+        take_known(&mut states, ports, &mut outputs);
         Ok(Partial { states })
     }
 
@@ -165,8 +163,21 @@ impl Partial {
     {
         let mut states = Vec::with_capacity(alloc, self.states.len())?;
         for state in &self.states {
-            states.push(state.copy(alloc)?)?;
+            let state = state.copy(alloc)?;
+            states.push_reserved(state);
         }
         Ok(Partial { states })
+    }
+}
+
+/// Puts the tokens of each port, which are taken from the outputs, into room that was made.
+fn take_known(states: &mut Vec<TriState>, ports: usize, outputs: &mut Outputs)
+    requires empty { states.old.items ≡ [] }
+    requires room { ports ≤ vec_capacity states.old }
+    requires ports { ports ≡ length outputs.old }
+    ensures { map partial_of states.new.items ≡ map machine.Known outputs.old }
+{
+    for port in 0..ports {
+        states.push_reserved(TriState::known(outputs.take(port)));
     }
 }

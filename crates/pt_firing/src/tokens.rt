@@ -233,7 +233,8 @@ fn copies(alloc: Global, tokens: &[Token]) -> Result<Vec<Token>, AllocError>
 {
     let mut copies = Vec::with_capacity(alloc, tokens.len())?;
     for token in tokens {
-        copies.push(token.copy(alloc)?)?;
+        let token = token.copy(alloc)?;
+        copies.push_reserved(token);
     }
     Ok(copies)
 }
