@@ -1,6 +1,6 @@
 -- The step of a copy: a list is copied token by token into an empty one of the same number.
-use Rattle.std.proofs.Common.{◌≡◌, ℕ, ◌+◌, ◌-◌, ◌<◌, zero, suc, List, [], ◌∷◌, ◌++◌, length, get_or, set, take, drop, map, replicate, refl, sym, ap, subst, ◌∙◌, arith, append_assoc, is_some, true, slice_get}
-use Rattle.std.proofs.lemmas.List.{length-set, get_or-set_same, set-set, take_more, set_at, length-take-le, get_or_at, map_push, drop-drop}
+use Rattle.std.proofs.Common.{◌≡◌, ℕ, ◌+◌, ◌-◌, ◌<◌, ◌≤◌, zero, suc, List, [], ◌∷◌, ◌++◌, length, get_or, set, take, drop, map, replicate, refl, sym, ap, subst, ◌∙◌, arith, append_assoc, is_some, true, slice_get}
+use Rattle.std.proofs.lemmas.List.{append-nil, length-set, get_or-set_same, set-set, take_all, take_more, set_at, length-take-le, get_or_at, map_push, drop-drop}
 use Rattle.std.proofs.lemmas.Grind.{common_steps}
 
 module _ {X : Type 0} where
@@ -34,6 +34,12 @@ pub spares-after : (S S0 : List ℕ) (c n m : ℕ) → c < length S0 → S ≡ s
 spares-after S S0 c n m h e f =
     let g : get_or S c 0 ≡ suc n = ap (λ v. get_or v c 0) e ∙ get_or-set_same S0 c (suc n) 0 h in
     ap (λ v. set S c (v - 1)) g ∙ ap (λ v. set v c (suc n - 1)) e ∙ set-set S0 c (suc n) (suc n - 1) ∙ ap (λ v. set S0 c v) (omega arith)
+
+-- all elements are copied
+pub copied-all : {X : Type 0} (xs ys : List X) (x : X) (i n : ℕ) → length xs ≡ n → n ≤ i → ys ≡ take i xs ++ replicate (n - i) x → ys ≡ xs
+copied-all xs ys x i n long past is =
+    let none : n - i ≡ 0 = omega arith in
+    is ∙ ap (λ k. take i xs ++ replicate k x) none ∙ append-nil (take i xs) ∙ take_all i xs (omega (arith, long, past))
 
 -- one list more is copied, of those that were empty
 pub copied-more : {Y : Type 0} (xs ys : List Y) (c n : ℕ) (d : Y) → length xs ≡ n → c < n → ys ≡ take c xs ++ replicate (n - c) d → set ys c (get_or xs c d) ≡ take (c + 1) xs ++ replicate (n - (c + 1)) d
