@@ -1,4 +1,4 @@
-ghost use Rattle.std.specs.Prelude.{◌≡◌, ◌≢◌, ℕ, ◌+◌, ◌*◌, ◌<◌, ◌≤◌, ◌^◌, ◌++◌, ◌∷◌, [], All, IfOk, OnOk, length, List, sum};
+ghost use Rattle.std.specs.Prelude.{◌≡◌, ◌≢◌, ℕ, ◌+◌, ◌*◌, ◌<◌, ◌≤◌, ◌^◌, ◌++◌, ◌∷◌, [], All, IfOk, OnOk, length, List, replicate, sum};
 ghost use Rattle.pt_rates.specs.Balance.{IsChannel};
 ghost use Rattle.pt_rates.specs.Parts.{label_of, members_of, repetitions_of, AreHeld, AreMerged, AreMoved, AreSmall, ComesAfter, IsNodeMoved, IsSpanned};
 ghost use Rattle.pt_rates.specs.declared.edge.Edge.{Edge};
@@ -70,21 +70,40 @@ impl Parts {
         ensures sum { IfOk result (λ parts. parts.sum ≡ n) }
         ensures spanned { IfOk result (IsSpanned n []) }
     {
-        let repetitions = vec![in alloc; 1u64; n as usize]?;
-        let mut labels = Vec::with_capacity(alloc, n as usize)?;
-        let mut members = Vec::with_capacity(alloc, n as usize)?;
+        let mut parts = Parts::with_room(alloc, n)?;
         for node in 0..n {
-            let mut alone = Members::new(alloc);
-            alone.push(node)?;
-            members.push(alone)?;
-            labels.push(node as usize)?;
+            parts.add_alone(alloc, node)?;
         }
+        Ok(parts)
+    }
+
+    /// Room for so many nodes, none of which is in a part yet.
+    fn with_room(alloc: Global, n: u32) -> Result<Parts, AllocError>
+        ensures repetitions { IfOk result (λ parts. parts.repetitions.items ≡ replicate n 1) }
+        ensures labels { IfOk result (λ parts. parts.labels.items ≡ []) }
+        ensures members { IfOk result (λ parts. parts.members.items ≡ []) }
+        ensures sum { IfOk result (λ parts. parts.sum ≡ n) }
+    {
         Ok(Parts {
-            repetitions,
-            labels,
-            members,
+            repetitions: vec![in alloc; 1u64; n as usize]?,
+            labels: Vec::with_capacity(alloc, n as usize)?,
+            members: Vec::with_capacity(alloc, n as usize)?,
             sum: n as u128,
         })
+    }
+
+    /// Puts a node into a part of its own.
+    fn add_alone(&mut self, alloc: Global, node: u32) -> Result<(), AllocError>
+        ensures repetitions { OnOk result (self.new.repetitions ≡ self.old.repetitions) }
+        ensures labels { OnOk result (self.new.labels.items ≡ self.old.labels.items ++ node ∷ []) }
+        ensures members { OnOk result (self.new.members.items ≡ self.old.members.items ++ (node ∷ []) ∷ []) }
+        ensures sum { OnOk result (self.new.sum ≡ self.old.sum) }
+    {
+        let mut alone = Members::new(alloc);
+        alone.push(node)?;
+        self.members.push(alone)?;
+        self.labels.push(node as usize)?;
+        Ok(())
     }
 
     /// Takes one more channel into account: whether some repetitions balance it too.

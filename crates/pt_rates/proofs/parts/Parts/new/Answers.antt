@@ -1,16 +1,25 @@
-use Rattle.std.proofs.Common.{◌≡◌, refl, subst, arith}
-use Rattle.pt_rates.proofs.Starts.{AreAlone, starts-held, starts-spanned}
-use Rattle.pt_rates.specs.declared.parts.Parts.{Parts}
+use Rattle.std.proofs.Common.{◌≡◌, ap, subst, ◌∙◌, arith}
+use Rattle.pt_rates.proofs.Starts.{AreAlone, alone-more, starts-held, starts-spanned}
 use Rattle.pt_rates.proofs.parts.Parts.new.Goals as goal
+
+pub loop-node-preserved : goal.loop-node-preserved
+loop-node-preserved c =
+    let old = c.loop-node.parts in
+    let new = c.add_alone.new.self in
+    let done = c.in_ok-add_alone.ensures in (
+      alone-more c.loop-node.node old.labels.items new.labels.items old.members.items new.members.items c.loop-node.invariant.0 done.labels done.members,
+      ap (λ q. q.items) done.repetitions ∙ c.loop-node.invariant.1,
+      done.sum ∙ c.loop-node.invariant.2,
+    )
 
 pub returns-clause-held : goal.returns-clause-held
 returns-clause-held c =
-    let parts : Parts = record { repetitions = c.in_ok-repetitions.repetitions; labels = c.loop-node.labels; members = c.loop-node.members; sum = c.args.n } in
+    let parts = c.loop-node.parts in
     let over : c.loop-node.node ≡ c.args.n = omega (arith, c.loop-node-test.false, c.loop-node.auto.node-end) in
-    starts-held c.args.n parts (c.in_ok-repetitions.ensures.items_if_clones_equal (λ y e. e)) (subst (λ k. AreAlone k c.loop-node.labels.items c.loop-node.members.items) over c.loop-node.invariant) refl
+    starts-held c.args.n parts c.loop-node.invariant.1 (subst (λ k. AreAlone k parts.labels.items parts.members.items) over c.loop-node.invariant.0) c.loop-node.invariant.2
 
 pub returns-clause-spanned : goal.returns-clause-spanned
 returns-clause-spanned c =
-    let parts : Parts = record { repetitions = c.in_ok-repetitions.repetitions; labels = c.loop-node.labels; members = c.loop-node.members; sum = c.args.n } in
+    let parts = c.loop-node.parts in
     let over : c.loop-node.node ≡ c.args.n = omega (arith, c.loop-node-test.false, c.loop-node.auto.node-end) in
-    starts-spanned c.args.n parts (c.in_ok-repetitions.ensures.items_if_clones_equal (λ y e. e)) (subst (λ k. AreAlone k c.loop-node.labels.items c.loop-node.members.items) over c.loop-node.invariant)
+    starts-spanned c.args.n parts c.loop-node.invariant.1 (subst (λ k. AreAlone k parts.labels.items parts.members.items) over c.loop-node.invariant.0)
