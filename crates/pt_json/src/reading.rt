@@ -124,6 +124,18 @@ fn push_item<'a>(found: &mut Vec<Value<'a>>, item: Value<'a>) -> Result<(), Unre
     Ok(())
 }
 
+fn push_member<'a>(
+    found: &mut Vec<(&'a str, Value<'a>)>,
+    name: &'a str,
+    member: Value<'a>,
+) -> Result<(), Unread>
+    ensures ok { OnOk result (found.new.items ≡ found.old.items ++ (name.entry, member.entry) ∷ []) }
+    ensures memory { OnErr result (result ≡ Err Memory) }
+{
+    found.push((name, member))?;
+    Ok(())
+}
+
 #[cycle(read)]
 #[inline(never)]
 fn read_items<'a>(
@@ -165,7 +177,7 @@ fn read_members<'a>(
     let mut found = Vec::new(alloc);
     'members: while let Some(name) = reader.next_key()? {
         let member = read_value(alloc, reader, depth)?;
-        found.push((name, member))?;
+        push_member(&mut found, name, member)?;
     }
     Ok(found)
 }

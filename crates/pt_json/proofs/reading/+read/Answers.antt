@@ -173,8 +173,8 @@ read_members-members-preserved t c =
     let r = c.read_value.new.reader in
     let less = read_key-shorter l.reader (Some k) s named in
     let lesser = done.shorter in
-    let pushed : c.push.new.self.items ≡ l.found.items ++ (c.in-Some.name, v) ∷ [] = search rules in
-    let inserted : members_view c.push.new.self.items ≡ put k (view v) old = ap members_view pushed ∙ members_view-push l.found.items (c.in-Some.name, v) in (
+    let pushed : c.push_member.new.found.items ≡ l.found.items ++ (c.in-Some.name, v) ∷ [] = c.in_ok-push_member.ensures.ok in
+    let inserted : members_view c.push_member.new.found.items ≡ put k (view v) old = ap members_view pushed ∙ members_view-push l.found.items (c.in-Some.name, v) in (
       n - 1,
       omega (arith, l.invariant.1),
       l.invariant.2 ∙ member_read p old n k l.reader s r (view v) (omega (arith, l.invariant.1)) named done.ok
