@@ -1,10 +1,16 @@
 -- Reading a type's text word by word.
-use Rattle.std.proofs.Common.{◌≡◌, ℕ, zero, suc, ◌-◌, ◌<◌, List, [], ◌∷◌, ◌++◌, Bool, true, false, not, cond, Some, None, refl, sym, ap, ◌∙◌, arith}
-use Rattle.std.proofs.lemmas.List.{map_push}
+use Rattle.std.proofs.Common.{◌≡◌, codes, ℕ, zero, suc, ◌-◌, ◌<◌, List, [], ◌∷◌, ◌++◌, Bool, true, false, not, cond, Some, None, reverse, map, refl, sym, ap, ◌∙◌, arith}
+use Rattle.std.proofs.lemmas.List.{map_push, reverse-append}
 use Rattle.std.specs.List.{list_any}
+use Rattle.std.specs.Borrow.{Bor}
+use Rattle.std.specs.declared.hash.DefaultHasher.{DefaultHasher}
+use Rattle.std.specs.declared.hash.BuildHasherDefault.{BuildHasherDefault}
+use Rattle.indexmap.specs.IndexSet.{IndexSet}
 use Rattle.pt_document.specs.Names.{has_name}
 use Rattle.pt_document.specs.TypeTexts.{is_field_name}
-use Rattle.pt_document.specs.TypeWords.{Place, one_more, step, leads, from_next}
+use Rattle.pt_document.specs.declared.type_text.Open.{Open as Given}
+use Rattle.pt_document.specs.declared.type_text.Open.TheVariants as given
+use Rattle.pt_document.specs.TypeWords.{Place, Ends, goes_or, behind, one_more, behind_field, go_on, step, leads, from_next, names_view, open_view, stack_view}
 use Rattle.pt_document.proofs.DistinctNames.{Name, texts, same, has_name-texts}
 
 -- a name that is there already
@@ -39,3 +45,16 @@ turn (suc n) place total h so_far = let same : suc n - 1 ≡ n = omega arith in 
 pub none_left : (n : ℕ) (place : Place) (total : Bool) → n ≡ 0 → leads n place ≡ total → false ≡ total
 unfolding leads
 none_left n place total none so_far = sym (ap (λ (m : ℕ). leads m place) none) ∙ so_far
+
+stack-top : (around : List Given) (last : Given) → stack_view (around ++ last ∷ []) ≡ open_view last ∷ stack_view around
+stack-top around last = ap reverse (map_push open_view around last) ∙ reverse-append (map open_view around) (open_view last ∷ [])
+
+-- what is innermost is an array
+pub behind-array : (around rest : List Given) (text : List ℕ) → around ≡ rest ++ given.Array ∷ [] → go_on (stack_view around) text ≡ goes_or false (stack_view rest) (behind (codes ")") text) (Ends false)
+unfolding go_on
+behind-array around rest text e = ap (λ os. go_on (stack_view os) text) e ∙ ap (λ os. go_on os text) (stack-top rest given.Array)
+
+-- what is innermost is a record
+pub behind-record : (around rest : List Given) (names : IndexSet (Bor (List ℕ)) (BuildHasherDefault DefaultHasher)) (text : List ℕ) → around ≡ rest ++ given.Record names ∷ [] → go_on (stack_view around) text ≡ behind_field (names_view names) (stack_view rest) text
+unfolding go_on
+behind-record around rest names text e = ap (λ os. go_on (stack_view os) text) e ∙ ap (λ os. go_on os text) (stack-top rest (given.Record names))

@@ -53,7 +53,7 @@ pub struct ParameterRow<N> {
 
 /// A class of library actors: the ports that are there and those that its entities declare, the least number
 /// of channels to its inputs together, its parameters, and the directors under which it may stand.
-#[derive(Clone, Copy, Debug)]
+#[derive(Debug)]
 pub struct ClassRow<N, P, Q, D> {
     pub name: N,
     pub ports: P,

@@ -1,5 +1,5 @@
 // Texts of types, read word by word: however deep a hostile text nests, nothing recurs.
-ghost use Rattle.std.specs.Prelude.{◌≡◌, [], ◌∷◌, ◌++◌, map, length, take, drop, option_map, IfOk};
+ghost use Rattle.std.specs.Prelude.{◌≡◌, [], ◌∷◌, ◌++◌, map, length, take, drop, codes, false, option_map, IfOk};
 ghost use Rattle.std.specs.List.{prefix_len};
 ghost use Rattle.pt_document.specs.Names as names;
 ghost use Rattle.pt_document.specs.TypeTexts as texts;
@@ -152,9 +152,25 @@ fn begin<'a>(
             rest,
         }));
     }
-    match behind(b"{", text) {
-        Some(rest) => field(no_names(alloc), around, rest),
-        None => Ok(Next::Ends(false)),
+    field_or(no_names(alloc), around, behind(b"{", text))
+}
+
+/// A field of a record with these names before it, where something is left for it.
+fn field_or<'a>(
+    names: NameSet<&'a [u8]>,
+    around: Vec<Open<'a>>,
+    text: Option<&'a [u8]>,
+) -> Result<Next<'a>, AllocError>
+    ensures { IfOk result
+        (λ next. next_view next ≡ types.field_or (names_view names.entry) (stack_view around.entry.items) (option_map (λ t. t.now) text.entry)) }
+{
+    match text {
+        Some(text) => field(names, around, text),
+        None => {
+            drop(names);
+            drop(around);
+            Ok(Next::Ends(false))
+        }
     }
 }
 
@@ -167,16 +183,30 @@ fn behind_field<'a>(
     ensures { IfOk result
         (λ next. next_view next ≡ types.behind_field (names_view names.entry) (stack_view around.entry.items) text.entry.now) }
 {
-    if let Some(rest) = behind(b"}", text) {
-        return Ok(Next::Goes(Place {
+    match behind(b"}", text) {
+        Some(rest) => {
+            drop(names);
+            Ok(Next::Goes(Place {
+                wants_type: false,
+                around,
+                rest,
+            }))
+        }
+        None => field_or(names, around, behind(b", ", text)),
+    }
+}
+
+/// Behind the type of the elements of an array.
+fn behind_element<'a>(around: Vec<Open<'a>>, text: &'a [u8]) -> Next<'a>
+    ensures { next_view result ≡ types.goes_or false (stack_view around.entry.items) (types.behind (codes ")") text.entry.now) (types.Ends false) }
+{
+    match behind(b")", text) {
+        Some(rest) => Next::Goes(Place {
             wants_type: false,
             around,
             rest,
-        }));
-    }
-    match behind(b", ", text) {
-        Some(rest) => field(names, around, rest),
-        None => Ok(Next::Ends(false)),
+        }),
+        None => Next::Ends(false),
     }
 }
 
@@ -188,14 +218,7 @@ fn go_on<'a>(mut around: Vec<Open<'a>>, text: &'a [u8]) -> Result<Next<'a>, Allo
 {
     match around.pop() {
         None => Ok(Next::Ends(text.is_empty())),
-        Some(Open::Array) => match behind(b")", text) {
-            Some(rest) => Ok(Next::Goes(Place {
-                wants_type: false,
-                around,
-                rest,
-            })),
-            None => Ok(Next::Ends(false)),
-        },
+        Some(Open::Array) => Ok(behind_element(around, text)),
         Some(Open::Record(names)) => behind_field(names, around, text),
     }
 }
