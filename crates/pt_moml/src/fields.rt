@@ -1,16 +1,17 @@
 // Reading what stands at a field, for all objects alike.
-ghost use Rattle.std.specs.Prelude.{◌≡◌, List, ℕ, map, [], ◌∷◌, ◌++◌, Ok, Err, Some, Result, option_map, string_bytes};
+ghost use Rattle.std.specs.Prelude.{◌≡◌, List, ℕ, map, [], ◌∷◌, ◌++◌, Ok, Err, Some, Result, option_map, string_bytes, IfOk};
 ghost use Rattle.serde_json.specs.Data.{Data};
 ghost use Rattle.pt_json.specs.View.{view, items_view, members_view};
 ghost use Rattle.pt_document.specs.declared.refusal.Refusal.{Refusal};
 ghost use Rattle.pt_document.specs.Outcome.{Gives, IsRefusal};
+ghost use Rattle.pt_document.specs.Names.{are_distinct};
 ghost use Rattle.pt_moml.specs.Fields.{text_at, required_text, optional_text, name_at, truth_at, required_truth, optional_truth, required_whole, has_only, listed, items_at, required_list, optional_list, distinct_at};
 
 use indexmap::IndexSet;
 use pt_document::{Code, DocFault, NameSet, is_name, is_one_of, refused};
 use pt_json::Value;
 use pt_value::Text;
-use std::alloc::Global;
+use std::alloc::{AllocError, Global};
 use std::hash::BuildHasherDefault;
 
 /// The text at a place that must have one.
@@ -158,19 +159,41 @@ pub trait Named {
     ghost of_more: { (part : Self) (parts : List Self) → names (part ∷ parts) ≡ name part ∷ names parts };
 }
 
+/// Puts the names of the parts into a set that is empty, up to one that is there already: whether there is none.
+fn are_new<'a, T: Named>(seen: &mut NameSet<&'a str>, parts: &'a [T]) -> Result<bool, AllocError>
+    requires { map (λ n. n.now) seen.old.keys ≡ [] }
+    ensures { IfOk result (λ b. b ≡ are_distinct (T.names parts.now)) }
+{
+    for part in parts {
+        let (_, is_new) = seen.insert_full(part.name())?;
+        if !is_new {
+            return Ok(false);
+        }
+    }
+    Ok(true)
+}
+
+/// Whether the names of the parts differ from one another.
+fn differ<T: Named>(alloc: Global, parts: &[T]) -> Result<bool, AllocError>
+    ensures { IfOk result (λ b. b ≡ are_distinct (T.names parts.now)) }
+{
+    let mut seen: NameSet<&str> = IndexSet::with_hasher(alloc, BuildHasherDefault::new());
+    let are_new = are_new(&mut seen, parts);
+    drop(seen);
+    are_new
+}
+
 /// The names of the parts differ.
 #[tactic(auto, unfolding(crate::specs::Fields::distinct_at))]
 pub fn names_differ<T: Named>(alloc: Global, path: &str, parts: &[T]) -> Result<(), DocFault>
     ensures { Gives (λ u. u) result (distinct_at path.now (T.names parts.now)) }
 {
-    let mut seen: NameSet<&str> = IndexSet::with_hasher(alloc, BuildHasherDefault::new());
-    for part in parts {
-        let (_, is_new) = seen.insert_full(part.name())?;
-        if !is_new {
-            return Err(refused(alloc, Code::Name, path));
-        }
+    let are_distinct = differ(alloc, parts)?;
+    if are_distinct {
+        Ok(())
+    } else {
+        Err(refused(alloc, Code::Name, path))
     }
-    Ok(())
 }
 
 fn read_items<P: Part>(alloc: Global, path: &str, items: &[Value]) -> Result<Vec<P>, DocFault>
