@@ -212,7 +212,7 @@ class _Artist:
         ends: dict[str, list[_End]] = {}
         joined: list[tuple[str, str]] = []
         for link in entity.links:
-            if "relation2" in link.fields:
+            if "relation2" in link:
                 joined.append((link.text("relation1"), link.text("relation2")))
             elif end := self.end(entity, link):
                 ends.setdefault(link.text("relation"), []).append(end)

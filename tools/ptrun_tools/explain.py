@@ -33,17 +33,21 @@ def explain_report(data: bytes, report: Report) -> Finding:
     words = report.end
     if report.is_refusal and len(words) == 2:
         return Finding(report.end_text, _BARE.get(words[1], ""))
+    if words[0] in _ENDS:
+        return _ended(report)
     try:
         job = Job(Document(data))
     except NotJson as fault:
         return _not_json(report, fault)
-    if report.is_refusal:
-        code, path = int(words[1]), words[3]
-        finding = explain_refusal(job, code, words[2], path)
-        if code == 10:
-            finding.says("These tools find no fault in the JSON.")
-        return finding
-    return _ended(job, report)
+    if words[0] == "fault":
+        return _faulted(job, int(words[1]), words[2], words[3], report.end_text)
+    if words[0] == "queue":
+        return _jammed(job, report)
+    code, path = int(words[1]), words[3]
+    finding = explain_refusal(job, code, words[2], path)
+    if code == 10:
+        finding.says("These tools find no fault in the JSON.")
+    return finding
 
 
 def _not_json(report: Report, fault: NotJson) -> Finding:
@@ -53,14 +57,9 @@ def _not_json(report: Report, fault: NotJson) -> Finding:
     return finding.says(fault.reason[0].upper() + fault.reason[1:] + ".")
 
 
-def _ended(job: Job, report: Report) -> Finding:
-    words = report.end
-    if words[0] == "fault":
-        return _faulted(job, int(words[1]), words[2], words[3], report.end_text)
-    if words[0] == "queue":
-        return _jammed(job, report)
-    finding = Finding(report.end_text, _ENDS[words[0]])
-    if words[0] == "budget":
+def _ended(report: Report) -> Finding:
+    finding = Finding(report.end_text, _ENDS[report.end[0]])
+    if report.end[0] == "budget":
         finding.says("Give more firings by --budget N, up to 1,000,000,000.")
     return finding
 

@@ -38,15 +38,15 @@ def _path(entity: Entity, link: Node) -> str:
 
 def _names_nothing(entity: Entity, link: Node, finding: Finding) -> bool:
     """Whether a link names a port or a relation that isn't there."""
-    relations = [relation.name for relation in entity.relations]
+    relations = entity.relation_names
     for field in ("relation", "relation1", "relation2"):
         name = link.text(field)
-        if field in link.fields and name not in relations:
+        if field in link and name not in relations:
             finding.points_to(link.at(field)).says(f"There is no relation {quoted(name)} here. {meant(name, relations)}")
             finding.says(f"Relations: {listed(relations)}.")
             return True
     text = link.text("port")
-    if "port" not in link.fields or port_of_link(entity, text) is not None:
+    if "port" not in link or port_of_link(entity, text) is not None:
         return False
     finding.points_to(link.at("port"))
     child, dot, port = text.rpartition(".")

@@ -11,38 +11,80 @@ from functools import cached_property
 from typing import Iterator
 
 from .document import Document, Value
+from .forms import FIELDS
+from .grammar import members_but
 from .library import classes
 
 DIRECTORS = ("SDF", "SR", "DE", "PN", "Rendezvous", "Giotto")
 NAME = re.compile(r"[A-Za-z_][A-Za-z0-9_]{0,63}")
-# No object of the format has so many fields: of one with more the others aren't kept.
-_MOST_FIELDS = 1000
 RESERVED = ("true", "false", "abs", "max", "min")
+# Members that no object of the format has are passed over.
+_OTHERS = members_but(FIELDS.values())
+_NAMES = frozenset(FIELDS.values())
+_BYTES_OF_A_SMALL_OBJECT = 4000
 
 
 class Node:
-    """An object of the document with its fields; of fields of one name the last counts."""
+    """An object of the document with its fields of the format; of fields of one name the last counts."""
 
     def __init__(self, value: Value):
         self.value = value
-        self.keys: dict[str, Value] = {}
-        self.fields: dict[str, Value] = {}
-        for member in value.members():
-            name = member.name
-            if name in self.keys or len(self.keys) < _MOST_FIELDS:
-                self.keys[name], self.fields[name] = member
+        self._plain: dict | None = None
+
+    @property
+    def plain(self) -> dict | None:
+        """The fields as Python's values, without places, or None of a large object. Most of a document is small objects."""
+        if self._plain is None and self.value.end - self.value.start <= _BYTES_OF_A_SMALL_OBJECT:
+            found = self.value.plain()
+            self._plain = found if isinstance(found, dict) else {}
+        return self._plain
+
+    @cached_property
+    def _spans(self) -> dict[str, tuple[int, int, int, int]]:
+        """Of each field where its name begins and ends, and its value."""
+        document, found = self.value.document, {}
+        for span in self.value.spans(_OTHERS):
+            name = FIELDS.get(document.data[span[0] + 1:span[1] - 1]) or Value(document, span[0], span[1]).text()
+            if name in _NAMES:
+                found[name] = span
+        return found
+
+    def __contains__(self, field: str) -> bool:
+        return field in (self._spans if self.plain is None else self.plain)
+
+    @property
+    def fields(self) -> list[str]:
+        """The names of its fields."""
+        return list(self._spans)
+
+    def get(self, field: str) -> Value | None:
+        """The field's value, or None."""
+        if field not in self:
+            return None
+        span = self._spans[field]
+        return Value(self.value.document, span[2], span[3])
+
+    def key(self, field: str) -> Value:
+        """Where the name of a field stands that is there."""
+        span = self._spans[field]
+        return Value(self.value.document, span[0], span[1])
 
     def text(self, field: str) -> str:
         """The field's text, or an empty one."""
-        found = self.fields.get(field)
+        if self.plain is not None:
+            found = self.plain.get(field)
+            return found if isinstance(found, str) else ""
+        found = self.get(field)
         return (found.text() or "") if found else ""
 
     def truth(self, field: str) -> bool:
-        found = self.fields.get(field)
+        if self.plain is not None:
+            return self.plain.get(field) is True
+        found = self.get(field)
         return bool(found) and found.raw() == "true"
 
     def items(self, field: str) -> Iterator[Value]:
-        found = self.fields.get(field)
+        found = self.get(field)
         return found.items() if found else iter(())
 
     def nodes(self, field: str) -> list[Node]:
@@ -50,7 +92,7 @@ class Node:
 
     def at(self, field: str) -> Value:
         """Where the field's value stands, or else the object itself."""
-        return self.fields.get(field, self.value)
+        return self.get(field) or self.value
 
     @property
     def name(self) -> str:
@@ -150,6 +192,11 @@ class Entity(Node):
         return self.nodes("relations")
 
     @cached_property
+    def relation_names(self) -> dict[str, None]:
+        """The names of its relations in their order."""
+        return dict.fromkeys(relation.name for relation in self.relations)
+
+    @cached_property
     def links(self) -> list[Node]:
         return self.nodes("links")
 
@@ -212,7 +259,7 @@ class Job(Node):
 
     @cached_property
     def top(self) -> Entity:
-        return Entity(self.fields.get("model", self.value))
+        return Entity(self.at("model"))
 
     def entity(self, path: str) -> Entity | None:
         """The entity of this path, `.` being the top."""

@@ -77,7 +77,7 @@ def _class(job: Job, path: str, finding: Finding) -> None:
     parts += [inner for port in entity.ports for inner in port.nodes("properties")]
     for part in parts:
         kind = part.text("class")
-        if "class" in part.fields and (kind not in allowed or part not in entity.properties):
+        if "class" in part and (kind not in allowed or part not in entity.properties):
             finding.points_to(part.at("class"))
             finding.says(f"A property in {_called(entity)} has no class {quoted(kind)}. {meant(kind, allowed)}")
             finding.says(f"Classes of properties there: {listed(allowed)}.")
@@ -98,7 +98,7 @@ def _parameter(job: Job, path: str, finding: Finding) -> None:
     holders += [(port, ()) for port in entity.ports]
     for holder, known in holders:
         for part in holder.nodes("properties"):
-            if part.name == name and not (holder is entity and not rows and "value" in part.fields and not classes().get(entity.kind)):
+            if part.name == name and not (holder is entity and not rows and "value" in part and not classes().get(entity.kind)):
                 return _faulty_parameter(entity, holder, part, known, finding)
     holder, known = next(((holder, known) for holder, known in holders if any(row.name == name for row in known)), (entity, rows))
     row = next((row for row in known if row.name == name), None)
@@ -184,10 +184,10 @@ def _inputs(job: Job, path: str, finding: Finding) -> None:
 
 
 def _wrong_tokens(director: str, given: Node, finding: Finding) -> None:
-    field = "events" if "events" in given.fields else "tokens"
+    field = "events" if "events" in given else "tokens"
     if (field == "events") != (director == "DE"):
         right = "'events' with their tags" if director == "DE" else "'tokens' in their order"
-        finding.points_to(given.keys[field]).says(f"Under {director} an input has {right}, not '{field}'.")
+        finding.points_to(given.key(field)).says(f"Under {director} an input has {right}, not '{field}'.")
         return
     for item in given.items("tokens"):
         if item.kind == "null" and director != "SR":
@@ -271,7 +271,7 @@ def _type(job: Job, path: str, finding: Finding) -> None:
     if _wrong(finding, first_value_fault(entity)):
         return
     for port in entity.ports:
-        if "type" in port.fields:
+        if "type" in port:
             finding.says(f"  {port.name} is declared as {port.text('type')}.")
             finding.others.append((port.at("type"), "a type that is declared"))
     wiring = Wiring(job)

@@ -43,7 +43,7 @@ def texts_of(entity: Entity) -> Iterator[Text]:
             if parameter.name == "expression":
                 inputs = [port.name for port in entity.ports if not port.is_output]
                 names = inputs + [f"{name}_isPresent" for name in inputs] + around
-            if parameter.name not in RAW and "value" in parameter.fields:
+            if parameter.name not in RAW and "value" in parameter:
                 yield Text(parameter.at("value"), f"the parameter {quoted(parameter.name)}", tuple(names))
     if entity.is_modal:
         yield from _texts_of_modal(entity, around)
@@ -52,13 +52,13 @@ def texts_of(entity: Entity) -> Iterator[Text]:
 def _texts_of_composite(entity: Entity, around: list[str]) -> Iterator[Text]:
     before: list[str] = []
     for parameter in entity.parameters:
-        if "value" in parameter.fields:
+        if "value" in parameter:
             yield Text(parameter.at("value"), f"the parameter {quoted(parameter.name)}", tuple(before + around))
         before.append(parameter.name)
     for variable in entity.variables:
         yield Text(variable.at("value"), f"the Variable {quoted(variable.name)}", tuple(names_around(entity)))
     for parameter in entity.director.parameters if entity.director else []:
-        if "value" in parameter.fields:
+        if "value" in parameter:
             yield Text(parameter.at("value"), f"the director's parameter {quoted(parameter.name)}", tuple(names_around(entity)))
     for port in entity.ports:
         for rate in port.nodes("properties"):

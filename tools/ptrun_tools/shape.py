@@ -7,30 +7,13 @@ from typing import Iterable, Iterator
 
 from .document import Value
 from .finding import Remark, listed, meant, quoted
+from .forms import FORMS, REQUIRED
 from .model import NAME, RESERVED, Entity, Job, Node
 
-# The fields of each object: their kinds, and an exclamation mark where one is required.
-FORMS: dict[str, dict[str, str]] = {
-    "document": {"version": "number!", "model": "object!", "inputs": "list", "record": "list"},
-    "entity": {
-        "name": "text!", "class": "text!", "properties": "list", "ports": "list", "entities": "list",
-        "relations": "list", "links": "list", "states": "list", "initial": "text", "transitions": "list",
-    },
-    "property": {"name": "text!", "value": "text", "class": "text", "properties": "list"},
-    "port": {"name": "text!", "input": "truth", "output": "truth", "type": "text", "properties": "list"},
-    "relation": {"name": "text!"},
-    "link": {"port": "text", "relation": "text", "relation1": "text", "relation2": "text"},
-    "state": {"name": "text!", "refinement": "text"},
-    "transition": {
-        "from": "text!", "to": "text!", "guard": "text!", "preemptive": "truth", "history": "truth!", "output": "list",
-        "set": "list",
-    },
-    "output action": {"port": "text!", "value": "text!"},
-    "set action": {"name": "text!", "value": "text!"},
-    "input": {"port": "text!", "tokens": "list", "events": "list"},
-    "event": {"time": "number!", "step": "number!", "value": "text!"},
-}
 _KINDS = {"text": "a text in double quotes", "truth": "true or false", "list": "a list", "object": "an object", "number": "a whole number"}
+# The Python type that a right field is read to. A number is looked at closely.
+_TYPE_OF_KIND = {"text": str, "truth": bool, "list": list, "object": dict, "number": int}
+_TYPES = {form: {name: _TYPE_OF_KIND[kind.rstrip("!")] for name, kind in fields.items()} for form, fields in FORMS.items()}
 # Which fields of an entity stand in some classes alone.
 _OF_COMPOSITES = ("relations", "links")
 _OF_MODALS = ("states", "initial", "transitions")
@@ -52,14 +35,26 @@ def form_faults(value: Value, form: str) -> Iterator[Remark]:
         yield Remark(value, f"An object is wanted here, the {form}.")
         return
     fields, node = FORMS[form], Node(value)
-    for name, key in node.keys.items():
-        if name not in fields:
-            yield Remark(key, f"The field {quoted(name)} is unknown. {meant(name, fields)} Fields of this {form}: {listed(fields)}.")
-        elif node.fields[name].kind != fields[name].rstrip("!"):
-            yield Remark(node.fields[name], f"The field '{name}' of this {form} is {_KINDS[fields[name].rstrip('!')]}.")
-    for name, kind in fields.items():
-        if kind.endswith("!") and name not in node.fields:
-            yield Remark(value, f"This {form} lacks its field '{name}', which is {_KINDS[kind[:-1]]}.")
+    if _is_right(node.plain, form):
+        return
+    for member in value.members():
+        if member.name not in fields:
+            yield Remark(member.key, f"The field {quoted(member.name)} is unknown. {meant(member.name, fields)} Fields of this {form}: {listed(fields)}.")
+    for name in node.fields:
+        found = node.get(name)
+        if name in fields and found.kind != fields[name].rstrip("!"):
+            yield Remark(found, f"The field '{name}' of this {form} is {_KINDS[fields[name].rstrip('!')]}.")
+    for name in REQUIRED[form]:
+        if name not in node:
+            yield Remark(value, f"This {form} lacks its field '{name}', which is {_KINDS[fields[name].rstrip('!')]}.")
+
+
+def _is_right(plain: dict | None, form: str) -> bool:
+    """Whether these are the fields of a right object, at a glance."""
+    if plain is None:
+        return False
+    types = _TYPES[form]
+    return all(types.get(name) is type(value) for name, value in plain.items()) and all(name in plain for name in REQUIRED[form])
 
 
 def _each(node: Node, field: str, form: str) -> Iterator[Remark]:
@@ -92,7 +87,7 @@ def _is_of_parent(remark: Remark, child: Value) -> bool:
 
 def _document_faults(job: Job) -> Iterator[Remark]:
     yield from form_faults(job.value, "document")
-    version = job.fields.get("version")
+    version = job.get("version")
     if version is not None and version.raw() != "1":
         yield Remark(version, "The version is the whole number 1.")
     for item in job.items("record"):
@@ -104,7 +99,7 @@ def _document_faults(job: Job) -> Iterator[Remark]:
 
 
 def _input_faults(given: Node) -> Iterator[Remark]:
-    if ("tokens" in given.fields) == ("events" in given.fields):
+    if ("tokens" in given) == ("events" in given):
         yield Remark(given.value, "An input has one of 'tokens' and 'events', and not both.")
     for item in given.items("tokens"):
         if item.kind not in ("text", "null"):
@@ -112,7 +107,7 @@ def _input_faults(given: Node) -> Iterator[Remark]:
     for item in given.items("events"):
         yield from form_faults(item, "event")
         for field in ("time", "step"):
-            number = Node(item).fields.get(field)
+            number = Node(item).get(field)
             if number is not None and not (re.fullmatch(r"[0-9]{1,20}", number.raw()) and int(number.raw()) < 2**64):
                 yield Remark(number, f"The {field} of an event is a whole number from 0, of 64 bits at most.")
 
@@ -124,20 +119,20 @@ def _entity_faults(entity: Entity) -> Iterator[Remark]:
         yield from (remark for remark in form_faults(entity.value, "entity") if not _is_of_parent(remark, entity.value))
     allowed = allowed_fields(entity.kind)
     for name in FORMS["entity"]:
-        if name in entity.keys and name not in allowed and entity.kind:
-            yield Remark(entity.keys[name], f"An entity of class {quoted(entity.kind)} has no '{name}'. It may have: {listed(allowed)}.")
+        if name in entity and name not in allowed and entity.kind:
+            yield Remark(entity.key(name), f"An entity of class {quoted(entity.kind)} has no '{name}'. It may have: {listed(allowed)}.")
     if entity.is_modal:
         for name in ("states", "initial"):
-            if name not in entity.fields:
+            if name not in entity:
                 yield Remark(entity.value, f"A Modal has the field '{name}'.")
 
 
 def _property_faults(entity: Entity) -> Iterator[Remark]:
-    waiting = list(entity.items("properties"))
+    waiting = [entity.items("properties")]
     while waiting:
-        item = waiting.pop(0)
-        yield from form_faults(item, "property")
-        waiting += Node(item).items("properties")
+        for item in waiting.pop():
+            yield from form_faults(item, "property")
+            waiting.append(Node(item).items("properties"))
     directors = [inner for inner in entity.properties if inner.is_director]
     for second in directors[1:]:
         yield Remark(second.at("class"), f"A composite has one director, and this one has {quoted(directors[0].text('class'))} already.")
@@ -154,7 +149,7 @@ def _port_faults(entity: Entity) -> Iterator[Remark]:
         if entity.kind in _WITH_PORTS[2:] and port.truth(wrong):
             right = "outputs" if wrong == "input" else "inputs"
             yield Remark(port.at(wrong), f"{entity.kind} declares {right}; its {wrong} is there without being declared.")
-        if "type" in port.fields and type_end(port.text("type"), 0) != len(port.text("type")):
+        if "type" in port and type_end(port.text("type"), 0) != len(port.text("type")):
             yield Remark(port.at("type"), "A type is int, boolean, string, arrayType(T) or {a = T, b = T}, with single blanks as shown.")
     if entity.kind in ("RecordAssembler", "RecordDisassembler") and not entity.ports:
         yield Remark(entity.value, f"A {entity.kind} declares one port at least.")
@@ -163,41 +158,50 @@ def _port_faults(entity: Entity) -> Iterator[Remark]:
 def _link_faults(entity: Entity) -> Iterator[Remark]:
     for item in entity.items("links"):
         yield from form_faults(item, "link")
-        if set(Node(item).fields) not in ({"port", "relation"}, {"relation1", "relation2"}):
+        link = Node(item)
+        if {name for name in FORMS["link"] if name in link} not in _LINKS:
             yield Remark(item, "A link has 'port' and 'relation', or 'relation1' and 'relation2'.")
 
 
+_LINKS = ({"port", "relation"}, {"relation1", "relation2"})
+_ARRAYS = re.compile(r"(?:arrayType\()*")
 _FIRST_FIELD = re.compile(r"\{([A-Za-z_]\w*) = ", re.ASCII)
 _NEXT_FIELD = re.compile(r", ([A-Za-z_]\w*) = ", re.ASCII)
+_SCALAR = re.compile("int|boolean|string")
+
+
+def _is_field(name: str) -> bool:
+    return name not in RESERVED and len(name) <= 64
 
 
 def type_end(text: str, start: int) -> int:
     """Where the type ends that begins here, or -1. Types in one another are kept on a list, not by recursion."""
-    position, closers = start, []
+    position = start
+    # What is open: None for an array, and for a record the names of its fields so far.
+    opened: list[set[str] | None] = []
     while True:
-        if text.startswith("arrayType(", position):
-            closers.append((")", set()))
-            position += len("arrayType(")
-            continue
+        arrays = _ARRAYS.match(text, position)
+        opened += [None] * (len(arrays[0]) // len("arrayType("))
+        position = arrays.end()
         if field := _FIRST_FIELD.match(text, position):
-            if field[1] in RESERVED or len(field[1]) > 64:
+            if not _is_field(field[1]):
                 return -1
-            closers.append(("}", {field[1]}))
+            opened.append({field[1]})
             position = field.end()
             continue
-        word = next((word for word in ("int", "boolean", "string") if text.startswith(word, position)), None)
-        if word is None:
+        scalar = _SCALAR.match(text, position)
+        if not scalar:
             return -1
-        position += len(word)
-        while closers and text.startswith(closers[-1][0], position):
-            closers.pop()
+        position = scalar.end()
+        while opened and text.startswith(")" if opened[-1] is None else "}", position):
+            opened.pop()
             position += 1
-        if not closers:
+        if not opened:
             return position
         following = _NEXT_FIELD.match(text, position)
-        if closers[-1][0] != "}" or not following or following[1] in closers[-1][1] or following[1] in RESERVED:
+        if not opened[-1] or not following or following[1] in opened[-1] or not _is_field(following[1]):
             return -1
-        closers[-1][1].add(following[1])
+        opened[-1].add(following[1])
         position = following.end()
 
 
@@ -222,7 +226,7 @@ def name_faults(job: Job, entity: Entity) -> Iterator[Remark]:
 def _names(nodes: Iterable[Node], what: str) -> Iterator[Remark]:
     seen: dict[str, Node] = {}
     for node in nodes:
-        if "name" not in node.fields:
+        if "name" not in node:
             continue
         place = node.at("name")
         if not NAME.fullmatch(node.name):

@@ -34,7 +34,7 @@ def _refinement_faults(modal: Entity) -> Iterator[Remark]:
     taken: dict[str, str] = {}
     for state in modal.states:
         name = state.text("refinement")
-        if "refinement" not in state.fields:
+        if "refinement" not in state:
             continue
         if name not in modal.children:
             yield Remark(state.at("refinement"), f"There is no child {quoted(name)}. {meant(name, modal.children)}")

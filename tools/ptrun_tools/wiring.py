@@ -89,7 +89,7 @@ class Wiring:
             names[(entity.path, relation.name)] = relation_path(entity, relation.name)
         for link in entity.links:
             key = (entity.path, link.text("relation") or link.text("relation1"))
-            if "relation2" in link.fields:
+            if "relation2" in link:
                 sets.join(key, (entity.path, link.text("relation2")))
                 continue
             target = port_of_link(entity, link.text("port"))
