@@ -68,6 +68,9 @@ class Stamps:
 class Kit:
     def __init__(self, rt):
         self.rt, self.library = rt, rt.rtlib
+        # Where rt has checkouts on one machine take from each other what is proved, they take it from this one too.
+        if hasattr(rt, "share_work"):
+            rt.share_work(True)
         self.stamps = Stamps(self.library.Crate)
 
     def build(self, folder: Path, log: TextIO, begins: Callable[[str], None], ends: Callable[[str, str], None]) -> bool:

@@ -147,7 +147,7 @@ class SideBySide(Program):
         (self.root / "crates/pt_a/out/rlib/stamp").write_text("pt_a")
         told = self.call(BUILD, fake="parts")
         self.assertEqual(told.returncode, 0)
-        self.assertEqual([line for line in self.asked() if not line.startswith("stamp")], ["lib pt_b", "run ptrun", "version"])
+        self.assertEqual([line for line in self.asked() if not line.startswith("stamp")], ["share True", "lib pt_b", "run ptrun", "version"])
         self.assertIn("2 of 3: pt_b is proved, after 0:0", told.stderr)
         self.assertNotIn("pt_a", told.stderr)
         self.assertIn("== pt_b\nwhat the prover says\n", (self.root / "crates/ptrun/out/build.log").read_text())
