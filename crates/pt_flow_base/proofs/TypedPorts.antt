@@ -1,5 +1,5 @@
 -- The types of ports, one after another.
-use Rattle.std.proofs.Common.{◌≡◌, ℕ, ◌<◌, ◌≤◌, ◌+◌, zero, suc, List, [], ◌∷◌, ◌++◌, length, get_or, drop, map, Option, Some, None, true, false, refl, sym, ap, ◌∙◌, add-one, drop-cons, arith, if◌then◌else◌}
+use Rattle.std.proofs.Common.{◌≡◌, ℕ, ◌<◌, ◌≤◌, ◌+◌, zero, suc, List, [], ◌∷◌, ◌++◌, length, get_or, drop, map, Option, Some, None, option_map, true, false, refl, sym, ap, ◌∙◌, add-one, drop-cons, arith, if◌then◌else◌}
 use Rattle.std.specs.Prelude.{bytes_eq}
 use Rattle.std.proofs.lemmas.List.{append_assoc, append-nil, map-append}
 use Rattle.pt_datatypes.specs.Datatype.{Datatype}
@@ -51,6 +51,20 @@ typed-more types names n e found pair short is named held =
     ∙ behind-more (map typed_entry found) (typed_entry pair) (type_named e types) (typed_names types (drop (n + 1) names)) (sym held)
     ∙ ap (λ m. behind (map typed_entry found) (with_typed m (type_named e types) (typed_names types (drop (n + 1) names)))) named
     ∙ sym (ap (λ ns. behind (map typed_entry found) (typed_names types ns)) (front names n e short is))
+
+-- a name with what is found under it
+abbrev pub under : List ℕ → Option Datatype → Option (List ℕ × Datatype)
+under name o = option_map (λ t. (name, t)) o
+
+pub found-entry : (name : List ℕ) (o : Option Datatype) (entry : List ℕ × Datatype) → Some entry ≡ under name o → (entry.0 ≡ name) × (Some entry.1 ≡ o)
+found-entry name None entry e = cc
+found-entry name (Some t) entry e =
+    let same : entry ≡ (name, t) = cc in
+    (ap (λ (x : List ℕ × Datatype). x.0) same, ap (λ (x : List ℕ × Datatype). Some x.1) same)
+
+pub no-entry : (name : List ℕ) (o : Option Datatype) → None ≡ under name o → None ≡ o
+no-entry name None e = refl
+no-entry name (Some t) e = cc
 
 pub untyped : (types : List (List ℕ × Datatype)) (names : List (List ℕ)) (n : ℕ) (e : List ℕ) (found : List (List ℕ × Datatype)) → n < length names → e ≡ get_or names n e → None ≡ type_named e types → behind found (typed_names types (drop n names)) ≡ None
 untyped types names n e found short is none =

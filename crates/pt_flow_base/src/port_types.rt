@@ -1,7 +1,9 @@
-ghost use Rattle.std.specs.Prelude.{◌≡◌, IfOk, map, option_map};
+ghost use Rattle.std.specs.Prelude.{◌≡◌, ℕ, List, IfOk, map, option_map};
+ghost use Rattle.pt_datatypes.specs.Datatype.{Datatype};
 ghost use Rattle.pt_types.specs.Ty.{type_of};
 ghost use Rattle.pt_types.specs.Entry.{typed_entry};
 ghost use Rattle.pt_flow_base.specs.PortTypes.{type_named, typed_names};
+ghost use Rattle.pt_flow_base.specs.TypeTable.{types_in};
 
 use crate::type_table::TypeTable;
 use pt_firing::Names;
@@ -63,15 +65,29 @@ impl PortTypes {
         ensures { IfOk result (λ typed. typed ≡ typed_names self.now names.now) }
     {
         let table = TypeTable::of(alloc, self.as_slice())?;
-        let mut types = Vec::new(alloc);
-        for name in names.as_slice() {
-            let Some(ty) = table.get(name.as_str()) else {
-                return Ok(None);
-            };
-            types.push((name.copy(alloc)?, ty.copy(alloc)?))?;
-        }
-        Ok(Some(PortTypes { types }))
+        let names = names.as_slice();
+        let typed = typed_by(alloc, &table, names);
+        drop(table);
+        typed
     }
+}
+
+/// Some names with their types in a table, if each has one.
+fn typed_by(
+    alloc: Global,
+    table: &TypeTable,
+    names: &[Text],
+) -> Result<Option<PortTypes>, AllocError>
+    ensures { IfOk result (λ typed. (types : List (List ℕ × Datatype)) → ((name : List ℕ) → types_in table.now name ≡ type_named name types) → typed ≡ typed_names types names.now) }
+{
+    let mut types = Vec::new(alloc);
+    for name in names {
+        let Some(entry) = table.entry(alloc, name)? else {
+            return Ok(None);
+        };
+        types.push(entry)?;
+    }
+    Ok(Some(PortTypes { types }))
 }
 
 fn copies(alloc: Global, entries: &[(Text, Ty)]) -> Result<Vec<(Text, Ty)>, AllocError>

@@ -35,6 +35,15 @@ impl TypeTable {
         Ok(())
     }
 
+    /// Puts a copy of the type of an entry under its name.
+    fn put_copy(&mut self, alloc: Global, entry: &(Text, Ty)) -> Result<(), AllocError>
+        ensures { OnOk result ((other : List ℕ) → types_in self.new other ≡ (if bytes_eq entry.now.0 other then Some (type_of entry.now.1) else types_in self.old other)) }
+    {
+        let (name, ty) = entry;
+        let ty = ty.copy(alloc)?;
+        self.put(alloc, name.as_str(), ty)
+    }
+
     /// The table of some entries, of which the first one under a name counts.
     pub(crate) fn of(alloc: Global, entries: &[(Text, Ty)]) -> Result<TypeTable, AllocError>
         ensures { IfOk result (λ table. (name : List ℕ) → types_in table name ≡ type_named name (map typed_entry entries.now)) }
@@ -44,8 +53,7 @@ impl TypeTable {
         let mut left = entries.len();
         while left > 0 {
             left -= 1;
-            let (name, ty) = &entries[left];
-            table.put(alloc, name.as_str(), ty.copy(alloc)?)?;
+            table.put_copy(alloc, &entries[left])?;
         }
         Ok(table)
     }
@@ -56,4 +64,24 @@ impl TypeTable {
     {
         self.types.get(name)
     }
+
+    /// A name with its type, if it has one.
+    pub(crate) fn entry(&self, alloc: Global, name: &Text) -> Result<Option<(Text, Ty)>, AllocError>
+        ensures { IfOk result (λ entry. option_map typed_entry entry ≡ option_map (λ t. (name.now, t)) (types_in self.now name.now)) }
+    {
+        match self.get(name.as_str()) {
+            Some(ty) => entry_of(alloc, name, ty).map(Some),
+            None => Ok(None),
+        }
+    }
+}
+
+/// A copy of a name and its type.
+fn entry_of(alloc: Global, name: &Text, ty: &Ty) -> Result<(Text, Ty), AllocError>
+    ensures name { IfOk result (λ entry. entry.0 ≡ name.now) }
+    ensures ty { IfOk result (λ entry. type_of entry.1 ≡ type_of ty.now) }
+{
+    let name = name.copy(alloc)?;
+    let ty = ty.copy(alloc)?;
+    Ok((name, ty))
 }

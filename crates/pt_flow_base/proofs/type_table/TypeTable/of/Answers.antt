@@ -1,5 +1,4 @@
-use Rattle.std.proofs.Common.{◌≡◌, ◌<◌, ◌-◌, ◌+◌, length, drop, map, sym, ap, ◌∙◌, arith, rules}
-use Rattle.pt_datatypes.specs.Normal.{normal}
+use Rattle.std.proofs.Common.{◌≡◌, ◌<◌, ◌-◌, ◌+◌, length, drop, map, refl, sym, ap, ◌∙◌, arith}
 use Rattle.pt_types.specs.Ty.{type_of}
 use Rattle.pt_types.specs.Entry.{typed_entry}
 use Rattle.pt_flow_base.specs.PortTypes.{type_named}
@@ -24,7 +23,7 @@ loop-left-preserved c =
     let more : c.loop-left.left ≡ n + 1 = omega (arith, c.loop-left-test.true) in
     let e = c.index-entries-left.result in
     record {
-      rest = table-more es n e c.as_str.result.now (type_of c.in_ok-copy.field-0) (types_in c.loop-left.table) (types_in c.put.new.self) short c.index-entries-left.is c.as_str.ensures (ap normal c.in_ok-copy.ensures) c.in_ok-put.ensures (λ name. inv.rest name ∙ ap (λ k. type_named name (map typed_entry (drop k es))) more);
+      rest = table-more es n e e.0 (type_of e.1) (types_in c.loop-left.table) (types_in c.put_copy.new.self) short c.index-entries-left.is refl refl c.in_ok-put_copy.ensures (λ name. inv.rest name ∙ ap (λ k. type_named name (map typed_entry (drop k es))) more);
       within = omega (arith, inv.within);
     }
 
