@@ -1,6 +1,6 @@
 -- What a row feeds, and what its outputs put on the channels.
 use Rattle.std.proofs.Common.{◌≡◌, ℕ, zero, suc, ◌+◌, ◌-◌, ◌/◌, ◌<◌, ◌≤◌, List, [], ◌∷◌, ◌++◌, Bool, true, false, length, get_or, set, take, drop, map, nat_eq, Option, Some, None, if◌then◌else◌, Vec, Global, refl, ap, ap₂, sym, ◌∙◌, arith, append_assoc, append-nil, zero-add, length-set, replicate}
-use Rattle.std.proofs.lemmas.List.{get_or-set_same, get_or-set_other, drop_more, map_push, length-map, take_at, drop_at}
+use Rattle.std.proofs.lemmas.List.{get_or-set_same, get_or-set_other, drop_more, map_push, length-map, length-replicate, take_at, drop_at}
 use Rattle.std.proofs.Math.ListN.{get_or-map}
 use Rattle.std.proofs.lemmas.Bool.Decides.{nat_tests}
 use Rattle.pt_meaning.specs.Streams.{Streams, at}
@@ -39,6 +39,9 @@ nothing-at : {A : Type 0} (k r : ℕ) → get_or (replicate {A = List A} k []) r
 nothing-at zero r = refl
 nothing-at (suc k) zero = refl
 nothing-at (suc k) (suc r) = nothing-at k r
+
+pub empty-rows : (n k : ℕ) (rows : List (Vec Feed Global)) → rows_in rows ≡ replicate k [] → k ≡ n + 1 → AreTargets n [] rows
+empty-rows n k rows e all = empty-targets n rows (sym (length-map rows (λ (row : Vec Feed Global). row.items)) ∙ ap length e ∙ length-replicate k [] ∙ all) (λ r. ap (λ xs. get_or xs r []) e ∙ nothing-at k r)
 
 -- a feed more on the row of the next channel's source
 pub added : (n : ℕ) (ss : List Source) (s : Source) (rows rows' : List (Vec Feed Global)) (f : Feed) → AreTargets n ss rows → row_of n s < n + 1 → f.channel ≡ length ss → f.port ≡ port_of s →

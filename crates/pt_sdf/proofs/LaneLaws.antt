@@ -28,6 +28,11 @@ use Rattle.pt_sdf.proofs.CallLaws.{child-puts-on, child-feeds-there, told-state}
 use Rattle.pt_sdf.proofs.CoreLaws.{SoundAt, asked-rooms, told-child}
 use Rattle.pt_sdf.proofs.HandLaws.{reopened, handing, reopened-sound, reopened-left, reopened-next, busy-there, busy-rooms, place-is, unmoved-fits, unmoved-enough, offset-read, handing-sound, handing-told}
 
+-- a lane of the same places, rates and feeds
+pub lane-at : (needs : List ℕ) (o o' p : ℕ) (r r' : List ℕ) (f f' : List Feed) (lane : Lane) → o ≡ o' → r ≡ r' → f ≡ f' → IsLane needs o p r f lane → IsLane needs o' p r' f' lane
+lane-at needs o o' p r r' f f' lane a b d is =
+    subst (λ u. IsLane needs u p r' f' lane) a (subst (λ u. IsLane needs o p u f' lane) b (subst (λ u. IsLane needs o p r u lane) d is))
+
 -- what is told of a child
 module _ (i : Inside) (w : IsWhole i) (child : ℕ) (h : child < length i.plan.places) (lane : Lane) (e : lane ≡ get_or i.tables.lanes.items child lane) where
   pub is-lane : IsLane i.plan.needs (place_of i.plan.places child) (get_or i.plan.places child 0) (get_or i.plan.rates.items child []) (get_or (rows_in i.tables.feeds.items) child []) lane

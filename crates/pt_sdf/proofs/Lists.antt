@@ -1,7 +1,7 @@
 -- Lists of lists, by number.
-use Rattle.std.proofs.Common.{◌≡◌, ℕ, zero, suc, ◌+◌, ◌-◌, ◌<◌, ◌≤◌, max, ⊎_elim, List, [], ◌∷◌, ◌++◌, length, get_or, set, take, drop, Some, None, refl, ap, ap₂, sym, subst, ◌∙◌, arith, append_assoc, length-append, add-one, zero-add, suc-add}
+use Rattle.std.proofs.Common.{◌≡◌, ℕ, zero, suc, ◌+◌, ◌-◌, ◌<◌, ◌≤◌, max, inl, inr, ⊎_elim, List, [], ◌∷◌, ◌++◌, length, get_or, set, take, drop, Some, None, refl, ap, ap₂, sym, subst, ◌∙◌, arith, append_assoc, length-append, add-one, zero-add, suc-add}
 use Rattle.std.specs.List.{slice_get}
-use Rattle.std.proofs.lemmas.List.{get_or-set_same, get_or-set_other, set-set, set_past, get_or_past, drop-drop, get_or-drop, drop-append-le}
+use Rattle.std.proofs.lemmas.List.{get_or-set_same, get_or-set_other, set-set, set_past, get_or_past, get_or_append_left, get_or_push, drop-drop, get_or-drop, drop-append-le}
 use Rattle.std.proofs.lemmas.Bool.{cases_eq, cases_lt}
 use Rattle.pt_meaning.specs.Streams.{Streams, at}
 use Rattle.pt_meaning.specs.Kahn.{firsts}
@@ -12,6 +12,19 @@ pub read-at : {X : Type 0} (xs : List X) (i : ℕ) (x d : X) → i < length xs �
 read-at [] i x d h e = absurd (omega arith)
 read-at (y ∷ xs) zero x d h e = e
 read-at (y ∷ xs) (suc i) x d h e = read-at xs i x d (omega arith) e
+
+-- what holds of each element, and of one more behind them
+pub each-more : {X : Type 0} (P : ℕ → X → Type 0) (xs : List X) (n : ℕ) (x d : X) → length xs ≡ n → ((i : ℕ) → i < n → P i (get_or xs i d)) → P n x → (i : ℕ) → i < n + 1 → P i (get_or (xs ++ x ∷ []) i d)
+each-more P xs n x d long each one i short = elim (cases_lt i n) [
+  | inl low ↦ subst (P i) (sym (get_or_append_left xs (x ∷ []) d i (omega (arith, low, long)))) (each i low)
+  | inr high ↦ (let e : i ≡ n = omega (arith, short, high) in
+      subst (λ k. P k (get_or (xs ++ x ∷ []) k d)) (sym e) (subst (P n) (sym (get_or_push xs x d n long)) one))
+]
+
+-- what holds of each element but one, and of what is put in its place
+pub set-each : {X : Type 0} (P : ℕ → X → Type 0) (xs : List X) (c : ℕ) (x d : X) → c < length xs → P c x → (j : ℕ) → ((j ≡ c → ⊥) → P j (get_or xs j d)) → P j (get_or (set xs c x) j d)
+set-each P xs c x d short one j other =
+    ⊎_elim (λ e. subst (λ k. P k (get_or (set xs c x) k d)) (sym e) (subst (P c) (sym (get_or-set_same xs c x d short)) one)) (λ o. subst (P j) (sym (get_or-set_other xs c j x d o)) (other o)) (cases_eq j c)
 
 pub take-plus : {X : Type 0} (k m : ℕ) (xs : List X) → take (k + m) xs ≡ take k xs ++ take m (drop k xs)
 take-plus zero m xs = ap (λ j. take j xs) (zero-add m)

@@ -1,5 +1,6 @@
-use Rattle.std.proofs.Common.{◌≡◌, ℕ, ◌+◌, ◌*◌, ◌<◌, [], length, min, get_or, None, ap, ◌∙◌, sym, subst, arith, refl, length-set}
-use Rattle.std.proofs.lemmas.List.{get_or-set_other}
+use Rattle.std.proofs.Common.{◌≡◌, ℕ, ◌+◌, ◌*◌, ◌<◌, [], length, min, get_or, None, ap, ◌∙◌, sym, subst, arith, refl, map, take, drop, length-drop, length-set}
+use Rattle.std.proofs.lemmas.List.{get_or-set_other, length-map, take_all}
+use Rattle.pt_meaning.specs.Kahn.{firsts}
 use Rattle.pt_sdf.specs.Rooms.{HasRoom}
 use Rattle.pt_sdf.proofs.Lists.{skip-zero, read-at}
 use Rattle.pt_sdf.proofs.OutletLaws.{outlet-there, outlet-list, outlet-given, outlet-left, outlets-left, one-left}
@@ -53,3 +54,12 @@ loop-k-preserved c =
 
 pub returns-clause-left : goal.returns-clause-left
 returns-clause-left c = outlets-left c.args.turns c.args.gives.now c.args.channels.now.lists c.args.from c.requires.counted c.loop-k.channels.lists c.loop-k.k c.loop-k-test.false c.loop-k.invariant.left
+
+pub returns-clause-given : goal.returns-clause-given
+returns-clause-given c =
+    let k = c.loop-k.k in
+    let counts = map (λ n. c.args.turns * n) c.args.gives.now in
+    let lists = drop c.args.from c.args.channels.now.lists in
+    let all_counts : take k counts ≡ counts = take_all k counts (omega (arith, c.loop-k-test.false, length-map c.args.gives.now (λ n. c.args.turns * n))) in
+    let all_lists : take k lists ≡ lists = take_all k lists (omega (arith, c.loop-k-test.false, c.requires.counted, length-drop c.args.from c.args.channels.now.lists)) in
+    c.of.ensures ∙ c.loop-k.invariant.given ∙ (λ i. firsts (all_counts i) (all_lists i))
