@@ -1,10 +1,10 @@
 """Proves crates side by side and builds a program of them, by the parts that the kit's command rt is made of.
 
-The command 'rt all check', and 'rt run' after it, come to the same. From nothing they take much longer: they first read
-all sources as one program, give each crate one processor alone, and find out what is built by hashing a crate once for
-each path by which others use it, which are thousands. Here the crates go by the order of the gate: as many as there are
-processors and memory, those with the longest chain of others behind them first. What is proved, kept and stamped is what
-rt itself proves, keeps and stamps. A kit may be made otherwise: then 'kit_of' gives None.
+The command 'rt all check', and 'rt run' after it, come to the same. From nothing they take longer: they first read all
+sources as one program, and give each crate one processor alone. Here the crates go by the order of the gate: as many as
+there are processors and memory, those with the longest chain of others behind them first. What is proved, kept and
+stamped is what rt itself proves, keeps and stamps, and what another checkout on this machine has proved of the same text
+is taken from there. A kit may be made otherwise: then 'kit_of' gives None.
 """
 
 import importlib.machinery
@@ -40,7 +40,7 @@ def kit_of(command: str) -> "Kit | None":
 
 
 class Stamps:
-    """Has a crate's stamp, a hash of it and of the stamps below it, found once for each crate within one call."""
+    """Has a crate's stamp, a hash of it and of the stamps below it, found once for each crate within one or more calls."""
 
     def __init__(self, crate_type):
         self.plain, self.kept = crate_type.stamp, threading.local()

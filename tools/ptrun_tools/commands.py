@@ -9,7 +9,7 @@ from __future__ import annotations
 import argparse
 import sys
 from pathlib import Path
-from typing import Callable
+from typing import Callable, Iterable
 
 from . import drawing, explain, page, picture, program, waves
 from .document import Document, NotJson, place_of
@@ -49,10 +49,10 @@ def _bytes(path: str) -> bytes:
         raise Failure(f"{path} can't be read: {error.strerror}") from None
 
 
-def _job(path: str) -> tuple[bytes, Job]:
+def _job(path: str) -> Job:
     data = _bytes(path)
     try:
-        return data, Job(Document(data))
+        return Job(Document(data))
     except NotJson as fault:
         place = place_of(data, fault.position)
         raise Failure(f"{path}:{place.line}:{place.column}: {fault.reason}") from None
@@ -76,11 +76,25 @@ def _write(text: str, path: str | None) -> None:
         raise Failure(f"{path} can't be written: {error.strerror}") from None
 
 
+def _note(name: str, notes: Iterable[str], ending: str = "") -> None:
+    """Says on standard error what was left out."""
+    for note in notes:
+        print(f"{name}: {note}{ending}", file=sys.stderr)
+
+
 def _counts(text: str) -> int:
     number = int(text)
     if number < 0:
         raise argparse.ArgumentTypeError("a number from 0 is wanted")
     return number
+
+
+def _add_model(parser: argparse.ArgumentParser) -> None:
+    parser.add_argument("model", metavar="MODEL.json", help="the document, or - for standard input")
+
+
+def _add_output(parser: argparse.ArgumentParser) -> None:
+    parser.add_argument("-o", "--output", metavar="FILE", help="where to write (standard output)")
 
 
 def _add_limits(parser: argparse.ArgumentParser) -> None:
@@ -96,7 +110,7 @@ def explain_main() -> int:
         "The first line is MODEL:LINE:COLUMN: ANSWER, as editors and compilers have it. The exit status is 0 where the run\n"
         "ended by itself, 1 where a refusal, a fault, a jam or a spent budget is explained, and 2 where nothing could be run."
     )
-    parser.add_argument("model", metavar="MODEL.json", help="the document, or - for standard input")
+    _add_model(parser)
     parser.add_argument("--program", metavar="PATH", help="the program; else the variable PTRUN, else crates/ptrun/out/ptrun")
     parser.add_argument("--report", metavar="REPORT", help="explain this report of the model, and run nothing")
     parser.add_argument("--budget", metavar="N", help="run with this budget of firings")
@@ -120,8 +134,8 @@ def draw_main() -> int:
         "Draw a model as SVG: composites in one another, actors, ports, relations, and the charts of modal models.\n\n"
         "Graphviz lays the drawing out. Where it isn't installed the DOT text is written, and a line on standard error says so."
     )
-    parser.add_argument("model", metavar="MODEL.json", help="the document, or - for standard input")
-    parser.add_argument("-o", "--output", metavar="FILE", help="where to write (standard output)")
+    _add_model(parser)
+    _add_output(parser)
     parser.add_argument("--dot", action="store_true", help="write the DOT text")
     parser.add_argument("--depth", metavar="N", type=_counts, help="open composites to this depth alone, the top being 0")
     _add_limits(parser)
@@ -129,10 +143,9 @@ def draw_main() -> int:
 
 
 def _draw(options: argparse.Namespace) -> int:
-    _, job = _job(options.model)
+    job = _job(options.model)
     made = drawing.draw(job, options.depth, max(1, options.limit))
-    for note in made.notes:
-        print(f"draw: {note} (--depth, --limit)", file=sys.stderr)
+    _note("draw", made.notes, " (--depth, --limit)")
     text = made.dot
     if not options.dot:
         try:
@@ -149,7 +162,7 @@ def waves_main() -> int:
         "One tick is shown as one second; microsteps, and the tokens of one port at one tag, are fractions of it."
     )
     parser.add_argument("report", metavar="REPORT", help="what ptrun run wrote, or - for standard input")
-    parser.add_argument("-o", "--output", metavar="FILE", help="where to write (standard output)")
+    _add_output(parser)
     return _run("waves", _waves, parser)
 
 
@@ -168,9 +181,9 @@ def page_main() -> int:
         "Show a model and its report as one HTML page: the drawing, each trace as a plot, meetings as a sequence chart,\n"
         "and a refusal, a fault or a jam marked in the drawing. The page needs nothing but a browser."
     )
-    parser.add_argument("model", metavar="MODEL.json", help="the document, or - for standard input")
+    _add_model(parser)
     parser.add_argument("report", metavar="REPORT", help="what ptrun run wrote for it, or - for standard input")
-    parser.add_argument("-o", "--output", metavar="FILE", help="where to write (standard output)")
+    _add_output(parser)
     words = "show this many tokens of each trace at most (%(default)s)"
     parser.add_argument("--tokens", metavar="N", type=_counts, default=page.DEFAULT_TOKENS, help=words)
     _add_limits(parser)
@@ -183,7 +196,6 @@ def _page(options: argparse.Namespace) -> int:
     data, report = _bytes(options.model), _report(options.report)
     name = "standard input" if options.model == "-" else options.model
     made = page.page(name, data, report, page.Options(options.tokens, max(1, options.limit), options.seconds))
-    for note in made.notes:
-        print(f"page: {note}", file=sys.stderr)
+    _note("page", made.notes)
     _write(made.html, options.output)
     return 0
