@@ -55,12 +55,13 @@ class Objects(unittest.TestCase):
             ('"name": "a", "class": "b", "clas": 1', "'clas' is unknown. Did you mean 'class'?"),
         ]
         for text, words in rows:
-            value = Document(("{" + text + "}").encode()).root
-            self.assertIn(words, next(form_faults(value, "entity")).text)
-            large = Document(("{" + text + ', "properties": [' + ", ".join(["{}"] * 3000) + "]}").encode()).root
+            self.assertIn(words, next(form_faults(node("{" + text + "}"), "entity")).text)
+            large = node("{" + text + ', "properties": [' + ", ".join(["{}"] * 3000) + "]}")
             self.assertIn(words, next(form_faults(large, "entity")).text)
         for text in ('"name": "a", "class": "b"', '"class": 1, "name": "a", "class": "b"'):
-            self.assertEqual(list(form_faults(Document(("{" + text + "}").encode()).root, "entity")), [])
+            self.assertEqual(list(form_faults(node("{" + text + "}"), "entity")), [])
+        for form in ("entity", "link"):
+            self.assertIn("An object is wanted", next(form_faults(node("[]"), form)).text)
 
     def test_brackets_in_one_another(self) -> None:
         for opening, closing in (("[", "]"), ('{"a":', "}"), ('[{"a": ', " }\n]")):

@@ -26,4 +26,4 @@ FORMS: dict[str, dict[str, str]] = {
 
 # Each field of the format, by the bytes that it is written in.
 FIELDS = {name.encode(): name for fields in FORMS.values() for name in fields}
-REQUIRED = {form: [name for name, kind in fields.items() if kind.endswith("!")] for form, fields in FORMS.items()}
+REQUIRED = {form: {name: None for name, kind in fields.items() if kind.endswith("!")}.keys() for form, fields in FORMS.items()}

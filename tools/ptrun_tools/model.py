@@ -29,15 +29,10 @@ class Node:
 
     def __init__(self, value: Value):
         self.value = value
-        self._plain: dict | None = None
-
-    @property
-    def plain(self) -> dict | None:
-        """The fields as Python's values, without places, or None of a large object. Most of a document is small objects."""
-        if self._plain is None and self.value.end - self.value.start <= _BYTES_OF_A_SMALL_OBJECT:
-            found = self.value.plain()
-            self._plain = found if isinstance(found, dict) else {}
-        return self._plain
+        # The fields of a small object as Python's values, without places: most of a document is small objects.
+        self.plain: dict | None = None
+        if value.end - value.start <= _BYTES_OF_A_SMALL_OBJECT and value.kind == "object":
+            self.plain = value.plain()
 
     @cached_property
     def _spans(self) -> dict[str, tuple[int, int, int, int]]:

@@ -29,13 +29,13 @@ def allowed_fields(kind: str) -> list[str]:
     return fields + (list(_OF_MODALS) if kind == "Modal" else [])
 
 
-def form_faults(value: Value, form: str) -> Iterator[Remark]:
+def form_faults(node: Node, form: str) -> Iterator[Remark]:
     """What is wrong with one object's own fields."""
+    if _is_right(node.plain, form):
+        return
+    fields, value = FORMS[form], node.value
     if value.kind != "object":
         yield Remark(value, f"An object is wanted here, the {form}.")
-        return
-    fields, node = FORMS[form], Node(value)
-    if _is_right(node.plain, form):
         return
     for member in value.members():
         if member.name not in fields:
@@ -54,12 +54,15 @@ def _is_right(plain: dict | None, form: str) -> bool:
     if plain is None:
         return False
     types = _TYPES[form]
-    return all(types.get(name) is type(value) for name, value in plain.items()) and all(name in plain for name in REQUIRED[form])
+    for name, value in plain.items():
+        if types.get(name) is not type(value):
+            return False
+    return plain.keys() >= REQUIRED[form]
 
 
 def _each(node: Node, field: str, form: str) -> Iterator[Remark]:
     for item in node.items(field):
-        yield from form_faults(item, form)
+        yield from form_faults(Node(item), form)
 
 
 def shape_faults(job: Job, entity: Entity) -> Iterator[Remark]:
@@ -72,30 +75,30 @@ def shape_faults(job: Job, entity: Entity) -> Iterator[Remark]:
     yield from _each(entity, "relations", "relation")
     yield from _link_faults(entity)
     yield from _each(entity, "states", "state")
-    for item in entity.items("transitions"):
-        yield from form_faults(item, "transition")
-        yield from _each(Node(item), "output", "output action")
-        yield from _each(Node(item), "set", "set action")
-    for child in entity.items("entities"):
+    for transition in map(Node, entity.items("transitions")):
+        yield from form_faults(transition, "transition")
+        yield from _each(transition, "output", "output action")
+        yield from _each(transition, "set", "set action")
+    for child in map(Node, entity.items("entities")):
         yield from (remark for remark in form_faults(child, "entity") if _is_of_parent(remark, child))
 
 
-def _is_of_parent(remark: Remark, child: Value) -> bool:
+def _is_of_parent(remark: Remark, child: Node) -> bool:
     """Whether a fault of a child is reported at the entity around it: its name, or that it is no object."""
-    return child.kind != "object" or "'name'" in remark.text
+    return child.value.kind != "object" or "'name'" in remark.text
 
 
 def _document_faults(job: Job) -> Iterator[Remark]:
-    yield from form_faults(job.value, "document")
+    yield from form_faults(job, "document")
     version = job.get("version")
     if version is not None and version.raw() != "1":
         yield Remark(version, "The version is the whole number 1.")
     for item in job.items("record"):
         if item.kind != "text":
             yield Remark(item, "The record is a list of texts, the paths of output ports.")
-    for item in job.items("inputs"):
-        yield from form_faults(item, "input")
-        yield from _input_faults(Node(item))
+    for given in map(Node, job.items("inputs")):
+        yield from form_faults(given, "input")
+        yield from _input_faults(given)
 
 
 def _input_faults(given: Node) -> Iterator[Remark]:
@@ -104,19 +107,19 @@ def _input_faults(given: Node) -> Iterator[Remark]:
     for item in given.items("tokens"):
         if item.kind not in ("text", "null"):
             yield Remark(item, "A token is a text of an expression, as \"1\", or null for none.")
-    for item in given.items("events"):
-        yield from form_faults(item, "event")
+    for event in map(Node, given.items("events")):
+        yield from form_faults(event, "event")
         for field in ("time", "step"):
-            number = Node(item).get(field)
+            number = event.get(field)
             if number is not None and not (re.fullmatch(r"[0-9]{1,20}", number.raw()) and int(number.raw()) < 2**64):
                 yield Remark(number, f"The {field} of an event is a whole number from 0, of 64 bits at most.")
 
 
 def _entity_faults(entity: Entity) -> Iterator[Remark]:
     if entity.parent is None:
-        yield from form_faults(entity.value, "entity")
+        yield from form_faults(entity, "entity")
     else:
-        yield from (remark for remark in form_faults(entity.value, "entity") if not _is_of_parent(remark, entity.value))
+        yield from (remark for remark in form_faults(entity, "entity") if not _is_of_parent(remark, entity))
     allowed = allowed_fields(entity.kind)
     for name in FORMS["entity"]:
         if name in entity and name not in allowed and entity.kind:
@@ -130,23 +133,24 @@ def _entity_faults(entity: Entity) -> Iterator[Remark]:
 def _property_faults(entity: Entity) -> Iterator[Remark]:
     waiting = [entity.items("properties")]
     while waiting:
-        for item in waiting.pop():
-            yield from form_faults(item, "property")
-            waiting.append(Node(item).items("properties"))
+        for inner in map(Node, waiting.pop()):
+            yield from form_faults(inner, "property")
+            if "properties" in inner:
+                waiting.append(inner.items("properties"))
     directors = [inner for inner in entity.properties if inner.is_director]
     for second in directors[1:]:
         yield Remark(second.at("class"), f"A composite has one director, and this one has {quoted(directors[0].text('class'))} already.")
 
 
 def _port_faults(entity: Entity) -> Iterator[Remark]:
-    for item in entity.items("ports"):
-        yield from form_faults(item, "port")
-        port = Node(item)
+    wrong = "input" if entity.kind == "RecordDisassembler" else "output"
+    is_of_actor = entity.kind in _WITH_PORTS[2:]
+    for port in map(Node, entity.items("ports")):
+        yield from form_faults(port, "port")
         yield from _each(port, "properties", "property")
         if port.truth("input") == port.truth("output"):
-            yield Remark(item, "Exactly one of 'input' and 'output' is true at a port.")
-        wrong = "input" if entity.kind == "RecordDisassembler" else "output"
-        if entity.kind in _WITH_PORTS[2:] and port.truth(wrong):
+            yield Remark(port.value, "Exactly one of 'input' and 'output' is true at a port.")
+        if is_of_actor and port.truth(wrong):
             right = "outputs" if wrong == "input" else "inputs"
             yield Remark(port.at(wrong), f"{entity.kind} declares {right}; its {wrong} is there without being declared.")
         if "type" in port and type_end(port.text("type"), 0) != len(port.text("type")):
@@ -156,11 +160,10 @@ def _port_faults(entity: Entity) -> Iterator[Remark]:
 
 
 def _link_faults(entity: Entity) -> Iterator[Remark]:
-    for item in entity.items("links"):
-        yield from form_faults(item, "link")
-        link = Node(item)
+    for link in map(Node, entity.items("links")):
+        yield from form_faults(link, "link")
         if {name for name in FORMS["link"] if name in link} not in _LINKS:
-            yield Remark(item, "A link has 'port' and 'relation', or 'relation1' and 'relation2'.")
+            yield Remark(link.value, "A link has 'port' and 'relation', or 'relation1' and 'relation2'.")
 
 
 _LINKS = ({"port", "relation"}, {"relation1", "relation2"})
@@ -228,13 +231,13 @@ def _names(nodes: Iterable[Node], what: str) -> Iterator[Remark]:
     for node in nodes:
         if "name" not in node:
             continue
-        place = node.at("name")
-        if not NAME.fullmatch(node.name):
-            yield Remark(place, f"{quoted(node.name)} is no name: {_what_breaks(node.name)}")
-        if node.name in seen:
-            line = seen[node.name].value.place().line
-            yield Remark(place, f"The name {quoted(node.name)} stands twice: another {what} of this name is in line {line}.")
-        seen[node.name] = node
+        name = node.name
+        if not NAME.fullmatch(name):
+            yield Remark(node.at("name"), f"{quoted(name)} is no name: {_what_breaks(name)}")
+        if name in seen:
+            line = seen[name].value.place().line
+            yield Remark(node.at("name"), f"The name {quoted(name)} stands twice: another {what} of this name is in line {line}.")
+        seen[name] = node
 
 
 def _what_breaks(name: str) -> str:
