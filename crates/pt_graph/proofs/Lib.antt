@@ -1,3 +1,4 @@
+pub mod SameItems
 pub mod GroupSteps
 pub mod OneSource
 pub mod Surveys

@@ -1,4 +1,4 @@
-ghost use Rattle.std.specs.Prelude.{◌≡◌, ℕ, ◌<◌, length, Some, slice_get, IfOk, IfErr, OnOk};
+ghost use Rattle.std.specs.Prelude.{◌≡◌, ℕ, ◌+◌, ◌<◌, length, Some, slice_get, IfOk, IfErr, OnOk};
 ghost use Rattle.pt_document.specs.declared.code.Code.TheVariants as code;
 ghost use Rattle.pt_net.specs.Table.{PortAt};
 ghost use Rattle.pt_graph.specs.Survey.{tables_view, placed_view, port_at};
@@ -80,6 +80,18 @@ fn input_channels(wiring: &Wiring, number: usize, port: &PlacedPort) -> usize
     }
 }
 
+/// Counts the channels to one more port.
+fn count_port(counts: &mut Vec<usize>, wiring: &Wiring, number: usize)
+    requires wiring { IsWiring wiring.now }
+    requires number { number < length (tables_view wiring.now.tables.now).ports }
+    requires counts { AreCounts (tables_view wiring.now.tables.now) number counts.old.items }
+    ensures { AreCounts (tables_view wiring.now.tables.now) (number + 1) counts.new.items }
+{
+    let port = &wiring.tables.ports[number];
+    let channels = input_channels(wiring, number, port);
+    counts[port.entity] = counts[port.entity].saturating_add(channels);
+}
+
 /// The channels to the inputs of each entity.
 fn channel_counts(alloc: Global, wiring: &Wiring) -> Result<Vec<usize>, AllocError>
     requires { IsWiring wiring.now }
@@ -87,9 +99,7 @@ fn channel_counts(alloc: Global, wiring: &Wiring) -> Result<Vec<usize>, AllocErr
 {
     let mut counts = vec![in alloc; 0usize; wiring.tables.entities.len()]?;
     for number in 0..wiring.tables.ports.len() {
-        let port = &wiring.tables.ports[number];
-        let channels = input_channels(wiring, number, port);
-        counts[port.entity] = counts[port.entity].saturating_add(channels);
+        count_port(&mut counts, wiring, number);
     }
     Ok(counts)
 }

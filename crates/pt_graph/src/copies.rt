@@ -2,6 +2,7 @@ ghost use Rattle.std.specs.Prelude.{◌≡◌, ◌++◌, [], ◌∷◌, map, fil
 ghost use Rattle.pt_document.specs.View as view;
 ghost use Rattle.pt_net.specs.Net as net;
 
+use crate::copied::copies;
 use pt_document::{
     Event, Input, OutputAction, Port, Property, SetAction, State, Supply, Transition, is_layout,
 };
@@ -29,26 +30,53 @@ pub fn optional_text(alloc: Global, old: &Option<Text>) -> Result<Option<Text>, 
 pub fn texts(alloc: Global, old: &[Text]) -> Result<Vec<Text>, AllocError>
     ensures { IfOk result (λ new. new.items ≡ old.now) }
 {
-    let mut new = Vec::with_capacity(alloc, old.len())?;
-    for item in old {
-        new.push(text(alloc, item)?)?;
-    }
-    Ok(new)
+    copies(alloc, old)
 }
 
-fn property(alloc: Global, old: &Property) -> Result<Property, AllocError>
+/// What a property says, but for the properties in it.
+#[derive(Drop)]
+struct Saying {
+    name: Text,
+    value: Option<Text>,
+    class: Option<Text>,
+}
+
+fn saying_of(
+    alloc: Global,
+    name: &Text,
+    value: &Option<Text>,
+    class: &Option<Text>,
+) -> Result<Saying, AllocError>
+    ensures name { IfOk result (λ new. new.name ≡ name.now) }
+    ensures value { IfOk result (λ new. new.value ≡ value.now) }
+    ensures class { IfOk result (λ new. new.class ≡ class.now) }
+{
+    Ok(Saying {
+        name: text(alloc, name)?,
+        value: optional_text(alloc, value)?,
+        class: optional_text(alloc, class)?,
+    })
+}
+
+pub fn property(alloc: Global, old: &Property) -> Result<Property, AllocError>
     ensures { IfOk result (λ new. view.property_view new ≡ view.property_view old.now) }
 {
     let mut properties = Vec::with_capacity(alloc, old.properties.len())?;
     for inner in &old.properties {
         properties.push(property(alloc, inner)?)?;
     }
-    Ok(Property {
-        name: text(alloc, &old.name)?,
-        value: optional_text(alloc, &old.value)?,
-        class: optional_text(alloc, &old.class)?,
-        properties,
-    })
+    match saying_of(alloc, &old.name, &old.value, &old.class) {
+        Ok(saying) => Ok(Property {
+            name: saying.name,
+            value: saying.value,
+            class: saying.class,
+            properties,
+        }),
+        Err(fault) => {
+            drop(properties);
+            Err(fault)
+        }
+    }
 }
 
 fn is_parameter(old: &Property) -> bool
@@ -96,11 +124,7 @@ pub fn variables(alloc: Global, old: &[Property]) -> Result<Vec<Property>, Alloc
 fn properties(alloc: Global, old: &[Property]) -> Result<Vec<Property>, AllocError>
     ensures { IfOk result (λ new. view.properties_view new.items ≡ view.properties_view old.now) }
 {
-    let mut new = Vec::with_capacity(alloc, old.len())?;
-    for item in old {
-        new.push(property(alloc, item)?)?;
-    }
-    Ok(new)
+    copies(alloc, old)
 }
 
 /// The same port.
@@ -115,61 +139,57 @@ pub fn port(alloc: Global, old: &Port) -> Result<Port, AllocError>
     })
 }
 
-fn state(alloc: Global, old: &State) -> Result<State, AllocError>
-    ensures { IfOk result (λ new. new ≡ old.now) }
-{
-    Ok(State {
-        name: text(alloc, &old.name)?,
-        refinement: optional_text(alloc, &old.refinement)?,
-    })
-}
-
 /// The same states.
 pub fn states(alloc: Global, old: &[State]) -> Result<Vec<State>, AllocError>
     ensures { IfOk result (λ new. new.items ≡ old.now) }
 {
-    let mut new = Vec::with_capacity(alloc, old.len())?;
-    for item in old {
-        new.push(state(alloc, item)?)?;
-    }
-    Ok(new)
+    copies(alloc, old)
 }
 
 fn output_actions(alloc: Global, old: &[OutputAction]) -> Result<Vec<OutputAction>, AllocError>
     ensures { IfOk result (λ new. new.items ≡ old.now) }
 {
-    let mut new = Vec::with_capacity(alloc, old.len())?;
-    for item in old {
-        new.push(OutputAction {
-            port: text(alloc, &item.port)?,
-            value: text(alloc, &item.value)?,
-        })?;
-    }
-    Ok(new)
+    copies(alloc, old)
 }
 
 fn set_actions(alloc: Global, old: &[SetAction]) -> Result<Vec<SetAction>, AllocError>
     ensures { IfOk result (λ new. new.items ≡ old.now) }
 {
-    let mut new = Vec::with_capacity(alloc, old.len())?;
-    for item in old {
-        new.push(SetAction {
-            name: text(alloc, &item.name)?,
-            value: text(alloc, &item.value)?,
-        })?;
-    }
-    Ok(new)
+    copies(alloc, old)
 }
 
-fn transition(alloc: Global, old: &Transition) -> Result<Transition, AllocError>
-    ensures { IfOk result (λ new. view.transition_view new ≡ view.transition_view old.now) }
+/// The states that a transition joins, and its guard.
+#[derive(Drop)]
+pub struct Guarded {
+    pub from: Text,
+    pub to: Text,
+    pub guard: Text,
+}
+
+pub fn guarded_of(alloc: Global, old: &Transition) -> Result<Guarded, AllocError>
+    ensures from { IfOk result (λ new. new.from ≡ old.now.from) }
+    ensures to { IfOk result (λ new. new.to ≡ old.now.to) }
+    ensures guard { IfOk result (λ new. new.guard ≡ old.now.guard) }
 {
-    Ok(Transition {
+    Ok(Guarded {
         from: text(alloc, &old.from)?,
         to: text(alloc, &old.to)?,
         guard: text(alloc, &old.guard)?,
-        preemptive: old.preemptive,
-        history: old.history,
+    })
+}
+
+/// The actions of a transition.
+#[derive(Drop)]
+pub struct Actions {
+    pub output: Vec<OutputAction>,
+    pub set: Vec<SetAction>,
+}
+
+pub fn actions_of(alloc: Global, old: &Transition) -> Result<Actions, AllocError>
+    ensures output { IfOk result (λ new. new.output.items ≡ old.now.output.items) }
+    ensures set { IfOk result (λ new. new.set.items ≡ old.now.set.items) }
+{
+    Ok(Actions {
         output: output_actions(alloc, &old.output)?,
         set: set_actions(alloc, &old.set)?,
     })
@@ -179,38 +199,22 @@ fn transition(alloc: Global, old: &Transition) -> Result<Transition, AllocError>
 pub fn transitions(alloc: Global, old: &[Transition]) -> Result<Vec<Transition>, AllocError>
     ensures { IfOk result (λ new. map view.transition_view new.items ≡ map view.transition_view old.now) }
 {
-    let mut new = Vec::with_capacity(alloc, old.len())?;
-    for item in old {
-        new.push(transition(alloc, item)?)?;
-    }
-    Ok(new)
+    copies(alloc, old)
 }
 
 fn tokens(alloc: Global, old: &[Option<Text>]) -> Result<Vec<Option<Text>>, AllocError>
     ensures { IfOk result (λ new. new.items ≡ old.now) }
 {
-    let mut new = Vec::with_capacity(alloc, old.len())?;
-    for item in old {
-        new.push(optional_text(alloc, item)?)?;
-    }
-    Ok(new)
+    copies(alloc, old)
 }
 
 fn events(alloc: Global, old: &[Event]) -> Result<Vec<Event>, AllocError>
     ensures { IfOk result (λ new. new.items ≡ old.now) }
 {
-    let mut new = Vec::with_capacity(alloc, old.len())?;
-    for item in old {
-        new.push(Event {
-            time: item.time,
-            step: item.step,
-            value: text(alloc, &item.value)?,
-        })?;
-    }
-    Ok(new)
+    copies(alloc, old)
 }
 
-fn supply(alloc: Global, old: &Supply) -> Result<Supply, AllocError>
+pub fn supply(alloc: Global, old: &Supply) -> Result<Supply, AllocError>
     ensures { IfOk result (λ new. view.supply_view new ≡ view.supply_view old.now) }
 {
     match old {
@@ -219,22 +223,9 @@ fn supply(alloc: Global, old: &Supply) -> Result<Supply, AllocError>
     }
 }
 
-fn input(alloc: Global, old: &Input) -> Result<Input, AllocError>
-    ensures { IfOk result (λ new. view.input_view new ≡ view.input_view old.now) }
-{
-    Ok(Input {
-        port: text(alloc, &old.port)?,
-        supply: supply(alloc, &old.supply)?,
-    })
-}
-
 /// The same inputs.
 pub fn inputs(alloc: Global, old: &[Input]) -> Result<Vec<Input>, AllocError>
     ensures { IfOk result (λ new. map view.input_view new.items ≡ map view.input_view old.now) }
 {
-    let mut new = Vec::with_capacity(alloc, old.len())?;
-    for item in old {
-        new.push(input(alloc, item)?)?;
-    }
-    Ok(new)
+    copies(alloc, old)
 }

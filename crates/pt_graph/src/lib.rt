@@ -3,6 +3,7 @@
 
 mod channels;
 mod checks;
+mod copied;
 mod copies;
 mod entities;
 mod flattening;

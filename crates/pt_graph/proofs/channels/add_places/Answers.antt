@@ -8,7 +8,7 @@ use Rattle.pt_net.specs.Net.{wires, all_places}
 use Rattle.pt_graph.specs.ChannelTable.{place_at}
 use Rattle.pt_net.proofs.Members.{contains_slice}
 use Rattle.pt_graph.proofs.GiftFacts.{taken_below}
-use Rattle.pt_graph.proofs.ChannelSteps.{along_more, place_contains, adds_more}
+use Rattle.pt_graph.proofs.ChannelSteps.{along_more, place_contains, adds_more, adds_none}
 use Rattle.pt_graph.proofs.channels.add_places.Goals as goal
 
 linked : (relations taken : List ℕ) (i : ℕ) → i < length relations → relations ≡ taken → slice_get taken i ≡ Some (get_or relations i 0)
@@ -41,3 +41,6 @@ loop-index-preserved c =
     let relations = c.taken-relations.result.now in
     let i = c.loop-index.index in
     adds_more t (places_along c.args.number p 0 (take i relations)) (place_at c.args.number p i (get_or relations i 0) ∷ []) (places_along c.args.number p 0 (take (i + 1) relations)) c.args.channels.now.items c.loop-index.channels.items c.add_channel.new.channels.items (along_more c.args.number p relations i 0 c.loop-index-test.true) c.loop-index.invariant (c.in_ok-add_channel.ensures.ok p c.requires.number)
+
+pub loop-index-init : goal.loop-index-init
+loop-index-init c = adds_none (tables_view c.args.origins.now.wiring.now.tables.now) c.args.channels.now.items
