@@ -1,0 +1,12 @@
+pub mod Lists
+pub mod KnownLaws
+pub mod SignalLaws
+pub mod GivenLaws
+pub mod SingleLaws
+pub mod OffsetLaws
+pub mod FeedLaws
+pub mod MarkLaws
+pub mod TickLaws
+pub mod ChainLaws
+pub mod Examples
+pub mod CoreLaws

@@ -1,0 +1,8 @@
+use Rattle.std.proofs.Common.{arith, below_more}
+use Rattle.pt_sr.proofs.tick.Tick.scan.Goals as goal
+
+pub loop-child-preserved : goal.loop-child-preserved
+loop-child-preserved c = below_more _ _ c.loop-child.invariant c.in-None.ensures
+
+pub overflow_cast-child : goal.overflow_cast-child
+overflow_cast-child c = omega (arith, c.loop-child-test.true, c.children-child-end.ensures.few)

@@ -1,0 +1,9 @@
+pub mod State
+pub mod StateCode
+pub mod Plan
+pub mod Feeds
+pub mod Given
+pub mod Signals
+pub mod Tick
+pub mod Clauses
+pub mod Chain
