@@ -6,7 +6,7 @@ use Rattle.std.proofs.lemmas.Bool.Decides.{nat_tests}
 use Rattle.pt_meaning.specs.Tag.{Tag}
 use Rattle.pt_meaning.specs.Streams.{Streams, at, get}
 use Rattle.pt_meaning.specs.Log.{Log, LogBelow, silent, log_then, log_below, own}
-use Rattle.pt_meaning.specs.Machine.{second_token_code, causality_code, Fault, Done, Stuck, Stepping, Facts, Partial, Unknown, Known, partial_at}
+use Rattle.pt_meaning.specs.Machine.{second_token_code, causality_code, Fault, Outcome, Done, Stuck, Stepping, Facts, Partial, Unknown, Known, partial_at}
 use Rattle.pt_meaning.specs.Net.{Net, Source, Own, Output}
 use Rattle.pt_meaning.specs.Valuation.{TickPlan, known, is_known, unknowns, valuation}
 use Rattle.pt_meaning.specs.Sr.{sr_active, sr_turn, all_single, sr}
@@ -15,7 +15,8 @@ use Rattle.pt_meaning.specs.Laws.{IsIn, PartialBelow, KnownBelow, KeepsEarly}
 use Rattle.pt_laws.specs.LogsOfRuns.{silents, logs_then, log_at, log_in}
 use Rattle.pt_laws.specs.TickRuns.{places_at, TickRun, HasFired, told_of, MayKnow, Knows, FiredAt, FiredOrWaits, LoggedAt}
 use Rattle.pt_laws.proofs.RoundLaws.{grows-refl}
-use Rattle.pt_laws.proofs.LogLaws.{log-refl}
+use Rattle.pt_laws.proofs.LogLaws.{log-refl, log-trans}
+use Rattle.pt_laws.proofs.Order.{IsPrefix-append}
 use Rattle.pt_laws.proofs.TickLaws.{PartialBelow-refl, KnownBelow-trans, known-same, valuation-below}
 use Rattle.pt_laws.proofs.TickRunLaws.{below-at, has-reacted, waiting-reacted, tick-begins, tick-goes-on, tick-ends, tick-lacks, tick-sticks, tick-is-prefix}
 use Rattle.pt_laws.proofs.TickNodeLaws.{sr-turns}
@@ -232,27 +233,37 @@ module _ {T S : Type 0} (facts : Facts T S) (step : Stepping T S) (before : SrSt
       kid-is : get_or now i d ≡ get_or kids i d
       kid-is = (u.rests i may.there may.unfired).0
 
+      -- a step logs no more than the turn
+      step-logs : (r : Outcome T S) → step s.tag (get_or kids i d) (lent_of s i) ≡ r → LogBelow (log_in r) (log_in (sr_turn facts step s.tag (get_or kids i d) (lent_of s i)))
+      step-logs (Done c out l) e = by (all_single out) refl
+        where
+          by : (b : Bool) → all_single out ≡ b → LogBelow l (log_in (sr_turn facts step s.tag (get_or kids i d) (lent_of s i)))
+          by true a = subst (λ r. LogBelow l (log_in r)) (sym (sr-turns.done facts step s.tag (get_or kids i d) (lent_of s i) c out l e a)) (λ p. IsPrefix-append (l p) (own (record { number = facts.made (get_or kids i d); tag = s.tag; inputs = lent_of s i; outputs = out }) p))
+          by false a = subst (λ r. LogBelow l (log_in r)) (sym (sr-turns.twice facts step s.tag (get_or kids i d) (lent_of s i) c out l e a)) (log-refl {T = T} l)
+      step-logs (Stuck fs l) e = subst (λ r. LogBelow l (log_in r)) (sym (sr-turns.stuck facts step s.tag (get_or kids i d) (lent_of s i) fs l e)) (log-refl {T = T} l)
+
+      within-logged : (m : Log T) → LogBelow m (log_in (sr_turn facts step s.tag (get_or kids i d) (lent_of s i))) → (j : ℕ) → j < length net.places → (j ≡ i) ⊎ (j ≡ i → ⊥) → LoggedAt facts.early sr_active (sr_turn facts step) s.tag net kids inputs d V (logs_then i m ls) j
+      within-logged m b j h (inl z) =
+          subst (λ v. LoggedAt facts.early sr_active (sr_turn facts step) s.tag net kids inputs d V (logs_then i m ls) v) (sym z)
+          (inr (lent_of s i, asks, refl, subst (λ v. LogBelow v (log_in (sr_turn facts step s.tag (get_or kids i d) (lent_of s i)))) (sym (then-first i m ls (omega (arith, may.there, u.wide.logs_are)) (u.rests i may.there may.unfired).1)) b))
+      within-logged m b j h (inr z) = other (each-logged j h)
+        where
+          other : LoggedAt facts.early sr_active (sr_turn facts step) s.tag net kids inputs d V ls j → LoggedAt facts.early sr_active (sr_turn facts step) s.tag net kids inputs d V (logs_then i m ls) j
+          other (inl q) = inl (subst (λ (v : Log T). LogBelow v silent) (sym (then-other i j m ls z)) q)
+          other (inr q) = inr (q.0, q.1, q.2, subst (λ v. LogBelow v (log_in (sr_turn facts step s.tag (get_or kids j d) q.0))) (sym (then-other i j m ls z)) q.3)
+
+      pub calls-off-within : (m : Log T) → LogBelow m (log_in (step s.tag (get_or now i d) (lent_of s i))) → (n k : ℕ) → length net.sources ≤ k → LogBelow (log_below (logs_then i m ls)) (log_in (firing_from facts step before kids n s.tag inputs k))
+      calls-off-within m b n k o =
+          let c : LogBelow m (log_in (step s.tag (get_or kids i d) (lent_of s i))) = subst (λ x. LogBelow m (log_in (step s.tag x (lent_of s i)))) kid-is b in
+          let t : LogBelow m (log_in (sr_turn facts step s.tag (get_or kids i d) (lent_of s i))) = log-trans m (log_in (step s.tag (get_or kids i d) (lent_of s i))) (log_in (sr_turn facts step s.tag (get_or kids i d) (lent_of s i))) c (step-logs (step s.tag (get_or kids i d) (lent_of s i)) refl) in
+          subst (λ (p : TickPlan). LogBelow (log_below (logs_then i m ls)) (log_in (sr facts step p k n s.tag kids inputs))) u.plan
+          (tick-is-prefix facts.early sr_active (sr_turn facts step) s.tag u.keeps net (record { path = []; firing = n; code = causality_code } ∷ []) kids inputs d V (logs_then i m ls) u.wide.kids_are (then-long i m ls ∙ u.wide.logs_are) u.run (λ j h. within-logged m t j h (cases_eq j i)) k o)
+
       stuck-turn : (fs : List Fault) (l : Log T) → sr_turn facts step s.tag (get_or kids i d) (lent_of s i) ≡ Stuck fs l → (f : Fault) → IsIn f fs → (n k : ℕ) → length net.sources ≤ k → IsStuckAt (firing_from facts step before kids n s.tag inputs k) i f (log_below (logs_then i l ls))
       stuck-turn fs l t f x n k o =
           let stuck = tick-sticks facts.early sr_active (sr_turn facts step) s.tag u.keeps net (record { path = []; firing = n; code = causality_code } ∷ []) kids inputs d V u.wide.kids_are u.run i may.there (lent_of s i) asks refl fs l t f x k o in
-          let prefix = tick-is-prefix facts.early sr_active (sr_turn facts step) s.tag u.keeps net (record { path = []; firing = n; code = causality_code } ∷ []) kids inputs d V (logs_then i l ls) u.wide.kids_are (then-long i l ls ∙ u.wide.logs_are) u.run (λ j h. one j h (cases_eq j i)) k o in
+          let prefix = tick-is-prefix facts.early sr_active (sr_turn facts step) s.tag u.keeps net (record { path = []; firing = n; code = causality_code } ∷ []) kids inputs d V (logs_then i l ls) u.wide.kids_are (then-long i l ls ∙ u.wide.logs_are) u.run (λ j h. within-logged l (subst (λ r. LogBelow l (log_in r)) (sym t) (log-refl {T = T} l)) j h (cases_eq j i)) k o in
           (stuck.0, stuck.1, sym (ap (λ (p : TickPlan). sr facts step p k n s.tag kids inputs) u.plan) ∙ stuck.2, stuck.3, subst (λ r. LogBelow (log_below (logs_then i l ls)) (log_in r)) stuck.2 prefix)
-        where
-          one : (j : ℕ) → j < length net.places → (j ≡ i) ⊎ (j ≡ i → ⊥) → LoggedAt facts.early sr_active (sr_turn facts step) s.tag net kids inputs d V (logs_then i l ls) j
-          one j h (inl z) =
-              subst (λ m. LoggedAt facts.early sr_active (sr_turn facts step) s.tag net kids inputs d V (logs_then i l ls) m) (sym z)
-              (inr (
-                lent_of s i,
-                asks,
-                refl,
-                subst (λ m. LogBelow m (log_in (sr_turn facts step s.tag (get_or kids i d) (lent_of s i)))) (sym (then-first i l ls (omega (arith, may.there, u.wide.logs_are)) (u.rests i may.there may.unfired).1))
-                    (subst (λ r. LogBelow l (log_in r)) (sym t) (log-refl l)),
-              ))
-          one j h (inr z) = other (each-logged j h)
-            where
-              other : LoggedAt facts.early sr_active (sr_turn facts step) s.tag net kids inputs d V ls j → LoggedAt facts.early sr_active (sr_turn facts step) s.tag net kids inputs d V (logs_then i l ls) j
-              other (inl b) = inl (subst (λ m. LogBelow m silent) (sym (then-other i j l ls z)) b)
-              other (inr q) = inr (q.0, q.1, q.2, subst (λ m. LogBelow m (log_in (sr_turn facts step s.tag (get_or kids j d) q.0))) (sym (then-other i j l ls z)) q.3)
 
       pub calls-stick : (fs : List Fault) (l : Log T) → step s.tag (get_or now i d) (lent_of s i) ≡ Stuck fs l → (f : Fault) → IsIn f fs → (n k : ℕ) → length net.sources ≤ k → IsStuckAt (firing_from facts step before kids n s.tag inputs k) i f (log_below (logs_then i l ls))
       calls-stick fs l e f x n k o = stuck-turn fs l (sr-turns.stuck facts step s.tag (get_or kids i d) (lent_of s i) fs l (ap (λ c. step s.tag c (lent_of s i)) (sym kid-is) ∙ e)) f x n k o
@@ -458,4 +469,5 @@ calls-are-sr = record {
   sticks = λ facts step before kids inputs d s now ls u. calls-stick facts step before kids inputs d s now ls u;
   gives_two = λ facts step before kids inputs d s now ls u. calls-give-two facts step before kids inputs d s now ls u;
   off = λ facts step before kids inputs d s now ls u. calls-off facts step before kids inputs d s now ls u;
+  off_within = λ facts step before kids inputs d s now ls u. calls-off-within facts step before kids inputs d s now ls u;
 }

@@ -84,3 +84,6 @@ pub record CallsAreSr (T S : Type 0) : Type 0 where
       IsStuckAt (firing_from facts step before kids n s.tag inputs k) i (record { path = []; firing = facts.made (get_or now i d); code = second_token_code }) (log_below (logs_then i l ls))
   pub off : (facts : Facts T S) (step : Stepping T S) (before : SrState T) (kids : List S) (inputs : Streams T) (d : S) (s : SrState T) (now : List S) (ls : List (Log T)) → Underway facts step before kids inputs d s now ls →
       (n k : ℕ) → length s.tick.plan.net.sources ≤ k → LogBelow (log_below ls) (log_in (firing_from facts step before kids n s.tag inputs k))
+  -- and so they have with a beginning of what the child that was asked for logs in its step
+  pub off_within : (facts : Facts T S) (step : Stepping T S) (before : SrState T) (kids : List S) (inputs : Streams T) (d : S) (s : SrState T) (now : List S) (ls : List (Log T)) → Underway facts step before kids inputs d s now ls →
+      (i : ℕ) → MayFire s.tick i → (m : Log T) → LogBelow m (log_in (step s.tag (get_or now i d) (lent_of s i))) → (n k : ℕ) → length s.tick.plan.net.sources ≤ k → LogBelow (log_below (logs_then i m ls)) (log_in (firing_from facts step before kids n s.tag inputs k))
