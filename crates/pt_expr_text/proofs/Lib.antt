@@ -1,5 +1,6 @@
+pub mod Counting
 pub mod Cuts
 pub mod Numbers
-pub mod Strings
 pub mod Splitting
-pub mod Counting
+pub mod Steps
+pub mod Strings

@@ -1,16 +1,23 @@
-ghost use Rattle.std.specs.Prelude.{map, length};
-ghost use Rattle.pt_language.specs.Expr.{tree_of, entry_of};
+ghost use Rattle.std.specs.Prelude.{Some, List};
+ghost use Rattle.pt_language.specs.Tree.{Tree};
+ghost use Rattle.pt_language.specs.declared.word.Word.{Word};
+ghost use Rattle.pt_language.specs.Expr.{tree_of};
 ghost use Rattle.pt_language.specs.ReaderFault.{Gives};
-ghost use Rattle.pt_language.specs.Descent.{expression, choice, minus, list_at, record_at, at_level, operand_at, joined, compared_with, second, unary, postfix, suffixes, suffix, primary, primary_symbol, in_braces, listed, named, one_operand, two_operands};
+ghost use Rattle.pt_language.specs.Symbol.{after};
+ghost use Rattle.pt_language.specs.declared.word.Symbol.TheVariants.{Close, Colon, Comma};
+ghost use Rattle.pt_language.specs.Descent.{◌>>=◌ as and_then, closed, called, absolute, greater, lesser, expression, choice, minus, at_level, operand_at, joined, compared_with, second, unary, postfix, suffixes, suffix, primary, primary_symbol, one_operand, two_operands};
+
+mod braces;
 
 use crate::front::{
-    after, bare_digits, begins_record, expect, field_named, name_first, operator_first,
+    after, applied, bare_digits, chosen_by, closed, expect, field_of, joined_by, operator_first,
     suffix_first,
 };
-use crate::literal::{has_repeated, negative, positive, signed_literal};
+use crate::literal::{positive, signed_literal};
 use crate::node;
-use pt_language::{BinaryOp, Expr, Level, NamedExpr, ParseFault, Symbol, Word};
-use std::alloc::{AllocError, Global};
+use braces::in_braces;
+use pt_language::{BinaryOp, Expr, Level, ParseFault, Symbol, Word};
+use std::alloc::Global;
 
 /// The expression at the front of some words, and the words behind it. At most `depth` expressions stand in one another there.
 #[cycle(expressions)]
@@ -36,10 +43,41 @@ fn choice(alloc: Global, depth: usize, words: &[Word]) -> Result<(Expr, &[Word])
     let Some(behind) = after(Symbol::Question, rest) else {
         return Ok((test, rest));
     };
-    let (yes, rest) = expression(alloc, depth, behind)?;
-    let rest = expect(Symbol::Colon, rest)?;
-    let (no, rest) = expression(alloc, depth, rest)?;
-    Ok((node::cond(alloc, test, yes, no)?, rest))
+    match branches(alloc, depth, behind) {
+        Ok((branches, rest)) => chosen_by(alloc, test, branches, rest),
+        Err(fault) => {
+            drop(test);
+            Err(fault)
+        }
+    }
+}
+
+/// What stands behind the question mark of a choice.
+#[cycle(expressions)]
+fn branches(
+    alloc: Global,
+    depth: usize,
+    words: &[Word],
+) -> Result<((Expr, Expr), &[Word]), ParseFault>
+    ensures { Gives {Y = (Tree × Tree) × List Word} (λ x. ((tree_of x.0.0, tree_of x.0.1), x.1.now)) result (and_then (expression depth words.now) (λ yes. and_then (after Colon yes.1) (λ more. and_then (expression depth more) (λ no. Some ((yes.0, no.0), no.1))))) }
+{
+    let (yes, rest) = expression(alloc, depth, words)?;
+    match other_branch(alloc, depth, rest) {
+        Ok((no, rest)) => Ok(((yes, no), rest)),
+        Err(fault) => {
+            drop(yes);
+            Err(fault)
+        }
+    }
+}
+
+/// The second branch of a choice, behind its colon.
+#[cycle(expressions)]
+fn other_branch(alloc: Global, depth: usize, words: &[Word]) -> Result<(Expr, &[Word]), ParseFault>
+    ensures { Gives (λ x. (tree_of x.0, x.1.now)) result (and_then (after Colon words.now) (λ more. expression depth more)) }
+{
+    let rest = expect(Symbol::Colon, words)?;
+    expression(alloc, depth, rest)
 }
 
 /// Operands with the operators of a level between them.
@@ -129,8 +167,13 @@ fn second(
 ) -> Result<(Expr, &[Word]), ParseFault>
     ensures { Gives (λ x. (tree_of x.0, x.1.now)) result (second (operand_at level (expression depth)) op (tree_of left) words.now) }
 {
-    let (right, rest) = operand(alloc, depth, level, words)?;
-    Ok((node::binary(alloc, op, left, right)?, rest))
+    match operand(alloc, depth, level, words) {
+        Ok((right, rest)) => joined_by(alloc, op, left, right, rest),
+        Err(fault) => {
+            drop(left);
+            Err(fault)
+        }
+    }
 }
 
 /// An operand with its signs. A minus makes one literal with digits that no call or field follows.
@@ -203,17 +246,37 @@ fn suffix(
     ensures { Gives (λ x. (tree_of x.0, x.1.now)) result (suffix (expression depth) (tree_of base) words.now) }
 {
     match after(Symbol::Open, words) {
-        Some(rest) => {
-            let (index, rest) = expression(alloc, depth, rest)?;
-            let rest = expect(Symbol::Close, rest)?;
-            Ok((node::apply(alloc, base, index)?, rest))
-        }
-        None => {
-            let rest = expect(Symbol::Dot, words)?;
-            let (name, rest) = name_first(rest).ok_or(ParseFault::Syntax)?;
-            field_named(alloc, base, name, rest)
+        Some(rest) => called(alloc, depth, base, rest),
+        None => field_of(alloc, base, words),
+    }
+}
+
+/// A call behind its opening parenthesis, with an index.
+#[cycle(expressions)]
+fn called(
+    alloc: Global,
+    depth: usize,
+    base: Expr,
+    words: &[Word],
+) -> Result<(Expr, &[Word]), ParseFault>
+    ensures { Gives (λ x. (tree_of x.0, x.1.now)) result (called (expression depth) (tree_of base) words.now) }
+{
+    match enclosed(alloc, depth, words) {
+        Ok((index, rest)) => applied(alloc, base, index, rest),
+        Err(fault) => {
+            drop(base);
+            Err(fault)
         }
     }
+}
+
+/// An expression up to its closing parenthesis.
+#[cycle(expressions)]
+fn enclosed(alloc: Global, depth: usize, words: &[Word]) -> Result<(Expr, &[Word]), ParseFault>
+    ensures { Gives (λ x. (tree_of x.0, x.1.now)) result (and_then (expression depth words.now) (λ inner. closed Close inner.0 inner.1)) }
+{
+    let (inner, rest) = expression(alloc, depth, words)?;
+    closed(inner, rest)
 }
 
 /// A literal, a name, an expression in parentheses, or a call of one of the three functions.
@@ -243,25 +306,38 @@ fn primary_symbol(
     match symbol {
         Symbol::True => Ok((Expr::Bool(true), words)),
         Symbol::False => Ok((Expr::Bool(false), words)),
-        Symbol::Abs => {
-            let (e, rest) = one_operand(alloc, depth, words)?;
-            Ok((node::abs(alloc, e)?, rest))
-        }
-        Symbol::Max => {
-            let ((a, b), rest) = two_operands(alloc, depth, words)?;
-            Ok((node::max(alloc, a, b)?, rest))
-        }
-        Symbol::Min => {
-            let ((a, b), rest) = two_operands(alloc, depth, words)?;
-            Ok((node::min(alloc, a, b)?, rest))
-        }
-        Symbol::Open => {
-            let (e, rest) = expression(alloc, depth, words)?;
-            Ok((e, expect(Symbol::Close, rest)?))
-        }
+        Symbol::Abs => absolute(alloc, depth, words),
+        Symbol::Max => greater(alloc, depth, words),
+        Symbol::Min => lesser(alloc, depth, words),
+        Symbol::Open => enclosed(alloc, depth, words),
         Symbol::OpenBrace => in_braces(alloc, depth, words),
         _ => Err(ParseFault::Syntax),
     }
+}
+
+/// The three functions, behind their names.
+#[cycle(expressions)]
+fn absolute(alloc: Global, depth: usize, words: &[Word]) -> Result<(Expr, &[Word]), ParseFault>
+    ensures { Gives (λ x. (tree_of x.0, x.1.now)) result (absolute (expression depth) words.now) }
+{
+    let (e, rest) = one_operand(alloc, depth, words)?;
+    Ok((node::abs(alloc, e)?, rest))
+}
+
+#[cycle(expressions)]
+fn greater(alloc: Global, depth: usize, words: &[Word]) -> Result<(Expr, &[Word]), ParseFault>
+    ensures { Gives (λ x. (tree_of x.0, x.1.now)) result (greater (expression depth) words.now) }
+{
+    let ((a, b), rest) = two_operands(alloc, depth, words)?;
+    Ok((node::max(alloc, a, b)?, rest))
+}
+
+#[cycle(expressions)]
+fn lesser(alloc: Global, depth: usize, words: &[Word]) -> Result<(Expr, &[Word]), ParseFault>
+    ensures { Gives (λ x. (tree_of x.0, x.1.now)) result (lesser (expression depth) words.now) }
+{
+    let ((a, b), rest) = two_operands(alloc, depth, words)?;
+    Ok((node::min(alloc, a, b)?, rest))
 }
 
 /// The operand of a function.
@@ -270,8 +346,7 @@ fn one_operand(alloc: Global, depth: usize, words: &[Word]) -> Result<(Expr, &[W
     ensures { Gives (λ x. (tree_of x.0, x.1.now)) result (one_operand (expression depth) words.now) }
 {
     let rest = expect(Symbol::Open, words)?;
-    let (a, rest) = expression(alloc, depth, rest)?;
-    Ok((a, expect(Symbol::Close, rest)?))
+    enclosed(alloc, depth, rest)
 }
 
 /// Both operands of a function.
@@ -285,93 +360,20 @@ fn two_operands(
 {
     let rest = expect(Symbol::Open, words)?;
     let (a, rest) = expression(alloc, depth, rest)?;
-    let rest = expect(Symbol::Comma, rest)?;
-    let (b, rest) = expression(alloc, depth, rest)?;
-    Ok(((a, b), expect(Symbol::Close, rest)?))
-}
-
-/// A list or a record behind its opening brace.
-#[cycle(expressions)]
-fn in_braces(alloc: Global, depth: usize, words: &[Word]) -> Result<(Expr, &[Word]), ParseFault>
-    ensures { Gives (λ x. (tree_of x.0, x.1.now)) result (in_braces (expression depth) words.now) }
-{
-    if let Some(rest) = after(Symbol::CloseBrace, words) {
-        return Ok((node::list(Vec::new(alloc)), rest));
-    }
-    if begins_record(words) {
-        record_at(alloc, depth, words)
-    } else {
-        list_at(alloc, depth, words)
-    }
-}
-
-#[cycle(expressions)]
-fn list_at(alloc: Global, depth: usize, words: &[Word]) -> Result<(Expr, &[Word]), ParseFault>
-    ensures { Gives (λ x. (tree_of x.0, x.1.now)) result (list_at (expression depth) words.now) }
-{
-    let (parts, rest) = parts(alloc, depth, words)?;
-    Ok((node::list(parts), rest))
-}
-
-#[cycle(expressions)]
-fn record_at(alloc: Global, depth: usize, words: &[Word]) -> Result<(Expr, &[Word]), ParseFault>
-    ensures { Gives (λ x. (tree_of x.0, x.1.now)) result (record_at (expression depth) words.now) }
-{
-    let (fields, rest) = fields(alloc, depth, words)?;
-    if has_repeated(alloc, fields.as_slice())? {
-        return Err(ParseFault::Syntax);
-    }
-    Ok((node::record(fields), rest))
-}
-
-/// The parts of a list, and the words behind its closing brace.
-#[cycle(expressions)]
-fn parts(alloc: Global, depth: usize, words: &[Word]) -> Result<(Vec<Expr>, &[Word]), ParseFault>
-    ensures { Gives (λ x. (map tree_of x.0.items, x.1.now)) result (listed (expression depth) (length words.now) words.now) }
-{
-    let mut parts = Vec::new(alloc);
-    let mut rest = words;
-    'lists: for _turn in 0..words.len() {
-        let (part, behind) = expression(alloc, depth, rest)?;
-        parts.push(part).map_err(AllocError::from)?;
-        match after(Symbol::Comma, behind) {
-            Some(more) => rest = more,
-            None => return Ok((parts, expect(Symbol::CloseBrace, behind)?)),
+    match last_operand(alloc, depth, rest) {
+        Ok((b, rest)) => Ok(((a, b), rest)),
+        Err(fault) => {
+            drop(a);
+            Err(fault)
         }
     }
-    Err(ParseFault::Syntax)
 }
 
-/// The fields of a record, and the words behind its closing brace.
+/// The second operand of a function, behind its comma.
 #[cycle(expressions)]
-fn fields(
-    alloc: Global,
-    depth: usize,
-    words: &[Word],
-) -> Result<(Vec<NamedExpr>, &[Word]), ParseFault>
-    ensures { Gives (λ x. (map entry_of x.0.items, x.1.now)) result (listed (named (expression depth)) (length words.now) words.now) }
+fn last_operand(alloc: Global, depth: usize, words: &[Word]) -> Result<(Expr, &[Word]), ParseFault>
+    ensures { Gives (λ x. (tree_of x.0, x.1.now)) result (and_then (after Comma words.now) (λ more. and_then (expression depth more) (λ b. closed Close b.0 b.1))) }
 {
-    let mut fields = Vec::new(alloc);
-    let mut rest = words;
-    'names: for _turn in 0..words.len() {
-        let (field, behind) = named(alloc, depth, rest)?;
-        fields.push(field).map_err(AllocError::from)?;
-        match after(Symbol::Comma, behind) {
-            Some(more) => rest = more,
-            None => return Ok((fields, expect(Symbol::CloseBrace, behind)?)),
-        }
-    }
-    Err(ParseFault::Syntax)
-}
-
-/// A field: its name, and its tree behind an equals sign.
-#[cycle(expressions)]
-fn named(alloc: Global, depth: usize, words: &[Word]) -> Result<(NamedExpr, &[Word]), ParseFault>
-    ensures { Gives (λ x. (entry_of x.0, x.1.now)) result (named (expression depth) words.now) }
-{
-    let (name, rest) = name_first(words).ok_or(ParseFault::Syntax)?;
-    let rest = expect(Symbol::Assign, rest)?;
-    let (value, rest) = expression(alloc, depth, rest)?;
-    let name = name.copy(alloc)?;
-    Ok((NamedExpr { name, value }, rest))
+    let rest = expect(Symbol::Comma, words)?;
+    enclosed(alloc, depth, rest)
 }

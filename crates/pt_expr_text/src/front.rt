@@ -1,11 +1,14 @@
-ghost use Rattle.std.specs.Prelude.{◌≡◌, Some, option_map};
-ghost use Rattle.pt_language.specs.Expr.{tree_of};
+ghost use Rattle.std.specs.Prelude.{◌≡◌, ℕ, List, Some, option_map};
+ghost use Rattle.pt_language.specs.Expr.{tree_of, entry_of};
+ghost use Rattle.pt_language.specs.Tree.{Tree, Apply, Binary, Cond};
+ghost use Rattle.pt_language.specs.declared.word.Word.{Word};
 ghost use Rattle.pt_language.specs.ReaderFault.{Gives};
 ghost use Rattle.pt_language.specs.Symbol.{after};
-ghost use Rattle.pt_language.specs.Descent.{operator_first, bare_digits, suffix_first, empty_call, field_named, name_first, begins_record};
+ghost use Rattle.pt_language.specs.declared.word.Symbol.TheVariants.{Close, Dot};
+ghost use Rattle.pt_language.specs.Descent.{◌>>=◌ as and_then, closed, operator_first, bare_digits, suffix_first, empty_call, field_named, name_first, begins_record};
 
 use crate::node;
-use pt_language::{BinaryOp, Expr, Level, ParseFault, Symbol, Word, binding_at};
+use pt_language::{BinaryOp, Expr, Level, NamedExpr, ParseFault, Symbol, Word, binding_at};
 use pt_value::Text;
 use std::alloc::Global;
 
@@ -81,8 +84,99 @@ pub(crate) fn begins_record(words: &[Word]) -> bool
     }
 }
 
+/// The name of a field behind its dot, and the words behind it.
+fn field_name(words: &[Word]) -> Option<(&Text, &[Word])>
+    ensures { option_map (λ x. (x.0.now, x.1.now)) result ≡ and_then (after Dot words.now) name_first }
+{
+    name_first(after(Symbol::Dot, words)?)
+}
+
+/// A field of this base, behind its dot.
+pub(crate) fn field_of<'w>(
+    alloc: Global,
+    base: Expr,
+    words: &'w [Word],
+) -> Result<(Expr, &'w [Word]), ParseFault>
+    ensures { Gives (λ x. (tree_of x.0, x.1.now)) result (and_then (after Dot words.now) (λ rest. and_then (name_first rest) (λ n. Some (field_named (tree_of base) n.0 n.1)))) }
+{
+    match field_name(words) {
+        Some((name, rest)) => field_named(alloc, base, name, rest),
+        None => {
+            drop(base);
+            Err(ParseFault::Syntax)
+        }
+    }
+}
+
+/// An expression whose closing parenthesis must stand at the front of the words.
+pub(crate) fn closed<'w>(inner: Expr, words: &'w [Word]) -> Result<(Expr, &'w [Word]), ParseFault>
+    ensures { Gives (λ x. (tree_of x.0, x.1.now)) result (closed Close (tree_of inner) words.now) }
+{
+    match after(Symbol::Close, words) {
+        Some(rest) => Ok((inner, rest)),
+        None => {
+            drop(inner);
+            Err(ParseFault::Syntax)
+        }
+    }
+}
+
+/// Trees of several parts, before the words behind them.
+pub(crate) fn applied<'w>(
+    alloc: Global,
+    base: Expr,
+    index: Expr,
+    rest: &'w [Word],
+) -> Result<(Expr, &'w [Word]), ParseFault>
+    ensures { Gives {Y = Tree × List Word} (λ x. (tree_of x.0, x.1.now)) result (Some (Apply (tree_of base) (tree_of index), rest.now)) }
+{
+    Ok((node::apply(alloc, base, index)?, rest))
+}
+
+pub(crate) fn joined_by<'w>(
+    alloc: Global,
+    op: BinaryOp,
+    left: Expr,
+    right: Expr,
+    rest: &'w [Word],
+) -> Result<(Expr, &'w [Word]), ParseFault>
+    ensures { Gives {Y = Tree × List Word} (λ x. (tree_of x.0, x.1.now)) result (Some (Binary op (tree_of left) (tree_of right), rest.now)) }
+{
+    Ok((node::binary(alloc, op, left, right)?, rest))
+}
+
+pub(crate) fn chosen_by<'w>(
+    alloc: Global,
+    test: Expr,
+    branches: (Expr, Expr),
+    rest: &'w [Word],
+) -> Result<(Expr, &'w [Word]), ParseFault>
+    ensures { Gives {Y = Tree × List Word} (λ x. (tree_of x.0, x.1.now)) result (Some (Cond (tree_of test) (tree_of branches.0) (tree_of branches.1), rest.now)) }
+{
+    let (yes, no) = branches;
+    Ok((node::cond(alloc, test, yes, no)?, rest))
+}
+
+/// A field of a record literal, before the words behind it.
+pub(crate) fn named_as<'w>(
+    alloc: Global,
+    name: &Text,
+    value: Expr,
+    rest: &'w [Word],
+) -> Result<(NamedExpr, &'w [Word]), ParseFault>
+    ensures { Gives {Y = (List ℕ × Tree) × List Word} (λ x. (entry_of x.0, x.1.now)) result (Some ((name.now, tree_of value), rest.now)) }
+{
+    match name.copy(alloc) {
+        Ok(name) => Ok((NamedExpr { name, value }, rest)),
+        Err(fault) => {
+            drop(value);
+            Err(ParseFault::from(fault))
+        }
+    }
+}
+
 /// A field by its name, or the length where an empty call follows that name.
-pub(crate) fn field_named<'w>(
+fn field_named<'w>(
     alloc: Global,
     base: Expr,
     name: &Text,

@@ -13,6 +13,33 @@ fn boxed(alloc: Global, e: Expr) -> Result<Box<Expr>, AllocError>
     Ok(Box::new(alloc, e)?)
 }
 
+/// Two nodes, each in memory of its own.
+fn boxed_pair(alloc: Global, a: Expr, b: Expr) -> Result<(Box<Expr>, Box<Expr>), AllocError>
+    ensures first { IfOk result (λ pair. pair.0.value ≡ a) }
+    ensures second { IfOk result (λ pair. pair.1.value ≡ b) }
+{
+    match boxed(alloc, a) {
+        Ok(a) => second_boxed(alloc, a, b),
+        Err(fault) => {
+            drop(b);
+            Err(fault)
+        }
+    }
+}
+
+fn second_boxed(alloc: Global, a: Box<Expr>, b: Expr) -> Result<(Box<Expr>, Box<Expr>), AllocError>
+    ensures first { IfOk result (λ pair. pair.0.value ≡ a.value) }
+    ensures second { IfOk result (λ pair. pair.1.value ≡ b) }
+{
+    match boxed(alloc, b) {
+        Ok(b) => Ok((a, b)),
+        Err(fault) => {
+            drop(a);
+            Err(fault)
+        }
+    }
+}
+
 pub(crate) fn negate(alloc: Global, e: Expr) -> Result<Expr, AllocError>
     ensures { IfOk result (λ n. tree_of n ≡ Negate (tree_of e)) }
 {
@@ -28,13 +55,34 @@ pub(crate) fn not(alloc: Global, e: Expr) -> Result<Expr, AllocError>
 pub(crate) fn binary(alloc: Global, op: BinaryOp, a: Expr, b: Expr) -> Result<Expr, AllocError>
     ensures { IfOk result (λ n. tree_of n ≡ Binary op (tree_of a) (tree_of b)) }
 {
-    Ok(Expr::Binary(op, boxed(alloc, a)?, boxed(alloc, b)?))
+    let (a, b) = boxed_pair(alloc, a, b)?;
+    Ok(Expr::Binary(op, a, b))
 }
 
 pub(crate) fn cond(alloc: Global, test: Expr, yes: Expr, no: Expr) -> Result<Expr, AllocError>
     ensures { IfOk result (λ n. tree_of n ≡ Cond (tree_of test) (tree_of yes) (tree_of no)) }
 {
-    Ok(Expr::Cond(boxed(alloc, test)?, boxed(alloc, yes)?, boxed(alloc, no)?))
+    match boxed_pair(alloc, yes, no) {
+        Ok((yes, no)) => cond_of(alloc, test, yes, no),
+        Err(fault) => {
+            drop(test);
+            Err(fault)
+        }
+    }
+}
+
+/// The same of branches that have memory of their own.
+fn cond_of(alloc: Global, test: Expr, yes: Box<Expr>, no: Box<Expr>) -> Result<Expr, AllocError>
+    ensures { IfOk result (λ n. tree_of n ≡ Cond (tree_of test) (tree_of yes.value) (tree_of no.value)) }
+{
+    match boxed(alloc, test) {
+        Ok(test) => Ok(Expr::Cond(test, yes, no)),
+        Err(fault) => {
+            drop(yes);
+            drop(no);
+            Err(fault)
+        }
+    }
 }
 
 pub(crate) fn abs(alloc: Global, e: Expr) -> Result<Expr, AllocError>
@@ -46,19 +94,22 @@ pub(crate) fn abs(alloc: Global, e: Expr) -> Result<Expr, AllocError>
 pub(crate) fn max(alloc: Global, a: Expr, b: Expr) -> Result<Expr, AllocError>
     ensures { IfOk result (λ n. tree_of n ≡ Max (tree_of a) (tree_of b)) }
 {
-    Ok(Expr::Max(boxed(alloc, a)?, boxed(alloc, b)?))
+    let (a, b) = boxed_pair(alloc, a, b)?;
+    Ok(Expr::Max(a, b))
 }
 
 pub(crate) fn min(alloc: Global, a: Expr, b: Expr) -> Result<Expr, AllocError>
     ensures { IfOk result (λ n. tree_of n ≡ Min (tree_of a) (tree_of b)) }
 {
-    Ok(Expr::Min(boxed(alloc, a)?, boxed(alloc, b)?))
+    let (a, b) = boxed_pair(alloc, a, b)?;
+    Ok(Expr::Min(a, b))
 }
 
 pub(crate) fn apply(alloc: Global, base: Expr, index: Expr) -> Result<Expr, AllocError>
     ensures { IfOk result (λ n. tree_of n ≡ Apply (tree_of base) (tree_of index)) }
 {
-    Ok(Expr::Apply(boxed(alloc, base)?, boxed(alloc, index)?))
+    let (base, index) = boxed_pair(alloc, base, index)?;
+    Ok(Expr::Apply(base, index))
 }
 
 pub(crate) fn field(alloc: Global, base: Expr, name: &str) -> Result<Expr, AllocError>
