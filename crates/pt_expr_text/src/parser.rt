@@ -1,13 +1,14 @@
-ghost use Rattle.std.specs.Prelude.{◌≡◌, IfOk, IsErrOf};
+ghost use Rattle.std.specs.Prelude.{◌≡◌, IfOk, Some, [], length};
 ghost use Rattle.pt_language.specs.Expr.{tree_of};
 ghost use Rattle.pt_language.specs.Tree.{Tree};
-ghost use Rattle.pt_language.specs.Deep.{IsDeep};
+ghost use Rattle.pt_language.specs.Deep.{IsDeep, IsTooFull};
+ghost use Rattle.pt_language.specs.Descent.{expression};
 ghost use Rattle.pt_language.specs.Text.{ReadsAs};
 
 use crate::deep::is_too_full;
 use crate::descent::expression;
 use crate::words::split;
-use pt_language::{Expr, ParseFault};
+use pt_language::{Expr, ParseFault, Word};
 use std::alloc::Global;
 
 /// The most bytes that a text may have.
@@ -26,16 +27,30 @@ pub fn parse(alloc: Global, text: &str) -> Result<Expr, ParseFault>
         return Err(ParseFault::Deep);
     }
     let (words, left) = split(alloc, text)?;
-    if is_too_full(&words) {
+    let read = whole(alloc, words.len() + 1, &words, left);
+    drop(words);
+    read
+}
+
+/// The tree that all words read as, where no text is left behind them.
+fn whole(alloc: Global, depth: usize, words: &[Word], left: &str) -> Result<Expr, ParseFault>
+    ensures tree { IfOk result (λ e. (length left.now ≡ 0) × (expression depth words.now ≡ Some (tree_of e, []))) }
+    ensures shallow { IfOk result (λ _. ¬ (IsTooFull words.now)) }
+    ensures deep { result ≡ Err ParseFault.Deep → IsTooFull words.now }
+    ensures syntax { result ≡ Err ParseFault.Syntax → ¬ (IsTooFull words.now) }
+    ensures refuses { result ≡ Err ParseFault.Syntax → (t : Tree) → length left.now ≡ 0 → ¬ (expression depth words.now ≡ Some (t, [])) }
+{
+    if is_too_full(words) {
         return Err(ParseFault::Deep);
     }
     if !left.is_empty() {
         return Err(ParseFault::Syntax);
     }
-    let (tree, rest) = expression(alloc, words.len() + 1, &words)?;
+    let (tree, rest) = expression(alloc, depth, words)?;
     if rest.is_empty() {
         Ok(tree)
     } else {
+        drop(tree);
         Err(ParseFault::Syntax)
     }
 }
