@@ -1,1 +1,2 @@
 pub mod MeetingLines
+pub mod Forms

@@ -4,3 +4,5 @@ pub mod ReportCode
 pub mod TraceText
 pub mod MeetingText
 pub mod ReportText
+pub mod ReportForm
+pub mod FormExample

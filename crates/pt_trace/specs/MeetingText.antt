@@ -3,6 +3,9 @@ use Rattle.std.specs.Prelude.{ℕ, List, [], ◌∷◌, ◌++◌, ◌==◌, coun
 use Rattle.std.specs.HashMap.{HashMap, get}
 use Rattle.std.specs.declared.hash.FoldHasher.{FoldHasher}
 use Rattle.std.specs.declared.hash.BuildHasherDefault.{BuildHasherDefault}
+use Rattle.pt_trace.specs.declared.meetings.ChildPlace.{ChildPlace}
+use Rattle.pt_trace.specs.declared.meetings.Met.{Met}
+use Rattle.pt_trace.specs.declared.meetings.Met.TheVariants.{Meet, Out, Barrier}
 use Rattle.pt_trace.specs.declared.meetings.MeetingLine.{MeetingLine}
 use Rattle.pt_trace.specs.Report.{Meetings}
 
@@ -14,8 +17,18 @@ count_of firing lines = count_by (λ l. l.firing == firing) lines
 abbrev pub met : HashMap ℕ ℕ (BuildHasherDefault FoldHasher) → ℕ → ℕ
 met counts firing = unwrap_or (get nat_eq counts firing) 0
 
+-- a place of a child: the path of the child below the composite, the port, and the number of the channel at the port
+abbrev pub place_text : ChildPlace → List ℕ
+place_text place = place.child ++ (codes "." ++ (place.port ++ (codes "." ++ decimal place.channel)))
+
+-- who met
+abbrev pub met_text : Met → List ℕ
+met_text (Meet place) = codes "meet " ++ place_text place
+met_text (Out port) = codes "out " ++ port
+met_text (Barrier child) = codes "barrier " ++ child
+
 abbrev pub meeting_line : MeetingLine → ℕ → List ℕ
-meeting_line line index = decimal line.firing ++ (codes " " ++ (decimal index ++ (codes " " ++ (line.what ++ codes "\n"))))
+meeting_line line index = decimal line.firing ++ (codes " " ++ (decimal index ++ (codes " " ++ (met_text line.what ++ codes "\n"))))
 
 -- the lines that follow some earlier ones, each with the number of earlier lines of its firing
 abbrev pub meeting_lines : List MeetingLine → List MeetingLine → List ℕ

@@ -1,6 +1,7 @@
 //! What a run reports, and the text of it.
 #![tactic(auto)]
 
+mod form;
 mod line;
 mod meetings;
 mod report;
@@ -8,7 +9,8 @@ mod run_end;
 mod trace;
 mod writing;
 
-pub use meetings::{MeetingLine, Meetings};
+pub use form::forms_by_example;
+pub use meetings::{ChildPlace, MeetingLine, Meetings, Met};
 pub use report::{Report, text};
 pub use run_end::RunEnd;
 pub use trace::Trace;
