@@ -3,7 +3,7 @@ use crate::written::{natural, token};
 use pt_firing::{Blocked, Place, Rows};
 use pt_table::{Answers, put};
 use pt_time::Tag;
-use pt_trace::{MeetingLine, Meetings, Report, RunEnd, Trace, text};
+use pt_trace::{ChildPlace, MeetingLine, Meetings, Met, Report, RunEnd, Trace, text};
 use pt_value::{Text, Token};
 use std::alloc::{AllocError, Global};
 
@@ -52,11 +52,31 @@ fn traces_of(alloc: Global, written: &str) -> Result<Vec<Trace>, AllocError> {
     Ok(traces)
 }
 
+/// The place `CHILD.PORT.CHANNEL`.
+fn place(alloc: Global, written: &str) -> Result<ChildPlace, AllocError> {
+    let (port, channel) = written.rsplit_once('.').unwrap_or((written, ""));
+    let (child, port) = port.rsplit_once('.').unwrap_or(("", port));
+    Ok(ChildPlace {
+        child: Text::of(alloc, child)?,
+        port: Text::of(alloc, port)?,
+        channel: natural(channel),
+    })
+}
+
+fn who(alloc: Global, written: &str) -> Result<Met, AllocError> {
+    let (kind, rest) = written.split_once(' ').unwrap_or((written, ""));
+    match kind {
+        "meet" => Ok(Met::Meet(place(alloc, rest)?)),
+        "out" => Ok(Met::Out(Text::of(alloc, rest)?)),
+        _ => Ok(Met::Barrier(Text::of(alloc, rest)?)),
+    }
+}
+
 fn line(alloc: Global, written: &str) -> Result<MeetingLine, AllocError> {
     let (firing, what) = written.split_once(' ').unwrap_or((written, ""));
     Ok(MeetingLine {
         firing: natural(firing),
-        what: Text::of(alloc, what)?,
+        what: who(alloc, what)?,
     })
 }
 
