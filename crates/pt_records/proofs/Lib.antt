@@ -6,3 +6,5 @@ pub mod ShutSteps
 pub mod ShutLaws
 pub mod ShutMiddles
 pub mod RunShutLaws
+pub mod MadeLaws
+pub mod MadeExample
