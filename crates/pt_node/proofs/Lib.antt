@@ -1,3 +1,4 @@
 pub mod RecordedLaws
 pub mod Link
 pub mod OutlineLaws
+pub mod UnmetLaws

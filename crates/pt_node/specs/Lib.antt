@@ -4,3 +4,4 @@ pub mod View
 pub mod Live
 pub mod Firing
 pub mod Stuck
+pub mod Unmet

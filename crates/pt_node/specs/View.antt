@@ -3,7 +3,7 @@ use Rattle.std.specs.Prelude.{ℕ, zero, suc, ◌+◌, max, List, [], ◌∷◌,
 use Rattle.pt_meaning.specs.Basics.{Path}
 use Rattle.pt_meaning.specs.Tree as tree
 use Rattle.pt_value.specs.declared.token.Token.{Token}
-use Rattle.pt_records.specs.Kept.{Kept, Entry, kept_by}
+use Rattle.pt_records.specs.Kept.{Kept, Entry, Made, kept_by}
 use Rattle.pt_node.specs.declared.body.Body.{Body}
 use Rattle.pt_node.specs.declared.body.Body.TheVariants.{Actor, Composite}
 use Rattle.pt_node.specs.declared.director.Director.{Director}
@@ -39,9 +39,17 @@ abbrev mutual
   nodes_of none = tree.none
   nodes_of (more s ss) = tree.more (node_of s) (nodes_of ss)
 
--- what is kept of a node at its own path: the number of its firings, and its recorded outputs
+-- the meetings that were recorded: of a composite whose director isn't Rendezvous there are none, nor of a library actor
+abbrev pub meetings_of : Director → Option Made
+meetings_of (Sdf s) = None
+
+abbrev pub meetings_in : Body → Option Made
+meetings_in (Actor held) = None
+meetings_in (Composite director) = meetings_of director
+
+-- what is kept of a node at its own path: the number of its firings, its recorded outputs, and its meetings
 abbrev pub entry_of : Frame → Entry Token
-entry_of f = record { count = f.past.made; recorded = map trace_of f.records }
+entry_of f = record { count = f.past.made; recorded = map trace_of f.records; meetings = meetings_in f.body }
 
 -- what is kept of a node and of all within it
 abbrev mutual

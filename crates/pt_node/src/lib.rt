@@ -6,9 +6,11 @@ mod director;
 mod node;
 mod past;
 mod recorded;
+mod unmet;
 
 pub use body::{Body, Held};
 pub use director::Director;
 pub use node::Node;
 pub use past::Past;
 pub use recorded::{Recorded, Records};
+pub use unmet::nothing_meets;
