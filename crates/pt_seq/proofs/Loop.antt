@@ -12,6 +12,7 @@ use Rattle.pt_firing.specs.declared.ask.Ask.{Ask}
 use Rattle.pt_firing.specs.declared.ask.Ask.TheVariants as ask
 use Rattle.pt_firing.specs.declared.answer.Place.{Place}
 use Rattle.pt_records.specs.Kept.{Entry, kept_by}
+use Rattle.pt_records.specs.Made.{AreMade, AllMade}
 use Rattle.pt_sdf.specs.State.{Stage, Open, Wrong, asked_child, lent_in}
 use Rattle.pt_sdf.specs.Clauses.{State, IsAsked, MayAsk}
 use Rattle.pt_node.specs.declared.node.Node.{Node}
@@ -182,8 +183,8 @@ module _ (before : State) (olds : List Shown) (kids : List Node) (tag : Tag) (X 
       pub turn-fault : (place : Place) (core' : State) → TurnFrom given core (shown_node d) i tag (turn.Fault place) core' (shown_node n) → SdfTo before (all_of olds) tag X (within.Fault place) core' (all_of (map shown (set kids i n)))
       turn-fault place core' f = subst (λ ss. SdfTo before (all_of olds) tag X (within.Fault place) core' (all_of ss)) set-so (fault-next before olds t.kids tag t.when X allowance left i core t.between t.child (shown_node n) t.there place core' (turned (turn.Fault place) core' f))
 
-      off-so : ((m : Meets) → IsLeftOff m (node_of t.child) tag (lent_in core.stage) (kept_of t.child) (kept_of (shown_node n))) → (m : Meets) (h : tree.Past) (en : Entry Token) → IsLeftOff m (sdf_node h before (all_of olds)) tag X (kept_by en (kepts_of (all_of olds))) (kept_by en (kepts_of (all_of (map shown (set kids i n)))))
-      off-so off = subst (λ ss. (m : Meets) (h : tree.Past) (en : Entry Token) → IsLeftOff m (sdf_node h before (all_of olds)) tag X (kept_by en (kepts_of (all_of olds))) (kept_by en (kepts_of (all_of ss)))) set-so (off-next before olds t.kids tag t.when X allowance left i core t.between t.child (shown_node n) t.there off)
+      off-so : ((m : Meets) → AreMade m (kept_of (shown_node n)) → IsLeftOff m (node_of t.child) tag (lent_in core.stage) (kept_of t.child) (kept_of (shown_node n))) → (m : Meets) → AllMade m (kepts_of (all_of (map shown (set kids i n)))) → (h : tree.Past) (en : Entry Token) → IsLeftOff m (sdf_node h before (all_of olds)) tag X (kept_by en (kepts_of (all_of olds))) (kept_by en (kepts_of (all_of (map shown (set kids i n)))))
+      off-so off = subst (λ ss. (m : Meets) → AllMade m (kepts_of (all_of ss)) → (h : tree.Past) (en : Entry Token) → IsLeftOff m (sdf_node h before (all_of olds)) tag X (kept_by en (kepts_of (all_of olds))) (kept_by en (kepts_of (all_of ss)))) set-so (off-next before olds t.kids tag t.when X allowance left i core t.between t.child (shown_node n) t.there off)
 
       pub turn-spent : (core' : State) → TurnFrom given core (shown_node d) i tag turn.Spent core' (shown_node n) → SdfTo before (all_of olds) tag X within.Spent core' (all_of (map shown (set kids i n)))
       turn-spent core' f = off-so (turned turn.Spent core' f)

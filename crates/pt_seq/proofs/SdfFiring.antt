@@ -1,6 +1,6 @@
 -- The firing of an SDF composite, child by child, over plain values.
 use Rattle.std.proofs.Common.{◌≡◌, ℕ, zero, suc, ◌+◌, ◌<◌, ◌≤◌, List, [], ◌∷◌, ◌++◌, true, false, length, get_or, set, take, drop, Some, refl, sym, ap, ap₂, subst, ◌∙◌, arith, length-drop}
-use Rattle.pt_meaning.specs.Basics.{Tag, Streams}
+use Rattle.pt_meaning.specs.Basics.{Tag, Streams, Log}
 use Rattle.pt_meaning.specs.Streams.{get}
 use Rattle.pt_meaning.specs.Machine.{rate_code, Facts}
 use Rattle.pt_meaning.specs.Machine as machine
@@ -20,10 +20,12 @@ use Rattle.pt_value.specs.declared.token.Token.{Token}
 use Rattle.pt_firing.specs.declared.answer.Place.{Place}
 use Rattle.pt_firing.specs.declared.fault.RunFault.TheVariants.{Rate}
 use Rattle.pt_firing.specs.RunFault.{code_of}
-use Rattle.pt_records.specs.Kept.{Entry, kept_by}
+use Rattle.pt_records.specs.Kept.{Kept, Entry, kept_at, kept_by, GrewBy}
+use Rattle.pt_records.specs.Made.{AreMade, AreMadeBefore, AreMadeWithin, AllMade, AllMadeBefore}
 use Rattle.pt_records.specs.Fired.{FiresTo}
 use Rattle.pt_records.specs.SoFar as so_far
 use Rattle.pt_records.specs.SoFar.{SoFar, SdfSoFar, sdf_left}
+use Rattle.pt_records.proofs.MadeLaws.{all-made-back, kept-there}
 use Rattle.pt_records.proofs.SoFarLaws.{so-far-begins, so-far-goes-on, sdf-is-done, sdf-is-stuck, sdf-is-unrated, sdf-is-left-off, sdf-is-left-off-within}
 use Rattle.pt_sdf.specs.ByNeed.{by_need, needs_of, planned, place_of, skip_at}
 use Rattle.pt_sdf.specs.State.{Closed, needs_at, lent_of, left_of, Allows, IsEnough, in_stage, begun, asked, if_told, own_of, owed, closed}
@@ -95,7 +97,7 @@ begun-going before olds tag X ready fit =
       fitting = record { repetitions = f.repetitions; rates = f.rates; channels = omega (arith, f.channels, arrived-long p.net.sources X before.held); needs = f.needs };
       steady = ready.2;
       fit = fit;
-      so_far = λ m.
+      so_far = λ m made.
           so-far-begins rows m tag p.net (sdf_bounds p before.held X) (nodes_of (all_of olds)) (arrived p.net.sources X before.held) (kepts_of (all_of olds))
           (sdf-bounds-count (iterations p (sdf_start p before.held X)) p.repetitions p.rates (length p.net.places) f.repetitions f.rates)
           (nodes-long olds ∙ children-long before olds f)
@@ -117,9 +119,28 @@ get-short [] i child e = absurd (cc)
 get-short (x ∷ now) zero child e = omega arith
 get-short (x ∷ now) (suc i) child e = let r = get-short now i child e in omega (arith, r)
 
+-- meetings of the children once child i went on: those of the child, and those of all before it
+made-of-child : (m : Meets) (now : List Shown) (i : ℕ) (child after : Shown) → get now i ≡ Some child → AllMade m (kepts_of (all_of (set now i after))) → AreMade (below_child i m) (kept_of after)
+made-of-child m now i child after e made =
+    let there = kept-there i (kepts_of (all_of now)) (kept_of after) (omega (arith, get-short now i child e, kepts-long now)) in
+    subst (λ (k : Kept Token). AreMade (below_child i m) k) (ap (λ ks. kept_at ks i) (kepts-set now i after) ∙ there) (made i)
+
+made-of-fired : (m : Meets) (now : List Shown) (i : ℕ) (child after : Shown) → get now i ≡ Some child → AllMadeBefore m (kepts_of (all_of (set now i after))) → AreMadeBefore (below_child i m) (kept_of after)
+made-of-fired m now i child after e made =
+    let there = kept-there i (kepts_of (all_of now)) (kept_of after) (omega (arith, get-short now i child e, kepts-long now)) in
+    subst (λ (k : Kept Token). AreMadeBefore (below_child i m) k) (ap (λ ks. kept_at ks i) (kepts-set now i after) ∙ there) (made i)
+
+made-before : (m : Meets) (now : List Shown) (i : ℕ) (child after : Shown) (l : Log Token) → get now i ≡ Some child → GrewBy l (kept_of child) (kept_of after) → AllMadeBefore m (kepts_of (all_of (set now i after))) → AllMadeBefore m (kepts_of (all_of now))
+made-before m now i child after l e grew made =
+    all-made-back m i l (kepts_of (all_of now)) (kept_of after) (omega (arith, get-short now i child e, kepts-long now))
+    (subst (λ k. GrewBy l k (kept_of after)) (sym (kepts-at now i child e)) grew) (subst (λ ks. AllMadeBefore m ks) (kepts-set now i after) made)
+
+finished-made : (m : Meets) (ks : List (Kept Token)) → AllMade m ks → AllMadeBefore m ks
+finished-made m ks made = λ i p n l. made i p n
+
 -- a child's firing
 pub going-on : (before : State) (olds now : List Shown) (tag : Tag) (X : Streams Token) (s : State) → Going before (all_of olds) tag X s (all_of now) → (i : ℕ) (child after : Shown) (out : Streams Token) → get now i ≡ Some child → Allows s i →
-    has_rates (get_or s.plan.rates i []) out ≡ true → ((m : Meets) → FiresTo (λ k. Step k rows m (node_of child) tag (lent_of s i)) (node_of after) out (kept_of child) (kept_of after)) → IsFit after → StaysSteady child after →
+    has_rates (get_or s.plan.rates i []) out ≡ true → ((m : Meets) → AreMadeBefore m (kept_of after) → FiresTo (λ k. Step k rows m (node_of child) tag (lent_of s i)) (node_of after) out (kept_of child) (kept_of after)) → IsFit after → StaysSteady child after →
     Going before (all_of olds) tag X (if_told true i out (asked i s)) (all_of (set now i after))
 going-on before olds now tag X s g i child after out e a rated fires fit steady =
     let st = steady (steady-get now i child e g.steady) in
@@ -137,12 +158,13 @@ going-on before olds now tag X s g i child after out e a rated fires fit steady 
       };
       steady = steady-set now i after st.0 g.steady;
       fit = fit-set now i after fit g.fit;
-      so_far = λ m.
+      so_far = λ m made.
+          let fired = fires (below_child i m) (made-of-fired m now i child after e made) in
           subst (λ ns. SoFar rows m (tree.heights (nodes_of (all_of olds))) tag s.plan.net (sdf_limits s.turns s.plan.repetitions s.plan.rates) (tree.list_of (nodes_of (all_of olds))) (arrived s.plan.net.sources X before.held) (kepts_of (all_of olds)) (set s.fired i (get_or s.fired i 0 + 1)) ns (plus (left_of s i) (puts i out s.plan.net.sources)) (kepts_of (all_of (set now i after)))) (sym (nodes-set now i after))
           (subst (λ ks. SoFar rows m (tree.heights (nodes_of (all_of olds))) tag s.plan.net (sdf_limits s.turns s.plan.repetitions s.plan.rates) (tree.list_of (nodes_of (all_of olds))) (arrived s.plan.net.sources X before.held) (kepts_of (all_of olds)) (set s.fired i (get_or s.fired i 0 + 1)) (set (tree.list_of (nodes_of (all_of now))) i (node_of after)) (plus (left_of s i) (puts i out s.plan.net.sources)) ks) (sym (kepts-set now i after))
           (so-far-goes-on rows m (tree.heights (nodes_of (all_of olds))) tag s.plan.net (sdf_limits s.turns s.plan.repetitions s.plan.rates) (tree.list_of (nodes_of (all_of olds))) (arrived s.plan.net.sources X before.held) (kepts_of (all_of olds)) s.fired (tree.list_of (nodes_of (all_of now))) s.held (kepts_of (all_of now))
-          (g.so_far m) i (node_of child) (node_of after) (lent_of s i) (left_of s i) out (kept_of after) (asked-now s now i child g.fitting e a) (omega (arith, short, kepts-long now))
-          (subst (λ k. FiresTo (λ fuel. Step fuel rows (below_child i m) (node_of child) tag (lent_of s i)) (node_of after) out k (kept_of after)) (sym (kepts-at now i child e)) (fires (below_child i m)))
+          (g.so_far m (made-before m now i child after fired.log e fired.kept made)) i (node_of child) (node_of after) (lent_of s i) (left_of s i) out (kept_of after) (asked-now s now i child g.fitting e a) (omega (arith, short, kepts-long now))
+          (subst (λ k. FiresTo (λ fuel. Step fuel rows (below_child i m) (node_of child) tag (lent_of s i)) (node_of after) out k (kept_of after)) (sym (kepts-at now i child e)) fired)
           (subst (λ r. so_far.GivesRates r out) (sym (rates-are s.turns s.plan.repetitions s.plan.rates i (omega (arith, short, places, g.fitting.repetitions)) (omega (arith, short, places, g.fitting.rates)))) rated)));
     }
 
@@ -154,10 +176,10 @@ module _ (before : State) (olds now : List Shown) (tag : Tag) (X : Streams Token
   same-limits : sdf_limits s.turns s.plan.repetitions s.plan.rates ≡ sdf_bounds before.plan before.held X
   same-limits = ap (λ p. limits-in p) g.plan ∙ ap (λ t. sdf_limits t before.plan.repetitions before.plan.rates) g.turns
 
-  pub sdf-so-far : (m : Meets) → SdfSoFar rows m tag before.plan before.held (nodes_of (all_of olds)) X (kepts_of (all_of olds)) s.fired (tree.list_of (nodes_of (all_of now))) s.held (kepts_of (all_of now))
-  sdf-so-far m =
+  pub sdf-so-far : (m : Meets) → AllMadeBefore m (kepts_of (all_of now)) → SdfSoFar rows m tag before.plan before.held (nodes_of (all_of olds)) X (kepts_of (all_of olds)) s.fired (tree.list_of (nodes_of (all_of now))) s.held (kepts_of (all_of now))
+  sdf-so-far m made =
       subst (λ cs. SoFar rows m (tree.heights (nodes_of (all_of olds))) tag before.plan.net cs (tree.list_of (nodes_of (all_of olds))) (arrived before.plan.net.sources X before.held) (kepts_of (all_of olds)) s.fired (tree.list_of (nodes_of (all_of now))) s.held (kepts_of (all_of now))) same-limits
-      (subst (λ (p : SdfPlan). SoFar rows m (tree.heights (nodes_of (all_of olds))) tag p.net (sdf_limits s.turns s.plan.repetitions s.plan.rates) (tree.list_of (nodes_of (all_of olds))) (arrived p.net.sources X before.held) (kepts_of (all_of olds)) s.fired (tree.list_of (nodes_of (all_of now))) s.held (kepts_of (all_of now))) g.plan (g.so_far m))
+      (subst (λ (p : SdfPlan). SoFar rows m (tree.heights (nodes_of (all_of olds))) tag p.net (sdf_limits s.turns s.plan.repetitions s.plan.rates) (tree.list_of (nodes_of (all_of olds))) (arrived p.net.sources X before.held) (kepts_of (all_of olds)) s.fired (tree.list_of (nodes_of (all_of now))) s.held (kepts_of (all_of now))) g.plan (g.so_far m made))
 
   pub sdf-asked : (i : ℕ) (child : Shown) → get now i ≡ Some child → Allows s i → so_far.IsAsked rows before.plan.net (sdf_bounds before.plan before.held X) s.fired (tree.list_of (nodes_of (all_of now))) s.held i (node_of child) (lent_of s i) (left_of s i)
   sdf-asked i child e a =
@@ -165,13 +187,13 @@ module _ (before : State) (olds now : List Shown) (tag : Tag) (X : Streams Token
       (subst (λ (p : SdfPlan). so_far.IsAsked rows p.net (sdf_limits s.turns s.plan.repetitions s.plan.rates) s.fired (tree.list_of (nodes_of (all_of now))) s.held i (node_of child) (lent_of s i) (left_of s i)) g.plan (asked-now s now i child g.fitting e a))
 
   -- left off between firings
-  pub left-between : (m : Meets) (h : tree.Past) (e : Entry Token) → IsLeftOff m (sdf_node h before (all_of olds)) tag X (kept_by e (kepts_of (all_of olds))) (kept_by e (kepts_of (all_of now)))
-  left-between m h e = sdf-is-left-off rows rows_lawful m tag h (tree.Sdf before.plan before.first) before.plan before.held (nodes_of (all_of olds)) X e (kepts_of (all_of olds)) s.fired (tree.list_of (nodes_of (all_of now))) s.held (kepts_of (all_of now)) (sdf-so-far m)
+  pub left-between : (m : Meets) → AllMade m (kepts_of (all_of now)) → (h : tree.Past) (e : Entry Token) → IsLeftOff m (sdf_node h before (all_of olds)) tag X (kept_by e (kepts_of (all_of olds))) (kept_by e (kepts_of (all_of now)))
+  left-between m made h e = sdf-is-left-off rows rows_lawful m tag h (tree.Sdf before.plan before.first) before.plan before.held (nodes_of (all_of olds)) X e (kepts_of (all_of olds)) s.fired (tree.list_of (nodes_of (all_of now))) s.held (kepts_of (all_of now)) (sdf-so-far m (finished-made m (kepts_of (all_of now)) made))
 
   -- the end
-  pub sdf-done : IsEnough s → (m : Meets) (h : tree.Past) (e : Entry Token) → FiresTo (outcome m (sdf_node h before (all_of olds)) tag X) (sdf_node (tree.fired_at tag h) (closed (in_stage Closed s)) (all_of now)) (firsts (owed s) (own_of s)) (kept_by e (kepts_of (all_of olds))) (kept_by e (kepts_of (all_of now)))
-  sdf-done enough m h e =
-      let d = sdf-is-done rows m tag h (tree.Sdf before.plan before.first) before.plan before.held (nodes_of (all_of olds)) X e (kepts_of (all_of olds)) s.fired (tree.list_of (nodes_of (all_of now))) s.held (kepts_of (all_of now)) (sdf-so-far m)
+  pub sdf-done : IsEnough s → (m : Meets) → AllMadeBefore m (kepts_of (all_of now)) → (h : tree.Past) (e : Entry Token) → FiresTo (outcome m (sdf_node h before (all_of olds)) tag X) (sdf_node (tree.fired_at tag h) (closed (in_stage Closed s)) (all_of now)) (firsts (owed s) (own_of s)) (kept_by e (kepts_of (all_of olds))) (kept_by e (kepts_of (all_of now)))
+  sdf-done enough m made h e =
+      let d = sdf-is-done rows m tag h (tree.Sdf before.plan before.first) before.plan before.held (nodes_of (all_of olds)) X e (kepts_of (all_of olds)) s.fired (tree.list_of (nodes_of (all_of now))) s.held (kepts_of (all_of now)) (sdf-so-far m made)
       (enough ∙ ap (λ t. times t s.plan.repetitions) g.turns ∙ ap (λ (p : SdfPlan). times (iterations before.plan (sdf_start before.plan before.held X)) p.repetitions) g.plan)
       in
       subst (λ (n : Tree). FiresTo (outcome m (sdf_node h before (all_of olds)) tag X) n (firsts (owed s) (own_of s)) (kept_by e (kepts_of (all_of olds))) (kept_by e (kepts_of (all_of now)))) (nodes-same)
@@ -203,26 +225,29 @@ module _ (before : State) (olds now : List Shown) (tag : Tag) (X : Streams Token
     short-in : i < length (kepts_of (all_of now))
     short-in = omega (arith, get-short now i child e, kepts-long now)
 
-    pub left-within : ((m : Meets) → IsLeftOff m (node_of child) tag (lent_of s i) (kept_of child) (kept_of after)) → (m : Meets) (h : tree.Past) (en : Entry Token) → IsLeftOff m (sdf_node h before (all_of olds)) tag X (kept_by en (kepts_of (all_of olds))) (kept_by en (kepts_of (all_of (set now i after))))
-    left-within off m h en =
+    pub left-within : ((m : Meets) → AreMade m (kept_of after) → IsLeftOff m (node_of child) tag (lent_of s i) (kept_of child) (kept_of after)) → (m : Meets) → AllMade m (kepts_of (all_of (set now i after))) → (h : tree.Past) (en : Entry Token) → IsLeftOff m (sdf_node h before (all_of olds)) tag X (kept_by en (kepts_of (all_of olds))) (kept_by en (kepts_of (all_of (set now i after))))
+    left-within off m made h en =
+        let l = off (below_child i m) (made-of-child m now i child after e made) in
         subst (λ ks. IsLeftOff m (sdf_node h before (all_of olds)) tag X (kept_by en (kepts_of (all_of olds))) (kept_by en ks)) (sym (kepts-set now i after))
-        (sdf-is-left-off-within rows rows_lawful m tag h (tree.Sdf before.plan before.first) before.plan before.held (nodes_of (all_of olds)) X en (kepts_of (all_of olds)) s.fired (tree.list_of (nodes_of (all_of now))) s.held (kepts_of (all_of now)) (sdf-so-far m) i (node_of child) (lent_of s i) (left_of s i) (kept_of after) (sdf-asked i child e a) short-in
-        (subst (λ k. IsLeftOff (below_child i m) (node_of child) tag (lent_of s i) k (kept_of after)) (sym (kepts-at now i child e)) (off (below_child i m))))
+        (sdf-is-left-off-within rows rows_lawful m tag h (tree.Sdf before.plan before.first) before.plan before.held (nodes_of (all_of olds)) X en (kepts_of (all_of olds)) s.fired (tree.list_of (nodes_of (all_of now))) s.held (kepts_of (all_of now)) (sdf-so-far m (made-before m now i child after l.log e l.kept (finished-made m (kepts_of (all_of (set now i after))) made))) i (node_of child) (lent_of s i) (left_of s i) (kept_of after) (sdf-asked i child e a) short-in
+        (subst (λ k. IsLeftOff (below_child i m) (node_of child) tag (lent_of s i) k (kept_of after)) (sym (kepts-at now i child e)) l))
 
-    pub stuck-within : (place : Place) → ((m : Meets) → IsStuck m (node_of child) tag (lent_of s i) (outline_of child) place (kept_of child) (kept_of after)) → outlines_of (all_of now) ≡ outlines_of (all_of olds) → (m : Meets) (h : tree.Past) (en : Entry Token) (text : List ℕ) (hs : List Heading) →
+    pub stuck-within : (place : Place) → ((m : Meets) → AreMade m (kept_of after) → IsStuck m (node_of child) tag (lent_of s i) (outline_of child) place (kept_of child) (kept_of after)) → outlines_of (all_of now) ≡ outlines_of (all_of olds) → (m : Meets) → AllMade m (kepts_of (all_of (set now i after))) → (h : tree.Past) (en : Entry Token) (text : List ℕ) (hs : List Heading) →
         IsStuck m (sdf_node h before (all_of olds)) tag X (view.Named text hs (outlines_of (all_of olds))) place (kept_by en (kepts_of (all_of olds))) (kept_by en (kepts_of (all_of (set now i after))))
-    stuck-within place sticks o m h en text hs =
-        let k = sticks (below_child i m) in (
+    stuck-within place sticks o m made h en text hs =
+        let k = sticks (below_child i m) (made-of-child m now i child after e made) in (
           i ∷ k.0,
           ap (λ os. text_below os i k.0) (sym o) ∙ text-get now i child k.0 e ∙ k.1,
           subst (λ ks. IsStuckIn m (sdf_node h before (all_of olds)) tag X (fault_of (i ∷ k.0) place) (kept_by en (kepts_of (all_of olds))) (kept_by en ks)) (sym (kepts-set now i after))
-              (sdf-is-stuck rows rows_lawful m tag h (tree.Sdf before.plan before.first) before.plan before.held (nodes_of (all_of olds)) X en (kepts_of (all_of olds)) s.fired (tree.list_of (nodes_of (all_of now))) s.held (kepts_of (all_of now)) (sdf-so-far m) i (node_of child) (lent_of s i) (left_of s i) (kept_of after) (fault_of k.0 place) (sdf-asked i child e a) short-in
+              (sdf-is-stuck rows rows_lawful m tag h (tree.Sdf before.plan before.first) before.plan before.held (nodes_of (all_of olds)) X en (kepts_of (all_of olds)) s.fired (tree.list_of (nodes_of (all_of now))) s.held (kepts_of (all_of now)) (sdf-so-far m (made-before m now i child after k.2.log e k.2.kept (finished-made m (kepts_of (all_of (set now i after))) made))) i (node_of child) (lent_of s i) (left_of s i) (kept_of after) (fault_of k.0 place) (sdf-asked i child e a) short-in
               (subst (λ v. IsStuckIn (below_child i m) (node_of child) tag (lent_of s i) (fault_of k.0 place) v (kept_of after)) (sym (kepts-at now i child e)) k.2)),
         )
 
-    pub unrated-within : (place : Place) (next : Tree) (out : Streams Token) → has_rates (get_or s.plan.rates i []) out ≡ false → ((m : Meets) → FiresTo (outcome m (node_of child) tag (lent_of s i)) next out (kept_of child) (kept_of after)) → text_at (outline_of child) [] ≡ Some place.path → place.firing ≡ tree.made_of (node_of child) → place.kind ≡ Rate →
-        outlines_of (all_of now) ≡ outlines_of (all_of olds) → (m : Meets) (h : tree.Past) (en : Entry Token) (text : List ℕ) (hs : List Heading) → IsStuck m (sdf_node h before (all_of olds)) tag X (view.Named text hs (outlines_of (all_of olds))) place (kept_by en (kepts_of (all_of olds))) (kept_by en (kepts_of (all_of (set now i after))))
-    unrated-within place next out lacks fires path firing kind o m h en text hs =
+    pub unrated-within : (place : Place) (next : Tree) (out : Streams Token) → has_rates (get_or s.plan.rates i []) out ≡ false → ((m : Meets) → AreMadeWithin m (kept_of after) → FiresTo (outcome m (node_of child) tag (lent_of s i)) next out (kept_of child) (kept_of after)) → text_at (outline_of child) [] ≡ Some place.path → place.firing ≡ tree.made_of (node_of child) → place.kind ≡ Rate →
+        outlines_of (all_of now) ≡ outlines_of (all_of olds) → (m : Meets) → AllMade m (kepts_of (all_of (set now i after))) → (h : tree.Past) (en : Entry Token) (text : List ℕ) (hs : List Heading) → IsStuck m (sdf_node h before (all_of olds)) tag X (view.Named text hs (outlines_of (all_of olds))) place (kept_by en (kepts_of (all_of olds))) (kept_by en (kepts_of (all_of (set now i after))))
+    unrated-within place next out lacks fires path firing kind o m made h en text hs =
+        let there = made-of-child m now i child after e made in
+        let gives = fires (below_child i m) (record { own = λ n l. there [] n; below = λ j p n l. there (j ∷ p) n }) in
         let places : length now ≡ length s.plan.net.places = children-long s now g.fitting in
         let short : i < length now = get-short now i child e in
         let rates : rates_at (sdf_bounds before.plan before.held X) i ≡ Some (get_or s.plan.rates i []) = ap (λ cs. rates_at cs i) (sym same-limits) ∙ rates-are s.turns s.plan.repetitions s.plan.rates i (omega (arith, short, places, g.fitting.repetitions)) (omega (arith, short, places, g.fitting.rates)) in
@@ -231,6 +256,6 @@ module _ (before : State) (olds now : List Shown) (tag : Tag) (X : Streams Token
           ap (λ os. text_below os i []) (sym o) ∙ text-get now i child [] e ∙ path,
           subst (λ ks. IsStuckIn m (sdf_node h before (all_of olds)) tag X (fault_of (i ∷ []) place) (kept_by en (kepts_of (all_of olds))) (kept_by en ks)) (sym (kepts-set now i after))
               (subst (λ f. IsStuckIn m (sdf_node h before (all_of olds)) tag X f (kept_by en (kepts_of (all_of olds))) (kept_by en (set (kepts_of (all_of now)) i (kept_of after)))) told
-              (sdf-is-unrated rows rows_lawful m tag h (tree.Sdf before.plan before.first) before.plan before.held (nodes_of (all_of olds)) X en (kepts_of (all_of olds)) s.fired (tree.list_of (nodes_of (all_of now))) s.held (kepts_of (all_of now)) (sdf-so-far m) i (node_of child) next (lent_of s i) (left_of s i) out (kept_of after) (get_or s.plan.rates i []) (sdf-asked i child e a) short-in
-              (subst (λ v. FiresTo (outcome (below_child i m) (node_of child) tag (lent_of s i)) next out v (kept_of after)) (sym (kepts-at now i child e)) (fires (below_child i m))) rates lacks)),
+              (sdf-is-unrated rows rows_lawful m tag h (tree.Sdf before.plan before.first) before.plan before.held (nodes_of (all_of olds)) X en (kepts_of (all_of olds)) s.fired (tree.list_of (nodes_of (all_of now))) s.held (kepts_of (all_of now)) (sdf-so-far m (made-before m now i child after gives.log e gives.kept (finished-made m (kepts_of (all_of (set now i after))) made))) i (node_of child) next (lent_of s i) (left_of s i) out (kept_of after) (get_or s.plan.rates i []) (sdf-asked i child e a) short-in
+              (subst (λ v. FiresTo (outcome (below_child i m) (node_of child) tag (lent_of s i)) next out v (kept_of after)) (sym (kepts-at now i child e)) gives) rates lacks)),
         )

@@ -22,6 +22,7 @@ use Rattle.pt_firing.specs.declared.ask.Ask.TheVariants as ask
 use Rattle.pt_firing.specs.declared.answer.Place.{Place}
 use Rattle.pt_firing.specs.RunFault.{code_of}
 use Rattle.pt_records.specs.Kept.{Kept, Entry, kept_by, GrewBy, TracesTold}
+use Rattle.pt_records.specs.Made.{AreMade, AreMadeBefore, AreMadeWithin, AllMade}
 use Rattle.pt_records.specs.Fired.{FiresTo, SticksAt, LeavesOff}
 use Rattle.pt_records.specs.Shut.{IsShut}
 use Rattle.pt_records.proofs.ShutSteps.{nothing-is-shut, stepped-is-shut, at-own-place}
@@ -41,7 +42,7 @@ use Rattle.pt_library.specs.LibraryActor.{rows}
 use Rattle.pt_node.specs.Recorded.{RecordedPort, noting, recording, unnoted, trace_of}
 use Rattle.pt_node.specs.Shown.{Shown, AllShown, Branch, Frame, all_of}
 use Rattle.pt_node.specs.Firing as firing
-use Rattle.pt_node.specs.View.{Tree, heading_of, node_of, nodes_of, node_with, entry_of, kept_of, kepts_of, outline_of, outlines_of, text_at, count_of, counts_of}
+use Rattle.pt_node.specs.View.{Tree, heading_of, node_of, nodes_of, node_with, meetings_in, entry_of, kept_of, kepts_of, outline_of, outlines_of, text_at, count_of, counts_of}
 use Rattle.pt_node.specs.Live as live
 use Rattle.pt_library.specs.Steady.{after, IsSteadyActor}
 use Rattle.pt_node.specs.Live.{IsFit, AllFit, IsReady, IsLive, IsSteady, IsSteadyBody}
@@ -54,6 +55,16 @@ use Rattle.pt_node.specs.Stuck.{fault_of}
 use Rattle.pt_seq.specs.Between.{At, Between}
 use Rattle.pt_seq.proofs.Children.{nodes-get, outlines-set, counts-set, steady-get}
 use Rattle.pt_seq.proofs.SdfFiring.{children-long, begun-going, going-on, asked-now, left-between, left-within, stuck-within, unrated-within, sdf-done}
+
+-- what has all the recorded meetings has those of the firings that are finished, and what has them with the node's own record has them without
+pub made-within : (m : Meets) (k : Kept Token) → AreMade m k → AreMadeWithin m k
+made-within m k made = record { own = λ n l. made [] n; below = λ i p n l. made (i ∷ p) n }
+
+pub made-recorded : (m : Meets) (tag : Tag) (out : Streams Token) (mid : Shown) → AreMadeBefore m (kept_of (firing.recorded tag (firing.noted tag out mid))) → AreMadeWithin m (kept_of mid)
+made-recorded m tag out (Branch g ks) made = record { own = made []; below = λ i p n l. made (i ∷ p) n l }
+
+made-children : (m : Meets) (e : Entry Token) (ks : List (Kept Token)) → AreMade m (kept_by e ks) → AllMade m ks
+made-children m e ks made = λ i p n. made (i ∷ p) n
 
 -- nothing was finished yet, or all of a firing that is done
 pub off-none : (m : Meets) (n : Tree) (tag : Tag) (X : Streams Token) (k : Kept Token) → IsLeftOff m n tag X k k
@@ -89,7 +100,7 @@ traces-told tag out [] = tt
 traces-told tag out (r ∷ rs) = (refl, refl, traces-told tag out rs)
 
 record-grew : (f : Firing Token) (s : Shown) → GrewBy (own f) (kept_of s) (kept_of (firing.recorded f.tag (firing.noted f.tag f.outputs s)))
-record-grew f (Branch g ks) = grew-record f silent (entry_of g) _ (kepts_of ks) (kepts_of ks) (grew-none (kept_of (Branch g ks))) (record { count = refl; recorded = traces-told f.tag f.outputs g.records })
+record-grew f (Branch g ks) = grew-record f silent (entry_of g) (entry_of g) _ (kepts_of ks) (kepts_of ks) (grew-none (kept_of (Branch g ks))) (record { count = refl; recorded = traces-told f.tag f.outputs g.records; meetings = refl })
 
 fired-body : (tag : Tag) (h : tree.Past) (b : Body) (ks : AllShown) → node_with (tree.fired_at tag h) b (nodes_of ks) ≡ fired tag (node_with h b (nodes_of ks))
 fired-body tag h (body.Actor held) ks = refl
@@ -127,7 +138,7 @@ traces-unnoted [] = refl
 traces-unnoted (r ∷ rs) = ap (λ v. trace_of r ∷ v) (traces-unnoted rs)
 
 kept-of-bare : (s : Shown) → kept_of (firing.bare s) ≡ kept_of s
-kept-of-bare (Branch g ks) = ap (λ rs. let e : Entry Token = record { count = g.past.made; recorded = rs } in kept_by e (kepts_of ks)) (traces-unnoted g.records)
+kept-of-bare (Branch g ks) = ap (λ rs. let e : Entry Token = record { count = g.past.made; recorded = rs; meetings = meetings_in g.body } in kept_by e (kepts_of ks)) (traces-unnoted g.records)
 
 pub kept-bare : (s t : Shown) → firing.bare s ≡ firing.bare t → kept_of s ≡ kept_of t
 kept-bare s t e = sym (kept-of-bare s) ∙ ap (λ v. kept_of v) e ∙ kept-of-bare t
@@ -157,7 +168,7 @@ turn-told s old mid i tag out turn.Done s' after w f o p t =
       out = out;
       rated = t.0;
       told = t.1;
-      fires = λ m. subst (λ v. FiresTo (λ k. Step k rows m (node_of old) tag (lent_in s.stage)) (node_of v) out (kept_of old) (kept_of v)) (sym same) (step-fires m old mid tag (lent_in s.stage) out (w m));
+      fires = λ m made. subst (λ v. FiresTo (λ k. Step k rows m (node_of old) tag (lent_in s.stage)) (node_of v) out (kept_of old) (kept_of v)) (sym same) (step-fires m old mid tag (lent_in s.stage) out (w m (made-recorded m tag out mid (subst (λ v. AreMadeBefore m (kept_of v)) same made))));
       fit = subst (λ v. IsFit v) (sym same) (fit-recorded tag out mid f.0);
       steady = subst (λ v. StaysSteady old v) (sym same) (steady-recorded tag out old mid f.1);
     }
@@ -166,22 +177,24 @@ turn-told s old mid i tag out (turn.Fault place) s' after w f o p t =
       next = fired tag (node_of mid);
       out = out;
       unrated = t.0;
-      fires = λ m. subst (λ k. FiresTo (outcome m (node_of old) tag (lent_in s.stage)) (fired tag (node_of mid)) out (kept_of old) k) (sym (kept-bare after mid t.4)) (w m);
+      fires = λ m made. subst (λ k. FiresTo (outcome m (node_of old) tag (lent_in s.stage)) (fired tag (node_of mid)) out (kept_of old) k) (sym (kept-bare after mid t.4)) (w m (subst (λ k. AreMadeWithin m k) (kept-bare after mid t.4) made));
       path = ap (λ v. text_at v []) (sym o) ∙ text-own mid ∙ ap (λ v. Option.Some v) (sym t.1);
       firing = t.2 ∙ p ∙ sym (made-own old);
       kind = t.3;
     })
 turn-told s old mid i tag out turn.Spent s' after w f o p t = absurd t
-turn-told s old mid i tag out turn.Memory s' after w f o p t = λ m. subst (λ k. IsLeftOff m (node_of old) tag (lent_in s.stage) (kept_of old) k) (sym (kept-bare after mid t)) (off-done m (node_of old) tag (lent_in s.stage) (fired tag (node_of mid)) out (kept_of old) (kept_of mid) (w m))
+turn-told s old mid i tag out turn.Memory s' after w f o p t = λ m made.
+    let before : AreMade m (kept_of mid) = subst (λ k. AreMade m k) (kept-bare after mid t) made in
+    subst (λ k. IsLeftOff m (node_of old) tag (lent_in s.stage) (kept_of old) k) (sym (kept-bare after mid t)) (off-done m (node_of old) tag (lent_in s.stage) (fired tag (node_of mid)) out (kept_of old) (kept_of mid) (w m (made-within m (kept_of mid) before)))
 
 pub turn-stuck : (s : State) (old after : Shown) (i : ℕ) (tag : Tag) (X : Streams Token) (place : Place) (s' : State) → X ≡ lent_in s.stage → WithinTo old tag X (Fault place) after → TurnTo s old i tag (turn.Fault place) s' after
-turn-stuck s old after i tag X place s' e w = inl (subst (λ (Y : Streams Token). (m : Meets) → IsStuck m (node_of old) tag Y (outline_of old) place (kept_of old) (kept_of after)) e w)
+turn-stuck s old after i tag X place s' e w = inl (subst (λ (Y : Streams Token). (m : Meets) → AreMade m (kept_of after) → IsStuck m (node_of old) tag Y (outline_of old) place (kept_of old) (kept_of after)) e w)
 
-pub turn-off : (old after : Shown) (tag : Tag) (X Y : Streams Token) → X ≡ Y → ((m : Meets) → IsLeftOff m (node_of old) tag X (kept_of old) (kept_of after)) → (m : Meets) → IsLeftOff m (node_of old) tag Y (kept_of old) (kept_of after)
-turn-off old after tag X Y e w = subst (λ (Z : Streams Token). (m : Meets) → IsLeftOff m (node_of old) tag Z (kept_of old) (kept_of after)) e w
+pub turn-off : (old after : Shown) (tag : Tag) (X Y : Streams Token) → X ≡ Y → ((m : Meets) → AreMade m (kept_of after) → IsLeftOff m (node_of old) tag X (kept_of old) (kept_of after)) → (m : Meets) → AreMade m (kept_of after) → IsLeftOff m (node_of old) tag Y (kept_of old) (kept_of after)
+turn-off old after tag X Y e w = subst (λ (Z : Streams Token). (m : Meets) → AreMade m (kept_of after) → IsLeftOff m (node_of old) tag Z (kept_of old) (kept_of after)) e w
 
-pub turn-off-done : (old after : Shown) (tag : Tag) (X Y out : Streams Token) → X ≡ Y → WithinTo old tag X (Done out) after → (m : Meets) → IsLeftOff m (node_of old) tag Y (kept_of old) (kept_of after)
-turn-off-done old after tag X Y out e w = turn-off old after tag X Y e (λ m. off-done m (node_of old) tag X (fired tag (node_of after)) out (kept_of old) (kept_of after) (w m))
+pub turn-off-done : (old after : Shown) (tag : Tag) (X Y out : Streams Token) → X ≡ Y → WithinTo old tag X (Done out) after → (m : Meets) → AreMade m (kept_of after) → IsLeftOff m (node_of old) tag Y (kept_of old) (kept_of after)
+turn-off-done old after tag X Y out e w = turn-off old after tag X Y e (λ m made. off-done m (node_of old) tag X (fired tag (node_of after)) out (kept_of old) (kept_of after) (w m (made-within m (kept_of after) made)))
 
 pub turn-after : (s : State) (old mid : Shown) (i : ℕ) (tag : Tag) (X out : Streams Token) (t : Turn) (s' : State) (after : Shown) → X ≡ lent_in s.stage → WithinTo old tag X (Done out) mid → StaysFit old (Done out) mid → outline_of mid ≡ outline_of old → made_of mid ≡ made_of old →
     TellTo s mid i tag out t s' after → TurnTo s old i tag t s' after
@@ -192,17 +205,21 @@ actor-step : (m : Meets) (k : ℕ) (h : tree.Past) (a b : LibraryActor) (tag : T
 unfolding step_at
 actor-step m k h a b tag X = refl
 
+-- what is kept of a node that isn't a Rendezvous composite, at its own path
+abbrev entry-unmet : Frame → Entry Token
+entry-unmet f = record { count = f.past.made; recorded = map trace_of f.records; meetings = None }
+
 pub actor-goes : (f : Frame) (held held' : Held) (ks : AllShown) (tag : Tag) (X : Streams Token) (w : Within) → ActorTo held f.path f.past.made tag X w held' →
     WithinTo (Branch (record { past = f.past; body = body.Actor held; records = f.records; path = f.path; live = f.live }) ks) tag X w (Branch (record { past = f.past; body = body.Actor held'; records = f.records; path = f.path; live = false }) ks)
-actor-goes f held held' ks tag X (Done out) a = λ m.
-    let kept : Kept Token = kept_by (entry_of f) (kepts_of ks) in
+actor-goes f held held' ks tag X (Done out) a = λ m made.
+    let kept : Kept Token = kept_by (entry-unmet f) (kepts_of ks) in
     record {
       log = silent;
       done = (0, λ k l. actor-step m k f.past held.start held.actor tag X ∙ ap (λ r. actor_outcome tag f.past held.start r) a.0 ∙ ap (λ v. let r : Outcome Token Tree = machine.Done (tree.Actor (tree.fired_at tag f.past) v held'.actor) out silent in r) (sym a.1));
       kept = grew-none kept;
     }
-actor-goes f held held' ks tag X (Fault place) a = λ m.
-    let kept : Kept Token = kept_by (entry_of f) (kepts_of ks) in
+actor-goes f held held' ks tag X (Fault place) a = λ m made.
+    let kept : Kept Token = kept_by (entry-unmet f) (kepts_of ks) in
     let told : record { path = []; firing = f.past.made; code = code_of place.kind } ≡ fault_of [] place = ap (λ n. let g : machine.Fault = record { path = []; firing = n; code = code_of place.kind } in g) (sym a.2) in (
       [],
       ap (λ v. Option.Some v) (sym a.1),
@@ -214,7 +231,7 @@ actor-goes f held held' ks tag X (Fault place) a = λ m.
       },
     )
 actor-goes f held held' ks tag X Spent a = absurd a
-actor-goes f held held' ks tag X Memory a = λ m. off-none m (tree.Actor f.past held.start held.actor) tag X (kept_by (entry_of f) (kepts_of ks))
+actor-goes f held held' ks tag X Memory a = λ m made. off-none m (tree.Actor f.past held.start held.actor) tag X (kept_by (entry-unmet f) (kepts_of ks))
 
 steady-next : (tag : Tag) (X out : Streams Token) (a b : LibraryActor) → library.step tag a X ≡ tree.Gives b out → IsSteadyActor a → IsSteadyActor b × (library.need b ≡ library.need a)
 steady-next tag X out a b e st =
@@ -236,10 +253,10 @@ actor-fit f held held' ks tag X Memory fit a = tt
 -- a composite
 pub composite-goes : (f : Frame) (d d' : Director) (ks ks' : AllShown) (tag : Tag) (X : Streams Token) (w : Within) → DirectorTo d ks tag X w d' ks' →
     WithinTo (Branch (record { past = f.past; body = body.Composite d; records = f.records; path = f.path; live = f.live }) ks) tag X w (Branch (record { past = f.past; body = body.Composite d'; records = f.records; path = f.path; live = false }) ks')
-composite-goes f (Sdf s) (Sdf s') ks ks' tag X (Done out) g = λ m. g m f.past (entry_of f)
-composite-goes f (Sdf s) (Sdf s') ks ks' tag X (Fault place) g = λ m. g m f.past (entry_of f) f.path (map heading_of f.records)
-composite-goes f (Sdf s) (Sdf s') ks ks' tag X Spent g = λ m. g m f.past (entry_of f)
-composite-goes f (Sdf s) (Sdf s') ks ks' tag X Memory g = λ m. g m f.past (entry_of f)
+composite-goes f (Sdf s) (Sdf s') ks ks' tag X (Done out) g = λ m made. g m made.below f.past (entry-unmet f)
+composite-goes f (Sdf s) (Sdf s') ks ks' tag X (Fault place) g = λ m made. g m (made-children m (entry-unmet f) (kepts_of ks') made) f.past (entry-unmet f) f.path (map heading_of f.records)
+composite-goes f (Sdf s) (Sdf s') ks ks' tag X Spent g = λ m made. g m (made-children m (entry-unmet f) (kepts_of ks') made) f.past (entry-unmet f)
+composite-goes f (Sdf s) (Sdf s') ks ks' tag X Memory g = λ m made. g m (made-children m (entry-unmet f) (kepts_of ks') made) f.past (entry-unmet f)
 
 pub composite-fit : (f : Frame) (d d' : Director) (ks ks' : AllShown) (w : Within) → DirectorStaysFit d ks w d' ks' →
     StaysFit (Branch (record { past = f.past; body = body.Composite d; records = f.records; path = f.path; live = f.live }) ks) w (Branch (record { past = f.past; body = body.Composite d'; records = f.records; path = f.path; live = false }) ks')
@@ -293,13 +310,13 @@ module _ (before : State) (olds now : List Shown) (tag when : Tag) (X : Streams 
         go (inl sticks) = stuck-within before olds now tag X b.state b.at.going i child after e b.asked.2 place sticks b.at.outlines
         go (inr u) = unrated-within before olds now tag X b.state b.at.going i child after e b.asked.2 place u.next u.out u.unrated u.fires u.path u.firing u.kind b.at.outlines
 
-    pub off-next : ((m : Meets) → IsLeftOff m (node_of child) tag (lent_in core.stage) (kept_of child) (kept_of after)) → (m : Meets) (h : tree.Past) (en : Entry Token) → IsLeftOff m (sdf_node h before (all_of olds)) tag X (kept_by en (kepts_of (all_of olds))) (kept_by en (kepts_of (all_of (set now i after))))
-    off-next off = left-within before olds now tag X b.state b.at.going i child after e b.asked.2 (subst (λ (s : State). (m : Meets) → IsLeftOff m (node_of child) tag (lent_in s.stage) (kept_of child) (kept_of after)) core-is off)
+    pub off-next : ((m : Meets) → AreMade m (kept_of after) → IsLeftOff m (node_of child) tag (lent_in core.stage) (kept_of child) (kept_of after)) → (m : Meets) → AllMade m (kepts_of (all_of (set now i after))) → (h : tree.Past) (en : Entry Token) → IsLeftOff m (sdf_node h before (all_of olds)) tag X (kept_by en (kepts_of (all_of olds))) (kept_by en (kepts_of (all_of (set now i after))))
+    off-next off = left-within before olds now tag X b.state b.at.going i child after e b.asked.2 (subst (λ (s : State). (m : Meets) → AreMade m (kept_of after) → IsLeftOff m (node_of child) tag (lent_in s.stage) (kept_of child) (kept_of after)) core-is off)
 
 -- between two firings
-pub off-between : (before : State) (olds now : List Shown) (tag : Tag) (X : Streams Token) (allowance left : ℕ) (next : Ask) (core : State) → Between before olds tag X allowance next core now left → (m : Meets) (h : tree.Past) (en : Entry Token) →
+pub off-between : (before : State) (olds now : List Shown) (tag : Tag) (X : Streams Token) (allowance left : ℕ) (next : Ask) (core : State) → Between before olds tag X allowance next core now left → (m : Meets) → AllMade m (kepts_of (all_of now)) → (h : tree.Past) (en : Entry Token) →
     IsLeftOff m (sdf_node h before (all_of olds)) tag X (kept_by en (kepts_of (all_of olds))) (kept_by en (kepts_of (all_of now)))
-off-between before olds now tag X allowance left next core b m h en = left-between before olds now tag X b.state b.at.going m h en
+off-between before olds now tag X allowance left next core b m made h en = left-between before olds now tag X b.state b.at.going m made h en
 
 longer : {A : Type 0} (n : ℕ) (X Y : List A) → n ≤ length X → n ≤ length (take n X ++ Y)
 longer n X Y h = omega (arith, length-take-le n X h, length-append (take n X) Y)
@@ -310,11 +327,11 @@ module _ (before : State) (olds now : List Shown) (tag : Tag) (X : Streams Token
   closed-is = b.asked.2
 
   pub finish-goes : (w : Within) → FinishTo core w core' → SdfTo before (all_of olds) tag X w core' (all_of now)
-  finish-goes (Done out) f = λ m h en.
+  finish-goes (Done out) f = λ m made h en.
       let f' : FinishTo (in_stage Closed b.state) (Done out) core' = subst (λ s. FinishTo s (Done out) core') closed-is f in
       subst (λ s. FiresTo (outcome m (sdf_node h before (all_of olds)) tag X) (sdf_node (tree.fired_at tag h) s (all_of now)) out (kept_by en (kepts_of (all_of olds))) (kept_by en (kepts_of (all_of now)))) (sym f'.0)
       (subst (λ o. FiresTo (outcome m (sdf_node h before (all_of olds)) tag X) (sdf_node (tree.fired_at tag h) (closed (in_stage Closed b.state)) (all_of now)) o (kept_by en (kepts_of (all_of olds))) (kept_by en (kepts_of (all_of now)))) (sym f'.1)
-      (sdf-done before olds now tag X b.state b.at.going b.asked.1 m h en))
+      (sdf-done before olds now tag X b.state b.at.going b.asked.1 m made h en))
   finish-goes (Fault place) f = absurd f
   finish-goes Spent f = absurd f
   finish-goes Memory f = off-between before olds now tag X allowance left ask.Finished core b

@@ -11,6 +11,7 @@ use Rattle.pt_laws.specs.CompositeRuns.{sdf_start}
 use Rattle.pt_value.specs.declared.token.Token.{Token}
 use Rattle.pt_firing.specs.declared.ask.Ask.{Ask}
 use Rattle.pt_firing.specs.declared.ask.Ask.TheVariants as ask
+use Rattle.pt_records.specs.Made.{AllMadeBefore}
 use Rattle.pt_records.specs.SoFar.{SoFar}
 use Rattle.pt_sdf.specs.State.{Open, lent_in}
 use Rattle.pt_sdf.specs.Chain.{IsFor}
@@ -23,7 +24,7 @@ use Rattle.pt_seq.specs.declared.numbers.Pause.{Pause}
 use Rattle.pt_seq.specs.declared.numbers.Pause.TheVariants as pause
 use Rattle.pt_seq.specs.Within.{Given}
 
--- The firing began from the core `before` and the children olds. The core is now in the state s, and the children are now; what is kept of them went on as the definitions say, under any meetings.
+-- The firing began from the core `before` and the children olds. The core is now in the state s, and the children are now; what is kept of them went on as the definitions say, under the meetings that were recorded of the finished firings.
 pub record Going (before : State) (olds : AllShown) (tag : Tag) (inputs : Streams Token) (s : State) (now : AllShown) : Type 0 where
   pub plan : s.plan ≡ before.plan
   pub first : s.first ≡ before.first
@@ -31,7 +32,7 @@ pub record Going (before : State) (olds : AllShown) (tag : Tag) (inputs : Stream
   pub fitting : IsFor (facts_of rows) s (tree.list_of (nodes_of now))
   pub steady : AllSteady now
   pub fit : AllFit now
-  pub so_far : (m : Meets) → SoFar rows m (tree.heights (nodes_of olds)) tag s.plan.net (sdf_limits s.turns s.plan.repetitions s.plan.rates) (tree.list_of (nodes_of olds)) (arrived s.plan.net.sources inputs before.held) (kepts_of olds) s.fired (tree.list_of (nodes_of now)) s.held (kepts_of now)
+  pub so_far : (m : Meets) → AllMadeBefore m (kepts_of now) → SoFar rows m (tree.heights (nodes_of olds)) tag s.plan.net (sdf_limits s.turns s.plan.repetitions s.plan.rates) (tree.list_of (nodes_of olds)) (arrived s.plan.net.sources inputs before.held) (kepts_of olds) s.fired (tree.list_of (nodes_of now)) s.held (kepts_of now)
 
 -- It has come so far, and the next child may be asked for. The children have their names, and the allowance was lowered by each of their firings.
 pub record At (before : State) (olds : List Shown) (tag : Tag) (inputs : Streams Token) (allowance : ℕ) (core : State) (now : List Shown) (left : ℕ) : Type 0 where

@@ -18,6 +18,7 @@ use Rattle.pt_firing.specs.declared.fault.RunFault.{RunFault}
 use Rattle.pt_firing.specs.declared.fault.RunFault.TheVariants.{Rate}
 use Rattle.pt_firing.specs.RunFault.{code_of}
 use Rattle.pt_records.specs.Kept.{Kept, Entry, kept_by}
+use Rattle.pt_records.specs.Made.{AreMade, AreMadeBefore, AreMadeWithin, AllMade, AllMadeBefore}
 use Rattle.pt_records.specs.Fired.{FiresTo, SticksAt, LeavesOff}
 use Rattle.pt_records.specs.Shut.{IsShut}
 use Rattle.pt_sdf.specs.State.{Stage, Idle, lent_in, is_wrong, after_told, closed, owed, own_of}
@@ -62,12 +63,12 @@ fired tag (tree.Composite h c d kids) = tree.Composite (tree.fired_at tag h) c d
 abbrev pub IsStuck : Meets → Tree → Tag → Streams Token → Outline → Place → Kept Token → Kept Token → Type 0
 IsStuck m n tag X o place old new = (p : Path) × (text_at o p ≡ Some place.path) × IsStuckIn m n tag X (fault_of p place) old new
 
--- A firing of a node that isn't recorded yet, under any meetings: it is done, or stuck at the place that is told, or it was left off.
+-- A firing of a node that isn't recorded yet, under the meetings that were recorded: it is done, or stuck at the place that is told, or it was left off.
 abbrev pub WithinTo : Shown → Tag → Streams Token → Within → Shown → Type 0
-WithinTo old tag X (Done out) new = (m : Meets) → FiresTo (outcome m (node_of old) tag X) (fired tag (node_of new)) out (kept_of old) (kept_of new)
-WithinTo old tag X (Fault place) new = (m : Meets) → IsStuck m (node_of old) tag X (outline_of old) place (kept_of old) (kept_of new)
-WithinTo old tag X Spent new = (m : Meets) → IsLeftOff m (node_of old) tag X (kept_of old) (kept_of new)
-WithinTo old tag X Memory new = (m : Meets) → IsLeftOff m (node_of old) tag X (kept_of old) (kept_of new)
+WithinTo old tag X (Done out) new = (m : Meets) → AreMadeWithin m (kept_of new) → FiresTo (outcome m (node_of old) tag X) (fired tag (node_of new)) out (kept_of old) (kept_of new)
+WithinTo old tag X (Fault place) new = (m : Meets) → AreMade m (kept_of new) → IsStuck m (node_of old) tag X (outline_of old) place (kept_of old) (kept_of new)
+WithinTo old tag X Spent new = (m : Meets) → AreMade m (kept_of new) → IsLeftOff m (node_of old) tag X (kept_of old) (kept_of new)
+WithinTo old tag X Memory new = (m : Meets) → AreMade m (kept_of new) → IsLeftOff m (node_of old) tag X (kept_of old) (kept_of new)
 
 -- the allowance is spent where that is told
 abbrev pub SpendsAll : Within → ℕ → Type 0
@@ -91,12 +92,12 @@ StaysFit old Memory new = Unit {0}
 abbrev pub sdf_node : tree.Past → State → AllShown → Tree
 sdf_node h s ks = tree.Composite h (tree.Sdf s.plan s.first) (tree.Sdf s.plan s.held) (nodes_of ks)
 
--- The same of the core and the children of an SDF composite, whatever its past and what is kept at its own path.
+-- The same of the core and the children of an SDF composite, whatever its past and what is kept at its own path. Meetings are those of the children.
 abbrev pub SdfTo : State → AllShown → Tag → Streams Token → Within → State → AllShown → Type 0
-SdfTo s ks tag X (Done out) s' ks' = (m : Meets) (h : tree.Past) (e : Entry Token) → FiresTo (outcome m (sdf_node h s ks) tag X) (sdf_node (tree.fired_at tag h) s' ks') out (kept_by e (kepts_of ks)) (kept_by e (kepts_of ks'))
-SdfTo s ks tag X (Fault place) s' ks' = (m : Meets) (h : tree.Past) (e : Entry Token) (text : List ℕ) (hs : List Heading) → IsStuck m (sdf_node h s ks) tag X (view.Named text hs (outlines_of ks)) place (kept_by e (kepts_of ks)) (kept_by e (kepts_of ks'))
-SdfTo s ks tag X Spent s' ks' = (m : Meets) (h : tree.Past) (e : Entry Token) → IsLeftOff m (sdf_node h s ks) tag X (kept_by e (kepts_of ks)) (kept_by e (kepts_of ks'))
-SdfTo s ks tag X Memory s' ks' = (m : Meets) (h : tree.Past) (e : Entry Token) → IsLeftOff m (sdf_node h s ks) tag X (kept_by e (kepts_of ks)) (kept_by e (kepts_of ks'))
+SdfTo s ks tag X (Done out) s' ks' = (m : Meets) → AllMadeBefore m (kepts_of ks') → (h : tree.Past) (e : Entry Token) → FiresTo (outcome m (sdf_node h s ks) tag X) (sdf_node (tree.fired_at tag h) s' ks') out (kept_by e (kepts_of ks)) (kept_by e (kepts_of ks'))
+SdfTo s ks tag X (Fault place) s' ks' = (m : Meets) → AllMade m (kepts_of ks') → (h : tree.Past) (e : Entry Token) (text : List ℕ) (hs : List Heading) → IsStuck m (sdf_node h s ks) tag X (view.Named text hs (outlines_of ks)) place (kept_by e (kepts_of ks)) (kept_by e (kepts_of ks'))
+SdfTo s ks tag X Spent s' ks' = (m : Meets) → AllMade m (kepts_of ks') → (h : tree.Past) (e : Entry Token) → IsLeftOff m (sdf_node h s ks) tag X (kept_by e (kepts_of ks)) (kept_by e (kepts_of ks'))
+SdfTo s ks tag X Memory s' ks' = (m : Meets) → AllMade m (kepts_of ks') → (h : tree.Past) (e : Entry Token) → IsLeftOff m (sdf_node h s ks) tag X (kept_by e (kepts_of ks)) (kept_by e (kepts_of ks'))
 
 -- the core and the children fit after it
 abbrev pub SdfStaysFit : State → AllShown → Within → State → AllShown → Type 0
@@ -110,7 +111,7 @@ pub record ChildFired (s : State) (child : Shown) (i : ℕ) (tag : Tag) (s' : St
   pub out : Streams Token
   pub rated : has_rates (get_or s.plan.rates i []) out ≡ true
   pub told : s' ≡ after_told i out s
-  pub fires : (m : Meets) → FiresTo (λ k. Step k rows m (node_of child) tag (lent_in s.stage)) (node_of after) out (kept_of child) (kept_of after)
+  pub fires : (m : Meets) → AreMadeBefore m (kept_of after) → FiresTo (λ k. Step k rows m (node_of child) tag (lent_in s.stage)) (node_of after) out (kept_of child) (kept_of after)
   pub fit : IsFit after
   pub steady : StaysSteady child after
 
@@ -119,7 +120,7 @@ pub record ChildUnrated (s : State) (child : Shown) (i : ℕ) (tag : Tag) (place
   pub next : Tree
   pub out : Streams Token
   pub unrated : has_rates (get_or s.plan.rates i []) out ≡ false
-  pub fires : (m : Meets) → FiresTo (outcome m (node_of child) tag (lent_in s.stage)) next out (kept_of child) (kept_of after)
+  pub fires : (m : Meets) → AreMadeWithin m (kept_of after) → FiresTo (outcome m (node_of child) tag (lent_in s.stage)) next out (kept_of child) (kept_of after)
   pub path : text_at (outline_of child) [] ≡ Some place.path
   pub firing : place.firing ≡ tree.made_of (node_of child)
   pub kind : place.kind ≡ Rate
@@ -127,9 +128,9 @@ pub record ChildUnrated (s : State) (child : Shown) (i : ℕ) (tag : Tag) (place
 -- what a turn of child i comes to
 abbrev pub TurnTo : State → Shown → ℕ → Tag → Turn → State → Shown → Type 0
 TurnTo s child i tag turn.Done s' after = ChildFired s child i tag s' after
-TurnTo s child i tag (turn.Fault place) s' after = ((m : Meets) → IsStuck m (node_of child) tag (lent_in s.stage) (outline_of child) place (kept_of child) (kept_of after)) ⊎ ChildUnrated s child i tag place after
-TurnTo s child i tag turn.Spent s' after = (m : Meets) → IsLeftOff m (node_of child) tag (lent_in s.stage) (kept_of child) (kept_of after)
-TurnTo s child i tag turn.Memory s' after = (m : Meets) → IsLeftOff m (node_of child) tag (lent_in s.stage) (kept_of child) (kept_of after)
+TurnTo s child i tag (turn.Fault place) s' after = ((m : Meets) → AreMade m (kept_of after) → IsStuck m (node_of child) tag (lent_in s.stage) (outline_of child) place (kept_of child) (kept_of after)) ⊎ ChildUnrated s child i tag place after
+TurnTo s child i tag turn.Spent s' after = (m : Meets) → AreMade m (kept_of after) → IsLeftOff m (node_of child) tag (lent_in s.stage) (kept_of child) (kept_of after)
+TurnTo s child i tag turn.Memory s' after = (m : Meets) → AreMade m (kept_of after) → IsLeftOff m (node_of child) tag (lent_in s.stage) (kept_of child) (kept_of after)
 
 -- a turn that goes on spends some of the allowance, and one that is told to have spent it spends all
 abbrev pub TurnSpends : Turn → ℕ → ℕ → Type 0
@@ -138,13 +139,13 @@ TurnSpends (turn.Fault place) left left' = Unit {0}
 TurnSpends turn.Spent left left' = left' ≡ 0
 TurnSpends turn.Memory left left' = Unit {0}
 
--- What a call answers: the step is done with the node's own record, or stuck at the place, or it was left off.
+-- What a call answers, under the meetings that were recorded: the step is done with the node's own record, or stuck at the place, or it was left off.
 abbrev pub AnswersTo : Shown → Tag → Streams Token → (allowance : ℕ) → Answer → Shown → Type 0
-AnswersTo old tag X allowance (answer.Done out) new = ((m : Meets) → FiresTo (λ k. Step k rows m (node_of old) tag X) (node_of new) out (kept_of old) (kept_of new)) × IsLive new
-AnswersTo old tag X allowance (answer.Fault place) new = (m : Meets) → (p : Path) × (text_at (outline_of old) p ≡ Some place.path) × SticksAt (λ k. Step k rows m (node_of old) tag X) (IsShut rows m (node_of old) tag X (Some (fault_of p place))) (fault_of p place) (kept_of old) (kept_of new)
-AnswersTo old tag X allowance (answer.Spent count) new = (count_of new ≡ count_of old + count) × (allowance ≤ count) × ((m : Meets) → LeavesOff (λ k. Step k rows m (node_of old) tag X) (IsShut rows m (node_of old) tag X None) (kept_of old) (kept_of new))
+AnswersTo old tag X allowance (answer.Done out) new = ((m : Meets) → AreMadeBefore m (kept_of new) → FiresTo (λ k. Step k rows m (node_of old) tag X) (node_of new) out (kept_of old) (kept_of new)) × IsLive new
+AnswersTo old tag X allowance (answer.Fault place) new = (m : Meets) → AreMade m (kept_of new) → (p : Path) × (text_at (outline_of old) p ≡ Some place.path) × SticksAt (λ k. Step k rows m (node_of old) tag X) (IsShut rows m (node_of old) tag X (Some (fault_of p place))) (fault_of p place) (kept_of old) (kept_of new)
+AnswersTo old tag X allowance (answer.Spent count) new = (count_of new ≡ count_of old + count) × (allowance ≤ count) × ((m : Meets) → AreMade m (kept_of new) → LeavesOff (λ k. Step k rows m (node_of old) tag X) (IsShut rows m (node_of old) tag X None) (kept_of old) (kept_of new))
 AnswersTo old tag X allowance (answer.Full blocked) new = ⊥
-AnswersTo old tag X allowance answer.Memory new = (m : Meets) → LeavesOff (λ k. Step k rows m (node_of old) tag X) (IsShut rows m (node_of old) tag X None) (kept_of old) (kept_of new)
+AnswersTo old tag X allowance answer.Memory new = (m : Meets) → AreMade m (kept_of new) → LeavesOff (λ k. Step k rows m (node_of old) tag X) (IsShut rows m (node_of old) tag X None) (kept_of old) (kept_of new)
 
 -- the firing of that number is told stuck at the path, or there was no memory for it
 abbrev pub IsFaultAt : List ℕ → ℕ → RunFault → Within → Type 0

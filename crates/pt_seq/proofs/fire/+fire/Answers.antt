@@ -52,7 +52,7 @@ fire_child-returns-then-several-clause-goes t c =
     (subst (λ v. TellTo c.args.core.now (shown_node c.several.new.node) c.args.number c.args.tag (map Int v ∷ []) c.tell_numbers-then-several.result c.tell_numbers-then-several.new.core (shown_node c.tell_numbers-then-several.new.child)) c.deref.ensures.value c.tell_numbers-then-several.ensures.goes))
 
 pub fire_sdf-returns-then-is_err-clause-goes : goal.fire_sdf-returns-then-is_err-clause-goes
-fire_sdf-returns-then-is_err-clause-goes t c = λ m h e. off-none m _ _ _ _
+fire_sdf-returns-then-is_err-clause-goes t c = λ m made h e. off-none m _ _ _ _
 
 pub fire_sdf-loop-number-init : goal.fire_sdf-loop-number-init
 fire_sdf-loop-number-init t c =
