@@ -3,11 +3,12 @@ use Rattle.std.proofs.Common.{◌≡◌, ℕ, zero, suc, ◌<◌, ◌≤◌, max
 use Rattle.std.proofs.lemmas.Bool.Decides.{nat_tests}
 use Rattle.pt_meaning.specs.Basics.{Tag, Streams, IsPrefix, Path, Event, Finished, Met, Log, LogBelow, silent, log_then, firings_in}
 use Rattle.pt_meaning.specs.Tag.{origin}
+use Rattle.pt_meaning.specs.Log.{meetings_in}
 use Rattle.pt_meaning.specs.Machine.{Fault, Outcome, Done, Stuck}
 use Rattle.pt_meaning.specs.Meetings.{Meets}
 use Rattle.pt_meaning.specs.Tree as tree
 use Rattle.pt_meaning.specs.Tree.{Rows, Node}
-use Rattle.pt_meaning.specs.Step.{step_at, Step, no_meetings}
+use Rattle.pt_meaning.specs.Step.{step_at, Step}
 use Rattle.pt_meaning.specs.Job as job
 use Rattle.pt_meaning.specs.Job.{End, Turn, Fire, Schedule, Course, Standing, Goes, Halted, on_step, on_turn, after, log_of, begin, meaning, IsPrefixOfMeaning, IsMeaning, EndsBy, IsStuckPlace}
 use Rattle.pt_meaning.specs.Schedule.{portions, suffice, if_more, sdf_top}
@@ -19,10 +20,12 @@ use Rattle.pt_laws.proofs.FiringLaws.{done-within}
 use Rattle.pt_value.specs.declared.token.Token.{Token}
 use Rattle.pt_firing.specs.declared.answer.Answer.TheVariants as answer
 use Rattle.pt_records.specs.Kept.{GrewBy}
+use Rattle.pt_records.specs.Made.{made_if, meets_of, AreMade, AreMadeBefore}
 use Rattle.pt_records.specs.Fired.{FromSome, FiresTo, SticksAt, LeavesOff}
 use Rattle.pt_records.specs.Shut.{IsShut, IsReached}
 use Rattle.pt_records.proofs.RunShutLaws.{runs-are-shut}
 use Rattle.pt_records.proofs.GrowthLaws.{grew-none, grew-joined}
+use Rattle.pt_records.proofs.MadeLaws.{grew-met, made-back}
 use Rattle.pt_records.proofs.SoFarLaws.{recorded-done}
 use Rattle.pt_node.specs.declared.body.Body.{Body}
 use Rattle.pt_node.specs.declared.body.Body.TheVariants as body
@@ -34,6 +37,7 @@ use Rattle.pt_node.specs.View as view
 use Rattle.pt_node.specs.View.{node_of, nodes_of, node_with, kept_of, outline_of}
 use Rattle.pt_node.specs.Live as live
 use Rattle.pt_node.specs.Live.{IsLive}
+use Rattle.pt_node.proofs.UnmetLaws.{node-unmet}
 use Rattle.pt_library.proofs.RowLaws.{rows_lawful}
 use Rattle.pt_seq.specs.Within.{AnswersTo}
 use Rattle.pt_trees.specs.Ports.{recorded_ports, ports_of, traces_of}
@@ -110,7 +114,7 @@ abbrev pub last_tag : ℕ → Option Tag
 last_tag zero = None
 last_tag (suc n) = Some origin
 
-module _ (iterations : ℕ) (takes : List ℕ) (inputs : Streams Token) (top : Shown) where
+module _ (m : Meets) (iterations : ℕ) (takes : List ℕ) (inputs : Streams Token) (top : Shown) where
   abbrev pub plan : Schedule Token LibraryActor
   plan = sdf_top iterations takes inputs
 
@@ -126,7 +130,7 @@ module _ (iterations : ℕ) (takes : List ℕ) (inputs : Streams Token) (top : S
     pub outline : outline_of now ≡ outline_of top
     pub takes_are : takes_of (node_of now) ≡ Some takes
     pub log : Log Token
-    pub goes : FromSome (λ k. after k rows no_meetings plan n (begin first) ≡ Goes (course_at n now log))
+    pub goes : FromSome (λ k. after k rows m plan n (begin first) ≡ Goes (course_at n now log))
     pub kept : GrewBy log (kept_of top) (kept_of now)
 
   pub at-start : IsRunnable takes top → Reached 0 top
@@ -138,21 +142,22 @@ module _ (iterations : ℕ) (takes : List ℕ) (inputs : Streams Token) (top : S
 
   -- the next turn of the top, which fires
   turned : (n : ℕ) (now : Shown) (r : Reached n now) → n < iterations → suffice n takes inputs ≡ true → (k : ℕ) → r.goes.0 ≤ k →
-      after k rows no_meetings plan (suc n) (begin first) ≡ on_step (course_at n now r.log) origin (Step k rows no_meetings (node_of now) origin (portions n takes inputs))
+      after k rows m plan (suc n) (begin first) ≡ on_step (course_at n now r.log) origin (Step k rows m (node_of now) origin (portions n takes inputs))
   turned n now r l s k o =
-      after-more k rows no_meetings plan n (begin first) (course_at n now r.log) (r.goes.1 k o) ∙
-      ap (λ t. on_turn k rows no_meetings (course_at n now r.log) t) (fires-next n l s (last_tag n) (node_of now))
+      after-more k rows m plan n (begin first) (course_at n now r.log) (r.goes.1 k o) ∙
+      ap (λ t. on_turn k rows m (course_at n now r.log) t) (fires-next n l s (last_tag n) (node_of now))
 
   -- one firing more
-  pub one-more : (n : ℕ) (now : Shown) → Reached n now → n < iterations → suffice n takes inputs ≡ true → (X : Streams Token) → X ≡ portions n takes inputs → (out : Streams Token) (allowance : ℕ) (new : Shown) →
-      AnswersTo now origin X allowance (answer.Done out) new → outline_of new ≡ outline_of now → Reached (suc n) new
-  one-more n now r l s X e out allowance new a o =
-      let P : Streams Token → Type 0 = λ Y. FiresTo (λ k. Step k rows no_meetings (node_of now) origin Y) (node_of new) out (kept_of now) (kept_of new) in
-      let f : P (portions n takes inputs) = subst P e (a.0 no_meetings) in
+  pub one-more : (n : ℕ) (now : Shown) → (AreMadeBefore m (kept_of now) → Reached n now) → n < iterations → suffice n takes inputs ≡ true → (X : Streams Token) → X ≡ portions n takes inputs → (out : Streams Token) (allowance : ℕ) (new : Shown) →
+      AnswersTo now origin X allowance (answer.Done out) new → outline_of new ≡ outline_of now → AreMadeBefore m (kept_of new) → Reached (suc n) new
+  one-more n now before l s X e out allowance new a o made =
+      let P : Streams Token → Type 0 = λ Y. FiresTo (λ k. Step k rows m (node_of now) origin Y) (node_of new) out (kept_of now) (kept_of new) in
+      let f : P (portions n takes inputs) = subst P e (a.0 m made) in
+      let r = before (made-back m f.log (kept_of now) (kept_of new) f.kept made) in
       record {
         live = a.1;
         outline = o ∙ r.outline;
-        takes_are = takes-step rows f.done.0 no_meetings (node_of now) (node_of new) origin (portions n takes inputs) out f.log takes r.takes_are (f.done.1 f.done.0 (omega arith));
+        takes_are = takes-step rows f.done.0 m (node_of now) (node_of new) origin (portions n takes inputs) out f.log takes r.takes_are (f.done.1 f.done.0 (omega arith));
         log = log_then r.log f.log;
         goes = (max r.goes.0 f.done.0, λ k q. turned n now r l s k (omega (arith, q)) ∙ ap (λ v. on_step (course_at n now r.log) origin v) (f.done.1 k (omega (arith, q))));
         kept = grew-joined r.log f.log (kept_of top) (kept_of now) (kept_of new) r.kept f.kept;
@@ -163,43 +168,47 @@ module _ (iterations : ℕ) (takes : List ℕ) (inputs : Streams Token) (top : S
   -- what each end of a run owes: a log that is a beginning of the meaning's and is closed, by which what is kept went on, and the cause of the end
   pub record IsLogOf (budget : ℕ) (new : Shown) (e : Ending) : Type 0 where
     pub log : Log Token
-    pub prefix : IsPrefixOfMeaning rows no_meetings plan first log
+    pub prefix : IsPrefixOfMeaning rows m plan first log
     pub under_way : UnderWay Token
-    pub shut : (k : ℕ) → LogBelow log (meaning k rows no_meetings plan first) → IsClosedRun rows no_meetings plan first (meaning k rows no_meetings plan first) log under_way
+    pub shut : (k : ℕ) → LogBelow log (meaning k rows m plan first) → IsClosedRun rows m plan first (meaning k rows m plan first) log under_way
     pub kept : GrewBy log (kept_of top) (kept_of new)
-    pub caused : IsCaused rows no_meetings plan first budget no_queues log under_way e
+    pub caused : IsCaused rows m plan first budget no_queues log under_way e
 
-  pub reported : IsRunnable takes top → (budget : ℕ) (new : Shown) (e : Ending) → outline_of new ≡ outline_of top → IsLogOf budget new e → (count : ℕ) →
-      IsReportOf rows no_meetings plan first (ports_of (recorded_ports count top)) budget no_queues (counts_of new) (traces_of (recorded_ports count new)) e
+  pub reported : IsRunnable takes top → (budget : ℕ) (new : Shown) (e : Ending) → outline_of new ≡ outline_of top → IsLogOf budget new e → ((p : Path) (n : ℕ) → m p n ≡ meets_of (kept_of new) p n) → (count : ℕ) →
+      IsReportOf rows m plan first (ports_of (recorded_ports count top)) budget no_queues (counts_of new) (traces_of (recorded_ports count new)) e
   unfolding after
-  reported run budget new e o l count = record {
+  reported run budget new e o l those count = record {
     log = l.log;
     counted = λ p. omega (arith, (l.kept p).count, none-at top run.leaves run.start p);
-    legal = λ p n. (0, refl);
-    met = λ p n. sym (no-meetings n (l.log p) (finished-before (l.log p) (meaning l.prefix.0 rows no_meetings plan first p) (l.prefix.1 p) (meaning-unmet rows no_meetings plan first (sdf-node top) l.prefix.0 p)));
+    legal = λ p n. (0, sym (met p n ∙ no-meetings n (l.log p) (finished-before (l.log p) (meaning l.prefix.0 rows m plan first p) (l.prefix.1 p) (meaning-unmet rows m plan first (sdf-node top) l.prefix.0 p))));
+    met = met;
     prefix = l.prefix;
     under_way = l.under_way;
     shut = l.shut;
     told = traces-are l.log count top new run.unrecorded o l.kept;
     caused = l.caused;
   }
+    where
+      -- what the tree has recorded of meetings is what the log tells of them
+      met : (p : Path) (n : ℕ) → m p n ≡ meetings_in n (l.log p)
+      met p n = those p n ∙ sym (grew-met l.log (kept_of top) (kept_of new) l.kept p n (ap (λ v. made_if n v) (node-unmet top p)))
 
-  reached : IsRunnable takes top → (n : ℕ) (now : Shown) (r : Reached n now) → IsReached rows no_meetings plan first n (course_at n now r.log)
+  reached : IsRunnable takes top → (n : ℕ) (now : Shown) (r : Reached n now) → IsReached rows m plan first n (course_at n now r.log)
   reached run n now r = record { fitting = run.fitting; planned = run.planned; start = run.start; goes = r.goes }
 
   -- whole firings are a beginning of the meaning's log
-  whole-below : (n : ℕ) (now : Shown) (r : Reached n now) → (k : ℕ) → r.goes.0 ≤ k → n ≤ k → LogBelow r.log (meaning k rows no_meetings plan first)
-  whole-below n now r k o l = λ p. subst (λ (s : Standing Token LibraryActor). IsPrefix (log_of s p) (meaning k rows no_meetings plan first p)) (r.goes.1 k o) (after-below rows rows_lawful no_meetings plan first k n l p)
+  whole-below : (n : ℕ) (now : Shown) (r : Reached n now) → (k : ℕ) → r.goes.0 ≤ k → n ≤ k → LogBelow r.log (meaning k rows m plan first)
+  whole-below n now r k o l = λ p. subst (λ (s : Standing Token LibraryActor). IsPrefix (log_of s p) (meaning k rows m plan first p)) (r.goes.1 k o) (after-below rows rows_lawful m plan first k n l p)
 
-  whole-shut : IsRunnable takes top → (n : ℕ) (now : Shown) (r : Reached n now) → (way : UnderWay Token) × ((k : ℕ) → LogBelow r.log (meaning k rows no_meetings plan first) → IsClosedRun rows no_meetings plan first (meaning k rows no_meetings plan first) r.log way)
-  whole-shut run n now r = (runs-are-shut {T = Token} {A = LibraryActor}).between rows rows_lawful no_meetings plan first n (course_at n now r.log) (reached run n now r)
+  whole-shut : IsRunnable takes top → (n : ℕ) (now : Shown) (r : Reached n now) → (way : UnderWay Token) × ((k : ℕ) → LogBelow r.log (meaning k rows m plan first) → IsClosedRun rows m plan first (meaning k rows m plan first) r.log way)
+  whole-shut run n now r = (runs-are-shut {T = Token} {A = LibraryActor}).between rows rows_lawful m plan first n (course_at n now r.log) (reached run n now r)
 
   -- a defined end
   module _ (run : IsRunnable takes top) (n : ℕ) (now : Shown) (r : Reached n now) (e : End) (turn : plan n (last_tag n) (node_of now) ≡ job.Ends e) (budget : ℕ) (few : view.count_of now < budget) where
-    ends-at : (k : ℕ) → max r.goes.0 (suc n) ≤ k → after k rows no_meetings plan k (begin first) ≡ job.Ended e (course_at n now r.log)
+    ends-at : (k : ℕ) → max r.goes.0 (suc n) ≤ k → after k rows m plan k (begin first) ≡ job.Ended e (course_at n now r.log)
     ends-at k o =
-        ended-at rows no_meetings plan first k (suc n) (course_at n now r.log) e (omega (arith, o))
-        (after-more k rows no_meetings plan n (begin first) (course_at n now r.log) (r.goes.1 k (omega (arith, o))) ∙ ap (λ t. on_turn k rows no_meetings (course_at n now r.log) t) turn)
+        ended-at rows m plan first k (suc n) (course_at n now r.log) e (omega (arith, o))
+        (after-more k rows m plan n (begin first) (course_at n now r.log) (r.goes.1 k (omega (arith, o))) ∙ ap (λ t. on_turn k rows m (course_at n now r.log) t) turn)
 
     pub defined-end : IsLogOf budget now (Defined e)
     defined-end =
@@ -242,19 +251,19 @@ module _ (iterations : ℕ) (takes : List ℕ) (inputs : Streams Token) (top : S
 
   -- the run was left off within a firing, with a part of its log
   module _ (run : IsRunnable takes top) (n : ℕ) (now : Shown) (r : Reached n now) (l : n < iterations) (s : suffice n takes inputs ≡ true) (place : Option Fault) (log : Log Token)
-      (part : IsShut rows no_meetings (node_of now) origin (portions n takes inputs) place log) (beginning : FromSome (λ k. LogBelow log (log_in (Step k rows no_meetings (node_of now) origin (portions n takes inputs))))) where
-    pub within-below : (k : ℕ) → max (max r.goes.0 beginning.0) (suc n) ≤ k → LogBelow (log_then r.log log) (meaning k rows no_meetings plan first)
+      (part : IsShut rows m (node_of now) origin (portions n takes inputs) place log) (beginning : FromSome (λ k. LogBelow log (log_in (Step k rows m (node_of now) origin (portions n takes inputs))))) where
+    pub within-below : (k : ℕ) → max (max r.goes.0 beginning.0) (suc n) ≤ k → LogBelow (log_then r.log log) (meaning k rows m plan first)
     within-below k o p =
-        let step = Step k rows no_meetings (node_of now) origin (portions n takes inputs) in
-        let is : log_of (after k rows no_meetings plan (suc n) (begin first)) ≡ log_then r.log (log_in step) = ap (λ s. log_of s) (turned n now r l s k (omega (arith, o))) ∙ log-on-step (course_at n now r.log) origin step in
-        IsPrefix-trans (r.log p ++ log p) (r.log p ++ log_in step p) (meaning k rows no_meetings plan first p)
+        let step = Step k rows m (node_of now) origin (portions n takes inputs) in
+        let is : log_of (after k rows m plan (suc n) (begin first)) ≡ log_then r.log (log_in step) = ap (λ s. log_of s) (turned n now r l s k (omega (arith, o))) ∙ log-on-step (course_at n now r.log) origin step in
+        IsPrefix-trans (r.log p ++ log p) (r.log p ++ log_in step p) (meaning k rows m plan first p)
         (IsPrefix-after (r.log p) (log p) (log_in step p) (beginning.1 k (omega (arith, o)) p))
-        (subst (λ (v : Log Token). IsPrefix (v p) (meaning k rows no_meetings plan first p)) is (after-below rows rows_lawful no_meetings plan first k (suc n) (omega (arith, o)) p))
+        (subst (λ (v : Log Token). IsPrefix (v p) (meaning k rows m plan first p)) is (after-below rows rows_lawful m plan first k (suc n) (omega (arith, o)) p))
 
-    pub within-shut : (way : UnderWay Token) × ((k : ℕ) → LogBelow (log_then r.log log) (meaning k rows no_meetings plan first) → IsClosedRun rows no_meetings plan first (meaning k rows no_meetings plan first) (log_then r.log log) way) × ((f : Fault) → place ≡ Some f → IsUpTo (log_then r.log log) way f)
-    within-shut = (runs-are-shut {T = Token} {A = LibraryActor}).within rows rows_lawful no_meetings plan first n (course_at n now r.log) (reached run n now r) origin (portions n takes inputs) (fires-next n l s (last_tag n) (node_of now)) place log part beginning
+    pub within-shut : (way : UnderWay Token) × ((k : ℕ) → LogBelow (log_then r.log log) (meaning k rows m plan first) → IsClosedRun rows m plan first (meaning k rows m plan first) (log_then r.log log) way) × ((f : Fault) → place ≡ Some f → IsUpTo (log_then r.log log) way f)
+    within-shut = (runs-are-shut {T = Token} {A = LibraryActor}).within rows rows_lawful m plan first n (course_at n now r.log) (reached run n now r) origin (portions n takes inputs) (fires-next n l s (last_tag n) (node_of now)) place log part beginning
 
-    pub left-off : (budget : ℕ) (new : Shown) (e : Ending) → GrewBy log (kept_of now) (kept_of new) → IsCaused rows no_meetings plan first budget no_queues (log_then r.log log) within-shut.0 e → IsLogOf budget new e
+    pub left-off : (budget : ℕ) (new : Shown) (e : Ending) → GrewBy log (kept_of now) (kept_of new) → IsCaused rows m plan first budget no_queues (log_then r.log log) within-shut.0 e → IsLogOf budget new e
     left-off budget new e k c = record {
       log = log_then r.log log;
       prefix = (max (max r.goes.0 beginning.0) (suc n), within-below (max (max r.goes.0 beginning.0) (suc n)) (omega arith));
@@ -266,22 +275,22 @@ module _ (iterations : ℕ) (takes : List ℕ) (inputs : Streams Token) (top : S
 
   -- the budget is spent within a firing
   pub spent-within : IsRunnable takes top → (n : ℕ) (now : Shown) → Reached n now → n < iterations → suffice n takes inputs ≡ true → (X : Streams Token) → X ≡ portions n takes inputs → (budget count : ℕ) (new : Shown) → outline_of new ≡ outline_of now →
-      LeavesOff (λ k. Step k rows no_meetings (node_of now) origin X) (IsShut rows no_meetings (node_of now) origin X None) (kept_of now) (kept_of new) → count ≡ view.count_of new → budget ≤ count → IsLogOf budget new (Spent count)
+      LeavesOff (λ k. Step k rows m (node_of now) origin X) (IsShut rows m (node_of now) origin X None) (kept_of now) (kept_of new) → count ≡ view.count_of new → budget ≤ count → IsLogOf budget new (Spent count)
   spent-within run n now r l s X e budget count new o a c b =
-      let f : LeavesOff (λ k. Step k rows no_meetings (node_of now) origin (portions n takes inputs)) (IsShut rows no_meetings (node_of now) origin (portions n takes inputs) None) (kept_of now) (kept_of new) =
-      subst (λ Y. LeavesOff (λ k. Step k rows no_meetings (node_of now) origin Y) (IsShut rows no_meetings (node_of now) origin Y None) (kept_of now) (kept_of new)) e a in
+      let f : LeavesOff (λ k. Step k rows m (node_of now) origin (portions n takes inputs)) (IsShut rows m (node_of now) origin (portions n takes inputs) None) (kept_of now) (kept_of new) =
+      subst (λ Y. LeavesOff (λ k. Step k rows m (node_of now) origin Y) (IsShut rows m (node_of now) origin Y None) (kept_of now) (kept_of new)) e a in
       let kept : GrewBy (log_then r.log f.log) (kept_of top) (kept_of new) = grew-joined r.log f.log (kept_of top) (kept_of now) (kept_of new) r.kept f.kept in
       left-off run n now r l s None f.log f.part f.beginning budget new (Spent count) f.kept (c ∙ count-is top new (log_then r.log f.log) run.leaves run.start (o ∙ r.outline) kept, b)
 
   -- a firing is stuck
   pub stuck-within : IsRunnable takes top → (n : ℕ) (now : Shown) → Reached n now → n < iterations → suffice n takes inputs ≡ true → (X : Streams Token) → X ≡ portions n takes inputs → (budget : ℕ) (new : Shown) (f : Fault) →
-      SticksAt (λ k. Step k rows no_meetings (node_of now) origin X) (IsShut rows no_meetings (node_of now) origin X (Some f)) f (kept_of now) (kept_of new) → IsLogOf budget new (Faulty f)
+      SticksAt (λ k. Step k rows m (node_of now) origin X) (IsShut rows m (node_of now) origin X (Some f)) f (kept_of now) (kept_of new) → IsLogOf budget new (Faulty f)
   stuck-within run n now r l s X e budget new f a =
-      let P : Streams Token → Type 0 = λ Y. SticksAt (λ k. Step k rows no_meetings (node_of now) origin Y) (IsShut rows no_meetings (node_of now) origin Y (Some f)) f (kept_of now) (kept_of new) in
+      let P : Streams Token → Type 0 = λ Y. SticksAt (λ k. Step k rows m (node_of now) origin Y) (IsShut rows m (node_of now) origin Y (Some f)) f (kept_of now) (kept_of new) in
       let g : P (portions n takes inputs) = subst P e a in
       let k₁ : ℕ = max (max r.goes.0 g.stuck.0) (suc n) in
       let there = g.stuck.1 k₁ (omega arith) in
-      let halts : after k₁ rows no_meetings plan (suc n) (begin first) ≡ Halted there.0 (log_then r.log there.1) = turned n now r l s k₁ (omega arith) ∙ ap (λ v. on_step (course_at n now r.log) origin v) there.2 in
-      let begins : FromSome (λ k. LogBelow g.log (log_in (Step k rows no_meetings (node_of now) origin (portions n takes inputs)))) = (g.stuck.0, λ k o. let at = g.stuck.1 k o in subst (λ v. LogBelow g.log (log_in v)) (sym at.2) at.4) in
+      let halts : after k₁ rows m plan (suc n) (begin first) ≡ Halted there.0 (log_then r.log there.1) = turned n now r l s k₁ (omega arith) ∙ ap (λ v. on_step (course_at n now r.log) origin v) there.2 in
+      let begins : FromSome (λ k. LogBelow g.log (log_in (Step k rows m (node_of now) origin (portions n takes inputs)))) = (g.stuck.0, λ k o. let at = g.stuck.1 k o in subst (λ v. LogBelow g.log (log_in v)) (sym at.2) at.4) in
       left-off run n now r l s (Some f) g.log g.part begins budget new (Faulty f) g.kept
-      ((k₁, there.0, log_then r.log there.1, halted-at rows no_meetings plan first k₁ (suc n) there.0 (log_then r.log there.1) (omega arith) halts, there.3), (within-shut run n now r l s (Some f) g.log g.part begins).2 f refl)
+      ((k₁, there.0, log_then r.log there.1, halted-at rows m plan first k₁ (suc n) there.0 (log_then r.log there.1) (omega arith) halts, there.3), (within-shut run n now r l s (Some f) g.log g.part begins).2 f refl)

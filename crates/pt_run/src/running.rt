@@ -1,6 +1,7 @@
 ghost use Rattle.std.specs.Prelude.{◌≡◌, ◌<◌, length, IfOk};
 ghost use Rattle.pt_node.specs.Shown.{shown_node};
-ghost use Rattle.pt_node.specs.View.{node_of, outline_of};
+ghost use Rattle.pt_records.specs.Made.{meets_of};
+ghost use Rattle.pt_node.specs.View.{node_of, kept_of, outline_of};
 ghost use Rattle.pt_trees.specs.Start.{IsRunnable};
 ghost use Rattle.pt_trees.specs.Run.{IsRun, IsAffordable, IsDefined};
 
@@ -20,7 +21,7 @@ pub fn run(alloc: Global, top: &mut Node, job: &SdfJob, budget: u64) -> Result<E
     requires runnable { IsRunnable job.now.takes (shown_node top.old) }
     requires lists { length job.now.inputs.items ≡ length job.now.takes }
     requires budget { 0 < budget }
-    ensures report { IfOk result (λ ended. IsRun job.now budget (shown_node top.old) (shown_node top.new) ended) }
+    ensures report { IfOk result (λ ended. IsRun (meets_of (kept_of (shown_node top.new))) job.now budget (shown_node top.old) (shown_node top.new) ended) }
     ensures complete { IsAffordable job.now budget (node_of (shown_node top.old)) → IfOk result IsDefined }
     ensures outline { outline_of (shown_node top.new) ≡ outline_of (shown_node top.old) }
 {

@@ -7,5 +7,7 @@ pub mod Recorded
 pub mod Built
 pub mod Ports
 pub mod Start
+pub mod Meetings
+pub mod MeetingsExample
 pub mod Run
 pub mod Report

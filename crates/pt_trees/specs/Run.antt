@@ -6,6 +6,7 @@ use Rattle.pt_meaning.specs.Job as job
 use Rattle.pt_meaning.specs.Job.{Schedule, IsStuckPlace, meaning}
 use Rattle.pt_meaning.specs.Schedule.{sdf_top}
 use Rattle.pt_meaning.specs.Headline.{Ending, Defined, Faulty, Spent, IsReportOf, count_in}
+use Rattle.pt_meaning.specs.Meetings.{Meets}
 use Rattle.pt_meaning.specs.Step.{no_meetings}
 use Rattle.pt_value.specs.declared.token.Token.{Token}
 use Rattle.pt_library.specs.declared.library_actor.LibraryActor.{LibraryActor}
@@ -30,16 +31,16 @@ no_queues p = 0
 abbrev pub counts_of : Shown → Path → ℕ
 counts_of s p = (kept_of s p).count
 
--- What the tree has recorded is the report of a run of the job from the tree as it was, with this ending, by the log of this very run: of each path it has as many firings as the tree has counted. Ports are those of the numbers below count, in order.
-abbrev pub Reports : SdfJob → (budget count : ℕ) → (old new : Shown) → Ending → Type 0
-Reports j budget count old new e = IsReportOf rows no_meetings (schedule j) (node_of old) (ports_of (recorded_ports count old)) budget no_queues (counts_of new) (traces_of (recorded_ports count new)) e
+-- What the tree has recorded is the report of a run of the job from the tree as it was, with this ending, under these meetings, by the log of this very run: of each path it has as many firings as the tree has counted. Ports are those of the numbers below count, in order.
+abbrev pub Reports : Meets → SdfJob → (budget count : ℕ) → (old new : Shown) → Ending → Type 0
+Reports m j budget count old new e = IsReportOf rows m (schedule j) (node_of old) (ports_of (recorded_ports count old)) budget no_queues (counts_of new) (traces_of (recorded_ports count new)) e
 
 -- the same by the end that is told; a fault is told by the text of a path
-abbrev pub IsRun : SdfJob → (budget : ℕ) → (old new : Shown) → Ended → Type 0
-IsRun j budget old new ended.Iterations = (count : ℕ) → Reports j budget count old new (Defined job.Iterations)
-IsRun j budget old new ended.Inputs = (count : ℕ) → Reports j budget count old new (Defined job.Inputs)
-IsRun j budget old new (ended.Fault place) = (p : Path) × (text_at (outline_of old) p ≡ Some place.path) × ((count : ℕ) → Reports j budget count old new (Faulty (fault_of p place)))
-IsRun j budget old new (ended.Spent firings) = (count : ℕ) → Reports j budget count old new (Spent firings)
+abbrev pub IsRun : Meets → SdfJob → (budget : ℕ) → (old new : Shown) → Ended → Type 0
+IsRun m j budget old new ended.Iterations = (count : ℕ) → Reports m j budget count old new (Defined job.Iterations)
+IsRun m j budget old new ended.Inputs = (count : ℕ) → Reports m j budget count old new (Defined job.Inputs)
+IsRun m j budget old new (ended.Fault place) = (p : Path) × (text_at (outline_of old) p ≡ Some place.path) × ((count : ℕ) → Reports m j budget count old new (Faulty (fault_of p place)))
+IsRun m j budget old new (ended.Spent firings) = (count : ℕ) → Reports m j budget count old new (Spent firings)
 
 -- a run ended as the definitions say
 abbrev pub IsDefined : Ended → Type 0
@@ -48,7 +49,7 @@ IsDefined ended.Inputs = Unit {0}
 IsDefined (ended.Fault place) = ⊥
 IsDefined (ended.Spent firings) = ⊥
 
--- The meaning has no stuck place, and stays below the budget at every fuel.
+-- The meaning has no stuck place, and stays below the budget at every fuel. The top has no Rendezvous within, and so no meetings.
 pub record IsAffordable (j : SdfJob) (budget : ℕ) (top : Tree) : Type 0 where
   pub never_stuck : (f : Fault) → IsStuckPlace rows no_meetings (schedule j) top f → ⊥
   pub within_budget : (k : ℕ) → count_in (meaning k rows no_meetings (schedule j) top) top < budget
