@@ -12,7 +12,6 @@ use Rattle.pt_meaning.specs.Running.{total}
 use Rattle.pt_meaning.specs.Sdf.{SdfPlan}
 use Rattle.pt_meaning.specs.Start.{first_of_node, first_of, first_held}
 use Rattle.pt_meaning.specs.Schedule.{portions, suffice, if_more, sdf_top}
-use Rattle.pt_meaning.specs.Step.{no_meetings}
 use Rattle.pt_meaning.specs.Job.{Fire}
 use Rattle.pt_meaning.specs.Tree.{list_of, nodes_of, Actor, Composite}
 use Rattle.pt_value.specs.declared.token.Token.{Token}
@@ -177,5 +176,5 @@ turns-typed sigs iterations takes inputs e a n last top tag X h =
     turn-of (sigs []).places (nat_lt n iterations) (suffice n takes inputs) _ tag (portions n takes inputs) X h (portions-length n takes inputs e ∙ a.0, portions-of (sigs []).places n takes inputs a.1)
 
 pub nets-keep-types : NetsKeepTypes
-nets-keep-types net typing starts top wired up meet is iterations takes inputs e a k =
-    runs-keep (types_below net typing 0) no_meetings (sdf_top iterations takes inputs) top (trees-are-typed net typing starts 0 top wired up meet is) (turns-typed (types_below net typing 0) iterations takes inputs e a) k
+nets-keep-types net typing starts top wired up meet is iterations takes inputs e a m k =
+    runs-keep (types_below net typing 0) m (sdf_top iterations takes inputs) top (trees-are-typed net typing starts 0 top wired up meet is) (turns-typed (types_below net typing 0) iterations takes inputs e a) k

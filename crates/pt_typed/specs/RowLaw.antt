@@ -1,6 +1,6 @@
 -- The typing of a net meets the rows of the actors that its entities start as.
 use Rattle.std.specs.Prelude.{◌≡◌, ℕ, [], length, true, Some, None, slice_get}
-use Rattle.pt_meaning.specs.Step.{no_meetings}
+use Rattle.pt_meaning.specs.Meetings.{Meets}
 use Rattle.pt_meaning.specs.Job.{meaning}
 use Rattle.pt_net.specs.declared.net.Net.{Net}
 use Rattle.pt_net.specs.declared.net.NetDirector.{NetDirector}
@@ -56,9 +56,9 @@ RecordRowsAreMet =
 abbrev pub AreStartedIn : Net → Values → Assignment → Starts → Type 0
 AreStartedIn net values typing starts = (k : ℕ) (a : LibraryActor) → StartsAs starts k a → (e : NetEntity) × (slice_get net.entities.items k ≡ Some e) × (e.director ≡ None) × IsStart net values (types_of_ports typing) k (Some a)
 
--- In a run of the tree of the net of a document with its typing, on the tokens that are supplied, at each fuel, each finished firing took at each place only tokens of the type of its port, and gave on each output only tokens of the type of that.
+-- In a run of the tree of the net of a document with its typing, on the tokens that are supplied, under any meetings, at each fuel, each finished firing took at each place only tokens of the type of its port, and gave on each output only tokens of the type of that.
 abbrev pub TypedNetsKeepTypes : Type 0
 TypedNetsKeepTypes =
     (net : Net) (values : Values) (typing : Assignment) (starts : Starts) (e : NetEntity) (d : NetDirector) (top : Tree) (j : SdfJob) → IsNetOfDocument net → IsValued (net_view net) values → IsTyping net values typing → AreStartedIn net values typing starts → IsTree net (StartsAs starts) 0 top →
     slice_get net.entities.items 0 ≡ Some e → e.director ≡ Some d → AreSupplied (net_view net) values j.inputs.items → length j.takes ≡ length j.inputs.items →
-    (k : ℕ) → IsTypedLog IsTokenOf (types_below net typing 0) (meaning k rows no_meetings (schedule j) top)
+    (m : Meets) (k : ℕ) → IsTypedLog IsTokenOf (types_below net typing 0) (meaning k rows m (schedule j) top)

@@ -1,7 +1,7 @@
 -- The tree of a net, whose library actors meet their rows by the types of the net.
 use Rattle.std.specs.Prelude.{◌≡◌, ℕ, [], length, List}
 use Rattle.pt_meaning.specs.Basics.{Streams}
-use Rattle.pt_meaning.specs.Step.{no_meetings}
+use Rattle.pt_meaning.specs.Meetings.{Meets}
 use Rattle.pt_meaning.specs.Schedule.{sdf_top}
 use Rattle.pt_meaning.specs.Job.{meaning}
 use Rattle.pt_value.specs.declared.token.Token.{Token}
@@ -26,9 +26,9 @@ MeetRows net typing starts = (k : ℕ) (a : LibraryActor) → StartsAs starts k 
 abbrev pub TreesAreTyped : Type 0
 TreesAreTyped = (net : Net) (typing : Assignment) (starts : Starts) (k : ℕ) (t : Tree) → IsWired net → TypesGoUp net typing → MeetRows net typing starts → IsTree net (StartsAs starts) k t → IsTypedNode IsTokenOf IsBelow IsTypedActor (types_below net typing k) t
 
--- In a run of it on inputs of the types of the top's inputs, at each fuel, each finished firing took at each place only tokens of the type of its port, and gave on each output only tokens of the type of that.
+-- In a run of it on inputs of the types of the top's inputs, under any meetings, at each fuel, each finished firing took at each place only tokens of the type of its port, and gave on each output only tokens of the type of that.
 abbrev pub NetsKeepTypes : Type 0
 NetsKeepTypes =
     (net : Net) (typing : Assignment) (starts : Starts) (top : Tree) → IsWired net → TypesGoUp net typing → MeetRows net typing starts → IsTree net (StartsAs starts) 0 top →
     (iterations : ℕ) (takes : List ℕ) (inputs : Streams Token) → length takes ≡ length inputs → AreAllOf IsTokenOf (types_below net typing 0 []).places inputs →
-    (k : ℕ) → IsTypedLog IsTokenOf (types_below net typing 0) (meaning k rows no_meetings (sdf_top iterations takes inputs) top)
+    (m : Meets) (k : ℕ) → IsTypedLog IsTokenOf (types_below net typing 0) (meaning k rows m (sdf_top iterations takes inputs) top)
