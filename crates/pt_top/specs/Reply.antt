@@ -1,10 +1,12 @@
 -- What is answered to a net: the report of a run of its model, or the line of a refusal.
-use Rattle.std.specs.Prelude.{◌≡◌, ℕ, List, [], ◌∷◌, ◌++◌, length, codes, decimal}
+use Rattle.std.specs.Prelude.{◌≡◌, ℕ, List, [], ◌∷◌, ◌++◌, length, All, codes, decimal}
+use Rattle.pt_meaning.specs.Meetings.{Meets}
 use Rattle.pt_document.specs.declared.refusal.Refusal.{Refusal}
 use Rattle.pt_document.specs.Codes.{code_number, code_name}
 use Rattle.pt_net.specs.declared.net.Net.{Net}
-use Rattle.pt_trace.specs.Report.{Report}
+use Rattle.pt_trace.specs.Report.{Meetings, Report}
 use Rattle.pt_trace.specs.ReportText.{report_text}
+use Rattle.pt_trace.specs.ReportForm.{AreMeetings}
 use Rattle.pt_node.specs.Shown.{Shown}
 use Rattle.pt_node.specs.View.{node_of, outline_of}
 use Rattle.pt_trees.specs.declared.job.SdfJob.{SdfJob}
@@ -12,6 +14,7 @@ use Rattle.pt_trees.specs.declared.ended.Ended.{Ended}
 use Rattle.pt_trees.specs.declared.ended.Ended.TheVariants as ended
 use Rattle.pt_trees.specs.Ports.{AreNumbered, recorded_ports, told_of}
 use Rattle.pt_trees.specs.Report.{end_of}
+use Rattle.pt_trees.specs.Meetings.{TellMeetings}
 use Rattle.pt_trees.specs.Run.{IsRun, IsAffordable}
 use Rattle.pt_model.specs.Model.{IsModel}
 use Rattle.pt_elaboration.specs.Refused as unmodelled
@@ -32,11 +35,11 @@ status_of ended.Inputs = Done
 status_of (ended.Fault place) = Fault
 status_of (ended.Spent firings) = Budget
 
--- what a tree has recorded of the ports that the net records, in the order of the document, and how the run ended
-abbrev pub report_of : Net → Shown → Ended → Report
-report_of net top e = record { traces = told_of (recorded_ports (length net.recorded.items) top); meetings = []; end = end_of e }
+-- what a tree has recorded of the ports that the net records, in the order of the document, these meetings, and how the run ended
+abbrev pub report_of : Net → List Meetings → Shown → Ended → Report
+report_of net meetings top e = record { traces = told_of (recorded_ports (length net.recorded.items) top); meetings = meetings; end = end_of e }
 
--- A run of the model of a net within a budget, with its status and the text of its report.
+-- A run of the model of a net within a budget, with its status and the text of its report. It is a run under the meetings that the lines of this report tell.
 pub record IsReport (net : Net) (budget : ℕ) (status : Status) (text : List ℕ) : Type 0 where
   -- the tree before the run, with one recorded port for each number of those that the net records, and what the job asks of its top
   pub top : Shown
@@ -46,11 +49,16 @@ pub record IsReport (net : Net) (budget : ℕ) (status : Status) (text : List �
   -- the tree after it, which has kept the names of its nodes and of its recorded ports
   pub after : Shown
   pub named : outline_of after ≡ outline_of top
+  -- the meetings that the report lists, and those that they are in the model
+  pub meetings : List Meetings
+  pub formed : All AreMeetings meetings
+  pub meets : Meets
+  pub read : TellMeetings net (outline_of top) meetings meets
   -- how the run ended, and what is told of it
   pub ended : Ended
-  pub is_run : IsRun job budget top after ended
+  pub is_run : IsRun meets job budget top after ended
   pub told : status ≡ status_of ended
-  pub printed : text ≡ report_text (report_of net after ended)
+  pub printed : text ≡ report_text (report_of net meetings after ended)
 
 -- A status and its text answer a net.
 abbrev pub AnswersNet : Net → (budget : ℕ) → Status → List ℕ → Type 0

@@ -1,7 +1,9 @@
-use Rattle.std.proofs.Common.{◌≡◌, length, sym, subst, ◌∙◌}
+use Rattle.std.proofs.Common.{◌≡◌, [], length, sym, subst, ◌∙◌}
+use Rattle.pt_records.specs.Made.{meets_of}
 use Rattle.pt_node.specs.Shown.{shown_node}
+use Rattle.pt_node.specs.View.{kept_of, outline_of}
 use Rattle.pt_trees.specs.Ports.{AreNumbered}
-use Rattle.pt_top.proofs.ReportLaws.{same-text}
+use Rattle.pt_top.proofs.ReportLaws.{same-text, none-formed, none-told}
 use Rattle.pt_top.proofs.report.report_run.Goals as goal
 
 -- the tree after the run has the numbers that it had before
@@ -20,6 +22,10 @@ returns-clause-report c =
       numbered = c.requires.numbered;
       after = shown_node c.run.new.top;
       named = c.run.ensures.outline;
+      meetings = [];
+      formed = none-formed;
+      meets = meets_of (kept_of (shown_node c.run.new.top));
+      read = none-told c.args.net.now (outline_of (shown_node c.args.top.now)) (shown_node c.run.new.top);
       ended = c.in_ok-ended.ended;
       is_run = c.in_ok-ended.ensures.report;
       told = c.status_of-status.ensures;
