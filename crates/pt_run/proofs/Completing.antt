@@ -54,6 +54,8 @@ none-are-those now p n = sym (ap (λ v. made_if n v) (node-unmet now p))
 
 -- After n iterations so much of the budget is left. The tree has come so far under the meetings that it recorded of the firings that are finished.
 pub record Going (iterations : ℕ) (takes : List ℕ) (inputs : Streams Token) (top : Shown) (budget n : ℕ) (now : Shown) (left : ℕ) : Type 0 where
+  pub live : live.IsLive now
+  pub outline : outline_of now ≡ outline_of top
   pub reached : (m : Meets) → AreMadeBefore m (kept_of now) → Reached m iterations takes inputs top n now
   pub counted : left + count_of now ≡ budget
   pub some : 0 < left
@@ -65,7 +67,7 @@ module _ (j : SdfJob) (budget : ℕ) (old : Shown) (run : IsRunnable j.takes old
   GoingTo n now left = Going j.iterations j.takes j.inputs.items old budget n now left
 
   pub begins : 0 < budget → GoingTo 0 old budget
-  begins b = record { reached = λ m made. at-start m j.iterations j.takes j.inputs.items old run; counted = let none = none-counted old run.leaves run.start in omega (arith, none); some = b }
+  begins b = record { live = run.live; outline = refl; reached = λ m made. at-start m j.iterations j.takes j.inputs.items old run; counted = let none = none-counted old run.leaves run.start in omega (arith, none); some = b }
 
   few : (n : ℕ) (now : Shown) (left : ℕ) → GoingTo n now left → count_of now < budget
   few n now left g = omega (arith, g.counted, g.some)
@@ -81,10 +83,10 @@ module _ (j : SdfJob) (budget : ℕ) (old : Shown) (run : IsRunnable j.takes old
   pub ends-all : (n : ℕ) (now : Shown) (left : ℕ) → GoingTo n now left → n ≡ j.iterations → (m : Meets) → AreThose m now → IsRun m j budget old now ended.Iterations
   ends-all n now left g e m those =
       let h : GoingTo j.iterations now left = subst (λ n. GoingTo n now left) e g in
-      told m now (Defined job.Iterations) (self j.iterations now left h).outline (iterations-made m j.iterations j.takes j.inputs.items old run now (h.reached m (those-before m now those)) budget (few j.iterations now left h)) those
+      told m now (Defined job.Iterations) h.outline (iterations-made m j.iterations j.takes j.inputs.items old run now (h.reached m (those-before m now those)) budget (few j.iterations now left h)) those
 
   pub ends-inputs : (n : ℕ) (now : Shown) (left : ℕ) → GoingTo n now left → n < j.iterations → suffice n j.takes j.inputs.items ≡ false → (m : Meets) → AreThose m now → IsRun m j budget old now ended.Inputs
-  ends-inputs n now left g l s m those = told m now (Defined job.Inputs) (self n now left g).outline (inputs-over m j.iterations j.takes j.inputs.items old run n now (g.reached m (those-before m now those)) l s budget (few n now left g)) those
+  ends-inputs n now left g l s m those = told m now (Defined job.Inputs) g.outline (inputs-over m j.iterations j.takes j.inputs.items old run n now (g.reached m (those-before m now those)) l s budget (few n now left g)) those
 
   -- the next firing
   module _ (n : ℕ) (now : Shown) (left : ℕ) (g : GoingTo n now left) (l : n < j.iterations) (s : suffice n j.takes j.inputs.items ≡ true) (X : Streams Token) (e : X ≡ portions n j.takes j.inputs.items) where
@@ -93,7 +95,7 @@ module _ (j : SdfJob) (budget : ℕ) (old : Shown) (run : IsRunnable j.takes old
 
     module _ (new : Shown) (o : outline_of new ≡ outline_of now) where
       named : outline_of new ≡ outline_of old
-      named = o ∙ (self n now left g).outline
+      named = o ∙ g.outline
 
       -- before the firing by the meetings that were recorded after it
       before : (m : Meets) (l : Log Token) → AreThose m new → GrewBy l (kept_of now) (kept_of new) → Reached m j.iterations j.takes j.inputs.items old n now
@@ -103,7 +105,7 @@ module _ (j : SdfJob) (budget : ℕ) (old : Shown) (run : IsRunnable j.takes old
       ends-fault place a m those =
           let k = a m (those-made m (kept_of new) those) in (
             k.0,
-            ap (λ v. text_at v k.0) (sym (self n now left g).outline) ∙ k.1,
+            ap (λ v. text_at v k.0) (sym g.outline) ∙ k.1,
             told m new (Faulty (fault_of k.0 place)) named (stuck-within m j.iterations j.takes j.inputs.items old run n now (before m k.2.log those k.2.kept) l s X e budget new (fault_of k.0 place) k.2) those,
           )
 
@@ -130,6 +132,8 @@ module _ (j : SdfJob) (budget : ℕ) (old : Shown) (run : IsRunnable j.takes old
         goes-on out a some =
             let one : suc n ≡ n + 1 = omega arith in
             record {
+              live = a.1;
+              outline = named;
               reached = λ m made. subst (λ n. Reached m j.iterations j.takes j.inputs.items old n new) one (reached-then out a m made);
               counted = counted;
               some = some;
