@@ -1,0 +1,5 @@
+pub mod Early
+pub mod Gates
+pub mod RowLaws
+pub mod Giving
+pub mod Worked
