@@ -1,28 +1,24 @@
 use pt_json::{Scratch, Unread, Value, read};
-use pt_table::{Answers, put, put_number};
+use pt_table::Answer;
 use std::alloc::{AllocError, Global};
 
-/// The questions about bytes of JSON.
-pub struct Json;
-
-impl Answers for Json {
-    fn answer(
-        &self,
-        alloc: Global,
-        section: &str,
-        question: &str,
-        out: &mut Vec<u8>,
-    ) -> Result<(), AllocError> {
-        match section {
-            "whole number at a" => match whole_at_a(alloc, question.as_bytes()) {
-                Some(number) => put_number(alloc, out, i128::from(number)),
-                None => put(out, "none"),
-            },
-            "JSON" => put(out, kind(alloc, question.as_bytes())),
-            "one byte of JSON" => put(out, kind(alloc, &[byte(question)])),
-            _ => put(out, "no such section"),
-        }
+/// Answers a question about bytes of JSON.
+pub fn answer(
+    alloc: Global,
+    section: &str,
+    question: &str,
+    out: &mut Answer,
+) -> Result<(), AllocError> {
+    match section {
+        "whole number at a" => match whole_at_a(alloc, question.as_bytes()) {
+            Some(number) => out.number(alloc, i128::from(number)),
+            None => out.text("none"),
+        },
+        "JSON" => out.text(kind(alloc, question.as_bytes())),
+        "one byte of JSON" => out.text(kind(alloc, &[byte(question)])),
+        _ => return out.no_such_section(),
     }
+    Ok(())
 }
 
 /// The whole number at the member `a`.

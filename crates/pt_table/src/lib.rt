@@ -2,7 +2,9 @@
 #![tactic(auto)]
 
 mod answers;
+mod writing;
 mod written;
 
-pub use answers::{Answers, report, tell};
-pub use written::{plain, put, put_number};
+pub use answers::{Answers, Place, report, tell};
+pub use writing::Answer;
+pub use written::{each, each_plain, plain};

@@ -16,27 +16,59 @@ fn character(digits: &str) -> char {
     }
 }
 
+/// Adds what stands behind a `⟨`: the character of a number, and a text.
+fn add_character(out: &mut String, part: &str) -> Result<(), AllocError> {
+    let (digits, rest) = part.split_once('⟩').unwrap_or((part, ""));
+    out.push(character(digits))?;
+    add(out, rest)
+}
+
 /// The text that a table writes so: `¶` stands for a line feed, and `⟨e9⟩` for the character of this number.
 pub fn plain(alloc: Global, written: &str) -> Result<String, AllocError> {
     let mut out = String::new(alloc);
-    for part in written.split('⟨') {
-        match part.split_once('⟩') {
-            Some((digits, rest)) => {
-                out.push(character(digits))?;
-                add(&mut out, rest)?;
-            }
-            None => add(&mut out, part)?,
+    let (first, rest) = written.split_once('⟨').unwrap_or((written, ""));
+    add(&mut out, first)?;
+    if !rest.is_empty() {
+        for part in rest.split('⟨') {
+            add_character(&mut out, part)?;
         }
     }
     Ok(out)
 }
 
-/// Writes a text.
-pub fn put(out: &mut Vec<u8>, text: &str) -> Result<(), AllocError> {
-    out.extend_from_slice(text.as_bytes())
+/// What a function makes of each part of a text. A text of blanks has no parts.
+pub fn each<T: Drop, E: From<AllocError> + Drop, F: Fn(Global, &str) -> Result<T, E>>(
+    alloc: Global,
+    written: &str,
+    between: &str,
+    read: F,
+) -> Result<Vec<T>, E>
+    requires { F.IsAlwaysCallable read }
+{
+    let mut values = Vec::new(alloc);
+    if !written.trim().is_empty() {
+        for part in written.trim().split(between) {
+            let value = read(alloc, part)?;
+            values.push(value).map_err(AllocError::from)?;
+        }
+    }
+    Ok(values)
 }
 
-/// Writes a number.
-pub fn put_number(alloc: Global, out: &mut Vec<u8>, number: i128) -> Result<(), AllocError> {
-    put(out, &number.to_string(alloc)?)
+/// The same of a function that needs no memory.
+pub fn each_plain<T: Drop, F: Fn(&str) -> T>(
+    alloc: Global,
+    written: &str,
+    between: &str,
+    read: F,
+) -> Result<Vec<T>, AllocError>
+    requires { F.IsAlwaysCallable read }
+{
+    let mut values = Vec::new(alloc);
+    if !written.trim().is_empty() {
+        for part in written.trim().split(between) {
+            values.push(read(part))?;
+        }
+    }
+    Ok(values)
 }
