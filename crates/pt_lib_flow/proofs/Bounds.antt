@@ -16,9 +16,9 @@ use Rattle.pt_lib_flow.specs.declared.flow_actor.Class.{Class}
 use Rattle.pt_lib_flow.specs.declared.flow_actor.Class.TheVariants as class
 use Rattle.pt_flow_numbers.specs.declared.extreme.Side.TheVariants.{Greatest, Least}
 use Rattle.pt_flow_base.specs.declared.params.Params.{Params}
-use Rattle.pt_lib_flow.specs.declared.down_sample.DownSample as downs
-use Rattle.pt_lib_flow.specs.declared.up_sample.UpSample as ups
-use Rattle.pt_lib_flow.specs.declared.repeat.Repeat as repeats
+use Rattle.pt_flow_streams.specs.declared.down_sample.DownSample as downs
+use Rattle.pt_flow_streams.specs.declared.up_sample.UpSample as ups
+use Rattle.pt_flow_streams.specs.declared.repeat.Repeat as repeats
 use Rattle.pt_flow_base.specs.Row.{one_each}
 use Rattle.pt_flow_base.specs.Limit.{is_over, source_need}
 use Rattle.pt_flow_base.specs.Rates.{IsCount, IsCounted, phased, factor_and_phase, repeated_block, times_and_size}
@@ -26,20 +26,20 @@ use Rattle.pt_lib_flow.specs.FlowActor.{need, step, rate, is_steady, start_as, s
 use Rattle.pt_flow_numbers.specs.AbsoluteValue as absolute_value
 use Rattle.pt_flow_numbers.specs.Accumulator as accumulator
 use Rattle.pt_flow_numbers.specs.AddSubtract as add_subtract
-use Rattle.pt_lib_flow.specs.BooleanSelect as boolean_select
-use Rattle.pt_lib_flow.specs.BooleanSwitch as boolean_switch
-use Rattle.pt_lib_flow.specs.Const as constant
+use Rattle.pt_flow_streams.specs.BooleanSelect as boolean_select
+use Rattle.pt_flow_streams.specs.BooleanSwitch as boolean_switch
+use Rattle.pt_flow_streams.specs.Const as constant
 use Rattle.pt_flow_numbers.specs.Counter as counter
-use Rattle.pt_lib_flow.specs.DownSample as down_sample
+use Rattle.pt_flow_streams.specs.DownSample as down_sample
 use Rattle.pt_lib_flow.specs.Expression as expression
 use Rattle.pt_flow_numbers.specs.Extreme as extreme
 use Rattle.pt_flow_numbers.specs.MultiplyDivide as multiply_divide
 use Rattle.pt_flow_numbers.specs.Ramp as ramp
-use Rattle.pt_lib_flow.specs.Repeat as repeat
-use Rattle.pt_lib_flow.specs.SampleDelay as sample_delay
+use Rattle.pt_flow_streams.specs.Repeat as repeat
+use Rattle.pt_flow_streams.specs.SampleDelay as sample_delay
 use Rattle.pt_flow_numbers.specs.Scale as scale
-use Rattle.pt_lib_flow.specs.Sequence as sequence
-use Rattle.pt_lib_flow.specs.UpSample as up_sample
+use Rattle.pt_flow_streams.specs.Sequence as sequence
+use Rattle.pt_flow_streams.specs.UpSample as up_sample
 
 -- ---- the ranges of parameters
 

@@ -19,9 +19,9 @@ use Rattle.pt_lib_flow.specs.declared.flow_actor.FlowActor.{FlowActor}
 use Rattle.pt_lib_flow.specs.declared.flow_actor.FlowActor.TheVariants.{AbsoluteValue, Accumulator, AddSubtract, BooleanSelect, BooleanSwitch, Const, Counter, DownSample, Expression, Extreme, MultiplyDivide, Ramp, Repeat, SampleDelay, Scale, Sequence, UpSample}
 use Rattle.pt_flow_numbers.specs.declared.accumulator.Accumulator as accumulators
 use Rattle.pt_flow_numbers.specs.declared.multiply_divide.MultiplyDivide as ratios
-use Rattle.pt_lib_flow.specs.declared.repeat.Repeat as repeats
-use Rattle.pt_lib_flow.specs.declared.sequence.Sequence as sequences
-use Rattle.pt_lib_flow.specs.declared.up_sample.UpSample as ups
+use Rattle.pt_flow_streams.specs.declared.repeat.Repeat as repeats
+use Rattle.pt_flow_streams.specs.declared.sequence.Sequence as sequences
+use Rattle.pt_flow_streams.specs.declared.up_sample.UpSample as ups
 use Rattle.pt_flow_base.specs.Row.{gives, rests, exactly, fits_i64, on_present, token_at, number_at, sum_of}
 use Rattle.pt_flow_base.specs.Limit.{is_over, is_called, source, after_one}
 use Rattle.pt_lib_flow.specs.Formula.{Formula, are_of}
@@ -30,18 +30,18 @@ use Rattle.pt_lib_flow.specs.FlowActor.{held_as, need, rate, step}
 use Rattle.pt_flow_numbers.specs.AbsoluteValue as absolute_value
 use Rattle.pt_flow_numbers.specs.Accumulator as accumulator
 use Rattle.pt_flow_numbers.specs.AddSubtract as add_subtract
-use Rattle.pt_lib_flow.specs.Const as constant
+use Rattle.pt_flow_streams.specs.Const as constant
 use Rattle.pt_flow_numbers.specs.Counter as counter
-use Rattle.pt_lib_flow.specs.DownSample as down_sample
+use Rattle.pt_flow_streams.specs.DownSample as down_sample
 use Rattle.pt_lib_flow.specs.Expression as expression
 use Rattle.pt_flow_numbers.specs.Extreme as extreme
 use Rattle.pt_flow_numbers.specs.MultiplyDivide as multiply_divide
 use Rattle.pt_flow_numbers.specs.Ramp as ramp
-use Rattle.pt_lib_flow.specs.Repeat as repeat
-use Rattle.pt_lib_flow.specs.SampleDelay as sample_delay
+use Rattle.pt_flow_streams.specs.Repeat as repeat
+use Rattle.pt_flow_streams.specs.SampleDelay as sample_delay
 use Rattle.pt_flow_numbers.specs.Scale as scale
-use Rattle.pt_lib_flow.specs.Sequence as sequence
-use Rattle.pt_lib_flow.specs.UpSample as up_sample
+use Rattle.pt_flow_streams.specs.Sequence as sequence
+use Rattle.pt_flow_streams.specs.UpSample as up_sample
 use Rattle.pt_lib_flow.specs.Laws.{IsGiven}
 
 -- the outputs of an answer, if it has any

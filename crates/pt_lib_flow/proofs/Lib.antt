@@ -1,5 +1,4 @@
 pub mod RowLaws
-pub mod Sequences
 pub mod Formulas
 pub mod Typings
 pub mod Evaluations

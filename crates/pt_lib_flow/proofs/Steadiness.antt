@@ -19,12 +19,12 @@ use Rattle.pt_lib_flow.specs.declared.flow_actor.FlowActor.TheVariants.{Absolute
 use Rattle.pt_flow_base.specs.declared.limit.Limit.{Limit}
 use Rattle.pt_flow_base.specs.declared.limit.Limit.TheVariants.{Endless, Left}
 use Rattle.pt_flow_numbers.specs.declared.accumulator.Accumulator as accumulators
-use Rattle.pt_lib_flow.specs.declared.boolean_switch.BooleanSwitch as switches
-use Rattle.pt_lib_flow.specs.declared.constant.Const as constants
+use Rattle.pt_flow_streams.specs.declared.boolean_switch.BooleanSwitch as switches
+use Rattle.pt_flow_streams.specs.declared.constant.Const as constants
 use Rattle.pt_flow_numbers.specs.declared.counter.Counter as counters
 use Rattle.pt_flow_numbers.specs.declared.multiply_divide.MultiplyDivide as ratios
 use Rattle.pt_flow_numbers.specs.declared.ramp.Ramp as ramps
-use Rattle.pt_lib_flow.specs.declared.sequence.Sequence as sequences
+use Rattle.pt_flow_streams.specs.declared.sequence.Sequence as sequences
 use Rattle.pt_flow_base.specs.Row.{gives, rests, exactly, fits_i64, on_present, token_at, number_at, truth_at, sum_of}
 use Rattle.pt_flow_base.specs.Limit.{is_over, after_one, is_called, source, source_need, is_endless}
 use Rattle.pt_lib_flow.specs.Formula.{Formula, are_of}
@@ -32,19 +32,19 @@ use Rattle.pt_lib_flow.specs.FlowActor.{held_as, need, step, is_steady}
 use Rattle.pt_flow_numbers.specs.AbsoluteValue as absolute_value
 use Rattle.pt_flow_numbers.specs.Accumulator as accumulator
 use Rattle.pt_flow_numbers.specs.AddSubtract as add_subtract
-use Rattle.pt_lib_flow.specs.BooleanSwitch as boolean_switch
-use Rattle.pt_lib_flow.specs.Const as constant
+use Rattle.pt_flow_streams.specs.BooleanSwitch as boolean_switch
+use Rattle.pt_flow_streams.specs.Const as constant
 use Rattle.pt_flow_numbers.specs.Counter as counter
-use Rattle.pt_lib_flow.specs.DownSample as down_sample
+use Rattle.pt_flow_streams.specs.DownSample as down_sample
 use Rattle.pt_lib_flow.specs.Expression as expression
 use Rattle.pt_flow_numbers.specs.Extreme as extreme
 use Rattle.pt_flow_numbers.specs.MultiplyDivide as multiply_divide
 use Rattle.pt_flow_numbers.specs.Ramp as ramp
-use Rattle.pt_lib_flow.specs.Repeat as repeat
-use Rattle.pt_lib_flow.specs.SampleDelay as sample_delay
+use Rattle.pt_flow_streams.specs.Repeat as repeat
+use Rattle.pt_flow_streams.specs.SampleDelay as sample_delay
 use Rattle.pt_flow_numbers.specs.Scale as scale
-use Rattle.pt_lib_flow.specs.Sequence as sequence
-use Rattle.pt_lib_flow.specs.UpSample as up_sample
+use Rattle.pt_flow_streams.specs.Sequence as sequence
+use Rattle.pt_flow_streams.specs.UpSample as up_sample
 
 -- ---- what holds of the state that an answer leaves, if it leaves one
 

@@ -1,13 +1,5 @@
-pub mod Const
 pub mod TreeCode
 pub mod Formula
 pub mod Expression
-pub mod Sequence
-pub mod DownSample
-pub mod UpSample
-pub mod Repeat
-pub mod SampleDelay
-pub mod BooleanSwitch
-pub mod BooleanSelect
 pub mod FlowActor
 pub mod Laws

@@ -4,19 +4,14 @@ ghost use Rattle.pt_flow_base.specs.Number.{GivesNumber, GivesNumbers};
 ghost use Rattle.pt_lib_flow.specs.FlowActor as flow_actor;
 ghost use Rattle.pt_lib_flow.specs.FlowActor.{class_of, start_as, start, outputs, rate, is_steady};
 
-use crate::boolean_select::BooleanSelect;
-use crate::boolean_switch::BooleanSwitch;
-use crate::constant::Const;
-use crate::down_sample::DownSample;
 use crate::expression::Expression;
-use crate::repeat::Repeat;
-use crate::sample_delay::SampleDelay;
-use crate::sequence::Sequence;
-use crate::up_sample::UpSample;
 use pt_firing::{Actor, Fires, Inputs, IntInputs, Need, Partial, Step, strict_early};
 use pt_flow_base::Params;
 use pt_flow_numbers::{
     AbsoluteValue, Accumulator, AddSubtract, Counter, Extreme, MultiplyDivide, Ramp, Scale, Side,
+};
+use pt_flow_streams::{
+    BooleanSelect, BooleanSwitch, Const, DownSample, Repeat, SampleDelay, Sequence, UpSample,
 };
 use pt_time::Tag;
 use pt_value::Token;

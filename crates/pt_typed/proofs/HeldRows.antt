@@ -12,17 +12,17 @@ use Rattle.pt_lib_flow.specs.FlowActor as flow_actor
 use Rattle.pt_flow_numbers.specs.AbsoluteValue as absolute_value
 use Rattle.pt_flow_numbers.specs.Accumulator as accumulator
 use Rattle.pt_flow_numbers.specs.AddSubtract as add_subtract
-use Rattle.pt_lib_flow.specs.BooleanSelect as boolean_select
-use Rattle.pt_lib_flow.specs.BooleanSwitch as boolean_switch
+use Rattle.pt_flow_streams.specs.BooleanSelect as boolean_select
+use Rattle.pt_flow_streams.specs.BooleanSwitch as boolean_switch
 use Rattle.pt_flow_numbers.specs.Counter as counter
-use Rattle.pt_lib_flow.specs.DownSample as down_sample
+use Rattle.pt_flow_streams.specs.DownSample as down_sample
 use Rattle.pt_lib_flow.specs.Expression as expression
 use Rattle.pt_flow_numbers.specs.Extreme as extreme
 use Rattle.pt_flow_numbers.specs.MultiplyDivide as multiply_divide
 use Rattle.pt_flow_numbers.specs.Ramp as ramp
-use Rattle.pt_lib_flow.specs.Repeat as repeat
+use Rattle.pt_flow_streams.specs.Repeat as repeat
 use Rattle.pt_flow_numbers.specs.Scale as scale
-use Rattle.pt_lib_flow.specs.UpSample as up_sample
+use Rattle.pt_flow_streams.specs.UpSample as up_sample
 use Rattle.pt_lib_data.specs.DataActor as data_actor
 use Rattle.pt_library.specs.declared.library_actor.LibraryActor.{LibraryActor}
 use Rattle.pt_library.specs.declared.library_actor.LibraryActor.TheVariants.{Flow, Data}

@@ -30,34 +30,34 @@ use Rattle.pt_start.specs.Started.{own_tokens, seen_tokens}
 use Rattle.pt_firing.specs.Params.{value_under, channels_to, bool_or}
 use Rattle.pt_flow_base.specs.declared.params.Params.{Params}
 use Rattle.pt_flow_base.specs.declared.limit.Limit.{Limit}
-use Rattle.pt_lib_flow.specs.declared.constant.Const as constants
-use Rattle.pt_lib_flow.specs.declared.sequence.Sequence as sequences
-use Rattle.pt_lib_flow.specs.declared.sample_delay.SampleDelay as delays
+use Rattle.pt_flow_streams.specs.declared.constant.Const as constants
+use Rattle.pt_flow_streams.specs.declared.sequence.Sequence as sequences
+use Rattle.pt_flow_streams.specs.declared.sample_delay.SampleDelay as delays
 use Rattle.pt_lib_flow.specs.declared.flow_actor.FlowActor.{FlowActor}
 use Rattle.pt_lib_flow.specs.declared.flow_actor.FlowActor.TheVariants as flow
 use Rattle.pt_lib_flow.specs.declared.flow_actor.Class.{Class as FlowClass}
 use Rattle.pt_lib_flow.specs.declared.flow_actor.Class.TheVariants as class
 use Rattle.pt_flow_base.specs.Limit.{limit_in}
 use Rattle.pt_lib_flow.specs.FlowActor as flow_actor
-use Rattle.pt_lib_flow.specs.Const as constant
+use Rattle.pt_flow_streams.specs.Const as constant
 use Rattle.pt_flow_numbers.specs.AbsoluteValue as absolute_value
 use Rattle.pt_flow_numbers.specs.Accumulator as accumulator
 use Rattle.pt_flow_numbers.specs.AddSubtract as add_subtract
-use Rattle.pt_lib_flow.specs.BooleanSelect as boolean_select
-use Rattle.pt_lib_flow.specs.BooleanSwitch as boolean_switch
+use Rattle.pt_flow_streams.specs.BooleanSelect as boolean_select
+use Rattle.pt_flow_streams.specs.BooleanSwitch as boolean_switch
 use Rattle.pt_flow_numbers.specs.Counter as counter
-use Rattle.pt_lib_flow.specs.DownSample as down_sample
+use Rattle.pt_flow_streams.specs.DownSample as down_sample
 use Rattle.pt_lib_flow.specs.Expression as expression
 use Rattle.pt_flow_numbers.specs.Extreme as extreme
 use Rattle.pt_flow_numbers.specs.MultiplyDivide as multiply_divide
 use Rattle.pt_flow_numbers.specs.Ramp as ramp
-use Rattle.pt_lib_flow.specs.Repeat as repeat
+use Rattle.pt_flow_streams.specs.Repeat as repeat
 use Rattle.pt_flow_numbers.specs.Scale as scale
-use Rattle.pt_lib_flow.specs.UpSample as up_sample
+use Rattle.pt_flow_streams.specs.UpSample as up_sample
 use Rattle.pt_flow_numbers.specs.declared.extreme.Side.TheVariants.{Greatest, Least}
 use Rattle.pt_resolve.specs.declared.row.Seed.TheVariants as seed
-use Rattle.pt_lib_flow.specs.SampleDelay as sample_delay
-use Rattle.pt_lib_flow.specs.Sequence as sequence
+use Rattle.pt_flow_streams.specs.SampleDelay as sample_delay
+use Rattle.pt_flow_streams.specs.Sequence as sequence
 use Rattle.pt_lib_data.specs.DataActor as data_actor
 use Rattle.pt_library.specs.declared.library_actor.LibraryActor.{LibraryActor}
 use Rattle.pt_library.specs.declared.library_actor.LibraryActor.TheVariants.{Flow, Data}

@@ -4,15 +4,15 @@ use Rattle.pt_lib_flow.specs.FlowActor as flow_actor
 use Rattle.pt_flow_numbers.specs.AbsoluteValue as absolute_value
 use Rattle.pt_flow_numbers.specs.Accumulator as accumulator
 use Rattle.pt_flow_numbers.specs.AddSubtract as add_subtract
-use Rattle.pt_lib_flow.specs.Const as constant
+use Rattle.pt_flow_streams.specs.Const as constant
 use Rattle.pt_flow_numbers.specs.Counter as counter
-use Rattle.pt_lib_flow.specs.DownSample as down_sample
+use Rattle.pt_flow_streams.specs.DownSample as down_sample
 use Rattle.pt_flow_numbers.specs.Extreme as extreme
 use Rattle.pt_flow_numbers.specs.MultiplyDivide as multiply_divide
 use Rattle.pt_flow_numbers.specs.Ramp as ramp
-use Rattle.pt_lib_flow.specs.SampleDelay as sample_delay
+use Rattle.pt_flow_streams.specs.SampleDelay as sample_delay
 use Rattle.pt_flow_numbers.specs.Scale as scale
-use Rattle.pt_lib_flow.specs.Sequence as sequence
+use Rattle.pt_flow_streams.specs.Sequence as sequence
 use Rattle.pt_flow_base.specs.Number.{GivesNumber}
 use Rattle.pt_lib_flow.proofs.Held.{held-number}
 use Rattle.pt_lib_flow.proofs.flow_actor.FlowActor.number.Goals as goal

@@ -1,8 +1,8 @@
 use Rattle.std.proofs.Common.{sym, subst, refl}
 use Rattle.pt_lib_flow.specs.declared.flow_actor.FlowActor.TheVariants.{Repeat, UpSample}
 use Rattle.pt_lib_flow.specs.FlowActor as flow_actor
-use Rattle.pt_lib_flow.specs.Repeat as repeat
-use Rattle.pt_lib_flow.specs.UpSample as up_sample
+use Rattle.pt_flow_streams.specs.Repeat as repeat
+use Rattle.pt_flow_streams.specs.UpSample as up_sample
 use Rattle.pt_flow_base.specs.Number.{GivesNumbers}
 use Rattle.pt_lib_flow.proofs.Held.{held-numbers}
 use Rattle.pt_lib_flow.proofs.flow_actor.FlowActor.numbers.Goals as goal

@@ -1,6 +1,0 @@
-use Rattle.std.proofs.Common.{◌≡◌, ◌++◌}
-use Rattle.pt_lib_flow.specs.UpSample.{zeros}
-use Rattle.pt_lib_flow.proofs.up_sample.push_zeros.Given as goal
-
-abbrev pub invariant-loop : goal.invariant-loop
-invariant-loop l = l.tokens.items ≡ l.initial.tokens.items ++ zeros l.counter
