@@ -46,8 +46,8 @@ abbrev pub left_by : {T S : Type 0} → List (Flow T S) → Streams T
 left_by [] = []
 left_by (f ∷ fs) = f.left ++ left_by fs
 
--- the channels behind the places of the children: those to the own outputs
-abbrev pub skip_places : {T : Type 0} → List ℕ → Streams T → Streams T
+-- what a list of the channels has behind the places of the children: for those to the own outputs, and for those that end nowhere
+abbrev pub skip_places : {A : Type 0} → List ℕ → List A → List A
 skip_places [] X = X
 skip_places (n ∷ ns) X = skip_places ns (drop n X)
 
@@ -73,12 +73,17 @@ abbrev pub if_settled : {T S : Type 0} → Bool → Inside (Streams T) S → Str
 if_settled true c out l faults = Done c out l
 if_settled false c out l faults = Stuck faults l
 
--- The firing at round k, whose stream functions are fs on the channels X. The counts say how many tokens the own outputs give of those that they have.
-abbrev pub firing : {T S : Type 0} → Bool → (List ℕ → List ℕ) → List ℕ → List (Flow T S) → Streams T → Outcome T (Inside (Streams T) S)
-firing settled counts places fs X =
+-- What a firing takes from the channels behind the places of the children, by how many tokens each of them has: how many each own output gives, and how many are gone from each of these channels.
+pub record Leaving : Type 0 where
+  pub given : List ℕ → List ℕ
+  pub gone : List ℕ → List ℕ
+
+-- The firing at round k, whose stream functions are fs on the channels X: the own outputs give the tokens that leave, and what doesn't leave is kept.
+abbrev pub firing : {T S : Type 0} → Bool → Leaving → List ℕ → List (Flow T S) → Streams T → Outcome T (Inside (Streams T) S)
+firing settled leaving places fs X =
     let Y = skip_places places X in
-    let ns = counts (lengths Y) in
-    if_settled settled (record { held = left_by fs ++ behind ns Y; kids = states_of fs }) (firsts ns Y) (log_below (logs_of fs)) (faults_of 0 fs)
+    let ns = lengths Y in
+    if_settled settled (record { held = left_by fs ++ behind (leaving.gone ns) Y; kids = states_of fs }) (firsts (leaving.given ns) Y) (log_below (logs_of fs)) (faults_of 0 fs)
 
 module _ {T S : Type 0} (facts : Facts T S) (step : Stepping T S) (tag : Tag) where
   -- Round k is settled: no channel gets more in the next round, and each child is at rest. Each round is the beginning of the next, so that equal lengths are equal lists.
@@ -88,8 +93,8 @@ module _ {T S : Type 0} (facts : Facts T S) (step : Stepping T S) (tag : Tag) wh
       all_at_rest limits (flows facts step tag net.places limits k kids (round facts step tag net limits kids X k))
 
   -- the firing at round k: it is done where the round is settled and the children fired enough
-  unfoldable pub kahn : Net → List Limit → (List (Flow T S) → Bool) → (List ℕ → List ℕ) → List S → Streams T → ℕ → Outcome T (Inside (Streams T) S)
-  kahn net limits enough counts kids X k =
+  unfoldable pub kahn : Net → List Limit → (List (Flow T S) → Bool) → Leaving → List S → Streams T → ℕ → Outcome T (Inside (Streams T) S)
+  kahn net limits enough leaving kids X k =
       let Y = round facts step tag net limits kids X k in
       let fs = flows facts step tag net.places limits k kids Y in
-      firing (settled net limits kids X k && enough fs) counts net.places fs Y
+      firing (settled net limits kids X k && enough fs) leaving net.places fs Y

@@ -5,7 +5,7 @@ use Rattle.pt_meaning.specs.Machine.{Stepping, Facts}
 use Rattle.pt_meaning.specs.Flow.{Flow}
 use Rattle.pt_meaning.specs.Net.{Net, Inside}
 use Rattle.pt_meaning.specs.Rounds.{Limit}
-use Rattle.pt_meaning.specs.Kahn.{arrived, kahn}
+use Rattle.pt_meaning.specs.Kahn.{Leaving, arrived, kahn}
 
 -- the channels, and what each own input takes for a firing
 pub record PnPlan : Type 0 where
@@ -21,6 +21,10 @@ pn_limits (n ∷ ns) = record { firings = None; rates = None } ∷ pn_limits ns
 abbrev pub always : {T S : Type 0} → List (Flow T S) → Bool
 always fs = true
 
+-- own outputs give all that they have
+abbrev pub all_leave : Leaving
+all_leave = record { given = λ ns. ns; gone = λ ns. ns }
+
 -- PN: the least solution, in which own outputs give all that they have
 abbrev pub pn : {T S : Type 0} → Facts T S → Stepping T S → PnPlan → ℕ → Stepping T (Inside (Streams T) S)
-pn facts step p k tag c inputs = kahn facts step tag p.net (pn_limits p.net.places) always (λ ns. ns) c.kids (arrived p.net.sources inputs c.held) k
+pn facts step p k tag c inputs = kahn facts step tag p.net (pn_limits p.net.places) always all_leave c.kids (arrived p.net.sources inputs c.held) k

@@ -1,13 +1,13 @@
 -- SDF: each firing runs as many iterations as the tokens allow, and in an iteration each child fires as often as its repetition says (Lee & Messerschmitt 1987; the book, "Dataflow").
-use Rattle.std.specs.Prelude.{ℕ, zero, suc, ◌*◌, ◌/◌, min, List, [], ◌∷◌, Bool, true, false, ◌&&◌, nat_eq, length, Option, Some, None, map}
+use Rattle.std.specs.Prelude.{ℕ, zero, suc, ◌*◌, ◌/◌, min, List, [], ◌∷◌, ◌++◌, Bool, true, false, ◌&&◌, nat_eq, length, drop, Option, Some, None, map}
 use Rattle.pt_meaning.specs.Streams.{Streams}
 use Rattle.pt_meaning.specs.Machine.{Stepping, Facts}
 use Rattle.pt_meaning.specs.Flow.{Flow}
 use Rattle.pt_meaning.specs.Net.{Source, Own, Output, Net, Inside}
 use Rattle.pt_meaning.specs.Rounds.{Limit}
-use Rattle.pt_meaning.specs.Kahn.{arrived, kahn}
+use Rattle.pt_meaning.specs.Kahn.{Leaving, skip_places, arrived, kahn}
 
--- the channels, and the repetition of each child in an iteration, by the balance equations
+-- The channels, and the repetition of each child in an iteration, by the balance equations. Behind the channels to the own outputs each own input that feeds nothing has a channel of its own, which ends nowhere: its tokens bound the iterations and are kept like those of any other.
 pub record SdfPlan : Type 0 where
   pub net : Net
   pub repetitions : List ℕ
@@ -28,7 +28,7 @@ allows takes (Own port) xs None = Some (length xs / number_at takes port)
 allows takes (Own port) xs (Some m) = Some (min (length xs / number_at takes port) m)
 allows takes (Output child port) xs m = m
 
--- how many iterations the channels from own inputs allow, if there are any; an own input that feeds no channel allows any number, by the profile
+-- how many iterations the channels from own inputs allow, if there are any
 abbrev pub all_allow : {T : Type 0} → List ℕ → List Source → Streams T → Option ℕ
 all_allow takes [] X = None
 all_allow takes (c ∷ cs) [] = None
@@ -55,9 +55,30 @@ fired_all m [] fs = true
 fired_all m (q ∷ qs) [] = false
 fired_all m (q ∷ qs) (f ∷ fs) = nat_eq f.fired (m * q) && fired_all m qs fs
 
+-- in m iterations, m times each number
+abbrev pub times : ℕ → List ℕ → List ℕ
+times m ns = map (λ n. m * n) ns
+
+-- how many tokens leave a channel that ends nowhere in an iteration: what the own input takes at which it begins
+abbrev pub taken_from : List ℕ → Source → ℕ
+taken_from takes (Own port) = number_at takes port
+taken_from takes (Output child port) = 0
+
+-- where the channels begin that end nowhere: those behind the places of the children and the own outputs
+abbrev pub unfed : SdfPlan → List Source
+unfed p = drop (length p.gives) (skip_places p.net.places p.net.sources)
+
+-- how many tokens leave each channel behind the places of the children in an iteration: to the own outputs, and from the own inputs that feed nothing
+abbrev pub leaves : SdfPlan → List ℕ
+leaves p = p.gives ++ map (taken_from p.takes) (unfed p)
+
+-- what leaves in m iterations
+abbrev pub leaving : ℕ → SdfPlan → Leaving
+leaving m p = record { given = λ ns. times m p.gives; gone = λ ns. times m (leaves p) }
+
 -- SDF: the least solution in which the children make the firings of all iterations that the tokens allow; own outputs give what these produce
 abbrev pub sdf : {T S : Type 0} → Facts T S → Stepping T S → SdfPlan → ℕ → Stepping T (Inside (Streams T) S)
 sdf facts step p k tag c inputs =
     let X = arrived p.net.sources inputs c.held in
     let m = iterations p X in
-    kahn facts step tag p.net (sdf_limits m p.repetitions p.rates) (fired_all m p.repetitions) (λ ns. map (λ n. m * n) p.gives) c.kids X k
+    kahn facts step tag p.net (sdf_limits m p.repetitions p.rates) (fired_all m p.repetitions) (leaving m p) c.kids X k
