@@ -7,7 +7,7 @@ pub data Source : Type 0 where
   Own : ℕ → Source
   Output : (child port : ℕ) → Source
 
--- Each channel ends at one place, and channels are numbered by their places: those of the children in order, then the own outputs.
+-- Each channel ends at one place, and channels are numbered by their places: those of the children in order, then the own outputs. Last come those of SDF that end nowhere.
 -- So a net is the source of each channel, and the number of places of each child.
 pub record Net : Type 0 where
   pub sources : List Source
