@@ -4,7 +4,7 @@ use Rattle.pt_meaning.specs.Basics.{Tag, Streams, Log, Meeting, log_then, own}
 use Rattle.pt_meaning.specs.Machine.{Fault, Outcome, Done, Stuck, Stepping, Facts, Partial, Front, Lacks, Ends, Takes, front, recorded}
 use Rattle.pt_meaning.specs.Flow.{Flow, flow, on_outcome, on_front, after_firing}
 use Rattle.pt_meaning.specs.Rounds.{Source, Own, Output, Net, Limit, within, rated, rated_outcome, if_rated, has_rates, refill, flows, round}
-use Rattle.pt_meaning.specs.Dataflow.{Inside, states_of, kahn, settled, if_settled}
+use Rattle.pt_meaning.specs.Dataflow.{Inside, states_of, Leaving, kahn, settled, if_settled}
 use Rattle.pt_meaning.specs.Tick.{Reaction, Activity, Earliness, reacted, if_active, on_known, reactions, reaction_states, known, valued, react_all, valuation, tick, single_outcome, if_single, all_single, sr_turn, by_rows, follows, and_then, whole_or_rows, rows_of, de_turn}
 use Rattle.pt_meaning.specs.Modal.{unfired_outputs, Chart, Modes, Choice, Nothing, One, Wrong, Acted, Acts, Fails, chosen, taken, afterwards, below_number, put_state, reset_unless, change_at, change_if, get, on_refinement, at_refinement, with_refinement, preempted, modal, shown, picked, local, lag_of}
 use Rattle.pt_meaning.specs.Process.{Put, Party, Next, Puts, Fires, Gets, GetsAny, Joins, Idle, Sticks, next_event, fired, if_fires, advance, advanced, all_advanced, party_states, with_put_made, with_token}
@@ -99,13 +99,13 @@ module _ {T S : Type 0} (facts : Facts T S) (step more : Stepping T S) (From : S
     if_settled-from true fs held out l gs h = h
     if_settled-from false fs held out l gs h = tt
 
-    pub kahn-alike : (enough : List (Flow T S) → Bool) (counts : List ℕ → List ℕ) (X : Streams T) (k : ℕ) → kahn facts more tag net limits enough counts kids X k ≡ kahn facts step tag net limits enough counts kids X k
+    pub kahn-alike : (enough : List (Flow T S) → Bool) (leaving : Leaving) (X : Streams T) (k : ℕ) → kahn facts more tag net limits enough leaving kids X k ≡ kahn facts step tag net limits enough leaving kids X k
     unfolding kahn
-    kahn-alike enough counts X k = rw (settled-alike X k, flows-round X k, round-alike X k) refl
+    kahn-alike enough leaving X k = rw (settled-alike X k, flows-round X k, round-alike X k) refl
 
-    pub kahn-from : (enough : List (Flow T S) → Bool) (counts : List ℕ → List ℕ) (X : Streams T) (k : ℕ) → KidsFrom From ss (kahn facts step tag net limits enough counts kids X k)
+    pub kahn-from : (enough : List (Flow T S) → Bool) (leaving : Leaving) (X : Streams T) (k : ℕ) → KidsFrom From ss (kahn facts step tag net limits enough leaving kids X k)
     unfolding kahn
-    kahn-from enough counts X k =
+    kahn-from enough leaving X k =
         let Y = round facts step tag net limits kids X k in
         let fs = flows facts step tag net.places limits k kids Y in
         if_settled-from (settled facts step tag net limits kids X k && enough fs) fs _ _ _ _ (flows-from net.places limits k ss kids Y from)

@@ -6,7 +6,7 @@ use Rattle.pt_meaning.specs.Basics.{Tag, Streams, Log, LogBelow, log_below, with
 use Rattle.pt_meaning.specs.Machine.{Fault, Outcome, Done, Stuck, Stepping, Facts}
 use Rattle.pt_meaning.specs.Flow.{Flow}
 use Rattle.pt_meaning.specs.Rounds.{Net, Limit, rated, flows, round}
-use Rattle.pt_meaning.specs.Dataflow.{Inside, SdfPlan, PnPlan, kahn, arrived, iterations, sdf_limits, pn_limits, fired_all, always, firsts, behind, lengths, logs_of, sdf, pn}
+use Rattle.pt_meaning.specs.Dataflow.{Inside, SdfPlan, PnPlan, kahn, arrived, iterations, sdf_limits, pn_limits, fired_all, times, leaves, leaving, always, all_leave, firsts, behind, lengths, logs_of, sdf, pn}
 use Rattle.pt_meaning.specs.Dataflow as dataflow
 use Rattle.pt_meaning.specs.Rounds as rounds
 use Rattle.pt_meaning.specs.Process.{emptied}
@@ -15,7 +15,7 @@ use Rattle.pt_meaning.specs.Children.{Child, numbered, nodes, child_facts}
 use Rattle.pt_meaning.specs.Node.{Rows, Core, Sdf, Pn, Past, Node, Nodes, Composite, list_of, nodes_of, fired_at, facts_of, as_node, step_at}
 use Rattle.pt_meaning.specs.Running.{runs, total, MadeAll, NoneCanFire}
 use Rattle.pt_laws.specs.LogsOfRuns.{logs_then, log_in, rates_at}
-use Rattle.pt_laws.specs.CompositeRuns.{steps_below, ActorsReact, StepsGrow, RunGrows, SdfRun, PnRun, sdf_start, sdf_bounds, times, outlets_of, IsStuckBelow, SdfSticks, PnSticks, SdfIsPrefix, PnIsPrefix}
+use Rattle.pt_laws.specs.CompositeRuns.{steps_below, ActorsReact, StepsGrow, RunGrows, SdfRun, PnRun, sdf_start, sdf_bounds, outlets_of, IsStuckBelow, SdfSticks, PnSticks, SdfIsPrefix, PnIsPrefix}
 use Rattle.pt_meaning.specs.Laws.{IsIn, Grows}
 use Rattle.pt_laws.proofs.Order.{Below-trans}
 use Rattle.pt_laws.proofs.FlowLaws.{flow-same, IsFree}
@@ -110,7 +110,7 @@ module _ {T A : Type 0} (rows : Rows T A) (k d : ℕ) (m : Meets) (tag : Tag) (h
   pub sdf-ends : (p : SdfPlan) (X : Streams T) (kids : Nodes T A) (inputs : Streams T) (ms : List ℕ) (now : List (Child (Node T A))) (held : Streams T) (ls : List (Log T)) →
       SdfRun rows k d m tag p X kids inputs ms now held ls → ms ≡ times (iterations p (sdf_start p X inputs)) p.repetitions → total ms < k →
       step_at rows k (suc d) m tag (Composite h c (Sdf p X) kids) inputs ≡
-      Done (Composite (fired_at tag h) c (Sdf p (take (total p.net.places) held ++ behind (times (iterations p (sdf_start p X inputs)) p.gives) (outlets_of p.net held))) (nodes_of (nodes now)))
+      Done (Composite (fired_at tag h) c (Sdf p (take (total p.net.places) held ++ behind (times (iterations p (sdf_start p X inputs)) (leaves p)) (outlets_of p.net held))) (nodes_of (nodes now)))
       (firsts (times (iterations p (sdf_start p X inputs)) p.gives) (outlets_of p.net held)) (within_firing h.made (log_below ls))
   unfolding step_at
   sdf-ends p X kids inputs ms now held ls w e o =
@@ -118,10 +118,10 @@ module _ {T A : Type 0} (rows : Rows T A) (k d : ℕ) (m : Meets) (tag : Tag) (h
       let n = iterations p (sdf_start p X inputs) in
       let done = ends-with facts (steps_below rows k d m) tag p.net (sdf_bounds p X inputs) (numbered 0 (list_of kids)) (sdf_start p X inputs) ms now held ls w
       (subst (λ v. NoneCanFire facts p.net.places (sdf_bounds p X inputs) v now held) (sym e) (capped-none facts n p.net.places p.repetitions p.rates now held))
-      (fired_all n p.repetitions) (λ ns. times n p.gives) (λ fs made. all-made n p.repetitions fs (subst (λ v. MadeAll v fs) e made)) k o
+      (fired_all n p.repetitions) (leaving n p) (λ fs made. all-made n p.repetitions fs (subst (λ v. MadeAll v fs) e made)) k o
       in
       as-done tag h c (Sdf p) _ _ _ _ done.4 ∙
-      ap₂ (λ (a b : Streams T). let r : Outcome T (Node T A) = Done (Composite (fired_at tag h) c (Sdf p (a ++ behind (times n p.gives) b)) (nodes_of (nodes now))) (firsts (times n p.gives) b) (within_firing h.made (log_below ls)) in r)
+      ap₂ (λ (a b : Streams T). let r : Outcome T (Node T A) = Done (Composite (fired_at tag h) c (Sdf p (a ++ behind (times n (leaves p)) b)) (nodes_of (nodes now))) (firsts (times n p.gives) b) (within_firing h.made (log_below ls)) in r)
       (sym (first-part (total p.net.places) done.0 done.1 held done.2 done.3)) (sym (second-part (total p.net.places) done.0 done.1 held done.2 done.3))
 
   pub pn-ends : (p : PnPlan) (X : Streams T) (kids : Nodes T A) (inputs : Streams T) (ms : List ℕ) (now : List (Child (Node T A))) (held : Streams T) (ls : List (Log T)) →
@@ -131,7 +131,7 @@ module _ {T A : Type 0} (rows : Rows T A) (k d : ℕ) (m : Meets) (tag : Tag) (h
   unfolding step_at
   pn-ends p X kids inputs ms now held ls w nf o =
       let facts = child_facts (facts_of rows) in
-      let done = ends-with facts (steps_below rows k d m) tag p.net (pn_limits p.net.places) (numbered 0 (list_of kids)) (arrived p.net.sources inputs X) ms now held ls w nf always (λ ns. ns) (λ fs made. refl) k o in
+      let done = ends-with facts (steps_below rows k d m) tag p.net (pn_limits p.net.places) (numbered 0 (list_of kids)) (arrived p.net.sources inputs X) ms now held ls w nf always all_leave (λ fs made. refl) k o in
       as-done tag h c (Pn p) _ _ _ _ done.4 ∙
       ap₂ (λ (a b : Streams T). let r : Outcome T (Node T A) = Done (Composite (fired_at tag h) c (Pn p (a ++ behind (lengths b) b)) (nodes_of (nodes now))) (firsts (lengths b) b) (within_firing h.made (log_below ls)) in r)
       (sym (first-part (total p.net.places) done.0 done.1 held done.2 done.3)) (sym (second-part (total p.net.places) done.0 done.1 held done.2 done.3)) ∙
@@ -145,13 +145,13 @@ pub sdf-sticks : {T A : Type 0} → SdfSticks T A
 unfolding step_at
 sdf-sticks {T} {A} rows k d m tag h c p X kids inputs ms now held ls w i inside f x o =
     let n = iterations p (sdf_start p X inputs) in
-    let stuck = sticks-with (child_facts (facts_of rows)) (steps_below rows k d m) tag p.net (sdf_bounds p X inputs) (numbered 0 (list_of kids)) (sdf_start p X inputs) ms now held ls w i inside f x (fired_all n p.repetitions) (λ ns. times n p.gives) k o in
+    let stuck = sticks-with (child_facts (facts_of rows)) (steps_below rows k d m) tag p.net (sdf_bounds p X inputs) (numbered 0 (list_of kids)) (sdf_start p X inputs) ms now held ls w i inside f x (fired_all n p.repetitions) (leaving n p) k o in
     below-stuck _ i f h.made stuck.0 stuck.1 _ (as-stuck tag h c (Sdf p) _ _ _ stuck.2) stuck.3 stuck.4
 
 pub pn-sticks : {T A : Type 0} → PnSticks T A
 unfolding step_at
 pn-sticks {T} {A} rows k d m tag h c p X kids inputs ms now held ls w i inside f x o =
-    let stuck = sticks-with (child_facts (facts_of rows)) (steps_below rows k d m) tag p.net (pn_limits p.net.places) (numbered 0 (list_of kids)) (arrived p.net.sources inputs X) ms now held ls w i inside f x always (λ ns. ns) k o in
+    let stuck = sticks-with (child_facts (facts_of rows)) (steps_below rows k d m) tag p.net (pn_limits p.net.places) (numbered 0 (list_of kids)) (arrived p.net.sources inputs X) ms now held ls w i inside f x always all_leave k o in
     below-stuck _ i f h.made stuck.0 stuck.1 _ (as-stuck tag h c (Pn p) _ _ _ stuck.2) stuck.3 stuck.4
 
 pub sdf-is-prefix : {T A : Type 0} → SdfIsPrefix T A
@@ -160,7 +160,7 @@ sdf-is-prefix {T} {A} rows k d m tag h c p X kids inputs ms now held ls w i got 
     let n = iterations p (sdf_start p X inputs) in
     let facts = child_facts (facts_of rows) in
     let below = asked-is-prefix facts (steps_below rows k d m) tag p.net (sdf_bounds p X inputs) (numbered 0 (list_of kids)) (sdf_start p X inputs) ms now held ls w i got held' child a inside
-    (subst (λ v. LogBelow inside v) (sym (log-rated facts (rates_at (sdf_bounds p X inputs) i) (steps_below rows k d m) tag (get_or now i child) got)) b) (fired_all n p.repetitions) (λ ns. times n p.gives) k o
+    (subst (λ v. LogBelow inside v) (sym (log-rated facts (rates_at (sdf_bounds p X inputs) i) (steps_below rows k d m) tag (get_or now i child) got)) b) (fired_all n p.repetitions) (leaving n p) k o
     in
     subst (λ v. LogBelow (within_firing h.made (log_below (logs_then i inside ls))) v) (sym (log-as-node tag h c (Sdf p) _)) (within-below h.made _ _ below)
 
@@ -169,6 +169,6 @@ unfolding step_at
 pn-is-prefix {T} {A} rows k d m tag h c p X kids inputs ms now held ls w i got held' child a inside b o =
     let facts = child_facts (facts_of rows) in
     let below = asked-is-prefix facts (steps_below rows k d m) tag p.net (pn_limits p.net.places) (numbered 0 (list_of kids)) (arrived p.net.sources inputs X) ms now held ls w i got held' child a inside
-    (subst (λ v. LogBelow inside v) (sym (log-rated facts (rates_at (pn_limits p.net.places) i) (steps_below rows k d m) tag (get_or now i child) got)) b) always (λ ns. ns) k o
+    (subst (λ v. LogBelow inside v) (sym (log-rated facts (rates_at (pn_limits p.net.places) i) (steps_below rows k d m) tag (get_or now i child) got)) b) always all_leave k o
     in
     subst (λ v. LogBelow (within_firing h.made (log_below (logs_then i inside ls))) v) (sym (log-as-node tag h c (Pn p) _)) (within-below h.made _ _ below)

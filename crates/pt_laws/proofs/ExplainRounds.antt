@@ -6,7 +6,7 @@ use Rattle.pt_meaning.specs.Basics.{Tag, Streams, at, Log, Path, Meeting, silent
 use Rattle.pt_meaning.specs.Machine.{Stepping, Facts}
 use Rattle.pt_meaning.specs.Flow.{Flow, flow}
 use Rattle.pt_meaning.specs.Rounds.{Source, Own, Output, Net, Limit, within, rated, gave, fed, refill, flows, round, all_at_rest}
-use Rattle.pt_meaning.specs.Dataflow.{arrival, arrived, kahn, settled, if_settled, states_of, left_by, logs_of, skip_places, behind, lengths, faults_of}
+use Rattle.pt_meaning.specs.Dataflow.{arrival, arrived, Leaving, kahn, settled, if_settled, states_of, left_by, logs_of, skip_places, behind, lengths, faults_of}
 use Rattle.pt_meaning.specs.Modal.{get}
 use Rattle.pt_meaning.specs.Rendezvous.{with_meetings}
 use Rattle.pt_meaning.specs.Node.{Core}
@@ -220,7 +220,7 @@ module _ {T S : Type 0} (facts : Facts T S) (step : Stepping T S) (tag : Tag) wh
   asks-at (n ∷ ns) (c ∷ cs) k (s ∷ ss) X d (suc i) b e = asks-at ns cs k ss (drop n X) d i b e
 
 -- a firing of rounds, explained
-module _ {T S : Type 0} (facts : Facts T S) (step : Stepping T S) (tag : Tag) (net : Net) (limits : List Limit) (enough : List (Flow T S) → Bool) (counts : List ℕ → List ℕ) (ks : List S) (X inputs : Streams T) (d : Core T) (core : Streams T → Core T) (any : S) (k : ℕ) (ms : List Meeting) (made : ℕ) where
+module _ {T S : Type 0} (facts : Facts T S) (step : Stepping T S) (tag : Tag) (net : Net) (limits : List Limit) (enough : List (Flow T S) → Bool) (leaving : Leaving) (ks : List S) (X inputs : Streams T) (d : Core T) (core : Streams T → Core T) (any : S) (k : ℕ) (ms : List Meeting) (made : ℕ) where
   abbrev start : Streams T
   start = arrived net.sources inputs X
 
@@ -299,7 +299,7 @@ module _ {T S : Type 0} (facts : Facts T S) (step : Stepping T S) (tag : Tag) (n
     if-well true e ms out = well (e refl) ms
     if-well false e ms out = tt
 
-    pub kahn-explained : Explained facts step ms made tag inputs d core ks (kahn facts step tag net limits enough counts ks start k)
+    pub kahn-explained : Explained facts step ms made tag inputs d core ks (kahn facts step tag net limits enough leaving ks start k)
     unfolding kahn
     kahn-explained = record {
       events = [];
@@ -317,5 +317,5 @@ module _ {T S : Type 0} (facts : Facts T S) (step : Stepping T S) (tag : Tag) (n
       asked = λ i w e.
           subst (λ v. IsAsked facts step ms made d ks tag inputs i (end_at facts step tag end_flows any i) v w.inputs) (sym (stuck-tagged facts step tag net.places limits k ks end_round i w e))
           (reads.asks i (end_at facts step tag end_flows any i) w.inputs (k, asks-at facts step tag net.places limits k ks end_round any i w e));
-      done = if-well (settled facts step tag net limits ks start k && enough end_flows) (λ e. and-left _ _ e) (counts (lengths (skip_places net.places end_round))) _;
+      done = if-well (settled facts step tag net limits ks start k && enough end_flows) (λ e. and-left _ _ e) (leaving.gone (lengths (skip_places net.places end_round))) _;
     }

@@ -5,13 +5,13 @@ use Rattle.pt_meaning.specs.Basics.{Tag, Streams, Log, log_below, within_firing}
 use Rattle.pt_meaning.specs.Machine.{Fault, Outcome, Done, Stuck, Stepping, Facts}
 use Rattle.pt_meaning.specs.Flow.{Flow, flow}
 use Rattle.pt_meaning.specs.Rounds.{Source, Net, Limit, within, rated, flows, round}
-use Rattle.pt_meaning.specs.Dataflow.{Inside, iterations, pn_limits, settled, kahn, if_settled, always, fired_all, states_of, left_by, logs_of, skip_places, lengths, firsts, behind, arrived}
+use Rattle.pt_meaning.specs.Dataflow.{Inside, iterations, pn_limits, settled, kahn, if_settled, always, fired_all, states_of, left_by, logs_of, skip_places, lengths, firsts, behind, arrived, times, Leaving, all_leave, leaving}
 use Rattle.pt_meaning.specs.Meetings.{Meets, below_child}
 use Rattle.pt_meaning.specs.Children.{Child, numbered, nodes, child_facts, child_step, with_number}
 use Rattle.pt_meaning.specs.Node.{Rows, Core, Sdf, Pn, Past, Node, Nodes, Composite, list_of, nodes_of, fired_at, facts_of, as_node, step_at}
 use Rattle.pt_meaning.specs.Running.{Fits, NoneCanFire, total}
 use Rattle.pt_laws.specs.LogsOfRuns.{RunningWith}
-use Rattle.pt_laws.specs.CompositeRuns.{steps_below, sdf_start, sdf_bounds, times}
+use Rattle.pt_laws.specs.CompositeRuns.{steps_below, sdf_start, sdf_bounds}
 use Rattle.pt_laws.specs.SettledRuns.{fired_of, flows_at, held_at, FiringOfRun, PnFiringIsRun, SdfFiringIsRun}
 use Rattle.pt_laws.proofs.KahnLaws.{and-left, and-right}
 use Rattle.pt_laws.proofs.RunLaws.{left-length}
@@ -111,7 +111,7 @@ flows-left {T} {S} facts step tag (n ∷ ns) (c ∷ cs) k (s ∷ ss) X a b h =
     length-append F R ∙ ap₂ (λ x y. x + y) e f
 
 -- the run of a firing of rounds
-module _ {T A : Type 0} (rows : Rows T A) (k d : ℕ) (m : Meets) (tag : Tag) (h : Past) (c : Core T) (core : Streams T → Core T) (net : Net) (limits : List Limit) (enough : List (Flow T (Child (Node T A))) → Bool) (counts : List ℕ → List ℕ) (kids : Nodes T A) (start : Streams T) (s : Node T A) (out : Streams T) (l : Log T) (a : length limits ≡ length net.places) (b : length (list_of kids) ≡ length net.places) (w : total net.places ≤ length start) (e : as_node tag h c core (kahn (child_facts (facts_of rows)) (steps_below rows k d m) tag net limits enough counts (numbered 0 (list_of kids)) start k) ≡ Done s out l) where
+module _ {T A : Type 0} (rows : Rows T A) (k d : ℕ) (m : Meets) (tag : Tag) (h : Past) (c : Core T) (core : Streams T → Core T) (net : Net) (limits : List Limit) (enough : List (Flow T (Child (Node T A))) → Bool) (leaving : Leaving) (kids : Nodes T A) (start : Streams T) (s : Node T A) (out : Streams T) (l : Log T) (a : length limits ≡ length net.places) (b : length (list_of kids) ≡ length net.places) (w : total net.places ≤ length start) (e : as_node tag h c core (kahn (child_facts (facts_of rows)) (steps_below rows k d m) tag net limits enough leaving (numbered 0 (list_of kids)) start k) ≡ Done s out l) where
   abbrev its : List (Child (Node T A))
   its = numbered 0 (list_of kids)
 
@@ -127,10 +127,10 @@ module _ {T A : Type 0} (rows : Rows T A) (k d : ℕ) (m : Meets) (tag : Tag) (h
   abbrev pub end_held : Streams T
   end_held = held_at (child_facts (facts_of rows)) (steps_below rows k d m) tag net limits (numbered 0 (list_of kids)) start k
 
-  inner : DoneWithin tag h c core (kahn (child_facts (facts_of rows)) (steps_below rows k d m) tag net limits enough counts (numbered 0 (list_of kids)) start k) s out l
+  inner : DoneWithin tag h c core (kahn (child_facts (facts_of rows)) (steps_below rows k d m) tag net limits enough leaving (numbered 0 (list_of kids)) start k) s out l
   inner = done-within tag h c core _ s out l e
 
-  parts : SettledWith (settled (child_facts (facts_of rows)) (steps_below rows k d m) tag net limits (numbered 0 (list_of kids)) start k && enough end_flows) (record { held = left_by end_flows ++ behind (counts (lengths (skip_places net.places end_round))) (skip_places net.places end_round); kids = states_of end_flows }) inner.inside (firsts (counts (lengths (skip_places net.places end_round))) (skip_places net.places end_round)) out (log_below (logs_of end_flows)) inner.log
+  parts : SettledWith (settled (child_facts (facts_of rows)) (steps_below rows k d m) tag net limits (numbered 0 (list_of kids)) start k && enough end_flows) (record { held = left_by end_flows ++ behind (leaving.gone (lengths (skip_places net.places end_round))) (skip_places net.places end_round); kids = states_of end_flows }) inner.inside (firsts (leaving.given (lengths (skip_places net.places end_round))) (skip_places net.places end_round)) out (log_below (logs_of end_flows)) inner.log
   unfolding kahn inner
   parts = was-settled _ _ _ _ _ _ _ _ inner.done
 
@@ -150,14 +150,14 @@ module _ {T A : Type 0} (rows : Rows T A) (k d : ℕ) (m : Meets) (tag : Tag) (h
   unfolding inner
   kids-from =
       subst (λ r. KidsFrom {T = T} SameNumber (numbered 0 (list_of kids)) r) inner.done
-      (kahn-from (child_facts (facts_of rows)) (steps_below rows k d m) (steps_below rows k d m) SameNumber (numbers-alike rows (λ i. step_at rows k d (below_child i m))) tag net limits (numbered 0 (list_of kids)) (numbered 0 (list_of kids)) (all-same (numbered 0 (list_of kids))) enough counts start k)
+      (kahn-from (child_facts (facts_of rows)) (steps_below rows k d m) (steps_below rows k d m) SameNumber (numbers-alike rows (λ i. step_at rows k d (below_child i m))) tag net limits (numbered 0 (list_of kids)) (numbered 0 (list_of kids)) (all-same (numbered 0 (list_of kids))) enough leaving start k)
 
   kids-count : length inner.inside.kids ≡ length (list_of kids)
   unfolding inner
   kids-count =
-      subst (λ r. KidsCount {T = T} (length net.places) r) inner.done (kahn-count (child_facts (facts_of rows)) (steps_below rows k d m) tag (length net.places) net limits enough counts (numbered 0 (list_of kids)) start k refl a its-length) ∙ sym b
+      subst (λ r. KidsCount {T = T} (length net.places) r) inner.done (kahn-count (child_facts (facts_of rows)) (steps_below rows k d m) tag (length net.places) net limits enough leaving (numbered 0 (list_of kids)) start k refl a its-length) ∙ sym b
 
-  pub firing-of : FiringOfRun tag h c core net counts (states_of end_flows) end_held (logs_of end_flows) s out l
+  pub firing-of : FiringOfRun tag h c core net leaving (states_of end_flows) end_held (logs_of end_flows) s out l
   firing-of =
       let O : Streams T = skip_places net.places end_round in
       let first : take (total net.places) end_held ≡ left_by end_flows = first-part (total net.places) (left_by end_flows) O end_held refl left-fits in
@@ -165,8 +165,8 @@ module _ {T A : Type 0} (rows : Rows T A) (k d : ℕ) (m : Meets) (tag : Tag) (h
       record {
         state =
             inner.state ∙ ap (λ (x : Inside (Streams T) (Child (Node T A))). let n : Node T A = Composite (fired_at tag h) c (core x.held) (nodes_of (nodes x.kids)) in n) (sym parts.state) ∙
-            ap₂ (λ (x y : Streams T). let n : Node T A = Composite (fired_at tag h) c (core (x ++ behind (counts (lengths y)) y)) (nodes_of (nodes (states_of end_flows))) in n) (sym first) (sym second);
-        outputs = sym parts.outputs ∙ ap (λ y. firsts (counts (lengths y)) y) (sym second);
+            ap₂ (λ (x y : Streams T). let n : Node T A = Composite (fired_at tag h) c (core (x ++ behind (leaving.gone (lengths y)) y)) (nodes_of (nodes (states_of end_flows))) in n) (sym first) (sym second);
+        outputs = sym parts.outputs ∙ ap (λ y. firsts (leaving.given (lengths y)) y) (sym second);
         log = inner.marked ∙ ap (λ v. within_firing h.made v) (sym parts.log);
         numbers = subst (λ (zs : List (Child (Node T A))). numbered 0 (nodes zs) ≡ zs) (ap (λ (x : Inside (Streams T) (Child (Node T A))). x.kids) (sym parts.state)) (renumbered 0 (list_of kids) inner.inside.kids kids-from kids-count);
       }
@@ -182,8 +182,8 @@ pn-firing-is-run {T} {A} rows k d m tag h c p X kids inputs s out l b w e =
     let start : Streams T = arrived p.net.sources inputs X in
     let a : length (pn_limits p.net.places) ≡ length p.net.places = pn-bounds-count p.net.places in
     let wide : total p.net.places ≤ length start = omega (arith, w, arrived-long p.net.sources inputs X) in
-    let run = run-of rows k d m tag h c (Pn p) p.net (pn_limits p.net.places) always (λ ns. ns) kids start s out l a b wide e in
-    (_, _, _, _, run.0, run.1, firing-of rows k d m tag h c (Pn p) p.net (pn_limits p.net.places) always (λ ns. ns) kids start s out l a b wide e)
+    let run = run-of rows k d m tag h c (Pn p) p.net (pn_limits p.net.places) always all_leave kids start s out l a b wide e in
+    (_, _, _, _, run.0, run.1, firing-of rows k d m tag h c (Pn p) p.net (pn_limits p.net.places) always all_leave kids start s out l a b wide e)
 
 pub all-fired : {T S : Type 0} (m : ℕ) (qs : List ℕ) (fs : List (Flow T S)) → length fs ≡ length qs → fired_all m qs fs ≡ true → fired_of fs ≡ times m qs
 all-fired m [] [] e h = refl
@@ -206,8 +206,8 @@ sdf-firing-is-run {T} {A} rows k d m tag h c p X kids inputs s out l f w e =
     let facts : Facts T (Child (Node T A)) = child_facts (facts_of rows) in
     let a : length limits ≡ length p.net.places = sdf-bounds-count n p.repetitions p.rates (length p.net.places) (f.1 ∙ sym f.0) (f.2 ∙ sym f.0) in
     let wide : total p.net.places ≤ length start = omega (arith, w, arrived-long p.net.sources inputs X) in
-    let enough = has-enough rows k d m tag h c (Sdf p) p.net limits (fired_all n p.repetitions) (λ ns. times n p.gives) kids start s out l a (sym f.0) wide e in
-    let run = run-of rows k d m tag h c (Sdf p) p.net limits (fired_all n p.repetitions) (λ ns. times n p.gives) kids start s out l a (sym f.0) wide e in
+    let enough = has-enough rows k d m tag h c (Sdf p) p.net limits (fired_all n p.repetitions) (leaving n p) kids start s out l a (sym f.0) wide e in
+    let run = run-of rows k d m tag h c (Sdf p) p.net limits (fired_all n p.repetitions) (leaving n p) kids start s out l a (sym f.0) wide e in
     let fs = flows_at facts (steps_below rows k d m) tag p.net limits (numbered 0 (list_of kids)) start k in
     let made : fired_of fs ≡ times n p.repetitions = all-fired n p.repetitions fs (flows-count facts (steps_below rows k d m) tag p.net.places limits k (numbered 0 (list_of kids)) _ a (numbered-length 0 (list_of kids) ∙ sym f.0) ∙ f.0 ∙ sym f.1) enough in
-    (_, _, _, subst (λ ms. RunningWith facts (steps_below rows k d m) tag p.net limits (numbered 0 (list_of kids)) start ms (states_of fs) (held_at facts (steps_below rows k d m) tag p.net limits (numbered 0 (list_of kids)) start k) (logs_of fs)) made run.0, firing-of rows k d m tag h c (Sdf p) p.net limits (fired_all n p.repetitions) (λ ns. times n p.gives) kids start s out l a (sym f.0) wide e)
+    (_, _, _, subst (λ ms. RunningWith facts (steps_below rows k d m) tag p.net limits (numbered 0 (list_of kids)) start ms (states_of fs) (held_at facts (steps_below rows k d m) tag p.net limits (numbered 0 (list_of kids)) start k) (logs_of fs)) made run.0, firing-of rows k d m tag h c (Sdf p) p.net limits (fired_all n p.repetitions) (leaving n p) kids start s out l a (sym f.0) wide e)

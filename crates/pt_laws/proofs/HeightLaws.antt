@@ -5,7 +5,7 @@ use Rattle.pt_meaning.specs.Machine as machine
 use Rattle.pt_meaning.specs.Machine.{Fault, Outcome, Done, Stuck, Stepping, Facts, Partial, recorded}
 use Rattle.pt_meaning.specs.Flow.{Flow}
 use Rattle.pt_meaning.specs.Rounds.{Net, Limit, Source, Own, Output, flows, round}
-use Rattle.pt_meaning.specs.Dataflow.{Inside, states_of, kahn, if_settled, sdf_limits, pn_limits}
+use Rattle.pt_meaning.specs.Dataflow.{Inside, states_of, Leaving, kahn, if_settled, sdf_limits, pn_limits}
 use Rattle.pt_meaning.specs.Tick.{Activity, Earliness, reactions, reaction_states, tick}
 use Rattle.pt_meaning.specs.Modal.{unfired_outputs, Chart, Modes, Choice, Nothing, One, Wrong, Acted, Acts, Fails, taken, afterwards, on_refinement, at_refinement, with_refinement, preempted, change_at, change_if, left_at, entered_at, fresh_unless, get}
 use Rattle.pt_meaning.specs.Process.{Put, Party, all_advanced, all_got, all_puts, party_states, with_put_made, with_token}
@@ -44,9 +44,9 @@ module _ {T S : Type 0} (facts : Facts T S) (step : Stepping T S) (tag : Tag) (n
   if_count true x out l fs e = e
   if_count false x out l fs e = tt
 
-  pub kahn-count : (net : Net) (limits : List Limit) (enough : List (Flow T S) → Bool) (counts : List ℕ → List ℕ) (kids : List S) (X : Streams T) (k : ℕ) → length net.places ≡ n → length limits ≡ n → length kids ≡ n → KidsCount n (kahn facts step tag net limits enough counts kids X k)
+  pub kahn-count : (net : Net) (limits : List Limit) (enough : List (Flow T S) → Bool) (leaving : Leaving) (kids : List S) (X : Streams T) (k : ℕ) → length net.places ≡ n → length limits ≡ n → length kids ≡ n → KidsCount n (kahn facts step tag net limits enough leaving kids X k)
   unfolding kahn
-  kahn-count net limits enough counts kids X k a b e = if_count _ _ _ _ _ (flows-count n net.places limits k kids (round facts step tag net limits kids X k) a b e)
+  kahn-count net limits enough leaving kids X k a b e = if_count _ _ _ _ _ (flows-count n net.places limits k kids (round facts step tag net limits kids X k) a b e)
 
   module _ (early : Earliness T S) (active : Activity T S) (turn : Stepping T S) where
     reactions-count : (n : ℕ) (ns : List ℕ) (ss : List S) (V : List (machine.Partial T)) → length ns ≡ n → length ss ≡ n → length (reaction_states (reactions early active turn tag ns ss V)) ≡ n

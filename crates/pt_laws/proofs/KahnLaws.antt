@@ -4,7 +4,7 @@ use Rattle.pt_meaning.specs.Basics.{Tag, Streams, IsPrefix, Below, Log, LogBelow
 use Rattle.pt_meaning.specs.Machine.{Fault, Stuck, Stepping, Facts}
 use Rattle.pt_meaning.specs.Flow.{Stop, Lacking, Ended, Capped, Stopped, Flow}
 use Rattle.pt_meaning.specs.Rounds.{Net, Limit, refill, flows, round, at_rest, all_at_rest}
-use Rattle.pt_meaning.specs.Dataflow.{Inside, stop_faults, faults_of, prefixed, logs_of, settled, kahn, firing, if_settled, SdfPlan, PnPlan, sdf, pn}
+use Rattle.pt_meaning.specs.Dataflow.{Inside, stop_faults, faults_of, prefixed, logs_of, Leaving, settled, kahn, firing, if_settled, SdfPlan, PnPlan, sdf, pn}
 use Rattle.pt_meaning.specs.Laws.{AllIn, IsIn, Extends, Grows}
 use Rattle.pt_laws.proofs.Order.{IsPrefix-refl, Below-antisym, log_below-mono}
 use Rattle.pt_laws.proofs.RoundLaws.{FlowsBelow, flows-below, flows-rest, round-below, refill-below, grows-refl}
@@ -138,18 +138,18 @@ unsettled-extends false fs gs l m c out clear h k = (h, k)
 unsettled-extends true [] gs l m c out clear h k = k
 unsettled-extends true (f ∷ fs) gs l m c out clear h k = subst (λ v. IsIn f v) (clear refl) (h f (inl refl))
 
-firing-extends : {T S : Type 0} (b b' : Bool) (counts : List ℕ → List ℕ) (places : List ℕ) (fs gs : List (Flow T S)) (X Y : Streams T) →
-    (b ≡ true → (b' ≡ true) × (gs ≡ fs) × (Y ≡ X)) → (b' ≡ true → faults_of 0 gs ≡ []) → FlowsBelow fs gs → Extends (firing b counts places fs X) (firing b' counts places gs Y)
-firing-extends true b' counts places fs gs X Y same clear h = let e = same refl in rw (e.0, e.1, e.2) refl
-firing-extends false b' counts places fs gs X Y same clear h = unsettled-extends b' (faults_of 0 fs) (faults_of 0 gs) _ _ _ _ clear (faults-below 0 fs gs h) (logs-below fs gs h)
+firing-extends : {T S : Type 0} (b b' : Bool) (leaving : Leaving) (places : List ℕ) (fs gs : List (Flow T S)) (X Y : Streams T) →
+    (b ≡ true → (b' ≡ true) × (gs ≡ fs) × (Y ≡ X)) → (b' ≡ true → faults_of 0 gs ≡ []) → FlowsBelow fs gs → Extends (firing b leaving places fs X) (firing b' leaving places gs Y)
+firing-extends true b' leaving places fs gs X Y same clear h = let e = same refl in rw (e.0, e.1, e.2) refl
+firing-extends false b' leaving places fs gs X Y same clear h = unsettled-extends b' (faults_of 0 fs) (faults_of 0 gs) _ _ _ _ clear (faults-below 0 fs gs h) (logs-below fs gs h)
 
 module _ {T S : Type 0} (facts : Facts T S) (step more : Stepping T S) (grows : Grows step more) where
   -- the scheme of rounds keeps the fuel law
-  pub kahn-extends : (tag : Tag) (net : Net) (cs : List Limit) (enough : List (Flow T S) → Bool) (counts : List ℕ → List ℕ) (kids : List S) (X : Streams T) (k k' : ℕ) → k ≤ k' →
-      Extends (kahn facts step tag net cs enough counts kids X k) (kahn facts more tag net cs enough counts kids X k')
+  pub kahn-extends : (tag : Tag) (net : Net) (cs : List Limit) (enough : List (Flow T S) → Bool) (leaving : Leaving) (kids : List S) (X : Streams T) (k k' : ℕ) → k ≤ k' →
+      Extends (kahn facts step tag net cs enough leaving kids X k) (kahn facts more tag net cs enough leaving kids X k')
   unfolding kahn
-  kahn-extends tag net cs enough counts kids X k k' h =
-      firing-extends _ _ counts net.places _ _ _ _
+  kahn-extends tag net cs enough leaving kids X k k' h =
+      firing-extends _ _ leaving net.places _ _ _ _
       (λ e. (
         both _ _ (settled-stays facts step more tag grows net cs kids X k k' h (and-left _ _ e)) (subst (λ fs. enough fs ≡ true) (sym (flows-stay facts step more tag grows net cs kids X k k' h (and-left _ _ e))) (and-right _ _ e)),
         flows-stay facts step more tag grows net cs kids X k k' h (and-left _ _ e),

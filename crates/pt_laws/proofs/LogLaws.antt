@@ -6,7 +6,7 @@ use Rattle.pt_meaning.specs.Basics as basics
 use Rattle.pt_meaning.specs.Machine.{Fault, Outcome, Done, Stuck, Stepping, Facts, Front, Lacks, Ends, Takes, front}
 use Rattle.pt_meaning.specs.Flow.{Flow, flow, on_outcome, on_front, after_firing}
 use Rattle.pt_meaning.specs.Rounds.{Net, Limit, within, rated, rated_outcome, if_rated, has_rates, flows, round}
-use Rattle.pt_meaning.specs.Dataflow.{Inside, logs_of, states_of, left_by, skip_places, kahn, if_settled, settled}
+use Rattle.pt_meaning.specs.Dataflow.{Inside, logs_of, states_of, left_by, skip_places, Leaving, kahn, if_settled, settled}
 use Rattle.pt_meaning.specs.Running.{runs, zeros, total, MadeAll, WithinAll, Running, Fits, Asks, SticksAt}
 use Rattle.pt_laws.specs.LogsOfRuns.{silents, logs_then, log_at, log_in, rates_at, SticksWith, AskedFires, RunBeginsWith, RunEndsWith, RunSticksWith, RunIsPrefix, AskedIsPrefix, LogsStay, TracesAdd, CountsAdd}
 use Rattle.pt_meaning.specs.Children.{with_number}
@@ -42,8 +42,8 @@ asked-fires facts step tag i (n ∷ ns) (c ∷ cs) [] ss held got held' s' out i
 asked-fires facts step tag i (n ∷ ns) (c ∷ cs) (m ∷ ms) [] held got held' s' out inside d a h = absurd a
 
 pub ends-with : {T S : Type 0} → RunEndsWith T S
-ends-with {T} {S} facts step tag net limits kids start ms now held ls w nf enough counts en k l =
-    let e = run-done-with facts step tag net limits kids start ms now held w.running nf enough counts en k l in
+ends-with {T} {S} facts step tag net limits kids start ms now held ls w nf enough leaving en k l =
+    let e = run-done-with facts step tag net limits kids start ms now held w.running nf enough leaving en k l in
     (e.0, e.1, e.2, e.3, rw w.logs e.4)
 
 -- a log that goes on is below one that goes on further
@@ -162,36 +162,36 @@ log-of-settled false c out l fs = refl
 
 module _ {T S : Type 0} (facts : Facts T S) (step : Stepping T S) (tag : Tag) (net : Net) (limits : List Limit) (kids : List S) (start : Streams T) (ms : List ℕ) (now : List S) (held : Streams T) (r : Running facts step tag net limits kids start ms now held) where
   -- the log of a firing has what fewer firings of its children on fewer tokens have
-  runs-logs : (ns : List ℕ) → length ns ≡ length net.places → (k : ℕ) → total ms ≤ k → WithinAll limits ns k → (enough : List (Flow T S) → Bool) (counts : List ℕ → List ℕ) →
-      LogBelow (log_below (logs_of (runs facts step tag net.places limits ns kids r.all))) (log_in (kahn facts step tag net limits enough counts kids start k))
+  runs-logs : (ns : List ℕ) → length ns ≡ length net.places → (k : ℕ) → total ms ≤ k → WithinAll limits ns k → (enough : List (Flow T S) → Bool) (leaving : Leaving) →
+      LogBelow (log_below (logs_of (runs facts step tag net.places limits ns kids r.all))) (log_in (kahn facts step tag net limits enough leaving kids start k))
   unfolding kahn
-  runs-logs ns e k o w enough counts =
+  runs-logs ns e k o w enough leaving =
       let Y = round facts step tag net limits kids start k in
       let fs = flows facts step tag net.places limits k kids Y in
       let below = runs-below facts step tag net.places limits ns kids k r.all Y e w (Below-trans _ _ _ r.caused (round-below facts step step tag (grows-refl step) net limits kids start (total ms) k o)) in
       subst (λ v. LogBelow (log_below (logs_of (runs facts step tag net.places limits ns kids r.all))) v) (log-of-settled (settled facts step tag net limits kids start k && enough fs) _ _ (log_below (logs_of fs)) _) (logs-below _ _ below)
 
-  pub prefix-of : (k : ℕ) → total ms ≤ k → (enough : List (Flow T S) → Bool) (counts : List ℕ → List ℕ) → LogBelow (log_below (logs_of (runs facts step tag net.places limits ms kids r.all))) (log_in (kahn facts step tag net limits enough counts kids start k))
-  prefix-of k o enough counts = runs-logs ms r.each k o (few-more limits ms (total ms) k o r.few) enough counts
+  pub prefix-of : (k : ℕ) → total ms ≤ k → (enough : List (Flow T S) → Bool) (leaving : Leaving) → LogBelow (log_below (logs_of (runs facts step tag net.places limits ms kids r.all))) (log_in (kahn facts step tag net limits enough leaving kids start k))
+  prefix-of k o enough leaving = runs-logs ms r.each k o (few-more limits ms (total ms) k o r.few) enough leaving
 
-  asked-prefix : (i : ℕ) (inside : Log T) → AskedLogs facts step tag i net.places limits ms now held inside → (k : ℕ) → total ms < k → (enough : List (Flow T S) → Bool) (counts : List ℕ → List ℕ) →
-      LogBelow (log_below (logs_then i inside (logs_of (runs facts step tag net.places limits ms kids r.all)))) (log_in (kahn facts step tag net limits enough counts kids start k))
-  asked-prefix i inside x k o enough counts =
+  asked-prefix : (i : ℕ) (inside : Log T) → AskedLogs facts step tag i net.places limits ms now held inside → (k : ℕ) → total ms < k → (enough : List (Flow T S) → Bool) (leaving : Leaving) →
+      LogBelow (log_below (logs_then i inside (logs_of (runs facts step tag net.places limits ms kids r.all)))) (log_in (kahn facts step tag net limits enough leaving kids start k))
+  asked-prefix i inside x k o enough leaving =
       log-trans _ _ _ (asked-in facts step tag i net.places limits ms kids r.all (skip_places net.places r.all) now held inside r.each r.fits r.made r.states r.left x)
-      (runs-logs (bumped i ms) (bumped-length i ms ∙ r.each) k (omega arith) (few-more limits (bumped i ms) (suc (total ms)) k (omega arith) (asked-few facts step tag i net.places limits ms now held inside (total ms) r.few x)) enough counts)
+      (runs-logs (bumped i ms) (bumped-length i ms ∙ r.each) k (omega arith) (few-more limits (bumped i ms) (suc (total ms)) k (omega arith) (asked-few facts step tag i net.places limits ms now held inside (total ms) r.few x)) enough leaving)
 
 pub run-is-prefix : {T S : Type 0} → RunIsPrefix T S
-run-is-prefix facts step tag net limits kids start ms now held ls w enough counts k o = rw w.logs (prefix-of facts step tag net limits kids start ms now held w.running k o enough counts)
+run-is-prefix facts step tag net limits kids start ms now held ls w enough leaving k o = rw w.logs (prefix-of facts step tag net limits kids start ms now held w.running k o enough leaving)
 
 pub asked-is-prefix : {T S : Type 0} → AskedIsPrefix T S
-asked-is-prefix facts step tag net limits kids start ms now held ls w i got held' d a inside h enough counts k o =
-    rw w.logs (asked-prefix facts step tag net limits kids start ms now held w.running i inside (asked-logs facts step tag i net.places limits ms now held got held' d inside a h) k o enough counts)
+asked-is-prefix facts step tag net limits kids start ms now held ls w i got held' d a inside h enough leaving k o =
+    rw w.logs (asked-prefix facts step tag net limits kids start ms now held w.running i inside (asked-logs facts step tag i net.places limits ms now held got held' d inside a h) k o enough leaving)
 
 pub sticks-with : {T S : Type 0} → RunSticksWith T S
-sticks-with {T} {S} facts step tag net limits kids start ms now held ls w i inside f x enough counts k o =
+sticks-with {T} {S} facts step tag net limits kids start ms now held ls w i inside f x enough leaving k o =
     let s = sticks-logs facts step tag i net.places limits ms now held inside f x in
-    let e = run-stuck-from facts step tag net limits kids start ms now held w.running i f s.1 enough counts k o in
-    (e.0, e.1, e.2, e.3, rw w.logs (subst (λ r. LogBelow (log_below (logs_then i inside (logs_of (runs facts step tag net.places limits ms kids w.running.all)))) (log_in r)) e.2 (asked-prefix facts step tag net limits kids start ms now held w.running i inside s.0 k o enough counts)))
+    let e = run-stuck-from facts step tag net limits kids start ms now held w.running i f s.1 enough leaving k o in
+    (e.0, e.1, e.2, e.3, rw w.logs (subst (λ r. LogBelow (log_below (logs_then i inside (logs_of (runs facts step tag net.places limits ms kids w.running.all)))) (log_in r)) e.2 (asked-prefix facts step tag net limits kids start ms now held w.running i inside s.0 k o enough leaving)))
 
 log-if_rated : {T S : Type 0} (b : Bool) (n : ℕ) (s : S) (out : Streams T) (l : Log T) → log_in (if_rated b n s out l) ≡ l
 log-if_rated true n s out l = refl

@@ -12,7 +12,7 @@ use Rattle.pt_meaning.specs.Basics.{Tag, Streams, at, joined, Below, Firing, Log
 use Rattle.pt_meaning.specs.Machine.{Need, Outcome, Done, Stuck, Stepping, Facts, Front, Lacks, Ends, Takes, front}
 use Rattle.pt_meaning.specs.Flow.{Stop, Lacking, Ended, Capped, Stopped, Flow, flow, halted, after_firing, on_outcome, on_front}
 use Rattle.pt_meaning.specs.Rounds.{Source, Own, Output, Net, Limit, within, rated, gave, fed, refill, flows, round, at_rest, at_cap, all_at_rest}
-use Rattle.pt_meaning.specs.Dataflow.{Inside, states_of, left_by, logs_of, skip_places, settled, kahn, firing}
+use Rattle.pt_meaning.specs.Dataflow.{Inside, states_of, left_by, logs_of, skip_places, Leaving, settled, kahn, firing}
 use Rattle.pt_meaning.specs.Running.{runs, zeros, total, MadeAll, WithinAll, Running, Fits, plus, puts, puts_on, Fires, Asks, IsDry, CannotFire, NoneCanFire}
 use Rattle.pt_laws.specs.LogsOfRuns.{logs_then, RunningWith, FiresWith, FiringsHaveRecords}
 use Rattle.pt_laws.proofs.Order.{IsPrefix-append, Below-refl, Below-trans, Below-antisym, Below-take, Below-drop, at-joined}
@@ -704,32 +704,32 @@ module _ {T S : Type 0} (facts : Facts T S) (step : Stepping T S) (tag : Tag) wh
         (subst (λ Z. all_at_rest limits (flows facts step tag net.places limits k kids Z) ≡ true) (sym (round-is k (omega arith))) (rest-all limits _ _ (resting k l)))
 
     -- with its log
-    pub run-done-with : (enough : List (Flow T S) → Bool) (counts : List ℕ → List ℕ) → ((fs : List (Flow T S)) → MadeAll ms fs → enough fs ≡ true) → (k : ℕ) → total ms < k →
+    pub run-done-with : (enough : List (Flow T S) → Bool) (leaving : Leaving) → ((fs : List (Flow T S)) → MadeAll ms fs → enough fs ≡ true) → (k : ℕ) → total ms < k →
         (left own : Streams T) × (held ≡ left ++ own) × (length left ≡ total net.places) ×
-        (kahn facts step tag net limits enough counts kids start k ≡
-        Done (record { held = left ++ behind (counts (lengths own)) own; kids = now }) (firsts (counts (lengths own)) own) (log_below (logs_of (runs facts step tag net.places limits ms kids r.all))))
+        (kahn facts step tag net limits enough leaving kids start k ≡
+        Done (record { held = left ++ behind (leaving.gone (lengths own)) own; kids = now }) (firsts (leaving.given (lengths own)) own) (log_below (logs_of (runs facts step tag net.places limits ms kids r.all))))
     unfolding kahn
-    run-done-with enough counts en k l =
+    run-done-with enough leaving en k l =
         let A = r.all in
         let fs = flows facts step tag net.places limits k kids A in
-        let out = firsts (counts (lengths (skip_places net.places A))) (skip_places net.places A) in (
+        let out = firsts (leaving.given (lengths (skip_places net.places A))) (skip_places net.places A) in (
           left_by (runs facts step tag net.places limits ms kids A),
           skip_places net.places A,
           r.left,
           left-total net.places limits ms kids A r.each r.fits r.made,
-          ap (λ Z. firing (settled facts step tag net limits kids start k && enough (flows facts step tag net.places limits k kids Z)) counts net.places (flows facts step tag net.places limits k kids Z) Z) (round-is k (omega arith)) ∙
-              ap (λ b. firing b counts net.places fs A) (both-true _ _ (is-settled k l) (en fs (rest-made limits ms _ _ (resting k l) r.made))) ∙
-              ap₂ (λ (x : Streams T) (y : List S). let o : Outcome T (Inside (Streams T) S) = Done (record { held = x ++ behind (counts (lengths (skip_places net.places A))) (skip_places net.places A); kids = y }) out (log_below (logs_of fs)) in o)
+          ap (λ Z. firing (settled facts step tag net limits kids start k && enough (flows facts step tag net.places limits k kids Z)) leaving net.places (flows facts step tag net.places limits k kids Z) Z) (round-is k (omega arith)) ∙
+              ap (λ b. firing b leaving net.places fs A) (both-true _ _ (is-settled k l) (en fs (rest-made limits ms _ _ (resting k l) r.made))) ∙
+              ap₂ (λ (x : Streams T) (y : List S). let o : Outcome T (Inside (Streams T) S) = Done (record { held = x ++ behind (leaving.gone (lengths (skip_places net.places A))) (skip_places net.places A); kids = y }) out (log_below (logs_of fs)) in o)
               (rest-left limits _ _ (resting k l)) (rest-states limits _ _ (resting k l) ∙ sym r.states) ∙
               ap (λ (ls : List (Log T)).
-              let o : Outcome T (Inside (Streams T) S) = Done (record { held = left_by (runs facts step tag net.places limits ms kids A) ++ behind (counts (lengths (skip_places net.places A))) (skip_places net.places A); kids = now }) out (log_below ls) in o)
+              let o : Outcome T (Inside (Streams T) S) = Done (record { held = left_by (runs facts step tag net.places limits ms kids A) ++ behind (leaving.gone (lengths (skip_places net.places A))) (skip_places net.places A); kids = now }) out (log_below ls) in o)
               (rest-logs limits _ _ (resting k l)),
         )
 
-    pub run-done : (enough : List (Flow T S) → Bool) (counts : List ℕ → List ℕ) → ((fs : List (Flow T S)) → MadeAll ms fs → enough fs ≡ true) → (k : ℕ) → total ms < k →
+    pub run-done : (enough : List (Flow T S) → Bool) (leaving : Leaving) → ((fs : List (Flow T S)) → MadeAll ms fs → enough fs ≡ true) → (k : ℕ) → total ms < k →
         (left own : Streams T) × (l : Log T) × (held ≡ left ++ own) × (length left ≡ total net.places) ×
-        (kahn facts step tag net limits enough counts kids start k ≡ Done (record { held = left ++ behind (counts (lengths own)) own; kids = now }) (firsts (counts (lengths own)) own) l)
-    run-done enough counts en k l = let w = run-done-with enough counts en k l in (w.0, w.1, log_below (logs_of (runs facts step tag net.places limits ms kids r.all)), w.2, w.3, w.4)
+        (kahn facts step tag net limits enough leaving kids start k ≡ Done (record { held = left ++ behind (leaving.gone (lengths own)) own; kids = now }) (firsts (leaving.given (lengths own)) own) l)
+    run-done enough leaving en k l = let w = run-done-with enough leaving en k l in (w.0, w.1, log_below (logs_of (runs facts step tag net.places limits ms kids r.all)), w.2, w.3, w.4)
 
 -- a child that takes what it needs, and whose step is done, fires
 module _ {T S : Type 0} (facts : Facts T S) (step : Stepping T S) (tag : Tag) where

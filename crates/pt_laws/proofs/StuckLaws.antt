@@ -5,7 +5,7 @@ use Rattle.pt_meaning.specs.Basics.{Tag, Streams, Log, own}
 use Rattle.pt_meaning.specs.Machine.{Fault, Outcome, Done, Stuck, Stepping, Facts, Front, Lacks, Ends, Takes, front}
 use Rattle.pt_meaning.specs.Flow.{Stopped, Flow, flow, on_outcome, on_front, after_firing}
 use Rattle.pt_meaning.specs.Rounds.{Net, Limit, within, rated, flows, round}
-use Rattle.pt_meaning.specs.Dataflow.{Inside, stop_faults, faults_of, prefixed, states_of, left_by, skip_places, settled, kahn, if_settled}
+use Rattle.pt_meaning.specs.Dataflow.{Inside, stop_faults, faults_of, prefixed, states_of, left_by, skip_places, Leaving, settled, kahn, if_settled}
 use Rattle.pt_meaning.specs.Laws.{IsIn}
 use Rattle.pt_meaning.specs.Running.{runs, total, MadeAll, WithinAll, Running, Fits, SticksAt}
 use Rattle.pt_laws.proofs.Order.{Below-trans}
@@ -110,10 +110,10 @@ few-more (c ∷ cs) (m ∷ ms) j k o h = (within-more c.firings m j k o h.0, few
 
 -- where a run meets a child that is stuck, the firing has that place stuck
 pub run-stuck-from : {T S : Type 0} (facts : Facts T S) (step : Stepping T S) (tag : Tag) (net : Net) (limits : List Limit) (kids : List S) (start : Streams T) (ms : List ℕ) (now : List S) (held : Streams T) → Running facts step tag net limits kids start ms now held →
-    (i : ℕ) (f : Fault) → SticksAt facts step tag i net.places limits ms now held f → (enough : List (Flow T S) → Bool) (counts : List ℕ → List ℕ) → (k : ℕ) → total ms < k →
-    (gs : List Fault) × (l : Log T) × (kahn facts step tag net limits enough counts kids start k ≡ Stuck gs l) × IsIn (record { path = i ∷ f.path; firing = f.firing; code = f.code }) gs
+    (i : ℕ) (f : Fault) → SticksAt facts step tag i net.places limits ms now held f → (enough : List (Flow T S) → Bool) (leaving : Leaving) → (k : ℕ) → total ms < k →
+    (gs : List Fault) × (l : Log T) × (kahn facts step tag net limits enough leaving kids start k ≡ Stuck gs l) × IsIn (record { path = i ∷ f.path; firing = f.firing; code = f.code }) gs
 unfolding kahn
-run-stuck-from facts step tag net limits kids start ms now held r i f x enough counts k o =
+run-stuck-from facts step tag net limits kids start ms now held r i f x enough leaving k o =
     let here = sticks-in facts step tag i 0 net.places limits ms kids r.all (skip_places net.places r.all) now held f r.each r.fits r.made r.states r.left x in
     let few = few-more limits (bumped i ms) (suc (total ms)) k (omega arith) (sticks-few facts step tag i net.places limits ms now held f (total ms) r.few x) in
     let below = runs-below facts step tag net.places limits (bumped i ms) kids k r.all (round facts step tag net limits kids start k) (bumped-length i ms ∙ r.each) few
@@ -131,6 +131,6 @@ run-stuck-from facts step tag net limits kids start ms now held r i f x enough c
     goal
 
 pub run-stuck : {T S : Type 0} (facts : Facts T S) (step : Stepping T S) (tag : Tag) (net : Net) (limits : List Limit) (kids : List S) (start : Streams T) (ms : List ℕ) (now : List S) (held : Streams T) → Running facts step tag net limits kids start ms now held →
-    (i : ℕ) (f : Fault) → SticksAt facts step tag i net.places limits ms now held f → (enough : List (Flow T S) → Bool) (counts : List ℕ → List ℕ) →
-    (gs : List Fault) × (l : Log T) × (kahn facts step tag net limits enough counts kids start (suc (total ms)) ≡ Stuck gs l) × IsIn (record { path = i ∷ f.path; firing = f.firing; code = f.code }) gs
-run-stuck facts step tag net limits kids start ms now held r i f x enough counts = run-stuck-from facts step tag net limits kids start ms now held r i f x enough counts (suc (total ms)) (omega arith)
+    (i : ℕ) (f : Fault) → SticksAt facts step tag i net.places limits ms now held f → (enough : List (Flow T S) → Bool) (leaving : Leaving) →
+    (gs : List Fault) × (l : Log T) × (kahn facts step tag net limits enough leaving kids start (suc (total ms)) ≡ Stuck gs l) × IsIn (record { path = i ∷ f.path; firing = f.firing; code = f.code }) gs
+run-stuck facts step tag net limits kids start ms now held r i f x enough leaving = run-stuck-from facts step tag net limits kids start ms now held r i f x enough leaving (suc (total ms)) (omega arith)

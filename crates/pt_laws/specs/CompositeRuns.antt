@@ -1,9 +1,9 @@
 -- What a run of the children of an SDF or PN composite comes to for the composite itself, at any depth of what is below it.
-use Rattle.std.specs.Prelude.{◌≡◌, ℕ, suc, ◌≤◌, ◌*◌, ◌<◌, List, ◌∷◌, ◌++◌, take, drop, map, get_or}
+use Rattle.std.specs.Prelude.{◌≡◌, ℕ, suc, ◌≤◌, ◌<◌, List, ◌∷◌, ◌++◌, take, drop, get_or}
 use Rattle.pt_meaning.specs.Basics.{Tag, Streams, Log, LogBelow, log_below, within_firing}
 use Rattle.pt_meaning.specs.Machine.{Fault, Outcome, Done, Stuck, Stepping, Facts}
 use Rattle.pt_meaning.specs.Rounds.{Net, Limit}
-use Rattle.pt_meaning.specs.Dataflow.{SdfPlan, PnPlan, arrived, iterations, sdf_limits, pn_limits, firsts, behind}
+use Rattle.pt_meaning.specs.Dataflow.{SdfPlan, PnPlan, arrived, iterations, sdf_limits, pn_limits, times, leaves, firsts, behind}
 use Rattle.pt_meaning.specs.Process.{emptied}
 use Rattle.pt_meaning.specs.Meetings.{Meets, below_child}
 use Rattle.pt_meaning.specs.Children.{Child, numbered, nodes, child_facts, with_number, child_step}
@@ -46,21 +46,17 @@ abbrev pub PnRun : {T A : Type 0} → Rows T A → ℕ → ℕ → Meets → Tag
 PnRun rows k d m tag p X kids inputs ms now held ls =
     RunningWith (child_facts (facts_of rows)) (steps_below rows k d m) tag p.net (pn_limits p.net.places) (numbered 0 (list_of kids)) (arrived p.net.sources inputs X) ms now held ls
 
--- each number n times
-abbrev pub times : ℕ → List ℕ → List ℕ
-times n xs = map (λ x. n * x) xs
-
--- what the channels of the own outputs hold, behind those of the children's places
+-- what the channels behind the children's places hold: those to the own outputs, and those that end nowhere
 abbrev pub outlets_of : {T : Type 0} → Net → Streams T → Streams T
 outlets_of net held = drop (total net.places) held
 
 -- Where each child of an SDF composite has fired as often as its bound says, the composite's firing is done.
--- Each own output gives as many tokens as the iterations give, the rest is kept with what the children left, and the log is the children's, within this firing.
+-- Each own output gives as many tokens as the iterations give, and as many leave an own input that feeds nothing as the iterations take from it. The rest is kept with what the children left, and the log is the children's, within this firing.
 abbrev pub SdfEnds : Type 0 → Type 0 → Type 0
 SdfEnds T A = (rows : Rows T A) (k d : ℕ) (m : Meets) (tag : Tag) (h : Past) (c : Core T) (p : SdfPlan) (X : Streams T) (kids : Nodes T A) (inputs : Streams T) (ms : List ℕ) (now : List (Child (Node T A))) (held : Streams T) (ls : List (Log T)) →
     SdfRun rows k d m tag p X kids inputs ms now held ls → ms ≡ times (iterations p (sdf_start p X inputs)) p.repetitions → total ms < k →
     step_at rows k (suc d) m tag (Composite h c (Sdf p X) kids) inputs ≡
-    Done (Composite (fired_at tag h) c (Sdf p (take (total p.net.places) held ++ behind (times (iterations p (sdf_start p X inputs)) p.gives) (outlets_of p.net held))) (nodes_of (nodes now)))
+    Done (Composite (fired_at tag h) c (Sdf p (take (total p.net.places) held ++ behind (times (iterations p (sdf_start p X inputs)) (leaves p)) (outlets_of p.net held))) (nodes_of (nodes now)))
     (firsts (times (iterations p (sdf_start p X inputs)) p.gives) (outlets_of p.net held)) (within_firing h.made (log_below ls))
 
 -- where no child of a PN composite can fire its firing is done, and each own output gives all it has

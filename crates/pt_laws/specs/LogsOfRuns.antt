@@ -4,7 +4,7 @@ use Rattle.pt_meaning.specs.Basics.{Tag, Streams, at, Path, Firing, Log, LogBelo
 use Rattle.pt_meaning.specs.Machine.{Fault, Outcome, Done, Stuck, Stepping, Facts, Takes, front, recorded}
 use Rattle.pt_meaning.specs.Flow.{Flow}
 use Rattle.pt_meaning.specs.Rounds.{Net, Limit, within, rated}
-use Rattle.pt_meaning.specs.Dataflow.{kahn, logs_of, lengths, firsts, behind}
+use Rattle.pt_meaning.specs.Dataflow.{Leaving, kahn, logs_of, lengths, firsts, behind}
 use Rattle.pt_meaning.specs.Running.{Running, runs, Fits, MadeAll, Fires, Asks, NoneCanFire, total, plus, puts, zeros}
 use Rattle.pt_meaning.specs.Children.{Child, with_number, child_step}
 use Rattle.pt_meaning.specs.Laws.{IsIn}
@@ -97,26 +97,26 @@ RunGoesOnWith T S = (facts : Facts T S) (step : Stepping T S) (tag : Tag) (net :
 
 abbrev pub RunEndsWith : Type 0 → Type 0 → Type 0
 RunEndsWith T S = (facts : Facts T S) (step : Stepping T S) (tag : Tag) (net : Net) (limits : List Limit) (kids : List S) (start : Streams T) (ms : List ℕ) (now : List S) (held : Streams T) (ls : List (Log T)) → RunningWith facts step tag net limits kids start ms now held ls →
-    NoneCanFire facts net.places limits ms now held → (enough : List (Flow T S) → Bool) (counts : List ℕ → List ℕ) → ((fs : List (Flow T S)) → MadeAll ms fs → enough fs ≡ true) → (k : ℕ) → total ms < k →
+    NoneCanFire facts net.places limits ms now held → (enough : List (Flow T S) → Bool) (leaving : Leaving) → ((fs : List (Flow T S)) → MadeAll ms fs → enough fs ≡ true) → (k : ℕ) → total ms < k →
     (left own : Streams T) × (held ≡ left ++ own) × (length left ≡ total net.places) ×
-    (kahn facts step tag net limits enough counts kids start k ≡ Done (record { held = left ++ behind (counts (lengths own)) own; kids = now }) (firsts (counts (lengths own)) own) (log_below ls))
+    (kahn facts step tag net limits enough leaving kids start k ≡ Done (record { held = left ++ behind (leaving.gone (lengths own)) own; kids = now }) (firsts (leaving.given (lengths own)) own) (log_below ls))
 
 -- the log of a stuck firing has at least what all children have logged, with what the stuck one has logged within the firing that is stuck
 abbrev pub RunSticksWith : Type 0 → Type 0 → Type 0
 RunSticksWith T S = (facts : Facts T S) (step : Stepping T S) (tag : Tag) (net : Net) (limits : List Limit) (kids : List S) (start : Streams T) (ms : List ℕ) (now : List S) (held : Streams T) (ls : List (Log T)) → RunningWith facts step tag net limits kids start ms now held ls →
-    (i : ℕ) (inside : Log T) (f : Fault) → SticksWith facts step tag i net.places limits ms now held inside f → (enough : List (Flow T S) → Bool) (counts : List ℕ → List ℕ) → (k : ℕ) → total ms < k →
-    (gs : List Fault) × (l : Log T) × (kahn facts step tag net limits enough counts kids start k ≡ Stuck gs l) × IsIn (record { path = i ∷ f.path; firing = f.firing; code = f.code }) gs × LogBelow (log_below (logs_then i inside ls)) l
+    (i : ℕ) (inside : Log T) (f : Fault) → SticksWith facts step tag i net.places limits ms now held inside f → (enough : List (Flow T S) → Bool) (leaving : Leaving) → (k : ℕ) → total ms < k →
+    (gs : List Fault) × (l : Log T) × (kahn facts step tag net limits enough leaving kids start k ≡ Stuck gs l) × IsIn (record { path = i ∷ f.path; firing = f.firing; code = f.code }) gs × LogBelow (log_below (logs_then i inside ls)) l
 
 -- what the children have logged in the middle is the beginning of the log of the whole firing, however that ends
 abbrev pub RunIsPrefix : Type 0 → Type 0 → Type 0
 RunIsPrefix T S = (facts : Facts T S) (step : Stepping T S) (tag : Tag) (net : Net) (limits : List Limit) (kids : List S) (start : Streams T) (ms : List ℕ) (now : List S) (held : Streams T) (ls : List (Log T)) → RunningWith facts step tag net limits kids start ms now held ls →
-    (enough : List (Flow T S) → Bool) (counts : List ℕ → List ℕ) → (k : ℕ) → total ms ≤ k → LogBelow (log_below ls) (log_in (kahn facts step tag net limits enough counts kids start k))
+    (enough : List (Flow T S) → Bool) (leaving : Leaving) → (k : ℕ) → total ms ≤ k → LogBelow (log_below ls) (log_in (kahn facts step tag net limits enough leaving kids start k))
 
 -- and so it is with what a child logs within the firing that it was asked for
 abbrev pub AskedIsPrefix : Type 0 → Type 0 → Type 0
 AskedIsPrefix T S = (facts : Facts T S) (step : Stepping T S) (tag : Tag) (net : Net) (limits : List Limit) (kids : List S) (start : Streams T) (ms : List ℕ) (now : List S) (held : Streams T) (ls : List (Log T)) → RunningWith facts step tag net limits kids start ms now held ls →
     (i : ℕ) (got held' : Streams T) (d : S) → Asks facts i net.places limits ms now held got held' → (inside : Log T) → LogBelow inside (log_in (rated facts (rates_at limits i) step tag (get_or now i d) got)) →
-    (enough : List (Flow T S) → Bool) (counts : List ℕ → List ℕ) → (k : ℕ) → total ms < k → LogBelow (log_below (logs_then i inside ls)) (log_in (kahn facts step tag net limits enough counts kids start k))
+    (enough : List (Flow T S) → Bool) (leaving : Leaving) → (k : ℕ) → total ms < k → LogBelow (log_below (logs_then i inside ls)) (log_in (kahn facts step tag net limits enough leaving kids start k))
 
 -- what a child's firing has logged stays its log where its rates are checked, and where its number is put to it
 pub record LogsStay (T S : Type 0) : Type 0 where

@@ -1,23 +1,23 @@
 -- The statements of the laws: of steps at fuel, of rounds and valuations, of runs in any order, of places, and of the meaning.
-use Rattle.std.specs.Prelude.{◌≡◌, ℕ, suc, ◌≤◌, ◌<◌, ◌+◌, ◌++◌, List, [], ◌∷◌, Bool, Some, true, false, ◌||◌, length}
-use Rattle.pt_meaning.specs.Tag.{Tag, is_due}
-use Rattle.pt_meaning.specs.Streams.{Streams, at, Below, any_present}
+use Rattle.std.specs.Prelude.{◌≡◌, ℕ, suc, ◌≤◌, ◌<◌, ◌+◌, ◌++◌, List, [], ◌∷◌, Bool, true, length}
+use Rattle.pt_meaning.specs.Tag.{Tag}
+use Rattle.pt_meaning.specs.Streams.{Streams, at, Below}
 use Rattle.pt_meaning.specs.Log.{Log, LogBelow, Meeting}
-use Rattle.pt_meaning.specs.Machine.{Done, Stuck, Fault, Stepping, Facts, Partial, Known, partial_at}
+use Rattle.pt_meaning.specs.Machine.{Done, Stuck, Fault, Stepping, Facts, Partial}
 use Rattle.pt_meaning.specs.Flow.{Flow}
 use Rattle.pt_meaning.specs.Net.{Net}
 use Rattle.pt_meaning.specs.Rounds.{Limit, refill, flows, round}
-use Rattle.pt_meaning.specs.Kahn.{kahn, lengths, firsts, behind}
+use Rattle.pt_meaning.specs.Kahn.{Leaving, kahn, lengths, firsts, behind}
 use Rattle.pt_meaning.specs.Pn.{pn_limits}
-use Rattle.pt_meaning.specs.Valuation.{Activity, Earliness, known, react_all, valuation, is_least}
+use Rattle.pt_meaning.specs.Valuation.{Activity, Earliness, react_all, valuation, is_least}
 use Rattle.pt_meaning.specs.Process.{puts_of}
 use Rattle.pt_meaning.specs.Meetings.{Meets, Scene, is_legal, meet, Apart}
 use Rattle.pt_meaning.specs.Rendezvous.{settled}
-use Rattle.pt_meaning.specs.Tree.{Rows, Node, Gives}
+use Rattle.pt_meaning.specs.Tree.{Rows, Node}
 use Rattle.pt_meaning.specs.Step.{Step, step_at}
 use Rattle.pt_meaning.specs.Job.{Schedule, Standing, Goes, Ended, Halted, after, begin, log_of}
 use Rattle.pt_meaning.specs.Lawful.{LawfulRows}
-use Rattle.pt_meaning.specs.Laws.{Extends, IsIn, AllIn, PartialBelow, KnownBelow, KeepsEarly}
+use Rattle.pt_meaning.specs.Laws.{Extends, IsIn, AllIn, KnownBelow, KeepsEarly}
 use Rattle.pt_meaning.specs.Running.{Running, Fits, MadeAll, Fires, NoneCanFire, SticksAt, total, plus, puts, zeros, added_by}
 use Rattle.pt_meaning.specs.Places.{Halfway, Consistent, IsGet, IsPut, IsFire, ArePuts, AllStop}
 use Rattle.pt_meaning.specs.Dataflow as dataflow
@@ -67,15 +67,15 @@ RunGoesOn T S = (facts : Facts T S) (step : Stepping T S) (tag : Tag) (net : Net
 -- a run in which no child can fire is the settled round
 abbrev pub RunEnds : Type 0 → Type 0 → Type 0
 RunEnds T S = (facts : Facts T S) (step : Stepping T S) (tag : Tag) (net : Net) (limits : List Limit) (kids : List S) (start : Streams T) (ms : List ℕ) (now : List S) (held : Streams T) → Running facts step tag net limits kids start ms now held →
-    NoneCanFire facts net.places limits ms now held → (enough : List (Flow T S) → Bool) (counts : List ℕ → List ℕ) → ((fs : List (Flow T S)) → MadeAll ms fs → enough fs ≡ true) → (k : ℕ) → total ms < k →
+    NoneCanFire facts net.places limits ms now held → (enough : List (Flow T S) → Bool) (leaving : Leaving) → ((fs : List (Flow T S)) → MadeAll ms fs → enough fs ≡ true) → (k : ℕ) → total ms < k →
     (left own : Streams T) × (l : Log T) × (held ≡ left ++ own) × (length left ≡ total net.places) ×
-    (kahn facts step tag net limits enough counts kids start k ≡ Done (record { held = left ++ behind (counts (lengths own)) own; kids = now }) (firsts (counts (lengths own)) own) l)
+    (kahn facts step tag net limits enough leaving kids start k ≡ Done (record { held = left ++ behind (leaving.gone (lengths own)) own; kids = now }) (firsts (leaving.given (lengths own)) own) l)
 
 -- a child that is stuck in a run makes the composite stuck at that place
 abbrev pub RunSticks : Type 0 → Type 0 → Type 0
 RunSticks T S = (facts : Facts T S) (step : Stepping T S) (tag : Tag) (net : Net) (limits : List Limit) (kids : List S) (start : Streams T) (ms : List ℕ) (now : List S) (held : Streams T) → Running facts step tag net limits kids start ms now held →
-    (i : ℕ) (f : Fault) → SticksAt facts step tag i net.places limits ms now held f → (enough : List (Flow T S) → Bool) (counts : List ℕ → List ℕ) →
-    (gs : List Fault) × (l : Log T) × (kahn facts step tag net limits enough counts kids start (suc (total ms)) ≡ Stuck gs l) × IsIn (record { path = i ∷ f.path; firing = f.firing; code = f.code }) gs
+    (i : ℕ) (f : Fault) → SticksAt facts step tag i net.places limits ms now held f → (enough : List (Flow T S) → Bool) (leaving : Leaving) →
+    (gs : List Fault) × (l : Log T) × (kahn facts step tag net limits enough leaving kids start (suc (total ms)) ≡ Stuck gs l) × IsIn (record { path = i ∷ f.path; firing = f.firing; code = f.code }) gs
 
 -- a legal meeting stays legal until one of its parties takes part in another: through any other meeting, and through any firings
 abbrev pub LegalStays : Type 0 → Type 0 → Type 0
