@@ -5,7 +5,7 @@ use Rattle.pt_meaning.specs.Streams.{Streams, get}
 use Rattle.pt_meaning.specs.Log.{Log, LogBelow, Firing, log_then, own, log_below, within_firing}
 use Rattle.pt_meaning.specs.Machine.{rate_code, Fault, Outcome, Done, Stuck, Stepping, Facts, recorded}
 use Rattle.pt_meaning.specs.Rounds.{Net, Limit, rated, rated_outcome, if_rated, has_rates}
-use Rattle.pt_meaning.specs.Dataflow.{SdfPlan, iterations, fired_all, firsts}
+use Rattle.pt_meaning.specs.Dataflow.{SdfPlan, iterations, fired_all, times, leaving, firsts}
 use Rattle.pt_meaning.specs.Meetings.{Meets, below_child}
 use Rattle.pt_meaning.specs.Children.{Child, numbered, nodes, child_facts, with_number}
 use Rattle.pt_meaning.specs.Tree.{Rows, Core, Sdf, Past, Node, Nodes, Composite, none, more, list_of, nodes_of, made_of, fired_at, height, heights}
@@ -14,7 +14,7 @@ use Rattle.pt_meaning.specs.Step.{step_at, Step}
 use Rattle.pt_meaning.specs.Lawful.{LawfulRows}
 use Rattle.pt_meaning.specs.Running.{Asks, plus, puts, total}
 use Rattle.pt_laws.specs.LogsOfRuns.{RunningWith, SticksWith, silents, logs_then, log_in, rates_at}
-use Rattle.pt_laws.specs.CompositeRuns.{steps_below, SdfRun, sdf_start, sdf_bounds, times, outlets_of}
+use Rattle.pt_laws.specs.CompositeRuns.{steps_below, SdfRun, sdf_start, sdf_bounds, outlets_of}
 use Rattle.pt_meaning.specs.Laws.{IsIn}
 use Rattle.pt_laws.proofs.FuelLaw.{within-below}
 use Rattle.pt_laws.proofs.Order.{IsPrefix-refl}
@@ -181,7 +181,7 @@ unfolding step_at
 sdf-below rows m tag h c p X kids inputs k ms now held ls w o =
     let n = iterations p (sdf_start p X inputs) in
     subst (λ v. LogBelow (within_firing h.made (log_below ls)) v) (sym (log-as-node tag h c (Sdf p) _))
-    (within-below h.made _ _ (run-is-prefix (child_facts (facts_of rows)) (steps_below rows k (heights kids) m) tag p.net (sdf_bounds p X inputs) (numbered 0 (list_of kids)) (sdf_start p X inputs) ms now held ls w (fired_all n p.repetitions) (λ ns. times n p.gives) k o))
+    (within-below h.made _ _ (run-is-prefix (child_facts (facts_of rows)) (steps_below rows k (heights kids) m) tag p.net (sdf_bounds p X inputs) (numbered 0 (list_of kids)) (sdf_start p X inputs) ms now held ls w (fired_all n p.repetitions) (leaving n p) k o))
 
 pub sdf-is-left-off : {T A : Type 0} → SdfIsLeftOff T A
 sdf-is-left-off rows law m tag h c p X kids inputs e olds ms now held news s = record {

@@ -5,7 +5,7 @@ use Rattle.pt_meaning.specs.Streams.{Streams, get}
 use Rattle.pt_meaning.specs.Log.{Log}
 use Rattle.pt_meaning.specs.Machine.{rate_code, Fault}
 use Rattle.pt_meaning.specs.Rounds.{Net, Limit, has_rates}
-use Rattle.pt_meaning.specs.Dataflow.{SdfPlan, iterations, firsts, behind}
+use Rattle.pt_meaning.specs.Dataflow.{SdfPlan, iterations, times, leaves, firsts, behind}
 use Rattle.pt_meaning.specs.Meetings.{Meets, below_child}
 use Rattle.pt_meaning.specs.Children.{numbered, child_facts}
 use Rattle.pt_meaning.specs.Tree.{Rows, Core, Sdf, Past, Node, Nodes, Composite, list_of, nodes_of, made_of, fired_at, height, heights}
@@ -14,7 +14,7 @@ use Rattle.pt_meaning.specs.Step.{step_at, Step}
 use Rattle.pt_meaning.specs.Lawful.{LawfulRows}
 use Rattle.pt_meaning.specs.Running.{Asks, Fits, plus, puts, total, zeros}
 use Rattle.pt_laws.specs.LogsOfRuns.{RunningWith, rates_at}
-use Rattle.pt_laws.specs.CompositeRuns.{steps_below, sdf_start, sdf_bounds, times, outlets_of}
+use Rattle.pt_laws.specs.CompositeRuns.{steps_below, sdf_start, sdf_bounds, outlets_of}
 use Rattle.pt_records.specs.Kept.{Kept, Entry, kept_at, kept_by, AllGrewBy}
 use Rattle.pt_records.specs.Fired.{FromSome, FiresTo, SticksAt, LeavesOff}
 use Rattle.pt_records.specs.Shut.{IsShut}
@@ -61,7 +61,7 @@ SdfSoFar rows m tag p X kids inputs olds ms now held news = SoFar rows m (height
 
 -- what its channels hold once its firing is done, by what they held at the end of it
 abbrev pub sdf_left : {T : Type 0} → SdfPlan → Streams T → Streams T → Streams T → Streams T
-sdf_left p X inputs held = take (total p.net.places) held ++ behind (times (iterations p (sdf_start p X inputs)) p.gives) (outlets_of p.net held)
+sdf_left p X inputs held = take (total p.net.places) held ++ behind (times (iterations p (sdf_start p X inputs)) (leaves p)) (outlets_of p.net held)
 
 -- Where each child has fired as often as its bound says, the composite's firing is done.
 abbrev pub SdfIsDone : Type 0 → Type 0 → Type 0
