@@ -1,6 +1,7 @@
 mod Parts
 pub mod SmallLaws
 pub mod DataflowExamples
+pub mod UnfedExamples
 pub mod NetworkExamples
 pub mod TickExamples
 pub mod EventExamples

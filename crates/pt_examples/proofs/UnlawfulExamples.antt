@@ -1,5 +1,5 @@
 -- The models that aren't lawful compute, and are refused.
-use Rattle.std.proofs.Common.{◌≡◌, ℕ, [], ◌∷◌, length, refl, ap, arith}
+use Rattle.std.proofs.Common.{◌≡◌, length, refl, ap, arith}
 use Rattle.pt_meaning.specs.Flow.{flow}
 use Rattle.pt_meaning.specs.Rounds.{round}
 use Rattle.pt_meaning.specs.Kahn.{kahn}

@@ -1,6 +1,7 @@
 pub mod Small
 pub mod Models
 pub mod Dataflow
+pub mod Unfed
 pub mod Networks
 pub mod Ticks
 pub mod Events

@@ -1,8 +1,8 @@
 -- Models that aren't lawful, each with what goes wrong in it, and that the words of the laws refuse it. Each differs in one list or one number from a lawful model, and its run was worked by hand.
 use Rattle.std.specs.Prelude.{◌≡◌, ℕ, List, [], ◌∷◌, Bool, true, false, Option, Some, pos}
-use Rattle.pt_meaning.specs.Net.{Source, Own, Output}
+use Rattle.pt_meaning.specs.Net.{Own, Output}
 use Rattle.pt_meaning.specs.Modal.{Chart, Stay, unentered}
-use Rattle.pt_meaning.specs.Transitions.{Reads, Transition, Mode, chart_of}
+use Rattle.pt_meaning.specs.Transitions.{Reads, Transition, chart_of}
 use Rattle.pt_meaning.specs.Tree.{Modal, Node, actor, composite}
 use Rattle.pt_meaning.specs.Start.{IsAtStart}
 use Rattle.pt_meaning.specs.Job.{Iterations, Inputs, Stop}

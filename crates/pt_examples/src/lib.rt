@@ -6,6 +6,7 @@ pub mod worked;
 ghost use Rattle.pt_meaning.specs.Lawful.{LawfulRows};
 ghost use Rattle.pt_examples.specs.Small.{rows};
 ghost use Rattle.pt_examples.specs.Dataflow.{DataflowExamples};
+ghost use Rattle.pt_examples.specs.Unfed.{UnfedExamples};
 ghost use Rattle.pt_examples.specs.Networks.{NetworkExamples};
 ghost use Rattle.pt_examples.specs.Ticks.{TickExamples};
 ghost use Rattle.pt_examples.specs.Events.{EventExamples};
@@ -27,6 +28,11 @@ pub fn small_library_is_lawful()
 /// Each example of SDF has its trace and its end.
 pub fn dataflow_examples()
     ensures { DataflowExamples }
+{}
+
+/// Each example of an own input that feeds nothing has its trace and its end.
+pub fn unfed_examples()
+    ensures { UnfedExamples }
 {}
 
 /// Each example of PN has its trace and its end.

@@ -15,6 +15,7 @@ ghost use Rattle.pt_examples.specs.Networks.{repeated_sum};
 ghost use Rattle.pt_examples.specs.Rendezvous.{merging, of_top, other_order};
 ghost use Rattle.pt_examples.specs.Small.{rows};
 ghost use Rattle.pt_examples.specs.Ticks.{muxes};
+ghost use Rattle.pt_examples.specs.Unfed.{of_two_clocks};
 ghost use Rattle.pt_examples.specs.Worked.{shown};
 
 /// A number in a trace, with the time and the microstep of the firing that gave it.
@@ -44,6 +45,13 @@ pub fn doubled_count() -> u64
     ensures { count_in (meaning 5 rows no_meetings (sdf_top 3 [] []) doubled) doubled ≡ result }
 {
     9
+}
+
+/// SDF below DE: a Scale, in a composite that waits for a token of its own input that feeds nothing as well.
+pub fn waiting_trace() -> [Sample; 3]
+    ensures { told (run 7 (de_top rows (Some 6) []) of_two_clocks) (2 ∷ []) 0 ≡ (shown result, EndedBy Stop) }
+{
+    trace![(0, 0, 10), (3, 0, 10), (6, 0, 10)]
 }
 
 /// PN: four tokens, each three times, added to the four tokens.
