@@ -1,12 +1,11 @@
 -- What the calls of a core come to.
 use Rattle.std.proofs.Common.{◌≡◌, ℕ, zero, suc, ◌+◌, ◌-◌, ◌*◌, ◌/◌, ◌<◌, ◌≤◌, true, false, append-nil, List, [], ◌∷◌, ◌++◌, length, get_or, set, take, drop, map, Option, None, Vec, Global, refl, ap, ap₂, sym, subst, ◌∙◌, arith, zero-add}
-use Rattle.std.proofs.lemmas.List.{length-map}
 use Rattle.pt_meaning.specs.Tag.{Tag, origin}
 use Rattle.pt_meaning.specs.Streams.{Streams, at}
 use Rattle.pt_meaning.specs.Net.{Source, Own, Output}
 use Rattle.pt_meaning.specs.Rounds.{has_rates}
-use Rattle.pt_meaning.specs.Kahn.{arrived, arrival, firsts, behind}
-use Rattle.pt_meaning.specs.Sdf.{SdfPlan, number_at, or_one, iterations}
+use Rattle.pt_meaning.specs.Kahn.{arrived, arrival, firsts}
+use Rattle.pt_meaning.specs.Sdf.{SdfPlan, number_at, or_one, iterations, times, leaves}
 use Rattle.pt_meaning.specs.Running.{total, plus, puts, zeros}
 use Rattle.pt_laws.proofs.FiringLaws.{arrived-long}
 use Rattle.pt_value.specs.declared.token.Token.{Token}
@@ -24,11 +23,12 @@ use Rattle.pt_sdf.specs.Rooms.{HasRoom, HaveRooms}
 use Rattle.pt_sdf.specs.Lanes.{begins}
 use Rattle.pt_sdf.specs.Core.{fired_from, state_of, left_at_first, busy, taken_by, StageFits, IsPosition, IsLevel, AreLevel, HaveRoom, Sound}
 use Rattle.pt_sdf.proofs.Lists.{at-is, skip-before, skip-long}
-use Rattle.pt_sdf.proofs.NeedLaws.{part-fits, skip-behind}
+use Rattle.pt_sdf.proofs.NeedLaws.{part-fits}
 use Rattle.pt_sdf.proofs.FeedLaws.{IsWithin, put-back-is, row-puts, row-arrives, allow-is, feeds-there, feeds-apart}
 use Rattle.pt_sdf.proofs.OrderLaws.{fired-none, fired-whole}
 use Rattle.pt_sdf.proofs.LevelLaws.{level-begun, allow-bound}
 use Rattle.pt_sdf.proofs.SoundLaws.{named-within, rates-long, map-times, zeros-at, arrived-at, fired-never}
+use Rattle.pt_sdf.proofs.UnfedLaws.{left-is}
 
 -- a state by its parts
 pub same-state : (s t : State) → s.plan ≡ t.plan → s.needs ≡ t.needs → s.first ≡ t.first → s.held ≡ t.held → s.fired ≡ t.fired → s.turns ≡ t.turns → s.tag ≡ t.tag → s.stage ≡ t.stage → s ≡ t
@@ -192,22 +192,14 @@ module _ (p : SdfPlan) (needs order room offsets : List ℕ) (feeds : List (Vec 
     none_staged = s.none_staged;
   }
 
-  pub own-begin : length p.net.sources - length p.gives ≡ total p.net.places
-  own-begin = omega (arith, s.lawful.channels)
-
-  module _ (g : stage ≡ code.Closed) (from : ℕ) (f : from ≡ total p.net.places) (held' : Streams Token) (d : held' ≡ take from held ++ behind (map (λ n. turns * n) p.gives) (drop from held)) where
-    given-out : held' ≡ skip_at (total p.net.places) (map (λ n. turns * n) p.gives) held
-    given-out =
-        d ∙ ap (λ v. take v held ++ behind (map (λ n. turns * n) p.gives) (drop v held)) f ∙
-        sym (skip-behind (total p.net.places) (map (λ n. turns * n) p.gives) held (omega (arith, length-map p.gives (λ n. turns * n), s.counted, s.lawful.channels)))
-
+  module _ (g : stage ≡ code.Closed) (held' : Streams Token) (d : held' ≡ skip_at (total p.net.places) (times turns (leaves p)) held) where
     handed-level : AreLevel p needs first held' turns (fired_from (turns - left) (take place order) 0 p.repetitions) (fired_from (turns - left) (take place order) 0 p.repetitions)
     handed-level i k h b =
         let c : ℕ = place_of p.net.places i + k in
         let F : List ℕ = fired_from (turns - left) (take place order) 0 p.repetitions in
         let fit : c < total p.net.places = omega (arith, b, part-fits p.net.places i h) in
         let same : at held' c ≡ at held c =
-        ap (λ v. at v c) given-out ∙ at-is (skip_at (total p.net.places) (map (λ n. turns * n) p.gives) held) c ∙ skip-before (total p.net.places) (map (λ n. turns * n) p.gives) held c fit ∙ sym (at-is held c)
+        ap (λ v. at v c) d ∙ at-is (skip_at (total p.net.places) (times turns (leaves p)) held) c ∙ skip-before (total p.net.places) (times turns (leaves p)) held c fit ∙ sym (at-is held c)
         in
         subst (λ v. IsLevel p turns (length (at first c)) (length v) (get_or needs c 0) i F F (get_or p.net.sources c (Own 0))) (sym same)
         (subst (λ v. IsLevel p turns (length (at first c)) (length (at held c)) (get_or needs c 0) i (taken_by (busy v) F) F (get_or p.net.sources c (Own 0))) g (s.level i k h b))
@@ -217,7 +209,7 @@ module _ (p : SdfPlan) (needs order room offsets : List ℕ) (feeds : List (Vec 
       lawful = s.lawful;
       places_begin = s.places_begin;
       fed = s.fed;
-      counted = ap (λ v. length v) given-out ∙ skip-long (total p.net.places) (map (λ n. turns * n) p.gives) held ∙ s.counted;
+      counted = ap (λ v. length v) d ∙ skip-long (total p.net.places) (times turns (leaves p)) held ∙ s.counted;
       position = record { whole = s.position.whole; within = s.position.within; over = s.position.over; fits = subst (λ v. StageFits v left place order) g s.position.fits };
       level = handed-level;
       rooms_counted = s.rooms_counted;
@@ -227,7 +219,7 @@ module _ (p : SdfPlan) (needs order room offsets : List ℕ) (feeds : List (Vec 
     }
 
     pub finish-state : (tag : Tag) → state_of p needs order first held' lent turns left place tag code.Idle ≡ closed (state_of p needs order first held lent turns left place tag stage)
-    finish-state tag = same-state _ _ refl refl refl (d ∙ ap (λ v. take v held ++ behind (map (λ n. turns * n) p.gives) (drop v held)) f) refl refl refl refl
+    finish-state tag = same-state _ _ refl refl refl (d ∙ left-is p s.lawful.channels turns held s.counted) refl refl refl refl
 
 -- the inputs of a child that was asked for are handed over
 pub ask-state : (p : SdfPlan) (needs order : List ℕ) (first held held' lent lent' : Streams Token) (turns left place child o n : ℕ) (tag : Tag) (stage : declared.Stage) → o ≡ place_of p.net.places child → n ≡ get_or p.net.places child 0 → take n (drop o lent') ≡ firsts (take n (drop o needs)) (take n (drop o held)) →

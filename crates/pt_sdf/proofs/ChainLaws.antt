@@ -1,5 +1,5 @@
 -- A chain of calls of a core makes the firing of the composite.
-use Rattle.std.proofs.Common.{◌≡◌, ℕ, ◌*◌, ◌<◌, ◌≤◌, List, [], ◌∷◌, ◌++◌, true, false, length, get_or, set, map, Some, refl, sym, ap, ap₂, subst, ◌∙◌, arith, inl}
+use Rattle.std.proofs.Common.{◌≡◌, ℕ, ◌<◌, ◌≤◌, List, [], ◌∷◌, ◌++◌, true, false, length, get_or, set, Some, refl, sym, ap, ap₂, subst, ◌∙◌, arith, inl}
 use Rattle.pt_meaning.specs.Tag.{Tag}
 use Rattle.pt_meaning.specs.Streams.{Streams}
 use Rattle.pt_meaning.specs.Log.{Log, log_then, log_below, own}
@@ -7,7 +7,7 @@ use Rattle.pt_meaning.specs.Machine.{rate_code, Fault, Outcome, Done, Stuck, Ste
 use Rattle.pt_meaning.specs.Net.{Inside}
 use Rattle.pt_meaning.specs.Rounds.{has_rates, rated, rated_outcome, if_rated}
 use Rattle.pt_meaning.specs.Kahn.{arrived, firsts, behind, kahn}
-use Rattle.pt_meaning.specs.Sdf.{SdfPlan, iterations, sdf_limits, fired_all, sdf}
+use Rattle.pt_meaning.specs.Sdf.{SdfPlan, iterations, sdf_limits, fired_all, times, leaves, leaving, sdf}
 use Rattle.pt_meaning.specs.Running.{Asks, NoneCanFire, MadeAll, total, plus, puts}
 use Rattle.pt_laws.specs.LogsOfRuns.{silents, logs_then, rates_at}
 use Rattle.pt_meaning.specs.Laws.{IsIn}
@@ -76,10 +76,10 @@ module _ {T S : Type 0} (facts : Facts T S) (step : Stepping T S) (before : SdfS
 
     -- the firing by the core's own plan and number of turns
     firing-is : (k : ℕ) →
-        kahn facts step s.tag s.plan.net (sdf_limits s.turns s.plan.repetitions s.plan.rates) (fired_all s.turns s.plan.repetitions) (λ ns. map (λ n. s.turns * n) s.plan.gives) kids (arrived s.plan.net.sources inputs before.held) k ≡
+        kahn facts step s.tag s.plan.net (sdf_limits s.turns s.plan.repetitions s.plan.rates) (fired_all s.turns s.plan.repetitions) (leaving s.turns s.plan) kids (arrived s.plan.net.sources inputs before.held) k ≡
         firing_from facts step before kids s.tag inputs k
     firing-is k =
-        ap (λ m. kahn facts step s.tag s.plan.net (sdf_limits m s.plan.repetitions s.plan.rates) (fired_all m s.plan.repetitions) (λ ns. map (λ n. m * n) s.plan.gives) kids (arrived s.plan.net.sources inputs before.held) k) u.turns ∙
+        ap (λ m. kahn facts step s.tag s.plan.net (sdf_limits m s.plan.repetitions s.plan.rates) (fired_all m s.plan.repetitions) (leaving m s.plan) kids (arrived s.plan.net.sources inputs before.held) k) u.turns ∙
         ap (λ (p : SdfPlan). sdf facts step p k s.tag (record { held = before.held; kids = kids }) inputs) u.plan
 
     pub calls-end : IsEnough s → (k : ℕ) → total s.fired < k → firing_from facts step before kids s.tag inputs k ≡ Done (record { held = (closed s).held; kids = now }) (firsts (owed s) (own_of s)) (log_below ls)
@@ -87,10 +87,10 @@ module _ {T S : Type 0} (facts : Facts T S) (step : Stepping T S) (before : SdfS
         let done =
         ends-with facts step s.tag s.plan.net (sdf_limits s.turns s.plan.repetitions s.plan.rates) kids (arrived s.plan.net.sources inputs before.held) s.fired now s.held ls u.running
         (subst (λ v. NoneCanFire facts s.plan.net.places (sdf_limits s.turns s.plan.repetitions s.plan.rates) v now s.held) (sym e) (none-at-caps facts s.turns s.plan.net.places s.plan.repetitions s.plan.rates now s.held))
-        (fired_all s.turns s.plan.repetitions) (λ ns. map (λ n. s.turns * n) s.plan.gives) (λ fs made. enough-made s.turns s.plan.repetitions fs (subst (λ v. MadeAll v fs) e made)) k o
+        (fired_all s.turns s.plan.repetitions) (leaving s.turns s.plan) (λ fs made. enough-made s.turns s.plan.repetitions fs (subst (λ v. MadeAll v fs) e made)) k o
         in
         sym (firing-is k) ∙ done.4 ∙
-        ap₂ (λ (a b : Streams T). let r : Outcome T (Inside (Streams T) S) = Done (record { held = a ++ behind (owed s) b; kids = now }) (firsts (owed s) b) (log_below ls) in r)
+        ap₂ (λ (a b : Streams T). let r : Outcome T (Inside (Streams T) S) = Done (record { held = a ++ behind (times s.turns (leaves s.plan)) b; kids = now }) (firsts (owed s) b) (log_below ls) in r)
         (sym (first-part (total s.plan.net.places) done.0 done.1 s.held done.2 done.3)) (sym (second-part (total s.plan.net.places) done.0 done.1 s.held done.2 done.3))
 
     stuck-at : (i : ℕ) → Allows s i → (d : S) (fs : List Fault) (l : Log T) (f : Fault) → rated facts (rates_at (sdf_limits s.turns s.plan.repetitions s.plan.rates) i) step s.tag (get_or now i d) (lent_of s i) ≡ Stuck fs l → IsIn f fs → (k : ℕ) → total s.fired < k →
@@ -99,7 +99,7 @@ module _ {T S : Type 0} (facts : Facts T S) (step : Stepping T S) (before : SdfS
         let stuck =
         sticks-with facts step s.tag s.plan.net (sdf_limits s.turns s.plan.repetitions s.plan.rates) kids (arrived s.plan.net.sources inputs before.held) s.fired now s.held ls u.running i l f
         (asked-sticks facts step s.tag i s.plan.net.places (sdf_limits s.turns s.plan.repetitions s.plan.rates) s.fired now s.held (lent_of s i) (left_of s i) d fs l f (truly-asked i a) e x)
-        (fired_all s.turns s.plan.repetitions) (λ ns. map (λ n. s.turns * n) s.plan.gives) k o
+        (fired_all s.turns s.plan.repetitions) (leaving s.turns s.plan) k o
         in (stuck.0, stuck.1, sym (firing-is k) ∙ stuck.2, stuck.3, stuck.4)
 
     pub calls-stick : (i : ℕ) → Allows s i → (d : S) (fs : List Fault) (l : Log T) → step s.tag (get_or now i d) (lent_of s i) ≡ Stuck fs l → (f : Fault) → IsIn f fs → (k : ℕ) → total s.fired < k →

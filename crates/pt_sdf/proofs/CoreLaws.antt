@@ -1,11 +1,11 @@
 -- The laws of the calls, at the fields of a core.
-use Rattle.std.proofs.Common.{◌≡◌, ℕ, ◌+◌, ◌-◌, ◌*◌, ◌<◌, ◌≤◌, ◌⊎◌, ◌++◌, List, [], length, get_or, take, drop, map, nat_eq, true, false, Option, Some, None, Vec, Global, refl, ap, ap₂, sym, subst, ◌∙◌, arith}
+use Rattle.std.proofs.Common.{◌≡◌, ℕ, ◌+◌, ◌^◌, ◌<◌, ◌≤◌, ◌⊎◌, List, [], length, get_or, take, drop, map, nat_eq, true, false, Option, Some, None, Vec, Global, refl, ap, ap₂, sym, subst, ◌∙◌, arith}
 use Rattle.std.proofs.lemmas.List.{length-map}
 use Rattle.pt_meaning.specs.Tag.{Tag}
 use Rattle.pt_meaning.specs.Streams.{Streams}
 use Rattle.pt_meaning.specs.Rounds.{has_rates}
-use Rattle.pt_meaning.specs.Kahn.{arrived, firsts, behind}
-use Rattle.pt_meaning.specs.Sdf.{or_one, iterations}
+use Rattle.pt_meaning.specs.Kahn.{arrived, firsts}
+use Rattle.pt_meaning.specs.Sdf.{or_one, iterations, times, leaves}
 use Rattle.pt_meaning.specs.Running.{total, plus, puts}
 use Rattle.pt_laws.proofs.FiringLaws.{arrived-long}
 use Rattle.pt_value.specs.declared.token.Token.{Token}
@@ -20,10 +20,11 @@ use Rattle.pt_sdf.specs.Plan.{source_of, plan_of}
 use Rattle.pt_sdf.specs.Feeds.{target_of, put_back, allowed_by, AreThere, AreApart, MovesOnce}
 use Rattle.pt_sdf.specs.Rooms.{HasRoom, HaveRooms}
 use Rattle.pt_sdf.specs.Core.{stage_of, state_of, state_in, with_asked, seen_in, left_at_first, place_behind, busy, Sound, IsSound}
-use Rattle.pt_sdf.proofs.Lists.{read-at, at-is}
+use Rattle.pt_sdf.proofs.Lists.{read-at, at-is, skip-long}
 use Rattle.pt_sdf.proofs.NeedLaws.{part-fits}
 use Rattle.pt_sdf.proofs.SoundLaws.{child-there, offset-is, total-fits, enough, may-fire, ask-sound, asked-alone, stage-open, stage-idle, stage-closed, stage-asked, told-there, told-firings, told-sound, told-kept, wrong-sound}
 use Rattle.pt_sdf.proofs.CallLaws.{whole-fired, row-apart, row-moves, row-there, child-ports, child-puts, own-ports, own-arrives, own-turns, begin-sound, begin-state, finish-sound, finish-state, ask-state, told-state, wrong-state}
+use Rattle.pt_sdf.proofs.UnfedLaws.{counts_of, all-left}
 
 -- the same core, by its parts at another stage
 abbrev pub SoundAt : Inside → declared.Stage → Type 0
@@ -150,18 +151,28 @@ module _ (i : Inside) (s : IsSound i) (row : Vec Feed Global) (e : row ≡ get_o
       begun-state tag =
           begin-state (plan_of i.plan) i.plan.needs i.plan.order.items i.plan.room i.tables.offsets.items i.tables.feeds.items i.first.lists i.channels.lists i.rooms.items i.lent.items i.staged.list i.turns i.left i.at i.stage s g inputs held' turns left arrives turns-are l i.tag tag
 
--- the own outputs are handed out
-module _ (i : Inside) (s : IsSound i) (g : i.stage ≡ code.Closed) (sources from : ℕ) (n : sources ≡ length i.plan.sources.items) (f : from ≡ sources - length i.plan.gives) (held' : Streams Token) (d : held' ≡ take from i.channels.lists ++ behind (map (λ n. i.turns * n) i.plan.gives) (drop from i.channels.lists)) where
-  pub finish-from : from ≡ total i.plan.places
-  finish-from = omega (arith, f, n, s.lawful.channels, length-map i.plan.sources.items source_of)
+-- the own outputs are handed out, and then what the iterations took from own inputs that feed nothing is gone
+module _ (i : Inside) (s : IsSound i) (from : ℕ) (given : Streams Token) (d : given ≡ skip_at from (times i.turns i.plan.gives) i.channels.lists) where
+  pub given-long : length i.plan.sources.items ≡ length given
+  given-long = sym (ap (λ v. length v) d ∙ skip-long from (times i.turns i.plan.gives) i.channels.lists ∙ s.counted ∙ length-map i.plan.sources.items source_of)
 
-  pub finished-sound : Sound (plan_of i.plan) i.plan.needs i.plan.order.items i.plan.room i.tables.offsets.items i.tables.feeds.items i.first.lists held' i.rooms.items i.lent.items i.staged.list i.turns i.left i.at code.Idle
-  finished-sound =
-      finish-sound (plan_of i.plan) i.plan.needs i.plan.order.items i.plan.room i.tables.offsets.items i.tables.feeds.items i.first.lists i.channels.lists i.rooms.items i.lent.items i.staged.list i.turns i.left i.at i.stage s g from finish-from held' d
+  pub given-few : length given < 2 ^ 32
+  given-few = omega (arith, s.lawful.few, length-map i.plan.sources.items source_of, given-long)
 
-  pub finished-state : state_of (plan_of i.plan) i.plan.needs i.plan.order.items i.first.lists held' i.lent.items i.turns i.left i.at i.tag code.Idle ≡ closed (state_in i)
-  finished-state =
-      finish-state (plan_of i.plan) i.plan.needs i.plan.order.items i.plan.room i.tables.offsets.items i.tables.feeds.items i.first.lists i.channels.lists i.rooms.items i.lent.items i.staged.list i.turns i.left i.at i.stage s g from finish-from held' d i.tag
+  module _ (g : i.stage ≡ code.Closed) (f : from ≡ length i.lent.items) (left : Streams Token) (e : left ≡ skip_at (from + length i.plan.gives) (times i.turns (counts_of i.plan.takes i.plan.sources.items (from + length i.plan.gives))) given) where
+    left-of-all : left ≡ skip_at (total i.plan.places) (times i.turns (leaves (plan_of i.plan))) i.channels.lists
+    left-of-all =
+        let o : from ≡ total i.plan.places = f ∙ s.lists in
+        all-left (plan_of i.plan) s.lawful.channels i.turns i.channels.lists given s.counted (d ∙ ap (λ v. skip_at v (times i.turns i.plan.gives) i.channels.lists) o) left
+        (e ∙ ap (λ v. skip_at (v + length i.plan.gives) (times i.turns (counts_of i.plan.takes i.plan.sources.items (v + length i.plan.gives))) given) o)
+
+    pub finished-sound : Sound (plan_of i.plan) i.plan.needs i.plan.order.items i.plan.room i.tables.offsets.items i.tables.feeds.items i.first.lists left i.rooms.items i.lent.items i.staged.list i.turns i.left i.at code.Idle
+    finished-sound =
+        finish-sound (plan_of i.plan) i.plan.needs i.plan.order.items i.plan.room i.tables.offsets.items i.tables.feeds.items i.first.lists i.channels.lists i.rooms.items i.lent.items i.staged.list i.turns i.left i.at i.stage s g left left-of-all
+
+    pub finished-state : state_of (plan_of i.plan) i.plan.needs i.plan.order.items i.first.lists left i.lent.items i.turns i.left i.at i.tag code.Idle ≡ closed (state_in i)
+    finished-state =
+        finish-state (plan_of i.plan) i.plan.needs i.plan.order.items i.plan.room i.tables.offsets.items i.tables.feeds.items i.first.lists i.channels.lists i.rooms.items i.lent.items i.staged.list i.turns i.left i.at i.stage s g left left-of-all i.tag
 
 -- a child was told
 module _ (i : Inside) (s : IsSound i) (child : ℕ) (g : i.stage ≡ code.Handed child) where

@@ -13,3 +13,4 @@ pub mod OrderLaws
 pub mod OutletLaws
 pub mod SoundLaws
 pub mod TableLaws
+pub mod UnfedLaws

@@ -33,11 +33,12 @@ IsSupplied p order first i need (Output j port) =
     (need * get_or p.repetitions i 0 ≡ rate_at p.rates j port * get_or p.repetitions j 0) × NeverLacks order first i need j (rate_at p.rates j port)
 
 -- The order is that of one iteration. The first tokens are those of each channel, and room is the greatest number of tokens that a channel is to hold.
+-- Each place and each own output has a channel, and the channels behind these end nowhere.
 pub record IsLawful {T : Type 0} (p : SdfPlan) (needs order room : List ℕ) (first : Streams T) : Type 0 where
   pub repetitions : length p.repetitions ≡ length p.net.places
   pub rates : length p.rates ≡ length p.net.places
   pub needed : length needs ≡ total p.net.places
-  pub channels : length p.net.sources ≡ total p.net.places + length p.gives
+  pub channels : total p.net.places + length p.gives ≤ length p.net.sources
   pub started : length first ≡ length p.net.sources
   pub rooms : length room ≡ length p.net.sources
   pub few : length p.net.sources < 2 ^ 32

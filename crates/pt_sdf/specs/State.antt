@@ -4,7 +4,7 @@ use Rattle.pt_meaning.specs.Tag.{Tag, origin}
 use Rattle.pt_meaning.specs.Streams.{Streams}
 use Rattle.pt_meaning.specs.Rounds.{has_rates}
 use Rattle.pt_meaning.specs.Kahn.{arrived, firsts, behind}
-use Rattle.pt_meaning.specs.Sdf.{SdfPlan, iterations, sdf_limits}
+use Rattle.pt_meaning.specs.Sdf.{SdfPlan, iterations, sdf_limits, times, leaves}
 use Rattle.pt_meaning.specs.Running.{Asks, plus, puts, total, zeros}
 use Rattle.pt_sdf.specs.ByNeed.{by_need, planned, place_of, skip_at}
 
@@ -135,13 +135,23 @@ module _ {T : Type 0} where
   abbrev pub after_told : ℕ → Streams T → SdfState T → SdfState T
   after_told i out s = if_told (has_rates (get_or s.plan.rates i []) out) i out s
 
-  -- what the channels to the own outputs hold, and how many tokens each of these gives
+  -- what the channels behind the places hold: those to the own outputs, and then those of the own inputs that feed nothing
   abbrev pub own_of : SdfState T → Streams T
   own_of s = drop (total s.plan.net.places) s.held
 
+  -- how many tokens each own output gives
   abbrev pub owed : SdfState T → List ℕ
-  owed s = map (λ n. s.turns * n) s.plan.gives
+  owed s = times s.turns s.plan.gives
 
-  -- the own outputs are handed out
+  -- the own outputs are handed out, and what the iterations take from own inputs that feed nothing is gone
   abbrev pub closed : SdfState T → SdfState T
-  closed s = record { plan = s.plan; needs = s.needs; first = s.first; held = take (total s.plan.net.places) s.held ++ behind (owed s) (own_of s); fired = s.fired; turns = s.turns; tag = s.tag; stage = Idle }
+  closed s = record {
+    plan = s.plan;
+    needs = s.needs;
+    first = s.first;
+    held = take (total s.plan.net.places) s.held ++ behind (times s.turns (leaves s.plan)) (own_of s);
+    fired = s.fired;
+    turns = s.turns;
+    tag = s.tag;
+    stage = Idle;
+  }

@@ -15,6 +15,7 @@ mod sdf;
 mod skip;
 mod tables;
 mod turns;
+mod unfed;
 
 pub use chain::calls_are_sdf;
 pub use plan::{CorePlan, Source};

@@ -1,6 +1,8 @@
-ghost use Rattle.std.specs.Prelude.{◌≡◌, ℕ, ◌+◌, ◌*◌, ◌-◌, ◌^◌, ◌<◌, ◌≤◌, ◌++◌, length, map, min, take, drop, get_or, IfOk, None, is_ok, if◌then◌else◌};
+ghost use Rattle.std.specs.Prelude.{◌≡◌, ℕ, ◌+◌, ◌*◌, ◌^◌, ◌<◌, ◌≤◌, length, min, drop, get_or, IfOk, None, is_ok, if◌then◌else◌};
 ghost use Rattle.pt_recv.specs.Lines.{list_at};
-ghost use Rattle.pt_meaning.specs.Kahn.{firsts, behind};
+ghost use Rattle.pt_meaning.specs.Kahn.{firsts};
+ghost use Rattle.pt_meaning.specs.Sdf.{times};
+ghost use Rattle.pt_sdf.specs.ByNeed.{skip_at};
 ghost use Rattle.pt_sdf.specs.Rooms.{HasRoom};
 
 use crate::gather::take_first;
@@ -10,7 +12,7 @@ use pt_recv::Channels;
 use pt_value::Token;
 use std::alloc::{AllocError, Global};
 
-/// Takes from the channels behind the first `from`, which end at the own outputs, what so many iterations give. After an `Err` they are as before.
+/// Takes from the channels to the own outputs, which are those from `from` on, what so many iterations give. After an `Err` they are as before.
 pub(crate) fn hand_out(
     alloc: Global,
     channels: &mut Channels,
@@ -19,9 +21,9 @@ pub(crate) fn hand_out(
     from: usize,
 ) -> Result<Outputs, AllocError>
     requires few { length channels.old.lists < 2 ^ 32 }
-    requires counted { from + length gives.now ≡ length channels.old.lists }
-    ensures given { IfOk result (λ outputs. outputs ≡ firsts (map (λ n. turns * n) gives.now) (drop from channels.old.lists)) }
-    ensures left { channels.new.lists ≡ (if is_ok result then take from channels.old.lists ++ behind (map (λ n. turns * n) gives.now) (drop from channels.old.lists) else channels.old.lists) }
+    requires counted { from + length gives.now ≤ length channels.old.lists }
+    ensures given { IfOk result (λ outputs. outputs ≡ firsts (times turns gives.now) (drop from channels.old.lists)) }
+    ensures left { channels.new.lists ≡ (if is_ok result then skip_at from (times turns gives.now) channels.old.lists else channels.old.lists) }
 {
     if gives.is_empty() {
         return Ok(Outputs::none(0));
@@ -43,7 +45,7 @@ pub(crate) fn hand_out(
 }
 
 /// How many tokens a channel gives in so many iterations: all that it has, where these are fewer.
-fn owed_on(channels: &Channels, c: u32, gives: usize, turns: usize) -> usize
+pub(crate) fn owed_on(channels: &Channels, c: u32, gives: usize, turns: usize) -> usize
     requires { c < length channels.now.lists }
     ensures { result ≡ min (turns * gives) (length (list_at channels.now.lists c)) }
 {
@@ -63,7 +65,7 @@ fn rooms_owed(
     from: usize,
 ) -> Result<Vec<Option<Vec<Token>>>, AllocError>
     requires few { length channels.now.lists < 2 ^ 32 }
-    requires counted { from + length gives.now ≡ length channels.now.lists }
+    requires counted { from + length gives.now ≤ length channels.now.lists }
     ensures counted { IfOk result (λ rooms. length rooms.items ≡ length gives.now) }
     ensures made { IfOk result (λ rooms. (k : ℕ) → k < length gives.now → HasRoom (min (turns * get_or gives.now k 0) (length (list_at channels.now.lists (from + k)))) (get_or rooms.items k None)) }
 {

@@ -12,6 +12,7 @@ pub enum Source {
 
 /// The net of an SDF composite with its rates, and the order of the firings of an iteration.
 /// Channels are numbered by the places where they end: those of the children in order, then the own outputs.
+/// Behind these are channels that end nowhere, one for each own input that feeds nothing: its tokens bound the iterations.
 #[derive(Debug, Drop)]
 pub struct CorePlan {
     /// Where each channel begins.

@@ -9,6 +9,7 @@ use crate::rooms::rooms_for;
 use crate::scatter::{copies_of, scatter};
 use crate::tables::{Tables, turns_of};
 use crate::turns::iterations;
+use crate::unfed::use_up;
 use pt_firing::{Ask, Counts, Inputs, IntInputs, Outputs, RunFault, Tokens};
 use pt_recv::{Channels, Queue};
 use pt_time::Tag;
@@ -264,14 +265,15 @@ impl Core {
         }
     }
 
-    /// Hands out the own outputs. After an `Err` the core is as before.
+    /// Hands out the own outputs, and lets go of what the iterations take from own inputs that feed nothing. After an `Err` the core is as before.
     pub fn finish(&mut self, alloc: Global) -> Result<Outputs, AllocError>
         requires { self.old.stage ≡ Closed }
         ensures core { OnOk result (self.new ≡ closed self.old) }
         ensures given { IfOk result (λ outputs. outputs ≡ firsts (owed self.old) (own_of self.old)) }
         ensures kept { OnErr result (self.new ≡ self.old) }
     {
-        let from = self.plan.sources.len() - self.plan.gives.len();
+        // Each place of a child has a list that it lends, and a channel; behind these are the channels to the own outputs.
+        let from = self.lent.len();
         let outputs = hand_out(
             alloc,
             &mut self.channels,
@@ -279,6 +281,13 @@ impl Core {
             self.turns,
             from,
         )?;
+        use_up(
+            &mut self.channels,
+            &self.plan.sources,
+            self.plan.takes.as_slice(),
+            self.turns,
+            from + self.plan.gives.len(),
+        );
         self.stage = Stage::Idle;
         Ok(outputs)
     }

@@ -31,10 +31,17 @@ fn lesser(m: usize, least: Option<usize>) -> usize
 fn allowed(takes: &[usize], port: u32, tokens: usize) -> usize
     ensures { result ≡ tokens / number_at takes.now port }
 {
-    let n = if (port as usize) < takes.len() {
+    let n = number_for(takes, port);
+    if n == 0 { 0 } else { tokens / n }
+}
+
+/// How many tokens an iteration takes from an own input: one, where the list ends before it.
+pub(crate) fn number_for(takes: &[usize], port: u32) -> usize
+    ensures { result ≡ number_at takes.now port }
+{
+    if (port as usize) < takes.len() {
         takes[port as usize]
     } else {
         1
-    };
-    if n == 0 { 0 } else { tokens / n }
+    }
 }

@@ -1,4 +1,4 @@
-use Rattle.std.proofs.Common.{◌≡◌, ◌+◌, [], ap, ◌∙◌, arith}
+use Rattle.std.proofs.Common.{◌+◌, [], ap, ◌∙◌, arith}
 use Rattle.std.proofs.lemmas.List.{map-append, replicate_more}
 use Rattle.pt_sdf.proofs.FeedLaws.{empty-rows}
 use Rattle.pt_sdf.proofs.feeds.empty_rows.Goals as goal

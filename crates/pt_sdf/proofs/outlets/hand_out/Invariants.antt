@@ -1,6 +1,7 @@
-use Rattle.std.proofs.Common.{◌≡◌, ℕ, ◌+◌, ◌*◌, ◌<◌, ◌≤◌, length, min, map, take, drop, get_or, None}
+use Rattle.std.proofs.Common.{◌≡◌, ℕ, ◌+◌, ◌*◌, ◌<◌, ◌≤◌, length, min, take, drop, get_or, None}
 use Rattle.std.specs.Vec.{vec_len, vec_capacity}
 use Rattle.pt_meaning.specs.Kahn.{firsts}
+use Rattle.pt_meaning.specs.Sdf.{times}
 use Rattle.pt_recv.specs.Lines.{list_at}
 use Rattle.pt_sdf.specs.ByNeed.{skip_at}
 use Rattle.pt_sdf.specs.Rooms.{HasRoom}
@@ -12,6 +13,6 @@ invariant-loop-k l = record {
   room : vec_capacity l.lists ≡ length l.gives;
   rooms : length l.rooms.items ≡ length l.gives;
   made : (j : ℕ) → l.k ≤ j → j < length l.gives → HasRoom (min (l.turns * get_or l.gives j 0) (length (list_at l.fn.channels.lists (l.from + j)))) (get_or l.rooms.items j None);
-  given : l.lists.items ≡ firsts (take l.k (map (λ n. l.turns * n) l.gives)) (take l.k (drop l.from l.fn.channels.lists));
-  left : l.channels.lists ≡ skip_at l.from (take l.k (map (λ n. l.turns * n) l.gives)) l.fn.channels.lists;
+  given : l.lists.items ≡ firsts (take l.k (times l.turns l.gives)) (take l.k (drop l.from l.fn.channels.lists));
+  left : l.channels.lists ≡ skip_at l.from (take l.k (times l.turns l.gives)) l.fn.channels.lists;
 }

@@ -1,4 +1,4 @@
-use Rattle.std.proofs.Common.{◌≡◌, ℕ, ◌+◌, ◌<◌, length, length-set, get_or, inl, inr, Option, None, Vec, Global, ◌∙◌, arith}
+use Rattle.std.proofs.Common.{ℕ, ◌+◌, ◌<◌, length, length-set, get_or, inl, inr, Option, None, Vec, Global, ◌∙◌, arith}
 use Rattle.std.proofs.lemmas.Bool.{cases_lt}
 use Rattle.pt_value.specs.declared.token.Token.{Token}
 use Rattle.pt_sdf.specs.Rooms.{HasRoom}
