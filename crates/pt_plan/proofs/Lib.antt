@@ -5,4 +5,5 @@ pub mod Orders
 pub mod Planned
 pub mod RoomLaws
 pub mod Supply
+pub mod UnfedLaws
 pub mod Uniqueness

@@ -1,13 +1,16 @@
 -- The room of each channel, from the lengths of those between children.
-use Rattle.std.proofs.Common.{◌≡◌, ℕ, zero, suc, ◌+◌, ◌<◌, cond, Bool, true, false, List, [], ◌∷◌, length, get_or, drop, filter, refl, ap, sym, subst, ◌∙◌, arith}
+use Rattle.std.proofs.Common.{◌≡◌, ℕ, zero, suc, ◌+◌, ◌<◌, cond, Bool, true, false, List, [], ◌∷◌, ◌++◌, length, get_or, drop, map, filter, refl, ap, ap₂, sym, subst, ◌∙◌, arith, length-append}
+use Rattle.std.proofs.lemmas.List.{length-map, get_or_append_left, get_or-append-add, get_or-map}
 use Rattle.pt_rates.specs.Balance.{tokens_on}
 use Rattle.pt_sched.specs.Runs.{IsGreatestLength, AreGreatestLengths}
 use Rattle.pt_sched.specs.declared.edge.SchedEdge.{SchedEdge}
 use Rattle.pt_plan.specs.Channels.{channels_of, is_between, between}
-use Rattle.pt_plan.specs.PlanOf.{IsRoom, AreRooms}
+use Rattle.pt_plan.specs.PlanOf.{IsRoom, put_by, AreRooms}
 use Rattle.pt_plan.specs.Rooms.{rooms_of}
+use Rattle.pt_plan.specs.Unfed.{own, unfed}
 use Rattle.pt_plan.specs.declared.inside.Inside.{Inside}
 use Rattle.pt_plan.proofs.Numbering.{channels-long}
+use Rattle.pt_plan.proofs.UnfedLaws.{sources-long}
 
 pub after-one : (lengths : List ℕ) (k : ℕ) → get_or (drop 1 lengths) k 0 ≡ get_or lengths (suc k) 0
 after-one [] k = refl
@@ -33,9 +36,16 @@ module _ (n : ℕ) (q order : List ℕ) where
   rooms-are (channel ∷ channels) lengths h zero d short = (step (is_between n channel) channel (filter (is_between n) channels) lengths h).0
   rooms-are (channel ∷ channels) lengths h (suc k) d short = rooms-are channels (cond (is_between n channel) (drop 1 lengths) lengths) (step (is_between n channel) channel (filter (is_between n) channels) lengths h).1 k d (omega arith)
 
-pub are-rooms : (x : Inside) (order q room lengths : List ℕ) → room ≡ rooms_of (length x.places) q (channels_of x) lengths → AreGreatestLengths (between x) order lengths → AreRooms x order q room
+pub are-rooms : (x : Inside) (order q room lengths : List ℕ) → room ≡ rooms_of (length x.places) q (channels_of x) lengths ++ map (λ port. put_by x q (own port)) (unfed x) → AreGreatestLengths (between x) order lengths → AreRooms x order q room
 are-rooms x order q room lengths e h =
+    let first : List ℕ = rooms_of (length x.places) q (channels_of x) lengths in
+    let rest : List ℕ = map (λ port. put_by x q (own port)) (unfed x) in
+    let long : length first ≡ length x.sources.items = rooms-long (length x.places) q (channels_of x) lengths ∙ channels-long x 0 x.sources.items in
     subst (AreRooms x order q) (sym e) (record {
-      counted = rooms-long (length x.places) q (channels_of x) lengths ∙ channels-long x 0 x.sources.items;
-      each = λ k d short. rooms-are (length x.places) q order (channels_of x) lengths h.greatest k d (omega (arith, short, channels-long x 0 x.sources.items));
+      counted = length-append first rest ∙ ap₂ (λ a b. a + b) long (length-map (unfed x) (λ port. put_by x q (own port))) ∙ sym (sources-long x);
+      each = λ k d short.
+          let channel : SchedEdge = get_or (channels_of x) k d in
+          subst (λ n. IsRoom (is_between (length x.places) channel) channel order q n) (sym (get_or_append_left first rest 0 k (omega (arith, short, long))))
+          (rooms-are (length x.places) q order (channels_of x) lengths h.greatest k d (omega (arith, short, channels-long x 0 x.sources.items)));
+      behind = λ k short. ap (λ n. get_or (first ++ rest) (n + k) 0) (sym long) ∙ get_or-append-add first rest k 0 ∙ get_or-map (λ port. put_by x q (own port)) (unfed x) k 0 0 short;
     })

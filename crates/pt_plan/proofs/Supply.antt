@@ -19,10 +19,11 @@ use Rattle.pt_sdf.specs.declared.plan.Source.{Source}
 use Rattle.pt_sdf.specs.declared.plan.Source.TheVariants.{Own, Output}
 use Rattle.pt_plan.specs.Channels.{nodes_of, end_of, taken_at, edge_at, edge_in, channel_at, channels_of, edges_of, is_between, between}
 use Rattle.pt_plan.specs.Inside.{IsThere, IsInside}
-use Rattle.pt_plan.specs.PlanOf.{net_of}
+use Rattle.pt_plan.specs.Unfed.{unfed, own, sources_of, no_tokens, first_of}
 use Rattle.pt_plan.specs.declared.inside.Inside.{Inside}
 use Rattle.pt_plan.proofs.Numbering.{place-inside, owner-at, channels-long, channel-number}
 use Rattle.pt_plan.proofs.Orders.{occurs-firings, run-tokens, run-children, kept}
+use Rattle.pt_plan.proofs.UnfedLaws.{unfed-few, sources-long, first-long, sources-there}
 
 number-in : (xs : List ℕ) (n : ℕ) → n < length xs → number_at xs n ≡ get_or xs n 0
 number-in [] n h = absurd (omega arith)
@@ -38,8 +39,11 @@ both-below : (a b n : ℕ) → a < n → b < n → (nat_lt a n && nat_lt b n) �
 both-below a b n ha hb = grind (arith, nat_tests)
 
 module _ (x : Inside) (h : IsInside x) (reps takes gives order : List ℕ) (lr : length reps ≡ length x.places) (lt : length takes ≡ x.inputs) where
+  abbrev pub plan_with : List Source → SdfPlan
+  plan_with sources = record { net = record { sources = map source_of sources; places = x.places }; repetitions = reps; takes = takes; gives = gives; rates = x.rates.items }
+
   abbrev pub plan : SdfPlan
-  plan = record { net = net_of x; repetitions = reps; takes = takes; gives = gives; rates = x.rates.items }
+  plan = plan_with (sources_of x)
 
   abbrev q : List ℕ
   q = reps ++ (takes ++ gives)
@@ -107,21 +111,31 @@ module _ (x : Inside) (h : IsInside x) (reps takes gives order : List ℕ) (lr :
       supplied : (first : ℕ) → first ≡ get_or x.first c 0 → IsSupplied plan order first i (get_or x.needs c 0) (get_or plan.net.sources c (net.Own 0))
       supplied first e =
           let short : c < length x.sources.items = omega (arith, inside, h.channels) in
-          subst (λ s. IsSupplied plan order first i (get_or x.needs c 0) s) (sym (get_or-map source_of x.sources.items c (Own 0) (net.Own 0) short)) (by_source (source_at c) (h.there c (Own 0) short) (balanced c short) (listed c short) first e)
+          let among : c < length (sources_of x) = omega (arith, short, sources-long x) in
+          let is : get_or (map source_of (sources_of x)) c (net.Own 0) ≡ source_of (source_at c) = get_or-map source_of (sources_of x) c (Own 0) (net.Own 0) among ∙ ap source_of (get_or_append_left x.sources.items (map own (unfed x)) (Own 0) c short) in
+          subst (λ s. IsSupplied plan order first i (get_or x.needs c 0) s) (sym is) (by_source (source_at c) (h.there c (Own 0) short) (balanced c short) (listed c short) first e)
 
-    pub lawful : {T : Type 0} (room : List ℕ) (first : Streams T) → length gives ≡ x.outputs → length room ≡ length x.sources.items → map (λ (xs : List T). length xs) first ≡ x.first → IsLawful plan x.needs order room first
+    -- the first tokens of a place are those of the inside
+    first-at : (i k : ℕ) → i < length x.places → k < get_or x.places i 0 → get_or (first_of x) (place_of x.places i + k) 0 ≡ get_or x.first (place_of x.places i + k) 0
+    first-at i k hi hk = get_or_append_left x.first (map no_tokens (unfed x)) 0 (place_of x.places i + k) (omega (arith, inside i k hi hk, h.channels, h.started))
+
+    pub lawful : {T : Type 0} (room : List ℕ) (first : Streams T) → length gives ≡ x.outputs → length room ≡ length (sources_of x) → map (λ (xs : List T). length xs) first ≡ first_of x → IsLawful plan x.needs order room first
     lawful {T} room first lg roomy held =
-        let many : length (map source_of x.sources.items) ≡ length x.sources.items = length-map x.sources.items source_of in
+        let many : length (map source_of (sources_of x)) ≡ length (sources_of x) = length-map (sources_of x) source_of in
         record {
           repetitions = lr;
           rates = h.rated;
           needed = h.needed;
-          channels = omega (arith, many, h.channels, lg);
-          started = omega (arith, many, length-map first (λ (xs : List T). length xs), ap (λ (ns : List ℕ). length ns) held, h.started);
+          channels = omega (arith, many, sources-long x, h.channels, lg);
+          started = omega (arith, many, sources-long x, first-long x, length-map first (λ (xs : List T). length xs), ap (λ (ns : List ℕ). length ns) held, h.started);
           rooms = omega (arith, many, roomy);
-          few = omega (arith, many, h.few);
-          named = All-map (IsNamed plan) source_of x.sources.items (λ k d short. named (get_or x.sources.items k d) (h.there k d short));
+          few = omega (arith, many, sources-long x, unfed-few x.sources.items x.inputs, h.few);
+          named = All-map (IsNamed plan) source_of (sources_of x) (λ k d short. named (get_or (sources_of x) k d) (sources-there x h.there k d short));
           children = subst (λ n. All (λ child. child < n) order) lr (run-children (between x) reps schedule.run);
           often = λ i hi. occurs-firings i order ∙ schedule.complete i;
-          supplied = λ i k hi hk. supplied i k hi hk (length (at first (place_of x.places i + k))) (length-at first (place_of x.places i + k) ∙ ap (λ (ns : List ℕ). get_or ns (place_of x.places i + k) 0) held);
+          supplied = λ i k hi hk. supplied i k hi hk (length (at first (place_of x.places i + k))) (length-at first (place_of x.places i + k) ∙ ap (λ (ns : List ℕ). get_or ns (place_of x.places i + k) 0) held ∙ first-at i k hi hk);
         }
+
+    -- the same of the plan with these channels
+    pub lawful-with : {T : Type 0} (sources : List Source) (room : List ℕ) (first : Streams T) → sources ≡ sources_of x → length gives ≡ x.outputs → length room ≡ length (sources_of x) → map (λ (xs : List T). length xs) first ≡ first_of x → IsLawful (plan_with sources) x.needs order room first
+    lawful-with sources room first e lg roomy held = subst (λ (v : List Source). IsLawful (plan_with v) x.needs order room first) (sym e) (lawful room first lg roomy held)

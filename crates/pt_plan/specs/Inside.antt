@@ -14,12 +14,13 @@ abbrev pub IsThere : Inside → Source → Type 0
 IsThere x (Own port) = port < x.inputs
 IsThere x (Output child port) = (child < length x.places) × (port < length (get_or x.rates.items child []))
 
--- each place needs a number of tokens, each child has a rate for each of its ports, and a channel ends at each place and at each own output
+-- Each place needs a number of tokens, each child has a rate for each of its ports, and a channel ends at each place and at each own output.
+-- There are few enough channels that each own input may have one more.
 pub record IsInside (x : Inside) : Type 0 where
   pub needed : length x.needs ≡ total x.places
   pub rated : length x.rates.items ≡ length x.places
   pub channels : length x.sources.items ≡ total x.places + x.outputs
-  pub few : length x.sources.items < 2 ^ 32
+  pub few : length x.sources.items + x.inputs < 2 ^ 32
   pub started : length x.first ≡ length x.sources.items
   pub there : All (IsThere x) x.sources.items
   pub needs : All IsRate x.needs

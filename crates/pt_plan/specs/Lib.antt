@@ -4,3 +4,4 @@ pub mod Inside
 pub mod Laws
 pub mod PlanOf
 pub mod Rooms
+pub mod Unfed

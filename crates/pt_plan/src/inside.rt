@@ -11,7 +11,7 @@ const MOST_TOKENS: usize = 1_000_000;
 /// The most tokens that a channel holds at first.
 const MOST_FIRST: usize = 1 << 32;
 
-/// The most channels of a composite, and one more.
+/// The most channels of a composite with its own inputs, and one more.
 const CHANNELS: usize = 1 << 32;
 
 /// What is within an SDF composite. Channels are numbered by the places where they end: those of the children in order,
@@ -53,7 +53,7 @@ impl Inside {
     /// Whether the lists fit one another.
     fn fits(&self) -> bool
         ensures { IsTrue result ↔ ((length self.now.needs ≡ total self.now.places) × (length self.now.rates.items ≡ length self.now.places)
-            × (length self.now.sources.items ≡ total self.now.places + self.now.outputs) × (length self.now.sources.items < 2 ^ 32)
+            × (length self.now.sources.items ≡ total self.now.places + self.now.outputs) × (length self.now.sources.items + self.now.inputs < 2 ^ 32)
             × (length self.now.first ≡ length self.now.sources.items)) }
     {
         let places = self.needs.len();
@@ -62,7 +62,7 @@ impl Inside {
             && self.rates.len() == self.places.len()
             && channels >= places
             && channels - places == self.outputs as usize
-            && channels < CHANNELS
+            && channels < CHANNELS - self.inputs as usize
             && self.first.len() == channels
     }
 

@@ -6,6 +6,7 @@ mod inside;
 mod laws;
 mod planning;
 mod rooms;
+mod unfed;
 
 pub use inside::Inside;
 pub use laws::{plans_are_unique, plans_exclude_faults};

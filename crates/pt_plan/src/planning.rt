@@ -9,11 +9,13 @@ ghost use Rattle.pt_plan.specs.Channels.{nodes_of, channels_of, edges_of, is_bet
 ghost use Rattle.pt_plan.specs.Fault.{FaultStands, of_rates, of_sched};
 ghost use Rattle.pt_plan.specs.Inside.{IsInside};
 ghost use Rattle.pt_plan.specs.PlanOf.{repetitions_of, IsPlanOf, IsWithinLimits, AreRooms};
+ghost use Rattle.pt_plan.specs.Unfed.{first_of};
 ghost use Rattle.pt_plan.specs.declared.planning.PlanFault.TheVariants.{Memory};
 
 use crate::channels::channels_of;
 use crate::inside::Inside;
 use crate::rooms::{is_between, rooms_of};
+use crate::unfed::add_unfed;
 use pt_firing::Counts;
 use pt_rates::{Edge, RatesFault, solve};
 use pt_sched::{Plan, SchedEdge, SchedFault, schedule};
@@ -75,16 +77,17 @@ impl From<SchedFault> for PlanFault {
 /// The plan of an SDF composite: how often each child fires in an iteration, in which order, what own ports move in it, and
 /// how many tokens each channel is to have room for.
 ///
-/// The order is a schedule of the channels between children. A fault is told only where it stands, and then there is no plan
+/// The plan has the channels of the inside, and behind them one for each own input that feeds nothing: it begins there, and ends
+/// nowhere. The order is a schedule of the channels between children. A fault is told only where it stands, and then there is no plan
 /// within the limits; want of memory may be told at any time.
-pub fn plan(alloc: Global, inside: Inside) -> Result<CorePlan, PlanFault>
+pub fn plan(alloc: Global, mut inside: Inside) -> Result<CorePlan, PlanFault>
     requires { IsInside inside }
     ensures plan { IfOk result (λ p. IsPlanOf inside (plan_of p)) }
     ensures limits { IfOk result (λ p. IsWithinLimits inside (plan_of p)) }
     ensures needs { IfOk result (λ p. p.needs ≡ inside.needs) }
     ensures order { IfOk result (λ p. IsSchedule (between inside) p.repetitions p.order.items) }
     ensures room { IfOk result (λ p. AreRooms inside p.order.items (repetitions_of (plan_of p)) p.room) }
-    ensures lawful { IfOk result (λ p. (first : List (List Token)) → map (λ (tokens : List Token). length tokens) first ≡ inside.first → IsLawful (plan_of p) p.needs p.order.items p.room first) }
+    ensures lawful { IfOk result (λ p. (first : List (List Token)) → map (λ (tokens : List Token). length tokens) first ≡ first_of inside → IsLawful (plan_of p) p.needs p.order.items p.room first) }
     ensures err { IfErr result (FaultStands inside) }
 {
     let nodes = count_nodes(&inside)?;
@@ -93,7 +96,8 @@ pub fn plan(alloc: Global, inside: Inside) -> Result<CorePlan, PlanFault>
     let Plan { order, lengths } = scheduled(alloc, &inside, &channels, &q)?;
     let children = inside.places.len();
     let own = children + inside.inputs as usize;
-    let room = rooms_of(alloc, children, &channels, &q, &lengths)?;
+    let mut room = rooms_of(alloc, children, &channels, &q, &lengths)?;
+    add_unfed(alloc, &mut inside.sources, &mut room, &q[children..own])?;
     Ok(CorePlan {
         repetitions: counts_of(alloc, &q[..children])?,
         takes: counts_of(alloc, &q[children..own])?,
