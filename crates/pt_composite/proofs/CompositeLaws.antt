@@ -1,12 +1,11 @@
 -- The composite that is built is fresh, and it is the one of the definitions.
-use Rattle.std.proofs.Common.{◌≡◌, ℕ, zero, suc, ◌+◌, ◌<◌, ◌≤◌, List, [], ◌∷◌, ◌++◌, length, map, true, refl, sym, ap, ap₂, ◌∙◌, subst, arith}
+use Rattle.std.proofs.Common.{◌≡◌, ℕ, ◌+◌, ◌≤◌, List, [], ◌∷◌, ◌++◌, length, map, true, refl, sym, ap, ap₂, ◌∙◌, subst, arith}
 use Rattle.std.proofs.lemmas.List.{length-map}
 use Rattle.pt_meaning.specs.Basics.{Streams}
 use Rattle.pt_meaning.specs.Net as net
 use Rattle.pt_meaning.specs.Net.{Source}
 use Rattle.pt_meaning.specs.NodeFacts.{facts_of}
 use Rattle.pt_meaning.specs.Running.{total}
-use Rattle.pt_meaning.specs.Sdf.{SdfPlan}
 use Rattle.pt_meaning.specs.Start.{first_held, IsAtStart, AllAtStart}
 use Rattle.pt_meaning.specs.Tree as tree
 use Rattle.pt_laws.specs.Heights.{IsFitting, AllFitting}
@@ -21,18 +20,21 @@ use Rattle.pt_sdf.specs.State.{started}
 use Rattle.pt_plan.specs.declared.inside.Inside.{Inside}
 use Rattle.pt_plan.specs.Inside.{IsInside}
 use Rattle.pt_plan.specs.PlanOf.{IsPlanOf}
+use Rattle.pt_plan.specs.Unfed.{own, unfed, sources_of, no_tokens, first_of}
+use Rattle.pt_plan.proofs.UnfedLaws.{sources-long}
 use Rattle.pt_node.specs.declared.body.Body.TheVariants as body
 use Rattle.pt_node.specs.declared.director.Director.TheVariants as director
 use Rattle.pt_library.specs.LibraryActor.{rows}
 use Rattle.pt_node.specs.Recorded.{RecordedPort}
-use Rattle.pt_node.specs.Shown.{Shown, AllShown, Branch, Frame, all_of, list_of}
+use Rattle.pt_node.specs.Shown.{Shown, Branch, all_of, list_of}
 use Rattle.pt_node.specs.View.{Tree, node_of, nodes_of}
-use Rattle.pt_node.specs.Live.{IsFit, AllFit, IsSteady, AllSteady}
-use Rattle.pt_trees.specs.Around.{Around, IsInsideOf}
-use Rattle.pt_trees.specs.Fresh.{AreEmpty, IsUnrecorded, AllUnrecorded, IsFresh, AllFresh}
-use Rattle.pt_trees.specs.Composite.{trees_of, frame_in, children_in, IsComposite}
+use Rattle.pt_node.specs.Live.{AllFit, AllSteady}
+use Rattle.pt_trees.specs.Around.{Around, first_counts, IsInsideOf}
+use Rattle.pt_trees.specs.Fresh.{AreEmpty, AllUnrecorded, AllFresh}
+use Rattle.pt_trees.specs.Composite.{trees_of, IsComposite}
 use Rattle.pt_composite.proofs.NeedLaws.{needs-length, planned-length}
-use Rattle.pt_composite.proofs.HeldLaws.{held-length}
+use Rattle.pt_composite.proofs.HeldLaws.{held-length, held-append}
+use Rattle.pt_composite.proofs.NodeLaws.{map-append}
 
 -- ---- children as a list
 
@@ -72,18 +74,34 @@ all-unrecorded : (ss : List Shown) → AllFresh ss → AllUnrecorded (all_of ss)
 all-unrecorded [] f = tt
 all-unrecorded (s ∷ ss) f = (f.0.unrecorded, all-unrecorded ss f.1)
 
+-- ---- first tokens
+
+-- a channel of an own input holds nothing at first
+own-held : (kids : List Tree) (ports : List ℕ) → map (λ (xs : List Token). length xs) (first_held rows kids (map source_of (map own ports))) ≡ map no_tokens ports
+own-held kids [] = refl
+own-held kids (port ∷ ports) = ap (λ v. 0 ∷ v) (own-held kids ports)
+
+-- the first tokens of the plan's channels are as many as it says
+pub first-counted : (around : Around) (kids : List Tree) (x : Inside) (sources : List Source) → IsInsideOf around kids x → sources ≡ map source_of (sources_of x) → map (λ (xs : List Token). length xs) (first_held rows kids sources) ≡ first_of x
+first-counted around kids x sources is e =
+    let xs : List Source = map source_of x.sources.items in
+    let ys : List Source = map source_of (map own (unfed x)) in
+    let first : first_counts kids xs ≡ x.first = ap (first_counts kids) is.sources ∙ sym is.first in
+    ap (first_counts kids) (e ∙ map-append source_of x.sources.items (map own (unfed x))) ∙ ap (map (λ (ts : List Token). length ts)) (held-append rows kids xs ys) ∙
+    map-append (λ (ts : List Token). length ts) (first_held rows kids xs) (first_held rows kids ys) ∙ ap₂ (λ (v w : List ℕ). v ++ w) first (own-held kids (unfed x))
+
 -- ---- the composite
 
 module _ (around : Around) (kids : List Shown) (path : List ℕ) (records : List RecordedPort) (x : Inside) (p : CorePlan) (first : Streams Token) (is : IsInsideOf around (trees_of kids) x) (formed : IsInside x) (plan : IsPlanOf x (plan_of p)) (needs : p.needs ≡ x.needs)
-    (held : first ≡ first_held rows (trees_of kids) around.sources) (fresh : AllFresh kids) (empty : AreEmpty records) where
+    (held : first ≡ first_held rows (trees_of kids) (plan_of p).net.sources) (fresh : AllFresh kids) (empty : AreEmpty records) where
   abbrev core : State
   core = started (plan_of p) p.needs first
 
   abbrev built : Shown
   built = Branch (record { past = tree.unfired; body = body.Composite (director.Sdf core); records = records; path = path; live = true }) (all_of kids)
 
-  sources-are : (plan_of p).net.sources ≡ around.sources
-  sources-are = ap (λ (n : net.Net). n.sources) plan.net ∙ is.sources
+  sources-are : (plan_of p).net.sources ≡ map source_of (sources_of x)
+  sources-are = ap (λ (n : net.Net). n.sources) plan.net
 
   places-in : p.places ≡ x.places
   places-in = ap (λ (n : net.Net). n.places) plan.net
@@ -94,13 +112,13 @@ module _ (around : Around) (kids : List Shown) (path : List ℕ) (records : List
   many : length p.places ≡ length x.places
   many = ap (λ (v : List ℕ). length v) places-in
 
-  long : length first ≡ length around.sources
-  long = ap (λ (v : Streams Token). length v) held ∙ held-length rows (trees_of kids) around.sources
+  long : length first ≡ length (plan_of p).net.sources
+  long = ap (λ (v : Streams Token). length v) held ∙ held-length rows (trees_of kids) (plan_of p).net.sources
 
-  counted : length around.sources ≡ length x.sources.items
-  counted = ap (λ (v : List Source). length v) (sym is.sources) ∙ length-map x.sources.items source_of
+  counted : length (plan_of p).net.sources ≡ length x.sources.items + length (unfed x)
+  counted = ap (λ (v : List Source). length v) sources-are ∙ length-map (sources_of x) source_of ∙ sources-long x
 
-  enough : total p.places ≤ length around.sources
+  enough : total p.places ≤ length (plan_of p).net.sources
   enough = omega (arith, formed.channels, counted, ap (λ (v : List ℕ). total v) places-in)
 
   needs-are : needs_of (facts_of rows) (trees_of kids) ≡ planned p.places p.needs
@@ -117,14 +135,11 @@ module _ (around : Around) (kids : List Shown) (path : List ℕ) (records : List
   entries : length p.places ≡ length (tree.list_of (nodes_of (all_of kids)))
   entries = sym (planned-length p.places p.needs) ∙ sym (ap (λ v. length v) fits.needs) ∙ needs-length (facts_of rows) (tree.list_of (nodes_of (all_of kids)))
 
-  first-held : first ≡ first_held rows (trees_of kids) (plan_of p).net.sources
-  first-held = held ∙ ap (λ (v : List Source). first_held rows (trees_of kids) v) (sym sources-are)
-
   node : node_of built ≡ tree.composite (tree.Sdf (plan_of p) (first_held rows (trees_of kids) (plan_of p).net.sources)) (trees_of kids)
-  node = ap₂ (λ (v : Streams Token) ks. tree.Composite tree.unfired (tree.Sdf (plan_of p) v) (tree.Sdf (plan_of p) v) ks) first-held (nodes-are kids)
+  node = ap₂ (λ (v : Streams Token) ks. tree.Composite tree.unfired (tree.Sdf (plan_of p) v) (tree.Sdf (plan_of p) v) ks) held (nodes-are kids)
 
   start : IsAtStart rows (node_of built)
-  start = (refl, refl, subst (λ (v : List Tree). first ≡ first_held rows v (plan_of p).net.sources) (sym (nodes-list kids)) first-held, all-start kids fresh)
+  start = (refl, refl, subst (λ (v : List Tree). first ≡ first_held rows v (plan_of p).net.sources) (sym (nodes-list kids)) held, all-start kids fresh)
 
   fitting : IsFitting (node_of built)
   fitting =
@@ -132,7 +147,7 @@ module _ (around : Around) (kids : List Shown) (path : List ℕ) (records : List
       (has, has, all-fitting kids fresh)
 
   plans : ArePlans (node_of built)
-  plans = (omega (arith, enough, ap (λ (v : List Source). length v) sources-are), all-plans kids fresh)
+  plans = (enough, all-plans kids fresh)
 
   pub composite-is : IsComposite around kids path records built
   composite-is = record {

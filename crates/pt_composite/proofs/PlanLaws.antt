@@ -1,7 +1,6 @@
 -- Two insides that have the same lists.
-use Rattle.std.proofs.Common.{◌≡◌, ℕ, suc, ◌+◌, ◌<◌, ◌≤◌, ◌^◌, List, [], ◌∷◌, length, get_or, map, refl, sym, ap, ap₂, ◌∙◌, subst, arith}
+use Rattle.std.proofs.Common.{◌≡◌, ℕ, ◌+◌, ◌<◌, ◌≤◌, ◌^◌, List, [], ◌∷◌, length, get_or, map, refl, sym, ap, ap₂, ◌∙◌, subst, arith}
 use Rattle.std.specs.Prelude.{All}
-use Rattle.pt_meaning.specs.Net as net
 use Rattle.pt_meaning.specs.Running.{total}
 use Rattle.pt_sdf.specs.declared.plan.Source.{Source}
 use Rattle.pt_sdf.specs.declared.plan.Source.TheVariants.{Own, Output}
@@ -35,7 +34,7 @@ module _ (x y : Inside) (sources : x.sources.items ≡ y.sources.items) (places 
     needed = sym (ap (λ (v : List ℕ). length v) needs) ∙ i.needed ∙ ap total places;
     rated = sym (ap (λ (v : List (List ℕ)). length v) rates) ∙ i.rated ∙ ap (λ (v : List ℕ). length v) places;
     channels = sym (ap (λ (v : List Source). length v) sources) ∙ i.channels ∙ ap₂ (λ (v : List ℕ) (w : ℕ). total v + w) places outputs;
-    few = subst (λ (v : List Source). length v < 2 ^ 32) sources i.few;
+    few = omega (arith, i.few, inputs, ap (λ (v : List Source). length v) sources);
     started = sym (ap (λ (v : List ℕ). length v) first) ∙ i.started ∙ ap (λ (v : List Source). length v) sources;
     there = λ k d h. there-same _ (subst (λ (v : List Source). IsThere x (get_or v k d)) sources (i.there k d (omega (arith, h, ap (λ (v : List Source). length v) sources))));
     needs = subst (λ (v : List ℕ). All IsRate v) needs i.needs;

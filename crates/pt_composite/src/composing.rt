@@ -1,17 +1,22 @@
-ghost use Rattle.std.specs.Prelude.{IfOk, IfErr, map};
+ghost use Rattle.std.specs.Prelude.{◌≡◌, IfOk, IfErr, map};
+ghost use Rattle.pt_meaning.specs.Start.{first_held};
+ghost use Rattle.pt_sdf.specs.Lawful.{IsLawful};
+ghost use Rattle.pt_sdf.specs.Plan.{plan_of, source_of};
+ghost use Rattle.pt_sdf.specs.State.{started};
+ghost use Rattle.pt_library.specs.LibraryActor.{rows};
 ghost use Rattle.pt_node.specs.Shown.{shown, shown_node};
 ghost use Rattle.pt_trees.specs.Around.{around_of};
 ghost use Rattle.pt_trees.specs.Fresh.{AllFresh, AreEmpty};
-ghost use Rattle.pt_trees.specs.Composite.{IsComposite, CompositeFaultStands};
+ghost use Rattle.pt_trees.specs.Composite.{trees_of, IsComposite, CompositeFaultStands};
 
 use crate::inside::inside_of;
 use crate::tokens::first_tokens;
 use pt_node::{Body, Director, Node, Past, Records};
 use pt_plan::plan;
-use pt_sdf::Core;
+use pt_sdf::{Core, CorePlan};
 use pt_trees::{CompositeFault, Wiring};
 use pt_value::Text;
-use std::alloc::Global;
+use std::alloc::{AllocError, Global};
 
 /// The SDF composite round these children, at its start.
 pub fn composite(
@@ -29,12 +34,11 @@ pub fn composite(
     let Some(inside) = inside_of(alloc, &children, wiring)? else {
         return Err(CompositeFault::Malformed);
     };
-    let first = first_tokens(alloc, &children, &inside.sources)?;
     let plan = match plan(alloc, inside) {
         Ok(plan) => plan,
         Err(fault) => return Err(CompositeFault::Unplanned(fault)),
     };
-    let core = Core::new(alloc, plan, first)?;
+    let core = core_of(alloc, &children, plan)?;
     Ok(Node {
         past: Past {
             made: 0,
@@ -46,4 +50,18 @@ pub fn composite(
         path,
         live: true,
     })
+}
+
+/// The core of a plan, whose channels hold the first tokens of the children that feed them.
+fn core_of(alloc: Global, children: &[Node], plan: CorePlan) -> Result<Core, AllocError>
+    requires { IsLawful (plan_of plan) plan.needs plan.order.items plan.room (first_held rows (trees_of (map shown children.now)) (map source_of plan.sources.items)) }
+    ensures { IfOk result (λ core. core ≡ started (plan_of plan) plan.needs (first_held rows (trees_of (map shown children.now)) (map source_of plan.sources.items))) }
+{
+    match first_tokens(alloc, children, &plan.sources) {
+        Ok(first) => Core::new(alloc, plan, first),
+        Err(fault) => {
+            drop(plan);
+            Err(fault)
+        }
+    }
 }
