@@ -6,14 +6,14 @@ use Rattle.pt_meaning.specs.Machine.{rate_code, Facts}
 use Rattle.pt_meaning.specs.Machine as machine
 use Rattle.pt_meaning.specs.Rounds.{Limit, Source, has_rates}
 use Rattle.pt_meaning.specs.Kahn.{arrived, firsts, behind}
-use Rattle.pt_meaning.specs.Sdf.{SdfPlan, iterations, sdf_limits}
+use Rattle.pt_meaning.specs.Sdf.{SdfPlan, iterations, sdf_limits, times, leaves}
 use Rattle.pt_meaning.specs.Meetings.{Meets, below_child}
 use Rattle.pt_meaning.specs.Tree as tree
 use Rattle.pt_meaning.specs.NodeFacts.{facts_of}
 use Rattle.pt_meaning.specs.Step.{Step}
 use Rattle.pt_meaning.specs.Running.{Asks, Fits, total, plus, puts}
 use Rattle.pt_laws.specs.LogsOfRuns.{rates_at}
-use Rattle.pt_laws.specs.CompositeRuns.{sdf_start, sdf_bounds, times, outlets_of}
+use Rattle.pt_laws.specs.CompositeRuns.{sdf_start, sdf_bounds, outlets_of}
 use Rattle.pt_laws.proofs.HeightLaws.{sdf-bounds-count}
 use Rattle.pt_laws.proofs.RunLaws.{plus-length}
 use Rattle.pt_value.specs.declared.token.Token.{Token}
@@ -205,6 +205,9 @@ module _ (before : State) (olds now : List Shown) (tag : Tag) (X : Streams Token
       owed-same : owed s ≡ times (iterations before.plan (sdf_start before.plan before.held X)) before.plan.gives
       owed-same = ap (λ t. times t s.plan.gives) g.turns ∙ ap (λ (p : SdfPlan). times (iterations before.plan (sdf_start before.plan before.held X)) p.gives) g.plan
 
+      gone-same : times s.turns (leaves s.plan) ≡ times (iterations before.plan (sdf_start before.plan before.held X)) (leaves before.plan)
+      gone-same = ap (λ t. times t (leaves s.plan)) g.turns ∙ ap (λ (p : SdfPlan). times (iterations before.plan (sdf_start before.plan before.held X)) (leaves p)) g.plan
+
       own-same : own_of s ≡ outlets_of before.plan.net s.held
       own-same = ap (λ (p : SdfPlan). drop (total p.net.places) s.held) g.plan
 
@@ -212,7 +215,7 @@ module _ (before : State) (olds now : List Shown) (tag : Tag) (X : Streams Token
       outputs-same = ap₂ (λ v w. firsts v w) owed-same own-same
 
       left-same : (closed (in_stage Closed s)).held ≡ sdf_left before.plan before.held X s.held
-      left-same = ap₂ (λ v w. take (total s.plan.net.places) s.held ++ behind v w) owed-same own-same ∙ ap (λ (p : SdfPlan). take (total p.net.places) s.held ++ behind (times (iterations before.plan (sdf_start before.plan before.held X)) before.plan.gives) (outlets_of before.plan.net s.held)) g.plan
+      left-same = ap₂ (λ v w. take (total s.plan.net.places) s.held ++ behind v w) gone-same own-same ∙ ap (λ (p : SdfPlan). take (total p.net.places) s.held ++ behind (times (iterations before.plan (sdf_start before.plan before.held X)) (leaves before.plan)) (outlets_of before.plan.net s.held)) g.plan
 
       nodes-same : at_end ≡ sdf_node (tree.fired_at tag h) (closed (in_stage Closed s)) (all_of now)
       nodes-same =

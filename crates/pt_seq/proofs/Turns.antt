@@ -7,7 +7,7 @@ use Rattle.pt_meaning.specs.Machine as machine
 use Rattle.pt_meaning.specs.Machine.{Outcome, Need, Counts, Facts, Front, Takes, Lacks, Ends, counted, if_long, front, recorded}
 use Rattle.pt_meaning.specs.Rounds.{Limit}
 use Rattle.pt_meaning.specs.Kahn.{behind}
-use Rattle.pt_meaning.specs.Sdf.{SdfPlan}
+use Rattle.pt_meaning.specs.Sdf.{SdfPlan, times, leaves}
 use Rattle.pt_meaning.specs.Meetings.{Meets}
 use Rattle.pt_meaning.specs.Closed.{on_answer}
 use Rattle.pt_meaning.specs.Tree as tree
@@ -28,7 +28,7 @@ use Rattle.pt_records.specs.Shut.{IsShut}
 use Rattle.pt_records.proofs.ShutSteps.{nothing-is-shut, stepped-is-shut, at-own-place}
 use Rattle.pt_library.proofs.RowLaws.{rows_lawful}
 use Rattle.pt_records.proofs.GrowthLaws.{grew-none, grew-joined, grew-record}
-use Rattle.pt_sdf.specs.State.{Idle, Closed, lent_in, lent_of, left_of, in_stage, begun, asked, if_told, own_of, owed, closed}
+use Rattle.pt_sdf.specs.State.{Idle, Closed, lent_in, lent_of, left_of, in_stage, begun, asked, if_told, own_of, closed}
 use Rattle.pt_sdf.specs.Chain.{IsFor}
 use Rattle.pt_sdf.specs.Clauses.{State}
 use Rattle.pt_node.specs.declared.body.Body.{Body}
@@ -347,7 +347,7 @@ module _ (before : State) (olds now : List Shown) (tag : Tag) (X : Streams Token
         record {
           repetitions = g.fitting.repetitions;
           rates = g.fitting.rates;
-          channels = longer (total b.state.plan.net.places) b.state.held (behind (owed b.state) (own_of b.state)) g.fitting.channels;
+          channels = longer (total b.state.plan.net.places) b.state.held (behind (times b.state.turns (leaves b.state.plan)) (own_of b.state)) g.fitting.channels;
           needs = g.fitting.needs;
         },
         g.steady,
