@@ -2,7 +2,7 @@
 use Rattle.std.proofs.Common.{◌≡◌, zero, suc, [], ◌∷◌, true, false, refl, arith, pos}
 use Rattle.pt_meaning.specs.Basics.{Finished}
 use Rattle.pt_meaning.specs.Sdf.{SdfPlan}
-use Rattle.pt_meaning.specs.Net.{Output}
+use Rattle.pt_meaning.specs.Net.{Own, Output}
 use Rattle.pt_meaning.specs.Tree as tree
 use Rattle.pt_value.specs.declared.token.Token.TheVariants as token
 use Rattle.pt_datatypes.specs.Datatype.{Datatype, Int, Boolean}
@@ -11,10 +11,10 @@ use Rattle.pt_lib_flow.specs.declared.flow_actor.FlowActor.TheVariants.{Ramp, Sc
 use Rattle.pt_flow_base.specs.declared.limit.Limit.TheVariants.{Endless}
 use Rattle.pt_library.specs.declared.library_actor.LibraryActor.{LibraryActor}
 use Rattle.pt_library.specs.declared.library_actor.LibraryActor.TheVariants.{Flow}
-use Rattle.pt_typed.specs.Signature.{Signatures, IsTypedEvent}
+use Rattle.pt_typed.specs.Signature.{Signatures, AreOf, IsTypedEvent}
 use Rattle.pt_typed.specs.TokenTypes.{IsTokenOf}
 use Rattle.pt_typed.specs.TypedActor.{MeetsRow, IsTypedActor}
-use Rattle.pt_typed.specs.TypedTree.{kinds_from, AreFed, IsTypedNode}
+use Rattle.pt_typed.specs.TypedTree.{kinds_in, AreFed, IsTypedNode}
 use Rattle.pt_typed.proofs.ActorLaws.{rows-type}
 
 abbrev ramp : LibraryActor
@@ -45,12 +45,30 @@ plan = record { net = record { sources = Output 0 0 ∷ []; places = 0 ∷ 1 ∷
 -- the composite is typed
 composite_is_typed : IsTypedNode IsTokenOf IsBelow IsTypedActor (types Int) (tree.composite (tree.Sdf plan ([] ∷ [])) (tree.actor ramp ∷ tree.actor scale ∷ []))
 composite_is_typed = (
-  record { places_counted = refl; repetitions_counted = refl; rates_counted = refl; sized = (refl, (refl, tt)); fed = (refl, tt); room = omega arith; held = (tt, tt) },
+  record { places_counted = refl; repetitions_counted = refl; rates_counted = refl; gives_counted = refl; sized = (refl, (refl, tt)); fed = (refl, tt); room = omega arith; held = (tt, tt) },
   (rows-type (types Int (0 ∷ [])) ramp ramp_meets, (rows-type (types Int (1 ∷ [])) scale scale_meets, tt)),
 )
 
--- its channel would break where the scale took truth values
-channel_breaks : AreFed {A = LibraryActor} IsTokenOf IsBelow IsTypedActor (types Boolean) plan.net.sources (kinds_from (types Boolean) 0 plan.net.places) → false ≡ true
+-- with an input of truth values that feeds nothing, whose tokens are kept
+abbrev gated : Signatures Datatype
+gated [] = record { places = Boolean ∷ []; outputs = [] }
+gated (i ∷ p) = types Int (i ∷ p)
+
+abbrev gated_plan : SdfPlan
+gated_plan = record { net = record { sources = Output 0 0 ∷ Own 0 ∷ []; places = 0 ∷ 1 ∷ [] }; repetitions = 1 ∷ 1 ∷ []; takes = 1 ∷ []; gives = []; rates = (1 ∷ []) ∷ (1 ∷ []) ∷ [] }
+
+gated_is_typed : IsTypedNode IsTokenOf IsBelow IsTypedActor gated (tree.composite (tree.Sdf gated_plan ([] ∷ (token.Bool true ∷ []) ∷ [])) (tree.actor ramp ∷ tree.actor scale ∷ []))
+gated_is_typed = (
+  record { places_counted = refl; repetitions_counted = refl; rates_counted = refl; gives_counted = refl; sized = (refl, (refl, tt)); fed = (refl, (refl, tt)); room = omega arith; held = (tt, ((refl, tt), tt)) },
+  (rows-type (types Int (0 ∷ [])) ramp ramp_meets, (rows-type (types Int (1 ∷ [])) scale scale_meets, tt)),
+)
+
+-- a number that is kept there breaks it
+kept_breaks : AreOf IsTokenOf (kinds_in gated gated_plan) ([] ∷ (token.Int (pos 1) ∷ []) ∷ []) → false ≡ true
+kept_breaks h = h.1.0.0
+
+-- the channel to the scale would break where that took truth values
+channel_breaks : AreFed {A = LibraryActor} IsTokenOf IsBelow IsTypedActor (types Boolean) plan.net.sources (kinds_in (types Boolean) plan) → false ≡ true
 channel_breaks h = h.0
 
 -- and so would an event that gives a truth value where integers are due

@@ -9,6 +9,7 @@ pub mod FlowActorLaws
 pub mod ActorLaws
 pub mod TypedRunLaws
 pub mod NetLaws
+pub mod UnfedLaws
 pub mod TreeLaws
 pub mod Examples
 pub mod FlowStarts

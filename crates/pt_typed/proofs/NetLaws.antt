@@ -10,7 +10,7 @@ use Rattle.std.proofs.lemmas.List.{length-map}
 use Rattle.std.proofs.lemmas.List.Sums.{length-filter}
 use Rattle.std.proofs.lemmas.List.Elements.{All-contains_itself, recursion_from_All}
 use Rattle.pt_meaning.specs.Streams.{get}
-use Rattle.pt_meaning.specs.Net.{Own, Output}
+use Rattle.pt_meaning.specs.Net.{Source, Own, Output}
 use Rattle.pt_document.specs.declared.job.Port.{Port}
 use Rattle.pt_datatypes.specs.Datatype.{Datatype}
 use Rattle.pt_datatypes.specs.Order.{IsBelow}
@@ -69,7 +69,7 @@ not-input false e = refl
 output-number : (ps : List Port) (n : ℕ) (p : Port) → slice_get ps n ≡ Some p → is_output p ≡ true → port_number ps n ≡ count_by is_output (take n ps)
 output-number ps n p e t = ap (number_by (take n ps)) e ∙ ap (λ b. if b then count_by is_input (take n ps) else count_by is_output (take n ps)) (not-input (is_input p) t)
 
-map-append : {X Y : Type 0} (f : X → Y) (xs ys : List X) → map f (xs ++ ys) ≡ map f xs ++ map f ys
+pub map-append : {X Y : Type 0} (f : X → Y) (xs ys : List X) → map f (xs ++ ys) ≡ map f xs ++ map f ys
 map-append f [] ys = refl
 map-append f (x ∷ xs) ys = ap (λ v. f x ∷ v) (map-append f xs ys)
 
@@ -131,7 +131,7 @@ module _ (net : Net) (typing : Assignment) (wired : IsWired net) where
 
   -- the type of what begins at a source
   module _ (k : ℕ) (e : NetEntity) (d : NetDirector) (at : slice_get es k ≡ Some e) (directed : e.director ≡ Some d) where
-    own-places : (types_below net typing k []).places ≡ port_types typing k (port_numbers is_input 0 e.ports.items)
+    pub own-places : (types_below net typing k []).places ≡ port_types typing k (port_numbers is_input 0 e.ports.items)
     own-places = ap (λ (o : Option NetEntity). (types_of net typing k o).places) at ∙ ap (λ o. by_director o (port_types typing k (port_numbers is_input 0 e.ports.items)) (map (place_type typing) (arrivals ks k))) directed
 
     pub own-outputs : (types_below net typing k []).outputs ≡ port_types typing k (port_numbers is_output 0 e.ports.items)
@@ -190,15 +190,19 @@ module _ (net : Net) (typing : Assignment) (wired : IsWired net) where
     all-places : PlacesFrom 0 (children_of es k)
     all-places = places-from 0 (children_of es k) (λ j c there. subst (λ m. (types_below net typing k (m ∷ [])).places ≡ map (place_type typing) (arrivals ks c)) (let z : j ≡ 0 + j = omega arith in z) (place-at j c there))
 
-    kinds-of : (i : ℕ) (cs : List ℕ) → PlacesFrom i cs → kinds_from (types_below net typing k) i (map (place_count ks) cs) ≡ map (place_type typing) (flat_map (arrivals ks) cs ++ departures ks k)
-    kinds-of i [] a = own-outputs ∙ sym (output-types k e d at directed)
-    kinds-of i (c ∷ cs) a =
-        ap₂ (λ xs ys. xs ++ ys) a.0 (kinds-of (suc i) cs a.1)
-        ∙ sym (map-append (place_type typing) (arrivals ks c) (flat_map (arrivals ks) cs ++ departures ks k))
-        ∙ ap (map (place_type typing)) (sym (append_assoc (arrivals ks c) (flat_map (arrivals ks) cs) (departures ks k)))
+    -- with these behind them
+    module _ (unfed : List Datatype) where
+      kinds-of : (i : ℕ) (cs : List ℕ) → PlacesFrom i cs → kinds_from (types_below net typing k) unfed i (map (place_count ks) cs) ≡ map (place_type typing) (flat_map (arrivals ks) cs ++ departures ks k) ++ unfed
+      kinds-of i [] a = ap (λ ts. ts ++ unfed) (own-outputs ∙ sym (output-types k e d at directed))
+      kinds-of i (c ∷ cs) a =
+          let rest = flat_map (arrivals ks) cs ++ departures ks k in
+          ap₂ (λ xs ys. xs ++ ys) a.0 (kinds-of (suc i) cs a.1)
+          ∙ sym (append_assoc (map (place_type typing) (arrivals ks c)) (map (place_type typing) rest) unfed)
+          ∙ ap (λ ts. ts ++ unfed) (sym (map-append (place_type typing) (arrivals ks c) rest))
+          ∙ ap (λ cs. map (place_type typing) cs ++ unfed) (sym (append_assoc (arrivals ks c) (flat_map (arrivals ks) cs) (departures ks k)))
 
-    pub kinds-are : kinds_from (types_below net typing k) 0 (map (place_count ks) (children_of es k)) ≡ map (place_type typing) (channels_in ks k)
-    kinds-are = kinds-of 0 (children_of es k) all-places ∙ ap (map (place_type typing)) (sym (wired.grouped k e d at directed))
+      pub kinds-are : kinds_from (types_below net typing k) unfed 0 (map (place_count ks) (children_of es k)) ≡ map (place_type typing) (channels_in ks k) ++ unfed
+      kinds-are = kinds-of 0 (children_of es k) all-places ∙ ap (λ cs. map (place_type typing) cs ++ unfed) (sym (wired.grouped k e d at directed))
 
     sized-from : (i : ℕ) (cs : List ℕ) → PlacesFrom i cs → AreSized (types_below net typing k) i (map (place_count ks) cs)
     sized-from i [] a = tt
@@ -209,11 +213,11 @@ module _ (net : Net) (typing : Assignment) (wired : IsWired net) where
 
     -- ---- types go up
 
-    module _ {T A : Type 0} (Has : Datatype → T → Type 0) (Fits : Signature Datatype → A → Type 0) (up : TypesGoUp net typing) where
-      fed-along : (cs : List Channel) → AllByRecursion (λ x. Contains ks x × (is_within k x ≡ true)) cs → AreFed {A = A} Has IsBelow Fits (types_below net typing k) (map (source_of es) cs) (map (place_type typing) cs)
-      fed-along [] a = tt
+    module _ {T A : Type 0} (Has : Datatype → T → Type 0) (Fits : Signature Datatype → A → Type 0) (up : TypesGoUp net typing) (own : List Source) (unfed : List Datatype) (owned : AreFed {A = A} Has IsBelow Fits (types_below net typing k) own unfed) where
+      fed-along : (cs : List Channel) → AllByRecursion (λ x. Contains ks x × (is_within k x ≡ true)) cs → AreFed {A = A} Has IsBelow Fits (types_below net typing k) (map (source_of es) cs ++ own) (map (place_type typing) cs ++ unfed)
+      fed-along [] a = owned
       fed-along (x ∷ cs) a =
           (subst (λ o. IsFed {A = A} Has IsBelow Fits o (place_type typing x)) (sym (source-kind x (eqb-true x.composite k a.0.1) (wired.begin x a.0.0))) (up x a.0.0), fed-along cs a.1)
 
-      pub fed : AreFed {A = A} Has IsBelow Fits (types_below net typing k) (map (source_of es) (channels_in ks k)) (kinds_from (types_below net typing k) 0 (map (place_count ks) (children_of es k)))
-      fed = subst (λ ts. AreFed {A = A} Has IsBelow Fits (types_below net typing k) (map (source_of es) (channels_in ks k)) ts) (sym kinds-are) (fed-along (channels_in ks k) (all-filtered (Contains ks) (is_within k) ks their-own))
+      pub fed : AreFed {A = A} Has IsBelow Fits (types_below net typing k) (map (source_of es) (channels_in ks k) ++ own) (kinds_from (types_below net typing k) unfed 0 (map (place_count ks) (children_of es k)))
+      fed = subst (λ ts. AreFed {A = A} Has IsBelow Fits (types_below net typing k) (map (source_of es) (channels_in ks k) ++ own) ts) (sym (kinds-are unfed)) (fed-along (channels_in ks k) (all-filtered (Contains ks) (is_within k) ks their-own))

@@ -4,13 +4,13 @@ use Rattle.std.specs.List.{AllByRecursion}
 use Rattle.pt_meaning.specs.Basics.{Tag, Streams, Log, Meeting, Event, Finished, Met, own, all_marked, within_firing}
 use Rattle.pt_meaning.specs.Machine.{Outcome, Done, Stuck, Stepping, recorded}
 use Rattle.pt_meaning.specs.Net.{Inside}
-use Rattle.pt_meaning.specs.Dataflow.{SdfPlan, arrived, iterations, sdf_limits, fired_all}
+use Rattle.pt_meaning.specs.Dataflow.{SdfPlan, arrived, iterations, sdf_limits, fired_all, times, unfed, leaving}
 use Rattle.pt_meaning.specs.Meetings.{Meets, below_child}
 use Rattle.pt_meaning.specs.Children.{Child, numbered, nodes, child_facts, with_number, child_step}
 use Rattle.pt_meaning.specs.Node.{Rows, Core, Sdf, Pn, Sr, De, Rv, Modal, Past, Answer, Gives, Fails, Node, Nodes, Actor, Composite, none, more, list_of, nodes_of, facts_of, as_node, director, step_at, actor_outcome, made_of, height, Step}
 use Rattle.pt_meaning.specs.Job.{Schedule, Turn, Fire, Ends, Limit as AtLimit, Course, Standing, Goes, Ended, Halted, on_step, on_turn, goes_on, after, log_of, begin}
 use Rattle.pt_typed.specs.Signature.{Signature, Signatures, below, AreAllOf, IsTypedEvent, IsTypedLog}
-use Rattle.pt_typed.specs.TypedTree.{kinds_from, IsTypedSdf, IsTypedCore, IsTypedNode, AreTypedNodes}
+use Rattle.pt_typed.specs.TypedTree.{kinds_at, kinds_in, IsTypedSdf, IsTypedCore, IsTypedNode, AreTypedNodes}
 use Rattle.pt_typed.specs.TypedRuns.{ActorsKeepKinds, KindsWiden, IsTypedOutcome, StepsKeepKinds, AreTypedTurns, MeaningKeepsKinds}
 use Rattle.pt_typed.proofs.FlowLaws.{GoodOutcome, KeepsKinds, typed-silent, typed-then, typed-own}
 use Rattle.pt_typed.proofs.RoundLaws.{arrived-of, arrived-length, AreGood, GoodInside, kahn-good}
@@ -42,6 +42,10 @@ module _ {T K A : Type 0} (Has : K → T → Type 0) (Below : K → K → Type 0
   limits-length m (q ∷ qs) (r ∷ rs) zero a b = absurd (omega (arith, a))
   limits-length m (q ∷ qs) (r ∷ rs) (suc n) a b = ap (λ v. suc v) (limits-length m qs rs n (omega (arith, a)) (omega (arith, b)))
 
+  times-length : (m : ℕ) (ns : List ℕ) → length (times m ns) ≡ length ns
+  times-length m [] = refl
+  times-length m (n ∷ ns) = ap (λ v. suc v) (times-length m ns)
+
   -- marks of firings change nothing here
   marked-typed : (s : Signature K) (n : ℕ) (es : List (Event T)) → AllByRecursion (IsTypedEvent Has s) es → AllByRecursion (IsTypedEvent Has s) (all_marked n es)
   marked-typed s n [] t = tt
@@ -59,7 +63,7 @@ module _ {T K A : Type 0} (Has : K → T → Type 0) (Below : K → K → Type 0
   -- the firing of an SDF composite, whose children keep to their kinds
   module _ (sigs : Signatures K) (step : Stepping T (Child (Node T A))) (keeps : (i : ℕ) → KeepsKinds Has (below sigs i) (GoodChild sigs i) step) (k : ℕ) (tag : Tag) (h : Past) (c : Core T) (p : SdfPlan) where
     as-node-typed : (r : Outcome T (Inside (Streams T) (Child (Node T A)))) (n : ℕ) (X : Streams T) → IsTypedSdf Has Below Fits sigs n p X →
-        GoodInside Has Below Fits widens sigs (GoodChild sigs) (child_facts (facts_of rows)) step keeps tag p.net.places r → IsTypedOutcome Has Below Fits rows sigs (as_node tag h c (λ Y. Sdf p Y) r)
+        GoodInside Has Below Fits widens sigs (GoodChild sigs) (kinds_at sigs (unfed p)) (child_facts (facts_of rows)) step keeps tag p.net.places r → IsTypedOutcome Has Below Fits rows sigs (as_node tag h c (λ Y. Sdf p Y) r)
     as-node-typed (Done x out l) n X t g =
         let same : length (list_of (nodes_of (nodes x.kids))) ≡ n = nodes-length x.kids ∙ (g.3 ∙ t.places_counted) in (
           (
@@ -67,6 +71,7 @@ module _ {T K A : Type 0} (Has : K → T → Type 0) (Below : K → K → Type 0
               places_counted = t.places_counted ∙ sym same;
               repetitions_counted = t.repetitions_counted ∙ sym same;
               rates_counted = t.rates_counted ∙ sym same;
+              gives_counted = t.gives_counted;
               sized = t.sized;
               fed = t.fed;
               room = g.1;
@@ -88,13 +93,13 @@ module _ {T K A : Type 0} (Has : K → T → Type 0) (Below : K → K → Type 0
         let its = numbered 0 (list_of kids) in
         let count = length (list_of kids) in
         as-node-typed sigs step keeps k tag h c p _ count X t
-        (kahn-good Has Below Fits widens sigs (GoodChild sigs) (child_facts (facts_of rows)) step keeps tag p.net (sdf_limits m p.repetitions p.rates) its Y
+        (kahn-good Has Below Fits widens sigs (GoodChild sigs) (kinds_at sigs (unfed p)) (child_facts (facts_of rows)) step keeps tag p.net (sdf_limits m p.repetitions p.rates) its Y
         (limits-length m p.repetitions p.rates count t.repetitions_counted t.rates_counted ∙ sym t.places_counted)
         (numbered-length 0 (list_of kids) ∙ sym t.places_counted)
         t.sized (numbered-good sigs 0 kids s) t.fed
         (omega (arith, t.room, arrived-length Has Below Fits widens sigs (GoodChild sigs) p.net.sources inputs X))
-        (arrived-of Has Below Fits widens sigs (GoodChild sigs) p.net.sources (kinds_from sigs 0 p.net.places) inputs X t.fed a.1 t.held)
-        (fired_all m p.repetitions) _ k)
+        (arrived-of Has Below Fits widens sigs (GoodChild sigs) p.net.sources (kinds_in sigs p) inputs X t.fed a.1 t.held)
+        (fired_all m p.repetitions) (leaving m p) (λ ns. omega (arith, times-length m p.gives, t.gives_counted)) k)
     director-typed (Pn p X) t s a = absurd t
     director-typed (Sr p) t s a = absurd t
     director-typed (De p) t s a = absurd t

@@ -8,7 +8,7 @@ use Rattle.pt_meaning.specs.Flow.{Flow, flow}
 use Rattle.pt_meaning.specs.Net.{Inside, Source, Own, Output, Net}
 use Rattle.pt_meaning.specs.Running.{total}
 use Rattle.pt_meaning.specs.Rounds.{Limit, within, rated, gave, refill, flows, round}
-use Rattle.pt_meaning.specs.Kahn.{arrived, faults_of, logs_of, states_of, left_by, skip_places, firsts, behind, lengths, if_settled, firing, settled, kahn}
+use Rattle.pt_meaning.specs.Kahn.{Leaving, arrived, faults_of, logs_of, states_of, left_by, skip_places, firsts, behind, lengths, if_settled, firing, settled, kahn}
 use Rattle.pt_typed.specs.Signature.{Signature, Signatures, below, AllOf, AreOf, IsTypedEvent, IsTypedLog}
 use Rattle.pt_typed.specs.TypedTree.{kinds_from, AreSized, IsFed, AreFed}
 use Rattle.pt_typed.proofs.StreamLaws.{all-append, all-mono, AreGiven, at-given, take-of, drop-of, append-of, firsts-of, behind-of}
@@ -75,15 +75,16 @@ module _ {T K A S : Type 0} (Has : K → T → Type 0) (Below : K → K → Type
   refill-length fs (c ∷ cs) [] = refl
   refill-length fs (c ∷ cs) (xs ∷ X) = ap (λ v. suc v) (refill-length fs cs X)
 
-  module _ (facts : Facts T S) (step : Stepping T S) (keeps : (i : ℕ) → KeepsKinds Has (below sigs i) (Good i) step) (tag : Tag) where
-    flows-good : (i : ℕ) (ns : List ℕ) (cs : List Limit) (k : ℕ) (ss : List S) (X : Streams T) → length cs ≡ length ns → length ss ≡ length ns → AreSized sigs i ns → AreGood i ss → total ns ≤ length X → AreOf Has (kinds_from sigs i ns) X →
+  -- with these kinds of the channels that end nowhere
+  module _ (unfed : List K) (facts : Facts T S) (step : Stepping T S) (keeps : (i : ℕ) → KeepsKinds Has (below sigs i) (Good i) step) (tag : Tag) where
+    flows-good : (i : ℕ) (ns : List ℕ) (cs : List Limit) (k : ℕ) (ss : List S) (X : Streams T) → length cs ≡ length ns → length ss ≡ length ns → AreSized sigs i ns → AreGood i ss → total ns ≤ length X → AreOf Has (kinds_from sigs unfed i ns) X →
         GoodFlows i ns (flows facts step tag ns cs k ss X)
     flows-good i [] cs k ss X c e z g r a = tt
     flows-good i (n ∷ ns) [] k ss X c e z g r a = absurd (omega arith)
     flows-good i (n ∷ ns) (l ∷ cs) k [] X c e z g r a = absurd (omega arith)
     flows-good i (n ∷ ns) (l ∷ cs) k (s ∷ ss) X c e z g r a =
         let places = (sigs (i ∷ [])).places in
-        let rest = kinds_from sigs (suc i) ns in
+        let rest = kinds_from sigs unfed (suc i) ns in
         let front = subst (λ v. AreOf Has places (take v X)) z.0 (take-of Has places rest X a) in
         let back = subst (λ v. AreOf Has rest (drop v X)) z.0 (drop-of Has places rest X a) in
         let long : length (take n X) ≡ n = length-take-within n X (omega (arith, r)) in
@@ -94,13 +95,13 @@ module _ {T K A S : Type 0} (Has : K → T → Type 0) (Below : K → K → Type
 
     -- ---- what the children leave
 
-    left-of : (i : ℕ) (ns : List ℕ) (fs : List (Flow T S)) (Y : Streams T) → AreSized sigs i ns → GoodFlows i ns fs → AreOf Has (sigs []).outputs Y → AreOf Has (kinds_from sigs i ns) (left_by fs ++ Y)
+    left-of : (i : ℕ) (ns : List ℕ) (fs : List (Flow T S)) (Y : Streams T) → AreSized sigs i ns → GoodFlows i ns fs → AreOf Has ((sigs []).outputs ++ unfed) Y → AreOf Has (kinds_from sigs unfed i ns) (left_by fs ++ Y)
     left-of i [] [] Y z g a = a
     left-of i [] (f ∷ fs) Y z g a = absurd g
     left-of i (n ∷ ns) [] Y z g a = absurd g
     left-of i (n ∷ ns) (f ∷ fs) Y z g a =
-        subst (λ v. AreOf Has (kinds_from sigs i (n ∷ ns)) v) (sym (append_assoc f.left (left_by fs) Y))
-        (append-of Has (sigs (i ∷ [])).places (kinds_from sigs (suc i) ns) f.left (left_by fs ++ Y) (g.0.counted ∙ sym z.0) g.0.left (left-of (suc i) ns fs Y z.1 g.1 a))
+        subst (λ v. AreOf Has (kinds_from sigs unfed i (n ∷ ns)) v) (sym (append_assoc f.left (left_by fs) Y))
+        (append-of Has (sigs (i ∷ [])).places (kinds_from sigs unfed (suc i) ns) f.left (left_by fs ++ Y) (g.0.counted ∙ sym z.0) g.0.left (left-of (suc i) ns fs Y z.1 g.1 a))
 
     left-length : (i : ℕ) (ns : List ℕ) (fs : List (Flow T S)) → GoodFlows i ns fs → length (left_by fs) ≡ total ns
     left-length i [] [] g = refl
@@ -131,55 +132,59 @@ module _ {T K A S : Type 0} (Has : K → T → Type 0) (Below : K → K → Type
     logs-typed ns fs g [] = tt
     logs-typed ns fs g (m ∷ p) = logs-of 0 m m p ns fs (omega arith) g
 
-    -- the own outputs' channels
-    skip-of : (i : ℕ) (ns : List ℕ) (X : Streams T) → AreSized sigs i ns → AreOf Has (kinds_from sigs i ns) X → AreOf Has (sigs []).outputs (skip_places ns X)
+    -- the channels behind the places of the children
+    skip-of : (i : ℕ) (ns : List ℕ) (X : Streams T) → AreSized sigs i ns → AreOf Has (kinds_from sigs unfed i ns) X → AreOf Has ((sigs []).outputs ++ unfed) (skip_places ns X)
     skip-of i [] X z a = a
-    skip-of i (n ∷ ns) X z a = skip-of (suc i) ns (drop n X) z.1 (subst (λ v. AreOf Has (kinds_from sigs (suc i) ns) (drop v X)) z.0 (drop-of Has (sigs (i ∷ [])).places (kinds_from sigs (suc i) ns) X a))
+    skip-of i (n ∷ ns) X z a = skip-of (suc i) ns (drop n X) z.1 (subst (λ v. AreOf Has (kinds_from sigs unfed (suc i) ns) (drop v X)) z.0 (drop-of Has (sigs (i ∷ [])).places (kinds_from sigs unfed (suc i) ns) X a))
 
     -- ---- a firing
 
     -- what is within the composite after it, what it gave, and what was finished in it
     abbrev pub GoodInside : List ℕ → Outcome T (Inside (Streams T) S) → Type 0
-    GoodInside ns (Done c out l) = AreOf Has (kinds_from sigs 0 ns) c.held × (total ns ≤ length c.held) × AreGood 0 c.kids × (length c.kids ≡ length ns) × AreOf Has (sigs []).outputs out × IsTypedLog Has sigs l
+    GoodInside ns (Done c out l) = AreOf Has (kinds_from sigs unfed 0 ns) c.held × (total ns ≤ length c.held) × AreGood 0 c.kids × (length c.kids ≡ length ns) × AreOf Has (sigs []).outputs out × IsTypedLog Has sigs l
     GoodInside ns (Stuck fs l) = IsTypedLog Has sigs l
 
     settled-good : (b : Bool) (ns : List ℕ) (c : Inside (Streams T) S) (out : Streams T) (l : Log T) (fs : List Fault) → GoodInside ns (Done c out l) → GoodInside ns (if_settled b c out l fs)
     settled-good true ns c out l fs g = g
     settled-good false ns c out l fs g = g.5
 
-    firing-good : (b : Bool) (counts : List ℕ → List ℕ) (ns : List ℕ) (fs : List (Flow T S)) (X : Streams T) → AreSized sigs 0 ns → AreOf Has (kinds_from sigs 0 ns) X → GoodFlows 0 ns fs → GoodInside ns (firing b counts ns fs X)
-    firing-good b counts ns fs X z a g =
+    -- no more own outputs give tokens than there are
+    abbrev IsGiven : Leaving → Type 0
+    IsGiven leaving = (ns : List ℕ) → length (leaving.given ns) ≤ length (sigs []).outputs
+
+    firing-good : (b : Bool) (leaving : Leaving) → IsGiven leaving → (ns : List ℕ) (fs : List (Flow T S)) (X : Streams T) → AreSized sigs 0 ns → AreOf Has (kinds_from sigs unfed 0 ns) X → GoodFlows 0 ns fs → GoodInside ns (firing b leaving ns fs X)
+    firing-good b leaving given ns fs X z a g =
         let Y = skip_places ns X in
-        let ms = counts (lengths Y) in
+        let gone = leaving.gone (lengths Y) in
         let outs = skip-of 0 ns X z a in
-        settled-good b ns (record { held = left_by fs ++ behind ms Y; kids = states_of fs }) (firsts ms Y) (log_below (logs_of fs)) (faults_of 0 fs) (
-          left-of 0 ns fs (behind ms Y) z g (behind-of Has ms (sigs []).outputs Y outs),
-          omega (arith, length-append (left_by fs) (behind ms Y), left-length 0 ns fs g),
+        settled-good b ns (record { held = left_by fs ++ behind gone Y; kids = states_of fs }) (firsts (leaving.given (lengths Y)) Y) (log_below (logs_of fs)) (faults_of 0 fs) (
+          left-of 0 ns fs (behind gone Y) z g (behind-of Has gone ((sigs []).outputs ++ unfed) Y outs),
+          omega (arith, length-append (left_by fs) (behind gone Y), left-length 0 ns fs g),
           states-good 0 ns fs g,
           states-counted 0 ns fs g,
-          firsts-of Has ms (sigs []).outputs Y outs,
+          firsts-of Has (leaving.given (lengths Y)) (sigs []).outputs unfed Y (given (lengths Y)) outs,
           logs-typed ns fs g,
         )
 
     module _ (net : Net) (limits : List Limit) (kids : List S) (X : Streams T) (limited : length limits ≡ length net.places) (counted : length kids ≡ length net.places) (sized : AreSized sigs 0 net.places) (good : AreGood 0 kids)
-        (fed-by : AreFed {A = A} Has Below Fits sigs net.sources (kinds_from sigs 0 net.places)) (room : total net.places ≤ length X) (held : AreOf Has (kinds_from sigs 0 net.places) X) where
+        (fed-by : AreFed {A = A} Has Below Fits sigs net.sources (kinds_from sigs unfed 0 net.places)) (room : total net.places ≤ length X) (held : AreOf Has (kinds_from sigs unfed 0 net.places) X) where
       round-length : (k : ℕ) → length (round facts step tag net limits kids X k) ≡ length X
       unfolding round
       round-length zero = refl
       round-length (suc k) = refill-length (flows facts step tag net.places limits (suc k) kids (round facts step tag net limits kids X k)) net.sources X
 
-      round-of : (k : ℕ) → AreOf Has (kinds_from sigs 0 net.places) (round facts step tag net limits kids X k)
+      round-of : (k : ℕ) → AreOf Has (kinds_from sigs unfed 0 net.places) (round facts step tag net limits kids X k)
       unfolding round
       round-of zero = held
       round-of (suc k) =
           refill-of net.places (flows facts step tag net.places limits (suc k) kids (round facts step tag net limits kids X k))
           (flows-good 0 net.places limits (suc k) kids (round facts step tag net limits kids X k) limited counted sized good (omega (arith, room, round-length k)) (round-of k))
-          net.sources (kinds_from sigs 0 net.places) X fed-by held
+          net.sources (kinds_from sigs unfed 0 net.places) X fed-by held
 
-      pub kahn-good : (enough : List (Flow T S) → Bool) (counts : List ℕ → List ℕ) (k : ℕ) → GoodInside net.places (kahn facts step tag net limits enough counts kids X k)
+      pub kahn-good : (enough : List (Flow T S) → Bool) (leaving : Leaving) → IsGiven leaving → (k : ℕ) → GoodInside net.places (kahn facts step tag net limits enough leaving kids X k)
       unfolding kahn
-      kahn-good enough counts k =
+      kahn-good enough leaving given k =
           let Y = round facts step tag net limits kids X k in
           let fs = flows facts step tag net.places limits k kids Y in
-          firing-good (settled facts step tag net limits kids X k && enough fs) counts net.places fs Y sized (round-of k)
+          firing-good (settled facts step tag net limits kids X k && enough fs) leaving given net.places fs Y sized (round-of k)
           (flows-good 0 net.places limits k kids Y limited counted sized good (omega (arith, room, round-length k)) (round-of k))

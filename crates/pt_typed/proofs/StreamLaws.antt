@@ -1,5 +1,5 @@
 -- Streams of tokens of given kinds: their parts, and what is joined of them.
-use Rattle.std.proofs.Common.{◌≡◌, ℕ, zero, suc, List, [], ◌∷◌, ◌++◌, Bool, true, false, length, take, drop, Option, Some, None, refl, ap, arith, nat_le}
+use Rattle.std.proofs.Common.{◌≡◌, ℕ, zero, suc, ◌≤◌, List, [], ◌∷◌, ◌++◌, Bool, true, false, length, take, drop, Option, Some, None, refl, ap, arith, nat_le}
 use Rattle.std.specs.List.{AllByRecursion}
 use Rattle.pt_meaning.specs.Basics.{Streams, at, joined}
 use Rattle.pt_meaning.specs.Streams.{get}
@@ -62,11 +62,12 @@ module _ {T K : Type 0} (Has : K → T → Type 0) where
   append-of (k ∷ ks) ls [] Y e a b = absurd (omega arith)
   append-of (k ∷ ks) ls (xs ∷ X) Y e a b = (a.0, append-of ks ls X Y (omega arith) a.1 b)
 
-  pub firsts-of : (ns : List ℕ) (ks : List K) (X : Streams T) → AreOf Has ks X → AreOf Has ks (firsts ns X)
-  firsts-of [] ks X a = tt
-  firsts-of (n ∷ ns) ks [] a = tt
-  firsts-of (n ∷ ns) [] (xs ∷ X) a = absurd a
-  firsts-of (n ∷ ns) (k ∷ ks) (xs ∷ X) a = (all-take (Has k) n xs a.0, firsts-of ns ks X a.1)
+  -- of no more streams than there are of these kinds
+  pub firsts-of : (ns : List ℕ) (ks ls : List K) (X : Streams T) → length ns ≤ length ks → AreOf Has (ks ++ ls) X → AreOf Has ks (firsts ns X)
+  firsts-of [] ks ls X e a = tt
+  firsts-of (n ∷ ns) ks ls [] e a = tt
+  firsts-of (n ∷ ns) [] ls (xs ∷ X) e a = absurd (omega (arith, e))
+  firsts-of (n ∷ ns) (k ∷ ks) ls (xs ∷ X) e a = (all-take (Has k) n xs a.0, firsts-of ns ks ls X (omega (arith, e)) a.1)
 
   pub behind-of : (ns : List ℕ) (ks : List K) (X : Streams T) → AreOf Has ks X → AreOf Has ks (behind ns X)
   behind-of [] ks X a = tt

@@ -1,32 +1,41 @@
 -- The tree of a net is typed by the types of the net.
-use Rattle.std.proofs.Common.{◌≡◌, ℕ, zero, suc, ◌+◌, ◌*◌, ◌≤◌, List, [], ◌∷◌, Bool, true, false, length, map, drop, nat_lt, Option, Some, None, refl, sym, ap, subst, arith, ◌∙◌, length-append, slice_get}
+use Rattle.std.proofs.Common.{◌≡◌, ℕ, zero, suc, ◌+◌, ◌*◌, ◌<◌, ◌≤◌, List, [], ◌∷◌, ◌++◌, Bool, true, false, length, map, drop, nat_lt, Option, Some, None, refl, sym, ap, ap₂, subst, arith, ◌∙◌, length-append, slice_get, if◌then◌else◌}
 use Rattle.std.proofs.lemmas.List.{length-map}
+use Rattle.std.proofs.lemmas.List.Sums.{length-filter}
+use Rattle.std.proofs.lemmas.List.Elements.{recursion_from_All}
 use Rattle.std.proofs.lemmas.Option.{same_Some}
 use Rattle.std.proofs.lemmas.Bool.{eqb-true}
-use Rattle.std.specs.Prelude.{codes, bytes_eq}
+use Rattle.std.specs.Prelude.{codes, bytes_eq, filter, count_by}
 use Rattle.std.specs.List.{AllByRecursion, Contains}
 use Rattle.pt_meaning.specs.Basics.{Tag, Streams}
 use Rattle.pt_meaning.specs.Streams.{get}
 use Rattle.pt_meaning.specs.Net.{Source, Own, Output}
 use Rattle.pt_meaning.specs.Running.{total}
-use Rattle.pt_meaning.specs.Sdf.{SdfPlan}
+use Rattle.pt_meaning.specs.Kahn.{skip_places}
+use Rattle.pt_meaning.specs.Sdf.{SdfPlan, unfed}
 use Rattle.pt_meaning.specs.Start.{first_of_node, first_of, first_held}
 use Rattle.pt_meaning.specs.Schedule.{portions, suffice, if_more, sdf_top}
 use Rattle.pt_meaning.specs.Job.{Fire}
 use Rattle.pt_meaning.specs.Tree.{list_of, nodes_of, Actor, Composite}
 use Rattle.pt_value.specs.declared.token.Token.{Token}
+use Rattle.pt_document.specs.declared.job.Port.{Port}
 use Rattle.pt_datatypes.specs.Datatype.{Datatype}
 use Rattle.pt_datatypes.specs.Order.{IsBelow}
+use Rattle.pt_datatypes.proofs.Order.{below-refl}
 use Rattle.pt_net.specs.declared.net.Channel.{Channel}
 use Rattle.pt_net.specs.declared.net.Net.{Net}
 use Rattle.pt_net.specs.declared.net.NetDirector.{NetDirector}
 use Rattle.pt_net.specs.declared.net.NetEntity.{NetEntity}
-use Rattle.pt_net.specs.Inside.{children_of, place_count, source_of, channels_in, is_within}
+use Rattle.pt_net.specs.Inside.{children_of, place_count, source_of, channels_in, is_within, is_input, is_output}
+use Rattle.pt_typing.specs.declared.variable.Variable.TheVariants as variable
 use Rattle.pt_typing.specs.Least.{Assignment}
 use Rattle.pt_library.specs.declared.library_actor.LibraryActor.{LibraryActor}
 use Rattle.pt_library.specs.LibraryActor.{rows}
 use Rattle.pt_plan.specs.declared.inside.Inside.{Inside}
+use Rattle.pt_sdf.specs.Plan as core
 use Rattle.pt_plan.specs.PlanOf.{IsPlanOf}
+use Rattle.pt_plan.specs.Unfed as own_inputs
+use Rattle.pt_plan.proofs.UnfedLaws.{unfed-below}
 use Rattle.pt_node.specs.View.{Tree}
 use Rattle.pt_trees.specs.Around.{IsInsideOf}
 use Rattle.pt_trees.specs.Rates.{rates_of}
@@ -35,15 +44,16 @@ use Rattle.pt_order.proofs.TreeCover.{sdf-directed}
 use Rattle.pt_typed.specs.Signature.{Signatures, AreOf, AreAllOf}
 use Rattle.pt_typed.specs.TokenTypes.{IsTokenOf}
 use Rattle.pt_typed.specs.TypedActor.{MeetsRow, IsTypedActor}
-use Rattle.pt_typed.specs.TypedTree.{kind_of, kinds_from, AreSized, AreFed, IsTypedSdf, IsTypedNode, AreTypedNodes}
+use Rattle.pt_typed.specs.TypedTree.{kind_of, kinds_from, kind_before, kinds_at, kinds_in, AreSized, AreFed, IsTypedSdf, IsTypedNode, AreTypedNodes}
 use Rattle.pt_typed.specs.TypedRuns.{AreTypedTurns}
-use Rattle.pt_typed.specs.NetTypes.{source_type, place_type, TypesGoUp, types_below, IsWired}
+use Rattle.pt_typed.specs.NetTypes.{number_if, port_numbers, source_type, place_type, TypesGoUp, types_below, IsWired}
 use Rattle.pt_typed.specs.TypedNet.{MeetRows, TreesAreTyped, NetsKeepTypes}
 use Rattle.pt_typed.proofs.StreamLaws.{all-mono, all-take, all-drop}
 use Rattle.pt_typed.proofs.TypeLaws.{token-wider}
 use Rattle.pt_typed.proofs.ActorLaws.{rows-type, first-tokens}
 use Rattle.pt_typed.proofs.TypedRunLaws.{runs-keep}
-use Rattle.pt_typed.proofs.NetLaws.{all-filtered, child-below, source-kind, kinds-are, sized, fed, their-own}
+use Rattle.pt_typed.proofs.NetLaws.{map-append, all-filtered, own-places, own-outputs, child-below, source-kind, kinds-are, sized, fed, their-own}
+use Rattle.pt_typed.proofs.UnfedLaws.{behind-all, get-there, kinds-length, AreInputs, own-fed}
 
 -- ---- lengths
 
@@ -55,9 +65,17 @@ held-length : (ts : List Tree) (cs : List Source) → length (first_held rows ts
 held-length ts [] = refl
 held-length ts (c ∷ cs) = ap (λ n. suc n) (held-length ts cs)
 
-kinds-long : {K : Type 0} (sigs : Signatures K) (i : ℕ) (ns : List ℕ) → AreSized sigs i ns → total ns ≤ length (kinds_from sigs i ns)
-kinds-long sigs i [] z = omega arith
-kinds-long sigs i (n ∷ ns) z = omega (arith, z.0, kinds-long sigs (suc i) ns z.1, length-append (sigs (i ∷ [])).places (kinds_from sigs (suc i) ns))
+own-sources : (us : List ℕ) → map core.source_of (map own_inputs.own us) ≡ map Own us
+own-sources [] = refl
+own-sources (n ∷ us) = ap (λ cs. Own n ∷ cs) (own-sources us)
+
+numbers-count : (test : Port → Bool) (i : ℕ) (ps : List Port) → length (port_numbers test i ps) ≡ length (filter test ps)
+numbers-count test i [] = refl
+numbers-count test i (p ∷ ps) = by_test (test p) (numbers-count test (suc i) ps)
+  where
+    by_test : (b : Bool) → length (port_numbers test (suc i) ps) ≡ length (filter test ps) → length (number_if b i (port_numbers test (suc i) ps)) ≡ length (if b then p ∷ filter test ps else filter test ps)
+    by_test true rest = ap (λ n. suc n) rest
+    by_test false rest = rest
 
 module _ (net : Net) (typing : Assignment) (starts : Starts) (wired : IsWired net) (up : TypesGoUp net typing) (meet : MeetRows net typing starts) where
   trees-length : {cs : List ℕ} {ts : List Tree} → AreTrees net (StartsAs starts) cs ts → length ts ≡ length cs
@@ -97,39 +115,102 @@ module _ (net : Net) (typing : Assignment) (starts : Starts) (wired : IsWired ne
     source-first (Own port) u h = tt
     source-first (Output child port) u h = node-first child port u (get kids child) refl h
 
-    held-along : (cs : List Channel) → AllByRecursion (λ x. Contains net.channels.items x × (is_within k x ≡ true)) cs → AreOf IsTokenOf (map (place_type typing) cs) (first_held rows kids (map (source_of net.entities.items) cs))
-    held-along [] a = tt
-    held-along (x ∷ cs) a = (
-      all-mono (IsTokenOf (source_type typing x)) (IsTokenOf (place_type typing x)) (λ t h. token-wider (source_type typing x) (place_type typing x) t (up x a.0.0) h) (first_of rows kids (source_of net.entities.items x))
-          (source-first (source_of net.entities.items x) (source_type typing x) (source-kind net typing wired k e d at directed x (eqb-true x.composite k a.0.1) (wired.begin x a.0.0))),
-      held-along cs a.1,
-    )
+    -- the own ports of the composite
+    inputs-count : length (sigs []).places ≡ count_by is_input e.ports.items
+    inputs-count = ap length (own-places net typing wired k e d at directed) ∙ length-map (port_numbers is_input 0 e.ports.items) (λ i. typing.types (variable.Port k i)) ∙ numbers-count is_input 0 e.ports.items ∙ length-filter is_input e.ports.items
 
-    held-of : AreOf IsTokenOf (kinds_from sigs 0 (map (place_count net.channels.items) (children_of net.entities.items k))) (first_held rows kids (map (source_of net.entities.items) (channels_in net.channels.items k)))
-    held-of = subst (λ ts. AreOf IsTokenOf ts (first_held rows kids (map (source_of net.entities.items) (channels_in net.channels.items k)))) (sym (kinds-are net typing wired k e d at directed)) (held-along (channels_in net.channels.items k) (all-filtered (Contains net.channels.items) (is_within k) net.channels.items (their-own net typing wired)))
+    outputs-count : length (sigs []).outputs ≡ count_by is_output e.ports.items
+    outputs-count = ap length (own-outputs net typing wired k e d at directed) ∙ length-map (port_numbers is_output 0 e.ports.items) (λ i. typing.types (variable.Port k i)) ∙ numbers-count is_output 0 e.ports.items ∙ length-filter is_output e.ports.items
+
+    -- where its channels begin that end at a place or at an own output, and how many places its children have
+    abbrev ending : List Source
+    ending = map (source_of net.entities.items) (channels_in net.channels.items k)
+
+    abbrev places : List ℕ
+    places = map (place_count net.channels.items) (children_of net.entities.items k)
+
+    ending-count : length ending ≡ total places + length (sigs []).outputs
+    ending-count =
+        let all : length (kinds_from sigs [] 0 places) ≡ length (map (place_type typing) (channels_in net.channels.items k) ++ []) = ap length (kinds-are net typing wired k e d at directed []) in
+        omega (
+          arith,
+          all,
+          kinds-length sigs [] 0 places (sized net typing wired k e d at directed),
+          length-append (map (place_type typing) (channels_in net.channels.items k)) [],
+          length-map (channels_in net.channels.items k) (place_type typing),
+          length-map (channels_in net.channels.items k) (source_of net.entities.items),
+        )
+
+    -- with channels from these own inputs, which feed nothing
+    module _ (us : List ℕ) (there : AreInputs sigs us) where
+      abbrev own : List Source
+      own = map Own us
+
+      held-own : (ns : List ℕ) → AreInputs sigs ns → AreOf IsTokenOf (kinds_at sigs (map Own ns)) (first_held rows kids (map Own ns))
+      held-own [] h = tt
+      held-own (n ∷ ns) h = by_kind (get (sigs []).places n) refl (held-own ns h.1)
+        where
+          by_kind : (o : Option Datatype) → get (sigs []).places n ≡ o → AreOf IsTokenOf (kinds_at sigs (map Own ns)) (first_held rows kids (map Own ns)) → AreOf IsTokenOf (kind_before o (kinds_at sigs (map Own ns))) ([] ∷ first_held rows kids (map Own ns))
+          by_kind None e rest = absurd (get-there (sigs []).places n h.0 e)
+          by_kind (Some t) e rest = (tt, rest)
+
+      held-along : (cs : List Channel) → AllByRecursion (λ x. Contains net.channels.items x × (is_within k x ≡ true)) cs → AreOf IsTokenOf (map (place_type typing) cs ++ kinds_at sigs own) (first_held rows kids (map (source_of net.entities.items) cs ++ own))
+      held-along [] a = held-own us there
+      held-along (x ∷ cs) a = (
+        all-mono (IsTokenOf (source_type typing x)) (IsTokenOf (place_type typing x)) (λ t h. token-wider (source_type typing x) (place_type typing x) t (up x a.0.0) h) (first_of rows kids (source_of net.entities.items x))
+            (source-first (source_of net.entities.items x) (source_type typing x) (source-kind net typing wired k e d at directed x (eqb-true x.composite k a.0.1) (wired.begin x a.0.0))),
+        held-along cs a.1,
+      )
+
+      held-of : AreOf IsTokenOf (kinds_from sigs (kinds_at sigs own) 0 places) (first_held rows kids (ending ++ own))
+      held-of = subst (λ ts. AreOf IsTokenOf ts (first_held rows kids (ending ++ own))) (sym (kinds-are net typing wired k e d at directed (kinds_at sigs own))) (held-along (channels_in net.channels.items k) (all-filtered (Contains net.channels.items) (is_within k) net.channels.items (their-own net typing wired)))
+
+      fed-of : AreFed {A = LibraryActor} IsTokenOf IsBelow IsTypedActor sigs (ending ++ own) (kinds_from sigs (kinds_at sigs own) 0 places)
+      fed-of = fed net typing wired k e d at directed IsTokenOf IsTypedActor up own (kinds_at sigs own) (own-fed IsTokenOf IsBelow IsTypedActor below-refl sigs us there)
+
+      -- a plan of these channels has these kinds
+      module _ (p : SdfPlan) (are-places : p.net.places ≡ places) (are-sources : p.net.sources ≡ ending ++ own) (given : length p.gives ≡ length (sigs []).outputs) where
+        unfed-are : unfed p ≡ own
+        unfed-are =
+            let count : length ending ≡ total p.net.places + length p.gives = omega (arith, ending-count, given, ap total are-places) in
+            ap (λ cs. drop (length p.gives) (skip_places p.net.places cs)) are-sources ∙ behind-all p.net.places (length p.gives) ending own count
+
+        plan-kinds : kinds_from sigs (kinds_at sigs own) 0 places ≡ kinds_in sigs p
+        plan-kinds = ap₂ (λ (cs : List Source) (ns : List ℕ). kinds_from sigs (kinds_at sigs cs) 0 ns) (sym unfed-are) (sym are-places)
+
+        plan-fed : AreFed {A = LibraryActor} IsTokenOf IsBelow IsTypedActor sigs p.net.sources (kinds_in sigs p)
+        plan-fed = subst (λ cs. AreFed {A = LibraryActor} IsTokenOf IsBelow IsTypedActor sigs cs (kinds_in sigs p)) (sym are-sources) (subst (λ ts. AreFed {A = LibraryActor} IsTokenOf IsBelow IsTypedActor sigs (ending ++ own) ts) plan-kinds fed-of)
+
+        plan-held : AreOf IsTokenOf (kinds_in sigs p) (first_held rows kids p.net.sources)
+        plan-held = subst (λ cs. AreOf IsTokenOf (kinds_in sigs p) (first_held rows kids cs)) (sym are-sources) (subst (λ ts. AreOf IsTokenOf ts (first_held rows kids (ending ++ own))) plan-kinds held-of)
+
+        plan-room : total p.net.places ≤ length (first_held rows kids p.net.sources)
+        plan-room = omega (arith, held-length kids p.net.sources, ap length are-sources, length-append ending own, ending-count, ap total are-places)
+
+    unfed-there : (x : Inside) → x.inputs ≡ count_by is_input e.ports.items → AreInputs sigs (own_inputs.unfed x)
+    unfed-there x count =
+        let us = own_inputs.unfed x in
+        subst (λ n. AllByRecursion (λ port. port < n) us) (count ∙ sym inputs-count) (recursion_from_All (λ port. port < x.inputs) us (unfed-below x.sources.items x.inputs))
 
     core-typed : (x : Inside) (p : SdfPlan) → IsInsideOf (around_in net k e) kids x → IsPlanOf x p → IsTypedSdf {A = LibraryActor} IsTokenOf IsBelow IsTypedActor sigs (length (list_of (nodes_of kids))) p (first_held rows kids p.net.sources)
     core-typed x p inside plan =
-        let places : p.net.places ≡ map (place_count net.channels.items) (children_of net.entities.items k) = ap (λ n. n.places) plan.net ∙ inside.places in
-        let sources : p.net.sources ≡ map (source_of net.entities.items) (channels_in net.channels.items k) = ap (λ n. n.sources) plan.net ∙ inside.sources in
-        let count : length p.net.places ≡ length (list_of (nodes_of kids)) = ap length places ∙ length-map (children_of net.entities.items k) (place_count net.channels.items) ∙ sym (trees-length trees) ∙ sym (listed kids) in
+        let us = own_inputs.unfed x in
+        let there = unfed-there x inside.inputs in
+        let are-places : p.net.places ≡ places = ap (λ n. n.places) plan.net ∙ inside.places in
+        let are-sources : p.net.sources ≡ ending ++ map Own us = ap (λ n. n.sources) plan.net ∙ map-append core.source_of x.sources.items (map own_inputs.own us) ∙ ap₂ (λ xs ys. xs ++ ys) inside.sources (own-sources us) in
+        let given : length p.gives ≡ length (sigs []).outputs = plan.gives ∙ inside.outputs ∙ sym outputs-count in
+        let count : length p.net.places ≡ length (list_of (nodes_of kids)) = ap length are-places ∙ length-map (children_of net.entities.items k) (place_count net.channels.items) ∙ sym (trees-length trees) ∙ sym (listed kids) in
         let its : length x.places ≡ length p.net.places = ap (λ n. length n.places) (sym plan.net) in
-        let sized-here = subst (λ ns. AreSized sigs 0 ns) (sym places) (sized net typing wired k e d at directed) in
-        let long = kinds-long sigs 0 p.net.places sized-here in
-        let whole : length (kinds_from sigs 0 p.net.places) ≡ length (first_held rows kids p.net.sources) =
-        ap (λ ns. length (kinds_from sigs 0 ns)) places ∙ ap length (kinds-are net typing wired k e d at directed) ∙ length-map (channels_in net.channels.items k) (place_type typing)
-        ∙ sym (length-map (channels_in net.channels.items k) (source_of net.entities.items)) ∙ ap length (sym sources) ∙ sym (held-length kids p.net.sources) in
         let rated : length p.rates ≡ length kids = ap length plan.rates ∙ sym (length-map x.rates.items (λ (rs : List ℕ). Some rs)) ∙ ap length inside.rates ∙ length-map kids rates_of in
         record {
           places_counted = count;
           repetitions_counted = plan.repetitions ∙ its ∙ count;
           rates_counted = rated ∙ sym (listed kids);
-          sized = sized-here;
-          fed = subst (λ cs. AreFed {A = LibraryActor} IsTokenOf IsBelow IsTypedActor sigs cs (kinds_from sigs 0 p.net.places)) (sym sources)
-              (subst (λ ns. AreFed {A = LibraryActor} IsTokenOf IsBelow IsTypedActor sigs (map (source_of net.entities.items) (channels_in net.channels.items k)) (kinds_from sigs 0 ns)) (sym places) (fed net typing wired k e d at directed IsTokenOf IsTypedActor up));
-          room = omega (arith, long, whole);
-          held = subst (λ cs. AreOf IsTokenOf (kinds_from sigs 0 p.net.places) (first_held rows kids cs)) (sym sources)
-              (subst (λ ns. AreOf IsTokenOf (kinds_from sigs 0 ns) (first_held rows kids (map (source_of net.entities.items) (channels_in net.channels.items k)))) (sym places) held-of);
+          gives_counted = given;
+          sized = subst (λ ns. AreSized sigs 0 ns) (sym are-places) (sized net typing wired k e d at directed);
+          fed = plan-fed us there p are-places are-sources given;
+          room = plan-room us there p are-places are-sources given;
+          held = plan-held us there p are-places are-sources given;
         }
 
   -- ---- the tree

@@ -4,7 +4,7 @@ use Rattle.pt_meaning.specs.Basics.{Streams}
 use Rattle.pt_meaning.specs.Streams.{get}
 use Rattle.pt_meaning.specs.Net.{Source, Own, Output}
 use Rattle.pt_meaning.specs.Running.{total}
-use Rattle.pt_meaning.specs.Sdf.{SdfPlan}
+use Rattle.pt_meaning.specs.Sdf.{SdfPlan, unfed}
 use Rattle.pt_meaning.specs.Tree.{Core, Sdf, Pn, Sr, De, Rv, Modal, Node, Nodes, Actor, Composite, none, more, list_of}
 use Rattle.pt_typed.specs.Signature.{Signature, Signatures, below, AreOf}
 
@@ -13,10 +13,24 @@ abbrev pub kind_of : {K : Type 0} → Signatures K → Source → Option K
 kind_of sigs (Own port) = get (sigs []).places port
 kind_of sigs (Output child port) = get (sigs (child ∷ [])).outputs port
 
--- the kinds of the channels of a composite, in the order of their numbers: those at the places of its children from child i on, so many children, and then those of its own outputs
-abbrev pub kinds_from : {K : Type 0} → Signatures K → (i : ℕ) → List ℕ → List K
-kinds_from sigs i [] = (sigs []).outputs
-kinds_from sigs i (n ∷ ns) = (sigs (i ∷ [])).places ++ kinds_from sigs (suc i) ns
+-- the kinds of the channels of a composite, in the order of their numbers: those at the places of its children from child i on, so many children, then those of its own outputs, and then these, of channels that end nowhere
+abbrev pub kinds_from : {K : Type 0} → Signatures K → List K → (i : ℕ) → List ℕ → List K
+kinds_from sigs ks i [] = (sigs []).outputs ++ ks
+kinds_from sigs ks i (n ∷ ns) = (sigs (i ∷ [])).places ++ kinds_from sigs ks (suc i) ns
+
+-- a kind before others, where there is one
+abbrev pub kind_before : {K : Type 0} → Option K → List K → List K
+kind_before None ks = ks
+kind_before (Some k) ks = k ∷ ks
+
+-- the kinds of what these sources give
+abbrev pub kinds_at : {K : Type 0} → Signatures K → List Source → List K
+kinds_at sigs [] = []
+kinds_at sigs (c ∷ cs) = kind_before (kind_of sigs c) (kinds_at sigs cs)
+
+-- the kinds of all channels of a composite of SDF: a channel that ends nowhere has the kind of the own input at which it begins
+abbrev pub kinds_in : {K : Type 0} → Signatures K → SdfPlan → List K
+kinds_in sigs p = kinds_from sigs (kinds_at sigs (unfed p)) 0 p.net.places
 
 -- each child from child i on has as many places as the net says
 abbrev pub AreSized : {K : Type 0} → Signatures K → (i : ℕ) → List ℕ → Type 0
@@ -36,15 +50,16 @@ module _ {T K A : Type 0} (Has : K → T → Type 0) (Below : K → K → Type 0
   AreFed sigs [] (k ∷ ks) = ⊥
   AreFed sigs (c ∷ cs) [] = ⊥
 
-  -- A composite of SDF of so many children: its plan has an entry for each of them, its channels lead from kind to kind, and so are the tokens that they hold.
+  -- A composite of SDF of so many children: its plan has an entry for each of them and for each own output, its channels lead from kind to kind, and so are the tokens that they hold.
   pub record IsTypedSdf (sigs : Signatures K) (count : ℕ) (p : SdfPlan) (X : Streams T) : Type 0 where
     pub places_counted : length p.net.places ≡ count
     pub repetitions_counted : length p.repetitions ≡ count
     pub rates_counted : length p.rates ≡ count
+    pub gives_counted : length p.gives ≡ length (sigs []).outputs
     pub sized : AreSized sigs 0 p.net.places
-    pub fed : AreFed sigs p.net.sources (kinds_from sigs 0 p.net.places)
+    pub fed : AreFed sigs p.net.sources (kinds_in sigs p)
     pub room : total p.net.places ≤ length X
-    pub held : AreOf Has (kinds_from sigs 0 p.net.places) X
+    pub held : AreOf Has (kinds_in sigs p) X
 
   -- a composite by its director; the laws are of SDF alone
   abbrev pub IsTypedCore : Signatures K → ℕ → Core T → Type 0
