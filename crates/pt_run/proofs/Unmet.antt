@@ -5,7 +5,7 @@ use Rattle.pt_meaning.specs.Machine.{Outcome, Done, Stuck, Stepping, Facts, Fron
 use Rattle.pt_meaning.specs.Flow.{Flow, flow, on_front, on_outcome}
 use Rattle.pt_meaning.specs.Net.{Net, Inside}
 use Rattle.pt_meaning.specs.Rounds.{Limit, round, flows, within, rated, rated_outcome, has_rates, if_rated}
-use Rattle.pt_meaning.specs.Kahn.{firing, settled, kahn, logs_of, states_of}
+use Rattle.pt_meaning.specs.Kahn.{Leaving, firing, settled, kahn, logs_of, states_of}
 use Rattle.pt_meaning.specs.Sdf.{sdf}
 use Rattle.pt_meaning.specs.Children.{Child, numbered, nodes, child_facts, child_step, with_number}
 use Rattle.pt_meaning.specs.Meetings.{Meets, below_child}
@@ -138,20 +138,20 @@ module _ {T S : Type 0} (facts : Facts T S) (P : S → Type 0) where
     good-states [] h = tt
     good-states (f ∷ fs) h = (h.0.state, good-states fs h.1)
 
-    kahn-unmet : (step : Stepping T S) → Unmeeting step P → (net : Net) (limits : List Limit) (enough : List (Flow T S) → Bool) (counts : List ℕ → List ℕ) (kids : List S) (X : Streams T) (k : ℕ) → AllIn P kids → Unmet (log_in (kahn facts step tag net limits enough counts kids X k))
+    kahn-unmet : (step : Stepping T S) → Unmeeting step P → (net : Net) (limits : List Limit) (enough : List (Flow T S) → Bool) (leaving : Leaving) (kids : List S) (X : Streams T) (k : ℕ) → AllIn P kids → Unmet (log_in (kahn facts step tag net limits enough leaving kids X k))
     unfolding kahn
-    kahn-unmet step u net limits enough counts kids X k h =
+    kahn-unmet step u net limits enough leaving kids X k h =
         let Y = round facts step tag net limits kids X k in
         let fs = flows facts step tag net.places limits k kids Y in
         by_settled (settled facts step tag net limits kids X k && enough fs) fs Y (good-flows step u net.places limits k kids Y h)
       where
-        by_settled : (b : Bool) (fs : List (Flow T S)) (Y : Streams T) → AllGood P fs → Unmet (log_in (firing b counts net.places fs Y))
+        by_settled : (b : Bool) (fs : List (Flow T S)) (Y : Streams T) → AllGood P fs → Unmet (log_in (firing b leaving net.places fs Y))
         by_settled true fs Y g = good-logs fs g
         by_settled false fs Y g = good-logs fs g
 
-    kahn-keeps : (step : Stepping T S) → Unmeeting step P → (net : Net) (limits : List Limit) (enough : List (Flow T S) → Bool) (counts : List ℕ → List ℕ) (kids : List S) (X : Streams T) (k : ℕ) (x : Inside (Streams T) S) (out : Streams T) (l : Log T) → AllIn P kids → kahn facts step tag net limits enough counts kids X k ≡ Done x out l → AllIn P x.kids
+    kahn-keeps : (step : Stepping T S) → Unmeeting step P → (net : Net) (limits : List Limit) (enough : List (Flow T S) → Bool) (leaving : Leaving) (kids : List S) (X : Streams T) (k : ℕ) (x : Inside (Streams T) S) (out : Streams T) (l : Log T) → AllIn P kids → kahn facts step tag net limits enough leaving kids X k ≡ Done x out l → AllIn P x.kids
     unfolding kahn
-    kahn-keeps step u net limits enough counts kids X k x out l h e =
+    kahn-keeps step u net limits enough leaving kids X k x out l h e =
         let Y = round facts step tag net limits kids X k in
         let fs = flows facts step tag net.places limits k kids Y in
         by_settled (settled facts step tag net limits kids X k && enough fs) fs Y (good-flows step u net.places limits k kids Y h) e
@@ -159,7 +159,7 @@ module _ {T S : Type 0} (facts : Facts T S) (P : S → Type 0) where
         same_inside : (x y : Inside (Streams T) S) (o out : Streams T) (k l : Log T) → Outcome.Done y o k ≡ Done x out l → y ≡ x
         same_inside x y o out k l e = cc
 
-        by_settled : (b : Bool) (fs : List (Flow T S)) (Y : Streams T) → AllGood P fs → firing b counts net.places fs Y ≡ Done x out l → AllIn P x.kids
+        by_settled : (b : Bool) (fs : List (Flow T S)) (Y : Streams T) → AllGood P fs → firing b leaving net.places fs Y ≡ Done x out l → AllIn P x.kids
         by_settled true fs Y g e = subst (λ (v : Inside (Streams T) S). AllIn P v.kids) (same_inside x _ _ out _ l e) (good-states fs g)
         by_settled false fs Y g e = absurd (cc)
 
