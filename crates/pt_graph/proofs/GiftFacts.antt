@@ -9,7 +9,7 @@ use Rattle.pt_net.specs.Table.{PortAt, RelationAt, Tables, relation_path}
 use Rattle.pt_net.specs.Stands.{IsTwoSources}
 use Rattle.pt_net.specs.Joined.{Joined, here, along, against, Pairs, IsGrouping}
 use Rattle.pt_net.specs.Wires.{relation_outside, relation_inside, outside_of, inside_of, is_input, given_to, taken_from, IsOneGroup, Gives}
-use Rattle.pt_graph.specs.Ties.{IsWithin}
+use Rattle.pt_links.specs.Ties.{IsWithin}
 use Rattle.pt_net.specs.Net.{wires}
 use Rattle.pt_graph.specs.Sources.{giving, gifts, gifts_among, bond_of, HaveOneSource, HasOneGiver, HasTwoGivers}
 pub use Rattle.pt_graph.proofs.GroupSteps.{AreEnds}

@@ -12,7 +12,7 @@ use Rattle.pt_net.specs.Table.{PortAt, Tables, declared_port, ports_of_kind, por
 use Rattle.pt_net.specs.Wires.{outside_of, inside_of, is_input}
 use Rattle.pt_net.specs.Net.{wires}
 use Rattle.pt_net.specs.Stands.{is_single, has_one_at_most}
-use Rattle.pt_graph.specs.Wiring.{IsOwned, AreOwned, AreFine}
+use Rattle.pt_links.specs.Wiring.{IsOwned, AreOwned, AreFine}
 use Rattle.pt_net.proofs.Members.{map_contains, contains_slice}
 use Rattle.pt_graph.proofs.OneSource.{AreSingle}
 

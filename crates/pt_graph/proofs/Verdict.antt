@@ -16,10 +16,10 @@ use Rattle.pt_document.specs.View.{input_view}
 use Rattle.pt_net.specs.Standing.{Standing, is_kept, entities}
 use Rattle.pt_net.specs.Net.{IsNetOf, AreJoints, entity_view, entity_tree, transparent_view, transparent_tree, wires, all_places, channel, IsChannel, IsChannelTo, Records}
 use Rattle.pt_net.specs.Stands.{IsLinkFault, names_nothing, twice_outside, twice_inside, no_source, no_link, no_link_inside, passed_on, no_channel, too_few_channels, IsTwoSources, IsRecordFault, names_no_port, repeated, IsTold, StandsIn, IsFaultIn}
-use Rattle.pt_graph.specs.Wiring.{AllNamed, AreOwned, AreFine, HaveChannels}
+use Rattle.pt_links.specs.Wiring.{AllNamed, AreOwned, AreFine, HaveChannels}
 use Rattle.pt_graph.specs.Sources.{HaveOneSource}
 use Rattle.pt_graph.specs.ChannelTable.{IsGoodChannel, AreChannels, AreTooMany}
-use Rattle.pt_graph.specs.Recorded.{AreDistinct}
+use Rattle.pt_links.specs.Recorded.{AreDistinct}
 use Rattle.pt_graph.proofs.GroupSteps.{after_path, back_path}
 use Rattle.pt_net.proofs.Members.{zip_left, zip_right, zip_weaker, zip_length}
 use Rattle.pt_graph.proofs.OneSource.{AreSingle, reached_once}

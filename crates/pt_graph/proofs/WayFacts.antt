@@ -11,11 +11,11 @@ use Rattle.pt_net.specs.Standing.{is_kept}
 use Rattle.pt_net.specs.Table.{PortAt, Tables}
 use Rattle.pt_net.specs.Joined.{Joined, Pairs, IsGrouping}
 use Rattle.pt_net.specs.Wires.{outside_of, inside_of, Meets, bonded, crossed, AreJoined}
-use Rattle.pt_graph.specs.Ties.{IsWithin}
+use Rattle.pt_links.specs.Ties.{IsWithin}
 use Rattle.pt_net.specs.Net.{wires}
 use Rattle.pt_graph.specs.Sources.{bond_of, gifts}
 use Rattle.pt_graph.specs.Origins.{first_pair, crossing, crossings_among, ways, IsSourceOf, HasNoSource, AreOrigins}
-use Rattle.pt_graph.specs.Wiring.{IsOwned, AreOwned, AreFine}
+use Rattle.pt_links.specs.Wiring.{IsOwned, AreOwned, AreFine}
 use Rattle.pt_graph.proofs.GroupSteps.{AreEnds}
 use Rattle.pt_net.proofs.Members.{contains_here, contains_slice, contains_flat_map, flat_map_contains, contains_filter_map, filter_map_contains, contains_enumerate, enumerate_contains}
 use Rattle.pt_graph.proofs.GiftFacts.{gift_gives, gives_gift, given_below, joined_by, outside_below, inside_below, bonds_below, bond_is}

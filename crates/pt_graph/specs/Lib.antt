@@ -1,9 +1,4 @@
 pub mod Groups
-pub mod Survey
-pub mod Resolve
-pub mod Ties
-pub mod Wiring
 pub mod Sources
 pub mod Origins
 pub mod ChannelTable
-pub mod Recorded

@@ -9,8 +9,8 @@ use Rattle.pt_net.specs.Joined.{IsGrouping}
 use Rattle.pt_net.specs.Wires.{outside_of, inside_of, AreJoined, IsSource}
 use Rattle.pt_net.specs.Net.{wires}
 use Rattle.pt_graph.specs.Sources.{bond_of, gifts}
-use Rattle.pt_graph.specs.Survey.{tables_view}
-use Rattle.pt_graph.specs.Wiring.{IsWiring, AreFine}
+use Rattle.pt_survey.specs.Survey.{tables_view}
+use Rattle.pt_links.specs.Wiring.{IsWiring, AreFine}
 
 -- the first of each of two lists, where both have one
 abbrev pub first_pair : List ℕ → List ℕ → List (ℕ × ℕ)

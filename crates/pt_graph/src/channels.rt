@@ -3,7 +3,7 @@ ghost use Rattle.std.specs.List.{Contains, AllZip};
 ghost use Rattle.pt_document.specs.declared.code.Code.TheVariants as code;
 ghost use Rattle.pt_document.specs.declared.refusal.DocFault.TheVariants.{Memory};
 ghost use Rattle.pt_net.specs.Standing.{is_opaque, is_kept};
-ghost use Rattle.pt_graph.specs.Survey.{tables_view, port_at};
+ghost use Rattle.pt_survey.specs.Survey.{tables_view, port_at};
 ghost use Rattle.pt_net.specs.Wires as wires;
 ghost use Rattle.pt_net.specs.Net as net;
 ghost use Rattle.pt_net.specs.Stands.{IsTold, IsLinkFault, most_channels};
@@ -11,19 +11,11 @@ ghost use Rattle.pt_graph.specs.Origins.{AreTrue};
 ghost use Rattle.pt_graph.specs.ChannelTable.{IsGoodChannel, Adds, IsPlaceAt, AddsAt, places_on, side_among};
 
 use crate::origins::Origins;
-use crate::refusal::refused_port;
-use crate::tables::PlacedPort;
 use pt_document::DocFault;
+use pt_links::refused_port;
 use pt_net::{Channel, End};
+use pt_survey::{PlacedPort, number};
 use std::alloc::Global;
-
-/// A number of the net. One that doesn't fit is told as want of memory: a document has fewer of each kind.
-pub fn number(n: usize) -> Result<u32, DocFault>
-    ensures ok { IfOk result (λ m. m ≡ n) }
-    ensures err { IfErr result (λ e. e ≡ Memory) }
-{
-    u32::try_from(n).map_err(|_| DocFault::Memory)
-}
 
 fn end(entity: usize, port: usize, index: usize) -> Result<End, DocFault>
     ensures ok { IfOk result (λ end. end ≡ record { entity = entity; port = port; index = index }) }

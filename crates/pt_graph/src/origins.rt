@@ -1,17 +1,17 @@
 ghost use Rattle.std.specs.Prelude.{◌≡◌, ℕ, ◌<◌, ◌++◌, length, true, Some, None, All, IfOk, OnOk, MatchOption, slice_get};
 ghost use Rattle.std.specs.List.{filter_map};
-ghost use Rattle.pt_graph.specs.Survey.{tables_view, port_at};
+ghost use Rattle.pt_survey.specs.Survey.{tables_view, port_at};
 ghost use Rattle.pt_net.specs.Net as net;
 ghost use Rattle.pt_graph.specs.Sources as sources;
 ghost use Rattle.pt_graph.specs.Origins as spec;
 ghost use Rattle.pt_graph.specs.Origins.{IsSourceOf, HasNoSource, AreOrigins, AreTrue};
 ghost use Rattle.pt_net.specs.Joined.{IsGrouping};
-ghost use Rattle.pt_graph.specs.Wiring.{IsWiring, AreFine};
+ghost use Rattle.pt_links.specs.Wiring.{IsWiring, AreFine};
 
 use crate::groups::group;
 use crate::sources::{bonds, gifts};
-use crate::tables::PlacedPort;
-use crate::wiring::Wiring;
+use pt_links::Wiring;
+use pt_survey::PlacedPort;
 use std::alloc::{AllocError, Global};
 
 /// The relations in classes of those that paths join, and the source of each class.

@@ -1,20 +1,19 @@
 ghost use Rattle.std.specs.Prelude.{◌≡◌, ◌≢◌, ℕ, ◌<◌, ◌++◌, map, length, Some, None, All, IfOk, IfErr, OnOk, MatchOption, slice_get, slice_index_or, slice_set};
 ghost use Rattle.std.specs.Bool.{OnTrue, OnFalse};
-ghost use Rattle.pt_graph.specs.Survey.{tables_view, port_at};
+ghost use Rattle.pt_survey.specs.Survey.{tables_view, port_at};
 ghost use Rattle.pt_net.specs.Net as net;
 ghost use Rattle.pt_graph.specs.Sources as spec;
 ghost use Rattle.pt_graph.specs.Sources.{HasOneGiver, HasTwoGivers, HaveOneSource};
 ghost use Rattle.std.specs.List.{filter_map};
 ghost use Rattle.pt_document.specs.declared.code.Code.TheVariants as code;
 ghost use Rattle.pt_net.specs.Stands.{IsTold, IsTwoSources};
-ghost use Rattle.pt_graph.specs.Wiring.{IsWiring};
+ghost use Rattle.pt_links.specs.Wiring.{IsWiring};
 
 use crate::groups::group;
-use crate::refusal::refused_relation;
-use crate::tables::PlacedPort;
-use crate::wiring::Wiring;
 use pt_document::DocFault;
+use pt_links::{Wiring, refused_relation};
 use pt_net::Wire;
+use pt_survey::PlacedPort;
 use std::alloc::{AllocError, Global};
 
 /// The relations to which a port gives tokens, or none if its entity doesn't stay in the net and only those are asked for.

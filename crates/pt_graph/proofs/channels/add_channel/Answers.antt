@@ -3,12 +3,12 @@ use Rattle.std.proofs.lemmas.List.{length-map}
 use Rattle.std.proofs.lemmas.Option.{slice_get_within}
 use Rattle.std.specs.List.{slice_get}
 use Rattle.pt_document.specs.declared.code.Code.TheVariants as code
-use Rattle.pt_graph.specs.declared.tables.PlacedPort.{PlacedPort}
+use Rattle.pt_survey.specs.declared.tables.PlacedPort.{PlacedPort}
 use Rattle.pt_net.specs.Table.{PortAt, port_path}
-use Rattle.pt_graph.specs.Survey.{tables_view, port_at, ports_view}
+use Rattle.pt_survey.specs.Survey.{tables_view, port_at, ports_view}
 use Rattle.pt_net.specs.Stands.{IsLinkFault}
 use Rattle.pt_graph.specs.ChannelTable.{Adds, place_at}
-use Rattle.pt_graph.proofs.Told.{told, number_view}
+use Rattle.pt_links.proofs.Told.{told, number_view}
 use Rattle.pt_graph.proofs.ChannelSteps.{sourceless, passed, added}
 use Rattle.pt_graph.proofs.channels.add_channel.Goals as goal
 

@@ -2,7 +2,7 @@ use Rattle.std.proofs.Common.{◌≡◌, ℕ, ◌+◌, ◌<◌, Some, List, [], 
 use Rattle.std.proofs.lemmas.Option.{slice_get_within, slice_get-get_or}
 use Rattle.std.specs.List.{Contains, slice_get}
 use Rattle.pt_net.specs.Table.{PortAt}
-use Rattle.pt_graph.specs.Survey.{tables_view, port_at}
+use Rattle.pt_survey.specs.Survey.{tables_view, port_at}
 use Rattle.pt_net.specs.Wires.{taken_from, places_along}
 use Rattle.pt_net.specs.Net.{wires, all_places}
 use Rattle.pt_graph.specs.ChannelTable.{place_at}

@@ -1,5 +1,5 @@
 use Rattle.std.proofs.Common.{take}
-use Rattle.pt_graph.specs.Survey.{tables_view, port_at}
+use Rattle.pt_survey.specs.Survey.{tables_view, port_at}
 use Rattle.pt_net.specs.Wires.{places_along}
 use Rattle.pt_graph.specs.ChannelTable.{Adds}
 use Rattle.pt_graph.proofs.channels.add_places.Given as goal

@@ -1,11 +1,11 @@
 use Rattle.std.proofs.Common.{◌+◌, List, take, subst}
 use Rattle.std.proofs.lemmas.List.{take_all}
-use Rattle.pt_graph.specs.Survey.{tables_view, port_at}
+use Rattle.pt_survey.specs.Survey.{tables_view, port_at}
 use Rattle.pt_net.specs.Table.{PortAt}
 use Rattle.pt_net.specs.Net.{wires}
 use Rattle.pt_graph.specs.ChannelTable.{Adds, places_on, side_among}
 use Rattle.pt_net.proofs.Members.{flat_more}
-use Rattle.pt_graph.proofs.Told.{number_of, read_of, within_of, whole_of}
+use Rattle.pt_links.proofs.Told.{number_of, read_of, within_of, whole_of}
 use Rattle.pt_graph.proofs.ChannelSteps.{adds_more, adds_none}
 use Rattle.pt_graph.proofs.channels.add_side.Goals as goal
 

@@ -1,5 +1,5 @@
 use Rattle.std.proofs.Common.{take}
-use Rattle.pt_graph.specs.Survey.{tables_view}
+use Rattle.pt_survey.specs.Survey.{tables_view}
 use Rattle.pt_net.specs.Net.{wires}
 use Rattle.pt_graph.specs.ChannelTable.{Adds, side_among}
 use Rattle.pt_graph.proofs.channels.add_side.Given as goal

@@ -1,7 +1,7 @@
 use Rattle.std.proofs.Common.{true, List, [], sym, subst}
 use Rattle.std.specs.List.{AllZip}
 use Rattle.pt_net.specs.declared.net.Channel.{Channel}
-use Rattle.pt_graph.specs.Survey.{tables_view}
+use Rattle.pt_survey.specs.Survey.{tables_view}
 use Rattle.pt_net.specs.Net.{wires}
 use Rattle.pt_graph.specs.ChannelTable.{IsGoodChannel, side_among}
 use Rattle.pt_graph.proofs.channels.channels_of.Goals as goal

@@ -1,7 +1,7 @@
 use Rattle.std.proofs.Common.{ap, refl}
 use Rattle.std.proofs.lemmas.Result.{IfOk-weaker}
-use Rattle.pt_graph.specs.declared.wiring.Wiring.{Wiring}
-use Rattle.pt_graph.specs.Survey.{tables_view}
+use Rattle.pt_links.specs.declared.wiring.Wiring.{Wiring}
+use Rattle.pt_survey.specs.Survey.{tables_view}
 use Rattle.pt_graph.proofs.Verdict.{held_channels}
 use Rattle.pt_graph.proofs.flattening.checked_channels.Goals as goal
 

@@ -5,18 +5,18 @@ use Rattle.pt_document.specs.declared.code.Code.{Code}
 use Rattle.pt_document.specs.declared.code.Code.TheVariants.{Limit}
 use Rattle.pt_document.specs.Names.{top_path}
 use Rattle.pt_document.specs.View.{job_view}
-use Rattle.pt_graph.specs.declared.survey.Placed.{Placed}
+use Rattle.pt_survey.specs.declared.surveying.Placed.{Placed}
 use Rattle.pt_net.specs.declared.net.Channel.{Channel}
-use Rattle.pt_graph.specs.declared.tables.PlacedRelation.{PlacedRelation}
-use Rattle.pt_graph.specs.Survey.{table_view, tables_view, relation_at, relations_view}
+use Rattle.pt_survey.specs.declared.tables.PlacedRelation.{PlacedRelation}
+use Rattle.pt_survey.specs.Survey.{table_view, tables_view, relation_at, relations_view}
 use Rattle.pt_net.specs.Standing.{is_kept}
 use Rattle.pt_net.specs.Table.{Tables, tables_from, tables_of}
-use Rattle.pt_graph.specs.Wiring.{AreOwned}
+use Rattle.pt_links.specs.Wiring.{AreOwned}
 use Rattle.pt_net.specs.Net.{Records, entity_tree, transparent_tree}
 use Rattle.pt_net.specs.Stands.{StandsIn, IsFaultIn, IsFaultOf, IsTold}
 use Rattle.pt_graph.specs.ChannelTable.{AreTooMany}
-use Rattle.pt_graph.specs.Recorded.{AreDistinct}
-use Rattle.pt_graph.proofs.Counts.{owned}
+use Rattle.pt_links.specs.Recorded.{AreDistinct}
+use Rattle.pt_links.proofs.Counts.{owned}
 use Rattle.pt_graph.proofs.Verdict.{none_stands, limit_told, net_of}
 use Rattle.pt_graph.proofs.flattening.flatten.Goals as goal
 

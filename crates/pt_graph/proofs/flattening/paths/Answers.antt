@@ -1,6 +1,6 @@
 use Rattle.std.proofs.Common.{ap, subst}
 use Rattle.std.proofs.lemmas.Result.{IfOk-weaker}
-use Rattle.pt_graph.specs.Survey.{tables_view}
+use Rattle.pt_survey.specs.Survey.{tables_view}
 use Rattle.pt_net.specs.Table.{Tables}
 use Rattle.pt_net.specs.Net.{AreJoints}
 use Rattle.pt_graph.proofs.flattening.paths.Goals as goal

@@ -1,7 +1,7 @@
 use Rattle.std.proofs.Common.{◌≡◌, ℕ, List, length, sym, subst, ◌∙◌, arith, Vec, Global}
 use Rattle.std.proofs.lemmas.List.{length-map}
-use Rattle.pt_graph.specs.declared.tables.PlacedRelation.{PlacedRelation}
-use Rattle.pt_graph.specs.Survey.{tables_view, relation_at, relations_view}
+use Rattle.pt_survey.specs.declared.tables.PlacedRelation.{PlacedRelation}
+use Rattle.pt_survey.specs.Survey.{tables_view, relation_at, relations_view}
 use Rattle.pt_graph.specs.Origins.{ways}
 use Rattle.pt_graph.proofs.GroupSteps.{AreEnds}
 use Rattle.pt_graph.proofs.WayFacts.{ways_below}

@@ -1,6 +1,6 @@
 use Rattle.std.proofs.Common.{◌<◌, true, length, sym, subst, ◌∙◌}
 use Rattle.std.specs.List.{All}
-use Rattle.pt_graph.specs.Survey.{tables_view}
+use Rattle.pt_survey.specs.Survey.{tables_view}
 use Rattle.pt_graph.proofs.GiftFacts.{gifts_below}
 use Rattle.pt_graph.proofs.origins.sources_of.Goals as goal
 

@@ -1,12 +1,12 @@
 use Rattle.std.proofs.Common.{ℕ, ◌++◌, List, take, sym, ap, ◌∙◌}
 use Rattle.std.proofs.lemmas.List.{append_assoc}
 use Rattle.std.specs.List.{filter_map}
-use Rattle.pt_graph.specs.Survey.{tables_view, port_at}
+use Rattle.pt_survey.specs.Survey.{tables_view, port_at}
 use Rattle.pt_net.specs.Net.{wires}
 use Rattle.pt_graph.specs.Sources.{bond_of}
 use Rattle.pt_graph.specs.Origins.{crossing, crossings_among}
 use Rattle.pt_net.proofs.Members.{flat_more}
-use Rattle.pt_graph.proofs.Told.{read_of, within_of}
+use Rattle.pt_links.proofs.Told.{read_of, within_of}
 use Rattle.pt_graph.proofs.origins.ways.Goals as goal
 
 pub loop-number-preserved : goal.loop-number-preserved

@@ -1,6 +1,6 @@
 use Rattle.std.proofs.Common.{◌≡◌, ◌++◌, take}
 use Rattle.std.specs.List.{filter_map}
-use Rattle.pt_graph.specs.Survey.{tables_view}
+use Rattle.pt_survey.specs.Survey.{tables_view}
 use Rattle.pt_net.specs.Net.{wires}
 use Rattle.pt_graph.specs.Sources.{bond_of}
 use Rattle.pt_graph.specs.Origins.{crossings_among}

@@ -3,14 +3,14 @@ use Rattle.std.proofs.lemmas.List.{length-map}
 use Rattle.std.proofs.lemmas.Option.{MatchOption-at_some, MatchOption-at_none}
 use Rattle.std.specs.List.{All, filter_map}
 use Rattle.pt_document.specs.declared.code.Code.TheVariants as code
-use Rattle.pt_graph.specs.declared.tables.PlacedRelation.{PlacedRelation}
+use Rattle.pt_survey.specs.declared.tables.PlacedRelation.{PlacedRelation}
 use Rattle.pt_net.specs.Joined.{IsGrouping}
 use Rattle.pt_net.specs.Table.{relation_path}
-use Rattle.pt_graph.specs.Survey.{tables_view, relation_at, relations_view}
+use Rattle.pt_survey.specs.Survey.{tables_view, relation_at, relations_view}
 use Rattle.pt_net.specs.Net.{wires}
 use Rattle.pt_graph.specs.Sources.{bond_of, HasOneGiver, HasTwoGivers}
 use Rattle.pt_net.specs.Stands.{IsTwoSources}
-use Rattle.pt_graph.proofs.Told.{told, number_view}
+use Rattle.pt_links.proofs.Told.{told, number_view}
 use Rattle.pt_graph.proofs.GiftFacts.{AreEnds, bonds_below, gifts_below, two_below, one_source, two_sources}
 use Rattle.pt_graph.proofs.sources.check_groups.Goals as goal
 

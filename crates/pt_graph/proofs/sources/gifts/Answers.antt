@@ -1,9 +1,9 @@
 use Rattle.std.proofs.Common.{ℕ, ◌++◌, List, map, sym, ap, ◌∙◌}
 use Rattle.std.proofs.lemmas.List.{take_all}
-use Rattle.pt_graph.specs.Survey.{tables_view, port_at}
+use Rattle.pt_survey.specs.Survey.{tables_view, port_at}
 use Rattle.pt_net.specs.Net.{wires}
 use Rattle.pt_graph.specs.Sources.{giving, gifts_among}
-use Rattle.pt_graph.proofs.Told.{read_of, within_of, whole_of}
+use Rattle.pt_links.proofs.Told.{read_of, within_of, whole_of}
 use Rattle.pt_graph.proofs.Givers.{Gift, gifts_more}
 use Rattle.pt_graph.proofs.sources.gifts.Goals as goal
 

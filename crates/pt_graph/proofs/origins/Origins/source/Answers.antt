@@ -1,6 +1,6 @@
 use Rattle.std.proofs.Common.{◌≡◌, ◌<◌, None, length, get_or, sym, ap, ◌∙◌, arith}
 use Rattle.std.proofs.lemmas.List.{get_or_default}
-use Rattle.pt_graph.specs.Survey.{tables_view}
+use Rattle.pt_survey.specs.Survey.{tables_view}
 use Rattle.pt_graph.proofs.WayFacts.{source_is}
 use Rattle.pt_graph.proofs.origins.Origins.source.Goals as goal
 

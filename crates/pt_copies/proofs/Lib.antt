@@ -1,0 +1,2 @@
+pub mod SameItems
+pub mod Directors

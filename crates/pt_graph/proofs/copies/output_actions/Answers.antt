@@ -1,6 +1,0 @@
-use Rattle.std.proofs.lemmas.Result.{IfOk-weaker}
-use Rattle.pt_graph.proofs.SameItems.{same_items}
-use Rattle.pt_graph.proofs.copies.output_actions.Goals as goal
-
-pub returns : goal.returns
-returns c = IfOk-weaker c.copies.result _ _ (λ new same. same_items new.items c.args.old.now same) c.copies.ensures

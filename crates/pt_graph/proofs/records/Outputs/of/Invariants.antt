@@ -1,7 +1,0 @@
-use Rattle.std.proofs.Common.{take}
-use Rattle.pt_graph.specs.Survey.{ports_view}
-use Rattle.pt_graph.specs.Recorded.{outputs_of, AreOutputs}
-use Rattle.pt_graph.proofs.records.Outputs.of.Given as goal
-
-abbrev pub invariant-loop-port : goal.invariant-loop-port
-invariant-loop-port l = AreOutputs (outputs_of (ports_view (take l.port-index l.ports))) l.outputs

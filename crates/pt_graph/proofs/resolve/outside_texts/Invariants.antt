@@ -1,7 +1,0 @@
-use Rattle.std.proofs.Common.{◌≡◌, map, take}
-use Rattle.pt_graph.specs.Survey.{ports_view}
-use Rattle.pt_graph.specs.Resolve.{outside_text}
-use Rattle.pt_graph.proofs.resolve.outside_texts.Given as goal
-
-abbrev pub invariant-loop-port : goal.invariant-loop-port
-invariant-loop-port l = l.texts.items ≡ map outside_text (ports_view (take l.port-index l.ports))

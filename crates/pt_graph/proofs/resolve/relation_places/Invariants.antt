@@ -1,7 +1,0 @@
-use Rattle.std.proofs.Common.{◌≡◌, map, take}
-use Rattle.pt_graph.specs.Survey.{relations_view}
-use Rattle.pt_graph.proofs.Keys.{pair_view, relation_key}
-use Rattle.pt_graph.proofs.resolve.relation_places.Given as goal
-
-abbrev pub invariant-loop-relation : goal.invariant-loop-relation
-invariant-loop-relation l = map pair_view l.keys.items ≡ map relation_key (relations_view (take l.relation-index l.relations))

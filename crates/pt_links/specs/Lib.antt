@@ -1,0 +1,4 @@
+pub mod Resolve
+pub mod Ties
+pub mod Wiring
+pub mod Recorded

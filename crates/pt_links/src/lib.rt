@@ -1,0 +1,18 @@
+//! What the names in links and records name, and whether each port has the links that it needs.
+#![tactic(auto)]
+
+mod checks;
+mod joining;
+mod names;
+mod records;
+mod refusal;
+mod resolve;
+mod ties;
+mod wiring;
+
+pub use checks::{check_counts, check_ports};
+pub use joining::joints;
+pub use records::recorded;
+pub use refusal::{refused_at, refused_port, refused_relation};
+pub use ties::Ties;
+pub use wiring::Wiring;
