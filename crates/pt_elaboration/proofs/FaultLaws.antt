@@ -16,9 +16,9 @@ use Rattle.pt_scopes.specs.declared.values.Values.{Values}
 use Rattle.pt_scopes.specs.Scopes.{net_view}
 use Rattle.pt_scopes.specs.Valued.{IsValued}
 use Rattle.pt_typing.specs.Least.{Assignment}
-use Rattle.pt_resolve.specs.Typing.{IsTyping}
+use Rattle.pt_inequalities.specs.Typing.{IsTyping}
 use Rattle.pt_resolve.specs.Faults.{IsBroken, IsBrokenComposite, at_entity, at_composite}
-use Rattle.pt_resolve.specs.Readable.{AreReadable, IsUnreadableAt}
+use Rattle.pt_charts.specs.Readable.{AreReadable, IsUnreadableAt}
 use Rattle.pt_start.specs.Misplaced.{IsMisplaced}
 use Rattle.pt_scopes.specs.Inputs as inputs
 use Rattle.pt_job.proofs.Members.{unmapped}

@@ -14,7 +14,7 @@ use Rattle.pt_scopes.specs.Valued as valued
 use Rattle.pt_scopes.specs.Valued.{IsValued}
 use Rattle.pt_typing.specs.Least.{Assignment}
 use Rattle.pt_resolve.specs.Faults.{IsTypeFault}
-use Rattle.pt_resolve.specs.Readable.{AreReadable, IsUnreadableAt}
+use Rattle.pt_charts.specs.Readable.{AreReadable, IsUnreadableAt}
 use Rattle.pt_start.specs.Misplaced.{IsMisplaced}
 use Rattle.pt_scopes.specs.Inputs.{IsInputFault}
 use Rattle.pt_job.specs.Iterations.{iterations}

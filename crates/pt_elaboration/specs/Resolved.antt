@@ -8,9 +8,9 @@ use Rattle.pt_net.specs.declared.net.NetEntity.{NetEntity}
 use Rattle.pt_scopes.specs.declared.values.Values.{Values}
 use Rattle.pt_scopes.specs.Scopes.{net_view}
 use Rattle.pt_scopes.specs.Valued.{IsValued}
-use Rattle.pt_resolve.specs.Typing.{IsTyping}
+use Rattle.pt_inequalities.specs.Typing.{IsTyping}
 use Rattle.pt_resolve.specs.Faults.{IsWhole}
-use Rattle.pt_resolve.specs.Readable.{AreReadable}
+use Rattle.pt_charts.specs.Readable.{AreReadable}
 use Rattle.pt_library.specs.declared.library_actor.LibraryActor.{LibraryActor}
 use Rattle.pt_start.specs.Started.{PortTyping, IsStart}
 use Rattle.pt_start.specs.Misplaced.{IsMisplaced}

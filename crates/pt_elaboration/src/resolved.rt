@@ -4,15 +4,16 @@ ghost use Rattle.pt_net.specs.Net.{IsNetOf};
 ghost use Rattle.pt_scopes.specs.Scopes.{net_view};
 ghost use Rattle.pt_scopes.specs.Valued.{IsValued};
 ghost use Rattle.pt_typing.specs.Least.{assignment};
-ghost use Rattle.pt_resolve.specs.Readable.{AreReadable};
+ghost use Rattle.pt_charts.specs.Readable.{AreReadable};
 ghost use Rattle.pt_elaboration.specs.Resolved.{IsResolved};
 ghost use Rattle.pt_elaboration.specs.Refused.{FaultStands};
 
 use crate::fault::ModelFault;
 use crate::refusal::{refusal_of_composite, refusal_of_entity};
+use pt_charts::unreadable;
 use pt_document::Code;
 use pt_net::Net;
-use pt_resolve::{BrokenAt, broken, net_typing, unreadable};
+use pt_resolve::{BrokenAt, broken, net_typing};
 use pt_scopes::{Values, nets_are_ordered};
 use pt_typing::Typing;
 use pt_values::values_of;

@@ -22,16 +22,16 @@ use Rattle.pt_scopes.specs.Valued as valued
 use Rattle.pt_typing.specs.declared.variable.Variable.TheVariants.{Port}
 use Rattle.pt_typing.specs.Terms.{names_types, has_type}
 use Rattle.pt_typing.specs.Least.{Assignment}
-use Rattle.pt_resolve.specs.Rows.{port_type}
-use Rattle.pt_resolve.specs.Frames.{Frames, frames_of, seen_types, first, behind}
-use Rattle.pt_resolve.specs.Inequalities.{inputs_of, known}
-use Rattle.pt_resolve.specs.ModalScopes.{modal_types}
-use Rattle.pt_resolve.specs.Modals.{Chart, AreCharts}
-use Rattle.pt_resolve.specs.Typing.{Declares, scope_of}
+use Rattle.pt_inequalities.specs.Rows.{port_type}
+use Rattle.pt_inequalities.specs.Frames.{Frames, frames_of, seen_types, first, behind}
+use Rattle.pt_inequalities.specs.Inequalities.{inputs_of, known}
+use Rattle.pt_inequalities.specs.ModalScopes.{modal_types}
+use Rattle.pt_inequalities.specs.Modals.{Chart, AreCharts}
+use Rattle.pt_inequalities.specs.Typing.{Declares, scope_of}
 use Rattle.pt_resolve.specs.Faults.{is_above, IsBroken, at_port, above_declared, in_tree, guard, set_action, clash_in}
 use Rattle.pt_resolve.specs.ModalFaults.{first_failing}
 use Rattle.pt_resolve.specs.Broken.{has_port_above, has_port_over, lacks_type, has_untyped, breaks, first_broken}
-use Rattle.pt_resolve.proofs.Steps.{some-same, none-more, from-next, one-more, drop-one, behind-drop}
+use Rattle.pt_inequalities.proofs.Steps.{some-same, none-more, from-next, one-more, drop-one, behind-drop}
 use Rattle.pt_resolve.proofs.DeclaredBounds.{port-over, no-port-over}
 use Rattle.pt_resolve.proofs.Passing.{one-passes, none-passes, some-now, none-now}
 use Rattle.pt_resolve.proofs.ModalBreaks.{guards-true, sets-within, texts-typed}

@@ -10,10 +10,10 @@ use Rattle.pt_net.specs.declared.net.Transparent.{Transparent}
 use Rattle.pt_net.specs.Net.{TransparentTree, transparent_view}
 use Rattle.pt_typing.specs.declared.variable.Variable.TheVariants.{Port}
 use Rattle.pt_typing.specs.Least.{Assignment}
-use Rattle.pt_resolve.specs.Passing.{first_composite, composite_port}
+use Rattle.pt_inequalities.specs.Passing.{first_composite, composite_port}
 use Rattle.pt_resolve.specs.Faults.{IsBrokenComposite, general_port, over_declared}
 use Rattle.pt_resolve.specs.Broken.{has_port_over, has_general, first_such}
-use Rattle.pt_resolve.proofs.Steps.{some-same, none-more, from-next, one-more, drop-one}
+use Rattle.pt_inequalities.proofs.Steps.{some-same, none-more, from-next, one-more, drop-one}
 use Rattle.pt_resolve.proofs.DeclaredBounds.{port-over, no-port-over}
 
 -- ---- ports

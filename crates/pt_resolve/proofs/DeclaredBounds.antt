@@ -7,12 +7,12 @@ use Rattle.pt_datatypes.specs.Order.{is_below}
 use Rattle.pt_document.specs.Document.{PortTree}
 use Rattle.pt_typing.specs.declared.variable.Variable.TheVariants.{Port}
 use Rattle.pt_typing.specs.Least.{Assignment}
-use Rattle.pt_resolve.specs.Typing.{Declares}
-use Rattle.pt_resolve.specs.SaidWords.{type_in}
+use Rattle.pt_inequalities.specs.Typing.{Declares}
+use Rattle.pt_said.specs.SaidWords.{type_in}
 use Rattle.pt_resolve.specs.Broken.{is_over_type, is_over, has_port_over}
-use Rattle.pt_resolve.proofs.Steps.{some-same, none-more, from-next}
-use Rattle.pt_resolve.proofs.SaidLaws.{read_is_said}
-use Rattle.pt_resolve.proofs.SaidTexts.{one_type}
+use Rattle.pt_inequalities.proofs.Steps.{some-same, none-more, from-next}
+use Rattle.pt_said.proofs.SaidLaws.{read_is_said}
+use Rattle.pt_said.proofs.SaidTexts.{one_type}
 
 -- ---- one port
 

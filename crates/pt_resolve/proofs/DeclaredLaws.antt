@@ -1,30 +1,23 @@
 -- All inequalities of declared types hold exactly where each type that a port declares holds of it.
-use Rattle.std.proofs.Common.{◌≡◌, ℕ, zero, suc, ◌+◌, List, [], ◌∷◌, ◌++◌, Option, Some, None, refl, sym, ap, subst, ◌∙◌, arith}
+use Rattle.std.proofs.Common.{◌≡◌, ℕ, zero, suc, ◌+◌, List, [], ◌∷◌, Option, Some, None, refl, sym, ap, subst, ◌∙◌, arith}
 use Rattle.std.specs.Prelude.{All, slice_get}
-use Rattle.std.proofs.lemmas.List.Elements.{All-nil, All-cons, All-head, All-tail, All-append}
+use Rattle.std.proofs.lemmas.List.Elements.{All-nil, All-cons, All-head, All-append}
 use Rattle.pt_datatypes.specs.Datatype.{Datatype}
 use Rattle.pt_document.specs.Document.{PortTree}
 use Rattle.pt_net.specs.declared.net.Net.{Net}
 use Rattle.pt_typing.specs.declared.variable.Variable.TheVariants.{Port}
 use Rattle.pt_typing.specs.Terms.{Fixed}
 use Rattle.pt_typing.specs.Views.{Inequality}
-use Rattle.pt_resolve.specs.Passing.{all_ports}
-use Rattle.pt_resolve.specs.Typing.{Declares}
-use Rattle.pt_resolve.specs.SaidWords.{type_in}
+use Rattle.pt_inequalities.specs.Passing.{all_ports}
+use Rattle.pt_inequalities.specs.Typing.{Declares}
+use Rattle.pt_said.specs.SaidWords.{type_in}
 use Rattle.pt_resolve.specs.DeclaredTypes.{of_type, of_text, of_declared, declared_from, declared}
-use Rattle.pt_resolve.proofs.Steps.{some-same}
-use Rattle.pt_resolve.proofs.SaidLaws.{read_is_said}
-use Rattle.pt_resolve.proofs.SaidTexts.{one_type}
+use Rattle.pt_inequalities.proofs.Steps.{some-same}
+use Rattle.pt_said.proofs.SaidLaws.{read_is_said}
+use Rattle.pt_said.proofs.SaidTexts.{one_type}
+use Rattle.pt_inequalities.proofs.Joined.{All-left, All-right}
 
 module _ (P : Inequality → Type 0) where
-  pub All-left : (xs ys : List Inequality) → All P (xs ++ ys) → All P xs
-  All-left [] ys h = All-nil P
-  All-left (x ∷ xs) ys h = All-cons P x xs (All-head P x (xs ++ ys) h) (All-left xs ys (All-tail P x (xs ++ ys) h))
-
-  pub All-right : (xs ys : List Inequality) → All P (xs ++ ys) → All P ys
-  All-right [] ys h = h
-  All-right (x ∷ xs) ys h = All-right xs ys (All-tail P x (xs ++ ys) h)
-
   -- the type is below the port
   abbrev Holds : ℕ → ℕ → Datatype → Type 0
   Holds k i t = P (Port k i, Fixed t)
@@ -65,9 +58,9 @@ module _ (P : Inequality → Type 0) where
   ports-each k i [] h (suc j) p t there d = cc
   ports-each k i (q ∷ ps) h zero p t there d =
       let own : Declares q t = subst (λ r. Declares r t) (sym (some-same q p there)) d in
-      none-more k i t (text-each k i q t own (All-left (of_text k i q.declared) (of_declared k (suc i) ps) h))
+      none-more k i t (text-each k i q t own (All-left P (of_text k i q.declared) (of_declared k (suc i) ps) h))
   ports-each k i (q ∷ ps) h (suc j) p t there d =
-      one-before k i j t (ports-each k (suc i) ps (All-right (of_text k i q.declared) (of_declared k (suc i) ps) h) j p t there d)
+      one-before k i j t (ports-each k (suc i) ps (All-right P (of_text k i q.declared) (of_declared k (suc i) ps) h) j p t there d)
 
   -- each type that one of these ports declares holds of it
   abbrev AreHeld : ℕ → List (List PortTree) → Type 0
@@ -85,9 +78,9 @@ module _ (P : Inequality → Type 0) where
   entities-each k [] h (suc j) i e p t at there d = cc
   entities-each k (f ∷ es) h zero i e p t at there d =
       let own : slice_get f i ≡ Some p = ap (λ g. slice_get g i) (some-same f e at) ∙ there in
-      subst (λ n. Holds n i t) (let s : k ≡ 0 + k = omega arith in s) (subst (λ n. Holds k n t) (let s : i + 0 ≡ i = omega arith in s) (ports-each k 0 f (All-left (of_declared k 0 f) (declared_from (suc k) es) h) i p t own d))
+      subst (λ n. Holds n i t) (let s : k ≡ 0 + k = omega arith in s) (subst (λ n. Holds k n t) (let s : i + 0 ≡ i = omega arith in s) (ports-each k 0 f (All-left P (of_declared k 0 f) (declared_from (suc k) es) h) i p t own d))
   entities-each k (f ∷ es) h (suc j) i e p t at there d =
-      subst (λ n. Holds n i t) (let s : j + suc k ≡ suc j + k = omega arith in s) (entities-each (suc k) es (All-right (of_declared k 0 f) (declared_from (suc k) es) h) j i e p t at there d)
+      subst (λ n. Holds n i t) (let s : j + suc k ≡ suc j + k = omega arith in s) (entities-each (suc k) es (All-right P (of_declared k 0 f) (declared_from (suc k) es) h) j i e p t at there d)
 
   -- the same of a net
   abbrev pub IsHeld : Net → Type 0

@@ -9,8 +9,8 @@ use Rattle.pt_language.specs.Tree as tree
 use Rattle.pt_language.specs.Types.{Types}
 use Rattle.pt_scopes.specs.Given as held
 use Rattle.pt_typing.specs.Least.{Assignment}
-use Rattle.pt_resolve.specs.Rows.{port_type, port_rows}
-use Rattle.pt_resolve.specs.SaidWords.{begin, go_on, leads, type_in}
+use Rattle.pt_inequalities.specs.Rows.{port_type, port_rows}
+use Rattle.pt_said.specs.SaidWords.{begin, go_on, leads, type_in}
 use Rattle.pt_resolve.specs.Broken.{has_port_above, has_port_over, lacks_type}
 
 abbrev left : PortTree

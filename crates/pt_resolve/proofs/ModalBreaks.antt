@@ -21,15 +21,15 @@ use Rattle.pt_scopes.specs.Valued.{EntityView}
 use Rattle.pt_scopes.specs.Valued as valued
 use Rattle.pt_typing.specs.Terms.{has_type}
 use Rattle.pt_typing.specs.Least.{Assignment}
-use Rattle.pt_resolve.specs.Frames.{frames_of}
-use Rattle.pt_resolve.specs.ModalScopes.{ModalScope, variable_values, modal_types, IsReadIn}
-use Rattle.pt_resolve.specs.Modals.{IsReadAs, ActionTree, TransitionTrees, IsOutputRead, IsSetRead, IsTransitionRead, Chart, AreCharts}
-use Rattle.pt_resolve.specs.Typing.{IsModal, scope_of, HasTypeIn}
+use Rattle.pt_inequalities.specs.Frames.{frames_of}
+use Rattle.pt_inequalities.specs.ModalScopes.{ModalScope, variable_values, modal_types, IsReadIn}
+use Rattle.pt_inequalities.specs.Modals.{IsReadAs, ActionTree, TransitionTrees, IsOutputRead, IsSetRead, IsTransitionRead, Chart, AreCharts}
+use Rattle.pt_inequalities.specs.Typing.{IsModal, scope_of, HasTypeIn}
 use Rattle.pt_resolve.specs.Faults.{IsTextIn, of_guard, of_output, of_set, IsBroken, guard, set_action, clash_in}
 use Rattle.pt_resolve.specs.Broken.{is_over_type}
 use Rattle.pt_resolve.specs.ModalFaults.{is_untyped, is_no_truth, guard_fails, output_fails, is_over_variable, set_fails, transition_fails, chart_fails, first_failing}
 use Rattle.pt_resolve.proofs.Passing.{one-passes, none-passes, some-now, none-now}
-use Rattle.pt_resolve.proofs.ChartLaws.{read-as, is-read}
+use Rattle.pt_inequalities.proofs.ChartLaws.{read-as, is-read}
 
 module _ (a : Assignment) where
   -- ---- one text

@@ -16,11 +16,11 @@ use Rattle.pt_scopes.specs.Valued.{EntityView}
 use Rattle.pt_typing.specs.declared.variable.Variable.TheVariants.{Port}
 use Rattle.pt_typing.specs.Terms.{Same, TreeOf}
 use Rattle.pt_typing.specs.Least.{Assignment}
-use Rattle.pt_resolve.specs.Inequalities.{below}
-use Rattle.pt_resolve.specs.ModalScopes.{ModalScope, modal_scope, is_in_scope}
-use Rattle.pt_resolve.specs.Modals.{refined, of_action}
+use Rattle.pt_inequalities.specs.Inequalities.{below}
+use Rattle.pt_inequalities.specs.ModalScopes.{ModalScope, modal_scope, is_in_scope}
+use Rattle.pt_inequalities.specs.Modals.{refined, of_action}
 use Rattle.pt_resolve.specs.ModalFaults.{guard_fails, output_fails, set_fails}
-use Rattle.pt_resolve.specs.Readable.{texts_of}
+use Rattle.pt_charts.specs.Readable.{texts_of}
 
 abbrev port : List ℕ → Direction → PortTree
 port name direction = record { name = name; direction = direction; declared = None; properties = [] }

@@ -20,16 +20,18 @@ use Rattle.pt_scopes.specs.Valued as valued
 use Rattle.pt_typing.specs.declared.variable.Variable.TheVariants.{Port}
 use Rattle.pt_typing.specs.Views.{Inequality}
 use Rattle.pt_typing.specs.Least.{Assignment, IsMet, Meets, IsLeast}
-use Rattle.pt_resolve.specs.Frames.{Frames, frames_of}
-use Rattle.pt_resolve.specs.Inequalities.{inequalities, below}
-use Rattle.pt_resolve.specs.Passing.{all_ports, port_counts, passing}
+use Rattle.pt_inequalities.specs.Frames.{Frames, frames_of}
+use Rattle.pt_inequalities.specs.Inequalities.{inequalities, below}
+use Rattle.pt_inequalities.specs.Passing.{all_ports, port_counts, passing}
 use Rattle.pt_resolve.specs.DeclaredTypes.{declared_from, declared}
-use Rattle.pt_resolve.specs.ModalScopes.{ModalScope, own_ports, modal_term}
-use Rattle.pt_resolve.specs.Modals.{like, refined, of_transitions, of_charts, Chart, AreCharts, AreAll}
-use Rattle.pt_resolve.specs.Typing.{IsRefinement, IsModal, scope_of, HasTypeIn, IsLowerByModal, of_input, of_output, of_action, AreAbove, IsTyping}
-use Rattle.pt_resolve.proofs.DeclaredLaws.{All-left, All-right, declared-all, declared-each}
-use Rattle.pt_resolve.proofs.RefinementLaws.{refined-all, refined-each}
-use Rattle.pt_resolve.proofs.ChartLaws.{charts-all, charts-each, transitions-all, transitions-each}
+use Rattle.pt_inequalities.specs.ModalScopes.{ModalScope, own_ports, modal_term}
+use Rattle.pt_inequalities.specs.Modals.{like, refined, of_transitions, of_charts, Chart, AreCharts}
+use Rattle.pt_resolve.specs.AllInequalities.{AreAll}
+use Rattle.pt_inequalities.specs.Typing.{IsRefinement, IsModal, scope_of, HasTypeIn, IsLowerByModal, of_input, of_output, of_action, AreAbove, IsTyping}
+use Rattle.pt_inequalities.proofs.Joined.{All-left, All-right}
+use Rattle.pt_resolve.proofs.DeclaredLaws.{declared-all, declared-each}
+use Rattle.pt_inequalities.proofs.RefinementLaws.{refined-all, refined-each}
+use Rattle.pt_inequalities.proofs.ChartLaws.{charts-all, charts-each, transitions-all, transitions-each}
 
 module _ (net : Net) (values : Values) where
   abbrev entities : List NetEntityTree

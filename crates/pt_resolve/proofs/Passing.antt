@@ -2,7 +2,7 @@
 use Rattle.std.proofs.Common.{◌≡◌, ◌⊎◌, inl, inr, ℕ, zero, suc, Bool, true, false, if◌then◌else◌, List, [], ◌∷◌, Option, Some, None, refl, sym, ap, ◌∙◌, arith}
 use Rattle.std.proofs.lemmas.Bool.{or_cases, or_parts}
 use Rattle.std.specs.List.{Contains, list_any}
-use Rattle.pt_resolve.proofs.Steps.{some-same}
+use Rattle.pt_inequalities.proofs.Steps.{some-same}
 
 contains-next : {A : Type 0} (x : A) (xs : List A) (y : A) → Contains xs y → Contains (x ∷ xs) y
 contains-next x xs y c = (suc c.0, omega (arith, c.1), c.2)

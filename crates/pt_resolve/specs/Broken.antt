@@ -14,10 +14,10 @@ use Rattle.pt_scopes.specs.Valued.{EntityView}
 use Rattle.pt_typing.specs.declared.variable.Variable.TheVariants.{Port}
 use Rattle.pt_typing.specs.Terms.{names_types, has_type}
 use Rattle.pt_typing.specs.Least.{Assignment}
-use Rattle.pt_resolve.specs.Rows.{port_type}
-use Rattle.pt_resolve.specs.Frames.{Frames, seen_types, first, behind}
-use Rattle.pt_resolve.specs.Inequalities.{inputs_of, known}
-use Rattle.pt_resolve.specs.SaidWords.{type_in}
+use Rattle.pt_inequalities.specs.Rows.{port_type}
+use Rattle.pt_inequalities.specs.Frames.{Frames, seen_types, first, behind}
+use Rattle.pt_inequalities.specs.Inequalities.{inputs_of, known}
+use Rattle.pt_said.specs.SaidWords.{type_in}
 use Rattle.pt_resolve.specs.Faults.{is_above}
 
 -- a port of this entity, from this number on, is general or above what its row allows

@@ -6,9 +6,9 @@ use Rattle.pt_net.specs.declared.net.Net.{Net}
 use Rattle.pt_typing.specs.declared.variable.Variable.TheVariants.{Port}
 use Rattle.pt_typing.specs.Terms.{Fixed}
 use Rattle.pt_typing.specs.Views.{Inequality}
-use Rattle.pt_resolve.specs.Inequalities.{below}
-use Rattle.pt_resolve.specs.Passing.{all_ports}
-use Rattle.pt_resolve.specs.SaidWords.{type_in}
+use Rattle.pt_inequalities.specs.Inequalities.{below}
+use Rattle.pt_inequalities.specs.Passing.{all_ports}
+use Rattle.pt_said.specs.SaidWords.{type_in}
 
 abbrev pub of_type : ℕ → ℕ → Option Datatype → List Inequality
 of_type k i None = []

@@ -23,14 +23,14 @@ use Rattle.pt_typing.specs.Terms.{names_types, has_type}
 use Rattle.pt_typing.specs.Least.{Assignment}
 use Rattle.pt_resolve.specs.declared.breaking.BrokenAt.{BrokenAt}
 use Rattle.pt_resolve.specs.declared.breaking.BrokenAt.TheVariants.{Entity, Transparent}
-use Rattle.pt_resolve.specs.declared.row.PortType.{PortType}
-use Rattle.pt_resolve.specs.declared.row.PortType.TheVariants as port
-use Rattle.pt_resolve.specs.Rows.{port_type}
-use Rattle.pt_resolve.specs.Frames.{frames_of, seen_types}
-use Rattle.pt_resolve.specs.Inequalities.{inputs_of, known}
-use Rattle.pt_resolve.specs.Passing.{composite_port}
-use Rattle.pt_resolve.specs.ModalScopes.{variable_values, modal_types, IsReadIn}
-use Rattle.pt_resolve.specs.Typing.{Declares, IsTyping, IsModal, scope_of, HasTypeIn}
+use Rattle.pt_inequalities.specs.declared.row.PortType.{PortType}
+use Rattle.pt_inequalities.specs.declared.row.PortType.TheVariants as port
+use Rattle.pt_inequalities.specs.Rows.{port_type}
+use Rattle.pt_inequalities.specs.Frames.{frames_of, seen_types}
+use Rattle.pt_inequalities.specs.Inequalities.{inputs_of, known}
+use Rattle.pt_inequalities.specs.Passing.{composite_port}
+use Rattle.pt_inequalities.specs.ModalScopes.{variable_values, modal_types, IsReadIn}
+use Rattle.pt_inequalities.specs.Typing.{Declares, IsTyping, IsModal, scope_of, HasTypeIn}
 
 -- a guard or an action of an entity
 pub data IsTextIn (e : NetEntityTree) : List ℕ → Type 0 where

@@ -1,14 +1,5 @@
-pub mod Rows
-pub mod Frames
-pub mod Inequalities
-pub mod Passing
-pub mod ModalScopes
-pub mod Modals
-pub mod Views
-pub mod Typing
 pub mod Faults
 pub mod Broken
 pub mod ModalFaults
-pub mod SaidWords
 pub mod DeclaredTypes
-pub mod Readable
+pub mod AllInequalities

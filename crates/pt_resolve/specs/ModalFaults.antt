@@ -10,9 +10,9 @@ use Rattle.pt_net.specs.Net.{NetEntityTree}
 use Rattle.pt_scopes.specs.Valued.{EntityView}
 use Rattle.pt_typing.specs.Terms.{has_type}
 use Rattle.pt_typing.specs.Least.{Assignment}
-use Rattle.pt_resolve.specs.Frames.{Frames}
-use Rattle.pt_resolve.specs.ModalScopes.{ModalScope, modal_types}
-use Rattle.pt_resolve.specs.Modals.{ActionTree, TransitionTrees, Chart, AreCharts}
+use Rattle.pt_inequalities.specs.Frames.{Frames}
+use Rattle.pt_inequalities.specs.ModalScopes.{ModalScope, modal_types}
+use Rattle.pt_inequalities.specs.Modals.{ActionTree, TransitionTrees, Chart, AreCharts}
 use Rattle.pt_resolve.specs.Broken.{is_over_type}
 
 -- a guard or an action has no type

@@ -5,8 +5,8 @@ ghost use Rattle.pt_typing.specs.declared.variable.Variable.TheVariants as varia
 ghost use Rattle.pt_typing.specs.Least.{assignment};
 ghost use Rattle.pt_resolve.specs.Broken.{is_over_type, is_over, has_port_over};
 
-use crate::said::type_in;
 use pt_document::Port;
+use pt_said::type_in;
 use pt_types::{Ty, below};
 use pt_typing::{Typing, Variable};
 use pt_value::Text;

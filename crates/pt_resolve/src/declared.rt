@@ -3,11 +3,11 @@ ghost use Rattle.pt_types.specs.Ty.{type_of};
 ghost use Rattle.pt_document.specs.View.{port_view};
 ghost use Rattle.pt_typing.specs.Views.{inequality_view};
 ghost use Rattle.pt_resolve.specs.DeclaredTypes.{of_type, of_text, of_declared, declared_from};
-ghost use Rattle.pt_resolve.specs.Views.{IsAdded, port_lists};
+ghost use Rattle.pt_places.specs.Views.{IsAdded, port_lists};
 
-use crate::place::add;
-use crate::said::type_in;
 use pt_document::Port;
+use pt_places::add;
+use pt_said::type_in;
 use pt_types::Ty;
 use pt_typing::{Inequality, Term, Variable};
 use pt_value::Text;

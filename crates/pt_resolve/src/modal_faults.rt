@@ -7,15 +7,13 @@ ghost use Rattle.pt_types.specs.Ty.{type_of};
 ghost use Rattle.pt_language.specs.Expr.{tree_of};
 ghost use Rattle.pt_language.specs.Rule.{type_or_general};
 ghost use Rattle.pt_typing.specs.Least.{assignment};
-ghost use Rattle.pt_resolve.specs.ModalScopes.{modal_types};
+ghost use Rattle.pt_inequalities.specs.ModalScopes.{modal_types};
 ghost use Rattle.pt_resolve.specs.Broken.{is_over_type};
 ghost use Rattle.pt_resolve.specs.ModalFaults.{is_untyped, is_no_truth, guard_fails, output_fails, is_over_variable, set_fails, transition_fails, chart_fails, first_failing};
-ghost use Rattle.pt_resolve.specs.Views.{scope_view, action_view, transition_trees, chart_view};
+ghost use Rattle.pt_charts.specs.Views.{scope_view, action_view, transition_trees, chart_view};
 
 use crate::bounds::is_over_type;
-use crate::charts::Chart;
-use crate::modal_scope::ModalScope;
-use crate::modal_texts::{ActionTree, TransitionTrees};
+use pt_charts::{ActionTree, Chart, ModalScope, TransitionTrees};
 use pt_language::Expr;
 use pt_types::{Ty, below, type_of_token};
 use pt_typing::Typing;

@@ -14,7 +14,7 @@ use Rattle.pt_scopes.proofs.Document.{get-left}
 use Rattle.pt_typing.specs.declared.variable.Variable.TheVariants as variable
 use Rattle.pt_typing.specs.Least.{Assignment}
 use Rattle.pt_typing.specs.Terms.{entry_in}
-use Rattle.pt_resolve.specs.Inequalities.{inputs_from}
+use Rattle.pt_inequalities.specs.Inequalities.{inputs_from}
 use Rattle.pt_start.specs.Started.{PortTyping, counted_port, typed_port}
 use Rattle.pt_firing.specs.Params.{names_but}
 use Rattle.pt_flow_base.specs.PortTypes.{type_named, with_typed, typed_names}

@@ -37,11 +37,11 @@ use Rattle.pt_typing.specs.declared.variable.Variable.{Variable}
 use Rattle.pt_typing.specs.declared.variable.Variable.TheVariants as variable
 use Rattle.pt_typing.specs.Least.{Assignment, IsMet}
 use Rattle.pt_typing.specs.Terms.{entry_in, meaning}
-use Rattle.pt_resolve.specs.declared.row.PortType.TheVariants as port
-use Rattle.pt_resolve.specs.Rows.{port_type, port_rows, seedings}
-use Rattle.pt_resolve.specs.Frames.{frames_of, seen, seen_types}
-use Rattle.pt_resolve.specs.Inequalities.{inputs_of, inputs_from, of_tree, of_trees, of_port, of_ports, of_parameters, of_standards}
-use Rattle.pt_resolve.specs.Typing.{IsTyping}
+use Rattle.pt_inequalities.specs.declared.row.PortType.TheVariants as port
+use Rattle.pt_inequalities.specs.Rows.{port_type, port_rows, seedings}
+use Rattle.pt_inequalities.specs.Frames.{frames_of, seen, seen_types}
+use Rattle.pt_inequalities.specs.Inequalities.{inputs_of, inputs_from, of_tree, of_trees, of_port, of_ports, of_parameters, of_standards}
+use Rattle.pt_inequalities.specs.Typing.{IsTyping}
 use Rattle.pt_start.specs.Nested.{IsNested}
 use Rattle.pt_start.specs.Started.{given_tree, seen_token, seen_tokens, ports_of, types_of, IsFrom, IsStart}
 use Rattle.pt_flow_base.specs.declared.params.Params.{Params}

@@ -8,9 +8,9 @@ use Rattle.pt_document.specs.declared.classes.Arity.TheVariants as arity
 use Rattle.pt_document.specs.Classes.{kind_of, class_row, classes}
 use Rattle.pt_datatypes.specs.Datatype.{Datatype}
 use Rattle.pt_datatypes.proofs.Order.{below-trans}
-use Rattle.pt_resolve.specs.declared.row.PortType.{PortType}
-use Rattle.pt_resolve.specs.declared.row.PortType.TheVariants as port
-use Rattle.pt_resolve.specs.Rows.{port_rows}
+use Rattle.pt_inequalities.specs.declared.row.PortType.{PortType}
+use Rattle.pt_inequalities.specs.declared.row.PortType.TheVariants as port
+use Rattle.pt_inequalities.specs.Rows.{port_rows}
 use Rattle.pt_flow_base.specs.declared.params.Params.{Params}
 use Rattle.pt_lib_flow.specs.declared.flow_actor.Class.{Class}
 use Rattle.pt_lib_flow.specs.declared.flow_actor.Class.TheVariants as class

@@ -17,7 +17,7 @@ use Rattle.pt_document.specs.Names.{words, presence, ends_in, is_among, is_reser
 use Rattle.pt_firing.specs.Params.{value_under}
 use Rattle.pt_typing.specs.Terms.{named, itself, entry_in, names_types}
 use Rattle.pt_scopes.specs.Scopes.{Bindings, bound}
-use Rattle.pt_resolve.specs.Inequalities.{with_type as known_type, known}
+use Rattle.pt_inequalities.specs.Inequalities.{with_type as known_type, known}
 use Rattle.pt_start.specs.Started.{token_under, seen_token}
 use Rattle.pt_lib_flow.specs.Formula.{parameter_types, with_type, with_types}
 use Rattle.pt_typed.proofs.FormulaTypes.{HasAtLeast}

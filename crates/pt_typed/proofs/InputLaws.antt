@@ -31,9 +31,9 @@ use Rattle.pt_scopes.specs.Valued.{inputs_view}
 use Rattle.pt_scopes.specs.Valued as valued
 use Rattle.pt_typing.specs.declared.variable.Variable.TheVariants as variable
 use Rattle.pt_typing.specs.Least.{Assignment, IsMet}
-use Rattle.pt_resolve.specs.Frames.{frames_of}
-use Rattle.pt_resolve.specs.Inequalities.{of_channel, of_entities, of_inputs, of_supply, joined_with, PortNumbers, no_ports, with_port, with_input, with_inputs, top_inputs}
-use Rattle.pt_resolve.specs.Typing.{IsTyping}
+use Rattle.pt_inequalities.specs.Frames.{frames_of}
+use Rattle.pt_inequalities.specs.Inequalities.{of_channel, of_entities, of_inputs, of_supply, joined_with, PortNumbers, no_ports, with_port, with_input, with_inputs, top_inputs}
+use Rattle.pt_inequalities.specs.Typing.{IsTyping}
 use Rattle.pt_scopes.specs.Inputs.{inputs_at, own_inputs, named_ports, input_to, AreTokensOf, ComeTo}
 use Rattle.pt_typed.specs.Signature.{AreAllOf}
 use Rattle.pt_typed.specs.TokenTypes.{IsTokenOf}

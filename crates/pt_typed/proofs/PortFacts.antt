@@ -20,12 +20,12 @@ use Rattle.pt_scopes.specs.Valued.{EntityView, inputs_view}
 use Rattle.pt_scopes.specs.Valued as valued
 use Rattle.pt_typing.specs.declared.variable.Variable.TheVariants.{Port, Row}
 use Rattle.pt_typing.specs.Least.{Assignment, IsMet}
-use Rattle.pt_resolve.specs.declared.row.PortType.{PortType}
-use Rattle.pt_resolve.specs.declared.row.PortType.TheVariants as port
-use Rattle.pt_resolve.specs.Rows.{port_type, port_type_in, port_rows, declared_output, seedings}
-use Rattle.pt_resolve.specs.Frames.{Frames, frames_of, seen_types}
-use Rattle.pt_resolve.specs.Inequalities.{of_channel, of_port, of_ports, of_parameters, of_standards, of_entity, of_entities, of_inputs, top_inputs, inequalities}
-use Rattle.pt_resolve.specs.Typing.{IsTyping}
+use Rattle.pt_inequalities.specs.declared.row.PortType.{PortType}
+use Rattle.pt_inequalities.specs.declared.row.PortType.TheVariants as port
+use Rattle.pt_inequalities.specs.Rows.{port_type, port_type_in, port_rows, declared_output, seedings}
+use Rattle.pt_inequalities.specs.Frames.{Frames, frames_of, seen_types}
+use Rattle.pt_inequalities.specs.Inequalities.{of_channel, of_port, of_ports, of_parameters, of_standards, of_entity, of_entities, of_inputs, top_inputs, inequalities}
+use Rattle.pt_inequalities.specs.Typing.{IsTyping}
 use Rattle.pt_typed.specs.NetTypes.{source_type, place_type, TypesGoUp}
 
 -- ---- lists

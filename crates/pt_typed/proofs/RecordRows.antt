@@ -24,7 +24,7 @@ use Rattle.pt_typing.specs.declared.variable.Variable.{Variable}
 use Rattle.pt_typing.specs.declared.variable.Variable.TheVariants as variable
 use Rattle.pt_typing.specs.Least.{Assignment}
 use Rattle.pt_typing.specs.Terms.{entry_in}
-use Rattle.pt_resolve.specs.Inequalities.{inputs_from}
+use Rattle.pt_inequalities.specs.Inequalities.{inputs_from}
 use Rattle.pt_start.specs.Started.{counted_port}
 use Rattle.pt_typed.specs.TokenTypes.{IsUnder, field_of}
 use Rattle.pt_typed.specs.TypedData.{TakeFields}

@@ -19,7 +19,7 @@ use Rattle.pt_scopes.specs.declared.values.Values.{Values}
 use Rattle.pt_scopes.specs.Valued as valued
 use Rattle.pt_typing.specs.declared.variable.Variable.TheVariants as variable
 use Rattle.pt_typing.specs.Least.{Assignment}
-use Rattle.pt_resolve.specs.Typing.{IsTyping}
+use Rattle.pt_inequalities.specs.Typing.{IsTyping}
 use Rattle.pt_flow_base.specs.declared.params.Params.{Params}
 use Rattle.pt_lib_flow.specs.declared.flow_actor.FlowActor.{FlowActor}
 use Rattle.pt_lib_flow.specs.declared.flow_actor.FlowActor.TheVariants as flow

@@ -23,10 +23,10 @@ use Rattle.pt_scopes.specs.declared.parameter_value.ParameterValue.TheVariants a
 use Rattle.pt_typing.specs.declared.variable.Variable.TheVariants.{Row}
 use Rattle.pt_typing.specs.Terms.{Fixed}
 use Rattle.pt_typing.specs.Least.{Assignment, IsMet}
-use Rattle.pt_resolve.specs.declared.row.Seed.{Seed}
-use Rattle.pt_resolve.specs.declared.row.Seed.TheVariants as seed
-use Rattle.pt_resolve.specs.Rows.{seedings, seed_of, seeded, joined_values}
-use Rattle.pt_resolve.specs.Inequalities.{of_seed, of_parameters, of_standards, is_given}
+use Rattle.pt_inequalities.specs.declared.row.Seed.{Seed}
+use Rattle.pt_inequalities.specs.declared.row.Seed.TheVariants as seed
+use Rattle.pt_inequalities.specs.Rows.{seedings, seed_of, seeded, joined_values}
+use Rattle.pt_inequalities.specs.Inequalities.{of_seed, of_parameters, of_standards, is_given}
 use Rattle.pt_start.specs.Started.{own_tokens, given_tree}
 use Rattle.pt_typed.specs.TokenTypes.{IsTokenOf}
 use Rattle.pt_typed.specs.TypedFlow.{IsValueOf}

@@ -22,10 +22,10 @@ use Rattle.pt_scopes.specs.declared.values.Values.{Values}
 use Rattle.pt_scopes.specs.Valued as valued
 use Rattle.pt_typing.specs.declared.variable.Variable.TheVariants as variable
 use Rattle.pt_typing.specs.Least.{Assignment, IsMet}
-use Rattle.pt_resolve.specs.Rows.{seedings, joined_values}
-use Rattle.pt_resolve.specs.Frames.{frames_of, seen_types}
-use Rattle.pt_resolve.specs.Inequalities.{of_ports, of_parameters, of_standards}
-use Rattle.pt_resolve.specs.Typing.{IsTyping}
+use Rattle.pt_inequalities.specs.Rows.{seedings, joined_values}
+use Rattle.pt_inequalities.specs.Frames.{frames_of, seen_types}
+use Rattle.pt_inequalities.specs.Inequalities.{of_ports, of_parameters, of_standards}
+use Rattle.pt_inequalities.specs.Typing.{IsTyping}
 use Rattle.pt_start.specs.Started.{own_tokens, seen_tokens}
 use Rattle.pt_firing.specs.Params.{value_under, channels_to, bool_or}
 use Rattle.pt_flow_base.specs.declared.params.Params.{Params}
@@ -55,7 +55,7 @@ use Rattle.pt_flow_streams.specs.Repeat as repeat
 use Rattle.pt_flow_numbers.specs.Scale as scale
 use Rattle.pt_flow_streams.specs.UpSample as up_sample
 use Rattle.pt_flow_numbers.specs.declared.extreme.Side.TheVariants.{Greatest, Least}
-use Rattle.pt_resolve.specs.declared.row.Seed.TheVariants as seed
+use Rattle.pt_inequalities.specs.declared.row.Seed.TheVariants as seed
 use Rattle.pt_flow_streams.specs.SampleDelay as sample_delay
 use Rattle.pt_flow_streams.specs.Sequence as sequence
 use Rattle.pt_lib_data.specs.DataActor as data_actor

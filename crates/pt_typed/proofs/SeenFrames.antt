@@ -26,7 +26,7 @@ use Rattle.pt_scopes.specs.Valued as valued
 use Rattle.pt_scopes.proofs.SeenLaws.{turn-extends}
 use Rattle.pt_scopes.proofs.Unique.{one-extension, one-sight}
 use Rattle.pt_start.specs.Nested.{AreRound, IsNested}
-use Rattle.pt_resolve.specs.Frames.{Names, put, with_given, no_names, value_held, values_held, Frame, Frames, entity_frame, transparent_frame, entity_frames, transparent_frames, frames_of, innermost, seen_from, seen_within}
+use Rattle.pt_inequalities.specs.Frames.{Names, put, with_given, no_names, value_held, values_held, Frame, Frames, entity_frame, transparent_frame, entity_frames, transparent_frames, frames_of, innermost, seen_from, seen_within}
 use Rattle.pt_typed.specs.OwnNames.{HaveClassParameters}
 
 -- ---- lists

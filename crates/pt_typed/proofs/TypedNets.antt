@@ -5,7 +5,7 @@ use Rattle.pt_scopes.specs.declared.values.Values.{Values}
 use Rattle.pt_scopes.specs.Scopes.{net_view}
 use Rattle.pt_scopes.specs.Valued.{IsValued}
 use Rattle.pt_typing.specs.Least.{Assignment}
-use Rattle.pt_resolve.specs.Typing.{IsTyping}
+use Rattle.pt_inequalities.specs.Typing.{IsTyping}
 use Rattle.pt_start.specs.Nested.{IsNested}
 use Rattle.pt_start.specs.Started.{IsStart}
 use Rattle.pt_lib_flow.specs.Formula.{Formula}

@@ -9,7 +9,7 @@ use Rattle.pt_net.specs.Net.{entity_view}
 use Rattle.pt_scopes.specs.declared.values.Values.{Values}
 use Rattle.pt_scopes.specs.Scopes.{net_view}
 use Rattle.pt_typing.specs.Least.{Assignment}
-use Rattle.pt_resolve.specs.Typing.{IsTyping}
+use Rattle.pt_inequalities.specs.Typing.{IsTyping}
 use Rattle.pt_scopes.specs.Inputs.{AreSupplied}
 pub use Rattle.pt_order.specs.ClassPorts.{HaveOwnNames}
 use Rattle.pt_typed.specs.Signature.{AreAllOf}

@@ -13,7 +13,7 @@ use Rattle.pt_trees.specs.Run.{schedule}
 use Rattle.pt_scopes.specs.declared.values.Values.{Values}
 use Rattle.pt_typing.specs.declared.variable.Variable.TheVariants as variable
 use Rattle.pt_typing.specs.Least.{Assignment}
-use Rattle.pt_resolve.specs.Typing.{IsTyping}
+use Rattle.pt_inequalities.specs.Typing.{IsTyping}
 use Rattle.pt_start.specs.Started.{PortTyping, IsStart}
 use Rattle.pt_library.specs.declared.library_actor.LibraryActor.{LibraryActor}
 use Rattle.pt_library.specs.LibraryActor.{rows}

@@ -3,7 +3,7 @@ use Rattle.std.specs.Prelude.{Option, MatchOption}
 use Rattle.pt_document.specs.declared.code.Code.{Code}
 use Rattle.pt_net.specs.declared.net.Net.{Net}
 use Rattle.pt_scopes.specs.declared.values.Values.{Values}
-use Rattle.pt_resolve.specs.Readable.{AreReadable, IsUnreadableAt}
+use Rattle.pt_charts.specs.Readable.{AreReadable, IsUnreadableAt}
 use Rattle.pt_elaboration.proofs.FaultLaws.{number-below, guards-stand}
 use Rattle.pt_elaboration.proofs.resolved.check_guards.Goals as goal
 

@@ -1,7 +1,7 @@
 use Rattle.std.proofs.Common.{◌≡◌, ◌++◌, map, drop}
 use Rattle.pt_typing.specs.Views.{inequality_view}
 use Rattle.pt_resolve.specs.DeclaredTypes.{declared_from}
-use Rattle.pt_resolve.specs.Views.{port_lists}
+use Rattle.pt_places.specs.Views.{port_lists}
 use Rattle.pt_resolve.proofs.declared.add_declared.Given as goal
 
 abbrev pub invariant-loop-number : goal.invariant-loop-number

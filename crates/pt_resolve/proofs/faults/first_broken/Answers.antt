@@ -3,9 +3,9 @@ use Rattle.std.specs.Prelude.{option_map}
 use Rattle.pt_net.specs.Net.{entity_view}
 use Rattle.pt_scopes.specs.Valued as valued
 use Rattle.pt_typing.specs.Least.{assignment}
-use Rattle.pt_resolve.specs.Views.{frames_view}
+use Rattle.pt_frames.specs.Views.{frames_view}
 use Rattle.pt_resolve.specs.Broken.{first_broken}
-use Rattle.pt_resolve.proofs.Steps.{first-mapped}
+use Rattle.pt_inequalities.proofs.Steps.{first-mapped}
 use Rattle.pt_resolve.proofs.Breaks.{first-here, first-later}
 use Rattle.pt_resolve.proofs.faults.first_broken.Goals as goal
 

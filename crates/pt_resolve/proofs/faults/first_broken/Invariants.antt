@@ -2,7 +2,7 @@ use Rattle.std.proofs.Common.{◌≡◌, map}
 use Rattle.pt_net.specs.Net.{entity_view}
 use Rattle.pt_scopes.specs.Valued as valued
 use Rattle.pt_typing.specs.Least.{assignment}
-use Rattle.pt_resolve.specs.Views.{frames_view}
+use Rattle.pt_frames.specs.Views.{frames_view}
 use Rattle.pt_resolve.specs.Broken.{first_broken}
 use Rattle.pt_resolve.proofs.Breaks.{first_from}
 use Rattle.pt_resolve.proofs.faults.first_broken.Given as goal

@@ -3,7 +3,7 @@ use Rattle.std.specs.List.{list_any}
 use Rattle.pt_net.specs.Net.{entity_view}
 use Rattle.pt_scopes.specs.Given.{held_view}
 use Rattle.pt_typing.specs.Least.{assignment}
-use Rattle.pt_resolve.specs.Views.{types_at}
+use Rattle.pt_places.specs.Views.{types_at}
 use Rattle.pt_resolve.specs.Broken.{lacks_type}
 use Rattle.pt_resolve.proofs.faults.has_untyped.Given as goal
 

@@ -1,7 +1,7 @@
 use Rattle.std.proofs.Common.{◌≡◌, map, drop}
 use Rattle.pt_typing.specs.Least.{assignment}
 use Rattle.pt_resolve.specs.ModalFaults.{first_failing}
-use Rattle.pt_resolve.specs.Views.{chart_view}
+use Rattle.pt_charts.specs.Views.{chart_view}
 use Rattle.pt_resolve.proofs.modal_faults.first_failing.Given as goal
 
 abbrev pub invariant-loop-chart : goal.invariant-loop-chart

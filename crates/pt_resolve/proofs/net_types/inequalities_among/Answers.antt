@@ -1,9 +1,9 @@
 use Rattle.std.proofs.Common.{length, map, sym, subst}
 use Rattle.pt_net.specs.Net.{entity_view}
 use Rattle.pt_scopes.specs.Valued as valued
-use Rattle.pt_resolve.specs.Frames.{frames_of}
-use Rattle.pt_resolve.specs.Modals.{AreCharts}
-use Rattle.pt_resolve.specs.Views.{chart_view}
+use Rattle.pt_inequalities.specs.Frames.{frames_of}
+use Rattle.pt_inequalities.specs.Modals.{AreCharts}
+use Rattle.pt_charts.specs.Views.{chart_view}
 use Rattle.pt_resolve.proofs.NetTypings.{charts-told}
 use Rattle.pt_resolve.proofs.net_types.inequalities_among.Goals as goal
 

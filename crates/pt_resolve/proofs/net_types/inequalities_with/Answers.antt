@@ -1,5 +1,5 @@
 use Rattle.std.proofs.Common.{map}
-use Rattle.pt_resolve.specs.Views.{chart_view}
+use Rattle.pt_charts.specs.Views.{chart_view}
 use Rattle.pt_resolve.proofs.NetTypings.{all-made}
 use Rattle.pt_resolve.proofs.net_types.inequalities_with.Goals as goal
 

@@ -1,6 +1,6 @@
 use Rattle.std.proofs.Common.{◌++◌, length, map, ap, ◌∙◌}
 use Rattle.std.specs.Prelude.{replicate}
-use Rattle.pt_resolve.specs.Views.{port_lists}
+use Rattle.pt_places.specs.Views.{port_lists}
 use Rattle.pt_resolve.proofs.net_types.net_typing.Goals as goal
 
 pub typing_at-typing-requires : goal.typing_at-typing-requires

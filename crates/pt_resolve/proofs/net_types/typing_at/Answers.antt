@@ -3,7 +3,7 @@ use Rattle.std.proofs.lemmas.Result.{IfOk-weaker}
 use Rattle.pt_typing.specs.declared.typing.Typing.{Typing}
 use Rattle.pt_typing.specs.Views.{Inequality, inequality_view}
 use Rattle.pt_typing.specs.Least.{IsLeast, assignment}
-use Rattle.pt_resolve.specs.Typing.{IsTyping}
+use Rattle.pt_inequalities.specs.Typing.{IsTyping}
 use Rattle.pt_resolve.proofs.NetTypings.{net-typing}
 use Rattle.pt_resolve.proofs.net_types.typing_at.Goals as goal
 

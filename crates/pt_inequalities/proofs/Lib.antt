@@ -1,0 +1,4 @@
+pub mod Steps
+pub mod Joined
+pub mod RefinementLaws
+pub mod ChartLaws

@@ -1,0 +1,61 @@
+ghost use Rattle.std.specs.Prelude.{◌≡◌, map};
+ghost use Rattle.pt_document.specs.View.{port_view};
+ghost use Rattle.pt_inequalities.specs.Rows.{port_row, seeding, port_type_in, port_type, seed_in, seed_of, declared_output, port_rows, seedings};
+
+use pt_document::{Direction, Port};
+use pt_inequalities::{PORT_TYPES, PortType, PortTypeRow, SEEDS, Seed, SeedRow};
+
+fn port_type_among(rows: &'static [PortTypeRow<&'static str>], class: &str, name: &str) -> PortType
+    ensures { result ≡ port_type_in (map port_row rows.now) class.now name.now }
+{
+    for row in rows {
+        if row.class == class && row.port == name {
+            return row.ty;
+        }
+    }
+    PortType::Free
+}
+
+/// What passes at a declared output, and otherwise at a port.
+fn output_type(class: &str, direction: Direction, otherwise: PortType) -> PortType
+    ensures { result ≡ declared_output class.now direction otherwise }
+{
+    match direction {
+        Direction::Output => {
+            if class == "RecordDisassembler" {
+                PortType::Field
+            } else {
+                otherwise
+            }
+        }
+        Direction::Input => otherwise,
+    }
+}
+
+/// What passes at a port of an entity of this class.
+#[tactic(auto, unfolding(pt_inequalities::specs::Rows::port_type, pt_inequalities::specs::Rows::port_rows))]
+pub fn port_type(class: &str, port: &Port) -> PortType
+    ensures { result ≡ port_type class.now (port_view port.now) }
+{
+    let otherwise = port_type_among(&PORT_TYPES, class, port.name.as_str());
+    output_type(class, port.direction, otherwise)
+}
+
+fn seed_among(rows: &'static [SeedRow<&'static str>], class: &str, name: &str) -> Option<Seed>
+    ensures { result ≡ seed_in (map seeding rows.now) class.now name.now }
+{
+    for row in rows {
+        if row.class == class && row.parameter == name {
+            return Some(row.seed);
+        }
+    }
+    None
+}
+
+/// Which tokens of a parameter pass at the ports of its entity.
+#[tactic(auto, unfolding(pt_inequalities::specs::Rows::seed_of, pt_inequalities::specs::Rows::seedings))]
+pub(crate) fn seed_of(class: &str, name: &str) -> Option<Seed>
+    ensures { result ≡ seed_of class.now name.now }
+{
+    seed_among(&SEEDS, class, name)
+}

@@ -1,4 +1,0 @@
-use Rattle.pt_resolve.proofs.frames.Frames.+seen_within.Given as goal
-
-abbrev pub decreases-seen_within : goal.decreases-seen_within
-decreases-seen_within l = l.levels

@@ -1,7 +1,0 @@
-use Rattle.std.proofs.Common.{◌≡◌, drop}
-use Rattle.pt_document.specs.View.{properties_view}
-use Rattle.pt_resolve.specs.Inequalities.{is_given}
-use Rattle.pt_resolve.proofs.inequalities.is_given.Given as goal
-
-abbrev pub invariant-loop-property : goal.invariant-loop-property
-invariant-loop-property l = is_given (properties_view l.parameters) l.name ≡ is_given (properties_view (drop l.property-index l.parameters)) l.name

@@ -1,7 +1,0 @@
-use Rattle.std.proofs.Common.{◌≡◌, ◌++◌, map, take}
-use Rattle.pt_typing.specs.Views.{inequality_view}
-use Rattle.pt_resolve.specs.Passing.{of_joints}
-use Rattle.pt_resolve.proofs.joints.Behind.add_joints.Given as goal
-
-abbrev pub invariant-loop-joint : goal.invariant-loop-joint
-invariant-loop-joint l = map inequality_view l.inequalities.items ≡ map inequality_view l.fn.inequalities.items ++ of_joints l.self.composites l.self.relations (take l.joint-index l.joints)

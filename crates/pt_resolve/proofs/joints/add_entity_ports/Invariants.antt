@@ -1,7 +1,0 @@
-use Rattle.std.proofs.Common.{◌≡◌, ◌++◌, map, take}
-use Rattle.pt_net.specs.Net.{entity_view}
-use Rattle.pt_resolve.specs.Views.{port_lists}
-use Rattle.pt_resolve.proofs.joints.add_entity_ports.Given as goal
-
-abbrev pub invariant-loop-entity : goal.invariant-loop-entity
-invariant-loop-entity l = port_lists l.lists.items ≡ port_lists l.fn.lists.items ++ map (λ e. e.ports) (map entity_view (take l.entity-index l.entities))

@@ -1,7 +1,0 @@
-use Rattle.std.proofs.Common.{◌≡◌, ◌++◌, drop}
-use Rattle.pt_resolve.specs.ModalScopes.{ports_named}
-use Rattle.pt_resolve.specs.Views.{scope_view}
-use Rattle.pt_resolve.proofs.modal_scope.ModalScope.ports.Given as goal
-
-abbrev pub invariant-loop-name : goal.invariant-loop-name
-invariant-loop-name l = l.list.items ++ ports_named (scope_view l.self) (drop l.name-index l.names) ≡ ports_named (scope_view l.self) l.names
