@@ -1,7 +1,6 @@
 -- The plan from the repetition vector, a schedule and the lengths of the channels.
-use Rattle.std.proofs.Common.{◌≡◌, ℕ, suc, ◌+◌, ◌-◌, ◌<◌, ◌≤◌, List, [], ◌∷◌, ◌++◌, length, get_or, take, drop, map, sum, All, refl, ap, ap₂, sym, subst, ◌∙◌, arith, length-drop}
-use Rattle.std.proofs.lemmas.List.{take-append-drop, drop-drop, length-take-le, take_rest, get_or-take, get_or-drop}
-use Rattle.std.proofs.lemmas.List.Elements.{All-weaker}
+use Rattle.std.proofs.Common.{◌≡◌, ℕ, ◌+◌, ◌-◌, ◌≤◌, List, [], ◌∷◌, ◌++◌, length, get_or, take, drop, map, sum, All, refl, ap, ap₂, sym, subst, ◌∙◌, arith, length-drop}
+use Rattle.std.proofs.lemmas.List.{take-append-drop, drop-drop, length-take-le, take_rest}
 use Rattle.pt_meaning.specs.Sdf.{SdfPlan}
 use Rattle.pt_rates.specs.Balance.{IsRepetitionVector, tokens_on}
 use Rattle.pt_rates.specs.declared.edge.Edge.{Edge}
@@ -10,50 +9,38 @@ use Rattle.pt_sched.specs.declared.edge.SchedEdge.{SchedEdge}
 use Rattle.pt_plan.specs.Channels.{nodes_of, channels_of, edges_of, between}
 use Rattle.pt_sdf.specs.Plan.{source_of}
 use Rattle.pt_sdf.specs.declared.plan.Source.{Source}
+use Rattle.pt_plan.specs.Iteration.{IsCut}
 use Rattle.pt_plan.specs.PlanOf.{IsPlanOf, IsWithinLimits, put_by, AreRooms}
-use Rattle.pt_plan.specs.Unfed.{own, unfed_among, unfed, sources_of}
+use Rattle.pt_plan.specs.Unfed.{own, unfed, sources_of}
 use Rattle.pt_plan.specs.Rooms.{rooms_of}
 use Rattle.pt_plan.specs.declared.inside.Inside.{Inside}
 use Rattle.pt_plan.proofs.RoomLaws.{are-rooms}
-use Rattle.pt_plan.proofs.UnfedLaws.{unfed-below}
 
 -- a list in three parts
 whole : (q : List ℕ) (a m : ℕ) → take a q ++ (take m (drop a q) ++ drop (a + m) q) ≡ q
 whole q a m =
     ap (λ xs. take a q ++ (take m (drop a q) ++ xs)) (sym (drop-drop m a q)) ∙ ap (λ xs. take a q ++ xs) (take-append-drop m (drop a q)) ∙ take-append-drop a q
 
--- two functions that agree at each element of a list
-map-same : (f g : ℕ → ℕ) (ns : List ℕ) → All (λ n. f n ≡ g n) ns → map f ns ≡ map g ns
-map-same f g [] h = refl
-map-same f g (n ∷ ns) h = ap₂ (λ v vs. v ∷ vs) (h 0 n (omega arith)) (map-same f g ns (λ k d short. h (suc k) d (omega arith)))
-
--- the numbers of the children, the own inputs and the own outputs, as the planner cuts them out of the repetition vector
-pub record IsCut (x : Inside) (q reps takes gives : List ℕ) : Type 0 where
-  pub children : reps ≡ take (length x.places) q
-  pub inputs : takes ≡ take x.inputs (drop (length x.places) q)
-  pub outputs : gives ≡ drop (length x.places + x.inputs) q
-
--- the numbers of the own inputs
-pub taken-is : (x : Inside) (n : ℕ) (q second : List ℕ) → n ≡ length x.places → second ≡ q → take (n + x.inputs - n) (drop n second) ≡ take x.inputs (drop (length x.places) q)
-taken-is x n q second many b =
-    let own : length x.places + x.inputs - length x.places ≡ x.inputs = omega arith in
-    (λ i. take (many i + x.inputs - many i) (drop (many i) (b i))) ∙ ap (λ k. take k (drop (length x.places) q)) own
-
--- a number for each of them
-pub taken-long : (x : Inside) (q : List ℕ) → length q ≡ nodes_of x → length (take x.inputs (drop (length x.places) q)) ≡ x.inputs
+-- a number for each own input
+taken-long : (x : Inside) (q : List ℕ) → length q ≡ nodes_of x → length (take x.inputs (drop (length x.places) q)) ≡ x.inputs
 taken-long x q counted = length-take-le {A = ℕ} x.inputs (drop (length x.places) q) (omega (arith, counted, length-drop {A = ℕ} (length x.places) q))
 
--- the channels of the plan
-pub sources-are : (x : Inside) (sources : List Source) (n : ℕ) → sources ≡ x.sources.items ++ map own (unfed_among x.sources.items n) → n ≡ x.inputs → sources ≡ sources_of x
-sources-are x sources n more counted = more ∙ ap (λ k. x.sources.items ++ map own (unfed_among x.sources.items k)) counted
-
-pub is-cut : (x : Inside) (n : ℕ) (q first second third reps takes gives : List ℕ) → n ≡ length x.places → first ≡ q → second ≡ q → third ≡ q → reps ≡ take n first → takes ≡ take (n + x.inputs - n) (drop n second) → gives ≡ take (length third - (n + x.inputs)) (drop (n + x.inputs) third) → IsCut x q reps takes gives
-is-cut x n q first second third reps takes gives many a b c r t g =
+-- the numbers as the planner cuts them
+pub is-cut : (x : Inside) (n : ℕ) (q reps takes gives : List ℕ) → n ≡ length x.places → reps ≡ take n q → takes ≡ take (n + x.inputs - n) (drop n q) → gives ≡ take (length q - (n + x.inputs)) (drop (n + x.inputs) q) → IsCut x q reps takes gives
+is-cut x n q reps takes gives many r t g =
+    let own : length x.places + x.inputs - length x.places ≡ x.inputs = omega arith in
     record {
-      children = r ∙ (λ i. take (many i) (a i));
-      inputs = t ∙ taken-is x n q second many b;
-      outputs = g ∙ (λ i. take (length (c i) - (many i + x.inputs)) (drop (many i + x.inputs) (c i))) ∙ take_rest q (length x.places + x.inputs);
+      children = r ∙ (λ i. take (many i) q);
+      inputs = t ∙ (λ i. take (many i + x.inputs - many i) (drop (many i) q)) ∙ ap (λ k. take k (drop (length x.places) q)) own;
+      outputs = g ∙ (λ i. take (length q - (many i + x.inputs)) (drop (many i + x.inputs) q)) ∙ take_rest q (length x.places + x.inputs);
     }
+
+-- the room of a channel that ends nowhere is what an iteration puts there
+kept-same : (x : Inside) (q ports : List ℕ) → map (λ port. get_or q (length x.places + port) 0) ports ≡ map (λ port. put_by x q (own port)) ports
+kept-same x q [] = refl
+kept-same x q (port ∷ ports) =
+    let one : get_or q (length x.places + port) 0 ≡ put_by x q (own port) = omega arith in
+    ap₂ (λ v vs. v ∷ vs) one (kept-same x q ports)
 
 module _ (x : Inside) (q order reps takes gives : List ℕ) (cut : IsCut x q reps takes gives) where
   abbrev planned : List Source → SdfPlan
@@ -84,18 +71,10 @@ module _ (x : Inside) (q order reps takes gives : List ℕ) (cut : IsCut x q rep
     tokens = subst (λ (xs : List ℕ). All (λ (edge : Edge). tokens_on xs edge ≤ 1000000) (edges_of x)) (sym parts) tokens;
   }
 
-  -- the room of a channel that ends nowhere is what an iteration puts there
-  kept-at : (taken : List ℕ) → taken ≡ take x.inputs (drop (length x.places) q) → (port : ℕ) → port < x.inputs → get_or taken port 0 ≡ put_by x (reps ++ (takes ++ gives)) (own port)
-  kept-at taken e port short =
-      let at : get_or taken port 0 ≡ get_or q (length x.places + port) 0 = ap (λ (v : List ℕ). get_or v port 0) e ∙ get_or-take x.inputs (drop (length x.places) q) port 0 short ∙ get_or-drop (length x.places) q port 0 in
-      at ∙ ap (λ (v : List ℕ). get_or v (length x.places + port) 0) (sym parts) ∙ omega arith
-
-  pub rooms-is : (n : ℕ) (q' room base taken lengths lengths' : List ℕ) (channels : List SchedEdge) → base ≡ rooms_of n q' channels lengths' → n ≡ length x.places → q' ≡ q → channels ≡ channels_of x → lengths' ≡ lengths →
-      room ≡ base ++ map (λ port. get_or taken port 0) (unfed_among x.sources.items (length taken)) → taken ≡ take x.inputs (drop (length x.places) q) → length taken ≡ x.inputs → AreGreatestLengths (between x) order lengths → AreRooms x order (reps ++ (takes ++ gives)) room
-  rooms-is n q' room base taken lengths lengths' channels e en eq ec el more is counted greatest =
+  pub rooms-is : (q' lengths lengths' room : List ℕ) (channels : List SchedEdge) → room ≡ rooms_of (length x.places) q' channels lengths' ++ map (λ port. get_or q' (length x.places + port) 0) (unfed x) → q' ≡ q → channels ≡ channels_of x → lengths' ≡ lengths → AreGreatestLengths (between x) order lengths → AreRooms x order (reps ++ (takes ++ gives)) room
+  rooms-is q' lengths lengths' room channels e eq ec el greatest =
       let all : List ℕ = reps ++ (takes ++ gives) in
-      let first : base ≡ rooms_of (length x.places) all (channels_of x) lengths = e ∙ (λ i. rooms_of (en i) (eq i) (ec i) (el i)) ∙ ap (λ (xs : List ℕ). rooms_of (length x.places) xs (channels_of x) lengths) (sym parts) in
-      let rest : map (λ port. get_or taken port 0) (unfed_among x.sources.items (length taken)) ≡ map (λ port. put_by x all (own port)) (unfed x) =
-      ap (λ k. map (λ port. get_or taken port 0) (unfed_among x.sources.items k)) counted ∙ map-same (λ port. get_or taken port 0) (λ port. put_by x all (own port)) (unfed x) (All-weaker (λ port. port < x.inputs) (λ port. get_or taken port 0 ≡ put_by x all (own port)) (kept-at taken is) (unfed x) (unfed-below x.sources.items x.inputs))
+      let same : room ≡ rooms_of (length x.places) all (channels_of x) lengths ++ map (λ port. get_or all (length x.places + port) 0) (unfed x) =
+      e ∙ (λ i. rooms_of (length x.places) (eq i) (ec i) (el i) ++ map (λ port. get_or (eq i) (length x.places + port) 0) (unfed x)) ∙ ap (λ (v : List ℕ). rooms_of (length x.places) v (channels_of x) lengths ++ map (λ port. get_or v (length x.places + port) 0) (unfed x)) (sym parts)
       in
-      are-rooms x order all room lengths (more ∙ ap₂ (λ (v w : List ℕ). v ++ w) first rest) greatest
+      are-rooms x order all room lengths (same ∙ ap (λ (v : List ℕ). rooms_of (length x.places) all (channels_of x) lengths ++ v) (kept-same x all (unfed x))) greatest

@@ -1,6 +1,7 @@
 pub mod Channels
 pub mod Fault
 pub mod Inside
+pub mod Iteration
 pub mod Laws
 pub mod PlanOf
 pub mod Rooms

@@ -1,6 +1,7 @@
-ghost use Rattle.std.specs.Prelude.{◌≡◌, ◌≤◌, All, IfErr, IfOk, List, filter, length, map, sum, take};
+ghost use Rattle.std.specs.Prelude.{◌≡◌, ◌+◌, ◌≤◌, ◌++◌, All, IfErr, IfOk, List, filter, length, map, slice_index, sum, take};
 ghost use Rattle.pt_rates.specs.Balance.{IsRepetitionVector, tokens_on};
 ghost use Rattle.pt_sched.specs.Runs.{IsSchedule, AreGreatestLengths};
+ghost use Rattle.pt_sched.specs.Channels.{IsSchedEdge};
 ghost use Rattle.pt_sched.specs.declared.edge.SchedEdge.{SchedEdge};
 ghost use Rattle.pt_sdf.specs.Lawful.{IsLawful};
 ghost use Rattle.pt_sdf.specs.Plan.{plan_of};
@@ -9,7 +10,9 @@ ghost use Rattle.pt_plan.specs.Channels.{nodes_of, channels_of, edges_of, is_bet
 ghost use Rattle.pt_plan.specs.Fault.{FaultStands, of_rates, of_sched};
 ghost use Rattle.pt_plan.specs.Inside.{IsInside};
 ghost use Rattle.pt_plan.specs.PlanOf.{repetitions_of, IsPlanOf, IsWithinLimits, AreRooms};
-ghost use Rattle.pt_plan.specs.Unfed.{first_of};
+ghost use Rattle.pt_plan.specs.Iteration.{IsCut, planned};
+ghost use Rattle.pt_plan.specs.Rooms.{rooms_of};
+ghost use Rattle.pt_plan.specs.Unfed.{first_of, unfed, sources_of};
 ghost use Rattle.pt_plan.specs.declared.planning.PlanFault.TheVariants.{Memory};
 
 use crate::channels::channels_of;
@@ -19,7 +22,7 @@ use crate::unfed::add_unfed;
 use pt_firing::Counts;
 use pt_rates::{Edge, RatesFault, solve};
 use pt_sched::{Plan, SchedEdge, SchedFault, schedule};
-use pt_sdf::CorePlan;
+use pt_sdf::{CorePlan, Source};
 use std::alloc::{AllocError, Global};
 use thiserror::Error;
 
@@ -80,7 +83,7 @@ impl From<SchedFault> for PlanFault {
 /// The plan has the channels of the inside, and behind them one for each own input that feeds nothing: it begins there, and ends
 /// nowhere. The order is a schedule of the channels between children. A fault is told only where it stands, and then there is no plan
 /// within the limits; want of memory may be told at any time.
-pub fn plan(alloc: Global, mut inside: Inside) -> Result<CorePlan, PlanFault>
+pub fn plan(alloc: Global, inside: Inside) -> Result<CorePlan, PlanFault>
     requires { IsInside inside }
     ensures plan { IfOk result (λ p. IsPlanOf inside (plan_of p)) }
     ensures limits { IfOk result (λ p. IsWithinLimits inside (plan_of p)) }
@@ -90,24 +93,114 @@ pub fn plan(alloc: Global, mut inside: Inside) -> Result<CorePlan, PlanFault>
     ensures lawful { IfOk result (λ p. (first : List (List Token)) → map (λ (tokens : List Token). length tokens) first ≡ first_of inside → IsLawful (plan_of p) p.needs p.order.items p.room first) }
     ensures err { IfErr result (FaultStands inside) }
 {
-    let nodes = count_nodes(&inside)?;
-    let channels = channels_of(alloc, &inside)?;
-    let q = solved(alloc, nodes, &inside, &channels)?;
-    let Plan { order, lengths } = scheduled(alloc, &inside, &channels, &q)?;
+    match iteration_of(alloc, &inside) {
+        Ok(iteration) => {
+            let Iteration {
+                counts,
+                order,
+                channels,
+            } = iteration;
+            Ok(CorePlan {
+                sources: channels.sources,
+                places: inside.places,
+                needs: inside.needs,
+                rates: inside.rates,
+                repetitions: counts.repetitions,
+                takes: counts.takes,
+                gives: counts.gives,
+                order,
+                room: channels.room,
+            })
+        }
+        // Let go by a call, which keeps what that takes out of the proof.
+        Err(fault) => {
+            drop(inside);
+            Err(fault)
+        }
+    }
+}
+
+/// How often each child fires in an iteration, and how many tokens each own port moves.
+#[derive(Drop)]
+struct IterationCounts {
+    repetitions: Counts,
+    takes: Counts,
+    gives: Counts,
+}
+
+/// Where each channel of a plan begins, and its room.
+#[derive(Drop)]
+struct PlanChannels {
+    sources: Vec<Source>,
+    room: Counts,
+}
+
+/// What a plan says of an iteration.
+#[derive(Drop)]
+struct Iteration {
+    counts: IterationCounts,
+    order: Vec<u32>,
+    channels: PlanChannels,
+}
+
+/// An iteration of this inside, by the balance equations and a schedule.
+fn iteration_of(alloc: Global, inside: &Inside) -> Result<Iteration, PlanFault>
+    requires { IsInside inside.now }
+    ensures plan { IfOk result (λ made. IsPlanOf inside.now (planned inside.now made)) }
+    ensures limits { IfOk result (λ made. IsWithinLimits inside.now (planned inside.now made)) }
+    ensures order { IfOk result (λ made. IsSchedule (between inside.now) made.counts.repetitions made.order.items) }
+    ensures sources { IfOk result (λ made. made.channels.sources.items ≡ sources_of inside.now) }
+    ensures room { IfOk result (λ made. AreRooms inside.now made.order.items (repetitions_of (planned inside.now made)) made.channels.room) }
+    ensures err { IfErr result (FaultStands inside.now) }
+{
+    let nodes = count_nodes(inside)?;
+    let channels = channels_of(alloc, inside)?;
+    let q = solved(alloc, nodes, inside, &channels)?;
+    let Plan { order, lengths } = scheduled(alloc, inside, &channels, &q)?;
+    let counts = counts_in(alloc, inside, &q)?;
+    let ends = channels_in(alloc, inside, &channels, &q, &lengths)?;
+    Ok(Iteration {
+        counts,
+        order,
+        channels: ends,
+    })
+}
+
+/// The numbers of the children, the own inputs and the own outputs among all.
+fn counts_in(alloc: Global, inside: &Inside, q: &[u64]) -> Result<IterationCounts, AllocError>
+    requires { length q.now ≡ nodes_of inside.now }
+    ensures { IfOk result (λ counts. IsCut inside.now q.now counts.repetitions counts.takes counts.gives) }
+{
     let children = inside.places.len();
     let own = children + inside.inputs as usize;
-    let mut room = rooms_of(alloc, children, &channels, &q, &lengths)?;
-    add_unfed(alloc, &mut inside.sources, &mut room, &q[children..own])?;
-    Ok(CorePlan {
+    Ok(IterationCounts {
         repetitions: counts_of(alloc, &q[..children])?,
         takes: counts_of(alloc, &q[children..own])?,
         gives: counts_of(alloc, &q[own..])?,
-        order,
+    })
+}
+
+/// The channels of the plan, where `channels` are those of the inside, and `lengths` of those between children.
+fn channels_in(
+    alloc: Global,
+    inside: &Inside,
+    channels: &[SchedEdge],
+    q: &[u64],
+    lengths: &[u64],
+) -> Result<PlanChannels, AllocError>
+    requires counted { length q.now ≡ nodes_of inside.now }
+    requires channels { All (IsSchedEdge (length q.now)) channels.now }
+    requires tokens { All (λ channel. tokens_on q.now channel.edge ≤ 1000000) channels.now }
+    ensures sources { IfOk result (λ made. made.sources.items ≡ sources_of inside.now) }
+    ensures room { IfOk result (λ made. made.room ≡ rooms_of (length inside.now.places) q.now channels.now lengths.now ++ map (λ port. slice_index q.now (length inside.now.places + port)) (unfed inside.now)) }
+{
+    let children = inside.places.len();
+    let mut room = rooms_of(alloc, children, channels, q, lengths)?;
+    let mut sources = Vec::from_slice(alloc, &inside.sources)?;
+    add_unfed(alloc, &mut sources, &mut room, inside.inputs, children, q)?;
+    Ok(PlanChannels {
+        sources,
         room: Counts::of(room),
-        sources: inside.sources,
-        places: inside.places,
-        needs: inside.needs,
-        rates: inside.rates,
     })
 }
 

@@ -1,39 +1,42 @@
-ghost use Rattle.std.specs.Prelude.{◌≡◌, ◌+◌, ◌<◌, ◌++◌, ◌||◌, ◌^◌, ℕ, All, IfOk, OnOk, false, get_or, length, map, slice_index};
+ghost use Rattle.std.specs.Prelude.{◌≡◌, ◌+◌, ◌<◌, ◌≤◌, ◌++◌, ◌||◌, ℕ, All, IfOk, OnOk, false, get_or, length, map, slice_index};
 ghost use Rattle.pt_plan.specs.Unfed.{is_own, feeds, own, unfed_among};
 
 use pt_sdf::Source;
 use std::alloc::{AllocError, Global};
 
 /// Adds a channel for each own input that feeds nothing. It begins there and ends nowhere, and has room for what an iteration
-/// takes there.
+/// takes there. In `q` the numbers of the own inputs are from `first` on.
 pub(crate) fn add_unfed(
     alloc: Global,
     sources: &mut Vec<Source>,
     room: &mut Vec<usize>,
-    takes: &[u64],
+    inputs: u32,
+    first: usize,
+    q: &[u64],
 ) -> Result<(), AllocError>
-    requires { length takes.now < 2 ^ 32 }
-    ensures sources { OnOk result (sources.new.items ≡ sources.old.items ++ map own (unfed_among sources.old.items (length takes.now))) }
-    ensures room { OnOk result (room.new.items ≡ room.old.items ++ map (λ port. slice_index takes.now port) (unfed_among sources.old.items (length takes.now))) }
+    requires { first + inputs ≤ length q.now }
+    ensures sources { OnOk result (sources.new.items ≡ sources.old.items ++ map own (unfed_among sources.old.items inputs)) }
+    ensures room { OnOk result (room.new.items ≡ room.old.items ++ map (λ port. slice_index q.now (first + port)) (unfed_among sources.old.items inputs)) }
 {
-    let unfed = unfed_inputs(alloc, sources, takes.len() as u32)?;
-    add_channels(sources, room, takes, &unfed)
+    let unfed = unfed_inputs(alloc, sources, inputs)?;
+    add_channels(sources, room, &unfed, first, q)
 }
 
 /// Adds a channel that begins at each of these own inputs.
 fn add_channels(
     sources: &mut Vec<Source>,
     room: &mut Vec<usize>,
-    takes: &[u64],
     unfed: &[u32],
+    first: usize,
+    q: &[u64],
 ) -> Result<(), AllocError>
-    requires { All (λ port. port < length takes.now) unfed.now }
+    requires { All (λ port. first + port < length q.now) unfed.now }
     ensures sources { OnOk result (sources.new.items ≡ sources.old.items ++ map own unfed.now) }
-    ensures room { OnOk result (room.new.items ≡ room.old.items ++ map (λ port. slice_index takes.now port) unfed.now) }
+    ensures room { OnOk result (room.new.items ≡ room.old.items ++ map (λ port. slice_index q.now (first + port)) unfed.now) }
 {
     for port in unfed {
         sources.push(Source::Own(*port))?;
-        room.push(takes[*port as usize] as usize)?;
+        room.push(q[first + *port as usize] as usize)?;
     }
     Ok(())
 }
