@@ -80,6 +80,8 @@ fn show_plan(alloc: Global, plan: &CorePlan, out: &mut Answer) {
     out.text(", order ");
     out.named(alloc, &plan.order.as_slice());
     show(alloc, ", room ", plan.room.as_slice(), out);
+    out.text(", sources ");
+    out.named(alloc, &plan.sources.as_slice());
 }
 
 fn tell(alloc: Global, inside: Inside, out: &mut Answer) {
