@@ -3,7 +3,8 @@ pub mod SoFarLaws
 pub mod CountLaws
 pub mod MiddleLaws
 pub mod ShutSteps
-pub mod ShutLaws
+pub mod MiddleShut
+pub mod PauseShut
 pub mod ShutMiddles
 pub mod RunShutLaws
 pub mod MadeLaws

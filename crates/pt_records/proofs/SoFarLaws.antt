@@ -29,35 +29,36 @@ use Rattle.pt_records.specs.SoFar.{AllLow, GivesRates, IsAsked, SoFarBegins, SoF
 use Rattle.pt_records.proofs.GrowthLaws.{all-begin, all-go-on, grew-within, all-long}
 use Rattle.pt_records.proofs.MiddleLaws.{asks-numbered}
 use Rattle.pt_records.proofs.ShutSteps.{stepped-is-shut, at-own-place}
-use Rattle.pt_records.proofs.ShutMiddles.{below_place, between-is-shut, within-is-shut}
+use Rattle.pt_records.specs.Middle.{below_place}
+use Rattle.pt_records.proofs.ShutMiddles.{between-is-shut, within-is-shut}
 
 -- lists of children with their numbers
-numbered-at : {S : Type 0} (b : ℕ) (ss : List S) (i n : ℕ) (s : S) (d : Child S) → n ≡ b + i → get ss i ≡ Some s → get_or (numbered b ss) i d ≡ record { number = n; node = s }
+pub numbered-at : {S : Type 0} (b : ℕ) (ss : List S) (i n : ℕ) (s : S) (d : Child S) → n ≡ b + i → get ss i ≡ Some s → get_or (numbered b ss) i d ≡ record { number = n; node = s }
 numbered-at b [] i n s d e h = absurd (cc)
 numbered-at {S} b (x ∷ ss) zero n s d e h = let same : x ≡ s = cc in ap₂ (λ u v. let c : Child S = record { number = u; node = v } in c) (omega (arith, e)) same
 numbered-at b (x ∷ ss) (suc i) n s d e h = numbered-at (suc b) ss i n s d (omega (arith, e)) h
 
-numbered-set : {S : Type 0} (b : ℕ) (ss : List S) (i n : ℕ) (s : S) → n ≡ b + i → set (numbered b ss) i (record { number = n; node = s }) ≡ numbered b (set ss i s)
+pub numbered-set : {S : Type 0} (b : ℕ) (ss : List S) (i n : ℕ) (s : S) → n ≡ b + i → set (numbered b ss) i (record { number = n; node = s }) ≡ numbered b (set ss i s)
 numbered-set b [] i n s e = refl
 numbered-set {S} b (x ∷ ss) zero n s e = let same : n ≡ b = omega (arith, e) in ap (λ u. let c : Child S = record { number = u; node = s } in c ∷ numbered (suc b) ss) same
 numbered-set {S} b (x ∷ ss) (suc i) n s e = ap (λ cs. let c : Child S = record { number = b; node = x } in c ∷ cs) (numbered-set (suc b) ss i n s (omega (arith, e)))
 
-numbered-nodes : {S : Type 0} (b : ℕ) (ss : List S) → nodes (numbered b ss) ≡ ss
+pub numbered-nodes : {S : Type 0} (b : ℕ) (ss : List S) → nodes (numbered b ss) ≡ ss
 numbered-nodes b [] = refl
 numbered-nodes b (s ∷ ss) = ap (λ v. s ∷ v) (numbered-nodes (suc b) ss)
 
 -- heights
-low-get : {T A : Type 0} (d : ℕ) (ns : List (Node T A)) (i : ℕ) (n : Node T A) → AllLow d ns → get ns i ≡ Some n → height n ≤ d
+pub low-get : {T A : Type 0} (d : ℕ) (ns : List (Node T A)) (i : ℕ) (n : Node T A) → AllLow d ns → get ns i ≡ Some n → height n ≤ d
 low-get d [] i n l e = absurd (cc)
 low-get {T} {A} d (x ∷ ns) zero n l e = let same : x ≡ n = cc in subst (λ (v : Node T A). height v ≤ d) same l.0
 low-get d (x ∷ ns) (suc i) n l e = low-get d ns i n l.1 e
 
-low-set : {T A : Type 0} (d : ℕ) (ns : List (Node T A)) (i : ℕ) (n : Node T A) → AllLow d ns → height n ≤ d → AllLow d (set ns i n)
+pub low-set : {T A : Type 0} (d : ℕ) (ns : List (Node T A)) (i : ℕ) (n : Node T A) → AllLow d ns → height n ≤ d → AllLow d (set ns i n)
 low-set d [] i n l h = tt
 low-set d (x ∷ ns) zero n l h = (h, l.1)
 low-set d (x ∷ ns) (suc i) n l h = (l.0, low-set d ns i n l.1 h)
 
-low-kids : {T A : Type 0} (d : ℕ) (kids : Nodes T A) → heights kids ≤ d → AllLow d (list_of kids)
+pub low-kids : {T A : Type 0} (d : ℕ) (kids : Nodes T A) → heights kids ≤ d → AllLow d (list_of kids)
 low-kids d none h = tt
 low-kids d (more n ns) h = (omega (arith, h), low-kids d ns (omega (arith, h)))
 

@@ -3,6 +3,7 @@ pub mod Made
 pub mod Growth
 pub mod Fired
 pub mod Shut
+pub mod Middle
 pub mod SoFar
 pub mod Counts
 pub mod MadeExample
