@@ -1,5 +1,5 @@
 -- A chain of calls of a core makes the firing of the composite.
-use Rattle.std.proofs.Common.{◌≡◌, ◌⊎◌, inl, inr, ⊎_elim, ℕ, zero, suc, ◌+◌, ◌<◌, ◌≤◌, List, [], ◌∷◌, Bool, true, false, length, get_or, set, take, drop, map, nat_eq, Option, Some, None, if◌then◌else◌, refl, sym, ap, subst, ◌∙◌, arith, length-set}
+use Rattle.std.proofs.Common.{◌≡◌, ◌⊎◌, inl, inr, ⊎_elim, ℕ, zero, suc, ◌+◌, ◌<◌, ◌≤◌, List, [], ◌∷◌, Bool, true, false, length, get_or, set, take, drop, map, nat_eq, Option, Some, None, if◌then◌else◌, refl, sym, ap, subst, ◌∙◌, arith, length-set, append-nil}
 use Rattle.std.proofs.lemmas.List.{get_or-set_same, get_or-set_other, length-map}
 use Rattle.std.proofs.lemmas.Bool.{cases_eq}
 use Rattle.std.proofs.lemmas.Bool.Decides.{nat_tests}
@@ -20,8 +20,13 @@ use Rattle.pt_laws.proofs.Order.{IsPrefix-append}
 use Rattle.pt_laws.proofs.TickLaws.{PartialBelow-refl, KnownBelow-trans, known-same, valuation-below}
 use Rattle.pt_laws.proofs.TickRunLaws.{below-at, has-reacted, waiting-reacted, tick-begins, tick-goes-on, tick-ends, tick-lacks, tick-sticks, tick-is-prefix}
 use Rattle.pt_laws.proofs.TickNodeLaws.{sr-turns}
+use Rattle.pt_laws.specs.Channels.{source_in}
+use Rattle.pt_laws.specs.Explained.{Turned, of_turns, gives_in, MaySay, Gives, Early}
+use Rattle.pt_meaning.specs.Closed.{outputs_at}
+use Rattle.pt_meaning.specs.Tree.{Sr}
 use Rattle.pt_sr.specs.State.{SrState, MayFire, MayAnswer, HasNothing, HasTold, inputs_of, unknown_in, lent_of, own_of, begun, asked, listening, after_told, if_told, after_heard, waits, learnt, all_of, known_of, after_child, after_children, at_first, unheard}
-use Rattle.pt_sr.specs.Chain.{IsFor, AllFired, NothingComes, Underway, firing_from, IsStuckAt, CallsAreSr}
+use Rattle.pt_sr.specs.Chain.{IsFor, AllFired, NothingComes, HasTurn, Underway, firing_from, IsStuckAt, CallsAreSr}
+use Rattle.pt_sr.proofs.SayLaws.{says-first, says-grown}
 use Rattle.pt_sr.proofs.KnownLaws.{all-known, none-known, unknown-falls, none-learnt, unknown-few, known-stays, known-agrees, learnt-known, learnt-early, learnt-may, if-known-some, after-long, after-at, after-below, places-below, partial-set-same, partial-set-other, first-at, unknowns-at}
 
 -- logs, child by child
@@ -78,6 +83,22 @@ same-test i = grind (arith, nat_tests)
 equal-by : (j i : ℕ) → nat_eq j i ≡ true → j ≡ i
 equal-by j i t = grind (arith, nat_tests, t)
 
+other-test : (j i : ℕ) → (j ≡ i → ⊥) → nat_eq j i ≡ false
+other-test j i z = by (nat_eq j i) refl
+  where
+    by : (b : Bool) → nat_eq j i ≡ b → nat_eq j i ≡ false
+    by true t = absurd (z (equal-by j i t))
+    by false t = t
+
+pub get-or-there : {B : Type 0} (xs : List B) (i : ℕ) (d : B) → i < length xs → get xs i ≡ Some (get_or xs i d)
+get-or-there [] i d h = absurd (omega (arith, h))
+get-or-there (x ∷ xs) zero d h = refl
+get-or-there (x ∷ xs) (suc i) d h = get-or-there xs i d (omega (arith, h))
+
+-- a child that has had its turn has so where more is known
+turn-more : {T S : Type 0} (facts : Facts T S) (step : Stepping T S) (tag : Tag) (c : S) (vs ws : List (Partial T)) (z : S) (l : Log T) (ts : List (Turned T)) → KnownBelow vs ws → HasTurn facts step tag c vs z l ts → HasTurn facts step tag c ws z l ts
+turn-more facts step tag c vs ws z l ts b h = record { inputs = h.inputs; outputs = h.outputs; inside = h.inside; on = ap (λ v. known v) (known-same vs ws h.inputs b h.on) ∙ h.on; done = h.done; turn = h.turn; logged = h.logged }
+
 -- a child that has fired has so where more is known
 fired-more : {T S : Type 0} (step : Stepping T S) (tag : Tag) (s : S) (vs ws : List (Partial T)) (s' : S) (out : Streams T) (l : Log T) → KnownBelow vs ws → HasFired sr_active step tag s vs s' out l → HasFired sr_active step tag s ws s' out l
 fired-more step tag s vs ws s' out l b h = (h.0, ap (λ v. known v) (known-same vs ws h.0 b h.1) ∙ h.1, h.2)
@@ -106,6 +127,10 @@ module _ {T S : Type 0} (facts : Facts T S) (step : Stepping T S) (before : SrSt
         rests = λ i l e. (refl, silents-at kids i);
         falls = λ i l. let t = unknown-few (get_or net.places i 0) (drop (total (take i net.places)) V) in let u = unheard-at net.places i l in omega (arith, t, u);
         heard = λ i l m. let t = unknown-few (get_or net.places i 0) (drop (total (take i net.places)) V) in let u = unheard-at net.places i l in absurd (omega (arith, t, u, m));
+        turns = λ i. [];
+        turned = λ i l e. absurd (cc (sym (lowered-at net.places i) ∙ e));
+        unturned = λ i e. refl;
+        says = λ i q. says-first facts before.tick.plan kids inputs tag i q;
       }
     where
       one : (tag : Tag) (net : Net) (c : ℕ) (o : Option Source) → get net.sources c ≡ o → MayKnow facts.early sr_active (sr_turn facts step) tag net kids inputs d (unknowns net.sources) (map (λ c. at_first inputs c) net.sources) c o
@@ -371,6 +396,53 @@ module _ {T S : Type 0} (facts : Facts T S) (step : Stepping T S) (before : SrSt
           let old = u.rests j h (sym (get_or-set_other s.tick.fired i j true false z) ∙ f) in
           (get_or-set_other now i j c d z ∙ old.0, then-other i j fired-log ls z ∙ old.1)
 
+      -- its turn, beside those of the others
+      abbrev its-turn : Turned T
+      its-turn = record { record_of = record { number = facts.made (get_or kids i d); tag = s.tag; inputs = lent_of s i; outputs = out }; inside = l }
+
+      abbrev fired-turns : ℕ → List (Turned T)
+      fired-turns j = if nat_eq j i then its-turn ∷ [] else u.turns j
+
+      its-turn-is : fired-turns i ≡ its-turn ∷ []
+      its-turn-is = ap (λ b. if b then its-turn ∷ [] else u.turns i) (same-test i)
+
+      other-turn-is : (j : ℕ) → (j ≡ i → ⊥) → fired-turns j ≡ u.turns j
+      other-turn-is j z = ap (λ b. if b then its-turn ∷ [] else u.turns j) (other-test j i z)
+
+      turns-grow : (j : ℕ) → (j ≡ i) ⊎ (j ≡ i → ⊥) → (fired-turns j ≡ u.turns j) ⊎ (u.turns j ≡ [])
+      turns-grow j (inl z) = inr (ap (λ n. u.turns n) z ∙ u.unturned i may.unfired)
+      turns-grow j (inr z) = inl (other-turn-is j z)
+
+      turned-one : (j : ℕ) → j < length net.places → get_or fired-flags j false ≡ true → (j ≡ i) ⊎ (j ≡ i → ⊥) → HasTurn facts step s.tag (get_or kids j d) (places_at net.places j fired-after) (get_or (set now i c) j d) (log_at (logs_then i fired-log ls) j) (fired-turns j)
+      turned-one j h f (inl z) =
+          subst (λ n. HasTurn facts step s.tag (get_or kids n d) (places_at net.places n fired-after) (get_or (set now i c) n d) (log_at (logs_then i fired-log ls) n) (fired-turns n)) (sym z)
+          (record {
+            inputs = lent_of s i;
+            outputs = out;
+            inside = l;
+            on = ap (λ v. known v) (known-same (places_at net.places i V) (places_at net.places i fired-after) (lent_of s i) (places-below net.places i V fired-after (grown i may.there (all_of out) fired-says)) (asks i may)) ∙ asks i may;
+            done = ap (λ x. step s.tag x (lent_of s i)) (sym (kid-is i may)) ∙ e ∙ ap (λ (x : S). let r : Outcome T S = Done x out l in r) (sym (get_or-set_same now i c d (omega (arith, may.there, u.wide.news_are))));
+            turn = its-turn-is;
+            logged = then-first i fired-log ls (omega (arith, may.there, u.wide.logs_are)) (u.rests i may.there may.unfired).1;
+          })
+      turned-one j h f (inr z) =
+          let old = u.turned j h (sym (get_or-set_other s.tick.fired i j true false z) ∙ f) in
+          subst (λ x. HasTurn facts step s.tag (get_or kids j d) (places_at net.places j fired-after) x (log_at (logs_then i fired-log ls) j) (fired-turns j)) (sym (get_or-set_other now i j c d z))
+          (subst (λ x. HasTurn facts step s.tag (get_or kids j d) (places_at net.places j fired-after) (get_or now j d) x (fired-turns j)) (sym (then-other i j fired-log ls z))
+          (subst (λ x. HasTurn facts step s.tag (get_or kids j d) (places_at net.places j fired-after) (get_or now j d) (log_at ls j) x) (sym (other-turn-is j z))
+          (turn-more facts step s.tag (get_or kids j d) (places_at net.places j V) (places_at net.places j fired-after) (get_or now j d) (log_at ls j) (u.turns j) (places-below net.places j V fired-after (grown i may.there (all_of out) fired-says)) old)))
+
+      unturned-one : (j : ℕ) → get_or fired-flags j false ≡ false → (j ≡ i) ⊎ (j ≡ i → ⊥) → fired-turns j ≡ []
+      unturned-one j f (inl z) = absurd (cc (sym (get_or-set_same s.tick.fired i true false (omega (arith, may.there, u.flags))) ∙ ap (λ k. get_or fired-flags k false) (sym z) ∙ f))
+      unturned-one j f (inr z) = other-turn-is j z ∙ u.unturned j (sym (get_or-set_other s.tick.fired i j true false z) ∙ f)
+
+      fired-tells : (j q port : ℕ) (xs : List T) → source_in net j q ≡ Some (Output i port) → all_of out port ≡ Some xs → MaySay facts (Sr s.tick.plan) kids inputs fired-turns s.tag j q (Known xs)
+      fired-tells j q port xs f g =
+          let z : at out port ≡ xs = cc in
+          let told : of_turns (outputs_at port) (fired-turns i) ≡ xs = ap (λ ts. of_turns (outputs_at port) ts) its-turn-is ∙ append-nil (at out port) ∙ z in
+          subst (λ v. MaySay facts (Sr s.tick.plan) kids inputs fired-turns s.tag j q (Known v)) told
+          (subst (λ (o : Option Source). MaySay facts (Sr s.tick.plan) kids inputs fired-turns s.tag j q (Known (gives_in inputs fired-turns o))) f (Gives j q))
+
       pub calls-go-on : Underway facts step before kids inputs d (after_told i out (asked i s)) (set now i c) (logs_then i (log_then l (own (record { number = facts.made (get_or now i d); tag = s.tag; inputs = lent_of s i; outputs = out }))) ls)
       calls-go-on =
           subst (λ j. Underway facts step before kids inputs d (after_told i out (asked i s)) (set now i c) (logs_then i (log_then l (own (record { number = facts.made j; tag = s.tag; inputs = lent_of s i; outputs = out }))) ls)) (sym (kid-is i may))
@@ -391,6 +463,10 @@ module _ {T S : Type 0} (facts : Facts T S) (step : Stepping T S) (before : SrSt
             rests = λ j h f. fired-quiet j h f (cases_eq j i);
             falls = λ j h. let x = u.falls j h in let y = grown-falls i may.there (all_of out) fired-says j in omega (arith, x, y);
             heard = λ j h q c port e. grown-heard i may.there (all_of out) fired-says j h q c port e;
+            turns = fired-turns;
+            turned = λ j h f. turned-one j h f (cases_eq j i);
+            unturned = λ j f. unturned-one j f (cases_eq j i);
+            says = λ j q. says-grown facts s.tick.plan kids inputs s.tag u.turns fired-turns (λ n. turns-grow n (cases_eq n i)) V i (all_of out) u.channels u.says fired-tells j q;
           }))
 
     module _ (i : ℕ) (may : MayAnswer s.tick i) where
@@ -431,6 +507,10 @@ module _ {T S : Type 0} (facts : Facts T S) (step : Stepping T S) (before : SrSt
       heard-one j h q c port e (inr z) =
           grown-heard i may.there (known_of answer) heard-says j h (subst (λ v. v ≤ unknown_in (places_at net.places j heard-after)) (get_or-set_other s.tick.heard i j (unknown_in (inputs_of s.tick i)) 0 z) q) c port e
 
+      heard-tells : (j q port : ℕ) (xs : List T) → source_in net j q ≡ Some (Output i port) → known_of answer port ≡ Some xs → MaySay facts (Sr s.tick.plan) kids inputs u.turns s.tag j q (Known xs)
+      heard-tells j q port xs f g =
+          Early j q i port (get_or kids i d) (inputs_of s.tick i) xs f (get-or-there kids i d (omega (arith, may.there, u.wide.kids_are))) (λ place. u.says i place) (if-known-some (partial_at answer port) xs g)
+
       pub calls-hear : Underway facts step before kids inputs d (after_heard i (facts.early s.tag (get_or now i d) (inputs_of s.tick i)) (listening i s)) now ls
       calls-hear =
           subst (λ j. Underway facts step before kids inputs d (after_heard i (facts.early s.tag j (inputs_of s.tick i)) (listening i s)) now ls) (sym (u.rests i may.there may.unfired).0)
@@ -453,6 +533,10 @@ module _ {T S : Type 0} (facts : Facts T S) (step : Stepping T S) (before : SrSt
             rests = u.rests;
             falls = λ j h. heard-less j h (cases_eq j i);
             heard = λ j h q c port e. heard-one j h q c port e (cases_eq j i);
+            turns = u.turns;
+            turned = λ j h f. turn-more facts step s.tag (get_or kids j d) (places_at net.places j V) (places_at net.places j heard-after) (get_or now j d) (log_at ls j) (u.turns j) (places-below net.places j V heard-after (grown i may.there (known_of answer) heard-says)) (u.turned j h f);
+            unturned = u.unturned;
+            says = λ j q. says-grown facts s.tick.plan kids inputs s.tag u.turns u.turns (λ n. inl refl) V i (known_of answer) u.channels u.says heard-tells j q;
           })
 
     pub calls-learn : (i : ℕ) → MayAnswer s.tick i → (early : List (Partial T)) → waits (after_heard i early (listening i s)) < waits s

@@ -7,6 +7,8 @@ pub mod OffsetLaws
 pub mod FeedLaws
 pub mod MarkLaws
 pub mod TickLaws
+pub mod SayLaws
 pub mod ChainLaws
+pub mod SoFarLaws
 pub mod Examples
 pub mod CoreLaws

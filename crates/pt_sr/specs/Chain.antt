@@ -5,10 +5,12 @@ use Rattle.pt_meaning.specs.Streams.{Streams, at, get}
 use Rattle.pt_meaning.specs.Log.{Log, LogBelow, silent, log_then, log_below, own}
 use Rattle.pt_meaning.specs.Machine.{second_token_code, causality_code, Fault, Outcome, Done, Stuck, Stepping, Facts, Partial, Unknown, Known, partial_at}
 use Rattle.pt_meaning.specs.Net.{Inside, Own, Output}
+use Rattle.pt_meaning.specs.Tree.{Sr}
 use Rattle.pt_meaning.specs.Valuation.{known, is_known}
 use Rattle.pt_meaning.specs.Sr.{sr_active, sr_turn, all_single, sr}
 use Rattle.pt_laws.specs.LogsOfRuns.{silents, logs_then, log_at, log_in}
 use Rattle.pt_laws.specs.TickRuns.{TickRun, FiredAt, IsWide}
+use Rattle.pt_laws.specs.Explained.{Turned, MaySay}
 use Rattle.pt_meaning.specs.Laws.{IsIn, KeepsEarly}
 use Rattle.pt_sr.specs.State.{SrState, TickState, MayFire, MayAnswer, HasNothing, HasTold, inputs_of, unknown_in, lent_of, own_of, begun, asked, listening, after_told, after_heard, waits}
 
@@ -29,8 +31,19 @@ AllFired s = (i : ℕ) → i < length s.plan.net.places → get_or s.fired i fal
 abbrev pub NothingComes : {T : Type 0} → TickState T → Type 0
 NothingComes s = (i : ℕ) → i < length s.plan.net.places → (get_or s.fired i false ≡ true) ⊎ HasNothing s i
 
+-- A child that began as c has made its one firing, on what is known of its inputs: it has come to z, and has logged l. The firing is told with what was logged within it.
+pub record HasTurn {T S : Type 0} (facts : Facts T S) (step : Stepping T S) (tag : Tag) (c : S) (vs : List (Partial T)) (z : S) (l : Log T) (ts : List (Turned T)) : Type 0 where
+  pub inputs : Streams T
+  pub outputs : Streams T
+  pub inside : Log T
+  pub on : known vs ≡ Some inputs
+  pub done : step tag c inputs ≡ Done z outputs inside
+  pub turn : ts ≡ record { record_of = record { number = facts.made c; tag = tag; inputs = inputs; outputs = outputs }; inside = inside } ∷ []
+  pub logged : l ≡ log_then inside (own (record { number = facts.made c; tag = tag; inputs = inputs; outputs = outputs }))
+
 -- A firing of the composite is under way, which began from the state `before` with these children: the core is in the state s, the children are now in the states now, and have logged ls.
 -- What is known comes of the reactions of the children, a child that has fired has told all, and one that was asked for an early answer has told what that answer tells. A child past the last is d.
+-- Each child has made one firing or none, and what is known of a place was given by its source in such a firing, or early.
 pub record Underway {T S : Type 0} (facts : Facts T S) (step : Stepping T S) (before : SrState T) (kids : List S) (inputs : Streams T) (d : S) (s : SrState T) (now : List S) (ls : List (Log T)) : Type 0 where
   pub keeps : KeepsEarly facts.early sr_active (sr_turn facts step)
   pub fitting : IsFor facts s kids
@@ -49,6 +62,10 @@ pub record Underway {T S : Type 0} (facts : Facts T S) (step : Stepping T S) (be
   pub falls : (i : ℕ) → i < length s.tick.plan.net.places → unknown_in (inputs_of s.tick i) ≤ get_or s.tick.heard i 0
   pub heard : (i : ℕ) → i < length s.tick.plan.net.places → get_or s.tick.heard i 0 ≤ unknown_in (inputs_of s.tick i) → (c port : ℕ) → get s.tick.plan.net.sources c ≡ Some (Output i port) →
       (is_known (partial_at s.tick.known c) ≡ true) ⊎ (partial_at (facts.early s.tag (get_or kids i d) (inputs_of s.tick i)) port ≡ Unknown)
+  pub turns : ℕ → List (Turned T)
+  pub turned : (i : ℕ) → i < length s.tick.plan.net.places → get_or s.tick.fired i false ≡ true → HasTurn facts step s.tag (get_or kids i d) (inputs_of s.tick i) (get_or now i d) (log_at ls i) (turns i)
+  pub unturned : (i : ℕ) → get_or s.tick.fired i false ≡ false → turns i ≡ []
+  pub says : (i q : ℕ) → MaySay facts (Sr s.tick.plan) kids inputs turns s.tag i q (partial_at (inputs_of s.tick i) q)
 
 -- the composite's firing of number n, at fuel k
 abbrev pub firing_from : {T S : Type 0} → Facts T S → Stepping T S → SrState T → List S → ℕ → Tag → Streams T → ℕ → Outcome T (Inside (Streams T) S)

@@ -7,3 +7,4 @@ pub mod Signals
 pub mod Tick
 pub mod Clauses
 pub mod Chain
+pub mod SoFar

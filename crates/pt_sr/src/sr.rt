@@ -53,11 +53,10 @@ impl Model for Core {
 }
 
 impl Core {
-    ghost use Rattle.std.specs.Prelude.{◌≡◌, ◌↔◌, ◌<◌, ◌≤◌, length, List, IfOk, IfSome, IsSome, IsTrue, OnOk, OnErr, Option, Some, None, true};
+    ghost use Rattle.std.specs.Prelude.{◌≡◌, ◌↔◌, ◌<◌, ◌≤◌, length, List, IfOk, IfSome, IsSome, IsTrue, OnOk, OnErr, Option, Some, None};
     ghost use Rattle.pt_meaning.specs.Basics as basics;
     ghost use Rattle.pt_meaning.specs.Tree as tree;
     ghost use Rattle.pt_meaning.specs.NodeFacts.{core_wake};
-    ghost use Rattle.pt_meaning.specs.Sr.{all_single};
     ghost use Rattle.pt_value.specs.declared.token.Token.{Token};
     ghost use Rattle.pt_sr.specs.State.{Idle, Open, Closed, asked_child, listened_child, lent_of, inputs_of, own_of, started, restarted, begun, after_told, after_heard, closed};
     ghost use Rattle.pt_sr.specs.Clauses.{MayAsk, IsAsked};
@@ -78,11 +77,10 @@ impl Core {
         })
     }
 
-    /// Begins a firing of the composite, which is one tick, on a list for each own input, of at most one token. After an `Err` the core is as before.
+    /// Begins a firing of the composite, which is one tick, on a list for each own input. After an `Err` the core is as before.
     pub fn begin(&mut self, alloc: Global, tag: Tag, inputs: &Inputs<'_>) -> Result<(), AllocError>
         requires idle { self.old.stage ≡ Idle }
         requires inputs { length inputs.now ≡ self.old.tick.plan.inputs }
-        requires single { all_single inputs.now ≡ true }
         ensures begun { OnOk result (self.new ≡ begun tag inputs.now self.old) }
         ensures kept { OnErr result (self.new ≡ self.old) }
     {
