@@ -4,7 +4,7 @@ use Rattle.std.proofs.Math.Path.{fun_ext}
 use Rattle.pt_meaning.specs.Tag.{Tag}
 use Rattle.pt_meaning.specs.Streams as values
 use Rattle.pt_meaning.specs.Streams.{IsPrefix, Streams, get}
-use Rattle.pt_meaning.specs.Log.{Path, Log, LogBelow, Firing, Event, Finished, firings_in, silent, log_then, log_below, within_firing, all_marked}
+use Rattle.pt_meaning.specs.Log.{Path, Log, Firing, Event, Finished, firings_in, silent, log_then, log_below, within_firing, all_marked}
 use Rattle.pt_meaning.specs.Machine.{Fault, Outcome, Stepping, Facts, Partial, Known, partial_at}
 use Rattle.pt_meaning.specs.Net.{Inside, Source, Own, Output}
 use Rattle.pt_meaning.specs.Meetings.{Meets, below_child}
@@ -35,7 +35,7 @@ use Rattle.pt_laws.proofs.LaterLaws.{later-below, later-nothing}
 use Rattle.pt_laws.proofs.LaterSteps.{later-at, composite-inside, none-there, logged}
 use Rattle.pt_laws.proofs.WholeSteps.{EndsOff, child-whole, whole-at}
 use Rattle.pt_laws.proofs.WholeMeaning.{log-behind}
-use Rattle.pt_records.specs.Shut.{HasCome, IsShut}
+use Rattle.pt_records.specs.Shut.{HasCome}
 use Rattle.pt_records.specs.Middle.{HasMade, IsLeft, IsLeftAt, MiddlesAreShut}
 use Rattle.pt_records.proofs.ShutSteps.{from-greater}
 

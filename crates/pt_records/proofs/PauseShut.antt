@@ -1,15 +1,14 @@
 -- Where a composite of any director may be left off: between two firings of its children, and within one.
-use Rattle.std.proofs.Common.{◌≡◌, ℕ, zero, suc, ◌+◌, ◌≤◌, ◌<◌, List, [], ◌∷◌, Bool, true, false, length, Option, Some, None, refl, sym, ap, ap₂, subst, arith, ◌∙◌, append-nil}
+use Rattle.std.proofs.Common.{◌≡◌, ℕ, zero, suc, ◌+◌, ◌<◌, List, [], ◌∷◌, Bool, true, false, length, Option, Some, None, refl, sym, ap, ap₂, subst, arith, ◌∙◌, append-nil}
 use Rattle.std.proofs.Math.Path.{fun_ext}
 use Rattle.pt_meaning.specs.Tag.{Tag}
 use Rattle.pt_meaning.specs.Streams.{Streams, get}
 use Rattle.pt_meaning.specs.Log.{Log, LogBelow, silent, log_then}
-use Rattle.pt_meaning.specs.Machine.{Fault, Facts}
+use Rattle.pt_meaning.specs.Machine.{Fault}
 use Rattle.pt_meaning.specs.Meetings.{Meets, below_child}
 use Rattle.pt_meaning.specs.Children.{Child, numbered, child_facts}
 use Rattle.pt_meaning.specs.Tree.{Rows, Core, Past, Node, Nodes, list_of, height, heights}
 use Rattle.pt_meaning.specs.NodeFacts.{facts_of}
-use Rattle.pt_meaning.specs.Step.{step_at}
 use Rattle.pt_meaning.specs.Asked as asked
 use Rattle.pt_meaning.specs.Closed.{Begun, is_modal, IsTagBelow}
 use Rattle.pt_laws.specs.CompositeRuns.{steps_below}
