@@ -1,0 +1,117 @@
+-- Where two directors are lawful, one of them is.
+use Rattle.std.proofs.Common.{◌≡◌, ℕ, List, length, not, Some, ap}
+use Rattle.pt_meaning.specs.Tag.{Tag}
+use Rattle.pt_meaning.specs.Streams.{Streams}
+use Rattle.pt_meaning.specs.Tree.{Rows, Node, list_of}
+use Rattle.pt_value.specs.declared.token.Token.{Token}
+use Rattle.pt_firing.specs.declared.ask.Ask.TheVariants.{Fire, Early, Finished}
+use Rattle.pt_records.specs.Kept.{Kept}
+use Rattle.pt_core.specs.declared.either.Either.{Either}
+use Rattle.pt_core.specs.declared.either.Either.TheVariants.{First, Other}
+use Rattle.pt_core.specs.Acts.{Beginning, Calls, Acts}
+use Rattle.pt_core.specs.Lawful.{CallsAgree, Middle, Lawful}
+use Rattle.pt_core.specs.EitherActs.{either_calls, begun_as, UnderwayFrom, either_acts}
+
+module _ {A B : Type 0} (a : Calls A) (b : Calls B) (la : CallsAgree a) (lb : CallsAgree b) where
+  abbrev c : Calls (Either A B)
+  c = either_calls a b
+
+  asked-one : (s : Either A B) (i : ℕ) (when : Tag) → c.Gives s (Fire i when) → c.asked_of (c.asking (Fire i when) s) ≡ Some i
+  asked-one (First s) i when q = la.asked s i when q
+  asked-one (Other s) i when q = lb.asked s i when q
+
+  listened-one : (s : Either A B) (i : ℕ) (when : Tag) → c.Gives s (Early i when) → c.listened_of (c.asking (Early i when) s) ≡ Some i
+  listened-one (First s) i when q = la.listened s i when q
+  listened-one (Other s) i when q = lb.listened s i when q
+
+  hands-one : (s : Either A B) (i : ℕ) → c.asked_of s ≡ Some i → c.MayLend (c.handed s) × (c.asked_of (c.handed s) ≡ Some i) × (c.lent_of (c.handed s) ≡ c.lent_of s)
+  hands-one (First s) i e = la.hands s i e
+  hands-one (Other s) i e = lb.hands s i e
+
+  on-one : (s : Either A B) (i : ℕ) → c.asked_of s ≡ Some i → (out : Streams Token) → (c.told i out (c.handed s) ≡ c.told i out s) × (c.accepts (c.handed s) i out ≡ c.accepts s i out) × (c.refusal (c.handed s) ≡ c.refusal s)
+  on-one (First s) i e out = let h = la.hands_on s i e out in (ap (λ v. First v) h.0, h.1, h.2)
+  on-one (Other s) i e out = let h = lb.hands_on s i e out in (ap (λ v. Other v) h.0, h.1, h.2)
+
+  tells-one : (s : Either A B) (i : ℕ) (out : Streams Token) → c.asked_of s ≡ Some i → c.is_wrong (c.told i out s) ≡ not (c.accepts s i out)
+  tells-one (First s) i out e = la.tells s i out e
+  tells-one (Other s) i out e = lb.tells s i out e
+
+  finishes-one : (s : Either A B) → c.Gives s Finished → c.MayFinish (c.asking Finished s)
+  finishes-one (First s) q = la.finishes s q
+  finishes-one (Other s) q = lb.finishes s q
+
+  restarts-one : (s : Either A B) → (c.core_of (c.restarted s) ≡ c.start_of s) × (c.start_of (c.restarted s) ≡ c.start_of s)
+  restarts-one (First s) = la.restarts s
+  restarts-one (Other s) = lb.restarts s
+
+  pub either-agrees : CallsAgree (either_calls a b)
+  either-agrees = record { asked = asked-one; listened = listened-one; hands = hands-one; hands_on = on-one; tells = tells-one; finishes = finishes-one; restarts = restarts-one }
+
+module _ {N A B : Type 0} {rows : Rows Token N} (a : Acts rows A) (b : Acts rows B) (la : Lawful a) (lb : Lawful b) where
+  abbrev e : Acts rows (Either A B)
+  e = either_acts a b
+
+  idle-one : (s : Either A B) (kids : List (Node Token N)) → e.Fits s kids → e.calls.IsIdle s
+  idle-one (First s) kids f = la.idle s kids f
+  idle-one (Other s) kids f = lb.idle s kids f
+
+  begins-from : (start : Beginning N (Either A B)) (before : Either A B) → e.Fits before (list_of start.kids) → e.calls.Takes before start.inputs → length (list_of start.kids) ≡ length start.olds →
+      UnderwayFrom a b start before (e.calls.begun start.tag start.inputs before) (list_of start.kids) start.olds
+  begins-from start (First f) fits takes o = la.begins (begun_as start f) fits takes o
+  begins-from start (Other f) fits takes o = lb.begins (begun_as start f) fits takes o
+
+  middle-from : (start : Beginning N (Either A B)) (before s : Either A B) (now : List (Node Token N)) (news : List (Kept Token)) → UnderwayFrom a b start before s now news → Middle e (begun_as start before) s now news
+  middle-from start (First f) (First s) now news u =
+      let m = la.middle (begun_as start f) s now news u in
+      record {
+        asks = m.asks;
+        usual = m.usual;
+        fires_one = m.fires_one;
+        lends = m.lends;
+        goes_on = m.goes_on;
+        refuses = m.refuses;
+        sticks = m.sticks;
+        listens = m.listens;
+        hears = m.hears;
+        learns = m.learns;
+        resets_one = m.resets_one;
+        resets = m.resets;
+        rests = m.rests;
+        ends = m.ends;
+        fits = m.fits;
+        faults = m.faults;
+        off = m.off;
+        off_within = m.off_within;
+      }
+  middle-from start (First f) (Other s) now news u = absurd u
+  middle-from start (Other f) (First s) now news u = absurd u
+  middle-from start (Other f) (Other s) now news u =
+      let m = lb.middle (begun_as start f) s now news u in
+      record {
+        asks = m.asks;
+        usual = m.usual;
+        fires_one = m.fires_one;
+        lends = m.lends;
+        goes_on = m.goes_on;
+        refuses = m.refuses;
+        sticks = m.sticks;
+        listens = m.listens;
+        hears = m.hears;
+        learns = m.learns;
+        resets_one = m.resets_one;
+        resets = m.resets;
+        rests = m.rests;
+        ends = m.ends;
+        fits = m.fits;
+        faults = m.faults;
+        off = m.off;
+        off_within = m.off_within;
+      }
+
+  pub either-is-lawful : Lawful (either_acts a b)
+  either-is-lawful = record {
+    agree = either-agrees a.calls b.calls la.agree lb.agree;
+    idle = idle-one;
+    begins = λ start fits takes o. begins-from start start.before fits takes o;
+    middle = λ start s now news u. middle-from start start.before s now news u;
+  }

@@ -1,0 +1,4 @@
+pub mod Acts
+pub mod Lawful
+pub mod Reached
+pub mod EitherActs
