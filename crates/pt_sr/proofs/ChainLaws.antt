@@ -71,7 +71,7 @@ unheard-at [] i h = absurd (omega (arith, h))
 unheard-at (n ∷ ns) zero h = refl
 unheard-at (n ∷ ns) (suc i) h = unheard-at ns i (omega (arith, h))
 
-total-set : (ns : List ℕ) (i n : ℕ) → i < length ns → n < get_or ns i 0 → total (set ns i n) < total ns
+pub total-set : (ns : List ℕ) (i n : ℕ) → i < length ns → n < get_or ns i 0 → total (set ns i n) < total ns
 total-set [] i n h l = absurd (omega (arith, h))
 total-set (m ∷ ns) zero n h l = omega (arith, l)
 total-set (m ∷ ns) (suc i) n h l = let t = total-set ns i n (omega (arith, h)) l in omega (arith, t)

@@ -10,5 +10,6 @@ pub mod TickLaws
 pub mod SayLaws
 pub mod ChainLaws
 pub mod SoFarLaws
+pub mod ActsLaws
 pub mod Examples
 pub mod CoreLaws

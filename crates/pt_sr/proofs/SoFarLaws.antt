@@ -10,14 +10,14 @@ use Rattle.pt_meaning.specs.Valuation.{TickPlan, known, known_then, valuation}
 use Rattle.pt_meaning.specs.Sr.{sr_active, sr_turn, all_single, sr}
 use Rattle.pt_meaning.specs.Running.{total}
 use Rattle.pt_meaning.specs.Meetings.{Meets, below_child}
-use Rattle.pt_meaning.specs.Children.{Child, numbered, nodes, child_facts, with_number}
+use Rattle.pt_meaning.specs.Children.{Child, numbered, child_facts, with_number}
 use Rattle.pt_meaning.specs.Tree.{Rows, Core, Sr, Past, Node, Nodes, Composite, none, list_of, nodes_of, made_of, fired_at, unfired, height, heights}
 use Rattle.pt_meaning.specs.NodeFacts.{facts_of, early_of}
 use Rattle.pt_meaning.specs.Step.{as_node, step_at, Step}
 use Rattle.pt_meaning.specs.Lawful.{LawfulRows}
 use Rattle.pt_meaning.specs.Asked.{known_places}
 use Rattle.pt_meaning.specs.Closed.{inputs_at}
-use Rattle.pt_meaning.specs.Laws.{IsIn, KnownBelow}
+use Rattle.pt_meaning.specs.Laws.{IsIn}
 use Rattle.pt_laws.specs.Channels.{source_in}
 use Rattle.pt_laws.specs.CompositeRuns.{steps_below}
 use Rattle.pt_laws.specs.Explained.{Turned, ChainOf, of_turns, gives_in, MaySay, IsTakenWell}
@@ -40,7 +40,7 @@ use Rattle.pt_records.proofs.GrowthLaws.{all-begin, all-go-on, grew-within, all-
 use Rattle.pt_records.proofs.PauseShut.{pauses-are-shut}
 use Rattle.pt_records.proofs.ShutSteps.{stepped-is-shut, at-own-place}
 use Rattle.pt_records.proofs.SoFarLaws.{numbered-at, numbered-set, numbered-nodes, low-get, low-set, low-kids, recorded-done}
-use Rattle.pt_sr.specs.State.{SrState, MayFire, MayAnswer, inputs_of, lent_of, own_of, begun, asked, listening, after_told, after_heard}
+use Rattle.pt_sr.specs.State.{SrState, MayFire, MayAnswer, inputs_of, lent_of, own_of, asked, listening, after_told, after_heard}
 use Rattle.pt_sr.specs.Chain.{IsFor, AllFired, NothingComes, HasTurn, Underway}
 use Rattle.pt_sr.specs.SoFar.{SrSoFar, sr_node, sr_outcome, SrBegins, SrGoesOn, SrHears, SrIsDone, SrLacks, SrIsStuck, SrGivesTwo, SrIsLeftOff, SrIsLeftOffWithin}
 use Rattle.pt_sr.proofs.KnownLaws.{all-known, places-below}

@@ -8,3 +8,4 @@ pub mod Tick
 pub mod Clauses
 pub mod Chain
 pub mod SoFar
+pub mod SrActs

@@ -1,5 +1,5 @@
 -- An SR composite of a tree in the middle of a firing, as an engine has it that fires the children by what the core asks for: what they have done so far, and what is kept of them.
-use Rattle.std.specs.Prelude.{◌≡◌, ℕ, ◌<◌, List, [], ◌∷◌, false, true, length, get_or, set, Option, Some, None}
+use Rattle.std.specs.Prelude.{◌≡◌, ℕ, ◌<◌, List, [], ◌∷◌, false, true, length, get_or, set, Some, None}
 use Rattle.pt_meaning.specs.Tag.{Tag}
 use Rattle.pt_meaning.specs.Streams.{Streams, get}
 use Rattle.pt_meaning.specs.Log.{Log}

@@ -1,6 +1,7 @@
 //! The core of the SR director: which child reacts next within a tick, and what is known of each channel.
 #![tactic(auto)]
 
+mod acts;
 mod chain;
 mod feeds;
 mod given;
@@ -12,6 +13,7 @@ mod sr;
 mod tick;
 mod worklist;
 
+pub use acts::sr_is_lawful;
 pub use chain::calls_are_sr;
 pub use plan::{CorePlan, Source};
 pub use so_far::{
