@@ -14,3 +14,4 @@ pub mod OutletLaws
 pub mod SoundLaws
 pub mod TableLaws
 pub mod UnfedLaws
+pub mod ActsLaws

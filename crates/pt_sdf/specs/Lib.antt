@@ -9,3 +9,4 @@ pub mod Rooms
 pub mod Lanes
 pub mod Core
 pub mod Chain
+pub mod SdfActs

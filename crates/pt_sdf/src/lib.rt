@@ -1,6 +1,7 @@
 //! The SDF director: it says which child fires next, lends it its inputs and takes what it gave.
 #![tactic(auto)]
 
+mod acts;
 mod chain;
 mod feeds;
 mod gather;
@@ -17,6 +18,7 @@ mod tables;
 mod turns;
 mod unfed;
 
+pub use acts::sdf_is_lawful;
 pub use chain::calls_are_sdf;
 pub use plan::{CorePlan, Source};
 pub use sdf::Core;
