@@ -1,1 +1,2 @@
 pub mod EitherLaws
+pub mod ReachedLaws

@@ -1,6 +1,8 @@
 //! What a driver knows of a director, whichever it is: what its calls do to its states, and the laws of these calls.
 #![tactic(auto)]
 
+mod calls;
 mod either;
 
+pub use calls::Core;
 pub use either::Either;
