@@ -32,6 +32,10 @@ module _ {A B : Type 0} (a : Calls A) (b : Calls B) (la : CallsAgree a) (lb : Ca
   on-one (First s) i e out = let h = la.hands_on s i e out in (ap (λ v. First v) h.0, h.1, h.2)
   on-one (Other s) i e out = let h = lb.hands_on s i e out in (ap (λ v. Other v) h.0, h.1, h.2)
 
+  asks-one : (s : Either A B) (i : ℕ) (out : Streams Token) → c.asked_of s ≡ Some i → c.MayAsk (c.told i out s)
+  asks-one (First s) i out e = la.asks_on s i out e
+  asks-one (Other s) i out e = lb.asks_on s i out e
+
   tells-one : (s : Either A B) (i : ℕ) (out : Streams Token) → c.asked_of s ≡ Some i → c.is_wrong (c.told i out s) ≡ not (c.accepts s i out)
   tells-one (First s) i out e = la.tells s i out e
   tells-one (Other s) i out e = lb.tells s i out e
@@ -45,7 +49,7 @@ module _ {A B : Type 0} (a : Calls A) (b : Calls B) (la : CallsAgree a) (lb : Ca
   restarts-one (Other s) = lb.restarts s
 
   pub either-agrees : CallsAgree (either_calls a b)
-  either-agrees = record { asked = asked-one; listened = listened-one; hands = hands-one; hands_on = on-one; tells = tells-one; finishes = finishes-one; restarts = restarts-one }
+  either-agrees = record { asked = asked-one; listened = listened-one; hands = hands-one; hands_on = on-one; asks_on = asks-one; tells = tells-one; finishes = finishes-one; restarts = restarts-one }
 
 module _ {N A B : Type 0} {rows : Rows Token N} (a : Acts rows A) (b : Acts rows B) (la : Lawful a) (lb : Lawful b) where
   abbrev e : Acts rows (Either A B)

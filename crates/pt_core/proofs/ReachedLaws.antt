@@ -1,5 +1,5 @@
 -- What a node becomes: a library actor one that its steps lead to, and a composite one of the same director, which needs what it needed.
-use Rattle.std.proofs.Common.{◌≡◌, ◌⊎◌, inl, inr, ℕ, zero, suc, List, [], ◌∷◌, Option, Some, None, refl, sym, ap, subst, ◌∙◌}
+use Rattle.std.proofs.Common.{◌≡◌, ◌⊎◌, inl, inr, ℕ, zero, suc, List, [], ◌∷◌, Option, Some, refl, sym, ap, subst, ◌∙◌}
 use Rattle.pt_meaning.specs.Tag.{Tag}
 use Rattle.pt_meaning.specs.Streams.{Streams}
 use Rattle.pt_meaning.specs.Log.{Log}
@@ -7,10 +7,10 @@ use Rattle.pt_meaning.specs.Machine.{Outcome, Done, Stuck}
 use Rattle.pt_meaning.specs.Meetings.{Meets}
 use Rattle.pt_meaning.specs.Tree.{Answer, Gives, Fails, Rows, Core, Sdf, Pn, Sr, De, Rv, Modal, Past, Node, Nodes, Actor, Composite, nodes_of, fired_at, forgotten, reset_of, reset_all}
 use Rattle.pt_meaning.specs.NodeFacts.{core_need, need_of}
-use Rattle.pt_meaning.specs.Children.{Child, nodes}
+use Rattle.pt_meaning.specs.Children.{nodes}
 use Rattle.pt_meaning.specs.Step.{actor_outcome, step_at}
 use Rattle.pt_meaning.specs.Closed.{on_answer}
-use Rattle.pt_laws.proofs.FiringLaws.{DoneWithin, done-within}
+use Rattle.pt_laws.proofs.FiringLaws.{done-within}
 use Rattle.pt_core.specs.Reached.{Becomes, Stays, Fires, Resets, Always}
 
 module _ {T A : Type 0} (rows : Rows T A) where

@@ -55,7 +55,8 @@ pub record CallsAgree {C : Type 0} (c : Calls C) : Type 0 where
   -- once its inputs are handed over they may be lent, and all else is as it was
   pub hands : (s : C) (i : ℕ) → c.asked_of s ≡ Some i → c.MayLend (c.handed s) × (c.asked_of (c.handed s) ≡ Some i) × (c.lent_of (c.handed s) ≡ c.lent_of s)
   pub hands_on : (s : C) (i : ℕ) → c.asked_of s ≡ Some i → (out : Streams Token) → (c.told i out (c.handed s) ≡ c.told i out s) × (c.accepts (c.handed s) i out ≡ c.accepts s i out) × (c.refusal (c.handed s) ≡ c.refusal s)
-  -- it tells whether it accepted what the child gave
+  -- it may be asked again once it was told what the child gave, and tells whether it accepted that
+  pub asks_on : (s : C) (i : ℕ) (out : Streams Token) → c.asked_of s ≡ Some i → c.MayAsk (c.told i out s)
   pub tells : (s : C) (i : ℕ) (out : Streams Token) → c.asked_of s ≡ Some i → c.is_wrong (c.told i out s) ≡ not (c.accepts s i out)
   -- where it is finished the own outputs may be handed out
   pub finishes : (s : C) → c.Gives s Finished → c.MayFinish (c.asking Finished s)

@@ -42,6 +42,7 @@ pub trait Core: Sized {
 
     /// Whether the core doesn't accept what the child told last gave.
     fn is_wrong(&self) -> bool
+        requires { calls.MayAsk self.now }
         ensures { result ≡ calls.is_wrong self.now };
 
     /// The fault of a child that gives what isn't accepted.

@@ -109,6 +109,10 @@ asks-front facts i (n ∷ ns) (c ∷ cs) (m ∷ ms) [] held got left s a e = abs
 open-not-wrong : {T : Type 0} (stage : Stage T) (child : ℕ) → stage ≡ Open → stage ≡ Wrong child → ⊥
 open-not-wrong stage child o w = absurd (cc)
 
+told-asks : (b : Bool) (i : ℕ) (out : Streams Token) (s : State) → MayAsk (if_told b i out s).stage
+told-asks true i out s = tt
+told-asks false i out s = tt
+
 told-wrong : (b : Bool) (i : ℕ) (out : Streams Token) (s : State) → is_wrong (if_told b i out s).stage ≡ not b
 told-wrong true i out s = refl
 told-wrong false i out s = refl
@@ -292,6 +296,7 @@ module _ {A : Type 0} (rows : Rows Token A) where
       listened = λ s i when q. absurd q;
       hands = λ s i e. hands-one s.stage i e;
       hands_on = λ s i e out. (told-handed (has_rates (get_or s.plan.rates i []) out) i out s, refl, refl);
+      asks_on = λ s i out q. told-asks (has_rates (get_or s.plan.rates i []) out) i out s;
       tells = λ s i out q. told-wrong (has_rates (get_or s.plan.rates i []) out) i out s;
       finishes = λ s q. refl;
       restarts = λ s. (refl, refl);

@@ -3,6 +3,7 @@
 
 mod acts;
 mod chain;
+mod driven;
 mod feeds;
 mod gather;
 mod lanes;

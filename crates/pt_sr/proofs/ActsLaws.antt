@@ -81,6 +81,10 @@ dropped-long m n xs h = omega (arith, h, length-drop m xs)
 open-not-wrong : (stage : Stage) (child : ℕ) → stage ≡ Open → stage ≡ Wrong child → ⊥
 open-not-wrong stage child o w = absurd (cc)
 
+told-asks : (b : Bool) (i : ℕ) (out : Streams Token) (s : State) → MayAsk (if_told b i out s).stage
+told-asks true i out s = tt
+told-asks false i out s = tt
+
 told-wrong : (b : Bool) (i : ℕ) (out : Streams Token) (s : State) → is_wrong (if_told b i out s).stage ≡ not b
 told-wrong true i out s = refl
 told-wrong false i out s = refl
@@ -212,6 +216,7 @@ module _ {A : Type 0} (rows : Rows Token A) (law : LawfulRows rows) where
       listened = λ s i when q. refl;
       hands = λ s i e. (subst (λ v. IsSome v) (sym e) refl, e, refl);
       hands_on = λ s i e out. (refl, refl, refl);
+      asks_on = λ s i out q. told-asks (all_single out) i out s;
       tells = λ s i out q. told-wrong (all_single out) i out s;
       finishes = λ s q. refl;
       restarts = λ s. (refl, refl);

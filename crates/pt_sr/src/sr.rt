@@ -60,6 +60,7 @@ impl Core {
     ghost use Rattle.pt_value.specs.declared.token.Token.{Token};
     ghost use Rattle.pt_sr.specs.State.{Idle, Open, Closed, asked_child, listened_child, lent_of, inputs_of, own_of, started, restarted, begun, after_told, after_heard, closed};
     ghost use Rattle.pt_sr.specs.Clauses.{MayAsk, IsAsked};
+    ghost use Rattle.pt_sr.specs.SrActs.{is_wrong};
     ghost use Rattle.pt_sr.specs.Plan.{plan_of, IsLawful};
 
     /// A core of this plan.
@@ -219,6 +220,13 @@ impl Core {
             tag: self.tag,
             stage: self.stage,
         })
+    }
+
+    /// Whether the child told last gave two tokens on one port.
+    pub fn is_wrong(&self) -> bool
+        ensures { result ≡ is_wrong self.now.stage }
+    {
+        matches!(self.stage, Stage::Wrong(_))
     }
 
     /// Whether no firing of the composite is under way.

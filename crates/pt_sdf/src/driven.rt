@@ -1,0 +1,55 @@
+ghost use Rattle.pt_sdf.specs.SdfActs.{sdf_calls};
+
+use crate::sdf::Core;
+use pt_core::Core as Driven;
+use pt_firing::{Ask, Inputs, Outputs, Partial, RunFault};
+use pt_time::Tag;
+use std::alloc::{AllocError, Global};
+
+impl Driven for Core {
+    ghost calls = { sdf_calls };
+
+    fn begin(&mut self, alloc: Global, tag: Tag, inputs: &Inputs<'_>) -> Result<(), AllocError> {
+        self.begin(alloc, tag, inputs)
+    }
+
+    fn ask(&mut self) -> Ask {
+        self.ask()
+    }
+
+    fn hand(&mut self) {
+        self.hand();
+    }
+
+    fn lent(&self) -> Inputs<'_> {
+        self.lent()
+    }
+
+    fn told(&mut self, alloc: Global, child: u32, outputs: Outputs) -> Result<(), AllocError> {
+        self.told(alloc, child, outputs)
+    }
+
+    fn is_wrong(&self) -> bool {
+        self.is_wrong()
+    }
+
+    fn refusal(&self) -> RunFault {
+        RunFault::Rate
+    }
+
+    fn partial(&self, _alloc: Global) -> Result<Partial, AllocError> {
+        unreachable!()
+    }
+
+    fn hears(&mut self, _alloc: Global, _child: u32, _early: &Partial) -> Result<(), AllocError> {
+        unreachable!()
+    }
+
+    fn finish(&mut self, alloc: Global) -> Result<Outputs, AllocError> {
+        self.finish(alloc)
+    }
+
+    fn reset(&mut self, alloc: Global) -> Result<(), AllocError> {
+        self.reset(alloc)
+    }
+}

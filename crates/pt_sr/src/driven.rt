@@ -1,0 +1,54 @@
+ghost use Rattle.pt_sr.specs.SrActs.{sr_calls};
+
+use crate::sr::Core;
+use pt_core::Core as Driven;
+use pt_firing::{Ask, Inputs, Outputs, Partial, RunFault};
+use pt_time::Tag;
+use std::alloc::{AllocError, Global};
+
+impl Driven for Core {
+    ghost calls = { sr_calls };
+
+    fn begin(&mut self, alloc: Global, tag: Tag, inputs: &Inputs<'_>) -> Result<(), AllocError> {
+        self.begin(alloc, tag, inputs)
+    }
+
+    fn ask(&mut self) -> Ask {
+        self.ask()
+    }
+
+    fn hand(&mut self) {}
+
+    fn lent(&self) -> Inputs<'_> {
+        self.lent()
+    }
+
+    fn told(&mut self, alloc: Global, child: u32, outputs: Outputs) -> Result<(), AllocError> {
+        self.told(alloc, child, outputs)
+    }
+
+    fn is_wrong(&self) -> bool {
+        self.is_wrong()
+    }
+
+    fn refusal(&self) -> RunFault {
+        RunFault::SecondToken
+    }
+
+    fn partial(&self, alloc: Global) -> Result<Partial, AllocError> {
+        self.partial(alloc)
+    }
+
+    fn hears(&mut self, alloc: Global, child: u32, early: &Partial) -> Result<(), AllocError> {
+        self.hears(alloc, child, early)
+    }
+
+    fn finish(&mut self, alloc: Global) -> Result<Outputs, AllocError> {
+        self.finish(alloc)
+    }
+
+    fn reset(&mut self, _alloc: Global) -> Result<(), AllocError> {
+        self.reset();
+        Ok(())
+    }
+}
