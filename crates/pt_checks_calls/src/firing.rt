@@ -185,7 +185,8 @@ fn show_state(state: &TriState, out: &mut Answer) -> Result<(), AllocError> {
     }
 }
 
-fn show_places(alloc: Global, partial: &Partial, out: &mut Answer) -> Result<(), AllocError> {
+/// How many places there are, and what is known of each.
+pub fn show_places(alloc: Global, partial: &Partial, out: &mut Answer) -> Result<(), AllocError> {
     out.number(alloc, partial.places() as i128);
     out.text(":");
     for place in 0..partial.places() {

@@ -30,7 +30,8 @@ pub fn answer(
 
 const START: Tag = Tag { time: 0, step: 0 };
 
-fn params(alloc: Global, written: &str) -> Result<Params, AllocError> {
+/// What an actor is started from.
+pub fn params(alloc: Global, written: &str) -> Result<Params, AllocError> {
     let values = values(alloc, part(written, "values"))?;
     let ports = ports(alloc, part(written, "ports"))?;
     Ok(Params {

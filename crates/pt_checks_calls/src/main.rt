@@ -13,6 +13,7 @@ mod printed_expressions;
 mod rates;
 mod receivers;
 mod tags;
+mod time_library;
 mod traces;
 mod types;
 mod values;
@@ -61,12 +62,13 @@ fn answer_about_dataflow(
         "firing.txt" => firing::answer(alloc, section, question, out),
         "parameters.txt" => parameters::answer(alloc, section, question, out),
         "flow_library.txt" => flow_library::answer(alloc, section, question, out),
+        "time_library.txt" => time_library::answer(alloc, section, question, out),
         "traces.txt" => traces::answer(alloc, section, question, out),
         _ => out.no_such_section(),
     }
 }
 
-const TABLES: [&str; 15] = [
+const TABLES: [&str; 16] = [
     "values.txt",
     "types.txt",
     "parsing.txt",
@@ -81,6 +83,7 @@ const TABLES: [&str; 15] = [
     "firing.txt",
     "parameters.txt",
     "flow_library.txt",
+    "time_library.txt",
     "traces.txt",
 ];
 

@@ -1,8 +1,8 @@
-//! Numbers and tokens as tables write them: `7`, `true`, and arrays of integers without blanks, as `{1,2}`.
+//! Numbers and tokens as tables write them: `7`, `true`, words as `"or"`, and arrays of integers without blanks, as `{1,2}`.
 
 use pt_firing::{Outputs, Tokens};
 use pt_table::{Answer, each, each_plain};
-use pt_value::{Items, Token, print};
+use pt_value::{Items, Text, Token, print};
 use std::alloc::{AllocError, Global};
 
 /// What stands behind a name among parts between semicolons: `inputs 1; outputs 0`. Nothing where no part has the name.
@@ -36,7 +36,7 @@ pub fn integer(written: &str) -> i64 {
     written.trim().parse::<i64>().unwrap_or(0)
 }
 
-/// A token that is no array.
+/// A number or a truth value.
 fn plain(word: &str) -> Token {
     match word {
         "true" => Token::Bool(true),
@@ -52,7 +52,10 @@ pub fn token(alloc: Global, word: &str) -> Result<Token, AllocError> {
             let items = each_plain(alloc, rest.trim_end_matches('}'), ",", plain)?;
             Ok(Token::Array(Items::of(items)))
         }
-        None => Ok(plain(word)),
+        None => match word.strip_prefix('"') {
+            Some(rest) => Ok(Token::Text(Text::of(alloc, rest.trim_end_matches('"'))?)),
+            None => Ok(plain(word)),
+        },
     }
 }
 
