@@ -19,8 +19,10 @@ use Rattle.pt_lib_flow.specs.FlowActor as flow_actor
 use Rattle.pt_lib_data.specs.declared.function.Class.{Class as DataClass}
 use Rattle.pt_lib_data.specs.Function as function
 use Rattle.pt_lib_data.specs.DataActor as data_actor
+use Rattle.pt_lib_time.specs.declared.time_actor.Class.{Class as TimeClass}
+use Rattle.pt_lib_time.specs.TimeActor as time_actor
 use Rattle.pt_library.specs.LibraryActor.{start}
-use Rattle.pt_library.specs.declared.library_actor.LibraryActor.TheVariants.{Flow, Data}
+use Rattle.pt_library.specs.declared.library_actor.LibraryActor.TheVariants.{Flow, Data, Time}
 use Rattle.std.specs.Option.{option_or}
 use Rattle.pt_node.specs.Recorded.{RecordedPort}
 use Rattle.pt_node.specs.Shown.{Shown, AllShown, Branch, none, more, list_of}
@@ -50,7 +52,9 @@ no-start : (params : Params) → IsTrue (is_composite_class params.class) → st
 no-start params passes =
     let of-flow : flow_actor.start params ≡ None = ap (λ (c : Option Class). flow_actor.start_in c params) (no-class flow_actor.class_of refl refl params.class passes) in
     let of-data : data_actor.start params.class params.values params.ports ≡ None = ap (λ (c : Option DataClass). data_actor.start_in c params.values params.ports) (no-class function.class_of refl refl params.class passes) in
-    ap (λ o. option_or (option_map Flow o) (option_map Data (data_actor.start params.class params.values params.ports))) of-flow ∙ ap (λ o. option_or None (option_map Data o)) of-data
+    let of-time : time_actor.start params ≡ None = ap (λ (c : Option TimeClass). time_actor.start_in c params) (no-class time_actor.class_of refl refl params.class passes) in
+    ap (λ o. option_or (option_map Flow o) (option_or (option_map Data (data_actor.start params.class params.values params.ports)) (option_map Time (time_actor.start params)))) of-flow
+    ∙ ap (λ o. option_or (option_map Data o) (option_map Time (time_actor.start params))) of-data ∙ ap (option_map Time) of-time
 
 pub childless : (net : Net) (starts : Starts) → IsNested (net_view net) → AreStartedByClass net starts → AreChildless net starts
 childless net starts nested started k e a at is o d there = of-parent d.parent refl

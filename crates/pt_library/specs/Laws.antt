@@ -9,14 +9,20 @@ use Rattle.pt_lib_data.specs.Function as function
 use Rattle.pt_lib_data.specs.Laws.{AreGiven}
 use Rattle.pt_flow_base.specs.declared.params.Params.{Params}
 use Rattle.pt_lib_flow.specs.FlowActor as flow_actor
+use Rattle.pt_lib_time.specs.TimeActor as time_actor
 use Rattle.pt_flow_base.specs.Rates.{IsCount, IsCounted}
 use Rattle.pt_library.specs.declared.library_actor.LibraryActor.{LibraryActor}
 use Rattle.pt_library.specs.LibraryActor.{is_steady, need, rates, step, start}
 use Rattle.pt_library.specs.Steady.{IsSteadyActor}
 
--- a class of one library is none of the other
+-- a class of one library is none of another
+pub record IsOfOneLibrary (name : List ℕ) : Type 0 where
+  pub flow_or_data : IsSome (flow_actor.class_of name) → function.class_of name ≡ None
+  pub flow_or_time : IsSome (flow_actor.class_of name) → time_actor.class_of name ≡ None
+  pub data_or_time : IsSome (function.class_of name) → time_actor.class_of name ≡ None
+
 abbrev pub ClassesAreOfOneLibrary : Type 0
-ClassesAreOfOneLibrary = (name : List ℕ) → IsSome (flow_actor.class_of name) → function.class_of name ≡ None
+ClassesAreOfOneLibrary = (name : List ℕ) → IsOfOneLibrary name
 
 -- an actor that its library tells to be steady is so, whatever it fires
 abbrev pub ToldActorsAreSteady : Type 0

@@ -8,7 +8,7 @@ pub fn rows_are_lawful()
     ensures { LawfulRows rows }
 {}
 
-/// A class of one library is none of the other.
+/// A class of one library is none of another.
 pub fn classes_are_of_one_library()
     ensures { ClassesAreOfOneLibrary }
 {}

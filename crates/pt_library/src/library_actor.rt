@@ -9,6 +9,7 @@ use pt_firing::{Actor, Counts, Fires, Inputs, IntInputs, Need, Partial, Step};
 use pt_flow_base::Params;
 use pt_lib_data::DataActor;
 use pt_lib_flow::FlowActor;
+use pt_lib_time::TimeActor;
 use pt_time::Tag;
 use pt_value::Token;
 use std::alloc::{AllocError, Global};
@@ -18,6 +19,7 @@ use std::alloc::{AllocError, Global};
 pub enum LibraryActor {
     Flow(FlowActor),
     Data(DataActor),
+    Time(TimeActor),
 }
 
 /// The same code for whichever library the actor is of.
@@ -26,6 +28,7 @@ macro_rules! of_library {
         match $held {
             LibraryActor::Flow($actor) => $code,
             LibraryActor::Data($actor) => $code,
+            LibraryActor::Time($actor) => $code,
         }
     };
 }
@@ -49,8 +52,16 @@ impl LibraryActor {
         if let Some(actor) = FlowActor::started(alloc, params)? {
             return Ok(Some(LibraryActor::Flow(actor)));
         }
-        match DataActor::started(alloc, params.class.as_str(), &params.values, &params.ports)? {
-            Some(actor) => Ok(Some(LibraryActor::Data(actor))),
+        if let Some(actor) = DataActor::started(
+            alloc,
+            params.class.as_str(),
+            &params.values,
+            &params.ports,
+        )? {
+            return Ok(Some(LibraryActor::Data(actor)));
+        }
+        match TimeActor::started(alloc, params)? {
+            Some(actor) => Ok(Some(LibraryActor::Time(actor))),
             None => Ok(None),
         }
     }
@@ -63,6 +74,7 @@ impl LibraryActor {
         match self {
             LibraryActor::Flow(actor) => flow_rates(alloc, actor),
             LibraryActor::Data(actor) => Ok(Some(actor.rates(alloc)?)),
+            LibraryActor::Time(_) => Ok(None),
         }
     }
 
@@ -80,7 +92,7 @@ impl LibraryActor {
     {
         match self {
             LibraryActor::Flow(actor) => actor.number(inputs),
-            LibraryActor::Data(_) => None,
+            LibraryActor::Data(_) | LibraryActor::Time(_) => None,
         }
     }
 
@@ -91,7 +103,7 @@ impl LibraryActor {
     {
         match self {
             LibraryActor::Flow(actor) => actor.numbers(inputs, given),
-            LibraryActor::Data(_) => false,
+            LibraryActor::Data(_) | LibraryActor::Time(_) => false,
         }
     }
 }
@@ -113,6 +125,7 @@ impl Fires for LibraryActor {
         Ok(match self {
             LibraryActor::Flow(actor) => LibraryActor::Flow(actor.copy(alloc)?),
             LibraryActor::Data(actor) => LibraryActor::Data(actor.copy(alloc)?),
+            LibraryActor::Time(actor) => LibraryActor::Time(actor.copy(alloc)?),
         })
     }
 }

@@ -20,8 +20,10 @@ use Rattle.pt_lib_flow.specs.FlowActor as flow_actor
 use Rattle.pt_lib_data.specs.declared.function.Class.{Class as DataClass}
 use Rattle.pt_lib_data.specs.Function as function
 use Rattle.pt_lib_data.specs.DataActor as data_actor
+use Rattle.pt_lib_time.specs.declared.time_actor.Class.{Class as TimeClass}
+use Rattle.pt_lib_time.specs.TimeActor as time_actor
 use Rattle.pt_library.specs.declared.library_actor.LibraryActor.{LibraryActor}
-use Rattle.pt_library.specs.declared.library_actor.LibraryActor.TheVariants.{Flow, Data}
+use Rattle.pt_library.specs.declared.library_actor.LibraryActor.TheVariants.{Flow, Data, Time}
 use Rattle.pt_library.specs.LibraryActor.{start}
 use Rattle.pt_node.specs.View.{Tree}
 use Rattle.pt_trees.specs.Trees.{Starts, StartsAs, IsEntity, IsSdf, has_sdf, IsTree, of_actor, of_sdf, AreTrees, no_trees, more_trees}
@@ -46,7 +48,9 @@ no-start : (params : Params) → is_composite_class params.class ≡ true → st
 no-start params passes =
     let of-flow : flow_actor.start params ≡ None = ap (λ (c : Option Class). flow_actor.start_in c params) (no-class flow_actor.class_of refl refl params.class passes) in
     let of-data : data_actor.start params.class params.values params.ports ≡ None = ap (λ (c : Option DataClass). data_actor.start_in c params.values params.ports) (no-class function.class_of refl refl params.class passes) in
-    ap (λ o. option_or (option_map Flow o) (option_map Data (data_actor.start params.class params.values params.ports))) of-flow ∙ ap (λ o. option_or None (option_map Data o)) of-data
+    let of-time : time_actor.start params ≡ None = ap (λ (c : Option TimeClass). time_actor.start_in c params) (no-class time_actor.class_of refl refl params.class passes) in
+    ap (λ o. option_or (option_map Flow o) (option_or (option_map Data (data_actor.start params.class params.values params.ports)) (option_map Time (time_actor.start params)))) of-flow
+    ∙ ap (λ o. option_or (option_map Data o) (option_map Time (time_actor.start params))) of-data ∙ ap (option_map Time) of-time
 
 -- a class that is no composite's is one of actors
 pub actor-kind : (class : List ℕ) (kind : Kind) → kind_of class ≡ Some kind → is_composite_class class ≡ false → (row : ClassRow) × (kind_of class ≡ Some (Actor row))

@@ -9,8 +9,9 @@ use Rattle.pt_value.specs.declared.token.Token.{Token}
 use Rattle.pt_datatypes.specs.Datatype.{Datatype}
 use Rattle.pt_lib_flow.specs.FlowActor as flow_actor
 use Rattle.pt_lib_data.specs.DataActor as data_actor
+use Rattle.pt_lib_time.specs.TimeActor as time_actor
 use Rattle.pt_library.specs.declared.library_actor.LibraryActor.{LibraryActor}
-use Rattle.pt_library.specs.declared.library_actor.LibraryActor.TheVariants.{Flow, Data}
+use Rattle.pt_library.specs.declared.library_actor.LibraryActor.TheVariants.{Flow, Data, Time}
 use Rattle.pt_library.specs.LibraryActor.{step, held_as, first}
 use Rattle.pt_library.specs.Steady.{after}
 use Rattle.pt_typed.specs.Signature.{AreOf, AreAllOf}
@@ -18,6 +19,7 @@ use Rattle.pt_typed.specs.TokenTypes.{IsTokenOf}
 use Rattle.pt_typed.specs.TypedActor.{Types, MeetsRow, AreTypedFirings, IsTypedActor}
 use Rattle.pt_typed.proofs.FlowActorLaws as flows
 use Rattle.pt_typed.proofs.DataLaws as functions
+use Rattle.pt_typed.proofs.TimeActorLaws as signals
 
 was-held : {S : Type 0} (wrap : S → LibraryActor) (r : Answer Token S) (c : LibraryActor) (out : Streams Token) → held_as wrap r ≡ Gives c out → (b : S) × (r ≡ Gives b out) × (c ≡ wrap b)
 was-held wrap (Gives b o) c out e =
@@ -36,11 +38,16 @@ row-keeps s (Data a) b tag X out h i e =
     let w = was-held Data (data_actor.step tag a X) b out e in
     let k = functions.data-keeps s.places s.outputs a w.0 tag X out h i w.1 in
     (k.0, subst (λ c. MeetsRow s c) (sym w.2) k.1)
+row-keeps s (Time a) b tag X out h i e =
+    let w = was-held Time (time_actor.step tag a X) b out e in
+    let k = signals.time-keeps s.places s.outputs a w.0 tag X out h i.1 w.1 in
+    (k.0, subst (λ c. MeetsRow s c) (sym w.2) k.1)
 
 -- its first tokens are of the type of each of its outputs
 pub first-tokens : (s : Types) (a : LibraryActor) (n : ℕ) (u : Datatype) → MeetsRow s a → get s.outputs n ≡ Some u → AllByRecursion (IsTokenOf u) (first a)
 first-tokens s (Flow a) n u h e = flows.first-of s.places s.outputs a n u h e
 first-tokens s (Data a) n u h e = tt
+first-tokens s (Time a) n u h e = tt
 
 on-answer-meets : (s : Types) (more : LibraryActor → Option LibraryActor) (r : Answer Token LibraryActor) (b : LibraryActor) → ((c : LibraryActor) (out : Streams Token) → r ≡ Gives c out → more c ≡ Some b → MeetsRow s b) → on_answer more r ≡ Some b → MeetsRow s b
 on-answer-meets s more (Gives c out) b h e = h c out refl e

@@ -64,6 +64,14 @@ pub delay-values : (name : List ℕ) → is_evaluated (form_of (codes "SampleDel
 unfolding form_of forms
 delay-values name = values-in forms (codes "SampleDelay") name refl
 
+pub non-strict-delay-values : (name : List ℕ) → is_evaluated (form_of (codes "NonStrictDelay") name) ≡ true
+unfolding form_of forms
+non-strict-delay-values name = values-in forms (codes "NonStrictDelay") name refl
+
+pub pre-values : (name : List ℕ) → is_evaluated (form_of (codes "Pre") name) ≡ true
+unfolding form_of forms
+pre-values name = values-in forms (codes "Pre") name refl
+
 expression-tree : form_of (codes "Expression") (codes "expression") ≡ form.Tree
 unfolding form_of forms
 expression-tree = refl

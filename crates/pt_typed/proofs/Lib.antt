@@ -6,6 +6,7 @@ pub mod TypeLaws
 pub mod RecordLaws
 pub mod DataLaws
 pub mod FlowActorLaws
+pub mod TimeActorLaws
 pub mod ActorLaws
 pub mod TypedRunLaws
 pub mod NetLaws
@@ -14,10 +15,12 @@ pub mod TreeLaws
 pub mod Examples
 pub mod FlowStarts
 pub mod DataStarts
+pub mod TimeStarts
 pub mod PortFacts
 pub mod ClassPorts
 pub mod FlowClasses
 pub mod DataClasses
+pub mod TimeClasses
 pub mod RowsMet
 pub mod TypedNets
 pub mod SeedLaws

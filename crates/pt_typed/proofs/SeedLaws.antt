@@ -108,6 +108,14 @@ pub delay-seed : seed_of (codes "SampleDelay") (codes "initialOutputs") ≡ Some
 unfolding seed_of seedings
 delay-seed = refl
 
+pub non-strict-delay-seed : seed_of (codes "NonStrictDelay") (codes "initialValue") ≡ Some seed.Whole
+unfolding seed_of seedings
+non-strict-delay-seed = refl
+
+pub pre-seed : seed_of (codes "Pre") (codes "initialValue") ≡ Some seed.Whole
+unfolding seed_of seedings
+pre-seed = refl
+
 -- what stands for first tokens that aren't given is an integer
 pub delay-standard : (typing : Assignment) (k : ℕ) (ps : List PropertyTree) → is_given ps (codes "initialOutputs") ≡ false → AllByRecursion (IsMet typing) (of_standards k (codes "SampleDelay") ps seedings) → IsBelow Int (typing.types (Row k))
 unfolding seedings standard_of forms

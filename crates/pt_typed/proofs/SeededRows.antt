@@ -1,6 +1,6 @@
 -- The typing of a net meets the rows of the actors that give tokens of their parameters.
 use Rattle.std.proofs.Common.{◌≡◌, ◌⊎◌, inl, inr, ℕ, List, [], ◌∷◌, ◌++◌, map, Bool, true, false, Option, Some, None, refl, sym, ap, subst, ◌∙◌, slice_get}
-use Rattle.std.specs.Prelude.{codes, pos}
+use Rattle.std.specs.Prelude.{codes, pos, IfSome}
 use Rattle.std.specs.List.{AllByRecursion}
 use Rattle.std.proofs.lemmas.Option.{same_Some}
 use Rattle.pt_document.specs.declared.job.Direction.{Direction}
@@ -11,6 +11,7 @@ use Rattle.pt_value.specs.Token.{value_of, token_of}
 use Rattle.pt_value.specs.declared.token.Token.{Token}
 use Rattle.pt_value.specs.declared.token.Token.TheVariants as token
 use Rattle.pt_datatypes.specs.Datatype.{Datatype, Unknown, Int}
+use Rattle.pt_datatypes.specs.Order.{IsBelow}
 use Rattle.pt_datatypes.specs.Token.{type_of_value}
 use Rattle.pt_datatypes.proofs.Order.{below-trans}
 use Rattle.pt_net.specs.declared.net.Net.{Net}
@@ -22,7 +23,7 @@ use Rattle.pt_scopes.specs.declared.values.Values.{Values}
 use Rattle.pt_scopes.specs.Valued as valued
 use Rattle.pt_typing.specs.declared.variable.Variable.TheVariants as variable
 use Rattle.pt_typing.specs.Least.{Assignment, IsMet}
-use Rattle.pt_inequalities.specs.Rows.{seedings, joined_values}
+use Rattle.pt_inequalities.specs.Rows.{seedings, seed_of, joined_values}
 use Rattle.pt_inequalities.specs.Frames.{frames_of, seen_types}
 use Rattle.pt_inequalities.specs.Inequalities.{of_ports, of_parameters, of_standards}
 use Rattle.pt_inequalities.specs.Typing.{IsTyping}
@@ -58,24 +59,36 @@ use Rattle.pt_flow_numbers.specs.declared.extreme.Side.TheVariants.{Greatest, Le
 use Rattle.pt_inequalities.specs.declared.row.Seed.TheVariants as seed
 use Rattle.pt_flow_streams.specs.SampleDelay as sample_delay
 use Rattle.pt_flow_streams.specs.Sequence as sequence
+use Rattle.pt_lib_time.specs.declared.time_actor.TimeActor.{TimeActor}
+use Rattle.pt_lib_time.specs.declared.time_actor.TimeActor.TheVariants as time
+use Rattle.pt_lib_time.specs.declared.time_actor.Class.{Class as TimeClass}
+use Rattle.pt_lib_time.specs.declared.time_actor.Class.TheVariants as instants
+use Rattle.pt_lib_time.specs.declared.non_strict_delay.NonStrictDelay as non_strict_delays
+use Rattle.pt_lib_time.specs.declared.pre.Pre as pres
+use Rattle.pt_lib_time.specs.NonStrictDelay as non_strict_delay
+use Rattle.pt_lib_time.specs.Pre as pre
 use Rattle.pt_lib_data.specs.DataActor as data_actor
+use Rattle.pt_lib_time.specs.TimeActor as time_actor
 use Rattle.pt_library.specs.declared.library_actor.LibraryActor.{LibraryActor}
-use Rattle.pt_library.specs.declared.library_actor.LibraryActor.TheVariants.{Flow, Data}
+use Rattle.pt_library.specs.declared.library_actor.LibraryActor.TheVariants.{Flow, Data, Time}
 use Rattle.pt_library.specs.LibraryActor.{start}
 use Rattle.pt_typed.specs.TokenTypes.{IsTokenOf}
 use Rattle.pt_typed.specs.TypedActor.{MeetsRow}
 use Rattle.pt_typed.specs.TypedFlow.{IsTypedFlow}
+use Rattle.pt_typed.specs.TypedTime.{IsTypedTime}
 use Rattle.pt_typed.specs.NetTypes.{types_below}
-use Rattle.pt_typed.specs.NetRows.{ends_from, channels_at, HasClassPorts, is_seeded_flow, is_seeded_actor, HoldsTokens}
+use Rattle.pt_typed.specs.NetRows.{ends_from, channels_at, HasClassPorts, is_seeded_flow, is_seeded_time, is_seeded_actor, HoldsTokens}
 use Rattle.pt_typed.specs.RowLaw.{types_of_ports, SeededRowsAreMet}
 use Rattle.pt_typed.proofs.PortFacts.{PortFacts, all-front, all-back, entity-met}
 use Rattle.pt_typed.proofs.ClassPorts.{declares_in, outs_from, one-port}
 use Rattle.pt_typed.proofs.FlowStarts as flows
 use Rattle.pt_typed.proofs.FlowStarts.{mapped}
 use Rattle.pt_typed.proofs.FlowClasses as flow_classes
-use Rattle.pt_typed.proofs.RowsMet.{viewed, one-of-two, flow-in, its-places, its-outputs, its-facts}
+use Rattle.pt_typed.proofs.TimeStarts as signals
+use Rattle.pt_typed.proofs.TimeClasses as time_classes
+use Rattle.pt_typed.proofs.RowsMet.{viewed, one-of-three, flow-in, its-places, its-outputs, its-facts}
 use Rattle.pt_typed.proofs.HeldRows.{parameters-hold-tokens}
-use Rattle.pt_typed.proofs.SeedLaws.{value-met, not-given, no-tree, elements-below, tokens-of-values, const-seed, sequence-seed, delay-seed, delay-standard}
+use Rattle.pt_typed.proofs.SeedLaws.{value-met, not-given, no-tree, elements-below, tokens-of-values, const-seed, sequence-seed, delay-seed, non-strict-delay-seed, pre-seed, delay-standard}
 
 -- ---- what starts
 
@@ -202,10 +215,60 @@ module _ (net : Net) (values : Values) (typing : Assignment) (k : ℕ) (e : NetE
   seeded-meets class.Scale a is started s = let w = mapped flow.Scale (scale.start params) a started in let no : false ≡ true = ap is_seeded_flow w.2 ∙ s in absurd (cc)
   seeded-meets class.UpSample a is started s = let w = mapped flow.UpSample (up_sample.start params) a started in let no : false ≡ true = ap is_seeded_flow w.2 ∙ s in absurd (cc)
 
+  -- the same of a class of synchronous models
+  as-time : (c : TimeClass) (a : TimeActor) → time_actor.class_of params.class ≡ Some c →
+      ((e.class ≡ signals.name_of c) → PortFacts row types 0 (time_classes.types_of c) → IsTypedTime (map types (ends_from (channels_at net k) 0 (map (λ (h : List ℕ × Direction). h.1) (time_classes.heads_of c)))) (map types (outs_from 0 (map (λ (h : List ℕ × Direction). h.1) (time_classes.heads_of c)))) a) →
+      MeetsRow (types_below net typing k []) (Time a)
+  as-time c a is h =
+      let name = signals.name_of c in
+      let named = signals.class-named params.class c is in
+      let heads = time_classes.heads_of c in
+      let declares = time_classes.declares-none c in
+      let places = its-places net values typing k e at undirected has typed params classed v held name named heads (time_classes.heads-are c) declares in
+      let outputs = its-outputs net values typing k e at undirected has typed params classed v held name named heads (time_classes.heads-are c) declares in
+      let facts = its-facts net values typing k e at undirected has typed params classed v held name named heads (time_classes.heads-are c) declares in
+      let asked = h (sym classed ∙ named) (subst (λ ts. PortFacts row types 0 ts) (time_classes.types-are c) facts) in
+      subst (λ qs. IsTypedTime qs (types_below net typing k []).outputs a) (sym places) (subst (λ us. IsTypedTime (map types (ends_from (channels_at net k) 0 (map (λ (h : List ℕ × Direction). h.1) heads))) us a) (sym outputs) asked)
+
+  -- what is kept at first is the parameter, where it is given
+  kept-of : (name : List ℕ) (u : Datatype) → seed_of name (codes "initialValue") ≡ Some seed.Whole → e.class ≡ name → IsBelow row u → IfSome (value_under (codes "initialValue") params.values) (IsTokenOf u)
+  kept-of name u seeds named below = by_token (value_under (codes "initialValue") params.values) refl
+    where
+      by_token : (o : Option Token) → value_under (codes "initialValue") params.values ≡ o → IfSome o (IsTokenOf u)
+      by_token None h = tt
+      by_token (Some t) h = below-trans (type_of_value (value_of t)) row u (value-met typing k name (codes "initialValue") seed.Whole ps vs t seeds holds.counted holds.held (parameters-met name named) (own-value (codes "initialValue") (Some t) h)) below
+
+  delay-meets : (a : TimeActor) → time_actor.class_of params.class ≡ Some instants.NonStrictDelay → time_actor.start_as instants.NonStrictDelay params ≡ Some a → MeetsRow (types_below net typing k []) (Time a)
+  delay-meets a is started =
+      let w = mapped time.NonStrictDelay (non_strict_delay.start params) a started in
+      let kept : value_under (codes "initialValue") params.values ≡ w.0.kept = ap (λ (x : non_strict_delays.NonStrictDelay). x.kept) (same_Some _ w.0 w.1) in
+      subst (λ b. MeetsRow (types_below net typing k []) (Time b)) w.2
+      (as-time instants.NonStrictDelay (time.NonStrictDelay w.0) is (λ named f. (
+        one-port types (channels_at net k 0) 0 (types 1) (below-trans (types 0) row (types 1) f.0.1 f.1.0.0),
+        subst (λ o. IfSome o (IsTokenOf (types 1))) kept (kept-of (codes "NonStrictDelay") (types 1) non-strict-delay-seed named f.1.0.0),
+      )))
+
+  pre-meets : (a : TimeActor) → time_actor.class_of params.class ≡ Some instants.Pre → time_actor.start_as instants.Pre params ≡ Some a → MeetsRow (types_below net typing k []) (Time a)
+  pre-meets a is started =
+      let w = mapped time.Pre (pre.start params) a started in
+      let kept : value_under (codes "initialValue") params.values ≡ w.0.kept = ap (λ (x : pres.Pre). x.kept) (same_Some _ w.0 w.1) in
+      subst (λ b. MeetsRow (types_below net typing k []) (Time b)) w.2
+      (as-time instants.Pre (time.Pre w.0) is (λ named f. (
+        one-port types (channels_at net k 0) 0 (types 1) (below-trans (types 0) row (types 1) f.0.1 f.1.0.0),
+        subst (λ o. IfSome o (IsTokenOf (types 1))) kept (kept-of (codes "Pre") (types 1) pre-seed named f.1.0.0),
+      )))
+
+  abbrev MeetsAs : TimeActor → TimeClass → Type 0
+  MeetsAs a c = time_actor.class_of params.class ≡ Some c → time_actor.start_as c params ≡ Some a → MeetsRow (types_below net typing k []) (Time a)
+
+  time-meets : (c : TimeClass) (a : TimeActor) → time_actor.class_of params.class ≡ Some c → time_actor.start_as c params ≡ Some a → is_seeded_time a ≡ true → MeetsRow (types_below net typing k []) (Time a)
+  time-meets c a is started s = signals.seeded-class (MeetsAs a) c params a (delay-meets a) (pre-meets a) started s is started
+
   all-meet : (a : LibraryActor) → start params ≡ Some a → is_seeded_actor a ≡ true → MeetsRow (types_below net typing k []) a
-  all-meet a started s = elim (one-of-two Flow Data (flow_actor.start params) (data_actor.start params.class params.values params.ports) a started) [
+  all-meet a started s = elim (one-of-three Flow Data Time (flow_actor.start params) (data_actor.start params.class params.values params.ports) (time_actor.start params) a started) [
     | inl w ↦ (let c = flow-in (flow_actor.class_of params.class) params w.0 w.1 in subst (MeetsRow (types_below net typing k [])) w.2 (seeded-meets c.0 w.0 c.1 c.2 (ap is_seeded_actor w.2 ∙ s)))
-    | inr w ↦ absurd (let no : false ≡ true = ap is_seeded_actor w.2 ∙ s in cc)
+    | inr (inl w) ↦ absurd (let no : false ≡ true = ap is_seeded_actor w.2 ∙ s in cc)
+    | inr (inr w) ↦ (let c = signals.time-in (time_actor.class_of params.class) params w.0 w.1 in subst (MeetsRow (types_below net typing k [])) w.2 (time-meets c.0 w.0 c.1 c.2 (ap is_seeded_actor w.2 ∙ s)))
   ]
 
 pub seeded-rows-met : SeededRowsAreMet

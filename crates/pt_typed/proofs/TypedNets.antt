@@ -13,8 +13,10 @@ use Rattle.pt_lib_flow.specs.declared.flow_actor.FlowActor.{FlowActor}
 use Rattle.pt_lib_flow.specs.declared.flow_actor.FlowActor.TheVariants as flow
 use Rattle.pt_lib_data.specs.declared.function.Function.{Function}
 use Rattle.pt_lib_data.specs.declared.function.Function.TheVariants as made
+use Rattle.pt_lib_time.specs.declared.time_actor.TimeActor.{TimeActor}
+use Rattle.pt_lib_time.specs.declared.time_actor.TimeActor.TheVariants as time
 use Rattle.pt_library.specs.declared.library_actor.LibraryActor.{LibraryActor}
-use Rattle.pt_library.specs.declared.library_actor.LibraryActor.TheVariants.{Flow, Data}
+use Rattle.pt_library.specs.declared.library_actor.LibraryActor.TheVariants.{Flow, Data, Time}
 use Rattle.pt_trees.specs.Trees.{Starts}
 use Rattle.pt_cover.proofs.Reading.{documents-leaves}
 use Rattle.pt_cover.proofs.Nesting.{net-nested}
@@ -23,7 +25,7 @@ use Rattle.pt_cover.proofs.Starting.{by-class}
 use Rattle.pt_order.proofs.NetsInOrder.{nets-in-order}
 use Rattle.pt_typed.specs.TypedActor.{MeetsRow}
 use Rattle.pt_typed.specs.NetTypes.{types_below}
-use Rattle.pt_typed.specs.NetRows.{HaveClassPorts, is_plain_flow, is_plain_function, is_plain_actor, is_seeded_flow, is_seeded_actor, is_record_function, is_record_actor}
+use Rattle.pt_typed.specs.NetRows.{HaveClassPorts, is_plain_flow, is_plain_function, is_plain_time, is_plain_actor, is_seeded_flow, is_seeded_time, is_seeded_actor, is_record_function, is_record_actor}
 use Rattle.pt_typed.specs.OwnNames.{HavePortNames, HaveClassParameters}
 use Rattle.pt_typed.specs.TypedNet.{MeetRows}
 use Rattle.pt_typed.specs.RowLaw.{types_of_ports, AreStartedIn, TypedNetsKeepTypes}
@@ -72,9 +74,20 @@ no-function-left (made.RecordDisassembler x) p r = cc
 no-function-left (made.SequenceToArray x) p r = cc
 no-function-left made.StringLength p r = cc
 
+no-time-left : (a : TimeActor) → is_plain_time a ≡ false → is_seeded_time a ≡ false → ⊥
+no-time-left (time.Absent x) p s = cc
+no-time-left (time.Current x) p s = cc
+no-time-left (time.Default x) p s = cc
+no-time-left (time.NonStrictDelay x) p s = cc
+no-time-left (time.NonStrictLogicGate x) p s = cc
+no-time-left (time.NonStrictMux x) p s = cc
+no-time-left (time.Pre x) p s = cc
+no-time-left (time.When x) p s = cc
+
 actor-left : (a : LibraryActor) → is_plain_actor a ≡ false → is_seeded_actor a ≡ false → is_record_actor a ≡ false → (f : Formula) × (a ≡ Flow (flow.Expression f))
 actor-left (Flow a) p q r = let w = flow-left a p q in (w.0, λ i. Flow (w.1 i))
 actor-left (Data a) p q r = absurd (no-function-left a.function p r)
+actor-left (Time a) p q r = absurd (no-time-left a p q)
 
 -- ---- all rows
 

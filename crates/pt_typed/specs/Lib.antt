@@ -4,6 +4,7 @@ pub mod TypedRuns
 pub mod TokenTypes
 pub mod TypedData
 pub mod TypedFlow
+pub mod TypedTime
 pub mod TypedActor
 pub mod Laws
 pub mod NetTypes

@@ -8,8 +8,10 @@ use Rattle.pt_lib_flow.specs.declared.flow_actor.FlowActor.{FlowActor}
 use Rattle.pt_lib_flow.specs.declared.flow_actor.FlowActor.TheVariants.{AbsoluteValue, Accumulator, AddSubtract, BooleanSelect, BooleanSwitch, Const, Counter, DownSample, Expression, Extreme, MultiplyDivide, Ramp, Repeat, SampleDelay, Scale, Sequence, UpSample}
 use Rattle.pt_lib_data.specs.declared.function.Function.{Function}
 use Rattle.pt_lib_data.specs.declared.function.Function.TheVariants.{ArrayElement, ArrayToSequence, Comparator, Discard, ElementsToArray, Equals, Limiter, LogicFunction, LogicalNot, RecordAssembler, RecordDisassembler, SequenceToArray, StringLength}
+use Rattle.pt_lib_time.specs.declared.time_actor.TimeActor.{TimeActor}
+use Rattle.pt_lib_time.specs.declared.time_actor.TimeActor.TheVariants.{Absent, Current, Default, NonStrictDelay, NonStrictLogicGate, NonStrictMux, Pre, When}
 use Rattle.pt_library.specs.declared.library_actor.LibraryActor.{LibraryActor}
-use Rattle.pt_library.specs.declared.library_actor.LibraryActor.TheVariants.{Flow, Data}
+use Rattle.pt_library.specs.declared.library_actor.LibraryActor.TheVariants.{Flow, Data, Time}
 pub use Rattle.pt_order.specs.ClassPorts.{ends_if, ends_from, channels_at, HasClassPorts, HaveClassPorts}
 
 -- What it gives is made of its inputs, and of numbers and truth values: it gives no token of a parameter, and no field or value of an expression.
@@ -48,10 +50,22 @@ is_plain_function (RecordDisassembler names) = false
 is_plain_function (SequenceToArray count) = true
 is_plain_function StringLength = true
 
--- the same of the actors of both libraries
+-- the same of the actors of synchronous models
+abbrev pub is_plain_time : TimeActor → Bool
+is_plain_time (Absent a) = true
+is_plain_time (Current a) = true
+is_plain_time (Default a) = true
+is_plain_time (NonStrictDelay a) = false
+is_plain_time (NonStrictLogicGate a) = true
+is_plain_time (NonStrictMux a) = true
+is_plain_time (Pre a) = false
+is_plain_time (When a) = true
+
+-- the same of the actors of all libraries
 abbrev pub is_plain_actor : LibraryActor → Bool
 is_plain_actor (Flow a) = is_plain_flow a
 is_plain_actor (Data a) = is_plain_function a.function
+is_plain_actor (Time a) = is_plain_time a
 
 -- It gives tokens of a parameter: the value of a Const, the values of a Sequence, the first tokens of a SampleDelay.
 abbrev pub is_seeded_flow : FlowActor → Bool
@@ -73,10 +87,22 @@ is_seeded_flow (Scale a) = false
 is_seeded_flow (Sequence a) = true
 is_seeded_flow (UpSample a) = false
 
+-- the first tokens of a NonStrictDelay and of a Pre are those of a parameter
+abbrev pub is_seeded_time : TimeActor → Bool
+is_seeded_time (Absent a) = false
+is_seeded_time (Current a) = false
+is_seeded_time (Default a) = false
+is_seeded_time (NonStrictDelay a) = true
+is_seeded_time (NonStrictLogicGate a) = false
+is_seeded_time (NonStrictMux a) = false
+is_seeded_time (Pre a) = true
+is_seeded_time (When a) = false
+
 -- no data actor gives tokens of a parameter
 abbrev pub is_seeded_actor : LibraryActor → Bool
 is_seeded_actor (Flow a) = is_seeded_flow a
 is_seeded_actor (Data a) = false
+is_seeded_actor (Time a) = is_seeded_time a
 
 -- a parameter has a token, and is no tree and no word
 abbrev pub IsTokenHeld : ParameterValue → Type 0
@@ -105,7 +131,8 @@ is_record_function (RecordDisassembler names) = true
 is_record_function (SequenceToArray count) = false
 is_record_function StringLength = false
 
--- no flow actor makes or takes apart records
+-- data actors alone make or take apart records
 abbrev pub is_record_actor : LibraryActor → Bool
 is_record_actor (Flow a) = false
 is_record_actor (Data a) = is_record_function a.function
+is_record_actor (Time a) = false

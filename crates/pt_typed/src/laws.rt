@@ -56,7 +56,7 @@ pub fn record_rows_are_met()
     ensures { RecordRowsAreMet }
 {}
 
-/// Each parameter of a Const, a Sequence and a SampleDelay has a token.
+/// Each parameter of a Const, a Sequence, a SampleDelay, a NonStrictDelay and a Pre has a token.
 pub fn parameters_hold_tokens()
     ensures { ParametersHoldTokens }
 {}
