@@ -1,19 +1,19 @@
 -- The calls of the core are lawful.
-use Rattle.std.proofs.Common.{◌≡◌, ◌⊎◌, inl, inr, ℕ, zero, suc, ◌+◌, ◌<◌, ◌≤◌, List, [], ◌∷◌, ◌++◌, Bool, true, false, not, length, get_or, set, take, drop, Some, None, refl, sym, ap, subst, ◌∙◌, arith, length-append, length-set}
+use Rattle.std.proofs.Common.{◌≡◌, ◌⊎◌, inl, inr, ℕ, zero, suc, ◌<◌, ◌≤◌, List, [], ◌∷◌, ◌++◌, Bool, true, false, not, length, get_or, set, take, drop, Some, None, refl, sym, ap, subst, ◌∙◌, arith, length-append, length-set}
 use Rattle.std.proofs.lemmas.Bool.{cases_eq}
 use Rattle.std.proofs.lemmas.List.{length-take-le}
 use Rattle.pt_meaning.specs.Streams.{Streams, get}
 use Rattle.pt_meaning.specs.Machine.{Fault, Facts, Front, Takes, Lacks, Ends, counted, if_long, front}
 use Rattle.pt_meaning.specs.Rounds.{Limit, has_rates}
 use Rattle.pt_meaning.specs.Kahn.{arrived, firsts, behind}
-use Rattle.pt_meaning.specs.Sdf.{SdfPlan, iterations, sdf_limits}
+use Rattle.pt_meaning.specs.Sdf.{SdfPlan, iterations, sdf_limits, times, leaves}
 use Rattle.pt_meaning.specs.Running.{Asks, total, puts}
 use Rattle.pt_meaning.specs.Lawful.{LawfulRows}
 use Rattle.pt_meaning.specs.Meetings.{below_child}
 use Rattle.pt_meaning.specs.Tree.{Rows, Core, Sdf, Past, Node, Composite, list_of, nodes_of, made_of, fired_at, height, heights}
 use Rattle.pt_meaning.specs.NodeFacts.{facts_of, need_of}
 use Rattle.pt_meaning.specs.Step.{step_at, Step}
-use Rattle.pt_laws.specs.CompositeRuns.{sdf_start, sdf_bounds, times, outlets_of}
+use Rattle.pt_laws.specs.CompositeRuns.{sdf_start, sdf_bounds, outlets_of}
 use Rattle.pt_laws.specs.LogsOfRuns.{rates_at}
 use Rattle.pt_laws.proofs.FiringLaws.{arrived-long}
 use Rattle.pt_laws.proofs.RunLaws.{plus-length}
@@ -256,7 +256,7 @@ module _ {A : Type 0} (rows : Rows Token A) where
       off-one = sdf-is-left-off rows law b.meets b.tag h start b.before.plan b.before.held b.kids b.inputs e b.olds s.fired now s.held news sdf-so-far
 
       abbrev Ended : SdfPlan → Streams Token → ℕ → Type 0
-      Ended p first turns = FiresTo (outcome a b h) (Composite (fired_at b.tag h) (Sdf p first) (Sdf p (take (total p.net.places) s.held ++ behind (times turns p.gives) (outlets_of p.net s.held))) (nodes_of now)) (firsts (times turns p.gives) (outlets_of p.net s.held)) (kept_by e b.olds) (kept_by e news)
+      Ended p first turns = FiresTo (outcome a b h) (Composite (fired_at b.tag h) (Sdf p first) (Sdf p (take (total p.net.places) s.held ++ behind (times turns (leaves p)) (outlets_of p.net s.held))) (nodes_of now)) (firsts (times turns p.gives) (outlets_of p.net s.held)) (kept_by e b.olds) (kept_by e news)
 
       ends-one : IsEnough s → FiresTo (outcome a b h) (node a (fired_at b.tag h) (closed (in_stage Closed s)) (nodes_of now)) (firsts (owed s) (own_of s)) (kept_by e b.olds) (kept_by e news)
       ends-one enough =
@@ -285,7 +285,7 @@ module _ {A : Type 0} (rows : Rows Token A) where
     fits-one = record {
       repetitions = g.fitting.repetitions;
       rates = g.fitting.rates;
-      channels = longer (total s.plan.net.places) s.held (behind (owed s) (own_of s)) g.fitting.channels;
+      channels = longer (total s.plan.net.places) s.held (behind (times s.turns (leaves s.plan)) (own_of s)) g.fitting.channels;
       needs = g.fitting.needs;
     }
 
