@@ -1,5 +1,5 @@
 //! A stand-in of the same size: PortTypes 24, Values 24, Expr 32, Env 104, OneEach 24.
-use super::params::Params;
+use crate::pt_flow_base::Params;
 use crate::pt_firing::{Actor, Fires, Inputs, Need, OneEach, Outputs, Partial, Step, Values, strict_early};
 use crate::pt_time::Tag;
 use crate::pt_value::Token;
