@@ -87,7 +87,7 @@ is_seeded_flow (Scale a) = false
 is_seeded_flow (Sequence a) = true
 is_seeded_flow (UpSample a) = false
 
--- the first tokens of a NonStrictDelay and of a Pre are those of a parameter
+-- what a NonStrictDelay and a Pre keep at first is the token of a parameter
 abbrev pub is_seeded_time : TimeActor → Bool
 is_seeded_time (Absent a) = false
 is_seeded_time (Current a) = false
