@@ -23,7 +23,7 @@ use Rattle.pt_language.specs.declared.eval_fault.EvalFault.TheVariants.{Size}
 use Rattle.pt_language.specs.RecordOf.{record_of, by_name, make_record, is_name, has_name_form}
 use Rattle.pt_language.specs.Meaning.{value, values, named_values, within, arrayed, recorded, fits}
 use Rattle.pt_language.proofs.Ordered.{by_name-record}
-use Rattle.pt_language.specs.Words.{continues_name, name_of}
+use Rattle.pt_language.specs.Words.{Splits, continues_name, name_of}
 use Rattle.pt_language.specs.Grammar.{AllDiffer, IsAmong}
 use Rattle.pt_language.specs.declared.word.Word.{Word}
 use Rattle.pt_language.specs.declared.word.Word.TheVariants as word
@@ -35,7 +35,8 @@ use Rattle.pt_expr_print.specs.Printed.{printed, each_printed, each_named, print
 use Rattle.pt_expr_print.specs.Literal.{literal, literals, named_literals, IsWritable, AreWritable, HaveWritable}
 use Rattle.pt_expr_print.proofs.Legal.{IsLegal, AreLegal, HaveLegal, HasField, IsLiteral, IsNameWord}
 use Rattle.pt_expr_print.proofs.Spelled.{continues}
-use Rattle.pt_expr_print.proofs.Whole.{legal_reads}
+use Rattle.pt_expr_print.proofs.Written.{words}
+use Rattle.pt_expr_print.proofs.Whole.{legal_words, legal_reads}
 
 -- a token prints as its literal does
 mutual
@@ -139,6 +140,10 @@ mutual
   legal_named val.no_fields n h = tt
   legal_named (val.field_then name v fs) n h = ((spelled name (n 0 [] (omega arith)), legal_literal v h.0), legal_named fs (λ i d below. n (suc i) d (omega arith)) h.1)
 
+-- the printed text of a token is the words of its literal
+pub token_words : (v : Value) → IsWritable v → Splits (token.printed v) (words (literal v)) []
+token_words v h = let P : List ℕ → Type 0 = λ text. Splits text (words (literal v)) [] in subst P (literal_printed v) (legal_words (literal v) (legal_literal v h))
+
 -- the printed text of a token reads as its literal
 pub token_reads : (v : Value) → IsWritable v → ReadsAs (token.printed v) (literal v)
 token_reads v h = let P : List ℕ → Type 0 = λ text. ReadsAs text (literal v) in subst P (literal_printed v) (legal_reads (literal v) (legal_literal v h))
@@ -171,7 +176,8 @@ none_same n (m ∷ ns) h =
     let k : one_if (bytes_eq n m) ≡ 0 = ap one_if e in
     omega (arith, sum_by-cons (λ y. cond (bytes_eq n y) 1 0) m ns, k, none_same n ns (λ i d below. h (suc i) d (omega arith)))
 
-one_same : (n : List ℕ) (ns : List (List ℕ)) → AllPairs IsBelow ns → count_by (bytes_eq n) ns ≤ 1
+-- a name occurs once at most among names that ascend
+pub one_same : (n : List ℕ) (ns : List (List ℕ)) → AllPairs IsBelow ns → count_by (bytes_eq n) ns ≤ 1
 one_same n [] h = omega arith
 one_same n (m ∷ ns) h = by_test (bytes_eq n m) refl (one_same n ns (others m ns h))
   where

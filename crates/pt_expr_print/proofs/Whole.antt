@@ -206,13 +206,17 @@ mutual
       (behind_it (printed_field name (printed t)) (more_after (codes ", ") (each_named fs)) (word.Name name ∷ word.Symbol Assign ∷ words t) (more_field_words fs)
       (field_scans name (printed t) (words t) h.0.0 (scans t h.0.1)) (more_apart (each_named fs)) (more_field_scans fs h.1))
 
--- the printed text of a legal tree reads as it
-pub legal_reads : (t : Tree) → IsLegal t → ReadsAs (printed t) t
-legal_reads t h =
+-- the whole printed text of a legal tree is its words
+pub legal_words : (t : Tree) → IsLegal t → Splits (printed t) (words t) []
+legal_words t h =
     let s : Splits (printed t ++ []) (words t ++ []) [] = scans t h [] [] [] tt (stops {text = []} refl) in
     let P : List ℕ → Type 0 = λ text. Splits text (words t ++ []) [] in
     let Q : List Word → Type 0 = λ ws. Splits (printed t) ws [] in
-    (words t, subst Q (append-nil (words t)) (subst P (append-nil (printed t)) s), (stands t h).whole)
+    subst Q (append-nil (words t)) (subst P (append-nil (printed t)) s)
+
+-- the printed text of a legal tree reads as it
+pub legal_reads : (t : Tree) → IsLegal t → ReadsAs (printed t) t
+legal_reads t h = (words t, legal_words t h, (stands t h).whole)
 
 -- some text reads as the tree, and so does its printed text
 pub printed_reads : (t : Tree) → IsReadable t → ReadsAs (printed t) t

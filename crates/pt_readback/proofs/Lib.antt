@@ -1,0 +1,3 @@
+pub mod Records
+pub mod Words
+pub mod Utf8
