@@ -5,6 +5,8 @@ mod fault;
 mod front;
 mod open;
 mod reading;
+#[cfg(test)]
+mod tests;
 mod token;
 
 pub use fault::TokenFault;
