@@ -32,7 +32,7 @@ IsUsual Meet = ⊥
 IsUsual Await = ⊥
 IsUsual Full = ⊥
 
--- what is lent to a child whose need is a count for each place: a list for each, and one token at most where it needs one
+-- what is lent to a child whose need is a count for each place: a list for each
 pub record IsLentTo {A : Type 0} (rows : Rows Token A) (child : Node Token A) (X : Streams Token) : Type 0 where
   pub places : (ns : List ℕ) → need_of rows child ≡ Counts ns → length X ≡ length ns
 
