@@ -49,15 +49,14 @@ pub trait Core: Sized {
     fn refusal(&self) -> RunFault
         ensures { result ≡ calls.refusal self.now };
 
-    /// What is known of the inputs of the child that was asked for an early answer.
+    /// What is known of the inputs of the child that was asked for an early answer. Where none was asked it may be anything, since
+    /// some directors never ask.
     fn partial(&self, alloc: Global) -> Result<Partial, AllocError>
-        requires { IsSome (calls.listened_of self.now) }
-        ensures { IfOk result (λ partial. partial ≡ calls.partial_of self.now) };
+        ensures { IsSome (calls.listened_of self.now) → IfOk result (λ partial. partial ≡ calls.partial_of self.now) };
 
     /// Takes what that child gave early.
     fn hears(&mut self, alloc: Global, child: u32, early: &Partial) -> Result<(), AllocError>
-        requires asked { calls.listened_of self.old ≡ Some child }
-        ensures heard { OnOk result (self.new ≡ calls.heard child early.now self.old) }
+        ensures heard { calls.listened_of self.old ≡ Some child → OnOk result (self.new ≡ calls.heard child early.now self.old) }
         ensures kept { OnErr result (self.new ≡ self.old) };
 
     /// Hands out the own outputs.

@@ -36,11 +36,17 @@ impl Driven for Core {
     }
 
     fn partial(&self, alloc: Global) -> Result<Partial, AllocError> {
-        self.partial(alloc)
+        match self.listened() {
+            Some(_) => self.partial(alloc),
+            None => Ok(Partial::of(Vec::new(alloc))),
+        }
     }
 
     fn hears(&mut self, alloc: Global, child: u32, early: &Partial) -> Result<(), AllocError> {
-        self.hears(alloc, child, early)
+        match self.listened() {
+            Some(asked) if asked == child => self.hears(alloc, child, early),
+            Some(_) | None => Ok(()),
+        }
     }
 
     fn finish(&mut self, alloc: Global) -> Result<Outputs, AllocError> {

@@ -138,6 +138,16 @@ impl Core {
         }
     }
 
+    /// The child that was asked for an early answer.
+    pub fn listened(&self) -> Option<u32>
+        ensures { result ≡ listened_child self.now.stage }
+    {
+        match self.stage {
+            Stage::Listens(child) => Some(child),
+            Stage::Idle | Stage::Open | Stage::Asked(_) | Stage::Wrong(_) | Stage::Closed => None,
+        }
+    }
+
     /// What is known of the inputs of the child that was asked for an early answer.
     pub fn partial(&self, alloc: Global) -> Result<Partial, AllocError>
         requires { IsSome (listened_child self.now.stage) }
