@@ -1,5 +1,5 @@
 ghost use Rattle.std.specs.Prelude.{◌≡◌, IfOk, map, count_by};
-ghost use Rattle.pt_sdf.specs.Plan.{source_of};
+ghost use Rattle.pt_core.specs.Source.{source_of};
 ghost use Rattle.pt_wiring.specs.Channels.{source_view};
 ghost use Rattle.pt_net.specs.Inside.{is_input, is_output};
 
@@ -18,12 +18,12 @@ fn narrow(number: usize) -> Result<u32, AllocError>
 }
 
 /// A source as a director has it.
-fn narrow_source(source: Source) -> Result<pt_sdf::Source, AllocError>
+fn narrow_source(source: Source) -> Result<pt_core::Source, AllocError>
     ensures { IfOk result (λ narrowed. source_of narrowed ≡ source_view source) }
 {
     Ok(match source {
-        Source::Own(port) => pt_sdf::Source::Own(narrow(port)?),
-        Source::Output { child, port } => pt_sdf::Source::Output(narrow(child)?, narrow(port)?),
+        Source::Own(port) => pt_core::Source::Own(narrow(port)?),
+        Source::Output { child, port } => pt_core::Source::Output(narrow(child)?, narrow(port)?),
     })
 }
 
@@ -31,7 +31,7 @@ fn narrow_source(source: Source) -> Result<pt_sdf::Source, AllocError>
 pub(crate) fn narrow_sources(
     alloc: Global,
     sources: &[Source],
-) -> Result<Vec<pt_sdf::Source>, AllocError>
+) -> Result<Vec<pt_core::Source>, AllocError>
     ensures { IfOk result (λ narrowed. map source_of narrowed.items ≡ map source_view sources.now) }
 {
     let mut narrowed = Vec::with_capacity(alloc, sources.len())?;

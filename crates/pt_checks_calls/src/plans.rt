@@ -1,7 +1,8 @@
 use crate::written::{part, size, small};
 use pt_firing::Counts;
 use pt_plan::{Inside, plan};
-use pt_sdf::{CorePlan, Source};
+use pt_core::Source;
+use pt_sdf::CorePlan;
 use pt_table::{Answer, each, each_plain};
 use std::alloc::{AllocError, Global};
 

@@ -15,7 +15,8 @@ use Rattle.pt_sdf.specs.declared.plan.CorePlan.{CorePlan}
 use Rattle.pt_sdf.specs.ByNeed.{needs_of, planned}
 use Rattle.pt_sdf.specs.Chain.{IsFor}
 use Rattle.pt_sdf.specs.Clauses.{State}
-use Rattle.pt_sdf.specs.Plan.{plan_of, source_of}
+use Rattle.pt_sdf.specs.Plan.{plan_of}
+use Rattle.pt_core.specs.Source.{source_of}
 use Rattle.pt_sdf.specs.State.{started}
 use Rattle.pt_plan.specs.declared.inside.Inside.{Inside}
 use Rattle.pt_plan.specs.Inside.{IsInside}

@@ -2,9 +2,9 @@
 use Rattle.std.proofs.Common.{◌≡◌, ℕ, ◌+◌, ◌<◌, ◌≤◌, ◌^◌, List, [], ◌∷◌, length, get_or, map, refl, sym, ap, ap₂, ◌∙◌, subst, arith}
 use Rattle.std.specs.Prelude.{All}
 use Rattle.pt_meaning.specs.Running.{total}
-use Rattle.pt_sdf.specs.declared.plan.Source.{Source}
-use Rattle.pt_sdf.specs.declared.plan.Source.TheVariants.{Own, Output}
-use Rattle.pt_sdf.specs.Plan.{source_of}
+use Rattle.pt_core.specs.declared.source.Source.{Source}
+use Rattle.pt_core.specs.declared.source.Source.TheVariants.{Own, Output}
+use Rattle.pt_core.specs.Source.{source_of}
 use Rattle.pt_plan.specs.declared.inside.Inside.{Inside}
 use Rattle.pt_plan.specs.Inside.{IsInside, IsThere, IsRate}
 

@@ -1,7 +1,8 @@
 ghost use Rattle.std.specs.Prelude.{◌≡◌, IfOk, IfErr, map};
 ghost use Rattle.pt_meaning.specs.Start.{first_held};
 ghost use Rattle.pt_sdf.specs.Lawful.{IsLawful};
-ghost use Rattle.pt_sdf.specs.Plan.{plan_of, source_of};
+ghost use Rattle.pt_sdf.specs.Plan.{plan_of};
+ghost use Rattle.pt_core.specs.Source.{source_of};
 ghost use Rattle.pt_sdf.specs.State.{started};
 ghost use Rattle.pt_library.specs.LibraryActor.{rows};
 ghost use Rattle.pt_node.specs.Shown.{shown, shown_node};

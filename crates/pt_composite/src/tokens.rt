@@ -2,7 +2,7 @@ ghost use Rattle.std.specs.Prelude.{◌≡◌, ◌++◌, ◌+◌, ◌<◌, ◌^�
 ghost use Rattle.pt_meaning.specs.Start.{first_held, first_of, first_of_node};
 ghost use Rattle.std.specs.Prelude.{Some};
 ghost use Rattle.pt_recv.specs.Lines.{list_at};
-ghost use Rattle.pt_sdf.specs.Plan.{source_of};
+ghost use Rattle.pt_core.specs.Source.{source_of};
 ghost use Rattle.pt_library.specs.LibraryActor.{rows};
 ghost use Rattle.pt_node.specs.Shown.{shown, shown_node};
 ghost use Rattle.pt_node.specs.View.{node_of};
@@ -12,7 +12,7 @@ ghost use Rattle.pt_trees.specs.Composite.{trees_of};
 use pt_firing::{Actor, Counts};
 use pt_node::{Body, Node};
 use pt_recv::Channels;
-use pt_sdf::Source;
+use pt_core::Source;
 use pt_value::Token;
 use std::alloc::{AllocError, Global};
 

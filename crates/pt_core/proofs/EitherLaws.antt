@@ -1,8 +1,8 @@
 -- Where two directors are lawful, one of them is.
-use Rattle.std.proofs.Common.{◌≡◌, ℕ, List, length, not, Some, ap}
+use Rattle.std.proofs.Common.{◌≡◌, ℕ, List, length, map, not, Some, ap}
 use Rattle.pt_meaning.specs.Tag.{Tag}
 use Rattle.pt_meaning.specs.Streams.{Streams}
-use Rattle.pt_meaning.specs.Tree.{Rows, Node, list_of}
+use Rattle.pt_meaning.specs.Tree.{Rows, Node, list_of, reset_of}
 use Rattle.pt_value.specs.declared.token.Token.{Token}
 use Rattle.pt_firing.specs.declared.ask.Ask.TheVariants.{Fire, Early, Finished}
 use Rattle.pt_records.specs.Kept.{Kept}
@@ -58,6 +58,10 @@ module _ {N A B : Type 0} {rows : Rows Token N} (a : Acts rows A) (b : Acts rows
   idle-one : (s : Either A B) (kids : List (Node Token N)) → e.Fits s kids → e.calls.IsIdle s
   idle-one (First s) kids f = la.idle s kids f
   idle-one (Other s) kids f = lb.idle s kids f
+
+  again-one : (s : Either A B) (kids : List (Node Token N)) → e.Fits s kids → e.Fits (e.calls.restarted s) (map reset_of kids)
+  again-one (First s) kids f = la.fits_again s kids f
+  again-one (Other s) kids f = lb.fits_again s kids f
 
   begins-from : (start : Beginning N (Either A B)) (before : Either A B) → e.Fits before (list_of start.kids) → e.calls.Takes before start.inputs → length (list_of start.kids) ≡ length start.olds →
       UnderwayFrom a b start before (e.calls.begun start.tag start.inputs before) (list_of start.kids) start.olds
@@ -116,6 +120,7 @@ module _ {N A B : Type 0} {rows : Rows Token N} (a : Acts rows A) (b : Acts rows
   either-is-lawful = record {
     agree = either-agrees a.calls b.calls la.agree lb.agree;
     idle = idle-one;
+    fits_again = again-one;
     begins = λ start fits takes o. begins-from start start.before fits takes o;
     middle = λ start s now news u. middle-from start start.before s now news u;
   }

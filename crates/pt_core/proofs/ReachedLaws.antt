@@ -1,7 +1,7 @@
 -- What a node becomes: a library actor one that its steps lead to, and a composite one of the same director, which needs what it needed.
-use Rattle.std.proofs.Common.{◌≡◌, ◌⊎◌, inl, inr, ℕ, zero, suc, List, [], ◌∷◌, Option, Some, refl, sym, ap, subst, ◌∙◌}
+use Rattle.std.proofs.Common.{◌≡◌, ◌⊎◌, inl, inr, ℕ, zero, suc, List, [], ◌∷◌, map, Option, Some, refl, sym, ap, subst, ◌∙◌}
 use Rattle.pt_meaning.specs.Tag.{Tag}
-use Rattle.pt_meaning.specs.Streams.{Streams}
+use Rattle.pt_meaning.specs.Streams.{Streams, get}
 use Rattle.pt_meaning.specs.Log.{Log}
 use Rattle.pt_meaning.specs.Machine.{Outcome, Done, Stuck}
 use Rattle.pt_meaning.specs.Meetings.{Meets}
@@ -11,7 +11,7 @@ use Rattle.pt_meaning.specs.Children.{nodes}
 use Rattle.pt_meaning.specs.Step.{actor_outcome, step_at}
 use Rattle.pt_meaning.specs.Closed.{on_answer}
 use Rattle.pt_laws.proofs.FiringLaws.{done-within}
-use Rattle.pt_core.specs.Reached.{Becomes, Stays, Fires, Resets, Always}
+use Rattle.pt_core.specs.Reached.{Becomes, Stays, Fires, Resets, Always, AllAlways}
 
 module _ {T A : Type 0} (rows : Rows T A) where
   -- the state of a library actor after some steps, where each of them is done
@@ -104,3 +104,20 @@ module _ {T A : Type 0} (rows : Rows T A) where
   composite-steady h c d kids s later t =
       let i = composite-becomes (Composite h c d kids) later t h c d kids refl s in
       ap (λ (v : Node T A). need_of rows v) i.is ∙ i.need
+
+  -- where each of a list is brought back to its start, one is there as it was, brought back
+  pub record IsReset (nodes : List (Node T A)) (i : ℕ) (z : Node T A) : Type 0 where
+    pub was : Node T A
+    pub there : get nodes i ≡ Some was
+    pub is : z ≡ reset_of was
+
+  pub got-reset : (nodes : List (Node T A)) (i : ℕ) (z : Node T A) → get (map reset_of nodes) i ≡ Some z → IsReset nodes i z
+  got-reset [] i z e = absurd (cc)
+  got-reset (n ∷ nodes) zero z e = record { was = n; there = refl; is = cc }
+  got-reset (n ∷ nodes) (suc i) z e = let r = got-reset nodes i z e in record { was = r.was; there = r.there; is = r.is }
+
+  -- what holds of each whatever it fires holds then too
+  pub always-reset : (P : ℕ → Node T A → Type 0) (nodes : List (Node T A)) → AllAlways rows P nodes → AllAlways rows P (map reset_of nodes)
+  always-reset P nodes all i z e =
+      let r = got-reset nodes i z e in
+      λ later t. all i r.was r.there later (Resets r.was later (subst (λ (v : Node T A). Becomes rows v later) r.is t))

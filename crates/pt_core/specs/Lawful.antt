@@ -1,5 +1,5 @@
 -- The laws of a director's calls: a chain of them makes the firing of the composite that the definitions say.
-use Rattle.std.specs.Prelude.{◌≡◌, ℕ, ◌<◌, List, [], ◌∷◌, length, set, true, false, not, Some, None}
+use Rattle.std.specs.Prelude.{◌≡◌, ℕ, ◌<◌, List, [], ◌∷◌, length, map, set, true, false, not, Some, None}
 use Rattle.pt_meaning.specs.Tag.{Tag}
 use Rattle.pt_meaning.specs.Streams.{Streams, get}
 use Rattle.pt_meaning.specs.Machine.{Fault, Outcome, Counts, Partial}
@@ -129,5 +129,7 @@ module _ {A C : Type 0} {rows : Rows Token A} (a : Acts rows C) where
   pub record Lawful : Type 0 where
     pub agree : CallsAgree c
     pub idle : (s : C) (kids : List (Node Token A)) → a.Fits s kids → c.IsIdle s
+    -- brought back to its start it fits children that are brought back to theirs
+    pub fits_again : (s : C) (kids : List (Node Token A)) → a.Fits s kids → a.Fits (c.restarted s) (map reset_of kids)
     pub begins : (b : Beginning A C) → a.Fits b.before (list_of b.kids) → c.Takes b.before b.inputs → length (list_of b.kids) ≡ length b.olds → a.Underway b (c.begun b.tag b.inputs b.before) (list_of b.kids) b.olds
     pub middle : (b : Beginning A C) (s : C) (now : List (Node Token A)) (news : List (Kept Token)) → a.Underway b s now news → Middle b s now news

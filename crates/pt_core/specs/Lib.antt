@@ -1,4 +1,5 @@
 pub mod Acts
+pub mod Source
 pub mod Lawful
 pub mod Reached
 pub mod EitherActs

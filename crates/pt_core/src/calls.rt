@@ -1,7 +1,9 @@
-ghost use Rattle.std.specs.Prelude.{◌≡◌, Some, IsSome, IfOk, OnOk, OnErr};
+ghost use Rattle.std.specs.Prelude.{◌≡◌, Some, None, IsSome, IfOk, OnOk, OnErr};
+ghost use Rattle.pt_meaning.specs.NodeFacts.{core_need};
+ghost use Rattle.pt_firing.specs.Need.{need_of};
 ghost use Rattle.pt_core.specs.Acts.{Calls};
 
-use pt_firing::{Ask, Inputs, Outputs, Partial, RunFault};
+use pt_firing::{Ask, Inputs, Need, Outputs, Partial, RunFault};
 use pt_time::Tag;
 use std::alloc::{AllocError, Global};
 
@@ -10,6 +12,10 @@ use std::alloc::{AllocError, Global};
 /// A firing of the composite is `begin`, then `ask` and what it asks for, and at `Finished` the call `finish`.
 pub trait Core: Sized {
     ghost calls: { Calls Self };
+
+    /// What the composite needs before it can fire.
+    fn need(&self) -> Need<'_>
+        ensures { need_of result ≡ core_need (calls.core_of self.now) };
 
     /// Begins a firing of the composite at a tag, on a list for each own input.
     fn begin(&mut self, alloc: Global, tag: Tag, inputs: &Inputs<'_>) -> Result<(), AllocError>
@@ -49,14 +55,14 @@ pub trait Core: Sized {
     fn refusal(&self) -> RunFault
         ensures { result ≡ calls.refusal self.now };
 
-    /// What is known of the inputs of the child that was asked for an early answer. Where none was asked it may be anything, since
-    /// some directors never ask.
+    /// What is known of the inputs of the child that was asked for an early answer: nothing of none where no child was asked.
     fn partial(&self, alloc: Global) -> Result<Partial, AllocError>
-        ensures { IsSome (calls.listened_of self.now) → IfOk result (λ partial. partial ≡ calls.partial_of self.now) };
+        ensures { IfOk result (λ partial. partial ≡ calls.partial_of self.now) };
 
-    /// Takes what that child gave early.
+    /// Takes what that child gave early. Where no child was asked nothing changes, since some directors never ask.
     fn hears(&mut self, alloc: Global, child: u32, early: &Partial) -> Result<(), AllocError>
         ensures heard { calls.listened_of self.old ≡ Some child → OnOk result (self.new ≡ calls.heard child early.now self.old) }
+        ensures unasked { calls.listened_of self.old ≡ None → OnOk result (self.new ≡ self.old) }
         ensures kept { OnErr result (self.new ≡ self.old) };
 
     /// Hands out the own outputs.
@@ -70,4 +76,8 @@ pub trait Core: Sized {
     fn reset(&mut self, alloc: Global) -> Result<(), AllocError>
         ensures reset { OnOk result (self.new ≡ calls.restarted self.old) }
         ensures kept { OnErr result (self.new ≡ self.old) };
+
+    /// Another core in the same state.
+    fn copy(&self, alloc: Global) -> Result<Self, AllocError>
+        ensures { IfOk result (λ core. core ≡ self.now) };
 }

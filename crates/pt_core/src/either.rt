@@ -1,7 +1,7 @@
 ghost use Rattle.pt_core.specs.EitherActs.{either_calls};
 
 use crate::calls::Core;
-use pt_firing::{Ask, Inputs, Outputs, Partial, RunFault};
+use pt_firing::{Ask, Inputs, Need, Outputs, Partial, RunFault};
 use pt_time::Tag;
 use std::alloc::{AllocError, Global};
 
@@ -14,6 +14,13 @@ pub enum Either<A, B> {
 
 impl<A: Core, B: Core> Core for Either<A, B> {
     ghost calls = { either_calls A.calls B.calls };
+
+    fn need(&self) -> Need<'_> {
+        match self {
+            Either::First(core) => core.need(),
+            Either::Other(core) => core.need(),
+        }
+    }
 
     fn begin(&mut self, alloc: Global, tag: Tag, inputs: &Inputs<'_>) -> Result<(), AllocError> {
         match self {
@@ -90,5 +97,12 @@ impl<A: Core, B: Core> Core for Either<A, B> {
             Either::First(core) => core.reset(alloc),
             Either::Other(core) => core.reset(alloc),
         }
+    }
+
+    fn copy(&self, alloc: Global) -> Result<Either<A, B>, AllocError> {
+        Ok(match self {
+            Either::First(core) => Either::First(core.copy(alloc)?),
+            Either::Other(core) => Either::Other(core.copy(alloc)?),
+        })
     }
 }

@@ -3,6 +3,8 @@
 
 mod calls;
 mod either;
+mod source;
 
 pub use calls::Core;
 pub use either::Either;
+pub use source::Source;

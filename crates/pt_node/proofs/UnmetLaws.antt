@@ -7,13 +7,12 @@ use Rattle.pt_records.specs.Made.{AreMade, IsUnmet}
 use Rattle.pt_records.proofs.MadeLaws.{unmet-made}
 use Rattle.pt_node.specs.declared.body.Body.{Body}
 use Rattle.pt_node.specs.declared.body.Body.TheVariants.{Actor, Composite}
-use Rattle.pt_node.specs.declared.director.Director.TheVariants.{Sdf}
 use Rattle.pt_node.specs.Shown.{Shown, AllShown, Branch, none, more}
 use Rattle.pt_node.specs.View.{meetings_in, kept_of, kepts_of}
 
 body-unmet : (b : Body) → meetings_in b ≡ None
 body-unmet (Actor held) = refl
-body-unmet (Composite (Sdf s)) = refl
+body-unmet (Composite director) = refl
 
 mutual
   pub node-unmet : (s : Shown) → IsUnmet (kept_of s)

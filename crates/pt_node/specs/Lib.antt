@@ -1,3 +1,4 @@
+pub mod Acts
 pub mod Recorded
 pub mod Shown
 pub mod View

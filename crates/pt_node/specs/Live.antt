@@ -1,35 +1,19 @@
 -- When a node may fire: no firing of it is under way, and each composite fits its children.
-use Rattle.std.specs.Prelude.{◌≡◌, Bool, true, length}
+use Rattle.std.specs.Prelude.{◌≡◌, Bool, true}
 use Rattle.pt_meaning.specs.Basics.{Tag, Streams}
 use Rattle.pt_meaning.specs.Tree as tree
-use Rattle.pt_meaning.specs.NodeFacts as facts
 use Rattle.pt_value.specs.declared.token.Token.{Token}
-use Rattle.pt_sdf.specs.State.{Idle}
-use Rattle.pt_sdf.specs.Chain.{IsFor}
-use Rattle.pt_node.specs.declared.director.Director.{Director}
-use Rattle.pt_node.specs.declared.director.Director.TheVariants.{Sdf}
+use Rattle.pt_directors.specs.Directors.{Director}
 use Rattle.pt_library.specs.LibraryActor as library
-use Rattle.pt_library.specs.Steady.{IsSteadyActor}
 use Rattle.pt_node.specs.declared.body.Body.{Body}
 use Rattle.pt_node.specs.declared.body.Body.TheVariants.{Actor, Composite}
+use Rattle.pt_node.specs.Acts.{acts}
 use Rattle.pt_node.specs.Shown.{Shown, AllShown, Branch, none, more}
 use Rattle.pt_node.specs.View.{nodes_of}
 
--- a composite of SDF is steady
-abbrev pub IsSteadyBody : Body → Type 0
-IsSteadyBody (Actor held) = IsSteadyActor held.actor
-IsSteadyBody (Composite director) = Unit {0}
-
-abbrev pub IsSteady : Shown → Type 0
-IsSteady (Branch f ks) = IsSteadyBody f.body
-
-abbrev pub AllSteady : AllShown → Type 0
-AllSteady none = Unit {0}
-AllSteady (more s ss) = IsSteady s × AllSteady ss
-
--- no firing of the composite is under way, and its plan is one for these children, whose needs stay
+-- no firing of the composite is under way, and its director fits these children, whatever they fire
 abbrev pub IsReady : Director → AllShown → Type 0
-IsReady (Sdf s) ks = (s.stage ≡ Idle) × IsFor (facts.facts_of library.rows) s (tree.list_of (nodes_of ks)) × AllSteady ks
+IsReady director ks = acts.Fits director (tree.list_of (nodes_of ks))
 
 abbrev pub IsReadyBody : Body → AllShown → Type 0
 IsReadyBody (Actor held) ks = Unit {0}
@@ -54,7 +38,7 @@ IsLive s = (is_live s ≡ true) × IsFit s
 
 -- the inputs fit the director: a list for each own input
 abbrev pub TakenBy : Director → Streams Token → Type 0
-TakenBy (Sdf s) X = length X ≡ length s.plan.takes
+TakenBy director X = acts.calls.Takes director X
 
 -- the inputs that the node takes at a tag
 abbrev pub TakesBody : Tag → Body → Streams Token → Type 0

@@ -6,8 +6,7 @@ use Rattle.pt_value.specs.declared.token.Token.{Token}
 use Rattle.pt_records.specs.Kept.{Kept, Entry, Made, kept_by}
 use Rattle.pt_node.specs.declared.body.Body.{Body}
 use Rattle.pt_node.specs.declared.body.Body.TheVariants.{Actor, Composite}
-use Rattle.pt_node.specs.declared.director.Director.{Director}
-use Rattle.pt_node.specs.declared.director.Director.TheVariants.{Sdf}
+use Rattle.pt_directors.specs.Directors.{Director, director_calls}
 use Rattle.pt_library.specs.declared.library_actor.LibraryActor.{LibraryActor}
 use Rattle.pt_node.specs.Recorded.{RecordedPort, trace_of}
 use Rattle.pt_node.specs.Shown.{Shown, AllShown, Branch, Frame, none, more}
@@ -20,10 +19,10 @@ Trees = tree.Nodes Token LibraryActor
 
 -- a director with what it holds at its start, and now
 abbrev pub start_of : Director → tree.Core Token
-start_of (Sdf s) = tree.Sdf s.plan s.first
+start_of director = director_calls.start_of director
 
 abbrev pub core_of : Director → tree.Core Token
-core_of (Sdf s) = tree.Sdf s.plan s.held
+core_of director = director_calls.core_of director
 
 -- a library actor, or a composite of these children
 abbrev pub node_with : tree.Past → Body → Trees → Tree
@@ -39,9 +38,9 @@ abbrev mutual
   nodes_of none = tree.none
   nodes_of (more s ss) = tree.more (node_of s) (nodes_of ss)
 
--- the meetings that were recorded: of a composite whose director isn't Rendezvous there are none, nor of a library actor
+-- the meetings that were recorded: no director of the code is Rendezvous, and a library actor makes none
 abbrev pub meetings_of : Director → Option Made
-meetings_of (Sdf s) = None
+meetings_of director = None
 
 abbrev pub meetings_in : Body → Option Made
 meetings_in (Actor held) = None

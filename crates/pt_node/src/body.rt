@@ -1,6 +1,7 @@
 ghost use Rattle.std.specs.Prelude.{◌≡◌, IfOk};
 
-use crate::director::Director;
+use pt_core::Core;
+use pt_directors::Director;
 use pt_firing::Fires;
 use pt_library::LibraryActor;
 use std::alloc::{AllocError, Global};

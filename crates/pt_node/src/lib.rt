@@ -2,14 +2,12 @@
 #![tactic(auto)]
 
 mod body;
-mod director;
 mod node;
 mod past;
 mod recorded;
 mod unmet;
 
 pub use body::{Body, Held};
-pub use director::Director;
 pub use node::Node;
 pub use past::Past;
 pub use recorded::{Recorded, Records};

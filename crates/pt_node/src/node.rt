@@ -1,18 +1,20 @@
-ghost use Rattle.std.specs.Prelude.{◌≡◌, ◌+◌, ◌<◌, ◌^◌, [], ◌∷◌, map, IfOk};
+ghost use Rattle.std.specs.Prelude.{◌≡◌, ◌+◌, ◌<◌, ◌^◌, [], ◌∷◌, map, false, IfOk, OnOk, OnErr};
 ghost use Rattle.pt_value.specs.declared.token.Token.TheVariants.{Int};
 ghost use Rattle.pt_node.specs.declared.node.Node.{out-Node};
 ghost use Rattle.pt_node.specs.Shown.{shown_node};
 ghost use Rattle.pt_meaning.specs.NodeFacts as facts;
 ghost use Rattle.pt_firing.specs.Need.{need_of};
 ghost use Rattle.pt_library.specs.LibraryActor as library;
-ghost use Rattle.pt_node.specs.Live.{is_live};
+ghost use Rattle.pt_node.specs.Live.{is_live, IsFit};
+ghost use Rattle.pt_node.specs.Reset.{WasReset, SameRecords};
 ghost use Rattle.pt_node.specs.View.{node_of};
 ghost use Rattle.pt_node.specs.Firing.{noted, bare, recorded};
 
 use crate::body::Body;
 use crate::past::Past;
 use crate::recorded::Records;
-use pt_firing::{Actor, Need, Outputs};
+use pt_core::Core;
+use pt_firing::{Actor, Need, Outputs, Partial};
 use pt_time::Tag;
 use pt_value::Text;
 use std::alloc::{AllocError, Global};
@@ -46,6 +48,16 @@ impl Node {
         match &self.body {
             Body::Actor(held) => held.actor.need(),
             Body::Composite(director) => director.need(),
+        }
+    }
+
+    /// What it gives early at a tag, from what is known of its inputs: a composite nothing.
+    pub fn early(&self, alloc: Global, tag: Tag, partial: &Partial) -> Result<Partial, AllocError>
+        ensures { IfOk result (λ outputs. outputs ≡ facts.early_of library.rows tag (node_of (shown_node self.now)) partial.now) }
+    {
+        match &self.body {
+            Body::Actor(held) => held.actor.early(alloc, tag, partial),
+            Body::Composite(_) => Ok(Partial::of(Vec::new(alloc))),
         }
     }
 

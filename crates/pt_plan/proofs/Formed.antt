@@ -10,8 +10,8 @@ use Rattle.pt_rates.specs.Balance.{IsChannel, tokens_on}
 use Rattle.pt_rates.specs.declared.edge.Edge.{Edge}
 use Rattle.pt_sched.specs.Channels.{IsSchedEdge}
 use Rattle.pt_sched.specs.declared.edge.SchedEdge.{SchedEdge}
-use Rattle.pt_sdf.specs.declared.plan.Source.{Source}
-use Rattle.pt_sdf.specs.declared.plan.Source.TheVariants.{Own, Output}
+use Rattle.pt_core.specs.declared.source.Source.{Source}
+use Rattle.pt_core.specs.declared.source.Source.TheVariants.{Own, Output}
 use Rattle.pt_plan.specs.Channels.{nodes_of, owners, end_of, taken_at, start_of, put_at, edge_in, channel_at, channels_of, edges_of, is_between, between}
 use Rattle.pt_plan.specs.Inside.{IsRate, IsThere, IsInside}
 use Rattle.pt_plan.specs.declared.inside.Inside.{Inside}

@@ -3,7 +3,7 @@ use Rattle.std.proofs.Common.{◌≡◌, ℕ, zero, suc, ◌+◌, ◌<◌, ◌�
 use Rattle.std.proofs.lemmas.List.{length-replicate, get_or-replicate, get_or_append_left, get_or-append-add}
 use Rattle.pt_meaning.specs.Running.{total}
 use Rattle.pt_sched.specs.declared.edge.SchedEdge.{SchedEdge}
-use Rattle.pt_sdf.specs.declared.plan.Source.{Source}
+use Rattle.pt_core.specs.declared.source.Source.{Source}
 use Rattle.pt_plan.specs.Channels.{owners, channel_at, channels_from, channels_of}
 use Rattle.pt_plan.specs.declared.inside.Inside.{Inside}
 

@@ -7,8 +7,8 @@ use Rattle.pt_rates.specs.declared.edge.Edge.{Edge}
 use Rattle.pt_sched.specs.Runs.{IsSchedule, AreGreatestLengths}
 use Rattle.pt_sched.specs.declared.edge.SchedEdge.{SchedEdge}
 use Rattle.pt_plan.specs.Channels.{nodes_of, channels_of, edges_of, between}
-use Rattle.pt_sdf.specs.Plan.{source_of}
-use Rattle.pt_sdf.specs.declared.plan.Source.{Source}
+use Rattle.pt_core.specs.Source.{source_of}
+use Rattle.pt_core.specs.declared.source.Source.{Source}
 use Rattle.pt_plan.specs.Iteration.{IsCut}
 use Rattle.pt_plan.specs.PlanOf.{IsPlanOf, IsWithinLimits, put_by, AreRooms}
 use Rattle.pt_plan.specs.Unfed.{own, unfed, sources_of}

@@ -14,9 +14,9 @@ use Rattle.pt_sched.specs.declared.edge.SchedEdge.{SchedEdge}
 use Rattle.pt_sched.proofs.Listing.{no_channel}
 use Rattle.pt_sdf.specs.ByNeed.{place_of}
 use Rattle.pt_sdf.specs.Lawful.{occurs, rate_at, IsNamed, NeverLacks, IsSupplied, IsLawful}
-use Rattle.pt_sdf.specs.Plan.{source_of}
-use Rattle.pt_sdf.specs.declared.plan.Source.{Source}
-use Rattle.pt_sdf.specs.declared.plan.Source.TheVariants.{Own, Output}
+use Rattle.pt_core.specs.Source.{source_of}
+use Rattle.pt_core.specs.declared.source.Source.{Source}
+use Rattle.pt_core.specs.declared.source.Source.TheVariants.{Own, Output}
 use Rattle.pt_plan.specs.Channels.{nodes_of, end_of, taken_at, edge_at, edge_in, channel_at, channels_of, edges_of, is_between, between}
 use Rattle.pt_plan.specs.Inside.{IsThere, IsInside}
 use Rattle.pt_plan.specs.Unfed.{unfed, own, sources_of, no_tokens, first_of}

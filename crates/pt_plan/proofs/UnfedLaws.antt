@@ -4,7 +4,7 @@ use Rattle.std.specs.List.{range_with_len}
 use Rattle.std.proofs.lemmas.List.{map-id, length-map, take_more}
 use Rattle.std.proofs.lemmas.List.Elements.{All-append, All-filter, All-map}
 use Rattle.std.proofs.lemmas.List.FromFn.{filter_of_map_range_with_len_more, length-range_with_len, get_or-range_with_len}
-use Rattle.pt_sdf.specs.declared.plan.Source.{Source}
+use Rattle.pt_core.specs.declared.source.Source.{Source}
 use Rattle.pt_plan.specs.Inside.{IsThere}
 use Rattle.pt_plan.specs.Unfed.{is_own, feeds, is_unfed, unfed_among, unfed, own, sources_of, no_tokens, first_of}
 use Rattle.pt_plan.specs.declared.inside.Inside.{Inside}

@@ -1,8 +1,8 @@
 -- When the inside of an SDF composite is well formed: its lists fit one another, and its numbers name what is there.
 use Rattle.std.specs.Prelude.{◌≡◌, ℕ, ◌+◌, ◌^◌, ◌<◌, ◌≤◌, List, [], length, All, get_or}
 use Rattle.pt_meaning.specs.Running.{total}
-use Rattle.pt_sdf.specs.declared.plan.Source.{Source}
-use Rattle.pt_sdf.specs.declared.plan.Source.TheVariants.{Own, Output}
+use Rattle.pt_core.specs.declared.source.Source.{Source}
+use Rattle.pt_core.specs.declared.source.Source.TheVariants.{Own, Output}
 use Rattle.pt_plan.specs.declared.inside.Inside.{Inside}
 
 -- a number of tokens that a firing may move (by the profile)

@@ -1,7 +1,7 @@
 -- What the planner makes of an iteration, among the definitions.
 use Rattle.std.specs.Prelude.{◌≡◌, ℕ, ◌+◌, List, length, map, take, drop}
 use Rattle.pt_meaning.specs.Sdf.{SdfPlan}
-use Rattle.pt_sdf.specs.Plan.{source_of}
+use Rattle.pt_core.specs.Source.{source_of}
 use Rattle.pt_plan.specs.declared.inside.Inside.{Inside}
 use Rattle.pt_plan.specs.declared.planning.Iteration.{Iteration}
 

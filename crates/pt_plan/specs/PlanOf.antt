@@ -6,8 +6,8 @@ use Rattle.pt_rates.specs.Balance.{IsRepetitionVector, tokens_on}
 use Rattle.pt_rates.specs.declared.edge.Edge.{Edge}
 use Rattle.pt_sched.specs.Runs.{IsSchedule, IsGreatestLength}
 use Rattle.pt_sched.specs.declared.edge.SchedEdge.{SchedEdge}
-use Rattle.pt_sdf.specs.Plan.{source_of}
-use Rattle.pt_sdf.specs.declared.plan.Source.{Source}
+use Rattle.pt_core.specs.Source.{source_of}
+use Rattle.pt_core.specs.declared.source.Source.{Source}
 use Rattle.pt_plan.specs.Channels.{nodes_of, start_of, put_at, channels_of, edges_of, between, is_between}
 use Rattle.pt_plan.specs.Unfed.{own, unfed, sources_of}
 use Rattle.pt_plan.specs.declared.inside.Inside.{Inside}

@@ -2,8 +2,8 @@
 -- The tokens of such an input bound the iterations of a firing and are kept like those of any other. So in the plan it has a channel of its own, which begins there and ends nowhere.
 use Rattle.std.specs.Prelude.{ℕ, List, [], ◌∷◌, ◌++◌, map, filter, Bool, false, not, ◌||◌, nat_eq}
 use Rattle.std.specs.List.{range_with_len}
-use Rattle.pt_sdf.specs.declared.plan.Source.{Source}
-use Rattle.pt_sdf.specs.declared.plan.Source.TheVariants.{Own, Output}
+use Rattle.pt_core.specs.declared.source.Source.{Source}
+use Rattle.pt_core.specs.declared.source.Source.TheVariants.{Own, Output}
 use Rattle.pt_plan.specs.declared.inside.Inside.{Inside}
 
 -- the channel begins at that own input

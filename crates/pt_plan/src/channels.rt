@@ -5,7 +5,7 @@ ghost use Rattle.pt_plan.specs.Channels.{nodes_of, owners, end_of, taken_at, sta
 use crate::inside::Inside;
 use pt_rates::Edge;
 use pt_sched::SchedEdge;
-use pt_sdf::Source;
+use pt_core::Source;
 use std::alloc::{AllocError, Global};
 
 /// The channels of a composite, between its children and its own ports.

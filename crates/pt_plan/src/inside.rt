@@ -3,7 +3,7 @@ ghost use Rattle.pt_meaning.specs.Running.{total};
 ghost use Rattle.pt_plan.specs.Inside.{IsRate};
 
 use pt_firing::Counts;
-use pt_sdf::Source;
+use pt_core::Source;
 
 /// The greatest number of tokens that a firing moves on a channel.
 const MOST_TOKENS: usize = 1_000_000;

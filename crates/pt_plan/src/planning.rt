@@ -22,7 +22,8 @@ use crate::unfed::add_unfed;
 use pt_firing::Counts;
 use pt_rates::{Edge, RatesFault, solve};
 use pt_sched::{Plan, SchedEdge, SchedFault, schedule};
-use pt_sdf::{CorePlan, Source};
+use pt_core::Source;
+use pt_sdf::CorePlan;
 use std::alloc::{AllocError, Global};
 use thiserror::Error;
 

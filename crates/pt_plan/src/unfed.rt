@@ -1,7 +1,7 @@
 ghost use Rattle.std.specs.Prelude.{◌≡◌, ◌+◌, ◌<◌, ◌≤◌, ◌++◌, ◌||◌, ℕ, All, IfOk, OnOk, false, get_or, length, map, slice_index};
 ghost use Rattle.pt_plan.specs.Unfed.{is_own, feeds, own, unfed_among};
 
-use pt_sdf::Source;
+use pt_core::Source;
 use std::alloc::{AllocError, Global};
 
 /// Adds a channel for each own input that feeds nothing. It begins there and ends nowhere, and has room for what an iteration

@@ -1,5 +1,5 @@
 -- The calls of the core are lawful.
-use Rattle.std.proofs.Common.{◌≡◌, ◌⊎◌, inl, inr, ℕ, zero, suc, ◌<◌, ◌≤◌, List, [], ◌∷◌, ◌++◌, Bool, true, false, not, length, get_or, set, take, drop, Some, None, refl, sym, ap, subst, ◌∙◌, arith, length-append, length-set}
+use Rattle.std.proofs.Common.{◌≡◌, ◌⊎◌, inl, inr, ℕ, zero, suc, ◌<◌, ◌≤◌, List, [], ◌∷◌, ◌++◌, Bool, true, false, not, length, map, get_or, set, take, drop, Some, None, refl, sym, ap, ap₂, subst, ◌∙◌, arith, length-append, length-set}
 use Rattle.std.proofs.lemmas.Bool.{cases_eq}
 use Rattle.std.proofs.lemmas.List.{length-take-le}
 use Rattle.pt_meaning.specs.Streams.{Streams, get}
@@ -10,7 +10,7 @@ use Rattle.pt_meaning.specs.Sdf.{SdfPlan, iterations, sdf_limits, times, leaves}
 use Rattle.pt_meaning.specs.Running.{Asks, total, puts}
 use Rattle.pt_meaning.specs.Lawful.{LawfulRows}
 use Rattle.pt_meaning.specs.Meetings.{below_child}
-use Rattle.pt_meaning.specs.Tree.{Rows, Core, Sdf, Past, Node, Composite, list_of, nodes_of, made_of, fired_at, height, heights}
+use Rattle.pt_meaning.specs.Tree.{Rows, Core, Sdf, Past, Node, Composite, list_of, nodes_of, made_of, reset_of, fired_at, height, heights}
 use Rattle.pt_meaning.specs.NodeFacts.{facts_of, need_of}
 use Rattle.pt_meaning.specs.Step.{step_at, Step}
 use Rattle.pt_laws.specs.CompositeRuns.{sdf_start, sdf_bounds, outlets_of}
@@ -29,12 +29,13 @@ use Rattle.pt_records.specs.SoFar.{SoFar, SdfSoFar}
 use Rattle.pt_records.proofs.SoFarLaws.{recorded-done, so-far-begins, so-far-goes-on, sdf-is-done, sdf-is-stuck, sdf-is-unrated, sdf-is-left-off, sdf-is-left-off-within}
 use Rattle.pt_core.specs.Acts.{Beginning, Acts}
 use Rattle.pt_core.specs.Lawful.{Lawful, IsUsual, IsLentTo, IsStuck, IsLeftOff, node, outcome, child_outcome, below_fault, child_fault}
-use Rattle.pt_core.specs.Reached.{Becomes, Stays, Fires, Always}
-use Rattle.pt_sdf.specs.ByNeed.{by_need, place_of}
+use Rattle.pt_core.specs.Reached.{Becomes, Stays, Fires, Resets, Always}
+use Rattle.pt_core.proofs.ReachedLaws.{got-reset}
+use Rattle.pt_sdf.specs.ByNeed.{by_need, needs_of, place_of}
 use Rattle.pt_sdf.specs.State.{Stage, Idle, Open, Asked, Handed, Wrong, Closed, Allows, IsEnough, asked_child, lent_in, hand, handed, IsHanded, needs_at, lent_of, left_of, is_wrong, in_stage, begun, asked, if_told, after_told, closed, own_of, owed}
 use Rattle.pt_sdf.specs.Chain.{IsFor}
 use Rattle.pt_sdf.specs.Clauses.{State, MayAsk, IsAsked}
-use Rattle.pt_sdf.specs.SdfActs.{AllSteady, Going, Gives, asking, sdf_acts}
+use Rattle.pt_sdf.specs.SdfActs.{AllSteady, Going, Gives, asking, Fits, sdf_calls, sdf_acts}
 use Rattle.pt_sdf.proofs.NeedLaws.{asks-as, needs-length, needs-kept, planned-length, skip-length, limits-length, limits-rates, all-fit}
 
 -- the answer that a contract tells
@@ -136,8 +137,9 @@ module _ {A : Type 0} (rows : Rows Token A) where
   children-long : (s : State) (kids : List (Node Token A)) → IsFor (facts_of rows) s kids → length kids ≡ length s.plan.net.places
   children-long s kids f = sym (needs-length (facts_of rows) kids) ∙ ap (λ v. length v) f.needs ∙ planned-length s.plan.net.places s.needs
 
-  begins-one : (b : Beginning A State) → IsFor (facts_of rows) b.before (list_of b.kids) → AllSteady rows (list_of b.kids) → length (list_of b.kids) ≡ length b.olds → Going rows b (begun b.tag b.inputs b.before) (list_of b.kids) b.olds
-  begins-one b f steady o =
+  begins-one : (b : Beginning A State) → Fits rows b.before (list_of b.kids) → length (list_of b.kids) ≡ length b.olds → Going rows b (begun b.tag b.inputs b.before) (list_of b.kids) b.olds
+  begins-one b fits o =
+      let f : IsFor (facts_of rows) b.before (list_of b.kids) = fits.fitting in
       let p : SdfPlan = b.before.plan in
       let X : Streams Token = arrived p.net.sources b.inputs b.before.held in
       let long : total p.net.places ≤ length X = omega (arith, f.channels, arrived-long p.net.sources b.inputs b.before.held) in
@@ -149,7 +151,8 @@ module _ {A : Type 0} (rows : Rows Token A) where
         turns = refl;
         count = sym o;
         fitting = record { repetitions = f.repetitions; rates = f.rates; channels = long; needs = f.needs };
-        steady = steady;
+        starts = fits.starts;
+        steady = fits.steady;
         so_far =
             so-far-begins rows b.meets b.tag p.net (sdf_limits (iterations p X) p.repetitions p.rates) b.kids X b.olds (limits-length (iterations p X) p.repetitions p.rates (f.repetitions ∙ sym f.rates) ∙ f.repetitions)
             (children-long b.before (list_of b.kids) f) (all-fit p.net.places X long) o;
@@ -217,6 +220,7 @@ module _ {A : Type 0} (rows : Rows Token A) where
             channels = omega (arith, g.fitting.channels, plus-length (left_of s i) (puts i out s.plan.net.sources), skip-length (place_of s.plan.net.places i) (needs_at s i) s.held);
             needs = needs-kept (facts_of rows) now i child next (g.steady i child e next (becomes next (Stays next)) ∙ ap (λ n. need_of rows n) (sym (get-or-of now i child child e))) ∙ g.fitting.needs;
           };
+          starts = g.starts;
           steady = steady-set rows now i child next e becomes g.steady;
           so_far =
               so-far-goes-on rows b.meets (heights b.kids) b.tag s.plan.net limits (list_of b.kids) (arrived s.plan.net.sources b.inputs b.before.held) b.olds s.fired now s.held news g.so_far i child next (lent_of s i) (left_of s i) out k (asked-now i child e allows) (kept-within i here) f
@@ -289,6 +293,27 @@ module _ {A : Type 0} (rows : Rows Token A) where
       needs = g.fitting.needs;
     }
 
+  -- children that are brought back to their starts need what they needed
+  reset-need : (kids : List (Node Token A)) → AllSteady rows kids → (i : ℕ) (child : Node Token A) → get kids i ≡ Some child → need_of rows (reset_of child) ≡ need_of rows child
+  reset-need kids steady i child e = steady i child e (reset_of child) (Resets child (reset_of child) (Stays (reset_of child)))
+
+  reset-needs : (kids : List (Node Token A)) → AllSteady rows kids → needs_of (facts_of rows) (map reset_of kids) ≡ needs_of (facts_of rows) kids
+  reset-needs [] steady = refl
+  reset-needs (x ∷ xs) steady = ap₂ (λ v vs. v ∷ vs) (reset-need (x ∷ xs) steady 0 x refl) (reset-needs xs (λ i child e. steady (suc i) child e))
+
+  reset-steady : (kids : List (Node Token A)) → AllSteady rows kids → AllSteady rows (map reset_of kids)
+  reset-steady kids steady i z e =
+      let r = got-reset rows kids i z e in
+      subst (λ (v : Node Token A). Always rows (λ node. need_of rows node ≡ need_of rows v) v) (sym r.is) (λ later t. steady i r.was r.there later (Resets r.was later t) ∙ sym (reset-need kids steady i r.was r.there))
+
+  again-one : (s : State) (kids : List (Node Token A)) → Fits rows s kids → Fits rows (sdf_calls.restarted s) (map reset_of kids)
+  again-one s kids f = record {
+    idle = refl;
+    fitting = record { repetitions = f.fitting.repetitions; rates = f.fitting.rates; channels = f.starts; needs = reset-needs kids f.steady ∙ f.fitting.needs };
+    starts = f.starts;
+    steady = reset-steady kids f.steady;
+  }
+
   pub sdf-is-lawful : LawfulRows rows → Lawful (sdf_acts rows)
   sdf-is-lawful law = record {
     agree = record {
@@ -301,8 +326,9 @@ module _ {A : Type 0} (rows : Rows Token A) where
       finishes = λ s q. refl;
       restarts = λ s. (refl, refl);
     };
-    idle = λ s kids f. f.0;
-    begins = λ b f t o. begins-one b f.1 f.2 o;
+    idle = λ s kids f. f.idle;
+    fits_again = again-one;
+    begins = λ b f t o. begins-one b f o;
     middle = λ b s now news g. record {
       asks = subst (λ v. MayAsk v) (sym g.stage) tt;
       usual = usual-one b s now news g;
@@ -318,7 +344,7 @@ module _ {A : Type 0} (rows : Rows Token A) where
       resets = λ i q child e. absurd q;
       rests = λ i q. absurd q;
       ends = λ q h e. ends-one b s now news g law h e q.1;
-      fits = λ q. (refl, fits-one b s now news g, g.steady);
+      fits = λ q. record { idle = refl; fitting = fits-one b s now news g; starts = g.starts; steady = g.steady };
       faults = λ kind q h e. absurd q;
       off = λ h e. off-one b s now news g law h e;
       off_within = λ i when q child k there x h e. within-one b s now news g law h e i child there q.2 k (subst (λ t. LeavesOff (child_outcome (sdf_acts rows) b (asked i s) i t child) (IsShut rows (below_child i b.meets) child t (lent_of s i) None) (kept_at news i) k) (q.3 ∙ g.tag) x);

@@ -15,7 +15,8 @@ use Rattle.pt_sdf.specs.declared.sdf.Stage.TheVariants as code
 use Rattle.pt_sdf.specs.ByNeed.{place_of, skip_at}
 use Rattle.pt_sdf.specs.State.{Handed, started, begun, asked, handed, after_told, if_told, closed}
 use Rattle.pt_sdf.specs.declared.plan.CorePlan.{CorePlan}
-use Rattle.pt_sdf.specs.Plan.{source_of, plan_of, IsSamePlan}
+use Rattle.pt_sdf.specs.Plan.{plan_of, IsSamePlan}
+use Rattle.pt_core.specs.Source.{source_of}
 use Rattle.pt_sdf.specs.Clauses.{State}
 use Rattle.pt_sdf.specs.Lawful.{occurs, IsNamed}
 use Rattle.pt_sdf.specs.Feeds.{Target, row_of, port_of, targets, target_of, rows_in, put_back, allowed_by, AreFeeds, AreThere, AreApart, MovesOnce}

@@ -16,7 +16,8 @@ use Rattle.pt_sdf.specs.declared.sdf.Core.TheInside.{Inside}
 use Rattle.pt_sdf.specs.ByNeed.{place_of, skip_at}
 use Rattle.pt_sdf.specs.State.{Open, Idle, Closed, Allows, IsEnough, asked_child, lent_in, asked, handed, restarted, begun, after_told, closed}
 use Rattle.pt_sdf.specs.Clauses.{State}
-use Rattle.pt_sdf.specs.Plan.{source_of, plan_of}
+use Rattle.pt_sdf.specs.Plan.{plan_of}
+use Rattle.pt_core.specs.Source.{source_of}
 use Rattle.pt_sdf.specs.Feeds.{target_of, put_back, allowed_by, AreThere, AreApart, MovesOnce}
 use Rattle.pt_sdf.specs.Rooms.{HasRoom, HaveRooms}
 use Rattle.pt_sdf.specs.Core.{stage_of, state_of, state_in, with_asked, seen_in, left_at_first, place_behind, busy, Sound, IsSound}

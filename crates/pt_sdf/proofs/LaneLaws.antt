@@ -13,7 +13,8 @@ use Rattle.pt_sdf.specs.declared.sdf.Core.TheInside.{Inside}
 use Rattle.pt_sdf.specs.ByNeed.{place_of, skip_at}
 use Rattle.pt_sdf.specs.State.{after_told}
 use Rattle.pt_meaning.specs.Running.{plus, puts}
-use Rattle.pt_sdf.specs.Plan.{source_of, plan_of}
+use Rattle.pt_sdf.specs.Plan.{plan_of}
+use Rattle.pt_core.specs.Source.{source_of}
 use Rattle.pt_sdf.specs.Feeds.{Target, no_feed, target_of, rows_in, put_back, AreThere}
 use Rattle.pt_sdf.specs.declared.lanes.Lane.{Lane}
 use Rattle.pt_sdf.specs.declared.lanes.Inlet.TheVariants as inlet

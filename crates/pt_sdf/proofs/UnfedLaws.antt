@@ -6,9 +6,9 @@ use Rattle.pt_meaning.specs.Net.{Source}
 use Rattle.pt_meaning.specs.Kahn.{skip_places, behind}
 use Rattle.pt_meaning.specs.Sdf.{SdfPlan, times, taken_from, unfed, leaves}
 use Rattle.pt_meaning.specs.Running.{total}
-use Rattle.pt_sdf.specs.declared.plan.Source as declared
+use Rattle.pt_core.specs.declared.source.Source as declared
 use Rattle.pt_sdf.specs.ByNeed.{skip_at}
-use Rattle.pt_sdf.specs.Plan.{source_of}
+use Rattle.pt_core.specs.Source.{source_of}
 use Rattle.pt_sdf.proofs.OutletLaws.{skip-more, times-long}
 use Rattle.pt_sdf.proofs.NeedLaws.{skip-behind}
 

@@ -10,7 +10,7 @@ use Rattle.pt_sdf.specs.declared.lanes.Outlet.TheVariants.{Nothing, One, Burst, 
 use Rattle.pt_sdf.specs.declared.plan.CorePlan.{CorePlan}
 use Rattle.pt_sdf.specs.declared.tables.Tables.{Tables}
 use Rattle.pt_sdf.specs.ByNeed.{place_of}
-use Rattle.pt_sdf.specs.Plan.{source_of}
+use Rattle.pt_core.specs.Source.{source_of}
 use Rattle.pt_sdf.specs.Feeds.{Target, target_of, rows_in, AreFeeds}
 
 -- where the places of each child begin

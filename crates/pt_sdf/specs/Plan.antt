@@ -2,13 +2,8 @@
 use Rattle.std.specs.Prelude.{◌≡◌, map}
 use Rattle.pt_meaning.specs.Net as net
 use Rattle.pt_meaning.specs.Sdf.{SdfPlan}
-use Rattle.pt_sdf.specs.declared.plan.Source.{Source}
-use Rattle.pt_sdf.specs.declared.plan.Source.TheVariants.{Own, Output}
+use Rattle.pt_core.specs.Source.{source_of}
 use Rattle.pt_sdf.specs.declared.plan.CorePlan.{CorePlan}
-
-abbrev pub source_of : Source → net.Source
-source_of (Own port) = net.Own port
-source_of (Output child port) = net.Output child port
 
 abbrev pub net_of : CorePlan → net.Net
 net_of p = record { sources = map source_of p.sources.items; places = p.places }

@@ -1,9 +1,10 @@
 -- The calls of the core as a driver knows them.
-use Rattle.std.specs.Prelude.{◌≡◌, ℕ, ◌<◌, List, [], length, get_or, Some, None}
+use Rattle.std.specs.Prelude.{◌≡◌, ℕ, ◌<◌, ◌≤◌, List, [], length, get_or, Some, None}
 use Rattle.pt_meaning.specs.Streams.{get}
 use Rattle.pt_meaning.specs.Rounds.{has_rates}
 use Rattle.pt_meaning.specs.Kahn.{arrived, firsts}
 use Rattle.pt_meaning.specs.Sdf.{iterations, sdf_limits}
+use Rattle.pt_meaning.specs.Running.{total}
 use Rattle.pt_meaning.specs.Tree.{Rows, Node, list_of, heights}
 use Rattle.pt_meaning.specs.Tree as tree
 use Rattle.pt_meaning.specs.NodeFacts.{facts_of, need_of}
@@ -32,6 +33,7 @@ pub record Going {A : Type 0} (rows : Rows Token A) (b : Beginning A State) (s :
   pub turns : s.turns ≡ iterations b.before.plan (arrived b.before.plan.net.sources b.inputs b.before.held)
   pub count : length news ≡ length now
   pub fitting : IsFor (facts_of rows) s now
+  pub starts : total s.plan.net.places ≤ length s.first
   pub steady : AllSteady rows now
   pub so_far : SoFar rows b.meets (heights b.kids) b.tag s.plan.net (sdf_limits s.turns s.plan.repetitions s.plan.rates) (list_of b.kids) (arrived s.plan.net.sources b.inputs b.before.held) b.olds s.fired now s.held news
 
@@ -92,5 +94,12 @@ sdf_calls = record {
   waits = λ s. 0;
 }
 
+-- No firing is under way, and the plan is one for these children, whose needs stay. Each place has a channel, now and at the start.
+pub record Fits {A : Type 0} (rows : Rows Token A) (s : State) (kids : List (Node Token A)) : Type 0 where
+  pub idle : s.stage ≡ Idle
+  pub fitting : IsFor (facts_of rows) s kids
+  pub starts : total s.plan.net.places ≤ length s.first
+  pub steady : AllSteady rows kids
+
 abbrev pub sdf_acts : {A : Type 0} (rows : Rows Token A) → Acts rows State
-sdf_acts rows = record { calls = sdf_calls; Fits = λ s kids. (s.stage ≡ Idle) × IsFor (facts_of rows) s kids × AllSteady rows kids; Underway = Going rows }
+sdf_acts rows = record { calls = sdf_calls; Fits = Fits rows; Underway = Going rows }

@@ -2,12 +2,16 @@ ghost use Rattle.pt_sdf.specs.SdfActs.{sdf_calls};
 
 use crate::sdf::Core;
 use pt_core::Core as Driven;
-use pt_firing::{Ask, Inputs, Outputs, Partial, RunFault};
+use pt_firing::{Ask, Inputs, Need, Outputs, Partial, RunFault};
 use pt_time::Tag;
 use std::alloc::{AllocError, Global};
 
 impl Driven for Core {
     ghost calls = { sdf_calls };
+
+    fn need(&self) -> Need<'_> {
+        Need::All(self.takes())
+    }
 
     fn begin(&mut self, alloc: Global, tag: Tag, inputs: &Inputs<'_>) -> Result<(), AllocError> {
         self.begin(alloc, tag, inputs)
@@ -52,5 +56,9 @@ impl Driven for Core {
 
     fn reset(&mut self, alloc: Global) -> Result<(), AllocError> {
         self.reset(alloc)
+    }
+
+    fn copy(&self, alloc: Global) -> Result<Core, AllocError> {
+        self.copy(alloc)
     }
 }

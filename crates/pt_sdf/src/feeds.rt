@@ -1,8 +1,9 @@
 ghost use Rattle.std.specs.Prelude.{◌≡◌, ℕ, ◌+◌, ◌^◌, ◌<◌, ◌≤◌, length, map, IfOk, OnOk, [], ◌∷◌, ◌++◌, get_or, slice_set, true, false};
-ghost use Rattle.pt_sdf.specs.Plan.{source_of};
+ghost use Rattle.pt_core.specs.Source.{source_of};
 ghost use Rattle.pt_sdf.specs.Feeds.{target_of, rows_in, row_of, port_of, AreFeeds, AreTargets, MovesOnce};
 
-use crate::plan::{CorePlan, Source};
+use crate::plan::CorePlan;
+use pt_core::Source;
 use std::alloc::{AllocError, Global};
 
 /// A channel that a port feeds, and whether it is the first of that port, to which the tokens are moved.

@@ -21,5 +21,5 @@ mod unfed;
 
 pub use acts::sdf_is_lawful;
 pub use chain::calls_are_sdf;
-pub use plan::{CorePlan, Source};
+pub use plan::CorePlan;
 pub use sdf::Core;

@@ -1,14 +1,8 @@
 ghost use Rattle.std.specs.Prelude.{◌≡◌, IfOk};
 
+use pt_core::Source;
 use pt_firing::Counts;
 use std::alloc::{AllocError, Global};
-
-/// Where a channel begins: at an own input, or at an output of a child.
-#[derive(Clone, Copy, PartialEq, Eq, Debug)]
-pub enum Source {
-    Own(u32),
-    Output(u32, u32),
-}
 
 /// The net of an SDF composite with its rates, and the order of the firings of an iteration.
 /// Channels are numbered by the places where they end: those of the children in order, then the own outputs.

@@ -1,11 +1,11 @@
 ghost use Rattle.std.specs.Prelude.{◌≡◌, ◌^◌, ◌<◌, ◌≤◌, length, map, drop};
 ghost use Rattle.pt_meaning.specs.Sdf.{times, taken_from};
 ghost use Rattle.pt_sdf.specs.ByNeed.{skip_at};
-ghost use Rattle.pt_sdf.specs.Plan.{source_of};
+ghost use Rattle.pt_core.specs.Source.{source_of};
 
 use crate::outlets::owed_on;
-use crate::plan::Source;
 use crate::turns::number_for;
+use pt_core::Source;
 use pt_recv::Channels;
 
 /// Takes away what so many iterations take from the own inputs that feed nothing. Their channels are those from `from` on, of which `sources` says where each begins. It takes no memory.

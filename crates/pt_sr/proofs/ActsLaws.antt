@@ -1,5 +1,5 @@
 -- The calls of the core are lawful.
-use Rattle.std.proofs.Common.{◌≡◌, ◌⊎◌, inl, inr, ℕ, zero, suc, ◌+◌, ◌<◌, ◌≤◌, List, [], ◌∷◌, Bool, true, false, not, length, get_or, set, take, drop, Some, None, refl, sym, ap, subst, ◌∙◌, arith, length-set, length-drop}
+use Rattle.std.proofs.Common.{◌≡◌, ◌⊎◌, inl, inr, ℕ, zero, suc, ◌+◌, ◌<◌, ◌≤◌, List, [], ◌∷◌, Bool, true, false, not, length, map, get_or, set, take, drop, Some, None, refl, sym, ap, subst, ◌∙◌, arith, length-set, length-drop}
 use Rattle.std.specs.Prelude.{IsSome}
 use Rattle.std.proofs.lemmas.Bool.{cases_eq}
 use Rattle.std.proofs.lemmas.List.{length-map, length-take-le}
@@ -11,7 +11,7 @@ use Rattle.pt_meaning.specs.Sr.{all_single}
 use Rattle.pt_meaning.specs.Running.{total}
 use Rattle.pt_meaning.specs.Lawful.{LawfulRows}
 use Rattle.pt_meaning.specs.Meetings.{below_child}
-use Rattle.pt_meaning.specs.Tree.{Rows, Core, Sr, Past, Node, Composite, list_of, nodes_of, made_of, fired_at, height}
+use Rattle.pt_meaning.specs.Tree.{Rows, Core, Sr, Past, Node, Composite, list_of, nodes_of, made_of, reset_of, fired_at, height}
 use Rattle.pt_meaning.specs.NodeFacts.{facts_of, early_of}
 use Rattle.pt_meaning.specs.Step.{step_at, Step}
 use Rattle.pt_value.specs.declared.token.Token.{Token}
@@ -25,6 +25,7 @@ use Rattle.pt_records.proofs.SoFarLaws.{recorded-done}
 use Rattle.pt_core.specs.Acts.{Beginning, Acts}
 use Rattle.pt_core.specs.Lawful.{Lawful, IsUsual, IsLentTo, IsStuck, IsLeftOff, node, outcome, child_outcome, below_fault, own_fault, child_fault}
 use Rattle.pt_core.specs.Reached.{Becomes, Stays, Fires, Always, AllAlways}
+use Rattle.pt_core.proofs.ReachedLaws.{always-reset}
 use Rattle.pt_sr.specs.State.{Stage, Open, Wrong, Closed, MayFire, MayAnswer, asked, listening, in_stage, begun, if_told, after_told, after_heard, inputs_of, unknown_in, lent_of, own_of, closed, at_first, all_of, known_of}
 use Rattle.pt_sr.specs.Clauses.{State, MayAsk, IsAsked}
 use Rattle.pt_sr.specs.Chain.{IsFor, AllFired, NothingComes}
@@ -209,6 +210,14 @@ module _ {A : Type 0} (rows : Rows Token A) (law : LawfulRows rows) where
             subst (λ t. LeavesOff (sr_outcome rows b.meets h start b.before b.kids t b.inputs) (IsShut rows b.meets (sr_node h start b.before b.kids) t b.inputs None) (kept_by e b.olds) (kept_by e (set news i k))) g.tag
             (sr-is-left-off-within rows law b.meets h start b.before b.kids b.inputs e b.olds s now news g.so_far i child k there may x)
 
+  suits-again : (plan : TickPlan) (nonstrict : List Bool) (kids : List (Node Token A)) → Suits rows plan nonstrict kids → Suits rows plan nonstrict (map reset_of kids)
+  suits-again plan nonstrict kids u = record {
+    children = length-map kids reset_of ∙ u.children;
+    channels = u.channels;
+    strict = always-reset rows (λ i node. IsStrictIf rows (get_or nonstrict i false) node) kids u.strict;
+    places = always-reset rows (λ i node. HasPlaces rows (get_or plan.net.places i 0) node) kids u.places;
+  }
+
   pub sr-is-lawful : Lawful (sr_acts rows)
   sr-is-lawful = record {
     agree = record {
@@ -222,6 +231,7 @@ module _ {A : Type 0} (rows : Rows Token A) (law : LawfulRows rows) where
       restarts = λ s. (refl, refl);
     };
     idle = λ s kids f. f.0;
+    fits_again = λ s kids f. (refl, suits-again s.tick.plan s.tick.nonstrict kids f.1);
     begins = λ b f t o. begins-one b f.1 o;
     middle = λ b s now news g. record {
       asks = subst (λ v. MayAsk v) (sym g.stage) tt;

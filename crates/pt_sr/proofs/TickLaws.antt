@@ -12,7 +12,8 @@ use Rattle.pt_sr.specs.declared.feeds.Feed.{Feed}
 use Rattle.pt_sr.specs.declared.plan.CorePlan.{CorePlan}
 use Rattle.pt_sr.specs.declared.tick.Tick.TheInside.{Inside}
 use Rattle.pt_sr.specs.State.{TickState, MayFire, MayAnswer, HasNothing, HasTold, MayTell, inputs_of, unknown_in, all_of, known_of, after_children, at_first, unheard, unbegun, restarted_tick, begun_tick, fired_tick, asked_tick, heard_tick}
-use Rattle.pt_sr.specs.Plan.{plan_of, source_of, IsSamePlan, IsNamed, IsLawful}
+use Rattle.pt_sr.specs.Plan.{plan_of, IsSamePlan, IsNamed, IsLawful}
+use Rattle.pt_core.specs.Source.{source_of}
 use Rattle.pt_sr.specs.Feeds.{Target, target_of, targets, rows_in, no_feed, MovesOnce}
 use Rattle.pt_sr.specs.Given.{learn_on}
 use Rattle.pt_sr.specs.Tick.{begins, seen_in, IsSound, IsPassed, IsSettled}
@@ -322,13 +323,15 @@ module _ (p : CorePlan) where
 -- a plan that was copied
 pub plan-same : (p q : CorePlan) → IsSamePlan p q → plan_of q ≡ plan_of p
 plan-same p q h =
-    ap (λ ss. let x : TickPlan = record { net = record { sources = map source_of ss; places = q.places }; inputs = q.inputs } in x) h.sources ∙
-    ap (λ ns. let x : TickPlan = record { net = record { sources = map source_of p.sources.items; places = ns }; inputs = q.inputs } in x) h.places ∙
-    ap (λ n. let x : TickPlan = record { net = record { sources = map source_of p.sources.items; places = p.places }; inputs = n } in x) h.inputs
+    ap (λ ss. let x : TickPlan = record { net = record { sources = map source_of ss; places = q.places }; inputs = length q.takes } in x) h.sources ∙
+    ap (λ ns. let x : TickPlan = record { net = record { sources = map source_of p.sources.items; places = ns }; inputs = length q.takes } in x) h.places ∙
+    ap (λ ns. let x : TickPlan = record { net = record { sources = map source_of p.sources.items; places = p.places }; inputs = length ns } in x) h.takes
 
 module _ (t : Inside) (w : IsSound t) (q : CorePlan) (same : IsSamePlan t.plan q) where
-  pub copied-lawful : IsLawful (plan_of q) q.nonstrict.items
-  copied-lawful = subst (λ p. IsLawful p q.nonstrict.items) (sym (plan-same t.plan q same)) (subst (λ v. IsLawful (plan_of t.plan) v) (sym same.nonstrict) w.lawful)
+  pub copied-lawful : IsLawful (plan_of q) q.nonstrict.items q.takes
+  copied-lawful =
+      subst (λ p. IsLawful p q.nonstrict.items q.takes) (sym (plan-same t.plan q same))
+      (subst (λ v. IsLawful (plan_of t.plan) v q.takes) (sym same.nonstrict) (subst (λ ns. IsLawful (plan_of t.plan) t.plan.nonstrict.items ns) (sym same.takes) w.lawful))
 
   pub copied-offsets : (v : List ℕ) → v ≡ t.offsets.items → v ≡ begins 0 q.places
   copied-offsets v e = e ∙ w.offsets ∙ ap (λ ns. begins 0 ns) (sym same.places)

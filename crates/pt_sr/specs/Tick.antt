@@ -20,7 +20,7 @@ seen_in t = record { plan = plan_of t.plan; nonstrict = t.plan.nonstrict.items; 
 
 -- what a tick keeps: its plan is lawful, and its tables and lists fit it
 pub record IsSound (t : Inside) : Type 0 where
-  pub lawful : IsLawful (plan_of t.plan) t.plan.nonstrict.items
+  pub lawful : IsLawful (plan_of t.plan) t.plan.nonstrict.items t.plan.takes
   pub offsets : t.offsets.items ≡ begins 0 t.plan.places
   pub fed : AreFeeds (length t.plan.places) (plan_of t.plan).net.sources t.feeds.items
   pub signals : length t.signals ≡ length t.plan.sources.items

@@ -2,12 +2,16 @@ ghost use Rattle.pt_sr.specs.SrActs.{sr_calls};
 
 use crate::sr::Core;
 use pt_core::Core as Driven;
-use pt_firing::{Ask, Inputs, Outputs, Partial, RunFault};
+use pt_firing::{Ask, Inputs, Need, Outputs, Partial, RunFault};
 use pt_time::Tag;
 use std::alloc::{AllocError, Global};
 
 impl Driven for Core {
     ghost calls = { sr_calls };
+
+    fn need(&self) -> Need<'_> {
+        Need::All(self.takes())
+    }
 
     fn begin(&mut self, alloc: Global, tag: Tag, inputs: &Inputs<'_>) -> Result<(), AllocError> {
         self.begin(alloc, tag, inputs)
@@ -56,5 +60,9 @@ impl Driven for Core {
     fn reset(&mut self, _alloc: Global) -> Result<(), AllocError> {
         self.reset();
         Ok(())
+    }
+
+    fn copy(&self, alloc: Global) -> Result<Core, AllocError> {
+        self.copy(alloc)
     }
 }

@@ -16,7 +16,7 @@ mod worklist;
 
 pub use acts::sr_is_lawful;
 pub use chain::calls_are_sr;
-pub use plan::{CorePlan, Source};
+pub use plan::CorePlan;
 pub use so_far::{
     sr_begins, sr_gives_two, sr_goes_on, sr_hears, sr_is_done, sr_is_left_off,
     sr_is_left_off_within, sr_is_stuck, sr_lacks,

@@ -1,14 +1,8 @@
 ghost use Rattle.std.specs.Prelude.{◌≡◌, IfOk};
 
+use pt_core::Source;
 use pt_firing::Counts;
 use std::alloc::{AllocError, Global};
-
-/// Where a channel begins: at an own input, or at an output of a child.
-#[derive(Clone, Copy, PartialEq, Eq, Debug)]
-pub enum Source {
-    Own(u32),
-    Output(u32, u32),
-}
 
 /// The net of an SR composite.
 /// Channels are numbered by the places where they end: those of the children in order, then the own outputs.
@@ -22,8 +16,8 @@ pub struct CorePlan {
     pub outputs: Counts,
     /// Whether each child gives early answers.
     pub nonstrict: Vec<bool>,
-    /// How many own inputs there are.
-    pub inputs: usize,
+    /// How many tokens a tick takes at most from each own input: one.
+    pub takes: Counts,
     /// The children in an order in which few wait for later ones: a hint, which is tested and not trusted.
     pub order: Vec<u32>,
 }
@@ -41,7 +35,7 @@ impl CorePlan {
             places: self.places.copy(alloc)?,
             outputs: self.outputs.copy(alloc)?,
             nonstrict: Vec::from_slice(alloc, &self.nonstrict)?,
-            inputs: self.inputs,
+            takes: self.takes.copy(alloc)?,
             order: Vec::from_slice(alloc, &self.order)?,
         })
     }

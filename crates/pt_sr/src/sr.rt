@@ -4,7 +4,7 @@ ghost use Rattle.pt_meaning.specs.Sr.{all_single};
 use crate::plan::CorePlan;
 use crate::tick::{Next, Tick};
 use crate::worklist::Worklist;
-use pt_firing::{Ask, Inputs, Outputs, Partial, RunFault};
+use pt_firing::{Ask, Counts, Inputs, Outputs, Partial, RunFault};
 use pt_time::Tag;
 use std::alloc::{AllocError, Global};
 use std::marker::Model;
@@ -53,7 +53,7 @@ impl Model for Core {
 }
 
 impl Core {
-    ghost use Rattle.std.specs.Prelude.{◌≡◌, ◌↔◌, ◌<◌, ◌≤◌, length, List, IfOk, IfSome, IsSome, IsTrue, OnOk, OnErr, Option, Some, None};
+    ghost use Rattle.std.specs.Prelude.{◌≡◌, ◌↔◌, ◌<◌, ◌≤◌, length, replicate, List, IfOk, IfSome, IsSome, IsTrue, OnOk, OnErr, Option, Some, None};
     ghost use Rattle.pt_meaning.specs.Basics as basics;
     ghost use Rattle.pt_meaning.specs.Tree as tree;
     ghost use Rattle.pt_meaning.specs.NodeFacts.{core_wake};
@@ -65,7 +65,7 @@ impl Core {
 
     /// A core of this plan.
     pub fn new(alloc: Global, plan: CorePlan) -> Result<Core, AllocError>
-        requires lawful { IsLawful (plan_of plan) plan.nonstrict.items }
+        requires lawful { IsLawful (plan_of plan) plan.nonstrict.items plan.takes }
         ensures { IfOk result (λ core. core ≡ started (plan_of plan) plan.nonstrict.items) }
     {
         let worklist = Worklist::new(alloc, &plan)?;
@@ -76,6 +76,13 @@ impl Core {
             tag: ORIGIN,
             stage: Stage::Idle,
         })
+    }
+
+    /// How many tokens a tick takes at most from each own input: one.
+    pub fn takes(&self) -> &Counts
+        ensures { result.now ≡ replicate self.now.tick.plan.inputs 1 }
+    {
+        self.tick.takes()
     }
 
     /// Begins a firing of the composite, which is one tick, on a list for each own input. After an `Err` the core is as before.

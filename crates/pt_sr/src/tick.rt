@@ -7,7 +7,7 @@ use crate::offsets::{offsets_of, unheard_of};
 use crate::plan::CorePlan;
 use crate::signals::{Signals, lower, lowered_flags, some_lists};
 use crate::worklist::Worklist;
-use pt_firing::{Inputs, Outputs, Partial, Tokens};
+use pt_firing::{Counts, Inputs, Outputs, Partial, Tokens};
 use std::alloc::{AllocError, Global};
 use std::marker::Model;
 
@@ -65,7 +65,7 @@ pub(crate) enum Next {
 }
 
 impl Tick {
-    ghost use Rattle.std.specs.Prelude.{◌≡◌, ℕ, ◌^◌, ◌<◌, ◌≤◌, length, get_or, true, false, IfOk, IfSome, MatchOption, OnOk, OnErr, Option, Some, None};
+    ghost use Rattle.std.specs.Prelude.{◌≡◌, ℕ, ◌^◌, ◌<◌, ◌≤◌, length, replicate, get_or, true, false, IfOk, IfSome, MatchOption, OnOk, OnErr, Option, Some, None};
     ghost use Rattle.pt_meaning.specs.Machine as machine;
     ghost use Rattle.pt_meaning.specs.Valuation.{tokens_of};
     ghost use Rattle.pt_sr.specs.Plan.{plan_of, IsLawful};
@@ -74,7 +74,7 @@ impl Tick {
 
     /// The tick of this plan before anything is known.
     pub(crate) fn new(alloc: Global, plan: CorePlan) -> Result<Tick, AllocError>
-        requires lawful { IsLawful (plan_of plan) plan.nonstrict.items }
+        requires lawful { IsLawful (plan_of plan) plan.nonstrict.items plan.takes }
         ensures { IfOk result (λ tick. tick ≡ unbegun (plan_of plan) plan.nonstrict.items) }
     {
         let offsets = offsets_of(alloc, plan.places.as_slice())?;
@@ -106,6 +106,13 @@ impl Tick {
         ensures { result.now ≡ self.now.plan.net.places }
     {
         self.plan.places.as_slice()
+    }
+
+    /// One for each own input.
+    pub(crate) fn takes(&self) -> &Counts
+        ensures { result.now ≡ replicate self.now.plan.inputs 1 }
+    {
+        &self.plan.takes
     }
 
     /// Begins: the own inputs become known. After an `Err` the tick is as before.

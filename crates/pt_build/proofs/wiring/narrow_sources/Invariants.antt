@@ -1,5 +1,5 @@
 use Rattle.std.proofs.Common.{◌≡◌, take, map}
-use Rattle.pt_sdf.specs.Plan.{source_of}
+use Rattle.pt_core.specs.Source.{source_of}
 use Rattle.pt_wiring.specs.Channels.{source_view}
 use Rattle.pt_build.proofs.wiring.narrow_sources.Given as goal
 

@@ -6,7 +6,8 @@ use Rattle.pt_meaning.specs.Tree as tree
 use Rattle.pt_value.specs.declared.token.Token.{Token}
 use Rattle.pt_sdf.specs.Clauses.{State}
 use Rattle.pt_sdf.specs.Lawful.{IsLawful}
-use Rattle.pt_sdf.specs.Plan.{plan_of, source_of}
+use Rattle.pt_sdf.specs.Plan.{plan_of}
+use Rattle.pt_core.specs.Source.{source_of}
 use Rattle.pt_sdf.specs.State.{started}
 use Rattle.pt_plan.specs.Inside.{IsInside}
 use Rattle.pt_plan.specs.Unfed.{sources_of}

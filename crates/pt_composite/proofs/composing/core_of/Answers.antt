@@ -3,9 +3,10 @@ use Rattle.std.proofs.lemmas.List.{length-map}
 use Rattle.pt_meaning.specs.Basics.{Streams}
 use Rattle.pt_meaning.specs.Start.{first_held}
 use Rattle.pt_value.specs.declared.token.Token.{Token}
-use Rattle.pt_sdf.specs.declared.plan.Source.{Source}
+use Rattle.pt_core.specs.declared.source.Source.{Source}
 use Rattle.pt_sdf.specs.Lawful.{IsLawful}
-use Rattle.pt_sdf.specs.Plan.{plan_of, source_of}
+use Rattle.pt_sdf.specs.Plan.{plan_of}
+use Rattle.pt_core.specs.Source.{source_of}
 use Rattle.pt_library.specs.LibraryActor.{rows}
 use Rattle.pt_node.specs.Shown.{shown}
 use Rattle.pt_trees.specs.Composite.{trees_of}

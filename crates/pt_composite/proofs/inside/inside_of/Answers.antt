@@ -1,9 +1,9 @@
 use Rattle.std.proofs.Common.{◌≡◌, ℕ, List, true, length, map, refl, sym, ap, ap₂, ◌∙◌, subst}
 use Rattle.pt_meaning.specs.Running.{total}
 use Rattle.pt_plan.specs.declared.inside.Inside.{Inside}
-use Rattle.pt_sdf.specs.declared.plan.Source.{Source}
+use Rattle.pt_core.specs.declared.source.Source.{Source}
 use Rattle.pt_sdf.specs.ByNeed.{planned}
-use Rattle.pt_sdf.specs.Plan.{source_of}
+use Rattle.pt_core.specs.Source.{source_of}
 use Rattle.pt_node.specs.Shown.{shown}
 use Rattle.pt_node.specs.View.{Tree}
 use Rattle.pt_trees.specs.Around.{Around, around_of, first_counts}

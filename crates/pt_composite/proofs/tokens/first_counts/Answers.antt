@@ -1,5 +1,5 @@
 use Rattle.std.proofs.Common.{map, ◌∙◌}
-use Rattle.pt_sdf.specs.declared.plan.Source.TheVariants.{Own}
+use Rattle.pt_core.specs.declared.source.Source.TheVariants.{Own}
 use Rattle.pt_node.specs.Shown.{shown}
 use Rattle.pt_trees.specs.Composite.{trees_of}
 use Rattle.pt_composite.proofs.LoopLaws.{counts-more}

@@ -1,5 +1,5 @@
 use Rattle.std.proofs.Common.{◌≡◌, take, map}
-use Rattle.pt_sdf.specs.Plan.{source_of}
+use Rattle.pt_core.specs.Source.{source_of}
 use Rattle.pt_node.specs.Shown.{shown}
 use Rattle.pt_trees.specs.Around.{first_counts}
 use Rattle.pt_trees.specs.Composite.{trees_of}

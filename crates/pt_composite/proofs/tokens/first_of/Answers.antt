@@ -1,8 +1,8 @@
 use Rattle.std.proofs.Common.{map, Some, None, Option, sym, ap, ◌∙◌, ◌≡◌, List}
 use Rattle.pt_meaning.specs.Start.{first_of, first_of_node}
 use Rattle.pt_meaning.specs.Streams.{get}
-use Rattle.pt_sdf.specs.declared.plan.Source.{Source}
-use Rattle.pt_sdf.specs.Plan.{source_of}
+use Rattle.pt_core.specs.declared.source.Source.{Source}
+use Rattle.pt_core.specs.Source.{source_of}
 use Rattle.pt_node.specs.declared.node.Node.{Node}
 use Rattle.pt_library.specs.LibraryActor.{rows}
 use Rattle.pt_node.specs.Shown.{shown}

@@ -1,7 +1,7 @@
 use Rattle.std.proofs.Common.{map, ◌∙◌, ap, sym, arith, refl, replicate, [], length, List}
 use Rattle.std.proofs.lemmas.List.{length-map}
-use Rattle.pt_sdf.specs.declared.plan.Source.TheVariants.{Own}
-use Rattle.pt_sdf.specs.Plan.{source_of}
+use Rattle.pt_core.specs.declared.source.Source.TheVariants.{Own}
+use Rattle.pt_core.specs.Source.{source_of}
 use Rattle.pt_meaning.specs.Basics.{Streams}
 use Rattle.pt_value.specs.declared.token.Token.{Token}
 use Rattle.pt_library.specs.LibraryActor.{rows}

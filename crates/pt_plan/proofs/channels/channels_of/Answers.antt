@@ -1,8 +1,8 @@
 use Rattle.std.proofs.Common.{◌<◌, ◌∷◌, ◌++◌, [], List, length, get_or, ap, ◌∙◌, arith}
 use Rattle.std.proofs.lemmas.List.{get_or_default}
 use Rattle.pt_sched.specs.declared.edge.SchedEdge.{SchedEdge}
-use Rattle.pt_sdf.specs.declared.plan.Source.{Source}
-use Rattle.pt_sdf.specs.declared.plan.Source.TheVariants.{Own}
+use Rattle.pt_core.specs.declared.source.Source.{Source}
+use Rattle.pt_core.specs.declared.source.Source.TheVariants.{Own}
 use Rattle.pt_plan.specs.Channels.{channel_at}
 use Rattle.pt_plan.proofs.Numbering.{channels-step}
 use Rattle.pt_plan.proofs.channels.channels_of.Goals as goal

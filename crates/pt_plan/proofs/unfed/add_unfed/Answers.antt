@@ -1,6 +1,6 @@
 use Rattle.std.proofs.Common.{◌≡◌, ◌+◌, ◌<◌, List, ℕ, All, length, subst, sym, ap, ◌∙◌, arith}
 use Rattle.std.proofs.lemmas.List.Elements.{All-weaker}
-use Rattle.pt_sdf.specs.declared.plan.Source.{Source}
+use Rattle.pt_core.specs.declared.source.Source.{Source}
 use Rattle.pt_plan.specs.Unfed.{unfed_among}
 use Rattle.pt_plan.proofs.UnfedLaws.{unfed-below}
 use Rattle.pt_plan.proofs.unfed.add_unfed.Goals as goal

@@ -1,5 +1,5 @@
 use Rattle.std.proofs.Common.{◌||◌, get_or, ap, sym, ◌∙◌, arith}
-use Rattle.pt_sdf.specs.declared.plan.Source.TheVariants.{Own}
+use Rattle.pt_core.specs.declared.source.Source.TheVariants.{Own}
 use Rattle.pt_plan.specs.Unfed.{is_own}
 use Rattle.pt_plan.proofs.UnfedLaws.{feeds-more}
 use Rattle.pt_plan.proofs.unfed.fed_inputs.Goals as goal

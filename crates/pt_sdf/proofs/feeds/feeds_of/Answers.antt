@@ -1,5 +1,5 @@
 use Rattle.std.proofs.Common.{◌<◌, length, map, arith}
-use Rattle.pt_sdf.specs.Plan.{source_of}
+use Rattle.pt_core.specs.Source.{source_of}
 use Rattle.pt_sdf.proofs.MarkLaws.{row-marked, rows-once}
 use Rattle.pt_sdf.proofs.feeds.feeds_of.Goals as goal
 

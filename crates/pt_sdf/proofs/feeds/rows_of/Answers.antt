@@ -1,9 +1,9 @@
 use Rattle.std.proofs.Common.{◌≡◌, ◌+◌, List, [], ◌∷◌, ◌++◌, length, map, take, get_or, ap, sym, ◌∙◌, arith, subst, set, false}
 use Rattle.std.proofs.lemmas.List.{map_more, length-take-le, length-map}
 use Rattle.pt_meaning.specs.Net as net
-use Rattle.pt_sdf.specs.declared.plan.Source as plan
-use Rattle.pt_sdf.specs.declared.plan.Source.TheVariants.{Own}
-use Rattle.pt_sdf.specs.Plan.{source_of}
+use Rattle.pt_core.specs.declared.source.Source as plan
+use Rattle.pt_core.specs.declared.source.Source.TheVariants.{Own}
+use Rattle.pt_core.specs.Source.{source_of}
 use Rattle.pt_sdf.specs.Feeds.{rows_in, AreTargets}
 use Rattle.pt_sdf.proofs.FeedLaws.{added, skipped}
 use Rattle.pt_sdf.proofs.feeds.rows_of.Goals as goal

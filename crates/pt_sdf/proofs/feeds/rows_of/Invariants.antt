@@ -1,5 +1,5 @@
 use Rattle.std.proofs.Common.{map, take}
-use Rattle.pt_sdf.specs.Plan.{source_of}
+use Rattle.pt_core.specs.Source.{source_of}
 use Rattle.pt_sdf.specs.Feeds.{AreTargets}
 use Rattle.pt_sdf.proofs.feeds.rows_of.Given as goal
 

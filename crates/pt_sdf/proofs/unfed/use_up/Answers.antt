@@ -1,5 +1,5 @@
 use Rattle.std.proofs.Common.{sym, ◌∙◌, arith}
-use Rattle.pt_sdf.specs.declared.plan.Source.TheVariants.{Own}
+use Rattle.pt_core.specs.declared.source.Source.TheVariants.{Own}
 use Rattle.pt_sdf.proofs.Lists.{skip-zero}
 use Rattle.pt_sdf.proofs.OutletLaws.{outlet-there, outlet-left, outlets-left}
 use Rattle.pt_sdf.proofs.UnfedLaws.{counts_of, counts-long, counts-fit, count-at}

@@ -1,7 +1,7 @@
 use Rattle.std.proofs.Common.{◌≡◌, map, take, drop}
 use Rattle.pt_meaning.specs.Sdf.{times, taken_from}
 use Rattle.pt_sdf.specs.ByNeed.{skip_at}
-use Rattle.pt_sdf.specs.Plan.{source_of}
+use Rattle.pt_core.specs.Source.{source_of}
 use Rattle.pt_sdf.proofs.unfed.use_up.Given as goal
 
 abbrev pub invariant-loop-k : goal.invariant-loop-k

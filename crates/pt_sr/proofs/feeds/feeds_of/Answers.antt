@@ -1,5 +1,5 @@
 use Rattle.std.proofs.Common.{◌<◌, length, map, arith}
-use Rattle.pt_sr.specs.Plan.{source_of}
+use Rattle.pt_core.specs.Source.{source_of}
 use Rattle.pt_sr.proofs.MarkLaws.{row-marked, rows-once}
 use Rattle.pt_sr.proofs.feeds.feeds_of.Goals as goal
 

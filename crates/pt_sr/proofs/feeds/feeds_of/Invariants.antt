@@ -1,5 +1,5 @@
 use Rattle.std.proofs.Common.{◌≡◌, ℕ, ◌+◌, ◌<◌, [], length, map, get_or}
-use Rattle.pt_sr.specs.Plan.{source_of}
+use Rattle.pt_core.specs.Source.{source_of}
 use Rattle.pt_sr.specs.Feeds.{rows_in, AreTargets, MovesOnce}
 use Rattle.pt_sr.proofs.feeds.feeds_of.Given as goal
 

@@ -1,5 +1,5 @@
 use Rattle.std.proofs.Common.{map, take}
-use Rattle.pt_sr.specs.Plan.{source_of}
+use Rattle.pt_core.specs.Source.{source_of}
 use Rattle.pt_sr.specs.Feeds.{AreTargets}
 use Rattle.pt_sr.proofs.feeds.rows_of.Given as goal
 

@@ -1,6 +1,6 @@
 use Rattle.std.proofs.Common.{ap, ◌∙◌, arith}
 use Rattle.std.proofs.lemmas.List.{length-map}
-use Rattle.pt_sr.specs.Plan.{source_of}
+use Rattle.pt_core.specs.Source.{source_of}
 use Rattle.pt_sr.specs.State.{unheard}
 use Rattle.pt_sr.specs.Tick.{begins}
 use Rattle.pt_sr.proofs.TickLaws.{new-signals, new-flags, new-numbers, new-is}

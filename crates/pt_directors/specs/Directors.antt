@@ -1,0 +1,20 @@
+-- The directors that a composite may have, what their calls do, and how these make its firings.
+use Rattle.pt_meaning.specs.Tree.{Rows}
+use Rattle.pt_value.specs.declared.token.Token.{Token}
+use Rattle.pt_core.specs.declared.either.Either.{Either}
+use Rattle.pt_core.specs.Acts.{Calls, Acts}
+use Rattle.pt_core.specs.EitherActs.{either_calls, either_acts}
+use Rattle.pt_sdf.specs.Clauses as sdf
+use Rattle.pt_sdf.specs.SdfActs.{sdf_calls, sdf_acts}
+use Rattle.pt_sr.specs.Clauses as sr
+use Rattle.pt_sr.specs.SrActs.{sr_calls, sr_acts}
+
+-- the state of a director
+abbrev pub Director : Type 0
+Director = Either sdf.State sr.State
+
+abbrev pub director_calls : Calls Director
+director_calls = either_calls sdf_calls sr_calls
+
+abbrev pub director_acts : {A : Type 0} (rows : Rows Token A) → Acts rows Director
+director_acts rows = either_acts (sdf_acts rows) (sr_acts rows)
