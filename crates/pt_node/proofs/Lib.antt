@@ -2,3 +2,5 @@ pub mod RecordedLaws
 pub mod Link
 pub mod OutlineLaws
 pub mod UnmetLaws
+pub mod ActsLaws
+pub mod ResetLaws

@@ -3,6 +3,7 @@ pub mod Recorded
 pub mod Shown
 pub mod View
 pub mod Live
+pub mod Reset
 pub mod Firing
 pub mod Stuck
 pub mod Unmet

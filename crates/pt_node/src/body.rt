@@ -1,4 +1,4 @@
-ghost use Rattle.std.specs.Prelude.{◌≡◌, IfOk};
+ghost use Rattle.std.specs.Prelude.{◌≡◌, IfOk, OnOk, OnErr};
 
 use pt_core::Core;
 use pt_directors::Director;
@@ -11,6 +11,18 @@ use std::alloc::{AllocError, Global};
 pub struct Held {
     pub actor: LibraryActor,
     pub start: LibraryActor,
+}
+
+impl Held {
+    /// Brings the actor back to its start. After an `Err` it is as before.
+    pub fn reset(&mut self, alloc: Global) -> Result<(), AllocError>
+        ensures start { self.new.start ≡ self.old.start }
+        ensures reset { OnOk result (self.new.actor ≡ self.old.start) }
+        ensures kept { OnErr result (self.new.actor ≡ self.old.actor) }
+    {
+        self.actor = self.start.copy(alloc)?;
+        Ok(())
+    }
 }
 
 /// What a node is: a library actor, or a composite with its director.

@@ -1,12 +1,12 @@
 ghost use Rattle.std.specs.Prelude.{◌≡◌, ◌+◌, ◌<◌, ◌^◌, [], ◌∷◌, map, false, IfOk, OnOk, OnErr};
 ghost use Rattle.pt_value.specs.declared.token.Token.TheVariants.{Int};
 ghost use Rattle.pt_node.specs.declared.node.Node.{out-Node};
-ghost use Rattle.pt_node.specs.Shown.{shown_node};
+ghost use Rattle.pt_node.specs.Shown.{shown, shown_node, all_of};
 ghost use Rattle.pt_meaning.specs.NodeFacts as facts;
 ghost use Rattle.pt_firing.specs.Need.{need_of};
 ghost use Rattle.pt_library.specs.LibraryActor as library;
-ghost use Rattle.pt_node.specs.Live.{is_live, IsFit};
-ghost use Rattle.pt_node.specs.Reset.{WasReset, SameRecords};
+ghost use Rattle.pt_node.specs.Live.{is_live, IsFit, AllFit};
+ghost use Rattle.pt_node.specs.Reset.{WasReset, WereReset, KeepsRecords, KeepRecords};
 ghost use Rattle.pt_node.specs.View.{node_of};
 ghost use Rattle.pt_node.specs.Firing.{noted, bare, recorded};
 
@@ -99,4 +99,39 @@ impl Node {
         self.past = self.past.fired_at(tag);
         self.live = true;
     }
+
+    /// Brings the node and all within it back to their starts. How often they fired and what is recorded of them stays. After an `Err` the node isn't live.
+    #[cycle(reset)]
+    pub fn reset(&mut self, alloc: Global) -> Result<(), AllocError>
+        requires { IsFit (shown_node self.old) }
+        ensures reset { OnOk result (WasReset (shown_node self.old) (shown_node self.new)) }
+        ensures stopped { OnErr result (is_live (shown_node self.new) ≡ false) }
+        ensures kept { KeepsRecords (shown_node self.old) (shown_node self.new) }
+    {
+        self.live = false;
+        self.past = self.past.forgotten();
+        match &mut self.body {
+            Body::Actor(held) => held.reset(alloc)?,
+            Body::Composite(director) => {
+                director.reset(alloc)?;
+                reset_all(alloc, &mut self.children)?;
+            }
+        }
+        self.live = true;
+        Ok(())
+    }
+}
+
+/// Brings the children of a composite back to their starts.
+#[cycle(reset)]
+fn reset_all(alloc: Global, children: &mut Vec<Node>) -> Result<(), AllocError>
+    requires { AllFit (all_of (map shown children.old.items)) }
+    ensures reset { OnOk result (WereReset (all_of (map shown children.old.items)) (all_of (map shown children.new.items))) }
+    ensures kept { KeepRecords (all_of (map shown children.old.items)) (all_of (map shown children.new.items)) }
+{
+    for k in 0..children.len() {
+        let child = &mut children[k];
+        child.reset(alloc)?;
+    }
+    Ok(())
 }

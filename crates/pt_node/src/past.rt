@@ -22,6 +22,16 @@ impl Model for Past {
 }
 
 impl Past {
+    /// As many firings, and no time of the last.
+    pub fn forgotten(self) -> Past
+        ensures { result ≡ tree.forgotten self }
+    {
+        Past {
+            made: self.made,
+            last: None,
+        }
+    }
+
     /// One firing more, at that tag.
     pub fn fired_at(self, tag: Tag) -> Past
         requires { self.made + 1 < 2 ^ 64 }
