@@ -4,3 +4,4 @@ pub mod OutlineLaws
 pub mod UnmetLaws
 pub mod ActsLaws
 pub mod ResetLaws
+pub mod ResetLoop

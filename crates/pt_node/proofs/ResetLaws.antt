@@ -1,5 +1,6 @@
 -- Nodes that are brought back to their starts, and lists of them, one by one.
-use Rattle.std.proofs.Common.{◌≡◌, ℕ, zero, suc, ◌+◌, ◌<◌, ◌≤◌, List, [], ◌∷◌, length, map, set, true, Some, refl, sym, ap, ap₂, subst, ◌∙◌, arith}
+use Rattle.std.proofs.Common.{◌≡◌, ℕ, zero, suc, ◌+◌, ◌<◌, ◌≤◌, List, [], ◌∷◌, length, map, set, true, Some, refl, sym, ap, ap₂, subst, ◌∙◌, arith, Result, Ok, Err}
+use Rattle.std.specs.Prelude.{OnOk}
 use Rattle.pt_meaning.specs.Streams.{get}
 use Rattle.pt_meaning.specs.Tree as tree
 use Rattle.pt_value.specs.declared.token.Token.{Token}
@@ -10,10 +11,10 @@ use Rattle.pt_node.specs.declared.body.Body.{Body}
 use Rattle.pt_node.specs.declared.body.Body.TheVariants.{Actor, Composite}
 use Rattle.pt_node.specs.declared.body.Held.{Held}
 use Rattle.pt_node.specs.Acts.{acts}
-use Rattle.pt_node.specs.Shown.{Shown, AllShown, Branch, Frame, none, more, all_of}
-use Rattle.pt_node.specs.View.{Tree, Trees, Outlines, with, node_of, nodes_of, kept_of, kepts_of, outline_of, outlines_of, count_of, counts_of}
-use Rattle.pt_node.specs.Live.{IsReady, AllFit}
-use Rattle.pt_node.specs.Reset.{WasReset, WereReset, KeepsRecords, KeepRecords, ResetTo}
+use Rattle.pt_node.specs.Shown.{Shown, AllShown, all_of}
+use Rattle.pt_node.specs.View.{Tree, Trees, Outlines, with, node_with, node_of, nodes_of, kept_of, kepts_of, outline_of, outlines_of, count_of, counts_of}
+use Rattle.pt_node.specs.Live.{IsReady, IsReadyBody, AllFit}
+use Rattle.pt_node.specs.Reset.{WasReset, WereReset, BodyReset, KeepsRecords, KeepRecords, ResetTo}
 use Rattle.pt_node.proofs.ActsLaws.{acts-are-lawful}
 
 -- one by one
@@ -76,15 +77,11 @@ pub keep-then : (a b c : AllShown) → KeepRecords a b → KeepRecords b c → K
 keep-then a b c p q = record { kepts = q.kepts ∙ p.kepts; outlines = q.outlines ∙ p.outlines; counts = q.counts ∙ p.counts }
 
 -- a library actor
-abbrev pub reset_frame : Frame → Body → Frame
-reset_frame f b = record { past = tree.forgotten f.past; body = b; records = f.records; path = f.path; live = true }
-
-pub actor-reset : (f : Frame) (held held' : Held) (ks : AllShown) → f.body ≡ Actor held → AllFit ks → held'.start ≡ held.start → held'.actor ≡ held.start → WasReset (Branch f ks) (Branch (reset_frame f (Actor held')) ks)
-actor-reset f held held' ks is fit s a = record {
-  node =
-      ap₂ (λ (v w : LibraryActor). let n : Tree = tree.Actor (tree.forgotten f.past) v w in n) s a ∙
-      ap (λ b. let g : Frame = record { past = f.past; body = b; records = f.records; path = f.path; live = f.live } in tree.reset_of (node_of (Branch g ks))) (sym is);
-  live = (refl, (tt, fit));
+pub actor-reset : (held held' : Held) (ks : AllShown) → AllFit ks → held'.start ≡ held.start → held'.actor ≡ held.start → BodyReset (Actor held) ks (Actor held') ks
+actor-reset held held' ks fit s a = record {
+  node = λ h. ap₂ (λ (v w : LibraryActor). let n : Tree = tree.Actor (tree.forgotten h) v w in n) s a;
+  ready = tt;
+  fit = fit;
 }
 
 -- a composite
@@ -92,18 +89,17 @@ list-reset : (ns : Trees) → tree.list_of (tree.reset_all ns) ≡ map tree.rese
 list-reset tree.none = refl
 list-reset (tree.more n ns) = ap (λ (v : List Tree). tree.reset_of n ∷ v) (list-reset ns)
 
-pub composite-reset : (f : Frame) (d d' : Director) (ks ks' : AllShown) → f.body ≡ Composite d → IsReady d ks → d' ≡ acts.calls.restarted d → WereReset ks ks' → WasReset (Branch f ks) (Branch (reset_frame f (Composite d')) ks')
-composite-reset f d d' ks ks' is ready e w = record {
-  node =
-      ap (λ v. node_of (Branch (reset_frame f (Composite v)) ks')) e ∙
-      ap₂ (λ (v w : tree.Core Token). let n : Tree = tree.Composite (tree.forgotten f.past) v w (nodes_of ks') in n) (acts-are-lawful.agree.restarts d).1 (acts-are-lawful.agree.restarts d).0 ∙
-      ap (λ (v : Trees). let n : Tree = tree.Composite (tree.forgotten f.past) (acts.calls.start_of d) (acts.calls.start_of d) v in n) w.nodes ∙
-      ap (λ b. let g : Frame = record { past = f.past; body = b; records = f.records; path = f.path; live = f.live } in tree.reset_of (node_of (Branch g ks))) (sym is);
-  live = (
-    refl,
-    (
-      subst (λ v. IsReady v ks') (sym e) (subst (λ (v : List Tree). acts.Fits (acts.calls.restarted d) v) (sym (ap (λ (v : Trees). tree.list_of v) w.nodes ∙ list-reset (nodes_of ks))) (acts-are-lawful.fits_again d (tree.list_of (nodes_of ks)) ready)),
-      w.fit,
-    ),
-  );
+pub composite-reset : (d d' : Director) (ks ks' : AllShown) → IsReady d ks → d' ≡ acts.calls.restarted d → WereReset ks ks' → BodyReset (Composite d) ks (Composite d') ks'
+composite-reset d d' ks ks' ready e w = record {
+  node = λ h.
+      ap (λ v. node_with (tree.forgotten h) (Composite v) (nodes_of ks')) e ∙
+      ap₂ (λ (v w : tree.Core Token). let n : Tree = tree.Composite (tree.forgotten h) v w (nodes_of ks') in n) (acts-are-lawful.agree.restarts d).1 (acts-are-lawful.agree.restarts d).0 ∙
+      ap (λ (v : Trees). let n : Tree = tree.Composite (tree.forgotten h) (acts.calls.start_of d) (acts.calls.start_of d) v in n) w.nodes;
+  ready = subst (λ v. IsReady v ks') (sym e) (subst (λ (v : List Tree). acts.Fits (acts.calls.restarted d) v) (sym (ap (λ (v : Trees). tree.list_of v) w.nodes ∙ list-reset (nodes_of ks))) (acts-are-lawful.fits_again d (tree.list_of (nodes_of ks)) ready));
+  fit = w.fit;
 }
+
+-- where all within could be brought back
+pub all-reset : {E : Type 0} (r : Result (Unit {0}) E) (b : Body) (d d' : Director) (ks ks' : AllShown) → b ≡ Composite d → IsReadyBody b ks → d' ≡ acts.calls.restarted d → OnOk r (WereReset ks ks') → OnOk r (BodyReset b ks (Composite d') ks')
+all-reset (Ok u) b d d' ks ks' is ready e w = subst (λ v. BodyReset v ks (Composite d') ks') (sym is) (composite-reset d d' ks ks' (subst (λ v. IsReadyBody v ks) is ready) e w)
+all-reset (Err x) b d d' ks ks' is ready e w = tt

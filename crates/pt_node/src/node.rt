@@ -5,9 +5,9 @@ ghost use Rattle.pt_node.specs.Shown.{shown, shown_node, all_of};
 ghost use Rattle.pt_meaning.specs.NodeFacts as facts;
 ghost use Rattle.pt_firing.specs.Need.{need_of};
 ghost use Rattle.pt_library.specs.LibraryActor as library;
-ghost use Rattle.pt_node.specs.Live.{is_live, IsFit, AllFit};
-ghost use Rattle.pt_node.specs.Reset.{WasReset, WereReset, KeepsRecords, KeepRecords};
-ghost use Rattle.pt_node.specs.View.{node_of};
+ghost use Rattle.pt_node.specs.Live.{is_live, IsFit, IsReadyBody, AllFit};
+ghost use Rattle.pt_node.specs.Reset.{WasReset, WereReset, BodyReset, KeepsRecords, KeepRecords};
+ghost use Rattle.pt_node.specs.View.{node_of, meetings_in};
 ghost use Rattle.pt_node.specs.Firing.{noted, bare, recorded};
 
 use crate::body::Body;
@@ -110,15 +110,31 @@ impl Node {
     {
         self.live = false;
         self.past = self.past.forgotten();
-        match &mut self.body {
-            Body::Actor(held) => held.reset(alloc)?,
-            Body::Composite(director) => {
-                director.reset(alloc)?;
-                reset_all(alloc, &mut self.children)?;
-            }
-        }
+        reset_body(alloc, &mut self.body, &mut self.children)?;
         self.live = true;
         Ok(())
+    }
+}
+
+/// Brings a library actor back to its start, or a composite's director and all within.
+#[cycle(reset)]
+fn reset_body(
+    alloc: Global,
+    body: &mut Body,
+    children: &mut Vec<Node>,
+) -> Result<(), AllocError>
+    requires ready { IsReadyBody body.old (all_of (map shown children.old.items)) }
+    requires fit { AllFit (all_of (map shown children.old.items)) }
+    ensures reset { OnOk result (BodyReset body.old (all_of (map shown children.old.items)) body.new (all_of (map shown children.new.items))) }
+    ensures meetings { meetings_in body.new ≡ meetings_in body.old }
+    ensures kept { KeepRecords (all_of (map shown children.old.items)) (all_of (map shown children.new.items)) }
+{
+    match body {
+        Body::Actor(held) => held.reset(alloc),
+        Body::Composite(director) => {
+            director.reset(alloc)?;
+            reset_all(alloc, children)
+        }
     }
 }
 
