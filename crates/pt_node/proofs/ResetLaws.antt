@@ -1,5 +1,5 @@
 -- Nodes that are brought back to their starts, and lists of them, one by one.
-use Rattle.std.proofs.Common.{◌≡◌, ℕ, zero, suc, ◌+◌, ◌<◌, ◌≤◌, List, [], ◌∷◌, length, map, set, true, Some, refl, sym, ap, ap₂, subst, ◌∙◌, arith, Result, Ok, Err}
+use Rattle.std.proofs.Common.{◌≡◌, ℕ, zero, suc, ◌+◌, ◌≤◌, List, [], ◌∷◌, length, map, set, Some, refl, sym, ap, ap₂, subst, ◌∙◌, arith, Result, Ok, Err}
 use Rattle.std.specs.Prelude.{OnOk}
 use Rattle.pt_meaning.specs.Streams.{get}
 use Rattle.pt_meaning.specs.Tree as tree
@@ -12,7 +12,7 @@ use Rattle.pt_node.specs.declared.body.Body.TheVariants.{Actor, Composite}
 use Rattle.pt_node.specs.declared.body.Held.{Held}
 use Rattle.pt_node.specs.Acts.{acts}
 use Rattle.pt_node.specs.Shown.{Shown, AllShown, all_of}
-use Rattle.pt_node.specs.View.{Tree, Trees, Outlines, with, node_with, node_of, nodes_of, kept_of, kepts_of, outline_of, outlines_of, count_of, counts_of}
+use Rattle.pt_node.specs.View.{Tree, Trees, Outlines, with, node_with, nodes_of, kept_of, kepts_of, outline_of, outlines_of, count_of, counts_of}
 use Rattle.pt_node.specs.Live.{IsReady, IsReadyBody, AllFit}
 use Rattle.pt_node.specs.Reset.{WasReset, WereReset, BodyReset, KeepsRecords, KeepRecords, ResetTo}
 use Rattle.pt_node.proofs.ActsLaws.{acts-are-lawful}

@@ -1,8 +1,8 @@
 -- Nothing is recorded of meetings in a node.
-use Rattle.std.proofs.Common.{◌≡◌, ℕ, zero, suc, List, [], ◌∷◌, Option, None, refl}
+use Rattle.std.proofs.Common.{◌≡◌, ℕ, zero, suc, [], ◌∷◌, None, refl}
 use Rattle.pt_meaning.specs.Basics.{Path}
 use Rattle.pt_meaning.specs.Meetings.{Meets}
-use Rattle.pt_records.specs.Kept.{Made, kept_at}
+use Rattle.pt_records.specs.Kept.{kept_at}
 use Rattle.pt_records.specs.Made.{AreMade, IsUnmet}
 use Rattle.pt_records.proofs.MadeLaws.{unmet-made}
 use Rattle.pt_node.specs.declared.body.Body.{Body}

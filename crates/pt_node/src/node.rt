@@ -118,11 +118,7 @@ impl Node {
 
 /// Brings a library actor back to its start, or a composite's director and all within.
 #[cycle(reset)]
-fn reset_body(
-    alloc: Global,
-    body: &mut Body,
-    children: &mut Vec<Node>,
-) -> Result<(), AllocError>
+fn reset_body(alloc: Global, body: &mut Body, children: &mut Vec<Node>) -> Result<(), AllocError>
     requires ready { IsReadyBody body.old (all_of (map shown children.old.items)) }
     requires fit { AllFit (all_of (map shown children.old.items)) }
     ensures reset { OnOk result (BodyReset body.old (all_of (map shown children.old.items)) body.new (all_of (map shown children.new.items))) }

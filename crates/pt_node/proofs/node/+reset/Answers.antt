@@ -1,6 +1,6 @@
-use Rattle.std.proofs.Common.{◌≡◌, ℕ, ◌+◌, ◌*◌, ◌<◌, ◌≤◌, map, length, arith}
+use Rattle.std.proofs.Common.{◌<◌, map, length, arith}
 use Rattle.std.proofs.lemmas.List.{length-map}
-use Rattle.pt_node.specs.Shown.{shown, shown_node, all_of}
+use Rattle.pt_node.specs.Shown.{shown, all_of}
 use Rattle.pt_node.proofs.ResetLaws.{reset-none, reset-end, keep-all, all-reset}
 use Rattle.pt_node.proofs.ResetLoop.{kids-long, next-fit, next-depth, next-keeps, next-reset}
 use Rattle.pt_node.proofs.node.+reset.Goals as goal
