@@ -1,9 +1,9 @@
 //! A hand-written interpreter of flat dataflow models, to measure ptrun against.
 //!
 //! It reads the same documents on standard input and writes the same reports, for models of Ramp, Scale,
-//! AddSubtract, UpSample and DownSample under SDF whose actors stand right in the top. It does what such a model
-//! needs and no more: an iteration is an order of firings that is found once. It refuses nothing by name; a document
-//! that it doesn't know ends it with a panic. Plain Rust over std alone: `rustc --edition 2021 -O interpreter.rs`.
+//! AddSubtract, UpSample and DownSample under SDF, or of the first three under SR, whose actors stand right in the top.
+//! It does what such a model needs and no more: an iteration, or a tick, is an order of firings that is found once. It
+//! refuses nothing by name; a document that it doesn't know ends it with a panic. Plain Rust over std alone: `rustc --edition 2021 -O interpreter.rs`.
 
 mod balance;
 
@@ -170,6 +170,8 @@ struct Model {
     channels: Vec<VecDeque<i64>>,
     order: Vec<usize>,
     iterations: u64,
+    /// Under SR iteration n is the tick at the tag n.0.
+    ticks: bool,
     record: Vec<usize>,
 }
 
@@ -293,6 +295,7 @@ fn model_of(job: &Json) -> Model {
         channels: vec![VecDeque::new(); channels.len()],
         order,
         iterations,
+        ticks: director.text("class") == "SR",
         record,
     }
 }
@@ -372,7 +375,9 @@ impl Model {
             text.extend_from_slice(format!("trace {}.output\n", node.name).as_bytes());
             for (token, value) in node.recorded.iter().flatten().enumerate() {
                 push_number(&mut text, token as i64);
-                text.extend_from_slice(b" 0.0 ");
+                text.push(b' ');
+                push_number(&mut text, if self.ticks { token as i64 } else { 0 });
+                text.extend_from_slice(b".0 ");
                 push_number(&mut text, *value);
                 text.push(b'\n');
             }
