@@ -18,7 +18,7 @@ use Rattle.pt_node.specs.View.{node_of, kept_of, count_of}
 use Rattle.pt_seq.specs.declared.fire.Within.TheVariants as within
 use Rattle.pt_seq.specs.Within.{IsLeftOff, fired, WithinTo, StaysFit, AnswersTo}
 use Rattle.pt_node.specs.Stuck.{fault_of}
-use Rattle.pt_seq.proofs.Turns.{off-done, step-off, step-stuck, step-fires, live-recorded, kept-bare, made-within, made-recorded}
+use Rattle.pt_seq.proofs.Recording.{off-done, step-off, step-stuck, step-fires, live-recorded, kept-bare, made-within, made-recorded}
 
 pub if-ok : {A E : Type 0} (r : Result A E) (P : Type 0) → is_err r ≡ false → IfOk r (λ _. P) → P
 if-ok (Ok a) P e h = h
@@ -43,8 +43,8 @@ module _ (old new : Shown) (tag : Tag) (X : Streams Token) (allowance : ℕ) whe
   pub seq-memory-done : (out : Streams Token) (after : Shown) → WithinTo old tag X (within.Done out) new → firing.bare after ≡ firing.bare new → AnswersTo old tag X allowance answer.Memory after
   seq-memory-done out after w e = λ m made. subst (λ k. LeavesOff (λ k. Step k rows m (node_of old) tag X) (IsShut rows m (node_of old) tag X None) (kept_of old) k) (sym (kept-bare after new e)) (seq-off (off-after out w) m (subst (λ k. AreMade m k) (kept-bare after new e) made))
 
-  pub seq-done : (out : Streams Token) (after : Shown) → WithinTo old tag X (within.Done out) new → StaysFit old (within.Done out) new → after ≡ firing.recorded tag (firing.noted tag out new) → AnswersTo old tag X allowance (answer.Done out) after
+  pub seq-done : (out : Streams Token) (after : Shown) → WithinTo old tag X (within.Done out) new → StaysFit (within.Done out) new → after ≡ firing.recorded tag (firing.noted tag out new) → AnswersTo old tag X allowance (answer.Done out) after
   seq-done out after w f e = (
     λ m made. subst (λ v. FiresTo (λ k. Step k rows m (node_of old) tag X) (node_of v) out (kept_of old) (kept_of v)) (sym e) (step-fires m old new tag X out (w m (made-recorded m tag out new (subst (λ v. AreMadeBefore m (kept_of v)) e made)))),
-    subst (λ v. IsLive v) (sym e) (live-recorded tag out new f.0),
+    subst (λ v. IsLive v) (sym e) (live-recorded tag out new f),
   )

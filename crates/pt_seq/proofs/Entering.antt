@@ -1,24 +1,93 @@
 -- The firing of a node of the code, by what its body is.
-use Rattle.std.proofs.Common.{◌≡◌, ℤ, List, [], ◌∷◌, Bool, true, false, map, sym, ap, subst, ◌∙◌}
-use Rattle.pt_meaning.specs.Basics.{Tag, Streams}
+use Rattle.std.proofs.Common.{◌≡◌, ℕ, ℤ, List, [], ◌∷◌, Bool, true, false, map, Option, None, refl, sym, ap, subst, ◌∙◌, inl}
+use Rattle.pt_meaning.specs.Basics.{Tag, Streams, silent}
+use Rattle.pt_meaning.specs.Machine as machine
+use Rattle.pt_meaning.specs.Machine.{Outcome}
+use Rattle.pt_meaning.specs.Meetings.{Meets}
 use Rattle.pt_meaning.specs.Tree as tree
+use Rattle.pt_meaning.specs.Step.{actor_outcome, step_at}
 use Rattle.pt_value.specs.declared.token.Token.{Token}
 use Rattle.pt_value.specs.declared.token.Token.TheVariants.{Int}
+use Rattle.pt_firing.specs.declared.answer.Place.{Place}
+use Rattle.pt_firing.specs.RunFault.{code_of}
+use Rattle.pt_records.specs.Kept.{Kept, Entry, kept_by}
+use Rattle.pt_records.proofs.ShutSteps.{nothing-is-shut, at-own-place}
+use Rattle.pt_records.proofs.GrowthLaws.{grew-none}
+use Rattle.pt_library.specs.declared.library_actor.LibraryActor.{LibraryActor}
 use Rattle.pt_library.specs.LibraryActor as library
+use Rattle.pt_library.specs.LibraryActor.{rows}
+use Rattle.pt_library.proofs.RowLaws.{rows_lawful}
+use Rattle.pt_directors.specs.Directors.{Director}
 use Rattle.pt_node.specs.declared.node.Node.{Node, roll-Node, out-Node}
 use Rattle.pt_node.specs.declared.node.Node.TheViews.{out-roll-Node}
 use Rattle.pt_node.specs.declared.node.Node.TheOpen as opens
 use Rattle.pt_node.specs.declared.body.Body.{Body}
 use Rattle.pt_node.specs.declared.body.Body.TheVariants as body
 use Rattle.pt_node.specs.declared.body.Held.{Held}
-use Rattle.pt_node.specs.declared.director.Director.{Director}
+use Rattle.pt_node.specs.Acts.{acts}
+use Rattle.pt_node.specs.Recorded.{trace_of}
 use Rattle.pt_node.specs.Shown.{Shown, AllShown, Branch, Frame, shown, shown_node, level, all_of}
-use Rattle.pt_node.specs.View.{outline_of, count_of}
-use Rattle.pt_node.specs.Live.{IsFit}
+use Rattle.pt_node.specs.View.{Tree, heading_of, kepts_of, outline_of, count_of}
+use Rattle.pt_node.specs.Live.{IsFit, AllFit}
+use Rattle.pt_node.specs.Stuck.{fault_of}
 use Rattle.pt_seq.specs.declared.fire.Within.{Within}
-use Rattle.pt_seq.specs.declared.fire.Within.TheVariants.{Done}
-use Rattle.pt_seq.specs.Within.{WithinTo, StaysFit, ActorTo, DirectorTo, DirectorStaysFit, Gave, SeveralTo}
-use Rattle.pt_seq.proofs.Turns.{actor-goes, actor-fit, composite-goes, composite-fit}
+use Rattle.pt_seq.specs.declared.fire.Within.TheVariants.{Done, Fault, Spent, Memory}
+use Rattle.pt_seq.specs.Within.{WithinTo, StaysFit, ActorTo, Gave, SeveralTo}
+use Rattle.pt_seq.specs.Composite.{CompositeTo, KeepsFit}
+use Rattle.pt_seq.proofs.Recording.{made-children, off-none}
+
+-- a library actor
+actor-step : (m : Meets) (k : ℕ) (h : tree.Past) (a b : LibraryActor) (tag : Tag) (X : Streams Token) → step_at rows k 1 m tag (tree.Actor h a b) X ≡ actor_outcome tag h a (library.step tag b X)
+unfolding step_at
+actor-step m k h a b tag X = refl
+
+-- what is kept of a node that isn't a Rendezvous composite, at its own path
+abbrev entry-unmet : Frame → Entry Token
+entry-unmet f = record { count = f.past.made; recorded = map trace_of f.records; meetings = None }
+
+actor-goes : (f : Frame) (held held' : Held) (ks : AllShown) (tag : Tag) (X : Streams Token) (w : Within) → ActorTo held f.path f.past.made tag X w held' →
+    WithinTo (Branch (record { past = f.past; body = body.Actor held; records = f.records; path = f.path; live = f.live }) ks) tag X w (Branch (record { past = f.past; body = body.Actor held'; records = f.records; path = f.path; live = false }) ks)
+actor-goes f held held' ks tag X (Done out) a = λ m made.
+    let kept : Kept Token = kept_by (entry-unmet f) (kepts_of ks) in
+    record {
+      log = silent;
+      done = (0, λ k l. actor-step m k f.past held.start held.actor tag X ∙ ap (λ r. actor_outcome tag f.past held.start r) a.0 ∙ ap (λ v. let r : Outcome Token Tree = machine.Done (tree.Actor (tree.fired_at tag f.past) v held'.actor) out silent in r) (sym a.1));
+      kept = grew-none kept;
+    }
+actor-goes f held held' ks tag X (Fault place) a = λ m made.
+    let kept : Kept Token = kept_by (entry-unmet f) (kepts_of ks) in
+    let told : record { path = []; firing = f.past.made; code = code_of place.kind } ≡ fault_of [] place = ap (λ n. let g : machine.Fault = record { path = []; firing = n; code = code_of place.kind } in g) (sym a.2) in (
+      [],
+      ap (λ v. Option.Some v) (sym a.1),
+      record {
+        log = silent;
+        stuck = (0, λ k l. (record { path = []; firing = f.past.made; code = code_of place.kind } ∷ [], silent, actor-step m k f.past held.start held.actor tag X ∙ ap (λ r. actor_outcome tag f.past held.start r) a.0, inl (sym told), λ p. tt));
+        kept = grew-none kept;
+        part = at-own-place rows m (tree.Actor f.past held.start held.actor) tag X silent (fault_of [] place) refl a.2 (nothing-is-shut rows rows_lawful m (tree.Actor f.past held.start held.actor) tag X);
+      },
+    )
+actor-goes f held held' ks tag X Spent a = absurd a
+actor-goes f held held' ks tag X Memory a = λ m made. off-none m (tree.Actor f.past held.start held.actor) tag X (kept_by (entry-unmet f) (kepts_of ks))
+
+actor-fit : (f : Frame) (held held' : Held) (ks : AllShown) (w : Within) → AllFit ks → StaysFit w (Branch (record { past = f.past; body = body.Actor held'; records = f.records; path = f.path; live = false }) ks)
+actor-fit f held held' ks (Done out) fit = (tt, fit)
+actor-fit f held held' ks (Fault place) fit = tt
+actor-fit f held held' ks Spent fit = tt
+actor-fit f held held' ks Memory fit = tt
+
+-- a composite
+composite-goes : (f : Frame) (d d' : Director) (ks ks' : AllShown) (tag : Tag) (X : Streams Token) (w : Within) → CompositeTo acts f.path f.past.made d ks tag X w d' ks' →
+    WithinTo (Branch (record { past = f.past; body = body.Composite d; records = f.records; path = f.path; live = f.live }) ks) tag X w (Branch (record { past = f.past; body = body.Composite d'; records = f.records; path = f.path; live = false }) ks')
+composite-goes f d d' ks ks' tag X (Done out) g = λ m made. g m made.below f.past (entry-unmet f)
+composite-goes f d d' ks ks' tag X (Fault place) g = λ m made. g m (made-children m (entry-unmet f) (kepts_of ks') made) f.past refl (entry-unmet f) (map heading_of f.records)
+composite-goes f d d' ks ks' tag X Spent g = λ m made. g m (made-children m (entry-unmet f) (kepts_of ks') made) f.past (entry-unmet f)
+composite-goes f d d' ks ks' tag X Memory g = λ m made. g m (made-children m (entry-unmet f) (kepts_of ks') made) f.past (entry-unmet f)
+
+composite-fit : (f : Frame) (d' : Director) (ks' : AllShown) (w : Within) → KeepsFit acts w d' ks' → StaysFit w (Branch (record { past = f.past; body = body.Composite d'; records = f.records; path = f.path; live = false }) ks')
+composite-fit f d' ks' (Done out) g = g
+composite-fit f d' ks' (Fault place) g = tt
+composite-fit f d' ks' Spent g = tt
+composite-fit f d' ks' Memory g = tt
 
 -- the fields of a node, with another body
 abbrev with-body : opens.Node-F Node → Body → Shown
@@ -42,11 +111,9 @@ module _ (n n' : Node) (r r' : opens.Node-F Node) (held held' : Held) (e : roll-
       subst (λ s. WithinTo s tag X w (shown_node n')) (sym (old-is n r (body.Actor held) e is))
       (subst (λ s. WithinTo (with-body r (body.Actor held)) tag X w s) (sym new-actor) (actor-goes (frame-in r) held held' (all_of (map shown r.children.items)) tag X w goes))
 
-  pub actor-stays : IsFit (shown_node n) → StaysFit (shown_node n) w (shown_node n')
+  pub actor-stays : IsFit (shown_node n) → StaysFit w (shown_node n')
   unfolding frame-in
-  actor-stays fit =
-      subst (λ s. StaysFit s w (shown_node n')) (sym (old-is n r (body.Actor held) e is))
-      (subst (λ s. StaysFit (with-body r (body.Actor held)) w s) (sym new-actor) (actor-fit (frame-in r) held held' (all_of (map shown r.children.items)) tag X w (subst (λ s. IsFit s) (old-is n r (body.Actor held) e is) fit).1 goes))
+  actor-stays fit = subst (λ s. StaysFit w s) (sym new-actor) (actor-fit (frame-in r) held held' (all_of (map shown r.children.items)) w (subst (λ s. IsFit s) (old-is n r (body.Actor held) e is) fit).1)
 
 module _ (n n' : Node) (r r' : opens.Node-F Node) (d d' : Director) (ks' : AllShown) (e : roll-Node r ≡ n) (e' : roll-Node r' ≡ n') (is : r.body ≡ body.Composite d) (w : Within)
     (now : level r' ≡ Branch (record { past = r.past; body = body.Composite d'; records = r.records; path = r.path; live = false }) ks') where
@@ -59,11 +126,9 @@ module _ (n n' : Node) (r r' : opens.Node-F Node) (d d' : Director) (ks' : AllSh
       subst (λ s. WithinTo s tag X w (shown_node n')) (sym (old-is n r (body.Composite d) e is))
       (subst (λ s. WithinTo (with-body r (body.Composite d)) tag X w s) (sym new-composite) (composite-goes (frame-in r) d d' (all_of (map shown r.children.items)) ks' tag X w goes))
 
-  pub composite-stays : DirectorStaysFit d (all_of (map shown r.children.items)) w d' ks' → StaysFit (shown_node n) w (shown_node n')
+  pub composite-stays : KeepsFit acts w d' ks' → StaysFit w (shown_node n')
   unfolding frame-in
-  composite-stays fit =
-      subst (λ s. StaysFit s w (shown_node n')) (sym (old-is n r (body.Composite d) e is))
-      (subst (λ s. StaysFit (with-body r (body.Composite d)) w s) (sym new-composite) (composite-fit (frame-in r) d d' (all_of (map shown r.children.items)) ks' w fit))
+  composite-stays fit = subst (λ s. StaysFit w s) (sym new-composite) (composite-fit (frame-in r) d' ks' w fit)
 
 -- a firing of a node that gave these outputs
 module _ (n n' : Node) (r r' : opens.Node-F Node) (held held' : Held) (e : roll-Node r ≡ n) (e' : roll-Node r' ≡ n') (is : r.body ≡ body.Actor held) (X out : Streams Token) (gives : (tag : Tag) → library.step tag held.actor X ≡ tree.Gives held'.actor out) (start : held'.start ≡ held.start)

@@ -1,8 +1,12 @@
+pub mod Acting
 pub mod Children
-pub mod SdfFiring
-pub mod Turns
-pub mod Handing
-pub mod Loop
+pub mod MadeOf
+pub mod Recording
 pub mod Entering
 pub mod Answering
+pub mod Turning
+pub mod Taking
+pub mod Firing
+pub mod Loop
+pub mod Numbers
 pub mod Quickly

@@ -3,6 +3,7 @@
 
 mod fire;
 mod numbers;
+mod pause;
 mod turn;
 
 pub use fire::{fire_seq, fire_within};

@@ -1,18 +1,23 @@
 ghost use Rattle.std.specs.Prelude.{◌≡◌, ◌+◌, ◌<◌, ◌≤◌, ◌∷◌, [], List, ℕ, Some, IsSome, map};
-ghost use Rattle.pt_meaning.specs.Basics.{Streams};
+ghost use Rattle.pt_meaning.specs.Basics as basics;
 ghost use Rattle.pt_value.specs.declared.token.Token.{Token};
 ghost use Rattle.pt_value.specs.declared.token.Token.TheVariants.{Int};
+ghost use Rattle.pt_core.specs.declared.either.Either.TheVariants.{First};
 ghost use Rattle.pt_sdf.specs.State.{asked_child, lent_in};
-ghost use Rattle.pt_sdf.specs.Clauses.{State};
+ghost use Rattle.pt_directors.specs.Directors as directors;
+ghost use Rattle.pt_directors.specs.Directors.{director_calls};
+ghost use Rattle.pt_node.specs.Acts.{acts};
 ghost use Rattle.pt_node.specs.declared.node.Node.{out-Node};
 ghost use Rattle.pt_node.specs.Shown.{Shown, shown, shown_node};
 ghost use Rattle.pt_node.specs.View.{outline_of, count_of};
 ghost use Rattle.pt_node.specs.Live.{IsFit};
-ghost use Rattle.pt_seq.specs.Within.{TurnSpends, QuickTo, QuickSpends, NumberTo, SeveralTo, TellTo};
+ghost use Rattle.pt_seq.specs.Within.{NumberTo, SeveralTo};
+ghost use Rattle.pt_seq.specs.Turns.{TurnSpends, TellTo, QuickTo, QuickSpends};
 ghost use Rattle.pt_seq.specs.Between.{At, IsUnderWay, Paused};
 
-use crate::turn::{Turn, end_turn};
-use pt_firing::Ask;
+use crate::pause::Pause;
+use crate::turn::{Turn, refuse};
+use pt_firing::{Ask, RunFault};
 use pt_node::{Body, Node};
 use pt_time::Tag;
 use std::alloc::Global;
@@ -35,16 +40,6 @@ impl Buffers {
     }
 }
 
-/// What ends a row of firings that give one number each.
-#[derive(Clone, Copy, Debug)]
-pub(crate) enum Pause {
-    /// It is the turn of this child, whose firing gave this number already, of which the core isn't told yet, or isn't made.
-    Turn(u32, Option<i64>),
-    /// The children have fired enough.
-    Finished,
-    Spent,
-}
-
 /// How the turn of a child went that may give one number.
 #[derive(Clone, Copy, Debug)]
 enum Quick {
@@ -53,32 +48,32 @@ enum Quick {
     Open(Option<i64>),
 }
 
-/// Makes one firing of a child after another, in the order of the core, as long as each takes integers and gives one, of which nothing is recorded and no memory is wanted.
+/// Makes one firing of a child after another, in the order of the core of SDF, as long as each takes integers and gives one, of which nothing is recorded and no memory is wanted.
 /// This is the inner loop of a run. On its common path it calls nothing, so that it stays in registers.
 #[inline(never)]
 pub(crate) fn fire_numbers(
     core: &mut pt_sdf::Core,
     children: &mut Vec<Node>,
-    tag: Tag,
     left: &mut u64,
     row: &mut Vec<i64>,
 ) -> Pause
-    requires { IsUnderWay tag core.old (map shown children.old.items) left.old }
+    requires { IsUnderWay acts (First core.old) (map shown children.old.items) left.old }
     ensures lowered { left.new ≤ left.old }
-    ensures goes { (before : State) (olds : List Shown) (X : Streams Token) (allowance : ℕ) → At before olds tag X allowance core.old (map shown children.old.items) left.old → Paused before olds tag X allowance result core.new (map shown children.new.items) left.new }
+    ensures goes { (before : directors.Director) (olds : List Shown) (tag : basics.Tag) (X : basics.Streams Token) (allowance : ℕ) → At acts before olds tag X allowance (First core.old) (map shown children.old.items) left.old → Paused before olds tag X allowance result (First core.new) (map shown children.new.items) left.new }
 {
     loop {
-        let number = match core.ask() {
-            Ask::Fire(child, _) => child,
+        match core.ask() {
+            Ask::Fire(number, when) => {
+                if *left == 0 {
+                    return Pause::Spent;
+                }
+                let child = &mut children[number as usize];
+                if let Quick::Open(given) = turn_of_number(core, child, number, when, left, row) {
+                    return Pause::Turn(number, when, given);
+                }
+            }
             Ask::Finished => return Pause::Finished,
             _ => unreachable!(),
-        };
-        if *left == 0 {
-            return Pause::Spent;
-        }
-        let child = &mut children[number as usize];
-        if let Quick::Open(given) = turn_of_number(core, child, number, tag, left, row) {
-            return Pause::Turn(number, given);
         }
     }
 }
@@ -96,7 +91,7 @@ fn turn_of_number(
     requires asked { asked_child core.old.stage ≡ Some number }
     requires fit { IsFit (shown_node child.old) }
     requires left { 0 < left.old }
-    ensures goes { QuickTo core.old (shown_node child.old) number tag result core.new (shown_node child.new) }
+    ensures goes { QuickTo director_calls (First core.old) (shown_node child.old) number tag result (First core.new) (shown_node child.new) }
     ensures spends { QuickSpends result left.old left.new }
     ensures outline { outline_of (shown_node child.new) ≡ outline_of (shown_node child.old) }
     ensures counted { count_of (shown_node child.new) + left.new ≡ count_of (shown_node child.old) + left.old }
@@ -173,7 +168,7 @@ pub(crate) fn tell_numbers(
 ) -> Turn
     requires asked { asked_child core.old.stage ≡ Some number }
     requires left { 0 < left.old }
-    ensures goes { TellTo core.old (shown_node child.old) number tag (map Int given.now ∷ []) result core.new (shown_node child.new) }
+    ensures goes { TellTo director_calls (First core.old) (shown_node child.old) number tag (map Int given.now ∷ []) result (First core.new) (shown_node child.new) }
     ensures spends { TurnSpends result left.old left.new }
     ensures lowered { left.new ≤ left.old }
     ensures outline { outline_of (shown_node child.new) ≡ outline_of (shown_node child.old) }
@@ -185,5 +180,10 @@ pub(crate) fn tell_numbers(
     if core.told_numbers(alloc, number, given).is_err() {
         return Turn::Memory;
     }
-    end_turn(alloc, core, child, tag, left)
+    if core.is_wrong() {
+        return refuse(alloc, child, RunFault::Rate);
+    }
+    child.record(tag);
+    *left -= 1;
+    Turn::Done
 }

@@ -1,17 +1,18 @@
-ghost use Rattle.std.specs.Prelude.{◌≡◌, ◌+◌, ◌<◌, ◌≤◌, ◌^◌};
-ghost use Rattle.pt_sdf.specs.Clauses.{MayAsk};
-ghost use Rattle.pt_node.specs.declared.node.Node.{out-Node};
+ghost use Rattle.std.specs.Prelude.{◌≡◌, ◌+◌, ◌<◌, ◌≤◌, Some};
+ghost use Rattle.pt_directors.specs.Directors.{director_calls};
 ghost use Rattle.pt_node.specs.Shown.{shown_node};
 ghost use Rattle.pt_node.specs.View.{outline_of, count_of};
-ghost use Rattle.pt_seq.specs.Within.{TurnSpends, EndsTurn};
+ghost use Rattle.pt_seq.specs.Turns.{TurnSpends, TellTo, RefusesTo};
 
 use crate::fire::{Within, fault_at};
-use pt_firing::{Place, RunFault};
+use pt_core::Core;
+use pt_directors::Director;
+use pt_firing::{Outputs, Place, RunFault};
 use pt_node::Node;
 use pt_time::Tag;
 use std::alloc::Global;
 
-/// How a turn of a child went: its firing is recorded and the core goes on, or the firing of the composite ends here.
+/// How a turn of a child went: its firing is recorded and the director goes on, or the firing of the composite ends here.
 #[derive(Drop)]
 pub(crate) enum Turn {
     Done,
@@ -20,31 +21,45 @@ pub(crate) enum Turn {
     Memory,
 }
 
-/// Ends the turn of a child, of which the core was told what it gave: its firing is recorded where it gave its rates, and else it is stuck.
-#[inline(always)]
-pub(crate) fn end_turn(
+/// Tells the director what the child gave. The child's firing is recorded where the director accepts that, and else the child is stuck.
+pub(crate) fn tell(
     alloc: Global,
-    core: &pt_sdf::Core,
+    director: &mut Director,
     child: &mut Node,
+    number: u32,
     tag: Tag,
     left: &mut u64,
+    outputs: Outputs,
 ) -> Turn
-    requires told { MayAsk core.now.stage }
-    requires made { (out-Node child.old).past.made + 1 < 2 ^ 64 }
+    requires asked { director_calls.asked_of director.old ≡ Some number }
     requires left { 0 < left.old }
-    ensures goes { EndsTurn core.now.stage (shown_node child.old) tag result (shown_node child.new) }
+    ensures goes { TellTo director_calls director.old (shown_node child.old) number tag outputs result director.new (shown_node child.new) }
     ensures spends { TurnSpends result left.old left.new }
     ensures lowered { left.new ≤ left.old }
     ensures outline { outline_of (shown_node child.new) ≡ outline_of (shown_node child.old) }
     ensures counted { count_of (shown_node child.new) + left.new ≡ count_of (shown_node child.old) + left.old }
 {
-    if core.is_wrong() {
-        return match fault_at(alloc, &child.path, child.past.made, RunFault::Rate) {
-            Within::Fault(place) => Turn::Fault(place),
-            _ => Turn::Memory,
-        };
+    if child.past.made == u64::MAX || child.note(alloc, tag, &outputs).is_err() {
+        return Turn::Memory;
+    }
+    let refusal = director.refusal();
+    if director.told(alloc, number, outputs).is_err() {
+        return Turn::Memory;
+    }
+    if director.is_wrong() {
+        return refuse(alloc, child, refusal);
     }
     child.record(tag);
     *left -= 1;
     Turn::Done
+}
+
+/// The firing of the child isn't accepted, and is told as stuck.
+pub(crate) fn refuse(alloc: Global, child: &Node, kind: RunFault) -> Turn
+    ensures { RefusesTo (shown_node child.now) kind result }
+{
+    match fault_at(alloc, &child.path, child.past.made, kind) {
+        Within::Fault(place) => Turn::Fault(place),
+        _ => Turn::Memory,
+    }
 }

@@ -1,9 +1,11 @@
 use Rattle.std.proofs.Common.{◌≡◌, sym, ap, ◌∙◌, refl}
 use Rattle.pt_node.specs.Shown.{shown_node}
 use Rattle.pt_node.specs.Firing.{noted, recorded}
+use Rattle.pt_node.specs.Live.{is_live}
 use Rattle.pt_node.specs.View.{outline_of}
 use Rattle.pt_node.proofs.OutlineLaws.{outline_bare, outline_recorded}
 use Rattle.pt_seq.proofs.Answering.{if-ok, seq-fault, seq-off, seq-spent, seq-spent-done, seq-memory-done, seq-done}
+use Rattle.pt_seq.proofs.Recording.{live-bare}
 use Rattle.pt_seq.proofs.fire.fire_within.Goals as goal
 
 pub returns-in-Fault-clause-answers : goal.returns-in-Fault-clause-answers
@@ -34,3 +36,9 @@ returns-then-is_err-clause-outline c = outline_bare (shown_node c.note.new.self)
 
 pub returns-clause-outline : goal.returns-clause-outline
 returns-clause-outline c = ap (λ s. outline_of s) c.record.ensures ∙ outline_recorded c.args.tag (shown_node c.note.new.self) ∙ outline_bare (shown_node c.note.new.self) (shown_node c.fire.new.node) c.note.ensures.kept ∙ c.in-Done.ensures.outline
+
+pub returns-then-is_err-clause-live : goal.returns-then-is_err-clause-live
+returns-then-is_err-clause-live c = live-bare (shown_node c.note.new.self) (shown_node c.fire.new.node) c.note.ensures.kept ∙ c.in-Done.ensures.live
+
+pub returns-clause-live : goal.returns-clause-live
+returns-clause-live c = ap (λ s. is_live s) c.record.ensures

@@ -1,0 +1,58 @@
+-- The row of firings that the core of SDF makes of numbers alone.
+use Rattle.std.proofs.Common.{◌≡◌, ℕ, ℤ, List, Option, Some, None, refl, ap}
+use Rattle.pt_meaning.specs.Basics.{Tag, Streams}
+use Rattle.pt_value.specs.declared.token.Token.{Token}
+use Rattle.pt_firing.specs.declared.ask.Ask.{Ask}
+use Rattle.pt_firing.specs.declared.ask.Ask.TheVariants as ask
+use Rattle.pt_core.specs.Lawful.{IsUsual}
+use Rattle.pt_core.specs.declared.either.Either.TheVariants.{First, Other}
+use Rattle.pt_sdf.specs.Clauses.{State, IsAsked}
+use Rattle.pt_directors.specs.Directors.{Director, director_calls}
+use Rattle.pt_node.specs.Acts.{acts}
+use Rattle.pt_node.specs.Shown.{Shown}
+use Rattle.pt_seq.specs.Turns.{TakesNumber}
+use Rattle.pt_seq.specs.Between.{At, Between}
+use Rattle.pt_seq.proofs.Acting.{acts-law}
+use Rattle.pt_seq.proofs.Firing.{is-usual}
+use Rattle.pt_seq.proofs.Loop.{once-asked}
+
+-- what the core of SDF answers, as an answer of a director
+pub first-asked : (s : State) (next : Ask) (t : State) → IsAsked s next t → director_calls.Gives (First s) next × (First t ≡ director_calls.asking next (First s))
+first-asked s (ask.Fire child tag) t q = ((q.0, q.1, q.2, q.3), ap (λ (v : State). let d : Director = First v in d) q.4)
+first-asked s ask.Finished t q = ((q.0, q.1), ap (λ (v : State). let d : Director = First v in d) q.2)
+first-asked s (ask.Faulted kind (Some child)) t q = ((q.0, q.1), ap (λ (v : State). let d : Director = First v in d) q.2)
+first-asked s (ask.Faulted kind None) t q = absurd q
+first-asked s (ask.Early child tag) t q = absurd q
+first-asked s (ask.Reset child) t q = absurd q
+first-asked s (ask.Get child) t q = absurd q
+first-asked s (ask.Put child) t q = absurd q
+first-asked s ask.Grow t q = absurd q
+first-asked s ask.Meet t q = absurd q
+first-asked s ask.Await t q = absurd q
+first-asked s ask.Full t q = absurd q
+
+-- with a child's turn or the end
+no-third : (s : State) (next : Ask) (t : State) → IsAsked s next t → IsUsual next → ((i : ℕ) (when : Tag) → next ≡ ask.Fire i when → ⊥) → (next ≡ ask.Finished → ⊥) → ⊥
+no-third s (ask.Fire i when) t q u f g = f i when refl
+no-third s ask.Finished t q u f g = g refl
+no-third s (ask.Faulted kind (Some child)) t q u f g = u
+no-third s (ask.Faulted kind None) t q u f g = q
+no-third s (ask.Early child tag) t q u f g = q
+no-third s (ask.Reset child) t q u f g = q
+no-third s (ask.Get child) t q u f g = q
+no-third s (ask.Put child) t q u f g = q
+no-third s ask.Grow t q u f g = q
+no-third s ask.Meet t q u f g = q
+no-third s ask.Await t q u f g = q
+no-third s ask.Full t q u f g = q
+
+module _ {before : Director} {olds : List Shown} {tag : Tag} {X : Streams Token} {allowance : ℕ} {s : State} {now : List Shown} {left : ℕ} (at : At acts before olds tag X allowance (First s) now left) where
+  pub first-between : (next : Ask) (t : State) → IsAsked s next t → Between acts before olds tag X allowance next (First t) now left
+  first-between next t q = once-asked acts acts-law at next (First t) (first-asked s next t q).0 (first-asked s next t q).1
+
+  pub no-other : (next : Ask) (t : State) → IsAsked s next t → ((i : ℕ) (when : Tag) → next ≡ ask.Fire i when → ⊥) → (next ≡ ask.Finished → ⊥) → ⊥
+  no-other next t q f g = no-third s next t q (is-usual acts acts-law at next (first-asked s next t q).0) f g
+
+pub first-takes : (given : Option ℤ) (s : State) → TakesNumber given (First s)
+first-takes (Some n) s = tt
+first-takes None s = tt

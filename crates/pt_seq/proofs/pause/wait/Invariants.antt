@@ -1,0 +1,15 @@
+use Rattle.std.proofs.Common.{ℕ, List, map}
+use Rattle.pt_meaning.specs.Basics.{Tag, Streams}
+use Rattle.pt_value.specs.declared.token.Token.{Token}
+use Rattle.pt_directors.specs.Directors.{Director, director_calls}
+use Rattle.pt_node.specs.Acts.{acts}
+use Rattle.pt_node.specs.Shown.{Shown, shown}
+use Rattle.pt_seq.specs.Between.{At}
+use Rattle.pt_seq.proofs.pause.wait.Given as goal
+
+-- however the firing began, it has come so far
+abbrev pub invariant-loop-number : goal.invariant-loop-number
+invariant-loop-number l = (before : Director) (olds : List Shown) (tag : Tag) (X : Streams Token) (allowance : ℕ) → At acts before olds tag X allowance l.fn.director (map shown l.fn.children.items) l.left → At acts before olds tag X allowance l.director (map shown l.children.items) l.left
+
+abbrev pub decreases-loop-number : goal.decreases-loop-number
+decreases-loop-number l = director_calls.waits l.director

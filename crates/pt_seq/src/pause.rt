@@ -1,0 +1,98 @@
+ghost use Rattle.std.specs.Prelude.{◌≡◌, ◌≤◌, List, ℕ, Some, OnOk, map};
+ghost use Rattle.pt_meaning.specs.Basics as basics;
+ghost use Rattle.pt_meaning.specs.NodeFacts.{early_of};
+ghost use Rattle.pt_value.specs.declared.token.Token.{Token};
+ghost use Rattle.pt_library.specs.LibraryActor.{rows};
+ghost use Rattle.pt_directors.specs.Directors as directors;
+ghost use Rattle.pt_directors.specs.Directors.{director_calls};
+ghost use Rattle.pt_node.specs.Acts.{acts};
+ghost use Rattle.pt_node.specs.Shown.{Shown, shown, shown_node};
+ghost use Rattle.pt_node.specs.View.{node_of};
+ghost use Rattle.pt_seq.specs.Between.{At, IsUnderWay, Paused};
+
+use crate::numbers::fire_numbers;
+use pt_core::{Core, Either};
+use pt_directors::Director;
+use pt_firing::{Ask, RunFault};
+use pt_node::Node;
+use pt_time::Tag;
+use std::alloc::{AllocError, Global};
+
+/// What a composite comes to next.
+#[derive(Clone, Copy, Debug)]
+pub(crate) enum Pause {
+    /// It is the turn of this child at the tag, whose firing gave this number already, of which the director isn't told yet, or isn't made.
+    Turn(u32, Tag, Option<i64>),
+    /// The children have fired enough.
+    Finished,
+    /// The composite itself is stuck.
+    Faulted(RunFault),
+    Spent,
+    Memory,
+}
+
+/// Goes on to the next turn of a child that isn't a matter of numbers alone, or to the end.
+pub(crate) fn next(
+    alloc: Global,
+    director: &mut Director,
+    children: &mut Vec<Node>,
+    left: &mut u64,
+    row: &mut Vec<i64>,
+) -> Pause
+    requires { IsUnderWay acts director.old (map shown children.old.items) left.old }
+    ensures lowered { left.new ≤ left.old }
+    ensures goes { (before : directors.Director) (olds : List Shown) (tag : basics.Tag) (X : basics.Streams Token) (allowance : ℕ) → At acts before olds tag X allowance director.old (map shown children.old.items) left.old → Paused before olds tag X allowance result director.new (map shown children.new.items) left.new }
+{
+    match director {
+        Either::First(core) => fire_numbers(core, children, left, row),
+        Either::Other(_) => wait(alloc, director, children, *left),
+    }
+}
+
+/// Asks the director until it asks for a firing or is at an end, and does what it asks for before: an early answer of a child, or that it is brought back to its start.
+fn wait(alloc: Global, director: &mut Director, children: &mut Vec<Node>, left: u64) -> Pause
+    requires { IsUnderWay acts director.old (map shown children.old.items) left }
+    ensures { (before : directors.Director) (olds : List Shown) (tag : basics.Tag) (X : basics.Streams Token) (allowance : ℕ) → At acts before olds tag X allowance director.old (map shown children.old.items) left → Paused before olds tag X allowance result director.new (map shown children.new.items) left }
+{
+    loop {
+        match director.ask() {
+            Ask::Fire(number, when) => {
+                if left == 0 {
+                    return Pause::Spent;
+                }
+                return Pause::Turn(number, when, None);
+            }
+            Ask::Early(number, when) => {
+                let child = &children[number as usize];
+                if listen(alloc, director, child, number, when).is_err() {
+                    return Pause::Memory;
+                }
+            }
+            Ask::Reset(number) => {
+                let child = &mut children[number as usize];
+                if child.reset(alloc).is_err() {
+                    return Pause::Memory;
+                }
+            }
+            Ask::Finished => return Pause::Finished,
+            Ask::Faulted(kind, _) => return Pause::Faulted(kind),
+            _ => unreachable!(),
+        }
+    }
+}
+
+/// Tells the director what the child gives early at the tag, by what is known of its inputs.
+fn listen(
+    alloc: Global,
+    director: &mut Director,
+    child: &Node,
+    number: u32,
+    when: Tag,
+) -> Result<(), AllocError>
+    requires { director_calls.listened_of director.old ≡ Some number }
+    ensures { OnOk result (director.new ≡ director_calls.heard number (early_of rows when (node_of (shown_node child.now)) (director_calls.partial_of director.old)) director.old) }
+{
+    let partial = director.partial(alloc)?;
+    let early = child.early(alloc, when, &partial)?;
+    director.hears(alloc, number, &early)
+}
