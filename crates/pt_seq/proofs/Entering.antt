@@ -8,7 +8,6 @@ use Rattle.pt_meaning.specs.Tree as tree
 use Rattle.pt_meaning.specs.Step.{actor_outcome, step_at}
 use Rattle.pt_value.specs.declared.token.Token.{Token}
 use Rattle.pt_value.specs.declared.token.Token.TheVariants.{Int}
-use Rattle.pt_firing.specs.declared.answer.Place.{Place}
 use Rattle.pt_firing.specs.RunFault.{code_of}
 use Rattle.pt_records.specs.Kept.{Kept, Entry, kept_by}
 use Rattle.pt_records.proofs.ShutSteps.{nothing-is-shut, at-own-place}
@@ -120,7 +119,7 @@ module _ (n n' : Node) (r r' : opens.Node-F Node) (d d' : Director) (ks' : AllSh
   new-composite : shown_node n' ≡ Branch (record { past = r.past; body = body.Composite d'; records = r.records; path = r.path; live = false }) ks'
   new-composite = ap (λ m. shown_node m) (sym e') ∙ ap (λ x. level x) (out-roll-Node r') ∙ now
 
-  pub composite-enters : (tag : Tag) (X : Streams Token) → DirectorTo d (all_of (map shown r.children.items)) tag X w d' ks' → WithinTo (shown_node n) tag X w (shown_node n')
+  pub composite-enters : (tag : Tag) (X : Streams Token) → CompositeTo acts r.path r.past.made d (all_of (map shown r.children.items)) tag X w d' ks' → WithinTo (shown_node n) tag X w (shown_node n')
   unfolding frame-in
   composite-enters tag X goes =
       subst (λ s. WithinTo s tag X w (shown_node n')) (sym (old-is n r (body.Composite d) e is))

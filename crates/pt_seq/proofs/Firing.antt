@@ -13,7 +13,7 @@ use Rattle.pt_firing.specs.declared.ask.Ask.TheVariants.{Fire, Early, Reset, Fin
 use Rattle.pt_firing.specs.declared.answer.Place.{Place}
 use Rattle.pt_firing.specs.declared.fault.RunFault.{RunFault}
 use Rattle.pt_firing.specs.RunFault.{code_of}
-use Rattle.pt_records.specs.Kept.{Kept, Entry, kept_by}
+use Rattle.pt_records.specs.Kept.{Entry, kept_by}
 use Rattle.pt_records.specs.Made.{AreMade, AllMade, AllMadeBefore}
 use Rattle.pt_records.specs.Fired.{FiresTo}
 use Rattle.pt_core.specs.Acts.{Acts}
@@ -21,7 +21,7 @@ use Rattle.pt_core.specs.Lawful.{IsUsual, IsLentTo, Middle, Lawful, own_fault, c
 use Rattle.pt_library.specs.LibraryActor.{rows}
 use Rattle.pt_node.specs.Shown.{Shown, all_of}
 use Rattle.pt_node.specs.Reset.{WasReset, KeepsRecords}
-use Rattle.pt_node.specs.View.{Tree, Heading, node_of, nodes_of, kept_of, kepts_of, outline_of, outlines_of, text_at, text_below, count_of, counts_of}
+use Rattle.pt_node.specs.View.{Tree, node_of, nodes_of, kept_of, kepts_of, outline_of, outlines_of, text_below, count_of, counts_of}
 use Rattle.pt_node.specs.Live.{AllFit}
 use Rattle.pt_node.specs.Stuck.{fault_of}
 use Rattle.pt_seq.specs.declared.fire.Within.{Within}

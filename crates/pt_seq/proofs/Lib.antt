@@ -8,5 +8,5 @@ pub mod Turning
 pub mod Taking
 pub mod Firing
 pub mod Loop
-pub mod Numbers
+pub mod NumberRows
 pub mod Quickly

@@ -98,7 +98,7 @@ module _ {D : Type 0} (a : Acts rows D) (law : Lawful a) where
     faulted-itself at kind (Some child) s' g e = absurd (is-usual a law at (ask.Faulted kind (Some child)) g)
 
     -- a child of the code's list that was asked for
-    module _ {s : D} {kids : List Node} {left i : ℕ} {when : Tag} (b : Between a before olds tag X allowance (ask.Fire i when) s (map shown kids) left) where
+    module _ {s : D} (kids : List Node) {left i : ℕ} {when : Tag} (b : Between a before olds tag X allowance (ask.Fire i when) s (map shown kids) left) where
       pub index-in : i < length kids
       index-in = in-list kids i (fire-in a law b.at i when b.gives)
 
@@ -151,7 +151,7 @@ module _ {D : Type 0} (a : Acts rows D) (law : Lawful a) where
         }
 
     -- the turn of a child of the code's list
-    module _ {s : D} {kids : List Node} {left i : ℕ} {when : Tag} {given : Option ℤ} (t : InTurn a before olds tag X allowance i when given s (map shown kids) left) where
+    module _ {s : D} (kids : List Node) {left i : ℕ} {when : Tag} {given : Option ℤ} (t : InTurn a before olds tag X allowance i when given s (map shown kids) left) where
       in-kids : i < length t.kids
       in-kids = fire-in a law t.between.at i when t.between.gives
 
@@ -217,7 +217,7 @@ module _ {D : Type 0} (a : Acts rows D) (law : Lawful a) where
           turn-memory s' f = off-so (turned turn.Memory s' f)
 
     -- a child of the code's list that is asked for an early answer
-    module _ {s : D} {kids : List Node} {left : ℕ} (at : At a before olds tag X allowance s (map shown kids) left) (i : ℕ) where
+    module _ {s : D} (kids : List Node) {left : ℕ} (at : At a before olds tag X allowance s (map shown kids) left) (i : ℕ) where
       module _ (when : Tag) (g : a.calls.Gives s (ask.Early i when)) (mid : D) (is : mid ≡ a.calls.asking (ask.Early i when) s) where
         pub listen-in : i < length kids
         listen-in = in-list kids i (early-in a law at i when g)

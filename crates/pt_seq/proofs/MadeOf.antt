@@ -1,5 +1,5 @@
 -- Which meetings are those that were recorded of the children of a composite, once one of them went on.
-use Rattle.std.proofs.Common.{◌≡◌, ℕ, [], ◌∷◌, List, set, Option, Some, None, refl, sym, ap, subst, ◌∙◌, arith}
+use Rattle.std.proofs.Common.{◌≡◌, ℕ, ◌∷◌, List, set, Some, refl, sym, ap, subst, ◌∙◌, arith}
 use Rattle.pt_meaning.specs.Basics.{Log}
 use Rattle.pt_meaning.specs.Streams.{get}
 use Rattle.pt_meaning.specs.Meetings.{Meets, below_child}

@@ -1,5 +1,5 @@
 -- What a firing comes to once it is recorded, and what its record changes.
-use Rattle.std.proofs.Common.{◌≡◌, ℕ, List, [], ◌∷◌, Bool, true, false, map, Option, Some, None, refl, sym, ap, subst, ◌∙◌, arith}
+use Rattle.std.proofs.Common.{◌≡◌, ℕ, List, [], ◌∷◌, map, Some, None, refl, sym, ap, subst, ◌∙◌, arith}
 use Rattle.pt_meaning.specs.Basics.{Tag, Streams, Log, LogBelow, Firing, silent, log_then, own}
 use Rattle.pt_meaning.specs.Machine as machine
 use Rattle.pt_meaning.specs.Machine.{Outcome, recorded}
@@ -17,7 +17,6 @@ use Rattle.pt_records.proofs.ShutSteps.{nothing-is-shut, stepped-is-shut}
 use Rattle.pt_records.proofs.GrowthLaws.{grew-none, grew-joined, grew-record}
 use Rattle.pt_library.specs.LibraryActor.{rows}
 use Rattle.pt_library.proofs.RowLaws.{rows_lawful}
-use Rattle.pt_directors.specs.Directors.{Director}
 use Rattle.pt_node.specs.declared.body.Body.{Body}
 use Rattle.pt_node.specs.declared.body.Body.TheVariants as body
 use Rattle.pt_node.specs.Recorded.{RecordedPort, noting, recording, unnoted, trace_of}

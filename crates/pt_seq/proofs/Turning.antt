@@ -122,10 +122,10 @@ made-bare s t e = sym (of_bare s) ∙ ap (λ v. made_of v) e ∙ of_bare t
 
 -- a child that isn't accepted is told as stuck
 pub tell-refused : {D : Type 0} (c : Calls D) (s s' : D) (mid after : Shown) (i : ℕ) (tag : Tag) (out : Streams Token) (kind : RunFault) (t : Turn) → c.accepts s i out ≡ false → kind ≡ c.refusal s → firing.bare after ≡ firing.bare mid → RefusesTo after kind t → TellTo c s mid i tag out t s' after
-tell-refused c s s' mid after i tag out kind turn.Done no k b r = absurd r
-tell-refused c s s' mid after i tag out kind (turn.Fault place) no k b r = (no, r.0 ∙ path-bare after mid b, r.1 ∙ made-bare after mid b, r.2 ∙ k, b)
-tell-refused c s s' mid after i tag out kind turn.Spent no k b r = absurd r
-tell-refused c s s' mid after i tag out kind turn.Memory no k b r = b
+tell-refused c s s' mid after i tag out kind turn.Done other k b r = absurd r
+tell-refused c s s' mid after i tag out kind (turn.Fault place) other k b r = (other, r.0 ∙ path-bare after mid b, r.1 ∙ made-bare after mid b, r.2 ∙ k, b)
+tell-refused c s s' mid after i tag out kind turn.Spent other k b r = absurd r
+tell-refused c s s' mid after i tag out kind turn.Memory other k b r = b
 
 pub refused-spends : (after : Shown) (kind : RunFault) (t : Turn) (left left' : ℕ) → RefusesTo after kind t → TurnSpends t left left'
 refused-spends after kind turn.Done left left' r = absurd r

@@ -1,4 +1,4 @@
-ghost use Rattle.std.specs.Prelude.{◌≡◌, ◌+◌, ◌<◌, ◌≤◌, Some, map};
+ghost use Rattle.std.specs.Prelude.{◌≡◌, ◌+◌, ◌<◌, ◌≤◌, Some, false, map};
 ghost use Rattle.pt_library.specs.LibraryActor as library;
 ghost use Rattle.pt_node.specs.declared.node.Node.{out-Node};
 ghost use Rattle.pt_directors.specs.Directors.{director_calls};

@@ -10,7 +10,8 @@ use Rattle.pt_seq.proofs.Recording.{off-none}
 use Rattle.pt_seq.proofs.Turning.{turn-stuck, turn-off, turn-off-done, turn-after, handed-once, asked-once-handed, lent-once-handed, told-once-handed}
 use Rattle.pt_seq.proofs.Acting.{acts-law}
 use Rattle.pt_seq.proofs.Firing.{at-begun, off-here, may-finish, finish-goes, finish-fits, faulted-goes, faulted-fits, faulted-spends}
-use Rattle.pt_seq.proofs.Loop.{on-ok, none-given, turn-in, turn-asked, turn-may, turn-depth, turn-next, turn-outlines, turn-counted, turn-fault, turn-spent, turn-memory, halts-off, halts-outlines, halts-counted}
+use Rattle.pt_seq.proofs.Loop.{on-ok, turn-in, turn-asked, turn-may, turn-depth, turn-next, turn-outlines, turn-counted, turn-fault, turn-spent, turn-memory, halts-off, halts-outlines, halts-counted}
+use Rattle.pt_seq.proofs.NumberRows.{turn-of-several}
 use Rattle.pt_seq.proofs.Entering.{actor-enters, actor-stays, composite-enters, composite-stays, some-given}
 use Rattle.pt_seq.proofs.fire.+fire.Goals as goal
 
@@ -64,57 +65,57 @@ pub fire_composite-next-requires : goal.fire_composite-next-requires
 fire_composite-next-requires t c = record { before = c.args.director.now; olds = map shown c.args.children.now.items; tag = c.args.tag; inputs = c.args.inputs.now; allowance = c.args.left.now; at = c.loop-number.invariant }
 
 pub fire_composite-index_mut-child-requires : goal.fire_composite-index_mut-child-requires
-fire_composite-index_mut-child-requires t c = let h = turn-in acts acts-law (c.in-Turn.ensures.goes c.args.director.now (map shown c.args.children.now.items) c.args.tag c.args.inputs.now c.args.left.now c.loop-number.invariant).1 in grind (arith, h)
+fire_composite-index_mut-child-requires t c = let h = turn-in acts acts-law c.next.new.children.items (c.in-Turn.ensures.goes c.args.director.now (map shown c.args.children.now.items) c.args.tag c.args.inputs.now c.args.left.now c.loop-number.invariant).1 in grind (arith, h)
 
 pub fire_composite-fire_child-requires : goal.fire_composite-fire_child-requires
 fire_composite-fire_child-requires t c =
     let p = (c.in-Turn.ensures.goes c.args.director.now (map shown c.args.children.now.items) c.args.tag c.args.inputs.now c.args.left.now c.loop-number.invariant).1 in
-    let deep = turn-depth acts acts-law p c.index_mut-child.result.now c.index_mut-child.ensures.value in (
+    let deep = turn-depth acts acts-law c.next.new.children.items p c.index_mut-child.result.now c.index_mut-child.ensures.value in (
       omega (arith, c.decreases, deep),
-      (turn-asked acts acts-law p, (p.some, ((c.in-Turn.ensures.goes c.args.director.now (map shown c.args.children.now.items) c.args.tag c.args.inputs.now c.args.left.now c.loop-number.invariant).0, turn-may acts acts-law p c.index_mut-child.result.now c.index_mut-child.ensures.value))),
+      (turn-asked acts acts-law c.next.new.children.items p, (p.some, ((c.in-Turn.ensures.goes c.args.director.now (map shown c.args.children.now.items) c.args.tag c.args.inputs.now c.args.left.now c.loop-number.invariant).0, turn-may acts acts-law c.next.new.children.items p c.index_mut-child.result.now c.index_mut-child.ensures.value))),
     )
 
 pub fire_composite-loop-number-smaller : goal.fire_composite-loop-number-smaller
 fire_composite-loop-number-smaller t c = omega (arith, c.in-Done.ensures.spends, c.next.ensures.lowered)
 
 pub fire_composite-loop-number-preserved : goal.fire_composite-loop-number-preserved
-fire_composite-loop-number-preserved t c = turn-next acts acts-law (c.in-Turn.ensures.goes c.args.director.now (map shown c.args.children.now.items) c.args.tag c.args.inputs.now c.args.left.now c.loop-number.invariant).1 c.index_mut-child.result.now c.index_mut-child.ensures.value c.fire_child.new.child c.fire_child.new.director c.fire_child.new.left c.in-Done.ensures.goes c.in-Done.ensures.outline c.in-Done.ensures.counted c.in-Done.ensures.lowered
+fire_composite-loop-number-preserved t c = turn-next acts acts-law c.next.new.children.items (c.in-Turn.ensures.goes c.args.director.now (map shown c.args.children.now.items) c.args.tag c.args.inputs.now c.args.left.now c.loop-number.invariant).1 c.index_mut-child.result.now c.index_mut-child.ensures.value c.fire_child.new.child c.fire_child.new.director c.fire_child.new.left c.in-Done.ensures.goes c.in-Done.ensures.outline c.in-Done.ensures.counted c.in-Done.ensures.lowered
 
 pub fire_composite-returns-in-Fault-clause-goes : goal.fire_composite-returns-in-Fault-clause-goes
-fire_composite-returns-in-Fault-clause-goes t c = turn-fault acts acts-law (c.in-Turn.ensures.goes c.args.director.now (map shown c.args.children.now.items) c.args.tag c.args.inputs.now c.args.left.now c.loop-number.invariant).1 c.index_mut-child.result.now c.index_mut-child.ensures.value c.fire_child.new.child c.args.path.now c.args.made c.in-Fault.place c.fire_child.new.director c.in-Fault.ensures.goes
+fire_composite-returns-in-Fault-clause-goes t c = turn-fault acts acts-law c.next.new.children.items (c.in-Turn.ensures.goes c.args.director.now (map shown c.args.children.now.items) c.args.tag c.args.inputs.now c.args.left.now c.loop-number.invariant).1 c.index_mut-child.result.now c.index_mut-child.ensures.value c.fire_child.new.child c.args.path.now c.args.made c.in-Fault.place c.fire_child.new.director c.in-Fault.ensures.goes
 
 pub fire_composite-returns-in-Spent-fire_child-clause-goes : goal.fire_composite-returns-in-Spent-fire_child-clause-goes
-fire_composite-returns-in-Spent-fire_child-clause-goes t c = turn-spent acts acts-law (c.in-Turn.ensures.goes c.args.director.now (map shown c.args.children.now.items) c.args.tag c.args.inputs.now c.args.left.now c.loop-number.invariant).1 c.index_mut-child.result.now c.index_mut-child.ensures.value c.fire_child.new.child c.fire_child.new.director c.in-Spent-fire_child.ensures.goes
+fire_composite-returns-in-Spent-fire_child-clause-goes t c = turn-spent acts acts-law c.next.new.children.items (c.in-Turn.ensures.goes c.args.director.now (map shown c.args.children.now.items) c.args.tag c.args.inputs.now c.args.left.now c.loop-number.invariant).1 c.index_mut-child.result.now c.index_mut-child.ensures.value c.fire_child.new.child c.fire_child.new.director c.in-Spent-fire_child.ensures.goes
 
 pub fire_composite-returns-in-Memory-fire_child-clause-goes : goal.fire_composite-returns-in-Memory-fire_child-clause-goes
-fire_composite-returns-in-Memory-fire_child-clause-goes t c = turn-memory acts acts-law (c.in-Turn.ensures.goes c.args.director.now (map shown c.args.children.now.items) c.args.tag c.args.inputs.now c.args.left.now c.loop-number.invariant).1 c.index_mut-child.result.now c.index_mut-child.ensures.value c.fire_child.new.child c.fire_child.new.director c.in-Memory-fire_child.ensures.goes
+fire_composite-returns-in-Memory-fire_child-clause-goes t c = turn-memory acts acts-law c.next.new.children.items (c.in-Turn.ensures.goes c.args.director.now (map shown c.args.children.now.items) c.args.tag c.args.inputs.now c.args.left.now c.loop-number.invariant).1 c.index_mut-child.result.now c.index_mut-child.ensures.value c.fire_child.new.child c.fire_child.new.director c.in-Memory-fire_child.ensures.goes
 
 pub fire_composite-returns-in-Fault-clause-lowered : goal.fire_composite-returns-in-Fault-clause-lowered
 fire_composite-returns-in-Fault-clause-lowered t c = omega (arith, c.in-Fault.ensures.lowered, c.next.ensures.lowered, c.loop-number.invariant.lowered)
 
 pub fire_composite-returns-in-Fault-clause-outlines : goal.fire_composite-returns-in-Fault-clause-outlines
-fire_composite-returns-in-Fault-clause-outlines t c = turn-outlines acts acts-law (c.in-Turn.ensures.goes c.args.director.now (map shown c.args.children.now.items) c.args.tag c.args.inputs.now c.args.left.now c.loop-number.invariant).1 c.index_mut-child.result.now c.index_mut-child.ensures.value c.fire_child.new.child c.in-Fault.ensures.outline
+fire_composite-returns-in-Fault-clause-outlines t c = turn-outlines acts acts-law c.next.new.children.items (c.in-Turn.ensures.goes c.args.director.now (map shown c.args.children.now.items) c.args.tag c.args.inputs.now c.args.left.now c.loop-number.invariant).1 c.index_mut-child.result.now c.index_mut-child.ensures.value c.fire_child.new.child c.in-Fault.ensures.outline
 
 pub fire_composite-returns-in-Fault-clause-counted : goal.fire_composite-returns-in-Fault-clause-counted
-fire_composite-returns-in-Fault-clause-counted t c = turn-counted acts acts-law (c.in-Turn.ensures.goes c.args.director.now (map shown c.args.children.now.items) c.args.tag c.args.inputs.now c.args.left.now c.loop-number.invariant).1 c.index_mut-child.result.now c.index_mut-child.ensures.value c.fire_child.new.child c.fire_child.new.left c.in-Fault.ensures.counted
+fire_composite-returns-in-Fault-clause-counted t c = turn-counted acts acts-law c.next.new.children.items (c.in-Turn.ensures.goes c.args.director.now (map shown c.args.children.now.items) c.args.tag c.args.inputs.now c.args.left.now c.loop-number.invariant).1 c.index_mut-child.result.now c.index_mut-child.ensures.value c.fire_child.new.child c.fire_child.new.left c.in-Fault.ensures.counted
 
 pub fire_composite-returns-in-Spent-fire_child-clause-lowered : goal.fire_composite-returns-in-Spent-fire_child-clause-lowered
 fire_composite-returns-in-Spent-fire_child-clause-lowered t c = omega (arith, c.in-Spent-fire_child.ensures.lowered, c.next.ensures.lowered, c.loop-number.invariant.lowered)
 
 pub fire_composite-returns-in-Spent-fire_child-clause-outlines : goal.fire_composite-returns-in-Spent-fire_child-clause-outlines
-fire_composite-returns-in-Spent-fire_child-clause-outlines t c = turn-outlines acts acts-law (c.in-Turn.ensures.goes c.args.director.now (map shown c.args.children.now.items) c.args.tag c.args.inputs.now c.args.left.now c.loop-number.invariant).1 c.index_mut-child.result.now c.index_mut-child.ensures.value c.fire_child.new.child c.in-Spent-fire_child.ensures.outline
+fire_composite-returns-in-Spent-fire_child-clause-outlines t c = turn-outlines acts acts-law c.next.new.children.items (c.in-Turn.ensures.goes c.args.director.now (map shown c.args.children.now.items) c.args.tag c.args.inputs.now c.args.left.now c.loop-number.invariant).1 c.index_mut-child.result.now c.index_mut-child.ensures.value c.fire_child.new.child c.in-Spent-fire_child.ensures.outline
 
 pub fire_composite-returns-in-Spent-fire_child-clause-counted : goal.fire_composite-returns-in-Spent-fire_child-clause-counted
-fire_composite-returns-in-Spent-fire_child-clause-counted t c = turn-counted acts acts-law (c.in-Turn.ensures.goes c.args.director.now (map shown c.args.children.now.items) c.args.tag c.args.inputs.now c.args.left.now c.loop-number.invariant).1 c.index_mut-child.result.now c.index_mut-child.ensures.value c.fire_child.new.child c.fire_child.new.left c.in-Spent-fire_child.ensures.counted
+fire_composite-returns-in-Spent-fire_child-clause-counted t c = turn-counted acts acts-law c.next.new.children.items (c.in-Turn.ensures.goes c.args.director.now (map shown c.args.children.now.items) c.args.tag c.args.inputs.now c.args.left.now c.loop-number.invariant).1 c.index_mut-child.result.now c.index_mut-child.ensures.value c.fire_child.new.child c.fire_child.new.left c.in-Spent-fire_child.ensures.counted
 
 pub fire_composite-returns-in-Memory-fire_child-clause-lowered : goal.fire_composite-returns-in-Memory-fire_child-clause-lowered
 fire_composite-returns-in-Memory-fire_child-clause-lowered t c = omega (arith, c.in-Memory-fire_child.ensures.lowered, c.next.ensures.lowered, c.loop-number.invariant.lowered)
 
 pub fire_composite-returns-in-Memory-fire_child-clause-outlines : goal.fire_composite-returns-in-Memory-fire_child-clause-outlines
-fire_composite-returns-in-Memory-fire_child-clause-outlines t c = turn-outlines acts acts-law (c.in-Turn.ensures.goes c.args.director.now (map shown c.args.children.now.items) c.args.tag c.args.inputs.now c.args.left.now c.loop-number.invariant).1 c.index_mut-child.result.now c.index_mut-child.ensures.value c.fire_child.new.child c.in-Memory-fire_child.ensures.outline
+fire_composite-returns-in-Memory-fire_child-clause-outlines t c = turn-outlines acts acts-law c.next.new.children.items (c.in-Turn.ensures.goes c.args.director.now (map shown c.args.children.now.items) c.args.tag c.args.inputs.now c.args.left.now c.loop-number.invariant).1 c.index_mut-child.result.now c.index_mut-child.ensures.value c.fire_child.new.child c.in-Memory-fire_child.ensures.outline
 
 pub fire_composite-returns-in-Memory-fire_child-clause-counted : goal.fire_composite-returns-in-Memory-fire_child-clause-counted
-fire_composite-returns-in-Memory-fire_child-clause-counted t c = turn-counted acts acts-law (c.in-Turn.ensures.goes c.args.director.now (map shown c.args.children.now.items) c.args.tag c.args.inputs.now c.args.left.now c.loop-number.invariant).1 c.index_mut-child.result.now c.index_mut-child.ensures.value c.fire_child.new.child c.fire_child.new.left c.in-Memory-fire_child.ensures.counted
+fire_composite-returns-in-Memory-fire_child-clause-counted t c = turn-counted acts acts-law c.next.new.children.items (c.in-Turn.ensures.goes c.args.director.now (map shown c.args.children.now.items) c.args.tag c.args.inputs.now c.args.left.now c.loop-number.invariant).1 c.index_mut-child.result.now c.index_mut-child.ensures.value c.fire_child.new.child c.fire_child.new.left c.in-Memory-fire_child.ensures.counted
 
 pub fire_composite-finish-requires : goal.fire_composite-finish-requires
 fire_composite-finish-requires t c = let p = (c.in-Finished.ensures.goes c.args.director.now (map shown c.args.children.now.items) c.args.tag c.args.inputs.now c.args.left.now c.loop-number.invariant) in may-finish acts acts-law p.at c.args.path.now c.args.made p.gives c.next.new.director p.asking
@@ -178,3 +179,9 @@ fire_composite-returns-in-Memory-clause-outlines t c = let p = (c.in-Memory.ensu
 
 pub fire_composite-returns-in-Memory-clause-counted : goal.fire_composite-returns-in-Memory-clause-counted
 fire_composite-returns-in-Memory-clause-counted t c = let p = (c.in-Memory.ensures.goes c.args.director.now (map shown c.args.children.now.items) c.args.tag c.args.inputs.now c.args.left.now c.loop-number.invariant) in halts-counted acts acts-law p
+
+pub fire_child-returns-then-several-clause-goes : goal.fire_child-returns-then-several-clause-goes
+fire_child-returns-then-several-clause-goes t c =
+    let gave = some-given (shown_node c.args.child.now) (shown_node c.several.new.node) (lent_in c.in-First.core.stage) c.several.result c.several.new.buffers.given.items c.several.ensures.goes c.if-several.true in
+    turn-of-several c.args.director.now c.in-First.core c.in-First.is c.args.given c.in_default-given.not-Some (shown_node c.args.child.now) (shown_node c.several.new.node) c.args.number c.args.tag c.several.new.buffers.given.items c.tell_numbers-then-several.result c.tell_numbers-then-several.new.core (shown_node c.tell_numbers-then-several.new.child) gave (ap (λ p. p.made) c.several.ensures.past)
+    (subst (λ v. TellTo director_calls (First c.in-First.core) (shown_node c.several.new.node) c.args.number c.args.tag (map Int v ∷ []) c.tell_numbers-then-several.result (First c.tell_numbers-then-several.new.core) (shown_node c.tell_numbers-then-several.new.child)) c.deref.ensures.value c.tell_numbers-then-several.ensures.goes)

@@ -5,7 +5,7 @@ use Rattle.pt_node.specs.Acts.{acts}
 use Rattle.pt_seq.proofs.Acting.{acts-law}
 use Rattle.pt_seq.proofs.Firing.{may-ask}
 use Rattle.pt_seq.proofs.Loop.{index-in, child-asked, child-fit, goes-on, in-turn}
-use Rattle.pt_seq.proofs.Numbers.{first-between, no-other, first-takes}
+use Rattle.pt_seq.proofs.NumberRows.{first-between, no-other, first-takes}
 use Rattle.pt_seq.proofs.numbers.fire_numbers.Goals as goal
 
 pub ask-requires : goal.ask-requires
@@ -28,20 +28,20 @@ returns-then-left-eq0-clause-goes c before olds tag X allowance a = (
 
 pub index_mut-child-requires : goal.index_mut-child-requires
 index_mut-child-requires c =
-    let h = index-in acts acts-law (first-between (c.loop-number.invariant.so_far c.requires.before c.requires.olds c.requires.tag c.requires.inputs c.requires.allowance c.requires.at) (ask.Fire c.in-Fire.number c.in-Fire.when) c.ask.new.self c.in-Fire.ensures) in grind (arith, h)
+    let h = index-in acts acts-law c.loop-number.children.items (first-between (c.loop-number.invariant.so_far c.requires.before c.requires.olds c.requires.tag c.requires.inputs c.requires.allowance c.requires.at) (ask.Fire c.in-Fire.number c.in-Fire.when) c.ask.new.self c.in-Fire.ensures) in grind (arith, h)
 
 pub turn_of_number-requires-clause-asked : goal.turn_of_number-requires-clause-asked
 turn_of_number-requires-clause-asked c =
-    child-asked acts acts-law (first-between (c.loop-number.invariant.so_far c.requires.before c.requires.olds c.requires.tag c.requires.inputs c.requires.allowance c.requires.at) (ask.Fire c.in-Fire.number c.in-Fire.when) c.ask.new.self c.in-Fire.ensures) c.index_mut-child.result.now c.index_mut-child.ensures.value
+    child-asked acts acts-law c.loop-number.children.items (first-between (c.loop-number.invariant.so_far c.requires.before c.requires.olds c.requires.tag c.requires.inputs c.requires.allowance c.requires.at) (ask.Fire c.in-Fire.number c.in-Fire.when) c.ask.new.self c.in-Fire.ensures) c.index_mut-child.result.now c.index_mut-child.ensures.value
 
 pub turn_of_number-requires-clause-fit : goal.turn_of_number-requires-clause-fit
 turn_of_number-requires-clause-fit c =
-    child-fit acts acts-law (first-between (c.loop-number.invariant.so_far c.requires.before c.requires.olds c.requires.tag c.requires.inputs c.requires.allowance c.requires.at) (ask.Fire c.in-Fire.number c.in-Fire.when) c.ask.new.self c.in-Fire.ensures) c.index_mut-child.result.now c.index_mut-child.ensures.value
+    child-fit acts acts-law c.loop-number.children.items (first-between (c.loop-number.invariant.so_far c.requires.before c.requires.olds c.requires.tag c.requires.inputs c.requires.allowance c.requires.at) (ask.Fire c.in-Fire.number c.in-Fire.when) c.ask.new.self c.in-Fire.ensures) c.index_mut-child.result.now c.index_mut-child.ensures.value
 
 pub returns-in-Open-clause-goes : goal.returns-in-Open-clause-goes
 returns-in-Open-clause-goes c before olds tag X allowance a = (
   first-takes c.in-Open.given c.turn_of_number.new.core,
-  in-turn acts acts-law (first-between (c.loop-number.invariant.so_far before olds tag X allowance a) (ask.Fire c.in-Fire.number c.in-Fire.when) c.ask.new.self c.in-Fire.ensures) c.index_mut-child.result.now c.index_mut-child.ensures.value c.turn_of_number.new.child c.in-Open.given (First c.turn_of_number.new.core) c.turn_of_number.new.left c.in-Open.ensures.goes.0 c.in-Open.ensures.spends (omega (arith, c.if-left-eq0.false)) c.in-Open.ensures.goes.1,
+  in-turn acts acts-law c.loop-number.children.items (first-between (c.loop-number.invariant.so_far before olds tag X allowance a) (ask.Fire c.in-Fire.number c.in-Fire.when) c.ask.new.self c.in-Fire.ensures) c.index_mut-child.result.now c.index_mut-child.ensures.value c.turn_of_number.new.child c.in-Open.given (First c.turn_of_number.new.core) c.turn_of_number.new.left c.in-Open.ensures.goes.0 c.in-Open.ensures.spends (omega (arith, c.if-left-eq0.false)) c.in-Open.ensures.goes.1,
 )
 
 pub loop-number-init : goal.loop-number-init
@@ -51,6 +51,6 @@ pub loop-number-preserved : goal.loop-number-preserved
 loop-number-preserved c = record {
   lowered = omega (arith, c.in_default-turn_of_number.ensures.spends, c.loop-number.invariant.lowered);
   so_far = λ before olds tag X allowance a.
-      goes-on acts acts-law (first-between (c.loop-number.invariant.so_far before olds tag X allowance a) (ask.Fire c.in-Fire.number c.in-Fire.when) c.ask.new.self c.in-Fire.ensures) c.index_mut-child.result.now c.index_mut-child.ensures.value
+      goes-on acts acts-law c.loop-number.children.items (first-between (c.loop-number.invariant.so_far before olds tag X allowance a) (ask.Fire c.in-Fire.number c.in-Fire.when) c.ask.new.self c.in-Fire.ensures) c.index_mut-child.result.now c.index_mut-child.ensures.value
       c.turn_of_number.new.child (First c.turn_of_number.new.core) c.turn_of_number.new.left c.in_default-turn_of_number.ensures.goes c.in_default-turn_of_number.ensures.outline c.in_default-turn_of_number.ensures.counted (omega (arith, c.in_default-turn_of_number.ensures.spends));
 }

@@ -1,6 +1,5 @@
-use Rattle.std.proofs.Common.{◌≡◌, arith, refl, sym, ◌∙◌}
+use Rattle.std.proofs.Common.{◌≡◌, arith, sym, ◌∙◌}
 use Rattle.pt_firing.specs.declared.ask.Ask.TheVariants as ask
-use Rattle.pt_core.specs.Lawful.{IsUsual}
 use Rattle.pt_directors.specs.Directors.{director_calls}
 use Rattle.pt_meaning.specs.NodeFacts.{early_of}
 use Rattle.pt_library.specs.LibraryActor.{rows}
@@ -32,31 +31,31 @@ pub unreachable-requires : goal.unreachable-requires
 unreachable-requires c = no-unusual c.ask.result (is-usual acts acts-law (c.loop-number.invariant c.requires.before c.requires.olds c.requires.tag c.requires.inputs c.requires.allowance c.requires.at) c.ask.result c.ask.ensures.gives) c.in_default.not-Fire c.in_default.not-Early c.in_default.not-Reset c.in_default.not-Finished c.in_default.not-Faulted
 
 pub index-child-requires : goal.index-child-requires
-index-child-requires c = let h = listen-in acts acts-law (c.loop-number.invariant c.requires.before c.requires.olds c.requires.tag c.requires.inputs c.requires.allowance c.requires.at) c.in-Early.number c.in-Early.when c.in-Early.ensures.gives c.ask.new.self c.in-Early.ensures.state in grind (arith, h)
+index-child-requires c = let h = listen-in acts acts-law c.loop-number.children.items (c.loop-number.invariant c.requires.before c.requires.olds c.requires.tag c.requires.inputs c.requires.allowance c.requires.at) c.in-Early.number c.in-Early.when c.in-Early.ensures.gives c.ask.new.self c.in-Early.ensures.state in grind (arith, h)
 
 pub listen-requires : goal.listen-requires
-listen-requires c = listen-asked acts acts-law (c.loop-number.invariant c.requires.before c.requires.olds c.requires.tag c.requires.inputs c.requires.allowance c.requires.at) c.in-Early.number c.in-Early.when c.in-Early.ensures.gives c.ask.new.self c.in-Early.ensures.state
+listen-requires c = listen-asked acts acts-law c.loop-number.children.items (c.loop-number.invariant c.requires.before c.requires.olds c.requires.tag c.requires.inputs c.requires.allowance c.requires.at) c.in-Early.number c.in-Early.when c.in-Early.ensures.gives c.ask.new.self c.in-Early.ensures.state
 
-pub loop-number-smaller-in-Early : goal.loop-number-smaller-in-Early
-loop-number-smaller-in-Early c = listen-learns acts acts-law (c.loop-number.invariant c.requires.before c.requires.olds c.requires.tag c.requires.inputs c.requires.allowance c.requires.at) c.in-Early.number c.in-Early.when c.in-Early.ensures.gives c.ask.new.self c.in-Early.ensures.state c.index-child.result.now c.index-child.ensures.value c.listen.new.director (on-ok c.listen.result (c.listen.new.director ≡ director_calls.heard c.in-Early.number (early_of rows c.in-Early.when (node_of (shown_node c.index-child.result.now)) (director_calls.partial_of c.ask.new.self)) c.ask.new.self) (sym c.is_err.ensures.value ∙ c.if-is_err.false) c.listen.ensures)
+pub loop-number-smaller-else-is_err : goal.loop-number-smaller-else-is_err
+loop-number-smaller-else-is_err c = listen-learns acts acts-law c.loop-number.children.items (c.loop-number.invariant c.requires.before c.requires.olds c.requires.tag c.requires.inputs c.requires.allowance c.requires.at) c.in-Early.number c.in-Early.when c.in-Early.ensures.gives c.ask.new.self c.in-Early.ensures.state c.index-child.result.now c.index-child.ensures c.listen.new.director (on-ok c.listen.result (c.listen.new.director ≡ director_calls.heard c.in-Early.number (early_of rows c.in-Early.when (node_of (shown_node c.index-child.result.now)) (director_calls.partial_of c.ask.new.self)) c.ask.new.self) (sym c.is_err.ensures.value ∙ c.if-is_err.false) c.listen.ensures)
 
-pub loop-number-preserved-in-Early : goal.loop-number-preserved-in-Early
-loop-number-preserved-in-Early c before olds tag X allowance a = listen-next acts acts-law (c.loop-number.invariant before olds tag X allowance a) c.in-Early.number c.in-Early.when c.in-Early.ensures.gives c.ask.new.self c.in-Early.ensures.state c.index-child.result.now c.index-child.ensures.value c.listen.new.director (on-ok c.listen.result (c.listen.new.director ≡ director_calls.heard c.in-Early.number (early_of rows c.in-Early.when (node_of (shown_node c.index-child.result.now)) (director_calls.partial_of c.ask.new.self)) c.ask.new.self) (sym c.is_err.ensures.value ∙ c.if-is_err.false) c.listen.ensures)
+pub loop-number-preserved-else-is_err : goal.loop-number-preserved-else-is_err
+loop-number-preserved-else-is_err c before olds tag X allowance a = listen-next acts acts-law c.loop-number.children.items (c.loop-number.invariant before olds tag X allowance a) c.in-Early.number c.in-Early.when c.in-Early.ensures.gives c.ask.new.self c.in-Early.ensures.state c.index-child.result.now c.index-child.ensures c.listen.new.director (on-ok c.listen.result (c.listen.new.director ≡ director_calls.heard c.in-Early.number (early_of rows c.in-Early.when (node_of (shown_node c.index-child.result.now)) (director_calls.partial_of c.ask.new.self)) c.ask.new.self) (sym c.is_err.ensures.value ∙ c.if-is_err.false) c.listen.ensures)
 
 pub returns-then-is_err : goal.returns-then-is_err
 returns-then-is_err c before olds tag X allowance a = halts-here acts acts-law (c.loop-number.invariant before olds tag X allowance a)
 
 pub index_mut-child-requires : goal.index_mut-child-requires
-index_mut-child-requires c = let h = restart-in acts acts-law (c.loop-number.invariant c.requires.before c.requires.olds c.requires.tag c.requires.inputs c.requires.allowance c.requires.at) c.in-Reset.number c.in-Reset.ensures.gives c.ask.new.self c.in-Reset.ensures.state in grind (arith, h)
+index_mut-child-requires c = let h = restart-in acts acts-law c.loop-number.children.items (c.loop-number.invariant c.requires.before c.requires.olds c.requires.tag c.requires.inputs c.requires.allowance c.requires.at) c.in-Reset.number c.in-Reset.ensures.gives c.ask.new.self c.in-Reset.ensures.state in grind (arith, h)
 
 pub reset-requires : goal.reset-requires
-reset-requires c = restart-fit acts acts-law (c.loop-number.invariant c.requires.before c.requires.olds c.requires.tag c.requires.inputs c.requires.allowance c.requires.at) c.in-Reset.number c.in-Reset.ensures.gives c.ask.new.self c.in-Reset.ensures.state c.index_mut-child.result.now c.index_mut-child.ensures.value
+reset-requires c = restart-fit acts acts-law c.loop-number.children.items (c.loop-number.invariant c.requires.before c.requires.olds c.requires.tag c.requires.inputs c.requires.allowance c.requires.at) c.in-Reset.number c.in-Reset.ensures.gives c.ask.new.self c.in-Reset.ensures.state c.index_mut-child.result.now c.index_mut-child.ensures.value
 
 pub loop-number-smaller : goal.loop-number-smaller
-loop-number-smaller c = restart-rests acts acts-law (c.loop-number.invariant c.requires.before c.requires.olds c.requires.tag c.requires.inputs c.requires.allowance c.requires.at) c.in-Reset.number c.in-Reset.ensures.gives c.ask.new.self c.in-Reset.ensures.state
+loop-number-smaller c = restart-rests acts acts-law c.loop-number.children.items (c.loop-number.invariant c.requires.before c.requires.olds c.requires.tag c.requires.inputs c.requires.allowance c.requires.at) c.in-Reset.number c.in-Reset.ensures.gives c.ask.new.self c.in-Reset.ensures.state
 
 pub loop-number-preserved : goal.loop-number-preserved
-loop-number-preserved c before olds tag X allowance a = restart-next acts acts-law (c.loop-number.invariant before olds tag X allowance a) c.in-Reset.number c.in-Reset.ensures.gives c.ask.new.self c.in-Reset.ensures.state c.index_mut-child.result.now c.index_mut-child.ensures.value c.reset.new.self c.reset.ensures.kept (on-ok c.reset.result (WasReset (shown_node c.index_mut-child.result.now) (shown_node c.reset.new.self)) (sym c.is_err-2.ensures.value ∙ c.if-is_err-2.false) c.reset.ensures.reset)
+loop-number-preserved c before olds tag X allowance a = restart-next acts acts-law c.loop-number.children.items (c.loop-number.invariant before olds tag X allowance a) c.in-Reset.number c.in-Reset.ensures.gives c.ask.new.self c.in-Reset.ensures.state c.index_mut-child.result.now c.index_mut-child.ensures.value c.reset.new.self c.reset.ensures.kept (on-ok c.reset.result (WasReset (shown_node c.index_mut-child.result.now) (shown_node c.reset.new.self)) (sym c.is_err-in-Reset.ensures.value ∙ c.if-is_err-2.false) c.reset.ensures.reset)
 
 pub returns-then-is_err-2 : goal.returns-then-is_err-2
-returns-then-is_err-2 c before olds tag X allowance a = restart-halts acts acts-law (c.loop-number.invariant before olds tag X allowance a) c.in-Reset.number c.in-Reset.ensures.gives c.ask.new.self c.in-Reset.ensures.state c.index_mut-child.result.now c.index_mut-child.ensures.value c.reset.new.self c.reset.ensures.kept
+returns-then-is_err-2 c before olds tag X allowance a = restart-halts acts acts-law c.loop-number.children.items (c.loop-number.invariant before olds tag X allowance a) c.in-Reset.number c.in-Reset.ensures.gives c.ask.new.self c.in-Reset.ensures.state c.index_mut-child.result.now c.index_mut-child.ensures.value c.reset.new.self c.reset.ensures.kept

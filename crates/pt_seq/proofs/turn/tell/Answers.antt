@@ -1,4 +1,4 @@
-use Rattle.std.proofs.Common.{◌≡◌, Some, ap, ◌∙◌, sym, refl}
+use Rattle.std.proofs.Common.{◌≡◌, ap, ◌∙◌, sym}
 use Rattle.pt_directors.specs.Directors.{director_calls}
 use Rattle.pt_node.specs.Firing.{noted, recorded}
 use Rattle.pt_node.specs.Shown.{shown_node}

@@ -1,20 +1,25 @@
 -- The row of firings that the core of SDF makes of numbers alone.
-use Rattle.std.proofs.Common.{◌≡◌, ℕ, ℤ, List, Option, Some, None, refl, ap}
+use Rattle.std.proofs.Common.{◌≡◌, ℕ, ℤ, List, [], ◌∷◌, Option, Some, None, map, refl, sym, ap, subst}
 use Rattle.pt_meaning.specs.Basics.{Tag, Streams}
 use Rattle.pt_value.specs.declared.token.Token.{Token}
+use Rattle.pt_value.specs.declared.token.Token.TheVariants.{Int}
 use Rattle.pt_firing.specs.declared.ask.Ask.{Ask}
 use Rattle.pt_firing.specs.declared.ask.Ask.TheVariants as ask
 use Rattle.pt_core.specs.Lawful.{IsUsual}
-use Rattle.pt_core.specs.declared.either.Either.TheVariants.{First, Other}
+use Rattle.pt_core.specs.declared.either.Either.TheVariants.{First}
+use Rattle.pt_sdf.specs.State.{lent_in}
 use Rattle.pt_sdf.specs.Clauses.{State, IsAsked}
 use Rattle.pt_directors.specs.Directors.{Director, director_calls}
 use Rattle.pt_node.specs.Acts.{acts}
 use Rattle.pt_node.specs.Shown.{Shown}
-use Rattle.pt_seq.specs.Turns.{TakesNumber}
+use Rattle.pt_seq.specs.declared.turn.Turn.{Turn}
+use Rattle.pt_seq.specs.Within.{Gave, made_of}
+use Rattle.pt_seq.specs.Turns.{TakesNumber, TellTo, TurnFrom}
 use Rattle.pt_seq.specs.Between.{At, Between}
 use Rattle.pt_seq.proofs.Acting.{acts-law}
 use Rattle.pt_seq.proofs.Firing.{is-usual}
-use Rattle.pt_seq.proofs.Loop.{once-asked}
+use Rattle.pt_seq.proofs.Turning.{turn-told}
+use Rattle.pt_seq.proofs.Loop.{once-asked, none-given}
 
 -- what the core of SDF answers, as an answer of a director
 pub first-asked : (s : State) (next : Ask) (t : State) → IsAsked s next t → director_calls.Gives (First s) next × (First t ≡ director_calls.asking next (First s))
@@ -56,3 +61,11 @@ module _ {before : Director} {olds : List Shown} {tag : Tag} {X : Streams Token}
 pub first-takes : (given : Option ℤ) (s : State) → TakesNumber given (First s)
 first-takes (Some n) s = tt
 first-takes None s = tt
+
+-- the turn of a child that gave numbers alone, of which the core of SDF was told
+pub turn-of-several : (d : Director) (s : State) → d ≡ First s → (given : Option ℤ) → ((n : ℤ) → given ≡ Some n → ⊥) → (child mid : Shown) (i : ℕ) (tag : Tag) (ns : List ℤ) (t : Turn) (s' : State) (after : Shown) →
+    Gave child (lent_in s.stage) (map Int ns ∷ []) mid → made_of mid ≡ made_of child → TellTo director_calls (First s) mid i tag (map Int ns ∷ []) t (First s') after → TurnFrom director_calls given d child i tag t (First s') after
+turn-of-several d s e given f child mid i tag ns t s' after g p told =
+    subst (λ v. TurnFrom director_calls given v child i tag t (First s') after) (sym e)
+    (none-given director_calls given (First s) child i tag t (First s') after f
+    (turn-told director_calls (First s) child mid i tag (map Int ns ∷ []) t (First s') after (g.goes tag) g.fit g.outline p told))
