@@ -9,7 +9,6 @@ use Rattle.pt_net.specs.declared.net.Net.{Net}
 use Rattle.pt_net.specs.declared.net.NetEntity.{NetEntity}
 use Rattle.pt_net.specs.Inside.{children_of}
 use Rattle.pt_library.specs.declared.library_actor.LibraryActor.{LibraryActor}
-use Rattle.pt_library.specs.LibraryActor.{is_steady}
 use Rattle.pt_plan.specs.declared.inside.Inside.{Inside}
 use Rattle.pt_plan.specs.declared.planning.PlanFault.{PlanFault}
 use Rattle.pt_plan.specs.declared.planning.PlanFault.TheVariants as plan_fault
@@ -20,9 +19,10 @@ use Rattle.pt_node.specs.Recorded.{RecordedPort}
 use Rattle.pt_node.specs.Shown.{Shown, Branch, none}
 use Rattle.pt_trees.specs.declared.build_fault.BuildFault.{BuildFault}
 use Rattle.pt_trees.specs.declared.build_fault.BuildFault.TheVariants.{Refused, Unbuilt, Memory}
-use Rattle.pt_trees.specs.Around.{IsInsideOf, HasInside}
-use Rattle.pt_trees.specs.Composite.{trees_of, IsComposite}
-use Rattle.pt_trees.specs.Trees.{IsEntity, IsUndirected, is_sdf, IsSdf, around_in, Starts, StartsAs}
+use Rattle.pt_trees.specs.Rates.{HasUnsteady}
+use Rattle.pt_trees.specs.Around.{IsInsideOf, HasInside, IsWired}
+use Rattle.pt_trees.specs.Composite.{trees_of, IsSdfComposite, IsSrComposite}
+use Rattle.pt_trees.specs.Trees.{IsEntity, IsUndirected, is_sdf, IsSdf, is_sr, IsSr, around_in, Starts, StartsAs}
 use Rattle.pt_trees.specs.Recorded.{recorded_of}
 use Rattle.pt_trees.specs.declared.composite_fault.CompositeFault.{CompositeFault}
 use Rattle.pt_trees.specs.declared.composite_fault.CompositeFault.TheVariants as composite_fault
@@ -39,7 +39,9 @@ mutual
   pub data IsBuilt (net : Net) (starts : Starts) : ℕ → Shown → Type 0 where
     built_actor : (k : ℕ) (e : NetEntity) (a : LibraryActor) → IsEntity net k e → IsUndirected e → StartsAs starts k a → IsBuilt net starts k (actor_node a e.path (recorded_of net k e))
     built_sdf : (k : ℕ) (e : NetEntity) (kids : List Shown) (s : Shown) → IsEntity net k e → IsSdf e → AreBuilt net starts (children_of net.entities.items k) kids →
-        IsComposite (around_in net k e) kids e.path (recorded_of net k e) s → IsBuilt net starts k s
+        IsSdfComposite (around_in net k e) kids e.path (recorded_of net k e) s → IsBuilt net starts k s
+    built_sr : (k : ℕ) (e : NetEntity) (kids : List Shown) (s : Shown) → IsEntity net k e → IsSr e → AreBuilt net starts (children_of net.entities.items k) kids →
+        IsSrComposite (around_in net k e) kids e.path (recorded_of net k e) s → IsBuilt net starts k s
 
   pub data AreBuilt (net : Net) (starts : Starts) : List ℕ → List Shown → Type 0 where
     none_built : AreBuilt net starts [] []
@@ -59,7 +61,7 @@ IsCodeOf plan_fault.Limit c = c ≡ code.Limit
 IsCodeOf plan_fault.Deadlock c = c ≡ code.SdfDeadlock
 IsCodeOf plan_fault.Memory c = ⊥
 
--- a composite whose inside has no plan is refused at its path
+-- an SDF composite whose inside has no plan is refused at its path
 pub record IsRefused (net : Net) (starts : Starts) (r : Refusal) : Type 0 where
   pub number : ℕ
   pub entity : NetEntity
@@ -74,18 +76,20 @@ pub record IsRefused (net : Net) (starts : Starts) (r : Refusal) : Type 0 where
   pub code_is : IsCodeOf fault r.code
   pub path_is : r.path ≡ entity.path
 
--- What isn't built yet: an entity that is neither a library actor nor an SDF composite; a library actor without a start, or one that doesn't need the same at each firing; a composite whose inside isn't well formed; a net whose top isn't there, or that is nested
--- deeper than documents are.
+-- What isn't built yet: an entity that is neither a library actor nor a composite of SDF or SR; a library actor without a start; an SDF composite with a child that isn't steady, or whose inside isn't well formed; an SR composite whose wiring isn't one;
+-- a net whose top isn't there, or that is nested deeper than documents are.
 pub data IsUnbuilt (net : Net) (starts : Starts) : Type 0 where
   absent : ((e : NetEntity) → IsEntity net 0 e → ⊥) → IsUnbuilt net starts
-  other_director : (k : ℕ) (e : NetEntity) → IsEntity net k e → (IsUndirected e → ⊥) → is_sdf e ≡ false → IsUnbuilt net starts
+  other_director : (k : ℕ) (e : NetEntity) → IsEntity net k e → (IsUndirected e → ⊥) → is_sdf e ≡ false → is_sr e ≡ false → IsUnbuilt net starts
   unstarted : (k : ℕ) (e : NetEntity) → IsEntity net k e → IsUndirected e → ((a : LibraryActor) → StartsAs starts k a → ⊥) → IsUnbuilt net starts
-  unsteady : (k : ℕ) (e : NetEntity) (a : LibraryActor) → IsEntity net k e → IsUndirected e → StartsAs starts k a → is_steady a ≡ false → IsUnbuilt net starts
+  unsteady : (k : ℕ) (e : NetEntity) (kids : List Shown) → IsEntity net k e → IsSdf e → AreBuilt net starts (children_of net.entities.items k) kids → HasUnsteady (trees_of kids) → IsUnbuilt net starts
   malformed : (k : ℕ) (e : NetEntity) (kids : List Shown) → IsEntity net k e → IsSdf e → AreBuilt net starts (children_of net.entities.items k) kids → (HasInside (around_in net k e) (trees_of kids) → ⊥) → IsUnbuilt net starts
+  unwired : (k : ℕ) (e : NetEntity) (kids : List Shown) → IsEntity net k e → IsSr e → AreBuilt net starts (children_of net.entities.items k) kids → (IsWired (around_in net k e) (trees_of kids) → ⊥) → IsUnbuilt net starts
   deep : (k : ℕ) → IsNested net k 32 → IsUnbuilt net starts
 
 -- how it is told that a composite of this path isn't built
 abbrev pub IsToldAs : CompositeFault → List ℕ → BuildFault → Type 0
+IsToldAs composite_fault.Unsteady path f = f ≡ Unbuilt
 IsToldAs composite_fault.Malformed path f = f ≡ Unbuilt
 IsToldAs (composite_fault.Unplanned fault) path (Refused r) = IsCodeOf fault r.code × (r.path ≡ path)
 IsToldAs (composite_fault.Unplanned fault) path Unbuilt = ⊥

@@ -1,4 +1,4 @@
--- An SDF composite that is built from its children.
+-- A composite of SDF or of SR that is built from its children.
 use Rattle.std.specs.Prelude.{◌≡◌, ℕ, List, map}
 use Rattle.pt_meaning.specs.Sdf.{SdfPlan}
 use Rattle.pt_meaning.specs.Start.{first_held}
@@ -12,8 +12,9 @@ use Rattle.pt_node.specs.declared.node.Node.{Node}
 use Rattle.pt_node.specs.Shown.{Shown, Branch, Frame, shown, all_of, list_of}
 use Rattle.pt_node.specs.View.{Tree, node_of}
 use Rattle.pt_trees.specs.declared.composite_fault.CompositeFault.{CompositeFault}
-use Rattle.pt_trees.specs.declared.composite_fault.CompositeFault.TheVariants.{Malformed, Unplanned, Memory}
-use Rattle.pt_trees.specs.Around.{Around, IsInsideOf, HasInside}
+use Rattle.pt_trees.specs.declared.composite_fault.CompositeFault.TheVariants.{Unsteady, Malformed, Unplanned, Memory}
+use Rattle.pt_trees.specs.Rates.{HasUnsteady}
+use Rattle.pt_trees.specs.Around.{Around, IsInsideOf, HasInside, tick_plan, IsWired}
 use Rattle.pt_trees.specs.Fresh.{IsFresh}
 
 -- what the nodes of the code are among the definitions
@@ -27,9 +28,9 @@ frame_in (Branch f ks) = f
 abbrev pub children_in : Shown → List Shown
 children_in (Branch f ks) = list_of ks
 
--- The node is the composite with this wiring round these children, under its path and with its recorded outputs: its plan is that of its inside,
+-- The node is the SDF composite with this wiring round these children, under its path and with its recorded outputs: its plan is that of its inside,
 -- its channels hold the first tokens, and it is fresh.
-pub record IsComposite (around : Around) (kids : List Shown) (path : List ℕ) (records : List RecordedPort) (s : Shown) : Type 0 where
+pub record IsSdfComposite (around : Around) (kids : List Shown) (path : List ℕ) (records : List RecordedPort) (s : Shown) : Type 0 where
   pub inside : Inside
   pub is_inside : IsInsideOf around (trees_of kids) inside
   pub plan : SdfPlan
@@ -40,8 +41,25 @@ pub record IsComposite (around : Around) (kids : List Shown) (path : List ℕ) (
   pub records_are : (frame_in s).records ≡ records
   pub fresh : IsFresh s
 
--- why there is none: the inside isn't well formed, or it has no plan
-abbrev pub CompositeFaultStands : Around → List Shown → CompositeFault → Type 0
-CompositeFaultStands around kids Malformed = HasInside around (trees_of kids) → ⊥
-CompositeFaultStands around kids (Unplanned fault) = (x : Inside) × IsInsideOf around (trees_of kids) x × FaultStands x fault
-CompositeFaultStands around kids Memory = Unit {0}
+-- The same of SR: its net is that of the wiring.
+pub record IsSrComposite (around : Around) (kids : List Shown) (path : List ℕ) (records : List RecordedPort) (s : Shown) : Type 0 where
+  pub wired : IsWired around (trees_of kids)
+  pub node : node_of s ≡ tree.composite (tree.Sr (tick_plan around)) (trees_of kids)
+  pub children : children_in s ≡ kids
+  pub path_is : (frame_in s).path ≡ path
+  pub records_are : (frame_in s).records ≡ records
+  pub fresh : IsFresh s
+
+-- why there is none of SDF: a child is none that SDF can plan, the inside isn't well formed, or it has no plan
+abbrev pub SdfFaultStands : Around → List Shown → CompositeFault → Type 0
+SdfFaultStands around kids Unsteady = HasUnsteady (trees_of kids)
+SdfFaultStands around kids Malformed = HasInside around (trees_of kids) → ⊥
+SdfFaultStands around kids (Unplanned fault) = (x : Inside) × IsInsideOf around (trees_of kids) x × FaultStands x fault
+SdfFaultStands around kids Memory = Unit {0}
+
+-- and why there is none of SR: the wiring isn't one of it
+abbrev pub SrFaultStands : Around → List Shown → CompositeFault → Type 0
+SrFaultStands around kids Unsteady = ⊥
+SrFaultStands around kids Malformed = IsWired around (trees_of kids) → ⊥
+SrFaultStands around kids (Unplanned fault) = ⊥
+SrFaultStands around kids Memory = Unit {0}

@@ -7,8 +7,7 @@ use Rattle.pt_library.specs.LibraryActor.{rows}
 use Rattle.pt_node.specs.Recorded.{RecordedPort}
 use Rattle.pt_node.specs.Shown.{Shown, AllShown, Branch, none, more}
 use Rattle.pt_node.specs.View.{node_of}
-use Rattle.pt_node.specs.Live.{is_live, IsFit, IsSteady}
-use Rattle.pt_trees.specs.Rates.{IsRated}
+use Rattle.pt_node.specs.Live.{is_live, IsFit}
 
 -- nothing is recorded of these outputs, nor noted
 abbrev pub AreEmpty : List RecordedPort → Type 0
@@ -24,12 +23,10 @@ abbrev mutual
   AllUnrecorded none = Unit {0}
   AllUnrecorded (more s ss) = IsUnrecorded s × AllUnrecorded ss
 
--- a node that may fire, at its start, whose plans fit, which needs the same at each firing, and which gives a number of tokens that an actor may give
+-- a node that may fire, at its start, whose plans fit
 pub record IsFresh (s : Shown) : Type 0 where
   pub live : is_live s ≡ true
   pub fit : IsFit s
-  pub steady : IsSteady s
-  pub rated : IsRated s
   pub start : IsAtStart rows (node_of s)
   pub fitting : IsFitting (node_of s)
   pub plans : ArePlans (node_of s)

@@ -1,20 +1,24 @@
--- How many tokens a node gives in a firing, on each of its outputs.
-use Rattle.std.specs.Prelude.{◌≡◌, ℕ, List, [], ◌∷◌, map, Option, Some, None, Vec}
+-- How many tokens a node gives in a firing, on each of its outputs, and whether it needs the same at each firing.
+use Rattle.std.specs.Prelude.{◌≡◌, ◌⊎◌, ℕ, ◌-◌, List, length, map, replicate, Bool, true, false, Option, Some, None, Vec}
 use Rattle.std.specs.Global.{Global}
+use Rattle.pt_meaning.specs.Running.{total}
+use Rattle.pt_meaning.specs.Streams.{get}
+use Rattle.pt_meaning.specs.Valuation.{TickPlan}
 use Rattle.pt_meaning.specs.Tree as tree
 use Rattle.pt_value.specs.declared.token.Token.{Token}
-use Rattle.pt_node.specs.declared.body.Body.{Body}
-use Rattle.pt_node.specs.declared.body.Body.TheVariants.{Actor, Composite}
+use Rattle.pt_flow_base.specs.declared.params.Params.{Params}
 use Rattle.pt_library.specs.LibraryActor as library
-use Rattle.pt_library.specs.Laws.{IsRatedActor}
-use Rattle.pt_node.specs.Shown.{Shown, Branch}
 use Rattle.pt_node.specs.View.{Tree}
 
--- An SDF composite gives what its plan says for an iteration. Composites of the other directors aren't built.
+-- a tick gives at most one token on each own output: these are where the channels end that are behind those of the places
+abbrev pub tick_gives : TickPlan → List ℕ
+tick_gives p = replicate (length p.net.sources - total p.net.places) 1
+
+-- A composite of SDF gives what its plan says for an iteration. Under SDF one of SR is to give a token on each own output. Composites of the other directors aren't built.
 abbrev pub core_rates : tree.Core Token → Option (List ℕ)
 core_rates (tree.Sdf p X) = Some p.gives
 core_rates (tree.Pn p X) = None
-core_rates (tree.Sr p) = None
+core_rates (tree.Sr p) = Some (tick_gives p)
 core_rates (tree.De p) = None
 core_rates (tree.Rv p X) = None
 core_rates (tree.Modal chart m) = None
@@ -31,18 +35,30 @@ HaveRates kids rates = map (λ (rs : List ℕ). Some rs) rates ≡ map rates_of 
 -- and they have none where that of some child varies
 abbrev pub AreRates : List Tree → Option (Vec (List ℕ) Global) → Type 0
 AreRates kids (Some rates) = HaveRates kids rates.items
-AreRates kids None = (rates : List (List ℕ)) → HaveRates kids rates → ⊥
+AreRates kids None = (i : ℕ) × (kid : Tree) × (get kids i ≡ Some kid) × (rates_of kid ≡ None)
 
--- ---- what is known of rates
+-- it needs the same at each firing: a composite does, and a library actor that its library tells to do so
+abbrev pub is_steady : Tree → Bool
+is_steady (tree.Actor h a b) = library.is_steady b
+is_steady (tree.Composite h c d kids) = true
 
--- those of an actor are from 1 to 1,000,000, as of each that is started from parameters
-abbrev pub IsRatedBody : Body → Type 0
-IsRatedBody (Actor held) = IsRatedActor held.actor
-IsRatedBody (Composite director) = Unit {0}
+-- so does each child
+abbrev pub AreSteady : List Tree → Type 0
+AreSteady kids = (i : ℕ) (kid : Tree) → get kids i ≡ Some kid → is_steady kid ≡ true
 
-abbrev pub IsRated : Shown → Type 0
-IsRated (Branch f ks) = IsRatedBody f.body
+-- SDF can't plan the child: it may need something else at its next firing, or what it gives varies
+abbrev pub IsUnsteady : Tree → Type 0
+IsUnsteady kid = (is_steady kid ≡ false) ⊎ (rates_of kid ≡ None)
 
-abbrev pub AllRated : List Shown → Type 0
-AllRated [] = Unit {0}
-AllRated (s ∷ ss) = IsRated s × AllRated ss
+-- so is some child
+abbrev pub HasUnsteady : List Tree → Type 0
+HasUnsteady kids = (i : ℕ) × (kid : Tree) × (get kids i ≡ Some kid) × IsUnsteady kid
+
+-- a library actor is one that parameters start
+abbrev pub IsStarted : Tree → Type 0
+IsStarted (tree.Actor h a b) = (params : Params) × (library.start params ≡ Some b)
+IsStarted (tree.Composite h c d kids) = Unit {0}
+
+-- so is each child
+abbrev pub AllStarted : List Tree → Type 0
+AllStarted kids = (i : ℕ) (kid : Tree) → get kids i ≡ Some kid → IsStarted kid

@@ -14,7 +14,7 @@ use Rattle.pt_plan.specs.declared.inside.Inside.{Inside}
 use Rattle.pt_plan.specs.PlanOf.{IsPlanOf}
 use Rattle.pt_library.specs.LibraryActor.{rows}
 use Rattle.pt_node.specs.View.{Tree}
-use Rattle.pt_trees.specs.Around.{Around, IsInsideOf}
+use Rattle.pt_trees.specs.Around.{Around, IsInsideOf, tick_plan, IsWired}
 
 -- ---- entities
 
@@ -36,6 +36,17 @@ is_sdf e = bytes_eq e.class (codes "Composite") && has_sdf e.director
 
 abbrev pub IsSdf : NetEntity → Type 0
 IsSdf e = is_sdf e ≡ true
+
+abbrev pub has_sr : Option NetDirector → Bool
+has_sr None = false
+has_sr (Some director) = bytes_eq director.class (codes "SR")
+
+-- it is a composite with the SR director
+abbrev pub is_sr : NetEntity → Bool
+is_sr e = bytes_eq e.class (codes "Composite") && has_sr e.director
+
+abbrev pub IsSr : NetEntity → Type 0
+IsSr e = is_sr e ≡ true
 
 -- the wiring of a composite of the net
 abbrev pub around_in : Net → ℕ → NetEntity → Around
@@ -61,12 +72,13 @@ abbrev pub AreStarted : Starts → Type 0
 AreStarted starts = (k : ℕ) (a : LibraryActor) → StartsAs starts k a → (params : Params) × (start params ≡ Some a)
 
 -- This is the tree of the entity of that number, at its start. A library actor is as it starts. A composite of SDF is around the trees of its children in the order
--- of the document, its plan is that of its inside, and its channels hold the first tokens.
+-- of the document, its plan is that of its inside, and its channels hold the first tokens. One of SR is around the trees of its children too, and its net is that of the document.
 mutual
   pub data IsTree (net : Net) (IsStart : ℕ → LibraryActor → Type 0) : ℕ → Tree → Type 0 where
     of_actor : (k : ℕ) (e : NetEntity) (a : LibraryActor) → IsEntity net k e → IsUndirected e → IsStart k a → IsTree net IsStart k (tree.actor a)
     of_sdf : (k : ℕ) (e : NetEntity) (kids : List Tree) (x : Inside) (p : SdfPlan) → IsEntity net k e → IsSdf e → AreTrees net IsStart (children_of net.entities.items k) kids →
         IsInsideOf (around_in net k e) kids x → IsPlanOf x p → IsTree net IsStart k (tree.composite (tree.Sdf p (first_held rows kids p.net.sources)) kids)
+    of_sr : (k : ℕ) (e : NetEntity) (kids : List Tree) → IsEntity net k e → IsSr e → AreTrees net IsStart (children_of net.entities.items k) kids → IsWired (around_in net k e) kids → IsTree net IsStart k (tree.composite (tree.Sr (tick_plan (around_in net k e))) kids)
 
   pub data AreTrees (net : Net) (IsStart : ℕ → LibraryActor → Type 0) : List ℕ → List Tree → Type 0 where
     no_trees : AreTrees net IsStart [] []

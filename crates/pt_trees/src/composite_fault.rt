@@ -8,6 +8,9 @@ use thiserror::Error;
 /// Why a composite isn't built.
 #[derive(Clone, Copy, Debug, PartialEq, Eq, Error)]
 pub enum CompositeFault {
+    /// Under SDF, of a child that may need something else at its next firing, or whose rates vary.
+    #[error("a child isn't steady")]
+    Unsteady,
     #[error("what is within isn't well formed")]
     Malformed,
     #[error("there is no plan")]
