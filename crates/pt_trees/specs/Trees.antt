@@ -48,6 +48,12 @@ is_sr e = bytes_eq e.class (codes "Composite") && has_sr e.director
 abbrev pub IsSr : NetEntity → Type 0
 IsSr e = is_sr e ≡ true
 
+-- it is a composite with a director, whichever
+pub record IsDirected (e : NetEntity) : Type 0 where
+  pub composite : bytes_eq e.class (codes "Composite") ≡ true
+  pub director : NetDirector
+  pub has : e.director ≡ Some director
+
 -- the wiring of a composite of the net
 abbrev pub around_in : Net → ℕ → NetEntity → Around
 around_in net k e = record {

@@ -1,5 +1,5 @@
-use pt_firing::Counts;
 use pt_core::Source;
+use pt_firing::Counts;
 
 /// What a composite is round, but for its children: where its channels begin, how many places each child has, and how many
 /// own inputs and outputs there are. Channels are numbered by the places where they end: those of the children in order,
