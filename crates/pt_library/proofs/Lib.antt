@@ -2,3 +2,5 @@ pub mod RowLaws
 pub mod SteadyLaws
 pub mod RateLaws
 pub mod Classes
+pub mod StrictLaws
+pub mod PlaceLaws

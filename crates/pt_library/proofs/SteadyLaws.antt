@@ -18,7 +18,7 @@ use Rattle.pt_library.specs.Steady.{after, IsSteadyActor}
 use Rattle.pt_library.proofs.RowLaws.{held-gives}
 
 -- after one firing it needs the same, and is told to be steady
-once : (tag : Tag) (a b : LibraryActor) (X out : Streams Token) → library.is_steady a ≡ true → library.step tag a X ≡ Gives b out → (library.need b ≡ library.need a) × (library.is_steady b ≡ true)
+pub once : (tag : Tag) (a b : LibraryActor) (X out : Streams Token) → library.is_steady a ≡ true → library.step tag a X ≡ Gives b out → (library.need b ≡ library.need a) × (library.is_steady b ≡ true)
 once tag (Flow a) b X out e h =
     let gave = held-gives Flow (flow_actor.step tag a X) b out h in
     let stays = flow_laws.steady-stay tag a gave.0 X out e gave.2 in

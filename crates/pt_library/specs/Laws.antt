@@ -1,4 +1,4 @@
--- The laws of the libraries: which classes they have, which actors are steady, and how many tokens an actor gives.
+-- The laws of the libraries: which classes they have, which actors are steady or strict, how many places an actor has, and how many tokens it gives.
 use Rattle.std.specs.Prelude.{◌≡◌, ℕ, List, length, map, true, Some, None, IsSome, IfSome}
 use Rattle.std.specs.List.{AllByRecursion}
 use Rattle.pt_meaning.specs.Basics.{Tag, Streams}
@@ -12,8 +12,8 @@ use Rattle.pt_lib_flow.specs.FlowActor as flow_actor
 use Rattle.pt_lib_time.specs.TimeActor as time_actor
 use Rattle.pt_flow_base.specs.Rates.{IsCount, IsCounted}
 use Rattle.pt_library.specs.declared.library_actor.LibraryActor.{LibraryActor}
-use Rattle.pt_library.specs.LibraryActor.{is_steady, need, rates, step, start}
-use Rattle.pt_library.specs.Steady.{IsSteadyActor}
+use Rattle.pt_library.specs.LibraryActor.{is_steady, is_strict, need, rates, step, start}
+use Rattle.pt_library.specs.Steady.{IsSteadyActor, HasPlaces, IsStrictActor}
 
 -- a class of one library is none of another
 pub record IsOfOneLibrary (name : List ℕ) : Type 0 where
@@ -27,6 +27,14 @@ ClassesAreOfOneLibrary = (name : List ℕ) → IsOfOneLibrary name
 -- an actor that its library tells to be steady is so, whatever it fires
 abbrev pub ToldActorsAreSteady : Type 0
 ToldActorsAreSteady = (a : LibraryActor) → is_steady a ≡ true → IsSteadyActor a
+
+-- an actor that its library tells to be strict is so, whatever it fires
+abbrev pub ToldActorsAreStrict : Type 0
+ToldActorsAreStrict = (a : LibraryActor) → is_strict a ≡ true → IsStrictActor a
+
+-- where an actor needs a number of tokens at each of its places, it has as many places whatever it fires
+abbrev pub PlacesStay : Type 0
+PlacesStay = (a : LibraryActor) (ns : List ℕ) → need a ≡ Counts ns → HasPlaces (length ns) a
 
 -- a steady actor, once it is started, needs from 1 to 1,000,000 tokens at each of its places
 abbrev pub SteadyNeedsAreCounts : Type 0

@@ -1,5 +1,5 @@
 -- The actors of all libraries: each library by its own rows.
-use Rattle.std.specs.Prelude.{ℕ, List, Bool, Option, Some, None, option_map}
+use Rattle.std.specs.Prelude.{ℕ, List, Bool, true, Option, Some, None, option_map}
 use Rattle.std.specs.Option.{option_or}
 use Rattle.pt_meaning.specs.Basics.{Tag, Streams}
 use Rattle.pt_meaning.specs.Machine.{Need, Partial}
@@ -39,6 +39,12 @@ abbrev pub is_steady : LibraryActor → Bool
 is_steady (Flow actor) = flow_actor.is_steady actor
 is_steady (Data actor) = data_actor.is_steady actor
 is_steady (Time actor) = time_actor.is_steady actor
+
+-- it has no early answer before all its inputs are known
+abbrev pub is_strict : LibraryActor → Bool
+is_strict (Flow actor) = true
+is_strict (Data actor) = true
+is_strict (Time actor) = time_actor.is_strict actor
 
 -- How many tokens a firing gives on each output, where each input has the tokens that it needs, of the types of its row. There are none where the numbers vary, and none of an actor that gives signals: a signal may be absent.
 abbrev pub rates : LibraryActor → Option (List ℕ)

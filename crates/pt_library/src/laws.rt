@@ -1,6 +1,6 @@
 ghost use Rattle.pt_meaning.specs.Lawful.{LawfulRows};
 ghost use Rattle.pt_library.specs.LibraryActor.{rows};
-ghost use Rattle.pt_library.specs.Laws.{ClassesAreOfOneLibrary, ToldActorsAreSteady, SteadyNeedsAreCounts, RatesAreCounts, RatesAreGiven};
+ghost use Rattle.pt_library.specs.Laws.{ClassesAreOfOneLibrary, ToldActorsAreSteady, ToldActorsAreStrict, PlacesStay, SteadyNeedsAreCounts, RatesAreCounts, RatesAreGiven};
 
 /// The rows of all libraries are lawful, since those of each are.
 #[tactic(auto, using(crate::proofs::RowLaws::rows_lawful))]
@@ -16,6 +16,16 @@ pub fn classes_are_of_one_library()
 /// An actor that its library tells to be steady needs the same at each firing, whatever it fires, and takes any inputs.
 pub fn told_actors_are_steady()
     ensures { ToldActorsAreSteady }
+{}
+
+/// An actor that its library tells to be strict gives nothing early while an input is unknown, whatever it fires.
+pub fn told_actors_are_strict()
+    ensures { ToldActorsAreStrict }
+{}
+
+/// An actor has as many places whatever it fires.
+pub fn places_stay()
+    ensures { PlacesStay }
 {}
 
 /// A steady actor, once it is started, needs from 1 to 1,000,000 tokens at each of its places.

@@ -85,6 +85,16 @@ impl LibraryActor {
         of_library!(self, actor => actor.is_steady())
     }
 
+    /// Whether it has no early answer before all its inputs are known.
+    pub fn is_strict(&self) -> bool
+        ensures { result ≡ library.is_strict self.now }
+    {
+        match self {
+            LibraryActor::Flow(_) | LibraryActor::Data(_) => true,
+            LibraryActor::Time(actor) => actor.is_strict(),
+        }
+    }
+
     /// Makes a firing that gives one integer, and nothing else. Where it makes none, `step` makes the firing.
     #[inline(always)]
     pub fn number(&mut self, inputs: &IntInputs<'_>) -> Option<i64>
