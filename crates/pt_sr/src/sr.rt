@@ -53,10 +53,11 @@ impl Model for Core {
 }
 
 impl Core {
-    ghost use Rattle.std.specs.Prelude.{◌≡◌, ◌↔◌, ◌<◌, ◌≤◌, length, replicate, List, IfOk, IfSome, IsSome, IsTrue, OnOk, OnErr, Option, Some, None};
+    ghost use Rattle.std.specs.Prelude.{◌≡◌, ◌↔◌, ◌-◌, ◌<◌, ◌≤◌, length, replicate, List, IfOk, IfSome, IsSome, IsTrue, OnOk, OnErr, Option, Some, None};
     ghost use Rattle.pt_meaning.specs.Basics as basics;
     ghost use Rattle.pt_meaning.specs.Tree as tree;
     ghost use Rattle.pt_meaning.specs.NodeFacts.{core_wake};
+    ghost use Rattle.pt_meaning.specs.Running.{total};
     ghost use Rattle.pt_value.specs.declared.token.Token.{Token};
     ghost use Rattle.pt_sr.specs.State.{Idle, Open, Closed, asked_child, listened_child, lent_of, inputs_of, own_of, started, restarted, begun, after_told, after_heard, closed};
     ghost use Rattle.pt_sr.specs.Clauses.{MayAsk, IsAsked};
@@ -83,6 +84,13 @@ impl Core {
         ensures { result.now ≡ replicate self.now.tick.plan.inputs 1 }
     {
         self.tick.takes()
+    }
+
+    /// How many own outputs there are.
+    pub fn outlets(&self) -> usize
+        ensures { result ≡ length self.now.tick.plan.net.sources - total self.now.tick.plan.net.places }
+    {
+        self.tick.outlets()
     }
 
     /// Begins a firing of the composite, which is one tick, on a list for each own input. After an `Err` the core is as before.

@@ -65,8 +65,9 @@ pub(crate) enum Next {
 }
 
 impl Tick {
-    ghost use Rattle.std.specs.Prelude.{◌≡◌, ℕ, ◌^◌, ◌<◌, ◌≤◌, length, replicate, get_or, true, false, IfOk, IfSome, MatchOption, OnOk, OnErr, Option, Some, None};
+    ghost use Rattle.std.specs.Prelude.{◌≡◌, ℕ, ◌-◌, ◌^◌, ◌<◌, ◌≤◌, length, replicate, get_or, true, false, IfOk, IfSome, MatchOption, OnOk, OnErr, Option, Some, None};
     ghost use Rattle.pt_meaning.specs.Machine as machine;
+    ghost use Rattle.pt_meaning.specs.Running.{total};
     ghost use Rattle.pt_meaning.specs.Valuation.{tokens_of};
     ghost use Rattle.pt_sr.specs.Plan.{plan_of, IsLawful};
     ghost use Rattle.pt_sr.specs.State.{unbegun, restarted_tick, begun_tick, fired_tick, asked_tick, heard_tick, inputs_of, unknown_in, outlets_of, HasTold, MayTell};
@@ -113,6 +114,14 @@ impl Tick {
         ensures { result.now ≡ replicate self.now.plan.inputs 1 }
     {
         &self.plan.takes
+    }
+
+    /// How many own outputs there are.
+    pub(crate) fn outlets(&self) -> usize
+        ensures { result ≡ length self.now.plan.net.sources - total self.now.plan.net.places }
+    {
+        let end = self.offsets[self.plan.places.len()];
+        self.plan.sources.len() - end
     }
 
     /// Begins: the own inputs become known. After an `Err` the tick is as before.
