@@ -8,7 +8,7 @@ use Rattle.pt_node.specs.Shown.{Shown}
 use Rattle.pt_node.specs.View.{node_of}
 use Rattle.pt_trees.specs.declared.job.SdfJob.{SdfJob}
 use Rattle.pt_trees.specs.Run.{schedule}
-use Rattle.pt_typed.specs.Signature.{IsTypedLog}
+use Rattle.pt_kinds.specs.Signature.{IsTypedLog}
 use Rattle.pt_typed.specs.TokenTypes.{IsTokenOf}
 use Rattle.pt_typed.specs.NetTypes.{types_below}
 use Rattle.pt_order.specs.Laws.{IsNetOfDocument}

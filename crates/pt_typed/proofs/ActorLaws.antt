@@ -3,6 +3,7 @@ use Rattle.std.proofs.Common.{◌≡◌, ℕ, List, [], ◌∷◌, Option, Some,
 use Rattle.std.specs.List.{AllByRecursion}
 use Rattle.pt_meaning.specs.Basics.{Tag, Streams}
 use Rattle.pt_meaning.specs.Streams.{get}
+use Rattle.pt_meaning.specs.Machine.{Partial}
 use Rattle.pt_meaning.specs.Closed.{on_answer}
 use Rattle.pt_meaning.specs.Node.{Answer, Gives, Fails}
 use Rattle.pt_value.specs.declared.token.Token.{Token}
@@ -12,11 +13,12 @@ use Rattle.pt_lib_data.specs.DataActor as data_actor
 use Rattle.pt_lib_time.specs.TimeActor as time_actor
 use Rattle.pt_library.specs.declared.library_actor.LibraryActor.{LibraryActor}
 use Rattle.pt_library.specs.declared.library_actor.LibraryActor.TheVariants.{Flow, Data, Time}
-use Rattle.pt_library.specs.LibraryActor.{step, held_as, first}
+use Rattle.pt_library.specs.LibraryActor.{step, early, held_as, first}
 use Rattle.pt_library.specs.Steady.{after}
-use Rattle.pt_typed.specs.Signature.{AreOf, AreAllOf}
+use Rattle.pt_kinds.specs.Signature.{AreOf, AreAllOf, AreKnownOf, AreAllKnownOf}
 use Rattle.pt_typed.specs.TokenTypes.{IsTokenOf}
 use Rattle.pt_typed.specs.TypedActor.{Types, MeetsRow, AreTypedFirings, IsTypedActor}
+use Rattle.pt_typed.proofs.EarlyLaws.{strict-tells}
 use Rattle.pt_typed.proofs.FlowActorLaws as flows
 use Rattle.pt_typed.proofs.DataLaws as functions
 use Rattle.pt_typed.proofs.TimeActorLaws as signals
@@ -57,10 +59,28 @@ after-meets : (s : Types) (fs : List (Tag × Streams Token)) (a b : LibraryActor
 after-meets s [] a b h t e = let same : a ≡ b = cc in subst (λ c. MeetsRow s c) same h
 after-meets s (f ∷ fs) a b h t e = on-answer-meets s (after fs) (step f.0 a f.1) b (λ c out d k. after-meets s fs c b (row-keeps s a c f.0 f.1 out h t.0 d).1 t.1 k) e
 
+-- what it gives early is of the types of its outputs
+row-tells : (s : Types) (a : LibraryActor) (tag : Tag) (vs : List (Partial Token)) → MeetsRow s a → AreAllKnownOf IsTokenOf s.places vs → AreKnownOf IsTokenOf s.outputs (early tag a vs)
+row-tells s (Flow a) tag vs h k = strict-tells s.places s.outputs (flow_actor.outputs a) flow_actor.step tag a (λ X b out i e. (flows.flow-keeps s.places s.outputs a b tag X out h i.1 e).0) vs k
+row-tells s (Data a) tag vs h k = strict-tells s.places s.outputs (data_actor.outputs a) data_actor.step tag a (λ X b out i e. (functions.data-keeps s.places s.outputs a b tag X out h i e).0) vs k
+row-tells s (Time a) tag vs h k = signals.time-tells s.places s.outputs tag a vs h k
+
 -- what meets its row is a typed actor
 pub rows-type : (s : Types) (a : LibraryActor) → MeetsRow s a → IsTypedActor s a
-rows-type s a h fs t b c e tag X out i g = (row-keeps s b c tag X out (after-meets s fs a b h t e) i g).0
+rows-type s a h = record {
+  gives = λ fs t b c e tag X out i g. (row-keeps s b c tag X out (after-meets s fs a b h t e) i g).0;
+  tells = λ fs t b e tag vs k. row-tells s b tag vs (after-meets s fs a b h t e) k;
+}
 
 -- a typed actor stays one
 pub typed-stays : (s : Types) (a b : LibraryActor) (tag : Tag) (X out : Streams Token) → IsTypedActor s a → AreAllOf IsTokenOf s.places X → step tag a X ≡ Gives b out → AreOf IsTokenOf s.outputs out × IsTypedActor s b
-typed-stays s a b tag X out h i e = (h [] tt a b refl tag X out i e, λ fs t c d f. h ((tag, X) ∷ fs) (i, t) c d (ap (on_answer (after fs)) e ∙ f))
+typed-stays s a b tag X out h i e = (
+  h.gives [] tt a b refl tag X out i e,
+  record {
+    gives = λ fs t c d f. h.gives ((tag, X) ∷ fs) (i, t) c d (ap (on_answer (after fs)) e ∙ f);
+    tells = λ fs t c f. h.tells ((tag, X) ∷ fs) (i, t) c (ap (on_answer (after fs)) e ∙ f);
+  },
+)
+
+pub typed-tells : (s : Types) (a : LibraryActor) (tag : Tag) (vs : List (Partial Token)) → IsTypedActor s a → AreAllKnownOf IsTokenOf s.places vs → AreKnownOf IsTokenOf s.outputs (early tag a vs)
+typed-tells s a tag vs h k = h.tells [] tt a refl tag vs k

@@ -43,10 +43,10 @@ use Rattle.pt_lib_data.specs.StringLength as string_length
 use Rattle.pt_lib_data.specs.Function as function
 use Rattle.pt_lib_data.specs.DataActor.{step}
 use Rattle.pt_lib_data.proofs.Steadiness.{as-answered}
-use Rattle.pt_typed.specs.Signature.{AreOf, AreAllOf}
+use Rattle.pt_kinds.specs.Signature.{AreOf, AreAllOf}
 use Rattle.pt_typed.specs.TokenTypes.{IsTokenOf, IsUnder, ToFirst, elements_of}
 use Rattle.pt_typed.specs.TypedData.{TakesArrays, TakeFields, IsTypedFunction}
-use Rattle.pt_typed.proofs.StreamLaws.{AreGiven, at-given, all-take}
+use Rattle.pt_kinds.proofs.StreamLaws.{AreGiven, at-given, all-take}
 use Rattle.pt_typed.proofs.TypeLaws.{of-value, token-wider, elements-of, array-of-tokens, found-below, token-of, all-of}
 use Rattle.pt_typed.proofs.RecordLaws.{OfOutcome, record-of}
 

@@ -1,8 +1,9 @@
--- By hand: a ramp that feeds a scale in an SDF composite.
+-- By hand: a ramp that feeds a scale in a composite.
 use Rattle.std.proofs.Common.{◌≡◌, zero, suc, [], ◌∷◌, true, false, refl, arith, pos}
 use Rattle.pt_meaning.specs.Basics.{Finished}
 use Rattle.pt_meaning.specs.Sdf.{SdfPlan}
 use Rattle.pt_meaning.specs.Net.{Own, Output}
+use Rattle.pt_meaning.specs.Valuation.{TickPlan}
 use Rattle.pt_meaning.specs.Tree as tree
 use Rattle.pt_value.specs.declared.token.Token.TheVariants as token
 use Rattle.pt_datatypes.specs.Datatype.{Datatype, Int, Boolean}
@@ -11,10 +12,10 @@ use Rattle.pt_lib_flow.specs.declared.flow_actor.FlowActor.TheVariants.{Ramp, Sc
 use Rattle.pt_flow_base.specs.declared.limit.Limit.TheVariants.{Endless}
 use Rattle.pt_library.specs.declared.library_actor.LibraryActor.{LibraryActor}
 use Rattle.pt_library.specs.declared.library_actor.LibraryActor.TheVariants.{Flow}
-use Rattle.pt_typed.specs.Signature.{Signatures, AreOf, IsTypedEvent}
+use Rattle.pt_kinds.specs.Signature.{Signatures, AreOf, IsTypedEvent}
 use Rattle.pt_typed.specs.TokenTypes.{IsTokenOf}
 use Rattle.pt_typed.specs.TypedActor.{MeetsRow, IsTypedActor}
-use Rattle.pt_typed.specs.TypedTree.{kinds_in, AreFed, IsTypedNode}
+use Rattle.pt_kinds.specs.TypedTree.{kinds_in, AreFed, IsTypedNode}
 use Rattle.pt_typed.proofs.ActorLaws.{rows-type}
 
 abbrev ramp : LibraryActor
@@ -45,7 +46,17 @@ plan = record { net = record { sources = Output 0 0 ∷ []; places = 0 ∷ 1 ∷
 -- the composite is typed
 composite_is_typed : IsTypedNode IsTokenOf IsBelow IsTypedActor (types Int) (tree.composite (tree.Sdf plan ([] ∷ [])) (tree.actor ramp ∷ tree.actor scale ∷ []))
 composite_is_typed = (
-  record { places_counted = refl; repetitions_counted = refl; rates_counted = refl; gives_counted = refl; sized = (refl, (refl, tt)); fed = (refl, tt); room = omega arith; held = (tt, tt) },
+  record { typed_net = record { places_counted = refl; sized = (refl, (refl, tt)); fed = (refl, tt); held = (tt, tt) }; repetitions_counted = refl; rates_counted = refl; gives_counted = refl; room = omega arith },
+  (rows-type (types Int (0 ∷ [])) ramp ramp_meets, (rows-type (types Int (1 ∷ [])) scale scale_meets, tt)),
+)
+
+-- so it is of SR, and of DE, on channels that keep nothing
+abbrev ticks : TickPlan
+ticks = record { net = plan.net; inputs = 0 }
+
+tick_is_typed : IsTypedNode IsTokenOf IsBelow IsTypedActor (types Int) (tree.composite (tree.Sr ticks) (tree.actor ramp ∷ tree.actor scale ∷ []))
+tick_is_typed = (
+  record { places_counted = refl; sized = (refl, (refl, tt)); fed = (refl, tt); held = tt },
   (rows-type (types Int (0 ∷ [])) ramp ramp_meets, (rows-type (types Int (1 ∷ [])) scale scale_meets, tt)),
 )
 
@@ -59,7 +70,7 @@ gated_plan = record { net = record { sources = Output 0 0 ∷ Own 0 ∷ []; plac
 
 gated_is_typed : IsTypedNode IsTokenOf IsBelow IsTypedActor gated (tree.composite (tree.Sdf gated_plan ([] ∷ (token.Bool true ∷ []) ∷ [])) (tree.actor ramp ∷ tree.actor scale ∷ []))
 gated_is_typed = (
-  record { places_counted = refl; repetitions_counted = refl; rates_counted = refl; gives_counted = refl; sized = (refl, (refl, tt)); fed = (refl, (refl, tt)); room = omega arith; held = (tt, ((refl, tt), tt)) },
+  record { typed_net = record { places_counted = refl; sized = (refl, (refl, tt)); fed = (refl, (refl, tt)); held = (tt, ((refl, tt), tt)) }; repetitions_counted = refl; rates_counted = refl; gives_counted = refl; room = omega arith },
   (rows-type (types Int (0 ∷ [])) ramp ramp_meets, (rows-type (types Int (1 ∷ [])) scale scale_meets, tt)),
 )
 

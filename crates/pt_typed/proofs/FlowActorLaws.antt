@@ -57,10 +57,10 @@ use Rattle.pt_flow_streams.specs.SampleDelay as sample_delay
 use Rattle.pt_flow_numbers.specs.Scale as scale
 use Rattle.pt_flow_streams.specs.Sequence as sequence
 use Rattle.pt_flow_streams.specs.UpSample as up_sample
-use Rattle.pt_typed.specs.Signature.{AreOf}
+use Rattle.pt_kinds.specs.Signature.{AreOf}
 use Rattle.pt_typed.specs.TokenTypes.{IsTokenOf, IsUnder, ToFirst}
 use Rattle.pt_typed.specs.TypedFlow.{IsValueOf, IsTypedFlow}
-use Rattle.pt_typed.proofs.StreamLaws.{at-given, all-append}
+use Rattle.pt_kinds.proofs.StreamLaws.{at-given, all-append}
 use Rattle.pt_typed.proofs.TypeLaws.{of-value, token-of, all-of}
 
 -- ---- what an answer gives, and the state that it leaves

@@ -35,7 +35,7 @@ use Rattle.pt_inequalities.specs.Frames.{frames_of}
 use Rattle.pt_inequalities.specs.Inequalities.{of_channel, of_entities, of_inputs, of_supply, joined_with, PortNumbers, no_ports, with_port, with_input, with_inputs, top_inputs}
 use Rattle.pt_inequalities.specs.Typing.{IsTyping}
 use Rattle.pt_scopes.specs.Inputs.{inputs_at, own_inputs, named_ports, input_to, AreTokensOf, ComeTo}
-use Rattle.pt_typed.specs.Signature.{AreAllOf}
+use Rattle.pt_kinds.specs.Signature.{AreAllOf}
 use Rattle.pt_typed.specs.TokenTypes.{IsTokenOf}
 use Rattle.pt_typed.specs.NetTypes.{place_type, arrivals, number_if, port_numbers, port_types, by_director, types_of}
 use Rattle.pt_typed.specs.InputLaw.{InputsAreTyped}

@@ -1,8 +1,5 @@
-pub mod StreamLaws
-pub mod FlowLaws
-pub mod RoundLaws
-pub mod NodeLaws
 pub mod TypeLaws
+pub mod EarlyLaws
 pub mod RecordLaws
 pub mod DataLaws
 pub mod FlowActorLaws

@@ -22,8 +22,8 @@ use Rattle.pt_net.specs.Inside.{children_of, child_number, is_input, is_output, 
 use Rattle.pt_typing.specs.declared.variable.Variable.TheVariants as variable
 use Rattle.pt_typing.specs.Least.{Assignment}
 use Rattle.pt_order.proofs.Children.{child-number, child-stands, get-is}
-use Rattle.pt_typed.specs.Signature.{Signature, Signatures, below}
-use Rattle.pt_typed.specs.TypedTree.{kind_of, kinds_from, AreSized, IsFed, AreFed}
+use Rattle.pt_kinds.specs.Signature.{Signature, Signatures, below}
+use Rattle.pt_kinds.specs.TypedTree.{kind_of, kinds_from, AreSized, IsFed, AreFed}
 use Rattle.pt_cover.specs.Paths.{entity_at}
 use Rattle.pt_typed.specs.NetTypes.{source_type, place_type, TypesGoUp, arrivals, goes_out, departures, number_if, port_numbers, port_types, by_director, types_of, types_at, types_below, BeginsIn, at_own, at_child, IsWired}
 

@@ -22,7 +22,7 @@ use Rattle.pt_language.specs.TreeType.{recorded}
 use Rattle.pt_language.proofs.Values.{Of}
 use Rattle.pt_firing.specs.Row.{all_present}
 use Rattle.pt_lib_data.specs.RecordAssembler.{fields}
-use Rattle.pt_typed.specs.Signature.{AreOf}
+use Rattle.pt_kinds.specs.Signature.{AreOf}
 use Rattle.pt_typed.specs.TokenTypes.{IsTokenOf}
 
 -- fields whose values are of these types, name by name

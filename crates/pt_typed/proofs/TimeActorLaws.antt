@@ -1,29 +1,37 @@
 -- Each actor of synchronous models gives a signal of the type of its output, where its inputs are of those of its places, and its state is such as its row asks again.
-use Rattle.std.proofs.Common.{◌≡◌, ℕ, zero, suc, ◌+◌, List, [], ◌∷◌, drop, Bool, true, false, Option, Some, None, ℤ, pos, negsuc, refl, subst, arith, nat_lt, if◌then◌else◌}
+use Rattle.std.proofs.Common.{◌≡◌, ℕ, zero, suc, ◌+◌, List, [], ◌∷◌, drop, Bool, true, false, Option, Some, None, ℤ, pos, negsuc, refl, ap, subst, arith, ◌∙◌, nat_lt, if◌then◌else◌}
 use Rattle.std.specs.Prelude.{IfSome}
 use Rattle.std.specs.Option.{option_or}
 use Rattle.std.specs.List.{AllByRecursion}
 use Rattle.pt_meaning.specs.Basics.{Tag, Streams, at}
 use Rattle.pt_meaning.specs.Streams.{get}
+use Rattle.pt_meaning.specs.Machine.{Partial, Unknown, Known, partial_at}
+use Rattle.pt_meaning.specs.Valuation.{is_known}
 use Rattle.pt_meaning.specs.Node.{Answer, Gives, Fails}
 use Rattle.pt_value.specs.declared.token.Token.{Token}
+use Rattle.pt_value.specs.declared.token.Token.TheVariants as token
 use Rattle.pt_datatypes.specs.Datatype.{Datatype, Boolean}
 use Rattle.pt_datatypes.specs.Order.{IsBelow}
-use Rattle.pt_firing.specs.Row.{token_at, number_at, truth_at, on_present}
+use Rattle.pt_firing.specs.Row.{first_in, token_at, number_of, number_at, truth_at, on_present}
+use Rattle.pt_firing.specs.Strict.{strict}
 use Rattle.pt_lib_time.specs.declared.time_actor.TimeActor.{TimeActor}
 use Rattle.pt_lib_time.specs.declared.time_actor.TimeActor.TheVariants.{Absent, Current, Default, NonStrictDelay, NonStrictLogicGate, NonStrictMux, Pre, When}
 use Rattle.pt_lib_time.specs.declared.non_strict_mux.NonStrictMux as muxes
 use Rattle.pt_lib_time.specs.declared.pre.Pre as pres
-use Rattle.pt_lib_time.specs.Signal.{shows}
+use Rattle.pt_lib_time.specs.Signal.{tokens_of, shows, known_token, signal_known, decided_or}
+use Rattle.pt_lib_time.specs.Absent as absent
+use Rattle.pt_lib_time.specs.Current as current
+use Rattle.pt_lib_time.specs.Default as fallback
 use Rattle.pt_lib_time.specs.NonStrictLogicGate as non_strict_logic_gate
 use Rattle.pt_lib_time.specs.NonStrictMux as non_strict_mux
 use Rattle.pt_lib_time.specs.Pre as pre
 use Rattle.pt_lib_time.specs.When as when
-use Rattle.pt_lib_time.specs.TimeActor.{held_as, step}
-use Rattle.pt_typed.specs.Signature.{AreOf}
+use Rattle.pt_lib_time.specs.TimeActor.{held_as, step, early}
+use Rattle.pt_kinds.specs.Signature.{AreOf, AreKnownOf, AreAllKnownOf}
 use Rattle.pt_typed.specs.TokenTypes.{IsTokenOf, IsUnder}
 use Rattle.pt_typed.specs.TypedTime.{IsTypedTime}
-use Rattle.pt_typed.proofs.StreamLaws.{at-given}
+use Rattle.pt_kinds.proofs.StreamLaws.{at-given}
+use Rattle.pt_typed.proofs.EarlyLaws.{strict-tells, IsKnownOf, known-at, first-known, one-known}
 use Rattle.pt_typed.proofs.TypeLaws.{token-of}
 
 -- ---- signals of a type
@@ -129,3 +137,67 @@ no-output ps (When a) h = h
 pub time-keeps : (ps us : List Datatype) (a b : TimeActor) (tag : Tag) (X out : Streams Token) → IsTypedTime ps us a → AreOf IsTokenOf ps X → step tag a X ≡ Gives b out → AreOf IsTokenOf us out × IsTypedTime ps us b
 time-keeps ps [] a b tag X out h i e = absurd (no-output ps a h)
 time-keeps ps (u ∷ us) a b tag X out h i e = subst (λ r. Leaves (u ∷ us) (IsTypedTime ps (u ∷ us)) r) e (leaves-of ps u us tag a X h i)
+
+-- ---- what is given early
+
+tokens-known : (u : Datatype) (signal : Option Token) → IsSignalOf u signal → IsKnownOf u (Known (tokens_of signal))
+tokens-known u None h = tt
+tokens-known u (Some t) h = (h, tt)
+
+signal-of : (u : Datatype) (v : Partial Token) → IsKnownOf u v → IsKnownOf u (signal_known v)
+signal-of u Unknown k = tt
+signal-of u (Known xs) k = tokens-known u (first_in xs) (first-known u (Known xs) k)
+
+present-of : (u : Datatype) (o : Option Token) → IsSignalOf u o → IsKnownOf u (fallback.if_present o)
+present-of u None h = tt
+present-of u (Some t) h = (h, tt)
+
+decided-of : (u : Datatype) (us : List Datatype) (v : Partial Token) (later : List (Partial Token)) → IsKnownOf u v → AreKnownOf IsTokenOf (u ∷ us) later → AreKnownOf IsTokenOf (u ∷ us) (decided_or v later)
+decided-of u us Unknown later k l = l
+decided-of u us (Known xs) later k l = (k, tt)
+
+-- a class that is strict where it isn't decided
+module _ {S : Type 0} (ps : List Datatype) (u : Datatype) (us : List Datatype) (tag : Tag) (wrap : S → TimeActor) (react : Tag → S → Streams Token → Answer Token S) (is : (s : S) (X : Streams Token) → step tag (wrap s) X ≡ held_as wrap (react tag s X)) where
+  as-strict : (s : S) (vs : List (Partial Token)) → IsTypedTime ps (u ∷ us) (wrap s) → AreAllKnownOf IsTokenOf ps vs → AreKnownOf IsTokenOf (u ∷ us) (strict 1 react tag s vs)
+  as-strict s vs h k = strict-tells ps (u ∷ us) 1 react tag s (λ X b out i e. (time-keeps ps (u ∷ us) (wrap s) (wrap b) tag X out h i.1 (is s X ∙ ap (λ r. held_as wrap r) e)).0) vs k
+
+gate-decided : (u : Datatype) (b c : Bool) → IsBelow Boolean u → IsKnownOf u (if b then Known (token.Bool c ∷ []) else Unknown)
+gate-decided u true c h = (h, tt)
+gate-decided u false c h = tt
+
+module _ (ps : List Datatype) (u : Datatype) (actor : muxes.NonStrictMux) (vs : List (Partial Token)) (k : AreKnownOf IsTokenOf ps vs) (h : AllByRecursion (λ t. IsBelow t u) (drop 1 ps)) where
+  channel-known : (number : ℤ) → IsKnownOf u (non_strict_mux.of_channel vs (non_strict_mux.place_of actor.places number))
+  channel-known (negsuc n) = tt
+  channel-known (pos n) = by_test (nat_lt (n + 1) actor.places)
+    where
+      by_test : (b : Bool) → IsKnownOf u (non_strict_mux.of_channel vs (if b then Some (n + 1) else None))
+      by_test true = signal-of u (partial_at vs (n + 1)) (known-at ps vs (n + 1) u k (under-channel ps n u h))
+      by_test false = tt
+
+  number-known : (o : Option ℤ) → IsKnownOf u (non_strict_mux.of_number actor.places vs o)
+  number-known None = tt
+  number-known (Some number) = channel-known number
+
+  mux-decided : IsKnownOf u (non_strict_mux.decided actor vs)
+  mux-decided = by_test (is_known (partial_at vs 0))
+    where
+      by_test : (b : Bool) → IsKnownOf u (if b then non_strict_mux.of_number actor.places vs (number_of (known_token vs 0)) else Unknown)
+      by_test true = number-known (number_of (known_token vs 0))
+      by_test false = tt
+
+tells-of : (ps : List Datatype) (u : Datatype) (us : List Datatype) (tag : Tag) (a : TimeActor) (vs : List (Partial Token)) → IsTypedTime ps (u ∷ us) a → AreAllKnownOf IsTokenOf ps vs → AreKnownOf IsTokenOf (u ∷ us) (early tag a vs)
+tells-of ps u us tag (Absent a) vs h k = as-strict ps u us tag Absent absent.step (λ s X. refl) a vs h k
+tells-of ps u us tag (Current a) vs h k = as-strict ps u us tag Current current.step (λ s X. refl) a vs h k
+tells-of ps u us tag (Default a) vs h k =
+    decided-of u us (fallback.decided vs) (strict 1 fallback.step tag a vs) (present-of u (known_token vs 0) (first-known u (partial_at vs 0) (known-at ps vs 0 u k.1 h.0))) (as-strict ps u us tag Default fallback.step (λ s X. refl) a vs h k)
+tells-of ps u us tag (NonStrictDelay a) vs h k = one-known u us (Known (tokens_of a.kept)) (tokens-known u a.kept h.1)
+tells-of ps u us tag (NonStrictLogicGate a) vs h k =
+    decided-of u us (non_strict_logic_gate.decided a.gate vs) (strict 1 non_strict_logic_gate.step tag a vs) (gate-decided u (non_strict_logic_gate.is_decided a.gate vs) (non_strict_logic_gate.decider a.gate) h) (as-strict ps u us tag NonStrictLogicGate non_strict_logic_gate.step (λ s X. refl) a vs h k)
+tells-of ps u us tag (NonStrictMux a) vs h k =
+    decided-of u us (non_strict_mux.decided a vs) (strict 1 non_strict_mux.step tag a vs) (mux-decided ps u a vs k.1 h) (as-strict ps u us tag NonStrictMux non_strict_mux.step (λ s X. refl) a vs h k)
+tells-of ps u us tag (Pre a) vs h k = as-strict ps u us tag Pre pre.step (λ s X. refl) a vs h k
+tells-of ps u us tag (When a) vs h k = as-strict ps u us tag When when.step (λ s X. refl) a vs h k
+
+pub time-tells : (ps us : List Datatype) (tag : Tag) (a : TimeActor) (vs : List (Partial Token)) → IsTypedTime ps us a → AreAllKnownOf IsTokenOf ps vs → AreKnownOf IsTokenOf us (early tag a vs)
+time-tells ps [] tag a vs h k = absurd (no-output ps a h)
+time-tells ps (u ∷ us) tag a vs h k = tells-of ps u us tag a vs h k

@@ -32,7 +32,7 @@ use Rattle.pt_typing.specs.Least.{Assignment}
 use Rattle.pt_library.specs.declared.library_actor.LibraryActor.{LibraryActor}
 use Rattle.pt_library.specs.LibraryActor.{rows}
 use Rattle.pt_plan.specs.declared.inside.Inside.{Inside}
-use Rattle.pt_sdf.specs.Plan as core
+use Rattle.pt_core.specs.Source as core
 use Rattle.pt_plan.specs.PlanOf.{IsPlanOf}
 use Rattle.pt_plan.specs.Unfed as own_inputs
 use Rattle.pt_plan.proofs.UnfedLaws.{unfed-below}
@@ -41,14 +41,14 @@ use Rattle.pt_trees.specs.Around.{IsInsideOf}
 use Rattle.pt_trees.specs.Rates.{rates_of}
 use Rattle.pt_trees.specs.Trees.{Starts, StartsAs, around_in, IsTree, of_actor, of_sdf, AreTrees, no_trees, more_trees}
 use Rattle.pt_order.proofs.TreeCover.{sdf-directed}
-use Rattle.pt_typed.specs.Signature.{Signatures, AreOf, AreAllOf}
+use Rattle.pt_kinds.specs.Signature.{Signatures, AreOf, AreAllOf}
 use Rattle.pt_typed.specs.TokenTypes.{IsTokenOf}
 use Rattle.pt_typed.specs.TypedActor.{MeetsRow, IsTypedActor}
-use Rattle.pt_typed.specs.TypedTree.{kind_of, kinds_from, kind_before, kinds_at, kinds_in, AreSized, AreFed, IsTypedSdf, IsTypedNode, AreTypedNodes}
-use Rattle.pt_typed.specs.TypedRuns.{AreTypedTurns}
+use Rattle.pt_kinds.specs.TypedTree.{kind_of, kinds_from, kind_before, kinds_at, kinds_in, AreSized, AreFed, IsTypedSdf, IsTypedNode, AreTypedNodes}
+use Rattle.pt_kinds.specs.TypedRuns.{AreTypedTurns}
 use Rattle.pt_typed.specs.NetTypes.{number_if, port_numbers, source_type, place_type, TypesGoUp, types_below, IsWired}
 use Rattle.pt_typed.specs.TypedNet.{MeetRows, TreesAreTyped, NetsKeepTypes}
-use Rattle.pt_typed.proofs.StreamLaws.{all-mono, all-take, all-drop}
+use Rattle.pt_kinds.proofs.StreamLaws.{all-mono, all-take, all-drop}
 use Rattle.pt_typed.proofs.TypeLaws.{token-wider}
 use Rattle.pt_typed.proofs.ActorLaws.{rows-type, first-tokens}
 use Rattle.pt_typed.proofs.TypedRunLaws.{runs-keep}
@@ -203,14 +203,16 @@ module _ (net : Net) (typing : Assignment) (starts : Starts) (wired : IsWired ne
         let its : length x.places ≡ length p.net.places = ap (λ n. length n.places) (sym plan.net) in
         let rated : length p.rates ≡ length kids = ap length plan.rates ∙ sym (length-map x.rates.items (λ (rs : List ℕ). Some rs)) ∙ ap length inside.rates ∙ length-map kids rates_of in
         record {
-          places_counted = count;
+          typed_net = record {
+            places_counted = count;
+            sized = subst (λ ns. AreSized sigs 0 ns) (sym are-places) (sized net typing wired k e d at directed);
+            fed = plan-fed us there p are-places are-sources given;
+            held = plan-held us there p are-places are-sources given;
+          };
           repetitions_counted = plan.repetitions ∙ its ∙ count;
           rates_counted = rated ∙ sym (listed kids);
           gives_counted = given;
-          sized = subst (λ ns. AreSized sigs 0 ns) (sym are-places) (sized net typing wired k e d at directed);
-          fed = plan-fed us there p are-places are-sources given;
           room = plan-room us there p are-places are-sources given;
-          held = plan-held us there p are-places are-sources given;
         }
 
   -- ---- the tree

@@ -22,7 +22,7 @@ use Rattle.pt_language.proofs.Values.{Of, Sound, never-unknown}
 use Rattle.pt_firing.specs.Row.{first_in}
 use Rattle.pt_lib_data.specs.RecordDisassembler.{as_list}
 use Rattle.pt_typed.specs.TokenTypes.{IsTokenOf, IsUnder}
-use Rattle.pt_typed.proofs.StreamLaws.{AreGiven}
+use Rattle.pt_kinds.proofs.StreamLaws.{AreGiven}
 
 -- the token of a value is of the value's type
 pub of-value : (u : Datatype) (v : Value) → Of u v → IsTokenOf u (token_of v)

@@ -5,8 +5,8 @@ use Rattle.pt_meaning.specs.Streams.{get}
 use Rattle.pt_meaning.specs.Net.{Own}
 use Rattle.pt_meaning.specs.Running.{total}
 use Rattle.pt_meaning.specs.Kahn.{skip_places}
-use Rattle.pt_typed.specs.Signature.{Signature, Signatures}
-use Rattle.pt_typed.specs.TypedTree.{kinds_from, kind_before, kinds_at, AreSized, IsFed, AreFed}
+use Rattle.pt_kinds.specs.Signature.{Signature, Signatures}
+use Rattle.pt_kinds.specs.TypedTree.{kinds_from, kind_before, kinds_at, AreSized, IsFed, AreFed}
 
 -- ---- lists
 

@@ -12,7 +12,7 @@ use Rattle.pt_typing.specs.Least.{Assignment}
 use Rattle.pt_inequalities.specs.Typing.{IsTyping}
 use Rattle.pt_scopes.specs.Inputs.{AreSupplied}
 pub use Rattle.pt_order.specs.ClassPorts.{HaveOwnNames}
-use Rattle.pt_typed.specs.Signature.{AreAllOf}
+use Rattle.pt_kinds.specs.Signature.{AreAllOf}
 use Rattle.pt_typed.specs.TokenTypes.{IsTokenOf}
 use Rattle.pt_typed.specs.NetTypes.{types_below}
 

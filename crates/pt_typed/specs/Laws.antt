@@ -8,7 +8,7 @@ use Rattle.pt_library.specs.declared.library_actor.LibraryActor.{LibraryActor}
 use Rattle.pt_library.specs.LibraryActor.{rows, first}
 use Rattle.pt_typed.specs.TokenTypes.{IsTokenOf}
 use Rattle.pt_typed.specs.TypedActor.{Types, MeetsRow, IsTypedActor}
-use Rattle.pt_typed.specs.TypedRuns.{StepsKeepKinds, MeaningKeepsKinds}
+use Rattle.pt_kinds.specs.TypedRuns.{StepsKeepKinds, MeaningKeepsKinds}
 
 -- an actor that meets its row is typed
 abbrev pub RowsKeepTypes : Type 0
@@ -18,7 +18,7 @@ RowsKeepTypes = (s : Types) (a : LibraryActor) → MeetsRow s a → IsTypedActor
 abbrev pub FirstTokensAreTyped : Type 0
 FirstTokensAreTyped = (s : Types) (a : LibraryActor) (port : ℕ) (u : Datatype) → MeetsRow s a → get s.outputs port ≡ Some u → AllByRecursion (IsTokenOf u) (first a)
 
--- in a typed tree of SDF composites and typed actors each firing keeps to the types
+-- in a typed tree, whose directors only move tokens, each firing keeps to the types
 abbrev pub TypedStepsKeepTypes : Type 0
 TypedStepsKeepTypes = StepsKeepKinds IsTokenOf IsBelow IsTypedActor rows
 

@@ -1,6 +1,3 @@
-pub mod Signature
-pub mod TypedTree
-pub mod TypedRuns
 pub mod TokenTypes
 pub mod TypedData
 pub mod TypedFlow

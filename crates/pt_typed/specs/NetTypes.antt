@@ -12,7 +12,7 @@ use Rattle.pt_typing.specs.declared.variable.Variable.TheVariants as variable
 use Rattle.pt_typing.specs.Least.{Assignment}
 use Rattle.pt_cover.specs.Paths.{entity_at}
 pub use Rattle.pt_order.specs.Wired.{arrivals, goes_out, departures, number_if, port_numbers, BeginsIn, at_own, at_child, IsWired}
-use Rattle.pt_typed.specs.Signature.{Signature, Signatures}
+use Rattle.pt_kinds.specs.Signature.{Signature, Signatures}
 
 -- ---- channels
 

@@ -20,7 +20,7 @@ use Rattle.pt_library.specs.LibraryActor.{rows}
 use Rattle.pt_node.specs.View.{Tree}
 use Rattle.pt_trees.specs.Trees.{Starts, StartsAs, IsTree}
 use Rattle.pt_order.specs.Laws.{IsNetOfDocument}
-use Rattle.pt_typed.specs.Signature.{IsTypedLog}
+use Rattle.pt_kinds.specs.Signature.{IsTypedLog}
 use Rattle.pt_typed.specs.TokenTypes.{IsTokenOf}
 use Rattle.pt_typed.specs.TypedActor.{MeetsRow}
 use Rattle.pt_typed.specs.NetTypes.{TypesGoUp, types_below}

@@ -12,10 +12,10 @@ use Rattle.pt_library.specs.declared.library_actor.LibraryActor.{LibraryActor}
 use Rattle.pt_library.specs.LibraryActor.{rows}
 use Rattle.pt_node.specs.View.{Tree}
 use Rattle.pt_trees.specs.Trees.{Starts, StartsAs, IsTree}
-use Rattle.pt_typed.specs.Signature.{AreAllOf, IsTypedLog}
+use Rattle.pt_kinds.specs.Signature.{AreAllOf, IsTypedLog}
 use Rattle.pt_typed.specs.TokenTypes.{IsTokenOf}
 use Rattle.pt_typed.specs.TypedActor.{MeetsRow, IsTypedActor}
-use Rattle.pt_typed.specs.TypedTree.{IsTypedNode}
+use Rattle.pt_kinds.specs.TypedTree.{IsTypedNode}
 use Rattle.pt_typed.specs.NetTypes.{TypesGoUp, types_below, IsWired}
 
 -- the types of each entity are such as the row of the actor asks that it starts as

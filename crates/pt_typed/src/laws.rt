@@ -6,7 +6,7 @@ ghost use Rattle.pt_typed.specs.DocumentLaw.{DocumentsAreNamed};
 ghost use Rattle.pt_typed.specs.ExpressionLaw.{ExpressionRowsAreMet};
 ghost use Rattle.pt_typed.specs.RowLaw.{TypingsGoUp, PlainRowsAreMet, SeededRowsAreMet, RecordRowsAreMet, TypedNetsKeepTypes};
 
-/// An actor whose row is met by the types of its places and outputs keeps to them, whatever it fires.
+/// An actor whose row is met by the types of its places and outputs keeps to them, whatever it fires or tells early.
 pub fn rows_keep_types()
     ensures { RowsKeepTypes }
 {}
@@ -16,7 +16,7 @@ pub fn first_tokens_are_typed()
     ensures { FirstTokensAreTyped }
 {}
 
-/// In a tree of SDF composites and typed actors along whose channels types go up, each firing keeps to the types.
+/// In a tree of typed actors, and of composites whose directors only move tokens, along whose channels types go up, each firing keeps to the types.
 pub fn typed_steps_keep_types()
     ensures { TypedStepsKeepTypes }
 {}

@@ -2,6 +2,7 @@
 use Rattle.std.specs.Prelude.{◌≡◌, ℕ, List, [], ◌∷◌, length}
 use Rattle.std.specs.List.{AllByRecursion}
 use Rattle.pt_meaning.specs.Basics.{Streams, Log, Path, Event, Finished, Met}
+use Rattle.pt_meaning.specs.Machine.{Partial, Unknown, Known}
 
 -- the kinds at the places of a node, and on its outputs, in the order of their numbers
 pub record Signature (K : Type 0) : Type 0 where
@@ -30,6 +31,18 @@ module _ {T K : Type 0} (Has : K → T → Type 0) where
   -- and just as many
   abbrev pub AreAllOf : List K → Streams T → Type 0
   AreAllOf ks X = (length X ≡ length ks) × AreOf ks X
+
+  -- what is known of signals is of these kinds, signal by signal
+  abbrev pub AreKnownOf : List K → List (Partial T) → Type 0
+  AreKnownOf ks [] = Unit {0}
+  AreKnownOf [] (Unknown ∷ vs) = AreKnownOf [] vs
+  AreKnownOf [] (Known xs ∷ vs) = ⊥
+  AreKnownOf (k ∷ ks) (Unknown ∷ vs) = AreKnownOf ks vs
+  AreKnownOf (k ∷ ks) (Known xs ∷ vs) = AllOf k xs × AreKnownOf ks vs
+
+  -- and there are just as many signals
+  abbrev pub AreAllKnownOf : List K → List (Partial T) → Type 0
+  AreAllKnownOf ks vs = (length vs ≡ length ks) × AreKnownOf ks vs
 
   -- a finished firing took and gave tokens of these kinds only
   abbrev pub IsTypedEvent : Signature K → Event T → Type 0

@@ -1,17 +1,18 @@
 -- A run of a typed tree: whatever is finished in it took and gave tokens of the kinds of its node alone.
-use Rattle.std.specs.Prelude.{◌≡◌, ℕ, [], Option}
+use Rattle.std.specs.Prelude.{◌≡◌, ℕ, List, [], Option}
 use Rattle.pt_meaning.specs.Basics.{Tag, Streams}
-use Rattle.pt_meaning.specs.Machine.{Done, Stuck, Outcome}
+use Rattle.pt_meaning.specs.Machine.{Done, Stuck, Outcome, Partial}
 use Rattle.pt_meaning.specs.Meetings.{Meets}
 use Rattle.pt_meaning.specs.Node.{Rows, Node, Gives, Step}
 use Rattle.pt_meaning.specs.Job.{Schedule, Fire, meaning}
-use Rattle.pt_typed.specs.Signature.{Signature, Signatures, AreOf, AreAllOf, IsTypedLog}
-use Rattle.pt_typed.specs.TypedTree.{IsTypedNode}
+use Rattle.pt_kinds.specs.Signature.{Signature, Signatures, AreOf, AreAllOf, AreKnownOf, AreAllKnownOf, IsTypedLog}
+use Rattle.pt_kinds.specs.TypedTree.{IsTypedNode}
 
 module _ {T K A : Type 0} (Has : K → T → Type 0) (Below : K → K → Type 0) (Fits : Signature K → A → Type 0) (rows : Rows T A) where
-  -- An actor that fits a signature keeps to it, whatever it fires: on inputs of the kinds of its places it gives tokens of those of its outputs, and fits it again.
-  abbrev pub ActorsKeepKinds : Type 0
-  ActorsKeepKinds = (s : Signature K) (a b : A) (tag : Tag) (X out : Streams T) → Fits s a → AreAllOf Has s.places X → rows.react tag a X ≡ Gives b out → AreOf Has s.outputs out × Fits s b
+  -- An actor that fits a signature keeps to it, whatever it fires: on inputs of the kinds of its places it gives tokens of those of its outputs, and fits it again. So it does with what it gives early.
+  pub record ActorsKeepKinds : Type 0 where
+    pub gives : (s : Signature K) (a b : A) (tag : Tag) (X out : Streams T) → Fits s a → AreAllOf Has s.places X → rows.react tag a X ≡ Gives b out → AreOf Has s.outputs out × Fits s b
+    pub tells : (s : Signature K) (a : A) (tag : Tag) (vs : List (Partial T)) → Fits s a → AreAllKnownOf Has s.places vs → AreKnownOf Has s.outputs (rows.early tag a vs)
 
   -- what is of a kind below another is of that too
   abbrev pub KindsWiden : Type 0

@@ -2,11 +2,12 @@
 use Rattle.std.specs.Prelude.{◌≡◌, ℕ, suc, ◌≤◌, List, [], ◌∷◌, ◌++◌, Option, Some, None, length}
 use Rattle.pt_meaning.specs.Basics.{Streams}
 use Rattle.pt_meaning.specs.Streams.{get}
-use Rattle.pt_meaning.specs.Net.{Source, Own, Output}
+use Rattle.pt_meaning.specs.Net.{Source, Own, Output, Net}
 use Rattle.pt_meaning.specs.Running.{total}
 use Rattle.pt_meaning.specs.Sdf.{SdfPlan, unfed}
+use Rattle.pt_meaning.specs.Pn.{PnPlan}
 use Rattle.pt_meaning.specs.Tree.{Core, Sdf, Pn, Sr, De, Rv, Modal, Node, Nodes, Actor, Composite, none, more, list_of}
-use Rattle.pt_typed.specs.Signature.{Signature, Signatures, below, AreOf}
+use Rattle.pt_kinds.specs.Signature.{Signature, Signatures, below, AreOf}
 
 -- the kind of what a source gives within a composite: that of the own input, or that of the child's output; none where there is no such port
 abbrev pub kind_of : {K : Type 0} → Signatures K → Source → Option K
@@ -50,23 +51,32 @@ module _ {T K A : Type 0} (Has : K → T → Type 0) (Below : K → K → Type 0
   AreFed sigs [] (k ∷ ks) = ⊥
   AreFed sigs (c ∷ cs) [] = ⊥
 
-  -- A composite of SDF of so many children: its plan has an entry for each of them and for each own output, its channels lead from kind to kind, and so are the tokens that they hold.
+  -- The net of a composite of so many children, with channels of these kinds that end nowhere, holds these tokens: it has an entry for each child, its channels lead from kind to kind, and so are the tokens.
+  pub record IsTypedNet (sigs : Signatures K) (count : ℕ) (net : Net) (ends : List K) (X : Streams T) : Type 0 where
+    pub places_counted : length net.places ≡ count
+    pub sized : AreSized sigs 0 net.places
+    pub fed : AreFed sigs net.sources (kinds_from sigs ends 0 net.places)
+    pub held : AreOf Has (kinds_from sigs ends 0 net.places) X
+
+  -- A composite of SDF: its plan has an entry for each child and for each own output, and each place of a child its channel.
   pub record IsTypedSdf (sigs : Signatures K) (count : ℕ) (p : SdfPlan) (X : Streams T) : Type 0 where
-    pub places_counted : length p.net.places ≡ count
+    pub typed_net : IsTypedNet sigs count p.net (kinds_at sigs (unfed p)) X
     pub repetitions_counted : length p.repetitions ≡ count
     pub rates_counted : length p.rates ≡ count
     pub gives_counted : length p.gives ≡ length (sigs []).outputs
-    pub sized : AreSized sigs 0 p.net.places
-    pub fed : AreFed sigs p.net.sources (kinds_in sigs p)
     pub room : total p.net.places ≤ length X
-    pub held : AreOf Has (kinds_in sigs p) X
 
-  -- a composite by its director; the laws are of SDF alone
+  -- of PN
+  pub record IsTypedPn (sigs : Signatures K) (count : ℕ) (p : PnPlan) (X : Streams T) : Type 0 where
+    pub typed_net : IsTypedNet sigs count p.net [] X
+    pub room : total p.net.places ≤ length X
+
+  -- a composite by its director: SR and DE keep no tokens on their channels, and the laws aren't of Rendezvous and Modal
   abbrev pub IsTypedCore : Signatures K → ℕ → Core T → Type 0
   IsTypedCore sigs n (Sdf p X) = IsTypedSdf sigs n p X
-  IsTypedCore sigs n (Pn p X) = ⊥
-  IsTypedCore sigs n (Sr p) = ⊥
-  IsTypedCore sigs n (De p) = ⊥
+  IsTypedCore sigs n (Pn p X) = IsTypedPn sigs n p X
+  IsTypedCore sigs n (Sr p) = IsTypedNet sigs n p.net [] []
+  IsTypedCore sigs n (De p) = IsTypedNet sigs n p.net [] []
   IsTypedCore sigs n (Rv p X) = ⊥
   IsTypedCore sigs n (Modal chart m) = ⊥
 

@@ -1,0 +1,10 @@
+pub mod MemberLaws
+pub mod TurnMoves
+pub mod FlowMoves
+pub mod RoundMoves
+pub mod TickMoves
+pub mod DirectorLaws
+pub mod StreamLaws
+pub mod KindLaws
+pub mod NodeLaws
+pub mod Examples

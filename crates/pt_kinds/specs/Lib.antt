@@ -1,0 +1,5 @@
+pub mod Moves
+pub mod Directors
+pub mod Signature
+pub mod TypedTree
+pub mod TypedRuns
