@@ -1,5 +1,5 @@
 -- The tree of a net is typed by the types of the net.
-use Rattle.std.proofs.Common.{◌≡◌, ℕ, zero, suc, ◌+◌, ◌*◌, ◌<◌, ◌≤◌, List, [], ◌∷◌, ◌++◌, Bool, true, false, length, map, drop, nat_lt, Option, Some, None, refl, sym, ap, ap₂, subst, arith, ◌∙◌, length-append, slice_get, if◌then◌else◌}
+use Rattle.std.proofs.Common.{◌≡◌, ℕ, zero, suc, ◌+◌, ◌*◌, ◌<◌, ◌≤◌, List, [], ◌∷◌, ◌++◌, Bool, true, false, length, map, drop, nat_lt, Option, Some, None, refl, sym, ap, ap₂, subst, arith, ◌∙◌, length-append, append-nil, slice_get, if◌then◌else◌}
 use Rattle.std.proofs.lemmas.List.{length-map}
 use Rattle.std.proofs.lemmas.List.Sums.{length-filter}
 use Rattle.std.proofs.lemmas.List.Elements.{recursion_from_All}
@@ -39,12 +39,12 @@ use Rattle.pt_plan.proofs.UnfedLaws.{unfed-below}
 use Rattle.pt_node.specs.View.{Tree}
 use Rattle.pt_trees.specs.Around.{IsInsideOf}
 use Rattle.pt_trees.specs.Rates.{rates_of}
-use Rattle.pt_trees.specs.Trees.{Starts, StartsAs, around_in, IsTree, of_actor, of_sdf, AreTrees, no_trees, more_trees}
-use Rattle.pt_order.proofs.TreeCover.{sdf-directed}
+use Rattle.pt_trees.specs.Trees.{Starts, StartsAs, around_in, IsTree, of_actor, of_sdf, of_sr, AreTrees, no_trees, more_trees}
+use Rattle.pt_order.proofs.TreeCover.{sdf-directed, sr-directed}
 use Rattle.pt_kinds.specs.Signature.{Signatures, AreOf, AreAllOf}
 use Rattle.pt_typed.specs.TokenTypes.{IsTokenOf}
 use Rattle.pt_typed.specs.TypedActor.{MeetsRow, IsTypedActor}
-use Rattle.pt_kinds.specs.TypedTree.{kind_of, kinds_from, kind_before, kinds_at, kinds_in, AreSized, AreFed, IsTypedSdf, IsTypedNode, AreTypedNodes}
+use Rattle.pt_kinds.specs.TypedTree.{kind_of, kinds_from, kind_before, kinds_at, kinds_in, AreSized, AreFed, IsTypedNet, IsTypedSdf, IsTypedNode, AreTypedNodes}
 use Rattle.pt_kinds.specs.TypedRuns.{AreTypedTurns}
 use Rattle.pt_typed.specs.NetTypes.{number_if, port_numbers, source_type, place_type, TypesGoUp, types_below, IsWired}
 use Rattle.pt_typed.specs.TypedNet.{MeetRows, TreesAreTyped, NetsKeepTypes}
@@ -93,6 +93,7 @@ module _ (net : Net) (typing : Assignment) (starts : Starts) (wired : IsWired ne
   unfolding FirstMeets
   first-meets (of_actor k e a at undirected start) = meet k a start
   first-meets (of_sdf k e kids x p at sdf trees inside plan) = tt
+  first-meets (of_sr k e kids at sr trees around) = tt
 
   kid-at : {cs : List ℕ} {ts : List Tree} → AreTrees net (StartsAs starts) cs ts → (i : ℕ) (t : Tree) → get ts i ≡ Some t → (c : ℕ) × (slice_get cs i ≡ Some c) × FirstMeets c t
   kid-at no_trees i t e = absurd (cc)
@@ -215,6 +216,15 @@ module _ (net : Net) (typing : Assignment) (starts : Starts) (wired : IsWired ne
           room = plan-room us there p are-places are-sources given;
         }
 
+    -- a tick along these channels
+    tick-typed : IsTypedNet {A = LibraryActor} IsTokenOf IsBelow IsTypedActor sigs (length (list_of (nodes_of kids))) (record { sources = ending; places = places }) [] []
+    tick-typed = record {
+      places_counted = length-map (children_of net.entities.items k) (place_count net.channels.items) ∙ sym (trees-length trees) ∙ sym (listed kids);
+      sized = sized net typing wired k e d at directed;
+      fed = subst (λ cs. AreFed {A = LibraryActor} IsTokenOf IsBelow IsTypedActor sigs cs (kinds_from sigs [] 0 places)) (append-nil ending) (fed-of [] tt);
+      held = tt;
+    }
+
   -- ---- the tree
 
   mutual
@@ -223,6 +233,9 @@ module _ (net : Net) (typing : Assignment) (starts : Starts) (wired : IsWired ne
     tree-typed (of_sdf k e kids x p at sdf trees inside plan) =
         let w = sdf-directed e.director (bytes_eq e.class (codes "Composite")) sdf in
         (core-typed k e w.0 at w.1 kids trees x p inside plan, trees-typed trees k e w.0 at w.1 0 (λ j c h. ap (slice_get (children_of net.entities.items k)) (let z : 0 + j ≡ j = omega arith in z) ∙ h))
+    tree-typed (of_sr k e kids at sr trees around) =
+        let w = sr-directed e.director (bytes_eq e.class (codes "Composite")) sr in
+        (tick-typed k e w.0 at w.1 kids trees, trees-typed trees k e w.0 at w.1 0 (λ j c h. ap (slice_get (children_of net.entities.items k)) (let z : 0 + j ≡ j = omega arith in z) ∙ h))
 
     trees-typed : {cs : List ℕ} {ts : List Tree} → AreTrees net (StartsAs starts) cs ts → (k : ℕ) (e : NetEntity) (d : NetDirector) → slice_get net.entities.items k ≡ Some e → e.director ≡ Some d → (i : ℕ) → ((j c : ℕ) → slice_get cs j ≡ Some c → slice_get (children_of net.entities.items k) (i + j) ≡ Some c) →
         AreTypedNodes IsTokenOf IsBelow IsTypedActor (types_below net typing k) i (nodes_of ts)
