@@ -1,4 +1,4 @@
--- SDF, PN, SR and DE only move tokens.
+-- SDF, PN, SR, DE and Rendezvous only move tokens.
 use Rattle.std.proofs.Common.{◌≡◌, ℕ, zero, suc, List, [], ◌∷◌, Bool, true, false, length, inl, inr, refl, sym, ap, arith, ◌∙◌}
 use Rattle.pt_meaning.specs.Basics.{Tag, Streams, at, Log, Path, Event}
 use Rattle.pt_meaning.specs.Machine.{causality_code, Outcome, Done, Stuck, Stepping, Facts, Partial, Known, partial_at, recorded}
@@ -9,12 +9,13 @@ use Rattle.pt_meaning.specs.Pn.{pn_limits, always, all_leave}
 use Rattle.pt_meaning.specs.Sr.{sr_active, sr_turn, if_single, single_outcome, all_single}
 use Rattle.pt_meaning.specs.De.{de_active, if_whole, de_early, heads, tails, rows_from, follows, and_then, by_rows, whole_or_rows, de_turn}
 use Rattle.pt_meaning.specs.Closed.{Has}
-use Rattle.pt_kinds.specs.Moves.{MayGive, MayStand, MayTake, takes, MayLog}
+use Rattle.pt_kinds.specs.Moves.{On, MayGive, MayStand, MayTake, takes, MayLog}
 use Rattle.pt_kinds.specs.Directors.{DirectorsOnlyMove}
 use Rattle.pt_kinds.proofs.MemberLaws.{has-append, in-joined, firsts-length}
 use Rattle.pt_kinds.proofs.TurnMoves.{IsOrStops, is-itself, MayEnd, state-of, turn-may}
 use Rattle.pt_kinds.proofs.RoundMoves.{skip-length, kahn-moves}
 use Rattle.pt_kinds.proofs.TickMoves.{tick-moves}
+use Rattle.pt_kinds.proofs.MeetingMoves.{rv-moves}
 
 -- ---- dataflow
 
@@ -75,21 +76,21 @@ tails-length ((x ∷ xs) ∷ X) = ap (λ n. suc n) (tails-length X)
 
 module _ {T S : Type 0} (facts : Facts T S) (step : Stepping T S) (tag : Tag) (net : Net) (kids : List S) (inputs : Streams T) where
   abbrev Takes : ℕ → S → Streams T → Type 0
-  Takes i s X = MayTake facts step tag net kids [] inputs i s X
+  Takes i s X = MayTake facts step tag net kids (On []) inputs i s X
 
   abbrev Ends : ℕ → Outcome T S → Type 0
-  Ends i r = MayEnd facts step tag net kids [] inputs i r
+  Ends i r = MayEnd facts step tag net kids (On []) inputs i r
 
   sr-turns : (i : ℕ) (s : S) (X : Streams T) → Takes i s X → Ends i (sr_turn facts step tag s X)
-  sr-turns i s X t = turn-may facts step tag net kids [] inputs i s X t (single_outcome (facts.made s) (step tag s X)) (single-stops facts step (facts.made s) (step tag s X))
+  sr-turns i s X t = turn-may facts step tag net kids (On []) inputs i s X t (single_outcome (facts.made s) (step tag s X)) (single-stops facts step (facts.made s) (step tag s X))
 
   head-takes : (i : ℕ) (s : S) (X : Streams T) → Takes i s X → Takes i s (heads X)
   head-takes i s X (takes j z Y stands long come) = takes i s (heads X) stands (heads-length X ∙ long) (λ q x h. come q x (in-heads X q x h))
 
-  tail-takes : (i : ℕ) (s z : S) (X : Streams T) → Takes i s X → MayStand facts step tag net kids [] inputs i z → Takes i z (tails X)
+  tail-takes : (i : ℕ) (s z : S) (X : Streams T) → Takes i s X → MayStand facts step tag net kids (On []) inputs i z → Takes i z (tails X)
   tail-takes i s z X (takes j w Y stands long come) m = takes i z (tails X) m (tails-length X ∙ long) (λ q x h. come q x (in-tails X q x h))
 
-  follows-ends : (i : ℕ) (out : Streams T) (l : Log T) (r : Outcome T S) → ((port : ℕ) (x : T) → Has x (at out port) → MayGive facts step tag net kids [] inputs (Output i port) x) → ((p : Path) (e : Event T) → Has e (l p) → MayLog facts step tag net kids [] inputs i p e) →
+  follows-ends : (i : ℕ) (out : Streams T) (l : Log T) (r : Outcome T S) → ((port : ℕ) (x : T) → Has x (at out port) → MayGive facts step tag net kids (On []) inputs (Output i port) x) → ((p : Path) (e : Event T) → Has e (l p) → MayLog facts step tag net kids (On []) inputs i p e) →
       Ends i r → Ends i (follows out l r)
   follows-ends i out l (Done z more m) g n w = (
     w.0,
@@ -98,21 +99,21 @@ module _ {T S : Type 0} (facts : Facts T S) (step : Stepping T S) (tag : Tag) (n
   )
   follows-ends i out l (Stuck fs m) g n w = λ p e h. elim (has-append e (l p) (m p) h) [ inl k ↦ n p e k | inr k ↦ w p e k ]
 
-  then-ends : (i : ℕ) (more : S → Outcome T S) (r : Outcome T S) → ((z : S) → MayStand facts step tag net kids [] inputs i z → Ends i (more z)) → Ends i r → Ends i (and_then more r)
+  then-ends : (i : ℕ) (more : S → Outcome T S) (r : Outcome T S) → ((z : S) → MayStand facts step tag net kids (On []) inputs i z → Ends i (more z)) → Ends i r → Ends i (and_then more r)
   then-ends i more (Done z out l) f w = follows-ends i out l (more z) w.1 w.2 (f z w.0)
   then-ends i more (Stuck fs l) f w = w
 
   rows-end : (i n : ℕ) (s : S) (X : Streams T) → Takes i s X → Ends i (by_rows facts step tag (rows_from n X) s)
-  rows-end i zero s X t = (state-of facts step tag net kids [] inputs i s X t, λ port x h. absurd h, λ p e h. absurd h)
+  rows-end i zero s X t = (state-of facts step tag net kids (On []) inputs i s X t, λ port x h. absurd h, λ p e h. absurd h)
   rows-end i (suc n) s X t =
       then-ends i (λ z. by_rows facts step tag (rows_from n (tails X)) z) (recorded (facts.made s) tag (heads X) (step tag s (heads X))) (λ z m. rows-end i n z (tails X) (tail-takes i s z X t m))
-      (turn-may facts step tag net kids [] inputs i s (heads X) (head-takes i s X t) (step tag s (heads X)) (is-itself (step tag s (heads X))))
+      (turn-may facts step tag net kids (On []) inputs i s (heads X) (head-takes i s X t) (step tag s (heads X)) (is-itself (step tag s (heads X))))
 
   de-turns : (i : ℕ) (s : S) (X : Streams T) → Takes i s X → Ends i (de_turn facts step tag s X)
   de-turns i s X t = go (facts.whole s)
     where
       go : (b : Bool) → Ends i (whole_or_rows b facts step tag s X)
-      go true = turn-may facts step tag net kids [] inputs i s X t (step tag s X) (is-itself (step tag s X))
+      go true = turn-may facts step tag net kids (On []) inputs i s X t (step tag s X) (is-itself (step tag s X))
       go false = rows-end i _ s X t
 
 -- ---- all
@@ -133,4 +134,5 @@ directors-move T S = record {
   de_moves = λ facts step p k tag kids inputs e r.
       tick-moves facts step tag p.net kids inputs (de_early facts) (de_active facts) (de_turn facts step) (λ s vs port xs g. whole-early facts step (facts.whole s) (facts.early tag s vs) port xs g)
       (λ i s X t. de-turns facts step tag p.net kids inputs i s X t) (sym e) r [] k;
+  rv_moves = λ facts step p k n ms tag X kids inputs b c. rv-moves facts step tag p X kids inputs b c k n ms;
 }

@@ -1,7 +1,6 @@
 -- Where a director only moves tokens along channels that lead from kind to kind, and each child keeps to its signature, so does the composite.
 use Rattle.std.proofs.Common.{◌≡◌, ℕ, zero, suc, ◌+◌, ◌≤◌, ◌<◌, List, [], ◌∷◌, ◌++◌, length, Option, Some, None, refl, sym, ap, subst, arith, ◌∙◌, length-append}
-use Rattle.std.specs.List.{AllByRecursion}
-use Rattle.pt_meaning.specs.Basics.{Tag, Streams, at, Log, Path, Event, silent, log_then, own}
+use Rattle.pt_meaning.specs.Basics.{Tag, Streams, at, Log, Path, Event, Finished, Met, silent, log_then, own}
 use Rattle.pt_meaning.specs.Streams.{get}
 use Rattle.pt_meaning.specs.Machine.{Outcome, Done, Stuck, Stepping, Facts, Partial, recorded}
 use Rattle.pt_meaning.specs.Net.{Source, Net, Inside}
@@ -9,11 +8,11 @@ use Rattle.pt_meaning.specs.Running.{total}
 use Rattle.pt_meaning.specs.Closed.{first_channel}
 use Rattle.pt_laws.specs.LogsOfRuns.{log_in}
 use Rattle.pt_laws.specs.SoundRuns.{count_at}
-use Rattle.pt_kinds.specs.Moves.{MayCome, stood, given, MayGive, arrives, fires, tells, MayStand, begins, goes_on, MayTake, takes, MayKnow, knows, MayLog, MovedTo, OnlyMoves}
+use Rattle.pt_kinds.specs.Moves.{IsMeeting, MayCome, stood, given, MayGive, arrives, fires, tells, MayStand, begins, goes_on, MayTake, takes, MayKnow, knows, MayLog, MovedTo, OnlyMoves}
 use Rattle.pt_kinds.specs.Signature.{Signature, Signatures, below, AreOf, AreAllOf, AreKnownOf, AreAllKnownOf, IsTypedEvent, IsTypedLog}
 use Rattle.pt_kinds.specs.TypedTree.{kind_of, kinds_from, AreSized, IsFed, AreFed, IsTypedNet}
 use Rattle.pt_kinds.proofs.MemberLaws.{all-has, all-of-has}
-use Rattle.pt_kinds.proofs.StreamLaws.{all-append, at-given, IsGiven, one-given, known-given, of-count, each-of, each-known, get-left, get-right, get-within}
+use Rattle.pt_kinds.proofs.StreamLaws.{all-append, at-given, IsGiven, one-given, known-given, each-of, each-known, get-left, get-right, get-within}
 
 -- ---- logs
 
@@ -115,12 +114,13 @@ module _ {T K A S : Type 0} (Has : K → T → Type 0) (Below : K → K → Type
   widened None k x f g = absurd g
   widened (Some j) k x f g = widens j k x f g
 
-  pub sources-counted : (count : ℕ) (net : Net) (ends : List K) (X : Streams T) → IsTypedNet {A = A} Has Below Fits sigs count net ends X → length net.sources ≡ total net.places + (length (sigs []).outputs + length ends)
-  sources-counted count net ends X t = omega (arith, fed-count net.sources (kinds_from sigs ends 0 net.places) t.fed, kinds-counted sigs ends 0 net.places t.sized, length-append (sigs []).outputs ends)
+  pub sources-counted : (count : ℕ) (net : Net) (ends : List K) → IsTypedNet {A = A} Has Below Fits sigs count net ends → length net.sources ≡ total net.places + (length (sigs []).outputs + length ends)
+  sources-counted count net ends t = omega (arith, fed-count net.sources (kinds_from sigs ends 0 net.places) t.fed, kinds-counted sigs ends 0 net.places t.sized, length-append (sigs []).outputs ends)
 
   module _ (facts : Facts T S) (step : Stepping T S) (tag : Tag) (keeps : (i : ℕ) → KeepsKinds Has (below sigs i) (Good i) step)
       (early : (i : ℕ) (s : S) (vs : List (Partial T)) → Good i s → AreAllKnownOf Has (sigs (i ∷ [])).places vs → AreKnownOf Has (sigs (i ∷ [])).outputs (facts.early tag s vs))
-      (net : Net) (kids : List S) (held inputs : Streams T) (ends : List K) (typed : IsTypedNet {A = A} Has Below Fits sigs (length kids) net ends held) (good : AreGood 0 kids) (are : AreOf Has (sigs []).places inputs) where
+      (net : Net) (kids : List S) (Stood : (channel : ℕ) → T → Type 0) (inputs : Streams T) (ends : List K) (typed : IsTypedNet {A = A} Has Below Fits sigs (length kids) net ends) (good : AreGood 0 kids) (are : AreOf Has (sigs []).places inputs)
+      (stood-of : (c : ℕ) (k : K) (x : T) → Stood c x → get (kinds_from sigs ends 0 net.places) c ≡ Some k → Has k x) where
     abbrev Kinds : List K
     Kinds = kinds_from sigs ends 0 net.places
 
@@ -133,11 +133,11 @@ module _ {T K A S : Type 0} (Has : K → T → Type 0) (Below : K → K → Type
 
     -- what may come, be given, taken or known is of its kind
     mutual
-      come-typed : (c : ℕ) (x : T) → MayCome facts step tag net kids held inputs c x → (k : K) → get Kinds c ≡ Some k → Has k x
-      come-typed c x (stood d y h) k e = subst (λ o. IsGiven Has o x) e (one-given Has (get Kinds c) (at held c) x (at-given Has Kinds held c typed.held) h)
+      come-typed : (c : ℕ) (x : T) → MayCome facts step tag net kids Stood inputs c x → (k : K) → get Kinds c ≡ Some k → Has k x
+      come-typed c x (stood d y h) k e = stood-of c k x h e
       come-typed c x (given d s y a g) k e = widened (kind_of sigs s) k x (fed-at net.sources Kinds c s k typed.fed a e) (give-typed s x g)
 
-      give-typed : (s : Source) (x : T) → MayGive facts step tag net kids held inputs s x → IsGiven Has (kind_of sigs s) x
+      give-typed : (s : Source) (x : T) → MayGive facts step tag net kids Stood inputs s x → IsGiven Has (kind_of sigs s) x
       give-typed s x (arrives port y h) = one-given Has (get (sigs []).places port) (at inputs port) x (at-given Has (sigs []).places inputs port are) h
       give-typed s x (fires i port w z X out l y t e h) =
           let a = take-typed i w X t in
@@ -147,7 +147,7 @@ module _ {T K A S : Type 0} (Has : K → T → Type 0) (Below : K → K → Type
           let a = know-typed i w vs t in
           known-given Has (sigs (i ∷ [])).outputs (facts.early tag w vs) port xs x (early i w vs a.0.1 a.1) e h
 
-      stand-typed : (i : ℕ) (s : S) → MayStand facts step tag net kids held inputs i s → Stands i s
+      stand-typed : (i : ℕ) (s : S) → MayStand facts step tag net kids Stood inputs i s → Stands i s
       stand-typed i s (begins j w e) =
           let l = get-within kids i s e in
           let z : 0 + i ≡ i = omega arith in
@@ -156,7 +156,7 @@ module _ {T K A S : Type 0} (Has : K → T → Type 0) (Below : K → K → Type
           let a = take-typed i w X t in
           (a.0.0, (done-good i (step tag w X) s out l (keeps i tag w X a.0.1 a.1) e).0)
 
-      take-typed : (i : ℕ) (s : S) (X : Streams T) → MayTake facts step tag net kids held inputs i s X → Stands i s × AreAllOf Has (sigs (i ∷ [])).places X
+      take-typed : (i : ℕ) (s : S) (X : Streams T) → MayTake facts step tag net kids Stood inputs i s X → Stands i s × AreAllOf Has (sigs (i ∷ [])).places X
       take-typed i s X (takes j w Y m long come) =
           let a = stand-typed i s m in
           let z : 0 + i ≡ i = omega arith in
@@ -169,7 +169,7 @@ module _ {T K A S : Type 0} (Has : K → T → Type 0) (Below : K → K → Type
             ),
           )
 
-      know-typed : (i : ℕ) (s : S) (vs : List (Partial T)) → MayKnow facts step tag net kids held inputs i s vs → Stands i s × AreAllKnownOf Has (sigs (i ∷ [])).places vs
+      know-typed : (i : ℕ) (s : S) (vs : List (Partial T)) → MayKnow facts step tag net kids Stood inputs i s vs → Stands i s × AreAllKnownOf Has (sigs (i ∷ [])).places vs
       know-typed i s vs (knows j w us m long come) =
           let a = stand-typed i s m in
           let z : 0 + i ≡ i = omega arith in
@@ -183,29 +183,34 @@ module _ {T K A S : Type 0} (Has : K → T → Type 0) (Below : K → K → Type
           )
 
     -- what a child may log keeps to its signatures
-    log-typed : (i : ℕ) (p : Path) (e : Event T) → MayLog facts step tag net kids held inputs i p e → IsTypedEvent Has (sigs (i ∷ p)) e
+    log-typed : (i : ℕ) (p : Path) (e : Event T) → MayLog facts step tag net kids Stood inputs i p e → IsTypedEvent Has (sigs (i ∷ p)) e
     log-typed i p e m =
         let a = take-typed i m.0 m.1 m.2 in
         all-has (IsTypedEvent Has (sigs (i ∷ p))) e (log_in (recorded (facts.made m.0) tag m.1 (step tag m.0 m.1)) p)
         (recorded-typed Has (below sigs i) (Good i) (facts.made m.0) tag m.1 a.1 (step tag m.0 m.1) (keeps i tag m.0 m.1 a.0.1 a.1) p) m.3
 
-    pub logs-typed : (outputs : ℕ) (r : Outcome T (Inside (Streams T) S)) → OnlyMoves facts step tag net kids held inputs outputs r → IsTypedLog Has sigs (log_in r)
-    logs-typed outputs r m [] = subst (λ es. AllByRecursion (IsTypedEvent Has (sigs [])) es) (sym m.quiet) tt
-    logs-typed outputs r m (i ∷ p) = all-of-has (IsTypedEvent Has (sigs (i ∷ p))) (log_in r (i ∷ p)) (λ e h. log-typed i p e (m.logged i p e h))
+    meeting-typed : (s : Signature K) (e : Event T) → IsMeeting e → IsTypedEvent Has s e
+    meeting-typed s (Finished within f) m = absurd m
+    meeting-typed s (Met within i n) m = tt
 
-    -- the net after the firing is typed, of as many good children, and the own outputs give tokens of their kinds
-    pub record GoodInside (x : Inside (Streams T) S) (out : Streams T) : Type 0 where
-      pub kids_counted : length x.kids ≡ length kids
-      pub kids_good : AreGood 0 x.kids
-      pub room : total net.places ≤ length held → total net.places ≤ length x.held
-      pub held_of : AreOf Has Kinds x.held
-      pub gave_of : AreOf Has (sigs []).outputs out
+    module _ {H : Type 0} (After : H → (channel : ℕ) → T → Type 0) (IsKept : H → Type 0) where
+      pub logs-typed : (outputs : ℕ) (r : Outcome T (Inside H S)) → OnlyMoves facts step tag net kids Stood inputs After IsKept outputs r → IsTypedLog Has sigs (log_in r)
+      logs-typed outputs r m [] = all-of-has (IsTypedEvent Has (sigs [])) (log_in r []) (λ e h. meeting-typed (sigs []) e (m.quiet e h))
+      logs-typed outputs r m (i ∷ p) = all-of-has (IsTypedEvent Has (sigs (i ∷ p))) (log_in r (i ∷ p)) (λ e h. log-typed i p e (m.logged i p e h))
 
-    pub inside-typed : (outputs : ℕ) → outputs ≤ length (sigs []).outputs → (x : Inside (Streams T) S) (out : Streams T) → MovedTo facts step tag net kids held inputs outputs x out → GoodInside x out
-    inside-typed outputs few x out m = record {
-      kids_counted = m.kids_counted;
-      kids_good = each-good 0 x.kids (λ j s e. let z : j ≡ 0 + j = omega arith in subst (λ v. Good v s) z (stand-typed j s (m.stand j s e)).1);
-      room = m.room;
-      held_of = each-of Has Kinds x.held (omega (arith, m.channels_counted, of-count Has Kinds held typed.held)) (λ c k y e h. come-typed c y (m.left c y h) k e);
-      gave_of = each-of Has (sigs []).outputs out (omega (arith, m.outputs_counted, few)) (λ port k y e h. come-typed (total net.places + port) y (m.gave port y h) k (kind-of-output sigs ends 0 port net.places k typed.sized e));
-    }
+      -- after the firing there are as many good children, channels are left with tokens of their kinds, and so are those that the own outputs give
+      pub record GoodInside (x : Inside H S) (out : Streams T) : Type 0 where
+        pub kids_counted : length x.kids ≡ length kids
+        pub kids_good : AreGood 0 x.kids
+        pub kept : IsKept x.held
+        pub left_of : (c : ℕ) (k : K) (y : T) → After x.held c y → get Kinds c ≡ Some k → Has k y
+        pub gave_of : AreOf Has (sigs []).outputs out
+
+      pub inside-typed : (outputs : ℕ) → outputs ≤ length (sigs []).outputs → (x : Inside H S) (out : Streams T) → MovedTo facts step tag net kids Stood inputs After IsKept outputs x out → GoodInside x out
+      inside-typed outputs few x out m = record {
+        kids_counted = m.kids_counted;
+        kids_good = each-good 0 x.kids (λ j s e. let z : j ≡ 0 + j = omega arith in subst (λ v. Good v s) z (stand-typed j s (m.stand j s e)).1);
+        kept = m.kept;
+        left_of = λ c k y h e. come-typed c y (m.left c y h) k e;
+        gave_of = each-of Has (sigs []).outputs out (omega (arith, m.outputs_counted, few)) (λ port k y e h. come-typed (total net.places + port) y (m.gave port y h) k (kind-of-output sigs ends 0 port net.places k typed.sized e));
+      }

@@ -3,6 +3,8 @@ pub mod TurnMoves
 pub mod FlowMoves
 pub mod RoundMoves
 pub mod TickMoves
+pub mod PutLaws
+pub mod MeetingMoves
 pub mod DirectorLaws
 pub mod StreamLaws
 pub mod KindLaws

@@ -1,5 +1,5 @@
 -- A firing of a typed tree keeps to the kinds of its nodes, and so does the meaning of a job: it asks of each director only that it moves tokens.
-use Rattle.std.proofs.Common.{◌≡◌, ℕ, zero, suc, ◌≤◌, List, [], ◌∷◌, length, refl, sym, ap, arith, ◌∙◌, length-append}
+use Rattle.std.proofs.Common.{◌≡◌, ℕ, zero, suc, ◌≤◌, List, [], ◌∷◌, length, Some, refl, sym, ap, subst, arith, ◌∙◌, length-append}
 use Rattle.std.specs.List.{AllByRecursion}
 use Rattle.pt_meaning.specs.Basics.{Tag, Streams, Log, Meeting, Event, Finished, Met, own, all_marked, within_firing}
 use Rattle.pt_meaning.specs.Machine.{Outcome, Done, Stuck, Stepping, Facts, Partial, recorded}
@@ -10,15 +10,19 @@ use Rattle.pt_meaning.specs.Sdf.{unfed, sdf}
 use Rattle.pt_meaning.specs.Pn.{pn}
 use Rattle.pt_meaning.specs.Sr.{sr}
 use Rattle.pt_meaning.specs.De.{de}
+use Rattle.pt_meaning.specs.Rendezvous.{rv}
+use Rattle.pt_meaning.specs.Streams.{get}
 use Rattle.pt_meaning.specs.Meetings.{Meets, below_child}
 use Rattle.pt_meaning.specs.Children.{Child, numbered, nodes, child_facts, with_number, child_step}
 use Rattle.pt_meaning.specs.Node.{Rows, Core, Sdf, Pn, Sr, De, Rv, Modal, Past, Answer, Gives, Fails, Node, Nodes, Actor, Composite, none, more, list_of, nodes_of, early_of, facts_of, as_node, director, step_at, actor_outcome, made_of, height, Step}
 use Rattle.pt_meaning.specs.Job.{Schedule, Turn, Fire, Ends, Limit as AtLimit, Course, Standing, Goes, Ended, Halted, on_step, on_turn, goes_on, after, log_of, begin}
-use Rattle.pt_kinds.specs.Moves.{OnlyMoves}
-use Rattle.pt_kinds.specs.Signature.{Signature, Signatures, below, AreAllOf, AreKnownOf, AreAllKnownOf, IsTypedEvent, IsTypedLog}
-use Rattle.pt_kinds.specs.TypedTree.{kinds_from, kinds_at, IsTypedNet, IsTypedCore, IsTypedNode, AreTypedNodes}
+use Rattle.pt_laws.specs.LogsOfRuns.{log_in}
+use Rattle.pt_kinds.specs.Moves.{On, OnlyMoves}
+use Rattle.pt_kinds.specs.Directors.{KeepsChannels, InPlaces, IsSeated, DirectorsOnlyMove}
+use Rattle.pt_kinds.specs.Signature.{Signature, Signatures, below, AreOf, AreAllOf, AreKnownOf, AreAllKnownOf, IsTypedEvent, IsTypedLog}
+use Rattle.pt_kinds.specs.TypedTree.{kinds_from, kinds_at, kinds_in, IsTypedNet, IsTypedCore, IsTypedNode, AreTypedNodes}
 use Rattle.pt_kinds.specs.TypedRuns.{ActorsKeepKinds, KindsWiden, IsTypedOutcome, StepsKeepKinds, AreTypedTurns, MeaningKeepsKinds}
-use Rattle.pt_kinds.proofs.StreamLaws.{of-count}
+use Rattle.pt_kinds.proofs.StreamLaws.{on-of, of-count, each-of}
 use Rattle.pt_kinds.proofs.RoundMoves.{skip-length}
 use Rattle.pt_kinds.proofs.KindLaws.{GoodOutcome, KeepsKinds, typed-silent, typed-then, typed-own, AreGood, kinds-counted, sources-counted, inside-typed, logs-typed}
 use Rattle.pt_kinds.proofs.DirectorLaws.{directors-move}
@@ -63,8 +67,8 @@ module _ {T K A : Type 0} (Has : K → T → Type 0) (Below : K → K → Type 0
   node-tells sigs tag (Actor h a b) vs t k = acts.tells (sigs []) b tag vs t k
   node-tells sigs tag (Composite h c d kids) vs t k = tt
 
-  counted-net : (sigs : Signatures K) (m n : ℕ) (net : Net) (ends : List K) (X : Streams T) → m ≡ n → IsTypedNet {A = A} Has Below Fits sigs m net ends X → IsTypedNet {A = A} Has Below Fits sigs n net ends X
-  counted-net sigs m n net ends X e t = record { places_counted = t.places_counted ∙ e; sized = t.sized; fed = t.fed; held = t.held }
+  counted-net : (sigs : Signatures K) (m n : ℕ) (net : Net) (ends : List K) → m ≡ n → IsTypedNet {A = A} Has Below Fits sigs m net ends → IsTypedNet {A = A} Has Below Fits sigs n net ends
+  counted-net sigs m n net ends e t = record { places_counted = t.places_counted ∙ e; sized = t.sized; fed = t.fed }
 
   -- the firing of a composite whose children keep to their kinds
   module _ (sigs : Signatures K) (step : Stepping T (Child (Node T A))) (keeps : (i : ℕ) → KeepsKinds Has (below sigs i) (GoodChild sigs i) step) (tag : Tag) (h : Past) (c : Core T) (kids : Nodes T A) (s : AreTypedNodes Has Below Fits sigs 0 kids) (inputs : Streams T) (a : AreAllOf Has (sigs []).places inputs) where
@@ -80,50 +84,76 @@ module _ {T K A : Type 0} (Has : K → T → Type 0) (Below : K → K → Type 0
     its-tell : (i : ℕ) (k : Child (Node T A)) (vs : List (Partial T)) → GoodChild sigs i k → AreAllKnownOf Has (sigs (i ∷ [])).places vs → AreKnownOf Has (sigs (i ∷ [])).outputs (its-facts.early tag k vs)
     its-tell i k vs g v = node-tells (below sigs i) tag k.node vs g.1 v
 
-    module _ (net : Net) (ends : List K) (X : Streams T) (t : IsTypedNet {A = A} Has Below Fits sigs (length its) net ends X) (outputs : ℕ) (few : outputs ≤ length (sigs []).outputs) (core : Streams T → Core T)
-        (stays : (n : ℕ) (Y : Streams T) → n ≡ length (list_of kids) → IsTypedNet {A = A} Has Below Fits sigs n net ends Y → (total net.places ≤ length X → total net.places ≤ length Y) → IsTypedCore {A = A} Has Below Fits sigs n (core Y)) where
-      moved-typed : (r : Outcome T (Inside (Streams T) (Child (Node T A)))) → OnlyMoves its-facts step tag net its X inputs outputs r → IsTypedOutcome Has Below Fits rows sigs (as_node tag h c core r)
+    -- what is typed on a net of which each channel has this kind
+    abbrev OfKinds : Net → List K → ((channel : ℕ) → T → Type 0) → Type 0
+    OfKinds net ends Stands = (n : ℕ) (k : K) (x : T) → Stands n x → get (kinds_from sigs ends 0 net.places) n ≡ Some k → Has k x
+
+    module _ {H : Type 0} (net : Net) (ends : List K) (Stood : (channel : ℕ) → T → Type 0) (After : H → (channel : ℕ) → T → Type 0) (IsKept : H → Type 0) (t : IsTypedNet {A = A} Has Below Fits sigs (length (list_of kids)) net ends) (of : OfKinds net ends Stood) (outputs : ℕ) (few : outputs ≤ length (sigs []).outputs) (core : H → Core T)
+        (stays : (n : ℕ) (Y : H) → n ≡ length (list_of kids) → IsTypedNet {A = A} Has Below Fits sigs n net ends → IsKept Y → OfKinds net ends (After Y) → IsTypedCore {A = A} Has Below Fits sigs n (core Y)) where
+      its-net : IsTypedNet {A = A} Has Below Fits sigs (length its) net ends
+      its-net = counted-net sigs (length (list_of kids)) (length its) net ends (sym its-count) t
+
+      its-log : (r : Outcome T (Inside H (Child (Node T A)))) → OnlyMoves its-facts step tag net its Stood inputs After IsKept outputs r → IsTypedLog Has sigs (log_in r)
+      its-log r m = logs-typed {A = A} Has Below Fits widens sigs (GoodChild sigs) its-facts step tag keeps its-tell net its Stood inputs ends its-net (numbered-good sigs 0 kids s) a.1 of After IsKept outputs r m
+
+      moved-typed : (r : Outcome T (Inside H (Child (Node T A)))) → OnlyMoves its-facts step tag net its Stood inputs After IsKept outputs r → IsTypedOutcome Has Below Fits rows sigs (as_node tag h c core r)
       moved-typed (Done x out l) m =
-          let g = inside-typed {A = A} Has Below Fits widens sigs (GoodChild sigs) its-facts step tag keeps its-tell net its X inputs ends t (numbered-good sigs 0 kids s) a.1 outputs few x out m.done in
-          let same : length (list_of (nodes_of (nodes x.kids))) ≡ length its = nodes-length x.kids ∙ g.kids_counted in (
+          let g = inside-typed {A = A} Has Below Fits widens sigs (GoodChild sigs) its-facts step tag keeps its-tell net its Stood inputs ends its-net (numbered-good sigs 0 kids s) a.1 of After IsKept outputs few x out m.done in
+          let same : length (list_of (nodes_of (nodes x.kids))) ≡ length (list_of kids) = nodes-length x.kids ∙ g.kids_counted ∙ its-count in (
             (
-              stays (length (list_of (nodes_of (nodes x.kids)))) x.held (same ∙ its-count) (record { places_counted = t.places_counted ∙ sym same; sized = t.sized; fed = t.fed; held = g.held_of }) g.room,
+              stays (length (list_of (nodes_of (nodes x.kids)))) x.held same (counted-net sigs (length (list_of kids)) (length (list_of (nodes_of (nodes x.kids)))) net ends (sym same) t) g.kept g.left_of,
               nodes-typed sigs 0 x.kids g.kids_good,
             ),
             g.gave_of,
-            within-typed sigs h.made l (logs-typed {A = A} Has Below Fits widens sigs (GoodChild sigs) its-facts step tag keeps its-tell net its X inputs ends t (numbered-good sigs 0 kids s) a.1 outputs (Done x out l) m),
+            within-typed sigs h.made l (its-log (Done x out l) m),
           )
-      moved-typed (Stuck fs l) m = within-typed sigs h.made l (logs-typed {A = A} Has Below Fits widens sigs (GoodChild sigs) its-facts step tag keeps its-tell net its X inputs ends t (numbered-good sigs 0 kids s) a.1 outputs (Stuck fs l) m)
+      moved-typed (Stuck fs l) m = within-typed sigs h.made l (its-log (Stuck fs l) m)
 
-    tick-room : (net : Net) → IsTypedNet {A = A} Has Below Fits sigs (length (list_of kids)) net [] [] → total net.places ≤ length net.sources
-    tick-room net t = omega (arith, sources-counted {A = A} Has Below Fits widens sigs (GoodChild sigs) (length (list_of kids)) net [] [] t)
+    -- the channels of SDF and PN, and those of the others
+    kept-of : (net : Net) (ends : List K) (X Y : Streams T) → AreOf Has (kinds_from sigs ends 0 net.places) X → KeepsChannels net X Y → OfKinds net ends (On Y) → AreOf Has (kinds_from sigs ends 0 net.places) Y
+    kept-of net ends X Y b kept left = each-of Has (kinds_from sigs ends 0 net.places) Y (omega (arith, kept.0, of-count Has (kinds_from sigs ends 0 net.places) X b)) (λ n k x e h. left n k x h e)
 
-    tick-outputs : (net : Net) → IsTypedNet {A = A} Has Below Fits sigs (length (list_of kids)) net [] [] → length (skip_places net.places net.sources) ≤ length (sigs []).outputs
-    tick-outputs net t = omega (arith, sources-counted {A = A} Has Below Fits widens sigs (GoodChild sigs) (length (list_of kids)) net [] [] t, skip-length net.places net.sources (tick-room net t))
+    net-room : (net : Net) → IsTypedNet {A = A} Has Below Fits sigs (length (list_of kids)) net [] → total net.places ≤ length net.sources
+    net-room net t = omega (arith, sources-counted {A = A} Has Below Fits widens sigs (GoodChild sigs) (length (list_of kids)) net [] t)
+
+    net-outputs : (net : Net) → IsTypedNet {A = A} Has Below Fits sigs (length (list_of kids)) net [] → length (skip_places net.places net.sources) ≤ length (sigs []).outputs
+    net-outputs net t = omega (arith, sources-counted {A = A} Has Below Fits widens sigs (GoodChild sigs) (length (list_of kids)) net [] t, skip-length net.places net.sources (net-room net t))
+
+    pn-outputs : (net : Net) (X : Streams T) → IsTypedNet {A = A} Has Below Fits sigs (length (list_of kids)) net [] → total net.places ≤ length X → AreOf Has (kinds_from sigs [] 0 net.places) X → length (skip_places net.places X) ≤ length (sigs []).outputs
+    pn-outputs net X t room held = omega (arith, skip-length net.places X room, of-count Has (kinds_from sigs [] 0 net.places) X held, kinds-counted sigs [] 0 net.places t.sized, length-append (sigs []).outputs [])
+
+    abbrev moves : DirectorsOnlyMove T (Child (Node T A))
+    moves = directors-move T (Child (Node T A))
 
     director-typed : (k : ℕ) (ms : List Meeting) (d : Core T) → IsTypedCore Has Below Fits sigs (length (list_of kids)) d → IsTypedOutcome Has Below Fits rows sigs (director its-facts step k ms tag h c d its inputs)
     director-typed k ms (Sdf p X) t =
-        moved-typed p.net (kinds_at sigs (unfed p)) X (counted-net sigs (length (list_of kids)) (length its) p.net (kinds_at sigs (unfed p)) X (sym its-count) t.typed_net) (length p.gives) (omega (arith, t.gives_counted)) (λ Y. Sdf p Y)
-        (λ n Y e u r. record { typed_net = u; repetitions_counted = t.repetitions_counted ∙ sym e; rates_counted = t.rates_counted ∙ sym e; gives_counted = t.gives_counted; room = r t.room })
+        moved-typed p.net (kinds_at sigs (unfed p)) (On X) On (KeepsChannels p.net X) t.typed_net (on-of Has (kinds_in sigs p) X t.held) (length p.gives) (omega (arith, t.gives_counted)) (λ Y. Sdf p Y)
+        (λ n Y e u kept left. record {
+          typed_net = u;
+          repetitions_counted = t.repetitions_counted ∙ sym e;
+          rates_counted = t.rates_counted ∙ sym e;
+          gives_counted = t.gives_counted;
+          room = kept.1 t.room;
+          held = kept-of p.net (kinds_at sigs (unfed p)) X Y t.held kept left;
+        })
         (sdf its-facts step p k tag (record { held = X; kids = its }) inputs)
-        ((directors-move T (Child (Node T A))).sdf_moves its-facts step p k tag (record { held = X; kids = its }) inputs (t.typed_net.places_counted ∙ sym its-count, t.repetitions_counted ∙ sym its-count, t.rates_counted ∙ sym its-count) t.room)
+        (moves.sdf_moves its-facts step p k tag (record { held = X; kids = its }) inputs (t.typed_net.places_counted ∙ sym its-count, t.repetitions_counted ∙ sym its-count, t.rates_counted ∙ sym its-count) t.room)
     director-typed k ms (Pn p X) t =
-        moved-typed p.net [] X (counted-net sigs (length (list_of kids)) (length its) p.net [] X (sym its-count) t.typed_net) (length (skip_places p.net.places X))
-        (omega (arith, skip-length p.net.places X t.room, of-count Has (kinds_from sigs [] 0 p.net.places) X t.typed_net.held, kinds-counted sigs [] 0 p.net.places t.typed_net.sized, length-append (sigs []).outputs []))
-        (λ Y. Pn p Y) (λ n Y e u r. record { typed_net = u; room = r t.room })
+        moved-typed p.net [] (On X) On (KeepsChannels p.net X) t.typed_net (on-of Has (kinds_from sigs [] 0 p.net.places) X t.held) (length (skip_places p.net.places X)) (pn-outputs p.net X t.typed_net t.room t.held) (λ Y. Pn p Y)
+        (λ n Y e u kept left. record { typed_net = u; room = kept.1 t.room; held = kept-of p.net [] X Y t.held kept left })
         (pn its-facts step p k tag (record { held = X; kids = its }) inputs)
-        ((directors-move T (Child (Node T A))).pn_moves its-facts step p k tag (record { held = X; kids = its }) inputs (t.typed_net.places_counted ∙ sym its-count) t.room)
+        (moves.pn_moves its-facts step p k tag (record { held = X; kids = its }) inputs (t.typed_net.places_counted ∙ sym its-count) t.room)
     director-typed k ms (Sr p) t =
-        moved-typed p.net [] [] (counted-net sigs (length (list_of kids)) (length its) p.net [] [] (sym its-count) t) (length (skip_places p.net.places p.net.sources)) (tick-outputs p.net t)
-        (λ Y. Sr p) (λ n Y e u r. record { places_counted = u.places_counted; sized = u.sized; fed = u.fed; held = tt })
-        (sr its-facts step p k h.made tag its inputs)
-        ((directors-move T (Child (Node T A))).sr_moves its-facts step p k h.made tag its inputs (t.places_counted ∙ sym its-count) (tick-room p.net t))
+        moved-typed p.net [] (On []) On (KeepsChannels p.net []) t (on-of Has (kinds_from sigs [] 0 p.net.places) [] tt) (length (skip_places p.net.places p.net.sources)) (net-outputs p.net t) (λ Y. Sr p) (λ n Y e u kept left. u)
+        (sr its-facts step p k h.made tag its inputs) (moves.sr_moves its-facts step p k h.made tag its inputs (t.places_counted ∙ sym its-count) (net-room p.net t))
     director-typed k ms (De p) t =
-        moved-typed p.net [] [] (counted-net sigs (length (list_of kids)) (length its) p.net [] [] (sym its-count) t) (length (skip_places p.net.places p.net.sources)) (tick-outputs p.net t)
-        (λ Y. De p) (λ n Y e u r. record { places_counted = u.places_counted; sized = u.sized; fed = u.fed; held = tt })
-        (de its-facts step p k tag its inputs)
-        ((directors-move T (Child (Node T A))).de_moves its-facts step p k tag its inputs (t.places_counted ∙ sym its-count) (tick-room p.net t))
-    director-typed k ms (Rv p X) t = absurd t
+        moved-typed p.net [] (On []) On (KeepsChannels p.net []) t (on-of Has (kinds_from sigs [] 0 p.net.places) [] tt) (length (skip_places p.net.places p.net.sources)) (net-outputs p.net t) (λ Y. De p) (λ n Y e u kept left. u)
+        (de its-facts step p k tag its inputs) (moves.de_moves its-facts step p k tag its inputs (t.places_counted ∙ sym its-count) (net-room p.net t))
+    director-typed k ms (Rv p X) t =
+        moved-typed p.net [] (InPlaces p.net X) (InPlaces p.net) (IsSeated p.net (length its)) t.typed_net t.held (length (skip_places p.net.places p.net.sources)) (net-outputs p.net t.typed_net) (λ Y. Rv p Y)
+        (λ n Y e u kept left. record { typed_net = u; barriers_counted = t.barriers_counted ∙ sym e; seated = subst (λ m. IsSeated p.net m Y) (its-count ∙ sym e) kept; held = left })
+        (rv its-facts step p k h.made ms tag X its inputs)
+        (moves.rv_moves its-facts step p k h.made ms tag X its inputs (t.barriers_counted ∙ sym its-count) (subst (λ m. IsSeated p.net m X) (sym its-count) t.seated))
     director-typed k ms (Modal chart m) t = absurd t
 
   actor-typed : (sigs : Signatures K) (tag : Tag) (h : Past) (a b : A) (inputs : Streams T) → Fits (sigs []) b → AreAllOf Has (sigs []).places inputs → (r : Answer T A) → rows.react tag b inputs ≡ r → IsTypedOutcome Has Below Fits rows sigs (actor_outcome tag h a r)

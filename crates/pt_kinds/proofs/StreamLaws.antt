@@ -67,6 +67,10 @@ module _ {T K : Type 0} (Has : K → T → Type 0) where
   of-count [] (xs ∷ X) a = absurd a
   of-count (k ∷ ks) (xs ∷ X) a = let r = of-count ks X a.1 in omega (arith, r)
 
+  -- a token of streams of these kinds is of the kind of its stream
+  pub on-of : (ks : List K) (X : Streams T) → AreOf Has ks X → (n : ℕ) (k : K) (x : T) → IsOneOf x (at X n) → get ks n ≡ Some k → Has k x
+  on-of ks X a n k x h e = subst (λ o. IsGiven o x) e (one-given (get ks n) (at X n) x (at-given ks X n a) h)
+
   -- no more streams than kinds, whose tokens are of these
   pub each-of : (ks : List K) (X : Streams T) → length X ≤ length ks → ((n : ℕ) (k : K) (x : T) → get ks n ≡ Some k → IsOneOf x (at X n) → Has k x) → AreOf Has ks X
   each-of ks [] l h = tt

@@ -19,13 +19,13 @@ module _ {T S : Type 0} where
   is-itself (Done z out l) = refl
   is-itself (Stuck fs l) = refl
 
-module _ {T S : Type 0} (facts : Facts T S) (step : Stepping T S) (tag : Tag) (net : Net) (kids : List S) (held inputs : Streams T) where
+module _ {T S : Type 0} (facts : Facts T S) (step : Stepping T S) (tag : Tag) (net : Net) (kids : List S) (Stands : (channel : ℕ) → T → Type 0) (inputs : Streams T) where
   -- it gives what its child may give, leaves it as it may stand, and logs what it may log
   abbrev pub MayEnd : (child : ℕ) → Outcome T S → Type 0
-  MayEnd i (Done z out l) = MayStand facts step tag net kids held inputs i z × ((port : ℕ) (x : T) → Has x (at out port) → MayGive facts step tag net kids held inputs (Output i port) x) × ((p : Path) (e : Event T) → Has e (l p) → MayLog facts step tag net kids held inputs i p e)
-  MayEnd i (Stuck fs l) = (p : Path) (e : Event T) → Has e (l p) → MayLog facts step tag net kids held inputs i p e
+  MayEnd i (Done z out l) = MayStand facts step tag net kids Stands inputs i z × ((port : ℕ) (x : T) → Has x (at out port) → MayGive facts step tag net kids Stands inputs (Output i port) x) × ((p : Path) (e : Event T) → Has e (l p) → MayLog facts step tag net kids Stands inputs i p e)
+  MayEnd i (Stuck fs l) = (p : Path) (e : Event T) → Has e (l p) → MayLog facts step tag net kids Stands inputs i p e
 
-  pub state-of : (i : ℕ) (s : S) (X : Streams T) → MayTake facts step tag net kids held inputs i s X → MayStand facts step tag net kids held inputs i s
+  pub state-of : (i : ℕ) (s : S) (X : Streams T) → MayTake facts step tag net kids Stands inputs i s X → MayStand facts step tag net kids Stands inputs i s
   state-of i s X (takes j z Y stands long come) = stands
 
   recorded-has : (n : ℕ) (X : Streams T) (r : Outcome T S) (p : Path) (e : Event T) → Has e (log_in r p) → Has e (log_in (recorded n tag X r) p)
@@ -33,7 +33,7 @@ module _ {T S : Type 0} (facts : Facts T S) (step : Stepping T S) (tag : Tag) (n
   recorded-has n X (Stuck fs l) p e h = h
 
   -- so does a firing of it with its record, where it isn't stopped
-  pub turn-may : (i : ℕ) (s : S) (X : Streams T) → MayTake facts step tag net kids held inputs i s X → (r : Outcome T S) → IsOrStops (step tag s X) r → MayEnd i (recorded (facts.made s) tag X r)
+  pub turn-may : (i : ℕ) (s : S) (X : Streams T) → MayTake facts step tag net kids Stands inputs i s X → (r : Outcome T S) → IsOrStops (step tag s X) r → MayEnd i (recorded (facts.made s) tag X r)
   turn-may i s X t (Done z out l) k = (
     goes_on i s z X out l t k,
     λ port x h. fires i port s z X out l x t k h,

@@ -1,6 +1,6 @@
 -- Directors that only move tokens: in a firing of the composite each token that a child takes, that a channel is left with, or that comes to an own output was given by the source of its channel, or stood there at the start.
 use Rattle.std.specs.Prelude.{◌≡◌, ℕ, ◌+◌, ◌≤◌, List, [], ◌∷◌, length, Some}
-use Rattle.pt_meaning.specs.Basics.{Tag, Streams, at, Log, Path, Event}
+use Rattle.pt_meaning.specs.Basics.{Tag, Streams, at, Log, Path, Event, Finished, Met}
 use Rattle.pt_meaning.specs.Streams.{get}
 use Rattle.pt_meaning.specs.Machine.{Outcome, Done, Stuck, Stepping, Facts, Partial, Known, partial_at, recorded}
 use Rattle.pt_meaning.specs.Net.{Source, Own, Output, Net, Inside}
@@ -9,13 +9,22 @@ use Rattle.pt_meaning.specs.Closed.{Has, first_channel}
 use Rattle.pt_laws.specs.LogsOfRuns.{log_in}
 use Rattle.pt_laws.specs.SoundRuns.{count_at}
 
--- A composite as a firing of it begins: the steps of its children, which all fire at its tag, its channels and what they hold, and the inputs.
+-- a token stands on a channel, where the director keeps a stream for each
+abbrev pub On : {T : Type 0} → Streams T → (channel : ℕ) → T → Type 0
+On X c x = Has x (at X c)
+
+-- an event is a meeting, and no firing
+abbrev pub IsMeeting : {T : Type 0} → Event T → Type 0
+IsMeeting (Finished within f) = ⊥
+IsMeeting (Met within i m) = Unit {0}
+
+-- A composite as a firing of it begins: the steps of its children, which all fire at its tag, its channels and which tokens stand on them, and the inputs.
 -- What may come of it is what follows by these rules alone, so that nothing is there without a cause that came before it.
-module _ {T S : Type 0} (facts : Facts T S) (step : Stepping T S) (tag : Tag) (net : Net) (kids : List S) (held inputs : Streams T) where
+module _ {T S : Type 0} (facts : Facts T S) (step : Stepping T S) (tag : Tag) (net : Net) (kids : List S) (Stands : (channel : ℕ) → T → Type 0) (inputs : Streams T) where
   mutual
     -- a token may come to a channel: it stood there at the start, or the channel's source may give it
     pub data MayCome : (channel : ℕ) → T → Type 0 where
-      stood : (c : ℕ) (x : T) → Has x (at held c) → MayCome c x
+      stood : (c : ℕ) (x : T) → Stands c x → MayCome c x
       given : (c : ℕ) (s : Source) (x : T) → get net.sources c ≡ Some s → MayGive s x → MayCome c x
 
     -- a source may give it: it comes to the own input; or a child gives it, in a firing or early
@@ -41,22 +50,24 @@ module _ {T S : Type 0} (facts : Facts T S) (step : Stepping T S) (tag : Tag) (n
   abbrev pub MayLog : (child : ℕ) → Path → Event T → Type 0
   MayLog i p e = (s : S) × (X : Streams T) × MayTake i s X × Has e (log_in (recorded (facts.made s) tag X (step tag s X)) p)
 
-  -- A firing that is done: the children stand as they may, the channels are left with tokens that may come there, and the own outputs, which are so many, give what may come to theirs.
-  pub record MovedTo (outputs : ℕ) (x : Inside (Streams T) S) (out : Streams T) : Type 0 where
-    pub kids_counted : length x.kids ≡ length kids
-    pub stand : (i : ℕ) (s : S) → get x.kids i ≡ Some s → MayStand i s
-    pub channels_counted : length x.held ≤ length held
-    pub room : total net.places ≤ length held → total net.places ≤ length x.held
-    pub left : (c : ℕ) (y : T) → Has y (at x.held c) → MayCome c y
-    pub outputs_counted : length out ≤ outputs
-    pub gave : (port : ℕ) (y : T) → Has y (at out port) → MayCome (total net.places + port) y
+  -- the director holds H between firings: which tokens stand on channels then, and how it has to be
+  module _ {H : Type 0} (After : H → (channel : ℕ) → T → Type 0) (IsKept : H → Type 0) where
+    -- A firing that is done: the children stand as they may, the channels are left with tokens that may come there, and the own outputs, which are so many, give what may come to theirs.
+    pub record MovedTo (outputs : ℕ) (x : Inside H S) (out : Streams T) : Type 0 where
+      pub kids_counted : length x.kids ≡ length kids
+      pub stand : (i : ℕ) (s : S) → get x.kids i ≡ Some s → MayStand i s
+      pub kept : IsKept x.held
+      pub left : (c : ℕ) (y : T) → After x.held c y → MayCome c y
+      pub outputs_counted : length out ≤ outputs
+      pub gave : (port : ℕ) (y : T) → Has y (at out port) → MayCome (total net.places + port) y
 
-  abbrev pub IfMoved : ℕ → Outcome T (Inside (Streams T) S) → Type 0
-  IfMoved outputs (Done x out l) = MovedTo outputs x out
-  IfMoved outputs (Stuck fs l) = Unit {0}
+    -- so it is where the firing is done
+    abbrev pub IfMoved : ℕ → Outcome T (Inside H S) → Type 0
+    IfMoved outputs (Done x out l) = MovedTo outputs x out
+    IfMoved outputs (Stuck fs l) = Unit {0}
 
-  -- A firing that only moves tokens, done or stuck: nothing is logged at its own path, and below each child what the child may log.
-  pub record OnlyMoves (outputs : ℕ) (r : Outcome T (Inside (Streams T) S)) : Type 0 where
-    pub quiet : log_in r [] ≡ []
-    pub logged : (i : ℕ) (p : Path) (e : Event T) → Has e (log_in r (i ∷ p)) → MayLog i p e
-    pub done : IfMoved outputs r
+    -- A firing that only moves tokens, done or stuck: at its own path meetings alone are logged, and below each child what the child may log.
+    pub record OnlyMoves (outputs : ℕ) (r : Outcome T (Inside H S)) : Type 0 where
+      pub quiet : (e : Event T) → Has e (log_in r []) → IsMeeting e
+      pub logged : (i : ℕ) (p : Path) (e : Event T) → Has e (log_in r (i ∷ p)) → MayLog i p e
+      pub done : IfMoved outputs r

@@ -6,7 +6,9 @@ use Rattle.pt_meaning.specs.Net.{Source, Own, Output, Net}
 use Rattle.pt_meaning.specs.Running.{total}
 use Rattle.pt_meaning.specs.Sdf.{SdfPlan, unfed}
 use Rattle.pt_meaning.specs.Pn.{PnPlan}
+use Rattle.pt_meaning.specs.Rendezvous.{RvPlan, Places}
 use Rattle.pt_meaning.specs.Tree.{Core, Sdf, Pn, Sr, De, Rv, Modal, Node, Nodes, Actor, Composite, none, more, list_of}
+use Rattle.pt_kinds.specs.Directors.{InPlaces, IsSeated}
 use Rattle.pt_kinds.specs.Signature.{Signature, Signatures, below, AreOf}
 
 -- the kind of what a source gives within a composite: that of the own input, or that of the child's output; none where there is no such port
@@ -51,33 +53,41 @@ module _ {T K A : Type 0} (Has : K → T → Type 0) (Below : K → K → Type 0
   AreFed sigs [] (k ∷ ks) = ⊥
   AreFed sigs (c ∷ cs) [] = ⊥
 
-  -- The net of a composite of so many children, with channels of these kinds that end nowhere, holds these tokens: it has an entry for each child, its channels lead from kind to kind, and so are the tokens.
-  pub record IsTypedNet (sigs : Signatures K) (count : ℕ) (net : Net) (ends : List K) (X : Streams T) : Type 0 where
+  -- The net of a composite of so many children, with channels of these kinds that end nowhere: it has an entry for each child, and its channels lead from kind to kind.
+  pub record IsTypedNet (sigs : Signatures K) (count : ℕ) (net : Net) (ends : List K) : Type 0 where
     pub places_counted : length net.places ≡ count
     pub sized : AreSized sigs 0 net.places
     pub fed : AreFed sigs net.sources (kinds_from sigs ends 0 net.places)
-    pub held : AreOf Has (kinds_from sigs ends 0 net.places) X
 
-  -- A composite of SDF: its plan has an entry for each child and for each own output, and each place of a child its channel.
+  -- A composite of SDF: its plan has an entry for each child and for each own output, each place of a child has its channel, and the tokens that the channels hold are of their kinds.
   pub record IsTypedSdf (sigs : Signatures K) (count : ℕ) (p : SdfPlan) (X : Streams T) : Type 0 where
-    pub typed_net : IsTypedNet sigs count p.net (kinds_at sigs (unfed p)) X
+    pub typed_net : IsTypedNet sigs count p.net (kinds_at sigs (unfed p))
     pub repetitions_counted : length p.repetitions ≡ count
     pub rates_counted : length p.rates ≡ count
     pub gives_counted : length p.gives ≡ length (sigs []).outputs
     pub room : total p.net.places ≤ length X
+    pub held : AreOf Has (kinds_in sigs p) X
 
   -- of PN
   pub record IsTypedPn (sigs : Signatures K) (count : ℕ) (p : PnPlan) (X : Streams T) : Type 0 where
-    pub typed_net : IsTypedNet sigs count p.net [] X
+    pub typed_net : IsTypedNet sigs count p.net []
     pub room : total p.net.places ≤ length X
+    pub held : AreOf Has (kinds_from sigs [] 0 p.net.places) X
 
-  -- a composite by its director: SR and DE keep no tokens on their channels, and the laws aren't of Rendezvous and Modal
+  -- of Rendezvous: what is gathered or has still to be put is of the kind of its channel
+  pub record IsTypedRv (sigs : Signatures K) (count : ℕ) (p : RvPlan) (X : Places T) : Type 0 where
+    pub typed_net : IsTypedNet sigs count p.net []
+    pub barriers_counted : length p.barriers ≡ count
+    pub seated : IsSeated p.net count X
+    pub held : (c : ℕ) (k : K) (x : T) → InPlaces p.net X c x → get (kinds_from sigs [] 0 p.net.places) c ≡ Some k → Has k x
+
+  -- a composite by its director: SR and DE keep no tokens on their channels, and a Modal gives tokens of its own, so that the laws aren't of it
   abbrev pub IsTypedCore : Signatures K → ℕ → Core T → Type 0
   IsTypedCore sigs n (Sdf p X) = IsTypedSdf sigs n p X
   IsTypedCore sigs n (Pn p X) = IsTypedPn sigs n p X
-  IsTypedCore sigs n (Sr p) = IsTypedNet sigs n p.net [] []
-  IsTypedCore sigs n (De p) = IsTypedNet sigs n p.net [] []
-  IsTypedCore sigs n (Rv p X) = ⊥
+  IsTypedCore sigs n (Sr p) = IsTypedNet sigs n p.net []
+  IsTypedCore sigs n (De p) = IsTypedNet sigs n p.net []
+  IsTypedCore sigs n (Rv p X) = IsTypedRv sigs n p X
   IsTypedCore sigs n (Modal chart m) = ⊥
 
   -- each library actor fits its signature, and each composite is such a one

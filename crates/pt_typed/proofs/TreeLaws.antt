@@ -208,21 +208,20 @@ module _ (net : Net) (typing : Assignment) (starts : Starts) (wired : IsWired ne
             places_counted = count;
             sized = subst (λ ns. AreSized sigs 0 ns) (sym are-places) (sized net typing wired k e d at directed);
             fed = plan-fed us there p are-places are-sources given;
-            held = plan-held us there p are-places are-sources given;
           };
           repetitions_counted = plan.repetitions ∙ its ∙ count;
           rates_counted = rated ∙ sym (listed kids);
           gives_counted = given;
           room = plan-room us there p are-places are-sources given;
+          held = plan-held us there p are-places are-sources given;
         }
 
     -- a tick along these channels
-    tick-typed : IsTypedNet {A = LibraryActor} IsTokenOf IsBelow IsTypedActor sigs (length (list_of (nodes_of kids))) (record { sources = ending; places = places }) [] []
+    tick-typed : IsTypedNet {A = LibraryActor} IsTokenOf IsBelow IsTypedActor sigs (length (list_of (nodes_of kids))) (record { sources = ending; places = places }) []
     tick-typed = record {
       places_counted = length-map (children_of net.entities.items k) (place_count net.channels.items) ∙ sym (trees-length trees) ∙ sym (listed kids);
       sized = sized net typing wired k e d at directed;
       fed = subst (λ cs. AreFed {A = LibraryActor} IsTokenOf IsBelow IsTypedActor sigs cs (kinds_from sigs [] 0 places)) (append-nil ending) (fed-of [] tt);
-      held = tt;
     }
 
   -- ---- the tree
