@@ -4,4 +4,8 @@ pub mod PlanLaws
 pub mod NodeLaws
 pub mod LoopLaws
 pub mod InsideLaws
-pub mod CompositeLaws
+pub mod FreshLaws
+pub mod ChildLaws
+pub mod SdfLaws
+pub mod WiredLaws
+pub mod SrLaws

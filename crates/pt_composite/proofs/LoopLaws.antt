@@ -1,6 +1,6 @@
 -- One step of the loops over children, channels and tokens.
-use Rattle.std.proofs.Common.{◌≡◌, ℕ, zero, suc, ◌+◌, ◌-◌, ◌<◌, ◌≤◌, List, [], ◌∷◌, ◌++◌, length, take, map, get_or, set, Option, Some, None, refl, sym, ap, ap₂, ◌∙◌, subst, arith, append_assoc, add-one, get_or-set_same}
-use Rattle.std.proofs.lemmas.List.{take_more, set-set, length-map}
+use Rattle.std.proofs.Common.{◌≡◌, ℕ, zero, suc, ◌+◌, ◌-◌, ◌<◌, ◌≤◌, List, [], ◌∷◌, ◌++◌, length, take, map, get_or, set, Bool, true, false, inl, Option, Some, None, refl, sym, ap, ap₂, ◌∙◌, subst, arith, append_assoc, add-one, get_or-set_same}
+use Rattle.std.proofs.lemmas.List.{take_more, take_all, set-set, length-map}
 use Rattle.std.proofs.Math.ListN.{get_or-map}
 use Rattle.pt_meaning.specs.Basics.{Streams}
 use Rattle.pt_meaning.specs.Net as net
@@ -12,15 +12,14 @@ use Rattle.pt_core.specs.declared.source.Source.{Source}
 use Rattle.pt_core.specs.Source.{source_of}
 use Rattle.pt_library.specs.LibraryActor.{rows}
 use Rattle.pt_node.specs.declared.node.Node.{Node}
-use Rattle.pt_node.specs.Shown.{Shown, shown, shown_node}
-use Rattle.pt_node.proofs.Link.{shown-node}
+use Rattle.pt_node.specs.Shown.{shown_node}
 use Rattle.pt_meaning.specs.Streams.{get}
 use Rattle.pt_node.specs.View.{Tree, node_of}
 use Rattle.pt_trees.specs.Around.{first_counts}
-use Rattle.pt_trees.specs.Fresh.{AllFresh}
-use Rattle.pt_trees.specs.Rates.{rates_of, HaveRates, IsRated, AllRated}
+use Rattle.pt_trees.specs.Rates.{rates_of, HaveRates, is_steady, AreSteady, HasUnsteady, IsStarted, AllStarted}
+use Rattle.pt_composite.specs.Nonstrict.{is_nonstrict}
 use Rattle.pt_composite.proofs.HeldLaws.{held_to, held-append, held-empty, held-more}
-use Rattle.pt_composite.proofs.NodeLaws.{trees, trees-more, tree-at, get-map, map-append}
+use Rattle.pt_composite.proofs.NodeLaws.{trees, trees-more, tree-at, map-append}
 
 -- a token more is put
 pub put-more : {X : Type 0} (L0 L : List (List X)) (c : ℕ) (ts : List X) (i : ℕ) (x y : X) → c < length L0 → L ≡ set L0 c (get_or L0 c [] ++ take i ts) → i < length ts → x ≡ get_or ts i x → y ≡ x →
@@ -41,27 +40,33 @@ pub rates-more : (kids : List Node) (i : ℕ) (d : Node) (rs : List (List ℕ)) 
 rates-more kids i d rs r h is e f =
     map-append (λ (v : List ℕ). Option.Some v) rs (r ∷ []) ∙ ap₂ (λ (v : List (Option (List ℕ))) (w : Option (List ℕ)). v ++ w ∷ []) e f ∙ sym (map-append rates_of (trees (take i kids)) (node_of (shown_node d) ∷ [])) ∙ ap (λ v. map rates_of v) (sym (trees-more kids i d h is))
 
-none-among : (rs : List (List ℕ)) (ts : List (Option (List ℕ))) (i : ℕ) → map (λ (v : List ℕ). Option.Some v) rs ≡ ts → get ts i ≡ Some None → ⊥
-none-among [] [] i e g = absurd (cc)
-none-among [] (t ∷ ts) i e g = absurd (cc)
-none-among (r ∷ rs) [] i e g = absurd (cc)
-none-among (r ∷ rs) (t ∷ ts) zero e g = absurd (cc)
-none-among (r ∷ rs) (t ∷ ts) (suc i) e g = let rest : map (λ (v : List ℕ). Option.Some v) rs ≡ ts = cc in none-among rs ts i rest g
-
 -- a child whose rates vary
-pub rates-none : (kids : List Node) (i : ℕ) (d : Node) → i < length kids → d ≡ get_or kids i d → None ≡ rates_of (node_of (shown_node d)) → (rs : List (List ℕ)) → HaveRates (trees kids) rs → ⊥
-rates-none kids i d h is f rs e =
-    none-among rs (map rates_of (trees kids)) i e (get-map rates_of (trees kids) i (node_of (shown_node d)) (tree-at kids i d h is) ∙ ap (λ (v : Option (List ℕ)). Option.Some v) (sym f))
+pub rates-none : (kids : List Node) (i : ℕ) (d : Node) → i < length kids → d ≡ get_or kids i d → None ≡ rates_of (node_of (shown_node d)) → (n : ℕ) × (kid : Tree) × (get (trees kids) n ≡ Some kid) × (rates_of kid ≡ None)
+rates-none kids i d h is f = (i, node_of (shown_node d), tree-at kids i d h is, sym f)
 
--- each child is rated
-pub rated-at : (kids : List Node) (i : ℕ) (d : Node) → i < length kids → d ≡ get_or kids i d → AllRated (map shown kids) → IsRated (shown_node d)
-rated-at [] i d h is all = absurd (omega (arith, h))
-rated-at (k ∷ kids) zero d h is all = subst (λ s. IsRated s) (shown-node k ∙ ap (λ n. shown_node n) (sym is)) all.0
-rated-at (k ∷ kids) (suc i) d h is all = rated-at kids i d (omega (arith, h)) is all.1
+-- a child among the others is started as they are
+pub started-at : (kids : List Node) (i : ℕ) (d : Node) → i < length kids → d ≡ get_or kids i d → AllStarted (trees kids) → IsStarted (node_of (shown_node d))
+started-at kids i d h is all = all i (node_of (shown_node d)) (tree-at kids i d h is)
 
-pub fresh-rated : (ss : List Shown) → AllFresh ss → AllRated ss
-fresh-rated [] all = tt
-fresh-rated (s ∷ ss) all = (all.0.rated, fresh-rated ss all.1)
+-- one steady child more
+pub steady-none : AreSteady []
+steady-none i kid e = absurd (cc)
+
+pub steady-more : (kids : List Node) (i : ℕ) (d : Node) → i < length kids → d ≡ get_or kids i d → AreSteady (trees (take i kids)) → is_steady (node_of (shown_node d)) ≡ true → AreSteady (trees (take (i + 1) kids))
+steady-more kids i d h is all one = subst (λ (v : List Tree). AreSteady v) (sym (trees-more kids i d h is)) (snoc (trees (take i kids)) (node_of (shown_node d)) all one)
+  where
+    snoc : (ts : List Tree) (t : Tree) → AreSteady ts → is_steady t ≡ true → AreSteady (ts ++ t ∷ [])
+    snoc [] t all one zero kid e = let same : t ≡ kid = cc in sym (ap is_steady same) ∙ one
+    snoc [] t all one (suc j) kid e = absurd (cc)
+    snoc (s ∷ ts) t all one zero kid e = all zero kid e
+    snoc (s ∷ ts) t all one (suc j) kid e = snoc ts t (λ k x f. all (suc k) x f) one j kid e
+
+pub steady-all : (kids : List Node) (i : ℕ) → length kids ≤ i → AreSteady (trees (take i kids)) → AreSteady (trees kids)
+steady-all kids i h all = subst (λ (v : List Node). AreSteady (trees v)) (take_all i kids h) all
+
+-- one that isn't
+pub unsteady-at : (kids : List Node) (i : ℕ) (d : Node) → i < length kids → d ≡ get_or kids i d → is_steady (node_of (shown_node d)) ≡ false → HasUnsteady (trees kids)
+unsteady-at kids i d h is not = (i, node_of (shown_node d), tree-at kids i d h is, inl not)
 
 -- the first tokens of one channel more
 pub counts-more : (kids : List Tree) (sources : List Source) (i : ℕ) (d : Source) (ns : List ℕ) (ts : List Token) → i < length sources → ns ≡ first_counts kids (map source_of (take i sources)) → ts ≡ first_of rows kids (source_of (get_or sources i d)) →
@@ -87,3 +92,8 @@ held-step kids sources n d L new ts h e f g =
     again [] n d h = absurd (omega (arith, h))
     again (x ∷ xs) zero d h = refl
     again (x ∷ xs) (suc n) d h = again xs n d (omega (arith, h))
+
+-- one child more that may give an early answer, or not
+pub flags-more : (kids : List Node) (i : ℕ) (d : Node) (flags : List Bool) (flag : Bool) → i < length kids → d ≡ get_or kids i d → flags ≡ map is_nonstrict (trees (take i kids)) → flag ≡ is_nonstrict (node_of (shown_node d)) → flags ++ flag ∷ [] ≡ map is_nonstrict (trees (take (i + 1) kids))
+flags-more kids i d flags flag h is e f =
+    ap₂ (λ (v : List Bool) (w : Bool). v ++ w ∷ []) e f ∙ sym (map-append is_nonstrict (trees (take i kids)) (node_of (shown_node d) ∷ [])) ∙ ap (λ v. map is_nonstrict v) (sym (trees-more kids i d h is))

@@ -1,32 +1,39 @@
-ghost use Rattle.std.specs.Prelude.{IfOk, map};
+ghost use Rattle.std.specs.Prelude.{IfOk, IfErr, map};
+ghost use Rattle.pt_plan.specs.Inside.{IsInside};
 ghost use Rattle.pt_node.specs.Shown.{shown};
-ghost use Rattle.pt_trees.specs.Around.{around_of, IsInsideIf};
-ghost use Rattle.pt_trees.specs.Composite.{trees_of};
-ghost use Rattle.pt_trees.specs.Rates.{AllRated};
+ghost use Rattle.pt_trees.specs.Around.{around_of, IsInsideOf};
+ghost use Rattle.pt_trees.specs.Composite.{trees_of, SdfFaultStands};
+ghost use Rattle.pt_trees.specs.Rates.{AllStarted};
 
 use crate::needs::needs_of;
 use crate::rates::rates_of;
+use crate::steady::are_steady;
 use crate::tokens::first_counts;
 use pt_firing::Counts;
 use pt_node::Node;
 use pt_plan::Inside;
-use pt_trees::Wiring;
-use std::alloc::{AllocError, Global};
+use pt_trees::{CompositeFault, Wiring};
+use std::alloc::Global;
 
-/// The inside of a composite round these children, if it is well formed.
+/// The inside of an SDF composite round these children, if each is steady and it is well formed.
 pub(crate) fn inside_of(
     alloc: Global,
     children: &[Node],
     wiring: Wiring,
-) -> Result<Option<Inside>, AllocError>
-    requires { AllRated (map shown children.now) }
-    ensures { IfOk result (IsInsideIf (around_of wiring) (trees_of (map shown children.now))) }
+) -> Result<Inside, CompositeFault>
+    requires { AllStarted (trees_of (map shown children.now)) }
+    ensures inside { IfOk result (λ inside. IsInsideOf (around_of wiring) (trees_of (map shown children.now)) inside) }
+    ensures formed { IfOk result IsInside }
+    ensures stands { IfErr result (SdfFaultStands (around_of wiring) (map shown children.now)) }
 {
+    if !are_steady(children) {
+        return Err(CompositeFault::Unsteady);
+    }
     let Some(needs) = needs_of(alloc, children, wiring.places.as_slice())? else {
-        return Ok(None);
+        return Err(CompositeFault::Malformed);
     };
     let Some(rates) = rates_of(alloc, children)? else {
-        return Ok(None);
+        return Err(CompositeFault::Unsteady);
     };
     let inside = Inside {
         first: first_counts(alloc, children, &wiring.sources)?,
@@ -38,7 +45,7 @@ pub(crate) fn inside_of(
         outputs: wiring.outputs,
     };
     if !inside.is_well_formed() {
-        return Ok(None);
+        return Err(CompositeFault::Malformed);
     }
-    Ok(Some(inside))
+    Ok(inside)
 }

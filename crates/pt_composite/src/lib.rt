@@ -1,10 +1,18 @@
-//! An SDF composite from the nodes of its children.
+//! A composite from the nodes of its children, by its director.
 #![tactic(auto)]
 
-mod composing;
 mod inside;
 mod needs;
+mod node;
+mod nonstrict;
+mod order;
+mod outputs;
 mod rates;
+mod sdf;
+mod sr;
+mod steady;
 mod tokens;
+mod wired;
 
-pub use composing::composite;
+pub use sdf::sdf_composite;
+pub use sr::sr_composite;

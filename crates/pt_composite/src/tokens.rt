@@ -9,10 +9,10 @@ ghost use Rattle.pt_node.specs.View.{node_of};
 ghost use Rattle.pt_trees.specs.Around.{first_counts};
 ghost use Rattle.pt_trees.specs.Composite.{trees_of};
 
+use pt_core::Source;
 use pt_firing::{Actor, Counts};
 use pt_node::{Body, Node};
 use pt_recv::Channels;
-use pt_core::Source;
 use pt_value::Token;
 use std::alloc::{AllocError, Global};
 

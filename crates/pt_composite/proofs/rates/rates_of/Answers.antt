@@ -1,19 +1,14 @@
-use Rattle.std.proofs.Common.{◌≡◌, ◌∙◌, sym, subst, List, ℕ, None, Some, Option}
-use Rattle.pt_node.specs.Shown.{shown_node}
-use Rattle.pt_node.specs.View.{node_of}
-use Rattle.pt_trees.specs.Rates.{rates_of, HaveRates}
-use Rattle.pt_trees.specs.Composite.{trees_of}
-use Rattle.pt_composite.proofs.LoopLaws.{rates-more, rates-none, rated-at}
+use Rattle.std.proofs.Common.{◌∙◌, ◌+◌, sym, subst, take}
+use Rattle.pt_trees.specs.Rates.{HaveRates}
+use Rattle.pt_composite.proofs.LoopLaws.{rates-more, rates-none, started-at}
 use Rattle.pt_composite.proofs.NodeLaws.{trees}
-use Rattle.std.proofs.Common.{take, ◌+◌}
 use Rattle.pt_composite.proofs.rates.rates_of.Goals as goal
 
 pub node_rates-requires : goal.node_rates-requires
-node_rates-requires c = rated-at c.args.children.now c.loop-child.child-index c.child-item.result c.loop-child-test.true c.child-item.is c.requires
+node_rates-requires c = started-at c.args.children.now c.loop-child.child-index c.child-item.result c.loop-child-test.true c.child-item.is c.requires
 
 pub returns-in_default : goal.returns-in_default
-returns-in_default c = λ rs e.
-    rates-none c.args.children.now c.loop-child.child-index c.child-item.result c.loop-child-test.true c.child-item.is (sym c.in_default.is ∙ c.in_ok-given.ensures) rs e
+returns-in_default c = rates-none c.args.children.now c.loop-child.child-index c.child-item.result c.loop-child-test.true c.child-item.is (sym c.in_default.is ∙ c.in_ok-given.ensures)
 
 pub loop-child-preserved : goal.loop-child-preserved
 loop-child-preserved c =

@@ -1,4 +1,4 @@
--- The composite that is built is fresh, and it is the one of the definitions.
+-- The SDF composite that is built is fresh, and it is the one of the definitions.
 use Rattle.std.proofs.Common.{◌≡◌, ℕ, ◌+◌, ◌≤◌, List, [], ◌∷◌, ◌++◌, length, map, true, refl, sym, ap, ap₂, ◌∙◌, subst, arith}
 use Rattle.std.proofs.lemmas.List.{length-map}
 use Rattle.pt_meaning.specs.Basics.{Streams}
@@ -6,74 +6,38 @@ use Rattle.pt_meaning.specs.Net as net
 use Rattle.pt_meaning.specs.Net.{Source}
 use Rattle.pt_meaning.specs.NodeFacts.{facts_of}
 use Rattle.pt_meaning.specs.Running.{total}
-use Rattle.pt_meaning.specs.Start.{first_held, IsAtStart, AllAtStart}
+use Rattle.pt_meaning.specs.Start.{first_held, IsAtStart}
 use Rattle.pt_meaning.specs.Tree as tree
-use Rattle.pt_laws.specs.Heights.{IsFitting, AllFitting}
-use Rattle.pt_laws.specs.StartedRuns.{ArePlans, AllPlans}
+use Rattle.pt_laws.specs.Heights.{IsFitting}
+use Rattle.pt_laws.specs.StartedRuns.{ArePlans}
 use Rattle.pt_value.specs.declared.token.Token.{Token}
+use Rattle.pt_core.specs.declared.either.Either.TheVariants.{First}
+use Rattle.pt_core.specs.Source.{source_of}
 use Rattle.pt_sdf.specs.declared.plan.CorePlan.{CorePlan}
 use Rattle.pt_sdf.specs.ByNeed.{needs_of, planned}
 use Rattle.pt_sdf.specs.Chain.{IsFor}
 use Rattle.pt_sdf.specs.Clauses.{State}
 use Rattle.pt_sdf.specs.Plan.{plan_of}
-use Rattle.pt_core.specs.Source.{source_of}
+use Rattle.pt_sdf.specs.SdfActs.{Fits, AllSteady}
 use Rattle.pt_sdf.specs.State.{started}
 use Rattle.pt_plan.specs.declared.inside.Inside.{Inside}
 use Rattle.pt_plan.specs.Inside.{IsInside}
 use Rattle.pt_plan.specs.PlanOf.{IsPlanOf}
 use Rattle.pt_plan.specs.Unfed.{own, unfed, sources_of, no_tokens, first_of}
 use Rattle.pt_plan.proofs.UnfedLaws.{sources-long}
-use Rattle.pt_node.specs.declared.body.Body.TheVariants as body
-use Rattle.pt_node.specs.declared.director.Director.TheVariants as director
 use Rattle.pt_library.specs.LibraryActor.{rows}
 use Rattle.pt_node.specs.Recorded.{RecordedPort}
-use Rattle.pt_node.specs.Shown.{Shown, Branch, all_of, list_of}
+use Rattle.pt_node.specs.Shown.{Shown, all_of}
 use Rattle.pt_node.specs.View.{Tree, node_of, nodes_of}
-use Rattle.pt_node.specs.Live.{AllFit, AllSteady}
 use Rattle.pt_trees.specs.Around.{Around, first_counts, IsInsideOf}
-use Rattle.pt_trees.specs.Fresh.{AreEmpty, AllUnrecorded, AllFresh}
-use Rattle.pt_trees.specs.Composite.{trees_of, IsComposite}
+use Rattle.pt_trees.specs.Fresh.{AreEmpty, AllFresh}
+use Rattle.pt_trees.specs.Composite.{trees_of, IsSdfComposite}
+use Rattle.pt_composite.specs.Nodes.{built}
+use Rattle.pt_composite.proofs.ChildLaws.{all-steady}
+use Rattle.pt_composite.proofs.FreshLaws.{list-again, nodes-list, nodes-are, all-fit, all-start, all-fitting, all-plans, all-unrecorded}
 use Rattle.pt_composite.proofs.NeedLaws.{needs-length, planned-length}
 use Rattle.pt_composite.proofs.HeldLaws.{held-length, held-append}
 use Rattle.pt_composite.proofs.NodeLaws.{map-append}
-
--- ---- children as a list
-
-pub list-again : (ss : List Shown) → list_of (all_of ss) ≡ ss
-list-again [] = refl
-list-again (s ∷ ss) = ap (λ v. s ∷ v) (list-again ss)
-
-pub nodes-list : (ss : List Shown) → tree.list_of (nodes_of (all_of ss)) ≡ trees_of ss
-nodes-list [] = refl
-nodes-list (s ∷ ss) = ap (λ v. node_of s ∷ v) (nodes-list ss)
-
-pub nodes-are : (ss : List Shown) → nodes_of (all_of ss) ≡ tree.nodes_of (trees_of ss)
-nodes-are [] = refl
-nodes-are (s ∷ ss) = ap (λ v. tree.more (node_of s) v) (nodes-are ss)
-
-all-fit : (ss : List Shown) → AllFresh ss → AllFit (all_of ss)
-all-fit [] f = tt
-all-fit (s ∷ ss) f = (f.0.fit, all-fit ss f.1)
-
-all-steady : (ss : List Shown) → AllFresh ss → AllSteady (all_of ss)
-all-steady [] f = tt
-all-steady (s ∷ ss) f = (f.0.steady, all-steady ss f.1)
-
-all-start : (ss : List Shown) → AllFresh ss → AllAtStart rows (nodes_of (all_of ss))
-all-start [] f = tt
-all-start (s ∷ ss) f = (f.0.start, all-start ss f.1)
-
-all-fitting : (ss : List Shown) → AllFresh ss → AllFitting (nodes_of (all_of ss))
-all-fitting [] f = tt
-all-fitting (s ∷ ss) f = (f.0.fitting, all-fitting ss f.1)
-
-all-plans : (ss : List Shown) → AllFresh ss → AllPlans (nodes_of (all_of ss))
-all-plans [] f = tt
-all-plans (s ∷ ss) f = (f.0.plans, all-plans ss f.1)
-
-all-unrecorded : (ss : List Shown) → AllFresh ss → AllUnrecorded (all_of ss)
-all-unrecorded [] f = tt
-all-unrecorded (s ∷ ss) f = (f.0.unrecorded, all-unrecorded ss f.1)
 
 -- ---- first tokens
 
@@ -98,8 +62,8 @@ module _ (around : Around) (kids : List Shown) (path : List ℕ) (records : List
   abbrev core : State
   core = started (plan_of p) p.needs first
 
-  abbrev built : Shown
-  built = Branch (record { past = tree.unfired; body = body.Composite (director.Sdf core); records = records; path = path; live = true }) (all_of kids)
+  abbrev made : Shown
+  made = built (First core) kids path records
 
   sources-are : (plan_of p).net.sources ≡ map source_of (sources_of x)
   sources-are = ap (λ (n : net.Net). n.sources) plan.net
@@ -133,24 +97,32 @@ module _ (around : Around) (kids : List Shown) (path : List ℕ) (records : List
     needs = subst (λ (v : List Tree). needs_of (facts_of rows) v ≡ planned p.places p.needs) (sym (nodes-list kids)) needs-are;
   }
 
+  ready : Fits rows core (tree.list_of (nodes_of (all_of kids)))
+  ready = record {
+    idle = refl;
+    fitting = fits;
+    starts = omega (arith, enough, long);
+    steady = subst (λ (v : List Tree). AllSteady rows v) (sym (nodes-list kids)) (all-steady kids fresh is.steady);
+  }
+
   entries : length p.places ≡ length (tree.list_of (nodes_of (all_of kids)))
   entries = sym (planned-length p.places p.needs) ∙ sym (ap (λ v. length v) fits.needs) ∙ needs-length (facts_of rows) (tree.list_of (nodes_of (all_of kids)))
 
-  node : node_of built ≡ tree.composite (tree.Sdf (plan_of p) (first_held rows (trees_of kids) (plan_of p).net.sources)) (trees_of kids)
+  node : node_of made ≡ tree.composite (tree.Sdf (plan_of p) (first_held rows (trees_of kids) (plan_of p).net.sources)) (trees_of kids)
   node = ap₂ (λ (v : Streams Token) ks. tree.Composite tree.unfired (tree.Sdf (plan_of p) v) (tree.Sdf (plan_of p) v) ks) held (nodes-are kids)
 
-  start : IsAtStart rows (node_of built)
+  start : IsAtStart rows (node_of made)
   start = (refl, refl, subst (λ (v : List Tree). first ≡ first_held rows v (plan_of p).net.sources) (sym (nodes-list kids)) held, all-start kids fresh)
 
-  fitting : IsFitting (node_of built)
+  fitting : IsFitting (node_of made)
   fitting =
       let has : (length p.places ≡ length (tree.list_of (nodes_of (all_of kids)))) × (length p.repetitions ≡ length (tree.list_of (nodes_of (all_of kids)))) × (length p.rates.items ≡ length (tree.list_of (nodes_of (all_of kids)))) = (entries, fits.repetitions ∙ entries, fits.rates ∙ entries) in
       (has, has, all-fitting kids fresh)
 
-  plans : ArePlans (node_of built)
+  plans : ArePlans (node_of made)
   plans = (enough, all-plans kids fresh)
 
-  pub composite-is : IsComposite around kids path records built
+  pub composite-is : IsSdfComposite around kids path records made
   composite-is = record {
     inside = x;
     is_inside = is;
@@ -160,5 +132,5 @@ module _ (around : Around) (kids : List Shown) (path : List ℕ) (records : List
     children = list-again kids;
     path_is = refl;
     records_are = refl;
-    fresh = record { live = refl; fit = ((refl, fits, all-steady kids fresh), all-fit kids fresh); steady = tt; rated = tt; start = start; fitting = fitting; plans = plans; unrecorded = (empty, all-unrecorded kids fresh) };
+    fresh = record { live = refl; fit = (ready, all-fit kids fresh); start = start; fitting = fitting; plans = plans; unrecorded = (empty, all-unrecorded kids fresh) };
   }

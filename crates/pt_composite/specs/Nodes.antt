@@ -1,0 +1,11 @@
+-- The node of a composite as it is built.
+use Rattle.std.specs.Prelude.{ℕ, List, true}
+use Rattle.pt_meaning.specs.Tree as tree
+use Rattle.pt_directors.specs.Directors.{Director}
+use Rattle.pt_node.specs.declared.body.Body.TheVariants as body
+use Rattle.pt_node.specs.Recorded.{RecordedPort}
+use Rattle.pt_node.specs.Shown.{Shown, Branch, all_of}
+
+-- it is live and has not fired, with these children, under this path and with these recorded outputs
+abbrev pub built : Director → List Shown → (path : List ℕ) → List RecordedPort → Shown
+built director kids path records = Branch (record { past = tree.unfired; body = body.Composite director; records = records; path = path; live = true }) (all_of kids)
