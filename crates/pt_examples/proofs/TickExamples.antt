@@ -19,4 +19,11 @@ tick_examples = record {
   counts = refl;
   second_token = refl;
   sums_inputs = refl;
+  both_present = refl;
+  both_absent = refl;
+  one_over = refl;
+  inputs_over = refl;
+  iterations_made = refl;
+  without_tokens = refl;
+  without_inputs = refl;
 }
