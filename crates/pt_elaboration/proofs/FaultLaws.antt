@@ -20,7 +20,7 @@ use Rattle.pt_inequalities.specs.Typing.{IsTyping}
 use Rattle.pt_resolve.specs.Faults.{IsBroken, IsBrokenComposite, at_entity, at_composite}
 use Rattle.pt_charts.specs.Readable.{AreReadable, IsUnreadableAt}
 use Rattle.pt_start.specs.Misplaced.{IsMisplaced}
-use Rattle.pt_scopes.specs.Inputs as inputs
+use Rattle.pt_job.specs.Inputs as inputs
 use Rattle.pt_job.proofs.Members.{unmapped}
 use Rattle.pt_node.specs.Shown.{Shown}
 use Rattle.pt_trees.specs.Trees.{IsEntity, Starts}

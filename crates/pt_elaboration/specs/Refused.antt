@@ -16,7 +16,7 @@ use Rattle.pt_typing.specs.Least.{Assignment}
 use Rattle.pt_resolve.specs.Faults.{IsTypeFault}
 use Rattle.pt_charts.specs.Readable.{AreReadable, IsUnreadableAt}
 use Rattle.pt_start.specs.Misplaced.{IsMisplaced}
-use Rattle.pt_scopes.specs.Inputs.{IsInputFault}
+use Rattle.pt_job.specs.Inputs.{IsInputFault}
 use Rattle.pt_job.specs.Iterations.{iterations}
 use Rattle.pt_node.specs.Shown.{Shown}
 use Rattle.pt_trees.specs.Trees.{IsEntity, Starts}

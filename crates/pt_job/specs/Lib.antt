@@ -1,3 +1,4 @@
+pub mod Inputs
 pub mod Iterations
 pub mod Lookup
 pub mod Names

@@ -1,8 +1,10 @@
-ghost use Rattle.std.specs.Prelude.{◌≡◌, ℕ, List, map, Some, None, IsOk, IfOk, IfErr};
+ghost use Rattle.std.specs.Prelude.{◌≡◌, ℕ, List, map, Option, Some, None, Vec, false, IsOk, IfOk, IfErr};
+ghost use Rattle.std.specs.Global.{Global};
 ghost use Rattle.std.specs.List.{Contains};
+ghost use Rattle.pt_value.specs.declared.token.Token.{Token};
 ghost use Rattle.pt_scopes.specs.Scopes.{net_view};
 ghost use Rattle.pt_scopes.specs.Valued.{IsValued};
-ghost use Rattle.pt_scopes.specs.Inputs.{ComeTo, AreSupplied, IsInputFault, IsFaultOf};
+ghost use Rattle.pt_job.specs.Inputs.{ComeTo, AreSupplied, may_lack, IsInputFault, IsFaultOf};
 ghost use Rattle.pt_job.specs.Lookup.{IsLookup};
 
 use crate::lookup::Lookup;
@@ -28,48 +30,102 @@ fn present(alloc: Global, tokens: &[Option<Token>]) -> Result<Tokens, AllocError
     Ok(Tokens::of(present))
 }
 
-/// The tokens that come to a port of the top.
-fn tokens_to(
-    alloc: Global,
-    lookup: &Lookup,
-    values: &Values,
-    port: &str,
-) -> Result<Tokens, AllocError>
-    requires lookup { IsLookup lookup.now }
-    requires valued { IsValued (net_view lookup.now.net.now) values.now }
-    requires clean { (path : List ℕ) → IsInputFault (net_view lookup.now.net.now) path → ⊥ }
-    ensures { IfOk result (λ tokens. ComeTo (net_view lookup.now.net.now) values.now port.now tokens) }
+fn copy_of(alloc: Global, token: &Option<Token>) -> Result<Option<Token>, AllocError>
+    ensures { IfOk result (λ copy. copy ≡ token.now) }
 {
-    match lookup.input_to(port) {
-        Some(number) => present(alloc, values.inputs[number].as_slice()),
-        None => Ok(Tokens::new()),
+    match token {
+        Some(token) => Ok(Some(token.copy(alloc)?)),
+        None => Ok(None),
     }
 }
 
-/// For each input port of the top the tokens that come to it.
+/// A copy of tokens, of which some may be absent.
+fn copies(alloc: Global, tokens: &[Option<Token>]) -> Result<Vec<Option<Token>>, AllocError>
+    ensures { IfOk result (λ copies. copies.items ≡ tokens.now) }
+{
+    let mut copies = Vec::with_capacity(alloc, tokens.len())?;
+    for token in tokens {
+        copies.push(copy_of(alloc, token)?)?;
+    }
+    Ok(copies)
+}
+
+/// What comes to a port of the top.
+fn list_to<'v>(lookup: &Lookup, values: &'v Values, port: &str) -> &'v [Option<Token>]
+    requires lookup { IsLookup lookup.now }
+    requires valued { IsValued (net_view lookup.now.net.now) values.now }
+    requires clean { (path : List ℕ) → IsInputFault (net_view lookup.now.net.now) path → ⊥ }
+    ensures comes { ComeTo (net_view lookup.now.net.now) values.now port.now result.now }
+    ensures full { may_lack (net_view lookup.now.net.now) ≡ false → Contains result.now None → ⊥ }
+{
+    match lookup.input_to(port) {
+        Some(number) => values.inputs[number].as_slice(),
+        None => &[],
+    }
+}
+
+/// For each input port of the top the tokens that come to it, none of which is absent.
 fn supplied(alloc: Global, lookup: &Lookup, values: &Values) -> Result<Vec<Tokens>, AllocError>
     requires lookup { IsLookup lookup.now }
     requires valued { IsValued (net_view lookup.now.net.now) values.now }
     requires clean { (path : List ℕ) → IsInputFault (net_view lookup.now.net.now) path → ⊥ }
-    ensures { IfOk result (λ lists. AreSupplied (net_view lookup.now.net.now) values.now lists.items) }
+    requires present { may_lack (net_view lookup.now.net.now) ≡ false }
+    ensures { IfOk result (λ lists. AreSupplied (net_view lookup.now.net.now) values.now (map (λ (ts : List Token). map Some ts) lists.items)) }
 {
     let ports = own_inputs(alloc, lookup.net)?;
     let mut lists = Vec::with_capacity(alloc, ports.len())?;
     for port in &ports {
-        lists.push(tokens_to(alloc, lookup, values, port)?)?;
+        lists.push(present(alloc, list_to(lookup, values, port))?)?;
     }
     Ok(lists)
 }
 
-/// For each input port of the top the tokens that come to it. Refuses an input that names no input port of the top, names one
-/// that another names, has events, or has a token that is absent.
+/// For each input port of the top what comes to it.
+fn supplied_ticks(
+    alloc: Global,
+    lookup: &Lookup,
+    values: &Values,
+) -> Result<Vec<Vec<Option<Token>>>, AllocError>
+    requires lookup { IsLookup lookup.now }
+    requires valued { IsValued (net_view lookup.now.net.now) values.now }
+    requires clean { (path : List ℕ) → IsInputFault (net_view lookup.now.net.now) path → ⊥ }
+    ensures { IfOk result (λ lists. AreSupplied (net_view lookup.now.net.now) values.now (map (λ (ts : Vec (Option Token) Global). ts.items) lists.items)) }
+{
+    let ports = own_inputs(alloc, lookup.net)?;
+    let mut lists = Vec::with_capacity(alloc, ports.len())?;
+    for port in &ports {
+        lists.push(copies(alloc, list_to(lookup, values, port))?)?;
+    }
+    Ok(lists)
+}
+
+/// For each input port of the top the tokens that come to it, where none may be absent. Refuses an input that names no input
+/// port of the top, names one that another names, has events, or has a token that is absent.
 pub fn supply(alloc: Global, net: &Net, values: &Values) -> Result<Vec<Tokens>, DocFault>
-    requires { IsValued (net_view net.now) values.now }
-    ensures supplied { IfOk result (λ lists. AreSupplied (net_view net.now) values.now lists.items) }
+    requires valued { IsValued (net_view net.now) values.now }
+    requires present { may_lack (net_view net.now) ≡ false }
+    ensures supplied { IfOk result (λ lists. AreSupplied (net_view net.now) values.now (map (λ (ts : List Token). map Some ts) lists.items)) }
     ensures clean { IsOk result → (path : List ℕ) → IsInputFault (net_view net.now) path → ⊥ }
     ensures told { IfErr result (IsFaultOf (net_view net.now)) }
 {
     let lookup = Lookup::of(alloc, net)?;
     lookup.check(alloc)?;
     Ok(supplied(alloc, &lookup, values)?)
+}
+
+/// For each input port of the top what comes to it at each tick, `None` where the token is absent. Refuses the same inputs, but
+/// those with an absent token where it may be.
+pub fn supply_ticks(
+    alloc: Global,
+    net: &Net,
+    values: &Values,
+) -> Result<Vec<Vec<Option<Token>>>, DocFault>
+    requires { IsValued (net_view net.now) values.now }
+    ensures supplied { IfOk result (λ lists. AreSupplied (net_view net.now) values.now (map (λ (ts : Vec (Option Token) Global). ts.items) lists.items)) }
+    ensures clean { IsOk result → (path : List ℕ) → IsInputFault (net_view net.now) path → ⊥ }
+    ensures told { IfErr result (IsFaultOf (net_view net.now)) }
+{
+    let lookup = Lookup::of(alloc, net)?;
+    lookup.check(alloc)?;
+    Ok(supplied_ticks(alloc, &lookup, values)?)
 }

@@ -7,5 +7,5 @@ mod lookup;
 mod names;
 mod ports;
 
-pub use inputs::supply;
+pub use inputs::{supply, supply_ticks};
 pub use iteration_count::iterations;

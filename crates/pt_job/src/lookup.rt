@@ -1,12 +1,12 @@
 ghost use Rattle.std.specs.Prelude.{◌≡◌, ℕ, List, IsOk, IfOk, IfErr, slice_get, Some};
 ghost use Rattle.pt_document.specs.View.{input_view};
 ghost use Rattle.pt_scopes.specs.Scopes.{net_view};
-ghost use Rattle.pt_scopes.specs.Inputs as inputs;
-ghost use Rattle.pt_scopes.specs.Inputs.{IsInputFault, IsFaultOf};
+ghost use Rattle.pt_job.specs.Inputs as inputs;
+ghost use Rattle.pt_job.specs.Inputs.{IsInputFault, IsFaultOf};
 ghost use Rattle.pt_job.specs.Lookup.{IsLookup};
 
 use crate::names::{Places, name_places};
-use crate::ports::{is_full, named_ports, own_inputs};
+use crate::ports::{is_full, may_lack, named_ports, own_inputs};
 use pt_document::{Code, DocFault, Input, refused};
 use pt_net::{Net, shown};
 use std::alloc::{AllocError, Global};
@@ -15,6 +15,8 @@ use std::alloc::{AllocError, Global};
 #[derive(Drop)]
 pub struct Lookup<'k> {
     pub net: &'k Net,
+    /// Whether a token may be absent.
+    pub may_lack: bool,
     pub ports: Places<&'k str>,
     pub inputs: Places<&'k str>,
 }
@@ -28,6 +30,7 @@ impl<'k> Lookup<'k> {
         let inputs = named_ports(alloc, &net.inputs)?;
         Ok(Lookup {
             net,
+            may_lack: may_lack(net),
             ports: name_places(alloc, &ports)?,
             inputs: name_places(alloc, &inputs)?,
         })
@@ -64,7 +67,7 @@ impl<'k> Lookup<'k> {
         ensures { result ≡ inputs.fits (net_view self.now.net.now) number (input_view input.now) }
     {
         let port = input.port.as_str();
-        self.is_port(port) && self.is_first(number, port) && is_full(&input.supply)
+        self.is_port(port) && self.is_first(number, port) && is_full(self.may_lack, &input.supply)
     }
 
     /// Refuses the first input that doesn't fit the top.

@@ -1,15 +1,16 @@
-ghost use Rattle.std.specs.Prelude.{◌≡◌, map, filter, IfOk};
+ghost use Rattle.std.specs.Prelude.{◌≡◌, map, filter, option_map, IfOk};
 ghost use Rattle.std.specs.List.{list_all};
 ghost use Rattle.std.specs.Option.{is_some};
 ghost use Rattle.pt_document.specs.View.{port_view, input_view, supply_view};
+ghost use Rattle.pt_net.specs.Net.{director_view};
 ghost use Rattle.pt_scopes.specs.Scopes.{net_view};
 ghost use Rattle.pt_scopes.specs.Sites.{port_name, is_input_port};
 ghost use Rattle.pt_job.specs.Names.{texts};
-ghost use Rattle.pt_scopes.specs.Inputs as inputs;
-ghost use Rattle.pt_scopes.specs.Inputs.{own_inputs};
+ghost use Rattle.pt_job.specs.Inputs as inputs;
+ghost use Rattle.pt_job.specs.Inputs.{own_inputs};
 
 use pt_document::{Direction, Input, Port, Supply};
-use pt_net::Net;
+use pt_net::{Net, NetDirector};
 use pt_value::Text;
 use std::alloc::{AllocError, Global};
 
@@ -63,12 +64,31 @@ fn are_present(texts: &[Option<Text>]) -> bool
     texts.iter().all(|text| text.is_some())
 }
 
-/// Whether tokens come to an input, and none of them is absent.
-pub fn is_full(supply: &Supply) -> bool
-    ensures { result ≡ inputs.is_full (supply_view supply.now) }
+fn has_ticks(director: &Option<NetDirector>) -> bool
+    ensures { result ≡ inputs.has_ticks (option_map director_view director.now) }
+{
+    match director {
+        Some(director) => director.class.as_str() == "SR",
+        None => false,
+    }
+}
+
+/// Whether a token may be absent: the top has the SR director.
+pub fn may_lack(net: &Net) -> bool
+    ensures { result ≡ inputs.may_lack (net_view net.now) }
+{
+    match net.entities.first() {
+        Some(top) => has_ticks(&top.director),
+        None => false,
+    }
+}
+
+/// Whether tokens come to an input, and none of them is absent where none may be.
+pub fn is_full(may_lack: bool, supply: &Supply) -> bool
+    ensures { result ≡ inputs.is_full may_lack (supply_view supply.now) }
 {
     match supply {
-        Supply::Tokens(texts) => are_present(texts),
+        Supply::Tokens(texts) => may_lack || are_present(texts),
         Supply::Events(_) => false,
     }
 }

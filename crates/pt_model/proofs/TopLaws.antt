@@ -1,9 +1,11 @@
 -- What is known of the node at the top of a net.
 use Rattle.std.proofs.Common.{◌≡◌, ℕ, ◌+◌, List, [], ◌∷◌, length, map, filter, refl, sym, ap, subst, ◌∙◌, Bool, true, false, cond, arith}
-use Rattle.std.specs.Prelude.{Option, Some, None, option_map, count_by, nat_eq, ◌&&◌}
+use Rattle.std.specs.Prelude.{Option, Some, None, option_map, count_by, nat_eq, ◌&&◌, bytes_eq, codes}
 use Rattle.std.proofs.lemmas.List.Recursion.{is_count_by}
 use Rattle.std.specs.Option.{is_none}
-use Rattle.std.proofs.lemmas.Option.{none-some, same_Some}
+use Rattle.std.proofs.lemmas.Bool.{and_parts}
+use Rattle.std.proofs.lemmas.Slice.Eq.{bytes_eq-Decides}
+use Rattle.pt_meaning.specs.Start.{first_held}
 use Rattle.pt_meaning.specs.Tree as tree
 use Rattle.pt_document.specs.declared.code.Code.TheVariants as code
 use Rattle.pt_document.specs.declared.job.Direction.{Direction}
@@ -23,19 +25,24 @@ use Rattle.pt_scopes.specs.Sites.{is_input_port, port_name, inputs_of}
 use Rattle.pt_start.specs.Places.{director_in}
 use Rattle.pt_start.specs.Misplaced.{undirected}
 use Rattle.pt_start.proofs.Outward.{view-at}
-use Rattle.pt_scopes.specs.Inputs.{inputs_at, own_inputs, ComeTo, AreSupplied}
+use Rattle.pt_job.specs.Inputs.{inputs_at, own_inputs, ComeTo, AreSupplied, has_ticks, ticks_at, may_lack}
 use Rattle.pt_node.specs.declared.body.Body.{Body}
 use Rattle.pt_node.specs.declared.body.Body.TheVariants.{Actor, Composite}
 use Rattle.pt_node.specs.Recorded.{RecordedPort}
 use Rattle.pt_node.specs.Shown.{Shown, AllShown, Branch, none, more, all_of, list_of}
-use Rattle.pt_node.specs.View.{node_of, nodes_of, node_with}
-use Rattle.pt_trees.specs.Composite.{children_in}
+use Rattle.pt_node.specs.View.{Tree, Trees, node_of, nodes_of, node_with}
+use Rattle.pt_library.specs.LibraryActor.{rows}
+use Rattle.pt_trees.specs.Composite.{children_in, trees_of}
 use Rattle.pt_trees.specs.Fresh as fresh
 use Rattle.pt_trees.specs.Fresh.{IsFresh}
-use Rattle.pt_trees.specs.Trees.{IsEntity, IsUndirected, Starts}
-use Rattle.pt_trees.specs.Built.{IsBuilt, AreBuilt, built_actor, built_sdf, none_built, more_built}
-use Rattle.pt_trees.specs.Start.{IsBranched, HasLeaves, AllHaveLeaves, AreUntold, IsUnrecorded, AllUnrecorded, takes_of, IsRunnable}
+use Rattle.pt_trees.specs.Trees.{IsEntity, IsUndirected, has_sdf, IsSdf, around_in, Starts}
+use Rattle.pt_trees.specs.Around.{tick_plan}
+use Rattle.pt_trees.specs.Built.{IsBuilt, AreBuilt, built_actor, built_sdf, built_sr, none_built, more_built}
+use Rattle.pt_trees.specs.Start.{IsBranched, HasLeaves, AllHaveLeaves, AreUntold, IsUnrecorded, AllUnrecorded, IsRunnable}
+use Rattle.pt_trees.specs.declared.top.Top.{Top}
+use Rattle.pt_trees.specs.Top.{IsJobFor}
 use Rattle.pt_elaboration.specs.Resolved.{IsPlaced}
+use Rattle.pt_model.specs.Model.{IsCompositeBody}
 use Rattle.pt_elaboration.proofs.Lists.{zip-length}
 
 -- ---- the top is a composite
@@ -48,26 +55,45 @@ pub top-directed : (net : Net) (values : Values) (e : NetEntity) → IsPlaced ne
 top-directed net values e placed at is =
     placed code.Place 0 (record { entity = entity_view e; at = view-at entity_view net.entities.items 0 e at; refused = undirected (top-misplaced e.director is) })
 
--- the node at the top takes so many tokens from each own input
-pub record HasTakes (net : Net) (s : Shown) : Type 0 where
+-- a core that an entity may have, with so many own inputs
+abbrev pub IsCoreOf : NetEntity → tree.Core Token → Type 0
+IsCoreOf e (tree.Sdf p X) = IsSdf e × (length p.takes ≡ count_by is_input e.ports.items)
+IsCoreOf e (tree.Pn p X) = ⊥
+IsCoreOf e (tree.Sr p) = p.inputs ≡ count_by is_input e.ports.items
+IsCoreOf e (tree.De p) = ⊥
+IsCoreOf e (tree.Rv p X) = ⊥
+IsCoreOf e (tree.Modal chart m) = ⊥
+
+-- the node at the top is a composite
+pub record HasCore (net : Net) (s : Shown) : Type 0 where
   pub entity : NetEntity
   pub at : IsEntity net 0 entity
-  pub takes : List ℕ
-  pub is : takes_of (node_of s) ≡ Some takes
-  pub counted : length takes ≡ count_by is_input entity.ports.items
+  pub core : tree.Core Token
+  pub kids : List Tree
+  pub node : node_of s ≡ tree.composite core kids
+  pub is : IsCoreOf entity core
 
-takes-at : {net : Net} {starts : Starts} {k : ℕ} {s : Shown} (values : Values) → IsPlaced net values → k ≡ 0 → IsBuilt net starts k s → HasTakes net s
-takes-at {net = net} values placed first (built_actor k e a at is starts_as) = absurd (top-directed net values e placed (subst (λ j. IsEntity net j e) first at) is)
-takes-at {net = net} values placed first (built_sdf k e kids s at sdf all is) = record {
+core-at : {net : Net} {starts : Starts} {k : ℕ} {s : Shown} (values : Values) → IsPlaced net values → k ≡ 0 → IsBuilt net starts k s → HasCore net s
+core-at {net = net} values placed first (built_actor k e a at is starts_as) = absurd (top-directed net values e placed (subst (λ j. IsEntity net j e) first at) is)
+core-at {net = net} values placed first (built_sdf k e kids s at sdf all is) = record {
   entity = e;
   at = subst (λ j. IsEntity net j e) first at;
-  takes = is.plan.takes;
-  is = ap takes_of is.node;
-  counted = is.planned.takes ∙ is.is_inside.inputs;
+  core = tree.Sdf is.plan (first_held rows (trees_of kids) is.plan.net.sources);
+  kids = trees_of kids;
+  node = is.node;
+  is = (sdf, is.planned.takes ∙ is.is_inside.inputs);
+}
+core-at {net = net} values placed first (built_sr k e kids s at sr all is) = record {
+  entity = e;
+  at = subst (λ j. IsEntity net j e) first at;
+  core = tree.Sr (tick_plan (around_in net k e));
+  kids = trees_of kids;
+  node = is.node;
+  is = refl;
 }
 
-pub top-takes : (net : Net) (values : Values) (starts : Starts) (s : Shown) → IsPlaced net values → IsBuilt net starts 0 s → HasTakes net s
-top-takes net values starts s placed is = takes-at values placed refl is
+pub top-core : (net : Net) (values : Values) (starts : Starts) (s : Shown) → IsPlaced net values → IsBuilt net starts 0 s → HasCore net s
+top-core net values starts s placed is = core-at values placed refl is
 
 -- ---- what comes to its inputs
 
@@ -88,11 +114,34 @@ input-more p ps =
 inputs-counted : (ps : List Port) → length (map port_name (filter is_input_port (map port_view ps))) ≡ count_by is_input ps
 inputs-counted ps = is_count_by (λ (qs : List Port). length (map port_name (filter is_input_port (map port_view qs)))) is_input refl input-more ps
 
-pub lists-counted : (net : Net) (values : Values) (s : Shown) (lists : List (List Token)) (takes : List ℕ) → HasTakes net s → AreSupplied (net_view net) values lists → takes_of (node_of s) ≡ Some takes → length lists ≡ length takes
-lists-counted net values s lists takes has supplied is =
-    let own : own_inputs (net_view net) ≡ inputs_of (entity_view has.entity) = ap inputs_at (view-at entity_view net.entities.items 0 has.entity has.at) in
-    let same : has.takes ≡ takes = same_Some has.takes takes (sym has.is ∙ is) in
-    sym (zip-length (ComeTo (net_view net) values) (own_inputs (net_view net)) lists supplied) ∙ ap (λ (v : List (List ℕ)). length v) own ∙ inputs-counted has.entity.ports.items ∙ sym has.counted ∙ ap (λ (v : List ℕ). length v) same
+pub lists-counted : (net : Net) (values : Values) (e : NetEntity) (lists : List (List (Option Token))) → IsEntity net 0 e → AreSupplied (net_view net) values lists → length lists ≡ count_by is_input e.ports.items
+lists-counted net values e lists at supplied =
+    let own : own_inputs (net_view net) ≡ inputs_of (entity_view e) = ap inputs_at (view-at entity_view net.entities.items 0 e at) in
+    sym (zip-length (ComeTo (net_view net) values) (own_inputs (net_view net)) lists supplied) ∙ ap (λ (v : List (List ℕ)). length v) own ∙ inputs-counted e.ports.items
+
+-- ---- its director
+
+-- what a node is
+abbrev pub body_of : Shown → Body
+body_of (Branch f ks) = f.body
+
+-- a composite has a director
+directed : (h : tree.Past) (b : Body) (kids : Trees) (c : tree.Core Token) (ns : List Tree) → node_with h b kids ≡ tree.composite c ns → IsCompositeBody b
+directed h (Actor held) kids c ns e = absurd (cc)
+directed h (Composite director) kids c ns e = tt
+
+pub top-directs : (net : Net) (s : Shown) → HasCore net s → IsCompositeBody (body_of s)
+top-directs net (Branch f ks) has = directed f.past f.body (nodes_of ks) has.core has.kids has.node
+
+-- under SDF no token may be absent
+sdf-full : (d : Option NetDirector) → has_sdf d ≡ true → has_ticks (option_map director_view d) ≡ false
+sdf-full None e = absurd (cc)
+sdf-full (Some d) e = ap (λ v. bytes_eq v (codes "SR")) ((bytes_eq-Decides d.class (codes "SDF")).0 e)
+
+pub sdf-present : (net : Net) (e : NetEntity) → IsEntity net 0 e → IsSdf e → may_lack (net_view net) ≡ false
+sdf-present net e at sdf =
+    ap (λ o. ticks_at o) (view-at entity_view net.entities.items 0 e at)
+    ∙ sdf-full e.director (and_parts (bytes_eq e.class (codes "Composite")) (has_sdf e.director) sdf).1
 
 -- ---- library actors have no children
 
@@ -100,17 +149,18 @@ all-list : (ks : AllShown) → all_of (list_of ks) ≡ ks
 all-list none = refl
 all-list (more s ss) = ap (λ v. more s v) (all-list ss)
 
-branched : (h : tree.Past) (b : Body) (ks : AllShown) (takes : List ℕ) → takes_of (node_with h b (nodes_of ks)) ≡ Some takes → IsBranched b ks
-branched h (Actor held) ks takes e = absurd (none-some takes e)
-branched h (Composite director) ks takes e = tt
+branched : (h : tree.Past) (b : Body) (ks : AllShown) (c : tree.Core Token) (ns : List Tree) → node_with h b (nodes_of ks) ≡ tree.composite c ns → IsBranched b ks
+branched h (Actor held) ks c ns e = absurd (cc)
+branched h (Composite director) ks c ns e = tt
 
-composite-leaves : (s : Shown) (kids : List Shown) (takes : List ℕ) → takes_of (node_of s) ≡ Some takes → children_in s ≡ kids → AllHaveLeaves (all_of kids) → HasLeaves s
-composite-leaves (Branch f ks) kids takes e children leaves = (branched f.past f.body ks takes e, subst (λ v. AllHaveLeaves v) (sym (ap all_of children) ∙ all-list ks) leaves)
+composite-leaves : (s : Shown) (kids : List Shown) (c : tree.Core Token) (ns : List Tree) → node_of s ≡ tree.composite c ns → children_in s ≡ kids → AllHaveLeaves (all_of kids) → HasLeaves s
+composite-leaves (Branch f ks) kids c ns e children leaves = (branched f.past f.body ks c ns e, subst (λ v. AllHaveLeaves v) (sym (ap all_of children) ∙ all-list ks) leaves)
 
 mutual
   pub built-leaves : {net : Net} {starts : Starts} {k : ℕ} {s : Shown} → IsBuilt net starts k s → HasLeaves s
   built-leaves (built_actor k e a at is starts_as) = (refl, tt)
-  built-leaves (built_sdf k e kids s at sdf all is) = composite-leaves s kids is.plan.takes (ap takes_of is.node) is.children (all-leaves all)
+  built-leaves (built_sdf k e kids s at sdf all is) = composite-leaves s kids _ _ is.node is.children (all-leaves all)
+  built-leaves (built_sr k e kids s at sr all is) = composite-leaves s kids _ _ is.node is.children (all-leaves all)
 
   all-leaves : {net : Net} {starts : Starts} {ks : List ℕ} {ss : List Shown} → AreBuilt net starts ks ss → AllHaveLeaves (all_of ss)
   all-leaves none_built = tt
@@ -131,13 +181,13 @@ mutual
   all-unrecorded (more s ss) h = (is-unrecorded s h.0, all-unrecorded ss h.1)
 
 -- a top that is fresh and built may be run
-pub is-runnable : (net : Net) (starts : Starts) (s : Shown) (takes : List ℕ) → IsBuilt net starts 0 s → IsFresh s → takes_of (node_of s) ≡ Some takes → IsRunnable takes s
-is-runnable net starts s takes built is takes_are = record {
+pub is-runnable : (net : Net) (starts : Starts) (s : Shown) (job : Top) → IsBuilt net starts 0 s → IsFresh s → IsJobFor job (node_of s) → IsRunnable job s
+is-runnable net starts s job built is fits = record {
   live = (is.live, is.fit);
   start = is.start;
   fitting = is.fitting;
   planned = is.plans;
   leaves = built-leaves built;
   unrecorded = is-unrecorded s is.unrecorded;
-  takes_are = takes_are;
+  fits = fits;
 }

@@ -11,12 +11,13 @@ use Rattle.pt_library.specs.declared.library_actor.LibraryActor.{LibraryActor}
 use Rattle.pt_start.specs.Started.{IsStart}
 use Rattle.pt_node.specs.View.{node_of}
 use Rattle.pt_trees.specs.Trees.{IsEntity, Starts}
+use Rattle.pt_trees.proofs.TopLaws.{is-whole}
 use Rattle.pt_typed.specs.RowLaw.{types_of_ports, AreStartedIn}
 use Rattle.pt_typed.proofs.TypedNets.{typed-nets-keep-types}
 use Rattle.pt_elaboration.specs.Resolved.{IsPlaced, AreStartsOf}
 use Rattle.pt_model.specs.Typed.{ModelsKeepTypes}
 use Rattle.pt_elaboration.proofs.Lists.{read}
-use Rattle.pt_model.proofs.TopLaws.{top-directed, top-takes, lists-counted}
+use Rattle.pt_model.proofs.TopLaws.{top-directed, top-core}
 
 -- each library actor starts as its parameters and types start it
 started-in : (net : Net) (values : Values) (typing : Assignment) (starts : Starts) → AreStartsOf net values typing starts → AreStartedIn net values typing starts
@@ -44,7 +45,7 @@ directed-top net values e placed at = by_director e.director refl
 pub models-keep-types : ModelsKeepTypes
 models-keep-types net top j doc model =
     let s = model.started in
-    let has = top-takes net model.values model.starts top s.placed model.built in
+    let has = top-core net model.values model.starts top s.placed model.built in
     let d = directed-top net model.values has.entity s.placed has.at in
     typed-nets-keep-types net model.values model.typing model.starts has.entity d.0 (node_of top) j doc s.resolved.valued s.resolved.typed (started-in net model.values model.typing model.starts s.started) model.tree has.at d.1 model.supplied
-    (sym (lists-counted net model.values top j.inputs.items j.takes has model.supplied model.takes_are))
+    (is-whole j (node_of top) model.fits)

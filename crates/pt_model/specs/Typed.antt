@@ -6,7 +6,7 @@ use Rattle.pt_net.specs.declared.net.Net.{Net}
 use Rattle.pt_library.specs.LibraryActor.{rows}
 use Rattle.pt_node.specs.Shown.{Shown}
 use Rattle.pt_node.specs.View.{node_of}
-use Rattle.pt_trees.specs.declared.job.SdfJob.{SdfJob}
+use Rattle.pt_trees.specs.declared.top.Top.{Top}
 use Rattle.pt_trees.specs.Run.{schedule}
 use Rattle.pt_kinds.specs.Signature.{IsTypedLog}
 use Rattle.pt_typed.specs.TokenTypes.{IsTokenOf}
@@ -15,9 +15,9 @@ use Rattle.pt_order.specs.Laws.{IsNetOfDocument}
 use Rattle.pt_model.specs.Model.{IsModel}
 
 -- In the meaning of a model of a net, under any meetings, at each fuel, each finished firing took at each place only tokens of the type that the net has there, and gave on each output only tokens of the type of that.
-abbrev pub KeepsTypes : (net : Net) (top : Shown) (j : SdfJob) → IsModel net top j → Type 0
+abbrev pub KeepsTypes : (net : Net) (top : Shown) (j : Top) → IsModel net top j → Type 0
 KeepsTypes net top j model = (m : Meets) (k : ℕ) → IsTypedLog IsTokenOf (types_below net model.typing 0) (meaning k rows m (schedule j) (node_of top))
 
 -- So it is of each model of the net of a document.
 abbrev pub ModelsKeepTypes : Type 0
-ModelsKeepTypes = (net : Net) (top : Shown) (j : SdfJob) → IsNetOfDocument net → (model : IsModel net top j) → KeepsTypes net top j model
+ModelsKeepTypes = (net : Net) (top : Shown) (j : Top) → IsNetOfDocument net → (model : IsModel net top j) → KeepsTypes net top j model

@@ -19,18 +19,18 @@ use pt_cover::ports_are_numbered;
 use pt_elaboration::{ModelFault, Started};
 use pt_net::Net;
 use pt_node::Node;
-use pt_trees::SdfJob;
+use pt_trees::Top;
 use std::alloc::Global;
 
 /// The model of a net: the tree of its nodes at their start, and what the job asks of the top.
 #[derive(Drop)]
 pub struct Model {
     pub top: Node,
-    pub job: SdfJob,
+    pub job: Top,
 }
 
 /// The model of this tree, where the job could be asked for. A tree is let go by a call, which keeps what that takes out of the proof.
-fn with_job(top: Node, job: Result<SdfJob, ModelFault>) -> Result<Model, ModelFault>
+fn with_job(top: Node, job: Result<Top, ModelFault>) -> Result<Model, ModelFault>
     ensures ok { IfOk result (λ model. (model.top ≡ top) × (job ≡ Ok model.job)) }
     ensures fault { IfErr result (λ fault. job ≡ Err fault) }
 {
@@ -49,7 +49,6 @@ fn model_with(alloc: Global, net: &Net, started: &Started) -> Result<Model, Mode
     ensures model { IfOk result (λ model. IsModel net.now (shown_node model.top) model.job) }
     ensures built { IfOk result (λ model. IsBuilt net.now started.now.starts.items 0 (shown_node model.top)) }
     ensures fresh { IfOk result (λ model. IsFresh (shown_node model.top)) }
-    ensures lists { IfOk result (λ model. length model.job.inputs.items ≡ length model.job.takes) }
     ensures stands { IfErr result (FaultStands net.now) }
 {
     let top = tree_of(alloc, net, started)?;
@@ -63,8 +62,7 @@ fn model_with(alloc: Global, net: &Net, started: &Started) -> Result<Model, Mode
 pub fn model_of(alloc: Global, net: &Net) -> Result<Model, ModelFault>
     requires { (job : JobTree) × ActorsAreLeaves job × IsNetOf job net.now }
     ensures model { IfOk result (λ model. IsModel net.now (shown_node model.top) model.job) }
-    ensures runnable { IfOk result (λ model. IsRunnable model.job.takes (shown_node model.top)) }
-    ensures lists { IfOk result (λ model. length model.job.inputs.items ≡ length model.job.takes) }
+    ensures runnable { IfOk result (λ model. IsRunnable model.job (shown_node model.top)) }
     ensures numbered { IfOk result (λ model. AreNumbered (length net.now.recorded.items) (shown_node model.top)) }
     ensures stands { IfErr result (FaultStands net.now) }
 {

@@ -1,19 +1,21 @@
-ghost use Rattle.std.specs.Prelude.{◌≡◌, Some, IfOk, IfErr, List, ℕ};
+ghost use Rattle.std.specs.Prelude.{◌≡◌, IfOk, IfErr};
 ghost use Rattle.pt_typing.specs.Least.{assignment};
 ghost use Rattle.pt_trees.specs.Fresh.{IsFresh};
+ghost use Rattle.pt_node.specs.declared.node.Node.{out-Node};
+ghost use Rattle.pt_node.specs.declared.body.Body.TheVariants.{Composite};
 ghost use Rattle.pt_node.specs.Shown.{shown_node};
-ghost use Rattle.pt_node.specs.View.{core_of, node_of};
+ghost use Rattle.pt_node.specs.View.{node_of};
 ghost use Rattle.pt_trees.specs.Trees.{IsTree, StartsAs};
 ghost use Rattle.pt_trees.specs.Built.{IsBuilt};
-ghost use Rattle.pt_trees.specs.Start.{core_takes, takes_of};
 ghost use Rattle.pt_elaboration.specs.Resolved.{IsStarted};
 ghost use Rattle.pt_elaboration.specs.Refused.{FaultStands};
+ghost use Rattle.pt_model.specs.Model.{IsCompositeBody};
 
 use pt_build::build;
+use pt_directors::Director;
 use pt_elaboration::{ModelFault, Started, unbuilt};
-use pt_firing::Counts;
 use pt_net::Net;
-use pt_node::{Body, Director, Node};
+use pt_node::{Body, Node};
 use pt_trees::BuildFault;
 use std::alloc::Global;
 
@@ -33,22 +35,13 @@ pub(crate) fn tree_of(alloc: Global, net: &Net, started: &Started) -> Result<Nod
     }
 }
 
-/// How many tokens an iteration takes from each own input, by the director.
-fn director_takes(director: &Director) -> &Counts
-    ensures { core_takes (core_of director.now) ≡ Some result.now }
+/// The director of a composite.
+pub(crate) fn director_of(node: &Node) -> &Director
+    requires { IsCompositeBody (out-Node node.now).body }
+    ensures { (out-Node node.now).body ≡ Composite result.now }
 {
-    match director {
-        Director::Sdf(core) => core.takes(),
-    }
-}
-
-/// How many tokens an iteration of an SDF composite takes from each own input.
-pub(crate) fn takes_of(top: &Node) -> &Counts
-    requires { (takes : List ℕ) × (takes_of (node_of (shown_node top.now)) ≡ Some takes) }
-    ensures { takes_of (node_of (shown_node top.now)) ≡ Some result.now }
-{
-    match &top.body {
-        Body::Composite(director) => director_takes(director),
+    match &node.body {
+        Body::Composite(director) => director,
         Body::Actor(_) => unreachable!(),
     }
 }

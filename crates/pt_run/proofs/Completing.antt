@@ -1,36 +1,45 @@
--- A job that its budget allows ends as the definitions say; and the loop over the iterations.
-use Rattle.std.proofs.Common.{◌≡◌, ℕ, suc, ◌+◌, ◌<◌, List, Bool, true, false, length, sym, ap, subst, ◌∙◌, arith, refl}
-use Rattle.pt_meaning.specs.Basics.{Streams, Path, Log}
-use Rattle.pt_meaning.specs.Tag.{origin}
+-- A job that its budget allows ends as the definitions say; and the loop over the firings of the top.
+use Rattle.std.proofs.Common.{◌≡◌, ℕ, suc, ◌+◌, ◌<◌, ◌≤◌, Option, Some, None, sym, ap, subst, ◌∙◌, arith, refl}
+use Rattle.pt_meaning.specs.Basics.{Tag, Streams, Path, Log}
 use Rattle.pt_meaning.specs.Meetings.{Meets}
-use Rattle.pt_meaning.specs.Step.{no_meetings}
+use Rattle.pt_meaning.specs.Step.{Step, no_meetings}
 use Rattle.pt_meaning.specs.Job as job
-use Rattle.pt_meaning.specs.Job.{meaning}
-use Rattle.pt_meaning.specs.Schedule.{portions, suffice}
+use Rattle.pt_meaning.specs.Job.{Schedule, meaning}
 use Rattle.pt_meaning.specs.Headline.{Ending, Defined, Faulty, Spent}
 use Rattle.pt_meaning.specs.Tree.{paths_of}
 use Rattle.pt_value.specs.declared.token.Token.{Token}
 use Rattle.pt_firing.specs.declared.answer.Answer.TheVariants as answer
 use Rattle.pt_firing.specs.declared.answer.Place.{Place}
 use Rattle.pt_records.specs.Kept.{GrewBy}
-use Rattle.pt_records.specs.Made.{made_if, meets_of, AreMade, AreMadeBefore}
+use Rattle.pt_records.specs.Fired.{FiresTo}
+use Rattle.pt_records.specs.Made.{made_if, meets_of, AreMadeBefore}
 use Rattle.pt_records.proofs.MadeLaws.{made-back, those-made}
+use Rattle.pt_library.specs.declared.library_actor.LibraryActor.{LibraryActor}
 use Rattle.pt_library.specs.LibraryActor.{rows}
 use Rattle.pt_node.specs.Live as live
 use Rattle.pt_node.specs.Shown.{Shown}
-use Rattle.pt_node.specs.View.{node_of, kept_of, count_of, outline_of, text_at}
+use Rattle.pt_node.specs.View.{Tree, node_of, kept_of, count_of, outline_of, text_at}
 use Rattle.pt_node.proofs.UnmetLaws.{node-unmet}
 use Rattle.pt_seq.specs.Within.{AnswersTo}
 use Rattle.pt_node.specs.Stuck.{fault_of}
-use Rattle.pt_trees.specs.declared.job.SdfJob.{SdfJob}
+use Rattle.pt_trees.specs.declared.top.Top.{Top}
 use Rattle.pt_trees.specs.declared.ended.Ended.{Ended}
 use Rattle.pt_trees.specs.declared.ended.Ended.TheVariants as ended
+use Rattle.pt_trees.specs.Top.{IsWhole}
 use Rattle.pt_trees.specs.Start.{IsRunnable}
 use Rattle.pt_trees.specs.Run.{schedule, Reports, IsRun, IsDefined, IsAffordable}
-use Rattle.pt_run.proofs.Counting.{none-counted}
-use Rattle.pt_run.proofs.Reaching.{Reached, IsLogOf, at-start, one-more, reported, iterations-made, inputs-over, spent-between, spent-within, stuck-within, count-below, takes-fit, portions-length}
+use Rattle.pt_run.specs.declared.turn.End.{End}
+use Rattle.pt_run.specs.declared.turn.End.TheVariants.{Iterations, Inputs}
+use Rattle.pt_run.specs.declared.turn.Firing.{Firing}
+use Rattle.pt_run.specs.declared.turn.Turn.{Turn}
+use Rattle.pt_run.specs.declared.turn.Turn.TheVariants.{Fire, Ends}
+use Rattle.pt_run.specs.Turn.{end_of, turn_of, IsNext, ended_by}
+use Rattle.pt_run.proofs.Counting.{none-counted, fires-count}
+use Rattle.pt_trees.proofs.TopLaws.{is-whole}
+use Rattle.pt_run.proofs.Turns.{takes-fit}
+use Rattle.pt_run.proofs.Reaching.{Reached, IsLogOf, at-start, one-more, reported, defined-end, spent-between, spent-within, stuck-within, count-below}
 
-pub is_complete : (j : SdfJob) (budget : ℕ) (old new : Shown) (e : Ended) → IsRun no_meetings j budget old new e → IsAffordable j budget (node_of old) → IsDefined e
+pub is_complete : (j : Top) (budget : ℕ) (old new : Shown) (e : Ended) → IsRun no_meetings j budget old new e → IsAffordable j budget (node_of old) → IsDefined e
 is_complete j budget old new ended.Iterations r a = tt
 is_complete j budget old new ended.Inputs r a = tt
 is_complete j budget old new (ended.Fault place) r a = a.never_stuck (fault_of r.0 place) (r.2 0).caused.0
@@ -52,61 +61,74 @@ its-own now p n = refl
 pub none-are-those : (now : Shown) → AreThose no_meetings now
 none-are-those now p n = sym (ap (λ v. made_if n v) (node-unmet now p))
 
--- After n iterations so much of the budget is left. The tree has come so far under the meetings that it recorded of the firings that are finished.
-pub record Going (iterations : ℕ) (takes : List ℕ) (inputs : Streams Token) (top : Shown) (budget n : ℕ) (now : Shown) (left : ℕ) : Type 0 where
+-- a turn that fires does so at this tag on these inputs, and one that ends by this end
+pub turn-fires : (plan : Schedule Token LibraryActor) (n : ℕ) (t : Turn) → IsNext plan n t → (f : Firing) → t ≡ Fire f → (X : Streams Token) → X ≡ f.inputs.items → (last : Option Tag) (top : Tree) → plan n last top ≡ job.Fire f.tag X
+turn-fires plan n t next f is X e last top = next last top ∙ ap turn_of is ∙ ap (λ Y. job.Fire f.tag Y) (sym e)
+
+pub turn-ends : (plan : Schedule Token LibraryActor) (n : ℕ) (t : Turn) → IsNext plan n t → (e : End) → t ≡ Ends e → (last : Option Tag) (top : Tree) → plan n last top ≡ job.Ends (end_of e)
+turn-ends plan n t next e is last top = next last top ∙ ap turn_of is
+
+-- After n firings so much of the budget is left. The tree has come so far under the meetings that it recorded of the firings that are finished.
+pub record Going (j : Top) (top : Shown) (budget n : ℕ) (now : Shown) (left : ℕ) : Type 0 where
+  pub last : Option Tag
   pub live : live.IsLive now
   pub outline : outline_of now ≡ outline_of top
-  pub reached : (m : Meets) → AreMadeBefore m (kept_of now) → Reached m iterations takes inputs top n now
+  pub reached : (m : Meets) → AreMadeBefore m (kept_of now) → Reached m j top n last now
   pub counted : left + count_of now ≡ budget
-  pub some : 0 < left
+  pub few : n ≤ count_of now
 
 -- ---- the ends of the code's loop
 
-module _ (j : SdfJob) (budget : ℕ) (old : Shown) (run : IsRunnable j.takes old) where
+module _ (j : Top) (budget : ℕ) (old : Shown) (run : IsRunnable j old) where
   abbrev pub GoingTo : ℕ → Shown → ℕ → Type 0
-  GoingTo n now left = Going j.iterations j.takes j.inputs.items old budget n now left
+  GoingTo n now left = Going j old budget n now left
 
-  pub begins : 0 < budget → GoingTo 0 old budget
-  begins b = record { live = run.live; outline = refl; reached = λ m made. at-start m j.iterations j.takes j.inputs.items old run; counted = let none = none-counted old run.leaves run.start in omega (arith, none); some = b }
+  pub whole : IsWhole j
+  whole = is-whole j (node_of old) run.fits
 
-  few : (n : ℕ) (now : Shown) (left : ℕ) → GoingTo n now left → count_of now < budget
-  few n now left g = omega (arith, g.counted, g.some)
+  pub begins : GoingTo 0 old budget
+  begins = record { last = None; live = run.live; outline = refl; reached = λ m made. at-start m j old run; counted = let none = none-counted old run.leaves run.start in omega (arith, none); few = omega arith }
 
   -- what it has come to by the meetings that it has recorded itself
-  self : (n : ℕ) (now : Shown) (left : ℕ) → GoingTo n now left → Reached (meets_of (kept_of now)) j.iterations j.takes j.inputs.items old n now
+  self : (n : ℕ) (now : Shown) (left : ℕ) → (g : GoingTo n now left) → Reached (meets_of (kept_of now)) j old n g.last now
   self n now left g = g.reached (meets_of (kept_of now)) (those-before (meets_of (kept_of now)) now (its-own now))
 
   -- what is told, from the log of the run
-  told : (m : Meets) (new : Shown) (e : Ending) → outline_of new ≡ outline_of old → IsLogOf m j.iterations j.takes j.inputs.items old budget new e → AreThose m new → (count : ℕ) → Reports m j budget count old new e
-  told m new e o l those count = reported m j.iterations j.takes j.inputs.items old run budget new e o l those count
+  told : (m : Meets) (new : Shown) (e : Ending) → outline_of new ≡ outline_of old → IsLogOf m j old budget new e → AreThose m new → (count : ℕ) → Reports m j budget count old new e
+  told m new e o l those count = reported m j old run budget new e o l those count
 
-  pub ends-all : (n : ℕ) (now : Shown) (left : ℕ) → GoingTo n now left → n ≡ j.iterations → (m : Meets) → AreThose m now → IsRun m j budget old now ended.Iterations
-  ends-all n now left g e m those =
-      let h : GoingTo j.iterations now left = subst (λ n. GoingTo n now left) e g in
-      told m now (Defined job.Iterations) h.outline (iterations-made m j.iterations j.takes j.inputs.items old run now (h.reached m (those-before m now those)) budget (few j.iterations now left h)) those
+  pub ends-defined : (n : ℕ) (now : Shown) (left : ℕ) → GoingTo n now left → 0 < left → (e : End) → ((last : Option Tag) (top : Tree) → schedule j n last top ≡ job.Ends (end_of e)) → (m : Meets) → AreThose m now → IsRun m j budget old now (ended_by e)
+  ends-defined n now left g some e turn m those = by_end e (λ count. told m now (Defined (end_of e)) g.outline (defined-end m j old run n g.last now (g.reached m (those-before m now those)) (end_of e) (turn g.last (node_of now)) budget (omega (arith, g.counted, some))) those count)
+    where
+      by_end : (e : End) → ((count : ℕ) → Reports m j budget count old now (Defined (end_of e))) → IsRun m j budget old now (ended_by e)
+      by_end Iterations r = r
+      by_end Inputs r = r
 
-  pub ends-inputs : (n : ℕ) (now : Shown) (left : ℕ) → GoingTo n now left → n < j.iterations → suffice n j.takes j.inputs.items ≡ false → (m : Meets) → AreThose m now → IsRun m j budget old now ended.Inputs
-  ends-inputs n now left g l s m those = told m now (Defined job.Inputs) g.outline (inputs-over m j.iterations j.takes j.inputs.items old run n now (g.reached m (those-before m now those)) l s budget (few n now left g)) those
+  -- between two firings nothing is left
+  pub ends-spent : (n : ℕ) (now : Shown) (left : ℕ) → GoingTo n now left → left ≡ 0 → (m : Meets) → AreThose m now → IsRun m j budget old now (ended.Spent budget)
+  ends-spent n now left g z m those =
+      let all : budget ≡ count_of now = omega (arith, z, g.counted) in
+      told m now (Spent budget) g.outline (spent-between m j old run n g.last now (g.reached m (those-before m now those)) budget budget all (omega arith)) those
 
   -- the next firing
-  module _ (n : ℕ) (now : Shown) (left : ℕ) (g : GoingTo n now left) (l : n < j.iterations) (s : suffice n j.takes j.inputs.items ≡ true) (X : Streams Token) (e : X ≡ portions n j.takes j.inputs.items) where
-    pub takes-inputs : length j.inputs.items ≡ length j.takes → live.Takes origin now X
-    takes-inputs long = takes-fit now j.takes origin X (self n now left g).takes_are (ap (λ v. length v) e ∙ portions-length n j.takes j.inputs.items long)
+  module _ (n : ℕ) (now : Shown) (left : ℕ) (g : GoingTo n now left) (tag : Tag) (X : Streams Token) (turn : (last : Option Tag) (top : Tree) → schedule j n last top ≡ job.Fire tag X) where
+    pub takes-inputs : live.Takes tag now X
+    takes-inputs = takes-fit now j n g.last tag X (self n now left g).fits whole (turn g.last (node_of now))
 
     module _ (new : Shown) (o : outline_of new ≡ outline_of now) where
       named : outline_of new ≡ outline_of old
       named = o ∙ g.outline
 
       -- before the firing by the meetings that were recorded after it
-      before : (m : Meets) (l : Log Token) → AreThose m new → GrewBy l (kept_of now) (kept_of new) → Reached m j.iterations j.takes j.inputs.items old n now
+      before : (m : Meets) (l : Log Token) → AreThose m new → GrewBy l (kept_of now) (kept_of new) → Reached m j old n g.last now
       before m l those grew = g.reached m (made-back m l (kept_of now) (kept_of new) grew (those-before m new those))
 
-      pub ends-fault : (place : Place) → AnswersTo now origin X left (answer.Fault place) new → (m : Meets) → AreThose m new → IsRun m j budget old new (ended.Fault place)
+      pub ends-fault : (place : Place) → AnswersTo now tag X left (answer.Fault place) new → (m : Meets) → AreThose m new → IsRun m j budget old new (ended.Fault place)
       ends-fault place a m those =
           let k = a m (those-made m (kept_of new) those) in (
             k.0,
             ap (λ v. text_at v k.0) (sym g.outline) ∙ k.1,
-            told m new (Faulty (fault_of k.0 place)) named (stuck-within m j.iterations j.takes j.inputs.items old run n now (before m k.2.log those k.2.kept) l s X e budget new (fault_of k.0 place) k.2) those,
+            told m new (Faulty (fault_of k.0 place)) named (stuck-within m j old run n g.last now (before m k.2.log those k.2.kept) tag X (turn g.last (node_of now)) budget new (fault_of k.0 place) k.2) those,
           )
 
       -- so much is left after it
@@ -114,34 +136,31 @@ module _ (j : SdfJob) (budget : ℕ) (old : Shown) (run : IsRunnable j.takes old
         counted : after + count_of new ≡ budget
         counted = omega (arith, h, g.counted)
 
-        pub ends-spent : (made : ℕ) → AnswersTo now origin X left (answer.Spent made) new → (m : Meets) → AreThose m new → IsRun m j budget old new (ended.Spent budget)
-        ends-spent made a m those =
+        pub ends-within : (made : ℕ) → AnswersTo now tag X left (answer.Spent made) new → (m : Meets) → AreThose m new → IsRun m j budget old new (ended.Spent budget)
+        ends-within made a m those =
             let all : budget ≡ count_of new = omega (arith, a.0, a.1, counted, h) in
             let k = a.2 m (those-made m (kept_of new) those) in
-            told m new (Spent budget) named (spent-within m j.iterations j.takes j.inputs.items old run n now (before m k.log those k.kept) l s X e budget budget new o k all (omega arith)) those
+            told m new (Spent budget) named (spent-within m j old run n g.last now (before m k.log those k.kept) tag X (turn g.last (node_of now)) budget budget new o k all (omega arith)) those
 
-        reached-then : (out : Streams Token) → AnswersTo now origin X left (answer.Done out) new → (m : Meets) → AreMadeBefore m (kept_of new) → Reached m j.iterations j.takes j.inputs.items old (suc n) new
-        reached-then out a m made = one-more m j.iterations j.takes j.inputs.items old n now (g.reached m) l s X e out left new a o made
+        module _ (out : Streams Token) (a : AnswersTo now tag X left (answer.Done out) new) where
+          -- a firing that is done is counted
+          more : count_of now < count_of new
+          more =
+              let m : Meets = meets_of (kept_of new) in
+              let f : FiresTo (λ k. Step k rows m (node_of now) tag X) (node_of new) out (kept_of now) (kept_of new) = a.0 m (those-before m new (its-own new)) in
+              fires-count m now new tag X out o f
 
-        pub ends-after : (out : Streams Token) → AnswersTo now origin X left (answer.Done out) new → after ≡ 0 → (m : Meets) → AreThose m new → IsRun m j budget old new (ended.Spent budget)
-        ends-after out a z m those =
-            let all : budget ≡ count_of new = omega (arith, z, counted) in
-            told m new (Spent budget) named (spent-between m j.iterations j.takes j.inputs.items old run (suc n) new (reached-then out a m (those-before m new those)) budget budget all (omega arith)) those
+          pub falls : after < left
+          falls = omega (arith, more, h)
 
-        pub goes-on : (out : Streams Token) → AnswersTo now origin X left (answer.Done out) new → 0 < after → GoingTo (n + 1) new after
-        goes-on out a some =
-            let one : suc n ≡ n + 1 = omega arith in
-            record {
-              live = a.1;
-              outline = named;
-              reached = λ m made. subst (λ n. Reached m j.iterations j.takes j.inputs.items old n new) one (reached-then out a m made);
-              counted = counted;
-              some = some;
-            }
-
--- what a test of a bool says
-pub is-true : (b a : Bool) → b ≡ a → b ≡ true → a ≡ true
-is-true b a e h = sym e ∙ h
-
-pub is-false : (b a : Bool) → b ≡ a → b ≡ false → a ≡ false
-is-false b a e h = sym e ∙ h
+          pub goes-on : GoingTo (n + 1) new after
+          goes-on =
+              let one : suc n ≡ n + 1 = omega arith in
+              record {
+                last = Some tag;
+                live = a.1;
+                outline = named;
+                reached = λ m made. subst (λ n. Reached m j old n (Some tag) new) one (one-more m j old n g.last now (g.reached m) tag X (turn g.last (node_of now)) out left new a o made);
+                counted = counted;
+                few = omega (arith, more, g.few);
+              }

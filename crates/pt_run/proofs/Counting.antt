@@ -1,13 +1,17 @@
 -- The number of firings that a tree counts is that of the log by which what is kept of it went on.
-use Rattle.std.proofs.Common.{◌≡◌, ℕ, zero, suc, ◌+◌, List, [], ◌∷◌, ◌++◌, refl, sym, ap, ap₂, ◌∙◌, arith}
-use Rattle.pt_meaning.specs.Basics.{Log, Path}
+use Rattle.std.proofs.Common.{◌≡◌, ℕ, zero, suc, ◌+◌, ◌<◌, List, [], ◌∷◌, ◌++◌, refl, sym, ap, ap₂, subst, ◌∙◌, arith}
+use Rattle.pt_meaning.specs.Basics.{Tag, Streams, Event, Finished, Met, Firing, Log, Path, own, log_then, firings_in}
 use Rattle.pt_meaning.specs.Headline as headline
 use Rattle.pt_meaning.specs.Start.{IsAtStart, AllAtStart}
 use Rattle.pt_meaning.specs.Tree as tree
 use Rattle.pt_meaning.specs.Tree.{below_path, paths_of, paths_from}
+use Rattle.pt_meaning.specs.Meetings.{Meets}
+use Rattle.pt_meaning.specs.Step.{step_at, Step}
 use Rattle.pt_value.specs.declared.token.Token.{Token}
 use Rattle.pt_records.specs.Kept.{Kept, Entry, kept_at, kept_by, GrewBy, count_kept}
+use Rattle.pt_records.specs.Fired.{FiresTo}
 use Rattle.pt_records.proofs.GrowthLaws.{grew-count}
+use Rattle.pt_records.proofs.SoFarLaws.{recorded-done}
 use Rattle.pt_node.specs.declared.body.Body.{Body}
 use Rattle.pt_node.specs.declared.body.Body.TheVariants.{Actor, Composite}
 use Rattle.pt_library.specs.LibraryActor.{rows}
@@ -97,3 +101,25 @@ count-is old new log h g o k =
   where
     none-before : (n : ℕ) → 0 + n ≡ n
     none-before n = omega arith
+
+-- a log that ends with the own firing has one at least
+own-counted : {T : Type 0} (es : List (Event T)) (f : Firing T) → 0 < firings_in (es ++ Finished [] f ∷ [])
+own-counted [] f = omega arith
+own-counted (Finished ns g ∷ es) f = omega (arith, own-counted es f)
+own-counted (Met ns n m ∷ es) f = own-counted es f
+
+-- So a tree that has fired counts more.
+pub fires-count : (m : Meets) (old new : Shown) (tag : Tag) (X out : Streams Token) → outline_of new ≡ outline_of old → FiresTo (λ k. Step k rows m (node_of old) tag X) (node_of new) out (kept_of old) (kept_of new) → count_of old < count_of new
+fires-count m old new tag X out o f =
+    let k : ℕ = f.done.0 in
+    let r = recorded-done (tree.made_of (node_of old)) tag X (step_at rows k (tree.height (node_of old)) m tag (node_of old) X) (node_of new) out f.log (f.done.1 k (omega arith)) in
+    let g : Firing Token = record { number = tree.made_of (node_of old); tag = tag; inputs = X; outputs = out } in
+    let some : 0 < firings_in (f.log []) = subst (λ (l : Log Token). 0 < firings_in (l [])) r.2 (own-counted (r.0 []) g) in
+    let more : count_kept (kept_of new) (paths_in (outline_of old)) ≡ count_kept (kept_of old) (paths_in (outline_of old)) + headline.count_of f.log (paths_in (outline_of old)) = grew-count f.log (kept_of old) (kept_of new) (paths_in (outline_of old)) f.kept in
+    let before : count_kept (kept_of old) (paths_in (outline_of old)) ≡ count_of old = counted old in
+    let after : count_kept (kept_of new) (paths_in (outline_of old)) ≡ count_of new = ap (λ v. count_kept (kept_of new) (paths_in v)) (sym o) ∙ counted new in
+    let first : 0 < headline.count_of f.log (paths_in (outline_of old)) = at-top (outline_of old) f.log some in
+    omega (arith, more, before, after, first)
+  where
+    at-top : (n : Outline) (l : Log Token) → 0 < firings_in (l []) → 0 < headline.count_of l (paths_in n)
+    at-top (Named text hs os) l h = omega (arith, h)

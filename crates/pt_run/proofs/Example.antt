@@ -1,17 +1,23 @@
 -- The example may be run.
-use Rattle.std.proofs.Common.{◌≡◌, ℕ, zero, suc, ◌+◌, ◌^◌, ◌<◌, ◌≤◌, List, [], ◌∷◌, length, get_or, refl, ap, arith}
+use Rattle.std.proofs.Common.{◌≡◌, ℕ, zero, suc, ◌+◌, ◌^◌, ◌<◌, ◌≤◌, List, [], ◌∷◌, length, get_or, refl, ap, subst, arith}
+use Rattle.std.proofs.lemmas.Option.{same_Some}
 use Rattle.pt_meaning.specs.Streams.{at}
 use Rattle.pt_meaning.specs.Start.{first_held}
-use Rattle.pt_meaning.specs.Tree.{list_of}
+use Rattle.pt_meaning.specs.Tree.{actor, list_of}
+use Rattle.pt_meaning.specs.NodeFacts.{need_of}
 use Rattle.pt_meaning.specs.Net.{Source, Own}
 use Rattle.pt_value.specs.declared.token.Token.{Token}
 use Rattle.pt_library.specs.LibraryActor.{rows}
 use Rattle.pt_node.specs.View.{Tree, nodes_of}
+use Rattle.pt_core.specs.Reached.{Always}
+use Rattle.pt_sdf.specs.SdfActs.{AllSteady}
 use Rattle.pt_sdf.specs.ByNeed.{place_of}
 use Rattle.pt_sdf.specs.Lawful.{IsLawful, IsNamed, IsSupplied, NeverLacks, occurs}
 use Rattle.pt_trees.specs.Ports.{AreNumbered, of_number, ports_in}
+use Rattle.pt_trees.specs.declared.top.SdfJob.{SdfJob}
+use Rattle.pt_trees.specs.declared.top.Top.TheVariants.{Sdf}
 use Rattle.pt_trees.specs.Start.{IsRunnable}
-use Rattle.pt_run.specs.Example.{own_from, bare, chain_plan, chain_kids, chain}
+use Rattle.pt_run.specs.Example.{own_from, bare, chain_plan, ramp, scale, chain_kids, chain}
 use Rattle.pt_run.proofs.Steady.{ramp-steady, scale-steady}
 
 lacks : NeverLacks (0 ∷ 1 ∷ []) 0 1 1 0 1
@@ -73,15 +79,20 @@ chain_lawful takes short = record {
   supplied = supplied takes;
 }
 
-pub chain_runnable : (takes path ramp_path scale_path text : List ℕ) → IsRunnable takes (chain takes path ramp_path scale_path text)
-chain_runnable takes path ramp_path scale_path text = record {
-  live = (refl, ((refl, record { repetitions = refl; rates = refl; channels = omega arith; needs = refl }, (ramp-steady _ (refl, refl), (scale-steady _, tt))), ((tt, tt), ((tt, tt), tt))));
-  start = (refl, refl, ap (λ X. [] ∷ X) (bare-held (list_of (nodes_of (chain_kids ramp_path scale_path text))) 0 takes), ((refl, refl), ((refl, refl), tt)));
+children-steady : (ramp_path scale_path text : List ℕ) → AllSteady rows (list_of (nodes_of (chain_kids ramp_path scale_path text)))
+children-steady ramp_path scale_path text zero child e = subst (λ (v : Tree). Always rows (λ node. need_of rows node ≡ need_of rows v) v) (same_Some (actor ramp) child e) (ramp-steady _ (refl, refl))
+children-steady ramp_path scale_path text (suc zero) child e = subst (λ (v : Tree). Always rows (λ node. need_of rows node ≡ need_of rows v) v) (same_Some (actor scale) child e) (scale-steady _)
+children-steady ramp_path scale_path text (suc (suc i)) child e = absurd (cc)
+
+pub chain_runnable : (j : SdfJob) → length j.inputs.items ≡ length j.takes → (path ramp_path scale_path text : List ℕ) → IsRunnable (Sdf j) (chain j.takes path ramp_path scale_path text)
+chain_runnable j lists path ramp_path scale_path text = record {
+  live = (refl, (record { idle = refl; fitting = record { repetitions = refl; rates = refl; channels = omega arith; needs = refl }; starts = omega arith; steady = children-steady ramp_path scale_path text }, ((tt, tt), ((tt, tt), tt))));
+  start = (refl, refl, ap (λ X. [] ∷ X) (bare-held (list_of (nodes_of (chain_kids ramp_path scale_path text))) 0 j.takes), ((refl, refl), ((refl, refl), tt)));
   fitting = ((refl, refl, refl), (refl, refl, refl), (tt, (tt, tt)));
   planned = (omega arith, (tt, (tt, tt)));
   leaves = (tt, ((refl, tt), ((refl, tt), tt)));
   unrecorded = (tt, ((tt, tt), (((refl, tt), tt), tt)));
-  takes_are = refl;
+  fits = (refl, lists);
 }
 
 pub chain_numbered : (takes path ramp_path scale_path text : List ℕ) → AreNumbered 1 (chain takes path ramp_path scale_path text)

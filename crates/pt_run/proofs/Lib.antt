@@ -1,10 +1,14 @@
 pub mod Course
 pub mod Unmet
+pub mod UnmetTicks
+pub mod UnmetRuns
 pub mod Counting
 pub mod Traces
 pub mod Gathering
 pub mod Walking
 pub mod Portions
+pub mod Ticks
+pub mod Turns
 pub mod Reaching
 pub mod Completing
 pub mod Steady

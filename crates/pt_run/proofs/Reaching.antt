@@ -1,93 +1,46 @@
 -- The top after whole firings, one more, and what a run comes to where it ends.
-use Rattle.std.proofs.Common.{◌≡◌, ℕ, zero, suc, ◌<◌, ◌≤◌, max, List, [], ◌∷◌, ◌++◌, true, false, length, Option, Some, None, refl, sym, ap, ap₂, subst, ◌∙◌, arith, nat_lt}
-use Rattle.std.proofs.lemmas.Bool.Decides.{nat_tests}
+use Rattle.std.proofs.Common.{◌≡◌, ℕ, zero, suc, ◌<◌, ◌≤◌, max, List, [], ◌∷◌, ◌++◌, Option, Some, None, refl, sym, ap, subst, ◌∙◌, arith}
 use Rattle.pt_meaning.specs.Basics.{Tag, Streams, IsPrefix, Path, Event, Finished, Met, Log, LogBelow, silent, log_then, firings_in}
-use Rattle.pt_meaning.specs.Tag.{origin}
 use Rattle.pt_meaning.specs.Log.{meetings_in}
 use Rattle.pt_meaning.specs.Machine.{Fault, Outcome, Done, Stuck}
 use Rattle.pt_meaning.specs.Meetings.{Meets}
-use Rattle.pt_meaning.specs.Tree as tree
-use Rattle.pt_meaning.specs.Tree.{Rows, Node}
-use Rattle.pt_meaning.specs.Step.{step_at, Step}
+use Rattle.pt_meaning.specs.Tree.{Node}
+use Rattle.pt_meaning.specs.Step.{Step}
 use Rattle.pt_meaning.specs.Job as job
-use Rattle.pt_meaning.specs.Job.{End, Turn, Fire, Schedule, Course, Standing, Goes, Halted, on_step, on_turn, after, log_of, begin, meaning, IsPrefixOfMeaning, IsMeaning, EndsBy, IsStuckPlace}
-use Rattle.pt_meaning.specs.Schedule.{portions, suffice, if_more, sdf_top}
+use Rattle.pt_meaning.specs.Job.{End, Fire, Schedule, Course, Standing, Goes, Halted, on_step, on_turn, after, log_of, begin, meaning, IsPrefixOfMeaning}
 use Rattle.pt_meaning.specs.Headline.{Ending, Defined, Faulty, Spent, IsUpTo, IsCaused, IsReportOf, count_of}
 use Rattle.pt_meaning.specs.Closed.{UnderWay, IsClosedRun}
 use Rattle.pt_laws.specs.LogsOfRuns.{log_in}
 use Rattle.pt_laws.proofs.Order.{IsPrefix-trans, IsPrefix-after}
-use Rattle.pt_laws.proofs.FiringLaws.{done-within}
 use Rattle.pt_value.specs.declared.token.Token.{Token}
 use Rattle.pt_firing.specs.declared.answer.Answer.TheVariants as answer
 use Rattle.pt_records.specs.Kept.{GrewBy}
-use Rattle.pt_records.specs.Made.{made_if, meets_of, AreMade, AreMadeBefore}
+use Rattle.pt_records.specs.Made.{made_if, meets_of, AreMadeBefore}
 use Rattle.pt_records.specs.Fired.{FromSome, FiresTo, SticksAt, LeavesOff}
 use Rattle.pt_records.specs.Shut.{IsShut, IsReached}
 use Rattle.pt_records.proofs.RunShutLaws.{runs-are-shut}
 use Rattle.pt_records.proofs.GrowthLaws.{grew-none, grew-joined}
 use Rattle.pt_records.proofs.MadeLaws.{grew-met, made-back}
-use Rattle.pt_records.proofs.SoFarLaws.{recorded-done}
-use Rattle.pt_node.specs.declared.body.Body.{Body}
-use Rattle.pt_node.specs.declared.body.Body.TheVariants as body
-use Rattle.pt_node.specs.declared.director.Director.TheVariants.{Sdf}
 use Rattle.pt_library.specs.declared.library_actor.LibraryActor.{LibraryActor}
 use Rattle.pt_library.specs.LibraryActor.{rows}
-use Rattle.pt_node.specs.Shown.{Shown, AllShown, Branch, none, more}
+use Rattle.pt_library.proofs.RowLaws.{rows_lawful}
+use Rattle.pt_node.specs.Shown.{Shown}
 use Rattle.pt_node.specs.View as view
-use Rattle.pt_node.specs.View.{node_of, nodes_of, node_with, kept_of, outline_of}
-use Rattle.pt_node.specs.Live as live
+use Rattle.pt_node.specs.View.{node_of, kept_of, outline_of}
 use Rattle.pt_node.specs.Live.{IsLive}
 use Rattle.pt_node.proofs.UnmetLaws.{node-unmet}
-use Rattle.pt_library.proofs.RowLaws.{rows_lawful}
 use Rattle.pt_seq.specs.Within.{AnswersTo}
+use Rattle.pt_trees.specs.declared.top.Top.{Top}
 use Rattle.pt_trees.specs.Ports.{recorded_ports, ports_of, traces_of}
-use Rattle.pt_trees.specs.Start.{takes_of, IsRunnable}
-use Rattle.pt_trees.specs.Run.{no_queues, counts_of}
+use Rattle.pt_trees.specs.Top.{IsJobFor}
+use Rattle.pt_trees.specs.Start.{IsRunnable}
+use Rattle.pt_trees.specs.Run.{schedule, no_queues, counts_of}
 use Rattle.pt_run.proofs.Course.{after-more, after-below, ended-at, halted-at}
-use Rattle.pt_run.proofs.Unmet.{IsSdfTree, AllSdfTrees, finished-before, no-meetings, meaning-unmet}
+use Rattle.pt_run.proofs.Unmet.{finished-before, no-meetings}
+use Rattle.pt_run.proofs.UnmetRuns.{meaning-unmet}
 use Rattle.pt_run.proofs.Counting.{count-is, none-at}
 use Rattle.pt_run.proofs.Traces.{traces-are}
-
--- every composite of the code is an SDF composite
-mutual
-  pub sdf-node : (s : Shown) → IsSdfTree (node_of s)
-  sdf-node (Branch f ks) = by_body f.body (sdf-nodes ks)
-    where
-      by_body : (b : Body) → AllSdfTrees (nodes_of ks) → IsSdfTree (node_with f.past b (nodes_of ks))
-      by_body (body.Actor held) kids = tt
-      by_body (body.Composite (Sdf s)) kids = (tt, kids)
-
-  sdf-nodes : (ks : AllShown) → AllSdfTrees (nodes_of ks)
-  sdf-nodes none = tt
-  sdf-nodes (more s ss) = (sdf-node s, sdf-nodes ss)
-
--- a firing keeps what an iteration takes
-takes-stay : {T A : Type 0} (rows : Rows T A) (k : ℕ) (m : Meets) (n z : Node T A) (tag : Tag) (X out : Streams T) (l : Log T) (takes : List ℕ) → takes_of n ≡ Some takes → step_at rows k (tree.height n) m tag n X ≡ Done z out l → takes_of z ≡ Some takes
-unfolding step_at
-takes-stay rows k m (tree.Actor h a b) z tag X out l takes e g = absurd (cc)
-takes-stay rows k m (tree.Composite h c (tree.Sdf p Y) kids) z tag X out l takes e g = ap (λ v. takes_of v) (done-within tag h c (tree.Sdf p) _ z out l g).state ∙ e
-takes-stay rows k m (tree.Composite h c (tree.Pn p Y) kids) z tag X out l takes e g = absurd (cc)
-takes-stay rows k m (tree.Composite h c (tree.Sr p) kids) z tag X out l takes e g = absurd (cc)
-takes-stay rows k m (tree.Composite h c (tree.De p) kids) z tag X out l takes e g = absurd (cc)
-takes-stay rows k m (tree.Composite h c (tree.Rv p Y) kids) z tag X out l takes e g = absurd (cc)
-takes-stay rows k m (tree.Composite h c (tree.Modal chart n) kids) z tag X out l takes e g = absurd (cc)
-
-takes-step : {T A : Type 0} (rows : Rows T A) (k : ℕ) (m : Meets) (n z : Node T A) (tag : Tag) (X out : Streams T) (l : Log T) (takes : List ℕ) → takes_of n ≡ Some takes → Step k rows m n tag X ≡ Done z out l → takes_of z ≡ Some takes
-takes-step rows k m n z tag X out l takes e g =
-    let r = recorded-done (tree.made_of n) tag X (step_at rows k (tree.height n) m tag n X) z out l g in takes-stay rows k m n z tag X out r.0 takes e r.1
-
--- with a list for each own input, the composite takes them
-pub takes-fit : (s : Shown) (takes : List ℕ) (tag : Tag) (X : Streams Token) → takes_of (node_of s) ≡ Some takes → length X ≡ length takes → live.Takes tag s X
-takes-fit (Branch f ks) takes tag X e l = by_body f.body e
-  where
-    by_body : (b : Body) → takes_of (node_with f.past b (nodes_of ks)) ≡ Some takes → live.TakesBody tag b X
-    by_body (body.Actor held) g = absurd (cc)
-    by_body (body.Composite (Sdf s)) g = let same : s.plan.takes ≡ takes = cc in l ∙ ap (λ v. length v) (sym same)
-
-pub portions-length : {T : Type 0} (n : ℕ) (takes : List ℕ) (X : Streams T) → length X ≡ length takes → length (portions n takes X) ≡ length takes
-portions-length n [] X e = refl
-portions-length n (t ∷ ts) [] e = absurd (omega (arith, e))
-portions-length n (t ∷ ts) (xs ∷ X) e = ap (λ k. suc k) (portions-length n ts X (omega (arith, e)))
+use Rattle.pt_run.proofs.Turns.{quiet-node, step-stays}
 
 -- what a turn of the top logs
 log-on-step : {T A : Type 0} (c : Course T A) (tag : Tag) (r : Outcome T (Node T A)) → log_of (on_step c tag r) ≡ log_then c.log (log_in r)
@@ -110,56 +63,52 @@ pub count-below : {T : Type 0} (l m : Log T) (ps : List Path) → LogBelow l m �
 count-below l m [] b = omega arith
 count-below l m (p ∷ ps) b = omega (arith, firings-below (l p) (m p) (b p), count-below l m ps b)
 
-abbrev pub last_tag : ℕ → Option Tag
-last_tag zero = None
-last_tag (suc n) = Some origin
-
-module _ (m : Meets) (iterations : ℕ) (takes : List ℕ) (inputs : Streams Token) (top : Shown) where
+module _ (m : Meets) (j : Top) (top : Shown) where
   abbrev pub plan : Schedule Token LibraryActor
-  plan = sdf_top iterations takes inputs
+  plan = schedule j
 
   abbrev pub first : Node Token LibraryActor
   first = node_of top
 
-  abbrev pub course_at : ℕ → Shown → Log Token → Course Token LibraryActor
-  course_at n now log = record { fired = n; last = last_tag n; top = node_of now; log = log }
+  abbrev pub course_at : ℕ → Option Tag → Shown → Log Token → Course Token LibraryActor
+  course_at n last now log = record { fired = n; last = last; top = node_of now; log = log }
 
-  -- After n firings that are done the tree is now, and what is kept of it went on by what they logged.
-  pub record Reached (n : ℕ) (now : Shown) : Type 0 where
+  -- After n firings that are done, the last of them at this tag, the tree is now, and what is kept of it went on by what they logged.
+  pub record Reached (n : ℕ) (last : Option Tag) (now : Shown) : Type 0 where
     pub live : IsLive now
     pub outline : outline_of now ≡ outline_of top
-    pub takes_are : takes_of (node_of now) ≡ Some takes
+    pub fits : IsJobFor j (node_of now)
     pub log : Log Token
-    pub goes : FromSome (λ k. after k rows m plan n (begin first) ≡ Goes (course_at n now log))
+    pub goes : FromSome (λ k. after k rows m plan n (begin first) ≡ Goes (course_at n last now log))
     pub kept : GrewBy log (kept_of top) (kept_of now)
 
-  pub at-start : IsRunnable takes top → Reached 0 top
+  pub at-start : IsRunnable j top → Reached 0 None top
   unfolding after
-  at-start r = record { live = r.live; outline = refl; takes_are = r.takes_are; log = silent; goes = (0, λ k l. refl); kept = grew-none (kept_of top) }
+  at-start r = record { live = r.live; outline = refl; fits = r.fits; log = silent; goes = (0, λ k l. refl); kept = grew-none (kept_of top) }
 
-  fires-next : (n : ℕ) → n < iterations → suffice n takes inputs ≡ true → (last : Option Tag) (node : Node Token LibraryActor) → plan n last node ≡ Fire origin (portions n takes inputs)
-  fires-next n l s last node = let b : nat_lt n iterations ≡ true = grind (arith, nat_tests) in ap₂ (λ x y. if_more x y origin (portions n takes inputs)) b s
+  -- what comes next there
+  abbrev pub Asks : (n : ℕ) (last : Option Tag) (now : Shown) → job.Turn Token → Type 0
+  Asks n last now turn = plan n last (node_of now) ≡ turn
 
   -- the next turn of the top, which fires
-  turned : (n : ℕ) (now : Shown) (r : Reached n now) → n < iterations → suffice n takes inputs ≡ true → (k : ℕ) → r.goes.0 ≤ k →
-      after k rows m plan (suc n) (begin first) ≡ on_step (course_at n now r.log) origin (Step k rows m (node_of now) origin (portions n takes inputs))
-  turned n now r l s k o =
-      after-more k rows m plan n (begin first) (course_at n now r.log) (r.goes.1 k o) ∙
-      ap (λ t. on_turn k rows m (course_at n now r.log) t) (fires-next n l s (last_tag n) (node_of now))
+  turned : (n : ℕ) (last : Option Tag) (now : Shown) (r : Reached n last now) (tag : Tag) (X : Streams Token) → Asks n last now (Fire tag X) → (k : ℕ) → r.goes.0 ≤ k →
+      after k rows m plan (suc n) (begin first) ≡ on_step (course_at n last now r.log) tag (Step k rows m (node_of now) tag X)
+  turned n last now r tag X e k o =
+      after-more k rows m plan n (begin first) (course_at n last now r.log) (r.goes.1 k o) ∙
+      ap (λ t. on_turn k rows m (course_at n last now r.log) t) e
 
   -- one firing more
-  pub one-more : (n : ℕ) (now : Shown) → (AreMadeBefore m (kept_of now) → Reached n now) → n < iterations → suffice n takes inputs ≡ true → (X : Streams Token) → X ≡ portions n takes inputs → (out : Streams Token) (allowance : ℕ) (new : Shown) →
-      AnswersTo now origin X allowance (answer.Done out) new → outline_of new ≡ outline_of now → AreMadeBefore m (kept_of new) → Reached (suc n) new
-  one-more n now before l s X e out allowance new a o made =
-      let P : Streams Token → Type 0 = λ Y. FiresTo (λ k. Step k rows m (node_of now) origin Y) (node_of new) out (kept_of now) (kept_of new) in
-      let f : P (portions n takes inputs) = subst P e (a.0 m made) in
+  pub one-more : (n : ℕ) (last : Option Tag) (now : Shown) → (AreMadeBefore m (kept_of now) → Reached n last now) → (tag : Tag) (X : Streams Token) → Asks n last now (Fire tag X) → (out : Streams Token) (allowance : ℕ) (new : Shown) →
+      AnswersTo now tag X allowance (answer.Done out) new → outline_of new ≡ outline_of now → AreMadeBefore m (kept_of new) → Reached (suc n) (Some tag) new
+  one-more n last now before tag X e out allowance new a o made =
+      let f : FiresTo (λ k. Step k rows m (node_of now) tag X) (node_of new) out (kept_of now) (kept_of new) = a.0 m made in
       let r = before (made-back m f.log (kept_of now) (kept_of new) f.kept made) in
       record {
         live = a.1;
         outline = o ∙ r.outline;
-        takes_are = takes-step rows f.done.0 m (node_of now) (node_of new) origin (portions n takes inputs) out f.log takes r.takes_are (f.done.1 f.done.0 (omega arith));
+        fits = step-stays j f.done.0 m (node_of now) (node_of new) tag X out f.log r.fits (f.done.1 f.done.0 (omega arith));
         log = log_then r.log f.log;
-        goes = (max r.goes.0 f.done.0, λ k q. turned n now r l s k (omega (arith, q)) ∙ ap (λ v. on_step (course_at n now r.log) origin v) (f.done.1 k (omega (arith, q))));
+        goes = (max r.goes.0 f.done.0, λ k q. turned n last now r tag X e k (omega (arith, q)) ∙ ap (λ v. on_step (course_at n last now r.log) tag v) (f.done.1 k (omega (arith, q))));
         kept = grew-joined r.log f.log (kept_of top) (kept_of now) (kept_of new) r.kept f.kept;
       }
 
@@ -174,13 +123,13 @@ module _ (m : Meets) (iterations : ℕ) (takes : List ℕ) (inputs : Streams Tok
     pub kept : GrewBy log (kept_of top) (kept_of new)
     pub caused : IsCaused rows m plan first budget no_queues log under_way e
 
-  pub reported : IsRunnable takes top → (budget : ℕ) (new : Shown) (e : Ending) → outline_of new ≡ outline_of top → IsLogOf budget new e → ((p : Path) (n : ℕ) → m p n ≡ meets_of (kept_of new) p n) → (count : ℕ) →
+  pub reported : IsRunnable j top → (budget : ℕ) (new : Shown) (e : Ending) → outline_of new ≡ outline_of top → IsLogOf budget new e → ((p : Path) (n : ℕ) → m p n ≡ meets_of (kept_of new) p n) → (count : ℕ) →
       IsReportOf rows m plan first (ports_of (recorded_ports count top)) budget no_queues (counts_of new) (traces_of (recorded_ports count new)) e
   unfolding after
   reported run budget new e o l those count = record {
     log = l.log;
     counted = λ p. omega (arith, (l.kept p).count, none-at top run.leaves run.start p);
-    legal = λ p n. (0, sym (met p n ∙ no-meetings n (l.log p) (finished-before (l.log p) (meaning l.prefix.0 rows m plan first p) (l.prefix.1 p) (meaning-unmet rows m plan first (sdf-node top) l.prefix.0 p))));
+    legal = λ p n. (0, sym (met p n ∙ no-meetings n (l.log p) (finished-before (l.log p) (meaning l.prefix.0 rows m plan first p) (l.prefix.1 p) (meaning-unmet rows m plan first (quiet-node top) l.prefix.0 p))));
     met = met;
     prefix = l.prefix;
     under_way = l.under_way;
@@ -193,104 +142,90 @@ module _ (m : Meets) (iterations : ℕ) (takes : List ℕ) (inputs : Streams Tok
       met : (p : Path) (n : ℕ) → m p n ≡ meetings_in n (l.log p)
       met p n = those p n ∙ sym (grew-met l.log (kept_of top) (kept_of new) l.kept p n (ap (λ v. made_if n v) (node-unmet top p)))
 
-  reached : IsRunnable takes top → (n : ℕ) (now : Shown) (r : Reached n now) → IsReached rows m plan first n (course_at n now r.log)
-  reached run n now r = record { fitting = run.fitting; planned = run.planned; start = run.start; goes = r.goes }
+  reached : IsRunnable j top → (n : ℕ) (last : Option Tag) (now : Shown) (r : Reached n last now) → IsReached rows m plan first n (course_at n last now r.log)
+  reached run n last now r = record { fitting = run.fitting; planned = run.planned; start = run.start; goes = r.goes }
 
   -- whole firings are a beginning of the meaning's log
-  whole-below : (n : ℕ) (now : Shown) (r : Reached n now) → (k : ℕ) → r.goes.0 ≤ k → n ≤ k → LogBelow r.log (meaning k rows m plan first)
-  whole-below n now r k o l = λ p. subst (λ (s : Standing Token LibraryActor). IsPrefix (log_of s p) (meaning k rows m plan first p)) (r.goes.1 k o) (after-below rows rows_lawful m plan first k n l p)
+  whole-below : (n : ℕ) (last : Option Tag) (now : Shown) (r : Reached n last now) → (k : ℕ) → r.goes.0 ≤ k → n ≤ k → LogBelow r.log (meaning k rows m plan first)
+  whole-below n last now r k o l = λ p. subst (λ (s : Standing Token LibraryActor). IsPrefix (log_of s p) (meaning k rows m plan first p)) (r.goes.1 k o) (after-below rows rows_lawful m plan first k n l p)
 
-  whole-shut : IsRunnable takes top → (n : ℕ) (now : Shown) (r : Reached n now) → (way : UnderWay Token) × ((k : ℕ) → LogBelow r.log (meaning k rows m plan first) → IsClosedRun rows m plan first (meaning k rows m plan first) r.log way)
-  whole-shut run n now r = (runs-are-shut {T = Token} {A = LibraryActor}).between rows rows_lawful m plan first n (course_at n now r.log) (reached run n now r)
+  whole-shut : IsRunnable j top → (n : ℕ) (last : Option Tag) (now : Shown) (r : Reached n last now) → (way : UnderWay Token) × ((k : ℕ) → LogBelow r.log (meaning k rows m plan first) → IsClosedRun rows m plan first (meaning k rows m plan first) r.log way)
+  whole-shut run n last now r = (runs-are-shut {T = Token} {A = LibraryActor}).between rows rows_lawful m plan first n (course_at n last now r.log) (reached run n last now r)
 
   -- a defined end
-  module _ (run : IsRunnable takes top) (n : ℕ) (now : Shown) (r : Reached n now) (e : End) (turn : plan n (last_tag n) (node_of now) ≡ job.Ends e) (budget : ℕ) (few : view.count_of now < budget) where
-    ends-at : (k : ℕ) → max r.goes.0 (suc n) ≤ k → after k rows m plan k (begin first) ≡ job.Ended e (course_at n now r.log)
+  module _ (run : IsRunnable j top) (n : ℕ) (last : Option Tag) (now : Shown) (r : Reached n last now) (e : End) (turn : Asks n last now (job.Ends e)) (budget : ℕ) (few : view.count_of now < budget) where
+    ends-at : (k : ℕ) → max r.goes.0 (suc n) ≤ k → after k rows m plan k (begin first) ≡ job.Ended e (course_at n last now r.log)
     ends-at k o =
-        ended-at rows m plan first k (suc n) (course_at n now r.log) e (omega (arith, o))
-        (after-more k rows m plan n (begin first) (course_at n now r.log) (r.goes.1 k (omega (arith, o))) ∙ ap (λ t. on_turn k rows m (course_at n now r.log) t) turn)
+        ended-at rows m plan first k (suc n) (course_at n last now r.log) e (omega (arith, o))
+        (after-more k rows m plan n (begin first) (course_at n last now r.log) (r.goes.1 k (omega (arith, o))) ∙ ap (λ t. on_turn k rows m (course_at n last now r.log) t) turn)
 
     pub defined-end : IsLogOf budget now (Defined e)
     defined-end =
         let k₁ : ℕ = max r.goes.0 (suc n) in
         record {
           log = r.log;
-          prefix = (k₁, whole-below n now r k₁ (omega arith) (omega arith));
-          under_way = (whole-shut run n now r).0;
-          shut = (whole-shut run n now r).1;
+          prefix = (k₁, whole-below n last now r k₁ (omega arith) (omega arith));
+          under_way = (whole-shut run n last now r).0;
+          shut = (whole-shut run n last now r).1;
           kept = r.kept;
           caused = (
             (k₁, λ k o p. sym (ap (λ (s : Standing Token LibraryActor). log_of s p) (ends-at k o))),
-            (k₁, course_at n now r.log, ends-at k₁ (omega arith)),
+            (k₁, course_at n last now r.log, ends-at k₁ (omega arith)),
             subst (λ c. c < budget) (count-is top now r.log run.leaves run.start r.outline r.kept) few,
           );
         }
 
-  pub iterations-made : IsRunnable takes top → (now : Shown) → Reached iterations now → (budget : ℕ) → view.count_of now < budget → IsLogOf budget now (Defined job.Iterations)
-  iterations-made run now r budget few =
-      let b : nat_lt iterations iterations ≡ false = grind (arith, nat_tests) in
-      defined-end run iterations now r job.Iterations (ap (λ x. if_more x (suffice iterations takes inputs) origin (portions iterations takes inputs)) b) budget few
-
-  pub inputs-over : IsRunnable takes top → (n : ℕ) (now : Shown) → Reached n now → n < iterations → suffice n takes inputs ≡ false → (budget : ℕ) → view.count_of now < budget → IsLogOf budget now (Defined job.Inputs)
-  inputs-over run n now r l s budget few =
-      let b : nat_lt n iterations ≡ true = grind (arith, nat_tests) in
-      defined-end run n now r job.Inputs (ap₂ (λ x y. if_more x y origin (portions n takes inputs)) b s) budget few
-
   -- the budget is spent between two firings
-  pub spent-between : IsRunnable takes top → (n : ℕ) (now : Shown) → Reached n now → (budget count : ℕ) → count ≡ view.count_of now → budget ≤ count → IsLogOf budget now (Spent count)
-  spent-between run n now r budget count e b =
+  pub spent-between : IsRunnable j top → (n : ℕ) (last : Option Tag) (now : Shown) → Reached n last now → (budget count : ℕ) → count ≡ view.count_of now → budget ≤ count → IsLogOf budget now (Spent count)
+  spent-between run n last now r budget count e b =
       let k₁ : ℕ = max r.goes.0 n in
       record {
         log = r.log;
-        prefix = (k₁, whole-below n now r k₁ (omega arith) (omega arith));
-        under_way = (whole-shut run n now r).0;
-        shut = (whole-shut run n now r).1;
+        prefix = (k₁, whole-below n last now r k₁ (omega arith) (omega arith));
+        under_way = (whole-shut run n last now r).0;
+        shut = (whole-shut run n last now r).1;
         kept = r.kept;
         caused = (e ∙ count-is top now r.log run.leaves run.start r.outline r.kept, b);
       }
 
   -- the run was left off within a firing, with a part of its log
-  module _ (run : IsRunnable takes top) (n : ℕ) (now : Shown) (r : Reached n now) (l : n < iterations) (s : suffice n takes inputs ≡ true) (place : Option Fault) (log : Log Token)
-      (part : IsShut rows m (node_of now) origin (portions n takes inputs) place log) (beginning : FromSome (λ k. LogBelow log (log_in (Step k rows m (node_of now) origin (portions n takes inputs))))) where
-    pub within-below : (k : ℕ) → max (max r.goes.0 beginning.0) (suc n) ≤ k → LogBelow (log_then r.log log) (meaning k rows m plan first)
-    within-below k o p =
-        let step = Step k rows m (node_of now) origin (portions n takes inputs) in
-        let is : log_of (after k rows m plan (suc n) (begin first)) ≡ log_then r.log (log_in step) = ap (λ s. log_of s) (turned n now r l s k (omega (arith, o))) ∙ log-on-step (course_at n now r.log) origin step in
-        IsPrefix-trans (r.log p ++ log p) (r.log p ++ log_in step p) (meaning k rows m plan first p)
-        (IsPrefix-after (r.log p) (log p) (log_in step p) (beginning.1 k (omega (arith, o)) p))
-        (subst (λ (v : Log Token). IsPrefix (v p) (meaning k rows m plan first p)) is (after-below rows rows_lawful m plan first k (suc n) (omega (arith, o)) p))
+  module _ (run : IsRunnable j top) (n : ℕ) (last : Option Tag) (now : Shown) (r : Reached n last now) (tag : Tag) (X : Streams Token) (turn : Asks n last now (Fire tag X)) where
+    module _ (place : Option Fault) (log : Log Token) (part : IsShut rows m (node_of now) tag X place log) (beginning : FromSome (λ k. LogBelow log (log_in (Step k rows m (node_of now) tag X)))) where
+      within-below : (k : ℕ) → max (max r.goes.0 beginning.0) (suc n) ≤ k → LogBelow (log_then r.log log) (meaning k rows m plan first)
+      within-below k o p =
+          let step = Step k rows m (node_of now) tag X in
+          let is : log_of (after k rows m plan (suc n) (begin first)) ≡ log_then r.log (log_in step) = ap (λ s. log_of s) (turned n last now r tag X turn k (omega (arith, o))) ∙ log-on-step (course_at n last now r.log) tag step in
+          IsPrefix-trans (r.log p ++ log p) (r.log p ++ log_in step p) (meaning k rows m plan first p)
+          (IsPrefix-after (r.log p) (log p) (log_in step p) (beginning.1 k (omega (arith, o)) p))
+          (subst (λ (v : Log Token). IsPrefix (v p) (meaning k rows m plan first p)) is (after-below rows rows_lawful m plan first k (suc n) (omega (arith, o)) p))
 
-    pub within-shut : (way : UnderWay Token) × ((k : ℕ) → LogBelow (log_then r.log log) (meaning k rows m plan first) → IsClosedRun rows m plan first (meaning k rows m plan first) (log_then r.log log) way) × ((f : Fault) → place ≡ Some f → IsUpTo (log_then r.log log) way f)
-    within-shut = (runs-are-shut {T = Token} {A = LibraryActor}).within rows rows_lawful m plan first n (course_at n now r.log) (reached run n now r) origin (portions n takes inputs) (fires-next n l s (last_tag n) (node_of now)) place log part beginning
+      within-shut : (way : UnderWay Token) × ((k : ℕ) → LogBelow (log_then r.log log) (meaning k rows m plan first) → IsClosedRun rows m plan first (meaning k rows m plan first) (log_then r.log log) way) × ((f : Fault) → place ≡ Some f → IsUpTo (log_then r.log log) way f)
+      within-shut = (runs-are-shut {T = Token} {A = LibraryActor}).within rows rows_lawful m plan first n (course_at n last now r.log) (reached run n last now r) tag X turn place log part beginning
 
-    pub left-off : (budget : ℕ) (new : Shown) (e : Ending) → GrewBy log (kept_of now) (kept_of new) → IsCaused rows m plan first budget no_queues (log_then r.log log) within-shut.0 e → IsLogOf budget new e
-    left-off budget new e k c = record {
-      log = log_then r.log log;
-      prefix = (max (max r.goes.0 beginning.0) (suc n), within-below (max (max r.goes.0 beginning.0) (suc n)) (omega arith));
-      under_way = within-shut.0;
-      shut = within-shut.1;
-      kept = grew-joined r.log log (kept_of top) (kept_of now) (kept_of new) r.kept k;
-      caused = c;
-    }
+      left-off : (budget : ℕ) (new : Shown) (e : Ending) → GrewBy log (kept_of now) (kept_of new) → IsCaused rows m plan first budget no_queues (log_then r.log log) within-shut.0 e → IsLogOf budget new e
+      left-off budget new e k c = record {
+        log = log_then r.log log;
+        prefix = (max (max r.goes.0 beginning.0) (suc n), within-below (max (max r.goes.0 beginning.0) (suc n)) (omega arith));
+        under_way = within-shut.0;
+        shut = within-shut.1;
+        kept = grew-joined r.log log (kept_of top) (kept_of now) (kept_of new) r.kept k;
+        caused = c;
+      }
 
-  -- the budget is spent within a firing
-  pub spent-within : IsRunnable takes top → (n : ℕ) (now : Shown) → Reached n now → n < iterations → suffice n takes inputs ≡ true → (X : Streams Token) → X ≡ portions n takes inputs → (budget count : ℕ) (new : Shown) → outline_of new ≡ outline_of now →
-      LeavesOff (λ k. Step k rows m (node_of now) origin X) (IsShut rows m (node_of now) origin X None) (kept_of now) (kept_of new) → count ≡ view.count_of new → budget ≤ count → IsLogOf budget new (Spent count)
-  spent-within run n now r l s X e budget count new o a c b =
-      let f : LeavesOff (λ k. Step k rows m (node_of now) origin (portions n takes inputs)) (IsShut rows m (node_of now) origin (portions n takes inputs) None) (kept_of now) (kept_of new) =
-      subst (λ Y. LeavesOff (λ k. Step k rows m (node_of now) origin Y) (IsShut rows m (node_of now) origin Y None) (kept_of now) (kept_of new)) e a in
-      let kept : GrewBy (log_then r.log f.log) (kept_of top) (kept_of new) = grew-joined r.log f.log (kept_of top) (kept_of now) (kept_of new) r.kept f.kept in
-      left-off run n now r l s None f.log f.part f.beginning budget new (Spent count) f.kept (c ∙ count-is top new (log_then r.log f.log) run.leaves run.start (o ∙ r.outline) kept, b)
+    -- the budget is spent within the firing
+    pub spent-within : (budget count : ℕ) (new : Shown) → outline_of new ≡ outline_of now →
+        LeavesOff (λ k. Step k rows m (node_of now) tag X) (IsShut rows m (node_of now) tag X None) (kept_of now) (kept_of new) → count ≡ view.count_of new → budget ≤ count → IsLogOf budget new (Spent count)
+    spent-within budget count new o f c b =
+        let kept : GrewBy (log_then r.log f.log) (kept_of top) (kept_of new) = grew-joined r.log f.log (kept_of top) (kept_of now) (kept_of new) r.kept f.kept in
+        left-off None f.log f.part f.beginning budget new (Spent count) f.kept (c ∙ count-is top new (log_then r.log f.log) run.leaves run.start (o ∙ r.outline) kept, b)
 
-  -- a firing is stuck
-  pub stuck-within : IsRunnable takes top → (n : ℕ) (now : Shown) → Reached n now → n < iterations → suffice n takes inputs ≡ true → (X : Streams Token) → X ≡ portions n takes inputs → (budget : ℕ) (new : Shown) (f : Fault) →
-      SticksAt (λ k. Step k rows m (node_of now) origin X) (IsShut rows m (node_of now) origin X (Some f)) f (kept_of now) (kept_of new) → IsLogOf budget new (Faulty f)
-  stuck-within run n now r l s X e budget new f a =
-      let P : Streams Token → Type 0 = λ Y. SticksAt (λ k. Step k rows m (node_of now) origin Y) (IsShut rows m (node_of now) origin Y (Some f)) f (kept_of now) (kept_of new) in
-      let g : P (portions n takes inputs) = subst P e a in
-      let k₁ : ℕ = max (max r.goes.0 g.stuck.0) (suc n) in
-      let there = g.stuck.1 k₁ (omega arith) in
-      let halts : after k₁ rows m plan (suc n) (begin first) ≡ Halted there.0 (log_then r.log there.1) = turned n now r l s k₁ (omega arith) ∙ ap (λ v. on_step (course_at n now r.log) origin v) there.2 in
-      let begins : FromSome (λ k. LogBelow g.log (log_in (Step k rows m (node_of now) origin (portions n takes inputs)))) = (g.stuck.0, λ k o. let at = g.stuck.1 k o in subst (λ v. LogBelow g.log (log_in v)) (sym at.2) at.4) in
-      left-off run n now r l s (Some f) g.log g.part begins budget new (Faulty f) g.kept
-      ((k₁, there.0, log_then r.log there.1, halted-at rows m plan first k₁ (suc n) there.0 (log_then r.log there.1) (omega arith) halts, there.3), (within-shut run n now r l s (Some f) g.log g.part begins).2 f refl)
+    -- the firing is stuck
+    pub stuck-within : (budget : ℕ) (new : Shown) (f : Fault) →
+        SticksAt (λ k. Step k rows m (node_of now) tag X) (IsShut rows m (node_of now) tag X (Some f)) f (kept_of now) (kept_of new) → IsLogOf budget new (Faulty f)
+    stuck-within budget new f g =
+        let k₁ : ℕ = max (max r.goes.0 g.stuck.0) (suc n) in
+        let there = g.stuck.1 k₁ (omega arith) in
+        let halts : after k₁ rows m plan (suc n) (begin first) ≡ Halted there.0 (log_then r.log there.1) = turned n last now r tag X turn k₁ (omega arith) ∙ ap (λ v. on_step (course_at n last now r.log) tag v) there.2 in
+        let begins : FromSome (λ k. LogBelow g.log (log_in (Step k rows m (node_of now) tag X))) = (g.stuck.0, λ k o. let at = g.stuck.1 k o in subst (λ v. LogBelow g.log (log_in v)) (sym at.2) at.4) in
+        left-off (Some f) g.log g.part begins budget new (Faulty f) g.kept
+        ((k₁, there.0, log_then r.log there.1, halted-at rows m plan first k₁ (suc n) there.0 (log_then r.log there.1) (omega arith) halts, there.3), (within-shut (Some f) g.log g.part begins).2 f refl)

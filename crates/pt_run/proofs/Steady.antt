@@ -1,8 +1,13 @@
 -- A ramp without a limit and a scale need the same at each firing.
-use Rattle.std.proofs.Common.{◌≡◌, List, [], ◌∷◌, Bool, true, false, if◌then◌else◌, Option, Some, None, ◌*ℤ◌, ℤ, refl, sym, ap, ap₂, subst, ◌∙◌}
+use Rattle.std.proofs.Common.{◌≡◌, ◌⊎◌, inl, inr, List, [], ◌∷◌, Bool, true, false, if◌then◌else◌, Option, Some, None, ◌*ℤ◌, ℤ, refl, sym, ap, ap₂, ◌∙◌}
 use Rattle.pt_meaning.specs.Basics.{Tag, Streams}
 use Rattle.pt_meaning.specs.Node.{Answer, Gives, Fails}
+use Rattle.pt_meaning.specs.Tree as tree
+use Rattle.pt_meaning.specs.NodeFacts.{need_of}
 use Rattle.pt_meaning.specs.Closed.{on_answer}
+use Rattle.pt_core.specs.Reached.{Becomes, Always}
+use Rattle.pt_core.proofs.ReachedLaws.{actor-becomes}
+use Rattle.pt_core.proofs.ReachedLaws as reached
 use Rattle.pt_value.specs.declared.token.Token.{Token}
 use Rattle.pt_firing.specs.Row.{fits_i64, exactly, rests, on_present, number_at}
 use Rattle.pt_flow_numbers.specs.declared.ramp.Ramp.{Ramp}
@@ -16,7 +21,26 @@ use Rattle.pt_flow_numbers.specs.Scale as scale
 use Rattle.pt_library.specs.declared.library_actor.LibraryActor.{LibraryActor}
 use Rattle.pt_library.specs.declared.library_actor.LibraryActor.TheVariants.{Flow}
 use Rattle.pt_library.specs.LibraryActor as library
-use Rattle.pt_library.specs.Steady.{after, IsSteadyActor}
+use Rattle.pt_library.specs.LibraryActor.{rows}
+use Rattle.pt_node.specs.View.{Tree}
+
+-- the actor after some firings, where each of them is done
+abbrev after : List (Tag × Streams Token) → LibraryActor → Option LibraryActor
+after fs a = reached.after rows fs a
+
+-- a library actor at its start needs the same, whatever it fires
+abbrev IsSteady : LibraryActor → Type 0
+IsSteady a = Always rows (λ (node : Tree). need_of rows node ≡ library.need a) (tree.actor a)
+
+-- whatever led there
+either-way : {P : Type 0} → P ⊎ P → P
+either-way (inl p) = p
+either-way (inr p) = p
+
+steady-by : (a : LibraryActor) → ((fs : List (Tag × Streams Token)) (b : LibraryActor) → after fs a ≡ Some b → library.need b ≡ library.need a) → IsSteady a
+steady-by a needs later t =
+    let i = actor-becomes rows (tree.actor a) later t tree.unfired a a refl in
+    ap (λ (v : Tree). need_of rows v) i.is ∙ needs i.steps i.state (either-way i.led)
 
 some-same : {A : Type 0} (a b : A) → Some a ≡ Some b → a ≡ b
 some-same a b e = cc
@@ -46,11 +70,8 @@ ramp-after (f ∷ fs) r h b e = by_answer (ramp.step f.0 r f.1) (ramp-step f.0 f
     by_answer (Gives s out) g q ih = ih s g q
     by_answer (Fails code) g q ih = absurd (cc)
 
-pub ramp-steady : (r : Ramp) → Plain r → IsSteadyActor (Flow (flow.Ramp r))
-ramp-steady r h = record {
-  needs = λ fs b e. let s = ramp-after fs r h b e in ap (λ a. library.need a) s.1 ∙ ap₂ (λ v n. source_need (is_over v) n) (s.2.0 ∙ sym h.0) (s.2.1 ∙ sym h.1);
-  takes = λ fs b e tag X. let s = ramp-after fs r h b e in subst (λ a. library.Takes tag a X) (sym s.1) tt;
-}
+pub ramp-steady : (r : Ramp) → Plain r → IsSteady (Flow (flow.Ramp r))
+ramp-steady r h = steady-by (Flow (flow.Ramp r)) (λ fs b e. let s = ramp-after fs r h b e in ap (λ a. library.need a) s.1 ∙ ap₂ (λ v n. source_need (is_over v) n) (s.2.0 ∙ sym h.0) (s.2.1 ∙ sym h.1))
 
 abbrev Same : Scale → Scale → Type 0
 Same r s = s ≡ r
@@ -70,8 +91,5 @@ scale-after (f ∷ fs) r b e = by_answer (scale.step f.0 r f.1) (scale-step r f.
     by_answer (Gives s out) g q ih = ih (ap (λ v. after fs (Flow (flow.Scale v))) (sym g) ∙ q)
     by_answer (Fails code) g q ih = absurd (cc)
 
-pub scale-steady : (r : Scale) → IsSteadyActor (Flow (flow.Scale r))
-scale-steady r = record {
-  needs = λ fs b e. ap (λ a. library.need a) (scale-after fs r b e);
-  takes = λ fs b e tag X. subst (λ a. library.Takes tag a X) (sym (scale-after fs r b e)) tt;
-}
+pub scale-steady : (r : Scale) → IsSteady (Flow (flow.Scale r))
+scale-steady r = steady-by (Flow (flow.Scale r)) (λ fs b e. ap (λ a. library.need a) (scale-after fs r b e))

@@ -10,7 +10,7 @@ use Rattle.pt_lib_flow.specs.declared.flow_actor.FlowActor.TheVariants.{Ramp, Sc
 use Rattle.pt_sdf.specs.Clauses.{State}
 use Rattle.pt_sdf.specs.State.{started}
 use Rattle.pt_node.specs.declared.body.Body.TheVariants.{Actor, Composite}
-use Rattle.pt_node.specs.declared.director.Director.TheVariants.{Sdf}
+use Rattle.pt_core.specs.declared.either.Either.TheVariants.{First}
 use Rattle.pt_library.specs.declared.library_actor.LibraryActor.{LibraryActor}
 use Rattle.pt_library.specs.declared.library_actor.LibraryActor.TheVariants.{Flow}
 use Rattle.pt_node.specs.Recorded.{RecordedPort}
@@ -46,4 +46,4 @@ abbrev pub chain_kids : (ramp_path scale_path text : List ℕ) → AllShown
 chain_kids ramp_path scale_path text = more (leaf ramp [] ramp_path) (more (leaf scale (record { port = 0; number = 0; text = text; trace = []; noted = [] } ∷ []) scale_path) none)
 
 abbrev pub chain : (takes path ramp_path scale_path text : List ℕ) → Shown
-chain takes path ramp_path scale_path text = Branch (record { past = unfired; body = Composite (Sdf (chain_core takes)); records = []; path = path; live = true }) (chain_kids ramp_path scale_path text)
+chain takes path ramp_path scale_path text = Branch (record { past = unfired; body = Composite (First (chain_core takes)); records = []; path = path; live = true }) (chain_kids ramp_path scale_path text)

@@ -1,9 +1,11 @@
 //! Running the top of a tree of nodes as a job says, and the report of it.
 #![tactic(auto)]
 
-mod iteration;
 mod reporting;
 mod running;
+mod sdf;
+mod sr;
+mod turn;
 
 pub use reporting::{numbers_stay, report};
 pub use running::run;

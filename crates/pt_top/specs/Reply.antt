@@ -9,7 +9,7 @@ use Rattle.pt_trace.specs.ReportText.{report_text}
 use Rattle.pt_trace.specs.ReportForm.{AreMeetings}
 use Rattle.pt_node.specs.Shown.{Shown}
 use Rattle.pt_node.specs.View.{node_of, outline_of}
-use Rattle.pt_trees.specs.declared.job.SdfJob.{SdfJob}
+use Rattle.pt_trees.specs.declared.top.Top.{Top}
 use Rattle.pt_trees.specs.declared.ended.Ended.{Ended}
 use Rattle.pt_trees.specs.declared.ended.Ended.TheVariants as ended
 use Rattle.pt_trees.specs.Ports.{AreNumbered, recorded_ports, told_of}
@@ -43,7 +43,7 @@ report_of net meetings top e = record { traces = told_of (recorded_ports (length
 pub record IsReport (net : Net) (budget : ℕ) (status : Status) (text : List ℕ) : Type 0 where
   -- the tree before the run, with one recorded port for each number of those that the net records, and what the job asks of its top
   pub top : Shown
-  pub job : SdfJob
+  pub job : Top
   pub is_model : IsModel net top job
   pub numbered : AreNumbered (length net.recorded.items) top
   -- the tree after it, which has kept the names of its nodes and of its recorded ports
@@ -70,4 +70,4 @@ AnswersNet net budget _ text = ⊥
 
 -- no model of the net is stuck anywhere, and each stays below the budget
 abbrev pub IsAffordableNet : Net → (budget : ℕ) → Type 0
-IsAffordableNet net budget = (top : Shown) (job : SdfJob) → IsModel net top job → IsAffordable job budget (node_of top)
+IsAffordableNet net budget = (top : Shown) (job : Top) → IsModel net top job → IsAffordable job budget (node_of top)

@@ -21,7 +21,7 @@ use pt_net::Net;
 use pt_node::Node;
 use pt_run::{numbers_stay, report, run};
 use pt_trace::text;
-use pt_trees::{Ended, SdfJob};
+use pt_trees::{Ended, Top};
 use std::alloc::{AllocError, Global};
 
 /// A status, and the text that goes with it.
@@ -61,12 +61,11 @@ fn report_run(
     alloc: Global,
     net: &Net,
     top: &mut Node,
-    job: &SdfJob,
+    job: &Top,
     budget: u64,
 ) -> Result<Reply, AllocError>
     requires model { IsModel net.now (shown_node top.old) job.now }
-    requires runnable { IsRunnable job.now.takes (shown_node top.old) }
-    requires lists { length job.now.inputs.items ≡ length job.now.takes }
+    requires runnable { IsRunnable job.now (shown_node top.old) }
     requires numbered { AreNumbered (length net.now.recorded.items) (shown_node top.old) }
     requires budget { 0 < budget }
     ensures report { IfOk result (λ r. IsReport net.now budget r.status r.text.items) }
@@ -91,8 +90,7 @@ fn report_model(
     budget: u64,
 ) -> Result<Reply, AllocError>
     requires model { IsModel net.now (shown_node model.top) model.job }
-    requires runnable { IsRunnable model.job.takes (shown_node model.top) }
-    requires lists { length model.job.inputs.items ≡ length model.job.takes }
+    requires runnable { IsRunnable model.job (shown_node model.top) }
     requires numbered { AreNumbered (length net.now.recorded.items) (shown_node model.top) }
     requires budget { 0 < budget }
     ensures report { IfOk result (λ r. IsReport net.now budget r.status r.text.items) }

@@ -1,1 +1,2 @@
 pub mod MeetingsExample
+pub mod TopLaws

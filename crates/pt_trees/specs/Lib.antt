@@ -6,6 +6,7 @@ pub mod Trees
 pub mod Recorded
 pub mod Built
 pub mod Ports
+pub mod Top
 pub mod Start
 pub mod Meetings
 pub mod MeetingsExample

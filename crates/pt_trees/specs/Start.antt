@@ -1,6 +1,5 @@
 -- A tree before a run: at its start, with nothing recorded.
-use Rattle.std.specs.Prelude.{◌≡◌, ℕ, List, [], ◌∷◌, Option, Some, None}
-use Rattle.pt_meaning.specs.Tree as tree
+use Rattle.std.specs.Prelude.{◌≡◌, List, [], ◌∷◌}
 use Rattle.pt_meaning.specs.Start.{IsAtStart}
 use Rattle.pt_laws.specs.Heights.{IsFitting}
 use Rattle.pt_laws.specs.StartedRuns.{ArePlans}
@@ -11,6 +10,8 @@ use Rattle.pt_node.specs.Shown.{Shown, AllShown, Branch, none, more}
 use Rattle.pt_node.specs.View.{node_of}
 use Rattle.pt_node.specs.Live.{IsLive}
 use Rattle.pt_node.specs.Recorded.{RecordedPort}
+use Rattle.pt_trees.specs.declared.top.Top.{Top}
+use Rattle.pt_trees.specs.Top.{IsJobFor}
 
 -- a library actor has no children
 abbrev pub IsBranched : Body → AllShown → Type 0
@@ -39,25 +40,12 @@ abbrev mutual
   AllUnrecorded none = Unit {0}
   AllUnrecorded (more s ss) = IsUnrecorded s × AllUnrecorded ss
 
--- how many tokens an iteration of an SDF composite takes from each own input
-abbrev pub core_takes : {T : Type 0} → tree.Core T → Option (List ℕ)
-core_takes (tree.Sdf p X) = Some p.takes
-core_takes (tree.Pn p X) = None
-core_takes (tree.Sr p) = None
-core_takes (tree.De p) = None
-core_takes (tree.Rv p X) = None
-core_takes (tree.Modal chart m) = None
-
-abbrev pub takes_of : {T A : Type 0} → tree.Node T A → Option (List ℕ)
-takes_of (tree.Actor h a b) = None
-takes_of (tree.Composite h c d kids) = core_takes d
-
--- An SDF composite that may be run: it is live and at its start, its plans fit, and nothing is recorded.
-pub record IsRunnable (takes : List ℕ) (top : Shown) : Type 0 where
+-- A top that may be run by this job: it is live and at its start, its plans fit, nothing is recorded, and the job is one for it.
+pub record IsRunnable (job : Top) (top : Shown) : Type 0 where
   pub live : IsLive top
   pub start : IsAtStart rows (node_of top)
   pub fitting : IsFitting (node_of top)
   pub planned : ArePlans (node_of top)
   pub leaves : HasLeaves top
   pub unrecorded : IsUnrecorded top
-  pub takes_are : takes_of (node_of top) ≡ Some takes
+  pub fits : IsJobFor job (node_of top)

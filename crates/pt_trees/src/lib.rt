@@ -4,13 +4,13 @@
 mod build_fault;
 mod composite_fault;
 mod ended;
-mod job;
 mod meetings;
+mod top;
 mod wiring;
 
 pub use build_fault::BuildFault;
 pub use composite_fault::CompositeFault;
 pub use ended::Ended;
-pub use job::SdfJob;
 pub use meetings::meetings_by_example;
+pub use top::{SdfJob, SrJob, Top};
 pub use wiring::Wiring;

@@ -34,11 +34,11 @@ use Rattle.pt_typing.specs.Least.{Assignment, IsMet}
 use Rattle.pt_inequalities.specs.Frames.{frames_of}
 use Rattle.pt_inequalities.specs.Inequalities.{of_channel, of_entities, of_inputs, of_supply, joined_with, PortNumbers, no_ports, with_port, with_input, with_inputs, top_inputs}
 use Rattle.pt_inequalities.specs.Typing.{IsTyping}
-use Rattle.pt_scopes.specs.Inputs.{inputs_at, own_inputs, named_ports, input_to, AreTokensOf, ComeTo}
+use Rattle.pt_job.specs.Inputs.{inputs_at, own_inputs, named_ports, input_to, AreTokensOf, ComeTo}
 use Rattle.pt_kinds.specs.Signature.{AreAllOf}
 use Rattle.pt_typed.specs.TokenTypes.{IsTokenOf}
 use Rattle.pt_typed.specs.NetTypes.{place_type, arrivals, number_if, port_numbers, port_types, by_director, types_of}
-use Rattle.pt_typed.specs.InputLaw.{InputsAreTyped}
+use Rattle.pt_typed.specs.InputLaw.{present, InputsAreTyped}
 use Rattle.pt_typed.proofs.PortFacts.{all-met, all-front, all-back}
 use Rattle.pt_typed.proofs.RowsMet.{viewed}
 
@@ -91,15 +91,17 @@ numbered old i (q ∷ ps) (suc n) p e t h =
 
 -- ---- what comes to a port
 
-joined-grows : (t : Datatype) (ts : List Token) → IsBelow t (joined_with t (map (option_map value_of) (map Some ts)))
+joined-grows : (t : Datatype) (ts : List (Option Token)) → IsBelow t (joined_with t (map (option_map value_of) ts))
 joined-grows t [] = below-refl t
-joined-grows t (x ∷ ts) = below-trans t (join t (type_of_value (value_of x))) (joined_with (join t (type_of_value (value_of x))) (map (option_map value_of) (map Some ts))) (join-first t (type_of_value (value_of x))) (joined-grows (join t (type_of_value (value_of x))) ts)
+joined-grows t (None ∷ ts) = joined-grows t ts
+joined-grows t (Some x ∷ ts) = below-trans t (join t (type_of_value (value_of x))) (joined_with (join t (type_of_value (value_of x))) (map (option_map value_of) ts)) (join-first t (type_of_value (value_of x))) (joined-grows (join t (type_of_value (value_of x))) ts)
 
-joined-all : (t u : Datatype) (ts : List Token) → IsBelow (joined_with t (map (option_map value_of) (map Some ts))) u → AllByRecursion (IsTokenOf u) ts
+joined-all : (t u : Datatype) (ts : List (Option Token)) → IsBelow (joined_with t (map (option_map value_of) ts)) u → AllByRecursion (IsTokenOf u) (present ts)
 joined-all t u [] h = tt
-joined-all t u (x ∷ ts) h =
+joined-all t u (None ∷ ts) h = joined-all t u ts h
+joined-all t u (Some x ∷ ts) h =
     let next = join t (type_of_value (value_of x)) in
-    let whole = joined_with next (map (option_map value_of) (map Some ts)) in
+    let whole = joined_with next (map (option_map value_of) ts) in
     (below-trans (type_of_value (value_of x)) whole u (below-trans (type_of_value (value_of x)) next whole (join-second t (type_of_value (value_of x))) (joined-grows next ts)) h, joined-all next u ts h)
 
 input-met : (typing : Assignment) (ports : PortNumbers) (is : List InputTree) (vss : List (List (Option Value))) (j : ℕ) (i : InputTree) (vs : List (Option Value)) → AllByRecursion (IsMet typing) (of_inputs ports is vss) → slice_get is j ≡ Some i → slice_get vss j ≡ Some vs → AllByRecursion (IsMet typing) (of_supply (ports i.port) (Some vs))
@@ -109,9 +111,9 @@ input-met typing ports (x ∷ is) (w ∷ vss) zero i vs a e g =
     subst (λ y. AllByRecursion (IsMet typing) (of_supply (ports y.port) (Some vs))) (same_Some x i e) (subst (λ y. AllByRecursion (IsMet typing) (of_supply (ports x.port) (Some y))) (same_Some w vs g) (all-front (IsMet typing) (of_supply (ports x.port) (Some w)) (of_inputs ports is vss) a))
 input-met typing ports (x ∷ is) (w ∷ vss) (suc j) i vs a e g = input-met typing ports is vss j i vs (all-back (IsMet typing) (of_supply (ports x.port) (Some w)) (of_inputs ports is vss) a) e g
 
-supply-met : (typing : Assignment) (o : Option ℕ) (n : ℕ) (ts : List Token) → o ≡ Some n → AllByRecursion (IsMet typing) (of_supply o (Some (map (option_map value_of) (map Some ts)))) → AllByRecursion (IsTokenOf (typing.types (variable.Port 0 n))) ts
+supply-met : (typing : Assignment) (o : Option ℕ) (n : ℕ) (ts : List (Option Token)) → o ≡ Some n → AllByRecursion (IsMet typing) (of_supply o (Some (map (option_map value_of) ts))) → AllByRecursion (IsTokenOf (typing.types (variable.Port 0 n))) (present ts)
 supply-met typing None n ts e a = absurd (cc)
-supply-met typing (Some m) n ts e a = subst (λ i. AllByRecursion (IsTokenOf (typing.types (variable.Port 0 i))) ts) (same_Some m n e) (joined-all Unknown (typing.types (variable.Port 0 m)) ts a.0)
+supply-met typing (Some m) n ts e a = subst (λ i. AllByRecursion (IsTokenOf (typing.types (variable.Port 0 i))) (present ts)) (same_Some m n e) (joined-all Unknown (typing.types (variable.Port 0 m)) ts a.0)
 
 module _ (net : Net) (values : Values) (typing : Assignment) (typed : IsTyping net values typing) where
   inputs-of-top : PortNumbers
@@ -124,16 +126,16 @@ module _ (net : Net) (values : Values) (typing : Assignment) (typed : IsTyping n
       let rest = of_inputs (top_inputs es) (net_view net).inputs (inputs_view values) in
       all-back (IsMet typing) entities rest (all-back (IsMet typing) (map of_channel net.channels.items) (entities ++ rest) (all-met net values typing typed))
 
-  come-typed : (name : List ℕ) (n : ℕ) (ts : List Token) → top_inputs (map entity_view net.entities.items) name ≡ Some n → (o : Option ℕ) → input_to (net_view net) name ≡ o → AreTokensOf values o ts → AllByRecursion (IsTokenOf (typing.types (variable.Port 0 n))) ts
-  come-typed name n ts at None e h = subst (λ xs. AllByRecursion (IsTokenOf (typing.types (variable.Port 0 n))) xs) (sym h) tt
+  come-typed : (name : List ℕ) (n : ℕ) (ts : List (Option Token)) → top_inputs (map entity_view net.entities.items) name ≡ Some n → (o : Option ℕ) → input_to (net_view net) name ≡ o → AreTokensOf values o ts → AllByRecursion (IsTokenOf (typing.types (variable.Port 0 n))) (present ts)
+  come-typed name n ts at None e h = subst (λ xs. AllByRecursion (IsTokenOf (typing.types (variable.Port 0 n))) (present xs)) (sym h) tt
   come-typed name n ts at (Some m) e h =
       let w = position-at (bytes_eq name) (named_ports (net_view net)) m [] e in
       let input = unviewed (λ (i : InputTree). i.port) (net_view net).inputs m w.0 w.1 in
-      let list = unviewed (λ (ts : Vec (Option Token) Global). ts.items) values.inputs.items m (map Some ts) h in
-      let supplied : slice_get (inputs_view values) m ≡ Some (map (option_map value_of) (map Some ts)) = viewed (λ (ts : Vec (Option Token) Global). map (option_map value_of) ts.items) values.inputs.items m list.0 list.1 ∙ ap (λ xs. Some (map (option_map value_of) xs)) list.2 in
+      let list = unviewed (λ (ts : Vec (Option Token) Global). ts.items) values.inputs.items m ts h in
+      let supplied : slice_get (inputs_view values) m ≡ Some (map (option_map value_of) ts) = viewed (λ (ts : Vec (Option Token) Global). map (option_map value_of) ts.items) values.inputs.items m list.0 list.1 ∙ ap (λ xs. Some (map (option_map value_of) xs)) list.2 in
       let same : name ≡ input.0.port = (bytes_eq-Decides name w.0).0 w.2 ∙ sym input.2 in
       supply-met typing (top_inputs (map entity_view net.entities.items) input.0.port) n ts (ap (top_inputs (map entity_view net.entities.items)) (sym same) ∙ at)
-      (input-met typing (top_inputs (map entity_view net.entities.items)) (net_view net).inputs (inputs_view values) m input.0 (map (option_map value_of) (map Some ts)) inputs-met input.1 supplied)
+      (input-met typing (top_inputs (map entity_view net.entities.items)) (net_view net).inputs (inputs_view values) m input.0 (map (option_map value_of) ts) inputs-met input.1 supplied)
 
   -- ---- port by port
 
@@ -141,20 +143,20 @@ module _ (net : Net) (values : Values) (typing : Assignment) (typed : IsTyping n
   test-is p Input = refl
   test-is p Output = refl
 
-  ports-typed : (i : ℕ) (ps : List Port) (lists : List (List Token)) → ((n : ℕ) (p : Port) → slice_get ps n ≡ Some p → is_input p ≡ true → top_inputs (map entity_view net.entities.items) p.name ≡ Some (i + n)) → AllZip (ComeTo (net_view net) values) (map port_name (filter is_input_port (map port_view ps))) lists →
-      AreAllOf IsTokenOf (port_types typing 0 (port_numbers is_input i ps)) lists
+  ports-typed : (i : ℕ) (ps : List Port) (lists : List (List (Option Token))) → ((n : ℕ) (p : Port) → slice_get ps n ≡ Some p → is_input p ≡ true → top_inputs (map entity_view net.entities.items) p.name ≡ Some (i + n)) → AllZip (ComeTo (net_view net) values) (map port_name (filter is_input_port (map port_view ps))) lists →
+      AreAllOf IsTokenOf (port_types typing 0 (port_numbers is_input i ps)) (map present lists)
   ports-typed i [] [] h z = (refl, tt)
   ports-typed i [] (ts ∷ lists) h z = absurd z
   ports-typed i (p ∷ ps) lists h z = by_test (is_input p) refl (test-is (port_view p) p.direction) lists z (λ ls y. ports-typed (suc i) ps ls (λ n q e g. h (suc n) q e g ∙ ap (λ m. Some m) (let w : i + suc n ≡ suc i + n = omega arith in w)) y)
     where
-      by_test : (b : Bool) → is_input p ≡ b → is_input_port (port_view p) ≡ b → (ls : List (List Token)) → AllZip (ComeTo (net_view net) values) (map port_name (filter is_input_port (map port_view (p ∷ ps)))) ls →
-          ((ks : List (List Token)) → AllZip (ComeTo (net_view net) values) (map port_name (filter is_input_port (map port_view ps))) ks → AreAllOf IsTokenOf (port_types typing 0 (port_numbers is_input (suc i) ps)) ks) →
-          AreAllOf IsTokenOf (port_types typing 0 (number_if b i (port_numbers is_input (suc i) ps))) ls
+      by_test : (b : Bool) → is_input p ≡ b → is_input_port (port_view p) ≡ b → (ls : List (List (Option Token))) → AllZip (ComeTo (net_view net) values) (map port_name (filter is_input_port (map port_view (p ∷ ps)))) ls →
+          ((ks : List (List (Option Token))) → AllZip (ComeTo (net_view net) values) (map port_name (filter is_input_port (map port_view ps))) ks → AreAllOf IsTokenOf (port_types typing 0 (port_numbers is_input (suc i) ps)) (map present ks)) →
+          AreAllOf IsTokenOf (port_types typing 0 (number_if b i (port_numbers is_input (suc i) ps))) (map present ls)
       by_test b input t ls y more = by_list b input ls (subst (λ c. AllZip (ComeTo (net_view net) values) (map port_name (if c then port_view p ∷ filter is_input_port (map port_view ps) else filter is_input_port (map port_view ps))) ls) t y) more
         where
-          by_list : (b : Bool) → is_input p ≡ b → (ls : List (List Token)) → AllZip (ComeTo (net_view net) values) (map port_name (if b then port_view p ∷ filter is_input_port (map port_view ps) else filter is_input_port (map port_view ps))) ls →
-              ((ks : List (List Token)) → AllZip (ComeTo (net_view net) values) (map port_name (filter is_input_port (map port_view ps))) ks → AreAllOf IsTokenOf (port_types typing 0 (port_numbers is_input (suc i) ps)) ks) →
-              AreAllOf IsTokenOf (port_types typing 0 (number_if b i (port_numbers is_input (suc i) ps))) ls
+          by_list : (b : Bool) → is_input p ≡ b → (ls : List (List (Option Token))) → AllZip (ComeTo (net_view net) values) (map port_name (if b then port_view p ∷ filter is_input_port (map port_view ps) else filter is_input_port (map port_view ps))) ls →
+              ((ks : List (List (Option Token))) → AllZip (ComeTo (net_view net) values) (map port_name (filter is_input_port (map port_view ps))) ks → AreAllOf IsTokenOf (port_types typing 0 (port_numbers is_input (suc i) ps)) (map present ks)) →
+              AreAllOf IsTokenOf (port_types typing 0 (number_if b i (port_numbers is_input (suc i) ps))) (map present ls)
           by_list false input ls y more = more ls y
           by_list true input [] y more = absurd y
           by_list true input (ts ∷ ls) y more =
@@ -163,16 +165,16 @@ module _ (net : Net) (values : Values) (typing : Assignment) (typed : IsTyping n
               (ap (λ n. suc n) w.0, (come-typed p.name i ts at (input_to (net_view net) p.name) refl y.0, w.1))
 
 pub inputs-typed : InputsAreTyped
-inputs-typed net values typing e d inputs at directed own typed supplied =
+inputs-typed net values typing e d lists at directed own typed supplied =
     let es = map entity_view net.entities.items in
     let top : slice_get es 0 ≡ Some (entity_view e) = viewed entity_view net.entities.items 0 e at in
     let names : own_inputs (net_view net) ≡ inputs_of (entity_view e) = ap inputs_at top in
     let ports-is : top_inputs es ≡ with_inputs no_ports 0 (entity_view e).ports = top-ports es (entity_view e) top in
-    let all = ports-typed net values typing typed 0 e.ports.items inputs (λ n p g input.
+    let all = ports-typed net values typing typed 0 e.ports.items lists (λ n p g input.
     ap (λ (f : PortNumbers). f p.name) ports-is
     ∙ numbered no_ports 0 (entity_view e).ports n (port_view p) (viewed port_view e.ports.items n p g) (test-is net values typing typed (port_view p) p.direction ∙ input) (λ m q l there same. absurd (omega (arith, l, own m n q (port_view p) there (viewed port_view e.ports.items n p g) same))))
-    (subst (λ ns. AllZip (ComeTo (net_view net) values) ns inputs) names supplied) in
-    subst (λ ts. AreAllOf IsTokenOf ts inputs) (sym (ap (λ (o : Option NetEntity). (types_of net typing 0 o).places) at ∙ ap (λ o. by_director o (port_types typing 0 (port_numbers is_input 0 e.ports.items)) (map (place_type typing) (arrivals net.channels.items 0))) directed)) all
+    (subst (λ ns. AllZip (ComeTo (net_view net) values) ns lists) names supplied) in
+    subst (λ ts. AreAllOf IsTokenOf ts (map present lists)) (sym (ap (λ (o : Option NetEntity). (types_of net typing 0 o).places) at ∙ ap (λ o. by_director o (port_types typing 0 (port_numbers is_input 0 e.ports.items)) (map (place_type typing) (arrivals net.channels.items 0))) directed)) all
   where
     top-ports : (es : List NetEntityTree) (t : NetEntityTree) → slice_get es 0 ≡ Some t → top_inputs es ≡ with_inputs no_ports 0 t.ports
     top-ports [] t e = absurd (cc)

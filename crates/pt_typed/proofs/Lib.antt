@@ -9,6 +9,7 @@ pub mod TypedRunLaws
 pub mod NetLaws
 pub mod UnfedLaws
 pub mod TreeLaws
+pub mod JobLaws
 pub mod Examples
 pub mod FlowStarts
 pub mod DataStarts

@@ -7,15 +7,13 @@ use Rattle.std.proofs.lemmas.Option.{same_Some}
 use Rattle.std.proofs.lemmas.Bool.{eqb-true}
 use Rattle.std.specs.Prelude.{codes, bytes_eq, filter, count_by}
 use Rattle.std.specs.List.{AllByRecursion, Contains}
-use Rattle.pt_meaning.specs.Basics.{Tag, Streams}
+use Rattle.pt_meaning.specs.Basics.{Streams}
 use Rattle.pt_meaning.specs.Streams.{get}
 use Rattle.pt_meaning.specs.Net.{Source, Own, Output}
 use Rattle.pt_meaning.specs.Running.{total}
 use Rattle.pt_meaning.specs.Kahn.{skip_places}
 use Rattle.pt_meaning.specs.Sdf.{SdfPlan, unfed}
 use Rattle.pt_meaning.specs.Start.{first_of_node, first_of, first_held}
-use Rattle.pt_meaning.specs.Schedule.{portions, suffice, if_more, sdf_top}
-use Rattle.pt_meaning.specs.Job.{Fire}
 use Rattle.pt_meaning.specs.Tree.{list_of, nodes_of, Actor, Composite}
 use Rattle.pt_value.specs.declared.token.Token.{Token}
 use Rattle.pt_document.specs.declared.job.Port.{Port}
@@ -45,13 +43,11 @@ use Rattle.pt_kinds.specs.Signature.{Signatures, AreOf, AreAllOf}
 use Rattle.pt_typed.specs.TokenTypes.{IsTokenOf}
 use Rattle.pt_typed.specs.TypedActor.{MeetsRow, IsTypedActor}
 use Rattle.pt_kinds.specs.TypedTree.{kind_of, kinds_from, kind_before, kinds_at, kinds_in, AreSized, AreFed, IsTypedNet, IsTypedSdf, IsTypedNode, AreTypedNodes}
-use Rattle.pt_kinds.specs.TypedRuns.{AreTypedTurns}
 use Rattle.pt_typed.specs.NetTypes.{number_if, port_numbers, source_type, place_type, TypesGoUp, types_below, IsWired}
-use Rattle.pt_typed.specs.TypedNet.{MeetRows, TreesAreTyped, NetsKeepTypes}
-use Rattle.pt_kinds.proofs.StreamLaws.{all-mono, all-take, all-drop}
+use Rattle.pt_typed.specs.TypedNet.{MeetRows, TreesAreTyped}
+use Rattle.pt_kinds.proofs.StreamLaws.{all-mono}
 use Rattle.pt_typed.proofs.TypeLaws.{token-wider}
 use Rattle.pt_typed.proofs.ActorLaws.{rows-type, first-tokens}
-use Rattle.pt_typed.proofs.TypedRunLaws.{runs-keep}
 use Rattle.pt_typed.proofs.NetLaws.{map-append, all-filtered, own-places, own-outputs, child-below, source-kind, kinds-are, sized, fed, their-own}
 use Rattle.pt_typed.proofs.UnfedLaws.{behind-all, get-there, kinds-length, AreInputs, own-fed}
 
@@ -247,29 +243,3 @@ module _ (net : Net) (typing : Assignment) (starts : Starts) (wired : IsWired ne
 
 pub trees-are-typed : TreesAreTyped
 trees-are-typed net typing starts k t wired up meet is = tree-typed net typing starts wired up meet is
-
--- ---- a job
-
-portions-of : (ts : List Datatype) (n : ℕ) (takes : List ℕ) (X : Streams Token) → AreOf IsTokenOf ts X → AreOf IsTokenOf ts (portions n takes X)
-portions-of ts n [] X a = tt
-portions-of ts n (m ∷ takes) [] a = tt
-portions-of [] n (m ∷ takes) (xs ∷ X) a = absurd a
-portions-of (t ∷ ts) n (m ∷ takes) (xs ∷ X) a = (all-take (IsTokenOf t) m (drop (n * m) xs) (all-drop (IsTokenOf t) (n * m) xs a.0), portions-of ts n takes X a.1)
-
-portions-length : (n : ℕ) (takes : List ℕ) (X : Streams Token) → length takes ≡ length X → length (portions n takes X) ≡ length X
-portions-length n [] X e = e
-portions-length n (m ∷ takes) [] e = refl
-portions-length n (m ∷ takes) (xs ∷ X) e = ap (λ v. suc v) (portions-length n takes X (omega (arith, e)))
-
-turn-of : (ts : List Datatype) (a b : Bool) (t tag : Tag) (X inputs : Streams Token) → if_more a b t X ≡ Fire tag inputs → AreAllOf IsTokenOf ts X → AreAllOf IsTokenOf ts inputs
-turn-of ts false b t tag X inputs e h = absurd (cc)
-turn-of ts true true t tag X inputs e h = let same : X ≡ inputs = cc in subst (λ v. AreAllOf IsTokenOf ts v) same h
-turn-of ts true false t tag X inputs e h = absurd (cc)
-
-turns-typed : (sigs : Signatures Datatype) (iterations : ℕ) (takes : List ℕ) (inputs : Streams Token) → length takes ≡ length inputs → AreAllOf IsTokenOf (sigs []).places inputs → AreTypedTurns {A = LibraryActor} IsTokenOf IsBelow IsTypedActor rows sigs (sdf_top iterations takes inputs)
-turns-typed sigs iterations takes inputs e a n last top tag X h =
-    turn-of (sigs []).places (nat_lt n iterations) (suffice n takes inputs) _ tag (portions n takes inputs) X h (portions-length n takes inputs e ∙ a.0, portions-of (sigs []).places n takes inputs a.1)
-
-pub nets-keep-types : NetsKeepTypes
-nets-keep-types net typing starts top wired up meet is iterations takes inputs e a m k =
-    runs-keep (types_below net typing 0) m (sdf_top iterations takes inputs) top (trees-are-typed net typing starts 0 top wired up meet is) (turns-typed (types_below net typing 0) iterations takes inputs e a) k

@@ -18,6 +18,7 @@ use Rattle.pt_lib_time.specs.declared.time_actor.TimeActor.TheVariants as time
 use Rattle.pt_library.specs.declared.library_actor.LibraryActor.{LibraryActor}
 use Rattle.pt_library.specs.declared.library_actor.LibraryActor.TheVariants.{Flow, Data, Time}
 use Rattle.pt_trees.specs.Trees.{Starts}
+use Rattle.pt_trees.specs.Top.{supply_of}
 use Rattle.pt_cover.proofs.Reading.{documents-leaves}
 use Rattle.pt_cover.proofs.Nesting.{net-nested}
 use Rattle.pt_cover.specs.Leaves.{AreStartedByClass}
@@ -36,7 +37,7 @@ use Rattle.pt_typed.proofs.InputLaws.{inputs-typed}
 use Rattle.pt_typed.proofs.SeededRows.{seeded-rows-met}
 use Rattle.pt_typed.proofs.ExpressionRows.{expression-rows-met}
 use Rattle.pt_typed.proofs.DocumentNames.{documents-named}
-use Rattle.pt_typed.proofs.TreeLaws.{nets-keep-types}
+use Rattle.pt_typed.proofs.JobLaws.{nets-keep-types}
 
 -- ---- the actors that are left are Expressions
 
@@ -110,9 +111,9 @@ by-class-started : (net : Net) (values : Values) (typing : Assignment) (starts :
 by-class-started net values typing starts started k e a at is = let w = started k a is in by-class net values (types_of_ports typing) k e a at w.3
 
 pub typed-nets-keep-types : TypedNetsKeepTypes
-typed-nets-keep-types net values typing starts e d top j doc valued typed started is at directed supplied lists m k =
+typed-nets-keep-types net values typing starts e d top j doc valued typed started is at directed supplied whole m k =
     let named = documents-named doc.bytes doc.job net doc.read doc.made in
     let nested = net-nested doc.job net (documents-leaves doc.bytes doc.job doc.read) doc.made in
     let order = nets-in-order net starts e d top doc (by-class-started net values typing starts started) is at directed in
-    nets-keep-types net typing starts top order.wired (channels-go-up net values typing typed) (meet-rows net values typing starts order.class_ports named.1 named.0 nested valued typed started) is j.iterations j.takes j.inputs.items lists
-    (inputs-typed net values typing e d j.inputs.items at directed (named.1 0 e at) typed supplied) m k
+    nets-keep-types net typing starts top order.wired (channels-go-up net values typing typed) (meet-rows net values typing starts order.class_ports named.1 named.0 nested valued typed started) is j whole
+    (inputs-typed net values typing e d (supply_of j) at directed (named.1 0 e at) typed supplied) m k

@@ -7,8 +7,9 @@ use Rattle.pt_net.specs.declared.net.NetDirector.{NetDirector}
 use Rattle.pt_net.specs.declared.net.NetEntity.{NetEntity}
 use Rattle.pt_scopes.specs.Scopes.{net_view}
 use Rattle.pt_scopes.specs.Valued.{IsValued}
-use Rattle.pt_scopes.specs.Inputs.{AreSupplied}
-use Rattle.pt_trees.specs.declared.job.SdfJob.{SdfJob}
+use Rattle.pt_job.specs.Inputs.{AreSupplied}
+use Rattle.pt_trees.specs.declared.top.Top.{Top}
+use Rattle.pt_trees.specs.Top.{supply_of, IsWhole}
 use Rattle.pt_trees.specs.Run.{schedule}
 use Rattle.pt_scopes.specs.declared.values.Values.{Values}
 use Rattle.pt_typing.specs.declared.variable.Variable.TheVariants as variable
@@ -59,6 +60,6 @@ AreStartedIn net values typing starts = (k : ℕ) (a : LibraryActor) → StartsA
 -- In a run of the tree of the net of a document with its typing, on the tokens that are supplied, under any meetings, at each fuel, each finished firing took at each place only tokens of the type of its port, and gave on each output only tokens of the type of that.
 abbrev pub TypedNetsKeepTypes : Type 0
 TypedNetsKeepTypes =
-    (net : Net) (values : Values) (typing : Assignment) (starts : Starts) (e : NetEntity) (d : NetDirector) (top : Tree) (j : SdfJob) → IsNetOfDocument net → IsValued (net_view net) values → IsTyping net values typing → AreStartedIn net values typing starts → IsTree net (StartsAs starts) 0 top →
-    slice_get net.entities.items 0 ≡ Some e → e.director ≡ Some d → AreSupplied (net_view net) values j.inputs.items → length j.takes ≡ length j.inputs.items →
+    (net : Net) (values : Values) (typing : Assignment) (starts : Starts) (e : NetEntity) (d : NetDirector) (top : Tree) (j : Top) → IsNetOfDocument net → IsValued (net_view net) values → IsTyping net values typing → AreStartedIn net values typing starts → IsTree net (StartsAs starts) 0 top →
+    slice_get net.entities.items 0 ≡ Some e → e.director ≡ Some d → AreSupplied (net_view net) values (supply_of j) → IsWhole j →
     (m : Meets) (k : ℕ) → IsTypedLog IsTokenOf (types_below net typing 0) (meaning k rows m (schedule j) top)

@@ -1,22 +1,23 @@
 -- The tree of a net, whose library actors meet their rows by the types of the net.
-use Rattle.std.specs.Prelude.{◌≡◌, ℕ, [], length, List}
-use Rattle.pt_meaning.specs.Basics.{Streams}
+use Rattle.std.specs.Prelude.{ℕ, [], map}
 use Rattle.pt_meaning.specs.Meetings.{Meets}
-use Rattle.pt_meaning.specs.Schedule.{sdf_top}
 use Rattle.pt_meaning.specs.Job.{meaning}
-use Rattle.pt_value.specs.declared.token.Token.{Token}
 use Rattle.pt_datatypes.specs.Order.{IsBelow}
 use Rattle.pt_net.specs.declared.net.Net.{Net}
 use Rattle.pt_typing.specs.Least.{Assignment}
 use Rattle.pt_library.specs.declared.library_actor.LibraryActor.{LibraryActor}
 use Rattle.pt_library.specs.LibraryActor.{rows}
 use Rattle.pt_node.specs.View.{Tree}
+use Rattle.pt_trees.specs.declared.top.Top.{Top}
 use Rattle.pt_trees.specs.Trees.{Starts, StartsAs, IsTree}
+use Rattle.pt_trees.specs.Top.{supply_of, IsWhole}
+use Rattle.pt_trees.specs.Run.{schedule}
 use Rattle.pt_kinds.specs.Signature.{AreAllOf, IsTypedLog}
 use Rattle.pt_typed.specs.TokenTypes.{IsTokenOf}
 use Rattle.pt_typed.specs.TypedActor.{MeetsRow, IsTypedActor}
 use Rattle.pt_kinds.specs.TypedTree.{IsTypedNode}
 use Rattle.pt_typed.specs.NetTypes.{TypesGoUp, types_below, IsWired}
+use Rattle.pt_typed.specs.InputLaw.{present}
 
 -- the types of each entity are such as the row of the actor asks that it starts as
 abbrev pub MeetRows : Net → Assignment → Starts → Type 0
@@ -30,5 +31,5 @@ TreesAreTyped = (net : Net) (typing : Assignment) (starts : Starts) (k : ℕ) (t
 abbrev pub NetsKeepTypes : Type 0
 NetsKeepTypes =
     (net : Net) (typing : Assignment) (starts : Starts) (top : Tree) → IsWired net → TypesGoUp net typing → MeetRows net typing starts → IsTree net (StartsAs starts) 0 top →
-    (iterations : ℕ) (takes : List ℕ) (inputs : Streams Token) → length takes ≡ length inputs → AreAllOf IsTokenOf (types_below net typing 0 []).places inputs →
-    (m : Meets) (k : ℕ) → IsTypedLog IsTokenOf (types_below net typing 0) (meaning k rows m (sdf_top iterations takes inputs) top)
+    (j : Top) → IsWhole j → AreAllOf IsTokenOf (types_below net typing 0 []).places (map present (supply_of j)) →
+    (m : Meets) (k : ℕ) → IsTypedLog IsTokenOf (types_below net typing 0) (meaning k rows m (schedule j) top)

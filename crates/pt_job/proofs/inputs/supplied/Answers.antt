@@ -1,14 +1,17 @@
-use Rattle.std.proofs.Common.{◌+◌, List, map, take, sym, subst}
+use Rattle.std.proofs.Common.{◌+◌, List, Option, Some, map, take, sym, ap, subst, ◌∙◌}
 use Rattle.std.specs.List.{AllZip}
 use Rattle.pt_value.specs.declared.token.Token.{Token}
 use Rattle.pt_scopes.specs.Scopes.{net_view}
 use Rattle.pt_job.specs.Names.{Name}
-use Rattle.pt_scopes.specs.Inputs.{ComeTo}
+use Rattle.pt_job.specs.Inputs.{ComeTo}
 use Rattle.pt_job.proofs.Members.{zip_read}
+use Rattle.pt_job.proofs.Present.{some-more}
 use Rattle.pt_job.proofs.inputs.supplied.Goals as goal
 
 pub loop-port-preserved : goal.loop-port-preserved
 loop-port-preserved c =
     let names = c.deref-port-items.result.now in
-    subst (λ (ls : List (List Token)). AllZip (ComeTo (net_view c.args.lookup.now.net.now) c.args.values.now) (map (λ (n : Name). n.now) (take (c.loop-port.port-index + 1) names)) ls) (sym {A = List (List Token)} c.in_ok-push.ensures.items)
-    (zip_read (ComeTo (net_view c.args.lookup.now.net.now) c.args.values.now) (λ (n : Name). n.now) names c.loop-port.port-index _ c.loop-port-test.true c.loop-port.lists.items c.in_ok-tokens_to.field-0 c.loop-port.invariant c.in_ok-tokens_to.ensures)
+    let net = net_view c.args.lookup.now.net.now in
+    subst (λ (ls : List (List (Option Token))). AllZip (ComeTo net c.args.values.now) (map (λ (n : Name). n.now) (take (c.loop-port.port-index + 1) names)) ls)
+    (some-more c.loop-port.lists.items c.in_ok-present.field-0 c.list_to.result.now c.in_ok-present.ensures ∙ ap (λ (X : List (List Token)). map (λ (ts : List Token). map Some ts) X) (sym {A = List (List Token)} c.in_ok-push.ensures.items))
+    (zip_read (ComeTo net c.args.values.now) (λ (n : Name). n.now) names c.loop-port.port-index _ c.loop-port-test.true (map (λ (ts : List Token). map Some ts) c.loop-port.lists.items) c.list_to.result.now c.loop-port.invariant c.list_to.ensures.comes)

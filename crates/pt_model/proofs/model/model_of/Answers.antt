@@ -8,7 +8,7 @@ use Rattle.pt_model.proofs.model.model_of.Goals as goal
 pub returns-clause-runnable : goal.returns-clause-runnable
 returns-clause-runnable c = on-ok c.model_with.result (λ model is.
     let made = at-ok _ is c.model_with.ensures.model in
-    is-runnable c.args.net.now c.in_ok-started.started.starts.items (shown_node model.top) model.job.takes (at-ok _ is c.model_with.ensures.built) (at-ok _ is c.model_with.ensures.fresh) made.takes_are)
+    is-runnable c.args.net.now c.in_ok-started.started.starts.items (shown_node model.top) model.job (at-ok _ is c.model_with.ensures.built) (at-ok _ is c.model_with.ensures.fresh) made.fits)
 
 pub returns-clause-numbered : goal.returns-clause-numbered
 returns-clause-numbered c = on-ok c.model_with.result (λ model is.

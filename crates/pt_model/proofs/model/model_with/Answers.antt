@@ -6,7 +6,7 @@ use Rattle.pt_node.specs.Shown.{shown_node}
 use Rattle.pt_node.specs.View.{node_of}
 use Rattle.pt_trees.specs.Trees.{IsTree, StartsAs}
 use Rattle.pt_trees.specs.Built.{IsBuilt}
-use Rattle.pt_trees.specs.Start.{takes_of}
+use Rattle.pt_trees.specs.Top.{IsJobFor}
 use Rattle.pt_model.proofs.Outcomes.{on-ok, at-ok}
 use Rattle.pt_model.proofs.model.model_with.Goals as goal
 
@@ -23,5 +23,5 @@ returns-clause-model c = on-ok c.with_job.result (λ model is.
       accepted = c.job_of-job.ensures.accepted (subst (λ job. IsOk job) (sym told.1) refl);
       supplied = at-ok _ told.1 c.job_of-job.ensures.supplied;
       iterations_are = at-ok _ told.1 c.job_of-job.ensures.iterations;
-      takes_are = subst (λ top. takes_of (node_of (shown_node top)) ≡ Some model.job.takes) (sym told.0) (at-ok _ told.1 c.job_of-job.ensures.takes);
+      fits = subst (λ top. IsJobFor model.job (node_of (shown_node top))) (sym told.0) (at-ok _ told.1 c.job_of-job.ensures.fits);
     })

@@ -2,5 +2,8 @@ use Rattle.pt_node.specs.Shown.{shown_node}
 use Rattle.pt_run.proofs.Completing.{Going}
 use Rattle.pt_run.proofs.running.run.Given as goal
 
-abbrev pub invariant-loop-iteration : goal.invariant-loop-iteration
-invariant-loop-iteration l = Going l.job.iterations l.job.takes l.job.inputs.items (shown_node l.fn.top) l.budget l.iteration (shown_node l.top) l.left
+abbrev pub invariant-loop-left : goal.invariant-loop-left
+invariant-loop-left l = Going l.job (shown_node l.fn.top) l.budget l.fired (shown_node l.top) l.left
+
+abbrev pub decreases-loop-left : goal.decreases-loop-left
+decreases-loop-left l = l.left

@@ -4,7 +4,7 @@ use Rattle.pt_document.specs.Outcome.{IsRefusal}
 use Rattle.pt_document.specs.View.{input_view}
 use Rattle.pt_net.specs.Table.{shown}
 use Rattle.pt_scopes.specs.Scopes.{net_view}
-use Rattle.pt_scopes.specs.Inputs.{fits}
+use Rattle.pt_job.specs.Inputs.{fits}
 use Rattle.pt_job.proofs.Fits.{told, misfit, clean, one_more, read_input, all_fit}
 use Rattle.pt_job.proofs.lookup.Lookup.check.Goals as goal
 

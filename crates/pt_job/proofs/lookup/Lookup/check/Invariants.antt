@@ -3,7 +3,7 @@ use Rattle.std.specs.List.{slice_get}
 use Rattle.pt_document.specs.Document.{InputTree}
 use Rattle.pt_document.specs.View.{input_view}
 use Rattle.pt_scopes.specs.Scopes.{net_view}
-use Rattle.pt_scopes.specs.Inputs.{fits}
+use Rattle.pt_job.specs.Inputs.{fits}
 use Rattle.pt_job.proofs.lookup.Lookup.check.Given as goal
 
 abbrev pub invariant-loop-number : goal.invariant-loop-number

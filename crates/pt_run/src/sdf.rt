@@ -1,14 +1,39 @@
-// What an iteration takes of the inputs of the top.
+// What comes next at an SDF top: an iteration, which takes its tokens of each input.
 ghost use Rattle.std.specs.Prelude.{◌≡◌, ◌<◌, ◌≤◌, take, drop, ◌+◌, ◌*◌, ◌^◌, suc, length, nat_le, IfOk, true};
-ghost use Rattle.pt_meaning.specs.Schedule.{portions, suffice};
+ghost use Rattle.pt_meaning.specs.Schedule.{portions, suffice, sdf_top};
+ghost use Rattle.pt_run.specs.Turn.{IsNext};
 
+use crate::turn::{End, Firing, Turn};
 use pt_firing::Tokens;
+use pt_time::Tag;
 use pt_trees::SdfJob;
 use pt_value::Token;
 use std::alloc::{AllocError, Global};
 
+/// The tag of each firing of an SDF top.
+const ORIGIN: Tag = Tag { time: 0, step: 0 };
+
+/// What comes after so many iterations: the next one, or the end where all are made or an input has fewer tokens left than it takes.
+pub(crate) fn next_turn(alloc: Global, job: &SdfJob, made: u64) -> Result<Turn, AllocError>
+    requires lists { length job.now.inputs.items ≡ length job.now.takes }
+    requires number { made + 1 < 2 ^ 64 }
+    ensures { IfOk result (IsNext (sdf_top job.now.iterations job.now.takes job.now.inputs.items) made) }
+{
+    if made >= job.iterations {
+        return Ok(Turn::Ends(End::Iterations));
+    }
+    if !has_enough(job, made) {
+        return Ok(Turn::Ends(End::Inputs));
+    }
+    let inputs = portions(alloc, job, made)?;
+    Ok(Turn::Fire(Firing {
+        tag: ORIGIN,
+        inputs,
+    }))
+}
+
 /// Whether each input has enough tokens left for the iteration of that number.
-pub(crate) fn has_enough(job: &SdfJob, iteration: u64) -> bool
+fn has_enough(job: &SdfJob, iteration: u64) -> bool
     requires lists { length job.now.inputs.items ≡ length job.now.takes }
     requires number { iteration + 1 < 2 ^ 64 }
     ensures { result ≡ suffice iteration job.now.takes job.now.inputs.items }
@@ -26,11 +51,7 @@ pub(crate) fn has_enough(job: &SdfJob, iteration: u64) -> bool
 }
 
 /// The tokens that the iteration takes from each input.
-pub(crate) fn portions(
-    alloc: Global,
-    job: &SdfJob,
-    iteration: u64,
-) -> Result<Vec<Tokens>, AllocError>
+fn portions(alloc: Global, job: &SdfJob, iteration: u64) -> Result<Vec<Tokens>, AllocError>
     requires lists { length job.now.inputs.items ≡ length job.now.takes }
     requires enough { suffice iteration job.now.takes job.now.inputs.items ≡ true }
     ensures { IfOk result (λ lists. lists.items ≡ portions iteration job.now.takes job.now.inputs.items) }

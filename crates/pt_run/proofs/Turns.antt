@@ -1,0 +1,127 @@
+-- What a job asks of its top fits the top, and goes on doing so.
+use Rattle.std.proofs.Common.{◌≡◌, ℕ, suc, List, [], ◌∷◌, Bool, true, false, length, map, nat_lt, Option, Some, None, refl, sym, ap, ap₂, subst, ◌∙◌, arith}
+use Rattle.std.proofs.lemmas.List.{length-map}
+use Rattle.std.specs.Prelude.{Vec}
+use Rattle.std.specs.Global.{Global}
+use Rattle.pt_meaning.specs.Basics.{Tag, Streams, Log}
+use Rattle.pt_meaning.specs.Tag.{origin}
+use Rattle.pt_meaning.specs.Machine.{Outcome, Done}
+use Rattle.pt_meaning.specs.Meetings.{Meets}
+use Rattle.pt_meaning.specs.Tree as tree
+use Rattle.pt_meaning.specs.Tree.{Rows, Node}
+use Rattle.pt_meaning.specs.Step.{step_at, Step}
+use Rattle.pt_meaning.specs.Job.{Turn, Fire}
+use Rattle.pt_meaning.specs.Schedule.{portions, suffice, if_more, tokens_at, lists_last}
+use Rattle.pt_laws.proofs.FiringLaws.{done-within}
+use Rattle.pt_value.specs.declared.token.Token.{Token}
+use Rattle.pt_records.proofs.SoFarLaws.{recorded-done}
+use Rattle.pt_library.specs.declared.library_actor.LibraryActor.{LibraryActor}
+use Rattle.pt_library.specs.LibraryActor.{rows}
+use Rattle.pt_node.specs.declared.body.Body.{Body}
+use Rattle.pt_node.specs.declared.body.Body.TheVariants as body
+use Rattle.pt_core.specs.declared.either.Either.TheVariants.{First, Other}
+use Rattle.pt_node.specs.Shown.{Shown, AllShown, Branch, none, more}
+use Rattle.pt_node.specs.View.{Tree, node_of, nodes_of, node_with}
+use Rattle.pt_node.specs.Live as live
+use Rattle.pt_trees.specs.declared.top.SdfJob.{SdfJob}
+use Rattle.pt_trees.specs.declared.top.SrJob.{SrJob}
+use Rattle.pt_trees.specs.declared.top.Top.{Top}
+use Rattle.pt_trees.specs.declared.top.Top.TheVariants.{Sdf, Sr}
+use Rattle.pt_trees.specs.Top.{ticks_of, SdfFits, SrFits, FitsCore, IsJobFor, IsWhole}
+use Rattle.pt_trees.specs.Run.{schedule}
+use Rattle.pt_run.proofs.UnmetRuns.{IsQuiet, AllQuiet}
+
+-- ---- the directors of the code
+
+-- no composite of the code makes meetings
+mutual
+  pub quiet-node : (s : Shown) → IsQuiet (node_of s)
+  quiet-node (Branch f ks) = by_body f.body (quiet-nodes ks)
+    where
+      by_body : (b : Body) → AllQuiet (nodes_of ks) → IsQuiet (node_with f.past b (nodes_of ks))
+      by_body (body.Actor held) kids = tt
+      by_body (body.Composite (First s)) kids = (tt, kids)
+      by_body (body.Composite (Other s)) kids = (tt, kids)
+
+  quiet-nodes : (ks : AllShown) → AllQuiet (nodes_of ks)
+  quiet-nodes none = tt
+  quiet-nodes (more s ss) = (quiet-node s, quiet-nodes ss)
+
+-- a list for each own input
+abbrev HasLists : Top → Streams Token → Type 0
+HasLists (Sdf j) X = length X ≡ length j.takes
+HasLists (Sr j) X = length X ≡ length j.inputs.items
+
+-- which the top takes, where the job is one for it
+lists-fit : (s : Shown) (j : Top) (tag : Tag) (X : Streams Token) → IsJobFor j (node_of s) → HasLists j X → live.Takes tag s X
+lists-fit (Branch f ks) j tag X = by_body f.body j
+  where
+    by_body : (b : Body) (j : Top) → IsJobFor j (node_with f.past b (nodes_of ks)) → HasLists j X → live.TakesBody tag b X
+    by_body (body.Actor held) j h l = absurd h
+    by_body (body.Composite (First s)) (Sdf j) h l = l ∙ ap (λ v. length v) (sym h.0)
+    by_body (body.Composite (First s)) (Sr j) h l = absurd h
+    by_body (body.Composite (Other s)) (Sdf j) h l = absurd h
+    by_body (body.Composite (Other s)) (Sr j) h l = l ∙ h
+
+-- ---- the lists of a turn
+
+pub portions-length : {T : Type 0} (n : ℕ) (takes : List ℕ) (X : Streams T) → length X ≡ length takes → length (portions n takes X) ≡ length takes
+portions-length n [] X e = refl
+portions-length n (t ∷ ts) [] e = absurd (omega (arith, e))
+portions-length n (t ∷ ts) (xs ∷ X) e = ap (λ k. suc k) (portions-length n ts X (omega (arith, e)))
+
+tokens-length : {T : Type 0} (n : ℕ) (X : List (List (Option T))) → length (tokens_at n X) ≡ length X
+tokens-length n [] = refl
+tokens-length n (xs ∷ X) = ap (λ k. suc k) (tokens-length n X)
+
+-- a turn that fires has these lists
+fired-lists : (a b : Bool) (t tag : Tag) (Y X : Streams Token) → if_more a b t Y ≡ Fire tag X → Y ≡ X
+fired-lists false b t tag Y X e = absurd (cc)
+fired-lists true true t tag Y X e = cc
+fired-lists true false t tag Y X e = absurd (cc)
+
+has-lists : (j : Top) (n : ℕ) (last : Option Tag) (top : Tree) (tag : Tag) (X : Streams Token) → IsWhole j → schedule j n last top ≡ Fire tag X → HasLists j X
+has-lists (Sdf j) n last top tag X whole e =
+    let same : portions n j.takes j.inputs.items ≡ X = fired-lists (nat_lt n j.iterations) (suffice n j.takes j.inputs.items) origin tag (portions n j.takes j.inputs.items) X e in
+    ap (λ v. length v) (sym same) ∙ portions-length n j.takes j.inputs.items whole
+has-lists (Sr j) n last top tag X whole e =
+    let Y : List (List (Option Token)) = ticks_of j.inputs.items in
+    let same : tokens_at n Y ≡ X = fired-lists (nat_lt n j.iterations) (lists_last n Y) (record { time = n; step = 0 }) tag (tokens_at n Y) X e in
+    ap (λ v. length v) (sym same) ∙ tokens-length n Y ∙ length-map j.inputs.items (λ (ts : Vec (Option Token) Global). ts.items)
+
+pub takes-fit : (s : Shown) (j : Top) (n : ℕ) (last : Option Tag) (tag : Tag) (X : Streams Token) → IsJobFor j (node_of s) → IsWhole j → schedule j n last (node_of s) ≡ Fire tag X → live.Takes tag s X
+takes-fit s j n last tag X h whole e = lists-fit s j tag X h (has-lists j n last (node_of s) tag X whole e)
+
+-- ---- a firing keeps the top such that the job is one for it
+
+module _ (k d : ℕ) (m : Meets) (z : Tree) (tag : Tag) (X out : Streams Token) (l : Log Token) (h : tree.Past) (c : tree.Core Token) (kids : tree.Nodes Token LibraryActor) where
+  sdf-stays : (j : SdfJob) (e : tree.Core Token) → SdfFits j e → step_at rows k (suc d) m tag (tree.Composite h c e kids) X ≡ Done z out l → IsJobFor (Sdf j) z
+  unfolding step_at
+  sdf-stays j (tree.Sdf p Y) f g = subst (λ (v : Tree). IsJobFor (Sdf j) v) (sym (done-within tag h c (tree.Sdf p) _ z out l g).state) f
+  sdf-stays j (tree.Pn p Y) f g = absurd f
+  sdf-stays j (tree.Sr p) f g = absurd f
+  sdf-stays j (tree.De p) f g = absurd f
+  sdf-stays j (tree.Rv p Y) f g = absurd f
+  sdf-stays j (tree.Modal chart n) f g = absurd f
+
+  sr-stays : (j : SrJob) (e : tree.Core Token) → SrFits j e → step_at rows k (suc d) m tag (tree.Composite h c e kids) X ≡ Done z out l → IsJobFor (Sr j) z
+  unfolding step_at
+  sr-stays j (tree.Sdf p Y) f g = absurd f
+  sr-stays j (tree.Pn p Y) f g = absurd f
+  sr-stays j (tree.Sr p) f g = subst (λ (v : Tree). IsJobFor (Sr j) v) (sym (done-within tag h c (λ Y. tree.Sr p) _ z out l g).state) f
+  sr-stays j (tree.De p) f g = absurd f
+  sr-stays j (tree.Rv p Y) f g = absurd f
+  sr-stays j (tree.Modal chart n) f g = absurd f
+
+  core-stays : (j : Top) (e : tree.Core Token) → FitsCore j e → step_at rows k (suc d) m tag (tree.Composite h c e kids) X ≡ Done z out l → IsJobFor j z
+  core-stays (Sdf j) e f g = sdf-stays j e f g
+  core-stays (Sr j) e f g = sr-stays j e f g
+
+node-stays : (j : Top) (k : ℕ) (m : Meets) (n z : Tree) (tag : Tag) (X out : Streams Token) (l : Log Token) → IsJobFor j n → step_at rows k (tree.height n) m tag n X ≡ Done z out l → IsJobFor j z
+node-stays j k m (tree.Actor h a b) z tag X out l f g = absurd f
+node-stays j k m (tree.Composite h c d kids) z tag X out l f g = core-stays k (tree.heights kids) m z tag X out l h c kids j d f g
+
+pub step-stays : (j : Top) (k : ℕ) (m : Meets) (n z : Tree) (tag : Tag) (X out : Streams Token) (l : Log Token) → IsJobFor j n → Step k rows m n tag X ≡ Done z out l → IsJobFor j z
+step-stays j k m n z tag X out l f g =
+    let r = recorded-done (tree.made_of n) tag X (step_at rows k (tree.height n) m tag n X) z out l g in
+    node-stays j k m n z tag X out r.0 f r.1
