@@ -1,13 +1,12 @@
-ghost use Rattle.std.specs.Prelude.{◌≡◌, ◌≤◌, ◌<◌, IfOk, IfSome, IfNone, Some, None, true, false, slice_get};
+ghost use Rattle.std.specs.Prelude.{◌≡◌, ◌≤◌, ◌<◌, IfOk, true, false};
 ghost use Rattle.pt_node.specs.Shown.{shown_node};
-ghost use Rattle.pt_trees.specs.Trees.{is_sdf, IsUndirected, StartsAs};
-ghost use Rattle.pt_library.specs.declared.library_actor.LibraryActor.{LibraryActor};
 ghost use Rattle.pt_trees.specs.Built.{IsToldAs, held_node};
 
+use crate::entities::{Kind, entity_in, is_undirected, kind_of, start_in};
 use crate::numbering::{numbers_at, record_lists};
 use crate::records::records_of;
 use crate::wiring::{inputs_of, narrow_sources, outputs_of};
-use pt_composite::composite;
+use pt_composite::{sdf_composite, sr_composite};
 use pt_document::{Code, Refusal};
 use pt_firing::{Counts, Fires};
 use pt_library::LibraryActor;
@@ -22,6 +21,14 @@ use std::alloc::{AllocError, Global};
 /// How many composites may stand one in another: more than a document can have.
 const MOST_LEVELS: u32 = 32;
 
+/// What a composite is made of beside its children.
+#[derive(Drop)]
+struct Frame {
+    wiring: Wiring,
+    path: Text,
+    records: Records,
+}
+
 /// A net with what its nodes are made from.
 #[derive(Drop)]
 pub(crate) struct Builder<'a> {
@@ -29,29 +36,6 @@ pub(crate) struct Builder<'a> {
     starts: &'a [Option<LibraryActor>],
     insides: Insides,
     records: Vec<Numbers>,
-}
-
-/// The entity of that number, if there is one.
-fn entity_in(entities: &[NetEntity], k: usize) -> Option<&NetEntity>
-    ensures some { IfSome result (λ entity. slice_get entities.now k ≡ Some entity.now) }
-    ensures none { IfNone result (slice_get entities.now k ≡ None) }
-{
-    match entities.get(k) {
-        Some(entity) => Some(entity),
-        None => None,
-    }
-}
-
-/// The actor that the entity of that number starts as, if there is one.
-fn start_in(starts: &[Option<LibraryActor>], k: usize) -> Option<&LibraryActor>
-    ensures some { IfSome result (λ actor. StartsAs starts.now k actor.now) }
-    ensures none { IfNone result ((a : LibraryActor) → StartsAs starts.now k a → ⊥) }
-{
-    match starts.get(k) {
-        Some(Some(actor)) => Some(actor),
-        Some(None) => None,
-        None => None,
-    }
 }
 
 /// Whether no more composites may stand in one that stands below so many.
@@ -62,35 +46,12 @@ fn is_deepest(depth: u32) -> bool
     depth >= MOST_LEVELS
 }
 
-/// Whether the entity is a library actor.
-fn is_undirected(entity: &NetEntity) -> bool
-    ensures yes { result ≡ true → IsUndirected entity.now }
-    ensures no { result ≡ false → IsUndirected entity.now → ⊥ }
-{
-    match &entity.director {
-        Some(_) => false,
-        None => true,
-    }
-}
-
-/// Whether the entity is a composite with the SDF director.
-fn is_sdf(entity: &NetEntity) -> bool
-    ensures { result ≡ is_sdf entity.now }
-{
-    match &entity.director {
-        Some(director) => {
-            entity.class.as_str() == "Composite" && director.class.as_str() == "SDF"
-        }
-        None => false,
-    }
-}
-
 /// The answer for a composite that isn't built, of that path.
 fn fault_at(alloc: Global, fault: CompositeFault, path: &Text) -> BuildFault
     ensures { IsToldAs fault path.now result }
 {
     let code = match fault {
-        CompositeFault::Malformed => return BuildFault::Unbuilt,
+        CompositeFault::Unsteady | CompositeFault::Malformed => return BuildFault::Unbuilt,
         CompositeFault::Unplanned(PlanFault::Rates) => Code::Rates,
         CompositeFault::Unplanned(PlanFault::Limit) => Code::Limit,
         CompositeFault::Unplanned(PlanFault::Deadlock) => Code::SdfDeadlock,
@@ -133,14 +94,14 @@ fn actor_node(alloc: Global, held: Held, path: Text, records: Records) -> Node
 
 impl<'a> Builder<'a> {
     ghost use Rattle.std.specs.Prelude.{◌≡◌, ℕ, ◌<◌, IfOk, IfErr, length, map, true};
-    ghost use Rattle.pt_library.specs.LibraryActor.{is_steady};
     ghost use Rattle.pt_net.specs.Inside.{children_of};
     ghost use Rattle.pt_node.specs.Shown.{shown, shown_node};
     ghost use Rattle.pt_trees.specs.Around.{around_of};
     ghost use Rattle.pt_trees.specs.Fresh.{IsFresh, AllFresh};
     ghost use Rattle.pt_trees.specs.Recorded.{recorded_of};
-    ghost use Rattle.pt_trees.specs.Trees.{IsEntity, IsSdf, IsUndirected, AreStarted, StartsAs, around_in};
+    ghost use Rattle.pt_trees.specs.Trees.{IsEntity, IsSdf, IsSr, IsUndirected, AreStarted, StartsAs, around_in};
     ghost use Rattle.pt_trees.specs.Built.{IsBuilt, AreBuilt, IsNested, BuildFaultStands};
+    ghost use Rattle.pt_build.specs.Kinds.{IsOfKind};
     ghost use Rattle.pt_build.specs.Reached.{IsPrepared, IsReached, HasRoom};
 
     pub(crate) fn of(
@@ -181,8 +142,8 @@ impl<'a> Builder<'a> {
         Ok(entity)
     }
 
-    /// The node of a library actor that needs the same at each firing.
-    fn steady_at(
+    /// The node of a library actor that starts as this one.
+    fn started_at(
         &self,
         alloc: Global,
         k: usize,
@@ -190,11 +151,9 @@ impl<'a> Builder<'a> {
         actor: &LibraryActor,
     ) -> Result<Node, AllocError>
         requires prepared { IsPrepared self.now }
-        requires started { AreStarted self.now.starts.now }
         requires entity { IsEntity self.now.net.now k entity.now }
         requires undirected { IsUndirected entity.now }
         requires actor { StartsAs self.now.starts.now k actor.now }
-        requires steady { is_steady actor.now ≡ true }
         ensures built { IfOk result (λ node. IsBuilt self.now.net.now self.now.starts.now k (shown_node node)) }
         ensures fresh { IfOk result (λ node. IsFresh (shown_node node)) }
     {
@@ -207,7 +166,6 @@ impl<'a> Builder<'a> {
     /// The node of a library actor.
     fn actor_at(&self, alloc: Global, k: usize, entity: &NetEntity) -> Result<Node, BuildFault>
         requires prepared { IsPrepared self.now }
-        requires started { AreStarted self.now.starts.now }
         requires entity { IsEntity self.now.net.now k entity.now }
         requires undirected { IsUndirected entity.now }
         ensures built { IfOk result (λ node. IsBuilt self.now.net.now self.now.starts.now k (shown_node node)) }
@@ -217,11 +175,7 @@ impl<'a> Builder<'a> {
         let Some(actor) = start_in(self.starts, k) else {
             return Err(BuildFault::Unbuilt);
         };
-        if actor.is_steady() {
-            Ok(self.steady_at(alloc, k, entity, actor)?)
-        } else {
-            Err(BuildFault::Unbuilt)
-        }
+        Ok(self.started_at(alloc, k, entity, actor)?)
     }
 
     /// The wiring of the composite of that number.
@@ -238,8 +192,23 @@ impl<'a> Builder<'a> {
         })
     }
 
+    /// What the composite of that number is made of beside its children.
+    fn frame_of(&self, alloc: Global, k: usize, entity: &NetEntity) -> Result<Frame, AllocError>
+        requires prepared { IsPrepared self.now }
+        requires entity { IsEntity self.now.net.now k entity.now }
+        ensures wiring { IfOk result (λ frame. around_of frame.wiring ≡ around_in self.now.net.now k entity.now) }
+        ensures path { IfOk result (λ frame. frame.path ≡ entity.now.path) }
+        ensures records { IfOk result (λ frame. frame.records ≡ recorded_of self.now.net.now k entity.now) }
+    {
+        Ok(Frame {
+            wiring: self.wiring_of(alloc, k, entity)?,
+            path: entity.path.copy(alloc)?,
+            records: self.records_at(alloc, k, entity)?,
+        })
+    }
+
     /// The node of an SDF composite round its children.
-    fn composite_at(
+    fn sdf_at(
         &self,
         alloc: Global,
         k: usize,
@@ -247,6 +216,7 @@ impl<'a> Builder<'a> {
         children: Vec<Node>,
     ) -> Result<Node, BuildFault>
         requires prepared { IsPrepared self.now }
+        requires started { AreStarted self.now.starts.now }
         requires entity { IsEntity self.now.net.now k entity.now }
         requires sdf { IsSdf entity.now }
         requires children { AreBuilt self.now.net.now self.now.starts.now (children_of self.now.net.now.entities.items k) (map shown children.items) }
@@ -255,31 +225,77 @@ impl<'a> Builder<'a> {
         ensures fresh { IfOk result (λ node. IsFresh (shown_node node)) }
         ensures stands { IfErr result (BuildFaultStands self.now.net.now self.now.starts.now) }
     {
-        let wiring = self.wiring_of(alloc, k, entity)?;
-        let path = entity.path.copy(alloc)?;
-        let records = self.records_at(alloc, k, entity)?;
-        match composite(alloc, children, wiring, path, records) {
+        let frame = self.frame_of(alloc, k, entity)?;
+        match sdf_composite(alloc, children, frame.wiring, frame.path, frame.records) {
             Ok(node) => Ok(node),
             Err(fault) => Err(fault_at(alloc, fault, &entity.path)),
         }
     }
 
-    /// Whether the entity, which isn't a library actor, is an SDF composite that documents can have at this depth.
-    fn check_composite(&self, k: usize, depth: u32, entity: &NetEntity) -> Result<(), BuildFault>
+    /// The node of an SR composite round its children.
+    fn sr_at(
+        &self,
+        alloc: Global,
+        k: usize,
+        entity: &NetEntity,
+        children: Vec<Node>,
+    ) -> Result<Node, BuildFault>
+        requires prepared { IsPrepared self.now }
+        requires entity { IsEntity self.now.net.now k entity.now }
+        requires sr { IsSr entity.now }
+        requires children { AreBuilt self.now.net.now self.now.starts.now (children_of self.now.net.now.entities.items k) (map shown children.items) }
+        requires fresh { AllFresh (map shown children.items) }
+        ensures built { IfOk result (λ node. IsBuilt self.now.net.now self.now.starts.now k (shown_node node)) }
+        ensures fresh { IfOk result (λ node. IsFresh (shown_node node)) }
+        ensures stands { IfErr result (BuildFaultStands self.now.net.now self.now.starts.now) }
+    {
+        let frame = self.frame_of(alloc, k, entity)?;
+        match sr_composite(alloc, children, frame.wiring, frame.path, frame.records) {
+            Ok(node) => Ok(node),
+            Err(fault) => Err(fault_at(alloc, fault, &entity.path)),
+        }
+    }
+
+    /// The node of a composite round its children, by its director.
+    fn composite_at(
+        &self,
+        alloc: Global,
+        k: usize,
+        kind: Kind,
+        entity: &NetEntity,
+        children: Vec<Node>,
+    ) -> Result<Node, BuildFault>
+        requires prepared { IsPrepared self.now }
+        requires started { AreStarted self.now.starts.now }
+        requires entity { IsEntity self.now.net.now k entity.now }
+        requires kind { IsOfKind kind entity.now }
+        requires children { AreBuilt self.now.net.now self.now.starts.now (children_of self.now.net.now.entities.items k) (map shown children.items) }
+        requires fresh { AllFresh (map shown children.items) }
+        ensures built { IfOk result (λ node. IsBuilt self.now.net.now self.now.starts.now k (shown_node node)) }
+        ensures fresh { IfOk result (λ node. IsFresh (shown_node node)) }
+        ensures stands { IfErr result (BuildFaultStands self.now.net.now self.now.starts.now) }
+    {
+        match kind {
+            Kind::Sdf => self.sdf_at(alloc, k, entity, children),
+            Kind::Sr => self.sr_at(alloc, k, entity, children),
+        }
+    }
+
+    /// The director of the entity, which isn't a library actor, if it is a composite that is built and that documents can have at this depth.
+    fn check_composite(&self, k: usize, depth: u32, entity: &NetEntity) -> Result<Kind, BuildFault>
         requires reached { IsReached self.now k depth }
         requires entity { IsEntity self.now.net.now k entity.now }
         requires directed { IsUndirected entity.now → ⊥ }
-        ensures sdf { IfOk result (λ _. IsSdf entity.now) }
+        ensures kind { IfOk result (λ kind. IsOfKind kind entity.now) }
         ensures room { IfOk result (λ _. HasRoom self.now k depth) }
         ensures stands { IfErr result (BuildFaultStands self.now.net.now self.now.starts.now) }
     {
         if is_deepest(depth) {
             return Err(BuildFault::Unbuilt);
         }
-        if is_sdf(entity) {
-            Ok(())
-        } else {
-            Err(BuildFault::Unbuilt)
+        match kind_of(entity) {
+            Some(kind) => Ok(kind),
+            None => Err(BuildFault::Unbuilt),
         }
     }
 
@@ -304,9 +320,9 @@ impl<'a> Builder<'a> {
         if is_undirected(entity) {
             return self.actor_at(alloc, k, entity);
         }
-        self.check_composite(k, depth, entity)?;
+        let kind = self.check_composite(k, depth, entity)?;
         let children = self.children_at(alloc, k, depth)?;
-        self.composite_at(alloc, k, entity, children)
+        self.composite_at(alloc, k, kind, entity, children)
     }
 
     /// The nodes of the children of a composite, which stands below so many composites.

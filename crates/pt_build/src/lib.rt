@@ -3,6 +3,7 @@
 
 mod builder;
 mod building;
+mod entities;
 mod numbering;
 mod records;
 mod wiring;

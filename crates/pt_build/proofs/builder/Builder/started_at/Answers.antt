@@ -1,17 +1,13 @@
-use Rattle.std.proofs.Common.{◌≡◌, ℕ, List, Some, refl, sym, ap, subst, ◌∙◌}
+use Rattle.std.proofs.Common.{◌≡◌, ℕ, List, refl, sym, ap, subst, ◌∙◌}
 use Rattle.pt_library.specs.declared.library_actor.LibraryActor.{LibraryActor}
-use Rattle.pt_flow_base.specs.declared.params.Params.{Params}
-use Rattle.pt_library.specs.LibraryActor.{start}
-use Rattle.pt_library.proofs.RateLaws.{started-rated}
 use Rattle.pt_node.specs.declared.body.Held.{Held}
 use Rattle.pt_node.specs.Recorded.{RecordedPort}
 use Rattle.pt_node.specs.Shown.{Shown}
-use Rattle.pt_library.proofs.SteadyLaws.{told-steady}
 use Rattle.pt_trees.specs.Fresh.{IsFresh}
 use Rattle.pt_trees.specs.Recorded.{recorded_at, recorded_of, numbers_at}
 use Rattle.pt_trees.specs.Built.{IsBuilt, built_actor, held_node, actor_node}
 use Rattle.pt_build.proofs.TreeLaws.{actor-fresh, recorded-empty}
-use Rattle.pt_build.proofs.builder.Builder.steady_at.Goals as goal
+use Rattle.pt_build.proofs.builder.Builder.started_at.Goals as goal
 
 shows : (s : Shown) (held : Held) (a : LibraryActor) (path text : List ℕ) (records rs : List RecordedPort) → s ≡ held_node held path records → held ≡ record { start = a; actor = a } → path ≡ text → records ≡ rs → s ≡ actor_node a text rs
 shows s held a path text records rs is held_is path_is records_are =
@@ -30,7 +26,6 @@ returns-clause-fresh c =
     let net = c.args.self.now.net.now in
     let e = c.args.entity.now in
     let a = c.args.actor.now in
-    let started : (params : Params) × (start params ≡ Some a) = c.requires.started c.args.k a c.requires.actor in
     subst (λ (s : Shown). IsFresh s)
     (sym (shows _ c.in_ok-held.held a c.in_ok-path.path e.path c.in_ok-records.records (recorded_of net c.args.k e) c.actor_node.ensures c.in_ok-held.ensures c.in_ok-path.ensures c.in_ok-records.ensures))
-    (actor-fresh a e.path (recorded_of net c.args.k e) (told-steady a c.requires.steady) (started-rated started.0 a started.1) (recorded-empty (recorded_at net e) (λ n. (refl, refl)) (numbers_at c.args.k net.recorded.items)))
+    (actor-fresh a e.path (recorded_of net c.args.k e) (recorded-empty (recorded_at net e) (λ n. (refl, refl)) (numbers_at c.args.k net.recorded.items)))
