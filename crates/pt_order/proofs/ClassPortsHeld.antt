@@ -16,7 +16,7 @@ use Rattle.pt_net.specs.Wires.{is_inward, outside_of, inside_of}
 use Rattle.pt_net.specs.Net.{NetEntityTree, net_ports_of_kind, entity_view, wires, IsNetOf}
 use Rattle.pt_scopes.specs.Scopes.{net_view}
 use Rattle.pt_start.specs.Nested.{IsNested}
-use Rattle.pt_trees.specs.Trees.{IsSdf}
+use Rattle.pt_trees.specs.Trees.{IsDirected}
 use Rattle.pt_cover.proofs.Walk.{ArePlaced}
 use Rattle.pt_order.specs.ClassPorts.{ends_from, channels_at, HasClassPorts}
 use Rattle.pt_order.specs.Laws.{HasNoLinkFault}
@@ -60,9 +60,9 @@ module _ (job : JobTree) (net : Net) (seen : AreSeen (entities job)) (placed : A
       let value : counts m ≡ channels_at net k m = omega (arith, whole, first, second, all, none) in
       value
 
-  pub class-ports-held : HasNoLinkFault (tables_of job) → ((k j : ℕ) (e : NetEntity) → slice_get net.entities.items k ≡ Some e → e.parent ≡ Some j → (f : NetEntity) × (slice_get net.entities.items j ≡ Some f) × IsSdf f) → ((k : ℕ) (e : NetEntity) (d : NetDirector) → slice_get net.entities.items k ≡ Some e → e.director ≡ Some d → IsSdf e)
+  pub class-ports-held : HasNoLinkFault (tables_of job) → ((k j : ℕ) (e : NetEntity) → slice_get net.entities.items k ≡ Some e → e.parent ≡ Some j → (f : NetEntity) × (slice_get net.entities.items j ≡ Some f) × IsDirected f) → ((k : ℕ) (e : NetEntity) (d : NetDirector) → slice_get net.entities.items k ≡ Some e → e.director ≡ Some d → IsDirected e)
       → (k c : ℕ) (e : NetEntity) (class : Class) → slice_get net.entities.items k ≡ Some e → e.parent ≡ Some c → kind_of e.class ≡ Some (Actor class) → HasClassPorts net k e
-  class-ports-held clean holder sdf k c e class at round kind =
+  class-ports-held clean holder owner k c e class at round kind =
       let st = standing-of job net placed is k e at in
       let own = parts st.standing.tree in
       let kind-own : kind_of own.class ≡ Some (Actor class) = ap (λ (x : NetEntityTree). kind_of x.class) (sym st.same) ∙ kind in
@@ -84,5 +84,5 @@ module _ (job : JobTree) (net : Net) (seen : AreSeen (entities job)) (placed : A
             let here : slice_get (ports_of own) i ≡ Some q = ap (λ ps. slice_get ps i) (class-ports own class kind-own) ∙ there in
             let inward : is_inward q.direction ≡ true = ap is_inward input in
             let dirs : slice_get (map way (ports_of own)) i ≡ Some q.direction = slice_get-map way (ports_of own) i ∙ ap (λ (o : Option ClassPort). option_map way o) here in
-            sym (ends-at-input k i e st q.direction dirs inward) ∙ linked job net seen placed is nested clean sdf holder k c e st (b.0.first + i) b.0.place i q at round (b.0.ports_at i q here) inward single);
+            sym (ends-at-input k i e st q.direction dirs inward) ∙ linked job net seen placed is nested clean owner holder k c e st (b.0.first + i) b.0.place i q at round (b.0.ports_at i q here) inward single);
       }

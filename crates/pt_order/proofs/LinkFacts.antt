@@ -1,7 +1,7 @@
 -- How many links the ports of a net have in which no link is at fault.
 use Rattle.std.proofs.Common.{◌≡◌, ◌⊎◌, inl, inr, ◌<◌, ℕ, List, [], ◌∷◌, Bool, true, false, not, cond, ◌&&◌, ◌||◌, Some, length, map, bytes_eq, codes, refl, sym, ap, ◌∙◌, arith}
 use Rattle.std.specs.Option.{is_some, is_none}
-use Rattle.std.proofs.lemmas.Bool.{and_from, and_parts, or_parts}
+use Rattle.std.proofs.lemmas.Bool.{and_from, or_parts}
 use Rattle.std.proofs.lemmas.Option.{none-some, same_Some, slice_get-map}
 use Rattle.std.proofs.lemmas.Slice.Eq.{bytes_eq-Decides}
 use Rattle.std.specs.List.{slice_get}
@@ -15,7 +15,7 @@ use Rattle.pt_net.specs.Table.{PortAt, Tables, tables_of, port_path, declared_po
 use Rattle.pt_net.specs.Wires.{is_input, outside_of, inside_of}
 use Rattle.pt_net.specs.Net.{NetEntityTree, entity_view, entity_tree, wires, IsNetOf}
 use Rattle.pt_net.specs.Stands.{has_one_at_most, has_one, twice_outside, twice_inside, no_link, no_link_inside, needs_link}
-use Rattle.pt_trees.specs.Trees.{IsSdf, has_sdf}
+use Rattle.pt_trees.specs.Trees.{IsDirected}
 use Rattle.pt_cover.proofs.Walk.{ArePlaced}
 use Rattle.pt_cover.proofs.Nesting.{viewed}
 use Rattle.pt_order.specs.Laws.{HasNoLinkFault}
@@ -41,9 +41,9 @@ composite-single own i q e at =
     let v = viewed declared_port (slice_get own.ports i) q (sym (slice_get-map declared_port own.ports i) ∙ ap (λ ps. slice_get ps i) (sym (composite-ports own e)) ∙ at) in
     ap (λ (p : ClassPort). p.arity) (sym v.2)
 
--- the class of an SDF composite
-pub sdf-composite : (e : NetEntity) (s : Standing) → entity_view e ≡ entity_tree s → IsSdf e → is_composite (parts s.tree) ≡ true
-sdf-composite e s same sdf = ap (λ (x : NetEntityTree). bytes_eq x.class (codes "Composite")) (sym same) ∙ (and_parts (bytes_eq e.class (codes "Composite")) (has_sdf e.director) sdf).0
+-- the class of a composite with a director
+pub class-composite : (e : NetEntity) (s : Standing) → entity_view e ≡ entity_tree s → IsDirected e → is_composite (parts s.tree) ≡ true
+class-composite e s same directed = ap (λ (x : NetEntityTree). bytes_eq x.class (codes "Composite")) (sym same) ∙ directed.composite
 
 -- what isn't in the net is a Composite
 left-composite : (s : Standing) → is_kept s ≡ false → is_composite (parts s.tree) ≡ true
@@ -57,8 +57,8 @@ module _ (job : JobTree) (net : Net) (seen : AreSeen (entities job)) (placed : A
   abbrev t : Tables
   t = tables_of job
 
-  -- what stands in an SDF composite is no refinement
-  module _ (s : Standing) (c : ℕ) (f : NetEntity) (round : s.round.parent ≡ Some c) (at : slice_get net.entities.items c ≡ Some f) (sdf : IsSdf f) where
+  -- what stands in a composite with a director is no refinement
+  module _ (s : Standing) (c : ℕ) (f : NetEntity) (round : s.round.parent ≡ Some c) (at : slice_get net.entities.items c ≡ Some f) (directed : IsDirected f) where
     holder-composite : (i : IsIn (entities job) s.round) → is_composite (parts i.outer_at.tree) ≡ true
     holder-composite i = chosen (is_kept i.outer_at) refl
       where
@@ -67,7 +67,7 @@ module _ (job : JobTree) (net : Net) (seen : AreSeen (entities job)) (placed : A
             let number : i.outer_at.number ≡ c = same_Some i.outer_at.number c (sym (ap (λ (r : Round). r.parent) i.is ∙ ap (λ b. cond b (Some i.outer_at.number) i.outer_at.round.parent) kept) ∙ round) in
             let e = entity-of job net placed is i.outer i.outer_at i.at kept in
             let same : e.0 ≡ f = same_Some e.0 f (sym e.1 ∙ ap (slice_get net.entities.items) number ∙ at) in
-            sdf-composite f i.outer_at (ap (λ (x : NetEntity). entity_view x) (sym same) ∙ e.2) sdf
+            class-composite f i.outer_at (ap (λ (x : NetEntity). entity_view x) (sym same) ∙ e.2) directed
         chosen false out = left-composite i.outer_at out
 
     within : (s.round ≡ no_round) ⊎ IsIn (entities job) s.round → (is_some s.round.outer ≡ true) × (not s.round.is_refinement ≡ true)
@@ -75,9 +75,9 @@ module _ (job : JobTree) (net : Net) (seen : AreSeen (entities job)) (placed : A
     within (inr i) = (ap (λ (r : Round). is_some r.outer) i.is, ap (λ (r : Round). not r.is_refinement) i.is ∙ ap not (modal-not (parts i.outer_at.tree) (holder-composite i)))
 
   -- a single input there has one link
-  pub single-linked : (g : ℕ) (p : PortAt) (c : ℕ) (f : NetEntity) → slice_get t.ports g ≡ Some p → is_kept p.standing ≡ true → is_input p ≡ true → p.port.arity ≡ Single → p.standing.round.parent ≡ Some c → slice_get net.entities.items c ≡ Some f → IsSdf f → length (outside_of (wires t) g) ≡ 1
-  single-linked g p c f there kept input single round at sdf =
-      let w = within p.standing c f round at sdf (seen p.entity p.standing (port-there (entities job) seen placed g p there)).round in
+  pub single-linked : (g : ℕ) (p : PortAt) (c : ℕ) (f : NetEntity) → slice_get t.ports g ≡ Some p → is_kept p.standing ≡ true → is_input p ≡ true → p.port.arity ≡ Single → p.standing.round.parent ≡ Some c → slice_get net.entities.items c ≡ Some f → IsDirected f → length (outside_of (wires t) g) ≡ 1
+  single-linked g p c f there kept input single round at composite =
+      let w = within p.standing c f round at composite (seen p.entity p.standing (port-there (entities job) seen placed g p there)).round in
       let needs : needs_link p ≡ true =
       and_from (is_input p && has_one p.port.arity && is_kept p.standing && is_some p.standing.round.outer) (not p.standing.round.is_refinement)
       (and_from (is_input p && has_one p.port.arity && is_kept p.standing) (is_some p.standing.round.outer)

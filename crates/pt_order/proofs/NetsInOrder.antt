@@ -25,10 +25,10 @@ use Rattle.pt_order.specs.Laws.{IsNetOfDocument, NetsAreInOrder}
 use Rattle.pt_order.proofs.PortRules.{own-names}
 use Rattle.pt_order.proofs.Standings.{AreSeen, documents-seen}
 use Rattle.pt_order.proofs.NetStandings.{standing-of}
-use Rattle.pt_order.proofs.LinkFacts.{sdf-composite}
+use Rattle.pt_order.proofs.LinkFacts.{class-composite}
 use Rattle.pt_order.proofs.WiredNets.{wired}
 use Rattle.pt_order.proofs.ClassPortsHeld.{class-ports-held}
-use Rattle.pt_order.proofs.TreeCover.{actor-kind, directed-sdf, holder-sdf, stands-in, undirected-class}
+use Rattle.pt_order.proofs.TreeCover.{actor-kind, directed-composite, holder-composite, stands-in, undirected-class}
 
 -- the ports of a Composite are those that it declares
 composite-declares : (own : Parts) → is_composite own ≡ true → net_ports own ≡ own.ports
@@ -49,7 +49,7 @@ module _ (net : Net) (starts : Starts) (top : Tree) (doc : IsNetOfDocument net) 
   nested = net-nested doc.job net leaves doc.made
 
   is-wired : IsWired net
-  is-wired = wired doc.job net seen placed doc.made nested doc.clean (directed-sdf doc.job net starts top leaves doc.made by_class tree) (holder-sdf doc.job net starts top leaves doc.made by_class tree)
+  is-wired = wired doc.job net seen placed doc.made nested doc.clean (directed-composite doc.job net starts top leaves doc.made by_class tree) (holder-composite doc.job net starts top leaves doc.made by_class tree)
 
   have-class-ports : (e : NetEntity) (d : NetDirector) → slice_get net.entities.items 0 ≡ Some e → e.director ≡ Some d → HaveClassPorts net
   have-class-ports first d at directed k e there none =
@@ -58,14 +58,14 @@ module _ (net : Net) (starts : Starts) (top : Tree) (doc : IsNetOfDocument net) 
       let same : (parts st.standing.tree).class ≡ e.class = ap (λ (x : NetEntityTree). x.class) (sym st.same) in
       let kind = actor-kind e.class read.kind (ap kind_of (sym same) ∙ read.kind_is) (undirected-class doc.job net starts top leaves doc.made by_class tree k e there none) in
       let round = stands-in doc.job net starts top leaves doc.made by_class tree k e there (λ zero. none-some d (sym none ∙ ap (λ (x : NetEntity). x.director) (same_Some e first (sym there ∙ ap (slice_get net.entities.items) zero ∙ at)) ∙ directed)) in
-      class-ports-held doc.job net seen placed doc.made nested doc.clean (holder-sdf doc.job net starts top leaves doc.made by_class tree) (directed-sdf doc.job net starts top leaves doc.made by_class tree) k round.0 e kind.0 there round.1 kind.1
+      class-ports-held doc.job net seen placed doc.made nested doc.clean (holder-composite doc.job net starts top leaves doc.made by_class tree) (directed-composite doc.job net starts top leaves doc.made by_class tree) k round.0 e kind.0 there round.1 kind.1
 
   have-own-names : (k : ℕ) (e : NetEntity) (d : NetDirector) → slice_get net.entities.items k ≡ Some e → e.director ≡ Some d → HaveOwnNames (entity_view e).ports
   have-own-names k e d at directed =
       let st = standing-of doc.job net placed doc.made k e at in
       let own = parts st.standing.tree in
       let read = (seen st.place st.standing st.at).read in
-      let composite = sdf-composite e st.standing st.same (directed-sdf doc.job net starts top leaves doc.made by_class tree k e d at directed) in
+      let composite = class-composite e st.standing st.same (directed-composite doc.job net starts top leaves doc.made by_class tree k e d at directed) in
       let ports : own.ports ≡ (entity_view e).ports = sym (ap (λ (x : NetEntityTree). x.ports) st.same ∙ composite-declares own composite) in
       subst HaveOwnNames ports (own-names own.ports read.distinct)
 

@@ -22,7 +22,7 @@ use Rattle.pt_scopes.specs.Scopes.{net_view}
 use Rattle.pt_start.specs.Nested.{IsNested}
 use Rattle.pt_net.specs.Inside as wiring
 use Rattle.pt_net.specs.Inside.{is_number, children_from, children_of, channels_in, is_input, is_output}
-use Rattle.pt_trees.specs.Trees.{IsSdf}
+use Rattle.pt_trees.specs.Trees.{IsDirected}
 use Rattle.pt_cover.proofs.Walk.{ArePlaced}
 use Rattle.pt_cover.proofs.Nesting.{viewed}
 use Rattle.pt_order.specs.Wired.{arrivals, departures, goes_out, number_if, port_numbers, BeginsIn, at_own, at_child, IsWired}
@@ -35,7 +35,7 @@ use Rattle.pt_order.proofs.PortTables.{port-of}
 use Rattle.pt_order.proofs.Owners.{one-owner, port-there, giver, source-owner, joined-owner, place-at, place-owner}
 use Rattle.pt_order.proofs.Sides.{is_outward, ComesIn, GoesOut, AreParted, parted}
 use Rattle.pt_order.proofs.NetStandings.{port_way, net-ways, port-in-net, is-directed, IsStandingOf, standing-of, entity-of}
-use Rattle.pt_order.proofs.LinkFacts.{composite-single, sdf-composite, single-linked, inside-linked}
+use Rattle.pt_order.proofs.LinkFacts.{composite-single, class-composite, single-linked, inside-linked}
 
 -- ---- numbers
 
@@ -176,8 +176,8 @@ module _ (job : JobTree) (net : Net) (seen : AreSeen (entities job)) (placed : A
       let b = subst (λ (m : ℕ). IsPortBlock t.ports (inside_of (wires t)) is_outward m st.standing (filter (ending m) in-parts.outs)) z (block-at to_entity (IsOf GoesOut) (IsPortBlock t.ports (inside_of (wires t)) is_outward) 0 (filter is_kept all) in-parts.outs k st.standing in-parts.go st.among) in
       (b, ap (map to_port) (departures-are k) ∙ b.ends)
 
-  -- where each composite with a director is one of SDF, and so is what each entity stands in
-  module _ (clean : HasNoLinkFault t) (sdf : (k : ℕ) (e : NetEntity) (d : NetDirector) → slice_get es k ≡ Some e → e.director ≡ Some d → IsSdf e) (holder : (k j : ℕ) (e : NetEntity) → slice_get es k ≡ Some e → e.parent ≡ Some j → (f : NetEntity) × (slice_get es j ≡ Some f) × IsSdf f) where
+  -- where each entity with a director is a composite, and so is what each entity stands in
+  module _ (clean : HasNoLinkFault t) (owner : (k : ℕ) (e : NetEntity) (d : NetDirector) → slice_get es k ≡ Some e → e.director ≡ Some d → IsDirected e) (holder : (k j : ℕ) (e : NetEntity) → slice_get es k ≡ Some e → e.parent ≡ Some j → (f : NetEntity) × (slice_get es j ≡ Some f) × IsDirected f) where
     -- a single input has one link
     pub linked : (k c : ℕ) (e : NetEntity) (st : IsStandingOf all k e) (g n m : ℕ) (q : ClassPort) → slice_get es k ≡ Some e → e.parent ≡ Some c → slice_get t.ports g ≡ Some (record { entity = n; standing = st.standing; number = m; port = q }) → is_inward q.direction ≡ true → q.arity ≡ Single → length (outside_of (wires t) g) ≡ 1
     linked k c e st g n m q at round there input single =
@@ -188,7 +188,7 @@ module _ (job : JobTree) (net : Net) (seen : AreSeen (entities job)) (placed : A
     input-ports k c e d at directed round =
         let st = standing-of job net placed is k e at in
         let b = arriving k e st in
-        let composite = sdf-composite e st.standing st.same (sdf k e d at directed) in
+        let composite = class-composite e st.standing st.same (owner k e d at directed) in
         b.1
         ∙ spread-once is_inward (λ m. length (outside_of (wires t) (b.0.first + m))) 0 (map way (ports_of (parts st.standing.tree))) (λ m w there input. once st b.0 composite m w there input)
         ∙ ap (numbers_of is_inward 0) (sym (net-ways e st.standing st.same)) ∙ input-numbers 0 e.ports.items
@@ -203,7 +203,7 @@ module _ (job : JobTree) (net : Net) (seen : AreSeen (entities job)) (placed : A
     output-ports k e d at directed =
         let st = standing-of job net placed is k e at in
         let b = departing k e st in
-        let composite = sdf-composite e st.standing st.same (sdf k e d at directed) in
+        let composite = class-composite e st.standing st.same (owner k e d at directed) in
         b.1
         ∙ spread-once is_outward (λ m. length (inside_of (wires t) (b.0.first + m))) 0 (map way (ports_of (parts st.standing.tree))) (λ m w there output. once st b.0 composite m w there)
         ∙ ap (numbers_of is_outward 0) (sym (net-ways e st.standing st.same)) ∙ output-numbers 0 e.ports.items
