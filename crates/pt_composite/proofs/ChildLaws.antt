@@ -1,11 +1,10 @@
 -- What holds of a child, whatever it fires, by its library or by its director.
-use Rattle.std.proofs.Common.{◌≡◌, ◌⊎◌, inl, inr, ℕ, List, [], ◌∷◌, length, Bool, true, false, Some, refl, sym, ap, subst, ◌∙◌}
+use Rattle.std.proofs.Common.{◌≡◌, ◌⊎◌, inl, inr, List, [], ◌∷◌, true, Some, refl, sym, ap, subst, ◌∙◌}
 use Rattle.pt_meaning.specs.Basics.{Tag, Streams}
 use Rattle.pt_meaning.specs.Closed.{on_answer}
-use Rattle.pt_meaning.specs.Machine.{Counts}
 use Rattle.pt_meaning.specs.NodeFacts.{core_need, need_of}
 use Rattle.pt_meaning.specs.Start.{IsAtStart}
-use Rattle.pt_meaning.specs.Tree.{Answer, Gives, Fails, Core, Past, Nodes, Actor, Composite}
+use Rattle.pt_meaning.specs.Tree.{Answer, Gives, Fails, Past, Actor, Composite}
 use Rattle.pt_core.specs.Reached.{Always}
 use Rattle.pt_core.proofs.ReachedLaws as reached
 use Rattle.pt_value.specs.declared.token.Token.{Token}

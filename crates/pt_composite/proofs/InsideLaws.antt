@@ -1,9 +1,8 @@
 -- The inside that is made, and that there is no other.
-use Rattle.std.proofs.Common.{◌≡◌, ℕ, List, [], ◌∷◌, length, map, Option, refl, sym, ap, ap₂, ◌∙◌, subst}
+use Rattle.std.proofs.Common.{◌≡◌, ℕ, List, [], ◌∷◌, length, map, Option, refl, sym, ap, ap₂, ◌∙◌}
 use Rattle.pt_meaning.specs.Running.{total}
 use Rattle.pt_plan.specs.declared.inside.Inside.{Inside}
 use Rattle.pt_plan.specs.Inside.{IsInside}
-use Rattle.pt_core.specs.Source.{source_of}
 use Rattle.pt_node.specs.View.{Tree}
 use Rattle.pt_trees.specs.Around.{Around, IsInsideOf, HasInside}
 use Rattle.pt_composite.specs.Needs.{NeedAll}

@@ -5,8 +5,6 @@ use Rattle.std.proofs.Math.ListN.{get_or-map}
 use Rattle.pt_meaning.specs.Basics.{Streams}
 use Rattle.pt_meaning.specs.Net as net
 use Rattle.pt_meaning.specs.Start.{first_of, first_held}
-use Rattle.pt_meaning.specs.Tree.{Rows}
-use Rattle.pt_meaning.specs.Tree as tree
 use Rattle.pt_value.specs.declared.token.Token.{Token}
 use Rattle.pt_core.specs.declared.source.Source.{Source}
 use Rattle.pt_core.specs.Source.{source_of}

@@ -1,9 +1,9 @@
 -- The needs of children, place by place.
-use Rattle.std.proofs.Common.{◌≡◌, ℕ, zero, suc, ◌+◌, ◌<◌, ◌≤◌, List, [], ◌∷◌, ◌++◌, length, take, drop, Option, Some, refl, sym, ap, ap₂, ◌∙◌, subst, arith, length-drop}
+use Rattle.std.proofs.Common.{◌≡◌, ℕ, zero, suc, ◌+◌, ◌<◌, List, [], ◌∷◌, ◌++◌, length, take, drop, Some, refl, sym, ap, ap₂, ◌∙◌, arith, length-drop}
 use Rattle.std.proofs.lemmas.List.{take-append-le, drop-append-le, take-append-drop, length-take-le}
-use Rattle.std.proofs.Math.Seq.{take-length, drop-length}
+use Rattle.std.proofs.Math.Seq.{take-length}
 use Rattle.pt_meaning.specs.Streams.{get}
-use Rattle.pt_meaning.specs.Machine.{Need, Counts, Facts}
+use Rattle.pt_meaning.specs.Machine.{Counts, Facts}
 use Rattle.pt_meaning.specs.Running.{total}
 use Rattle.pt_sdf.specs.ByNeed.{needs_of, planned}
 

@@ -1,15 +1,13 @@
 -- The nodes of the code as children, one after another.
 use Rattle.std.proofs.Common.{◌≡◌, ℕ, zero, suc, ◌+◌, ◌<◌, ◌≤◌, List, [], ◌∷◌, ◌++◌, length, take, map, get_or, Option, Some, refl, sym, ap, ap₂, ◌∙◌, subst, arith}
 use Rattle.std.specs.Prelude.{slice_get, None}
-use Rattle.std.proofs.lemmas.List.{take_more, length-take-le, map_more, length-map}
+use Rattle.std.proofs.lemmas.List.{take_more}
 use Rattle.pt_meaning.specs.Streams.{get}
-use Rattle.pt_meaning.specs.Machine.{Counts}
 use Rattle.pt_meaning.specs.NodeFacts.{facts_of}
-use Rattle.pt_meaning.specs.Running.{total}
-use Rattle.pt_sdf.specs.ByNeed.{needs_of, planned}
+use Rattle.pt_sdf.specs.ByNeed.{planned}
 use Rattle.pt_library.specs.LibraryActor.{rows}
 use Rattle.pt_node.specs.declared.node.Node.{Node}
-use Rattle.pt_node.specs.Shown.{Shown, shown, shown_node}
+use Rattle.pt_node.specs.Shown.{shown, shown_node}
 use Rattle.pt_node.specs.View.{Tree, node_of}
 use Rattle.pt_node.proofs.Link.{shown-node}
 use Rattle.pt_trees.specs.Composite.{trees_of}

@@ -1,22 +1,17 @@
 -- The SR composite that is built is fresh, and it is the one of the definitions.
-use Rattle.std.proofs.Common.{◌≡◌, ◌⊎◌, inl, inr, ℕ, zero, suc, ◌+◌, ◌<◌, ◌≤◌, List, [], ◌∷◌, length, map, get_or, Bool, true, false, not, None, Some, refl, sym, ap, ap₂, ◌∙◌, subst, arith}
-use Rattle.pt_meaning.specs.Basics.{Tag}
-use Rattle.pt_meaning.specs.Machine.{Counts, Partial}
-use Rattle.pt_meaning.specs.Net.{Source}
+use Rattle.std.proofs.Common.{◌≡◌, ℕ, zero, suc, List, [], ◌∷◌, length, map, get_or, Bool, true, false, not, Some, refl, sym, ap, ◌∙◌, subst, arith}
+use Rattle.pt_meaning.specs.Machine.{Counts}
 use Rattle.pt_meaning.specs.NodeFacts.{facts_of, core_need, need_of}
-use Rattle.pt_meaning.specs.Running.{total}
 use Rattle.pt_meaning.specs.Start.{IsAtStart}
 use Rattle.pt_meaning.specs.Streams.{get}
 use Rattle.pt_meaning.specs.Tree as tree
 use Rattle.pt_meaning.specs.Tree.{Core, Past, Nodes, Actor, Composite}
-use Rattle.pt_meaning.specs.Valuation.{known}
 use Rattle.pt_laws.specs.Heights.{IsFitting}
-use Rattle.pt_laws.specs.StartedRuns.{ArePlans, IsWhole}
+use Rattle.pt_laws.specs.StartedRuns.{IsWhole}
 use Rattle.pt_value.specs.declared.token.Token.{Token}
 use Rattle.pt_core.specs.Reached.{Always, AllAlways}
 use Rattle.pt_core.proofs.ReachedLaws as reached
 use Rattle.pt_core.specs.declared.either.Either.TheVariants.{Other}
-use Rattle.pt_sdf.specs.ByNeed.{needs_of, planned}
 use Rattle.pt_sr.specs.Clauses.{State}
 use Rattle.pt_sr.specs.Chain.{IsStrict}
 use Rattle.pt_sr.specs.SrActs.{IsStrictIf, HasPlaces, Suits}
@@ -24,7 +19,6 @@ use Rattle.pt_sr.specs.State.{started}
 use Rattle.pt_library.specs.declared.library_actor.LibraryActor.{LibraryActor}
 use Rattle.pt_library.specs.LibraryActor as library
 use Rattle.pt_library.specs.LibraryActor.{rows}
-use Rattle.pt_library.specs.Steady.{after}
 use Rattle.pt_library.proofs.PlaceLaws.{places-stay}
 use Rattle.pt_library.proofs.StrictLaws.{told-strict}
 use Rattle.pt_node.specs.Recorded.{RecordedPort}

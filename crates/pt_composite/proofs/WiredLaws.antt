@@ -1,5 +1,5 @@
 -- Whether a wiring is one of an SR composite, and the plan of one.
-use Rattle.std.proofs.Common.{◌≡◌, ◌↔◌, ℕ, zero, suc, ◌+◌, ◌<◌, ◌≤◌, ◌^◌, List, [], ◌∷◌, length, get_or, map, replicate, Bool, true, false, refl, sym, ap, ap₂, ◌∙◌, subst, arith}
+use Rattle.std.proofs.Common.{◌≡◌, ◌↔◌, ℕ, zero, suc, ◌+◌, ◌<◌, ◌^◌, List, [], ◌∷◌, length, map, replicate, Bool, true, false, refl, sym, ap, ◌∙◌, subst, arith}
 use Rattle.std.specs.Prelude.{All}
 use Rattle.std.proofs.lemmas.List.{length-map, length-replicate}
 use Rattle.pt_meaning.specs.Net as net
@@ -14,7 +14,7 @@ use Rattle.pt_sr.specs.Plan.{plan_of, IsNamed, IsLawful}
 use Rattle.pt_library.specs.LibraryActor.{rows}
 use Rattle.pt_node.specs.View.{Tree}
 use Rattle.pt_trees.specs.declared.wiring.Wiring.{Wiring}
-use Rattle.pt_trees.specs.Around.{Around, around_of, tick_plan, IsWired, IsWiredIf}
+use Rattle.pt_trees.specs.Around.{around_of, tick_plan, IsWired, IsWiredIf}
 use Rattle.pt_composite.specs.Needs.{NeedAll}
 use Rattle.pt_composite.specs.Nonstrict.{is_nonstrict}
 use Rattle.pt_composite.proofs.NeedLaws.{needs-length, planned-length}

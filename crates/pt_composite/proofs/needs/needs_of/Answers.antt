@@ -1,4 +1,4 @@
-use Rattle.std.proofs.Common.{◌<◌, ℕ, List, arith, refl, subst, get_or, length}
+use Rattle.std.proofs.Common.{ℕ, List, arith, refl, subst, get_or}
 use Rattle.pt_node.specs.declared.node.Node.{Node}
 use Rattle.pt_node.specs.Shown.{shown_node}
 use Rattle.pt_node.specs.View.{node_of}

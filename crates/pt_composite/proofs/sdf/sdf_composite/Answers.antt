@@ -15,7 +15,7 @@ use Rattle.pt_node.specs.declared.node.Node.{Node}
 use Rattle.pt_node.specs.Shown.{Shown, shown}
 use Rattle.pt_node.specs.View.{Tree}
 use Rattle.pt_trees.specs.Around.{around_of, IsInsideOf}
-use Rattle.pt_trees.specs.Composite.{trees_of, IsSdfComposite, SdfFaultStands}
+use Rattle.pt_trees.specs.Composite.{trees_of, IsSdfComposite}
 use Rattle.pt_trees.specs.Rates.{AllStarted}
 use Rattle.pt_composite.specs.Nodes.{built}
 use Rattle.pt_composite.proofs.SdfLaws.{first-counted, composite-is}

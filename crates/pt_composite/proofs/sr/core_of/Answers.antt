@@ -1,4 +1,4 @@
-use Rattle.std.proofs.Common.{◌≡◌, ◌<◌, ◌^◌, Bool, List, length, map, sym, ◌∙◌, subst, refl, ℕ, IfOk}
+use Rattle.std.proofs.Common.{◌≡◌, ◌<◌, ◌^◌, Bool, List, length, map, sym, subst, refl, ℕ, IfOk}
 use Rattle.pt_meaning.specs.Valuation.{TickPlan}
 use Rattle.pt_sr.specs.declared.plan.CorePlan.{CorePlan}
 use Rattle.pt_sr.specs.State.{started}

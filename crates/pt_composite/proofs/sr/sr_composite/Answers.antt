@@ -1,4 +1,4 @@
-use Rattle.std.proofs.Common.{◌≡◌, Bool, true, false, List, map, sym, ap, ◌∙◌, subst}
+use Rattle.std.proofs.Common.{◌≡◌, Bool, List, map, sym, ap, ◌∙◌, subst}
 use Rattle.pt_core.specs.declared.either.Either.TheVariants.{Other}
 use Rattle.pt_sr.specs.Clauses.{State}
 use Rattle.pt_sr.specs.State.{started}

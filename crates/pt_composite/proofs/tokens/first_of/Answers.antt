@@ -1,4 +1,4 @@
-use Rattle.std.proofs.Common.{map, Some, None, Option, sym, ap, ◌∙◌, ◌≡◌, List}
+use Rattle.std.proofs.Common.{map, None, Option, sym, ap, ◌∙◌, ◌≡◌, List}
 use Rattle.pt_meaning.specs.Start.{first_of, first_of_node}
 use Rattle.pt_meaning.specs.Streams.{get}
 use Rattle.pt_core.specs.declared.source.Source.{Source}

@@ -1,4 +1,4 @@
-use Rattle.std.proofs.Common.{map, ◌∙◌, ap, sym, arith, refl, replicate, [], length, List}
+use Rattle.std.proofs.Common.{map, ◌∙◌, ap, sym, arith, refl, replicate, [], length}
 use Rattle.std.proofs.lemmas.List.{length-map}
 use Rattle.pt_core.specs.declared.source.Source.TheVariants.{Own}
 use Rattle.pt_core.specs.Source.{source_of}
