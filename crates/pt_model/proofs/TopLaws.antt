@@ -1,6 +1,8 @@
 -- What is known of the node at the top of a net.
 use Rattle.std.proofs.Common.{◌≡◌, ℕ, ◌+◌, List, [], ◌∷◌, length, map, filter, refl, sym, ap, subst, ◌∙◌, Bool, true, false, cond, arith}
-use Rattle.std.specs.Prelude.{Option, Some, None, option_map, count_by, nat_eq, ◌&&◌, bytes_eq, codes}
+use Rattle.std.specs.Prelude.{Option, Some, None, option_map, count_by, nat_eq, ◌&&◌, bytes_eq, codes, Vec}
+use Rattle.std.specs.Global.{Global}
+use Rattle.std.proofs.lemmas.List.{length-map}
 use Rattle.std.proofs.lemmas.List.Recursion.{is_count_by}
 use Rattle.std.specs.Option.{is_none}
 use Rattle.std.proofs.lemmas.Bool.{and_parts}
@@ -26,11 +28,15 @@ use Rattle.pt_start.specs.Places.{director_in}
 use Rattle.pt_start.specs.Misplaced.{undirected}
 use Rattle.pt_start.proofs.Outward.{view-at}
 use Rattle.pt_job.specs.Inputs.{inputs_at, own_inputs, ComeTo, AreSupplied, has_ticks, ticks_at, may_lack}
+use Rattle.pt_core.specs.declared.either.Either.TheVariants.{First, Other}
+use Rattle.pt_sdf.specs.Clauses as sdf
+use Rattle.pt_sr.specs.Clauses as sr
+use Rattle.pt_directors.specs.Directors.{Director}
 use Rattle.pt_node.specs.declared.body.Body.{Body}
 use Rattle.pt_node.specs.declared.body.Body.TheVariants.{Actor, Composite}
 use Rattle.pt_node.specs.Recorded.{RecordedPort}
 use Rattle.pt_node.specs.Shown.{Shown, AllShown, Branch, none, more, all_of, list_of}
-use Rattle.pt_node.specs.View.{Tree, Trees, node_of, nodes_of, node_with}
+use Rattle.pt_node.specs.View.{Tree, Trees, core_of, node_of, nodes_of, node_with}
 use Rattle.pt_library.specs.LibraryActor.{rows}
 use Rattle.pt_trees.specs.Composite.{children_in, trees_of}
 use Rattle.pt_trees.specs.Fresh as fresh
@@ -39,8 +45,11 @@ use Rattle.pt_trees.specs.Trees.{IsEntity, IsUndirected, has_sdf, IsSdf, around_
 use Rattle.pt_trees.specs.Around.{tick_plan}
 use Rattle.pt_trees.specs.Built.{IsBuilt, AreBuilt, built_actor, built_sdf, built_sr, none_built, more_built}
 use Rattle.pt_trees.specs.Start.{IsBranched, HasLeaves, AllHaveLeaves, AreUntold, IsUnrecorded, AllUnrecorded, IsRunnable}
+use Rattle.pt_trees.specs.declared.top.SdfJob.{SdfJob}
+use Rattle.pt_trees.specs.declared.top.SrJob.{SrJob}
 use Rattle.pt_trees.specs.declared.top.Top.{Top}
-use Rattle.pt_trees.specs.Top.{IsJobFor}
+use Rattle.pt_trees.specs.declared.top.Top.TheVariants as top
+use Rattle.pt_trees.specs.Top.{supply_of, IsJobFor}
 use Rattle.pt_elaboration.specs.Resolved.{IsPlaced}
 use Rattle.pt_model.specs.Model.{IsCompositeBody}
 use Rattle.pt_elaboration.proofs.Lists.{zip-length}
@@ -133,6 +142,15 @@ directed h (Composite director) kids c ns e = tt
 pub top-directs : (net : Net) (s : Shown) → HasCore net s → IsCompositeBody (body_of s)
 top-directs net (Branch f ks) has = directed f.past f.body (nodes_of ks) has.core has.kids has.node
 
+-- the core of its director
+core-in : tree.Core Token → Tree → tree.Core Token
+core-in d (tree.Actor h a b) = d
+core-in d (tree.Composite h c e kids) = e
+
+core-is : (net : Net) (s : Shown) (has : HasCore net s) (d : Director) → body_of s ≡ Composite d → IsCoreOf has.entity (core_of d)
+unfolding core-in
+core-is net (Branch f ks) has d e = subst (λ v. IsCoreOf has.entity v) (ap (core-in has.core) (sym has.node ∙ ap (λ b. node_with f.past b (nodes_of ks)) e)) has.is
+
 -- under SDF no token may be absent
 sdf-full : (d : Option NetDirector) → has_sdf d ≡ true → has_ticks (option_map director_view d) ≡ false
 sdf-full None e = absurd (cc)
@@ -142,6 +160,25 @@ pub sdf-present : (net : Net) (e : NetEntity) → IsEntity net 0 e → IsSdf e �
 sdf-present net e at sdf =
     ap (λ o. ticks_at o) (view-at entity_view net.entities.items 0 e at)
     ∙ sdf-full e.director (and_parts (bytes_eq e.class (codes "Composite")) (has_sdf e.director) sdf).1
+
+-- ---- the job of the top
+
+pub sdf-top : (net : Net) (s : Shown) (has : HasCore net s) (st : sdf.State) → body_of s ≡ Composite (First st) → may_lack (net_view net) ≡ false
+sdf-top net s has st e = sdf-present net has.entity has.at (core-is net s has (First st) e).0
+
+pub sdf-fits : (net : Net) (values : Values) (s : Shown) (has : HasCore net s) (st : sdf.State) (j : SdfJob) → body_of s ≡ Composite (First st) → AreSupplied (net_view net) values (supply_of (top.Sdf j)) → j.takes ≡ st.plan.takes → IsJobFor (top.Sdf j) (node_of s)
+sdf-fits net values (Branch f ks) has st j e supplied takes =
+    let is = core-is net (Branch f ks) has (First st) e in
+    let long : length j.inputs.items ≡ length j.takes =
+    sym (length-map j.inputs.items (λ (ts : List Token). map Some ts)) ∙ lists-counted net values has.entity (supply_of (top.Sdf j)) has.at supplied ∙ sym is.1 ∙ ap (λ (v : List ℕ). length v) (sym takes) in
+    subst (λ b. IsJobFor (top.Sdf j) (node_with f.past b (nodes_of ks))) (sym e) (sym takes, long)
+
+pub sr-fits : (net : Net) (values : Values) (s : Shown) (has : HasCore net s) (st : sr.State) (j : SrJob) → body_of s ≡ Composite (Other st) → AreSupplied (net_view net) values (supply_of (top.Sr j)) → IsJobFor (top.Sr j) (node_of s)
+sr-fits net values (Branch f ks) has st j e supplied =
+    let is = core-is net (Branch f ks) has (Other st) e in
+    let long : length j.inputs.items ≡ st.tick.plan.inputs =
+    sym (length-map j.inputs.items (λ (ts : Vec (Option Token) Global). ts.items)) ∙ lists-counted net values has.entity (supply_of (top.Sr j)) has.at supplied ∙ sym is in
+    subst (λ b. IsJobFor (top.Sr j) (node_with f.past b (nodes_of ks))) (sym e) long
 
 -- ---- library actors have no children
 

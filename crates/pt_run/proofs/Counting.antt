@@ -1,6 +1,6 @@
 -- The number of firings that a tree counts is that of the log by which what is kept of it went on.
 use Rattle.std.proofs.Common.{◌≡◌, ℕ, zero, suc, ◌+◌, ◌<◌, List, [], ◌∷◌, ◌++◌, refl, sym, ap, ap₂, subst, ◌∙◌, arith}
-use Rattle.pt_meaning.specs.Basics.{Tag, Streams, Event, Finished, Met, Firing, Log, Path, own, log_then, firings_in}
+use Rattle.pt_meaning.specs.Basics.{Tag, Streams, Event, Finished, Met, Firing, Log, Path, firings_in}
 use Rattle.pt_meaning.specs.Headline as headline
 use Rattle.pt_meaning.specs.Start.{IsAtStart, AllAtStart}
 use Rattle.pt_meaning.specs.Tree as tree

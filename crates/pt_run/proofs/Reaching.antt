@@ -1,5 +1,5 @@
 -- The top after whole firings, one more, and what a run comes to where it ends.
-use Rattle.std.proofs.Common.{◌≡◌, ℕ, zero, suc, ◌<◌, ◌≤◌, max, List, [], ◌∷◌, ◌++◌, Option, Some, None, refl, sym, ap, subst, ◌∙◌, arith}
+use Rattle.std.proofs.Common.{◌≡◌, ℕ, suc, ◌<◌, ◌≤◌, max, List, [], ◌∷◌, ◌++◌, Option, Some, None, refl, sym, ap, subst, ◌∙◌, arith}
 use Rattle.pt_meaning.specs.Basics.{Tag, Streams, IsPrefix, Path, Event, Finished, Met, Log, LogBelow, silent, log_then, firings_in}
 use Rattle.pt_meaning.specs.Log.{meetings_in}
 use Rattle.pt_meaning.specs.Machine.{Fault, Outcome, Done, Stuck}

@@ -5,7 +5,7 @@ use Rattle.pt_meaning.specs.Node.{Answer, Gives, Fails}
 use Rattle.pt_meaning.specs.Tree as tree
 use Rattle.pt_meaning.specs.NodeFacts.{need_of}
 use Rattle.pt_meaning.specs.Closed.{on_answer}
-use Rattle.pt_core.specs.Reached.{Becomes, Always}
+use Rattle.pt_core.specs.Reached.{Always}
 use Rattle.pt_core.proofs.ReachedLaws.{actor-becomes}
 use Rattle.pt_core.proofs.ReachedLaws as reached
 use Rattle.pt_value.specs.declared.token.Token.{Token}

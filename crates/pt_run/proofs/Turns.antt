@@ -1,16 +1,16 @@
 -- What a job asks of its top fits the top, and goes on doing so.
-use Rattle.std.proofs.Common.{◌≡◌, ℕ, suc, List, [], ◌∷◌, Bool, true, false, length, map, nat_lt, Option, Some, None, refl, sym, ap, ap₂, subst, ◌∙◌, arith}
+use Rattle.std.proofs.Common.{◌≡◌, ℕ, suc, List, [], ◌∷◌, Bool, true, false, length, nat_lt, Option, refl, sym, ap, subst, ◌∙◌, arith}
 use Rattle.std.proofs.lemmas.List.{length-map}
 use Rattle.std.specs.Prelude.{Vec}
 use Rattle.std.specs.Global.{Global}
 use Rattle.pt_meaning.specs.Basics.{Tag, Streams, Log}
 use Rattle.pt_meaning.specs.Tag.{origin}
-use Rattle.pt_meaning.specs.Machine.{Outcome, Done}
+use Rattle.pt_meaning.specs.Machine.{Done}
 use Rattle.pt_meaning.specs.Meetings.{Meets}
 use Rattle.pt_meaning.specs.Tree as tree
 use Rattle.pt_meaning.specs.Tree.{Rows, Node}
 use Rattle.pt_meaning.specs.Step.{step_at, Step}
-use Rattle.pt_meaning.specs.Job.{Turn, Fire}
+use Rattle.pt_meaning.specs.Job.{Fire}
 use Rattle.pt_meaning.specs.Schedule.{portions, suffice, if_more, tokens_at, lists_last}
 use Rattle.pt_laws.proofs.FiringLaws.{done-within}
 use Rattle.pt_value.specs.declared.token.Token.{Token}
