@@ -4,9 +4,10 @@ use crate::balance::repetitions;
 use crate::pt_firing::{Actor, Answer, Counts, Inputs, Need, Ports, Tokens, Values};
 use crate::pt_flow_base::Params;
 use crate::pt_library::LibraryActor;
-use crate::pt_node::{Body, Director, Held, Node, Past, Recorded, Records};
+use crate::pt_core::{Either, Source};
+use crate::pt_node::{Body, Held, Node, Past, Recorded, Records};
 use crate::pt_recv::Channels;
-use crate::pt_sdf::{Core, CorePlan, Source};
+use crate::pt_sdf::{Core, CorePlan};
 use crate::pt_seq::fire_within;
 use crate::pt_time::Tag;
 use crate::pt_value::{Text, Token};
@@ -345,7 +346,7 @@ pub fn build(kind: &str, size: usize, by: &str) -> (Node, usize, usize) {
     let core = Core::new(GLOBAL, plan, first).ok().unwrap();
     let top = Node {
         past: Past { made: 0, last: None },
-        body: Body::Composite(Director::Sdf(core)),
+        body: Body::Composite(Either::First(core)),
         children,
         records: Records::of(Row::new(GLOBAL)),
         path: text("top"),
@@ -375,7 +376,7 @@ fn checksum(numbers: impl Iterator<Item = i64>) -> (u64, u64) {
     (sum, count)
 }
 
-#[no_mangle]
+#[unsafe(no_mangle)]
 pub extern "C" fn proto_main() {
     let words: Vec<String> = std::env::args().skip(1).collect();
     let (kind, size, iterations) = (&words[0], words[1].parse().unwrap(), words[2].parse().unwrap());

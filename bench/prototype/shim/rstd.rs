@@ -26,7 +26,7 @@ pub mod alloc {
         pub ok: bool,
     }
 
-    extern "C" {
+    unsafe extern "C" {
         fn malloc(n: usize) -> *mut u8;
         fn realloc(p: *mut u8, n: usize) -> *mut u8;
         fn free(p: *mut u8);
