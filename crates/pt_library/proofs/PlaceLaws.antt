@@ -2,7 +2,7 @@
 use Rattle.std.proofs.Common.{◌≡◌, ◌⊎◌, inl, inr, ℕ, List, [], ◌∷◌, length, replicate, Bool, true, false, Option, Some, None, refl, sym, ap, subst, ◌∙◌, if◌then◌else◌, ℤ}
 use Rattle.std.proofs.lemmas.List.{length-replicate}
 use Rattle.pt_meaning.specs.Basics.{Tag, Streams}
-use Rattle.pt_meaning.specs.Machine.{Counts, Over}
+use Rattle.pt_meaning.specs.Machine.{Counts}
 use Rattle.pt_meaning.specs.Node.{Answer, Gives, Fails}
 use Rattle.pt_meaning.specs.Closed.{on_answer}
 use Rattle.pt_value.specs.Token.{token_of}

@@ -1,5 +1,5 @@
 -- Lines of meetings, worked by hand.
-use Rattle.std.proofs.Common.{◌≡◌, ℕ, List, [], ◌∷◌, Option, Some, codes, refl, sym, ap, subst, ◌∙◌}
+use Rattle.std.proofs.Common.{◌≡◌, Option, Some, codes, refl, sym, ap, subst, ◌∙◌}
 use Rattle.pt_meaning.specs.Log.{Channel}
 use Rattle.pt_document.specs.Names.{below}
 use Rattle.pt_net.specs.declared.net.Channel as net

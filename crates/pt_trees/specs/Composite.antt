@@ -8,8 +8,7 @@ use Rattle.pt_plan.specs.PlanOf.{IsPlanOf}
 use Rattle.pt_plan.specs.Fault.{FaultStands}
 use Rattle.pt_library.specs.LibraryActor.{rows}
 use Rattle.pt_node.specs.Recorded.{RecordedPort}
-use Rattle.pt_node.specs.declared.node.Node.{Node}
-use Rattle.pt_node.specs.Shown.{Shown, Branch, Frame, shown, all_of, list_of}
+use Rattle.pt_node.specs.Shown.{Shown, Branch, Frame, list_of}
 use Rattle.pt_node.specs.View.{Tree, node_of}
 use Rattle.pt_trees.specs.declared.composite_fault.CompositeFault.{CompositeFault}
 use Rattle.pt_trees.specs.declared.composite_fault.CompositeFault.TheVariants.{Unsteady, Malformed, Unplanned, Memory}
