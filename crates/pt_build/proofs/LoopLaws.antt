@@ -5,7 +5,7 @@ use Rattle.std.proofs.lemmas.List.{take_all, get_or_default}
 use Rattle.pt_net.specs.declared.net.Net.{Net}
 use Rattle.pt_net.specs.Inside.{children_of}
 use Rattle.pt_node.specs.declared.node.Node.{Node}
-use Rattle.pt_node.specs.Shown.{Shown, shown, shown_node}
+use Rattle.pt_node.specs.Shown.{shown, shown_node}
 use Rattle.pt_trees.specs.Fresh.{AllFresh}
 use Rattle.pt_build.specs.declared.builder.Builder.{Builder}
 use Rattle.pt_trees.specs.Trees.{Starts}

@@ -1,5 +1,5 @@
 -- The whole tree, from the node at the top.
-use Rattle.std.proofs.Common.{◌≡◌, ℕ, ◌≤◌, Result, Ok, Err, sym, subst, arith}
+use Rattle.std.proofs.Common.{◌≡◌, Result, Ok, Err, sym, subst, arith}
 use Rattle.std.specs.Prelude.{IfOk, IfErr}
 use Rattle.pt_net.specs.declared.net.Net.{Net}
 use Rattle.pt_node.specs.declared.node.Node.{Node}

@@ -1,4 +1,4 @@
-use Rattle.std.proofs.Common.{◌<◌, ◌+◌, ℕ, List, length, take, sym, subst, arith}
+use Rattle.std.proofs.Common.{◌<◌, ℕ, List, length, take, sym, subst, arith}
 use Rattle.std.proofs.lemmas.List.{take_more, length-take-le}
 use Rattle.pt_net.specs.declared.net.NetPort.{NetPort}
 use Rattle.pt_trees.specs.Recorded.{AreRecordLists}

@@ -1,4 +1,4 @@
-use Rattle.std.proofs.Common.{ℕ, List, sym, ap, ap₂, ◌∙◌, [], get_or}
+use Rattle.std.proofs.Common.{ℕ, List, ap₂, ◌∙◌, [], get_or}
 use Rattle.pt_node.specs.Recorded.{RecordedPort}
 use Rattle.pt_build.proofs.PortLaws.{row-at}
 use Rattle.pt_build.proofs.records.recorded_at.Goals as goal

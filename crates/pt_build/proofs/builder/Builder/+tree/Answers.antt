@@ -1,6 +1,5 @@
-use Rattle.std.proofs.Common.{ℕ, List, [], get_or, ◌∙◌, sym, subst, arith}
+use Rattle.std.proofs.Common.{get_or, arith}
 use Rattle.std.proofs.lemmas.List.{get_or_default}
-use Rattle.pt_node.specs.declared.node.Node.{Node}
 use Rattle.pt_build.proofs.LoopLaws.{reach-child, start-built, start-fresh, child-more, all-built}
 use Rattle.pt_build.proofs.FaultLaws.{fresh-more}
 use Rattle.pt_build.proofs.builder.Builder.+tree.Goals as goal

@@ -1,4 +1,4 @@
-use Rattle.std.proofs.Common.{ℕ, ◌+◌, ◌-◌, ◌*◌, take, map}
+use Rattle.std.proofs.Common.{◌+◌, ◌-◌, ◌*◌, take, map}
 use Rattle.pt_node.specs.Shown.{shown}
 use Rattle.pt_trees.specs.Fresh.{AllFresh}
 use Rattle.pt_trees.specs.Built.{AreBuilt}

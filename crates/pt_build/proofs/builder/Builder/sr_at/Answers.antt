@@ -1,4 +1,4 @@
-use Rattle.std.proofs.Common.{◌≡◌, ℕ, List, map, refl, sym, subst}
+use Rattle.std.proofs.Common.{ℕ, List, map, refl, sym, subst}
 use Rattle.pt_net.specs.declared.net.Net.{Net}
 use Rattle.pt_net.specs.declared.net.NetEntity.{NetEntity}
 use Rattle.pt_node.specs.Recorded.{RecordedPort}
