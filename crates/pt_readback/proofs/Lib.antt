@@ -1,3 +1,11 @@
 pub mod Records
 pub mod Words
 pub mod Utf8
+pub mod Bytes
+pub mod Plain
+pub mod CutParts
+pub mod Fronts
+pub mod Lines
+pub mod Listed
+pub mod Ends
+pub mod JoinedNames

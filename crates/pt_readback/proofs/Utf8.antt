@@ -36,7 +36,7 @@ small_ascii : (cs : List ℕ) → list_all (λ c. nat_lt c 128) cs ≡ true → 
 small_ascii [] h = λ i. omega arith
 small_ascii (c ∷ cs) h = let k = both (nat_lt c 128) (list_all (λ d. nat_lt d 128) cs) h in ascii_then c cs (small c k.0) (small_ascii cs k.1)
 
-small_utf8 : (cs : List ℕ) → list_all (λ c. nat_lt c 128) cs ≡ true → IsUtf8 cs
+pub small_utf8 : (cs : List ℕ) → list_all (λ c. nat_lt c 128) cs ≡ true → IsUtf8 cs
 small_utf8 cs h = IsUtf8-from_ascii cs (small_ascii cs h)
 
 begins_ascii : (c : ℕ) → BeginsName c → c < 128

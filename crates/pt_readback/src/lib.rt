@@ -1,13 +1,20 @@
 //! What the program prints, read back.
 #![tactic(auto)]
 
+mod cuts;
+mod ending;
 mod fault;
 mod front;
+mod meetings;
+mod names;
 mod open;
 mod reading;
+mod report;
 #[cfg(test)]
 mod tests;
 mod token;
+mod traces;
 
-pub use fault::TokenFault;
+pub use fault::{ReportFault, TokenFault};
+pub use report::parse_report;
 pub use token::read_token;
