@@ -1,0 +1,10 @@
+pub mod Orders
+pub mod PlacedLaws
+pub mod LeastLaws
+pub mod HeapLaws
+pub mod TopLaws
+pub mod QueueLaws
+pub mod PopLaws
+pub mod FoundLaws
+pub mod DepthLaws
+pub mod WalkLaws
