@@ -38,11 +38,11 @@ pub queue-into : (later more : List (Reverse ByTag)) (due : List (Reverse ByDept
 queue-into later more due y p = sym (in_order-permutation by_tag by_tag-order (later_entry y ∷ (map later_entry later ++ map due_entry due)) (map later_entry more ++ map due_entry due) (into later more due y p))
 
 -- an entry moves from the second heap to the first, or back, and the queue stays
-pub moved-back : (later more : List (Reverse ByTag)) (due rest : List (Reverse ByDepth)) (x : Reverse ByDepth) (y : Reverse ByTag) → later_entry y ≡ due_entry x → IsPermutation due (x ∷ rest) → IsPermutation (y ∷ later) more → queue_of more rest ≡ queue_of later due
-moved-back later more due rest x y e p q = queue-into later more rest y q ∙ ap (λ z. placed by_tag z (queue_of later rest)) e ∙ sym (queue-out later due rest x p)
+pub moved-back : (later more : List (Reverse ByTag)) (due rest : List (Reverse ByDepth)) (x : Reverse ByDepth) (y : Reverse ByTag) → IsPermutation due (x ∷ rest) → IsPermutation (y ∷ later) more → later_entry y ≡ due_entry x → queue_of more rest ≡ queue_of later due
+moved-back later more due rest x y p q e = queue-into later more rest y q ∙ ap (λ z. placed by_tag z (queue_of later rest)) e ∙ sym (queue-out later due rest x p)
 
 pub moved-on : (later rest : List (Reverse ByTag)) (due more : List (Reverse ByDepth)) (x : Reverse ByDepth) (y : Reverse ByTag) → later_entry y ≡ due_entry x → IsPermutation later (y ∷ rest) → IsPermutation (x ∷ due) more → queue_of rest more ≡ queue_of later due
-moved-on later rest due more x y e p q = sym (moved-back rest later more due x y e (IsPermutation-sym (x ∷ due) more q) (IsPermutation-sym later (y ∷ rest) p))
+moved-on later rest due more x y e p q = sym (moved-back rest later more due x y (IsPermutation-sym (x ∷ due) more q) (IsPermutation-sym later (y ∷ rest) p) e)
 
 -- what is in a list and passes is in what a filter keeps
 contains-filter : {X : Type 0} (p : X → Bool) (xs : List X) (x : X) → Contains xs x → p x ≡ true → Contains (filter p xs) x

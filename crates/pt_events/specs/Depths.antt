@@ -5,9 +5,13 @@ use Rattle.std.specs.List.{filter}
 use Rattle.pt_events.specs.declared.depth.DepthFault.{DepthFault}
 use Rattle.pt_events.specs.declared.depth.DepthFault.TheVariants.{Loop, Memory}
 
--- both ends of each edge are children, of which there are n
+-- both ends of an edge are children, of which there are n
+abbrev pub IsBetween : ℕ → ℕ × ℕ → Type 0
+IsBetween n edge = (edge.0 < n) × (edge.1 < n)
+
+-- each edge goes from a child to a child
 abbrev pub AreBetween : ℕ → List (ℕ × ℕ) → Type 0
-AreBetween n edges = All (λ edge. (edge.0 < n) × (edge.1 < n)) edges
+AreBetween n edges = All (IsBetween n) edges
 
 -- the children that feed a child, as often as they do
 abbrev pub feeders : List (ℕ × ℕ) → ℕ → List ℕ

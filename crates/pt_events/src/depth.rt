@@ -1,5 +1,5 @@
-ghost use Rattle.std.specs.Prelude.{◌≡◌, IfErr, IfOk};
-ghost use Rattle.pt_events.specs.Depths.{AreBetween, AreDepths, FaultStands};
+ghost use Rattle.std.specs.Prelude.{◌≡◌, ◌↔◌, IfErr, IfOk, IsTrue};
+ghost use Rattle.pt_events.specs.Depths.{AreBetween, AreDepths, FaultStands, IsBetween};
 ghost use Rattle.pt_events.specs.declared.depth.DepthFault.TheVariants.{Memory};
 
 use crate::feeders::listed;
@@ -55,4 +55,18 @@ pub fn depths(alloc: Global, n: u32, edges: &[(u32, u32)]) -> Result<Vec<u32>, D
             Next::Over => return Ok(found.depths),
         }
     }
+}
+
+/// Whether each edge goes from one of the children 0 to `n - 1` to one of them.
+pub fn are_between(n: u32, edges: &[(u32, u32)]) -> bool
+    ensures { IsTrue result ↔ AreBetween n edges.now }
+{
+    edges.iter().all(|edge| is_between(n, edge))
+}
+
+/// Whether both ends of an edge are such children.
+fn is_between(n: u32, edge: &(u32, u32)) -> bool
+    ensures { IsTrue result ↔ IsBetween n edge.now }
+{
+    edge.0 < n && edge.1 < n
 }

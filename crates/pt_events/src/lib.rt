@@ -13,7 +13,7 @@ mod stores;
 mod tests;
 mod walk;
 
-pub use depth::{DepthFault, depths};
+pub use depth::{DepthFault, are_between, depths};
 pub use laws::{
     depths_are_alone, depths_exclude_loops, equal_entries_count, event_examples,
     what_is_taken_is_least,
