@@ -1,0 +1,14 @@
+pub mod Members
+pub mod Back
+pub mod PartsBack
+pub mod EntitiesBack
+pub mod Json
+pub mod Wholes
+pub mod ReadBack
+pub mod Standing
+pub mod PartsFormed
+pub mod EntitiesFormed
+pub mod Sound
+pub mod JobFormed
+pub mod Appending
+pub mod Trees

@@ -1,0 +1,5 @@
+pub mod Written
+pub mod Document
+pub mod Text
+pub mod Form
+pub mod Appends

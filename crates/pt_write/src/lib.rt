@@ -1,0 +1,13 @@
+//! The document of a job, as JSON bytes that are read as that job.
+#![tactic(auto)]
+
+mod document;
+mod entity;
+mod fields;
+mod inputs;
+mod parts;
+mod property;
+#[cfg(test)]
+mod tests;
+
+pub use document::{document_is_read, write};
