@@ -1,5 +1,5 @@
 -- Lists of two and of three words.
-use Rattle.std.proofs.Common.{◌≡◌, ℕ, ◌<◌, ◌≤◌, List, [], ◌∷◌, length, get_or, map, string_bytes, String, Global, ap, ap₂, sym, ◌∙◌, arith}
+use Rattle.std.proofs.Common.{◌≡◌, ◌<◌, ◌≤◌, List, [], ◌∷◌, length, get_or, map, string_bytes, String, Global, ap₂, sym, arith}
 
 abbrev Words : Type 0
 Words = List (String Global)

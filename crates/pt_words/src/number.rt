@@ -1,8 +1,13 @@
 // Numbers among the words.
 ghost use Rattle.std.specs.Prelude.{◌≡◌, ℕ, ◌++◌, List, IfSome, IfNone, codes};
 ghost use Rattle.pt_words.specs.Line.{IsNumber, IsBudget};
+ghost use Rattle.pt_words.specs.Parts.{IsWorkers, IsStages};
 
 const GREATEST_BUDGET: u64 = 1_000_000_000;
+
+const MOST_WORKERS: u64 = 64;
+
+const MOST_STAGES: u64 = 9_000;
 
 /// A number has at most this many digits.
 const MOST_DIGITS: usize = 10;
@@ -28,6 +33,28 @@ pub fn budget(text: &str) -> Option<u64>
 {
     match number(text) {
         Some(n) if 1 <= n && n <= GREATEST_BUDGET => Some(n),
+        _ => None,
+    }
+}
+
+/// The number of workers that a text gives.
+pub fn workers(text: &str) -> Option<u32>
+    ensures some { IfSome result (λ n. IsWorkers text.now n) }
+    ensures none { IfNone result ((n : ℕ) → IsWorkers text.now n → ⊥) }
+{
+    match number(text) {
+        Some(n) if 1 <= n && n <= MOST_WORKERS => Some(n as u32),
+        _ => None,
+    }
+}
+
+/// The number of stages that a text gives.
+pub fn stages(text: &str) -> Option<u32>
+    ensures some { IfSome result (λ n. IsStages text.now n) }
+    ensures none { IfNone result ((n : ℕ) → IsStages text.now n → ⊥) }
+{
+    match number(text) {
+        Some(n) if 1 <= n && n <= MOST_STAGES => Some(n as u32),
         _ => None,
     }
 }

@@ -1,8 +1,6 @@
-use Rattle.std.proofs.Common.{◌≡◌, ℕ, ◌<◌, ◌^◌, Err, arith}
+use Rattle.std.proofs.Common.{arith}
 use Rattle.std.specs.Str.Parse.{AllDigits, digits_value}
-use Rattle.std.specs.Result.{OkIff}
 use Rattle.std.proofs.lemmas.Str.Parse.{IsNumeralModel, numerals_by_value, tells_digits, digits_value_short, parse_digits}
-use Rattle.pt_words.specs.Line.{IsNumber}
 use Rattle.pt_words.proofs.number.number.Goals as goal
 
 own : IsNumeralModel (AllDigits 10) (digits_value 10)

@@ -1,4 +1,4 @@
-use Rattle.std.proofs.Common.{◌≡◌, List, ℕ, [], ◌∷◌, IfNone, map, string_bytes, ap, ap₂, sym, subst, ◌∙◌}
+use Rattle.std.proofs.Common.{◌≡◌, List, ℕ, [], ◌∷◌, IfNone, map, string_bytes, ap₂, sym, subst, ◌∙◌}
 use Rattle.pt_words.specs.declared.words.Words.{Words}
 use Rattle.pt_words.specs.Line.{IsLine}
 use Rattle.pt_words.proofs.Lines.{two_words, three_words}
