@@ -5,21 +5,19 @@ use std::alloc::{AllocError, Global};
 
 /// Answers the question what comes of a document: how much stands at its top, or the number and the name of the code that refuses
 /// it, and the path.
-pub fn answer(
-    alloc: Global,
-    section: &str,
-    question: &str,
-    out: &mut Answer,
-) -> Result<(), AllocError> {
-    if section != "read" {
-        return out.no_such_section();
+pub fn answer(alloc: Global, section: &str, question: &str, out: &mut Answer) {
+    match section {
+        "read" => tell(alloc, question, out),
+        _ => out.no_such_section(),
     }
-    match read(alloc, question.as_bytes()) {
+}
+
+fn tell(alloc: Global, document: &str, out: &mut Answer) {
+    match read(alloc, document.as_bytes()) {
         Ok(job) => tell_read(alloc, job, out),
-        Err(DocFault::Memory) => return Err(AllocError),
+        Err(DocFault::Memory) => out.note(Err(AllocError)),
         Err(DocFault::Refused(refusal)) => tell_refused(alloc, &refusal, out),
     }
-    Ok(())
 }
 
 fn tell_read(alloc: Global, job: Job, out: &mut Answer) {

@@ -1,14 +1,9 @@
 use pt_json::{Scratch, Unread, Value, read};
 use pt_table::Answer;
-use std::alloc::{AllocError, Global};
+use std::alloc::Global;
 
 /// Answers a question about bytes of JSON.
-pub fn answer(
-    alloc: Global,
-    section: &str,
-    question: &str,
-    out: &mut Answer,
-) -> Result<(), AllocError> {
+pub fn answer(alloc: Global, section: &str, question: &str, out: &mut Answer) {
     match section {
         "whole number at a" => match whole_at_a(alloc, question.as_bytes()) {
             Some(number) => out.number(alloc, i128::from(number)),
@@ -16,9 +11,8 @@ pub fn answer(
         },
         "JSON" => out.text(kind(alloc, question.as_bytes())),
         "one byte of JSON" => out.text(kind(alloc, &[byte(question)])),
-        _ => return out.no_such_section(),
+        _ => out.no_such_section(),
     }
-    Ok(())
 }
 
 /// The whole number at the member `a`.

@@ -8,20 +8,14 @@ mod json;
 mod typed_nets;
 
 use pt_table::{Answer, Answers, Place, tell};
-use std::alloc::{AllocError, Global};
+use std::alloc::Global;
 use std::io;
 
 /// The questions of all tables: each table has a module of its name.
 struct Questions;
 
 impl Answers for Questions {
-    fn answer(
-        &self,
-        alloc: Global,
-        place: Place<'_>,
-        question: &str,
-        out: &mut Answer,
-    ) -> Result<(), AllocError> {
+    fn answer(&self, alloc: Global, place: Place<'_>, question: &str, out: &mut Answer) {
         let section = place.section;
         match place.table {
             "json.txt" | "wrong_rows.txt" => json::answer(alloc, section, question, out),

@@ -15,12 +15,7 @@ use pt_values::values_of;
 use std::alloc::{AllocError, Global};
 
 /// Answers a question about the types of a net: what they are, or whether its typing breaks at one of some entities.
-pub fn answer(
-    alloc: Global,
-    section: &str,
-    question: &str,
-    out: &mut Answer,
-) -> Result<(), AllocError> {
+pub fn answer(alloc: Global, section: &str, question: &str, out: &mut Answer) {
     match section {
         "types" => answer_about(alloc, "", question, out),
         "broken" => {
@@ -51,18 +46,10 @@ fn net_of(alloc: Global, document: &str) -> Option<Net>
     }
 }
 
-fn answer_about(
-    alloc: Global,
-    paths: &str,
-    document: &str,
-    out: &mut Answer,
-) -> Result<(), AllocError> {
+fn answer_about(alloc: Global, paths: &str, document: &str, out: &mut Answer) {
     match net_of(alloc, document) {
         Some(net) => tell_net(alloc, paths, &net, out),
-        None => {
-            out.text("no net");
-            Ok(())
-        }
+        None => out.text("no net"),
     }
 }
 
@@ -74,15 +61,15 @@ fn values_in(alloc: Global, net: &Net) -> Option<Values>
     values_of(alloc, net).ok()
 }
 
-fn tell_net(alloc: Global, paths: &str, net: &Net, out: &mut Answer) -> Result<(), AllocError>
+fn tell_net(alloc: Global, paths: &str, net: &Net, out: &mut Answer)
     requires { (job : JobTree) × IsNetOf job net.now }
 {
     match values_in(alloc, net) {
-        Some(values) => tell_typing(alloc, paths, net, &values, out),
-        None => {
-            out.text("no values");
-            Ok(())
+        Some(values) => {
+            let told = tell_typing(alloc, paths, net, &values, out);
+            out.note(told);
         }
+        None => out.text("no values"),
     }
 }
 

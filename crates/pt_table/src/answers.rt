@@ -6,14 +6,8 @@ use std::rt::Files;
 
 /// What answers the questions of tables.
 pub trait Answers {
-    /// Writes the answer to a question of a section of a table. Where it ends by an `Err`, memory was wanting.
-    fn answer(
-        &self,
-        alloc: Global,
-        place: Place<'_>,
-        question: &str,
-        out: &mut Answer,
-    ) -> Result<(), AllocError>;
+    /// Writes the answer to a question of a section of a table.
+    fn answer(&self, alloc: Global, place: Place<'_>, question: &str, out: &mut Answer);
 }
 
 /// Where a question stands: its table, and the section of the table.
@@ -45,8 +39,7 @@ fn parts(row: &str) -> (&str, &str) {
 /// The answer to a question.
 fn answered<A: Answers>(alloc: Global, answers: &A, place: Place<'_>, question: &str) -> Answer {
     let mut answer = Answer::new(alloc);
-    let made = answers.answer(alloc, place, question, &mut answer);
-    answer.note(made);
+    answers.answer(alloc, place, question, &mut answer);
     answer.end();
     answer
 }

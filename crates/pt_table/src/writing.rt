@@ -33,8 +33,24 @@ impl Answer {
         }
     }
 
+    /// What a call made, or another value where it lacked memory, which is kept in mind.
+    pub fn or<T: Drop>(&mut self, made: Result<T, AllocError>, other: T) -> T {
+        match made {
+            Ok(value) => value,
+            Err(fault) => {
+                self.note(Err(fault));
+                other
+            }
+        }
+    }
+
     pub fn text(&mut self, text: &str) {
-        let written = self.bytes.extend_from_slice(text.as_bytes());
+        self.bytes_of(text.as_bytes());
+    }
+
+    /// Writes bytes.
+    pub fn bytes_of(&mut self, bytes: &[u8]) {
+        let written = self.bytes.extend_from_slice(bytes);
         self.note(written);
     }
 
@@ -47,15 +63,13 @@ impl Answer {
 
     /// Writes another answer behind this one.
     pub fn append(&mut self, other: &Answer) {
-        let written = self.bytes.extend_from_slice(other.as_slice());
-        self.note(written);
+        self.bytes_of(other.as_slice());
         self.is_short = self.is_short || other.is_short;
     }
 
     /// Says that the table has a section that the program has no answers for.
-    pub fn no_such_section(&mut self) -> Result<(), AllocError> {
+    pub fn no_such_section(&mut self) {
         self.text("no such section");
-        Ok(())
     }
 
     /// Writes the first text if the condition holds, and else the second.

@@ -1,3 +1,4 @@
+use crate::writing::Answer;
 use std::alloc::{AllocError, Global};
 
 /// Adds a text in which `¶` stands for a line feed.
@@ -71,4 +72,17 @@ pub fn each_plain<T: Drop, F: Fn(&str) -> T>(
         }
     }
     Ok(values)
+}
+
+/// What a function makes of each part of a text, or nothing where memory is wanting, which the answer keeps in mind.
+pub fn each_in<T: Drop, F: Fn(Global, &str) -> Result<T, AllocError>>(
+    alloc: Global,
+    written: &str,
+    between: &str,
+    read: F,
+    out: &mut Answer,
+) -> Vec<T>
+    requires { F.IsAlwaysCallable read }
+{
+    out.or(each(alloc, written, between, read), Vec::new(alloc))
 }
