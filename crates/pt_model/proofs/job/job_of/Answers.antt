@@ -19,13 +19,13 @@ sdf_job-requires-clause-present c =
     let s = c.args.started.now in
     sdf-top c.args.net.now (shown_node c.args.top.now) (top-core c.args.net.now s.values s.starts.items (shown_node c.args.top.now) c.requires.started.placed c.requires.built) c.in-First.core (c.director_of.ensures ∙ ap Composite c.in-First.is)
 
-pub returns-in-First-clause-fits : goal.returns-in-First-clause-fits
-returns-in-First-clause-fits c =
+pub returns-in_ok-job-in-First-clause-fits : goal.returns-in_ok-job-in-First-clause-fits
+returns-in_ok-job-in-First-clause-fits c =
     let s = c.args.started.now in
-    sdf-fits c.args.net.now s.values (shown_node c.args.top.now) (top-core c.args.net.now s.values s.starts.items (shown_node c.args.top.now) c.requires.started.placed c.requires.built) c.in-First.core c.in_ok-job.job (c.director_of.ensures ∙ ap Composite c.in-First.is) c.in_ok-job.ensures.supplied
-    (c.in_ok-job.ensures.asked.1 ∙ c.takes.ensures)
+    sdf-fits c.args.net.now s.values (shown_node c.args.top.now) (top-core c.args.net.now s.values s.starts.items (shown_node c.args.top.now) c.requires.started.placed c.requires.built) c.in-First.core c.in_ok-job-in-First.job (c.director_of.ensures ∙ ap Composite c.in-First.is) c.in_ok-job-in-First.ensures.supplied
+    (c.in_ok-job-in-First.ensures.asked.1 ∙ c.takes.ensures)
 
-pub returns-in-Other-clause-fits : goal.returns-in-Other-clause-fits
-returns-in-Other-clause-fits c =
+pub returns-in_ok-job-in-Other-clause-fits : goal.returns-in_ok-job-in-Other-clause-fits
+returns-in_ok-job-in-Other-clause-fits c =
     let s = c.args.started.now in
-    sr-fits c.args.net.now s.values (shown_node c.args.top.now) (top-core c.args.net.now s.values s.starts.items (shown_node c.args.top.now) c.requires.started.placed c.requires.built) c.in-Other.field-0 c.in_ok-job.job (c.director_of.ensures ∙ ap Composite c.in-Other.is) c.in_ok-job.ensures.supplied
+    sr-fits c.args.net.now s.values (shown_node c.args.top.now) (top-core c.args.net.now s.values s.starts.items (shown_node c.args.top.now) c.requires.started.placed c.requires.built) c.in-Other.field-0 c.in_ok-job-in-Other.job (c.director_of.ensures ∙ ap Composite c.in-Other.is) c.in_ok-job-in-Other.ensures.supplied
