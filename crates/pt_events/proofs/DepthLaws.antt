@@ -1,11 +1,10 @@
 -- Depths rise along edges: so there is one list of them at most, and no directed loop beside them.
-use Rattle.std.proofs.Common.{◌≡◌, ℕ, zero, suc, ◌+◌, ◌-◌, ◌<◌, ◌≤◌, max, true, false, cond, eqb, List, [], ◌∷◌, ◌++◌, length, map, get_or, All, Contains, refl, sym, ap, subst, ◌∙◌, arith, inl, inr, ◌⊎◌}
+use Rattle.std.proofs.Common.{◌≡◌, ℕ, zero, suc, ◌+◌, ◌-◌, ◌<◌, ◌≤◌, max, false, cond, eqb, List, [], ◌∷◌, length, map, get_or, All, Contains, refl, sym, ap, subst, ◌∙◌, arith, inl, inr}
 use Rattle.std.proofs.lemmas.Bool.{cases_Bool, eqb-true, eq-eqb}
-use Rattle.std.proofs.lemmas.List.{ext_get_or, length-map, map-append}
+use Rattle.std.proofs.lemmas.List.{ext_get_or}
 use Rattle.std.proofs.lemmas.List.Elements.{All-contains, All-head, All-tail, Contains-get_or}
 use Rattle.std.specs.List.{filter}
-use Rattle.pt_events.specs.Depths.{AreBetween, AreDepths, Feeds, IsLoop, IsCycle, feeders, depth_after}
-use Rattle.pt_events.specs.Laws.{DepthsAreAlone, DepthsExcludeLoops}
+use Rattle.pt_events.specs.Depths.{AreBetween, AreDepths, Feeds, IsLoop, feeders, depth_after}
 use Rattle.pt_events.proofs.LeastLaws.{contains-head, contains-tail, contains-cases}
 
 -- the feeders of a child, edge by edge

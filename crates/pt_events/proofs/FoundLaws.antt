@@ -1,12 +1,12 @@
 -- The search for depths: what it has found stays, and at its end all depths are found.
-use Rattle.std.proofs.Common.{◌≡◌, ℕ, zero, suc, ◌+◌, ◌-◌, ◌<◌, ◌≤◌, max, Bool, true, false, cond, eqb, replicate, List, [], ◌∷◌, ◌++◌, length, map, get_or, set, take, drop, All, Contains, refl, sym, ap, subst, ◌∙◌, arith, inl, inr, ◌⊎◌, ◌↔◌, Option, Some, None, MatchOption, is_none}
-use Rattle.std.proofs.lemmas.Bool.{false≢true, cases_eq, cases_lt, cases_Bool, eq-eqb, ne_eqb}
+use Rattle.std.proofs.Common.{◌≡◌, ℕ, ◌+◌, ◌-◌, ◌<◌, ◌≤◌, Bool, true, false, cond, eqb, replicate, List, [], ◌∷◌, ◌++◌, length, map, get_or, set, take, All, Contains, sym, ap, subst, ◌∙◌, arith, inl, inr, ◌↔◌, Option, Some, None, MatchOption, is_none}
+use Rattle.std.proofs.lemmas.Bool.{false≢true, cases_eq, cases_lt, eq-eqb, ne_eqb}
 use Rattle.std.proofs.lemmas.List.{length-set, get_or-set_same, get_or-set_other, get_or-replicate, length-replicate, take_more, take_all, map-append, append-nil, get_or_past, get_or_read}
-use Rattle.std.proofs.lemmas.List.Elements.{All-contains, All-head, All-tail, All-weaker, Contains-get_or, filter-append}
+use Rattle.std.proofs.lemmas.List.Elements.{All-contains, All-head, All-tail, All-weaker, filter-append}
 use Rattle.std.proofs.lemmas.List.Sums.{sum_by-set, count_by-le-length}
 use Rattle.std.specs.List.{filter}
 use Rattle.pt_events.specs.Depths.{AreBetween, AreDepths, Feeds, IsLoop, IsCycle, feeders, depth_after}
-use Rattle.pt_events.specs.Found.{list_at, AreFeeders, AreInside, FeedsBy, is_known, AreKnown, known_count, IsFound, IsReady, IsStuck}
+use Rattle.pt_events.specs.Found.{list_at, AreFeeders, AreInside, FeedsBy, is_known, AreKnown, known_count, IsFound, IsReady}
 use Rattle.pt_events.proofs.DepthLaws.{depth_after-agree, feeders-inside, feeds-from}
 
 -- an edge more at the end of the list

@@ -10,7 +10,7 @@ use Rattle.std.specs.Ordering.{is_lt, is_le, nat_cmp, ordering_then}
 use Rattle.std.specs.declared.cmp.Reverse.{Reverse}
 use Rattle.pt_meaning.specs.Tag.{Tag, tag_le}
 use Rattle.pt_events.specs.Entries.{Entry, tag_key, depth_key, by_tag, by_depth}
-use Rattle.pt_events.specs.Stores.{later_entry, due_entry, later_cmp, due_cmp, tag_cmp}
+use Rattle.pt_events.specs.Stores.{later_entry, due_entry, later_cmp, due_cmp}
 use Rattle.pt_events.specs.declared.stores.ByTag.{ByTag}
 use Rattle.pt_events.specs.declared.stores.ByDepth.{ByDepth}
 use Rattle.pt_events.proofs.Orders.{not_less, tag_le-from}

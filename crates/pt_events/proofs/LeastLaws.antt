@@ -1,11 +1,11 @@
 -- The least of a list, and the least tag of entries.
-use Rattle.std.proofs.Common.{◌≡◌, ℕ, zero, suc, ◌<◌, Bool, true, false, cond, List, [], ◌∷◌, ◌++◌, length, map, Option, Some, None, All, Contains, refl, sym, ap, subst, ◌∙◌, arith, inl, inr, ◌⊎◌}
+use Rattle.std.proofs.Common.{◌≡◌, zero, suc, Bool, true, cond, List, [], ◌∷◌, ◌++◌, length, map, Option, Some, None, All, Contains, refl, sym, ap, subst, ◌∙◌, arith, inl, inr, ◌⊎◌}
 use Rattle.std.proofs.lemmas.Bool.{cases_Bool}
 use Rattle.std.proofs.lemmas.List.{append-nil, map-append, length-map, get_or-map, nil_from_length}
 use Rattle.std.proofs.lemmas.List.Elements.{All-nil, All-cons, All-weaker, All-append, All-map, All-contains, Contains-append_left, Contains-append_right}
 use Rattle.std.proofs.lemmas.List.Sorted.{IsPermutation-map, All-permutation, Contains-permutation, length_permutation}
 use Rattle.std.specs.List.Sorted.{IsPermutation}
-use Rattle.pt_meaning.specs.Tag.{Tag, tag_le, earlier, least}
+use Rattle.pt_meaning.specs.Tag.{Tag, tag_le, earlier}
 use Rattle.pt_events.specs.Placed.{lesser, least_of}
 use Rattle.pt_events.specs.Entries.{Entry}
 use Rattle.pt_events.specs.Queue.{first}

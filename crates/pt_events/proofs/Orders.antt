@@ -1,12 +1,12 @@
 -- Total orders as tests, and that those of entries and of tags are such.
-use Rattle.std.proofs.Common.{◌≡◌, ℕ, ◌<◌, ◌≤◌, Bool, true, false, ◌&&◌, ◌||◌, cond, eqb, ltb, leb, List, [], ◌∷◌, refl, sym, ap, subst, ◌∙◌, arith, Ordering, inl, inr}
-use Rattle.std.proofs.lemmas.Bool.{false≢true, ltb-true, ltb-false, leb-true, leb-false, eqb-true, eqb-false, cases_Bool, le-leb, lt-ltb, le-ltb, eq-eqb, ne_eqb}
+use Rattle.std.proofs.Common.{◌≡◌, ℕ, ◌<◌, ◌≤◌, Bool, true, false, ◌&&◌, ◌||◌, eqb, ltb, leb, [], ◌∷◌, refl, sym, ap, subst, ◌∙◌, arith, Ordering, inl, inr}
+use Rattle.std.proofs.lemmas.Bool.{false≢true, ltb-true, ltb-false, leb-true, leb-false, eqb-true, cases_Bool, le-leb, eq-eqb}
 use Rattle.std.proofs.lemmas.Cmp.{upto, ranked, by_ranked}
 use Rattle.std.proofs.lemmas.Cmp.{nat_list_cmp_total}
 use Rattle.std.specs.Cmp.{IsTotalOrder}
 use Rattle.std.specs.Cmp.Lexicographic.{slice_cmp}
 use Rattle.std.specs.declared.cmp.Ordering.TheVariants.{Less, Equal, Greater}
-use Rattle.std.specs.Ordering.{is_le, is_gt, is_lt, nat_cmp, ordering_then, ordering_reverse, MatchOrdering}
+use Rattle.std.specs.Ordering.{is_le, is_gt, is_lt, nat_cmp, ordering_then, ordering_reverse}
 use Rattle.pt_meaning.specs.Tag.{Tag, tag_le}
 use Rattle.pt_events.specs.Entries.{Entry, tag_key, depth_key, by_tag, by_depth}
 

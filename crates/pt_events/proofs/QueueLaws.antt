@@ -1,5 +1,5 @@
 -- The queue that two heaps stand for, and what their moves do to it.
-use Rattle.std.proofs.Common.{◌≡◌, ℕ, zero, suc, ◌<◌, Bool, true, false, cond, List, [], ◌∷◌, ◌++◌, length, map, get_or, Option, Some, None, All, Contains, refl, sym, ap, subst, ◌∙◌, arith, inl, inr, MatchOption}
+use Rattle.std.proofs.Common.{◌≡◌, zero, suc, Bool, true, false, cond, List, [], ◌∷◌, ◌++◌, length, map, get_or, Option, Some, None, All, Contains, refl, sym, ap, subst, ◌∙◌, arith, inl, inr, MatchOption}
 use Rattle.std.proofs.lemmas.Bool.{false≢true, cases_Bool, and_parts, and_from}
 use Rattle.std.proofs.lemmas.List.Elements.{All-map, All-append, All-weaker, All-filter, filter_passes, Contains-append_right, All-head, All-tail, All-contains, All-nil, All-cons, Contains-get_or}
 use Rattle.std.proofs.lemmas.List.Sorted.{IsPermutation-refl, IsPermutation-cons, IsPermutation-swap, IsPermutation-trans, IsPermutation-sym, IsPermutation-map, IsPermutation-append_left, IsPermutation-append_right, IsPermutation-middle, All-permutation, Contains-permutation}
@@ -7,8 +7,8 @@ use Rattle.std.specs.BinaryHeap.{IsUpperBound}
 use Rattle.std.specs.List.{filter}
 use Rattle.std.specs.List.Sorted.{IsPermutation}
 use Rattle.std.specs.declared.cmp.Reverse.{Reverse}
-use Rattle.pt_meaning.specs.Tag.{Tag, tag_le}
-use Rattle.pt_events.specs.Placed.{placed, in_order, ties, without, lesser, least_of}
+use Rattle.pt_meaning.specs.Tag.{Tag}
+use Rattle.pt_events.specs.Placed.{placed, ties, without, lesser, least_of}
 use Rattle.pt_events.specs.Entries.{Entry, by_tag, by_depth}
 use Rattle.pt_events.specs.Queue.{is_due, due, next_due, less, left}
 use Rattle.pt_events.specs.Stores.{later_entry, due_entry, due_cmp, queue_of, AreDue}

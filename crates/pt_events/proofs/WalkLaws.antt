@@ -1,12 +1,12 @@
 -- A walk back from a stuck child: it goes on, and where a child comes again there is a loop.
-use Rattle.std.proofs.Common.{◌≡◌, ℕ, zero, suc, ◌+◌, ◌-◌, ◌<◌, ◌≤◌, Bool, true, false, cond, List, [], ◌∷◌, ◌++◌, length, reverse, replicate, get_or, set, drop, Option, Some, None, All, Contains, refl, sym, ap, subst, ◌∙◌, arith, inl, inr, is_none, Result, Ok, Err, IfOk}
+use Rattle.std.proofs.Common.{◌≡◌, ℕ, ◌+◌, ◌-◌, ◌<◌, Bool, false, cond, List, [], ◌∷◌, ◌++◌, length, reverse, replicate, get_or, set, drop, Option, Some, None, Contains, sym, ap, subst, ◌∙◌, arith, inl, inr, is_none, Result, Ok, Err, IfOk}
 use Rattle.std.proofs.lemmas.Bool.{cases_eq, cases_lt}
 use Rattle.std.proofs.lemmas.List.{length-set, length_push, length-drop, length-reverse, get_or-set_same, get_or-set_other, get_or-replicate, length-replicate, get_or_past, get_or_append_left, get_or_push, get_or-drop, get_or-reverse, get_or_read}
 use Rattle.std.proofs.lemmas.List.Elements.{All-contains}
 use Rattle.std.proofs.lemmas.List.Sums.{sum_by-set}
 use Rattle.std.specs.List.{count_by}
 use Rattle.pt_events.specs.Depths.{IsCycle}
-use Rattle.pt_events.specs.Found.{list_at, AreInside, FeedsBy, is_known, AreKnown, IsReady, IsStuck, IsWalk, place_of}
+use Rattle.pt_events.specs.Found.{list_at, AreInside, FeedsBy, is_known, AreKnown, IsStuck, IsWalk, place_of}
 
 pub walk-start : (lists : List (List ℕ)) (known : List Bool) (places : List (Option ℕ)) (child : ℕ) → IsStuck lists known child → places ≡ replicate (length lists) None → IsWalk lists known [] places child
 walk-start lists known places child h start = record {

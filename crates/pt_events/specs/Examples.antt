@@ -1,5 +1,5 @@
 -- Queues and graphs that were worked by hand.
-use Rattle.std.specs.Prelude.{◌≡◌, ℕ, List, [], ◌∷◌, map, Option, Some, None}
+use Rattle.std.specs.Prelude.{◌≡◌, ℕ, List, [], ◌∷◌, map, Some, None}
 use Rattle.pt_meaning.specs.Tag.{Tag}
 use Rattle.pt_events.specs.Entries.{Entry}
 use Rattle.pt_events.specs.Queue.{put, first, taken, left}

@@ -1,5 +1,5 @@
 -- What follows from the definitions.
-use Rattle.std.specs.Prelude.{◌≡◌, ℕ, ◌<◌, true, false, List, ◌∷◌, All, Contains, IsPermutation, Option, MatchOption}
+use Rattle.std.specs.Prelude.{◌≡◌, ℕ, true, false, List, ◌∷◌, All, Contains, IsPermutation, MatchOption}
 use Rattle.pt_meaning.specs.Tag.{Tag}
 use Rattle.pt_events.specs.Placed.{in_order}
 use Rattle.pt_events.specs.Entries.{Entry, by_tag, by_depth}

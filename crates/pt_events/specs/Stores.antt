@@ -1,5 +1,5 @@
 -- The two heaps of the queue of events: the later entries by tag, and those that are due by depth.
-use Rattle.std.specs.Prelude.{◌≡◌, ℕ, ◌+◌, ◌≤◌, true, List, [], ◌++◌, map, All, Contains, Option, MatchOption}
+use Rattle.std.specs.Prelude.{◌≡◌, ◌+◌, ◌≤◌, true, List, [], ◌++◌, map, All, Contains, Option, MatchOption}
 use Rattle.std.specs.Ordering.{nat_cmp, ordering_then}
 use Rattle.std.specs.BinaryHeap.{heap_items, heap_len, heap_capacity, IsHeap}
 use Rattle.std.specs.declared.cmp.Ordering.{Ordering}

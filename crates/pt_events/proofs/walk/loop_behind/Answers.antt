@@ -1,4 +1,4 @@
-use Rattle.std.proofs.Common.{◌≡◌, ◌<◌, ℕ, List, length, reverse, drop, Some, None, ap, ◌∙◌, arith}
+use Rattle.std.proofs.Common.{◌<◌, length, reverse, drop, Some, None, ap, ◌∙◌, arith}
 use Rattle.pt_events.specs.Found.{FeedsBy}
 use Rattle.pt_events.proofs.FoundLaws.{list-read, inside-at}
 use Rattle.pt_events.proofs.WalkLaws.{place-read, walk-step, fall-at, walk-cycle, cycle-at}

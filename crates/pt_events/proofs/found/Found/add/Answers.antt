@@ -1,4 +1,3 @@
-use Rattle.std.proofs.Common.{◌≡◌, List, ℕ}
 use Rattle.pt_events.specs.Found.{list_at}
 use Rattle.pt_events.proofs.FoundLaws.{list-read, small-at, depth-at, found-more}
 use Rattle.pt_events.proofs.found.Found.add.Goals as goal

@@ -1,10 +1,7 @@
-use Rattle.std.proofs.Common.{◌≡◌, true, List, length, sym, ap, subst, ◌∙◌, arith}
-use Rattle.std.proofs.lemmas.List.{nil_from_length}
+use Rattle.std.proofs.Common.{◌≡◌, ap, ◌∙◌}
 use Rattle.std.specs.BinaryHeap.{heap_items}
-use Rattle.pt_meaning.specs.Tag.{tag_le}
 use Rattle.pt_events.specs.Queue.{taken, left}
-use Rattle.pt_events.specs.Stores.{AreDue, queue_of}
-use Rattle.pt_events.proofs.TopLaws.{due-on, none-due}
+use Rattle.pt_events.specs.Stores.{queue_of}
 use Rattle.pt_events.proofs.PopLaws.{stored-popped, taken-popped, left-popped, none-counted, none-same}
 use Rattle.pt_events.proofs.queue.EventQueue.take.Goals as goal
 use Rattle.pt_events.proofs.queue.EventQueue.take.Goals.{then-not-is_up_to, else-not-is_up_to}
