@@ -38,11 +38,10 @@ module _ {D : Type 0} (a : Acts rows D) where
     pub counted : counts_of (all_of now) + left ≡ counts_of (all_of olds) + allowance
     pub lowered : left ≤ allowance
 
-  -- the same of a firing that began in some way
-  pub record IsUnderWay (s : D) (now : List Shown) (left : ℕ) : Type 0 where
+  -- the same of a firing at this tag that began in some way
+  pub record IsUnderWay (tag : Tag) (s : D) (now : List Shown) (left : ℕ) : Type 0 where
     pub before : D
     pub olds : List Shown
-    pub tag : Tag
     pub inputs : Streams Token
     pub allowance : ℕ
     pub at : At before olds tag inputs allowance s now left

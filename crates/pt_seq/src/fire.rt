@@ -144,7 +144,7 @@ fn fire_composite(
     }
     let mut buffers = Buffers::new(alloc);
     loop {
-        match next(alloc, director, children, left, &mut buffers.row) {
+        match next(alloc, director, children, tag, left, &mut buffers.row) {
             Pause::Turn(number, when, given) => {
                 let child = &mut children[number as usize];
                 match fire_child(

@@ -54,22 +54,23 @@ enum Quick {
 pub(crate) fn fire_numbers(
     core: &mut pt_sdf::Core,
     children: &mut Vec<Node>,
+    tag: Tag,
     left: &mut u64,
     row: &mut Vec<i64>,
 ) -> Pause
-    requires { IsUnderWay acts (First core.old) (map shown children.old.items) left.old }
+    requires { IsUnderWay acts tag (First core.old) (map shown children.old.items) left.old }
     ensures lowered { left.new ≤ left.old }
-    ensures goes { (before : directors.Director) (olds : List Shown) (tag : basics.Tag) (X : basics.Streams Token) (allowance : ℕ) → At acts before olds tag X allowance (First core.old) (map shown children.old.items) left.old → Paused before olds tag X allowance result (First core.new) (map shown children.new.items) left.new }
+    ensures goes { (before : directors.Director) (olds : List Shown) (X : basics.Streams Token) (allowance : ℕ) → At acts before olds tag X allowance (First core.old) (map shown children.old.items) left.old → Paused before olds tag X allowance result (First core.new) (map shown children.new.items) left.new }
 {
     loop {
         match core.ask() {
-            Ask::Fire(number, when) => {
+            Ask::Fire(number, _) => {
                 if *left == 0 {
                     return Pause::Spent;
                 }
                 let child = &mut children[number as usize];
-                if let Quick::Open(given) = turn_of_number(core, child, number, when, left, row) {
-                    return Pause::Turn(number, when, given);
+                if let Quick::Open(given) = turn_of_number(core, child, number, tag, left, row) {
+                    return Pause::Turn(number, tag, given);
                 }
             }
             Ask::Finished => return Pause::Finished,

@@ -32,26 +32,29 @@ pub(crate) enum Pause {
 }
 
 /// Goes on to the next turn of a child that isn't a matter of numbers alone, or to the end.
+#[inline(always)]
 pub(crate) fn next(
     alloc: Global,
     director: &mut Director,
     children: &mut Vec<Node>,
+    tag: Tag,
     left: &mut u64,
     row: &mut Vec<i64>,
 ) -> Pause
-    requires { IsUnderWay acts director.old (map shown children.old.items) left.old }
+    requires { IsUnderWay acts tag director.old (map shown children.old.items) left.old }
     ensures lowered { left.new ≤ left.old }
-    ensures goes { (before : directors.Director) (olds : List Shown) (tag : basics.Tag) (X : basics.Streams Token) (allowance : ℕ) → At acts before olds tag X allowance director.old (map shown children.old.items) left.old → Paused before olds tag X allowance result director.new (map shown children.new.items) left.new }
+    ensures goes { (before : directors.Director) (olds : List Shown) (X : basics.Streams Token) (allowance : ℕ) → At acts before olds tag X allowance director.old (map shown children.old.items) left.old → Paused before olds tag X allowance result director.new (map shown children.new.items) left.new }
 {
     match director {
-        Either::First(core) => fire_numbers(core, children, left, row),
+        Either::First(core) => fire_numbers(core, children, tag, left, row),
         Either::Other(_) => wait(alloc, director, children, *left),
     }
 }
 
 /// Asks the director until it asks for a firing or is at an end, and does what it asks for before: an early answer of a child, or that it is brought back to its start.
+#[inline(never)]
 fn wait(alloc: Global, director: &mut Director, children: &mut Vec<Node>, left: u64) -> Pause
-    requires { IsUnderWay acts director.old (map shown children.old.items) left }
+    requires { (tag : basics.Tag) × IsUnderWay acts tag director.old (map shown children.old.items) left }
     ensures { (before : directors.Director) (olds : List Shown) (tag : basics.Tag) (X : basics.Streams Token) (allowance : ℕ) → At acts before olds tag X allowance director.old (map shown children.old.items) left → Paused before olds tag X allowance result director.new (map shown children.new.items) left }
 {
     loop {

@@ -13,7 +13,7 @@ use Rattle.pt_seq.proofs.Loop.{on-ok, once-asked, turn-of, faulted-itself, no-un
 use Rattle.pt_seq.proofs.pause.wait.Goals as goal
 
 pub ask-requires : goal.ask-requires
-ask-requires c = may-ask acts acts-law (c.loop-number.invariant c.requires.before c.requires.olds c.requires.tag c.requires.inputs c.requires.allowance c.requires.at)
+ask-requires c = may-ask acts acts-law (c.loop-number.invariant c.requires.1.before c.requires.1.olds c.requires.0 c.requires.1.inputs c.requires.1.allowance c.requires.1.at)
 
 pub returns-then-left-eq0 : goal.returns-then-left-eq0
 returns-then-left-eq0 c before olds tag X allowance a = (omega (arith, c.if-left-eq0.true), (ask.Fire c.in-Fire.number c.in-Fire.when, once-asked acts acts-law (c.loop-number.invariant before olds tag X allowance a) (ask.Fire c.in-Fire.number c.in-Fire.when) c.ask.new.self c.in-Fire.ensures.gives c.in-Fire.ensures.state))
@@ -28,16 +28,16 @@ pub returns-in-Faulted : goal.returns-in-Faulted
 returns-in-Faulted c before olds tag X allowance a = faulted-itself acts acts-law (c.loop-number.invariant before olds tag X allowance a) c.in-Faulted.kind c.in-Faulted.field-1 c.ask.new.self c.in-Faulted.ensures.gives c.in-Faulted.ensures.state
 
 pub unreachable-requires : goal.unreachable-requires
-unreachable-requires c = no-unusual c.ask.result (is-usual acts acts-law (c.loop-number.invariant c.requires.before c.requires.olds c.requires.tag c.requires.inputs c.requires.allowance c.requires.at) c.ask.result c.ask.ensures.gives) c.in_default.not-Fire c.in_default.not-Early c.in_default.not-Reset c.in_default.not-Finished c.in_default.not-Faulted
+unreachable-requires c = no-unusual c.ask.result (is-usual acts acts-law (c.loop-number.invariant c.requires.1.before c.requires.1.olds c.requires.0 c.requires.1.inputs c.requires.1.allowance c.requires.1.at) c.ask.result c.ask.ensures.gives) c.in_default.not-Fire c.in_default.not-Early c.in_default.not-Reset c.in_default.not-Finished c.in_default.not-Faulted
 
 pub index-child-requires : goal.index-child-requires
-index-child-requires c = let h = listen-in acts acts-law c.loop-number.children.items (c.loop-number.invariant c.requires.before c.requires.olds c.requires.tag c.requires.inputs c.requires.allowance c.requires.at) c.in-Early.number c.in-Early.when c.in-Early.ensures.gives c.ask.new.self c.in-Early.ensures.state in grind (arith, h)
+index-child-requires c = let h = listen-in acts acts-law c.loop-number.children.items (c.loop-number.invariant c.requires.1.before c.requires.1.olds c.requires.0 c.requires.1.inputs c.requires.1.allowance c.requires.1.at) c.in-Early.number c.in-Early.when c.in-Early.ensures.gives c.ask.new.self c.in-Early.ensures.state in grind (arith, h)
 
 pub listen-requires : goal.listen-requires
-listen-requires c = listen-asked acts acts-law c.loop-number.children.items (c.loop-number.invariant c.requires.before c.requires.olds c.requires.tag c.requires.inputs c.requires.allowance c.requires.at) c.in-Early.number c.in-Early.when c.in-Early.ensures.gives c.ask.new.self c.in-Early.ensures.state
+listen-requires c = listen-asked acts acts-law c.loop-number.children.items (c.loop-number.invariant c.requires.1.before c.requires.1.olds c.requires.0 c.requires.1.inputs c.requires.1.allowance c.requires.1.at) c.in-Early.number c.in-Early.when c.in-Early.ensures.gives c.ask.new.self c.in-Early.ensures.state
 
 pub loop-number-smaller-else-is_err : goal.loop-number-smaller-else-is_err
-loop-number-smaller-else-is_err c = listen-learns acts acts-law c.loop-number.children.items (c.loop-number.invariant c.requires.before c.requires.olds c.requires.tag c.requires.inputs c.requires.allowance c.requires.at) c.in-Early.number c.in-Early.when c.in-Early.ensures.gives c.ask.new.self c.in-Early.ensures.state c.index-child.result.now c.index-child.ensures c.listen.new.director (on-ok c.listen.result (c.listen.new.director ≡ director_calls.heard c.in-Early.number (early_of rows c.in-Early.when (node_of (shown_node c.index-child.result.now)) (director_calls.partial_of c.ask.new.self)) c.ask.new.self) (sym c.is_err.ensures.value ∙ c.if-is_err.false) c.listen.ensures)
+loop-number-smaller-else-is_err c = listen-learns acts acts-law c.loop-number.children.items (c.loop-number.invariant c.requires.1.before c.requires.1.olds c.requires.0 c.requires.1.inputs c.requires.1.allowance c.requires.1.at) c.in-Early.number c.in-Early.when c.in-Early.ensures.gives c.ask.new.self c.in-Early.ensures.state c.index-child.result.now c.index-child.ensures c.listen.new.director (on-ok c.listen.result (c.listen.new.director ≡ director_calls.heard c.in-Early.number (early_of rows c.in-Early.when (node_of (shown_node c.index-child.result.now)) (director_calls.partial_of c.ask.new.self)) c.ask.new.self) (sym c.is_err.ensures.value ∙ c.if-is_err.false) c.listen.ensures)
 
 pub loop-number-preserved-else-is_err : goal.loop-number-preserved-else-is_err
 loop-number-preserved-else-is_err c before olds tag X allowance a = listen-next acts acts-law c.loop-number.children.items (c.loop-number.invariant before olds tag X allowance a) c.in-Early.number c.in-Early.when c.in-Early.ensures.gives c.ask.new.self c.in-Early.ensures.state c.index-child.result.now c.index-child.ensures c.listen.new.director (on-ok c.listen.result (c.listen.new.director ≡ director_calls.heard c.in-Early.number (early_of rows c.in-Early.when (node_of (shown_node c.index-child.result.now)) (director_calls.partial_of c.ask.new.self)) c.ask.new.self) (sym c.is_err.ensures.value ∙ c.if-is_err.false) c.listen.ensures)
@@ -46,13 +46,13 @@ pub returns-then-is_err : goal.returns-then-is_err
 returns-then-is_err c before olds tag X allowance a = halts-here acts acts-law (c.loop-number.invariant before olds tag X allowance a)
 
 pub index_mut-child-requires : goal.index_mut-child-requires
-index_mut-child-requires c = let h = restart-in acts acts-law c.loop-number.children.items (c.loop-number.invariant c.requires.before c.requires.olds c.requires.tag c.requires.inputs c.requires.allowance c.requires.at) c.in-Reset.number c.in-Reset.ensures.gives c.ask.new.self c.in-Reset.ensures.state in grind (arith, h)
+index_mut-child-requires c = let h = restart-in acts acts-law c.loop-number.children.items (c.loop-number.invariant c.requires.1.before c.requires.1.olds c.requires.0 c.requires.1.inputs c.requires.1.allowance c.requires.1.at) c.in-Reset.number c.in-Reset.ensures.gives c.ask.new.self c.in-Reset.ensures.state in grind (arith, h)
 
 pub reset-requires : goal.reset-requires
-reset-requires c = restart-fit acts acts-law c.loop-number.children.items (c.loop-number.invariant c.requires.before c.requires.olds c.requires.tag c.requires.inputs c.requires.allowance c.requires.at) c.in-Reset.number c.in-Reset.ensures.gives c.ask.new.self c.in-Reset.ensures.state c.index_mut-child.result.now c.index_mut-child.ensures.value
+reset-requires c = restart-fit acts acts-law c.loop-number.children.items (c.loop-number.invariant c.requires.1.before c.requires.1.olds c.requires.0 c.requires.1.inputs c.requires.1.allowance c.requires.1.at) c.in-Reset.number c.in-Reset.ensures.gives c.ask.new.self c.in-Reset.ensures.state c.index_mut-child.result.now c.index_mut-child.ensures.value
 
 pub loop-number-smaller : goal.loop-number-smaller
-loop-number-smaller c = restart-rests acts acts-law c.loop-number.children.items (c.loop-number.invariant c.requires.before c.requires.olds c.requires.tag c.requires.inputs c.requires.allowance c.requires.at) c.in-Reset.number c.in-Reset.ensures.gives c.ask.new.self c.in-Reset.ensures.state
+loop-number-smaller c = restart-rests acts acts-law c.loop-number.children.items (c.loop-number.invariant c.requires.1.before c.requires.1.olds c.requires.0 c.requires.1.inputs c.requires.1.allowance c.requires.1.at) c.in-Reset.number c.in-Reset.ensures.gives c.ask.new.self c.in-Reset.ensures.state
 
 pub loop-number-preserved : goal.loop-number-preserved
 loop-number-preserved c before olds tag X allowance a = restart-next acts acts-law c.loop-number.children.items (c.loop-number.invariant before olds tag X allowance a) c.in-Reset.number c.in-Reset.ensures.gives c.ask.new.self c.in-Reset.ensures.state c.index_mut-child.result.now c.index_mut-child.ensures.value c.reset.new.self c.reset.ensures.kept (on-ok c.reset.result (WasReset (shown_node c.index_mut-child.result.now) (shown_node c.reset.new.self)) (sym c.is_err-in-Reset.ensures.value ∙ c.if-is_err-2.false) c.reset.ensures.reset)
