@@ -3,9 +3,9 @@ ghost use Rattle.pt_plan.specs.Inside.{IsInside, IsThere};
 ghost use Rattle.pt_plan.specs.Channels.{nodes_of, owners, end_of, taken_at, start_of, put_at, channel_at, channels_of};
 
 use crate::inside::Inside;
+use pt_core::Source;
 use pt_rates::Edge;
 use pt_sched::SchedEdge;
-use pt_core::Source;
 use std::alloc::{AllocError, Global};
 
 /// The channels of a composite, between its children and its own ports.

@@ -2,8 +2,8 @@ ghost use Rattle.std.specs.Prelude.{◌≡◌, ◌<◌, ◌≤◌, ◌↔◌, Al
 ghost use Rattle.pt_meaning.specs.Running.{total};
 ghost use Rattle.pt_plan.specs.Inside.{IsRate};
 
-use pt_firing::Counts;
 use pt_core::Source;
+use pt_firing::Counts;
 
 /// The greatest number of tokens that a firing moves on a channel.
 const MOST_TOKENS: usize = 1_000_000;
