@@ -1,8 +1,9 @@
 -- Where two directors are lawful, one of them is.
-use Rattle.std.proofs.Common.{◌≡◌, ℕ, List, length, map, not, Some, ap}
+use Rattle.std.proofs.Common.{◌≡◌, ℕ, List, length, map, not, Option, Some, ap}
 use Rattle.pt_meaning.specs.Tag.{Tag}
 use Rattle.pt_meaning.specs.Streams.{Streams}
-use Rattle.pt_meaning.specs.Tree.{Rows, Node, list_of, reset_of}
+use Rattle.pt_meaning.specs.Tree.{Rows, Node, list_of, nodes_of, reset_of}
+use Rattle.pt_meaning.specs.NodeFacts.{core_wake, wakes_of}
 use Rattle.pt_value.specs.declared.token.Token.{Token}
 use Rattle.pt_firing.specs.declared.ask.Ask.TheVariants.{Fire, Early, Finished}
 use Rattle.pt_records.specs.Kept.{Kept}
@@ -28,17 +29,17 @@ module _ {A B : Type 0} (a : Calls A) (b : Calls B) (la : CallsAgree a) (lb : Ca
   hands-one (First s) i e = la.hands s i e
   hands-one (Other s) i e = lb.hands s i e
 
-  on-one : (s : Either A B) (i : ℕ) → c.asked_of s ≡ Some i → (out : Streams Token) → (c.told i out (c.handed s) ≡ c.told i out s) × (c.accepts (c.handed s) i out ≡ c.accepts s i out) × (c.refusal (c.handed s) ≡ c.refusal s)
-  on-one (First s) i e out = let h = la.hands_on s i e out in (ap (λ v. First v) h.0, h.1, h.2)
-  on-one (Other s) i e out = let h = lb.hands_on s i e out in (ap (λ v. Other v) h.0, h.1, h.2)
+  on-one : (s : Either A B) (i : ℕ) → c.asked_of s ≡ Some i → (out : Streams Token) (wake : Option Tag) → (c.told i out wake (c.handed s) ≡ c.told i out wake s) × (c.accepts (c.handed s) i out ≡ c.accepts s i out) × (c.refusal (c.handed s) ≡ c.refusal s)
+  on-one (First s) i e out wake = let h = la.hands_on s i e out wake in (ap (λ v. First v) h.0, h.1, h.2)
+  on-one (Other s) i e out wake = let h = lb.hands_on s i e out wake in (ap (λ v. Other v) h.0, h.1, h.2)
 
-  asks-one : (s : Either A B) (i : ℕ) (out : Streams Token) → c.asked_of s ≡ Some i → c.MayAsk (c.told i out s)
-  asks-one (First s) i out e = la.asks_on s i out e
-  asks-one (Other s) i out e = lb.asks_on s i out e
+  asks-one : (s : Either A B) (i : ℕ) (out : Streams Token) (wake : Option Tag) → c.asked_of s ≡ Some i → c.MayAsk (c.told i out wake s)
+  asks-one (First s) i out wake e = la.asks_on s i out wake e
+  asks-one (Other s) i out wake e = lb.asks_on s i out wake e
 
-  tells-one : (s : Either A B) (i : ℕ) (out : Streams Token) → c.asked_of s ≡ Some i → c.is_wrong (c.told i out s) ≡ not (c.accepts s i out)
-  tells-one (First s) i out e = la.tells s i out e
-  tells-one (Other s) i out e = lb.tells s i out e
+  tells-one : (s : Either A B) (i : ℕ) (out : Streams Token) (wake : Option Tag) → c.asked_of s ≡ Some i → c.is_wrong (c.told i out wake s) ≡ not (c.accepts s i out)
+  tells-one (First s) i out wake e = la.tells s i out wake e
+  tells-one (Other s) i out wake e = lb.tells s i out wake e
 
   finishes-one : (s : Either A B) → c.Gives s Finished → c.MayFinish (c.asking Finished s)
   finishes-one (First s) q = la.finishes s q
@@ -58,6 +59,10 @@ module _ {N A B : Type 0} {rows : Rows Token N} (a : Acts rows A) (b : Acts rows
   idle-one : (s : Either A B) (kids : List (Node Token N)) → e.Fits s kids → e.calls.IsIdle s
   idle-one (First s) kids f = la.idle s kids f
   idle-one (Other s) kids f = lb.idle s kids f
+
+  wakes-one : (s : Either A B) (kids : List (Node Token N)) → e.Fits s kids → e.calls.wake s ≡ core_wake (e.calls.core_of s) (wakes_of rows (nodes_of kids))
+  wakes-one (First s) kids f = la.wakes s kids f
+  wakes-one (Other s) kids f = lb.wakes s kids f
 
   again-one : (s : Either A B) (kids : List (Node Token N)) → e.Fits s kids → e.Fits (e.calls.restarted s) (map reset_of kids)
   again-one (First s) kids f = la.fits_again s kids f
@@ -120,6 +125,7 @@ module _ {N A B : Type 0} {rows : Rows Token N} (a : Acts rows A) (b : Acts rows
   either-is-lawful = record {
     agree = either-agrees a.calls b.calls la.agree lb.agree;
     idle = idle-one;
+    wakes = wakes-one;
     fits_again = again-one;
     begins = λ start fits takes o. begins-from start start.before fits takes o;
     middle = λ start s now news u. middle-from start start.before s now news u;

@@ -43,8 +43,8 @@ pub record Calls (C : Type 0) : Type 1 where
   -- whether it accepts what a child gave that was asked for, and the fault of one that gave anything else
   pub accepts : C → ℕ → Streams Token → Bool
   pub refusal : C → RunFault
-  -- a child has fired, and gave this; what the child told last gave wasn't accepted
-  pub told : ℕ → Streams Token → C → C
+  -- a child has fired, gave this, and has this wake from now on; what the child told last gave wasn't accepted
+  pub told : ℕ → Streams Token → (wake : Option Tag) → C → C
   pub is_wrong : C → Bool
   -- a child gave this early
   pub heard : ℕ → List (Partial Token) → C → C
@@ -52,6 +52,8 @@ pub record Calls (C : Type 0) : Type 1 where
   pub MayFinish : C → Type 0
   pub own_of : C → Streams Token
   pub closed : C → C
+  -- the composite's own wake, where no firing is under way
+  pub wake : C → Option Tag
   -- its start is brought back
   pub restarted : C → C
   -- so many early answers and resets it may ask for before it asks for a firing

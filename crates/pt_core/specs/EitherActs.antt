@@ -93,9 +93,9 @@ module _ {A B : Type 0} (a : Calls A) (b : Calls B) where
   handed (First s) = First (a.handed s)
   handed (Other s) = Other (b.handed s)
 
-  abbrev pub told : ℕ → Streams Token → Either A B → Either A B
-  told child out (First s) = First (a.told child out s)
-  told child out (Other s) = Other (b.told child out s)
+  abbrev pub told : ℕ → Streams Token → Option Tag → Either A B → Either A B
+  told child out wake (First s) = First (a.told child out wake s)
+  told child out wake (Other s) = Other (b.told child out wake s)
 
   abbrev pub heard : ℕ → List (Partial Token) → Either A B → Either A B
   heard child early (First s) = First (a.heard child early s)
@@ -104,6 +104,10 @@ module _ {A B : Type 0} (a : Calls A) (b : Calls B) where
   abbrev pub closed : Either A B → Either A B
   closed (First s) = First (a.closed s)
   closed (Other s) = Other (b.closed s)
+
+  abbrev pub wake : Either A B → Option Tag
+  wake (First s) = a.wake s
+  wake (Other s) = b.wake s
 
   abbrev pub restarted : Either A B → Either A B
   restarted (First s) = First (a.restarted s)
@@ -133,6 +137,7 @@ module _ {A B : Type 0} (a : Calls A) (b : Calls B) where
     MayFinish = MayFinish;
     own_of = own_of;
     closed = closed;
+    wake = wake;
     restarted = restarted;
     waits = waits;
   }

@@ -1,11 +1,11 @@
 -- The laws of a director's calls: a chain of them makes the firing of the composite that the definitions say.
-use Rattle.std.specs.Prelude.{◌≡◌, ℕ, ◌<◌, List, [], ◌∷◌, length, map, set, true, false, not, Some, None}
+use Rattle.std.specs.Prelude.{◌≡◌, ℕ, ◌<◌, List, [], ◌∷◌, length, map, set, true, false, not, Option, Some, None}
 use Rattle.pt_meaning.specs.Tag.{Tag}
 use Rattle.pt_meaning.specs.Streams.{Streams, get}
 use Rattle.pt_meaning.specs.Machine.{Fault, Outcome, Counts, Partial}
 use Rattle.pt_meaning.specs.Meetings.{below_child}
 use Rattle.pt_meaning.specs.Tree.{Rows, Past, Node, Nodes, Composite, list_of, nodes_of, made_of, reset_of, fired_at, height}
-use Rattle.pt_meaning.specs.NodeFacts.{need_of, early_of}
+use Rattle.pt_meaning.specs.NodeFacts.{need_of, early_of, next_of, wakes_of, core_wake}
 use Rattle.pt_meaning.specs.Step.{step_at, Step}
 use Rattle.pt_value.specs.declared.token.Token.{Token}
 use Rattle.pt_firing.specs.declared.ask.Ask.{Ask}
@@ -54,10 +54,10 @@ pub record CallsAgree {C : Type 0} (c : Calls C) : Type 0 where
   pub listened : (s : C) (i : ℕ) (when : Tag) → c.Gives s (Early i when) → c.listened_of (c.asking (Early i when) s) ≡ Some i
   -- once its inputs are handed over they may be lent, and all else is as it was
   pub hands : (s : C) (i : ℕ) → c.asked_of s ≡ Some i → c.MayLend (c.handed s) × (c.asked_of (c.handed s) ≡ Some i) × (c.lent_of (c.handed s) ≡ c.lent_of s)
-  pub hands_on : (s : C) (i : ℕ) → c.asked_of s ≡ Some i → (out : Streams Token) → (c.told i out (c.handed s) ≡ c.told i out s) × (c.accepts (c.handed s) i out ≡ c.accepts s i out) × (c.refusal (c.handed s) ≡ c.refusal s)
+  pub hands_on : (s : C) (i : ℕ) → c.asked_of s ≡ Some i → (out : Streams Token) (wake : Option Tag) → (c.told i out wake (c.handed s) ≡ c.told i out wake s) × (c.accepts (c.handed s) i out ≡ c.accepts s i out) × (c.refusal (c.handed s) ≡ c.refusal s)
   -- it may be asked again once it was told what the child gave, and tells whether it accepted that
-  pub asks_on : (s : C) (i : ℕ) (out : Streams Token) → c.asked_of s ≡ Some i → c.MayAsk (c.told i out s)
-  pub tells : (s : C) (i : ℕ) (out : Streams Token) → c.asked_of s ≡ Some i → c.is_wrong (c.told i out s) ≡ not (c.accepts s i out)
+  pub asks_on : (s : C) (i : ℕ) (out : Streams Token) (wake : Option Tag) → c.asked_of s ≡ Some i → c.MayAsk (c.told i out wake s)
+  pub tells : (s : C) (i : ℕ) (out : Streams Token) (wake : Option Tag) → c.asked_of s ≡ Some i → c.is_wrong (c.told i out wake s) ≡ not (c.accepts s i out)
   -- where it is finished the own outputs may be handed out
   pub finishes : (s : C) → c.Gives s Finished → c.MayFinish (c.asking Finished s)
   -- the start that is brought back is that of the definitions
@@ -97,7 +97,7 @@ module _ {A C : Type 0} {rows : Rows Token A} (a : Acts rows C) where
     -- the firing goes on by the child's, once that is recorded
     pub goes_on : (i : ℕ) (when : Tag) → c.Gives s (Fire i when) → let t = c.asking (Fire i when) s in
         (child next : Node Token A) (out : Streams Token) (k : Kept Token) → get now i ≡ Some child → FiresTo (λ fuel. Step fuel rows (below_child i b.meets) child when (c.lent_of t)) next out (kept_at news i) k → c.accepts t i out ≡ true →
-        a.Underway b (c.told i out t) (set now i next) (set news i k)
+        a.Underway b (c.told i out (next_of rows next) t) (set now i next) (set news i k)
     -- or is stuck at the child, which has no record of a firing that isn't accepted
     pub refuses : (i : ℕ) (when : Tag) → c.Gives s (Fire i when) → let t = c.asking (Fire i when) s in
         (child next : Node Token A) (out : Streams Token) (k : Kept Token) → get now i ≡ Some child → FiresTo (child_outcome b t i when child) next out (kept_at news i) k → c.accepts t i out ≡ false →
@@ -129,6 +129,8 @@ module _ {A C : Type 0} {rows : Rows Token A} (a : Acts rows C) where
   pub record Lawful : Type 0 where
     pub agree : CallsAgree c
     pub idle : (s : C) (kids : List (Node Token A)) → a.Fits s kids → c.IsIdle s
+    -- its wake is that of the definitions, by the wakes of the children
+    pub wakes : (s : C) (kids : List (Node Token A)) → a.Fits s kids → c.wake s ≡ core_wake (c.core_of s) (wakes_of rows (nodes_of kids))
     -- brought back to its start it fits children that are brought back to theirs
     pub fits_again : (s : C) (kids : List (Node Token A)) → a.Fits s kids → a.Fits (c.restarted s) (map reset_of kids)
     pub begins : (b : Beginning A C) → a.Fits b.before (list_of b.kids) → c.Takes b.before b.inputs → length (list_of b.kids) ≡ length b.olds → a.Underway b (c.begun b.tag b.inputs b.before) (list_of b.kids) b.olds

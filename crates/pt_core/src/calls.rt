@@ -40,10 +40,16 @@ pub trait Core: Sized {
         requires { calls.MayLend self.now }
         ensures { result ≡ calls.lent_of self.now };
 
-    /// Takes what the firing of that child gave: a list for each of its ports.
-    fn told(&mut self, alloc: Global, child: u32, outputs: Outputs) -> Result<(), AllocError>
+    /// Takes what the firing of that child gave, a list for each of its ports, and the wake that it has then.
+    fn told(
+        &mut self,
+        alloc: Global,
+        child: u32,
+        outputs: Outputs,
+        wake: Option<Tag>,
+    ) -> Result<(), AllocError>
         requires asked { calls.asked_of self.old ≡ Some child }
-        ensures told { OnOk result (self.new ≡ calls.told child outputs self.old) }
+        ensures told { OnOk result (self.new ≡ calls.told child outputs wake self.old) }
         ensures kept { OnErr result (self.new ≡ self.old) };
 
     /// Whether the core doesn't accept what the child told last gave.
@@ -71,6 +77,11 @@ pub trait Core: Sized {
         ensures core { OnOk result (self.new ≡ calls.closed self.old) }
         ensures given { IfOk result (λ outputs. outputs ≡ calls.own_of self.old) }
         ensures kept { OnErr result (self.new ≡ self.old) };
+
+    /// The composite's own wake, where no firing is under way.
+    fn next(&self) -> Option<Tag>
+        requires { calls.IsIdle self.now }
+        ensures { result ≡ calls.wake self.now };
 
     /// Brings back the core's start.
     fn reset(&mut self, alloc: Global) -> Result<(), AllocError>

@@ -50,10 +50,16 @@ impl<A: Core, B: Core> Core for Either<A, B> {
         }
     }
 
-    fn told(&mut self, alloc: Global, child: u32, outputs: Outputs) -> Result<(), AllocError> {
+    fn told(
+        &mut self,
+        alloc: Global,
+        child: u32,
+        outputs: Outputs,
+        wake: Option<Tag>,
+    ) -> Result<(), AllocError> {
         match self {
-            Either::First(core) => core.told(alloc, child, outputs),
-            Either::Other(core) => core.told(alloc, child, outputs),
+            Either::First(core) => core.told(alloc, child, outputs, wake),
+            Either::Other(core) => core.told(alloc, child, outputs, wake),
         }
     }
 
@@ -89,6 +95,13 @@ impl<A: Core, B: Core> Core for Either<A, B> {
         match self {
             Either::First(core) => core.finish(alloc),
             Either::Other(core) => core.finish(alloc),
+        }
+    }
+
+    fn next(&self) -> Option<Tag> {
+        match self {
+            Either::First(core) => core.next(),
+            Either::Other(core) => core.next(),
         }
     }
 
