@@ -1,5 +1,5 @@
 ghost use Rattle.std.specs.Prelude.{◌≡◌, Some, None, IsSome, IfOk, OnOk, OnErr};
-ghost use Rattle.pt_meaning.specs.NodeFacts.{core_need};
+ghost use Rattle.pt_meaning.specs.NodeFacts.{core_need, core_begins, core_whole};
 ghost use Rattle.pt_firing.specs.Need.{need_of};
 ghost use Rattle.pt_core.specs.Acts.{Calls};
 
@@ -16,6 +16,14 @@ pub trait Core: Sized {
     /// What the composite needs before it can fire.
     fn need(&self) -> Need<'_>
         ensures { need_of result ≡ core_need (calls.core_of self.now) };
+
+    /// Whether the composite begins by itself, and so has the wake 0.0 until it fires for the first time.
+    fn begins(&self) -> bool
+        ensures { result ≡ core_begins (calls.core_of self.now) };
+
+    /// Whether it takes its lists whole where it is a child of a DE composite.
+    fn whole(&self) -> bool
+        ensures { result ≡ core_whole (calls.core_of self.now) };
 
     /// Begins a firing of the composite at a tag, on a list for each own input.
     fn begin(&mut self, alloc: Global, tag: Tag, inputs: &Inputs<'_>) -> Result<(), AllocError>

@@ -22,6 +22,20 @@ impl<A: Core, B: Core> Core for Either<A, B> {
         }
     }
 
+    fn begins(&self) -> bool {
+        match self {
+            Either::First(core) => core.begins(),
+            Either::Other(core) => core.begins(),
+        }
+    }
+
+    fn whole(&self) -> bool {
+        match self {
+            Either::First(core) => core.whole(),
+            Either::Other(core) => core.whole(),
+        }
+    }
+
     fn begin(&mut self, alloc: Global, tag: Tag, inputs: &Inputs<'_>) -> Result<(), AllocError> {
         match self {
             Either::First(core) => core.begin(alloc, tag, inputs),
