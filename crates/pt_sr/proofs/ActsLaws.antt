@@ -224,13 +224,14 @@ module _ {A : Type 0} (rows : Rows Token A) (law : LawfulRows rows) where
       asked = λ s i when q. refl;
       listened = λ s i when q. refl;
       hands = λ s i e. (subst (λ v. IsSome v) (sym e) refl, e, refl);
-      hands_on = λ s i e out. (refl, refl, refl);
-      asks_on = λ s i out q. told-asks (all_single out) i out s;
-      tells = λ s i out q. told-wrong (all_single out) i out s;
+      hands_on = λ s i e out wake. (refl, refl, refl);
+      asks_on = λ s i out wake q. told-asks (all_single out) i out s;
+      tells = λ s i out wake q. told-wrong (all_single out) i out s;
       finishes = λ s q. refl;
       restarts = λ s. (refl, refl);
     };
     idle = λ s kids f. f.0;
+    wakes = λ s kids f. refl;
     fits_again = λ s kids f. (refl, suits-again s.tick.plan s.tick.nonstrict kids f.1);
     begins = λ b f t o. begins-one b f.1 o;
     middle = λ b s now news g. record {

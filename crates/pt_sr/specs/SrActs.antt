@@ -93,6 +93,7 @@ is_wrong (Listens child) = false
 is_wrong (Wrong child) = true
 is_wrong Closed = false
 
+-- Wakes of children say nothing to it, and it has none.
 abbrev pub sr_calls : Calls State
 sr_calls = record {
   start_of = λ s. tree.Sr s.tick.plan;
@@ -111,12 +112,13 @@ sr_calls = record {
   partial_of = λ s. known_if s (listened_child s.stage);
   accepts = λ s child out. all_single out;
   refusal = λ s. SecondToken;
-  told = after_told;
+  told = λ child out wake. after_told child out;
   is_wrong = λ s. is_wrong s.stage;
   heard = after_heard;
   MayFinish = λ s. s.stage ≡ Closed;
   own_of = own_of;
   closed = closed;
+  wake = λ s. None;
   restarted = restarted;
   waits = waits;
 }

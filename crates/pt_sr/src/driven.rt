@@ -13,6 +13,14 @@ impl Driven for Core {
         Need::All(self.takes())
     }
 
+    fn begins(&self) -> bool {
+        self.takes().len() == 0
+    }
+
+    fn whole(&self) -> bool {
+        false
+    }
+
     fn begin(&mut self, alloc: Global, tag: Tag, inputs: &Inputs<'_>) -> Result<(), AllocError> {
         self.begin(alloc, tag, inputs)
     }
@@ -27,7 +35,14 @@ impl Driven for Core {
         self.lent()
     }
 
-    fn told(&mut self, alloc: Global, child: u32, outputs: Outputs) -> Result<(), AllocError> {
+    // What wake a child has says nothing of when it fires.
+    fn told(
+        &mut self,
+        alloc: Global,
+        child: u32,
+        outputs: Outputs,
+        _wake: Option<Tag>,
+    ) -> Result<(), AllocError> {
         self.told(alloc, child, outputs)
     }
 
@@ -55,6 +70,10 @@ impl Driven for Core {
 
     fn finish(&mut self, alloc: Global) -> Result<Outputs, AllocError> {
         self.finish(alloc)
+    }
+
+    fn next(&self) -> Option<Tag> {
+        None
     }
 
     fn reset(&mut self, _alloc: Global) -> Result<(), AllocError> {

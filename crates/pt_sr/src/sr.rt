@@ -217,13 +217,6 @@ impl Core {
         Ok(outputs)
     }
 
-    /// The wake of the composite, of which there is none.
-    pub fn next(&self) -> Option<Tag>
-        ensures { (wakes : List (Option basics.Tag)) → result ≡ core_wake {T = Token} (tree.Sr self.now.tick.plan) wakes }
-    {
-        None
-    }
-
     /// Brings back the core's start. It takes no memory.
     pub fn reset(&mut self)
         ensures { self.new ≡ restarted self.old }
