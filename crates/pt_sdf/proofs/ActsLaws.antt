@@ -320,13 +320,14 @@ module _ {A : Type 0} (rows : Rows Token A) where
       asked = λ s i when q. refl;
       listened = λ s i when q. absurd q;
       hands = λ s i e. hands-one s.stage i e;
-      hands_on = λ s i e out. (told-handed (has_rates (get_or s.plan.rates i []) out) i out s, refl, refl);
-      asks_on = λ s i out q. told-asks (has_rates (get_or s.plan.rates i []) out) i out s;
-      tells = λ s i out q. told-wrong (has_rates (get_or s.plan.rates i []) out) i out s;
+      hands_on = λ s i e out wake. (told-handed (has_rates (get_or s.plan.rates i []) out) i out s, refl, refl);
+      asks_on = λ s i out wake q. told-asks (has_rates (get_or s.plan.rates i []) out) i out s;
+      tells = λ s i out wake q. told-wrong (has_rates (get_or s.plan.rates i []) out) i out s;
       finishes = λ s q. refl;
       restarts = λ s. (refl, refl);
     };
     idle = λ s kids f. f.idle;
+    wakes = λ s kids f. refl;
     fits_again = again-one;
     begins = λ b f t o. begins-one b f o;
     middle = λ b s now news g. record {

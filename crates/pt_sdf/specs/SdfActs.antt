@@ -65,7 +65,7 @@ asking ask.Meet s = s
 asking ask.Await s = s
 asking ask.Full s = s
 
--- it asks for no early answers, and hears none
+-- It asks for no early answers, and hears none. Wakes of children say nothing to it, and it has none.
 abbrev pub sdf_calls : Calls State
 sdf_calls = record {
   start_of = λ s. tree.Sdf s.plan s.first;
@@ -84,12 +84,13 @@ sdf_calls = record {
   partial_of = λ s. [];
   accepts = λ s child out. has_rates (get_or s.plan.rates child []) out;
   refusal = λ s. Rate;
-  told = after_told;
+  told = λ child out wake. after_told child out;
   is_wrong = λ s. is_wrong s.stage;
   heard = λ child early s. s;
   MayFinish = λ s. s.stage ≡ Closed;
   own_of = λ s. firsts (owed s) (own_of s);
   closed = closed;
+  wake = λ s. None;
   restarted = restarted;
   waits = λ s. 0;
 }

@@ -13,6 +13,14 @@ impl Driven for Core {
         Need::All(self.takes())
     }
 
+    fn begins(&self) -> bool {
+        self.takes().len() == 0
+    }
+
+    fn whole(&self) -> bool {
+        true
+    }
+
     fn begin(&mut self, alloc: Global, tag: Tag, inputs: &Inputs<'_>) -> Result<(), AllocError> {
         self.begin(alloc, tag, inputs)
     }
@@ -29,7 +37,14 @@ impl Driven for Core {
         self.lent()
     }
 
-    fn told(&mut self, alloc: Global, child: u32, outputs: Outputs) -> Result<(), AllocError> {
+    // What wake a child has says nothing of when it fires.
+    fn told(
+        &mut self,
+        alloc: Global,
+        child: u32,
+        outputs: Outputs,
+        _wake: Option<Tag>,
+    ) -> Result<(), AllocError> {
         self.told(alloc, child, outputs)
     }
 
@@ -52,6 +67,10 @@ impl Driven for Core {
 
     fn finish(&mut self, alloc: Global) -> Result<Outputs, AllocError> {
         self.finish(alloc)
+    }
+
+    fn next(&self) -> Option<Tag> {
+        None
     }
 
     fn reset(&mut self, alloc: Global) -> Result<(), AllocError> {

@@ -292,13 +292,6 @@ impl Core {
         Ok(outputs)
     }
 
-    /// The wake of the composite, of which there is none.
-    pub fn next(&self) -> Option<Tag>
-        ensures { (wakes : List (Option basics.Tag)) → result ≡ core_wake (tree.Sdf self.now.plan self.now.held) wakes }
-    {
-        None
-    }
-
     /// Brings back the core's start. After an `Err` the core is as before.
     pub fn reset(&mut self, alloc: Global) -> Result<(), AllocError>
         ensures reset { OnOk result (self.new ≡ restarted self.old) }
