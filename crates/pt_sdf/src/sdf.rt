@@ -97,10 +97,7 @@ impl Model for Core {
 impl Core {
     ghost use Rattle.std.specs.Prelude.{◌≡◌, ◌↔◌, ◌<◌, [], ◌∷◌, length, map, List, IfOk, IfSome, IsSome, IsTrue, OnOk, OnErr, Option, Some, None};
     ghost use Rattle.pt_value.specs.declared.token.Token.TheVariants.{Int};
-    ghost use Rattle.pt_meaning.specs.Basics as basics;
     ghost use Rattle.pt_meaning.specs.Kahn.{firsts};
-    ghost use Rattle.pt_meaning.specs.Tree as tree;
-    ghost use Rattle.pt_meaning.specs.NodeFacts.{core_wake};
     ghost use Rattle.pt_sdf.specs.State.{Idle, Open, Closed, asked_child, lent_in, handed, started, restarted, begun, after_told, closed, owed, own_of, IsHanded, is_wrong};
     ghost use Rattle.pt_sdf.specs.Clauses.{MayAsk, IsAsked};
     ghost use Rattle.pt_sdf.specs.Plan.{plan_of};
