@@ -2,6 +2,7 @@
 #![tactic(auto)]
 
 mod limit;
+mod needs;
 mod number;
 mod numbered;
 mod params;
@@ -10,6 +11,7 @@ mod rates;
 mod type_table;
 
 pub use limit::{Limit, is_called};
+pub use needs::has_no_places;
 pub use number::sum_between;
 pub use numbered::Numbered;
 pub use params::Params;

@@ -60,6 +60,13 @@ impl Ramp {
 }
 
 impl Ramp {
+    /// How many trigger places it has: none, or one.
+    pub fn triggers(&self) -> usize
+        ensures { result ≡ self.now.places }
+    {
+        self.places.places()
+    }
+
     /// It has no limit.
     pub fn is_endless(&self) -> bool
         ensures { result ≡ is_endless self.now.limit }

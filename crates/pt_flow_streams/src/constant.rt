@@ -51,6 +51,13 @@ impl Const {
 }
 
 impl Const {
+    /// How many trigger places it has: none, or one.
+    pub fn triggers(&self) -> usize
+        ensures { result ≡ self.now.places }
+    {
+        self.places.places()
+    }
+
     /// It has no limit.
     pub fn is_endless(&self) -> bool
         ensures { result ≡ is_endless self.now.limit }

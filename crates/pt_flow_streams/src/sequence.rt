@@ -54,6 +54,13 @@ impl Sequence {
         }
     }
 
+    /// How many trigger places it has: none, or one.
+    pub fn triggers(&self) -> usize
+        ensures { result ≡ self.now.places }
+    {
+        self.places.places()
+    }
+
     /// It begins again behind its last value.
     pub fn is_cyclic(&self) -> bool
         ensures { result ≡ self.now.cyclic }
