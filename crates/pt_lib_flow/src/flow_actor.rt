@@ -6,7 +6,7 @@ ghost use Rattle.pt_lib_flow.specs.FlowActor.{class_of, start_as, start, outputs
 
 use crate::expression::Expression;
 use pt_firing::{Actor, Fires, Inputs, IntInputs, Need, Partial, Step, strict_early};
-use pt_flow_base::Params;
+use pt_flow_base::{Params, has_no_places};
 use pt_flow_numbers::{
     AbsoluteValue, Accumulator, AddSubtract, Counter, Extreme, MultiplyDivide, Ramp, Scale, Side,
 };
@@ -254,6 +254,36 @@ impl FlowActor {
             | FlowActor::Scale(_)
             | FlowActor::UpSample(_) => true,
         }
+    }
+
+    /// Whether it begins by itself: it has no input places.
+    pub fn begins(&self) -> bool
+        ensures { result ≡ flow_actor.rows.begins self.now }
+    {
+        match self {
+            FlowActor::Const(actor) => actor.triggers() == 0,
+            FlowActor::Ramp(actor) => actor.triggers() == 0,
+            FlowActor::Sequence(actor) => actor.triggers() == 0,
+            FlowActor::BooleanSelect(_) | FlowActor::DownSample(_) | FlowActor::Repeat(_) => false,
+            FlowActor::AbsoluteValue(_)
+            | FlowActor::Accumulator(_)
+            | FlowActor::AddSubtract(_)
+            | FlowActor::BooleanSwitch(_)
+            | FlowActor::Counter(_)
+            | FlowActor::Expression(_)
+            | FlowActor::Extreme(_)
+            | FlowActor::MultiplyDivide(_)
+            | FlowActor::SampleDelay(_)
+            | FlowActor::Scale(_)
+            | FlowActor::UpSample(_) => has_no_places(self.need()),
+        }
+    }
+
+    /// Whether under DE it takes its lists whole. None of these actors does.
+    pub fn whole(&self) -> bool
+        ensures { result ≡ flow_actor.rows.whole self.now }
+    {
+        false
     }
 
     /// Makes a firing that gives one integer, and nothing else. Where it makes none, `step` makes the firing.
