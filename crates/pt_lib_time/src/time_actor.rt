@@ -11,7 +11,7 @@ use crate::non_strict_mux::NonStrictMux;
 use crate::pre::Pre;
 use crate::when::When;
 use pt_firing::{Actor, Fires, Inputs, Need, Partial, Step};
-use pt_flow_base::Params;
+use pt_flow_base::{Params, has_no_places};
 use pt_time::Tag;
 use pt_value::Token;
 use std::alloc::{AllocError, Global};
@@ -159,6 +159,20 @@ impl TimeActor {
             TimeActor::Absent(_) | TimeActor::Current(_) | TimeActor::Pre(_) | TimeActor::When(_) =>
                 true,
         }
+    }
+
+    /// Whether it begins by itself: it has no input places.
+    pub fn begins(&self) -> bool
+        ensures { result ≡ time_actor.rows.begins self.now }
+    {
+        has_no_places(self.need())
+    }
+
+    /// Whether under DE it takes its lists whole. None of these actors does.
+    pub fn whole(&self) -> bool
+        ensures { result ≡ time_actor.rows.whole self.now }
+    {
+        false
     }
 }
 
