@@ -67,6 +67,20 @@ impl DataActor {
     {
         true
     }
+
+    /// Whether it begins by itself: it has no input places.
+    pub fn begins(&self) -> bool
+        ensures { result ≡ data_actor.rows.begins self.now }
+    {
+        self.needed.as_slice().is_empty()
+    }
+
+    /// Whether under DE it takes its lists whole. None of these actors does.
+    pub fn whole(&self) -> bool
+        ensures { result ≡ data_actor.rows.whole self.now }
+    {
+        false
+    }
 }
 
 impl Fires for DataActor {
