@@ -95,6 +95,20 @@ impl LibraryActor {
         }
     }
 
+    /// Whether it begins by itself: it has no input places and no wakes of its own.
+    pub fn begins(&self) -> bool
+        ensures { result ≡ library.begins self.now }
+    {
+        of_library!(self, actor => actor.begins())
+    }
+
+    /// Whether under DE it takes its lists whole.
+    pub fn whole(&self) -> bool
+        ensures { result ≡ library.whole self.now }
+    {
+        of_library!(self, actor => actor.whole())
+    }
+
     /// Makes a firing that gives one integer, and nothing else. Where it makes none, `step` makes the firing.
     #[inline(always)]
     pub fn number(&mut self, inputs: &IntInputs<'_>) -> Option<i64>
