@@ -1,9 +1,9 @@
 -- Why a net has no model. A fault of one kind is told only where none of the kinds before it stands: values, guards and actions, types, places, plans, inputs.
-use Rattle.std.specs.Prelude.{◌≡◌, ℕ, List, None}
+use Rattle.std.specs.Prelude.{◌≡◌, ℕ, None}
 use Rattle.pt_document.specs.declared.code.Code.{Code}
 use Rattle.pt_document.specs.declared.code.Code.TheVariants as code
 use Rattle.pt_document.specs.declared.refusal.DocFault.{DocFault}
-use Rattle.pt_document.specs.declared.refusal.DocFault.TheVariants as faults
+use Rattle.pt_document.specs.declared.refusal.DocFault.TheVariants.{Refused, Memory}
 use Rattle.pt_document.specs.declared.refusal.Refusal.{Refusal}
 use Rattle.pt_document.specs.Names.{top_path}
 use Rattle.pt_net.specs.declared.net.Net.{Net}
@@ -22,8 +22,6 @@ use Rattle.pt_node.specs.Shown.{Shown}
 use Rattle.pt_trees.specs.Trees.{IsEntity, Starts}
 use Rattle.pt_trees.specs.Built as built
 use Rattle.pt_trees.specs.Built.{IsBuilt}
-use Rattle.pt_elaboration.specs.declared.fault.ModelFault.{ModelFault}
-use Rattle.pt_elaboration.specs.declared.fault.ModelFault.TheVariants.{Refused, Memory}
 use Rattle.pt_elaboration.specs.Resolved.{IsResolved, IsStarted}
 
 -- What isn't built yet: trees that pt_build can't build, as those of Modal entities, and an SDF top without a number of iterations.
@@ -41,17 +39,7 @@ pub data IsRefused (net : Net) (r : Refusal) : Type 0 where
   for_inputs : (values : Values) (typing : Assignment) (starts : Starts) (top : Shown) → IsStarted net values typing starts → IsBuilt net starts 0 top → r.code ≡ code.Inputs → IsInputFault (net_view net) r.path → IsRefused net r
   unbuilt : IsUnbuilt net → r ≡ record { code = code.Unbuilt; path = top_path } → IsRefused net r
 
--- a fault of a document, as a fault of its net
-abbrev pub fault_of : DocFault → ModelFault
-fault_of faults.Memory = Memory
-fault_of (faults.Refused r) = Refused r
-
--- a fault is want of memory, or a refusal for this cause at this path
-abbrev pub IsTold : ModelFault → Code → List ℕ → Type 0
-IsTold Memory cause path = Unit {0}
-IsTold (Refused r) cause path = r ≡ record { code = cause; path = path }
-
 -- a fault is want of memory, or a refusal that stands
-abbrev pub FaultStands : Net → ModelFault → Type 0
+abbrev pub FaultStands : Net → DocFault → Type 0
 FaultStands net Memory = Unit {0}
 FaultStands net (Refused r) = IsRefused net r

@@ -1,12 +1,10 @@
 //! A net whose texts have values, whose ports have types and whose actors are started, or why there is none.
 #![tactic(auto)]
 
-mod fault;
 mod refusal;
 mod resolved;
 mod started;
 mod starts;
 
-pub use fault::ModelFault;
 pub use refusal::unbuilt;
 pub use started::Started;

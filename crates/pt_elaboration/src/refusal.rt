@@ -1,23 +1,22 @@
 ghost use Rattle.std.specs.Prelude.{◌≡◌, ◌<◌, length, Some, slice_get};
 ghost use Rattle.pt_document.specs.Names.{top_path};
+ghost use Rattle.pt_document.specs.Outcome.{IsRefusal};
 ghost use Rattle.pt_document.specs.declared.code.Code.TheVariants as code;
 ghost use Rattle.pt_net.specs.declared.net.NetEntity.{NetEntity};
 ghost use Rattle.pt_net.specs.declared.net.Transparent.{Transparent};
 ghost use Rattle.pt_trees.specs.Trees.{IsEntity};
-ghost use Rattle.pt_elaboration.specs.Refused.{IsTold};
 
-use crate::fault::ModelFault;
-use pt_document::{Code, refused};
+use pt_document::{Code, DocFault, refused};
 use pt_net::Net;
 use std::alloc::Global;
 
 /// A refusal of the entity of that number for this cause, if there is memory for its path.
-pub(crate) fn refusal_of_entity(alloc: Global, code: Code, net: &Net, number: usize) -> ModelFault
+pub(crate) fn refusal_of_entity(alloc: Global, code: Code, net: &Net, number: usize) -> DocFault
     requires { number < length net.now.entities.items }
-    ensures { (e : NetEntity) → IsEntity net.now number e → IsTold result code e.path }
+    ensures { (e : NetEntity) → IsEntity net.now number e → IsRefusal result code e.path }
 {
     let entity = &net.entities[number];
-    ModelFault::from(refused(alloc, code, entity.path.as_str()))
+    refused(alloc, code, entity.path.as_str())
 }
 
 /// The same of the transparent composite of that number.
@@ -26,17 +25,17 @@ pub(crate) fn refusal_of_composite(
     code: Code,
     net: &Net,
     number: usize,
-) -> ModelFault
+) -> DocFault
     requires { number < length net.now.transparent.items }
-    ensures { (c : Transparent) → slice_get net.now.transparent.items number ≡ Some c → IsTold result code c.path }
+    ensures { (c : Transparent) → slice_get net.now.transparent.items number ≡ Some c → IsRefusal result code c.path }
 {
     let composite = &net.transparent[number];
-    ModelFault::from(refused(alloc, code, composite.path.as_str()))
+    refused(alloc, code, composite.path.as_str())
 }
 
 /// A refusal of a net whose form isn't built yet, if there is memory for the path of the top.
-pub fn unbuilt(alloc: Global) -> ModelFault
-    ensures { IsTold result code.Unbuilt top_path }
+pub fn unbuilt(alloc: Global) -> DocFault
+    ensures { IsRefusal result code.Unbuilt top_path }
 {
-    ModelFault::from(refused(alloc, Code::Unbuilt, "."))
+    refused(alloc, Code::Unbuilt, ".")
 }

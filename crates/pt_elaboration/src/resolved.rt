@@ -8,10 +8,9 @@ ghost use Rattle.pt_charts.specs.Readable.{AreReadable};
 ghost use Rattle.pt_elaboration.specs.Resolved.{IsResolved};
 ghost use Rattle.pt_elaboration.specs.Refused.{FaultStands};
 
-use crate::fault::ModelFault;
 use crate::refusal::{refusal_of_composite, refusal_of_entity};
 use pt_charts::unreadable;
-use pt_document::Code;
+use pt_document::{Code, DocFault};
 use pt_net::Net;
 use pt_resolve::{BrokenAt, broken, net_typing};
 use pt_scopes::{Values, nets_are_ordered};
@@ -20,7 +19,7 @@ use pt_values::values_of;
 use std::alloc::Global;
 
 /// Refuses a Modal entity for a guard or an action that isn't readable.
-fn check_guards(alloc: Global, net: &Net, values: &Values) -> Result<(), ModelFault>
+fn check_guards(alloc: Global, net: &Net, values: &Values) -> Result<(), DocFault>
     requires { IsValued (net_view net.now) values.now }
     ensures readable { IfOk result (λ _. AreReadable net.now values.now) }
     ensures stands { IfErr result (FaultStands net.now) }
@@ -32,7 +31,7 @@ fn check_guards(alloc: Global, net: &Net, values: &Values) -> Result<(), ModelFa
 }
 
 /// What the texts of the net of a job come to, where guards and actions are readable.
-pub(crate) fn values_in(alloc: Global, net: &Net) -> Result<Values, ModelFault>
+pub(crate) fn values_in(alloc: Global, net: &Net) -> Result<Values, DocFault>
     requires { (job : JobTree) × IsNetOf job net.now }
     ensures valued { IfOk result (IsValued (net_view net.now)) }
     ensures readable { IfOk result (AreReadable net.now) }
@@ -45,7 +44,7 @@ pub(crate) fn values_in(alloc: Global, net: &Net) -> Result<Values, ModelFault>
 }
 
 /// The types of a net whose texts come to these values, which break nowhere.
-pub(crate) fn typing_in(alloc: Global, net: &Net, values: &Values) -> Result<Typing, ModelFault>
+pub(crate) fn typing_in(alloc: Global, net: &Net, values: &Values) -> Result<Typing, DocFault>
     requires valued { IsValued (net_view net.now) values.now }
     requires readable { AreReadable net.now values.now }
     ensures resolved { IfOk result (λ typing. IsResolved net.now values.now (assignment typing)) }

@@ -8,11 +8,11 @@ ghost use Rattle.pt_cover.specs.Leaves.{ActorsAreLeaves};
 ghost use Rattle.pt_elaboration.specs.Resolved.{IsResolved, IsPlaced, IsStarted};
 ghost use Rattle.pt_elaboration.specs.Refused.{FaultStands};
 
-use crate::fault::ModelFault;
 use crate::refusal::refusal_of_entity;
 use crate::resolved::{typing_in, values_in};
 use crate::starts::starts_of;
 use pt_cover::nets_are_nested;
+use pt_document::DocFault;
 use pt_library::LibraryActor;
 use pt_net::Net;
 use pt_scopes::Values;
@@ -29,7 +29,7 @@ pub struct Started {
 }
 
 /// Refuses an entity that may not stand where it stands.
-fn check_places(alloc: Global, net: &Net, values: &Values) -> Result<(), ModelFault>
+fn check_places(alloc: Global, net: &Net, values: &Values) -> Result<(), DocFault>
     requires nested { IsNested (net_view net.now) }
     requires resolved { (typing : Assignment) × IsResolved net.now values.now typing }
     ensures placed { IfOk result (λ _. IsPlaced net.now values.now) }
@@ -43,7 +43,7 @@ fn check_places(alloc: Global, net: &Net, values: &Values) -> Result<(), ModelFa
 
 impl Started {
     /// Evaluates the texts of the net of a job, finds its types and starts its actors.
-    pub fn of(alloc: Global, net: &Net) -> Result<Started, ModelFault>
+    pub fn of(alloc: Global, net: &Net) -> Result<Started, DocFault>
         requires { (job : JobTree) × ActorsAreLeaves job × IsNetOf job net.now }
         ensures started { IfOk result (λ s. IsStarted net.now s.values (assignment s.typing) s.starts.items) }
         ensures stands { IfErr result (FaultStands net.now) }

@@ -13,7 +13,8 @@ ghost use Rattle.pt_elaboration.specs.Refused.{FaultStands};
 
 use crate::tree::director_of;
 use pt_core::Either;
-use pt_elaboration::{ModelFault, Started, unbuilt};
+use pt_document::DocFault;
+use pt_elaboration::{Started, unbuilt};
 use pt_firing::Counts;
 use pt_job::{iterations, supply, supply_ticks};
 use pt_net::Net;
@@ -28,7 +29,7 @@ fn sdf_job(
     started: &Started,
     iterations: u64,
     takes: &Counts,
-) -> Result<SdfJob, ModelFault>
+) -> Result<SdfJob, DocFault>
     requires started { IsStarted net.now started.now.values (assignment started.now.typing) started.now.starts.items }
     requires built { (top : Shown) × IsBuilt net.now started.now.starts.items 0 top }
     requires present { may_lack (net_view net.now) ≡ false }
@@ -47,7 +48,7 @@ fn sdf_job(
 }
 
 /// What a job asks of an SR top.
-fn sr_job(alloc: Global, net: &Net, started: &Started, iterations: u64) -> Result<SrJob, ModelFault>
+fn sr_job(alloc: Global, net: &Net, started: &Started, iterations: u64) -> Result<SrJob, DocFault>
     requires started { IsStarted net.now started.now.values (assignment started.now.typing) started.now.starts.items }
     requires built { (top : Shown) × IsBuilt net.now started.now.starts.items 0 top }
     ensures accepted { IsOk result → (path : List ℕ) → IsInputFault (net_view net.now) path → ⊥ }
@@ -65,7 +66,7 @@ pub(crate) fn job_of(
     net: &Net,
     started: &Started,
     top: &Node,
-) -> Result<Top, ModelFault>
+) -> Result<Top, DocFault>
     requires started { IsStarted net.now started.now.values (assignment started.now.typing) started.now.starts.items }
     requires built { IsBuilt net.now started.now.starts.items 0 (shown_node top.now) }
     ensures accepted { IsOk result → (path : List ℕ) → IsInputFault (net_view net.now) path → ⊥ }

@@ -11,12 +11,12 @@ ghost use Rattle.pt_cover.specs.Leaves.{ActorsAreLeaves};
 ghost use Rattle.pt_model.specs.Model.{IsModel};
 ghost use Rattle.pt_elaboration.specs.Resolved.{IsStarted};
 ghost use Rattle.pt_elaboration.specs.Refused.{FaultStands};
-ghost use Rattle.pt_elaboration.specs.declared.fault.ModelFault.TheVariants as fault;
 
 use crate::job::job_of;
 use crate::tree::tree_of;
 use pt_cover::ports_are_numbered;
-use pt_elaboration::{ModelFault, Started};
+use pt_document::DocFault;
+use pt_elaboration::Started;
 use pt_net::Net;
 use pt_node::Node;
 use pt_trees::Top;
@@ -30,7 +30,7 @@ pub struct Model {
 }
 
 /// The model of this tree, where the job could be asked for. A tree is let go by a call, which keeps what that takes out of the proof.
-fn with_job(top: Node, job: Result<Top, ModelFault>) -> Result<Model, ModelFault>
+fn with_job(top: Node, job: Result<Top, DocFault>) -> Result<Model, DocFault>
     ensures ok { IfOk result (λ model. (model.top ≡ top) × (job ≡ Ok model.job)) }
     ensures fault { IfErr result (λ fault. job ≡ Err fault) }
 {
@@ -44,7 +44,7 @@ fn with_job(top: Node, job: Result<Top, ModelFault>) -> Result<Model, ModelFault
 }
 
 /// The model of a net whose entities start as these.
-fn model_with(alloc: Global, net: &Net, started: &Started) -> Result<Model, ModelFault>
+fn model_with(alloc: Global, net: &Net, started: &Started) -> Result<Model, DocFault>
     requires { IsStarted net.now started.now.values (assignment started.now.typing) started.now.starts.items }
     ensures model { IfOk result (λ model. IsModel net.now (shown_node model.top) model.job) }
     ensures built { IfOk result (λ model. IsBuilt net.now started.now.starts.items 0 (shown_node model.top)) }
@@ -59,7 +59,7 @@ fn model_with(alloc: Global, net: &Net, started: &Started) -> Result<Model, Mode
 /// The model of the net of a job: its texts are evaluated, its types found, its actors started, its composites planned, and what the job supplies is put to the
 /// inputs of the top. Refuses a net for the first kind of fault that stands: values, guards and actions, types, places, plans, inputs. In the job only composites
 /// have entities within them, as in that of each document.
-pub fn model_of(alloc: Global, net: &Net) -> Result<Model, ModelFault>
+pub fn model_of(alloc: Global, net: &Net) -> Result<Model, DocFault>
     requires { (job : JobTree) × ActorsAreLeaves job × IsNetOf job net.now }
     ensures model { IfOk result (λ model. IsModel net.now (shown_node model.top) model.job) }
     ensures runnable { IfOk result (λ model. IsRunnable model.job (shown_node model.top)) }

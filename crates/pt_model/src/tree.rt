@@ -13,14 +13,15 @@ ghost use Rattle.pt_model.specs.Model.{IsCompositeBody};
 
 use pt_build::build;
 use pt_directors::Director;
-use pt_elaboration::{ModelFault, Started, unbuilt};
+use pt_document::DocFault;
+use pt_elaboration::{Started, unbuilt};
 use pt_net::Net;
 use pt_node::{Body, Node};
 use pt_trees::BuildFault;
 use std::alloc::Global;
 
 /// The tree of a net whose entities start as these.
-pub(crate) fn tree_of(alloc: Global, net: &Net, started: &Started) -> Result<Node, ModelFault>
+pub(crate) fn tree_of(alloc: Global, net: &Net, started: &Started) -> Result<Node, DocFault>
     requires { IsStarted net.now started.now.values (assignment started.now.typing) started.now.starts.items }
     ensures tree { IfOk result (λ node. IsTree net.now (StartsAs started.now.starts.items) 0 (node_of (shown_node node))) }
     ensures built { IfOk result (λ node. IsBuilt net.now started.now.starts.items 0 (shown_node node)) }
@@ -29,9 +30,9 @@ pub(crate) fn tree_of(alloc: Global, net: &Net, started: &Started) -> Result<Nod
 {
     match build(alloc, net, &started.starts) {
         Ok(top) => Ok(top),
-        Err(BuildFault::Refused(refusal)) => Err(ModelFault::Refused(refusal)),
+        Err(BuildFault::Refused(refusal)) => Err(DocFault::Refused(refusal)),
         Err(BuildFault::Unbuilt) => Err(unbuilt(alloc)),
-        Err(BuildFault::Memory) => Err(ModelFault::Memory),
+        Err(BuildFault::Memory) => Err(DocFault::Memory),
     }
 }
 

@@ -14,8 +14,7 @@ ghost use Rattle.pt_top.specs.Reply as reply;
 ghost use Rattle.pt_top.specs.Reply.{refusal_text, IsReport, AnswersNet, IsAffordableNet};
 
 use crate::status::Status;
-use pt_document::Refusal;
-use pt_elaboration::ModelFault;
+use pt_document::{DocFault, Refusal};
 use pt_model::{Model, model_of};
 use pt_net::Net;
 use pt_node::Node;
@@ -111,7 +110,7 @@ pub fn reply_to_net(alloc: Global, net: &Net, budget: u64) -> Result<Reply, Allo
 {
     match model_of(alloc, net) {
         Ok(model) => report_model(alloc, net, model, budget),
-        Err(ModelFault::Refused(refusal)) => refuse(alloc, &refusal),
-        Err(ModelFault::Memory) => Err(AllocError),
+        Err(DocFault::Refused(refusal)) => refuse(alloc, &refusal),
+        Err(DocFault::Memory) => Err(AllocError),
     }
 }
