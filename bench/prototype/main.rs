@@ -1,4 +1,4 @@
-//! KIND SIZE ITERATIONS [WORD]: a model of bench/generate is built and fired, and a checksum of its trace is printed.
+//! KIND SIZE ITERATIONS [WORD]: a model of bench/generate is built and fired, and a checksum of its trace is printed. `ticks` and `ticks_back` are under SR.
 //! WORD: `bursts` is the interpreter's order of firings, `turns` one firing after another; else it is pt_sched's. `sizes` prints sizes.
 use crate::balance::repetitions;
 use crate::pt_firing::{Actor, Answer, Counts, Inputs, Need, Ports, Tokens, Values};
@@ -69,12 +69,20 @@ fn document(kind: &str, size: usize) -> (Vec<Entity>, Vec<(usize, Vec<(usize, &'
             }
             groups.push((0, (1..=size).map(|k| (k, "input")).collect()));
         }
-        "chain" => {
+        "chain" | "ticks" => {
             e.push(entity("ramp".into(), "Ramp", &[]));
             for n in 0..size {
                 e.push(entity(format!("b{n}"), "Scale", &[("factor", -1)]));
             }
             return row(e);
+        }
+        "ticks_back" => {
+            for n in 0..size {
+                e.push(entity(format!("b{n}"), "Scale", &[("factor", -1)]));
+            }
+            e.push(entity("ramp".into(), "Ramp", &[]));
+            let groups = (0..size).map(|k| (k + 1, vec![(k, "input")])).collect();
+            return (e, groups, 0);
         }
         "sum" => {
             e.push(entity("ramp".into(), "Ramp", &[]));
@@ -327,6 +335,18 @@ pub fn build(kind: &str, size: usize, by: &str) -> (Node, usize, usize) {
         needs.extend(need.as_slice().iter().copied());
     }
     assert!(needs.len() == channels.len());
+    if kind.starts_with("ticks") {
+        let plan = crate::pt_sr::CorePlan {
+            sources: row(channels.iter().map(|(from, _)| Source::Output(*from as u32, 0))),
+            places: counts(entities.iter().map(|e| e.plus.len() + e.minus.len())),
+            outputs: counts(entities.iter().map(|_| 1)),
+            nonstrict: row(entities.iter().map(|_| false)),
+            takes: counts([]),
+            order: row(order),
+        };
+        let core = crate::pt_sr::Core::new(GLOBAL, plan).ok().unwrap();
+        return (top_of(Either::Other(core), children), firings, last);
+    }
     let rates = row(children.as_slice().iter().map(|child| {
         let Body::Actor(held) = &child.body else { panic!() };
         held.actor.rates(GLOBAL).ok().unwrap().unwrap()
@@ -344,15 +364,18 @@ pub fn build(kind: &str, size: usize, by: &str) -> (Node, usize, usize) {
     };
     let first = Channels::new(GLOBAL, channels.len() as u32).ok().unwrap();
     let core = Core::new(GLOBAL, plan, first).ok().unwrap();
-    let top = Node {
+    (top_of(Either::First(core), children), firings, last)
+}
+
+fn top_of(director: crate::pt_directors::Director, children: Row<Node>) -> Node {
+    Node {
         past: Past { made: 0, last: None },
-        body: Body::Composite(Either::First(core)),
+        body: Body::Composite(director),
         children,
         records: Records::of(Row::new(GLOBAL)),
         path: text("top"),
         live: true,
-    };
-    (top, firings, last)
+    }
 }
 
 #[inline(never)]

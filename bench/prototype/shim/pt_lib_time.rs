@@ -21,6 +21,9 @@ impl TimeActor {
     pub fn is_steady(&self) -> bool {
         true
     }
+    pub fn is_strict(&self) -> bool {
+        true
+    }
 }
 impl Fires for TimeActor {
     fn step(&mut self, _alloc: Global, _tag: Tag, _inputs: &Inputs<'_>) -> Step {
