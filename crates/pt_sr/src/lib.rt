@@ -6,6 +6,7 @@ mod chain;
 mod driven;
 mod feeds;
 mod given;
+mod numbers;
 mod offsets;
 mod plan;
 mod signals;

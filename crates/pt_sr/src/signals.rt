@@ -55,6 +55,7 @@ impl Signals {
     }
 
     /// Learns what the source of a channel gave. `true` says that the channel was unknown until now.
+    #[inline(always)]
     pub(crate) fn learn(&mut self, c: usize, given: Option<Tokens>) -> bool
         requires { c < length self.old }
         ensures { self.new ≡ slice_set self.old c (learnt (partial_at self.old c) given) }
@@ -81,6 +82,7 @@ impl Signals {
     }
 
     /// How many of `n` channels from this one on are unknown.
+    #[inline(always)]
     pub(crate) fn unknown_in(&self, from: usize, n: usize) -> usize
         requires { from + n ≤ length self.now }
         ensures { result ≡ unknown_in (take n (drop from self.now)) }
@@ -89,6 +91,7 @@ impl Signals {
     }
 
     /// The tokens of each channel, none where it is unknown.
+    #[inline(always)]
     pub(crate) fn tokens(&self) -> &[Tokens]
         ensures { result.now ≡ tokens_of self.now }
     {
@@ -135,6 +138,7 @@ impl Signals {
 }
 
 /// `n` flags from this one on.
+#[inline(always)]
 fn some_flags(flags: &[bool], from: usize, n: usize) -> &[bool]
     requires { from + n ≤ length flags.now }
     ensures { result.now ≡ take n (drop from flags.now) }
@@ -143,6 +147,7 @@ fn some_flags(flags: &[bool], from: usize, n: usize) -> &[bool]
 }
 
 /// `n` lists from this one on.
+#[inline(always)]
 pub(crate) fn some_lists(lists: &[Tokens], from: usize, n: usize) -> &[Tokens]
     requires { from + n ≤ length lists.now }
     ensures { result.now ≡ take n (drop from lists.now) }
@@ -151,7 +156,19 @@ pub(crate) fn some_lists(lists: &[Tokens], from: usize, n: usize) -> &[Tokens]
 }
 
 /// How many flags are lowered.
+#[inline(always)]
 fn count_lowered(flags: &[bool]) -> usize
+    ensures { result ≡ count_lowered flags.now }
+{
+    match flags {
+        [flag] => counted(0, *flag),
+        _ => count_each_lowered(flags),
+    }
+}
+
+/// The same of any number of flags.
+#[inline(never)]
+fn count_each_lowered(flags: &[bool]) -> usize
     ensures { result ≡ count_lowered flags.now }
 {
     let mut count = 0usize;
@@ -162,6 +179,7 @@ fn count_lowered(flags: &[bool]) -> usize
 }
 
 /// One more, where a flag is lowered.
+#[inline(always)]
 fn counted(count: usize, flag: bool) -> usize
     requires { count < usize.MAX }
     ensures { result ≡ (if flag then count else count + 1) }

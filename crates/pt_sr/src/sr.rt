@@ -4,7 +4,7 @@ ghost use Rattle.pt_meaning.specs.Sr.{all_single};
 use crate::plan::CorePlan;
 use crate::tick::{Next, Tick};
 use crate::worklist::Worklist;
-use pt_firing::{Ask, Counts, Inputs, Outputs, Partial, RunFault};
+use pt_firing::{Ask, Counts, Inputs, IntInputs, Outputs, Partial, RunFault};
 use pt_time::Tag;
 use std::alloc::{AllocError, Global};
 use std::marker::Model;
@@ -53,11 +53,14 @@ impl Model for Core {
 }
 
 impl Core {
-    ghost use Rattle.std.specs.Prelude.{◌≡◌, ◌↔◌, ◌-◌, ◌<◌, ◌≤◌, length, replicate, IfOk, IfSome, IsSome, IsTrue, OnOk, OnErr, Some};
+    ghost use Rattle.std.specs.Prelude.{◌≡◌, ◌↔◌, ◌-◌, ◌<◌, ◌≤◌, [], ◌∷◌, length, map, replicate, List, IfOk, IfSome, IsSome, IsTrue, OnOk, OnErr, Option, Some, None};
+    ghost use Rattle.pt_meaning.specs.Basics as basics;
     ghost use Rattle.pt_meaning.specs.Running.{total};
+    ghost use Rattle.pt_value.specs.declared.token.Token.{Token};
+    ghost use Rattle.pt_value.specs.declared.token.Token.TheVariants.{Int};
     ghost use Rattle.pt_sr.specs.State.{Idle, Open, Closed, asked_child, listened_child, lent_of, inputs_of, own_of, started, restarted, begun, after_told, after_heard, closed};
     ghost use Rattle.pt_sr.specs.Clauses.{MayAsk, IsAsked};
-    ghost use Rattle.pt_sr.specs.SrActs.{is_wrong};
+    ghost use Rattle.pt_sr.specs.SrActs.{is_wrong, inputs_if};
     ghost use Rattle.pt_sr.specs.Plan.{plan_of, IsLawful};
 
     /// A core of this plan.
@@ -96,7 +99,7 @@ impl Core {
         ensures begun { OnOk result (self.new ≡ begun tag inputs.now self.old) }
         ensures kept { OnErr result (self.new ≡ self.old) }
     {
-        self.worklist.restart(self.tick.places());
+        self.worklist.restart();
         self.tick.begin(alloc, inputs, &mut self.worklist)?;
         self.tag = tag;
         self.stage = Stage::Open;
@@ -104,6 +107,7 @@ impl Core {
     }
 
     /// What comes next. It takes no memory and moves no token.
+    #[inline(always)]
     pub fn ask(&mut self) -> Ask
         requires { MayAsk self.old.stage }
         ensures { IsAsked self.old result self.new }
@@ -115,6 +119,7 @@ impl Core {
         }
     }
 
+    #[inline(always)]
     fn ask_next(&mut self) -> Ask
         requires { self.old.stage ≡ Open }
         ensures { IsAsked self.old result self.new }
@@ -146,6 +151,53 @@ impl Core {
             Stage::Asked(child) => Inputs::of(self.tick.inputs(child as usize)),
             Stage::Idle | Stage::Open | Stage::Listens(_) | Stage::Wrong(_) | Stage::Closed =>
                 unreachable!(),
+        }
+    }
+
+    /// The inputs of the child that was asked to fire, where each is one integer. `row` is a buffer. `None` says nothing of the inputs.
+    #[inline(always)]
+    pub fn int_inputs<'a>(&'a self, row: &'a mut Vec<i64>) -> Option<IntInputs<'a>>
+        requires { IsSome (asked_child self.now.stage) }
+        ensures { IfSome result (λ inputs. inputs ≡ inputs_if self.now (asked_child self.now.stage)) }
+    {
+        match self.stage {
+            Stage::Asked(child) => self.tick.int_inputs(child as usize, row),
+            Stage::Idle | Stage::Open | Stage::Listens(_) | Stage::Wrong(_) | Stage::Closed => None,
+        }
+    }
+
+    /// Takes the number that the firing of the child gave as the one token on its one port. It takes no memory.
+    #[inline(always)]
+    pub fn told_number(&mut self, child: u32, number: i64)
+        requires asked { asked_child self.old.stage ≡ Some child }
+        ensures told { self.new ≡ after_told child ((Int number ∷ []) ∷ []) self.old }
+    {
+        self.tick
+            .told_number(child as usize, number, &mut self.worklist);
+        self.stage = Stage::Open;
+    }
+
+    /// Takes the numbers that the firing of the child gave as the tokens on its one port. After an `Err` the core is as before.
+    pub fn told_numbers(
+        &mut self,
+        alloc: Global,
+        child: u32,
+        numbers: &[i64],
+    ) -> Result<(), AllocError>
+        requires asked { asked_child self.old.stage ≡ Some child }
+        ensures told { OnOk result (self.new ≡ after_told child (map Int numbers.now ∷ []) self.old) }
+        ensures kept { OnErr result (self.new ≡ self.old) }
+    {
+        match numbers {
+            [] => self.told(alloc, child, Outputs::none(1)),
+            [number] => {
+                self.told_number(child, *number);
+                Ok(())
+            }
+            [_, _, ..] => {
+                self.stage = Stage::Wrong(child);
+                Ok(())
+            }
         }
     }
 

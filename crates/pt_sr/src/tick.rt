@@ -3,11 +3,12 @@ ghost use Rattle.pt_sr.specs.State.{unheard};
 
 use crate::feeds::{Feed, feeds_of};
 use crate::given::{deliver, stage_inputs, stage_outputs, stage_partial};
+use crate::numbers::{give_number, int_inputs_of};
 use crate::offsets::{offsets_of, unheard_of};
 use crate::plan::CorePlan;
 use crate::signals::{Signals, lower, lowered_flags, some_lists};
 use crate::worklist::Worklist;
-use pt_firing::{Counts, Inputs, Outputs, Partial, Tokens};
+use pt_firing::{Counts, Inputs, IntInputs, Outputs, Partial, Tokens};
 use std::alloc::{AllocError, Global};
 use std::marker::Model;
 
@@ -65,10 +66,11 @@ pub(crate) enum Next {
 }
 
 impl Tick {
-    ghost use Rattle.std.specs.Prelude.{◌≡◌, ℕ, ◌-◌, ◌^◌, ◌<◌, ◌≤◌, length, replicate, get_or, true, false, IfOk, IfSome, MatchOption, OnOk, OnErr, Option, Some, None};
+    ghost use Rattle.std.specs.Prelude.{◌≡◌, ℕ, ◌-◌, ◌^◌, ◌<◌, ◌≤◌, [], ◌∷◌, length, replicate, get_or, true, false, IfOk, IfSome, MatchOption, OnOk, OnErr, Option, Some, None};
     ghost use Rattle.pt_meaning.specs.Machine as machine;
     ghost use Rattle.pt_meaning.specs.Running.{total};
     ghost use Rattle.pt_meaning.specs.Valuation.{tokens_of};
+    ghost use Rattle.pt_value.specs.declared.token.Token.TheVariants.{Int};
     ghost use Rattle.pt_sr.specs.Plan.{plan_of, IsLawful};
     ghost use Rattle.pt_sr.specs.State.{unbegun, restarted_tick, begun_tick, fired_tick, asked_tick, heard_tick, inputs_of, unknown_in, outlets_of, HasTold, MayTell};
     ghost use Rattle.pt_sr.specs.Tick.{LooksAt, IsPassed, IsSettled, Comes};
@@ -160,6 +162,17 @@ impl Tick {
         Ok(())
     }
 
+    /// Takes the number that a child gave as the one token on its one port, which has fired by that. It takes no memory.
+    #[inline(always)]
+    pub(crate) fn told_number(&mut self, giver: usize, number: i64, worklist: &mut Worklist)
+        requires { giver < length self.old.plan.net.places }
+        ensures { self.new ≡ fired_tick giver ((Int number ∷ []) ∷ []) self.old }
+    {
+        let row = &self.feeds[giver];
+        give_number(&mut self.signals, worklist, row, number);
+        self.fired[giver] = true;
+    }
+
     /// Notes that a child is asked for an early answer.
     pub(crate) fn listen(&mut self, child: usize)
         requires { child < length self.old.plan.net.places }
@@ -187,6 +200,7 @@ impl Tick {
     }
 
     /// The inputs of a child: none where it is absent or unknown.
+    #[inline(always)]
     pub(crate) fn inputs(&self, child: usize) -> &[Tokens]
         requires { child < length self.now.plan.net.places }
         ensures { result.now ≡ tokens_of (inputs_of self.now child) }
@@ -194,6 +208,19 @@ impl Tick {
         let from = self.offsets[child];
         let n = self.plan.places.as_slice()[child];
         some_lists(self.signals.tokens(), from, n)
+    }
+
+    /// The inputs of a child, where each is one integer. `row` is a buffer.
+    #[inline(always)]
+    pub(crate) fn int_inputs<'a>(
+        &'a self,
+        child: usize,
+        row: &'a mut Vec<i64>,
+    ) -> Option<IntInputs<'a>>
+        requires { child < length self.now.plan.net.places }
+        ensures { IfSome result (λ inputs. inputs ≡ tokens_of (inputs_of self.now child)) }
+    {
+        int_inputs_of(self.inputs(child), row)
     }
 
     /// What is known of the inputs of a child.
@@ -249,14 +276,29 @@ impl Tick {
     }
 
     /// What comes next: a child from the worklist of which something is to be learnt, or else any. It looks at all children only where the worklist is empty.
+    #[inline(always)]
     pub(crate) fn next(&self, worklist: &mut Worklist) -> Next
+        ensures { Comes self.now result }
+    {
+        if let Some(child) = self.taken(worklist) {
+            if let Some(next) = self.reacts(child) {
+                return next;
+            }
+            worklist.wait(child, self.unknown_of(child as usize));
+        }
+        self.next_of(worklist)
+    }
+
+    /// The same, where the worklist has no such child in front.
+    #[inline(never)]
+    fn next_of(&self, worklist: &mut Worklist) -> Next
         ensures { Comes self.now result }
     {
         for _ in 0..worklist.len() {
             if let Some(child) = self.taken(worklist) {
                 match self.reacts(child) {
                     Some(next) => return next,
-                    None => {}
+                    None => worklist.wait(child, self.unknown_of(child as usize)),
                 }
             }
         }
@@ -264,6 +306,7 @@ impl Tick {
     }
 
     /// Takes a child out of the worklist.
+    #[inline(always)]
     fn taken(&self, worklist: &mut Worklist) -> Option<u32>
         ensures { IfSome result (λ child. child < length self.now.plan.net.places) }
     {
@@ -274,8 +317,21 @@ impl Tick {
         None
     }
 
-    /// What comes next, by a look at each child.
+    /// What comes next, by a look at the children.
+    #[inline(never)]
     fn scan(&self) -> Next
+        ensures { Comes self.now result }
+    {
+        match self.first_unfired() {
+            Some(unfired) => self.first_reaction(unfired),
+            None => Next::Finished,
+        }
+    }
+
+    /// What comes of the first child that something comes of, where this one hasn't fired.
+    fn first_reaction(&self, unfired: usize) -> Next
+        requires there { unfired < length self.now.plan.net.places }
+        requires unfired { get_or self.now.fired unfired false ≡ false }
         ensures { Comes self.now result }
     {
         for child in 0..self.children() {
@@ -284,13 +340,11 @@ impl Tick {
                 None => {}
             }
         }
-        match self.first_unfired() {
-            Some(_) => Next::Stuck,
-            None => Next::Finished,
-        }
+        Next::Stuck
     }
 
     /// What may come of a child, if anything may.
+    #[inline(always)]
     fn reacts(&self, child: u32) -> Option<Next>
         requires { child < length self.now.plan.net.places }
         ensures { MatchOption result (IsPassed self.now child) (λ next. Comes self.now next) }
@@ -317,6 +371,7 @@ impl Tick {
         None
     }
 
+    #[inline(always)]
     fn look(&self, child: usize) -> Look
         requires { child < length self.now.plan.net.places }
         ensures { LooksAt self.now child result }
@@ -345,6 +400,7 @@ impl Tick {
     }
 
     /// How many inputs of a child are unknown.
+    #[inline(always)]
     fn unknown_of(&self, child: usize) -> usize
         requires { child < length self.now.plan.net.places }
         ensures { result ≡ unknown_in (inputs_of self.now child) }
@@ -355,6 +411,7 @@ impl Tick {
     }
 
     /// Whether each channel that a child feeds is known.
+    #[inline(never)]
     fn has_told(&self, child: usize) -> bool
         requires { child < length self.now.plan.net.places }
         ensures all { result ≡ true → HasTold self.now child }

@@ -3,18 +3,7 @@ ghost use Rattle.std.specs.Prelude.{◌^◌, ◌<◌, length};
 use crate::plan::CorePlan;
 use std::alloc::{AllocError, Global};
 
-/// What is noted of a child.
-#[derive(Clone, Copy, Debug)]
-struct Noted {
-    /// How many of its places are unknown.
-    missing: usize,
-    /// It gives early answers, and is looked at whenever an input of it becomes known.
-    eager: bool,
-    /// It stands in the worklist.
-    listed: bool,
-}
-
-/// The children that may react, as far as is noted: each at first, then those of which an input became known.
+/// The children that may react, as far as is noted: each at first, then those of which an input became known that they waited for.
 ///
 /// No contract speaks of it. Whoever takes a child from it looks at the child, and looks at all where it is empty.
 #[derive(Drop)]
@@ -25,7 +14,12 @@ pub(crate) struct Worklist {
     at: usize,
     /// The children that stand in the worklist again.
     woken: Vec<u32>,
-    noted: Vec<Noted>,
+    /// Whether each child stands in the worklist.
+    listed: Vec<bool>,
+    /// For how many inputs each child still waits that doesn't, until it is to be looked at again.
+    waits: Vec<usize>,
+    /// Whether each gives early answers, and is looked at whenever an input of it becomes known.
+    eager: Vec<bool>,
     /// The child at whose place each channel ends, and a number past them for an own output.
     readers: Vec<u32>,
 }
@@ -36,24 +30,29 @@ impl Worklist {
     pub(crate) fn new(alloc: Global, plan: &CorePlan) -> Result<Worklist, AllocError>
         requires { length plan.now.places < 2 ^ 32 }
     {
-        let noted = noted_of(alloc, plan)?;
-        let seeds = seeds_of(alloc, &plan.order, plan.places.len())?;
+        let children = plan.places.len();
         let readers = readers_of(alloc, plan)?;
-        let woken = Vec::with_capacity(alloc, noted.len())?;
+        let seeds = seeds_of(alloc, &plan.order, children)?;
+        let eager = Vec::from_slice(alloc, &plan.nonstrict)?;
+        let woken = Vec::with_capacity(alloc, children)?;
         Ok(Worklist {
             seeds,
             at: 0,
             woken,
-            noted,
+            listed: vec![in alloc; true; children]?,
+            waits: vec![in alloc; 0; children]?,
+            eager,
             readers,
         })
     }
 
-    /// Each child stands in the worklist, and none of its places is known.
-    pub(crate) fn restart(&mut self, places: &[usize]) {
+    /// Each child stands in the worklist.
+    pub(crate) fn restart(&mut self) {
         self.at = 0;
         self.woken.clear();
-        note_all(&mut self.noted, places);
+        for child in 0..self.listed.len() {
+            self.listed[child] = true;
+        }
     }
 
     /// At most so many children stand in it.
@@ -65,14 +64,16 @@ impl Worklist {
     }
 
     /// Takes a child out of it.
+    #[inline(always)]
     pub(crate) fn take(&mut self) -> Option<u32> {
         let child = self.front()?;
-        if let Some(noted) = self.noted.get_mut(child as usize) {
-            noted.listed = false;
+        if let Some(listed) = self.listed.get_mut(child as usize) {
+            *listed = false;
         }
         Some(child)
     }
 
+    #[inline(always)]
     fn front(&mut self) -> Option<u32> {
         if let Some(child) = self.woken.pop() {
             return Some(child);
@@ -82,32 +83,53 @@ impl Worklist {
         Some(child)
     }
 
-    /// Notes that a channel has become known, if it has. Its reader stands in the worklist then, where that may react.
+    /// Notes that a child that was taken waits for so many inputs, of which it wants to be told once all are known, or where it gives early answers at each.
+    pub(crate) fn wait(&mut self, child: u32, inputs: usize) {
+        let eager = matches!(self.eager.get(child as usize), Some(true));
+        if let Some(waits) = self.waits.get_mut(child as usize) {
+            *waits = if eager { 1 } else { inputs };
+        }
+    }
+
+    /// Notes that a channel has become known, if it has. Its reader stands in the worklist then, where it waited for that.
+    #[inline(always)]
     pub(crate) fn note(&mut self, channel: u32, news: bool) {
-        if news && let Some(child) = self.readers.get(channel as usize) {
-            let child = *child;
-            if self.has_woken(child) && self.woken.len() < self.woken.capacity() {
-                self.woken.push_reserved(child);
+        if news && let Some(reader) = self.readers.get(channel as usize) {
+            let child = *reader;
+            if let Some(listed) = self.listed.get(child as usize)
+                && !*listed
+            {
+                self.wake(child);
             }
         }
     }
 
-    /// One place of a child less is unknown. Whether the child is to be listed now.
-    fn has_woken(&mut self, child: u32) -> bool {
-        let Some(noted) = self.noted.get_mut(child as usize) else {
+    /// One input less is unknown of a child that doesn't stand in the worklist.
+    #[inline(never)]
+    fn wake(&mut self, child: u32) {
+        if self.has_woken(child as usize) && self.woken.len() < self.woken.capacity() {
+            self.woken.push_reserved(child);
+        }
+    }
+
+    /// Whether the child is to be listed now.
+    fn has_woken(&mut self, child: usize) -> bool {
+        let Some(waits) = self.waits.get_mut(child) else {
             return false;
         };
-        noted.missing = noted.missing.saturating_sub(1);
-        if noted.listed || (noted.missing > 0 && !noted.eager) {
+        *waits = waits.saturating_sub(1);
+        if *waits > 0 {
             return false;
         }
-        noted.listed = true;
+        if let Some(listed) = self.listed.get_mut(child) {
+            *listed = true;
+        }
         true
     }
 
     /// The same again.
     pub(crate) fn copy(&self, alloc: Global) -> Result<Worklist, AllocError> {
-        let mut woken = Vec::with_capacity(alloc, self.noted.len())?;
+        let mut woken = Vec::with_capacity(alloc, self.listed.len())?;
         for child in &self.woken {
             woken.push(*child)?;
         }
@@ -115,31 +137,11 @@ impl Worklist {
             seeds: Vec::from_slice(alloc, &self.seeds)?,
             at: self.at,
             woken,
-            noted: Vec::from_slice(alloc, &self.noted)?,
+            listed: Vec::from_slice(alloc, &self.listed)?,
+            waits: Vec::from_slice(alloc, &self.waits)?,
+            eager: Vec::from_slice(alloc, &self.eager)?,
             readers: Vec::from_slice(alloc, &self.readers)?,
         })
-    }
-}
-
-fn noted_of(alloc: Global, plan: &CorePlan) -> Result<Vec<Noted>, AllocError> {
-    let places = plan.places.as_slice();
-    let mut noted = Vec::with_capacity(alloc, places.len())?;
-    for child in 0..places.len() {
-        noted.push(Noted {
-            missing: places[child],
-            eager: child < plan.nonstrict.len() && plan.nonstrict[child],
-            listed: true,
-        })?;
-    }
-    Ok(noted)
-}
-
-fn note_all(noted: &mut [Noted], places: &[usize]) {
-    for child in 0..noted.len() {
-        if child < places.len() {
-            noted[child].missing = places[child];
-            noted[child].listed = true;
-        }
     }
 }
 

@@ -1,6 +1,6 @@
 use Rattle.std.proofs.Common.{◌+◌, get_or, false, if◌then◌else◌, ap, ◌∙◌, sym}
 use Rattle.pt_sr.proofs.SignalLaws.{count_more, counted-few}
-use Rattle.pt_sr.proofs.signals.count_lowered.Goals as goal
+use Rattle.pt_sr.proofs.signals.count_each_lowered.Goals as goal
 
 pub loop-flag-preserved : goal.loop-flag-preserved
 loop-flag-preserved c = (
