@@ -1,2 +1,3 @@
 pub mod MeetingsExample
 pub mod TopLaws
+pub mod DirectorLaws

@@ -1,28 +1,22 @@
 -- What the nodes of the code are that are built from a net: each entity under its path and with its recorded outputs, as it starts.
-use Rattle.std.specs.Prelude.{◌≡◌, ℕ, suc, List, [], ◌∷◌, true, false}
+use Rattle.std.specs.Prelude.{◌≡◌, ℕ, suc, List, [], ◌∷◌, true, None}
 use Rattle.std.specs.List.{Contains}
 use Rattle.pt_meaning.specs.Tree as tree
-use Rattle.pt_document.specs.declared.code.Code.{Code}
-use Rattle.pt_document.specs.declared.code.Code.TheVariants as code
+use Rattle.pt_document.specs.declared.classes.Director.{Director}
 use Rattle.pt_document.specs.declared.refusal.Refusal.{Refusal}
 use Rattle.pt_net.specs.declared.net.Net.{Net}
 use Rattle.pt_net.specs.declared.net.NetEntity.{NetEntity}
 use Rattle.pt_net.specs.Inside.{children_of}
 use Rattle.pt_library.specs.declared.library_actor.LibraryActor.{LibraryActor}
-use Rattle.pt_plan.specs.declared.inside.Inside.{Inside}
-use Rattle.pt_plan.specs.declared.planning.PlanFault.{PlanFault}
-use Rattle.pt_plan.specs.declared.planning.PlanFault.TheVariants as plan_fault
-use Rattle.pt_plan.specs.Fault.{FaultStands}
 use Rattle.pt_node.specs.declared.body.Body.TheVariants as body
 use Rattle.pt_node.specs.declared.body.Held.{Held}
 use Rattle.pt_node.specs.Recorded.{RecordedPort}
 use Rattle.pt_node.specs.Shown.{Shown, Branch, none}
 use Rattle.pt_trees.specs.declared.build_fault.BuildFault.{BuildFault}
 use Rattle.pt_trees.specs.declared.build_fault.BuildFault.TheVariants.{Refused, Unbuilt, Memory}
-use Rattle.pt_trees.specs.Rates.{HasUnsteady}
-use Rattle.pt_trees.specs.Around.{IsInsideOf, HasInside, IsWired}
-use Rattle.pt_trees.specs.Composite.{trees_of, IsSdfComposite, IsSrComposite}
-use Rattle.pt_trees.specs.Trees.{IsEntity, IsUndirected, is_sdf, IsSdf, is_sr, IsSr, around_in, Starts, StartsAs}
+use Rattle.pt_trees.specs.Composite.{trees_of, IsComposite}
+use Rattle.pt_trees.specs.Directors.{director_of, IsDirectedBy, composing}
+use Rattle.pt_trees.specs.Trees.{IsEntity, IsUndirected, around_in, Starts, StartsAs}
 use Rattle.pt_trees.specs.Recorded.{recorded_of}
 use Rattle.pt_trees.specs.declared.composite_fault.CompositeFault.{CompositeFault}
 use Rattle.pt_trees.specs.declared.composite_fault.CompositeFault.TheVariants as composite_fault
@@ -38,10 +32,8 @@ actor_node a path records = held_node (record { start = a; actor = a }) path rec
 mutual
   pub data IsBuilt (net : Net) (starts : Starts) : ℕ → Shown → Type 0 where
     built_actor : (k : ℕ) (e : NetEntity) (a : LibraryActor) → IsEntity net k e → IsUndirected e → StartsAs starts k a → IsBuilt net starts k (actor_node a e.path (recorded_of net k e))
-    built_sdf : (k : ℕ) (e : NetEntity) (kids : List Shown) (s : Shown) → IsEntity net k e → IsSdf e → AreBuilt net starts (children_of net.entities.items k) kids →
-        IsSdfComposite (around_in net k e) kids e.path (recorded_of net k e) s → IsBuilt net starts k s
-    built_sr : (k : ℕ) (e : NetEntity) (kids : List Shown) (s : Shown) → IsEntity net k e → IsSr e → AreBuilt net starts (children_of net.entities.items k) kids →
-        IsSrComposite (around_in net k e) kids e.path (recorded_of net k e) s → IsBuilt net starts k s
+    built_composite : (k : ℕ) (e : NetEntity) (director : Director) (kids : List Shown) (s : Shown) → IsEntity net k e → IsDirectedBy e director → AreBuilt net starts (children_of net.entities.items k) kids →
+        IsComposite director (around_in net k e) kids e.path (recorded_of net k e) s → IsBuilt net starts k s
 
   pub data AreBuilt (net : Net) (starts : Starts) : List ℕ → List Shown → Type 0 where
     none_built : AreBuilt net starts [] []
@@ -54,46 +46,34 @@ pub data IsNested (net : Net) : ℕ → ℕ → Type 0 where
   at_top : IsNested net 0 0
   within : (c depth k : ℕ) → IsNested net c depth → Contains (children_of net.entities.items c) k → IsNested net k (suc depth)
 
--- the code that a composite without a plan is refused with
-abbrev pub IsCodeOf : PlanFault → Code → Type 0
-IsCodeOf plan_fault.Rates c = c ≡ code.Rates
-IsCodeOf plan_fault.Limit c = c ≡ code.Limit
-IsCodeOf plan_fault.Deadlock c = c ≡ code.SdfDeadlock
-IsCodeOf plan_fault.Memory c = ⊥
-
--- an SDF composite whose inside has no plan is refused at its path
+-- a composite that its director refuses is refused at its path
 pub record IsRefused (net : Net) (starts : Starts) (r : Refusal) : Type 0 where
   pub number : ℕ
   pub entity : NetEntity
   pub at : IsEntity net number entity
-  pub sdf : IsSdf entity
+  pub director : Director
+  pub directed : IsDirectedBy entity director
   pub kids : List Shown
   pub built : AreBuilt net starts (children_of net.entities.items number) kids
-  pub inside : Inside
-  pub is_inside : IsInsideOf (around_in net number entity) (trees_of kids) inside
-  pub fault : PlanFault
-  pub stands : FaultStands inside fault
-  pub code_is : IsCodeOf fault r.code
+  pub refused : (composing director).IsRefused (around_in net number entity) (trees_of kids) r.code
   pub path_is : r.path ≡ entity.path
 
--- What isn't built yet: an entity that is neither a library actor nor a composite of SDF or SR; a library actor without a start; an SDF composite with a child that isn't steady, or whose inside isn't well formed; an SR composite whose wiring isn't one;
+-- What isn't built: an entity that is neither a library actor nor a composite with a director; a library actor without a start; a composite that doesn't fit its director, or whose director isn't built yet;
 -- a net whose top isn't there, or that is nested deeper than documents are.
 pub data IsUnbuilt (net : Net) (starts : Starts) : Type 0 where
   absent : ((e : NetEntity) → IsEntity net 0 e → ⊥) → IsUnbuilt net starts
-  other_director : (k : ℕ) (e : NetEntity) → IsEntity net k e → (IsUndirected e → ⊥) → is_sdf e ≡ false → is_sr e ≡ false → IsUnbuilt net starts
+  undirected : (k : ℕ) (e : NetEntity) → IsEntity net k e → (IsUndirected e → ⊥) → director_of e ≡ None → IsUnbuilt net starts
   unstarted : (k : ℕ) (e : NetEntity) → IsEntity net k e → IsUndirected e → ((a : LibraryActor) → StartsAs starts k a → ⊥) → IsUnbuilt net starts
-  unsteady : (k : ℕ) (e : NetEntity) (kids : List Shown) → IsEntity net k e → IsSdf e → AreBuilt net starts (children_of net.entities.items k) kids → HasUnsteady (trees_of kids) → IsUnbuilt net starts
-  malformed : (k : ℕ) (e : NetEntity) (kids : List Shown) → IsEntity net k e → IsSdf e → AreBuilt net starts (children_of net.entities.items k) kids → (HasInside (around_in net k e) (trees_of kids) → ⊥) → IsUnbuilt net starts
-  unwired : (k : ℕ) (e : NetEntity) (kids : List Shown) → IsEntity net k e → IsSr e → AreBuilt net starts (children_of net.entities.items k) kids → (IsWired (around_in net k e) (trees_of kids) → ⊥) → IsUnbuilt net starts
+  misfit : (k : ℕ) (e : NetEntity) (director : Director) (kids : List Shown) → IsEntity net k e → IsDirectedBy e director → AreBuilt net starts (children_of net.entities.items k) kids →
+      (composing director).IsMisfit (around_in net k e) (trees_of kids) → IsUnbuilt net starts
   deep : (k : ℕ) → IsNested net k 32 → IsUnbuilt net starts
 
 -- how it is told that a composite of this path isn't built
 abbrev pub IsToldAs : CompositeFault → List ℕ → BuildFault → Type 0
-IsToldAs composite_fault.Unsteady path f = f ≡ Unbuilt
-IsToldAs composite_fault.Malformed path f = f ≡ Unbuilt
-IsToldAs (composite_fault.Unplanned fault) path (Refused r) = IsCodeOf fault r.code × (r.path ≡ path)
-IsToldAs (composite_fault.Unplanned fault) path Unbuilt = ⊥
-IsToldAs (composite_fault.Unplanned fault) path Memory = Unit {0}
+IsToldAs composite_fault.Unbuilt path f = f ≡ Unbuilt
+IsToldAs (composite_fault.Refused code) path (Refused r) = (r.code ≡ code) × (r.path ≡ path)
+IsToldAs (composite_fault.Refused code) path Unbuilt = ⊥
+IsToldAs (composite_fault.Refused code) path Memory = Unit {0}
 IsToldAs composite_fault.Memory path f = f ≡ Memory
 
 -- when each answer that isn't a node may come

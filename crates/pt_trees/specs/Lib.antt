@@ -1,5 +1,9 @@
 pub mod Rates
 pub mod Around
+pub mod Composing
+pub mod Sdf
+pub mod Sr
+pub mod Directors
 pub mod Fresh
 pub mod Composite
 pub mod Trees

@@ -1,8 +1,8 @@
 -- The tree of a net among the definitions, and what the nodes of the code are: each entity of the net at its start.
-use Rattle.std.specs.Prelude.{◌≡◌, ℕ, List, [], ◌∷◌, Option, Some, None, map, count_by, slice_get, codes, Bool, true, false, ◌&&◌, bytes_eq}
-use Rattle.pt_meaning.specs.Sdf.{SdfPlan}
-use Rattle.pt_meaning.specs.Start.{first_held}
+use Rattle.std.specs.Prelude.{◌≡◌, ℕ, List, [], ◌∷◌, Option, Some, None, map, count_by, slice_get, codes, true, bytes_eq}
 use Rattle.pt_meaning.specs.Tree as tree
+use Rattle.pt_value.specs.declared.token.Token.{Token}
+use Rattle.pt_document.specs.declared.classes.Director.{Director}
 use Rattle.pt_net.specs.declared.net.Net.{Net}
 use Rattle.pt_net.specs.declared.net.NetDirector.{NetDirector}
 use Rattle.pt_net.specs.declared.net.NetEntity.{NetEntity}
@@ -10,11 +10,9 @@ use Rattle.pt_net.specs.Inside.{children_of, place_count, source_of, channels_in
 use Rattle.pt_library.specs.declared.library_actor.LibraryActor.{LibraryActor}
 use Rattle.pt_flow_base.specs.declared.params.Params.{Params}
 use Rattle.pt_library.specs.LibraryActor.{start}
-use Rattle.pt_plan.specs.declared.inside.Inside.{Inside}
-use Rattle.pt_plan.specs.PlanOf.{IsPlanOf}
-use Rattle.pt_library.specs.LibraryActor.{rows}
 use Rattle.pt_node.specs.View.{Tree}
-use Rattle.pt_trees.specs.Around.{Around, IsInsideOf, tick_plan, IsWired}
+use Rattle.pt_trees.specs.Around.{Around}
+use Rattle.pt_trees.specs.Directors.{IsDirectedBy, composing}
 
 -- ---- entities
 
@@ -25,28 +23,6 @@ IsEntity net k e = slice_get net.entities.items k ≡ Some e
 -- it is a library actor: it has no director
 abbrev pub IsUndirected : NetEntity → Type 0
 IsUndirected e = e.director ≡ None
-
-abbrev pub has_sdf : Option NetDirector → Bool
-has_sdf None = false
-has_sdf (Some director) = bytes_eq director.class (codes "SDF")
-
--- it is a composite with the SDF director
-abbrev pub is_sdf : NetEntity → Bool
-is_sdf e = bytes_eq e.class (codes "Composite") && has_sdf e.director
-
-abbrev pub IsSdf : NetEntity → Type 0
-IsSdf e = is_sdf e ≡ true
-
-abbrev pub has_sr : Option NetDirector → Bool
-has_sr None = false
-has_sr (Some director) = bytes_eq director.class (codes "SR")
-
--- it is a composite with the SR director
-abbrev pub is_sr : NetEntity → Bool
-is_sr e = bytes_eq e.class (codes "Composite") && has_sr e.director
-
-abbrev pub IsSr : NetEntity → Type 0
-IsSr e = is_sr e ≡ true
 
 -- it is a composite with a director, whichever
 pub record IsDirected (e : NetEntity) : Type 0 where
@@ -77,14 +53,13 @@ StartsAs starts k a = slice_get starts k ≡ Some (Some a)
 abbrev pub AreStarted : Starts → Type 0
 AreStarted starts = (k : ℕ) (a : LibraryActor) → StartsAs starts k a → (params : Params) × (start params ≡ Some a)
 
--- This is the tree of the entity of that number, at its start. A library actor is as it starts. A composite of SDF is around the trees of its children in the order
--- of the document, its plan is that of its inside, and its channels hold the first tokens. One of SR is around the trees of its children too, and its net is that of the document.
+-- This is the tree of the entity of that number, at its start. A library actor is as it starts. A composite is round the trees of its children in the order
+-- of the document, with a core of its director.
 mutual
   pub data IsTree (net : Net) (IsStart : ℕ → LibraryActor → Type 0) : ℕ → Tree → Type 0 where
     of_actor : (k : ℕ) (e : NetEntity) (a : LibraryActor) → IsEntity net k e → IsUndirected e → IsStart k a → IsTree net IsStart k (tree.actor a)
-    of_sdf : (k : ℕ) (e : NetEntity) (kids : List Tree) (x : Inside) (p : SdfPlan) → IsEntity net k e → IsSdf e → AreTrees net IsStart (children_of net.entities.items k) kids →
-        IsInsideOf (around_in net k e) kids x → IsPlanOf x p → IsTree net IsStart k (tree.composite (tree.Sdf p (first_held rows kids p.net.sources)) kids)
-    of_sr : (k : ℕ) (e : NetEntity) (kids : List Tree) → IsEntity net k e → IsSr e → AreTrees net IsStart (children_of net.entities.items k) kids → IsWired (around_in net k e) kids → IsTree net IsStart k (tree.composite (tree.Sr (tick_plan (around_in net k e))) kids)
+    of_composite : (k : ℕ) (e : NetEntity) (director : Director) (kids : List Tree) (core : tree.Core Token) → IsEntity net k e → IsDirectedBy e director → AreTrees net IsStart (children_of net.entities.items k) kids →
+        (composing director).IsCore (around_in net k e) kids core → IsTree net IsStart k (tree.composite core kids)
 
   pub data AreTrees (net : Net) (IsStart : ℕ → LibraryActor → Type 0) : List ℕ → List Tree → Type 0 where
     no_trees : AreTrees net IsStart [] []
