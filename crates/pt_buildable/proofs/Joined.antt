@@ -1,0 +1,41 @@
+-- The laws of the net of a document.
+use Rattle.pt_buildable.specs.Laws.{TopsAreThere, EntitiesAreShallow, DirectorsAreOfComposites, TopsHaveIterations, CompositesAreBuiltOrNot, BuiltNetsAreInOrder, CompositesHaveChannels, ChildrenAreSteady}
+use Rattle.pt_buildable.proofs.Depths.{documents-small}
+use Rattle.pt_buildable.proofs.Levels.{documents-shallow}
+use Rattle.pt_buildable.proofs.Nesting.{nested-few}
+use Rattle.pt_buildable.proofs.Tops.{has-top, top-iterates}
+use Rattle.pt_buildable.proofs.Composites.{other-or-built, director-composite}
+use Rattle.pt_buildable.proofs.Ordered.{seen, placed, ordered}
+use Rattle.pt_buildable.proofs.Insides.{channels-counted, sources-there}
+use Rattle.pt_buildable.proofs.Few.{few-places, few-sources, few-kids}
+use Rattle.pt_buildable.proofs.Kids.{no-unsteady}
+use Rattle.pt_net.specs.Table.{tables_of}
+
+pub tops-there : TopsAreThere
+tops-there net doc = let top = has-top doc.job net (placed net doc) doc.made in (top.entity, top.at)
+
+pub entities-shallow : EntitiesAreShallow
+entities-shallow net k depth doc nested = nested-few doc.job net (placed net doc) doc.made 15 (documents-shallow doc.bytes doc.job doc.read) nested
+
+pub directors-of-composites : DirectorsAreOfComposites
+directors-of-composites net k e d doc at has = director-composite doc.job net (seen net doc) (placed net doc) doc.made k e d at has
+
+pub tops-iterate : TopsHaveIterations
+tops-iterate net values e doc valued at built = top-iterates net values e doc valued at built
+
+pub composites-built : CompositesAreBuiltOrNot
+composites-built = other-or-built
+
+pub nets-ordered : BuiltNetsAreInOrder
+nets-ordered net e d doc built at has = ordered net doc built e d at has
+
+pub composites-channels : CompositesHaveChannels
+composites-channels net k e d doc within order at has = record {
+  counted = channels-counted net k e d order.wired at has;
+  there = sources-there net k e at order.wired;
+  few = few-sources doc.job net k e doc.made (few-places (tables_of doc.job) doc.job.records within);
+  fewer = few-kids doc.job net k e doc.made (documents-small doc.bytes doc.job doc.read);
+}
+
+pub children-steady : ChildrenAreSteady
+children-steady net values typing starts k e kids valued misplaced started at sdf all unsteady = no-unsteady net values typing starts valued misplaced started k e kids at sdf all unsteady

@@ -1,0 +1,70 @@
+-- The children of a composite of SDF need and give the same at each firing.
+use Rattle.std.proofs.Common.{◌≡◌, ◌⊎◌, inl, inr, ◌&&◌, ℕ, zero, suc, List, [], ◌∷◌, Bool, true, false, Option, Some, None, codes, bytes_eq, option_map, refl, sym, ap, subst, ◌∙◌}
+use Rattle.std.specs.List.{slice_get}
+use Rattle.std.proofs.lemmas.Bool.{and_parts, both_ways}
+use Rattle.std.proofs.lemmas.Option.{none-some, same_Some}
+use Rattle.std.proofs.lemmas.Slice.Eq.{bytes_eq-Decides}
+use Rattle.pt_meaning.specs.Streams.{get}
+use Rattle.pt_document.specs.declared.code.Code.{Code}
+use Rattle.pt_document.specs.declared.classes.Director.{Director}
+use Rattle.pt_document.specs.declared.classes.Director.TheVariants.{Sdf}
+use Rattle.pt_document.specs.Classes.{director_row, directors}
+use Rattle.pt_net.specs.declared.net.Net.{Net}
+use Rattle.pt_net.specs.declared.net.NetDirector.{NetDirector}
+use Rattle.pt_net.specs.declared.net.NetEntity.{NetEntity}
+use Rattle.pt_net.specs.Net.{NetEntityTree, director_view, entity_view}
+use Rattle.pt_net.specs.Inside.{children_of}
+use Rattle.pt_scopes.specs.declared.values.Values.{Values}
+use Rattle.pt_scopes.specs.Scopes.{net_view}
+use Rattle.pt_scopes.specs.Valued.{IsValued}
+use Rattle.pt_typing.specs.Least.{Assignment}
+use Rattle.pt_library.specs.declared.library_actor.LibraryActor.{LibraryActor}
+use Rattle.pt_library.specs.LibraryActor as library
+use Rattle.pt_start.specs.Places.{director_in, director_at, director_over}
+use Rattle.pt_start.specs.Misplaced.{IsMisplaced}
+use Rattle.pt_start.proofs.Outward.{view-at}
+use Rattle.pt_node.specs.View.{Tree}
+use Rattle.pt_trees.specs.Rates.{IsUnsteady, HasUnsteady}
+use Rattle.pt_trees.specs.Trees.{Starts, StartsAs, IsEntity, has_sdf, IsSdf, IsTree, of_actor, of_sdf, of_sr, AreTrees, no_trees, more_trees}
+use Rattle.pt_order.proofs.Children.{child-stands}
+use Rattle.pt_typed.specs.RowLaw.{types_of_ports, AreStartedIn}
+use Rattle.pt_buildable.proofs.Steady.{IsSteadyStart, steady-started}
+
+-- ---- the director round an entity
+
+sdf-in : (o : Option NetDirector) → has_sdf o ≡ true → director_in (option_map director_view o) ≡ Some Sdf
+unfolding director_row directors
+sdf-in None e = absurd (let h : false ≡ true = e in cc)
+sdf-in (Some d) e = ap (λ c. director_in (Some (record { class = c; parameters = (director_view d).parameters }))) ((bytes_eq-Decides d.class (codes "SDF")).0 e)
+
+pub over-sdf : (net : Net) (k : ℕ) (e : NetEntity) → IsEntity net k e → IsSdf e → director_over (net_view net) (Some k) ≡ Some Sdf
+over-sdf net k e at sdf = ap director_at (view-at entity_view net.entities.items k e at) ∙ sdf-in e.director (and_parts (bytes_eq e.class (codes "Composite")) (has_sdf e.director) sdf).1
+
+-- ---- its children
+
+tree-among : (net : Net) (starts : Starts) {cs : List ℕ} {ts : List Tree} → AreTrees net (StartsAs starts) cs ts → (i : ℕ) (kid : Tree) → get ts i ≡ Some kid → (c : ℕ) × (slice_get cs i ≡ Some c) × IsTree net (StartsAs starts) c kid
+tree-among net starts no_trees i kid at = absurd (none-some kid at)
+tree-among net starts (more_trees k ks t ts one all) zero kid at = (k, refl, subst (λ x. IsTree net (StartsAs starts) k x) (same_Some t kid at) one)
+tree-among net starts (more_trees k ks t ts one all) (suc i) kid at = tree-among net starts all i kid at
+
+-- a composite does, and so does an actor that starts so
+steady-kid : (net : Net) (starts : Starts) {c : ℕ} {kid : Tree} → IsTree net (StartsAs starts) c kid → ((a : LibraryActor) → StartsAs starts c a → IsSteadyStart a) → IsUnsteady kid → ⊥
+steady-kid net starts (of_actor k e a at undirected started) steady (inl unsteady) = both_ways (library.is_steady a) unsteady (steady a started).steady
+steady-kid net starts (of_actor k e a at undirected started) steady (inr unrated) = (steady a started).rated unrated
+steady-kid net starts (of_sdf k e kids x p at sdf all is plan) steady (inl unsteady) = let h : true ≡ false = unsteady in cc
+steady-kid net starts (of_sdf k e kids x p at sdf all is plan) steady (inr unrated) = none-some p.gives (sym unrated)
+steady-kid net starts (of_sr k e kids at sr all wired) steady (inl unsteady) = let h : true ≡ false = unsteady in cc
+steady-kid net starts (of_sr k e kids at sr all wired) steady (inr unrated) = none-some _ (sym unrated)
+
+pub no-unsteady : (net : Net) (values : Values) (typing : Assignment) (starts : Starts) → IsValued (net_view net) values → ((cause : Code) (k : ℕ) → IsMisplaced (net_view net) values cause k → ⊥) → AreStartedIn net values typing starts → (k : ℕ) (e : NetEntity) (kids : List Tree) → IsEntity net k e → IsSdf e →
+    AreTrees net (StartsAs starts) (children_of net.entities.items k) kids → HasUnsteady kids → ⊥
+no-unsteady net values typing starts valued placed started k e kids at sdf all unsteady =
+    let w = tree-among net starts all unsteady.0 unsteady.1 unsteady.2 in
+    let child = child-stands k net.entities.items unsteady.0 w.0 w.1 in
+    steady-kid net starts w.2 (λ a is. (
+    let s = started w.0 a is in
+    let same : s.0 ≡ child.0 = same_Some s.0 child.0 (sym s.1 ∙ child.1) in
+    let from = s.3.started_from in
+    let view : from.entity ≡ entity_view s.0 = same_Some from.entity (entity_view s.0) (sym from.at ∙ view-at entity_view net.entities.items w.0 s.0 s.1) in
+    let parent : from.entity.parent ≡ Some k = ap (λ (x : NetEntityTree). x.parent) view ∙ ap (λ (x : NetEntity). x.parent) same ∙ child.2 in
+    steady-started net values (types_of_ports typing) w.0 valued (λ cause. placed cause w.0) s.3.params from (ap (director_over (net_view net)) parent ∙ over-sdf net k e at sdf) a s.3.is)) unsteady.3

@@ -1,0 +1,14 @@
+pub mod Depths
+pub mod Levels
+pub mod Directors
+pub mod TopRules
+pub mod Iterations
+pub mod Composites
+pub mod Nesting
+pub mod Tops
+pub mod Ordered
+pub mod Insides
+pub mod Few
+pub mod Steady
+pub mod Kids
+pub mod Joined

@@ -1,0 +1,21 @@
+-- Which composites of a net are built: those with the director SDF or SR.
+use Rattle.std.specs.Prelude.{◌≡◌, ◌⊎◌, ℕ, true, false}
+use Rattle.pt_net.specs.declared.net.Net.{Net}
+use Rattle.pt_net.specs.declared.net.NetEntity.{NetEntity}
+use Rattle.pt_scopes.specs.Scopes.{is_composite_class}
+use Rattle.pt_trees.specs.Trees.{IsEntity, is_sdf, IsSdf, is_sr, IsSr}
+
+-- a composite with a director that isn't built, or a Modal entity
+abbrev pub IsOtherComposite : NetEntity → Type 0
+IsOtherComposite e = (is_composite_class e.class ≡ true) × (is_sdf e ≡ false) × (is_sr e ≡ false)
+
+-- there is one in the net
+pub record HasOtherComposite (net : Net) : Type 0 where
+  pub number : ℕ
+  pub entity : NetEntity
+  pub at : IsEntity net number entity
+  pub other : IsOtherComposite entity
+
+-- each composite of the net has one of these directors, and none is a Modal entity
+abbrev pub HasBuiltComposites : Net → Type 0
+HasBuiltComposites net = (k : ℕ) (e : NetEntity) → IsEntity net k e → is_composite_class e.class ≡ true → IsSdf e ⊎ IsSr e

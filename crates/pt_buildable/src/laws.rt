@@ -1,0 +1,41 @@
+ghost use Rattle.pt_buildable.specs.Laws.{TopsAreThere, EntitiesAreShallow, DirectorsAreOfComposites, TopsHaveIterations, CompositesAreBuiltOrNot, BuiltNetsAreInOrder, CompositesHaveChannels, ChildrenAreSteady};
+
+/// The net of a document has its top.
+pub fn tops_are_there()
+    ensures { TopsAreThere }
+{}
+
+/// In it an entity stands below at most fifteen composites.
+pub fn entities_are_shallow()
+    ensures { EntitiesAreShallow }
+{}
+
+/// Only composites of it have directors.
+pub fn directors_are_of_composites()
+    ensures { DirectorsAreOfComposites }
+{}
+
+/// A top with the director SDF or SR has a number of iterations.
+pub fn tops_have_iterations()
+    ensures { TopsHaveIterations }
+{}
+
+/// A net has a composite that isn't built, or all its composites have the director SDF or SR.
+pub fn composites_are_built_or_not()
+    ensures { CompositesAreBuiltOrNot }
+{}
+
+/// In the latter, where the top is a composite, the net is in order.
+pub fn built_nets_are_in_order()
+    ensures { BuiltNetsAreInOrder }
+{}
+
+/// Each channel of a composite of a net in order begins at what is there, and there is one for each place and each own output, and there are few.
+pub fn composites_have_channels()
+    ensures { CompositesHaveChannels }
+{}
+
+/// Under SDF each child needs and gives the same at each firing.
+pub fn children_are_steady()
+    ensures { ChildrenAreSteady }
+{}
