@@ -2,15 +2,16 @@ use crate::parameters::fault_named;
 use pt_firing::{Blocked, Place, Rows};
 use pt_table::{Answer, each, each_in, natural, part, read_token};
 use pt_time::Tag;
-use pt_trace::{ChildPlace, MeetingLine, Meetings, Met, Report, RunEnd, Trace, text};
+use pt_trace::{ChildPlace, MeetingLine, Meetings, Met, Report, RunEnd, Trace, summary, text};
 use pt_value::{Text, Token};
 use std::alloc::{AllocError, Global};
 
 /// Answers the question for the text of a report, which is written in parts:
-/// `trace PATH: TOKEN TOKEN; meetings PATH: FIRING WHAT, FIRING WHAT; end WORDS`.
+/// `trace PATH: TOKEN TOKEN; meetings PATH: FIRING WHAT, FIRING WHAT; end WORDS`. That for a summary has `firings NUMBER` too.
 pub fn answer(alloc: Global, section: &str, question: &str, out: &mut Answer) {
     match section {
         "report" => tell(alloc, question, out),
+        "summary" => sum_up(alloc, question, out),
         _ => out.no_such_section(),
     }
 }
@@ -123,6 +124,15 @@ fn report(alloc: Global, written: &str, out: &mut Answer) -> Report {
 fn tell(alloc: Global, written: &str, out: &mut Answer) {
     let report = report(alloc, written, out);
     let text = text(alloc, &report);
+    drop(report);
+    let text = out.or(text, Vec::new(alloc));
+    out.bytes_of(&text);
+    drop(text);
+}
+
+fn sum_up(alloc: Global, written: &str, out: &mut Answer) {
+    let report = report(alloc, written, out);
+    let text = summary(alloc, &report, natural(part(written, "firings")));
     drop(report);
     let text = out.or(text, Vec::new(alloc));
     out.bytes_of(&text);

@@ -6,3 +6,4 @@ pub mod MeetingText
 pub mod ReportText
 pub mod ReportForm
 pub mod FormExample
+pub mod SummaryText

@@ -6,6 +6,7 @@ mod line;
 mod meetings;
 mod report;
 mod run_end;
+mod summary_text;
 mod trace;
 mod writing;
 
@@ -13,4 +14,5 @@ pub use form::forms_by_example;
 pub use meetings::{ChildPlace, MeetingLine, Meetings, Met};
 pub use report::{Report, text};
 pub use run_end::RunEnd;
+pub use summary_text::summary;
 pub use trace::Trace;
