@@ -1,3 +1,4 @@
 mod Lines
 mod PartLaws
 mod LineLaws
+mod Within

@@ -2,8 +2,9 @@
 use Rattle.std.specs.Prelude.{◌≡◌, ℕ, ◌≤◌, ◌⊎◌, List, [], ◌∷◌, ◌++◌, Option, Some, None, IfSome, unwrap_or, codes}
 use Rattle.pt_words.specs.declared.parts.Parts.{Parts}
 use Rattle.pt_words.specs.declared.line.Line.{Line}
+use Rattle.pt_words.specs.declared.line.Task.{Task}
 use Rattle.pt_words.specs.declared.line.Task.TheVariants.{Run, Check, Generate, Demonstrate}
-use Rattle.pt_words.specs.Line.{IsNumber, IsBudget, usual_budget}
+use Rattle.pt_words.specs.Line.{IsNumber, IsBudget, usual_budget, greatest_budget}
 
 abbrev pub most_workers : ℕ
 most_workers = 64
@@ -112,3 +113,22 @@ Asks command parts line =
 abbrev pub IsLineFor : List (List ℕ) → Line → Type 0
 IsLineFor [] line = ⊥
 IsLineFor (command ∷ words) line = (parts : Parts) × Give words parts × Asks command parts line
+
+-- ---- ranges
+
+-- a positive number up to this one
+abbrev pub IsUpTo : ℕ → ℕ → Type 0
+IsUpTo most n = (1 ≤ n) × (n ≤ most)
+
+-- the stages of a job to generate are so many
+abbrev pub HasStages : Task → Type 0
+HasStages Run = Unit {0}
+HasStages Check = Unit {0}
+HasStages (Generate n) = IsUpTo most_stages n
+HasStages (Demonstrate n) = IsUpTo most_stages n
+
+-- what a line asks for is in its ranges
+pub record IsWithin (line : Line) : Type 0 where
+  pub task : HasStages line.task
+  pub workers : IsUpTo most_workers line.workers
+  pub budget : IsUpTo greatest_budget line.budget

@@ -8,5 +8,5 @@ mod parts;
 mod tests;
 mod words;
 
-pub use line::{Line, Task, read_line, words_are_one_line};
+pub use line::{Line, Task, lines_are_within, read_line, words_are_one_line};
 pub use words::{Command, Words, WordsFault, read};

@@ -1,5 +1,5 @@
 ghost use Rattle.std.specs.Prelude.{◌≡◌, List, ℕ, map, string_bytes, IfOk, OnErr};
-ghost use Rattle.pt_words.specs.Parts.{IsTheOne, workers_of, budget_of, Asks, IsRun, IsCheck, IsGeneration, IsDemonstration, IsLineFor};
+ghost use Rattle.pt_words.specs.Parts.{IsTheOne, workers_of, budget_of, Asks, IsRun, IsCheck, IsGeneration, IsDemonstration, IsWithin, IsLineFor};
 ghost use Rattle.pt_words.specs.declared.line.Line.{Line};
 
 use crate::parts::{NOTHING, Parts, parts_of};
@@ -118,4 +118,9 @@ pub fn read_line(words: &[String]) -> Result<Line, WordsFault>
 /// A law of the lines: the same words ask for one thing.
 pub fn words_are_one_line()
     ensures { (words : List (List ℕ)) (a b : Line) → IsLineFor words a → IsLineFor words b → a ≡ b }
+{}
+
+/// A law of the lines: what they ask for is in its ranges.
+pub fn lines_are_within()
+    ensures { (words : List (List ℕ)) (line : Line) → IsLineFor words line → IsWithin line }
 {}
