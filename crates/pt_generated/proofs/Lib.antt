@@ -1,0 +1,4 @@
+mod Numbered
+mod Entities
+mod Counted
+mod Sayable

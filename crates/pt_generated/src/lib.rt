@@ -1,0 +1,6 @@
+//! The document of the generated job of a number.
+#![tactic(auto)]
+
+mod document;
+
+pub use document::{document_of_generated, generated_jobs_are_sayable};
