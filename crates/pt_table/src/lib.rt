@@ -2,15 +2,8 @@
 #![tactic(auto)]
 
 mod answers;
-mod numbers;
-mod token_texts;
 mod writing;
 mod written;
 
 pub use answers::{Answers, Place, report, tell};
-pub use numbers::{integer, natural, part, size, small};
-pub use token_texts::{
-    lists, read_token, read_tokens, show, show_ports, show_token, token, tokens,
-};
 pub use writing::Answer;
-pub use written::{each, each_in, each_plain, plain};

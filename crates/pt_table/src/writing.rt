@@ -85,14 +85,6 @@ impl Answer {
         }
     }
 
-    /// Writes a list of numbers, or a value by its name.
-    pub fn named<D: fmt::Debug>(&mut self, alloc: Global, value: &D) {
-        match format!(in alloc; "{value:?}") {
-            Ok(text) => self.text(&text),
-            Err(fault) => self.note(Err(fault)),
-        }
-    }
-
     pub fn number(&mut self, alloc: Global, number: i128) {
         self.shown(alloc, &number);
     }

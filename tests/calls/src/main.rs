@@ -1,0 +1,66 @@
+//! Compares what calls of the crates answer with what was worked by hand, and tells the rows that differ.
+
+mod evaluation;
+mod expression_types;
+mod firing;
+mod flow_library;
+mod library;
+mod lists;
+mod numbers;
+mod parameters;
+mod parsing;
+mod plans;
+mod printed_expressions;
+mod rates;
+mod receivers;
+mod tags;
+mod time_library;
+mod token_texts;
+mod traces;
+mod types;
+mod values;
+
+use pt_table::{Answer, Answers, Place, tell};
+use std::alloc::Global;
+use std::{env, io};
+
+/// The questions of all tables: each table has a module of its name.
+struct Questions;
+
+/// The name of a table's file, without its folder.
+fn file_name(table: &str) -> &str {
+    let (_, name) = table.rsplit_once('/').unwrap_or(("", table));
+    name
+}
+
+impl Answers for Questions {
+    fn answer(&self, alloc: Global, place: Place<'_>, question: &str, out: &mut Answer) {
+        let section = place.section;
+        match file_name(place.table) {
+            "values.txt" => values::answer(alloc, section, question, out),
+            "types.txt" => types::answer(alloc, section, question, out),
+            "parsing.txt" | "no_trees.txt" => parsing::answer(alloc, section, question, out),
+            "printed_expressions.txt" => printed_expressions::answer(alloc, section, question, out),
+            "evaluation.txt" => evaluation::answer(alloc, section, question, out),
+            "expression_types.txt" => expression_types::answer(alloc, section, question, out),
+            "rates.txt" => rates::answer(alloc, section, question, out),
+            "plans.txt" => plans::answer(alloc, section, question, out),
+            "receivers.txt" => receivers::answer(alloc, section, question, out),
+            "tags.txt" => tags::answer(alloc, section, question, out),
+            "firing.txt" => firing::answer(alloc, section, question, out),
+            "parameters.txt" => parameters::answer(alloc, section, question, out),
+            "flow_library.txt" => flow_library::answer(alloc, section, question, out),
+            "time_library.txt" => time_library::answer(alloc, section, question, out),
+            "traces.txt" => traces::answer(alloc, section, question, out),
+            _ => out.text("no such table"),
+        }
+    }
+}
+
+/// Tells each table that the words name.
+fn main(rt: HostRuntime) -> io::Result<()> {
+    for name in env::args(&rt)?.skip(1) {
+        tell(&rt, &Questions, &[name.as_str()])?;
+    }
+    Ok(())
+}
