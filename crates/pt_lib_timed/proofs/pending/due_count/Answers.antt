@@ -1,0 +1,10 @@
+use Rattle.pt_lib_timed.proofs.PendingLaws.{count-stops}
+use Rattle.pt_lib_timed.proofs.pending.due_count.Goals as goal
+use Rattle.std.proofs.Common.{◌≡◌, ◌<◌, length, false, sym, ◌∙◌, arith, rules}
+use Rattle.pt_meaning.specs.Tag.{tag_le}
+
+pub returns-then-ascending : goal.returns-then-ascending
+returns-then-ascending c =
+    let short : c.loop-k.k < length c.args.events.now.items = omega (arith, c.loop-k-test.true, c.len-k-end.ensures, c.args.events.now.ok.0) in
+    let later : tag_le c.index.result.now.0 c.args.tag ≡ false = sym c.is_up_to.ensures ∙ c.if-is_up_to.false in
+    count-stops c.args.tag c.args.events.now.items c.loop-k.k c.loop-k.count c.index.result.now (c.requires c.if-ascending.true) c.loop-k.invariant.counted short c.index.ensures later

@@ -1,0 +1,13 @@
+pub mod Signal
+pub mod SingleEvent
+pub mod CurrentTime
+pub mod DiscreteClock
+pub mod Sampler
+pub mod Pending
+pub mod PendingStore
+pub mod TimeDelay
+pub mod Server
+pub mod Register
+pub mod TimedActor
+pub mod Laws
+pub mod Examples
