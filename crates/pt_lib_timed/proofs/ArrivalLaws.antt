@@ -1,5 +1,5 @@
 -- Laws of tokens that arrive: they are due after the tag at which they do, and come behind the others one by one.
-use Rattle.std.proofs.Common.{◌≡◌, ℕ, zero, suc, ◌+◌, ◌-◌, ◌^◌, ◌<◌, ◌≤◌, List, [], ◌∷◌, ◌++◌, length, Bool, true, false, ◌&&◌, Option, Some, None, refl, sym, ap, subst, ◌∙◌, append_assoc, add-one, arith, if◌then◌else◌}
+use Rattle.std.proofs.Common.{◌≡◌, ℕ, zero, suc, ◌+◌, ◌-◌, ◌^◌, ◌≤◌, List, [], ◌∷◌, ◌++◌, length, Bool, true, false, ◌&&◌, Option, Some, None, refl, sym, ap, subst, ◌∙◌, append_assoc, add-one, arith, if◌then◌else◌}
 use Rattle.std.specs.Prelude.{◌↔◌, IsSome, IfSome, option_map, nat_le, slice_get}
 use Rattle.std.proofs.lemmas.Bool.{false≢true, leb-true, leb-false}
 use Rattle.pt_meaning.specs.Tag.{Tag, tag_le, tag_after, within_limits}
@@ -8,8 +8,8 @@ use Rattle.pt_meaning.specs.Machine.{Partial, Unknown, partial_at}
 use Rattle.pt_time.specs.Within.{IsWithin}
 use Rattle.pt_time.specs.Within as counted
 use Rattle.pt_value.specs.declared.token.Token.{Token}
-use Rattle.pt_lib_timed.proofs.TagOrder.{tag_le-trans, IsUpTo, up_to, tag_le-from}
-use Rattle.pt_lib_timed.specs.Pending.{Event, due, left, before, arriving}
+use Rattle.pt_lib_timed.proofs.TagOrder.{tag_le-trans, up_to, tag_le-from}
+use Rattle.pt_lib_timed.specs.Pending.{Event, due, before, arriving}
 use Rattle.pt_lib_timed.specs.PendingStore.{behind}
 use Rattle.pt_lib_timed.specs.Register.{last_of}
 use Rattle.pt_lib_timed.proofs.PendingLaws.{due-later}

@@ -1,5 +1,5 @@
 -- The rows of the library are lawful: early answers grow with what is known, and are kept by the step and at rest.
-use Rattle.std.proofs.Common.{◌≡◌, ℕ, zero, suc, List, [], ◌∷◌, ◌++◌, length, replicate, Bool, true, false, ◌||◌, Option, Some, None, refl, sym, ap, subst, ◌∙◌}
+use Rattle.std.proofs.Common.{◌≡◌, ℕ, zero, suc, List, [], ◌∷◌, length, Bool, true, false, ◌||◌, Option, Some, None, refl, sym, ap, subst, ◌∙◌}
 use Rattle.pt_meaning.specs.Tag.{Tag, is_due}
 use Rattle.pt_meaning.specs.Streams.{Streams, at, any_present}
 use Rattle.pt_meaning.specs.Machine.{Partial, Unknown, Known, partial_at}
@@ -8,11 +8,11 @@ use Rattle.pt_meaning.specs.Node.{Answer, Gives, Fails}
 use Rattle.pt_meaning.specs.Laws.{PartialBelow, KnownBelow}
 use Rattle.pt_meaning.specs.Lawful.{LawfulRows}
 use Rattle.pt_value.specs.declared.token.Token.{Token}
-use Rattle.pt_firing.specs.Strict.{strict, once_known}
+use Rattle.pt_firing.specs.Strict.{once_known}
 use Rattle.pt_firing.proofs.StrictLaws.{strict-grows, strict-agrees}
 use Rattle.pt_lib_timed.specs.declared.timed_actor.TimedActor.{TimedActor}
 use Rattle.pt_lib_timed.specs.declared.timed_actor.TimedActor.TheVariants.{CurrentTime, DiscreteClock, Register, Sampler, Server, SingleEvent, TimeDelay}
-use Rattle.pt_lib_timed.specs.Pending.{Event, due, left, wake, arriving, given_then, held_in, later_of, last_tag}
+use Rattle.pt_lib_timed.specs.Pending.{Event, due, wake, arriving, given_then, held_in, later_of, last_tag}
 use Rattle.pt_lib_timed.specs.CurrentTime as current_time
 use Rattle.pt_lib_timed.specs.DiscreteClock as discrete_clock
 use Rattle.pt_lib_timed.specs.Register as register
@@ -20,7 +20,7 @@ use Rattle.pt_lib_timed.specs.Sampler as sampler
 use Rattle.pt_lib_timed.specs.Server as server
 use Rattle.pt_lib_timed.specs.SingleEvent as single_event
 use Rattle.pt_lib_timed.specs.TimeDelay as time_delay
-use Rattle.pt_lib_timed.specs.TimedActor.{rows, held_as, whole, is_strict, step, early}
+use Rattle.pt_lib_timed.specs.TimedActor.{rows, held_as, whole, step, early}
 use Rattle.pt_lib_timed.specs.Laws.{StrictActorsWait}
 use Rattle.pt_lib_timed.proofs.PendingLaws.{asleep}
 

@@ -1,6 +1,6 @@
 -- What stays over a firing, what an actor needs, and what its delays let be known.
-use Rattle.std.proofs.Common.{◌≡◌, ◌<◌, ℕ, zero, suc, ◌+◌, List, [], ◌∷◌, Bool, true, false, Option, Some, None, ℤ, pos, refl, sym, ap, subst, ◌∙◌, arith, if◌then◌else◌}
-use Rattle.std.specs.Prelude.{nat_lt, length, not, nat_eq, option_map, slice_get}
+use Rattle.std.proofs.Common.{◌≡◌, ◌<◌, ℕ, zero, suc, ◌+◌, List, [], ◌∷◌, Bool, true, false, Option, Some, None, pos, refl, ap, subst, arith, if◌then◌else◌}
+use Rattle.std.specs.Prelude.{nat_lt, length, not, option_map, slice_get}
 use Rattle.pt_meaning.specs.Tag.{is_due}
 use Rattle.pt_meaning.specs.Basics.{Tag, Streams, at}
 use Rattle.pt_meaning.specs.Machine.{Partial, Unknown, Known, partial_at}
@@ -11,7 +11,7 @@ use Rattle.pt_value.specs.declared.token.Token.TheVariants as token
 use Rattle.pt_value.specs.Token.{token_of}
 use Rattle.pt_firing.specs.RunFault.{code_of}
 use Rattle.pt_firing.specs.declared.fault.RunFault.TheVariants.{Overflow}
-use Rattle.pt_firing.specs.Row.{one_each, is_present, gives, rests, exactly, fits_i64}
+use Rattle.pt_firing.specs.Row.{is_present, gives, rests, exactly, fits_i64}
 use Rattle.pt_lib_timed.specs.declared.timed_actor.TimedActor.{TimedActor}
 use Rattle.pt_lib_timed.specs.declared.timed_actor.TimedActor.TheVariants.{CurrentTime, DiscreteClock, Register, Sampler, Server, SingleEvent, TimeDelay}
 use Rattle.pt_lib_timed.specs.declared.discrete_clock.DiscreteClock as clocks
@@ -21,7 +21,6 @@ use Rattle.pt_lib_timed.specs.Pending.{Event, arriving, given_then, held_in, lat
 use Rattle.pt_lib_timed.specs.CurrentTime as current_time
 use Rattle.pt_lib_timed.specs.DiscreteClock as discrete_clock
 use Rattle.pt_lib_timed.specs.Register as register
-use Rattle.pt_lib_timed.specs.Sampler as sampler
 use Rattle.pt_lib_timed.specs.Server as server
 use Rattle.pt_lib_timed.specs.SingleEvent as single_event
 use Rattle.pt_lib_timed.specs.TimeDelay as time_delay

@@ -1,7 +1,7 @@
 -- What a firing of an actor that holds tokens back comes to, from what its calls did.
-use Rattle.std.proofs.Common.{◌≡◌, ℕ, List, [], ◌∷◌, ◌++◌, take, length, Bool, true, Option, Some, None, refl, sym, ap, subst, ◌∙◌}
+use Rattle.std.proofs.Common.{◌≡◌, ℕ, List, [], ◌∷◌, ◌++◌, take, length, Bool, true, Option, Some, sym, ap, subst, ◌∙◌}
 use Rattle.std.proofs.Math.Seq.{take-append_seam}
-use Rattle.std.specs.Prelude.{Result, Ok, Err}
+use Rattle.std.specs.Prelude.{Err}
 use Rattle.pt_meaning.specs.Tag.{Tag, tag_le}
 use Rattle.pt_meaning.specs.Node.{Answer, Gives, Fails}
 use Rattle.pt_value.specs.declared.token.Token.{Token}

@@ -1,5 +1,5 @@
 -- The list of tokens that an actor holds back, each with the tag at which it is due.
-use Rattle.std.specs.Prelude.{ℕ, List, [], ◌∷◌, ◌++◌, map, Bool, true, false, Option, Some, None, option_map, if◌then◌else◌}
+use Rattle.std.specs.Prelude.{ℕ, List, [], ◌∷◌, ◌++◌, map, Bool, Option, Some, None, option_map, if◌then◌else◌}
 use Rattle.pt_meaning.specs.Tag.{Tag, tag_le, tag_after, within_limits, least}
 use Rattle.pt_meaning.specs.Node.{Answer, Gives, Fails}
 use Rattle.pt_value.specs.declared.token.Token.{Token}

@@ -1,7 +1,7 @@
 -- How the list of what is pending is kept: with a mark where its tags ascend, so that what is due stands in front.
 use Rattle.std.specs.Prelude.{◌≡◌, ℕ, List, [], ◌∷◌, ◌++◌, Bool, true, false, Option, Some, None, option_map, refl}
 use Rattle.std.specs.List.{AllByRecursion}
-use Rattle.std.specs.Coded.{Coded, code_by, coded_list, coded_ℕ, coded×}
+use Rattle.std.specs.Coded.{Coded, code_by, coded_ℕ, coded×}
 use Rattle.pt_meaning.specs.Tag.{Tag, tag_le}
 use Rattle.pt_value.specs.Token.{coded_token}
 use Rattle.pt_firing.specs.declared.fault.RunFault.TheVariants.{TimeLimit}

@@ -1,6 +1,6 @@
 -- What the rows of timed actors have in common: events at a moment, and signals that may be absent.
-use Rattle.std.specs.Prelude.{ℕ, Bool, true, false, List, [], ◌∷◌, Option, Some, None, option_to_list, ℤ, negsuc, pos}
-use Rattle.pt_meaning.specs.Tag.{Tag, within_limits}
+use Rattle.std.specs.Prelude.{ℕ, Bool, true, false, List, [], ◌∷◌, Option, None, option_to_list, ℤ, negsuc, pos}
+use Rattle.pt_meaning.specs.Tag.{Tag}
 use Rattle.pt_meaning.specs.Node.{Answer, Gives}
 use Rattle.pt_value.specs.declared.token.Token.{Token}
 use Rattle.pt_firing.specs.Params.{int_within}

@@ -1,5 +1,5 @@
 -- SingleEvent: a source of one event.
-use Rattle.std.specs.Prelude.{ℕ, [], Option, Some, None, option_map, ℤ, pos, unsigned_abs, codes, if◌then◌else◌}
+use Rattle.std.specs.Prelude.{Option, Some, None, option_map, ℤ, pos, unsigned_abs, codes, if◌then◌else◌}
 use Rattle.std.specs.Option.{option_or}
 use Rattle.pt_meaning.specs.Tag.{is_due}
 use Rattle.pt_meaning.specs.Basics.{Tag, Streams}
@@ -11,7 +11,7 @@ use Rattle.pt_firing.specs.Params.{value_under, int_within}
 use Rattle.pt_firing.specs.Row.{one_each}
 use Rattle.pt_flow_base.specs.declared.params.Params.{Params}
 use Rattle.pt_lib_timed.specs.declared.single_event.SingleEvent.{SingleEvent}
-use Rattle.pt_lib_timed.specs.Signal.{shows, where_so, beginning, last_time}
+use Rattle.pt_lib_timed.specs.Signal.{shows, beginning, last_time}
 
 abbrev pub need : SingleEvent → Need
 need actor = one_each actor.places

@@ -1,4 +1,3 @@
-use Rattle.std.proofs.Common.{refl}
 use Rattle.pt_lib_timed.proofs.StepLaws.{fire-gives}
 use Rattle.pt_lib_timed.proofs.arrivals.fire.Goals as goal
 

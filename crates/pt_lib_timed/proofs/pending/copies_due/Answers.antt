@@ -1,4 +1,4 @@
-use Rattle.std.proofs.Common.{◌≡◌, ◌<◌, length, false, sym, ◌∙◌, arith, rules}
+use Rattle.std.proofs.Common.{◌≡◌, ◌<◌, length, false, sym, ◌∙◌, arith}
 use Rattle.pt_meaning.specs.Tag.{tag_le}
 use Rattle.pt_lib_timed.proofs.PendingLaws.{copy-stops}
 use Rattle.pt_lib_timed.proofs.pending.copies_due.Goals as goal

@@ -1,6 +1,6 @@
 use Rattle.pt_lib_timed.proofs.PendingLaws.{count-stops}
 use Rattle.pt_lib_timed.proofs.pending.due_count.Goals as goal
-use Rattle.std.proofs.Common.{◌≡◌, ◌<◌, length, false, sym, ◌∙◌, arith, rules}
+use Rattle.std.proofs.Common.{◌≡◌, ◌<◌, length, false, sym, ◌∙◌, arith}
 use Rattle.pt_meaning.specs.Tag.{tag_le}
 
 pub returns-then-ascending : goal.returns-then-ascending

@@ -1,4 +1,4 @@
-use Rattle.std.proofs.Common.{◌≡◌, false, sym, ◌∙◌, rules}
+use Rattle.std.proofs.Common.{◌≡◌, false, rules}
 use Rattle.pt_lib_timed.specs.PendingStore.{is_front_due}
 use Rattle.pt_lib_timed.proofs.PendingLaws.{not-front}
 use Rattle.pt_lib_timed.proofs.pending.pop_due.Goals as goal

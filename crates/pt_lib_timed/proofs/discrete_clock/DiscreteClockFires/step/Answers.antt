@@ -1,4 +1,4 @@
-use Rattle.std.proofs.Common.{◌≡◌, true, sym, ◌∙◌, rules}
+use Rattle.std.proofs.Common.{◌≡◌, true, ◌∙◌, rules}
 use Rattle.std.specs.Prelude.{option_map, slice_get}
 use Rattle.pt_meaning.specs.Tag.{is_due}
 use Rattle.pt_value.specs.Token.{token_of}

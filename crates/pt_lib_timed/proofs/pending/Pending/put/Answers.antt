@@ -1,5 +1,4 @@
-use Rattle.std.proofs.Common.{◌≡◌, ◌∙◌, ◌++◌, ◌∷◌, [], ap, sym, subst, true, false, rules}
-use Rattle.std.proofs.lemmas.Bool.{false≢true}
+use Rattle.std.proofs.Common.{◌≡◌, ◌++◌, ◌∷◌, [], sym, subst, true, rules}
 use Rattle.pt_lib_timed.specs.Pending.{last_tag}
 use Rattle.pt_lib_timed.specs.PendingStore.{IsMarked, is_behind}
 use Rattle.pt_lib_timed.proofs.PendingLaws.{marked-put}

@@ -1,4 +1,4 @@
-use Rattle.std.proofs.Common.{◌≡◌, length, sym, ap, ◌∙◌, rules, arith}
+use Rattle.std.proofs.Common.{◌≡◌, length, sym, ◌∙◌, rules}
 use Rattle.pt_lib_timed.specs.Pending.{due}
 use Rattle.pt_lib_timed.proofs.PendingLaws.{none-taken}
 use Rattle.pt_lib_timed.proofs.pending.Pending.take_due.Goals as goal
