@@ -1,0 +1,5 @@
+pub mod State
+pub mod Lawful
+pub mod Chain
+pub mod SoFar
+pub mod DeActs
