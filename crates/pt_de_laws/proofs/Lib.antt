@@ -1,1 +1,14 @@
 pub mod Examples
+pub mod PlaceLaws
+pub mod RowLaws
+pub mod EarlyLaws
+pub mod ValueLaws
+pub mod ReadyLaws
+pub mod AskLaws
+pub mod GainLaws
+pub mod ToldLaws
+pub mod HeardLaws
+pub mod ChainLaws
+pub mod SayLaws
+pub mod SoFarLaws
+pub mod ActsLaws

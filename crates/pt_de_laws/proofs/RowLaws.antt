@@ -100,8 +100,7 @@ chain-more {T} {S} facts step tag [] s z y l X out k c d =
     (y, silent, ap (λ v. facts.made v) c.0, ap (λ v. step tag v X) (sym c.0) ∙ d, (refl, refl), ap (λ (m : Log T). log_then m (log_then k (own f))) c.1 ∙ sym (log-nothing (log_then k (own f))))
 chain-more {T} {S} facts step tag (t ∷ ts) s z y l X out k c d =
     let f : Firing T = record { number = facts.made z; tag = tag; inputs = X; outputs = out } in
-    let first : Log T = log_then t.inside (own t.record_of) in
-    (
+    let first : Log T = log_then t.inside (own t.record_of) in (
       c.0,
       log_then c.1 (log_then k (own f)),
       c.2,

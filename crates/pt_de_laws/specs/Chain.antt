@@ -44,10 +44,10 @@ pub record HasTurned {T S : Type 0} (facts : Facts T S) (step : Stepping T S) (t
   pub took : (q : ℕ) → of_turns (inputs_at q) ts ≡ of_rows q done
   pub gave : (p : ℕ) → of_turns (outputs_at p) ts ≡ at out p
 
--- one more than the greatest of some depths
+-- So many rounds decide: own inputs are known after one, and what a child gives one after all that it takes.
 abbrev pub rounds_of : List ℕ → ℕ
 rounds_of [] = 1
-rounds_of (d ∷ ds) = max (suc d) (rounds_of ds)
+rounds_of (d ∷ ds) = max (suc (suc d)) (rounds_of ds)
 
 -- a child is asked to fire, or has rows left, in a reaction that is under way
 abbrev pub IsAmid : {T : Type 0} → (children : ℕ) → List Turn → Stage T → Type 0
@@ -61,6 +61,10 @@ IsAmid n turns Closed = ⊥
 -- a child that has no delays has rows left
 abbrev pub IsBusy : {T : Type 0} → DeState T → ℕ → Type 0
 IsBusy s i = (get_or s.roles.early i false ≡ false) × (0 < length (rows_left s.stage i))
+
+-- a child is due, or is busy: those at depths below it have had their turn, and no other has
+abbrev pub IsPending : {T : Type 0} → DeState T → ℕ → Type 0
+IsPending s i = (is_due_child s i ≡ true) ⊎ IsBusy s i
 
 -- what child i gives at this tag is at its channels: it has answered early, or has finished its turn
 abbrev pub HasTold : {T : Type 0} → DeState T → ℕ → Type 0
@@ -76,7 +80,7 @@ module _ {T S : Type 0} (facts : Facts T S) (step : Stepping T S) where
   decided s kids inputs = after_rounds s kids inputs (rounds_of s.roles.depths)
 
 -- A reaction of the composite is under way, which began from the state `before` with these children: the core is in the state s, the children are now in the states now, and have logged ls. A child past the last is d.
--- A child that has told is known, one round after its depth, to give what is at its channels; one that has had no turn has given nothing; and no child that has had its turn is deeper than one that is due.
+-- A child that has told is known, so many rounds as it is deep after the first two, to give what is at its channels; one that has had no turn has given nothing; and no child that has had its turn is deeper than one that is due.
 pub record Underway {T S : Type 0} (facts : Facts T S) (step : Stepping T S) (before : DeState T) (kids : List S) (inputs : Streams T) (d : S) (s : DeState T) (now : List S) (ls : List (Log T)) : Type 0 where
   pub keeps : KeepsEarly (de_early facts) (de_active facts) (de_turn facts step)
   pub lawful : IsLawful s.plan s.roles
@@ -94,16 +98,18 @@ pub record Underway {T S : Type 0} (facts : Facts T S) (step : Stepping T S) (be
   pub over : (i : ℕ) → i < length s.plan.net.places → get_or s.turns i Waits ≡ Over →
       HasTurned facts step s.tag (get_or kids i d) (places_at s.plan.net.places i (decided facts step s kids inputs)) (rows_left s.stage i) (get_or now i d) (get_or outs i []) (log_at ls i) (turned i)
   pub soon : (i : ℕ) → i < length s.plan.net.places → get_or s.turns i Waits ≡ Over → get_or s.roles.early i false ≡ false →
-      places_at s.plan.net.places i (decided facts step s kids inputs) ≡ places_at s.plan.net.places i (after_rounds facts step s kids inputs (depth_of s i))
+      places_at s.plan.net.places i (decided facts step s kids inputs) ≡ places_at s.plan.net.places i (after_rounds facts step s kids inputs (suc (depth_of s i)))
   pub rests : (i : ℕ) → i < length s.plan.net.places → (get_or s.turns i Waits ≡ Over → ⊥) → (get_or now i d ≡ get_or kids i d) × (log_at ls i ≡ silent) × (turned i ≡ []) × (get_or outs i [] ≡ [])
   pub beyond : (i : ℕ) → length s.plan.net.places ≤ i → turned i ≡ []
-  pub told : (i : ℕ) → i < length s.plan.net.places → HasTold s i → (c port : ℕ) → get s.plan.net.sources c ≡ Some (Output i port) → partial_at (after_rounds facts step s kids inputs (suc (depth_of s i))) c ≡ Known (at s.tokens c)
+  pub told : (i : ℕ) → i < length s.plan.net.places → HasTold s i → (c port : ℕ) → get s.plan.net.sources c ≡ Some (Output i port) → partial_at (after_rounds facts step s kids inputs (suc (suc (depth_of s i)))) c ≡ Known (at s.tokens c)
   pub gives : (i : ℕ) → i < length s.plan.net.places → get_or s.turns i Waits ≡ Over → get_or s.roles.early i false ≡ false → (c port : ℕ) → get s.plan.net.sources c ≡ Some (Output i port) → at s.tokens c ≡ at (get_or outs i []) port
   pub quiet : (i : ℕ) → i < length s.plan.net.places → get_or s.turns i Waits ≡ Waits → (c port : ℕ) → get s.plan.net.sources c ≡ Some (Output i port) → at s.tokens c ≡ []
   pub answered : (i : ℕ) → i < length s.plan.net.places → (get_or s.turns i Waits ≡ Waits → ⊥) → get_or s.roles.early i false ≡ true → (c port : ℕ) → get s.plan.net.sources c ≡ Some (Output i port) →
       partial_at (de_early facts s.tag (get_or kids i d) (partial_of s i)) port ≡ Known (at s.tokens c)
-  pub prompted : (i : ℕ) → i < length s.plan.net.places → get_or s.turns i Waits ≡ Answered → (is_due s.tag (get_or s.wakes i None) || comes false (delays_of s i) (inputs_of s i)) ≡ true
-  pub order : (i j : ℕ) → i < length s.plan.net.places → j < length s.plan.net.places → (get_or s.turns i Waits ≡ Waits → ⊥) → (is_due_child s j ≡ true) ⊎ IsBusy s j → depth_of s i ≤ depth_of s j
+  pub prompted : (i : ℕ) → i < length s.plan.net.places → get_or s.turns i Waits ≡ Answered →
+      (get_or s.roles.early i false ≡ true) × ((is_due s.tag (get_or s.wakes i None) || comes false (delays_of s i) (inputs_of s i)) ≡ true)
+  pub order : (i j : ℕ) → i < length s.plan.net.places → j < length s.plan.net.places → (get_or s.turns i Waits ≡ Waits → ⊥) → IsPending s j → depth_of s i ≤ depth_of s j
+  pub late : (i j : ℕ) → i < length s.plan.net.places → j < length s.plan.net.places → get_or s.turns i Waits ≡ Over → get_or s.roles.early i false ≡ true → IsPending s j → ⊥
 
 -- the composite's firing, at fuel k
 abbrev pub firing_from : {T S : Type 0} → Facts T S → Stepping T S → DeState T → List S → Tag → Streams T → ℕ → Outcome T (Inside (Streams T) S)

@@ -1,2 +1,6 @@
-//! The laws of the core of the DE director, whatever its code: its states, what its calls do to them, and that a chain of calls makes the reaction.
+//! The core of the DE director by definition, whatever its code: its states, what its calls do to them, and that a chain of calls makes the reaction.
 #![tactic(auto)]
+
+mod laws;
+
+pub use laws::{calls_are_de, de_is_lawful};

@@ -1,0 +1,5 @@
+use Rattle.pt_de_laws.proofs.ChainLaws.{calls-are-de}
+use Rattle.pt_de_laws.proofs.laws.calls_are_de.Goals as goal
+
+pub returns : goal.returns
+returns g c = calls-are-de
