@@ -5,14 +5,14 @@ use Rattle.std.proofs.lemmas.Bool.{cases_eq}
 use Rattle.std.proofs.lemmas.List.{length-map, length-take-le}
 use Rattle.pt_meaning.specs.Tag.{Tag, least}
 use Rattle.pt_meaning.specs.Streams.{Streams, get}
-use Rattle.pt_meaning.specs.Machine.{Fault, Stepping, Partial, Unknown, Known, Counts}
+use Rattle.pt_meaning.specs.Machine.{Fault, Stepping, Partial, Unknown, Known}
 use Rattle.pt_meaning.specs.Valuation.{TickPlan, known, known_then}
 use Rattle.pt_meaning.specs.De.{heads, tails, rows_from, longest}
 use Rattle.pt_meaning.specs.Running.{total}
 use Rattle.pt_meaning.specs.Lawful.{LawfulRows}
 use Rattle.pt_meaning.specs.Meetings.{below_child}
 use Rattle.pt_meaning.specs.Children.{Child, numbered, child_facts}
-use Rattle.pt_meaning.specs.Tree.{Rows, Core, De, Past, Node, Nodes, Composite, list_of, nodes_of, made_of, reset_of, fired_at, height, heights}
+use Rattle.pt_meaning.specs.Tree.{Rows, De, Past, Node, Composite, list_of, nodes_of, made_of, reset_of, fired_at, height, heights}
 use Rattle.pt_meaning.specs.NodeFacts.{facts_of, early_of, next_of, wakes_of, whole_of}
 use Rattle.pt_meaning.specs.Step.{step_at, Step}
 use Rattle.pt_laws.specs.CompositeRuns.{steps_below}
@@ -20,22 +20,22 @@ use Rattle.pt_laws.specs.TickRuns.{places_at}
 use Rattle.pt_value.specs.declared.token.Token.{Token}
 use Rattle.pt_firing.specs.declared.ask.Ask.{Ask}
 use Rattle.pt_firing.specs.declared.ask.Ask.TheVariants as ask
-use Rattle.pt_firing.specs.declared.fault.RunFault.{RunFault}
 use Rattle.pt_records.specs.Kept.{Kept, Entry, kept_at, kept_by}
 use Rattle.pt_records.specs.Fired.{FiresTo, SticksAt, LeavesOff}
 use Rattle.pt_records.specs.Shut.{IsShut}
 use Rattle.pt_records.proofs.SoFarLaws.{recorded-done}
 use Rattle.pt_core.specs.Acts.{Beginning, Acts}
-use Rattle.pt_core.specs.Lawful.{Lawful, IsUsual, IsLentTo, IsStuck, IsLeftOff, node, outcome, child_outcome, below_fault}
+use Rattle.pt_core.specs.Lawful.{Lawful, IsUsual, IsLentTo, IsStuck, IsLeftOff, node, outcome, below_fault}
 use Rattle.pt_core.specs.Reached.{Becomes, Stays, Fires, Always, AllAlways}
 use Rattle.pt_core.proofs.ReachedLaws.{always-reset}
 use Rattle.pt_de_laws.specs.State.{Roles, Stage, Idle, Open, Listens, Asked, Between, Closed, MayAnswer, IsOver, rows_for, asked_child, asked_row, partial_of, own_of, in_stage, begun, asked_on, after_row, after_fired, after_told, after_heard, closed}
-use Rattle.pt_de_laws.specs.Chain.{Answers, IsFor, AsksFor, IsAmid, HasTurned, Underway, decided, rounds_of}
+use Rattle.pt_de_laws.specs.Chain.{Answers, IsFor, AsksFor, IsAmid, Underway, with_tokens, rounds_of}
 use Rattle.pt_de_laws.specs.SoFar.{DeSoFar}
-use Rattle.pt_de_laws.specs.DeActs.{State, AnswersIf, HasPlaces, Suits, MayAsk, Going, Gives, asking, de_acts}
-use Rattle.pt_de_laws.proofs.PlaceLaws.{get-or-there, places-long}
+use Rattle.pt_de_laws.specs.DeActs.{State, AnswersIf, HasPlaces, Suits, MayAsk, Going, Gives, de_acts}
+use Rattle.pt_de_laws.proofs.PlaceLaws.{get-or-there}
 use Rattle.pt_de_laws.proofs.ReadyLaws.{clash, known-long}
-use Rattle.pt_de_laws.proofs.ChainLaws.{calls-are-de, its-turn}
+use Rattle.pt_de_laws.proofs.ChainLaws.{its-turn}
+use Rattle.pt_de_laws.proofs.LeftLaws.{calls-are-de}
 use Rattle.pt_de_laws.proofs.SoFarLaws.{de-begins, under, asks, on-heard, on-fired, over, off-between, off-within, stuck-within, mapped-numbered}
 
 -- what holds of all that a list of nodes becomes, where one of them has fired
@@ -222,7 +222,7 @@ module _ {A : Type 0} (rows : Rows Token A) (law : LawfulRows rows) where
 
   module _ (b : Beginning A State) (s : State) (now : List (Node Token A)) (news : List (Kept Token)) (g : Going rows b s now news) where
     wakes-now : s.wakes ≡ map (next_of rows) now
-    wakes-now = (under rows b.meets b.before b.kids b.inputs b.olds s now news g.so_far).wakes ∙ mapped-numbered (next_of rows) 0 now
+    wakes-now = (under rows b.meets b.before b.kids b.inputs b.olds s now news g.so_far).course.wakes ∙ mapped-numbered (next_of rows) 0 now
 
     hears-one : (i : ℕ) (child : Node Token A) → get now i ≡ Some child → s.stage ≡ Open → MayAnswer s i → Going rows b (after_heard i (early_of rows s.tag child (partial_of s i)) s) now news
     hears-one i child e o may = record { stage = tt; tag = g.tag; plan = g.plan; suits = g.suits; so_far = on-heard rows b.meets b.before b.kids b.inputs b.olds s now news g.so_far i child e o may }
@@ -270,7 +270,7 @@ module _ {A : Type 0} (rows : Rows Token A) (law : LawfulRows rows) where
       asked-under = under rows b.meets b.before b.kids b.inputs b.olds t now news so-far
 
       within : i < length t.plan.net.places
-      within = let amid : IsAmid (length t.plan.net.places) t.turns (Asked i (its-row.0 ∷ its-row.1)) = subst (λ (st : Stage Token). IsAmid (length t.plan.net.places) t.turns st) its-row.2 asked-under.amid in amid.0
+      within = let amid : IsAmid (length t.plan.net.places) t.turns (Asked i (its-row.0 ∷ its-row.1)) = subst (λ (st : Stage Token). IsAmid (length t.plan.net.places) t.turns st) its-row.2 asked-under.course.amid in amid.0
 
       fires-one : i < length now
       fires-one = omega (arith, within, its-suits.children)
@@ -280,10 +280,10 @@ module _ {A : Type 0} (rows : Rows Token A) (law : LawfulRows rows) where
         where
           row-wide : length its-row.0 ≡ get_or t.plan.net.places i 0
           row-wide =
-              let h = its-turn (child_facts (facts_of rows)) its-steps b.before (numbered 0 (list_of b.kids)) b.inputs so-far.any t (numbered 0 now) so-far.logs asked-under i its-row.0 its-row.1 its-row.2 in
+              let h = its-turn (child_facts (facts_of rows)) its-steps b.before (numbered 0 (list_of b.kids)) b.inputs so-far.any (with_tokens asked-under.all t) (numbered 0 now) so-far.logs asked-under.course i its-row.0 its-row.1 its-row.2 in
               wide-in (length h.inputs) h.done its-row.0 its-row.1 (subst (λ Ys. AreWide (length h.inputs) Ys) h.rows (rows-wide _ h.inputs)) ∙ known-wide _ h.inputs h.on ∙
-              known-long (child_facts (facts_of rows)) its-steps b.before (numbered 0 (list_of b.kids)) b.inputs so-far.any t (numbered 0 now) so-far.logs asked-under i (rounds_of t.roles.depths) ∙
-              places-count t.plan.net.places i t.tokens within (omega (arith, its-suits.lawful.channels, asked-under.channels))
+              known-long (child_facts (facts_of rows)) its-steps b.before (numbered 0 (list_of b.kids)) b.inputs so-far.any (with_tokens asked-under.all t) (numbered 0 now) so-far.logs asked-under.course i (rounds_of t.roles.depths) ∙
+              places-count t.plan.net.places i asked-under.all within (omega (arith, its-suits.lawful.channels, asked-under.course.channels))
 
       module _ (child : Node Token A) (e : get now i ≡ Some child) where
         goes-one : (next : Node Token A) (out : Streams Token) (k : Kept Token) → FiresTo (λ fuel. Step fuel rows (below_child i b.meets) child s.tag (asked_row t.stage)) next out (kept_at news i) k → Going rows b (after_told i out (next_of rows next) t) (set now i next) (set news i k)

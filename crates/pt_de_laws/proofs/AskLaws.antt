@@ -1,28 +1,27 @@
 -- A child is asked to fire.
-use Rattle.std.proofs.Common.{◌≡◌, ◌⊎◌, inl, inr, ⊎_elim, ℕ, zero, suc, ◌<◌, ◌≤◌, List, [], ◌∷◌, ◌++◌, Bool, true, false, ◌||◌, length, get_or, set, take, drop, map, nat_eq, Option, Some, None, if◌then◌else◌, refl, sym, ap, subst, ◌∙◌, arith, length-set}
+use Rattle.std.proofs.Common.{◌≡◌, ◌⊎◌, inl, inr, ⊎_elim, ℕ, suc, ◌<◌, ◌≤◌, List, [], ◌∷◌, Bool, true, false, ◌||◌, length, get_or, take, drop, Option, Some, None, if◌then◌else◌, refl, sym, ap, subst, ◌∙◌, arith, length-set}
 use Rattle.std.proofs.lemmas.List.{get_or-set_same, get_or-set_other}
 use Rattle.std.proofs.lemmas.Bool.{cases_eq}
 use Rattle.pt_meaning.specs.Tag.{Tag, is_due}
 use Rattle.pt_meaning.specs.Streams.{Streams, at, get, any_present}
 use Rattle.pt_meaning.specs.Log.{Log, silent}
-use Rattle.pt_meaning.specs.Machine.{Stepping, Facts, Partial, Known, partial_at, Outcome, Done}
+use Rattle.pt_meaning.specs.Machine.{Stepping, Facts, Partial, Known, partial_at}
 use Rattle.pt_meaning.specs.Net.{Net, Output}
 use Rattle.pt_meaning.specs.Valuation.{known}
 use Rattle.pt_meaning.specs.De.{de_early, de_active}
 use Rattle.pt_laws.specs.TickRuns.{places_at}
 use Rattle.pt_laws.specs.LogsOfRuns.{log_at}
-use Rattle.pt_laws.specs.Explained.{Turned, ChainOf}
+use Rattle.pt_laws.specs.Explained.{Turned}
 use Rattle.pt_laws.proofs.TickLaws.{known-same}
-use Rattle.pt_laws.proofs.TickRunLaws.{below-at}
 use Rattle.pt_laws.proofs.TickLaws.{KnownBelow-take, KnownBelow-drop}
 use Rattle.pt_meaning.specs.Running.{total}
 use Rattle.pt_meaning.specs.Laws.{KnownBelow}
-use Rattle.pt_de_laws.specs.State.{DeState, Turn, Waits, Answered, Over, Stage, Idle, Open, Listens, Asked, Between, Closed, comes, rows_for, rows_left, inputs_of, delays_of, is_due_in, is_last_in, is_due_child, is_last_child, depth_of, partial_of, IsFirst, IsLast, NoneIsDue, MayFire, asked, asked_on, in_stage}
-use Rattle.pt_de_laws.specs.Chain.{HasTold, HasTurned, IsAmid, IsBusy, IsPending, Underway, AsksFor, after_rounds, decided}
+use Rattle.pt_de_laws.specs.State.{DeState, Turn, Waits, Answered, Over, Stage, Open, Asked, Between, comes, rows_for, rows_left, inputs_of, delays_of, is_due_in, is_last_in, is_due_child, depth_of, partial_of, IsFirst, IsLast, MayFire, asked_with, in_stage}
+use Rattle.pt_de_laws.specs.Chain.{HasTold, HasTurned, IsAmid, IsBusy, IsPending, Course, after_rounds, decided}
 use Rattle.pt_de_laws.proofs.PlaceLaws.{get-or-any, same-test, other-test}
 use Rattle.pt_de_laws.proofs.RowLaws.{some-row}
 use Rattle.pt_de_laws.proofs.EarlyLaws.{some-present, some-delay}
-use Rattle.pt_de_laws.proofs.ReadyLaws.{clash, answered-waits, over-waits, over-answered, Ready, due-is, due-waits, wake-is, kid-there, ready-any, ready-below, settles, inputs-decided, inputs-soon, places-grow, undelayed, early-nothing}
+use Rattle.pt_de_laws.proofs.ReadyLaws.{clash, answered-waits, over-waits, over-answered, Ready, due-is, due-waits, wake-is, kid-there, ready-any, settles, inputs-decided, inputs-soon, places-grow, early-nothing}
 
 or-swap : (a b p : Bool) → (a || b) ≡ true → (b ≡ true → p ≡ true) → (p || a) ≡ true
 or-swap true b true e h = refl
@@ -50,7 +49,7 @@ turned-as facts step tag c vs left left' z z' out out' l l' ts ts' e1 e2 e3 e4 e
     (subst (λ x. HasTurned facts step tag c vs left z out x ts') e4
     (subst (λ x. HasTurned facts step tag c vs left z out l x) e5 h))))
 
-module _ {T S : Type 0} (facts : Facts T S) (step : Stepping T S) (before : DeState T) (kids : List S) (inputs : Streams T) (d : S) (s : DeState T) (now : List S) (ls : List (Log T)) (u : Underway facts step before kids inputs d s now ls) where
+module _ {T S : Type 0} (facts : Facts T S) (step : Stepping T S) (before : DeState T) (kids : List S) (inputs : Streams T) (d : S) (s : DeState T) (now : List S) (ls : List (Log T)) (u : Course facts step before kids inputs d s now ls) where
   abbrev net : Net
   net = s.plan.net
 
@@ -178,7 +177,7 @@ module _ {T S : Type 0} (facts : Facts T S) (step : Stepping T S) (before : DeSt
     rows = rows_for (get_or s.roles.whole i false) (inputs_of s i)
 
     abbrev t : DeState T
-    t = asked i s
+    t = asked_with s.tokens i s
 
     some-left : 0 < length rows
     some-left = let r = some-row (get_or s.roles.whole i false) (inputs_of s i) in subst (λ (Xs : List (Streams T)). 0 < length Xs) (sym r.2) (omega arith)
@@ -273,7 +272,7 @@ module _ {T S : Type 0} (facts : Facts T S) (step : Stepping T S) (before : DeSt
     late-one j k l m e f (inr b) (inl z) = let same : k ≡ i = busy-is k b (cases_eq k i) in clash (sym f ∙ ap (λ x. early x) (z ∙ sym same) ∙ b.0)
     late-one j k l m e f (inr b) (inr z) = let same : k ≡ i = busy-is k b (cases_eq k i) in c.first (ap (λ x. early x) (sym same) ∙ b.0) j l (sym (other-turn j z) ∙ e) f
 
-    is-asked : Underway facts step before kids inputs d (asked i s) now ls
+    is-asked : Course facts step before kids inputs d (asked_with s.tokens i s) now ls
     is-asked = record {
       keeps = u.keeps;
       lawful = u.lawful;
@@ -302,7 +301,7 @@ module _ {T S : Type 0} (facts : Facts T S) (step : Stepping T S) (before : DeSt
     }
 
   -- the stage alone changes
-  restaged : (st : Stage T) → IsAmid count s.turns st → ((j : ℕ) → rows_left st j ≡ rows_left s.stage j) → Underway facts step before kids inputs d (in_stage st s) now ls
+  restaged : (st : Stage T) → IsAmid count s.turns st → ((j : ℕ) → rows_left st j ≡ rows_left s.stage j) → Course facts step before kids inputs d (in_stage st s) now ls
   restaged st a same = record {
     keeps = u.keeps;
     lawful = u.lawful;
@@ -339,18 +338,15 @@ module _ {T S : Type 0} (facts : Facts T S) (step : Stepping T S) (before : DeSt
   some-of [] h = absurd (omega (arith, h))
   some-of (X ∷ Xs) h = (X, Xs, refl)
 
-  pub calls-ask : (i : ℕ) → AsksFor s s.stage i → Underway facts step before kids inputs d (asked_on s.stage i s) now ls × ((X : Streams T) × (Xs : List (Streams T)) × ((asked_on s.stage i s).stage ≡ Asked i (X ∷ Xs)))
-  calls-ask i a = by s.stage refl a
-    where
-      by : (st : Stage T) → s.stage ≡ st → AsksFor s st i → Underway facts step before kids inputs d (asked_on st i s) now ls × ((X : Streams T) × (Xs : List (Streams T)) × ((asked_on st i s).stage ≡ Asked i (X ∷ Xs)))
-      by Idle o a = absurd a
-      by Open o a =
-          let r = some-row (get_or s.roles.whole i false) (inputs_of s i) in
-          (is-asked o i (chosen o i a), (r.0, r.1, ap (λ (Xs : List (Streams T)). Asked i Xs) r.2))
-      by (Listens child) o a = absurd a
-      by (Asked child left) o a = absurd a
-      by (Between child left) o a =
-          let amid : IsAmid count s.turns (Between child left) = subst (λ (st : Stage T). IsAmid count s.turns st) o u.amid in
-          let r = some-of left amid.2 in
-          (restaged (Asked child left) amid (λ j. sym (ap (λ (st : Stage T). rows_left st j) o)), (r.0, r.1, ap (λ n. Asked n left) a ∙ ap (λ (Xs : List (Streams T)). Asked i Xs) r.2))
-      by Closed o a = absurd a
+  -- a child that may be asked hasn't been
+  pub not-over : s.stage ≡ Open → (i : ℕ) → MayFire s i → turn i ≡ Over → ⊥
+  not-over o i may = (chosen o i may).fresh
+
+  pub open-asked : (o : s.stage ≡ Open) (i : ℕ) → MayFire s i → Course facts step before kids inputs d (asked_with s.tokens i s) now ls
+  open-asked o i may = is-asked o i (chosen o i may)
+
+  -- the child that has rows left is asked again
+  pub next-asked : (i : ℕ) (left : List (Streams T)) → s.stage ≡ Between i left → Course facts step before kids inputs d (in_stage (Asked i left) s) now ls × ((X : Streams T) × (Xs : List (Streams T)) × (left ≡ X ∷ Xs))
+  next-asked i left o =
+      let amid : IsAmid count s.turns (Between i left) = subst (λ (st : Stage T). IsAmid count s.turns st) o u.amid in
+      (restaged (Asked i left) amid (λ j. sym (ap (λ (st : Stage T). rows_left st j) o)), some-of left amid.2)

@@ -1,34 +1,33 @@
 -- A chain of calls of a core makes the reaction of the composite.
-use Rattle.std.proofs.Common.{◌≡◌, ◌⊎◌, inl, inr, ⊎_elim, ℕ, zero, suc, ◌<◌, ◌≤◌, List, [], ◌∷◌, ◌++◌, Bool, true, false, length, get_or, set, drop, map, Option, Some, None, refl, sym, ap, subst, ◌∙◌, arith}
+use Rattle.std.proofs.Common.{◌≡◌, ◌⊎◌, inl, inr, ℕ, zero, suc, ◌<◌, ◌≤◌, List, [], ◌∷◌, ◌++◌, true, false, length, get_or, drop, map, Option, Some, None, refl, sym, ap, subst, ◌∙◌, arith}
 use Rattle.std.proofs.lemmas.List.{length-map}
 use Rattle.std.proofs.lemmas.Bool.{cases_eq}
 use Rattle.pt_meaning.specs.Tag.{Tag}
 use Rattle.pt_meaning.specs.Streams.{Streams, at, get, any_present}
 use Rattle.pt_meaning.specs.Log.{Log, LogBelow, silent, log_then, log_below}
-use Rattle.pt_meaning.specs.Machine.{Fault, Stepping, Facts, Partial, Known, partial_at, Outcome, Done, Stuck}
+use Rattle.pt_meaning.specs.Machine.{Fault, Stepping, Facts, Partial, Known, partial_at, Done, Stuck}
 use Rattle.pt_meaning.specs.Net.{Net, Source, Own, Output}
-use Rattle.pt_meaning.specs.Valuation.{TickPlan, known, tokens_of}
+use Rattle.pt_meaning.specs.Valuation.{TickPlan, tokens_of}
 use Rattle.pt_meaning.specs.De.{de, de_early, de_active, de_turn, by_rows}
 use Rattle.pt_meaning.specs.Running.{total}
 use Rattle.pt_meaning.specs.Laws.{IsIn, PartialBelow, KeepsEarly}
-use Rattle.pt_laws.specs.TickRuns.{places_at, TickRun, HasFired, told_of, Knows, FiredAt, LoggedAt}
+use Rattle.pt_laws.specs.TickRuns.{places_at, TickRun, told_of, Knows, FiredAt, LoggedAt}
 use Rattle.pt_laws.specs.LogsOfRuns.{silents, logs_then, log_at, log_in}
 use Rattle.pt_laws.specs.Explained.{Turned}
 use Rattle.pt_laws.proofs.LogLaws.{log-refl}
 use Rattle.pt_laws.proofs.TickLaws.{KnownBelow-refl}
 use Rattle.pt_laws.proofs.TickNodeLaws.{rows-go-on}
 use Rattle.pt_laws.proofs.TickRunLaws.{tick-ends, tick-sticks, tick-is-prefix}
-use Rattle.pt_de_laws.specs.State.{DeState, Turn, Waits, Answered, Over, Stage, Open, Asked, comes, rows_left, inputs_of, delays_of, is_last_in, is_due_child, is_last_child, depth_of, begun, at_first, IsOver, own_of}
+use Rattle.pt_de_laws.specs.State.{DeState, Turn, Waits, Answered, Over, Stage, Open, Asked, comes, rows_left, inputs_of, delays_of, is_last_in, begun, at_first, IsOver, own_of}
 use Rattle.pt_de_laws.specs.Lawful.{IsLawful}
-use Rattle.pt_de_laws.specs.Chain.{IsFor, HasTurned, IsAmid, IsBusy, IsPending, Underway, after_rounds, decided, rounds_of, firing_from, IsStuckAt, CallsAreDe}
+use Rattle.pt_de_laws.specs.Chain.{IsFor, HasTurned, IsAmid, IsPending, Course, decided, rounds_of, firing_from, IsStuckAt}
 use Rattle.pt_de_laws.proofs.PlaceLaws.{get-or-any, mapped-at, at-mapped, knowns-by, knowns-tokens}
 use Rattle.pt_de_laws.proofs.RowLaws.{turn-is, rows-prefix, rows-within}
 use Rattle.pt_de_laws.proofs.EarlyLaws.{all-absent}
 use Rattle.pt_de_laws.proofs.ReadyLaws.{clash, over-waits, answered-waits, over-answered, Ready, ready-any, settled, inputs-decided, inactive, no-token, flags-long}
 use Rattle.pt_de_laws.proofs.ValueLaws.{val-long, val-stays, val-own, val-output, rounds-some}
-use Rattle.pt_de_laws.proofs.AskLaws.{left-same, calls-ask}
-use Rattle.pt_de_laws.proofs.ToldLaws.{turn-done, calls-go-on}
-use Rattle.pt_de_laws.proofs.HeardLaws.{calls-hear, calls-learn}
+use Rattle.pt_de_laws.proofs.AskLaws.{left-same}
+use Rattle.pt_de_laws.proofs.ToldLaws.{turn-done}
 use Rattle.pt_de_laws.proofs.GainLaws.{then-long, then-same, then-other, silents-long, silents-at}
 
 -- each channel has a source
@@ -39,7 +38,7 @@ sourced (x ∷ cs) (suc c) l = sourced cs c (omega (arith, l))
 
 module _ {T S : Type 0} (facts : Facts T S) (step : Stepping T S) (before : DeState T) (kids : List S) (inputs : Streams T) (d : S) where
   -- a reaction begins
-  pub calls-begin : (tag : Tag) → KeepsEarly (de_early facts) (de_active facts) (de_turn facts step) → IsLawful before.plan before.roles → IsFor facts before.plan before.roles kids → before.wakes ≡ map (λ c. facts.next c) kids → Underway facts step before kids inputs d (begun tag inputs before) kids (silents kids)
+  pub calls-begin : (tag : Tag) → KeepsEarly (de_early facts) (de_active facts) (de_turn facts step) → IsLawful before.plan before.roles → IsFor facts before.plan before.roles kids → before.wakes ≡ map (λ c. facts.next c) kids → Course facts step before kids inputs d (begun tag inputs before) kids (silents kids)
   calls-begin tag keeps lawful fits wakes =
       let net : Net = before.plan.net in
       let waits : (i : ℕ) → get_or (map (λ n. Waits) net.places) i Waits ≡ Waits = λ i. mapped-at Waits net.places i in
@@ -70,7 +69,7 @@ module _ {T S : Type 0} (facts : Facts T S) (step : Stepping T S) (before : DeSt
         late = λ i j l m e f p. over-waits (get_or (map (λ n. Waits) net.places) i Waits) e (waits i);
       }
 
-  module _ (s : DeState T) (now : List S) (ls : List (Log T)) (u : Underway facts step before kids inputs d s now ls) where
+  module _ (s : DeState T) (now : List S) (ls : List (Log T)) (u : Course facts step before kids inputs d s now ls) where
     abbrev net : Net
     net = s.plan.net
 
@@ -202,16 +201,3 @@ module _ {T S : Type 0} (facts : Facts T S) (step : Stepping T S) (before : DeSt
           let stuck = tick-sticks (de_early facts) (de_active facts) (de_turn facts step) s.tag u.keeps net [] kids inputs d end u.wide.kids_are run i amid.0 t.inputs t.on t.active fs (log_then (log_at ls i) l) whole f q k o in
           let prefix = within-prefix l (subst (λ r. LogBelow l (log_in r)) (sym e) (log-refl {T = T} l)) k o in
           (stuck.0, stuck.1, sym (ap (λ (p : TickPlan). de facts step p k s.tag kids inputs) u.plan) ∙ stuck.2, stuck.3, subst (λ r. LogBelow (log_below (logs_then i l ls)) (log_in r)) stuck.2 prefix)
-
-pub calls-are-de : {T S : Type 0} → CallsAreDe T S
-calls-are-de = record {
-  begins = λ facts step before kids tag inputs d keeps lawful fits wakes. calls-begin facts step before kids inputs d tag keeps lawful fits wakes;
-  asks = λ facts step before kids inputs d s now ls u. calls-ask facts step before kids inputs d s now ls u;
-  goes_on = λ facts step before kids inputs d s now ls u i X Xs st c out l e. calls-go-on facts step before kids inputs d s now ls u i X Xs st c out l e;
-  hears = λ facts step before kids inputs d s now ls u o i may. calls-hear facts step before kids inputs d s now ls u i may o;
-  learns = λ facts step before kids inputs d s now ls u i may. calls-learn facts step before kids inputs d s now ls u i may;
-  ends = λ facts step before kids inputs d s now ls u o x. calls-end facts step before kids inputs d s now ls u o x;
-  sticks = λ facts step before kids inputs d s now ls u i X Xs st. calls-stick facts step before kids inputs d s now ls u i X Xs st;
-  off = λ facts step before kids inputs d s now ls u. calls-off facts step before kids inputs d s now ls u;
-  off_within = λ facts step before kids inputs d s now ls u i X Xs st. calls-off-within facts step before kids inputs d s now ls u i X Xs st;
-}

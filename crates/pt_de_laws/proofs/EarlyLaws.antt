@@ -1,16 +1,14 @@
 -- What comes to places that are delays or not, and early answers from what is known beside the delays.
-use Rattle.std.proofs.Common.{◌≡◌, ◌⊎◌, inl, inr, ℕ, zero, suc, ◌<◌, ◌≤◌, List, [], ◌∷◌, Bool, true, false, ◌&&◌, ◌||◌, not, length, get_or, map, Option, Some, None, refl, sym, ap, subst, ◌∙◌, arith}
+use Rattle.std.proofs.Common.{◌≡◌, ℕ, zero, suc, ◌<◌, List, [], ◌∷◌, Bool, true, false, ◌&&◌, ◌||◌, length, get_or, map, Option, Some, None, refl, sym, ap, ◌∙◌, arith}
 use Rattle.std.proofs.lemmas.List.{length-map}
-use Rattle.pt_meaning.specs.Tag.{Tag, is_due}
+use Rattle.pt_meaning.specs.Tag.{Tag}
 use Rattle.pt_meaning.specs.Streams.{Streams, at, any_present}
-use Rattle.pt_meaning.specs.Log.{Log}
-use Rattle.pt_meaning.specs.Machine.{Fault, Outcome, Done, Stuck, Stepping, Facts, Partial, Unknown, Known, partial_at}
+use Rattle.pt_meaning.specs.Machine.{Outcome, Done, Stuck, Stepping, Facts, Partial, Unknown, Known, partial_at}
 use Rattle.pt_meaning.specs.Valuation.{Activity, Earliness, known, is_known, reaction, on_known, if_active, reacted}
 use Rattle.pt_meaning.specs.De.{de_early, if_whole}
 use Rattle.pt_meaning.specs.Laws.{PartialBelow, KnownBelow, KeepsEarly}
 use Rattle.pt_laws.proofs.TickLaws.{PartialBelow-refl, PartialBelow-trans}
-use Rattle.pt_de_laws.specs.State.{comes, agree, is_some_token, beside_delays, unless_delay}
-use Rattle.pt_de_laws.proofs.PlaceLaws.{known-by}
+use Rattle.pt_de_laws.specs.State.{comes, agree, is_some_token, beside_delays}
 
 clash : {A : Type 0} → true ≡ false → A
 clash e = absurd (cc)

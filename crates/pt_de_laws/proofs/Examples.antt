@@ -1,10 +1,10 @@
 -- Reactions worked by hand, call by call. Tokens are numbers.
-use Rattle.std.proofs.Common.{◌≡◌, ℕ, [], ◌∷◌, true, false, List, Some, None, refl}
+use Rattle.std.proofs.Common.{◌≡◌, ℕ, [], ◌∷◌, true, false, Some, None, refl}
 use Rattle.pt_meaning.specs.Tag.{Tag}
 use Rattle.pt_meaning.specs.Machine.{Unknown, Known}
-use Rattle.pt_meaning.specs.Net.{Own, Output}
+use Rattle.pt_meaning.specs.Net.{Output}
 use Rattle.pt_meaning.specs.Valuation.{TickPlan}
-use Rattle.pt_de_laws.specs.State.{Roles, DeState, Open, Asked, Between, Answered, Over, Waits, started, at_rest, begun, asked, asked_on, after_told, after_heard, closed, inputs_of, partial_of, own_of, wake_of, is_due_child, is_last_child, asked_row}
+use Rattle.pt_de_laws.specs.State.{Roles, DeState, Open, Asked, Between, started, at_rest, begun, asked, asked_on, after_told, after_heard, closed, partial_of, own_of, wake_of, is_due_child, is_last_child, asked_row}
 
 abbrev time : ℕ → ℕ → Tag
 time t n = record { time = t; step = n }

@@ -1,16 +1,15 @@
 -- What a child gave is at its channels, and at no others; and what each child has logged.
-use Rattle.std.proofs.Common.{◌≡◌, ◌⊎◌, inl, inr, ⊎_elim, ℕ, zero, suc, ◌<◌, ◌≤◌, List, [], ◌∷◌, ◌++◌, Bool, true, false, ◌||◌, length, get_or, set, map, nat_eq, Option, Some, None, if◌then◌else◌, refl, sym, ap, subst, ◌∙◌, arith}
-use Rattle.pt_meaning.specs.Tag.{Tag, is_due}
+use Rattle.std.proofs.Common.{◌≡◌, ℕ, zero, suc, ◌<◌, ◌≤◌, List, [], ◌∷◌, ◌++◌, false, length, get_or, Some, if◌then◌else◌, refl, sym, ap, ◌∙◌, arith}
 use Rattle.pt_meaning.specs.Streams.{Streams, at, get}
 use Rattle.pt_meaning.specs.Log.{Log, silent, log_then}
 use Rattle.pt_meaning.specs.Machine.{Stepping, Facts, Partial, Unknown, Known, partial_at}
 use Rattle.pt_meaning.specs.Net.{Net, Source, Own, Output}
 use Rattle.pt_meaning.specs.Valuation.{tokens_of}
-use Rattle.pt_laws.specs.Channels.{channel_at, source_in, tokens_in}
+use Rattle.pt_laws.specs.Channels.{source_in, tokens_in}
 use Rattle.pt_laws.specs.LogsOfRuns.{silents, logs_then, log_at}
 use Rattle.pt_laws.specs.TickRuns.{places_at}
-use Rattle.pt_de_laws.specs.State.{DeState, Turn, Waits, comes, gained, gained_by, beside_delays, inputs_of, delays_of, depth_of}
-use Rattle.pt_de_laws.specs.Chain.{Underway}
+use Rattle.pt_de_laws.specs.State.{DeState, comes, gained, gained_by, beside_delays, inputs_of, delays_of, depth_of}
+use Rattle.pt_de_laws.specs.Chain.{Course}
 use Rattle.pt_de_laws.proofs.PlaceLaws.{place-tokens, places-long, source-there, same-test, other-test}
 use Rattle.pt_de_laws.proofs.EarlyLaws.{comes-same, beside-same}
 use Rattle.pt_de_laws.proofs.ReadyLaws.{flags-long}
@@ -80,7 +79,7 @@ tokens-known {T} (v ∷ vs) (suc p) xs e = by v (tokens-known vs p xs e)
     by (Known ys) h = h
 
 -- a child gained, and what is beside the delays of those that are no deeper stays
-module _ {T S : Type 0} (facts : Facts T S) (step : Stepping T S) (before : DeState T) (kids : List S) (inputs : Streams T) (d : S) (s : DeState T) (now : List S) (ls : List (Log T)) (u : Underway facts step before kids inputs d s now ls) (i : ℕ) (out : Streams T) where
+module _ {T S : Type 0} (facts : Facts T S) (step : Stepping T S) (before : DeState T) (kids : List S) (inputs : Streams T) (d : S) (s : DeState T) (now : List S) (ls : List (Log T)) (u : Course facts step before kids inputs d s now ls) (i : ℕ) (out : Streams T) where
   abbrev net : Net
   net = s.plan.net
 

@@ -1,20 +1,18 @@
 -- A child with delays has answered early.
-use Rattle.std.proofs.Common.{◌≡◌, ◌⊎◌, inl, inr, ⊎_elim, ℕ, zero, suc, ◌<◌, ◌≤◌, List, [], ◌∷◌, ◌++◌, Bool, true, false, ◌||◌, length, get_or, set, map, nat_eq, Option, Some, None, refl, sym, ap, ap₂, subst, ◌∙◌, arith, length-set}
+use Rattle.std.proofs.Common.{◌≡◌, ◌⊎◌, inl, inr, ⊎_elim, ℕ, zero, suc, ◌<◌, ◌≤◌, List, [], ◌∷◌, ◌++◌, Bool, true, false, ◌||◌, length, get_or, set, Some, None, refl, sym, ap, ap₂, subst, ◌∙◌, arith, length-set}
 use Rattle.std.proofs.lemmas.List.{get_or-set_same, get_or-set_other}
 use Rattle.std.proofs.lemmas.Bool.{cases_eq}
-use Rattle.pt_meaning.specs.Tag.{Tag, is_due}
+use Rattle.pt_meaning.specs.Tag.{is_due}
 use Rattle.pt_meaning.specs.Streams.{Streams, at, get}
 use Rattle.pt_meaning.specs.Log.{Log, silent}
 use Rattle.pt_meaning.specs.Machine.{Stepping, Facts, Partial, Unknown, Known, partial_at}
-use Rattle.pt_meaning.specs.Net.{Net, Own, Output}
+use Rattle.pt_meaning.specs.Net.{Net, Output}
 use Rattle.pt_meaning.specs.Valuation.{is_known, tokens_of}
 use Rattle.pt_meaning.specs.De.{de_early, de_active, de_turn}
 use Rattle.pt_laws.specs.TickRuns.{places_at}
 use Rattle.pt_laws.specs.LogsOfRuns.{log_at}
-use Rattle.pt_laws.specs.Channels.{source_in}
-use Rattle.pt_de_laws.specs.State.{DeState, Turn, Waits, Answered, Over, Stage, Open, comes, rows_left, inputs_of, delays_of, is_due_in, is_due_child, depth_of, partial_of, MayAnswer, IsFirst, after_heard, gained, beside_delays, waiting_in, waits}
-use Rattle.pt_de_laws.specs.Chain.{HasTold, HasTurned, IsAmid, IsBusy, IsPending, Underway, after_rounds, decided}
-use Rattle.pt_de_laws.proofs.PlaceLaws.{get-or-any}
+use Rattle.pt_de_laws.specs.State.{DeState, Turn, Waits, Answered, Over, Stage, Open, comes, rows_left, inputs_of, delays_of, is_due_in, is_due_child, depth_of, partial_of, MayAnswer, after_heard, waiting_in, waits}
+use Rattle.pt_de_laws.specs.Chain.{HasTold, HasTurned, IsBusy, IsPending, Course, after_rounds, decided}
 use Rattle.pt_de_laws.proofs.EarlyLaws.{beside-known, beside-below, early-gives, early-same}
 use Rattle.pt_de_laws.proofs.ReadyLaws.{clash, over-waits, answered-waits, over-answered, due-is, due-waits, kid-there, flags-long, known-long, place-at, ready-below, settles}
 use Rattle.pt_de_laws.proofs.ValueLaws.{val-output, val-stays}
@@ -36,7 +34,7 @@ fewer-wait (Waits ∷ ts) (suc i) h e = let r = fewer-wait ts i (omega (arith, h
 fewer-wait (Answered ∷ ts) (suc i) h e = fewer-wait ts i (omega (arith, h)) e
 fewer-wait (Over ∷ ts) (suc i) h e = fewer-wait ts i (omega (arith, h)) e
 
-module _ {T S : Type 0} (facts : Facts T S) (step : Stepping T S) (before : DeState T) (kids : List S) (inputs : Streams T) (d : S) (s : DeState T) (now : List S) (ls : List (Log T)) (u : Underway facts step before kids inputs d s now ls) (i : ℕ) (may : MayAnswer s i) where
+module _ {T S : Type 0} (facts : Facts T S) (step : Stepping T S) (before : DeState T) (kids : List S) (inputs : Streams T) (d : S) (s : DeState T) (now : List S) (ls : List (Log T)) (u : Course facts step before kids inputs d s now ls) (i : ℕ) (may : MayAnswer s i) where
   abbrev net : Net
   net = s.plan.net
 
@@ -190,7 +188,7 @@ module _ {T S : Type 0} (facts : Facts T S) (step : Stepping T S) (before : DeSt
     late-one : (j k : ℕ) → j < count → k < count → get_or t.turns j Waits ≡ Over → early j ≡ true → IsPending t k → ⊥
     late-one j k m l e f p = u.late j i m there (was-over j e) f (inl may.0.due)
 
-    is-heard : Underway facts step before kids inputs d t now ls
+    is-heard : Course facts step before kids inputs d t now ls
     is-heard = record {
       keeps = u.keeps;
       lawful = u.lawful;
@@ -218,5 +216,5 @@ module _ {T S : Type 0} (facts : Facts T S) (step : Stepping T S) (before : DeSt
       late = late-one;
     }
 
-    pub calls-hear : Underway facts step before kids inputs d (after_heard i (facts.early s.tag (get_or now i d) (partial_of s i)) s) now ls
-    calls-hear = subst (λ x. Underway facts step before kids inputs d (after_heard i (facts.early s.tag x (partial_of s i)) s) now ls) (sym (u.rests i there (λ e. over-waits (turn i) e waits-now)).0) is-heard
+    pub calls-hear : Course facts step before kids inputs d (after_heard i (facts.early s.tag (get_or now i d) (partial_of s i)) s) now ls
+    calls-hear = subst (λ x. Course facts step before kids inputs d (after_heard i (facts.early s.tag x (partial_of s i)) s) now ls) (sym (u.rests i there (λ e. over-waits (turn i) e waits-now)).0) is-heard

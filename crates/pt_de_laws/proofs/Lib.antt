@@ -10,5 +10,6 @@ pub mod ToldLaws
 pub mod HeardLaws
 pub mod ChainLaws
 pub mod SayLaws
+pub mod LeftLaws
 pub mod SoFarLaws
 pub mod ActsLaws

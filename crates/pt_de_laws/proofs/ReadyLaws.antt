@@ -1,19 +1,18 @@
 -- Which children have told all that they give at a tag, and what is known of their channels.
-use Rattle.std.proofs.Common.{◌≡◌, ◌⊎◌, inl, inr, ⊎_elim, ℕ, zero, suc, ◌<◌, ◌≤◌, List, [], ◌∷◌, Bool, true, false, ◌||◌, length, get_or, map, Option, Some, None, refl, sym, ap, subst, ◌∙◌, arith}
-use Rattle.std.proofs.lemmas.List.{length-map}
-use Rattle.pt_meaning.specs.Tag.{Tag, is_due}
+use Rattle.std.proofs.Common.{◌≡◌, ◌⊎◌, inl, inr, ℕ, zero, suc, ◌<◌, ◌≤◌, List, [], ◌∷◌, Bool, true, false, ◌||◌, length, get_or, Some, None, refl, sym, ap, subst, ◌∙◌, arith}
+use Rattle.pt_meaning.specs.Tag.{is_due}
 use Rattle.pt_meaning.specs.Streams.{Streams, at, get, any_present}
 use Rattle.pt_meaning.specs.Log.{Log, silent}
-use Rattle.pt_meaning.specs.Machine.{Stepping, Facts, Partial, Unknown, Known, partial_at}
+use Rattle.pt_meaning.specs.Machine.{Stepping, Facts, Partial, Known, partial_at}
 use Rattle.pt_meaning.specs.Net.{Net, Source, Own, Output}
 use Rattle.pt_meaning.specs.Valuation.{known, is_known, reaction}
 use Rattle.pt_meaning.specs.De.{de_early, de_active, de_turn}
 use Rattle.pt_meaning.specs.Laws.{KnownBelow}
-use Rattle.pt_laws.specs.Channels.{channel_at, source_in, tokens_in}
+use Rattle.pt_laws.specs.Channels.{source_in, tokens_in}
 use Rattle.pt_laws.specs.TickRuns.{places_at, HasFired}
 use Rattle.pt_laws.proofs.TickRunLaws.{has-reacted}
 use Rattle.pt_de_laws.specs.State.{DeState, Turn, Waits, Answered, Over, comes, rows_left, inputs_of, delays_of, is_due_in, is_due_child, depth_of, partial_of}
-use Rattle.pt_de_laws.specs.Chain.{HasTold, IsBusy, IsPending, Underway, after_rounds, decided, rounds_of}
+use Rattle.pt_de_laws.specs.Chain.{HasTold, IsPending, Course, after_rounds, decided, rounds_of}
 use Rattle.pt_de_laws.proofs.PlaceLaws.{get-or-any, get-or-map, known_in, place-known, place-tokens, places-long, known-by, source-there}
 use Rattle.pt_de_laws.proofs.EarlyLaws.{no-prompt, none-present, beside-known, beside-below, early-gives, quiet-early}
 use Rattle.pt_de_laws.proofs.ValueLaws.{val-long, val-grows, val-stays, val-own, val-output, rounds-enough, rounds-some}
@@ -42,7 +41,7 @@ over-waits t a w = absurd (cc)
 pub over-answered : (t : Turn) → t ≡ Over → t ≡ Answered → ⊥
 over-answered t a w = absurd (cc)
 
-module _ {T S : Type 0} (facts : Facts T S) (step : Stepping T S) (before : DeState T) (kids : List S) (inputs : Streams T) (d : S) (s : DeState T) (now : List S) (ls : List (Log T)) (u : Underway facts step before kids inputs d s now ls) where
+module _ {T S : Type 0} (facts : Facts T S) (step : Stepping T S) (before : DeState T) (kids : List S) (inputs : Streams T) (d : S) (s : DeState T) (now : List S) (ls : List (Log T)) (u : Course facts step before kids inputs d s now ls) where
   abbrev net : Net
   net = s.plan.net
 

@@ -1,17 +1,16 @@
 -- A turn, row by row.
-use Rattle.std.proofs.Common.{◌≡◌, ◌⊎◌, inl, inr, ℕ, zero, suc, max, ◌+◌, ◌<◌, ◌≤◌, List, [], ◌∷◌, ◌++◌, Bool, true, false, length, take, drop, refl, sym, ap, ap₂, subst, ◌∙◌, arith, append-nil}
+use Rattle.std.proofs.Common.{◌≡◌, ℕ, zero, suc, max, List, [], ◌∷◌, ◌++◌, Bool, true, false, take, drop, refl, sym, ap, ap₂, subst, ◌∙◌, arith, append-nil}
 use Rattle.std.proofs.Math.Path.{fun_ext}
 use Rattle.std.proofs.lemmas.List.{append_assoc}
 use Rattle.pt_meaning.specs.Tag.{Tag}
 use Rattle.pt_meaning.specs.Streams.{IsPrefix, Streams, at, joined}
 use Rattle.pt_meaning.specs.Log.{Log, LogBelow, Firing, silent, log_then, own}
-use Rattle.pt_meaning.specs.Machine.{Fault, Outcome, Done, Stuck, Stepping, Facts, recorded}
-use Rattle.pt_meaning.specs.De.{de_turn, whole_or_rows, by_rows, rows_of, rows_from, heads, tails, longest, follows, and_then}
+use Rattle.pt_meaning.specs.Machine.{Outcome, Done, Stuck, Stepping, Facts, recorded}
+use Rattle.pt_meaning.specs.De.{de_turn, whole_or_rows, by_rows, rows_from, heads, tails, longest, follows, and_then}
 use Rattle.pt_laws.specs.LogsOfRuns.{log_in}
 use Rattle.pt_laws.specs.Explained.{Turned, ChainOf, of_turns}
 use Rattle.pt_laws.proofs.JoinLaws.{joined-assoc, log-assoc}
 use Rattle.pt_laws.proofs.Order.{IsPrefix-refl, IsPrefix-trans, IsPrefix-after, IsPrefix-append}
-use Rattle.pt_laws.proofs.LogLaws.{log-refl}
 use Rattle.pt_de_laws.specs.State.{rows_for}
 use Rattle.pt_de_laws.specs.Chain.{of_rows}
 

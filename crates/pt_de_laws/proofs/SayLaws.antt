@@ -1,6 +1,5 @@
 -- What a child takes of a place was given by its source, or told early.
-use Rattle.std.proofs.Common.{◌≡◌, ◌⊎◌, inl, inr, ⊎_elim, ℕ, zero, suc, ◌<◌, ◌≤◌, List, [], ◌∷◌, ◌++◌, Bool, true, false, length, get_or, Option, Some, None, refl, sym, ap, subst, ◌∙◌, arith}
-use Rattle.pt_meaning.specs.Tag.{Tag}
+use Rattle.std.proofs.Common.{◌≡◌, ◌⊎◌, inl, inr, ⊎_elim, ℕ, zero, suc, ◌<◌, List, [], ◌∷◌, Bool, true, false, length, get_or, Option, Some, None, refl, sym, ap, subst, ◌∙◌, arith}
 use Rattle.pt_meaning.specs.Streams.{IsPrefix, Streams, at, get}
 use Rattle.pt_meaning.specs.Log.{Log}
 use Rattle.pt_meaning.specs.Machine.{Stepping, Facts, Partial, Unknown, Known, partial_at}
@@ -8,16 +7,14 @@ use Rattle.pt_meaning.specs.Net.{Net, Source, Own, Output}
 use Rattle.pt_meaning.specs.Tree.{De}
 use Rattle.pt_meaning.specs.Valuation.{known, known_then, is_known}
 use Rattle.pt_meaning.specs.De.{de_early, de_active, de_turn}
-use Rattle.pt_meaning.specs.Closed.{inputs_at, outputs_at}
-use Rattle.pt_laws.specs.Channels.{channel_at, source_in, tokens_in}
+use Rattle.pt_laws.specs.Channels.{source_in, tokens_in}
 use Rattle.pt_laws.specs.TickRuns.{places_at}
-use Rattle.pt_laws.specs.LogsOfRuns.{log_at}
-use Rattle.pt_laws.specs.Explained.{Turned, of_turns, gives_in, MaySay, Nothing, Absence, Gives, Early}
-use Rattle.pt_de_laws.specs.State.{DeState, Turn, Waits, Answered, Over, rows_left, inputs_of, delays_of, beside_delays, depth_of, partial_of}
-use Rattle.pt_de_laws.specs.Chain.{HasTurned, IsPending, Underway, decided, rounds_of}
+use Rattle.pt_laws.specs.Explained.{gives_in, MaySay, Nothing, Absence, Gives, Early}
+use Rattle.pt_de_laws.specs.State.{DeState, Turn, Waits, Answered, Over, inputs_of, delays_of, beside_delays, depth_of, partial_of}
+use Rattle.pt_de_laws.specs.Chain.{Course, decided, rounds_of}
 use Rattle.pt_de_laws.proofs.PlaceLaws.{get-or-there, known_in, place-known, place-tokens, source-there}
 use Rattle.pt_de_laws.proofs.EarlyLaws.{early-same}
-use Rattle.pt_de_laws.proofs.ReadyLaws.{clash, over-waits, answered-waits, Ready, ready-below, ready-any, settled, kid-there, flags-long, undelayed}
+use Rattle.pt_de_laws.proofs.ReadyLaws.{clash, over-waits, Ready, ready-below, ready-any, settled, kid-there, flags-long, undelayed}
 use Rattle.pt_de_laws.proofs.ValueLaws.{val-long, val-stays, val-own, rounds-some}
 
 -- known inputs are what is known, place by place
@@ -54,7 +51,7 @@ beside-at (true ∷ fs) (xs ∷ X) zero = inl refl
 beside-at (false ∷ fs) (xs ∷ X) zero = inr (omega arith, refl, refl)
 beside-at (f ∷ fs) (xs ∷ X) (suc q) = ⊎_elim (λ e. inl e) (λ r. inr (let l = r.0 in omega (arith, l), r.1, r.2)) (beside-at fs X q)
 
-module _ {T S : Type 0} (facts : Facts T S) (step : Stepping T S) (before : DeState T) (kids : List S) (inputs : Streams T) (d : S) (s : DeState T) (now : List S) (ls : List (Log T)) (u : Underway facts step before kids inputs d s now ls) where
+module _ {T S : Type 0} (facts : Facts T S) (step : Stepping T S) (before : DeState T) (kids : List S) (inputs : Streams T) (d : S) (s : DeState T) (now : List S) (ls : List (Log T)) (u : Course facts step before kids inputs d s now ls) where
   abbrev net : Net
   net = s.plan.net
 

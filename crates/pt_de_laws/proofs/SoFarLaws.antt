@@ -3,10 +3,10 @@ use Rattle.std.proofs.Common.{◌≡◌, ◌⊎◌, inl, inr, ⊎_elim, ℕ, zer
 use Rattle.pt_meaning.specs.Tag.{Tag}
 use Rattle.pt_meaning.specs.Streams.{IsPrefix, Streams, at, get}
 use Rattle.pt_meaning.specs.Log.{Log, LogBelow, Firing, silent, log_then, own, log_below, within_firing}
-use Rattle.pt_meaning.specs.Machine.{Fault, Outcome, Done, Stuck, Stepping, Facts, Partial, Known, partial_at}
+use Rattle.pt_meaning.specs.Machine.{Fault, Outcome, Done, Stuck, Stepping, Facts, Partial, Known}
 use Rattle.pt_meaning.specs.Net.{Inside}
 use Rattle.pt_meaning.specs.Valuation.{TickPlan, known}
-use Rattle.pt_meaning.specs.De.{de, by_rows, rows_of}
+use Rattle.pt_meaning.specs.De.{de, by_rows}
 use Rattle.pt_meaning.specs.Running.{total}
 use Rattle.pt_meaning.specs.Meetings.{Meets, below_child}
 use Rattle.pt_meaning.specs.Children.{Child, numbered, child_facts, with_number}
@@ -36,15 +36,16 @@ use Rattle.pt_records.specs.Middle as middle
 use Rattle.pt_records.proofs.GrowthLaws.{all-begin, all-go-on, grew-within, all-long}
 use Rattle.pt_records.proofs.PauseShut.{pauses-are-shut}
 use Rattle.pt_records.proofs.SoFarLaws.{numbered-at, numbered-set, numbered-nodes, low-get, low-set, low-kids, recorded-done}
-use Rattle.pt_de_laws.specs.State.{Roles, DeState, Turn, Waits, Answered, Over, Stage, Open, Asked, MayAnswer, IsOver, rows_for, rows_left, inputs_of, partial_of, own_of, begun, asked_on, after_told, after_heard}
+use Rattle.pt_de_laws.specs.State.{Roles, DeState, Turn, Waits, Answered, Over, Stage, Open, Asked, MayAnswer, IsOver, rows_for, rows_left, partial_of, own_of, begun, asked_on, after_told, after_heard}
 use Rattle.pt_de_laws.specs.Lawful.{IsLawful}
-use Rattle.pt_de_laws.specs.Chain.{Answers, IsFor, HasTurned, IsAmid, AsksFor, Underway, decided, rounds_of, of_rows}
+use Rattle.pt_de_laws.specs.Chain.{Answers, IsFor, HasTurned, IsAmid, AsksFor, Course, Underway, with_tokens, decided, rounds_of, of_rows}
 use Rattle.pt_de_laws.specs.SoFar.{DeSoFar}
 use Rattle.pt_de_laws.proofs.PlaceLaws.{get-or-there, get-or-of, get-short}
 use Rattle.pt_de_laws.proofs.RowLaws.{first-rows, of-rows-append}
-use Rattle.pt_de_laws.proofs.ReadyLaws.{clash, over-waits, over-answered}
+use Rattle.pt_de_laws.proofs.ReadyLaws.{over-waits, over-answered}
 use Rattle.pt_de_laws.proofs.SayLaws.{takes-known}
-use Rattle.pt_de_laws.proofs.ChainLaws.{calls-are-de, its-turn}
+use Rattle.pt_de_laws.proofs.ChainLaws.{its-turn}
+use Rattle.pt_de_laws.proofs.LeftLaws.{calls-are-de}
 
 -- children with their numbers
 numbered-node : {S : Type 0} (b : ℕ) (ss : List S) (i : ℕ) (d : Child S) → (get_or (numbered b ss) i d).node ≡ get_or ss i d.node
@@ -104,7 +105,7 @@ de-at rows k m tag h c p kids inputs = refl
 
 -- in the middle, at a fuel
 module _ {T A : Type 0} (rows : Rows T A) (k : ℕ) (m : Meets) (h : Past) (before : DeState T) (kids : Nodes T A) (inputs : Streams T) (any : Child (Node T A)) (s : DeState T) (now : List (Node T A)) (ls : List (Log T))
-    (u : Underway (child_facts (facts_of rows)) (steps_below rows k (heights kids) m) before (numbered 0 (list_of kids)) inputs any s (numbered 0 now) ls) where
+    (u : Course (child_facts (facts_of rows)) (steps_below rows k (heights kids) m) before (numbered 0 (list_of kids)) inputs any s (numbered 0 now) ls) where
   abbrev facts : Facts T (Child (Node T A))
   facts = child_facts (facts_of rows)
 
@@ -296,10 +297,10 @@ module _ {T A : Type 0} (rows : Rows T A) (m : Meets) (before : DeState T) (kids
   -- a child that is asked for a row
   module _ (i : ℕ) (X : Streams T) (Xs : List (Streams T)) (st : s.stage ≡ Asked i (X ∷ Xs)) (child : Node T A) (e : get now i ≡ Some child) where
     amid-now : IsAmid (length s.plan.net.places) s.turns (Asked i (X ∷ Xs))
-    amid-now = subst (λ (y : Stage T). IsAmid (length s.plan.net.places) s.turns y) st under.amid
+    amid-now = subst (λ (y : Stage T). IsAmid (length s.plan.net.places) s.turns y) st under.course.amid
 
     short : i < length news
-    short = let a = amid-now.0 in omega (arith, a, under.wide.logs_are, all-long x.logs olds news x.kept)
+    short = let a = amid-now.0 in omega (arith, a, under.course.wide.logs_are, all-long x.logs olds news x.kept)
 
     abbrev it : Child (Node T A)
     it = record { number = i; node = child }
@@ -369,7 +370,7 @@ module _ {T A : Type 0} (rows : Rows T A) (m : Meets) (before : DeState T) (kids
         below-stuck (at_fuel k) i f h.made gs n l (composite-at k ∙ as-stuck s.tag h start (λ X. De before.plan) (fired_so k) gs n g) w (subst (λ r. LogBelow l (log_in r)) g b)
 
     shut-between : LawfulRows rows → IsShut rows m (the_node before kids) s.tag inputs None (within_firing h.made (log_below x.logs))
-    shut-between law = pauses-are-shut.between rows law m s.tag h start (De before.plan) kids inputs now x.logs x.run.0 (λ fits k o. between-planned rows k m h before kids inputs x.any s now x.logs (x.run.1 k o))
+    shut-between law = pauses-are-shut.between rows law m s.tag h start (De before.plan) kids inputs now x.logs x.run.0 (λ fits k o. between-planned rows k m h before kids inputs x.any (with_tokens (x.run.1 k o).all s) now x.logs (x.run.1 k o).course)
 
     abbrev many : ℕ
     many = length s.plan.net.sources
@@ -411,7 +412,7 @@ module _ {T A : Type 0} (rows : Rows T A) (m : Meets) (before : DeState T) (kids
       shut-within : LawfulRows rows → (place : Option Fault) (l : Log T) (k₀ : ℕ) → ((k : ℕ) → k₀ ≤ k → LogBelow l (log_in (its_outcome k))) → IsShut rows (below_child i m) child s.tag X place l → IsShut rows m (the_node before kids) s.tag inputs (below_place i place) (so_far l)
       shut-within law place l k₀ below shut =
           pauses-are-shut.within rows law m s.tag h start (De before.plan) kids inputs now x.logs i child s.tag X place l (x.run.0 + k₀)
-          (λ fits k o. in-planned rows k m h before kids inputs x.any s now x.logs (x.run.1 k (omega (arith, o))) i X Xs st child there place l (low-get (heights kids) now i child x.low there) (below k (omega (arith, o))) shut)
+          (λ fits k o. in-planned rows k m h before kids inputs x.any (with_tokens (x.run.1 k (omega (arith, o))).all s) now x.logs (x.run.1 k (omega (arith, o))).course i X Xs st child there place l (low-get (heights kids) now i child x.low there) (below k (omega (arith, o))) shut)
 
       pub off-within : LawfulRows rows → LeavesOff its_outcome (IsShut rows (below_child i m) child s.tag X None) (kept_at news i) k' → LeavesOff at_fuel (IsShut rows m (the_node before kids) s.tag inputs None) (kept_by e olds) (kept_by e (set news i k'))
       off-within law off = record {

@@ -1,26 +1,25 @@
 -- A child is told what it gave in a firing.
-use Rattle.std.proofs.Common.{◌≡◌, ◌⊎◌, inl, inr, ⊎_elim, ℕ, zero, suc, ◌<◌, ◌≤◌, List, [], ◌∷◌, ◌++◌, Bool, true, false, ◌||◌, length, get_or, set, map, nat_eq, Option, Some, None, if◌then◌else◌, refl, sym, ap, ap₂, subst, ◌∙◌, arith, length-set, append-nil}
+use Rattle.std.proofs.Common.{◌≡◌, ◌⊎◌, inl, inr, ⊎_elim, ℕ, zero, suc, ◌<◌, ◌≤◌, List, [], ◌∷◌, ◌++◌, Bool, true, false, ◌||◌, length, get_or, set, nat_eq, Option, Some, None, if◌then◌else◌, refl, sym, ap, ap₂, subst, ◌∙◌, arith, length-set, append-nil}
 use Rattle.std.proofs.lemmas.List.{get_or-set_same, get_or-set_other, append_assoc}
 use Rattle.std.proofs.lemmas.Bool.{cases_eq}
 use Rattle.pt_meaning.specs.Tag.{Tag, is_due}
 use Rattle.pt_meaning.specs.Streams.{Streams, at, get, joined}
 use Rattle.pt_meaning.specs.Log.{Log, Firing, silent, log_then, own}
-use Rattle.pt_meaning.specs.Machine.{Stepping, Facts, Partial, Known, partial_at, Outcome, Done}
+use Rattle.pt_meaning.specs.Machine.{Stepping, Facts, Partial, Known, partial_at, Done}
 use Rattle.pt_meaning.specs.Net.{Net, Own, Output}
-use Rattle.pt_meaning.specs.Valuation.{known}
 use Rattle.pt_meaning.specs.De.{de_early, de_active, de_turn, by_rows}
 use Rattle.pt_meaning.specs.Closed.{inputs_at, outputs_at}
 use Rattle.pt_laws.specs.TickRuns.{places_at, HasFired}
 use Rattle.pt_laws.specs.LogsOfRuns.{logs_then, log_at}
-use Rattle.pt_laws.specs.Explained.{Turned, of_turns}
+use Rattle.pt_laws.specs.Explained.{Turned}
 use Rattle.pt_laws.proofs.Order.{at-joined}
 use Rattle.pt_laws.proofs.TickNodeLaws.{rows-go-on}
 use Rattle.pt_laws.proofs.TickRunLaws.{has-reacted}
-use Rattle.pt_de_laws.specs.State.{DeState, Turn, Waits, Answered, Over, Stage, Open, Asked, Between, comes, rows_for, rows_left, inputs_of, delays_of, is_due_in, is_due_child, depth_of, partial_of, after_fired, after_row, after_told, given_by, gained, beside_delays}
-use Rattle.pt_de_laws.specs.Chain.{HasTold, HasTurned, IsAmid, IsBusy, IsPending, Underway, after_rounds, decided, of_rows}
+use Rattle.pt_de_laws.specs.State.{DeState, Turn, Waits, Answered, Over, Stage, Asked, comes, rows_left, inputs_of, delays_of, is_due_in, is_due_child, depth_of, partial_of, after_fired, after_row, after_told, given_by, beside_delays}
+use Rattle.pt_de_laws.specs.Chain.{HasTold, HasTurned, IsAmid, IsBusy, IsPending, Course, after_rounds, decided}
 use Rattle.pt_de_laws.proofs.PlaceLaws.{map-set, get-or-any, same-test, other-test}
 use Rattle.pt_de_laws.proofs.RowLaws.{turn-is, chain-more, turns-append, of-rows-append}
-use Rattle.pt_de_laws.proofs.ReadyLaws.{clash, over-waits, over-answered, due-waits}
+use Rattle.pt_de_laws.proofs.ReadyLaws.{clash, over-waits, over-answered}
 use Rattle.pt_de_laws.proofs.ValueLaws.{val-output}
 use Rattle.pt_de_laws.proofs.AskLaws.{left-same, left-other, turned-as}
 use Rattle.pt_de_laws.proofs.GainLaws.{then-long, then-same, then-other, gained-own, gained-other, gained-same, more-long, same-comes, same-beside, not-deeper}
@@ -68,7 +67,7 @@ pub row-left : {T : Type 0} (i : ℕ) (Y : Streams T) (Ys : List (Streams T)) (j
 row-left i Y [] j = sym (none-if (nat_eq i j))
 row-left i Y (Z ∷ Zs) j = refl
 
-module _ {T S : Type 0} (facts : Facts T S) (step : Stepping T S) (before : DeState T) (kids : List S) (inputs : Streams T) (d : S) (s : DeState T) (now : List S) (ls : List (Log T)) (u : Underway facts step before kids inputs d s now ls)
+module _ {T S : Type 0} (facts : Facts T S) (step : Stepping T S) (before : DeState T) (kids : List S) (inputs : Streams T) (d : S) (s : DeState T) (now : List S) (ls : List (Log T)) (u : Course facts step before kids inputs d s now ls)
     (i : ℕ) (Y : Streams T) (Ys : List (Streams T)) (st : s.stage ≡ Asked i (Y ∷ Ys)) (c : S) (out : Streams T) (l : Log T) (e : step s.tag (get_or now i d) Y ≡ Done c out l) where
   abbrev net : Net
   net = s.plan.net
@@ -319,7 +318,7 @@ module _ {T S : Type 0} (facts : Facts T S) (step : Stepping T S) (before : DeSt
   now-amid [] x = tt
   now-amid (X ∷ Xs) x = (there, its-over, omega arith)
 
-  pub calls-go-on : Underway facts step before kids inputs d (after_told i out (facts.next c) s) (set now i c) (logs_then i (log_then l (own (record { number = facts.made (get_or now i d); tag = s.tag; inputs = Y; outputs = out }))) ls)
+  pub calls-go-on : Course facts step before kids inputs d (after_told i out (facts.next c) s) (set now i c) (logs_then i (log_then l (own (record { number = facts.made (get_or now i d); tag = s.tag; inputs = Y; outputs = out }))) ls)
   calls-go-on = record {
     keeps = u.keeps;
     lawful = u.lawful;

@@ -1,5 +1,5 @@
 -- A chain of calls of a core, and the reaction of the composite that it makes. Children are any, of which those that the plan says have delays answer early.
-use Rattle.std.specs.Prelude.{◌≡◌, ◌⊎◌, ℕ, zero, suc, max, ◌<◌, ◌≤◌, List, [], ◌∷◌, ◌++◌, Bool, true, false, ◌||◌, length, map, get_or, set, Option, Some, None}
+use Rattle.std.specs.Prelude.{◌≡◌, ◌⊎◌, ℕ, suc, max, ◌<◌, ◌≤◌, List, [], ◌∷◌, ◌++◌, true, false, ◌||◌, length, map, get_or, set, drop, Some, None}
 use Rattle.pt_meaning.specs.Tag.{Tag, is_due}
 use Rattle.pt_meaning.specs.Streams.{Streams, at, get}
 use Rattle.pt_meaning.specs.Log.{Log, LogBelow, silent, log_then, log_below, own}
@@ -7,12 +7,13 @@ use Rattle.pt_meaning.specs.Machine.{Fault, Outcome, Done, Stuck, Stepping, Fact
 use Rattle.pt_meaning.specs.Net.{Inside, Own, Output}
 use Rattle.pt_meaning.specs.Valuation.{TickPlan, known, is_known, valuation}
 use Rattle.pt_meaning.specs.De.{de_early, de_active, de_turn, by_rows, de}
+use Rattle.pt_meaning.specs.Running.{total}
 use Rattle.pt_meaning.specs.Closed.{inputs_at, outputs_at}
 use Rattle.pt_laws.specs.LogsOfRuns.{silents, logs_then, log_at, log_in}
 use Rattle.pt_laws.specs.TickRuns.{places_at, IsWide}
 use Rattle.pt_laws.specs.Explained.{Turned, ChainOf, of_turns}
 use Rattle.pt_meaning.specs.Laws.{IsIn, KeepsEarly}
-use Rattle.pt_de_laws.specs.State.{Roles, Turn, Waits, Answered, Over, Stage, Idle, Open, Listens, Asked, Between, Closed, DeState, comes, rows_for, rows_left, asked_row, inputs_of, delays_of, is_due_child, depth_of, MayFire, MayAnswer, IsOver, partial_of, own_of, begun, asked_on, after_told, after_heard, waits}
+use Rattle.pt_de_laws.specs.State.{Roles, Turn, Waits, Answered, Over, Stage, Idle, Open, Listens, Asked, Between, Closed, DeState, comes, rows_for, rows_left, inputs_of, delays_of, is_due_child, depth_of, MayFire, MayAnswer, IsOver, partial_of, own_of, begun, asked_on, after_told, after_heard, waits}
 use Rattle.pt_de_laws.specs.Lawful.{IsLawful}
 
 -- Once all its inputs but its delays are known, all is known early that a child gives at the channels that begin at it.
@@ -79,9 +80,9 @@ module _ {T S : Type 0} (facts : Facts T S) (step : Stepping T S) where
   abbrev pub decided : DeState T → List S → Streams T → List (Partial T)
   decided s kids inputs = after_rounds s kids inputs (rounds_of s.roles.depths)
 
--- A reaction of the composite is under way, which began from the state `before` with these children: the core is in the state s, the children are now in the states now, and have logged ls. A child past the last is d.
+-- A reaction of the composite is under way, which began from the state `before` with these children: the core is in the state s, but that the inputs of children that had their turn are still at their channels, the children are now in the states now, and have logged ls. A child past the last is d.
 -- A child that has told is known, so many rounds as it is deep after the first two, to give what is at its channels; one that has had no turn has given nothing; and no child that has had its turn is deeper than one that is due.
-pub record Underway {T S : Type 0} (facts : Facts T S) (step : Stepping T S) (before : DeState T) (kids : List S) (inputs : Streams T) (d : S) (s : DeState T) (now : List S) (ls : List (Log T)) : Type 0 where
+pub record Course {T S : Type 0} (facts : Facts T S) (step : Stepping T S) (before : DeState T) (kids : List S) (inputs : Streams T) (d : S) (s : DeState T) (now : List S) (ls : List (Log T)) : Type 0 where
   pub keeps : KeepsEarly (de_early facts) (de_active facts) (de_turn facts step)
   pub lawful : IsLawful s.plan s.roles
   pub fitting : IsFor facts s.plan s.roles kids
@@ -110,6 +111,22 @@ pub record Underway {T S : Type 0} (facts : Facts T S) (step : Stepping T S) (be
       (get_or s.roles.early i false ≡ true) × ((is_due s.tag (get_or s.wakes i None) || comes false (delays_of s i) (inputs_of s i)) ≡ true)
   pub order : (i j : ℕ) → i < length s.plan.net.places → j < length s.plan.net.places → (get_or s.turns i Waits ≡ Waits → ⊥) → IsPending s j → depth_of s i ≤ depth_of s j
   pub late : (i j : ℕ) → i < length s.plan.net.places → j < length s.plan.net.places → get_or s.turns i Waits ≡ Over → get_or s.roles.early i false ≡ true → IsPending s j → ⊥
+
+-- the state with these tokens at the channels
+abbrev pub with_tokens : {T : Type 0} → Streams T → DeState T → DeState T
+with_tokens tokens s = record { plan = s.plan; roles = s.roles; wakes = s.wakes; tokens = tokens; turns = s.turns; tag = s.tag; stage = s.stage }
+
+-- of all tokens of the tag those are left that no child has taken: a child that hasn't been asked for its turn has all of its inputs, and so have the own outputs
+pub record IsLeft {T : Type 0} (s : DeState T) (all : Streams T) : Type 0 where
+  pub long : length s.tokens ≡ length all
+  pub inputs : (j : ℕ) → j < length s.plan.net.places → (get_or s.turns j Waits ≡ Over → ⊥) → inputs_of s j ≡ places_at s.plan.net.places j all
+  pub outlets : drop (total s.plan.net.places) s.tokens ≡ drop (total s.plan.net.places) all
+
+-- the reaction is under way: with all tokens that came to the channels at the tag, it has come so far
+pub record Underway {T S : Type 0} (facts : Facts T S) (step : Stepping T S) (before : DeState T) (kids : List S) (inputs : Streams T) (d : S) (s : DeState T) (now : List S) (ls : List (Log T)) : Type 0 where
+  pub all : Streams T
+  pub left : IsLeft s all
+  pub course : Course facts step before kids inputs d (with_tokens all s) now ls
 
 -- the composite's firing, at fuel k
 abbrev pub firing_from : {T S : Type 0} → Facts T S → Stepping T S → DeState T → List S → Tag → Streams T → ℕ → Outcome T (Inside (Streams T) S)

@@ -1,7 +1,5 @@
 -- The calls of the core as a driver knows them.
-use Rattle.std.specs.Prelude.{◌≡◌, ℕ, ◌<◌, List, [], length, map, get_or, Bool, true, false, Option, Some, None, IsSome}
-use Rattle.pt_meaning.specs.Tag.{Tag}
-use Rattle.pt_meaning.specs.Streams.{Streams}
+use Rattle.std.specs.Prelude.{◌≡◌, ℕ, List, [], length, map, get_or, Bool, true, false, Option, Some, None, IsSome}
 use Rattle.pt_meaning.specs.Machine.{Counts, Partial}
 use Rattle.pt_meaning.specs.Valuation.{TickPlan}
 use Rattle.pt_meaning.specs.Tree.{Rows, Node, reset_of}

@@ -1,5 +1,5 @@
 -- A DE composite of a tree in the middle of a reaction: what its children have done so far, and what is kept of them.
-use Rattle.std.specs.Prelude.{◌≡◌, ℕ, List}
+use Rattle.std.specs.Prelude.{List}
 use Rattle.pt_meaning.specs.Streams.{Streams}
 use Rattle.pt_meaning.specs.Log.{Log}
 use Rattle.pt_meaning.specs.Meetings.{Meets}

@@ -1,5 +1,5 @@
 -- What contracts see of a core of a DE composite: the tokens of each channel within a reaction, which children have had their turn at its tag, and the wake of each. The calls are functions of it.
-use Rattle.std.specs.Prelude.{◌≡◌, ◌⊎◌, ℕ, zero, suc, ◌<◌, ◌≤◌, List, [], ◌∷◌, ◌++◌, Bool, true, false, ◌&&◌, ◌||◌, not, length, map, set, drop, get_or, nat_eq, Option, Some, None, if◌then◌else◌}
+use Rattle.std.specs.Prelude.{◌≡◌, ◌⊎◌, ℕ, zero, suc, ◌<◌, ◌≤◌, List, [], ◌∷◌, ◌++◌, Bool, true, false, ◌&&◌, ◌||◌, not, length, map, set, take, drop, get_or, nat_eq, Option, Some, None, if◌then◌else◌}
 use Rattle.pt_meaning.specs.Tag.{Tag, origin, is_due, least}
 use Rattle.pt_meaning.specs.Streams.{Streams, at}
 use Rattle.pt_meaning.specs.Machine.{Partial, Unknown, Known}
@@ -83,6 +83,18 @@ abbrev pub gained : {T : Type 0} → ℕ → Streams T → List Source → Strea
 gained i out [] X = X
 gained i out (c ∷ cs) [] = []
 gained i out (c ∷ cs) (xs ∷ X) = gained_by i out c xs ∷ gained i out cs X
+
+-- so many channels from one on have nothing
+abbrev pub emptied_from : {T : Type 0} → (from count : ℕ) → Streams T → Streams T
+emptied_from zero zero X = X
+emptied_from zero (suc n) [] = []
+emptied_from zero (suc n) (xs ∷ X) = [] ∷ emptied_from zero n X
+emptied_from (suc o) n [] = []
+emptied_from (suc o) n (xs ∷ X) = xs ∷ emptied_from o n X
+
+-- those that end at places of child i
+abbrev pub emptied : {T : Type 0} → List ℕ → ℕ → Streams T → Streams T
+emptied places i X = emptied_from (total (take i places)) (get_or places i 0) X
 
 -- what a channel has as a reaction begins
 abbrev pub at_first : {T : Type 0} → Streams T → Source → List T
@@ -236,17 +248,21 @@ module _ {T : Type 0} where
     stage = Open;
   }
 
-  -- child i is asked to fire, on the first of its rows
-  abbrev pub asked : ℕ → DeState T → DeState T
-  asked i s = record {
+  -- child i is asked to fire, on the first of its rows, where these tokens stay at the channels
+  abbrev pub asked_with : Streams T → ℕ → DeState T → DeState T
+  asked_with tokens i s = record {
     plan = s.plan;
     roles = s.roles;
     wakes = s.wakes;
-    tokens = s.tokens;
+    tokens = tokens;
     turns = set s.turns i Over;
     tag = s.tag;
     stage = Asked i (rows_for (get_or s.roles.whole i false) (inputs_of s i));
   }
+
+  -- its inputs leave their channels
+  abbrev pub asked : ℕ → DeState T → DeState T
+  asked i s = asked_with (emptied s.plan.net.places i s.tokens) i s
 
   -- the child that fired on a row is asked to fire on the next
   abbrev pub asked_on : Stage T → ℕ → DeState T → DeState T

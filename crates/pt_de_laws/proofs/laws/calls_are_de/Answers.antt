@@ -1,4 +1,4 @@
-use Rattle.pt_de_laws.proofs.ChainLaws.{calls-are-de}
+use Rattle.pt_de_laws.proofs.LeftLaws.{calls-are-de}
 use Rattle.pt_de_laws.proofs.laws.calls_are_de.Goals as goal
 
 pub returns : goal.returns
