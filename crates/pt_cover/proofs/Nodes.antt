@@ -8,7 +8,7 @@ use Rattle.pt_net.specs.Inside.{is_number, is_child, children_of}
 use Rattle.pt_library.specs.declared.library_actor.LibraryActor.{LibraryActor}
 use Rattle.pt_node.specs.Shown.{Shown}
 use Rattle.pt_trees.specs.Trees.{IsEntity, Starts, StartsAs}
-use Rattle.pt_trees.specs.Built.{IsBuilt, AreBuilt, built_actor, built_sdf, built_sr, none_built, more_built}
+use Rattle.pt_trees.specs.Built.{IsBuilt, AreBuilt, built_actor, built_composite, none_built, more_built}
 use Rattle.pt_cover.proofs.Matching.{one_if, times_in, matching, children-match, times-matching}
 use Rattle.pt_cover.proofs.Nesting.{get-within}
 
@@ -32,8 +32,7 @@ module _ (net : Net) (starts : Starts) where
   abbrev mutual
     pub nodes : (ℕ → Bool) → {k : ℕ} {s : Shown} → IsBuilt net starts k s → ℕ
     nodes f (built_actor k e a at undirected is) = one_if (f k)
-    nodes f (built_sdf k e kids s at sdf are is) = one_if (f k) + nodes_in f are
-    nodes f (built_sr k e kids s at sr are is) = one_if (f k) + nodes_in f are
+    nodes f (built_composite k e director kids s at directed are is) = one_if (f k) + nodes_in f are
 
     pub nodes_in : (ℕ → Bool) → {ks : List ℕ} {kids : List Shown} → AreBuilt net starts ks kids → ℕ
     nodes_in f none_built = 0
@@ -43,8 +42,7 @@ module _ (net : Net) (starts : Starts) where
   mutual
     no-nodes : (f : ℕ → Bool) → ((k : ℕ) → f k ≡ false) → {k : ℕ} {s : Shown} (b : IsBuilt net starts k s) → nodes f b ≡ 0
     no-nodes f none (built_actor k e a at undirected is) = ap one_if (none k)
-    no-nodes f none (built_sdf k e kids s at sdf are is) = let own = ap one_if (none k) in let rest = no-nodes-in f none are in omega (arith, own, rest)
-    no-nodes f none (built_sr k e kids s at sr are is) = let own = ap one_if (none k) in let rest = no-nodes-in f none are in omega (arith, own, rest)
+    no-nodes f none (built_composite k e director kids s at directed are is) = let own = ap one_if (none k) in let rest = no-nodes-in f none are in omega (arith, own, rest)
 
     no-nodes-in : (f : ℕ → Bool) → ((k : ℕ) → f k ≡ false) → {ks : List ℕ} {kids : List Shown} (bs : AreBuilt net starts ks kids) → nodes_in f bs ≡ 0
     no-nodes-in f none none_built = refl
@@ -55,11 +53,7 @@ module _ (net : Net) (starts : Starts) where
     mutual
       by-parents : {k : ℕ} {s : Shown} (b : IsBuilt net starts k s) → nodes (nat_eq o) b ≡ one_if (nat_eq o k) + nodes (λ c. is_child c d) b
       by-parents (built_actor k e a at undirected is) = let none : one_if (is_child k d) ≡ 0 = ap one_if (childless k e a at is o d there) in omega (arith, none)
-      by-parents (built_sdf k e kids s at sdf are is) =
-          let within : nodes_in (nat_eq o) are ≡ times_in o (children_of net.entities.items k) + nodes_in (λ c. is_child c d) are = by-parents-in are in
-          let counted = among net o d there k in
-          omega (arith, within, counted)
-      by-parents (built_sr k e kids s at sr are is) =
+      by-parents (built_composite k e director kids s at directed are is) =
           let within : nodes_in (nat_eq o) are ≡ times_in o (children_of net.entities.items k) + nodes_in (λ c. is_child c d) are = by-parents-in are in
           let counted = among net o d there k in
           omega (arith, within, counted)

@@ -29,7 +29,7 @@ use Rattle.pt_node.specs.Shown.{Shown, AllShown, Branch, none, more, list_of}
 use Rattle.pt_trees.specs.Composite.{frame_in, children_in}
 use Rattle.pt_trees.specs.Trees.{IsEntity, Starts}
 use Rattle.pt_trees.specs.Recorded.{numbers_at, recorded_at, recorded_of}
-use Rattle.pt_trees.specs.Built.{IsBuilt, AreBuilt, built_actor, built_sdf, built_sr, none_built, more_built}
+use Rattle.pt_trees.specs.Built.{IsBuilt, AreBuilt, built_actor, built_composite, none_built, more_built}
 use Rattle.pt_trees.specs.Ports.{Listed, own_ports, seen_below, ports_in, ports_below, listed_if, of_number, outputs_in, outputs_below, AreBelow, AreNumbered}
 use Rattle.pt_cover.specs.Leaves.{ActorsAreLeaves, AreStartedByClass}
 use Rattle.pt_cover.proofs.Nesting.{IsRooted, get-within, net-nested, net-rooted}
@@ -142,12 +142,7 @@ module _ (net : Net) (starts : Starts) (n : ℕ) (port : NetPort) (at : slice_ge
         let whole = number-append n (own_ports (recorded_of net k e)) [] in
         let own = numbers-own k e in
         omega (arith, whole, own)
-    number-of (built_sdf k e kids s there sdf are is) =
-        let whole = number-node n s (recorded_of net k e) kids is.records_are is.children in
-        let own = numbers-own k e in
-        let rest = number-of-in are in
-        omega (arith, whole, own, rest)
-    number-of (built_sr k e kids s there sr are is) =
+    number-of (built_composite k e director kids s there directed are is) =
         let whole = number-node n s (recorded_of net k e) kids is.records_are is.children in
         let own = numbers-own k e in
         let rest = number-of-in are in
@@ -185,8 +180,7 @@ module _ (net : Net) (starts : Starts) where
   mutual
     outputs-below : {k : ℕ} {s : Shown} (b : IsBuilt net starts k s) → AreBelow (length net.recorded.items) (outputs_in s)
     outputs-below (built_actor k e a there undirected is) = below-append (length net.recorded.items) (recorded_of net k e) [] (below-own net k e) tt
-    outputs-below (built_sdf k e kids s there sdf are is) = below-node (length net.recorded.items) s (recorded_of net k e) kids is.records_are is.children (below-own net k e) (kids-below are)
-    outputs-below (built_sr k e kids s there sr are is) = below-node (length net.recorded.items) s (recorded_of net k e) kids is.records_are is.children (below-own net k e) (kids-below are)
+    outputs-below (built_composite k e director kids s there directed are is) = below-node (length net.recorded.items) s (recorded_of net k e) kids is.records_are is.children (below-own net k e) (kids-below are)
 
     kids-below : {ks : List ℕ} {kids : List Shown} (bs : AreBuilt net starts ks kids) → AllKidsBelow (length net.recorded.items) kids
     kids-below none_built = tt

@@ -14,7 +14,7 @@ use Rattle.pt_node.specs.Shown.{Shown, AllShown, Branch, none, more, list_of}
 use Rattle.pt_node.specs.View.{outline_of, outlines_of, text_at, text_below}
 use Rattle.pt_trees.specs.Composite.{frame_in, children_in}
 use Rattle.pt_trees.specs.Trees.{IsEntity, Starts}
-use Rattle.pt_trees.specs.Built.{IsBuilt, AreBuilt, built_actor, built_sdf, built_sr, none_built, more_built}
+use Rattle.pt_trees.specs.Built.{IsBuilt, AreBuilt, built_actor, built_composite, none_built, more_built}
 use Rattle.pt_cover.specs.Leaves.{ActorsAreLeaves, AreStartedByClass}
 use Rattle.pt_cover.specs.Paths.{entity_at, text_of, HasOnePath, IsCover}
 use Rattle.pt_cover.proofs.Matching.{one_if, times_in, matching, children-match, AllPass, matching-none, matching-passes}
@@ -52,8 +52,7 @@ module _ (net : Net) (starts : Starts) (leaves : AreChildless net starts) where
   mutual
     texts-at : {k : ℕ} {s : Shown} (b : IsBuilt net starts k s) (p : Path) → text_at (outline_of s) p ≡ text_of es (entity_at es k p)
     texts-at {s = s} (built_actor k e a at undirected is) p = node-texts es k e s [] at refl refl (nothing-within k (leaves k e a at is)) p
-    texts-at (built_sdf k e kids s at sdf are is) p = node-texts es k e s kids at is.path_is is.children (texts-in are) p
-    texts-at (built_sr k e kids s at sr are is) p = node-texts es k e s kids at is.path_is is.children (texts-in are) p
+    texts-at (built_composite k e director kids s at directed are is) p = node-texts es k e s kids at is.path_is is.children (texts-in are) p
 
     texts-in : {ks : List ℕ} {kids : List Shown} (bs : AreBuilt net starts ks kids) → Alike es ks kids
     texts-in none_built = tt

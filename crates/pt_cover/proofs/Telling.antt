@@ -17,7 +17,7 @@ use Rattle.pt_node.specs.View.{outline_of, outlines_of, text_at, text_below}
 use Rattle.pt_trees.specs.Composite.{frame_in, children_in}
 use Rattle.pt_trees.specs.Trees.{IsEntity, Starts}
 use Rattle.pt_trees.specs.Recorded.{numbers_at, port_in, text_in, recorded_at, recorded_of}
-use Rattle.pt_trees.specs.Built.{IsBuilt, AreBuilt, built_actor, built_sdf, built_sr, none_built, more_built}
+use Rattle.pt_trees.specs.Built.{IsBuilt, AreBuilt, built_actor, built_composite, none_built, more_built}
 use Rattle.pt_trees.specs.Ports.{Listed, own_ports, seen_below, ports_in, ports_below, listed_if, of_number, by_number, recorded_ports}
 use Rattle.pt_cover.specs.Leaves.{ActorsAreLeaves, AreStartedByClass}
 use Rattle.pt_cover.specs.Told.{IsRecordedAt, AreTold}
@@ -156,8 +156,7 @@ module _ (net : Net) (starts : Starts) (recorded : AreRecorded net) where
   mutual
     all-told : {k : ℕ} {s : Shown} (b : IsBuilt net starts k s) → All (IsTold net s) (ports_in s)
     all-told {s = s} (built_actor k e a at undirected is) = all-append (IsTold net s) (own_ports (recorded_of net k e)) [] (own-all net s k e recorded at refl) tt
-    all-told (built_sdf k e kids s at sdf are is) = node-told net k e s kids recorded at is.path_is is.records_are is.children (all-told-in are)
-    all-told (built_sr k e kids s at sr are is) = node-told net k e s kids recorded at is.path_is is.records_are is.children (all-told-in are)
+    all-told (built_composite k e director kids s at directed are is) = node-told net k e s kids recorded at is.path_is is.records_are is.children (all-told-in are)
 
     all-told-in : {ks : List ℕ} {kids : List Shown} (bs : AreBuilt net starts ks kids) → KidsTold net kids
     all-told-in none_built = tt
