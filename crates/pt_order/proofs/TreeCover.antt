@@ -1,8 +1,8 @@
 -- Each entity of a net of which a tree is built is in that tree: a library actor that is started, or a composite with a director.
-use Rattle.std.proofs.Common.{◌≡◌, ◌<◌, ℕ, zero, suc, List, Bool, true, false, ◌&&◌, ◌||◌, cond, Option, Some, None, codes, bytes_eq, refl, sym, ap, subst, ◌∙◌, arith}
+use Rattle.std.proofs.Common.{◌≡◌, ◌<◌, ℕ, zero, suc, List, Bool, true, false, ◌||◌, cond, Option, Some, None, codes, bytes_eq, refl, sym, ap, subst, ◌∙◌, arith}
 use Rattle.std.specs.Prelude.{option_map}
 use Rattle.std.specs.Option.{option_or}
-use Rattle.std.proofs.lemmas.Bool.{both_ways, eq-eqb, and_parts}
+use Rattle.std.proofs.lemmas.Bool.{both_ways, eq-eqb}
 use Rattle.std.proofs.lemmas.Option.{none-some, same_Some, slice_get_within}
 use Rattle.std.proofs.lemmas.Slice.Eq.{bytes_eq-Decides}
 use Rattle.std.specs.List.{slice_get}
@@ -26,7 +26,8 @@ use Rattle.pt_library.specs.declared.library_actor.LibraryActor.{LibraryActor}
 use Rattle.pt_library.specs.declared.library_actor.LibraryActor.TheVariants.{Flow, Data, Time}
 use Rattle.pt_library.specs.LibraryActor.{start}
 use Rattle.pt_node.specs.View.{Tree}
-use Rattle.pt_trees.specs.Trees.{Starts, StartsAs, IsEntity, IsSdf, has_sdf, IsSr, has_sr, IsDirected, IsTree, of_actor, of_sdf, of_sr, AreTrees, no_trees, more_trees}
+use Rattle.pt_trees.specs.Trees.{Starts, StartsAs, IsEntity, IsDirected, IsTree, of_actor, of_composite, AreTrees, no_trees, more_trees}
+use Rattle.pt_trees.proofs.DirectorLaws.{is-directed}
 use Rattle.pt_cover.specs.Leaves.{ActorsAreLeaves, AreStartedByClass}
 use Rattle.pt_cover.proofs.Nesting.{get-within, net-nested, net-rooted}
 use Rattle.pt_cover.proofs.Nodes.{AreChildless, AreRooted}
@@ -68,28 +69,6 @@ actor-kind class kind e other = by-name (bytes_eq class (codes "Composite")) (by
 
 -- ---- the trees of entities
 
--- a composite of SDF has a director
-pub sdf-directed : (o : Option NetDirector) (b : Bool) → (b && has_sdf o) ≡ true → (d : NetDirector) × (o ≡ Some d)
-sdf-directed None true h = absurd (let e : false ≡ true = h in cc)
-sdf-directed None false h = absurd (let e : false ≡ true = h in cc)
-sdf-directed (Some d) b h = (d, refl)
-
-is-sdf : (e : NetEntity) → IsSdf e → IsDirected e
-is-sdf e sdf =
-    let w = sdf-directed e.director (bytes_eq e.class (codes "Composite")) sdf in
-    record { composite = (and_parts (bytes_eq e.class (codes "Composite")) (has_sdf e.director) sdf).0; director = w.0; has = w.1 }
-
--- and so has one of SR
-pub sr-directed : (o : Option NetDirector) (b : Bool) → (b && has_sr o) ≡ true → (d : NetDirector) × (o ≡ Some d)
-sr-directed None true h = absurd (let e : false ≡ true = h in cc)
-sr-directed None false h = absurd (let e : false ≡ true = h in cc)
-sr-directed (Some d) b h = (d, refl)
-
-is-sr : (e : NetEntity) → IsSr e → IsDirected e
-is-sr e sr =
-    let w = sr-directed e.director (bytes_eq e.class (codes "Composite")) sr in
-    record { composite = (and_parts (bytes_eq e.class (codes "Composite")) (has_sr e.director) sr).0; director = w.0; has = w.1 }
-
 module _ (job : JobTree) (net : Net) (starts : Starts) (top : Tree) (leaves : ActorsAreLeaves job) (is : IsNetOf job net) (by_class : AreStartedByClass net starts) (tree : IsTree net (StartsAs starts) 0 top) where
   abbrev HasTree : ℕ → Type 0
   HasTree k = (t : Tree) × IsTree net (StartsAs starts) k t
@@ -116,8 +95,7 @@ module _ (job : JobTree) (net : Net) (starts : Starts) (top : Tree) (leaves : Ac
   -- what stands in an entity that has a tree has one
   tree-below : {j : ℕ} {t : Tree} → IsTree net (StartsAs starts) j t → (k : ℕ) (e : NetEntity) → IsEntity net k e → e.parent ≡ Some j → HasTree k
   tree-below (of_actor j f a at undirected started) k e there round = absurd (both_ways (is_child j e) (alone j f a at started k e there) (number-of j e.parent round))
-  tree-below (of_sdf j f kids x p at sdf trees inside plan) k e there round = among-trees {ts = kids} j k e f at trees there round
-  tree-below (of_sr j f kids at sr trees wired) k e there round = among-trees {ts = kids} j k e f at trees there round
+  tree-below (of_composite j f director kids core at directed trees has) k e there round = among-trees {ts = kids} j k e f at trees there round
 
   tree-within : (n k : ℕ) → k < n → (e : NetEntity) → IsEntity net k e → HasTree k
   tree-within zero k below e at = absurd (omega (arith, below))
@@ -136,8 +114,7 @@ module _ (job : JobTree) (net : Net) (starts : Starts) (top : Tree) (leaves : Ac
 
   of-directed : {k : ℕ} {t : Tree} → IsTree net (StartsAs starts) k t → (e : NetEntity) (d : NetDirector) → IsEntity net k e → e.director ≡ Some d → IsDirected e
   of-directed (of_actor k f a there undirected started) e d at directed = let same : f ≡ e = same_Some f e (sym there ∙ at) in absurd (none-some d (sym (subst (λ (x : NetEntity). x.director ≡ None) same undirected) ∙ directed))
-  of-directed (of_sdf k f kids x p there sdf trees inside plan) e d at directed = subst IsDirected (same_Some f e (sym there ∙ at)) (is-sdf f sdf)
-  of-directed (of_sr k f kids there sr trees wired) e d at directed = subst IsDirected (same_Some f e (sym there ∙ at)) (is-sr f sr)
+  of-directed (of_composite k f director kids core there by trees has) e d at directed = subst IsDirected (same_Some f e (sym there ∙ at)) (is-directed f director by)
 
   -- one with a director is a composite
   pub directed-composite : (k : ℕ) (e : NetEntity) (d : NetDirector) → IsEntity net k e → e.director ≡ Some d → IsDirected e
@@ -145,8 +122,7 @@ module _ (job : JobTree) (net : Net) (starts : Starts) (top : Tree) (leaves : Ac
 
   of-holder : {j : ℕ} {t : Tree} → IsTree net (StartsAs starts) j t → (k : ℕ) (e : NetEntity) → IsEntity net k e → e.parent ≡ Some j → (f : NetEntity) × IsEntity net j f × IsDirected f
   of-holder (of_actor j f a at undirected started) k e there round = absurd (both_ways (is_child j e) (alone j f a at started k e there) (number-of j e.parent round))
-  of-holder (of_sdf j f kids x p at sdf trees inside plan) k e there round = (f, at, is-sdf f sdf)
-  of-holder (of_sr j f kids at sr trees wired) k e there round = (f, at, is-sr f sr)
+  of-holder (of_composite j f director kids core at directed trees has) k e there round = (f, at, is-directed f director directed)
 
   -- each entity but the top stands in one before it
   pub stands-in : (k : ℕ) (e : NetEntity) → IsEntity net k e → (k ≡ 0 → ⊥) → (j : ℕ) × (e.parent ≡ Some j)
@@ -169,8 +145,7 @@ module _ (job : JobTree) (net : Net) (starts : Starts) (top : Tree) (leaves : Ac
 
   of-undirected : {k : ℕ} {t : Tree} → IsTree net (StartsAs starts) k t → (e : NetEntity) → IsEntity net k e → e.director ≡ None → (a : LibraryActor) × StartsAs starts k a
   of-undirected (of_actor k f a there undirected started) e at none = (a, started)
-  of-undirected (of_sdf k f kids x p there sdf trees inside plan) e at none = absurd (not-directed e f (same_Some f e (sym there ∙ at)) (is-sdf f sdf) none)
-  of-undirected (of_sr k f kids there sr trees wired) e at none = absurd (not-directed e f (same_Some f e (sym there ∙ at)) (is-sr f sr) none)
+  of-undirected (of_composite k f director kids core there directed trees has) e at none = absurd (not-directed e f (same_Some f e (sym there ∙ at)) (is-directed f director directed) none)
 
   -- and one without is of a class of library actors
   pub undirected-class : (k : ℕ) (e : NetEntity) → IsEntity net k e → e.director ≡ None → is_composite_class e.class ≡ false
