@@ -5,7 +5,7 @@ use Rattle.std.proofs.lemmas.List.Sums.{length-filter}
 use Rattle.std.proofs.lemmas.List.Elements.{recursion_from_All}
 use Rattle.std.proofs.lemmas.Option.{same_Some}
 use Rattle.std.proofs.lemmas.Bool.{eqb-true}
-use Rattle.std.specs.Prelude.{codes, bytes_eq, filter, count_by}
+use Rattle.std.specs.Prelude.{filter, count_by}
 use Rattle.std.specs.List.{AllByRecursion, Contains}
 use Rattle.pt_meaning.specs.Basics.{Streams}
 use Rattle.pt_meaning.specs.Streams.{get}
@@ -14,8 +14,10 @@ use Rattle.pt_meaning.specs.Running.{total}
 use Rattle.pt_meaning.specs.Kahn.{skip_places}
 use Rattle.pt_meaning.specs.Sdf.{SdfPlan, unfed}
 use Rattle.pt_meaning.specs.Start.{first_of_node, first_of, first_held}
-use Rattle.pt_meaning.specs.Tree.{list_of, nodes_of, Actor, Composite}
+use Rattle.pt_meaning.specs.Tree.{Core, list_of, nodes_of, Actor, Composite}
 use Rattle.pt_value.specs.declared.token.Token.{Token}
+use Rattle.pt_document.specs.declared.classes.Director.{Director}
+use Rattle.pt_document.specs.declared.classes.Director.TheVariants.{Sdf, Pn, Rendezvous, Sr, De}
 use Rattle.pt_document.specs.declared.job.Port.{Port}
 use Rattle.pt_datatypes.specs.Datatype.{Datatype}
 use Rattle.pt_datatypes.specs.Order.{IsBelow}
@@ -35,14 +37,15 @@ use Rattle.pt_plan.specs.PlanOf.{IsPlanOf}
 use Rattle.pt_plan.specs.Unfed as own_inputs
 use Rattle.pt_plan.proofs.UnfedLaws.{unfed-below}
 use Rattle.pt_node.specs.View.{Tree}
-use Rattle.pt_trees.specs.Around.{IsInsideOf}
+use Rattle.pt_trees.specs.Sdf.{IsInsideOf}
+use Rattle.pt_trees.specs.Directors.{composing}
 use Rattle.pt_trees.specs.Rates.{rates_of}
-use Rattle.pt_trees.specs.Trees.{Starts, StartsAs, around_in, IsTree, of_actor, of_sdf, of_sr, AreTrees, no_trees, more_trees}
-use Rattle.pt_order.proofs.TreeCover.{sdf-directed, sr-directed}
+use Rattle.pt_trees.specs.Trees.{Starts, StartsAs, around_in, IsTree, of_actor, of_composite, AreTrees, no_trees, more_trees}
+use Rattle.pt_trees.proofs.DirectorLaws.{is-directed}
 use Rattle.pt_kinds.specs.Signature.{Signatures, AreOf, AreAllOf}
 use Rattle.pt_typed.specs.TokenTypes.{IsTokenOf}
 use Rattle.pt_typed.specs.TypedActor.{MeetsRow, IsTypedActor}
-use Rattle.pt_kinds.specs.TypedTree.{kind_of, kinds_from, kind_before, kinds_at, kinds_in, AreSized, AreFed, IsTypedNet, IsTypedSdf, IsTypedNode, AreTypedNodes}
+use Rattle.pt_kinds.specs.TypedTree.{kind_of, kinds_from, kind_before, kinds_at, kinds_in, AreSized, AreFed, IsTypedNet, IsTypedSdf, IsTypedCore, IsTypedNode, AreTypedNodes}
 use Rattle.pt_typed.specs.NetTypes.{number_if, port_numbers, source_type, place_type, TypesGoUp, types_below, IsWired}
 use Rattle.pt_typed.specs.TypedNet.{MeetRows, TreesAreTyped}
 use Rattle.pt_kinds.proofs.StreamLaws.{all-mono}
@@ -88,8 +91,7 @@ module _ (net : Net) (typing : Assignment) (starts : Starts) (wired : IsWired ne
   first-meets : {c : ℕ} {t : Tree} → IsTree net (StartsAs starts) c t → FirstMeets c t
   unfolding FirstMeets
   first-meets (of_actor k e a at undirected start) = meet k a start
-  first-meets (of_sdf k e kids x p at sdf trees inside plan) = tt
-  first-meets (of_sr k e kids at sr trees around) = tt
+  first-meets (of_composite k e by kids c at directed trees has) = tt
 
   kid-at : {cs : List ℕ} {ts : List Tree} → AreTrees net (StartsAs starts) cs ts → (i : ℕ) (t : Tree) → get ts i ≡ Some t → (c : ℕ) × (slice_get cs i ≡ Some c) × FirstMeets c t
   kid-at no_trees i t e = absurd (cc)
@@ -189,8 +191,8 @@ module _ (net : Net) (typing : Assignment) (starts : Starts) (wired : IsWired ne
         let us = own_inputs.unfed x in
         subst (λ n. AllByRecursion (λ port. port < n) us) (count ∙ sym inputs-count) (recursion_from_All (λ port. port < x.inputs) us (unfed-below x.sources.items x.inputs))
 
-    core-typed : (x : Inside) (p : SdfPlan) → IsInsideOf (around_in net k e) kids x → IsPlanOf x p → IsTypedSdf {A = LibraryActor} IsTokenOf IsBelow IsTypedActor sigs (length (list_of (nodes_of kids))) p (first_held rows kids p.net.sources)
-    core-typed x p inside plan =
+    sdf-typed : (x : Inside) (p : SdfPlan) → IsInsideOf (around_in net k e) kids x → IsPlanOf x p → IsTypedSdf {A = LibraryActor} IsTokenOf IsBelow IsTypedActor sigs (length (list_of (nodes_of kids))) p (first_held rows kids p.net.sources)
+    sdf-typed x p inside plan =
         let us = own_inputs.unfed x in
         let there = unfed-there x inside.inputs in
         let are-places : p.net.places ≡ places = ap (λ n. n.places) plan.net ∙ inside.places in
@@ -220,17 +222,22 @@ module _ (net : Net) (typing : Assignment) (starts : Starts) (wired : IsWired ne
       fed = subst (λ cs. AreFed {A = LibraryActor} IsTokenOf IsBelow IsTypedActor sigs cs (kinds_from sigs [] 0 places)) (append-nil ending) (fed-of [] tt);
     }
 
+    -- so it is with the core that a director makes
+    core-typed : (by : Director) (c : Core Token) → (composing by).IsCore (around_in net k e) kids c → IsTypedCore {A = LibraryActor} IsTokenOf IsBelow IsTypedActor sigs (length (list_of (nodes_of kids))) c
+    core-typed Sdf c has = subst (λ v. IsTypedCore {A = LibraryActor} IsTokenOf IsBelow IsTypedActor sigs (length (list_of (nodes_of kids))) v) (sym has.is) (sdf-typed has.inside has.plan has.is_inside has.planned)
+    core-typed Sr c has = subst (λ v. IsTypedCore {A = LibraryActor} IsTokenOf IsBelow IsTypedActor sigs (length (list_of (nodes_of kids))) v) (sym has.is) tick-typed
+    core-typed De c has = absurd has
+    core-typed Pn c has = absurd has
+    core-typed Rendezvous c has = absurd has
+
   -- ---- the tree
 
   mutual
     tree-typed : {k : ℕ} {t : Tree} → IsTree net (StartsAs starts) k t → IsTypedNode IsTokenOf IsBelow IsTypedActor (types_below net typing k) t
     tree-typed (of_actor k e a at undirected start) = rows-type (types_below net typing k []) a (meet k a start)
-    tree-typed (of_sdf k e kids x p at sdf trees inside plan) =
-        let w = sdf-directed e.director (bytes_eq e.class (codes "Composite")) sdf in
-        (core-typed k e w.0 at w.1 kids trees x p inside plan, trees-typed trees k e w.0 at w.1 0 (λ j c h. ap (slice_get (children_of net.entities.items k)) (let z : 0 + j ≡ j = omega arith in z) ∙ h))
-    tree-typed (of_sr k e kids at sr trees around) =
-        let w = sr-directed e.director (bytes_eq e.class (codes "Composite")) sr in
-        (tick-typed k e w.0 at w.1 kids trees, trees-typed trees k e w.0 at w.1 0 (λ j c h. ap (slice_get (children_of net.entities.items k)) (let z : 0 + j ≡ j = omega arith in z) ∙ h))
+    tree-typed (of_composite k e by kids c at directed trees has) =
+        let w = is-directed e by directed in
+        (core-typed k e w.director at w.has kids trees by c has, trees-typed trees k e w.director at w.has 0 (λ j c h. ap (slice_get (children_of net.entities.items k)) (let z : 0 + j ≡ j = omega arith in z) ∙ h))
 
     trees-typed : {cs : List ℕ} {ts : List Tree} → AreTrees net (StartsAs starts) cs ts → (k : ℕ) (e : NetEntity) (d : NetDirector) → slice_get net.entities.items k ≡ Some e → e.director ≡ Some d → (i : ℕ) → ((j c : ℕ) → slice_get cs j ≡ Some c → slice_get (children_of net.entities.items k) (i + j) ≡ Some c) →
         AreTypedNodes IsTokenOf IsBelow IsTypedActor (types_below net typing k) i (nodes_of ts)
