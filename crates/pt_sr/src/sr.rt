@@ -53,10 +53,8 @@ impl Model for Core {
 }
 
 impl Core {
-    ghost use Rattle.std.specs.Prelude.{◌≡◌, ◌↔◌, ◌-◌, ◌<◌, ◌≤◌, [], ◌∷◌, length, map, replicate, List, IfOk, IfSome, IsSome, IsTrue, OnOk, OnErr, Option, Some, None};
-    ghost use Rattle.pt_meaning.specs.Basics as basics;
+    ghost use Rattle.std.specs.Prelude.{◌≡◌, ◌↔◌, ◌-◌, ◌<◌, ◌≤◌, [], ◌∷◌, length, map, replicate, IfOk, IfSome, IsSome, IsTrue, OnOk, OnErr, Some};
     ghost use Rattle.pt_meaning.specs.Running.{total};
-    ghost use Rattle.pt_value.specs.declared.token.Token.{Token};
     ghost use Rattle.pt_value.specs.declared.token.Token.TheVariants.{Int};
     ghost use Rattle.pt_sr.specs.State.{Idle, Open, Closed, asked_child, listened_child, lent_of, inputs_of, own_of, started, restarted, begun, after_told, after_heard, closed};
     ghost use Rattle.pt_sr.specs.Clauses.{MayAsk, IsAsked};

@@ -1,4 +1,4 @@
-use Rattle.std.proofs.Common.{◌≡◌, w64, SFits, rules, true, [], ◌∷◌, map, ap, subst, ◌∙◌, sym, arith, length-set}
+use Rattle.std.proofs.Common.{◌≡◌, w64, SFits, rules, true, [], ◌∷◌, map, subst, ◌∙◌, arith, length-set}
 use Rattle.std.proofs.lemmas.Int.{to_z-of_z}
 use Rattle.pt_value.specs.declared.token.Token.TheVariants.{Int}
 use Rattle.pt_sr.specs.State.{all_of}
