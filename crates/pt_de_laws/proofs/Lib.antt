@@ -13,3 +13,4 @@ pub mod SayLaws
 pub mod LeftLaws
 pub mod SoFarLaws
 pub mod ActsLaws
+pub mod ComesLaws

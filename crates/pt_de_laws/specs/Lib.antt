@@ -3,3 +3,4 @@ pub mod Lawful
 pub mod Chain
 pub mod SoFar
 pub mod DeActs
+pub mod Comes

@@ -3,4 +3,4 @@
 
 mod laws;
 
-pub use laws::{calls_are_de, de_is_lawful};
+pub use laws::{calls_are_de, de_is_lawful, something_comes};
