@@ -1,6 +1,7 @@
 -- The answer for a composite that isn't built stands.
 use Rattle.std.proofs.Common.{◌≡◌, ℕ, List, [], ◌∷◌, ◌++◌, ◌+◌, ◌<◌, length, take, map, get_or, sym, ap, subst, ◌∙◌}
 use Rattle.std.proofs.lemmas.List.{take_more}
+use Rattle.pt_document.specs.declared.classes.Director.{Director}
 use Rattle.pt_net.specs.declared.net.Net.{Net}
 use Rattle.pt_net.specs.declared.net.NetEntity.{NetEntity}
 use Rattle.pt_net.specs.Inside.{children_of}
@@ -9,31 +10,23 @@ use Rattle.pt_node.specs.Shown.{Shown, shown, shown_node}
 use Rattle.pt_node.proofs.Link.{shown-node}
 use Rattle.pt_trees.specs.declared.composite_fault.CompositeFault.{CompositeFault}
 use Rattle.pt_trees.specs.declared.composite_fault.CompositeFault.TheVariants as composite_fault
-use Rattle.pt_trees.specs.Composite.{SdfFaultStands, SrFaultStands}
+use Rattle.pt_trees.specs.Composite.{trees_of, CompositeFaultStands}
+use Rattle.pt_trees.specs.Directors.{IsDirectedBy, composing}
 use Rattle.pt_trees.specs.Fresh.{IsFresh, AllFresh}
 use Rattle.pt_trees.specs.declared.build_fault.BuildFault.{BuildFault}
 use Rattle.pt_trees.specs.declared.build_fault.BuildFault.TheVariants.{Refused, Unbuilt, Memory}
-use Rattle.pt_trees.specs.Trees.{IsEntity, IsSdf, IsSr, around_in, Starts}
-use Rattle.pt_trees.specs.Built.{AreBuilt, IsBuilt, IsToldAs, BuildFaultStands, unsteady, malformed, unwired}
+use Rattle.pt_trees.specs.Trees.{IsEntity, around_in, Starts}
+use Rattle.pt_trees.specs.Built.{AreBuilt, IsBuilt, IsToldAs, BuildFaultStands, misfit}
 use Rattle.pt_build.proofs.TreeLaws.{built-snoc, fresh-snoc}
 
--- of SDF
-pub sdf-stands : (net : Net) (starts : Starts) (k : ℕ) (e : NetEntity) (kids : List Shown) (fault : CompositeFault) (answer : BuildFault) → IsEntity net k e → IsSdf e → AreBuilt net starts (children_of net.entities.items k) kids →
-    SdfFaultStands (around_in net k e) kids fault → IsToldAs fault e.path answer → BuildFaultStands net starts answer
-sdf-stands net starts k e kids composite_fault.Unsteady answer at sdf all stands told = subst (λ f. BuildFaultStands net starts f) (sym told) (unsteady k e kids at sdf all stands)
-sdf-stands net starts k e kids composite_fault.Malformed answer at sdf all stands told = subst (λ f. BuildFaultStands net starts f) (sym told) (malformed k e kids at sdf all stands)
-sdf-stands net starts k e kids (composite_fault.Unplanned fault) (Refused r) at sdf all stands told = record { number = k; entity = e; at = at; sdf = sdf; kids = kids; built = all; inside = stands.0; is_inside = stands.1; fault = fault; stands = stands.2; code_is = told.0; path_is = told.1 }
-sdf-stands net starts k e kids (composite_fault.Unplanned fault) Unbuilt at sdf all stands told = absurd told
-sdf-stands net starts k e kids (composite_fault.Unplanned fault) Memory at sdf all stands told = tt
-sdf-stands net starts k e kids composite_fault.Memory answer at sdf all stands told = subst (λ f. BuildFaultStands net starts f) (sym told) tt
-
--- of SR
-pub sr-stands : (net : Net) (starts : Starts) (k : ℕ) (e : NetEntity) (kids : List Shown) (fault : CompositeFault) (answer : BuildFault) → IsEntity net k e → IsSr e → AreBuilt net starts (children_of net.entities.items k) kids →
-    SrFaultStands (around_in net k e) kids fault → IsToldAs fault e.path answer → BuildFaultStands net starts answer
-sr-stands net starts k e kids composite_fault.Unsteady answer at sr all stands told = absurd stands
-sr-stands net starts k e kids composite_fault.Malformed answer at sr all stands told = subst (λ f. BuildFaultStands net starts f) (sym told) (unwired k e kids at sr all stands)
-sr-stands net starts k e kids (composite_fault.Unplanned fault) answer at sr all stands told = absurd stands
-sr-stands net starts k e kids composite_fault.Memory answer at sr all stands told = subst (λ f. BuildFaultStands net starts f) (sym told) tt
+pub fault-stands : (net : Net) (starts : Starts) (k : ℕ) (e : NetEntity) (director : Director) (kids : List Shown) (fault : CompositeFault) (answer : BuildFault) → IsEntity net k e → IsDirectedBy e director → AreBuilt net starts (children_of net.entities.items k) kids →
+    CompositeFaultStands director (around_in net k e) kids fault → IsToldAs fault e.path answer → BuildFaultStands net starts answer
+fault-stands net starts k e director kids composite_fault.Unbuilt answer at directed all stands told = subst (λ f. BuildFaultStands net starts f) (sym told) (misfit k e director kids at directed all stands)
+fault-stands net starts k e director kids (composite_fault.Refused code) (Refused r) at directed all stands told =
+    record { number = k; entity = e; at = at; director = director; directed = directed; kids = kids; built = all; refused = subst (λ c. (composing director).IsRefused (around_in net k e) (trees_of kids) c) (sym told.0) stands; path_is = told.1 }
+fault-stands net starts k e director kids (composite_fault.Refused code) Unbuilt at directed all stands told = absurd told
+fault-stands net starts k e director kids (composite_fault.Refused code) Memory at directed all stands told = tt
+fault-stands net starts k e director kids composite_fault.Memory answer at directed all stands told = subst (λ f. BuildFaultStands net starts f) (sym told) tt
 
 shown-append : (kids : List Node) (node : Node) → map shown (kids ++ node ∷ []) ≡ map shown kids ++ shown_node node ∷ []
 shown-append [] node = ap (λ s. s ∷ []) (shown-node node)

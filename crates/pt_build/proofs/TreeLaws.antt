@@ -8,15 +8,14 @@ use Rattle.pt_node.specs.View.{node_of}
 use Rattle.pt_trees.specs.Composite.{trees_of}
 use Rattle.pt_trees.specs.Fresh.{AreEmpty, IsFresh, AllFresh}
 use Rattle.pt_trees.specs.Rates.{IsStarted, AllStarted}
-use Rattle.pt_trees.specs.Trees.{Starts, StartsAs, AreStarted, IsTree, AreTrees, of_actor, of_sdf, of_sr, no_trees, more_trees}
-use Rattle.pt_trees.specs.Built.{IsBuilt, AreBuilt, built_actor, built_sdf, built_sr, none_built, more_built, actor_node}
+use Rattle.pt_trees.specs.Trees.{Starts, StartsAs, AreStarted, IsTree, AreTrees, of_actor, of_composite, no_trees, more_trees}
+use Rattle.pt_trees.specs.Built.{IsBuilt, AreBuilt, built_actor, built_composite, none_built, more_built, actor_node}
 
 mutual
   pub built-tree : {net : Net} {starts : Starts} {k : ℕ} {s : Shown} → IsBuilt net starts k s → IsTree net (StartsAs starts) k (node_of s)
   built-tree (built_actor k e a at undirected is) = of_actor k e a at undirected is
-  built-tree {net = net} {starts = starts} (built_sdf k e kids s at sdf all is) =
-      subst (λ t. IsTree net (StartsAs starts) k t) (sym is.node) (of_sdf k e (trees_of kids) is.inside is.plan at sdf (built-trees all) is.is_inside is.planned)
-  built-tree {net = net} {starts = starts} (built_sr k e kids s at sr all is) = subst (λ t. IsTree net (StartsAs starts) k t) (sym is.node) (of_sr k e (trees_of kids) at sr (built-trees all) is.wired)
+  built-tree {net = net} {starts = starts} (built_composite k e director kids s at directed all is) =
+      subst (λ t. IsTree net (StartsAs starts) k t) (sym is.node) (of_composite k e director (trees_of kids) is.core at directed (built-trees all) is.is_core)
 
   pub built-trees : {net : Net} {starts : Starts} {ks : List ℕ} {ss : List Shown} → AreBuilt net starts ks ss → AreTrees net (StartsAs starts) ks (trees_of ss)
   built-trees none_built = no_trees
@@ -42,8 +41,7 @@ actor-fresh a path records empty = record { live = refl; fit = (tt, tt); start =
 -- where each start comes from parameters, so does each library actor that is built
 one-started : {net : Net} {starts : Starts} {k : ℕ} {s : Shown} → AreStarted starts → IsBuilt net starts k s → IsStarted (node_of s)
 one-started started (built_actor k e a at undirected is) = started k a is
-one-started started (built_sdf k e kids s at sdf all is) = subst (λ t. IsStarted t) (sym is.node) tt
-one-started started (built_sr k e kids s at sr all is) = subst (λ t. IsStarted t) (sym is.node) tt
+one-started started (built_composite k e director kids s at directed all is) = subst (λ t. IsStarted t) (sym is.node) tt
 
 pub all-started : {net : Net} {starts : Starts} {ks : List ℕ} {ss : List Shown} → AreStarted starts → AreBuilt net starts ks ss → AllStarted (trees_of ss)
 all-started started none_built i kid e = absurd (cc)

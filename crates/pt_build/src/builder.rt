@@ -2,17 +2,16 @@ ghost use Rattle.std.specs.Prelude.{◌≡◌, ◌≤◌, ◌<◌, IfOk, true, f
 ghost use Rattle.pt_node.specs.Shown.{shown_node};
 ghost use Rattle.pt_trees.specs.Built.{IsToldAs, held_node};
 
-use crate::entities::{Kind, entity_in, is_undirected, kind_of, start_in};
+use crate::entities::{director_of, entity_in, is_undirected, start_in};
 use crate::numbering::{numbers_at, record_lists};
 use crate::records::records_of;
 use crate::wiring::{inputs_of, narrow_sources, outputs_of};
-use pt_composite::{sdf_composite, sr_composite};
-use pt_document::{Code, Refusal};
+use pt_composite::composite;
+use pt_document::{Director, Refusal};
 use pt_firing::{Counts, Fires};
 use pt_library::LibraryActor;
 use pt_net::{Net, NetEntity};
 use pt_node::{Body, Held, Node, Past, Records};
-use pt_plan::PlanFault;
 use pt_trees::{BuildFault, CompositeFault, Wiring};
 use pt_value::Text;
 use pt_wiring::{Insides, Numbers};
@@ -50,18 +49,13 @@ fn is_deepest(depth: u32) -> bool
 fn fault_at(alloc: Global, fault: CompositeFault, path: &Text) -> BuildFault
     ensures { IsToldAs fault path.now result }
 {
-    let code = match fault {
-        CompositeFault::Unsteady | CompositeFault::Malformed => return BuildFault::Unbuilt,
-        CompositeFault::Unplanned(PlanFault::Rates) => Code::Rates,
-        CompositeFault::Unplanned(PlanFault::Limit) => Code::Limit,
-        CompositeFault::Unplanned(PlanFault::Deadlock) => Code::SdfDeadlock,
-        CompositeFault::Unplanned(PlanFault::Memory) | CompositeFault::Memory => {
-            return BuildFault::Memory;
-        }
-    };
-    match path.copy(alloc) {
-        Ok(path) => BuildFault::Refused(Refusal { code, path }),
-        Err(_) => BuildFault::Memory,
+    match fault {
+        CompositeFault::Unbuilt => BuildFault::Unbuilt,
+        CompositeFault::Refused(code) => match path.copy(alloc) {
+            Ok(path) => BuildFault::Refused(Refusal { code, path }),
+            Err(_) => BuildFault::Memory,
+        },
+        CompositeFault::Memory => BuildFault::Memory,
     }
 }
 
@@ -99,9 +93,9 @@ impl<'a> Builder<'a> {
     ghost use Rattle.pt_trees.specs.Around.{around_of};
     ghost use Rattle.pt_trees.specs.Fresh.{IsFresh, AllFresh};
     ghost use Rattle.pt_trees.specs.Recorded.{recorded_of};
-    ghost use Rattle.pt_trees.specs.Trees.{IsEntity, IsSdf, IsSr, IsUndirected, AreStarted, StartsAs, around_in};
+    ghost use Rattle.pt_trees.specs.Directors.{IsDirectedBy};
+    ghost use Rattle.pt_trees.specs.Trees.{IsEntity, IsUndirected, AreStarted, StartsAs, around_in};
     ghost use Rattle.pt_trees.specs.Built.{IsBuilt, AreBuilt, IsNested, BuildFaultStands};
-    ghost use Rattle.pt_build.specs.Kinds.{IsOfKind};
     ghost use Rattle.pt_build.specs.Reached.{IsPrepared, IsReached, HasRoom};
 
     pub(crate) fn of(
@@ -207,94 +201,58 @@ impl<'a> Builder<'a> {
         })
     }
 
-    /// The node of an SDF composite round its children.
-    fn sdf_at(
-        &self,
-        alloc: Global,
-        k: usize,
-        entity: &NetEntity,
-        children: Vec<Node>,
-    ) -> Result<Node, BuildFault>
-        requires prepared { IsPrepared self.now }
-        requires started { AreStarted self.now.starts.now }
-        requires entity { IsEntity self.now.net.now k entity.now }
-        requires sdf { IsSdf entity.now }
-        requires children { AreBuilt self.now.net.now self.now.starts.now (children_of self.now.net.now.entities.items k) (map shown children.items) }
-        requires fresh { AllFresh (map shown children.items) }
-        ensures built { IfOk result (λ node. IsBuilt self.now.net.now self.now.starts.now k (shown_node node)) }
-        ensures fresh { IfOk result (λ node. IsFresh (shown_node node)) }
-        ensures stands { IfErr result (BuildFaultStands self.now.net.now self.now.starts.now) }
-    {
-        let frame = self.frame_of(alloc, k, entity)?;
-        match sdf_composite(alloc, children, frame.wiring, frame.path, frame.records) {
-            Ok(node) => Ok(node),
-            Err(fault) => Err(fault_at(alloc, fault, &entity.path)),
-        }
-    }
-
-    /// The node of an SR composite round its children.
-    fn sr_at(
-        &self,
-        alloc: Global,
-        k: usize,
-        entity: &NetEntity,
-        children: Vec<Node>,
-    ) -> Result<Node, BuildFault>
-        requires prepared { IsPrepared self.now }
-        requires entity { IsEntity self.now.net.now k entity.now }
-        requires sr { IsSr entity.now }
-        requires children { AreBuilt self.now.net.now self.now.starts.now (children_of self.now.net.now.entities.items k) (map shown children.items) }
-        requires fresh { AllFresh (map shown children.items) }
-        ensures built { IfOk result (λ node. IsBuilt self.now.net.now self.now.starts.now k (shown_node node)) }
-        ensures fresh { IfOk result (λ node. IsFresh (shown_node node)) }
-        ensures stands { IfErr result (BuildFaultStands self.now.net.now self.now.starts.now) }
-    {
-        let frame = self.frame_of(alloc, k, entity)?;
-        match sr_composite(alloc, children, frame.wiring, frame.path, frame.records) {
-            Ok(node) => Ok(node),
-            Err(fault) => Err(fault_at(alloc, fault, &entity.path)),
-        }
-    }
-
-    /// The node of a composite round its children, by its director.
+    /// The node of a composite with this director round its children.
     fn composite_at(
         &self,
         alloc: Global,
         k: usize,
-        kind: Kind,
+        director: Director,
         entity: &NetEntity,
         children: Vec<Node>,
     ) -> Result<Node, BuildFault>
         requires prepared { IsPrepared self.now }
         requires started { AreStarted self.now.starts.now }
         requires entity { IsEntity self.now.net.now k entity.now }
-        requires kind { IsOfKind kind entity.now }
+        requires directed { IsDirectedBy entity.now director }
         requires children { AreBuilt self.now.net.now self.now.starts.now (children_of self.now.net.now.entities.items k) (map shown children.items) }
         requires fresh { AllFresh (map shown children.items) }
         ensures built { IfOk result (λ node. IsBuilt self.now.net.now self.now.starts.now k (shown_node node)) }
         ensures fresh { IfOk result (λ node. IsFresh (shown_node node)) }
         ensures stands { IfErr result (BuildFaultStands self.now.net.now self.now.starts.now) }
     {
-        match kind {
-            Kind::Sdf => self.sdf_at(alloc, k, entity, children),
-            Kind::Sr => self.sr_at(alloc, k, entity, children),
+        let frame = self.frame_of(alloc, k, entity)?;
+        match composite(
+            alloc,
+            director,
+            children,
+            frame.wiring,
+            frame.path,
+            frame.records,
+        ) {
+            Ok(node) => Ok(node),
+            Err(fault) => Err(fault_at(alloc, fault, &entity.path)),
         }
     }
 
-    /// The director of the entity, which isn't a library actor, if it is a composite that is built and that documents can have at this depth.
-    fn check_composite(&self, k: usize, depth: u32, entity: &NetEntity) -> Result<Kind, BuildFault>
+    /// The director of the entity, which isn't a library actor, if it is a composite that documents can have at this depth.
+    fn check_composite(
+        &self,
+        k: usize,
+        depth: u32,
+        entity: &NetEntity,
+    ) -> Result<Director, BuildFault>
         requires reached { IsReached self.now k depth }
         requires entity { IsEntity self.now.net.now k entity.now }
         requires directed { IsUndirected entity.now → ⊥ }
-        ensures kind { IfOk result (λ kind. IsOfKind kind entity.now) }
+        ensures director { IfOk result (IsDirectedBy entity.now) }
         ensures room { IfOk result (λ _. HasRoom self.now k depth) }
         ensures stands { IfErr result (BuildFaultStands self.now.net.now self.now.starts.now) }
     {
         if is_deepest(depth) {
             return Err(BuildFault::Unbuilt);
         }
-        match kind_of(entity) {
-            Some(kind) => Ok(kind),
+        match director_of(entity) {
+            Some(director) => Ok(director),
             None => Err(BuildFault::Unbuilt),
         }
     }
@@ -320,9 +278,9 @@ impl<'a> Builder<'a> {
         if is_undirected(entity) {
             return self.actor_at(alloc, k, entity);
         }
-        let kind = self.check_composite(k, depth, entity)?;
+        let director = self.check_composite(k, depth, entity)?;
         let children = self.children_at(alloc, k, depth)?;
-        self.composite_at(alloc, k, kind, entity, children)
+        self.composite_at(alloc, k, director, entity, children)
     }
 
     /// The nodes of the children of a composite, which stands below so many composites.

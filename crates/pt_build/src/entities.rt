@@ -1,17 +1,11 @@
 ghost use Rattle.std.specs.Prelude.{◌≡◌, IfSome, IfNone, Some, None, true, false, slice_get};
 ghost use Rattle.pt_library.specs.declared.library_actor.LibraryActor.{LibraryActor};
-ghost use Rattle.pt_trees.specs.Trees.{is_sdf, is_sr, IsUndirected, StartsAs};
-ghost use Rattle.pt_build.specs.Kinds.{IsOfKind};
+ghost use Rattle.pt_trees.specs.Directors.{named, director_of};
+ghost use Rattle.pt_trees.specs.Trees.{IsUndirected, StartsAs};
 
+use pt_document::{Director, director_named};
 use pt_library::LibraryActor;
-use pt_net::NetEntity;
-
-/// The directors of composites that are built.
-#[derive(Clone, Copy, Debug)]
-pub(crate) enum Kind {
-    Sdf,
-    Sr,
-}
+use pt_net::{NetDirector, NetEntity};
 
 /// The entity of that number, if there is one.
 pub(crate) fn entity_in(entities: &[NetEntity], k: usize) -> Option<&NetEntity>
@@ -47,38 +41,26 @@ pub(crate) fn is_undirected(entity: &NetEntity) -> bool
     }
 }
 
-/// Whether the entity is a composite with the SDF director.
-fn is_sdf(entity: &NetEntity) -> bool
-    ensures { result ≡ is_sdf entity.now }
+/// The director of the class that a property names.
+fn named(director: &Option<NetDirector>) -> Option<Director>
+    ensures { result ≡ named director.now }
 {
-    match &entity.director {
-        Some(director) => {
-            entity.class.as_str() == "Composite" && director.class.as_str() == "SDF"
-        }
-        None => false,
+    match director {
+        Some(director) => match director_named(director.class.as_str()) {
+            Some(row) => Some(row.director),
+            None => None,
+        },
+        None => None,
     }
 }
 
-/// Whether the entity is a composite with the SR director.
-fn is_sr(entity: &NetEntity) -> bool
-    ensures { result ≡ is_sr entity.now }
+/// The director of the entity, if it is a composite with one.
+pub(crate) fn director_of(entity: &NetEntity) -> Option<Director>
+    ensures { result ≡ director_of entity.now }
 {
-    match &entity.director {
-        Some(director) => entity.class.as_str() == "Composite" && director.class.as_str() == "SR",
-        None => false,
+    if entity.class.as_str() == "Composite" {
+        named(&entity.director)
+    } else {
+        None
     }
-}
-
-/// The director of the entity, if it is a composite that is built.
-pub(crate) fn kind_of(entity: &NetEntity) -> Option<Kind>
-    ensures some { IfSome result (λ kind. IsOfKind kind entity.now) }
-    ensures none { result ≡ None → (is_sdf entity.now ≡ false) × (is_sr entity.now ≡ false) }
-{
-    if is_sdf(entity) {
-        return Some(Kind::Sdf);
-    }
-    if is_sr(entity) {
-        return Some(Kind::Sr);
-    }
-    None
 }

@@ -1,11 +1,13 @@
 -- The inside that is made, and that there is no other.
-use Rattle.std.proofs.Common.{◌≡◌, ℕ, List, [], ◌∷◌, length, map, Option, refl, sym, ap, ap₂, ◌∙◌}
+use Rattle.std.proofs.Common.{◌≡◌, ℕ, List, [], ◌∷◌, length, map, Option, None, inl, inr, refl, sym, ap, ap₂, ◌∙◌}
 use Rattle.pt_meaning.specs.Running.{total}
 use Rattle.pt_plan.specs.declared.inside.Inside.{Inside}
 use Rattle.pt_plan.specs.Inside.{IsInside}
 use Rattle.pt_node.specs.View.{Tree}
-use Rattle.pt_trees.specs.Around.{Around, IsInsideOf, HasInside}
-use Rattle.pt_composite.specs.Needs.{NeedAll}
+use Rattle.pt_trees.specs.Around.{Around}
+use Rattle.pt_trees.specs.Sdf.{IsInsideOf, HasInside, IsUnplannable}
+use Rattle.pt_trees.specs.Rates.{AreRates, HasUnsteady}
+use Rattle.pt_composite.specs.Needs.{NeedAll, AreNeeds}
 use Rattle.pt_composite.proofs.NeedLaws.{planned-same}
 use Rattle.pt_composite.proofs.PlanLaws.{sources-same, inside-same}
 
@@ -26,3 +28,14 @@ pub none-formed : (around : Around) (kids : List Tree) (x : Inside) → IsInside
 none-formed around kids x is counted not (y, same, formed) =
     let all : NeedAll kids around.places y.needs = inside-needs around kids y same formed in
     not (inside-same y x (sources-same y.sources.items x.sources.items (same.sources ∙ sym is.sources)) (same.places ∙ sym is.places) (planned-same around.places y.needs x.needs all.counted counted (sym same.needs ∙ is.needs)) (somes-same y.rates.items x.rates.items (same.rates ∙ sym is.rates)) (same.first ∙ sym is.first) (same.inputs ∙ sym is.inputs) (same.outputs ∙ sym is.outputs) formed)
+
+-- ---- why SDF doesn't plan it
+
+pub by-steady : (around : Around) (kids : List Tree) → HasUnsteady kids → IsUnplannable around kids
+by-steady around kids some = inl some
+
+pub by-rates : (around : Around) (kids : List Tree) → AreRates kids None → IsUnplannable around kids
+by-rates around kids some = inl (some.0, some.1, some.2.0, inr some.2.1)
+
+pub by-needs : (around : Around) (kids : List Tree) → AreNeeds kids around.places None → IsUnplannable around kids
+by-needs around kids none = inr (λ h. none h.0.needs (inside-needs around kids h.0 h.1.0 h.1.1))

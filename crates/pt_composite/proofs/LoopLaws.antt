@@ -13,7 +13,7 @@ use Rattle.pt_node.specs.declared.node.Node.{Node}
 use Rattle.pt_node.specs.Shown.{shown_node}
 use Rattle.pt_meaning.specs.Streams.{get}
 use Rattle.pt_node.specs.View.{Tree, node_of}
-use Rattle.pt_trees.specs.Around.{first_counts}
+use Rattle.pt_trees.specs.Sdf.{first_counts}
 use Rattle.pt_trees.specs.Rates.{rates_of, HaveRates, is_steady, AreSteady, HasUnsteady, IsStarted, AllStarted}
 use Rattle.pt_composite.specs.Nonstrict.{is_nonstrict}
 use Rattle.pt_composite.proofs.HeldLaws.{held_to, held-append, held-empty, held-more}

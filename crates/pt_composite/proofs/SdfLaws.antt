@@ -22,6 +22,8 @@ use Rattle.pt_sdf.specs.SdfActs.{Fits, AllSteady}
 use Rattle.pt_sdf.specs.State.{started}
 use Rattle.pt_plan.specs.declared.inside.Inside.{Inside}
 use Rattle.pt_plan.specs.Inside.{IsInside}
+use Rattle.pt_plan.specs.declared.planning.PlanFault.{PlanFault}
+use Rattle.pt_plan.specs.Fault.{FaultStands}
 use Rattle.pt_plan.specs.PlanOf.{IsPlanOf}
 use Rattle.pt_plan.specs.Unfed.{own, unfed, sources_of, no_tokens, first_of}
 use Rattle.pt_plan.proofs.UnfedLaws.{sources-long}
@@ -29,10 +31,14 @@ use Rattle.pt_library.specs.LibraryActor.{rows}
 use Rattle.pt_node.specs.Recorded.{RecordedPort}
 use Rattle.pt_node.specs.Shown.{Shown, all_of}
 use Rattle.pt_node.specs.View.{Tree, node_of, nodes_of}
-use Rattle.pt_trees.specs.Around.{Around, first_counts, IsInsideOf}
+use Rattle.pt_trees.specs.Around.{Around}
+use Rattle.pt_trees.specs.Sdf.{sdf, first_counts, IsInsideOf}
 use Rattle.pt_trees.specs.Fresh.{AreEmpty, AllFresh}
-use Rattle.pt_trees.specs.Composite.{trees_of, IsSdfComposite}
+use Rattle.pt_trees.specs.declared.composite_fault.CompositeFault.{CompositeFault}
+use Rattle.pt_trees.specs.declared.composite_fault.CompositeFault.TheVariants.{Unbuilt, Refused, Memory}
+use Rattle.pt_trees.specs.Composite.{trees_of, IsComposed, IsUncomposed}
 use Rattle.pt_composite.specs.Nodes.{built}
+use Rattle.pt_composite.specs.Unplanned.{IsToldAs}
 use Rattle.pt_composite.proofs.ChildLaws.{all-steady}
 use Rattle.pt_composite.proofs.FreshLaws.{list-again, nodes-list, nodes-are, all-fit, all-start, all-fitting, all-plans, all-unrecorded}
 use Rattle.pt_composite.proofs.NeedLaws.{needs-length, planned-length}
@@ -54,6 +60,14 @@ first-counted around kids x sources is e =
     let first : first_counts kids xs ≡ x.first = ap (first_counts kids) is.sources ∙ sym is.first in
     ap (first_counts kids) (e ∙ map-append source_of x.sources.items (map own (unfed x))) ∙ ap (map (λ (ts : List Token). length ts)) (held-append rows kids xs ys) ∙
     map-append (λ (ts : List Token). length ts) (first_held rows kids xs) (first_held rows kids ys) ∙ ap₂ (λ (v w : List ℕ). v ++ w) first (own-held kids (unfed x))
+
+-- ---- no plan
+
+-- a fault of the plan is told as it is to be
+pub fault-stands : (around : Around) (kids : List Shown) (x : Inside) (fault : PlanFault) (answer : CompositeFault) → IsInsideOf around (trees_of kids) x → FaultStands x fault → IsToldAs fault answer → IsUncomposed sdf around kids answer
+fault-stands around kids x fault Unbuilt is stands told = absurd told
+fault-stands around kids x fault (Refused code) is stands told = record { inside = x; is_inside = is; fault = fault; stands = stands; code_is = told }
+fault-stands around kids x fault Memory is stands told = tt
 
 -- ---- the composite
 
@@ -122,12 +136,10 @@ module _ (around : Around) (kids : List Shown) (path : List ℕ) (records : List
   plans : ArePlans (node_of made)
   plans = (enough, all-plans kids fresh)
 
-  pub composite-is : IsSdfComposite around kids path records made
+  pub composite-is : IsComposed sdf around kids path records made
   composite-is = record {
-    inside = x;
-    is_inside = is;
-    plan = plan_of p;
-    planned = plan;
+    core = tree.Sdf (plan_of p) (first_held rows (trees_of kids) (plan_of p).net.sources);
+    is_core = record { inside = x; is_inside = is; plan = plan_of p; planned = plan; is = refl };
     node = node;
     children = list-again kids;
     path_is = refl;

@@ -24,8 +24,9 @@ use Rattle.pt_library.proofs.StrictLaws.{told-strict}
 use Rattle.pt_node.specs.Recorded.{RecordedPort}
 use Rattle.pt_node.specs.Shown.{Shown, all_of}
 use Rattle.pt_node.specs.View.{Tree, node_of, nodes_of}
-use Rattle.pt_trees.specs.Around.{Around, tick_plan, IsWired}
-use Rattle.pt_trees.specs.Composite.{trees_of, IsSrComposite}
+use Rattle.pt_trees.specs.Around.{Around}
+use Rattle.pt_trees.specs.Sr.{sr, tick_plan, IsWired}
+use Rattle.pt_trees.specs.Composite.{trees_of, IsComposed}
 use Rattle.pt_trees.specs.Fresh.{AreEmpty, AllFresh}
 use Rattle.pt_composite.specs.Nodes.{built}
 use Rattle.pt_composite.specs.Nonstrict.{is_nonstrict}
@@ -110,9 +111,10 @@ module _ (around : Around) (kids : List Shown) (path : List ℕ) (records : List
   whole : IsWhole (tick_plan around).net around.inputs
   whole = record { channels = omega (arith, wired.channels); there = wired.there }
 
-  pub composite-is : IsSrComposite around kids path records made
+  pub composite-is : IsComposed sr around kids path records made
   composite-is = record {
-    wired = wired;
+    core = tree.Sr (tick_plan around);
+    is_core = record { wired = wired; is = refl };
     node = node;
     children = list-again kids;
     path_is = refl;

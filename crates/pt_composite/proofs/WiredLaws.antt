@@ -14,7 +14,8 @@ use Rattle.pt_sr.specs.Plan.{plan_of, IsNamed, IsLawful}
 use Rattle.pt_library.specs.LibraryActor.{rows}
 use Rattle.pt_node.specs.View.{Tree}
 use Rattle.pt_trees.specs.declared.wiring.Wiring.{Wiring}
-use Rattle.pt_trees.specs.Around.{around_of, tick_plan, IsWired, IsWiredIf}
+use Rattle.pt_trees.specs.Around.{around_of}
+use Rattle.pt_trees.specs.Sr.{tick_plan, IsWired, IsWiredIf}
 use Rattle.pt_composite.specs.Needs.{NeedAll}
 use Rattle.pt_composite.specs.Nonstrict.{is_nonstrict}
 use Rattle.pt_composite.proofs.NeedLaws.{needs-length, planned-length}

@@ -1,3 +1,4 @@
 pub mod Needs
 pub mod Nodes
 pub mod Nonstrict
+pub mod Unplanned

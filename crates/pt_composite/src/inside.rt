@@ -1,8 +1,9 @@
 ghost use Rattle.std.specs.Prelude.{IfOk, IfErr, map};
 ghost use Rattle.pt_plan.specs.Inside.{IsInside};
 ghost use Rattle.pt_node.specs.Shown.{shown};
-ghost use Rattle.pt_trees.specs.Around.{around_of, IsInsideOf};
-ghost use Rattle.pt_trees.specs.Composite.{trees_of, SdfFaultStands};
+ghost use Rattle.pt_trees.specs.Around.{around_of};
+ghost use Rattle.pt_trees.specs.Sdf.{sdf, IsInsideOf};
+ghost use Rattle.pt_trees.specs.Composite.{trees_of, IsUncomposed};
 ghost use Rattle.pt_trees.specs.Rates.{AllStarted};
 
 use crate::needs::needs_of;
@@ -24,16 +25,16 @@ pub(crate) fn inside_of(
     requires { AllStarted (trees_of (map shown children.now)) }
     ensures inside { IfOk result (λ inside. IsInsideOf (around_of wiring) (trees_of (map shown children.now)) inside) }
     ensures formed { IfOk result IsInside }
-    ensures stands { IfErr result (SdfFaultStands (around_of wiring) (map shown children.now)) }
+    ensures stands { IfErr result (IsUncomposed sdf (around_of wiring) (map shown children.now)) }
 {
     if !are_steady(children) {
-        return Err(CompositeFault::Unsteady);
+        return Err(CompositeFault::Unbuilt);
     }
     let Some(needs) = needs_of(alloc, children, wiring.places.as_slice())? else {
-        return Err(CompositeFault::Malformed);
+        return Err(CompositeFault::Unbuilt);
     };
     let Some(rates) = rates_of(alloc, children)? else {
-        return Err(CompositeFault::Unsteady);
+        return Err(CompositeFault::Unbuilt);
     };
     let inside = Inside {
         first: first_counts(alloc, children, &wiring.sources)?,
@@ -45,7 +46,7 @@ pub(crate) fn inside_of(
         outputs: wiring.outputs,
     };
     if !inside.is_well_formed() {
-        return Err(CompositeFault::Malformed);
+        return Err(CompositeFault::Unbuilt);
     }
     Ok(inside)
 }

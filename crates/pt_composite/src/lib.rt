@@ -1,6 +1,7 @@
 //! A composite from the nodes of its children, by its director.
 #![tactic(auto)]
 
+mod composing;
 mod inside;
 mod needs;
 mod node;
@@ -14,5 +15,4 @@ mod steady;
 mod tokens;
 mod wired;
 
-pub use sdf::sdf_composite;
-pub use sr::sr_composite;
+pub use composing::composite;

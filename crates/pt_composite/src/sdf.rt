@@ -9,21 +9,24 @@ ghost use Rattle.pt_node.specs.Shown.{shown, shown_node};
 ghost use Rattle.pt_trees.specs.Around.{around_of};
 ghost use Rattle.pt_trees.specs.Fresh.{AllFresh, AreEmpty};
 ghost use Rattle.pt_trees.specs.Rates.{AllStarted};
-ghost use Rattle.pt_trees.specs.Composite.{trees_of, IsSdfComposite, SdfFaultStands};
+ghost use Rattle.pt_trees.specs.Composite.{trees_of, IsComposed, IsUncomposed};
+ghost use Rattle.pt_trees.specs.Sdf.{sdf};
+ghost use Rattle.pt_composite.specs.Unplanned.{IsToldAs};
 
 use crate::inside::inside_of;
 use crate::node::composite_node;
 use crate::tokens::first_tokens;
 use pt_core::Either;
+use pt_document::Code;
 use pt_node::{Node, Records};
-use pt_plan::plan;
+use pt_plan::{PlanFault, plan};
 use pt_sdf::{Core, CorePlan};
 use pt_trees::{CompositeFault, Wiring};
 use pt_value::Text;
 use std::alloc::{AllocError, Global};
 
 /// The SDF composite round these children, at its start.
-pub fn sdf_composite(
+pub(crate) fn sdf_composite(
     alloc: Global,
     children: Vec<Node>,
     wiring: Wiring,
@@ -33,13 +36,13 @@ pub fn sdf_composite(
     requires fresh { AllFresh (map shown children.items) }
     requires started { AllStarted (trees_of (map shown children.items)) }
     requires empty { AreEmpty records }
-    ensures node { IfOk result (λ node. IsSdfComposite (around_of wiring) (map shown children.items) path records (shown_node node)) }
-    ensures stands { IfErr result (SdfFaultStands (around_of wiring) (map shown children.items)) }
+    ensures node { IfOk result (λ node. IsComposed sdf (around_of wiring) (map shown children.items) path records (shown_node node)) }
+    ensures stands { IfErr result (IsUncomposed sdf (around_of wiring) (map shown children.items)) }
 {
     let inside = inside_of(alloc, &children, wiring)?;
     let plan = match plan(alloc, inside) {
         Ok(plan) => plan,
-        Err(fault) => return Err(CompositeFault::Unplanned(fault)),
+        Err(fault) => return Err(told(fault)),
     };
     let core = core_of(alloc, &children, plan)?;
     Ok(composite_node(Either::First(core), children, path, records))
@@ -56,5 +59,17 @@ fn core_of(alloc: Global, children: &[Node], plan: CorePlan) -> Result<Core, All
             drop(plan);
             Err(fault)
         }
+    }
+}
+
+/// How it is told that there is no plan.
+fn told(fault: PlanFault) -> CompositeFault
+    ensures { IsToldAs fault result }
+{
+    match fault {
+        PlanFault::Rates => CompositeFault::Refused(Code::Rates),
+        PlanFault::Limit => CompositeFault::Refused(Code::Limit),
+        PlanFault::Deadlock => CompositeFault::Refused(Code::SdfDeadlock),
+        PlanFault::Memory => CompositeFault::Memory,
     }
 }

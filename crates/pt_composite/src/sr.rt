@@ -1,8 +1,9 @@
 ghost use Rattle.std.specs.Prelude.{◌≡◌, IfOk, IfErr, map};
 ghost use Rattle.pt_node.specs.Shown.{shown, shown_node};
-ghost use Rattle.pt_trees.specs.Around.{around_of, tick_plan, IsWired};
+ghost use Rattle.pt_trees.specs.Around.{around_of};
+ghost use Rattle.pt_trees.specs.Sr.{sr, tick_plan, IsWired};
 ghost use Rattle.pt_trees.specs.Fresh.{AllFresh, AreEmpty};
-ghost use Rattle.pt_trees.specs.Composite.{trees_of, IsSrComposite, SrFaultStands};
+ghost use Rattle.pt_trees.specs.Composite.{trees_of, IsComposed, IsUncomposed};
 ghost use Rattle.pt_sr.specs.State.{started};
 ghost use Rattle.pt_composite.specs.Nonstrict.{is_nonstrict};
 
@@ -20,7 +21,7 @@ use pt_value::Text;
 use std::alloc::{AllocError, Global};
 
 /// The SR composite round these children, at its start. Its children may be of any kind.
-pub fn sr_composite(
+pub(crate) fn sr_composite(
     alloc: Global,
     children: Vec<Node>,
     wiring: Wiring,
@@ -29,11 +30,11 @@ pub fn sr_composite(
 ) -> Result<Node, CompositeFault>
     requires fresh { AllFresh (map shown children.items) }
     requires empty { AreEmpty records }
-    ensures node { IfOk result (λ node. IsSrComposite (around_of wiring) (map shown children.items) path records (shown_node node)) }
-    ensures stands { IfErr result (SrFaultStands (around_of wiring) (map shown children.items)) }
+    ensures node { IfOk result (λ node. IsComposed sr (around_of wiring) (map shown children.items) path records (shown_node node)) }
+    ensures stands { IfErr result (IsUncomposed sr (around_of wiring) (map shown children.items)) }
 {
     if !is_wired(alloc, &children, &wiring)? {
-        return Err(CompositeFault::Malformed);
+        return Err(CompositeFault::Unbuilt);
     }
     let core = core_of(alloc, &children, wiring)?;
     Ok(composite_node(Either::Other(core), children, path, records))

@@ -6,7 +6,7 @@ ghost use Rattle.pt_core.specs.Source.{source_of};
 ghost use Rattle.pt_library.specs.LibraryActor.{rows};
 ghost use Rattle.pt_node.specs.Shown.{shown, shown_node};
 ghost use Rattle.pt_node.specs.View.{node_of};
-ghost use Rattle.pt_trees.specs.Around.{first_counts};
+ghost use Rattle.pt_trees.specs.Sdf.{first_counts};
 ghost use Rattle.pt_trees.specs.Composite.{trees_of};
 
 use pt_core::Source;

@@ -2,7 +2,8 @@ ghost use Rattle.std.specs.Prelude.{◌≡◌, ◌↔◌, ◌+◌, ◌^◌, ◌<
 ghost use Rattle.pt_core.specs.Source.{source_of};
 ghost use Rattle.pt_laws.specs.StartedRuns.{IsThere};
 ghost use Rattle.pt_node.specs.Shown.{shown};
-ghost use Rattle.pt_trees.specs.Around.{around_of, IsWiredIf};
+ghost use Rattle.pt_trees.specs.Around.{around_of};
+ghost use Rattle.pt_trees.specs.Sr.{IsWiredIf};
 ghost use Rattle.pt_trees.specs.Composite.{trees_of};
 
 use crate::needs::needs_of;

@@ -5,11 +5,12 @@ use Rattle.std.specs.Global.{Global}
 use Rattle.std.proofs.lemmas.List.{length-map}
 use Rattle.std.proofs.lemmas.List.Recursion.{is_count_by}
 use Rattle.std.specs.Option.{is_none}
-use Rattle.std.proofs.lemmas.Bool.{and_parts}
 use Rattle.std.proofs.lemmas.Slice.Eq.{bytes_eq-Decides}
-use Rattle.pt_meaning.specs.Start.{first_held}
 use Rattle.pt_meaning.specs.Tree as tree
+use Rattle.pt_document.specs.declared.classes.Director.{Director}
+use Rattle.pt_document.specs.declared.classes.Director.TheVariants.{Sdf, Pn, Rendezvous, Sr, De}
 use Rattle.pt_document.specs.declared.code.Code.TheVariants as code
+use Rattle.pt_document.specs.Classes.{DirectorClass, director_row, directors}
 use Rattle.pt_document.specs.declared.job.Direction.{Direction}
 use Rattle.pt_document.specs.declared.job.Direction.TheVariants.{Input, Output}
 use Rattle.pt_document.specs.declared.job.Port.{Port}
@@ -31,7 +32,7 @@ use Rattle.pt_job.specs.Inputs.{inputs_at, own_inputs, ComeTo, AreSupplied, has_
 use Rattle.pt_core.specs.declared.either.Either.TheVariants.{First, Other}
 use Rattle.pt_sdf.specs.Clauses as sdf
 use Rattle.pt_sr.specs.Clauses as sr
-use Rattle.pt_directors.specs.Directors.{Director}
+use Rattle.pt_directors.specs.Directors.{Director as DirectorState}
 use Rattle.pt_node.specs.declared.body.Body.{Body}
 use Rattle.pt_node.specs.declared.body.Body.TheVariants.{Actor, Composite}
 use Rattle.pt_node.specs.Recorded.{RecordedPort}
@@ -41,15 +42,16 @@ use Rattle.pt_library.specs.LibraryActor.{rows}
 use Rattle.pt_trees.specs.Composite.{children_in, trees_of}
 use Rattle.pt_trees.specs.Fresh as fresh
 use Rattle.pt_trees.specs.Fresh.{IsFresh}
-use Rattle.pt_trees.specs.Trees.{IsEntity, IsUndirected, has_sdf, IsSdf, around_in, Starts}
-use Rattle.pt_trees.specs.Around.{tick_plan}
-use Rattle.pt_trees.specs.Built.{IsBuilt, AreBuilt, built_actor, built_sdf, built_sr, none_built, more_built}
+use Rattle.pt_trees.specs.Trees.{IsEntity, IsUndirected, around_in, Starts}
+use Rattle.pt_trees.specs.Directors.{named, IsDirectedBy, composing}
+use Rattle.pt_trees.specs.Built.{IsBuilt, AreBuilt, built_actor, built_composite, none_built, more_built}
 use Rattle.pt_trees.specs.Start.{IsBranched, HasLeaves, AllHaveLeaves, AreUntold, IsUnrecorded, AllUnrecorded, IsRunnable}
 use Rattle.pt_trees.specs.declared.top.SdfJob.{SdfJob}
 use Rattle.pt_trees.specs.declared.top.SrJob.{SrJob}
 use Rattle.pt_trees.specs.declared.top.Top.{Top}
 use Rattle.pt_trees.specs.declared.top.Top.TheVariants as top
 use Rattle.pt_trees.specs.Top.{supply_of, IsJobFor}
+use Rattle.pt_trees.proofs.DirectorLaws.{named-of}
 use Rattle.pt_elaboration.specs.Resolved.{IsPlaced}
 use Rattle.pt_model.specs.Model.{IsCompositeBody}
 use Rattle.pt_elaboration.proofs.Lists.{zip-length}
@@ -66,7 +68,7 @@ top-directed net values e placed at is =
 
 -- a core that an entity may have, with so many own inputs
 abbrev pub IsCoreOf : NetEntity → tree.Core Token → Type 0
-IsCoreOf e (tree.Sdf p X) = IsSdf e × (length p.takes ≡ count_by is_input e.ports.items)
+IsCoreOf e (tree.Sdf p X) = IsDirectedBy e Sdf × (length p.takes ≡ count_by is_input e.ports.items)
 IsCoreOf e (tree.Pn p X) = ⊥
 IsCoreOf e (tree.Sr p) = p.inputs ≡ count_by is_input e.ports.items
 IsCoreOf e (tree.De p) = ⊥
@@ -82,23 +84,23 @@ pub record HasCore (net : Net) (s : Shown) : Type 0 where
   pub node : node_of s ≡ tree.composite core kids
   pub is : IsCoreOf entity core
 
+-- so is each that its director makes
+core-made : (by : Director) (net : Net) (k : ℕ) (e : NetEntity) (kids : List Tree) (c : tree.Core Token) → IsDirectedBy e by → (composing by).IsCore (around_in net k e) kids c → IsCoreOf e c
+core-made Sdf net k e kids c directed has = subst (λ v. IsCoreOf e v) (sym has.is) (directed, has.planned.takes ∙ has.is_inside.inputs)
+core-made Sr net k e kids c directed has = subst (λ v. IsCoreOf e v) (sym has.is) refl
+core-made De net k e kids c directed has = absurd has
+core-made Pn net k e kids c directed has = absurd has
+core-made Rendezvous net k e kids c directed has = absurd has
+
 core-at : {net : Net} {starts : Starts} {k : ℕ} {s : Shown} (values : Values) → IsPlaced net values → k ≡ 0 → IsBuilt net starts k s → HasCore net s
 core-at {net = net} values placed first (built_actor k e a at is starts_as) = absurd (top-directed net values e placed (subst (λ j. IsEntity net j e) first at) is)
-core-at {net = net} values placed first (built_sdf k e kids s at sdf all is) = record {
+core-at {net = net} values placed first (built_composite k e by kids s at directed all is) = record {
   entity = e;
   at = subst (λ j. IsEntity net j e) first at;
-  core = tree.Sdf is.plan (first_held rows (trees_of kids) is.plan.net.sources);
+  core = is.core;
   kids = trees_of kids;
   node = is.node;
-  is = (sdf, is.planned.takes ∙ is.is_inside.inputs);
-}
-core-at {net = net} values placed first (built_sr k e kids s at sr all is) = record {
-  entity = e;
-  at = subst (λ j. IsEntity net j e) first at;
-  core = tree.Sr (tick_plan (around_in net k e));
-  kids = trees_of kids;
-  node = is.node;
-  is = refl;
+  is = core-made by net k e (trees_of kids) is.core directed is.is_core;
 }
 
 pub top-core : (net : Net) (values : Values) (starts : Starts) (s : Shown) → IsPlaced net values → IsBuilt net starts 0 s → HasCore net s
@@ -147,19 +149,31 @@ core-in : tree.Core Token → Tree → tree.Core Token
 core-in d (tree.Actor h a b) = d
 core-in d (tree.Composite h c e kids) = e
 
-core-is : (net : Net) (s : Shown) (has : HasCore net s) (d : Director) → body_of s ≡ Composite d → IsCoreOf has.entity (core_of d)
+core-is : (net : Net) (s : Shown) (has : HasCore net s) (d : DirectorState) → body_of s ≡ Composite d → IsCoreOf has.entity (core_of d)
 unfolding core-in
 core-is net (Branch f ks) has d e = subst (λ v. IsCoreOf has.entity v) (ap (core-in has.core) (sym has.node ∙ ap (λ b. node_with f.past b (nodes_of ks)) e)) has.is
 
 -- under SDF no token may be absent
-sdf-full : (d : Option NetDirector) → has_sdf d ≡ true → has_ticks (option_map director_view d) ≡ false
-sdf-full None e = absurd (cc)
-sdf-full (Some d) e = ap (λ v. bytes_eq v (codes "SR")) ((bytes_eq-Decides d.class (codes "SDF")).0 e)
+class-director : List ℕ → Option Director
+class-director class = option_map (λ (r : DirectorClass). r.director) (director_row class)
 
-pub sdf-present : (net : Net) (e : NetEntity) → IsEntity net 0 e → IsSdf e → may_lack (net_view net) ≡ false
-sdf-present net e at sdf =
-    ap (λ o. ticks_at o) (view-at entity_view net.entities.items 0 e at)
-    ∙ sdf-full e.director (and_parts (bytes_eq e.class (codes "Composite")) (has_sdf e.director) sdf).1
+sr-director : class-director (codes "SR") ≡ Some Sr
+unfolding class-director director_row directors
+sr-director = refl
+
+sdf-full : (d : Option NetDirector) → named d ≡ Some Sdf → has_ticks (option_map director_view d) ≡ false
+unfolding class-director
+sdf-full None e = refl
+sdf-full (Some d) e = by_class (bytes_eq d.class (codes "SR")) refl
+  where
+    by_class : (b : Bool) → bytes_eq d.class (codes "SR") ≡ b → bytes_eq d.class (codes "SR") ≡ false
+    by_class false is = is
+    by_class true is =
+        let both : Some Sr ≡ Some Sdf = sym sr-director ∙ ap class-director (sym ((bytes_eq-Decides d.class (codes "SR")).0 is)) ∙ e in
+        absurd (cc)
+
+pub sdf-present : (net : Net) (e : NetEntity) → IsEntity net 0 e → IsDirectedBy e Sdf → may_lack (net_view net) ≡ false
+sdf-present net e at sdf = ap (λ o. ticks_at o) (view-at entity_view net.entities.items 0 e at) ∙ sdf-full e.director (named-of e Sdf sdf)
 
 -- ---- the job of the top
 
@@ -196,8 +210,7 @@ composite-leaves (Branch f ks) kids c ns e children leaves = (branched f.past f.
 mutual
   pub built-leaves : {net : Net} {starts : Starts} {k : ℕ} {s : Shown} → IsBuilt net starts k s → HasLeaves s
   built-leaves (built_actor k e a at is starts_as) = (refl, tt)
-  built-leaves (built_sdf k e kids s at sdf all is) = composite-leaves s kids _ _ is.node is.children (all-leaves all)
-  built-leaves (built_sr k e kids s at sr all is) = composite-leaves s kids _ _ is.node is.children (all-leaves all)
+  built-leaves (built_composite k e by kids s at directed all is) = composite-leaves s kids _ _ is.node is.children (all-leaves all)
 
   all-leaves : {net : Net} {starts : Starts} {ks : List ℕ} {ss : List Shown} → AreBuilt net starts ks ss → AllHaveLeaves (all_of ss)
   all-leaves none_built = tt

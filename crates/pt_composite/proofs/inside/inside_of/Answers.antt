@@ -6,7 +6,8 @@ use Rattle.pt_sdf.specs.ByNeed.{planned}
 use Rattle.pt_core.specs.Source.{source_of}
 use Rattle.pt_node.specs.Shown.{shown}
 use Rattle.pt_node.specs.View.{Tree}
-use Rattle.pt_trees.specs.Around.{around_of, first_counts}
+use Rattle.pt_trees.specs.Around.{around_of}
+use Rattle.pt_trees.specs.Sdf.{first_counts}
 use Rattle.pt_trees.specs.Composite.{trees_of}
 use Rattle.pt_trees.specs.Rates.{AreRates}
 use Rattle.pt_composite.specs.Needs.{NeedAll, AreNeeds}

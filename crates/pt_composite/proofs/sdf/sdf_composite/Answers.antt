@@ -14,11 +14,12 @@ use Rattle.pt_library.specs.LibraryActor.{rows}
 use Rattle.pt_node.specs.declared.node.Node.{Node}
 use Rattle.pt_node.specs.Shown.{Shown, shown}
 use Rattle.pt_node.specs.View.{Tree}
-use Rattle.pt_trees.specs.Around.{around_of, IsInsideOf}
-use Rattle.pt_trees.specs.Composite.{trees_of, IsSdfComposite}
+use Rattle.pt_trees.specs.Around.{around_of}
+use Rattle.pt_trees.specs.Sdf.{sdf, IsInsideOf}
+use Rattle.pt_trees.specs.Composite.{trees_of, IsComposed}
 use Rattle.pt_trees.specs.Rates.{AllStarted}
 use Rattle.pt_composite.specs.Nodes.{built}
-use Rattle.pt_composite.proofs.SdfLaws.{first-counted, composite-is}
+use Rattle.pt_composite.proofs.SdfLaws.{first-counted, composite-is, fault-stands}
 use Rattle.pt_composite.proofs.sdf.sdf_composite.Goals as goal
 
 pub inside_of-requires : goal.inside_of-requires
@@ -26,7 +27,8 @@ inside_of-requires c = subst (λ (v : List Node). AllStarted (trees_of (map show
 
 pub returns-in-Err-clause-stands : goal.returns-in-Err-clause-stands
 returns-in-Err-clause-stands c =
-    (c.in_ok-inside.inside, subst (λ (v : List Node). IsInsideOf (around_of c.args.wiring) (trees_of (map shown v)) c.in_ok-inside.inside) c.deref.ensures.value c.in_ok-inside.ensures.inside, c.in-Err.ensures.err)
+    fault-stands (around_of c.args.wiring) (map shown c.args.children.items) c.in_ok-inside.inside c.in-Err.fault c.told.result
+    (subst (λ (v : List Node). IsInsideOf (around_of c.args.wiring) (trees_of (map shown v)) c.in_ok-inside.inside) c.deref.ensures.value c.in_ok-inside.ensures.inside) c.in-Err.ensures.err c.told.ensures
 
 pub core_of-requires : goal.core_of-requires
 core_of-requires c =
@@ -44,6 +46,6 @@ returns-clause-node c =
     let first : Streams Token = first_held rows kids (map source_of c.in-Ok.plan.sources.items) in
     let is : c.in_ok-core.core ≡ started (plan_of c.in-Ok.plan) c.in-Ok.plan.needs first =
     c.in_ok-core.ensures ∙ ap (λ (v : List Node). started (plan_of c.in-Ok.plan) c.in-Ok.plan.needs (first_held rows (trees_of (map shown v)) (map source_of c.in-Ok.plan.sources.items))) c.deref-2.ensures.value in
-    subst (λ (s : Shown). IsSdfComposite (around_of c.args.wiring) (map shown c.args.children.items) c.args.path c.args.records s)
+    subst (λ (s : Shown). IsComposed sdf (around_of c.args.wiring) (map shown c.args.children.items) c.args.path c.args.records s)
     (sym (c.composite_node.ensures ∙ ap (λ (core : State). built (First core) (map shown c.args.children.items) c.args.path c.args.records) is))
     (composite-is (around_of c.args.wiring) (map shown c.args.children.items) c.args.path c.args.records c.in_ok-inside.inside c.in-Ok.plan first inside c.in_ok-inside.ensures.formed c.in-Ok.ensures.plan c.in-Ok.ensures.needs refl c.requires.fresh c.requires.empty)

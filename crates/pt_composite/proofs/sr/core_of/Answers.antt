@@ -4,7 +4,8 @@ use Rattle.pt_sr.specs.declared.plan.CorePlan.{CorePlan}
 use Rattle.pt_sr.specs.State.{started}
 use Rattle.pt_node.specs.Shown.{shown}
 use Rattle.pt_node.specs.View.{Tree}
-use Rattle.pt_trees.specs.Around.{around_of, tick_plan}
+use Rattle.pt_trees.specs.Around.{around_of}
+use Rattle.pt_trees.specs.Sr.{tick_plan}
 use Rattle.pt_trees.specs.Composite.{trees_of}
 use Rattle.pt_composite.proofs.WiredLaws.{plan-is, lawful}
 use Rattle.pt_composite.proofs.sr.core_of.Goals as goal

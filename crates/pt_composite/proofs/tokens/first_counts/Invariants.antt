@@ -1,7 +1,7 @@
 use Rattle.std.proofs.Common.{◌≡◌, take, map}
 use Rattle.pt_core.specs.Source.{source_of}
 use Rattle.pt_node.specs.Shown.{shown}
-use Rattle.pt_trees.specs.Around.{first_counts}
+use Rattle.pt_trees.specs.Sdf.{first_counts}
 use Rattle.pt_trees.specs.Composite.{trees_of}
 use Rattle.pt_composite.proofs.tokens.first_counts.Given as goal
 

@@ -1,5 +1,6 @@
+use Rattle.std.proofs.Common.{sym, ◌∙◌}
 use Rattle.std.proofs.lemmas.Option.{slice_get_within}
-use Rattle.pt_trees.specs.Built.{other_director}
+use Rattle.pt_trees.specs.Built.{undirected}
 use Rattle.pt_build.proofs.LoopLaws.{deep-at}
 use Rattle.pt_build.proofs.builder.Builder.check_composite.Goals as goal
 
@@ -8,7 +9,7 @@ returns-then-is_deepest-clause-stands c =
     deep-at c.args.self.now.net.now c.args.self.now.starts.now c.args.k c.args.depth c.requires.reached.nested (c.is_deepest.ensures.yes c.if-is_deepest.true) c.requires.reached.bound
 
 pub returns-in-None-clause-stands : goal.returns-in-None-clause-stands
-returns-in-None-clause-stands c = let not = c.kind_of.ensures.none c.in-None.is in other_director c.args.k c.args.entity.now c.requires.entity c.requires.directed not.0 not.1
+returns-in-None-clause-stands c = undirected c.args.k c.args.entity.now c.requires.entity c.requires.directed (sym c.director_of.ensures ∙ c.in-None.is)
 
 pub returns-in-Some-clause-room : goal.returns-in-Some-clause-room
 returns-in-Some-clause-room c = record {

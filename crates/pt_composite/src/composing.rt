@@ -1,0 +1,39 @@
+ghost use Rattle.std.specs.Prelude.{IfOk, IfErr, map};
+ghost use Rattle.pt_node.specs.Shown.{shown, shown_node};
+ghost use Rattle.pt_trees.specs.Around.{around_of};
+ghost use Rattle.pt_trees.specs.Composite.{trees_of, IsComposite, CompositeFaultStands};
+ghost use Rattle.pt_trees.specs.Fresh.{AllFresh, AreEmpty};
+ghost use Rattle.pt_trees.specs.Rates.{AllStarted};
+
+use crate::sdf::sdf_composite;
+use crate::sr::sr_composite;
+use pt_document::Director;
+use pt_node::{Node, Records};
+use pt_trees::{CompositeFault, Wiring};
+use pt_value::Text;
+use std::alloc::Global;
+
+/// The composite with this director round these children, at its start.
+pub fn composite(
+    alloc: Global,
+    director: Director,
+    children: Vec<Node>,
+    wiring: Wiring,
+    path: Text,
+    records: Records,
+) -> Result<Node, CompositeFault>
+    requires fresh { AllFresh (map shown children.items) }
+    requires started { AllStarted (trees_of (map shown children.items)) }
+    requires empty { AreEmpty records }
+    ensures node { IfOk result (λ node. IsComposite director (around_of wiring) (map shown children.items) path records (shown_node node)) }
+    ensures stands { IfErr result (CompositeFaultStands director (around_of wiring) (map shown children.items)) }
+{
+    match director {
+        Director::Sdf => sdf_composite(alloc, children, wiring, path, records),
+        Director::Sr => sr_composite(alloc, children, wiring, path, records),
+        Director::De | Director::Pn | Director::Rendezvous => {
+            drop(children);
+            Err(CompositeFault::Unbuilt)
+        }
+    }
+}
