@@ -39,3 +39,6 @@ by-rates around kids some = inl (some.0, some.1, some.2.0, inr some.2.1)
 
 pub by-needs : (around : Around) (kids : List Tree) → AreNeeds kids around.places None → IsUnplannable around kids
 by-needs around kids none = inr (λ h. none h.0.needs (inside-needs around kids h.0 h.1.0 h.1.1))
+
+pub by-form : (around : Around) (kids : List Tree) (x : Inside) → IsInsideOf around kids x → length x.needs ≡ total around.places → (IsInside x → ⊥) → IsUnplannable around kids
+by-form around kids x is counted not = inr (none-formed around kids x is counted not)

@@ -11,7 +11,7 @@ use Rattle.pt_trees.specs.Sdf.{first_counts}
 use Rattle.pt_trees.specs.Composite.{trees_of}
 use Rattle.pt_trees.specs.Rates.{AreRates}
 use Rattle.pt_composite.specs.Needs.{NeedAll, AreNeeds}
-use Rattle.pt_composite.proofs.InsideLaws.{none-formed}
+use Rattle.pt_composite.proofs.InsideLaws.{by-form}
 use Rattle.pt_composite.proofs.inside.inside_of.Goals as goal
 
 pub returns-then-not-is_well_formed-clause-stands : goal.returns-then-not-is_well_formed-clause-stands
@@ -19,7 +19,7 @@ returns-then-not-is_well_formed-clause-stands c =
     let kids : List Tree = trees_of (map shown c.args.children.now) in
     let x : Inside = record { sources = c.args.wiring.sources; places = c.args.wiring.places; needs = c.of.result; rates = c.in-Some-2.rates; first = c.in_ok-first_counts.field-0; inputs = c.args.wiring.inputs; outputs = c.args.wiring.outputs } in
     let all : NeedAll kids c.as_slice.result.now c.in-Some.needs.items = subst (λ o. AreNeeds kids c.as_slice.result.now o) c.in-Some.is c.in_ok-needs.ensures in
-    none-formed (around_of c.args.wiring) kids x
+    by-form (around_of c.args.wiring) kids x
     (record { sources = refl; places = refl; needs = all.needs ∙ ap₂ (λ v w. planned v w) c.as_slice.ensures (sym c.of.ensures); steady = c.are_steady.ensures.yes c.if-not-are_steady.false; rates = subst (λ o. AreRates kids o) c.in-Some-2.is c.in_ok-rates.ensures; first = c.in_ok-first_counts.ensures ∙ ap (λ (v : List Source). first_counts kids (map source_of v)) c.deref.ensures.value; inputs = refl; outputs = refl })
     (ap (λ (v : List ℕ). length v) c.of.ensures ∙ all.counted ∙ ap (λ (v : List ℕ). total v) c.as_slice.ensures)
     (λ i. let t : c.is_well_formed.result ≡ true = c.is_well_formed.ensures.1 i in absurd (cc (c.if-not-is_well_formed.true)))
