@@ -35,10 +35,10 @@ pub by-steady : (around : Around) (kids : List Tree) → HasUnsteady kids → Is
 by-steady around kids some = inl some
 
 pub by-rates : (around : Around) (kids : List Tree) → AreRates kids None → IsUnplannable around kids
-by-rates around kids some = inl (some.0, some.1, some.2.0, inr some.2.1)
+by-rates around kids some = inl (some.0, some.1, some.2, inr some.3)
 
 pub by-needs : (around : Around) (kids : List Tree) → AreNeeds kids around.places None → IsUnplannable around kids
-by-needs around kids none = inr (λ h. none h.0.needs (inside-needs around kids h.0 h.1.0 h.1.1))
+by-needs around kids none = inr (λ h. none h.0.needs (inside-needs around kids h.0 h.1 h.2))
 
 pub by-form : (around : Around) (kids : List Tree) (x : Inside) → IsInsideOf around kids x → length x.needs ≡ total around.places → (IsInside x → ⊥) → IsUnplannable around kids
 by-form around kids x is counted not = inr (none-formed around kids x is counted not)
