@@ -5,3 +5,4 @@ pub mod UnmetLaws
 pub mod ActsLaws
 pub mod ResetLaws
 pub mod ResetLoop
+pub mod WakeLaws

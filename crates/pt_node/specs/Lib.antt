@@ -7,3 +7,4 @@ pub mod Reset
 pub mod Firing
 pub mod Stuck
 pub mod Unmet
+pub mod Wake

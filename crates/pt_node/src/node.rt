@@ -2,6 +2,7 @@ ghost use Rattle.std.specs.Prelude.{◌≡◌, ◌+◌, ◌<◌, ◌^◌, [], �
 ghost use Rattle.pt_value.specs.declared.token.Token.TheVariants.{Int};
 ghost use Rattle.pt_node.specs.declared.node.Node.{out-Node};
 ghost use Rattle.pt_node.specs.Shown.{shown, shown_node, all_of};
+ghost use Rattle.pt_meaning.specs.Basics as basics;
 ghost use Rattle.pt_meaning.specs.NodeFacts as facts;
 ghost use Rattle.pt_firing.specs.Need.{need_of};
 ghost use Rattle.pt_library.specs.LibraryActor as library;
@@ -9,6 +10,7 @@ ghost use Rattle.pt_node.specs.Live.{is_live, IsFit, IsReadyBody, AllFit};
 ghost use Rattle.pt_node.specs.Reset.{WasReset, WereReset, BodyReset, KeepsRecords, KeepRecords};
 ghost use Rattle.pt_node.specs.View.{node_of, meetings_in};
 ghost use Rattle.pt_node.specs.Firing.{noted, bare, recorded};
+ghost use Rattle.pt_node.specs.Wake.{begins, own_wake};
 
 use crate::body::Body;
 use crate::past::Past;
@@ -48,6 +50,53 @@ impl Node {
         match &self.body {
             Body::Actor(held) => held.actor.need(),
             Body::Composite(director) => director.need(),
+        }
+    }
+
+    /// Whether it begins by itself, and so has the wake 0.0 until it fires for the first time.
+    fn begins(&self) -> bool
+        ensures { result ≡ begins (shown_node self.now) }
+    {
+        match &self.body {
+            Body::Actor(held) => held.actor.begins(),
+            Body::Composite(director) => director.begins(),
+        }
+    }
+
+    /// The wake that it has once it has fired.
+    fn own_wake(&self) -> Option<Tag>
+        requires { IsFit (shown_node self.now) }
+        ensures { result ≡ own_wake (shown_node self.now) }
+    {
+        match &self.body {
+            Body::Actor(held) => held.actor.next(),
+            Body::Composite(director) => director.next(),
+        }
+    }
+
+    /// The wake of the node. It walks over no children, and takes no memory.
+    pub fn next(&self) -> Option<Tag>
+        requires { IsFit (shown_node self.now) }
+        ensures { result ≡ facts.next_of library.rows (node_of (shown_node self.now)) }
+    {
+        self.past.wake(self.begins(), self.own_wake())
+    }
+
+    /// The wake that the node has once its firing under way is recorded, at whatever tag. It walks over no children, and takes no memory.
+    pub fn wake(&self) -> Option<Tag>
+        requires { IsFit (shown_node self.now) }
+        ensures { (tag : basics.Tag) → result ≡ facts.next_of library.rows (node_of (recorded tag (shown_node self.now))) }
+    {
+        self.own_wake()
+    }
+
+    /// Whether under DE the node takes its lists whole.
+    pub fn whole(&self) -> bool
+        ensures { result ≡ facts.whole_of library.rows (node_of (shown_node self.now)) }
+    {
+        match &self.body {
+            Body::Actor(held) => held.actor.whole(),
+            Body::Composite(director) => director.whole(),
         }
     }
 

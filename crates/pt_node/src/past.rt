@@ -1,5 +1,6 @@
 ghost use Rattle.std.specs.Prelude.{◌≡◌, ◌+◌, ◌<◌, ◌^◌};
 ghost use Rattle.pt_meaning.specs.Tree as tree;
+ghost use Rattle.pt_meaning.specs.NodeFacts.{at_first};
 
 use pt_time::Tag;
 use std::marker::Model;
@@ -29,6 +30,16 @@ impl Past {
         Past {
             made: self.made,
             last: None,
+        }
+    }
+
+    /// The wake of a node with this past, of its own wake: where it begins by itself that is 0.0 until it has fired.
+    pub fn wake(self, begins: bool, own: Option<Tag>) -> Option<Tag>
+        ensures { result ≡ at_first begins self.last own }
+    {
+        match self.last {
+            None if begins => Some(Tag { time: 0, step: 0 }),
+            None | Some(_) => own,
         }
     }
 
