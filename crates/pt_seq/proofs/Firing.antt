@@ -5,7 +5,7 @@ use Rattle.pt_meaning.specs.Streams.{get}
 use Rattle.pt_meaning.specs.Machine as machine
 use Rattle.pt_meaning.specs.Meetings.{Meets, below_child}
 use Rattle.pt_meaning.specs.Tree as tree
-use Rattle.pt_meaning.specs.NodeFacts.{early_of}
+use Rattle.pt_meaning.specs.NodeFacts.{early_of, next_of}
 use Rattle.pt_meaning.specs.Step.{Step}
 use Rattle.pt_value.specs.declared.token.Token.{Token}
 use Rattle.pt_firing.specs.declared.ask.Ask.{Ask}
@@ -96,8 +96,8 @@ module _ {D : Type 0} (a : Acts rows D) (law : Lawful a) where
               so_far = λ m made.
                   let fires = f.fires (below_child i m) (made-of-fired m now i child after there made) in
                   subst (λ v. a.Underway (beginning a m before (all_of olds) tag X) v (tree.list_of (nodes_of (all_of (set now i after)))) (kepts_of (all_of (set now i after)))) (sym f.told)
-                  (subst (λ ns. a.Underway (beginning a m before (all_of olds) tag X) (a.calls.told i f.out t) ns (kepts_of (all_of (set now i after)))) (sym (nodes-set now i after))
-                  (subst (λ ks. a.Underway (beginning a m before (all_of olds) tag X) (a.calls.told i f.out t) (set (tree.list_of (nodes_of (all_of now))) i (node_of after)) ks) (sym (kepts-set now i after))
+                  (subst (λ ns. a.Underway (beginning a m before (all_of olds) tag X) (a.calls.told i f.out (next_of rows (node_of after)) t) ns (kepts_of (all_of (set now i after)))) (sym (nodes-set now i after))
+                  (subst (λ ks. a.Underway (beginning a m before (all_of olds) tag X) (a.calls.told i f.out (next_of rows (node_of after)) t) (set (tree.list_of (nodes_of (all_of now))) i (node_of after)) ks) (sym (kepts-set now i after))
                   ((middle-of m (made-before m now i child after there fires.log fires.kept made)).goes_on i when g (node_of child) (node_of after) f.out (kept_of after) (nodes-get now i child there)
                   (subst (λ k. FiresTo (λ fuel. Step fuel rows (below_child i m) (node_of child) when (a.calls.lent_of t)) (node_of after) f.out k (kept_of after)) (sym (kepts-at now i child there)) fires) f.accepted)));
             };

@@ -1,7 +1,8 @@
 -- The turn of a child, from what its firing came to and what the director was told.
-use Rattle.std.proofs.Common.{◌≡◌, ℕ, [], Bool, true, false, not, Option, Some, refl, sym, ap, subst, ◌∙◌, inl, inr}
+use Rattle.std.proofs.Common.{◌≡◌, ℕ, [], Bool, true, false, not, Option, Some, None, refl, sym, ap, subst, ◌∙◌, inl, inr}
 use Rattle.pt_meaning.specs.Basics.{Tag, Streams}
 use Rattle.pt_meaning.specs.Meetings.{Meets}
+use Rattle.pt_meaning.specs.NodeFacts.{next_of}
 use Rattle.pt_meaning.specs.Step.{Step}
 use Rattle.pt_value.specs.declared.token.Token.{Token}
 use Rattle.pt_firing.specs.declared.answer.Place.{Place}
@@ -80,18 +81,18 @@ module _ {D : Type 0} (c : Calls D) (agree : CallsAgree c) where
     told-once-handed mid tag out u s' after g = told_so u (subst (λ v. TellTo c v mid i tag out u s' after) e g)
       where
         told_so : (u : Turn) → TellTo c (c.handed s) mid i tag out u s' after → TellTo c s mid i tag out u s' after
-        told_so turn.Done g = let o = agree.hands_on s i a out in (sym o.1 ∙ g.0, g.1 ∙ o.0, g.2)
-        told_so (turn.Fault place) g = let o = agree.hands_on s i a out in (sym o.1 ∙ g.0, g.1, g.2, g.3 ∙ o.2, g.4)
+        told_so turn.Done g = let o = agree.hands_on s i a out (next_of rows (node_of after)) in (sym o.1 ∙ g.0, g.1 ∙ o.0, g.2)
+        told_so (turn.Fault place) g = let o = agree.hands_on s i a out None in (sym o.1 ∙ g.0, g.1, g.2, g.3 ∙ o.2, g.4)
         told_so turn.Spent g = g
         told_so turn.Memory g = g
 
   -- the director tells whether it accepts what it was told
-  module _ (s t : D) (i : ℕ) (out : Streams Token) (a : c.asked_of s ≡ Some i) (e : t ≡ c.told i out s) where
+  module _ (s t : D) (i : ℕ) (out : Streams Token) (wake : Option Tag) (a : c.asked_of s ≡ Some i) (e : t ≡ c.told i out wake s) where
     pub may-ask-once-told : c.MayAsk t
-    may-ask-once-told = subst (λ v. c.MayAsk v) (sym e) (agree.asks_on s i out a)
+    may-ask-once-told = subst (λ v. c.MayAsk v) (sym e) (agree.asks_on s i out wake a)
 
     told-wrong : (b : Bool) → b ≡ c.is_wrong t → b ≡ not (c.accepts s i out)
-    told-wrong b w = w ∙ ap (λ v. c.is_wrong v) e ∙ agree.tells s i out a
+    told-wrong b w = w ∙ ap (λ v. c.is_wrong v) e ∙ agree.tells s i out wake a
 
     pub accepted-so : (b : Bool) → b ≡ c.is_wrong t → b ≡ false → c.accepts s i out ≡ true
     accepted-so b w h = if_not (c.accepts s i out) (sym h ∙ told-wrong b w)
@@ -106,6 +107,13 @@ module _ {D : Type 0} (c : Calls D) (agree : CallsAgree c) where
         if_not : (x : Bool) → true ≡ not x → x ≡ false
         if_not true q = absurd (cc)
         if_not false q = refl
+
+-- the wake that a child has once its firing is recorded, whatever was noted of it
+recorded-noted : (tag : Tag) (out : Streams Token) (s : Shown) → node_of (firing.recorded tag (firing.noted tag out s)) ≡ node_of (firing.recorded tag s)
+recorded-noted tag out (Branch g ks) = refl
+
+pub wake-recorded : (tag : Tag) (out : Streams Token) (s after : Shown) (wake : Option Tag) → wake ≡ next_of rows (node_of (firing.recorded tag s)) → after ≡ firing.recorded tag (firing.noted tag out s) → wake ≡ next_of rows (node_of after)
+wake-recorded tag out s after wake w e = w ∙ ap (λ v. next_of rows v) (sym (recorded-noted tag out s) ∙ ap (λ v. node_of v) (sym e))
 
 -- what was noted of a child changes neither its path nor its number of firings
 path-bare : (s t : Shown) → firing.bare s ≡ firing.bare t → path_of s ≡ path_of t

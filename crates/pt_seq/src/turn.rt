@@ -2,6 +2,7 @@ ghost use Rattle.std.specs.Prelude.{◌≡◌, ◌+◌, ◌<◌, ◌≤◌, Some
 ghost use Rattle.pt_directors.specs.Directors.{director_calls};
 ghost use Rattle.pt_node.specs.Shown.{shown_node};
 ghost use Rattle.pt_node.specs.View.{outline_of, count_of};
+ghost use Rattle.pt_node.specs.Live.{IsFit};
 ghost use Rattle.pt_seq.specs.Turns.{TurnSpends, TellTo, RefusesTo};
 
 use crate::fire::{Within, fault_at};
@@ -21,7 +22,7 @@ pub(crate) enum Turn {
     Memory,
 }
 
-/// Tells the director what the child gave. The child's firing is recorded where the director accepts that, and else the child is stuck.
+/// Tells the director what the child gave, and which wake it has once that is recorded. The child's firing is recorded where the director accepts what it gave, and else the child is stuck.
 pub(crate) fn tell(
     alloc: Global,
     director: &mut Director,
@@ -33,17 +34,19 @@ pub(crate) fn tell(
 ) -> Turn
     requires asked { director_calls.asked_of director.old ≡ Some number }
     requires left { 0 < left.old }
+    requires fit { IsFit (shown_node child.old) }
     ensures goes { TellTo director_calls director.old (shown_node child.old) number tag outputs result director.new (shown_node child.new) }
     ensures spends { TurnSpends result left.old left.new }
     ensures lowered { left.new ≤ left.old }
     ensures outline { outline_of (shown_node child.new) ≡ outline_of (shown_node child.old) }
     ensures counted { count_of (shown_node child.new) + left.new ≡ count_of (shown_node child.old) + left.old }
 {
+    let wake = child.wake();
     if child.past.made == u64::MAX || child.note(alloc, tag, &outputs).is_err() {
         return Turn::Memory;
     }
     let refusal = director.refusal();
-    if director.told(alloc, number, outputs).is_err() {
+    if director.told(alloc, number, outputs, wake).is_err() {
         return Turn::Memory;
     }
     if director.is_wrong() {

@@ -18,6 +18,9 @@ use Rattle.pt_seq.proofs.fire.+fire.Goals as goal
 pub fire_any-lent-requires : goal.fire_any-lent-requires
 fire_any-lent-requires t c = handed-once director_calls acts-law.agree c.args.director.now c.hand.new.self c.args.number c.requires.asked c.hand.ensures
 
+pub fire_any-tell-requires-clause-fit : goal.fire_any-tell-requires-clause-fit
+fire_any-tell-requires-clause-fit t c = c.in-Done.ensures.fit
+
 pub fire_any-tell-requires-clause-asked : goal.fire_any-tell-requires-clause-asked
 fire_any-tell-requires-clause-asked t c = asked-once-handed director_calls acts-law.agree c.args.director.now c.hand.new.self c.args.number c.requires.asked c.hand.ensures
 
