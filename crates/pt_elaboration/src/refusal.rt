@@ -20,12 +20,7 @@ pub(crate) fn refusal_of_entity(alloc: Global, code: Code, net: &Net, number: us
 }
 
 /// The same of the transparent composite of that number.
-pub(crate) fn refusal_of_composite(
-    alloc: Global,
-    code: Code,
-    net: &Net,
-    number: usize,
-) -> DocFault
+pub(crate) fn refusal_of_composite(alloc: Global, code: Code, net: &Net, number: usize) -> DocFault
     requires { number < length net.now.transparent.items }
     ensures { (c : Transparent) → slice_get net.now.transparent.items number ≡ Some c → IsRefusal result code c.path }
 {
