@@ -45,7 +45,7 @@ LINK_MISTAKES = (
     (lambda t: "docs/SEMANTICS.md", "`Sdf.iterations`", "`Sdf.iteration_count`"),
     (lambda t: "docs/ARCHITECTURE.md", "`tests/edits`", "`tests/mistakes`"),
     (lambda t: "docs/ARCHITECTURE.md", "| | pt_sched |", "| | pt_schedules |"),
-    (lambda t: "docs/ARCHITECTURE.md", "pt_order, pt_typed, pt_datatypes", "pt_order, pt_typed, pt_plan"),
+    (lambda t: "docs/ARCHITECTURE.md", "pt_order, pt_typed, pt_buildable", "pt_order, pt_typed, pt_plan"),
 )
 
 
