@@ -1,18 +1,18 @@
 -- How deep the entities of a document stand in one another, and how many there are: no more than its limits say.
-use Rattle.std.proofs.Common.{◌≡◌, ◌≤◌, ◌+◌, ℕ, true, List, [], ◌∷◌, ◌++◌, Option, Some, None, Result, Ok, codes, max, nat_le, map, sym, ap, subst, arith}
+use Rattle.std.proofs.Common.{◌≡◌, ◌≤◌, ◌+◌, ℕ, true, List, [], ◌∷◌, ◌++◌, Option, Some, None, Result, Ok, codes, max, nat_le, map, ap, subst, arith}
 use Rattle.std.proofs.Common.{Ordering, Less, Equal, Greater}
 use Rattle.std.proofs.lemmas.Bool.{and_parts, leb-true}
 use Rattle.std.specs.Ordering.{nat_cmp, match_ordering}
 use Rattle.std.specs.Cmp.Lexicographic.{slice_cmp}
 use Rattle.serde_json.specs.Data.{Data, null, boolean, number, string, array, object, Items, no_items, item, Members, no_members, member}
 use Rattle.serde_json.specs.Find.{get}
-use Rattle.pt_document.specs.declared.code.Code.TheVariants.{Name, Limit}
+use Rattle.pt_document.specs.declared.code.Code.TheVariants.{Limit}
 use Rattle.pt_document.specs.declared.refusal.Refusal.{Refusal}
 use Rattle.pt_document.specs.Document.{EntityTree, EntityTrees, entity, no_entities, one_entity, to_entities, entity_name, JobTree}
 use Rattle.pt_document.specs.Names.{below, top_path}
 use Rattle.pt_document.specs.Outcome.{◌>>=◌}
 use Rattle.pt_moml.specs.Fields.{listed, name_at, optional_list, text_at, distinct_at}
-use Rattle.pt_moml.specs.Limits.{Nest, no_nest, one_nest, count, levels, nest_in, nest_under, nest_at, nest_items, nest_field, is_within}
+use Rattle.pt_moml.specs.Limits.{Nest, no_nest, count, levels, nest_in, nest_under, nest_at, nest_items, nest_field, is_within}
 use Rattle.pt_moml.specs.Reading.{named, entity_from, entities_in, entities_under, entities_at, entity_items, entities_field, limits_at, model_at, version_at, job_fields, input_at, job_of, IsJobOf}
 use Rattle.pt_document.proofs.Chains.{good, bind_ok, never_ok, test_ok}
 use Rattle.pt_moml.proofs.EntityLaws.{steps}

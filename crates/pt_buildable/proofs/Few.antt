@@ -1,12 +1,11 @@
 -- The net of a document within its limits has few entities and few channels.
-use Rattle.std.proofs.Common.{◌≡◌, ◌⊎◌, inl, inr, ◌≤◌, ◌<◌, ◌+◌, ℕ, suc, List, [], ◌∷◌, ◌++◌, Bool, true, false, length, map, filter, refl, sym, ap, ◌∙◌, arith}
+use Rattle.std.proofs.Common.{◌≡◌, inl, inr, ◌≤◌, ◌+◌, ℕ, suc, List, [], ◌∷◌, ◌++◌, Bool, true, false, length, filter, refl, sym, ap, ◌∙◌, arith}
 use Rattle.std.specs.List.{AllZip}
 use Rattle.std.proofs.lemmas.Bool.{cases_order}
 use Rattle.std.proofs.lemmas.List.{length-map, length-append}
 use Rattle.std.proofs.lemmas.List.Sums.{length-filter, count_by-le-length}
 use Rattle.pt_document.specs.Document.{EntityTree, EntityTrees, entity, no_entities, one_entity, entity_name, JobTree}
 use Rattle.pt_document.specs.Names.{below, top_path}
-use Rattle.pt_net.specs.declared.net.Channel.{Channel}
 use Rattle.pt_net.specs.declared.net.Net.{Net}
 use Rattle.pt_net.specs.declared.net.NetEntity.{NetEntity}
 use Rattle.pt_net.specs.Inside.{is_child, child_if, children_from, children_of, place_count, source_of, is_within, channels_in}
@@ -14,7 +13,7 @@ use Rattle.pt_net.specs.Standing.{Standing, Round, is_kept, standing, round_in, 
 use Rattle.pt_net.specs.Table.{Tables, tables_of}
 use Rattle.pt_net.specs.Net.{NetEntityTree, entity_view, entity_tree, IsChannelTo, all_places, IsNetOf}
 use Rattle.pt_net.specs.Stands.{IsPastLimit}
-use Rattle.pt_trees.specs.Trees.{IsEntity, around_in}
+use Rattle.pt_trees.specs.Trees.{around_in}
 use Rattle.pt_buildable.proofs.Depths.{size_in, size_of, IsSmall}
 
 -- ---- entities

@@ -1,27 +1,24 @@
 -- The top of the net of a document, with the director SDF or SR, has a number of iterations.
-use Rattle.std.proofs.Common.{◌≡◌, ◌⊎◌, inl, inr, ◌+◌, ◌&&◌, ℕ, zero, suc, List, [], ◌∷◌, Bool, true, false, not, cond, Option, Some, None, codes, bytes_eq, map, filter, option_map, refl, sym, ap, subst, ◌∙◌, arith, if◌then◌else◌}
-use Rattle.std.specs.Prelude.{ℤ, pos, int_lt, nat_abs, is_some, IsTrue, unwrap_or}
+use Rattle.std.proofs.Common.{◌≡◌, inl, inr, ◌+◌, ℕ, zero, suc, List, [], ◌∷◌, Bool, true, false, not, cond, Option, Some, None, codes, bytes_eq, map, filter, option_map, refl, sym, ap, subst, ◌∙◌, arith, if◌then◌else◌}
+use Rattle.std.specs.Prelude.{pos, int_lt, nat_abs, is_some, IsTrue}
 use Rattle.std.specs.Option.{is_none}
-use Rattle.std.specs.List.{find, position, position_from, slice_get, AllZip, list_any}
+use Rattle.std.specs.List.{find, position, position_from, slice_get, AllZip}
 use Rattle.std.proofs.lemmas.Bool.{and_parts, and_from}
 use Rattle.std.proofs.lemmas.Iterator.Adapters.{position_from-zero}
-use Rattle.std.proofs.lemmas.Option.{none-some, same_Some, slice_get-map}
+use Rattle.std.proofs.lemmas.Option.{none-some, same_Some}
 use Rattle.std.proofs.lemmas.Slice.Eq.{bytes_eq-Decides}
 use Rattle.pt_value.specs.declared.token.Token.{Token}
 use Rattle.pt_value.specs.declared.token.Token.TheVariants as token
 use Rattle.pt_value.specs.Token.{value_of}
 use Rattle.pt_language.specs.Scope.{Scope}
-use Rattle.pt_document.specs.Document.{PropertyTree, property_name, property_class, inner_properties, Parts, parts, JobTree}
-use Rattle.pt_document.specs.Names.{is_layout, top_path}
-use Rattle.pt_document.specs.Classes.{Composite}
-use Rattle.pt_moml.specs.Reading.{IsJobOf}
+use Rattle.pt_document.specs.Document.{PropertyTree, property_name, property_class, inner_properties}
+use Rattle.pt_document.specs.Names.{is_layout}
 use Rattle.pt_moml.specs.Stands.{IsIn}
-use Rattle.pt_net.specs.Standing.{is_director, names_director}
-use Rattle.pt_net.specs.Net.{NetEntityTree, DirectorTree, is_parameter, director_tree, entity_tree}
+use Rattle.pt_net.specs.Standing.{is_director}
+use Rattle.pt_net.specs.Net.{NetEntityTree, DirectorTree, is_parameter, director_tree}
 use Rattle.pt_scopes.specs.declared.form.Form.TheVariants as form
 use Rattle.pt_scopes.specs.declared.parameter_value.ParameterValue.{ParameterValue}
 use Rattle.pt_scopes.specs.declared.parameter_value.ParameterValue.TheVariants as parameter
-use Rattle.pt_scopes.specs.declared.values.EntityValues.{EntityValues}
 use Rattle.pt_scopes.specs.declared.values.Values.{Values}
 use Rattle.pt_scopes.specs.Forms.{forms, form_of, fits}
 use Rattle.pt_scopes.specs.Given.{Held, held_view, names_port, IsGiven}
@@ -30,7 +27,7 @@ use Rattle.pt_scopes.specs.Scopes.{NetTree, bound, text_of}
 use Rattle.pt_scopes.specs.ClassParameters.{IsParameterOf}
 use Rattle.pt_scopes.specs.Valued.{EntityView, AreOfDirector, IsEntityValued, IsValued}
 use Rattle.pt_scopes.specs.Valued as valued
-use Rattle.pt_job.specs.Iterations.{count, count_of, count_in, value_at, sets_iterations, iterations_in, iterations_by, iterations_at, iterations}
+use Rattle.pt_job.specs.Iterations.{count_of, count_in, value_at, sets_iterations, iterations_in, iterations_by, iterations_at, iterations}
 use Rattle.pt_buildable.proofs.Directors.{not-true}
 use Rattle.pt_buildable.proofs.TopRules.{TakesIterations, IsGivenIn, sdf-takes, sr-takes}
 

@@ -1,14 +1,14 @@
 -- The children of a composite of SDF need and give the same at each firing.
-use Rattle.std.proofs.Common.{◌≡◌, ◌⊎◌, inl, inr, ◌&&◌, ℕ, zero, suc, List, [], ◌∷◌, Bool, true, false, Option, Some, None, codes, bytes_eq, option_map, refl, sym, ap, subst, ◌∙◌}
+use Rattle.std.proofs.Common.{◌≡◌, inl, inr, ℕ, zero, suc, List, true, false, Option, Some, None, option_map, refl, sym, ap, subst, ◌∙◌}
 use Rattle.std.specs.List.{slice_get}
-use Rattle.std.proofs.lemmas.Bool.{and_parts, both_ways}
+use Rattle.std.proofs.lemmas.Bool.{both_ways}
 use Rattle.std.proofs.lemmas.Option.{none-some, same_Some}
-use Rattle.std.proofs.lemmas.Slice.Eq.{bytes_eq-Decides}
 use Rattle.pt_meaning.specs.Streams.{get}
 use Rattle.pt_document.specs.declared.code.Code.{Code}
 use Rattle.pt_document.specs.declared.classes.Director.{Director}
-use Rattle.pt_document.specs.declared.classes.Director.TheVariants.{Sdf}
-use Rattle.pt_document.specs.Classes.{director_row, directors}
+use Rattle.pt_document.specs.declared.classes.Director.TheVariants.{Sdf, Pn, Rendezvous, Sr, De}
+use Rattle.pt_value.specs.declared.token.Token.{Token}
+use Rattle.pt_meaning.specs.Tree as tree
 use Rattle.pt_net.specs.declared.net.Net.{Net}
 use Rattle.pt_net.specs.declared.net.NetDirector.{NetDirector}
 use Rattle.pt_net.specs.declared.net.NetEntity.{NetEntity}
@@ -24,21 +24,24 @@ use Rattle.pt_start.specs.Places.{director_in, director_at, director_over}
 use Rattle.pt_start.specs.Misplaced.{IsMisplaced}
 use Rattle.pt_start.proofs.Outward.{view-at}
 use Rattle.pt_node.specs.View.{Tree}
-use Rattle.pt_trees.specs.Rates.{IsUnsteady, HasUnsteady}
-use Rattle.pt_trees.specs.Trees.{Starts, StartsAs, IsEntity, has_sdf, IsSdf, IsTree, of_actor, of_sdf, of_sr, AreTrees, no_trees, more_trees}
+use Rattle.pt_trees.specs.Rates.{tick_gives, core_rates, IsUnsteady, HasUnsteady}
+use Rattle.pt_trees.specs.Around.{Around}
+use Rattle.pt_trees.specs.Directors.{named, IsDirectedBy, composing}
+use Rattle.pt_trees.specs.Sr.{tick_plan}
+use Rattle.pt_trees.specs.Trees.{Starts, StartsAs, IsEntity, around_in, IsTree, of_actor, of_composite, AreTrees, no_trees, more_trees}
+use Rattle.pt_trees.proofs.DirectorLaws.{named-of}
 use Rattle.pt_order.proofs.Children.{child-stands}
 use Rattle.pt_typed.specs.RowLaw.{types_of_ports, AreStartedIn}
 use Rattle.pt_buildable.proofs.Steady.{IsSteadyStart, steady-started}
 
 -- ---- the director round an entity
 
-sdf-in : (o : Option NetDirector) → has_sdf o ≡ true → director_in (option_map director_view o) ≡ Some Sdf
-unfolding director_row directors
-sdf-in None e = absurd (let h : false ≡ true = e in cc)
-sdf-in (Some d) e = ap (λ c. director_in (Some (record { class = c; parameters = (director_view d).parameters }))) ((bytes_eq-Decides d.class (codes "SDF")).0 e)
+same-director : (o : Option NetDirector) → director_in (option_map director_view o) ≡ named o
+same-director None = refl
+same-director (Some d) = refl
 
-pub over-sdf : (net : Net) (k : ℕ) (e : NetEntity) → IsEntity net k e → IsSdf e → director_over (net_view net) (Some k) ≡ Some Sdf
-over-sdf net k e at sdf = ap director_at (view-at entity_view net.entities.items k e at) ∙ sdf-in e.director (and_parts (bytes_eq e.class (codes "Composite")) (has_sdf e.director) sdf).1
+pub over-sdf : (net : Net) (k : ℕ) (e : NetEntity) → IsEntity net k e → IsDirectedBy e Sdf → director_over (net_view net) (Some k) ≡ Some Sdf
+over-sdf net k e at sdf = ap director_at (view-at entity_view net.entities.items k e at) ∙ same-director e.director ∙ named-of e Sdf sdf
 
 -- ---- its children
 
@@ -47,16 +50,22 @@ tree-among net starts no_trees i kid at = absurd (none-some kid at)
 tree-among net starts (more_trees k ks t ts one all) zero kid at = (k, refl, subst (λ x. IsTree net (StartsAs starts) k x) (same_Some t kid at) one)
 tree-among net starts (more_trees k ks t ts one all) (suc i) kid at = tree-among net starts all i kid at
 
+-- a core that a composite has at its start has rates
+rated-core : (director : Director) (around : Around) (kids : List Tree) (core : tree.Core Token) → (composing director).IsCore around kids core → core_rates core ≡ None → ⊥
+rated-core Sdf around kids core is unrated = none-some is.plan.gives (sym unrated ∙ ap core_rates is.is)
+rated-core Sr around kids core is unrated = none-some (tick_gives (tick_plan around)) (sym unrated ∙ ap core_rates is.is)
+rated-core De around kids core is unrated = absurd is
+rated-core Pn around kids core is unrated = absurd is
+rated-core Rendezvous around kids core is unrated = absurd is
+
 -- a composite does, and so does an actor that starts so
 steady-kid : (net : Net) (starts : Starts) {c : ℕ} {kid : Tree} → IsTree net (StartsAs starts) c kid → ((a : LibraryActor) → StartsAs starts c a → IsSteadyStart a) → IsUnsteady kid → ⊥
 steady-kid net starts (of_actor k e a at undirected started) steady (inl unsteady) = both_ways (library.is_steady a) unsteady (steady a started).steady
 steady-kid net starts (of_actor k e a at undirected started) steady (inr unrated) = (steady a started).rated unrated
-steady-kid net starts (of_sdf k e kids x p at sdf all is plan) steady (inl unsteady) = let h : true ≡ false = unsteady in cc
-steady-kid net starts (of_sdf k e kids x p at sdf all is plan) steady (inr unrated) = none-some p.gives (sym unrated)
-steady-kid net starts (of_sr k e kids at sr all wired) steady (inl unsteady) = let h : true ≡ false = unsteady in cc
-steady-kid net starts (of_sr k e kids at sr all wired) steady (inr unrated) = none-some _ (sym unrated)
+steady-kid net starts (of_composite k e director kids core at by all is) steady (inl unsteady) = let h : true ≡ false = unsteady in cc
+steady-kid net starts (of_composite k e director kids core at by all is) steady (inr unrated) = rated-core director (around_in net k e) kids core is unrated
 
-pub no-unsteady : (net : Net) (values : Values) (typing : Assignment) (starts : Starts) → IsValued (net_view net) values → ((cause : Code) (k : ℕ) → IsMisplaced (net_view net) values cause k → ⊥) → AreStartedIn net values typing starts → (k : ℕ) (e : NetEntity) (kids : List Tree) → IsEntity net k e → IsSdf e →
+pub no-unsteady : (net : Net) (values : Values) (typing : Assignment) (starts : Starts) → IsValued (net_view net) values → ((cause : Code) (k : ℕ) → IsMisplaced (net_view net) values cause k → ⊥) → AreStartedIn net values typing starts → (k : ℕ) (e : NetEntity) (kids : List Tree) → IsEntity net k e → IsDirectedBy e Sdf →
     AreTrees net (StartsAs starts) (children_of net.entities.items k) kids → HasUnsteady kids → ⊥
 no-unsteady net values typing starts valued placed started k e kids at sdf all unsteady =
     let w = tree-among net starts all unsteady.0 unsteady.1 unsteady.2 in

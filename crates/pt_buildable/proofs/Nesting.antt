@@ -1,12 +1,12 @@
 -- The composites of the net of a document stand below at most fifteen others, and its top is there.
-use Rattle.std.proofs.Common.{◌≡◌, ◌≤◌, ◌<◌, ◌+◌, ℕ, zero, suc, Bool, true, false, cond, Option, Some, None, length, refl, sym, ap, subst, ◌∙◌, arith}
+use Rattle.std.proofs.Common.{◌≡◌, ◌≤◌, ℕ, suc, Bool, true, false, cond, Some, refl, sym, ap, ◌∙◌, arith}
 use Rattle.std.proofs.lemmas.Option.{none-some, same_Some, slice_get-get_or}
 use Rattle.std.specs.List.{Contains, slice_get}
 use Rattle.pt_document.specs.Document.{JobTree}
 use Rattle.pt_net.specs.declared.net.Net.{Net}
 use Rattle.pt_net.specs.declared.net.NetEntity.{NetEntity}
 use Rattle.pt_net.specs.Inside.{children_of}
-use Rattle.pt_net.specs.Standing.{Standing, Round, is_kept, entities}
+use Rattle.pt_net.specs.Standing.{Round, is_kept, entities}
 use Rattle.pt_net.specs.Net.{NetEntityTree, IsNetOf}
 use Rattle.pt_trees.specs.Trees.{IsEntity}
 use Rattle.pt_trees.specs.Built.{IsNested, at_top, within}

@@ -1,5 +1,5 @@
 -- The net of a document without faults of links, of which all composites are built, is in order.
-use Rattle.std.proofs.Common.{◌≡◌, ◌⊎◌, ℕ, List, true, Some, codes, sym, ap, subst, ◌∙◌}
+use Rattle.std.proofs.Common.{◌≡◌, ℕ, List, true, Some, codes, sym, ap, subst, ◌∙◌}
 use Rattle.std.proofs.lemmas.Option.{none-some, same_Some}
 use Rattle.std.proofs.lemmas.Slice.Eq.{bytes_eq-Decides}
 use Rattle.std.specs.List.{slice_get}
@@ -12,7 +12,8 @@ use Rattle.pt_net.specs.Standing.{is_composite, entities}
 use Rattle.pt_net.specs.Net.{NetEntityTree, net_ports_of_kind, net_ports, entity_view}
 use Rattle.pt_scopes.specs.Scopes.{net_view}
 use Rattle.pt_start.specs.Nested.{IsNested}
-use Rattle.pt_trees.specs.Trees.{IsEntity, IsSdf, IsSr, IsDirected}
+use Rattle.pt_trees.specs.Directors.{director_of}
+use Rattle.pt_trees.specs.Trees.{IsEntity, IsDirected}
 use Rattle.pt_cover.specs.Leaves.{ActorsAreLeaves}
 use Rattle.pt_cover.proofs.Reading.{documents-leaves}
 use Rattle.pt_cover.proofs.Walk.{ArePlaced, all-placed}
@@ -27,7 +28,7 @@ use Rattle.pt_order.proofs.LinkFacts.{class-composite}
 use Rattle.pt_order.proofs.WiredNets.{wired}
 use Rattle.pt_order.proofs.ClassPortsHeld.{class-ports-held}
 use Rattle.pt_order.proofs.TreeCover.{actor-kind}
-use Rattle.pt_buildable.specs.Composites.{HasBuiltComposites}
+use Rattle.pt_buildable.specs.Composites.{is_built, HasBuiltComposites}
 use Rattle.pt_buildable.proofs.Composites.{directed-built, holder-built, holder-directed, undirected-actor, stands-in}
 
 -- the ports of a Composite are those that it declares
@@ -58,8 +59,8 @@ module _ (net : Net) (doc : IsNetOfDocument net) where
     pub holder : (k j : ℕ) (e : NetEntity) → IsEntity net k e → e.parent ≡ Some j → (f : NetEntity) × IsEntity net j f × IsDirected f
     holder = holder-directed doc.job net seen placed doc.made nested rooted built
 
-    -- what an entity stands in has the director SDF or SR
-    pub holding : (k j : ℕ) (e : NetEntity) → IsEntity net k e → e.parent ≡ Some j → (f : NetEntity) × IsEntity net j f × (IsSdf f ⊎ IsSr f)
+    -- what an entity stands in has a director that is built
+    pub holding : (k j : ℕ) (e : NetEntity) → IsEntity net k e → e.parent ≡ Some j → (f : NetEntity) × IsEntity net j f × (is_built (director_of f) ≡ true)
     holding = holder-built doc.job net seen placed doc.made nested rooted built
 
     is-wired : IsWired net

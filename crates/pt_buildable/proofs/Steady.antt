@@ -1,10 +1,9 @@
 -- Under SDF only actors stand that need and give the same at each firing: the classes of the others may not stand there, and neither may a source with a limit.
-use Rattle.std.proofs.Common.{◌≡◌, ◌⊎◌, inl, inr, ◌<◌, ◌++◌, ◌&&◌, ◌||◌, ℕ, zero, suc, ℤ, pos, negsuc, List, [], ◌∷◌, Bool, true, false, not, cond, Option, Some, None, length, get_or, refl, sym, ap, subst, ◌∙◌, arith, leb, if◌then◌else◌}
-use Rattle.std.specs.Prelude.{codes, bytes_eq, is_some, int_le, int_lt, unsigned_abs, option_map, slice_get}
+use Rattle.std.proofs.Common.{◌≡◌, inl, inr, ◌<◌, ◌++◌, ◌&&◌, ◌||◌, ℕ, zero, suc, ℤ, pos, negsuc, List, [], ◌∷◌, Bool, true, false, not, Option, Some, None, length, get_or, refl, sym, ap, subst, ◌∙◌, arith, leb, if◌then◌else◌}
+use Rattle.std.specs.Prelude.{codes, bytes_eq, is_some, unsigned_abs, option_map, slice_get}
 use Rattle.std.specs.List.{Contains, AllByRecursion, list_all}
 use Rattle.std.proofs.lemmas.Bool.{and_parts, and_from, both_ways, le-leb}
 use Rattle.std.proofs.lemmas.Option.{none-some, same_Some}
-use Rattle.std.proofs.lemmas.Slice.Eq.{bytes_eq-Decides}
 use Rattle.pt_value.specs.declared.token.Token.{Token}
 use Rattle.pt_value.specs.declared.token.Token.TheVariants as token
 use Rattle.pt_document.specs.declared.code.Code.{Code}
@@ -14,7 +13,6 @@ use Rattle.pt_document.specs.declared.classes.Director.TheVariants.{Sdf, Pn, Ren
 use Rattle.pt_document.specs.Document.{PropertyTree, property_name}
 use Rattle.pt_document.specs.Classes.{Class as ClassRow, class_row, classes}
 use Rattle.pt_net.specs.declared.net.Net.{Net}
-use Rattle.pt_net.specs.Net.{NetEntityTree, entity_view}
 use Rattle.pt_scopes.specs.declared.parameter_value.ParameterValue.{ParameterValue}
 use Rattle.pt_scopes.specs.declared.parameter_value.ParameterValue.TheVariants as parameter
 use Rattle.pt_scopes.specs.declared.values.Values.{Values}
@@ -57,11 +55,10 @@ use Rattle.pt_lib_time.specs.TimeActor as time_actor
 use Rattle.pt_library.specs.declared.library_actor.LibraryActor.{LibraryActor}
 use Rattle.pt_library.specs.declared.library_actor.LibraryActor.TheVariants.{Flow, Data, Time}
 use Rattle.pt_library.specs.LibraryActor.{is_steady, rates, start}
-use Rattle.pt_start.specs.Frames.{token_in}
 use Rattle.pt_start.specs.Places.{director_over, token_named, is_positive, is_truth, is_limited}
 use Rattle.pt_start.specs.Started.{own_tokens, given_tree, seen_tokens, PortTyping, IsStartedFrom}
 use Rattle.pt_start.specs.Misplaced.{is_sdf, is_limited_with, barred, limited, IsMisplaced}
-use Rattle.pt_typed.specs.NetRows.{IsTokenHeld, HoldsTokens}
+use Rattle.pt_typed.specs.NetRows.{IsTokenHeld}
 use Rattle.pt_typed.proofs.FlowStarts as flows
 use Rattle.pt_typed.proofs.FlowStarts.{mapped}
 use Rattle.pt_typed.proofs.TimeStarts as signals

@@ -1,14 +1,13 @@
 -- What the reading of a document leaves of the rules on its top.
-use Rattle.std.proofs.Common.{◌≡◌, ◌⊎◌, inl, inr, ℕ, List, [], ◌∷◌, Bool, true, false, cond, Option, Some, None, Ok, codes, bytes_eq, map, refl, sym, ap, subst, ◌∙◌}
+use Rattle.std.proofs.Common.{◌≡◌, inl, inr, ℕ, List, [], ◌∷◌, Bool, true, false, cond, Option, Some, None, Ok, codes, bytes_eq, map, refl, ap, subst, ◌∙◌}
 use Rattle.std.specs.Prelude.{is_some}
-use Rattle.std.specs.Option.{is_none}
 use Rattle.std.proofs.lemmas.Slice.Eq.{bytes_eq-Decides}
 use Rattle.serde_json.specs.Data.{Data}
 use Rattle.serde_json.specs.Find.{get}
 use Rattle.pt_document.specs.declared.code.Code.TheVariants as code
 use Rattle.pt_document.specs.declared.classes.Need.TheVariants.{RequiredAtTop}
 use Rattle.pt_document.specs.declared.classes.Director.TheVariants.{Sdf, Sr}
-use Rattle.pt_document.specs.Document.{PropertyTree, property_name, property_class, inner_properties, PortTree, Parts, EntityTree, entity, parts, JobTree}
+use Rattle.pt_document.specs.Document.{PropertyTree, property_name, property_class, inner_properties, PortTree, EntityTree, parts, JobTree}
 use Rattle.pt_document.specs.Classes.{ClassParameter, DirectorClass, Kind, Composite, director_row, directors}
 use Rattle.pt_document.specs.Names.{is_among, is_layout, below, top_path}
 use Rattle.pt_moml.specs.Fields.{listed, name_at, optional_list, text_at}
@@ -18,7 +17,6 @@ use Rattle.pt_moml.specs.Reading.{entities_field, limits_at, model_at, version_a
 use Rattle.pt_document.proofs.Chains.{good, bind_ok, never_ok}
 use Rattle.pt_moml.proofs.EntityLaws.{steps}
 use Rattle.pt_moml.proofs.RuleLaws.{rules_clean}
-use Rattle.pt_net.specs.Net.{is_parameter}
 
 -- the properties and ports of the top keep the rules of its kind
 pub record IsRuled (e : EntityTree) : Type 0 where

@@ -1,18 +1,21 @@
 -- The top of the net of a document is there, and has a number of iterations where its director is SDF or SR.
-use Rattle.std.proofs.Common.{◌≡◌, ◌⊎◌, inl, inr, ◌&&◌, ℕ, List, [], ◌∷◌, ◌++◌, Bool, true, false, not, Option, Some, None, Ok, codes, bytes_eq, length, option_map, refl, sym, ap, subst, ◌∙◌}
+use Rattle.std.proofs.Common.{◌≡◌, ◌⊎◌, inl, inr, ℕ, List, [], ◌∷◌, ◌++◌, Bool, true, false, not, Option, Some, None, Ok, codes, bytes_eq, length, option_map, refl, sym, ap, subst, ◌∙◌, if◌then◌else◌}
 use Rattle.std.specs.Prelude.{unwrap_or}
-use Rattle.std.specs.List.{slice_get, find}
+use Rattle.std.specs.List.{slice_get}
 use Rattle.std.proofs.lemmas.Bool.{and_parts}
 use Rattle.std.proofs.lemmas.Option.{none-some, same_Some}
 use Rattle.std.proofs.lemmas.Slice.Eq.{bytes_eq-Decides}
-use Rattle.pt_document.specs.Document.{PropertyTree, property_name, property_class, EntityTree, EntityTrees, entity, no_entities, one_entity, entity_name, parts, JobTree}
-use Rattle.pt_document.specs.Classes.{Kind, Composite}
+use Rattle.pt_document.specs.Document.{property_name, property_class, EntityTree, EntityTrees, entity, no_entities, one_entity, entity_name, parts, JobTree}
+use Rattle.pt_document.specs.Classes.{DirectorClass, director_in, director_row, directors, Composite}
+use Rattle.pt_document.specs.declared.classes.Director.{Director}
+use Rattle.pt_document.specs.declared.classes.Director.TheVariants.{Sdf, Pn, Rendezvous, Sr, De}
+use Rattle.pt_moml.specs.Stands.{IsIn}
 use Rattle.pt_document.specs.Names.{is_layout, below, top_path}
 use Rattle.pt_moml.specs.Rules.{parts_fit}
 use Rattle.pt_net.specs.declared.net.Net.{Net}
 use Rattle.pt_net.specs.declared.net.NetDirector.{NetDirector}
 use Rattle.pt_net.specs.declared.net.NetEntity.{NetEntity}
-use Rattle.pt_net.specs.Standing.{Standing, Round, names_director, is_director, is_kept, standing, round_in, no_round, with_entity, with_entities, entities}
+use Rattle.pt_net.specs.Standing.{Standing, Round, names_director, standing, round_in, no_round, with_entity, with_entities, entities}
 use Rattle.pt_net.specs.Net.{NetEntityTree, DirectorTree, director_tree, director_view, entity_view, entity_tree, IsNetOf}
 use Rattle.pt_scopes.specs.declared.values.Values.{Values}
 use Rattle.pt_scopes.specs.Scopes.{net_view}
@@ -20,15 +23,16 @@ use Rattle.pt_scopes.specs.Valued.{IsValued}
 use Rattle.pt_scopes.proofs.Document.{get-left, get-last}
 use Rattle.pt_start.proofs.Outward.{view-at}
 use Rattle.pt_job.specs.Iterations.{iterations}
-use Rattle.pt_trees.specs.Trees.{IsEntity, has_sdf, IsSdf, has_sr, IsSr}
+use Rattle.pt_trees.specs.Directors.{named, IsDirectedBy}
+use Rattle.pt_trees.specs.Trees.{IsEntity, IsDirected}
+use Rattle.pt_trees.proofs.DirectorLaws.{named-of, is-directed}
 use Rattle.pt_cover.proofs.Walk.{ArePlaced, all-placed}
 use Rattle.pt_cover.proofs.Reading.{documents-leaves}
 use Rattle.pt_cover.proofs.Nesting.{net-rooted}
 use Rattle.pt_order.specs.Laws.{IsNetOfDocument}
 use Rattle.pt_order.proofs.NetStandings.{entity-of}
 use Rattle.pt_buildable.proofs.Directors.{not-true, in-kind}
-use Rattle.pt_buildable.proofs.TopRules.{documents-ruled, director-given, TakesIterations}
-use Rattle.pt_buildable.proofs.Composites.{is-directed-by}
+use Rattle.pt_buildable.proofs.TopRules.{documents-ruled, director-given}
 use Rattle.pt_buildable.proofs.Iterations.{IsIterating, sdf-iterates, sr-iterates, director-property, top-number}
 
 -- ---- the first entity of a document
@@ -72,26 +76,58 @@ has-top job net placed is =
 
 -- ---- its number of iterations
 
-iterating : (o : Option NetDirector) (d : NetDirector) → o ≡ Some d → (has_sdf o ≡ true) ⊎ (has_sr o ≡ true) → IsIterating d.class
-iterating o d is (inl sdf) = subst IsIterating (sym ((bytes_eq-Decides d.class (codes "SDF")).0 (ap has_sdf (sym is) ∙ sdf))) sdf-iterates
-iterating o d is (inr sr) = subst IsIterating (sym ((bytes_eq-Decides d.class (codes "SR")).0 (ap has_sr (sym is) ∙ sr))) sr-iterates
+-- the row of a director among rows
+row-found : (rows : List DirectorClass) (name : List ℕ) (want : Director) → option_map (λ (r : DirectorClass). r.director) (director_in rows name) ≡ Some want → (row : DirectorClass) × IsIn row rows × (row.name ≡ name) × (row.director ≡ want)
+row-found [] name want e = absurd (none-some want e)
+row-found (r ∷ rows) name want e = chosen (bytes_eq r.name name) refl e (λ h. row-found rows name want h)
+  where
+    chosen : (b : Bool) → bytes_eq r.name name ≡ b → option_map (λ (r : DirectorClass). r.director) (if b then Some r else director_in rows name) ≡ Some want → (option_map (λ (r : DirectorClass). r.director) (director_in rows name) ≡ Some want → (row : DirectorClass) × IsIn row rows × (row.name ≡ name) × (row.director ≡ want)) → (row : DirectorClass) × IsIn row (r ∷ rows) × (row.name ≡ name) × (row.director ≡ want)
+    chosen true is e rest = (r, inl refl, (bytes_eq-Decides r.name name).0 is, same_Some r.director want e)
+    chosen false is e rest = let w = rest e in (w.0, inr w.1, w.2, w.3)
 
-by-director : (e : NetEntity) → IsSdf e ⊎ IsSr e → (has_sdf e.director ≡ true) ⊎ (has_sr e.director ≡ true)
-by-director e (inl sdf) = inl (and_parts (bytes_eq e.class (codes "Composite")) (has_sdf e.director) sdf).1
-by-director e (inr sr) = inr (and_parts (bytes_eq e.class (codes "Composite")) (has_sr e.director) sr).1
+sdf-row : (row : DirectorClass) → IsIn row directors → row.director ≡ Sdf → row.name ≡ codes "SDF"
+unfolding directors
+sdf-row row (inl is) d = ap (λ (r : DirectorClass). r.name) is
+sdf-row row (inr (inl is)) d = absurd (let h : Sr ≡ Sdf = ap (λ (r : DirectorClass). r.director) (sym is) ∙ d in cc)
+sdf-row row (inr (inr (inl is))) d = absurd (let h : De ≡ Sdf = ap (λ (r : DirectorClass). r.director) (sym is) ∙ d in cc)
+sdf-row row (inr (inr (inr (inl is)))) d = absurd (let h : Pn ≡ Sdf = ap (λ (r : DirectorClass). r.director) (sym is) ∙ d in cc)
+sdf-row row (inr (inr (inr (inr (inl is))))) d = absurd (let h : Rendezvous ≡ Sdf = ap (λ (r : DirectorClass). r.director) (sym is) ∙ d in cc)
+sdf-row row (inr (inr (inr (inr (inr is))))) d = absurd is
+
+sr-row : (row : DirectorClass) → IsIn row directors → row.director ≡ Sr → row.name ≡ codes "SR"
+unfolding directors
+sr-row row (inl is) d = absurd (let h : Sdf ≡ Sr = ap (λ (r : DirectorClass). r.director) (sym is) ∙ d in cc)
+sr-row row (inr (inl is)) d = ap (λ (r : DirectorClass). r.name) is
+sr-row row (inr (inr (inl is))) d = absurd (let h : De ≡ Sr = ap (λ (r : DirectorClass). r.director) (sym is) ∙ d in cc)
+sr-row row (inr (inr (inr (inl is)))) d = absurd (let h : Pn ≡ Sr = ap (λ (r : DirectorClass). r.director) (sym is) ∙ d in cc)
+sr-row row (inr (inr (inr (inr (inl is))))) d = absurd (let h : Rendezvous ≡ Sr = ap (λ (r : DirectorClass). r.director) (sym is) ∙ d in cc)
+sr-row row (inr (inr (inr (inr (inr is))))) d = absurd is
+
+iterating : (o : Option NetDirector) (d : NetDirector) → o ≡ Some d → (named o ≡ Some Sdf) ⊎ (named o ≡ Some Sr) → IsIterating d.class
+unfolding director_row
+iterating o d is (inl sdf) = let w = row-found directors d.class Sdf (ap named (sym is) ∙ sdf) in subst IsIterating (sym (sdf-row w.0 w.1 w.3) ∙ w.2) sdf-iterates
+iterating o d is (inr sr) = let w = row-found directors d.class Sr (ap named (sym is) ∙ sr) in subst IsIterating (sym (sr-row w.0 w.1 w.3) ∙ w.2) sr-iterates
+
+by-director : (e : NetEntity) → IsDirectedBy e Sdf ⊎ IsDirectedBy e Sr → (named e.director ≡ Some Sdf) ⊎ (named e.director ≡ Some Sr)
+by-director e (inl sdf) = inl (named-of e Sdf sdf)
+by-director e (inr sr) = inr (named-of e Sr sr)
+
+composite-of : (e : NetEntity) → IsDirectedBy e Sdf ⊎ IsDirectedBy e Sr → IsDirected e
+composite-of e (inl sdf) = is-directed e Sdf sdf
+composite-of e (inr sr) = is-directed e Sr sr
 
 class-given : (o : Option (List ℕ)) → names_director o ≡ true → o ≡ Some (unwrap_or o [])
 class-given None e = absurd (let h : false ≡ true = e in cc)
 class-given (Some class) e = refl
 
-pub top-iterates : (net : Net) (values : Values) (e : NetEntity) → IsNetOfDocument net → IsValued (net_view net) values → IsEntity net 0 e → IsSdf e ⊎ IsSr e → (n : ℕ) × (iterations (net_view net) values ≡ Some n)
+pub top-iterates : (net : Net) (values : Values) (e : NetEntity) → IsNetOfDocument net → IsValued (net_view net) values → IsEntity net 0 e → IsDirectedBy e Sdf ⊎ IsDirectedBy e Sr → (n : ℕ) × (iterations (net_view net) values ≡ Some n)
 top-iterates net values e doc valued at built =
     let leaves = documents-leaves doc.bytes doc.job doc.read in
     let placed = all-placed doc.job leaves in
     let top = has-top doc.job net placed doc.made in
     let own = parts doc.job.model in
     let same : entity_view e ≡ entity_tree (top_standing doc.job) = ap entity_view (same_Some e top.entity (sym at ∙ top.at)) ∙ top.same in
-    let directed = is-directed-by e built in
+    let directed = composite-of e built in
     let d = director_view directed.director in
     let has : (entity_view e).director ≡ Some d = ap (λ (o : Option NetDirector). option_map director_view o) directed.has in
     let p = director-property own.properties d (ap (λ (x : NetEntityTree). x.director) (sym same) ∙ has) in

@@ -1,13 +1,25 @@
 -- Which composites of a net are built: those with the director SDF or SR.
-use Rattle.std.specs.Prelude.{◌≡◌, ◌⊎◌, ℕ, true, false}
+use Rattle.std.specs.Prelude.{◌≡◌, ℕ, Bool, true, false, Option, Some, None}
+use Rattle.pt_document.specs.declared.classes.Director.{Director}
+use Rattle.pt_document.specs.declared.classes.Director.TheVariants.{Sdf, Pn, Rendezvous, Sr, De}
 use Rattle.pt_net.specs.declared.net.Net.{Net}
 use Rattle.pt_net.specs.declared.net.NetEntity.{NetEntity}
 use Rattle.pt_scopes.specs.Scopes.{is_composite_class}
-use Rattle.pt_trees.specs.Trees.{IsEntity, is_sdf, IsSdf, is_sr, IsSr}
+use Rattle.pt_trees.specs.Directors.{director_of}
+use Rattle.pt_trees.specs.Trees.{IsEntity}
+
+-- composites of this director are built
+abbrev pub is_built : Option Director → Bool
+is_built None = false
+is_built (Some Sdf) = true
+is_built (Some Sr) = true
+is_built (Some De) = false
+is_built (Some Pn) = false
+is_built (Some Rendezvous) = false
 
 -- a composite with a director that isn't built, or a Modal entity
 abbrev pub IsOtherComposite : NetEntity → Type 0
-IsOtherComposite e = (is_composite_class e.class ≡ true) × (is_sdf e ≡ false) × (is_sr e ≡ false)
+IsOtherComposite e = (is_composite_class e.class ≡ true) × (is_built (director_of e) ≡ false)
 
 -- there is one in the net
 pub record HasOtherComposite (net : Net) : Type 0 where
@@ -18,4 +30,4 @@ pub record HasOtherComposite (net : Net) : Type 0 where
 
 -- each composite of the net has one of these directors, and none is a Modal entity
 abbrev pub HasBuiltComposites : Net → Type 0
-HasBuiltComposites net = (k : ℕ) (e : NetEntity) → IsEntity net k e → is_composite_class e.class ≡ true → IsSdf e ⊎ IsSr e
+HasBuiltComposites net = (k : ℕ) (e : NetEntity) → IsEntity net k e → is_composite_class e.class ≡ true → is_built (director_of e) ≡ true

@@ -3,6 +3,7 @@ use Rattle.std.specs.Prelude.{◌≡◌, ◌⊎◌, ℕ, ◌+◌, ◌≤◌, Lis
 use Rattle.pt_meaning.specs.Running.{total}
 use Rattle.pt_laws.specs.StartedRuns.{AllThere}
 use Rattle.pt_document.specs.declared.code.Code.{Code}
+use Rattle.pt_document.specs.declared.classes.Director.TheVariants.{Sdf, Sr}
 use Rattle.pt_net.specs.declared.net.Net.{Net}
 use Rattle.pt_net.specs.declared.net.NetDirector.{NetDirector}
 use Rattle.pt_net.specs.declared.net.NetEntity.{NetEntity}
@@ -18,7 +19,8 @@ use Rattle.pt_job.specs.Iterations.{iterations}
 use Rattle.pt_node.specs.View.{Tree}
 use Rattle.pt_trees.specs.Around.{Around}
 use Rattle.pt_trees.specs.Rates.{HasUnsteady}
-use Rattle.pt_trees.specs.Trees.{IsEntity, IsSdf, IsSr, Starts, StartsAs, AreTrees, around_in}
+use Rattle.pt_trees.specs.Directors.{IsDirectedBy}
+use Rattle.pt_trees.specs.Trees.{IsEntity, Starts, StartsAs, AreTrees, around_in}
 use Rattle.pt_trees.specs.Built.{IsNested}
 use Rattle.pt_order.specs.Laws.{IsNetOfDocument, IsInOrder}
 use Rattle.pt_typed.specs.RowLaw.{AreStartedIn}
@@ -38,7 +40,7 @@ DirectorsAreOfComposites = (net : Net) (k : ℕ) (e : NetEntity) (d : NetDirecto
 
 -- a top with the director SDF or SR has a number of iterations
 abbrev pub TopsHaveIterations : Type 0
-TopsHaveIterations = (net : Net) (values : Values) (e : NetEntity) → IsNetOfDocument net → IsValued (net_view net) values → IsEntity net 0 e → IsSdf e ⊎ IsSr e → (n : ℕ) × (iterations (net_view net) values ≡ Some n)
+TopsHaveIterations = (net : Net) (values : Values) (e : NetEntity) → IsNetOfDocument net → IsValued (net_view net) values → IsEntity net 0 e → IsDirectedBy e Sdf ⊎ IsDirectedBy e Sr → (n : ℕ) × (iterations (net_view net) values ≡ Some n)
 
 -- Some composite of a net isn't built, or all are.
 abbrev pub CompositesAreBuiltOrNot : Type 0
@@ -63,5 +65,5 @@ CompositesHaveChannels =
 -- Under SDF each child needs and gives the same at each firing, where the texts of a net come to these values, each entity may stand where it stands, and its actors start so.
 abbrev pub ChildrenAreSteady : Type 0
 ChildrenAreSteady =
-    (net : Net) (values : Values) (typing : Assignment) (starts : Starts) (k : ℕ) (e : NetEntity) (kids : List Tree) → IsValued (net_view net) values → ((cause : Code) (n : ℕ) → IsMisplaced (net_view net) values cause n → ⊥) → AreStartedIn net values typing starts → IsEntity net k e → IsSdf e →
+    (net : Net) (values : Values) (typing : Assignment) (starts : Starts) (k : ℕ) (e : NetEntity) (kids : List Tree) → IsValued (net_view net) values → ((cause : Code) (n : ℕ) → IsMisplaced (net_view net) values cause n → ⊥) → AreStartedIn net values typing starts → IsEntity net k e → IsDirectedBy e Sdf →
     AreTrees net (StartsAs starts) (children_of net.entities.items k) kids → HasUnsteady kids → ⊥
