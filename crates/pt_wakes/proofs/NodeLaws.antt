@@ -1,0 +1,101 @@
+-- The laws of the tree of wakes: node 1 has the least.
+use Rattle.std.proofs.Common.{◌≡◌, ℕ, zero, suc, ◌+◌, ◌-◌, ◌<◌, true, false, List, [], ◌∷◌, length, drop, Option, None, refl, sym, ap, subst, ◌∙◌, arith, ◌⊎◌, inl, inr}
+use Rattle.std.proofs.lemmas.Bool.{false≢true}
+use Rattle.std.proofs.lemmas.List.{get_or-drop, length-drop, drop_more, nil_from_length}
+use Rattle.pt_meaning.specs.Tag.{Tag, earlier, least, is_due}
+use Rattle.pt_wakes.specs.Wakes.{wake_of, NoneIsDue}
+use Rattle.pt_wakes.specs.Nodes.{node, IsSettled, IsTree}
+use Rattle.pt_wakes.proofs.Earlier.{earlier-self, earlier-comm, earlier-assoc, earlier-none, earlier-first, earlier-second, due-below}
+
+-- the least of some wakes is at or before each of them
+pub absorbed : (wakes : List (Option Tag)) (i : ℕ) → i < length wakes → earlier (wake_of wakes i) (least wakes) ≡ least wakes
+absorbed [] i l = absurd (omega (arith, l))
+absorbed (w ∷ wakes) zero l = sym (earlier-assoc w w (least wakes)) ∙ ap (λ v. earlier v (least wakes)) (earlier-self w)
+absorbed (w ∷ wakes) (suc i) l =
+    sym (earlier-assoc (wake_of wakes i) w (least wakes)) ∙ ap (λ v. earlier v (least wakes)) (earlier-comm (wake_of wakes i) w) ∙ earlier-assoc w (wake_of wakes i) (least wakes) ∙ ap (earlier w) (absorbed wakes i (omega (arith, l)))
+
+-- and a wake that is at or before each of them is at or before their least
+pub bounded : (w : Option Tag) (wakes : List (Option Tag)) → ((i : ℕ) → i < length wakes → earlier w (wake_of wakes i) ≡ w) → earlier w (least wakes) ≡ w
+bounded w [] h = earlier-none w
+bounded w (v ∷ wakes) h = sym (earlier-assoc w v (least wakes)) ∙ ap (λ u. earlier u (least wakes)) (h 0 (omega arith)) ∙ bounded w wakes (λ i l. h (suc i) (omega (arith, l)))
+
+-- where the least isn't due, none is
+pub none-due : (tag : Tag) (wakes : List (Option Tag)) → is_due tag (least wakes) ≡ false → NoneIsDue tag wakes
+none-due tag wakes h i l = due-below tag (least wakes) (wake_of wakes i) (earlier-comm (least wakes) (wake_of wakes i) ∙ absorbed wakes i l) h
+
+-- each number is twice another, or one more
+record IsHalf (q h : ℕ) : Type 0 where
+  pub cases : (q ≡ h + h) ⊎ (q ≡ suc (h + h))
+
+halved : (q : ℕ) → (h : ℕ) × IsHalf q h
+halved zero = (0, record { cases = inl refl })
+halved (suc q) = elim ((halved q).1.cases) [
+  | inl e ↦ ((halved q).0, record { cases = inr (ap suc e) })
+  | inr e ↦ (suc (halved q).0, record { cases = inl (omega (arith, e)) })
+]
+
+module _ (leaves : ℕ) (nodes : List (Option Tag)) (t : IsTree leaves nodes) where
+  -- a node is at or before the two below it
+  under : (h q : ℕ) → 0 < h → h < leaves → (q ≡ h + h) ⊎ (q ≡ suc (h + h)) → earlier (node nodes h) (node nodes q) ≡ node nodes h
+  under h q p l (inl e) =
+      let s : IsSettled nodes h = t.settled h p l in
+      ap (λ k. earlier (node nodes h) (node nodes k)) e ∙ ap (λ w. earlier w (node nodes (h + h))) s ∙ earlier-first (node nodes (h + h)) (node nodes (suc (h + h))) ∙ sym s
+  under h q p l (inr e) =
+      let s : IsSettled nodes h = t.settled h p l in
+      ap (λ k. earlier (node nodes h) (node nodes k)) e ∙ ap (λ w. earlier w (node nodes (suc (h + h)))) s ∙ earlier-second (node nodes (h + h)) (node nodes (suc (h + h))) ∙ sym s
+
+  -- node 1 is at or before each node
+  top : (n q : ℕ) → q < n → 0 < q → q < leaves + leaves → earlier (node nodes 1) (node nodes q) ≡ node nodes 1
+  top zero q b p l = absurd (omega (arith, b))
+  top (suc n) zero b p l = absurd (omega (arith, p))
+  top (suc n) (suc zero) b p l = earlier-self (node nodes 1)
+  top (suc n) (suc (suc k)) b p l =
+      let q : ℕ = suc (suc k) in
+      let h : ℕ = (halved q).0 in
+      let c : (q ≡ h + h) ⊎ (q ≡ suc (h + h)) = (halved q).1.cases in
+      let pos : 0 < h = elim c [ inl e ↦ omega (arith, e) | inr e ↦ omega (arith, e) ] in
+      let less : h < n = elim c [ inl e ↦ omega (arith, e, b) | inr e ↦ omega (arith, e, b) ] in
+      let there : h < leaves = elim c [ inl e ↦ omega (arith, e, l) | inr e ↦ omega (arith, e, l) ] in
+      let up : earlier (node nodes 1) (node nodes h) ≡ node nodes 1 = top n h less pos (omega (arith, there)) in
+      ap (λ w. earlier w (node nodes q)) (sym up) ∙ earlier-assoc (node nodes 1) (node nodes h) (node nodes q) ∙ ap (earlier (node nodes 1)) (under h q pos there c) ∙ up
+
+  -- the nodes above the leaves leave the least as it is
+  from-leaves : (k r : ℕ) → suc r + k ≡ leaves → least (drop (suc r) nodes) ≡ least (drop leaves nodes)
+  from-leaves zero r e = let n : suc r ≡ leaves = omega (arith, e) in ap (λ m. least (drop m nodes)) n
+  from-leaves (suc k) r e =
+      let q : ℕ = suc r in
+      let rest : List (Option Tag) = drop (q + 1) nodes in
+      let more : drop q nodes ≡ node nodes q ∷ rest = drop_more nodes q None (omega (arith, e, t.len)) in
+      let long : length rest ≡ length nodes - (q + 1) = length-drop (q + 1) nodes in
+      let left : earlier (node nodes (q + q)) (least rest) ≡ least rest =
+      subst (λ w. earlier w (least rest) ≡ least rest) (get_or-drop (q + 1) nodes r None ∙ ap (node nodes) (omega arith)) (absorbed rest r (omega (arith, long, t.len, e))) in
+      let right : earlier (node nodes (suc (q + q))) (least rest) ≡ least rest =
+      subst (λ w. earlier w (least rest) ≡ least rest) (get_or-drop (q + 1) nodes q None ∙ ap (node nodes) (omega arith)) (absorbed rest q (omega (arith, long, t.len, e))) in
+      let here : earlier (node nodes q) (least rest) ≡ least rest =
+      ap (λ w. earlier w (least rest)) (t.settled q (omega arith) (omega (arith, e))) ∙ earlier-assoc (node nodes (q + q)) (node nodes (suc (q + q))) (least rest) ∙ ap (earlier (node nodes (q + q))) right ∙ left in
+      let next : q + 1 ≡ suc q = omega arith in
+      ap least more ∙ here ∙ ap (λ m. least (drop m nodes)) next ∙ from-leaves k q (omega (arith, e))
+
+  -- node 1 has the least of the leaves
+  pub root-least : 0 < leaves → node nodes 1 ≡ least (drop leaves nodes)
+  root-least p =
+      let rest : List (Option Tag) = drop 1 nodes in
+      let long : length rest ≡ length nodes - 1 = length-drop 1 nodes in
+      let first : earlier (node nodes 1) (least rest) ≡ least rest = subst (λ w. earlier w (least rest) ≡ least rest) (get_or-drop 1 nodes 0 None) (absorbed rest 0 (omega (arith, long, t.len, p))) in
+      let each : earlier (node nodes 1) (least rest) ≡ node nodes 1 =
+      bounded (node nodes 1) rest (λ i l. ap (earlier (node nodes 1)) (get_or-drop 1 nodes i None) ∙ top (suc (1 + i)) (1 + i) (omega arith) (omega arith) (omega (arith, l, long, t.len))) in
+      let k : suc 0 + (leaves - 1) ≡ leaves = omega (arith, p) in
+      sym each ∙ first ∙ from-leaves (leaves - 1) 0 k
+
+-- where the least is due there is a leaf, and node 1 is due
+some-leaf : (tag : Tag) (leaves : ℕ) (nodes : List (Option Tag)) → length nodes ≡ leaves + leaves → is_due tag (least (drop leaves nodes)) ≡ true → 0 < leaves
+some-leaf tag zero nodes len h = absurd (false≢true (sym (ap (λ ws. is_due tag (least ws)) (nil_from_length nodes len)) ∙ h))
+some-leaf tag (suc n) nodes len h = omega arith
+
+pub root-due : (tag : Tag) (leaves : ℕ) (nodes : List (Option Tag)) → IsTree leaves nodes → is_due tag (least (drop leaves nodes)) ≡ true → is_due tag (node nodes 1) ≡ true
+root-due tag leaves nodes t h = ap (is_due tag) (root-least leaves nodes t (some-leaf tag leaves nodes t.len h)) ∙ h
+
+-- a number that isn't 0
+pub positive : (n : ℕ) → (n ≡ 0 → ⊥) → 0 < n
+positive zero h = absurd (h refl)
+positive (suc n) h = omega arith

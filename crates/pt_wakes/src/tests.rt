@@ -1,0 +1,44 @@
+use crate::Wakes;
+use pt_time::Tag;
+use std::alloc::Global;
+use std::test::Fail;
+
+fn at(time: u64, step: u32) -> Option<Tag> {
+    Some(Tag { time, step })
+}
+
+#[test]
+fn the_least_wake_follows_each_change(rt: HostRuntime) -> Result<(), Fail> {
+    let starts = [at(5, 0), None, at(3, 1), at(3, 0), at(9, 0)];
+    let mut wakes = Wakes::new(rt.alloc(), starts.as_slice())?;
+    assert!(rt; wakes.least() == at(3, 0));
+    let before = wakes.copy(rt.alloc())?;
+    if wakes.len() == 5 {
+        wakes.set(3, None);
+        assert!(rt; wakes.least() == at(3, 1));
+        wakes.set(1, at(0, 0));
+        assert!(rt; wakes.least() == at(0, 0));
+        assert!(rt; wakes.get(4) == at(9, 0));
+    }
+    assert!(rt; before.least() == at(3, 0));
+    Ok(())
+}
+
+#[test]
+fn a_child_is_due_at_its_wake_and_after_it(rt: HostRuntime) -> Result<(), Fail> {
+    let starts = [at(5, 0), None, at(7, 2)];
+    let wakes = Wakes::new(rt.alloc(), starts.as_slice())?;
+    assert!(rt; wakes.due(Tag { time: 4, step: 9 }).is_none());
+    assert!(rt; wakes.due(Tag { time: 5, step: 0 }) == Some(0));
+    assert!(rt; wakes.due(Tag { time: 6, step: 0 }) == Some(0));
+    Ok(())
+}
+
+#[test]
+fn no_child_has_no_wake(rt: HostRuntime) -> Result<(), Fail> {
+    let starts = Vec::new(rt.alloc());
+    let wakes = Wakes::new(rt.alloc(), &starts)?;
+    assert!(rt; wakes.least().is_none());
+    assert!(rt; wakes.due(Tag { time: 9, step: 9 }).is_none());
+    Ok(())
+}
