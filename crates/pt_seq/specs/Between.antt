@@ -11,15 +11,16 @@ use Rattle.pt_records.specs.Made.{AllMadeBefore}
 use Rattle.pt_core.specs.Acts.{Beginning, Acts}
 use Rattle.pt_library.specs.declared.library_actor.LibraryActor.{LibraryActor}
 use Rattle.pt_library.specs.LibraryActor.{rows}
-use Rattle.pt_directors.specs.Directors.{Director}
+use Rattle.pt_directors.specs.Directors.{Director, director_calls}
 use Rattle.pt_node.specs.Acts.{acts}
 use Rattle.pt_node.specs.Shown.{Shown, AllShown, all_of}
 use Rattle.pt_node.specs.View.{nodes_of, kepts_of, outlines_of, counts_of}
 use Rattle.pt_node.specs.Live.{AllFit}
 use Rattle.pt_seq.specs.declared.pause.Pause.{Pause}
 use Rattle.pt_seq.specs.declared.pause.Pause.TheVariants as pause
+use Rattle.pt_seq.specs.declared.numbers.Rest.{Rest}
+use Rattle.pt_seq.specs.declared.numbers.Rest.TheVariants as rest
 use Rattle.pt_seq.specs.Within.{Given}
-use Rattle.pt_seq.specs.Turns.{TakesNumber}
 
 module _ {D : Type 0} (a : Acts rows D) where
   -- how the firing began, under these meetings
@@ -53,6 +54,14 @@ module _ {D : Type 0} (a : Acts rows D) where
     pub gives : a.calls.Gives state next
     pub asking : s ≡ a.calls.asking next state
 
+  -- the same of a firing at this tag that began in some way
+  pub record IsAskedUnderWay (tag : Tag) (next : Ask) (s : D) (now : List Shown) (left : ℕ) : Type 0 where
+    pub before : D
+    pub olds : List Shown
+    pub inputs : Streams Token
+    pub allowance : ℕ
+    pub between : Between before olds tag inputs allowance next s now left
+
   -- It is the turn of child i at a tag. Its firing gave one number already, of which the director wasn't told yet, or isn't made; the other children are as they were when the director asked for it.
   pub record InTurn (before : D) (olds : List Shown) (tag : Tag) (inputs : Streams Token) (allowance i : ℕ) (when : Tag) (given : Option ℤ) (s : D) (now : List Shown) (left : ℕ) : Type 0 where
     pub kids : List Shown
@@ -75,8 +84,18 @@ module _ {D : Type 0} (a : Acts rows D) where
 
 -- where it has come to from there, without a firing that the director isn't told of but the last
 abbrev pub Paused : Director → List Shown → Tag → Streams Token → (allowance : ℕ) → Pause → Director → List Shown → (left : ℕ) → Type 0
-Paused before olds tag X allowance (pause.Turn i when given) s now left = TakesNumber given s × InTurn acts before olds tag X allowance i when given s now left
+Paused before olds tag X allowance (pause.Turn i when given) s now left = InTurn acts before olds tag X allowance i when given s now left
 Paused before olds tag X allowance pause.Finished s now left = Between acts before olds tag X allowance ask.Finished s now left
 Paused before olds tag X allowance (pause.Faulted kind) s now left = Between acts before olds tag X allowance (ask.Faulted kind None) s now left
 Paused before olds tag X allowance pause.Spent s now left = (left ≡ 0) × ((next : Ask) × Between acts before olds tag X allowance next s now left)
 Paused before olds tag X allowance pause.Memory s now left = Halts acts before olds tag X allowance now left
+
+-- the director asked for something in this state, which was done, and it has less to wait for; or it has come there
+abbrev pub Heeded : Director → List Shown → Tag → Streams Token → (allowance : ℕ) → (state : Director) → Option Pause → Director → List Shown → (left : ℕ) → Type 0
+Heeded before olds tag X allowance state None s now left = At acts before olds tag X allowance s now left × (director_calls.waits s < director_calls.waits state)
+Heeded before olds tag X allowance state (Some pause) s now left = Paused before olds tag X allowance pause s now left
+
+-- so it is after a row of firings of numbers alone: it is the turn of a child, or the director has this answer
+abbrev pub Rested : Director → List Shown → Tag → Streams Token → (allowance : ℕ) → Rest → Director → List Shown → (left : ℕ) → Type 0
+Rested before olds tag X allowance (rest.Turn i when given) s now left = InTurn acts before olds tag X allowance i when given s now left
+Rested before olds tag X allowance (rest.Asked next) s now left = Between acts before olds tag X allowance next s now left

@@ -12,9 +12,7 @@ use Rattle.pt_firing.specs.declared.fault.RunFault.{RunFault}
 use Rattle.pt_records.specs.Made.{AreMade, AreMadeBefore, AreMadeWithin}
 use Rattle.pt_records.specs.Fired.{FiresTo}
 use Rattle.pt_core.specs.Acts.{Calls}
-use Rattle.pt_core.specs.declared.either.Either.TheVariants.{First, Other}
 use Rattle.pt_library.specs.LibraryActor.{rows}
-use Rattle.pt_directors.specs.Directors.{Director}
 use Rattle.pt_node.specs.Shown.{Shown}
 use Rattle.pt_node.specs.Firing.{noted, bare, recorded}
 use Rattle.pt_node.specs.View.{Tree, node_of, kept_of, outline_of, text_at}
@@ -86,12 +84,6 @@ RefusesTo child kind turn.Done = ⊥
 RefusesTo child kind (turn.Fault place) = (place.path ≡ path_of child) × (place.firing ≡ made_of child) × (place.kind ≡ kind)
 RefusesTo child kind turn.Spent = ⊥
 RefusesTo child kind turn.Memory = Unit {0}
-
--- numbers go to the core of SDF alone
-abbrev pub TakesNumber : Option ℤ → Director → Type 0
-TakesNumber None d = Unit {0}
-TakesNumber (Some n) (First s) = Unit {0}
-TakesNumber (Some n) (Other s) = ⊥
 
 -- a child that fires now fits, and takes these inputs
 abbrev pub MayFire : Option ℤ → Tag → Shown → Streams Token → Type 0

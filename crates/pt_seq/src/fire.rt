@@ -8,12 +8,12 @@ ghost use Rattle.pt_node.specs.View.{outline_of, outlines_of, count_of, counts_o
 ghost use Rattle.pt_node.specs.Live.{IsLive, is_live, IsFit, Takes, AllFit, IsReady, TakenBy};
 ghost use Rattle.pt_seq.specs.Within.{WithinTo, SpendsAll, StaysFit, AnswersTo, EndsLive, ActorTo, IsFaultAt};
 ghost use Rattle.pt_seq.specs.Composite.{CompositeTo, KeepsFit, FinishTo};
-ghost use Rattle.pt_seq.specs.Turns.{TurnTo, TurnFrom, TurnSpends, TakesNumber, MayFire};
+ghost use Rattle.pt_seq.specs.Turns.{TurnTo, TurnFrom, TurnSpends, MayFire};
 
 use crate::numbers::{Buffers, several, tell_numbers};
 use crate::pause::{Pause, next};
 use crate::turn::{Turn, tell};
-use pt_core::{Core, Either};
+use pt_core::Core;
 use pt_directors::Director;
 use pt_firing::{Answer, Fires, Inputs, Outputs, Place, RunFault, Step};
 use pt_node::{Body, Held, Node};
@@ -144,7 +144,7 @@ fn fire_composite(
     }
     let mut buffers = Buffers::new(alloc);
     loop {
-        match next(alloc, director, children, tag, left, &mut buffers.row) {
+        match next(alloc, director, children, left, &mut buffers.row) {
             Pause::Turn(number, when, given) => {
                 let child = &mut children[number as usize];
                 match fire_child(
@@ -200,7 +200,7 @@ pub(crate) fn fault_at(alloc: Global, path: &Text, firing: u64, kind: RunFault) 
     }
 }
 
-/// The turn of a child at a tag, whose firing gave one number already, or of one that fires now: where the core of SDF asked for it, it may give numbers alone, which go by a buffer.
+/// The turn of a child at a tag, whose firing gave one number already, or of one that fires now: it may give numbers alone, which go by a buffer.
 #[cycle(fire)]
 #[inline(never)]
 fn fire_child(
@@ -215,7 +215,6 @@ fn fire_child(
 ) -> Turn
     requires asked { director_calls.asked_of director.old ≡ Some number }
     requires left { 0 < left.old }
-    requires numbers { TakesNumber given director.old }
     requires fit { MayFire given tag (shown_node child.old) (director_calls.lent_of director.old) }
     ensures goes { TurnFrom director_calls given director.old (shown_node child.old) number tag result director.new (shown_node child.new) }
     ensures spends { TurnSpends result left.old left.new }
@@ -223,21 +222,19 @@ fn fire_child(
     ensures outline { outline_of (shown_node child.new) ≡ outline_of (shown_node child.old) }
     ensures counted { count_of (shown_node child.new) + left.new ≡ count_of (shown_node child.old) + left.old }
 {
-    if let Either::First(core) = director {
-        if let Some(given) = given {
-            return tell_numbers(
-                alloc,
-                core,
-                child,
-                number,
-                tag,
-                left,
-                slice::from_ref(&given),
-            );
-        }
-        if several(core, child, buffers) {
-            return tell_numbers(alloc, core, child, number, tag, left, &buffers.given);
-        }
+    if let Some(given) = given {
+        return tell_numbers(
+            alloc,
+            director,
+            child,
+            number,
+            tag,
+            left,
+            slice::from_ref(&given),
+        );
+    }
+    if several(director, child, buffers) {
+        return tell_numbers(alloc, director, child, number, tag, left, &buffers.given);
     }
     fire_any(alloc, director, child, number, tag, left)
 }

@@ -2,8 +2,11 @@
 #![tactic(auto)]
 
 mod fire;
+mod number_core;
 mod numbers;
 mod pause;
+mod sdf;
+mod sr;
 mod turn;
 
 pub use fire::{fire_seq, fire_within};

@@ -1,9 +1,7 @@
-ghost use Rattle.std.specs.Prelude.{◌≡◌, ◌+◌, ◌<◌, ◌≤◌, ◌∷◌, [], List, ℕ, Some, IsSome, map};
+ghost use Rattle.std.specs.Prelude.{◌≡◌, ◌+◌, ◌<◌, ◌≤◌, ◌∷◌, [], List, ℕ, Option, Some, IsSome, IfSome, OnOk, map};
 ghost use Rattle.pt_meaning.specs.Basics as basics;
 ghost use Rattle.pt_value.specs.declared.token.Token.{Token};
 ghost use Rattle.pt_value.specs.declared.token.Token.TheVariants.{Int};
-ghost use Rattle.pt_core.specs.declared.either.Either.TheVariants.{First};
-ghost use Rattle.pt_sdf.specs.State.{asked_child, lent_in};
 ghost use Rattle.pt_directors.specs.Directors as directors;
 ghost use Rattle.pt_directors.specs.Directors.{director_calls};
 ghost use Rattle.pt_node.specs.Acts.{acts};
@@ -13,14 +11,16 @@ ghost use Rattle.pt_node.specs.View.{outline_of, count_of};
 ghost use Rattle.pt_node.specs.Live.{IsFit};
 ghost use Rattle.pt_seq.specs.Within.{NumberTo, SeveralTo};
 ghost use Rattle.pt_seq.specs.Turns.{TurnSpends, TellTo, QuickTo, QuickSpends};
-ghost use Rattle.pt_seq.specs.Between.{At, IsUnderWay, Paused};
+ghost use Rattle.pt_seq.specs.Between.{At, IsUnderWay, Rested};
 
-use crate::pause::Pause;
+use crate::number_core::NumberCore;
 use crate::turn::{Turn, refuse};
-use pt_firing::{Ask, RunFault};
+use pt_core::{Core, Either};
+use pt_directors::Director;
+use pt_firing::{Ask, IntInputs};
 use pt_node::{Body, Node};
 use pt_time::Tag;
-use std::alloc::Global;
+use std::alloc::{AllocError, Global};
 
 /// Where firings of numbers alone take and give them.
 #[derive(Drop)]
@@ -48,51 +48,58 @@ enum Quick {
     Open(Option<i64>),
 }
 
-/// Makes one firing of a child after another, in the order of the core of SDF, as long as each takes integers and gives one, of which nothing is recorded and no memory is wanted.
+/// What a row of firings of numbers alone comes to.
+#[derive(Clone, Copy, Debug)]
+pub(crate) enum Rest {
+    /// It is the turn of this child at the tag, whose firing gave this number already, of which the core isn't told yet, or isn't made.
+    Turn(u32, Tag, Option<i64>),
+    /// The core has this answer, for which nothing was done.
+    Asked(Ask),
+}
+
+/// Makes one firing of a child after another, as the core asks for them, as long as each takes integers and gives one, of which nothing is recorded and no memory is wanted.
 /// This is the inner loop of a run. On its common path it calls nothing, so that it stays in registers.
 #[inline(never)]
-pub(crate) fn fire_numbers(
-    core: &mut pt_sdf::Core,
+pub(crate) fn fire_numbers<C: NumberCore>(
+    core: &mut C,
     children: &mut Vec<Node>,
-    tag: Tag,
     left: &mut u64,
     row: &mut Vec<i64>,
-) -> Pause
-    requires { IsUnderWay acts tag (First core.old) (map shown children.old.items) left.old }
+) -> Rest
+    requires { (tag : basics.Tag) × IsUnderWay acts tag (C.director core.old) (map shown children.old.items) left.old }
     ensures lowered { left.new ≤ left.old }
-    ensures goes { (before : directors.Director) (olds : List Shown) (X : basics.Streams Token) (allowance : ℕ) → At acts before olds tag X allowance (First core.old) (map shown children.old.items) left.old → Paused before olds tag X allowance result (First core.new) (map shown children.new.items) left.new }
+    ensures goes { (before : directors.Director) (olds : List Shown) (tag : basics.Tag) (X : basics.Streams Token) (allowance : ℕ) → At acts before olds tag X allowance (C.director core.old) (map shown children.old.items) left.old → Rested before olds tag X allowance result (C.director core.new) (map shown children.new.items) left.new }
 {
     loop {
         match core.ask() {
-            Ask::Fire(number, _) => {
+            Ask::Fire(number, when) => {
                 if *left == 0 {
-                    return Pause::Spent;
+                    return Rest::Asked(Ask::Fire(number, when));
                 }
                 let child = &mut children[number as usize];
-                if let Quick::Open(given) = turn_of_number(core, child, number, tag, left, row) {
-                    return Pause::Turn(number, tag, given);
+                if let Quick::Open(given) = turn_of_number(core, child, number, when, left, row) {
+                    return Rest::Turn(number, when, given);
                 }
             }
-            Ask::Finished => return Pause::Finished,
-            _ => unreachable!(),
+            next => return Rest::Asked(next),
         }
     }
 }
 
 /// The turn of a child that may give one number.
 #[inline(always)]
-fn turn_of_number(
-    core: &mut pt_sdf::Core,
+fn turn_of_number<C: NumberCore>(
+    core: &mut C,
     child: &mut Node,
     number: u32,
     tag: Tag,
     left: &mut u64,
     row: &mut Vec<i64>,
 ) -> Quick
-    requires asked { asked_child core.old.stage ≡ Some number }
+    requires asked { director_calls.asked_of (C.director core.old) ≡ Some number }
     requires fit { IsFit (shown_node child.old) }
     requires left { 0 < left.old }
-    ensures goes { QuickTo director_calls (First core.old) (shown_node child.old) number tag result (First core.new) (shown_node child.new) }
+    ensures goes { QuickTo director_calls (C.director core.old) (shown_node child.old) number tag result (C.director core.new) (shown_node child.new) }
     ensures spends { QuickSpends result left.old left.new }
     ensures outline { outline_of (shown_node child.new) ≡ outline_of (shown_node child.old) }
     ensures counted { count_of (shown_node child.new) + left.new ≡ count_of (shown_node child.old) + left.old }
@@ -116,10 +123,10 @@ fn turn_of_number(
 
 /// One firing of a library actor, where it takes numbers and gives one. The firing isn't recorded. Where no number is given, nothing was done.
 #[inline(always)]
-fn fire_number(core: &pt_sdf::Core, node: &mut Node, row: &mut Vec<i64>) -> Option<i64>
-    requires asked { IsSome (asked_child core.now.stage) }
+fn fire_number<C: NumberCore>(core: &C, node: &mut Node, row: &mut Vec<i64>) -> Option<i64>
+    requires asked { IsSome (director_calls.asked_of (C.director core.now)) }
     requires fit { IsFit (shown_node node.old) }
-    ensures goes { NumberTo (shown_node node.old) (lent_in core.now.stage) result (shown_node node.new) }
+    ensures goes { NumberTo (shown_node node.old) (director_calls.lent_of (C.director core.now)) result (shown_node node.new) }
     ensures past { (out-Node node.new).past ≡ (out-Node node.old).past }
 {
     match &mut node.body {
@@ -135,15 +142,15 @@ fn fire_number(core: &pt_sdf::Core, node: &mut Node, row: &mut Vec<i64>) -> Opti
 
 /// One firing of a library actor, where it takes and gives numbers alone, which the buffer has then. The firing isn't recorded. Where that isn't told, nothing was done.
 #[inline(always)]
-pub(crate) fn several(core: &pt_sdf::Core, node: &mut Node, buffers: &mut Buffers) -> bool
-    requires asked { IsSome (asked_child core.now.stage) }
+pub(crate) fn several(director: &Director, node: &mut Node, buffers: &mut Buffers) -> bool
+    requires asked { IsSome (director_calls.asked_of director.now) }
     requires fit { IsFit (shown_node node.old) }
-    ensures goes { SeveralTo (shown_node node.old) (lent_in core.now.stage) result buffers.new.given.items (shown_node node.new) }
+    ensures goes { SeveralTo (shown_node node.old) (director_calls.lent_of director.now) result buffers.new.given.items (shown_node node.new) }
     ensures past { (out-Node node.new).past ≡ (out-Node node.old).past }
 {
     match &node.body {
         Body::Actor(held) => {
-            let Some(inputs) = core.int_inputs(&mut buffers.row) else {
+            let Some(inputs) = int_inputs(director, &mut buffers.row) else {
                 return false;
             };
             if !held.actor.numbers(&inputs, &mut buffers.given) {
@@ -156,20 +163,49 @@ pub(crate) fn several(core: &pt_sdf::Core, node: &mut Node, buffers: &mut Buffer
     }
 }
 
-/// Tells the core the numbers that the child gave. The child's firing is recorded where it gave its rates.
+/// The inputs of the child that a director asked to fire, where they are integers. `row` is a buffer.
+#[inline(always)]
+fn int_inputs<'a>(director: &'a Director, row: &'a mut Vec<i64>) -> Option<IntInputs<'a>>
+    requires { IsSome (director_calls.asked_of director.now) }
+    ensures { IfSome result (λ inputs. inputs ≡ director_calls.lent_of director.now) }
+{
+    match director {
+        Either::First(core) => NumberCore::int_inputs(core, row),
+        Either::Other(core) => NumberCore::int_inputs(core, row),
+    }
+}
+
+/// Tells a director the integers that the child gave as the tokens on its one port, whichever wake the child has then.
+#[inline(always)]
+fn told_numbers(
+    alloc: Global,
+    director: &mut Director,
+    child: u32,
+    numbers: &[i64],
+) -> Result<(), AllocError>
+    requires asked { director_calls.asked_of director.old ≡ Some child }
+    ensures told { OnOk result ((wake : Option basics.Tag) → director.new ≡ director_calls.told child (map Int numbers.now ∷ []) wake director.old) }
+{
+    match director {
+        Either::First(core) => core.told_numbers(alloc, child, numbers),
+        Either::Other(core) => core.told_numbers(alloc, child, numbers),
+    }
+}
+
+/// Tells the director the numbers that the child gave. The child's firing is recorded where the director accepts them.
 #[inline(always)]
 pub(crate) fn tell_numbers(
     alloc: Global,
-    core: &mut pt_sdf::Core,
+    director: &mut Director,
     child: &mut Node,
     number: u32,
     tag: Tag,
     left: &mut u64,
     given: &[i64],
 ) -> Turn
-    requires asked { asked_child core.old.stage ≡ Some number }
+    requires asked { director_calls.asked_of director.old ≡ Some number }
     requires left { 0 < left.old }
-    ensures goes { TellTo director_calls (First core.old) (shown_node child.old) number tag (map Int given.now ∷ []) result (First core.new) (shown_node child.new) }
+    ensures goes { TellTo director_calls director.old (shown_node child.old) number tag (map Int given.now ∷ []) result director.new (shown_node child.new) }
     ensures spends { TurnSpends result left.old left.new }
     ensures lowered { left.new ≤ left.old }
     ensures outline { outline_of (shown_node child.new) ≡ outline_of (shown_node child.old) }
@@ -178,11 +214,12 @@ pub(crate) fn tell_numbers(
     if child.past.made == u64::MAX || child.note_numbers(tag, given).is_err() {
         return Turn::Memory;
     }
-    if core.told_numbers(alloc, number, given).is_err() {
+    let refusal = director.refusal();
+    if told_numbers(alloc, director, number, given).is_err() {
         return Turn::Memory;
     }
-    if core.is_wrong() {
-        return refuse(alloc, child, RunFault::Rate);
+    if director.is_wrong() {
+        return refuse(alloc, child, refusal);
     }
     child.record(tag);
     *left -= 1;

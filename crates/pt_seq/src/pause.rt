@@ -8,9 +8,9 @@ ghost use Rattle.pt_directors.specs.Directors.{director_calls};
 ghost use Rattle.pt_node.specs.Acts.{acts};
 ghost use Rattle.pt_node.specs.Shown.{Shown, shown, shown_node};
 ghost use Rattle.pt_node.specs.View.{node_of};
-ghost use Rattle.pt_seq.specs.Between.{At, IsUnderWay, Paused};
+ghost use Rattle.pt_seq.specs.Between.{At, IsUnderWay, IsAskedUnderWay, Heeded, Paused, Rested};
 
-use crate::numbers::fire_numbers;
+use crate::numbers::{Rest, fire_numbers};
 use pt_core::{Core, Either};
 use pt_directors::Director;
 use pt_firing::{Ask, RunFault};
@@ -37,50 +37,89 @@ pub(crate) fn next(
     alloc: Global,
     director: &mut Director,
     children: &mut Vec<Node>,
-    tag: Tag,
     left: &mut u64,
     row: &mut Vec<i64>,
 ) -> Pause
-    requires { IsUnderWay acts tag director.old (map shown children.old.items) left.old }
+    requires { (tag : basics.Tag) × IsUnderWay acts tag director.old (map shown children.old.items) left.old }
     ensures lowered { left.new ≤ left.old }
-    ensures goes { (before : directors.Director) (olds : List Shown) (X : basics.Streams Token) (allowance : ℕ) → At acts before olds tag X allowance director.old (map shown children.old.items) left.old → Paused before olds tag X allowance result director.new (map shown children.new.items) left.new }
+    ensures goes { (before : directors.Director) (olds : List Shown) (tag : basics.Tag) (X : basics.Streams Token) (allowance : ℕ) → At acts before olds tag X allowance director.old (map shown children.old.items) left.old → Paused before olds tag X allowance result director.new (map shown children.new.items) left.new }
 {
-    match director {
-        Either::First(core) => fire_numbers(core, children, tag, left, row),
-        Either::Other(_) => wait(alloc, director, children, *left),
+    match fire_row(director, children, left, row) {
+        Rest::Turn(number, when, given) => Pause::Turn(number, when, given),
+        Rest::Asked(asked) => match heed(alloc, director, children, asked, *left) {
+            Some(pause) => pause,
+            None => wait(alloc, director, children, *left),
+        },
     }
 }
 
-/// Asks the director until it asks for a firing or is at an end, and does what it asks for before: an early answer of a child, or that it is brought back to its start.
+/// Makes firings of numbers alone, by the core of the director.
+#[inline(always)]
+fn fire_row(
+    director: &mut Director,
+    children: &mut Vec<Node>,
+    left: &mut u64,
+    row: &mut Vec<i64>,
+) -> Rest
+    requires { (tag : basics.Tag) × IsUnderWay acts tag director.old (map shown children.old.items) left.old }
+    ensures lowered { left.new ≤ left.old }
+    ensures goes { (before : directors.Director) (olds : List Shown) (tag : basics.Tag) (X : basics.Streams Token) (allowance : ℕ) → At acts before olds tag X allowance director.old (map shown children.old.items) left.old → Rested before olds tag X allowance result director.new (map shown children.new.items) left.new }
+{
+    match director {
+        Either::First(core) => fire_numbers(core, children, left, row),
+        Either::Other(core) => fire_numbers(core, children, left, row),
+    }
+}
+
+/// Asks the director until it asks for a firing or is at an end, and does what it asks for before.
 #[inline(never)]
 fn wait(alloc: Global, director: &mut Director, children: &mut Vec<Node>, left: u64) -> Pause
     requires { (tag : basics.Tag) × IsUnderWay acts tag director.old (map shown children.old.items) left }
     ensures { (before : directors.Director) (olds : List Shown) (tag : basics.Tag) (X : basics.Streams Token) (allowance : ℕ) → At acts before olds tag X allowance director.old (map shown children.old.items) left → Paused before olds tag X allowance result director.new (map shown children.new.items) left }
 {
     loop {
-        match director.ask() {
-            Ask::Fire(number, when) => {
-                if left == 0 {
-                    return Pause::Spent;
-                }
-                return Pause::Turn(number, when, None);
-            }
-            Ask::Early(number, when) => {
-                let child = &children[number as usize];
-                if listen(alloc, director, child, number, when).is_err() {
-                    return Pause::Memory;
-                }
-            }
-            Ask::Reset(number) => {
-                let child = &mut children[number as usize];
-                if child.reset(alloc).is_err() {
-                    return Pause::Memory;
-                }
-            }
-            Ask::Finished => return Pause::Finished,
-            Ask::Faulted(kind, _) => return Pause::Faulted(kind),
-            _ => unreachable!(),
+        let asked = director.ask();
+        if let Some(pause) = heed(alloc, director, children, asked, left) {
+            return pause;
         }
+    }
+}
+
+/// Does what the director asked for, where that is an early answer of a child or that it is brought back to its start, and tells what it comes to otherwise.
+fn heed(
+    alloc: Global,
+    director: &mut Director,
+    children: &mut Vec<Node>,
+    next: Ask,
+    left: u64,
+) -> Option<Pause>
+    requires { (tag : basics.Tag) × IsAskedUnderWay acts tag next director.old (map shown children.old.items) left }
+    ensures { (before : directors.Director) (olds : List Shown) (tag : basics.Tag) (X : basics.Streams Token) (allowance : ℕ) (state : directors.Director) → At acts before olds tag X allowance state (map shown children.old.items) left → director_calls.Gives state next → director.old ≡ director_calls.asking next state → Heeded before olds tag X allowance state result director.new (map shown children.new.items) left }
+{
+    match next {
+        Ask::Fire(number, when) => {
+            if left == 0 {
+                return Some(Pause::Spent);
+            }
+            Some(Pause::Turn(number, when, None))
+        }
+        Ask::Early(number, when) => {
+            let child = &children[number as usize];
+            if listen(alloc, director, child, number, when).is_err() {
+                return Some(Pause::Memory);
+            }
+            None
+        }
+        Ask::Reset(number) => {
+            let child = &mut children[number as usize];
+            if child.reset(alloc).is_err() {
+                return Some(Pause::Memory);
+            }
+            None
+        }
+        Ask::Finished => Some(Pause::Finished),
+        Ask::Faulted(kind, _) => Some(Pause::Faulted(kind)),
+        _ => unreachable!(),
     }
 }
 

@@ -1,10 +1,8 @@
 use Rattle.std.proofs.Common.{◌≡◌, [], ◌∷◌, ap, arith, map, sym, subst, ◌∙◌, refl}
 use Rattle.pt_value.specs.declared.token.Token.TheVariants.{Int}
-use Rattle.pt_core.specs.declared.either.Either.TheVariants.{First}
 use Rattle.pt_directors.specs.Directors.{director_calls}
 use Rattle.pt_node.specs.Acts.{acts}
 use Rattle.pt_node.specs.Shown.{shown, shown_node}
-use Rattle.pt_sdf.specs.State.{lent_in}
 use Rattle.pt_seq.specs.Turns.{TellTo}
 use Rattle.pt_seq.proofs.Recording.{off-none}
 use Rattle.pt_seq.proofs.Turning.{turn-stuck, turn-off, turn-off-done, turn-after, handed-once, asked-once-handed, lent-once-handed, told-once-handed}
@@ -65,126 +63,126 @@ pub fire_composite-begin-requires-clause-idle : goal.fire_composite-begin-requir
 fire_composite-begin-requires-clause-idle t c = acts-law.idle c.args.director.now _ c.requires.ready
 
 pub fire_composite-next-requires : goal.fire_composite-next-requires
-fire_composite-next-requires t c = record { before = c.args.director.now; olds = map shown c.args.children.now.items; inputs = c.args.inputs.now; allowance = c.args.left.now; at = c.loop-number.invariant }
+fire_composite-next-requires t c = (c.args.tag, record { before = c.args.director.now; olds = map shown c.args.children.now.items; inputs = c.args.inputs.now; allowance = c.args.left.now; at = c.loop-number.invariant })
 
 pub fire_composite-index_mut-child-requires : goal.fire_composite-index_mut-child-requires
-fire_composite-index_mut-child-requires t c = let h = turn-in acts acts-law c.next.new.children.items (c.in-Turn.ensures.goes c.args.director.now (map shown c.args.children.now.items) c.args.inputs.now c.args.left.now c.loop-number.invariant).1 in grind (arith, h)
+fire_composite-index_mut-child-requires t c = let h = turn-in acts acts-law c.next.new.children.items (c.in-Turn.ensures.goes c.args.director.now (map shown c.args.children.now.items) c.args.tag c.args.inputs.now c.args.left.now c.loop-number.invariant) in grind (arith, h)
 
 pub fire_composite-fire_child-requires : goal.fire_composite-fire_child-requires
 fire_composite-fire_child-requires t c =
-    let p = (c.in-Turn.ensures.goes c.args.director.now (map shown c.args.children.now.items) c.args.inputs.now c.args.left.now c.loop-number.invariant).1 in
+    let p = (c.in-Turn.ensures.goes c.args.director.now (map shown c.args.children.now.items) c.args.tag c.args.inputs.now c.args.left.now c.loop-number.invariant) in
     let deep = turn-depth acts acts-law c.next.new.children.items p c.index_mut-child.result.now c.index_mut-child.ensures.value in (
       omega (arith, c.decreases, deep),
-      (turn-asked acts acts-law c.next.new.children.items p, (p.some, ((c.in-Turn.ensures.goes c.args.director.now (map shown c.args.children.now.items) c.args.inputs.now c.args.left.now c.loop-number.invariant).0, turn-may acts acts-law c.next.new.children.items p c.index_mut-child.result.now c.index_mut-child.ensures.value))),
+      (turn-asked acts acts-law c.next.new.children.items p, (p.some, turn-may acts acts-law c.next.new.children.items p c.index_mut-child.result.now c.index_mut-child.ensures.value)),
     )
 
 pub fire_composite-loop-number-smaller : goal.fire_composite-loop-number-smaller
 fire_composite-loop-number-smaller t c = omega (arith, c.in-Done.ensures.spends, c.next.ensures.lowered)
 
 pub fire_composite-loop-number-preserved : goal.fire_composite-loop-number-preserved
-fire_composite-loop-number-preserved t c = turn-next acts acts-law c.next.new.children.items (c.in-Turn.ensures.goes c.args.director.now (map shown c.args.children.now.items) c.args.inputs.now c.args.left.now c.loop-number.invariant).1 c.index_mut-child.result.now c.index_mut-child.ensures.value c.fire_child.new.child c.fire_child.new.director c.fire_child.new.left c.in-Done.ensures.goes c.in-Done.ensures.outline c.in-Done.ensures.counted c.in-Done.ensures.lowered
+fire_composite-loop-number-preserved t c = turn-next acts acts-law c.next.new.children.items (c.in-Turn.ensures.goes c.args.director.now (map shown c.args.children.now.items) c.args.tag c.args.inputs.now c.args.left.now c.loop-number.invariant) c.index_mut-child.result.now c.index_mut-child.ensures.value c.fire_child.new.child c.fire_child.new.director c.fire_child.new.left c.in-Done.ensures.goes c.in-Done.ensures.outline c.in-Done.ensures.counted c.in-Done.ensures.lowered
 
 pub fire_composite-returns-in-Fault-clause-goes : goal.fire_composite-returns-in-Fault-clause-goes
-fire_composite-returns-in-Fault-clause-goes t c = turn-fault acts acts-law c.next.new.children.items (c.in-Turn.ensures.goes c.args.director.now (map shown c.args.children.now.items) c.args.inputs.now c.args.left.now c.loop-number.invariant).1 c.index_mut-child.result.now c.index_mut-child.ensures.value c.fire_child.new.child c.args.path.now c.args.made c.in-Fault.place c.fire_child.new.director c.in-Fault.ensures.goes
+fire_composite-returns-in-Fault-clause-goes t c = turn-fault acts acts-law c.next.new.children.items (c.in-Turn.ensures.goes c.args.director.now (map shown c.args.children.now.items) c.args.tag c.args.inputs.now c.args.left.now c.loop-number.invariant) c.index_mut-child.result.now c.index_mut-child.ensures.value c.fire_child.new.child c.args.path.now c.args.made c.in-Fault.place c.fire_child.new.director c.in-Fault.ensures.goes
 
 pub fire_composite-returns-in-Spent-fire_child-clause-goes : goal.fire_composite-returns-in-Spent-fire_child-clause-goes
-fire_composite-returns-in-Spent-fire_child-clause-goes t c = turn-spent acts acts-law c.next.new.children.items (c.in-Turn.ensures.goes c.args.director.now (map shown c.args.children.now.items) c.args.inputs.now c.args.left.now c.loop-number.invariant).1 c.index_mut-child.result.now c.index_mut-child.ensures.value c.fire_child.new.child c.fire_child.new.director c.in-Spent-fire_child.ensures.goes
+fire_composite-returns-in-Spent-fire_child-clause-goes t c = turn-spent acts acts-law c.next.new.children.items (c.in-Turn.ensures.goes c.args.director.now (map shown c.args.children.now.items) c.args.tag c.args.inputs.now c.args.left.now c.loop-number.invariant) c.index_mut-child.result.now c.index_mut-child.ensures.value c.fire_child.new.child c.fire_child.new.director c.in-Spent-fire_child.ensures.goes
 
 pub fire_composite-returns-in-Memory-fire_child-clause-goes : goal.fire_composite-returns-in-Memory-fire_child-clause-goes
-fire_composite-returns-in-Memory-fire_child-clause-goes t c = turn-memory acts acts-law c.next.new.children.items (c.in-Turn.ensures.goes c.args.director.now (map shown c.args.children.now.items) c.args.inputs.now c.args.left.now c.loop-number.invariant).1 c.index_mut-child.result.now c.index_mut-child.ensures.value c.fire_child.new.child c.fire_child.new.director c.in-Memory-fire_child.ensures.goes
+fire_composite-returns-in-Memory-fire_child-clause-goes t c = turn-memory acts acts-law c.next.new.children.items (c.in-Turn.ensures.goes c.args.director.now (map shown c.args.children.now.items) c.args.tag c.args.inputs.now c.args.left.now c.loop-number.invariant) c.index_mut-child.result.now c.index_mut-child.ensures.value c.fire_child.new.child c.fire_child.new.director c.in-Memory-fire_child.ensures.goes
 
 pub fire_composite-returns-in-Fault-clause-lowered : goal.fire_composite-returns-in-Fault-clause-lowered
 fire_composite-returns-in-Fault-clause-lowered t c = omega (arith, c.in-Fault.ensures.lowered, c.next.ensures.lowered, c.loop-number.invariant.lowered)
 
 pub fire_composite-returns-in-Fault-clause-outlines : goal.fire_composite-returns-in-Fault-clause-outlines
-fire_composite-returns-in-Fault-clause-outlines t c = turn-outlines acts acts-law c.next.new.children.items (c.in-Turn.ensures.goes c.args.director.now (map shown c.args.children.now.items) c.args.inputs.now c.args.left.now c.loop-number.invariant).1 c.index_mut-child.result.now c.index_mut-child.ensures.value c.fire_child.new.child c.in-Fault.ensures.outline
+fire_composite-returns-in-Fault-clause-outlines t c = turn-outlines acts acts-law c.next.new.children.items (c.in-Turn.ensures.goes c.args.director.now (map shown c.args.children.now.items) c.args.tag c.args.inputs.now c.args.left.now c.loop-number.invariant) c.index_mut-child.result.now c.index_mut-child.ensures.value c.fire_child.new.child c.in-Fault.ensures.outline
 
 pub fire_composite-returns-in-Fault-clause-counted : goal.fire_composite-returns-in-Fault-clause-counted
-fire_composite-returns-in-Fault-clause-counted t c = turn-counted acts acts-law c.next.new.children.items (c.in-Turn.ensures.goes c.args.director.now (map shown c.args.children.now.items) c.args.inputs.now c.args.left.now c.loop-number.invariant).1 c.index_mut-child.result.now c.index_mut-child.ensures.value c.fire_child.new.child c.fire_child.new.left c.in-Fault.ensures.counted
+fire_composite-returns-in-Fault-clause-counted t c = turn-counted acts acts-law c.next.new.children.items (c.in-Turn.ensures.goes c.args.director.now (map shown c.args.children.now.items) c.args.tag c.args.inputs.now c.args.left.now c.loop-number.invariant) c.index_mut-child.result.now c.index_mut-child.ensures.value c.fire_child.new.child c.fire_child.new.left c.in-Fault.ensures.counted
 
 pub fire_composite-returns-in-Spent-fire_child-clause-lowered : goal.fire_composite-returns-in-Spent-fire_child-clause-lowered
 fire_composite-returns-in-Spent-fire_child-clause-lowered t c = omega (arith, c.in-Spent-fire_child.ensures.lowered, c.next.ensures.lowered, c.loop-number.invariant.lowered)
 
 pub fire_composite-returns-in-Spent-fire_child-clause-outlines : goal.fire_composite-returns-in-Spent-fire_child-clause-outlines
-fire_composite-returns-in-Spent-fire_child-clause-outlines t c = turn-outlines acts acts-law c.next.new.children.items (c.in-Turn.ensures.goes c.args.director.now (map shown c.args.children.now.items) c.args.inputs.now c.args.left.now c.loop-number.invariant).1 c.index_mut-child.result.now c.index_mut-child.ensures.value c.fire_child.new.child c.in-Spent-fire_child.ensures.outline
+fire_composite-returns-in-Spent-fire_child-clause-outlines t c = turn-outlines acts acts-law c.next.new.children.items (c.in-Turn.ensures.goes c.args.director.now (map shown c.args.children.now.items) c.args.tag c.args.inputs.now c.args.left.now c.loop-number.invariant) c.index_mut-child.result.now c.index_mut-child.ensures.value c.fire_child.new.child c.in-Spent-fire_child.ensures.outline
 
 pub fire_composite-returns-in-Spent-fire_child-clause-counted : goal.fire_composite-returns-in-Spent-fire_child-clause-counted
-fire_composite-returns-in-Spent-fire_child-clause-counted t c = turn-counted acts acts-law c.next.new.children.items (c.in-Turn.ensures.goes c.args.director.now (map shown c.args.children.now.items) c.args.inputs.now c.args.left.now c.loop-number.invariant).1 c.index_mut-child.result.now c.index_mut-child.ensures.value c.fire_child.new.child c.fire_child.new.left c.in-Spent-fire_child.ensures.counted
+fire_composite-returns-in-Spent-fire_child-clause-counted t c = turn-counted acts acts-law c.next.new.children.items (c.in-Turn.ensures.goes c.args.director.now (map shown c.args.children.now.items) c.args.tag c.args.inputs.now c.args.left.now c.loop-number.invariant) c.index_mut-child.result.now c.index_mut-child.ensures.value c.fire_child.new.child c.fire_child.new.left c.in-Spent-fire_child.ensures.counted
 
 pub fire_composite-returns-in-Memory-fire_child-clause-lowered : goal.fire_composite-returns-in-Memory-fire_child-clause-lowered
 fire_composite-returns-in-Memory-fire_child-clause-lowered t c = omega (arith, c.in-Memory-fire_child.ensures.lowered, c.next.ensures.lowered, c.loop-number.invariant.lowered)
 
 pub fire_composite-returns-in-Memory-fire_child-clause-outlines : goal.fire_composite-returns-in-Memory-fire_child-clause-outlines
-fire_composite-returns-in-Memory-fire_child-clause-outlines t c = turn-outlines acts acts-law c.next.new.children.items (c.in-Turn.ensures.goes c.args.director.now (map shown c.args.children.now.items) c.args.inputs.now c.args.left.now c.loop-number.invariant).1 c.index_mut-child.result.now c.index_mut-child.ensures.value c.fire_child.new.child c.in-Memory-fire_child.ensures.outline
+fire_composite-returns-in-Memory-fire_child-clause-outlines t c = turn-outlines acts acts-law c.next.new.children.items (c.in-Turn.ensures.goes c.args.director.now (map shown c.args.children.now.items) c.args.tag c.args.inputs.now c.args.left.now c.loop-number.invariant) c.index_mut-child.result.now c.index_mut-child.ensures.value c.fire_child.new.child c.in-Memory-fire_child.ensures.outline
 
 pub fire_composite-returns-in-Memory-fire_child-clause-counted : goal.fire_composite-returns-in-Memory-fire_child-clause-counted
-fire_composite-returns-in-Memory-fire_child-clause-counted t c = turn-counted acts acts-law c.next.new.children.items (c.in-Turn.ensures.goes c.args.director.now (map shown c.args.children.now.items) c.args.inputs.now c.args.left.now c.loop-number.invariant).1 c.index_mut-child.result.now c.index_mut-child.ensures.value c.fire_child.new.child c.fire_child.new.left c.in-Memory-fire_child.ensures.counted
+fire_composite-returns-in-Memory-fire_child-clause-counted t c = turn-counted acts acts-law c.next.new.children.items (c.in-Turn.ensures.goes c.args.director.now (map shown c.args.children.now.items) c.args.tag c.args.inputs.now c.args.left.now c.loop-number.invariant) c.index_mut-child.result.now c.index_mut-child.ensures.value c.fire_child.new.child c.fire_child.new.left c.in-Memory-fire_child.ensures.counted
 
 pub fire_composite-finish-requires : goal.fire_composite-finish-requires
-fire_composite-finish-requires t c = let p = (c.in-Finished.ensures.goes c.args.director.now (map shown c.args.children.now.items) c.args.inputs.now c.args.left.now c.loop-number.invariant) in may-finish acts acts-law p.at c.args.path.now c.args.made p.gives c.next.new.director p.asking
+fire_composite-finish-requires t c = let p = (c.in-Finished.ensures.goes c.args.director.now (map shown c.args.children.now.items) c.args.tag c.args.inputs.now c.args.left.now c.loop-number.invariant) in may-finish acts acts-law p.at c.args.path.now c.args.made p.gives c.next.new.director p.asking
 
 pub fire_composite-returns-in-Finished-clause-goes : goal.fire_composite-returns-in-Finished-clause-goes
-fire_composite-returns-in-Finished-clause-goes t c = let p = (c.in-Finished.ensures.goes c.args.director.now (map shown c.args.children.now.items) c.args.inputs.now c.args.left.now c.loop-number.invariant) in finish-goes acts acts-law p.at c.args.path.now c.args.made p.gives c.next.new.director p.asking c.finish.result c.finish.new.director c.finish.ensures
+fire_composite-returns-in-Finished-clause-goes t c = let p = (c.in-Finished.ensures.goes c.args.director.now (map shown c.args.children.now.items) c.args.tag c.args.inputs.now c.args.left.now c.loop-number.invariant) in finish-goes acts acts-law p.at c.args.path.now c.args.made p.gives c.next.new.director p.asking c.finish.result c.finish.new.director c.finish.ensures
 
 pub fire_composite-returns-in-Finished-clause-fit : goal.fire_composite-returns-in-Finished-clause-fit
-fire_composite-returns-in-Finished-clause-fit t c = let p = (c.in-Finished.ensures.goes c.args.director.now (map shown c.args.children.now.items) c.args.inputs.now c.args.left.now c.loop-number.invariant) in finish-fits acts acts-law p.at c.args.path.now c.args.made p.gives c.next.new.director p.asking c.finish.result c.finish.new.director c.finish.ensures
+fire_composite-returns-in-Finished-clause-fit t c = let p = (c.in-Finished.ensures.goes c.args.director.now (map shown c.args.children.now.items) c.args.tag c.args.inputs.now c.args.left.now c.loop-number.invariant) in finish-fits acts acts-law p.at c.args.path.now c.args.made p.gives c.next.new.director p.asking c.finish.result c.finish.new.director c.finish.ensures
 
 pub fire_composite-returns-in-Faulted-clause-goes : goal.fire_composite-returns-in-Faulted-clause-goes
-fire_composite-returns-in-Faulted-clause-goes t c = let p = (c.in-Faulted.ensures.goes c.args.director.now (map shown c.args.children.now.items) c.args.inputs.now c.args.left.now c.loop-number.invariant) in faulted-goes acts acts-law p.at c.args.path.now c.args.made c.in-Faulted.kind p.gives c.fault_at.result c.next.new.director c.fault_at.ensures
+fire_composite-returns-in-Faulted-clause-goes t c = let p = (c.in-Faulted.ensures.goes c.args.director.now (map shown c.args.children.now.items) c.args.tag c.args.inputs.now c.args.left.now c.loop-number.invariant) in faulted-goes acts acts-law p.at c.args.path.now c.args.made c.in-Faulted.kind p.gives c.fault_at.result c.next.new.director c.fault_at.ensures
 
 pub fire_composite-returns-in-Faulted-clause-fit : goal.fire_composite-returns-in-Faulted-clause-fit
-fire_composite-returns-in-Faulted-clause-fit t c = let p = (c.in-Faulted.ensures.goes c.args.director.now (map shown c.args.children.now.items) c.args.inputs.now c.args.left.now c.loop-number.invariant) in faulted-fits acts acts-law p.at c.args.path.now c.args.made c.in-Faulted.kind p.gives c.fault_at.result c.next.new.director c.fault_at.ensures
+fire_composite-returns-in-Faulted-clause-fit t c = let p = (c.in-Faulted.ensures.goes c.args.director.now (map shown c.args.children.now.items) c.args.tag c.args.inputs.now c.args.left.now c.loop-number.invariant) in faulted-fits acts acts-law p.at c.args.path.now c.args.made c.in-Faulted.kind p.gives c.fault_at.result c.next.new.director c.fault_at.ensures
 
 pub fire_composite-returns-in-Faulted-clause-spends : goal.fire_composite-returns-in-Faulted-clause-spends
-fire_composite-returns-in-Faulted-clause-spends t c = let p = (c.in-Faulted.ensures.goes c.args.director.now (map shown c.args.children.now.items) c.args.inputs.now c.args.left.now c.loop-number.invariant) in faulted-spends acts acts-law p.at c.args.path.now c.args.made c.in-Faulted.kind p.gives c.fault_at.result c.next.new.left c.fault_at.ensures
+fire_composite-returns-in-Faulted-clause-spends t c = let p = (c.in-Faulted.ensures.goes c.args.director.now (map shown c.args.children.now.items) c.args.tag c.args.inputs.now c.args.left.now c.loop-number.invariant) in faulted-spends acts acts-law p.at c.args.path.now c.args.made c.in-Faulted.kind p.gives c.fault_at.result c.next.new.left c.fault_at.ensures
 
 pub fire_composite-returns-in-Finished-clause-lowered : goal.fire_composite-returns-in-Finished-clause-lowered
 fire_composite-returns-in-Finished-clause-lowered t c = omega (arith, c.next.ensures.lowered, c.loop-number.invariant.lowered)
 
 pub fire_composite-returns-in-Finished-clause-outlines : goal.fire_composite-returns-in-Finished-clause-outlines
-fire_composite-returns-in-Finished-clause-outlines t c = let p = (c.in-Finished.ensures.goes c.args.director.now (map shown c.args.children.now.items) c.args.inputs.now c.args.left.now c.loop-number.invariant) in p.at.outlines
+fire_composite-returns-in-Finished-clause-outlines t c = let p = (c.in-Finished.ensures.goes c.args.director.now (map shown c.args.children.now.items) c.args.tag c.args.inputs.now c.args.left.now c.loop-number.invariant) in p.at.outlines
 
 pub fire_composite-returns-in-Finished-clause-counted : goal.fire_composite-returns-in-Finished-clause-counted
-fire_composite-returns-in-Finished-clause-counted t c = let p = (c.in-Finished.ensures.goes c.args.director.now (map shown c.args.children.now.items) c.args.inputs.now c.args.left.now c.loop-number.invariant) in p.at.counted
+fire_composite-returns-in-Finished-clause-counted t c = let p = (c.in-Finished.ensures.goes c.args.director.now (map shown c.args.children.now.items) c.args.tag c.args.inputs.now c.args.left.now c.loop-number.invariant) in p.at.counted
 
 pub fire_composite-returns-in-Faulted-clause-lowered : goal.fire_composite-returns-in-Faulted-clause-lowered
 fire_composite-returns-in-Faulted-clause-lowered t c = omega (arith, c.next.ensures.lowered, c.loop-number.invariant.lowered)
 
 pub fire_composite-returns-in-Faulted-clause-outlines : goal.fire_composite-returns-in-Faulted-clause-outlines
-fire_composite-returns-in-Faulted-clause-outlines t c = let p = (c.in-Faulted.ensures.goes c.args.director.now (map shown c.args.children.now.items) c.args.inputs.now c.args.left.now c.loop-number.invariant) in p.at.outlines
+fire_composite-returns-in-Faulted-clause-outlines t c = let p = (c.in-Faulted.ensures.goes c.args.director.now (map shown c.args.children.now.items) c.args.tag c.args.inputs.now c.args.left.now c.loop-number.invariant) in p.at.outlines
 
 pub fire_composite-returns-in-Faulted-clause-counted : goal.fire_composite-returns-in-Faulted-clause-counted
-fire_composite-returns-in-Faulted-clause-counted t c = let p = (c.in-Faulted.ensures.goes c.args.director.now (map shown c.args.children.now.items) c.args.inputs.now c.args.left.now c.loop-number.invariant) in p.at.counted
+fire_composite-returns-in-Faulted-clause-counted t c = let p = (c.in-Faulted.ensures.goes c.args.director.now (map shown c.args.children.now.items) c.args.tag c.args.inputs.now c.args.left.now c.loop-number.invariant) in p.at.counted
 
 pub fire_composite-returns-in-Spent-clause-goes : goal.fire_composite-returns-in-Spent-clause-goes
-fire_composite-returns-in-Spent-clause-goes t c = let p = (c.in-Spent.ensures.goes c.args.director.now (map shown c.args.children.now.items) c.args.inputs.now c.args.left.now c.loop-number.invariant) in off-here acts acts-law p.1.1.at
+fire_composite-returns-in-Spent-clause-goes t c = let p = (c.in-Spent.ensures.goes c.args.director.now (map shown c.args.children.now.items) c.args.tag c.args.inputs.now c.args.left.now c.loop-number.invariant) in off-here acts acts-law p.1.1.at
 
 pub fire_composite-returns-in-Spent-clause-spends : goal.fire_composite-returns-in-Spent-clause-spends
-fire_composite-returns-in-Spent-clause-spends t c = (c.in-Spent.ensures.goes c.args.director.now (map shown c.args.children.now.items) c.args.inputs.now c.args.left.now c.loop-number.invariant).0
+fire_composite-returns-in-Spent-clause-spends t c = (c.in-Spent.ensures.goes c.args.director.now (map shown c.args.children.now.items) c.args.tag c.args.inputs.now c.args.left.now c.loop-number.invariant).0
 
 pub fire_composite-returns-in-Spent-clause-lowered : goal.fire_composite-returns-in-Spent-clause-lowered
 fire_composite-returns-in-Spent-clause-lowered t c = omega (arith, c.next.ensures.lowered, c.loop-number.invariant.lowered)
 
 pub fire_composite-returns-in-Spent-clause-outlines : goal.fire_composite-returns-in-Spent-clause-outlines
-fire_composite-returns-in-Spent-clause-outlines t c = let p = (c.in-Spent.ensures.goes c.args.director.now (map shown c.args.children.now.items) c.args.inputs.now c.args.left.now c.loop-number.invariant) in p.1.1.at.outlines
+fire_composite-returns-in-Spent-clause-outlines t c = let p = (c.in-Spent.ensures.goes c.args.director.now (map shown c.args.children.now.items) c.args.tag c.args.inputs.now c.args.left.now c.loop-number.invariant) in p.1.1.at.outlines
 
 pub fire_composite-returns-in-Spent-clause-counted : goal.fire_composite-returns-in-Spent-clause-counted
-fire_composite-returns-in-Spent-clause-counted t c = let p = (c.in-Spent.ensures.goes c.args.director.now (map shown c.args.children.now.items) c.args.inputs.now c.args.left.now c.loop-number.invariant) in p.1.1.at.counted
+fire_composite-returns-in-Spent-clause-counted t c = let p = (c.in-Spent.ensures.goes c.args.director.now (map shown c.args.children.now.items) c.args.tag c.args.inputs.now c.args.left.now c.loop-number.invariant) in p.1.1.at.counted
 
 pub fire_composite-returns-in-Memory-clause-goes : goal.fire_composite-returns-in-Memory-clause-goes
-fire_composite-returns-in-Memory-clause-goes t c = let p = (c.in-Memory.ensures.goes c.args.director.now (map shown c.args.children.now.items) c.args.inputs.now c.args.left.now c.loop-number.invariant) in halts-off acts acts-law p
+fire_composite-returns-in-Memory-clause-goes t c = let p = (c.in-Memory.ensures.goes c.args.director.now (map shown c.args.children.now.items) c.args.tag c.args.inputs.now c.args.left.now c.loop-number.invariant) in halts-off acts acts-law p
 
 pub fire_composite-returns-in-Memory-clause-lowered : goal.fire_composite-returns-in-Memory-clause-lowered
 fire_composite-returns-in-Memory-clause-lowered t c = omega (arith, c.next.ensures.lowered, c.loop-number.invariant.lowered)
 
 pub fire_composite-returns-in-Memory-clause-outlines : goal.fire_composite-returns-in-Memory-clause-outlines
-fire_composite-returns-in-Memory-clause-outlines t c = let p = (c.in-Memory.ensures.goes c.args.director.now (map shown c.args.children.now.items) c.args.inputs.now c.args.left.now c.loop-number.invariant) in halts-outlines acts acts-law p
+fire_composite-returns-in-Memory-clause-outlines t c = let p = (c.in-Memory.ensures.goes c.args.director.now (map shown c.args.children.now.items) c.args.tag c.args.inputs.now c.args.left.now c.loop-number.invariant) in halts-outlines acts acts-law p
 
 pub fire_composite-returns-in-Memory-clause-counted : goal.fire_composite-returns-in-Memory-clause-counted
-fire_composite-returns-in-Memory-clause-counted t c = let p = (c.in-Memory.ensures.goes c.args.director.now (map shown c.args.children.now.items) c.args.inputs.now c.args.left.now c.loop-number.invariant) in halts-counted acts acts-law p
+fire_composite-returns-in-Memory-clause-counted t c = let p = (c.in-Memory.ensures.goes c.args.director.now (map shown c.args.children.now.items) c.args.tag c.args.inputs.now c.args.left.now c.loop-number.invariant) in halts-counted acts acts-law p
 
 pub fire_child-returns-then-several-clause-goes : goal.fire_child-returns-then-several-clause-goes
 fire_child-returns-then-several-clause-goes t c =
-    let gave = some-given (shown_node c.args.child.now) (shown_node c.several.new.node) (lent_in c.in-First.core.stage) c.several.result c.several.new.buffers.given.items c.several.ensures.goes c.if-several.true in
-    turn-of-several c.args.director.now c.in-First.core c.in-First.is c.args.given c.in_default-given.not-Some (shown_node c.args.child.now) (shown_node c.several.new.node) c.args.number c.args.tag c.several.new.buffers.given.items c.tell_numbers-then-several.result c.tell_numbers-then-several.new.core (shown_node c.tell_numbers-then-several.new.child) gave (ap (λ p. p.made) c.several.ensures.past)
-    (subst (λ v. TellTo director_calls (First c.in-First.core) (shown_node c.several.new.node) c.args.number c.args.tag (map Int v ∷ []) c.tell_numbers-then-several.result (First c.tell_numbers-then-several.new.core) (shown_node c.tell_numbers-then-several.new.child)) c.deref.ensures.value c.tell_numbers-then-several.ensures.goes)
+    let gave = some-given (shown_node c.args.child.now) (shown_node c.several.new.node) (director_calls.lent_of c.args.director.now) c.several.result c.several.new.buffers.given.items c.several.ensures.goes c.if-several.true in
+    turn-of-several c.args.director.now c.args.given c.in_default.not-Some (shown_node c.args.child.now) (shown_node c.several.new.node) c.args.number c.args.tag c.several.new.buffers.given.items c.tell_numbers-then-several.result c.tell_numbers-then-several.new.director (shown_node c.tell_numbers-then-several.new.child) gave (ap (λ p. p.made) c.several.ensures.past)
+    (subst (λ v. TellTo director_calls c.args.director.now (shown_node c.several.new.node) c.args.number c.args.tag (map Int v ∷ []) c.tell_numbers-then-several.result c.tell_numbers-then-several.new.director (shown_node c.tell_numbers-then-several.new.child)) c.deref.ensures.value c.tell_numbers-then-several.ensures.goes)

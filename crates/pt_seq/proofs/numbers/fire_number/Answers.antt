@@ -1,7 +1,7 @@
 use Rattle.std.proofs.Common.{ℤ, w64, SFits, rules, [], ◌∷◌, refl, sym, subst}
 use Rattle.std.proofs.lemmas.Int.{to_z-of_z}
 use Rattle.pt_value.specs.declared.token.Token.TheVariants.{Int}
-use Rattle.pt_sdf.specs.State.{lent_in}
+use Rattle.pt_directors.specs.Directors.{director_calls}
 use Rattle.pt_node.specs.declared.node.Node.{Node, roll-Node, out-Node}
 use Rattle.pt_node.specs.declared.node.Node.TheViews.{roll-out-Node}
 use Rattle.pt_node.specs.declared.node.Node.TheOpen as opens
@@ -13,7 +13,7 @@ use Rattle.pt_seq.proofs.Entering.{gave-out, not-live, no-longer-live}
 use Rattle.pt_seq.proofs.numbers.fire_number.Goals as goal
 
 pub returns-in_ok-given-in-Actor-clause-goes : goal.returns-in_ok-given-in-Actor-clause-goes
-returns-in_ok-given-in-Actor-clause-goes c =
+returns-in_ok-given-in-Actor-clause-goes g c =
     let n : Node = c.args.node.now in
     let r : opens.Node-F Node = out-Node n in
     let held : Held = c.in-Actor.held in
@@ -22,6 +22,6 @@ returns-in_ok-given-in-Actor-clause-goes c =
     let fits : SFits w64 given = search rules in
     let written : opens.Node-F Node = record { past = r.past; body = body.Actor held'; children = r.children; records = r.records; path = r.path; live = r.live } in
     let r' : opens.Node-F Node = not-live (out-Node (roll-Node written)) in
-    subst (λ z. Gave (shown_node n) (lent_in c.args.core.now.stage) ((Int z ∷ []) ∷ []) (shown_node (roll-Node r'))) (sym (to_z-of_z w64 given fits))
+    subst (λ z. Gave (shown_node n) (director_calls.lent_of (g.C.NumberCore.director c.args.core.now)) ((Int z ∷ []) ∷ []) (shown_node (roll-Node r'))) (sym (to_z-of_z w64 given fits))
     (subst (λ X. Gave (shown_node n) X ((Int given ∷ []) ∷ []) (shown_node (roll-Node r'))) c.in_ok-inputs-in-Actor.ensures
     (gave-out n (roll-Node r') r r' held held' (roll-out-Node n) refl c.in-Actor.is c.in_ok-inputs-in-Actor.inputs ((Int given ∷ []) ∷ []) c.in_ok-given-in-Actor.ensures refl (no-longer-live written) c.requires.fit))

@@ -8,8 +8,8 @@ use Rattle.pt_seq.specs.Between.{At}
 use Rattle.pt_seq.proofs.pause.wait.Given as goal
 
 -- however the firing began, it has come so far
-abbrev pub invariant-loop-number : goal.invariant-loop-number
-invariant-loop-number l = (before : Director) (olds : List Shown) (tag : Tag) (X : Streams Token) (allowance : ℕ) → At acts before olds tag X allowance l.fn.director (map shown l.fn.children.items) l.left → At acts before olds tag X allowance l.director (map shown l.children.items) l.left
+abbrev pub invariant-loop-pause : goal.invariant-loop-pause
+invariant-loop-pause l = (before : Director) (olds : List Shown) (tag : Tag) (X : Streams Token) (allowance : ℕ) → At acts before olds tag X allowance l.fn.director (map shown l.fn.children.items) l.left → At acts before olds tag X allowance l.director (map shown l.children.items) l.left
 
-abbrev pub decreases-loop-number : goal.decreases-loop-number
-decreases-loop-number l = director_calls.waits l.director
+abbrev pub decreases-loop-pause : goal.decreases-loop-pause
+decreases-loop-pause l = director_calls.waits l.director

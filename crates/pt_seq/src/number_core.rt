@@ -1,0 +1,32 @@
+ghost use Rattle.std.specs.Prelude.{◌≡◌, [], ◌∷◌, IfSome, IsSome, IsTrue, Option, Some, true, if◌then◌else◌};
+ghost use Rattle.pt_meaning.specs.Basics as basics;
+ghost use Rattle.pt_value.specs.declared.token.Token.TheVariants.{Int};
+ghost use Rattle.pt_directors.specs.Directors.{Director, director_calls};
+
+use pt_firing::{Ask, IntInputs};
+
+/// The core of a director whose children may take and give integers as they are, without a list of tokens. Its calls are those of the director.
+pub(crate) trait NumberCore: Sized {
+    ghost director: { Self → Director };
+
+    /// What comes next. It takes no memory.
+    fn ask(&mut self) -> Ask
+        requires { director_calls.MayAsk (director self.old) }
+        ensures gives { director_calls.Gives (director self.old) result }
+        ensures state { director self.new ≡ director_calls.asking result (director self.old) };
+
+    /// The inputs of the child that was asked to fire, where they are integers. `row` is a buffer. `None` says nothing of them.
+    fn int_inputs<'a>(&'a self, row: &'a mut Vec<i64>) -> Option<IntInputs<'a>>
+        requires { IsSome (director_calls.asked_of (director self.now)) }
+        ensures { IfSome result (λ inputs. inputs ≡ director_calls.lent_of (director self.now)) };
+
+    /// Whether that child gives several integers, or none, to one channel. A hint of how it may fire.
+    fn gives_several(&self, child: u32) -> bool
+        requires { director_calls.asked_of (director self.now) ≡ Some child };
+
+    /// Takes the integer that the child gave as the one token on its one port, which is accepted, whichever wake the child has then. `false` says that nothing was done.
+    fn told_number(&mut self, child: u32, number: i64) -> bool
+        requires asked { director_calls.asked_of (director self.old) ≡ Some child }
+        ensures told { (wake : Option basics.Tag) → director self.new ≡ (if result then director_calls.told child ((Int number ∷ []) ∷ []) wake (director self.old) else director self.old) }
+        ensures accepted { IsTrue result → director_calls.accepts (director self.old) child ((Int number ∷ []) ∷ []) ≡ true };
+}

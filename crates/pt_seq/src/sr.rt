@@ -1,0 +1,30 @@
+ghost use Rattle.pt_core.specs.declared.either.Either.TheVariants.{Other};
+
+use crate::number_core::NumberCore;
+use pt_firing::{Ask, IntInputs};
+use pt_sr::Core;
+
+impl NumberCore for Core {
+    ghost director = { Other };
+
+    #[inline(always)]
+    fn ask(&mut self) -> Ask {
+        self.ask()
+    }
+
+    #[inline(always)]
+    fn int_inputs<'a>(&'a self, row: &'a mut Vec<i64>) -> Option<IntInputs<'a>> {
+        self.int_inputs(row)
+    }
+
+    #[inline(always)]
+    fn gives_several(&self, _child: u32) -> bool {
+        false
+    }
+
+    #[inline(always)]
+    fn told_number(&mut self, child: u32, number: i64) -> bool {
+        self.told_number(child, number);
+        true
+    }
+}
