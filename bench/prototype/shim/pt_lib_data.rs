@@ -20,6 +20,12 @@ impl DataActor {
     pub fn rates(&self, alloc: Global) -> Result<Counts, AllocError> {
         self.needed.copy(alloc)
     }
+    pub fn begins(&self) -> bool {
+        false
+    }
+    pub fn whole(&self) -> bool {
+        false
+    }
     pub fn is_steady(&self) -> bool {
         true
     }

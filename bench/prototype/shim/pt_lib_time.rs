@@ -18,6 +18,12 @@ impl TimeActor {
         }
         Ok(Some(TimeActor { tag: 1, kept: None, places: OneEach::of(alloc, 1)? }))
     }
+    pub fn begins(&self) -> bool {
+        false
+    }
+    pub fn whole(&self) -> bool {
+        false
+    }
     pub fn is_steady(&self) -> bool {
         true
     }
