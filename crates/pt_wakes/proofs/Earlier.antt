@@ -4,11 +4,11 @@ use Rattle.std.proofs.lemmas.Bool.{false≢true, ltb-true, ltb-false, leb-true, 
 use Rattle.pt_meaning.specs.Tag.{Tag, tag_le, earlier, is_due}
 
 -- the order of tags, in numbers
-record IsUpTo (a b : Tag) : Type 0 where
+pub record IsUpTo (a b : Tag) : Type 0 where
   pub time : a.time ≤ b.time
   pub step : b.time ≤ a.time → a.step ≤ b.step
 
-up_to : (a b : Tag) → tag_le a b ≡ true → IsUpTo a b
+pub up_to : (a b : Tag) → tag_le a b ≡ true → IsUpTo a b
 up_to a b h = elim (cases_Bool (ltb a.time b.time)) [
   | inl l ↦ let t = ltb-true a.time b.time l in record { time = omega (arith, t); step = λ k. absurd (omega (arith, t, k)) }
   | inr n ↦
@@ -46,7 +46,7 @@ tag-total a b h = elim (cases_Bool (ltb b.time a.time)) [
       | inr m ↦ ltb-false a.time b.time m
     ]
 
-tag-trans : (a b c : Tag) → tag_le a b ≡ true → tag_le b c ≡ true → tag_le a c ≡ true
+pub tag-trans : (a b c : Tag) → tag_le a b ≡ true → tag_le b c ≡ true → tag_le a c ≡ true
 tag-trans a b c h k =
     let p = up_to a b h in
     let q = up_to b c k in
@@ -61,10 +61,10 @@ tag-antisymm a b h k =
     λ i. record { time = t i; step = s i }
 
 -- the lesser is known from the test
-first_one : (a b : Tag) → tag_le a b ≡ true → earlier (Some a) (Some b) ≡ Some a
+pub first_one : (a b : Tag) → tag_le a b ≡ true → earlier (Some a) (Some b) ≡ Some a
 first_one a b h = ap (λ t. cond t (Some a) (Some b)) h
 
-second_one : (a b : Tag) → tag_le a b ≡ false → earlier (Some a) (Some b) ≡ Some b
+pub second_one : (a b : Tag) → tag_le a b ≡ false → earlier (Some a) (Some b) ≡ Some b
 second_one a b h = ap (λ t. cond t (Some a) (Some b)) h
 
 pub earlier-none : (a : Option Tag) → earlier a None ≡ a
@@ -130,4 +130,19 @@ due-below tag (Some a) (Some b) e f = elim (cases_Bool (tag_le b tag)) [
     | inr h ↦ ap (is_due tag) (sym (second_one a b h) ∙ e) ∙ f
   ]
   | inr g ↦ g
+]
+
+-- where neither of two wakes is due, the lesser isn't
+pub due-neither : (tag : Tag) (a b : Option Tag) → is_due tag a ≡ false → is_due tag b ≡ false → is_due tag (earlier a b) ≡ false
+due-neither tag None b f g = g
+due-neither tag (Some a) None f g = f
+due-neither tag (Some a) (Some b) f g = elim (cases_Bool (tag_le a b)) [
+  | inl e ↦ ap (is_due tag) (first_one a b e) ∙ f
+  | inr e ↦ ap (is_due tag) (second_one a b e) ∙ g
+]
+
+pub tag-self : (a : Tag) → tag_le a a ≡ true
+tag-self a = elim (cases_Bool (tag_le a a)) [
+  | inl e ↦ e
+  | inr e ↦ tag-total a a e
 ]

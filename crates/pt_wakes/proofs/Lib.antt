@@ -1,2 +1,3 @@
 pub mod Earlier
 pub mod NodeLaws
+pub mod KeyLaws

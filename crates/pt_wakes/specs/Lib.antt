@@ -1,2 +1,5 @@
 pub mod Wakes
 pub mod Nodes
+pub mod Due
+pub mod Keys
+pub mod Codes

@@ -1,10 +1,12 @@
-//! The wakes of the children of a DE composite: the least of them at hand, and a child that is due.
+//! The wakes of the children of a DE composite, the least of them at hand, and which children are due, by depth.
 #![tactic(auto)]
 
+mod due;
 mod nodes;
 mod tags;
 #[cfg(test)]
 mod tests;
 mod wakes;
 
+pub use due::DueChildren;
 pub use wakes::Wakes;

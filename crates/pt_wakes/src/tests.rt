@@ -1,4 +1,4 @@
-use crate::Wakes;
+use crate::{DueChildren, Wakes};
 use pt_time::Tag;
 use std::alloc::Global;
 use std::test::Fail;
@@ -40,5 +40,27 @@ fn no_child_has_no_wake(rt: HostRuntime) -> Result<(), Fail> {
     let wakes = Wakes::new(rt.alloc(), &starts)?;
     assert!(rt; wakes.least().is_none());
     assert!(rt; wakes.due(Tag { time: 9, step: 9 }).is_none());
+    Ok(())
+}
+
+#[test]
+fn the_least_deep_of_those_that_are_due_comes_first(rt: HostRuntime) -> Result<(), Fail> {
+    let depths = [2, 0, 1, 1, 3];
+    let mut children = DueChildren::new(rt.alloc(), depths.as_slice())?;
+    assert!(rt; children.first().is_none());
+    if children.len() == 5 {
+        children.insert(4);
+        children.insert(0);
+        assert!(rt; children.first() == Some(0));
+        let before = children.copy(rt.alloc())?;
+        children.insert(3);
+        assert!(rt; children.first() == Some(3));
+        children.remove(3);
+        children.remove(0);
+        assert!(rt; children.first() == Some(4));
+        children.remove(4);
+        assert!(rt; children.first().is_none());
+        assert!(rt; before.first() == Some(0));
+    }
     Ok(())
 }

@@ -23,9 +23,12 @@ pub struct Wakes {
 impl Model for Wakes {
     ghost use Rattle.std.specs.Prelude.{List, Option, drop};
     ghost use Rattle.pt_meaning.specs.Tag.{Tag};
+    ghost use Rattle.pt_wakes.specs.Codes.{coded_wakes};
     ghost use Rattle.pt_wakes.specs.Nodes.{IsTree};
 
     ghost Value = { List (Option Tag) };
+
+    ghost coded = { coded_wakes };
 
     ghost view = { λ w. drop w.leaves w.nodes.items };
 
