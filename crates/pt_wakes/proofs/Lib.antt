@@ -1,3 +1,4 @@
 pub mod Earlier
 pub mod NodeLaws
 pub mod KeyLaws
+pub mod MovedLaws

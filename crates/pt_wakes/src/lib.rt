@@ -2,6 +2,7 @@
 #![tactic(auto)]
 
 mod due;
+mod moved;
 mod nodes;
 mod tags;
 #[cfg(test)]
@@ -9,4 +10,5 @@ mod tests;
 mod wakes;
 
 pub use due::DueChildren;
+pub use moved::move_due;
 pub use wakes::Wakes;

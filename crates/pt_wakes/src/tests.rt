@@ -1,4 +1,4 @@
-use crate::{DueChildren, Wakes};
+use crate::{DueChildren, Wakes, move_due};
 use pt_time::Tag;
 use std::alloc::Global;
 use std::test::Fail;
@@ -61,6 +61,24 @@ fn the_least_deep_of_those_that_are_due_comes_first(rt: HostRuntime) -> Result<(
         children.remove(4);
         assert!(rt; children.first().is_none());
         assert!(rt; before.first() == Some(0));
+    }
+    Ok(())
+}
+
+#[test]
+fn the_children_that_wake_by_the_tag_become_due(rt: HostRuntime) -> Result<(), Fail> {
+    let starts = [at(5, 0), None, at(3, 1), at(9, 0)];
+    let depths = [1, 0, 2, 0];
+    let mut wakes = Wakes::new(rt.alloc(), starts.as_slice())?;
+    let mut children = DueChildren::new(rt.alloc(), depths.as_slice())?;
+    if wakes.len() == 4 && children.len() == 4 {
+        move_due(&mut wakes, &mut children, Tag { time: 5, step: 0 });
+        assert!(rt; wakes.least() == at(9, 0));
+        assert!(rt; children.first() == Some(0));
+        if children.len() == 4 {
+            children.remove(0);
+            assert!(rt; children.first() == Some(2));
+        }
     }
     Ok(())
 }
