@@ -15,7 +15,6 @@ use pt_value::Token;
 use std::alloc::{AllocError, Global};
 
 /// An actor of the libraries, by its library.
-#[derive(Drop)]
 pub enum LibraryActor {
     Flow(FlowActor),
     Data(DataActor),
@@ -31,6 +30,13 @@ macro_rules! of_library {
             LibraryActor::Time($actor) => $code,
         }
     };
+}
+
+// Written by hand, so that letting go of an actor is one call in the proofs of the crates above, however many classes there are.
+impl Drop for LibraryActor {
+    fn drop(self) {
+        of_library!(self, actor => drop(actor))
+    }
 }
 
 /// How many tokens a firing gives on the one output, where the number doesn't vary.
