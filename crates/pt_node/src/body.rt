@@ -7,10 +7,15 @@ use pt_library::LibraryActor;
 use std::alloc::{AllocError, Global};
 
 /// A library actor beside its start, to which a reset brings it back.
-#[derive(Drop)]
 pub struct Held {
     pub actor: LibraryActor,
     pub start: LibraryActor,
+}
+
+impl Drop for Held {
+    fn drop(self) {
+        let Held { actor: _, start: _ } = self;
+    }
 }
 
 impl Held {
@@ -26,10 +31,18 @@ impl Held {
 }
 
 /// What a node is: a library actor, or a composite with its director.
-#[derive(Drop)]
 pub enum Body {
     Actor(Held),
     Composite(Director),
+}
+
+impl Drop for Body {
+    fn drop(self) {
+        match self {
+            Body::Actor(held) => drop(held),
+            Body::Composite(director) => drop(director),
+        }
+    }
 }
 
 impl Body {

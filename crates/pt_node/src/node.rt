@@ -22,7 +22,6 @@ use pt_value::Text;
 use std::alloc::{AllocError, Global};
 
 /// A node of the tree of a model, with its past and what is recorded of it. A library actor has no children.
-#[derive(Drop)]
 pub struct Node {
     // What a firing of integers reads and writes stands in front, so that it is in few lines of the cache.
     pub past: Past,
@@ -33,6 +32,20 @@ pub struct Node {
     pub children: Vec<Node>,
     /// Its path from the top, as a report tells it.
     pub path: Text,
+}
+
+// Written by hand, as that of what is in it: so letting go of a tree is one call in the proofs of the crates above, whatever a node holds.
+impl Drop for Node {
+    fn drop(self) {
+        let Node {
+            past: _,
+            records: _,
+            live: _,
+            body: _,
+            children: _,
+            path: _,
+        } = self;
+    }
 }
 
 impl Node {
