@@ -135,8 +135,15 @@ impl TimedActor {
         true
     }
 
-    /// Whether it takes several tokens of one tag in one firing.
-    pub fn is_whole(&self) -> bool
+    /// Whether it begins by itself. None of these actors does: each has input places or wakes of its own.
+    pub fn begins(&self) -> bool
+        ensures { result ≡ timed_actor.rows.begins self.now }
+    {
+        false
+    }
+
+    /// Whether under DE it takes its lists whole: several tokens of one tag in one firing.
+    pub fn whole(&self) -> bool
         ensures { result ≡ timed_actor.whole self.now }
     {
         matches!(
@@ -149,7 +156,7 @@ impl TimedActor {
     pub fn is_strict(&self) -> bool
         ensures { result ≡ timed_actor.is_strict self.now }
     {
-        !self.is_whole()
+        !self.whole()
     }
 
     /// Whether what comes on a place has no part in what is given at its tag.
