@@ -15,6 +15,7 @@ mod rates;
 mod receivers;
 mod tags;
 mod time_library;
+mod timed_library;
 mod token_texts;
 mod traces;
 mod types;
@@ -51,6 +52,7 @@ impl Answers for Questions {
             "parameters.txt" => parameters::answer(alloc, section, question, out),
             "flow_library.txt" => flow_library::answer(alloc, section, question, out),
             "time_library.txt" => time_library::answer(alloc, section, question, out),
+            "timed_library.txt" => timed_library::answer(alloc, section, question, out),
             "traces.txt" => traces::answer(alloc, section, question, out),
             _ => out.text("no such table"),
         }

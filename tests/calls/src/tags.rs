@@ -20,7 +20,8 @@ pub fn answer(alloc: Global, section: &str, question: &str, out: &mut Answer) {
     }
 }
 
-fn tag(written: &str) -> Tag {
+/// A tag, as its time and its microstep: `3.5`.
+pub fn tag(written: &str) -> Tag {
     let (time, step) = written.split_once('.').unwrap_or((written, ""));
     Tag {
         time: natural(time),
@@ -37,7 +38,8 @@ fn inside(from: Tag, lag: u64) -> Option<Tag> {
     }
 }
 
-fn show(alloc: Global, tag: Tag, out: &mut Answer) {
+/// Writes a tag so.
+pub fn show(alloc: Global, tag: Tag, out: &mut Answer) {
     out.number(alloc, i128::from(tag.time));
     out.text(".");
     out.number(alloc, i128::from(tag.step));
