@@ -20,6 +20,9 @@ impl DataActor {
     pub fn rates(&self, alloc: Global) -> Result<Counts, AllocError> {
         self.needed.copy(alloc)
     }
+    pub fn outputs(&self) -> usize {
+        1
+    }
     pub fn begins(&self) -> bool {
         false
     }

@@ -18,6 +18,9 @@ impl TimeActor {
         }
         Ok(Some(TimeActor { tag: 1, kept: None, places: OneEach::of(alloc, 1)? }))
     }
+    pub fn outputs(&self) -> usize {
+        1
+    }
     pub fn begins(&self) -> bool {
         false
     }

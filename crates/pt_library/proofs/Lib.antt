@@ -4,3 +4,4 @@ pub mod RateLaws
 pub mod Classes
 pub mod StrictLaws
 pub mod PlaceLaws
+pub mod DelayLaws

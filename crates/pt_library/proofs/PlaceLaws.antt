@@ -27,7 +27,7 @@ use Rattle.pt_lib_flow.specs.declared.flow_actor.FlowActor.TheVariants.{Absolute
 use Rattle.pt_lib_flow.specs.FlowActor as flow_actor
 use Rattle.pt_lib_flow.proofs.Steadiness.{Leaves, held}
 use Rattle.pt_library.specs.declared.library_actor.LibraryActor.{LibraryActor}
-use Rattle.pt_library.specs.declared.library_actor.LibraryActor.TheVariants.{Flow, Data, Time}
+use Rattle.pt_library.specs.declared.library_actor.LibraryActor.TheVariants.{Flow, Data, Time, Timed}
 use Rattle.pt_library.specs.LibraryActor as library
 use Rattle.pt_library.specs.Steady.{after, HasPlaces}
 use Rattle.pt_library.proofs.RowLaws.{held-gives}
@@ -146,11 +146,13 @@ abbrev places : LibraryActor → ℕ
 places (Flow a) = flow_actor.places a
 places (Data a) = 0
 places (Time a) = 0
+places (Timed a) = 0
 
 unsteady-places : (a : LibraryActor) → library.is_steady a ≡ false → (ns : List ℕ) → library.need a ≡ Counts ns → length ns ≡ places a
 unsteady-places (Flow a) e ns h = flow-places a e ns h
 unsteady-places (Data a) e ns h = cc
 unsteady-places (Time a) e ns h = cc
+unsteady-places (Timed a) e ns h = cc
 
 unsteady-once : (tag : Tag) (a b : LibraryActor) (X out : Streams Token) → library.is_steady a ≡ false → library.step tag a X ≡ Gives b out → (library.is_steady b ≡ false) × (places b ≡ places a)
 unsteady-once tag (Flow a) b X out e h =
@@ -159,6 +161,7 @@ unsteady-once tag (Flow a) b X out e h =
     (sym (ap library.is_steady gave.1) ∙ same.0, sym (ap places gave.1) ∙ same.1)
 unsteady-once tag (Data a) b X out e h = cc
 unsteady-once tag (Time a) b X out e h = cc
+unsteady-once tag (Timed a) b X out e h = cc
 
 -- it is steady and has n places, or isn't and has them
 abbrev Has : ℕ → LibraryActor → Type 0

@@ -22,8 +22,11 @@ use Rattle.pt_lib_flow.proofs.Giving as flow_laws
 use Rattle.pt_lib_time.specs.declared.time_actor.TimeActor.{TimeActor}
 use Rattle.pt_lib_time.specs.TimeActor as time_actor
 use Rattle.pt_lib_time.proofs.Giving as time_laws
+use Rattle.pt_lib_timed.specs.declared.timed_actor.TimedActor.{TimedActor}
+use Rattle.pt_lib_timed.specs.TimedActor as timed_actor
+use Rattle.pt_lib_timed.proofs.Staying as timed_laws
 use Rattle.pt_library.specs.declared.library_actor.LibraryActor.{LibraryActor}
-use Rattle.pt_library.specs.declared.library_actor.LibraryActor.TheVariants.{Flow, Data, Time}
+use Rattle.pt_library.specs.declared.library_actor.LibraryActor.TheVariants.{Flow, Data, Time, Timed}
 use Rattle.pt_library.specs.LibraryActor as library
 use Rattle.pt_library.specs.Laws.{IsRatedActor}
 use Rattle.pt_library.proofs.RowLaws.{held-gives}
@@ -43,17 +46,18 @@ all-counts : (ns : List ℕ) → AllByRecursion IsRate ns → AllByRecursion IsC
 all-counts [] h = tt
 all-counts (n ∷ ns) h = (record { least = h.0.0; most = h.0.1 }, all-counts ns h.1)
 
-by-library : (P : LibraryActor → Type 0) (o : Option FlowActor) (p : Option DataActor) (q : Option TimeActor) (a : LibraryActor) → option_or (option_map Flow o) (option_or (option_map Data p) (option_map Time q)) ≡ Some a →
-    ((b : FlowActor) → o ≡ Some b → P (Flow b)) → ((b : DataActor) → p ≡ Some b → P (Data b)) → ((b : TimeActor) → q ≡ Some b → P (Time b)) → P a
-by-library P (Some b) p q a e f g h = let same : Flow b ≡ a = cc in subst P same (f b refl)
-by-library P None (Some b) q a e f g h = let same : Data b ≡ a = cc in subst P same (g b refl)
-by-library P None None (Some b) a e f g h = let same : Time b ≡ a = cc in subst P same (h b refl)
-by-library P None None None a e f g h = absurd (cc)
+by-library : (P : LibraryActor → Type 0) (o : Option FlowActor) (p : Option DataActor) (q : Option TimeActor) (r : Option TimedActor) (a : LibraryActor) → option_or (option_map Flow o) (option_or (option_map Data p) (option_or (option_map Time q) (option_map Timed r))) ≡ Some a →
+    ((b : FlowActor) → o ≡ Some b → P (Flow b)) → ((b : DataActor) → p ≡ Some b → P (Data b)) → ((b : TimeActor) → q ≡ Some b → P (Time b)) → ((b : TimedActor) → r ≡ Some b → P (Timed b)) → P a
+by-library P (Some b) p q r a e f g h k = let same : Flow b ≡ a = cc in subst P same (f b refl)
+by-library P None (Some b) q r a e f g h k = let same : Data b ≡ a = cc in subst P same (g b refl)
+by-library P None None (Some b) r a e f g h k = let same : Time b ≡ a = cc in subst P same (h b refl)
+by-library P None None None (Some b) a e f g h k = let same : Timed b ≡ a = cc in subst P same (k b refl)
+by-library P None None None None a e f g h k = absurd (cc)
 
 pub started-rated : (params : Params) (a : LibraryActor) → library.start params ≡ Some a → IsRatedActor a
 started-rated params a e =
-    by-library IsRatedActor (flow_actor.start params) (data_actor.start params.class params.values params.ports) (time_actor.start params) a e (λ b h. one-rate (flow_actor.rate b) (flow_bounds.started-gives params b h))
-    (λ b h. all-counts (data_actor.rates b) (data_bounds.rates-bounded params.class params.values params.ports b h)) (λ b h. tt)
+    by-library IsRatedActor (flow_actor.start params) (data_actor.start params.class params.values params.ports) (time_actor.start params) (timed_actor.start params) a e (λ b h. one-rate (flow_actor.rate b) (flow_bounds.started-gives params b h))
+    (λ b h. all-counts (data_actor.rates b) (data_bounds.rates-bounded params.class params.values params.ports b h)) (λ b h. tt) (λ b h. tt)
 
 all-ones : (n : ℕ) → AllByRecursion IsCount (replicate n 1)
 all-ones zero = tt
@@ -61,8 +65,9 @@ all-ones (suc n) = (record { least = omega arith; most = omega arith }, all-ones
 
 pub started-needs : (params : Params) (a : LibraryActor) → library.start params ≡ Some a → library.is_steady a ≡ true → IsCounted (library.need a)
 started-needs params a e =
-    by-library (λ c. library.is_steady c ≡ true → IsCounted (library.need c)) (flow_actor.start params) (data_actor.start params.class params.values params.ports) (time_actor.start params) a e (λ b h. flow_bounds.started-needs params b h)
+    by-library (λ c. library.is_steady c ≡ true → IsCounted (library.need c)) (flow_actor.start params) (data_actor.start params.class params.values params.ports) (time_actor.start params) (timed_actor.start params) a e (λ b h. flow_bounds.started-needs params b h)
     (λ b h steady. all-counts b.needed (data_bounds.needs-bounded params.class params.values params.ports b h)) (λ b h steady. subst IsCounted (sym (time_laws.needs-one b)) (all-ones (time_actor.places b)))
+    (λ b h steady. subst IsCounted (sym (timed_laws.needs-one b)) (all-ones (timed_actor.places b)))
 
 -- ---- what is given
 
@@ -85,3 +90,4 @@ rates-given tag (Data a) b X out given e supplied h =
     let same : data_actor.rates a ≡ given = cc in
     subst (λ ns. AreGiven ns out) same (data_laws.rates-given tag a gave.0 X out gave.2)
 rates-given tag (Time a) b X out given e supplied h = absurd (cc)
+rates-given tag (Timed a) b X out given e supplied h = absurd (cc)

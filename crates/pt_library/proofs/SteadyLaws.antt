@@ -10,8 +10,10 @@ use Rattle.pt_lib_flow.specs.FlowActor as flow_actor
 use Rattle.pt_lib_flow.proofs.Steadiness as flow_laws
 use Rattle.pt_lib_time.specs.TimeActor as time_actor
 use Rattle.pt_lib_time.proofs.Giving as time_laws
+use Rattle.pt_lib_timed.specs.TimedActor as timed_actor
+use Rattle.pt_lib_timed.proofs.Staying as timed_laws
 use Rattle.pt_library.specs.declared.library_actor.LibraryActor.{LibraryActor}
-use Rattle.pt_library.specs.declared.library_actor.LibraryActor.TheVariants.{Flow, Data, Time}
+use Rattle.pt_library.specs.declared.library_actor.LibraryActor.TheVariants.{Flow, Data, Time, Timed}
 use Rattle.pt_library.specs.LibraryActor as library
 use Rattle.pt_library.specs.LibraryActor.{held_as}
 use Rattle.pt_library.specs.Steady.{after, IsSteadyActor}
@@ -31,6 +33,10 @@ once tag (Time a) b X out e h =
     let gave = held-gives Time (time_actor.step tag a X) b out h in
     let stays = time_laws.steady-stay tag a gave.0 X out e gave.2 in
     (sym (ap library.need gave.1) ∙ stays.0, sym (ap library.is_steady gave.1) ∙ stays.1)
+once tag (Timed a) b X out e h =
+    let gave = held-gives Timed (timed_actor.step tag a X) b out h in
+    let stays = timed_laws.stay tag a gave.0 X out gave.2 in
+    (sym (ap library.need gave.1) ∙ stays.needs, sym (ap library.is_steady gave.1))
 
 needs-same : (fs : List (Tag × Streams Token)) (a b : LibraryActor) → library.is_steady a ≡ true → after fs a ≡ Some b → library.need b ≡ library.need a
 needs-same [] a b e h = let same : a ≡ b = cc in sym (ap library.need same)
@@ -44,6 +50,7 @@ takes-any : (tag : Tag) (b : LibraryActor) (X : Streams Token) → library.Takes
 takes-any tag (Flow actor) X = tt
 takes-any tag (Data actor) X = tt
 takes-any tag (Time actor) X = tt
+takes-any tag (Timed actor) X = tt
 
 pub told-steady : (a : LibraryActor) → library.is_steady a ≡ true → IsSteadyActor a
 told-steady a e = record { needs = λ fs b h. needs-same fs a b e h; takes = λ fs b h tag X. takes-any tag b X }

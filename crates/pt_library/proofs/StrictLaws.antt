@@ -21,8 +21,11 @@ use Rattle.pt_lib_time.specs.When as when
 use Rattle.pt_lib_time.specs.TimeActor as time_actor
 use Rattle.pt_lib_time.proofs.Early.{strict-waits}
 use Rattle.pt_lib_time.proofs.RowLaws as time_laws
+use Rattle.pt_lib_timed.specs.TimedActor as timed_actor
+use Rattle.pt_lib_timed.proofs.RowLaws as timed_laws
+use Rattle.pt_lib_timed.proofs.Staying as timed_states
 use Rattle.pt_library.specs.declared.library_actor.LibraryActor.{LibraryActor}
-use Rattle.pt_library.specs.declared.library_actor.LibraryActor.TheVariants.{Flow, Data, Time}
+use Rattle.pt_library.specs.declared.library_actor.LibraryActor.TheVariants.{Flow, Data, Time, Timed}
 use Rattle.pt_library.specs.LibraryActor as library
 use Rattle.pt_library.specs.LibraryActor.{held_as}
 use Rattle.pt_library.specs.Steady.{after, IsStrictActor}
@@ -39,6 +42,7 @@ waits : (tag : Tag) (a : LibraryActor) (vs : List (Partial Token)) → library.i
 waits tag (Flow a) vs e k port = ap (λ us. partial_at us port) (strict-waits (flow_actor.outputs a) flow_actor.step tag a vs k) ∙ unknown-at (flow_actor.outputs a) port
 waits tag (Data a) vs e k port = ap (λ us. partial_at us port) (strict-waits (data_actor.outputs a) data_actor.step tag a vs k) ∙ unknown-at (data_actor.outputs a) port
 waits tag (Time a) vs e k port = ap (λ us. partial_at us port) (time_laws.strict-wait tag a vs e k) ∙ unknown-at 1 port
+waits tag (Timed a) vs e k port = ap (λ us. partial_at us port) (timed_laws.strict-wait tag a vs e k) ∙ unknown-at 1 port
 
 -- ---- it stays so, since its class stays
 
@@ -62,6 +66,9 @@ once tag (Data a) b X out h = sym (ap library.is_strict (held-gives Data (data_a
 once tag (Time a) b X out h =
     let gave = held-gives Time (time_actor.step tag a X) b out h in
     sym (ap library.is_strict gave.1) ∙ time-stays tag a gave.0 X out gave.2
+once tag (Timed a) b X out h =
+    let gave = held-gives Timed (timed_actor.step tag a X) b out h in
+    sym (ap library.is_strict gave.1) ∙ (timed_states.stay tag a gave.0 X out gave.2).strict
 
 stays : (fs : List (Tag × Streams Token)) (a b : LibraryActor) → after fs a ≡ Some b → library.is_strict b ≡ library.is_strict a
 stays [] a b h = let same : a ≡ b = cc in sym (ap library.is_strict same)

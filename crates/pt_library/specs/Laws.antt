@@ -10,6 +10,7 @@ use Rattle.pt_lib_data.specs.Laws.{AreGiven}
 use Rattle.pt_flow_base.specs.declared.params.Params.{Params}
 use Rattle.pt_lib_flow.specs.FlowActor as flow_actor
 use Rattle.pt_lib_time.specs.TimeActor as time_actor
+use Rattle.pt_lib_timed.specs.TimedActor as timed_actor
 use Rattle.pt_flow_base.specs.Rates.{IsCount, IsCounted}
 use Rattle.pt_library.specs.declared.library_actor.LibraryActor.{LibraryActor}
 use Rattle.pt_library.specs.LibraryActor.{is_steady, is_strict, need, rates, step, start}
@@ -19,7 +20,10 @@ use Rattle.pt_library.specs.Steady.{IsSteadyActor, HasPlaces, IsStrictActor}
 pub record IsOfOneLibrary (name : List ℕ) : Type 0 where
   pub flow_or_data : IsSome (flow_actor.class_of name) → function.class_of name ≡ None
   pub flow_or_time : IsSome (flow_actor.class_of name) → time_actor.class_of name ≡ None
+  pub flow_or_timed : IsSome (flow_actor.class_of name) → timed_actor.class_of name ≡ None
   pub data_or_time : IsSome (function.class_of name) → time_actor.class_of name ≡ None
+  pub data_or_timed : IsSome (function.class_of name) → timed_actor.class_of name ≡ None
+  pub time_or_timed : IsSome (time_actor.class_of name) → timed_actor.class_of name ≡ None
 
 abbrev pub ClassesAreOfOneLibrary : Type 0
 ClassesAreOfOneLibrary = (name : List ℕ) → IsOfOneLibrary name

@@ -1,3 +1,4 @@
 pub mod LibraryActor
 pub mod Steady
 pub mod Laws
+pub mod Delays

@@ -1,6 +1,7 @@
 ghost use Rattle.pt_meaning.specs.Lawful.{LawfulRows};
 ghost use Rattle.pt_library.specs.LibraryActor.{rows};
 ghost use Rattle.pt_library.specs.Laws.{ClassesAreOfOneLibrary, ToldActorsAreSteady, ToldActorsAreStrict, PlacesStay, SteadyNeedsAreCounts, RatesAreCounts, RatesAreGiven};
+ghost use Rattle.pt_library.specs.Delays.{DelaysTellEarly, DelaysAreWhole, DelaysStay};
 
 /// The rows of all libraries are lawful, since those of each are.
 #[tactic(auto, using(crate::proofs::RowLaws::rows_lawful))]
@@ -41,4 +42,19 @@ pub fn rates_are_counts()
 /// A firing on as many tokens as the actor needs gives on each output as many as its rate, or none.
 pub fn rates_are_given()
     ensures { RatesAreGiven }
+{}
+
+/// An actor that takes its lists whole lets all its outputs be known as soon as each place is known that isn't a delay.
+pub fn delays_tell_early()
+    ensures { DelaysTellEarly }
+{}
+
+/// Only actors that take their lists whole have delays.
+pub fn delays_are_whole()
+    ensures { DelaysAreWhole }
+{}
+
+/// Whatever an actor fires, it takes its lists whole where it did, and has the same delays.
+pub fn delays_stay()
+    ensures { DelaysStay }
 {}

@@ -10,6 +10,7 @@ use pt_flow_base::Params;
 use pt_lib_data::DataActor;
 use pt_lib_flow::FlowActor;
 use pt_lib_time::TimeActor;
+use pt_lib_timed::TimedActor;
 use pt_time::Tag;
 use pt_value::Token;
 use std::alloc::{AllocError, Global};
@@ -19,6 +20,7 @@ pub enum LibraryActor {
     Flow(FlowActor),
     Data(DataActor),
     Time(TimeActor),
+    Timed(TimedActor),
 }
 
 /// The same code for whichever library the actor is of.
@@ -28,6 +30,7 @@ macro_rules! of_library {
             LibraryActor::Flow($actor) => $code,
             LibraryActor::Data($actor) => $code,
             LibraryActor::Time($actor) => $code,
+            LibraryActor::Timed($actor) => $code,
         }
     };
 }
@@ -66,8 +69,11 @@ impl LibraryActor {
         )? {
             return Ok(Some(LibraryActor::Data(actor)));
         }
-        match TimeActor::started(alloc, params)? {
-            Some(actor) => Ok(Some(LibraryActor::Time(actor))),
+        if let Some(actor) = TimeActor::started(alloc, params)? {
+            return Ok(Some(LibraryActor::Time(actor)));
+        }
+        match TimedActor::started(alloc, params)? {
+            Some(actor) => Ok(Some(LibraryActor::Timed(actor))),
             None => Ok(None),
         }
     }
@@ -80,8 +86,15 @@ impl LibraryActor {
         match self {
             LibraryActor::Flow(actor) => flow_rates(alloc, actor),
             LibraryActor::Data(actor) => Ok(Some(actor.rates(alloc)?)),
-            LibraryActor::Time(_) => Ok(None),
+            LibraryActor::Time(_) | LibraryActor::Timed(_) => Ok(None),
         }
+    }
+
+    /// The number of its outputs.
+    pub fn outputs(&self) -> usize
+        ensures { result ≡ library.outputs self.now }
+    {
+        of_library!(self, actor => actor.outputs())
     }
 
     /// Whether it needs the same at each firing.
@@ -98,6 +111,7 @@ impl LibraryActor {
         match self {
             LibraryActor::Flow(_) | LibraryActor::Data(_) => true,
             LibraryActor::Time(actor) => actor.is_strict(),
+            LibraryActor::Timed(actor) => actor.is_strict(),
         }
     }
 
@@ -115,6 +129,16 @@ impl LibraryActor {
         of_library!(self, actor => actor.whole())
     }
 
+    /// Whether what comes on a place has no part in what is given at its tag.
+    pub fn is_delay(&self, place: usize) -> bool
+        ensures { result ≡ library.is_delay self.now place }
+    {
+        match self {
+            LibraryActor::Flow(_) | LibraryActor::Data(_) | LibraryActor::Time(_) => false,
+            LibraryActor::Timed(actor) => actor.is_delay(place),
+        }
+    }
+
     /// Makes a firing that gives one integer, and nothing else. Where it makes none, `step` makes the firing.
     #[inline(always)]
     pub fn number(&mut self, inputs: &IntInputs<'_>) -> Option<i64>
@@ -122,7 +146,7 @@ impl LibraryActor {
     {
         match self {
             LibraryActor::Flow(actor) => actor.number(inputs),
-            LibraryActor::Data(_) | LibraryActor::Time(_) => None,
+            LibraryActor::Data(_) | LibraryActor::Time(_) | LibraryActor::Timed(_) => None,
         }
     }
 
@@ -133,7 +157,7 @@ impl LibraryActor {
     {
         match self {
             LibraryActor::Flow(actor) => actor.numbers(inputs, given),
-            LibraryActor::Data(_) | LibraryActor::Time(_) => false,
+            LibraryActor::Data(_) | LibraryActor::Time(_) | LibraryActor::Timed(_) => false,
         }
     }
 }
@@ -156,6 +180,7 @@ impl Fires for LibraryActor {
             LibraryActor::Flow(actor) => LibraryActor::Flow(actor.copy(alloc)?),
             LibraryActor::Data(actor) => LibraryActor::Data(actor.copy(alloc)?),
             LibraryActor::Time(actor) => LibraryActor::Time(actor.copy(alloc)?),
+            LibraryActor::Timed(actor) => LibraryActor::Timed(actor.copy(alloc)?),
         })
     }
 }
