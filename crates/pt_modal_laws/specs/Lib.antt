@@ -1,0 +1,5 @@
+pub mod State
+pub mod Chain
+pub mod ModalActs
+pub mod Comes
+pub mod StateCode
