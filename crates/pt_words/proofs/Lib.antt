@@ -1,4 +1,3 @@
-mod Lines
 mod PartLaws
 mod LineLaws
 mod Within

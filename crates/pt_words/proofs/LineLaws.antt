@@ -3,7 +3,7 @@ use Rattle.std.proofs.Common.{◌≡◌, inl, inr, ℕ, List, [], ◌∷◌, ◌
 use Rattle.pt_words.specs.declared.parts.Parts.{Parts}
 use Rattle.pt_words.specs.declared.line.Line.{Line}
 use Rattle.pt_words.specs.declared.line.Task.TheVariants.{Generate, Demonstrate}
-use Rattle.pt_words.specs.Line.{usual_budget}
+use Rattle.pt_words.specs.Number.{usual_budget}
 use Rattle.pt_words.specs.Parts.{IsOption, nothing, GivesStages, GivesWorkers, GivesBudget, IsOneWord, AreTwoWords, Give, workers_of, budget_of, Asks, IsLineFor}
 use Rattle.pt_words.proofs.PartLaws.{same_number, same_behind, same_behind_budget, apart, no_dash, names_differ, not_one, first_letter}
 

@@ -3,7 +3,7 @@ use Rattle.std.proofs.Common.{◌≡◌, inl, inr, ℕ, suc, ◌+◌, ◌<◌, �
 use Rattle.std.specs.Str.Parse.{AllDigits}
 use Rattle.pt_words.specs.declared.parts.Parts.{Parts}
 use Rattle.pt_words.specs.declared.line.Line.{Line}
-use Rattle.pt_words.specs.Line.{IsNumber, IsBudget}
+use Rattle.pt_words.specs.Number.{IsNumber, IsBudget}
 use Rattle.pt_words.specs.Parts.{IsOption, IsWorkers, IsStages, IsTheOne, nothing, GivesStages, GivesWorkers, GivesBudget, IsOneWord, AreTwoWords, Give, IsRun, IsCheck, IsGeneration, IsDemonstration, Asks, IsLineFor}
 
 IfSome-weaker : {A : Type 0} (P Q : A → Type 0) → ((a : A) → P a → Q a) → (o : Option A) → IfSome o P → IfSome o Q

@@ -3,7 +3,7 @@ use Rattle.std.proofs.Common.{◌≡◌, inl, inr, ℕ, ◌≤◌, List, [], ◌
 use Rattle.std.specs.Prelude.{unwrap_or}
 use Rattle.pt_words.specs.declared.parts.Parts.{Parts}
 use Rattle.pt_words.specs.declared.line.Line.{Line}
-use Rattle.pt_words.specs.Line.{greatest_budget}
+use Rattle.pt_words.specs.Number.{greatest_budget}
 use Rattle.pt_words.specs.Parts.{most_workers, most_stages, nothing, GivesStages, GivesWorkers, GivesBudget, IsOneWord, AreTwoWords, Give, Asks, IsUpTo, IsWithin, IsLineFor}
 
 -- what words give is in its ranges

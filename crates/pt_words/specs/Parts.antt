@@ -1,10 +1,10 @@
--- Which words are a line of the program, with all its commands, and what they ask for.
+-- Which words are a line of the program, and what they ask for.
 use Rattle.std.specs.Prelude.{◌≡◌, ℕ, ◌≤◌, ◌⊎◌, List, [], ◌∷◌, ◌++◌, Option, Some, None, IfSome, unwrap_or, codes}
 use Rattle.pt_words.specs.declared.parts.Parts.{Parts}
 use Rattle.pt_words.specs.declared.line.Line.{Line}
 use Rattle.pt_words.specs.declared.line.Task.{Task}
 use Rattle.pt_words.specs.declared.line.Task.TheVariants.{Run, Check, Generate, Demonstrate}
-use Rattle.pt_words.specs.Line.{IsNumber, IsBudget, usual_budget, greatest_budget}
+use Rattle.pt_words.specs.Number.{IsNumber, IsBudget, usual_budget, greatest_budget}
 
 abbrev pub most_workers : ℕ
 most_workers = 64

@@ -6,7 +6,5 @@ mod number;
 mod parts;
 #[cfg(test)]
 mod tests;
-mod words;
 
-pub use line::{Line, Task, lines_are_within, read_line, words_are_one_line};
-pub use words::{Command, Words, WordsFault, read};
+pub use line::{Line, Task, WordsFault, lines_are_within, read, words_are_one_line};

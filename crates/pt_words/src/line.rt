@@ -3,7 +3,7 @@ ghost use Rattle.pt_words.specs.Parts.{IsTheOne, workers_of, budget_of, Asks, Is
 ghost use Rattle.pt_words.specs.declared.line.Line.{Line};
 
 use crate::parts::{NOTHING, Parts, parts_of};
-use crate::words::WordsFault;
+use thiserror::Error;
 
 /// What a line of the program asks for.
 #[derive(Clone, Copy, Debug, PartialEq, Eq)]
@@ -24,6 +24,13 @@ pub struct Line {
     pub task: Task,
     pub workers: u32,
     pub budget: u64,
+}
+
+/// Why words ask for nothing.
+#[derive(Clone, Copy, Debug, PartialEq, Eq, Error)]
+pub enum WordsFault {
+    #[error("the words are no line of the program")]
+    Refused,
 }
 
 /// The number of workers where no word gives one.
@@ -105,7 +112,7 @@ fn line_for(words: &[String]) -> Option<Line>
 }
 
 /// What the words of the command line, without the program's name, ask for. It takes no memory.
-pub fn read_line(words: &[String]) -> Result<Line, WordsFault>
+pub fn read(words: &[String]) -> Result<Line, WordsFault>
     ensures ok { IfOk result (λ l. IsLineFor (map string_bytes words.now) l) }
     ensures refused { OnErr result ((l : Line) → IsLineFor (map string_bytes words.now) l → ⊥) }
 {

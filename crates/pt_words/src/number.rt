@@ -1,6 +1,6 @@
 // Numbers among the words.
-ghost use Rattle.std.specs.Prelude.{◌≡◌, ℕ, ◌++◌, List, IfSome, IfNone, codes};
-ghost use Rattle.pt_words.specs.Line.{IsNumber, IsBudget};
+ghost use Rattle.std.specs.Prelude.{ℕ, IfSome, IfNone};
+ghost use Rattle.pt_words.specs.Number.{IsNumber, IsBudget};
 ghost use Rattle.pt_words.specs.Parts.{IsWorkers, IsStages};
 
 const GREATEST_BUDGET: u64 = 1_000_000_000;
@@ -56,16 +56,5 @@ pub fn stages(text: &str) -> Option<u32>
     match number(text) {
         Some(n) if 1 <= n && n <= MOST_STAGES => Some(n as u32),
         _ => None,
-    }
-}
-
-/// The budget of a word that gives it behind its name.
-pub fn joined_budget(word: &str) -> Option<u64>
-    ensures some { IfSome result (λ n. (text : List ℕ) × (word.now ≡ codes "--budget=" ++ text) × IsBudget text n) }
-    ensures none { IfNone result ((text : List ℕ) (n : ℕ) → word.now ≡ codes "--budget=" ++ text → IsBudget text n → ⊥) }
-{
-    match word.strip_prefix("--budget=") {
-        Some(text) => budget(text),
-        None => None,
     }
 }

@@ -1,4 +1,4 @@
-use crate::{Line, Task, read_line};
+use crate::{Line, Task, read};
 use std::alloc::{AllocError, Global};
 
 /// Lines, with what they ask for.
@@ -79,12 +79,12 @@ fn lines_ask_for_what_they_say_and_others_are_refused(rt: HostRuntime) -> Result
             workers,
             budget,
         };
-        assert!(rt; read_line(&words).ok() == Some(asked), "at {text}");
+        assert!(rt; read(&words).ok() == Some(asked), "at {text}");
     }
     for text in OTHERS {
         let words = words_of(alloc, text)?;
-        assert!(rt; read_line(&words).is_err(), "at {text}");
+        assert!(rt; read(&words).is_err(), "at {text}");
     }
-    assert!(rt; read_line(&[]).is_err());
+    assert!(rt; read(&[]).is_err());
     Ok(())
 }
