@@ -17,6 +17,7 @@ use Rattle.pt_node.specs.declared.body.Body.TheVariants.{Actor, Composite}
 use Rattle.pt_library.specs.LibraryActor.{rows}
 use Rattle.pt_node.specs.Shown.{Shown, AllShown, Branch, none, more}
 use Rattle.pt_node.specs.View.{node_of, nodes_of, node_with, entry_of, kept_of, kepts_of, count_of, counts_of, Outline, Outlines, Named, end, with, outline_of, outlines_of}
+use Rattle.pt_run.specs.Ran.{IsCount}
 use Rattle.pt_trees.specs.Start.{IsBranched, HasLeaves, AllHaveLeaves}
 
 -- the paths of all that has a name
@@ -123,3 +124,13 @@ fires-count m old new tag X out o f =
   where
     at-top : (n : Outline) (l : Log Token) → 0 < firings_in (l []) → 0 < headline.count_of l (paths_in n)
     at-top (Named text hs os) l h = omega (arith, h)
+
+-- a log that has of each path as many firings as are kept there has as many at all
+kept-in : {T : Type 0} (k : Kept T) (log : Log T) (ps : List Path) → ((p : Path) → firings_in (log p) ≡ (k p).count) → count_kept k ps ≡ headline.count_of log ps
+kept-in k log [] h = refl
+kept-in k log (p ∷ ps) h = ap₂ (λ a b. a + b) (sym (h p)) (kept-in k log ps h)
+
+-- So what a tree counts is the number of firings of the log of its run.
+pub counts-all : (old new : Shown) → HasLeaves old → outline_of new ≡ outline_of old → (n : ℕ) → n ≡ count_of new → IsCount old new n
+counts-all old new h o n e log each =
+    e ∙ sym (counted new) ∙ ap (λ v. count_kept (kept_of new) (paths_in v)) o ∙ kept-in (kept_of new) log (paths_in (outline_of old)) each ∙ ap (λ ps. headline.count_of log ps) (paths-are old h)

@@ -8,4 +8,4 @@ mod sr;
 mod turn;
 
 pub use reporting::{numbers_stay, report};
-pub use running::run;
+pub use running::{Ran, run};

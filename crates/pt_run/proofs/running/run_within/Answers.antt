@@ -7,14 +7,28 @@ use Rattle.pt_trees.specs.declared.ended.Ended.{Ended}
 use Rattle.pt_trees.specs.declared.ended.Ended.TheVariants as ended
 use Rattle.pt_trees.specs.Run.{schedule, IsRun, IsDefined}
 use Rattle.pt_run.specs.Turn.{ended_by}
-use Rattle.pt_run.proofs.Completing.{is_complete, turn-fires, turn-ends, whole, begins, ends-defined, ends-spent, takes-inputs, ends-fault, ends-within, falls, goes-on, its-own, none-are-those}
-use Rattle.pt_run.proofs.running.run.Goals as goal
+use Rattle.pt_run.proofs.Completing.{Going, is_complete, turn-fires, turn-ends, whole, begins, ends-defined, ends-spent, takes-inputs, ends-fault, ends-within, falls, goes-on, its-own, none-are-those}
+use Rattle.pt_run.proofs.running.run_within.Goals as goal
 
+-- the whole budget is left
 pub loop-left-init : goal.loop-left-init
-loop-left-init c = begins c.args.job.now c.args.budget (shown_node c.args.top.now) c.requires.runnable
+loop-left-init c = subst (λ left. Going c.args.job.now (shown_node c.args.top.now) c.args.budget 0 (shown_node c.args.top.now) left) (sym c.requires.whole) (begins c.args.job.now c.args.budget (shown_node c.args.top.now) c.requires.runnable)
 
 pub next_turn-requires-clause-whole : goal.next_turn-requires-clause-whole
 next_turn-requires-clause-whole c = whole c.args.job.now c.args.budget (shown_node c.args.top.now) c.requires.runnable
+
+-- what isn't left was counted
+pub returns-in-Ends-clause-counted : goal.returns-in-Ends-clause-counted
+returns-in-Ends-clause-counted c = c.loop-left.invariant.counted
+
+pub returns-in-Fault-clause-counted : goal.returns-in-Fault-clause-counted
+returns-in-Fault-clause-counted c = omega (arith, c.loop-left.invariant.counted, c.fire_within.ensures.counted)
+
+pub returns-in-Spent-clause-counted : goal.returns-in-Spent-clause-counted
+returns-in-Spent-clause-counted c = omega (arith, c.loop-left.invariant.counted, c.fire_within.ensures.counted)
+
+pub returns-clause-counted : goal.returns-clause-counted
+returns-clause-counted c = c.loop-left.invariant.counted
 
 -- each firing takes some of the budget
 pub next_turn-requires-clause-number : goal.next_turn-requires-clause-number

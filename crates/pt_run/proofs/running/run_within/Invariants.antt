@@ -1,6 +1,6 @@
 use Rattle.pt_node.specs.Shown.{shown_node}
 use Rattle.pt_run.proofs.Completing.{Going}
-use Rattle.pt_run.proofs.running.run.Given as goal
+use Rattle.pt_run.proofs.running.run_within.Given as goal
 
 abbrev pub invariant-loop-left : goal.invariant-loop-left
 invariant-loop-left l = Going l.job (shown_node l.fn.top) l.budget l.fired (shown_node l.top) l.left
