@@ -71,7 +71,7 @@ class Claims(unittest.TestCase):
                     self.assertIsNotNone(signature(page.parent / file, name))
 
     def test_a_clause_that_is_not_there_is_seen(self) -> None:
-        file = ROOT / "crates/pt_words/src/words.rt"
+        file = ROOT / "crates/pt_words/src/line.rt"
         self.assertEqual(clauses(file, "read"), ["ok", "refused"])
         self.assertEqual(clauses(file, "reed"), [])
 

@@ -2,8 +2,9 @@
 use Rattle.std.specs.Prelude.{◌≡◌, ◌⊎◌, ℕ, ◌+◌, ◌<◌, ◌≤◌, List, [], length, take, Option, Some, codes}
 use Rattle.std.specs.Io.KnownBytes.{Appends}
 use Rattle.pt_io.specs.Causes.{Rose}
-use Rattle.pt_words.specs.declared.words.Words.{Words}
-use Rattle.pt_words.specs.Line.{IsLine, run_within}
+use Rattle.pt_words.specs.declared.line.Line.{Line}
+use Rattle.pt_words.specs.declared.line.Task.TheVariants.{Run}
+use Rattle.pt_words.specs.Parts.{IsLineFor}
 use Rattle.pt_document.specs.declared.refusal.Refusal.{Refusal}
 use Rattle.pt_document.specs.declared.code.Code.{Code}
 use Rattle.pt_document.specs.Document.{JobTree}
@@ -79,7 +80,7 @@ limit = 16777216
 
 -- the words are a line that reads a document and runs it within this budget
 abbrev pub IsRunLine : List (List ℕ) → (budget : ℕ) → Type 0
-IsRunLine words budget = IsLine words (run_within budget)
+IsRunLine words budget = (l : Line) × IsLineFor words l × (l.task ≡ Run) × (l.budget ≡ budget)
 
 -- A status and its text are due for a run within a budget, where these bytes were taken from the source.
 abbrev pub IsDueFor : (budget : ℕ) → List ℕ → (rose ended : Type 0) → Status → List ℕ → Type 0
@@ -92,11 +93,11 @@ IsDueFor budget bytes rose ended Budget text = (length bytes ≤ limit) × ended
 IsDueFor budget bytes rose ended Document text = (length bytes ≤ limit) × ended × Answers bytes budget Document text
 IsDueFor budget bytes rose ended _ text = ⊥
 
--- The same for any words: those that are no line are refused, and nothing is taken.
+-- The same for any words: those that are no such line are refused, and nothing is taken. No other line is built yet.
 abbrev pub IsDue : List (List ℕ) → List ℕ → (rose ended : Type 0) → Status → List ℕ → Type 0
 IsDue words bytes rose ended s text =
     ((budget : ℕ) × IsRunLine words budget × IsDueFor budget bytes rose ended s text) ⊎
-    ((s ≡ status.Words) × ((asked : Words) → IsLine words asked → ⊥) × (bytes ≡ []) × (text ≡ line (codes "refused words")))
+    ((s ≡ status.Words) × ((budget : ℕ) → IsRunLine words budget → ⊥) × (bytes ≡ []) × (text ≡ line (codes "refused words")))
 
 -- The text went out whole and its status was told, or a write failed behind a part of it.
 pub record Tells (before after : ℕ) (old new : Option (List ℕ)) (due : Status) (text : List ℕ) (told : Status) : Type 0 where

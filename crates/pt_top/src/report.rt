@@ -71,9 +71,9 @@ fn report_run(
     ensures complete { IsAffordable job.now budget (node_of (shown_node top.old)) → IfOk result (λ r. r.status ≡ Done) }
 {
     numbers_stay();
-    let ended = run(alloc, top, job, budget)?;
-    let status = status_of(&ended);
-    let report = report(alloc, top, ended, net.recorded.len())?;
+    let ran = run(alloc, top, job, budget)?;
+    let status = status_of(&ran.ended);
+    let report = report(alloc, top, ran.ended, net.recorded.len())?;
     Ok(Reply {
         status,
         text: text(alloc, &report)?,

@@ -1,14 +1,14 @@
-ghost use Rattle.std.specs.Prelude.{◌≡◌, ◌<◌, List, ℕ, map, string_bytes};
+ghost use Rattle.std.specs.Prelude.{◌≡◌, ◌<◌, List, ℕ, map, string_bytes, IfSome, IfNone};
 ghost use Rattle.std.specs.Io.KnownBytes.{Consumes, IsAtEnd};
 ghost use Rattle.pt_io.specs.Causes.{Rose};
 ghost use Rattle.pt_top.specs.declared.status.Status.{Status};
-ghost use Rattle.pt_top.specs.Outcome.{Answers, IsFaultless, IsReported, IsDueFor, IsDue, Tells, IsCompleteFor, IsComplete};
+ghost use Rattle.pt_top.specs.Outcome.{Answers, IsFaultless, IsReported, IsRunLine, IsDueFor, IsDue, Tells, IsCompleteFor, IsComplete};
 
 use crate::answer::answer;
 use crate::status::Status;
 use pt_firing::Gate;
 use pt_io::{ReadAll, Sink, Source, read_all, write_all};
-use pt_words::{WordsFault, read};
+use pt_words::{Line, Task, lines_are_within, read, words_are_one_line};
 use std::alloc::Global;
 use std::sync::Wait;
 use std::thread::Threads;
@@ -63,6 +63,30 @@ fn run_document<S: Source, K: Sink>(
     }
 }
 
+/// The budget of a line that runs a document. No other line is built yet.
+fn budget_of(line: Line) -> Option<u64>
+    ensures some { IfSome result (λ budget. (line.task ≡ Task.Run) × (line.budget ≡ budget)) }
+    ensures none { IfNone result (line.task ≡ Task.Run → ⊥) }
+{
+    match line.task {
+        Task::Run => Some(line.budget),
+        Task::Check | Task::Generate(_) | Task::Demonstrate(_) => None,
+    }
+}
+
+/// The budget of words that run a document.
+fn run_budget(words: &[String]) -> Option<u64>
+    ensures some { IfSome result (λ budget. (0 < budget) × IsRunLine (map string_bytes words.now) budget) }
+    ensures none { IfNone result ((budget : ℕ) → IsRunLine (map string_bytes words.now) budget → ⊥) }
+{
+    words_are_one_line();
+    lines_are_within();
+    match read(words) {
+        Ok(line) => budget_of(line),
+        Err(_) => None,
+    }
+}
+
 /// All that the program does: reads a document to its end, runs its model within the budget that the words give and writes
 /// the report, or the line of a refusal. The words are those of the command line without the program's name. No thread is
 /// started yet, so `rt` and `gate` wait for the directors that use them.
@@ -86,8 +110,9 @@ pub fn run_program<R: Threads + Wait + Sync, S: Source, K: Sink, G: Gate + Sync>
     ensures read { result ≡ Status.Read → Rose (S.faults source.old) (S.faults source.new) }
     ensures write { result ≡ Status.Write → Rose (K.faults sink.old) (K.faults sink.new) }
 {
-    match read(words) {
-        Ok(asked) => run_document(alloc, asked.budget, source, sink),
-        Err(WordsFault::Refused) => finish(sink, Status::Words, b"refused words\n"),
+    words_are_one_line();
+    match run_budget(words) {
+        Some(budget) => run_document(alloc, budget, source, sink),
+        None => finish(sink, Status::Words, b"refused words\n"),
     }
 }

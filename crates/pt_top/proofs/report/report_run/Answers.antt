@@ -26,8 +26,8 @@ returns-clause-report c =
       formed = none-formed;
       meets = meets_of (kept_of (shown_node c.run.new.top));
       read = none-told c.args.net.now (outline_of (shown_node c.args.top.now)) (shown_node c.run.new.top);
-      ended = c.in_ok-ended.ended;
-      is_run = c.in_ok-ended.ensures.report;
+      ended = c.in_ok-ran.ran.ended;
+      is_run = c.in_ok-ran.ensures.report;
       told = c.status_of-status.ensures;
-      printed = c.in_ok-text.ensures ∙ same-text c.args.net.now (shown_node c.run.new.top) c.in_ok-ended.ended c.len.result c.in_ok-report.report counted c.in_ok-report.ensures.traces c.in_ok-report.ensures.meetings c.in_ok-report.ensures.end;
+      printed = c.in_ok-text.ensures ∙ same-text c.args.net.now (shown_node c.run.new.top) c.in_ok-ran.ran.ended c.len.result c.in_ok-report.report counted c.in_ok-report.ensures.traces c.in_ok-report.ensures.meetings c.in_ok-report.ensures.end;
     }

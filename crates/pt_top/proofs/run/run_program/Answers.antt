@@ -1,17 +1,16 @@
 use Rattle.std.proofs.Common.{◌≡◌, inr, [], refl, rules, map, string_bytes, subst}
 use Rattle.pt_top.specs.declared.status.Status.TheVariants.{Words}
-use Rattle.pt_top.specs.Outcome.{IsFaultless, IsRunLine}
-use Rattle.pt_top.proofs.Lines.{run-line, one-line}
+use Rattle.pt_top.specs.Outcome.{IsFaultless}
+use Rattle.pt_top.proofs.Lines.{one-line}
 use Rattle.pt_top.proofs.run.run_program.Goals as goal
 
 -- words that are no line are refused, and nothing is taken
-pub returns-in-Err-Refused-clause-outcome : goal.returns-in-Err-Refused-clause-outcome
-returns-in-Err-Refused-clause-outcome g c = (Words, _, [], search rules, inr (refl, c.in-Err-Refused.ensures.refused, refl, refl), c.finish.ensures)
+pub returns-in-None-clause-outcome : goal.returns-in-None-clause-outcome
+returns-in-None-clause-outcome g c = (Words, _, [], search rules, inr (refl, c.in-None.ensures.none, refl, refl), c.finish.ensures)
 
 -- the budget that was read is the one that the words give
-pub returns-in-Ok-clause-complete : goal.returns-in-Ok-clause-complete
-returns-in-Ok-clause-complete g c = λ budget line bytes known short faultless calm still.
+pub returns-in-Some-clause-complete : goal.returns-in-Some-clause-complete
+returns-in-Some-clause-complete g c = λ budget line bytes known short faultless calm still.
     let words = map string_bytes c.args.words.now in
-    let read : IsRunLine words c.in-Ok.asked.budget = run-line words c.in-Ok.asked c.in-Ok.ensures.ok in
-    let same : budget ≡ c.in-Ok.asked.budget = one-line words budget c.in-Ok.asked.budget line read in
+    let same : budget ≡ c.in-Some.budget = one-line words (c.words_are_one_line.ensures words) budget c.in-Some.budget line c.in-Some.ensures.some.1 in
     c.run_document.ensures.complete bytes known short (subst (λ n. IsFaultless bytes n) same faultless) calm still
