@@ -22,8 +22,10 @@ use Rattle.pt_lib_data.specs.Function as function
 use Rattle.pt_lib_data.specs.DataActor as data_actor
 use Rattle.pt_lib_time.specs.declared.time_actor.Class.{Class as TimeClass}
 use Rattle.pt_lib_time.specs.TimeActor as time_actor
+use Rattle.pt_lib_timed.specs.declared.timed_actor.Class.{Class as TimedClass}
+use Rattle.pt_lib_timed.specs.TimedActor as timed_actor
 use Rattle.pt_library.specs.declared.library_actor.LibraryActor.{LibraryActor}
-use Rattle.pt_library.specs.declared.library_actor.LibraryActor.TheVariants.{Flow, Data, Time}
+use Rattle.pt_library.specs.declared.library_actor.LibraryActor.TheVariants.{Flow, Data, Time, Timed}
 use Rattle.pt_library.specs.LibraryActor.{start}
 use Rattle.pt_node.specs.View.{Tree}
 use Rattle.pt_trees.specs.Trees.{Starts, StartsAs, IsEntity, IsDirected, IsTree, of_actor, of_composite, AreTrees, no_trees, more_trees}
@@ -50,8 +52,9 @@ no-start params passes =
     let of-flow : flow_actor.start params ≡ None = ap (λ (c : Option Class). flow_actor.start_in c params) (no-class flow_actor.class_of refl refl params.class passes) in
     let of-data : data_actor.start params.class params.values params.ports ≡ None = ap (λ (c : Option DataClass). data_actor.start_in c params.values params.ports) (no-class function.class_of refl refl params.class passes) in
     let of-time : time_actor.start params ≡ None = ap (λ (c : Option TimeClass). time_actor.start_in c params) (no-class time_actor.class_of refl refl params.class passes) in
-    ap (λ o. option_or (option_map Flow o) (option_or (option_map Data (data_actor.start params.class params.values params.ports)) (option_map Time (time_actor.start params)))) of-flow
-    ∙ ap (λ o. option_or (option_map Data o) (option_map Time (time_actor.start params))) of-data ∙ ap (option_map Time) of-time
+    let of-timed : timed_actor.start params ≡ None = ap (λ (c : Option TimedClass). timed_actor.start_in c params) (no-class timed_actor.class_of refl refl params.class passes) in
+    ap (λ o. option_or (option_map Flow o) (option_or (option_map Data (data_actor.start params.class params.values params.ports)) (option_or (option_map Time (time_actor.start params)) (option_map Timed (timed_actor.start params))))) of-flow
+    ∙ ap (λ o. option_or (option_map Data o) (option_or (option_map Time (time_actor.start params)) (option_map Timed (timed_actor.start params)))) of-data ∙ ap (λ o. option_or (option_map Time o) (option_map Timed (timed_actor.start params))) of-time ∙ ap (option_map Timed) of-timed
 
 -- a class that is no composite's is one of actors
 pub actor-kind : (class : List ℕ) (kind : Kind) → kind_of class ≡ Some kind → is_composite_class class ≡ false → (row : ClassRow) × (kind_of class ≡ Some (Actor row))
