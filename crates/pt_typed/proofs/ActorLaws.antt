@@ -11,8 +11,9 @@ use Rattle.pt_datatypes.specs.Datatype.{Datatype}
 use Rattle.pt_lib_flow.specs.FlowActor as flow_actor
 use Rattle.pt_lib_data.specs.DataActor as data_actor
 use Rattle.pt_lib_time.specs.TimeActor as time_actor
+use Rattle.pt_lib_timed.specs.TimedActor as timed_actor
 use Rattle.pt_library.specs.declared.library_actor.LibraryActor.{LibraryActor}
-use Rattle.pt_library.specs.declared.library_actor.LibraryActor.TheVariants.{Flow, Data, Time}
+use Rattle.pt_library.specs.declared.library_actor.LibraryActor.TheVariants.{Flow, Data, Time, Timed}
 use Rattle.pt_library.specs.LibraryActor.{step, early, held_as, first}
 use Rattle.pt_library.specs.Steady.{after}
 use Rattle.pt_kinds.specs.Signature.{AreOf, AreAllOf, AreKnownOf, AreAllKnownOf}
@@ -22,6 +23,7 @@ use Rattle.pt_typed.proofs.EarlyLaws.{strict-tells}
 use Rattle.pt_typed.proofs.FlowActorLaws as flows
 use Rattle.pt_typed.proofs.DataLaws as functions
 use Rattle.pt_typed.proofs.TimeActorLaws as signals
+use Rattle.pt_typed.proofs.TimedActorLaws as instants
 
 was-held : {S : Type 0} (wrap : S → LibraryActor) (r : Answer Token S) (c : LibraryActor) (out : Streams Token) → held_as wrap r ≡ Gives c out → (b : S) × (r ≡ Gives b out) × (c ≡ wrap b)
 was-held wrap (Gives b o) c out e =
@@ -44,12 +46,17 @@ row-keeps s (Time a) b tag X out h i e =
     let w = was-held Time (time_actor.step tag a X) b out e in
     let k = signals.time-keeps s.places s.outputs a w.0 tag X out h i.1 w.1 in
     (k.0, subst (λ c. MeetsRow s c) (sym w.2) k.1)
+row-keeps s (Timed a) b tag X out h i e =
+    let w = was-held Timed (timed_actor.step tag a X) b out e in
+    let k = instants.timed-keeps s.places s.outputs a w.0 tag X out h i.1 w.1 in
+    (k.0, subst (λ c. MeetsRow s c) (sym w.2) k.1)
 
 -- its first tokens are of the type of each of its outputs
 pub first-tokens : (s : Types) (a : LibraryActor) (n : ℕ) (u : Datatype) → MeetsRow s a → get s.outputs n ≡ Some u → AllByRecursion (IsTokenOf u) (first a)
 first-tokens s (Flow a) n u h e = flows.first-of s.places s.outputs a n u h e
 first-tokens s (Data a) n u h e = tt
 first-tokens s (Time a) n u h e = tt
+first-tokens s (Timed a) n u h e = tt
 
 on-answer-meets : (s : Types) (more : LibraryActor → Option LibraryActor) (r : Answer Token LibraryActor) (b : LibraryActor) → ((c : LibraryActor) (out : Streams Token) → r ≡ Gives c out → more c ≡ Some b → MeetsRow s b) → on_answer more r ≡ Some b → MeetsRow s b
 on-answer-meets s more (Gives c out) b h e = h c out refl e
@@ -64,6 +71,7 @@ row-tells : (s : Types) (a : LibraryActor) (tag : Tag) (vs : List (Partial Token
 row-tells s (Flow a) tag vs h k = strict-tells s.places s.outputs (flow_actor.outputs a) flow_actor.step tag a (λ X b out i e. (flows.flow-keeps s.places s.outputs a b tag X out h i.1 e).0) vs k
 row-tells s (Data a) tag vs h k = strict-tells s.places s.outputs (data_actor.outputs a) data_actor.step tag a (λ X b out i e. (functions.data-keeps s.places s.outputs a b tag X out h i e).0) vs k
 row-tells s (Time a) tag vs h k = signals.time-tells s.places s.outputs tag a vs h k
+row-tells s (Timed a) tag vs h k = instants.timed-tells s.places s.outputs tag a vs h k
 
 -- what meets its row is a typed actor
 pub rows-type : (s : Types) (a : LibraryActor) → MeetsRow s a → IsTypedActor s a

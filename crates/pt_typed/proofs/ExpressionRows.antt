@@ -72,7 +72,8 @@ use Rattle.pt_flow_streams.specs.Sequence as sequence
 use Rattle.pt_flow_streams.specs.UpSample as up_sample
 use Rattle.pt_lib_data.specs.DataActor as data_actor
 use Rattle.pt_lib_time.specs.TimeActor as time_actor
-use Rattle.pt_library.specs.declared.library_actor.LibraryActor.TheVariants.{Flow, Data, Time}
+use Rattle.pt_lib_timed.specs.TimedActor as timed_actor
+use Rattle.pt_library.specs.declared.library_actor.LibraryActor.TheVariants.{Flow, Data, Time, Timed}
 use Rattle.pt_library.specs.LibraryActor.{start}
 use Rattle.pt_typed.specs.TokenTypes.{ToFirst}
 use Rattle.pt_typed.specs.TypedActor.{MeetsRow}
@@ -87,7 +88,7 @@ use Rattle.pt_typed.proofs.ClassPorts.{class_head, heads_in, declares_in, outs_f
 use Rattle.pt_typed.proofs.FlowStarts as flows
 use Rattle.pt_typed.proofs.FlowStarts.{mapped}
 use Rattle.pt_typed.proofs.FlowClasses as flow_classes
-use Rattle.pt_typed.proofs.RowsMet.{viewed, outputs-numbered, one-of-three, flow-in}
+use Rattle.pt_typed.proofs.RowsMet.{viewed, outputs-numbered, one-of-four, flow-in}
 use Rattle.pt_typed.proofs.RecordRows.{one-row, directions-all, outs-behind}
 use Rattle.pt_typed.proofs.RecordsMet.{type-by-head, port-at, last-at, directions-behind}
 use Rattle.pt_typed.proofs.HeldLaws.{given-all, expression-alone}
@@ -148,14 +149,15 @@ started-so class.UpSample params f e = let w = mapped flow.UpSample (up_sample.s
 
 -- an Expression is started by the class of that name
 expression-started : (params : Params) (f : Formula) → start params ≡ Some (Flow (flow.Expression f)) → (params.class ≡ codes "Expression") × (expression.start params ≡ Some f)
-expression-started params f e = elim (one-of-three Flow Data Time (flow_actor.start params) (data_actor.start params.class params.values params.ports) (time_actor.start params) (Flow (flow.Expression f)) e) [
+expression-started params f e = elim (one-of-four Flow Data Time Timed (flow_actor.start params) (data_actor.start params.class params.values params.ports) (time_actor.start params) (timed_actor.start params) (Flow (flow.Expression f)) e) [
   | inl w ↦ (
       let same : w.0 ≡ flow.Expression f = (let h = w.2 in cc) in
       let c = flow-in (flow_actor.class_of params.class) params (flow.Expression f) (w.1 ∙ ap Some same) in
       let s = started-so c.0 params f c.2 in
       (flows.class-named params.class class.Expression (c.1 ∙ ap Some s.0), s.1))
   | inr (inl w) ↦ (let h = w.2 in absurd (cc))
-  | inr (inr w) ↦ (let h = w.2 in absurd (cc))
+  | inr (inr (inl w)) ↦ (let h = w.2 in absurd (cc))
+  | inr (inr (inr w)) ↦ (let h = w.2 in absurd (cc))
 ]
 
 -- it has the tree of its parameters, with these inputs and their values

@@ -72,6 +72,22 @@ pub pre-values : (name : List ℕ) → is_evaluated (form_of (codes "Pre") name)
 unfolding form_of forms
 pre-values name = values-in forms (codes "Pre") name refl
 
+pub clock-values : (name : List ℕ) → is_evaluated (form_of (codes "DiscreteClock") name) ≡ true
+unfolding form_of forms
+clock-values name = values-in forms (codes "DiscreteClock") name refl
+
+pub event-values : (name : List ℕ) → is_evaluated (form_of (codes "SingleEvent") name) ≡ true
+unfolding form_of forms
+event-values name = values-in forms (codes "SingleEvent") name refl
+
+pub sampler-values : (name : List ℕ) → is_evaluated (form_of (codes "Sampler") name) ≡ true
+unfolding form_of forms
+sampler-values name = values-in forms (codes "Sampler") name refl
+
+pub register-values : (name : List ℕ) → is_evaluated (form_of (codes "Register") name) ≡ true
+unfolding form_of forms
+register-values name = values-in forms (codes "Register") name refl
+
 expression-tree : form_of (codes "Expression") (codes "expression") ≡ form.Tree
 unfolding form_of forms
 expression-tree = refl

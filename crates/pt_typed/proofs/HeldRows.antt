@@ -1,4 +1,4 @@
--- Each parameter of a Const, a Sequence, a SampleDelay, a NonStrictDelay and a Pre has a token.
+-- Each parameter of an actor that gives tokens of its parameters has a token.
 use Rattle.std.proofs.Common.{◌≡◌, inl, inr, ℕ, List, true, false, Some, refl, sym, ap, subst, ◌∙◌}
 use Rattle.pt_scopes.specs.Forms.{form_of}
 use Rattle.pt_scopes.specs.Scopes.{is_composite_class}
@@ -25,16 +25,18 @@ use Rattle.pt_flow_numbers.specs.Scale as scale
 use Rattle.pt_flow_streams.specs.UpSample as up_sample
 use Rattle.pt_lib_data.specs.DataActor as data_actor
 use Rattle.pt_lib_time.specs.TimeActor as time_actor
+use Rattle.pt_lib_timed.specs.TimedActor as timed_actor
 use Rattle.pt_library.specs.declared.library_actor.LibraryActor.{LibraryActor}
-use Rattle.pt_library.specs.declared.library_actor.LibraryActor.TheVariants.{Flow, Data, Time}
+use Rattle.pt_library.specs.declared.library_actor.LibraryActor.TheVariants.{Flow, Data, Time, Timed}
 use Rattle.pt_library.specs.LibraryActor.{start}
 use Rattle.pt_typed.specs.NetRows.{is_seeded_flow, is_seeded_actor}
 use Rattle.pt_typed.specs.HeldLaw.{ParametersHoldTokens}
 use Rattle.pt_typed.proofs.FlowStarts as flows
 use Rattle.pt_typed.proofs.FlowStarts.{mapped}
 use Rattle.pt_typed.proofs.TimeStarts as signals
-use Rattle.pt_typed.proofs.RowsMet.{one-of-three, flow-in}
-use Rattle.pt_typed.proofs.HeldLaws.{is_evaluated, const-values, sequence-values, delay-values, non-strict-delay-values, pre-values, given-all, holds-tokens}
+use Rattle.pt_typed.proofs.TimedStarts as instants
+use Rattle.pt_typed.proofs.RowsMet.{one-of-four, flow-in}
+use Rattle.pt_typed.proofs.HeldLaws.{is_evaluated, const-values, sequence-values, delay-values, non-strict-delay-values, pre-values, clock-values, register-values, sampler-values, event-values, given-all, holds-tokens}
 
 -- all parameters of a class of actors are evaluated
 abbrev IsOfValues : List ℕ → Type 0
@@ -64,14 +66,17 @@ seeded-class class.Scale params a e s = let w = mapped flow.Scale (scale.start p
 seeded-class class.UpSample params a e s = let w = mapped flow.UpSample (up_sample.start params) a e in unseeded _ a w.2 refl s
 
 of-values : (params : Params) (a : LibraryActor) → start params ≡ Some a → is_seeded_actor a ≡ true → IsOfValues params.class
-of-values params a e s = elim (one-of-three Flow Data Time (flow_actor.start params) (data_actor.start params.class params.values params.ports) (time_actor.start params) a e) [
+of-values params a e s = elim (one-of-four Flow Data Time Timed (flow_actor.start params) (data_actor.start params.class params.values params.ports) (time_actor.start params) (timed_actor.start params) a e) [
   | inl w ↦ (
       let c = flow-in (flow_actor.class_of params.class) params w.0 w.1 in
       subst IsOfValues (sym (flows.class-named params.class c.0 c.1)) (seeded-class c.0 params w.0 c.2 (ap is_seeded_actor w.2 ∙ s)))
   | inr (inl w) ↦ absurd (let no : false ≡ true = ap is_seeded_actor w.2 ∙ s in cc)
-  | inr (inr w) ↦ (
+  | inr (inr (inl w)) ↦ (
       let c = signals.time-in (time_actor.class_of params.class) params w.0 w.1 in
       subst IsOfValues (sym (signals.class-named params.class c.0 c.1)) (signals.seeded-class (λ d. IsOfValues (signals.name_of d)) c.0 params w.0 (refl, non-strict-delay-values) (refl, pre-values) c.2 (ap is_seeded_actor w.2 ∙ s)))
+  | inr (inr (inr w)) ↦ (
+      let c = instants.timed-in (timed_actor.class_of params.class) params w.0 w.1 in
+      subst IsOfValues (sym (instants.class-named params.class c.0 c.1)) (instants.seeded-class (λ d. IsOfValues (instants.name_of d)) c.0 params w.0 (refl, clock-values) (refl, register-values) (refl, sampler-values) (refl, event-values) c.2 (ap is_seeded_actor w.2 ∙ s)))
 ]
 
 pub parameters-hold-tokens : ParametersHoldTokens

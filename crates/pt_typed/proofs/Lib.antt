@@ -4,6 +4,7 @@ pub mod RecordLaws
 pub mod DataLaws
 pub mod FlowActorLaws
 pub mod TimeActorLaws
+pub mod TimedActorLaws
 pub mod ActorLaws
 pub mod TypedRunLaws
 pub mod NetLaws
@@ -14,15 +15,18 @@ pub mod Examples
 pub mod FlowStarts
 pub mod DataStarts
 pub mod TimeStarts
+pub mod TimedStarts
 pub mod PortFacts
 pub mod ClassPorts
 pub mod FlowClasses
 pub mod DataClasses
 pub mod TimeClasses
+pub mod TimedClasses
 pub mod RowsMet
 pub mod TypedNets
 pub mod SeedLaws
 pub mod SeededRows
+pub mod TimedRows
 pub mod InputLaws
 pub mod RecordRows
 pub mod RecordsMet

@@ -46,8 +46,9 @@ use Rattle.pt_lib_data.specs.declared.function.Class.TheVariants as kinds
 use Rattle.pt_lib_data.specs.Function as function
 use Rattle.pt_lib_data.specs.DataActor as data_actor
 use Rattle.pt_lib_time.specs.TimeActor as time_actor
+use Rattle.pt_lib_timed.specs.TimedActor as timed_actor
 use Rattle.pt_library.specs.declared.library_actor.LibraryActor.{LibraryActor}
-use Rattle.pt_library.specs.declared.library_actor.LibraryActor.TheVariants.{Flow, Data, Time}
+use Rattle.pt_library.specs.declared.library_actor.LibraryActor.TheVariants.{Flow, Data, Time, Timed}
 use Rattle.pt_library.specs.LibraryActor.{start}
 use Rattle.pt_typed.specs.TokenTypes.{IsUnder, ToFirst, field_of}
 use Rattle.pt_typed.specs.TypedActor.{MeetsRow}
@@ -61,7 +62,7 @@ use Rattle.pt_typed.proofs.ClassPorts.{class_head, heads_in, declares_in, single
 use Rattle.pt_typed.proofs.DataStarts as functions
 use Rattle.pt_typed.proofs.DataClasses as data_classes
 use Rattle.pt_typed.proofs.FlowStarts.{mapped}
-use Rattle.pt_typed.proofs.RowsMet.{viewed, outputs-numbered, one-of-three, data-in}
+use Rattle.pt_typed.proofs.RowsMet.{viewed, outputs-numbered, one-of-four, data-in}
 use Rattle.pt_typed.proofs.RecordRows.{one-row, FieldIf, FieldsIf, entries-are, fields-taken, directions-all, outs-behind, no-ends, no-inputs, inputs-ok, one-field, input-test}
 
 assembler-declares : declares_in (kind_of (codes "RecordAssembler")) ≡ Some Input
@@ -235,13 +236,14 @@ module _ (net : Net) (values : Values) (typing : Assignment) (k : ℕ) (e : NetE
   by-class kinds.StringLength a is started f e' p = other-function f made.StringLength (same_Some made.StringLength f e') refl p
 
   record-meets : (a : LibraryActor) → start params ≡ Some a → is_record_actor a ≡ true → MeetsRow (types_below net typing k []) a
-  record-meets a started p = elim (one-of-three Flow Data Time (flow_actor.start params) (data_actor.start params.class params.values params.ports) (time_actor.start params) a started) [
+  record-meets a started p = elim (one-of-four Flow Data Time Timed (flow_actor.start params) (data_actor.start params.class params.values params.ports) (time_actor.start params) (timed_actor.start params) a started) [
     | inl w ↦ absurd (let no : false ≡ true = ap is_record_actor w.2 ∙ p in cc)
     | inr (inl w) ↦ (
         let c = data-in (function.class_of params.class) params w.0 w.1 in
         let f = functions.with-needs params.ports (function.start_as c.0 params.values params.ports) w.0 c.2 in
         subst (MeetsRow (types_below net typing k [])) w.2 (by-class c.0 w.0 c.1 c.2 f.0 f.1 (ap is_record_function (sym f.2) ∙ ap is_record_actor w.2 ∙ p)))
-    | inr (inr w) ↦ absurd (let no : false ≡ true = ap is_record_actor w.2 ∙ p in cc)
+    | inr (inr (inl w)) ↦ absurd (let no : false ≡ true = ap is_record_actor w.2 ∙ p in cc)
+    | inr (inr (inr w)) ↦ absurd (let no : false ≡ true = ap is_record_actor w.2 ∙ p in cc)
   ]
 
 pub record-rows-met : RecordRowsAreMet

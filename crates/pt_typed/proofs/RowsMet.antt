@@ -41,15 +41,19 @@ use Rattle.pt_lib_data.specs.DataActor as data_actor
 use Rattle.pt_lib_time.specs.declared.time_actor.TimeActor.{TimeActor}
 use Rattle.pt_lib_time.specs.declared.time_actor.Class.{Class as TimeClass}
 use Rattle.pt_lib_time.specs.TimeActor as time_actor
+use Rattle.pt_lib_timed.specs.declared.timed_actor.TimedActor.{TimedActor}
+use Rattle.pt_lib_timed.specs.declared.timed_actor.Class.{Class as TimedClass}
+use Rattle.pt_lib_timed.specs.TimedActor as timed_actor
 use Rattle.pt_library.specs.declared.library_actor.LibraryActor.{LibraryActor}
-use Rattle.pt_library.specs.declared.library_actor.LibraryActor.TheVariants.{Flow, Data, Time}
+use Rattle.pt_library.specs.declared.library_actor.LibraryActor.TheVariants.{Flow, Data, Time, Timed}
 use Rattle.pt_library.specs.LibraryActor.{start}
 use Rattle.pt_typed.specs.TypedActor.{MeetsRow}
 use Rattle.pt_typed.specs.TypedFlow.{IsTypedFlow}
 use Rattle.pt_typed.specs.TypedData.{IsTypedFunction}
 use Rattle.pt_typed.specs.TypedTime.{IsTypedTime}
+use Rattle.pt_typed.specs.TypedTimed.{IsTypedTimed}
 use Rattle.pt_typed.specs.NetTypes.{arrivals, place_type, number_if, port_numbers, port_types, by_director, types_of, types_below}
-use Rattle.pt_typed.specs.NetRows.{ends_from, channels_at, HasClassPorts, is_plain_flow, is_plain_function, is_plain_time, is_plain_actor}
+use Rattle.pt_typed.specs.NetRows.{ends_from, channels_at, HasClassPorts, is_plain_flow, is_plain_function, is_plain_time, is_plain_timed, is_plain_actor}
 use Rattle.pt_typed.specs.RowLaw.{PlainRowsAreMet}
 use Rattle.pt_typed.proofs.NetLaws.{types-at-ends, ends-of}
 use Rattle.pt_typed.proofs.PortFacts.{PortFacts, head, head_type, entity-facts}
@@ -58,18 +62,21 @@ use Rattle.pt_typed.proofs.FlowStarts as flows
 use Rattle.pt_typed.proofs.FlowStarts.{mapped}
 use Rattle.pt_typed.proofs.DataStarts as functions
 use Rattle.pt_typed.proofs.TimeStarts as signals
+use Rattle.pt_typed.proofs.TimedStarts as instants
 use Rattle.pt_typed.proofs.FlowClasses as flow_classes
 use Rattle.pt_typed.proofs.DataClasses as data_classes
 use Rattle.pt_typed.proofs.TimeClasses as time_classes
+use Rattle.pt_typed.proofs.TimedClasses as timed_classes
 
 -- ---- which class
 
-pub one-of-three : {F D T A : Type 0} (f : F → A) (d : D → A) (t : T → A) (o : Option F) (p : Option D) (q : Option T) (a : A) → option_or (option_map f o) (option_or (option_map d p) (option_map t q)) ≡ Some a →
-    ((x : F) × (o ≡ Some x) × (f x ≡ a)) ⊎ (((y : D) × (p ≡ Some y) × (d y ≡ a)) ⊎ ((z : T) × (q ≡ Some z) × (t z ≡ a)))
-one-of-three f d t (Some x) p q a e = inl (x, refl, same_Some (f x) a e)
-one-of-three f d t None (Some y) q a e = inr (inl (y, refl, same_Some (d y) a e))
-one-of-three f d t None None (Some z) a e = inr (inr (z, refl, same_Some (t z) a e))
-one-of-three f d t None None None a e = absurd (cc)
+pub one-of-four : {F D T U A : Type 0} (f : F → A) (d : D → A) (t : T → A) (u : U → A) (o : Option F) (p : Option D) (q : Option T) (r : Option U) (a : A) → option_or (option_map f o) (option_or (option_map d p) (option_or (option_map t q) (option_map u r))) ≡ Some a →
+    ((x : F) × (o ≡ Some x) × (f x ≡ a)) ⊎ (((y : D) × (p ≡ Some y) × (d y ≡ a)) ⊎ (((z : T) × (q ≡ Some z) × (t z ≡ a)) ⊎ ((w : U) × (r ≡ Some w) × (u w ≡ a))))
+one-of-four f d t u (Some x) p q r a e = inl (x, refl, same_Some (f x) a e)
+one-of-four f d t u None (Some y) q r a e = inr (inl (y, refl, same_Some (d y) a e))
+one-of-four f d t u None None (Some z) r a e = inr (inr (inl (z, refl, same_Some (t z) a e)))
+one-of-four f d t u None None None (Some w) a e = inr (inr (inr (w, refl, same_Some (u w) a e)))
+one-of-four f d t u None None None None a e = absurd (cc)
 
 pub flow-in : (o : Option FlowClass) (params : Params) (a : FlowActor) → flow_actor.start_in o params ≡ Some a → (c : FlowClass) × (o ≡ Some c) × (flow_actor.start_as c params ≡ Some a)
 flow-in None params a e = absurd (cc)
@@ -183,7 +190,7 @@ module _ (net : Net) (values : Values) (typing : Assignment) (k : ℕ) (e : NetE
         let facts = entity-facts net values typing k (entity_view e) v typed (viewed entity_view net.entities.items k e at) held in
         subst (λ hs. PortFacts row types 0 (map (head_type name) hs)) its-heads (subst (λ n. PortFacts row types 0 (map (head_type n) (map head (entity_view e).ports))) its-class facts)
 
-    its-singles : SinglesFrom (channels_at net k) 0 (marks_in (kind_of name))
+    pub its-singles : SinglesFrom (channels_at net k) 0 (marks_in (kind_of name))
     its-singles =
         subst (λ o. SinglesFrom (channels_at net k) 0 (marks_in o)) (sym kind)
         (singles-from (channels_at net k) 0 has.class.ports (λ j p there d a. ap (channels_at net k) (let z : 0 + j ≡ j = omega arith in z) ∙
@@ -230,11 +237,24 @@ module _ (net : Net) (values : Values) (typing : Assignment) (k : ℕ) (e : NetE
       subst (λ ps. IsTypedTime ps (types_below net typing k []).outputs a) (sym (its-places name named heads (time_classes.heads-are c) declares))
       (subst (λ us. IsTypedTime (map types (ends_from (channels_at net k) 0 (map (λ (h : List ℕ × Direction). h.1) heads))) us a) (sym (its-outputs name named heads (time_classes.heads-are c) declares)) asked)
 
+  timed-meets : (c : TimedClass) (a : TimedActor) → timed_actor.class_of params.class ≡ Some c → timed_actor.start_as c params ≡ Some a → is_plain_timed a ≡ true → MeetsRow (types_below net typing k []) (Timed a)
+  timed-meets c a is started p =
+      let plain = instants.plain-class c params a started p in
+      let name = instants.name_of c in
+      let named = instants.class-named params.class c is in
+      let heads = timed_classes.heads_of c in
+      let declares = timed_classes.declares-none c in
+      let fits = timed_classes.timed-fits c row types (channels_at net k) params plain (subst (λ ts. PortFacts row types 0 ts) (timed_classes.types-are c) (its-facts name named heads (timed_classes.heads-are c) declares)) in
+      let asked = instants.timed-asked _ _ c params a started fits in
+      subst (λ ps. IsTypedTimed ps (types_below net typing k []).outputs a) (sym (its-places name named heads (timed_classes.heads-are c) declares))
+      (subst (λ us. IsTypedTimed (map types (ends_from (channels_at net k) 0 (map (λ (h : List ℕ × Direction). h.1) heads))) us a) (sym (its-outputs name named heads (timed_classes.heads-are c) declares)) asked)
+
   plain-meets : (a : LibraryActor) → start params ≡ Some a → is_plain_actor a ≡ true → MeetsRow (types_below net typing k []) a
-  plain-meets a started p = elim (one-of-three Flow Data Time (flow_actor.start params) (data_actor.start params.class params.values params.ports) (time_actor.start params) a started) [
+  plain-meets a started p = elim (one-of-four Flow Data Time Timed (flow_actor.start params) (data_actor.start params.class params.values params.ports) (time_actor.start params) (timed_actor.start params) a started) [
     | inl w ↦ (let c = flow-in (flow_actor.class_of params.class) params w.0 w.1 in subst (MeetsRow (types_below net typing k [])) w.2 (flow-meets c.0 w.0 c.1 c.2 (ap is_plain_actor w.2 ∙ p)))
     | inr (inl w) ↦ (let c = data-in (function.class_of params.class) params w.0 w.1 in subst (MeetsRow (types_below net typing k [])) w.2 (data-meets c.0 w.0 c.1 c.2 (ap is_plain_actor w.2 ∙ p)))
-    | inr (inr w) ↦ (let c = signals.time-in (time_actor.class_of params.class) params w.0 w.1 in subst (MeetsRow (types_below net typing k [])) w.2 (time-meets c.0 w.0 c.1 c.2 (ap is_plain_actor w.2 ∙ p)))
+    | inr (inr (inl w)) ↦ (let c = signals.time-in (time_actor.class_of params.class) params w.0 w.1 in subst (MeetsRow (types_below net typing k [])) w.2 (time-meets c.0 w.0 c.1 c.2 (ap is_plain_actor w.2 ∙ p)))
+    | inr (inr (inr w)) ↦ (let c = instants.timed-in (timed_actor.class_of params.class) params w.0 w.1 in subst (MeetsRow (types_below net typing k [])) w.2 (timed-meets c.0 w.0 c.1 c.2 (ap is_plain_actor w.2 ∙ p)))
   ]
 
 pub plain-rows-met : PlainRowsAreMet

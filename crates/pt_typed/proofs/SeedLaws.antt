@@ -116,10 +116,44 @@ pub pre-seed : seed_of (codes "Pre") (codes "initialValue") ≡ Some seed.Whole
 unfolding seed_of seedings
 pre-seed = refl
 
+pub clock-seed : seed_of (codes "DiscreteClock") (codes "values") ≡ Some seed.Elements
+unfolding seed_of seedings
+clock-seed = refl
+
+pub event-seed : seed_of (codes "SingleEvent") (codes "value") ≡ Some seed.Whole
+unfolding seed_of seedings
+event-seed = refl
+
+pub sampler-seed : seed_of (codes "Sampler") (codes "initialValue") ≡ Some seed.Whole
+unfolding seed_of seedings
+sampler-seed = refl
+
+pub register-seed : seed_of (codes "Register") (codes "initialValue") ≡ Some seed.Whole
+unfolding seed_of seedings
+register-seed = refl
+
 -- what stands for first tokens that aren't given is an integer
 pub delay-standard : (typing : Assignment) (k : ℕ) (ps : List PropertyTree) → is_given ps (codes "initialOutputs") ≡ false → AllByRecursion (IsMet typing) (of_standards k (codes "SampleDelay") ps seedings) → IsBelow Int (typing.types (Row k))
 unfolding seedings standard_of forms
 delay-standard typing k ps e a = by_test (is_given ps (codes "initialOutputs")) e (all-front (IsMet typing) _ [] a)
+  where
+    by_test : (b : Bool) → b ≡ false → AllByRecursion (IsMet typing) (if not b then (Row k, Fixed Int) ∷ [] else []) → IsBelow Int (typing.types (Row k))
+    by_test true d h = absurd (cc)
+    by_test false d h = h.0
+
+-- so are the values of a DiscreteClock
+pub clock-standard : (typing : Assignment) (k : ℕ) (ps : List PropertyTree) → is_given ps (codes "values") ≡ false → AllByRecursion (IsMet typing) (of_standards k (codes "DiscreteClock") ps seedings) → IsBelow Int (typing.types (Row k))
+unfolding seedings standard_of forms
+clock-standard typing k ps e a = by_test (is_given ps (codes "values")) e (all-front (IsMet typing) _ [] a)
+  where
+    by_test : (b : Bool) → b ≡ false → AllByRecursion (IsMet typing) (if not b then (Row k, Fixed Int) ∷ [] else []) → IsBelow Int (typing.types (Row k))
+    by_test true d h = absurd (cc)
+    by_test false d h = h.0
+
+-- and the value of a SingleEvent
+pub event-standard : (typing : Assignment) (k : ℕ) (ps : List PropertyTree) → is_given ps (codes "value") ≡ false → AllByRecursion (IsMet typing) (of_standards k (codes "SingleEvent") ps seedings) → IsBelow Int (typing.types (Row k))
+unfolding seedings standard_of forms
+event-standard typing k ps e a = by_test (is_given ps (codes "value")) e (all-front (IsMet typing) _ [] a)
   where
     by_test : (b : Bool) → b ≡ false → AllByRecursion (IsMet typing) (if not b then (Row k, Fixed Int) ∷ [] else []) → IsBelow Int (typing.types (Row k))
     by_test true d h = absurd (cc)

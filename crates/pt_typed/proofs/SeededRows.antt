@@ -69,24 +69,31 @@ use Rattle.pt_lib_time.specs.NonStrictDelay as non_strict_delay
 use Rattle.pt_lib_time.specs.Pre as pre
 use Rattle.pt_lib_data.specs.DataActor as data_actor
 use Rattle.pt_lib_time.specs.TimeActor as time_actor
+use Rattle.pt_lib_timed.specs.declared.timed_actor.TimedActor.{TimedActor}
+use Rattle.pt_lib_timed.specs.declared.timed_actor.Class.{Class as TimedClass}
+use Rattle.pt_lib_timed.specs.TimedActor as timed_actor
 use Rattle.pt_library.specs.declared.library_actor.LibraryActor.{LibraryActor}
-use Rattle.pt_library.specs.declared.library_actor.LibraryActor.TheVariants.{Flow, Data, Time}
+use Rattle.pt_library.specs.declared.library_actor.LibraryActor.TheVariants.{Flow, Data, Time, Timed}
 use Rattle.pt_library.specs.LibraryActor.{start}
 use Rattle.pt_typed.specs.TokenTypes.{IsTokenOf}
 use Rattle.pt_typed.specs.TypedActor.{MeetsRow}
 use Rattle.pt_typed.specs.TypedFlow.{IsTypedFlow}
 use Rattle.pt_typed.specs.TypedTime.{IsTypedTime}
+use Rattle.pt_typed.specs.TypedTimed.{IsTypedTimed}
 use Rattle.pt_typed.specs.NetTypes.{types_below}
-use Rattle.pt_typed.specs.NetRows.{ends_from, channels_at, HasClassPorts, is_seeded_flow, is_seeded_time, is_seeded_actor, HoldsTokens}
+use Rattle.pt_typed.specs.NetRows.{ends_from, channels_at, HasClassPorts, is_seeded_flow, is_seeded_time, is_seeded_timed, is_seeded_actor, HoldsTokens}
 use Rattle.pt_typed.specs.RowLaw.{types_of_ports, SeededRowsAreMet}
 use Rattle.pt_typed.proofs.PortFacts.{PortFacts, all-front, all-back, entity-met}
-use Rattle.pt_typed.proofs.ClassPorts.{declares_in, outs_from, one-port}
+use Rattle.pt_typed.proofs.ClassPorts.{declares_in, outs_from, SinglesFrom, one-port}
 use Rattle.pt_typed.proofs.FlowStarts as flows
 use Rattle.pt_typed.proofs.FlowStarts.{mapped}
 use Rattle.pt_typed.proofs.FlowClasses as flow_classes
 use Rattle.pt_typed.proofs.TimeStarts as signals
 use Rattle.pt_typed.proofs.TimeClasses as time_classes
-use Rattle.pt_typed.proofs.RowsMet.{viewed, one-of-three, flow-in, its-places, its-outputs, its-facts}
+use Rattle.pt_typed.proofs.TimedStarts as moments
+use Rattle.pt_typed.proofs.TimedClasses as timed_classes
+use Rattle.pt_typed.proofs.TimedRows.{seeded-fits}
+use Rattle.pt_typed.proofs.RowsMet.{viewed, one-of-four, flow-in, its-places, its-outputs, its-facts, its-singles}
 use Rattle.pt_typed.proofs.HeldRows.{parameters-hold-tokens}
 use Rattle.pt_typed.proofs.SeedLaws.{value-met, not-given, no-tree, elements-below, tokens-of-values, const-seed, sequence-seed, delay-seed, non-strict-delay-seed, pre-seed, delay-standard}
 
@@ -264,11 +271,26 @@ module _ (net : Net) (values : Values) (typing : Assignment) (k : ℕ) (e : NetE
   time-meets : (c : TimeClass) (a : TimeActor) → time_actor.class_of params.class ≡ Some c → time_actor.start_as c params ≡ Some a → is_seeded_time a ≡ true → MeetsRow (types_below net typing k []) (Time a)
   time-meets c a is started s = signals.seeded-class (MeetsAs a) c params a (delay-meets a) (pre-meets a) started s is started
 
+  timed-meets : (c : TimedClass) (a : TimedActor) → timed_actor.class_of params.class ≡ Some c → timed_actor.start_as c params ≡ Some a → is_seeded_timed a ≡ true → MeetsRow (types_below net typing k []) (Timed a)
+  timed-meets c a is started s =
+      let name = moments.name_of c in
+      let named = moments.class-named params.class c is in
+      let its = sym classed ∙ named in
+      let heads = timed_classes.heads_of c in
+      let declares = timed_classes.declares-none c in
+      let places = its-places net values typing k e at undirected has typed params classed v held name named heads (timed_classes.heads-are c) declares in
+      let outputs = its-outputs net values typing k e at undirected has typed params classed v held name named heads (timed_classes.heads-are c) declares in
+      let facts = subst (λ ts. PortFacts row types 0 ts) (timed_classes.types-are c) (its-facts net values typing k e at undirected has typed params classed v held name named heads (timed_classes.heads-are c) declares) in
+      let singles = subst (λ ms. SinglesFrom (channels_at net k) 0 ms) (timed_classes.marks-are c) (its-singles net values typing k e at undirected has typed params classed v held name named heads (timed_classes.heads-are c) declares) in
+      let asked = seeded-fits typing k params ps vs holds values-are (channels_at net k) c a s started (parameters-met name its, standards-met name its) facts singles in
+      subst (λ qs. IsTypedTimed qs (types_below net typing k []).outputs a) (sym places) (subst (λ us. IsTypedTimed (map types (ends_from (channels_at net k) 0 (map (λ (h : List ℕ × Direction). h.1) heads))) us a) (sym outputs) asked)
+
   all-meet : (a : LibraryActor) → start params ≡ Some a → is_seeded_actor a ≡ true → MeetsRow (types_below net typing k []) a
-  all-meet a started s = elim (one-of-three Flow Data Time (flow_actor.start params) (data_actor.start params.class params.values params.ports) (time_actor.start params) a started) [
+  all-meet a started s = elim (one-of-four Flow Data Time Timed (flow_actor.start params) (data_actor.start params.class params.values params.ports) (time_actor.start params) (timed_actor.start params) a started) [
     | inl w ↦ (let c = flow-in (flow_actor.class_of params.class) params w.0 w.1 in subst (MeetsRow (types_below net typing k [])) w.2 (seeded-meets c.0 w.0 c.1 c.2 (ap is_seeded_actor w.2 ∙ s)))
     | inr (inl w) ↦ absurd (let no : false ≡ true = ap is_seeded_actor w.2 ∙ s in cc)
-    | inr (inr w) ↦ (let c = signals.time-in (time_actor.class_of params.class) params w.0 w.1 in subst (MeetsRow (types_below net typing k [])) w.2 (time-meets c.0 w.0 c.1 c.2 (ap is_seeded_actor w.2 ∙ s)))
+    | inr (inr (inl w)) ↦ (let c = signals.time-in (time_actor.class_of params.class) params w.0 w.1 in subst (MeetsRow (types_below net typing k [])) w.2 (time-meets c.0 w.0 c.1 c.2 (ap is_seeded_actor w.2 ∙ s)))
+    | inr (inr (inr w)) ↦ (let c = moments.timed-in (timed_actor.class_of params.class) params w.0 w.1 in subst (MeetsRow (types_below net typing k [])) w.2 (timed-meets c.0 w.0 c.1 c.2 (ap is_seeded_actor w.2 ∙ s)))
   ]
 
 pub seeded-rows-met : SeededRowsAreMet

@@ -36,18 +36,18 @@ use Rattle.pt_typed.proofs.TypeLaws.{token-of}
 
 -- ---- signals of a type
 
-abbrev IsSignalOf : Datatype → Option Token → Type 0
+abbrev pub IsSignalOf : Datatype → Option Token → Type 0
 IsSignalOf u signal = IfSome signal (IsTokenOf u)
 
 -- what comes to a place
-arrived : (ps : List Datatype) (X : Streams Token) (n : ℕ) (u : Datatype) → AreOf IsTokenOf ps X → IsUnder (get ps n) u → IsSignalOf u (token_at X n)
+pub arrived : (ps : List Datatype) (X : Streams Token) (n : ℕ) (u : Datatype) → AreOf IsTokenOf ps X → IsUnder (get ps n) u → IsSignalOf u (token_at X n)
 arrived ps X n u a h = by_token (token_at X n) refl
   where
     by_token : (o : Option Token) → token_at X n ≡ o → IsSignalOf u o
     by_token None e = tt
     by_token (Some t) e = token-of (get ps n) (at X n) t u (at-given IsTokenOf ps X n a) h e
 
-either : (u : Datatype) (o p : Option Token) → IsSignalOf u o → IsSignalOf u p → IsSignalOf u (option_or o p)
+pub either : (u : Datatype) (o p : Option Token) → IsSignalOf u o → IsSignalOf u p → IsSignalOf u (option_or o p)
 either u None p h k = k
 either u (Some t) p h k = h
 
@@ -72,7 +72,7 @@ under-channel (p ∷ ps) n u a = subst (λ m. IsUnder (get (p ∷ ps) m) u) (let
 
 -- ---- what an answer gives, and the state that it leaves
 
-abbrev Leaves : {A : Type 0} → List Datatype → (A → Type 0) → Answer Token A → Type 0
+abbrev pub Leaves : {A : Type 0} → List Datatype → (A → Type 0) → Answer Token A → Type 0
 Leaves us P (Gives b out) = AreOf IsTokenOf us out × P b
 Leaves us P (Fails code) = Unit {0}
 

@@ -15,8 +15,10 @@ use Rattle.pt_lib_data.specs.declared.function.Function.{Function}
 use Rattle.pt_lib_data.specs.declared.function.Function.TheVariants as made
 use Rattle.pt_lib_time.specs.declared.time_actor.TimeActor.{TimeActor}
 use Rattle.pt_lib_time.specs.declared.time_actor.TimeActor.TheVariants as time
+use Rattle.pt_lib_timed.specs.declared.timed_actor.TimedActor.{TimedActor}
+use Rattle.pt_lib_timed.specs.declared.timed_actor.TimedActor.TheVariants as timed
 use Rattle.pt_library.specs.declared.library_actor.LibraryActor.{LibraryActor}
-use Rattle.pt_library.specs.declared.library_actor.LibraryActor.TheVariants.{Flow, Data, Time}
+use Rattle.pt_library.specs.declared.library_actor.LibraryActor.TheVariants.{Flow, Data, Time, Timed}
 use Rattle.pt_trees.specs.Trees.{Starts}
 use Rattle.pt_trees.specs.Top.{supply_of}
 use Rattle.pt_cover.proofs.Reading.{documents-leaves}
@@ -26,7 +28,7 @@ use Rattle.pt_cover.proofs.Starting.{by-class}
 use Rattle.pt_order.proofs.NetsInOrder.{nets-in-order}
 use Rattle.pt_typed.specs.TypedActor.{MeetsRow}
 use Rattle.pt_typed.specs.NetTypes.{types_below}
-use Rattle.pt_typed.specs.NetRows.{HaveClassPorts, is_plain_flow, is_plain_function, is_plain_time, is_plain_actor, is_seeded_flow, is_seeded_time, is_seeded_actor, is_record_function, is_record_actor}
+use Rattle.pt_typed.specs.NetRows.{HaveClassPorts, is_plain_flow, is_plain_function, is_plain_time, is_plain_timed, is_plain_actor, is_seeded_flow, is_seeded_time, is_seeded_timed, is_seeded_actor, is_record_function, is_record_actor}
 use Rattle.pt_typed.specs.OwnNames.{HavePortNames, HaveClassParameters}
 use Rattle.pt_typed.specs.TypedNet.{MeetRows}
 use Rattle.pt_typed.specs.RowLaw.{types_of_ports, AreStartedIn, TypedNetsKeepTypes}
@@ -85,10 +87,20 @@ no-time-left (time.NonStrictMux x) p s = cc
 no-time-left (time.Pre x) p s = cc
 no-time-left (time.When x) p s = cc
 
+no-timed-left : (a : TimedActor) → is_plain_timed a ≡ false → is_seeded_timed a ≡ false → ⊥
+no-timed-left (timed.CurrentTime x) p s = cc
+no-timed-left (timed.DiscreteClock x) p s = cc
+no-timed-left (timed.Register x) p s = cc
+no-timed-left (timed.Sampler x) p s = cc
+no-timed-left (timed.Server x) p s = cc
+no-timed-left (timed.SingleEvent x) p s = cc
+no-timed-left (timed.TimeDelay x) p s = cc
+
 actor-left : (a : LibraryActor) → is_plain_actor a ≡ false → is_seeded_actor a ≡ false → is_record_actor a ≡ false → (f : Formula) × (a ≡ Flow (flow.Expression f))
 actor-left (Flow a) p q r = let w = flow-left a p q in (w.0, λ i. Flow (w.1 i))
 actor-left (Data a) p q r = absurd (no-function-left a.function p r)
 actor-left (Time a) p q r = absurd (no-time-left a p q)
+actor-left (Timed a) p q r = absurd (no-timed-left a p q)
 
 -- ---- all rows
 

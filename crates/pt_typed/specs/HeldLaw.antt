@@ -8,7 +8,7 @@ use Rattle.pt_start.specs.Started.{PortTyping, IsStart}
 use Rattle.pt_library.specs.declared.library_actor.LibraryActor.{LibraryActor}
 use Rattle.pt_typed.specs.NetRows.{is_seeded_actor, HoldsTokens}
 
--- Where the texts of a net come to these values, each parameter of a Const, a Sequence, a SampleDelay, a NonStrictDelay and a Pre has a token: the forms of all of them are of values.
+-- Where the texts of a net come to these values, each parameter of a Const, a Sequence, a SampleDelay, a NonStrictDelay, a Pre, a DiscreteClock, a SingleEvent, a Sampler and a Register has a token: the forms of all of them are of values.
 abbrev pub ParametersHoldTokens : Type 0
 ParametersHoldTokens =
     (net : Net) (values : Values) (typing : PortTyping) (k : ℕ) (a : LibraryActor) → IsValued (net_view net) values → (started : IsStart net values typing k (Some a)) → is_seeded_actor a ≡ true → HoldsTokens started.started_from.entity.parameters started.started_from.held.parameters.items

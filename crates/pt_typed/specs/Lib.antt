@@ -2,6 +2,7 @@ pub mod TokenTypes
 pub mod TypedData
 pub mod TypedFlow
 pub mod TypedTime
+pub mod TypedTimed
 pub mod TypedActor
 pub mod Laws
 pub mod NetTypes

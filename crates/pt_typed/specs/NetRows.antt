@@ -10,8 +10,10 @@ use Rattle.pt_lib_data.specs.declared.function.Function.{Function}
 use Rattle.pt_lib_data.specs.declared.function.Function.TheVariants.{ArrayElement, ArrayToSequence, Comparator, Discard, ElementsToArray, Equals, Limiter, LogicFunction, LogicalNot, RecordAssembler, RecordDisassembler, SequenceToArray, StringLength}
 use Rattle.pt_lib_time.specs.declared.time_actor.TimeActor.{TimeActor}
 use Rattle.pt_lib_time.specs.declared.time_actor.TimeActor.TheVariants.{Absent, Current, Default, NonStrictDelay, NonStrictLogicGate, NonStrictMux, Pre, When}
+use Rattle.pt_lib_timed.specs.declared.timed_actor.TimedActor.{TimedActor}
+use Rattle.pt_lib_timed.specs.declared.timed_actor.TimedActor.TheVariants.{CurrentTime, DiscreteClock, Register, Sampler, Server, SingleEvent, TimeDelay}
 use Rattle.pt_library.specs.declared.library_actor.LibraryActor.{LibraryActor}
-use Rattle.pt_library.specs.declared.library_actor.LibraryActor.TheVariants.{Flow, Data, Time}
+use Rattle.pt_library.specs.declared.library_actor.LibraryActor.TheVariants.{Flow, Data, Time, Timed}
 pub use Rattle.pt_order.specs.ClassPorts.{ends_if, ends_from, channels_at, HasClassPorts, HaveClassPorts}
 
 -- What it gives is made of its inputs, and of numbers and truth values: it gives no token of a parameter, and no field or value of an expression.
@@ -61,11 +63,22 @@ is_plain_time (NonStrictMux a) = true
 is_plain_time (Pre a) = false
 is_plain_time (When a) = true
 
+-- the same of the actors of timed models
+abbrev pub is_plain_timed : TimedActor → Bool
+is_plain_timed (CurrentTime a) = true
+is_plain_timed (DiscreteClock a) = false
+is_plain_timed (Register a) = false
+is_plain_timed (Sampler a) = false
+is_plain_timed (Server a) = true
+is_plain_timed (SingleEvent a) = false
+is_plain_timed (TimeDelay a) = true
+
 -- the same of the actors of all libraries
 abbrev pub is_plain_actor : LibraryActor → Bool
 is_plain_actor (Flow a) = is_plain_flow a
 is_plain_actor (Data a) = is_plain_function a.function
 is_plain_actor (Time a) = is_plain_time a
+is_plain_actor (Timed a) = is_plain_timed a
 
 -- It gives tokens of a parameter: the value of a Const, the values of a Sequence, the first tokens of a SampleDelay.
 abbrev pub is_seeded_flow : FlowActor → Bool
@@ -98,11 +111,22 @@ is_seeded_time (NonStrictMux a) = false
 is_seeded_time (Pre a) = true
 is_seeded_time (When a) = false
 
+-- the values of a DiscreteClock, the value of a SingleEvent, and what a Sampler and a Register keep at first are tokens of a parameter
+abbrev pub is_seeded_timed : TimedActor → Bool
+is_seeded_timed (CurrentTime a) = false
+is_seeded_timed (DiscreteClock a) = true
+is_seeded_timed (Register a) = true
+is_seeded_timed (Sampler a) = true
+is_seeded_timed (Server a) = false
+is_seeded_timed (SingleEvent a) = true
+is_seeded_timed (TimeDelay a) = false
+
 -- no data actor gives tokens of a parameter
 abbrev pub is_seeded_actor : LibraryActor → Bool
 is_seeded_actor (Flow a) = is_seeded_flow a
 is_seeded_actor (Data a) = false
 is_seeded_actor (Time a) = is_seeded_time a
+is_seeded_actor (Timed a) = is_seeded_timed a
 
 -- a parameter has a token, and is no tree and no word
 abbrev pub IsTokenHeld : ParameterValue → Type 0
@@ -136,3 +160,4 @@ abbrev pub is_record_actor : LibraryActor → Bool
 is_record_actor (Flow a) = false
 is_record_actor (Data a) = is_record_function a.function
 is_record_actor (Time a) = false
+is_record_actor (Timed a) = false

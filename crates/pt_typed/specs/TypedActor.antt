@@ -6,7 +6,7 @@ use Rattle.pt_meaning.specs.Node.{Gives}
 use Rattle.pt_value.specs.declared.token.Token.{Token}
 use Rattle.pt_datatypes.specs.Datatype.{Datatype}
 use Rattle.pt_library.specs.declared.library_actor.LibraryActor.{LibraryActor}
-use Rattle.pt_library.specs.declared.library_actor.LibraryActor.TheVariants.{Flow, Data, Time}
+use Rattle.pt_library.specs.declared.library_actor.LibraryActor.TheVariants.{Flow, Data, Time, Timed}
 use Rattle.pt_library.specs.LibraryActor.{step, early}
 use Rattle.pt_library.specs.Steady.{after}
 use Rattle.pt_kinds.specs.Signature.{Signature, AreOf, AreAllOf, AreKnownOf, AreAllKnownOf}
@@ -14,6 +14,7 @@ use Rattle.pt_typed.specs.TokenTypes.{IsTokenOf}
 use Rattle.pt_typed.specs.TypedFlow.{IsTypedFlow}
 use Rattle.pt_typed.specs.TypedData.{IsTypedFunction}
 use Rattle.pt_typed.specs.TypedTime.{IsTypedTime}
+use Rattle.pt_typed.specs.TypedTimed.{IsTypedTimed}
 
 -- the types at the places of a node and on its outputs
 abbrev pub Types : Type 0
@@ -24,6 +25,7 @@ abbrev pub MeetsRow : Types → LibraryActor → Type 0
 MeetsRow s (Flow actor) = IsTypedFlow s.places s.outputs actor
 MeetsRow s (Data actor) = IsTypedFunction s.places s.outputs actor.function
 MeetsRow s (Time actor) = IsTypedTime s.places s.outputs actor
+MeetsRow s (Timed actor) = IsTypedTimed s.places s.outputs actor
 
 -- each of these firings is on tokens of the types of the places
 abbrev pub AreTypedFirings : Types → List (Tag × Streams Token) → Type 0
