@@ -52,8 +52,11 @@ use Rattle.pt_lib_data.specs.DataActor as data_actor
 use Rattle.pt_lib_time.specs.declared.time_actor.Class.{Class as TimeClass}
 use Rattle.pt_lib_time.specs.declared.time_actor.Class.TheVariants as time_class
 use Rattle.pt_lib_time.specs.TimeActor as time_actor
+use Rattle.pt_lib_timed.specs.declared.timed_actor.Class.{Class as TimedClass}
+use Rattle.pt_lib_timed.specs.declared.timed_actor.Class.TheVariants as timed_class
+use Rattle.pt_lib_timed.specs.TimedActor as timed_actor
 use Rattle.pt_library.specs.declared.library_actor.LibraryActor.{LibraryActor}
-use Rattle.pt_library.specs.declared.library_actor.LibraryActor.TheVariants.{Flow, Data, Time}
+use Rattle.pt_library.specs.declared.library_actor.LibraryActor.TheVariants.{Flow, Data, Time, Timed}
 use Rattle.pt_library.specs.LibraryActor.{is_steady, rates, start}
 use Rattle.pt_start.specs.Places.{director_over, token_named, is_positive, is_truth, is_limited}
 use Rattle.pt_start.specs.Started.{own_tokens, given_tree, seen_tokens, PortTyping, IsStartedFrom}
@@ -62,7 +65,8 @@ use Rattle.pt_typed.specs.NetRows.{IsTokenHeld}
 use Rattle.pt_typed.proofs.FlowStarts as flows
 use Rattle.pt_typed.proofs.FlowStarts.{mapped}
 use Rattle.pt_typed.proofs.TimeStarts as signals
-use Rattle.pt_typed.proofs.RowsMet.{one-of-three, flow-in}
+use Rattle.pt_typed.proofs.TimedStarts as instants
+use Rattle.pt_typed.proofs.RowsMet.{one-of-four, flow-in}
 use Rattle.pt_typed.proofs.HeldLaws.{is_evaluated, const-values, sequence-values, given-all, holds-tokens}
 
 -- ---- classes that may not stand under SDF
@@ -119,6 +123,16 @@ time-outside time_class.NonStrictLogicGate = outside (codes "NonStrictLogicGate"
 time-outside time_class.NonStrictMux = outside (codes "NonStrictMux") (class_row (codes "NonStrictMux")) refl refl refl
 time-outside time_class.Pre = outside (codes "Pre") (class_row (codes "Pre")) refl refl refl
 time-outside time_class.When = outside (codes "When") (class_row (codes "When")) refl refl refl
+
+timed-outside : (c : TimedClass) → IsOutside (instants.name_of c)
+unfolding class_row classes
+timed-outside timed_class.CurrentTime = outside (codes "CurrentTime") (class_row (codes "CurrentTime")) refl refl refl
+timed-outside timed_class.DiscreteClock = outside (codes "DiscreteClock") (class_row (codes "DiscreteClock")) refl refl refl
+timed-outside timed_class.Register = outside (codes "Register") (class_row (codes "Register")) refl refl refl
+timed-outside timed_class.Sampler = outside (codes "Sampler") (class_row (codes "Sampler")) refl refl refl
+timed-outside timed_class.Server = outside (codes "Server") (class_row (codes "Server")) refl refl refl
+timed-outside timed_class.SingleEvent = outside (codes "SingleEvent") (class_row (codes "SingleEvent")) refl refl refl
+timed-outside timed_class.TimeDelay = outside (codes "TimeDelay") (class_row (codes "TimeDelay")) refl refl refl
 
 -- those of sources are classes
 const-there : is_some (class_row (codes "Const")) ≡ true
@@ -328,13 +342,16 @@ module _ (net : Net) (values : Values) (typing : PortTyping) (k : ℕ) (valued :
   }
 
   pub steady-started : (a : LibraryActor) → start params ≡ Some a → IsSteadyStart a
-  steady-started a is = elim (one-of-three Flow Data Time (flow_actor.start params) (data_actor.start params.class params.values params.ports) (time_actor.start params) a is) [
+  steady-started a is = elim (one-of-four Flow Data Time Timed (flow_actor.start params) (data_actor.start params.class params.values params.ports) (time_actor.start params) (timed_actor.start params) a is) [
     | inl w ↦ (
         let c = flow-in (flow_actor.class_of params.class) params w.0 w.1 in
         let good = flow-good c.0 params w.0 (unlimited c.0 (sym from.from.class_is ∙ flows.class-named params.class c.0 c.1)) c.2 in
         subst IsSteadyStart w.2 (record { steady = good.0; rated = some-not-none (flow_actor.rates w.0) good.1 }))
     | inr (inl w) ↦ subst IsSteadyStart w.2 (record { steady = refl; rated = λ n. some-not-none (Some (data_actor.rates w.0)) refl n })
-    | inr (inr w) ↦ (
+    | inr (inr (inl w)) ↦ (
         let c = signals.time-in (time_actor.class_of params.class) params w.0 w.1 in
         absurd (inside (signals.name_of c.0) (sym from.from.class_is ∙ signals.class-named params.class c.0 c.1) (time-outside c.0)))
+    | inr (inr (inr w)) ↦ (
+        let c = instants.timed-in (timed_actor.class_of params.class) params w.0 w.1 in
+        absurd (inside (instants.name_of c.0) (sym from.from.class_is ∙ instants.class-named params.class c.0 c.1) (timed-outside c.0)))
   ]
