@@ -7,7 +7,7 @@ use Rattle.pt_core.specs.Lawful.{IsLentTo}
 use Rattle.pt_core.specs.declared.either.Either.TheVariants.{First, Other}
 use Rattle.pt_directors.specs.Directors.{Director}
 use Rattle.pt_library.specs.declared.library_actor.LibraryActor.{LibraryActor}
-use Rattle.pt_library.specs.declared.library_actor.LibraryActor.TheVariants.{Flow, Data, Time}
+use Rattle.pt_library.specs.declared.library_actor.LibraryActor.TheVariants.{Flow, Data, Time, Timed}
 use Rattle.pt_library.specs.LibraryActor as library
 use Rattle.pt_library.specs.LibraryActor.{rows}
 use Rattle.pt_node.specs.declared.body.Body.{Body}
@@ -20,6 +20,7 @@ actor-takes : (tag : Tag) (actor : LibraryActor) (X : Streams Token) → library
 actor-takes tag (Flow actor) X = tt
 actor-takes tag (Data actor) X = tt
 actor-takes tag (Time actor) X = tt
+actor-takes tag (Timed actor) X = tt
 
 long-replicate : (n m : ℕ) → length (replicate n m) ≡ n
 long-replicate zero m = refl
