@@ -39,7 +39,7 @@ use Rattle.pt_lib_timed.specs.Register as register
 use Rattle.pt_lib_timed.specs.Sampler as sampler
 use Rattle.pt_lib_timed.specs.SingleEvent as single_event
 use Rattle.pt_lib_timed.specs.TimedActor.{start_as}
-use Rattle.pt_typed.specs.TokenTypes.{IsTokenOf, IsUnder}
+use Rattle.pt_typed.specs.TokenTypes.{IsTokenOf}
 use Rattle.pt_typed.specs.TypedFlow.{IsValueOf}
 use Rattle.pt_typed.specs.TypedTimed.{IsEventOf, IsTypedTimed}
 use Rattle.pt_typed.specs.NetRows.{ends_from, is_seeded_timed, HoldsTokens}
