@@ -27,11 +27,12 @@ use Rattle.pt_node.specs.Shown.{Shown}
 use Rattle.pt_trees.specs.Trees.{IsEntity, Starts}
 use Rattle.pt_trees.specs.Built.{IsBuilt}
 use Rattle.pt_elaboration.specs.Resolved.{IsResolved, IsStarted}
-use Rattle.pt_elaboration.specs.Refused.{IsUnbuilt, FaultStands, for_guards, for_types, for_place, for_inputs, unbuilt}
+use Rattle.pt_elaboration.specs.Unbuilt.{IsUnbuilt}
+use Rattle.pt_elaboration.specs.Refused.{FaultStands, for_guards, for_types, for_place, for_inputs, unbuilt}
 
-pub unbuilt-stands : (net : Net) (m : DocFault) → IsUnbuilt net → IsRefusal m code.Unbuilt top_path → FaultStands net m
-unbuilt-stands net Memory is told = tt
-unbuilt-stands net (Refused r) is told = unbuilt is told
+pub unbuilt-stands : (net : Net) (values : Values) (typing : Assignment) (starts : Starts) (m : DocFault) → IsStarted net values typing starts → IsUnbuilt net starts → IsRefusal m code.Unbuilt top_path → FaultStands net m
+unbuilt-stands net values typing starts Memory started is told = tt
+unbuilt-stands net values typing starts (Refused r) started is told = unbuilt values typing starts started is told
 
 pub inputs-stand : (net : Net) (values : Values) (typing : Assignment) (starts : Starts) (top : Shown) (f : DocFault) → IsStarted net values typing starts → IsBuilt net starts 0 top → inputs.IsFaultOf (net_view net) f → FaultStands net f
 inputs-stand net values typing starts top Memory started is h = tt

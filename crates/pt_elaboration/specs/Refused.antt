@@ -1,5 +1,5 @@
 -- Why a net has no model. A fault of one kind is told only where none of the kinds before it stands: values, guards and actions, types, places, plans, inputs.
-use Rattle.std.specs.Prelude.{◌≡◌, ℕ, None}
+use Rattle.std.specs.Prelude.{◌≡◌, ℕ}
 use Rattle.pt_document.specs.declared.code.Code.{Code}
 use Rattle.pt_document.specs.declared.code.Code.TheVariants as code
 use Rattle.pt_document.specs.declared.refusal.DocFault.{DocFault}
@@ -17,17 +17,12 @@ use Rattle.pt_resolve.specs.Faults.{IsTypeFault}
 use Rattle.pt_charts.specs.Readable.{AreReadable, IsUnreadableAt}
 use Rattle.pt_start.specs.Misplaced.{IsMisplaced}
 use Rattle.pt_job.specs.Inputs.{IsInputFault}
-use Rattle.pt_job.specs.Iterations.{iterations}
 use Rattle.pt_node.specs.Shown.{Shown}
 use Rattle.pt_trees.specs.Trees.{IsEntity, Starts}
 use Rattle.pt_trees.specs.Built as built
 use Rattle.pt_trees.specs.Built.{IsBuilt}
 use Rattle.pt_elaboration.specs.Resolved.{IsResolved, IsStarted}
-
--- What isn't built yet: trees that pt_build can't build, as those of Modal entities, and an SDF top without a number of iterations.
-pub data IsUnbuilt (net : Net) : Type 0 where
-  no_tree : (values : Values) (typing : Assignment) (starts : Starts) → IsStarted net values typing starts → built.IsUnbuilt net starts → IsUnbuilt net
-  no_iterations : (values : Values) → IsValued (net_view net) values → iterations (net_view net) values ≡ None → IsUnbuilt net
+use Rattle.pt_elaboration.specs.Unbuilt.{IsUnbuilt}
 
 -- A refusal of a net stands: for a text, for a guard or an action of a Modal entity, for types, for where an entity stands, for a composite without a plan, for an input of the top, or since its form isn't built.
 pub data IsRefused (net : Net) (r : Refusal) : Type 0 where
@@ -37,7 +32,7 @@ pub data IsRefused (net : Net) (r : Refusal) : Type 0 where
   for_place : (values : Values) (typing : Assignment) (k : ℕ) (e : NetEntity) → IsResolved net values typing → IsMisplaced (net_view net) values r.code k → IsEntity net k e → r.path ≡ e.path → IsRefused net r
   for_plan : (values : Values) (typing : Assignment) (starts : Starts) → IsStarted net values typing starts → built.IsRefused net starts r → IsRefused net r
   for_inputs : (values : Values) (typing : Assignment) (starts : Starts) (top : Shown) → IsStarted net values typing starts → IsBuilt net starts 0 top → r.code ≡ code.Inputs → IsInputFault (net_view net) r.path → IsRefused net r
-  unbuilt : IsUnbuilt net → r ≡ record { code = code.Unbuilt; path = top_path } → IsRefused net r
+  unbuilt : (values : Values) (typing : Assignment) (starts : Starts) → IsStarted net values typing starts → IsUnbuilt net starts → r ≡ record { code = code.Unbuilt; path = top_path } → IsRefused net r
 
 -- a fault is want of memory, or a refusal that stands
 abbrev pub FaultStands : Net → DocFault → Type 0

@@ -1,3 +1,4 @@
 pub mod TopLaws
 pub mod Outcomes
 pub mod TypedLaws
+pub mod UnbuiltLaws

@@ -20,7 +20,7 @@ use Rattle.pt_elaboration.proofs.Lists.{read}
 use Rattle.pt_model.proofs.TopLaws.{top-directed, top-core}
 
 -- each library actor starts as its parameters and types start it
-started-in : (net : Net) (values : Values) (typing : Assignment) (starts : Starts) → AreStartsOf net values typing starts → AreStartedIn net values typing starts
+pub started-in : (net : Net) (values : Values) (typing : Assignment) (starts : Starts) → AreStartsOf net values typing starts → AreStartedIn net values typing starts
 started-in net values typing starts are k a is =
     let there : k < length net.entities.items = let h = slice_get_within starts k (Some a) is in omega (arith, h, are.counted) in
     let found : (e : NetEntity) × IsEntity net k e = read net.entities.items k there in

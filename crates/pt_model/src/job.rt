@@ -8,13 +8,14 @@ ghost use Rattle.pt_node.specs.View.{node_of};
 ghost use Rattle.pt_trees.specs.declared.top.Top.TheVariants as top;
 ghost use Rattle.pt_trees.specs.Built.{IsBuilt};
 ghost use Rattle.pt_trees.specs.Top.{iterations_of, supply_of, IsJobFor};
+ghost use Rattle.pt_order.specs.Laws.{IsNetOfDocument};
 ghost use Rattle.pt_elaboration.specs.Resolved.{IsStarted};
 ghost use Rattle.pt_elaboration.specs.Refused.{FaultStands};
 
 use crate::tree::director_of;
 use pt_core::Either;
 use pt_document::DocFault;
-use pt_elaboration::{Started, unbuilt};
+use pt_elaboration::Started;
 use pt_firing::Counts;
 use pt_job::{iterations, supply, supply_ticks};
 use pt_net::Net;
@@ -67,6 +68,7 @@ pub(crate) fn job_of(
     started: &Started,
     top: &Node,
 ) -> Result<Top, DocFault>
+    requires document { IsNetOfDocument net.now }
     requires started { IsStarted net.now started.now.values (assignment started.now.typing) started.now.starts.items }
     requires built { IsBuilt net.now started.now.starts.items 0 (shown_node top.now) }
     ensures accepted { IsOk result → (path : List ℕ) → IsInputFault (net_view net.now) path → ⊥ }
@@ -76,7 +78,7 @@ pub(crate) fn job_of(
     ensures stands { IfErr result (FaultStands net.now) }
 {
     let Some(iterations) = iterations(net, &started.values) else {
-        return Err(unbuilt(alloc));
+        unreachable!()
     };
     match director_of(top) {
         Either::First(core) => {

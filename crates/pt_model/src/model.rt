@@ -1,13 +1,11 @@
 ghost use Rattle.std.specs.Prelude.{◌≡◌, length, Ok, Err, IfOk, IfErr};
-ghost use Rattle.pt_document.specs.Document.{JobTree};
-ghost use Rattle.pt_net.specs.Net.{IsNetOf};
 ghost use Rattle.pt_typing.specs.Least.{assignment};
 ghost use Rattle.pt_trees.specs.Fresh.{IsFresh};
 ghost use Rattle.pt_node.specs.Shown.{shown_node};
 ghost use Rattle.pt_trees.specs.Built.{IsBuilt};
 ghost use Rattle.pt_trees.specs.Start.{IsRunnable};
 ghost use Rattle.pt_trees.specs.Ports.{AreNumbered};
-ghost use Rattle.pt_cover.specs.Leaves.{ActorsAreLeaves};
+ghost use Rattle.pt_order.specs.Laws.{IsNetOfDocument};
 ghost use Rattle.pt_model.specs.Model.{IsModel};
 ghost use Rattle.pt_elaboration.specs.Resolved.{IsStarted};
 ghost use Rattle.pt_elaboration.specs.Refused.{FaultStands};
@@ -45,7 +43,8 @@ fn with_job(top: Node, job: Result<Top, DocFault>) -> Result<Model, DocFault>
 
 /// The model of a net whose entities start as these.
 fn model_with(alloc: Global, net: &Net, started: &Started) -> Result<Model, DocFault>
-    requires { IsStarted net.now started.now.values (assignment started.now.typing) started.now.starts.items }
+    requires document { IsNetOfDocument net.now }
+    requires started { IsStarted net.now started.now.values (assignment started.now.typing) started.now.starts.items }
     ensures model { IfOk result (λ model. IsModel net.now (shown_node model.top) model.job) }
     ensures built { IfOk result (λ model. IsBuilt net.now started.now.starts.items 0 (shown_node model.top)) }
     ensures fresh { IfOk result (λ model. IsFresh (shown_node model.top)) }
@@ -56,11 +55,11 @@ fn model_with(alloc: Global, net: &Net, started: &Started) -> Result<Model, DocF
     with_job(top, job)
 }
 
-/// The model of the net of a job: its texts are evaluated, its types found, its actors started, its composites planned, and what the job supplies is put to the
-/// inputs of the top. Refuses a net for the first kind of fault that stands: values, guards and actions, types, places, plans, inputs. In the job only composites
-/// have entities within them, as in that of each document.
+/// The model of the net of a document: its texts are evaluated, its types found, its actors started, its composites planned, and what the job supplies is put to the
+/// inputs of the top. Refuses a net for the first kind of fault that stands: values, guards and actions, types, places, plans, inputs. In the document no link is at
+/// fault.
 pub fn model_of(alloc: Global, net: &Net) -> Result<Model, DocFault>
-    requires { (job : JobTree) × ActorsAreLeaves job × IsNetOf job net.now }
+    requires { IsNetOfDocument net.now }
     ensures model { IfOk result (λ model. IsModel net.now (shown_node model.top) model.job) }
     ensures runnable { IfOk result (λ model. IsRunnable model.job (shown_node model.top)) }
     ensures numbered { IfOk result (λ model. AreNumbered (length net.now.recorded.items) (shown_node model.top)) }

@@ -7,6 +7,7 @@ ghost use Rattle.pt_node.specs.Shown.{shown_node};
 ghost use Rattle.pt_node.specs.View.{node_of};
 ghost use Rattle.pt_trees.specs.Trees.{IsTree, StartsAs};
 ghost use Rattle.pt_trees.specs.Built.{IsBuilt};
+ghost use Rattle.pt_order.specs.Laws.{IsNetOfDocument};
 ghost use Rattle.pt_elaboration.specs.Resolved.{IsStarted};
 ghost use Rattle.pt_elaboration.specs.Refused.{FaultStands};
 ghost use Rattle.pt_model.specs.Model.{IsCompositeBody};
@@ -22,7 +23,8 @@ use std::alloc::Global;
 
 /// The tree of a net whose entities start as these.
 pub(crate) fn tree_of(alloc: Global, net: &Net, started: &Started) -> Result<Node, DocFault>
-    requires { IsStarted net.now started.now.values (assignment started.now.typing) started.now.starts.items }
+    requires document { IsNetOfDocument net.now }
+    requires started { IsStarted net.now started.now.values (assignment started.now.typing) started.now.starts.items }
     ensures tree { IfOk result (λ node. IsTree net.now (StartsAs started.now.starts.items) 0 (node_of (shown_node node))) }
     ensures built { IfOk result (λ node. IsBuilt net.now started.now.starts.items 0 (shown_node node)) }
     ensures fresh { IfOk result (λ node. IsFresh (shown_node node)) }

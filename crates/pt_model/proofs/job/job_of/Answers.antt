@@ -1,13 +1,16 @@
 use Rattle.std.proofs.Common.{sym, ap, ◌∙◌}
+use Rattle.pt_typing.specs.Least.{assignment}
 use Rattle.pt_node.specs.declared.body.Body.TheVariants.{Composite}
 use Rattle.pt_node.specs.Shown.{shown_node}
-use Rattle.pt_elaboration.specs.Refused.{no_iterations}
-use Rattle.pt_elaboration.proofs.FaultLaws.{unbuilt-stands}
 use Rattle.pt_model.proofs.TopLaws.{top-core, top-directs, sdf-top, sdf-fits, sr-fits}
+use Rattle.pt_model.proofs.UnbuiltLaws.{top-iterates}
 use Rattle.pt_model.proofs.job.job_of.Goals as goal
 
-pub returns-in_default-clause-stands : goal.returns-in_default-clause-stands
-returns-in_default-clause-stands c = unbuilt-stands c.args.net.now c.unbuilt.result (no_iterations c.args.started.now.values c.requires.started.resolved.valued (sym c.in_default.ensures)) c.unbuilt.ensures
+-- a top that is built has a number of iterations
+pub unreachable-requires : goal.unreachable-requires
+unreachable-requires c =
+    let s = c.args.started.now in
+    top-iterates c.args.net.now s.values (assignment s.typing) s.starts.items (shown_node c.args.top.now) c.requires.document c.requires.started c.requires.built (sym c.in_default.ensures)
 
 pub director_of-requires : goal.director_of-requires
 director_of-requires c =

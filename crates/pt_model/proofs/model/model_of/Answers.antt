@@ -3,6 +3,7 @@ use Rattle.pt_node.specs.Shown.{shown_node}
 use Rattle.pt_model.proofs.Outcomes.{on-ok, at-ok}
 use Rattle.pt_elaboration.proofs.StartLaws.{started-by-class}
 use Rattle.pt_model.proofs.TopLaws.{is-runnable}
+use Rattle.pt_buildable.proofs.Ordered.{leaves}
 use Rattle.pt_model.proofs.model.model_of.Goals as goal
 
 pub returns-clause-runnable : goal.returns-clause-runnable
@@ -14,4 +15,7 @@ pub returns-clause-numbered : goal.returns-clause-numbered
 returns-clause-numbered c = on-ok c.model_with.result (λ model is.
     let s = c.in_ok-started.started in
     let by_class = started-by-class c.args.net.now s.values (assignment s.typing) s.starts.items c.in_ok-started.ensures.started.started in
-    c.ports_are_numbered.ensures c.requires.0 c.args.net.now s.starts.items (shown_node model.top) c.requires.1 c.requires.2 by_class (at-ok _ is c.model_with.ensures.built))
+    c.ports_are_numbered.ensures c.requires.job c.args.net.now s.starts.items (shown_node model.top) (leaves c.args.net.now c.requires) c.requires.made by_class (at-ok _ is c.model_with.ensures.built))
+
+pub of-requires : goal.of-requires
+of-requires c = (c.requires.job, leaves c.args.net.now c.requires, c.requires.made)
