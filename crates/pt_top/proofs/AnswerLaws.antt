@@ -10,6 +10,7 @@ use Rattle.pt_net.specs.Net.{IsNetOf}
 use Rattle.pt_top.specs.declared.report.Reply.{Reply}
 use Rattle.pt_top.specs.declared.status.Status.{Status}
 use Rattle.pt_top.specs.declared.status.Status.TheVariants.{Done, Words, Document, Fault, Budget, Read, Write, Memory, Queue, Length}
+use Rattle.pt_order.specs.Laws.{IsNetOfDocument}
 use Rattle.pt_model.proofs.TypedLaws.{models-keep-types}
 use Rattle.pt_top.specs.Reply.{IsReport, AnswersNet}
 use Rattle.pt_top.specs.Outcome.{in_links, in_net, IsReportOf, AnswersJob, Answers, IsWellLinked, IsFaultless, IsDueFor, limit}
@@ -31,6 +32,10 @@ pub net-answers : (job : JobTree) (net : Net) (budget : ℕ) (reply : Result Rep
 net-answers job net budget (Ok r) n c a = from-net job net budget n c r.status r.text.items a
 net-answers job net budget (Err e) n c a = tt
 
+-- no link of a document is at fault whose net this is
+pub net-of-document : (bytes : List ℕ) (job : JobTree) (net : Net) → IsJobOf bytes job → IsNetOf job net → IsWellLinked job → IsNetOfDocument net
+net-of-document bytes job net j n l = record { bytes = bytes; job = job; read = j; made = n; clean = λ path h. l code.Link path h }
+
 -- a report of the net of a document is that of the document
 reported : (bytes : List ℕ) (job : JobTree) (budget : ℕ) → IsJobOf bytes job → reading.IsClean bytes → (s : Status) (text : List ℕ) (net : Net) → IsNetOf job net → IsWellLinked job → IsReport net budget s text → IsReportOf bytes budget s text
 reported bytes job budget j c s text net n l a = record {
@@ -38,7 +43,7 @@ reported bytes job budget j c s text net n l a = record {
   net = net;
   accepted = record { is_job = j; is_net = n; well_formed = c; well_linked = l };
   report = a;
-  typed = models-keep-types net a.top a.job (record { bytes = bytes; job = job; read = j; made = n; clean = λ path h. l code.Link path h }) a.is_model;
+  typed = models-keep-types net a.top a.job (net-of-document bytes job net j n l) a.is_model;
 }
 
 from-job : (bytes : List ℕ) (job : JobTree) (budget : ℕ) → IsJobOf bytes job → reading.IsClean bytes → (s : Status) (text : List ℕ) → AnswersJob job budget s text → Answers bytes budget s text

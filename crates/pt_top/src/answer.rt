@@ -1,23 +1,22 @@
 // What answers a document.
-ghost use Rattle.std.specs.Prelude.{◌≡◌, ◌⊎◌, ◌<◌, IfOk};
+ghost use Rattle.std.specs.Prelude.{◌≡◌, ◌⊎◌, ◌<◌, ℕ, List, IfOk};
 ghost use Rattle.pt_document.specs.View.{job_view};
+ghost use Rattle.pt_moml.specs.Reading.{IsJobOf};
 ghost use Rattle.pt_net.specs.declared.net.Net.{Net};
 ghost use Rattle.pt_net.specs.Net.{IsNetOf};
-ghost use Rattle.pt_cover.specs.Leaves.{ActorsAreLeaves};
 ghost use Rattle.pt_top.specs.declared.status.Status.TheVariants.{Done, Document};
 ghost use Rattle.pt_top.specs.Reply.{IsAffordableNet};
 ghost use Rattle.pt_top.specs.Outcome.{Answers, AnswersJob, IsWellLinked, IsFaultless};
 
 use crate::report::{Reply, refuse, reply_to_net};
-use pt_cover::actors_of_documents_are_leaves;
 use pt_document::{DocFault, Job};
 use pt_graph::flatten;
 use pt_moml::read;
 use std::alloc::{AllocError, Global};
 
-/// The answer to a job within a budget, unless memory runs out for it.
+/// The answer to the job of a document within a budget, unless memory runs out for it.
 fn answer_job(alloc: Global, job: &Job, budget: u64) -> Result<Reply, AllocError>
-    requires leaves { ActorsAreLeaves (job_view job.now) }
+    requires job { (bytes : List ℕ) × IsJobOf bytes (job_view job.now) }
     requires budget { 0 < budget }
     ensures answers { IfOk result (λ r. AnswersJob (job_view job.now) budget r.status r.text.items) }
     // Where the models are affordable, what isn't done is refused.
@@ -37,7 +36,6 @@ pub fn answer(alloc: Global, bytes: &[u8], budget: u64) -> Result<Reply, AllocEr
     ensures answers { IfOk result (λ r. Answers bytes.now budget r.status r.text.items) }
     ensures complete { IsFaultless bytes.now budget → IfOk result (λ r. r.status ≡ Done) }
 {
-    actors_of_documents_are_leaves();
     match read(alloc, bytes) {
         Ok(job) => answer_job(alloc, &job, budget),
         Err(DocFault::Refused(refusal)) => refuse(alloc, &refusal),

@@ -1,8 +1,6 @@
 // What is answered to a net.
 ghost use Rattle.std.specs.Prelude.{◌≡◌, ◌⊎◌, ◌<◌, length, IfOk};
-ghost use Rattle.pt_document.specs.Document.{JobTree};
-ghost use Rattle.pt_net.specs.Net.{IsNetOf};
-ghost use Rattle.pt_cover.specs.Leaves.{ActorsAreLeaves};
+ghost use Rattle.pt_order.specs.Laws.{IsNetOfDocument};
 ghost use Rattle.pt_node.specs.Shown.{shown_node};
 ghost use Rattle.pt_node.specs.View.{node_of};
 ghost use Rattle.pt_trees.specs.Start.{IsRunnable};
@@ -100,9 +98,9 @@ fn report_model(
     reply
 }
 
-/// The answer to the net of a job within a budget, unless memory runs out for it.
+/// The answer to the net of a document within a budget, unless memory runs out for it.
 pub fn reply_to_net(alloc: Global, net: &Net, budget: u64) -> Result<Reply, AllocError>
-    requires net { (job : JobTree) × ActorsAreLeaves job × IsNetOf job net.now }
+    requires net { IsNetOfDocument net.now }
     requires budget { 0 < budget }
     ensures answers { IfOk result (λ r. AnswersNet net.now budget r.status r.text.items) }
     // Where the models are affordable, what isn't done is refused.

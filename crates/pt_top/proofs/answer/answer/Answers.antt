@@ -13,6 +13,6 @@ returns-in-Ok-clause-complete c = λ faultless.
     let over = c.answer_job.ensures.complete (λ net is linked. faultless.affordable job net (record { is_job = c.in-Ok.ensures.job; is_net = is; well_formed = c.in-Ok.ensures.clean; well_linked = linked })) in
     never-refused c.args.bytes.now c.args.budget c.answer_job.result faultless (returns-in-Ok-clause-answers c) over
 
--- actors are leaves in the job of a document
-pub answer_job-requires-clause-leaves : goal.answer_job-requires-clause-leaves
-answer_job-requires-clause-leaves c = c.actors_of_documents_are_leaves.ensures c.args.bytes.now (job_view c.in-Ok.job) c.in-Ok.ensures.job
+-- the job is that of these bytes
+pub answer_job-requires-clause-job : goal.answer_job-requires-clause-job
+answer_job-requires-clause-job c = (c.args.bytes.now, c.in-Ok.ensures.job)

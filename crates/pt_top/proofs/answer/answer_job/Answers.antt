@@ -1,5 +1,5 @@
 use Rattle.pt_document.specs.View.{job_view}
-use Rattle.pt_top.proofs.AnswerLaws.{net-answers}
+use Rattle.pt_top.proofs.AnswerLaws.{net-answers, net-of-document}
 use Rattle.pt_top.proofs.answer.answer_job.Goals as goal
 
 -- the answer to the net of a job
@@ -8,3 +8,6 @@ returns-in-Ok-clause-answers c = net-answers (job_view c.args.job.now) c.in-Ok.n
 
 pub returns-in-Ok-clause-complete : goal.returns-in-Ok-clause-complete
 returns-in-Ok-clause-complete c = λ affordable. c.reply_to_net.ensures.complete (affordable c.in-Ok.net c.in-Ok.ensures.net c.in-Ok.ensures.accepted)
+
+pub reply_to_net-requires-clause-net : goal.reply_to_net-requires-clause-net
+reply_to_net-requires-clause-net c = net-of-document c.requires.job.0 (job_view c.args.job.now) c.in-Ok.net c.requires.job.1 c.in-Ok.ensures.net c.in-Ok.ensures.accepted
