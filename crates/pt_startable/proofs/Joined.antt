@@ -1,4 +1,4 @@
--- Each actor of a class that a library has starts.
+-- Each actor of a class that one of these libraries has starts.
 use Rattle.std.proofs.Common.{◌≡◌, ℕ, List, ◌++◌, map, Bool, true, false, ◌||◌, Option, Some, None, refl, sym, ap, subst, ◌∙◌, append-nil, if◌then◌else◌}
 use Rattle.std.specs.Prelude.{codes, bytes_eq, option_map, is_some}
 use Rattle.std.specs.Option.{option_or}
@@ -31,7 +31,8 @@ use Rattle.pt_lib_data.specs.Function as function
 use Rattle.pt_lib_data.specs.DataActor as data_actor
 use Rattle.pt_lib_time.specs.declared.time_actor.Class.{Class as TimeClass}
 use Rattle.pt_lib_time.specs.TimeActor as time_actor
-use Rattle.pt_library.specs.declared.library_actor.LibraryActor.TheVariants.{Flow, Data, Time}
+use Rattle.pt_lib_timed.specs.TimedActor as timed_actor
+use Rattle.pt_library.specs.declared.library_actor.LibraryActor.TheVariants.{Flow, Data, Time, Timed}
 use Rattle.pt_library.specs.LibraryActor.{start}
 use Rattle.pt_trees.specs.Trees.{IsEntity}
 use Rattle.pt_order.specs.Laws.{IsNetOfDocument}
@@ -49,11 +50,11 @@ use Rattle.pt_startable.proofs.DataStarts.{data-starts, time-starts}
 
 -- ---- no library starts it
 
-none-of-three : {F D T A : Type 0} (f : F → A) (d : D → A) (t : T → A) (o : Option F) (p : Option D) (q : Option T) → option_or (option_map f o) (option_or (option_map d p) (option_map t q)) ≡ None → (o ≡ None) × (p ≡ None) × (q ≡ None)
-none-of-three f d t (Some x) p q e = absurd (none-some (f x) (sym e))
-none-of-three f d t None (Some y) q e = absurd (none-some (d y) (sym e))
-none-of-three f d t None None (Some z) e = absurd (none-some (t z) (sym e))
-none-of-three f d t None None None e = (refl, refl, refl)
+none-of-three : {F D T M A : Type 0} (f : F → A) (d : D → A) (t : T → A) (m : M → A) (o : Option F) (p : Option D) (q : Option T) (r : Option M) → option_or (option_map f o) (option_or (option_map d p) (option_or (option_map t q) (option_map m r))) ≡ None → (o ≡ None) × (p ≡ None) × (q ≡ None)
+none-of-three f d t m (Some x) p q r e = absurd (none-some (f x) (sym e))
+none-of-three f d t m None (Some y) q r e = absurd (none-some (d y) (sym e))
+none-of-three f d t m None None (Some z) r e = absurd (none-some (t z) (sym e))
+none-of-three f d t m None None None r e = (refl, refl, refl)
 
 module _ (params : Params) (other : bytes_eq params.class (codes "Expression") ≡ false) (of : AreOfClass params.class params) where
   no-flow : (o : Option FlowClass) → flow_actor.class_of params.class ≡ o → flow_actor.start_in o params ≡ None → is_some o ≡ false
@@ -72,7 +73,7 @@ module _ (params : Params) (other : bytes_eq params.class (codes "Expression") �
 
   no-library : start params ≡ None → is_of_library params.class ≡ false
   no-library e =
-      let w = none-of-three Flow Data Time (flow_actor.start params) (data_actor.start params.class params.values params.ports) (time_actor.start params) e in
+      let w = none-of-three Flow Data Time Timed (flow_actor.start params) (data_actor.start params.class params.values params.ports) (time_actor.start params) (timed_actor.start params) e in
       let a = no-flow (flow_actor.class_of params.class) refl w.0 in
       let b = no-data (function.class_of params.class) refl w.1 in
       let c = no-time (time_actor.class_of params.class) refl w.2 in

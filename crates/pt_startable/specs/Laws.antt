@@ -10,7 +10,7 @@ use Rattle.pt_trees.specs.Trees.{IsEntity}
 use Rattle.pt_order.specs.Laws.{IsNetOfDocument}
 use Rattle.pt_startable.specs.Classes.{is_of_library}
 
--- An actor of a class that a library has starts, whatever the types of its ports, where the texts of its net come to these values. Expressions are left out: whether one has a type goes by those of its inputs.
+-- An actor of a class that a library has starts, whatever the types of its ports, where the texts of its net come to these values. Left out are Expressions: whether one has a type goes by those of its inputs.
 abbrev pub ActorsStart : Type 0
 ActorsStart =
     (net : Net) (values : Values) (typing : PortTyping) (k : ℕ) (e : NetEntity) → IsNetOfDocument net → IsValued (net_view net) values → IsEntity net k e → is_composite_class e.class ≡ false → is_of_library e.class ≡ true → bytes_eq e.class (codes "Expression") ≡ false → IsStart net values typing k None → ⊥
