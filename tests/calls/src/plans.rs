@@ -27,7 +27,7 @@ fn counts(alloc: Global, written: &str, out: &mut Answer) -> Counts {
 }
 
 /// Where a channel begins: `1.0` at the child 1 and its output 0, `0` at the own input 0.
-fn source(word: &str) -> Source {
+pub fn source(word: &str) -> Source {
     match word.split_once('.') {
         Some((child, output)) => Source::Output(small(child), small(output)),
         None => Source::Own(small(word)),

@@ -1,0 +1,4 @@
+pub mod EdgeLaws
+pub mod PlanLaws
+pub mod AgainLaws
+pub mod TotalLaws
