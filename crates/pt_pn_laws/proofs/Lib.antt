@@ -1,0 +1,14 @@
+pub mod Examples
+pub mod ListLaws
+pub mod RunSame
+pub mod GatherLaws
+pub mod MoveLaws
+pub mod StartLaws
+pub mod BeginLaws
+pub mod FireLaws
+pub mod EndLaws
+pub mod ChainLaws
+pub mod PauseLaws
+pub mod SoFarLaws
+pub mod ComesLaws
+pub mod ActsLaws
