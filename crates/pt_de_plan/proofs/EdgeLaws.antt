@@ -1,18 +1,18 @@
 -- The edges from children to those that they feed at the same tag, by the places at which channels end.
-use Rattle.std.proofs.Common.{◌≡◌, ◌⊎◌, ℕ, zero, suc, ◌+◌, ◌-◌, ◌<◌, ◌≤◌, List, [], ◌∷◌, ◌++◌, Bool, true, false, nat_lt, length, map, slice_range, take, drop, get_or, Contains, Option, Some, None, if◌then◌else◌, inl, inr, refl, sym, ap, ap₂, subst, ◌∙◌, arith, append_assoc, append-nil, length-drop}
+use Rattle.std.proofs.Common.{◌≡◌, ℕ, zero, suc, ◌+◌, ◌-◌, ◌<◌, List, [], ◌∷◌, ◌++◌, Bool, true, false, nat_lt, length, map, slice_range, take, drop, get_or, Contains, Option, Some, None, if◌then◌else◌, inl, inr, refl, sym, ap, ap₂, subst, ◌∙◌, arith, append_assoc, append-nil, length-drop}
 use Rattle.std.proofs.lemmas.Bool.Decides.{nat_tests}
 use Rattle.std.proofs.lemmas.List.{drop-map, length-map, length-take, take-map}
 use Rattle.std.proofs.lemmas.List.Elements.{Contains-append_left, Contains-append_right, Contains-append_cases}
 use Rattle.pt_meaning.specs.Streams.{get}
-use Rattle.pt_meaning.specs.Net.{Source, Own, Output, Net}
+use Rattle.pt_meaning.specs.Net.{Source, Own, Output}
 use Rattle.pt_meaning.specs.Running.{total}
 use Rattle.pt_meaning.specs.Closed.{if_there}
-use Rattle.pt_laws.specs.Channels.{further, channel_at, source_in}
+use Rattle.pt_laws.specs.Channels.{further, channel_at}
 use Rattle.pt_laws.specs.TickRuns.{places_at}
 use Rattle.pt_laws.proofs.Indexed.{drop-more}
 use Rattle.pt_core.specs.Source.{source_of}
 use Rattle.pt_core.specs.declared.source.Source as core
-use Rattle.pt_events.proofs.LeastLaws.{contains-head, contains-tail, contains-cases}
+use Rattle.pt_events.proofs.LeastLaws.{contains-head, contains-cases}
 use Rattle.pt_de_laws.proofs.PlaceLaws.{get-or-map, get-short, places-later}
 use Rattle.pt_de_plan.specs.Edges.{edge_of, edges_to, edges_from}
 

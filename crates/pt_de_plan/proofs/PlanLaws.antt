@@ -1,5 +1,5 @@
 -- Depths by edges are the depths of the children, and with them a plan is lawful; where there is a loop none is.
-use Rattle.std.proofs.Common.{◌≡◌, ◌⊎◌, ℕ, zero, suc, ◌+◌, ◌-◌, ◌<◌, ◌≤◌, max, List, [], ◌∷◌, Bool, true, false, nat_lt, length, map, get_or, All, Contains, Some, inl, inr, refl, sym, ap, subst, ◌∙◌, arith}
+use Rattle.std.proofs.Common.{◌≡◌, ℕ, zero, suc, ◌+◌, ◌-◌, ◌<◌, ◌≤◌, List, [], ◌∷◌, Bool, nat_lt, length, get_or, All, Contains, Some, inl, inr, sym, subst, ◌∙◌, arith}
 use Rattle.std.specs.Prelude.{IfErr, IfOk, Result, Ok, Err, Vec}
 use Rattle.std.specs.Global.{Global}
 use Rattle.std.proofs.lemmas.Bool.{cases_Bool}
@@ -10,9 +10,7 @@ use Rattle.pt_meaning.specs.Streams.{get}
 use Rattle.pt_meaning.specs.Net as net
 use Rattle.pt_meaning.specs.Valuation.{TickPlan}
 use Rattle.pt_laws.specs.StartedRuns.{IsThere}
-use Rattle.pt_laws.specs.TickRuns.{places_at}
 use Rattle.pt_core.specs.Source.{source_of}
-use Rattle.pt_core.specs.declared.source.Source.{Source}
 use Rattle.pt_events.specs.declared.depth.DepthFault.{DepthFault}
 use Rattle.pt_events.specs.declared.depth.DepthFault.TheVariants.{Loop, Memory}
 use Rattle.pt_events.specs.Depths as graph
@@ -27,7 +25,7 @@ use Rattle.pt_de_plan.specs.Inside.{plan_of, roles_of, IsInside}
 use Rattle.pt_de_plan.specs.Feeds.{FeedsAtOnce, IsZeroDelayLoop}
 use Rattle.pt_de_plan.specs.Depths.{AreDepthsIn, FaultStands}
 use Rattle.pt_de_plan.specs.Edges.{edges_from}
-use Rattle.pt_de_plan.proofs.EdgeLaws.{Channel, Edge, channel-edge, edge-channel, among}
+use Rattle.pt_de_plan.proofs.EdgeLaws.{Edge, channel-edge, edge-channel, among}
 
 -- ---- edges and what they say
 
