@@ -2,13 +2,11 @@
 use Rattle.std.proofs.Common.{◌≡◌, ℕ, List, [], length, All, Option, Some, None, Result, Ok, Err, IfOk, refl, ap, sym, subst, arith, ◌∙◌}
 use Rattle.std.specs.List.{AllZip}
 use Rattle.pt_meaning.specs.Basics.{Path}
-use Rattle.pt_meaning.specs.Log.{Meeting}
 use Rattle.std.specs.declared.alloc.AllocError.{AllocError}
 use Rattle.pt_document.specs.declared.refusal.Refusal.{Refusal}
 use Rattle.pt_net.specs.declared.net.Net.{Net}
 use Rattle.pt_trace.specs.declared.run_end.RunEnd.{RunEnd}
 use Rattle.pt_trace.specs.Report.{Trace, Meetings, Report}
-use Rattle.pt_trace.specs.declared.meetings.Met.{Met}
 use Rattle.pt_trace.specs.ReportText.{report_text}
 use Rattle.pt_trace.specs.ReportForm.{AreMeetings}
 use Rattle.pt_records.specs.Made.{made_if, meets_of}
