@@ -1,0 +1,9 @@
+pub mod Fills
+pub mod MarkLaws
+pub mod LineLaws
+pub mod ChannelLaws
+pub mod OffsetLaws
+pub mod FeedLaws
+pub mod FirstLaws
+pub mod GivenLaws
+pub mod ReaderLaws

@@ -1,0 +1,13 @@
+use Rattle.std.proofs.Common.{◌≡◌, ℕ, ◌<◌, ◌≤◌, length, drop, get_or}
+use Rattle.pt_meaning.specs.Streams.{at}
+use Rattle.pt_reaction.specs.Channels.{spare_at}
+use Rattle.pt_reaction.specs.Feeds.{no_feed}
+use Rattle.pt_reaction.specs.Given.{gifts}
+use Rattle.pt_reaction.proofs.given.stage_inputs.Given as goal
+
+abbrev pub invariant-loop-k : goal.invariant-loop-k
+invariant-loop-k l = record {
+  lists : l.channels.lists ≡ l.fn.channels.lists;
+  staged : l.staged.items ≡ gifts (at l.inputs) (drop l.k l.feeds);
+  room : (j : ℕ) → l.k ≤ j → j < length l.feeds → length (at l.inputs (get_or l.feeds j no_feed).port) ≤ spare_at l.channels.spares (get_or l.feeds j no_feed).channel;
+}
