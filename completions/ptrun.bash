@@ -2,14 +2,14 @@
 _ptrun() {
   local word=${COMP_WORDS[COMP_CWORD]} before=${COMP_WORDS[COMP_CWORD - 1]}
   COMPREPLY=()
-  if [[ $before == --budget ]]; then
+  if [[ $before == --budget || $before == --workers ]]; then
     return
   elif ((COMP_CWORD == 1)); then
     local first="run --help --version"
     [[ ${COMP_WORDS[0]##*/} == ptrun ]] && first="$first --rebuild"
     mapfile -t COMPREPLY < <(compgen -W "$first" -- "$word")
   elif [[ $word == -* ]]; then
-    mapfile -t COMPREPLY < <(compgen -W "--budget --help" -- "$word")
+    mapfile -t COMPREPLY < <(compgen -W "--budget --workers --help" -- "$word")
   elif [[ $before == --rebuild ]]; then
     mapfile -t COMPREPLY < <(compgen -W "run" -- "$word")
   else
