@@ -2,16 +2,16 @@
 _ptrun() {
   local word=${COMP_WORDS[COMP_CWORD]} before=${COMP_WORDS[COMP_CWORD - 1]}
   COMPREPLY=()
-  if [[ $before == --budget || $before == --workers ]]; then
+  if [[ $before == --budget || $before == --workers || $before == gen || $before == demo ]]; then
     return
   elif ((COMP_CWORD == 1)); then
-    local first="run --help --version"
+    local first="run gen demo --help --version"
     [[ ${COMP_WORDS[0]##*/} == ptrun ]] && first="$first --rebuild"
     mapfile -t COMPREPLY < <(compgen -W "$first" -- "$word")
   elif [[ $word == -* ]]; then
     mapfile -t COMPREPLY < <(compgen -W "--budget --workers --help" -- "$word")
   elif [[ $before == --rebuild ]]; then
-    mapfile -t COMPREPLY < <(compgen -W "run" -- "$word")
+    mapfile -t COMPREPLY < <(compgen -W "run gen demo" -- "$word")
   else
     compopt -o filenames 2>/dev/null
     mapfile -t COMPREPLY < <(

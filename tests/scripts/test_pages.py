@@ -40,9 +40,9 @@ class Manual(unittest.TestCase):
 
 class Completions(unittest.TestCase):
     def test_the_first_word(self) -> None:
-        self.assertEqual(completed("bin/ptrun", ""), {"run", "--help", "--version", "--rebuild"})
+        self.assertEqual(completed("bin/ptrun", ""), {"run", "gen", "demo", "--help", "--version", "--rebuild"})
         self.assertEqual(completed("bin/ptrun", "--r"), {"--rebuild"})
-        self.assertEqual(completed("bin/try", ""), {"run", "--help", "--version"})
+        self.assertEqual(completed("bin/try", ""), {"run", "gen", "demo", "--help", "--version"})
 
     def test_models_and_options(self) -> None:
         self.assertEqual(completed("bin/ptrun", "run", "examples/ramp"), {"examples/ramp_scale.json"})

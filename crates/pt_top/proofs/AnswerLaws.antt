@@ -5,40 +5,44 @@ use Rattle.pt_document.specs.Document.{JobTree}
 use Rattle.pt_moml.specs.Reading.{IsJobOf}
 use Rattle.pt_document.specs.declared.code.Code.TheVariants as code
 use Rattle.pt_moml.specs.Stands as reading
+use Rattle.pt_write.specs.Text.{document_text}
+use Rattle.pt_gen.specs.Generated.{generated}
 use Rattle.pt_net.specs.declared.net.Net.{Net}
 use Rattle.pt_net.specs.Net.{IsNetOf}
 use Rattle.pt_top.specs.declared.report.Reply.{Reply}
+use Rattle.pt_top.specs.declared.form.Form.{Form}
+use Rattle.pt_top.specs.declared.form.Form.TheVariants as form
 use Rattle.pt_top.specs.declared.status.Status.{Status}
 use Rattle.pt_top.specs.declared.status.Status.TheVariants.{Done, Words, Document, Fault, Budget, Read, Write, Memory, Queue, Length}
 use Rattle.pt_order.specs.Laws.{IsNetOfDocument}
 use Rattle.pt_model.proofs.TypedLaws.{models-keep-types}
 use Rattle.pt_top.specs.Reply.{IsReport, AnswersNet}
-use Rattle.pt_top.specs.Outcome.{in_links, in_net, IsReportOf, AnswersJob, Answers, IsWellLinked, IsFaultless, IsDueFor, limit}
+use Rattle.pt_top.specs.Outcome.{in_links, in_net, IsReportOf, AnswersJob, AnswersAs, IsWellLinked, IsFaultless, IsDueFor, generated_text, limit}
 
-from-net : (job : JobTree) (net : Net) (budget : ℕ) → IsNetOf job net → IsWellLinked job → (s : Status) (text : List ℕ) → AnswersNet net budget s text → AnswersJob job budget s text
-from-net job net budget n c Done text a = (net, n, c, a)
-from-net job net budget n c Fault text a = (net, n, c, a)
-from-net job net budget n c Budget text a = (net, n, c, a)
-from-net job net budget n c Document text a = (a.0, inr (net, n, c, a.1), a.2)
-from-net job net budget n c Words text a = absurd a
-from-net job net budget n c Read text a = absurd a
-from-net job net budget n c Write text a = absurd a
-from-net job net budget n c Memory text a = absurd a
-from-net job net budget n c Queue text a = absurd a
-from-net job net budget n c Length text a = absurd a
+from-net : (f : Form) (job : JobTree) (net : Net) (budget : ℕ) → IsNetOf job net → IsWellLinked job → (s : Status) (text : List ℕ) → AnswersNet f net budget s text → AnswersJob f job budget s text
+from-net f job net budget n c Done text a = (net, n, c, a)
+from-net f job net budget n c Fault text a = (net, n, c, a)
+from-net f job net budget n c Budget text a = (net, n, c, a)
+from-net f job net budget n c Document text a = (a.0, inr (net, n, c, a.1), a.2)
+from-net f job net budget n c Words text a = absurd a
+from-net f job net budget n c Read text a = absurd a
+from-net f job net budget n c Write text a = absurd a
+from-net f job net budget n c Memory text a = absurd a
+from-net f job net budget n c Queue text a = absurd a
+from-net f job net budget n c Length text a = absurd a
 
 -- the answer to a net answers its job
-pub net-answers : (job : JobTree) (net : Net) (budget : ℕ) (reply : Result Reply AllocError) → IsNetOf job net → IsWellLinked job → IfOk reply (λ r. AnswersNet net budget r.status r.text.items) → IfOk reply (λ r. AnswersJob job budget r.status r.text.items)
-net-answers job net budget (Ok r) n c a = from-net job net budget n c r.status r.text.items a
-net-answers job net budget (Err e) n c a = tt
+pub net-answers : (f : Form) (job : JobTree) (net : Net) (budget : ℕ) (reply : Result Reply AllocError) → IsNetOf job net → IsWellLinked job → IfOk reply (λ r. AnswersNet f net budget r.status r.text.items) → IfOk reply (λ r. AnswersJob f job budget r.status r.text.items)
+net-answers f job net budget (Ok r) n c a = from-net f job net budget n c r.status r.text.items a
+net-answers f job net budget (Err e) n c a = tt
 
 -- no link of a document is at fault whose net this is
 pub net-of-document : (bytes : List ℕ) (job : JobTree) (net : Net) → IsJobOf bytes job → IsNetOf job net → IsWellLinked job → IsNetOfDocument net
 net-of-document bytes job net j n l = record { bytes = bytes; job = job; read = j; made = n; clean = λ path h. l code.Link path h }
 
 -- a report of the net of a document is that of the document
-reported : (bytes : List ℕ) (job : JobTree) (budget : ℕ) → IsJobOf bytes job → reading.IsClean bytes → (s : Status) (text : List ℕ) (net : Net) → IsNetOf job net → IsWellLinked job → IsReport net budget s text → IsReportOf bytes budget s text
-reported bytes job budget j c s text net n l a = record {
+reported : (f : Form) (bytes : List ℕ) (job : JobTree) (budget : ℕ) → IsJobOf bytes job → reading.IsClean bytes → (s : Status) (text : List ℕ) (net : Net) → IsNetOf job net → IsWellLinked job → IsReport f net budget s text → IsReportOf f bytes budget s text
+reported f bytes job budget j c s text net n l a = record {
   job = job;
   net = net;
   accepted = record { is_job = j; is_net = n; well_formed = c; well_linked = l };
@@ -46,32 +50,32 @@ reported bytes job budget j c s text net n l a = record {
   typed = models-keep-types net a.top a.job (net-of-document bytes job net j n l) a.is_model;
 }
 
-from-job : (bytes : List ℕ) (job : JobTree) (budget : ℕ) → IsJobOf bytes job → reading.IsClean bytes → (s : Status) (text : List ℕ) → AnswersJob job budget s text → Answers bytes budget s text
-from-job bytes job budget j c Done text (net, n, l, a) = reported bytes job budget j c Done text net n l a
-from-job bytes job budget j c Fault text (net, n, l, a) = reported bytes job budget j c Fault text net n l a
-from-job bytes job budget j c Budget text (net, n, l, a) = reported bytes job budget j c Budget text net n l a
-from-job bytes job budget j c Document text (r, inl h, t) = (r, in_links job j c h, t)
-from-job bytes job budget j c Document text (r, inr (net, n, l, h), t) = (r, in_net job net (record { is_job = j; is_net = n; well_formed = c; well_linked = l }) h, t)
-from-job bytes job budget j c Words text a = absurd a
-from-job bytes job budget j c Read text a = absurd a
-from-job bytes job budget j c Write text a = absurd a
-from-job bytes job budget j c Memory text a = absurd a
-from-job bytes job budget j c Queue text a = absurd a
-from-job bytes job budget j c Length text a = absurd a
+from-job : (f : Form) (bytes : List ℕ) (job : JobTree) (budget : ℕ) → IsJobOf bytes job → reading.IsClean bytes → (s : Status) (text : List ℕ) → AnswersJob f job budget s text → AnswersAs f bytes budget s text
+from-job f bytes job budget j c Done text (net, n, l, a) = reported f bytes job budget j c Done text net n l a
+from-job f bytes job budget j c Fault text (net, n, l, a) = reported f bytes job budget j c Fault text net n l a
+from-job f bytes job budget j c Budget text (net, n, l, a) = reported f bytes job budget j c Budget text net n l a
+from-job f bytes job budget j c Document text (r, inl h, t) = (r, in_links job j c h, t)
+from-job f bytes job budget j c Document text (r, inr (net, n, l, h), t) = (r, in_net job net (record { is_job = j; is_net = n; well_formed = c; well_linked = l }) h, t)
+from-job f bytes job budget j c Words text a = absurd a
+from-job f bytes job budget j c Read text a = absurd a
+from-job f bytes job budget j c Write text a = absurd a
+from-job f bytes job budget j c Memory text a = absurd a
+from-job f bytes job budget j c Queue text a = absurd a
+from-job f bytes job budget j c Length text a = absurd a
 
 -- the answer to a job answers the document that was read as it
-pub job-answers : (bytes : List ℕ) (job : JobTree) (budget : ℕ) (reply : Result Reply AllocError) → IsJobOf bytes job → reading.IsClean bytes → IfOk reply (λ r. AnswersJob job budget r.status r.text.items) → IfOk reply (λ r. Answers bytes budget r.status r.text.items)
-job-answers bytes job budget (Ok r) j c a = from-job bytes job budget j c r.status r.text.items a
-job-answers bytes job budget (Err e) j c a = tt
+pub job-answers : (f : Form) (bytes : List ℕ) (job : JobTree) (budget : ℕ) (reply : Result Reply AllocError) → IsJobOf bytes job → reading.IsClean bytes → IfOk reply (λ r. AnswersJob f job budget r.status r.text.items) → IfOk reply (λ r. AnswersAs f bytes budget r.status r.text.items)
+job-answers f bytes job budget (Ok r) j c a = from-job f bytes job budget j c r.status r.text.items a
+job-answers f bytes job budget (Err e) j c a = tt
 
 -- a faultless document isn't answered by a refusal
-pub never-refused : (bytes : List ℕ) (budget : ℕ) (reply : Result Reply AllocError) → IsFaultless bytes budget → IfOk reply (λ r. Answers bytes budget r.status r.text.items) → IfOk reply (λ r. (r.status ≡ Done) ⊎ (r.status ≡ Document)) → IfOk reply (λ r. r.status ≡ Done)
-never-refused bytes budget (Err e) f a h = tt
-never-refused bytes budget (Ok r) f a (inl done) = done
-never-refused bytes budget (Ok r) f a (inr refused) = let answer = subst (λ s. Answers bytes budget s r.text.items) refused a in absurd (f.accepted answer.0 answer.1)
+pub never-refused : (f : Form) (bytes : List ℕ) (budget : ℕ) (reply : Result Reply AllocError) → IsFaultless bytes budget → IfOk reply (λ r. AnswersAs f bytes budget r.status r.text.items) → IfOk reply (λ r. (r.status ≡ Done) ⊎ (r.status ≡ Document)) → IfOk reply (λ r. r.status ≡ Done)
+never-refused f bytes budget (Err e) faultless a h = tt
+never-refused f bytes budget (Ok r) faultless a (inl done) = done
+never-refused f bytes budget (Ok r) faultless a (inr refused) = let answer = subst (λ s. AnswersAs f bytes budget s r.text.items) refused a in absurd (faultless.accepted answer.0 answer.1)
 
 -- the answer to a document that was read to its end is due
-pub document-due : (budget : ℕ) (bytes : List ℕ) (rose ended : Type 0) (s : Status) (text : List ℕ) → length bytes ≤ limit → ended → Answers bytes budget s text → IsDueFor budget bytes rose ended s text
+pub document-due : (budget : ℕ) (bytes : List ℕ) (rose ended : Type 0) (s : Status) (text : List ℕ) → length bytes ≤ limit → ended → AnswersAs form.Report bytes budget s text → IsDueFor budget bytes rose ended s text
 document-due budget bytes rose ended Done text l e a = (l, e, a)
 document-due budget bytes rose ended Fault text l e a = (l, e, a)
 document-due budget bytes rose ended Budget text l e a = (l, e, a)
@@ -86,3 +90,12 @@ document-due budget bytes rose ended Length text l e a = absurd a
 -- not one byte more than the limit
 pub within-limit : (n : ℕ) → n ≤ 16777217 → (n ≡ 16777217 → ⊥) → n ≤ limit
 within-limit n most other = grind (arith)
+
+-- the text of the generated document
+is-generated : (stages : ℕ) (text : List ℕ) → text ≡ document_text (generated stages) → text ≡ generated_text stages
+unfolding generated_text
+is-generated stages text e = e
+
+pub document-is-generated : {A : Type 0} (items : A → List ℕ) (stages : ℕ) (r : Result A AllocError) → IfOk r (λ a. items a ≡ document_text (generated stages)) → IfOk r (λ a. items a ≡ generated_text stages)
+document-is-generated items stages (Ok a) h = is-generated stages (items a) h
+document-is-generated items stages (Err e) h = tt

@@ -13,7 +13,7 @@ read-all (Some xs) None read bytes h e end = absurd h
 read-all (Some xs) (Some ys) read bytes h e end = let same : xs ≡ bytes = cc in sym (sym same ∙ h ∙ ap (λ zs. read ++ zs) end ∙ append-nil read)
 
 -- where no device failed, what is due is told
-told-due : (before after : ℕ) (old new : Option (List ℕ)) (due told : Status) (text : List ℕ) → Tells before after old new due text told → (Rose before after → ⊥) → told ≡ due
+pub told-due : (before after : ℕ) (old new : Option (List ℕ)) (due told : Status) (text : List ℕ) → Tells before after old new due text told → (Rose before after → ⊥) → told ≡ due
 told-due before after old new due told text h calm = by_case h.written
   where
     by_case : ((told ≡ due) × Appends old new text) ⊎ ((told ≡ Write) × Rose before after × (n : ℕ) × (n < length text) × Appends old new (take n text)) → told ≡ due

@@ -1,4 +1,4 @@
-pub mod Lines
 pub mod ReportLaws
 pub mod AnswerLaws
 pub mod Completeness
+pub mod TaskLaws

@@ -1,5 +1,5 @@
--- The text of a report from the parts of the report, and what a refusal answers.
-use Rattle.std.proofs.Common.{◌≡◌, ℕ, List, [], length, All, Option, Some, None, Result, Ok, Err, IfOk, refl, ap, sym, subst, arith, ◌∙◌}
+-- A report from its parts, and what a run and a refusal answer.
+use Rattle.std.proofs.Common.{◌≡◌, ◌⊎◌, inl, inr, ℕ, List, [], length, All, Option, Some, None, Result, Ok, Err, IfOk, refl, ap, sym, subst, arith, ◌∙◌}
 use Rattle.std.specs.List.{AllZip}
 use Rattle.pt_meaning.specs.Basics.{Path}
 use Rattle.std.specs.declared.alloc.AllocError.{AllocError}
@@ -7,7 +7,6 @@ use Rattle.pt_document.specs.declared.refusal.Refusal.{Refusal}
 use Rattle.pt_net.specs.declared.net.Net.{Net}
 use Rattle.pt_trace.specs.declared.run_end.RunEnd.{RunEnd}
 use Rattle.pt_trace.specs.Report.{Trace, Meetings, Report}
-use Rattle.pt_trace.specs.ReportText.{report_text}
 use Rattle.pt_trace.specs.ReportForm.{AreMeetings}
 use Rattle.pt_records.specs.Made.{made_if, meets_of}
 use Rattle.pt_node.specs.Shown.{Shown}
@@ -18,21 +17,47 @@ use Rattle.pt_trees.specs.Ports.{recorded_ports, told_of}
 use Rattle.pt_trees.specs.Report.{end_of}
 use Rattle.pt_trees.specs.Meetings.{TellsAt, lines_of, TellMeetings}
 use Rattle.pt_elaboration.specs.Refused.{IsRefused}
+use Rattle.pt_trees.specs.declared.ended.Ended.TheVariants as ended
+use Rattle.pt_top.specs.declared.form.Form.{Form}
 use Rattle.pt_top.specs.declared.report.Reply.{Reply}
-use Rattle.pt_top.specs.declared.status.Status.TheVariants.{Document}
-use Rattle.pt_top.specs.Reply.{refusal_text, report_of, AnswersNet}
+use Rattle.pt_top.specs.declared.status.Status.{Status}
+use Rattle.pt_top.specs.declared.status.Status.TheVariants.{Done, Document}
+use Rattle.pt_top.specs.Reply.{refusal_text, status_of, report_of, IsReport, AnswersNet}
 
-pub same-text : (net : Net) (top : Shown) (e : Ended) (count : ℕ) (r : Report) → count ≡ length net.recorded.items → r.traces ≡ told_of (recorded_ports count top) → r.meetings ≡ [] → r.end ≡ end_of e → report_text r ≡ report_text (report_of net [] top e)
-same-text net top e count r counted traces meetings end =
+made : List Trace → List Meetings → RunEnd → Report
+made traces meetings end = record { traces = traces; meetings = meetings; end = end }
+
+pub same-report : (net : Net) (top : Shown) (e : Ended) (count : ℕ) (r : Report) → count ≡ length net.recorded.items → r.traces ≡ told_of (recorded_ports count top) → r.meetings ≡ [] → r.end ≡ end_of e → r ≡ report_of net [] top e
+unfolding made
+same-report net top e count r counted traces meetings end =
     let told = told_of (recorded_ports (length net.recorded.items) top) in
-    ap (λ (ts : List Trace). report_text (record { traces = ts; meetings = r.meetings; end = r.end })) (traces ∙ ap (λ n. told_of (recorded_ports n top)) counted) ∙
-    ap (λ (ms : List Meetings). report_text (record { traces = told; meetings = ms; end = r.end })) meetings ∙
-    ap (λ (x : RunEnd). report_text (record { traces = told; meetings = []; end = x })) end
+    ap (λ ts. made ts r.meetings r.end) (traces ∙ ap (λ n. told_of (recorded_ports n top)) counted) ∙ ap (λ ms. made told ms r.end) meetings ∙ ap (λ x. made told [] x) end
+
+-- what is told of a run answers its net, by how it ended
+told-answers : (f : Form) (net : Net) (budget : ℕ) (e : Ended) (s : Status) (text : List ℕ) → s ≡ status_of e → IsReport f net budget s text → AnswersNet f net budget s text
+told-answers f net budget ended.Iterations s text e r = subst (λ x. AnswersNet f net budget x text) (sym e) (subst (λ x. IsReport f net budget x text) e r)
+told-answers f net budget ended.Inputs s text e r = subst (λ x. AnswersNet f net budget x text) (sym e) (subst (λ x. IsReport f net budget x text) e r)
+told-answers f net budget (ended.Fault place) s text e r = subst (λ x. AnswersNet f net budget x text) (sym e) (subst (λ x. IsReport f net budget x text) e r)
+told-answers f net budget (ended.Spent n) s text e r = subst (λ x. AnswersNet f net budget x text) (sym e) (subst (λ x. IsReport f net budget x text) e r)
+
+pub run-answers : (f : Form) (net : Net) (budget : ℕ) (reply : Result Reply AllocError) → IfOk reply (λ r. IsReport f net budget r.status r.text.items) → IfOk reply (λ r. AnswersNet f net budget r.status r.text.items)
+run-answers f net budget (Ok r) h = told-answers f net budget h.ended r.status r.text.items h.told h
+run-answers f net budget (Err e) h = tt
+
+-- a run that is done is done or refused
+pub done-or-refused : (reply : Result Reply AllocError) → IfOk reply (λ r. r.status ≡ Done) → IfOk reply (λ r. (r.status ≡ Done) ⊎ (r.status ≡ Document))
+done-or-refused (Ok r) h = inl h
+done-or-refused (Err e) h = tt
+
+-- and so is a refusal
+pub refused-over : (reply : Result Reply AllocError) → IfOk reply (λ r. r.status ≡ Document) → IfOk reply (λ r. (r.status ≡ Done) ⊎ (r.status ≡ Document))
+refused-over (Ok r) h = inr h
+refused-over (Err e) h = tt
 
 -- a refusal of a net answers it
-pub refusal-answers : (net : Net) (budget : ℕ) (why : Refusal) (reply : Result Reply AllocError) → IfOk reply (λ r. (r.status ≡ Document) × (r.text.items ≡ refusal_text why)) → IsRefused net why → IfOk reply (λ r. AnswersNet net budget r.status r.text.items)
-refusal-answers net budget why (Ok r) h stands = subst (λ s. AnswersNet net budget s r.text.items) (sym h.0) (why, stands, h.1)
-refusal-answers net budget why (Err e) h stands = tt
+pub refusal-answers : (f : Form) (net : Net) (budget : ℕ) (why : Refusal) (reply : Result Reply AllocError) → IfOk reply (λ r. (r.status ≡ Document) × (r.text.items ≡ refusal_text why)) → IsRefused net why → IfOk reply (λ r. AnswersNet f net budget r.status r.text.items)
+refusal-answers f net budget why (Ok r) h stands = subst (λ s. AnswersNet f net budget s r.text.items) (sym h.0) (why, stands, h.1)
+refusal-answers f net budget why (Err e) h stands = tt
 
 -- the report of a node without Rendezvous within lists no meetings, and there are none
 none-lines : (n : ℕ) (path : Option (List ℕ)) → lines_of n path [] ≡ []

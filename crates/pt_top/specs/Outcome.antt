@@ -3,19 +3,24 @@ use Rattle.std.specs.Prelude.{◌≡◌, ◌⊎◌, ℕ, ◌+◌, ◌<◌, ◌�
 use Rattle.std.specs.Io.KnownBytes.{Appends}
 use Rattle.pt_io.specs.Causes.{Rose}
 use Rattle.pt_words.specs.declared.line.Line.{Line}
-use Rattle.pt_words.specs.declared.line.Task.TheVariants.{Run}
+use Rattle.pt_words.specs.declared.line.Task.{Task}
+use Rattle.pt_words.specs.declared.line.Task.TheVariants.{Run, Check, Generate, Demonstrate}
 use Rattle.pt_words.specs.Parts.{IsLineFor}
 use Rattle.pt_document.specs.declared.refusal.Refusal.{Refusal}
 use Rattle.pt_document.specs.declared.code.Code.{Code}
 use Rattle.pt_document.specs.Document.{JobTree}
 use Rattle.pt_moml.specs.Reading.{IsJobOf}
 use Rattle.pt_moml.specs.Stands as reading
+use Rattle.pt_write.specs.Text.{document_text}
+use Rattle.pt_gen.specs.Generated.{generated}
 use Rattle.pt_net.specs.declared.net.Net.{Net}
 use Rattle.pt_net.specs.Net.{IsNetOf}
 use Rattle.pt_net.specs.Stands as linking
 use Rattle.pt_elaboration.specs.Refused as unmodelled
 use Rattle.pt_model.specs.Typed.{KeepsTypes}
 use Rattle.pt_top.specs.Reply.{line, refusal_text, IsReport, IsAffordableNet}
+use Rattle.pt_top.specs.declared.form.Form.{Form}
+use Rattle.pt_top.specs.declared.form.Form.TheVariants as form
 use Rattle.pt_top.specs.declared.status.Status.{Status}
 use Rattle.pt_top.specs.declared.status.Status.TheVariants as status
 use Rattle.pt_top.specs.declared.status.Status.TheVariants.{Done, Document, Fault, Budget, Read, Write, Memory, Length}
@@ -39,30 +44,30 @@ pub data IsRefused (bytes : List ℕ) (r : Refusal) : Type 0 where
   in_links : (job : JobTree) → IsJobOf bytes job → reading.IsClean bytes → linking.Stands r.code r.path job → IsRefused bytes r
   in_net : (job : JobTree) (net : Net) → HasNet bytes job net → unmodelled.IsRefused net r → IsRefused bytes r
 
--- The report of a run of a document within a budget. In the meaning of its model no finished firing took or gave a token of another type than its port's.
-pub record IsReportOf (bytes : List ℕ) (budget : ℕ) (status : Status) (text : List ℕ) : Type 0 where
+-- A run of a document within a budget, told in a form. In the meaning of its model no finished firing took or gave a token of another type than its port's.
+pub record IsReportOf (form : Form) (bytes : List ℕ) (budget : ℕ) (status : Status) (text : List ℕ) : Type 0 where
   pub job : JobTree
   pub net : Net
   pub accepted : HasNet bytes job net
-  pub report : IsReport net budget status text
+  pub report : IsReport form net budget status text
   pub typed : KeepsTypes net report.top report.job report.is_model
 
--- A status and its text answer a job.
-abbrev pub AnswersJob : JobTree → (budget : ℕ) → Status → List ℕ → Type 0
-AnswersJob job budget Done text = (net : Net) × IsNetOf job net × IsWellLinked job × IsReport net budget Done text
-AnswersJob job budget Fault text = (net : Net) × IsNetOf job net × IsWellLinked job × IsReport net budget Fault text
-AnswersJob job budget Budget text = (net : Net) × IsNetOf job net × IsWellLinked job × IsReport net budget Budget text
-AnswersJob job budget Document text = (r : Refusal) × (linking.Stands r.code r.path job ⊎ ((net : Net) × IsNetOf job net × IsWellLinked job × unmodelled.IsRefused net r)) × (text ≡ refusal_text r)
-AnswersJob job budget _ text = ⊥
+-- A status and its text answer a job in a form.
+abbrev pub AnswersJob : Form → JobTree → (budget : ℕ) → Status → List ℕ → Type 0
+AnswersJob f job budget Done text = (net : Net) × IsNetOf job net × IsWellLinked job × IsReport f net budget Done text
+AnswersJob f job budget Fault text = (net : Net) × IsNetOf job net × IsWellLinked job × IsReport f net budget Fault text
+AnswersJob f job budget Budget text = (net : Net) × IsNetOf job net × IsWellLinked job × IsReport f net budget Budget text
+AnswersJob f job budget Document text = (r : Refusal) × (linking.Stands r.code r.path job ⊎ ((net : Net) × IsNetOf job net × IsWellLinked job × unmodelled.IsRefused net r)) × (text ≡ refusal_text r)
+AnswersJob f job budget _ text = ⊥
 
--- A status and its text answer a document.
-abbrev pub Answers : List ℕ → (budget : ℕ) → Status → List ℕ → Type 0
-Answers bytes budget Done text = IsReportOf bytes budget Done text
-Answers bytes budget Fault text = IsReportOf bytes budget Fault text
-Answers bytes budget Budget text = IsReportOf bytes budget Budget text
-Answers bytes budget Document text = (r : Refusal) × IsRefused bytes r × (text ≡ refusal_text r)
-Answers bytes budget Memory text = text ≡ line (codes "refused memory")
-Answers bytes budget _ text = ⊥
+-- A status and its text answer a document in a form.
+abbrev pub AnswersAs : Form → List ℕ → (budget : ℕ) → Status → List ℕ → Type 0
+AnswersAs f bytes budget Done text = IsReportOf f bytes budget Done text
+AnswersAs f bytes budget Fault text = IsReportOf f bytes budget Fault text
+AnswersAs f bytes budget Budget text = IsReportOf f bytes budget Budget text
+AnswersAs f bytes budget Document text = (r : Refusal) × IsRefused bytes r × (text ≡ refusal_text r)
+AnswersAs f bytes budget Memory text = text ≡ line (codes "refused memory")
+AnswersAs f bytes budget _ text = ⊥
 
 -- No refusal of the document stands, and no model of its net is stuck anywhere or comes to the budget.
 pub record IsFaultless (bytes : List ℕ) (budget : ℕ) : Type 0 where
@@ -78,26 +83,51 @@ IsReported told = (told ≡ Done) ⊎ (told ≡ Memory)
 abbrev pub limit : ℕ
 limit = 16777216
 
--- the words are a line that reads a document and runs it within this budget
-abbrev pub IsRunLine : List (List ℕ) → (budget : ℕ) → Type 0
-IsRunLine words budget = (l : Line) × IsLineFor words l × (l.task ≡ Run) × (l.budget ≡ budget)
-
 -- A status and its text are due for a run within a budget, where these bytes were taken from the source.
 abbrev pub IsDueFor : (budget : ℕ) → List ℕ → (rose ended : Type 0) → Status → List ℕ → Type 0
 IsDueFor budget bytes rose ended Read text = rose × (length bytes ≤ limit) × (text ≡ line (codes "refused read"))
 IsDueFor budget bytes rose ended Length text = (length bytes ≡ limit + 1) × (text ≡ line (codes "refused length"))
 IsDueFor budget bytes rose ended Memory text = (length bytes ≤ limit) × (text ≡ line (codes "refused memory"))
-IsDueFor budget bytes rose ended Done text = (length bytes ≤ limit) × ended × Answers bytes budget Done text
-IsDueFor budget bytes rose ended Fault text = (length bytes ≤ limit) × ended × Answers bytes budget Fault text
-IsDueFor budget bytes rose ended Budget text = (length bytes ≤ limit) × ended × Answers bytes budget Budget text
-IsDueFor budget bytes rose ended Document text = (length bytes ≤ limit) × ended × Answers bytes budget Document text
+IsDueFor budget bytes rose ended Done text = (length bytes ≤ limit) × ended × AnswersAs form.Report bytes budget Done text
+IsDueFor budget bytes rose ended Fault text = (length bytes ≤ limit) × ended × AnswersAs form.Report bytes budget Fault text
+IsDueFor budget bytes rose ended Budget text = (length bytes ≤ limit) × ended × AnswersAs form.Report bytes budget Budget text
+IsDueFor budget bytes rose ended Document text = (length bytes ≤ limit) × ended × AnswersAs form.Report bytes budget Document text
 IsDueFor budget bytes rose ended _ text = ⊥
 
--- The same for any words: those that are no such line are refused, and nothing is taken. No other line is built yet.
+-- the document of the generated job of so many stages
+unfoldable pub generated_text : (stages : ℕ) → List ℕ
+generated_text stages = document_text (generated stages)
+
+-- the generated document is written, or memory ran out
+abbrev pub IsGenerated : (stages : ℕ) → Status → List ℕ → Type 0
+IsGenerated stages Done text = text ≡ generated_text stages
+IsGenerated stages Memory text = text ≡ line (codes "refused memory")
+IsGenerated stages _ text = ⊥
+
+-- the words are refused
+abbrev pub AreRefused : Status → List ℕ → Type 0
+AreRefused s text = (s ≡ status.Words) × (text ≡ line (codes "refused words"))
+
+-- The same for any task. A run of the generated document is told by a summary. A check isn't built yet, and its word is refused.
+pub data IsDueForTask (task : Task) (budget : ℕ) (bytes : List ℕ) (rose ended : Type 0) (s : Status) (text : List ℕ) : Type 0 where
+  for_run : task ≡ Run → IsDueFor budget bytes rose ended s text → IsDueForTask task budget bytes rose ended s text
+  for_check : task ≡ Check → bytes ≡ [] → AreRefused s text → IsDueForTask task budget bytes rose ended s text
+  for_generation : (stages : ℕ) → task ≡ Generate stages → bytes ≡ [] → IsGenerated stages s text → IsDueForTask task budget bytes rose ended s text
+  for_demonstration : (stages : ℕ) → task ≡ Demonstrate stages → bytes ≡ [] → AnswersAs form.Summary (generated_text stages) budget s text → IsDueForTask task budget bytes rose ended s text
+
+-- The same for any words: those that are no line are refused, and nothing is taken.
 abbrev pub IsDue : List (List ℕ) → List ℕ → (rose ended : Type 0) → Status → List ℕ → Type 0
 IsDue words bytes rose ended s text =
-    ((budget : ℕ) × IsRunLine words budget × IsDueFor budget bytes rose ended s text) ⊎
-    ((s ≡ status.Words) × ((budget : ℕ) → IsRunLine words budget → ⊥) × (bytes ≡ []) × (text ≡ line (codes "refused words")))
+    ((l : Line) × IsLineFor words l × IsDueForTask l.task l.budget bytes rose ended s text) ⊎ (((l : Line) → IsLineFor words l → ⊥) × (bytes ≡ []) × AreRefused s text)
+
+-- a task that reads a document
+abbrev pub Reads : Task → Type 0
+Reads Run = Unit {0}
+Reads _ = ⊥
+
+-- the words are a line that reads a document
+abbrev pub DoRead : List (List ℕ) → Type 0
+DoRead words = (l : Line) × IsLineFor words l × Reads l.task
 
 -- The text went out whole and its status was told, or a write failed behind a part of it.
 pub record Tells (before after : ℕ) (old new : Option (List ℕ)) (due : Status) (text : List ℕ) (told : Status) : Type 0 where
@@ -109,6 +139,13 @@ abbrev pub IsCompleteFor : (budget : ℕ) → (left : Option (List ℕ)) → (re
 IsCompleteFor budget left read_rose written_rose told =
     (bytes : List ℕ) → left ≡ Some bytes → length bytes ≤ limit → IsFaultless bytes budget → (read_rose → ⊥) → (written_rose → ⊥) → IsReported told
 
--- The same for any words, with the budget that they give.
+-- No device failed, so a generated document is written, its run is told if it is faultless within the budget, or memory ran out.
+abbrev pub IsCompleteForTask : Task → (budget : ℕ) → (left : Option (List ℕ)) → (read_rose written_rose : Type 0) → Status → Type 0
+IsCompleteForTask Run budget left read_rose written_rose told = IsCompleteFor budget left read_rose written_rose told
+IsCompleteForTask Check budget left read_rose written_rose told = Unit {0}
+IsCompleteForTask (Generate stages) budget left read_rose written_rose told = (written_rose → ⊥) → IsReported told
+IsCompleteForTask (Demonstrate stages) budget left read_rose written_rose told = IsFaultless (generated_text stages) budget → (written_rose → ⊥) → IsReported told
+
+-- The same for any words, with the task and the budget that they give.
 abbrev pub IsComplete : (words : List (List ℕ)) → (left : Option (List ℕ)) → (read_rose written_rose : Type 0) → Status → Type 0
-IsComplete words left read_rose written_rose told = (budget : ℕ) → IsRunLine words budget → IsCompleteFor budget left read_rose written_rose told
+IsComplete words left read_rose written_rose told = (l : Line) → IsLineFor words l → IsCompleteForTask l.task l.budget left read_rose written_rose told

@@ -1,4 +1,4 @@
--- What is answered to a net: the report of a run of its model, or the line of a refusal.
+-- What is answered to a net: a run of its model, told by its report or by a summary, or the line of a refusal.
 use Rattle.std.specs.Prelude.{◌≡◌, ℕ, List, [], ◌∷◌, ◌++◌, length, All, codes, decimal}
 use Rattle.pt_meaning.specs.Meetings.{Meets}
 use Rattle.pt_document.specs.declared.refusal.Refusal.{Refusal}
@@ -6,6 +6,7 @@ use Rattle.pt_document.specs.Codes.{code_number, code_name}
 use Rattle.pt_net.specs.declared.net.Net.{Net}
 use Rattle.pt_trace.specs.Report.{Meetings, Report}
 use Rattle.pt_trace.specs.ReportText.{report_text}
+use Rattle.pt_trace.specs.SummaryText.{summary_text}
 use Rattle.pt_trace.specs.ReportForm.{AreMeetings}
 use Rattle.pt_node.specs.Shown.{Shown}
 use Rattle.pt_node.specs.View.{node_of, outline_of}
@@ -16,8 +17,11 @@ use Rattle.pt_trees.specs.Ports.{AreNumbered, recorded_ports, told_of}
 use Rattle.pt_trees.specs.Report.{end_of}
 use Rattle.pt_trees.specs.Meetings.{TellMeetings}
 use Rattle.pt_trees.specs.Run.{IsRun, IsAffordable}
+use Rattle.pt_run.specs.Ran.{IsCount}
 use Rattle.pt_model.specs.Model.{IsModel}
 use Rattle.pt_elaboration.specs.Refused as unmodelled
+use Rattle.pt_top.specs.declared.form.Form.{Form}
+use Rattle.pt_top.specs.declared.form.Form.TheVariants as form
 use Rattle.pt_top.specs.declared.status.Status.{Status}
 use Rattle.pt_top.specs.declared.status.Status.TheVariants.{Done, Document, Fault, Budget}
 
@@ -39,8 +43,13 @@ status_of (ended.Spent firings) = Budget
 abbrev pub report_of : Net → List Meetings → Shown → Ended → Report
 report_of net meetings top e = record { traces = told_of (recorded_ports (length net.recorded.items) top); meetings = meetings; end = end_of e }
 
--- A run of the model of a net within a budget, with its status and the text of its report. It is a run under the meetings that the lines of this report tell.
-pub record IsReport (net : Net) (budget : ℕ) (status : Status) (text : List ℕ) : Type 0 where
+-- what is written of a run that made so many firings and has this report: the report, or a summary of it
+abbrev pub text_in : Form → (firings : ℕ) → Report → List ℕ
+text_in form.Report firings report = report_text report
+text_in form.Summary firings report = summary_text firings report
+
+-- A run of the model of a net within a budget, with its status and what is written of it. It is a run under the meetings that the lines of its report tell.
+pub record IsReport (form : Form) (net : Net) (budget : ℕ) (status : Status) (text : List ℕ) : Type 0 where
   -- the tree before the run, with one recorded port for each number of those that the net records, and what the job asks of its top
   pub top : Shown
   pub job : Top
@@ -54,19 +63,21 @@ pub record IsReport (net : Net) (budget : ℕ) (status : Status) (text : List �
   pub formed : All AreMeetings meetings
   pub meets : Meets
   pub read : TellMeetings net (outline_of top) meetings meets
-  -- how the run ended, and what is told of it
+  -- how the run ended and how many firings it made, and what is told of it
   pub ended : Ended
   pub is_run : IsRun meets job budget top after ended
+  pub firings : ℕ
+  pub counted : IsCount top after firings
   pub told : status ≡ status_of ended
-  pub printed : text ≡ report_text (report_of net meetings after ended)
+  pub printed : text ≡ text_in form firings (report_of net meetings after ended)
 
--- A status and its text answer a net.
-abbrev pub AnswersNet : Net → (budget : ℕ) → Status → List ℕ → Type 0
-AnswersNet net budget Done text = IsReport net budget Done text
-AnswersNet net budget Fault text = IsReport net budget Fault text
-AnswersNet net budget Budget text = IsReport net budget Budget text
-AnswersNet net budget Document text = (r : Refusal) × unmodelled.IsRefused net r × (text ≡ refusal_text r)
-AnswersNet net budget _ text = ⊥
+-- A status and its text answer a net in a form.
+abbrev pub AnswersNet : Form → Net → (budget : ℕ) → Status → List ℕ → Type 0
+AnswersNet f net budget Done text = IsReport f net budget Done text
+AnswersNet f net budget Fault text = IsReport f net budget Fault text
+AnswersNet f net budget Budget text = IsReport f net budget Budget text
+AnswersNet f net budget Document text = (r : Refusal) × unmodelled.IsRefused net r × (text ≡ refusal_text r)
+AnswersNet f net budget _ text = ⊥
 
 -- no model of the net is stuck anywhere, and each stays below the budget
 abbrev pub IsAffordableNet : Net → (budget : ℕ) → Type 0

@@ -6,38 +6,39 @@ ghost use Rattle.pt_net.specs.declared.net.Net.{Net};
 ghost use Rattle.pt_net.specs.Net.{IsNetOf};
 ghost use Rattle.pt_top.specs.declared.status.Status.TheVariants.{Done, Document};
 ghost use Rattle.pt_top.specs.Reply.{IsAffordableNet};
-ghost use Rattle.pt_top.specs.Outcome.{Answers, AnswersJob, IsWellLinked, IsFaultless};
+ghost use Rattle.pt_top.specs.Outcome.{AnswersAs, AnswersJob, IsWellLinked, IsFaultless};
 
+use crate::form::Form;
 use crate::report::{Reply, refuse, reply_to_net};
 use pt_document::{DocFault, Job};
 use pt_graph::flatten;
 use pt_moml::read;
 use std::alloc::{AllocError, Global};
 
-/// The answer to the job of a document within a budget, unless memory runs out for it.
-fn answer_job(alloc: Global, job: &Job, budget: u64) -> Result<Reply, AllocError>
+/// The answer to the job of a document in a form, within a budget, unless memory runs out for it.
+fn answer_job(alloc: Global, form: Form, job: &Job, budget: u64) -> Result<Reply, AllocError>
     requires job { (bytes : List ℕ) × IsJobOf bytes (job_view job.now) }
     requires budget { 0 < budget }
-    ensures answers { IfOk result (λ r. AnswersJob (job_view job.now) budget r.status r.text.items) }
+    ensures answers { IfOk result (λ r. AnswersJob form (job_view job.now) budget r.status r.text.items) }
     // Where the models are affordable, what isn't done is refused.
     ensures complete { ((net : Net) → IsNetOf (job_view job.now) net → IsWellLinked (job_view job.now) → IsAffordableNet net budget)
         → IfOk result (λ r. (r.status ≡ Done) ⊎ (r.status ≡ Document)) }
 {
     match flatten(alloc, job) {
-        Ok(net) => reply_to_net(alloc, &net, budget),
+        Ok(net) => reply_to_net(alloc, form, &net, budget),
         Err(DocFault::Refused(refusal)) => refuse(alloc, &refusal),
         Err(DocFault::Memory) => Err(AllocError),
     }
 }
 
-/// The answer to a document's bytes within a budget, unless memory runs out for it.
-pub fn answer(alloc: Global, bytes: &[u8], budget: u64) -> Result<Reply, AllocError>
+/// The answer to a document's bytes in a form, within a budget, unless memory runs out for it.
+pub fn answer(alloc: Global, form: Form, bytes: &[u8], budget: u64) -> Result<Reply, AllocError>
     requires { 0 < budget }
-    ensures answers { IfOk result (λ r. Answers bytes.now budget r.status r.text.items) }
+    ensures answers { IfOk result (λ r. AnswersAs form bytes.now budget r.status r.text.items) }
     ensures complete { IsFaultless bytes.now budget → IfOk result (λ r. r.status ≡ Done) }
 {
     match read(alloc, bytes) {
-        Ok(job) => answer_job(alloc, &job, budget),
+        Ok(job) => answer_job(alloc, form, &job, budget),
         Err(DocFault::Refused(refusal)) => refuse(alloc, &refusal),
         Err(DocFault::Memory) => Err(AllocError),
     }

@@ -2,6 +2,8 @@
 #![tactic(auto)]
 
 mod answer;
+mod form;
+mod generated;
 mod report;
 mod run;
 mod status;

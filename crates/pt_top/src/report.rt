@@ -1,23 +1,27 @@
 // What is answered to a net.
-ghost use Rattle.std.specs.Prelude.{◌≡◌, ◌⊎◌, ◌<◌, length, IfOk};
+ghost use Rattle.std.specs.Prelude.{◌≡◌, ◌⊎◌, ◌<◌, ℕ, length, IfOk};
 ghost use Rattle.pt_order.specs.Laws.{IsNetOfDocument};
 ghost use Rattle.pt_node.specs.Shown.{shown_node};
 ghost use Rattle.pt_node.specs.View.{node_of};
 ghost use Rattle.pt_trees.specs.Start.{IsRunnable};
 ghost use Rattle.pt_trees.specs.Ports.{AreNumbered};
 ghost use Rattle.pt_trees.specs.Run.{IsAffordable};
+ghost use Rattle.pt_net.specs.declared.net.Net.{Net};
+ghost use Rattle.pt_elaboration.specs.Refused.{FaultStands};
 ghost use Rattle.pt_model.specs.Model.{IsModel};
+ghost use Rattle.pt_top.specs.declared.form.Form.{Form};
 ghost use Rattle.pt_top.specs.declared.status.Status.TheVariants.{Done, Document};
 ghost use Rattle.pt_top.specs.Reply as reply;
-ghost use Rattle.pt_top.specs.Reply.{refusal_text, IsReport, AnswersNet, IsAffordableNet};
+ghost use Rattle.pt_top.specs.Reply.{refusal_text, text_in, IsReport, AnswersNet, IsAffordableNet};
 
+use crate::form::Form;
 use crate::status::Status;
 use pt_document::{DocFault, Refusal};
 use pt_model::{Model, model_of};
 use pt_net::Net;
 use pt_node::Node;
 use pt_run::{numbers_stay, report, run};
-use pt_trace::text;
+use pt_trace::{Report, summary, text};
 use pt_trees::{Ended, Top};
 use std::alloc::{AllocError, Global};
 
@@ -53,9 +57,20 @@ fn status_of(ended: &Ended) -> Status
     }
 }
 
-/// Runs the model of a net within a budget, and reports the run.
+/// What is written of a run that made so many firings and has this report.
+fn told_in(alloc: Global, form: Form, report: &Report, firings: u64) -> Result<Vec<u8>, AllocError>
+    ensures { IfOk result (λ bytes. bytes.items ≡ text_in form firings report.now) }
+{
+    match form {
+        Form::Report => text(alloc, report),
+        Form::Summary => summary(alloc, report, firings),
+    }
+}
+
+/// Runs the model of a net within a budget, and tells the run.
 fn report_run(
     alloc: Global,
+    form: Form,
     net: &Net,
     top: &mut Node,
     job: &Top,
@@ -65,23 +80,25 @@ fn report_run(
     requires runnable { IsRunnable job.now (shown_node top.old) }
     requires numbered { AreNumbered (length net.now.recorded.items) (shown_node top.old) }
     requires budget { 0 < budget }
-    ensures report { IfOk result (λ r. IsReport net.now budget r.status r.text.items) }
+    ensures report { IfOk result (λ r. IsReport form net.now budget r.status r.text.items) }
     ensures complete { IsAffordable job.now budget (node_of (shown_node top.old)) → IfOk result (λ r. r.status ≡ Done) }
 {
     numbers_stay();
     let ran = run(alloc, top, job, budget)?;
+    let firings = ran.firings;
     let status = status_of(&ran.ended);
     let report = report(alloc, top, ran.ended, net.recorded.len())?;
     Ok(Reply {
         status,
-        text: text(alloc, &report)?,
+        text: told_in(alloc, form, &report, firings)?,
     })
 }
 
-/// Runs the model of a net within a budget and reports the run. The model is let go by a call, which keeps what that takes out of the
+/// The answer of a run of a net's model within a budget. The model is let go by a call, which keeps what that takes out of the
 /// proof.
-fn report_model(
+fn answer_model(
     alloc: Global,
+    form: Form,
     net: &Net,
     mut model: Model,
     budget: u64,
@@ -90,25 +107,35 @@ fn report_model(
     requires runnable { IsRunnable model.job (shown_node model.top) }
     requires numbered { AreNumbered (length net.now.recorded.items) (shown_node model.top) }
     requires budget { 0 < budget }
-    ensures report { IfOk result (λ r. IsReport net.now budget r.status r.text.items) }
-    ensures complete { IsAffordable model.job budget (node_of (shown_node model.top)) → IfOk result (λ r. r.status ≡ Done) }
+    ensures answers { IfOk result (λ r. AnswersNet form net.now budget r.status r.text.items) }
+    ensures complete { IsAffordable model.job budget (node_of (shown_node model.top)) → IfOk result (λ r. (r.status ≡ Done) ⊎ (r.status ≡ Document)) }
 {
-    let reply = report_run(alloc, net, &mut model.top, &model.job, budget);
+    let reply = report_run(alloc, form, net, &mut model.top, &model.job, budget);
     drop(model);
     reply
 }
 
-/// The answer to the net of a document within a budget, unless memory runs out for it.
-pub fn reply_to_net(alloc: Global, net: &Net, budget: u64) -> Result<Reply, AllocError>
+/// The answer to a net that has no model, unless memory ran out.
+fn answer_fault(alloc: Global, fault: DocFault) -> Result<Reply, AllocError>
+    ensures answers { (form : Form) (net : Net) (budget : ℕ) → FaultStands net fault → IfOk result (λ r. AnswersNet form net budget r.status r.text.items) }
+    ensures refused { IfOk result (λ r. r.status ≡ Document) }
+{
+    match fault {
+        DocFault::Refused(refusal) => refuse(alloc, &refusal),
+        DocFault::Memory => Err(AllocError),
+    }
+}
+
+/// The answer to the net of a document in a form, within a budget, unless memory runs out for it.
+pub fn reply_to_net(alloc: Global, form: Form, net: &Net, budget: u64) -> Result<Reply, AllocError>
     requires net { IsNetOfDocument net.now }
     requires budget { 0 < budget }
-    ensures answers { IfOk result (λ r. AnswersNet net.now budget r.status r.text.items) }
+    ensures answers { IfOk result (λ r. AnswersNet form net.now budget r.status r.text.items) }
     // Where the models are affordable, what isn't done is refused.
     ensures complete { IsAffordableNet net.now budget → IfOk result (λ r. (r.status ≡ Done) ⊎ (r.status ≡ Document)) }
 {
     match model_of(alloc, net) {
-        Ok(model) => report_model(alloc, net, model, budget),
-        Err(DocFault::Refused(refusal)) => refuse(alloc, &refusal),
-        Err(DocFault::Memory) => Err(AllocError),
+        Ok(model) => answer_model(alloc, form, net, model, budget),
+        Err(fault) => answer_fault(alloc, fault),
     }
 }

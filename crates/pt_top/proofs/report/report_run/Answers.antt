@@ -1,9 +1,10 @@
-use Rattle.std.proofs.Common.{◌≡◌, [], length, sym, subst, ◌∙◌}
+use Rattle.std.proofs.Common.{◌≡◌, [], length, ap, sym, subst, ◌∙◌}
 use Rattle.pt_records.specs.Made.{meets_of}
 use Rattle.pt_node.specs.Shown.{shown_node}
 use Rattle.pt_node.specs.View.{kept_of, outline_of}
 use Rattle.pt_trees.specs.Ports.{AreNumbered}
-use Rattle.pt_top.proofs.ReportLaws.{same-text, none-formed, none-told}
+use Rattle.pt_top.specs.Reply.{text_in}
+use Rattle.pt_top.proofs.ReportLaws.{same-report, none-formed, none-told}
 use Rattle.pt_top.proofs.report.report_run.Goals as goal
 
 -- the tree after the run has the numbers that it had before
@@ -28,6 +29,8 @@ returns-clause-report c =
       read = none-told c.args.net.now (outline_of (shown_node c.args.top.now)) (shown_node c.run.new.top);
       ended = c.in_ok-ran.ran.ended;
       is_run = c.in_ok-ran.ensures.report;
+      firings = c.in_ok-ran.ran.firings;
+      counted = c.in_ok-ran.ensures.counted;
       told = c.status_of-status.ensures;
-      printed = c.in_ok-text.ensures ∙ same-text c.args.net.now (shown_node c.run.new.top) c.in_ok-ran.ran.ended c.len.result c.in_ok-report.report counted c.in_ok-report.ensures.traces c.in_ok-report.ensures.meetings c.in_ok-report.ensures.end;
+      printed = c.in_ok-told_in.ensures ∙ ap (λ r. text_in c.args.form c.in_ok-ran.ran.firings r) (same-report c.args.net.now (shown_node c.run.new.top) c.in_ok-ran.ran.ended c.len.result c.in_ok-report.report counted c.in_ok-report.ensures.traces c.in_ok-report.ensures.meetings c.in_ok-report.ensures.end);
     }

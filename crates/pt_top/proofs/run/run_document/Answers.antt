@@ -1,7 +1,8 @@
 use Rattle.std.proofs.Common.{◌≡◌, List, ℕ, length, subst, ◌∙◌}
 use Rattle.std.specs.Io.KnownBytes.{IsAtEnd}
 use Rattle.pt_io.specs.Causes.{Rose}
-use Rattle.pt_top.specs.Outcome.{Answers, IsFaultless, IsReported}
+use Rattle.pt_top.specs.declared.form.Form.TheVariants as form
+use Rattle.pt_top.specs.Outcome.{AnswersAs, IsFaultless, IsReported}
 use Rattle.pt_top.proofs.AnswerLaws.{document-due, within-limit}
 use Rattle.pt_top.proofs.Completeness.{complete-due}
 use Rattle.pt_top.proofs.run.run_document.Goals as goal
@@ -13,7 +14,7 @@ returns-in-Ok-clause-outcome g c =
     let (bytes, consumed, is, most, long) = c.in-Ok.ensures.taken in
     let short = within-limit (length bytes) most (λ e. absurd (let never = long.1 e in cc)) in
     let same : c.deref.result.now ≡ bytes = c.deref.ensures.value ∙ is in
-    let answered = subst (λ (xs : List ℕ). Answers xs c.args.budget due text) same answers in
+    let answered = subst (λ (xs : List ℕ). AnswersAs form.Report xs c.args.budget due text) same answers in
     let is_due = document-due c.args.budget bytes (Rose (g.S.Source.faults c.args.source.now) (g.S.Source.faults c.read_all.new.source)) (IsAtEnd (g.S.Source.left c.read_all.new.source)) due text short c.in-Ok.ensures.ok answered in
     (due, text, bytes, consumed, is_due, tells)
 
