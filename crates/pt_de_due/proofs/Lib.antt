@@ -1,0 +1,10 @@
+pub mod Examples
+pub mod ReaderLaws
+pub mod ComesLaws
+pub mod EmptiedLaws
+pub mod GainedLaws
+pub mod PutLaws
+pub mod TurnLaws
+pub mod CallLaws
+pub mod FirstLaws
+pub mod CountLaws
