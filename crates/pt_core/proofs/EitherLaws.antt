@@ -2,6 +2,7 @@
 use Rattle.std.proofs.Common.{◌≡◌, ℕ, List, length, map, not, Option, Some, ap}
 use Rattle.pt_meaning.specs.Tag.{Tag}
 use Rattle.pt_meaning.specs.Streams.{Streams}
+use Rattle.pt_meaning.specs.Machine.{Need}
 use Rattle.pt_meaning.specs.Tree.{Rows, Node, list_of, nodes_of, reset_of}
 use Rattle.pt_meaning.specs.NodeFacts.{core_wake, wakes_of}
 use Rattle.pt_value.specs.declared.token.Token.{Token}
@@ -29,17 +30,17 @@ module _ {A B : Type 0} (a : Calls A) (b : Calls B) (la : CallsAgree a) (lb : Ca
   hands-one (First s) i e = la.hands s i e
   hands-one (Other s) i e = lb.hands s i e
 
-  on-one : (s : Either A B) (i : ℕ) → c.asked_of s ≡ Some i → (out : Streams Token) (wake : Option Tag) → (c.told i out wake (c.handed s) ≡ c.told i out wake s) × (c.accepts (c.handed s) i out ≡ c.accepts s i out) × (c.refusal (c.handed s) ≡ c.refusal s)
-  on-one (First s) i e out wake = let h = la.hands_on s i e out wake in (ap (λ v. First v) h.0, h.1, h.2)
-  on-one (Other s) i e out wake = let h = lb.hands_on s i e out wake in (ap (λ v. Other v) h.0, h.1, h.2)
+  on-one : (s : Either A B) (i : ℕ) → c.asked_of s ≡ Some i → (out : Streams Token) (wake : Option Tag) (need : Need) → (c.told i out wake need (c.handed s) ≡ c.told i out wake need s) × (c.accepts (c.handed s) i out ≡ c.accepts s i out) × (c.refusal (c.handed s) ≡ c.refusal s)
+  on-one (First s) i e out wake need = let h = la.hands_on s i e out wake need in (ap (λ v. First v) h.0, h.1, h.2)
+  on-one (Other s) i e out wake need = let h = lb.hands_on s i e out wake need in (ap (λ v. Other v) h.0, h.1, h.2)
 
-  asks-one : (s : Either A B) (i : ℕ) (out : Streams Token) (wake : Option Tag) → c.asked_of s ≡ Some i → c.MayAsk (c.told i out wake s)
-  asks-one (First s) i out wake e = la.asks_on s i out wake e
-  asks-one (Other s) i out wake e = lb.asks_on s i out wake e
+  asks-one : (s : Either A B) (i : ℕ) (out : Streams Token) (wake : Option Tag) (need : Need) → c.asked_of s ≡ Some i → c.MayAsk (c.told i out wake need s)
+  asks-one (First s) i out wake need e = la.asks_on s i out wake need e
+  asks-one (Other s) i out wake need e = lb.asks_on s i out wake need e
 
-  tells-one : (s : Either A B) (i : ℕ) (out : Streams Token) (wake : Option Tag) → c.asked_of s ≡ Some i → c.is_wrong (c.told i out wake s) ≡ not (c.accepts s i out)
-  tells-one (First s) i out wake e = la.tells s i out wake e
-  tells-one (Other s) i out wake e = lb.tells s i out wake e
+  tells-one : (s : Either A B) (i : ℕ) (out : Streams Token) (wake : Option Tag) (need : Need) → c.asked_of s ≡ Some i → c.is_wrong (c.told i out wake need s) ≡ not (c.accepts s i out)
+  tells-one (First s) i out wake need e = la.tells s i out wake need e
+  tells-one (Other s) i out wake need e = lb.tells s i out wake need e
 
   finishes-one : (s : Either A B) → c.Gives s Finished → c.MayFinish (c.asking Finished s)
   finishes-one (First s) q = la.finishes s q
@@ -90,9 +91,11 @@ module _ {N A B : Type 0} {rows : Rows Token N} (a : Acts rows A) (b : Acts rows
         resets_one = m.resets_one;
         resets = m.resets;
         rests = m.rests;
+        moves = m.moves;
         ends = m.ends;
         fits = m.fits;
         faults = m.faults;
+        jams = m.jams;
         off = m.off;
         off_within = m.off_within;
       }
@@ -114,9 +117,11 @@ module _ {N A B : Type 0} {rows : Rows Token N} (a : Acts rows A) (b : Acts rows
         resets_one = m.resets_one;
         resets = m.resets;
         rests = m.rests;
+        moves = m.moves;
         ends = m.ends;
         fits = m.fits;
         faults = m.faults;
+        jams = m.jams;
         off = m.off;
         off_within = m.off_within;
       }

@@ -2,7 +2,7 @@
 use Rattle.std.specs.Prelude.{ℕ, List, Option, Bool}
 use Rattle.pt_meaning.specs.Tag.{Tag}
 use Rattle.pt_meaning.specs.Streams.{Streams}
-use Rattle.pt_meaning.specs.Machine.{Partial}
+use Rattle.pt_meaning.specs.Machine.{Need, Partial}
 use Rattle.pt_meaning.specs.Meetings.{Meets}
 use Rattle.pt_meaning.specs.Tree.{Rows, Core, Node, Nodes}
 use Rattle.pt_value.specs.declared.token.Token.{Token}
@@ -43,8 +43,8 @@ pub record Calls (C : Type 0) : Type 1 where
   -- whether it accepts what a child gave that was asked for, and the fault of one that gave anything else
   pub accepts : C → ℕ → Streams Token → Bool
   pub refusal : C → RunFault
-  -- a child has fired, gave this, and has this wake from now on; what the child told last gave wasn't accepted
-  pub told : ℕ → Streams Token → (wake : Option Tag) → C → C
+  -- a child has fired, gave this, and has this wake and this need from now on; what the child told last gave wasn't accepted
+  pub told : ℕ → Streams Token → (wake : Option Tag) → (need : Need) → C → C
   pub is_wrong : C → Bool
   -- a child gave this early
   pub heard : ℕ → List (Partial Token) → C → C
@@ -56,8 +56,11 @@ pub record Calls (C : Type 0) : Type 1 where
   pub wake : C → Option Tag
   -- its start is brought back
   pub restarted : C → C
-  -- so many early answers and resets it may ask for before it asks for a firing
+  -- so many early answers, resets and moves may come before it asks for a firing
   pub waits : C → ℕ
+  -- the maximum capacity of a channel that its director states, 0 where it states none, and where it is full the channels that are waited for, by number, each with its length
+  pub maximum : C → ℕ
+  pub blocked : C → List (ℕ × ℕ)
 
 -- How they make firings of a composite whose children are nodes of a library of actors.
 pub record Acts {A : Type 0} (rows : Rows Token A) (C : Type 0) : Type 1 where

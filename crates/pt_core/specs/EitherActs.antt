@@ -2,7 +2,7 @@
 use Rattle.std.specs.Prelude.{ℕ, List, Option, Bool}
 use Rattle.pt_meaning.specs.Tag.{Tag}
 use Rattle.pt_meaning.specs.Streams.{Streams}
-use Rattle.pt_meaning.specs.Machine.{Partial}
+use Rattle.pt_meaning.specs.Machine.{Need, Partial}
 use Rattle.pt_meaning.specs.Tree.{Rows, Core, Node}
 use Rattle.pt_value.specs.declared.token.Token.{Token}
 use Rattle.pt_firing.specs.declared.ask.Ask.{Ask}
@@ -93,9 +93,9 @@ module _ {A B : Type 0} (a : Calls A) (b : Calls B) where
   handed (First s) = First (a.handed s)
   handed (Other s) = Other (b.handed s)
 
-  abbrev pub told : ℕ → Streams Token → Option Tag → Either A B → Either A B
-  told child out wake (First s) = First (a.told child out wake s)
-  told child out wake (Other s) = Other (b.told child out wake s)
+  abbrev pub told : ℕ → Streams Token → Option Tag → Need → Either A B → Either A B
+  told child out wake need (First s) = First (a.told child out wake need s)
+  told child out wake need (Other s) = Other (b.told child out wake need s)
 
   abbrev pub heard : ℕ → List (Partial Token) → Either A B → Either A B
   heard child early (First s) = First (a.heard child early s)
@@ -112,6 +112,14 @@ module _ {A B : Type 0} (a : Calls A) (b : Calls B) where
   abbrev pub restarted : Either A B → Either A B
   restarted (First s) = First (a.restarted s)
   restarted (Other s) = Other (b.restarted s)
+
+  abbrev pub maximum : Either A B → ℕ
+  maximum (First s) = a.maximum s
+  maximum (Other s) = b.maximum s
+
+  abbrev pub blocked : Either A B → List (ℕ × ℕ)
+  blocked (First s) = a.blocked s
+  blocked (Other s) = b.blocked s
 
   abbrev pub either_calls : Calls (Either A B)
   either_calls = record {
@@ -140,6 +148,8 @@ module _ {A B : Type 0} (a : Calls A) (b : Calls B) where
     wake = wake;
     restarted = restarted;
     waits = waits;
+    maximum = maximum;
+    blocked = blocked;
   }
 
 -- a beginning, as one of a director of another kind

@@ -2,22 +2,25 @@
 use Rattle.std.specs.Prelude.{◌≡◌, ℕ, ◌<◌, List, [], ◌∷◌, length, map, set, true, false, not, Option, Some, None}
 use Rattle.pt_meaning.specs.Tag.{Tag}
 use Rattle.pt_meaning.specs.Streams.{Streams, get}
-use Rattle.pt_meaning.specs.Machine.{Fault, Outcome, Counts, Partial}
+use Rattle.pt_meaning.specs.Log.{Path}
+use Rattle.pt_meaning.specs.Machine.{Fault, Outcome, Need, Counts, Partial}
 use Rattle.pt_meaning.specs.Meetings.{below_child}
+use Rattle.pt_meaning.specs.Children.{numbered}
 use Rattle.pt_meaning.specs.Tree.{Rows, Past, Node, Nodes, Composite, list_of, nodes_of, made_of, reset_of, fired_at, height}
 use Rattle.pt_meaning.specs.NodeFacts.{need_of, early_of, next_of, wakes_of, core_wake}
 use Rattle.pt_meaning.specs.Step.{step_at, Step}
+use Rattle.pt_meaning.specs.Asked.{HaveMade, IsJammed}
 use Rattle.pt_value.specs.declared.token.Token.{Token}
 use Rattle.pt_firing.specs.declared.ask.Ask.{Ask}
 use Rattle.pt_firing.specs.declared.ask.Ask.TheVariants.{Fire, Early, Reset, Get, Put, Grow, Meet, Await, Finished, Faulted, Full}
 use Rattle.pt_firing.specs.declared.fault.RunFault.{RunFault}
 use Rattle.pt_firing.specs.RunFault.{code_of}
 use Rattle.pt_records.specs.Kept.{Kept, Entry, kept_at, kept_by}
-use Rattle.pt_records.specs.Fired.{FiresTo, SticksAt, LeavesOff}
+use Rattle.pt_records.specs.Fired.{FromSome, FiresTo, SticksAt, LeavesOff}
 use Rattle.pt_records.specs.Shut.{IsShut}
 use Rattle.pt_core.specs.Acts.{Beginning, Calls, Acts}
 
--- a director that calls no process and makes no meeting asks for firings, early answers and resets, until it is finished or stuck
+-- a director that makes no meeting asks for firings, early answers and resets, and tells its moves, until it is finished, stuck or full
 abbrev pub IsUsual : Ask → Type 0
 IsUsual (Fire child tag) = Unit {0}
 IsUsual (Early child tag) = Unit {0}
@@ -25,12 +28,26 @@ IsUsual (Reset child) = Unit {0}
 IsUsual Finished = Unit {0}
 IsUsual (Faulted kind None) = Unit {0}
 IsUsual (Faulted kind (Some child)) = ⊥
-IsUsual (Get child) = ⊥
-IsUsual (Put child) = ⊥
-IsUsual Grow = ⊥
+IsUsual (Get child) = Unit {0}
+IsUsual (Put child) = Unit {0}
+IsUsual Grow = Unit {0}
+IsUsual Full = Unit {0}
 IsUsual Meet = ⊥
 IsUsual Await = ⊥
-IsUsual Full = ⊥
+
+-- A move: a process takes or gives a token, or a channel grows. The director makes it itself as it answers so, and has only to be asked again.
+abbrev pub IsMove : Ask → Type 0
+IsMove (Get child) = Unit {0}
+IsMove (Put child) = Unit {0}
+IsMove Grow = Unit {0}
+IsMove (Fire child tag) = ⊥
+IsMove (Early child tag) = ⊥
+IsMove (Reset child) = ⊥
+IsMove Finished = ⊥
+IsMove (Faulted kind child) = ⊥
+IsMove Full = ⊥
+IsMove Meet = ⊥
+IsMove Await = ⊥
 
 -- what is lent to a child whose need is a count for each place: a list for each
 pub record IsLentTo {A : Type 0} (rows : Rows Token A) (child : Node Token A) (X : Streams Token) : Type 0 where
@@ -54,10 +71,10 @@ pub record CallsAgree {C : Type 0} (c : Calls C) : Type 0 where
   pub listened : (s : C) (i : ℕ) (when : Tag) → c.Gives s (Early i when) → c.listened_of (c.asking (Early i when) s) ≡ Some i
   -- once its inputs are handed over they may be lent, and all else is as it was
   pub hands : (s : C) (i : ℕ) → c.asked_of s ≡ Some i → c.MayLend (c.handed s) × (c.asked_of (c.handed s) ≡ Some i) × (c.lent_of (c.handed s) ≡ c.lent_of s)
-  pub hands_on : (s : C) (i : ℕ) → c.asked_of s ≡ Some i → (out : Streams Token) (wake : Option Tag) → (c.told i out wake (c.handed s) ≡ c.told i out wake s) × (c.accepts (c.handed s) i out ≡ c.accepts s i out) × (c.refusal (c.handed s) ≡ c.refusal s)
+  pub hands_on : (s : C) (i : ℕ) → c.asked_of s ≡ Some i → (out : Streams Token) (wake : Option Tag) (need : Need) → (c.told i out wake need (c.handed s) ≡ c.told i out wake need s) × (c.accepts (c.handed s) i out ≡ c.accepts s i out) × (c.refusal (c.handed s) ≡ c.refusal s)
   -- it may be asked again once it was told what the child gave, and tells whether it accepted that
-  pub asks_on : (s : C) (i : ℕ) (out : Streams Token) (wake : Option Tag) → c.asked_of s ≡ Some i → c.MayAsk (c.told i out wake s)
-  pub tells : (s : C) (i : ℕ) (out : Streams Token) (wake : Option Tag) → c.asked_of s ≡ Some i → c.is_wrong (c.told i out wake s) ≡ not (c.accepts s i out)
+  pub asks_on : (s : C) (i : ℕ) (out : Streams Token) (wake : Option Tag) (need : Need) → c.asked_of s ≡ Some i → c.MayAsk (c.told i out wake need s)
+  pub tells : (s : C) (i : ℕ) (out : Streams Token) (wake : Option Tag) (need : Need) → c.asked_of s ≡ Some i → c.is_wrong (c.told i out wake need s) ≡ not (c.accepts s i out)
   -- where it is finished the own outputs may be handed out
   pub finishes : (s : C) → c.Gives s Finished → c.MayFinish (c.asking Finished s)
   -- the start that is brought back is that of the definitions
@@ -97,7 +114,7 @@ module _ {A C : Type 0} {rows : Rows Token A} (a : Acts rows C) where
     -- the firing goes on by the child's, once that is recorded
     pub goes_on : (i : ℕ) (when : Tag) → c.Gives s (Fire i when) → let t = c.asking (Fire i when) s in
         (child next : Node Token A) (out : Streams Token) (k : Kept Token) → get now i ≡ Some child → FiresTo (λ fuel. Step fuel rows (below_child i b.meets) child when (c.lent_of t)) next out (kept_at news i) k → c.accepts t i out ≡ true →
-        a.Underway b (c.told i out (next_of rows next) t) (set now i next) (set news i k)
+        a.Underway b (c.told i out (next_of rows next) (need_of rows next) t) (set now i next) (set news i k)
     -- or is stuck at the child, which has no record of a firing that isn't accepted
     pub refuses : (i : ℕ) (when : Tag) → c.Gives s (Fire i when) → let t = c.asking (Fire i when) s in
         (child next : Node Token A) (out : Streams Token) (k : Kept Token) → get now i ≡ Some child → FiresTo (child_outcome b t i when child) next out (kept_at news i) k → c.accepts t i out ≡ false →
@@ -114,12 +131,17 @@ module _ {A C : Type 0} {rows : Rows Token A} (a : Acts rows C) where
     pub resets_one : (i : ℕ) → c.Gives s (Reset i) → i < length now
     pub resets : (i : ℕ) → c.Gives s (Reset i) → (child : Node Token A) → get now i ≡ Some child → a.Underway b (c.asking (Reset i) s) (set now i (reset_of child)) news
     pub rests : (i : ℕ) → c.Gives s (Reset i) → c.waits (c.asking (Reset i) s) < c.waits s
+    -- after a move of its own it goes on with the same children
+    pub moves : (answer : Ask) → IsMove answer → c.Gives s answer → a.Underway b (c.asking answer s) now news × (c.waits (c.asking answer s) < c.waits s)
     -- where it is finished the firing is done, and another may begin
     pub ends : c.Gives s Finished → let t = c.asking Finished s in
         (h : Past) (e : Entry Token) → FiresTo (outcome b h) (node (fired_at b.tag h) (c.closed t) (nodes_of now)) (c.own_of t) (kept_by e b.olds) (kept_by e news)
     pub fits : c.Gives s Finished → a.Fits (c.closed (c.asking Finished s)) now
     -- where it is told stuck the firing is so, at the composite itself
     pub faults : (kind : RunFault) → c.Gives s (Faulted kind None) → (h : Past) (e : Entry Token) → IsStuck b h e (own_fault h kind) news
+    -- Where it is told full the composite's network is in a jam, with the full channels that the director tells: for whatever maximum capacities are known by path, of which the director's is its own, and whatever numbers of finished firings, of which these are.
+    pub jams : c.Gives s Full → (h : Past) (maximum count : Path → ℕ) → maximum [] ≡ c.maximum b.before → h.made ≡ count [] → HaveMade count (numbered 0 now) →
+        FromSome (λ k. IsJammed rows k [] b.meets maximum count (node h b.before b.kids) b.tag b.inputs (c.blocked (c.asking Full s)))
     -- it may be left off between two firings of children, or within one
     pub off : (h : Past) (e : Entry Token) → IsLeftOff b h e news
     pub off_within : (i : ℕ) (when : Tag) → c.Gives s (Fire i when) → let t = c.asking (Fire i when) s in

@@ -48,16 +48,17 @@ pub trait Core: Sized {
         requires { calls.MayLend self.now }
         ensures { result ≡ calls.lent_of self.now };
 
-    /// Takes what the firing of that child gave, a list for each of its ports, and the wake that it has then.
+    /// Takes what the firing of that child gave, a list for each of its ports, and the wake and the need that it has then.
     fn told(
         &mut self,
         alloc: Global,
         child: u32,
         outputs: Outputs,
         wake: Option<Tag>,
+        need: Need<'_>,
     ) -> Result<(), AllocError>
         requires asked { calls.asked_of self.old ≡ Some child }
-        ensures told { OnOk result (self.new ≡ calls.told child outputs wake self.old) }
+        ensures told { OnOk result (self.new ≡ calls.told child outputs wake (need_of need.entry) self.old) }
         ensures kept { OnErr result (self.new ≡ self.old) };
 
     /// Whether the core doesn't accept what the child told last gave.
@@ -85,6 +86,10 @@ pub trait Core: Sized {
         ensures core { OnOk result (self.new ≡ calls.closed self.old) }
         ensures given { IfOk result (λ outputs. outputs ≡ calls.own_of self.old) }
         ensures kept { OnErr result (self.new ≡ self.old) };
+
+    /// Where it is full, the channels that are waited for, by number, each with its length.
+    fn blocked(&self, alloc: Global) -> Result<Vec<(u32, usize)>, AllocError>
+        ensures { IfOk result (λ full. full.items ≡ calls.blocked self.now) };
 
     /// The composite's own wake, where no firing is under way.
     fn next(&self) -> Option<Tag>

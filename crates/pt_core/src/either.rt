@@ -70,10 +70,11 @@ impl<A: Core, B: Core> Core for Either<A, B> {
         child: u32,
         outputs: Outputs,
         wake: Option<Tag>,
+        need: Need<'_>,
     ) -> Result<(), AllocError> {
         match self {
-            Either::First(core) => core.told(alloc, child, outputs, wake),
-            Either::Other(core) => core.told(alloc, child, outputs, wake),
+            Either::First(core) => core.told(alloc, child, outputs, wake, need),
+            Either::Other(core) => core.told(alloc, child, outputs, wake, need),
         }
     }
 
@@ -109,6 +110,13 @@ impl<A: Core, B: Core> Core for Either<A, B> {
         match self {
             Either::First(core) => core.finish(alloc),
             Either::Other(core) => core.finish(alloc),
+        }
+    }
+
+    fn blocked(&self, alloc: Global) -> Result<Vec<(u32, usize)>, AllocError> {
+        match self {
+            Either::First(core) => core.blocked(alloc),
+            Either::Other(core) => core.blocked(alloc),
         }
     }
 
