@@ -85,6 +85,7 @@ module _ {N A B : Type 0} {rows : Rows Token N} (a : Acts rows A) (b : Acts rows
         goes_on = m.goes_on;
         refuses = m.refuses;
         sticks = m.sticks;
+        asks_as = m.asks_as;
         listens = m.listens;
         hears = m.hears;
         learns = m.learns;
@@ -111,6 +112,7 @@ module _ {N A B : Type 0} {rows : Rows Token N} (a : Acts rows A) (b : Acts rows
         goes_on = m.goes_on;
         refuses = m.refuses;
         sticks = m.sticks;
+        asks_as = m.asks_as;
         listens = m.listens;
         hears = m.hears;
         learns = m.learns;

@@ -5,11 +5,11 @@ use Rattle.pt_meaning.specs.Streams.{Streams, get}
 use Rattle.pt_meaning.specs.Log.{Path}
 use Rattle.pt_meaning.specs.Machine.{Fault, Outcome, Need, Counts, Partial}
 use Rattle.pt_meaning.specs.Meetings.{below_child}
-use Rattle.pt_meaning.specs.Children.{numbered}
-use Rattle.pt_meaning.specs.Tree.{Rows, Past, Node, Nodes, Composite, list_of, nodes_of, made_of, reset_of, fired_at, height}
-use Rattle.pt_meaning.specs.NodeFacts.{need_of, early_of, next_of, wakes_of, core_wake}
+use Rattle.pt_meaning.specs.Children.{numbered, child_facts, child_step}
+use Rattle.pt_meaning.specs.Tree.{Rows, Past, Node, Nodes, Composite, list_of, nodes_of, made_of, reset_of, fired_at, height, heights}
+use Rattle.pt_meaning.specs.NodeFacts.{facts_of, need_of, early_of, next_of, wakes_of, core_wake}
 use Rattle.pt_meaning.specs.Step.{step_at, Step}
-use Rattle.pt_meaning.specs.Asked.{HaveMade, IsJammed}
+use Rattle.pt_meaning.specs.Asked.{IsAsked, HaveMade, IsJammed}
 use Rattle.pt_value.specs.declared.token.Token.{Token}
 use Rattle.pt_firing.specs.declared.ask.Ask.{Ask}
 use Rattle.pt_firing.specs.declared.ask.Ask.TheVariants.{Fire, Early, Reset, Get, Put, Grow, Meet, Await, Finished, Faulted, Full}
@@ -122,6 +122,9 @@ module _ {A C : Type 0} {rows : Rows Token A} (a : Acts rows C) where
     pub sticks : (i : ℕ) (when : Tag) → c.Gives s (Fire i when) → let t = c.asking (Fire i when) s in
         (child : Node Token A) (k : Kept Token) (f : Fault) → get now i ≡ Some child → SticksAt (child_outcome b t i when child) (IsShut rows (below_child i b.meets) child when (c.lent_of t) (Some f)) f (kept_at news i) k →
         (h : Past) (e : Entry Token) → IsStuck b h e (below_fault i f) (set news i k)
+    -- the composite's firing asks for the child's among the definitions, so that a jam within the child is one within the composite
+    pub asks_as : (i : ℕ) (when : Tag) → c.Gives s (Fire i when) → (child : Node Token A) → get now i ≡ Some child → (h : Past) →
+        FromSome (λ k. IsAsked (child_facts (facts_of rows)) (child_step (λ j. step_at rows k (heights b.kids) (below_child j b.meets))) (b.meets [] h.made) h.made (c.core_of b.before) (numbered 0 (list_of b.kids)) b.tag b.inputs i (record { number = i; node = child }) when (c.lent_of (c.asking (Fire i when) s)))
     -- a child that is asked for an early answer is there, and the firing goes on by what it gives
     pub listens : (i : ℕ) (when : Tag) → c.Gives s (Early i when) → i < length now
     pub hears : (i : ℕ) (when : Tag) → c.Gives s (Early i when) → let t = c.asking (Early i when) s in
