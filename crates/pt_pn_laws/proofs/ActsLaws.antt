@@ -1,31 +1,42 @@
--- What the calls do to a firing whose children are nodes.
-use Rattle.std.proofs.Common.{◌≡◌, ◌⊎◌, inl, inr, ℕ, zero, suc, ◌<◌, List, [], ◌∷◌, length, map, set, get_or, Some, refl, sym, ap, ap₂, subst, ◌∙◌, arith, length-set}
+-- The calls of the core are lawful.
+use Rattle.std.proofs.Common.{◌≡◌, ◌⊎◌, inl, inr, ℕ, zero, suc, ◌<◌, List, [], ◌∷◌, true, false, length, map, set, get_or, take, Some, None, refl, sym, ap, ap₂, subst, ◌∙◌, arith, length-set}
+use Rattle.std.specs.Prelude.{IsSome}
 use Rattle.std.proofs.lemmas.Bool.{cases_eq}
 use Rattle.std.proofs.lemmas.List.{length-map}
 use Rattle.pt_meaning.specs.Tag.{Tag}
-use Rattle.pt_meaning.specs.Streams.{Streams, get}
-use Rattle.pt_meaning.specs.Machine.{Need, Over}
+use Rattle.pt_meaning.specs.Streams.{Streams, get, joined}
+use Rattle.pt_meaning.specs.Log.{Path}
+use Rattle.pt_meaning.specs.Machine.{Fault, Need, Over}
+use Rattle.pt_meaning.specs.Process.{emptied}
+use Rattle.pt_meaning.specs.Running.{total}
 use Rattle.pt_meaning.specs.Meetings.{below_child}
-use Rattle.pt_meaning.specs.Tree.{Rows, Node, list_of, made_of, reset_of, height}
+use Rattle.pt_meaning.specs.Children.{numbered, child_facts}
+use Rattle.pt_meaning.specs.Tree.{Rows, Past, Node, list_of, nodes_of, made_of, reset_of, fired_at, height, heights}
+use Rattle.pt_meaning.specs.Tree as tree
 use Rattle.pt_meaning.specs.NodeFacts.{facts_of, need_of}
 use Rattle.pt_meaning.specs.Step.{step_at, Step}
+use Rattle.pt_meaning.specs.Lawful.{LawfulRows}
+use Rattle.pt_meaning.specs.Asked.{IsAsked, HaveMade, IsJammed}
+use Rattle.pt_laws.specs.CompositeRuns.{steps_below}
 use Rattle.pt_value.specs.declared.token.Token.{Token}
 use Rattle.pt_firing.specs.declared.ask.Ask.{Ask}
 use Rattle.pt_firing.specs.declared.ask.Ask.TheVariants as ask
-use Rattle.pt_records.specs.Kept.{Kept, kept_at}
-use Rattle.pt_records.specs.Fired.{FiresTo}
+use Rattle.pt_records.specs.Kept.{Kept, Entry, kept_at, kept_by}
+use Rattle.pt_records.specs.Fired.{FromSome, FiresTo, SticksAt, LeavesOff}
+use Rattle.pt_records.specs.Shut.{IsShut}
 use Rattle.pt_records.proofs.SoFarLaws.{recorded-done}
-use Rattle.pt_core.specs.Acts.{Beginning}
-use Rattle.pt_core.specs.Lawful.{IsLentTo}
+use Rattle.pt_core.specs.Acts.{Beginning, Acts}
+use Rattle.pt_core.specs.Lawful.{Lawful, IsUsual, IsMove, IsLentTo, IsStuck, IsLeftOff, node, outcome, below_fault}
 use Rattle.pt_core.specs.Reached.{Becomes, Stays, Fires, Resets, Always, AllAlways}
 use Rattle.pt_core.proofs.ReachedLaws.{always-reset}
-use Rattle.pt_pn_laws.specs.State.{MayGrow, net_of, got_of, grown_by, begun, after_grow, after_told, closed, restarted, started, waits}
+use Rattle.pt_pn_laws.specs.State.{Network, Closed, MayFire, MayGrow, IsFull, IsOver, net_of, got_of, held_of, in_stage, grown_by, begun, after_grow, after_told, own_of, closed, restarted, started, blocked_of, waits}
 use Rattle.pt_pn_laws.specs.Lawful.{HasPlaces, AllCount}
-use Rattle.pt_pn_laws.specs.SoFar.{PnSoFar}
-use Rattle.pt_pn_laws.specs.PnActs.{State, Gives, asking, IsMove, Going, Fits, ActsGoOn}
+use Rattle.pt_pn_laws.specs.SoFar.{PnSoFar, composite_of, outcome_of, child_outcome}
+use Rattle.pt_pn_laws.specs.PnActs.{State, MayAsk, Gives, asking, Going, Fits, pn_acts}
 use Rattle.pt_pn_laws.proofs.ListLaws.{length-part}
 use Rattle.pt_pn_laws.proofs.ChainLaws.{calls-are-pn}
-use Rattle.pt_pn_laws.proofs.SoFarLaws.{pn-begins, pn-get, pn-put, pn-grow, pn-goes-on, pn-rests, under}
+use Rattle.pt_pn_laws.proofs.PauseLaws.{pn-asks}
+use Rattle.pt_pn_laws.proofs.SoFarLaws.{pn-begins, pn-get, pn-put, pn-grow, pn-goes-on, pn-rests, under, firings-are-pn}
 
 -- what holds of all that a list of nodes becomes, where one of them has fired
 get-set-same : {B : Type 0} (xs : List B) (i : ℕ) (x y : B) → get (set xs i x) i ≡ Some y → y ≡ x
@@ -149,13 +160,109 @@ module _ {A : Type 0} (rows : Rows Token A) where
           let c = get-there kids i (let e = f.suits.children in omega (arith, l, e)) in
           subst (λ v. HasPlaces (get_or (net_of s).places i 0) v) (f.suits.starts i c.0 c.1 c.0 (Stays c.0)) (f.suits.counts i c.0 c.1 (reset_of c.0) (Resets c.0 (reset_of c.0) (Stays (reset_of c.0))))
 
-pub acts-go-on : {A : Type 0} → ActsGoOn A
-acts-go-on = record {
-  begins = begins-one;
-  moves = λ rows b s now news g answer m q. moves-one rows b s now news g answer m q;
-  fires_one = λ rows b s now news g i when q. let m = q.1 in let l = m.there in let e = g.suits.children in omega (arith, l, e);
-  lends = λ rows b s now news g i when q child e. lends-one rows b s now news g i q.1.there child e;
-  goes_on = λ rows b s now news g i when q child next out k e f. goes-one rows b s now news g i when q child next out k e f;
-  fits = λ rows b s now news g q. fits-one rows b s now news g q;
-  fits_again = again-one;
+-- at the start the channels hold the first tokens, of which none is gathered
+joined-first : {T : Type 0} (n : ℕ) (X : Streams T) → joined (emptied (take n X)) X ≡ X
+joined-first zero X = refl
+joined-first (suc n) [] = refl
+joined-first (suc n) (x ∷ X) = ap (λ v. x ∷ v) (joined-first n X)
+
+usual-one : (s : State) (answer : Ask) → Gives s answer → IsUsual answer
+usual-one s (ask.Fire child tag) q = tt
+usual-one s (ask.Get child) q = tt
+usual-one s (ask.Put child) q = tt
+usual-one s ask.Grow q = tt
+usual-one s ask.Finished q = tt
+usual-one s ask.Full q = tt
+usual-one s (ask.Early child tag) q = absurd q
+usual-one s (ask.Reset child) q = absurd q
+usual-one s (ask.Faulted kind (Some child)) q = absurd q
+usual-one s (ask.Faulted kind None) q = absurd q
+usual-one s ask.Meet q = absurd q
+usual-one s ask.Await q = absurd q
+
+clash : true ≡ false → ⊥
+clash e = cc
+
+module _ {A : Type 0} (rows : Rows Token A) (law : LawfulRows rows) (b : Beginning A State) (s : State) (now : List (Node Token A)) (news : List (Kept Token)) (g : Going rows b s now news) where
+  abbrev a : Acts rows State
+  a = pn_acts rows
+
+  -- at the tag at which the firing began
+  module _ (h : Past) (e : Entry Token) where
+    ends-one : IsOver s → FiresTo (outcome a b h) (node a (fired_at b.tag h) (closed (in_stage Closed s)) (nodes_of now)) (own_of s) (kept_by e b.olds) (kept_by e news)
+    ends-one o =
+        subst (λ t. FiresTo (outcome_of rows b.meets h b.before b.kids t b.inputs) (composite_of (fired_at t h) (closed s) (nodes_of now)) (own_of s) (kept_by e b.olds) (kept_by e news)) g.tag
+        (firings-are-pn.ends rows b.meets b.before b.kids b.inputs b.olds s now news g.so_far o h e)
+
+    off-one : IsLeftOff a b h e news
+    off-one =
+        subst (λ t. LeavesOff (outcome_of rows b.meets h b.before b.kids t b.inputs) (IsShut rows b.meets (composite_of h b.before b.kids) t b.inputs None) (kept_by e b.olds) (kept_by e news)) g.tag
+        (firings-are-pn.off rows law b.meets b.before b.kids b.inputs b.olds s now news g.so_far h e)
+
+    module _ (i : ℕ) (may : MayFire s i) (child : Node Token A) (k : Kept Token) (there : get now i ≡ Some child) where
+      sticks-one : (f : Fault) → SticksAt (child_outcome rows b.meets s i child) (IsShut rows (below_child i b.meets) child s.tag (got_of s i) (Some f)) f (kept_at news i) k → IsStuck a b h e (below_fault i f) (set news i k)
+      sticks-one f x =
+          subst (λ t. SticksAt (outcome_of rows b.meets h b.before b.kids t b.inputs) (IsShut rows b.meets (composite_of h b.before b.kids) t b.inputs (Some (below_fault i f))) (below_fault i f) (kept_by e b.olds) (kept_by e (set news i k))) g.tag
+          (firings-are-pn.sticks rows law b.meets b.before b.kids b.inputs b.olds s now news g.so_far i may child k f there x h e)
+
+      within-one : LeavesOff (child_outcome rows b.meets s i child) (IsShut rows (below_child i b.meets) child s.tag (got_of s i) None) (kept_at news i) k → IsLeftOff a b h e (set news i k)
+      within-one x =
+          subst (λ t. LeavesOff (outcome_of rows b.meets h b.before b.kids t b.inputs) (IsShut rows b.meets (composite_of h b.before b.kids) t b.inputs None) (kept_by e b.olds) (kept_by e (set news i k))) g.tag
+          (firings-are-pn.off_within rows law b.meets b.before b.kids b.inputs b.olds s now news g.so_far i may child k there x h e)
+
+  -- the firing of a child is one that the composite's firing asks for
+  module _ (i : ℕ) (may : MayFire s i) (child : Node Token A) (there : get now i ≡ Some child) (h : Past) where
+    abbrev AskedFor : Tag → Tag → Type 0
+    AskedFor tag when = FromSome (λ k. IsAsked (child_facts (facts_of rows)) (steps_below rows k (heights b.kids) b.meets) (b.meets [] h.made) h.made (tree.Pn b.before.network.plan (held_of b.before)) (numbered 0 (list_of b.kids)) tag b.inputs i (record { number = i; node = child }) when (got_of s i))
+
+    asks-one : (when : Tag) → when ≡ s.tag → AskedFor b.tag when
+    asks-one when e =
+        subst (λ t. AskedFor b.tag t) (sym e)
+        (subst (λ t. AskedFor t s.tag) g.tag (g.so_far.run.0, λ k o. pn-asks rows k b.meets h b.before b.kids b.inputs s g.so_far.made now g.so_far.logs (g.so_far.run.1 k o) i may child there))
+
+  jams-one : IsFull s → (h : Past) (maximum count : Path → ℕ) → maximum [] ≡ b.before.network.maximum → h.made ≡ count [] → HaveMade count (numbered 0 now) → FromSome (λ k. IsJammed rows k [] b.meets maximum count (node a h b.before b.kids) b.tag b.inputs (blocked_of s))
+  jams-one full h maximum count most made each =
+      let same = (under rows b.meets b.before b.kids b.inputs b.olds s now news g.so_far).network in
+      subst (λ t. FromSome (λ k. IsJammed rows k [] b.meets maximum count (composite_of h b.before b.kids) t b.inputs (blocked_of s))) g.tag
+      (firings-are-pn.jams rows b.meets b.before b.kids b.inputs b.olds s now news g.so_far full h maximum count (most ∙ ap (λ (n : Network Token). n.maximum) (sym same)) made each)
+
+pub pn-is-lawful : {A : Type 0} (rows : Rows Token A) → LawfulRows rows → Lawful (pn_acts rows)
+pn-is-lawful rows law = record {
+  agree = record {
+    asked = λ s i when q. refl;
+    listened = λ s i when q. absurd q;
+    hands = λ s i e. (subst (λ v. IsSome v) (sym e) refl, e, refl);
+    hands_on = λ s i e out wake need. (refl, refl, refl);
+    asks_on = λ s i out wake need e. tt;
+    tells = λ s i out wake need e. refl;
+    finishes = λ s q. refl;
+    restarts = λ s. (ap (λ X. tree.Pn s.network.plan X) (joined-first (total s.network.plan.net.places) s.network.first), refl);
+  };
+  idle = λ s kids f. f.idle;
+  wakes = λ s kids f. refl;
+  fits_again = again-one rows;
+  begins = λ b f t o. begins-one rows b f o;
+  middle = λ b s now news g. record {
+    asks = subst (λ v. MayAsk v) (sym g.stage) tt;
+    usual = usual-one s;
+    fires_one = λ i when q. let m = q.1 in let l = m.there in let e = g.suits.children in omega (arith, l, e);
+    lends = λ i when q child e. lends-one rows b s now news g i q.1.there child e;
+    goes_on = λ i when q child next out k e f ok. goes-one rows b s now news g i when q child next out k e f;
+    refuses = λ i when q child next out k there f no. absurd (clash no);
+    sticks = λ i when q child k f there x h e. sticks-one rows law b s now news g h e i q.1 child k there f (subst (λ t. SticksAt (λ fuel. step_at rows fuel (height child) (below_child i b.meets) t child (got_of s i)) (IsShut rows (below_child i b.meets) child t (got_of s i) (Some f)) f (kept_at news i) k) q.2 x);
+    asks_as = λ i when q child there h. asks-one rows law b s now news g i q.1 child there h when q.2;
+    listens = λ i when q. absurd q;
+    hears = λ i when q child e. absurd q;
+    learns = λ i when q early. absurd q;
+    resets_one = λ i q. absurd q;
+    resets = λ i q child e. absurd q;
+    rests = λ i q. absurd q;
+    moves = λ answer m q. moves-one rows b s now news g answer m q;
+    ends = λ q h e. ends-one rows law b s now news g h e q.1;
+    fits = λ q. fits-one rows b s now news g q;
+    faults = λ kind q. absurd q;
+    jams = λ q h maximum count most made each. jams-one rows law b s now news g q.1 h maximum count most made each;
+    off = λ h e. off-one rows law b s now news g h e;
+    off_within = λ i when q child k there x h e. within-one rows law b s now news g h e i q.1 child k there (subst (λ t. LeavesOff (λ fuel. step_at rows fuel (height child) (below_child i b.meets) t child (got_of s i)) (IsShut rows (below_child i b.meets) child t (got_of s i) None) (kept_at news i) k) q.2 x);
+  };
 }

@@ -11,6 +11,7 @@ use Rattle.pt_meaning.specs.Children.{Child, numbered, child_facts}
 use Rattle.pt_meaning.specs.Tree.{Rows, Core, Pn, Past, Node, Nodes, list_of, height, heights}
 use Rattle.pt_meaning.specs.NodeFacts.{facts_of}
 use Rattle.pt_meaning.specs.Step.{step_at}
+use Rattle.pt_meaning.specs.Asked.{IsAsked}
 use Rattle.pt_laws.specs.CompositeRuns.{steps_below}
 use Rattle.pt_laws.specs.LogsOfRuns.{RunningWith, log_in}
 use Rattle.pt_laws.proofs.AskedLaws.{run-asks}
@@ -71,9 +72,8 @@ module _ {T A : Type 0} (rows : Rows T A) (k : ℕ) (m : Meets) (h : Past) (befo
     logged = let a = now-long facts step s.tag first_net (pn_limits first_net.places) its (held_of before) inputs ms (numbered 0 now) u.consistent.held ls run bounds-long its-long in let c = numbered-length 0 now in omega (arith, a, c);
   }
 
-  -- child i takes what it gathered, and has logged inside of that firing, as stuck at a place of the child where one is given
-  module _ (i : ℕ) (may : MayFire s i) (child : Node T A) (there : get now i ≡ Some child) (place : Option Fault) (inside : Log T) (low : height child ≤ heights kids) (below : LogBelow inside (log_in (step_at rows k (height child) (below_child i m) s.tag child (got_of s i))))
-      (shut : IsShut rows (below_child i m) child s.tag (got_of s i) place inside) where
+  -- child i takes what it gathered
+  module _ (i : ℕ) (may : MayFire s i) (child : Node T A) (there : get now i ≡ Some child) where
     abbrev it : Child (Node T A)
     it = record { number = i; node = child }
 
@@ -86,22 +86,28 @@ module _ {T A : Type 0} (rows : Rows T A) (k : ℕ) (m : Meets) (h : Past) (befo
     asked : AskedBy before.network
     asked = subst (λ n. AskedBy n) u.network (fire.asks facts step before its inputs s ms (numbered 0 now) ls u i may it)
 
-    pub pn-in : (b : IsBetween rows k m s.tag state kids inputs now ls) × IsIn rows k m s.tag h state kids inputs now ls b.turns i child s.tag (got_of s i) place inside
-    unfolding pn-between
-    pn-in = (
-      pn-between,
-      record {
-        there = there;
-        low = low;
-        at_tag = refl;
-        takes = λ q. inl
-            (taken-now facts step s.tag first_net (pn_limits first_net.places) its (held_of before) inputs ms (numbered 0 now) u.consistent.held ls run bounds-long its-long i q (Some (record { tag = s.tag; inputs = got_of s i }))
-            (asked-there facts i first_net.places (pn_limits first_net.places) ms (numbered 0 now) u.consistent.held (got_of s i) left asked q));
-        asks = (
-          refl,
-          run-asks facts step s.tag first_net (pn_limits first_net.places) its (start_of before inputs) ms (numbered 0 now) u.consistent.held run.running i (got_of s i) left it asked (numbered-there 0 i i now child (omega arith) there),
-        );
-        below = below;
-        shut = shut;
-      },
+    -- which the composite's firing asks for
+    pub pn-asks : IsAsked facts step (m [] h.made) h.made state its s.tag inputs i it s.tag (got_of s i)
+    pn-asks = (
+      refl,
+      run-asks facts step s.tag first_net (pn_limits first_net.places) its (start_of before inputs) ms (numbered 0 now) u.consistent.held run.running i (got_of s i) left it asked (numbered-there 0 i i now child (omega arith) there),
     )
+
+    -- it has logged inside of that firing, as stuck at a place of the child where one is given
+    module _ (place : Option Fault) (inside : Log T) (low : height child ≤ heights kids) (below : LogBelow inside (log_in (step_at rows k (height child) (below_child i m) s.tag child (got_of s i)))) (shut : IsShut rows (below_child i m) child s.tag (got_of s i) place inside) where
+      pub pn-in : (b : IsBetween rows k m s.tag state kids inputs now ls) × IsIn rows k m s.tag h state kids inputs now ls b.turns i child s.tag (got_of s i) place inside
+      unfolding pn-between
+      pn-in = (
+        pn-between,
+        record {
+          there = there;
+          low = low;
+          at_tag = refl;
+          takes = λ q. inl
+              (taken-now facts step s.tag first_net (pn_limits first_net.places) its (held_of before) inputs ms (numbered 0 now) u.consistent.held ls run bounds-long its-long i q (Some (record { tag = s.tag; inputs = got_of s i }))
+              (asked-there facts i first_net.places (pn_limits first_net.places) ms (numbered 0 now) u.consistent.held (got_of s i) left asked q));
+          asks = pn-asks;
+          below = below;
+          shut = shut;
+        },
+      )

@@ -1,21 +1,17 @@
 -- The calls of the core as a driver is to know them. It makes its gets, puts and growths itself where it is asked what comes next, each with the answer that tells it, so that a driver has nothing to do but ask again.
-use Rattle.std.specs.Prelude.{◌≡◌, ℕ, ◌<◌, List, length, map, set, get_or, Some}
-use Rattle.pt_meaning.specs.Tag.{Tag}
-use Rattle.pt_meaning.specs.Streams.{Streams, get}
+use Rattle.std.specs.Prelude.{◌≡◌, ℕ, List, [], length, get_or, true, false, None, IsSome}
 use Rattle.pt_meaning.specs.Machine.{Over}
-use Rattle.pt_meaning.specs.Tree.{Rows, Node, list_of, reset_of}
-use Rattle.pt_meaning.specs.Meetings.{below_child}
+use Rattle.pt_meaning.specs.Tree.{Rows, Node, reset_of}
+use Rattle.pt_meaning.specs.Tree as tree
 use Rattle.pt_meaning.specs.NodeFacts.{facts_of, need_of}
-use Rattle.pt_meaning.specs.Step.{Step}
 use Rattle.pt_value.specs.declared.token.Token.{Token}
 use Rattle.pt_firing.specs.declared.ask.Ask.{Ask}
 use Rattle.pt_firing.specs.declared.ask.Ask.TheVariants as ask
-use Rattle.pt_records.specs.Kept.{Kept, kept_at}
-use Rattle.pt_records.specs.Fired.{FiresTo}
-use Rattle.pt_core.specs.Acts.{Beginning}
-use Rattle.pt_core.specs.Lawful.{IsLentTo}
+use Rattle.pt_firing.specs.declared.fault.RunFault.TheVariants.{Rate}
+use Rattle.pt_records.specs.Kept.{Kept}
+use Rattle.pt_core.specs.Acts.{Beginning, Calls, Acts}
 use Rattle.pt_core.specs.Reached.{AllAlways}
-use Rattle.pt_pn_laws.specs.State.{PnState, Stage, Idle, Open, Asked, Closed, Blocked, MayGet, MayPut, MayFire, MayGrow, IsFull, IsOver, net_of, got_of, in_stage, begun, after_get, after_put, after_grow, after_told, closed, restarted, waits}
+use Rattle.pt_pn_laws.specs.State.{PnState, Stage, Idle, Open, Asked, Closed, Blocked, MayGet, MayPut, MayFire, MayGrow, IsFull, IsOver, asked_process, net_of, held_of, in_stage, lent_if, begun, after_get, after_put, after_grow, after_told, own_of, closed, restarted, blocked_of, waits}
 use Rattle.pt_pn_laws.specs.Lawful.{HasPlaces, IsFor}
 use Rattle.pt_pn_laws.specs.SoFar.{PnSoFar}
 
@@ -57,20 +53,6 @@ asking (ask.Faulted kind child) s = s
 asking ask.Meet s = s
 asking ask.Await s = s
 
--- the answers after which the driver has only to ask again
-abbrev pub IsMove : Ask → Type 0
-IsMove (ask.Get child) = Unit {0}
-IsMove (ask.Put child) = Unit {0}
-IsMove ask.Grow = Unit {0}
-IsMove (ask.Fire child tag) = ⊥
-IsMove ask.Finished = ⊥
-IsMove ask.Full = ⊥
-IsMove (ask.Early child tag) = ⊥
-IsMove (ask.Reset child) = ⊥
-IsMove (ask.Faulted kind child) = ⊥
-IsMove ask.Meet = ⊥
-IsMove ask.Await = ⊥
-
 -- A network fits these children, whatever they fire: each needs a count for each of its places, or is over, and at its start what the network says.
 pub record Suits {A : Type 0} (rows : Rows Token A) (s : State) (kids : List (Node Token A)) : Type 0 where
   pub children : length kids ≡ length (net_of s).places
@@ -90,15 +72,37 @@ pub record Fits {A : Type 0} (rows : Rows Token A) (s : State) (kids : List (Nod
   pub fitting : IsFor (facts_of rows) s kids
   pub suits : Suits rows s kids
 
--- What the calls do to a firing whose children are nodes: it begins; a get, a put or a growth goes on with it, and leaves less to wait for; so does the recorded firing of a child that was asked for, with what that needs from then on; where it is over the core fits the children again, and so it does once all are brought back to their starts.
--- `FiringsArePn` says of `so_far` what the composite's own firing comes to.
-pub record ActsGoOn (A : Type 0) : Type 0 where
-  pub begins : (rows : Rows Token A) (b : Beginning A State) → Fits rows b.before (list_of b.kids) → length (list_of b.kids) ≡ length b.olds → Going rows b (begun b.tag b.inputs b.before) (list_of b.kids) b.olds
-  pub moves : (rows : Rows Token A) (b : Beginning A State) (s : State) (now : List (Node Token A)) (news : List (Kept Token)) → Going rows b s now news → (answer : Ask) → IsMove answer → Gives s answer → Going rows b (asking answer s) now news × (waits (asking answer s) < waits s)
-  pub fires_one : (rows : Rows Token A) (b : Beginning A State) (s : State) (now : List (Node Token A)) (news : List (Kept Token)) → Going rows b s now news → (i : ℕ) (when : Tag) → Gives s (ask.Fire i when) → i < length now
-  pub lends : (rows : Rows Token A) (b : Beginning A State) (s : State) (now : List (Node Token A)) (news : List (Kept Token)) → Going rows b s now news → (i : ℕ) (when : Tag) → Gives s (ask.Fire i when) → (child : Node Token A) → get now i ≡ Some child → IsLentTo rows child (got_of s i)
-  pub goes_on : (rows : Rows Token A) (b : Beginning A State) (s : State) (now : List (Node Token A)) (news : List (Kept Token)) → Going rows b s now news → (i : ℕ) (when : Tag) → Gives s (ask.Fire i when) →
-      (child next : Node Token A) (out : Streams Token) (k : Kept Token) → get now i ≡ Some child → FiresTo (λ fuel. Step fuel rows (below_child i b.meets) child when (got_of s i)) next out (kept_at news i) k →
-      Going rows b (after_told i out (need_of rows next) (asking (ask.Fire i when) s)) (set now i next) (set news i k)
-  pub fits : (rows : Rows Token A) (b : Beginning A State) (s : State) (now : List (Node Token A)) (news : List (Kept Token)) → Going rows b s now news → Gives s ask.Finished → Fits rows (closed (asking ask.Finished s)) now
-  pub fits_again : (rows : Rows Token A) (s : State) (kids : List (Node Token A)) → Fits rows s kids → Fits rows (restarted s) (map reset_of kids)
+-- Whatever a process gives is accepted, so the fault of one that gives anything else is never told; and none is asked for an early answer. Wakes of processes say nothing to it, and it has none.
+abbrev pub pn_calls : Calls State
+pn_calls = record {
+  start_of = λ s. tree.Pn s.network.plan s.network.first;
+  core_of = λ s. tree.Pn s.network.plan (held_of s);
+  IsIdle = λ s. s.stage ≡ Idle;
+  Takes = λ s inputs. length inputs ≡ length s.network.plan.takes;
+  begun = begun;
+  MayAsk = λ s. MayAsk s.stage;
+  Gives = Gives;
+  asking = asking;
+  asked_of = λ s. asked_process s.stage;
+  lent_of = λ s. lent_if s (asked_process s.stage);
+  handed = λ s. s;
+  MayLend = λ s. IsSome (asked_process s.stage);
+  listened_of = λ s. None;
+  partial_of = λ s. [];
+  accepts = λ s child out. true;
+  refusal = λ s. Rate;
+  told = λ child out wake need. after_told child out need;
+  is_wrong = λ s. false;
+  heard = λ child early s. s;
+  MayFinish = λ s. s.stage ≡ Closed;
+  own_of = own_of;
+  closed = closed;
+  wake = λ s. None;
+  restarted = restarted;
+  waits = waits;
+  maximum = λ s. s.network.maximum;
+  blocked = blocked_of;
+}
+
+abbrev pub pn_acts : {A : Type 0} (rows : Rows Token A) → Acts rows State
+pn_acts rows = record { calls = pn_calls; Fits = Fits rows; Underway = Going rows }

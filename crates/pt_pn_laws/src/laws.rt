@@ -1,9 +1,13 @@
 // The laws of the core of the PN director.
 
+ghost use Rattle.pt_meaning.specs.Tree.{Rows};
+ghost use Rattle.pt_meaning.specs.Lawful.{LawfulRows};
+ghost use Rattle.pt_value.specs.declared.token.Token.{Token};
+ghost use Rattle.pt_core.specs.Lawful.{Lawful};
 ghost use Rattle.pt_pn_laws.specs.Chain.{CallsArePn};
 ghost use Rattle.pt_pn_laws.specs.SoFar.{FiringsArePn};
 ghost use Rattle.pt_pn_laws.specs.Comes.{AlwaysComes};
-ghost use Rattle.pt_pn_laws.specs.PnActs.{ActsGoOn};
+ghost use Rattle.pt_pn_laws.specs.PnActs.{pn_acts};
 
 /// A chain of events and calls makes the firing of the composite: processes get, fire and put in any order, and full channels grow where none goes further.
 pub fn calls_are_pn<T, S>()
@@ -20,7 +24,7 @@ pub fn something_comes<T>()
     ensures { AlwaysComes T }
 {}
 
-/// As a driver is to know the calls, a firing begins, goes on by what `ask` answers and by what children are told to give, and leaves a core that fits the children again.
-pub fn acts_go_on<A>()
-    ensures { ActsGoOn A }
+/// The calls are lawful: a driver of any director makes firings of process networks by a core that has them.
+pub fn pn_is_lawful<A>()
+    ensures { (rows : Rows Token A) → LawfulRows rows → Lawful (pn_acts rows) }
 {}

@@ -3,4 +3,4 @@
 
 mod laws;
 
-pub use laws::{acts_go_on, calls_are_pn, firings_are_pn, something_comes};
+pub use laws::{calls_are_pn, firings_are_pn, pn_is_lawful, something_comes};
