@@ -1,5 +1,5 @@
 -- The calls of the core are lawful.
-use Rattle.std.proofs.Common.{◌≡◌, ◌⊎◌, inl, inr, ℕ, zero, suc, ◌<◌, ◌≤◌, List, [], ◌∷◌, ◌++◌, Bool, true, false, not, length, map, get_or, set, take, drop, Some, None, refl, sym, ap, ap₂, subst, ◌∙◌, arith, length-append, length-set}
+use Rattle.std.proofs.Common.{◌≡◌, ◌⊎◌, inl, inr, ℕ, zero, suc, ◌+◌, ◌<◌, ◌≤◌, List, [], ◌∷◌, ◌++◌, Bool, true, false, not, length, map, get_or, set, take, drop, Option, Some, None, refl, sym, ap, ap₂, subst, ◌∙◌, arith, length-append, length-set}
 use Rattle.std.proofs.lemmas.Bool.{cases_eq}
 use Rattle.std.proofs.lemmas.List.{length-take-le}
 use Rattle.pt_meaning.specs.Streams.{Streams, get}
@@ -10,11 +10,14 @@ use Rattle.pt_meaning.specs.Sdf.{SdfPlan, iterations, sdf_limits, times, leaves}
 use Rattle.pt_meaning.specs.Running.{Asks, total, puts}
 use Rattle.pt_meaning.specs.Lawful.{LawfulRows}
 use Rattle.pt_meaning.specs.Meetings.{below_child}
+use Rattle.pt_meaning.specs.Children.{Child, numbered, child_facts}
 use Rattle.pt_meaning.specs.Tree.{Rows, Core, Sdf, Past, Node, Composite, list_of, nodes_of, made_of, reset_of, fired_at, height, heights}
 use Rattle.pt_meaning.specs.NodeFacts.{facts_of, need_of}
 use Rattle.pt_meaning.specs.Step.{step_at, Step}
-use Rattle.pt_laws.specs.CompositeRuns.{sdf_start, sdf_bounds, outlets_of}
+use Rattle.pt_meaning.specs.Asked as meant
+use Rattle.pt_laws.specs.CompositeRuns.{steps_below, sdf_start, sdf_bounds, outlets_of}
 use Rattle.pt_laws.specs.LogsOfRuns.{rates_at}
+use Rattle.pt_laws.proofs.AskedLaws.{run-asks}
 use Rattle.pt_laws.proofs.FiringLaws.{arrived-long}
 use Rattle.pt_laws.proofs.RunLaws.{plus-length}
 use Rattle.pt_value.specs.declared.token.Token.{Token}
@@ -22,13 +25,14 @@ use Rattle.pt_firing.specs.declared.ask.Ask.{Ask}
 use Rattle.pt_firing.specs.declared.ask.Ask.TheVariants as ask
 use Rattle.pt_firing.specs.declared.fault.RunFault.TheVariants.{Rate}
 use Rattle.pt_records.specs.Kept.{Kept, Entry, kept_at, kept_by}
-use Rattle.pt_records.specs.Fired.{FiresTo, SticksAt, LeavesOff}
+use Rattle.pt_records.specs.Fired.{FromSome, FiresTo, SticksAt, LeavesOff}
 use Rattle.pt_records.specs.Shut.{IsShut}
 use Rattle.pt_records.specs.SoFar as so_far
 use Rattle.pt_records.specs.SoFar.{SoFar, SdfSoFar}
+use Rattle.pt_records.proofs.MiddleLaws.{asks-numbered}
 use Rattle.pt_records.proofs.SoFarLaws.{recorded-done, so-far-begins, so-far-goes-on, sdf-is-done, sdf-is-stuck, sdf-is-unrated, sdf-is-left-off, sdf-is-left-off-within}
 use Rattle.pt_core.specs.Acts.{Beginning, Acts}
-use Rattle.pt_core.specs.Lawful.{Lawful, IsUsual, IsLentTo, IsStuck, IsLeftOff, node, outcome, child_outcome, below_fault, child_fault}
+use Rattle.pt_core.specs.Lawful.{Lawful, IsUsual, IsMove, IsLentTo, IsStuck, IsLeftOff, node, outcome, child_outcome, below_fault, child_fault}
 use Rattle.pt_core.specs.Reached.{Becomes, Stays, Fires, Resets, Always}
 use Rattle.pt_core.proofs.ReachedLaws.{got-reset}
 use Rattle.pt_sdf.specs.ByNeed.{by_need, needs_of, place_of}
@@ -75,6 +79,11 @@ get-set-other (y ∷ xs) zero zero x z = absurd (z refl)
 get-set-other (y ∷ xs) zero (suc j) x z = refl
 get-set-other (y ∷ xs) (suc i) zero x z = refl
 get-set-other (y ∷ xs) (suc i) (suc j) x z = get-set-other xs i j x (λ e. z (ap (λ n. suc n) e))
+
+numbered-there : {S : Type 0} (b i n : ℕ) (ss : List S) (s : S) → n ≡ b + i → get ss i ≡ Some s → get (numbered b ss) i ≡ Some (record { number = n; node = s })
+numbered-there b i n [] s o e = absurd (cc)
+numbered-there {S} b zero n (x ∷ ss) s o e = let same : x ≡ s = cc in let a : b ≡ n = omega (arith, o) in ap₂ (λ (j : ℕ) (y : S). let c : Child S = record { number = j; node = y } in Option.Some c) a same
+numbered-there b (suc i) n (x ∷ ss) s o e = numbered-there (suc b) i n ss s (omega (arith, o)) e
 
 -- a steady child stays so as it fires
 steady-set : {A : Type 0} (rows : Rows Token A) (nodes : List (Node Token A)) (i : ℕ) (first next : Node Token A) → get nodes i ≡ Some first → ((later : Node Token A) → Becomes rows next later → Becomes rows first later) → AllSteady rows nodes → AllSteady rows (set nodes i next)
@@ -165,12 +174,26 @@ module _ {A : Type 0} (rows : Rows Token A) where
   usual-one b s now news g (ask.Faulted kind (Some child)) q = open-not-wrong s.stage child g.stage q.1
   usual-one b s now news g (ask.Faulted kind None) q = tt
   usual-one b s now news g (ask.Reset child) q = absurd q
-  usual-one b s now news g (ask.Get child) q = q
-  usual-one b s now news g (ask.Put child) q = q
-  usual-one b s now news g ask.Grow q = q
+  usual-one b s now news g (ask.Get child) q = absurd q
+  usual-one b s now news g (ask.Put child) q = absurd q
+  usual-one b s now news g ask.Grow q = absurd q
   usual-one b s now news g ask.Meet q = q
   usual-one b s now news g ask.Await q = q
-  usual-one b s now news g ask.Full q = q
+  usual-one b s now news g ask.Full q = absurd q
+
+  -- it makes no moves
+  none-moves : (s : State) (a : Ask) → IsMove a → Gives s a → ⊥
+  none-moves s (ask.Get child) m q = q
+  none-moves s (ask.Put child) m q = q
+  none-moves s ask.Grow m q = q
+  none-moves s (ask.Fire child tag) m q = m
+  none-moves s (ask.Early child tag) m q = m
+  none-moves s (ask.Reset child) m q = m
+  none-moves s ask.Finished m q = m
+  none-moves s (ask.Faulted kind child) m q = m
+  none-moves s ask.Full m q = m
+  none-moves s ask.Meet m q = m
+  none-moves s ask.Await m q = m
 
   module _ (b : Beginning A State) (s : State) (now : List (Node Token A)) (news : List (Kept Token)) (g : Going rows b s now news) where
     abbrev limits : List Limit
@@ -249,6 +272,18 @@ module _ {A : Type 0} (rows : Rows Token A) where
         subst (λ cs. so_far.IsAsked rows b.before.plan.net cs s.fired now s.held i child (lent_of s i) (left_of s i)) same-limits
         (subst (λ (p : SdfPlan). so_far.IsAsked rows p.net limits s.fired now s.held i child (lent_of s i) (left_of s i)) g.plan (asked-now i child e allows))
 
+    -- the composite's firing asks for that of a child
+    asks-one : (i : ℕ) (child : Node Token A) → get now i ≡ Some child → Allows s i → (h : Past) →
+        FromSome (λ k. meant.IsAsked (child_facts (facts_of rows)) (steps_below rows k (heights b.kids) b.meets) (b.meets [] h.made) h.made (Sdf b.before.plan b.before.held) (numbered 0 (list_of b.kids)) b.tag b.inputs i (record { number = i; node = child }) b.tag (lent_of s i))
+    asks-one i child e allows h = (
+      sdf-so-far.run.0,
+      λ k o. (
+        refl,
+        run-asks (child_facts (facts_of rows)) (steps_below rows k (heights b.kids) b.meets) b.tag b.before.plan.net (sdf_bounds b.before.plan b.before.held b.inputs) (numbered 0 (list_of b.kids)) (sdf_start b.before.plan b.before.held b.inputs) s.fired (numbered 0 now) s.held (sdf-so-far.run.1 k o).running i (lent_of s i) (left_of s i)
+            (record { number = i; node = child }) (asks-numbered (facts_of rows) 0 i b.before.plan.net.places (sdf_bounds b.before.plan b.before.held b.inputs) s.fired now s.held (lent_of s i) (left_of s i) (sdf-asked i child e allows).asks) (numbered-there 0 i i now child (omega arith) e),
+      ),
+    )
+
     abbrev a : Acts rows State
     a = sdf_acts rows
 
@@ -320,9 +355,9 @@ module _ {A : Type 0} (rows : Rows Token A) where
       asked = λ s i when q. refl;
       listened = λ s i when q. absurd q;
       hands = λ s i e. hands-one s.stage i e;
-      hands_on = λ s i e out wake. (told-handed (has_rates (get_or s.plan.rates i []) out) i out s, refl, refl);
-      asks_on = λ s i out wake q. told-asks (has_rates (get_or s.plan.rates i []) out) i out s;
-      tells = λ s i out wake q. told-wrong (has_rates (get_or s.plan.rates i []) out) i out s;
+      hands_on = λ s i e out wake need. (told-handed (has_rates (get_or s.plan.rates i []) out) i out s, refl, refl);
+      asks_on = λ s i out wake need q. told-asks (has_rates (get_or s.plan.rates i []) out) i out s;
+      tells = λ s i out wake need q. told-wrong (has_rates (get_or s.plan.rates i []) out) i out s;
       finishes = λ s q. refl;
       restarts = λ s. (refl, refl);
     };
@@ -338,15 +373,18 @@ module _ {A : Type 0} (rows : Rows Token A) where
       goes_on = λ i when q child next out k e f rated. goes-one b s now news g i child next out k e q.2 (subst (λ t. FiresTo (λ fuel. Step fuel rows (below_child i b.meets) child t (lent_of s i)) next out (kept_at news i) k) (q.3 ∙ g.tag) f) rated;
       refuses = λ i when q child next out k there f unrated h e. refuses-one b s now news g law h e i child there q.2 k next out (subst (λ t. FiresTo (child_outcome (sdf_acts rows) b (asked i s) i t child) next out (kept_at news i) k) (q.3 ∙ g.tag) f) unrated;
       sticks = λ i when q child k f there x h e. sticks-one b s now news g law h e i child there q.2 k f (subst (λ t. SticksAt (child_outcome (sdf_acts rows) b (asked i s) i t child) (IsShut rows (below_child i b.meets) child t (lent_of s i) (Some f)) f (kept_at news i) k) (q.3 ∙ g.tag) x);
+      asks_as = λ i when q child there h. subst (λ t. FromSome (λ k. meant.IsAsked (child_facts (facts_of rows)) (steps_below rows k (heights b.kids) b.meets) (b.meets [] h.made) h.made (Sdf b.before.plan b.before.held) (numbered 0 (list_of b.kids)) b.tag b.inputs i (record { number = i; node = child }) t (lent_of s i))) (sym (q.3 ∙ g.tag)) (asks-one b s now news g i child there q.2 h);
       listens = λ i when q. absurd q;
       hears = λ i when q child e. absurd q;
       learns = λ i when q early. absurd q;
       resets_one = λ i q. absurd q;
       resets = λ i q child e. absurd q;
       rests = λ i q. absurd q;
+      moves = λ answer m q. absurd (none-moves s answer m q);
       ends = λ q h e. ends-one b s now news g law h e q.1;
       fits = λ q. record { idle = refl; fitting = fits-one b s now news g; starts = g.starts; steady = g.steady };
       faults = λ kind q h e. absurd q;
+      jams = λ q. absurd q;
       off = λ h e. off-one b s now news g law h e;
       off_within = λ i when q child k there x h e. within-one b s now news g law h e i child there q.2 k (subst (λ t. LeavesOff (child_outcome (sdf_acts rows) b (asked i s) i t child) (IsShut rows (below_child i b.meets) child t (lent_of s i) None) (kept_at news i) k) (q.3 ∙ g.tag) x);
     };

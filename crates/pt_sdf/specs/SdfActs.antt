@@ -65,7 +65,7 @@ asking ask.Meet s = s
 asking ask.Await s = s
 asking ask.Full s = s
 
--- It asks for no early answers, and hears none. Wakes of children say nothing to it, and it has none.
+-- It asks for no early answers, and hears none. Wakes of children say nothing to it, and it has none. What children need stays. No channel is full.
 abbrev pub sdf_calls : Calls State
 sdf_calls = record {
   start_of = λ s. tree.Sdf s.plan s.first;
@@ -84,7 +84,7 @@ sdf_calls = record {
   partial_of = λ s. [];
   accepts = λ s child out. has_rates (get_or s.plan.rates child []) out;
   refusal = λ s. Rate;
-  told = λ child out wake. after_told child out;
+  told = λ child out wake need. after_told child out;
   is_wrong = λ s. is_wrong s.stage;
   heard = λ child early s. s;
   MayFinish = λ s. s.stage ≡ Closed;
@@ -93,6 +93,8 @@ sdf_calls = record {
   wake = λ s. None;
   restarted = restarted;
   waits = λ s. 0;
+  maximum = λ s. 0;
+  blocked = λ s. [];
 }
 
 -- No firing is under way, and the plan is one for these children, whose needs stay. Each place has a channel, now and at the start.

@@ -37,13 +37,14 @@ impl Driven for Core {
         self.lent()
     }
 
-    // What wake a child has says nothing of when it fires.
+    // What wake a child has says nothing of when it fires, and what it needs stays.
     fn told(
         &mut self,
         alloc: Global,
         child: u32,
         outputs: Outputs,
         _wake: Option<Tag>,
+        _need: Need<'_>,
     ) -> Result<(), AllocError> {
         self.told(alloc, child, outputs)
     }
@@ -67,6 +68,11 @@ impl Driven for Core {
 
     fn finish(&mut self, alloc: Global) -> Result<Outputs, AllocError> {
         self.finish(alloc)
+    }
+
+    // No channel of it is full.
+    fn blocked(&self, alloc: Global) -> Result<Vec<(u32, usize)>, AllocError> {
+        Ok(Vec::new(alloc))
     }
 
     fn next(&self) -> Option<Tag> {
