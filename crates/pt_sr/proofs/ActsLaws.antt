@@ -11,19 +11,22 @@ use Rattle.pt_meaning.specs.Sr.{all_single}
 use Rattle.pt_meaning.specs.Running.{total}
 use Rattle.pt_meaning.specs.Lawful.{LawfulRows}
 use Rattle.pt_meaning.specs.Meetings.{below_child}
-use Rattle.pt_meaning.specs.Tree.{Rows, Core, Sr, Past, Node, Composite, list_of, nodes_of, made_of, reset_of, fired_at, height}
+use Rattle.pt_meaning.specs.Children.{numbered, child_facts}
+use Rattle.pt_meaning.specs.Tree.{Rows, Core, Sr, Past, Node, Composite, list_of, nodes_of, made_of, reset_of, fired_at, height, heights}
 use Rattle.pt_meaning.specs.NodeFacts.{facts_of, early_of}
 use Rattle.pt_meaning.specs.Step.{step_at, Step}
+use Rattle.pt_meaning.specs.Asked as meant
+use Rattle.pt_laws.specs.CompositeRuns.{steps_below}
 use Rattle.pt_value.specs.declared.token.Token.{Token}
 use Rattle.pt_firing.specs.declared.ask.Ask.{Ask}
 use Rattle.pt_firing.specs.declared.ask.Ask.TheVariants as ask
 use Rattle.pt_firing.specs.declared.fault.RunFault.TheVariants.{SecondToken, Causality}
 use Rattle.pt_records.specs.Kept.{Kept, Entry, kept_at, kept_by}
-use Rattle.pt_records.specs.Fired.{FiresTo, SticksAt, LeavesOff}
+use Rattle.pt_records.specs.Fired.{FromSome, FiresTo, SticksAt, LeavesOff}
 use Rattle.pt_records.specs.Shut.{IsShut}
 use Rattle.pt_records.proofs.SoFarLaws.{recorded-done}
 use Rattle.pt_core.specs.Acts.{Beginning, Acts}
-use Rattle.pt_core.specs.Lawful.{Lawful, IsUsual, IsLentTo, IsStuck, IsLeftOff, node, outcome, child_outcome, below_fault, own_fault, child_fault}
+use Rattle.pt_core.specs.Lawful.{Lawful, IsUsual, IsMove, IsLentTo, IsStuck, IsLeftOff, node, outcome, child_outcome, below_fault, own_fault, child_fault}
 use Rattle.pt_core.specs.Reached.{Becomes, Stays, Fires, Always, AllAlways}
 use Rattle.pt_core.proofs.ReachedLaws.{always-reset}
 use Rattle.pt_sr.specs.State.{Stage, Open, Wrong, Closed, MayFire, MayAnswer, asked, listening, in_stage, begun, if_told, after_told, after_heard, inputs_of, unknown_in, lent_of, own_of, closed, at_first, all_of, known_of}
@@ -34,7 +37,7 @@ use Rattle.pt_sr.specs.SrActs.{IsStrictIf, HasPlaces, Suits, Going, Gives, askin
 use Rattle.pt_sr.proofs.KnownLaws.{after-long}
 use Rattle.pt_sr.proofs.OffsetLaws.{total-within}
 use Rattle.pt_sr.proofs.ChainLaws.{get-or-there, total-set}
-use Rattle.pt_sr.proofs.SoFarLaws.{sr-begins, sr-goes-on, sr-hears, sr-is-done, sr-lacks, sr-is-stuck, sr-gives-two, sr-is-left-off, sr-is-left-off-within}
+use Rattle.pt_sr.proofs.SoFarLaws.{sr-begins, sr-goes-on, sr-hears, sr-is-done, sr-lacks, sr-is-stuck, sr-gives-two, sr-is-left-off, sr-is-left-off-within, asks-planned}
 
 -- the answer that a contract tells
 pub answered : (s : State) (a : Ask) (t : State) → IsAsked s a t → Gives s a × (t ≡ asking a s)
@@ -98,12 +101,26 @@ module _ {A : Type 0} (rows : Rows Token A) (law : LawfulRows rows) where
   usual-one b s now news g (ask.Faulted kind (Some child)) q = open-not-wrong s.stage child g.stage q.1
   usual-one b s now news g (ask.Faulted kind None) q = tt
   usual-one b s now news g (ask.Reset child) q = absurd q
-  usual-one b s now news g (ask.Get child) q = q
-  usual-one b s now news g (ask.Put child) q = q
-  usual-one b s now news g ask.Grow q = q
+  usual-one b s now news g (ask.Get child) q = absurd q
+  usual-one b s now news g (ask.Put child) q = absurd q
+  usual-one b s now news g ask.Grow q = absurd q
   usual-one b s now news g ask.Meet q = q
   usual-one b s now news g ask.Await q = q
-  usual-one b s now news g ask.Full q = q
+  usual-one b s now news g ask.Full q = absurd q
+
+  -- it makes no moves
+  none-moves : (s : State) (a : Ask) → IsMove a → Gives s a → ⊥
+  none-moves s (ask.Get child) m q = q
+  none-moves s (ask.Put child) m q = q
+  none-moves s ask.Grow m q = q
+  none-moves s (ask.Fire child tag) m q = m
+  none-moves s (ask.Early child tag) m q = m
+  none-moves s (ask.Reset child) m q = m
+  none-moves s ask.Finished m q = m
+  none-moves s (ask.Faulted kind child) m q = m
+  none-moves s ask.Full m q = m
+  none-moves s ask.Meet m q = m
+  none-moves s ask.Await m q = m
 
   -- it fits the children as they are now
   suits-for : (s : State) (kids : List (Node Token A)) → Suits rows s.tick.plan s.tick.nonstrict kids → IsFor (facts_of rows) s kids
@@ -159,6 +176,16 @@ module _ {A : Type 0} (rows : Rows Token A) (law : LawfulRows rows) where
           becomes later m =
               let r = recorded-done (made_of child) s.tag (lent_of s i) (step_at rows f.done.0 (height child) (below_child i b.meets) s.tag child (lent_of s i)) next out f.log (f.done.1 f.done.0 (omega arith)) in
               Fires child next later f.done.0 (height child) (below_child i b.meets) s.tag (lent_of s i) out r.0 r.1 m
+
+      -- the composite's firing asks for that
+      module _ (may : MayFire s.tick i) (h : Past) where
+        abbrev AskedFor : Tag → Tag → Type 0
+        AskedFor tag when = FromSome (λ k. meant.IsAsked (child_facts (facts_of rows)) (steps_below rows k (heights b.kids) b.meets) (b.meets [] h.made) h.made (Sr b.before.tick.plan) (numbered 0 (list_of b.kids)) tag b.inputs i (record { number = i; node = child }) when (lent_of s i))
+
+        asks-one : (when : Tag) → when ≡ s.tag → AskedFor b.tag when
+        asks-one when q =
+            subst (λ t. AskedFor b.tag t) (sym q)
+            (subst (λ t. AskedFor t s.tag) g.tag (g.so_far.run.0, λ k o. asks-planned rows k b.meets h b.before b.kids b.inputs g.so_far.any s now g.so_far.logs (g.so_far.run.1 k o) i child e may))
 
       hears-one : MayAnswer s.tick i → Going rows b (after_heard i (early_of rows s.tag child (inputs_of s.tick i)) (listening i s)) now news
       hears-one may = record {
@@ -224,9 +251,9 @@ module _ {A : Type 0} (rows : Rows Token A) (law : LawfulRows rows) where
       asked = λ s i when q. refl;
       listened = λ s i when q. refl;
       hands = λ s i e. (subst (λ v. IsSome v) (sym e) refl, e, refl);
-      hands_on = λ s i e out wake. (refl, refl, refl);
-      asks_on = λ s i out wake q. told-asks (all_single out) i out s;
-      tells = λ s i out wake q. told-wrong (all_single out) i out s;
+      hands_on = λ s i e out wake need. (refl, refl, refl);
+      asks_on = λ s i out wake need q. told-asks (all_single out) i out s;
+      tells = λ s i out wake need q. told-wrong (all_single out) i out s;
       finishes = λ s q. refl;
       restarts = λ s. (refl, refl);
     };
@@ -242,15 +269,18 @@ module _ {A : Type 0} (rows : Rows Token A) (law : LawfulRows rows) where
       goes_on = λ i when q child next out k e f single. goes-one b s now news g i child e q.1 next out k (subst (λ t. FiresTo (λ fuel. Step fuel rows (below_child i b.meets) child t (lent_of s i)) next out (kept_at news i) k) q.2 f) single;
       refuses = λ i when q child next out k there f twice h e. refuses-one b s now news g h e i child there q.1 k next out (subst (λ t. FiresTo (child_outcome (sr_acts rows) b (asked i s) i t child) next out (kept_at news i) k) q.2 f) twice;
       sticks = λ i when q child k f there x h e. sticks-one b s now news g h e i child there q.1 k f (subst (λ t. SticksAt (child_outcome (sr_acts rows) b (asked i s) i t child) (IsShut rows (below_child i b.meets) child t (lent_of s i) (Some f)) f (kept_at news i) k) q.2 x);
+      asks_as = λ i when q child there h. asks-one b s now news g i child there q.1 h when q.2;
       listens = λ i when q. child-within b s now news g i q.1.there;
       hears = λ i when q child e. subst (λ t. Going rows b (after_heard i (early_of rows t child (inputs_of s.tick i)) (listening i s)) now news) (sym q.2) (hears-one b s now news g i child e q.1);
       learns = λ i when q early. total-set s.tick.heard i (unknown_in (inputs_of s.tick i)) (omega (arith, q.1.there, (g.so_far.run.1 g.so_far.run.0 (omega arith)).numbers)) q.1.news;
       resets_one = λ i q. absurd q;
       resets = λ i q child e. absurd q;
       rests = λ i q. absurd q;
+      moves = λ answer m q. absurd (none-moves s answer m q);
       ends = λ q h e. ends-one b s now news g h e q.1;
       fits = λ q. (refl, record { children = g.suits.children; channels = g.suits.channels; strict = g.suits.strict; places = g.suits.places });
       faults = λ kind q h e. subst (λ v. IsStuck (sr_acts rows) b h e (own_fault h v) news) (sym q.0) (lacks-one b s now news g h e q.2.0 q.2.1.0 q.2.1.1 q.2.1.2);
+      jams = λ q. absurd q;
       off = λ h e. off-one b s now news g h e;
       off_within = λ i when q child k there x h e. within-one b s now news g h e i child there q.1 k (subst (λ t. LeavesOff (child_outcome (sr_acts rows) b (asked i s) i t child) (IsShut rows (below_child i b.meets) child t (lent_of s i) None) (kept_at news i) k) q.2 x);
     };

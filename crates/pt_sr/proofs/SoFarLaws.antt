@@ -15,7 +15,7 @@ use Rattle.pt_meaning.specs.Tree.{Rows, Core, Sr, Past, Node, Nodes, Composite, 
 use Rattle.pt_meaning.specs.NodeFacts.{facts_of, early_of}
 use Rattle.pt_meaning.specs.Step.{as_node, step_at, Step}
 use Rattle.pt_meaning.specs.Lawful.{LawfulRows}
-use Rattle.pt_meaning.specs.Asked.{known_places}
+use Rattle.pt_meaning.specs.Asked.{IsAsked, known_places}
 use Rattle.pt_meaning.specs.Closed.{inputs_at}
 use Rattle.pt_meaning.specs.Laws.{IsIn}
 use Rattle.pt_laws.specs.Channels.{source_in}
@@ -208,24 +208,31 @@ module _ {T A : Type 0} (rows : Rows T A) (k : ℕ) (m : Meets) (h : Past) (befo
     knows : known (inputs_of s.tick i) ≡ Some (lent_of s i)
     knows = all-known (inputs_of s.tick i) may.ready
 
-    module _ (place : Option Fault) (inside : Log T) (low : height child ≤ heights kids) (below : LogBelow inside (log_in (step_at rows k (height child) (below_child i m) s.tag child (lent_of s i)))) (shut : IsShut rows (below_child i m) child s.tag (lent_of s i) place inside) where
-      abbrev val : List (Partial T)
-      val = valuation facts.early sr_active (sr_turn facts step) s.tag s.tick.plan.net its inputs u.run.rounds
+    abbrev val : List (Partial T)
+    val = valuation facts.early sr_active (sr_turn facts step) s.tag s.tick.plan.net its inputs u.run.rounds
 
+    -- which the composite's firing asks for
+    sr-asks : IsAsked facts step (m [] h.made) h.made (Sr s.tick.plan) its s.tag inputs i one s.tag (lent_of s i)
+    sr-asks = (
+      refl,
+      record {
+        round = u.run.rounds;
+        inputs_known = ap (λ v. known v) (places-are places i val) ∙ ap (λ v. known v) (known-same (inputs_of s.tick i) (places_at places i val) (lent_of s i) (places-below places i s.tick.known val u.run.caused) knows) ∙ knows;
+        state = first-is;
+      },
+    )
+
+    pub asks-planned : IsAsked facts step (m [] h.made) h.made (Sr before.tick.plan) its s.tag inputs i one s.tag (lent_of s i)
+    asks-planned = subst (λ (p : TickPlan). IsAsked facts step (m [] h.made) h.made (Sr p) its s.tag inputs i one s.tag (lent_of s i)) u.plan sr-asks
+
+    module _ (place : Option Fault) (inside : Log T) (low : height child ≤ heights kids) (below : LogBelow inside (log_in (step_at rows k (height child) (below_child i m) s.tag child (lent_of s i)))) (shut : IsShut rows (below_child i m) child s.tag (lent_of s i) place inside) where
       sr-in : middle.IsIn rows k m s.tag h (Sr s.tick.plan) kids inputs now ls u.turns i child s.tag (lent_of s i) place inside
       sr-in = record {
         there = there;
         low = low;
         at_tag = refl;
         takes = λ q. takes-known i q (lent_of s i) knows (of_turns (inputs_at q) (u.turns i) ++ at (lent_of s i) q) (ap (λ (ts : List (Turned T)). of_turns (inputs_at q) ts ++ at (lent_of s i) q) (u.unturned i may.unfired));
-        asks = (
-          refl,
-          record {
-            round = u.run.rounds;
-            inputs_known = ap (λ v. known v) (places-are places i val) ∙ ap (λ v. known v) (known-same (inputs_of s.tick i) (places_at places i val) (lent_of s i) (places-below places i s.tick.known val u.run.caused) knows) ∙ knows;
-            state = first-is;
-          },
-        );
+        asks = sr-asks;
         below = below;
         shut = shut;
       }

@@ -93,7 +93,7 @@ is_wrong (Listens child) = false
 is_wrong (Wrong child) = true
 is_wrong Closed = false
 
--- Wakes of children say nothing to it, and it has none.
+-- Wakes and needs of children say nothing to it, and it has no wake. No channel is full.
 abbrev pub sr_calls : Calls State
 sr_calls = record {
   start_of = λ s. tree.Sr s.tick.plan;
@@ -112,7 +112,7 @@ sr_calls = record {
   partial_of = λ s. known_if s (listened_child s.stage);
   accepts = λ s child out. all_single out;
   refusal = λ s. SecondToken;
-  told = λ child out wake. after_told child out;
+  told = λ child out wake need. after_told child out;
   is_wrong = λ s. is_wrong s.stage;
   heard = after_heard;
   MayFinish = λ s. s.stage ≡ Closed;
@@ -121,6 +121,8 @@ sr_calls = record {
   wake = λ s. None;
   restarted = restarted;
   waits = waits;
+  maximum = λ s. 0;
+  blocked = λ s. [];
 }
 
 abbrev pub sr_acts : {A : Type 0} (rows : Rows Token A) → Acts rows State

@@ -35,13 +35,14 @@ impl Driven for Core {
         self.lent()
     }
 
-    // What wake a child has says nothing of when it fires.
+    // What wake and what need a child has says nothing of when it fires.
     fn told(
         &mut self,
         alloc: Global,
         child: u32,
         outputs: Outputs,
         _wake: Option<Tag>,
+        _need: Need<'_>,
     ) -> Result<(), AllocError> {
         self.told(alloc, child, outputs)
     }
@@ -70,6 +71,11 @@ impl Driven for Core {
 
     fn finish(&mut self, alloc: Global) -> Result<Outputs, AllocError> {
         self.finish(alloc)
+    }
+
+    // No channel of it is full.
+    fn blocked(&self, alloc: Global) -> Result<Vec<(u32, usize)>, AllocError> {
+        Ok(Vec::new(alloc))
     }
 
     fn next(&self) -> Option<Tag> {
