@@ -12,6 +12,7 @@ use Rattle.pt_meaning.specs.Children.{Child, numbered, child_facts}
 use Rattle.pt_meaning.specs.Tree.{Rows, Modal, Past, Node, Composite, list_of, nodes_of, reset_of, fired_at, height, heights}
 use Rattle.pt_meaning.specs.NodeFacts.{facts_of, next_of}
 use Rattle.pt_meaning.specs.Step.{step_at, Step}
+use Rattle.pt_meaning.specs.Asked.{IsAsked}
 use Rattle.pt_meaning.specs.Lawful.{LawfulRows}
 use Rattle.pt_laws.specs.CompositeRuns.{steps_below}
 use Rattle.pt_laws.specs.LogsOfRuns.{silents, log_in}
@@ -24,13 +25,13 @@ use Rattle.pt_firing.specs.declared.ask.Ask.TheVariants as ask
 use Rattle.pt_firing.specs.declared.fault.RunFault.{RunFault}
 use Rattle.pt_firing.specs.RunFault.{code_of}
 use Rattle.pt_records.specs.Kept.{Kept, Entry, kept_at, kept_by}
-use Rattle.pt_records.specs.Fired.{FiresTo, SticksAt, LeavesOff}
+use Rattle.pt_records.specs.Fired.{FromSome, FiresTo, SticksAt, LeavesOff}
 use Rattle.pt_records.specs.Shut.{IsShut}
 use Rattle.pt_records.proofs.GrowthLaws.{all-begin, grew-within}
 use Rattle.pt_records.proofs.ShutSteps.{stepped-is-shut, at-own-place}
 use Rattle.pt_records.proofs.SoFarLaws.{numbered-set, numbered-nodes}
 use Rattle.pt_core.specs.Acts.{Beginning}
-use Rattle.pt_core.specs.Lawful.{Lawful, Middle, IsUsual, IsLentTo, IsStuck, IsLeftOff, node, outcome, own_fault, below_fault}
+use Rattle.pt_core.specs.Lawful.{Lawful, Middle, IsUsual, IsMove, IsLentTo, IsStuck, IsLeftOff, node, outcome, own_fault, below_fault}
 use Rattle.pt_core.specs.Reached.{Stays, Resets}
 use Rattle.pt_modal_laws.specs.State.{ModalPlan, Stage, Due, Asked, Over, Closed, Failed, resets_in, in_stage, opened, with_wake, after_reset, closed, chart_in, begun, after_told}
 use Rattle.pt_modal_laws.specs.State as state
@@ -38,7 +39,7 @@ use Rattle.pt_modal_laws.specs.Chain.{IsKnownIn, IsKnown, firing_from, IsDue, du
 use Rattle.pt_modal_laws.specs.ModalActs.{State, Suits, MayAsk, Settles, Begins, Going, Waits, Knows, Gives, modal_acts}
 use Rattle.pt_modal_laws.proofs.PartLaws.{numbered-get, silents-below, map-set, due-number, known-asks, known-log, never-due, Keeps, preemptive-keeps, given-asks}
 use Rattle.pt_modal_laws.proofs.NodeLaws.{wakes-are, again-starts, suits-set, suits-again}
-use Rattle.pt_modal_laws.proofs.FiringLaws.{start, composite-at, within, off-begins, lends-one, goes-one, sticks-one, within-one}
+use Rattle.pt_modal_laws.proofs.FiringLaws.{start, composite-at, within, off-begins, asks-one, lends-one, goes-one, sticks-one, within-one}
 use Rattle.pt_modal_laws.proofs.ReactionLaws.{calls-are-modal}
 
 clash : true ≡ false → ⊥
@@ -51,12 +52,26 @@ usual-one s ask.Finished q = tt
 usual-one s (ask.Faulted kind (Some child)) q = absurd q
 usual-one s (ask.Faulted kind None) q = tt
 usual-one s (ask.Reset child) q = tt
-usual-one s (ask.Get child) q = q
-usual-one s (ask.Put child) q = q
-usual-one s ask.Grow q = q
+usual-one s (ask.Get child) q = absurd q
+usual-one s (ask.Put child) q = absurd q
+usual-one s ask.Grow q = absurd q
 usual-one s ask.Meet q = q
 usual-one s ask.Await q = q
-usual-one s ask.Full q = q
+usual-one s ask.Full q = absurd q
+
+-- it makes no moves
+none-moves : {M : Type 0} (s : State M) (a : Ask) → IsMove a → Gives s a → ⊥
+none-moves s (ask.Get child) m q = q
+none-moves s (ask.Put child) m q = q
+none-moves s ask.Grow m q = q
+none-moves s (ask.Fire child tag) m q = m
+none-moves s (ask.Early child tag) m q = m
+none-moves s (ask.Reset child) m q = m
+none-moves s ask.Finished m q = m
+none-moves s (ask.Faulted kind child) m q = m
+none-moves s ask.Full m q = m
+none-moves s ask.Meet m q = m
+none-moves s ask.Await m q = m
 
 -- a stage is not another
 due-resets : (i j : ℕ) → Due i ≡ state.Resets j → ⊥
@@ -91,6 +106,8 @@ module _ {M A : Type 0} (reads : M → Chart Token) (rows : Rows Token A) (law :
           (h : Past) (e : Entry Token) → IsStuck (modal_acts reads rows) b h e (below_fault j f) (set b.olds j k)
       off : (child : Node Token A) (k : Kept Token) → get (list_of b.kids) j ≡ Some child → LeavesOff (λ fuel. step_at rows fuel (height child) (below_child j b.meets) when child (inputs_for reads b.before b.inputs j)) (IsShut rows (below_child j b.meets) child when (inputs_for reads b.before b.inputs j) None) (kept_at b.olds j) k →
           (h : Past) (e : Entry Token) → IsLeftOff (modal_acts reads rows) b h e (set b.olds j k)
+      asks : (child : Node Token A) → get (list_of b.kids) j ≡ Some child → (h : Past) →
+          FromSome (λ k. IsAsked (child_facts (facts_of rows)) (steps_below rows k (heights b.kids) b.meets) (b.meets [] h.made) h.made (Modal (chart_in reads b.before) b.before.modes) (numbered 0 (list_of b.kids)) b.tag b.inputs j (record { number = j; node = child }) when (inputs_for reads b.before b.inputs j))
 
     fired-so-one : IsFired i (local_of b.before b.tag i)
     fired-so-one = record {
@@ -99,6 +116,7 @@ module _ {M A : Type 0} (reads : M → Chart Token) (rows : Rows Token A) (law :
       goes = λ child next out k e f. goes-one reads rows law b w i d child e next out k f;
       sticks = λ child k f e x h c. sticks-one reads rows law b w i d child e h c k f x;
       off = λ child k e x h c. within-one reads rows law b w i d child e h c k x;
+      asks = λ child e h. asks-one reads rows law b w i d child e h;
     }
 
     asked-so : (j : ℕ) (when : Tag) → Gives due (ask.Fire j when) → IsFired j when
@@ -113,15 +131,18 @@ module _ {M A : Type 0} (reads : M → Chart Token) (rows : Rows Token A) (law :
       goes_on = λ j when q child next out k e f ok. (asked-so j when q).goes child next out k e f;
       refuses = λ j when q child next out k e f no. absurd (clash no);
       sticks = λ j when q child k f e x h c. (asked-so j when q).sticks child k f e x h c;
+      asks_as = λ j when q child e h. (asked-so j when q).asks child e h;
       listens = λ j when q. absurd q;
       hears = λ j when q child e. absurd q;
       learns = λ j when q early. absurd q;
       resets_one = λ j q. absurd (due-resets i j q);
       resets = λ j q child e. absurd (due-resets i j q);
       rests = λ j q. absurd (due-resets i j q);
+      moves = λ answer m q. absurd (none-moves due answer m q);
       ends = λ q h c. absurd (due-over i q);
       fits = λ q. absurd (due-over i q);
       faults = λ kind q. absurd (due-failed i (code_of kind) q);
+      jams = λ q. absurd q;
       off = λ h c. off-begins reads rows law b w i d h c;
       off_within = λ j when q child k e x h c. (asked-so j when q).off child k e x h c;
     }
@@ -229,15 +250,18 @@ module _ {M A : Type 0} (reads : M → Chart Token) (rows : Rows Token A) (law :
       goes_on = λ i when q child next out k e f ok. absurd (never i q.0);
       refuses = λ i when q child next out k e f no. absurd (clash no);
       sticks = λ i when q child k f e x h c. absurd (never i q.0);
+      asks_as = λ i when q child e h. absurd (never i q.0);
       listens = λ i when q. absurd q;
       hears = λ i when q child e. absurd q;
       learns = λ i when q early. absurd q;
       resets_one = λ i q. x.there i q;
       resets = λ i q child e. resets-so i q child e;
       rests = λ i q. none-left s i q;
+      moves = λ answer m q. absurd (none-moves s answer m q);
       ends = λ q h c. ends-so h c q;
       fits = λ q. (refl, fits-so.0, fits-so.1);
       faults = λ kind q h c. faults-so h c kind q;
+      jams = λ q. absurd q;
       off = λ h c. off-so h c;
       off_within = λ i when q child k e x h c. absurd (never i q.0);
     }
@@ -300,9 +324,9 @@ modal-is-lawful reads rows law = record {
     asked = λ s i when q. refl;
     listened = λ s i when q. absurd q;
     hands = λ s i e. (subst (λ v. IsSome v) (sym e) refl, e, refl);
-    hands_on = λ s i e out wake. (refl, refl, refl);
-    asks_on = λ s i out wake e. asked-asks reads s i out wake;
-    tells = λ s i out wake e. refl;
+    hands_on = λ s i e out wake need. (refl, refl, refl);
+    asks_on = λ s i out wake need e. asked-asks reads s i out wake;
+    tells = λ s i out wake need e. refl;
     finishes = λ s q. refl;
     restarts = λ s. (refl, refl);
   };

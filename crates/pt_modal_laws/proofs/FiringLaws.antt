@@ -11,6 +11,7 @@ use Rattle.pt_meaning.specs.Children.{Child, numbered, child_facts, with_number}
 use Rattle.pt_meaning.specs.Tree.{Rows, Core, Modal, Past, Node, Composite, list_of, made_of, height, heights}
 use Rattle.pt_meaning.specs.NodeFacts.{facts_of, next_of}
 use Rattle.pt_meaning.specs.Step.{as_node, step_at, Step}
+use Rattle.pt_meaning.specs.Asked.{IsAsked}
 use Rattle.pt_meaning.specs.Lawful.{LawfulRows}
 use Rattle.pt_laws.specs.CompositeRuns.{steps_below}
 use Rattle.pt_laws.specs.LogsOfRuns.{silents, logs_then, log_in}
@@ -22,7 +23,7 @@ use Rattle.pt_laws.proofs.Order.{IsPrefix-append}
 use Rattle.pt_laws.proofs.StuckLaws.{in-prefixed}
 use Rattle.pt_value.specs.declared.token.Token.{Token}
 use Rattle.pt_records.specs.Kept.{Kept, Entry, kept_at, kept_by, GrewBy}
-use Rattle.pt_records.specs.Fired.{FiresTo, SticksAt, LeavesOff}
+use Rattle.pt_records.specs.Fired.{FromSome, FiresTo, SticksAt, LeavesOff}
 use Rattle.pt_records.specs.Shut.{IsShut}
 use Rattle.pt_records.specs.Middle.{IsBetween, below_place}
 use Rattle.pt_records.proofs.GrowthLaws.{all-begin, all-go-on, grew-within}
@@ -138,6 +139,10 @@ module _ {M A : Type 0} (reads : M → Chart Token) (rows : Rows Token A) (law :
 
       its-step : (k : ℕ) (r : Outcome Token (Node Token A)) → step_at rows k (height child) (below_child i b.meets) when child got ≡ r → steps k when it got ≡ with_number i r
       its-step k r g = ap (λ v. with_number i v) (levels-agree rows k (heights b.kids) (height child) (below_child i b.meets) when child got low (omega arith) ∙ g)
+
+      -- the composite's firing asks for that of it
+      pub asks-one : (h : Past) → FromSome (λ k. IsAsked its-facts (steps k) (b.meets [] h.made) h.made core first b.tag b.inputs i it when got)
+      asks-one h = (0, λ k o. (refl, d.calm, d.current, it-is, refl))
 
       pub lends-one : IsLentTo rows child got
       lends-one = record { places = λ ns n. picked-long ((chart_in reads b.before).in_ports i) b.inputs ∙ sym (w.suits.places i child there child (Stays child) ns n) }

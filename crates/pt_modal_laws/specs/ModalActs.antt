@@ -95,7 +95,7 @@ module _ {M : Type 0} (reads : M → Chart Token) where
     Waits : (i : ℕ) → Begins rows b → IsDue reads b.before b.tag b.inputs i → Going rows b (due_from b.before b.tag b.inputs i) (list_of b.kids) b.olds
     Knows : (s : State M) (now : List (Node Token A)) (news : List (Kept Token)) → Settles rows b s now news → Going rows b s now news
 
-  -- Whatever a refinement gives is accepted, so the fault of one that gives anything else is never told; and none is asked for an early answer.
+  -- Whatever a refinement gives is accepted, so the fault of one that gives anything else is never told; and none is asked for an early answer. What a refinement needs says nothing to it, and no channel is full.
   abbrev pub modal_calls : Calls (State M)
   modal_calls = record {
     start_of = λ s. tree.Modal (chart_in reads s) (first_modes (chart_in reads s) (length s.plan.starts));
@@ -114,7 +114,7 @@ module _ {M : Type 0} (reads : M → Chart Token) where
     partial_of = λ s. [];
     accepts = λ s child out. true;
     refusal = λ s. Ambiguous;
-    told = after_told reads;
+    told = λ child out wake need. after_told reads child out wake;
     is_wrong = λ s. false;
     heard = λ child early s. s;
     MayFinish = λ s. s.stage ≡ Closed;
@@ -123,6 +123,8 @@ module _ {M : Type 0} (reads : M → Chart Token) where
     wake = wake_of reads;
     restarted = restarted reads;
     waits = λ s. resets_in s.stage;
+    maximum = λ s. 0;
+    blocked = λ s. [];
   }
 
   -- The wakes are those of the children, of which that of the mode's refinement is the composite's, with the lag added.
