@@ -1,5 +1,5 @@
 -- What a child gives is put on the channels that it feeds, one after another; and so is what comes to the own inputs.
-use Rattle.std.proofs.Common.{◌≡◌, ℕ, zero, suc, ◌+◌, ◌<◌, List, [], ◌∷◌, ◌++◌, Bool, true, false, length, get_or, set, take, map, nat_eq, if◌then◌else◌, refl, sym, ap, ap₂, ◌∙◌, arith, append_assoc, length-set}
+use Rattle.std.proofs.Common.{◌≡◌, ℕ, zero, suc, ◌+◌, ◌<◌, List, [], ◌∷◌, ◌++◌, Bool, true, false, length, get_or, set, take, map, nat_eq, if◌then◌else◌, Vec, Global, refl, sym, ap, ap₂, ◌∙◌, arith, append_assoc, length-set}
 use Rattle.std.proofs.lemmas.List.{take_more, length-map}
 use Rattle.pt_meaning.specs.Streams.{Streams, at}
 use Rattle.pt_meaning.specs.Machine.{Partial, Unknown, Known}
@@ -8,7 +8,7 @@ use Rattle.pt_meaning.specs.Valuation.{tokens_of}
 use Rattle.pt_de_laws.specs.State.{gained, at_first}
 use Rattle.pt_de_laws.proofs.PlaceLaws.{same-test, other-test}
 use Rattle.pt_reaction.specs.declared.feeds.Feed.{Feed}
-use Rattle.pt_reaction.specs.Feeds.{Target, target_of, row_of, port_of, if_target, targets, no_feed}
+use Rattle.pt_reaction.specs.Feeds.{Target, target_of, row_of, port_of, if_target, targets, no_feed, rows_in, AreFeeds}
 use Rattle.pt_reaction.specs.Given.{put_on, known_on}
 use Rattle.pt_reaction.proofs.FeedLaws.{no_target, feeds-apart, feeds-channels}
 use Rattle.pt_de_due.specs.Due.{AreWithin, put}
@@ -127,3 +127,17 @@ target-there n r ss k l =
     let a = feeds-channels n r (map (λ t. as_feed t) (targets n r 0 ss)) ss (as-feeds (targets n r 0 ss)) (length ss) (omega arith) k (omega (arith, l, length-map (targets n r 0 ss) (λ t. as_feed t))) in
     let x = feed-channel (targets n r 0 ss) k in
     omega (arith, a, x)
+
+-- the same by the rows of feeds that were listed
+module _ (n : ℕ) (cs : List Source) (rows : List (Vec Feed Global)) (f : AreFeeds n cs rows) where
+  row-is : (r : ℕ) → r < n + 1 → map target_of (get_or (rows_in rows) r []) ≡ targets n r 0 cs
+  row-is r h = let t = f.targets in t.each r h
+
+  pub fed-gained : {T : Type 0} (i : ℕ) (out X : Streams T) → i < n → length X ≡ length cs → put_on (λ port. at out port) (map target_of (get_or (rows_in rows) i [])) X ≡ gained i out cs X
+  fed-gained i out X h e = ap (λ ts. put_on (λ port. at out port) ts X) (row-is i (omega (arith, h))) ∙ gained-puts n i out cs X h e
+
+  pub fed-early : {T : Type 0} (i : ℕ) (early : List (Partial T)) (X : Streams T) → i < n → length X ≡ length cs → put_on (λ port. known_on early port) (map target_of (get_or (rows_in rows) i [])) X ≡ gained i (tokens_of early) cs X
+  fed-early i early X h e = ap (λ ts. put_on (λ port. known_on early port) ts X) (row-is i (omega (arith, h))) ∙ early-puts n i early cs X h e
+
+  pub fed-begun : {T : Type 0} (inputs : Streams T) → AreWithin n cs → put_on (λ port. at inputs port) (map target_of (get_or (rows_in rows) n [])) (map (λ (c : Source). let none : List T = [] in none) cs) ≡ map (λ c. at_first inputs c) cs
+  fed-begun {T} inputs h = ap (λ ts. put_on (λ port. at inputs port) ts (map (λ (c : Source). let none : List T = [] in none) cs)) (row-is n (omega arith)) ∙ begun-puts n inputs cs h

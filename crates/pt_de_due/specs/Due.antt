@@ -6,6 +6,7 @@ use Rattle.pt_meaning.specs.Net.{Source, Output}
 use Rattle.pt_meaning.specs.Running.{total}
 use Rattle.pt_de_laws.specs.State.{Turn, Waits, Answered, Over, Open, DeState, is_some_token, is_due_child, is_last_child}
 use Rattle.pt_reaction.specs.Offsets.{all_readers}
+use Rattle.pt_reaction.specs.Feeds.{Target}
 use Rattle.pt_wakes.specs.Due.{DueSet, with_due}
 
 -- the children for which a test holds, at their depths
@@ -17,6 +18,10 @@ pub record IsSetOf (children : ℕ) (depth_list : List ℕ) (test : ℕ → Bool
 -- each channel that begins at a child begins at one of so many
 abbrev pub AreWithin : (children : ℕ) → List Source → Type 0
 AreWithin n sources = (c child port : ℕ) → get sources c ≡ Some (Output child port) → child < n
+
+-- the target at a number, and any past the last
+abbrev pub target_at : List Target → ℕ → Target
+target_at ts k = get_or ts k (record { channel = 0; port = 0 })
 
 -- a child becomes due where it was found to be
 abbrev pub due_if : Bool → ℕ → DueSet → DueSet

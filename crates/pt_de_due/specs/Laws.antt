@@ -1,21 +1,22 @@
 -- What the calls of a core of DE change of who is due, one step at a time.
-use Rattle.std.specs.Prelude.{◌≡◌, ℕ, suc, ◌+◌, ◌<◌, ◌≤◌, List, [], ◌∷◌, Bool, true, false, ◌&&◌, ◌||◌, length, map, get_or, set, drop, nat_eq, Option}
+use Rattle.std.specs.Prelude.{◌≡◌, ℕ, suc, ◌+◌, ◌<◌, ◌≤◌, List, [], ◌∷◌, Bool, true, false, ◌&&◌, ◌||◌, length, map, get_or, set, take, drop, nat_eq, Option}
 use Rattle.pt_meaning.specs.Tag.{Tag}
 use Rattle.pt_meaning.specs.Streams.{Streams, at}
 use Rattle.pt_meaning.specs.Machine.{Partial}
 use Rattle.pt_meaning.specs.Net.{Source}
-use Rattle.pt_meaning.specs.Valuation.{tokens_of}
+use Rattle.pt_meaning.specs.Valuation.{TickPlan, tokens_of}
 use Rattle.pt_meaning.specs.Running.{total}
 use Rattle.pt_laws.specs.TickRuns.{places_at}
 use Rattle.pt_wakes.specs.Due.{DueSet, with_due}
 use Rattle.pt_wakes.specs.Due as wakes
 use Rattle.pt_wakes.specs.Moved.{with_woken}
-use Rattle.pt_de_laws.specs.State.{Turn, Waits, Answered, Over, Asked, DeState, is_some_token, agree, comes, emptied_from, emptied, gained, at_first, asked, begun, after_told, after_heard, after_fired, in_stage, IsFirst, IsLast, IsOver, waiting_in, rows_left, rows_for, inputs_of, Open}
+use Rattle.pt_de_laws.specs.State.{Roles, Turn, Waits, Answered, Over, Asked, DeState, at_rest, is_some_token, agree, comes, emptied_from, emptied, gained, at_first, asked, begun, after_told, after_heard, after_fired, in_stage, IsFirst, IsLast, IsOver, waiting_in, rows_left, rows_for, inputs_of, Open}
 use Rattle.pt_de_laws.specs.Chain.{with_tokens}
+use Rattle.pt_de_laws.specs.Lawful.{IsLawful}
 use Rattle.pt_reaction.specs.Offsets.{all_readers}
-use Rattle.pt_reaction.specs.Feeds.{targets}
+use Rattle.pt_reaction.specs.Feeds.{Target, targets}
 use Rattle.pt_reaction.specs.Given.{put_on, known_on}
-use Rattle.pt_de_due.specs.Due.{AreWithin, due_if, put, with_turn, with_wake, IsShaped, AreDue, AreLast, reader_of, makes_due, makes_last, opened, none_due}
+use Rattle.pt_de_due.specs.Due.{AreWithin, target_at, due_if, put, with_turn, with_wake, IsShaped, AreDue, AreLast, reader_of, makes_due, makes_last, opened, none_due}
 
 -- Tokens on a channel come to the child that reads it, at a place of the channel's kind, and to no other.
 abbrev pub TokensCome : Type 0 → Type 0
@@ -35,11 +36,21 @@ pub record OutputsArePut (T : Type 0) : Type 0 where
   pub given : (n i : ℕ) (out : Streams T) (cs : List Source) (X : Streams T) → i < n → length X ≡ length cs → put_on (λ port. at out port) (targets n i 0 cs) X ≡ gained i out cs X
   pub early : (n i : ℕ) (early : List (Partial T)) (cs : List Source) (X : Streams T) → i < n → length X ≡ length cs → put_on (λ port. known_on early port) (targets n i 0 cs) X ≡ gained i (tokens_of early) cs X
   pub arrived : (n : ℕ) (inputs : Streams T) (cs : List Source) → AreWithin n cs → put_on (λ port. at inputs port) (targets n n 0 cs) (map (λ c. []) cs) ≡ map (λ c. at_first inputs c) cs
+  -- the targets of a row are channels that are there, each after the one before
+  pub there : (n r : ℕ) (cs : List Source) (k : ℕ) → k < length (targets n r 0 cs) → (target_at (targets n r 0 cs) k).channel < length cs
+  pub rising : (n r : ℕ) (cs : List Source) (j k : ℕ) → j < k → k < length (targets n r 0 cs) → (target_at (targets n r 0 cs) j).channel < (target_at (targets n r 0 cs) k).channel
 
 -- Tokens on a channel make its reader due, if it has had no turn, or, at a delay, one of those that fire after all others.
 pub record TokensMakeDue (T : Type 0) : Type 0 where
   pub due : (s : DeState T) → IsShaped s → (c : ℕ) (ts : List T) (d : DueSet) → AreDue s d → AreDue (with_tokens (put c ts s.tokens) s) (due_if (makes_due s c ts) (reader_of s c) d)
   pub last : (s : DeState T) → IsShaped s → (c : ℕ) (ts : List T) (d : DueSet) → AreLast s d → AreLast (with_tokens (put c ts s.tokens) s) (due_if (makes_last s c ts) (reader_of s c) d)
+
+-- So in a loop over targets, after k of them and after one more.
+pub record TargetsMakeDue (T : Type 0) : Type 0 where
+  pub due : (s : DeState T) → IsShaped s → (given : ℕ → List T) (ts : List Target) (k : ℕ) → k < length ts → (d : DueSet) → AreDue (with_tokens (put_on given (take k ts) s.tokens) s) d →
+      AreDue (with_tokens (put_on given (take (k + 1) ts) s.tokens) s) (due_if (makes_due s (target_at ts k).channel (given (target_at ts k).port)) (reader_of s (target_at ts k).channel) d)
+  pub last : (s : DeState T) → IsShaped s → (given : ℕ → List T) (ts : List Target) (k : ℕ) → k < length ts → (d : DueSet) → AreLast (with_tokens (put_on given (take k ts) s.tokens) s) d →
+      AreLast (with_tokens (put_on given (take (k + 1) ts) s.tokens) s) (due_if (makes_last s (target_at ts k).channel (given (target_at ts k).port)) (reader_of s (target_at ts k).channel) d)
 
 -- As a reaction begins those children are due whose wakes are, and none fires after all others, until something comes.
 abbrev pub WakesMakeDue : Type 0 → Type 0
@@ -68,6 +79,14 @@ pub record FirstsComeNext (T : Type 0) : Type 0 where
   pub first : (s : DeState T) (due : DueSet) → AreDue s due → (i : ℕ) → wakes.IsFirst due i → IsFirst s i
   pub last : (s : DeState T) (due last : DueSet) → AreDue s due → AreLast s last → wakes.NoneDue due → (i : ℕ) → wakes.IsFirst last i → IsLast s i
   pub over : (s : DeState T) (due last : DueSet) → AreDue s due → AreLast s last → wakes.NoneDue due → wakes.NoneDue last → IsOver s × (due ≡ none_due s) × (last ≡ none_due s)
+
+-- The lists of a core fit its plan whatever is called, if the plan is lawful.
+pub record ShapesStay (T : Type 0) : Type 0 where
+  pub rests : (plan : TickPlan) (roles : Roles) (wakes : List (Option Tag)) → IsLawful plan roles → length wakes ≡ length plan.net.places → IsShaped (at_rest {T = T} plan roles wakes)
+  pub begun : (s : DeState T) (tag : Tag) (inputs : Streams T) → IsShaped s → IsShaped (begun tag inputs s)
+  pub asked : (s : DeState T) (i : ℕ) → IsShaped s → IsShaped (asked i s)
+  pub told : (s : DeState T) (i : ℕ) (out : Streams T) (wake : Option Tag) → IsShaped s → IsShaped (after_told i out wake s)
+  pub heard : (s : DeState T) (i : ℕ) (early : List (Partial T)) → IsShaped s → IsShaped (after_heard i early s)
 
 -- How many have had no turn, and which rows a child has left.
 pub record TurnsAreCounted (T : Type 0) : Type 0 where

@@ -1,6 +1,6 @@
 // What the calls of a core change of who is due.
 
-ghost use Rattle.pt_de_due.specs.Laws.{TokensCome, InputsLeave, OutputsArePut, TokensMakeDue, WakesMakeDue, TurnsChangeDue, CallsAreSteps, FirstsComeNext, TurnsAreCounted};
+ghost use Rattle.pt_de_due.specs.Laws.{TokensCome, InputsLeave, OutputsArePut, TokensMakeDue, TargetsMakeDue, WakesMakeDue, TurnsChangeDue, CallsAreSteps, FirstsComeNext, TurnsAreCounted, ShapesStay};
 
 /// Tokens on a channel come to the child that reads it, and to no other.
 pub fn tokens_come<T>()
@@ -20,6 +20,11 @@ pub fn outputs_are_put<T>()
 /// Tokens on a channel make its reader due, if it has had no turn, or one of those that fire after all others.
 pub fn tokens_make_due<T>()
     ensures { TokensMakeDue T }
+{}
+
+/// So does what is put on the targets of a row, one after another.
+pub fn targets_make_due<T>()
+    ensures { TargetsMakeDue T }
 {}
 
 /// As a reaction begins those children are due whose wakes are.
@@ -45,4 +50,9 @@ pub fn firsts_come_next<T>()
 /// One child waits less once it has its turn or answers, and one that has fired on a row has the others left.
 pub fn turns_are_counted<T>()
     ensures { TurnsAreCounted T }
+{}
+
+/// The lists of a core fit its plan whatever is called.
+pub fn shapes_stay<T>()
+    ensures { ShapesStay T }
 {}
