@@ -15,17 +15,18 @@ use Rattle.pt_meaning.specs.Children.{Child, numbered, child_facts}
 use Rattle.pt_meaning.specs.Tree.{Rows, De, Past, Node, Composite, list_of, nodes_of, made_of, reset_of, fired_at, height, heights}
 use Rattle.pt_meaning.specs.NodeFacts.{facts_of, early_of, next_of, wakes_of, whole_of}
 use Rattle.pt_meaning.specs.Step.{step_at, Step}
+use Rattle.pt_meaning.specs.Asked.{IsAsked}
 use Rattle.pt_laws.specs.CompositeRuns.{steps_below}
 use Rattle.pt_laws.specs.TickRuns.{places_at}
 use Rattle.pt_value.specs.declared.token.Token.{Token}
 use Rattle.pt_firing.specs.declared.ask.Ask.{Ask}
 use Rattle.pt_firing.specs.declared.ask.Ask.TheVariants as ask
 use Rattle.pt_records.specs.Kept.{Kept, Entry, kept_at, kept_by}
-use Rattle.pt_records.specs.Fired.{FiresTo, SticksAt, LeavesOff}
+use Rattle.pt_records.specs.Fired.{FromSome, FiresTo, SticksAt, LeavesOff}
 use Rattle.pt_records.specs.Shut.{IsShut}
 use Rattle.pt_records.proofs.SoFarLaws.{recorded-done}
 use Rattle.pt_core.specs.Acts.{Beginning, Acts}
-use Rattle.pt_core.specs.Lawful.{Lawful, IsUsual, IsLentTo, IsStuck, IsLeftOff, node, outcome, below_fault}
+use Rattle.pt_core.specs.Lawful.{Lawful, IsUsual, IsMove, IsLentTo, IsStuck, IsLeftOff, node, outcome, below_fault}
 use Rattle.pt_core.specs.Reached.{Becomes, Stays, Fires, Always, AllAlways}
 use Rattle.pt_core.proofs.ReachedLaws.{always-reset}
 use Rattle.pt_de_laws.specs.State.{Roles, Stage, Idle, Open, Listens, Asked, Between, Closed, MayAnswer, IsOver, rows_for, asked_child, asked_row, partial_of, own_of, in_stage, begun, asked_on, after_row, after_fired, after_told, after_heard, closed}
@@ -36,7 +37,7 @@ use Rattle.pt_de_laws.proofs.PlaceLaws.{get-or-there}
 use Rattle.pt_de_laws.proofs.ReadyLaws.{clash, known-long}
 use Rattle.pt_de_laws.proofs.ChainLaws.{its-turn}
 use Rattle.pt_de_laws.proofs.LeftLaws.{calls-are-de}
-use Rattle.pt_de_laws.proofs.SoFarLaws.{de-begins, under, asks, on-heard, on-fired, over, off-between, off-within, stuck-within, mapped-numbered}
+use Rattle.pt_de_laws.proofs.SoFarLaws.{asks-planned, de-begins, under, asks, on-heard, on-fired, over, off-between, off-within, stuck-within, mapped-numbered}
 
 -- what holds of all that a list of nodes becomes, where one of them has fired
 get-set-same : {B : Type 0} (xs : List B) (i : ℕ) (x y : B) → get (set xs i x) i ≡ Some y → y ≡ x
@@ -166,12 +167,26 @@ module _ {A : Type 0} (rows : Rows Token A) (law : LawfulRows rows) where
   usual-one s (ask.Faulted kind (Some child)) q = absurd q
   usual-one s (ask.Faulted kind None) q = absurd q
   usual-one s (ask.Reset child) q = absurd q
-  usual-one s (ask.Get child) q = q
-  usual-one s (ask.Put child) q = q
-  usual-one s ask.Grow q = q
+  usual-one s (ask.Get child) q = absurd q
+  usual-one s (ask.Put child) q = absurd q
+  usual-one s ask.Grow q = absurd q
   usual-one s ask.Meet q = q
   usual-one s ask.Await q = q
-  usual-one s ask.Full q = q
+  usual-one s ask.Full q = absurd q
+
+  -- it makes no moves
+  none-moves : (s : State) (a : Ask) → IsMove a → Gives s a → ⊥
+  none-moves s (ask.Get child) m q = q
+  none-moves s (ask.Put child) m q = q
+  none-moves s ask.Grow m q = q
+  none-moves s (ask.Fire child tag) m q = m
+  none-moves s (ask.Early child tag) m q = m
+  none-moves s (ask.Reset child) m q = m
+  none-moves s ask.Finished m q = m
+  none-moves s (ask.Faulted kind child) m q = m
+  none-moves s ask.Full m q = m
+  none-moves s ask.Meet m q = m
+  none-moves s ask.Await m q = m
 
   -- it fits the children as they are now
   suits-for : (plan : TickPlan) (roles : Roles) (kids : List (Node Token A)) → Suits rows plan roles kids → IsFor (facts_of rows) plan roles kids
@@ -303,6 +318,19 @@ module _ {A : Type 0} (rows : Rows Token A) (law : LawfulRows rows) where
                 let r = recorded-done (made_of child) t.tag its-row.0 (step_at rows f.done.0 (height child) (below_child i b.meets) t.tag child its-row.0) next out f.log (f.done.1 f.done.0 (omega arith)) in
                 Fires child next later f.done.0 (height child) (below_child i b.meets) t.tag its-row.0 out r.0 r.1 m
 
+        -- which the composite's firing asks for
+        module _ (h : Past) where
+          abbrev AskedFor : Tag → Tag → Streams Token → Type 0
+          AskedFor tag when got = FromSome (λ k. IsAsked (child_facts (facts_of rows)) (steps_below rows k (heights b.kids) b.meets) (b.meets [] h.made) h.made (De b.before.plan) (numbered 0 (list_of b.kids)) tag b.inputs i (record { number = i; node = child }) when got)
+
+          asks-one : (when : Tag) → when ≡ s.tag → AskedFor b.tag when (asked_row t.stage)
+          asks-one when q =
+              subst (λ v. AskedFor b.tag v (asked_row t.stage)) (sym q)
+              (subst (λ (X : Streams Token). AskedFor b.tag s.tag X) (sym row-is)
+              (subst (λ v. AskedFor b.tag v its-row.0) kept.tag
+              (subst (λ v. AskedFor v t.tag its-row.0) tag-is
+              (so-far.run.0, λ k o. asks-planned rows k b.meets h b.before b.kids b.inputs so-far.any (with_tokens (so-far.run.1 k o).all t) now so-far.logs (so-far.run.1 k o).course i its-row.0 its-row.1 its-row.2 child e))))
+
         module _ (h : Past) (e' : Entry Token) (k : Kept Token) where
           sticks-one : (f : Fault) → SticksAt (λ fuel. step_at rows fuel (height child) (below_child i b.meets) s.tag child (asked_row t.stage)) (IsShut rows (below_child i b.meets) child s.tag (asked_row t.stage) (Some f)) f (kept_at news i) k → IsStuck a b h e' (below_fault i f) (set news i k)
           sticks-one f x0 =
@@ -324,9 +352,9 @@ module _ {A : Type 0} (rows : Rows Token A) (law : LawfulRows rows) where
       asked = λ s i when q. asked-child s s.stage i q.0;
       listened = λ s i when q. refl;
       hands = λ s i e. (subst (λ v. IsSome v) (sym e) refl, e, refl);
-      hands_on = λ s i e out wake. (refl, refl, refl);
-      asks_on = λ s i out wake q. told-asks s.stage i q;
-      tells = λ s i out wake q. refl;
+      hands_on = λ s i e out wake need. (refl, refl, refl);
+      asks_on = λ s i out wake need q. told-asks s.stage i q;
+      tells = λ s i out wake need q. refl;
       finishes = λ s q. refl;
       restarts = λ s. (refl, refl);
     };
@@ -342,15 +370,18 @@ module _ {A : Type 0} (rows : Rows Token A) (law : LawfulRows rows) where
       goes_on = λ i when q child next out k e f ok. goes-one b s now news g i q.0 child e next out k (subst (λ v. FiresTo (λ fuel. Step fuel rows (below_child i b.meets) child v (asked_row (asked_on s.stage i s).stage)) next out (kept_at news i) k) q.1 f);
       refuses = λ i when q child next out k there f no. clash no;
       sticks = λ i when q child k f there x h e. sticks-one b s now news g i q.0 child there h e k f (subst (λ v. SticksAt (λ fuel. step_at rows fuel (height child) (below_child i b.meets) v child (asked_row (asked_on s.stage i s).stage)) (IsShut rows (below_child i b.meets) child v (asked_row (asked_on s.stage i s).stage) (Some f)) f (kept_at news i) k) q.1 x);
+      asks_as = λ i when q child there h. asks-one b s now news g i q.0 child there h when q.1;
       listens = λ i when q. omega (arith, q.1.0.there, g.suits.children);
       hears = λ i when q child e. subst (λ v. Going rows b (after_heard i (early_of rows v child (partial_of s i)) s) now news) (sym q.2) (hears-one b s now news g i child e q.0 q.1);
       learns = λ i when q early. calls-are-de.learns (child_facts (facts_of rows)) _ b.before (numbered 0 (list_of b.kids)) b.inputs _ s (numbered 0 now) _ (under rows b.meets b.before b.kids b.inputs b.olds s now news g.so_far) i q.1 early;
       resets_one = λ i q. absurd q;
       resets = λ i q child e. absurd q;
       rests = λ i q. absurd q;
+      moves = λ answer m q. absurd (none-moves s answer m q);
       ends = λ q h e. ends-one b s now news g h e q.0 q.1;
       fits = λ q. (refl, wakes-now b s now news g, g.suits);
       faults = λ kind q. absurd q;
+      jams = λ q. absurd q;
       off = λ h e. off-one b s now news g h e;
       off_within = λ i when q child k there x h e. within-one b s now news g i q.0 child there h e k (subst (λ v. LeavesOff (λ fuel. step_at rows fuel (height child) (below_child i b.meets) v child (asked_row (asked_on s.stage i s).stage)) (IsShut rows (below_child i b.meets) child v (asked_row (asked_on s.stage i s).stage) None) (kept_at news i) k) q.1 x);
     };

@@ -14,7 +14,7 @@ use Rattle.pt_meaning.specs.Tree.{Rows, Core, De, Past, Node, Nodes, Composite, 
 use Rattle.pt_meaning.specs.NodeFacts.{facts_of, early_of, next_of}
 use Rattle.pt_meaning.specs.Step.{as_node, step_at, Step}
 use Rattle.pt_meaning.specs.Lawful.{LawfulRows}
-use Rattle.pt_meaning.specs.Asked.{known_places, IsTurnAt}
+use Rattle.pt_meaning.specs.Asked.{IsAsked, known_places, IsTurnAt}
 use Rattle.pt_meaning.specs.Closed.{inputs_at}
 use Rattle.pt_meaning.specs.Laws.{IsIn}
 use Rattle.pt_laws.specs.Channels.{source_in}
@@ -205,6 +205,24 @@ module _ {T A : Type 0} (rows : Rows T A) (k : ℕ) (m : Meets) (h : Past) (befo
         append-one [] Zs = refl
         append-one (Y ∷ Ys) Zs = ap (λ (Ws : List (Streams T)). Y ∷ Ws) (append-one Ys Zs)
 
+    -- which the composite's firing asks for
+    de-asks : IsAsked facts step (m [] h.made) h.made (De s.plan) its s.tag inputs i one s.tag X
+    de-asks = let t = turning in (
+      refl,
+      get_or its i any,
+      t.inputs,
+      record {
+        round = rounds_of s.roles.depths;
+        inputs_known = ap (λ v. known v) (places-are places i end) ∙ t.on;
+        state = get-or-there its i any (let a = amid.0 in omega (arith, a, u.wide.kids_are));
+      },
+      t.active,
+      subst (λ (c : Child (Node T A)). IsTurnAt facts step s.tag (get_or its i any) t.inputs c X) one-is (turn-at facts step s.tag (get_or its i any) t.inputs (get_or (numbered 0 now) i any) X t.done Xs (get_or u.outs i []) (log_at ls i) t.rows t.fired),
+    )
+
+    pub asks-planned : IsAsked facts step (m [] h.made) h.made (De before.plan) its s.tag inputs i one s.tag X
+    asks-planned = subst (λ (p : TickPlan). IsAsked facts step (m [] h.made) h.made (De p) its s.tag inputs i one s.tag X) u.plan de-asks
+
     module _ (place : Option Fault) (inside : Log T) (low : height child ≤ heights kids) (below : LogBelow inside (log_in (step_at rows k (height child) (below_child i m) s.tag child X))) (shut : IsShut rows (below_child i m) child s.tag X place inside) where
       de-in : middle.IsIn rows k m s.tag h (De s.plan) kids inputs now ls u.turned i child s.tag X place inside
       de-in = record {
@@ -212,18 +230,7 @@ module _ {T A : Type 0} (rows : Rows T A) (k : ℕ) (m : Meets) (h : Past) (befo
         low = low;
         at_tag = refl;
         takes = λ q. let r = takes-row q in inr (refl, r.0, r.1, r.2);
-        asks = let t = turning in (
-          refl,
-          get_or its i any,
-          t.inputs,
-          record {
-            round = rounds_of s.roles.depths;
-            inputs_known = ap (λ v. known v) (places-are places i end) ∙ t.on;
-            state = get-or-there its i any (let a = amid.0 in omega (arith, a, u.wide.kids_are));
-          },
-          t.active,
-          subst (λ (c : Child (Node T A)). IsTurnAt facts step s.tag (get_or its i any) t.inputs c X) one-is (turn-at facts step s.tag (get_or its i any) t.inputs (get_or (numbered 0 now) i any) X t.done Xs (get_or u.outs i []) (log_at ls i) t.rows t.fired),
-        );
+        asks = de-asks;
         below = below;
         shut = shut;
       }

@@ -86,7 +86,7 @@ abbrev pub partial_if : State → Option ℕ → List (Partial Token)
 partial_if s None = []
 partial_if s (Some child) = partial_of s child
 
--- Whatever a child gives is accepted, so the fault of one that gives anything else is never told.
+-- Whatever a child gives is accepted, so the fault of one that gives anything else is never told. What a child needs says nothing to it, and no channel is full.
 abbrev pub de_calls : Calls State
 de_calls = record {
   start_of = λ s. tree.De s.plan;
@@ -105,7 +105,7 @@ de_calls = record {
   partial_of = λ s. partial_if s (listened_child s.stage);
   accepts = λ s child out. true;
   refusal = λ s. Causality;
-  told = after_told;
+  told = λ child out wake need. after_told child out wake;
   is_wrong = λ s. false;
   heard = after_heard;
   MayFinish = λ s. s.stage ≡ Closed;
@@ -114,6 +114,8 @@ de_calls = record {
   wake = wake_of;
   restarted = restarted;
   waits = waits;
+  maximum = λ s. 0;
+  blocked = λ s. [];
 }
 
 -- The wakes are those of the children, so that the least of them is the composite's.
