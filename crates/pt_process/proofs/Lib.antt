@@ -1,0 +1,6 @@
+pub mod ProcessLaws
+pub mod FanLaws
+pub mod NetworkLaws
+pub mod RoomLaws
+pub mod StagedLaws
+pub mod StepLaws

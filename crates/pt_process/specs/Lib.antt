@@ -1,0 +1,4 @@
+pub mod Codes
+pub mod Process
+pub mod Plan
+pub mod Network

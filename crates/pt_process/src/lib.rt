@@ -1,0 +1,14 @@
+//! The parts of a PN composite: its network, and its processes, which get, fire and put.
+#![tactic(auto)]
+
+mod fans;
+mod network;
+mod plan;
+mod process;
+mod renew;
+mod staged;
+
+pub use network::Network;
+pub use plan::{CorePlan, need_copy};
+pub use process::{Event, Process, StagedPut};
+pub use staged::{promise, stage_inputs, stage_outputs};

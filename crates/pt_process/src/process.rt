@@ -1,0 +1,197 @@
+ghost use Rattle.std.specs.Prelude.{◌≡◌, ℕ, ◌<◌, ◌≤◌, ◌+◌, [], length, map, take, drop, get_or, slice_get, option_map, true, false, IfOk, IfSome, OnOk, OnErr, Some};
+ghost use Rattle.pt_meaning.specs.Streams.{at};
+ghost use Rattle.pt_meaning.specs.Process.{lacking};
+ghost use Rattle.pt_reaction.specs.Channels.{lists_of};
+ghost use Rattle.pt_process.specs.Process.{PutsFirst, event_by, puts_in};
+
+use pt_firing::{Counts, Inputs, Tokens};
+use pt_reaction::Line;
+use pt_value::Token;
+use std::alloc::{AllocError, Global};
+use std::collections::VecDeque;
+use std::marker::Model;
+
+/// A put that a process has still to make.
+#[derive(Drop)]
+pub struct StagedPut {
+    pub channel: u32,
+    pub token: Token,
+}
+
+/// What a process does next.
+#[derive(Clone, Copy, Debug)]
+pub enum Event {
+    /// It puts on this channel.
+    Put(u32),
+    /// It gets at this place.
+    Get(usize),
+    Fire,
+    Over,
+}
+
+/// A process of a network: what it needs, what it has gathered, and what it has still to put.
+#[derive(Drop)]
+pub struct Process {
+    /// How many tokens it needs at each place, or `None` where it is over.
+    pub(crate) need: Option<Counts>,
+    /// What is gathered at each place, with room for all that is needed.
+    pub(crate) lines: Vec<Line>,
+    /// The same once it is handed over.
+    pub(crate) row: Vec<Tokens>,
+    pub(crate) is_handed: bool,
+    /// So many places at the front lack nothing.
+    pub(crate) full: usize,
+    pub(crate) puts: VecDeque<StagedPut>,
+}
+
+impl Model for Process {
+    ghost use Rattle.pt_process.specs.Process.{Standing, coded_standing, seen_process, IsSound};
+
+    ghost Value = { Standing };
+
+    ghost coded = { coded_standing };
+
+    ghost view = { seen_process };
+
+    ghost invariant = { IsSound };
+}
+
+impl Process {
+    ghost use Rattle.std.specs.Prelude.{◌≡◌, ◌<◌, [], length, slice_get, true, false, Some};
+    ghost use Rattle.pt_pn_laws.specs.State.{lacking_place};
+    ghost use Rattle.pt_process.specs.Process.{DoesNext, PutsFirst, put_of, with_token, with_put_made, with_handed};
+
+    /// What it does next.
+    pub fn next(&mut self) -> Event
+        requires { self.old.handed ≡ false }
+        ensures same { self.new ≡ self.old }
+        ensures next { DoesNext self.old result }
+    {
+        match first_put(&self.puts) {
+            Some(channel) => Event::Put(channel),
+            None => self.next_of_need(),
+        }
+    }
+
+    /// The same where it has no put to make.
+    fn next_of_need(&mut self) -> Event
+        requires gathers { self.old.handed ≡ false }
+        requires none { self.old.puts ≡ [] }
+        ensures same { self.new ≡ self.old }
+        ensures next { DoesNext self.old result }
+    {
+        match &self.need {
+            Some(counts) => next_by(counts, &self.lines, &mut self.full),
+            None => Event::Over,
+        }
+    }
+
+    /// The channel of its next put, if it has one.
+    pub fn next_put(&self) -> Option<u32>
+        ensures { PutsFirst self.now.puts result }
+    {
+        first_put(&self.puts)
+    }
+
+    /// Takes a token at the place that lacks one. It takes no memory.
+    pub fn get(&mut self, place: usize, token: Token)
+        requires gathers { self.old.handed ≡ false }
+        requires lacks { lacking_place self.old.need self.old.got ≡ Some place }
+        ensures { self.new ≡ with_token place token self.old }
+    {
+        let line = &mut self.lines[place];
+        line.put(token);
+    }
+
+    /// Takes out its next put.
+    pub fn put(&mut self) -> StagedPut
+        requires { 0 < length self.old.puts }
+        ensures put { slice_get self.old.puts 0 ≡ Some (put_of result) }
+        ensures left { self.new ≡ with_put_made self.old }
+    {
+        match self.puts.pop_front() {
+            Some(put) => put,
+            None => unreachable!(),
+        }
+    }
+
+    /// Hands over what it has gathered, so that it can be lent. It takes no memory.
+    pub fn hand(&mut self)
+        requires { self.old.handed ≡ false }
+        ensures { self.new ≡ with_handed self.old }
+    {
+        hand_over(&mut self.lines, &mut self.row);
+        self.is_handed = true;
+    }
+
+    /// What it has gathered.
+    pub fn lent(&self) -> Inputs<'_>
+        requires { self.now.handed ≡ true }
+        ensures { result ≡ self.now.got }
+    {
+        Inputs::of(&self.row)
+    }
+}
+
+/// The channel of the first of these puts, if there is one.
+fn first_put(puts: &VecDeque<StagedPut>) -> Option<u32>
+    ensures { PutsFirst (puts_in puts.now.items) result }
+{
+    let waiting = puts.len();
+    if waiting == 0 {
+        return None;
+    }
+    Some(puts[0].channel)
+}
+
+/// What a process does next that needs so many tokens, and has no put to make.
+fn next_by(counts: &Counts, lines: &[Line], full: &mut usize) -> Event
+    requires counted { length counts.now ≡ length lines.now }
+    requires full { (q : ℕ) → q < full.old → get_or counts.now q 0 ≤ length (at (lists_of lines.now) q) }
+    ensures next { result ≡ event_by (lacking 0 counts.now (lists_of lines.now)) }
+    ensures full { (q : ℕ) → q < full.new → get_or counts.now q 0 ≤ length (at (lists_of lines.now) q) }
+{
+    let lacks = lacking_of(counts.as_slice(), lines, full);
+    event_of(lacks)
+}
+
+fn event_of(lacks: Option<usize>) -> Event
+    ensures { result ≡ event_by lacks }
+{
+    match lacks {
+        Some(place) => Event::Get(place),
+        None => Event::Fire,
+    }
+}
+
+/// The first place that lacks a token, where so many at the front lack nothing. As many are found to lack nothing then.
+fn lacking_of(counts: &[usize], lines: &[Line], full: &mut usize) -> Option<usize>
+    requires counted { length counts.now ≡ length lines.now }
+    requires full { (q : ℕ) → q < full.old → get_or counts.now q 0 ≤ length (at (lists_of lines.now) q) }
+    ensures place { result ≡ lacking 0 counts.now (lists_of lines.now) }
+    ensures full { (q : ℕ) → q < full.new → get_or counts.now q 0 ≤ length (at (lists_of lines.now) q) }
+{
+    for place in *full..counts.len() {
+        let have = lines[place].len();
+        let count = counts[place];
+        if have < count {
+            *full = place;
+            return Some(place);
+        }
+    }
+    *full = counts.len();
+    None
+}
+
+/// Moves the tokens of each place into a row.
+fn hand_over(lines: &mut Vec<Line>, row: &mut Vec<Tokens>)
+    requires { length row.old.items ≡ length lines.old.items }
+    ensures row { row.new.items ≡ lists_of lines.old.items }
+    ensures lines { length lines.new.items ≡ length lines.old.items }
+{
+    for place in 0..lines.len() {
+        let line = &mut lines[place];
+        let tokens = line.take();
+        row[place] = tokens;
+    }
+}
