@@ -5,7 +5,7 @@ use Rattle.pt_meaning.specs.Streams.{get}
 use Rattle.pt_meaning.specs.Machine as machine
 use Rattle.pt_meaning.specs.Meetings.{Meets, below_child}
 use Rattle.pt_meaning.specs.Tree as tree
-use Rattle.pt_meaning.specs.NodeFacts.{early_of, next_of}
+use Rattle.pt_meaning.specs.NodeFacts.{need_of, early_of, next_of}
 use Rattle.pt_meaning.specs.Step.{Step}
 use Rattle.pt_value.specs.declared.token.Token.{Token}
 use Rattle.pt_firing.specs.declared.ask.Ask.{Ask}
@@ -17,7 +17,7 @@ use Rattle.pt_records.specs.Kept.{Entry, kept_by}
 use Rattle.pt_records.specs.Made.{AreMade, AllMade, AllMadeBefore}
 use Rattle.pt_records.specs.Fired.{FiresTo}
 use Rattle.pt_core.specs.Acts.{Acts}
-use Rattle.pt_core.specs.Lawful.{IsUsual, IsLentTo, Middle, Lawful, own_fault, child_fault}
+use Rattle.pt_core.specs.Lawful.{IsUsual, IsMove, IsLentTo, Middle, Lawful, own_fault, child_fault}
 use Rattle.pt_library.specs.LibraryActor.{rows}
 use Rattle.pt_node.specs.Shown.{Shown, all_of}
 use Rattle.pt_node.specs.Reset.{WasReset, KeepsRecords}
@@ -96,8 +96,8 @@ module _ {D : Type 0} (a : Acts rows D) (law : Lawful a) where
               so_far = λ m made.
                   let fires = f.fires (below_child i m) (made-of-fired m now i child after there made) in
                   subst (λ v. a.Underway (beginning a m before (all_of olds) tag X) v (tree.list_of (nodes_of (all_of (set now i after)))) (kepts_of (all_of (set now i after)))) (sym f.told)
-                  (subst (λ ns. a.Underway (beginning a m before (all_of olds) tag X) (a.calls.told i f.out (next_of rows (node_of after)) t) ns (kepts_of (all_of (set now i after)))) (sym (nodes-set now i after))
-                  (subst (λ ks. a.Underway (beginning a m before (all_of olds) tag X) (a.calls.told i f.out (next_of rows (node_of after)) t) (set (tree.list_of (nodes_of (all_of now))) i (node_of after)) ks) (sym (kepts-set now i after))
+                  (subst (λ ns. a.Underway (beginning a m before (all_of olds) tag X) (a.calls.told i f.out (next_of rows (node_of after)) (need_of rows (node_of after)) t) ns (kepts_of (all_of (set now i after)))) (sym (nodes-set now i after))
+                  (subst (λ ks. a.Underway (beginning a m before (all_of olds) tag X) (a.calls.told i f.out (next_of rows (node_of after)) (need_of rows (node_of after)) t) (set (tree.list_of (nodes_of (all_of now))) i (node_of after)) ks) (sym (kepts-set now i after))
                   ((middle-of m (made-before m now i child after there fires.log fires.kept made)).goes_on i when g (node_of child) (node_of after) f.out (kept_of after) (nodes-get now i child there)
                   (subst (λ k. FiresTo (λ fuel. Step fuel rows (below_child i m) (node_of child) when (a.calls.lent_of t)) (node_of after) f.out k (kept_of after)) (sym (kepts-at now i child there)) fires) f.accepted)));
             };
@@ -215,6 +215,24 @@ module _ {D : Type 0} (a : Acts rows D) (law : Lawful a) where
           outlines = outlines-set now i child after there k.outline;
           counts = counts-same now i child after there k.count;
         }
+
+    -- it has made a move of its own
+    module _ (answer : Ask) (move : IsMove answer) (g : a.calls.Gives s answer) (s' : D) (e : s' ≡ a.calls.asking answer s) where
+      pub move-lessens : a.calls.waits s' < a.calls.waits s
+      move-lessens = subst (λ v. a.calls.waits v < a.calls.waits s) (sym e) (some-middle.moves answer move g).1
+
+      pub at-moved : At a before olds tag X allowance s' now left
+      at-moved = record {
+        going = record {
+          fit = at.going.fit;
+          so_far = λ m made.
+              subst (λ v. a.Underway (beginning a m before (all_of olds) tag X) v (tree.list_of (nodes_of (all_of now))) (kepts_of (all_of now))) (sym e)
+              ((middle-of m made).moves answer move g).0;
+        };
+        outlines = at.outlines;
+        counted = at.counted;
+        lowered = at.lowered;
+      }
 
     pub halts-here : Halts a before olds tag X allowance now left
     halts-here = record { state = s; kids = now; at = at; kept = refl; outlines = refl; counts = refl }

@@ -1,5 +1,5 @@
 -- The loop over the children of a composite, by the code's list of nodes.
-use Rattle.std.proofs.Common.{◌≡◌, ℕ, ℤ, ◌+◌, ◌<◌, ◌≤◌, List, [], ◌∷◌, false, length, map, get_or, set, Option, Some, None, refl, sym, ap, subst, ◌∙◌, arith, Result, Ok, Err, is_err, length-set}
+use Rattle.std.proofs.Common.{◌≡◌, ◌⊎◌, inl, inr, ℕ, ℤ, ◌+◌, ◌<◌, ◌≤◌, List, [], ◌∷◌, false, length, map, get_or, set, Option, Some, None, refl, sym, ap, subst, ◌∙◌, arith, Result, Ok, Err, is_err, length-set}
 use Rattle.std.proofs.lemmas.List.{length-map}
 use Rattle.std.specs.Prelude.{OnOk}
 use Rattle.pt_meaning.specs.Basics.{Tag, Streams}
@@ -15,7 +15,7 @@ use Rattle.pt_firing.specs.declared.fault.RunFault.{RunFault}
 use Rattle.pt_records.specs.Kept.{kept_by}
 use Rattle.pt_records.specs.Made.{AreMade, AllMade}
 use Rattle.pt_core.specs.Acts.{Calls, Acts}
-use Rattle.pt_core.specs.Lawful.{IsUsual, IsLentTo, Lawful}
+use Rattle.pt_core.specs.Lawful.{IsUsual, IsMove, IsLentTo, Lawful}
 use Rattle.pt_library.specs.LibraryActor.{rows}
 use Rattle.pt_node.specs.declared.node.Node.{Node}
 use Rattle.pt_node.specs.Shown.{Shown, shown, shown_node, all_of}
@@ -73,19 +73,25 @@ module _ {D : Type 0} (c : Calls D) where
   none-given (Some n) s child i tag t s' after f to = absurd (f n refl)
   none-given None s child i tag t s' after f to = to
 
+-- these are moves
+pub is-move : (next : Ask) → ((i : ℕ) × (next ≡ ask.Get i)) ⊎ (((i : ℕ) × (next ≡ ask.Put i)) ⊎ (next ≡ ask.Grow)) → IsMove next
+is-move next (inl get) = subst (λ v. IsMove v) (sym get.1) tt
+is-move next (inr (inl put)) = subst (λ v. IsMove v) (sym put.1) tt
+is-move next (inr (inr grow)) = subst (λ v. IsMove v) (sym grow) tt
+
 -- no director asks for anything else
-pub no-unusual : (next : Ask) → IsUsual next → ((i : ℕ) (when : Tag) → next ≡ ask.Fire i when → ⊥) → ((i : ℕ) (when : Tag) → next ≡ ask.Early i when → ⊥) → ((i : ℕ) → next ≡ ask.Reset i → ⊥) → (next ≡ ask.Finished → ⊥) → ((kind : RunFault) (child : Option ℕ) → next ≡ ask.Faulted kind child → ⊥) → ⊥
-no-unusual (ask.Fire i when) u fire early reset finished faulted = fire i when refl
-no-unusual (ask.Early i when) u fire early reset finished faulted = early i when refl
-no-unusual (ask.Reset i) u fire early reset finished faulted = reset i refl
-no-unusual ask.Finished u fire early reset finished faulted = finished refl
-no-unusual (ask.Faulted kind child) u fire early reset finished faulted = faulted kind child refl
-no-unusual (ask.Get i) u fire early reset finished faulted = u
-no-unusual (ask.Put i) u fire early reset finished faulted = u
-no-unusual ask.Grow u fire early reset finished faulted = u
-no-unusual ask.Meet u fire early reset finished faulted = u
-no-unusual ask.Await u fire early reset finished faulted = u
-no-unusual ask.Full u fire early reset finished faulted = u
+pub no-unusual : (next : Ask) → IsUsual next → ((i : ℕ) (when : Tag) → next ≡ ask.Fire i when → ⊥) → ((i : ℕ) (when : Tag) → next ≡ ask.Early i when → ⊥) → ((i : ℕ) → next ≡ ask.Reset i → ⊥) → ((i : ℕ) → next ≡ ask.Get i → ⊥) → ((i : ℕ) → next ≡ ask.Put i → ⊥) → (next ≡ ask.Grow → ⊥) → (next ≡ ask.Finished → ⊥) → ((kind : RunFault) (child : Option ℕ) → next ≡ ask.Faulted kind child → ⊥) → (next ≡ ask.Full → ⊥) → ⊥
+no-unusual (ask.Fire i when) u fire early reset get put grow finished faulted full = fire i when refl
+no-unusual (ask.Early i when) u fire early reset get put grow finished faulted full = early i when refl
+no-unusual (ask.Reset i) u fire early reset get put grow finished faulted full = reset i refl
+no-unusual (ask.Get i) u fire early reset get put grow finished faulted full = get i refl
+no-unusual (ask.Put i) u fire early reset get put grow finished faulted full = put i refl
+no-unusual ask.Grow u fire early reset get put grow finished faulted full = grow refl
+no-unusual ask.Finished u fire early reset get put grow finished faulted full = finished refl
+no-unusual (ask.Faulted kind child) u fire early reset get put grow finished faulted full = faulted kind child refl
+no-unusual ask.Full u fire early reset get put grow finished faulted full = full refl
+no-unusual ask.Meet u fire early reset get put grow finished faulted full = u
+no-unusual ask.Await u fire early reset get put grow finished faulted full = u
 
 module _ {D : Type 0} (a : Acts rows D) (law : Lawful a) where
   pub once-asked : {before : D} {olds : List Shown} {tag : Tag} {X : Streams Token} {allowance : ℕ} {s : D} {now : List Shown} {left : ℕ} → At a before olds tag X allowance s now left → (next : Ask) (s' : D) → a.calls.Gives s next → s' ≡ a.calls.asking next s → Between a before olds tag X allowance next s' now left

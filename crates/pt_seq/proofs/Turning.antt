@@ -2,7 +2,9 @@
 use Rattle.std.proofs.Common.{◌≡◌, ℕ, [], Bool, true, false, not, Option, Some, None, refl, sym, ap, subst, ◌∙◌, inl, inr}
 use Rattle.pt_meaning.specs.Basics.{Tag, Streams}
 use Rattle.pt_meaning.specs.Meetings.{Meets}
-use Rattle.pt_meaning.specs.NodeFacts.{next_of}
+use Rattle.pt_meaning.specs.Machine.{Need, Over}
+use Rattle.pt_meaning.specs.NodeFacts.{need_of, next_of}
+use Rattle.pt_meaning.specs.Tree as tree
 use Rattle.pt_meaning.specs.Step.{Step}
 use Rattle.pt_value.specs.declared.token.Token.{Token}
 use Rattle.pt_firing.specs.declared.answer.Place.{Place}
@@ -12,9 +14,11 @@ use Rattle.pt_records.specs.Fired.{FiresTo}
 use Rattle.pt_core.specs.Acts.{Calls}
 use Rattle.pt_core.specs.Lawful.{CallsAgree}
 use Rattle.pt_library.specs.LibraryActor.{rows}
+use Rattle.pt_node.specs.declared.body.Body.{Body}
+use Rattle.pt_node.specs.declared.body.Body.TheVariants as body
 use Rattle.pt_node.specs.Shown.{Shown, Branch}
 use Rattle.pt_node.specs.Firing as firing
-use Rattle.pt_node.specs.View.{node_of, kept_of, outline_of, text_at}
+use Rattle.pt_node.specs.View.{Trees, node_of, nodes_of, node_with, kept_of, outline_of, text_at}
 use Rattle.pt_node.specs.Live.{IsFit}
 use Rattle.pt_seq.specs.declared.fire.Within.TheVariants.{Done, Fault}
 use Rattle.pt_seq.specs.declared.turn.Turn.{Turn}
@@ -81,18 +85,18 @@ module _ {D : Type 0} (c : Calls D) (agree : CallsAgree c) where
     told-once-handed mid tag out u s' after g = told_so u (subst (λ v. TellTo c v mid i tag out u s' after) e g)
       where
         told_so : (u : Turn) → TellTo c (c.handed s) mid i tag out u s' after → TellTo c s mid i tag out u s' after
-        told_so turn.Done g = let o = agree.hands_on s i a out (next_of rows (node_of after)) in (sym o.1 ∙ g.0, g.1 ∙ o.0, g.2)
-        told_so (turn.Fault place) g = let o = agree.hands_on s i a out None in (sym o.1 ∙ g.0, g.1, g.2, g.3 ∙ o.2, g.4)
+        told_so turn.Done g = let o = agree.hands_on s i a out (next_of rows (node_of after)) (need_of rows (node_of after)) in (sym o.1 ∙ g.0, g.1 ∙ o.0, g.2)
+        told_so (turn.Fault place) g = let o = agree.hands_on s i a out None Over in (sym o.1 ∙ g.0, g.1, g.2, g.3 ∙ o.2, g.4)
         told_so turn.Spent g = g
         told_so turn.Memory g = g
 
   -- the director tells whether it accepts what it was told
-  module _ (s t : D) (i : ℕ) (out : Streams Token) (wake : Option Tag) (a : c.asked_of s ≡ Some i) (e : t ≡ c.told i out wake s) where
+  module _ (s t : D) (i : ℕ) (out : Streams Token) (wake : Option Tag) (need : Need) (a : c.asked_of s ≡ Some i) (e : t ≡ c.told i out wake need s) where
     pub may-ask-once-told : c.MayAsk t
-    may-ask-once-told = subst (λ v. c.MayAsk v) (sym e) (agree.asks_on s i out wake a)
+    may-ask-once-told = subst (λ v. c.MayAsk v) (sym e) (agree.asks_on s i out wake need a)
 
     told-wrong : (b : Bool) → b ≡ c.is_wrong t → b ≡ not (c.accepts s i out)
-    told-wrong b w = w ∙ ap (λ v. c.is_wrong v) e ∙ agree.tells s i out wake a
+    told-wrong b w = w ∙ ap (λ v. c.is_wrong v) e ∙ agree.tells s i out wake need a
 
     pub accepted-so : (b : Bool) → b ≡ c.is_wrong t → b ≡ false → c.accepts s i out ≡ true
     accepted-so b w h = if_not (c.accepts s i out) (sym h ∙ told-wrong b w)
@@ -114,6 +118,17 @@ recorded-noted tag out (Branch g ks) = refl
 
 pub wake-recorded : (tag : Tag) (out : Streams Token) (s after : Shown) (wake : Option Tag) → wake ≡ next_of rows (node_of (firing.recorded tag s)) → after ≡ firing.recorded tag (firing.noted tag out s) → wake ≡ next_of rows (node_of after)
 wake-recorded tag out s after wake w e = w ∙ ap (λ v. next_of rows v) (sym (recorded-noted tag out s) ∙ ap (λ v. node_of v) (sym e))
+
+-- and the need, which is that before its firing is recorded
+pub need-recorded : (tag : Tag) (s after : Shown) → after ≡ firing.recorded tag s → need_of rows (node_of s) ≡ need_of rows (node_of after)
+need-recorded tag s after e = sym (ap (λ v. need_of rows (node_of v)) e ∙ same s)
+  where
+    of_body : (h h' : tree.Past) (b : Body) (ns : Trees) → need_of rows (node_with h b ns) ≡ need_of rows (node_with h' b ns)
+    of_body h h' (body.Actor held) ns = refl
+    of_body h h' (body.Composite d) ns = refl
+
+    same : (v : Shown) → need_of rows (node_of (firing.recorded tag v)) ≡ need_of rows (node_of v)
+    same (Branch g ks) = of_body (tree.fired_at tag g.past) g.past g.body (nodes_of ks)
 
 -- what was noted of a child changes neither its path nor its number of firings
 path-bare : (s t : Shown) → firing.bare s ≡ firing.bare t → path_of s ≡ path_of t

@@ -3,7 +3,7 @@ use Rattle.std.specs.Prelude.{◌≡◌, ℕ, ℤ, ◌<◌, [], ◌∷◌, ◌�
 use Rattle.pt_meaning.specs.Basics.{Tag, Streams}
 use Rattle.pt_meaning.specs.Meetings.{Meets}
 use Rattle.pt_meaning.specs.Tree as tree
-use Rattle.pt_meaning.specs.NodeFacts.{next_of}
+use Rattle.pt_meaning.specs.NodeFacts.{need_of, next_of}
 use Rattle.pt_meaning.specs.Step.{Step}
 use Rattle.pt_value.specs.declared.token.Token.{Token}
 use Rattle.pt_value.specs.declared.token.Token.TheVariants.{Int}
@@ -24,11 +24,11 @@ use Rattle.pt_seq.specs.declared.numbers.Quick.TheVariants as quick
 use Rattle.pt_seq.specs.Within.{outcome, IsLeftOff, IsStuck, Given, path_of, made_of}
 
 module _ {D : Type 0} (c : Calls D) where
-  -- child i, that was asked for, has fired and its firing is recorded: the director was told what it gave and which wake it has then, and accepts that
+  -- child i, that was asked for, has fired and its firing is recorded: the director was told what it gave and which wake and need it has then, and accepts that
   pub record ChildFired (s : D) (child : Shown) (i : ℕ) (tag : Tag) (s' : D) (after : Shown) : Type 0 where
     pub out : Streams Token
     pub accepted : c.accepts s i out ≡ true
-    pub told : s' ≡ c.told i out (next_of rows (node_of after)) s
+    pub told : s' ≡ c.told i out (next_of rows (node_of after)) (need_of rows (node_of after)) s
     pub fires : (m : Meets) → AreMadeBefore m (kept_of after) → FiresTo (λ k. Step k rows m (node_of child) tag (c.lent_of s)) (node_of after) out (kept_of child) (kept_of after)
     pub fit : IsFit after
 
@@ -49,9 +49,9 @@ module _ {D : Type 0} (c : Calls D) where
   TurnTo s child i tag turn.Spent s' after = (m : Meets) → AreMade m (kept_of after) → IsLeftOff m (node_of child) tag (c.lent_of s) (kept_of child) (kept_of after)
   TurnTo s child i tag turn.Memory s' after = (m : Meets) → AreMade m (kept_of after) → IsLeftOff m (node_of child) tag (c.lent_of s) (kept_of child) (kept_of after)
 
-  -- the director was told what child i gave and which wake it has once that is recorded: where it accepts what it gave, the firing is recorded; else the child is told as stuck; for want of memory nothing is recorded
+  -- the director was told what child i gave and which wake and need it has once that is recorded: where it accepts what it gave, the firing is recorded; else the child is told as stuck; for want of memory nothing is recorded
   abbrev pub TellTo : D → Shown → ℕ → Tag → Streams Token → Turn → D → Shown → Type 0
-  TellTo s mid i tag out turn.Done s' after = (c.accepts s i out ≡ true) × (s' ≡ c.told i out (next_of rows (node_of after)) s) × (after ≡ recorded tag (noted tag out mid))
+  TellTo s mid i tag out turn.Done s' after = (c.accepts s i out ≡ true) × (s' ≡ c.told i out (next_of rows (node_of after)) (need_of rows (node_of after)) s) × (after ≡ recorded tag (noted tag out mid))
   TellTo s mid i tag out (turn.Fault place) s' after = (c.accepts s i out ≡ false) × (place.path ≡ path_of mid) × (place.firing ≡ made_of mid) × (place.kind ≡ c.refusal s) × (bare after ≡ bare mid)
   TellTo s mid i tag out turn.Spent s' after = ⊥
   TellTo s mid i tag out turn.Memory s' after = bare after ≡ bare mid

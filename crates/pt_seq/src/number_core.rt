@@ -1,5 +1,6 @@
 ghost use Rattle.std.specs.Prelude.{◌≡◌, [], ◌∷◌, IfSome, IsSome, IsTrue, Option, Some, true, if◌then◌else◌};
 ghost use Rattle.pt_meaning.specs.Basics as basics;
+ghost use Rattle.pt_meaning.specs.Machine as machine;
 ghost use Rattle.pt_value.specs.declared.token.Token.TheVariants.{Int};
 ghost use Rattle.pt_directors.specs.Directors.{Director, director_calls};
 
@@ -24,9 +25,9 @@ pub(crate) trait NumberCore: Sized {
     fn gives_several(&self, child: u32) -> bool
         requires { director_calls.asked_of (director self.now) ≡ Some child };
 
-    /// Takes the integer that the child gave as the one token on its one port, which is accepted, whichever wake the child has then. `false` says that nothing was done.
+    /// Takes the integer that the child gave as the one token on its one port, which is accepted, whichever wake and need the child has then. `false` says that nothing was done.
     fn told_number(&mut self, child: u32, number: i64) -> bool
         requires asked { director_calls.asked_of (director self.old) ≡ Some child }
-        ensures told { (wake : Option basics.Tag) → director self.new ≡ (if result then director_calls.told child ((Int number ∷ []) ∷ []) wake (director self.old) else director self.old) }
+        ensures told { (wake : Option basics.Tag) (need : machine.Need) → director self.new ≡ (if result then director_calls.told child ((Int number ∷ []) ∷ []) wake need (director self.old) else director self.old) }
         ensures accepted { IsTrue result → director_calls.accepts (director self.old) child ((Int number ∷ []) ∷ []) ≡ true };
 }

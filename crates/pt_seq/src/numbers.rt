@@ -1,5 +1,6 @@
 ghost use Rattle.std.specs.Prelude.{◌≡◌, ◌+◌, ◌<◌, ◌≤◌, ◌∷◌, [], List, ℕ, Option, Some, IsSome, IfSome, OnOk, map};
 ghost use Rattle.pt_meaning.specs.Basics as basics;
+ghost use Rattle.pt_meaning.specs.Machine as machine;
 ghost use Rattle.pt_value.specs.declared.token.Token.{Token};
 ghost use Rattle.pt_value.specs.declared.token.Token.TheVariants.{Int};
 ghost use Rattle.pt_directors.specs.Directors as directors;
@@ -175,7 +176,7 @@ fn int_inputs<'a>(director: &'a Director, row: &'a mut Vec<i64>) -> Option<IntIn
     }
 }
 
-/// Tells a director the integers that the child gave as the tokens on its one port, whichever wake the child has then.
+/// Tells a director the integers that the child gave as the tokens on its one port, whichever wake and need the child has then.
 #[inline(always)]
 fn told_numbers(
     alloc: Global,
@@ -184,7 +185,7 @@ fn told_numbers(
     numbers: &[i64],
 ) -> Result<(), AllocError>
     requires asked { director_calls.asked_of director.old ≡ Some child }
-    ensures told { OnOk result ((wake : Option basics.Tag) → director.new ≡ director_calls.told child (map Int numbers.now ∷ []) wake director.old) }
+    ensures told { OnOk result ((wake : Option basics.Tag) (need : machine.Need) → director.new ≡ director_calls.told child (map Int numbers.now ∷ []) wake need director.old) }
 {
     match director {
         Either::First(core) => core.told_numbers(alloc, child, numbers),

@@ -85,7 +85,7 @@ fn wait(alloc: Global, director: &mut Director, children: &mut Vec<Node>, left: 
     }
 }
 
-/// Does what the director asked for, where that is an early answer of a child or that it is brought back to its start, and tells what it comes to otherwise.
+/// Does what the director asked for, where that is an early answer of a child or that it is brought back to its start, and tells what it comes to otherwise. A move is made already.
 fn heed(
     alloc: Global,
     director: &mut Director,
@@ -117,6 +117,7 @@ fn heed(
             }
             None
         }
+        Ask::Get(_) | Ask::Put(_) | Ask::Grow => None,
         Ask::Finished => Some(Pause::Finished),
         Ask::Faulted(kind, _) => Some(Pause::Faulted(kind)),
         _ => unreachable!(),

@@ -22,7 +22,7 @@ pub(crate) enum Turn {
     Memory,
 }
 
-/// Tells the director what the child gave, and which wake it has once that is recorded. The child's firing is recorded where the director accepts what it gave, and else the child is stuck.
+/// Tells the director what the child gave, and which wake and need it has once that is recorded. The child's firing is recorded where the director accepts what it gave, and else the child is stuck.
 pub(crate) fn tell(
     alloc: Global,
     director: &mut Director,
@@ -46,7 +46,10 @@ pub(crate) fn tell(
         return Turn::Memory;
     }
     let refusal = director.refusal();
-    if director.told(alloc, number, outputs, wake).is_err() {
+    if director
+        .told(alloc, number, outputs, wake, child.need())
+        .is_err()
+    {
         return Turn::Memory;
     }
     if director.is_wrong() {

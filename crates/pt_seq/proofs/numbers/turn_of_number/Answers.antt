@@ -3,6 +3,7 @@ use Rattle.std.proofs.lemmas.Bool.{eqb-true}
 use Rattle.std.proofs.lemmas.Int.{to_z-of_z}
 use Rattle.std.proofs.lemmas.List.{nil_from_length}
 use Rattle.pt_meaning.specs.Basics.{Tag}
+use Rattle.pt_meaning.specs.Machine.{Need, Over}
 use Rattle.pt_value.specs.declared.token.Token.TheVariants.{Int}
 use Rattle.pt_directors.specs.Directors.{Director, director_calls}
 use Rattle.pt_node.specs.declared.node.Node.{out-Node}
@@ -23,7 +24,7 @@ returns-clause-goes g c =
     let n : ℤ = c.in-Some.given in
     let fits : SFits w64 n = search rules in
     let none : (out-Node c.fire_number.new.node).records ≡ [] = records-in c.fire_number.new.node _ c.child.view_is (sym c.as_slice.ensures ∙ nil_from_length _ (eqb-true _ _ (sym c.is_empty.ensures ∙ c.if-not-is_empty.false))) in
-    let told : (wake : Option Tag) → d' ≡ director_calls.told c.args.number ((Int n ∷ []) ∷ []) wake d = λ wake. c.if-not-told_number.ensures.told wake ∙ ap (λ z. director_calls.told c.args.number ((Int z ∷ []) ∷ []) wake d) (to_z-of_z w64 n fits) in
+    let told : (wake : Option Tag) (need : Need) → d' ≡ director_calls.told c.args.number ((Int n ∷ []) ∷ []) wake need d = λ wake need. c.if-not-told_number.ensures.told wake need ∙ ap (λ z. director_calls.told c.args.number ((Int z ∷ []) ∷ []) wake need d) (to_z-of_z w64 n fits) in
     let right : director_calls.accepts d c.args.number ((Int n ∷ []) ∷ []) ≡ true = subst (λ z. director_calls.accepts d c.args.number ((Int z ∷ []) ∷ []) ≡ true) (to_z-of_z w64 n fits) (c.if-not-told_number.ensures.accepted refl) in
     quickly-fired d (shown_node c.args.child.now) (shown_node c.fire_number.new.node) c.args.number c.args.tag ((Int n ∷ []) ∷ []) d' (shown_node c.record_alone.new.self) c.in-Some.ensures.goes (ap (λ p. p.made) c.in-Some.ensures.past) none told right c.record_alone.ensures
 
@@ -35,6 +36,6 @@ returns-then-not-told_number-clause-goes g c =
     let d : Director = g.C.NumberCore.director c.args.core.now in
     let n : ℤ = c.in-Some.given in
     let fits : SFits w64 n = search rules in (
-      c.if-not-told_number.ensures.told None,
+      c.if-not-told_number.ensures.told None Over,
       (subst (λ z. Gave (shown_node c.args.child.now) (director_calls.lent_of d) ((Int z ∷ []) ∷ []) (shown_node c.fire_number.new.node)) (sym (to_z-of_z w64 n fits)) c.in-Some.ensures.goes, ap (λ p. p.made) c.in-Some.ensures.past),
     )

@@ -1,6 +1,7 @@
 use Rattle.std.proofs.Common.{◌≡◌, arith, sym, ap, subst, ◌∙◌}
 use Rattle.pt_firing.specs.declared.ask.Ask.TheVariants as ask
 use Rattle.pt_directors.specs.Directors.{director_calls}
+use Rattle.pt_directors.proofs.DirectorLaws.{none-full}
 use Rattle.pt_meaning.specs.NodeFacts.{early_of}
 use Rattle.pt_library.specs.LibraryActor.{rows}
 use Rattle.pt_node.specs.Acts.{acts}
@@ -8,8 +9,8 @@ use Rattle.pt_node.specs.Reset.{WasReset}
 use Rattle.pt_node.specs.Shown.{shown_node}
 use Rattle.pt_node.specs.View.{node_of}
 use Rattle.pt_seq.proofs.Acting.{acts-law}
-use Rattle.pt_seq.proofs.Firing.{is-usual, halts-here}
-use Rattle.pt_seq.proofs.Loop.{on-ok, once-asked, turn-of, faulted-itself, no-unusual, listen-in, listen-asked, listen-learns, listen-next, restart-in, restart-rests, restart-fit, restart-next, restart-halts}
+use Rattle.pt_seq.proofs.Firing.{is-usual, halts-here, at-moved, move-lessens}
+use Rattle.pt_seq.proofs.Loop.{on-ok, once-asked, turn-of, faulted-itself, is-move, no-unusual, listen-in, listen-asked, listen-learns, listen-next, restart-in, restart-rests, restart-fit, restart-next, restart-halts}
 use Rattle.pt_seq.proofs.pause.heed.Goals as goal
 
 pub returns-then-left-eq0 : goal.returns-then-left-eq0
@@ -24,8 +25,13 @@ returns-in-Finished c before olds tag X allowance state a g e = once-asked acts 
 pub returns-in-Faulted : goal.returns-in-Faulted
 returns-in-Faulted c before olds tag X allowance state a g e = faulted-itself acts acts-law a c.in-Faulted.kind c.in-Faulted.field-1 c.args.director.now (subst (λ n. director_calls.Gives state n) c.in-Faulted.is g) (e ∙ ap (λ n. director_calls.asking n state) c.in-Faulted.is)
 
+pub returns-in-Get : goal.returns-in-Get
+returns-in-Get c before olds tag X allowance state a g e = let move = is-move c.args.next c.in-Get.is in (at-moved acts acts-law a c.args.next move g c.args.director.now e, move-lessens acts acts-law a c.args.next move g c.args.director.now e)
+
 pub unreachable-requires : goal.unreachable-requires
-unreachable-requires c = no-unusual c.args.next (is-usual acts acts-law c.requires.1.between.at c.args.next c.requires.1.between.gives) c.in_default.not-Fire c.in_default.not-Early c.in_default.not-Reset c.in_default.not-Finished c.in_default.not-Faulted
+unreachable-requires c =
+    no-unusual c.args.next (is-usual acts acts-law c.requires.1.between.at c.args.next c.requires.1.between.gives) c.in_default.not-Fire c.in_default.not-Early c.in_default.not-Reset c.in_default.not-Get c.in_default.not-Put c.in_default.not-Grow c.in_default.not-Finished c.in_default.not-Faulted
+    (λ full. none-full c.requires.1.between.state (subst (λ n. director_calls.Gives c.requires.1.between.state n) full c.requires.1.between.gives))
 
 pub index-child-requires : goal.index-child-requires
 index-child-requires c = let h = listen-in acts acts-law c.args.children.now.items c.requires.1.between.at c.in-Early.number c.in-Early.when (subst (λ n. director_calls.Gives c.requires.1.between.state n) c.in-Early.is c.requires.1.between.gives) c.args.director.now (c.requires.1.between.asking ∙ ap (λ n. director_calls.asking n c.requires.1.between.state) c.in-Early.is) in grind (arith, h)
