@@ -1,0 +1,5 @@
+pub mod AgendaLaws
+pub mod TurnLaws
+pub mod RowLaws
+pub mod KnownLaws
+pub mod NetLaws

@@ -1,0 +1,11 @@
+use Rattle.std.proofs.Common.{◌≡◌, ◌-◌, length, take, drop}
+use Rattle.pt_de_laws.specs.State.{emptied_from}
+use Rattle.pt_reaction.specs.Channels.{lists_of}
+use Rattle.pt_de_parts.proofs.rows.fill.Given as goal
+
+abbrev pub invariant-loop-channel : goal.invariant-loop-channel
+invariant-loop-channel l = record {
+  lines : lists_of (take (l.channel - l.first) l.lines.items) ≡ take (l.channel - l.first) (drop l.first l.fn.channels.lists);
+  left : l.channels.lists ≡ emptied_from l.first (l.channel - l.first) l.fn.channels.lists;
+  same : length l.lines.items ≡ length l.fn.lines.items;
+}
