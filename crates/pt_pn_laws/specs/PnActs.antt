@@ -1,5 +1,5 @@
 -- The calls of the core as a driver is to know them. It makes its gets, puts and growths itself where it is asked what comes next, each with the answer that tells it, so that a driver has nothing to do but ask again.
-use Rattle.std.specs.Prelude.{◌≡◌, ℕ, List, [], length, get_or, true, false, None, IsSome}
+use Rattle.std.specs.Prelude.{◌≡◌, List, [], length, get_or, true, false, None, IsSome}
 use Rattle.pt_meaning.specs.Machine.{Over}
 use Rattle.pt_meaning.specs.Tree.{Rows, Node, reset_of}
 use Rattle.pt_meaning.specs.Tree as tree
