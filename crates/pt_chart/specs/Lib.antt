@@ -1,0 +1,10 @@
+pub mod Machine
+pub mod Names
+pub mod Typed
+pub mod Chart
+pub mod Reacted
+pub mod Views
+pub mod Told
+pub mod Choose
+pub mod Acts
+pub mod Moves

@@ -1,0 +1,125 @@
+ghost use Rattle.std.specs.Prelude.{◌≡◌, [], ◌∷◌, IfOk, map, option_map, true};
+ghost use Rattle.pt_meaning.specs.Streams.{change_at};
+ghost use Rattle.pt_language.specs.Expr.{tree_of};
+ghost use Rattle.pt_language.specs.Meaning.{value};
+ghost use Rattle.pt_language.specs.Outcome.{Wrong};
+ghost use Rattle.pt_expr.specs.Env.{scope_of};
+ghost use Rattle.pt_firing.specs.RunFault.{code_of};
+ghost use Rattle.pt_chart.specs.Chart.{reading_of};
+ghost use Rattle.pt_chart.specs.Names.{HasParameters};
+ghost use Rattle.pt_chart.specs.Typed.{types_of, are_typed_actions};
+ghost use Rattle.pt_chart.specs.Acts.{AreRight, put_one, set_one, put_all, set_all};
+ghost use Rattle.pt_chart.specs.Views.{action_view, names_view};
+
+use crate::evaluation::{Reading, read};
+use crate::names::Reads;
+use crate::written::{Action, Names};
+use pt_expr::Env;
+use pt_firing::{RunFault, Tokens};
+use pt_value::Token;
+use std::alloc::{AllocError, Global};
+
+/// Runs output actions in listed order: each puts its token in the place of what its port has. The fault of one ends them.
+pub(crate) fn put_all(
+    alloc: Global,
+    actions: &[Action],
+    env: &Env,
+    outputs: &mut Vec<Tokens>,
+) -> Result<Option<RunFault>, AllocError>
+    requires right { AreRight (scope_of env.now) (map action_view actions.now) }
+    ensures { IfOk result (λ fault. put_all (scope_of env.now) (map action_view actions.now) outputs.old.items ≡ (option_map code_of fault, outputs.new.items)) }
+{
+    for action in actions {
+        if let Some(fault) = put_one(alloc, action, env, outputs)? {
+            return Ok(Some(fault));
+        }
+    }
+    Ok(None)
+}
+
+fn put_one(
+    alloc: Global,
+    action: &Action,
+    env: &Env,
+    outputs: &mut Vec<Tokens>,
+) -> Result<Option<RunFault>, AllocError>
+    requires right { ¬ (value (scope_of env.now) (tree_of action.now.value) ≡ Wrong) }
+    ensures { IfOk result (λ fault. put_one (reading_of (value (scope_of env.now) (tree_of action.now.value))) action.now.target outputs.old.items ≡ (option_map code_of fault, outputs.new.items)) }
+{
+    match read(alloc, &action.value, env)? {
+        Reading::Reads(token) => {
+            give(outputs, action.target, token);
+            Ok(None)
+        }
+        Reading::Absent => Ok(None),
+        Reading::Faulty(fault) => Ok(Some(fault)),
+    }
+}
+
+/// Puts a token in the place of what a port has.
+fn give(outputs: &mut Vec<Tokens>, port: u32, token: Token)
+    ensures { outputs.new.items ≡ change_at port (λ old. token ∷ []) outputs.old.items }
+{
+    let port = port as usize;
+    if port < outputs.len() {
+        outputs[port] = Tokens::one(token);
+    }
+}
+
+/// Runs set actions in listed order, each seeing the Variables as the earlier ones left them. The fault of one ends them.
+pub(crate) fn set_all(
+    alloc: Global,
+    actions: &[Action],
+    names: &Names,
+    env: &mut Env,
+    inputs: &[Tokens],
+    given: &[Tokens],
+    values: &mut Vec<Token>,
+) -> Result<Option<RunFault>, AllocError>
+    requires typed { are_typed_actions (types_of (names_view names.now)) (map action_view actions.now) ≡ true }
+    requires parameters { HasParameters (names_view names.now) (scope_of env.old) }
+    ensures parameters { HasParameters (names_view names.now) (scope_of env.new) }
+    ensures set { IfOk result (λ fault. set_all (names_view names.now) (map action_view actions.now) inputs.now given.now values.old.items ≡ (option_map code_of fault, values.new.items)) }
+{
+    for action in actions {
+        let reads = Reads {
+            values: values.as_slice(),
+            inputs,
+            given,
+        };
+        names.bind(env, alloc, &reads)?;
+        if let Some(fault) = set_one(alloc, action, env, values)? {
+            return Ok(Some(fault));
+        }
+    }
+    Ok(None)
+}
+
+fn set_one(
+    alloc: Global,
+    action: &Action,
+    env: &Env,
+    values: &mut Vec<Token>,
+) -> Result<Option<RunFault>, AllocError>
+    requires right { ¬ (value (scope_of env.now) (tree_of action.now.value) ≡ Wrong) }
+    ensures { IfOk result (λ fault. set_one (reading_of (value (scope_of env.now) (tree_of action.now.value))) action.now.target values.old.items ≡ (option_map code_of fault, values.new.items)) }
+{
+    match read(alloc, &action.value, env)? {
+        Reading::Reads(token) => {
+            assign(values, action.target, token);
+            Ok(None)
+        }
+        Reading::Absent => Ok(None),
+        Reading::Faulty(fault) => Ok(Some(fault)),
+    }
+}
+
+/// Gives a Variable a value.
+fn assign(values: &mut Vec<Token>, variable: u32, token: Token)
+    ensures { values.new.items ≡ change_at variable (λ old. token) values.old.items }
+{
+    let variable = variable as usize;
+    if variable < values.len() {
+        values[variable] = token;
+    }
+}

@@ -1,0 +1,213 @@
+ghost use Rattle.std.specs.Prelude.{◌≡◌, IfOk, map};
+ghost use Rattle.pt_chart.specs.Acts.{mode_at, kind_of};
+ghost use Rattle.pt_chart.specs.Views.{mode_view, transition_view};
+
+use crate::lists::{empty_lists, picked, shown};
+use crate::names::bound;
+use crate::reaction::{Reaction, react};
+use crate::typed::is_typed_machine;
+use crate::written::{Mode, Transition, Written, copied_tokens};
+use pt_expr::Env;
+use pt_firing::{Outputs, Tokens};
+use pt_value::Token;
+use std::alloc::{AllocError, Global};
+use std::marker::Model;
+
+/// The chart of a Modal: what is written, all of whose guards and actions have a type.
+///
+/// The parameters are bound once. At a reaction only ports and Variables are bound anew, and what they were bound to before doesn't count.
+#[derive(Drop)]
+pub struct Chart {
+    written: Written,
+    env: Env,
+}
+
+impl Model for Chart {
+    ghost use Rattle.std.specs.Prelude.{◌≡◌, true};
+    ghost use Rattle.pt_expr.specs.Env.{scope_of};
+    ghost use Rattle.pt_chart.specs.Machine.{Machine, coded_machine};
+    ghost use Rattle.pt_chart.specs.Names.{HasParameters};
+    ghost use Rattle.pt_chart.specs.Typed.{is_typed_machine};
+    ghost use Rattle.pt_chart.specs.Views.{names_view, machine_of};
+
+    ghost Value = { Machine };
+
+    ghost coded = { coded_machine };
+
+    ghost view = { λ c. machine_of c.written };
+
+    ghost invariant = { λ c. HasParameters (names_view c.written.names) (scope_of c.env) × (is_typed_machine (machine_of c.written) ≡ true) };
+}
+
+impl Chart {
+    ghost use Rattle.std.specs.Prelude.{Some, None, true, false, length, if◌then◌else◌};
+    ghost use Rattle.pt_meaning.specs.Modal as modal;
+    ghost use Rattle.pt_meaning.specs.Modal.{unfired_outputs};
+    ghost use Rattle.pt_chart.specs.Typed.{is_typed_machine};
+    ghost use Rattle.pt_chart.specs.Chart.{chart_of};
+    ghost use Rattle.pt_chart.specs.Reacted.{reacted};
+    ghost use Rattle.pt_chart.specs.Moves.{reaction_view};
+    ghost use Rattle.pt_chart.specs.Views.{machine_of};
+
+    /// The chart of what is written, if all its guards and actions have a type.
+    pub fn new(alloc: Global, written: Written) -> Result<Option<Chart>, AllocError>
+        ensures { IfOk result (λ chart. chart ≡ (if is_typed_machine (machine_of written) then Some (machine_of written) else None)) }
+    {
+        if !is_typed_machine(alloc, &written)? {
+            return Ok(None);
+        }
+        Ok(Some(Chart::of(alloc, written)?))
+    }
+
+    fn of(alloc: Global, written: Written) -> Result<Chart, AllocError>
+        requires { is_typed_machine (machine_of written) ≡ true }
+        ensures { IfOk result (λ chart. chart ≡ machine_of written) }
+    {
+        let env = bound(alloc, &written.names.parameters)?;
+        Ok(Chart { written, env })
+    }
+
+    /// How many own inputs there are.
+    pub fn inputs(&self) -> usize
+        ensures { result ≡ (chart_of self.now).inputs }
+    {
+        self.written.names.inputs.as_slice().len()
+    }
+
+    /// The state in which the machine begins.
+    pub fn initial(&self) -> u32
+        ensures { result ≡ (chart_of self.now).initial }
+    {
+        self.written.initial
+    }
+
+    /// The first values of the Variables.
+    pub fn values(&self, alloc: Global) -> Result<Vec<Token>, AllocError>
+        ensures { IfOk result (λ values. values.items ≡ (chart_of self.now).values) }
+    {
+        copied_tokens(alloc, &self.written.values)
+    }
+
+    /// The refinement of a state.
+    pub fn refinement(&self, mode: u32) -> Option<u32>
+        ensures { result ≡ (chart_of self.now).refinement mode }
+    {
+        refinement_of(&self.written.modes, mode)
+    }
+
+    /// What a refinement takes: the tokens of like-named inputs.
+    pub fn picked(
+        &self,
+        alloc: Global,
+        refinement: u32,
+        inputs: &[Tokens],
+    ) -> Result<Vec<Tokens>, AllocError>
+        ensures { IfOk result (λ lists. lists.items ≡ modal.picked ((chart_of self.now).in_ports refinement) inputs.now) }
+    {
+        let refinement = refinement as usize;
+        if refinement >= self.written.ports.len() {
+            return Ok(Vec::new(alloc));
+        }
+        picked(alloc, &self.written.ports[refinement].inputs, inputs)
+    }
+
+    /// What the own outputs have of what a refinement gave.
+    pub fn shown(
+        &self,
+        alloc: Global,
+        refinement: u32,
+        outputs: &Outputs,
+    ) -> Result<Vec<Tokens>, AllocError>
+        ensures { IfOk result (λ lists. lists.items ≡ modal.shown ((chart_of self.now).out_ports refinement) outputs.now) }
+    {
+        let refinement = refinement as usize;
+        if refinement >= self.written.ports.len() {
+            return Ok(Vec::new(alloc));
+        }
+        shown(alloc, &self.written.ports[refinement].outputs, outputs)
+    }
+
+    /// What comes of the preemptive guards of a state, before its refinement fires.
+    pub fn preempt(
+        &mut self,
+        alloc: Global,
+        mode: u32,
+        values: &[Token],
+        inputs: &[Tokens],
+    ) -> Result<Reaction, AllocError>
+        ensures reaction { IfOk result (λ r. reaction_view r ≡ reacted (chart_of self.old) true mode values.now inputs.now (unfired_outputs (chart_of self.old))) }
+        ensures kept { self.new ≡ self.old }
+    {
+        let given = empty_lists(alloc, self.written.names.outputs.as_slice().len())?;
+        let transitions = transitions_of(&self.written.modes, mode, true);
+        let names = &self.written.names;
+        react(
+            alloc,
+            transitions,
+            names,
+            &mut self.env,
+            values,
+            inputs,
+            given,
+        )
+    }
+
+    /// What comes of the other guards of a state, where the own outputs have this of its refinement.
+    pub fn follow(
+        &mut self,
+        alloc: Global,
+        mode: u32,
+        values: &[Token],
+        inputs: &[Tokens],
+        given: Vec<Tokens>,
+    ) -> Result<Reaction, AllocError>
+        ensures reaction { IfOk result (λ r. reaction_view r ≡ reacted (chart_of self.old) false mode values.now inputs.now given.items) }
+        ensures kept { self.new ≡ self.old }
+    {
+        let transitions = transitions_of(&self.written.modes, mode, false);
+        let names = &self.written.names;
+        react(
+            alloc,
+            transitions,
+            names,
+            &mut self.env,
+            values,
+            inputs,
+            given,
+        )
+    }
+
+    /// Another chart of what is written here.
+    pub fn copy(&self, alloc: Global) -> Result<Chart, AllocError>
+        ensures { IfOk result (λ chart. chart ≡ self.now) }
+    {
+        Chart::of(alloc, self.written.copy(alloc)?)
+    }
+}
+
+fn refinement_of(modes: &[Mode], mode: u32) -> Option<u32>
+    ensures { result ≡ (mode_at (map mode_view modes.now) mode).refinement }
+{
+    let mode = mode as usize;
+    if mode < modes.len() {
+        modes[mode].refinement
+    } else {
+        None
+    }
+}
+
+/// The transitions of one kind in a state.
+fn transitions_of(modes: &[Mode], mode: u32, early: bool) -> &[Transition]
+    ensures { map transition_view result.now ≡ kind_of early (mode_at (map mode_view modes.now) mode) }
+{
+    let mode = mode as usize;
+    if mode < modes.len() {
+        if early {
+            modes[mode].preemptive.as_slice()
+        } else {
+            modes[mode].others.as_slice()
+        }
+    } else {
+        &[]
+    }
+}

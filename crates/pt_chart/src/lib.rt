@@ -1,0 +1,17 @@
+//! The chart of a Modal composite as data: states, transitions with guards and actions as expressions, and what comes of them.
+#![tactic(auto)]
+
+mod acts;
+mod chart;
+mod choose;
+mod evaluation;
+mod lists;
+mod names;
+mod reaction;
+mod typed;
+mod written;
+
+pub use chart::Chart;
+pub use lists::{copied_inputs, copied_lists};
+pub use reaction::{Move, Reaction};
+pub use written::{Action, Mode, Names, Ports, Transition, Written, copied_tokens};
