@@ -1,0 +1,4 @@
+pub mod De
+pub mod Inside
+pub mod Planned
+pub mod Laws
