@@ -1,5 +1,5 @@
 -- The plan of a composite, and how it is told that there is none.
-use Rattle.std.proofs.Common.{◌≡◌, ◌<◌, ◌^◌, ℕ, List, length, sym, refl, ap, subst, arith, ◌∙◌}
+use Rattle.std.proofs.Common.{◌≡◌, List, length, sym, refl, ap, subst, arith}
 use Rattle.std.proofs.lemmas.List.{length-map}
 use Rattle.pt_meaning.specs.Valuation.{TickPlan}
 use Rattle.pt_core.specs.Source.{source_of}
