@@ -340,6 +340,13 @@ impl Core {
         matches!(self.stage, Stage::Idle)
     }
 
+    /// How often each child fires in an iteration.
+    pub fn repetitions(&self) -> &Counts
+        ensures { result.now ≡ self.now.plan.repetitions }
+    {
+        &self.plan.repetitions
+    }
+
     /// How many tokens an iteration takes from each own input.
     pub fn takes(&self) -> &Counts
         ensures { result.now ≡ self.now.plan.takes }
