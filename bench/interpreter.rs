@@ -1,13 +1,16 @@
 //! A hand-written interpreter of flat dataflow models, to measure ptrun against.
 //!
 //! It reads the same documents on standard input and writes the same reports, for models of Ramp, Scale,
-//! AddSubtract, UpSample and DownSample under SDF, or of the first three under SR, whose actors stand right in the top.
+//! AddSubtract, UpSample and DownSample under SDF, of the first three under SR, or of what `events.rs` knows under DE, whose
+//! actors stand right in the top.
 //! It does what such a model needs and no more: an iteration, or a tick, is an order of firings that is found once. It
 //! refuses nothing by name; a document that it doesn't know ends it with a panic. Plain Rust over std alone: `rustc --edition 2021 -O interpreter.rs`.
 
 mod balance;
+mod events;
 
 use balance::repetitions;
+use events::Events;
 use std::collections::{HashMap, VecDeque};
 use std::io::{Read, Write};
 
@@ -134,6 +137,8 @@ enum Actor {
     AddSubtract,
     UpSample { factor: usize, phase: usize },
     DownSample { factor: usize, phase: usize },
+    /// An actor of DE, of which `events.rs` has the rest.
+    Timed,
 }
 
 impl Actor {
@@ -193,6 +198,7 @@ fn actor_of(entity: &Json) -> Actor {
             factor: entity.parameter("factor", 2) as usize,
             phase: entity.parameter("phase", 0) as usize,
         },
+        "DiscreteClock" | "Server" | "Sampler" => Actor::Timed,
         other => panic!("the class {other}"),
     }
 }
@@ -234,7 +240,7 @@ fn join(top: &Json, nodes: &mut [Node]) -> Vec<(usize, usize)> {
         match port.as_str() {
             "output" => continue,
             "input" | "plus" => nodes[node].plus.push(channels.len()),
-            "minus" => nodes[node].minus.push(channels.len()),
+            "minus" | "trigger" => nodes[node].minus.push(channels.len()),
             other => panic!("the port {other}"),
         }
         nodes[source].outputs.push(channels.len());
@@ -266,15 +272,13 @@ fn ordered(nodes: &[Node], channels: &[(usize, usize)]) -> Vec<usize> {
     order
 }
 
-fn model_of(job: &Json) -> Model {
-    let top = job.get("model").expect("a model");
-    let director = top
-        .list("properties")
-        .iter()
-        .find(|property| property.get("class").is_some())
-        .expect("a director");
-    let mut nodes: Vec<Node> = top.list("entities").iter().map(node_of).collect();
-    let channels = join(top, &mut nodes);
+fn director_of(top: &Json) -> &Json {
+    let mut properties = top.list("properties").iter();
+    properties.find(|property| property.get("class").is_some()).expect("a director")
+}
+
+/// The recorded actors.
+fn recorded(job: &Json, nodes: &mut [Node]) -> Vec<usize> {
     let mut record = Vec::new();
     for port in job.list("record") {
         let Json::Text(port) = port else {
@@ -288,6 +292,15 @@ fn model_of(job: &Json) -> Model {
         nodes[number].recorded = Some(Vec::new());
         record.push(number);
     }
+    record
+}
+
+fn model_of(job: &Json) -> Model {
+    let top = job.get("model").expect("a model");
+    let director = director_of(top);
+    let mut nodes: Vec<Node> = top.list("entities").iter().map(node_of).collect();
+    let channels = join(top, &mut nodes);
+    let record = recorded(job, &mut nodes);
     let order = ordered(&nodes, &channels);
     let iterations = director.parameter("iterations", 0) as u64;
     Model {
@@ -328,6 +341,7 @@ impl Node {
                 taken.rev().nth(phase)
             }
             Actor::UpSample { .. } => unreachable!("a burst"),
+            Actor::Timed => unreachable!("an actor of DE"),
         }
     }
 
@@ -408,6 +422,24 @@ fn push_number(text: &mut Vec<u8>, number: i64) {
     text.extend_from_slice(&digits[start..]);
 }
 
+/// Runs a model of DE, and gives its report.
+fn report_events(job: &Json) -> Vec<u8> {
+    let top = job.get("model").expect("a model");
+    let mut nodes: Vec<Node> = top.list("entities").iter().map(node_of).collect();
+    let channels = join(top, &mut nodes);
+    let record = recorded(job, &mut nodes);
+    let mut events = Events::new(top.list("entities"), nodes, &channels);
+    let end = events.run(director_of(top).parameter("stopTime", i64::MAX) as u64);
+    events.report(&record, end)
+}
+
+/// Runs a model of SDF or SR, and gives its report and the exit status.
+fn report_iterations(job: &Json) -> (Vec<u8>, i32) {
+    let mut model = model_of(job);
+    let stuck = model.run();
+    (model.report(stuck), if stuck.is_some() { 3 } else { 0 })
+}
+
 fn main() {
     let mut bytes = Vec::new();
     std::io::stdin().lock().read_to_end(&mut bytes).expect("standard input");
@@ -416,12 +448,8 @@ fn main() {
         place: 0,
     }
     .value();
-    let mut model = model_of(&job);
-    drop(job);
-    let stuck = model.run();
-    std::io::stdout()
-        .lock()
-        .write_all(&model.report(stuck))
-        .expect("standard output");
-    std::process::exit(if stuck.is_some() { 3 } else { 0 });
+    let is_timed = director_of(job.get("model").expect("a model")).text("class") == "DE";
+    let (report, status) = if is_timed { (report_events(&job), 0) } else { report_iterations(&job) };
+    std::io::stdout().lock().write_all(&report).expect("standard output");
+    std::process::exit(status);
 }
