@@ -1,5 +1,5 @@
 -- The events of the inputs of a DE top: each has a token at a tag, and is after the one before it.
-use Rattle.std.specs.Prelude.{◌≡◌, ℕ, ◌<◌, ◌≤◌, List, length, map, get_or, Bool, true, false, Vec}
+use Rattle.std.specs.Prelude.{◌≡◌, ℕ, ◌<◌, ◌≤◌, List, length, map, get_or, Bool, true, false, Option, Some, Vec}
 use Rattle.std.specs.Global.{Global}
 use Rattle.std.specs.List.{All}
 use Rattle.pt_meaning.specs.Tag.{Tag, tag_le}
@@ -8,6 +8,13 @@ use Rattle.pt_value.specs.declared.token.Token.{Token}
 -- a token at a tag
 abbrev pub Event : Type 0
 Event = Tag × Token
+
+-- the tags of events, and their tokens, each of which is there
+abbrev pub tags_in : List Event → List Tag
+tags_in es = map (λ (e : Event). e.0) es
+
+abbrev pub tokens_in : List Event → List (Option Token)
+tokens_in es = map (λ (e : Event). Some e.1) es
 
 -- no event is at or before one that stands before it
 abbrev pub Ascend : List Event → Type 0

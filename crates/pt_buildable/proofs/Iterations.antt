@@ -27,7 +27,7 @@ use Rattle.pt_scopes.specs.Scopes.{NetTree, bound, text_of}
 use Rattle.pt_scopes.specs.ClassParameters.{IsParameterOf}
 use Rattle.pt_scopes.specs.Valued.{EntityView, AreOfDirector, IsEntityValued, IsValued}
 use Rattle.pt_scopes.specs.Valued as valued
-use Rattle.pt_job.specs.Iterations.{count_of, count_in, value_at, sets_iterations, iterations_in, iterations_by, iterations_at, iterations}
+use Rattle.pt_job.specs.Iterations.{count_of, count_in, value_at, sets, number_in, number_by, number_at, iterations}
 use Rattle.pt_buildable.proofs.Directors.{not-true}
 use Rattle.pt_buildable.proofs.TopRules.{TakesIterations, IsGivenIn, sdf-takes, sr-takes}
 
@@ -116,16 +116,16 @@ pub sr-iterates : IsIterating (codes "SR")
 sr-iterates = record { takes = sr-takes; form_is = sr-form }
 
 -- a director with such a parameter, at the top, has its number
-director-number : (d : DirectorTree) (scope : Scope) (vs : List ParameterValue) → IsIterating d.class → AreOfDirector None (Some d) scope (map held_view vs) → (q : PropertyTree) → IsIn q d.parameters → bytes_eq (property_name q) (codes "iterations") ≡ true → (n : ℕ) × (iterations_in d.parameters vs ≡ Some n)
+director-number : (d : DirectorTree) (scope : Scope) (vs : List ParameterValue) → IsIterating d.class → AreOfDirector None (Some d) scope (map held_view vs) → (q : PropertyTree) → IsIn q d.parameters → bytes_eq (property_name q) (codes "iterations") ≡ true → (n : ℕ) × (number_in (codes "iterations") d.parameters vs ≡ Some n)
 director-number d scope vs iterates given q there named =
-    let w = first-placed sets_iterations 0 d.parameters q there named in
+    let w = first-placed (sets (codes "iterations")) 0 d.parameters q there named in
     let z = zip-at (IsParameterOf (names_port []) scope (director_form None d.class)) d.parameters (map held_view vs) given.each w.place w.item w.at in
     let v = mapped-at held_view vs w.place z.0 z.1 in
     let name : property_name w.item ≡ codes "iterations" = (bytes_eq-Decides (property_name w.item) (codes "iterations")).0 w.passes in
     let f = ap (form_of d.class) name ∙ iterates.form_is in
     let held : IsGiven (names_port []) scope (form_of d.class (property_name w.item)) (text_of w.item) (held_view v.0) = subst (λ (h : Held). IsGiven (names_port []) scope (form_of d.class (property_name w.item)) (text_of w.item) h) (sym v.2) z.2 in
     let n = numbered (names_port []) scope (text_of w.item) v.0 (subst (λ g. IsGiven (names_port []) scope g (text_of w.item) (held_view v.0)) f held) in
-    let place : position sets_iterations d.parameters ≡ Some w.place = position_from-zero sets_iterations d.parameters ∙ w.position_is ∙ ap (λ m. Some m) (let e : 0 + w.place ≡ w.place = omega arith in e) in
+    let place : position (sets (codes "iterations")) d.parameters ≡ Some w.place = position_from-zero (sets (codes "iterations")) d.parameters ∙ w.position_is ∙ ap (λ m. Some m) (let e : 0 + w.place ≡ w.place = omega arith in e) in
     (n.0, ap (λ o. count_in (value_at vs o)) place ∙ ap count_in v.1 ∙ n.1)
 
 -- ---- the top of a net
@@ -140,7 +140,7 @@ top-number net values e p is at alone directed iterates given =
     subst (λ (w : EntityView). AreOfDirector None (Some d) (bound z.2.inner) w.director) (sym v.2) (subst (λ o. AreOfDirector None o (bound z.2.inner) z.0.director) directed (subst (λ o. AreOfDirector o e.director (bound z.2.inner) z.0.director) alone z.2.director)) in
     let passes : is_parameter given.property ≡ true = and_from (not (is_layout (property_name given.property))) (is_none (property_class given.property)) (ap not given.layout) (bare (property_class given.property) given.bare) in
     let n = director-number d (bound z.2.inner) v.0.director.items iterates own given.property (in-filter is_parameter (inner_properties p) given.property given.there passes) given.named in
-    (n.0, ap (λ o. iterations_at o (slice_get values.entities.items 0)) at ∙ ap (iterations_at (Some e)) v.1 ∙ ap (λ o. iterations_by o v.0.director.items) directed ∙ n.1)
+    (n.0, ap (λ o. number_at (codes "iterations") o (slice_get values.entities.items 0)) at ∙ ap (number_at (codes "iterations") (Some e)) v.1 ∙ ap (λ o. number_by (codes "iterations") o v.0.director.items) directed ∙ n.1)
   where
     bare : (o : Option (List ℕ)) → is_some o ≡ false → is_none o ≡ true
     bare None h = refl

@@ -5,6 +5,7 @@ use Rattle.std.proofs.lemmas.Bool.{both_ways}
 use Rattle.std.proofs.lemmas.Option.{none-some, same_Some}
 use Rattle.pt_meaning.specs.Streams.{get}
 use Rattle.pt_document.specs.declared.code.Code.{Code}
+use Rattle.pt_document.specs.declared.code.Code.TheVariants as code
 use Rattle.pt_document.specs.declared.classes.Director.{Director}
 use Rattle.pt_document.specs.declared.classes.Director.TheVariants.{Sdf, Pn, Rendezvous, Sr, De}
 use Rattle.pt_value.specs.declared.token.Token.{Token}
@@ -20,8 +21,8 @@ use Rattle.pt_scopes.specs.Valued.{IsValued}
 use Rattle.pt_typing.specs.Least.{Assignment}
 use Rattle.pt_library.specs.declared.library_actor.LibraryActor.{LibraryActor}
 use Rattle.pt_library.specs.LibraryActor as library
-use Rattle.pt_start.specs.Places.{director_in, director_at, director_over}
-use Rattle.pt_start.specs.Misplaced.{IsMisplaced}
+use Rattle.pt_start.specs.Places.{director_in, director_at, director_over, is_untimed, HasUntimedAbove, here}
+use Rattle.pt_start.specs.Misplaced.{is_de, IsMisplaced, timed}
 use Rattle.pt_start.proofs.Outward.{view-at}
 use Rattle.pt_node.specs.View.{Tree}
 use Rattle.pt_trees.specs.Rates.{tick_gives, core_rates, IsUnsteady, HasUnsteady}
@@ -50,20 +51,32 @@ tree-among net starts no_trees i kid at = absurd (none-some kid at)
 tree-among net starts (more_trees k ks t ts one all) zero kid at = (k, refl, subst (λ x. IsTree net (StartsAs starts) k x) (same_Some t kid at) one)
 tree-among net starts (more_trees k ks t ts one all) (suc i) kid at = tree-among net starts all i kid at
 
--- a core that a composite has at its start has rates
-rated-core : (director : Director) (around : Around) (kids : List Tree) (core : tree.Core Token) → (composing director).IsCore around kids core → core_rates core ≡ None → ⊥
-rated-core Sdf around kids core is unrated = none-some is.plan.gives (sym unrated ∙ ap core_rates is.is)
-rated-core Sr around kids core is unrated = none-some (tick_gives (tick_plan around)) (sym unrated ∙ ap core_rates is.is)
-rated-core De around kids core is unrated = absurd is
-rated-core Pn around kids core is unrated = absurd is
-rated-core Rendezvous around kids core is unrated = absurd is
+-- a core that a composite has at its start has rates, but for that of DE
+rated-core : (director : Director) (around : Around) (kids : List Tree) (core : tree.Core Token) → (director ≡ De → ⊥) → (composing director).IsCore around kids core → core_rates core ≡ None → ⊥
+rated-core Sdf around kids core untimed is unrated = none-some is.plan.gives (sym unrated ∙ ap core_rates is.is)
+rated-core Sr around kids core untimed is unrated = none-some (tick_gives (tick_plan around)) (sym unrated ∙ ap core_rates is.is)
+rated-core De around kids core untimed is unrated = untimed refl
+rated-core Pn around kids core untimed is unrated = absurd is
+rated-core Rendezvous around kids core untimed is unrated = absurd is
 
 -- a composite does, and so does an actor that starts so
-steady-kid : (net : Net) (starts : Starts) {c : ℕ} {kid : Tree} → IsTree net (StartsAs starts) c kid → ((a : LibraryActor) → StartsAs starts c a → IsSteadyStart a) → IsUnsteady kid → ⊥
-steady-kid net starts (of_actor k e a at undirected started) steady (inl unsteady) = both_ways (library.is_steady a) unsteady (steady a started).steady
-steady-kid net starts (of_actor k e a at undirected started) steady (inr unrated) = (steady a started).rated unrated
-steady-kid net starts (of_composite k e director kids core at by all is) steady (inl unsteady) = let h : true ≡ false = unsteady in cc
-steady-kid net starts (of_composite k e director kids core at by all is) steady (inr unrated) = rated-core director (around_in net k e) kids core is unrated
+steady-kid : (net : Net) (starts : Starts) {c : ℕ} {kid : Tree} → IsTree net (StartsAs starts) c kid → ((a : LibraryActor) → StartsAs starts c a → IsSteadyStart a) → ((e : NetEntity) → IsEntity net c e → IsDirectedBy e De → ⊥) → IsUnsteady kid → ⊥
+steady-kid net starts (of_actor k e a at undirected started) steady untimed (inl unsteady) = both_ways (library.is_steady a) unsteady (steady a started).steady
+steady-kid net starts (of_actor k e a at undirected started) steady untimed (inr unrated) = (steady a started).rated unrated
+steady-kid net starts (of_composite k e director kids core at by all is) steady untimed (inl unsteady) = let h : true ≡ false = unsteady in cc
+steady-kid net starts (of_composite k e director kids core at by all is) steady untimed (inr unrated) =
+    rated-core director (around_in net k e) kids core (λ de. untimed e at (by ∙ ap (λ (d : Director). Option.Some d) de)) is unrated
+
+-- a composite of DE may not stand in one of SDF
+untimed-kid : (net : Net) (values : Values) → ((cause : Code) (k : ℕ) → IsMisplaced (net_view net) values cause k → ⊥) → (k c : ℕ) (e kid : NetEntity) → IsEntity net k e → IsDirectedBy e Sdf → IsEntity net c kid → kid.parent ≡ Some k → IsDirectedBy kid De → ⊥
+untimed-kid net values placed k c e kid at sdf there parent de =
+    let round : HasUntimedAbove (net_view net) (Some k) = here k (entity_view e) (view-at entity_view net.entities.items k e at) (ap is_untimed (same-director e.director ∙ named-of e Sdf sdf)) in
+    let below : HasUntimedAbove (net_view net) (entity_view kid).parent = subst (λ (o : Option ℕ). HasUntimedAbove (net_view net) o) (sym parent) round in
+    placed code.Timed c (record {
+      entity = entity_view kid;
+      at = view-at entity_view net.entities.items c kid there;
+      refused = timed (record { timed = ap is_de (same-director kid.director ∙ named-of kid De de); below = below });
+    })
 
 pub no-unsteady : (net : Net) (values : Values) (typing : Assignment) (starts : Starts) → IsValued (net_view net) values → ((cause : Code) (k : ℕ) → IsMisplaced (net_view net) values cause k → ⊥) → AreStartedIn net values typing starts → (k : ℕ) (e : NetEntity) (kids : List Tree) → IsEntity net k e → IsDirectedBy e Sdf →
     AreTrees net (StartsAs starts) (children_of net.entities.items k) kids → HasUnsteady kids → ⊥
@@ -76,4 +89,6 @@ no-unsteady net values typing starts valued placed started k e kids at sdf all u
     let from = s.3.started_from in
     let view : from.entity ≡ entity_view s.0 = same_Some from.entity (entity_view s.0) (sym from.at ∙ view-at entity_view net.entities.items w.0 s.0 s.1) in
     let parent : from.entity.parent ≡ Some k = ap (λ (x : NetEntityTree). x.parent) view ∙ ap (λ (x : NetEntity). x.parent) same ∙ child.2 in
-    steady-started net values (types_of_ports typing) w.0 valued (λ cause. placed cause w.0) s.3.params from (ap (director_over (net_view net)) parent ∙ over-sdf net k e at sdf) a s.3.is)) unsteady.3
+    steady-started net values (types_of_ports typing) w.0 valued (λ cause. placed cause w.0) s.3.params from (ap (director_over (net_view net)) parent ∙ over-sdf net k e at sdf) a s.3.is)) (λ x there de. (
+    let same : x ≡ child.0 = same_Some x child.0 (sym there ∙ child.1) in
+    untimed-kid net values placed k w.0 e x at sdf there (ap (λ (y : NetEntity). y.parent) same ∙ child.2) de)) unsteady.3

@@ -11,4 +11,5 @@ pub mod Insides
 pub mod Few
 pub mod Steady
 pub mod Kids
+pub mod Outputs
 pub mod Joined

@@ -1,4 +1,4 @@
--- Which composites of a net are built: those with the director SDF or SR.
+-- Which composites of a net are built: those with the director SDF, SR or DE.
 use Rattle.std.specs.Prelude.{◌≡◌, ℕ, Bool, true, false, Option, Some, None}
 use Rattle.pt_document.specs.declared.classes.Director.{Director}
 use Rattle.pt_document.specs.declared.classes.Director.TheVariants.{Sdf, Pn, Rendezvous, Sr, De}
@@ -13,7 +13,7 @@ abbrev pub is_built : Option Director → Bool
 is_built None = false
 is_built (Some Sdf) = true
 is_built (Some Sr) = true
-is_built (Some De) = false
+is_built (Some De) = true
 is_built (Some Pn) = false
 is_built (Some Rendezvous) = false
 

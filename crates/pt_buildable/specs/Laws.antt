@@ -1,5 +1,6 @@
 -- Laws of the net of a document: what the builder of trees needs of it is there.
 use Rattle.std.specs.Prelude.{◌≡◌, ◌⊎◌, ℕ, ◌+◌, ◌≤◌, List, length, true, Some}
+use Rattle.std.specs.List.{All}
 use Rattle.pt_meaning.specs.Running.{total}
 use Rattle.pt_laws.specs.StartedRuns.{AllThere}
 use Rattle.pt_document.specs.declared.code.Code.{Code}
@@ -18,6 +19,7 @@ use Rattle.pt_start.specs.Misplaced.{IsMisplaced}
 use Rattle.pt_job.specs.Iterations.{iterations}
 use Rattle.pt_node.specs.View.{Tree}
 use Rattle.pt_trees.specs.Around.{Around}
+use Rattle.pt_trees.specs.De.{BeginsAtOutput}
 use Rattle.pt_trees.specs.Rates.{HasUnsteady}
 use Rattle.pt_trees.specs.Directors.{IsDirectedBy}
 use Rattle.pt_trees.specs.Trees.{IsEntity, Starts, StartsAs, AreTrees, around_in}
@@ -67,3 +69,8 @@ abbrev pub ChildrenAreSteady : Type 0
 ChildrenAreSteady =
     (net : Net) (values : Values) (typing : Assignment) (starts : Starts) (k : ℕ) (e : NetEntity) (kids : List Tree) → IsValued (net_view net) values → ((cause : Code) (n : ℕ) → IsMisplaced (net_view net) values cause n → ⊥) → AreStartedIn net values typing starts → IsEntity net k e → IsDirectedBy e Sdf →
     AreTrees net (StartsAs starts) (children_of net.entities.items k) kids → HasUnsteady kids → ⊥
+
+-- Where a channel of a composite begins at a child that answers early, it begins at an output that this child has.
+abbrev pub ChannelsBeginAtOutputs : Type 0
+ChannelsBeginAtOutputs =
+    (net : Net) (values : Values) (typing : Assignment) (starts : Starts) (k : ℕ) (e : NetEntity) (kids : List Tree) → IsInOrder net → AreStartedIn net values typing starts → IsEntity net k e → AreTrees net (StartsAs starts) (children_of net.entities.items k) kids → All (BeginsAtOutput kids) (around_in net k e).sources

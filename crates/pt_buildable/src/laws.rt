@@ -1,4 +1,4 @@
-ghost use Rattle.pt_buildable.specs.Laws.{TopsAreThere, EntitiesAreShallow, DirectorsAreOfComposites, TopsHaveIterations, CompositesAreBuiltOrNot, BuiltNetsAreInOrder, CompositesHaveChannels, ChildrenAreSteady};
+ghost use Rattle.pt_buildable.specs.Laws.{TopsAreThere, EntitiesAreShallow, DirectorsAreOfComposites, TopsHaveIterations, CompositesAreBuiltOrNot, BuiltNetsAreInOrder, CompositesHaveChannels, ChildrenAreSteady, ChannelsBeginAtOutputs};
 
 /// The net of a document has its top.
 pub fn tops_are_there()
@@ -20,7 +20,7 @@ pub fn tops_have_iterations()
     ensures { TopsHaveIterations }
 {}
 
-/// A net has a composite that isn't built, or all its composites have the director SDF or SR.
+/// A net has a composite that isn't built, or all its composites have the director SDF, SR or DE.
 pub fn composites_are_built_or_not()
     ensures { CompositesAreBuiltOrNot }
 {}
@@ -38,4 +38,9 @@ pub fn composites_have_channels()
 /// Under SDF each child needs and gives the same at each firing.
 pub fn children_are_steady()
     ensures { ChildrenAreSteady }
+{}
+
+/// A channel that begins at a child which answers early begins at one of its outputs.
+pub fn channels_begin_at_outputs()
+    ensures { ChannelsBeginAtOutputs }
 {}

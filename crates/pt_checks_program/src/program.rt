@@ -36,8 +36,15 @@ const TEXTS: &str =
 const NESTED: &str =
     r#"{"version":1,"model":{"name":"top","class":"Composite","properties":[{"name":"director","class":"SDF","properties":[{"name":"iterations","value":"2"}]}],"entities":[{"name":"inner","class":"Composite","properties":[{"name":"director","class":"SDF"}],"ports":[{"name":"o","output":true}],"entities":[{"name":"r","class":"Ramp"}],"relations":[{"name":"i"}],"links":[{"port":"r.output","relation":"i"},{"port":"o","relation":"i"}]},{"name":"two","class":"SequenceToArray","properties":[{"name":"arrayLength","value":"2"}]}],"relations":[{"name":"a"}],"links":[{"port":"inner.o","relation":"a"},{"port":"two.input","relation":"a"}]},"record":["two.output"]}"#;
 
-const NOT_BUILT: &str =
+/// A clock and a delay of three, up to the time five.
+const EVENTS: &str =
+    r#"{"version":1,"model":{"name":"top","class":"Composite","properties":[{"name":"director","class":"DE","properties":[{"name":"stopTime","value":"5"}]}],"entities":[{"name":"c","class":"DiscreteClock","properties":[{"name":"period","value":"2"},{"name":"values","value":"{1,2}"},{"name":"offsets","value":"{0,1}"}]},{"name":"d","class":"TimeDelay","properties":[{"name":"delay","value":"3"}]}],"relations":[{"name":"r"}],"links":[{"port":"c.output","relation":"r"},{"port":"d.input","relation":"r"}]},"record":["d.output"]}"#;
+
+const NO_EVENTS: &str =
     r#"{"version":1,"model":{"name":"top","class":"Composite","properties":[{"name":"director","class":"DE"}]}}"#;
+
+const NOT_BUILT: &str =
+    r#"{"version":1,"model":{"name":"top","class":"Composite","properties":[{"name":"director","class":"Rendezvous"}]}}"#;
 
 fn words_of(alloc: Global, texts: &[&str]) -> Result<Vec<String>, AllocError> {
     let mut words = Vec::new(alloc);
@@ -84,6 +91,12 @@ fn documents_are_answered(rt: HostRuntime) -> Result<(), Fail> {
             Status::Done,
             "trace two.output\n0 0.0 {0, 1}\n1 0.0 {2, 3}\nend iterations\n",
         ),
+        (
+            EVENTS,
+            Status::Done,
+            "trace d.output\n0 3.0 1\n1 4.0 2\n2 5.0 1\nend stop\n",
+        ),
+        (NO_EVENTS, Status::Done, "end idle\n"),
         (VERSION_THREE, Status::Document, "refused 11 Shape .\n"),
         (NOT_BUILT, Status::Document, "refused 40 Unbuilt .\n"),
         ("{\"version\":1,", Status::Document, "refused 10 Json .\n"),

@@ -8,7 +8,7 @@ use Rattle.pt_trees.specs.Around.{Around}
 use Rattle.pt_trees.specs.Sdf.{IsInsideOf, HasInside, IsUnplannable}
 use Rattle.pt_trees.specs.Rates.{AreRates, HasUnsteady}
 use Rattle.pt_composite.specs.Needs.{NeedAll, AreNeeds}
-use Rattle.pt_composite.proofs.NeedLaws.{planned-same}
+use Rattle.pt_trees.proofs.NeedLaws.{planned-same}
 use Rattle.pt_composite.proofs.PlanLaws.{sources-same, inside-same}
 
 pub inside-needs : (around : Around) (kids : List Tree) (x : Inside) → IsInsideOf around kids x → IsInside x → NeedAll kids around.places x.needs

@@ -1,11 +1,10 @@
-pub mod NeedLaws
+pub mod NeedSteps
 pub mod HeldLaws
 pub mod PlanLaws
-pub mod NodeLaws
 pub mod LoopLaws
 pub mod InsideLaws
-pub mod FreshLaws
 pub mod ChildLaws
 pub mod SdfLaws
 pub mod WiredLaws
 pub mod SrLaws
+pub mod DeLaws

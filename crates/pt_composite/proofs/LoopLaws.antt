@@ -17,7 +17,7 @@ use Rattle.pt_trees.specs.Sdf.{first_counts}
 use Rattle.pt_trees.specs.Rates.{rates_of, HaveRates, is_steady, AreSteady, HasUnsteady, IsStarted, AllStarted}
 use Rattle.pt_composite.specs.Nonstrict.{is_nonstrict}
 use Rattle.pt_composite.proofs.HeldLaws.{held_to, held-append, held-empty, held-more}
-use Rattle.pt_composite.proofs.NodeLaws.{trees, trees-more, tree-at, map-append}
+use Rattle.pt_trees.proofs.NodeLaws.{trees, trees-more, tree-at, map-append}
 
 -- a token more is put
 pub put-more : {X : Type 0} (L0 L : List (List X)) (c : ℕ) (ts : List X) (i : ℕ) (x y : X) → c < length L0 → L ≡ set L0 c (get_or L0 c [] ++ take i ts) → i < length ts → x ≡ get_or ts i x → y ≡ x →

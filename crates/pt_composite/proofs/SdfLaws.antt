@@ -40,10 +40,10 @@ use Rattle.pt_trees.specs.Composite.{trees_of, IsComposed, IsUncomposed}
 use Rattle.pt_composite.specs.Nodes.{built}
 use Rattle.pt_composite.specs.Unplanned.{IsToldAs}
 use Rattle.pt_composite.proofs.ChildLaws.{all-steady}
-use Rattle.pt_composite.proofs.FreshLaws.{list-again, nodes-list, nodes-are, all-fit, all-start, all-fitting, all-plans, all-unrecorded}
-use Rattle.pt_composite.proofs.NeedLaws.{needs-length, planned-length}
+use Rattle.pt_trees.proofs.FreshLaws.{list-again, nodes-list, nodes-are, all-fit, all-start, all-fitting, all-plans, all-unrecorded}
+use Rattle.pt_trees.proofs.NeedLaws.{needs-length, planned-length}
 use Rattle.pt_composite.proofs.HeldLaws.{held-length, held-append}
-use Rattle.pt_composite.proofs.NodeLaws.{map-append}
+use Rattle.pt_trees.proofs.NodeLaws.{map-append}
 
 -- ---- first tokens
 

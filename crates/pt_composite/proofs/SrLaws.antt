@@ -1,7 +1,6 @@
 -- The SR composite that is built is fresh, and it is the one of the definitions.
 use Rattle.std.proofs.Common.{◌≡◌, ℕ, zero, suc, List, [], ◌∷◌, length, map, get_or, Bool, true, false, not, Some, refl, sym, ap, ◌∙◌, subst, arith}
-use Rattle.pt_meaning.specs.Machine.{Counts}
-use Rattle.pt_meaning.specs.NodeFacts.{facts_of, core_need, need_of}
+use Rattle.pt_meaning.specs.NodeFacts.{facts_of, core_need}
 use Rattle.pt_meaning.specs.Start.{IsAtStart}
 use Rattle.pt_meaning.specs.Streams.{get}
 use Rattle.pt_meaning.specs.Tree as tree
@@ -11,7 +10,7 @@ use Rattle.pt_laws.specs.StartedRuns.{IsWhole}
 use Rattle.pt_value.specs.declared.token.Token.{Token}
 use Rattle.pt_core.specs.Reached.{Always, AllAlways}
 use Rattle.pt_core.proofs.ReachedLaws as reached
-use Rattle.pt_core.specs.declared.either.Either.TheVariants.{Other}
+use Rattle.pt_core.specs.declared.either.Either.TheVariants.{First, Other}
 use Rattle.pt_sr.specs.Clauses.{State}
 use Rattle.pt_sr.specs.Chain.{IsStrict}
 use Rattle.pt_sr.specs.SrActs.{IsStrictIf, HasPlaces, Suits}
@@ -19,7 +18,6 @@ use Rattle.pt_sr.specs.State.{started}
 use Rattle.pt_library.specs.declared.library_actor.LibraryActor.{LibraryActor}
 use Rattle.pt_library.specs.LibraryActor as library
 use Rattle.pt_library.specs.LibraryActor.{rows}
-use Rattle.pt_library.proofs.PlaceLaws.{places-stay}
 use Rattle.pt_library.proofs.StrictLaws.{told-strict}
 use Rattle.pt_node.specs.Recorded.{RecordedPort}
 use Rattle.pt_node.specs.Shown.{Shown, all_of}
@@ -30,10 +28,10 @@ use Rattle.pt_trees.specs.Composite.{trees_of, IsComposed}
 use Rattle.pt_trees.specs.Fresh.{AreEmpty, AllFresh}
 use Rattle.pt_composite.specs.Nodes.{built}
 use Rattle.pt_composite.specs.Nonstrict.{is_nonstrict}
-use Rattle.pt_composite.proofs.ChildLaws.{actor-always}
-use Rattle.pt_composite.proofs.FreshLaws.{list-again, nodes-list, nodes-are, all-fit, all-start, all-fitting, all-plans, all-unrecorded, start-at}
-use Rattle.pt_composite.proofs.NeedLaws.{needs-length, planned-length, need-at, get-length}
-use Rattle.pt_composite.proofs.NodeLaws.{get-at}
+use Rattle.pt_trees.proofs.ChildLaws.{actor-always, placed-child}
+use Rattle.pt_trees.proofs.FreshLaws.{list-again, nodes-list, nodes-are, all-fit, all-start, all-fitting, all-plans, all-unrecorded, start-at}
+use Rattle.pt_trees.proofs.NeedLaws.{needs-length, planned-length, need-at, get-length}
+use Rattle.pt_trees.proofs.NodeLaws.{get-at}
 
 -- ---- a child, whatever it fires
 
@@ -57,16 +55,6 @@ strict-if : (nonstrict : Bool) (kid : Tree) → IsAtStart rows kid → nonstrict
 strict-if true kid start e = λ later t. tt
 strict-if false kid start e = strict-child kid start e
 
-same-counts : (ns ms : List ℕ) → Counts ns ≡ Counts ms → length ns ≡ length ms
-same-counts ns ms e = let same : ns ≡ ms = cc in ap (λ (v : List ℕ). length v) same
-
-placed-child : (places : ℕ) (kid : Tree) → IsAtStart rows kid → (ms : List ℕ) → need_of rows kid ≡ Counts ms → length ms ≡ places → Always rows (λ node. HasPlaces rows places node) kid
-placed-child places (Actor h a b) start ms e l =
-    actor-always h a b start.1 (λ node. HasPlaces rows places node) (λ fs past c g ns n. places-stay a ms (ap library.need (sym start.1) ∙ e) fs c g ns n ∙ l)
-placed-child places (Composite h c d kids) start ms e l = λ later t ns n.
-    let same : need_of rows later ≡ need_of rows (Composite h c d kids) = reached.composite-steady rows h c d kids (ap core_need (sym start.1)) later t in
-    same-counts ns ms (sym n ∙ same ∙ e) ∙ l
-
 -- ---- the children of a composite
 
 flag-at : (kids : List Tree) (i : ℕ) (kid : Tree) → get kids i ≡ Some kid → get_or (map is_nonstrict kids) i false ≡ is_nonstrict kid
@@ -79,7 +67,7 @@ module _ (around : Around) (kids : List Shown) (path : List ℕ) (records : List
   core = started (tick_plan around) (map is_nonstrict (trees_of kids))
 
   abbrev made : Shown
-  made = built (Other core) kids path records
+  made = built (Other (First core)) kids path records
 
   entries : length (trees_of kids) ≡ length around.places
   entries = sym (needs-length (facts_of rows) (trees_of kids)) ∙ ap (λ v. length v) wired.needed ∙ planned-length around.places wired.needs

@@ -18,7 +18,7 @@ use Rattle.pt_trees.specs.Around.{around_of}
 use Rattle.pt_trees.specs.Sr.{tick_plan, IsWired, IsWiredIf}
 use Rattle.pt_composite.specs.Needs.{NeedAll}
 use Rattle.pt_composite.specs.Nonstrict.{is_nonstrict}
-use Rattle.pt_composite.proofs.NeedLaws.{needs-length, planned-length}
+use Rattle.pt_trees.proofs.NeedLaws.{needs-length, planned-length}
 
 -- ---- where channels begin
 

@@ -5,6 +5,7 @@ ghost use Rattle.pt_trees.specs.Composite.{trees_of, IsComposite, CompositeFault
 ghost use Rattle.pt_trees.specs.Fresh.{AllFresh, AreEmpty};
 ghost use Rattle.pt_trees.specs.Rates.{AllStarted};
 
+use crate::de::de_composite;
 use crate::sdf::sdf_composite;
 use crate::sr::sr_composite;
 use pt_document::Director;
@@ -31,7 +32,8 @@ pub fn composite(
     match director {
         Director::Sdf => sdf_composite(alloc, children, wiring, path, records),
         Director::Sr => sr_composite(alloc, children, wiring, path, records),
-        Director::De | Director::Pn | Director::Rendezvous => {
+        Director::De => de_composite(alloc, children, wiring, path, records),
+        Director::Pn | Director::Rendezvous => {
             drop(children);
             Err(CompositeFault::Unbuilt)
         }

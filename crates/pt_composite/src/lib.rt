@@ -2,6 +2,7 @@
 #![tactic(auto)]
 
 mod composing;
+mod de;
 mod inside;
 mod needs;
 mod node;

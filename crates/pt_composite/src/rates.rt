@@ -24,7 +24,10 @@ fn node_rates(alloc: Global, node: &Node) -> Result<Option<Counts>, AllocError>
     match &node.body {
         Body::Actor(held) => held.actor.rates(alloc),
         Body::Composite(Either::First(core)) => Ok(Some(core.gives().copy(alloc)?)),
-        Body::Composite(Either::Other(core)) => Ok(Some(ones(alloc, core.outlets())?)),
+        Body::Composite(Either::Other(Either::First(core))) => {
+            Ok(Some(ones(alloc, core.outlets())?))
+        }
+        Body::Composite(Either::Other(Either::Other(_))) => Ok(None),
     }
 }
 

@@ -8,7 +8,7 @@ use Rattle.pt_laws.specs.TickRuns.{places_at}
 use Rattle.pt_library.proofs.DelayLaws.{delay-whole}
 use Rattle.pt_node.specs.View.{Tree}
 use Rattle.pt_trees.specs.Around.{Around}
-use Rattle.pt_de_inside.specs.De.{is_delay, answers_early, delays_from, delays_of, delayed_in}
+use Rattle.pt_trees.specs.De.{is_delay, answers_early, delays_from, delays_of, delayed_in}
 
 pub from-length : (kid : Tree) (from n : ℕ) → length (delays_from kid from n) ≡ n
 from-length kid from zero = refl

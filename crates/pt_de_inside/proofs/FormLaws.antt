@@ -19,9 +19,9 @@ use Rattle.pt_de_plan.proofs.PlanLaws.{loop-unlawful}
 use Rattle.pt_library.specs.LibraryActor.{rows}
 use Rattle.pt_node.specs.View.{Tree}
 use Rattle.pt_trees.specs.Around.{Around}
-use Rattle.pt_de_inside.specs.De.{answers_early, delayed_in, IsDeCore, IsDeWired, IsLoopIn}
+use Rattle.pt_trees.specs.De.{answers_early, delayed_in, IsDeCore, IsDeWired, IsLoopIn}
 use Rattle.pt_trees.specs.Sr.{tick_plan, IsWired}
-use Rattle.pt_composite.proofs.NeedLaws.{needs-length, planned-length}
+use Rattle.pt_trees.proofs.NeedLaws.{needs-length, planned-length}
 use Rattle.pt_de_inside.specs.Inside.{IsInsideOf}
 use Rattle.pt_de_inside.specs.Laws.{InsidesAreFormed, PlansMakeCores}
 use Rattle.pt_de_inside.proofs.FlagLaws.{delayed-length, flags-at, none-at, set-early, told-at, none-past}

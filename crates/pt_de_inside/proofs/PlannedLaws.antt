@@ -16,7 +16,7 @@ use Rattle.pt_node.specs.Shown.{Shown}
 use Rattle.pt_trees.specs.declared.composite_fault.CompositeFault.{CompositeFault}
 use Rattle.pt_trees.specs.Around.{Around}
 use Rattle.pt_trees.specs.Composite.{trees_of, IsUncomposed}
-use Rattle.pt_de_inside.specs.De.{de, IsDeWired}
+use Rattle.pt_trees.specs.De.{de, IsDeWired}
 use Rattle.pt_trees.specs.Fresh.{AllFresh}
 use Rattle.pt_trees.specs.Rates.{AllStarted}
 use Rattle.pt_trees.specs.Sr.{tick_plan}

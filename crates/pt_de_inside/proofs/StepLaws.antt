@@ -7,9 +7,9 @@ use Rattle.pt_node.specs.Live.{IsFit}
 use Rattle.pt_node.specs.Shown.{Shown, shown, shown_node}
 use Rattle.pt_node.specs.View.{Tree, node_of}
 use Rattle.pt_node.proofs.Link.{shown-node}
-use Rattle.pt_de_inside.specs.De.{is_delay, delays_from, delays_of}
+use Rattle.pt_trees.specs.De.{is_delay, delays_from, delays_of}
 use Rattle.pt_trees.specs.Fresh.{AllFresh}
-use Rattle.pt_composite.proofs.NodeLaws.{trees, trees-length, trees-more, map-append}
+use Rattle.pt_trees.proofs.NodeLaws.{trees, trees-length, trees-more, map-append}
 
 -- what is told of one child more
 pub told-more : {B : Type 0} (f : Tree → B) (kids : List Node) (i : ℕ) (d : Node) (told : List B) (x : B) → i < length kids → d ≡ get_or kids i d → told ≡ map f (trees (take i kids)) → x ≡ f (node_of (shown_node d)) → told ++ x ∷ [] ≡ map f (trees (take (i + 1) kids))

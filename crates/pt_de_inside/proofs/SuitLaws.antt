@@ -3,7 +3,7 @@ use Rattle.std.proofs.Common.{◌≡◌, ℕ, zero, suc, ◌<◌, List, [], ◌�
 use Rattle.pt_meaning.specs.De.{if_whole}
 use Rattle.pt_meaning.specs.Machine.{Counts, Partial, partial_at}
 use Rattle.pt_meaning.specs.Net.{Source, Output}
-use Rattle.pt_meaning.specs.NodeFacts.{facts_of, core_need, core_whole, need_of, next_of, whole_of}
+use Rattle.pt_meaning.specs.NodeFacts.{facts_of, core_whole, need_of, next_of, whole_of}
 use Rattle.pt_meaning.specs.Start.{IsAtStart}
 use Rattle.pt_meaning.specs.Streams.{get}
 use Rattle.pt_meaning.specs.Tree.{Core, Actor, Composite, Past, reset_of}
@@ -12,7 +12,6 @@ use Rattle.pt_laws.specs.Heights.{IsFitting}
 use Rattle.pt_laws.specs.TickRuns.{places_at}
 use Rattle.pt_value.specs.declared.token.Token.{Token}
 use Rattle.pt_core.specs.Reached.{Always, AllAlways}
-use Rattle.pt_core.proofs.ReachedLaws as reached
 use Rattle.pt_de_laws.specs.Chain.{Answers}
 use Rattle.pt_de_laws.specs.DeActs.{AnswersIf, HasPlaces, Suits}
 use Rattle.pt_de_laws.specs.Lawful.{IsLawful}
@@ -26,19 +25,18 @@ use Rattle.pt_library.specs.declared.library_actor.LibraryActor.{LibraryActor}
 use Rattle.pt_library.specs.LibraryActor as library
 use Rattle.pt_library.specs.LibraryActor.{rows}
 use Rattle.pt_library.proofs.DelayLaws.{tell-early, delays-stay}
-use Rattle.pt_library.proofs.PlaceLaws.{places-stay}
 use Rattle.pt_node.specs.Shown.{Shown}
 use Rattle.pt_node.specs.View.{Tree, node_of}
 use Rattle.pt_trees.specs.Around.{Around}
 use Rattle.pt_trees.specs.Composite.{trees_of}
-use Rattle.pt_de_inside.specs.De.{answers_early, delays_from, BeginsAtOutput, HasOutput, HasOutputIf, IsDeWired, IsOutputIf}
+use Rattle.pt_trees.specs.De.{answers_early, delays_from, BeginsAtOutput, HasOutput, HasOutputIf, IsDeWired, IsOutputIf}
 use Rattle.pt_trees.specs.Fresh.{AllFresh}
 use Rattle.pt_trees.specs.Rates.{AllStarted, IsStarted}
 use Rattle.pt_trees.specs.Sr.{tick_plan}
-use Rattle.pt_composite.proofs.ChildLaws.{actor-always}
-use Rattle.pt_composite.proofs.FreshLaws.{start-at}
-use Rattle.pt_composite.proofs.NeedLaws.{need-at}
-use Rattle.pt_composite.proofs.NodeLaws.{get-at}
+use Rattle.pt_trees.proofs.ChildLaws.{actor-always, placed-child}
+use Rattle.pt_trees.proofs.FreshLaws.{start-at}
+use Rattle.pt_trees.proofs.NeedLaws.{need-at}
+use Rattle.pt_trees.proofs.NodeLaws.{get-at}
 use Rattle.pt_de_inside.specs.Inside.{IsInsideOf}
 use Rattle.pt_de_inside.specs.Laws.{PlansSuit}
 use Rattle.pt_de_inside.proofs.FlagLaws.{flags-at, flag-of, from-length, told-at}
@@ -51,16 +49,6 @@ fitting-at : (ss : List Shown) → AllFresh ss → (i : ℕ) (kid : Tree) → ge
 fitting-at [] f i kid e = absurd (cc)
 fitting-at (s ∷ ss) f zero kid e = let same : node_of s ≡ kid = cc in subst (λ (t : Tree). IsFitting t) same f.0.fitting
 fitting-at (s ∷ ss) f (suc i) kid e = fitting-at ss f.1 i kid e
-
-same-counts : (ns ms : List ℕ) → Counts ns ≡ Counts ms → length ns ≡ length ms
-same-counts ns ms e = let same : ns ≡ ms = cc in ap (λ (v : List ℕ). length v) same
-
-placed-child : (places : ℕ) (kid : Tree) → IsAtStart rows kid → (ms : List ℕ) → need_of rows kid ≡ Counts ms → length ms ≡ places → Always rows (λ node. HasPlaces rows places node) kid
-placed-child places (Actor h a b) start ms e l =
-    actor-always h a b start.1 (λ node. HasPlaces rows places node) (λ fs past c g ns n. places-stay a ms (ap library.need (sym start.1) ∙ e) fs c g ns n ∙ l)
-placed-child places (Composite h c d kids) start ms e l = λ later t ns n.
-    let same : need_of rows later ≡ need_of rows (Composite h c d kids) = reached.composite-steady rows h c d kids (ap core_need (sym start.1)) later t in
-    same-counts ns ms (sym n ∙ same ∙ e) ∙ l
 
 whole-child : (kid : Tree) → IsAtStart rows kid → Always rows (λ node. whole_of rows node ≡ whole_of rows kid) kid
 whole-child (Actor h a b) start =

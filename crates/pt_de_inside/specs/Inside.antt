@@ -6,7 +6,7 @@ use Rattle.pt_de_plan.specs.Inside.{plan_of}
 use Rattle.pt_library.specs.LibraryActor.{rows}
 use Rattle.pt_node.specs.View.{Tree}
 use Rattle.pt_trees.specs.Around.{Around}
-use Rattle.pt_de_inside.specs.De.{answers_early, delayed_in}
+use Rattle.pt_trees.specs.De.{answers_early, delayed_in}
 use Rattle.pt_trees.specs.Sr.{tick_plan}
 
 -- Its channels and places are those of the wiring. It tells of each channel whether it ends at a delay, and of each child whether it answers early, whether it takes its lists whole, and its wake now.

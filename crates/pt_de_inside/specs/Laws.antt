@@ -12,7 +12,7 @@ use Rattle.pt_node.specs.Shown.{Shown}
 use Rattle.pt_node.specs.View.{Tree}
 use Rattle.pt_trees.specs.Around.{Around}
 use Rattle.pt_trees.specs.Composite.{trees_of}
-use Rattle.pt_de_inside.specs.De.{IsDeCore, IsDeWired}
+use Rattle.pt_trees.specs.De.{IsDeCore, IsDeWired}
 use Rattle.pt_trees.specs.Fresh.{AllFresh}
 use Rattle.pt_trees.specs.Rates.{AllStarted}
 use Rattle.pt_trees.specs.Sr.{tick_plan}

@@ -1,4 +1,3 @@
-pub mod De
 pub mod Inside
 pub mod Planned
 pub mod Laws

@@ -12,7 +12,7 @@ use Rattle.pt_node.specs.View.{Tree}
 use Rattle.pt_trees.specs.declared.composite_fault.CompositeFault.{CompositeFault}
 use Rattle.pt_trees.specs.declared.composite_fault.CompositeFault.TheVariants.{Refused, Memory}
 use Rattle.pt_trees.specs.Around.{Around}
-use Rattle.pt_de_inside.specs.De.{IsDeCore}
+use Rattle.pt_trees.specs.De.{IsDeCore}
 use Rattle.pt_trees.specs.Sr.{tick_plan}
 use Rattle.pt_de_inside.specs.Inside.{IsInsideOf}
 

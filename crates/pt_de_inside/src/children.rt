@@ -4,7 +4,7 @@ ghost use Rattle.pt_library.specs.LibraryActor as library;
 ghost use Rattle.pt_node.specs.Shown.{shown, shown_node};
 ghost use Rattle.pt_node.specs.View.{node_of};
 ghost use Rattle.pt_trees.specs.Composite.{trees_of};
-ghost use Rattle.pt_de_inside.specs.De.{answers_early};
+ghost use Rattle.pt_trees.specs.De.{answers_early};
 ghost use Rattle.pt_trees.specs.Fresh.{AllFresh};
 
 use pt_node::{Body, Node};

@@ -3,7 +3,7 @@ ghost use Rattle.pt_node.specs.Shown.{shown, shown_node};
 ghost use Rattle.pt_node.specs.View.{node_of};
 ghost use Rattle.pt_trees.specs.Around.{around_of};
 ghost use Rattle.pt_trees.specs.Composite.{trees_of};
-ghost use Rattle.pt_de_inside.specs.De.{delayed_in, delays_from, delays_of, is_delay};
+ghost use Rattle.pt_trees.specs.De.{delayed_in, delays_from, delays_of, is_delay};
 
 use pt_node::{Body, Node};
 use pt_trees::Wiring;

@@ -3,7 +3,7 @@ ghost use Rattle.pt_de_plan.specs.Inside.{IsInside};
 ghost use Rattle.pt_node.specs.Shown.{shown};
 ghost use Rattle.pt_trees.specs.Around.{around_of};
 ghost use Rattle.pt_trees.specs.Composite.{trees_of};
-ghost use Rattle.pt_de_inside.specs.De.{IsDeWired};
+ghost use Rattle.pt_trees.specs.De.{IsDeWired};
 ghost use Rattle.pt_trees.specs.Fresh.{AllFresh};
 ghost use Rattle.pt_de_inside.specs.Inside.{IsInsideOf};
 

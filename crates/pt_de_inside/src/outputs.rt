@@ -5,7 +5,7 @@ ghost use Rattle.pt_node.specs.Shown.{shown, shown_node};
 ghost use Rattle.pt_node.specs.View.{node_of};
 ghost use Rattle.pt_trees.specs.Around.{around_of};
 ghost use Rattle.pt_trees.specs.Composite.{trees_of};
-ghost use Rattle.pt_de_inside.specs.De.{BeginsAtOutput, HasOutput};
+ghost use Rattle.pt_trees.specs.De.{BeginsAtOutput, HasOutput};
 
 use pt_core::Source;
 use pt_node::{Body, Node};

@@ -3,7 +3,7 @@ ghost use Rattle.pt_de_plan.specs.Depths.{FaultStands};
 ghost use Rattle.pt_node.specs.Shown.{shown};
 ghost use Rattle.pt_trees.specs.Around.{around_of};
 ghost use Rattle.pt_trees.specs.Composite.{trees_of, IsUncomposed};
-ghost use Rattle.pt_de_inside.specs.De.{de, IsDeWired};
+ghost use Rattle.pt_trees.specs.De.{de, IsDeWired};
 ghost use Rattle.pt_trees.specs.Fresh.{AllFresh};
 ghost use Rattle.pt_trees.specs.Rates.{AllStarted};
 ghost use Rattle.pt_de_inside.specs.Inside.{IsInsideOf};

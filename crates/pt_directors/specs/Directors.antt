@@ -8,13 +8,15 @@ use Rattle.pt_sdf.specs.Clauses as sdf
 use Rattle.pt_sdf.specs.SdfActs.{sdf_calls, sdf_acts}
 use Rattle.pt_sr.specs.Clauses as sr
 use Rattle.pt_sr.specs.SrActs.{sr_calls, sr_acts}
+use Rattle.pt_de_laws.specs.DeActs as de
+use Rattle.pt_de_laws.specs.DeActs.{de_calls, de_acts}
 
 -- the state of a director
 abbrev pub Director : Type 0
-Director = Either sdf.State sr.State
+Director = Either sdf.State (Either sr.State de.State)
 
 abbrev pub director_calls : Calls Director
-director_calls = either_calls sdf_calls sr_calls
+director_calls = either_calls sdf_calls (either_calls sr_calls de_calls)
 
 abbrev pub director_acts : {A : Type 0} (rows : Rows Token A) → Acts rows Director
-director_acts rows = either_acts (sdf_acts rows) (sr_acts rows)
+director_acts rows = either_acts (sdf_acts rows) (either_acts (sr_acts rows) (de_acts rows))

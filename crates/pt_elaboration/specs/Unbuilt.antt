@@ -18,11 +18,11 @@ use Rattle.pt_buildable.specs.Composites.{HasOtherComposite}
 abbrev pub IsMalformed : Director → Around → List Tree → Type 0
 IsMalformed Sdf around kids = HasInside around kids → ⊥
 IsMalformed Sr around kids = IsWired around kids → ⊥
-IsMalformed De around kids = ⊥
+IsMalformed De around kids = IsWired around kids → ⊥
 IsMalformed Pn around kids = ⊥
 IsMalformed Rendezvous around kids = ⊥
 
--- What isn't built yet of a net whose entities start as these: a composite with another director than SDF and SR, or a Modal entity; a library actor that has no start; a composite of SDF or SR round trees that are built, which it doesn't fit.
+-- What isn't built yet of a net whose entities start as these: a composite with another director than SDF, SR and DE, or a Modal entity; a library actor that has no start; a composite of one of these directors round trees that are built, which it doesn't fit.
 pub data IsUnbuilt (net : Net) (starts : Starts) : Type 0 where
   other : HasOtherComposite net → IsUnbuilt net starts
   unstarted : (k : ℕ) (e : NetEntity) → IsEntity net k e → IsUndirected e → is_composite_class e.class ≡ false → slice_get starts k ≡ Some None → IsUnbuilt net starts

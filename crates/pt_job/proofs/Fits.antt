@@ -1,7 +1,7 @@
 -- Inputs that fit the top, and those that don't.
-use Rattle.std.proofs.Common.{◌≡◌, ℕ, ◌+◌, ◌<◌, ◌≤◌, inl, inr, Bool, true, false, ◌&&◌, ◌||◌, Option, Some, None, List, [], ◌∷◌, length, get_or, map, bytes_eq, refl, sym, ap, subst, ◌∙◌, arith}
+use Rattle.std.proofs.Common.{◌≡◌, ℕ, ◌+◌, ◌<◌, ◌≤◌, inl, inr, Bool, true, false, not, ◌&&◌, ◌||◌, Option, Some, None, List, [], ◌∷◌, length, get_or, map, bytes_eq, refl, sym, ap, subst, ◌∙◌, arith}
 use Rattle.std.specs.Prelude.{nat_eq}
-use Rattle.std.proofs.lemmas.Bool.{both_ways, cases_eq, cases_order, and_parts, eqb-true, eq-eqb}
+use Rattle.std.proofs.lemmas.Bool.{both_ways, cases_eq, cases_order, and_parts, eqb-true, eq-eqb, false≢true}
 use Rattle.std.proofs.lemmas.List.{length-map}
 use Rattle.std.proofs.lemmas.List.Quantifiers.{position-Some}
 use Rattle.std.proofs.lemmas.Option.{slice_get-get_or, slice_get_within, get_or_from_slice_get, slice_get-map}
@@ -17,8 +17,9 @@ use Rattle.pt_document.specs.Outcome.{IsRefusal}
 use Rattle.pt_document.specs.View.{input_view}
 use Rattle.pt_net.specs.Table.{shown}
 use Rattle.pt_scopes.specs.Scopes.{NetTree}
-use Rattle.pt_job.specs.Inputs.{own_inputs, named_ports, input_to, may_lack, is_full, is_port, is_first, fits, IsInputFault, names_no_port, repeated, has_events, has_absent, IsFaultOf}
+use Rattle.pt_job.specs.Inputs.{own_inputs, named_ports, input_to, may_lack, is_timed, AreInOrder, are_in_order, is_full, is_port, is_first, fits, IsInputFault, names_no_port, repeated, has_events, has_absent, has_tokens, disordered, IsFaultOf}
 use Rattle.pt_job.proofs.Members.{contains_here, contains_later, contains_cases, none_in_nil, contains_slice, slice_contains, unmapped, text_same, no_position, position_text, contains_position, position_contains}
+use Rattle.pt_job.proofs.Order.{is-in-order, passes}
 
 pub told : (net : NetTree) (fault : DocFault) (path : List ℕ) → IsRefusal fault code.Inputs path → IsInputFault net path → IsFaultOf net fault
 told net faults.Memory path is h = tt
@@ -36,16 +37,18 @@ none_absent [] h w = none_in_nil None w
 none_absent (None ∷ ts) h w = absurd cc
 none_absent (Some t ∷ ts) h w = elim (contains_cases (Some t) ts None w) [ inl e ↦ (let z : Some t ≡ None = e in absurd cc) | inr v ↦ none_absent ts h v ]
 
-not_full : (net : NetTree) (i : InputTree) → Contains net.inputs i → is_full (may_lack net) i.supply ≡ false → IsInputFault net (shown i.port)
-not_full net i there bad = go i.supply refl
+not_full : (net : NetTree) (i : InputTree) → Contains net.inputs i → is_full (is_timed net) (may_lack net) i.supply ≡ false → IsInputFault net (shown i.port)
+not_full net i there bad = by_time i.supply refl (is_timed net) refl bad
   where
-    by_lack : (ts : List (Option (List ℕ))) → i.supply ≡ tokens ts → (b : Bool) → may_lack net ≡ b → (b || list_all is_some ts) ≡ false → IsInputFault net (shown i.port)
-    by_lack ts e true m h = absurd (cc)
-    by_lack ts e false m h = has_absent i ts m there e (absent_in ts h)
+    by_lack : is_timed net ≡ false → (ts : List (Option (List ℕ))) → i.supply ≡ tokens ts → (b : Bool) → may_lack net ≡ b → (b || list_all is_some ts) ≡ false → IsInputFault net (shown i.port)
+    by_lack plain ts e true m h = absurd (cc)
+    by_lack plain ts e false m h = has_absent i ts m there e (absent_in ts h)
 
-    go : (s : SupplyTree) → i.supply ≡ s → IsInputFault net (shown i.port)
-    go (tokens ts) e = by_lack ts e (may_lack net) refl (sym (ap (is_full (may_lack net)) e) ∙ bad)
-    go (events es) e = has_events i es there e
+    by_time : (s : SupplyTree) → i.supply ≡ s → (b : Bool) → is_timed net ≡ b → is_full b (may_lack net) s ≡ false → IsInputFault net (shown i.port)
+    by_time (tokens ts) e true m h = has_tokens i ts m there e
+    by_time (tokens ts) e false m h = by_lack m ts e (may_lack net) refl h
+    by_time (events es) e true m h = disordered i es there e (λ o. both_ways (are_in_order es) h (passes es o))
+    by_time (events es) e false m h = has_events i es m there e
 
 -- ---- places
 
@@ -78,24 +81,30 @@ not_first net k i at bad = go (input_to net i.port) refl
 pub misfit : (net : NetTree) (k : ℕ) (i : InputTree) → slice_get net.inputs k ≡ Some i → fits net k i ≡ false → IsInputFault net (shown i.port)
 misfit net k i at bad = of_port (is_port net i.port) refl bad
   where
-    of_first : (b : Bool) → is_first net k i.port ≡ b → (b && is_full (may_lack net) i.supply) ≡ false → IsInputFault net (shown i.port)
+    of_first : (b : Bool) → is_first net k i.port ≡ b → (b && is_full (is_timed net) (may_lack net) i.supply) ≡ false → IsInputFault net (shown i.port)
     of_first true e h = not_full net i (contains_slice net.inputs k i at) h
     of_first false e h = not_first net k i at e
 
-    of_port : (b : Bool) → is_port net i.port ≡ b → (b && (is_first net k i.port && is_full (may_lack net) i.supply)) ≡ false → IsInputFault net (shown i.port)
+    of_port : (b : Bool) → is_port net i.port ≡ b → (b && (is_first net k i.port && is_full (is_timed net) (may_lack net) i.supply)) ≡ false → IsInputFault net (shown i.port)
     of_port true e h = of_first (is_first net k i.port) refl h
     of_port false e h = names_no_port i (contains_slice net.inputs k i at) (λ w. both_ways (is_port net i.port) e (contains_position i.port (own_inputs net) w))
 
-fit_parts : (net : NetTree) (k : ℕ) (i : InputTree) → fits net k i ≡ true → (is_port net i.port ≡ true) × (is_first net k i.port ≡ true) × (is_full (may_lack net) i.supply ≡ true)
+fit_parts : (net : NetTree) (k : ℕ) (i : InputTree) → fits net k i ≡ true → (is_port net i.port ≡ true) × (is_first net k i.port ≡ true) × (is_full (is_timed net) (may_lack net) i.supply ≡ true)
 fit_parts net k i h =
-    let a = and_parts (is_port net i.port) (is_first net k i.port && is_full (may_lack net) i.supply) h in
-    let b = and_parts (is_first net k i.port) (is_full (may_lack net) i.supply) a.1 in
+    let a = and_parts (is_port net i.port) (is_first net k i.port && is_full (is_timed net) (may_lack net) i.supply) h in
+    let b = and_parts (is_first net k i.port) (is_full (is_timed net) (may_lack net) i.supply) a.1 in
     (a.0, b.0, b.1)
 
 -- ---- all inputs
 
 abbrev pub AllFit : NetTree → Type 0
 AllFit net = (k : ℕ) (i : InputTree) → slice_get net.inputs k ≡ Some i → fits net k i ≡ true
+
+-- what comes to an input that fits
+is_filled : (net : NetTree) → AllFit net → (i : InputTree) → Contains net.inputs i → (s : SupplyTree) → i.supply ≡ s → is_full (is_timed net) (may_lack net) s ≡ true
+is_filled net fit i there s is =
+    let k = slice_contains net.inputs i there in
+    sym (ap (is_full (is_timed net) (may_lack net)) is) ∙ (fit_parts net k.0 i (fit k.0 i k.1)).2
 
 pub clean : (net : NetTree) {path : List ℕ} → AllFit net → IsInputFault net path → ⊥
 clean net fit (names_no_port i there none) =
@@ -106,13 +115,10 @@ clean net fit (repeated first second i j before at_first at_second same) =
     both_ways (bytes_eq j.port (get_or (named_ports net) first []))
     ((position-Some (bytes_eq j.port) (named_ports net) second [] is).2 first before)
     (ap (bytes_eq j.port) (get_or_from_slice_get (named_ports net) first i.port [] (port_at net first i at_first) ∙ same) ∙ text_same j.port)
-clean net fit (has_events i es there is) =
-    let s = slice_contains net.inputs i there in
-    let z : false ≡ true = sym (ap (is_full (may_lack net)) is) ∙ (fit_parts net s.0 i (fit s.0 i s.1)).2 in
-    cc
-clean net fit (has_absent i ts lack there is w) =
-    let s = slice_contains net.inputs i there in
-    none_absent ts (ap (λ b. b || list_all is_some ts) (sym lack) ∙ sym (ap (is_full (may_lack net)) is) ∙ (fit_parts net s.0 i (fit s.0 i s.1)).2) w
+clean net fit (has_events i es plain there is) = absurd (false≢true (ap (λ b. b && are_in_order es) (sym plain) ∙ is_filled net fit i there (events es) is))
+clean net fit (has_tokens i ts timed there is) = absurd (false≢true (ap (λ b. not b && (may_lack net || list_all is_some ts)) (sym timed) ∙ is_filled net fit i there (tokens ts) is))
+clean net fit (disordered i es there is bad) = bad (is-in-order es (and_parts (is_timed net) (are_in_order es) (is_filled net fit i there (events es) is)).1)
+clean net fit (has_absent i ts lack there is w) = none_absent ts (ap (λ b. b || list_all is_some ts) (sym lack) ∙ (and_parts (not (is_timed net)) (may_lack net || list_all is_some ts) (is_filled net fit i there (tokens ts) is)).1) w
 
 -- the first inputs fit, one input more
 pub one_more : (net : NetTree) (n : ℕ) (j : InputTree) → slice_get net.inputs n ≡ Some j → fits net n j ≡ true → ((k : ℕ) (i : InputTree) → k < n → slice_get net.inputs k ≡ Some i → fits net k i ≡ true) → (k : ℕ) (i : InputTree) → k < n + 1 → slice_get net.inputs k ≡ Some i → fits net k i ≡ true

@@ -2,17 +2,18 @@
 use Rattle.std.proofs.Common.{◌≡◌, ℕ, ◌<◌, inl, inr, false, Option, Some, None, List, [], ◌∷◌, ◌++◌, length, map, refl, sym, ap, subst, ◌∙◌}
 use Rattle.std.specs.Prelude.{Vec}
 use Rattle.std.specs.Global.{Global}
-use Rattle.std.proofs.lemmas.Option.{slice_get_within, slice_get-map}
+use Rattle.std.proofs.lemmas.Option.{none-some, slice_get_within, slice_get-map}
 use Rattle.std.specs.List.{AllZip, Contains, slice_get}
 use Rattle.std.specs.Option.{option_map}
 use Rattle.pt_value.specs.declared.token.Token.{Token}
 use Rattle.pt_value.specs.Token.{value_of}
+use Rattle.pt_document.specs.declared.job.Event.{Event}
 use Rattle.pt_document.specs.Document.{InputTree, SupplyTree, tokens, events}
 use Rattle.pt_scopes.specs.declared.values.Values.{Values}
 use Rattle.pt_scopes.specs.Scopes.{NetTree}
-use Rattle.pt_scopes.specs.Sites.{texts_of_supply}
+use Rattle.pt_scopes.specs.Sites.{event_text, texts_of_supply}
 use Rattle.pt_scopes.specs.Valued.{IsSupplied, IsInputValued, IsValued}
-use Rattle.pt_job.specs.Inputs.{named_ports, input_to, token_lists, may_lack, IsInputFault, has_events, has_absent}
+use Rattle.pt_job.specs.Inputs.{named_ports, input_to, token_lists, may_lack, IsInputFault, has_absent}
 use Rattle.pt_job.proofs.Members.{contains_here, contains_later, contains_cases, none_in_nil, contains_slice, unmapped, zip_at, position_text}
 
 absent_text : (texts : List (Option (List ℕ))) (ts : List (Option Token)) → AllZip IsSupplied texts (map (option_map value_of) ts) → Contains ts None → Contains texts None
@@ -26,6 +27,11 @@ absent_text (Some x ∷ texts) (Some t ∷ ts) h w =
       | inl e ↦ (let z : Some t ≡ None = e in absurd cc)
       | inr v ↦ contains_later (Some x) texts None (absent_text texts ts h.1 v)
     ]
+
+-- each event has a token
+all_there : (es : List Event) → Contains (map event_text es) None → ⊥
+all_there [] w = none_in_nil None w
+all_there (e ∷ es) w = elim (contains_cases (event_text e) (map event_text es) None w) [ inl z ↦ absurd (none-some e.value (sym z)) | inr v ↦ all_there es v ]
 
 -- what comes to the input that names a port
 pub record Comes (net : NetTree) (values : Values) (k : ℕ) : Type 0 where
@@ -48,7 +54,7 @@ comes net values valued clean port k e = record {
 
     go : may_lack net ≡ false → (s : SupplyTree) → i.0.supply ≡ s → Contains (texts_of_supply i.0.supply) None → ⊥
     go none (tokens ts) is w = clean _ (has_absent i.0 ts none (contains_slice net.inputs k i.0 i.1) is (subst (λ (s : SupplyTree). Contains (texts_of_supply s) None) is w))
-    go none (events es) is w = clean _ (has_events i.0 es (contains_slice net.inputs k i.0 i.1) is)
+    go none (events es) is w = all_there es (subst (λ (s : SupplyTree). Contains (texts_of_supply s) None) is w)
 
 pub within : (net : NetTree) (values : Values) (k : ℕ) → Comes net values k → k < length values.inputs.items
 within net values k c = slice_get_within values.inputs.items k c.held c.at

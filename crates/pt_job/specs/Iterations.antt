@@ -1,4 +1,4 @@
--- How many iterations the top of a net runs.
+-- How long the top of a net runs: how many iterations, or until which time.
 use Rattle.std.specs.Prelude.{ℕ, ℤ, pos, int_lt, nat_abs, List, Bool, Option, Some, None, slice_get, position, bytes_eq, codes, if◌then◌else◌}
 use Rattle.pt_value.specs.declared.token.Token.{Token}
 use Rattle.pt_value.specs.declared.token.Token.TheVariants as token
@@ -31,22 +31,31 @@ abbrev pub value_at : List ParameterValue → Option ℕ → Option ParameterVal
 value_at vs None = None
 value_at vs (Some k) = slice_get vs k
 
-abbrev pub sets_iterations : PropertyTree → Bool
-sets_iterations p = bytes_eq (property_name p) (codes "iterations")
+-- the property has this name
+abbrev pub sets : List ℕ → PropertyTree → Bool
+sets name p = bytes_eq (property_name p) name
 
--- what parameters have under the name `iterations`
-abbrev pub iterations_in : List PropertyTree → List ParameterValue → Option ℕ
-iterations_in ps vs = count_in (value_at vs (position sets_iterations ps))
+-- what parameters have under a name
+abbrev pub number_in : List ℕ → List PropertyTree → List ParameterValue → Option ℕ
+number_in name ps vs = count_in (value_at vs (position (sets name) ps))
 
-abbrev pub iterations_by : Option DirectorTree → List ParameterValue → Option ℕ
-iterations_by None vs = None
-iterations_by (Some d) vs = iterations_in d.parameters vs
+abbrev pub number_by : List ℕ → Option DirectorTree → List ParameterValue → Option ℕ
+number_by name None vs = None
+number_by name (Some d) vs = number_in name d.parameters vs
 
-abbrev pub iterations_at : Option NetEntityTree → Option EntityValues → Option ℕ
-iterations_at None v = None
-iterations_at (Some e) None = None
-iterations_at (Some e) (Some v) = iterations_by e.director v.director.items
+abbrev pub number_at : List ℕ → Option NetEntityTree → Option EntityValues → Option ℕ
+number_at name None v = None
+number_at name (Some e) None = None
+number_at name (Some e) (Some v) = number_by name e.director v.director.items
 
--- the integer of the parameter `iterations` of the top's director
+-- the integer of the parameter of this name of the top's director
+abbrev pub number_of : List ℕ → NetTree → Values → Option ℕ
+number_of name net values = number_at name (slice_get net.entities 0) (slice_get values.entities.items 0)
+
+-- how many iterations or ticks the top makes
 abbrev pub iterations : NetTree → Values → Option ℕ
-iterations net values = iterations_at (slice_get net.entities 0) (slice_get values.entities.items 0)
+iterations net values = number_of (codes "iterations") net values
+
+-- the last time at which the top fires, where one is stated
+abbrev pub stop_time : NetTree → Values → Option ℕ
+stop_time net values = number_of (codes "stopTime") net values

@@ -1,18 +1,21 @@
-ghost use Rattle.std.specs.Prelude.{◌≡◌, ℕ, List, map, Option, Some, None, Vec, false, IsOk, IfOk, IfErr};
+ghost use Rattle.std.specs.Prelude.{◌≡◌, ℕ, List, map, Option, Some, None, Vec, true, false, IsOk, IfOk, IfErr};
 ghost use Rattle.std.specs.Global.{Global};
 ghost use Rattle.std.specs.List.{Contains};
 ghost use Rattle.pt_value.specs.declared.token.Token.{Token};
 ghost use Rattle.pt_scopes.specs.Scopes.{net_view};
 ghost use Rattle.pt_scopes.specs.Valued.{IsValued};
-ghost use Rattle.pt_job.specs.Inputs.{ComeTo, AreSupplied, may_lack, IsInputFault, IsFaultOf};
+ghost use Rattle.pt_agenda.specs.Events.{Ascend, AllAscend, tags_in, tokens_in, events_of};
+ghost use Rattle.pt_job.specs.Inputs.{ComeTo, AreSupplied, AreEvents, tags_at, may_lack, is_timed, IsInputFault, IsFaultOf};
 ghost use Rattle.pt_job.specs.Lookup.{IsLookup};
 
+use crate::events::at_tags;
 use crate::lookup::Lookup;
 use crate::ports::own_inputs;
 use pt_document::DocFault;
 use pt_firing::Tokens;
 use pt_net::Net;
 use pt_scopes::Values;
+use pt_time::Tag;
 use pt_value::Token;
 use std::alloc::{AllocError, Global};
 
@@ -99,6 +102,45 @@ fn supplied_ticks(
     Ok(lists)
 }
 
+/// The events that come to a port of the top.
+fn events_to(
+    alloc: Global,
+    lookup: &Lookup,
+    values: &Values,
+    port: &str,
+) -> Result<Vec<(Tag, Token)>, AllocError>
+    requires lookup { IsLookup lookup.now }
+    requires valued { IsValued (net_view lookup.now.net.now) values.now }
+    requires clean { (path : List ℕ) → IsInputFault (net_view lookup.now.net.now) path → ⊥ }
+    requires timed { is_timed (net_view lookup.now.net.now) ≡ true }
+    ensures tags { IfOk result (λ list. tags_in list.items ≡ tags_at (net_view lookup.now.net.now) port.now) }
+    ensures comes { IfOk result (λ list. ComeTo (net_view lookup.now.net.now) values.now port.now (tokens_in list.items)) }
+    ensures ascend { IfOk result (λ list. Ascend list.items) }
+{
+    at_tags(alloc, lookup.events_to(port), list_to(lookup, values, port))
+}
+
+/// For each input port of the top the events that come to it.
+fn supplied_events(
+    alloc: Global,
+    lookup: &Lookup,
+    values: &Values,
+) -> Result<Vec<Vec<(Tag, Token)>>, AllocError>
+    requires lookup { IsLookup lookup.now }
+    requires valued { IsValued (net_view lookup.now.net.now) values.now }
+    requires clean { (path : List ℕ) → IsInputFault (net_view lookup.now.net.now) path → ⊥ }
+    requires timed { is_timed (net_view lookup.now.net.now) ≡ true }
+    ensures supplied { IfOk result (λ lists. AreEvents (net_view lookup.now.net.now) values.now (events_of lists.items)) }
+    ensures ascend { IfOk result (λ lists. AllAscend lists.items) }
+{
+    let ports = own_inputs(alloc, lookup.net)?;
+    let mut lists = Vec::with_capacity(alloc, ports.len())?;
+    for port in &ports {
+        lists.push(events_to(alloc, lookup, values, port)?)?;
+    }
+    Ok(lists)
+}
+
 /// For each input port of the top the tokens that come to it, where none may be absent. Refuses an input that names no input
 /// port of the top, names one that another names, has events, or has a token that is absent.
 pub fn supply(alloc: Global, net: &Net, values: &Values) -> Result<Vec<Tokens>, DocFault>
@@ -128,4 +170,23 @@ pub fn supply_ticks(
     let lookup = Lookup::of(alloc, net)?;
     lookup.check(alloc)?;
     Ok(supplied_ticks(alloc, &lookup, values)?)
+}
+
+/// For each input port of the top of a timed net the events that come to it, in order of their tags. Refuses an input that names
+/// no input port of the top, names one that another names, has plain tokens, or events that are out of order or past a limit.
+pub fn supply_events(
+    alloc: Global,
+    net: &Net,
+    values: &Values,
+) -> Result<Vec<Vec<(Tag, Token)>>, DocFault>
+    requires valued { IsValued (net_view net.now) values.now }
+    requires timed { is_timed (net_view net.now) ≡ true }
+    ensures supplied { IfOk result (λ lists. AreEvents (net_view net.now) values.now (events_of lists.items)) }
+    ensures ascend { IfOk result (λ lists. AllAscend lists.items) }
+    ensures clean { IsOk result → (path : List ℕ) → IsInputFault (net_view net.now) path → ⊥ }
+    ensures told { IfErr result (IsFaultOf (net_view net.now)) }
+{
+    let lookup = Lookup::of(alloc, net)?;
+    lookup.check(alloc)?;
+    Ok(supplied_events(alloc, &lookup, values)?)
 }

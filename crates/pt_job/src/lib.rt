@@ -1,11 +1,12 @@
-//! What a job says of the top of its net: what comes to the top's input ports, and how many iterations it runs.
+//! What a job says of the top of its net: what comes to the top's input ports, and how long it runs.
 #![tactic(auto)]
 
+mod duration;
+mod events;
 mod inputs;
-mod iteration_count;
 mod lookup;
 mod names;
 mod ports;
 
-pub use inputs::{supply, supply_ticks};
-pub use iteration_count::iterations;
+pub use duration::{iterations, stop_time};
+pub use inputs::{supply, supply_events, supply_ticks};

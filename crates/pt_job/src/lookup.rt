@@ -1,13 +1,13 @@
 ghost use Rattle.std.specs.Prelude.{◌≡◌, ℕ, List, IsOk, IfOk, IfErr, slice_get, Some};
-ghost use Rattle.pt_document.specs.View.{input_view};
+ghost use Rattle.pt_document.specs.View.{input_view, supply_view};
 ghost use Rattle.pt_scopes.specs.Scopes.{net_view};
 ghost use Rattle.pt_job.specs.Inputs as inputs;
 ghost use Rattle.pt_job.specs.Inputs.{IsInputFault, IsFaultOf};
 ghost use Rattle.pt_job.specs.Lookup.{IsLookup};
 
 use crate::names::{Places, name_places};
-use crate::ports::{is_full, may_lack, named_ports, own_inputs};
-use pt_document::{Code, DocFault, Input, refused};
+use crate::ports::{events_of, is_full, is_timed, may_lack, named_ports, own_inputs};
+use pt_document::{Code, DocFault, Event, Input, refused};
 use pt_net::{Net, shown};
 use std::alloc::{AllocError, Global};
 
@@ -17,6 +17,8 @@ pub struct Lookup<'k> {
     pub net: &'k Net,
     /// Whether a token may be absent.
     pub may_lack: bool,
+    /// Whether tokens come as events.
+    pub is_timed: bool,
     pub ports: Places<&'k str>,
     pub inputs: Places<&'k str>,
 }
@@ -31,6 +33,7 @@ impl<'k> Lookup<'k> {
         Ok(Lookup {
             net,
             may_lack: may_lack(net),
+            is_timed: is_timed(net),
             ports: name_places(alloc, &ports)?,
             inputs: name_places(alloc, &inputs)?,
         })
@@ -61,13 +64,31 @@ impl<'k> Lookup<'k> {
         }
     }
 
+    /// The events of the input that names a port.
+    pub fn events_to(&self, port: &str) -> &[Event]
+        requires { IsLookup self.now }
+        ensures { result.now ≡ inputs.events_at (net_view self.now.net.now) (inputs.input_to (net_view self.now.net.now) port.now) }
+    {
+        match self.input_to(port) {
+            Some(number) => events_of(&self.net.inputs[number].supply),
+            None => &[],
+        }
+    }
+
+    fn is_full(&self, input: &Input) -> bool
+        requires { IsLookup self.now }
+        ensures { result ≡ inputs.is_full (inputs.is_timed (net_view self.now.net.now)) (inputs.may_lack (net_view self.now.net.now)) (supply_view input.now.supply) }
+    {
+        is_full(self.is_timed, self.may_lack, &input.supply)
+    }
+
     /// Whether the input of that number fits the top.
     fn fits(&self, number: usize, input: &Input) -> bool
         requires { IsLookup self.now }
         ensures { result ≡ inputs.fits (net_view self.now.net.now) number (input_view input.now) }
     {
         let port = input.port.as_str();
-        self.is_port(port) && self.is_first(number, port) && is_full(self.may_lack, &input.supply)
+        self.is_port(port) && self.is_first(number, port) && self.is_full(input)
     }
 
     /// Refuses the first input that doesn't fit the top.

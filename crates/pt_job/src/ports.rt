@@ -9,7 +9,8 @@ ghost use Rattle.pt_job.specs.Names.{texts};
 ghost use Rattle.pt_job.specs.Inputs as inputs;
 ghost use Rattle.pt_job.specs.Inputs.{own_inputs};
 
-use pt_document::{Direction, Input, Port, Supply};
+use crate::events::are_in_order;
+use pt_document::{Direction, Event, Input, Port, Supply};
 use pt_net::{Net, NetDirector};
 use pt_value::Text;
 use std::alloc::{AllocError, Global};
@@ -83,12 +84,41 @@ pub fn may_lack(net: &Net) -> bool
     }
 }
 
-/// Whether tokens come to an input, and none of them is absent where none may be.
-pub fn is_full(may_lack: bool, supply: &Supply) -> bool
-    ensures { result ≡ inputs.is_full may_lack (supply_view supply.now) }
+fn has_time(director: &Option<NetDirector>) -> bool
+    ensures { result ≡ inputs.has_time (option_map director_view director.now) }
+{
+    match director {
+        Some(director) => director.class.as_str() == "DE",
+        None => false,
+    }
+}
+
+/// Whether tokens come to the top as events: it has the DE director.
+pub fn is_timed(net: &Net) -> bool
+    ensures { result ≡ inputs.is_timed (net_view net.now) }
+{
+    match net.entities.first() {
+        Some(top) => has_time(&top.director),
+        None => false,
+    }
+}
+
+/// Whether tokens come to an input, and none of them is absent where none may be; or events in order, where the net is timed.
+pub fn is_full(is_timed: bool, may_lack: bool, supply: &Supply) -> bool
+    ensures { result ≡ inputs.is_full is_timed may_lack (supply_view supply.now) }
 {
     match supply {
-        Supply::Tokens(texts) => may_lack || are_present(texts),
-        Supply::Events(_) => false,
+        Supply::Tokens(texts) => !is_timed && (may_lack || are_present(texts)),
+        Supply::Events(events) => is_timed && are_in_order(events),
+    }
+}
+
+/// The events of an input, of which one with plain tokens has none.
+pub fn events_of(supply: &Supply) -> &[Event]
+    ensures { result.now ≡ inputs.events_in (supply_view supply.now) }
+{
+    match supply {
+        Supply::Tokens(_) => &[],
+        Supply::Events(events) => events.as_slice(),
     }
 }

@@ -1,8 +1,9 @@
 -- What is known of the node at the top of a net.
-use Rattle.std.proofs.Common.{◌≡◌, ℕ, ◌+◌, List, [], ◌∷◌, length, map, filter, refl, sym, ap, subst, ◌∙◌, Bool, true, false, cond, arith}
-use Rattle.std.specs.Prelude.{Option, Some, None, option_map, count_by, nat_eq, ◌&&◌, bytes_eq, codes, Vec}
+use Rattle.std.proofs.Common.{◌≡◌, ◌⊎◌, inl, inr, ℕ, ◌+◌, List, [], ◌∷◌, length, map, filter, refl, sym, ap, subst, ◌∙◌, Bool, true, false, cond, arith}
+use Rattle.std.specs.Prelude.{Option, Some, None, IsSome, option_map, count_by, nat_eq, ◌&&◌, bytes_eq, codes, Vec, if◌then◌else◌}
 use Rattle.std.specs.Global.{Global}
 use Rattle.std.proofs.lemmas.List.{length-map}
+use Rattle.std.proofs.lemmas.Option.{none-some, same_Some}
 use Rattle.std.proofs.lemmas.List.Recursion.{is_count_by}
 use Rattle.std.specs.Option.{is_none}
 use Rattle.std.proofs.lemmas.Slice.Eq.{bytes_eq-Decides}
@@ -10,7 +11,7 @@ use Rattle.pt_meaning.specs.Tree as tree
 use Rattle.pt_document.specs.declared.classes.Director.{Director}
 use Rattle.pt_document.specs.declared.classes.Director.TheVariants.{Sdf, Pn, Rendezvous, Sr, De}
 use Rattle.pt_document.specs.declared.code.Code.TheVariants as code
-use Rattle.pt_document.specs.Classes.{DirectorClass, director_row, directors}
+use Rattle.pt_document.specs.Classes.{DirectorClass, director_in as row_in, director_row, directors}
 use Rattle.pt_document.specs.declared.job.Direction.{Direction}
 use Rattle.pt_document.specs.declared.job.Direction.TheVariants.{Input, Output}
 use Rattle.pt_document.specs.declared.job.Port.{Port}
@@ -24,14 +25,17 @@ use Rattle.pt_net.specs.Net.{director_view, entity_view}
 use Rattle.pt_net.specs.Inside.{is_inward, is_input}
 use Rattle.pt_scopes.specs.declared.values.Values.{Values}
 use Rattle.pt_scopes.specs.Scopes.{net_view}
+use Rattle.pt_scopes.specs.Valued.{IsValued}
 use Rattle.pt_scopes.specs.Sites.{is_input_port, port_name, inputs_of}
 use Rattle.pt_start.specs.Places.{director_in}
 use Rattle.pt_start.specs.Misplaced.{undirected}
 use Rattle.pt_start.proofs.Outward.{view-at}
-use Rattle.pt_job.specs.Inputs.{inputs_at, own_inputs, ComeTo, AreSupplied, has_ticks, ticks_at, may_lack}
+use Rattle.pt_job.specs.Inputs.{inputs_at, own_inputs, ComeTo, AreSupplied, has_ticks, ticks_at, may_lack, has_time, time_at, is_timed}
+use Rattle.pt_job.specs.Iterations.{iterations}
 use Rattle.pt_core.specs.declared.either.Either.TheVariants.{First, Other}
 use Rattle.pt_sdf.specs.Clauses as sdf
 use Rattle.pt_sr.specs.Clauses as sr
+use Rattle.pt_de_laws.specs.DeActs as de
 use Rattle.pt_directors.specs.Directors.{Director as DirectorState}
 use Rattle.pt_node.specs.declared.body.Body.{Body}
 use Rattle.pt_node.specs.declared.body.Body.TheVariants.{Actor, Composite}
@@ -46,12 +50,17 @@ use Rattle.pt_trees.specs.Trees.{IsEntity, IsUndirected, around_in, Starts}
 use Rattle.pt_trees.specs.Directors.{named, IsDirectedBy, composing}
 use Rattle.pt_trees.specs.Built.{IsBuilt, AreBuilt, built_actor, built_composite, none_built, more_built}
 use Rattle.pt_trees.specs.Start.{IsBranched, HasLeaves, AllHaveLeaves, AreUntold, IsUnrecorded, AllUnrecorded, IsRunnable}
+use Rattle.pt_agenda.specs.Events as agenda
+use Rattle.pt_agenda.specs.Events.{AllAscend, events_of, tokens_in}
+use Rattle.pt_trees.specs.declared.top.DeJob.{DeJob}
 use Rattle.pt_trees.specs.declared.top.SdfJob.{SdfJob}
 use Rattle.pt_trees.specs.declared.top.SrJob.{SrJob}
 use Rattle.pt_trees.specs.declared.top.Top.{Top}
 use Rattle.pt_trees.specs.declared.top.Top.TheVariants as top
 use Rattle.pt_trees.specs.Top.{supply_of, IsJobFor}
 use Rattle.pt_trees.proofs.DirectorLaws.{named-of}
+use Rattle.pt_order.specs.Laws.{IsNetOfDocument}
+use Rattle.pt_buildable.proofs.Joined.{tops-iterate}
 use Rattle.pt_elaboration.specs.Resolved.{IsPlaced}
 use Rattle.pt_model.specs.Model.{IsCompositeBody}
 use Rattle.pt_elaboration.proofs.Lists.{zip-length}
@@ -70,8 +79,8 @@ top-directed net values e placed at is =
 abbrev pub IsCoreOf : NetEntity → tree.Core Token → Type 0
 IsCoreOf e (tree.Sdf p X) = IsDirectedBy e Sdf × (length p.takes ≡ count_by is_input e.ports.items)
 IsCoreOf e (tree.Pn p X) = ⊥
-IsCoreOf e (tree.Sr p) = p.inputs ≡ count_by is_input e.ports.items
-IsCoreOf e (tree.De p) = ⊥
+IsCoreOf e (tree.Sr p) = IsDirectedBy e Sr × (p.inputs ≡ count_by is_input e.ports.items)
+IsCoreOf e (tree.De p) = IsDirectedBy e De × (p.inputs ≡ count_by is_input e.ports.items)
 IsCoreOf e (tree.Rv p X) = ⊥
 IsCoreOf e (tree.Modal chart m) = ⊥
 
@@ -87,8 +96,8 @@ pub record HasCore (net : Net) (s : Shown) : Type 0 where
 -- so is each that its director makes
 core-made : (by : Director) (net : Net) (k : ℕ) (e : NetEntity) (kids : List Tree) (c : tree.Core Token) → IsDirectedBy e by → (composing by).IsCore (around_in net k e) kids c → IsCoreOf e c
 core-made Sdf net k e kids c directed has = subst (λ v. IsCoreOf e v) (sym has.is) (directed, has.planned.takes ∙ has.is_inside.inputs)
-core-made Sr net k e kids c directed has = subst (λ v. IsCoreOf e v) (sym has.is) refl
-core-made De net k e kids c directed has = absurd has
+core-made Sr net k e kids c directed has = subst (λ v. IsCoreOf e v) (sym has.is) (directed, refl)
+core-made De net k e kids c directed has = subst (λ v. IsCoreOf e v) (sym has.is) (directed, refl)
 core-made Pn net k e kids c directed has = absurd has
 core-made Rendezvous net k e kids c directed has = absurd has
 
@@ -175,6 +184,51 @@ sdf-full (Some d) e = by_class (bytes_eq d.class (codes "SR")) refl
 pub sdf-present : (net : Net) (e : NetEntity) → IsEntity net 0 e → IsDirectedBy e Sdf → may_lack (net_view net) ≡ false
 sdf-present net e at sdf = ap (λ o. ticks_at o) (view-at entity_view net.entities.items 0 e at) ∙ sdf-full e.director (named-of e Sdf sdf)
 
+-- under DE the net is timed
+
+-- each row of that director has this name
+AreNamed : Director → List ℕ → List DirectorClass → Type 0
+AreNamed want name [] = Unit {0}
+AreNamed want name (r ∷ rows) = (r.director ≡ want → r.name ≡ name) × AreNamed want name rows
+
+de-named : AreNamed De (codes "DE") directors
+unfolding AreNamed directors
+de-named = ((λ e. absurd (cc)), ((λ e. absurd (cc)), ((λ e. refl), ((λ e. absurd (cc)), ((λ e. absurd (cc)), tt)))))
+
+row-name : (want : Director) (name : List ℕ) (rows : List DirectorClass) (class : List ℕ) → AreNamed want name rows → option_map (λ (r : DirectorClass). r.director) (row_in rows class) ≡ Some want → class ≡ name
+unfolding AreNamed
+row-name want name [] class all e = absurd (none-some want e)
+row-name want name (r ∷ rows) class all e = by-test (bytes_eq r.name class) refl e (row-name want name rows class all.1)
+  where
+    by-test : (b : Bool) → bytes_eq r.name class ≡ b → option_map (λ (r : DirectorClass). r.director) (if b then Some r else row_in rows class) ≡ Some want → (option_map (λ (r : DirectorClass). r.director) (row_in rows class) ≡ Some want → class ≡ name) → class ≡ name
+    by-test true is h rest = sym ((bytes_eq-Decides r.name class).0 is) ∙ all.0 (same_Some r.director want h)
+    by-test false is h rest = rest h
+
+de-has-time : (d : Option NetDirector) → named d ≡ Some De → has_time (option_map director_view d) ≡ true
+unfolding director_row
+de-has-time None e = absurd (none-some De e)
+de-has-time (Some d) e = (bytes_eq-Decides d.class (codes "DE")).1 (row-name De (codes "DE") directors d.class de-named e)
+
+pub de-timed : (net : Net) (s : Shown) (has : HasCore net s) (st : de.State) → body_of s ≡ Composite (Other (Other st)) → is_timed (net_view net) ≡ true
+de-timed net s has st e =
+    let by = (core-is net s has (Other (Other st)) e).0 in
+    ap (λ o. time_at o) (view-at entity_view net.entities.items 0 has.entity has.at) ∙ de-has-time has.entity.director (named-of has.entity De by)
+
+-- ---- how long the top lasts
+
+some-number : (o : Option ℕ) (n : ℕ) → o ≡ Some n → IsSome o
+some-number o n e = subst (λ (v : Option ℕ). IsSome v) (sym e) refl
+
+iterates : (net : Net) (values : Values) (e : NetEntity) → IsNetOfDocument net → IsValued (net_view net) values → IsEntity net 0 e → IsDirectedBy e Sdf ⊎ IsDirectedBy e Sr → IsSome (iterations (net_view net) values)
+iterates net values e doc valued at by = let n = tops-iterate net values e doc valued at by in some-number (iterations (net_view net) values) n.0 n.1
+
+-- a top of SDF or SR has a number of iterations or ticks
+pub sdf-iterates : (net : Net) (values : Values) (s : Shown) → IsNetOfDocument net → IsValued (net_view net) values → (has : HasCore net s) (st : sdf.State) → body_of s ≡ Composite (First st) → IsSome (iterations (net_view net) values)
+sdf-iterates net values s doc valued has st e = iterates net values has.entity doc valued has.at (inl (core-is net s has (First st) e).0)
+
+pub sr-iterates : (net : Net) (values : Values) (s : Shown) → IsNetOfDocument net → IsValued (net_view net) values → (has : HasCore net s) (st : sr.State) → body_of s ≡ Composite (Other (First st)) → IsSome (iterations (net_view net) values)
+sr-iterates net values s doc valued has st e = iterates net values has.entity doc valued has.at (inr (core-is net s has (Other (First st)) e).0)
+
 -- ---- the job of the top
 
 pub sdf-top : (net : Net) (s : Shown) (has : HasCore net s) (st : sdf.State) → body_of s ≡ Composite (First st) → may_lack (net_view net) ≡ false
@@ -187,12 +241,20 @@ sdf-fits net values (Branch f ks) has st j e supplied takes =
     sym (length-map j.inputs.items (λ (ts : List Token). map Some ts)) ∙ lists-counted net values has.entity (supply_of (top.Sdf j)) has.at supplied ∙ sym is.1 ∙ ap (λ (v : List ℕ). length v) (sym takes) in
     subst (λ b. IsJobFor (top.Sdf j) (node_with f.past b (nodes_of ks))) (sym e) (sym takes, long)
 
-pub sr-fits : (net : Net) (values : Values) (s : Shown) (has : HasCore net s) (st : sr.State) (j : SrJob) → body_of s ≡ Composite (Other st) → AreSupplied (net_view net) values (supply_of (top.Sr j)) → IsJobFor (top.Sr j) (node_of s)
+pub sr-fits : (net : Net) (values : Values) (s : Shown) (has : HasCore net s) (st : sr.State) (j : SrJob) → body_of s ≡ Composite (Other (First st)) → AreSupplied (net_view net) values (supply_of (top.Sr j)) → IsJobFor (top.Sr j) (node_of s)
 sr-fits net values (Branch f ks) has st j e supplied =
-    let is = core-is net (Branch f ks) has (Other st) e in
+    let is = core-is net (Branch f ks) has (Other (First st)) e in
     let long : length j.inputs.items ≡ st.tick.plan.inputs =
-    sym (length-map j.inputs.items (λ (ts : Vec (Option Token) Global). ts.items)) ∙ lists-counted net values has.entity (supply_of (top.Sr j)) has.at supplied ∙ sym is in
+    sym (length-map j.inputs.items (λ (ts : Vec (Option Token) Global). ts.items)) ∙ lists-counted net values has.entity (supply_of (top.Sr j)) has.at supplied ∙ sym is.1 in
     subst (λ b. IsJobFor (top.Sr j) (node_with f.past b (nodes_of ks))) (sym e) long
+
+pub de-fits : (net : Net) (values : Values) (s : Shown) (has : HasCore net s) (st : de.State) (j : DeJob) → body_of s ≡ Composite (Other (Other st)) → AreSupplied (net_view net) values (supply_of (top.De j)) → AllAscend j.inputs.items → IsJobFor (top.De j) (node_of s)
+de-fits net values (Branch f ks) has st j e supplied ascend =
+    let is = core-is net (Branch f ks) has (Other (Other st)) e in
+    let E : List (List agenda.Event) = events_of j.inputs.items in
+    let long : length j.inputs.items ≡ st.plan.inputs =
+    sym (length-map j.inputs.items (λ (input : agenda.Input). input.items)) ∙ sym (length-map E tokens_in) ∙ lists-counted net values has.entity (supply_of (top.De j)) has.at supplied ∙ sym is.1 in
+    subst (λ b. IsJobFor (top.De j) (node_with f.past b (nodes_of ks))) (sym e) (long, ascend)
 
 -- ---- library actors have no children
 

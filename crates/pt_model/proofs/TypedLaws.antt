@@ -35,7 +35,7 @@ started-in net values typing starts are k a is =
         absurd (none-some a (same_Some None (Some a) (sym none ∙ is)))
 
 -- the top has a director
-directed-top : (net : Net) (values : Values) (e : NetEntity) → IsPlaced net values → IsEntity net 0 e → (d : NetDirector) × (e.director ≡ Some d)
+pub directed-top : (net : Net) (values : Values) (e : NetEntity) → IsPlaced net values → IsEntity net 0 e → (d : NetDirector) × (e.director ≡ Some d)
 directed-top net values e placed at = by_director e.director refl
   where
     by_director : (o : Option NetDirector) → e.director ≡ o → (d : NetDirector) × (e.director ≡ Some d)

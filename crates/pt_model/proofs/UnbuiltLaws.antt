@@ -1,7 +1,6 @@
 -- Of what a builder of trees may lack, the net of a document lacks nothing but what isn't built.
-use Rattle.std.proofs.Common.{◌≡◌, ◌⊎◌, inl, inr, ℕ, ◌≤◌, List, Bool, true, false, ◌||◌, if◌then◌else◌, bytes_eq, codes, refl, sym, ap, ◌∙◌, arith}
+use Rattle.std.proofs.Common.{◌≡◌, inl, inr, ℕ, List, Bool, true, false, ◌||◌, if◌then◌else◌, bytes_eq, codes, refl, ap, ◌∙◌, arith}
 use Rattle.std.specs.Prelude.{Option, Some, None, slice_get}
-use Rattle.std.proofs.lemmas.Option.{none-some}
 use Rattle.pt_document.specs.declared.classes.Director.{Director}
 use Rattle.pt_document.specs.declared.classes.Director.TheVariants.{Sdf, Pn, Rendezvous, Sr, De}
 use Rattle.pt_net.specs.declared.net.Net.{Net}
@@ -9,27 +8,23 @@ use Rattle.pt_net.specs.declared.net.NetDirector.{NetDirector}
 use Rattle.pt_net.specs.declared.net.NetEntity.{NetEntity}
 use Rattle.pt_net.specs.Inside.{children_of}
 use Rattle.pt_scopes.specs.declared.values.Values.{Values}
-use Rattle.pt_scopes.specs.Scopes.{net_view, is_composite_class}
+use Rattle.pt_scopes.specs.Scopes.{is_composite_class}
 use Rattle.pt_typing.specs.Least.{Assignment}
-use Rattle.pt_job.specs.Iterations.{iterations}
 use Rattle.pt_library.specs.declared.library_actor.LibraryActor.{LibraryActor}
-use Rattle.pt_node.specs.Shown.{Shown}
 use Rattle.pt_node.specs.View.{Tree}
-use Rattle.pt_trees.specs.Composite.{trees_of, IsComposite}
+use Rattle.pt_trees.specs.Composite.{trees_of}
+use Rattle.pt_trees.specs.De.{IsDeWired}
 use Rattle.pt_trees.specs.Directors.{named, director_of, IsDirectedBy, composing}
-use Rattle.pt_trees.specs.Recorded.{recorded_of}
 use Rattle.pt_trees.specs.Trees.{IsEntity, IsUndirected, around_in, Starts, StartsAs, AreTrees}
 use Rattle.pt_trees.specs.Built as built
-use Rattle.pt_trees.specs.Built.{IsBuilt, built_actor, built_composite}
 use Rattle.pt_trees.proofs.DirectorLaws.{is-directed}
 use Rattle.pt_build.proofs.TreeLaws.{built-trees}
 use Rattle.pt_order.specs.Laws.{IsNetOfDocument}
 use Rattle.pt_buildable.specs.Composites.{is_built, HasOtherComposite}
-use Rattle.pt_buildable.proofs.Joined.{tops-there, entities-shallow, directors-of-composites, tops-iterate, children-steady}
-use Rattle.pt_elaboration.specs.Resolved.{IsPlaced, IsStarted}
+use Rattle.pt_buildable.proofs.Joined.{tops-there, entities-shallow, directors-of-composites, children-steady, composites-built, nets-ordered, begin-at-outputs}
+use Rattle.pt_elaboration.specs.Resolved.{IsStarted}
 use Rattle.pt_elaboration.specs.Unbuilt.{IsUnbuilt, other, unstarted, malformed}
-use Rattle.pt_model.proofs.TopLaws.{top-directed}
-use Rattle.pt_model.proofs.TypedLaws.{started-in}
+use Rattle.pt_model.proofs.TypedLaws.{started-in, directed-top}
 
 -- ---- composites of other directors
 
@@ -69,12 +64,23 @@ module _ (net : Net) (values : Values) (typing : Assignment) (starts : Starts) (
       by-class false is None start = unstarted k e at undirected is start
       by-class false is (Some a) start = absurd (none a start)
 
+  -- a composite of DE that doesn't fit it has other places than its children: where all composites are built, channels begin at outputs
+  unfit-events : (k : ℕ) (e : NetEntity) (kids : List Tree) → IsEntity net k e → IsDirectedBy e De → AreTrees net (StartsAs starts) (children_of net.entities.items k) kids → (IsDeWired (around_in net k e) kids → ⊥) → IsUnbuilt net starts
+  unfit-events k e kids at by all bad = elim (composites-built net) [
+    | inl some ↦ other some
+    | inr built ↦ (
+    let top = tops-there net doc in
+    let d = directed-top net values top.0 started.placed top.1 in
+    let order = nets-ordered net top.0 d.0 doc built top.1 d.1 in
+    malformed k e De kids at by all (λ wired. bad (record { wired = wired; begin = begin-at-outputs net values typing starts k e kids order (started-in net values typing starts started.started) at all })))
+  ]
+
   -- a composite that doesn't fit its director
   unfit : (k : ℕ) (e : NetEntity) (director : Director) (kids : List Tree) → IsEntity net k e → IsDirectedBy e director → AreTrees net (StartsAs starts) (children_of net.entities.items k) kids → (composing director).IsMisfit (around_in net k e) kids → IsUnbuilt net starts
   unfit k e Sdf kids at by all (inl unsteady) = absurd (children-steady net values typing starts k e kids started.resolved.valued started.placed (started-in net values typing starts started.started) at by all unsteady)
   unfit k e Sdf kids at by all (inr bad) = malformed k e Sdf kids at by all bad
   unfit k e Sr kids at by all bad = malformed k e Sr kids at by all bad
-  unfit k e De kids at by all bad = other (other-by net k e De at by refl)
+  unfit k e De kids at by all bad = unfit-events k e kids at by all bad
   unfit k e Pn kids at by all bad = other (other-by net k e Pn at by refl)
   unfit k e Rendezvous kids at by all bad = other (other-by net k e Rendezvous at by refl)
 
@@ -85,23 +91,3 @@ module _ (net : Net) (values : Values) (typing : Assignment) (starts : Starts) (
   no-tree-unbuilt (built.unstarted k e at undirected none) = startless k e at undirected none
   no-tree-unbuilt (built.misfit k e director kids at by all bad) = unfit k e director (trees_of kids) at by (built-trees all) bad
   no-tree-unbuilt (built.deep k nested) = let few = entities-shallow net k 32 doc nested in absurd (omega (arith, few))
-
--- ---- the iterations of its top
-
-composed-by : (director : Director) (net : Net) (k : ℕ) (e : NetEntity) (kids : List Shown) (s : Shown) → IsDirectedBy e director → IsComposite director (around_in net k e) kids e.path (recorded_of net k e) s → IsDirectedBy e Sdf ⊎ IsDirectedBy e Sr
-composed-by Sdf net k e kids s by is = inl by
-composed-by Sr net k e kids s by is = inr by
-composed-by De net k e kids s by is = absurd is.is_core
-composed-by Pn net k e kids s by is = absurd is.is_core
-composed-by Rendezvous net k e kids s by is = absurd is.is_core
-
-top-by : {net : Net} {starts : Starts} {k : ℕ} {s : Shown} (values : Values) → IsPlaced net values → k ≡ 0 → IsBuilt net starts k s → (e : NetEntity) × IsEntity net 0 e × (IsDirectedBy e Sdf ⊎ IsDirectedBy e Sr)
-top-by {net = net} values placed first (built_actor k e a at is starts_as) = absurd (top-directed net values e placed (ap (λ j. slice_get net.entities.items j) (sym first) ∙ at) is)
-top-by {net = net} values placed first (built_composite k e by kids s at directed all is) = (e, ap (λ j. slice_get net.entities.items j) (sym first) ∙ at, composed-by by net k e kids s directed is)
-
--- a top that is built has a number of iterations
-pub top-iterates : (net : Net) (values : Values) (typing : Assignment) (starts : Starts) (s : Shown) → IsNetOfDocument net → IsStarted net values typing starts → IsBuilt net starts 0 s → iterations (net_view net) values ≡ None → ⊥
-top-iterates net values typing starts s doc started built none =
-    let top = top-by values started.placed refl built in
-    let given = tops-iterate net values top.0 doc started.resolved.valued top.1 top.2 in
-    none-some given.0 (sym none ∙ given.1)

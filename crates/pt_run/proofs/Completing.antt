@@ -1,5 +1,5 @@
 -- A job that its budget allows ends as the definitions say; and the loop over the firings of the top.
-use Rattle.std.proofs.Common.{◌≡◌, ℕ, suc, ◌+◌, ◌<◌, ◌≤◌, Option, Some, None, sym, ap, subst, ◌∙◌, arith, refl}
+use Rattle.std.proofs.Common.{◌≡◌, ℕ, suc, ◌+◌, ◌<◌, ◌≤◌, [], Option, Some, None, sym, ap, ap₂, subst, ◌∙◌, arith, refl}
 use Rattle.pt_meaning.specs.Basics.{Tag, Streams, Path, Log}
 use Rattle.pt_meaning.specs.Meetings.{Meets}
 use Rattle.pt_meaning.specs.Step.{Step, no_meetings}
@@ -10,6 +10,7 @@ use Rattle.pt_meaning.specs.Tree.{paths_of}
 use Rattle.pt_value.specs.declared.token.Token.{Token}
 use Rattle.pt_firing.specs.declared.answer.Answer.TheVariants as answer
 use Rattle.pt_firing.specs.declared.answer.Place.{Place}
+use Rattle.pt_firing.specs.RunFault.{code_of}
 use Rattle.pt_records.specs.Kept.{GrewBy}
 use Rattle.pt_records.specs.Fired.{FiresTo}
 use Rattle.pt_records.specs.Made.{made_if, meets_of, AreMadeBefore}
@@ -29,19 +30,21 @@ use Rattle.pt_trees.specs.Top.{IsWhole}
 use Rattle.pt_trees.specs.Start.{IsRunnable}
 use Rattle.pt_trees.specs.Run.{schedule, Reports, IsRun, IsDefined, IsAffordable}
 use Rattle.pt_run.specs.declared.turn.End.{End}
-use Rattle.pt_run.specs.declared.turn.End.TheVariants.{Iterations, Inputs}
+use Rattle.pt_run.specs.declared.turn.End.TheVariants.{Iterations, Inputs, Stop, Idle}
 use Rattle.pt_run.specs.declared.turn.Firing.{Firing}
 use Rattle.pt_run.specs.declared.turn.Turn.{Turn}
-use Rattle.pt_run.specs.declared.turn.Turn.TheVariants.{Fire, Ends}
-use Rattle.pt_run.specs.Turn.{end_of, turn_of, IsNext, ended_by}
+use Rattle.pt_run.specs.declared.turn.Turn.TheVariants.{Fire, Ends, Limit}
+use Rattle.pt_run.specs.Turn.{end_of, turn_of, IsNext, IsPastLimit, ended_by}
 use Rattle.pt_run.proofs.Counting.{none-counted, fires-count}
 use Rattle.pt_trees.proofs.TopLaws.{is-whole}
 use Rattle.pt_run.proofs.Turns.{takes-fit}
-use Rattle.pt_run.proofs.Reaching.{Reached, IsLogOf, at-start, one-more, reported, defined-end, spent-between, spent-within, stuck-within, count-below}
+use Rattle.pt_run.proofs.Reaching.{Reached, IsLogOf, at-start, one-more, reported, defined-end, spent-between, past_limit, stuck-between, spent-within, stuck-within, count-below}
 
 pub is_complete : (j : Top) (budget : ℕ) (old new : Shown) (e : Ended) → IsRun no_meetings j budget old new e → IsAffordable j budget (node_of old) → IsDefined e
 is_complete j budget old new ended.Iterations r a = tt
 is_complete j budget old new ended.Inputs r a = tt
+is_complete j budget old new ended.Stop r a = tt
+is_complete j budget old new ended.Idle r a = tt
 is_complete j budget old new (ended.Fault place) r a = a.never_stuck (fault_of r.0 place) (r.2 0).caused.0
 is_complete j budget old new (ended.Spent firings) r a =
     let p = r 0 in
@@ -61,16 +64,18 @@ its-own now p n = refl
 pub none-are-those : (now : Shown) → AreThose no_meetings now
 none-are-those now p n = sym (ap (λ v. made_if n v) (node-unmet now p))
 
--- a turn that fires does so at this tag on these inputs, and one that ends by this end
-pub turn-fires : (plan : Schedule Token LibraryActor) (n : ℕ) (t : Turn) → IsNext plan n t → (f : Firing) → t ≡ Fire f → (X : Streams Token) → X ≡ f.inputs.items → (last : Option Tag) (top : Tree) → plan n last top ≡ job.Fire f.tag X
-turn-fires plan n t next f is X e last top = next last top ∙ ap turn_of is ∙ ap (λ Y. job.Fire f.tag Y) (sym e)
+-- a turn that fires does so at this tag on these inputs, one that ends by this end, and past the limit there is none
+pub turn-fires : (plan : Schedule Token LibraryActor) (n : ℕ) (last : Option Tag) (top : Tree) (t : Turn) → IsNext plan n last top t → (f : Firing) → t ≡ Fire f → (X : Streams Token) → X ≡ f.inputs.items → plan n last top ≡ job.Fire f.tag X
+turn-fires plan n last top t next f is X e = next ∙ ap turn_of is ∙ ap (λ Y. job.Fire f.tag Y) (sym e)
 
-pub turn-ends : (plan : Schedule Token LibraryActor) (n : ℕ) (t : Turn) → IsNext plan n t → (e : End) → t ≡ Ends e → (last : Option Tag) (top : Tree) → plan n last top ≡ job.Ends (end_of e)
-turn-ends plan n t next e is last top = next last top ∙ ap turn_of is
+pub turn-ends : (plan : Schedule Token LibraryActor) (n : ℕ) (last : Option Tag) (top : Tree) (t : Turn) → IsNext plan n last top t → (e : End) → t ≡ Ends e → plan n last top ≡ job.Ends (end_of e)
+turn-ends plan n last top t next e is = next ∙ ap turn_of is
 
--- After n firings so much of the budget is left. The tree has come so far under the meetings that it recorded of the firings that are finished.
-pub record Going (j : Top) (top : Shown) (budget n : ℕ) (now : Shown) (left : ℕ) : Type 0 where
-  pub last : Option Tag
+pub turn-past : (plan : Schedule Token LibraryActor) (n : ℕ) (last : Option Tag) (top : Tree) (t : Turn) → IsNext plan n last top t → t ≡ Limit → plan n last top ≡ job.Limit
+turn-past plan n last top t next is = next ∙ ap turn_of is
+
+-- After n firings, the last of them at this tag, so much of the budget is left. The tree has come so far under the meetings that it recorded of the firings that are finished.
+pub record Going (j : Top) (top : Shown) (budget n : ℕ) (last : Option Tag) (now : Shown) (left : ℕ) : Type 0 where
   pub live : live.IsLive now
   pub outline : outline_of now ≡ outline_of top
   pub reached : (m : Meets) → AreMadeBefore m (kept_of now) → Reached m j top n last now
@@ -80,47 +85,58 @@ pub record Going (j : Top) (top : Shown) (budget n : ℕ) (now : Shown) (left : 
 -- ---- the ends of the code's loop
 
 module _ (j : Top) (budget : ℕ) (old : Shown) (run : IsRunnable j old) where
-  abbrev pub GoingTo : ℕ → Shown → ℕ → Type 0
-  GoingTo n now left = Going j old budget n now left
+  abbrev pub GoingTo : ℕ → Option Tag → Shown → ℕ → Type 0
+  GoingTo n last now left = Going j old budget n last now left
 
   pub whole : IsWhole j
   whole = is-whole j (node_of old) run.fits
 
-  pub begins : GoingTo 0 old budget
-  begins = record { last = None; live = run.live; outline = refl; reached = λ m made. at-start m j old run; counted = let none = none-counted old run.leaves run.start in omega (arith, none); few = omega arith }
+  pub begins : GoingTo 0 None old budget
+  begins = record { live = run.live; outline = refl; reached = λ m made. at-start m j old run; counted = let none = none-counted old run.leaves run.start in omega (arith, none); few = omega arith }
 
   -- what it has come to by the meetings that it has recorded itself
-  self : (n : ℕ) (now : Shown) (left : ℕ) → (g : GoingTo n now left) → Reached (meets_of (kept_of now)) j old n g.last now
-  self n now left g = g.reached (meets_of (kept_of now)) (those-before (meets_of (kept_of now)) now (its-own now))
+  self : (n : ℕ) (last : Option Tag) (now : Shown) (left : ℕ) → (g : GoingTo n last now left) → Reached (meets_of (kept_of now)) j old n last now
+  self n last now left g = g.reached (meets_of (kept_of now)) (those-before (meets_of (kept_of now)) now (its-own now))
 
   -- what is told, from the log of the run
   told : (m : Meets) (new : Shown) (e : Ending) → outline_of new ≡ outline_of old → IsLogOf m j old budget new e → AreThose m new → (count : ℕ) → Reports m j budget count old new e
   told m new e o l those count = reported m j old run budget new e o l those count
 
-  pub ends-defined : (n : ℕ) (now : Shown) (left : ℕ) → GoingTo n now left → 0 < left → (e : End) → ((last : Option Tag) (top : Tree) → schedule j n last top ≡ job.Ends (end_of e)) → (m : Meets) → AreThose m now → IsRun m j budget old now (ended_by e)
-  ends-defined n now left g some e turn m those = by_end e (λ count. told m now (Defined (end_of e)) g.outline (defined-end m j old run n g.last now (g.reached m (those-before m now those)) (end_of e) (turn g.last (node_of now)) budget (omega (arith, g.counted, some))) those count)
+  pub ends-defined : (n : ℕ) (last : Option Tag) (now : Shown) (left : ℕ) → GoingTo n last now left → 0 < left → (e : End) → schedule j n last (node_of now) ≡ job.Ends (end_of e) → (m : Meets) → AreThose m now → IsRun m j budget old now (ended_by e)
+  ends-defined n last now left g some e turn m those = by_end e (λ count. told m now (Defined (end_of e)) g.outline (defined-end m j old run n last now (g.reached m (those-before m now those)) (end_of e) turn budget (omega (arith, g.counted, some))) those count)
     where
       by_end : (e : End) → ((count : ℕ) → Reports m j budget count old now (Defined (end_of e))) → IsRun m j budget old now (ended_by e)
       by_end Iterations r = r
       by_end Inputs r = r
+      by_end Stop r = r
+      by_end Idle r = r
 
   -- between two firings nothing is left
-  pub ends-spent : (n : ℕ) (now : Shown) (left : ℕ) → GoingTo n now left → left ≡ 0 → (m : Meets) → AreThose m now → IsRun m j budget old now (ended.Spent budget)
-  ends-spent n now left g z m those =
+  pub ends-spent : (n : ℕ) (last : Option Tag) (now : Shown) (left : ℕ) → GoingTo n last now left → left ≡ 0 → (m : Meets) → AreThose m now → IsRun m j budget old now (ended.Spent budget)
+  ends-spent n last now left g z m those =
       let all : budget ≡ count_of now = omega (arith, z, g.counted) in
-      told m now (Spent budget) g.outline (spent-between m j old run n g.last now (g.reached m (those-before m now those)) budget budget all (omega arith)) those
+      told m now (Spent budget) g.outline (spent-between m j old run n last now (g.reached m (those-before m now those)) budget budget all (omega arith)) those
+
+  -- the next tag is past the limit
+  pub ends-past : (n : ℕ) (last : Option Tag) (now : Shown) (left : ℕ) → GoingTo n last now left → schedule j n last (node_of now) ≡ job.Limit → (place : Place) → IsPastLimit now n place → (m : Meets) → AreThose m now → IsRun m j budget old now (ended.Fault place)
+  ends-past n last now left g turn place at m those =
+      let is : fault_of [] place ≡ past_limit n = ap₂ (λ f c. record { path = []; firing = f; code = c }) at.firing (ap code_of at.kind) in (
+        [],
+        ap (λ v. text_at v []) (sym g.outline) ∙ at.path,
+        told m now (Faulty (fault_of [] place)) g.outline (subst (λ f. IsLogOf m j old budget now (Faulty f)) (sym is) (stuck-between m j old run n last now (g.reached m (those-before m now those)) turn budget)) those,
+      )
 
   -- the next firing
-  module _ (n : ℕ) (now : Shown) (left : ℕ) (g : GoingTo n now left) (tag : Tag) (X : Streams Token) (turn : (last : Option Tag) (top : Tree) → schedule j n last top ≡ job.Fire tag X) where
+  module _ (n : ℕ) (last : Option Tag) (now : Shown) (left : ℕ) (g : GoingTo n last now left) (tag : Tag) (X : Streams Token) (turn : schedule j n last (node_of now) ≡ job.Fire tag X) where
     pub takes-inputs : live.Takes tag now X
-    takes-inputs = takes-fit now j n g.last tag X (self n now left g).fits whole (turn g.last (node_of now))
+    takes-inputs = takes-fit now j n last tag X (self n last now left g).fits whole turn
 
     module _ (new : Shown) (o : outline_of new ≡ outline_of now) where
       named : outline_of new ≡ outline_of old
       named = o ∙ g.outline
 
       -- before the firing by the meetings that were recorded after it
-      before : (m : Meets) (l : Log Token) → AreThose m new → GrewBy l (kept_of now) (kept_of new) → Reached m j old n g.last now
+      before : (m : Meets) (l : Log Token) → AreThose m new → GrewBy l (kept_of now) (kept_of new) → Reached m j old n last now
       before m l those grew = g.reached m (made-back m l (kept_of now) (kept_of new) grew (those-before m new those))
 
       pub ends-fault : (place : Place) → AnswersTo now tag X left (answer.Fault place) new → (m : Meets) → AreThose m new → IsRun m j budget old new (ended.Fault place)
@@ -128,7 +144,7 @@ module _ (j : Top) (budget : ℕ) (old : Shown) (run : IsRunnable j old) where
           let k = a m (those-made m (kept_of new) those) in (
             k.0,
             ap (λ v. text_at v k.0) (sym g.outline) ∙ k.1,
-            told m new (Faulty (fault_of k.0 place)) named (stuck-within m j old run n g.last now (before m k.2.log those k.2.kept) tag X (turn g.last (node_of now)) budget new (fault_of k.0 place) k.2) those,
+            told m new (Faulty (fault_of k.0 place)) named (stuck-within m j old run n last now (before m k.2.log those k.2.kept) tag X turn budget new (fault_of k.0 place) k.2) those,
           )
 
       -- so much is left after it
@@ -140,7 +156,7 @@ module _ (j : Top) (budget : ℕ) (old : Shown) (run : IsRunnable j old) where
         ends-within made a m those =
             let all : budget ≡ count_of new = omega (arith, a.0, a.1, counted, h) in
             let k = a.2 m (those-made m (kept_of new) those) in
-            told m new (Spent budget) named (spent-within m j old run n g.last now (before m k.log those k.kept) tag X (turn g.last (node_of now)) budget budget new o k all (omega arith)) those
+            told m new (Spent budget) named (spent-within m j old run n last now (before m k.log those k.kept) tag X turn budget budget new o k all (omega arith)) those
 
         module _ (out : Streams Token) (a : AnswersTo now tag X left (answer.Done out) new) where
           -- a firing that is done is counted
@@ -153,14 +169,13 @@ module _ (j : Top) (budget : ℕ) (old : Shown) (run : IsRunnable j old) where
           pub falls : after < left
           falls = omega (arith, more, h)
 
-          pub goes-on : GoingTo (n + 1) new after
+          pub goes-on : GoingTo (n + 1) (Some tag) new after
           goes-on =
               let one : suc n ≡ n + 1 = omega arith in
               record {
-                last = Some tag;
                 live = a.1;
                 outline = named;
-                reached = λ m made. subst (λ n. Reached m j old n (Some tag) new) one (one-more m j old n g.last now (g.reached m) tag X (turn g.last (node_of now)) out left new a o made);
+                reached = λ m made. subst (λ n. Reached m j old n (Some tag) new) one (one-more m j old n last now (g.reached m) tag X turn out left new a o made);
                 counted = counted;
                 few = omega (arith, more, g.few);
               }

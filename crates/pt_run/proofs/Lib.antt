@@ -1,6 +1,7 @@
 pub mod Course
 pub mod Unmet
 pub mod UnmetTicks
+pub mod UnmetReactions
 pub mod UnmetRuns
 pub mod Counting
 pub mod Traces
@@ -9,6 +10,7 @@ pub mod Walking
 pub mod Portions
 pub mod Ticks
 pub mod Turns
+pub mod Counted
 pub mod Reaching
 pub mod Completing
 pub mod Steady

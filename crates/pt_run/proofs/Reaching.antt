@@ -1,8 +1,8 @@
 -- The top after whole firings, one more, and what a run comes to where it ends.
-use Rattle.std.proofs.Common.{◌≡◌, ℕ, suc, ◌<◌, ◌≤◌, max, List, [], ◌∷◌, ◌++◌, Option, Some, None, refl, sym, ap, subst, ◌∙◌, arith}
+use Rattle.std.proofs.Common.{◌≡◌, ℕ, suc, ◌<◌, ◌≤◌, inl, inr, max, List, [], ◌∷◌, ◌++◌, Option, Some, None, refl, sym, ap, subst, ◌∙◌, arith}
 use Rattle.pt_meaning.specs.Basics.{Tag, Streams, IsPrefix, Path, Event, Finished, Met, Log, LogBelow, silent, log_then, firings_in}
 use Rattle.pt_meaning.specs.Log.{meetings_in}
-use Rattle.pt_meaning.specs.Machine.{Fault, Outcome, Done, Stuck}
+use Rattle.pt_meaning.specs.Machine.{time_limit_code, Fault, Outcome, Done, Stuck}
 use Rattle.pt_meaning.specs.Meetings.{Meets}
 use Rattle.pt_meaning.specs.Tree.{Node}
 use Rattle.pt_meaning.specs.Step.{Step}
@@ -39,6 +39,7 @@ use Rattle.pt_run.proofs.Course.{after-more, after-below, ended-at, halted-at}
 use Rattle.pt_run.proofs.Unmet.{finished-before, no-meetings}
 use Rattle.pt_run.proofs.UnmetRuns.{meaning-unmet}
 use Rattle.pt_run.proofs.Counting.{count-is, none-at}
+use Rattle.pt_run.proofs.Counted.{firings-counted}
 use Rattle.pt_run.proofs.Traces.{traces-are}
 use Rattle.pt_run.proofs.Turns.{quiet-node, step-stays}
 
@@ -62,6 +63,10 @@ firings-below {T} (x ∷ xs) (y ∷ ys) b = by_event x y b.0 (firings-below xs y
 pub count-below : {T : Type 0} (l m : Log T) (ps : List Path) → LogBelow l m → count_of l ps ≤ count_of m ps
 count-below l m [] b = omega arith
 count-below l m (p ∷ ps) b = omega (arith, firings-below (l p) (m p) (b p), count-below l m ps b)
+
+-- the top itself at its firing of that number, of which the tag is past the limit
+abbrev pub past_limit : ℕ → Fault
+past_limit n = record { path = []; firing = n; code = time_limit_code }
 
 module _ (m : Meets) (j : Top) (top : Shown) where
   abbrev pub plan : Schedule Token LibraryActor
@@ -186,6 +191,23 @@ module _ (m : Meets) (j : Top) (top : Shown) where
         shut = (whole-shut run n last now r).1;
         kept = r.kept;
         caused = (e ∙ count-is top now r.log run.leaves run.start r.outline r.kept, b);
+      }
+
+  -- the next tag is past the limit
+  pub stuck-between : IsRunnable j top → (n : ℕ) (last : Option Tag) (now : Shown) → Reached n last now → Asks n last now job.Limit → (budget : ℕ) → IsLogOf budget now (Faulty (past_limit n))
+  stuck-between run n last now r turn budget =
+      let k₁ : ℕ = max r.goes.0 (suc n) in
+      let halts : after k₁ rows m plan (suc n) (begin first) ≡ Halted (past_limit n ∷ []) r.log = after-more k₁ rows m plan n (begin first) (course_at n last now r.log) (r.goes.1 k₁ (omega arith)) ∙ ap (λ t. on_turn k₁ rows m (course_at n last now r.log) t) turn in
+      record {
+        log = r.log;
+        prefix = (k₁, whole-below n last now r k₁ (omega arith) (omega arith));
+        under_way = (whole-shut run n last now r).0;
+        shut = (whole-shut run n last now r).1;
+        kept = r.kept;
+        caused = (
+          (k₁, past_limit n ∷ [], r.log, halted-at rows m plan first k₁ (suc n) (past_limit n ∷ []) r.log (omega arith) halts, inl refl),
+          (firings-counted rows rows_lawful m plan first n (course_at n last now r.log) (reached run n last now r), inr (refl, refl)),
+        );
       }
 
   -- the run was left off within a firing, with a part of its log

@@ -9,9 +9,10 @@ use Rattle.pt_meaning.specs.Machine.{Done}
 use Rattle.pt_meaning.specs.Meetings.{Meets}
 use Rattle.pt_meaning.specs.Tree as tree
 use Rattle.pt_meaning.specs.Tree.{Rows, Node}
+use Rattle.pt_meaning.specs.NodeFacts.{next_of}
 use Rattle.pt_meaning.specs.Step.{step_at, Step}
 use Rattle.pt_meaning.specs.Job.{Fire}
-use Rattle.pt_meaning.specs.Schedule.{portions, suffice, if_more, tokens_at, lists_last}
+use Rattle.pt_meaning.specs.Schedule.{portions, suffice, if_more, tokens_at, lists_last, first_event, events_at, Due, Never, At, Past, due_after, lesser, in_time, fire_until, de_turn_at}
 use Rattle.pt_laws.proofs.FiringLaws.{done-within}
 use Rattle.pt_value.specs.declared.token.Token.{Token}
 use Rattle.pt_records.proofs.SoFarLaws.{recorded-done}
@@ -23,11 +24,14 @@ use Rattle.pt_core.specs.declared.either.Either.TheVariants.{First, Other}
 use Rattle.pt_node.specs.Shown.{Shown, AllShown, Branch, none, more}
 use Rattle.pt_node.specs.View.{Tree, node_of, nodes_of, node_with}
 use Rattle.pt_node.specs.Live as live
+use Rattle.pt_agenda.specs.Events as agenda
+use Rattle.pt_agenda.specs.Events.{events_of}
+use Rattle.pt_trees.specs.declared.top.DeJob.{DeJob}
 use Rattle.pt_trees.specs.declared.top.SdfJob.{SdfJob}
 use Rattle.pt_trees.specs.declared.top.SrJob.{SrJob}
 use Rattle.pt_trees.specs.declared.top.Top.{Top}
-use Rattle.pt_trees.specs.declared.top.Top.TheVariants.{Sdf, Sr}
-use Rattle.pt_trees.specs.Top.{ticks_of, SdfFits, SrFits, FitsCore, IsJobFor, IsWhole}
+use Rattle.pt_trees.specs.declared.top.Top.TheVariants.{Sdf, Sr, De}
+use Rattle.pt_trees.specs.Top.{ticks_of, SdfFits, SrFits, DeFits, FitsCore, IsJobFor, IsWhole}
 use Rattle.pt_trees.specs.Run.{schedule}
 use Rattle.pt_run.proofs.UnmetRuns.{IsQuiet, AllQuiet}
 
@@ -41,7 +45,8 @@ mutual
       by_body : (b : Body) → AllQuiet (nodes_of ks) → IsQuiet (node_with f.past b (nodes_of ks))
       by_body (body.Actor held) kids = tt
       by_body (body.Composite (First s)) kids = (tt, kids)
-      by_body (body.Composite (Other s)) kids = (tt, kids)
+      by_body (body.Composite (Other (First s))) kids = (tt, kids)
+      by_body (body.Composite (Other (Other s))) kids = (tt, kids)
 
   quiet-nodes : (ks : AllShown) → AllQuiet (nodes_of ks)
   quiet-nodes none = tt
@@ -51,6 +56,7 @@ mutual
 abbrev HasLists : Top → Streams Token → Type 0
 HasLists (Sdf j) X = length X ≡ length j.takes
 HasLists (Sr j) X = length X ≡ length j.inputs.items
+HasLists (De j) X = length X ≡ length j.inputs.items
 
 -- which the top takes, where the job is one for it
 lists-fit : (s : Shown) (j : Top) (tag : Tag) (X : Streams Token) → IsJobFor j (node_of s) → HasLists j X → live.Takes tag s X
@@ -60,8 +66,13 @@ lists-fit (Branch f ks) j tag X = by_body f.body j
     by_body (body.Actor held) j h l = absurd h
     by_body (body.Composite (First s)) (Sdf j) h l = l ∙ ap (λ v. length v) (sym h.0)
     by_body (body.Composite (First s)) (Sr j) h l = absurd h
-    by_body (body.Composite (Other s)) (Sdf j) h l = absurd h
-    by_body (body.Composite (Other s)) (Sr j) h l = l ∙ h
+    by_body (body.Composite (First s)) (De j) h l = absurd h
+    by_body (body.Composite (Other (First s))) (Sdf j) h l = absurd h
+    by_body (body.Composite (Other (First s))) (Sr j) h l = l ∙ h
+    by_body (body.Composite (Other (First s))) (De j) h l = absurd h
+    by_body (body.Composite (Other (Other s))) (Sdf j) h l = absurd h
+    by_body (body.Composite (Other (Other s))) (Sr j) h l = absurd h
+    by_body (body.Composite (Other (Other s))) (De j) h l = l ∙ h.0
 
 -- ---- the lists of a turn
 
@@ -80,6 +91,20 @@ fired-lists false b t tag Y X e = absurd (cc)
 fired-lists true true t tag Y X e = cc
 fired-lists true false t tag Y X e = absurd (cc)
 
+-- so it is at a DE top
+events-length : {T : Type 0} (tag : Tag) (E : List (List (Tag × T))) → length (events_at tag E) ≡ length E
+events-length tag [] = refl
+events-length tag (es ∷ E) = ap (λ k. suc k) (events-length tag E)
+
+due-lists : (stop : Option ℕ) (E : List (List agenda.Event)) (due : Due) (tag : Tag) (X : Streams Token) → de_turn_at stop E due ≡ Fire tag X → length X ≡ length E
+due-lists stop E Never tag X e = absurd (cc)
+due-lists stop E Past tag X e = absurd (cc)
+due-lists stop E (At t) tag X e = by-time (in_time stop t) e
+  where
+    by-time : (b : Bool) → fire_until b t (events_at t E) ≡ Fire tag X → length X ≡ length E
+    by-time true g = let same : events_at t E ≡ X = cc in ap (λ v. length v) (sym same) ∙ events-length t E
+    by-time false g = absurd (cc)
+
 has-lists : (j : Top) (n : ℕ) (last : Option Tag) (top : Tree) (tag : Tag) (X : Streams Token) → IsWhole j → schedule j n last top ≡ Fire tag X → HasLists j X
 has-lists (Sdf j) n last top tag X whole e =
     let same : portions n j.takes j.inputs.items ≡ X = fired-lists (nat_lt n j.iterations) (suffice n j.takes j.inputs.items) origin tag (portions n j.takes j.inputs.items) X e in
@@ -88,6 +113,9 @@ has-lists (Sr j) n last top tag X whole e =
     let Y : List (List (Option Token)) = ticks_of j.inputs.items in
     let same : tokens_at n Y ≡ X = fired-lists (nat_lt n j.iterations) (lists_last n Y) (record { time = n; step = 0 }) tag (tokens_at n Y) X e in
     ap (λ v. length v) (sym same) ∙ tokens-length n Y ∙ length-map j.inputs.items (λ (ts : Vec (Option Token) Global). ts.items)
+has-lists (De j) n last top tag X whole e =
+    let E : List (List agenda.Event) = events_of j.inputs.items in
+    due-lists j.stop E (lesser (first_event last E) (due_after (next_of rows top) last)) tag X e ∙ length-map j.inputs.items (λ (input : agenda.Input). input.items)
 
 pub takes-fit : (s : Shown) (j : Top) (n : ℕ) (last : Option Tag) (tag : Tag) (X : Streams Token) → IsJobFor j (node_of s) → IsWhole j → schedule j n last (node_of s) ≡ Fire tag X → live.Takes tag s X
 takes-fit s j n last tag X h whole e = lists-fit s j tag X h (has-lists j n last (node_of s) tag X whole e)
@@ -113,9 +141,19 @@ module _ (k d : ℕ) (m : Meets) (z : Tree) (tag : Tag) (X out : Streams Token) 
   sr-stays j (tree.Rv p Y) f g = absurd f
   sr-stays j (tree.Modal chart n) f g = absurd f
 
+  de-stays : (j : DeJob) (e : tree.Core Token) → DeFits j e → step_at rows k (suc d) m tag (tree.Composite h c e kids) X ≡ Done z out l → IsJobFor (De j) z
+  unfolding step_at
+  de-stays j (tree.Sdf p Y) f g = absurd f
+  de-stays j (tree.Pn p Y) f g = absurd f
+  de-stays j (tree.Sr p) f g = absurd f
+  de-stays j (tree.De p) f g = subst (λ (v : Tree). IsJobFor (De j) v) (sym (done-within tag h c (λ Y. tree.De p) _ z out l g).state) f
+  de-stays j (tree.Rv p Y) f g = absurd f
+  de-stays j (tree.Modal chart n) f g = absurd f
+
   core-stays : (j : Top) (e : tree.Core Token) → FitsCore j e → step_at rows k (suc d) m tag (tree.Composite h c e kids) X ≡ Done z out l → IsJobFor j z
   core-stays (Sdf j) e f g = sdf-stays j e f g
   core-stays (Sr j) e f g = sr-stays j e f g
+  core-stays (De j) e f g = de-stays j e f g
 
 node-stays : (j : Top) (k : ℕ) (m : Meets) (n z : Tree) (tag : Tag) (X out : Streams Token) (l : Log Token) → IsJobFor j n → step_at rows k (tree.height n) m tag n X ≡ Done z out l → IsJobFor j z
 node-stays j k m (tree.Actor h a b) z tag X out l f g = absurd f

@@ -1,9 +1,9 @@
--- Trees of SDF and SR composites make no meetings.
+-- Trees of SDF, SR and DE composites make no meetings.
 use Rattle.std.proofs.Common.{◌≡◌, ℕ, zero, suc, List, [], ◌∷◌, refl, sym, subst}
 use Rattle.pt_meaning.specs.Basics.{Tag, Streams, Log, Firing, own, log_then}
 use Rattle.pt_meaning.specs.Machine.{Outcome, Done, Stuck, Stepping, recorded}
 use Rattle.pt_meaning.specs.Sdf.{sdf}
-use Rattle.pt_meaning.specs.Tick.{sr_active, sr_turn, sr}
+use Rattle.pt_meaning.specs.Tick.{sr_active, sr_turn, sr, de_early, de_active, de_turn, de}
 use Rattle.pt_meaning.specs.Children.{Child, numbered, nodes, child_facts, child_step, with_number}
 use Rattle.pt_meaning.specs.Meetings.{Meets, below_child}
 use Rattle.pt_meaning.specs.Tree.{Rows, Answer, Gives, Fails, Core, Sdf, Pn, Sr, De, Rv, Modal, Past, Node, Nodes, Actor, Composite, none, more, list_of, nodes_of, made_of, fired_at, height}
@@ -16,13 +16,14 @@ use Rattle.pt_laws.proofs.CompositeLaws.{log-as-node}
 use Rattle.pt_laws.proofs.FiringLaws.{done-within}
 use Rattle.pt_run.proofs.Unmet.{Unmet, Unmeeting, AllIn, unmet-then, unmet-own, unmet-within, kahn-unmet, kahn-keeps}
 use Rattle.pt_run.proofs.UnmetTicks.{turn-unmeeting, tick-unmet, tick-keeps}
+use Rattle.pt_run.proofs.UnmetReactions.{reaction-unmeeting}
 
 -- a director of the code, none of which makes meetings
 abbrev pub IsQuietCore : {T : Type 0} → Core T → Type 0
 IsQuietCore (Sdf p X) = Unit {0}
 IsQuietCore (Pn p X) = ⊥
 IsQuietCore (Sr p) = Unit {0}
-IsQuietCore (De p) = ⊥
+IsQuietCore (De p) = Unit {0}
 IsQuietCore (Rv p X) = ⊥
 IsQuietCore (Modal chart m) = ⊥
 
@@ -88,7 +89,11 @@ module _ {T A : Type 0} (rows : Rows T A) (k d : ℕ) (m : Meets) (u : (i : ℕ)
       let l : Log T = log_in (sr facts (child_step steps) p k h.made tag (numbered 0 (list_of kids)) X) in
       let inside : Unmet l = tick-unmet IsQuietChild facts.early sr_active (sr_turn facts (child_step steps)) (turn-unmeeting IsQuietChild facts (child_step steps) (child-unmeeting steps u)) tag p.net _ (numbered 0 (list_of kids)) X k (children-quiet 0 kids s.1) in
       subst (λ (l : Log T). Unmet l) (sym (log-as-node tag h c (λ Y. Sr p) _)) (unmet-within h.made l inside)
-  level-logs tag (Composite h c (De p) kids) X s = absurd s.0
+  level-logs tag (Composite h c (De p) kids) X s =
+      let facts = child_facts (facts_of rows) in
+      let l : Log T = log_in (de facts (child_step steps) p k tag (numbered 0 (list_of kids)) X) in
+      let inside : Unmet l = tick-unmet IsQuietChild (de_early facts) (de_active facts) (de_turn facts (child_step steps)) (reaction-unmeeting IsQuietChild facts (child_step steps) (child-unmeeting steps u)) tag p.net _ (numbered 0 (list_of kids)) X k (children-quiet 0 kids s.1) in
+      subst (λ (l : Log T). Unmet l) (sym (log-as-node tag h c (λ Y. De p) _)) (unmet-within h.made l inside)
   level-logs tag (Composite h c (Rv p Y) kids) X s = absurd s.0
   level-logs tag (Composite h c (Modal chart n) kids) X s = absurd s.0
 
@@ -104,7 +109,11 @@ module _ {T A : Type 0} (rows : Rows T A) (k d : ℕ) (m : Meets) (u : (i : ℕ)
       let y = done-within tag h c (λ Y. Sr p) _ z out l e in
       subst (λ (v : Node T A). IsQuiet v) (sym y.state)
       (tt, nodes-quiet y.inside.kids (tick-keeps IsQuietChild facts.early sr_active (sr_turn facts (child_step steps)) (turn-unmeeting IsQuietChild facts (child_step steps) (child-unmeeting steps u)) tag p.net _ (numbered 0 (list_of kids)) X k y.inside out y.log (children-quiet 0 kids s.1) y.done))
-  level-keeps tag (Composite h c (De p) kids) z X out l s e = absurd s.0
+  level-keeps tag (Composite h c (De p) kids) z X out l s e =
+      let facts = child_facts (facts_of rows) in
+      let y = done-within tag h c (λ Y. De p) _ z out l e in
+      subst (λ (v : Node T A). IsQuiet v) (sym y.state)
+      (tt, nodes-quiet y.inside.kids (tick-keeps IsQuietChild (de_early facts) (de_active facts) (de_turn facts (child_step steps)) (reaction-unmeeting IsQuietChild facts (child_step steps) (child-unmeeting steps u)) tag p.net _ (numbered 0 (list_of kids)) X k y.inside out y.log (children-quiet 0 kids s.1) y.done))
   level-keeps tag (Composite h c (Rv p Y) kids) z X out l s e = absurd s.0
   level-keeps tag (Composite h c (Modal chart n) kids) z X out l s e = absurd s.0
 

@@ -20,7 +20,7 @@ AllReact P (r ∷ rs) = GoodReaction P r × AllReact P rs
 
 module _ {T S : Type 0} (P : S → Type 0) where
   -- a firing with its own record
-  recorded-unmeeting : (number : S → ℕ) (step : Stepping T S) → Unmeeting step P → Unmeeting (λ tag s X. recorded (number s) tag X (step tag s X)) P
+  pub recorded-unmeeting : (number : S → ℕ) (step : Stepping T S) → Unmeeting step P → Unmeeting (λ tag s X. recorded (number s) tag X (step tag s X)) P
   recorded-unmeeting number step u = record {
     logs = λ tag s X h. by_outcome tag (number s) X (step tag s X) (u.logs tag s X h);
     keeps = λ tag s z X out l h e. let r = recorded-done (number s) tag X (step tag s X) z out l e in u.keeps tag s z X out r.0 h r.1;

@@ -1,6 +1,7 @@
 //! Running the top of a tree of nodes as a job says, and the report of it.
 #![tactic(auto)]
 
+mod de;
 mod reporting;
 mod running;
 mod sdf;

@@ -95,6 +95,8 @@ fn end_told(ended: Ended) -> RunEnd
     match ended {
         Ended::Iterations => RunEnd::Iterations,
         Ended::Inputs => RunEnd::Inputs,
+        Ended::Stop => RunEnd::Stop,
+        Ended::Idle => RunEnd::Idle,
         Ended::Fault(place) => RunEnd::Fault(place),
         Ended::Spent(count) => RunEnd::Budget(count),
     }

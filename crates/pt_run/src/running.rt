@@ -6,7 +6,7 @@ ghost use Rattle.pt_trees.specs.Start.{IsRunnable};
 ghost use Rattle.pt_trees.specs.Run.{IsRun, IsAffordable, IsDefined};
 ghost use Rattle.pt_run.specs.Ran.{IsCount};
 
-use crate::turn::{Turn, end_told, next_turn};
+use crate::turn::{Turn, end_told, next_turn, past_limit};
 use pt_firing::{Answer, Inputs};
 use pt_node::Node;
 use pt_seq::fire_within;
@@ -53,10 +53,12 @@ fn run_within(
     ensures outline { outline_of (shown_node top.new) ≡ outline_of (shown_node top.old) }
 {
     let mut fired = 0;
+    let mut last = None;
     while *left > 0 {
-        let firing = match next_turn(alloc, job, fired)? {
+        let firing = match next_turn(alloc, job, fired, &last, top)? {
             Turn::Fire(firing) => firing,
             Turn::Ends(end) => return Ok(end_told(end)),
+            Turn::Limit => return Ok(Ended::Fault(past_limit(alloc, top, fired)?)),
         };
         match fire_within(alloc, top, firing.tag, &Inputs::of(&firing.inputs), left) {
             Answer::Done(_) => {}
@@ -66,6 +68,7 @@ fn run_within(
             Answer::Memory => return Err(AllocError),
         }
         fired += 1;
+        last = Some(firing.tag);
     }
     Ok(Ended::Spent(budget))
 }

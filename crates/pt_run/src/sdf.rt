@@ -1,7 +1,7 @@
 // What comes next at an SDF top: an iteration, which takes its tokens of each input.
 ghost use Rattle.std.specs.Prelude.{◌≡◌, ◌<◌, ◌≤◌, take, drop, ◌+◌, ◌*◌, ◌^◌, suc, length, nat_le, IfOk, true};
 ghost use Rattle.pt_meaning.specs.Schedule.{portions, suffice, sdf_top};
-ghost use Rattle.pt_run.specs.Turn.{IsNext};
+ghost use Rattle.pt_run.specs.Turn.{IsAlwaysNext};
 
 use crate::turn::{End, Firing, Turn};
 use pt_firing::Tokens;
@@ -17,7 +17,7 @@ const ORIGIN: Tag = Tag { time: 0, step: 0 };
 pub(crate) fn next_turn(alloc: Global, job: &SdfJob, made: u64) -> Result<Turn, AllocError>
     requires lists { length job.now.inputs.items ≡ length job.now.takes }
     requires number { made + 1 < 2 ^ 64 }
-    ensures { IfOk result (IsNext (sdf_top job.now.iterations job.now.takes job.now.inputs.items) made) }
+    ensures { IfOk result (IsAlwaysNext (sdf_top job.now.iterations job.now.takes job.now.inputs.items) made) }
 {
     if made >= job.iterations {
         return Ok(Turn::Ends(End::Iterations));

@@ -2,7 +2,7 @@
 ghost use Rattle.std.specs.Prelude.{◌≡◌, drop, IfOk};
 ghost use Rattle.pt_meaning.specs.Schedule.{token_or_none, tokens_at, lists_last, sr_top};
 ghost use Rattle.pt_trees.specs.Top.{ticks_of};
-ghost use Rattle.pt_run.specs.Turn.{IsNext};
+ghost use Rattle.pt_run.specs.Turn.{IsAlwaysNext};
 
 use crate::turn::{End, Firing, Turn};
 use pt_firing::Tokens;
@@ -13,7 +13,7 @@ use std::alloc::{AllocError, Global};
 
 /// What comes after so many ticks: the next one, whose time is its number, or the end where all are made or no input lasts until it.
 pub(crate) fn next_turn(alloc: Global, job: &SrJob, made: u64) -> Result<Turn, AllocError>
-    ensures { IfOk result (IsNext (sr_top job.now.iterations (ticks_of job.now.inputs.items)) made) }
+    ensures { IfOk result (IsAlwaysNext (sr_top job.now.iterations (ticks_of job.now.inputs.items)) made) }
 {
     if made >= job.iterations {
         return Ok(Turn::Ends(End::Iterations));

@@ -60,7 +60,7 @@ given-count (Some n) old X new g = g.0.count
 given-count None old X new g = ap (λ v. count_of v) g
 
 may-fire-as : (given : Option ℤ) (tag : Tag) (child : Shown) (X : Streams Token) (mid : Shown) → Given given child X mid → IsFit child → live.Takes tag child X → MayFire given tag mid X
-may-fire-as (Some n) tag child X mid g f t = tt
+may-fire-as (Some n) tag child X mid g f t = g.0.fit
 may-fire-as None tag child X mid g f t = (subst (λ v. IsFit v) (sym g) f, subst (λ v. live.Takes tag v X) (sym g) t)
 
 module _ {D : Type 0} (c : Calls D) where

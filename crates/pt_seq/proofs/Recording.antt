@@ -118,6 +118,15 @@ live-bare s t e = sym (live-of-bare s) ∙ ap (λ v. is_live v) e ∙ live-of-ba
     live-of-bare : (v : Shown) → is_live (firing.bare v) ≡ is_live v
     live-of-bare (Branch g ks) = refl
 
+pub fit-bare : (s t : Shown) → firing.bare s ≡ firing.bare t → IsFit t → IsFit s
+fit-bare s t e fit = out_of s (subst (λ v. IsFit v) (sym e) (into t fit))
+  where
+    into : (v : Shown) → IsFit v → IsFit (firing.bare v)
+    into (Branch g ks) f = f
+
+    out_of : (v : Shown) → IsFit (firing.bare v) → IsFit v
+    out_of (Branch g ks) f = f
+
 -- the path and the number of firings of a node, among its names and the definitions
 pub text-own : (s : Shown) → text_at (outline_of s) [] ≡ Some (path_of s)
 text-own (Branch g ks) = refl

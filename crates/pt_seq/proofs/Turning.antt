@@ -18,13 +18,13 @@ use Rattle.pt_node.specs.declared.body.Body.{Body}
 use Rattle.pt_node.specs.declared.body.Body.TheVariants as body
 use Rattle.pt_node.specs.Shown.{Shown, Branch}
 use Rattle.pt_node.specs.Firing as firing
-use Rattle.pt_node.specs.View.{Trees, node_of, nodes_of, node_with, kept_of, outline_of, text_at}
+use Rattle.pt_node.specs.View.{Tree, Trees, node_of, nodes_of, node_with, kept_of, outline_of, text_at}
 use Rattle.pt_node.specs.Live.{IsFit}
 use Rattle.pt_seq.specs.declared.fire.Within.TheVariants.{Done, Fault}
 use Rattle.pt_seq.specs.declared.turn.Turn.{Turn}
 use Rattle.pt_seq.specs.declared.turn.Turn.TheVariants as turn
 use Rattle.pt_seq.specs.Within.{outcome, IsLeftOff, fired, IsStuck, WithinTo, path_of, made_of}
-use Rattle.pt_seq.specs.Turns.{TurnTo, TellTo, TurnSpends, RefusesTo}
+use Rattle.pt_seq.specs.Turns.{IsTold, TurnTo, TellTo, TurnSpends, RefusesTo}
 use Rattle.pt_seq.proofs.Recording.{made-within, made-recorded, off-done, step-fires, fit-recorded, kept-bare, text-own, made-own}
 
 pub turn-off : (old after : Shown) (tag : Tag) (X Y : Streams Token) → X ≡ Y → ((m : Meets) → AreMade m (kept_of after) → IsLeftOff m (node_of old) tag X (kept_of old) (kept_of after)) → (m : Meets) → AreMade m (kept_of after) → IsLeftOff m (node_of old) tag Y (kept_of old) (kept_of after)
@@ -111,6 +111,24 @@ module _ {D : Type 0} (c : Calls D) (agree : CallsAgree c) where
         if_not : (x : Bool) → true ≡ not x → x ≡ false
         if_not true q = absurd (cc)
         if_not false q = refl
+
+  -- the same of one that was told with the wake and the need that the child has once its firing is recorded
+  module _ (s t : D) (mid : Shown) (i : ℕ) (out : Streams Token) (a : c.asked_of s ≡ Some i) (e : IsTold c s mid i out t) where
+    -- whatever the tag
+    abbrev some-tag : Tag
+    some-tag = record { time = 0; step = 0 }
+
+    abbrev then-is : Tree
+    then-is = node_of (firing.recorded some-tag mid)
+
+    pub may-ask-if-told : c.MayAsk t
+    may-ask-if-told = may-ask-once-told s t i out (next_of rows then-is) (need_of rows then-is) a (e some-tag)
+
+    pub accepted-if-told : (b : Bool) → b ≡ c.is_wrong t → b ≡ false → c.accepts s i out ≡ true
+    accepted-if-told b w h = accepted-so s t i out (next_of rows then-is) (need_of rows then-is) a (e some-tag) b w h
+
+    pub refused-if-told : (b : Bool) → b ≡ c.is_wrong t → b ≡ true → c.accepts s i out ≡ false
+    refused-if-told b w h = refused-so s t i out (next_of rows then-is) (need_of rows then-is) a (e some-tag) b w h
 
 -- the wake that a child has once its firing is recorded, whatever was noted of it
 recorded-noted : (tag : Tag) (out : Streams Token) (s : Shown) → node_of (firing.recorded tag (firing.noted tag out s)) ≡ node_of (firing.recorded tag s)

@@ -24,6 +24,10 @@ use Rattle.pt_seq.specs.declared.numbers.Quick.TheVariants as quick
 use Rattle.pt_seq.specs.Within.{outcome, IsLeftOff, IsStuck, Given, path_of, made_of}
 
 module _ {D : Type 0} (c : Calls D) where
+  -- it was told what child i gave, with the wake and the need that the child has once its firing is recorded, at whatever tag
+  abbrev pub IsTold : D → Shown → ℕ → Streams Token → D → Type 0
+  IsTold s child i out s' = (tag : Tag) → let after = node_of (recorded tag child) in s' ≡ c.told i out (next_of rows after) (need_of rows after) s
+
   -- child i, that was asked for, has fired and its firing is recorded: the director was told what it gave and which wake and need it has then, and accepts that
   pub record ChildFired (s : D) (child : Shown) (i : ℕ) (tag : Tag) (s' : D) (after : Shown) : Type 0 where
     pub out : Streams Token
@@ -85,7 +89,7 @@ RefusesTo child kind (turn.Fault place) = (place.path ≡ path_of child) × (pla
 RefusesTo child kind turn.Spent = ⊥
 RefusesTo child kind turn.Memory = Unit {0}
 
--- a child that fires now fits, and takes these inputs
+-- a child whose turn it is fits, and takes these inputs if it fires now
 abbrev pub MayFire : Option ℤ → Tag → Shown → Streams Token → Type 0
-MayFire (Some n) tag child X = Unit {0}
+MayFire (Some n) tag child X = IsFit child
 MayFire None tag child X = IsFit child × Takes tag child X

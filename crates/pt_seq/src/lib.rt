@@ -7,6 +7,7 @@ mod numbers;
 mod pause;
 mod sdf;
 mod sr;
+mod tokens;
 mod turn;
 
 pub use fire::{fire_seq, fire_within};

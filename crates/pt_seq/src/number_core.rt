@@ -25,7 +25,7 @@ pub(crate) trait NumberCore: Sized {
     fn gives_several(&self, child: u32) -> bool
         requires { director_calls.asked_of (director self.now) ≡ Some child };
 
-    /// Takes the integer that the child gave as the one token on its one port, which is accepted, whichever wake and need the child has then. `false` says that nothing was done.
+    /// Takes the integer that the child gave as the one token on its one port, which is accepted, whichever wake and need the child has then: so a core that keeps these takes none. `false` says that nothing was done.
     fn told_number(&mut self, child: u32, number: i64) -> bool
         requires asked { director_calls.asked_of (director self.old) ≡ Some child }
         ensures told { (wake : Option basics.Tag) (need : machine.Need) → director self.new ≡ (if result then director_calls.told child ((Int number ∷ []) ∷ []) wake need (director self.old) else director self.old) }

@@ -1,6 +1,5 @@
 ghost use Rattle.std.specs.Prelude.{◌≡◌, ◌+◌, ◌<◌, ◌≤◌, ◌∷◌, [], List, ℕ, Option, Some, IsSome, IfSome, OnOk, map};
 ghost use Rattle.pt_meaning.specs.Basics as basics;
-ghost use Rattle.pt_meaning.specs.Machine as machine;
 ghost use Rattle.pt_value.specs.declared.token.Token.{Token};
 ghost use Rattle.pt_value.specs.declared.token.Token.TheVariants.{Int};
 ghost use Rattle.pt_directors.specs.Directors as directors;
@@ -11,10 +10,11 @@ ghost use Rattle.pt_node.specs.Shown.{Shown, shown, shown_node};
 ghost use Rattle.pt_node.specs.View.{outline_of, count_of};
 ghost use Rattle.pt_node.specs.Live.{IsFit};
 ghost use Rattle.pt_seq.specs.Within.{NumberTo, SeveralTo};
-ghost use Rattle.pt_seq.specs.Turns.{TurnSpends, TellTo, QuickTo, QuickSpends};
+ghost use Rattle.pt_seq.specs.Turns.{TurnSpends, IsTold, TellTo, QuickTo, QuickSpends};
 ghost use Rattle.pt_seq.specs.Between.{At, IsUnderWay, Rested};
 
 use crate::number_core::NumberCore;
+use crate::tokens::tell_tokens;
 use crate::turn::{Turn, refuse};
 use pt_core::{Core, Either};
 use pt_directors::Director;
@@ -172,24 +172,28 @@ fn int_inputs<'a>(director: &'a Director, row: &'a mut Vec<i64>) -> Option<IntIn
 {
     match director {
         Either::First(core) => NumberCore::int_inputs(core, row),
-        Either::Other(core) => NumberCore::int_inputs(core, row),
+        Either::Other(Either::First(core)) => NumberCore::int_inputs(core, row),
+        Either::Other(Either::Other(_)) => None,
     }
 }
 
-/// Tells a director the integers that the child gave as the tokens on its one port, whichever wake and need the child has then.
+/// Tells a director the integers that the child gave as the tokens on its one port, with the wake and the need that the child has once its firing is recorded. To SDF and SR these say nothing, so the child isn't asked for them there.
 #[inline(always)]
 fn told_numbers(
     alloc: Global,
     director: &mut Director,
-    child: u32,
+    child: &Node,
+    number: u32,
     numbers: &[i64],
 ) -> Result<(), AllocError>
-    requires asked { director_calls.asked_of director.old ≡ Some child }
-    ensures told { OnOk result ((wake : Option basics.Tag) (need : machine.Need) → director.new ≡ director_calls.told child (map Int numbers.now ∷ []) wake need director.old) }
+    requires asked { director_calls.asked_of director.old ≡ Some number }
+    requires fit { IsFit (shown_node child.now) }
+    ensures told { OnOk result (IsTold director_calls director.old (shown_node child.now) number (map Int numbers.now ∷ []) director.new) }
 {
     match director {
-        Either::First(core) => core.told_numbers(alloc, child, numbers),
-        Either::Other(core) => core.told_numbers(alloc, child, numbers),
+        Either::First(core) => core.told_numbers(alloc, number, numbers),
+        Either::Other(Either::First(core)) => core.told_numbers(alloc, number, numbers),
+        Either::Other(Either::Other(core)) => tell_tokens(alloc, core, child, number, numbers),
     }
 }
 
@@ -206,6 +210,7 @@ pub(crate) fn tell_numbers(
 ) -> Turn
     requires asked { director_calls.asked_of director.old ≡ Some number }
     requires left { 0 < left.old }
+    requires fit { IsFit (shown_node child.old) }
     ensures goes { TellTo director_calls director.old (shown_node child.old) number tag (map Int given.now ∷ []) result director.new (shown_node child.new) }
     ensures spends { TurnSpends result left.old left.new }
     ensures lowered { left.new ≤ left.old }
@@ -216,7 +221,7 @@ pub(crate) fn tell_numbers(
         return Turn::Memory;
     }
     let refusal = director.refusal();
-    if told_numbers(alloc, director, number, given).is_err() {
+    if told_numbers(alloc, director, child, number, given).is_err() {
         return Turn::Memory;
     }
     if director.is_wrong() {

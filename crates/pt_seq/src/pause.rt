@@ -53,7 +53,7 @@ pub(crate) fn next(
     }
 }
 
-/// Makes firings of numbers alone, by the core of the director.
+/// Makes firings of numbers alone, by the core of the director. One that knows no numbers is only asked.
 #[inline(always)]
 fn fire_row(
     director: &mut Director,
@@ -67,7 +67,8 @@ fn fire_row(
 {
     match director {
         Either::First(core) => fire_numbers(core, children, left, row),
-        Either::Other(core) => fire_numbers(core, children, left, row),
+        Either::Other(Either::First(core)) => fire_numbers(core, children, left, row),
+        Either::Other(Either::Other(core)) => Rest::Asked(core.ask()),
     }
 }
 

@@ -1,11 +1,11 @@
-ghost use Rattle.pt_core.specs.declared.either.Either.TheVariants.{Other};
+ghost use Rattle.pt_core.specs.declared.either.Either.TheVariants.{First, Other};
 
 use crate::number_core::NumberCore;
 use pt_firing::{Ask, IntInputs};
 use pt_sr::Core;
 
 impl NumberCore for Core {
-    ghost director = { Other };
+    ghost director = { λ s. Other (First s) };
 
     #[inline(always)]
     fn ask(&mut self) -> Ask {

@@ -37,6 +37,8 @@ same-report net top e count r counted traces meetings end =
 told-answers : (f : Form) (net : Net) (budget : ℕ) (e : Ended) (s : Status) (text : List ℕ) → s ≡ status_of e → IsReport f net budget s text → AnswersNet f net budget s text
 told-answers f net budget ended.Iterations s text e r = subst (λ x. AnswersNet f net budget x text) (sym e) (subst (λ x. IsReport f net budget x text) e r)
 told-answers f net budget ended.Inputs s text e r = subst (λ x. AnswersNet f net budget x text) (sym e) (subst (λ x. IsReport f net budget x text) e r)
+told-answers f net budget ended.Stop s text e r = subst (λ x. AnswersNet f net budget x text) (sym e) (subst (λ x. IsReport f net budget x text) e r)
+told-answers f net budget ended.Idle s text e r = subst (λ x. AnswersNet f net budget x text) (sym e) (subst (λ x. IsReport f net budget x text) e r)
 told-answers f net budget (ended.Fault place) s text e r = subst (λ x. AnswersNet f net budget x text) (sym e) (subst (λ x. IsReport f net budget x text) e r)
 told-answers f net budget (ended.Spent n) s text e r = subst (λ x. AnswersNet f net budget x text) (sym e) (subst (λ x. IsReport f net budget x text) e r)
 

@@ -36,6 +36,8 @@ refusal_text r = codes "refused " ++ (decimal (code_number r.code) ++ (codes " "
 abbrev pub status_of : Ended → Status
 status_of ended.Iterations = Done
 status_of ended.Inputs = Done
+status_of ended.Stop = Done
+status_of ended.Idle = Done
 status_of (ended.Fault place) = Fault
 status_of (ended.Spent firings) = Budget
 

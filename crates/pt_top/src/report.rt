@@ -52,6 +52,8 @@ fn status_of(ended: &Ended) -> Status
     match ended {
         Ended::Iterations => Status::Done,
         Ended::Inputs => Status::Done,
+        Ended::Stop => Status::Done,
+        Ended::Idle => Status::Done,
         Ended::Fault(_) => Status::Fault,
         Ended::Spent(_) => Status::Budget,
     }

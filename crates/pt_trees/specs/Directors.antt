@@ -6,6 +6,7 @@ use Rattle.pt_document.specs.Classes.{DirectorClass, director_row}
 use Rattle.pt_net.specs.declared.net.NetDirector.{NetDirector}
 use Rattle.pt_net.specs.declared.net.NetEntity.{NetEntity}
 use Rattle.pt_trees.specs.Composing.{Composing, unbuilt}
+use Rattle.pt_trees.specs.De.{de}
 use Rattle.pt_trees.specs.Sdf.{sdf}
 use Rattle.pt_trees.specs.Sr.{sr}
 
@@ -25,6 +26,6 @@ IsDirectedBy e director = director_of e ≡ Some director
 abbrev pub composing : Director → Composing
 composing Sdf = sdf
 composing Sr = sr
-composing De = unbuilt
+composing De = de
 composing Pn = unbuilt
 composing Rendezvous = unbuilt

@@ -3,6 +3,7 @@ pub mod Around
 pub mod Composing
 pub mod Sdf
 pub mod Sr
+pub mod De
 pub mod Directors
 pub mod Fresh
 pub mod Composite

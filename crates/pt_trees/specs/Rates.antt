@@ -14,7 +14,7 @@ use Rattle.pt_node.specs.View.{Tree}
 abbrev pub tick_gives : TickPlan → List ℕ
 tick_gives p = replicate (length p.net.sources - total p.net.places) 1
 
--- A composite of SDF gives what its plan says for an iteration. Under SDF one of SR is to give a token on each own output. Composites of the other directors aren't built.
+-- A composite of SDF gives what its plan says for an iteration. Under SDF one of SR is to give a token on each own output. What one of another director gives varies.
 abbrev pub core_rates : tree.Core Token → Option (List ℕ)
 core_rates (tree.Sdf p X) = Some p.gives
 core_rates (tree.Pn p X) = None

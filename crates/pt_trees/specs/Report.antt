@@ -7,5 +7,7 @@ use Rattle.pt_trees.specs.declared.ended.Ended.TheVariants as ended
 abbrev pub end_of : Ended → RunEnd
 end_of ended.Iterations = ends.Iterations
 end_of ended.Inputs = ends.Inputs
+end_of ended.Stop = ends.Stop
+end_of ended.Idle = ends.Idle
 end_of (ended.Fault place) = ends.Fault place
 end_of (ended.Spent firings) = ends.Budget firings

@@ -40,6 +40,8 @@ Reports m j budget count old new e = IsReportOf rows m (schedule j) (node_of old
 abbrev pub IsRun : Meets → Top → (budget : ℕ) → (old new : Shown) → Ended → Type 0
 IsRun m j budget old new ended.Iterations = (count : ℕ) → Reports m j budget count old new (Defined job.Iterations)
 IsRun m j budget old new ended.Inputs = (count : ℕ) → Reports m j budget count old new (Defined job.Inputs)
+IsRun m j budget old new ended.Stop = (count : ℕ) → Reports m j budget count old new (Defined job.Stop)
+IsRun m j budget old new ended.Idle = (count : ℕ) → Reports m j budget count old new (Defined job.Idle)
 IsRun m j budget old new (ended.Fault place) = (p : Path) × (text_at (outline_of old) p ≡ Some place.path) × ((count : ℕ) → Reports m j budget count old new (Faulty (fault_of p place)))
 IsRun m j budget old new (ended.Spent firings) = (count : ℕ) → Reports m j budget count old new (Spent firings)
 
@@ -47,6 +49,8 @@ IsRun m j budget old new (ended.Spent firings) = (count : ℕ) → Reports m j b
 abbrev pub IsDefined : Ended → Type 0
 IsDefined ended.Iterations = Unit {0}
 IsDefined ended.Inputs = Unit {0}
+IsDefined ended.Stop = Unit {0}
+IsDefined ended.Idle = Unit {0}
 IsDefined (ended.Fault place) = ⊥
 IsDefined (ended.Spent firings) = ⊥
 

@@ -7,6 +7,10 @@ pub enum Ended {
     Iterations,
     /// An input has fewer tokens left than an iteration takes.
     Inputs,
+    /// The next firing is past the stop time.
+    Stop,
+    /// Nothing is due any more.
+    Idle,
     /// A place is stuck.
     Fault(Place),
     /// So many firings were made, at least as many as the budget allows.

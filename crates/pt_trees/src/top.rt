@@ -1,4 +1,5 @@
 use pt_firing::{Counts, Tokens};
+use pt_time::Tag;
 use pt_value::Token;
 
 /// What a job asks of an SDF top: how many iterations, and the tokens of each own input, of which an iteration takes so many.
@@ -16,9 +17,18 @@ pub struct SrJob {
     pub inputs: Vec<Vec<Option<Token>>>,
 }
 
+/// What a job asks of a DE top: the last time at which it fires, if there is one, and for each own input its events, in order of
+/// their tags.
+#[derive(Drop)]
+pub struct DeJob {
+    pub stop: Option<u64>,
+    pub inputs: Vec<Vec<(Tag, Token)>>,
+}
+
 /// What a job asks of its top, by the director of the top.
 #[derive(Drop)]
 pub enum Top {
     Sdf(SdfJob),
     Sr(SrJob),
+    De(DeJob),
 }

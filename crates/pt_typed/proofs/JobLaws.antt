@@ -4,15 +4,17 @@ use Rattle.std.proofs.lemmas.List.{length-map}
 use Rattle.std.specs.List.{AllByRecursion}
 use Rattle.pt_meaning.specs.Basics.{Tag, Streams}
 use Rattle.pt_meaning.specs.Tag.{origin}
-use Rattle.pt_meaning.specs.Schedule.{portions, suffice, if_more, token_or_none, tokens_at, lists_last}
+use Rattle.pt_meaning.specs.Schedule.{portions, suffice, if_more, token_or_none, tokens_at, lists_last, first_event, is_tag, listed, event_at, events_at, Due, Never, At, Past, due_after, lesser, in_time, fire_until, de_turn_at}
+use Rattle.pt_meaning.specs.NodeFacts.{next_of}
 use Rattle.pt_meaning.specs.Job.{Fire}
 use Rattle.pt_value.specs.declared.token.Token.{Token}
+use Rattle.pt_agenda.specs.Events.{Event, tokens_in, events_of}
 use Rattle.pt_datatypes.specs.Datatype.{Datatype}
 use Rattle.pt_datatypes.specs.Order.{IsBelow}
 use Rattle.pt_library.specs.declared.library_actor.LibraryActor.{LibraryActor}
 use Rattle.pt_library.specs.LibraryActor.{rows}
 use Rattle.pt_trees.specs.declared.top.Top.{Top}
-use Rattle.pt_trees.specs.declared.top.Top.TheVariants.{Sdf, Sr}
+use Rattle.pt_trees.specs.declared.top.Top.TheVariants.{Sdf, Sr, De}
 use Rattle.pt_trees.specs.Top.{ticks_of, supply_of, IsWhole}
 use Rattle.pt_trees.specs.Run.{schedule}
 use Rattle.pt_kinds.specs.Signature.{Signatures, AreOf, AreAllOf}
@@ -75,6 +77,35 @@ tokens-length : (n : ℕ) (X : List (List (Option Token))) → length (tokens_at
 tokens-length n [] = refl
 tokens-length n (xs ∷ X) = ap (λ v. suc v) (tokens-length n X)
 
+-- ---- events
+
+event-of : (t : Datatype) (tag : Tag) (es : List Event) → AllByRecursion (IsTokenOf t) (present (tokens_in es)) → AllByRecursion (IsTokenOf t) (event_at tag es)
+event-of t tag [] a = tt
+event-of t tag ((s, x) ∷ es) a = by-test (is_tag s tag) (event-of t tag es a.1)
+  where
+    by-test : (b : Bool) → AllByRecursion (IsTokenOf t) (event_at tag es) → AllByRecursion (IsTokenOf t) (listed b x (event_at tag es))
+    by-test true rest = (a.0, rest)
+    by-test false rest = rest
+
+events-of : (ts : List Datatype) (tag : Tag) (E : List (List Event)) → AreOf IsTokenOf ts (map present (map tokens_in E)) → AreOf IsTokenOf ts (events_at tag E)
+events-of ts tag [] a = tt
+events-of [] tag (es ∷ E) a = absurd a
+events-of (t ∷ ts) tag (es ∷ E) a = (event-of t tag es a.0, events-of ts tag E a.1)
+
+events-length : (tag : Tag) (E : List (List Event)) → length (events_at tag E) ≡ length (map present (map tokens_in E))
+events-length tag [] = refl
+events-length tag (es ∷ E) = ap (λ v. suc v) (events-length tag E)
+
+-- a turn that is due and fires
+due-of : (ts : List Datatype) (stop : Option ℕ) (E : List (List Event)) (due : Due) (tag : Tag) (X : Streams Token) → AreAllOf IsTokenOf ts (map present (map tokens_in E)) → de_turn_at stop E due ≡ Fire tag X → AreAllOf IsTokenOf ts X
+due-of ts stop E Never tag X a e = absurd (cc)
+due-of ts stop E Past tag X a e = absurd (cc)
+due-of ts stop E (At t) tag X a e = by-time (in_time stop t) e
+  where
+    by-time : (b : Bool) → fire_until b t (events_at t E) ≡ Fire tag X → AreAllOf IsTokenOf ts X
+    by-time true g = let same : events_at t E ≡ X = cc in subst (λ v. AreAllOf IsTokenOf ts v) same (events-length t E ∙ a.0, events-of ts t E a.1)
+    by-time false g = absurd (cc)
+
 -- ---- a job
 
 turns-typed : (sigs : Signatures Datatype) (j : Top) → IsWhole j → AreAllOf IsTokenOf (sigs []).places (map present (supply_of j)) → AreTypedTurns {A = LibraryActor} IsTokenOf IsBelow IsTypedActor rows sigs (schedule j)
@@ -87,6 +118,9 @@ turns-typed sigs (Sr j) whole a n last top tag X h =
     let ts = (sigs []).places in
     let Y = ticks_of j.inputs.items in
     turn-of ts (nat_lt n j.iterations) (lists_last n Y) (record { time = n; step = 0 }) tag (tokens_at n Y) X h (tokens-length n Y ∙ sym (length-map Y present) ∙ a.0, tokens-of ts n Y a.1)
+turns-typed sigs (De j) whole a n last top tag X h =
+    let E : List (List Event) = events_of j.inputs.items in
+    due-of (sigs []).places j.stop E (lesser (first_event last E) (due_after (next_of rows top) last)) tag X a h
 
 pub nets-keep-types : NetsKeepTypes
 nets-keep-types net typing starts top wired up meet is j whole a m k =

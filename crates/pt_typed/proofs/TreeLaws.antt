@@ -1,5 +1,5 @@
 -- The tree of a net is typed by the types of the net.
-use Rattle.std.proofs.Common.{◌≡◌, ℕ, zero, suc, ◌+◌, ◌*◌, ◌<◌, ◌≤◌, List, [], ◌∷◌, ◌++◌, Bool, true, false, length, map, drop, nat_lt, Option, Some, None, refl, sym, ap, ap₂, subst, arith, ◌∙◌, length-append, append-nil, slice_get, if◌then◌else◌}
+use Rattle.std.proofs.Common.{◌≡◌, ℕ, zero, suc, ◌+◌, ◌<◌, ◌≤◌, List, [], ◌∷◌, ◌++◌, Bool, true, false, length, map, drop, Option, Some, None, refl, sym, ap, ap₂, subst, arith, ◌∙◌, length-append, append-nil, slice_get, if◌then◌else◌}
 use Rattle.std.proofs.lemmas.List.{length-map}
 use Rattle.std.proofs.lemmas.List.Sums.{length-filter}
 use Rattle.std.proofs.lemmas.List.Elements.{recursion_from_All}
@@ -7,7 +7,6 @@ use Rattle.std.proofs.lemmas.Option.{same_Some}
 use Rattle.std.proofs.lemmas.Bool.{eqb-true}
 use Rattle.std.specs.Prelude.{filter, count_by}
 use Rattle.std.specs.List.{AllByRecursion, Contains}
-use Rattle.pt_meaning.specs.Basics.{Streams}
 use Rattle.pt_meaning.specs.Streams.{get}
 use Rattle.pt_meaning.specs.Net.{Source, Own, Output}
 use Rattle.pt_meaning.specs.Running.{total}
@@ -42,7 +41,7 @@ use Rattle.pt_trees.specs.Directors.{composing}
 use Rattle.pt_trees.specs.Rates.{rates_of}
 use Rattle.pt_trees.specs.Trees.{Starts, StartsAs, around_in, IsTree, of_actor, of_composite, AreTrees, no_trees, more_trees}
 use Rattle.pt_trees.proofs.DirectorLaws.{is-directed}
-use Rattle.pt_kinds.specs.Signature.{Signatures, AreOf, AreAllOf}
+use Rattle.pt_kinds.specs.Signature.{Signatures, AreOf}
 use Rattle.pt_typed.specs.TokenTypes.{IsTokenOf}
 use Rattle.pt_typed.specs.TypedActor.{MeetsRow, IsTypedActor}
 use Rattle.pt_kinds.specs.TypedTree.{kind_of, kinds_from, kind_before, kinds_at, kinds_in, AreSized, AreFed, IsTypedNet, IsTypedSdf, IsTypedCore, IsTypedNode, AreTypedNodes}
@@ -226,7 +225,7 @@ module _ (net : Net) (typing : Assignment) (starts : Starts) (wired : IsWired ne
     core-typed : (by : Director) (c : Core Token) → (composing by).IsCore (around_in net k e) kids c → IsTypedCore {A = LibraryActor} IsTokenOf IsBelow IsTypedActor sigs (length (list_of (nodes_of kids))) c
     core-typed Sdf c has = subst (λ v. IsTypedCore {A = LibraryActor} IsTokenOf IsBelow IsTypedActor sigs (length (list_of (nodes_of kids))) v) (sym has.is) (sdf-typed has.inside has.plan has.is_inside has.planned)
     core-typed Sr c has = subst (λ v. IsTypedCore {A = LibraryActor} IsTokenOf IsBelow IsTypedActor sigs (length (list_of (nodes_of kids))) v) (sym has.is) tick-typed
-    core-typed De c has = absurd has
+    core-typed De c has = subst (λ v. IsTypedCore {A = LibraryActor} IsTokenOf IsBelow IsTypedActor sigs (length (list_of (nodes_of kids))) v) (sym has.is) tick-typed
     core-typed Pn c has = absurd has
     core-typed Rendezvous c has = absurd has
 

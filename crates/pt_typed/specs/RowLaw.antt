@@ -1,5 +1,5 @@
 -- The typing of a net meets the rows of the actors that its entities start as.
-use Rattle.std.specs.Prelude.{◌≡◌, ℕ, [], length, true, Some, None, slice_get}
+use Rattle.std.specs.Prelude.{◌≡◌, ℕ, [], true, Some, None, slice_get}
 use Rattle.pt_meaning.specs.Meetings.{Meets}
 use Rattle.pt_meaning.specs.Job.{meaning}
 use Rattle.pt_net.specs.declared.net.Net.{Net}

@@ -1,10 +1,12 @@
 use crate::lists::each_plain;
 use crate::numbers::{named, part, size, small};
 use crate::plans::source;
+use crate::tags;
 use pt_de_plan::{DeInside, plan};
 use pt_events::DepthFault;
 use pt_firing::Counts;
 use pt_table::Answer;
+use pt_time::Tag;
 use std::alloc::{AllocError, Global};
 
 /// Answers the question for the depths of an inside, which is written by its lists.
@@ -35,7 +37,33 @@ fn so_many<T: Copy + Drop>(alloc: Global, value: T, count: usize, out: &mut Answ
     out.or(vec![in alloc; value; count], Vec::new(alloc))
 }
 
-fn inside(alloc: Global, written: &str, out: &mut Answer) -> DeInside {
+/// A wake, or a dash for none.
+fn wake(word: &str) -> Option<Tag> {
+    match word {
+        "-" => None,
+        _ => Some(tags::tag(word)),
+    }
+}
+
+/// Which children take their lists whole; none where nothing is said.
+fn whole(alloc: Global, written: &str, children: usize, out: &mut Answer) -> Vec<bool> {
+    if written.is_empty() {
+        so_many(alloc, false, children, out)
+    } else {
+        flags(alloc, written, out)
+    }
+}
+
+/// The wake of each child; none where nothing is said.
+fn starts(alloc: Global, written: &str, children: usize, out: &mut Answer) -> Vec<Option<Tag>> {
+    if written.is_empty() {
+        so_many(alloc, None, children, out)
+    } else {
+        out.or(each_plain(alloc, written, " ", wake), Vec::new(alloc))
+    }
+}
+
+pub fn inside(alloc: Global, written: &str, out: &mut Answer) -> DeInside {
     let sources = each_plain(alloc, part(written, "sources"), " ", source);
     let places = out.or(
         read_counts(alloc, part(written, "places")),
@@ -48,8 +76,8 @@ fn inside(alloc: Global, written: &str, out: &mut Answer) -> DeInside {
         inputs: small(part(written, "inputs")),
         delayed: flags(alloc, part(written, "delayed"), out),
         early: flags(alloc, part(written, "early"), out),
-        whole: so_many(alloc, false, children, out),
-        starts: so_many(alloc, None, children, out),
+        whole: whole(alloc, part(written, "whole"), children, out),
+        starts: starts(alloc, part(written, "starts"), children, out),
     }
 }
 

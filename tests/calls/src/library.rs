@@ -28,7 +28,7 @@ pub fn params(alloc: Global, written: &str, out: &mut Answer) -> Result<Params, 
 }
 
 /// The tokens of a place; `-` is none.
-fn place(alloc: Global, written: &str) -> Result<Tokens, AllocError> {
+pub fn place(alloc: Global, written: &str) -> Result<Tokens, AllocError> {
     read_tokens(alloc, if written.trim() == "-" { "" } else { written })
 }
 

@@ -1,5 +1,6 @@
 //! Compares what calls of the crates answer with what was worked by hand, and tells the rows that differ.
 
+mod de_cores;
 mod de_plans;
 mod evaluation;
 mod expression_types;
@@ -48,6 +49,7 @@ impl Answers for Questions {
             "rates.txt" => rates::answer(alloc, section, question, out),
             "plans.txt" => plans::answer(alloc, section, question, out),
             "de_plans.txt" => de_plans::answer(alloc, section, question, out),
+            "de_cores.txt" => de_cores::answer(alloc, section, question, out),
             "receivers.txt" => receivers::answer(alloc, section, question, out),
             "tags.txt" => tags::answer(alloc, section, question, out),
             "firing.txt" => firing::answer(alloc, section, question, out),

@@ -13,3 +13,7 @@ returns-in-Sdf-clause-node c =
 pub returns-in-Sr-clause-node : goal.returns-in-Sr-clause-node
 returns-in-Sr-clause-node c =
     subst (λ (d : Director). IfOk c.sr_composite.result (λ node. IsComposite d (around_of c.args.wiring) (map shown c.args.children.items) c.args.path c.args.records (shown_node node))) (sym c.in-Sr.is) c.sr_composite.ensures.node
+
+pub returns-in-De-clause-node : goal.returns-in-De-clause-node
+returns-in-De-clause-node c =
+    subst (λ (d : Director). IfOk c.de_composite.result (λ node. IsComposite d (around_of c.args.wiring) (map shown c.args.children.items) c.args.path c.args.records (shown_node node))) (sym c.in-De.is) c.de_composite.ensures.node

@@ -3,7 +3,7 @@ use Rattle.pt_node.specs.declared.node.Node.{Node}
 use Rattle.pt_node.specs.Shown.{shown_node}
 use Rattle.pt_node.specs.View.{node_of}
 use Rattle.pt_composite.specs.Needs.{IsAdded}
-use Rattle.pt_composite.proofs.NodeLaws.{needs-step, needs-none, needs-counted}
+use Rattle.pt_composite.proofs.NeedSteps.{needs-step, needs-none, needs-counted}
 use Rattle.pt_composite.proofs.needs.needs_of.Goals as goal
 
 pub returns-then-children-places : goal.returns-then-children-places

@@ -1,7 +1,7 @@
 use Rattle.std.proofs.Common.{◌∙◌, ◌+◌, sym, subst, take}
 use Rattle.pt_trees.specs.Rates.{HaveRates}
 use Rattle.pt_composite.proofs.LoopLaws.{rates-more, rates-none, started-at}
-use Rattle.pt_composite.proofs.NodeLaws.{trees}
+use Rattle.pt_trees.proofs.NodeLaws.{trees}
 use Rattle.pt_composite.proofs.rates.rates_of.Goals as goal
 
 pub node_rates-requires : goal.node_rates-requires

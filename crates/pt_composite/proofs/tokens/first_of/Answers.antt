@@ -7,7 +7,7 @@ use Rattle.pt_node.specs.declared.node.Node.{Node}
 use Rattle.pt_library.specs.LibraryActor.{rows}
 use Rattle.pt_node.specs.Shown.{shown}
 use Rattle.pt_node.specs.View.{Tree, node_of}
-use Rattle.pt_composite.proofs.NodeLaws.{trees, tree-at, get-past, get-none}
+use Rattle.pt_trees.proofs.NodeLaws.{trees, tree-at, get-past, get-none}
 use Rattle.pt_composite.proofs.tokens.first_of.Goals as goal
 
 pub returns-in-Some : goal.returns-in-Some

@@ -1,5 +1,5 @@
 use Rattle.std.proofs.Common.{◌∙◌}
-use Rattle.pt_de_inside.specs.De.{answers_early}
+use Rattle.pt_trees.specs.De.{answers_early}
 use Rattle.pt_de_inside.proofs.StepLaws.{told-more}
 use Rattle.pt_de_inside.proofs.children.early_of.Goals as goal
 

@@ -1,7 +1,7 @@
 use Rattle.std.proofs.Common.{◌≡◌, take, map}
 use Rattle.pt_node.specs.Shown.{shown}
 use Rattle.pt_trees.specs.Composite.{trees_of}
-use Rattle.pt_de_inside.specs.De.{answers_early}
+use Rattle.pt_trees.specs.De.{answers_early}
 use Rattle.pt_de_inside.proofs.children.early_of.Given as goal
 
 abbrev pub invariant-loop-child : goal.invariant-loop-child

@@ -4,7 +4,7 @@ use Rattle.pt_node.specs.Shown.{shown}
 use Rattle.pt_node.specs.View.{Tree}
 use Rattle.pt_trees.specs.Around.{around_of}
 use Rattle.pt_trees.specs.Composite.{trees_of}
-use Rattle.pt_composite.proofs.NodeLaws.{trees-length}
+use Rattle.pt_trees.proofs.NodeLaws.{trees-length}
 use Rattle.pt_de_inside.proofs.FormLaws.{entries, formed}
 use Rattle.pt_de_inside.proofs.inside.inside_of.Goals as goal
 

@@ -2,8 +2,8 @@ use Rattle.std.proofs.Common.{◌≡◌, ◌↔◌, true, List, refl, sym, subst
 use Rattle.pt_core.specs.declared.source.Source.{Source}
 use Rattle.pt_core.specs.Source.{source_of}
 use Rattle.pt_node.specs.declared.node.Node.{Node}
-use Rattle.pt_de_inside.specs.De.{BeginsAtOutput}
-use Rattle.pt_composite.proofs.NodeLaws.{trees}
+use Rattle.pt_trees.specs.De.{BeginsAtOutput}
+use Rattle.pt_trees.proofs.NodeLaws.{trees}
 use Rattle.pt_de_inside.proofs.OutputLaws.{at-child, at-none}
 use Rattle.pt_de_inside.proofs.outputs.begins_at_output.Goals as goal
 

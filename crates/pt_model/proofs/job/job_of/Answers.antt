@@ -1,16 +1,29 @@
 use Rattle.std.proofs.Common.{sym, ap, ◌∙◌}
 use Rattle.pt_typing.specs.Least.{assignment}
+use Rattle.pt_core.specs.declared.either.Either.TheVariants.{Other}
 use Rattle.pt_node.specs.declared.body.Body.TheVariants.{Composite}
 use Rattle.pt_node.specs.Shown.{shown_node}
-use Rattle.pt_model.proofs.TopLaws.{top-core, top-directs, sdf-top, sdf-fits, sr-fits}
-use Rattle.pt_model.proofs.UnbuiltLaws.{top-iterates}
+use Rattle.pt_model.proofs.TopLaws.{top-core, top-directs, sdf-iterates, sr-iterates, de-timed, sdf-top, sdf-fits, sr-fits, de-fits}
 use Rattle.pt_model.proofs.job.job_of.Goals as goal
 
--- a top that is built has a number of iterations
-pub unreachable-requires : goal.unreachable-requires
-unreachable-requires c =
+-- a top of SDF or SR has a number of iterations or ticks
+pub sdf_job-requires-clause-iterates : goal.sdf_job-requires-clause-iterates
+sdf_job-requires-clause-iterates c =
     let s = c.args.started.now in
-    top-iterates c.args.net.now s.values (assignment s.typing) s.starts.items (shown_node c.args.top.now) c.requires.document c.requires.started c.requires.built (sym c.in_default.ensures)
+    sdf-iterates c.args.net.now s.values (shown_node c.args.top.now) c.requires.document c.requires.started.resolved.valued (top-core c.args.net.now s.values s.starts.items (shown_node c.args.top.now) c.requires.started.placed c.requires.built) c.in-First.core (c.director_of.ensures ∙ ap Composite c.in-First.is)
+
+pub sr_job-requires-clause-iterates : goal.sr_job-requires-clause-iterates
+sr_job-requires-clause-iterates c =
+    let s = c.args.started.now in
+    sr-iterates c.args.net.now s.values (shown_node c.args.top.now) c.requires.document c.requires.started.resolved.valued (top-core c.args.net.now s.values s.starts.items (shown_node c.args.top.now) c.requires.started.placed c.requires.built) c.in-First-other.field-0
+    (c.director_of.ensures ∙ ap Composite (c.in-Other.is ∙ ap (λ v. Other v) c.in-First-other.is))
+
+-- a top of DE is timed
+pub de_job-requires-clause-timed : goal.de_job-requires-clause-timed
+de_job-requires-clause-timed c =
+    let s = c.args.started.now in
+    de-timed c.args.net.now (shown_node c.args.top.now) (top-core c.args.net.now s.values s.starts.items (shown_node c.args.top.now) c.requires.started.placed c.requires.built) c.in-Other-other.field-0
+    (c.director_of.ensures ∙ ap Composite (c.in-Other.is ∙ ap (λ v. Other v) c.in-Other-other.is))
 
 pub director_of-requires : goal.director_of-requires
 director_of-requires c =
@@ -26,9 +39,16 @@ pub returns-in_ok-job-in-First-clause-fits : goal.returns-in_ok-job-in-First-cla
 returns-in_ok-job-in-First-clause-fits c =
     let s = c.args.started.now in
     sdf-fits c.args.net.now s.values (shown_node c.args.top.now) (top-core c.args.net.now s.values s.starts.items (shown_node c.args.top.now) c.requires.started.placed c.requires.built) c.in-First.core c.in_ok-job-in-First.job (c.director_of.ensures ∙ ap Composite c.in-First.is) c.in_ok-job-in-First.ensures.supplied
-    (c.in_ok-job-in-First.ensures.asked.1 ∙ c.takes.ensures)
+    (c.in_ok-job-in-First.ensures.takes ∙ c.takes.ensures)
 
-pub returns-in_ok-job-in-Other-clause-fits : goal.returns-in_ok-job-in-Other-clause-fits
-returns-in_ok-job-in-Other-clause-fits c =
+pub returns-in_ok-job-in-First-other-clause-fits : goal.returns-in_ok-job-in-First-other-clause-fits
+returns-in_ok-job-in-First-other-clause-fits c =
     let s = c.args.started.now in
-    sr-fits c.args.net.now s.values (shown_node c.args.top.now) (top-core c.args.net.now s.values s.starts.items (shown_node c.args.top.now) c.requires.started.placed c.requires.built) c.in-Other.field-0 c.in_ok-job-in-Other.job (c.director_of.ensures ∙ ap Composite c.in-Other.is) c.in_ok-job-in-Other.ensures.supplied
+    sr-fits c.args.net.now s.values (shown_node c.args.top.now) (top-core c.args.net.now s.values s.starts.items (shown_node c.args.top.now) c.requires.started.placed c.requires.built) c.in-First-other.field-0 c.in_ok-job-in-First-other.job
+    (c.director_of.ensures ∙ ap Composite (c.in-Other.is ∙ ap (λ v. Other v) c.in-First-other.is)) c.in_ok-job-in-First-other.ensures.supplied
+
+pub returns-in_ok-job-in-Other-other-clause-fits : goal.returns-in_ok-job-in-Other-other-clause-fits
+returns-in_ok-job-in-Other-other-clause-fits c =
+    let s = c.args.started.now in
+    de-fits c.args.net.now s.values (shown_node c.args.top.now) (top-core c.args.net.now s.values s.starts.items (shown_node c.args.top.now) c.requires.started.placed c.requires.built) c.in-Other-other.field-0 c.in_ok-job-in-Other-other.job
+    (c.director_of.ensures ∙ ap Composite (c.in-Other.is ∙ ap (λ v. Other v) c.in-Other-other.is)) c.in_ok-job-in-Other-other.ensures.supplied c.in_ok-job-in-Other-other.ensures.ascend

@@ -22,6 +22,7 @@ returns-clause-model c = on-ok c.with_job.result (λ model is.
       built = subst (λ top. IsBuilt c.args.net.now c.args.started.now.starts.items 0 (shown_node top)) (sym told.0) c.in_ok-top.ensures.built;
       accepted = c.job_of-job.ensures.accepted (subst (λ job. IsOk job) (sym told.1) refl);
       supplied = at-ok _ told.1 c.job_of-job.ensures.supplied;
-      iterations_are = at-ok _ told.1 c.job_of-job.ensures.iterations;
+      tags = at-ok _ told.1 c.job_of-job.ensures.tags;
+      lasts = at-ok _ told.1 c.job_of-job.ensures.lasts;
       fits = subst (λ top. IsJobFor model.job (node_of (shown_node top))) (sym told.0) (at-ok _ told.1 c.job_of-job.ensures.fits);
     })

@@ -1,18 +1,18 @@
-use Rattle.std.proofs.Common.{arith, ◌∙◌, sym, subst}
+use Rattle.std.proofs.Common.{arith, None, ◌∙◌, sym, subst}
 use Rattle.pt_meaning.specs.Step.{no_meetings}
 use Rattle.pt_records.specs.Made.{meets_of}
 use Rattle.pt_node.specs.Shown.{shown_node}
-use Rattle.pt_node.specs.View.{kept_of}
+use Rattle.pt_node.specs.View.{node_of, kept_of}
 use Rattle.pt_trees.specs.declared.ended.Ended.{Ended}
 use Rattle.pt_trees.specs.declared.ended.Ended.TheVariants as ended
 use Rattle.pt_trees.specs.Run.{schedule, IsRun, IsDefined}
 use Rattle.pt_run.specs.Turn.{ended_by}
-use Rattle.pt_run.proofs.Completing.{Going, is_complete, turn-fires, turn-ends, whole, begins, ends-defined, ends-spent, takes-inputs, ends-fault, ends-within, falls, goes-on, its-own, none-are-those}
+use Rattle.pt_run.proofs.Completing.{Going, is_complete, turn-fires, turn-ends, turn-past, whole, begins, ends-defined, ends-spent, ends-past, takes-inputs, ends-fault, ends-within, falls, goes-on, its-own, none-are-those}
 use Rattle.pt_run.proofs.running.run_within.Goals as goal
 
 -- the whole budget is left
 pub loop-left-init : goal.loop-left-init
-loop-left-init c = subst (λ left. Going c.args.job.now (shown_node c.args.top.now) c.args.budget 0 (shown_node c.args.top.now) left) (sym c.requires.whole) (begins c.args.job.now c.args.budget (shown_node c.args.top.now) c.requires.runnable)
+loop-left-init c = subst (λ left. Going c.args.job.now (shown_node c.args.top.now) c.args.budget 0 None (shown_node c.args.top.now) left) (sym c.requires.whole) (begins c.args.job.now c.args.budget (shown_node c.args.top.now) c.requires.runnable)
 
 pub next_turn-requires-clause-whole : goal.next_turn-requires-clause-whole
 next_turn-requires-clause-whole c = whole c.args.job.now c.args.budget (shown_node c.args.top.now) c.requires.runnable
@@ -36,60 +36,72 @@ next_turn-requires-clause-number c = omega (arith, c.loop-left.invariant.few, c.
 
 pub fire_within-requires-clause-inputs : goal.fire_within-requires-clause-inputs
 fire_within-requires-clause-inputs c =
-    takes-inputs c.args.job.now c.args.budget (shown_node c.args.top.now) c.requires.runnable c.loop-left.fired (shown_node c.loop-left.top) c.loop-left.left c.loop-left.invariant c.in-Fire.firing.tag c.of.result
-    (turn-fires (schedule c.args.job.now) c.loop-left.fired c.in_ok-firing.field-0 c.in_ok-firing.ensures c.in-Fire.firing c.in-Fire.is c.of.result (c.of.ensures ∙ c.deref.ensures.value))
+    takes-inputs c.args.job.now c.args.budget (shown_node c.args.top.now) c.requires.runnable c.loop-left.fired c.loop-left.last (shown_node c.loop-left.top) c.loop-left.left c.loop-left.invariant c.in-Fire.firing.tag c.of.result
+    (turn-fires (schedule c.args.job.now) c.loop-left.fired c.loop-left.last (node_of (shown_node c.loop-left.top)) c.in_ok-firing.field-0 c.in_ok-firing.ensures c.in-Fire.firing c.in-Fire.is c.of.result (c.of.ensures ∙ c.deref.ensures.value))
 
 pub returns-in-Ends-clause-report : goal.returns-in-Ends-clause-report
 returns-in-Ends-clause-report c =
     subst (λ (e : Ended). IsRun (meets_of (kept_of (shown_node c.loop-left.top))) c.args.job.now c.args.budget (shown_node c.args.top.now) (shown_node c.loop-left.top) e) (sym c.end_told.ensures)
-    (ends-defined c.args.job.now c.args.budget (shown_node c.args.top.now) c.requires.runnable c.loop-left.fired (shown_node c.loop-left.top) c.loop-left.left c.loop-left.invariant c.loop-left-test.true c.in-Ends.end (turn-ends (schedule c.args.job.now) c.loop-left.fired c.in_ok-firing.field-0 c.in_ok-firing.ensures c.in-Ends.end c.in-Ends.is) (meets_of (kept_of (shown_node c.loop-left.top))) (its-own (shown_node c.loop-left.top)))
+    (ends-defined c.args.job.now c.args.budget (shown_node c.args.top.now) c.requires.runnable c.loop-left.fired c.loop-left.last (shown_node c.loop-left.top) c.loop-left.left c.loop-left.invariant c.loop-left-test.true c.in-Ends.end (turn-ends (schedule c.args.job.now) c.loop-left.fired c.loop-left.last (node_of (shown_node c.loop-left.top)) c.in_ok-firing.field-0 c.in_ok-firing.ensures c.in-Ends.end c.in-Ends.is) (meets_of (kept_of (shown_node c.loop-left.top))) (its-own (shown_node c.loop-left.top)))
 
 pub returns-in-Ends-clause-complete : goal.returns-in-Ends-clause-complete
 returns-in-Ends-clause-complete c = λ a.
     subst (λ (e : Ended). IsDefined e) (sym c.end_told.ensures)
     (is_complete c.args.job.now c.args.budget (shown_node c.args.top.now) (shown_node c.loop-left.top) (ended_by c.in-Ends.end)
-    (ends-defined c.args.job.now c.args.budget (shown_node c.args.top.now) c.requires.runnable c.loop-left.fired (shown_node c.loop-left.top) c.loop-left.left c.loop-left.invariant c.loop-left-test.true c.in-Ends.end (turn-ends (schedule c.args.job.now) c.loop-left.fired c.in_ok-firing.field-0 c.in_ok-firing.ensures c.in-Ends.end c.in-Ends.is) no_meetings (none-are-those (shown_node c.loop-left.top))) a)
+    (ends-defined c.args.job.now c.args.budget (shown_node c.args.top.now) c.requires.runnable c.loop-left.fired c.loop-left.last (shown_node c.loop-left.top) c.loop-left.left c.loop-left.invariant c.loop-left-test.true c.in-Ends.end (turn-ends (schedule c.args.job.now) c.loop-left.fired c.loop-left.last (node_of (shown_node c.loop-left.top)) c.in_ok-firing.field-0 c.in_ok-firing.ensures c.in-Ends.end c.in-Ends.is) no_meetings (none-are-those (shown_node c.loop-left.top))) a)
+
+pub returns-in-Limit-clause-report : goal.returns-in-Limit-clause-report
+returns-in-Limit-clause-report c =
+    ends-past c.args.job.now c.args.budget (shown_node c.args.top.now) c.requires.runnable c.loop-left.fired c.loop-left.last (shown_node c.loop-left.top) c.loop-left.left c.loop-left.invariant
+    (turn-past (schedule c.args.job.now) c.loop-left.fired c.loop-left.last (node_of (shown_node c.loop-left.top)) c.in_ok-firing.field-0 c.in_ok-firing.ensures c.in-Limit.is)
+    c.in_ok-past_limit-in-Limit.field-0 c.in_ok-past_limit-in-Limit.ensures (meets_of (kept_of (shown_node c.loop-left.top))) (its-own (shown_node c.loop-left.top))
+
+pub returns-in-Limit-clause-complete : goal.returns-in-Limit-clause-complete
+returns-in-Limit-clause-complete c = λ a. is_complete c.args.job.now c.args.budget (shown_node c.args.top.now) (shown_node c.loop-left.top) (ended.Fault c.in_ok-past_limit-in-Limit.field-0)
+    (ends-past c.args.job.now c.args.budget (shown_node c.args.top.now) c.requires.runnable c.loop-left.fired c.loop-left.last (shown_node c.loop-left.top) c.loop-left.left c.loop-left.invariant
+    (turn-past (schedule c.args.job.now) c.loop-left.fired c.loop-left.last (node_of (shown_node c.loop-left.top)) c.in_ok-firing.field-0 c.in_ok-firing.ensures c.in-Limit.is)
+    c.in_ok-past_limit-in-Limit.field-0 c.in_ok-past_limit-in-Limit.ensures no_meetings (none-are-those (shown_node c.loop-left.top))) a
 
 pub returns-in-Fault-clause-report : goal.returns-in-Fault-clause-report
 returns-in-Fault-clause-report c =
-    ends-fault c.args.job.now c.args.budget (shown_node c.args.top.now) c.requires.runnable c.loop-left.fired (shown_node c.loop-left.top) c.loop-left.left c.loop-left.invariant c.in-Fire.firing.tag c.of.result
-    (turn-fires (schedule c.args.job.now) c.loop-left.fired c.in_ok-firing.field-0 c.in_ok-firing.ensures c.in-Fire.firing c.in-Fire.is c.of.result (c.of.ensures ∙ c.deref.ensures.value))
+    ends-fault c.args.job.now c.args.budget (shown_node c.args.top.now) c.requires.runnable c.loop-left.fired c.loop-left.last (shown_node c.loop-left.top) c.loop-left.left c.loop-left.invariant c.in-Fire.firing.tag c.of.result
+    (turn-fires (schedule c.args.job.now) c.loop-left.fired c.loop-left.last (node_of (shown_node c.loop-left.top)) c.in_ok-firing.field-0 c.in_ok-firing.ensures c.in-Fire.firing c.in-Fire.is c.of.result (c.of.ensures ∙ c.deref.ensures.value))
     (shown_node c.fire_within.new.node) c.in-Fault.ensures.outline c.in-Fault.place c.in-Fault.ensures.answers (meets_of (kept_of (shown_node c.fire_within.new.node))) (its-own (shown_node c.fire_within.new.node))
 
 pub returns-in-Fault-clause-complete : goal.returns-in-Fault-clause-complete
 returns-in-Fault-clause-complete c = λ a. is_complete c.args.job.now c.args.budget (shown_node c.args.top.now) (shown_node c.fire_within.new.node) (ended.Fault c.in-Fault.place)
-    (ends-fault c.args.job.now c.args.budget (shown_node c.args.top.now) c.requires.runnable c.loop-left.fired (shown_node c.loop-left.top) c.loop-left.left c.loop-left.invariant c.in-Fire.firing.tag c.of.result
-    (turn-fires (schedule c.args.job.now) c.loop-left.fired c.in_ok-firing.field-0 c.in_ok-firing.ensures c.in-Fire.firing c.in-Fire.is c.of.result (c.of.ensures ∙ c.deref.ensures.value))
+    (ends-fault c.args.job.now c.args.budget (shown_node c.args.top.now) c.requires.runnable c.loop-left.fired c.loop-left.last (shown_node c.loop-left.top) c.loop-left.left c.loop-left.invariant c.in-Fire.firing.tag c.of.result
+    (turn-fires (schedule c.args.job.now) c.loop-left.fired c.loop-left.last (node_of (shown_node c.loop-left.top)) c.in_ok-firing.field-0 c.in_ok-firing.ensures c.in-Fire.firing c.in-Fire.is c.of.result (c.of.ensures ∙ c.deref.ensures.value))
     (shown_node c.fire_within.new.node) c.in-Fault.ensures.outline c.in-Fault.place c.in-Fault.ensures.answers no_meetings (none-are-those (shown_node c.fire_within.new.node))) a
 
 pub returns-in-Spent-clause-report : goal.returns-in-Spent-clause-report
 returns-in-Spent-clause-report c =
-    ends-within c.args.job.now c.args.budget (shown_node c.args.top.now) c.requires.runnable c.loop-left.fired (shown_node c.loop-left.top) c.loop-left.left c.loop-left.invariant c.in-Fire.firing.tag c.of.result
-    (turn-fires (schedule c.args.job.now) c.loop-left.fired c.in_ok-firing.field-0 c.in_ok-firing.ensures c.in-Fire.firing c.in-Fire.is c.of.result (c.of.ensures ∙ c.deref.ensures.value))
+    ends-within c.args.job.now c.args.budget (shown_node c.args.top.now) c.requires.runnable c.loop-left.fired c.loop-left.last (shown_node c.loop-left.top) c.loop-left.left c.loop-left.invariant c.in-Fire.firing.tag c.of.result
+    (turn-fires (schedule c.args.job.now) c.loop-left.fired c.loop-left.last (node_of (shown_node c.loop-left.top)) c.in_ok-firing.field-0 c.in_ok-firing.ensures c.in-Fire.firing c.in-Fire.is c.of.result (c.of.ensures ∙ c.deref.ensures.value))
     (shown_node c.fire_within.new.node) c.in-Spent.ensures.outline c.fire_within.new.left c.in-Spent.ensures.counted c.in-Spent.field-0 c.in-Spent.ensures.answers (meets_of (kept_of (shown_node c.fire_within.new.node))) (its-own (shown_node c.fire_within.new.node))
 
 pub returns-in-Spent-clause-complete : goal.returns-in-Spent-clause-complete
 returns-in-Spent-clause-complete c = λ a. is_complete c.args.job.now c.args.budget (shown_node c.args.top.now) (shown_node c.fire_within.new.node) (ended.Spent c.args.budget)
-    (ends-within c.args.job.now c.args.budget (shown_node c.args.top.now) c.requires.runnable c.loop-left.fired (shown_node c.loop-left.top) c.loop-left.left c.loop-left.invariant c.in-Fire.firing.tag c.of.result
-    (turn-fires (schedule c.args.job.now) c.loop-left.fired c.in_ok-firing.field-0 c.in_ok-firing.ensures c.in-Fire.firing c.in-Fire.is c.of.result (c.of.ensures ∙ c.deref.ensures.value))
+    (ends-within c.args.job.now c.args.budget (shown_node c.args.top.now) c.requires.runnable c.loop-left.fired c.loop-left.last (shown_node c.loop-left.top) c.loop-left.left c.loop-left.invariant c.in-Fire.firing.tag c.of.result
+    (turn-fires (schedule c.args.job.now) c.loop-left.fired c.loop-left.last (node_of (shown_node c.loop-left.top)) c.in_ok-firing.field-0 c.in_ok-firing.ensures c.in-Fire.firing c.in-Fire.is c.of.result (c.of.ensures ∙ c.deref.ensures.value))
     (shown_node c.fire_within.new.node) c.in-Spent.ensures.outline c.fire_within.new.left c.in-Spent.ensures.counted c.in-Spent.field-0 c.in-Spent.ensures.answers no_meetings (none-are-those (shown_node c.fire_within.new.node))) a
 
 pub loop-left-smaller : goal.loop-left-smaller
 loop-left-smaller c =
-    falls c.args.job.now c.args.budget (shown_node c.args.top.now) c.requires.runnable c.loop-left.fired (shown_node c.loop-left.top) c.loop-left.left c.loop-left.invariant c.in-Fire.firing.tag c.of.result
-    (turn-fires (schedule c.args.job.now) c.loop-left.fired c.in_ok-firing.field-0 c.in_ok-firing.ensures c.in-Fire.firing c.in-Fire.is c.of.result (c.of.ensures ∙ c.deref.ensures.value))
+    falls c.args.job.now c.args.budget (shown_node c.args.top.now) c.requires.runnable c.loop-left.fired c.loop-left.last (shown_node c.loop-left.top) c.loop-left.left c.loop-left.invariant c.in-Fire.firing.tag c.of.result
+    (turn-fires (schedule c.args.job.now) c.loop-left.fired c.loop-left.last (node_of (shown_node c.loop-left.top)) c.in_ok-firing.field-0 c.in_ok-firing.ensures c.in-Fire.firing c.in-Fire.is c.of.result (c.of.ensures ∙ c.deref.ensures.value))
     (shown_node c.fire_within.new.node) c.in-Done.ensures.outline c.fire_within.new.left c.in-Done.ensures.counted c.in-Done.field-0 c.in-Done.ensures.answers
 
 pub loop-left-preserved : goal.loop-left-preserved
 loop-left-preserved c =
-    goes-on c.args.job.now c.args.budget (shown_node c.args.top.now) c.requires.runnable c.loop-left.fired (shown_node c.loop-left.top) c.loop-left.left c.loop-left.invariant c.in-Fire.firing.tag c.of.result
-    (turn-fires (schedule c.args.job.now) c.loop-left.fired c.in_ok-firing.field-0 c.in_ok-firing.ensures c.in-Fire.firing c.in-Fire.is c.of.result (c.of.ensures ∙ c.deref.ensures.value))
+    goes-on c.args.job.now c.args.budget (shown_node c.args.top.now) c.requires.runnable c.loop-left.fired c.loop-left.last (shown_node c.loop-left.top) c.loop-left.left c.loop-left.invariant c.in-Fire.firing.tag c.of.result
+    (turn-fires (schedule c.args.job.now) c.loop-left.fired c.loop-left.last (node_of (shown_node c.loop-left.top)) c.in_ok-firing.field-0 c.in_ok-firing.ensures c.in-Fire.firing c.in-Fire.is c.of.result (c.of.ensures ∙ c.deref.ensures.value))
     (shown_node c.fire_within.new.node) c.in-Done.ensures.outline c.fire_within.new.left c.in-Done.ensures.counted c.in-Done.field-0 c.in-Done.ensures.answers
 
 pub returns-clause-report : goal.returns-clause-report
 returns-clause-report c =
-    ends-spent c.args.job.now c.args.budget (shown_node c.args.top.now) c.requires.runnable c.loop-left.fired (shown_node c.loop-left.top) c.loop-left.left c.loop-left.invariant (omega (arith, c.loop-left-test.false)) (meets_of (kept_of (shown_node c.loop-left.top))) (its-own (shown_node c.loop-left.top))
+    ends-spent c.args.job.now c.args.budget (shown_node c.args.top.now) c.requires.runnable c.loop-left.fired c.loop-left.last (shown_node c.loop-left.top) c.loop-left.left c.loop-left.invariant (omega (arith, c.loop-left-test.false)) (meets_of (kept_of (shown_node c.loop-left.top))) (its-own (shown_node c.loop-left.top))
 
 pub returns-clause-complete : goal.returns-clause-complete
 returns-clause-complete c = λ a. is_complete c.args.job.now c.args.budget (shown_node c.args.top.now) (shown_node c.loop-left.top) (ended.Spent c.args.budget)
-    (ends-spent c.args.job.now c.args.budget (shown_node c.args.top.now) c.requires.runnable c.loop-left.fired (shown_node c.loop-left.top) c.loop-left.left c.loop-left.invariant (omega (arith, c.loop-left-test.false)) no_meetings (none-are-those (shown_node c.loop-left.top))) a
+    (ends-spent c.args.job.now c.args.budget (shown_node c.args.top.now) c.requires.runnable c.loop-left.fired c.loop-left.last (shown_node c.loop-left.top) c.loop-left.left c.loop-left.invariant (omega (arith, c.loop-left-test.false)) no_meetings (none-are-those (shown_node c.loop-left.top))) a

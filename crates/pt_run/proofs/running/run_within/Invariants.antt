@@ -3,7 +3,7 @@ use Rattle.pt_run.proofs.Completing.{Going}
 use Rattle.pt_run.proofs.running.run_within.Given as goal
 
 abbrev pub invariant-loop-left : goal.invariant-loop-left
-invariant-loop-left l = Going l.job (shown_node l.fn.top) l.budget l.fired (shown_node l.top) l.left
+invariant-loop-left l = Going l.job (shown_node l.fn.top) l.budget l.fired l.last (shown_node l.top) l.left
 
 abbrev pub decreases-loop-left : goal.decreases-loop-left
 decreases-loop-left l = l.left

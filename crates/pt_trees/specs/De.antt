@@ -66,6 +66,11 @@ pub record IsDeWired (around : Around) (kids : List Tree) : Type 0 where
   pub wired : IsWired around kids
   pub begin : All (BeginsAtOutput kids) around.sources
 
+-- whether it is one
+abbrev pub IsDeWiredIf : Around → List Tree → Bool → Type 0
+IsDeWiredIf around kids true = IsDeWired around kids
+IsDeWiredIf around kids false = IsDeWired around kids → ⊥
+
 -- ---- the core
 
 -- a directed loop without a delay: each of these children feeds the next at the same tag, and the last the first
