@@ -1,9 +1,8 @@
 -- Actions one after another.
 use Rattle.std.proofs.Common.{◌≡◌, ℕ, zero, suc, ◌<◌, ◌≤◌, ◌+◌, List, [], ◌∷◌, length, get_or, drop, map, Option, Some, None, refl, sym, ap, subst, ◌∙◌, arith}
-use Rattle.std.specs.Prelude.{option_map}
 use Rattle.pt_meaning.specs.Streams.{Streams, change_at}
-use Rattle.pt_meaning.specs.Modal.{Acted, Acts, Fails}
-use Rattle.pt_meaning.specs.Transitions.{Reading, Reads, Absent, Faulty, Action, with_sets, with_outputs, with_variable, with_port, on_reading}
+use Rattle.pt_meaning.specs.Modal.{Acts, Fails}
+use Rattle.pt_meaning.specs.Transitions.{Reading, Reads, Absent, Faulty, with_sets, with_outputs, with_variable, with_port, on_reading}
 use Rattle.pt_meaning.specs.Transitions.{Scope as Scoped}
 use Rattle.pt_value.specs.declared.token.Token.{Token}
 use Rattle.pt_language.specs.Outcome.{Wrong}

@@ -1,6 +1,5 @@
 -- Guards tested one after another, and none of them wrong.
-use Rattle.std.proofs.Common.{◌≡◌, ℕ, zero, suc, ◌<◌, ◌≤◌, ◌+◌, List, [], ◌∷◌, length, get_or, drop, map, Result, Ok, Err, ◌⊎◌, inl, inr, refl, sym, ap, subst, ◌∙◌, arith, add-one}
-use Rattle.pt_meaning.specs.Machine.{ambiguous_code}
+use Rattle.std.proofs.Common.{◌≡◌, ℕ, zero, suc, ◌<◌, ◌≤◌, ◌+◌, List, [], ◌∷◌, length, get_or, drop, map, Ok, Err, refl, sym, ap, subst, ◌∙◌, arith, add-one}
 use Rattle.pt_meaning.specs.Modal.{Test, Choice, Nothing, One, Wrong, chosen, after_on}
 use Rattle.pt_meaning.specs.Modal as modal
 use Rattle.pt_language.specs.Outcome as outcome
@@ -9,7 +8,6 @@ use Rattle.pt_language.specs.Meaning.{value}
 use Rattle.pt_language.specs.Expr.{tree_of}
 use Rattle.pt_firing.specs.RunFault.{code_of}
 use Rattle.pt_firing.specs.declared.fault.RunFault.{RunFault}
-use Rattle.pt_flow_base.proofs.TypedPorts.{front}
 use Rattle.pt_chart.specs.declared.evaluation.Test.{Test as Tested}
 use Rattle.pt_chart.specs.declared.evaluation.Test.TheVariants as tested
 use Rattle.pt_chart.specs.declared.choose.Enabled.{Enabled}

@@ -1,5 +1,5 @@
 -- What an evaluation tells of a guard or an action.
-use Rattle.std.proofs.Common.{◌≡◌, ◌⊎◌, inl, inr, Result, Ok, Err, refl, sym, ap, subst, ◌∙◌}
+use Rattle.std.proofs.Common.{◌≡◌, ◌⊎◌, inl, inr, Result, Ok, Err, sym, ap, subst, ◌∙◌}
 use Rattle.std.specs.Prelude.{IfOk, IfErr}
 use Rattle.pt_meaning.specs.Modal.{Test}
 use Rattle.pt_meaning.specs.Transitions.{Reading, Reads}

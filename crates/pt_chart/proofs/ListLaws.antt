@@ -1,6 +1,6 @@
 -- Lists that are copied one after another.
-use Rattle.std.proofs.Common.{◌≡◌, ℕ, zero, suc, ◌<◌, ◌≤◌, ◌+◌, List, [], ◌∷◌, ◌++◌, length, take, map, get_or, Option, Some, None, refl, sym, ap, ◌∙◌, arith, add-one}
-use Rattle.pt_meaning.specs.Streams.{Streams, at, get, change_at}
+use Rattle.std.proofs.Common.{◌≡◌, ℕ, zero, suc, ◌<◌, ◌≤◌, ◌+◌, List, [], ◌∷◌, ◌++◌, length, take, map, get_or, Option, refl, ap, ◌∙◌, arith}
+use Rattle.pt_meaning.specs.Streams.{Streams, at, change_at}
 use Rattle.pt_meaning.specs.Modal.{picked, shown, at_port}
 use Rattle.std.specs.Prelude.{set}
 

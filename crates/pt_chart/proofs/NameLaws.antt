@@ -1,7 +1,7 @@
 -- Names bound one after another.
 use Rattle.std.proofs.Common.{◌≡◌, ℕ, zero, suc, ◌<◌, ◌≤◌, ◌+◌, List, [], ◌∷◌, length, get_or, drop, map, Bool, true, false, ◌||◌, Option, Some, None, refl, sym, ap, ◌∙◌, add-one, arith, if◌then◌else◌}
-use Rattle.std.specs.Prelude.{bytes_eq, option_map}
-use Rattle.pt_meaning.specs.Streams.{Streams, at, get}
+use Rattle.std.specs.Prelude.{bytes_eq}
+use Rattle.pt_meaning.specs.Streams.{at, get}
 use Rattle.pt_meaning.specs.Transitions.{last_of, input_in, output_in, variable_in}
 use Rattle.pt_meaning.specs.Transitions.{Scope as Reads}
 use Rattle.pt_value.specs.Value.{Value}

@@ -1,7 +1,7 @@
 -- What comes of the guards of one kind is what the chart says.
 use Rattle.std.proofs.Common.{◌≡◌, ℕ, zero, suc, ◌<◌, ◌≤◌, List, [], ◌∷◌, length, get_or, map, replicate, Bool, true, false, Option, Some, None, refl, sym, ap, ◌∙◌, arith}
 use Rattle.pt_meaning.specs.Streams.{Streams, at, get}
-use Rattle.pt_meaning.specs.Modal.{Test, Choice, Nothing, One, Wrong, Acted, chosen, unfired_outputs, Chart}
+use Rattle.pt_meaning.specs.Modal.{Choice, Nothing, One, Wrong, chosen, unfired_outputs}
 use Rattle.pt_meaning.specs.Transitions.{Transition, Mode, tests, mode_in, of_kind, acted_by, target_by, keeps_by, last_of}
 use Rattle.pt_meaning.specs.Transitions.{Scope as Scoped}
 use Rattle.pt_value.specs.declared.token.Token.{Token}
@@ -13,7 +13,7 @@ use Rattle.pt_chart.specs.Names.{with_names, names_in}
 use Rattle.pt_language.specs.Meaning.{value}
 use Rattle.pt_chart.specs.Chart.{chart_of, transition_of, mode_of, test_of}
 use Rattle.pt_chart.specs.Choose.{tests_in}
-use Rattle.pt_chart.specs.Reacted.{Reacted, Stays, Moves, Stops, by_actions, by_choice, guards, reacted}
+use Rattle.pt_chart.specs.Reacted.{Reacted, by_actions, by_choice, guards, reacted}
 use Rattle.pt_chart.specs.Acts.{acted, taken, by_found, reacted_by, mode_at, kind_of, still}
 use Rattle.pt_chart.specs.Views.{transition_view}
 use Rattle.pt_chart.proofs.ActLaws.{acts-are}

@@ -27,7 +27,7 @@ use Rattle.pt_chart.specs.Machine.{ActionTree, TransitionTree, ModeTree, NameTab
 use Rattle.pt_chart.specs.Names.{of_type, with_names, names_in}
 use Rattle.pt_chart.specs.Typed.{types_of, is_typed, are_typed_actions, is_typed_transition, are_typed_transitions, is_typed_mode, are_typed_modes}
 use Rattle.pt_chart.specs.Choose.{AreRightGuards}
-use Rattle.pt_chart.specs.Acts.{AreRight, mode_at, kind_of, or_still}
+use Rattle.pt_chart.specs.Acts.{AreRight, mode_at, kind_of}
 
 abbrev Held : Types → Scope → Type 0
 Held types scope = (name : List ℕ) → IfSome (types name) (λ t. IsHeld t (scope name))

@@ -3,7 +3,7 @@ use Rattle.std.proofs.Common.{◌≡◌, ℕ, List, Bool, true, false, ◌&&◌,
 use Rattle.pt_datatypes.specs.Datatype.{Datatype}
 use Rattle.pt_datatypes.proofs.Fields.{and_both}
 use Rattle.pt_language.specs.Tree.{Tree}
-use Rattle.pt_language.specs.Typing.{Has, Clash}
+use Rattle.pt_language.specs.Typing.{Clash}
 use Rattle.pt_language.specs.Types.{Types}
 use Rattle.pt_language.specs.TreeType.{tree_type, are_bound, IsTyped}
 use Rattle.pt_lib_flow.specs.Formula.{parameter_types, with_types, has_type}

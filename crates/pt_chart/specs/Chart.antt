@@ -1,13 +1,11 @@
 -- The chart of a Modal as it is written: its guards and actions are what their expressions come to.
-use Rattle.std.specs.Prelude.{ℕ, List, [], length, map, get_or, Option, Result, Ok, Err, true, false}
+use Rattle.std.specs.Prelude.{ℕ, [], length, map, get_or, true}
 use Rattle.pt_meaning.specs.Modal.{Test, Off, On, Bad, Chart}
 use Rattle.pt_meaning.specs.Transitions.{Reading, Reads, Absent, Faulty, Action, Transition, Mode}
-use Rattle.pt_meaning.specs.Transitions.{Scope as Scoped}
 use Rattle.pt_meaning.specs.Transitions as transitions
 use Rattle.pt_value.specs.Value.{Value, Bool}
 use Rattle.pt_value.specs.Token.{token_of}
 use Rattle.pt_value.specs.declared.token.Token.{Token}
-use Rattle.pt_language.specs.declared.eval_fault.EvalFault.{EvalFault}
 use Rattle.pt_language.specs.declared.eval_fault.EvalFault.TheVariants as fault
 use Rattle.pt_language.specs.Outcome.{Outcome, Gives, Stops, Wrong}
 use Rattle.pt_language.specs.Meaning.{value}

@@ -1,5 +1,5 @@
 -- What the names in guards and actions stand for: a token where there is one, of the type of its name.
-use Rattle.std.specs.Prelude.{ℕ, zero, suc, ◌≡◌, List, [], ◌∷◌, Bool, false, ◌||◌, Option, Some, None, if◌then◌else◌}
+use Rattle.std.specs.Prelude.{ℕ, suc, ◌≡◌, List, [], ◌∷◌, Bool, false, ◌||◌, Option, Some, None, if◌then◌else◌}
 use Rattle.pt_meaning.specs.Transitions.{input_in, output_in, variable_in}
 use Rattle.pt_meaning.specs.Transitions.{Scope as Reads}
 use Rattle.pt_value.specs.Value.{Value}

@@ -1,5 +1,5 @@
 -- Guards and actions that have a type where their names have theirs, so that none is ever wrong.
-use Rattle.std.specs.Prelude.{ℕ, List, Bool, ◌&&◌}
+use Rattle.std.specs.Prelude.{List, Bool, ◌&&◌}
 use Rattle.std.specs.List.{list_all}
 use Rattle.pt_language.specs.Tree.{Tree}
 use Rattle.pt_language.specs.Types.{Types}

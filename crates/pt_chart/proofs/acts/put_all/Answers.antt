@@ -1,13 +1,10 @@
-use Rattle.std.proofs.Common.{◌≡◌, ℕ, drop, map, sym, ap, ◌∙◌, None, Some, Option}
+use Rattle.std.proofs.Common.{ℕ, map, ap, ◌∙◌, None, Some, Option}
 use Rattle.std.specs.Prelude.{option_map}
 use Rattle.pt_meaning.specs.Streams.{Streams}
 use Rattle.pt_value.specs.declared.token.Token.{Token}
-use Rattle.pt_language.specs.Expr.{tree_of}
-use Rattle.pt_language.specs.Meaning.{value}
 use Rattle.pt_expr.specs.Env.{scope_of}
 use Rattle.pt_firing.specs.RunFault.{code_of}
 use Rattle.pt_firing.specs.declared.fault.RunFault.{RunFault}
-use Rattle.pt_chart.specs.Chart.{reading_of}
 use Rattle.pt_chart.specs.Acts.{put_all}
 use Rattle.pt_chart.specs.Views.{action_view}
 use Rattle.pt_chart.proofs.ActLaws.{right-action, put-next, none-left}

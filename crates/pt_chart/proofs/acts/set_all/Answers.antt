@@ -1,16 +1,14 @@
-use Rattle.std.proofs.Common.{◌≡◌, ℕ, List, drop, map, sym, ap, ◌∙◌, None, Some, Option, true}
+use Rattle.std.proofs.Common.{◌≡◌, ℕ, List, map, sym, ap, ◌∙◌, None, Some, Option, true}
 use Rattle.std.specs.Prelude.{option_map}
-use Rattle.pt_meaning.specs.Streams.{Streams}
 use Rattle.pt_meaning.specs.Transitions.{Scope as Reads}
 use Rattle.pt_value.specs.declared.token.Token.{Token}
 use Rattle.pt_language.specs.Expr.{tree_of}
 use Rattle.pt_language.specs.Scope.{Scope}
 use Rattle.pt_language.specs.Meaning.{value}
-use Rattle.pt_language.specs.Outcome.{Wrong}
 use Rattle.pt_expr.specs.Env.{scope_of}
 use Rattle.pt_firing.specs.RunFault.{code_of}
 use Rattle.pt_firing.specs.declared.fault.RunFault.{RunFault}
-use Rattle.pt_chart.specs.Names.{over, names_in}
+use Rattle.pt_chart.specs.Names.{over}
 use Rattle.pt_chart.specs.Typed.{types_of, is_typed}
 use Rattle.pt_chart.specs.Acts.{set_all}
 use Rattle.pt_chart.specs.Views.{action_view, names_view}

@@ -1,4 +1,4 @@
-use Rattle.std.proofs.Common.{map, sym, ap, ◌∙◌, arith}
+use Rattle.std.proofs.Common.{sym, ap, ◌∙◌}
 use Rattle.pt_meaning.specs.Modal.{chosen}
 use Rattle.pt_expr.specs.Env.{scope_of}
 use Rattle.pt_chart.specs.Choose.{joined}

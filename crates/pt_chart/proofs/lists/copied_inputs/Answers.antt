@@ -1,6 +1,4 @@
-use Rattle.std.proofs.Common.{◌≡◌, ℕ, ◌+◌, ◌<◌, ◌∷◌, [], ◌++◌, take, length, ap, ◌∙◌, arith, List}
-use Rattle.pt_value.specs.declared.token.Token.{Token}
-use Rattle.pt_meaning.specs.Streams.{Streams, at}
+use Rattle.std.proofs.Common.{◌<◌, length, ◌∙◌, arith}
 use Rattle.pt_chart.proofs.ListLaws.{next-copy}
 use Rattle.pt_chart.proofs.lists.copied_inputs.Goals as goal
 

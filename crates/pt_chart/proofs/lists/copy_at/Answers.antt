@@ -1,4 +1,4 @@
-use Rattle.std.proofs.Common.{◌≡◌, ◌∙◌, ◌<◌, ◌≤◌, length, arith, List}
+use Rattle.std.proofs.Common.{◌≡◌, ◌∙◌, List}
 use Rattle.std.proofs.lemmas.Result.{IfOk-weaker}
 use Rattle.pt_value.specs.declared.token.Token.{Token}
 use Rattle.pt_meaning.specs.Streams.{at}

@@ -1,6 +1,5 @@
 use Rattle.std.proofs.Common.{◌≡◌, List, ℕ, false, drop, map}
-use Rattle.pt_meaning.specs.Streams.{at, get}
-use Rattle.pt_meaning.specs.Transitions.{last_of}
+use Rattle.pt_meaning.specs.Streams.{get}
 use Rattle.pt_types.specs.Entry.{typed_entry}
 use Rattle.pt_expr.specs.Env.{scope_of}
 use Rattle.pt_lib_flow.specs.Formula.{names, is_among}

@@ -1,4 +1,4 @@
-use Rattle.std.proofs.Common.{◌≡◌, ℕ, List, [], ◌∷◌, length, ◌-◌, refl, ◌∙◌, arith}
+use Rattle.std.proofs.Common.{◌≡◌, List, [], ◌∷◌, length, ◌-◌, refl, ◌∙◌, arith}
 use Rattle.std.specs.List.{slice_get}
 use Rattle.pt_meaning.specs.Transitions.{last_of}
 use Rattle.pt_chart.proofs.NameLaws.{last-index}

@@ -1,4 +1,4 @@
-use Rattle.std.proofs.Common.{List, ap, ◌∙◌, arith, length, ◌≤◌, ◌<◌}
+use Rattle.std.proofs.Common.{List, ap, ◌∙◌}
 use Rattle.pt_value.specs.declared.token.Token.{Token}
 use Rattle.pt_meaning.specs.Transitions.{last_of}
 use Rattle.pt_chart.proofs.NameLaws.{at-there, at-past}

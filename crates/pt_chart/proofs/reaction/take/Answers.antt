@@ -1,4 +1,4 @@
-use Rattle.std.proofs.Common.{◌≡◌, ℕ, List, None, Some, Option, true, map, refl, sym, ap, subst, ◌∙◌}
+use Rattle.std.proofs.Common.{◌≡◌, ℕ, List, None, Some, Option, true, map, sym, ap, subst, ◌∙◌}
 use Rattle.std.specs.Prelude.{option_map}
 use Rattle.pt_meaning.specs.Streams.{Streams}
 use Rattle.pt_meaning.specs.Transitions.{Scope as Reads}
@@ -8,11 +8,10 @@ use Rattle.pt_expr.specs.Env.{scope_of}
 use Rattle.pt_firing.specs.RunFault.{code_of}
 use Rattle.pt_firing.specs.declared.fault.RunFault.{RunFault}
 use Rattle.pt_chart.specs.declared.written.Action.{Action}
-use Rattle.pt_chart.specs.Machine.{ActionTree, TransitionTree}
 use Rattle.pt_chart.specs.Names.{names_in}
 use Rattle.pt_chart.specs.Typed.{types_of, are_typed_actions}
 use Rattle.pt_chart.specs.Reacted.{by_actions}
-use Rattle.pt_chart.specs.Acts.{AreRight, put_all, set_all}
+use Rattle.pt_chart.specs.Acts.{AreRight}
 use Rattle.pt_chart.specs.Views.{names_view, transition_view, action_view}
 use Rattle.pt_chart.proofs.RightLaws.{right-actions, typed-outputs, typed-sets}
 use Rattle.pt_chart.proofs.ActLaws.{acted-put-fails, acted-set-fails, acted-all, put-as, set-as}

@@ -1,11 +1,9 @@
-use Rattle.std.proofs.Common.{◌≡◌, ℕ, List, map, length, refl, sym, ap, subst, ◌∙◌, true, false}
+use Rattle.std.proofs.Common.{◌≡◌, ℕ, List, map, length, sym, ap, subst, ◌∙◌, true}
 use Rattle.std.proofs.lemmas.List.{length-map}
 use Rattle.std.proofs.lemmas.Result.{IfOk-weaker}
 use Rattle.pt_meaning.specs.Modal.{unfired_outputs}
-use Rattle.pt_value.specs.declared.token.Token.{Token}
 use Rattle.pt_datatypes.specs.Datatype.{Datatype}
 use Rattle.pt_types.specs.Entry.{typed_entry}
-use Rattle.pt_expr.specs.Env.{scope_of}
 use Rattle.pt_chart.specs.declared.reaction.Reaction.{Reaction}
 use Rattle.pt_chart.specs.declared.written.Mode.{Mode}
 use Rattle.pt_chart.specs.Machine.{TransitionTree}
@@ -16,7 +14,7 @@ use Rattle.pt_chart.specs.Acts.{reacted_by, mode_at, kind_of}
 use Rattle.pt_chart.specs.Moves.{reaction_view}
 use Rattle.pt_chart.specs.Views.{machine_of, mode_view, transition_view}
 use Rattle.pt_chart.proofs.RightLaws.{typed-kind}
-use Rattle.pt_chart.proofs.ReactLaws.{preempted, followed}
+use Rattle.pt_chart.proofs.ReactLaws.{preempted}
 use Rattle.pt_chart.proofs.chart.Chart.preempt.Goals as goal
 
 pub react-requires : goal.react-requires

@@ -1,4 +1,4 @@
-use Rattle.std.proofs.Common.{◌≡◌, ℕ, List, ap, ◌∙◌}
+use Rattle.std.proofs.Common.{ℕ, List, ap, ◌∙◌}
 use Rattle.pt_meaning.specs.Transitions.{input_in, output_in, variable_in}
 use Rattle.pt_datatypes.specs.Datatype.{Datatype}
 use Rattle.pt_expr.specs.Env.{scope_of}

@@ -1,0 +1,4 @@
+pub mod StayLaws
+pub mod WakeLaws
+pub mod FirstLaws
+pub mod CoreLaws

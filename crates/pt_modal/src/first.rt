@@ -1,0 +1,58 @@
+ghost use Rattle.std.specs.Prelude.{◌≡◌, IfOk};
+ghost use Rattle.pt_chart.specs.Chart.{chart_of};
+ghost use Rattle.pt_modal.specs.First.{by_refinement, first_step};
+ghost use Rattle.pt_modal.specs.Views.{first_view};
+
+use crate::modes::Modes;
+use pt_chart::{Chart, Reaction};
+use pt_firing::Tokens;
+use std::alloc::{AllocError, Global};
+
+/// What comes first in a reaction.
+#[derive(Drop)]
+pub(crate) enum FirstStep {
+    /// The refinement is to fire on these lists.
+    Fires(u32, Vec<Tokens>),
+    /// It isn't, and this comes of the guards.
+    Comes(Reaction),
+}
+
+/// What comes first: by the preemptive guards, and by the others where the state has no refinement.
+pub(crate) fn first_step(
+    alloc: Global,
+    chart: &mut Chart,
+    modes: &Modes,
+    inputs: &[Tokens],
+) -> Result<FirstStep, AllocError>
+    ensures first { IfOk result (λ f. first_view f ≡ first_step (chart_of chart.old) modes.now inputs.now) }
+    ensures kept { chart.new ≡ chart.old }
+{
+    match chart.preempt(alloc, modes.mode(), modes.values(), inputs)? {
+        Reaction::Stays(unfired) => calm(alloc, chart, modes, inputs, unfired),
+        Reaction::Moves(taken) => Ok(FirstStep::Comes(Reaction::Moves(taken))),
+        Reaction::Stops(fault) => Ok(FirstStep::Comes(Reaction::Stops(fault))),
+    }
+}
+
+/// What comes first where no preemptive guard is enabled.
+fn calm(
+    alloc: Global,
+    chart: &mut Chart,
+    modes: &Modes,
+    inputs: &[Tokens],
+    unfired: Vec<Tokens>,
+) -> Result<FirstStep, AllocError>
+    ensures first { IfOk result (λ f. first_view f ≡ by_refinement (chart_of chart.old) modes.now inputs.now unfired.items ((chart_of chart.old).refinement modes.now.mode)) }
+    ensures kept { chart.new ≡ chart.old }
+{
+    match chart.refinement(modes.mode()) {
+        Some(refinement) => {
+            let lent = chart.picked(alloc, refinement, inputs)?;
+            Ok(FirstStep::Fires(refinement, lent))
+        }
+        None => {
+            let reaction = chart.follow(alloc, modes.mode(), modes.values(), inputs, unfired)?;
+            Ok(FirstStep::Comes(reaction))
+        }
+    }
+}
