@@ -4,3 +4,4 @@ pub mod NetworkLaws
 pub mod RoomLaws
 pub mod StagedLaws
 pub mod StepLaws
+pub mod CopyLaws

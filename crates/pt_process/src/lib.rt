@@ -1,6 +1,7 @@
 //! The parts of a PN composite: its network, and its processes, which get, fire and put.
 #![tactic(auto)]
 
+mod copied;
 mod fans;
 mod network;
 mod plan;

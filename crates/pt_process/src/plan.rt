@@ -48,7 +48,8 @@ impl CorePlan {
     }
 }
 
-fn copies(alloc: Global, lists: &[Tokens]) -> Result<Vec<Tokens>, AllocError>
+/// The same lists again.
+pub(crate) fn copies(alloc: Global, lists: &[Tokens]) -> Result<Vec<Tokens>, AllocError>
     ensures { IfOk result (λ copies. copies.items ≡ lists.now) }
 {
     let mut copies = Vec::with_capacity(alloc, lists.len())?;

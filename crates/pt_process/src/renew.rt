@@ -102,7 +102,7 @@ fn make_rooms(alloc: Global, lines: &mut Vec<Line>, need: &Option<Counts>) -> Re
 }
 
 /// How many tokens are needed at a place.
-fn count_at(need: &Option<Counts>, place: usize) -> usize
+pub(crate) fn count_at(need: &Option<Counts>, place: usize) -> usize
     ensures { result ≡ needed_at need.now place }
 {
     match need {

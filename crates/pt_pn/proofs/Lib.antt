@@ -1,0 +1,10 @@
+pub mod PutLaws
+pub mod FreshLaws
+pub mod WaitLaws
+pub mod OutletLaws
+pub mod CoreLaws
+pub mod StateLaws
+pub mod StepLaws
+pub mod BestLaws
+pub mod EndLaws
+pub mod CallLaws

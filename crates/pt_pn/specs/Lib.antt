@@ -1,0 +1,6 @@
+pub mod StateCode
+pub mod Puts
+pub mod Waiting
+pub mod Outlets
+pub mod Fresh
+pub mod Core

@@ -1,0 +1,13 @@
+//! The core of the PN director: which process gets, puts or fires next, and which channel grows. It never calls a process.
+#![tactic(auto)]
+
+mod driven;
+mod fresh;
+mod outlets;
+mod pn;
+mod processes;
+mod puts;
+mod waiting;
+mod worklist;
+
+pub use pn::Core;

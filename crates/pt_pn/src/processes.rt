@@ -1,0 +1,92 @@
+ghost use Rattle.std.specs.Prelude.{◌≡◌, ◌<◌, [], length, get_or, slice_get, false, true, IfOk, OnOk, OnErr, Some};
+ghost use Rattle.pt_meaning.specs.Streams.{change_at};
+ghost use Rattle.pt_firing.specs.Need.{need_of};
+ghost use Rattle.pt_pn_laws.specs.State.{lacking_place};
+ghost use Rattle.pt_pn_laws.specs.Lawful.{HasPlaces};
+ghost use Rattle.pt_process.specs.Process.{DoesNext, put_of, puts_in, with_token, with_put_made, with_handed, once_fired};
+ghost use Rattle.pt_pn_work.specs.Core.{nobody, puts_of_all};
+
+use pt_firing::Need;
+use pt_process::{Event, Process, StagedPut};
+use pt_value::Token;
+use std::alloc::{AllocError, Global};
+use std::collections::VecDeque;
+
+/// What a process does next.
+pub(crate) fn next_of(processes: &mut Vec<Process>, process: usize) -> Event
+    requires there { process < length processes.old.items }
+    requires gathers { (get_or processes.old.items process nobody).handed ≡ false }
+    ensures same { processes.new.items ≡ processes.old.items }
+    ensures next { DoesNext (get_or processes.old.items process nobody) result }
+{
+    processes[process].next()
+}
+
+/// A process takes a token at the place that lacks one.
+pub(crate) fn get_at(processes: &mut Vec<Process>, process: usize, place: usize, token: Token)
+    requires there { process < length processes.old.items }
+    requires gathers { (get_or processes.old.items process nobody).handed ≡ false }
+    requires lacks { lacking_place (get_or processes.old.items process nobody).need (get_or processes.old.items process nobody).got ≡ Some place }
+    ensures { processes.new.items ≡ change_at process (with_token place token) processes.old.items }
+{
+    processes[process].get(place, token);
+}
+
+/// Takes out the next put of a process.
+pub(crate) fn take_put(processes: &mut Vec<Process>, process: usize) -> StagedPut
+    requires there { process < length processes.old.items }
+    requires some { 0 < length (get_or (puts_of_all processes.old.items) process []) }
+    ensures put { slice_get (get_or (puts_of_all processes.old.items) process []) 0 ≡ Some (put_of result) }
+    ensures left { processes.new.items ≡ change_at process with_put_made processes.old.items }
+{
+    processes[process].put()
+}
+
+/// A process hands over what it has gathered.
+pub(crate) fn hand_at(processes: &mut Vec<Process>, process: usize)
+    requires there { process < length processes.old.items }
+    requires gathers { (get_or processes.old.items process nobody).handed ≡ false }
+    ensures { processes.new.items ≡ change_at process with_handed processes.old.items }
+{
+    processes[process].hand();
+}
+
+/// A process has fired, and has these puts to make, and this need. After an `Err` all are as before.
+pub(crate) fn tell_at(
+    alloc: Global,
+    processes: &mut Vec<Process>,
+    process: usize,
+    need: Need<'_>,
+    puts: &mut VecDeque<StagedPut>,
+) -> Result<(), AllocError>
+    requires there { process < length processes.old.items }
+    requires handed { (get_or processes.old.items process nobody).handed ≡ true }
+    requires places { HasPlaces (length (get_or processes.old.items process nobody).got) (need_of need) }
+    ensures told { OnOk result (processes.new.items ≡ change_at process (once_fired (need_of need.entry) (puts_in puts.old.items)) processes.old.items) }
+    ensures kept { OnErr result (processes.new.items ≡ processes.old.items) }
+{
+    processes[process].told(alloc, need, puts)
+}
+
+/// Whether a need is a count for each of so many places, or none.
+pub(crate) fn fits(need: Need<'_>, places: usize) -> bool
+    ensures { result ≡ true → HasPlaces places (need_of need.entry) }
+{
+    match need {
+        Need::Over => true,
+        Need::All(counts) => counts.len() == places,
+        Need::Any => false,
+    }
+}
+
+/// The same processes again.
+pub(crate) fn copies(alloc: Global, processes: &[Process]) -> Result<Vec<Process>, AllocError>
+    ensures { IfOk result (λ copies. copies.items ≡ processes.now) }
+{
+    let mut copies = Vec::with_capacity(alloc, processes.len())?;
+    for process in processes {
+        let copy = process.copy(alloc)?;
+        copies.push(copy)?;
+    }
+    Ok(copies)
+}

@@ -1,0 +1,133 @@
+use pt_core::Source;
+use pt_process::Network;
+use std::alloc::{AllocError, Global};
+
+/// The number of no process.
+const NOBODY: u32 = u32::MAX;
+
+/// The processes whose next event may be possible, as far as is noted: each at first, then those that made an event, and those that wait for the channel of one.
+///
+/// No contract speaks of it. Whoever takes a process from it looks at the process, and looks at all where it is empty.
+#[derive(Drop)]
+pub(crate) struct Worklist {
+    /// The processes that stand in it, the last of which is taken first.
+    woken: Vec<u32>,
+    /// Whether each process stands in it.
+    listed: Vec<bool>,
+    /// How many processes there are.
+    processes: u32,
+    /// The process that puts on each channel, if one does.
+    writers: Vec<u32>,
+    /// The process that gets from each channel that ends at one.
+    readers: Vec<u32>,
+}
+
+impl Worklist {
+    /// The worklist of a network, with each process in it.
+    pub(crate) fn new(alloc: Global, network: &Network) -> Result<Worklist, AllocError> {
+        let processes = network.processes();
+        let mut worklist = Worklist {
+            woken: Vec::with_capacity(alloc, processes)?,
+            listed: vec![in alloc; false; processes]?,
+            processes: processes as u32,
+            writers: writers_of(alloc, network)?,
+            readers: readers_of(alloc, network)?,
+        };
+        worklist.restart();
+        Ok(worklist)
+    }
+
+    /// Each process stands in it.
+    pub(crate) fn restart(&mut self) {
+        for process in 0..self.processes {
+            self.note(process);
+        }
+    }
+
+    /// At most so many processes stand in it.
+    pub(crate) fn len(&self) -> usize {
+        self.woken.len()
+    }
+
+    /// Takes a process out of it.
+    pub(crate) fn take(&mut self) -> Option<u32> {
+        let process = self.woken.pop()?;
+        if let Some(listed) = self.listed.get_mut(process as usize) {
+            *listed = false;
+        }
+        Some(process)
+    }
+
+    /// A process stands in it.
+    pub(crate) fn note(&mut self, process: u32) {
+        if let Some(listed) = self.listed.get_mut(process as usize)
+            && !*listed
+            && self.woken.len() < self.woken.capacity()
+        {
+            *listed = true;
+            self.woken.push_reserved(process);
+        }
+    }
+
+    /// A process has put on a channel: it may go on, and so may the one that gets from there.
+    pub(crate) fn note_put(&mut self, process: u32, channel: u32) {
+        if let Some(reader) = self.readers.get(channel as usize) {
+            let reader = *reader;
+            self.note(reader);
+        }
+        self.note(process);
+    }
+
+    /// A process has got from a channel: it may go on, and so may the one that puts there.
+    pub(crate) fn note_get(&mut self, process: u32, channel: u32) {
+        self.note_room(channel);
+        self.note(process);
+    }
+
+    /// A channel has more room: the process that puts there may go on.
+    pub(crate) fn note_room(&mut self, channel: u32) {
+        if let Some(writer) = self.writers.get(channel as usize) {
+            let writer = *writer;
+            self.note(writer);
+        }
+    }
+
+    /// The same again.
+    pub(crate) fn copy(&self, alloc: Global) -> Result<Worklist, AllocError> {
+        let mut woken = Vec::with_capacity(alloc, self.listed.len())?;
+        for process in &self.woken {
+            woken.push(*process)?;
+        }
+        Ok(Worklist {
+            woken,
+            listed: Vec::from_slice(alloc, &self.listed)?,
+            processes: self.processes,
+            writers: Vec::from_slice(alloc, &self.writers)?,
+            readers: Vec::from_slice(alloc, &self.readers)?,
+        })
+    }
+}
+
+/// The process that puts on each channel.
+fn writers_of(alloc: Global, network: &Network) -> Result<Vec<u32>, AllocError> {
+    let mut writers = Vec::with_capacity(alloc, network.channels())?;
+    for channel in 0..network.channels() {
+        let writer = match network.source(channel) {
+            Source::Output(process, _) => process,
+            Source::Own(_) => NOBODY,
+        };
+        writers.push(writer)?;
+    }
+    Ok(writers)
+}
+
+/// The process that gets from each channel that ends at one.
+fn readers_of(alloc: Global, network: &Network) -> Result<Vec<u32>, AllocError> {
+    let mut readers = Vec::with_capacity(alloc, network.inner())?;
+    for process in 0..network.processes() {
+        for _ in network.offset(process)..network.offset(process + 1) {
+            readers.push(process as u32)?;
+        }
+    }
+    Ok(readers)
+}

@@ -1,0 +1,88 @@
+-- Processes that are copied.
+use Rattle.std.proofs.Common.{◌≡◌, ◌⊎◌, inl, inr, ℕ, zero, suc, ◌+◌, ◌<◌, ◌≤◌, List, [], ◌∷◌, ◌++◌, Bool, true, false, length, map, take, get_or, Option, Some, None, refl, sym, ap, ap₂, subst, ◌∙◌, arith}
+use Rattle.std.proofs.lemmas.List.{map_more}
+use Rattle.pt_meaning.specs.Streams.{Streams, at}
+use Rattle.pt_meaning.specs.Jam.{is_in_order}
+use Rattle.pt_reaction.specs.Spared.{Spared}
+use Rattle.pt_reaction.specs.Channels.{lists_of}
+use Rattle.pt_value.specs.declared.token.Token.{Token}
+use Rattle.pt_process.specs.declared.process.StagedPut.{StagedPut}
+use Rattle.pt_process.specs.declared.process.Process.TheInside.{Inside}
+use Rattle.pt_process.specs.Process.{Standing, put_of, puts_in, need_in, got_in, needed_at, room_at, Gathers, seen_process}
+use Rattle.pt_process.proofs.ProcessLaws.{lines-long}
+use Rattle.pt_process.proofs.StagedLaws.{puts-more}
+
+-- one put more
+pub puts-next : (us cs : List StagedPut) (k : ℕ) (u v : StagedPut) → k < length us → u ≡ get_or us k u → put_of v ≡ put_of u → puts_in cs ≡ puts_in (take k us) → puts_in (cs ++ (v ∷ [])) ≡ puts_in (take (k + 1) us)
+puts-next us cs k u v h e z f = puts-more cs v ∙ ap₂ (λ x y. x ++ (y ∷ [])) f (z ∙ ap put_of e) ∙ sym (map_more put_of us k u h)
+
+-- one line more
+pub lines-next : (L R : List (Spared Token)) (k : ℕ) (l w : Spared Token) → k < length L → l ≡ get_or L k l → w.list ≡ l.list → lists_of R ≡ lists_of (take k L) → lists_of (R ++ (w ∷ [])) ≡ lists_of (take (k + 1) L)
+lines-next L R k l w h e z f = behind R ∙ ap₂ (λ x y. x ++ (y ∷ [])) f (z ∙ ap (λ (v : Spared Token). v.list) e) ∙ sym (map_more (λ (v : Spared Token). v.list) L k l h)
+  where
+    behind : (R : List (Spared Token)) → lists_of (R ++ (w ∷ [])) ≡ lists_of R ++ (w.list ∷ [])
+    behind [] = refl
+    behind (x ∷ R) = ap (λ v. x.list ∷ v) (behind R)
+
+-- there is room for what is needed at a place
+abbrev pub HasRoomAt : Option (List ℕ) → List (Spared Token) → ℕ → Type 0
+HasRoomAt need lines q = needed_at need q ≤ length (at (lists_of lines) q) + room_at lines q
+
+pub rooms-next : (need : Option (List ℕ)) (R : List (Spared Token)) (w : Spared Token) (k count : ℕ) → length R ≡ k → ((q : ℕ) → q < k → HasRoomAt need R q) → count ≡ needed_at need k → count ≤ length w.list + w.spare → (q : ℕ) → q < k + 1 → HasRoomAt need (R ++ (w ∷ [])) q
+rooms-next need R w k count n h e r q l = by (split q k l)
+  where
+    split : (q k : ℕ) → q < k + 1 → (q < k) ⊎ (k ≡ q)
+    split q k l = grind arith
+
+    lists-front : (R : List (Spared Token)) (q : ℕ) → q < length R → at (lists_of (R ++ (w ∷ []))) q ≡ at (lists_of R) q
+    lists-front [] q h = absurd (omega (arith, h))
+    lists-front (x ∷ R) zero h = refl
+    lists-front (x ∷ R) (suc q) h = lists-front R q (omega (arith, h))
+
+    rooms-front : (R : List (Spared Token)) (q : ℕ) → q < length R → room_at (R ++ (w ∷ [])) q ≡ room_at R q
+    rooms-front [] q h = absurd (omega (arith, h))
+    rooms-front (x ∷ R) zero h = refl
+    rooms-front (x ∷ R) (suc q) h = rooms-front R q (omega (arith, h))
+
+    list-end : (R : List (Spared Token)) → at (lists_of (R ++ (w ∷ []))) (length R) ≡ w.list
+    list-end [] = refl
+    list-end (x ∷ R) = list-end R
+
+    room-end : (R : List (Spared Token)) → room_at (R ++ (w ∷ [])) (length R) ≡ w.spare
+    room-end [] = refl
+    room-end (x ∷ R) = room-end R
+
+    by : (q < k) ⊎ (k ≡ q) → HasRoomAt need (R ++ (w ∷ [])) q
+    by (inl s) =
+        let a = ap (λ v. length v) (lists-front R q (omega (arith, n, s))) in
+        let b = rooms-front R q (omega (arith, n, s)) in
+        let c = h q s in
+        omega (arith, a, b, c)
+    by (inr s) = subst (λ j. HasRoomAt need (R ++ (w ∷ [])) j) (n ∙ s) (
+        let a = ap (λ v. length v) (list-end R) in
+        let b = room-end R in
+        let c = e ∙ ap (λ j. needed_at need j) (sym n) in
+        omega (arith, a, b, c, r)
+        )
+
+pub same-lines : (L M : List (Spared Token)) → lists_of M ≡ lists_of L → length M ≡ length L
+same-lines L M e = sym (lines-long M) ∙ ap (λ v. length v) e ∙ lines-long L
+
+pub gathers-again : (need : Option (List ℕ)) (full : ℕ) (L M : List (Spared Token)) → lists_of M ≡ lists_of L → ((q : ℕ) → q < length L → HasRoomAt need M q) → Gathers need full L → Gathers need full M
+gathers-again None full L M e r g = tt
+gathers-again (Some ns) full L M e r g = record {
+  counted = g.counted ∙ sym (same-lines L M e);
+  order = ap (λ X. is_in_order ns X) e ∙ g.order;
+  full = λ q l. subst (λ X. get_or ns q 0 ≤ length (at X q)) (sym e) (g.full q l);
+  room = λ q l. r q (let z = same-lines L M e in omega (arith, l, z));
+}
+
+pub copied-is : (p : Inside) (s : Standing) (need : Option (List ℕ)) (row : Streams Token) (M : List (Spared Token)) (us : List StagedPut) → need ≡ p.need → row ≡ p.row.items → lists_of M ≡ lists_of p.lines.items → puts_in us ≡ puts_in p.puts.items → seen_process p ≡ s →
+    (let t : Standing = record { need = need_in need; got = got_in p.is_handed row M; puts = puts_in us; handed = p.is_handed } in t) ≡ s
+copied-is p s need row M us e f g h v =
+    ap₂ (λ m w. let t : Standing = record { need = need_in m; got = got_in p.is_handed row M; puts = w; handed = p.is_handed } in t) e h ∙
+    ap (λ X. let t : Standing = record { need = need_in p.need; got = X; puts = puts_in p.puts.items; handed = p.is_handed } in t) (got p.is_handed) ∙ v
+  where
+    got : (b : Bool) → got_in b row M ≡ got_in b p.row.items p.lines.items
+    got true = f
+    got false = g

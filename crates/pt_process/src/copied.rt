@@ -1,0 +1,85 @@
+ghost use Rattle.std.specs.Prelude.{◌≡◌, ℕ, ◌+◌, ◌<◌, ◌≤◌, length, get_or, IfOk};
+ghost use Rattle.pt_meaning.specs.Streams.{at};
+ghost use Rattle.pt_reaction.specs.Channels.{lists_of};
+ghost use Rattle.pt_process.specs.Process.{needed_at, room_at, put_of, puts_in};
+
+use crate::plan::{copies, need_copy};
+use crate::process::{Process, StagedPut};
+use crate::renew::count_at;
+use pt_firing::Counts;
+use pt_reaction::Line;
+use std::alloc::{AllocError, Global};
+use std::collections::VecDeque;
+
+impl Process {
+    ghost use Rattle.std.specs.Prelude.{◌≡◌, IfOk};
+
+    /// Another process in the same state.
+    pub fn copy(&self, alloc: Global) -> Result<Process, AllocError>
+        ensures { IfOk result (λ process. process ≡ self.now) }
+    {
+        let puts = puts_again(alloc, &self.puts)?;
+        let lines = lines_again(alloc, &self.lines, &self.need)?;
+        let row = copies(alloc, &self.row)?;
+        let need = need_copy(alloc, &self.need)?;
+        Ok(Process {
+            need,
+            lines,
+            row,
+            is_handed: self.is_handed,
+            full: self.full,
+            puts,
+        })
+    }
+}
+
+/// The same puts again.
+fn puts_again(alloc: Global, puts: &VecDeque<StagedPut>) -> Result<VecDeque<StagedPut>, AllocError>
+    ensures { IfOk result (λ copies. puts_in copies.items ≡ puts_in puts.now.items) }
+{
+    let mut copies = VecDeque::new(alloc);
+    for k in 0..puts.len() {
+        let copy = put_again(alloc, &puts[k])?;
+        match copies.push_back(copy) {
+            Ok(()) => {}
+            Err(_) => return Err(AllocError),
+        }
+    }
+    Ok(copies)
+}
+
+fn put_again(alloc: Global, put: &StagedPut) -> Result<StagedPut, AllocError>
+    ensures { IfOk result (λ copy. put_of copy ≡ put_of put.now) }
+{
+    Ok(StagedPut {
+        channel: put.channel,
+        token: put.token.copy(alloc)?,
+    })
+}
+
+/// The same lines again, each with room for all that is needed.
+fn lines_again(
+    alloc: Global,
+    lines: &[Line],
+    need: &Option<Counts>,
+) -> Result<Vec<Line>, AllocError>
+    ensures lists { IfOk result (λ copies. lists_of copies.items ≡ lists_of lines.now) }
+    ensures rooms { IfOk result (λ copies. (q : ℕ) → q < length lines.now → needed_at need.now q ≤ length (at (lists_of copies.items) q) + room_at copies.items q) }
+{
+    let mut copies = Vec::with_capacity(alloc, lines.len())?;
+    for place in 0..lines.len() {
+        let copy = line_again(alloc, &lines[place], count_at(need, place))?;
+        copies.push(copy)?;
+    }
+    Ok(copies)
+}
+
+/// The same of one line, of which so many tokens are needed.
+fn line_again(alloc: Global, line: &Line, count: usize) -> Result<Line, AllocError>
+    ensures list { IfOk result (λ copy. copy.list ≡ line.now.list) }
+    ensures room { IfOk result (λ copy. count ≤ length copy.list + copy.spare) }
+{
+    let mut copy = line.copy(alloc)?;
+    copy.reserve(alloc, count.saturating_sub(line.len()))?;
+    Ok(copy)
+}
