@@ -1,6 +1,7 @@
-ghost use Rattle.std.specs.Prelude.{◌≡◌, ◌++◌, ℕ, IfOk, OnOk};
+ghost use Rattle.std.specs.Prelude.{◌≡◌, ◌++◌, ℕ, map, IfOk, OnOk};
+ghost use Rattle.pt_types.specs.Ty.{type_of};
 ghost use Rattle.pt_facts.specs.CheckText as text;
-ghost use Rattle.pt_facts.specs.CheckText.{number_line, type_line, type_lines, repetitions_lines, depths_lines};
+ghost use Rattle.pt_facts.specs.CheckText.{number_line, type_line, type_lines, repetitions_lines, depths_lines, typed};
 
 use itoa::Buffer;
 use pt_types::{Ty, print};
@@ -19,7 +20,7 @@ pub struct Facts {
 
 /// The text of a check, a line for each fact and one for the end. It takes time linear in its length.
 pub fn check_text(alloc: Global, facts: &Facts) -> Result<Vec<u8>, AllocError>
-    ensures { IfOk result (λ bytes. bytes.items ≡ text.check_text facts.now.types.items facts.now.repetitions.items facts.now.depths.items) }
+    ensures { IfOk result (λ bytes. bytes.items ≡ text.check_text (map typed facts.now.types.items) facts.now.repetitions.items facts.now.depths.items) }
 {
     let mut out = Vec::new(alloc);
     write_types(&facts.types, &mut out)?;
@@ -30,7 +31,7 @@ pub fn check_text(alloc: Global, facts: &Facts) -> Result<Vec<u8>, AllocError>
 }
 
 fn write_types(types: &[(Text, Ty)], out: &mut Vec<u8>) -> Result<(), AllocError>
-    ensures { OnOk result (out.new.items ≡ out.old.items ++ type_lines types.now) }
+    ensures { OnOk result (out.new.items ≡ out.old.items ++ type_lines (map typed types.now)) }
 {
     for (port, ty) in types {
         write_type(port, ty, out)?;
@@ -39,7 +40,7 @@ fn write_types(types: &[(Text, Ty)], out: &mut Vec<u8>) -> Result<(), AllocError
 }
 
 fn write_type(port: &Text, ty: &Ty, out: &mut Vec<u8>) -> Result<(), AllocError>
-    ensures { OnOk result (out.new.items ≡ out.old.items ++ type_line port.now ty.now) }
+    ensures { OnOk result (out.new.items ≡ out.old.items ++ type_line port.now (type_of ty.now)) }
 {
     out.extend_from_slice(b"type ")?;
     out.extend_from_slice(port.as_str().as_bytes())?;
