@@ -8,6 +8,7 @@ mod firing;
 mod flow_library;
 mod library;
 mod lists;
+mod modal;
 mod numbers;
 mod parameters;
 mod parsing;
@@ -50,6 +51,7 @@ impl Answers for Questions {
             "plans.txt" => plans::answer(alloc, section, question, out),
             "de_plans.txt" => de_plans::answer(alloc, section, question, out),
             "de_cores.txt" => de_cores::answer(alloc, section, question, out),
+            "modal.txt" => modal::answer(alloc, section, question, out),
             "receivers.txt" => receivers::answer(alloc, section, question, out),
             "tags.txt" => tags::answer(alloc, section, question, out),
             "firing.txt" => firing::answer(alloc, section, question, out),
