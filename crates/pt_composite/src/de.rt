@@ -32,12 +32,7 @@ pub(crate) fn de_composite(
     ensures stands { IfErr result (IsUncomposed de (around_of wiring) (map shown children.items)) }
 {
     let core = core_of(alloc, &children, wiring)?;
-    Ok(composite_node(
-        Either::Other(Either::Other(core)),
-        children,
-        path,
-        records,
-    ))
+    Ok(composite_node(Either::Other(Either::Other(core)), children, path, records))
 }
 
 /// The core of the composite, which starts with its plan.

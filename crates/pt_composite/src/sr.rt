@@ -37,12 +37,7 @@ pub(crate) fn sr_composite(
         return Err(CompositeFault::Unbuilt);
     }
     let core = core_of(alloc, &children, wiring)?;
-    Ok(composite_node(
-        Either::Other(Either::First(core)),
-        children,
-        path,
-        records,
-    ))
+    Ok(composite_node(Either::Other(Either::First(core)), children, path, records))
 }
 
 /// The core round these children, of which those that their libraries don't tell to be strict are asked for early answers.

@@ -69,10 +69,10 @@ module _ (net : Net) (values : Values) (typing : Assignment) (starts : Starts) (
   unfit-events k e kids at by all bad = elim (composites-built net) [
     | inl some ↦ other some
     | inr built ↦ (
-    let top = tops-there net doc in
-    let d = directed-top net values top.0 started.placed top.1 in
-    let order = nets-ordered net top.0 d.0 doc built top.1 d.1 in
-    malformed k e De kids at by all (λ wired. bad (record { wired = wired; begin = begin-at-outputs net values typing starts k e kids order (started-in net values typing starts started.started) at all })))
+        let top = tops-there net doc in
+        let d = directed-top net values top.0 started.placed top.1 in
+        let order = nets-ordered net top.0 d.0 doc built top.1 d.1 in
+        malformed k e De kids at by all (λ wired. bad (record { wired = wired; begin = begin-at-outputs net values typing starts k e kids order (started-in net values typing starts started.started) at all })))
   ]
 
   -- a composite that doesn't fit its director

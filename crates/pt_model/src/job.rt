@@ -37,12 +37,7 @@ fn stated(net: &Net, started: &Started) -> u64
 }
 
 /// What a job asks of an SDF top that takes so many tokens in an iteration.
-fn sdf_job(
-    alloc: Global,
-    net: &Net,
-    started: &Started,
-    takes: &Counts,
-) -> Result<SdfJob, DocFault>
+fn sdf_job(alloc: Global, net: &Net, started: &Started, takes: &Counts) -> Result<SdfJob, DocFault>
     requires started { IsStarted net.now started.now.values (assignment started.now.typing) started.now.starts.items }
     requires built { (top : Shown) × IsBuilt net.now started.now.starts.items 0 top }
     requires present { may_lack (net_view net.now) ≡ false }
