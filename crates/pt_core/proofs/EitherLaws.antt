@@ -2,16 +2,17 @@
 use Rattle.std.proofs.Common.{◌≡◌, ℕ, List, length, map, not, Option, Some, ap}
 use Rattle.pt_meaning.specs.Tag.{Tag}
 use Rattle.pt_meaning.specs.Streams.{Streams}
-use Rattle.pt_meaning.specs.Machine.{Need}
+use Rattle.pt_meaning.specs.Machine.{Need, Partial}
 use Rattle.pt_meaning.specs.Tree.{Rows, Node, list_of, nodes_of, reset_of}
 use Rattle.pt_meaning.specs.NodeFacts.{core_wake, wakes_of}
 use Rattle.pt_value.specs.declared.token.Token.{Token}
+use Rattle.pt_firing.specs.declared.ask.Ask.{Ask}
 use Rattle.pt_firing.specs.declared.ask.Ask.TheVariants.{Fire, Early, Finished}
 use Rattle.pt_records.specs.Kept.{Kept}
 use Rattle.pt_core.specs.declared.either.Either.{Either}
 use Rattle.pt_core.specs.declared.either.Either.TheVariants.{First, Other}
 use Rattle.pt_core.specs.Acts.{Beginning, Calls, Acts}
-use Rattle.pt_core.specs.Lawful.{CallsAgree, Middle, Lawful}
+use Rattle.pt_core.specs.Lawful.{KeepsMaximum, CallsAgree, Middle, Lawful}
 use Rattle.pt_core.specs.EitherActs.{either_calls, begun_as, UnderwayFrom, either_acts}
 
 module _ {A B : Type 0} (a : Calls A) (b : Calls B) (la : CallsAgree a) (lb : CallsAgree b) where
@@ -50,8 +51,39 @@ module _ {A B : Type 0} (a : Calls A) (b : Calls B) (la : CallsAgree a) (lb : Ca
   restarts-one (First s) = la.restarts s
   restarts-one (Other s) = lb.restarts s
 
+  begun-max : (tag : Tag) (inputs : Streams Token) (s : Either A B) → c.maximum (c.begun tag inputs s) ≡ c.maximum s
+  begun-max tag inputs (First s) = la.keeps_maximum.begun tag inputs s
+  begun-max tag inputs (Other s) = lb.keeps_maximum.begun tag inputs s
+
+  asking-max : (answer : Ask) (s : Either A B) → c.maximum (c.asking answer s) ≡ c.maximum s
+  asking-max answer (First s) = la.keeps_maximum.asking answer s
+  asking-max answer (Other s) = lb.keeps_maximum.asking answer s
+
+  handed-max : (s : Either A B) → c.maximum (c.handed s) ≡ c.maximum s
+  handed-max (First s) = la.keeps_maximum.handed s
+  handed-max (Other s) = lb.keeps_maximum.handed s
+
+  told-max : (i : ℕ) (out : Streams Token) (wake : Option Tag) (need : Need) (s : Either A B) → c.maximum (c.told i out wake need s) ≡ c.maximum s
+  told-max i out wake need (First s) = la.keeps_maximum.told i out wake need s
+  told-max i out wake need (Other s) = lb.keeps_maximum.told i out wake need s
+
+  heard-max : (i : ℕ) (early : List (Partial Token)) (s : Either A B) → c.maximum (c.heard i early s) ≡ c.maximum s
+  heard-max i early (First s) = la.keeps_maximum.heard i early s
+  heard-max i early (Other s) = lb.keeps_maximum.heard i early s
+
+  closed-max : (s : Either A B) → c.maximum (c.closed s) ≡ c.maximum s
+  closed-max (First s) = la.keeps_maximum.closed s
+  closed-max (Other s) = lb.keeps_maximum.closed s
+
+  restarted-max : (s : Either A B) → c.maximum (c.restarted s) ≡ c.maximum s
+  restarted-max (First s) = la.keeps_maximum.restarted s
+  restarted-max (Other s) = lb.keeps_maximum.restarted s
+
+  keeps-one : KeepsMaximum (either_calls a b)
+  keeps-one = record { begun = begun-max; asking = asking-max; handed = handed-max; told = told-max; heard = heard-max; closed = closed-max; restarted = restarted-max }
+
   pub either-agrees : CallsAgree (either_calls a b)
-  either-agrees = record { asked = asked-one; listened = listened-one; hands = hands-one; hands_on = on-one; asks_on = asks-one; tells = tells-one; finishes = finishes-one; restarts = restarts-one }
+  either-agrees = record { asked = asked-one; listened = listened-one; hands = hands-one; hands_on = on-one; asks_on = asks-one; tells = tells-one; finishes = finishes-one; restarts = restarts-one; keeps_maximum = keeps-one }
 
 module _ {N A B : Type 0} {rows : Rows Token N} (a : Acts rows A) (b : Acts rows B) (la : Lawful a) (lb : Lawful b) where
   abbrev e : Acts rows (Either A B)

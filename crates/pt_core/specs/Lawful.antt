@@ -64,6 +64,16 @@ own_fault h kind = record { path = []; firing = h.made; code = code_of kind }
 abbrev pub child_fault : {A : Type 0} → ℕ → Node Token A → RunFault → Fault
 child_fault i child kind = record { path = i ∷ []; firing = made_of child; code = code_of kind }
 
+-- No call changes the maximum capacity that the director states.
+pub record KeepsMaximum {C : Type 0} (c : Calls C) : Type 0 where
+  pub begun : (tag : Tag) (inputs : Streams Token) (s : C) → c.maximum (c.begun tag inputs s) ≡ c.maximum s
+  pub asking : (answer : Ask) (s : C) → c.maximum (c.asking answer s) ≡ c.maximum s
+  pub handed : (s : C) → c.maximum (c.handed s) ≡ c.maximum s
+  pub told : (i : ℕ) (out : Streams Token) (wake : Option Tag) (need : Need) (s : C) → c.maximum (c.told i out wake need s) ≡ c.maximum s
+  pub heard : (i : ℕ) (early : List (Partial Token)) (s : C) → c.maximum (c.heard i early s) ≡ c.maximum s
+  pub closed : (s : C) → c.maximum (c.closed s) ≡ c.maximum s
+  pub restarted : (s : C) → c.maximum (c.restarted s) ≡ c.maximum s
+
 -- How the calls of a director agree with one another, whatever its children are.
 pub record CallsAgree {C : Type 0} (c : Calls C) : Type 0 where
   -- a child that was asked to fire, or for an early answer, may be told so
@@ -79,6 +89,7 @@ pub record CallsAgree {C : Type 0} (c : Calls C) : Type 0 where
   pub finishes : (s : C) → c.Gives s Finished → c.MayFinish (c.asking Finished s)
   -- the start that is brought back is that of the definitions
   pub restarts : (s : C) → (c.core_of (c.restarted s) ≡ c.start_of s) × (c.start_of (c.restarted s) ≡ c.start_of s)
+  pub keeps_maximum : KeepsMaximum c
 
 module _ {A C : Type 0} {rows : Rows Token A} (a : Acts rows C) where
   abbrev c : Calls C

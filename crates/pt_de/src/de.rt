@@ -32,7 +32,6 @@ pub(crate) enum Stage {
 /// The core of a DE composite. It never calls a child: it asks for firings and early answers, and is told what they gave.
 ///
 /// A firing of the composite is one reaction: `begin`, then `ask` and, for what it asks, `told` or `hears`, and at `Finished` the call `finish`.
-#[derive(Drop)]
 pub struct DeCore {
     reaction: Reaction,
     stage: Stage,
@@ -41,6 +40,19 @@ pub struct DeCore {
     need: OneEach,
     // A buffer for what is given.
     staged: Vec<Tokens>,
+}
+
+// Written by hand, so that letting go of a core is one call in the proofs above.
+impl Drop for DeCore {
+    fn drop(self) {
+        let DeCore {
+            reaction: _,
+            stage: _,
+            rows: _,
+            need: _,
+            staged: _,
+        } = self;
+    }
 }
 
 impl Model for DeCore {
@@ -82,6 +94,13 @@ impl DeCore {
             need,
             staged: Vec::new(alloc),
         })
+    }
+
+    /// The depth of each child: of two that are due in one reaction the one of less depth has its turn first.
+    pub fn depths(&self) -> &[u32]
+        ensures { result.now ≡ self.now.roles.depths }
+    {
+        self.reaction.depths()
     }
 
     /// What comes next where no child has rows left.

@@ -357,6 +357,7 @@ module _ {A : Type 0} (rows : Rows Token A) (law : LawfulRows rows) where
       tells = λ s i out wake need q. refl;
       finishes = λ s q. refl;
       restarts = λ s. (refl, refl);
+      keeps_maximum = record { begun = λ tag inputs s. refl; asking = λ answer s. refl; handed = λ s. refl; told = λ i out wake need s. refl; heard = λ i early s. refl; closed = λ s. refl; restarted = λ s. refl };
     };
     idle = λ s kids f. f.0;
     wakes = λ s kids f. ap (λ ws. least ws) (f.1 ∙ wakes-are rows kids);

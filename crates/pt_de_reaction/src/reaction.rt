@@ -14,7 +14,6 @@ use std::marker::Model;
 const ORIGIN: Tag = Tag { time: 0, step: 0 };
 
 /// A reaction at a tag: what each channel has, and what the children have done.
-#[derive(Drop)]
 pub struct Reaction {
     net: Net,
     agenda: Agenda,
@@ -24,6 +23,21 @@ pub struct Reaction {
     channels: Channels,
     tag: Tag,
     under_way: bool,
+}
+
+// Written by hand, so that letting go of a reaction is one call in the proofs above.
+impl Drop for Reaction {
+    fn drop(self) {
+        let Reaction {
+            net: _,
+            agenda: _,
+            last: _,
+            turns: _,
+            channels: _,
+            tag: _,
+            under_way: _,
+        } = self;
+    }
 }
 
 impl Model for Reaction {
@@ -85,6 +99,13 @@ impl Reaction {
         ensures { result ≡ self.now.state.tag }
     {
         self.tag
+    }
+
+    /// The depth of each child: of two that are due in one reaction the one of less depth has its turn first.
+    pub fn depths(&self) -> &[u32]
+        ensures { result.now ≡ self.now.state.roles.depths }
+    {
+        self.net.depths()
     }
 
     /// Begins a reaction with the tokens of the own inputs. After an `Err` it is as before. `staged` is a buffer.

@@ -35,7 +35,6 @@ pub(crate) enum Stage {
 /// The core of a PN composite. It makes the gets, puts and growths itself, and never calls a process: it asks for firings, and is told what they gave.
 ///
 /// A firing of the composite is `begin`, then `ask` and, where it asks for a firing, `told`, and at `Finished` the call `finish`.
-#[derive(Drop)]
 pub struct Core {
     network: Network,
     processes: Vec<Process>,
@@ -49,6 +48,23 @@ pub struct Core {
     worklist: Worklist,
     tag: Tag,
     stage: Stage,
+}
+
+// Written by hand, so that letting go of a core is one call in the proofs above.
+impl Drop for Core {
+    fn drop(self) {
+        let Core {
+            network: _,
+            processes: _,
+            capacity: _,
+            queues: _,
+            promised: _,
+            staged: _,
+            worklist: _,
+            tag: _,
+            stage: _,
+        } = self;
+    }
 }
 
 impl Model for Core {

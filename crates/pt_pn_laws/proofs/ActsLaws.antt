@@ -1,5 +1,5 @@
 -- The calls of the core are lawful.
-use Rattle.std.proofs.Common.{◌≡◌, ◌⊎◌, inl, inr, ℕ, zero, suc, ◌<◌, List, [], ◌∷◌, true, false, length, map, set, get_or, take, Some, None, refl, sym, ap, ap₂, subst, ◌∙◌, arith, length-set}
+use Rattle.std.proofs.Common.{◌≡◌, ◌⊎◌, inl, inr, ℕ, zero, suc, ◌<◌, List, [], ◌∷◌, true, false, length, map, set, get_or, take, Option, Some, None, refl, sym, ap, ap₂, subst, ◌∙◌, arith, length-set}
 use Rattle.std.specs.Prelude.{IsSome}
 use Rattle.std.proofs.lemmas.Bool.{cases_eq}
 use Rattle.std.proofs.lemmas.List.{length-map}
@@ -29,10 +29,10 @@ use Rattle.pt_core.specs.Acts.{Beginning, Acts}
 use Rattle.pt_core.specs.Lawful.{Lawful, IsUsual, IsMove, IsLentTo, IsStuck, IsLeftOff, node, outcome, below_fault}
 use Rattle.pt_core.specs.Reached.{Becomes, Stays, Fires, Resets, Always, AllAlways}
 use Rattle.pt_core.proofs.ReachedLaws.{always-reset}
-use Rattle.pt_pn_laws.specs.State.{Network, Closed, MayFire, MayGrow, IsFull, IsOver, net_of, got_of, held_of, in_stage, grown_by, begun, after_grow, after_told, own_of, closed, restarted, started, blocked_of, waits}
+use Rattle.pt_pn_laws.specs.State.{Network, Closed, MayFire, MayGrow, IsFull, IsOver, net_of, got_of, held_of, in_stage, grown_by, begun, least_full, after_grow, after_told, own_of, closed, restarted, started, blocked_of, waits}
 use Rattle.pt_pn_laws.specs.Lawful.{HasPlaces, AllCount}
 use Rattle.pt_pn_laws.specs.SoFar.{PnSoFar, composite_of, outcome_of, child_outcome}
-use Rattle.pt_pn_laws.specs.PnActs.{State, MayAsk, Gives, asking, Going, Fits, pn_acts}
+use Rattle.pt_pn_laws.specs.PnActs.{State, MayAsk, Gives, asking, Going, Fits, pn_calls, pn_acts}
 use Rattle.pt_pn_laws.proofs.ListLaws.{length-part}
 use Rattle.pt_pn_laws.proofs.ChainLaws.{calls-are-pn}
 use Rattle.pt_pn_laws.proofs.PauseLaws.{pn-asks}
@@ -226,6 +226,24 @@ module _ {A : Type 0} (rows : Rows Token A) (law : LawfulRows rows) (b : Beginni
       subst (λ t. FromSome (λ k. IsJammed rows k [] b.meets maximum count (composite_of h b.before b.kids) t b.inputs (blocked_of s))) g.tag
       (firings-are-pn.jams rows b.meets b.before b.kids b.inputs b.olds s now news g.so_far full h maximum count (most ∙ ap (λ (n : Network Token). n.maximum) (sym same)) made each)
 
+-- no event of the core changes the maximum capacity
+grown-keeps : (least : Option (ℕ × ℕ)) (s : State) → (grown_by least s).network.maximum ≡ s.network.maximum
+grown-keeps None s = refl
+grown-keeps (Some least) s = refl
+
+asking-keeps : (answer : Ask) (s : State) → pn_calls.maximum (pn_calls.asking answer s) ≡ pn_calls.maximum s
+asking-keeps (ask.Fire child tag) s = refl
+asking-keeps (ask.Get child) s = refl
+asking-keeps (ask.Put child) s = refl
+asking-keeps ask.Grow s = grown-keeps (least_full s) s
+asking-keeps ask.Finished s = refl
+asking-keeps ask.Full s = refl
+asking-keeps (ask.Early child tag) s = refl
+asking-keeps (ask.Reset child) s = refl
+asking-keeps (ask.Faulted kind child) s = refl
+asking-keeps ask.Meet s = refl
+asking-keeps ask.Await s = refl
+
 pub pn-is-lawful : {A : Type 0} (rows : Rows Token A) → LawfulRows rows → Lawful (pn_acts rows)
 pn-is-lawful rows law = record {
   agree = record {
@@ -237,6 +255,7 @@ pn-is-lawful rows law = record {
     tells = λ s i out wake need e. refl;
     finishes = λ s q. refl;
     restarts = λ s. (ap (λ X. tree.Pn s.network.plan X) (joined-first (total s.network.plan.net.places) s.network.first), refl);
+    keeps_maximum = record { begun = λ tag inputs s. refl; asking = asking-keeps; handed = λ s. refl; told = λ i out wake need s. refl; heard = λ i early s. refl; closed = λ s. refl; restarted = λ s. refl };
   };
   idle = λ s kids f. f.idle;
   wakes = λ s kids f. refl;
