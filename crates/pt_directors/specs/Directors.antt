@@ -10,13 +10,15 @@ use Rattle.pt_sr.specs.Clauses as sr
 use Rattle.pt_sr.specs.SrActs.{sr_calls, sr_acts}
 use Rattle.pt_de_laws.specs.DeActs as de
 use Rattle.pt_de_laws.specs.DeActs.{de_calls, de_acts}
+use Rattle.pt_pn_laws.specs.PnActs as pn
+use Rattle.pt_pn_laws.specs.PnActs.{pn_calls, pn_acts}
 
 -- the state of a director
 abbrev pub Director : Type 0
-Director = Either sdf.State (Either sr.State de.State)
+Director = Either sdf.State (Either sr.State (Either de.State pn.State))
 
 abbrev pub director_calls : Calls Director
-director_calls = either_calls sdf_calls (either_calls sr_calls de_calls)
+director_calls = either_calls sdf_calls (either_calls sr_calls (either_calls de_calls pn_calls))
 
 abbrev pub director_acts : {A : Type 0} (rows : Rows Token A) → Acts rows Director
-director_acts rows = either_acts (sdf_acts rows) (either_acts (sr_acts rows) (de_acts rows))
+director_acts rows = either_acts (sdf_acts rows) (either_acts (sr_acts rows) (either_acts (de_acts rows) (pn_acts rows)))
