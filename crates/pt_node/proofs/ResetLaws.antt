@@ -12,7 +12,7 @@ use Rattle.pt_node.specs.declared.body.Body.TheVariants.{Actor, Composite}
 use Rattle.pt_node.specs.declared.body.Held.{Held}
 use Rattle.pt_node.specs.Acts.{acts}
 use Rattle.pt_node.specs.Shown.{Shown, AllShown, all_of}
-use Rattle.pt_node.specs.View.{Tree, Trees, Outlines, with, node_with, nodes_of, kept_of, kepts_of, outline_of, outlines_of, count_of, counts_of}
+use Rattle.pt_node.specs.View.{Tree, Trees, Outlines, with, node_with, nodes_of, maximum_in, kept_of, kepts_of, outline_of, outlines_of, count_of, counts_of}
 use Rattle.pt_node.specs.Live.{IsReady, IsReadyBody, AllFit}
 use Rattle.pt_node.specs.Reset.{WasReset, WereReset, BodyReset, KeepsRecords, KeepRecords, ResetTo}
 use Rattle.pt_node.proofs.ActsLaws.{acts-are-lawful}
@@ -103,3 +103,7 @@ composite-reset d d' ks ks' ready e w = record {
 pub all-reset : {E : Type 0} (r : Result (Unit {0}) E) (b : Body) (d d' : Director) (ks ks' : AllShown) → b ≡ Composite d → IsReadyBody b ks → d' ≡ acts.calls.restarted d → OnOk r (WereReset ks ks') → OnOk r (BodyReset b ks (Composite d') ks')
 all-reset (Ok u) b d d' ks ks' is ready e w = subst (λ v. BodyReset v ks (Composite d') ks') (sym is) (composite-reset d d' ks ks' (subst (λ v. IsReadyBody v ks) is ready) e w)
 all-reset (Err x) b d d' ks ks' is ready e w = tt
+
+-- brought back to its start, a director states the same maximum capacity
+pub restarted-maximum : (b : Body) (d d' : Director) → b ≡ Composite d → d' ≡ acts.calls.restarted d → acts.calls.maximum d' ≡ maximum_in b
+restarted-maximum b d d' is e = ap (λ v. acts.calls.maximum v) e ∙ acts-are-lawful.agree.keeps_maximum.restarted d ∙ sym (ap (λ v. maximum_in v) is)

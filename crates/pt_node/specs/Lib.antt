@@ -6,5 +6,6 @@ pub mod Live
 pub mod Reset
 pub mod Firing
 pub mod Stuck
+pub mod Full
 pub mod Unmet
 pub mod Wake

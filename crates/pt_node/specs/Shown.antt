@@ -13,6 +13,7 @@ pub record Frame : Type 0 where
   pub body : Body
   pub records : List RecordedPort
   pub path : List ℕ
+  pub labels : List (List ℕ)
   pub live : Bool
 
 mutual
@@ -34,7 +35,7 @@ list_of (more s ss) = s ∷ list_of ss
 
 -- one level of the code's tree, where the children are shown already
 abbrev pub node_step : opens.Node-F Shown → Shown
-node_step x = Branch (record { past = x.past; body = x.body; records = x.records; path = x.path; live = x.live }) (all_of x.children.items)
+node_step x = Branch (record { past = x.past; body = x.body; records = x.records; path = x.path; labels = x.labels; live = x.live }) (all_of x.children.items)
 
 -- what a node shows
 unfoldable pub shown : Node → Shown
@@ -42,7 +43,7 @@ shown = fold-Node Shown node_step
 
 -- what it shows by its fields
 abbrev pub level : opens.Node-F Node → Shown
-level x = Branch (record { past = x.past; body = x.body; records = x.records; path = x.path; live = x.live }) (all_of (map shown x.children.items))
+level x = Branch (record { past = x.past; body = x.body; records = x.records; path = x.path; labels = x.labels; live = x.live }) (all_of (map shown x.children.items))
 
 abbrev pub shown_node : Node → Shown
 shown_node n = level (out-Node n)

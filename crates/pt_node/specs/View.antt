@@ -77,10 +77,15 @@ pub record Heading : Type 0 where
 abbrev pub heading_of : RecordedPort → Heading
 heading_of r = record { port = r.port; number = r.number; text = r.text }
 
--- The names of a tree: of each node the text of its path, and the headings of its recorded ports. No firing changes them.
+-- the maximum capacity of a channel that the director of a composite states, 0 where it states none
+abbrev pub maximum_in : Body → ℕ
+maximum_in (Actor held) = 0
+maximum_in (Composite director) = director_calls.maximum director
+
+-- What of a tree no firing changes: of each node the text of its path, the headings of its recorded ports, the maximum capacity of its channels, and how a report tells these.
 mutual
   pub data Outline : Type 0 where
-    Named : List ℕ → List Heading → Outlines → Outline
+    Named : List ℕ → List Heading → (maximum : ℕ) → (labels : List (List ℕ)) → Outlines → Outline
 
   pub data Outlines : Type 0 where
     end : Outlines
@@ -88,7 +93,7 @@ mutual
 
 abbrev mutual
   pub outline_of : Shown → Outline
-  outline_of (Branch f ks) = Named f.path (map heading_of f.records) (outlines_of ks)
+  outline_of (Branch f ks) = Named f.path (map heading_of f.records) (maximum_in f.body) f.labels (outlines_of ks)
 
   pub outlines_of : AllShown → Outlines
   outlines_of none = end
@@ -97,7 +102,7 @@ abbrev mutual
 -- how many levels there are
 abbrev mutual
   pub depth : Outline → ℕ
-  depth (Named text hs os) = suc (depths os)
+  depth (Named text hs most ls os) = suc (depths os)
 
   pub depths : Outlines → ℕ
   depths end = 0
@@ -106,10 +111,32 @@ abbrev mutual
 -- the text of the node at a path, if there is one
 abbrev mutual
   pub text_at : Outline → Path → Option (List ℕ)
-  text_at (Named text hs os) [] = Some text
-  text_at (Named text hs os) (i ∷ p) = text_below os i p
+  text_at (Named text hs most ls os) [] = Some text
+  text_at (Named text hs most ls os) (i ∷ p) = text_below os i p
 
   pub text_below : Outlines → ℕ → Path → Option (List ℕ)
   text_below end i p = None
   text_below (with o os) zero p = text_at o p
   text_below (with o os) (suc i) p = text_below os i p
+
+-- the maximum capacity at a path, 0 where there is no node
+abbrev mutual
+  pub maximum_at : Outline → Path → ℕ
+  maximum_at (Named text hs most ls os) [] = most
+  maximum_at (Named text hs most ls os) (i ∷ p) = maximum_below os i p
+
+  pub maximum_below : Outlines → ℕ → Path → ℕ
+  maximum_below end i p = 0
+  maximum_below (with o os) zero p = maximum_at o p
+  maximum_below (with o os) (suc i) p = maximum_below os i p
+
+-- how a report tells the channels of the node at a path, none where there is no node
+abbrev mutual
+  pub labels_at : Outline → Path → List (List ℕ)
+  labels_at (Named text hs most ls os) [] = ls
+  labels_at (Named text hs most ls os) (i ∷ p) = labels_below os i p
+
+  pub labels_below : Outlines → ℕ → Path → List (List ℕ)
+  labels_below end i p = []
+  labels_below (with o os) zero p = labels_at o p
+  labels_below (with o os) (suc i) p = labels_below os i p

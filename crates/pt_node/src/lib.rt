@@ -2,12 +2,14 @@
 #![tactic(auto)]
 
 mod body;
+mod labels;
 mod node;
 mod past;
 mod recorded;
 mod unmet;
 
 pub use body::{Body, Held};
+pub use labels::Labels;
 pub use node::Node;
 pub use past::Past;
 pub use recorded::{Recorded, Records};

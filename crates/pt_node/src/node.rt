@@ -8,11 +8,12 @@ ghost use Rattle.pt_firing.specs.Need.{need_of};
 ghost use Rattle.pt_library.specs.LibraryActor as library;
 ghost use Rattle.pt_node.specs.Live.{is_live, IsFit, IsReadyBody, AllFit};
 ghost use Rattle.pt_node.specs.Reset.{WasReset, WereReset, BodyReset, KeepsRecords, KeepRecords};
-ghost use Rattle.pt_node.specs.View.{node_of, meetings_in};
+ghost use Rattle.pt_node.specs.View.{node_of, meetings_in, maximum_in};
 ghost use Rattle.pt_node.specs.Firing.{noted, bare, recorded};
 ghost use Rattle.pt_node.specs.Wake.{begins, own_wake};
 
 use crate::body::Body;
+use crate::labels::Labels;
 use crate::past::Past;
 use crate::recorded::Records;
 use pt_core::Core;
@@ -32,6 +33,8 @@ pub struct Node {
     pub children: Vec<Node>,
     /// Its path from the top, as a report tells it.
     pub path: Text,
+    /// How a report tells the channels of a process network.
+    pub labels: Labels,
 }
 
 // Written by hand, as that of what is in it: so letting go of a tree is one call in the proofs of the crates above, whatever a node holds.
@@ -44,6 +47,7 @@ impl Drop for Node {
             body: _,
             children: _,
             path: _,
+            labels: _,
         } = self;
     }
 }
@@ -185,6 +189,7 @@ fn reset_body(alloc: Global, body: &mut Body, children: &mut Vec<Node>) -> Resul
     requires fit { AllFit (all_of (map shown children.old.items)) }
     ensures reset { OnOk result (BodyReset body.old (all_of (map shown children.old.items)) body.new (all_of (map shown children.new.items))) }
     ensures meetings { meetings_in body.new ≡ meetings_in body.old }
+    ensures maximum { maximum_in body.new ≡ maximum_in body.old }
     ensures kept { KeepRecords (all_of (map shown children.old.items)) (all_of (map shown children.new.items)) }
 {
     match body {
