@@ -1,4 +1,4 @@
--- What the nodes of the code are that are built from a net: each entity under its path and with its recorded outputs, as it starts.
+-- What the nodes of the code are that are built from a net: each entity under its path, with its recorded outputs and with how a report tells its channels, as it starts.
 use Rattle.std.specs.Prelude.{◌≡◌, ℕ, suc, List, [], ◌∷◌, true, None}
 use Rattle.std.specs.List.{Contains}
 use Rattle.pt_meaning.specs.Tree as tree
@@ -16,6 +16,7 @@ use Rattle.pt_trees.specs.declared.build_fault.BuildFault.{BuildFault}
 use Rattle.pt_trees.specs.declared.build_fault.BuildFault.TheVariants.{Refused, Unbuilt, Memory}
 use Rattle.pt_trees.specs.Composite.{trees_of, IsComposite}
 use Rattle.pt_trees.specs.Directors.{director_of, IsDirectedBy, composing}
+use Rattle.pt_trees.specs.Labels.{labels_of}
 use Rattle.pt_trees.specs.Trees.{IsEntity, IsUndirected, around_in, Starts, StartsAs}
 use Rattle.pt_trees.specs.Recorded.{recorded_of}
 use Rattle.pt_trees.specs.declared.composite_fault.CompositeFault.{CompositeFault}
@@ -23,7 +24,7 @@ use Rattle.pt_trees.specs.declared.composite_fault.CompositeFault.TheVariants as
 
 -- the node of a library actor that has not fired
 abbrev pub held_node : Held → (path : List ℕ) → List RecordedPort → Shown
-held_node held path records = Branch (record { past = tree.unfired; body = body.Actor held; records = records; path = path; live = true }) none
+held_node held path records = Branch (record { past = tree.unfired; body = body.Actor held; records = records; path = path; labels = []; live = true }) none
 
 -- a node of a library actor, as it starts
 abbrev pub actor_node : LibraryActor → (path : List ℕ) → List RecordedPort → Shown
@@ -33,7 +34,7 @@ mutual
   pub data IsBuilt (net : Net) (starts : Starts) : ℕ → Shown → Type 0 where
     built_actor : (k : ℕ) (e : NetEntity) (a : LibraryActor) → IsEntity net k e → IsUndirected e → StartsAs starts k a → IsBuilt net starts k (actor_node a e.path (recorded_of net k e))
     built_composite : (k : ℕ) (e : NetEntity) (director : Director) (kids : List Shown) (s : Shown) → IsEntity net k e → IsDirectedBy e director → AreBuilt net starts (children_of net.entities.items k) kids →
-        IsComposite director (around_in net k e) kids e.path (recorded_of net k e) s → IsBuilt net starts k s
+        IsComposite director (around_in net k e) kids e.path (recorded_of net k e) (labels_of net k e) s → IsBuilt net starts k s
 
   pub data AreBuilt (net : Net) (starts : Starts) : List ℕ → List Shown → Type 0 where
     none_built : AreBuilt net starts [] []

@@ -24,22 +24,23 @@ frame_in (Branch f ks) = f
 abbrev pub children_in : Shown → List Shown
 children_in (Branch f ks) = list_of ks
 
--- The node is a fresh composite with a core of this kind round these children, under its path and with its recorded outputs.
-pub record IsRound (IsCore : tree.Core Token → Type 0) (kids : List Shown) (path : List ℕ) (records : List RecordedPort) (s : Shown) : Type 0 where
+-- The node is a fresh composite with a core of this kind round these children, under its path, with its recorded outputs and with its channels told so.
+pub record IsRound (IsCore : tree.Core Token → Type 0) (kids : List Shown) (path : List ℕ) (records : List RecordedPort) (labels : List (List ℕ)) (s : Shown) : Type 0 where
   pub core : tree.Core Token
   pub is_core : IsCore core
   pub node : node_of s ≡ tree.composite core (trees_of kids)
   pub children : children_in s ≡ kids
   pub path_is : (frame_in s).path ≡ path
   pub records_are : (frame_in s).records ≡ records
+  pub labels_are : (frame_in s).labels ≡ labels
   pub fresh : IsFresh s
 
 -- the node is the composite that a director makes with this wiring round these children
-abbrev pub IsComposed : Composing → Around → List Shown → (path : List ℕ) → List RecordedPort → Shown → Type 0
-IsComposed how around kids path records s = IsRound (how.IsCore around (trees_of kids)) kids path records s
+abbrev pub IsComposed : Composing → Around → List Shown → (path : List ℕ) → List RecordedPort → (labels : List (List ℕ)) → Shown → Type 0
+IsComposed how around kids path records labels s = IsRound (how.IsCore around (trees_of kids)) kids path records labels s
 
-abbrev pub IsComposite : Director → Around → List Shown → (path : List ℕ) → List RecordedPort → Shown → Type 0
-IsComposite director around kids path records s = IsComposed (composing director) around kids path records s
+abbrev pub IsComposite : Director → Around → List Shown → (path : List ℕ) → List RecordedPort → (labels : List (List ℕ)) → Shown → Type 0
+IsComposite director around kids path records labels s = IsComposed (composing director) around kids path records labels s
 
 -- why there is none
 abbrev pub IsUncomposed : Composing → Around → List Shown → CompositeFault → Type 0

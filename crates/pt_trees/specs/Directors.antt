@@ -7,6 +7,7 @@ use Rattle.pt_net.specs.declared.net.NetDirector.{NetDirector}
 use Rattle.pt_net.specs.declared.net.NetEntity.{NetEntity}
 use Rattle.pt_trees.specs.Composing.{Composing, unbuilt}
 use Rattle.pt_trees.specs.De.{de}
+use Rattle.pt_trees.specs.Pn.{pn}
 use Rattle.pt_trees.specs.Sdf.{sdf}
 use Rattle.pt_trees.specs.Sr.{sr}
 
@@ -27,5 +28,5 @@ abbrev pub composing : Director → Composing
 composing Sdf = sdf
 composing Sr = sr
 composing De = de
-composing Pn = unbuilt
+composing Pn = pn
 composing Rendezvous = unbuilt

@@ -4,11 +4,13 @@ pub mod Composing
 pub mod Sdf
 pub mod Sr
 pub mod De
+pub mod Pn
 pub mod Directors
 pub mod Fresh
 pub mod Composite
 pub mod Trees
 pub mod Recorded
+pub mod Labels
 pub mod Built
 pub mod Ports
 pub mod Top

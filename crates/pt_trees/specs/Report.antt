@@ -9,5 +9,7 @@ end_of ended.Iterations = ends.Iterations
 end_of ended.Inputs = ends.Inputs
 end_of ended.Stop = ends.Stop
 end_of ended.Idle = ends.Idle
+end_of ended.Deadlock = ends.Deadlock
 end_of (ended.Fault place) = ends.Fault place
+end_of (ended.Full blocked) = ends.Queue blocked
 end_of (ended.Spent firings) = ends.Budget firings

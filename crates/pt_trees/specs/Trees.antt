@@ -1,8 +1,13 @@
 -- The tree of a net among the definitions, and what the nodes of the code are: each entity of the net at its start.
-use Rattle.std.specs.Prelude.{◌≡◌, ℕ, List, [], ◌∷◌, Option, Some, None, map, count_by, slice_get, codes, true, bytes_eq}
+use Rattle.std.specs.Prelude.{◌≡◌, ℕ, List, [], ◌∷◌, Option, Some, None, map, count_by, slice_get, codes, Bool, true, false, ◌&&◌, bytes_eq}
+use Rattle.std.specs.List.{list_all}
 use Rattle.pt_meaning.specs.Tree as tree
 use Rattle.pt_value.specs.declared.token.Token.{Token}
 use Rattle.pt_document.specs.declared.classes.Director.{Director}
+use Rattle.pt_document.specs.declared.job.Port.{Port}
+use Rattle.pt_document.specs.Document.{PropertyTree, property_name}
+use Rattle.pt_document.specs.Names.{is_layout}
+use Rattle.pt_document.specs.View.{properties_view}
 use Rattle.pt_net.specs.declared.net.Net.{Net}
 use Rattle.pt_net.specs.declared.net.NetDirector.{NetDirector}
 use Rattle.pt_net.specs.declared.net.NetEntity.{NetEntity}
@@ -30,6 +35,27 @@ pub record IsDirected (e : NetEntity) : Type 0 where
   pub director : NetDirector
   pub has : e.director ≡ Some director
 
+-- nothing is listed
+abbrev pub is_none : {A : Type 0} → List A → Bool
+is_none [] = true
+is_none (x ∷ xs) = false
+
+-- the director of a composite states nothing
+abbrev pub is_bare : Option NetDirector → Bool
+is_bare None = true
+is_bare (Some d) = is_none d.parameters.items
+
+-- a property of a port states something, as a rate, but for one that is there for graphical editors alone
+abbrev pub is_silent : PropertyTree → Bool
+is_silent p = is_layout (property_name p)
+
+abbrev pub is_bare_port : Port → Bool
+is_bare_port p = list_all is_silent (properties_view p.properties.items)
+
+-- no port states anything
+abbrev pub are_bare : List Port → Bool
+are_bare ports = list_all is_bare_port ports
+
 -- the wiring of a composite of the net
 abbrev pub around_in : Net → ℕ → NetEntity → Around
 around_in net k e = record {
@@ -37,6 +63,7 @@ around_in net k e = record {
   places = map (place_count net.channels.items) (children_of net.entities.items k);
   inputs = count_by is_input e.ports.items;
   outputs = count_by is_output e.ports.items;
+  plain = is_bare e.director && are_bare e.ports.items;
 }
 
 -- ---- the tree

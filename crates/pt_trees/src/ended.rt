@@ -1,4 +1,4 @@
-use pt_firing::Place;
+use pt_firing::{Blocked, Place};
 
 /// How a run of the top ended.
 #[derive(Debug, Drop)]
@@ -11,8 +11,12 @@ pub enum Ended {
     Stop,
     /// Nothing is due any more.
     Idle,
+    /// Each process of the top waits for tokens, or is over.
+    Deadlock,
     /// A place is stuck.
     Fault(Place),
+    /// A process network is in a jam.
+    Full(Blocked),
     /// So many firings were made, at least as many as the budget allows.
     Spent(u64),
 }

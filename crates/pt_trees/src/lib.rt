@@ -12,5 +12,5 @@ pub use build_fault::BuildFault;
 pub use composite_fault::CompositeFault;
 pub use ended::Ended;
 pub use meetings::meetings_by_example;
-pub use top::{DeJob, SdfJob, SrJob, Top};
+pub use top::{DeJob, OnceJob, SdfJob, SrJob, Top};
 pub use wiring::Wiring;

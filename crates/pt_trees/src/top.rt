@@ -25,10 +25,17 @@ pub struct DeJob {
     pub inputs: Vec<Vec<(Tag, Token)>>,
 }
 
+/// What a job asks of a PN top, which fires once: all tokens of each own input.
+#[derive(Drop)]
+pub struct OnceJob {
+    pub inputs: Vec<Tokens>,
+}
+
 /// What a job asks of its top, by the director of the top.
 #[derive(Drop)]
 pub enum Top {
     Sdf(SdfJob),
     Sr(SrJob),
     De(DeJob),
+    Once(OnceJob),
 }
