@@ -6,6 +6,7 @@ use Rattle.pt_meaning.specs.Meetings.{Meets}
 use Rattle.pt_meaning.specs.Step.{Step}
 use Rattle.pt_value.specs.declared.token.Token.{Token}
 use Rattle.pt_firing.specs.declared.answer.Answer.TheVariants as answer
+use Rattle.pt_firing.specs.declared.answer.Blocked.{Blocked}
 use Rattle.pt_firing.specs.declared.answer.Place.{Place}
 use Rattle.pt_records.specs.Fired.{FiresTo, LeavesOff}
 use Rattle.pt_records.specs.Made.{AreMade, AreMadeBefore}
@@ -30,6 +31,9 @@ module _ (old new : Shown) (tag : Tag) (X : Streams Token) (allowance : ℕ) whe
 
   pub seq-off : ((m : Meets) → AreMade m (kept_of new) → IsLeftOff m (node_of old) tag X (kept_of old) (kept_of new)) → (m : Meets) → AreMade m (kept_of new) → LeavesOff (λ k. Step k rows m (node_of old) tag X) (IsShut rows m (node_of old) tag X None) (kept_of old) (kept_of new)
   seq-off w m made = step-off m (node_of old) tag X (kept_of old) (kept_of new) (w m made)
+
+  pub seq-full : (blocked : Blocked) → WithinTo old tag X (within.Full blocked) new → AnswersTo old tag X allowance (answer.Full blocked) new
+  seq-full blocked w = λ m made. let k = w m made in (step-off m (node_of old) tag X (kept_of old) (kept_of new) k.0, k.1)
 
   off-after : (out : Streams Token) → WithinTo old tag X (within.Done out) new → (m : Meets) → AreMade m (kept_of new) → IsLeftOff m (node_of old) tag X (kept_of old) (kept_of new)
   off-after out w m made = off-done m (node_of old) tag X (fired tag (node_of new)) out (kept_of old) (kept_of new) (w m (made-within m (kept_of new) made))

@@ -5,7 +5,7 @@ use Rattle.pt_meaning.specs.Streams.{get}
 use Rattle.pt_meaning.specs.Tree as tree
 use Rattle.pt_records.specs.Kept.{kept_at}
 use Rattle.pt_node.specs.Shown.{Shown, all_of}
-use Rattle.pt_node.specs.View.{Trees, node_of, nodes_of, kept_of, kepts_of, count_of, counts_of, outline_of, outlines_of, with, depth, depths, text_at, text_below}
+use Rattle.pt_node.specs.View.{Trees, node_of, nodes_of, kept_of, kepts_of, count_of, counts_of, outline_of, outlines_of, with, depth, depths, text_at, text_below, maximum_at, maximum_below, labels_at, labels_below}
 use Rattle.pt_node.specs.Live.{IsFit, AllFit}
 
 pub nodes-set : (ss : List Shown) (i : ℕ) (s : Shown) → tree.list_of (nodes_of (all_of (set ss i s))) ≡ set (tree.list_of (nodes_of (all_of ss))) i (node_of s)
@@ -65,6 +65,16 @@ pub text-get : (ss : List Shown) (i : ℕ) (s : Shown) (p : Path) → get ss i �
 text-get [] i s p e = absurd (cc)
 text-get (x ∷ ss) zero s p e = let same : x ≡ s = cc in ap (λ v. text_at (outline_of v) p) same
 text-get (x ∷ ss) (suc i) s p e = text-get ss i s p e
+
+pub labels-get : (ss : List Shown) (i : ℕ) (s : Shown) (p : Path) → get ss i ≡ Some s → labels_below (outlines_of (all_of ss)) i p ≡ labels_at (outline_of s) p
+labels-get [] i s p e = absurd (cc)
+labels-get (x ∷ ss) zero s p e = let same : x ≡ s = cc in ap (λ v. labels_at (outline_of v) p) same
+labels-get (x ∷ ss) (suc i) s p e = labels-get ss i s p e
+
+pub maxima-get : (ss : List Shown) (i : ℕ) (s : Shown) → get ss i ≡ Some s → maximum_below (outlines_of (all_of ss)) i ≡ maximum_at (outline_of s)
+maxima-get [] i s e = absurd (cc)
+maxima-get (x ∷ ss) zero s e = let same : x ≡ s = cc in ap (λ v. maximum_at (outline_of v)) same
+maxima-get (x ∷ ss) (suc i) s e = maxima-get ss i s e
 
 pub depth-get : (ss : List Shown) (i : ℕ) (s : Shown) → get ss i ≡ Some s → depth (outline_of s) ≤ depths (outlines_of (all_of ss))
 depth-get [] i s e = absurd (cc)

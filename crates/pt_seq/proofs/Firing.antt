@@ -10,6 +10,8 @@ use Rattle.pt_meaning.specs.Step.{Step}
 use Rattle.pt_value.specs.declared.token.Token.{Token}
 use Rattle.pt_firing.specs.declared.ask.Ask.{Ask}
 use Rattle.pt_firing.specs.declared.ask.Ask.TheVariants.{Fire, Early, Reset, Finished, Faulted}
+use Rattle.pt_firing.specs.declared.ask.Ask.TheVariants as ask
+use Rattle.pt_firing.specs.declared.answer.Blocked.{Blocked}
 use Rattle.pt_firing.specs.declared.answer.Place.{Place}
 use Rattle.pt_firing.specs.declared.fault.RunFault.{RunFault}
 use Rattle.pt_firing.specs.RunFault.{code_of}
@@ -21,17 +23,19 @@ use Rattle.pt_core.specs.Lawful.{IsUsual, IsMove, IsLentTo, Middle, Lawful, own_
 use Rattle.pt_library.specs.LibraryActor.{rows}
 use Rattle.pt_node.specs.Shown.{Shown, all_of}
 use Rattle.pt_node.specs.Reset.{WasReset, KeepsRecords}
-use Rattle.pt_node.specs.View.{Tree, node_of, nodes_of, kept_of, kepts_of, outline_of, outlines_of, text_below, count_of, counts_of}
+use Rattle.pt_node.specs.View.{Tree, node_of, nodes_of, kept_of, kepts_of, outline_of, outlines_of, text_below, maximum_at, labels_below, count_of, counts_of}
 use Rattle.pt_node.specs.Live.{AllFit}
 use Rattle.pt_node.specs.Stuck.{fault_of}
+use Rattle.pt_node.specs.Full.{told_by}
 use Rattle.pt_seq.specs.declared.fire.Within.{Within}
-use Rattle.pt_seq.specs.declared.fire.Within.TheVariants.{Done, Fault, Spent, Memory}
+use Rattle.pt_seq.specs.declared.fire.Within.TheVariants.{Done, Fault, Spent, Full, Memory}
 use Rattle.pt_seq.specs.declared.turn.Turn.TheVariants as turn
-use Rattle.pt_seq.specs.Within.{outcome, IsLeftOff, IsStuckIn, IsStuck, SpendsAll, IsFaultAt}
-use Rattle.pt_seq.specs.Composite.{composite, CompositeTo, KeepsFit, FinishTo}
+use Rattle.pt_seq.specs.Within.{outcome, IsLeftOff, IsStuckIn, IsStuck, SpendsAll, IsFaultAt, IsFullAt}
+use Rattle.pt_seq.specs.Composite.{composite, names, CompositeTo, KeepsFit, FinishTo}
 use Rattle.pt_seq.specs.Turns.{ChildFired, ChildRefused, TurnTo}
 use Rattle.pt_seq.specs.Between.{beginning, At, Halts}
-use Rattle.pt_seq.proofs.Children.{nodes-set, kepts-set, kepts-at, kepts-same, nodes-get, kepts-long, nodes-long, nodes-again, fit-set, outlines-set, text-get, counts-same, counts-set}
+use Rattle.pt_seq.proofs.Children.{nodes-set, kepts-set, kepts-at, kepts-same, nodes-get, kepts-long, nodes-long, nodes-again, fit-set, outlines-set, text-get, labels-get, counts-same, counts-set}
+use Rattle.pt_seq.proofs.Jams.{have-made, jam-below}
 use Rattle.pt_seq.proofs.MadeOf.{finished-made, meets-in, meets-made, made-of-child, made-of-fired, made-before}
 use Rattle.pt_seq.proofs.Recording.{made-within}
 
@@ -50,6 +54,7 @@ module _ {D : Type 0} (a : Acts rows D) (law : Lawful a) where
           (law.begins (beginning a m before (all_of olds) tag X) fits takes (nodes-long olds ∙ sym (kepts-long olds)));
     };
     outlines = refl;
+    maximum = ap (λ v. a.calls.maximum v) e ∙ law.agree.keeps_maximum.begun tag X before;
     counted = refl;
     lowered = omega arith;
   }
@@ -67,6 +72,10 @@ module _ {D : Type 0} (a : Acts rows D) (law : Lawful a) where
 
     pub is-usual : (next : Ask) → a.calls.Gives s next → IsUsual next
     is-usual next g = some-middle.usual next g
+
+    -- whatever it answers, it states the maximum capacity that it stated when the firing began
+    pub asked-maximum : (next : Ask) (mid : D) → mid ≡ a.calls.asking next s → a.calls.maximum mid ≡ a.calls.maximum before
+    asked-maximum next mid e = ap (λ v. a.calls.maximum v) e ∙ law.agree.keeps_maximum.asking next s ∙ at.maximum
 
     -- it is left off between two firings
     pub off-here : LeftOffAt a before olds tag X now
@@ -102,6 +111,7 @@ module _ {D : Type 0} (a : Acts rows D) (law : Lawful a) where
                   (subst (λ k. FiresTo (λ fuel. Step fuel rows (below_child i m) (node_of child) when (a.calls.lent_of t)) (node_of after) f.out k (kept_of after)) (sym (kepts-at now i child there)) fires) f.accepted)));
             };
             outlines = outlines-set now i child after there o ∙ at.outlines;
+            maximum = ap (λ v. a.calls.maximum v) f.told ∙ law.agree.keeps_maximum.told i f.out (next_of rows (node_of after)) (need_of rows (node_of after)) t ∙ asked-maximum (Fire i when) t refl;
             counted = counts-set now i child after left left' (counts_of (all_of olds) + allowance) there c at.counted;
             lowered = omega (arith, l, at.lowered);
           }
@@ -121,9 +131,37 @@ module _ {D : Type 0} (a : Acts rows D) (law : Lawful a) where
               ((middle-of m (made-before m now i child after there l.log l.kept (finished-made m (kepts_of (all_of (set now i after))) made))).off_within i when g (node_of child) (kept_of after) (nodes-get now i child there)
               (subst (λ k. IsLeftOff (below_child i m) (node_of child) when (a.calls.lent_of t) k (kept_of after)) (sym (kepts-at now i child there)) l) h e)
 
-          module _ (path : List ℕ) (number : ℕ) (place : Place) (s' : D) where
+          -- a network within it is in a jam
+          module _ (path : List ℕ) (labels : List (List ℕ)) (number : ℕ) (blocked : Blocked) (s' : D) where
+            pub full-within : TurnTo a.calls t child i when (turn.Full blocked) s' after → CompositeTo a path labels number before (all_of olds) tag X (Full blocked) s' (all_of (set now i after))
+            full-within full m made h own e count hs =
+                let f = full (below_child i m) (made-of-child m now i child after there made) in
+                let asks = (middle-of m (made-before m now i child after there f.0.log f.0.kept (finished-made m (kepts_of (all_of (set now i after))) made))).asks_as i when g (node_of child) (nodes-get now i child there) h in (
+                  off-within (λ n those. (full n those).0) m made h e,
+                  record {
+                    path = i ∷ f.1.path;
+                    full = f.1.full;
+                    told = record {
+                      path_is = ap (λ os. text_below os i f.1.path) (sym at.outlines) ∙ text-get now i child f.1.path there ∙ f.1.told.path_is;
+                      channels = f.1.told.channels ∙ ap (λ ls. told_by ls f.1.full) (sym (ap (λ os. labels_below os i f.1.path) (sym at.outlines) ∙ labels-get now i child f.1.path there));
+                    };
+                    jams = (
+                      asks.0 + f.1.jams.0,
+                      λ k l. (
+                        own ∙ sym count,
+                        record { number = i; node = node_of child },
+                        when,
+                        a.calls.lent_of t,
+                        asks.1 k (omega (arith, l)),
+                        jam-below (below_child i m) now i child after there (outlines_of (all_of olds)) at.outlines k f.1.path when (a.calls.lent_of t) f.1.full (f.1.jams.1 k (omega (arith, l))),
+                      ),
+                    );
+                  },
+                )
+
+          module _ (path : List ℕ) (labels : List (List ℕ)) (number : ℕ) (place : Place) (s' : D) where
             -- it is stuck
-            stuck-within : ((m : Meets) → AreMade m (kept_of after) → IsStuck m (node_of child) when (a.calls.lent_of t) (outline_of child) place (kept_of child) (kept_of after)) → CompositeTo a path number before (all_of olds) tag X (Fault place) s' (all_of (set now i after))
+            stuck-within : ((m : Meets) → AreMade m (kept_of after) → IsStuck m (node_of child) when (a.calls.lent_of t) (outline_of child) place (kept_of child) (kept_of after)) → CompositeTo a path labels number before (all_of olds) tag X (Fault place) s' (all_of (set now i after))
             stuck-within sticks m made h own e hs =
                 let k = sticks (below_child i m) (made-of-child m now i child after there made) in (
                   i ∷ k.0,
@@ -134,7 +172,7 @@ module _ {D : Type 0} (a : Acts rows D) (law : Lawful a) where
                 )
 
             -- it gave what isn't accepted
-            refused-within : ChildRefused a.calls t child i when place after → CompositeTo a path number before (all_of olds) tag X (Fault place) s' (all_of (set now i after))
+            refused-within : ChildRefused a.calls t child i when place after → CompositeTo a path labels number before (all_of olds) tag X (Fault place) s' (all_of (set now i after))
             refused-within u m made h own e hs =
                 let gives = u.fires (below_child i m) (made-within (below_child i m) (kept_of after) (made-of-child m now i child after there made)) in
                 let told : child_fault i (node_of child) (a.calls.refusal t) ≡ fault_of (i ∷ []) place = ap₂ (λ n c. let f : machine.Fault = record { path = i ∷ []; firing = n; code = c } in f) (sym u.firing) (ap (λ k. code_of k) (sym u.kind)) in (
@@ -146,10 +184,10 @@ module _ {D : Type 0} (a : Acts rows D) (law : Lawful a) where
                       (subst (λ v. FiresTo (outcome (below_child i m) (node_of child) when (a.calls.lent_of t)) u.next u.out v (kept_of after)) (sym (kepts-at now i child there)) gives) u.refused h e)),
                 )
 
-            pub fault-within : TurnTo a.calls t child i when (turn.Fault place) s' after → CompositeTo a path number before (all_of olds) tag X (Fault place) s' (all_of (set now i after))
+            pub fault-within : TurnTo a.calls t child i when (turn.Fault place) s' after → CompositeTo a path labels number before (all_of olds) tag X (Fault place) s' (all_of (set now i after))
             fault-within f = by f
               where
-                by : ((m : Meets) → AreMade m (kept_of after) → IsStuck m (node_of child) when (a.calls.lent_of t) (outline_of child) place (kept_of child) (kept_of after)) ⊎ ChildRefused a.calls t child i when place after → CompositeTo a path number before (all_of olds) tag X (Fault place) s' (all_of (set now i after))
+                by : ((m : Meets) → AreMade m (kept_of after) → IsStuck m (node_of child) when (a.calls.lent_of t) (outline_of child) place (kept_of child) (kept_of after)) ⊎ ChildRefused a.calls t child i when place after → CompositeTo a path labels number before (all_of olds) tag X (Fault place) s' (all_of (set now i after))
                 by (inl sticks) = stuck-within sticks
                 by (inr u) = refused-within u
 
@@ -174,6 +212,7 @@ module _ {D : Type 0} (a : Acts rows D) (law : Lawful a) where
                 ((middle-of m made).hears i when g (node_of child) (nodes-get now i child there));
           };
           outlines = at.outlines;
+          maximum = ap (λ v. a.calls.maximum v) e ∙ law.agree.keeps_maximum.heard i (early_of rows when (node_of child) (a.calls.partial_of (a.calls.asking (Early i when) s))) (a.calls.asking (Early i when) s) ∙ asked-maximum (Early i when) (a.calls.asking (Early i when) s) refl;
           counted = at.counted;
           lowered = at.lowered;
         }
@@ -201,19 +240,21 @@ module _ {D : Type 0} (a : Acts rows D) (law : Lawful a) where
                 ((middle-of m (subst (λ ks. AllMadeBefore m ks) same-kept made)).resets i g (node_of child) (nodes-get now i child there))));
           };
           outlines = outlines-set now i child after there k.outline ∙ at.outlines;
+          maximum = asked-maximum (Reset i) s' e;
           counted = ap (λ n. n + left) (counts-same now i child after there k.count) ∙ at.counted;
           lowered = at.lowered;
         }
 
         -- there was no memory for that
-        pub reset-halts : Halts a before olds tag X allowance (set now i after) left
-        reset-halts = record {
+        pub reset-halts : (mid : D) → mid ≡ a.calls.asking (Reset i) s → Halts a before olds tag X allowance mid (set now i after) left
+        reset-halts mid e = record {
           state = s;
           kids = now;
           at = at;
           kept = same-kept;
           outlines = outlines-set now i child after there k.outline;
           counts = counts-same now i child after there k.count;
+          maximum = asked-maximum (Reset i) mid e;
         }
 
     -- it has made a move of its own
@@ -230,41 +271,85 @@ module _ {D : Type 0} (a : Acts rows D) (law : Lawful a) where
               ((middle-of m made).moves answer move g).0;
         };
         outlines = at.outlines;
+        maximum = asked-maximum answer s' e;
         counted = at.counted;
         lowered = at.lowered;
       }
 
-    pub halts-here : Halts a before olds tag X allowance now left
-    halts-here = record { state = s; kids = now; at = at; kept = refl; outlines = refl; counts = refl }
+    pub halts-here : (mid : D) → a.calls.maximum mid ≡ a.calls.maximum before → Halts a before olds tag X allowance mid now left
+    halts-here mid e = record { state = s; kids = now; at = at; kept = refl; outlines = refl; counts = refl; maximum = e }
 
-    module _ (path : List ℕ) (number : ℕ) where
+    module _ (path : List ℕ) (labels : List (List ℕ)) (number : ℕ) where
       -- it is finished
       module _ (g : a.calls.Gives s Finished) (mid : D) (is : mid ≡ a.calls.asking Finished s) where
         pub may-finish : a.calls.MayFinish mid
         may-finish = subst (λ v. a.calls.MayFinish v) (sym is) (law.agree.finishes s g)
 
-        done-here : (s' : D) (out : Streams Token) → s' ≡ a.calls.closed (a.calls.asking Finished s) → out ≡ a.calls.own_of (a.calls.asking Finished s) → CompositeTo a path number before (all_of olds) tag X (Done out) s' (all_of now)
+        done-here : (s' : D) (out : Streams Token) → s' ≡ a.calls.closed (a.calls.asking Finished s) → out ≡ a.calls.own_of (a.calls.asking Finished s) → CompositeTo a path labels number before (all_of olds) tag X (Done out) s' (all_of now)
         done-here s' out c o m made h e =
             subst (λ v. FiresTo (outcome m (composite a h before (all_of olds)) tag X) (composite a (tree.fired_at tag h) v (all_of now)) out (kept_by e (kepts_of (all_of olds))) (kept_by e (kepts_of (all_of now)))) (sym c)
             (subst (λ v. FiresTo (outcome m (composite a h before (all_of olds)) tag X) (composite a (tree.fired_at tag h) (a.calls.closed (a.calls.asking Finished s)) (all_of now)) v (kept_by e (kepts_of (all_of olds))) (kept_by e (kepts_of (all_of now)))) (sym o)
             (subst (λ ks. let n : Tree = tree.Composite (tree.fired_at tag h) (a.calls.start_of (a.calls.closed (a.calls.asking Finished s))) (a.calls.core_of (a.calls.closed (a.calls.asking Finished s))) ks in FiresTo (outcome m (composite a h before (all_of olds)) tag X) n (a.calls.own_of (a.calls.asking Finished s)) (kept_by e (kepts_of (all_of olds))) (kept_by e (kepts_of (all_of now)))) (nodes-again (nodes_of (all_of now)))
             ((middle-of m made).ends g h e)))
 
-        pub finish-goes : (w : Within) (s' : D) → FinishTo a.calls mid w s' → CompositeTo a path number before (all_of olds) tag X w s' (all_of now)
+        pub finish-goes : (w : Within) (s' : D) → FinishTo a.calls mid w s' → CompositeTo a path labels number before (all_of olds) tag X w s' (all_of now)
         finish-goes (Done out) s' f = done-here s' out (f.0 ∙ ap (λ v. a.calls.closed v) is) (f.1 ∙ ap (λ v. a.calls.own_of v) is)
         finish-goes (Fault place) s' f = absurd f
         finish-goes Spent s' f = absurd f
+        finish-goes (Full blocked) s' f = absurd f
         finish-goes Memory s' f = off-here
 
         pub finish-fits : (w : Within) (s' : D) → FinishTo a.calls mid w s' → KeepsFit a w s' (all_of now)
         finish-fits (Done out) s' f = (subst (λ v. a.Fits v (tree.list_of (nodes_of (all_of now)))) (sym (f.0 ∙ ap (λ v. a.calls.closed v) is)) (some-middle.fits g), at.going.fit)
         finish-fits (Fault place) s' f = tt
         finish-fits Spent s' f = tt
+        finish-fits (Full blocked) s' f = tt
         finish-fits Memory s' f = tt
+
+        pub finish-maximum : (w : Within) (s' : D) → FinishTo a.calls mid w s' → a.calls.maximum s' ≡ a.calls.maximum before
+        finish-maximum (Done out) s' f = ap (λ v. a.calls.maximum v) f.0 ∙ law.agree.keeps_maximum.closed mid ∙ asked-maximum Finished mid is
+        finish-maximum (Fault place) s' f = absurd f
+        finish-maximum Spent s' f = absurd f
+        finish-maximum (Full blocked) s' f = absurd f
+        finish-maximum Memory s' f = ap (λ v. a.calls.maximum v) f ∙ asked-maximum Finished mid is
+
+      -- its own network is in a jam
+      module _ (g : a.calls.Gives s ask.Full) (mid : D) (is : mid ≡ a.calls.asking ask.Full s) where
+        jammed-here : (s' : D) (blocked : Blocked) → blocked.path ≡ path → blocked.channels ≡ told_by labels (a.calls.blocked mid) → CompositeTo a path labels number before (all_of olds) tag X (Full blocked) s' (all_of now)
+        jammed-here s' blocked p c m made h own e count hs = (
+          off-here m made h e,
+          record {
+            path = [];
+            full = a.calls.blocked (a.calls.asking ask.Full s);
+            told = record { path_is = ap (λ v. Option.Some v) (sym p); channels = c ∙ ap (λ v. told_by labels (a.calls.blocked v)) is };
+            jams = (middle-of m (finished-made m (kepts_of (all_of now)) made)).jams g h (maximum_at (names a path labels hs before (all_of olds))) (λ q. (kept_by e (kepts_of (all_of now)) q).count) refl (own ∙ sym count) (have-made (λ q. (kept_by e (kepts_of (all_of now)) q).count) now (λ j. refl));
+          },
+        )
+
+        pub full-goes : (w : Within) (s' : D) → IsFullAt path labels (a.calls.blocked mid) w → CompositeTo a path labels number before (all_of olds) tag X w s' (all_of now)
+        full-goes (Done out) s' f = absurd f
+        full-goes (Fault place) s' f = absurd f
+        full-goes Spent s' f = absurd f
+        full-goes (Full blocked) s' f = jammed-here s' blocked f.0 f.1
+        full-goes Memory s' f = off-here
+
+        pub full-fits : (w : Within) (s' : D) → IsFullAt path labels (a.calls.blocked mid) w → KeepsFit a w s' (all_of now)
+        full-fits (Done out) s' f = absurd f
+        full-fits (Fault place) s' f = tt
+        full-fits Spent s' f = tt
+        full-fits (Full blocked) s' f = tt
+        full-fits Memory s' f = tt
+
+        pub full-spends : (w : Within) (left' : ℕ) → IsFullAt path labels (a.calls.blocked mid) w → SpendsAll w left'
+        full-spends (Done out) left' f = tt
+        full-spends (Fault place) left' f = tt
+        full-spends Spent left' f = absurd f
+        full-spends (Full blocked) left' f = tt
+        full-spends Memory left' f = tt
 
       -- it is stuck itself
       module _ (kind : RunFault) (g : a.calls.Gives s (Faulted kind None)) where
-        stuck-here : (s' : D) (place : Place) → place.path ≡ path → place.firing ≡ number → place.kind ≡ kind → CompositeTo a path number before (all_of olds) tag X (Fault place) s' (all_of now)
+        stuck-here : (s' : D) (place : Place) → place.path ≡ path → place.firing ≡ number → place.kind ≡ kind → CompositeTo a path labels number before (all_of olds) tag X (Fault place) s' (all_of now)
         stuck-here s' place p n k m made h own e hs =
             let told : own_fault h kind ≡ fault_of [] place = ap₂ (λ v c. let f : machine.Fault = record { path = []; firing = v; code = c } in f) (own ∙ sym n) (ap (λ v. code_of v) (sym k)) in (
               [],
@@ -272,20 +357,23 @@ module _ {D : Type 0} (a : Acts rows D) (law : Lawful a) where
               subst (λ f. IsStuckIn m (composite a h before (all_of olds)) tag X f (kept_by e (kepts_of (all_of olds))) (kept_by e (kepts_of (all_of now)))) told ((middle-of m (finished-made m (kepts_of (all_of now)) made)).faults kind g h e),
             )
 
-        pub faulted-goes : (w : Within) (s' : D) → IsFaultAt path number kind w → CompositeTo a path number before (all_of olds) tag X w s' (all_of now)
+        pub faulted-goes : (w : Within) (s' : D) → IsFaultAt path number kind w → CompositeTo a path labels number before (all_of olds) tag X w s' (all_of now)
         faulted-goes (Done out) s' f = absurd f
         faulted-goes (Fault place) s' f = stuck-here s' place f.0 f.1 f.2
         faulted-goes Spent s' f = absurd f
+        faulted-goes (Full blocked) s' f = absurd f
         faulted-goes Memory s' f = off-here
 
         pub faulted-fits : (w : Within) (s' : D) → IsFaultAt path number kind w → KeepsFit a w s' (all_of now)
         faulted-fits (Done out) s' f = absurd f
         faulted-fits (Fault place) s' f = tt
         faulted-fits Spent s' f = absurd f
+        faulted-fits (Full blocked) s' f = tt
         faulted-fits Memory s' f = tt
 
         pub faulted-spends : (w : Within) (left' : ℕ) → IsFaultAt path number kind w → SpendsAll w left'
         faulted-spends (Done out) left' f = tt
         faulted-spends (Fault place) left' f = tt
         faulted-spends Spent left' f = absurd f
+        faulted-spends (Full blocked) left' f = tt
         faulted-spends Memory left' f = tt

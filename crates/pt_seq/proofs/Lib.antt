@@ -2,6 +2,7 @@ pub mod Acting
 pub mod Children
 pub mod MadeOf
 pub mod Recording
+pub mod Jams
 pub mod Entering
 pub mod Answering
 pub mod Turning

@@ -1,7 +1,7 @@
 -- The loop over the children of a composite, by the code's list of nodes.
-use Rattle.std.proofs.Common.{◌≡◌, ◌⊎◌, inl, inr, ℕ, ℤ, ◌+◌, ◌<◌, ◌≤◌, List, [], ◌∷◌, false, length, map, get_or, set, Option, Some, None, refl, sym, ap, subst, ◌∙◌, arith, Result, Ok, Err, is_err, length-set}
+use Rattle.std.proofs.Common.{◌≡◌, ◌⊎◌, inl, inr, ℕ, ℤ, ◌+◌, ◌<◌, ◌≤◌, List, [], ◌∷◌, false, true, length, map, get_or, set, Option, Some, None, refl, sym, ap, subst, ◌∙◌, arith, Result, Ok, Err, is_err, length-set}
 use Rattle.std.proofs.lemmas.List.{length-map}
-use Rattle.std.specs.Prelude.{OnOk}
+use Rattle.std.specs.Prelude.{OnOk, OnErr}
 use Rattle.pt_meaning.specs.Basics.{Tag, Streams}
 use Rattle.pt_meaning.specs.Streams.{get}
 use Rattle.pt_meaning.specs.Meetings.{Meets}
@@ -10,6 +10,7 @@ use Rattle.pt_value.specs.declared.token.Token.{Token}
 use Rattle.pt_value.specs.declared.token.Token.TheVariants.{Int}
 use Rattle.pt_firing.specs.declared.ask.Ask.{Ask}
 use Rattle.pt_firing.specs.declared.ask.Ask.TheVariants as ask
+use Rattle.pt_firing.specs.declared.answer.Blocked.{Blocked}
 use Rattle.pt_firing.specs.declared.answer.Place.{Place}
 use Rattle.pt_firing.specs.declared.fault.RunFault.{RunFault}
 use Rattle.pt_records.specs.Kept.{kept_by}
@@ -34,11 +35,19 @@ use Rattle.pt_seq.specs.Between.{At, Between, InTurn, Halts}
 use Rattle.pt_seq.proofs.Children.{get-or, get-map, map-set, set-again, get-again, set-same, get-some, fit-get, depth-get}
 use Rattle.pt_seq.proofs.Turning.{turn-told}
 use Rattle.pt_seq.proofs.Taking.{lent-takes}
-use Rattle.pt_seq.proofs.Firing.{LeftOffAt, fire-asked, fire-in, fire-lent, at-fired, outlines-after, counted-after, off-within, fault-within, early-asked, early-in, early-learns, at-heard, reset-in, reset-rests, at-reset, reset-halts, is-usual, off-here}
+use Rattle.pt_seq.proofs.Firing.{LeftOffAt, fire-asked, fire-in, fire-lent, at-fired, outlines-after, counted-after, off-within, fault-within, early-asked, early-in, early-learns, at-heard, reset-in, reset-rests, at-reset, reset-halts, asked-maximum, is-usual, off-here, full-within}
 
 pub on-ok : {A E : Type 0} (r : Result A E) (P : Type 0) → is_err r ≡ false → OnOk r P → P
 on-ok (Ok a) P e h = h
 on-ok (Err x) P e h = absurd (cc)
+
+pub ok-so : {A E P Q : Type 0} (r : Result A E) → (P → Q) → OnOk r P → OnOk r Q
+ok-so (Ok a) f h = f h
+ok-so (Err x) f h = tt
+
+pub on-err : {A E : Type 0} (r : Result A E) (P : Type 0) → is_err r ≡ true → OnErr r P → P
+on-err (Ok a) P e h = absurd (cc)
+on-err (Err x) P e h = h
 
 -- a child of the code's list
 pub in-list : (kids : List Node) (i : ℕ) → i < length (map shown kids) → i < length kids
@@ -96,6 +105,10 @@ no-unusual ask.Await u fire early reset get put grow finished faulted full = u
 module _ {D : Type 0} (a : Acts rows D) (law : Lawful a) where
   pub once-asked : {before : D} {olds : List Shown} {tag : Tag} {X : Streams Token} {allowance : ℕ} {s : D} {now : List Shown} {left : ℕ} → At a before olds tag X allowance s now left → (next : Ask) (s' : D) → a.calls.Gives s next → s' ≡ a.calls.asking next s → Between a before olds tag X allowance next s' now left
   once-asked {before} {olds} {tag} {X} {allowance} {s} {now} {left} at next s' g e = record { state = s; at = at; gives = g; asking = e }
+
+  -- the director states the maximum capacity that it stated when the firing began
+  pub between-maximum : {before : D} {olds : List Shown} {tag : Tag} {X : Streams Token} {allowance : ℕ} {next : Ask} {s : D} {now : List Shown} {left : ℕ} → Between a before olds tag X allowance next s now left → a.calls.maximum s ≡ a.calls.maximum before
+  between-maximum {before} {olds} {tag} {X} {allowance} {next} {s} {now} {left} b = asked-maximum a law b.at next s b.asking
 
   module _ {before : D} {olds : List Shown} {tag : Tag} {X : Streams Token} {allowance : ℕ} where
     -- the fault that is told is the composite's own
@@ -164,6 +177,9 @@ module _ {D : Type 0} (a : Acts rows D) (law : Lawful a) where
       pub turn-in : i < length kids
       turn-in = omega (arith, in-kids, length-map kids shown, ap (λ v. length v) t.others, length-set t.kids i t.mid)
 
+      pub turn-maximum : (s' : D) → a.calls.maximum s' ≡ a.calls.maximum s → a.calls.maximum s' ≡ a.calls.maximum before
+      turn-maximum s' e = e ∙ between-maximum t.between
+
       pub turn-asked : a.calls.asked_of s ≡ Some i
       turn-asked = ap (λ v. a.calls.asked_of v) t.between.asking ∙ fire-asked a law t.between.at i when t.between.gives
 
@@ -210,8 +226,11 @@ module _ {D : Type 0} (a : Acts rows D) (law : Lawful a) where
           pub turn-counted : (left' : ℕ) → count_of (shown_node n) + left' ≡ count_of (shown_node d) + left → counts_of (all_of (map shown (set kids i n))) + left' ≡ counts_of (all_of olds) + allowance
           turn-counted left' c = subst (λ ss. counts_of (all_of ss) + left' ≡ counts_of (all_of olds) + allowance) set-so (counted-after a law t.between.at i when t.between.gives t.child t.there (shown_node n) left' (counted left' c))
 
-          pub turn-fault : (path : List ℕ) (number : ℕ) (place : Place) (s' : D) → TurnFrom a.calls given s (shown_node d) i when (turn.Fault place) s' (shown_node n) → CompositeTo a path number before (all_of olds) tag X (within.Fault place) s' (all_of (map shown (set kids i n)))
-          turn-fault path number place s' f = subst (λ ss. CompositeTo a path number before (all_of olds) tag X (within.Fault place) s' (all_of ss)) set-so (fault-within a law t.between.at i when t.between.gives t.child t.there (shown_node n) path number place s' (turned (turn.Fault place) s' f))
+          pub turn-fault : (path : List ℕ) (labels : List (List ℕ)) (number : ℕ) (place : Place) (s' : D) → TurnFrom a.calls given s (shown_node d) i when (turn.Fault place) s' (shown_node n) → CompositeTo a path labels number before (all_of olds) tag X (within.Fault place) s' (all_of (map shown (set kids i n)))
+          turn-fault path labels number place s' f = subst (λ ss. CompositeTo a path labels number before (all_of olds) tag X (within.Fault place) s' (all_of ss)) set-so (fault-within a law t.between.at i when t.between.gives t.child t.there (shown_node n) path labels number place s' (turned (turn.Fault place) s' f))
+
+          pub turn-jam : (path : List ℕ) (labels : List (List ℕ)) (number : ℕ) (blocked : Blocked) (s' : D) → TurnFrom a.calls given s (shown_node d) i when (turn.Full blocked) s' (shown_node n) → CompositeTo a path labels number before (all_of olds) tag X (within.Full blocked) s' (all_of (map shown (set kids i n)))
+          turn-jam path labels number blocked s' f = subst (λ ss. CompositeTo a path labels number before (all_of olds) tag X (within.Full blocked) s' (all_of ss)) set-so (full-within a law t.between.at i when t.between.gives t.child t.there (shown_node n) path labels number blocked s' (turned (turn.Full blocked) s' f))
 
           off-so : ((m : Meets) → AreMade m (kept_of (shown_node n)) → IsLeftOff m (node_of t.child) when (a.calls.lent_of (a.calls.asking (ask.Fire i when) t.between.state)) (kept_of t.child) (kept_of (shown_node n))) → LeftOffAt a before olds tag X (map shown (set kids i n))
           off-so off = subst (λ ss. LeftOffAt a before olds tag X ss) set-so (off-within a law t.between.at i when t.between.gives t.child t.there (shown_node n) off)
@@ -260,11 +279,11 @@ module _ {D : Type 0} (a : Acts rows D) (law : Lawful a) where
             pub restart-next : WasReset (shown_node d) (shown_node n) → At a before olds tag X allowance mid (map shown (set kids i n)) left
             restart-next r = subst (λ ss. At a before olds tag X allowance mid ss left) (set-is kids i n) (at-reset a law at i g (shown_node d) (shown_node n) again k mid is r)
 
-            pub restart-halts : Halts a before olds tag X allowance (map shown (set kids i n)) left
-            restart-halts = subst (λ ss. Halts a before olds tag X allowance ss left) (set-is kids i n) (reset-halts a law at i g (shown_node d) (shown_node n) again k)
+            pub restart-halts : Halts a before olds tag X allowance mid (map shown (set kids i n)) left
+            restart-halts = subst (λ ss. Halts a before olds tag X allowance mid ss left) (set-is kids i n) (reset-halts a law at i g (shown_node d) (shown_node n) again k mid is)
 
     -- it is left off for want of memory
-    module _ {now : List Shown} {left : ℕ} (h : Halts a before olds tag X allowance now left) where
+    module _ {s : D} {now : List Shown} {left : ℕ} (h : Halts a before olds tag X allowance s now left) where
       pub halts-off : LeftOffAt a before olds tag X now
       halts-off m made past e =
           subst (λ ks. IsLeftOff m (composite a past before (all_of olds)) tag X (kept_by e (kepts_of (all_of olds))) (kept_by e ks)) (sym h.kept)

@@ -22,15 +22,15 @@ pub meets-made : (ks : List (Kept Token)) → AllMadeBefore (meets-in ks) ks
 meets-made ks i p n l = those-made (meets-in ks) (kept_by blank ks) (λ q j. refl) (i ∷ p) n
 
 module _ (m : Meets) (now : List Shown) (i : ℕ) (child after : Shown) (e : get now i ≡ Some child) where
-  there : kept_at (kepts_of (all_of (set now i after))) i ≡ kept_of after
-  there = ap (λ ks. kept_at ks i) (kepts-set now i after) ∙ kept-there i (kepts_of (all_of now)) (kept_of after) (omega (arith, get-short now i child e, kepts-long now))
+  pub kept-after : kept_at (kepts_of (all_of (set now i after))) i ≡ kept_of after
+  kept-after = ap (λ ks. kept_at ks i) (kepts-set now i after) ∙ kept-there i (kepts_of (all_of now)) (kept_of after) (omega (arith, get-short now i child e, kepts-long now))
 
   -- those of the child, and those of all before it
   pub made-of-child : AllMade m (kepts_of (all_of (set now i after))) → AreMade (below_child i m) (kept_of after)
-  made-of-child made = subst (λ (k : Kept Token). AreMade (below_child i m) k) there (made i)
+  made-of-child made = subst (λ (k : Kept Token). AreMade (below_child i m) k) kept-after (made i)
 
   pub made-of-fired : AllMadeBefore m (kepts_of (all_of (set now i after))) → AreMadeBefore (below_child i m) (kept_of after)
-  made-of-fired made = subst (λ (k : Kept Token). AreMadeBefore (below_child i m) k) there (made i)
+  made-of-fired made = subst (λ (k : Kept Token). AreMadeBefore (below_child i m) k) kept-after (made i)
 
   pub made-before : (l : Log Token) → GrewBy l (kept_of child) (kept_of after) → AllMadeBefore m (kepts_of (all_of (set now i after))) → AllMadeBefore m (kepts_of (all_of now))
   made-before l grew made =

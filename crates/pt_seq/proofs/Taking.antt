@@ -29,7 +29,8 @@ long-replicate (suc n) m = ap (λ k. suc k) (long-replicate n m)
 director-takes : (h : tree.Past) (d : Director) (ks : AllShown) (X : Streams Token) → IsLentTo rows (node_with h (body.Composite d) (nodes_of ks)) X → TakenBy d X
 director-takes h (First s) ks X l = l.places s.plan.takes refl
 director-takes h (Other (First s)) ks X l = l.places (replicate s.tick.plan.inputs 1) refl ∙ long-replicate s.tick.plan.inputs 1
-director-takes h (Other (Other s)) ks X l = l.places (replicate s.plan.inputs 1) refl ∙ long-replicate s.plan.inputs 1
+director-takes h (Other (Other (First s))) ks X l = l.places (replicate s.plan.inputs 1) refl ∙ long-replicate s.plan.inputs 1
+director-takes h (Other (Other (Other s))) ks X l = l.places s.network.plan.takes refl
 
 body-takes : (tag : Tag) (h : tree.Past) (b : Body) (ks : AllShown) (X : Streams Token) → IsLentTo rows (node_with h b (nodes_of ks)) X → TakesBody tag b X
 body-takes tag h (body.Actor held) ks X l = actor-takes tag held.actor X

@@ -7,6 +7,7 @@ use Rattle.pt_meaning.specs.NodeFacts.{need_of, next_of}
 use Rattle.pt_meaning.specs.Tree as tree
 use Rattle.pt_meaning.specs.Step.{Step}
 use Rattle.pt_value.specs.declared.token.Token.{Token}
+use Rattle.pt_firing.specs.declared.answer.Blocked.{Blocked}
 use Rattle.pt_firing.specs.declared.answer.Place.{Place}
 use Rattle.pt_firing.specs.declared.fault.RunFault.{RunFault}
 use Rattle.pt_records.specs.Made.{AreMade, AreMadeBefore, AreMadeWithin}
@@ -20,10 +21,10 @@ use Rattle.pt_node.specs.Shown.{Shown, Branch}
 use Rattle.pt_node.specs.Firing as firing
 use Rattle.pt_node.specs.View.{Tree, Trees, node_of, nodes_of, node_with, kept_of, outline_of, text_at}
 use Rattle.pt_node.specs.Live.{IsFit}
-use Rattle.pt_seq.specs.declared.fire.Within.TheVariants.{Done, Fault}
+use Rattle.pt_seq.specs.declared.fire.Within.TheVariants.{Done, Fault, Full}
 use Rattle.pt_seq.specs.declared.turn.Turn.{Turn}
 use Rattle.pt_seq.specs.declared.turn.Turn.TheVariants as turn
-use Rattle.pt_seq.specs.Within.{outcome, IsLeftOff, fired, IsStuck, WithinTo, path_of, made_of}
+use Rattle.pt_seq.specs.Within.{outcome, IsLeftOff, fired, IsStuck, IsFull, WithinTo, path_of, made_of}
 use Rattle.pt_seq.specs.Turns.{IsTold, TurnTo, TellTo, TurnSpends, RefusesTo}
 use Rattle.pt_seq.proofs.Recording.{made-within, made-recorded, off-done, step-fires, fit-recorded, kept-bare, text-own, made-own}
 
@@ -57,6 +58,7 @@ module _ {D : Type 0} (c : Calls D) where
         kind = t.3;
       })
   turn-told s old mid i tag out turn.Spent s' after w f o p t = absurd t
+  turn-told s old mid i tag out (turn.Full blocked) s' after w f o p t = absurd t
   turn-told s old mid i tag out turn.Memory s' after w f o p t = λ m made.
       let before : AreMade m (kept_of mid) = subst (λ k. AreMade m k) (kept-bare after mid t) made in
       subst (λ k. IsLeftOff m (node_of old) tag (c.lent_of s) (kept_of old) k) (sym (kept-bare after mid t)) (off-done m (node_of old) tag (c.lent_of s) (fired tag (node_of mid)) out (kept_of old) (kept_of mid) (w m (made-within m (kept_of mid) before)))
@@ -69,6 +71,10 @@ module _ {D : Type 0} (c : Calls D) where
   pub turn-stuck : (s : D) (old after : Shown) (i : ℕ) (tag : Tag) (X : Streams Token) (place : Place) (s' : D) → X ≡ c.lent_of s → WithinTo old tag X (Fault place) after → TurnTo c s old i tag (turn.Fault place) s' after
   turn-stuck s old after i tag X place s' e w = inl (subst (λ (Y : Streams Token). (m : Meets) → AreMade m (kept_of after) → IsStuck m (node_of old) tag Y (outline_of old) place (kept_of old) (kept_of after)) e w)
 
+  -- or gets a network within into a jam
+  pub turn-full : (s : D) (old after : Shown) (i : ℕ) (tag : Tag) (X : Streams Token) (blocked : Blocked) (s' : D) → X ≡ c.lent_of s → WithinTo old tag X (Full blocked) after → TurnTo c s old i tag (turn.Full blocked) s' after
+  turn-full s old after i tag X blocked s' e w = subst (λ (Y : Streams Token). (m : Meets) → AreMade m (kept_of after) → IsFull m (node_of old) tag Y (outline_of old) blocked (kept_of old) (kept_of after)) e w
+
 module _ {D : Type 0} (c : Calls D) (agree : CallsAgree c) where
   -- the inputs of a child that was asked for are handed over, which changes nothing else
   module _ (s t : D) (i : ℕ) (a : c.asked_of s ≡ Some i) (e : t ≡ c.handed s) where
@@ -77,6 +83,9 @@ module _ {D : Type 0} (c : Calls D) (agree : CallsAgree c) where
 
     pub asked-once-handed : c.asked_of t ≡ Some i
     asked-once-handed = ap (λ v. c.asked_of v) e ∙ (agree.hands s i a).1
+
+    pub maximum-once-handed : c.maximum t ≡ c.maximum s
+    maximum-once-handed = ap (λ v. c.maximum v) e ∙ agree.keeps_maximum.handed s
 
     pub lent-once-handed : (X : Streams Token) → X ≡ c.lent_of t → X ≡ c.lent_of s
     lent-once-handed X l = l ∙ ap (λ v. c.lent_of v) e ∙ (agree.hands s i a).2
@@ -88,12 +97,16 @@ module _ {D : Type 0} (c : Calls D) (agree : CallsAgree c) where
         told_so turn.Done g = let o = agree.hands_on s i a out (next_of rows (node_of after)) (need_of rows (node_of after)) in (sym o.1 ∙ g.0, g.1 ∙ o.0, g.2)
         told_so (turn.Fault place) g = let o = agree.hands_on s i a out None Over in (sym o.1 ∙ g.0, g.1, g.2, g.3 ∙ o.2, g.4)
         told_so turn.Spent g = g
+        told_so (turn.Full blocked) g = g
         told_so turn.Memory g = g
 
   -- the director tells whether it accepts what it was told
   module _ (s t : D) (i : ℕ) (out : Streams Token) (wake : Option Tag) (need : Need) (a : c.asked_of s ≡ Some i) (e : t ≡ c.told i out wake need s) where
     pub may-ask-once-told : c.MayAsk t
     may-ask-once-told = subst (λ v. c.MayAsk v) (sym e) (agree.asks_on s i out wake need a)
+
+    pub maximum-once-told : c.maximum t ≡ c.maximum s
+    maximum-once-told = ap (λ v. c.maximum v) e ∙ agree.keeps_maximum.told i out wake need s
 
     told-wrong : (b : Bool) → b ≡ c.is_wrong t → b ≡ not (c.accepts s i out)
     told-wrong b w = w ∙ ap (λ v. c.is_wrong v) e ∙ agree.tells s i out wake need a
@@ -123,6 +136,9 @@ module _ {D : Type 0} (c : Calls D) (agree : CallsAgree c) where
 
     pub may-ask-if-told : c.MayAsk t
     may-ask-if-told = may-ask-once-told s t i out (next_of rows then-is) (need_of rows then-is) a (e some-tag)
+
+    pub maximum-if-told : c.maximum t ≡ c.maximum s
+    maximum-if-told = maximum-once-told s t i out (next_of rows then-is) (need_of rows then-is) a (e some-tag)
 
     pub accepted-if-told : (b : Bool) → b ≡ c.is_wrong t → b ≡ false → c.accepts s i out ≡ true
     accepted-if-told b w h = accepted-so s t i out (next_of rows then-is) (need_of rows then-is) a (e some-tag) b w h
@@ -166,10 +182,12 @@ pub tell-refused : {D : Type 0} (c : Calls D) (s s' : D) (mid after : Shown) (i 
 tell-refused c s s' mid after i tag out kind turn.Done other k b r = absurd r
 tell-refused c s s' mid after i tag out kind (turn.Fault place) other k b r = (other, r.0 ∙ path-bare after mid b, r.1 ∙ made-bare after mid b, r.2 ∙ k, b)
 tell-refused c s s' mid after i tag out kind turn.Spent other k b r = absurd r
+tell-refused c s s' mid after i tag out kind (turn.Full blocked) other k b r = absurd r
 tell-refused c s s' mid after i tag out kind turn.Memory other k b r = b
 
 pub refused-spends : (after : Shown) (kind : RunFault) (t : Turn) (left left' : ℕ) → RefusesTo after kind t → TurnSpends t left left'
 refused-spends after kind turn.Done left left' r = absurd r
 refused-spends after kind (turn.Fault place) left left' r = tt
 refused-spends after kind turn.Spent left left' r = absurd r
+refused-spends after kind (turn.Full blocked) left left' r = absurd r
 refused-spends after kind turn.Memory left left' r = tt

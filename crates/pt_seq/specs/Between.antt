@@ -32,10 +32,11 @@ module _ {D : Type 0} (a : Acts rows D) where
     pub fit : AllFit now
     pub so_far : (m : Meets) → AllMadeBefore m (kepts_of now) → a.Underway (beginning m before olds tag inputs) s (tree.list_of (nodes_of now)) (kepts_of now)
 
-  -- It has come so far. The children have their names, and the allowance was lowered by each of their firings.
+  -- It has come so far. The children have their names, the director states the maximum capacity that it stated, and the allowance was lowered by each firing of a child.
   pub record At (before : D) (olds : List Shown) (tag : Tag) (inputs : Streams Token) (allowance : ℕ) (s : D) (now : List Shown) (left : ℕ) : Type 0 where
     pub going : Going before (all_of olds) tag inputs s (all_of now)
     pub outlines : outlines_of (all_of now) ≡ outlines_of (all_of olds)
+    pub maximum : a.calls.maximum s ≡ a.calls.maximum before
     pub counted : counts_of (all_of now) + left ≡ counts_of (all_of olds) + allowance
     pub lowered : left ≤ allowance
 
@@ -74,13 +75,14 @@ module _ {D : Type 0} (a : Acts rows D) where
     pub some : 0 < left
 
   -- It is left off here for want of memory: nothing was recorded since it had come so far.
-  pub record Halts (before : D) (olds : List Shown) (tag : Tag) (inputs : Streams Token) (allowance : ℕ) (now : List Shown) (left : ℕ) : Type 0 where
+  pub record Halts (before : D) (olds : List Shown) (tag : Tag) (inputs : Streams Token) (allowance : ℕ) (s : D) (now : List Shown) (left : ℕ) : Type 0 where
     pub state : D
     pub kids : List Shown
     pub at : At before olds tag inputs allowance state kids left
     pub kept : kepts_of (all_of now) ≡ kepts_of (all_of kids)
     pub outlines : outlines_of (all_of now) ≡ outlines_of (all_of kids)
     pub counts : counts_of (all_of now) ≡ counts_of (all_of kids)
+    pub maximum : a.calls.maximum s ≡ a.calls.maximum before
 
 -- where it has come to from there, without a firing that the director isn't told of but the last
 abbrev pub Paused : Director → List Shown → Tag → Streams Token → (allowance : ℕ) → Pause → Director → List Shown → (left : ℕ) → Type 0
@@ -88,7 +90,8 @@ Paused before olds tag X allowance (pause.Turn i when given) s now left = InTurn
 Paused before olds tag X allowance pause.Finished s now left = Between acts before olds tag X allowance ask.Finished s now left
 Paused before olds tag X allowance (pause.Faulted kind) s now left = Between acts before olds tag X allowance (ask.Faulted kind None) s now left
 Paused before olds tag X allowance pause.Spent s now left = (left ≡ 0) × ((next : Ask) × Between acts before olds tag X allowance next s now left)
-Paused before olds tag X allowance pause.Memory s now left = Halts acts before olds tag X allowance now left
+Paused before olds tag X allowance pause.Full s now left = Between acts before olds tag X allowance ask.Full s now left
+Paused before olds tag X allowance pause.Memory s now left = Halts acts before olds tag X allowance s now left
 
 -- the director asked for something in this state, which was done, and it has less to wait for; or it has come there
 abbrev pub Heeded : Director → List Shown → Tag → Streams Token → (allowance : ℕ) → (state : Director) → Option Pause → Director → List Shown → (left : ℕ) → Type 0

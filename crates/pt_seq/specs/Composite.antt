@@ -12,34 +12,41 @@ use Rattle.pt_core.specs.Lawful as lawful
 use Rattle.pt_library.specs.LibraryActor.{rows}
 use Rattle.pt_node.specs.Shown.{AllShown}
 use Rattle.pt_node.specs.View as view
-use Rattle.pt_node.specs.View.{Tree, Heading, nodes_of, kepts_of, outlines_of}
+use Rattle.pt_node.specs.View.{Tree, Heading, Outline, nodes_of, kepts_of, outlines_of}
 use Rattle.pt_node.specs.Live.{AllFit}
 use Rattle.pt_seq.specs.declared.fire.Within.{Within}
-use Rattle.pt_seq.specs.declared.fire.Within.TheVariants.{Done, Fault, Spent, Memory}
-use Rattle.pt_seq.specs.Within.{outcome, IsLeftOff, IsStuck}
+use Rattle.pt_seq.specs.declared.fire.Within.TheVariants.{Done, Fault, Spent, Full, Memory}
+use Rattle.pt_seq.specs.Within.{outcome, IsLeftOff, IsStuck, IsFull}
 
 module _ {D : Type 0} (a : Acts rows D) where
   -- the composite, by a state of its director
   abbrev pub composite : tree.Past → D → AllShown → Tree
   composite h s ks = lawful.node a h s (nodes_of ks)
 
-  -- What its firing comes to, whatever its past and what is kept at its own path. Where it is stuck itself, that is told at its path, of the firing of its number. Meetings are those of the children.
-  abbrev pub CompositeTo : (path : List ℕ) (made : ℕ) → D → AllShown → Tag → Streams Token → Within → D → AllShown → Type 0
-  CompositeTo path made s ks tag X (Done out) s' ks' = (m : Meets) → AllMadeBefore m (kepts_of ks') → (h : tree.Past) (e : Entry Token) → FiresTo (outcome m (composite h s ks) tag X) (composite (tree.fired_at tag h) s' ks') out (kept_by e (kepts_of ks)) (kept_by e (kepts_of ks'))
-  CompositeTo path made s ks tag X (Fault place) s' ks' = (m : Meets) → AllMade m (kepts_of ks') → (h : tree.Past) → h.made ≡ made → (e : Entry Token) (hs : List Heading) → IsStuck m (composite h s ks) tag X (view.Named path hs (outlines_of ks)) place (kept_by e (kepts_of ks)) (kept_by e (kepts_of ks'))
-  CompositeTo path made s ks tag X Spent s' ks' = (m : Meets) → AllMade m (kepts_of ks') → (h : tree.Past) (e : Entry Token) → IsLeftOff m (composite h s ks) tag X (kept_by e (kepts_of ks)) (kept_by e (kepts_of ks'))
-  CompositeTo path made s ks tag X Memory s' ks' = (m : Meets) → AllMade m (kepts_of ks') → (h : tree.Past) (e : Entry Token) → IsLeftOff m (composite h s ks) tag X (kept_by e (kepts_of ks)) (kept_by e (kepts_of ks'))
+  -- its names, by its path, by the labels of its channels, and by what of it is recorded
+  abbrev pub names : (path : List ℕ) (labels : List (List ℕ)) → List Heading → D → AllShown → Outline
+  names path labels hs s ks = view.Named path hs (a.calls.maximum s) labels (outlines_of ks)
+
+  -- What its firing comes to, whatever its past and what is kept at its own path. Where it is stuck or full itself, that is told at its path, of the firing of its number. Meetings are those of the children.
+  abbrev pub CompositeTo : (path : List ℕ) (labels : List (List ℕ)) (made : ℕ) → D → AllShown → Tag → Streams Token → Within → D → AllShown → Type 0
+  CompositeTo path labels made s ks tag X (Done out) s' ks' = (m : Meets) → AllMadeBefore m (kepts_of ks') → (h : tree.Past) (e : Entry Token) → FiresTo (outcome m (composite h s ks) tag X) (composite (tree.fired_at tag h) s' ks') out (kept_by e (kepts_of ks)) (kept_by e (kepts_of ks'))
+  CompositeTo path labels made s ks tag X (Fault place) s' ks' = (m : Meets) → AllMade m (kepts_of ks') → (h : tree.Past) → h.made ≡ made → (e : Entry Token) (hs : List Heading) → IsStuck m (composite h s ks) tag X (names path labels hs s ks) place (kept_by e (kepts_of ks)) (kept_by e (kepts_of ks'))
+  CompositeTo path labels made s ks tag X Spent s' ks' = (m : Meets) → AllMade m (kepts_of ks') → (h : tree.Past) (e : Entry Token) → IsLeftOff m (composite h s ks) tag X (kept_by e (kepts_of ks)) (kept_by e (kepts_of ks'))
+  CompositeTo path labels made s ks tag X (Full blocked) s' ks' = (m : Meets) → AllMade m (kepts_of ks') → (h : tree.Past) → h.made ≡ made → (e : Entry Token) → e.count ≡ made → (hs : List Heading) → IsFull m (composite h s ks) tag X (names path labels hs s ks) blocked (kept_by e (kepts_of ks)) (kept_by e (kepts_of ks'))
+  CompositeTo path labels made s ks tag X Memory s' ks' = (m : Meets) → AllMade m (kepts_of ks') → (h : tree.Past) (e : Entry Token) → IsLeftOff m (composite h s ks) tag X (kept_by e (kepts_of ks)) (kept_by e (kepts_of ks'))
 
   -- after a firing that is done the director and the children fit
   abbrev pub KeepsFit : Within → D → AllShown → Type 0
   KeepsFit (Done out) s ks = a.Fits s (tree.list_of (nodes_of ks)) × AllFit ks
   KeepsFit (Fault place) s ks = Unit {0}
   KeepsFit Spent s ks = Unit {0}
+  KeepsFit (Full blocked) s ks = Unit {0}
   KeepsFit Memory s ks = Unit {0}
 
--- the own outputs were handed out, or there was no memory for them
+-- the own outputs were handed out, or there was no memory for them, and the director is as before
 abbrev pub FinishTo : {D : Type 0} → Calls D → D → Within → D → Type 0
 FinishTo c s (Done out) s' = (s' ≡ c.closed s) × (out ≡ c.own_of s)
 FinishTo c s (Fault place) s' = ⊥
 FinishTo c s Spent s' = ⊥
-FinishTo c s Memory s' = Unit {0}
+FinishTo c s (Full blocked) s' = ⊥
+FinishTo c s Memory s' = s' ≡ s

@@ -21,7 +21,7 @@ use Rattle.pt_seq.specs.declared.turn.Turn.{Turn}
 use Rattle.pt_seq.specs.declared.turn.Turn.TheVariants as turn
 use Rattle.pt_seq.specs.declared.numbers.Quick.{Quick}
 use Rattle.pt_seq.specs.declared.numbers.Quick.TheVariants as quick
-use Rattle.pt_seq.specs.Within.{outcome, IsLeftOff, IsStuck, Given, path_of, made_of}
+use Rattle.pt_seq.specs.Within.{outcome, IsLeftOff, IsStuck, IsFull, Given, path_of, made_of}
 
 module _ {D : Type 0} (c : Calls D) where
   -- it was told what child i gave, with the wake and the need that the child has once its firing is recorded, at whatever tag
@@ -51,6 +51,7 @@ module _ {D : Type 0} (c : Calls D) where
   TurnTo s child i tag turn.Done s' after = ChildFired s child i tag s' after
   TurnTo s child i tag (turn.Fault place) s' after = ((m : Meets) → AreMade m (kept_of after) → IsStuck m (node_of child) tag (c.lent_of s) (outline_of child) place (kept_of child) (kept_of after)) ⊎ ChildRefused s child i tag place after
   TurnTo s child i tag turn.Spent s' after = (m : Meets) → AreMade m (kept_of after) → IsLeftOff m (node_of child) tag (c.lent_of s) (kept_of child) (kept_of after)
+  TurnTo s child i tag (turn.Full blocked) s' after = (m : Meets) → AreMade m (kept_of after) → IsFull m (node_of child) tag (c.lent_of s) (outline_of child) blocked (kept_of child) (kept_of after)
   TurnTo s child i tag turn.Memory s' after = (m : Meets) → AreMade m (kept_of after) → IsLeftOff m (node_of child) tag (c.lent_of s) (kept_of child) (kept_of after)
 
   -- the director was told what child i gave and which wake and need it has once that is recorded: where it accepts what it gave, the firing is recorded; else the child is told as stuck; for want of memory nothing is recorded
@@ -58,6 +59,7 @@ module _ {D : Type 0} (c : Calls D) where
   TellTo s mid i tag out turn.Done s' after = (c.accepts s i out ≡ true) × (s' ≡ c.told i out (next_of rows (node_of after)) (need_of rows (node_of after)) s) × (after ≡ recorded tag (noted tag out mid))
   TellTo s mid i tag out (turn.Fault place) s' after = (c.accepts s i out ≡ false) × (place.path ≡ path_of mid) × (place.firing ≡ made_of mid) × (place.kind ≡ c.refusal s) × (bare after ≡ bare mid)
   TellTo s mid i tag out turn.Spent s' after = ⊥
+  TellTo s mid i tag out (turn.Full blocked) s' after = ⊥
   TellTo s mid i tag out turn.Memory s' after = bare after ≡ bare mid
 
   -- the turn of a child whose firing gave one number already, or of one that fires now
@@ -75,6 +77,7 @@ abbrev pub TurnSpends : Turn → ℕ → ℕ → Type 0
 TurnSpends turn.Done left left' = left' < left
 TurnSpends (turn.Fault place) left left' = Unit {0}
 TurnSpends turn.Spent left left' = left' ≡ 0
+TurnSpends (turn.Full blocked) left left' = Unit {0}
 TurnSpends turn.Memory left left' = Unit {0}
 
 -- a turn that is done spends some of the allowance, and another none
@@ -87,6 +90,7 @@ abbrev pub RefusesTo : Shown → RunFault → Turn → Type 0
 RefusesTo child kind turn.Done = ⊥
 RefusesTo child kind (turn.Fault place) = (place.path ≡ path_of child) × (place.firing ≡ made_of child) × (place.kind ≡ kind)
 RefusesTo child kind turn.Spent = ⊥
+RefusesTo child kind (turn.Full blocked) = ⊥
 RefusesTo child kind turn.Memory = Unit {0}
 
 -- a child whose turn it is fits, and takes these inputs if it fires now

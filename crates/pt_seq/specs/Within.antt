@@ -6,26 +6,29 @@ use Rattle.pt_meaning.specs.Machine as machine
 use Rattle.pt_meaning.specs.Meetings.{Meets}
 use Rattle.pt_meaning.specs.Tree as tree
 use Rattle.pt_meaning.specs.Step.{step_at, Step}
+use Rattle.pt_meaning.specs.Asked.{IsJammed}
 use Rattle.pt_value.specs.declared.token.Token.{Token}
 use Rattle.pt_value.specs.declared.token.Token.TheVariants.{Int}
 use Rattle.pt_firing.specs.declared.answer.Answer.{Answer}
 use Rattle.pt_firing.specs.declared.answer.Answer.TheVariants as answer
+use Rattle.pt_firing.specs.declared.answer.Blocked.{Blocked}
 use Rattle.pt_firing.specs.declared.answer.Place.{Place}
 use Rattle.pt_firing.specs.declared.fault.RunFault.{RunFault}
 use Rattle.pt_firing.specs.RunFault.{code_of}
 use Rattle.pt_records.specs.Kept.{Kept}
 use Rattle.pt_records.specs.Made.{AreMade, AreMadeBefore, AreMadeWithin}
-use Rattle.pt_records.specs.Fired.{FiresTo, SticksAt, LeavesOff}
+use Rattle.pt_records.specs.Fired.{FromSome, FiresTo, SticksAt, LeavesOff}
 use Rattle.pt_records.specs.Shut.{IsShut}
 use Rattle.pt_library.specs.LibraryActor.{rows}
 use Rattle.pt_library.specs.LibraryActor as library
 use Rattle.pt_node.specs.declared.body.Held.{Held}
 use Rattle.pt_node.specs.Shown.{Shown, Branch}
-use Rattle.pt_node.specs.View.{Tree, node_of, kept_of, count_of, Outline, outline_of, text_at}
+use Rattle.pt_node.specs.View.{Tree, node_of, kept_of, count_of, Outline, outline_of, text_at, maximum_at}
 use Rattle.pt_node.specs.Live.{IsFit, IsLive, is_live}
 use Rattle.pt_node.specs.Stuck.{fault_of}
+use Rattle.pt_node.specs.Full.{told_by, IsToldFull}
 use Rattle.pt_seq.specs.declared.fire.Within.{Within}
-use Rattle.pt_seq.specs.declared.fire.Within.TheVariants.{Done, Fault, Spent, Memory}
+use Rattle.pt_seq.specs.declared.fire.Within.TheVariants.{Done, Fault, Spent, Full, Memory}
 
 -- the outcome of a firing at each fuel, without the node's own record
 abbrev pub outcome : Meets → Tree → Tag → Streams Token → ℕ → Outcome Token Tree
@@ -48,11 +51,23 @@ fired tag (tree.Composite h c d kids) = tree.Composite (tree.fired_at tag h) c d
 abbrev pub IsStuck : Meets → Tree → Tag → Streams Token → Outline → Place → Kept Token → Kept Token → Type 0
 IsStuck m n tag X o place old new = (p : Path) × (text_at o p ≡ Some place.path) × IsStuckIn m n tag X (fault_of p place) old new
 
--- A firing of a node that isn't recorded yet, under the meetings that were recorded: it is done, or stuck at the place that is told, or it was left off.
+-- The firing gets a network of the tree into a jam, which is told by the names of the tree: by the maximum capacities that its directors state, and with the numbers of finished firings that are kept.
+pub record IsJam (m : Meets) (n : Tree) (tag : Tag) (X : Streams Token) (names : Outline) (blocked : Blocked) (new : Kept Token) : Type 0 where
+  pub path : Path
+  pub full : List (ℕ × ℕ)
+  pub told : IsToldFull names path full blocked
+  pub jams : FromSome (λ k. IsJammed rows k path m (maximum_at names) (λ p. (new p).count) n tag X full)
+
+-- it was left off with a log that is shut, where it gets a network into a jam
+abbrev pub IsFull : Meets → Tree → Tag → Streams Token → Outline → Blocked → Kept Token → Kept Token → Type 0
+IsFull m n tag X names blocked old new = IsLeftOff m n tag X old new × IsJam m n tag X names blocked new
+
+-- A firing of a node that isn't recorded yet, under the meetings that were recorded: it is done, or stuck at the place that is told, or it was left off, in a jam where that is told.
 abbrev pub WithinTo : Shown → Tag → Streams Token → Within → Shown → Type 0
 WithinTo old tag X (Done out) new = (m : Meets) → AreMadeWithin m (kept_of new) → FiresTo (outcome m (node_of old) tag X) (fired tag (node_of new)) out (kept_of old) (kept_of new)
 WithinTo old tag X (Fault place) new = (m : Meets) → AreMade m (kept_of new) → IsStuck m (node_of old) tag X (outline_of old) place (kept_of old) (kept_of new)
 WithinTo old tag X Spent new = (m : Meets) → AreMade m (kept_of new) → IsLeftOff m (node_of old) tag X (kept_of old) (kept_of new)
+WithinTo old tag X (Full blocked) new = (m : Meets) → AreMade m (kept_of new) → IsFull m (node_of old) tag X (outline_of old) blocked (kept_of old) (kept_of new)
 WithinTo old tag X Memory new = (m : Meets) → AreMade m (kept_of new) → IsLeftOff m (node_of old) tag X (kept_of old) (kept_of new)
 
 -- the allowance is spent where that is told
@@ -60,6 +75,7 @@ abbrev pub SpendsAll : Within → ℕ → Type 0
 SpendsAll (Done out) left = Unit {0}
 SpendsAll (Fault place) left = Unit {0}
 SpendsAll Spent left = left ≡ 0
+SpendsAll (Full blocked) left = Unit {0}
 SpendsAll Memory left = Unit {0}
 
 -- after a firing that is done the node fits
@@ -67,14 +83,15 @@ abbrev pub StaysFit : Within → Shown → Type 0
 StaysFit (Done out) new = IsFit new
 StaysFit (Fault place) new = Unit {0}
 StaysFit Spent new = Unit {0}
+StaysFit (Full blocked) new = Unit {0}
 StaysFit Memory new = Unit {0}
 
--- What a call answers, under the meetings that were recorded: the step is done with the node's own record, or stuck at the place, or it was left off.
+-- What a call answers, under the meetings that were recorded: the step is done with the node's own record, or stuck at the place, or it was left off, in a jam where that is told.
 abbrev pub AnswersTo : Shown → Tag → Streams Token → (allowance : ℕ) → Answer → Shown → Type 0
 AnswersTo old tag X allowance (answer.Done out) new = ((m : Meets) → AreMadeBefore m (kept_of new) → FiresTo (λ k. Step k rows m (node_of old) tag X) (node_of new) out (kept_of old) (kept_of new)) × IsLive new
 AnswersTo old tag X allowance (answer.Fault place) new = (m : Meets) → AreMade m (kept_of new) → (p : Path) × (text_at (outline_of old) p ≡ Some place.path) × SticksAt (λ k. Step k rows m (node_of old) tag X) (IsShut rows m (node_of old) tag X (Some (fault_of p place))) (fault_of p place) (kept_of old) (kept_of new)
 AnswersTo old tag X allowance (answer.Spent count) new = (count_of new ≡ count_of old + count) × (allowance ≤ count) × ((m : Meets) → AreMade m (kept_of new) → LeavesOff (λ k. Step k rows m (node_of old) tag X) (IsShut rows m (node_of old) tag X None) (kept_of old) (kept_of new))
-AnswersTo old tag X allowance (answer.Full blocked) new = ⊥
+AnswersTo old tag X allowance (answer.Full blocked) new = (m : Meets) → AreMade m (kept_of new) → LeavesOff (λ k. Step k rows m (node_of old) tag X) (IsShut rows m (node_of old) tag X None) (kept_of old) (kept_of new) × IsJam m (node_of old) tag X (outline_of old) blocked (kept_of new)
 AnswersTo old tag X allowance answer.Memory new = (m : Meets) → AreMade m (kept_of new) → LeavesOff (λ k. Step k rows m (node_of old) tag X) (IsShut rows m (node_of old) tag X None) (kept_of old) (kept_of new)
 
 -- after a call that ended otherwise than done the node is live no more
@@ -90,7 +107,16 @@ abbrev pub IsFaultAt : List ℕ → ℕ → RunFault → Within → Type 0
 IsFaultAt path firing kind (Done out) = ⊥
 IsFaultAt path firing kind (Fault place) = (place.path ≡ path) × (place.firing ≡ firing) × (place.kind ≡ kind)
 IsFaultAt path firing kind Spent = ⊥
+IsFaultAt path firing kind (Full blocked) = ⊥
 IsFaultAt path firing kind Memory = Unit {0}
+
+-- the network at the path is told full, with these channels by their labels, or there was no memory for it
+abbrev pub IsFullAt : (path : List ℕ) → (labels : List (List ℕ)) → (full : List (ℕ × ℕ)) → Within → Type 0
+IsFullAt path labels full (Done out) = ⊥
+IsFullAt path labels full (Fault place) = ⊥
+IsFullAt path labels full Spent = ⊥
+IsFullAt path labels full (Full blocked) = (blocked.path ≡ path) × (blocked.channels ≡ told_by labels full)
+IsFullAt path labels full Memory = Unit {0}
 
 -- the path and the number of firings of a node
 abbrev pub path_of : Shown → List ℕ
@@ -126,4 +152,5 @@ abbrev pub ActorTo : Held → List ℕ → ℕ → Tag → Streams Token → Wit
 ActorTo old path made tag X (Done out) new = (library.step tag old.actor X ≡ tree.Gives new.actor out) × (new.start ≡ old.start)
 ActorTo old path made tag X (Fault place) new = (library.step tag old.actor X ≡ tree.Fails (code_of place.kind)) × (place.path ≡ path) × (place.firing ≡ made)
 ActorTo old path made tag X Spent new = ⊥
+ActorTo old path made tag X (Full blocked) new = ⊥
 ActorTo old path made tag X Memory new = Unit {0}

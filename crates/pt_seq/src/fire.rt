@@ -10,13 +10,14 @@ ghost use Rattle.pt_seq.specs.Within.{WithinTo, SpendsAll, StaysFit, AnswersTo, 
 ghost use Rattle.pt_seq.specs.Composite.{CompositeTo, KeepsFit, FinishTo};
 ghost use Rattle.pt_seq.specs.Turns.{TurnTo, TurnFrom, TurnSpends, MayFire};
 
+use crate::full::full_at;
 use crate::numbers::{Buffers, several, tell_numbers};
 use crate::pause::{Pause, next};
 use crate::turn::{Turn, tell};
 use pt_core::Core;
 use pt_directors::Director;
-use pt_firing::{Answer, Fires, Inputs, Outputs, Place, RunFault, Step};
-use pt_node::{Body, Held, Node};
+use pt_firing::{Answer, Blocked, Fires, Inputs, Outputs, Place, RunFault, Step};
+use pt_node::{Body, Held, Labels, Node};
 use pt_time::Tag;
 use pt_value::Text;
 use std::alloc::Global;
@@ -28,6 +29,7 @@ pub(crate) enum Within {
     Done(Outputs),
     Fault(Place),
     Spent,
+    Full(Blocked),
     Memory,
 }
 
@@ -70,6 +72,7 @@ pub fn fire_within(
         Within::Done(outputs) => outputs,
         Within::Fault(place) => return Answer::Fault(place),
         Within::Spent => return Answer::Spent(allowance),
+        Within::Full(blocked) => return Answer::Full(blocked),
         Within::Memory => return Answer::Memory,
     };
     if *left == 0 {
@@ -108,6 +111,7 @@ fn fire(alloc: Global, node: &mut Node, tag: Tag, inputs: &Inputs<'_>, left: &mu
             director,
             &mut node.children,
             &node.path,
+            &node.labels,
             node.past.made,
             tag,
             inputs,
@@ -116,7 +120,7 @@ fn fire(alloc: Global, node: &mut Node, tag: Tag, inputs: &Inputs<'_>, left: &mu
     }
 }
 
-/// One firing of a composite: its director says what comes next. `path` and `made` are its own, to tell where it is stuck itself.
+/// One firing of a composite: its director says what comes next. `path`, `labels` and `made` are its own, to tell where it is stuck itself, or full.
 #[cycle(fire)]
 #[inline(never)]
 fn fire_composite(
@@ -124,6 +128,7 @@ fn fire_composite(
     director: &mut Director,
     children: &mut Vec<Node>,
     path: &Text,
+    labels: &Labels,
     made: u64,
     tag: Tag,
     inputs: &Inputs<'_>,
@@ -132,11 +137,12 @@ fn fire_composite(
     requires ready { IsReady director.old (all_of (map shown children.old.items)) }
     requires fit { AllFit (all_of (map shown children.old.items)) }
     requires inputs { TakenBy director.old inputs.now }
-    ensures goes { CompositeTo acts path.now made director.old (all_of (map shown children.old.items)) tag inputs.now result director.new (all_of (map shown children.new.items)) }
+    ensures goes { CompositeTo acts path.now labels.now made director.old (all_of (map shown children.old.items)) tag inputs.now result director.new (all_of (map shown children.new.items)) }
     ensures spends { SpendsAll result left.new }
     ensures lowered { left.new ≤ left.old }
     ensures fit { KeepsFit acts result director.new (all_of (map shown children.new.items)) }
     ensures outlines { outlines_of (all_of (map shown children.new.items)) ≡ outlines_of (all_of (map shown children.old.items)) }
+    ensures maximum { director_calls.maximum director.new ≡ director_calls.maximum director.old }
     ensures counted { counts_of (all_of (map shown children.new.items)) + left.new ≡ counts_of (all_of (map shown children.old.items)) + left.old }
 {
     if director.begin(alloc, tag, inputs).is_err() {
@@ -160,12 +166,14 @@ fn fire_composite(
                     Turn::Done => {}
                     Turn::Fault(place) => return Within::Fault(place),
                     Turn::Spent => return Within::Spent,
+                    Turn::Full(blocked) => return Within::Full(blocked),
                     Turn::Memory => return Within::Memory,
                 }
             }
             Pause::Finished => return finish(alloc, director),
             Pause::Faulted(kind) => return fault_at(alloc, path, made, kind),
             Pause::Spent => return Within::Spent,
+            Pause::Full => return full_at(alloc, director, path, labels),
             Pause::Memory => return Within::Memory,
         }
     }
@@ -217,6 +225,7 @@ fn fire_child(
     requires left { 0 < left.old }
     requires fit { MayFire given tag (shown_node child.old) (director_calls.lent_of director.old) }
     ensures goes { TurnFrom director_calls given director.old (shown_node child.old) number tag result director.new (shown_node child.new) }
+    ensures maximum { director_calls.maximum director.new ≡ director_calls.maximum director.old }
     ensures spends { TurnSpends result left.old left.new }
     ensures lowered { left.new ≤ left.old }
     ensures outline { outline_of (shown_node child.new) ≡ outline_of (shown_node child.old) }
@@ -254,6 +263,7 @@ fn fire_any(
     requires fit { IsFit (shown_node child.old) }
     requires inputs { Takes tag (shown_node child.old) (director_calls.lent_of director.old) }
     ensures goes { TurnTo director_calls director.old (shown_node child.old) number tag result director.new (shown_node child.new) }
+    ensures maximum { director_calls.maximum director.new ≡ director_calls.maximum director.old }
     ensures spends { TurnSpends result left.old left.new }
     ensures lowered { left.new ≤ left.old }
     ensures outline { outline_of (shown_node child.new) ≡ outline_of (shown_node child.old) }
@@ -264,6 +274,7 @@ fn fire_any(
         Within::Done(outputs) => outputs,
         Within::Fault(place) => return Turn::Fault(place),
         Within::Spent => return Turn::Spent,
+        Within::Full(blocked) => return Turn::Full(blocked),
         Within::Memory => return Turn::Memory,
     };
     if *left == 0 {

@@ -2,6 +2,7 @@
 #![tactic(auto)]
 
 mod fire;
+mod full;
 mod number_core;
 mod numbers;
 mod pause;

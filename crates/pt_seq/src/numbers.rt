@@ -1,4 +1,4 @@
-ghost use Rattle.std.specs.Prelude.{◌≡◌, ◌+◌, ◌<◌, ◌≤◌, ◌∷◌, [], List, ℕ, Option, Some, IsSome, IfSome, OnOk, map};
+ghost use Rattle.std.specs.Prelude.{◌≡◌, ◌+◌, ◌<◌, ◌≤◌, ◌∷◌, [], List, ℕ, Option, Some, IsSome, IfSome, OnOk, OnErr, map};
 ghost use Rattle.pt_meaning.specs.Basics as basics;
 ghost use Rattle.pt_value.specs.declared.token.Token.{Token};
 ghost use Rattle.pt_value.specs.declared.token.Token.TheVariants.{Int};
@@ -189,6 +189,7 @@ fn told_numbers(
     requires asked { director_calls.asked_of director.old ≡ Some number }
     requires fit { IsFit (shown_node child.now) }
     ensures told { OnOk result (IsTold director_calls director.old (shown_node child.now) number (map Int numbers.now ∷ []) director.new) }
+    ensures kept { OnErr result (director.new ≡ director.old) }
 {
     match director {
         Either::First(core) => core.told_numbers(alloc, number, numbers),
@@ -212,6 +213,7 @@ pub(crate) fn tell_numbers(
     requires left { 0 < left.old }
     requires fit { IsFit (shown_node child.old) }
     ensures goes { TellTo director_calls director.old (shown_node child.old) number tag (map Int given.now ∷ []) result director.new (shown_node child.new) }
+    ensures maximum { director_calls.maximum director.new ≡ director_calls.maximum director.old }
     ensures spends { TurnSpends result left.old left.new }
     ensures lowered { left.new ≤ left.old }
     ensures outline { outline_of (shown_node child.new) ≡ outline_of (shown_node child.old) }

@@ -1,4 +1,4 @@
-ghost use Rattle.std.specs.Prelude.{◌≡◌, ◌≤◌, List, ℕ, Some, OnOk, map};
+ghost use Rattle.std.specs.Prelude.{◌≡◌, ◌≤◌, List, ℕ, Some, OnOk, OnErr, map};
 ghost use Rattle.pt_meaning.specs.Basics as basics;
 ghost use Rattle.pt_meaning.specs.NodeFacts.{early_of};
 ghost use Rattle.pt_value.specs.declared.token.Token.{Token};
@@ -28,6 +28,8 @@ pub(crate) enum Pause {
     /// The composite itself is stuck.
     Faulted(RunFault),
     Spent,
+    /// The composite's own network is full.
+    Full,
     Memory,
 }
 
@@ -121,6 +123,7 @@ fn heed(
         Ask::Get(_) | Ask::Put(_) | Ask::Grow => None,
         Ask::Finished => Some(Pause::Finished),
         Ask::Faulted(kind, _) => Some(Pause::Faulted(kind)),
+        Ask::Full => Some(Pause::Full),
         _ => unreachable!(),
     }
 }
@@ -134,7 +137,8 @@ fn listen(
     when: Tag,
 ) -> Result<(), AllocError>
     requires { director_calls.listened_of director.old ≡ Some number }
-    ensures { OnOk result (director.new ≡ director_calls.heard number (early_of rows when (node_of (shown_node child.now)) (director_calls.partial_of director.old)) director.old) }
+    ensures heard { OnOk result (director.new ≡ director_calls.heard number (early_of rows when (node_of (shown_node child.now)) (director_calls.partial_of director.old)) director.old) }
+    ensures kept { OnErr result (director.new ≡ director.old) }
 {
     let partial = director.partial(alloc)?;
     let early = child.early(alloc, when, &partial)?;

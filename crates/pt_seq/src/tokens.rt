@@ -1,4 +1,4 @@
-ghost use Rattle.std.specs.Prelude.{◌≡◌, [], ◌∷◌, Some, OnOk, IfOk, map};
+ghost use Rattle.std.specs.Prelude.{◌≡◌, [], ◌∷◌, Some, OnOk, OnErr, IfOk, map};
 ghost use Rattle.pt_value.specs.declared.token.Token.TheVariants.{Int};
 ghost use Rattle.pt_node.specs.Shown.{shown_node};
 ghost use Rattle.pt_node.specs.Live.{IsFit};
@@ -22,6 +22,7 @@ pub(crate) fn tell_tokens<C: Core>(
     requires asked { C.calls.asked_of core.old ≡ Some number }
     requires fit { IsFit (shown_node child.now) }
     ensures told { OnOk result (IsTold C.calls core.old (shown_node child.now) number (map Int numbers.now ∷ []) core.new) }
+    ensures kept { OnErr result (core.new ≡ core.old) }
 {
     let outputs = as_tokens(alloc, numbers)?;
     core.told(alloc, number, outputs, child.wake(), child.need())

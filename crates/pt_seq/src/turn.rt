@@ -8,7 +8,7 @@ ghost use Rattle.pt_seq.specs.Turns.{TurnSpends, TellTo, RefusesTo};
 use crate::fire::{Within, fault_at};
 use pt_core::Core;
 use pt_directors::Director;
-use pt_firing::{Outputs, Place, RunFault};
+use pt_firing::{Blocked, Outputs, Place, RunFault};
 use pt_node::Node;
 use pt_time::Tag;
 use std::alloc::Global;
@@ -19,6 +19,7 @@ pub(crate) enum Turn {
     Done,
     Fault(Place),
     Spent,
+    Full(Blocked),
     Memory,
 }
 
@@ -36,6 +37,7 @@ pub(crate) fn tell(
     requires left { 0 < left.old }
     requires fit { IsFit (shown_node child.old) }
     ensures goes { TellTo director_calls director.old (shown_node child.old) number tag outputs result director.new (shown_node child.new) }
+    ensures maximum { director_calls.maximum director.new ≡ director_calls.maximum director.old }
     ensures spends { TurnSpends result left.old left.new }
     ensures lowered { left.new ≤ left.old }
     ensures outline { outline_of (shown_node child.new) ≡ outline_of (shown_node child.old) }

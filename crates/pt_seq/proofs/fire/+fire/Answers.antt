@@ -5,12 +5,12 @@ use Rattle.pt_node.specs.Acts.{acts}
 use Rattle.pt_node.specs.Shown.{shown, shown_node}
 use Rattle.pt_seq.specs.Turns.{TellTo}
 use Rattle.pt_seq.proofs.Recording.{off-none}
-use Rattle.pt_seq.proofs.Turning.{turn-stuck, turn-off, turn-off-done, turn-after, handed-once, asked-once-handed, lent-once-handed, told-once-handed}
+use Rattle.pt_seq.proofs.Turning.{turn-stuck, turn-full, turn-off, turn-off-done, turn-after, handed-once, asked-once-handed, maximum-once-handed, lent-once-handed, told-once-handed}
 use Rattle.pt_seq.proofs.Acting.{acts-law}
-use Rattle.pt_seq.proofs.Firing.{at-begun, off-here, may-finish, finish-goes, finish-fits, faulted-goes, faulted-fits, faulted-spends}
-use Rattle.pt_seq.proofs.Loop.{on-ok, turn-in, turn-asked, turn-may, turn-depth, turn-next, turn-outlines, turn-counted, turn-fault, turn-spent, turn-memory, halts-off, halts-outlines, halts-counted}
+use Rattle.pt_seq.proofs.Firing.{at-begun, off-here, may-finish, finish-goes, finish-fits, finish-maximum, faulted-goes, faulted-fits, faulted-spends, full-goes, full-fits, full-spends}
+use Rattle.pt_seq.proofs.Loop.{on-ok, on-err, between-maximum, turn-in, turn-maximum, turn-asked, turn-may, turn-depth, turn-next, turn-outlines, turn-counted, turn-fault, turn-spent, turn-jam, turn-memory, halts-off, halts-outlines, halts-counted}
 use Rattle.pt_seq.proofs.NumberRows.{turn-of-several}
-use Rattle.pt_seq.proofs.Entering.{actor-enters, actor-stays, composite-enters, composite-stays, some-given}
+use Rattle.pt_seq.proofs.Entering.{actor-enters, actor-named, actor-stays, composite-enters, composite-named, composite-stays, some-given}
 use Rattle.pt_seq.proofs.fire.+fire.Goals as goal
 
 pub fire_any-lent-requires : goal.fire_any-lent-requires
@@ -83,7 +83,7 @@ pub fire_composite-loop-number-preserved : goal.fire_composite-loop-number-prese
 fire_composite-loop-number-preserved t c = turn-next acts acts-law c.next.new.children.items (c.in-Turn.ensures.goes c.args.director.now (map shown c.args.children.now.items) c.args.tag c.args.inputs.now c.args.left.now c.loop-number.invariant) c.index_mut-child.result.now c.index_mut-child.ensures.value c.fire_child.new.child c.fire_child.new.director c.fire_child.new.left c.in-Done.ensures.goes c.in-Done.ensures.outline c.in-Done.ensures.counted c.in-Done.ensures.lowered
 
 pub fire_composite-returns-in-Fault-clause-goes : goal.fire_composite-returns-in-Fault-clause-goes
-fire_composite-returns-in-Fault-clause-goes t c = turn-fault acts acts-law c.next.new.children.items (c.in-Turn.ensures.goes c.args.director.now (map shown c.args.children.now.items) c.args.tag c.args.inputs.now c.args.left.now c.loop-number.invariant) c.index_mut-child.result.now c.index_mut-child.ensures.value c.fire_child.new.child c.args.path.now c.args.made c.in-Fault.place c.fire_child.new.director c.in-Fault.ensures.goes
+fire_composite-returns-in-Fault-clause-goes t c = turn-fault acts acts-law c.next.new.children.items (c.in-Turn.ensures.goes c.args.director.now (map shown c.args.children.now.items) c.args.tag c.args.inputs.now c.args.left.now c.loop-number.invariant) c.index_mut-child.result.now c.index_mut-child.ensures.value c.fire_child.new.child c.args.path.now c.args.labels.now c.args.made c.in-Fault.place c.fire_child.new.director c.in-Fault.ensures.goes
 
 pub fire_composite-returns-in-Spent-fire_child-clause-goes : goal.fire_composite-returns-in-Spent-fire_child-clause-goes
 fire_composite-returns-in-Spent-fire_child-clause-goes t c = turn-spent acts acts-law c.next.new.children.items (c.in-Turn.ensures.goes c.args.director.now (map shown c.args.children.now.items) c.args.tag c.args.inputs.now c.args.left.now c.loop-number.invariant) c.index_mut-child.result.now c.index_mut-child.ensures.value c.fire_child.new.child c.fire_child.new.director c.in-Spent-fire_child.ensures.goes
@@ -119,22 +119,22 @@ pub fire_composite-returns-in-Memory-fire_child-clause-counted : goal.fire_compo
 fire_composite-returns-in-Memory-fire_child-clause-counted t c = turn-counted acts acts-law c.next.new.children.items (c.in-Turn.ensures.goes c.args.director.now (map shown c.args.children.now.items) c.args.tag c.args.inputs.now c.args.left.now c.loop-number.invariant) c.index_mut-child.result.now c.index_mut-child.ensures.value c.fire_child.new.child c.fire_child.new.left c.in-Memory-fire_child.ensures.counted
 
 pub fire_composite-finish-requires : goal.fire_composite-finish-requires
-fire_composite-finish-requires t c = let p = (c.in-Finished.ensures.goes c.args.director.now (map shown c.args.children.now.items) c.args.tag c.args.inputs.now c.args.left.now c.loop-number.invariant) in may-finish acts acts-law p.at c.args.path.now c.args.made p.gives c.next.new.director p.asking
+fire_composite-finish-requires t c = let p = (c.in-Finished.ensures.goes c.args.director.now (map shown c.args.children.now.items) c.args.tag c.args.inputs.now c.args.left.now c.loop-number.invariant) in may-finish acts acts-law p.at c.args.path.now c.args.labels.now c.args.made p.gives c.next.new.director p.asking
 
 pub fire_composite-returns-in-Finished-clause-goes : goal.fire_composite-returns-in-Finished-clause-goes
-fire_composite-returns-in-Finished-clause-goes t c = let p = (c.in-Finished.ensures.goes c.args.director.now (map shown c.args.children.now.items) c.args.tag c.args.inputs.now c.args.left.now c.loop-number.invariant) in finish-goes acts acts-law p.at c.args.path.now c.args.made p.gives c.next.new.director p.asking c.finish.result c.finish.new.director c.finish.ensures
+fire_composite-returns-in-Finished-clause-goes t c = let p = (c.in-Finished.ensures.goes c.args.director.now (map shown c.args.children.now.items) c.args.tag c.args.inputs.now c.args.left.now c.loop-number.invariant) in finish-goes acts acts-law p.at c.args.path.now c.args.labels.now c.args.made p.gives c.next.new.director p.asking c.finish.result c.finish.new.director c.finish.ensures
 
 pub fire_composite-returns-in-Finished-clause-fit : goal.fire_composite-returns-in-Finished-clause-fit
-fire_composite-returns-in-Finished-clause-fit t c = let p = (c.in-Finished.ensures.goes c.args.director.now (map shown c.args.children.now.items) c.args.tag c.args.inputs.now c.args.left.now c.loop-number.invariant) in finish-fits acts acts-law p.at c.args.path.now c.args.made p.gives c.next.new.director p.asking c.finish.result c.finish.new.director c.finish.ensures
+fire_composite-returns-in-Finished-clause-fit t c = let p = (c.in-Finished.ensures.goes c.args.director.now (map shown c.args.children.now.items) c.args.tag c.args.inputs.now c.args.left.now c.loop-number.invariant) in finish-fits acts acts-law p.at c.args.path.now c.args.labels.now c.args.made p.gives c.next.new.director p.asking c.finish.result c.finish.new.director c.finish.ensures
 
 pub fire_composite-returns-in-Faulted-clause-goes : goal.fire_composite-returns-in-Faulted-clause-goes
-fire_composite-returns-in-Faulted-clause-goes t c = let p = (c.in-Faulted.ensures.goes c.args.director.now (map shown c.args.children.now.items) c.args.tag c.args.inputs.now c.args.left.now c.loop-number.invariant) in faulted-goes acts acts-law p.at c.args.path.now c.args.made c.in-Faulted.kind p.gives c.fault_at.result c.next.new.director c.fault_at.ensures
+fire_composite-returns-in-Faulted-clause-goes t c = let p = (c.in-Faulted.ensures.goes c.args.director.now (map shown c.args.children.now.items) c.args.tag c.args.inputs.now c.args.left.now c.loop-number.invariant) in faulted-goes acts acts-law p.at c.args.path.now c.args.labels.now c.args.made c.in-Faulted.kind p.gives c.fault_at.result c.next.new.director c.fault_at.ensures
 
 pub fire_composite-returns-in-Faulted-clause-fit : goal.fire_composite-returns-in-Faulted-clause-fit
-fire_composite-returns-in-Faulted-clause-fit t c = let p = (c.in-Faulted.ensures.goes c.args.director.now (map shown c.args.children.now.items) c.args.tag c.args.inputs.now c.args.left.now c.loop-number.invariant) in faulted-fits acts acts-law p.at c.args.path.now c.args.made c.in-Faulted.kind p.gives c.fault_at.result c.next.new.director c.fault_at.ensures
+fire_composite-returns-in-Faulted-clause-fit t c = let p = (c.in-Faulted.ensures.goes c.args.director.now (map shown c.args.children.now.items) c.args.tag c.args.inputs.now c.args.left.now c.loop-number.invariant) in faulted-fits acts acts-law p.at c.args.path.now c.args.labels.now c.args.made c.in-Faulted.kind p.gives c.fault_at.result c.next.new.director c.fault_at.ensures
 
 pub fire_composite-returns-in-Faulted-clause-spends : goal.fire_composite-returns-in-Faulted-clause-spends
-fire_composite-returns-in-Faulted-clause-spends t c = let p = (c.in-Faulted.ensures.goes c.args.director.now (map shown c.args.children.now.items) c.args.tag c.args.inputs.now c.args.left.now c.loop-number.invariant) in faulted-spends acts acts-law p.at c.args.path.now c.args.made c.in-Faulted.kind p.gives c.fault_at.result c.next.new.left c.fault_at.ensures
+fire_composite-returns-in-Faulted-clause-spends t c = let p = (c.in-Faulted.ensures.goes c.args.director.now (map shown c.args.children.now.items) c.args.tag c.args.inputs.now c.args.left.now c.loop-number.invariant) in faulted-spends acts acts-law p.at c.args.path.now c.args.labels.now c.args.made c.in-Faulted.kind p.gives c.fault_at.result c.next.new.left c.fault_at.ensures
 
 pub fire_composite-returns-in-Finished-clause-lowered : goal.fire_composite-returns-in-Finished-clause-lowered
 fire_composite-returns-in-Finished-clause-lowered t c = omega (arith, c.next.ensures.lowered, c.loop-number.invariant.lowered)
@@ -186,3 +186,90 @@ fire_child-returns-then-several-clause-goes t c =
     let gave = some-given (shown_node c.args.child.now) (shown_node c.several.new.node) (director_calls.lent_of c.args.director.now) c.several.result c.several.new.buffers.given.items c.several.ensures.goes c.if-several.true in
     turn-of-several c.args.director.now c.args.given c.in_default.not-Some (shown_node c.args.child.now) (shown_node c.several.new.node) c.args.number c.args.tag c.several.new.buffers.given.items c.tell_numbers-then-several.result c.tell_numbers-then-several.new.director (shown_node c.tell_numbers-then-several.new.child) gave (ap (λ p. p.made) c.several.ensures.past)
     (subst (λ v. TellTo director_calls c.args.director.now (shown_node c.several.new.node) c.args.number c.args.tag (map Int v ∷ []) c.tell_numbers-then-several.result c.tell_numbers-then-several.new.director (shown_node c.tell_numbers-then-several.new.child)) c.deref.ensures.value c.tell_numbers-then-several.ensures.goes)
+
+pub fire_any-returns-in-Full-clause-goes : goal.fire_any-returns-in-Full-clause-goes
+fire_any-returns-in-Full-clause-goes t c = turn-full director_calls c.args.director.now (shown_node c.args.child.now) (shown_node c.fire.new.node) c.args.number c.args.tag c.lent.result c.in-Full.blocked c.hand.new.self (lent-once-handed director_calls acts-law.agree c.args.director.now c.hand.new.self c.args.number c.requires.asked c.hand.ensures c.lent.result c.lent.ensures) c.in-Full.ensures.goes
+
+pub fire_any-returns-in-Fault-clause-maximum : goal.fire_any-returns-in-Fault-clause-maximum
+fire_any-returns-in-Fault-clause-maximum t c = maximum-once-handed director_calls acts-law.agree c.args.director.now c.hand.new.self c.args.number c.requires.asked c.hand.ensures
+
+pub fire_any-returns-in-Spent-clause-maximum : goal.fire_any-returns-in-Spent-clause-maximum
+fire_any-returns-in-Spent-clause-maximum t c = maximum-once-handed director_calls acts-law.agree c.args.director.now c.hand.new.self c.args.number c.requires.asked c.hand.ensures
+
+pub fire_any-returns-in-Full-clause-maximum : goal.fire_any-returns-in-Full-clause-maximum
+fire_any-returns-in-Full-clause-maximum t c = maximum-once-handed director_calls acts-law.agree c.args.director.now c.hand.new.self c.args.number c.requires.asked c.hand.ensures
+
+pub fire_any-returns-in-Memory-clause-maximum : goal.fire_any-returns-in-Memory-clause-maximum
+fire_any-returns-in-Memory-clause-maximum t c = maximum-once-handed director_calls acts-law.agree c.args.director.now c.hand.new.self c.args.number c.requires.asked c.hand.ensures
+
+pub fire_any-returns-then-left-eq0-clause-maximum : goal.fire_any-returns-then-left-eq0-clause-maximum
+fire_any-returns-then-left-eq0-clause-maximum t c = maximum-once-handed director_calls acts-law.agree c.args.director.now c.hand.new.self c.args.number c.requires.asked c.hand.ensures
+
+pub fire_any-returns-clause-maximum : goal.fire_any-returns-clause-maximum
+fire_any-returns-clause-maximum t c = c.tell.ensures.maximum ∙ maximum-once-handed director_calls acts-law.agree c.args.director.now c.hand.new.self c.args.number c.requires.asked c.hand.ensures
+
+pub fire-returns-in-Actor-clause-outline : goal.fire-returns-in-Actor-clause-outline
+fire-returns-in-Actor-clause-outline t c = actor-named c.args.node.now _ _ _ c.in-Actor.held c.fire_actor.new.held c.node.view_is refl c.in-Actor.is c.args.tag c.args.inputs.now c.fire_actor.result c.fire_actor.ensures.goes refl
+
+pub fire-returns-in-Composite-clause-outline : goal.fire-returns-in-Composite-clause-outline
+fire-returns-in-Composite-clause-outline t c = composite-named c.args.node.now _ _ _ c.in-Composite.director c.fire_composite.new.director _ c.node.view_is refl c.in-Composite.is c.fire_composite.result refl c.fire_composite.ensures.maximum c.fire_composite.ensures.outlines
+
+pub fire_composite-returns-in-Full-fire_child-clause-goes : goal.fire_composite-returns-in-Full-fire_child-clause-goes
+fire_composite-returns-in-Full-fire_child-clause-goes t c = turn-jam acts acts-law c.next.new.children.items (c.in-Turn.ensures.goes c.args.director.now (map shown c.args.children.now.items) c.args.tag c.args.inputs.now c.args.left.now c.loop-number.invariant) c.index_mut-child.result.now c.index_mut-child.ensures.value c.fire_child.new.child c.args.path.now c.args.labels.now c.args.made c.in-Full-fire_child.blocked c.fire_child.new.director c.in-Full-fire_child.ensures.goes
+
+pub fire_composite-returns-in-Full-fire_child-clause-lowered : goal.fire_composite-returns-in-Full-fire_child-clause-lowered
+fire_composite-returns-in-Full-fire_child-clause-lowered t c = omega (arith, c.in-Full-fire_child.ensures.lowered, c.next.ensures.lowered, c.loop-number.invariant.lowered)
+
+pub fire_composite-returns-in-Full-fire_child-clause-outlines : goal.fire_composite-returns-in-Full-fire_child-clause-outlines
+fire_composite-returns-in-Full-fire_child-clause-outlines t c = turn-outlines acts acts-law c.next.new.children.items (c.in-Turn.ensures.goes c.args.director.now (map shown c.args.children.now.items) c.args.tag c.args.inputs.now c.args.left.now c.loop-number.invariant) c.index_mut-child.result.now c.index_mut-child.ensures.value c.fire_child.new.child c.in-Full-fire_child.ensures.outline
+
+pub fire_composite-returns-in-Full-fire_child-clause-counted : goal.fire_composite-returns-in-Full-fire_child-clause-counted
+fire_composite-returns-in-Full-fire_child-clause-counted t c = turn-counted acts acts-law c.next.new.children.items (c.in-Turn.ensures.goes c.args.director.now (map shown c.args.children.now.items) c.args.tag c.args.inputs.now c.args.left.now c.loop-number.invariant) c.index_mut-child.result.now c.index_mut-child.ensures.value c.fire_child.new.child c.fire_child.new.left c.in-Full-fire_child.ensures.counted
+
+pub fire_composite-returns-in-Full-clause-goes : goal.fire_composite-returns-in-Full-clause-goes
+fire_composite-returns-in-Full-clause-goes t c = let p = (c.in-Full.ensures.goes c.args.director.now (map shown c.args.children.now.items) c.args.tag c.args.inputs.now c.args.left.now c.loop-number.invariant) in full-goes acts acts-law p.at c.args.path.now c.args.labels.now c.args.made p.gives c.next.new.director p.asking c.full_at.result c.next.new.director c.full_at.ensures
+
+pub fire_composite-returns-in-Full-clause-fit : goal.fire_composite-returns-in-Full-clause-fit
+fire_composite-returns-in-Full-clause-fit t c = let p = (c.in-Full.ensures.goes c.args.director.now (map shown c.args.children.now.items) c.args.tag c.args.inputs.now c.args.left.now c.loop-number.invariant) in full-fits acts acts-law p.at c.args.path.now c.args.labels.now c.args.made p.gives c.next.new.director p.asking c.full_at.result c.next.new.director c.full_at.ensures
+
+pub fire_composite-returns-in-Full-clause-spends : goal.fire_composite-returns-in-Full-clause-spends
+fire_composite-returns-in-Full-clause-spends t c = let p = (c.in-Full.ensures.goes c.args.director.now (map shown c.args.children.now.items) c.args.tag c.args.inputs.now c.args.left.now c.loop-number.invariant) in full-spends acts acts-law p.at c.args.path.now c.args.labels.now c.args.made p.gives c.next.new.director p.asking c.full_at.result c.next.new.left c.full_at.ensures
+
+pub fire_composite-returns-in-Full-clause-lowered : goal.fire_composite-returns-in-Full-clause-lowered
+fire_composite-returns-in-Full-clause-lowered t c = omega (arith, c.next.ensures.lowered, c.loop-number.invariant.lowered)
+
+pub fire_composite-returns-in-Full-clause-outlines : goal.fire_composite-returns-in-Full-clause-outlines
+fire_composite-returns-in-Full-clause-outlines t c = let p = (c.in-Full.ensures.goes c.args.director.now (map shown c.args.children.now.items) c.args.tag c.args.inputs.now c.args.left.now c.loop-number.invariant) in p.at.outlines
+
+pub fire_composite-returns-in-Full-clause-counted : goal.fire_composite-returns-in-Full-clause-counted
+fire_composite-returns-in-Full-clause-counted t c = let p = (c.in-Full.ensures.goes c.args.director.now (map shown c.args.children.now.items) c.args.tag c.args.inputs.now c.args.left.now c.loop-number.invariant) in p.at.counted
+
+pub fire_composite-returns-then-is_err-clause-maximum : goal.fire_composite-returns-then-is_err-clause-maximum
+fire_composite-returns-then-is_err-clause-maximum t c = ap (λ v. director_calls.maximum v) (on-err c.begin.result (c.begin.new.self ≡ c.args.director.now) (sym c.is_err.ensures.value ∙ c.if-is_err.true) c.begin.ensures.kept)
+
+pub fire_composite-returns-in-Fault-clause-maximum : goal.fire_composite-returns-in-Fault-clause-maximum
+fire_composite-returns-in-Fault-clause-maximum t c = turn-maximum acts acts-law c.next.new.children.items (c.in-Turn.ensures.goes c.args.director.now (map shown c.args.children.now.items) c.args.tag c.args.inputs.now c.args.left.now c.loop-number.invariant) c.fire_child.new.director c.in-Fault.ensures.maximum
+
+pub fire_composite-returns-in-Spent-fire_child-clause-maximum : goal.fire_composite-returns-in-Spent-fire_child-clause-maximum
+fire_composite-returns-in-Spent-fire_child-clause-maximum t c = turn-maximum acts acts-law c.next.new.children.items (c.in-Turn.ensures.goes c.args.director.now (map shown c.args.children.now.items) c.args.tag c.args.inputs.now c.args.left.now c.loop-number.invariant) c.fire_child.new.director c.in-Spent-fire_child.ensures.maximum
+
+pub fire_composite-returns-in-Full-fire_child-clause-maximum : goal.fire_composite-returns-in-Full-fire_child-clause-maximum
+fire_composite-returns-in-Full-fire_child-clause-maximum t c = turn-maximum acts acts-law c.next.new.children.items (c.in-Turn.ensures.goes c.args.director.now (map shown c.args.children.now.items) c.args.tag c.args.inputs.now c.args.left.now c.loop-number.invariant) c.fire_child.new.director c.in-Full-fire_child.ensures.maximum
+
+pub fire_composite-returns-in-Memory-fire_child-clause-maximum : goal.fire_composite-returns-in-Memory-fire_child-clause-maximum
+fire_composite-returns-in-Memory-fire_child-clause-maximum t c = turn-maximum acts acts-law c.next.new.children.items (c.in-Turn.ensures.goes c.args.director.now (map shown c.args.children.now.items) c.args.tag c.args.inputs.now c.args.left.now c.loop-number.invariant) c.fire_child.new.director c.in-Memory-fire_child.ensures.maximum
+
+pub fire_composite-returns-in-Finished-clause-maximum : goal.fire_composite-returns-in-Finished-clause-maximum
+fire_composite-returns-in-Finished-clause-maximum t c = let p = (c.in-Finished.ensures.goes c.args.director.now (map shown c.args.children.now.items) c.args.tag c.args.inputs.now c.args.left.now c.loop-number.invariant) in finish-maximum acts acts-law p.at c.args.path.now c.args.labels.now c.args.made p.gives c.next.new.director p.asking c.finish.result c.finish.new.director c.finish.ensures
+
+pub fire_composite-returns-in-Faulted-clause-maximum : goal.fire_composite-returns-in-Faulted-clause-maximum
+fire_composite-returns-in-Faulted-clause-maximum t c = let p = (c.in-Faulted.ensures.goes c.args.director.now (map shown c.args.children.now.items) c.args.tag c.args.inputs.now c.args.left.now c.loop-number.invariant) in between-maximum acts acts-law p
+
+pub fire_composite-returns-in-Full-clause-maximum : goal.fire_composite-returns-in-Full-clause-maximum
+fire_composite-returns-in-Full-clause-maximum t c = let p = (c.in-Full.ensures.goes c.args.director.now (map shown c.args.children.now.items) c.args.tag c.args.inputs.now c.args.left.now c.loop-number.invariant) in between-maximum acts acts-law p
+
+pub fire_composite-returns-in-Spent-clause-maximum : goal.fire_composite-returns-in-Spent-clause-maximum
+fire_composite-returns-in-Spent-clause-maximum t c = let p = (c.in-Spent.ensures.goes c.args.director.now (map shown c.args.children.now.items) c.args.tag c.args.inputs.now c.args.left.now c.loop-number.invariant) in between-maximum acts acts-law p.1.1
+
+pub fire_composite-returns-in-Memory-clause-maximum : goal.fire_composite-returns-in-Memory-clause-maximum
+fire_composite-returns-in-Memory-clause-maximum t c = let p = (c.in-Memory.ensures.goes c.args.director.now (map shown c.args.children.now.items) c.args.tag c.args.inputs.now c.args.left.now c.loop-number.invariant) in p.maximum

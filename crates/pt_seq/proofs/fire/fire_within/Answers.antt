@@ -4,7 +4,7 @@ use Rattle.pt_node.specs.Firing.{noted, recorded}
 use Rattle.pt_node.specs.Live.{is_live}
 use Rattle.pt_node.specs.View.{outline_of}
 use Rattle.pt_node.proofs.OutlineLaws.{outline_bare, outline_recorded}
-use Rattle.pt_seq.proofs.Answering.{if-ok, seq-fault, seq-off, seq-spent, seq-spent-done, seq-memory-done, seq-done}
+use Rattle.pt_seq.proofs.Answering.{if-ok, seq-fault, seq-full, seq-off, seq-spent, seq-spent-done, seq-memory-done, seq-done}
 use Rattle.pt_seq.proofs.Recording.{live-bare}
 use Rattle.pt_seq.proofs.fire.fire_within.Goals as goal
 
@@ -13,6 +13,9 @@ returns-in-Fault-clause-answers c = seq-fault (shown_node c.args.node.now) (show
 
 pub returns-in-Spent-clause-answers : goal.returns-in-Spent-clause-answers
 returns-in-Spent-clause-answers c = seq-spent (shown_node c.args.node.now) (shown_node c.fire.new.node) c.args.tag c.args.inputs.now c.args.left.now c.fire.new.left c.in-Spent.ensures.goes c.in-Spent.ensures.spends c.in-Spent.ensures.counted
+
+pub returns-in-Full-clause-answers : goal.returns-in-Full-clause-answers
+returns-in-Full-clause-answers c = seq-full (shown_node c.args.node.now) (shown_node c.fire.new.node) c.args.tag c.args.inputs.now c.args.left.now c.in-Full.blocked c.in-Full.ensures.goes
 
 pub returns-in-Memory-clause-answers : goal.returns-in-Memory-clause-answers
 returns-in-Memory-clause-answers c = seq-off (shown_node c.args.node.now) (shown_node c.fire.new.node) c.args.tag c.args.inputs.now c.args.left.now c.in-Memory.ensures.goes

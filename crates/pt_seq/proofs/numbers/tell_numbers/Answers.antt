@@ -10,9 +10,9 @@ use Rattle.pt_node.proofs.OutlineLaws.{outline_bare, outline_recorded}
 use Rattle.pt_seq.specs.Turns.{IsTold}
 use Rattle.pt_seq.proofs.Acting.{acts-law}
 use Rattle.pt_seq.proofs.Answering.{if-ok}
-use Rattle.pt_seq.proofs.Loop.{on-ok}
+use Rattle.pt_seq.proofs.Loop.{on-ok, on-err}
 use Rattle.pt_seq.proofs.Recording.{fit-bare}
-use Rattle.pt_seq.proofs.Turning.{may-ask-if-told, accepted-if-told, refused-if-told, tell-refused, refused-spends}
+use Rattle.pt_seq.proofs.Turning.{may-ask-if-told, maximum-if-told, accepted-if-told, refused-if-told, tell-refused, refused-spends}
 use Rattle.pt_seq.proofs.numbers.tell_numbers.Goals as goal
 use Rattle.pt_seq.proofs.numbers.tell_numbers.Goals.{then-child-via-then-child, then-child-via-else-child+then-is_err}
 
@@ -56,3 +56,12 @@ returns-clause-goes c =
 
 pub returns-clause-outline : goal.returns-clause-outline
 returns-clause-outline c = ap (λ s. outline_of s) c.record.ensures ∙ outline_recorded c.args.tag (shown_node c.note_numbers.new.self) ∙ outline_bare (shown_node c.note_numbers.new.self) (shown_node c.args.child.now) c.note_numbers.ensures.kept
+
+pub returns-then-is_err-2-clause-maximum : goal.returns-then-is_err-2-clause-maximum
+returns-then-is_err-2-clause-maximum c = ap (λ v. director_calls.maximum v) (on-err c.told_numbers.result (c.told_numbers.new.director ≡ c.args.director.now) (sym c.is_err-2.ensures.value ∙ c.if-is_err-2.true) c.told_numbers.ensures.kept)
+
+pub returns-then-is_wrong-clause-maximum : goal.returns-then-is_wrong-clause-maximum
+returns-then-is_wrong-clause-maximum c = maximum-if-told director_calls acts-law.agree c.args.director.now c.told_numbers.new.director (shown_node c.note_numbers.new.self) c.args.number (map Int c.args.given.now ∷ []) c.requires.asked (on-ok c.told_numbers.result (IsTold director_calls c.args.director.now (shown_node c.note_numbers.new.self) c.args.number (map Int c.args.given.now ∷ []) c.told_numbers.new.director) (sym c.is_err-2.ensures.value ∙ c.if-is_err-2.false) c.told_numbers.ensures.told)
+
+pub returns-clause-maximum : goal.returns-clause-maximum
+returns-clause-maximum c = maximum-if-told director_calls acts-law.agree c.args.director.now c.told_numbers.new.director (shown_node c.note_numbers.new.self) c.args.number (map Int c.args.given.now ∷ []) c.requires.asked (on-ok c.told_numbers.result (IsTold director_calls c.args.director.now (shown_node c.note_numbers.new.self) c.args.number (map Int c.args.given.now ∷ []) c.told_numbers.new.director) (sym c.is_err-2.ensures.value ∙ c.if-is_err-2.false) c.told_numbers.ensures.told)

@@ -1,7 +1,6 @@
 use Rattle.std.proofs.Common.{◌≡◌, arith, sym, ap, subst, ◌∙◌}
 use Rattle.pt_firing.specs.declared.ask.Ask.TheVariants as ask
 use Rattle.pt_directors.specs.Directors.{director_calls}
-use Rattle.pt_directors.proofs.DirectorLaws.{none-full}
 use Rattle.pt_meaning.specs.NodeFacts.{early_of}
 use Rattle.pt_library.specs.LibraryActor.{rows}
 use Rattle.pt_node.specs.Acts.{acts}
@@ -9,8 +8,8 @@ use Rattle.pt_node.specs.Reset.{WasReset}
 use Rattle.pt_node.specs.Shown.{shown_node}
 use Rattle.pt_node.specs.View.{node_of}
 use Rattle.pt_seq.proofs.Acting.{acts-law}
-use Rattle.pt_seq.proofs.Firing.{is-usual, halts-here, at-moved, move-lessens}
-use Rattle.pt_seq.proofs.Loop.{on-ok, once-asked, turn-of, faulted-itself, is-move, no-unusual, listen-in, listen-asked, listen-learns, listen-next, restart-in, restart-rests, restart-fit, restart-next, restart-halts}
+use Rattle.pt_seq.proofs.Firing.{is-usual, asked-maximum, halts-here, at-moved, move-lessens}
+use Rattle.pt_seq.proofs.Loop.{on-ok, on-err, once-asked, turn-of, faulted-itself, is-move, no-unusual, listen-in, listen-asked, listen-learns, listen-next, restart-in, restart-rests, restart-fit, restart-next, restart-halts}
 use Rattle.pt_seq.proofs.pause.heed.Goals as goal
 
 pub returns-then-left-eq0 : goal.returns-then-left-eq0
@@ -22,6 +21,9 @@ returns-else-left-eq0 c before olds tag X allowance state a g e = turn-of acts a
 pub returns-in-Finished : goal.returns-in-Finished
 returns-in-Finished c before olds tag X allowance state a g e = once-asked acts acts-law a ask.Finished c.args.director.now (subst (λ n. director_calls.Gives state n) c.in-Finished.is g) (e ∙ ap (λ n. director_calls.asking n state) c.in-Finished.is)
 
+pub returns-in-Full : goal.returns-in-Full
+returns-in-Full c before olds tag X allowance state a g e = once-asked acts acts-law a ask.Full c.args.director.now (subst (λ n. director_calls.Gives state n) c.in-Full.is g) (e ∙ ap (λ n. director_calls.asking n state) c.in-Full.is)
+
 pub returns-in-Faulted : goal.returns-in-Faulted
 returns-in-Faulted c before olds tag X allowance state a g e = faulted-itself acts acts-law a c.in-Faulted.kind c.in-Faulted.field-1 c.args.director.now (subst (λ n. director_calls.Gives state n) c.in-Faulted.is g) (e ∙ ap (λ n. director_calls.asking n state) c.in-Faulted.is)
 
@@ -30,8 +32,7 @@ returns-in-Get c before olds tag X allowance state a g e = let move = is-move c.
 
 pub unreachable-requires : goal.unreachable-requires
 unreachable-requires c =
-    no-unusual c.args.next (is-usual acts acts-law c.requires.1.between.at c.args.next c.requires.1.between.gives) c.in_default.not-Fire c.in_default.not-Early c.in_default.not-Reset c.in_default.not-Get c.in_default.not-Put c.in_default.not-Grow c.in_default.not-Finished c.in_default.not-Faulted
-    (λ full. none-full c.requires.1.between.state (subst (λ n. director_calls.Gives c.requires.1.between.state n) full c.requires.1.between.gives))
+    no-unusual c.args.next (is-usual acts acts-law c.requires.1.between.at c.args.next c.requires.1.between.gives) c.in_default.not-Fire c.in_default.not-Early c.in_default.not-Reset c.in_default.not-Get c.in_default.not-Put c.in_default.not-Grow c.in_default.not-Finished c.in_default.not-Faulted c.in_default.not-Full
 
 pub index-child-requires : goal.index-child-requires
 index-child-requires c = let h = listen-in acts acts-law c.args.children.now.items c.requires.1.between.at c.in-Early.number c.in-Early.when (subst (λ n. director_calls.Gives c.requires.1.between.state n) c.in-Early.is c.requires.1.between.gives) c.args.director.now (c.requires.1.between.asking ∙ ap (λ n. director_calls.asking n c.requires.1.between.state) c.in-Early.is) in grind (arith, h)
@@ -40,12 +41,12 @@ pub listen-requires : goal.listen-requires
 listen-requires c = listen-asked acts acts-law c.args.children.now.items c.requires.1.between.at c.in-Early.number c.in-Early.when (subst (λ n. director_calls.Gives c.requires.1.between.state n) c.in-Early.is c.requires.1.between.gives) c.args.director.now (c.requires.1.between.asking ∙ ap (λ n. director_calls.asking n c.requires.1.between.state) c.in-Early.is)
 
 pub returns-then-is_err : goal.returns-then-is_err
-returns-then-is_err c before olds tag X allowance state a g e = halts-here acts acts-law a
+returns-then-is_err c before olds tag X allowance state a g e = halts-here acts acts-law a c.listen.new.director (asked-maximum acts acts-law a c.args.next c.listen.new.director (on-err c.listen.result (c.listen.new.director ≡ c.args.director.now) (sym c.is_err.ensures.value ∙ c.if-is_err.true) c.listen.ensures.kept ∙ e))
 
 pub returns-else-is_err : goal.returns-else-is_err
 returns-else-is_err c before olds tag X allowance state a g e = (
-  listen-next acts acts-law c.args.children.now.items a c.in-Early.number c.in-Early.when (subst (λ n. director_calls.Gives state n) c.in-Early.is g) c.args.director.now (e ∙ ap (λ n. director_calls.asking n state) c.in-Early.is) c.index-child.result.now c.index-child.ensures c.listen.new.director (on-ok c.listen.result (c.listen.new.director ≡ director_calls.heard c.in-Early.number (early_of rows c.in-Early.when (node_of (shown_node c.index-child.result.now)) (director_calls.partial_of c.args.director.now)) c.args.director.now) (sym c.is_err.ensures.value ∙ c.if-is_err.false) c.listen.ensures),
-  listen-learns acts acts-law c.args.children.now.items a c.in-Early.number c.in-Early.when (subst (λ n. director_calls.Gives state n) c.in-Early.is g) c.args.director.now (e ∙ ap (λ n. director_calls.asking n state) c.in-Early.is) c.index-child.result.now c.index-child.ensures c.listen.new.director (on-ok c.listen.result (c.listen.new.director ≡ director_calls.heard c.in-Early.number (early_of rows c.in-Early.when (node_of (shown_node c.index-child.result.now)) (director_calls.partial_of c.args.director.now)) c.args.director.now) (sym c.is_err.ensures.value ∙ c.if-is_err.false) c.listen.ensures),
+  listen-next acts acts-law c.args.children.now.items a c.in-Early.number c.in-Early.when (subst (λ n. director_calls.Gives state n) c.in-Early.is g) c.args.director.now (e ∙ ap (λ n. director_calls.asking n state) c.in-Early.is) c.index-child.result.now c.index-child.ensures c.listen.new.director (on-ok c.listen.result (c.listen.new.director ≡ director_calls.heard c.in-Early.number (early_of rows c.in-Early.when (node_of (shown_node c.index-child.result.now)) (director_calls.partial_of c.args.director.now)) c.args.director.now) (sym c.is_err.ensures.value ∙ c.if-is_err.false) c.listen.ensures.heard),
+  listen-learns acts acts-law c.args.children.now.items a c.in-Early.number c.in-Early.when (subst (λ n. director_calls.Gives state n) c.in-Early.is g) c.args.director.now (e ∙ ap (λ n. director_calls.asking n state) c.in-Early.is) c.index-child.result.now c.index-child.ensures c.listen.new.director (on-ok c.listen.result (c.listen.new.director ≡ director_calls.heard c.in-Early.number (early_of rows c.in-Early.when (node_of (shown_node c.index-child.result.now)) (director_calls.partial_of c.args.director.now)) c.args.director.now) (sym c.is_err.ensures.value ∙ c.if-is_err.false) c.listen.ensures.heard),
 )
 
 pub index_mut-child-requires : goal.index_mut-child-requires

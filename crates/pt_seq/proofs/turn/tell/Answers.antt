@@ -7,8 +7,8 @@ use Rattle.pt_node.specs.View.{outline_of}
 use Rattle.pt_node.proofs.OutlineLaws.{outline_bare, outline_recorded}
 use Rattle.pt_seq.proofs.Acting.{acts-law}
 use Rattle.pt_seq.proofs.Answering.{if-ok}
-use Rattle.pt_seq.proofs.Loop.{on-ok}
-use Rattle.pt_seq.proofs.Turning.{may-ask-once-told, accepted-so, refused-so, tell-refused, refused-spends, wake-recorded, need-recorded}
+use Rattle.pt_seq.proofs.Loop.{on-ok, on-err}
+use Rattle.pt_seq.proofs.Turning.{may-ask-once-told, maximum-once-told, accepted-so, refused-so, tell-refused, refused-spends, wake-recorded, need-recorded}
 use Rattle.pt_seq.proofs.turn.tell.Goals as goal
 use Rattle.pt_seq.proofs.turn.tell.Goals.{then-child-via-then-child, then-child-via-else-child+then-is_err}
 
@@ -45,3 +45,12 @@ returns-clause-goes c =
 
 pub returns-clause-outline : goal.returns-clause-outline
 returns-clause-outline c = ap (λ s. outline_of s) c.record.ensures ∙ outline_recorded c.args.tag (shown_node c.note.new.self) ∙ outline_bare (shown_node c.note.new.self) (shown_node c.args.child.now) c.note.ensures.kept
+
+pub returns-then-is_err-2-clause-maximum : goal.returns-then-is_err-2-clause-maximum
+returns-then-is_err-2-clause-maximum c = ap (λ v. director_calls.maximum v) (on-err c.told.result (c.told.new.self ≡ c.args.director.now) (sym c.is_err-2.ensures.value ∙ c.if-is_err-2.true) c.told.ensures.kept)
+
+pub returns-then-is_wrong-clause-maximum : goal.returns-then-is_wrong-clause-maximum
+returns-then-is_wrong-clause-maximum c = maximum-once-told director_calls acts-law.agree c.args.director.now c.told.new.self c.args.number c.args.outputs c.wake-wake.result (need_of c.need.result) c.requires.asked (on-ok c.told.result (c.told.new.self ≡ director_calls.told c.args.number c.args.outputs c.wake-wake.result (need_of c.need.result) c.args.director.now) (sym c.is_err-2.ensures.value ∙ c.if-is_err-2.false) c.told.ensures.told)
+
+pub returns-clause-maximum : goal.returns-clause-maximum
+returns-clause-maximum c = maximum-once-told director_calls acts-law.agree c.args.director.now c.told.new.self c.args.number c.args.outputs c.wake-wake.result (need_of c.need.result) c.requires.asked (on-ok c.told.result (c.told.new.self ≡ director_calls.told c.args.number c.args.outputs c.wake-wake.result (need_of c.need.result) c.args.director.now) (sym c.is_err-2.ensures.value ∙ c.if-is_err-2.false) c.told.ensures.told)
