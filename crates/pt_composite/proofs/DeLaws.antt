@@ -6,7 +6,7 @@ use Rattle.pt_meaning.specs.Tree as tree
 use Rattle.pt_meaning.specs.Valuation.{TickPlan}
 use Rattle.pt_laws.specs.Heights.{IsFitting}
 use Rattle.pt_laws.specs.StartedRuns.{IsWhole}
-use Rattle.pt_core.specs.declared.either.Either.TheVariants.{Other}
+use Rattle.pt_core.specs.declared.either.Either.TheVariants.{First, Other}
 use Rattle.pt_core.specs.declared.source.Source.{Source}
 use Rattle.pt_core.specs.Source.{source_of}
 use Rattle.pt_de_laws.specs.DeActs.{State, de_acts}
@@ -48,12 +48,12 @@ wired-by w kids false wired iff = λ is. let t : false ≡ true = iff.1 (begin-t
 
 -- ---- the composite
 
-module _ (around : Around) (kids : List Shown) (path : List ℕ) (records : List RecordedPort) (p : DePlan) (plan : IsPlanOf around (trees_of kids) p) (fresh : AllFresh kids) (empty : AreEmpty records) where
+module _ (around : Around) (kids : List Shown) (path : List ℕ) (records : List RecordedPort) (labels : List (List ℕ)) (p : DePlan) (plan : IsPlanOf around (trees_of kids) p) (fresh : AllFresh kids) (empty : AreEmpty records) where
   abbrev core : State
   core = started (plan_of p.inside) (roles_of p.inside p.depths.items)
 
   abbrev made : Shown
-  made = built (Other (Other core)) kids path records
+  made = built (Other (Other (First core))) kids path records labels
 
   same : plan_of p.inside ≡ tick_plan around
   same = plan.inside.plan
@@ -76,7 +76,7 @@ module _ (around : Around) (kids : List Shown) (path : List ℕ) (records : List
   whole : IsWhole (plan_of p.inside).net (plan_of p.inside).inputs
   whole = subst (λ (q : TickPlan). IsWhole q.net q.inputs) (sym same) (record { channels = omega (arith, plan.core.wired.wired.channels); there = plan.core.wired.wired.there })
 
-  pub composite-is : IsComposed de around kids path records made
+  pub composite-is : IsComposed de around kids path records labels made
   composite-is = record {
     core = tree.De (tick_plan around);
     is_core = plan.core;
@@ -84,6 +84,7 @@ module _ (around : Around) (kids : List Shown) (path : List ℕ) (records : List
     children = list-again kids;
     path_is = refl;
     records_are = refl;
+    labels_are = refl;
     fresh = record {
       live = refl;
       fit = (subst (λ (v : List Tree). (de_acts rows).Fits core v) (sym (nodes-list kids)) for_core.fits, all-fit kids fresh);

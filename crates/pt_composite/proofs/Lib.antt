@@ -8,3 +8,5 @@ pub mod SdfLaws
 pub mod WiredLaws
 pub mod SrLaws
 pub mod DeLaws
+pub mod KeptLaws
+pub mod PnLaws

@@ -3,11 +3,14 @@ use Rattle.std.proofs.Common.{◌≡◌, ℕ, zero, suc, ◌+◌, ◌-◌, ◌<�
 use Rattle.std.proofs.lemmas.List.{take_more, take_all, set-set, length-map}
 use Rattle.std.proofs.Math.ListN.{get_or-map}
 use Rattle.pt_meaning.specs.Basics.{Streams}
+use Rattle.pt_meaning.specs.Machine.{Need}
 use Rattle.pt_meaning.specs.Net as net
+use Rattle.pt_meaning.specs.NodeFacts.{need_of}
 use Rattle.pt_meaning.specs.Start.{first_of, first_held}
 use Rattle.pt_value.specs.declared.token.Token.{Token}
 use Rattle.pt_core.specs.declared.source.Source.{Source}
 use Rattle.pt_core.specs.Source.{source_of}
+use Rattle.pt_process.specs.Process.{need_in}
 use Rattle.pt_library.specs.LibraryActor.{rows}
 use Rattle.pt_node.specs.declared.node.Node.{Node}
 use Rattle.pt_node.specs.Shown.{shown_node}
@@ -75,6 +78,14 @@ counts-more kids sources i d ns ts h e f =
     ap (λ (v : Streams Token). map (λ (xs : List Token). length xs) v) (sym (held-append rows kids (map source_of (take i sources)) (s ∷ []))) ∙
     ap (λ v. first_counts kids v) (sym (map-append source_of (take i sources) (get_or sources i d ∷ [])) ∙ ap (λ v. map source_of v) (sym (take_more sources i d h)))
 
+-- the first tokens of one channel more, as a list
+pub lists-more : (kids : List Tree) (sources : List Source) (i : ℕ) (d : Source) (L : Streams Token) (ts : List Token) → i < length sources → L ≡ first_held rows kids (map source_of (take i sources)) → ts ≡ first_of rows kids (source_of (get_or sources i d)) →
+    L ++ ts ∷ [] ≡ first_held rows kids (map source_of (take (i + 1) sources))
+lists-more kids sources i d L ts h e f =
+    let s : net.Source = source_of (get_or sources i d) in
+    ap₂ (λ (v : Streams Token) (w : List Token). v ++ w ∷ []) e f ∙ sym (held-append rows kids (map source_of (take i sources)) (s ∷ [])) ∙
+    ap (λ v. first_held rows kids v) (sym (map-append source_of (take i sources) (get_or sources i d ∷ [])) ∙ ap (λ v. map source_of v) (sym (take_more sources i d h)))
+
 -- one channel more has its tokens
 pub held-step : (kids : List Tree) (sources : List Source) (n : ℕ) (d : Source) (L new : Streams Token) (ts : List Token) → n < length sources → L ≡ held_to rows kids n (map source_of sources) → new ≡ set L n (get_or L n [] ++ ts) → ts ≡ first_of rows kids (source_of (get_or sources n d)) →
     new ≡ held_to rows kids (n + 1) (map source_of sources)
@@ -95,3 +106,9 @@ held-step kids sources n d L new ts h e f g =
 pub flags-more : (kids : List Node) (i : ℕ) (d : Node) (flags : List Bool) (flag : Bool) → i < length kids → d ≡ get_or kids i d → flags ≡ map is_nonstrict (trees (take i kids)) → flag ≡ is_nonstrict (node_of (shown_node d)) → flags ++ flag ∷ [] ≡ map is_nonstrict (trees (take (i + 1) kids))
 flags-more kids i d flags flag h is e f =
     ap₂ (λ (v : List Bool) (w : Bool). v ++ w ∷ []) e f ∙ sym (map-append is_nonstrict (trees (take i kids)) (node_of (shown_node d) ∷ [])) ∙ ap (λ v. map is_nonstrict v) (sym (trees-more kids i d h is))
+
+-- what one child more needs now
+pub starts-more : (kids : List Node) (i : ℕ) (d : Node) (starts : List (Option (List ℕ))) (start : Option (List ℕ)) → i < length kids → d ≡ get_or kids i d → map need_in starts ≡ map (need_of rows) (trees (take i kids)) → need_in start ≡ need_of rows (node_of (shown_node d)) →
+    map need_in (starts ++ start ∷ []) ≡ map (need_of rows) (trees (take (i + 1) kids))
+starts-more kids i d starts start h is e f =
+    map-append need_in starts (start ∷ []) ∙ ap₂ (λ (v : List Need) (w : Need). v ++ w ∷ []) e f ∙ sym (map-append (need_of rows) (trees (take i kids)) (node_of (shown_node d) ∷ [])) ∙ ap (λ v. map (need_of rows) v) (sym (trees-more kids i d h is))

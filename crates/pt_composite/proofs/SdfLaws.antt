@@ -71,13 +71,13 @@ fault-stands around kids x fault Memory is stands told = tt
 
 -- ---- the composite
 
-module _ (around : Around) (kids : List Shown) (path : List ℕ) (records : List RecordedPort) (x : Inside) (p : CorePlan) (first : Streams Token) (is : IsInsideOf around (trees_of kids) x) (formed : IsInside x) (plan : IsPlanOf x (plan_of p)) (needs : p.needs ≡ x.needs)
+module _ (around : Around) (kids : List Shown) (path : List ℕ) (records : List RecordedPort) (labels : List (List ℕ)) (x : Inside) (p : CorePlan) (first : Streams Token) (is : IsInsideOf around (trees_of kids) x) (formed : IsInside x) (plan : IsPlanOf x (plan_of p)) (needs : p.needs ≡ x.needs)
     (held : first ≡ first_held rows (trees_of kids) (plan_of p).net.sources) (fresh : AllFresh kids) (empty : AreEmpty records) where
   abbrev core : State
   core = started (plan_of p) p.needs first
 
   abbrev made : Shown
-  made = built (First core) kids path records
+  made = built (First core) kids path records labels
 
   sources-are : (plan_of p).net.sources ≡ map source_of (sources_of x)
   sources-are = ap (λ (n : net.Net). n.sources) plan.net
@@ -136,7 +136,7 @@ module _ (around : Around) (kids : List Shown) (path : List ℕ) (records : List
   plans : ArePlans (node_of made)
   plans = (enough, all-plans kids fresh)
 
-  pub composite-is : IsComposed sdf around kids path records made
+  pub composite-is : IsComposed sdf around kids path records labels made
   composite-is = record {
     core = tree.Sdf (plan_of p) (first_held rows (trees_of kids) (plan_of p).net.sources);
     is_core = record { inside = x; is_inside = is; plan = plan_of p; planned = plan; is = refl };
@@ -144,5 +144,6 @@ module _ (around : Around) (kids : List Shown) (path : List ℕ) (records : List
     children = list-again kids;
     path_is = refl;
     records_are = refl;
+    labels_are = refl;
     fresh = record { live = refl; fit = (ready, all-fit kids fresh); start = start; fitting = fitting; plans = plans; unrecorded = (empty, all-unrecorded kids fresh) };
   }

@@ -62,12 +62,12 @@ flag-at [] i kid e = absurd (cc)
 flag-at (k ∷ kids) zero kid e = let same : k ≡ kid = cc in ap is_nonstrict same
 flag-at (k ∷ kids) (suc i) kid e = flag-at kids i kid e
 
-module _ (around : Around) (kids : List Shown) (path : List ℕ) (records : List RecordedPort) (wired : IsWired around (trees_of kids)) (fresh : AllFresh kids) (empty : AreEmpty records) where
+module _ (around : Around) (kids : List Shown) (path : List ℕ) (records : List RecordedPort) (labels : List (List ℕ)) (wired : IsWired around (trees_of kids)) (fresh : AllFresh kids) (empty : AreEmpty records) where
   abbrev core : State
   core = started (tick_plan around) (map is_nonstrict (trees_of kids))
 
   abbrev made : Shown
-  made = built (Other (First core)) kids path records
+  made = built (Other (First core)) kids path records labels
 
   entries : length (trees_of kids) ≡ length around.places
   entries = sym (needs-length (facts_of rows) (trees_of kids)) ∙ ap (λ v. length v) wired.needed ∙ planned-length around.places wired.needs
@@ -99,7 +99,7 @@ module _ (around : Around) (kids : List Shown) (path : List ℕ) (records : List
   whole : IsWhole (tick_plan around).net around.inputs
   whole = record { channels = omega (arith, wired.channels); there = wired.there }
 
-  pub composite-is : IsComposed sr around kids path records made
+  pub composite-is : IsComposed sr around kids path records labels made
   composite-is = record {
     core = tree.Sr (tick_plan around);
     is_core = record { wired = wired; is = refl };
@@ -107,6 +107,7 @@ module _ (around : Around) (kids : List Shown) (path : List ℕ) (records : List
     children = list-again kids;
     path_is = refl;
     records_are = refl;
+    labels_are = refl;
     fresh = record {
       live = refl;
       fit = ((refl, subst (λ (v : List Tree). Suits rows (tick_plan around) (map is_nonstrict (trees_of kids)) v) (sym (nodes-list kids)) suits), all-fit kids fresh);

@@ -1,4 +1,5 @@
 pub mod Needs
+pub mod Networks
 pub mod Nodes
 pub mod Nonstrict
 pub mod Timed

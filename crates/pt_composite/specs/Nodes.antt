@@ -6,6 +6,6 @@ use Rattle.pt_node.specs.declared.body.Body.TheVariants as body
 use Rattle.pt_node.specs.Recorded.{RecordedPort}
 use Rattle.pt_node.specs.Shown.{Shown, Branch, all_of}
 
--- it is live and has not fired, with these children, under this path and with these recorded outputs
-abbrev pub built : Director → List Shown → (path : List ℕ) → List RecordedPort → Shown
-built director kids path records = Branch (record { past = tree.unfired; body = body.Composite director; records = records; path = path; live = true }) (all_of kids)
+-- it is live and has not fired, with these children, under this path, with these recorded outputs and its channels told so
+abbrev pub built : Director → List Shown → (path : List ℕ) → List RecordedPort → (labels : List (List ℕ)) → Shown
+built director kids path records labels = Branch (record { past = tree.unfired; body = body.Composite director; records = records; path = path; labels = labels; live = true }) (all_of kids)

@@ -6,10 +6,11 @@ ghost use Rattle.pt_trees.specs.Fresh.{AllFresh, AreEmpty};
 ghost use Rattle.pt_trees.specs.Rates.{AllStarted};
 
 use crate::de::de_composite;
+use crate::pn::pn_composite;
 use crate::sdf::sdf_composite;
 use crate::sr::sr_composite;
 use pt_document::Director;
-use pt_node::{Node, Records};
+use pt_node::{Labels, Node, Records};
 use pt_trees::{CompositeFault, Wiring};
 use pt_value::Text;
 use std::alloc::Global;
@@ -22,18 +23,20 @@ pub fn composite(
     wiring: Wiring,
     path: Text,
     records: Records,
+    labels: Labels,
 ) -> Result<Node, CompositeFault>
     requires fresh { AllFresh (map shown children.items) }
     requires started { AllStarted (trees_of (map shown children.items)) }
     requires empty { AreEmpty records }
-    ensures node { IfOk result (λ node. IsComposite director (around_of wiring) (map shown children.items) path records (shown_node node)) }
+    ensures node { IfOk result (λ node. IsComposite director (around_of wiring) (map shown children.items) path records labels (shown_node node)) }
     ensures stands { IfErr result (CompositeFaultStands director (around_of wiring) (map shown children.items)) }
 {
     match director {
-        Director::Sdf => sdf_composite(alloc, children, wiring, path, records),
-        Director::Sr => sr_composite(alloc, children, wiring, path, records),
-        Director::De => de_composite(alloc, children, wiring, path, records),
-        Director::Pn | Director::Rendezvous => {
+        Director::Sdf => sdf_composite(alloc, children, wiring, path, records, labels),
+        Director::Sr => sr_composite(alloc, children, wiring, path, records, labels),
+        Director::De => de_composite(alloc, children, wiring, path, records, labels),
+        Director::Pn => pn_composite(alloc, children, wiring, path, records, labels),
+        Director::Rendezvous => {
             drop(children);
             Err(CompositeFault::Unbuilt)
         }

@@ -12,7 +12,7 @@ use crate::wired::is_wired;
 use pt_core::Either;
 use pt_de::DeCore;
 use pt_de_inside::{begin_at_outputs, planned};
-use pt_node::{Node, Records};
+use pt_node::{Labels, Node, Records};
 use pt_trees::{CompositeFault, Wiring};
 use pt_value::Text;
 use std::alloc::{AllocError, Global};
@@ -24,15 +24,22 @@ pub(crate) fn de_composite(
     wiring: Wiring,
     path: Text,
     records: Records,
+    labels: Labels,
 ) -> Result<Node, CompositeFault>
     requires fresh { AllFresh (map shown children.items) }
     requires started { AllStarted (trees_of (map shown children.items)) }
     requires empty { AreEmpty records }
-    ensures node { IfOk result (λ node. IsComposed de (around_of wiring) (map shown children.items) path records (shown_node node)) }
+    ensures node { IfOk result (λ node. IsComposed de (around_of wiring) (map shown children.items) path records labels (shown_node node)) }
     ensures stands { IfErr result (IsUncomposed de (around_of wiring) (map shown children.items)) }
 {
     let core = core_of(alloc, &children, wiring)?;
-    Ok(composite_node(Either::Other(Either::Other(core)), children, path, records))
+    Ok(composite_node(
+        Either::Other(Either::Other(Either::First(core))),
+        children,
+        path,
+        records,
+        labels,
+    ))
 }
 
 /// The core of the composite, which starts with its plan.

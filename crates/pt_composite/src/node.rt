@@ -3,7 +3,7 @@ ghost use Rattle.pt_node.specs.Shown.{shown, shown_node};
 ghost use Rattle.pt_composite.specs.Nodes.{built};
 
 use pt_directors::Director;
-use pt_node::{Body, Node, Past, Records};
+use pt_node::{Body, Labels, Node, Past, Records};
 use pt_value::Text;
 
 /// The node of a composite that has not fired.
@@ -12,8 +12,9 @@ pub(crate) fn composite_node(
     children: Vec<Node>,
     path: Text,
     records: Records,
+    labels: Labels,
 ) -> Node
-    ensures { shown_node result ≡ built director (map shown children.items) path records }
+    ensures { shown_node result ≡ built director (map shown children.items) path records labels }
 {
     Node {
         past: Past {
@@ -24,6 +25,7 @@ pub(crate) fn composite_node(
         children,
         records,
         path,
+        labels,
         live: true,
     }
 }

@@ -27,7 +27,8 @@ fn node_rates(alloc: Global, node: &Node) -> Result<Option<Counts>, AllocError>
         Body::Composite(Either::Other(Either::First(core))) => {
             Ok(Some(ones(alloc, core.outlets())?))
         }
-        Body::Composite(Either::Other(Either::Other(_))) => Ok(None),
+        Body::Composite(Either::Other(Either::Other(Either::First(_)))) => Ok(None),
+        Body::Composite(Either::Other(Either::Other(Either::Other(_)))) => Ok(None),
     }
 }
 

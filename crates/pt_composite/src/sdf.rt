@@ -18,7 +18,7 @@ use crate::node::composite_node;
 use crate::tokens::first_tokens;
 use pt_core::Either;
 use pt_document::Code;
-use pt_node::{Node, Records};
+use pt_node::{Labels, Node, Records};
 use pt_plan::{PlanFault, plan};
 use pt_sdf::{Core, CorePlan};
 use pt_trees::{CompositeFault, Wiring};
@@ -32,11 +32,12 @@ pub(crate) fn sdf_composite(
     wiring: Wiring,
     path: Text,
     records: Records,
+    labels: Labels,
 ) -> Result<Node, CompositeFault>
     requires fresh { AllFresh (map shown children.items) }
     requires started { AllStarted (trees_of (map shown children.items)) }
     requires empty { AreEmpty records }
-    ensures node { IfOk result (λ node. IsComposed sdf (around_of wiring) (map shown children.items) path records (shown_node node)) }
+    ensures node { IfOk result (λ node. IsComposed sdf (around_of wiring) (map shown children.items) path records labels (shown_node node)) }
     ensures stands { IfErr result (IsUncomposed sdf (around_of wiring) (map shown children.items)) }
 {
     let inside = inside_of(alloc, &children, wiring)?;
@@ -45,7 +46,7 @@ pub(crate) fn sdf_composite(
         Err(fault) => return Err(told(fault)),
     };
     let core = core_of(alloc, &children, plan)?;
-    Ok(composite_node(Either::First(core), children, path, records))
+    Ok(composite_node(Either::First(core), children, path, records, labels))
 }
 
 /// The core of a plan, whose channels hold the first tokens of the children that feed them.

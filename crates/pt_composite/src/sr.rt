@@ -14,7 +14,7 @@ use crate::outputs::outputs_of;
 use crate::rates::ones;
 use crate::wired::is_wired;
 use pt_core::Either;
-use pt_node::{Node, Records};
+use pt_node::{Labels, Node, Records};
 use pt_sr::{Core, CorePlan};
 use pt_trees::{CompositeFault, Wiring};
 use pt_value::Text;
@@ -27,17 +27,24 @@ pub(crate) fn sr_composite(
     wiring: Wiring,
     path: Text,
     records: Records,
+    labels: Labels,
 ) -> Result<Node, CompositeFault>
     requires fresh { AllFresh (map shown children.items) }
     requires empty { AreEmpty records }
-    ensures node { IfOk result (λ node. IsComposed sr (around_of wiring) (map shown children.items) path records (shown_node node)) }
+    ensures node { IfOk result (λ node. IsComposed sr (around_of wiring) (map shown children.items) path records labels (shown_node node)) }
     ensures stands { IfErr result (IsUncomposed sr (around_of wiring) (map shown children.items)) }
 {
     if !is_wired(alloc, &children, &wiring)? {
         return Err(CompositeFault::Unbuilt);
     }
     let core = core_of(alloc, &children, wiring)?;
-    Ok(composite_node(Either::Other(Either::First(core)), children, path, records))
+    Ok(composite_node(
+        Either::Other(Either::First(core)),
+        children,
+        path,
+        records,
+        labels,
+    ))
 }
 
 /// The core round these children, of which those that their libraries don't tell to be strict are asked for early answers.

@@ -10,7 +10,7 @@ ghost use Rattle.pt_trees.specs.Sdf.{first_counts};
 ghost use Rattle.pt_trees.specs.Composite.{trees_of};
 
 use pt_core::Source;
-use pt_firing::{Actor, Counts};
+use pt_firing::{Actor, Counts, Tokens};
 use pt_node::{Body, Node};
 use pt_recv::Channels;
 use pt_value::Token;
@@ -70,6 +70,35 @@ fn put_copies(
         channels.put(channel, token);
     }
     Ok(())
+}
+
+/// Copies of some tokens.
+fn copies_of(alloc: Global, tokens: &[Token]) -> Result<Tokens, AllocError>
+    ensures { IfOk result (λ copies. copies ≡ tokens.now) }
+{
+    let mut copies = Vec::with_capacity(alloc, tokens.len())?;
+    for token in tokens {
+        let token = token.copy(alloc)?;
+        copies.push(token)?;
+    }
+    Ok(Tokens::of(copies))
+}
+
+/// The first tokens of each channel.
+pub(crate) fn first_lists(
+    alloc: Global,
+    children: &[Node],
+    sources: &[Source],
+) -> Result<Vec<Tokens>, AllocError>
+    ensures { IfOk result (λ lists. lists.items ≡ first_held rows (trees_of (map shown children.now)) (map source_of sources.now)) }
+{
+    let mut lists = Vec::with_capacity(alloc, sources.len())?;
+    for source in sources {
+        let tokens = first_of(children, *source);
+        let copies = copies_of(alloc, tokens)?;
+        lists.push(copies)?;
+    }
+    Ok(lists)
 }
 
 /// The channels with their first tokens.

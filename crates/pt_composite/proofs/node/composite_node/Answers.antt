@@ -8,5 +8,5 @@ use Rattle.pt_composite.proofs.node.composite_node.Goals as goal
 
 pub returns : goal.returns
 returns c =
-    let r : opens.Node-F Node = record { past = record { made = 0; last = None }; body = body.Composite c.args.director; children = c.args.children; records = c.args.records; path = c.args.path; live = true } in
+    let r : opens.Node-F Node = record { past = record { made = 0; last = None }; body = body.Composite c.args.director; children = c.args.children; records = c.args.records; path = c.args.path; labels = c.args.labels; live = true } in
     ap (λ (x : opens.Node-F Node). level x) (out-roll-Node r)

@@ -30,6 +30,6 @@ returns-clause-node c =
     subst (λ (b : Bool). IsWiredIf (around_of c.args.wiring) (trees_of kids) b) c.if-not-branch.false (subst (λ (v : List Node). IsWiredIf (around_of c.args.wiring) (trees_of (map shown v)) c.in_ok-is_wired.field-0) c.deref.ensures.value c.in_ok-is_wired.ensures) in
     let is : c.in_ok-core.core ≡ started (tick_plan (around_of c.args.wiring)) (map is_nonstrict (trees_of kids)) =
     c.in_ok-core.ensures ∙ ap (λ (v : List Node). started (tick_plan (around_of c.args.wiring)) (map is_nonstrict (trees_of (map shown v)))) c.deref-2.ensures.value in
-    subst (λ (s : Shown). IsComposed sr (around_of c.args.wiring) kids c.args.path c.args.records s)
-    (sym (c.composite_node.ensures ∙ ap (λ (core : State). built (Other (First core)) kids c.args.path c.args.records) is))
-    (composite-is (around_of c.args.wiring) kids c.args.path c.args.records wired c.requires.fresh c.requires.empty)
+    subst (λ (s : Shown). IsComposed sr (around_of c.args.wiring) kids c.args.path c.args.records c.args.labels s)
+    (sym (c.composite_node.ensures ∙ ap (λ (core : State). built (Other (First core)) kids c.args.path c.args.records c.args.labels) is))
+    (composite-is (around_of c.args.wiring) kids c.args.path c.args.records c.args.labels wired c.requires.fresh c.requires.empty)
