@@ -5,3 +5,5 @@ pub mod FaultLaws
 pub mod LoopLaws
 pub mod TopLaws
 pub mod NestedLaws
+pub mod WithinLaws
+pub mod LabelLaws

@@ -4,12 +4,14 @@ use Rattle.pt_net.specs.Inside.{AreInsides}
 use Rattle.pt_trees.specs.Trees.{AreStarted}
 use Rattle.pt_trees.specs.Recorded.{AreRecordLists}
 use Rattle.pt_build.specs.declared.builder.Builder.{Builder}
+use Rattle.pt_build.specs.Within.{AreWithin}
 use Rattle.pt_trees.specs.Built.{IsNested}
 
 -- what is kept of a net is its own
 pub record IsPrepared (b : Builder) : Type 0 where
   pub insides : AreInsides b.net.now.entities.items b.net.now.channels.items b.insides.children.items b.insides.places.items b.insides.sources.items
   pub records : AreRecordLists (length b.net.now.entities.items) b.net.now.recorded.items b.records.items
+  pub channels : AreWithin (length b.net.now.entities.items) b.net.now.channels.items b.channels.items
 
 -- the entity stands below so many composites, in a net whose library actors are started
 pub record IsReached (b : Builder) (k depth : ℕ) : Type 0 where

@@ -3,15 +3,18 @@ ghost use Rattle.pt_node.specs.Shown.{shown_node};
 ghost use Rattle.pt_trees.specs.Built.{IsToldAs, held_node};
 
 use crate::entities::{director_of, entity_in, is_undirected, start_in};
+use crate::labels::labels_of;
 use crate::numbering::{numbers_at, record_lists};
+use crate::plain::is_plain;
 use crate::records::records_of;
 use crate::wiring::{inputs_of, narrow_sources, outputs_of};
+use crate::within::{Within, within_all, within_at};
 use pt_composite::composite;
 use pt_document::{Director, Refusal};
 use pt_firing::{Counts, Fires};
 use pt_library::LibraryActor;
 use pt_net::{Net, NetEntity};
-use pt_node::{Body, Held, Node, Past, Records};
+use pt_node::{Body, Held, Labels, Node, Past, Records};
 use pt_trees::{BuildFault, CompositeFault, Wiring};
 use pt_value::Text;
 use pt_wiring::{Insides, Numbers};
@@ -26,6 +29,7 @@ struct Frame {
     wiring: Wiring,
     path: Text,
     records: Records,
+    labels: Labels,
 }
 
 /// A net with what its nodes are made from.
@@ -35,6 +39,7 @@ pub(crate) struct Builder<'a> {
     starts: &'a [Option<LibraryActor>],
     insides: Insides,
     records: Vec<Numbers>,
+    channels: Vec<Within>,
 }
 
 /// Whether no more composites may stand in one that stands below so many.
@@ -82,6 +87,7 @@ fn actor_node(alloc: Global, held: Held, path: Text, records: Records) -> Node
         children: Vec::new(alloc),
         records,
         path,
+        labels: Labels::none(alloc),
         live: true,
     }
 }
@@ -92,6 +98,7 @@ impl<'a> Builder<'a> {
     ghost use Rattle.pt_node.specs.Shown.{shown, shown_node};
     ghost use Rattle.pt_trees.specs.Around.{around_of};
     ghost use Rattle.pt_trees.specs.Fresh.{IsFresh, AllFresh};
+    ghost use Rattle.pt_trees.specs.Labels.{labels_of};
     ghost use Rattle.pt_trees.specs.Recorded.{recorded_of};
     ghost use Rattle.pt_trees.specs.Directors.{IsDirectedBy};
     ghost use Rattle.pt_trees.specs.Trees.{IsEntity, IsUndirected, AreStarted, StartsAs, around_in};
@@ -107,11 +114,13 @@ impl<'a> Builder<'a> {
     {
         let insides = Insides::of(alloc, net)?;
         let records = record_lists(alloc, net.entities.len(), &net.recorded)?;
+        let channels = within_all(alloc, net.entities.len(), &net.channels)?;
         Ok(Builder {
             net,
             starts,
             insides,
             records,
+            channels,
         })
     }
 
@@ -122,6 +131,15 @@ impl<'a> Builder<'a> {
         ensures { IfOk result (λ records. records ≡ recorded_of self.now.net.now k entity.now) }
     {
         records_of(alloc, self.net, entity, numbers_at(&self.records, k))
+    }
+
+    /// How a report tells the channels of the composite of that number.
+    fn labels_at(&self, alloc: Global, k: usize, entity: &NetEntity) -> Result<Labels, AllocError>
+        requires prepared { IsPrepared self.now }
+        requires entity { IsEntity self.now.net.now k entity.now }
+        ensures { IfOk result (λ labels. labels ≡ labels_of self.now.net.now k entity.now) }
+    {
+        labels_of(alloc, self.net, entity, within_at(&self.channels, k))
     }
 
     /// The entity of that number.
@@ -183,6 +201,7 @@ impl<'a> Builder<'a> {
             places: Counts::of(Vec::from_slice(alloc, self.insides.places[k].as_slice())?),
             inputs: inputs_of(&entity.ports)?,
             outputs: outputs_of(&entity.ports)?,
+            is_plain: is_plain(entity),
         })
     }
 
@@ -193,11 +212,13 @@ impl<'a> Builder<'a> {
         ensures wiring { IfOk result (λ frame. around_of frame.wiring ≡ around_in self.now.net.now k entity.now) }
         ensures path { IfOk result (λ frame. frame.path ≡ entity.now.path) }
         ensures records { IfOk result (λ frame. frame.records ≡ recorded_of self.now.net.now k entity.now) }
+        ensures labels { IfOk result (λ frame. frame.labels ≡ labels_of self.now.net.now k entity.now) }
     {
         Ok(Frame {
             wiring: self.wiring_of(alloc, k, entity)?,
             path: entity.path.copy(alloc)?,
             records: self.records_at(alloc, k, entity)?,
+            labels: self.labels_at(alloc, k, entity)?,
         })
     }
 
@@ -228,6 +249,7 @@ impl<'a> Builder<'a> {
             frame.wiring,
             frame.path,
             frame.records,
+            frame.labels,
         ) {
             Ok(node) => Ok(node),
             Err(fault) => Err(fault_at(alloc, fault, &entity.path)),

@@ -4,8 +4,11 @@
 mod builder;
 mod building;
 mod entities;
+mod labels;
 mod numbering;
+mod plain;
 mod records;
 mod wiring;
+mod within;
 
 pub use building::build;

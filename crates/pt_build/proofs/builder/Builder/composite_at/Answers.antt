@@ -6,6 +6,7 @@ use Rattle.pt_node.specs.Shown.{Shown, shown, shown_node}
 use Rattle.pt_trees.specs.Around.{Around, around_of}
 use Rattle.pt_trees.specs.Composite.{IsComposite, CompositeFaultStands}
 use Rattle.pt_trees.specs.Fresh.{AreEmpty}
+use Rattle.pt_trees.specs.Labels.{labels_of}
 use Rattle.pt_trees.specs.Recorded.{recorded_at, recorded_of, numbers_at}
 use Rattle.pt_trees.specs.Built.{built_composite}
 use Rattle.pt_build.proofs.FaultLaws.{fault-stands}
@@ -26,9 +27,10 @@ returns-in-Ok-clause-built c =
     let kids : List Shown = map shown c.args.children.items in
     let s : Shown = shown_node c.in-Ok.node in
     built_composite c.args.k e c.args.director kids s c.requires.entity c.requires.directed c.requires.children
-    (subst (λ (a : Around). IsComposite c.args.director a kids e.path (recorded_of c.args.self.now.net.now c.args.k e) s) c.in_ok-frame.ensures.wiring
-    (subst (λ (t : List ℕ). IsComposite c.args.director (around_of c.in_ok-frame.frame.wiring) kids t (recorded_of c.args.self.now.net.now c.args.k e) s) c.in_ok-frame.ensures.path
-    (subst (λ (rs : List RecordedPort). IsComposite c.args.director (around_of c.in_ok-frame.frame.wiring) kids c.in_ok-frame.frame.path rs s) c.in_ok-frame.ensures.records c.in-Ok.ensures.node)))
+    (subst (λ (a : Around). IsComposite c.args.director a kids e.path (recorded_of c.args.self.now.net.now c.args.k e) (labels_of c.args.self.now.net.now c.args.k e) s) c.in_ok-frame.ensures.wiring
+    (subst (λ (t : List ℕ). IsComposite c.args.director (around_of c.in_ok-frame.frame.wiring) kids t (recorded_of c.args.self.now.net.now c.args.k e) (labels_of c.args.self.now.net.now c.args.k e) s) c.in_ok-frame.ensures.path
+    (subst (λ (rs : List RecordedPort). IsComposite c.args.director (around_of c.in_ok-frame.frame.wiring) kids c.in_ok-frame.frame.path rs (labels_of c.args.self.now.net.now c.args.k e) s) c.in_ok-frame.ensures.records
+    (subst (λ (ls : List (List ℕ)). IsComposite c.args.director (around_of c.in_ok-frame.frame.wiring) kids c.in_ok-frame.frame.path c.in_ok-frame.frame.records ls s) c.in_ok-frame.ensures.labels c.in-Ok.ensures.node))))
 
 pub returns-in-Ok-clause-fresh : goal.returns-in-Ok-clause-fresh
 returns-in-Ok-clause-fresh c = c.in-Ok.ensures.node.fresh
