@@ -5,10 +5,11 @@ use Rattle.pt_meaning.specs.Meetings.{Meets}
 use Rattle.pt_meaning.specs.Step.{Step, no_meetings}
 use Rattle.pt_meaning.specs.Job as job
 use Rattle.pt_meaning.specs.Job.{Schedule, meaning}
-use Rattle.pt_meaning.specs.Headline.{Ending, Defined, Faulty, Spent}
+use Rattle.pt_meaning.specs.Headline.{Ending, Defined, Faulty, Spent, Queued}
 use Rattle.pt_meaning.specs.Tree.{paths_of}
 use Rattle.pt_value.specs.declared.token.Token.{Token}
 use Rattle.pt_firing.specs.declared.answer.Answer.TheVariants as answer
+use Rattle.pt_firing.specs.declared.answer.Blocked.{Blocked}
 use Rattle.pt_firing.specs.declared.answer.Place.{Place}
 use Rattle.pt_firing.specs.RunFault.{code_of}
 use Rattle.pt_records.specs.Kept.{GrewBy}
@@ -17,9 +18,10 @@ use Rattle.pt_records.specs.Made.{made_if, meets_of, AreMadeBefore}
 use Rattle.pt_records.proofs.MadeLaws.{made-back, those-made}
 use Rattle.pt_library.specs.declared.library_actor.LibraryActor.{LibraryActor}
 use Rattle.pt_library.specs.LibraryActor.{rows}
+use Rattle.pt_node.specs.Full.{IsToldFull}
 use Rattle.pt_node.specs.Live as live
 use Rattle.pt_node.specs.Shown.{Shown}
-use Rattle.pt_node.specs.View.{Tree, node_of, kept_of, count_of, outline_of, text_at}
+use Rattle.pt_node.specs.View.{Tree, node_of, kept_of, count_of, Outline, outline_of, text_at}
 use Rattle.pt_node.proofs.UnmetLaws.{node-unmet}
 use Rattle.pt_seq.specs.Within.{AnswersTo}
 use Rattle.pt_node.specs.Stuck.{fault_of}
@@ -30,7 +32,7 @@ use Rattle.pt_trees.specs.Top.{IsWhole}
 use Rattle.pt_trees.specs.Start.{IsRunnable}
 use Rattle.pt_trees.specs.Run.{schedule, Reports, IsRun, IsDefined, IsAffordable}
 use Rattle.pt_run.specs.declared.turn.End.{End}
-use Rattle.pt_run.specs.declared.turn.End.TheVariants.{Iterations, Inputs, Stop, Idle}
+use Rattle.pt_run.specs.declared.turn.End.TheVariants.{Iterations, Inputs, Stop, Idle, Deadlock}
 use Rattle.pt_run.specs.declared.turn.Firing.{Firing}
 use Rattle.pt_run.specs.declared.turn.Turn.{Turn}
 use Rattle.pt_run.specs.declared.turn.Turn.TheVariants.{Fire, Ends, Limit}
@@ -38,14 +40,16 @@ use Rattle.pt_run.specs.Turn.{end_of, turn_of, IsNext, IsPastLimit, ended_by}
 use Rattle.pt_run.proofs.Counting.{none-counted, fires-count}
 use Rattle.pt_trees.proofs.TopLaws.{is-whole}
 use Rattle.pt_run.proofs.Turns.{takes-fit}
-use Rattle.pt_run.proofs.Reaching.{Reached, IsLogOf, at-start, one-more, reported, defined-end, spent-between, past_limit, stuck-between, spent-within, stuck-within, count-below}
+use Rattle.pt_run.proofs.Reaching.{Reached, IsLogOf, at-start, one-more, reported, defined-end, spent-between, past_limit, stuck-between, spent-within, stuck-within, jammed-within, count-below}
 
-pub is_complete : (j : Top) (budget : ℕ) (old new : Shown) (e : Ended) → IsRun no_meetings j budget old new e → IsAffordable j budget (node_of old) → IsDefined e
+pub is_complete : (j : Top) (budget : ℕ) (old new : Shown) (e : Ended) → IsRun no_meetings j budget old new e → IsAffordable j budget old → IsDefined e
 is_complete j budget old new ended.Iterations r a = tt
 is_complete j budget old new ended.Inputs r a = tt
 is_complete j budget old new ended.Stop r a = tt
 is_complete j budget old new ended.Idle r a = tt
+is_complete j budget old new ended.Deadlock r a = tt
 is_complete j budget old new (ended.Fault place) r a = a.never_stuck (fault_of r.0 place) (r.2 0).caused.0
+is_complete j budget old new (ended.Full blocked) r a = let p = r.3 0 in a.never_jammed p.log r.0 r.1 p.caused
 is_complete j budget old new (ended.Spent firings) r a =
     let p = r 0 in
     let few = count-below p.log (meaning p.prefix.0 rows no_meetings (schedule j) (node_of old)) (paths_of (node_of old)) p.prefix.1 in
@@ -110,6 +114,7 @@ module _ (j : Top) (budget : ℕ) (old : Shown) (run : IsRunnable j old) where
       by_end Inputs r = r
       by_end Stop r = r
       by_end Idle r = r
+      by_end Deadlock r = r
 
   -- between two firings nothing is left
   pub ends-spent : (n : ℕ) (last : Option Tag) (now : Shown) (left : ℕ) → GoingTo n last now left → left ≡ 0 → (m : Meets) → AreThose m now → IsRun m j budget old now (ended.Spent budget)
@@ -145,6 +150,15 @@ module _ (j : Top) (budget : ℕ) (old : Shown) (run : IsRunnable j old) where
             k.0,
             ap (λ v. text_at v k.0) (sym g.outline) ∙ k.1,
             told m new (Faulty (fault_of k.0 place)) named (stuck-within m j old run n last now (before m k.2.log those k.2.kept) tag X turn budget new (fault_of k.0 place) k.2) those,
+          )
+
+      pub ends-full : (blocked : Blocked) → AnswersTo now tag X left (answer.Full blocked) new → (m : Meets) → AreThose m new → IsRun m j budget old new (ended.Full blocked)
+      ends-full blocked a m those =
+          let (off, jam) = a m (those-made m (kept_of new) those) in (
+            jam.path,
+            jam.full,
+            subst (λ (o : Outline). IsToldFull o jam.path jam.full blocked) g.outline jam.told,
+            told m new (Queued jam.path jam.full) named (jammed-within m j old run n last now (before m off.log those off.kept) tag X turn budget new jam.path jam.full off jam.jams) those,
           )
 
       -- so much is left after it

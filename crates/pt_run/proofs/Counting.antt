@@ -23,7 +23,7 @@ use Rattle.pt_trees.specs.Start.{IsBranched, HasLeaves, AllHaveLeaves}
 -- the paths of all that has a name
 abbrev mutual
   pub paths_in : Outline → List Path
-  paths_in (Named text hs os) = [] ∷ paths_under 0 os
+  paths_in (Named text hs most ls os) = [] ∷ paths_under 0 os
 
   pub paths_under : ℕ → Outlines → List Path
   paths_under i end = []
@@ -123,7 +123,7 @@ fires-count m old new tag X out o f =
     omega (arith, more, before, after, first)
   where
     at-top : (n : Outline) (l : Log Token) → 0 < firings_in (l []) → 0 < headline.count_of l (paths_in n)
-    at-top (Named text hs os) l h = omega (arith, h)
+    at-top (Named text hs most ls os) l h = omega (arith, h)
 
 -- a log that has of each path as many firings as are kept there has as many at all
 kept-in : {T : Type 0} (k : Kept T) (log : Log T) (ps : List Path) → ((p : Path) → firings_in (log p) ≡ (k p).count) → count_kept k ps ≡ headline.count_of log ps

@@ -9,8 +9,10 @@ pub mod Gathering
 pub mod Walking
 pub mod Portions
 pub mod Ticks
+pub mod OneFiring
 pub mod Turns
 pub mod Counted
+pub mod Jams
 pub mod Reaching
 pub mod Completing
 pub mod Steady

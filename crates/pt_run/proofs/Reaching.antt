@@ -1,5 +1,7 @@
 -- The top after whole firings, one more, and what a run comes to where it ends.
 use Rattle.std.proofs.Common.{◌≡◌, ℕ, suc, ◌<◌, ◌≤◌, inl, inr, max, List, [], ◌∷◌, ◌++◌, Option, Some, None, refl, sym, ap, subst, ◌∙◌, arith}
+use Rattle.std.proofs.Math.Path.{fun_ext}
+use Rattle.pt_meaning.specs.Asked.{IsJammed, IsJamOf}
 use Rattle.pt_meaning.specs.Basics.{Tag, Streams, IsPrefix, Path, Event, Finished, Met, Log, LogBelow, silent, log_then, firings_in}
 use Rattle.pt_meaning.specs.Log.{meetings_in}
 use Rattle.pt_meaning.specs.Machine.{time_limit_code, Fault, Outcome, Done, Stuck}
@@ -8,7 +10,7 @@ use Rattle.pt_meaning.specs.Tree.{Node}
 use Rattle.pt_meaning.specs.Step.{Step}
 use Rattle.pt_meaning.specs.Job as job
 use Rattle.pt_meaning.specs.Job.{End, Fire, Schedule, Course, Standing, Goes, Halted, on_step, on_turn, after, log_of, begin, meaning, IsPrefixOfMeaning}
-use Rattle.pt_meaning.specs.Headline.{Ending, Defined, Faulty, Spent, IsUpTo, IsCaused, IsReportOf, count_of}
+use Rattle.pt_meaning.specs.Headline.{Ending, Defined, Faulty, Spent, Queued, IsUpTo, IsCaused, IsReportOf, count_of}
 use Rattle.pt_meaning.specs.Closed.{UnderWay, IsClosedRun}
 use Rattle.pt_laws.specs.LogsOfRuns.{log_in}
 use Rattle.pt_laws.proofs.Order.{IsPrefix-trans, IsPrefix-after}
@@ -26,7 +28,7 @@ use Rattle.pt_library.specs.LibraryActor.{rows}
 use Rattle.pt_library.proofs.RowLaws.{rows_lawful}
 use Rattle.pt_node.specs.Shown.{Shown}
 use Rattle.pt_node.specs.View as view
-use Rattle.pt_node.specs.View.{node_of, kept_of, outline_of}
+use Rattle.pt_node.specs.View.{node_of, kept_of, Outline, outline_of, maximum_at}
 use Rattle.pt_node.specs.Live.{IsLive}
 use Rattle.pt_node.proofs.UnmetLaws.{node-unmet}
 use Rattle.pt_seq.specs.Within.{AnswersTo}
@@ -34,12 +36,13 @@ use Rattle.pt_trees.specs.declared.top.Top.{Top}
 use Rattle.pt_trees.specs.Ports.{recorded_ports, ports_of, traces_of}
 use Rattle.pt_trees.specs.Top.{IsJobFor}
 use Rattle.pt_trees.specs.Start.{IsRunnable}
-use Rattle.pt_trees.specs.Run.{schedule, no_queues, counts_of}
+use Rattle.pt_trees.specs.Run.{schedule, maxima_of, counts_of}
 use Rattle.pt_run.proofs.Course.{after-more, after-below, ended-at, halted-at}
 use Rattle.pt_run.proofs.Unmet.{finished-before, no-meetings}
 use Rattle.pt_run.proofs.UnmetRuns.{meaning-unmet}
 use Rattle.pt_run.proofs.Counting.{count-is, none-at}
 use Rattle.pt_run.proofs.Counted.{firings-counted}
+use Rattle.pt_run.proofs.Jams.{jammed-made, made-kept}
 use Rattle.pt_run.proofs.Traces.{traces-are}
 use Rattle.pt_run.proofs.Turns.{quiet-node, step-stays}
 
@@ -126,10 +129,10 @@ module _ (m : Meets) (j : Top) (top : Shown) where
     pub under_way : UnderWay Token
     pub shut : (k : ℕ) → LogBelow log (meaning k rows m plan first) → IsClosedRun rows m plan first (meaning k rows m plan first) log under_way
     pub kept : GrewBy log (kept_of top) (kept_of new)
-    pub caused : IsCaused rows m plan first budget no_queues log under_way e
+    pub caused : IsCaused rows m plan first budget (maxima_of top) log under_way e
 
   pub reported : IsRunnable j top → (budget : ℕ) (new : Shown) (e : Ending) → outline_of new ≡ outline_of top → IsLogOf budget new e → ((p : Path) (n : ℕ) → m p n ≡ meets_of (kept_of new) p n) → (count : ℕ) →
-      IsReportOf rows m plan first (ports_of (recorded_ports count top)) budget no_queues (counts_of new) (traces_of (recorded_ports count new)) e
+      IsReportOf rows m plan first (ports_of (recorded_ports count top)) budget (maxima_of top) (counts_of new) (traces_of (recorded_ports count new)) e
   unfolding after
   reported run budget new e o l those count = record {
     log = l.log;
@@ -224,7 +227,7 @@ module _ (m : Meets) (j : Top) (top : Shown) where
       within-shut : (way : UnderWay Token) × ((k : ℕ) → LogBelow (log_then r.log log) (meaning k rows m plan first) → IsClosedRun rows m plan first (meaning k rows m plan first) (log_then r.log log) way) × ((f : Fault) → place ≡ Some f → IsUpTo (log_then r.log log) way f)
       within-shut = (runs-are-shut {T = Token} {A = LibraryActor}).within rows rows_lawful m plan first n (course_at n last now r.log) (reached run n last now r) tag X turn place log part beginning
 
-      left-off : (budget : ℕ) (new : Shown) (e : Ending) → GrewBy log (kept_of now) (kept_of new) → IsCaused rows m plan first budget no_queues (log_then r.log log) within-shut.0 e → IsLogOf budget new e
+      left-off : (budget : ℕ) (new : Shown) (e : Ending) → GrewBy log (kept_of now) (kept_of new) → IsCaused rows m plan first budget (maxima_of top) (log_then r.log log) within-shut.0 e → IsLogOf budget new e
       left-off budget new e k c = record {
         log = log_then r.log log;
         prefix = (max (max r.goes.0 beginning.0) (suc n), within-below (max (max r.goes.0 beginning.0) (suc n)) (omega arith));
@@ -251,3 +254,31 @@ module _ (m : Meets) (j : Top) (top : Shown) where
         let begins : FromSome (λ k. LogBelow g.log (log_in (Step k rows m (node_of now) tag X))) = (g.stuck.0, λ k o. let at = g.stuck.1 k o in subst (λ v. LogBelow g.log (log_in v)) (sym at.2) at.4) in
         left-off (Some f) g.log g.part begins budget new (Faulty f) g.kept
         ((k₁, there.0, log_then r.log there.1, halted-at rows m plan first k₁ (suc n) there.0 (log_then r.log there.1) (omega arith) halts, there.3), (within-shut (Some f) g.log g.part begins).2 f refl)
+
+    -- a network within the firing is in a jam, by what is counted then
+    jam-is : (new : Shown) (p : Path) (full : List (ℕ × ℕ)) (log : Log Token) → GrewBy (log_then r.log log) (kept_of top) (kept_of new) → FromSome (λ k. IsJammed rows k p m (maxima_of now) (counts_of new) (node_of now) tag X full) →
+        IsJamOf rows m plan first (maxima_of top) (log_then r.log log) p full
+    jam-is new p full log kept jam =
+        let k₁ : ℕ = max r.goes.0 jam.0 in
+        let counted : (q : Path) → counts_of new q ≡ firings_in (log_then r.log log q) = λ q. let grown = (kept q).count in let none = none-at top run.leaves run.start q in omega (arith, grown, none) in
+        let fired : firings_in (r.log []) ≡ n = firings-counted rows rows_lawful m plan first n (course_at n last now r.log) (reached run n last now r) in
+        let before : counts_of now [] ≡ n = (let grown = (r.kept []).count in let none = none-at top run.leaves run.start [] in let same : counts_of now [] ≡ firings_in (r.log []) = omega (arith, grown, none) in same) ∙ fired in
+        let made : counts_of now [] ≡ counts_of new [] = sym (made-kept now) ∙ jammed-made k₁ m (maxima_of now) (counts_of new) tag X full p (node_of now) (jam.1 k₁ (omega arith)) in
+        let so_many : n ≡ firings_in (log_then r.log log []) = sym before ∙ made ∙ counted [] in
+        record {
+          fuel = k₁;
+          course = course_at n last now r.log;
+          tag = tag;
+          inputs = X;
+          before = subst (λ i. after k₁ rows m plan i (begin first) ≡ Goes (course_at n last now r.log)) so_many (r.goes.1 k₁ (omega arith));
+          next = turn;
+          jam =
+              subst (λ (o : Outline). IsJammed rows k₁ p m (λ q. maximum_at o q) (λ q. firings_in (log_then r.log log q)) (node_of now) tag X full) r.outline
+              (subst (λ (c : Path → ℕ). IsJammed rows k₁ p m (maxima_of now) c (node_of now) tag X full) (fun_ext counted) (jam.1 k₁ (omega arith)));
+        }
+
+    pub jammed-within : (budget : ℕ) (new : Shown) (p : Path) (full : List (ℕ × ℕ)) → LeavesOff (λ k. Step k rows m (node_of now) tag X) (IsShut rows m (node_of now) tag X None) (kept_of now) (kept_of new) →
+        FromSome (λ k. IsJammed rows k p m (maxima_of now) (counts_of new) (node_of now) tag X full) → IsLogOf budget new (Queued p full)
+    jammed-within budget new p full f jam =
+        let kept : GrewBy (log_then r.log f.log) (kept_of top) (kept_of new) = grew-joined r.log f.log (kept_of top) (kept_of now) (kept_of new) r.kept f.kept in
+        left-off None f.log f.part f.beginning budget new (Queued p full) f.kept (jam-is new p full f.log kept jam)

@@ -1,5 +1,5 @@
 -- What a job asks of its top fits the top, and goes on doing so.
-use Rattle.std.proofs.Common.{◌≡◌, ℕ, suc, List, [], ◌∷◌, Bool, true, false, length, nat_lt, Option, refl, sym, ap, subst, ◌∙◌, arith}
+use Rattle.std.proofs.Common.{◌≡◌, ℕ, zero, suc, List, [], ◌∷◌, Bool, true, false, length, nat_lt, Option, refl, sym, ap, subst, ◌∙◌, arith}
 use Rattle.std.proofs.lemmas.List.{length-map}
 use Rattle.std.specs.Prelude.{Vec}
 use Rattle.std.specs.Global.{Global}
@@ -12,7 +12,7 @@ use Rattle.pt_meaning.specs.Tree.{Rows, Node}
 use Rattle.pt_meaning.specs.NodeFacts.{next_of}
 use Rattle.pt_meaning.specs.Step.{step_at, Step}
 use Rattle.pt_meaning.specs.Job.{Fire}
-use Rattle.pt_meaning.specs.Schedule.{portions, suffice, if_more, tokens_at, lists_last, first_event, events_at, Due, Never, At, Past, due_after, lesser, in_time, fire_until, de_turn_at}
+use Rattle.pt_meaning.specs.Schedule.{portions, suffice, if_more, tokens_at, lists_last, first_event, events_at, Due, Never, At, Past, due_after, lesser, in_time, fire_until, de_turn_at, once_top}
 use Rattle.pt_laws.proofs.FiringLaws.{done-within}
 use Rattle.pt_value.specs.declared.token.Token.{Token}
 use Rattle.pt_records.proofs.SoFarLaws.{recorded-done}
@@ -27,11 +27,12 @@ use Rattle.pt_node.specs.Live as live
 use Rattle.pt_agenda.specs.Events as agenda
 use Rattle.pt_agenda.specs.Events.{events_of}
 use Rattle.pt_trees.specs.declared.top.DeJob.{DeJob}
+use Rattle.pt_trees.specs.declared.top.OnceJob.{OnceJob}
 use Rattle.pt_trees.specs.declared.top.SdfJob.{SdfJob}
 use Rattle.pt_trees.specs.declared.top.SrJob.{SrJob}
 use Rattle.pt_trees.specs.declared.top.Top.{Top}
-use Rattle.pt_trees.specs.declared.top.Top.TheVariants.{Sdf, Sr, De}
-use Rattle.pt_trees.specs.Top.{ticks_of, SdfFits, SrFits, DeFits, FitsCore, IsJobFor, IsWhole}
+use Rattle.pt_trees.specs.declared.top.Top.TheVariants.{Sdf, Sr, De, Once}
+use Rattle.pt_trees.specs.Top.{ticks_of, SdfFits, SrFits, DeFits, OnceFits, FitsCore, IsJobFor, IsWhole}
 use Rattle.pt_trees.specs.Run.{schedule}
 use Rattle.pt_run.proofs.UnmetRuns.{IsQuiet, AllQuiet}
 
@@ -46,7 +47,8 @@ mutual
       by_body (body.Actor held) kids = tt
       by_body (body.Composite (First s)) kids = (tt, kids)
       by_body (body.Composite (Other (First s))) kids = (tt, kids)
-      by_body (body.Composite (Other (Other s))) kids = (tt, kids)
+      by_body (body.Composite (Other (Other (First s)))) kids = (tt, kids)
+      by_body (body.Composite (Other (Other (Other s)))) kids = (tt, kids)
 
   quiet-nodes : (ks : AllShown) → AllQuiet (nodes_of ks)
   quiet-nodes none = tt
@@ -57,6 +59,7 @@ abbrev HasLists : Top → Streams Token → Type 0
 HasLists (Sdf j) X = length X ≡ length j.takes
 HasLists (Sr j) X = length X ≡ length j.inputs.items
 HasLists (De j) X = length X ≡ length j.inputs.items
+HasLists (Once j) X = length X ≡ length j.inputs.items
 
 -- which the top takes, where the job is one for it
 lists-fit : (s : Shown) (j : Top) (tag : Tag) (X : Streams Token) → IsJobFor j (node_of s) → HasLists j X → live.Takes tag s X
@@ -67,12 +70,19 @@ lists-fit (Branch f ks) j tag X = by_body f.body j
     by_body (body.Composite (First s)) (Sdf j) h l = l ∙ ap (λ v. length v) (sym h.0)
     by_body (body.Composite (First s)) (Sr j) h l = absurd h
     by_body (body.Composite (First s)) (De j) h l = absurd h
+    by_body (body.Composite (First s)) (Once j) h l = absurd h
     by_body (body.Composite (Other (First s))) (Sdf j) h l = absurd h
     by_body (body.Composite (Other (First s))) (Sr j) h l = l ∙ h
     by_body (body.Composite (Other (First s))) (De j) h l = absurd h
-    by_body (body.Composite (Other (Other s))) (Sdf j) h l = absurd h
-    by_body (body.Composite (Other (Other s))) (Sr j) h l = absurd h
-    by_body (body.Composite (Other (Other s))) (De j) h l = l ∙ h.0
+    by_body (body.Composite (Other (First s))) (Once j) h l = absurd h
+    by_body (body.Composite (Other (Other (First s)))) (Sdf j) h l = absurd h
+    by_body (body.Composite (Other (Other (First s)))) (Sr j) h l = absurd h
+    by_body (body.Composite (Other (Other (First s)))) (De j) h l = l ∙ h.0
+    by_body (body.Composite (Other (Other (First s)))) (Once j) h l = absurd h
+    by_body (body.Composite (Other (Other (Other s)))) (Sdf j) h l = absurd h
+    by_body (body.Composite (Other (Other (Other s)))) (Sr j) h l = absurd h
+    by_body (body.Composite (Other (Other (Other s)))) (De j) h l = absurd h
+    by_body (body.Composite (Other (Other (Other s)))) (Once j) h l = l ∙ h
 
 -- ---- the lists of a turn
 
@@ -105,6 +115,11 @@ due-lists stop E (At t) tag X e = by-time (in_time stop t) e
     by-time true g = let same : events_at t E ≡ X = cc in ap (λ v. length v) (sym same) ∙ events-length t E
     by-time false g = absurd (cc)
 
+-- and at a PN top
+once-lists : (n : ℕ) (last : Option Tag) (top : Tree) (tag : Tag) (Y X : Streams Token) → once_top Y n last top ≡ Fire tag X → Y ≡ X
+once-lists zero last top tag Y X e = cc
+once-lists (suc n) last top tag Y X e = absurd (cc)
+
 has-lists : (j : Top) (n : ℕ) (last : Option Tag) (top : Tree) (tag : Tag) (X : Streams Token) → IsWhole j → schedule j n last top ≡ Fire tag X → HasLists j X
 has-lists (Sdf j) n last top tag X whole e =
     let same : portions n j.takes j.inputs.items ≡ X = fired-lists (nat_lt n j.iterations) (suffice n j.takes j.inputs.items) origin tag (portions n j.takes j.inputs.items) X e in
@@ -116,6 +131,7 @@ has-lists (Sr j) n last top tag X whole e =
 has-lists (De j) n last top tag X whole e =
     let E : List (List agenda.Event) = events_of j.inputs.items in
     due-lists j.stop E (lesser (first_event last E) (due_after (next_of rows top) last)) tag X e ∙ length-map j.inputs.items (λ (input : agenda.Input). input.items)
+has-lists (Once j) n last top tag X whole e = ap (λ v. length v) (sym (once-lists n last top tag j.inputs.items X e))
 
 pub takes-fit : (s : Shown) (j : Top) (n : ℕ) (last : Option Tag) (tag : Tag) (X : Streams Token) → IsJobFor j (node_of s) → IsWhole j → schedule j n last (node_of s) ≡ Fire tag X → live.Takes tag s X
 takes-fit s j n last tag X h whole e = lists-fit s j tag X h (has-lists j n last (node_of s) tag X whole e)
@@ -150,10 +166,20 @@ module _ (k d : ℕ) (m : Meets) (z : Tree) (tag : Tag) (X out : Streams Token) 
   de-stays j (tree.Rv p Y) f g = absurd f
   de-stays j (tree.Modal chart n) f g = absurd f
 
+  once-stays : (j : OnceJob) (e : tree.Core Token) → OnceFits j e → step_at rows k (suc d) m tag (tree.Composite h c e kids) X ≡ Done z out l → IsJobFor (Once j) z
+  unfolding step_at
+  once-stays j (tree.Sdf p Y) f g = absurd f
+  once-stays j (tree.Pn p Y) f g = subst (λ (v : Tree). IsJobFor (Once j) v) (sym (done-within tag h c (tree.Pn p) _ z out l g).state) f
+  once-stays j (tree.Sr p) f g = absurd f
+  once-stays j (tree.De p) f g = absurd f
+  once-stays j (tree.Rv p Y) f g = absurd f
+  once-stays j (tree.Modal chart n) f g = absurd f
+
   core-stays : (j : Top) (e : tree.Core Token) → FitsCore j e → step_at rows k (suc d) m tag (tree.Composite h c e kids) X ≡ Done z out l → IsJobFor j z
   core-stays (Sdf j) e f g = sdf-stays j e f g
   core-stays (Sr j) e f g = sr-stays j e f g
   core-stays (De j) e f g = de-stays j e f g
+  core-stays (Once j) e f g = once-stays j e f g
 
 node-stays : (j : Top) (k : ℕ) (m : Meets) (n z : Tree) (tag : Tag) (X out : Streams Token) (l : Log Token) → IsJobFor j n → step_at rows k (tree.height n) m tag n X ≡ Done z out l → IsJobFor j z
 node-stays j k m (tree.Actor h a b) z tag X out l f g = absurd f

@@ -1,8 +1,9 @@
--- Trees of SDF, SR and DE composites make no meetings.
+-- Trees of SDF, PN, SR and DE composites make no meetings.
 use Rattle.std.proofs.Common.{◌≡◌, ℕ, zero, suc, List, [], ◌∷◌, refl, sym, subst}
 use Rattle.pt_meaning.specs.Basics.{Tag, Streams, Log, Firing, own, log_then}
 use Rattle.pt_meaning.specs.Machine.{Outcome, Done, Stuck, Stepping, recorded}
 use Rattle.pt_meaning.specs.Sdf.{sdf}
+use Rattle.pt_meaning.specs.Pn.{pn}
 use Rattle.pt_meaning.specs.Tick.{sr_active, sr_turn, sr, de_early, de_active, de_turn, de}
 use Rattle.pt_meaning.specs.Children.{Child, numbered, nodes, child_facts, child_step, with_number}
 use Rattle.pt_meaning.specs.Meetings.{Meets, below_child}
@@ -21,7 +22,7 @@ use Rattle.pt_run.proofs.UnmetReactions.{reaction-unmeeting}
 -- a director of the code, none of which makes meetings
 abbrev pub IsQuietCore : {T : Type 0} → Core T → Type 0
 IsQuietCore (Sdf p X) = Unit {0}
-IsQuietCore (Pn p X) = ⊥
+IsQuietCore (Pn p X) = Unit {0}
 IsQuietCore (Sr p) = Unit {0}
 IsQuietCore (De p) = Unit {0}
 IsQuietCore (Rv p X) = ⊥
@@ -83,7 +84,10 @@ module _ {T A : Type 0} (rows : Rows T A) (k d : ℕ) (m : Meets) (u : (i : ℕ)
       let l : Log T = log_in (sdf (child_facts (facts_of rows)) (child_step steps) p k tag (record { held = Y; kids = numbered 0 (list_of kids) }) X) in
       let inside : Unmet l = kahn-unmet (child_facts (facts_of rows)) IsQuietChild tag (child_step steps) (child-unmeeting steps u) p.net _ _ _ (numbered 0 (list_of kids)) _ k (children-quiet 0 kids s.1) in
       subst (λ (l : Log T). Unmet l) (sym (log-as-node tag h c (Sdf p) _)) (unmet-within h.made l inside)
-  level-logs tag (Composite h c (Pn p Y) kids) X s = absurd s.0
+  level-logs tag (Composite h c (Pn p Y) kids) X s =
+      let l : Log T = log_in (pn (child_facts (facts_of rows)) (child_step steps) p k tag (record { held = Y; kids = numbered 0 (list_of kids) }) X) in
+      let inside : Unmet l = kahn-unmet (child_facts (facts_of rows)) IsQuietChild tag (child_step steps) (child-unmeeting steps u) p.net _ _ _ (numbered 0 (list_of kids)) _ k (children-quiet 0 kids s.1) in
+      subst (λ (l : Log T). Unmet l) (sym (log-as-node tag h c (Pn p) _)) (unmet-within h.made l inside)
   level-logs tag (Composite h c (Sr p) kids) X s =
       let facts = child_facts (facts_of rows) in
       let l : Log T = log_in (sr facts (child_step steps) p k h.made tag (numbered 0 (list_of kids)) X) in
@@ -103,7 +107,10 @@ module _ {T A : Type 0} (rows : Rows T A) (k d : ℕ) (m : Meets) (u : (i : ℕ)
       let y = done-within tag h c (Sdf p) _ z out l e in
       subst (λ (v : Node T A). IsQuiet v) (sym y.state)
       (tt, nodes-quiet y.inside.kids (kahn-keeps (child_facts (facts_of rows)) IsQuietChild tag (child_step steps) (child-unmeeting steps u) p.net _ _ _ (numbered 0 (list_of kids)) _ k y.inside out y.log (children-quiet 0 kids s.1) y.done))
-  level-keeps tag (Composite h c (Pn p Y) kids) z X out l s e = absurd s.0
+  level-keeps tag (Composite h c (Pn p Y) kids) z X out l s e =
+      let y = done-within tag h c (Pn p) _ z out l e in
+      subst (λ (v : Node T A). IsQuiet v) (sym y.state)
+      (tt, nodes-quiet y.inside.kids (kahn-keeps (child_facts (facts_of rows)) IsQuietChild tag (child_step steps) (child-unmeeting steps u) p.net _ _ _ (numbered 0 (list_of kids)) _ k y.inside out y.log (children-quiet 0 kids s.1) y.done))
   level-keeps tag (Composite h c (Sr p) kids) z X out l s e =
       let facts = child_facts (facts_of rows) in
       let y = done-within tag h c (λ Y. Sr p) _ z out l e in

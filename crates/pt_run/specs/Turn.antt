@@ -15,7 +15,7 @@ use Rattle.pt_trees.specs.declared.top.DeJob.{DeJob}
 use Rattle.pt_trees.specs.declared.ended.Ended.{Ended}
 use Rattle.pt_trees.specs.declared.ended.Ended.TheVariants as ended
 use Rattle.pt_run.specs.declared.turn.End.{End}
-use Rattle.pt_run.specs.declared.turn.End.TheVariants.{Iterations, Inputs, Stop, Idle}
+use Rattle.pt_run.specs.declared.turn.End.TheVariants.{Iterations, Inputs, Stop, Idle, Deadlock}
 use Rattle.pt_run.specs.declared.turn.Turn.{Turn}
 use Rattle.pt_run.specs.declared.turn.Turn.TheVariants.{Fire, Ends, Limit}
 
@@ -24,6 +24,7 @@ end_of Iterations = job.Iterations
 end_of Inputs = job.Inputs
 end_of Stop = job.Stop
 end_of Idle = job.Idle
+end_of Deadlock = job.Deadlock
 
 abbrev pub turn_of : Turn → job.Turn Token
 turn_of (Fire firing) = job.Fire firing.tag firing.inputs.items
@@ -54,3 +55,4 @@ ended_by Iterations = ended.Iterations
 ended_by Inputs = ended.Inputs
 ended_by Stop = ended.Stop
 ended_by Idle = ended.Idle
+ended_by Deadlock = ended.Deadlock

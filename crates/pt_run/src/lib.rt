@@ -2,6 +2,7 @@
 #![tactic(auto)]
 
 mod de;
+mod once;
 mod reporting;
 mod running;
 mod sdf;

@@ -97,7 +97,9 @@ fn end_told(ended: Ended) -> RunEnd
         Ended::Inputs => RunEnd::Inputs,
         Ended::Stop => RunEnd::Stop,
         Ended::Idle => RunEnd::Idle,
+        Ended::Deadlock => RunEnd::Deadlock,
         Ended::Fault(place) => RunEnd::Fault(place),
+        Ended::Full(blocked) => RunEnd::Queue(blocked),
         Ended::Spent(count) => RunEnd::Budget(count),
     }
 }

@@ -1,7 +1,7 @@
 ghost use Rattle.std.specs.Prelude.{◌≡◌, ◌+◌, ◌<◌, IfOk, OnOk};
 ghost use Rattle.pt_node.specs.Shown.{shown_node};
 ghost use Rattle.pt_records.specs.Made.{meets_of};
-ghost use Rattle.pt_node.specs.View.{node_of, kept_of, count_of, outline_of};
+ghost use Rattle.pt_node.specs.View.{kept_of, count_of, outline_of};
 ghost use Rattle.pt_trees.specs.Start.{IsRunnable};
 ghost use Rattle.pt_trees.specs.Run.{IsRun, IsAffordable, IsDefined};
 ghost use Rattle.pt_run.specs.Ran.{IsCount};
@@ -26,7 +26,7 @@ pub fn run(alloc: Global, top: &mut Node, job: &Top, budget: u64) -> Result<Ran,
     requires budget { 0 < budget }
     ensures report { IfOk result (λ ran. IsRun (meets_of (kept_of (shown_node top.new))) job.now budget (shown_node top.old) (shown_node top.new) ran.ended) }
     ensures counted { IfOk result (λ ran. IsCount (shown_node top.old) (shown_node top.new) ran.firings) }
-    ensures complete { IsAffordable job.now budget (node_of (shown_node top.old)) → IfOk result (λ ran. IsDefined ran.ended) }
+    ensures complete { IsAffordable job.now budget (shown_node top.old) → IfOk result (λ ran. IsDefined ran.ended) }
     ensures outline { outline_of (shown_node top.new) ≡ outline_of (shown_node top.old) }
 {
     let mut left = budget;
@@ -49,7 +49,7 @@ fn run_within(
     requires whole { left.old ≡ budget }
     ensures report { IfOk result (λ ended. IsRun (meets_of (kept_of (shown_node top.new))) job.now budget (shown_node top.old) (shown_node top.new) ended) }
     ensures counted { OnOk result (left.new + count_of (shown_node top.new) ≡ budget) }
-    ensures complete { IsAffordable job.now budget (node_of (shown_node top.old)) → IfOk result IsDefined }
+    ensures complete { IsAffordable job.now budget (shown_node top.old) → IfOk result IsDefined }
     ensures outline { outline_of (shown_node top.new) ≡ outline_of (shown_node top.old) }
 {
     let mut fired = 0;
@@ -64,7 +64,7 @@ fn run_within(
             Answer::Done(_) => {}
             Answer::Fault(place) => return Ok(Ended::Fault(place)),
             Answer::Spent(_) => return Ok(Ended::Spent(budget)),
-            Answer::Full(_) => unreachable!(),
+            Answer::Full(blocked) => return Ok(Ended::Full(blocked)),
             Answer::Memory => return Err(AllocError),
         }
         fired += 1;

@@ -3,15 +3,11 @@ ghost use Rattle.std.specs.Prelude.{◌≡◌, ◌<◌, ◌≤◌, take, drop, �
 ghost use Rattle.pt_meaning.specs.Schedule.{portions, suffice, sdf_top};
 ghost use Rattle.pt_run.specs.Turn.{IsAlwaysNext};
 
-use crate::turn::{End, Firing, Turn};
+use crate::turn::{End, Firing, ORIGIN, Turn};
 use pt_firing::Tokens;
-use pt_time::Tag;
 use pt_trees::SdfJob;
 use pt_value::Token;
 use std::alloc::{AllocError, Global};
-
-/// The tag of each firing of an SDF top.
-const ORIGIN: Tag = Tag { time: 0, step: 0 };
 
 /// What comes after so many iterations: the next one, or the end where all are made or an input has fewer tokens left than it takes.
 pub(crate) fn next_turn(alloc: Global, job: &SdfJob, made: u64) -> Result<Turn, AllocError>

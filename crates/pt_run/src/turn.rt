@@ -7,12 +7,15 @@ ghost use Rattle.pt_trees.specs.Run.{schedule};
 ghost use Rattle.pt_trees.specs.Top.{IsWhole};
 ghost use Rattle.pt_run.specs.Turn.{IsNext, IsPastLimit, ended_by};
 
-use crate::{de, sdf, sr};
+use crate::{de, once, sdf, sr};
 use pt_firing::{Place, RunFault, Tokens};
 use pt_node::Node;
 use pt_time::Tag;
 use pt_trees::{Ended, Top};
 use std::alloc::{AllocError, Global};
+
+/// The tag of each firing of an SDF top, and of the one of a PN top.
+pub(crate) const ORIGIN: Tag = Tag { time: 0, step: 0 };
 
 /// An end of a job.
 #[derive(Clone, Copy)]
@@ -25,6 +28,8 @@ pub(crate) enum End {
     Stop,
     /// There is no next tag.
     Idle,
+    /// The one firing is made, and nothing within can go on.
+    Deadlock,
 }
 
 /// A firing of the top: its tag, and the tokens of each own input.
@@ -60,6 +65,7 @@ pub(crate) fn next_turn(
         Top::Sdf(job) => sdf::next_turn(alloc, job, fired),
         Top::Sr(job) => sr::next_turn(alloc, job, fired),
         Top::De(job) => de::next_turn(alloc, job, last, top.next()),
+        Top::Once(job) => once::next_turn(alloc, job, fired),
     }
 }
 
@@ -83,5 +89,6 @@ pub(crate) fn end_told(end: End) -> Ended
         End::Inputs => Ended::Inputs,
         End::Stop => Ended::Stop,
         End::Idle => Ended::Idle,
+        End::Deadlock => Ended::Deadlock,
     }
 }

@@ -7,7 +7,7 @@ use Rattle.pt_trees.specs.declared.ended.Ended.{Ended}
 use Rattle.pt_trees.specs.declared.ended.Ended.TheVariants as ended
 use Rattle.pt_trees.specs.Run.{schedule, IsRun, IsDefined}
 use Rattle.pt_run.specs.Turn.{ended_by}
-use Rattle.pt_run.proofs.Completing.{Going, is_complete, turn-fires, turn-ends, turn-past, whole, begins, ends-defined, ends-spent, ends-past, takes-inputs, ends-fault, ends-within, falls, goes-on, its-own, none-are-those}
+use Rattle.pt_run.proofs.Completing.{Going, is_complete, turn-fires, turn-ends, turn-past, whole, begins, ends-defined, ends-spent, ends-past, takes-inputs, ends-fault, ends-full, ends-within, falls, goes-on, its-own, none-are-those}
 use Rattle.pt_run.proofs.running.run_within.Goals as goal
 
 -- the whole budget is left
@@ -23,6 +23,9 @@ returns-in-Ends-clause-counted c = c.loop-left.invariant.counted
 
 pub returns-in-Fault-clause-counted : goal.returns-in-Fault-clause-counted
 returns-in-Fault-clause-counted c = omega (arith, c.loop-left.invariant.counted, c.fire_within.ensures.counted)
+
+pub returns-in-Full-clause-counted : goal.returns-in-Full-clause-counted
+returns-in-Full-clause-counted c = omega (arith, c.loop-left.invariant.counted, c.fire_within.ensures.counted)
 
 pub returns-in-Spent-clause-counted : goal.returns-in-Spent-clause-counted
 returns-in-Spent-clause-counted c = omega (arith, c.loop-left.invariant.counted, c.fire_within.ensures.counted)
@@ -73,6 +76,18 @@ returns-in-Fault-clause-complete c = λ a. is_complete c.args.job.now c.args.bud
     (ends-fault c.args.job.now c.args.budget (shown_node c.args.top.now) c.requires.runnable c.loop-left.fired c.loop-left.last (shown_node c.loop-left.top) c.loop-left.left c.loop-left.invariant c.in-Fire.firing.tag c.of.result
     (turn-fires (schedule c.args.job.now) c.loop-left.fired c.loop-left.last (node_of (shown_node c.loop-left.top)) c.in_ok-firing.field-0 c.in_ok-firing.ensures c.in-Fire.firing c.in-Fire.is c.of.result (c.of.ensures ∙ c.deref.ensures.value))
     (shown_node c.fire_within.new.node) c.in-Fault.ensures.outline c.in-Fault.place c.in-Fault.ensures.answers no_meetings (none-are-those (shown_node c.fire_within.new.node))) a
+
+pub returns-in-Full-clause-report : goal.returns-in-Full-clause-report
+returns-in-Full-clause-report c =
+    ends-full c.args.job.now c.args.budget (shown_node c.args.top.now) c.requires.runnable c.loop-left.fired c.loop-left.last (shown_node c.loop-left.top) c.loop-left.left c.loop-left.invariant c.in-Fire.firing.tag c.of.result
+    (turn-fires (schedule c.args.job.now) c.loop-left.fired c.loop-left.last (node_of (shown_node c.loop-left.top)) c.in_ok-firing.field-0 c.in_ok-firing.ensures c.in-Fire.firing c.in-Fire.is c.of.result (c.of.ensures ∙ c.deref.ensures.value))
+    (shown_node c.fire_within.new.node) c.in-Full.ensures.outline c.in-Full.blocked c.in-Full.ensures.answers (meets_of (kept_of (shown_node c.fire_within.new.node))) (its-own (shown_node c.fire_within.new.node))
+
+pub returns-in-Full-clause-complete : goal.returns-in-Full-clause-complete
+returns-in-Full-clause-complete c = λ a. is_complete c.args.job.now c.args.budget (shown_node c.args.top.now) (shown_node c.fire_within.new.node) (ended.Full c.in-Full.blocked)
+    (ends-full c.args.job.now c.args.budget (shown_node c.args.top.now) c.requires.runnable c.loop-left.fired c.loop-left.last (shown_node c.loop-left.top) c.loop-left.left c.loop-left.invariant c.in-Fire.firing.tag c.of.result
+    (turn-fires (schedule c.args.job.now) c.loop-left.fired c.loop-left.last (node_of (shown_node c.loop-left.top)) c.in_ok-firing.field-0 c.in_ok-firing.ensures c.in-Fire.firing c.in-Fire.is c.of.result (c.of.ensures ∙ c.deref.ensures.value))
+    (shown_node c.fire_within.new.node) c.in-Full.ensures.outline c.in-Full.blocked c.in-Full.ensures.answers no_meetings (none-are-those (shown_node c.fire_within.new.node))) a
 
 pub returns-in-Spent-clause-report : goal.returns-in-Spent-clause-report
 returns-in-Spent-clause-report c =

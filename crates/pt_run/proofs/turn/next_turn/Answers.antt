@@ -13,6 +13,9 @@ returns-in-Sdf c = IfOk-weaker c.next_turn.result _ _ (λ t h. subst (λ (j : To
 pub returns-in-Sr : goal.returns-in-Sr
 returns-in-Sr c = IfOk-weaker c.next_turn-in-Sr.result _ _ (λ t h. subst (λ (j : Top). IsNext (schedule j) c.args.fired c.args.last.now (node_of (shown_node c.args.top.now)) t) (sym c.in-Sr.is) (h c.args.last.now (node_of (shown_node c.args.top.now)))) c.next_turn-in-Sr.ensures
 
+pub returns-in-Once : goal.returns-in-Once
+returns-in-Once c = IfOk-weaker c.next_turn-in-Once.result _ _ (λ t h. subst (λ (j : Top). IsNext (schedule j) c.args.fired c.args.last.now (node_of (shown_node c.args.top.now)) t) (sym c.in-Once.is) (h c.args.last.now (node_of (shown_node c.args.top.now)))) c.next_turn-in-Once.ensures
+
 -- the wake is that of the top
 pub returns-in-De : goal.returns-in-De
 returns-in-De c = IfOk-weaker c.next_turn-in-De.result _ _ (λ t h. subst (λ (j : Top). IsNext (schedule j) c.args.fired c.args.last.now (node_of (shown_node c.args.top.now)) t) (sym c.in-De.is) (subst (λ w. IsDue c.in-De.job c.args.last.now w t) c.next.ensures h)) c.next_turn-in-De.ensures
