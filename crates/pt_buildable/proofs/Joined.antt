@@ -8,7 +8,7 @@ use Rattle.pt_buildable.proofs.Composites.{other-or-built, director-composite}
 use Rattle.pt_buildable.proofs.Ordered.{seen, placed, ordered}
 use Rattle.pt_buildable.proofs.Insides.{channels-counted, sources-there}
 use Rattle.pt_buildable.proofs.Few.{few-places, few-sources, few-kids}
-use Rattle.pt_buildable.proofs.Kids.{no-unsteady}
+use Rattle.pt_buildable.proofs.Kids.{unsteady-network}
 use Rattle.pt_buildable.proofs.Outputs as outputs
 use Rattle.pt_net.specs.Table.{tables_of}
 
@@ -39,7 +39,7 @@ composites-channels net k e d doc within order at has = record {
 }
 
 pub children-steady : ChildrenAreSteady
-children-steady net values typing starts k e kids valued misplaced started at sdf all unsteady = no-unsteady net values typing starts valued misplaced started k e kids at sdf all unsteady
+children-steady net values typing starts k e kids valued misplaced started at sdf all unsteady = unsteady-network net values typing starts valued misplaced started k e kids at sdf all unsteady
 
 pub begin-at-outputs : ChannelsBeginAtOutputs
 begin-at-outputs net values typing starts k e kids order started at trees = outputs.begin-at-outputs net values typing starts order.class_ports started k e at kids trees order.wired

@@ -1,4 +1,4 @@
--- The children of a composite of SDF need and give the same at each firing.
+-- The children of a composite of SDF need and give the same at each firing, but for process networks.
 use Rattle.std.proofs.Common.{◌≡◌, inl, inr, ℕ, zero, suc, List, true, false, Option, Some, None, option_map, refl, sym, ap, subst, ◌∙◌}
 use Rattle.std.specs.List.{slice_get}
 use Rattle.std.proofs.lemmas.Bool.{both_ways}
@@ -33,6 +33,7 @@ use Rattle.pt_trees.specs.Trees.{Starts, StartsAs, IsEntity, around_in, IsTree, 
 use Rattle.pt_trees.proofs.DirectorLaws.{named-of}
 use Rattle.pt_order.proofs.Children.{child-stands}
 use Rattle.pt_typed.specs.RowLaw.{types_of_ports, AreStartedIn}
+use Rattle.pt_buildable.specs.Composites.{HasNetworkIn}
 use Rattle.pt_buildable.proofs.Steady.{IsSteadyStart, steady-started}
 
 -- ---- the director round an entity
@@ -51,21 +52,26 @@ tree-among net starts no_trees i kid at = absurd (none-some kid at)
 tree-among net starts (more_trees k ks t ts one all) zero kid at = (k, refl, subst (λ x. IsTree net (StartsAs starts) k x) (same_Some t kid at) one)
 tree-among net starts (more_trees k ks t ts one all) (suc i) kid at = tree-among net starts all i kid at
 
--- a core that a composite has at its start has rates, but for that of DE
-rated-core : (director : Director) (around : Around) (kids : List Tree) (core : tree.Core Token) → (director ≡ De → ⊥) → (composing director).IsCore around kids core → core_rates core ≡ None → ⊥
-rated-core Sdf around kids core untimed is unrated = none-some is.plan.gives (sym unrated ∙ ap core_rates is.is)
-rated-core Sr around kids core untimed is unrated = none-some (tick_gives (tick_plan around)) (sym unrated ∙ ap core_rates is.is)
-rated-core De around kids core untimed is unrated = untimed refl
-rated-core Pn around kids core untimed is unrated = absurd is
-rated-core Rendezvous around kids core untimed is unrated = absurd is
+-- a core that a composite has at its start has rates, but for that of DE, and that of PN
+unrated-core : (director : Director) (around : Around) (kids : List Tree) (core : tree.Core Token) → (director ≡ De → ⊥) → (composing director).IsCore around kids core → core_rates core ≡ None → director ≡ Pn
+unrated-core Sdf around kids core untimed is unrated = absurd (none-some is.plan.gives (sym unrated ∙ ap core_rates is.is))
+unrated-core Sr around kids core untimed is unrated = absurd (none-some (tick_gives (tick_plan around)) (sym unrated ∙ ap core_rates is.is))
+unrated-core De around kids core untimed is unrated = absurd (untimed refl)
+unrated-core Pn around kids core untimed is unrated = refl
+unrated-core Rendezvous around kids core untimed is unrated = absurd is
 
--- a composite does, and so does an actor that starts so
-steady-kid : (net : Net) (starts : Starts) {c : ℕ} {kid : Tree} → IsTree net (StartsAs starts) c kid → ((a : LibraryActor) → StartsAs starts c a → IsSteadyStart a) → ((e : NetEntity) → IsEntity net c e → IsDirectedBy e De → ⊥) → IsUnsteady kid → ⊥
-steady-kid net starts (of_actor k e a at undirected started) steady untimed (inl unsteady) = both_ways (library.is_steady a) unsteady (steady a started).steady
-steady-kid net starts (of_actor k e a at undirected started) steady untimed (inr unrated) = (steady a started).rated unrated
-steady-kid net starts (of_composite k e director kids core at by all is) steady untimed (inl unsteady) = let h : true ≡ false = unsteady in cc
-steady-kid net starts (of_composite k e director kids core at by all is) steady untimed (inr unrated) =
-    rated-core director (around_in net k e) kids core (λ de. untimed e at (by ∙ ap (λ (d : Director). Option.Some d) de)) is unrated
+-- the entity of that number is a process network
+abbrev IsNetwork : Net → ℕ → Type 0
+IsNetwork net c = (e : NetEntity) × IsEntity net c e × IsDirectedBy e Pn
+
+-- a composite that may be unsteady is one, and no actor is that starts so
+unsteady-kid : (net : Net) (starts : Starts) {c : ℕ} {kid : Tree} → IsTree net (StartsAs starts) c kid → ((a : LibraryActor) → StartsAs starts c a → IsSteadyStart a) → ((e : NetEntity) → IsEntity net c e → IsDirectedBy e De → ⊥) → IsUnsteady kid → IsNetwork net c
+unsteady-kid net starts (of_actor k e a at undirected started) steady untimed (inl unsteady) = absurd (both_ways (library.is_steady a) unsteady (steady a started).steady)
+unsteady-kid net starts (of_actor k e a at undirected started) steady untimed (inr unrated) = absurd ((steady a started).rated unrated)
+unsteady-kid net starts (of_composite k e director kids core at by all is) steady untimed (inl unsteady) = absurd (let h : true ≡ false = unsteady in cc)
+unsteady-kid net starts (of_composite k e director kids core at by all is) steady untimed (inr unrated) =
+    let network = unrated-core director (around_in net k e) kids core (λ de. untimed e at (by ∙ ap (λ (d : Director). Option.Some d) de)) is unrated in
+    (e, at, by ∙ ap (λ (d : Director). Option.Some d) network)
 
 -- a composite of DE may not stand in one of SDF
 untimed-kid : (net : Net) (values : Values) → ((cause : Code) (k : ℕ) → IsMisplaced (net_view net) values cause k → ⊥) → (k c : ℕ) (e kid : NetEntity) → IsEntity net k e → IsDirectedBy e Sdf → IsEntity net c kid → kid.parent ≡ Some k → IsDirectedBy kid De → ⊥
@@ -78,12 +84,12 @@ untimed-kid net values placed k c e kid at sdf there parent de =
       refused = timed (record { timed = ap is_de (same-director kid.director ∙ named-of kid De de); below = below });
     })
 
-pub no-unsteady : (net : Net) (values : Values) (typing : Assignment) (starts : Starts) → IsValued (net_view net) values → ((cause : Code) (k : ℕ) → IsMisplaced (net_view net) values cause k → ⊥) → AreStartedIn net values typing starts → (k : ℕ) (e : NetEntity) (kids : List Tree) → IsEntity net k e → IsDirectedBy e Sdf →
-    AreTrees net (StartsAs starts) (children_of net.entities.items k) kids → HasUnsteady kids → ⊥
-no-unsteady net values typing starts valued placed started k e kids at sdf all unsteady =
+pub unsteady-network : (net : Net) (values : Values) (typing : Assignment) (starts : Starts) → IsValued (net_view net) values → ((cause : Code) (k : ℕ) → IsMisplaced (net_view net) values cause k → ⊥) → AreStartedIn net values typing starts → (k : ℕ) (e : NetEntity) (kids : List Tree) → IsEntity net k e → IsDirectedBy e Sdf →
+    AreTrees net (StartsAs starts) (children_of net.entities.items k) kids → HasUnsteady kids → HasNetworkIn net k
+unsteady-network net values typing starts valued placed started k e kids at sdf all unsteady =
     let w = tree-among net starts all unsteady.0 unsteady.1 unsteady.2 in
     let child = child-stands k net.entities.items unsteady.0 w.0 w.1 in
-    steady-kid net starts w.2 (λ a is. (
+    let network = unsteady-kid net starts w.2 (λ a is. (
     let s = started w.0 a is in
     let same : s.0 ≡ child.0 = same_Some s.0 child.0 (sym s.1 ∙ child.1) in
     let from = s.3.started_from in
@@ -91,4 +97,6 @@ no-unsteady net values typing starts valued placed started k e kids at sdf all u
     let parent : from.entity.parent ≡ Some k = ap (λ (x : NetEntityTree). x.parent) view ∙ ap (λ (x : NetEntity). x.parent) same ∙ child.2 in
     steady-started net values (types_of_ports typing) w.0 valued (λ cause. placed cause w.0) s.3.params from (ap (director_over (net_view net)) parent ∙ over-sdf net k e at sdf) a s.3.is)) (λ x there de. (
     let same : x ≡ child.0 = same_Some x child.0 (sym there ∙ child.1) in
-    untimed-kid net values placed k w.0 e x at sdf there (ap (λ (y : NetEntity). y.parent) same ∙ child.2) de)) unsteady.3
+    untimed-kid net values placed k w.0 e x at sdf there (ap (λ (y : NetEntity). y.parent) same ∙ child.2) de)) unsteady.3 in
+    let same : network.0 ≡ child.0 = same_Some network.0 child.0 (sym network.1 ∙ child.1) in
+    record { number = w.0; entity = network.0; at = network.1; within = ap (λ (y : NetEntity). y.parent) same ∙ child.2; network = network.2 }

@@ -1,12 +1,12 @@
--- Which composites of a net are built: those with the director SDF, SR or DE.
+-- Which composites of a net are built: those with the director SDF, SR, DE or PN, but for two kinds of process networks.
 use Rattle.std.specs.Prelude.{◌≡◌, ℕ, Bool, true, false, Option, Some, None}
 use Rattle.pt_document.specs.declared.classes.Director.{Director}
 use Rattle.pt_document.specs.declared.classes.Director.TheVariants.{Sdf, Pn, Rendezvous, Sr, De}
 use Rattle.pt_net.specs.declared.net.Net.{Net}
 use Rattle.pt_net.specs.declared.net.NetEntity.{NetEntity}
 use Rattle.pt_scopes.specs.Scopes.{is_composite_class}
-use Rattle.pt_trees.specs.Directors.{director_of}
-use Rattle.pt_trees.specs.Trees.{IsEntity}
+use Rattle.pt_trees.specs.Directors.{director_of, IsDirectedBy}
+use Rattle.pt_trees.specs.Trees.{IsEntity, around_in}
 
 -- composites of this director are built
 abbrev pub is_built : Option Director → Bool
@@ -14,7 +14,7 @@ is_built None = false
 is_built (Some Sdf) = true
 is_built (Some Sr) = true
 is_built (Some De) = true
-is_built (Some Pn) = false
+is_built (Some Pn) = true
 is_built (Some Rendezvous) = false
 
 -- a composite with a director that isn't built, or a Modal entity
@@ -31,3 +31,27 @@ pub record HasOtherComposite (net : Net) : Type 0 where
 -- each composite of the net has one of these directors, and none is a Modal entity
 abbrev pub HasBuiltComposites : Net → Type 0
 HasBuiltComposites net = (k : ℕ) (e : NetEntity) → IsEntity net k e → is_composite_class e.class ≡ true → is_built (director_of e) ≡ true
+
+-- A process network is a composite of PN. What it states of its channels and ports isn't known to its core yet: of one of these the director states a capacity, or a port a rate.
+pub record HasStatedNetwork (net : Net) : Type 0 where
+  pub number : ℕ
+  pub entity : NetEntity
+  pub at : IsEntity net number entity
+  pub network : IsDirectedBy entity Pn
+  pub stated : (around_in net number entity).plain ≡ false
+
+-- a process network stands in this composite, be it in a transparent one there
+pub record HasNetworkIn (net : Net) (k : ℕ) : Type 0 where
+  pub number : ℕ
+  pub entity : NetEntity
+  pub at : IsEntity net number entity
+  pub within : entity.parent ≡ Some k
+  pub network : IsDirectedBy entity Pn
+
+-- so it is of some composite of SDF, which asks for the rates of what is within
+pub record HasNetworkUnderSdf (net : Net) : Type 0 where
+  pub number : ℕ
+  pub entity : NetEntity
+  pub at : IsEntity net number entity
+  pub directed : IsDirectedBy entity Sdf
+  pub inner : HasNetworkIn net number

@@ -20,7 +20,7 @@ pub fn tops_have_iterations()
     ensures { TopsHaveIterations }
 {}
 
-/// A net has a composite that isn't built, or all its composites have the director SDF, SR or DE.
+/// A net has a Modal entity or a composite of Rendezvous, or all its composites have the director SDF, SR, DE or PN.
 pub fn composites_are_built_or_not()
     ensures { CompositesAreBuiltOrNot }
 {}
@@ -35,7 +35,7 @@ pub fn composites_have_channels()
     ensures { CompositesHaveChannels }
 {}
 
-/// Under SDF each child needs and gives the same at each firing.
+/// Under SDF each child needs and gives the same at each firing, unless a process network is among them.
 pub fn children_are_steady()
     ensures { ChildrenAreSteady }
 {}

@@ -6,7 +6,7 @@ use Rattle.pt_meaning.specs.Basics.{Tag, Streams}
 use Rattle.pt_meaning.specs.Tag.{origin}
 use Rattle.pt_meaning.specs.Schedule.{portions, suffice, if_more, token_or_none, tokens_at, lists_last, first_event, is_tag, listed, event_at, events_at, Due, Never, At, Past, due_after, lesser, in_time, fire_until, de_turn_at}
 use Rattle.pt_meaning.specs.NodeFacts.{next_of}
-use Rattle.pt_meaning.specs.Job.{Fire}
+use Rattle.pt_meaning.specs.Job.{Deadlock, Fire, Ends}
 use Rattle.pt_value.specs.declared.token.Token.{Token}
 use Rattle.pt_agenda.specs.Events.{Event, tokens_in, events_of}
 use Rattle.pt_datatypes.specs.Datatype.{Datatype}
@@ -14,7 +14,7 @@ use Rattle.pt_datatypes.specs.Order.{IsBelow}
 use Rattle.pt_library.specs.declared.library_actor.LibraryActor.{LibraryActor}
 use Rattle.pt_library.specs.LibraryActor.{rows}
 use Rattle.pt_trees.specs.declared.top.Top.{Top}
-use Rattle.pt_trees.specs.declared.top.Top.TheVariants.{Sdf, Sr, De}
+use Rattle.pt_trees.specs.declared.top.Top.TheVariants.{Sdf, Sr, De, Once}
 use Rattle.pt_trees.specs.Top.{ticks_of, supply_of, IsWhole}
 use Rattle.pt_trees.specs.Run.{schedule}
 use Rattle.pt_kinds.specs.Signature.{Signatures, AreOf, AreAllOf}
@@ -106,6 +106,16 @@ due-of ts stop E (At t) tag X a e = by-time (in_time stop t) e
     by-time true g = let same : events_at t E ≡ X = cc in subst (λ v. AreAllOf IsTokenOf ts v) same (events-length t E ∙ a.0, events-of ts t E a.1)
     by-time false g = absurd (cc)
 
+-- ---- one firing
+
+-- the turn that fires has all tokens
+once-of : (ts : List Datatype) (Y X : Streams Token) (tag : Tag) → Fire origin Y ≡ Fire tag X → AreAllOf IsTokenOf ts Y → AreAllOf IsTokenOf ts X
+once-of ts Y X tag e h = let same : Y ≡ X = cc in subst (λ v. AreAllOf IsTokenOf ts v) same h
+
+-- and no other fires
+never-of : (ts : List Datatype) (X : Streams Token) (tag : Tag) → Ends Deadlock ≡ Fire tag X → AreAllOf IsTokenOf ts X
+never-of ts X tag e = absurd (cc)
+
 -- ---- a job
 
 turns-typed : (sigs : Signatures Datatype) (j : Top) → IsWhole j → AreAllOf IsTokenOf (sigs []).places (map present (supply_of j)) → AreTypedTurns {A = LibraryActor} IsTokenOf IsBelow IsTypedActor rows sigs (schedule j)
@@ -121,6 +131,8 @@ turns-typed sigs (Sr j) whole a n last top tag X h =
 turns-typed sigs (De j) whole a n last top tag X h =
     let E : List (List Event) = events_of j.inputs.items in
     due-of (sigs []).places j.stop E (lesser (first_event last E) (due_after (next_of rows top) last)) tag X a h
+turns-typed sigs (Once j) whole a zero last top tag X h = let ts = (sigs []).places in once-of ts j.inputs.items X tag h (subst (λ v. AreAllOf IsTokenOf ts v) (lists-all j.inputs.items) a)
+turns-typed sigs (Once j) whole a (suc n) last top tag X h = never-of (sigs []).places X tag h
 
 pub nets-keep-types : NetsKeepTypes
 nets-keep-types net typing starts top wired up meet is j whole a m k =

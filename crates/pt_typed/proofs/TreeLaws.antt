@@ -37,6 +37,7 @@ use Rattle.pt_plan.specs.Unfed as own_inputs
 use Rattle.pt_plan.proofs.UnfedLaws.{unfed-below}
 use Rattle.pt_node.specs.View.{Tree}
 use Rattle.pt_trees.specs.Sdf.{IsInsideOf}
+use Rattle.pt_trees.specs.Pn.{pn_plan}
 use Rattle.pt_trees.specs.Directors.{composing}
 use Rattle.pt_trees.specs.Rates.{rates_of}
 use Rattle.pt_trees.specs.Trees.{Starts, StartsAs, around_in, IsTree, of_actor, of_composite, AreTrees, no_trees, more_trees}
@@ -44,7 +45,7 @@ use Rattle.pt_trees.proofs.DirectorLaws.{is-directed}
 use Rattle.pt_kinds.specs.Signature.{Signatures, AreOf}
 use Rattle.pt_typed.specs.TokenTypes.{IsTokenOf}
 use Rattle.pt_typed.specs.TypedActor.{MeetsRow, IsTypedActor}
-use Rattle.pt_kinds.specs.TypedTree.{kind_of, kinds_from, kind_before, kinds_at, kinds_in, AreSized, AreFed, IsTypedNet, IsTypedSdf, IsTypedCore, IsTypedNode, AreTypedNodes}
+use Rattle.pt_kinds.specs.TypedTree.{kind_of, kinds_from, kind_before, kinds_at, kinds_in, AreSized, AreFed, IsTypedNet, IsTypedSdf, IsTypedPn, IsTypedCore, IsTypedNode, AreTypedNodes}
 use Rattle.pt_typed.specs.NetTypes.{number_if, port_numbers, source_type, place_type, TypesGoUp, types_below, IsWired}
 use Rattle.pt_typed.specs.TypedNet.{MeetRows, TreesAreTyped}
 use Rattle.pt_kinds.proofs.StreamLaws.{all-mono}
@@ -221,12 +222,20 @@ module _ (net : Net) (typing : Assignment) (starts : Starts) (wired : IsWired ne
       fed = subst (λ cs. AreFed {A = LibraryActor} IsTokenOf IsBelow IsTypedActor sigs cs (kinds_from sigs [] 0 places)) (append-nil ending) (fed-of [] tt);
     }
 
+    -- a process network with the first tokens on these channels
+    pn-typed : IsTypedPn {A = LibraryActor} IsTokenOf IsBelow IsTypedActor sigs (length (list_of (nodes_of kids))) (pn_plan (around_in net k e)) (first_held rows kids ending)
+    pn-typed = record {
+      typed_net = tick-typed;
+      room = omega (arith, held-length kids ending, ending-count);
+      held = subst (λ cs. AreOf IsTokenOf (kinds_from sigs [] 0 places) (first_held rows kids cs)) (append-nil ending) (held-of [] tt);
+    }
+
     -- so it is with the core that a director makes
     core-typed : (by : Director) (c : Core Token) → (composing by).IsCore (around_in net k e) kids c → IsTypedCore {A = LibraryActor} IsTokenOf IsBelow IsTypedActor sigs (length (list_of (nodes_of kids))) c
     core-typed Sdf c has = subst (λ v. IsTypedCore {A = LibraryActor} IsTokenOf IsBelow IsTypedActor sigs (length (list_of (nodes_of kids))) v) (sym has.is) (sdf-typed has.inside has.plan has.is_inside has.planned)
     core-typed Sr c has = subst (λ v. IsTypedCore {A = LibraryActor} IsTokenOf IsBelow IsTypedActor sigs (length (list_of (nodes_of kids))) v) (sym has.is) tick-typed
     core-typed De c has = subst (λ v. IsTypedCore {A = LibraryActor} IsTokenOf IsBelow IsTypedActor sigs (length (list_of (nodes_of kids))) v) (sym has.is) tick-typed
-    core-typed Pn c has = absurd has
+    core-typed Pn c has = subst (λ v. IsTypedCore {A = LibraryActor} IsTokenOf IsBelow IsTypedActor sigs (length (list_of (nodes_of kids))) v) (sym has.is) pn-typed
     core-typed Rendezvous c has = absurd has
 
   -- ---- the tree
