@@ -32,9 +32,6 @@ left-step numbers items k d short is = ap (λ v. told_below numbers (all_of v)) 
 pub child-told : (numbers : Body → List ℕ) (items : List Node) (k : ℕ) (d : Node) (had has whole : List (List ℕ × ℕ)) → k < length items → d ≡ get_or items k d → has ≡ had ++ told_in numbers (shown_node d) → had ++ left_of numbers items k ≡ whole → has ++ left_of numbers items (k + 1) ≡ whole
 child-told numbers items k d had has whole short is put h = ap (λ zs. zs ++ left_of numbers items (k + 1)) put ∙ append_assoc had (told_in numbers (shown_node d)) (left_of numbers items (k + 1)) ∙ ap (λ r. had ++ r) (sym (left-step numbers items k d short is)) ∙ h
 
-pub children-told : (numbers : Body → List ℕ) (items : List Node) (k : ℕ) (had whole : List (List ℕ × ℕ)) → length items ≤ k → had ++ left_of numbers items k ≡ whole → had ≡ whole
-children-told numbers items k had whole past h = sym (append-nil had) ∙ ap (λ v. had ++ told_below numbers (all_of (map shown v))) (sym (drop-past items k past)) ∙ h
-
 -- ---- children with numbers
 
 -- those from number k on

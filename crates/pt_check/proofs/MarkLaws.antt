@@ -32,12 +32,6 @@ not-both a b c d apart = decided (nat_eq a b) (nat_eq c d) refl refl
     decided true false e f = ap₂ (λ x y. x && y) e f
     decided true true e f = absurd (apart (eqb-true a b e) (eqb-true c d f))
 
--- the end is at no port that has a mark
-pub unmarked : (es : List End) (e : End) (rows : List (List Bool)) → AreMarks es rows → (e.port < length (get_or rows e.entity []) → ⊥) → AreMarks (es ++ e ∷ []) rows
-unmarked es e rows are far k i short =
-    let apart : e.entity ≡ k → e.port ≡ i → ⊥ = λ p q. far (subst (λ n. n < length (get_or rows e.entity [])) (sym q) (subst (λ m. i < length (get_or rows m [])) (sym p) short)) in
-    are k i short ∙ sym (any-elsewhere k i es e (not-both e.entity k e.port i apart))
-
 module _ (es : List End) (e : End) (rows : List (List Bool)) (are : AreMarks es rows) (there : e.entity < length rows) (port : e.port < length (get_or rows e.entity [])) where
   abbrev own_row : List Bool
   own_row = get_or rows e.entity []

@@ -1,7 +1,6 @@
 -- What is told by marks is what is told by channels.
-use Rattle.std.proofs.Common.{◌≡◌, ℕ, zero, suc, ◌+◌, ◌<◌, ◌≤◌, List, [], ◌∷◌, ◌++◌, Bool, false, ◌||◌, length, map, get_or, drop, flat_map, refl, sym, ap, ap₂, subst, ◌∙◌, append_assoc, append-nil, add-one, arith}
+use Rattle.std.proofs.Common.{◌≡◌, ℕ, zero, suc, ◌+◌, ◌<◌, ◌≤◌, List, [], ◌∷◌, ◌++◌, Bool, false, ◌||◌, length, map, get_or, drop, flat_map, refl, sym, ap, ap₂, subst, ◌∙◌, add-one, arith}
 use Rattle.std.specs.List.{enumerate_from}
-use Rattle.std.proofs.lemmas.List.{length-map}
 use Rattle.pt_typing.specs.Least.{Assignment}
 use Rattle.pt_net.specs.declared.net.Channel.{Channel}
 use Rattle.pt_net.specs.declared.net.NetEntity.{NetEntity}
@@ -13,6 +12,7 @@ use Rattle.pt_check.specs.Marked.{marked_types, all_marked}
 
 -- ---- loops
 
+-- the items from one on are this one and those behind it
 drop-here : {A : Type 0} (xs : List A) (i : ℕ) (x : A) → i < length xs → x ≡ get_or xs i x → drop i xs ≡ x ∷ drop (suc i) xs
 drop-here [] i x short is = absurd (omega (arith, short))
 drop-here (y ∷ ys) zero x short is = ap (λ z. z ∷ ys) (sym is)
@@ -31,28 +31,6 @@ drop-past (y ∷ ys) (suc i) h = drop-past ys i (omega (arith, h))
 abbrev pub rest_of : {X Y : Type 0} → (ℕ × X → List Y) → List X → ℕ → List Y
 rest_of f xs i = flat_map f (enumerate_from i (drop i xs))
 
--- one item gives its part
-pub rest-step : {X Y : Type 0} (f : ℕ × X → List Y) (xs : List X) (i : ℕ) (x : X) → i < length xs → x ≡ get_or xs i x → rest_of f xs i ≡ f (i, x) ++ rest_of f xs (i + 1)
-rest-step f xs i x short is = ap (λ ys. flat_map f (enumerate_from i ys)) (drop-at xs i x short is)
-
--- so it moves from what is left to what is there
-pub moved : {X Y : Type 0} (f : ℕ × X → List Y) (xs : List X) (i : ℕ) (x : X) (had has whole : List Y) → i < length xs → x ≡ get_or xs i x → has ≡ had ++ f (i, x) → had ++ rest_of f xs i ≡ whole → has ++ rest_of f xs (i + 1) ≡ whole
-moved f xs i x had has whole short is put h = ap (λ zs. zs ++ rest_of f xs (i + 1)) put ∙ append_assoc had (f (i, x)) (rest_of f xs (i + 1)) ∙ ap (λ r. had ++ r) (sym (rest-step f xs i x short is)) ∙ h
-
--- all are there
-pub all-moved : {X Y : Type 0} (f : ℕ × X → List Y) (xs : List X) (i : ℕ) (had whole : List Y) → length xs ≤ i → had ++ rest_of f xs i ≡ whole → had ≡ whole
-all-moved f xs i had whole past h = sym (append-nil had) ∙ ap (λ ys. had ++ flat_map f (enumerate_from i ys)) (sym (drop-past xs i past)) ∙ h
-
--- ---- ports
-
--- a port that is told is put behind the others
-pub put-told : {A T : Type 0} (view : A → T) (had has : List A) (a : A) (t : T) → has ≡ had ++ a ∷ [] → view a ≡ t → map view has ≡ map view had ++ t ∷ []
-put-told view had has a t put is = ap (map view) put ∙ map-snoc view had a ∙ ap (λ x. map view had ++ x ∷ []) is
-  where
-    map-snoc : {A B : Type 0} (f : A → B) (xs : List A) (x : A) → map f (xs ++ x ∷ []) ≡ map f xs ++ f x ∷ []
-    map-snoc f [] x = refl
-    map-snoc f (y ∷ ys) x = ap (λ zs. f y ∷ zs) (map-snoc f ys x)
-
 -- ---- marks for channels
 
 -- functions that agree at the numbers of a list give the same
@@ -62,9 +40,11 @@ flat-same f g n (x ∷ xs) same =
     let here : f (n, x) ≡ g (n, x) = subst (λ k. f (k, x) ≡ g (k, x)) (omega arith) (same 0 x (omega arith) refl) in
     ap₂ (λ ys zs. ys ++ zs) here (flat-same f g (n + 1) xs (λ i y short is. subst (λ k. f (k, y) ≡ g (k, y)) (omega arith) (same (suc i) y (omega (arith, short)) is)))
 
+-- numbered from the first
 all-same : {X Y : Type 0} (f g : ℕ × X → List Y) (xs : List X) → ((i : ℕ) (x : X) → i < length xs → x ≡ get_or xs i x → f (i, x) ≡ g (i, x)) → flat_map f (enumerate_from 0 xs) ≡ flat_map g (enumerate_from 0 xs)
 all-same f g xs same = flat-same f g 0 xs (λ i x short is. subst (λ k. f (k, x) ≡ g (k, x)) (omega arith) (same i x short is))
 
+-- the row of an entity has a mark for each of its ports
 same-lists : (es : List NetEntity) (rows : List (List Bool)) (k : ℕ) (e : NetEntity) → AreSized es rows → k < length es → e ≡ get_or es k e → length (get_or rows k []) ≡ length e.ports.items
 same-lists [] rows k e sized short is = absurd (omega (arith, short))
 same-lists (x ∷ es) [] k e sized short is = absurd (cc)
@@ -80,7 +60,3 @@ module _ (channels : List Channel) (typing : Assignment) (es : List NetEntity) (
 
   pub marks-tell : all_marked typing es rows ≡ flat_map (entity_types channels typing) (enumerate_from 0 es)
   marks-tell = all-same _ _ es entity-same
-
--- as many rows as entities
-pub rows-counted : (es : List NetEntity) (rows : List (List Bool)) → AreSized es rows → length rows ≡ length es
-rows-counted es rows sized = sym (length-map rows length) ∙ ap length sized ∙ length-map es (λ (e : NetEntity). length e.ports.items)

@@ -22,11 +22,12 @@ abbrev pub repetitions_of : Body → List ℕ
 repetitions_of (Actor held) = []
 repetitions_of (Composite director) = core_repetitions (core_of director)
 
--- the depth of each child: none is told yet, since a core of DE keeps them to itself, and no other director has any
+-- the depth of each child: DE plans it, and no other director does
 abbrev pub director_depths : Director → List ℕ
 director_depths (First sdf) = []
 director_depths (Other (First sr)) = []
-director_depths (Other (Other de)) = []
+director_depths (Other (Other (First de))) = de.roles.depths
+director_depths (Other (Other (Other pn))) = []
 
 abbrev pub depths_of : Body → List ℕ
 depths_of (Actor held) = []

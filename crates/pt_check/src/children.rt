@@ -4,6 +4,7 @@ ghost use Rattle.pt_check.specs.Children as children;
 ghost use Rattle.pt_check.specs.Children.{paths_of, told_in};
 
 use pt_core::Either;
+use pt_directors::Director;
 use pt_node::{Body, Node};
 use pt_value::Text;
 use std::alloc::{AllocError, Global};
@@ -18,12 +19,29 @@ fn repetitions_of(body: &Body) -> &[usize]
     }
 }
 
-/// The depth of each child of a composite, under DE. A core of DE doesn't tell them yet.
+/// The depth of each child of a composite with this director, under DE.
+fn director_depths(director: &Director) -> &[u32]
+    ensures { result.now ≡ children.director_depths director.now }
+{
+    match director {
+        Either::First(_) => &[],
+        Either::Other(other) => match other {
+            Either::First(_) => &[],
+            Either::Other(other) => match other {
+                Either::First(core) => core.depths(),
+                Either::Other(_) => &[],
+            },
+        },
+    }
+}
+
+/// The depth of each child of a composite, under DE.
 fn depths_of(body: &Body) -> &[u32]
     ensures { result.now ≡ children.depths_of body.now }
 {
     match body {
-        Body::Composite(Either::First(_) | Either::Other(_)) | Body::Actor(_) => &[],
+        Body::Composite(director) => director_depths(director),
+        Body::Actor(_) => &[],
     }
 }
 
