@@ -2,7 +2,7 @@
 use Rattle.std.proofs.Common.{◌≡◌, ◌⊎◌, inl, inr, ℕ, ◌+◌, List, [], ◌∷◌, length, map, filter, refl, sym, ap, subst, ◌∙◌, Bool, true, false, cond, arith}
 use Rattle.std.specs.Prelude.{Option, Some, None, IsSome, option_map, count_by, nat_eq, ◌&&◌, bytes_eq, codes, Vec, if◌then◌else◌}
 use Rattle.std.specs.Global.{Global}
-use Rattle.std.proofs.lemmas.List.{length-map}
+use Rattle.std.proofs.lemmas.List.{length-map, length-replicate}
 use Rattle.std.proofs.lemmas.Option.{none-some, same_Some}
 use Rattle.std.proofs.lemmas.List.Recursion.{is_count_by}
 use Rattle.std.specs.Option.{is_none}
@@ -36,6 +36,7 @@ use Rattle.pt_core.specs.declared.either.Either.TheVariants.{First, Other}
 use Rattle.pt_sdf.specs.Clauses as sdf
 use Rattle.pt_sr.specs.Clauses as sr
 use Rattle.pt_de_laws.specs.DeActs as de
+use Rattle.pt_pn_laws.specs.PnActs as pn
 use Rattle.pt_directors.specs.Directors.{Director as DirectorState}
 use Rattle.pt_node.specs.declared.body.Body.{Body}
 use Rattle.pt_node.specs.declared.body.Body.TheVariants.{Actor, Composite}
@@ -53,6 +54,7 @@ use Rattle.pt_trees.specs.Start.{IsBranched, HasLeaves, AllHaveLeaves, AreUntold
 use Rattle.pt_agenda.specs.Events as agenda
 use Rattle.pt_agenda.specs.Events.{AllAscend, events_of, tokens_in}
 use Rattle.pt_trees.specs.declared.top.DeJob.{DeJob}
+use Rattle.pt_trees.specs.declared.top.OnceJob.{OnceJob}
 use Rattle.pt_trees.specs.declared.top.SdfJob.{SdfJob}
 use Rattle.pt_trees.specs.declared.top.SrJob.{SrJob}
 use Rattle.pt_trees.specs.declared.top.Top.{Top}
@@ -78,7 +80,7 @@ top-directed net values e placed at is =
 -- a core that an entity may have, with so many own inputs
 abbrev pub IsCoreOf : NetEntity → tree.Core Token → Type 0
 IsCoreOf e (tree.Sdf p X) = IsDirectedBy e Sdf × (length p.takes ≡ count_by is_input e.ports.items)
-IsCoreOf e (tree.Pn p X) = ⊥
+IsCoreOf e (tree.Pn p X) = IsDirectedBy e Pn × (length p.takes ≡ count_by is_input e.ports.items)
 IsCoreOf e (tree.Sr p) = IsDirectedBy e Sr × (p.inputs ≡ count_by is_input e.ports.items)
 IsCoreOf e (tree.De p) = IsDirectedBy e De × (p.inputs ≡ count_by is_input e.ports.items)
 IsCoreOf e (tree.Rv p X) = ⊥
@@ -98,7 +100,7 @@ core-made : (by : Director) (net : Net) (k : ℕ) (e : NetEntity) (kids : List T
 core-made Sdf net k e kids c directed has = subst (λ v. IsCoreOf e v) (sym has.is) (directed, has.planned.takes ∙ has.is_inside.inputs)
 core-made Sr net k e kids c directed has = subst (λ v. IsCoreOf e v) (sym has.is) (directed, refl)
 core-made De net k e kids c directed has = subst (λ v. IsCoreOf e v) (sym has.is) (directed, refl)
-core-made Pn net k e kids c directed has = absurd has
+core-made Pn net k e kids c directed has = subst (λ v. IsCoreOf e v) (sym has.is) (directed, length-replicate (count_by is_input e.ports.items) 1)
 core-made Rendezvous net k e kids c directed has = absurd has
 
 core-at : {net : Net} {starts : Starts} {k : ℕ} {s : Shown} (values : Values) → IsPlaced net values → k ≡ 0 → IsBuilt net starts k s → HasCore net s
@@ -162,7 +164,7 @@ core-is : (net : Net) (s : Shown) (has : HasCore net s) (d : DirectorState) → 
 unfolding core-in
 core-is net (Branch f ks) has d e = subst (λ v. IsCoreOf has.entity v) (ap (core-in has.core) (sym has.node ∙ ap (λ b. node_with f.past b (nodes_of ks)) e)) has.is
 
--- under SDF no token may be absent
+-- under a director other than SR no token may be absent
 class-director : List ℕ → Option Director
 class-director class = option_map (λ (r : DirectorClass). r.director) (director_row class)
 
@@ -170,19 +172,17 @@ sr-director : class-director (codes "SR") ≡ Some Sr
 unfolding class-director director_row directors
 sr-director = refl
 
-sdf-full : (d : Option NetDirector) → named d ≡ Some Sdf → has_ticks (option_map director_view d) ≡ false
+full-under : (by : Director) → (Sr ≡ by → ⊥) → (d : Option NetDirector) → named d ≡ Some by → has_ticks (option_map director_view d) ≡ false
 unfolding class-director
-sdf-full None e = refl
-sdf-full (Some d) e = by_class (bytes_eq d.class (codes "SR")) refl
+full-under by other None e = refl
+full-under by other (Some d) e = by-class (bytes_eq d.class (codes "SR")) refl
   where
-    by_class : (b : Bool) → bytes_eq d.class (codes "SR") ≡ b → bytes_eq d.class (codes "SR") ≡ false
-    by_class false is = is
-    by_class true is =
-        let both : Some Sr ≡ Some Sdf = sym sr-director ∙ ap class-director (sym ((bytes_eq-Decides d.class (codes "SR")).0 is)) ∙ e in
-        absurd (cc)
+    by-class : (b : Bool) → bytes_eq d.class (codes "SR") ≡ b → bytes_eq d.class (codes "SR") ≡ false
+    by-class false is = is
+    by-class true is = absurd (other (same_Some Sr by (sym sr-director ∙ ap class-director (sym ((bytes_eq-Decides d.class (codes "SR")).0 is)) ∙ e)))
 
-pub sdf-present : (net : Net) (e : NetEntity) → IsEntity net 0 e → IsDirectedBy e Sdf → may_lack (net_view net) ≡ false
-sdf-present net e at sdf = ap (λ o. ticks_at o) (view-at entity_view net.entities.items 0 e at) ∙ sdf-full e.director (named-of e Sdf sdf)
+present-under : (by : Director) → (Sr ≡ by → ⊥) → (net : Net) (e : NetEntity) → IsEntity net 0 e → IsDirectedBy e by → may_lack (net_view net) ≡ false
+present-under by other net e at directed = ap (λ o. ticks_at o) (view-at entity_view net.entities.items 0 e at) ∙ full-under by other e.director (named-of e by directed)
 
 -- under DE the net is timed
 
@@ -209,9 +209,9 @@ unfolding director_row
 de-has-time None e = absurd (none-some De e)
 de-has-time (Some d) e = (bytes_eq-Decides d.class (codes "DE")).1 (row-name De (codes "DE") directors d.class de-named e)
 
-pub de-timed : (net : Net) (s : Shown) (has : HasCore net s) (st : de.State) → body_of s ≡ Composite (Other (Other st)) → is_timed (net_view net) ≡ true
+pub de-timed : (net : Net) (s : Shown) (has : HasCore net s) (st : de.State) → body_of s ≡ Composite (Other (Other (First st))) → is_timed (net_view net) ≡ true
 de-timed net s has st e =
-    let by = (core-is net s has (Other (Other st)) e).0 in
+    let by = (core-is net s has (Other (Other (First st))) e).0 in
     ap (λ o. time_at o) (view-at entity_view net.entities.items 0 has.entity has.at) ∙ de-has-time has.entity.director (named-of has.entity De by)
 
 -- ---- how long the top lasts
@@ -232,7 +232,10 @@ sr-iterates net values s doc valued has st e = iterates net values has.entity do
 -- ---- the job of the top
 
 pub sdf-top : (net : Net) (s : Shown) (has : HasCore net s) (st : sdf.State) → body_of s ≡ Composite (First st) → may_lack (net_view net) ≡ false
-sdf-top net s has st e = sdf-present net has.entity has.at (core-is net s has (First st) e).0
+sdf-top net s has st e = present-under Sdf (λ same. (let no : Sr ≡ Sdf = same in cc)) net has.entity has.at (core-is net s has (First st) e).0
+
+pub pn-top : (net : Net) (s : Shown) (has : HasCore net s) (st : pn.State) → body_of s ≡ Composite (Other (Other (Other st))) → may_lack (net_view net) ≡ false
+pn-top net s has st e = present-under Pn (λ same. (let no : Sr ≡ Pn = same in cc)) net has.entity has.at (core-is net s has (Other (Other (Other st))) e).0
 
 pub sdf-fits : (net : Net) (values : Values) (s : Shown) (has : HasCore net s) (st : sdf.State) (j : SdfJob) → body_of s ≡ Composite (First st) → AreSupplied (net_view net) values (supply_of (top.Sdf j)) → j.takes ≡ st.plan.takes → IsJobFor (top.Sdf j) (node_of s)
 sdf-fits net values (Branch f ks) has st j e supplied takes =
@@ -248,13 +251,20 @@ sr-fits net values (Branch f ks) has st j e supplied =
     sym (length-map j.inputs.items (λ (ts : Vec (Option Token) Global). ts.items)) ∙ lists-counted net values has.entity (supply_of (top.Sr j)) has.at supplied ∙ sym is.1 in
     subst (λ b. IsJobFor (top.Sr j) (node_with f.past b (nodes_of ks))) (sym e) long
 
-pub de-fits : (net : Net) (values : Values) (s : Shown) (has : HasCore net s) (st : de.State) (j : DeJob) → body_of s ≡ Composite (Other (Other st)) → AreSupplied (net_view net) values (supply_of (top.De j)) → AllAscend j.inputs.items → IsJobFor (top.De j) (node_of s)
+pub de-fits : (net : Net) (values : Values) (s : Shown) (has : HasCore net s) (st : de.State) (j : DeJob) → body_of s ≡ Composite (Other (Other (First st))) → AreSupplied (net_view net) values (supply_of (top.De j)) → AllAscend j.inputs.items → IsJobFor (top.De j) (node_of s)
 de-fits net values (Branch f ks) has st j e supplied ascend =
-    let is = core-is net (Branch f ks) has (Other (Other st)) e in
+    let is = core-is net (Branch f ks) has (Other (Other (First st))) e in
     let E : List (List agenda.Event) = events_of j.inputs.items in
     let long : length j.inputs.items ≡ st.plan.inputs =
     sym (length-map j.inputs.items (λ (input : agenda.Input). input.items)) ∙ sym (length-map E tokens_in) ∙ lists-counted net values has.entity (supply_of (top.De j)) has.at supplied ∙ sym is.1 in
     subst (λ b. IsJobFor (top.De j) (node_with f.past b (nodes_of ks))) (sym e) (long, ascend)
+
+pub pn-fits : (net : Net) (values : Values) (s : Shown) (has : HasCore net s) (st : pn.State) (j : OnceJob) → body_of s ≡ Composite (Other (Other (Other st))) → AreSupplied (net_view net) values (supply_of (top.Once j)) → IsJobFor (top.Once j) (node_of s)
+pn-fits net values (Branch f ks) has st j e supplied =
+    let is = core-is net (Branch f ks) has (Other (Other (Other st))) e in
+    let long : length j.inputs.items ≡ length st.network.plan.takes =
+    sym (length-map j.inputs.items (λ (ts : List Token). map Some ts)) ∙ lists-counted net values has.entity (supply_of (top.Once j)) has.at supplied ∙ sym is.1 in
+    subst (λ b. IsJobFor (top.Once j) (node_with f.past b (nodes_of ks))) (sym e) long
 
 -- ---- library actors have no children
 

@@ -14,6 +14,7 @@ use Rattle.pt_library.specs.declared.library_actor.LibraryActor.{LibraryActor}
 use Rattle.pt_node.specs.View.{Tree}
 use Rattle.pt_trees.specs.Composite.{trees_of}
 use Rattle.pt_trees.specs.De.{IsDeWired}
+use Rattle.pt_trees.specs.Pn.{IsPnWired}
 use Rattle.pt_trees.specs.Directors.{named, director_of, IsDirectedBy, composing}
 use Rattle.pt_trees.specs.Trees.{IsEntity, IsUndirected, around_in, Starts, StartsAs, AreTrees}
 use Rattle.pt_trees.specs.Built as built
@@ -23,7 +24,7 @@ use Rattle.pt_order.specs.Laws.{IsNetOfDocument}
 use Rattle.pt_buildable.specs.Composites.{is_built, HasOtherComposite}
 use Rattle.pt_buildable.proofs.Joined.{tops-there, entities-shallow, directors-of-composites, children-steady, composites-built, nets-ordered, begin-at-outputs}
 use Rattle.pt_elaboration.specs.Resolved.{IsStarted}
-use Rattle.pt_elaboration.specs.Unbuilt.{IsUnbuilt, other, unstarted, malformed}
+use Rattle.pt_elaboration.specs.Unbuilt.{IsUnbuilt, other, stated, unrated, unstarted, malformed}
 use Rattle.pt_model.proofs.TypedLaws.{started-in, directed-top}
 
 -- ---- composites of other directors
@@ -75,13 +76,22 @@ module _ (net : Net) (values : Values) (typing : Assignment) (starts : Starts) (
         malformed k e De kids at by all (λ wired. bad (record { wired = wired; begin = begin-at-outputs net values typing starts k e kids order (started-in net values typing starts started.started) at all })))
   ]
 
+  -- a process network that doesn't fit its director states something, or has other places than its children
+  unfit-network : (k : ℕ) (e : NetEntity) (kids : List Tree) → IsEntity net k e → IsDirectedBy e Pn → AreTrees net (StartsAs starts) (children_of net.entities.items k) kids → (IsPnWired (around_in net k e) kids → ⊥) → IsUnbuilt net starts
+  unfit-network k e kids at by all bad = by-test (around_in net k e).plain refl
+    where
+      by-test : (b : Bool) → (around_in net k e).plain ≡ b → IsUnbuilt net starts
+      by-test true plain = malformed k e Pn kids at by all (λ wired. bad (record { wired = wired; plain = plain }))
+      by-test false is = stated (record { number = k; entity = e; at = at; network = by; stated = is })
+
   -- a composite that doesn't fit its director
   unfit : (k : ℕ) (e : NetEntity) (director : Director) (kids : List Tree) → IsEntity net k e → IsDirectedBy e director → AreTrees net (StartsAs starts) (children_of net.entities.items k) kids → (composing director).IsMisfit (around_in net k e) kids → IsUnbuilt net starts
-  unfit k e Sdf kids at by all (inl unsteady) = absurd (children-steady net values typing starts k e kids started.resolved.valued started.placed (started-in net values typing starts started.started) at by all unsteady)
+  unfit k e Sdf kids at by all (inl unsteady) =
+      unrated (record { number = k; entity = e; at = at; directed = by; inner = children-steady net values typing starts k e kids started.resolved.valued started.placed (started-in net values typing starts started.started) at by all unsteady })
   unfit k e Sdf kids at by all (inr bad) = malformed k e Sdf kids at by all bad
   unfit k e Sr kids at by all bad = malformed k e Sr kids at by all bad
   unfit k e De kids at by all bad = unfit-events k e kids at by all bad
-  unfit k e Pn kids at by all bad = other (other-by net k e Pn at by refl)
+  unfit k e Pn kids at by all bad = unfit-network k e kids at by all bad
   unfit k e Rendezvous kids at by all bad = other (other-by net k e Rendezvous at by refl)
 
   -- where there is no tree, something isn't built

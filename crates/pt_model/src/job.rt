@@ -22,7 +22,7 @@ use pt_firing::Counts;
 use pt_job::{iterations, stop_time, supply, supply_events, supply_ticks};
 use pt_net::Net;
 use pt_node::Node;
-use pt_trees::{DeJob, SdfJob, SrJob, Top};
+use pt_trees::{DeJob, OnceJob, SdfJob, SrJob, Top};
 use std::alloc::Global;
 
 /// The number of iterations or ticks of a top that has one.
@@ -93,6 +93,19 @@ fn de_job(alloc: Global, net: &Net, started: &Started) -> Result<DeJob, DocFault
     })
 }
 
+/// What a job asks of a top that fires once.
+fn once_job(alloc: Global, net: &Net, started: &Started) -> Result<OnceJob, DocFault>
+    requires started { IsStarted net.now started.now.values (assignment started.now.typing) started.now.starts.items }
+    requires built { (top : Shown) × IsBuilt net.now started.now.starts.items 0 top }
+    requires present { may_lack (net_view net.now) ≡ false }
+    ensures accepted { IsOk result → (path : List ℕ) → IsInputFault (net_view net.now) path → ⊥ }
+    ensures supplied { IfOk result (λ job. AreSupplied (net_view net.now) started.now.values (supply_of (top.Once job))) }
+    ensures stands { IfErr result (FaultStands net.now) }
+{
+    let inputs = supply(alloc, net, &started.values)?;
+    Ok(OnceJob { inputs })
+}
+
 /// What a job asks of the top of its net, by the director of the top: how long it lasts, and what it supplies.
 pub(crate) fn job_of(
     alloc: Global,
@@ -120,10 +133,16 @@ pub(crate) fn job_of(
                 let job = sr_job(alloc, net, started)?;
                 Ok(Top::Sr(job))
             }
-            Either::Other(_) => {
-                let job = de_job(alloc, net, started)?;
-                Ok(Top::De(job))
-            }
+            Either::Other(later) => match later {
+                Either::First(_) => {
+                    let job = de_job(alloc, net, started)?;
+                    Ok(Top::De(job))
+                }
+                Either::Other(_) => {
+                    let job = once_job(alloc, net, started)?;
+                    Ok(Top::Once(job))
+                }
+            },
         },
     }
 }

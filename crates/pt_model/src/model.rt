@@ -42,10 +42,11 @@ fn with_job(top: Node, job: Result<Top, DocFault>) -> Result<Model, DocFault>
 }
 
 /// The model of a net whose entities start as these.
-fn model_with(alloc: Global, net: &Net, started: &Started) -> Result<Model, DocFault>
+pub(crate) fn model_with(alloc: Global, net: &Net, started: &Started) -> Result<Model, DocFault>
     requires document { IsNetOfDocument net.now }
     requires started { IsStarted net.now started.now.values (assignment started.now.typing) started.now.starts.items }
-    ensures model { IfOk result (λ model. IsModel net.now (shown_node model.top) model.job) }
+    // The types of the model are those of the start.
+    ensures model { IfOk result (λ model. (is : IsModel net.now (shown_node model.top) model.job) × (is.typing ≡ assignment started.now.typing)) }
     ensures built { IfOk result (λ model. IsBuilt net.now started.now.starts.items 0 (shown_node model.top)) }
     ensures fresh { IfOk result (λ model. IsFresh (shown_node model.top)) }
     ensures stands { IfErr result (FaultStands net.now) }

@@ -3,7 +3,7 @@ use Rattle.pt_typing.specs.Least.{assignment}
 use Rattle.pt_core.specs.declared.either.Either.TheVariants.{Other}
 use Rattle.pt_node.specs.declared.body.Body.TheVariants.{Composite}
 use Rattle.pt_node.specs.Shown.{shown_node}
-use Rattle.pt_model.proofs.TopLaws.{top-core, top-directs, sdf-iterates, sr-iterates, de-timed, sdf-top, sdf-fits, sr-fits, de-fits}
+use Rattle.pt_model.proofs.TopLaws.{top-core, top-directs, sdf-iterates, sr-iterates, de-timed, sdf-top, pn-top, sdf-fits, sr-fits, de-fits, pn-fits}
 use Rattle.pt_model.proofs.job.job_of.Goals as goal
 
 -- a top of SDF or SR has a number of iterations or ticks
@@ -22,18 +22,25 @@ sr_job-requires-clause-iterates c =
 pub de_job-requires-clause-timed : goal.de_job-requires-clause-timed
 de_job-requires-clause-timed c =
     let s = c.args.started.now in
-    de-timed c.args.net.now (shown_node c.args.top.now) (top-core c.args.net.now s.values s.starts.items (shown_node c.args.top.now) c.requires.started.placed c.requires.built) c.in-Other-other.field-0
-    (c.director_of.ensures ∙ ap Composite (c.in-Other.is ∙ ap (λ v. Other v) c.in-Other-other.is))
+    de-timed c.args.net.now (shown_node c.args.top.now) (top-core c.args.net.now s.values s.starts.items (shown_node c.args.top.now) c.requires.started.placed c.requires.built) c.in-First-later.field-0
+    (c.director_of.ensures ∙ ap Composite (c.in-Other.is ∙ ap (λ v. Other v) (c.in-Other-other.is ∙ ap (λ v. Other v) c.in-First-later.is)))
 
 pub director_of-requires : goal.director_of-requires
 director_of-requires c =
     let s = c.args.started.now in
     top-directs c.args.net.now (shown_node c.args.top.now) (top-core c.args.net.now s.values s.starts.items (shown_node c.args.top.now) c.requires.started.placed c.requires.built)
 
+-- under SDF and PN no token may be absent
 pub sdf_job-requires-clause-present : goal.sdf_job-requires-clause-present
 sdf_job-requires-clause-present c =
     let s = c.args.started.now in
     sdf-top c.args.net.now (shown_node c.args.top.now) (top-core c.args.net.now s.values s.starts.items (shown_node c.args.top.now) c.requires.started.placed c.requires.built) c.in-First.core (c.director_of.ensures ∙ ap Composite c.in-First.is)
+
+pub once_job-requires-clause-present : goal.once_job-requires-clause-present
+once_job-requires-clause-present c =
+    let s = c.args.started.now in
+    pn-top c.args.net.now (shown_node c.args.top.now) (top-core c.args.net.now s.values s.starts.items (shown_node c.args.top.now) c.requires.started.placed c.requires.built) c.in-Other-later.field-0
+    (c.director_of.ensures ∙ ap Composite (c.in-Other.is ∙ ap (λ v. Other v) (c.in-Other-other.is ∙ ap (λ v. Other v) c.in-Other-later.is)))
 
 pub returns-in_ok-job-in-First-clause-fits : goal.returns-in_ok-job-in-First-clause-fits
 returns-in_ok-job-in-First-clause-fits c =
@@ -47,8 +54,14 @@ returns-in_ok-job-in-First-other-clause-fits c =
     sr-fits c.args.net.now s.values (shown_node c.args.top.now) (top-core c.args.net.now s.values s.starts.items (shown_node c.args.top.now) c.requires.started.placed c.requires.built) c.in-First-other.field-0 c.in_ok-job-in-First-other.job
     (c.director_of.ensures ∙ ap Composite (c.in-Other.is ∙ ap (λ v. Other v) c.in-First-other.is)) c.in_ok-job-in-First-other.ensures.supplied
 
-pub returns-in_ok-job-in-Other-other-clause-fits : goal.returns-in_ok-job-in-Other-other-clause-fits
-returns-in_ok-job-in-Other-other-clause-fits c =
+pub returns-in_ok-job-in-First-later-clause-fits : goal.returns-in_ok-job-in-First-later-clause-fits
+returns-in_ok-job-in-First-later-clause-fits c =
     let s = c.args.started.now in
-    de-fits c.args.net.now s.values (shown_node c.args.top.now) (top-core c.args.net.now s.values s.starts.items (shown_node c.args.top.now) c.requires.started.placed c.requires.built) c.in-Other-other.field-0 c.in_ok-job-in-Other-other.job
-    (c.director_of.ensures ∙ ap Composite (c.in-Other.is ∙ ap (λ v. Other v) c.in-Other-other.is)) c.in_ok-job-in-Other-other.ensures.supplied c.in_ok-job-in-Other-other.ensures.ascend
+    de-fits c.args.net.now s.values (shown_node c.args.top.now) (top-core c.args.net.now s.values s.starts.items (shown_node c.args.top.now) c.requires.started.placed c.requires.built) c.in-First-later.field-0 c.in_ok-job-in-First-later.job
+    (c.director_of.ensures ∙ ap Composite (c.in-Other.is ∙ ap (λ v. Other v) (c.in-Other-other.is ∙ ap (λ v. Other v) c.in-First-later.is))) c.in_ok-job-in-First-later.ensures.supplied c.in_ok-job-in-First-later.ensures.ascend
+
+pub returns-in_ok-job-in-Other-later-clause-fits : goal.returns-in_ok-job-in-Other-later-clause-fits
+returns-in_ok-job-in-Other-later-clause-fits c =
+    let s = c.args.started.now in
+    pn-fits c.args.net.now s.values (shown_node c.args.top.now) (top-core c.args.net.now s.values s.starts.items (shown_node c.args.top.now) c.requires.started.placed c.requires.built) c.in-Other-later.field-0 c.in_ok-job-in-Other-later.job
+    (c.director_of.ensures ∙ ap Composite (c.in-Other.is ∙ ap (λ v. Other v) (c.in-Other-other.is ∙ ap (λ v. Other v) c.in-Other-later.is))) c.in_ok-job-in-Other-later.ensures.supplied

@@ -6,9 +6,12 @@ use Rattle.pt_model.proofs.TopLaws.{is-runnable}
 use Rattle.pt_buildable.proofs.Ordered.{leaves}
 use Rattle.pt_model.proofs.model.model_of.Goals as goal
 
+pub returns-clause-model : goal.returns-clause-model
+returns-clause-model c = on-ok c.model_with.result (λ model is. (at-ok _ is c.model_with.ensures.model).0)
+
 pub returns-clause-runnable : goal.returns-clause-runnable
 returns-clause-runnable c = on-ok c.model_with.result (λ model is.
-    let made = at-ok _ is c.model_with.ensures.model in
+    let made = (at-ok _ is c.model_with.ensures.model).0 in
     is-runnable c.args.net.now c.in_ok-started.started.starts.items (shown_node model.top) model.job (at-ok _ is c.model_with.ensures.built) (at-ok _ is c.model_with.ensures.fresh) made.fits)
 
 pub returns-clause-numbered : goal.returns-clause-numbered

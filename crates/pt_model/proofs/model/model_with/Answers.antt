@@ -12,17 +12,19 @@ use Rattle.pt_model.proofs.model.model_with.Goals as goal
 
 pub returns-clause-model : goal.returns-clause-model
 returns-clause-model c = on-ok c.with_job.result (λ model is.
-    let told = at-ok _ is c.with_job.ensures.ok in
-    record {
-      values = c.args.started.now.values;
-      typing = assignment c.args.started.now.typing;
-      starts = c.args.started.now.starts.items;
-      started = c.requires.started;
-      tree = subst (λ top. IsTree c.args.net.now (StartsAs c.args.started.now.starts.items) 0 (node_of (shown_node top))) (sym told.0) c.in_ok-top.ensures.tree;
-      built = subst (λ top. IsBuilt c.args.net.now c.args.started.now.starts.items 0 (shown_node top)) (sym told.0) c.in_ok-top.ensures.built;
-      accepted = c.job_of-job.ensures.accepted (subst (λ job. IsOk job) (sym told.1) refl);
-      supplied = at-ok _ told.1 c.job_of-job.ensures.supplied;
-      tags = at-ok _ told.1 c.job_of-job.ensures.tags;
-      lasts = at-ok _ told.1 c.job_of-job.ensures.lasts;
-      fits = subst (λ top. IsJobFor model.job (node_of (shown_node top))) (sym told.0) (at-ok _ told.1 c.job_of-job.ensures.fits);
-    })
+    let told = at-ok _ is c.with_job.ensures.ok in (
+      record {
+        values = c.args.started.now.values;
+        typing = assignment c.args.started.now.typing;
+        starts = c.args.started.now.starts.items;
+        started = c.requires.started;
+        tree = subst (λ top. IsTree c.args.net.now (StartsAs c.args.started.now.starts.items) 0 (node_of (shown_node top))) (sym told.0) c.in_ok-top.ensures.tree;
+        built = subst (λ top. IsBuilt c.args.net.now c.args.started.now.starts.items 0 (shown_node top)) (sym told.0) c.in_ok-top.ensures.built;
+        accepted = c.job_of-job.ensures.accepted (subst (λ job. IsOk job) (sym told.1) refl);
+        supplied = at-ok _ told.1 c.job_of-job.ensures.supplied;
+        tags = at-ok _ told.1 c.job_of-job.ensures.tags;
+        lasts = at-ok _ told.1 c.job_of-job.ensures.lasts;
+        fits = subst (λ top. IsJobFor model.job (node_of (shown_node top))) (sym told.0) (at-ok _ told.1 c.job_of-job.ensures.fits);
+      },
+      refl,
+    ))
