@@ -43,6 +43,14 @@ const EVENTS: &str =
 const NO_EVENTS: &str =
     r#"{"version":1,"model":{"name":"top","class":"Composite","properties":[{"name":"director","class":"DE"}]}}"#;
 
+/// A network in which each process comes to its end.
+const NETWORK: &str =
+    r#"{"version":1,"model":{"name":"top","class":"Composite","properties":[{"name":"director","class":"PN"}],"entities":[{"name":"Ramp","class":"Ramp","properties":[{"name":"firingCountLimit","value":"3"}]},{"name":"Scale","class":"Scale","properties":[{"name":"factor","value":"2"}]}],"relations":[{"name":"r"}],"links":[{"port":"Ramp.output","relation":"r"},{"port":"Scale.input","relation":"r"}]},"record":["Scale.output"]}"#;
+
+/// A network in which a queue is full for good: the sum waits for the scale, which waits for itself.
+const FULL: &str =
+    r#"{"version":1,"model":{"name":"top","class":"Composite","properties":[{"name":"director","class":"PN"}],"entities":[{"name":"n","class":"Ramp"},{"name":"sum","class":"AddSubtract"},{"name":"self","class":"Scale"}],"relations":[{"name":"n"},{"name":"self"}],"links":[{"port":"n.output","relation":"n"},{"port":"sum.plus","relation":"n"},{"port":"self.output","relation":"self"},{"port":"self.input","relation":"self"},{"port":"sum.plus","relation":"self"}]}}"#;
+
 const NOT_BUILT: &str =
     r#"{"version":1,"model":{"name":"top","class":"Composite","properties":[{"name":"director","class":"Rendezvous"}]}}"#;
 
@@ -97,9 +105,60 @@ fn documents_are_answered(rt: HostRuntime) -> Result<(), Fail> {
             "trace d.output\n0 3.0 1\n1 4.0 2\n2 5.0 1\nend stop\n",
         ),
         (NO_EVENTS, Status::Done, "end idle\n"),
+        (
+            NETWORK,
+            Status::Done,
+            "trace Scale.output\n0 0.0 0\n1 0.0 2\n2 0.0 4\nend deadlock\n",
+        ),
+        (
+            FULL,
+            Status::Queue,
+            "full sum.plus.0 65536\nend queue . 1\n",
+        ),
         (VERSION_THREE, Status::Document, "refused 11 Shape .\n"),
         (NOT_BUILT, Status::Document, "refused 40 Unbuilt .\n"),
         ("{\"version\":1,", Status::Document, "refused 10 Json .\n"),
+        ("", Status::Document, "refused 10 Json .\n"),
+    ] {
+        let mut source = MemSource::new(document.as_bytes().to_vec(alloc)?, Vec::new(alloc));
+        let mut sink = MemSink::new(alloc, 7, ROOM, Vec::new(alloc))?;
+        assert_eq!(rt;
+            run_program(&rt, alloc, &words, &mut source, &mut sink, &OpenGate),
+            status
+        );
+        assert_eq!(rt; sink.bytes(), text.as_bytes());
+    }
+    Ok(())
+}
+
+#[test]
+fn documents_are_checked(rt: HostRuntime) -> Result<(), Fail> {
+    let alloc = rt.alloc();
+    let words = words_of(alloc, &["check"])?;
+    for (document, status, text) in [
+        (
+            RAMP_SCALE,
+            Status::Done,
+            "type Ramp.output int\ntype Scale.input int\ntype Scale.output int\nrepetitions Ramp 1\nrepetitions Scale 1\nend accepted\n",
+        ),
+        (
+            NESTED,
+            Status::Done,
+            "type inner.o int\ntype inner.r.output int\ntype two.input int\ntype two.output arrayType(int)\nrepetitions inner 2\nrepetitions two 1\nrepetitions inner.r 1\nend accepted\n",
+        ),
+        (
+            EVENTS,
+            Status::Done,
+            "type c.output int\ntype d.input int\ntype d.output int\ndepth c 0\ndepth d 0\nend accepted\n",
+        ),
+        // A run of it is stuck.
+        (
+            OVERFLOW,
+            Status::Done,
+            "type Ramp.output int\nrepetitions Ramp 1\nend accepted\n",
+        ),
+        (TEXTS, Status::Document, "refused 19 Type b\n"),
+        (NOT_BUILT, Status::Document, "refused 40 Unbuilt .\n"),
         ("", Status::Document, "refused 10 Json .\n"),
     ] {
         let mut source = MemSource::new(document.as_bytes().to_vec(alloc)?, Vec::new(alloc));
@@ -151,6 +210,7 @@ fn other_words_are_refused_and_nothing_is_read(rt: HostRuntime) -> Result<(), Fa
         &["help"][..],
         &["Run"][..],
         &["run", "--budget=0"][..],
+        &["check", "--budget=1"][..],
     ] {
         let words = words_of(alloc, texts)?;
         let mut source = MemSource::new(RAMP_SCALE.as_bytes().to_vec(alloc)?, Vec::new(alloc));

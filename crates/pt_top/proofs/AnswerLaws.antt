@@ -28,7 +28,7 @@ from-net f job net budget n c Words text a = absurd a
 from-net f job net budget n c Read text a = absurd a
 from-net f job net budget n c Write text a = absurd a
 from-net f job net budget n c Memory text a = absurd a
-from-net f job net budget n c Queue text a = absurd a
+from-net f job net budget n c Queue text a = (net, n, c, a)
 from-net f job net budget n c Length text a = absurd a
 
 -- the answer to a net answers its job
@@ -60,7 +60,7 @@ from-job f bytes job budget j c Words text a = absurd a
 from-job f bytes job budget j c Read text a = absurd a
 from-job f bytes job budget j c Write text a = absurd a
 from-job f bytes job budget j c Memory text a = absurd a
-from-job f bytes job budget j c Queue text a = absurd a
+from-job f bytes job budget j c Queue text (net, n, l, a) = reported f bytes job budget j c Queue text net n l a
 from-job f bytes job budget j c Length text a = absurd a
 
 -- the answer to a job answers the document that was read as it
@@ -84,7 +84,7 @@ document-due budget bytes rose ended Memory text l e a = (l, a)
 document-due budget bytes rose ended Words text l e a = absurd a
 document-due budget bytes rose ended Read text l e a = absurd a
 document-due budget bytes rose ended Write text l e a = absurd a
-document-due budget bytes rose ended Queue text l e a = absurd a
+document-due budget bytes rose ended Queue text l e a = (l, e, a)
 document-due budget bytes rose ended Length text l e a = absurd a
 
 -- not one byte more than the limit

@@ -1,8 +1,8 @@
--- A faultless document is answered by its report, unless memory or a device fails.
+-- A task on a document is done to its end, unless memory or a device fails.
 use Rattle.std.proofs.Common.{◌≡◌, ◌⊎◌, inl, inr, ℕ, List, ◌++◌, Option, Some, None, ◌<◌, take, length, append-nil, sym, ap, subst, ◌∙◌}
 use Rattle.std.specs.Io.KnownBytes.{Appends, Consumes, IsAtEnd}
 use Rattle.pt_io.specs.Causes.{Rose}
-use Rattle.pt_top.specs.Outcome.{IsFaultless, IsReported, Tells}
+use Rattle.pt_top.specs.Outcome.{IsReported, Tells}
 use Rattle.pt_top.specs.declared.status.Status.{Status}
 use Rattle.pt_top.specs.declared.status.Status.TheVariants.{Write}
 
@@ -20,9 +20,9 @@ told-due before after old new due told text h calm = by_case h.written
     by_case (inl x) = x.0
     by_case (inr x) = absurd (calm x.1)
 
--- a document that was read to its end and is answered by its report is told as reported, where no device failed
-pub complete-due : (budget : ℕ) (left after : Option (List ℕ)) (read bytes : List ℕ) (before now : ℕ) (old new : Option (List ℕ)) (due told : Status) (text : List ℕ) → Consumes left after read → IsAtEnd after → (IsFaultless read budget → IsReported due) → Tells before now old new due text told →
-    left ≡ Some bytes → IsFaultless bytes budget → (Rose before now → ⊥) → IsReported told
-complete-due budget left after read bytes before now old new due told text consumed end complete tells known faultless still =
+-- where no device failed, what is due as reported of a document of this kind, which was read to its end, is told so
+pub complete-due : (IsGood : List ℕ → Type 0) (left after : Option (List ℕ)) (read bytes : List ℕ) (before now : ℕ) (old new : Option (List ℕ)) (due told : Status) (text : List ℕ) → Consumes left after read → IsAtEnd after → (IsGood read → IsReported due) → Tells before now old new due text told →
+    left ≡ Some bytes → IsGood bytes → (Rose before now → ⊥) → IsReported told
+complete-due IsGood left after read bytes before now old new due told text consumed end complete tells known good still =
     let whole : read ≡ bytes = read-all left after read bytes consumed known end in
-    subst (λ s. IsReported s) (sym (told-due before now old new due told text tells still)) (complete (subst (λ xs. IsFaultless xs budget) (sym whole) faultless))
+    subst (λ s. IsReported s) (sym (told-due before now old new due told text tells still)) (complete (subst IsGood (sym whole) good))

@@ -39,7 +39,9 @@ told-answers f net budget ended.Iterations s text e r = subst (λ x. AnswersNet 
 told-answers f net budget ended.Inputs s text e r = subst (λ x. AnswersNet f net budget x text) (sym e) (subst (λ x. IsReport f net budget x text) e r)
 told-answers f net budget ended.Stop s text e r = subst (λ x. AnswersNet f net budget x text) (sym e) (subst (λ x. IsReport f net budget x text) e r)
 told-answers f net budget ended.Idle s text e r = subst (λ x. AnswersNet f net budget x text) (sym e) (subst (λ x. IsReport f net budget x text) e r)
+told-answers f net budget ended.Deadlock s text e r = subst (λ x. AnswersNet f net budget x text) (sym e) (subst (λ x. IsReport f net budget x text) e r)
 told-answers f net budget (ended.Fault place) s text e r = subst (λ x. AnswersNet f net budget x text) (sym e) (subst (λ x. IsReport f net budget x text) e r)
+told-answers f net budget (ended.Full blocked) s text e r = subst (λ x. AnswersNet f net budget x text) (sym e) (subst (λ x. IsReport f net budget x text) e r)
 told-answers f net budget (ended.Spent n) s text e r = subst (λ x. AnswersNet f net budget x text) (sym e) (subst (λ x. IsReport f net budget x text) e r)
 
 pub run-answers : (f : Form) (net : Net) (budget : ℕ) (reply : Result Reply AllocError) → IfOk reply (λ r. IsReport f net budget r.status r.text.items) → IfOk reply (λ r. AnswersNet f net budget r.status r.text.items)

@@ -24,14 +24,14 @@ write-not-words e = cc
 -- a failed read is due only where reading failed
 due-read : (t : Task) (budget : ℕ) (bytes : List ℕ) (rose ended : Type 0) (text : List ℕ) → IsDueForTask t budget bytes rose ended Read text → rose
 due-read t budget bytes rose ended text (for_run is h) = h.0
-due-read t budget bytes rose ended text (for_check is none h) = absurd (not-words h.0)
+due-read t budget bytes rose ended text (for_check is h) = h.0
 due-read t budget bytes rose ended text (for_generation n is none h) = absurd h
 due-read t budget bytes rose ended text (for_demonstration n is none h) = absurd h
 
 -- a failed write is due nowhere
 due-write : (t : Task) (budget : ℕ) (bytes : List ℕ) (rose ended : Type 0) (text : List ℕ) → IsDueForTask t budget bytes rose ended Write text → ⊥
 due-write t budget bytes rose ended text (for_run is h) = h
-due-write t budget bytes rose ended text (for_check is none h) = write-not-words h.0
+due-write t budget bytes rose ended text (for_check is h) = h
 due-write t budget bytes rose ended text (for_generation n is none h) = h
 due-write t budget bytes rose ended text (for_demonstration n is none h) = h
 

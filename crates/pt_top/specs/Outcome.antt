@@ -19,11 +19,12 @@ use Rattle.pt_net.specs.Stands as linking
 use Rattle.pt_elaboration.specs.Refused as unmodelled
 use Rattle.pt_model.specs.Typed.{KeepsTypes}
 use Rattle.pt_top.specs.Reply.{line, refusal_text, IsReport, IsAffordableNet}
+use Rattle.pt_top.specs.Check.{IsCheck}
 use Rattle.pt_top.specs.declared.form.Form.{Form}
 use Rattle.pt_top.specs.declared.form.Form.TheVariants as form
 use Rattle.pt_top.specs.declared.status.Status.{Status}
 use Rattle.pt_top.specs.declared.status.Status.TheVariants as status
-use Rattle.pt_top.specs.declared.status.Status.TheVariants.{Done, Document, Fault, Budget, Read, Write, Memory, Length}
+use Rattle.pt_top.specs.declared.status.Status.TheVariants.{Done, Document, Fault, Budget, Read, Write, Memory, Queue, Length}
 
 -- ---- documents
 
@@ -57,6 +58,7 @@ abbrev pub AnswersJob : Form → JobTree → (budget : ℕ) → Status → List 
 AnswersJob f job budget Done text = (net : Net) × IsNetOf job net × IsWellLinked job × IsReport f net budget Done text
 AnswersJob f job budget Fault text = (net : Net) × IsNetOf job net × IsWellLinked job × IsReport f net budget Fault text
 AnswersJob f job budget Budget text = (net : Net) × IsNetOf job net × IsWellLinked job × IsReport f net budget Budget text
+AnswersJob f job budget Queue text = (net : Net) × IsNetOf job net × IsWellLinked job × IsReport f net budget Queue text
 AnswersJob f job budget Document text = (r : Refusal) × (linking.Stands r.code r.path job ⊎ ((net : Net) × IsNetOf job net × IsWellLinked job × unmodelled.IsRefused net r)) × (text ≡ refusal_text r)
 AnswersJob f job budget _ text = ⊥
 
@@ -65,16 +67,35 @@ abbrev pub AnswersAs : Form → List ℕ → (budget : ℕ) → Status → List 
 AnswersAs f bytes budget Done text = IsReportOf f bytes budget Done text
 AnswersAs f bytes budget Fault text = IsReportOf f bytes budget Fault text
 AnswersAs f bytes budget Budget text = IsReportOf f bytes budget Budget text
+AnswersAs f bytes budget Queue text = IsReportOf f bytes budget Queue text
 AnswersAs f bytes budget Document text = (r : Refusal) × IsRefused bytes r × (text ≡ refusal_text r)
 AnswersAs f bytes budget Memory text = text ≡ line (codes "refused memory")
 AnswersAs f bytes budget _ text = ⊥
 
--- No refusal of the document stands, and no model of its net is stuck anywhere or comes to the budget.
+-- no refusal of the document stands
+abbrev pub IsAccepted : List ℕ → Type 0
+IsAccepted bytes = (r : Refusal) → IsRefused bytes r → ⊥
+
+-- No refusal of the document stands, and no model of its net is stuck anywhere, gets into a jam or comes to the budget.
 pub record IsFaultless (bytes : List ℕ) (budget : ℕ) : Type 0 where
-  pub accepted : (r : Refusal) → IsRefused bytes r → ⊥
+  pub accepted : IsAccepted bytes
   pub affordable : (job : JobTree) (net : Net) → HasNet bytes job net → IsAffordableNet net budget
 
--- the model ran to its end, or memory ran out
+-- A check of a document.
+pub record IsCheckOf (bytes : List ℕ) (text : List ℕ) : Type 0 where
+  pub job : JobTree
+  pub net : Net
+  pub accepted : HasNet bytes job net
+  pub check : IsCheck net text
+
+-- A status and its text answer a document that is checked.
+abbrev pub Checks : List ℕ → Status → List ℕ → Type 0
+Checks bytes Done text = IsCheckOf bytes text
+Checks bytes Document text = (r : Refusal) × IsRefused bytes r × (text ≡ refusal_text r)
+Checks bytes Memory text = text ≡ line (codes "refused memory")
+Checks bytes _ text = ⊥
+
+-- the task was done to its end, or memory ran out
 abbrev pub IsReported : Status → Type 0
 IsReported told = (told ≡ Done) ⊎ (told ≡ Memory)
 
@@ -83,16 +104,21 @@ IsReported told = (told ≡ Done) ⊎ (told ≡ Memory)
 abbrev pub limit : ℕ
 limit = 16777216
 
--- A status and its text are due for a run within a budget, where these bytes were taken from the source.
+-- A status and its text are due for a task that reads a document, where these bytes were taken from the source, and this is what answers them.
+abbrev pub IsDueBy : (Answers : Status → List ℕ → Type 0) → List ℕ → (rose ended : Type 0) → Status → List ℕ → Type 0
+IsDueBy Answers bytes rose ended Read text = rose × (length bytes ≤ limit) × (text ≡ line (codes "refused read"))
+IsDueBy Answers bytes rose ended Length text = (length bytes ≡ limit + 1) × (text ≡ line (codes "refused length"))
+IsDueBy Answers bytes rose ended Memory text = (length bytes ≤ limit) × (text ≡ line (codes "refused memory"))
+IsDueBy Answers bytes rose ended Done text = (length bytes ≤ limit) × ended × Answers Done text
+IsDueBy Answers bytes rose ended Fault text = (length bytes ≤ limit) × ended × Answers Fault text
+IsDueBy Answers bytes rose ended Budget text = (length bytes ≤ limit) × ended × Answers Budget text
+IsDueBy Answers bytes rose ended Queue text = (length bytes ≤ limit) × ended × Answers Queue text
+IsDueBy Answers bytes rose ended Document text = (length bytes ≤ limit) × ended × Answers Document text
+IsDueBy Answers bytes rose ended _ text = ⊥
+
+-- They are due for a run within a budget.
 abbrev pub IsDueFor : (budget : ℕ) → List ℕ → (rose ended : Type 0) → Status → List ℕ → Type 0
-IsDueFor budget bytes rose ended Read text = rose × (length bytes ≤ limit) × (text ≡ line (codes "refused read"))
-IsDueFor budget bytes rose ended Length text = (length bytes ≡ limit + 1) × (text ≡ line (codes "refused length"))
-IsDueFor budget bytes rose ended Memory text = (length bytes ≤ limit) × (text ≡ line (codes "refused memory"))
-IsDueFor budget bytes rose ended Done text = (length bytes ≤ limit) × ended × AnswersAs form.Report bytes budget Done text
-IsDueFor budget bytes rose ended Fault text = (length bytes ≤ limit) × ended × AnswersAs form.Report bytes budget Fault text
-IsDueFor budget bytes rose ended Budget text = (length bytes ≤ limit) × ended × AnswersAs form.Report bytes budget Budget text
-IsDueFor budget bytes rose ended Document text = (length bytes ≤ limit) × ended × AnswersAs form.Report bytes budget Document text
-IsDueFor budget bytes rose ended _ text = ⊥
+IsDueFor budget bytes rose ended s text = IsDueBy (AnswersAs form.Report bytes budget) bytes rose ended s text
 
 -- the document of the generated job of so many stages
 unfoldable pub generated_text : (stages : ℕ) → List ℕ
@@ -108,10 +134,10 @@ IsGenerated stages _ text = ⊥
 abbrev pub AreRefused : Status → List ℕ → Type 0
 AreRefused s text = (s ≡ status.Words) × (text ≡ line (codes "refused words"))
 
--- The same for any task. A run of the generated document is told by a summary. A check isn't built yet, and its word is refused.
+-- The same for any task. A run of the generated document is told by a summary.
 pub data IsDueForTask (task : Task) (budget : ℕ) (bytes : List ℕ) (rose ended : Type 0) (s : Status) (text : List ℕ) : Type 0 where
   for_run : task ≡ Run → IsDueFor budget bytes rose ended s text → IsDueForTask task budget bytes rose ended s text
-  for_check : task ≡ Check → bytes ≡ [] → AreRefused s text → IsDueForTask task budget bytes rose ended s text
+  for_check : task ≡ Check → IsDueBy (Checks bytes) bytes rose ended s text → IsDueForTask task budget bytes rose ended s text
   for_generation : (stages : ℕ) → task ≡ Generate stages → bytes ≡ [] → IsGenerated stages s text → IsDueForTask task budget bytes rose ended s text
   for_demonstration : (stages : ℕ) → task ≡ Demonstrate stages → bytes ≡ [] → AnswersAs form.Summary (generated_text stages) budget s text → IsDueForTask task budget bytes rose ended s text
 
@@ -123,6 +149,7 @@ IsDue words bytes rose ended s text =
 -- a task that reads a document
 abbrev pub Reads : Task → Type 0
 Reads Run = Unit {0}
+Reads Check = Unit {0}
 Reads _ = ⊥
 
 -- the words are a line that reads a document
@@ -134,15 +161,19 @@ pub record Tells (before after : ℕ) (old new : Option (List ℕ)) (due : Statu
   pub later : before ≤ after
   pub written : ((told ≡ due) × Appends old new text) ⊎ ((told ≡ Write) × Rose before after × (n : ℕ) × (n < length text) × Appends old new (take n text))
 
--- No device failed, so a document that is faultless within the budget is answered by its whole report, or memory ran out.
-abbrev pub IsCompleteFor : (budget : ℕ) → (left : Option (List ℕ)) → (read_rose written_rose : Type 0) → Status → Type 0
-IsCompleteFor budget left read_rose written_rose told =
-    (bytes : List ℕ) → left ≡ Some bytes → length bytes ≤ limit → IsFaultless bytes budget → (read_rose → ⊥) → (written_rose → ⊥) → IsReported told
+-- No device failed, so with a document of this kind the task is done to its end, or memory ran out.
+abbrev pub IsCompleteWhere : (IsGood : List ℕ → Type 0) → (left : Option (List ℕ)) → (read_rose written_rose : Type 0) → Status → Type 0
+IsCompleteWhere IsGood left read_rose written_rose told =
+    (bytes : List ℕ) → left ≡ Some bytes → length bytes ≤ limit → IsGood bytes → (read_rose → ⊥) → (written_rose → ⊥) → IsReported told
 
--- No device failed, so a generated document is written, its run is told if it is faultless within the budget, or memory ran out.
+-- A document that is faultless within the budget is answered by its whole report.
+abbrev pub IsCompleteFor : (budget : ℕ) → (left : Option (List ℕ)) → (read_rose written_rose : Type 0) → Status → Type 0
+IsCompleteFor budget left read_rose written_rose told = IsCompleteWhere (λ bytes. IsFaultless bytes budget) left read_rose written_rose told
+
+-- No device failed, so a document is checked if no refusal of it stands, a generated document is written, its run is told if it is faultless within the budget, or memory ran out.
 abbrev pub IsCompleteForTask : Task → (budget : ℕ) → (left : Option (List ℕ)) → (read_rose written_rose : Type 0) → Status → Type 0
 IsCompleteForTask Run budget left read_rose written_rose told = IsCompleteFor budget left read_rose written_rose told
-IsCompleteForTask Check budget left read_rose written_rose told = Unit {0}
+IsCompleteForTask Check budget left read_rose written_rose told = IsCompleteWhere IsAccepted left read_rose written_rose told
 IsCompleteForTask (Generate stages) budget left read_rose written_rose told = (written_rose → ⊥) → IsReported told
 IsCompleteForTask (Demonstrate stages) budget left read_rose written_rose told = IsFaultless (generated_text stages) budget → (written_rose → ⊥) → IsReported told
 

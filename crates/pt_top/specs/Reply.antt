@@ -9,7 +9,7 @@ use Rattle.pt_trace.specs.ReportText.{report_text}
 use Rattle.pt_trace.specs.SummaryText.{summary_text}
 use Rattle.pt_trace.specs.ReportForm.{AreMeetings}
 use Rattle.pt_node.specs.Shown.{Shown}
-use Rattle.pt_node.specs.View.{node_of, outline_of}
+use Rattle.pt_node.specs.View.{outline_of}
 use Rattle.pt_trees.specs.declared.top.Top.{Top}
 use Rattle.pt_trees.specs.declared.ended.Ended.{Ended}
 use Rattle.pt_trees.specs.declared.ended.Ended.TheVariants as ended
@@ -23,7 +23,7 @@ use Rattle.pt_elaboration.specs.Refused as unmodelled
 use Rattle.pt_top.specs.declared.form.Form.{Form}
 use Rattle.pt_top.specs.declared.form.Form.TheVariants as form
 use Rattle.pt_top.specs.declared.status.Status.{Status}
-use Rattle.pt_top.specs.declared.status.Status.TheVariants.{Done, Document, Fault, Budget}
+use Rattle.pt_top.specs.declared.status.Status.TheVariants.{Done, Document, Fault, Budget, Queue}
 
 abbrev pub line : List ℕ → List ℕ
 line text = text ++ 10 ∷ []
@@ -38,7 +38,9 @@ status_of ended.Iterations = Done
 status_of ended.Inputs = Done
 status_of ended.Stop = Done
 status_of ended.Idle = Done
+status_of ended.Deadlock = Done
 status_of (ended.Fault place) = Fault
+status_of (ended.Full blocked) = Queue
 status_of (ended.Spent firings) = Budget
 
 -- what a tree has recorded of the ports that the net records, in the order of the document, these meetings, and how the run ended
@@ -78,9 +80,10 @@ abbrev pub AnswersNet : Form → Net → (budget : ℕ) → Status → List ℕ 
 AnswersNet f net budget Done text = IsReport f net budget Done text
 AnswersNet f net budget Fault text = IsReport f net budget Fault text
 AnswersNet f net budget Budget text = IsReport f net budget Budget text
+AnswersNet f net budget Queue text = IsReport f net budget Queue text
 AnswersNet f net budget Document text = (r : Refusal) × unmodelled.IsRefused net r × (text ≡ refusal_text r)
 AnswersNet f net budget _ text = ⊥
 
--- no model of the net is stuck anywhere, and each stays below the budget
+-- no model of the net is stuck anywhere or gets into a jam, and each stays below the budget
 abbrev pub IsAffordableNet : Net → (budget : ℕ) → Type 0
-IsAffordableNet net budget = (top : Shown) (job : Top) → IsModel net top job → IsAffordable job budget (node_of top)
+IsAffordableNet net budget = (top : Shown) (job : Top) → IsModel net top job → IsAffordable job budget top

@@ -2,7 +2,6 @@
 ghost use Rattle.std.specs.Prelude.{◌≡◌, ◌⊎◌, ◌<◌, ℕ, length, IfOk};
 ghost use Rattle.pt_order.specs.Laws.{IsNetOfDocument};
 ghost use Rattle.pt_node.specs.Shown.{shown_node};
-ghost use Rattle.pt_node.specs.View.{node_of};
 ghost use Rattle.pt_trees.specs.Start.{IsRunnable};
 ghost use Rattle.pt_trees.specs.Ports.{AreNumbered};
 ghost use Rattle.pt_trees.specs.Run.{IsAffordable};
@@ -54,7 +53,9 @@ fn status_of(ended: &Ended) -> Status
         Ended::Inputs => Status::Done,
         Ended::Stop => Status::Done,
         Ended::Idle => Status::Done,
+        Ended::Deadlock => Status::Done,
         Ended::Fault(_) => Status::Fault,
+        Ended::Full(_) => Status::Queue,
         Ended::Spent(_) => Status::Budget,
     }
 }
@@ -83,7 +84,7 @@ fn report_run(
     requires numbered { AreNumbered (length net.now.recorded.items) (shown_node top.old) }
     requires budget { 0 < budget }
     ensures report { IfOk result (λ r. IsReport form net.now budget r.status r.text.items) }
-    ensures complete { IsAffordable job.now budget (node_of (shown_node top.old)) → IfOk result (λ r. r.status ≡ Done) }
+    ensures complete { IsAffordable job.now budget (shown_node top.old) → IfOk result (λ r. r.status ≡ Done) }
 {
     numbers_stay();
     let ran = run(alloc, top, job, budget)?;
@@ -110,7 +111,7 @@ fn answer_model(
     requires numbered { AreNumbered (length net.now.recorded.items) (shown_node model.top) }
     requires budget { 0 < budget }
     ensures answers { IfOk result (λ r. AnswersNet form net.now budget r.status r.text.items) }
-    ensures complete { IsAffordable model.job budget (node_of (shown_node model.top)) → IfOk result (λ r. (r.status ≡ Done) ⊎ (r.status ≡ Document)) }
+    ensures complete { IsAffordable model.job budget (shown_node model.top) → IfOk result (λ r. (r.status ≡ Done) ⊎ (r.status ≡ Document)) }
 {
     let reply = report_run(alloc, form, net, &mut model.top, &model.job, budget);
     drop(model);
@@ -118,7 +119,7 @@ fn answer_model(
 }
 
 /// The answer to a net that has no model, unless memory ran out.
-fn answer_fault(alloc: Global, fault: DocFault) -> Result<Reply, AllocError>
+pub(crate) fn answer_fault(alloc: Global, fault: DocFault) -> Result<Reply, AllocError>
     ensures answers { (form : Form) (net : Net) (budget : ℕ) → FaultStands net fault → IfOk result (λ r. AnswersNet form net budget r.status r.text.items) }
     ensures refused { IfOk result (λ r. r.status ≡ Document) }
 {

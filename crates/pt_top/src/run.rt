@@ -7,6 +7,7 @@ ghost use Rattle.pt_top.specs.declared.status.Status.{Status};
 ghost use Rattle.pt_top.specs.Outcome.{AnswersAs, IsFaultless, IsReported, IsGenerated, IsDueFor, IsDueForTask, IsDue, Tells, IsCompleteFor, IsCompleteForTask, IsComplete, Reads, DoRead, generated_text};
 
 use crate::answer::answer;
+use crate::check::check_document;
 use crate::form::Form;
 use crate::generated::{demonstration, generated_document};
 use crate::status::Status;
@@ -18,10 +19,10 @@ use std::sync::Wait;
 use std::thread::Threads;
 
 /// Documents have at most this many bytes.
-const LIMIT: usize = 16_777_216;
+pub(crate) const LIMIT: usize = 16_777_216;
 
 /// Writes the text that is due, and tells its status.
-fn finish<K: Sink>(sink: &mut K, status: Status, text: &[u8]) -> Status
+pub(crate) fn finish<K: Sink>(sink: &mut K, status: Status, text: &[u8]) -> Status
     ensures { Tells (K.faults sink.old) (K.faults sink.new) (K.taken sink.old) (K.taken sink.new) status text.now result }
 {
     match write_all(sink, text) {
@@ -93,7 +94,7 @@ fn demonstrate<K: Sink>(alloc: Global, stages: u32, budget: u64, sink: &mut K) -
     }
 }
 
-/// Does what a line asks for. A check isn't built yet, and its word is refused.
+/// Does what a line asks for.
 fn answer_line<S: Source, K: Sink>(
     alloc: Global,
     line: Line,
@@ -111,15 +112,15 @@ fn answer_line<S: Source, K: Sink>(
 {
     match line.task {
         Task::Run => run_document(alloc, line.budget, source, sink),
-        Task::Check => finish(sink, Status::Words, b"refused words\n"),
+        Task::Check => check_document(alloc, source, sink),
         Task::Generate(stages) => generate(alloc, stages, sink),
         Task::Demonstrate(stages) => demonstrate(alloc, stages, line.budget, sink),
     }
 }
 
 /// All that the program does. `run` reads a document to its end, runs its model within the budget that the words give and writes the
-/// report, or the line of a refusal. `gen N` writes the generated document of N stages, and `demo N` a summary of its run: they read
-/// nothing. The words are those of the command line without the program's name. However many workers they give, one does all, and
+/// report, or the line of a refusal. `check` reads one likewise, runs nothing, and writes what it tells of the model. `gen N` writes the
+/// generated document of N stages, and `demo N` a summary of its run: they read nothing. The words are those of the command line without the program's name. However many workers they give, one does all, and
 /// no thread is started yet, so `rt` and `gate` wait for the directors that use them.
 pub fn run_program<R: Threads + Wait + Sync, S: Source, K: Sink, G: Gate + Sync>(
     _rt: &R,
@@ -134,7 +135,7 @@ pub fn run_program<R: Threads + Wait + Sync, S: Source, K: Sink, G: Gate + Sync>
         × Consumes (S.left source.old) (S.left source.new) bytes
         × IsDue (map string_bytes words.now) bytes (Rose (S.faults source.old) (S.faults source.new)) (IsAtEnd (S.left source.new)) due text
         × Tells (K.faults sink.old) (K.faults sink.new) (K.taken sink.old) (K.taken sink.new) due text result }
-    // A document that isn't refused, and whose model is never stuck and stays below the budget, is answered by its run, unless memory or a device fails.
+    // A document that isn't refused, and whose model is never stuck or in a jam and stays below the budget, is answered by its run, unless memory or a device fails.
     ensures complete { IsComplete (map string_bytes words.now) (S.left source.old)
         (Rose (S.faults source.old) (S.faults source.new)) (Rose (K.faults sink.old) (K.faults sink.new)) result }
     // Words that ask for no document leave the input as it was.

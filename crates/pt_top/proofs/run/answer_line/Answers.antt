@@ -1,10 +1,8 @@
-use Rattle.std.proofs.Common.{◌≡◌, refl, sym, subst, [], ℕ, List, arith}
+use Rattle.std.proofs.Common.{refl, sym, subst, [], arith}
 use Rattle.pt_io.specs.Causes.{Rose}
 use Rattle.pt_words.specs.declared.line.Task.{Task}
 use Rattle.pt_words.specs.declared.line.Task.TheVariants.{Generate, Demonstrate}
 use Rattle.pt_words.specs.Parts.{HasStages}
-use Rattle.pt_top.specs.declared.status.Status.{Status}
-use Rattle.pt_top.specs.declared.status.Status.TheVariants.{Words}
 use Rattle.pt_top.specs.Outcome.{for_run, for_check, for_generation, for_demonstration, IsCompleteForTask, Reads}
 use Rattle.pt_top.proofs.TaskLaws.{nothing-taken, reported-told}
 use Rattle.pt_top.proofs.run.answer_line.Goals as goal
@@ -21,16 +19,17 @@ returns-in-Run-clause-complete g c =
 pub returns-in-Run-clause-unread : goal.returns-in-Run-clause-unread
 returns-in-Run-clause-unread g c = λ none. absurd (none (subst (λ (t : Task). Reads t) (sym c.in-Run.is) tt))
 
--- a check is refused, and nothing is taken
 pub returns-in-Check-clause-outcome : goal.returns-in-Check-clause-outcome
 returns-in-Check-clause-outcome g c =
-    (Words, _, [], nothing-taken (g.S.Source.left c.args.source.now), for_check c.in-Check.is refl (refl, refl), c.finish.ensures)
+    let (due, text, bytes, consumed, is, tells) = c.check_document.ensures.outcome in
+    (due, text, bytes, consumed, for_check c.in-Check.is is, tells)
 
 pub returns-in-Check-clause-complete : goal.returns-in-Check-clause-complete
-returns-in-Check-clause-complete g c = subst (λ (t : Task). IsCompleteForTask t c.args.line.budget (g.S.Source.left c.args.source.now) (Rose (g.S.Source.faults c.args.source.now) (g.S.Source.faults c.args.source.now)) (Rose (g.K.Sink.faults c.args.sink.now) (g.K.Sink.faults c.finish.new.sink)) c.finish.result) (sym c.in-Check.is) tt
+returns-in-Check-clause-complete g c =
+    subst (λ (t : Task). IsCompleteForTask t c.args.line.budget (g.S.Source.left c.args.source.now) (Rose (g.S.Source.faults c.args.source.now) (g.S.Source.faults c.check_document.new.source)) (Rose (g.K.Sink.faults c.args.sink.now) (g.K.Sink.faults c.check_document.new.sink)) c.check_document.result) (sym c.in-Check.is) c.check_document.ensures.complete
 
 pub returns-in-Check-clause-unread : goal.returns-in-Check-clause-unread
-returns-in-Check-clause-unread g c = λ none. refl
+returns-in-Check-clause-unread g c = λ none. absurd (none (subst (λ (t : Task). Reads t) (sym c.in-Check.is) tt))
 
 -- nothing is taken for the generated document
 pub returns-in-Generate-clause-outcome : goal.returns-in-Generate-clause-outcome

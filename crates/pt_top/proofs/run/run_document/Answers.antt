@@ -25,5 +25,5 @@ returns-in-Ok-clause-complete g c = λ bytes known short faultless calm still.
     let (read, consumed, is, most, long) = c.in-Ok.ensures.taken in
     let same : c.deref.result.now ≡ read = c.deref.ensures.value ∙ is in
     let reported = subst (λ (xs : List ℕ). IsFaultless xs c.args.budget → IsReported due) same complete in
-    complete-due c.args.budget (g.S.Source.left c.args.source.now) (g.S.Source.left c.read_all.new.source) read bytes (g.K.Sink.faults c.args.sink.now) (g.K.Sink.faults c.finish_document.new.sink)
+    complete-due (λ xs. IsFaultless xs c.args.budget) (g.S.Source.left c.args.source.now) (g.S.Source.left c.read_all.new.source) read bytes (g.K.Sink.faults c.args.sink.now) (g.K.Sink.faults c.finish_document.new.sink)
     (g.K.Sink.taken c.args.sink.now) (g.K.Sink.taken c.finish_document.new.sink) due c.finish_document.result text consumed c.in-Ok.ensures.ok reported tells known faultless still
