@@ -1,16 +1,19 @@
-//! KIND SIZE ITERATIONS [WORD]: a model of bench/generate is built and fired, and a checksum of its trace is printed. `ticks` and `ticks_back` are under SR.
+//! KIND SIZE ITERATIONS [WORD]: a model of bench/generate is built and fired, and a checksum of its trace is printed. `ticks` and `ticks_back` are under SR, `clocks`, `server` and `spread` under DE.
 //! WORD: `bursts` is the interpreter's order of firings, `turns` one firing after another; else it is pt_sched's. `sizes` prints sizes.
 use crate::balance::repetitions;
 use crate::pt_firing::{Actor, Answer, Counts, Inputs, Need, Ports, Tokens, Values};
 use crate::pt_flow_base::Params;
 use crate::pt_library::LibraryActor;
+use crate::pt_agenda::{Turn, first_event, tokens_at};
 use crate::pt_core::{Either, Source};
-use crate::pt_node::{Body, Held, Node, Past, Recorded, Records};
+use crate::pt_de::DeCore;
+use crate::pt_de_plan::{DeInside, DePlan};
+use crate::pt_node::{Body, Held, Labels, Node, Past, Recorded, Records};
 use crate::pt_recv::Channels;
 use crate::pt_sdf::{Core, CorePlan};
 use crate::pt_seq::fire_within;
 use crate::pt_time::Tag;
-use crate::pt_value::{Text, Token};
+use crate::pt_value::{Items, Text, Token};
 use crate::pt_firing::Fires;
 use crate::rstd::alloc::GLOBAL;
 use crate::rstd::vec::Vec as Row;
@@ -84,6 +87,25 @@ fn document(kind: &str, size: usize) -> (Vec<Entity>, Vec<(usize, Vec<(usize, &'
             let groups = (0..size).map(|k| (k + 1, vec![(k, "input")])).collect();
             return (e, groups, 0);
         }
+        "clocks" => {
+            for n in 0..size {
+                e.push(entity(format!("c{n}"), "DiscreteClock", &[("period", 2)]));
+                groups.push((n, vec![(size, "plus")]));
+            }
+            e.push(entity("sum".into(), "AddSubtract", &[]));
+        }
+        "spread" => {
+            for n in 0..size {
+                e.push(entity(format!("c{n}"), "DiscreteClock", &[("period", size as i64), ("offsets", n as i64)]));
+            }
+        }
+        "server" => {
+            e.push(entity("c".into(), "DiscreteClock", &[("period", 1)]));
+            e.push(entity("t".into(), "DiscreteClock", &[("period", 1000)]));
+            e.push(entity("s".into(), "Server", &[("serviceTime", 1)]));
+            e.push(entity("each".into(), "Sampler", &[]));
+            groups = vec![(0, vec![(2, "input")]), (2, vec![(3, "input")]), (1, vec![(3, "trigger")])];
+        }
         "sum" => {
             e.push(entity("ramp".into(), "Ramp", &[]));
             e.push(entity("sum".into(), "AddSubtract", &[]));
@@ -142,7 +164,7 @@ fn join(e: &mut [Entity], groups: &[(usize, Vec<(usize, &'static str)>)]) -> Vec
     let mut of: Vec<(Vec<usize>, Vec<usize>)> = vec![(vec![], vec![]); e.len()];
     for (source, ends) in groups {
         for (node, port) in ends {
-            if *port == "minus" { of[*node].1.push(*source) } else { of[*node].0.push(*source) }
+            if ["minus", "trigger"].contains(port) { of[*node].1.push(*source) } else { of[*node].0.push(*source) }
         }
     }
     let mut channels = vec![];
@@ -283,10 +305,18 @@ fn counts(items: impl IntoIterator<Item = usize>) -> Counts {
     Counts::of(row(items))
 }
 
+/// The value of a parameter: an array of one where the class asks for arrays.
+fn value_of(name: &str, value: i64) -> Token {
+    match name {
+        "offsets" => Token::Array(Items::of(row([Token::Int(value)]))),
+        _ => Token::Int(value),
+    }
+}
+
 fn actor_of(e: &Entity) -> LibraryActor {
     let params = Params {
         class: text(e.class),
-        values: Values::of(row(e.values.iter().map(|(name, value)| (text(name), Token::Int(*value))))),
+        values: Values::of(row(e.values.iter().map(|(name, value)| (text(name), value_of(name, *value))))),
         ports: Ports::of(row([
             (text("plus"), e.plus.len() as u32),
             (text("minus"), e.minus.len() as u32),
@@ -305,6 +335,7 @@ fn node_of(e: &Entity, recorded: bool) -> Node {
         children: Row::new(GLOBAL),
         records: Records::of(row(recorded.then(|| Recorded::new(GLOBAL, 0, 0, text("output"))))),
         path: text(&e.name),
+        labels: Labels::none(GLOBAL),
         live: true,
     }
 }
@@ -322,6 +353,7 @@ pub fn build(kind: &str, size: usize, by: &str) -> (Node, usize, usize) {
     let (mut entities, groups, last) = document(kind, size);
     let channels = join(&mut entities, &groups);
     let (order, room) = match by {
+        _ if is_timed(kind) => (vec![], vec![]),
         "bursts" => ordered(&entities, &channels, false),
         "turns" => ordered(&entities, &channels, true),
         _ => scheduled(&entities, &channels),
@@ -345,7 +377,11 @@ pub fn build(kind: &str, size: usize, by: &str) -> (Node, usize, usize) {
             order: row(order),
         };
         let core = crate::pt_sr::Core::new(GLOBAL, plan).ok().unwrap();
-        return (top_of(Either::Other(core), children), firings, last);
+        return (top_of(Either::Other(Either::First(core)), children), firings, last);
+    }
+    if is_timed(kind) {
+        let core = DeCore::new(GLOBAL, timed_plan(&entities, &channels, children.as_slice())).ok().unwrap();
+        return (top_of(Either::Other(Either::Other(Either::First(core))), children), firings, last);
     }
     let rates = row(children.as_slice().iter().map(|child| {
         let Body::Actor(held) = &child.body else { panic!() };
@@ -367,6 +403,37 @@ pub fn build(kind: &str, size: usize, by: &str) -> (Node, usize, usize) {
     (top_of(Either::First(core), children), firings, last)
 }
 
+/// Whether a model is under DE.
+fn is_timed(kind: &str) -> bool {
+    ["clocks", "server", "spread"].contains(&kind)
+}
+
+/// The plan of a DE composite, of which no channel is deeper than two children.
+fn timed_plan(entities: &[Entity], channels: &[(usize, usize)], children: &[Node]) -> DePlan {
+    let actor = |child: usize| {
+        let Body::Actor(held) = &children[child].body else { panic!() };
+        &held.actor
+    };
+    let places = |child: usize| entities[child].plus.len() + entities[child].minus.len();
+    let mut delayed = vec![];
+    for child in 0..entities.len() {
+        delayed.extend((0..places(child)).map(|place| actor(child).is_delay(place)));
+    }
+    let is_fed = |child: usize| channels.iter().zip(&delayed).any(|((_, to), delayed)| *to == child && !delayed);
+    DePlan {
+        depths: row((0..entities.len()).map(|child| is_fed(child) as u32)),
+        inside: DeInside {
+            sources: row(channels.iter().map(|(from, _)| Source::Output(*from as u32, 0))),
+            places: counts((0..entities.len()).map(places)),
+            inputs: 0,
+            early: row((0..entities.len()).map(|child| (0..places(child)).any(|place| actor(child).is_delay(place)))),
+            delayed: row(delayed.iter().copied()),
+            whole: row((0..entities.len()).map(|child| actor(child).whole())),
+            starts: row(children.iter().map(|child| child.next())),
+        },
+    }
+}
+
 fn top_of(director: crate::pt_directors::Director, children: Row<Node>) -> Node {
     Node {
         past: Past { made: 0, last: None },
@@ -374,6 +441,7 @@ fn top_of(director: crate::pt_directors::Director, children: Row<Node>) -> Node 
         children,
         records: Records::of(Row::new(GLOBAL)),
         path: text("top"),
+        labels: Labels::none(GLOBAL),
         live: true,
     }
 }
@@ -388,6 +456,30 @@ pub fn run(top: &mut Node, iterations: u64) {
             _ => panic!("not done"),
         }
     }
+}
+
+/// What pt_run asks a DE top: the tag of its next firing, up to the stop time.
+fn next_turn(inputs: &[Row<(Tag, Token)>], stop: u64, wake: Option<Tag>, last: Option<Tag>) -> Option<(Tag, Row<Tokens>)> {
+    let event = first_event(last, inputs);
+    match crate::pt_agenda::next_turn(Some(stop), event, wake, last) {
+        Turn::Fire(tag) => Some((tag, tokens_at(GLOBAL, tag, inputs).ok().unwrap())),
+        _ => None,
+    }
+}
+
+/// Reactions until the stop time, and how many firings they were.
+#[inline(never)]
+pub fn run_until(top: &mut Node, stop: u64) -> u64 {
+    let inputs: Row<Row<(Tag, Token)>> = Row::new(GLOBAL);
+    let (mut left, mut last) = (u64::MAX, None);
+    while let Some((tag, lists)) = next_turn(inputs.as_slice(), stop, top.next(), last) {
+        match fire_within(GLOBAL, top, tag, &Inputs::of(&lists), &mut left) {
+            Answer::Done(_) => {}
+            _ => panic!("not done"),
+        }
+        last = Some(tag);
+    }
+    u64::MAX - left
 }
 
 fn checksum(numbers: impl Iterator<Item = i64>) -> (u64, u64) {
@@ -405,14 +497,24 @@ pub extern "C" fn proto_main() {
     let (kind, size, iterations) = (&words[0], words[1].parse().unwrap(), words[2].parse().unwrap());
     let by = words.get(3).map_or("", |word| word);
     let (mut top, firings, last) = build(kind, size, by);
-    run(&mut top, iterations);
+    let made = match kind.as_str() {
+        "clocks" => run_until(&mut top, 2 * iterations - 1),
+        "server" => run_until(&mut top, size as u64 * iterations - 1),
+        "spread" => run_until(&mut top, iterations - 1),
+        _ => {
+            run(&mut top, iterations);
+            (firings as u64 + 1) * iterations
+        }
+    };
     let child = &top.children[last];
     let trace = child.records.as_slice()[0].trace();
-    let (sum, count) = checksum(trace.iter().map(|(_, token)| match token {
+    let (sum, count) = checksum(trace.iter().map(|(tag, token)| match token {
+        // Under SDF and SR the tag tells nothing.
+        Token::Int(n) if is_timed(kind) => n.wrapping_add(tag.time as i64 * 31).wrapping_add(tag.step as i64 * 17),
         Token::Int(n) => *n,
         _ => panic!(),
     }));
-    println!("checksum {sum:016x} tokens {count} firings {} an iteration {}", (firings as u64 + 1) * iterations, firings + 1);
+    println!("checksum {sum:016x} tokens {count} firings {made}");
     if words.get(3).is_some_and(|word| word == "sizes") {
         sizes();
     }

@@ -359,6 +359,16 @@ pub mod vec {
         }
     }
 
+    impl<T> Vec<T> {
+        pub fn from_array<const N: usize>(alloc: Global, items: [T; N]) -> Result<Vec<T>, AllocError> {
+            let mut made = Vec::with_capacity(alloc, N)?;
+            for item in items {
+                made.push_reserved(item);
+            }
+            Ok(made)
+        }
+    }
+
     impl<T: Copy> Vec<T> {
         fn extend_with(&mut self, n: usize, x: T) -> Result<(), AllocError> {
             if !self.grow(n) {
@@ -642,6 +652,26 @@ impl<T> VecDeque<T> {
             drop(x);
         }
     }
+    // Not as Rattle's: it takes from the back one by one.
+    #[cold]
+    #[inline(never)]
+    pub fn truncate(&mut self, n: usize) {
+        while self.len > n {
+            let run = self.len - self.wrapped;
+            let at = if self.wrapped > 0 { self.wrapped - 1 } else { self.head + run - 1 };
+            if self.wrapped > 0 {
+                self.wrapped -= 1;
+            }
+            self.len -= 1;
+            drop(unsafe { self.ptr.add(at).read() });
+        }
+    }
+    pub fn front(&self) -> Option<&T> {
+        if self.len == 0 { None } else { Some(&self[0]) }
+    }
+    pub fn back(&self) -> Option<&T> {
+        if self.len == 0 { None } else { Some(&self[self.len - 1]) }
+    }
 }
 
 impl<T> Drop for VecDeque<T> {
@@ -711,7 +741,7 @@ macro_rules! rvec {
         $crate::rstd::vec::Vec::from_elem($alloc, $x, $n)
     };
     ($alloc:expr; $($x:expr),* $(,)?) => {
-        $crate::rstd::vec::Vec::from_slice($alloc, &[$($x),*])
+        $crate::rstd::vec::Vec::from_array($alloc, [$($x),*])
     };
 }
 
