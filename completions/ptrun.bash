@@ -5,13 +5,15 @@ _ptrun() {
   if [[ $before == --budget || $before == --workers || $before == gen || $before == demo ]]; then
     return
   elif ((COMP_CWORD == 1)); then
-    local first="run gen demo --help --version"
+    local first="run check gen demo --help --version"
     [[ ${COMP_WORDS[0]##*/} == ptrun ]] && first="$first --rebuild"
     mapfile -t COMPREPLY < <(compgen -W "$first" -- "$word")
   elif [[ $word == -* ]]; then
-    mapfile -t COMPREPLY < <(compgen -W "--budget --workers --help" -- "$word")
+    local options="--budget --workers --help"
+    [[ ${COMP_WORDS[1]} == check ]] && options="--help"
+    mapfile -t COMPREPLY < <(compgen -W "$options" -- "$word")
   elif [[ $before == --rebuild ]]; then
-    mapfile -t COMPREPLY < <(compgen -W "run gen demo" -- "$word")
+    mapfile -t COMPREPLY < <(compgen -W "run check gen demo" -- "$word")
   else
     compopt -o filenames 2>/dev/null
     mapfile -t COMPREPLY < <(

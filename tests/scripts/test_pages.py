@@ -40,15 +40,16 @@ class Manual(unittest.TestCase):
 
 class Completions(unittest.TestCase):
     def test_the_first_word(self) -> None:
-        self.assertEqual(completed("bin/ptrun", ""), {"run", "gen", "demo", "--help", "--version", "--rebuild"})
+        self.assertEqual(completed("bin/ptrun", ""), {"run", "check", "gen", "demo", "--help", "--version", "--rebuild"})
         self.assertEqual(completed("bin/ptrun", "--r"), {"--rebuild"})
-        self.assertEqual(completed("bin/try", ""), {"run", "gen", "demo", "--help", "--version"})
+        self.assertEqual(completed("bin/try", ""), {"run", "check", "gen", "demo", "--help", "--version"})
 
     def test_models_and_options(self) -> None:
         self.assertEqual(completed("bin/ptrun", "run", "examples/ramp"), {"examples/ramp_scale.json"})
         self.assertEqual(completed("bin/ptrun", "run", "exam"), {"examples"})
         self.assertEqual(completed("bin/ptrun", "run", "--b"), {"--budget"})
         self.assertEqual(completed("bin/ptrun", "run", "--budget", ""), set())
+        self.assertEqual(completed("bin/ptrun", "check", "--"), {"--help"})
 
     def test_zsh_reads_its_own(self) -> None:
         if not shutil.which("zsh"):

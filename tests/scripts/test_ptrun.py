@@ -67,6 +67,7 @@ class File(Program):
         for words in (("run", "model.json", "--budget", "7"), ("run", "--budget", "7", "model.json")):
             self.assertEqual(self.call(RUN, *words).stdout, "words: run --budget 7\nof a file\n")
         self.assertEqual(self.call(RUN, "run", "--budget=7", "model.json").stdout, "words: run --budget=7\nof a file\n")
+        self.assertEqual(self.call(RUN, "check", "model.json").stdout, "words: check\nof a file\n")
 
     def test_a_dash_is_standard_input(self) -> None:
         self.assertEqual(self.call(RUN, "run", "-", given="the model\n").stdout, ANSWER)
