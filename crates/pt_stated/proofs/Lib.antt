@@ -1,0 +1,4 @@
+mod Counts
+mod Lawful
+mod Held
+mod Stating
