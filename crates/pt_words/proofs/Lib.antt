@@ -1,3 +1,11 @@
+mod Arguments
+mod Forms
+mod Turns
+mod Walks
+mod Items
+mod Programs
+mod Lines
+mod Found
 mod PartLaws
 mod LineLaws
 mod Within

@@ -1,2 +1,4 @@
+pub mod Command
+pub mod Matches
 pub mod Number
 pub mod Parts

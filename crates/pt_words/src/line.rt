@@ -1,9 +1,16 @@
-ghost use Rattle.std.specs.Prelude.{◌≡◌, List, ℕ, map, string_bytes, IfOk, OnErr};
+ghost use Rattle.std.specs.Prelude.{◌≡◌, List, ℕ, map, string_bytes, IfOk, IfErr};
+ghost use Rattle.clap.specs.Words.{subcommand_rows_of};
 ghost use Rattle.pt_words.specs.Parts.{IsTheOne, workers_of, budget_of, Asks, IsRun, IsCheck, IsGeneration, IsDemonstration, IsWithin, IsLineFor};
+ghost use Rattle.pt_words.specs.Matches.{IsTold};
 ghost use Rattle.pt_words.specs.declared.line.Line.{Line};
+ghost use Rattle.pt_words.specs.declared.fault.WordsFault.TheVariants.{Refused};
 
+use crate::command::program;
+use crate::fault::WordsFault;
 use crate::parts::{NOTHING, Parts, parts_of};
-use thiserror::Error;
+use crate::reserved::has_reserved;
+use clap::ArgMatches;
+use std::alloc::Global;
 
 /// What a line of the program asks for.
 #[derive(Clone, Copy, Debug, PartialEq, Eq)]
@@ -24,13 +31,6 @@ pub struct Line {
     pub task: Task,
     pub workers: u32,
     pub budget: u64,
-}
-
-/// Why words ask for nothing.
-#[derive(Clone, Copy, Debug, PartialEq, Eq, Error)]
-pub enum WordsFault {
-    #[error("the words are no line of the program")]
-    Refused,
 }
 
 /// The number of workers where no word gives one.
@@ -99,24 +99,26 @@ fn asked(first: &str, parts: Parts) -> Option<Line>
     }
 }
 
-fn line_for(words: &[String]) -> Option<Line>
-    ensures { IsTheOne (IsLineFor (map string_bytes words.now)) result }
+/// What the command that a parse met asks for, with what the parse found for it.
+fn line_in(matches: &ArgMatches<'_>) -> Option<Line>
+    ensures { IsTheOne (IsTold (subcommand_rows_of matches.now)) result }
 {
-    let [first, rest @ ..] = words else {
-        return None;
-    };
-    match parts_of(rest) {
-        Some(parts) => asked(first.as_str(), parts),
+    match matches.subcommand() {
+        Some((command, matches)) => asked(command, parts_of(matches)?),
         None => None,
     }
 }
 
-/// What the words of the command line, without the program's name, ask for. It takes no memory.
-pub fn read(words: &[String]) -> Result<Line, WordsFault>
+/// What the words of the command line, without the program's name, ask for.
+pub fn read(alloc: Global, words: &[String]) -> Result<Line, WordsFault>
     ensures ok { IfOk result (λ l. IsLineFor (map string_bytes words.now) l) }
-    ensures refused { OnErr result ((l : Line) → IsLineFor (map string_bytes words.now) l → ⊥) }
+    ensures refused { IfErr result (λ fault. fault ≡ Refused → (l : Line) → IsLineFor (map string_bytes words.now) l → ⊥) }
 {
-    match line_for(words) {
+    if has_reserved(words) {
+        return Err(WordsFault::Refused);
+    }
+    let matches = program(alloc)?.try_get_matches_from(words)?;
+    match line_in(&matches) {
         Some(line) => Ok(line),
         None => Err(WordsFault::Refused),
     }

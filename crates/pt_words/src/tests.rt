@@ -79,12 +79,12 @@ fn lines_ask_for_what_they_say_and_others_are_refused(rt: HostRuntime) -> Result
             workers,
             budget,
         };
-        assert!(rt; read(&words).ok() == Some(asked), "at {text}");
+        assert!(rt; read(alloc, &words).ok() == Some(asked), "at {text}");
     }
     for text in OTHERS {
         let words = words_of(alloc, text)?;
-        assert!(rt; read(&words).is_err(), "at {text}");
+        assert!(rt; read(alloc, &words).is_err(), "at {text}");
     }
-    assert!(rt; read(&[]).is_err());
+    assert!(rt; read(alloc, &[]).is_err());
     Ok(())
 }
