@@ -3,9 +3,10 @@ use Rattle.std.proofs.Common.{◌≡◌, ◌⊎◌, inl, inr, ℕ, List, [], Opt
 use Rattle.std.specs.Io.KnownBytes.{Appends, Consumes}
 use Rattle.pt_io.specs.Causes.{Rose}
 use Rattle.pt_words.specs.declared.line.Task.{Task}
+use Rattle.pt_words.specs.declared.line.Task.TheVariants.{Run, Check, Generate, Demonstrate}
 use Rattle.pt_top.specs.declared.status.Status.{Status}
-use Rattle.pt_top.specs.declared.status.Status.TheVariants.{Words, Read, Write}
-use Rattle.pt_top.specs.Outcome.{IsReported, IsDueForTask, for_run, for_check, for_generation, for_demonstration, IsDue, Tells}
+use Rattle.pt_top.specs.declared.status.Status.TheVariants.{Words, Read, Write, Memory}
+use Rattle.pt_top.specs.Outcome.{IsReported, IsDueForTask, for_run, for_check, for_generation, for_demonstration, IsDue, IsCompleteForTask, Tells}
 use Rattle.pt_top.proofs.Completeness.{told-due}
 
 pub nothing-taken : (left : Option (List ℕ)) → Consumes left left []
@@ -20,6 +21,12 @@ not-read e = cc
 
 write-not-words : Write ≡ Words → ⊥
 write-not-words e = cc
+
+not-memory : Read ≡ Memory → ⊥
+not-memory e = cc
+
+write-not-memory : Write ≡ Memory → ⊥
+write-not-memory e = cc
 
 -- a failed read is due only where reading failed
 due-read : (t : Task) (budget : ℕ) (bytes : List ℕ) (rose ended : Type 0) (text : List ℕ) → IsDueForTask t budget bytes rose ended Read text → rose
@@ -42,7 +49,8 @@ module _ (words : List (List ℕ)) (bytes : List ℕ) (rose ended : Type 0) (bef
     where
       by_due : IsDue words bytes rose ended Read text → rose
       by_due (inl h) = due-read h.0.task h.0.budget bytes rose ended text h.2
-      by_due (inr h) = absurd (not-words h.2.0)
+      by_due (inr (inl h)) = absurd (not-words h.2.0)
+      by_due (inr (inr h)) = absurd (not-memory h.1.0)
 
       by_written : ((told ≡ due) × Appends old new text) ⊎ ((told ≡ Write) × Rose before after × (n : ℕ) × (n < length text) × Appends old new (take n text)) → rose
       by_written (inl x) = by_due (subst (λ s. IsDue words bytes rose ended s text) (sym x.0 ∙ e) d)
@@ -53,7 +61,8 @@ module _ (words : List (List ℕ)) (bytes : List ℕ) (rose ended : Type 0) (bef
     where
       by_due : IsDue words bytes rose ended Write text → ⊥
       by_due (inl h) = due-write h.0.task h.0.budget bytes rose ended text h.2
-      by_due (inr h) = write-not-words h.2.0
+      by_due (inr (inl h)) = write-not-words h.2.0
+      by_due (inr (inr h)) = write-not-memory h.1.0
 
       by_written : ((told ≡ due) × Appends old new text) ⊎ ((told ≡ Write) × Rose before after × (n : ℕ) × (n < length text) × Appends old new (take n text)) → Rose before after
       by_written (inl x) = absurd (by_due (subst (λ s. IsDue words bytes rose ended s text) (sym x.0 ∙ e) d))
@@ -62,3 +71,10 @@ module _ (words : List (List ℕ)) (bytes : List ℕ) (rose ended : Type 0) (bef
 -- where no device failed, what is due as reported is told so
 pub reported-told : (before after : ℕ) (old new : Option (List ℕ)) (due told : Status) (text : List ℕ) → Tells before after old new due text told → (Rose before after → ⊥) → IsReported due → IsReported told
 reported-told before after old new due told text t calm r = subst (λ s. IsReported s) (sym (told-due before after old new due told text t calm)) r
+
+-- want of memory completes any task
+pub memory-completes : (t : Task) (budget : ℕ) (left : Option (List ℕ)) (read_rose : Type 0) (before after : ℕ) (old new : Option (List ℕ)) (told : Status) (text : List ℕ) → Tells before after old new Memory text told → IsCompleteForTask t budget left read_rose (Rose before after) told
+memory-completes Run budget left read_rose before after old new told text t = λ bytes is short faultless still calm. reported-told before after old new Memory told text t calm (inr refl)
+memory-completes Check budget left read_rose before after old new told text t = λ bytes is short faultless still calm. reported-told before after old new Memory told text t calm (inr refl)
+memory-completes (Generate stages) budget left read_rose before after old new told text t = λ calm. reported-told before after old new Memory told text t calm (inr refl)
+memory-completes (Demonstrate stages) budget left read_rose before after old new told text t = λ faultless calm. reported-told before after old new Memory told text t calm (inr refl)

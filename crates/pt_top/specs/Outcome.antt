@@ -134,6 +134,10 @@ IsGenerated stages _ text = ⊥
 abbrev pub AreRefused : Status → List ℕ → Type 0
 AreRefused s text = (s ≡ status.Words) × (text ≡ line (codes "refused words"))
 
+-- the words aren't read, for want of memory
+abbrev pub AreUnread : Status → List ℕ → Type 0
+AreUnread s text = (s ≡ Memory) × (text ≡ line (codes "refused memory"))
+
 -- The same for any task. A run of the generated document is told by a summary.
 pub data IsDueForTask (task : Task) (budget : ℕ) (bytes : List ℕ) (rose ended : Type 0) (s : Status) (text : List ℕ) : Type 0 where
   for_run : task ≡ Run → IsDueFor budget bytes rose ended s text → IsDueForTask task budget bytes rose ended s text
@@ -141,10 +145,10 @@ pub data IsDueForTask (task : Task) (budget : ℕ) (bytes : List ℕ) (rose ende
   for_generation : (stages : ℕ) → task ≡ Generate stages → bytes ≡ [] → IsGenerated stages s text → IsDueForTask task budget bytes rose ended s text
   for_demonstration : (stages : ℕ) → task ≡ Demonstrate stages → bytes ≡ [] → AnswersAs form.Summary (generated_text stages) budget s text → IsDueForTask task budget bytes rose ended s text
 
--- The same for any words: those that are no line are refused, and nothing is taken.
+-- The same for any words: those that are no line are refused. Where they are refused, or memory runs out before they are read, nothing is taken.
 abbrev pub IsDue : List (List ℕ) → List ℕ → (rose ended : Type 0) → Status → List ℕ → Type 0
 IsDue words bytes rose ended s text =
-    ((l : Line) × IsLineFor words l × IsDueForTask l.task l.budget bytes rose ended s text) ⊎ (((l : Line) → IsLineFor words l → ⊥) × (bytes ≡ []) × AreRefused s text)
+    ((l : Line) × IsLineFor words l × IsDueForTask l.task l.budget bytes rose ended s text) ⊎ ((((l : Line) → IsLineFor words l → ⊥) × (bytes ≡ []) × AreRefused s text) ⊎ ((bytes ≡ []) × AreUnread s text))
 
 -- a task that reads a document
 abbrev pub Reads : Task → Type 0

@@ -146,8 +146,9 @@ pub fn run_program<R: Threads + Wait + Sync, S: Source, K: Sink, G: Gate + Sync>
 {
     words_are_one_line();
     lines_are_within();
-    match read(words) {
+    match read(alloc, words) {
         Ok(line) => answer_line(alloc, line, source, sink),
         Err(WordsFault::Refused) => finish(sink, Status::Words, b"refused words\n"),
+        Err(WordsFault::Memory) => finish(sink, Status::Memory, b"refused memory\n"),
     }
 }

@@ -2,9 +2,9 @@ use Rattle.std.proofs.Common.{◌≡◌, inl, inr, List, [], refl, rules, map, s
 use Rattle.std.specs.Io.KnownBytes.{IsAtEnd}
 use Rattle.pt_io.specs.Causes.{Rose}
 use Rattle.pt_words.specs.declared.line.Line.{Line}
-use Rattle.pt_top.specs.declared.status.Status.TheVariants.{Words}
+use Rattle.pt_top.specs.declared.status.Status.TheVariants.{Words, Memory}
 use Rattle.pt_top.specs.Outcome.{IsCompleteForTask}
-use Rattle.pt_top.proofs.TaskLaws.{nothing-taken, read-rose, write-rose}
+use Rattle.pt_top.proofs.TaskLaws.{nothing-taken, read-rose, write-rose, memory-completes}
 use Rattle.pt_top.proofs.run.run_program.Goals as goal
 
 -- the line that was read is the one of the words
@@ -39,10 +39,22 @@ answer_line-requires g c = c.lines_are_within.ensures (map string_bytes c.args.w
 
 -- words that are no line are refused, and nothing is taken
 pub returns-in-Err-Refused-clause-outcome : goal.returns-in-Err-Refused-clause-outcome
-returns-in-Err-Refused-clause-outcome g c = (Words, _, [], nothing-taken (g.S.Source.left c.args.source.now), inr (c.in-Err-Refused.ensures.refused, refl, (refl, refl)), c.finish.ensures)
+returns-in-Err-Refused-clause-outcome g c = (Words, _, [], nothing-taken (g.S.Source.left c.args.source.now), inr (inl (c.in-Err-Refused.ensures.refused c.in-Err-Refused.field-0-is, refl, (refl, refl))), c.finish.ensures)
 
 pub returns-in-Err-Refused-clause-complete : goal.returns-in-Err-Refused-clause-complete
-returns-in-Err-Refused-clause-complete g c = λ l line. absurd (c.in-Err-Refused.ensures.refused l line)
+returns-in-Err-Refused-clause-complete g c = λ l line. absurd (c.in-Err-Refused.ensures.refused c.in-Err-Refused.field-0-is l line)
 
 pub returns-in-Err-Refused-clause-unread : goal.returns-in-Err-Refused-clause-unread
 returns-in-Err-Refused-clause-unread g c = λ none. refl
+
+-- nor is anything taken where memory runs out before the words are read
+pub returns-in-Err-Memory-clause-outcome : goal.returns-in-Err-Memory-clause-outcome
+returns-in-Err-Memory-clause-outcome g c = (Memory, _, [], nothing-taken (g.S.Source.left c.args.source.now), inr (inr (refl, (refl, refl))), c.finish-in-Err-Memory.ensures)
+
+pub returns-in-Err-Memory-clause-complete : goal.returns-in-Err-Memory-clause-complete
+returns-in-Err-Memory-clause-complete g c = λ l line.
+    memory-completes l.task l.budget (g.S.Source.left c.args.source.now) (Rose (g.S.Source.faults c.args.source.now) (g.S.Source.faults c.args.source.now)) (g.K.Sink.faults c.args.sink.now) (g.K.Sink.faults c.finish-in-Err-Memory.new.sink)
+    (g.K.Sink.taken c.args.sink.now) (g.K.Sink.taken c.finish-in-Err-Memory.new.sink) c.finish-in-Err-Memory.result _ c.finish-in-Err-Memory.ensures
+
+pub returns-in-Err-Memory-clause-unread : goal.returns-in-Err-Memory-clause-unread
+returns-in-Err-Memory-clause-unread g c = λ none. refl
