@@ -1,5 +1,5 @@
 -- The plan of a composite, and how it is told that there is none.
-use Rattle.std.proofs.Common.{◌≡◌, List, length, sym, refl, ap, subst, arith}
+use Rattle.std.proofs.Common.{◌≡◌, List, Bool, length, sym, refl, ap, subst, arith}
 use Rattle.std.proofs.lemmas.List.{length-map}
 use Rattle.pt_meaning.specs.Valuation.{TickPlan}
 use Rattle.pt_core.specs.Source.{source_of}
@@ -9,14 +9,14 @@ use Rattle.pt_de_laws.specs.DeActs.{Suits}
 use Rattle.pt_de_laws.specs.Lawful.{IsLawful}
 use Rattle.pt_de_plan.specs.declared.inside.DeInside.{DeInside}
 use Rattle.pt_de_plan.specs.declared.planning.DePlan.{DePlan}
-use Rattle.pt_de_plan.specs.Depths.{FaultStands}
+use Rattle.pt_de_plan.specs.Depths.{AreDepthsIn, FaultStands}
 use Rattle.pt_de_plan.specs.Inside.{plan_of, roles_of}
 use Rattle.pt_library.specs.LibraryActor.{rows}
 use Rattle.pt_node.specs.Shown.{Shown}
 use Rattle.pt_trees.specs.declared.composite_fault.CompositeFault.{CompositeFault}
 use Rattle.pt_trees.specs.Around.{Around}
 use Rattle.pt_trees.specs.Composite.{trees_of, IsUncomposed}
-use Rattle.pt_trees.specs.De.{de, IsDeWired}
+use Rattle.pt_trees.specs.De.{de, delayed_in, IsDeWired}
 use Rattle.pt_trees.specs.Fresh.{AllFresh}
 use Rattle.pt_trees.specs.Rates.{AllStarted}
 use Rattle.pt_trees.specs.Sr.{tick_plan}
@@ -26,10 +26,11 @@ use Rattle.pt_de_inside.specs.Planned.{IsPlanOf, IsToldAs}
 use Rattle.pt_de_inside.proofs.FormLaws.{core-is, same-loop}
 use Rattle.pt_de_inside.proofs.SuitLaws.{plans-suit}
 
-pub plan-is : (around : Around) (kids : List Shown) (x : DeInside) (p : DePlan) → IsDeWired around (trees_of kids) → AllFresh kids → AllStarted (trees_of kids) → IsInsideOf around (trees_of kids) x → p.inside ≡ x → IsLawful (plan_of x) (roles_of x p.depths.items) → IsPlanOf around (trees_of kids) p
-plan-is around kids x p wired fresh started is same lawful = record {
+pub plan-is : (around : Around) (kids : List Shown) (x : DeInside) (p : DePlan) → IsDeWired around (trees_of kids) → AllFresh kids → AllStarted (trees_of kids) → IsInsideOf around (trees_of kids) x → p.inside ≡ x → AreDepthsIn (plan_of x) x.delayed.items p.depths.items → IsLawful (plan_of x) (roles_of x p.depths.items) → IsPlanOf around (trees_of kids) p
+plan-is around kids x p wired fresh started is same depths lawful = record {
   inside = subst (λ (y : DeInside). IsInsideOf around (trees_of kids) y) (sym same) is;
   core = core-is around (trees_of kids) x wired is p.depths.items lawful;
+  depths = subst (λ (q : TickPlan). AreDepthsIn q (delayed_in around (trees_of kids)) p.depths.items) is.plan (subst (λ (flags : List Bool). AreDepthsIn (plan_of x) flags p.depths.items) is.delayed depths);
   suits = subst (λ (y : DeInside). Suits rows (tick_plan around) (roles_of y p.depths.items) (trees_of kids)) (sym same) (plans-suit around kids x p.depths.items wired fresh started is lawful);
 }
 

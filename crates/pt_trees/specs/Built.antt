@@ -34,7 +34,7 @@ mutual
   pub data IsBuilt (net : Net) (starts : Starts) : ℕ → Shown → Type 0 where
     built_actor : (k : ℕ) (e : NetEntity) (a : LibraryActor) → IsEntity net k e → IsUndirected e → StartsAs starts k a → IsBuilt net starts k (actor_node a e.path (recorded_of net k e))
     built_composite : (k : ℕ) (e : NetEntity) (director : Director) (kids : List Shown) (s : Shown) → IsEntity net k e → IsDirectedBy e director → AreBuilt net starts (children_of net.entities.items k) kids →
-        IsComposite director (around_in net k e) kids e.path (recorded_of net k e) (labels_of net k e) s → IsBuilt net starts k s
+        IsComposite director (around_in net starts k e) kids e.path (recorded_of net k e) (labels_of net k e) s → IsBuilt net starts k s
 
   pub data AreBuilt (net : Net) (starts : Starts) : List ℕ → List Shown → Type 0 where
     none_built : AreBuilt net starts [] []
@@ -56,7 +56,7 @@ pub record IsRefused (net : Net) (starts : Starts) (r : Refusal) : Type 0 where
   pub directed : IsDirectedBy entity director
   pub kids : List Shown
   pub built : AreBuilt net starts (children_of net.entities.items number) kids
-  pub refused : (composing director).IsRefused (around_in net number entity) (trees_of kids) r.code
+  pub refused : (composing director).IsRefused (around_in net starts number entity) (trees_of kids) r.code
   pub path_is : r.path ≡ entity.path
 
 -- What isn't built: an entity that is neither a library actor nor a composite with a director; a library actor without a start; a composite that doesn't fit its director, or whose director isn't built yet;
@@ -66,7 +66,7 @@ pub data IsUnbuilt (net : Net) (starts : Starts) : Type 0 where
   undirected : (k : ℕ) (e : NetEntity) → IsEntity net k e → (IsUndirected e → ⊥) → director_of e ≡ None → IsUnbuilt net starts
   unstarted : (k : ℕ) (e : NetEntity) → IsEntity net k e → IsUndirected e → ((a : LibraryActor) → StartsAs starts k a → ⊥) → IsUnbuilt net starts
   misfit : (k : ℕ) (e : NetEntity) (director : Director) (kids : List Shown) → IsEntity net k e → IsDirectedBy e director → AreBuilt net starts (children_of net.entities.items k) kids →
-      (composing director).IsMisfit (around_in net k e) (trees_of kids) → IsUnbuilt net starts
+      (composing director).IsMisfit (around_in net starts k e) (trees_of kids) → IsUnbuilt net starts
   deep : (k : ℕ) → IsNested net k 32 → IsUnbuilt net starts
 
 -- how it is told that a composite of this path isn't built

@@ -5,10 +5,14 @@ use Rattle.pt_meaning.specs.Net.{Source, Own, Output}
 use Rattle.pt_meaning.specs.Streams.{get}
 use Rattle.pt_meaning.specs.Tree as tree
 use Rattle.pt_value.specs.declared.token.Token.{Token}
+use Rattle.pt_core.specs.declared.either.Either.TheVariants.{First, Other}
 use Rattle.pt_document.specs.declared.code.Code.{Code}
 use Rattle.pt_document.specs.declared.code.Code.TheVariants.{ZeroDelayLoop}
+use Rattle.pt_de_plan.specs.Depths.{AreDepthsIn}
 use Rattle.pt_de_plan.specs.Feeds.{IsZeroDelayLoop}
 use Rattle.pt_library.specs.LibraryActor as library
+use Rattle.pt_node.specs.declared.body.Body.{Body}
+use Rattle.pt_node.specs.declared.body.Body.TheVariants.{Actor, Composite}
 use Rattle.pt_node.specs.View.{Tree}
 use Rattle.pt_trees.specs.Around.{Around}
 use Rattle.pt_trees.specs.Composing.{Composing}
@@ -83,6 +87,14 @@ pub record IsDeCore (around : Around) (kids : List Tree) (core : tree.Core Token
   pub delayed : (children : List ℕ) → IsLoopIn around kids children → ⊥
   pub is : core ≡ tree.De (tick_plan around)
 
+-- what the director of a composite with this wiring round these children plans as depths: under DE those of the children
+abbrev pub PlansDepths : Around → List Tree → Body → Type 0
+PlansDepths around kids (Actor held) = Unit {0}
+PlansDepths around kids (Composite (First sdf)) = Unit {0}
+PlansDepths around kids (Composite (Other (First sr))) = Unit {0}
+PlansDepths around kids (Composite (Other (Other (First core)))) = AreDepthsIn (tick_plan around) (delayed_in around kids) core.roles.depths
+PlansDepths around kids (Composite (Other (Other (Other pn)))) = Unit {0}
+
 -- it is refused where some directed loop has none
 pub record IsDeRefused (around : Around) (kids : List Tree) (code : Code) : Type 0 where
   pub wired : IsDeWired around kids
@@ -91,4 +103,4 @@ pub record IsDeRefused (around : Around) (kids : List Tree) (code : Code) : Type
   pub is : code ≡ ZeroDelayLoop
 
 abbrev pub de : Composing
-de = record { IsCore = IsDeCore; IsMisfit = λ around kids. IsDeWired around kids → ⊥; IsRefused = IsDeRefused }
+de = record { IsCore = IsDeCore; IsMisfit = λ around kids. IsDeWired around kids → ⊥; IsRefused = IsDeRefused; maximum = λ around. 0 }

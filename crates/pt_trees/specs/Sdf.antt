@@ -26,14 +26,14 @@ use Rattle.pt_trees.specs.Composing.{Composing}
 abbrev pub first_counts : List Tree → List net.Source → List ℕ
 first_counts kids sources = map (λ (xs : List Token). length xs) (first_held rows kids sources)
 
--- The inside of an SDF composite with this wiring round these children: each child needs its numbers of tokens at its places, the same at each firing, and gives its rates,
+-- The inside of an SDF composite with this wiring round these children: each child needs its numbers of tokens at its places, the same at each firing, and gives its rates, or is to give those that are declared,
 -- and the first tokens stand on the channels.
 pub record IsInsideOf (around : Around) (kids : List Tree) (x : Inside) : Type 0 where
   pub sources : map source_of x.sources.items ≡ around.sources
   pub places : x.places ≡ around.places
   pub needs : needs_of (facts_of rows) kids ≡ planned around.places x.needs
   pub steady : AreSteady kids
-  pub rates : HaveRates kids x.rates.items
+  pub rates : HaveRates around.declared kids x.rates.items
   pub first : x.first ≡ first_counts kids around.sources
   pub inputs : x.inputs ≡ around.inputs
   pub outputs : x.outputs ≡ around.outputs
@@ -52,7 +52,7 @@ pub record IsSdfCore (around : Around) (kids : List Tree) (core : tree.Core Toke
 
 -- SDF can't plan a child, or what is within isn't well formed
 abbrev pub IsUnplannable : Around → List Tree → Type 0
-IsUnplannable around kids = HasUnsteady kids ⊎ (HasInside around kids → ⊥)
+IsUnplannable around kids = HasUnsteady around kids ⊎ (HasInside around kids → ⊥)
 
 -- the code that a composite without a plan is refused with
 abbrev pub IsCodeOf : PlanFault → Code → Type 0
@@ -70,4 +70,4 @@ pub record IsUnplanned (around : Around) (kids : List Tree) (c : Code) : Type 0 
   pub code_is : IsCodeOf fault c
 
 abbrev pub sdf : Composing
-sdf = record { IsCore = IsSdfCore; IsMisfit = IsUnplannable; IsRefused = IsUnplanned }
+sdf = record { IsCore = IsSdfCore; IsMisfit = IsUnplannable; IsRefused = IsUnplanned; maximum = λ around. 0 }

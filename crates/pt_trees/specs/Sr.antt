@@ -38,4 +38,4 @@ pub record IsSrCore (around : Around) (kids : List Tree) (core : tree.Core Token
 
 -- no composite of SR is refused
 abbrev pub sr : Composing
-sr = record { IsCore = IsSrCore; IsMisfit = λ around kids. IsWired around kids → ⊥; IsRefused = λ around kids code. ⊥ }
+sr = record { IsCore = IsSrCore; IsMisfit = λ around kids. IsWired around kids → ⊥; IsRefused = λ around kids code. ⊥; maximum = λ around. 0 }

@@ -1,15 +1,18 @@
 use pt_core::Source;
 use pt_firing::Counts;
+use pt_stated::Stated;
 
 /// What a composite is round, but for its children: where its channels begin, how many places each child has, how many
-/// own inputs and outputs there are, and whether anything is stated. Channels are numbered by the places where they end:
-/// those of the children in order, then the own outputs.
+/// own inputs and outputs there are, and what is stated. Channels are numbered by the places where they end: those of the
+/// children in order, then the own outputs.
 #[derive(Debug, Drop)]
 pub struct Wiring {
     pub sources: Vec<Source>,
     pub places: Counts,
     pub inputs: u32,
     pub outputs: u32,
-    /// Whether its director and its ports state nothing: no capacity, and no rate.
-    pub is_plain: bool,
+    /// What it states of its channels and of its ports, where it is a process network.
+    pub stated: Option<Stated>,
+    /// How many tokens a firing of each child is to give on each of its outputs, where the child is a process network.
+    pub declared: Vec<Option<Counts>>,
 }
