@@ -80,6 +80,8 @@ module _ (around : Around) (kids : List Shown) (path : List ℕ) (records : List
   composite-is = record {
     core = tree.De (tick_plan around);
     is_core = plan.core;
+    depths = plan.depths;
+    maximum_is = refl;
     node = node;
     children = list-again kids;
     path_is = refl;

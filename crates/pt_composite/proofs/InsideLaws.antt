@@ -31,10 +31,10 @@ none-formed around kids x is counted not (y, same, formed) =
 
 -- ---- why SDF doesn't plan it
 
-pub by-steady : (around : Around) (kids : List Tree) → HasUnsteady kids → IsUnplannable around kids
+pub by-steady : (around : Around) (kids : List Tree) → HasUnsteady around kids → IsUnplannable around kids
 by-steady around kids some = inl some
 
-pub by-rates : (around : Around) (kids : List Tree) → AreRates kids None → IsUnplannable around kids
+pub by-rates : (around : Around) (kids : List Tree) → AreRates around.declared kids None → IsUnplannable around kids
 by-rates around kids some = inl (some.0, some.1, some.2, inr some.3)
 
 pub by-needs : (around : Around) (kids : List Tree) → AreNeeds kids around.places None → IsUnplannable around kids

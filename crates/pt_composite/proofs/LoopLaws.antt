@@ -1,6 +1,6 @@
 -- One step of the loops over children, channels and tokens.
 use Rattle.std.proofs.Common.{◌≡◌, ℕ, zero, suc, ◌+◌, ◌-◌, ◌<◌, ◌≤◌, List, [], ◌∷◌, ◌++◌, length, take, map, get_or, set, Bool, true, false, inl, Option, Some, None, refl, sym, ap, ap₂, ◌∙◌, subst, arith, append_assoc, add-one, get_or-set_same}
-use Rattle.std.proofs.lemmas.List.{take_more, take_all, set-set, length-map}
+use Rattle.std.proofs.lemmas.List.{take_more, take_all, set-set, length-map, length-take-le}
 use Rattle.std.proofs.Math.ListN.{get_or-map}
 use Rattle.pt_meaning.specs.Basics.{Streams}
 use Rattle.pt_meaning.specs.Machine.{Need}
@@ -17,10 +17,11 @@ use Rattle.pt_node.specs.Shown.{shown_node}
 use Rattle.pt_meaning.specs.Streams.{get}
 use Rattle.pt_node.specs.View.{Tree, node_of}
 use Rattle.pt_trees.specs.Sdf.{first_counts}
-use Rattle.pt_trees.specs.Rates.{rates_of, HaveRates, is_steady, AreSteady, HasUnsteady, IsStarted, AllStarted}
+use Rattle.pt_trees.specs.Around.{Around, declared_at}
+use Rattle.pt_trees.specs.Rates.{rates_given, all_given, HaveRates, is_steady, AreSteady, HasUnsteady, IsStarted, AllStarted}
 use Rattle.pt_composite.specs.Nonstrict.{is_nonstrict}
 use Rattle.pt_composite.proofs.HeldLaws.{held_to, held-append, held-empty, held-more}
-use Rattle.pt_trees.proofs.NodeLaws.{trees, trees-more, tree-at, map-append}
+use Rattle.pt_trees.proofs.NodeLaws.{trees, trees-length, trees-more, tree-at, map-append}
 
 -- a token more is put
 pub put-more : {X : Type 0} (L0 L : List (List X)) (c : ℕ) (ts : List X) (i : ℕ) (x y : X) → c < length L0 → L ≡ set L0 c (get_or L0 c [] ++ take i ts) → i < length ts → x ≡ get_or ts i x → y ≡ x →
@@ -37,13 +38,34 @@ lowered-at (s ∷ S) zero = refl
 lowered-at (s ∷ S) (suc c) = lowered-at S c
 
 -- the rates of one child more
-pub rates-more : (kids : List Node) (i : ℕ) (d : Node) (rs : List (List ℕ)) (r : List ℕ) → i < length kids → d ≡ get_or kids i d → HaveRates (trees (take i kids)) rs → Some r ≡ rates_of (node_of (shown_node d)) → HaveRates (trees (take (i + 1) kids)) (rs ++ r ∷ [])
-rates-more kids i d rs r h is e f =
-    map-append (λ (v : List ℕ). Option.Some v) rs (r ∷ []) ∙ ap₂ (λ (v : List (Option (List ℕ))) (w : Option (List ℕ)). v ++ w ∷ []) e f ∙ sym (map-append rates_of (trees (take i kids)) (node_of (shown_node d) ∷ [])) ∙ ap (λ v. map rates_of v) (sym (trees-more kids i d h is))
+given-snoc : (declared : List (Option (List ℕ))) (ts : List Tree) (t : Tree) → all_given declared (ts ++ t ∷ []) ≡ all_given declared ts ++ rates_given (declared_at declared (length ts)) t ∷ []
+given-snoc [] [] t = refl
+given-snoc (d ∷ declared) [] t = refl
+given-snoc [] (s ∷ ts) t = ap (λ (v : List (Option (List ℕ))). rates_given None s ∷ v) (given-snoc [] ts t)
+given-snoc (d ∷ declared) (s ∷ ts) t = ap (λ (v : List (Option (List ℕ))). rates_given d s ∷ v) (given-snoc declared ts t)
+
+given-length : (declared : List (Option (List ℕ))) (ts : List Tree) → length (all_given declared ts) ≡ length ts
+given-length declared [] = refl
+given-length [] (t ∷ ts) = ap (λ (n : ℕ). suc n) (given-length [] ts)
+given-length (d ∷ declared) (t ∷ ts) = ap (λ (n : ℕ). suc n) (given-length declared ts)
+
+rates-length : (declared : List (Option (List ℕ))) (ts : List Tree) (rs : List (List ℕ)) → HaveRates declared ts rs → length rs ≡ length ts
+rates-length declared ts rs e = sym (length-map rs (λ (v : List ℕ). Option.Some v)) ∙ ap (λ (v : List (Option (List ℕ))). length v) e ∙ given-length declared ts
+
+pub rates-more : (declared : List (Option (List ℕ))) (kids : List Node) (i : ℕ) (d : Node) (rs : List (List ℕ)) (n : ℕ) (r : List ℕ) → i < length kids → d ≡ get_or kids i d → HaveRates declared (trees (take i kids)) rs → n ≡ length rs → Some r ≡ rates_given (declared_at declared n) (node_of (shown_node d)) →
+    HaveRates declared (trees (take (i + 1) kids)) (rs ++ r ∷ [])
+rates-more declared kids i d rs n r h is e many f =
+    let long : n ≡ length (trees (take i kids)) = many ∙ rates-length declared (trees (take i kids)) rs e in
+    map-append (λ (v : List ℕ). Option.Some v) rs (r ∷ []) ∙ ap₂ (λ (v : List (Option (List ℕ))) (w : Option (List ℕ)). v ++ w ∷ []) e f ∙
+    ap (λ (m : ℕ). all_given declared (trees (take i kids)) ++ rates_given (declared_at declared m) (node_of (shown_node d)) ∷ []) long ∙
+    sym (given-snoc declared (trees (take i kids)) (node_of (shown_node d))) ∙ ap (λ (v : List Tree). all_given declared v) (sym (trees-more kids i d h is))
 
 -- a child whose rates vary
-pub rates-none : (kids : List Node) (i : ℕ) (d : Node) → i < length kids → d ≡ get_or kids i d → None ≡ rates_of (node_of (shown_node d)) → (n : ℕ) × (kid : Tree) × (get (trees kids) n ≡ Some kid) × (rates_of kid ≡ None)
-rates-none kids i d h is f = (i, node_of (shown_node d), tree-at kids i d h is, sym f)
+pub rates-none : (declared : List (Option (List ℕ))) (kids : List Node) (i : ℕ) (d : Node) (rs : List (List ℕ)) (n : ℕ) → i < length kids → d ≡ get_or kids i d → HaveRates declared (trees (take i kids)) rs → n ≡ length rs → None ≡ rates_given (declared_at declared n) (node_of (shown_node d)) →
+    (m : ℕ) × (kid : Tree) × (get (trees kids) m ≡ Some kid) × (rates_given (declared_at declared m) kid ≡ None)
+rates-none declared kids i d rs n h is e many f =
+    let at : n ≡ i = many ∙ rates-length declared (trees (take i kids)) rs e ∙ trees-length (take i kids) ∙ length-take-le i kids (omega (arith, h)) in
+    (i, node_of (shown_node d), tree-at kids i d h is, ap (λ (m : ℕ). rates_given (declared_at declared m) (node_of (shown_node d))) (sym at) ∙ sym f)
 
 -- a child among the others is started as they are
 pub started-at : (kids : List Node) (i : ℕ) (d : Node) → i < length kids → d ≡ get_or kids i d → AllStarted (trees kids) → IsStarted (node_of (shown_node d))
@@ -66,8 +88,8 @@ pub steady-all : (kids : List Node) (i : ℕ) → length kids ≤ i → AreStead
 steady-all kids i h all = subst (λ (v : List Node). AreSteady (trees v)) (take_all i kids h) all
 
 -- one that isn't
-pub unsteady-at : (kids : List Node) (i : ℕ) (d : Node) → i < length kids → d ≡ get_or kids i d → is_steady (node_of (shown_node d)) ≡ false → HasUnsteady (trees kids)
-unsteady-at kids i d h is not = (i, node_of (shown_node d), tree-at kids i d h is, inl not)
+pub unsteady-at : (around : Around) (kids : List Node) (i : ℕ) (d : Node) → i < length kids → d ≡ get_or kids i d → is_steady (node_of (shown_node d)) ≡ false → HasUnsteady around (trees kids)
+unsteady-at around kids i d h is not = (i, node_of (shown_node d), tree-at kids i d h is, inl not)
 
 -- the first tokens of one channel more
 pub counts-more : (kids : List Tree) (sources : List Source) (i : ℕ) (d : Source) (ns : List ℕ) (ts : List Token) → i < length sources → ns ≡ first_counts kids (map source_of (take i sources)) → ts ≡ first_of rows kids (source_of (get_or sources i d)) →

@@ -1,6 +1,7 @@
 -- The PN composite that is built is fresh, and it is the one of the definitions.
-use Rattle.std.proofs.Common.{◌≡◌, ℕ, zero, suc, ◌<◌, List, [], ◌∷◌, length, map, get_or, replicate, Bool, true, false, Some, refl, sym, ap, subst, ◌∙◌, arith}
-use Rattle.std.proofs.lemmas.List.{length-map, length-replicate}
+use Rattle.std.proofs.Common.{◌≡◌, ℕ, zero, suc, ◌<◌, ◌≤◌, List, [], ◌∷◌, length, map, get_or, Some, None, refl, sym, ap, subst, ◌∙◌, arith}
+use Rattle.std.proofs.lemmas.List.{length-map}
+use Rattle.std.proofs.lemmas.Option.{none-some, same_Some}
 use Rattle.std.specs.List.{All}
 use Rattle.pt_meaning.specs.Basics.{Streams}
 use Rattle.pt_meaning.specs.Machine.{Need, Over, Counts, Any}
@@ -29,11 +30,12 @@ use Rattle.pt_library.specs.LibraryActor.{rows}
 use Rattle.pt_node.specs.Recorded.{RecordedPort}
 use Rattle.pt_node.specs.Shown.{Shown, all_of}
 use Rattle.pt_node.specs.View.{Tree, node_of, nodes_of}
+use Rattle.pt_stated.specs.declared.stated.Stated.{Stated}
 use Rattle.pt_trees.specs.declared.wiring.Wiring.{Wiring}
 use Rattle.pt_trees.specs.Around.{Around, around_of}
 use Rattle.pt_trees.specs.Composite.{trees_of, IsComposed}
 use Rattle.pt_trees.specs.Fresh.{AllFresh, AreEmpty}
-use Rattle.pt_trees.specs.Pn.{pn, pn_plan, IsPnWired, IsPnWiredIf}
+use Rattle.pt_trees.specs.Pn.{pn, pn_plan, most_stated, IsStatedFor, IsPnWired}
 use Rattle.pt_trees.specs.Sr.{IsWired}
 use Rattle.pt_trees.proofs.ChildLaws.{placed-child}
 use Rattle.pt_trees.proofs.FreshLaws.{list-again, nodes-list, nodes-are, all-fit, all-start, all-fitting, all-plans, all-unrecorded, start-at}
@@ -47,9 +49,20 @@ use Rattle.pt_composite.proofs.KeptLaws.{node-kept, needs-again}
 
 -- ---- the wiring
 
-pub wired-by : (w : Wiring) (kids : List Tree) (plain : Bool) → IsWired (around_of w) kids → w.is_plain ≡ plain → IsPnWiredIf (around_of w) kids plain
-wired-by w kids true wired e = record { wired = wired; plain = e }
-wired-by w kids false wired e = λ is. let t : false ≡ true = sym e ∙ is.plain in cc
+-- with what is stated, which is lawful
+abbrev pub wired-with : (w : Wiring) (kids : List Tree) (stated : Stated) → IsWired (around_of w) kids → w.stated ≡ Some stated → (0 < stated.initial) × (stated.initial ≤ stated.maximum) × (length stated.takes ≡ w.inputs) × (length stated.gives ≡ w.outputs) → IsPnWired (around_of w) kids
+wired-with w kids stated wired is lawful = record { wired = wired; stated = stated; is = is; lawful = record { holds = lawful.0; grows = lawful.1; takes = lawful.2; gives = lawful.3 } }
+
+-- where nothing is stated, it is none
+pub none-stated : (w : Wiring) (kids : List Tree) → w.stated ≡ None → IsPnWired (around_of w) kids → ⊥
+none-stated w kids none wired = none-some wired.stated (sym none ∙ wired.is)
+
+-- nor where what is stated isn't lawful
+pub none-lawful : (w : Wiring) (kids : List Tree) (stated : Stated) → w.stated ≡ Some stated → ((0 < stated.initial) × (stated.initial ≤ stated.maximum) × (length stated.takes ≡ w.inputs) × (length stated.gives ≡ w.outputs) → ⊥) → IsPnWired (around_of w) kids → ⊥
+none-lawful w kids stated is not wired =
+    let same : wired.stated ≡ stated = same_Some wired.stated stated (sym wired.is ∙ is) in
+    let l : IsStatedFor w.inputs w.outputs stated = subst (λ (s : Stated). IsStatedFor w.inputs w.outputs s) same wired.lawful in
+    not (l.holds, l.grows, l.takes, l.gives)
 
 -- each channel begins at what is there
 named-from : (inputs children : ℕ) (cs : List net.Source) → AllThere inputs children cs → All (IsNamed children) cs
@@ -74,7 +87,7 @@ there (x ∷ xs) (suc i) h = there xs i (omega (arith, h))
 
 module _ (around : Around) (kids : List Tree) (wired : IsPnWired around kids) where
   abbrev network : Network Token
-  network = network_round around kids
+  network = network_round around.sources around.places wired.stated kids
 
   entries : length kids ≡ length around.places
   entries = sym (needs-length (facts_of rows) kids) ∙ ap (λ v. length v) wired.wired.needed ∙ planned-length around.places wired.wired.needs
@@ -89,8 +102,8 @@ module _ (around : Around) (kids : List Tree) (wired : IsPnWired around kids) wh
     channels = omega (arith, wired.wired.channels);
     first = held-length rows kids around.sources;
     starts = length-map kids (need_of rows) ∙ entries;
-    holds = omega arith;
-    grows = omega arith;
+    holds = wired.lawful.holds;
+    grows = wired.lawful.grows;
   }
 
   counts : AllCount (started network)
@@ -110,10 +123,10 @@ module _ (around : Around) (kids : List Tree) (wired : IsPnWired around kids) wh
   }
 
 -- the plan of the code has this network
-pub network-is : (w : Wiring) (kids : List Tree) (p : CorePlan) → map source_of p.sources.items ≡ map source_of w.sources.items → p.places ≡ w.places → p.takes ≡ replicate w.inputs 1 → p.initial ≡ 1 → p.maximum ≡ 65536 →
-    p.first.items ≡ first_held rows kids (map source_of w.sources.items) → map need_in p.starts.items ≡ map (need_of rows) kids → network_of p ≡ network_round (around_of w) kids
-network-is w kids p sources places takes initial maximum first starts =
-    λ i. record { plan = record { net = record { sources = sources i; places = places i }; takes = takes i }; initial = initial i; maximum = maximum i; first = first i; starts = starts i }
+pub network-is : (sources : List net.Source) (places : List ℕ) (stated : Stated) (kids : List Tree) (p : CorePlan) → map source_of p.sources.items ≡ sources → p.places ≡ places → p.takes ≡ stated.takes → p.initial ≡ stated.initial → p.maximum ≡ stated.maximum → p.first.items ≡ first_held rows kids sources →
+    map need_in p.starts.items ≡ map (need_of rows) kids → network_of p ≡ network_round sources places stated kids
+network-is sources places stated kids p sources_are places_are takes initial maximum first starts =
+    λ i. record { plan = record { net = record { sources = sources_are i; places = places_are i }; takes = takes i }; initial = initial i; maximum = maximum i; first = first i; starts = starts i }
 
 -- ---- the composite
 
@@ -122,7 +135,7 @@ module _ (around : Around) (kids : List Shown) (path : List ℕ) (records : List
   its = trees_of kids
 
   abbrev core : State
-  core = started (network_round around its)
+  core = started (network around its wired)
 
   abbrev made : Shown
   made = built (Other (Other (Other core))) kids path records labels
@@ -142,19 +155,19 @@ module _ (around : Around) (kids : List Shown) (path : List ℕ) (records : List
   suits = record { children = entries around its wired; counts = counts-each; starts = starts-each }
 
   fitting-core : IsFor (facts_of rows) core its
-  fitting-core = calls-start (facts_of rows) (network_round around its) its (lawful around its wired) refl (counts around its wired)
+  fitting-core = calls-start (facts_of rows) (network around its wired) its (lawful around its wired) refl (counts around its wired)
 
   fits : (pn_acts rows).Fits core its
   fits = record { idle = refl; fitting = fitting-core; suits = suits }
 
   -- what the channels hold at first is the first tokens
-  held : tree.Pn (pn_plan around) first ≡ (pn_acts rows).calls.core_of core
-  held = sym (ap (λ (v : Streams Token). tree.Pn (pn_plan around) v) (joined-nothing (total around.places) first))
+  held : tree.Pn (pn_plan around wired.stated) first ≡ (pn_acts rows).calls.core_of core
+  held = sym (ap (λ (v : Streams Token). tree.Pn (pn_plan around wired.stated) v) (joined-nothing (total around.places) first))
 
-  node : node_of made ≡ tree.composite (tree.Pn (pn_plan around) first) its
+  node : node_of made ≡ tree.composite (tree.Pn (pn_plan around wired.stated) first) its
   node =
-      ap (λ (d : tree.Core Token). tree.Composite tree.unfired (tree.Pn (pn_plan around) first) d (nodes_of (all_of kids))) (sym held) ∙
-      ap (λ ks. tree.Composite tree.unfired (tree.Pn (pn_plan around) first) (tree.Pn (pn_plan around) first) ks) (nodes-are kids)
+      ap (λ (d : tree.Core Token). tree.Composite tree.unfired (tree.Pn (pn_plan around wired.stated) first) d (nodes_of (all_of kids))) (sym held) ∙
+      ap (λ ks. tree.Composite tree.unfired (tree.Pn (pn_plan around wired.stated) first) (tree.Pn (pn_plan around wired.stated) first) ks) (nodes-are kids)
 
   start : IsAtStart rows (node_of made)
   start = (refl, sym held, subst (λ (v : List Tree). first ≡ first_held rows v around.sources) (sym (nodes-list kids)) refl, all-start kids fresh)
@@ -165,13 +178,15 @@ module _ (around : Around) (kids : List Shown) (path : List ℕ) (records : List
   fitting : IsFitting (node_of made)
   fitting = (long, long, all-fitting kids fresh)
 
-  whole : IsWhole (pn_plan around).net (length (pn_plan around).takes)
-  whole = subst (λ (n : ℕ). IsWhole (pn_plan around).net n) (sym (length-replicate around.inputs 1)) (record { channels = omega (arith, wired.wired.channels); there = wired.wired.there })
+  whole : IsWhole (pn_plan around wired.stated).net (length (pn_plan around wired.stated).takes)
+  whole = subst (λ (n : ℕ). IsWhole (pn_plan around wired.stated).net n) (sym wired.lawful.takes) (record { channels = omega (arith, wired.wired.channels); there = wired.wired.there })
 
   pub composite-is : IsComposed pn around kids path records labels made
   composite-is = record {
-    core = tree.Pn (pn_plan around) first;
+    core = tree.Pn (pn_plan around wired.stated) first;
     is_core = record { wired = wired; is = refl };
+    depths = tt;
+    maximum_is = ap most_stated (sym wired.is);
     node = node;
     children = list-again kids;
     path_is = refl;

@@ -140,6 +140,8 @@ module _ (around : Around) (kids : List Shown) (path : List ℕ) (records : List
   composite-is = record {
     core = tree.Sdf (plan_of p) (first_held rows (trees_of kids) (plan_of p).net.sources);
     is_core = record { inside = x; is_inside = is; plan = plan_of p; planned = plan; is = refl };
+    depths = tt;
+    maximum_is = refl;
     node = node;
     children = list-again kids;
     path_is = refl;

@@ -103,6 +103,8 @@ module _ (around : Around) (kids : List Shown) (path : List ℕ) (records : List
   composite-is = record {
     core = tree.Sr (tick_plan around);
     is_core = record { wired = wired; is = refl };
+    depths = tt;
+    maximum_is = refl;
     node = node;
     children = list-again kids;
     path_is = refl;

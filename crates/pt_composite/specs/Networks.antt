@@ -1,14 +1,15 @@
--- The network of a PN composite as it is built. The capacities are those of the profile for a director that states none.
-use Rattle.std.specs.Prelude.{List, map}
+-- The network of a PN composite as it is built.
+use Rattle.std.specs.Prelude.{ℕ, List, map}
+use Rattle.pt_meaning.specs.Net as net
 use Rattle.pt_meaning.specs.NodeFacts.{need_of}
 use Rattle.pt_meaning.specs.Start.{first_held}
 use Rattle.pt_value.specs.declared.token.Token.{Token}
 use Rattle.pt_pn_laws.specs.State.{Network}
 use Rattle.pt_library.specs.LibraryActor.{rows}
 use Rattle.pt_node.specs.View.{Tree}
-use Rattle.pt_trees.specs.Around.{Around}
-use Rattle.pt_trees.specs.Pn.{pn_plan}
+use Rattle.pt_stated.specs.declared.stated.Stated.{Stated}
 
--- Its net is that of the wiring, each channel may hold one token at first and 65,536 at most, and begins with its first tokens; and each child needs what it needs at its start.
-abbrev pub network_round : Around → List Tree → Network Token
-network_round around kids = record { plan = pn_plan around; initial = 1; maximum = 65536; first = first_held rows kids around.sources; starts = map (need_of rows) kids }
+-- Its net has these channels and places, a firing takes and each channel may hold as many tokens as are stated, and a channel begins with its first tokens; and each child needs what it needs at its start.
+abbrev pub network_round : List net.Source → (places : List ℕ) → Stated → List Tree → Network Token
+network_round sources places stated kids =
+    record { plan = record { net = record { sources = sources; places = places }; takes = stated.takes }; initial = stated.initial; maximum = stated.maximum; first = first_held rows kids sources; starts = map (need_of rows) kids }

@@ -33,7 +33,7 @@ pub(crate) fn inside_of(
     let Some(needs) = needs_of(alloc, children, wiring.places.as_slice())? else {
         return Err(CompositeFault::Unbuilt);
     };
-    let Some(rates) = rates_of(alloc, children)? else {
+    let Some(rates) = rates_of(alloc, children, &wiring.declared)? else {
         return Err(CompositeFault::Unbuilt);
     };
     let inside = Inside {

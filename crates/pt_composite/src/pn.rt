@@ -1,30 +1,27 @@
-ghost use Rattle.std.specs.Prelude.{◌≡◌, IfOk, IfErr, map};
+ghost use Rattle.std.specs.Prelude.{◌≡◌, ◌↔◌, ◌<◌, ◌≤◌, IfOk, IfErr, IsTrue, length, map};
+ghost use Rattle.pt_core.specs.Source.{source_of};
 ghost use Rattle.pt_node.specs.Shown.{shown, shown_node};
 ghost use Rattle.pt_pn_laws.specs.State.{started};
+ghost use Rattle.pt_process.specs.Plan.{IsSoundNetwork};
 ghost use Rattle.pt_trees.specs.Around.{around_of};
 ghost use Rattle.pt_trees.specs.Composite.{trees_of, IsComposed, IsUncomposed};
 ghost use Rattle.pt_trees.specs.Fresh.{AllFresh, AreEmpty};
-ghost use Rattle.pt_trees.specs.Pn.{pn, IsPnWired, IsPnWiredIf};
+ghost use Rattle.pt_trees.specs.Pn.{pn};
 ghost use Rattle.pt_composite.specs.Networks.{network_round};
 
 use crate::node::composite_node;
-use crate::rates::ones;
 use crate::starts::starts_of;
 use crate::tokens::first_lists;
 use crate::wired::is_wired;
-use pt_core::Either;
+use pt_core::{Either, Source};
+use pt_firing::Counts;
 use pt_node::{Labels, Node, Records};
 use pt_pn::Core;
 use pt_process::CorePlan;
+use pt_stated::Stated;
 use pt_trees::{CompositeFault, Wiring};
 use pt_value::Text;
 use std::alloc::{AllocError, Global};
-
-/// How many tokens a channel may hold at first, where its director states nothing.
-const INITIAL: usize = 1;
-
-/// How many it may hold at most, however often it grows.
-const MAXIMUM: usize = 65_536;
 
 /// The PN composite round these children, at its start. Each child is a process, and may be of any kind.
 pub(crate) fn pn_composite(
@@ -40,10 +37,25 @@ pub(crate) fn pn_composite(
     ensures node { IfOk result (λ node. IsComposed pn (around_of wiring) (map shown children.items) path records labels (shown_node node)) }
     ensures stands { IfErr result (IsUncomposed pn (around_of wiring) (map shown children.items)) }
 {
-    if !is_pn_wired(alloc, &children, &wiring)? {
+    let wired = is_wired(alloc, &children, &wiring)?;
+    if !wired {
         return Err(CompositeFault::Unbuilt);
     }
-    let core = core_of(alloc, &children, wiring)?;
+    let Wiring {
+        sources,
+        places,
+        inputs,
+        outputs,
+        stated,
+        ..
+    } = wiring;
+    let Some(stated) = stated else {
+        return Err(CompositeFault::Unbuilt);
+    };
+    if !is_lawful(&stated, inputs, outputs) {
+        return Err(CompositeFault::Unbuilt);
+    }
+    let core = core_of(alloc, &children, sources, places, stated)?;
     Ok(composite_node(
         Either::Other(Either::Other(Either::Other(core))),
         children,
@@ -53,30 +65,37 @@ pub(crate) fn pn_composite(
     ))
 }
 
-/// Whether the wiring is one of a PN composite round these children.
-fn is_pn_wired(alloc: Global, children: &[Node], wiring: &Wiring) -> Result<bool, AllocError>
-    ensures { IfOk result (IsPnWiredIf (around_of wiring.now) (trees_of (map shown children.now))) }
+/// Whether what is stated is lawful for so many own ports.
+fn is_lawful(stated: &Stated, inputs: u32, outputs: u32) -> bool
+    ensures { IsTrue result ↔ ((0 < stated.now.initial) × (stated.now.initial ≤ stated.now.maximum) × (length stated.now.takes ≡ inputs) × (length stated.now.gives ≡ outputs)) }
 {
-    let wired = is_wired(alloc, children, wiring)?;
-    Ok(wired && wiring.is_plain)
+    stated.initial > 0
+        && stated.initial <= stated.maximum
+        && stated.takes.len() == inputs as usize
+        && stated.gives.len() == outputs as usize
 }
 
-/// The core round these children, whose channels hold the first tokens.
-fn core_of(alloc: Global, children: &[Node], wiring: Wiring) -> Result<Core, AllocError>
-    requires { IsPnWired (around_of wiring) (trees_of (map shown children.now)) }
-    ensures { IfOk result (λ core. core ≡ started (network_round (around_of wiring) (trees_of (map shown children.now)))) }
+/// The core of a net round these children, whose channels hold the first tokens.
+fn core_of(
+    alloc: Global,
+    children: &[Node],
+    sources: Vec<Source>,
+    places: Counts,
+    stated: Stated,
+) -> Result<Core, AllocError>
+    requires { IsSoundNetwork (network_round (map source_of sources.items) places stated (trees_of (map shown children.now))) }
+    ensures { IfOk result (λ core. core ≡ started (network_round (map source_of sources.items) places stated (trees_of (map shown children.now)))) }
 {
-    let first = first_lists(alloc, children, &wiring.sources)?;
+    let first = first_lists(alloc, children, &sources)?;
     let starts = starts_of(alloc, children)?;
-    let takes = ones(alloc, wiring.inputs as usize)?;
     Core::new(
         alloc,
         CorePlan {
-            sources: wiring.sources,
-            places: wiring.places,
-            takes,
-            initial: INITIAL,
-            maximum: MAXIMUM,
+            sources,
+            places,
+            takes: stated.takes,
+            initial: stated.initial,
+            maximum: stated.maximum,
             first,
             starts,
         },

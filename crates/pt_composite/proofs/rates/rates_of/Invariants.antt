@@ -5,4 +5,4 @@ use Rattle.pt_trees.specs.Rates.{HaveRates}
 use Rattle.pt_composite.proofs.rates.rates_of.Given as goal
 
 abbrev pub invariant-loop-child : goal.invariant-loop-child
-invariant-loop-child l = HaveRates (trees_of (map shown (take l.child-index l.children))) l.rates.items
+invariant-loop-child l = HaveRates l.declared (trees_of (map shown (take l.child-index l.children))) l.rates.items
