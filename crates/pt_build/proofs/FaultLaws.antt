@@ -20,10 +20,10 @@ use Rattle.pt_trees.specs.Built.{AreBuilt, IsBuilt, IsToldAs, BuildFaultStands, 
 use Rattle.pt_build.proofs.TreeLaws.{built-snoc, fresh-snoc}
 
 pub fault-stands : (net : Net) (starts : Starts) (k : ℕ) (e : NetEntity) (director : Director) (kids : List Shown) (fault : CompositeFault) (answer : BuildFault) → IsEntity net k e → IsDirectedBy e director → AreBuilt net starts (children_of net.entities.items k) kids →
-    CompositeFaultStands director (around_in net k e) kids fault → IsToldAs fault e.path answer → BuildFaultStands net starts answer
+    CompositeFaultStands director (around_in net starts k e) kids fault → IsToldAs fault e.path answer → BuildFaultStands net starts answer
 fault-stands net starts k e director kids composite_fault.Unbuilt answer at directed all stands told = subst (λ f. BuildFaultStands net starts f) (sym told) (misfit k e director kids at directed all stands)
 fault-stands net starts k e director kids (composite_fault.Refused code) (Refused r) at directed all stands told =
-    record { number = k; entity = e; at = at; director = director; directed = directed; kids = kids; built = all; refused = subst (λ c. (composing director).IsRefused (around_in net k e) (trees_of kids) c) (sym told.0) stands; path_is = told.1 }
+    record { number = k; entity = e; at = at; director = director; directed = directed; kids = kids; built = all; refused = subst (λ c. (composing director).IsRefused (around_in net starts k e) (trees_of kids) c) (sym told.0) stands; path_is = told.1 }
 fault-stands net starts k e director kids (composite_fault.Refused code) Unbuilt at directed all stands told = absurd told
 fault-stands net starts k e director kids (composite_fault.Refused code) Memory at directed all stands told = tt
 fault-stands net starts k e director kids composite_fault.Memory answer at directed all stands told = subst (λ f. BuildFaultStands net starts f) (sym told) tt

@@ -7,18 +7,19 @@ use Rattle.pt_node.specs.Shown.{shown_node}
 use Rattle.pt_node.specs.View.{node_of}
 use Rattle.pt_build.specs.declared.builder.Builder.{Builder}
 use Rattle.pt_trees.specs.declared.build_fault.BuildFault.{BuildFault}
-use Rattle.pt_trees.specs.Trees.{Starts, StartsAs, AreStarted, IsTree}
+use Rattle.pt_trees.specs.Trees.{Starts, AreStarted, IsTree}
 use Rattle.pt_trees.specs.Built.{IsBuilt, at_top, BuildFaultStands}
+use Rattle.pt_build.specs.Starts.{starts_in}
 use Rattle.pt_build.specs.Reached.{IsPrepared, IsReached}
 use Rattle.pt_build.proofs.TreeLaws.{built-tree}
 
-pub reach-top : (b : Builder) (starts : Starts) → b.starts.now ≡ starts → IsPrepared b → AreStarted starts → IsReached b 0 0
+pub reach-top : (b : Builder) (starts : Starts) → starts_in b ≡ starts → IsPrepared b → AreStarted starts → IsReached b 0 0
 reach-top b starts are prepared started = record { prepared = prepared; started = subst (λ (s : Starts). AreStarted s) (sym are) started; nested = at_top; bound = omega arith }
 
 pub top-built : (n m : Net) (s t : Starts) (r : Result Node BuildFault) → n ≡ m → s ≡ t → IfOk r (λ node. IsBuilt n s 0 (shown_node node)) → IfOk r (λ node. IsBuilt m t 0 (shown_node node))
 top-built n m s t r e f is = subst (λ (v : Net). IfOk r (λ node. IsBuilt v t 0 (shown_node node))) e (subst (λ (v : Starts). IfOk r (λ node. IsBuilt n v 0 (shown_node node))) f is)
 
-pub top-tree : (net : Net) (starts : Starts) (r : Result Node BuildFault) → IfOk r (λ node. IsBuilt net starts 0 (shown_node node)) → IfOk r (λ node. IsTree net (StartsAs starts) 0 (node_of (shown_node node)))
+pub top-tree : (net : Net) (starts : Starts) (r : Result Node BuildFault) → IfOk r (λ node. IsBuilt net starts 0 (shown_node node)) → IfOk r (λ node. IsTree net starts 0 (node_of (shown_node node)))
 top-tree net starts (Ok node) is = built-tree is
 top-tree net starts (Err fault) is = tt
 

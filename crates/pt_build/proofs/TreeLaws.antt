@@ -8,16 +8,16 @@ use Rattle.pt_node.specs.View.{node_of}
 use Rattle.pt_trees.specs.Composite.{trees_of}
 use Rattle.pt_trees.specs.Fresh.{AreEmpty, IsFresh, AllFresh}
 use Rattle.pt_trees.specs.Rates.{IsStarted, AllStarted}
-use Rattle.pt_trees.specs.Trees.{Starts, StartsAs, AreStarted, IsTree, AreTrees, of_actor, of_composite, no_trees, more_trees}
+use Rattle.pt_trees.specs.Trees.{Starts, AreStarted, IsTree, AreTrees, of_actor, of_composite, no_trees, more_trees}
 use Rattle.pt_trees.specs.Built.{IsBuilt, AreBuilt, built_actor, built_composite, none_built, more_built, actor_node}
 
 mutual
-  pub built-tree : {net : Net} {starts : Starts} {k : ℕ} {s : Shown} → IsBuilt net starts k s → IsTree net (StartsAs starts) k (node_of s)
+  pub built-tree : {net : Net} {starts : Starts} {k : ℕ} {s : Shown} → IsBuilt net starts k s → IsTree net starts k (node_of s)
   built-tree (built_actor k e a at undirected is) = of_actor k e a at undirected is
   built-tree {net = net} {starts = starts} (built_composite k e director kids s at directed all is) =
-      subst (λ t. IsTree net (StartsAs starts) k t) (sym is.node) (of_composite k e director (trees_of kids) is.core at directed (built-trees all) is.is_core)
+      subst (λ t. IsTree net starts k t) (sym is.node) (of_composite k e director (trees_of kids) is.core at directed (built-trees all) is.is_core)
 
-  pub built-trees : {net : Net} {starts : Starts} {ks : List ℕ} {ss : List Shown} → AreBuilt net starts ks ss → AreTrees net (StartsAs starts) ks (trees_of ss)
+  pub built-trees : {net : Net} {starts : Starts} {ks : List ℕ} {ss : List Shown} → AreBuilt net starts ks ss → AreTrees net starts ks (trees_of ss)
   built-trees none_built = no_trees
   built-trees (more_built k ks s ss one all) = more_trees k ks (node_of s) (trees_of ss) (built-tree one) (built-trees all)
 

@@ -1,2 +1,3 @@
 pub mod Within
+pub mod Starts
 pub mod Reached

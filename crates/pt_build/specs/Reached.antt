@@ -4,6 +4,7 @@ use Rattle.pt_net.specs.Inside.{AreInsides}
 use Rattle.pt_trees.specs.Trees.{AreStarted}
 use Rattle.pt_trees.specs.Recorded.{AreRecordLists}
 use Rattle.pt_build.specs.declared.builder.Builder.{Builder}
+use Rattle.pt_build.specs.Starts.{starts_in}
 use Rattle.pt_build.specs.Within.{AreWithin}
 use Rattle.pt_trees.specs.Built.{IsNested}
 
@@ -16,7 +17,7 @@ pub record IsPrepared (b : Builder) : Type 0 where
 -- the entity stands below so many composites, in a net whose library actors are started
 pub record IsReached (b : Builder) (k depth : ℕ) : Type 0 where
   pub prepared : IsPrepared b
-  pub started : AreStarted b.starts.now
+  pub started : AreStarted (starts_in b)
   pub nested : IsNested b.net.now k depth
   pub bound : depth ≤ 32
 

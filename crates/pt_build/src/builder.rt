@@ -4,8 +4,8 @@ ghost use Rattle.pt_trees.specs.Built.{IsToldAs, held_node};
 
 use crate::entities::{director_of, entity_in, is_undirected, start_in};
 use crate::labels::labels_of;
+use crate::networks::{declared_of, stated_at};
 use crate::numbering::{numbers_at, record_lists};
-use crate::plain::is_plain;
 use crate::records::records_of;
 use crate::wiring::{inputs_of, narrow_sources, outputs_of};
 use crate::within::{Within, within_all, within_at};
@@ -15,6 +15,7 @@ use pt_firing::{Counts, Fires};
 use pt_library::LibraryActor;
 use pt_net::{Net, NetEntity};
 use pt_node::{Body, Held, Labels, Node, Past, Records};
+use pt_stated::Stated;
 use pt_trees::{BuildFault, CompositeFault, Wiring};
 use pt_value::Text;
 use pt_wiring::{Insides, Numbers};
@@ -37,6 +38,7 @@ struct Frame {
 pub(crate) struct Builder<'a> {
     net: &'a Net,
     starts: &'a [Option<LibraryActor>],
+    stated: &'a [Option<Stated>],
     insides: Insides,
     records: Vec<Numbers>,
     channels: Vec<Within>,
@@ -101,16 +103,18 @@ impl<'a> Builder<'a> {
     ghost use Rattle.pt_trees.specs.Labels.{labels_of};
     ghost use Rattle.pt_trees.specs.Recorded.{recorded_of};
     ghost use Rattle.pt_trees.specs.Directors.{IsDirectedBy};
-    ghost use Rattle.pt_trees.specs.Trees.{IsEntity, IsUndirected, AreStarted, StartsAs, around_in};
+    ghost use Rattle.pt_trees.specs.Trees.{IsEntity, IsUndirected, AreStarted, StartsAs, around_in, stated_at, declared_by};
     ghost use Rattle.pt_trees.specs.Built.{IsBuilt, AreBuilt, IsNested, BuildFaultStands};
+    ghost use Rattle.pt_build.specs.Starts.{starts_of, starts_in};
     ghost use Rattle.pt_build.specs.Reached.{IsPrepared, IsReached, HasRoom};
 
     pub(crate) fn of(
         alloc: Global,
         net: &'a Net,
         starts: &'a [Option<LibraryActor>],
+        stated: &'a [Option<Stated>],
     ) -> Result<Builder<'a>, AllocError>
-        ensures { IfOk result (λ b. (b.net.now ≡ net.now) × (b.starts.now ≡ starts.now) × IsPrepared b) }
+        ensures { IfOk result (λ b. (b.net.now ≡ net.now) × (starts_in b ≡ starts_of starts.now stated.now) × IsPrepared b) }
     {
         let insides = Insides::of(alloc, net)?;
         let records = record_lists(alloc, net.entities.len(), &net.recorded)?;
@@ -118,6 +122,7 @@ impl<'a> Builder<'a> {
         Ok(Builder {
             net,
             starts,
+            stated,
             insides,
             records,
             channels,
@@ -146,7 +151,7 @@ impl<'a> Builder<'a> {
     fn entity_at(&self, k: usize) -> Result<&NetEntity, BuildFault>
         requires { (depth : ℕ) × IsNested self.now.net.now k depth }
         ensures at { IfOk result (λ entity. IsEntity self.now.net.now k entity.now) }
-        ensures stands { IfErr result (BuildFaultStands self.now.net.now self.now.starts.now) }
+        ensures stands { IfErr result (BuildFaultStands self.now.net.now (starts_in self.now)) }
     {
         let Some(entity) = entity_in(&self.net.entities, k) else {
             return Err(BuildFault::Unbuilt);
@@ -165,8 +170,8 @@ impl<'a> Builder<'a> {
         requires prepared { IsPrepared self.now }
         requires entity { IsEntity self.now.net.now k entity.now }
         requires undirected { IsUndirected entity.now }
-        requires actor { StartsAs self.now.starts.now k actor.now }
-        ensures built { IfOk result (λ node. IsBuilt self.now.net.now self.now.starts.now k (shown_node node)) }
+        requires actor { StartsAs (starts_in self.now) k actor.now }
+        ensures built { IfOk result (λ node. IsBuilt self.now.net.now (starts_in self.now) k (shown_node node)) }
         ensures fresh { IfOk result (λ node. IsFresh (shown_node node)) }
     {
         let records = self.records_at(alloc, k, entity)?;
@@ -180,9 +185,9 @@ impl<'a> Builder<'a> {
         requires prepared { IsPrepared self.now }
         requires entity { IsEntity self.now.net.now k entity.now }
         requires undirected { IsUndirected entity.now }
-        ensures built { IfOk result (λ node. IsBuilt self.now.net.now self.now.starts.now k (shown_node node)) }
+        ensures built { IfOk result (λ node. IsBuilt self.now.net.now (starts_in self.now) k (shown_node node)) }
         ensures fresh { IfOk result (λ node. IsFresh (shown_node node)) }
-        ensures stands { IfErr result (BuildFaultStands self.now.net.now self.now.starts.now) }
+        ensures stands { IfErr result (BuildFaultStands self.now.net.now (starts_in self.now)) }
     {
         let Some(actor) = start_in(self.starts, k) else {
             return Err(BuildFault::Unbuilt);
@@ -194,22 +199,39 @@ impl<'a> Builder<'a> {
     fn wiring_of(&self, alloc: Global, k: usize, entity: &NetEntity) -> Result<Wiring, AllocError>
         requires prepared { IsPrepared self.now }
         requires entity { IsEntity self.now.net.now k entity.now }
-        ensures { IfOk result (λ wiring. around_of wiring ≡ around_in self.now.net.now k entity.now) }
+        ensures { IfOk result (λ wiring. around_of wiring ≡ around_in self.now.net.now (starts_in self.now) k entity.now) }
     {
         Ok(Wiring {
             sources: narrow_sources(alloc, self.insides.sources[k].as_slice())?,
             places: Counts::of(Vec::from_slice(alloc, self.insides.places[k].as_slice())?),
             inputs: inputs_of(&entity.ports)?,
             outputs: outputs_of(&entity.ports)?,
-            is_plain: is_plain(entity),
+            stated: self.stated_at(alloc, k)?,
+            declared: self.declared_at(alloc, k)?,
         })
+    }
+
+    /// What the entity of that number states, if it is a process network.
+    fn stated_at(&self, alloc: Global, k: usize) -> Result<Option<Stated>, AllocError>
+        ensures { IfOk result (λ stated. stated ≡ stated_at (starts_in self.now) k) }
+    {
+        stated_at(alloc, self.stated, k)
+    }
+
+    /// What is declared of the children of the composite of that number.
+    fn declared_at(&self, alloc: Global, k: usize) -> Result<Vec<Option<Counts>>, AllocError>
+        requires prepared { IsPrepared self.now }
+        requires there { k < length self.now.net.now.entities.items }
+        ensures { IfOk result (λ declared. declared.items ≡ map (declared_by (starts_in self.now)) (children_of self.now.net.now.entities.items k)) }
+    {
+        declared_of(alloc, self.stated, self.children_of(k))
     }
 
     /// What the composite of that number is made of beside its children.
     fn frame_of(&self, alloc: Global, k: usize, entity: &NetEntity) -> Result<Frame, AllocError>
         requires prepared { IsPrepared self.now }
         requires entity { IsEntity self.now.net.now k entity.now }
-        ensures wiring { IfOk result (λ frame. around_of frame.wiring ≡ around_in self.now.net.now k entity.now) }
+        ensures wiring { IfOk result (λ frame. around_of frame.wiring ≡ around_in self.now.net.now (starts_in self.now) k entity.now) }
         ensures path { IfOk result (λ frame. frame.path ≡ entity.now.path) }
         ensures records { IfOk result (λ frame. frame.records ≡ recorded_of self.now.net.now k entity.now) }
         ensures labels { IfOk result (λ frame. frame.labels ≡ labels_of self.now.net.now k entity.now) }
@@ -232,14 +254,14 @@ impl<'a> Builder<'a> {
         children: Vec<Node>,
     ) -> Result<Node, BuildFault>
         requires prepared { IsPrepared self.now }
-        requires started { AreStarted self.now.starts.now }
+        requires started { AreStarted (starts_in self.now) }
         requires entity { IsEntity self.now.net.now k entity.now }
         requires directed { IsDirectedBy entity.now director }
-        requires children { AreBuilt self.now.net.now self.now.starts.now (children_of self.now.net.now.entities.items k) (map shown children.items) }
+        requires children { AreBuilt self.now.net.now (starts_in self.now) (children_of self.now.net.now.entities.items k) (map shown children.items) }
         requires fresh { AllFresh (map shown children.items) }
-        ensures built { IfOk result (λ node. IsBuilt self.now.net.now self.now.starts.now k (shown_node node)) }
+        ensures built { IfOk result (λ node. IsBuilt self.now.net.now (starts_in self.now) k (shown_node node)) }
         ensures fresh { IfOk result (λ node. IsFresh (shown_node node)) }
-        ensures stands { IfErr result (BuildFaultStands self.now.net.now self.now.starts.now) }
+        ensures stands { IfErr result (BuildFaultStands self.now.net.now (starts_in self.now)) }
     {
         let frame = self.frame_of(alloc, k, entity)?;
         match composite(
@@ -268,7 +290,7 @@ impl<'a> Builder<'a> {
         requires directed { IsUndirected entity.now → ⊥ }
         ensures director { IfOk result (IsDirectedBy entity.now) }
         ensures room { IfOk result (λ _. HasRoom self.now k depth) }
-        ensures stands { IfErr result (BuildFaultStands self.now.net.now self.now.starts.now) }
+        ensures stands { IfErr result (BuildFaultStands self.now.net.now (starts_in self.now)) }
     {
         if is_deepest(depth) {
             return Err(BuildFault::Unbuilt);
@@ -292,9 +314,9 @@ impl<'a> Builder<'a> {
     #[cycle(tree)]
     pub(crate) fn node_at(&self, alloc: Global, k: usize, depth: u32) -> Result<Node, BuildFault>
         requires { IsReached self.now k depth }
-        ensures built { IfOk result (λ node. IsBuilt self.now.net.now self.now.starts.now k (shown_node node)) }
+        ensures built { IfOk result (λ node. IsBuilt self.now.net.now (starts_in self.now) k (shown_node node)) }
         ensures fresh { IfOk result (λ node. IsFresh (shown_node node)) }
-        ensures stands { IfErr result (BuildFaultStands self.now.net.now self.now.starts.now) }
+        ensures stands { IfErr result (BuildFaultStands self.now.net.now (starts_in self.now)) }
     {
         let entity = self.entity_at(k)?;
         if is_undirected(entity) {
@@ -309,9 +331,9 @@ impl<'a> Builder<'a> {
     #[cycle(tree)]
     fn children_at(&self, alloc: Global, k: usize, depth: u32) -> Result<Vec<Node>, BuildFault>
         requires { HasRoom self.now k depth }
-        ensures built { IfOk result (λ nodes. AreBuilt self.now.net.now self.now.starts.now (children_of self.now.net.now.entities.items k) (map shown nodes.items)) }
+        ensures built { IfOk result (λ nodes. AreBuilt self.now.net.now (starts_in self.now) (children_of self.now.net.now.entities.items k) (map shown nodes.items)) }
         ensures fresh { IfOk result (λ nodes. AllFresh (map shown nodes.items)) }
-        ensures stands { IfErr result (BuildFaultStands self.now.net.now self.now.starts.now) }
+        ensures stands { IfErr result (BuildFaultStands self.now.net.now (starts_in self.now)) }
     {
         let numbers = self.children_of(k);
         let mut children = Vec::new(alloc);

@@ -1,7 +1,7 @@
 ghost use Rattle.std.specs.Prelude.{◌≡◌, IfSome, IfNone, Some, None, true, false, slice_get};
 ghost use Rattle.pt_library.specs.declared.library_actor.LibraryActor.{LibraryActor};
 ghost use Rattle.pt_trees.specs.Directors.{named, director_of};
-ghost use Rattle.pt_trees.specs.Trees.{IsUndirected, StartsAs};
+ghost use Rattle.pt_trees.specs.Trees.{IsUndirected};
 
 use pt_document::{Director, director_named};
 use pt_library::LibraryActor;
@@ -20,8 +20,8 @@ pub(crate) fn entity_in(entities: &[NetEntity], k: usize) -> Option<&NetEntity>
 
 /// The actor that the entity of that number starts as, if there is one.
 pub(crate) fn start_in(starts: &[Option<LibraryActor>], k: usize) -> Option<&LibraryActor>
-    ensures some { IfSome result (λ actor. StartsAs starts.now k actor.now) }
-    ensures none { IfNone result ((a : LibraryActor) → StartsAs starts.now k a → ⊥) }
+    ensures some { IfSome result (λ actor. slice_get starts.now k ≡ Some (Some actor.now)) }
+    ensures none { IfNone result ((a : LibraryActor) → slice_get starts.now k ≡ Some (Some a) → ⊥) }
 {
     match starts.get(k) {
         Some(Some(actor)) => Some(actor),

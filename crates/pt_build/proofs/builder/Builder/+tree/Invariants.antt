@@ -2,6 +2,7 @@ use Rattle.std.proofs.Common.{◌+◌, ◌-◌, ◌*◌, take, map}
 use Rattle.pt_node.specs.Shown.{shown}
 use Rattle.pt_trees.specs.Fresh.{AllFresh}
 use Rattle.pt_trees.specs.Built.{AreBuilt}
+use Rattle.pt_build.specs.Starts.{starts_in}
 use Rattle.pt_build.proofs.builder.Builder.+tree.Given as goal
 
 abbrev pub decreases-node_at : goal.decreases-node_at
@@ -12,6 +13,6 @@ decreases-children_at l = 2 * (32 - l.depth)
 
 abbrev pub invariant-children_at-loop-number : goal.invariant-children_at-loop-number
 invariant-children_at-loop-number l = record {
-  built : AreBuilt l.self.net.now l.self.starts.now (take l.number-index l.numbers) (map shown l.children.items);
+  built : AreBuilt l.self.net.now (starts_in l.self) (take l.number-index l.numbers) (map shown l.children.items);
   fresh : AllFresh (map shown l.children.items);
 }

@@ -2,11 +2,12 @@ use Rattle.std.proofs.Common.{sym, ◌∙◌}
 use Rattle.std.proofs.lemmas.Option.{slice_get_within}
 use Rattle.pt_trees.specs.Built.{undirected}
 use Rattle.pt_build.proofs.LoopLaws.{deep-at}
+use Rattle.pt_build.specs.Starts.{starts_in}
 use Rattle.pt_build.proofs.builder.Builder.check_composite.Goals as goal
 
 pub returns-then-is_deepest-clause-stands : goal.returns-then-is_deepest-clause-stands
 returns-then-is_deepest-clause-stands c =
-    deep-at c.args.self.now.net.now c.args.self.now.starts.now c.args.k c.args.depth c.requires.reached.nested (c.is_deepest.ensures.yes c.if-is_deepest.true) c.requires.reached.bound
+    deep-at c.args.self.now.net.now (starts_in c.args.self.now) c.args.k c.args.depth c.requires.reached.nested (c.is_deepest.ensures.yes c.if-is_deepest.true) c.requires.reached.bound
 
 pub returns-in-None-clause-stands : goal.returns-in-None-clause-stands
 returns-in-None-clause-stands c = undirected c.args.k c.args.entity.now c.requires.entity c.requires.directed (sym c.director_of.ensures ∙ c.in-None.is)

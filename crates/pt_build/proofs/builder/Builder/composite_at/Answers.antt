@@ -11,6 +11,7 @@ use Rattle.pt_trees.specs.Recorded.{recorded_at, recorded_of, numbers_at}
 use Rattle.pt_trees.specs.Built.{built_composite}
 use Rattle.pt_build.proofs.FaultLaws.{fault-stands}
 use Rattle.pt_build.proofs.TreeLaws.{recorded-empty, all-started}
+use Rattle.pt_build.specs.Starts.{starts_in}
 use Rattle.pt_build.proofs.builder.Builder.composite_at.Goals as goal
 
 pub composite-requires-clause-started : goal.composite-requires-clause-started
@@ -38,5 +39,5 @@ returns-in-Ok-clause-fresh c = c.in-Ok.ensures.node.fresh
 pub returns-in-Err-clause-stands : goal.returns-in-Err-clause-stands
 returns-in-Err-clause-stands c =
     let kids : List Shown = map shown c.args.children.items in
-    fault-stands c.args.self.now.net.now c.args.self.now.starts.now c.args.k c.args.entity.now c.args.director kids c.in-Err.fault c.fault_at.result c.requires.entity c.requires.directed c.requires.children
+    fault-stands c.args.self.now.net.now (starts_in c.args.self.now) c.args.k c.args.entity.now c.args.director kids c.in-Err.fault c.fault_at.result c.requires.entity c.requires.directed c.requires.children
     (subst (λ (a : Around). CompositeFaultStands c.args.director a kids c.in-Err.fault) c.in_ok-frame.ensures.wiring c.in-Err.ensures.stands) c.fault_at.ensures

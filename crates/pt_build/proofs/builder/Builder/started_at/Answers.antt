@@ -7,6 +7,7 @@ use Rattle.pt_trees.specs.Fresh.{IsFresh}
 use Rattle.pt_trees.specs.Recorded.{recorded_at, recorded_of, numbers_at}
 use Rattle.pt_trees.specs.Built.{IsBuilt, built_actor, held_node, actor_node}
 use Rattle.pt_build.proofs.TreeLaws.{actor-fresh, recorded-empty}
+use Rattle.pt_build.specs.Starts.{starts_in}
 use Rattle.pt_build.proofs.builder.Builder.started_at.Goals as goal
 
 shows : (s : Shown) (held : Held) (a : LibraryActor) (path text : List ℕ) (records rs : List RecordedPort) → s ≡ held_node held path records → held ≡ record { start = a; actor = a } → path ≡ text → records ≡ rs → s ≡ actor_node a text rs
@@ -17,7 +18,7 @@ pub returns-clause-built : goal.returns-clause-built
 returns-clause-built c =
     let net = c.args.self.now.net.now in
     let e = c.args.entity.now in
-    subst (λ (s : Shown). IsBuilt net c.args.self.now.starts.now c.args.k s)
+    subst (λ (s : Shown). IsBuilt net (starts_in c.args.self.now) c.args.k s)
     (sym (shows _ c.in_ok-held.held c.args.actor.now c.in_ok-path.path e.path c.in_ok-records.records (recorded_of net c.args.k e) c.actor_node.ensures c.in_ok-held.ensures c.in_ok-path.ensures c.in_ok-records.ensures))
     (built_actor c.args.k e c.args.actor.now c.requires.entity c.requires.undirected c.requires.actor)
 
