@@ -13,7 +13,7 @@ use Rattle.pt_net.specs.Standing.{Standing, Round, is_kept, standing, round_in, 
 use Rattle.pt_net.specs.Table.{Tables, tables_of}
 use Rattle.pt_net.specs.Net.{NetEntityTree, entity_view, entity_tree, IsChannelTo, all_places, IsNetOf}
 use Rattle.pt_net.specs.Stands.{IsPastLimit}
-use Rattle.pt_trees.specs.Trees.{around_in}
+use Rattle.pt_trees.specs.Trees.{Starts, around_in}
 use Rattle.pt_buildable.proofs.Depths.{size_in, size_of, IsSmall}
 
 -- ---- entities
@@ -74,16 +74,16 @@ few-places t records within = elim (cases_order (length (all_places t)) 100000) 
 
 -- ---- a composite
 
-pub few-sources : (job : JobTree) (net : Net) (k : ℕ) (e : NetEntity) → IsNetOf job net → length (all_places (tables_of job)) ≤ 100000 → length (around_in net k e).sources ≤ 100000
-few-sources job net k e is within =
+pub few-sources : (job : JobTree) (net : Net) (starts : Starts) (k : ℕ) (e : NetEntity) → IsNetOf job net → length (all_places (tables_of job)) ≤ 100000 → length (around_in net starts k e).sources ≤ 100000
+few-sources job net starts k e is within =
     let all = zip-length (IsChannelTo (tables_of job)) (all_places (tables_of job)) net.channels.items is.numbered in
     let mapped = length-map (channels_in net.channels.items k) (source_of net.entities.items) in
     let kept = length-filter (is_within k) net.channels.items in
     let some = count_by-le-length (is_within k) net.channels.items in
     omega (arith, all, mapped, kept, some, within)
 
-pub few-kids : (job : JobTree) (net : Net) (k : ℕ) (e : NetEntity) → IsNetOf job net → IsSmall job.model → length (around_in net k e).places ≤ 10000
-few-kids job net k e is small =
+pub few-kids : (job : JobTree) (net : Net) (starts : Starts) (k : ℕ) (e : NetEntity) → IsNetOf job net → IsSmall job.model → length (around_in net starts k e).places ≤ 10000
+few-kids job net starts k e is small =
     let mapped = length-map (children_of net.entities.items k) (place_count net.channels.items) in
     let some = few-children k 0 net.entities.items in
     let all = net-size job net is small in

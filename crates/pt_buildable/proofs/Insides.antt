@@ -16,7 +16,7 @@ use Rattle.pt_net.specs.declared.net.NetEntity.{NetEntity}
 use Rattle.pt_net.specs.Inside.{children_of, child_number, is_input, is_output, number_by, port_number, ports_in, ports_at, source_of, is_within, channels_in, comes_to, place_count}
 use Rattle.pt_scopes.proofs.Places.{count-below}
 use Rattle.pt_trees.specs.Around.{Around}
-use Rattle.pt_trees.specs.Trees.{IsEntity, around_in}
+use Rattle.pt_trees.specs.Trees.{IsEntity, Starts, around_in}
 use Rattle.pt_order.specs.Wired.{arrivals, departures, number_if, port_numbers, BeginsIn, at_own, at_child, IsWired}
 use Rattle.pt_order.proofs.Children.{get-is, child-number}
 
@@ -34,8 +34,8 @@ numbers-length test n (p ∷ ps) = chosen (test p) (port_numbers test (suc n) ps
     chosen true xs ys e = ap (λ m. suc m) e
     chosen false xs ys e = e
 
-pub channels-counted : (net : Net) (k : ℕ) (e : NetEntity) (d : NetDirector) → IsWired net → IsEntity net k e → e.director ≡ Some d → length (around_in net k e).sources ≡ total (around_in net k e).places + (around_in net k e).outputs
-channels-counted net k e d wired at directed =
+pub channels-counted : (net : Net) (starts : Starts) (k : ℕ) (e : NetEntity) (d : NetDirector) → IsWired net → IsEntity net k e → e.director ≡ Some d → length (around_in net starts k e).sources ≡ total (around_in net starts k e).places + (around_in net starts k e).outputs
+channels-counted net starts k e d wired at directed =
     let ks = net.channels.items in
     let cs = children_of net.entities.items k in
     let outs : length (departures ks k) ≡ count_by is_output e.ports.items =
@@ -61,12 +61,12 @@ input-number ports i p at input =
     let all = length-filter is_input ports in
     omega (arith, is, below, all)
 
-module _ (net : Net) (k : ℕ) (owner : NetEntity) (there : IsEntity net k owner) where
+module _ (net : Net) (starts : Starts) (k : ℕ) (owner : NetEntity) (there : IsEntity net k owner) where
   abbrev es : List NetEntity
   es = net.entities.items
 
   abbrev around : Around
-  around = around_in net k owner
+  around = around_in net starts k owner
 
   source-there : (x : Channel) → x.composite ≡ k → BeginsIn net x → IsThere around.inputs (length around.places) (source_of es x)
   source-there x in_k (at_own e p own at at-port input) =

@@ -31,11 +31,11 @@ pub nets-ordered : BuiltNetsAreInOrder
 nets-ordered net e d doc built at has = ordered net doc built e d at has
 
 pub composites-channels : CompositesHaveChannels
-composites-channels net k e d doc within order at has = record {
-  counted = channels-counted net k e d order.wired at has;
-  there = sources-there net k e at order.wired;
-  few = few-sources doc.job net k e doc.made (few-places (tables_of doc.job) doc.job.records within);
-  fewer = few-kids doc.job net k e doc.made (documents-small doc.bytes doc.job doc.read);
+composites-channels net starts k e d doc within order at has = record {
+  counted = channels-counted net starts k e d order.wired at has;
+  there = sources-there net starts k e at order.wired;
+  few = few-sources doc.job net starts k e doc.made (few-places (tables_of doc.job) doc.job.records within);
+  fewer = few-kids doc.job net starts k e doc.made (documents-small doc.bytes doc.job doc.read);
 }
 
 pub children-steady : ChildrenAreSteady

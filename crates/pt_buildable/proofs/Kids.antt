@@ -1,5 +1,5 @@
--- The children of a composite of SDF need and give the same at each firing, but for process networks.
-use Rattle.std.proofs.Common.{◌≡◌, inl, inr, ℕ, zero, suc, List, true, false, Option, Some, None, option_map, refl, sym, ap, subst, ◌∙◌}
+-- The children of a composite of SDF need and give the same at each firing.
+use Rattle.std.proofs.Common.{◌≡◌, inl, inr, ℕ, zero, suc, List, [], ◌∷◌, map, get_or, true, false, Option, Some, None, option_map, refl, sym, ap, subst, ◌∙◌}
 use Rattle.std.specs.List.{slice_get}
 use Rattle.std.proofs.lemmas.Bool.{both_ways}
 use Rattle.std.proofs.lemmas.Option.{none-some, same_Some}
@@ -25,15 +25,16 @@ use Rattle.pt_start.specs.Places.{director_in, director_at, director_over, is_un
 use Rattle.pt_start.specs.Misplaced.{is_de, IsMisplaced, timed}
 use Rattle.pt_start.proofs.Outward.{view-at}
 use Rattle.pt_node.specs.View.{Tree}
-use Rattle.pt_trees.specs.Rates.{tick_gives, core_rates, IsUnsteady, HasUnsteady}
-use Rattle.pt_trees.specs.Around.{Around}
+use Rattle.pt_stated.specs.declared.stated.Stated.{Stated}
+use Rattle.pt_trees.specs.Rates.{tick_gives, core_rates, rates_of, rates_given, IsUnsteady, HasUnsteady}
+use Rattle.pt_trees.specs.Around.{Around, declared_at}
 use Rattle.pt_trees.specs.Directors.{named, IsDirectedBy, composing}
 use Rattle.pt_trees.specs.Sr.{tick_plan}
-use Rattle.pt_trees.specs.Trees.{Starts, StartsAs, IsEntity, around_in, IsTree, of_actor, of_composite, AreTrees, no_trees, more_trees}
+use Rattle.pt_trees.specs.Trees.{Starts, StartsAs, IsEntity, stated_at, declared_by, around_in, IsTree, of_actor, of_composite, AreTrees, no_trees, more_trees}
 use Rattle.pt_trees.proofs.DirectorLaws.{named-of}
 use Rattle.pt_order.proofs.Children.{child-stands}
 use Rattle.pt_typed.specs.RowLaw.{types_of_ports, AreStartedIn}
-use Rattle.pt_buildable.specs.Composites.{HasNetworkIn}
+use Rattle.pt_buildable.specs.Composites.{HasUnstatedNetwork}
 use Rattle.pt_buildable.proofs.Steady.{IsSteadyStart, steady-started}
 
 -- ---- the director round an entity
@@ -47,9 +48,9 @@ over-sdf net k e at sdf = ap director_at (view-at entity_view net.entities.items
 
 -- ---- its children
 
-tree-among : (net : Net) (starts : Starts) {cs : List ℕ} {ts : List Tree} → AreTrees net (StartsAs starts) cs ts → (i : ℕ) (kid : Tree) → get ts i ≡ Some kid → (c : ℕ) × (slice_get cs i ≡ Some c) × IsTree net (StartsAs starts) c kid
+tree-among : (net : Net) (starts : Starts) {cs : List ℕ} {ts : List Tree} → AreTrees net starts cs ts → (i : ℕ) (kid : Tree) → get ts i ≡ Some kid → (c : ℕ) × (slice_get cs i ≡ Some c) × IsTree net starts c kid
 tree-among net starts no_trees i kid at = absurd (none-some kid at)
-tree-among net starts (more_trees k ks t ts one all) zero kid at = (k, refl, subst (λ x. IsTree net (StartsAs starts) k x) (same_Some t kid at) one)
+tree-among net starts (more_trees k ks t ts one all) zero kid at = (k, refl, subst (λ x. IsTree net starts k x) (same_Some t kid at) one)
 tree-among net starts (more_trees k ks t ts one all) (suc i) kid at = tree-among net starts all i kid at
 
 -- a core that a composite has at its start has rates, but for that of DE, and that of PN
@@ -60,18 +61,30 @@ unrated-core De around kids core untimed is unrated = absurd (untimed refl)
 unrated-core Pn around kids core untimed is unrated = refl
 unrated-core Rendezvous around kids core untimed is unrated = absurd is
 
--- the entity of that number is a process network
-abbrev IsNetwork : Net → ℕ → Type 0
-IsNetwork net c = (e : NetEntity) × IsEntity net c e × IsDirectedBy e Pn
+-- what is given of a child is what is declared of it, where it is
+given-none : (declared : Option (List ℕ)) (kid : Tree) → rates_given declared kid ≡ None → (declared ≡ None) × (rates_of kid ≡ None)
+given-none None kid e = (refl, e)
+given-none (Some rates) kid e = absurd (none-some rates (sym e))
 
--- a composite that may be unsteady is one, and no actor is that starts so
-unsteady-kid : (net : Net) (starts : Starts) {c : ℕ} {kid : Tree} → IsTree net (StartsAs starts) c kid → ((a : LibraryActor) → StartsAs starts c a → IsSteadyStart a) → ((e : NetEntity) → IsEntity net c e → IsDirectedBy e De → ⊥) → IsUnsteady kid → IsNetwork net c
+-- what declares nothing states nothing
+nothing-stated : (o : Option Stated) → option_map (λ (s : Stated). s.gives) o ≡ None → o ≡ None
+nothing-stated None e = refl
+nothing-stated (Some s) e = absurd (none-some s.gives (sym e))
+
+get-mapped : {A B : Type 0} (f : A → B) (d : B) (xs : List A) (i : ℕ) (x : A) → slice_get xs i ≡ Some x → get_or (map f xs) i d ≡ f x
+get-mapped f d [] i x at = absurd (none-some x at)
+get-mapped f d (y ∷ xs) zero x at = ap f (same_Some y x at)
+get-mapped f d (y ∷ xs) (suc i) x at = get-mapped f d xs i x at
+
+-- a composite that may be unsteady is a process network of which nothing is stated, and no actor is that starts so
+unsteady-kid : (net : Net) (starts : Starts) {c : ℕ} {kid : Tree} → IsTree net starts c kid → ((a : LibraryActor) → StartsAs starts c a → IsSteadyStart a) → ((e : NetEntity) → IsEntity net c e → IsDirectedBy e De → ⊥) → IsUnsteady (declared_by starts c) kid → HasUnstatedNetwork net starts
 unsteady-kid net starts (of_actor k e a at undirected started) steady untimed (inl unsteady) = absurd (both_ways (library.is_steady a) unsteady (steady a started).steady)
-unsteady-kid net starts (of_actor k e a at undirected started) steady untimed (inr unrated) = absurd ((steady a started).rated unrated)
+unsteady-kid net starts (of_actor k e a at undirected started) steady untimed (inr unrated) = absurd ((steady a started).rated (given-none (declared_by starts k) (tree.actor a) unrated).1)
 unsteady-kid net starts (of_composite k e director kids core at by all is) steady untimed (inl unsteady) = absurd (let h : true ≡ false = unsteady in cc)
 unsteady-kid net starts (of_composite k e director kids core at by all is) steady untimed (inr unrated) =
-    let network = unrated-core director (around_in net k e) kids core (λ de. untimed e at (by ∙ ap (λ (d : Director). Option.Some d) de)) is unrated in
-    (e, at, by ∙ ap (λ (d : Director). Option.Some d) network)
+    let none = given-none (declared_by starts k) (tree.composite core kids) unrated in
+    let network = unrated-core director (around_in net starts k e) kids core (λ de. untimed e at (by ∙ ap (λ (d : Director). Option.Some d) de)) is none.1 in
+    record { number = k; entity = e; at = at; network = by ∙ ap (λ (d : Director). Option.Some d) network; unstated = nothing-stated (stated_at starts k) none.0 }
 
 -- a composite of DE may not stand in one of SDF
 untimed-kid : (net : Net) (values : Values) → ((cause : Code) (k : ℕ) → IsMisplaced (net_view net) values cause k → ⊥) → (k c : ℕ) (e kid : NetEntity) → IsEntity net k e → IsDirectedBy e Sdf → IsEntity net c kid → kid.parent ≡ Some k → IsDirectedBy kid De → ⊥
@@ -85,11 +98,12 @@ untimed-kid net values placed k c e kid at sdf there parent de =
     })
 
 pub unsteady-network : (net : Net) (values : Values) (typing : Assignment) (starts : Starts) → IsValued (net_view net) values → ((cause : Code) (k : ℕ) → IsMisplaced (net_view net) values cause k → ⊥) → AreStartedIn net values typing starts → (k : ℕ) (e : NetEntity) (kids : List Tree) → IsEntity net k e → IsDirectedBy e Sdf →
-    AreTrees net (StartsAs starts) (children_of net.entities.items k) kids → HasUnsteady kids → HasNetworkIn net k
+    AreTrees net starts (children_of net.entities.items k) kids → HasUnsteady (around_in net starts k e) kids → HasUnstatedNetwork net starts
 unsteady-network net values typing starts valued placed started k e kids at sdf all unsteady =
     let w = tree-among net starts all unsteady.0 unsteady.1 unsteady.2 in
     let child = child-stands k net.entities.items unsteady.0 w.0 w.1 in
-    let network = unsteady-kid net starts w.2 (λ a is. (
+    let declared : declared_at (around_in net starts k e).declared unsteady.0 ≡ declared_by starts w.0 = get-mapped (declared_by starts) None (children_of net.entities.items k) unsteady.0 w.0 w.1 in
+    unsteady-kid net starts w.2 (λ a is. (
     let s = started w.0 a is in
     let same : s.0 ≡ child.0 = same_Some s.0 child.0 (sym s.1 ∙ child.1) in
     let from = s.3.started_from in
@@ -97,6 +111,4 @@ unsteady-network net values typing starts valued placed started k e kids at sdf 
     let parent : from.entity.parent ≡ Some k = ap (λ (x : NetEntityTree). x.parent) view ∙ ap (λ (x : NetEntity). x.parent) same ∙ child.2 in
     steady-started net values (types_of_ports typing) w.0 valued (λ cause. placed cause w.0) s.3.params from (ap (director_over (net_view net)) parent ∙ over-sdf net k e at sdf) a s.3.is)) (λ x there de. (
     let same : x ≡ child.0 = same_Some x child.0 (sym there ∙ child.1) in
-    untimed-kid net values placed k w.0 e x at sdf there (ap (λ (y : NetEntity). y.parent) same ∙ child.2) de)) unsteady.3 in
-    let same : network.0 ≡ child.0 = same_Some network.0 child.0 (sym network.1 ∙ child.1) in
-    record { number = w.0; entity = network.0; at = network.1; within = ap (λ (y : NetEntity). y.parent) same ∙ child.2; network = network.2 }
+    untimed-kid net values placed k w.0 e x at sdf there (ap (λ (y : NetEntity). y.parent) same ∙ child.2) de)) (subst (λ (d : Option (List ℕ)). IsUnsteady d unsteady.1) declared unsteady.3)

@@ -113,9 +113,9 @@ output-number ports i p at output =
 -- ---- the channels of a composite
 
 -- the tree of the child of that number
-tree-of : (net : Net) (starts : Starts) {cs : List ℕ} {ts : List Tree} → AreTrees net (StartsAs starts) cs ts → (i j : ℕ) → get cs i ≡ Some j → (t : Tree) × (get ts i ≡ Some t) × IsTree net (StartsAs starts) j t
+tree-of : (net : Net) (starts : Starts) {cs : List ℕ} {ts : List Tree} → AreTrees net starts cs ts → (i j : ℕ) → get cs i ≡ Some j → (t : Tree) × (get ts i ≡ Some t) × IsTree net starts j t
 tree-of net starts no_trees i j e = absurd (none-some j e)
-tree-of net starts (more_trees k ks t ts one all) zero j e = (t, refl, subst (λ n. IsTree net (StartsAs starts) n t) (same_Some k j e) one)
+tree-of net starts (more_trees k ks t ts one all) zero j e = (t, refl, subst (λ n. IsTree net starts n t) (same_Some k j e) one)
 tree-of net starts (more_trees k ks t ts one all) (suc i) j e = tree-of net starts all i j e
 
 output-if : (b : Bool) (port : ℕ) → port < 1 → IsOutputIf b port 1
@@ -130,7 +130,7 @@ begin-all es kids k (x ∷ xs) h = chosen (is_within k x) refl (begin-all es kid
     chosen true is rest = All-cons (BeginsAtOutput kids) (source_of es x) (map (source_of es) (filter (is_within k) xs)) (h x (0, omega arith, refl) is) rest
     chosen false is rest = rest
 
-module _ (net : Net) (values : Values) (typing : Assignment) (starts : Starts) (ports : HaveClassPorts net) (started : AreStartedIn net values typing starts) (k : ℕ) (owner : NetEntity) (there : IsEntity net k owner) (kids : List Tree) (trees : AreTrees net (StartsAs starts) (children_of net.entities.items k) kids) where
+module _ (net : Net) (values : Values) (typing : Assignment) (starts : Starts) (ports : HaveClassPorts net) (started : AreStartedIn net values typing starts) (k : ℕ) (owner : NetEntity) (there : IsEntity net k owner) (kids : List Tree) (trees : AreTrees net starts (children_of net.entities.items k) kids) where
   abbrev es : List NetEntity
   es = net.entities.items
 
@@ -162,7 +162,7 @@ module _ (net : Net) (values : Values) (typing : Assignment) (starts : Starts) (
   actor-output j e (Time a) port at starts_as h = tt
   actor-output j e (Timed a) port at starts_as h = output-if (timed_actor.whole a) port (omega (arith, h, timed-output j e a at starts_as))
 
-  tree-output : (j : ℕ) (f : NetEntity) (t : Tree) (port : ℕ) → IsTree net (StartsAs starts) j t → IsEntity net j f → port < length (filter is_output f.ports.items) → HasOutput t port
+  tree-output : (j : ℕ) (f : NetEntity) (t : Tree) (port : ℕ) → IsTree net starts j t → IsEntity net j f → port < length (filter is_output f.ports.items) → HasOutput t port
   tree-output j f t port (of_actor k e a at undirected starts_as) is h = actor-output j f a port is starts_as h
   tree-output j f t port (of_composite k e director ks core at by all has) is h = tt
 
@@ -179,5 +179,5 @@ module _ (net : Net) (values : Values) (typing : Assignment) (starts : Starts) (
       let below : port < length (filter is_output e.ports.items) = subst (λ (ps : List Port). port_number ps x.from.port < length (filter is_output e.ports.items)) (sym its) (output-number e.ports.items x.from.port p at-port output) in
       subst (λ (s : net_spec.Source). BeginsAtOutput kids s) (sym is) (subst (λ (o : Option Tree). HasOutputIf o port) (sym w.1) (tree-output x.from.entity e w.0 port w.2 at below))
 
-  pub begin-at-outputs : IsWired net → All (BeginsAtOutput kids) (around_in net k owner).sources
+  pub begin-at-outputs : IsWired net → All (BeginsAtOutput kids) (around_in net starts k owner).sources
   begin-at-outputs wired = begin-all es kids k net.channels.items (λ x c within. source-begins x (eqb-true x.composite k within) (wired.begin x c))

@@ -1,4 +1,4 @@
--- Which composites of a net are built: those with the director SDF, SR, DE or PN, but for two kinds of process networks.
+-- Which composites of a net are built: those with the director SDF, SR, DE or PN.
 use Rattle.std.specs.Prelude.{◌≡◌, ℕ, Bool, true, false, Option, Some, None}
 use Rattle.pt_document.specs.declared.classes.Director.{Director}
 use Rattle.pt_document.specs.declared.classes.Director.TheVariants.{Sdf, Pn, Rendezvous, Sr, De}
@@ -6,7 +6,7 @@ use Rattle.pt_net.specs.declared.net.Net.{Net}
 use Rattle.pt_net.specs.declared.net.NetEntity.{NetEntity}
 use Rattle.pt_scopes.specs.Scopes.{is_composite_class}
 use Rattle.pt_trees.specs.Directors.{director_of, IsDirectedBy}
-use Rattle.pt_trees.specs.Trees.{IsEntity, around_in}
+use Rattle.pt_trees.specs.Trees.{IsEntity, Starts, stated_at}
 
 -- composites of this director are built
 abbrev pub is_built : Option Director → Bool
@@ -32,26 +32,10 @@ pub record HasOtherComposite (net : Net) : Type 0 where
 abbrev pub HasBuiltComposites : Net → Type 0
 HasBuiltComposites net = (k : ℕ) (e : NetEntity) → IsEntity net k e → is_composite_class e.class ≡ true → is_built (director_of e) ≡ true
 
--- A process network is a composite of PN. What it states of its channels and ports isn't known to its core yet: of one of these the director states a capacity, or a port a rate.
-pub record HasStatedNetwork (net : Net) : Type 0 where
+-- a process network, which is a composite of PN, of which it isn't known what it states of its channels and of its ports
+pub record HasUnstatedNetwork (net : Net) (starts : Starts) : Type 0 where
   pub number : ℕ
   pub entity : NetEntity
   pub at : IsEntity net number entity
   pub network : IsDirectedBy entity Pn
-  pub stated : (around_in net number entity).plain ≡ false
-
--- a process network stands in this composite, be it in a transparent one there
-pub record HasNetworkIn (net : Net) (k : ℕ) : Type 0 where
-  pub number : ℕ
-  pub entity : NetEntity
-  pub at : IsEntity net number entity
-  pub within : entity.parent ≡ Some k
-  pub network : IsDirectedBy entity Pn
-
--- so it is of some composite of SDF, which asks for the rates of what is within
-pub record HasNetworkUnderSdf (net : Net) : Type 0 where
-  pub number : ℕ
-  pub entity : NetEntity
-  pub at : IsEntity net number entity
-  pub directed : IsDirectedBy entity Sdf
-  pub inner : HasNetworkIn net number
+  pub unstated : stated_at starts number ≡ None

@@ -26,7 +26,7 @@ use Rattle.pt_trees.specs.Trees.{IsEntity, Starts, StartsAs, AreTrees, around_in
 use Rattle.pt_trees.specs.Built.{IsNested}
 use Rattle.pt_order.specs.Laws.{IsNetOfDocument, IsInOrder}
 use Rattle.pt_typed.specs.RowLaw.{AreStartedIn}
-use Rattle.pt_buildable.specs.Composites.{HasOtherComposite, HasBuiltComposites, HasNetworkIn}
+use Rattle.pt_buildable.specs.Composites.{HasOtherComposite, HasBuiltComposites, HasUnstatedNetwork}
 
 -- its top is there
 abbrev pub TopsAreThere : Type 0
@@ -62,15 +62,15 @@ pub record HasChannels (around : Around) : Type 0 where
 -- so it is of each composite of such a net within the limit of channels
 abbrev pub CompositesHaveChannels : Type 0
 CompositesHaveChannels =
-    (net : Net) (k : ℕ) (e : NetEntity) (d : NetDirector) → (doc : IsNetOfDocument net) → ((path : List ℕ) → IsPastLimit (tables_of doc.job) doc.job.records path → ⊥) → IsInOrder net → IsEntity net k e → e.director ≡ Some d → HasChannels (around_in net k e)
+    (net : Net) (starts : Starts) (k : ℕ) (e : NetEntity) (d : NetDirector) → (doc : IsNetOfDocument net) → ((path : List ℕ) → IsPastLimit (tables_of doc.job) doc.job.records path → ⊥) → IsInOrder net → IsEntity net k e → e.director ≡ Some d → HasChannels (around_in net starts k e)
 
--- Under SDF each child needs and gives the same at each firing, unless a process network is among them, where the texts of a net come to these values, each entity may stand where it stands, and its actors start so.
+-- Under SDF each child needs and gives the same at each firing, where the texts of a net come to these values, each entity may stand where it stands, and its actors start so; unless it isn't known of some process network what it states.
 abbrev pub ChildrenAreSteady : Type 0
 ChildrenAreSteady =
     (net : Net) (values : Values) (typing : Assignment) (starts : Starts) (k : ℕ) (e : NetEntity) (kids : List Tree) → IsValued (net_view net) values → ((cause : Code) (n : ℕ) → IsMisplaced (net_view net) values cause n → ⊥) → AreStartedIn net values typing starts → IsEntity net k e → IsDirectedBy e Sdf →
-    AreTrees net (StartsAs starts) (children_of net.entities.items k) kids → HasUnsteady kids → HasNetworkIn net k
+    AreTrees net starts (children_of net.entities.items k) kids → HasUnsteady (around_in net starts k e) kids → HasUnstatedNetwork net starts
 
 -- Where a channel of a composite begins at a child that answers early, it begins at an output that this child has.
 abbrev pub ChannelsBeginAtOutputs : Type 0
 ChannelsBeginAtOutputs =
-    (net : Net) (values : Values) (typing : Assignment) (starts : Starts) (k : ℕ) (e : NetEntity) (kids : List Tree) → IsInOrder net → AreStartedIn net values typing starts → IsEntity net k e → AreTrees net (StartsAs starts) (children_of net.entities.items k) kids → All (BeginsAtOutput kids) (around_in net k e).sources
+    (net : Net) (values : Values) (typing : Assignment) (starts : Starts) (k : ℕ) (e : NetEntity) (kids : List Tree) → IsInOrder net → AreStartedIn net values typing starts → IsEntity net k e → AreTrees net starts (children_of net.entities.items k) kids → All (BeginsAtOutput kids) (around_in net starts k e).sources

@@ -35,7 +35,7 @@ pub fn composites_have_channels()
     ensures { CompositesHaveChannels }
 {}
 
-/// Under SDF each child needs and gives the same at each firing, unless a process network is among them.
+/// Under SDF each child needs and gives the same at each firing, unless it isn't known of some process network what it states.
 pub fn children_are_steady()
     ensures { ChildrenAreSteady }
 {}

@@ -35,7 +35,7 @@ composite-declares : (own : Parts) → is_composite own ≡ true → net_ports o
 unfolding kind_of
 composite-declares own e = ap (λ (c : List ℕ). net_ports_of_kind (kind_of c) own.ports) ((bytes_eq-Decides own.class (codes "Composite")).0 e)
 
-module _ (net : Net) (starts : Starts) (top : Tree) (doc : IsNetOfDocument net) (by_class : AreStartedByClass net starts) (tree : IsTree net (StartsAs starts) 0 top) where
+module _ (net : Net) (starts : Starts) (top : Tree) (doc : IsNetOfDocument net) (by_class : AreStartedByClass net starts) (tree : IsTree net starts 0 top) where
   leaves : ActorsAreLeaves doc.job
   leaves = documents-leaves doc.bytes doc.job doc.read
 

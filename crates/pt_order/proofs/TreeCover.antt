@@ -72,11 +72,11 @@ actor-kind class kind e other = by-name (bytes_eq class (codes "Composite")) (by
 
 -- ---- the trees of entities
 
-module _ (job : JobTree) (net : Net) (starts : Starts) (top : Tree) (leaves : ActorsAreLeaves job) (is : IsNetOf job net) (by_class : AreStartedByClass net starts) (tree : IsTree net (StartsAs starts) 0 top) where
+module _ (job : JobTree) (net : Net) (starts : Starts) (top : Tree) (leaves : ActorsAreLeaves job) (is : IsNetOf job net) (by_class : AreStartedByClass net starts) (tree : IsTree net starts 0 top) where
   abbrev HasTree : ℕ → Type 0
-  HasTree k = (t : Tree) × IsTree net (StartsAs starts) k t
+  HasTree k = (t : Tree) × IsTree net starts k t
 
-  tree-among : {cs : List ℕ} {ts : List Tree} → AreTrees net (StartsAs starts) cs ts → (i c : ℕ) → slice_get cs i ≡ Some c → HasTree c
+  tree-among : {cs : List ℕ} {ts : List Tree} → AreTrees net starts cs ts → (i c : ℕ) → slice_get cs i ≡ Some c → HasTree c
   tree-among no_trees i c at = absurd (none-some c at)
   tree-among (more_trees k ks t ts a b) zero c at = subst HasTree (same_Some k c at) (t, a)
   tree-among (more_trees k ks t ts a b) (suc i) c at = tree-among b i c at
@@ -90,13 +90,13 @@ module _ (job : JobTree) (net : Net) (starts : Starts) (top : Tree) (leaves : Ac
   number-of : (c : ℕ) (o : Option ℕ) → o ≡ Some c → is_number c o ≡ true
   number-of c o e = ap (is_number c) e ∙ eq-eqb c c refl
 
-  among-trees : {ts : List Tree} (j k : ℕ) (e f : NetEntity) → IsEntity net j f → AreTrees net (StartsAs starts) (children_of net.entities.items j) ts → IsEntity net k e → e.parent ≡ Some j → HasTree k
+  among-trees : {ts : List Tree} (j k : ℕ) (e f : NetEntity) → IsEntity net j f → AreTrees net starts (children_of net.entities.items j) ts → IsEntity net k e → e.parent ≡ Some j → HasTree k
   among-trees j k e f at trees there round =
       let number : slice_get (children_of net.entities.items j) (child_number net.entities.items k) ≡ Some k = sym (get-is (children_of net.entities.items j) (child_number net.entities.items k)) ∙ child-number net.entities.items k j e f there round at in
       tree-among trees (child_number net.entities.items k) k number
 
   -- what stands in an entity that has a tree has one
-  tree-below : {j : ℕ} {t : Tree} → IsTree net (StartsAs starts) j t → (k : ℕ) (e : NetEntity) → IsEntity net k e → e.parent ≡ Some j → HasTree k
+  tree-below : {j : ℕ} {t : Tree} → IsTree net starts j t → (k : ℕ) (e : NetEntity) → IsEntity net k e → e.parent ≡ Some j → HasTree k
   tree-below (of_actor j f a at undirected started) k e there round = absurd (both_ways (is_child j e) (alone j f a at started k e there) (number-of j e.parent round))
   tree-below (of_composite j f director kids core at directed trees has) k e there round = among-trees {ts = kids} j k e f at trees there round
 
@@ -115,7 +115,7 @@ module _ (job : JobTree) (net : Net) (starts : Starts) (top : Tree) (leaves : Ac
 
   -- ---- so each entity is
 
-  of-directed : {k : ℕ} {t : Tree} → IsTree net (StartsAs starts) k t → (e : NetEntity) (d : NetDirector) → IsEntity net k e → e.director ≡ Some d → IsDirected e
+  of-directed : {k : ℕ} {t : Tree} → IsTree net starts k t → (e : NetEntity) (d : NetDirector) → IsEntity net k e → e.director ≡ Some d → IsDirected e
   of-directed (of_actor k f a there undirected started) e d at directed = let same : f ≡ e = same_Some f e (sym there ∙ at) in absurd (none-some d (sym (subst (λ (x : NetEntity). x.director ≡ None) same undirected) ∙ directed))
   of-directed (of_composite k f director kids core there by trees has) e d at directed = subst IsDirected (same_Some f e (sym there ∙ at)) (is-directed f director by)
 
@@ -123,7 +123,7 @@ module _ (job : JobTree) (net : Net) (starts : Starts) (top : Tree) (leaves : Ac
   pub directed-composite : (k : ℕ) (e : NetEntity) (d : NetDirector) → IsEntity net k e → e.director ≡ Some d → IsDirected e
   directed-composite k e d at directed = of-directed (tree-at k e at).1 e d at directed
 
-  of-holder : {j : ℕ} {t : Tree} → IsTree net (StartsAs starts) j t → (k : ℕ) (e : NetEntity) → IsEntity net k e → e.parent ≡ Some j → (f : NetEntity) × IsEntity net j f × IsDirected f
+  of-holder : {j : ℕ} {t : Tree} → IsTree net starts j t → (k : ℕ) (e : NetEntity) → IsEntity net k e → e.parent ≡ Some j → (f : NetEntity) × IsEntity net j f × IsDirected f
   of-holder (of_actor j f a at undirected started) k e there round = absurd (both_ways (is_child j e) (alone j f a at started k e there) (number-of j e.parent round))
   of-holder (of_composite j f director kids core at directed trees has) k e there round = (f, at, is-directed f director directed)
 
@@ -146,7 +146,7 @@ module _ (job : JobTree) (net : Net) (starts : Starts) (top : Tree) (leaves : Ac
   not-directed : (e f : NetEntity) → f ≡ e → IsDirected f → e.director ≡ None → ⊥
   not-directed e f same directed none = let w = subst IsDirected same directed in none-some w.director (sym none ∙ w.has)
 
-  of-undirected : {k : ℕ} {t : Tree} → IsTree net (StartsAs starts) k t → (e : NetEntity) → IsEntity net k e → e.director ≡ None → (a : LibraryActor) × StartsAs starts k a
+  of-undirected : {k : ℕ} {t : Tree} → IsTree net starts k t → (e : NetEntity) → IsEntity net k e → e.director ≡ None → (a : LibraryActor) × StartsAs starts k a
   of-undirected (of_actor k f a there undirected started) e at none = (a, started)
   of-undirected (of_composite k f director kids core there directed trees has) e at none = absurd (not-directed e f (same_Some f e (sym there ∙ at)) (is-directed f director directed) none)
 

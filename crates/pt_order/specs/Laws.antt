@@ -35,4 +35,4 @@ pub record IsInOrder (net : Net) : Type 0 where
 -- So it is of each such net of which a tree can be built whose top has a director. A net without one can be otherwise: the refinements of a Modal entity have inputs without channels.
 abbrev pub NetsAreInOrder : Type 0
 NetsAreInOrder =
-    (net : Net) (starts : Starts) (e : NetEntity) (d : NetDirector) (top : Tree) → IsNetOfDocument net → AreStartedByClass net starts → IsTree net (StartsAs starts) 0 top → slice_get net.entities.items 0 ≡ Some e → e.director ≡ Some d → IsInOrder net
+    (net : Net) (starts : Starts) (e : NetEntity) (d : NetDirector) (top : Tree) → IsNetOfDocument net → AreStartedByClass net starts → IsTree net starts 0 top → slice_get net.entities.items 0 ≡ Some e → e.director ≡ Some d → IsInOrder net

@@ -39,7 +39,8 @@ use Rattle.pt_node.specs.View.{Tree}
 use Rattle.pt_trees.specs.Sdf.{IsInsideOf}
 use Rattle.pt_trees.specs.Pn.{pn_plan}
 use Rattle.pt_trees.specs.Directors.{composing}
-use Rattle.pt_trees.specs.Rates.{rates_of}
+use Rattle.pt_stated.specs.declared.stated.Stated.{Stated}
+use Rattle.pt_trees.specs.Rates.{all_given}
 use Rattle.pt_trees.specs.Trees.{Starts, StartsAs, around_in, IsTree, of_actor, of_composite, AreTrees, no_trees, more_trees}
 use Rattle.pt_trees.proofs.DirectorLaws.{is-directed}
 use Rattle.pt_kinds.specs.Signature.{Signatures, AreOf}
@@ -64,6 +65,11 @@ held-length : (ts : List Tree) (cs : List Source) → length (first_held rows ts
 held-length ts [] = refl
 held-length ts (c ∷ cs) = ap (λ n. suc n) (held-length ts cs)
 
+given-length : (declared : List (Option (List ℕ))) (kids : List Tree) → length (all_given declared kids) ≡ length kids
+given-length declared [] = refl
+given-length [] (kid ∷ kids) = ap (λ n. suc n) (given-length [] kids)
+given-length (d ∷ declared) (kid ∷ kids) = ap (λ n. suc n) (given-length declared kids)
+
 own-sources : (us : List ℕ) → map core.source_of (map own_inputs.own us) ≡ map Own us
 own-sources [] = refl
 own-sources (n ∷ us) = ap (λ cs. Own n ∷ cs) (own-sources us)
@@ -77,7 +83,7 @@ numbers-count test i (p ∷ ps) = by_test (test p) (numbers-count test (suc i) p
     by_test false rest = rest
 
 module _ (net : Net) (typing : Assignment) (starts : Starts) (wired : IsWired net) (up : TypesGoUp net typing) (meet : MeetRows net typing starts) where
-  trees-length : {cs : List ℕ} {ts : List Tree} → AreTrees net (StartsAs starts) cs ts → length ts ≡ length cs
+  trees-length : {cs : List ℕ} {ts : List Tree} → AreTrees net starts cs ts → length ts ≡ length cs
   trees-length no_trees = refl
   trees-length (more_trees k ks t ts a b) = ap (λ n. suc n) (trees-length b)
 
@@ -88,17 +94,17 @@ module _ (net : Net) (typing : Assignment) (starts : Starts) (wired : IsWired ne
   FirstMeets c (Actor h a b) = MeetsRow (types_below net typing c []) a
   FirstMeets c (Composite h a b kids) = Unit {0}
 
-  first-meets : {c : ℕ} {t : Tree} → IsTree net (StartsAs starts) c t → FirstMeets c t
+  first-meets : {c : ℕ} {t : Tree} → IsTree net starts c t → FirstMeets c t
   unfolding FirstMeets
   first-meets (of_actor k e a at undirected start) = meet k a start
   first-meets (of_composite k e by kids c at directed trees has) = tt
 
-  kid-at : {cs : List ℕ} {ts : List Tree} → AreTrees net (StartsAs starts) cs ts → (i : ℕ) (t : Tree) → get ts i ≡ Some t → (c : ℕ) × (slice_get cs i ≡ Some c) × FirstMeets c t
+  kid-at : {cs : List ℕ} {ts : List Tree} → AreTrees net starts cs ts → (i : ℕ) (t : Tree) → get ts i ≡ Some t → (c : ℕ) × (slice_get cs i ≡ Some c) × FirstMeets c t
   kid-at no_trees i t e = absurd (cc)
   kid-at (more_trees k ks s ts a b) zero t e = let same : s ≡ t = same_Some s t e in (k, refl, subst (λ v. FirstMeets k v) same (first-meets a))
   kid-at (more_trees k ks s ts a b) (suc i) t e = kid-at b i t e
 
-  module _ (k : ℕ) (e : NetEntity) (d : NetDirector) (at : slice_get net.entities.items k ≡ Some e) (directed : e.director ≡ Some d) (kids : List Tree) (trees : AreTrees net (StartsAs starts) (children_of net.entities.items k) kids) where
+  module _ (k : ℕ) (e : NetEntity) (d : NetDirector) (at : slice_get net.entities.items k ≡ Some e) (directed : e.director ≡ Some d) (kids : List Tree) (trees : AreTrees net starts (children_of net.entities.items k) kids) where
     abbrev sigs : Signatures Datatype
     sigs = types_below net typing k
 
@@ -191,7 +197,7 @@ module _ (net : Net) (typing : Assignment) (starts : Starts) (wired : IsWired ne
         let us = own_inputs.unfed x in
         subst (λ n. AllByRecursion (λ port. port < n) us) (count ∙ sym inputs-count) (recursion_from_All (λ port. port < x.inputs) us (unfed-below x.sources.items x.inputs))
 
-    sdf-typed : (x : Inside) (p : SdfPlan) → IsInsideOf (around_in net k e) kids x → IsPlanOf x p → IsTypedSdf {A = LibraryActor} IsTokenOf IsBelow IsTypedActor sigs (length (list_of (nodes_of kids))) p (first_held rows kids p.net.sources)
+    sdf-typed : (x : Inside) (p : SdfPlan) → IsInsideOf (around_in net starts k e) kids x → IsPlanOf x p → IsTypedSdf {A = LibraryActor} IsTokenOf IsBelow IsTypedActor sigs (length (list_of (nodes_of kids))) p (first_held rows kids p.net.sources)
     sdf-typed x p inside plan =
         let us = own_inputs.unfed x in
         let there = unfed-there x inside.inputs in
@@ -200,7 +206,7 @@ module _ (net : Net) (typing : Assignment) (starts : Starts) (wired : IsWired ne
         let given : length p.gives ≡ length (sigs []).outputs = plan.gives ∙ inside.outputs ∙ sym outputs-count in
         let count : length p.net.places ≡ length (list_of (nodes_of kids)) = ap length are-places ∙ length-map (children_of net.entities.items k) (place_count net.channels.items) ∙ sym (trees-length trees) ∙ sym (listed kids) in
         let its : length x.places ≡ length p.net.places = ap (λ n. length n.places) (sym plan.net) in
-        let rated : length p.rates ≡ length kids = ap length plan.rates ∙ sym (length-map x.rates.items (λ (rs : List ℕ). Some rs)) ∙ ap length inside.rates ∙ length-map kids rates_of in
+        let rated : length p.rates ≡ length kids = ap length plan.rates ∙ sym (length-map x.rates.items (λ (rs : List ℕ). Some rs)) ∙ ap length inside.rates ∙ given-length (around_in net starts k e).declared kids in
         record {
           typed_net = record {
             places_counted = count;
@@ -223,31 +229,31 @@ module _ (net : Net) (typing : Assignment) (starts : Starts) (wired : IsWired ne
     }
 
     -- a process network with the first tokens on these channels
-    pn-typed : IsTypedPn {A = LibraryActor} IsTokenOf IsBelow IsTypedActor sigs (length (list_of (nodes_of kids))) (pn_plan (around_in net k e)) (first_held rows kids ending)
-    pn-typed = record {
+    pn-typed : (stated : Stated) → IsTypedPn {A = LibraryActor} IsTokenOf IsBelow IsTypedActor sigs (length (list_of (nodes_of kids))) (pn_plan (around_in net starts k e) stated) (first_held rows kids ending)
+    pn-typed stated = record {
       typed_net = tick-typed;
       room = omega (arith, held-length kids ending, ending-count);
       held = subst (λ cs. AreOf IsTokenOf (kinds_from sigs [] 0 places) (first_held rows kids cs)) (append-nil ending) (held-of [] tt);
     }
 
     -- so it is with the core that a director makes
-    core-typed : (by : Director) (c : Core Token) → (composing by).IsCore (around_in net k e) kids c → IsTypedCore {A = LibraryActor} IsTokenOf IsBelow IsTypedActor sigs (length (list_of (nodes_of kids))) c
+    core-typed : (by : Director) (c : Core Token) → (composing by).IsCore (around_in net starts k e) kids c → IsTypedCore {A = LibraryActor} IsTokenOf IsBelow IsTypedActor sigs (length (list_of (nodes_of kids))) c
     core-typed Sdf c has = subst (λ v. IsTypedCore {A = LibraryActor} IsTokenOf IsBelow IsTypedActor sigs (length (list_of (nodes_of kids))) v) (sym has.is) (sdf-typed has.inside has.plan has.is_inside has.planned)
     core-typed Sr c has = subst (λ v. IsTypedCore {A = LibraryActor} IsTokenOf IsBelow IsTypedActor sigs (length (list_of (nodes_of kids))) v) (sym has.is) tick-typed
     core-typed De c has = subst (λ v. IsTypedCore {A = LibraryActor} IsTokenOf IsBelow IsTypedActor sigs (length (list_of (nodes_of kids))) v) (sym has.is) tick-typed
-    core-typed Pn c has = subst (λ v. IsTypedCore {A = LibraryActor} IsTokenOf IsBelow IsTypedActor sigs (length (list_of (nodes_of kids))) v) (sym has.is) pn-typed
+    core-typed Pn c has = subst (λ v. IsTypedCore {A = LibraryActor} IsTokenOf IsBelow IsTypedActor sigs (length (list_of (nodes_of kids))) v) (sym has.is) (pn-typed has.wired.stated)
     core-typed Rendezvous c has = absurd has
 
   -- ---- the tree
 
   mutual
-    tree-typed : {k : ℕ} {t : Tree} → IsTree net (StartsAs starts) k t → IsTypedNode IsTokenOf IsBelow IsTypedActor (types_below net typing k) t
+    tree-typed : {k : ℕ} {t : Tree} → IsTree net starts k t → IsTypedNode IsTokenOf IsBelow IsTypedActor (types_below net typing k) t
     tree-typed (of_actor k e a at undirected start) = rows-type (types_below net typing k []) a (meet k a start)
     tree-typed (of_composite k e by kids c at directed trees has) =
         let w = is-directed e by directed in
         (core-typed k e w.director at w.has kids trees by c has, trees-typed trees k e w.director at w.has 0 (λ j c h. ap (slice_get (children_of net.entities.items k)) (let z : 0 + j ≡ j = omega arith in z) ∙ h))
 
-    trees-typed : {cs : List ℕ} {ts : List Tree} → AreTrees net (StartsAs starts) cs ts → (k : ℕ) (e : NetEntity) (d : NetDirector) → slice_get net.entities.items k ≡ Some e → e.director ≡ Some d → (i : ℕ) → ((j c : ℕ) → slice_get cs j ≡ Some c → slice_get (children_of net.entities.items k) (i + j) ≡ Some c) →
+    trees-typed : {cs : List ℕ} {ts : List Tree} → AreTrees net starts cs ts → (k : ℕ) (e : NetEntity) (d : NetDirector) → slice_get net.entities.items k ≡ Some e → e.director ≡ Some d → (i : ℕ) → ((j c : ℕ) → slice_get cs j ≡ Some c → slice_get (children_of net.entities.items k) (i + j) ≡ Some c) →
         AreTypedNodes IsTokenOf IsBelow IsTypedActor (types_below net typing k) i (nodes_of ts)
     trees-typed no_trees k e d at directed i h = tt
     trees-typed (more_trees c cs t ts a b) k e d at directed i h =

@@ -60,6 +60,6 @@ AreStartedIn net values typing starts = (k : ℕ) (a : LibraryActor) → StartsA
 -- In a run of the tree of the net of a document with its typing, on the tokens that are supplied, under any meetings, at each fuel, each finished firing took at each place only tokens of the type of its port, and gave on each output only tokens of the type of that.
 abbrev pub TypedNetsKeepTypes : Type 0
 TypedNetsKeepTypes =
-    (net : Net) (values : Values) (typing : Assignment) (starts : Starts) (e : NetEntity) (d : NetDirector) (top : Tree) (j : Top) → IsNetOfDocument net → IsValued (net_view net) values → IsTyping net values typing → AreStartedIn net values typing starts → IsTree net (StartsAs starts) 0 top →
+    (net : Net) (values : Values) (typing : Assignment) (starts : Starts) (e : NetEntity) (d : NetDirector) (top : Tree) (j : Top) → IsNetOfDocument net → IsValued (net_view net) values → IsTyping net values typing → AreStartedIn net values typing starts → IsTree net starts 0 top →
     slice_get net.entities.items 0 ≡ Some e → e.director ≡ Some d → AreSupplied (net_view net) values (supply_of j) → IsWhole j →
     (m : Meets) (k : ℕ) → IsTypedLog IsTokenOf (types_below net typing 0) (meaning k rows m (schedule j) top)

@@ -25,11 +25,11 @@ MeetRows net typing starts = (k : ℕ) (a : LibraryActor) → StartsAs starts k 
 
 -- the tree of such a net is typed, and each node has the types of its entity
 abbrev pub TreesAreTyped : Type 0
-TreesAreTyped = (net : Net) (typing : Assignment) (starts : Starts) (k : ℕ) (t : Tree) → IsWired net → TypesGoUp net typing → MeetRows net typing starts → IsTree net (StartsAs starts) k t → IsTypedNode IsTokenOf IsBelow IsTypedActor (types_below net typing k) t
+TreesAreTyped = (net : Net) (typing : Assignment) (starts : Starts) (k : ℕ) (t : Tree) → IsWired net → TypesGoUp net typing → MeetRows net typing starts → IsTree net starts k t → IsTypedNode IsTokenOf IsBelow IsTypedActor (types_below net typing k) t
 
 -- In a run of it on inputs of the types of the top's inputs, under any meetings, at each fuel, each finished firing took at each place only tokens of the type of its port, and gave on each output only tokens of the type of that.
 abbrev pub NetsKeepTypes : Type 0
 NetsKeepTypes =
-    (net : Net) (typing : Assignment) (starts : Starts) (top : Tree) → IsWired net → TypesGoUp net typing → MeetRows net typing starts → IsTree net (StartsAs starts) 0 top →
+    (net : Net) (typing : Assignment) (starts : Starts) (top : Tree) → IsWired net → TypesGoUp net typing → MeetRows net typing starts → IsTree net starts 0 top →
     (j : Top) → IsWhole j → AreAllOf IsTokenOf (types_below net typing 0 []).places (map present (supply_of j)) →
     (m : Meets) (k : ℕ) → IsTypedLog IsTokenOf (types_below net typing 0) (meaning k rows m (schedule j) top)
