@@ -52,14 +52,14 @@ start-same n m v w typing k e s net_is values_are is = subst (λ (x : Net). IsSt
 -- ---- all entities
 
 -- so many entities start as these
-pub record AreFirst (net : Net) (values : Values) (typing : Assignment) (count : ℕ) (starts : Starts) : Type 0 where
+pub record AreFirst (net : Net) (values : Values) (typing : Assignment) (count : ℕ) (starts : List (Option LibraryActor)) : Type 0 where
   pub counted : length starts ≡ count
   pub each : (k : ℕ) (e : NetEntity) → k < count → IsEntity net k e → (s : Option LibraryActor) × (slice_get starts k ≡ Some s) × IsStartOf net values typing k e s
 
-pub first-more : (net : Net) (values : Values) (typing : Assignment) (count : ℕ) (old new : Starts) (e : NetEntity) (s : Option LibraryActor) → AreFirst net values typing count old → IsEntity net count e → IsStartOf net values typing count e s → new ≡ old ++ s ∷ [] → AreFirst net values typing (count + 1) new
-first-more net values typing count old new e s are at is put = subst (λ (v : Starts). AreFirst net values typing (count + 1) v) (sym put) (record { counted = longer old s are.counted; each = each })
+pub first-more : (net : Net) (values : Values) (typing : Assignment) (count : ℕ) (old new : List (Option LibraryActor)) (e : NetEntity) (s : Option LibraryActor) → AreFirst net values typing count old → IsEntity net count e → IsStartOf net values typing count e s → new ≡ old ++ s ∷ [] → AreFirst net values typing (count + 1) new
+first-more net values typing count old new e s are at is put = subst (λ (v : List (Option LibraryActor)). AreFirst net values typing (count + 1) v) (sym put) (record { counted = longer old s are.counted; each = each })
   where
-    longer : (xs : Starts) (x : Option LibraryActor) → length xs ≡ count → length (xs ++ x ∷ []) ≡ count + 1
+    longer : (xs : List (Option LibraryActor)) (x : Option LibraryActor) → length xs ≡ count → length (xs ++ x ∷ []) ≡ count + 1
     longer xs x h = length_push xs x ∙ ap (λ n. n + 1) h
 
     last : (k : ℕ) (f : NetEntity) → k ≡ count → IsEntity net k f → (t : Option LibraryActor) × (slice_get (old ++ s ∷ []) k ≡ Some t) × IsStartOf net values typing k f t
@@ -76,7 +76,7 @@ first-more net values typing count old new e s are at is put = subst (λ (v : St
     each : (k : ℕ) (f : NetEntity) → k < count + 1 → IsEntity net k f → (t : Option LibraryActor) × (slice_get (old ++ s ∷ []) k ≡ Some t) × IsStartOf net values typing k f t
     each k f short there = elim (cases_order k count) [ inl same ↦ last k f same there | inr other ↦ elim other [ inl below ↦ before k f below there | inr above ↦ absurd (omega (arith, short, above)) ] ]
 
-pub first-all : (net : Net) (values : Values) (typing : Assignment) (count : ℕ) (starts : Starts) → count ≡ length net.entities.items → AreFirst net values typing count starts → AreStartsOf net values typing starts
+pub first-all : (net : Net) (values : Values) (typing : Assignment) (count : ℕ) (starts : List (Option LibraryActor)) → count ≡ length net.entities.items → AreFirst net values typing count starts → AreStartsOf net values typing starts
 first-all net values typing count starts all are = record {
   counted = are.counted ∙ all;
   actors = λ k e at undirected. let r = are.each k e (short k e at) at in (r.0, r.1, r.2.actor undirected);
@@ -87,7 +87,7 @@ first-all net values typing count starts all are = record {
     short k e at = let h = slice_get_within net.entities.items k e at in omega (arith, all, h)
 
 -- each actor is one that parameters of the class of its entity start
-pub started-by-class : (net : Net) (values : Values) (typing : Assignment) (starts : Starts) → AreStartsOf net values typing starts → AreStartedByClass net starts
+pub started-by-class : (net : Net) (values : Values) (typing : Assignment) (starts : Starts) → AreStartsOf net values typing starts.actors → AreStartedByClass net starts
 started-by-class net values typing starts are k e a at is = by_director e.director refl
   where
     by_director : (d : Option NetDirector) → e.director ≡ d → (params : Params) × (params.class ≡ e.class) × (start params ≡ Some a)
@@ -95,13 +95,13 @@ started-by-class net values typing starts are k e a at is = by_director e.direct
         let r = are.actors k e at undirected in
         by-class net values (port_typing typing) k e a at (subst (λ (s : Option LibraryActor). IsStart net values (port_typing typing) k s) (same_Some r.0 (Some a) (sym r.1 ∙ is)) r.2)
     by_director (Some d) directed =
-        let none : slice_get starts k ≡ Some None = are.others k e at (λ undirected. none-some d (sym undirected ∙ directed)) in
+        let none : slice_get starts.actors k ≡ Some None = are.others k e at (λ undirected. none-some d (sym undirected ∙ directed)) in
         absurd (none-some a (same_Some None (Some a) (sym none ∙ is)))
 
 -- so each is one that parameters start
-pub are-started : (net : Net) (values : Values) (typing : Assignment) (starts : Starts) → AreStartsOf net values typing starts → AreStarted starts
+pub are-started : (net : Net) (values : Values) (typing : Assignment) (starts : Starts) → AreStartsOf net values typing starts.actors → AreStarted starts
 are-started net values typing starts are k a is =
-    let there : k < length net.entities.items = let h = slice_get_within starts k (Some a) is in omega (arith, h, are.counted) in
+    let there : k < length net.entities.items = let h = slice_get_within starts.actors k (Some a) is in omega (arith, h, are.counted) in
     let found : (e : NetEntity) × IsEntity net k e = read net.entities.items k there in
     let by = started-by-class net values typing starts are k found.0 a found.1 is in
     (by.0, by.2)

@@ -1,5 +1,5 @@
 -- What stands before the model of a net: its values, its types, and the actors that its entities start as.
-use Rattle.std.specs.Prelude.{◌≡◌, ℕ, length, Option, Some, None, slice_get}
+use Rattle.std.specs.Prelude.{◌≡◌, ℕ, List, length, Option, Some, None, slice_get}
 use Rattle.pt_typing.specs.declared.variable.Variable.TheVariants.{Port}
 use Rattle.pt_typing.specs.Least.{Assignment}
 use Rattle.pt_document.specs.declared.code.Code.{Code}
@@ -14,6 +14,7 @@ use Rattle.pt_charts.specs.Readable.{AreReadable}
 use Rattle.pt_library.specs.declared.library_actor.LibraryActor.{LibraryActor}
 use Rattle.pt_start.specs.Started.{PortTyping, IsStart}
 use Rattle.pt_start.specs.Misplaced.{IsMisplaced}
+use Rattle.pt_stated.specs.Networks.{AreStated}
 use Rattle.pt_trees.specs.Trees.{IsEntity, IsUndirected, Starts}
 
 -- The texts of a net come to these values, guards and actions are readable, these are its types, and they break nowhere.
@@ -37,13 +38,14 @@ pub record IsStartOf (net : Net) (values : Values) (typing : Assignment) (k : �
   pub other : (IsUndirected e → ⊥) → start ≡ None
 
 -- What the entities of a net start as: a library actor as the actor that its parameters, channels and types start, if the library has one, and a composite as none.
-pub record AreStartsOf (net : Net) (values : Values) (typing : Assignment) (starts : Starts) : Type 0 where
-  pub counted : length starts ≡ length net.entities.items
-  pub actors : (k : ℕ) (e : NetEntity) → IsEntity net k e → IsUndirected e → (start : Option LibraryActor) × (slice_get starts k ≡ Some start) × IsStart net values (port_typing typing) k start
-  pub others : (k : ℕ) (e : NetEntity) → IsEntity net k e → (IsUndirected e → ⊥) → slice_get starts k ≡ Some None
+pub record AreStartsOf (net : Net) (values : Values) (typing : Assignment) (begun : List (Option LibraryActor)) : Type 0 where
+  pub counted : length begun ≡ length net.entities.items
+  pub actors : (k : ℕ) (e : NetEntity) → IsEntity net k e → IsUndirected e → (start : Option LibraryActor) × (slice_get begun k ≡ Some start) × IsStart net values (port_typing typing) k start
+  pub others : (k : ℕ) (e : NetEntity) → IsEntity net k e → (IsUndirected e → ⊥) → slice_get begun k ≡ Some None
 
--- A net without faults of its texts, its types and its places, with what its entities start as.
+-- A net without faults of its texts, its types and its places, with what its entities start as and what its process networks state.
 pub record IsStarted (net : Net) (values : Values) (typing : Assignment) (starts : Starts) : Type 0 where
   pub resolved : IsResolved net values typing
   pub placed : IsPlaced net values
-  pub started : AreStartsOf net values typing starts
+  pub started : AreStartsOf net values typing starts.actors
+  pub stated : AreStated (net_view net) values starts.stated

@@ -12,7 +12,7 @@ use Rattle.pt_trees.specs.Directors.{IsDirectedBy}
 use Rattle.pt_trees.specs.Sdf.{HasInside}
 use Rattle.pt_trees.specs.Sr.{IsWired}
 use Rattle.pt_trees.specs.Trees.{IsEntity, IsUndirected, Starts, StartsAs, AreTrees, around_in}
-use Rattle.pt_buildable.specs.Composites.{HasOtherComposite, HasStatedNetwork, HasNetworkUnderSdf}
+use Rattle.pt_buildable.specs.Composites.{HasOtherComposite}
 
 -- the children of the composite don't fit the channels around them, or a rate is none that its director takes
 abbrev pub IsMalformed : Director → Around → List Tree → Type 0
@@ -22,10 +22,8 @@ IsMalformed De around kids = IsWired around kids → ⊥
 IsMalformed Pn around kids = IsWired around kids → ⊥
 IsMalformed Rendezvous around kids = ⊥
 
--- What isn't built yet of a net whose entities start as these: a composite with another director than SDF, SR, DE and PN, or a Modal entity; a process network that states something of its channels or ports, or that stands in a composite of SDF; a library actor that has no start; a composite of one of these directors round trees that are built, which it doesn't fit.
+-- What isn't built yet of a net whose entities start as these: a composite with another director than SDF, SR, DE and PN, or a Modal entity; a library actor that has no start; a composite of one of these directors round trees that are built, which it doesn't fit.
 pub data IsUnbuilt (net : Net) (starts : Starts) : Type 0 where
   other : HasOtherComposite net → IsUnbuilt net starts
-  stated : HasStatedNetwork net → IsUnbuilt net starts
-  unrated : HasNetworkUnderSdf net → IsUnbuilt net starts
-  unstarted : (k : ℕ) (e : NetEntity) → IsEntity net k e → IsUndirected e → is_composite_class e.class ≡ false → slice_get starts k ≡ Some None → IsUnbuilt net starts
-  malformed : (k : ℕ) (e : NetEntity) (director : Director) (kids : List Tree) → IsEntity net k e → IsDirectedBy e director → AreTrees net (StartsAs starts) (children_of net.entities.items k) kids → IsMalformed director (around_in net k e) kids → IsUnbuilt net starts
+  unstarted : (k : ℕ) (e : NetEntity) → IsEntity net k e → IsUndirected e → is_composite_class e.class ≡ false → slice_get starts.actors k ≡ Some None → IsUnbuilt net starts
+  malformed : (k : ℕ) (e : NetEntity) (director : Director) (kids : List Tree) → IsEntity net k e → IsDirectedBy e director → AreTrees net starts (children_of net.entities.items k) kids → IsMalformed director (around_in net starts k e) kids → IsUnbuilt net starts

@@ -5,6 +5,7 @@ ghost use Rattle.pt_scopes.specs.Scopes.{net_view};
 ghost use Rattle.pt_typing.specs.Least.{Assignment, assignment};
 ghost use Rattle.pt_start.specs.Nested.{IsNested};
 ghost use Rattle.pt_cover.specs.Leaves.{ActorsAreLeaves};
+ghost use Rattle.pt_elaboration.specs.Begun.{starts_in};
 ghost use Rattle.pt_elaboration.specs.Resolved.{IsResolved, IsPlaced, IsStarted};
 ghost use Rattle.pt_elaboration.specs.Refused.{FaultStands};
 
@@ -17,15 +18,18 @@ use pt_library::LibraryActor;
 use pt_net::Net;
 use pt_scopes::Values;
 use pt_start::misplaced;
+use pt_stated::{Stated, stated_in};
 use pt_typing::Typing;
 use std::alloc::Global;
 
-/// What the texts of a net come to, its types, and what its entities start as, where no fault of its texts, its types or its places stands.
+/// What the texts of a net come to, its types, what its entities start as and what its process networks state, where no fault of its texts, its types or its places
+/// stands.
 #[derive(Drop)]
 pub struct Started {
     pub values: Values,
     pub typing: Typing,
     pub starts: Vec<Option<LibraryActor>>,
+    pub stated: Vec<Option<Stated>>,
 }
 
 /// Refuses an entity that may not stand where it stands.
@@ -45,7 +49,7 @@ impl Started {
     /// Evaluates the texts of the net of a job, finds its types and starts its actors.
     pub fn of(alloc: Global, net: &Net) -> Result<Started, DocFault>
         requires { (job : JobTree) × ActorsAreLeaves job × IsNetOf job net.now }
-        ensures started { IfOk result (λ s. IsStarted net.now s.values (assignment s.typing) s.starts.items) }
+        ensures started { IfOk result (λ s. IsStarted net.now s.values (assignment s.typing) (starts_in s)) }
         ensures stands { IfErr result (FaultStands net.now) }
     {
         nets_are_nested();
@@ -53,10 +57,12 @@ impl Started {
         let typing = typing_in(alloc, net, &values)?;
         check_places(alloc, net, &values)?;
         let starts = starts_of(alloc, net, &values, &typing)?;
+        let stated = stated_in(alloc, net, &values)?;
         Ok(Started {
             values,
             typing,
             starts,
+            stated,
         })
     }
 }

@@ -1,4 +1,5 @@
 pub mod TopLaws
 pub mod Outcomes
 pub mod TypedLaws
+pub mod StatedLaws
 pub mod UnbuiltLaws

@@ -1,8 +1,8 @@
 -- What is known of the node at the top of a net.
-use Rattle.std.proofs.Common.{◌≡◌, ◌⊎◌, inl, inr, ℕ, ◌+◌, List, [], ◌∷◌, length, map, filter, refl, sym, ap, subst, ◌∙◌, Bool, true, false, cond, arith}
+use Rattle.std.proofs.Common.{◌≡◌, ◌⊎◌, inl, inr, ℕ, ◌+◌, List, [], ◌∷◌, length, map, filter, refl, sym, ap, subst, ◌∙◌, Bool, true, false, not, cond, arith}
 use Rattle.std.specs.Prelude.{Option, Some, None, IsSome, option_map, count_by, nat_eq, ◌&&◌, bytes_eq, codes, Vec, if◌then◌else◌}
 use Rattle.std.specs.Global.{Global}
-use Rattle.std.proofs.lemmas.List.{length-map, length-replicate}
+use Rattle.std.proofs.lemmas.List.{length-map}
 use Rattle.std.proofs.lemmas.Option.{none-some, same_Some}
 use Rattle.std.proofs.lemmas.List.Recursion.{is_count_by}
 use Rattle.std.specs.Option.{is_none}
@@ -22,7 +22,7 @@ use Rattle.pt_net.specs.declared.net.Net.{Net}
 use Rattle.pt_net.specs.declared.net.NetDirector.{NetDirector}
 use Rattle.pt_net.specs.declared.net.NetEntity.{NetEntity}
 use Rattle.pt_net.specs.Net.{director_view, entity_view}
-use Rattle.pt_net.specs.Inside.{is_inward, is_input}
+use Rattle.pt_net.specs.Inside.{is_inward, is_input, is_output}
 use Rattle.pt_scopes.specs.declared.values.Values.{Values}
 use Rattle.pt_scopes.specs.Scopes.{net_view}
 use Rattle.pt_scopes.specs.Valued.{IsValued}
@@ -96,22 +96,22 @@ pub record HasCore (net : Net) (s : Shown) : Type 0 where
   pub is : IsCoreOf entity core
 
 -- so is each that its director makes
-core-made : (by : Director) (net : Net) (k : ℕ) (e : NetEntity) (kids : List Tree) (c : tree.Core Token) → IsDirectedBy e by → (composing by).IsCore (around_in net k e) kids c → IsCoreOf e c
-core-made Sdf net k e kids c directed has = subst (λ v. IsCoreOf e v) (sym has.is) (directed, has.planned.takes ∙ has.is_inside.inputs)
-core-made Sr net k e kids c directed has = subst (λ v. IsCoreOf e v) (sym has.is) (directed, refl)
-core-made De net k e kids c directed has = subst (λ v. IsCoreOf e v) (sym has.is) (directed, refl)
-core-made Pn net k e kids c directed has = subst (λ v. IsCoreOf e v) (sym has.is) (directed, length-replicate (count_by is_input e.ports.items) 1)
-core-made Rendezvous net k e kids c directed has = absurd has
+core-made : (by : Director) (net : Net) (starts : Starts) (k : ℕ) (e : NetEntity) (kids : List Tree) (c : tree.Core Token) → IsDirectedBy e by → (composing by).IsCore (around_in net starts k e) kids c → IsCoreOf e c
+core-made Sdf net starts k e kids c directed has = subst (λ v. IsCoreOf e v) (sym has.is) (directed, has.planned.takes ∙ has.is_inside.inputs)
+core-made Sr net starts k e kids c directed has = subst (λ v. IsCoreOf e v) (sym has.is) (directed, refl)
+core-made De net starts k e kids c directed has = subst (λ v. IsCoreOf e v) (sym has.is) (directed, refl)
+core-made Pn net starts k e kids c directed has = subst (λ v. IsCoreOf e v) (sym has.is) (directed, has.wired.lawful.takes)
+core-made Rendezvous net starts k e kids c directed has = absurd has
 
 core-at : {net : Net} {starts : Starts} {k : ℕ} {s : Shown} (values : Values) → IsPlaced net values → k ≡ 0 → IsBuilt net starts k s → HasCore net s
 core-at {net = net} values placed first (built_actor k e a at is starts_as) = absurd (top-directed net values e placed (subst (λ j. IsEntity net j e) first at) is)
-core-at {net = net} values placed first (built_composite k e by kids s at directed all is) = record {
+core-at {net = net} {starts = starts} values placed first (built_composite k e by kids s at directed all is) = record {
   entity = e;
   at = subst (λ j. IsEntity net j e) first at;
   core = is.core;
   kids = trees_of kids;
   node = is.node;
-  is = core-made by net k e (trees_of kids) is.core directed is.is_core;
+  is = core-made by net starts k e (trees_of kids) is.core directed is.is_core;
 }
 
 pub top-core : (net : Net) (values : Values) (starts : Starts) (s : Shown) → IsPlaced net values → IsBuilt net starts 0 s → HasCore net s
@@ -140,6 +140,23 @@ pub lists-counted : (net : Net) (values : Values) (e : NetEntity) (lists : List 
 lists-counted net values e lists at supplied =
     let own : own_inputs (net_view net) ≡ inputs_of (entity_view e) = ap inputs_at (view-at entity_view net.entities.items 0 e at) in
     sym (zip-length (ComeTo (net_view net) values) (own_inputs (net_view net)) lists supplied) ∙ ap (λ (v : List (List ℕ)). length v) own ∙ inputs-counted e.ports.items
+
+-- how many ports pass a test, as they are seen
+ports-counted : (test : PortTree → Bool) (own : Port → Bool) → ((p : Port) → test (port_view p) ≡ own p) → (ps : List Port) → length (filter test (map port_view ps)) ≡ count_by own ps
+ports-counted test own same ps = is_count_by (λ (qs : List Port). length (filter test (map port_view qs))) own refl more ps
+  where
+    if-longer : (b : Bool) (p : PortTree) (qs : List PortTree) → length (cond b (p ∷ qs) qs) ≡ cond b (1 + length qs) (length qs)
+    if-longer true p qs = omega arith
+    if-longer false p qs = refl
+
+    more : (p : Port) (qs : List Port) → length (filter test (map port_view (p ∷ qs))) ≡ cond (own p) (1 + length (filter test (map port_view qs))) (length (filter test (map port_view qs)))
+    more p qs = let rest : List PortTree = filter test (map port_view qs) in if-longer (test (port_view p)) (port_view p) rest ∙ ap (λ b. cond b (1 + length rest) (length rest)) (same p)
+
+pub inputs-viewed : (ps : List Port) → length (filter is_input_port (map port_view ps)) ≡ count_by is_input ps
+inputs-viewed ps = ports-counted is_input_port is_input (λ p. let v : PortTree = port_view p in inward v.name v.direction v.declared v.properties) ps
+
+pub outputs-viewed : (ps : List Port) → length (filter (λ (p : PortTree). not (is_input_port p)) (map port_view ps)) ≡ count_by is_output ps
+outputs-viewed ps = ports-counted (λ (p : PortTree). not (is_input_port p)) is_output (λ p. let v : PortTree = port_view p in ap not (inward v.name v.direction v.declared v.properties)) ps
 
 -- ---- its director
 
@@ -203,6 +220,15 @@ row-name want name (r ∷ rows) class all e = by-test (bytes_eq r.name class) re
     by-test : (b : Bool) → bytes_eq r.name class ≡ b → option_map (λ (r : DirectorClass). r.director) (if b then Some r else row_in rows class) ≡ Some want → (option_map (λ (r : DirectorClass). r.director) (row_in rows class) ≡ Some want → class ≡ name) → class ≡ name
     by-test true is h rest = sym ((bytes_eq-Decides r.name class).0 is) ∙ all.0 (same_Some r.director want h)
     by-test false is h rest = rest h
+
+pn-named : AreNamed Pn (codes "PN") directors
+unfolding AreNamed directors
+pn-named = ((λ e. absurd (cc)), ((λ e. absurd (cc)), ((λ e. absurd (cc)), ((λ e. refl), ((λ e. absurd (cc)), tt)))))
+
+-- the director of a process network has this class
+pub pn-class : (d : NetDirector) → named (Some d) ≡ Some Pn → bytes_eq d.class (codes "PN") ≡ true
+unfolding director_row
+pn-class d e = (bytes_eq-Decides d.class (codes "PN")).1 (row-name Pn (codes "PN") directors d.class pn-named e)
 
 de-has-time : (d : Option NetDirector) → named d ≡ Some De → has_time (option_map director_view d) ≡ true
 unfolding director_row

@@ -20,9 +20,9 @@ use Rattle.pt_elaboration.proofs.Lists.{read}
 use Rattle.pt_model.proofs.TopLaws.{top-directed, top-core}
 
 -- each library actor starts as its parameters and types start it
-pub started-in : (net : Net) (values : Values) (typing : Assignment) (starts : Starts) → AreStartsOf net values typing starts → AreStartedIn net values typing starts
+pub started-in : (net : Net) (values : Values) (typing : Assignment) (starts : Starts) → AreStartsOf net values typing starts.actors → AreStartedIn net values typing starts
 started-in net values typing starts are k a is =
-    let there : k < length net.entities.items = let h = slice_get_within starts k (Some a) is in omega (arith, h, are.counted) in
+    let there : k < length net.entities.items = let h = slice_get_within starts.actors k (Some a) is in omega (arith, h, are.counted) in
     let found : (e : NetEntity) × IsEntity net k e = read net.entities.items k there in
     by_director found.0 found.1 found.0.director refl
   where
@@ -31,7 +31,7 @@ started-in net values typing starts are k a is =
         let r = are.actors k e at undirected in
         (e, at, undirected, subst (λ (s : Option LibraryActor). IsStart net values (types_of_ports typing) k s) (same_Some r.0 (Some a) (sym r.1 ∙ is)) r.2)
     by_director e at (Some d) directed =
-        let none : slice_get starts k ≡ Some None = are.others k e at (λ undirected. none-some d (sym undirected ∙ directed)) in
+        let none : slice_get starts.actors k ≡ Some None = are.others k e at (λ undirected. none-some d (sym undirected ∙ directed)) in
         absurd (none-some a (same_Some None (Some a) (sym none ∙ is)))
 
 -- the top has a director

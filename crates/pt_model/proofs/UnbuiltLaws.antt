@@ -1,6 +1,7 @@
 -- Of what a builder of trees may lack, the net of a document lacks nothing but what isn't built.
-use Rattle.std.proofs.Common.{◌≡◌, inl, inr, ℕ, List, Bool, true, false, ◌||◌, if◌then◌else◌, bytes_eq, codes, refl, ap, ◌∙◌, arith}
+use Rattle.std.proofs.Common.{◌≡◌, inl, inr, ℕ, List, Bool, true, false, ◌||◌, if◌then◌else◌, bytes_eq, codes, refl, sym, ap, ◌∙◌, arith}
 use Rattle.std.specs.Prelude.{Option, Some, None, slice_get}
+use Rattle.std.proofs.lemmas.Option.{none-some}
 use Rattle.pt_document.specs.declared.classes.Director.{Director}
 use Rattle.pt_document.specs.declared.classes.Director.TheVariants.{Sdf, Pn, Rendezvous, Sr, De}
 use Rattle.pt_net.specs.declared.net.Net.{Net}
@@ -21,10 +22,12 @@ use Rattle.pt_trees.specs.Built as built
 use Rattle.pt_trees.proofs.DirectorLaws.{is-directed}
 use Rattle.pt_build.proofs.TreeLaws.{built-trees}
 use Rattle.pt_order.specs.Laws.{IsNetOfDocument}
-use Rattle.pt_buildable.specs.Composites.{is_built, HasOtherComposite}
+use Rattle.pt_buildable.specs.Composites.{is_built, HasOtherComposite, HasUnstatedNetwork}
 use Rattle.pt_buildable.proofs.Joined.{tops-there, entities-shallow, directors-of-composites, children-steady, composites-built, nets-ordered, begin-at-outputs}
 use Rattle.pt_elaboration.specs.Resolved.{IsStarted}
-use Rattle.pt_elaboration.specs.Unbuilt.{IsUnbuilt, other, stated, unrated, unstarted, malformed}
+use Rattle.pt_elaboration.specs.Unbuilt.{IsUnbuilt, other, unstarted, malformed}
+use Rattle.pt_model.proofs.StatedLaws.{network-states, lawful-for}
+use Rattle.pt_stated.specs.Laws.{StatedIsLawful, NetworksAreStated}
 use Rattle.pt_model.proofs.TypedLaws.{started-in, directed-top}
 
 -- ---- composites of other directors
@@ -47,7 +50,7 @@ undirected-none e none = by-class (bytes_eq e.class (codes "Composite"))
 
 -- ---- the tree of a net
 
-module _ (net : Net) (values : Values) (typing : Assignment) (starts : Starts) (doc : IsNetOfDocument net) (started : IsStarted net values typing starts) where
+module _ (law : StatedIsLawful) (stating : NetworksAreStated) (net : Net) (values : Values) (typing : Assignment) (starts : Starts) (doc : IsNetOfDocument net) (started : IsStarted net values typing starts) where
   -- an entity with a director that none of the table is
   nameless : (k : ℕ) (e : NetEntity) → IsEntity net k e → (IsUndirected e → ⊥) → director_of e ≡ None → IsUnbuilt net starts
   nameless k e at directed none = by-director e.director refl
@@ -60,13 +63,13 @@ module _ (net : Net) (values : Values) (typing : Assignment) (starts : Starts) (
   startless : (k : ℕ) (e : NetEntity) → IsEntity net k e → IsUndirected e → ((a : LibraryActor) → StartsAs starts k a → ⊥) → IsUnbuilt net starts
   startless k e at undirected none = by-class (is_composite_class e.class) refl (started.started.actors k e at undirected).0 (started.started.actors k e at undirected).1
     where
-      by-class : (b : Bool) → is_composite_class e.class ≡ b → (s : Option LibraryActor) → slice_get starts k ≡ Some s → IsUnbuilt net starts
+      by-class : (b : Bool) → is_composite_class e.class ≡ b → (s : Option LibraryActor) → slice_get starts.actors k ≡ Some s → IsUnbuilt net starts
       by-class true is s start = other (record { number = k; entity = e; at = at; other = (is, ap is_built (undirected-none e undirected)) })
       by-class false is None start = unstarted k e at undirected is start
       by-class false is (Some a) start = absurd (none a start)
 
   -- a composite of DE that doesn't fit it has other places than its children: where all composites are built, channels begin at outputs
-  unfit-events : (k : ℕ) (e : NetEntity) (kids : List Tree) → IsEntity net k e → IsDirectedBy e De → AreTrees net (StartsAs starts) (children_of net.entities.items k) kids → (IsDeWired (around_in net k e) kids → ⊥) → IsUnbuilt net starts
+  unfit-events : (k : ℕ) (e : NetEntity) (kids : List Tree) → IsEntity net k e → IsDirectedBy e De → AreTrees net starts (children_of net.entities.items k) kids → (IsDeWired (around_in net starts k e) kids → ⊥) → IsUnbuilt net starts
   unfit-events k e kids at by all bad = elim (composites-built net) [
     | inl some ↦ other some
     | inr built ↦ (
@@ -76,18 +79,19 @@ module _ (net : Net) (values : Values) (typing : Assignment) (starts : Starts) (
         malformed k e De kids at by all (λ wired. bad (record { wired = wired; begin = begin-at-outputs net values typing starts k e kids order (started-in net values typing starts started.started) at all })))
   ]
 
-  -- a process network that doesn't fit its director states something, or has other places than its children
-  unfit-network : (k : ℕ) (e : NetEntity) (kids : List Tree) → IsEntity net k e → IsDirectedBy e Pn → AreTrees net (StartsAs starts) (children_of net.entities.items k) kids → (IsPnWired (around_in net k e) kids → ⊥) → IsUnbuilt net starts
-  unfit-network k e kids at by all bad = by-test (around_in net k e).plain refl
-    where
-      by-test : (b : Bool) → (around_in net k e).plain ≡ b → IsUnbuilt net starts
-      by-test true plain = malformed k e Pn kids at by all (λ wired. bad (record { wired = wired; plain = plain }))
-      by-test false is = stated (record { number = k; entity = e; at = at; network = by; stated = is })
+  -- each process network states its numbers
+  none-unstated : HasUnstatedNetwork net starts → ⊥
+  none-unstated has = let s = network-states law stating net values starts started.stated started.resolved.valued has.number has.entity has.at has.network in none-some s.0 (sym has.unstated ∙ s.1)
+
+  -- one that doesn't fit its director has other places than its children: what it states is lawful
+  unfit-network : (k : ℕ) (e : NetEntity) (kids : List Tree) → IsEntity net k e → IsDirectedBy e Pn → AreTrees net starts (children_of net.entities.items k) kids → (IsPnWired (around_in net starts k e) kids → ⊥) → IsUnbuilt net starts
+  unfit-network k e kids at by all bad =
+      let s = network-states law stating net values starts started.stated started.resolved.valued k e at by in
+      malformed k e Pn kids at by all (λ wired. bad (record { wired = wired; stated = s.0; is = s.1; lawful = lawful-for law stating net values starts started.stated k e s.0 at s.1 }))
 
   -- a composite that doesn't fit its director
-  unfit : (k : ℕ) (e : NetEntity) (director : Director) (kids : List Tree) → IsEntity net k e → IsDirectedBy e director → AreTrees net (StartsAs starts) (children_of net.entities.items k) kids → (composing director).IsMisfit (around_in net k e) kids → IsUnbuilt net starts
-  unfit k e Sdf kids at by all (inl unsteady) =
-      unrated (record { number = k; entity = e; at = at; directed = by; inner = children-steady net values typing starts k e kids started.resolved.valued started.placed (started-in net values typing starts started.started) at by all unsteady })
+  unfit : (k : ℕ) (e : NetEntity) (director : Director) (kids : List Tree) → IsEntity net k e → IsDirectedBy e director → AreTrees net starts (children_of net.entities.items k) kids → (composing director).IsMisfit (around_in net starts k e) kids → IsUnbuilt net starts
+  unfit k e Sdf kids at by all (inl unsteady) = absurd (none-unstated (children-steady net values typing starts k e kids started.resolved.valued started.placed (started-in net values typing starts started.started) at by all unsteady))
   unfit k e Sdf kids at by all (inr bad) = malformed k e Sdf kids at by all bad
   unfit k e Sr kids at by all bad = malformed k e Sr kids at by all bad
   unfit k e De kids at by all bad = unfit-events k e kids at by all bad

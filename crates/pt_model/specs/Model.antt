@@ -11,7 +11,7 @@ use Rattle.pt_node.specs.declared.body.Body.{Body}
 use Rattle.pt_node.specs.declared.body.Body.TheVariants.{Actor, Composite}
 use Rattle.pt_node.specs.Shown.{Shown}
 use Rattle.pt_node.specs.View.{node_of}
-use Rattle.pt_trees.specs.Trees.{Starts, StartsAs, IsTree}
+use Rattle.pt_trees.specs.Trees.{Starts, IsTree}
 use Rattle.pt_trees.specs.Built.{IsBuilt}
 use Rattle.pt_trees.specs.declared.top.Top.{Top}
 use Rattle.pt_trees.specs.declared.top.Top.TheVariants.{Sdf, Sr, De, Once}
@@ -39,7 +39,7 @@ pub record IsModel (net : Net) (top : Shown) (job : Top) : Type 0 where
   pub typing : Assignment
   pub starts : Starts
   pub started : IsStarted net values typing starts
-  pub tree : IsTree net (StartsAs starts) 0 (node_of top)
+  pub tree : IsTree net starts 0 (node_of top)
   pub built : IsBuilt net starts 0 top
   pub accepted : (path : List ℕ) → IsInputFault (net_view net) path → ⊥
   pub supplied : AreSupplied (net_view net) values (supply_of job)

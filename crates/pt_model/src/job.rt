@@ -10,6 +10,7 @@ ghost use Rattle.pt_trees.specs.declared.top.Top.TheVariants as top;
 ghost use Rattle.pt_trees.specs.Built.{IsBuilt};
 ghost use Rattle.pt_trees.specs.Top.{supply_of, IsJobFor};
 ghost use Rattle.pt_order.specs.Laws.{IsNetOfDocument};
+ghost use Rattle.pt_elaboration.specs.Begun.{starts_in};
 ghost use Rattle.pt_elaboration.specs.Resolved.{IsStarted};
 ghost use Rattle.pt_elaboration.specs.Refused.{FaultStands};
 ghost use Rattle.pt_model.specs.Model.{HasTags, Lasts};
@@ -38,8 +39,8 @@ fn stated(net: &Net, started: &Started) -> u64
 
 /// What a job asks of an SDF top that takes so many tokens in an iteration.
 fn sdf_job(alloc: Global, net: &Net, started: &Started, takes: &Counts) -> Result<SdfJob, DocFault>
-    requires started { IsStarted net.now started.now.values (assignment started.now.typing) started.now.starts.items }
-    requires built { (top : Shown) × IsBuilt net.now started.now.starts.items 0 top }
+    requires started { IsStarted net.now started.now.values (assignment started.now.typing) (starts_in started.now) }
+    requires built { (top : Shown) × IsBuilt net.now (starts_in started.now) 0 top }
     requires present { may_lack (net_view net.now) ≡ false }
     requires iterates { IsSome (spec.iterations (net_view net.now) started.now.values) }
     ensures accepted { IsOk result → (path : List ℕ) → IsInputFault (net_view net.now) path → ⊥ }
@@ -59,8 +60,8 @@ fn sdf_job(alloc: Global, net: &Net, started: &Started, takes: &Counts) -> Resul
 
 /// What a job asks of an SR top.
 fn sr_job(alloc: Global, net: &Net, started: &Started) -> Result<SrJob, DocFault>
-    requires started { IsStarted net.now started.now.values (assignment started.now.typing) started.now.starts.items }
-    requires built { (top : Shown) × IsBuilt net.now started.now.starts.items 0 top }
+    requires started { IsStarted net.now started.now.values (assignment started.now.typing) (starts_in started.now) }
+    requires built { (top : Shown) × IsBuilt net.now (starts_in started.now) 0 top }
     requires iterates { IsSome (spec.iterations (net_view net.now) started.now.values) }
     ensures accepted { IsOk result → (path : List ℕ) → IsInputFault (net_view net.now) path → ⊥ }
     ensures supplied { IfOk result (λ job. AreSupplied (net_view net.now) started.now.values (supply_of (top.Sr job))) }
@@ -76,8 +77,8 @@ fn sr_job(alloc: Global, net: &Net, started: &Started) -> Result<SrJob, DocFault
 
 /// What a job asks of a DE top.
 fn de_job(alloc: Global, net: &Net, started: &Started) -> Result<DeJob, DocFault>
-    requires started { IsStarted net.now started.now.values (assignment started.now.typing) started.now.starts.items }
-    requires built { (top : Shown) × IsBuilt net.now started.now.starts.items 0 top }
+    requires started { IsStarted net.now started.now.values (assignment started.now.typing) (starts_in started.now) }
+    requires built { (top : Shown) × IsBuilt net.now (starts_in started.now) 0 top }
     requires timed { is_timed (net_view net.now) ≡ true }
     ensures accepted { IsOk result → (path : List ℕ) → IsInputFault (net_view net.now) path → ⊥ }
     ensures supplied { IfOk result (λ job. AreSupplied (net_view net.now) started.now.values (supply_of (top.De job))) }
@@ -95,8 +96,8 @@ fn de_job(alloc: Global, net: &Net, started: &Started) -> Result<DeJob, DocFault
 
 /// What a job asks of a top that fires once.
 fn once_job(alloc: Global, net: &Net, started: &Started) -> Result<OnceJob, DocFault>
-    requires started { IsStarted net.now started.now.values (assignment started.now.typing) started.now.starts.items }
-    requires built { (top : Shown) × IsBuilt net.now started.now.starts.items 0 top }
+    requires started { IsStarted net.now started.now.values (assignment started.now.typing) (starts_in started.now) }
+    requires built { (top : Shown) × IsBuilt net.now (starts_in started.now) 0 top }
     requires present { may_lack (net_view net.now) ≡ false }
     ensures accepted { IsOk result → (path : List ℕ) → IsInputFault (net_view net.now) path → ⊥ }
     ensures supplied { IfOk result (λ job. AreSupplied (net_view net.now) started.now.values (supply_of (top.Once job))) }
@@ -114,8 +115,8 @@ pub(crate) fn job_of(
     top: &Node,
 ) -> Result<Top, DocFault>
     requires document { IsNetOfDocument net.now }
-    requires started { IsStarted net.now started.now.values (assignment started.now.typing) started.now.starts.items }
-    requires built { IsBuilt net.now started.now.starts.items 0 (shown_node top.now) }
+    requires started { IsStarted net.now started.now.values (assignment started.now.typing) (starts_in started.now) }
+    requires built { IsBuilt net.now (starts_in started.now) 0 (shown_node top.now) }
     ensures accepted { IsOk result → (path : List ℕ) → IsInputFault (net_view net.now) path → ⊥ }
     ensures supplied { IfOk result (λ job. AreSupplied (net_view net.now) started.now.values (supply_of job)) }
     ensures tags { IfOk result (HasTags (net_view net.now)) }

@@ -7,6 +7,7 @@ ghost use Rattle.pt_trees.specs.Start.{IsRunnable};
 ghost use Rattle.pt_trees.specs.Ports.{AreNumbered};
 ghost use Rattle.pt_order.specs.Laws.{IsNetOfDocument};
 ghost use Rattle.pt_model.specs.Model.{IsModel};
+ghost use Rattle.pt_elaboration.specs.Begun.{starts_in};
 ghost use Rattle.pt_elaboration.specs.Resolved.{IsStarted};
 ghost use Rattle.pt_elaboration.specs.Refused.{FaultStands};
 
@@ -44,10 +45,10 @@ fn with_job(top: Node, job: Result<Top, DocFault>) -> Result<Model, DocFault>
 /// The model of a net whose entities start as these.
 pub(crate) fn model_with(alloc: Global, net: &Net, started: &Started) -> Result<Model, DocFault>
     requires document { IsNetOfDocument net.now }
-    requires started { IsStarted net.now started.now.values (assignment started.now.typing) started.now.starts.items }
+    requires started { IsStarted net.now started.now.values (assignment started.now.typing) (starts_in started.now) }
     // The types of the model are those of the start.
     ensures model { IfOk result (λ model. (is : IsModel net.now (shown_node model.top) model.job) × (is.typing ≡ assignment started.now.typing)) }
-    ensures built { IfOk result (λ model. IsBuilt net.now started.now.starts.items 0 (shown_node model.top)) }
+    ensures built { IfOk result (λ model. IsBuilt net.now (starts_in started.now) 0 (shown_node model.top)) }
     ensures fresh { IfOk result (λ model. IsFresh (shown_node model.top)) }
     ensures stands { IfErr result (FaultStands net.now) }
 {

@@ -8,6 +8,7 @@ use Rattle.pt_trees.specs.Trees.{IsTree, StartsAs}
 use Rattle.pt_trees.specs.Built.{IsBuilt}
 use Rattle.pt_trees.specs.Top.{IsJobFor}
 use Rattle.pt_model.proofs.Outcomes.{on-ok, at-ok}
+use Rattle.pt_elaboration.specs.Begun.{starts_in}
 use Rattle.pt_model.proofs.model.model_with.Goals as goal
 
 pub returns-clause-model : goal.returns-clause-model
@@ -16,10 +17,10 @@ returns-clause-model c = on-ok c.with_job.result (λ model is.
       record {
         values = c.args.started.now.values;
         typing = assignment c.args.started.now.typing;
-        starts = c.args.started.now.starts.items;
+        starts = starts_in c.args.started.now;
         started = c.requires.started;
-        tree = subst (λ top. IsTree c.args.net.now (StartsAs c.args.started.now.starts.items) 0 (node_of (shown_node top))) (sym told.0) c.in_ok-top.ensures.tree;
-        built = subst (λ top. IsBuilt c.args.net.now c.args.started.now.starts.items 0 (shown_node top)) (sym told.0) c.in_ok-top.ensures.built;
+        tree = subst (λ top. IsTree c.args.net.now (starts_in c.args.started.now) 0 (node_of (shown_node top))) (sym told.0) c.in_ok-top.ensures.tree;
+        built = subst (λ top. IsBuilt c.args.net.now (starts_in c.args.started.now) 0 (shown_node top)) (sym told.0) c.in_ok-top.ensures.built;
         accepted = c.job_of-job.ensures.accepted (subst (λ job. IsOk job) (sym told.1) refl);
         supplied = at-ok _ told.1 c.job_of-job.ensures.supplied;
         tags = at-ok _ told.1 c.job_of-job.ensures.tags;
