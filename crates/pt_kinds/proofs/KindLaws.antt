@@ -81,7 +81,7 @@ module _ {T K A S : Type 0} (Has : K → T → Type 0) (Below : K → K → Type
   AreGood i [] = Unit {0}
   AreGood i (s ∷ ss) = Good i s × AreGood (suc i) ss
 
-  good-at : (i j : ℕ) (ss : List S) (s : S) → AreGood i ss → get ss j ≡ Some s → Good (i + j) s
+  pub good-at : (i j : ℕ) (ss : List S) (s : S) → AreGood i ss → get ss j ≡ Some s → Good (i + j) s
   good-at i j [] s g e = absurd (cc)
   good-at i zero (z ∷ ss) s g e =
       let a : i ≡ i + 0 = omega arith in

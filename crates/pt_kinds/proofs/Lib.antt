@@ -8,5 +8,6 @@ pub mod MeetingMoves
 pub mod DirectorLaws
 pub mod StreamLaws
 pub mod KindLaws
+pub mod ModalKinds
 pub mod NodeLaws
 pub mod Examples

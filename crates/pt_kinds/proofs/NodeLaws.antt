@@ -11,20 +11,22 @@ use Rattle.pt_meaning.specs.Pn.{pn}
 use Rattle.pt_meaning.specs.Sr.{sr}
 use Rattle.pt_meaning.specs.De.{de}
 use Rattle.pt_meaning.specs.Rendezvous.{rv}
+use Rattle.pt_meaning.specs.Modal.{Chart, Modes, modal}
 use Rattle.pt_meaning.specs.Streams.{get}
 use Rattle.pt_meaning.specs.Meetings.{Meets, below_child}
 use Rattle.pt_meaning.specs.Children.{Child, numbered, nodes, child_facts, with_number, child_step}
-use Rattle.pt_meaning.specs.Node.{Rows, Core, Sdf, Pn, Sr, De, Rv, Modal, Past, Answer, Gives, Fails, Node, Nodes, Actor, Composite, none, more, list_of, nodes_of, early_of, facts_of, as_node, director, step_at, actor_outcome, made_of, height, Step}
+use Rattle.pt_meaning.specs.Node.{Rows, Core, Sdf, Pn, Sr, De, Rv, Modal, Past, Answer, Gives, Fails, Node, Nodes, Actor, Composite, none, more, list_of, nodes_of, reset_of, reset_all, early_of, facts_of, as_node, director, step_at, actor_outcome, made_of, height, Step}
 use Rattle.pt_meaning.specs.Job.{Schedule, Turn, Fire, Ends, Limit as AtLimit, Course, Standing, Goes, Ended, Halted, on_step, on_turn, goes_on, after, log_of, begin}
 use Rattle.pt_laws.specs.LogsOfRuns.{log_in}
 use Rattle.pt_kinds.specs.Moves.{On, OnlyMoves}
 use Rattle.pt_kinds.specs.Directors.{KeepsChannels, InPlaces, IsSeated, DirectorsOnlyMove}
 use Rattle.pt_kinds.specs.Signature.{Signature, Signatures, below, AreOf, AreAllOf, AreKnownOf, AreAllKnownOf, IsTypedEvent, IsTypedLog}
-use Rattle.pt_kinds.specs.TypedTree.{kinds_from, kinds_at, kinds_in, IsTypedNet, IsTypedCore, IsTypedNode, AreTypedNodes}
+use Rattle.pt_kinds.specs.TypedTree.{kinds_from, kinds_at, kinds_in, IsTypedNet, IsTypedModal, IsTypedCore, IsTypedNode, AreTypedNodes}
 use Rattle.pt_kinds.specs.TypedRuns.{ActorsKeepKinds, KindsWiden, IsTypedOutcome, StepsKeepKinds, AreTypedTurns, MeaningKeepsKinds}
 use Rattle.pt_kinds.proofs.StreamLaws.{on-of, of-count, each-of}
 use Rattle.pt_kinds.proofs.RoundMoves.{skip-length}
 use Rattle.pt_kinds.proofs.KindLaws.{GoodOutcome, KeepsKinds, typed-silent, typed-then, typed-own, AreGood, kinds-counted, sources-counted, inside-typed, logs-typed}
+use Rattle.pt_kinds.proofs.ModalKinds.{IsGoodReaction, modal-good}
 use Rattle.pt_kinds.proofs.DirectorLaws.{directors-move}
 
 module _ {T K A : Type 0} (Has : K → T → Type 0) (Below : K → K → Type 0) (Fits : Signature K → A → Type 0) (rows : Rows T A) (widens : KindsWiden {T = T} {K = K} {A = A} Has Below Fits rows) (acts : ActorsKeepKinds Has Below Fits rows) where
@@ -39,6 +41,25 @@ module _ {T K A : Type 0} (Has : K → T → Type 0) (Below : K → K → Type 0
   nodes-typed : (sigs : Signatures K) (i : ℕ) (cs : List (Child (Node T A))) → AreGood {A = A} Has Below Fits widens sigs (GoodChild sigs) i cs → AreTypedNodes Has Below Fits sigs i (nodes_of (nodes cs))
   nodes-typed sigs i [] g = tt
   nodes-typed sigs i (c ∷ cs) g = (g.0.1, nodes-typed sigs (suc i) cs g.1)
+
+  -- a reset brings back a typed node
+  reset-length : (kids : Nodes T A) → length (list_of (reset_all kids)) ≡ length (list_of kids)
+  reset-length none = refl
+  reset-length (more n ns) = ap (λ v. suc v) (reset-length ns)
+
+  mutual
+    reset-typed : (sigs : Signatures K) (node : Node T A) → IsTypedNode Has Below Fits sigs node → IsTypedNode Has Below Fits sigs (reset_of node)
+    reset-typed sigs (Actor h a b) t = (t.0, t.0)
+    reset-typed sigs (Composite h c d kids) t =
+        let start = subst (λ n. IsTypedCore {A = A} Has Below Fits sigs n c) (sym (reset-length kids)) t.0 in
+        (start, start, resets-typed sigs 0 kids t.2)
+
+    resets-typed : (sigs : Signatures K) (i : ℕ) (kids : Nodes T A) → AreTypedNodes Has Below Fits sigs i kids → AreTypedNodes Has Below Fits sigs i (reset_all kids)
+    resets-typed sigs i none t = tt
+    resets-typed sigs i (more n ns) t = (reset-typed (below sigs i) n t.0, resets-typed sigs (suc i) ns t.1)
+
+  child-reset : (sigs : Signatures K) (i : ℕ) (c : Child (Node T A)) → GoodChild sigs i c → GoodChild sigs i ((child_facts {T = T} (facts_of rows)).reset c)
+  child-reset sigs i c g = (g.0, reset-typed (below sigs i) c.node g.1)
 
   numbered-length : {S : Type 0} (i : ℕ) (ss : List S) → length (numbered i ss) ≡ length ss
   numbered-length i [] = refl
@@ -64,14 +85,14 @@ module _ {T K A : Type 0} (Has : K → T → Type 0) (Below : K → K → Type 0
 
   -- what a node gives early is of its kinds: a composite gives nothing so
   node-tells : (sigs : Signatures K) (tag : Tag) (node : Node T A) (vs : List (Partial T)) → IsTypedNode Has Below Fits sigs node → AreAllKnownOf Has (sigs []).places vs → AreKnownOf Has (sigs []).outputs (early_of rows tag node vs)
-  node-tells sigs tag (Actor h a b) vs t k = acts.tells (sigs []) b tag vs t k
+  node-tells sigs tag (Actor h a b) vs t k = acts.tells (sigs []) b tag vs t.1 k
   node-tells sigs tag (Composite h c d kids) vs t k = tt
 
   counted-net : (sigs : Signatures K) (m n : ℕ) (net : Net) (ends : List K) → m ≡ n → IsTypedNet {A = A} Has Below Fits sigs m net ends → IsTypedNet {A = A} Has Below Fits sigs n net ends
   counted-net sigs m n net ends e t = record { places_counted = t.places_counted ∙ e; sized = t.sized; fed = t.fed }
 
   -- the firing of a composite whose children keep to their kinds
-  module _ (sigs : Signatures K) (step : Stepping T (Child (Node T A))) (keeps : (i : ℕ) → KeepsKinds Has (below sigs i) (GoodChild sigs i) step) (tag : Tag) (h : Past) (c : Core T) (kids : Nodes T A) (s : AreTypedNodes Has Below Fits sigs 0 kids) (inputs : Streams T) (a : AreAllOf Has (sigs []).places inputs) where
+  module _ (sigs : Signatures K) (step : Stepping T (Child (Node T A))) (keeps : (i : ℕ) → KeepsKinds Has (below sigs i) (GoodChild sigs i) step) (tag : Tag) (h : Past) (c : Core T) (kids : Nodes T A) (b : IsTypedCore Has Below Fits sigs (length (list_of kids)) c) (s : AreTypedNodes Has Below Fits sigs 0 kids) (inputs : Streams T) (a : AreAllOf Has (sigs []).places inputs) where
     abbrev its : List (Child (Node T A))
     its = numbered 0 (list_of kids)
 
@@ -83,6 +104,10 @@ module _ {T K A : Type 0} (Has : K → T → Type 0) (Below : K → K → Type 0
 
     its-tell : (i : ℕ) (k : Child (Node T A)) (vs : List (Partial T)) → GoodChild sigs i k → AreAllKnownOf Has (sigs (i ∷ [])).places vs → AreKnownOf Has (sigs (i ∷ [])).outputs (its-facts.early tag k vs)
     its-tell i k vs g v = node-tells (below sigs i) tag k.node vs g.1 v
+
+    -- the start stays typed, as there are as many children
+    started : (ks : List (Child (Node T A))) → length (list_of (nodes_of (nodes ks))) ≡ length (list_of kids) → IsTypedCore {A = A} Has Below Fits sigs (length (list_of (nodes_of (nodes ks)))) c
+    started ks e = subst (λ n. IsTypedCore {A = A} Has Below Fits sigs n c) (sym e) b
 
     -- what is typed on a net of which each channel has this kind
     abbrev OfKinds : Net → List K → ((channel : ℕ) → T → Type 0) → Type 0
@@ -101,6 +126,7 @@ module _ {T K A : Type 0} (Has : K → T → Type 0) (Below : K → K → Type 0
           let g = inside-typed {A = A} Has Below Fits widens sigs (GoodChild sigs) its-facts step tag keeps its-tell net its Stood inputs ends its-net (numbered-good sigs 0 kids s) a.1 of After IsKept outputs few x out m.done in
           let same : length (list_of (nodes_of (nodes x.kids))) ≡ length (list_of kids) = nodes-length x.kids ∙ g.kids_counted ∙ its-count in (
             (
+              started x.kids same,
               stays (length (list_of (nodes_of (nodes x.kids)))) x.held same (counted-net sigs (length (list_of kids)) (length (list_of (nodes_of (nodes x.kids)))) net ends (sym same) t) g.kept g.left_of,
               nodes-typed sigs 0 x.kids g.kids_good,
             ),
@@ -124,6 +150,30 @@ module _ {T K A : Type 0} (Has : K → T → Type 0) (Below : K → K → Type 0
 
     abbrev moves : DirectorsOnlyMove T (Child (Node T A))
     moves = directors-move T (Child (Node T A))
+
+    -- the reaction of a Modal
+    module _ (chart : Chart T) (m : Modes T) (t : IsTypedModal {A = A} Has Below Fits sigs (length (list_of kids)) chart m) where
+      abbrev GoodReaction : Outcome T (Inside (Modes T) (Child (Node T A))) → Type 0
+      GoodReaction r = IsGoodReaction {A = A} Has Below Fits widens sigs (GoodChild sigs) its-facts step keeps (child-reset sigs) chart (length (list_of kids)) m t r
+
+      reaction-typed : (r : Outcome T (Inside (Modes T) (Child (Node T A)))) → GoodReaction r → IsTypedOutcome Has Below Fits rows sigs (as_node tag h c (Modal chart) r)
+      reaction-typed (Done x out l) g =
+          let same : length (list_of (nodes_of (nodes x.kids))) ≡ length (list_of kids) = nodes-length x.kids ∙ g.0 in
+          let typed : IsTypedModal {A = A} Has Below Fits sigs (length (list_of kids)) chart x.held = record { variables = t.variables; held = g.2; outputs_counted = t.outputs_counted; refinements = t.refinements; acts = t.acts } in (
+            (
+              started x.kids same,
+              subst (λ n. IsTypedModal {A = A} Has Below Fits sigs n chart x.held) (sym same) typed,
+              nodes-typed sigs 0 x.kids g.1,
+            ),
+            g.3,
+            within-typed sigs h.made l g.4,
+          )
+      reaction-typed (Stuck fs l) g = within-typed sigs h.made l g
+
+      modal-typed : IsTypedOutcome Has Below Fits rows sigs (as_node tag h c (Modal chart) (modal chart its-facts step h.made tag m its inputs))
+      modal-typed =
+          reaction-typed (modal chart its-facts step h.made tag m its inputs)
+          (modal-good {A = A} Has Below Fits widens sigs (GoodChild sigs) its-facts step keeps (child-reset sigs) chart (length (list_of kids)) m t h.made tag inputs a m t.held its its-count (numbered-good sigs 0 kids s))
 
     director-typed : (k : ℕ) (ms : List Meeting) (d : Core T) → IsTypedCore Has Below Fits sigs (length (list_of kids)) d → IsTypedOutcome Has Below Fits rows sigs (director its-facts step k ms tag h c d its inputs)
     director-typed k ms (Sdf p X) t =
@@ -154,20 +204,20 @@ module _ {T K A : Type 0} (Has : K → T → Type 0) (Below : K → K → Type 0
         (λ n Y e u kept left. record { typed_net = u; barriers_counted = t.barriers_counted ∙ sym e; seated = subst (λ m. IsSeated p.net m Y) (its-count ∙ sym e) kept; held = left })
         (rv its-facts step p k h.made ms tag X its inputs)
         (moves.rv_moves its-facts step p k h.made ms tag X its inputs (t.barriers_counted ∙ sym its-count) (subst (λ m. IsSeated p.net m X) (sym its-count) t.seated))
-    director-typed k ms (Modal chart m) t = absurd t
+    director-typed k ms (Modal chart m) t = modal-typed chart m t
 
-  actor-typed : (sigs : Signatures K) (tag : Tag) (h : Past) (a b : A) (inputs : Streams T) → Fits (sigs []) b → AreAllOf Has (sigs []).places inputs → (r : Answer T A) → rows.react tag b inputs ≡ r → IsTypedOutcome Has Below Fits rows sigs (actor_outcome tag h a r)
-  actor-typed sigs tag h a b inputs f i (Gives z out) e = let w = acts.gives (sigs []) b z tag inputs out f i e in (w.1, w.0, typed-silent Has sigs)
-  actor-typed sigs tag h a b inputs f i (Fails code) e = typed-silent Has sigs
+  actor-typed : (sigs : Signatures K) (tag : Tag) (h : Past) (a b : A) (inputs : Streams T) → Fits (sigs []) a → Fits (sigs []) b → AreAllOf Has (sigs []).places inputs → (r : Answer T A) → rows.react tag b inputs ≡ r → IsTypedOutcome Has Below Fits rows sigs (actor_outcome tag h a r)
+  actor-typed sigs tag h a b inputs g f i (Gives z out) e = let w = acts.gives (sigs []) b z tag inputs out f i e in ((g, w.1), w.0, typed-silent Has sigs)
+  actor-typed sigs tag h a b inputs g f i (Fails code) e = typed-silent Has sigs
 
   pub level-typed : (sigs : Signatures K) (k d : ℕ) (m : Meets) (tag : Tag) (node : Node T A) (inputs : Streams T) → IsTypedNode Has Below Fits sigs node → AreAllOf Has (sigs []).places inputs → IsTypedOutcome Has Below Fits rows sigs (step_at rows k d m tag node inputs)
   unfolding step_at
   level-typed sigs k zero m tag node inputs t a = typed-silent Has sigs
-  level-typed sigs k (suc d) m tag (Actor h a b) inputs t i = actor-typed sigs tag h a b inputs t i (rows.react tag b inputs) refl
+  level-typed sigs k (suc d) m tag (Actor h a b) inputs t i = actor-typed sigs tag h a b inputs t.0 t.1 i (rows.react tag b inputs) refl
   level-typed sigs k (suc d) m tag (Composite h c e kids) inputs t i =
       director-typed sigs (child_step (λ j. step_at rows k d (below_child j m)))
       (λ j tag' s X g a. numbered-outcome sigs j s.number (step_at rows k d (below_child s.number m) tag' s.node X) g.0 (level-typed (below sigs j) k d (below_child s.number m) tag' s.node X g.1 a))
-      tag h c kids t.1 inputs i k (m [] h.made) e t.0
+      tag h c kids t.0 t.2 inputs i k (m [] h.made) e t.1
 
   recorded-typed : (sigs : Signatures K) (n : ℕ) (tag : Tag) (inputs : Streams T) (r : Outcome T (Node T A)) → AreAllOf Has (sigs []).places inputs → IsTypedOutcome Has Below Fits rows sigs r → IsTypedOutcome Has Below Fits rows sigs (recorded n tag inputs r)
   recorded-typed sigs n tag inputs (Done s out l) a t = (t.0, t.1, typed-then Has sigs l (own (record { number = n; tag = tag; inputs = inputs; outputs = out })) t.2 (typed-own Has sigs n tag inputs out a t.1))

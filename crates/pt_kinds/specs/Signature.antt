@@ -32,6 +32,13 @@ module _ {T K : Type 0} (Has : K → T → Type 0) where
   abbrev pub AreAllOf : List K → Streams T → Type 0
   AreAllOf ks X = (length X ≡ length ks) × AreOf ks X
 
+  -- token by token, each of its kind, and there are just as many
+  abbrev pub AreEach : List K → List T → Type 0
+  AreEach [] [] = Unit {0}
+  AreEach (k ∷ ks) (x ∷ xs) = Has k x × AreEach ks xs
+  AreEach [] (x ∷ xs) = ⊥
+  AreEach (k ∷ ks) [] = ⊥
+
   -- what is known of signals is of these kinds, signal by signal
   abbrev pub AreKnownOf : List K → List (Partial T) → Type 0
   AreKnownOf ks [] = Unit {0}

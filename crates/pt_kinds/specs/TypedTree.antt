@@ -1,5 +1,5 @@
 -- Trees whose nodes fit their signatures: along each channel what its source gives is of a kind that its place takes.
-use Rattle.std.specs.Prelude.{◌≡◌, ℕ, suc, ◌≤◌, List, [], ◌∷◌, ◌++◌, Option, Some, None, length}
+use Rattle.std.specs.Prelude.{◌≡◌, ℕ, suc, ◌≤◌, ◌<◌, List, [], ◌∷◌, ◌++◌, Bool, Option, Some, None, length}
 use Rattle.pt_meaning.specs.Basics.{Streams}
 use Rattle.pt_meaning.specs.Streams.{get}
 use Rattle.pt_meaning.specs.Net.{Source, Own, Output, Net}
@@ -7,9 +7,10 @@ use Rattle.pt_meaning.specs.Running.{total}
 use Rattle.pt_meaning.specs.Sdf.{SdfPlan, unfed}
 use Rattle.pt_meaning.specs.Pn.{PnPlan}
 use Rattle.pt_meaning.specs.Rendezvous.{RvPlan, Places}
+use Rattle.pt_meaning.specs.Modal.{Chart, Modes, Acts}
 use Rattle.pt_meaning.specs.Tree.{Core, Sdf, Pn, Sr, De, Rv, Modal, Node, Nodes, Actor, Composite, none, more, list_of}
 use Rattle.pt_kinds.specs.Directors.{InPlaces, IsSeated}
-use Rattle.pt_kinds.specs.Signature.{Signature, Signatures, below, AreOf}
+use Rattle.pt_kinds.specs.Signature.{Signature, Signatures, below, AreOf, AreAllOf, AreEach}
 
 -- the kind of what a source gives within a composite: that of the own input, or that of the child's output; none where there is no such port
 abbrev pub kind_of : {K : Type 0} → Signatures K → Source → Option K
@@ -81,20 +82,36 @@ module _ {T K A : Type 0} (Has : K → T → Type 0) (Below : K → K → Type 0
     pub seated : IsSeated p.net count X
     pub held : (c : ℕ) (k : K) (x : T) → InPlaces p.net X c x → get (kinds_from sigs [] 0 p.net.places) c ≡ Some k → Has k x
 
-  -- a composite by its director: SR and DE keep no tokens on their channels, and a Modal gives tokens of its own, so that the laws aren't of it
+  -- The refinement of number i: what comes to its places from like-named own inputs is of their kinds, and so is what the own outputs have of it.
+  pub record IsTypedRefinement (sigs : Signatures K) (chart : Chart T) (i : ℕ) : Type 0 where
+    pub places_counted : length (chart.in_ports i) ≡ length (sigs (i ∷ [])).places
+    pub outputs_counted : length (chart.out_ports i) ≤ length (sigs []).outputs
+    pub fed : (q p : ℕ) (k : K) → get (chart.in_ports i) q ≡ Some p → get (sigs (i ∷ [])).places q ≡ Some k → IsFed (get (sigs []).places p) k
+    pub shown : (o p : ℕ) (k : K) → get (chart.out_ports i) o ≡ Some (Some p) → get (sigs []).outputs o ≡ Some k → IsFed (get (sigs (i ∷ [])).outputs p) k
+
+  -- Of Modal, whose Variables are of kinds of their own: from tokens of these kinds its actions give such tokens alone.
+  pub record IsTypedModal (sigs : Signatures K) (count : ℕ) (chart : Chart T) (m : Modes T) : Type 0 where
+    pub variables : List K
+    pub held : AreEach Has variables m.values
+    pub outputs_counted : chart.outputs ≤ length (sigs []).outputs
+    pub refinements : (i : ℕ) → i < count → IsTypedRefinement sigs chart i
+    pub acts : (early : Bool) (mode n : ℕ) (values new : List T) (inputs given out : Streams T) → AreEach Has variables values → AreAllOf Has (sigs []).places inputs → AreOf Has (sigs []).outputs given →
+        chart.act early mode n values inputs given ≡ Acts out new → AreOf Has (sigs []).outputs out × AreEach Has variables new
+
+  -- a composite by its director: SR and DE keep no tokens on their channels
   abbrev pub IsTypedCore : Signatures K → ℕ → Core T → Type 0
   IsTypedCore sigs n (Sdf p X) = IsTypedSdf sigs n p X
   IsTypedCore sigs n (Pn p X) = IsTypedPn sigs n p X
   IsTypedCore sigs n (Sr p) = IsTypedNet sigs n p.net []
   IsTypedCore sigs n (De p) = IsTypedNet sigs n p.net []
   IsTypedCore sigs n (Rv p X) = IsTypedRv sigs n p X
-  IsTypedCore sigs n (Modal chart m) = ⊥
+  IsTypedCore sigs n (Modal chart m) = IsTypedModal sigs n chart m
 
-  -- each library actor fits its signature, and each composite is such a one
+  -- Each library actor fits its signature, and each composite is such a one: as it stands, and as a reset brings it back.
   abbrev mutual
     pub IsTypedNode : Signatures K → Node T A → Type 0
-    IsTypedNode sigs (Actor h a b) = Fits (sigs []) b
-    IsTypedNode sigs (Composite h c d kids) = IsTypedCore sigs (length (list_of kids)) d × AreTypedNodes sigs 0 kids
+    IsTypedNode sigs (Actor h a b) = Fits (sigs []) a × Fits (sigs []) b
+    IsTypedNode sigs (Composite h c d kids) = IsTypedCore sigs (length (list_of kids)) c × IsTypedCore sigs (length (list_of kids)) d × AreTypedNodes sigs 0 kids
 
     -- the children from child i on
     pub AreTypedNodes : Signatures K → (i : ℕ) → Nodes T A → Type 0

@@ -40,25 +40,30 @@ scale_meets = refl
 ramp_does_not : MeetsRow (record { places = []; outputs = Boolean ∷ [] }) ramp → false ≡ true
 ramp_does_not h = h
 
+-- each node is typed as it stands and as a reset brings it back, which at its start is the same
+twice : {P : Type 0} → P → P × P
+twice p = (p, p)
+
+within : {P Q : Type 0} → P → Q → P × P × Q
+within p q = (p, p, q)
+
 abbrev plan : SdfPlan
 plan = record { net = record { sources = Output 0 0 ∷ []; places = 0 ∷ 1 ∷ [] }; repetitions = 1 ∷ 1 ∷ []; takes = []; gives = []; rates = (1 ∷ []) ∷ (1 ∷ []) ∷ [] }
 
 -- the composite is typed
 composite_is_typed : IsTypedNode IsTokenOf IsBelow IsTypedActor (types Int) (tree.composite (tree.Sdf plan ([] ∷ [])) (tree.actor ramp ∷ tree.actor scale ∷ []))
-composite_is_typed = (
-  record { typed_net = record { places_counted = refl; sized = (refl, (refl, tt)); fed = (refl, tt) }; repetitions_counted = refl; rates_counted = refl; gives_counted = refl; room = omega arith; held = (tt, tt) },
-  (rows-type (types Int (0 ∷ [])) ramp ramp_meets, (rows-type (types Int (1 ∷ [])) scale scale_meets, tt)),
-)
+composite_is_typed = within
+  (record { typed_net = record { places_counted = refl; sized = (refl, (refl, tt)); fed = (refl, tt) }; repetitions_counted = refl; rates_counted = refl; gives_counted = refl; room = omega arith; held = (tt, tt) })
+  (twice (rows-type (types Int (0 ∷ [])) ramp ramp_meets), (twice (rows-type (types Int (1 ∷ [])) scale scale_meets), tt))
 
 -- so it is of SR, whose channels keep nothing
 abbrev ticks : TickPlan
 ticks = record { net = plan.net; inputs = 0 }
 
 tick_is_typed : IsTypedNode IsTokenOf IsBelow IsTypedActor (types Int) (tree.composite (tree.Sr ticks) (tree.actor ramp ∷ tree.actor scale ∷ []))
-tick_is_typed = (
-  record { places_counted = refl; sized = (refl, (refl, tt)); fed = (refl, tt) },
-  (rows-type (types Int (0 ∷ [])) ramp ramp_meets, (rows-type (types Int (1 ∷ [])) scale scale_meets, tt)),
-)
+tick_is_typed = within
+  (record { places_counted = refl; sized = (refl, (refl, tt)); fed = (refl, tt) })
+  (twice (rows-type (types Int (0 ∷ [])) ramp ramp_meets), (twice (rows-type (types Int (1 ∷ [])) scale scale_meets), tt))
 
 -- a ramp within a composite of its own, whose output feeds the scale: that composite is of SR in one of SDF, and of SDF in one of SR
 abbrev nested : Signatures Datatype
@@ -70,22 +75,19 @@ abbrev inner : SdfPlan
 inner = record { net = record { sources = Output 0 0 ∷ []; places = 0 ∷ [] }; repetitions = 1 ∷ []; takes = []; gives = 1 ∷ []; rates = (1 ∷ []) ∷ [] }
 
 ticks_in_iterations : IsTypedNode IsTokenOf IsBelow IsTypedActor nested (tree.composite (tree.Sdf plan ([] ∷ [])) (tree.composite (tree.Sr (record { net = inner.net; inputs = 0 })) (tree.actor ramp ∷ []) ∷ tree.actor scale ∷ []))
-ticks_in_iterations = (
-  record { typed_net = record { places_counted = refl; sized = (refl, (refl, tt)); fed = (refl, tt) }; repetitions_counted = refl; rates_counted = refl; gives_counted = refl; room = omega arith; held = (tt, tt) },
-  ((record { places_counted = refl; sized = (refl, tt); fed = (refl, tt) }, (rows-type (types Int (0 ∷ [])) ramp ramp_meets, tt)), (rows-type (types Int (1 ∷ [])) scale scale_meets, tt)),
-)
+ticks_in_iterations = within
+  (record { typed_net = record { places_counted = refl; sized = (refl, (refl, tt)); fed = (refl, tt) }; repetitions_counted = refl; rates_counted = refl; gives_counted = refl; room = omega arith; held = (tt, tt) })
+  (within (record { places_counted = refl; sized = (refl, tt); fed = (refl, tt) }) (twice (rows-type (types Int (0 ∷ [])) ramp ramp_meets), tt), (twice (rows-type (types Int (1 ∷ [])) scale scale_meets), tt))
 
 iterations_in_ticks : IsTypedNode IsTokenOf IsBelow IsTypedActor nested (tree.composite (tree.Sr ticks) (tree.composite (tree.Sdf inner ([] ∷ [])) (tree.actor ramp ∷ []) ∷ tree.actor scale ∷ []))
-iterations_in_ticks = (
-  record { places_counted = refl; sized = (refl, (refl, tt)); fed = (refl, tt) },
+iterations_in_ticks = within
+  (record { places_counted = refl; sized = (refl, (refl, tt)); fed = (refl, tt) })
   (
-    (
-      record { typed_net = record { places_counted = refl; sized = (refl, tt); fed = (refl, tt) }; repetitions_counted = refl; rates_counted = refl; gives_counted = refl; room = omega arith; held = (tt, tt) },
-      (rows-type (types Int (0 ∷ [])) ramp ramp_meets, tt),
-    ),
-    (rows-type (types Int (1 ∷ [])) scale scale_meets, tt),
-  ),
-)
+    within
+    (record { typed_net = record { places_counted = refl; sized = (refl, tt); fed = (refl, tt) }; repetitions_counted = refl; rates_counted = refl; gives_counted = refl; room = omega arith; held = (tt, tt) })
+    (twice (rows-type (types Int (0 ∷ [])) ramp ramp_meets), tt),
+    (twice (rows-type (types Int (1 ∷ [])) scale scale_meets), tt),
+  )
 
 -- with an input of truth values that feeds nothing, whose tokens are kept
 abbrev gated : Signatures Datatype
@@ -96,10 +98,9 @@ abbrev gated_plan : SdfPlan
 gated_plan = record { net = record { sources = Output 0 0 ∷ Own 0 ∷ []; places = 0 ∷ 1 ∷ [] }; repetitions = 1 ∷ 1 ∷ []; takes = 1 ∷ []; gives = []; rates = (1 ∷ []) ∷ (1 ∷ []) ∷ [] }
 
 gated_is_typed : IsTypedNode IsTokenOf IsBelow IsTypedActor gated (tree.composite (tree.Sdf gated_plan ([] ∷ (token.Bool true ∷ []) ∷ [])) (tree.actor ramp ∷ tree.actor scale ∷ []))
-gated_is_typed = (
-  record { typed_net = record { places_counted = refl; sized = (refl, (refl, tt)); fed = (refl, (refl, tt)) }; repetitions_counted = refl; rates_counted = refl; gives_counted = refl; room = omega arith; held = (tt, ((refl, tt), tt)) },
-  (rows-type (types Int (0 ∷ [])) ramp ramp_meets, (rows-type (types Int (1 ∷ [])) scale scale_meets, tt)),
-)
+gated_is_typed = within
+  (record { typed_net = record { places_counted = refl; sized = (refl, (refl, tt)); fed = (refl, (refl, tt)) }; repetitions_counted = refl; rates_counted = refl; gives_counted = refl; room = omega arith; held = (tt, ((refl, tt), tt)) })
+  (twice (rows-type (types Int (0 ∷ [])) ramp ramp_meets), (twice (rows-type (types Int (1 ∷ [])) scale scale_meets), tt))
 
 -- a number that is kept there breaks it
 kept_breaks : AreOf IsTokenOf (kinds_in gated gated_plan) ([] ∷ (token.Int (pos 1) ∷ []) ∷ []) → false ≡ true

@@ -248,10 +248,11 @@ module _ (net : Net) (typing : Assignment) (starts : Starts) (wired : IsWired ne
 
   mutual
     tree-typed : {k : ℕ} {t : Tree} → IsTree net starts k t → IsTypedNode IsTokenOf IsBelow IsTypedActor (types_below net typing k) t
-    tree-typed (of_actor k e a at undirected start) = rows-type (types_below net typing k []) a (meet k a start)
+    tree-typed (of_actor k e a at undirected start) = let fits = rows-type (types_below net typing k []) a (meet k a start) in (fits, fits)
     tree-typed (of_composite k e by kids c at directed trees has) =
         let w = is-directed e by directed in
-        (core-typed k e w.director at w.has kids trees by c has, trees-typed trees k e w.director at w.has 0 (λ j c h. ap (slice_get (children_of net.entities.items k)) (let z : 0 + j ≡ j = omega arith in z) ∙ h))
+        let typed = core-typed k e w.director at w.has kids trees by c has in
+        (typed, typed, trees-typed trees k e w.director at w.has 0 (λ j c h. ap (slice_get (children_of net.entities.items k)) (let z : 0 + j ≡ j = omega arith in z) ∙ h))
 
     trees-typed : {cs : List ℕ} {ts : List Tree} → AreTrees net starts cs ts → (k : ℕ) (e : NetEntity) (d : NetDirector) → slice_get net.entities.items k ≡ Some e → e.director ≡ Some d → (i : ℕ) → ((j c : ℕ) → slice_get cs j ≡ Some c → slice_get (children_of net.entities.items k) (i + j) ≡ Some c) →
         AreTypedNodes IsTokenOf IsBelow IsTypedActor (types_below net typing k) i (nodes_of ts)
