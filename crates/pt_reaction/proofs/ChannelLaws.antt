@@ -64,6 +64,13 @@ module _ {T : Type 0} where
   lists-set (false ∷ B) (x ∷ L) zero l u = absurd (cc)
   lists-set (b ∷ B) (x ∷ L) (suc c) l u = ap (λ v. list_if b x ∷ v) (lists-set B L c l u)
 
+  -- a channel comes into use with a line
+  pub lists-used : (B : List Bool) (L : List (Spared T)) (c : ℕ) (l : Spared T) → length B ≡ length L → lists_in (set B c true) (set L c l) ≡ set (lists_in B L) c l.list
+  lists-used [] L c l e = refl
+  lists-used (b ∷ B) [] c l e = absurd (omega (arith, e))
+  lists-used (b ∷ B) (x ∷ L) zero l e = refl
+  lists-used (b ∷ B) (x ∷ L) (suc c) l e = ap (λ v. list_if b x ∷ v) (lists-used B L c l (omega (arith, e)))
+
   pub set-same : (X : Streams T) (c : ℕ) (xs : List T) → at X c ≡ xs → set X c xs ≡ X
   set-same [] c xs h = refl
   set-same (x ∷ X) zero xs h = ap (λ v. v ∷ X) (sym h)
@@ -167,6 +174,14 @@ module _ {T : Type 0} (B : List Bool) (L : List (Spared T)) (M : Lanes T) (v : l
 
   pub put-others : (c : ℕ) (l' : Spared T) (d : ℕ) → (d ≡ c → ⊥) → spare_at (spares_in B (set L c l')) d ≡ spare_at M.spares d
   put-others c l' d z = other-spare B L c d l' z ∙ ap (λ (S : List ℕ). spare_at S d) spares-are
+
+  -- a channel gets its first token
+  module _ (B' : List Bool) (c : ℕ) (l' : Spared T) (u : B' ≡ set B c true) where
+    pub first-sound : length B' ≡ length (set L c l')
+    first-sound = ap (λ (b : List Bool). length b) u ∙ length-set B c true ∙ e ∙ sym (length-set L c l')
+
+    pub first-lists : (x : T) → l'.list ≡ x ∷ [] → lists_in B' (set L c l') ≡ set M.lists c (x ∷ [])
+    first-lists x q = ap (λ (b : List Bool). lists_in b (set L c l')) u ∙ lists-used B L c l' e ∙ ap₂ (λ (X : Streams T) (xs : List T). set X c xs) lists-are q
 
   -- the tokens of a channel are taken
   pub taken-lists : (c : ℕ) (l' : Spared T) → get_or B c false ≡ true → l'.list ≡ [] → lists_in B (set L c l') ≡ set M.lists c []

@@ -1,4 +1,4 @@
-ghost use Rattle.std.specs.Prelude.{◌≡◌, ℕ, ◌+◌, ◌<◌, ◌≤◌, [], ◌∷◌, ◌++◌, length, replicate, slice_set, true, IfOk, OnOk};
+ghost use Rattle.std.specs.Prelude.{◌≡◌, ◌↔◌, ℕ, ◌+◌, ◌<◌, ◌≤◌, [], ◌∷◌, ◌++◌, length, replicate, slice_set, true, IsTrue, IfOk, OnOk};
 ghost use Rattle.pt_meaning.specs.Streams.{at};
 ghost use Rattle.pt_reaction.specs.Channels.{spare_at, lists_of, lists_in, spares_in};
 
@@ -54,6 +54,22 @@ impl Channels {
         self.lines[c].as_slice()
     }
 
+    /// Whether a channel has no token.
+    pub fn is_empty(&self, c: usize) -> bool
+        requires { c < length self.now.lists }
+        ensures { IsTrue result ↔ (at self.now.lists c ≡ []) }
+    {
+        self.list(c).is_empty()
+    }
+
+    /// Whether a channel has one token at most.
+    pub fn is_single(&self, c: usize) -> bool
+        requires { c < length self.now.lists }
+        ensures { IsTrue result ↔ (length (at self.now.lists c) ≤ 1) }
+    {
+        self.list(c).len() <= 1
+    }
+
     /// Makes room for so many more tokens on a channel.
     pub fn reserve(&mut self, alloc: Global, c: usize, more: usize) -> Result<(), AllocError>
         requires { c < length self.old.lists }
@@ -76,6 +92,16 @@ impl Channels {
         self.lines[c].put(token);
     }
 
+    /// Puts the first token on a channel that has none. It takes no memory.
+    pub fn put_first(&mut self, c: usize, token: Token)
+        requires there { c < length self.old.lists }
+        requires empty { at self.old.lists c ≡ [] }
+        ensures { self.new.lists ≡ slice_set self.old.lists c (token ∷ []) }
+    {
+        self.used.mark(c);
+        self.lines[c].put_first(token);
+    }
+
     /// The tokens of a channel, leaving none there.
     pub fn take(&mut self, c: usize) -> Line
         requires { c < length self.old.lists }
@@ -86,6 +112,18 @@ impl Channels {
             return Line::new();
         }
         mem::replace(&mut self.lines[c], Line::new())
+    }
+
+    /// The tokens of a channel as a list, leaving none there.
+    pub fn take_list(&mut self, c: usize) -> Tokens
+        requires { c < length self.old.lists }
+        ensures taken { result ≡ at self.old.lists c }
+        ensures left { self.new.lists ≡ slice_set self.old.lists c [] }
+    {
+        if !self.used.is_marked(c) {
+            return Tokens::new();
+        }
+        self.lines[c].take()
     }
 
     /// Empties each channel.

@@ -1,4 +1,4 @@
-ghost use Rattle.std.specs.Prelude.{◌≡◌, ℕ, ◌+◌, ◌<◌, ◌≤◌, [], ◌∷◌, ◌++◌, length, drop, IfOk, OnOk};
+ghost use Rattle.std.specs.Prelude.{◌≡◌, ◌↔◌, ℕ, ◌+◌, ◌<◌, ◌≤◌, [], ◌∷◌, ◌++◌, length, drop, IsTrue, IfOk, OnOk};
 ghost use Rattle.pt_reaction.specs.Lines.{first_from};
 
 use pt_firing::Tokens;
@@ -49,6 +49,12 @@ impl Line {
         ensures { result ≡ length self.now.list }
     {
         self.as_slice().len()
+    }
+
+    pub fn is_empty(&self) -> bool
+        ensures { IsTrue result ↔ (self.now.list ≡ []) }
+    {
+        self.as_slice().is_empty()
     }
 
     pub fn as_slice(&self) -> &[Token]
@@ -103,6 +109,20 @@ impl Line {
             Held::Nothing => self.held = Held::One(token),
             Held::One(_) => unreachable!(),
             Held::Many(tokens) => tokens.push_reserved(token),
+        }
+    }
+
+    /// Has this token alone, whatever it had. It takes no memory.
+    #[inline(always)]
+    pub fn put_first(&mut self, token: Token)
+        ensures { self.new.list ≡ token ∷ [] }
+    {
+        match &mut self.held {
+            Held::Many(tokens) if tokens.capacity() > 0 => {
+                tokens.clear();
+                tokens.push_reserved(token);
+            }
+            _ => self.held = Held::One(token),
         }
     }
 

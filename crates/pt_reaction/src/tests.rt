@@ -76,6 +76,27 @@ fn tokens_stay_until_all_channels_are_emptied(rt: HostRuntime) -> Result<(), Fai
     Ok(())
 }
 
+#[test]
+fn the_first_token_of_a_channel_is_alone(rt: HostRuntime) -> Result<(), Fail> {
+    let mut channels = Channels::new(rt.alloc(), 2)?;
+    assert!(rt; channels.is_empty(1));
+    channels.put_first(1, Token::Int(5));
+    assert!(rt; channels.is_single(1) && !channels.is_empty(1));
+    channels.reserve(rt.alloc(), 1, 1)?;
+    channels.put(1, Token::Int(7));
+    assert!(rt; !channels.is_single(1));
+    assert!(rt; are_ints(channels.take_list(1).as_slice(), 5, 7));
+    assert!(rt; channels.is_empty(1));
+    channels.reserve(rt.alloc(), 0, 2)?;
+    channels.put(0, Token::Int(5));
+    channels.clear();
+    channels.put_first(0, Token::Int(8));
+    assert!(rt; is_int(channels.list(0), 8));
+    assert!(rt; channels.is_empty(1) && channels.is_single(1));
+    assert!(rt; channels.take_list(1).is_empty());
+    Ok(())
+}
+
 // The output of child 0 goes to two channels, that of child 1 to one, and the own input to one.
 #[test]
 fn the_first_feed_of_a_port_moves_its_tokens(rt: HostRuntime) -> Result<(), Fail> {
