@@ -22,7 +22,7 @@ up_to a b h = elim (cases_Bool (ltb a.time b.time)) [
       ]
 ]
 
-from_numbers : (a b : Tag) → IsUpTo a b → tag_le a b ≡ true
+pub from_numbers : (a b : Tag) → IsUpTo a b → tag_le a b ≡ true
 from_numbers a b h = elim (cases_Bool (ltb a.time b.time)) [
   | inl l ↦ ap (λ t. t || (eqb a.time b.time && leb a.step b.step)) l
   | inr n ↦

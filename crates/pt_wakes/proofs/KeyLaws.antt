@@ -3,10 +3,11 @@ use Rattle.std.proofs.Common.{◌≡◌, ℕ, zero, suc, ◌<◌, Bool, true, fa
 use Rattle.std.proofs.lemmas.Bool.{false≢true, cases_Bool}
 use Rattle.std.proofs.lemmas.List.{length-replicate}
 use Rattle.pt_meaning.specs.Tag.{Tag, tag_le, earlier, least, is_due}
-use Rattle.pt_wakes.specs.Wakes.{wake_of, NoneIsDue, IsDueAt}
+use Rattle.pt_wakes.specs.Wakes.{wake_of, IsDueAt}
 use Rattle.pt_wakes.specs.Due.{DueSet, IsFirst, NoneDue}
+use Rattle.pt_wakes.specs.Queue.{IsFirstKey}
 use Rattle.pt_wakes.specs.Keys.{key_of, keys_of, AreKeys}
-use Rattle.pt_wakes.proofs.Earlier.{earlier-comm, due-below, due-neither, tag-self, tag-trans, up_to}
+use Rattle.pt_wakes.proofs.Earlier.{earlier-comm, due-below, tag-self, tag-trans, up_to}
 use Rattle.pt_wakes.proofs.NodeLaws.{absorbed}
 
 pub keys-long : (depths : List ℕ) (due : List Bool) → length depths ≡ length due → length (keys_of depths due) ≡ length due
@@ -36,11 +37,6 @@ keys-none (d ∷ ds) = ap (λ ks. None ∷ ks) (keys-none ds)
 key-due : (tag : Tag) (b : Bool) (depth : ℕ) → is_due tag (key_of b depth) ≡ true → (b ≡ true) × (tag_le (record { time = depth; step = 0 }) tag ≡ true)
 key-due tag true depth h = (refl, h)
 key-due tag false depth h = absurd (false≢true h)
-
--- a wake that is due nowhere is none
-undue : (tag : Tag) (wakes : List (Option Tag)) → NoneIsDue tag wakes → is_due tag (least wakes) ≡ false
-undue tag [] h = refl
-undue tag (w ∷ wakes) h = due-neither tag w (least wakes) (h 0 (omega arith)) (undue tag wakes (λ i l. h (suc i) (omega (arith, l))))
 
 -- the least is at or before each that is there
 least-before : (wakes : List (Option Tag)) (t u : Tag) (i : ℕ) → i < length wakes → least wakes ≡ Some t → wake_of wakes i ≡ Some u → tag_le t u ≡ true
@@ -80,10 +76,6 @@ module _ (depths : List ℕ) (due : List Bool) (keys : List (Option Tag)) (k : A
     | inr f ↦ f
   ]
 
-  -- the least is due at itself, so that a child is
-  pub one-is : (t : Tag) → least keys ≡ Some t → NoneIsDue t keys → ⊥
-  one-is t e h = false≢true (sym (undue t keys h) ∙ ap (is_due t) e ∙ tag-self t)
-
   -- after a child is made due or not
   pub kept : (i : ℕ) (b : Bool) (after : List (Option Tag)) → after ≡ set keys i (key_of b (get_or depths i 0)) → AreKeys depths (set due i b) after
   kept i b after e = record {
@@ -95,16 +87,19 @@ module _ (depths : List ℕ) (due : List Bool) (keys : List (Option Tag)) (k : A
     pub there : (i : ℕ) → i < length s.due → i < length keys
     there i l = omega (arith, l, ap (λ r. length r.due) seen, long)
 
-    pub firsts : (t : Tag) → least keys ≡ Some t → (o : Option ℕ) → IfSome o (IsDueAt t keys) → IfSome o (IsFirst s)
-    firsts t e None d = tt
-    firsts t e (Some i) d = subst (λ r. IsFirst r i) seen (first-is t i e d)
-
-    pub no-first : (t : Tag) → least keys ≡ Some t → (o : Option ℕ) → IfNone o (NoneIsDue t keys) → IfNone o (NoneDue s)
-    no-first t e None d = absurd (one-is t e d)
-    no-first t e (Some i) d = tt
-
-    pub nothing : least keys ≡ None → NoneDue s
+    nothing : least keys ≡ None → NoneDue s
     nothing e = subst NoneDue seen (none-is e)
+
+    pub firsts : (o : Option ℕ) → IfSome o (IsFirstKey keys) → IfSome o (IsFirst s)
+    firsts None d = tt
+    firsts (Some i) d = subst (λ r. IsFirst r i) seen (first-is d.key i d.first (d.there, ap (is_due d.key) d.has ∙ tag-self d.key))
+
+    pub none-first : (o : Option ℕ) → IfNone o (least keys ≡ None) → IfNone o (NoneDue s)
+    none-first None d = nothing d
+    none-first (Some i) d = tt
+
+    pub without : (i : ℕ) → i < length s.due → get_or due i false ≡ false → wake_of keys i ≡ None
+    without i l f = key i (omega (arith, l, ap (λ r. length r.due) seen)) ∙ ap (λ b. key_of b (get_or depths i 0)) f
 
 pub made : (ds depths : List ℕ) (due : List Bool) (keys : List (Option Tag)) → ds ≡ depths → due ≡ replicate (length depths) false → keys ≡ replicate (length depths) None → AreKeys ds due keys
 made ds depths due keys e f g = record {

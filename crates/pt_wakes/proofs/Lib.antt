@@ -1,4 +1,6 @@
 pub mod Earlier
+pub mod QueueLaws
+pub mod WalkLaws
 pub mod NodeLaws
 pub mod KeyLaws
 pub mod MovedLaws

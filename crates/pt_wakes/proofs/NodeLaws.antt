@@ -1,9 +1,9 @@
 -- The laws of the tree of wakes: node 1 has the least.
-use Rattle.std.proofs.Common.{◌≡◌, ℕ, zero, suc, ◌+◌, ◌-◌, ◌<◌, true, false, List, [], ◌∷◌, length, drop, Option, None, refl, sym, ap, subst, ◌∙◌, arith, ◌⊎◌, inl, inr}
+use Rattle.std.proofs.Common.{◌≡◌, ℕ, zero, suc, ◌+◌, ◌-◌, ◌<◌, ◌≤◌, true, false, List, [], ◌∷◌, length, drop, Option, None, refl, sym, ap, subst, ◌∙◌, arith, ◌⊎◌, inl, inr}
 use Rattle.std.proofs.lemmas.Bool.{false≢true}
 use Rattle.std.proofs.lemmas.List.{get_or-drop, length-drop, drop_more, nil_from_length}
 use Rattle.pt_meaning.specs.Tag.{Tag, earlier, least, is_due}
-use Rattle.pt_wakes.specs.Wakes.{wake_of, NoneIsDue}
+use Rattle.pt_wakes.specs.Wakes.{wake_of, NoneIsDue, IsDueAt}
 use Rattle.pt_wakes.specs.Nodes.{node, IsSettled, IsTree}
 use Rattle.pt_wakes.proofs.Earlier.{earlier-self, earlier-comm, earlier-assoc, earlier-none, earlier-first, earlier-second, due-below}
 
@@ -24,10 +24,10 @@ pub none-due : (tag : Tag) (wakes : List (Option Tag)) → is_due tag (least wak
 none-due tag wakes h i l = due-below tag (least wakes) (wake_of wakes i) (earlier-comm (least wakes) (wake_of wakes i) ∙ absorbed wakes i l) h
 
 -- each number is twice another, or one more
-record IsHalf (q h : ℕ) : Type 0 where
+pub record IsHalf (q h : ℕ) : Type 0 where
   pub cases : (q ≡ h + h) ⊎ (q ≡ suc (h + h))
 
-halved : (q : ℕ) → (h : ℕ) × IsHalf q h
+pub halved : (q : ℕ) → (h : ℕ) × IsHalf q h
 halved zero = (0, record { cases = inl refl })
 halved (suc q) = elim ((halved q).1.cases) [
   | inl e ↦ ((halved q).0, record { cases = inr (ap suc e) })
@@ -36,7 +36,7 @@ halved (suc q) = elim ((halved q).1.cases) [
 
 module _ (leaves : ℕ) (nodes : List (Option Tag)) (t : IsTree leaves nodes) where
   -- a node is at or before the two below it
-  under : (h q : ℕ) → 0 < h → h < leaves → (q ≡ h + h) ⊎ (q ≡ suc (h + h)) → earlier (node nodes h) (node nodes q) ≡ node nodes h
+  pub under : (h q : ℕ) → 0 < h → h < leaves → (q ≡ h + h) ⊎ (q ≡ suc (h + h)) → earlier (node nodes h) (node nodes q) ≡ node nodes h
   under h q p l (inl e) =
       let s : IsSettled nodes h = t.settled h p l in
       ap (λ k. earlier (node nodes h) (node nodes k)) e ∙ ap (λ w. earlier w (node nodes (h + h))) s ∙ earlier-first (node nodes (h + h)) (node nodes (suc (h + h))) ∙ sym s
@@ -99,3 +99,17 @@ root-due tag leaves nodes t h = ap (is_due tag) (root-least leaves nodes t (some
 pub positive : (n : ℕ) → (n ≡ 0 → ⊥) → 0 < n
 positive zero h = absurd (h refl)
 positive (suc n) h = omega arith
+
+-- where node 1 isn't due, no leaf is
+pub none-under : (tag : Tag) (leaves : ℕ) (nodes wakes : List (Option Tag)) → IsTree leaves nodes → drop leaves nodes ≡ wakes → 0 < leaves → is_due tag (node nodes 1) ≡ false → NoneIsDue tag wakes
+none-under tag leaves nodes wakes t v p h = none-due tag wakes (ap (λ ws. is_due tag (least ws)) (sym v) ∙ ap (is_due tag) (sym (root-least leaves nodes t p)) ∙ h)
+
+-- no leaf is no wake
+pub no-leaf : (tag : Tag) (leaves : ℕ) (nodes wakes : List (Option Tag)) → length nodes ≡ leaves + leaves → drop leaves nodes ≡ wakes → leaves ≡ 0 → NoneIsDue tag wakes
+no-leaf tag leaves nodes wakes n v e i l = let m = ap length (sym v) ∙ length-drop leaves nodes in absurd (omega (arith, l, m, n, e))
+
+-- a leaf that is due is the wake of a child
+pub leaf-due : (tag : Tag) (leaves : ℕ) (nodes wakes : List (Option Tag)) (q : ℕ) → length nodes ≡ leaves + leaves → drop leaves nodes ≡ wakes → leaves ≤ q → q < leaves + leaves → is_due tag (node nodes q) ≡ true → IsDueAt tag wakes (q - leaves)
+leaf-due tag leaves nodes wakes q n v f l h =
+    let m = ap length (sym v) ∙ length-drop leaves nodes in
+    (omega (arith, m, n, f, l), ap (λ w. is_due tag (wake_of w (q - leaves))) (sym v) ∙ ap (is_due tag) (get_or-drop leaves nodes (q - leaves) None ∙ ap (node nodes) (omega (arith, f))) ∙ h)

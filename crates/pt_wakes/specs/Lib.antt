@@ -4,3 +4,6 @@ pub mod Due
 pub mod Keys
 pub mod Moved
 pub mod Codes
+pub mod Pairs
+pub mod Walk
+pub mod Queue

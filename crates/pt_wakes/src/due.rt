@@ -1,9 +1,7 @@
-ghost use Rattle.std.specs.Prelude.{◌≡◌, ◌<◌, length, replicate, true, false, None, IfOk, IfSome, IfNone};
+ghost use Rattle.std.specs.Prelude.{◌≡◌, ◌<◌, length, replicate, true, false, IfOk, IfSome, IfNone};
 ghost use Rattle.pt_wakes.specs.Due.{with_due, IsFirst, NoneDue};
-ghost use Rattle.pt_wakes.specs.Keys.{key_of};
 
-use crate::wakes::Wakes;
-use pt_time::Tag;
+use crate::queue::Queue;
 use std::alloc::{AllocError, Global};
 use std::marker::Model;
 
@@ -12,8 +10,8 @@ use std::marker::Model;
 pub struct DueChildren {
     depths: Vec<u32>,
     due: Vec<bool>,
-    // The depth of each child that is due, as a time: so the least is that of a child that comes first.
-    keys: Wakes,
+    // Those that are due, by depth.
+    queue: Queue,
 }
 
 impl Model for DueChildren {
@@ -28,7 +26,7 @@ impl Model for DueChildren {
 
     ghost view = { λ d. record { depths = d.depths.items; due = d.due.items } };
 
-    ghost invariant = { λ d. AreKeys d.depths.items d.due.items d.keys };
+    ghost invariant = { λ d. AreKeys d.depths.items d.due.items d.queue };
 }
 
 impl DueChildren {
@@ -37,11 +35,11 @@ impl DueChildren {
         ensures { IfOk result (λ children. children ≡ record { depths = depths.now; due = replicate (length depths.now) false }) }
     {
         let due = none_due(alloc, depths.len())?;
-        let keys = no_keys(alloc, depths.len())?;
+        let queue = Queue::new(alloc, depths.len())?;
         Ok(DueChildren {
             depths: Vec::from_slice(alloc, depths)?,
             due,
-            keys: Wakes::new(alloc, &keys)?,
+            queue,
         })
     }
 
@@ -53,32 +51,36 @@ impl DueChildren {
     }
 
     /// Makes a child due, which it may be already. It takes no memory.
+    #[inline(always)]
     pub fn insert(&mut self, child: usize)
         requires { child < length self.old.due }
         ensures { self.new ≡ with_due self.old child true }
     {
-        self.due[child] = true;
-        self.keys.set(child, key(self.depths[child]));
+        if !self.due[child] {
+            self.due[child] = true;
+            self.queue.put(child, self.depths[child]);
+        }
     }
 
     /// Makes a child due no more. It takes no memory.
+    #[inline(always)]
     pub fn remove(&mut self, child: usize)
         requires { child < length self.old.due }
         ensures { self.new ≡ with_due self.old child false }
     {
-        self.due[child] = false;
-        self.keys.set(child, None);
+        if self.due[child] {
+            self.due[child] = false;
+            self.queue.take(child);
+        }
     }
 
     /// A child that is due, where none that is due is less deep.
+    #[inline(always)]
     pub fn first(&self) -> Option<usize>
         ensures first { IfSome result (IsFirst self.now) }
         ensures none { IfNone result (NoneDue self.now) }
     {
-        match self.keys.least() {
-            Some(least) => self.keys.due(least),
-            None => None,
-        }
+        self.queue.first()
     }
 
     /// The same children, of which the same are due.
@@ -88,7 +90,7 @@ impl DueChildren {
         Ok(DueChildren {
             depths: Vec::from_slice(alloc, &self.depths)?,
             due: Vec::from_slice(alloc, &self.due)?,
-            keys: self.keys.copy(alloc)?,
+            queue: self.queue.copy(alloc)?,
         })
     }
 }
@@ -98,25 +100,4 @@ fn none_due(alloc: Global, children: usize) -> Result<Vec<bool>, AllocError>
     ensures { IfOk result (λ due. due.items ≡ replicate children false) }
 {
     Ok(vec![in alloc; false; children]?)
-}
-
-/// The keys of so many children that aren't due.
-fn no_keys(alloc: Global, children: usize) -> Result<Vec<Option<Tag>>, AllocError>
-    ensures { IfOk result (λ keys. keys.items ≡ replicate children None) }
-{
-    let mut keys = Vec::with_capacity(alloc, children)?;
-    for _ in 0..children {
-        keys.push_reserved(None);
-    }
-    Ok(keys)
-}
-
-/// The wake of a child of this depth that is due.
-fn key(depth: u32) -> Option<Tag>
-    ensures { result ≡ key_of true depth }
-{
-    Some(Tag {
-        time: depth as u64,
-        step: 0,
-    })
 }

@@ -4,11 +4,12 @@
 mod due;
 mod moved;
 mod nodes;
+mod queue;
 mod tags;
 #[cfg(test)]
 mod tests;
 mod wakes;
 
 pub use due::DueChildren;
-pub use moved::move_due;
+pub use moved::wake_due;
 pub use wakes::Wakes;

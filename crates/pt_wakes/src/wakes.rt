@@ -1,9 +1,9 @@
-ghost use Rattle.std.specs.Prelude.{◌≡◌, ◌<◌, length, set, IfOk, IfSome, IfNone};
+ghost use Rattle.std.specs.Prelude.{◌≡◌, ◌<◌, ◌↔◌, ◌++◌, length, set, None, IsTrue, IfOk, IfSome, IfNone};
 ghost use Rattle.pt_meaning.specs.Tag as tags;
 ghost use Rattle.pt_wakes.specs.Wakes.{wake_of, NoneIsDue, IsDueAt};
 
 use crate::nodes::{due_leaf, settle_above, settle_all};
-use crate::tags::is_due;
+use crate::tags::Wake;
 use pt_time::Tag;
 use std::alloc::{AllocError, Global};
 use std::marker::Model;
@@ -15,9 +15,9 @@ use std::marker::Model;
 #[derive(Drop)]
 pub struct Wakes {
     // How many wakes there are.
-    leaves: usize,
+    pub(crate) leaves: usize,
     // The nodes of the tree, the leaves last.
-    nodes: Vec<Option<Tag>>,
+    pub(crate) nodes: Vec<Wake>,
 }
 
 impl Model for Wakes {
@@ -41,8 +41,8 @@ impl Wakes {
         ensures { IfOk result (λ made. made ≡ wakes.now) }
     {
         let leaves = wakes.len();
-        let mut nodes = vec![in alloc; None; leaves]?;
-        nodes.extend_from_slice(wakes)?;
+        let mut nodes = vec![in alloc; Wake::of(None); leaves]?;
+        add_leaves(&mut nodes, wakes)?;
         settle_all(&mut nodes, leaves);
         Ok(Wakes { leaves, nodes })
     }
@@ -54,12 +54,20 @@ impl Wakes {
         self.leaves
     }
 
+    /// Whether no child has a wake.
+    #[inline(always)]
+    pub fn is_empty(&self) -> bool
+        ensures { IsTrue result ↔ (tags.least self.now ≡ None) }
+    {
+        self.leaves == 0 || self.nodes[1].is_none()
+    }
+
     /// The wake of a child.
     pub fn get(&self, child: usize) -> Option<Tag>
         requires { child < length self.now }
         ensures { result ≡ wake_of self.now child }
     {
-        self.nodes[self.leaves + child]
+        self.nodes[self.leaves + child].get()
     }
 
     /// Gives a child this wake. It takes no memory.
@@ -68,7 +76,7 @@ impl Wakes {
         ensures { self.new ≡ set self.old child wake }
     {
         let leaf = self.leaves + child;
-        self.nodes[leaf] = wake;
+        self.nodes[leaf] = Wake::of(wake);
         settle_above(&mut self.nodes, self.leaves, leaf);
     }
 
@@ -79,7 +87,7 @@ impl Wakes {
         if self.leaves == 0 {
             return None;
         }
-        self.nodes[1]
+        self.nodes[1].get()
     }
 
     /// A child whose wake is at or before the tag, where there is one.
@@ -87,10 +95,10 @@ impl Wakes {
         ensures some { IfSome result (λ child. IsDueAt tag self.now child) }
         ensures none { IfNone result (NoneIsDue tag self.now) }
     {
-        if !is_due(tag, self.least()) {
+        if self.leaves == 0 || !self.nodes[1].is_due(tag) {
             return None;
         }
-        Some(due_leaf(&self.nodes, self.leaves, tag) - self.leaves)
+        Some(due_leaf(&self.nodes, self.leaves, 1, tag) - self.leaves)
     }
 
     /// The same wakes again.
@@ -102,4 +110,14 @@ impl Wakes {
             nodes: Vec::from_slice(alloc, &self.nodes)?,
         })
     }
+}
+
+/// Adds the wakes as leaves.
+fn add_leaves(nodes: &mut Vec<Wake>, wakes: &[Option<Tag>]) -> Result<(), AllocError>
+    ensures { IfOk result (λ _. nodes.new.items ≡ nodes.old.items ++ wakes.now) }
+{
+    for wake in wakes {
+        nodes.push(Wake::of(*wake))?;
+    }
+    Ok(())
 }
