@@ -5,16 +5,14 @@ ghost use Rattle.pt_wakes.specs.Moved.{with_woken};
 ghost use Rattle.pt_wakes.specs.Wakes.{wake_of};
 
 use pt_time::Tag;
-use pt_wakes::{DueChildren, Wakes, move_due};
+use pt_wakes::{DueChildren, Wakes, wake_due};
 use std::alloc::{AllocError, Global};
 use std::marker::Model;
 
 /// The wake of each child, and which children are due within a reaction.
 #[derive(Drop)]
 pub struct Agenda {
-    wakes: Vec<Option<Tag>>,
-    // The same, but that of a child which is due may be left out.
-    pending: Wakes,
+    wakes: Wakes,
     due: DueChildren,
 }
 
@@ -27,7 +25,7 @@ impl Model for Agenda {
 
     ghost view = { dates_in };
 
-    ghost invariant = { λ a. IsAgenda a.wakes.items a.pending a.due };
+    ghost invariant = { λ a. IsAgenda a.wakes a.due };
 }
 
 impl Agenda {
@@ -37,13 +35,8 @@ impl Agenda {
         ensures { IfOk result (λ agenda. agenda ≡ record { wakes = wakes.now; set = record { depths = depths.now; due = replicate (length depths.now) false } }) }
     {
         let due = DueChildren::new(alloc, depths)?;
-        let pending = Wakes::new(alloc, wakes)?;
-        let kept = Vec::from_slice(alloc, wakes)?;
-        Ok(Agenda {
-            wakes: kept,
-            pending,
-            due,
-        })
+        let wakes = Wakes::new(alloc, wakes)?;
+        Ok(Agenda { wakes, due })
     }
 
     /// Makes each child due whose wake is at or before the tag.
@@ -51,7 +44,7 @@ impl Agenda {
         requires { NoneDue self.old.set }
         ensures { self.new ≡ record { wakes = self.old.wakes; set = with_woken tag self.old.wakes self.old.set } }
     {
-        move_due(&mut self.pending, &mut self.due, tag);
+        wake_due(&self.wakes, &mut self.due, tag);
     }
 
     /// Makes a child due, which it may be already.
@@ -68,8 +61,6 @@ impl Agenda {
         ensures { self.new ≡ record { wakes = self.old.wakes; set = with_due self.old.set child false } }
     {
         self.due.remove(child);
-        let wake = self.wakes[child];
-        self.pending.set(child, wake);
     }
 
     /// Gives a child this wake.
@@ -77,9 +68,7 @@ impl Agenda {
         requires { child < length self.old.wakes }
         ensures { self.new ≡ record { wakes = set self.old.wakes child wake; set = self.old.set } }
     {
-        self.wakes[child] = wake;
-        let kept = self.wakes[child];
-        self.pending.set(child, kept);
+        self.wakes.set(child, wake);
     }
 
     /// A child that is due, where none that is due is less deep.
@@ -95,18 +84,14 @@ impl Agenda {
         requires { NoneDue self.now.set }
         ensures { result ≡ tags.least self.now.wakes }
     {
-        self.pending.least()
+        self.wakes.least()
     }
 
     pub fn copy(&self, alloc: Global) -> Result<Agenda, AllocError>
         ensures { IfOk result (λ agenda. agenda ≡ self.now) }
     {
         let due = self.due.copy(alloc)?;
-        let pending = self.pending.copy(alloc)?;
-        Ok(Agenda {
-            wakes: Vec::from_slice(alloc, &self.wakes)?,
-            pending,
-            due,
-        })
+        let wakes = self.wakes.copy(alloc)?;
+        Ok(Agenda { wakes, due })
     }
 }
