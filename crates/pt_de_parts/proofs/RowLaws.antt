@@ -1,6 +1,6 @@
 -- The rows of a child, as they are taken from its lines.
-use Rattle.std.proofs.Common.{◌≡◌, ℕ, zero, suc, ◌+◌, ◌-◌, ◌<◌, ◌≤◌, max, true, false, List, [], ◌∷◌, ◌++◌, length, get_or, set, map, take, drop, refl, sym, ap, ap₂, subst, ◌∙◌, arith, add-one}
-use Rattle.std.proofs.lemmas.List.{take_more, take_more_set, map_more, drop_more, length-map, length-drop, length-take-le, get_or-drop, get_or-take, get_or-map, take-map}
+use Rattle.std.proofs.Common.{◌≡◌, ℕ, zero, suc, ◌+◌, ◌-◌, ◌<◌, ◌≤◌, max, Bool, true, false, List, [], ◌∷◌, ◌++◌, length, get_or, set, map, take, drop, refl, sym, ap, ap₂, subst, ◌∙◌, arith, add-one}
+use Rattle.std.proofs.lemmas.List.{take_more, take_more_set, map_more, drop_more, length-map, length-drop, length-take, length-take-le, get_or-drop, get_or-take, get_or-map, take-map}
 use Rattle.pt_meaning.specs.Streams.{Streams, at}
 use Rattle.pt_meaning.specs.De.{heads, tails, longest, rows_from, rows_of}
 use Rattle.pt_de_laws.specs.State.{rows_for, emptied_from}
@@ -60,20 +60,82 @@ module _ {T : Type 0} where
       lists-push [] l = refl
       lists-push (a ∷ A) l = ap (λ v. a.list ∷ v) (lists-push A l)
 
+  -- what the next channel has, and what is left once it was taken
+  next-item : (first k places : ℕ) (X Y : Streams T) (xs : List T) → k < places → first + places ≤ length X → Y ≡ emptied_from first k X → xs ≡ at Y (first + k) → xs ≡ get_or (drop first X) k []
+  next-item first k places X Y xs a c f g = g ∙ ap (λ v. at v (first + k)) f ∙ emptied-next first k X ∙ at-is X (first + k) ∙ sym (get_or-drop first X k [])
+
+  next-within : (first k places : ℕ) (X : Streams T) → k < places → first + places ≤ length X → k < length (drop first X)
+  next-within first k places X a c = let n = length-drop first X in omega (arith, n, a, c)
+
+  next-left : (first k : ℕ) (X Y Y' : Streams T) → Y ≡ emptied_from first k X → Y' ≡ set Y (first + k) [] → Y' ≡ emptied_from first (k + 1) X
+  next-left first k X Y Y' f h = h ∙ ap (λ v. set v (first + k) []) f ∙ sym (emptied-more first k X) ∙ ap (λ n. emptied_from first n X) (sym (add-one k))
+
   -- the lines of a child, one more taken from its channel
   pub filled : (first k places : ℕ) (X Y Y' : Streams T) (L L' : List (Spared T)) (l : Spared T) → k < places → places ≤ length L → first + places ≤ length X →
       lists_of (take k L) ≡ take k (drop first X) → Y ≡ emptied_from first k X → l.list ≡ at Y (first + k) → Y' ≡ set Y (first + k) [] → L' ≡ set L k l →
       (lists_of (take (k + 1) L') ≡ take (k + 1) (drop first X)) × (Y' ≡ emptied_from first (k + 1) X)
   filled first k places X Y Y' L L' l a b c e f g h m = (
-    ap (λ v. lists_of (take (k + 1) v)) m ∙ lists-more-set L k l (omega (arith, a, b)) ∙ ap₂ (λ v x. v ++ x ∷ []) e item ∙ sym (take_more (drop first X) k [] within),
-    h ∙ ap (λ v. set v (first + k) []) f ∙ sym (emptied-more first k X) ∙ ap (λ n. emptied_from first n X) (sym (add-one k)),
+    ap (λ v. lists_of (take (k + 1) v)) m ∙ lists-more-set L k l (omega (arith, a, b)) ∙ ap₂ (λ v x. v ++ x ∷ []) e (next-item first k places X Y l.list a c f g) ∙ sym (take_more (drop first X) k [] (next-within first k places X a c)),
+    next-left first k X Y Y' f h,
   )
-    where
-      within : k < length (drop first X)
-      within = let n = length-drop first X in omega (arith, n, a, c)
 
-      item : l.list ≡ get_or (drop first X) k []
-      item = g ∙ ap (λ v. at v (first + k)) f ∙ emptied-next first k X ∙ at-is X (first + k) ∙ sym (get_or-drop first X k [])
+  -- or its row
+  pub row-filled : (first k places : ℕ) (X Y Y' R R' : Streams T) (xs : List T) → k < places → places ≤ length R → first + places ≤ length X →
+      take k R ≡ take k (drop first X) → Y ≡ emptied_from first k X → xs ≡ at Y (first + k) → Y' ≡ set Y (first + k) [] → R' ≡ set R k xs →
+      (take (k + 1) R' ≡ take (k + 1) (drop first X)) × (Y' ≡ emptied_from first (k + 1) X)
+  row-filled first k places X Y Y' R R' xs a b c e f g h m = (
+    ap (λ v. take (k + 1) v) m ∙ take_more_set R k xs (omega (arith, a, b)) ∙ ap₂ (λ v x. v ++ x ∷ []) e (next-item first k places X Y xs a c f g) ∙ sym (take_more (drop first X) k [] (next-within first k places X a c)),
+    next-left first k X Y Y' f h,
+  )
+
+  pub row-filled-none : (first : ℕ) (X R : Streams T) → (take (first - first) R ≡ take (first - first) (drop first X)) × (X ≡ emptied_from first (first - first) X)
+  row-filled-none first X R = (ap (λ k. take k R) zero-left ∙ sym (ap (λ k. take k (drop first X)) zero-left), sym (ap (λ k. emptied_from first k X) zero-left ∙ none-emptied first X))
+    where
+      zero-left : first - first ≡ 0
+      zero-left = omega arith
+
+  -- the same by the channel
+  pub row-filled-at : (first channel end : ℕ) (X Y Y' R R' : Streams T) (xs : List T) → first ≤ channel → channel < end → end - first ≤ length R → end ≤ length X → take (channel - first) R ≡ take (channel - first) (drop first X) → Y ≡ emptied_from first (channel - first) X →
+      xs ≡ at Y channel → Y' ≡ set Y channel [] → R' ≡ set R (channel - first) xs → (take (channel + 1 - first) R' ≡ take (channel + 1 - first) (drop first X)) × (Y' ≡ emptied_from first (channel + 1 - first) X)
+  row-filled-at first channel end X Y Y' R R' xs a b c d e f g h m =
+      subst (λ k. (take k R' ≡ take k (drop first X)) × (Y' ≡ emptied_from first k X)) next
+      (row-filled first (channel - first) (end - first) X Y Y' R R' xs (omega (arith, a, b)) c (omega (arith, a, b, d)) e f (g ∙ ap (λ n. at Y n) (sym back)) (h ∙ ap (λ n. set Y n []) (sym back)) m)
+    where
+      back : first + (channel - first) ≡ channel
+      back = omega (arith, a)
+
+      next : channel - first + 1 ≡ channel + 1 - first
+      next = omega (arith, a)
+
+  -- where no list has more than one token, they are the one row
+  heads-single : (X : Streams T) → longest X ≤ 1 → heads X ≡ X
+  heads-single [] h = refl
+  heads-single ([] ∷ X) h = ap (λ (v : Streams T). [] ∷ v) (heads-single X (omega (arith, h)))
+  heads-single ((x ∷ []) ∷ X) h = ap (λ (v : Streams T). (x ∷ []) ∷ v) (heads-single X (omega (arith, h)))
+  heads-single ((x ∷ y ∷ ys) ∷ X) h = absurd (omega (arith, h))
+
+  longest-single : (X : Streams T) → ((k : ℕ) → k < length X → length (at X k) ≤ 1) → longest X ≤ 1
+  longest-single [] h = omega arith
+  longest-single (xs ∷ X) h = let a = h 0 (omega arith) in let b = longest-single X (λ k l. h (suc k) (omega (arith, l))) in omega (arith, a, b)
+
+  one-row : (X : Streams T) → longest X ≤ 1 → rows_for false X ≡ X ∷ []
+  one-row X h = let e : max 1 (longest X) ≡ 1 = omega (arith, h) in ap (λ n. rows_from n X) e ∙ ap (λ r. r ∷ []) (heads-single X h)
+
+  pub rows-whole : (b : Bool) (X : Streams T) → b ≡ true → rows_for b X ≡ X ∷ []
+  rows-whole b X e = ap (λ c. rows_for c X) e
+
+  pub rows-single : (b : Bool) (first end : ℕ) (Y : Streams T) → b ≡ false → end ≤ length Y → ((c : ℕ) → first ≤ c → c < end → length (at Y c) ≤ 1) → rows_for b (take (end - first) (drop first Y)) ≡ take (end - first) (drop first Y) ∷ []
+  rows-single b first end Y e l h = ap (λ c. rows_for c X) e ∙ one-row X (longest-single X each)
+    where
+      X : Streams T
+      X = take (end - first) (drop first Y)
+
+      each : (k : ℕ) → k < length X → length (at X k) ≤ 1
+      each k m =
+          let n = length-take (end - first) (drop first Y) in
+          let a : k < end - first = omega (arith, m, n) in
+          let i : at X k ≡ at Y (first + k) = at-is X k ∙ get_or-take (end - first) (drop first Y) k [] a ∙ get_or-drop first Y k [] ∙ sym (at-is Y (first + k)) in
+          subst (λ xs. length xs ≤ 1) (sym i) (h (first + k) (omega arith) (omega (arith, a)))
 
   pub filled-none : (first : ℕ) (X : Streams T) (L : List (Spared T)) → (lists_of (take (first - first) L) ≡ take (first - first) (drop first X)) × (X ≡ emptied_from first (first - first) X)
   filled-none first X L = (ap (λ k. lists_of (take k L)) zero-left ∙ sym (ap (λ k. take k (drop first X)) zero-left), sym (ap (λ k. emptied_from first k X) zero-left ∙ none-emptied first X))
@@ -131,12 +193,6 @@ module _ {T : Type 0} where
       map-push : (A : Streams T) (xs : List T) → map (λ ys. first_from n ys) (A ++ xs ∷ []) ≡ map (λ ys. first_from n ys) A ++ first_from n xs ∷ []
       map-push [] xs = refl
       map-push (a ∷ A) xs = ap (λ v. first_from n a ∷ v) (map-push A xs)
-
-  -- the row of the lists, one more
-  pub taken-more : (R R' : Streams T) (L L0 : List (Spared T)) (k : ℕ) (l0 : Spared T) (xs : List T) → k < length R → k < length L → k < length L0 → l0 ≡ get_or L k l0 → drop k L ≡ drop k L0 → xs ≡ l0.list → R' ≡ set R k xs →
-      take k R ≡ lists_of (take k L0) → take (k + 1) R' ≡ lists_of (take (k + 1) L0)
-  taken-more R R' L L0 k l0 xs g h i r e p m b =
-      row-more R R' k xs (lists_of (take k L0)) g b m ∙ ap (λ x. lists_of (take k L0) ++ x ∷ []) (p ∙ ap (λ (s : Spared T). s.list) (r ∙ read-at L L0 k l0 h i e)) ∙ sym (lists-more L0 k l0 i)
 
   -- the longest of the lines from one on
   pub longest-more : (L : List (Spared T)) (places k : ℕ) (l : Spared T) (most m : ℕ) → 0 < k → k ≤ places → places ≤ length L → l ≡ get_or L (k - 1) l → most ≡ longest (drop k (lists_of (take places L))) → m ≡ max (length l.list) most → m ≡ longest (drop (k - 1) (lists_of (take places L)))

@@ -1,5 +1,6 @@
-ghost use Rattle.std.specs.Prelude.{◌≡◌, ◌+◌, ◌-◌, ◌<◌, ◌≤◌, [], ◌∷◌, length, take, drop, IfOk, IsTrue, ◌↔◌};
+ghost use Rattle.std.specs.Prelude.{◌≡◌, ℕ, ◌+◌, ◌-◌, ◌<◌, ◌≤◌, [], ◌∷◌, length, take, drop, true, false, IfOk, IsTrue, ◌↔◌};
 ghost use Rattle.pt_meaning.specs.De as de;
+ghost use Rattle.pt_meaning.specs.Streams.{at};
 ghost use Rattle.pt_de_laws.specs.State.{rows_for, emptied_from};
 ghost use Rattle.pt_reaction.specs.Channels.{lists_of};
 ghost use Rattle.pt_de_parts.specs.Rows.{behind};
@@ -64,15 +65,15 @@ impl Rows {
         ensures width { self.new.width ≡ self.old.width }
         ensures left { channels.new.lists ≡ emptied_from first (end - first) channels.old.lists }
     {
-        fill(&mut self.lines, channels, first, end);
         let places = end.saturating_sub(first);
         self.places = places;
         self.number = 0;
-        if whole {
+        if are_one_row(channels, first, end, whole) {
             self.left = 0;
-            take_all(&mut self.row, &mut self.lines, places);
+            fill_row(&mut self.row, channels, first, end);
             return;
         }
+        fill(&mut self.lines, channels, first, end);
         self.left = 1usize.max(longest(&self.lines, places));
         self.go_on();
     }
@@ -132,17 +133,40 @@ fn fill(lines: &mut Vec<Line>, channels: &mut Channels, first: usize, end: usize
     }
 }
 
-/// Takes all tokens of so many lines as the row.
-fn take_all(row: &mut Vec<Tokens>, lines: &mut Vec<Line>, places: usize)
-    requires same { length row.old.items ≡ length lines.old.items }
-    requires room { places ≤ length lines.old.items }
-    ensures row { take places row.new.items ≡ lists_of (take places lines.old.items) }
-    ensures rows { length row.new.items ≡ length row.old.items }
-    ensures lines { length lines.new.items ≡ length lines.old.items }
+/// Whether what came to the channels from one on to another is one row.
+fn are_one_row(channels: &Channels, first: usize, end: usize, whole: bool) -> bool
+    requires { end ≤ length channels.now.lists }
+    ensures one { let came = take (end - first) (drop first channels.now.lists) in result ≡ true → rows_for whole came ≡ came ∷ [] }
+    ensures apart { result ≡ false → whole ≡ false }
 {
-    for place in 0..places {
-        let tokens = lines[place].take();
-        row[place] = tokens;
+    whole || are_single(channels, first, end)
+}
+
+/// Whether each channel from one on to another has one token at most.
+fn are_single(channels: &Channels, first: usize, end: usize) -> bool
+    requires { end ≤ length channels.now.lists }
+    ensures { IsTrue result ↔ ((channel : ℕ) → first ≤ channel → channel < end → length (at channels.now.lists channel) ≤ 1) }
+{
+    for channel in first..end {
+        if !channels.is_single(channel) {
+            return false;
+        }
+    }
+    true
+}
+
+/// Takes all tokens of the channels from one on to another as the row.
+fn fill_row(row: &mut Vec<Tokens>, channels: &mut Channels, first: usize, end: usize)
+    requires within { first ≤ end }
+    requires room { end - first ≤ length row.old.items }
+    requires there { end ≤ length channels.old.lists }
+    ensures row { take (end - first) row.new.items ≡ take (end - first) (drop first channels.old.lists) }
+    ensures rows { length row.new.items ≡ length row.old.items }
+    ensures left { channels.new.lists ≡ emptied_from first (end - first) channels.old.lists }
+{
+    for channel in first..end {
+        let tokens = channels.take_list(channel);
+        row[channel - first] = tokens;
     }
 }
 
