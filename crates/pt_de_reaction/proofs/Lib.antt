@@ -1,3 +1,5 @@
 pub mod StateLaws
 pub mod DeliverLaws
 pub mod ReactionLaws
+pub mod RoomLaws
+pub mod SignalLaws

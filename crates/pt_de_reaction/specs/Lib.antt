@@ -1,1 +1,2 @@
 pub mod Reaction
+pub mod Signals

@@ -1,10 +1,12 @@
-ghost use Rattle.std.specs.Prelude.{◌≡◌, ℕ, List, ◌<◌, ◌≤◌, [], ◌∷◌, ◌++◌, length};
+ghost use Rattle.std.specs.Prelude.{◌≡◌, ◌↔◌, ℕ, List, ◌<◌, ◌≤◌, [], ◌∷◌, ◌++◌, length, get_or, IsTrue};
+ghost use Rattle.pt_meaning.specs.Streams.{at};
 ghost use Rattle.pt_de_due.specs.Due.{put};
 ghost use Rattle.pt_reaction.specs.Channels.{spare_at};
+ghost use Rattle.pt_reaction.specs.Feeds.{no_feed};
 ghost use Rattle.pt_value.specs.declared.token.Token.{Token};
 
 use pt_firing::Tokens;
-use pt_reaction::Channels;
+use pt_reaction::{Channels, Feed};
 
 /// What was staged last.
 pub(crate) fn next_gift(staged: &mut Vec<Tokens>) -> Tokens
@@ -26,4 +28,17 @@ pub(crate) fn put_all(channels: &mut Channels, channel: usize, tokens: Tokens)
     for token in tokens {
         channels.put(channel, token);
     }
+}
+
+/// Whether the channels of some feeds have no token.
+pub(crate) fn are_empty(channels: &Channels, feeds: &[Feed]) -> bool
+    requires { (k : ℕ) → k < length feeds.now → (get_or feeds.now k no_feed).channel < length channels.now.lists }
+    ensures { IsTrue result ↔ ((k : ℕ) → k < length feeds.now → at channels.now.lists (get_or feeds.now k no_feed).channel ≡ []) }
+{
+    for k in 0..feeds.len() {
+        if !channels.is_empty(feeds[k].channel as usize) {
+            return false;
+        }
+    }
+    true
 }

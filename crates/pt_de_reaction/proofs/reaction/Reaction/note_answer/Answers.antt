@@ -1,7 +1,7 @@
 use Rattle.std.proofs.Common.{ap, ◌∙◌, arith}
 use Rattle.pt_de_laws.specs.State.{Over}
 use Rattle.pt_de_reaction.specs.Reaction.{Flow}
-use Rattle.pt_de_reaction.proofs.ReactionLaws.{child-there, turns-long, wakes-long, lasts-long, turn-is, answer-keeps, answer-is}
+use Rattle.pt_de_reaction.proofs.ReactionLaws.{child-there, turns-long, wakes-long, lasts-long, turn-is, answer-keeps, answer-is, shaped-now}
 use Rattle.pt_de_reaction.proofs.reaction.Reaction.note_answer.Goals as goal
 
 pub answer-requires-clause-there : goal.answer-requires-clause-there
@@ -24,3 +24,6 @@ returns-clause-state c = answer-is c.self.inside c.self.invariant c.args.self.no
 
 pub returns-clause-spares : goal.returns-clause-spares
 returns-clause-spares c = ap (λ (f : Flow). f.spares) c.self.view_is
+
+pub returns-clause-shaped : goal.returns-clause-shaped
+returns-clause-shaped c = shaped-now c.self.inside c.self.invariant c.args.self.now c.self.view_is

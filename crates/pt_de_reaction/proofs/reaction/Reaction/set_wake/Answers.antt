@@ -1,6 +1,6 @@
 use Rattle.std.proofs.Common.{ap, arith}
 use Rattle.pt_de_reaction.specs.Reaction.{Flow}
-use Rattle.pt_de_reaction.proofs.ReactionLaws.{child-there, wakes-long, wake-keeps, wake-is}
+use Rattle.pt_de_reaction.proofs.ReactionLaws.{child-there, wakes-long, wake-keeps, wake-is, shaped-now}
 use Rattle.pt_de_reaction.proofs.reaction.Reaction.set_wake.Goals as goal
 
 pub set_wake-requires : goal.set_wake-requires
@@ -14,3 +14,6 @@ returns-clause-state c = wake-is c.self.inside c.self.invariant c.args.self.now 
 
 pub returns-clause-spares : goal.returns-clause-spares
 returns-clause-spares c = ap (λ (f : Flow). f.spares) c.self.view_is
+
+pub returns-clause-shaped : goal.returns-clause-shaped
+returns-clause-shaped c = shaped-now c.self.inside c.self.invariant c.args.self.now c.self.view_is

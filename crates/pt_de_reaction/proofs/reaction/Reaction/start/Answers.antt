@@ -1,6 +1,6 @@
 use Rattle.std.proofs.Common.{ap}
 use Rattle.pt_de_reaction.specs.Reaction.{Flow}
-use Rattle.pt_de_reaction.proofs.ReactionLaws.{start-needs, start-sound, start-is}
+use Rattle.pt_de_reaction.proofs.ReactionLaws.{lawful-now, start-needs, start-sound, start-is}
 use Rattle.pt_de_reaction.proofs.reaction.Reaction.start.Goals as goal
 
 pub wake-requires : goal.wake-requires
@@ -14,3 +14,6 @@ returns-clause-state c = start-is c.self.inside c.self.invariant c.args.self.now
 
 pub returns-clause-spares : goal.returns-clause-spares
 returns-clause-spares c = ap (λ (f : Flow). f.spares) c.self.view_is
+
+pub returns-clause-lawful : goal.returns-clause-lawful
+returns-clause-lawful c = lawful-now c.self.inside c.self.invariant c.args.self.now c.self.view_is
