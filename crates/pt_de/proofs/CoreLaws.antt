@@ -1,5 +1,5 @@
 -- The calls of a core, from its fields to what is seen of it.
-use Rattle.std.proofs.Common.{◌≡◌, ℕ, ◌<◌, ◌≤◌, List, ◌∷◌, false, length, get_or, replicate, Some, IsSome, Option, Result, IfOk, refl, sym, ap, subst, ◌∙◌}
+use Rattle.std.proofs.Common.{◌≡◌, ◌↔◌, ◌⊎◌, inl, inr, ℕ, ◌<◌, ◌≤◌, List, [], ◌∷◌, false, length, get_or, replicate, Some, IsSome, Option, Result, IfOk, refl, sym, ap, subst, ◌∙◌, arith}
 use Rattle.pt_meaning.specs.Tag.{Tag, least}
 use Rattle.pt_meaning.specs.Streams.{Streams}
 use Rattle.pt_meaning.specs.Machine.{Counts, Partial}
@@ -10,10 +10,11 @@ use Rattle.pt_de_laws.specs.Chain.{AsksFor}
 use Rattle.pt_de_laws.specs.DeActs.{partial_if}
 use Rattle.pt_de_parts.specs.Rows.{Rowing}
 use Rattle.pt_de_parts.specs.Net.{Planned}
+use Rattle.pt_de_reaction.specs.Signals.{HasRoom}
 use Rattle.pt_de.specs.declared.de.Stage as declared
 use Rattle.pt_de.specs.declared.de.Stage.TheVariants as code
 use Rattle.pt_de.specs.declared.de.DeCore.TheInside.{Inside}
-use Rattle.pt_de.specs.Seen.{stage_of, seen_core, StageFits, IsListening, HasTurn, IsSound, IsCore}
+use Rattle.pt_de.specs.Seen.{stage_of, stage_left, seen_core, StageFits, IsListening, HasTurn, IsSound, IsCore}
 use Rattle.pt_de.proofs.StageLaws.{idle-fits, open-fits, closed-fits, asked-fits, listened-fits, row-lent, more-after, none-after, due-waits, fire-there}
 
 -- a core of a plan
@@ -52,6 +53,17 @@ module _ (c : Inside) (a : IsCore c) (now : DeState Token) (v : seen_core c ≡ 
 
   pub listening-now : (i : ℕ) → listened_child now.stage ≡ Some i → IsListening s i
   listening-now i e = listened-fits c.stage s c.rows i a.fits (ap (λ g. listened_child g) stage-is ∙ e)
+
+  -- a child that was asked is there, and its room is that of the reaction
+  pub asked-there : (i : ℕ) → (asked_child now.stage ≡ Some i) ⊎ (listened_child now.stage ≡ Some i) → i < length s.plan.net.places
+  asked-there i (inl e) = let f = turn-now i e in f.there
+  asked-there i (inr e) = let f = listening-now i e in f.there
+
+  pub room-now : (i : ℕ) → HasRoom now i → HasRoom s i
+  room-now i h = subst (λ (x : DeState Token). HasRoom x i) (sym v) h
+
+  pub room-seen : {B : Type 0} (i : ℕ) → B ↔ HasRoom s i → B ↔ HasRoom now i
+  room-seen {B} i h = subst (λ (x : DeState Token). B ↔ HasRoom x i) v h
 
   -- where what comes next is open the reaction is all that is seen
   open-is : now.stage ≡ Open → s ≡ now
@@ -142,21 +154,36 @@ module _ (c : Inside) (a : IsCore c) (now : DeState Token) (v : seen_core c ≡ 
       let f = turn-now i h in
       subst (λ (x : DeState Token). HasTurn x i) (sym e) (record { running = ap (λ g. after_fired g) f.running; there = f.there; over = f.over })
 
-  pub told-more-keeps : (i : ℕ) (out : Streams Token) (wake : Option Tag) (t : DeState Token) → asked_child now.stage ≡ Some i → t ≡ after_told i out wake s → 0 < length c.rows.rest → IsSound (code.Between i) t c.rows c.need
+  told-more-keeps : (i : ℕ) (out : Streams Token) (wake : Option Tag) (t : DeState Token) → asked_child now.stage ≡ Some i → t ≡ after_told i out wake s → 0 < length c.rows.rest → IsSound (code.Between i) t c.rows c.need
   told-more-keeps i out wake t h e m = keeps (code.Between i) t c.rows (told-turn i out wake t h e, m) (ap (λ (x : DeState Token). x.plan) e) refl
 
-  pub told-last-keeps : (i : ℕ) (out : Streams Token) (wake : Option Tag) (t : DeState Token) → asked_child now.stage ≡ Some i → t ≡ after_told i out wake s → IsSound code.Open t c.rows c.need
+  told-last-keeps : (i : ℕ) (out : Streams Token) (wake : Option Tag) (t : DeState Token) → asked_child now.stage ≡ Some i → t ≡ after_told i out wake s → IsSound code.Open t c.rows c.need
   told-last-keeps i out wake t h e = let f = told-turn i out wake t h e in keeps code.Open t c.rows f.running (ap (λ (x : DeState Token). x.plan) e) refl
 
   told-is : (i : ℕ) (out : Streams Token) (wake : Option Tag) (t : DeState Token) (g : Stage Token) → t ≡ after_told i out wake s → g ≡ after_fired (stage_of c.stage c.rows) → in_stage g t ≡ after_told i out wake now
   told-is i out wake t g e q =
       ap (λ (x : DeState Token). in_stage g x) e ∙ ap (λ k. in_stage k (after_told i out wake s)) q ∙ ap (λ (x : DeState Token). after_told i out wake x) v
 
-  pub told-more-is : (i : ℕ) (out : Streams Token) (wake : Option Tag) (t : DeState Token) → asked_child now.stage ≡ Some i → t ≡ after_told i out wake s → 0 < length c.rows.rest → in_stage (Between i c.rows.rest) t ≡ after_told i out wake now
+  told-more-is : (i : ℕ) (out : Streams Token) (wake : Option Tag) (t : DeState Token) → asked_child now.stage ≡ Some i → t ≡ after_told i out wake s → 0 < length c.rows.rest → in_stage (Between i c.rows.rest) t ≡ after_told i out wake now
   told-more-is i out wake t h e m = told-is i out wake t (Between i c.rows.rest) e (more-after c.stage c.rows i (ap (λ g. asked_child g) stage-is ∙ h) m)
 
-  pub told-last-is : (i : ℕ) (out : Streams Token) (wake : Option Tag) (t : DeState Token) → asked_child now.stage ≡ Some i → t ≡ after_told i out wake s → ¬ (0 < length c.rows.rest) → in_stage Open t ≡ after_told i out wake now
+  told-last-is : (i : ℕ) (out : Streams Token) (wake : Option Tag) (t : DeState Token) → asked_child now.stage ≡ Some i → t ≡ after_told i out wake s → ¬ (0 < length c.rows.rest) → in_stage Open t ≡ after_told i out wake now
   told-last-is i out wake t h e m = told-is i out wake t Open e (none-after c.stage c.rows i (ap (λ g. asked_child g) stage-is ∙ h) m)
+
+  -- whether or not rows are left
+  pub told-keeps : (i : ℕ) (out : Streams Token) (wake : Option Tag) (t : DeState Token) (g : declared.Stage) → asked_child now.stage ≡ Some i → t ≡ after_told i out wake s → g ≡ stage_left i c.rows.rest → IsSound g t c.rows c.need
+  told-keeps i out wake t g h e q = subst (λ (x : declared.Stage). IsSound x t c.rows c.need) (sym q) (by c.rows.rest refl)
+    where
+      by : (Xs : List (Streams Token)) → c.rows.rest ≡ Xs → IsSound (stage_left i Xs) t c.rows c.need
+      by [] r = told-last-keeps i out wake t h e
+      by (X ∷ Xs) r = told-more-keeps i out wake t h e (subst (λ (Ys : List (Streams Token)). 0 < length Ys) (sym r) (omega arith))
+
+  pub told-now : (i : ℕ) (out : Streams Token) (wake : Option Tag) (t : DeState Token) (g : declared.Stage) → asked_child now.stage ≡ Some i → t ≡ after_told i out wake s → g ≡ stage_left i c.rows.rest → in_stage (stage_of g c.rows) t ≡ after_told i out wake now
+  told-now i out wake t g h e q = ap (λ (x : declared.Stage). in_stage (stage_of x c.rows) t) q ∙ by c.rows.rest refl
+    where
+      by : (Xs : List (Streams Token)) → c.rows.rest ≡ Xs → in_stage (stage_of (stage_left i Xs) c.rows) t ≡ after_told i out wake now
+      by [] r = told-last-is i out wake t h e (λ m. absurd (omega (arith, subst (λ (Ys : List (Streams Token)). 0 < length Ys) r m)))
+      by (X ∷ Xs) r = told-more-is i out wake t h e (subst (λ (Ys : List (Streams Token)). 0 < length Ys) (sym r) (omega arith))
 
   -- a child has answered early
   pub heard-keeps : (i : ℕ) (early : List (Partial Token)) (t : DeState Token) → t ≡ after_heard i early s → IsSound code.Open t c.rows c.need

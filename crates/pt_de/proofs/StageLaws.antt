@@ -7,7 +7,7 @@ use Rattle.pt_de_laws.specs.State.{Turn, Waits, Answered, Over, Idle, Open, Betw
 use Rattle.pt_de_parts.specs.Rows.{Rowing}
 use Rattle.pt_de.specs.declared.de.Stage as declared
 use Rattle.pt_de.specs.declared.de.Stage.TheVariants as code
-use Rattle.pt_de.specs.Seen.{stage_of, StageFits, IsListening, HasTurn}
+use Rattle.pt_de.specs.Seen.{stage_of, stage_left, StageFits, IsListening, HasTurn}
 
 -- where no firing is under way no reaction is, and where what comes next is open one is
 pub idle-fits : (g : declared.Stage) (s : DeState Token) (r : Rowing Token) → StageFits g s r → stage_of g r ≡ Idle → s.stage ≡ Idle
@@ -96,3 +96,12 @@ due-waits Over b h = absurd (cc)
 pub fire-there : (s : DeState Token) (i : ℕ) → MayFire s i → i < length s.plan.net.places
 fire-there s i (inl m) = let f = m.0 in f.there
 fire-there s i (inr l) = l.there
+
+-- a child that has rows left is between two of them
+pub left-more : (i : ℕ) (Xs : List (Streams Token)) → 0 < length Xs → code.Between i ≡ stage_left i Xs
+left-more i [] h = absurd (omega (arith, h))
+left-more i (X ∷ Xs) h = refl
+
+pub left-none : (i : ℕ) (Xs : List (Streams Token)) → ¬ (0 < length Xs) → code.Open ≡ stage_left i Xs
+left-none i [] h = refl
+left-none i (X ∷ Xs) h = absurd (h (omega (arith)))

@@ -1,5 +1,6 @@
 -- What contracts see of a core, and what its fields keep.
-use Rattle.std.specs.Prelude.{◌≡◌, ℕ, ◌<◌, ◌≤◌, ◌∷◌, length, get_or}
+use Rattle.std.specs.Prelude.{◌≡◌, ℕ, ◌<◌, ◌≤◌, List, [], ◌∷◌, length, get_or}
+use Rattle.pt_meaning.specs.Streams.{Streams}
 use Rattle.pt_value.specs.declared.token.Token.{Token}
 use Rattle.pt_de_laws.specs.State.{Waits, Over, Stage, Idle, Open, Listens, Asked, Between, Closed, DeState, IsOver, in_stage}
 use Rattle.pt_de_parts.specs.Rows.{Rowing}
@@ -15,6 +16,11 @@ stage_of (code.Listens child) r = Listens child
 stage_of (code.Asked child) r = Asked child (r.row ∷ r.rest)
 stage_of (code.Between child) r = Between child r.rest
 stage_of code.Closed r = Closed
+
+-- where a firing stands once a child has fired on a row and these are left
+abbrev pub stage_left : ℕ → List (Streams Token) → declared.Stage
+stage_left child [] = code.Open
+stage_left child (X ∷ Xs) = code.Between child
 
 -- the stage, over the reaction: there what comes next is open from its beginning to its end
 abbrev pub seen_core : Inside → DeState Token

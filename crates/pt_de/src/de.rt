@@ -4,6 +4,7 @@ ghost use Rattle.pt_de_laws.specs.Lawful.{IsLawful};
 ghost use Rattle.pt_de_plan.specs.Inside.{plan_of, roles_of};
 ghost use Rattle.pt_de_laws.specs.DeActs.{de_calls};
 ghost use Rattle.pt_de_parts.specs.Net.{planned_of};
+ghost use Rattle.pt_de.specs.Seen.{stage_left};
 
 use crate::outputs::outputs_of;
 use pt_core::Core;
@@ -71,9 +72,12 @@ impl Model for DeCore {
 }
 
 impl DeCore {
-    ghost use Rattle.std.specs.Prelude.{◌≡◌, ◌<◌, ◌^◌, length, IfOk, OnOk, OnErr, Some};
+    ghost use Rattle.std.specs.Prelude.{◌≡◌, ◌↔◌, ◌⊎◌, ◌<◌, ◌^◌, [], ◌∷◌, length, IsTrue, IfOk, OnOk, OnErr, Some};
+    ghost use Rattle.pt_meaning.specs.Machine as machine;
+    ghost use Rattle.pt_meaning.specs.Machine.{Known};
     ghost use Rattle.pt_de_laws.specs.State.{Open, started, listened_child, after_heard};
-    ghost use Rattle.pt_de_laws.specs.DeActs.{Gives, asking};
+    ghost use Rattle.pt_de_laws.specs.DeActs.{Gives, asking, de_calls};
+    ghost use Rattle.pt_de_reaction.specs.Signals.{HasRoom, signal_of};
 
     /// A core of this plan, with the children at their start.
     pub fn new(alloc: Global, plan: DePlan) -> Result<DeCore, AllocError>
@@ -104,6 +108,7 @@ impl DeCore {
     }
 
     /// What comes next where no child has rows left.
+    #[inline(always)]
     fn ask_next(&mut self) -> Ask
         requires { self.old.stage ≡ Open }
         ensures gives { Gives self.old result }
@@ -127,6 +132,37 @@ impl DeCore {
         }
     }
 
+    /// Whether the child that was asked, to fire or for an early answer, may give one token on each port without memory: no channel that it feeds has a token.
+    #[inline(always)]
+    pub fn has_room(&self, child: u32) -> bool
+        requires { (de_calls.asked_of self.now ≡ Some child) ⊎ (de_calls.listened_of self.now ≡ Some child) }
+        ensures { IsTrue result ↔ HasRoom self.now child }
+    {
+        self.reaction.has_room(child as usize)
+    }
+
+    /// Takes the integer, if any, that the child gave on its one port which was asked to fire, and its wake. It takes no memory. What the child needs says nothing.
+    #[inline(always)]
+    pub fn told_signal(&mut self, child: u32, given: Option<i64>, wake: Option<Tag>)
+        requires asked { de_calls.asked_of self.old ≡ Some child }
+        requires room { HasRoom self.old child }
+        ensures { (need : machine.Need) → self.new ≡ de_calls.told child (signal_of given ∷ []) wake need self.old }
+    {
+        self.reaction.told_signal(child as usize, given, wake);
+        self.stage = stage_after(&self.rows, child);
+    }
+
+    /// Takes the integer, if any, that the child gave early on its one port which was asked for that, all of which is known. It takes no memory.
+    #[inline(always)]
+    pub fn hears_signal(&mut self, child: u32, early: Option<i64>)
+        requires asked { de_calls.listened_of self.old ≡ Some child }
+        requires room { HasRoom self.old child }
+        ensures { self.new ≡ de_calls.heard child (Known (signal_of early) ∷ []) self.old }
+    {
+        self.reaction.hears_signal(child as usize, early);
+        self.stage = Stage::Open;
+    }
+
     /// Takes what the child gave early that was asked. After an `Err` the core is as before.
     fn hear(&mut self, alloc: Global, child: u32, early: &Partial) -> Result<(), AllocError>
         requires { listened_child self.old.stage ≡ Some child }
@@ -138,6 +174,17 @@ impl DeCore {
         self.stage = Stage::Open;
         Ok(())
     }
+}
+
+/// Where a firing stands once a child has fired on a row, with these left.
+#[inline(always)]
+fn stage_after(rows: &Rows, child: u32) -> Stage
+    ensures { result ≡ stage_left child rows.now.rest }
+{
+    if rows.has_more() {
+        return Stage::Between(child);
+    }
+    Stage::Open
 }
 
 /// The tables of a plan.
@@ -173,6 +220,7 @@ impl Core for DeCore {
         Ok(())
     }
 
+    #[inline(always)]
     fn ask(&mut self) -> Ask {
         match self.stage {
             Stage::Open => self.ask_next(),
@@ -202,11 +250,7 @@ impl Core for DeCore {
     ) -> Result<(), AllocError> {
         self.reaction
             .told(alloc, child as usize, outputs, wake, &mut self.staged)?;
-        self.stage = if self.rows.has_more() {
-            Stage::Between(child)
-        } else {
-            Stage::Open
-        };
+        self.stage = stage_after(&self.rows, child);
         Ok(())
     }
 
