@@ -63,6 +63,9 @@ fn act(alloc: Global, asked: &mut Asked, call: &str, out: &mut Answer) {
         "ask" => ask(alloc, asked, out),
         "told" => told(alloc, asked, rest, out),
         "hears" => hears(alloc, asked, rest, out),
+        "has_room" => has_room(asked, out),
+        "told_signal" => told_signal(asked, rest),
+        "hears_signal" => asked.core.hears_signal(asked.child, signal(rest)),
         "finish" => finish(alloc, &mut asked.core, out),
         "next" => next(alloc, &asked.core, out),
         "reset" => out.note(asked.core.reset(alloc)),
@@ -136,6 +139,25 @@ fn hears(alloc: Global, asked: &mut Asked, written: &str, out: &mut Answer) {
     let early = Partial::of(each_in(alloc, written, "/", state, out));
     out.note(asked.core.hears(alloc, asked.child, &early));
     drop(early);
+}
+
+fn has_room(asked: &Asked, out: &mut Answer) {
+    let room = asked.core.has_room(asked.child);
+    out.text(if room { " = yes" } else { " = no" });
+}
+
+/// The integer that the child gave that was asked, if any, and its wake, if it has one: `5 until 3.0`.
+fn told_signal(asked: &mut Asked, written: &str) {
+    let (given, wake) = match written.split_once("until ") {
+        Some((given, at)) => (given, Some(tags::tag(at))),
+        None => (written, None),
+    };
+    asked.core.told_signal(asked.child, signal(given), wake);
+}
+
+/// An integer, or none.
+fn signal(written: &str) -> Option<i64> {
+    written.trim().parse::<i64>().ok()
 }
 
 fn finish(alloc: Global, core: &mut DeCore, out: &mut Answer) {
