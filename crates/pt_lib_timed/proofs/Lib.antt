@@ -3,6 +3,7 @@ pub mod ClockLaws
 pub mod PendingLaws
 pub mod ArrivalLaws
 pub mod StepLaws
+pub mod SignalLaws
 pub mod RowLaws
 pub mod Staying
 pub mod Worked

@@ -1,11 +1,12 @@
 -- Laws of the list of what is pending: what stands in front where its tags ascend, what is due, and its wake.
 use Rattle.std.proofs.Common.{◌≡◌, ℕ, zero, suc, ◌+◌, ◌-◌, ◌<◌, ◌≤◌, List, [], ◌∷◌, ◌++◌, length, take, drop, Bool, true, false, Option, Some, None, refl, sym, ap, subst, ◌∙◌, append_assoc, add-one, arith, if◌then◌else◌}
-use Rattle.std.specs.Prelude.{slice_index_or}
+use Rattle.std.specs.Prelude.{slice_index_or, ℤ, IfSome}
 use Rattle.std.specs.List.{AllByRecursion}
 use Rattle.std.proofs.Math.Seq.{drop-cons, drop-length}
 use Rattle.std.proofs.lemmas.Bool.{false≢true}
 use Rattle.pt_meaning.specs.Tag.{Tag, tag_le, earlier, is_due}
 use Rattle.pt_value.specs.declared.token.Token.{Token}
+use Rattle.pt_value.specs.declared.token.Token.TheVariants.{Int}
 use Rattle.pt_lib_timed.proofs.TagOrder.{tag_le-total, tag_le-trans}
 use Rattle.pt_lib_timed.specs.Pending.{Event, due, left, wake, last_tag}
 use Rattle.pt_lib_timed.specs.PendingStore.{IsAscending, IsMarked, is_behind, is_front_due}
@@ -299,6 +300,18 @@ no-more (e ∷ es) = ap (λ v. e ∷ v) (no-more es)
 
 pub kept-all : (kept all was : List Event) → kept ++ was ≡ all → was ≡ [] → kept ≡ all
 kept-all kept all was inv e = sym (no-more kept) ∙ ap (λ v. kept ++ v) (sym e) ∙ inv
+
+-- where the first alone is due, it is given, and the others are left
+pub only-first : (tag : Tag) (es : List Event) (t : Tag) (x : Token) → es ≡ (t, x) ∷ drop 1 es → IsAscending es → is_front_due tag es ≡ true → is_front_due tag (drop 1 es) ≡ false → (due tag es ≡ x ∷ []) × (left tag es ≡ drop 1 es)
+only-first tag es t x is asc h k =
+    let here = popped tag es (t, x) (drop 1 es) is asc h in
+    let rest = not-front tag (drop 1 es) here.ascends k in
+    (here.dues ∙ ap (λ v. x ∷ v) rest.0, sym here.lefts ∙ rest.1)
+
+-- the first, where its token is an integer
+pub number-first : (es : List Event) (n : ℕ) (x : Event) (o : Option ℤ) → n ≡ length es → 0 < n → x ≡ slice_index_or es 0 x → IfSome o (λ k. x.1 ≡ Int k) → IfSome o (λ k. (t : Tag) × (es ≡ (t, Int k) ∷ drop 1 es))
+number-first es n x None e h is v = v
+number-first es n x (Some k) e h is v = (x.0, first-here es x (omega (arith, e, h)) is ∙ ap (λ (w : Token). (x.0, w) ∷ drop 1 es) v)
 
 -- ---- the mark
 

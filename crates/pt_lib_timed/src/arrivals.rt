@@ -1,10 +1,11 @@
 // Tokens that arrive at an actor that holds them back.
-ghost use Rattle.std.specs.Prelude.{◌≡◌, ◌++◌, [], ◌∷◌, IfOk, IfErr, OnOk, OnErr, Some, true, List};
+ghost use Rattle.std.specs.Prelude.{◌≡◌, ◌++◌, [], ◌∷◌, IfOk, IfErr, OnOk, OnErr, Some, true, false, IsTrue, List};
 ghost use Rattle.pt_meaning.specs.Tag.{tag_le, tag_after, within_limits};
 ghost use Rattle.pt_meaning.specs.Basics.{at};
 ghost use Rattle.pt_firing.specs.Step.{Makes, step_of};
 ghost use Rattle.pt_lib_timed.specs.Pending.{Event, arriving, given_then};
 ghost use Rattle.pt_lib_timed.specs.PendingStore.{behind, IsLate};
+ghost use Rattle.pt_lib_timed.specs.Signal.{Signals};
 
 use crate::pending::Pending;
 use pt_firing::{Inputs, Outputs, RunFault, StepFault};
@@ -104,4 +105,39 @@ pub(crate) fn fire(
             Err(StepFault::Memory)
         }
     }
+}
+
+/// Puts the integer that arrives behind what is pending, if any does. Where several tokens arrive, or another one, where it would be due past the limits, or for want of memory, nothing is done.
+fn arrive_alone(pending: &mut Pending, tokens: &[Token], wait: Wait) -> bool
+    ensures all { IsTrue result → Some pending.new ≡ behind pending.old (arriving wait.in_turn wait.from wait.delay tokens.now) }
+    ensures kept { result ≡ false → pending.new ≡ pending.old }
+{
+    match tokens {
+        [] => true,
+        [Token::Int(number)] => match end_of(wait.from, wait.delay) {
+            Some(end) => pending.put(end, Token::Int(*number)).is_ok(),
+            None => false,
+        },
+        _ => false,
+    }
+}
+
+/// Gives what is due at a tag and holds back what arrives, where each is one integer at most. Else nothing is done.
+#[inline(always)]
+pub(crate) fn pass(
+    pending: &mut Pending,
+    tag: Tag,
+    tokens: &[Token],
+    wait: Wait,
+) -> Option<Option<i64>>
+    ensures { Signals (given_then tag pending.old (arriving wait.in_turn wait.from wait.delay tokens.now)) pending.old result pending.new }
+{
+    let given = pending.due_number(tag)?;
+    if !arrive_alone(pending, tokens, wait) {
+        return None;
+    }
+    if given.is_some() {
+        pending.drop_first();
+    }
+    Some(given)
 }

@@ -1,5 +1,6 @@
 ghost use Rattle.std.specs.Prelude.{◌≡◌, IfOk};
 ghost use Rattle.pt_lib_timed.specs.CurrentTime as current_time;
+ghost use Rattle.pt_lib_timed.specs.Signal.{GivesSignal};
 
 use pt_firing::{
     Actor, Fires, Inputs, Need, OneEach, Outputs, Partial, RunFault, Step, strict_early,
@@ -22,6 +23,17 @@ impl CurrentTime {
     {
         let places = OneEach::of(alloc, 1)?;
         Ok(Some(CurrentTime { places }))
+    }
+
+    /// Makes a firing that gives one integer at most. Where it makes none, `step` makes the firing.
+    pub fn signal(&self, tag: Tag, inputs: &Inputs<'_>) -> Option<Option<i64>>
+        ensures { GivesSignal current_time.step self.now tag inputs.now result self.now }
+    {
+        if !inputs.is_present(0) {
+            return Some(None);
+        }
+        let time = i64::try_from(tag.time).ok()?;
+        Some(Some(time))
     }
 }
 

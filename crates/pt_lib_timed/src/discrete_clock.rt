@@ -1,6 +1,11 @@
-ghost use Rattle.std.specs.Prelude.{◌≡◌, ◌≤◌, ◌+◌, ◌*◌, ◌^◌, IfOk, IsSome, length, option_map, slice_get};
+ghost use Rattle.std.specs.Prelude.{◌≡◌, ◌≤◌, ◌+◌, ◌*◌, ◌^◌, IfOk, IfSome, IsSome, Some, length, option_map, slice_get};
+ghost use Rattle.pt_meaning.specs.Basics.{Streams};
+ghost use Rattle.pt_value.specs.Token.{token_of};
+ghost use Rattle.pt_value.specs.declared.token.Token as token;
+ghost use Rattle.pt_value.specs.declared.token.Token.TheVariants.{Int};
 ghost use Rattle.pt_lib_timed.specs.DiscreteClock.{array_of, offset_of, moved, next};
 ghost use Rattle.pt_lib_timed.specs.DiscreteClock as discrete_clock;
+ghost use Rattle.pt_lib_timed.specs.Signal.{GivesSignal};
 
 use crate::period::Period;
 use crate::signal::{LAST_TIME, copy_of, is_due, outputs_of};
@@ -71,6 +76,29 @@ impl DiscreteClock {
             step: 0,
         };
         outer(tag, begins)
+    }
+
+    /// The value of the next event, where that is an integer.
+    fn number(&self) -> Option<i64>
+        ensures { IfSome result (λ number. option_map token_of (slice_get self.now.values self.now.index) ≡ Some (Int number)) }
+    {
+        match self.values.get(self.index) {
+            Some(Token::Int(number)) => Some(*number),
+            _ => None,
+        }
+    }
+
+    /// Makes a firing that gives one integer at most, and takes no memory. Where it makes none, `step` makes the firing.
+    #[inline(always)]
+    pub fn signal(&mut self, tag: Tag) -> Option<Option<i64>>
+        ensures { (X : Streams token.Token) → GivesSignal discrete_clock.step self.old tag X result self.new }
+    {
+        if !is_due(tag, self.due()) {
+            return Some(None);
+        }
+        let number = self.number()?;
+        self.advance();
+        Some(Some(number))
     }
 
     /// Goes on to the event behind the next one.

@@ -1,9 +1,13 @@
-ghost use Rattle.std.specs.Prelude.{◌≡◌, ◌≤◌, [], ◌∷◌, ◌++◌, length, take, is_ok, IfOk, IfNone, OnOk, OnErr, Some, option_to_list, vec_capacity, if◌then◌else◌};
+ghost use Rattle.std.specs.Prelude.{◌≡◌, ◌≤◌, [], ◌∷◌, ◌++◌, length, take, drop, is_ok, is_some, IfOk, IfNone, IfSome, OnOk, OnErr, Some, option_to_list, vec_capacity, if◌then◌else◌};
 ghost use Rattle.std.specs.VecDeque.{deque_len, deque_capacity};
+ghost use Rattle.pt_meaning.specs.Basics as basics;
 ghost use Rattle.pt_meaning.specs.Tag.{tag_le, earlier};
+ghost use Rattle.pt_value.specs.declared.token.Token.TheVariants.{Int};
 ghost use Rattle.pt_lib_timed.specs.Pending.{due, left, wake, last_tag};
 ghost use Rattle.pt_lib_timed.specs.PendingStore.{IsMarked, IsAscending, is_behind, is_front_due};
+ghost use Rattle.pt_lib_timed.specs.Signal.{signal_of};
 
+use crate::signal::number_of;
 use pt_firing::Tokens;
 use pt_time::Tag;
 use pt_value::Token;
@@ -125,6 +129,25 @@ impl Pending {
         let mut given = Vec::with_capacity(alloc, count)?;
         take_front(&mut self.events, tag, &mut given);
         Ok(Tokens::of(given))
+    }
+
+    /// The integer that is due at a tag, none where nothing is. It is the first then. Nothing is told of several tokens, or of others.
+    #[inline(always)]
+    pub fn due_number(&self, tag: Tag) -> Option<Option<i64>>
+        ensures due { IfSome result (λ number. due tag self.now ≡ signal_of number) }
+        ensures left { IfSome result (λ number. left tag self.now ≡ (if is_some number then drop 1 self.now else self.now)) }
+    {
+        if !self.ascending {
+            return None;
+        }
+        number_due(&self.events, tag)
+    }
+
+    /// Lets go of the first, if there is one.
+    pub fn drop_first(&mut self)
+        ensures { self.new ≡ drop 1 self.old }
+    {
+        self.events.pop_front();
     }
 
     /// The same list.
@@ -252,6 +275,42 @@ fn is_front_due(events: &VecDeque<Event>, tag: Tag) -> bool
         Some(event) => is_up_to(event.0, tag),
         None => false,
     }
+}
+
+/// Whether there is a second one, and it is due at a tag.
+fn is_second_due(events: &VecDeque<Event>, tag: Tag) -> bool
+    ensures { result ≡ is_front_due tag (drop 1 events.now.items) }
+{
+    match events.get(1) {
+        Some(second) => is_up_to(second.0, tag),
+        None => false,
+    }
+}
+
+/// The token of the first one, where it is an integer.
+fn first_number(events: &VecDeque<Event>) -> Option<i64>
+    ensures { IfSome result (λ number. (due : basics.Tag) × (events.now.items ≡ (due, Int number) ∷ drop 1 events.now.items)) }
+{
+    match events.front() {
+        Some(event) => number_of(&event.1),
+        None => None,
+    }
+}
+
+/// The integer that is due at a tag, where the tags ascend: the first, where the second isn't due.
+fn number_due(events: &VecDeque<Event>, tag: Tag) -> Option<Option<i64>>
+    requires { IsAscending events.now.items }
+    ensures due { IfSome result (λ number. due tag events.now.items ≡ signal_of number) }
+    ensures left { IfSome result (λ number. left tag events.now.items ≡ (if is_some number then drop 1 events.now.items else events.now.items)) }
+{
+    if !is_front_due(events, tag) {
+        return Some(None);
+    }
+    if is_second_due(events, tag) {
+        return None;
+    }
+    let number = first_number(events)?;
+    Some(Some(number))
 }
 
 /// Takes the first where it is due at a tag, out of some whose tags ascend.

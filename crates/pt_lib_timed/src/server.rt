@@ -2,8 +2,9 @@ ghost use Rattle.std.specs.Prelude.{◌≡◌, IfOk, true};
 ghost use Rattle.pt_meaning.specs.Tag.{tag_le};
 ghost use Rattle.pt_lib_timed.specs.Pending.{later_of, last_tag};
 ghost use Rattle.pt_lib_timed.specs.Server as server;
+ghost use Rattle.pt_lib_timed.specs.Signal.{GivesSignal, TellsSignal};
 
-use crate::arrivals::{Wait, fire, list_at};
+use crate::arrivals::{Wait, fire, list_at, pass};
 use crate::pending::Pending;
 use crate::signal::{LAST_TIME, told};
 use pt_firing::{Actor, Fires, Inputs, Need, OneEach, Partial, Step};
@@ -36,6 +37,23 @@ impl Server {
         }))
     }
 
+    /// Makes a firing that takes and gives one integer at most. Where it makes none, `step` makes the firing.
+    #[inline(always)]
+    pub fn signal(&mut self, tag: Tag, inputs: &Inputs<'_>) -> Option<Option<i64>>
+        ensures { GivesSignal server.step self.old tag inputs.now result self.new }
+    {
+        let wait = self.wait_from(tag);
+        pass(&mut self.pending, tag, list_at(inputs, 0), wait)
+    }
+
+    /// What it gives early, where that is one integer at most.
+    #[inline(always)]
+    pub fn early_signal(&self, tag: Tag) -> Option<Option<i64>>
+        ensures { TellsSignal server.early self.now tag result }
+    {
+        self.pending.due_number(tag)
+    }
+
     /// When the service of a token that arrives at a tag begins: then, or where the last pending one ends later, when it does.
     fn free_from(&self, tag: Tag) -> Tag
         ensures from { result ≡ later_of tag (last_tag self.now.pending) }
@@ -44,6 +62,18 @@ impl Server {
         match self.pending.last() {
             Some(last) if last > tag => last,
             _ => tag,
+        }
+    }
+
+    /// When the tokens that arrive at a tag are due: each is served in turn.
+    fn wait_from(&self, tag: Tag) -> Wait
+        ensures wait { result ≡ record { from = later_of tag (last_tag self.now.pending); delay = self.now.service; in_turn = true } }
+        ensures later { tag_le tag result.from ≡ true }
+    {
+        Wait {
+            from: self.free_from(tag),
+            delay: self.service,
+            in_turn: true,
         }
     }
 }
@@ -58,11 +88,7 @@ impl Fires for Server {
     ghost IsSpare = { λ actor. ⊥ };
 
     fn step(&mut self, alloc: Global, tag: Tag, inputs: &Inputs<'_>) -> Step {
-        let wait = Wait {
-            from: self.free_from(tag),
-            delay: self.service,
-            in_turn: true,
-        };
+        let wait = self.wait_from(tag);
         fire(&mut self.pending, alloc, tag, list_at(inputs, 0), wait).into()
     }
 

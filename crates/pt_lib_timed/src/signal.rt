@@ -1,7 +1,8 @@
 // A signal on the one output, and a copy of it.
-ghost use Rattle.std.specs.Prelude.{◌≡◌, [], ◌∷◌, IfOk, option_map, option_to_list};
+ghost use Rattle.std.specs.Prelude.{◌≡◌, [], ◌∷◌, IfOk, IfSome, option_map, option_to_list};
 ghost use Rattle.pt_meaning.specs.Machine.{Known};
 ghost use Rattle.pt_meaning.specs.Tag.{is_due};
+ghost use Rattle.pt_value.specs.declared.token.Token.TheVariants.{Int};
 
 use pt_firing::{Outputs, Partial, Tokens, TriState};
 use pt_time::Tag;
@@ -15,6 +16,27 @@ pub(crate) fn copy_of(alloc: Global, signal: Option<&Token>) -> Result<Option<To
     match signal {
         Some(token) => Ok(Some(token.copy(alloc)?)),
         None => Ok(None),
+    }
+}
+
+/// The integer that a token is.
+pub(crate) fn number_of(token: &Token) -> Option<i64>
+    ensures { IfSome result (λ number. token.now ≡ Int number) }
+{
+    match token {
+        Token::Int(number) => Some(*number),
+        _ => None,
+    }
+}
+
+/// The integer that a signal is, none where it is absent. Nothing is told of other tokens.
+pub(crate) fn int_of(signal: Option<&Token>) -> Option<Option<i64>>
+    ensures { IfSome result (λ number. option_map Int number ≡ option_map (λ token. token.now) signal.entry) }
+{
+    match signal {
+        None => Some(None),
+        Some(Token::Int(number)) => Some(Some(*number)),
+        Some(_) => None,
     }
 }
 

@@ -1,8 +1,11 @@
 ghost use Rattle.std.specs.Prelude.{◌≡◌, IfOk};
+ghost use Rattle.pt_meaning.specs.Basics.{Streams};
+ghost use Rattle.pt_value.specs.declared.token.Token as token;
+ghost use Rattle.pt_lib_timed.specs.Signal.{GivesSignal};
 ghost use Rattle.pt_lib_timed.specs.SingleEvent.{next};
 ghost use Rattle.pt_lib_timed.specs.SingleEvent as single_event;
 
-use crate::signal::{LAST_TIME, copy_of, is_due, outputs_of};
+use crate::signal::{LAST_TIME, copy_of, int_of, is_due, outputs_of};
 use pt_firing::{Actor, Fires, Inputs, Need, OneEach, Outputs, Partial, Step, strict_early};
 use pt_flow_base::Params;
 use pt_time::Tag;
@@ -32,6 +35,18 @@ impl SingleEvent {
             event: value.or(Some(Token::Int(1))),
             places,
         }))
+    }
+
+    /// Makes a firing that gives one integer at most. Where it makes none, `step` makes the firing.
+    pub fn signal(&mut self, tag: Tag) -> Option<Option<i64>>
+        ensures { (X : Streams token.Token) → GivesSignal single_event.step self.old tag X result self.new }
+    {
+        if !is_due(tag, self.due()) {
+            return Some(None);
+        }
+        let given = int_of(self.event.as_ref())?;
+        self.event = None;
+        Some(given)
     }
 
     /// When the event is due, until it is given.

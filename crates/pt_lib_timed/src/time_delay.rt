@@ -1,7 +1,8 @@
-ghost use Rattle.std.specs.Prelude.{◌≡◌, IfOk};
+ghost use Rattle.std.specs.Prelude.{◌≡◌, false, IfOk};
+ghost use Rattle.pt_lib_timed.specs.Signal.{GivesSignal, TellsSignal};
 ghost use Rattle.pt_lib_timed.specs.TimeDelay as time_delay;
 
-use crate::arrivals::{Wait, fire, list_at};
+use crate::arrivals::{Wait, fire, list_at, pass};
 use crate::pending::Pending;
 use crate::signal::{LAST_TIME, told};
 use pt_firing::{Actor, Fires, Inputs, Need, OneEach, Partial, Step};
@@ -33,6 +34,34 @@ impl TimeDelay {
             places,
         }))
     }
+
+    /// Makes a firing that takes and gives one integer at most. Where it makes none, `step` makes the firing.
+    #[inline(always)]
+    pub fn signal(&mut self, tag: Tag, inputs: &Inputs<'_>) -> Option<Option<i64>>
+        ensures { GivesSignal time_delay.step self.old tag inputs.now result self.new }
+    {
+        let wait = self.wait_from(tag);
+        pass(&mut self.pending, tag, list_at(inputs, 0), wait)
+    }
+
+    /// What it gives early, where that is one integer at most.
+    #[inline(always)]
+    pub fn early_signal(&self, tag: Tag) -> Option<Option<i64>>
+        ensures { TellsSignal time_delay.early self.now tag result }
+    {
+        self.pending.due_number(tag)
+    }
+
+    /// When the tokens that arrive at a tag are due: each after the delay.
+    fn wait_from(&self, tag: Tag) -> Wait
+        ensures { result ≡ record { from = tag; delay = self.now.delay; in_turn = false } }
+    {
+        Wait {
+            from: tag,
+            delay: self.delay,
+            in_turn: false,
+        }
+    }
 }
 
 impl Fires for TimeDelay {
@@ -45,11 +74,7 @@ impl Fires for TimeDelay {
     ghost IsSpare = { λ actor. ⊥ };
 
     fn step(&mut self, alloc: Global, tag: Tag, inputs: &Inputs<'_>) -> Step {
-        let wait = Wait {
-            from: tag,
-            delay: self.delay,
-            in_turn: false,
-        };
+        let wait = self.wait_from(tag);
         fire(&mut self.pending, alloc, tag, list_at(inputs, 0), wait).into()
     }
 

@@ -1,6 +1,7 @@
 ghost use Rattle.std.specs.Prelude.{◌≡◌, IfOk, IsSome, Some};
 ghost use Rattle.pt_lib_timed.specs.TimedActor as timed_actor;
 ghost use Rattle.pt_lib_timed.specs.TimedActor.{class_of, start_as, start};
+ghost use Rattle.pt_lib_timed.specs.Signal.{GivesSignal, TellsSignal};
 
 use crate::current_time::CurrentTime;
 use crate::discrete_clock::DiscreteClock;
@@ -170,6 +171,38 @@ impl TimedActor {
             | TimedActor::DiscreteClock(_)
             | TimedActor::Sampler(_)
             | TimedActor::SingleEvent(_) => false,
+        }
+    }
+
+    /// Makes a firing that gives one integer at most, on the one port. Where it makes none, `step` makes the firing.
+    #[inline(always)]
+    pub fn signal(&mut self, tag: Tag, inputs: &Inputs<'_>) -> Option<Option<i64>>
+        ensures { GivesSignal timed_actor.step self.old tag inputs.now result self.new }
+    {
+        match self {
+            TimedActor::CurrentTime(actor) => actor.signal(tag, inputs),
+            TimedActor::DiscreteClock(actor) => actor.signal(tag),
+            TimedActor::Register(_) => None,
+            TimedActor::Sampler(actor) => actor.signal(inputs),
+            TimedActor::Server(actor) => actor.signal(tag, inputs),
+            TimedActor::SingleEvent(actor) => actor.signal(tag),
+            TimedActor::TimeDelay(actor) => actor.signal(tag, inputs),
+        }
+    }
+
+    /// What it gives early at a tag, whatever is known of its inputs, where that is one integer at most, on the one port.
+    #[inline(always)]
+    pub fn early_signal(&self, tag: Tag) -> Option<Option<i64>>
+        ensures { TellsSignal timed_actor.early self.now tag result }
+    {
+        match self {
+            TimedActor::Server(actor) => actor.early_signal(tag),
+            TimedActor::TimeDelay(actor) => actor.early_signal(tag),
+            TimedActor::CurrentTime(_)
+            | TimedActor::DiscreteClock(_)
+            | TimedActor::Register(_)
+            | TimedActor::Sampler(_)
+            | TimedActor::SingleEvent(_) => None,
         }
     }
 }
