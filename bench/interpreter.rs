@@ -1,16 +1,18 @@
 //! A hand-written interpreter of flat dataflow models, to measure ptrun against.
 //!
 //! It reads the same documents on standard input and writes the same reports, for models of Ramp, Scale,
-//! AddSubtract, UpSample and DownSample under SDF, of the first three under SR, or of what `events.rs` knows under DE, whose
-//! actors stand right in the top.
+//! AddSubtract, UpSample and DownSample under SDF, of the first three under SR, of what `events.rs` knows under DE, or of what
+//! `networks.rs` knows under PN, whose actors stand right in the top.
 //! It does what such a model needs and no more: an iteration, or a tick, is an order of firings that is found once. It
 //! refuses nothing by name; a document that it doesn't know ends it with a panic. Plain Rust over std alone: `rustc --edition 2021 -O interpreter.rs`.
 
 mod balance;
 mod events;
+mod networks;
 
 use balance::repetitions;
 use events::Events;
+use networks::Network;
 use std::collections::{HashMap, VecDeque};
 use std::io::{Read, Write};
 
@@ -139,6 +141,9 @@ enum Actor {
     DownSample { factor: usize, phase: usize },
     /// An actor of DE, of which `events.rs` has the rest.
     Timed,
+    /// Of PN alone, of which `networks.rs` has the rest.
+    Discard,
+    Composite,
 }
 
 impl Actor {
@@ -154,6 +159,7 @@ impl Actor {
     fn gives(&self) -> usize {
         match self {
             Actor::UpSample { factor, .. } => *factor,
+            Actor::Discard => 0,
             _ => 1,
         }
     }
@@ -199,20 +205,40 @@ fn actor_of(entity: &Json) -> Actor {
             phase: entity.parameter("phase", 0) as usize,
         },
         "DiscreteClock" | "Server" | "Sampler" => Actor::Timed,
+        "Discard" => Actor::Discard,
+        "Composite" => Actor::Composite,
         other => panic!("the class {other}"),
     }
 }
 
 fn node_of(entity: &Json) -> Node {
+    node(entity.text("name"), actor_of(entity))
+}
+
+fn node(name: &str, actor: Actor) -> Node {
     Node {
-        name: entity.text("name").to_string(),
-        actor: actor_of(entity),
+        name: name.to_string(),
+        actor,
         plus: Vec::new(),
         minus: Vec::new(),
         outputs: Vec::new(),
         firings: 0,
         recorded: None,
     }
+}
+
+/// The actors in a composite, the order in which they fire in an iteration, how many channels there are, and which of them begin at its one input and end at its one output.
+fn entities_of(composite: &Json) -> (Vec<Node>, Vec<usize>, usize, [usize; 2]) {
+    let mut nodes: Vec<Node> = composite.list("entities").iter().map(node_of).collect();
+    let count = nodes.len();
+    // An own port is joined as an actor that stands behind the others.
+    nodes.extend(composite.list("ports").iter().map(|port| node(port.text("name"), Actor::Scale { factor: 1 })));
+    let ends = join(composite, &mut nodes);
+    let order = ordered(&nodes, &ends).into_iter().filter(|&number| number < count).collect();
+    let own = nodes.split_off(count);
+    let input = own.iter().flat_map(|port| &port.outputs).next().expect("an input");
+    let output = own.iter().flat_map(|port| &port.plus).next().expect("an output");
+    (nodes, order, ends.len(), [*input, *output])
 }
 
 /// The source of each relation, then a channel for each place that is linked to it. Gives the ends of the channels.
@@ -222,9 +248,10 @@ fn join(top: &Json, nodes: &mut [Node]) -> Vec<(usize, usize)> {
         .enumerate()
         .map(|(number, node)| (node.name.clone(), number))
         .collect();
-    let ends = |link: &Json| {
-        let (entity, port) = link.text("port").split_once('.').expect("a child's port");
-        (numbers[entity], port.to_string())
+    // Seen from within, an own input is a source, and an own output takes.
+    let ends = |link: &Json| match link.text("port").split_once('.') {
+        Some((entity, port)) => (numbers[entity], port.to_string()),
+        None => (numbers[link.text("port")], if link.text("port") == "input" { "output" } else { "input" }.to_string()),
     };
     let mut sources = HashMap::new();
     for link in top.list("links") {
@@ -341,7 +368,7 @@ impl Node {
                 taken.rev().nth(phase)
             }
             Actor::UpSample { .. } => unreachable!("a burst"),
-            Actor::Timed => unreachable!("an actor of DE"),
+            Actor::Timed | Actor::Discard | Actor::Composite => unreachable!("an actor of DE or PN"),
         }
     }
 
@@ -385,22 +412,26 @@ impl Model {
     fn report(&self, stuck: Option<usize>) -> Vec<u8> {
         let mut text = Vec::new();
         for &number in &self.record {
-            let node = &self.nodes[number];
-            text.extend_from_slice(format!("trace {}.output\n", node.name).as_bytes());
-            for (token, value) in node.recorded.iter().flatten().enumerate() {
-                push_number(&mut text, token as i64);
-                text.push(b' ');
-                push_number(&mut text, if self.ticks { token as i64 } else { 0 });
-                text.extend_from_slice(b".0 ");
-                push_number(&mut text, *value);
-                text.push(b'\n');
-            }
+            push_trace(&mut text, &self.nodes[number], |token| if self.ticks { token as i64 } else { 0 });
         }
         match stuck.map(|number| &self.nodes[number]) {
             None => text.extend_from_slice(b"end iterations\n"),
             Some(node) => text.extend_from_slice(format!("end fault 31 {} {}\n", node.name, node.firings).as_bytes()),
         }
         text
+    }
+}
+
+/// The trace of a node, by the time of each token.
+fn push_trace(text: &mut Vec<u8>, node: &Node, time: impl Fn(usize) -> i64) {
+    text.extend_from_slice(format!("trace {}.output\n", node.name).as_bytes());
+    for (token, value) in node.recorded.iter().flatten().enumerate() {
+        push_number(text, token as i64);
+        text.push(b' ');
+        push_number(text, time(token));
+        text.extend_from_slice(b".0 ");
+        push_number(text, *value);
+        text.push(b'\n');
     }
 }
 
@@ -433,6 +464,17 @@ fn report_events(job: &Json) -> Vec<u8> {
     events.report(&record, end)
 }
 
+/// Runs a model of PN, and gives its report and the exit status.
+fn report_network(job: &Json) -> (Vec<u8>, i32) {
+    let top = job.get("model").expect("a model");
+    let mut nodes: Vec<Node> = top.list("entities").iter().map(node_of).collect();
+    let channels = join(top, &mut nodes);
+    let record = recorded(job, &mut nodes);
+    let mut network = Network::new(top, nodes, &channels);
+    let stuck = network.run();
+    (network.report(&record, stuck), if stuck.is_some() { 3 } else { 0 })
+}
+
 /// Runs a model of SDF or SR, and gives its report and the exit status.
 fn report_iterations(job: &Json) -> (Vec<u8>, i32) {
     let mut model = model_of(job);
@@ -448,8 +490,11 @@ fn main() {
         place: 0,
     }
     .value();
-    let is_timed = director_of(job.get("model").expect("a model")).text("class") == "DE";
-    let (report, status) = if is_timed { (report_events(&job), 0) } else { report_iterations(&job) };
+    let (report, status) = match director_of(job.get("model").expect("a model")).text("class") {
+        "DE" => (report_events(&job), 0),
+        "PN" => report_network(&job),
+        _ => report_iterations(&job),
+    };
     std::io::stdout().lock().write_all(&report).expect("standard output");
     std::process::exit(status);
 }

@@ -1,4 +1,4 @@
-//! KIND SIZE ITERATIONS [WORD]: a model of bench/generate is built and fired, and a checksum of its trace is printed. `ticks` and `ticks_back` are under SR, `clocks`, `server` and `spread` under DE.
+//! KIND SIZE ITERATIONS [WORD]: a model of bench/generate is built and fired, and a checksum of its trace is printed. `ticks` and `ticks_back` are under SR, `clocks`, `server` and `spread` under DE, `network` and those below it under PN.
 //! WORD: `bursts` is the interpreter's order of firings, `turns` one firing after another; else it is pt_sched's. `sizes` prints sizes.
 use crate::balance::repetitions;
 use crate::pt_firing::{Actor, Answer, Counts, Inputs, Need, Ports, Tokens, Values};
@@ -106,10 +106,34 @@ fn document(kind: &str, size: usize) -> (Vec<Entity>, Vec<(usize, Vec<(usize, &'
             e.push(entity("each".into(), "Sampler", &[]));
             groups = vec![(0, vec![(2, "input")]), (2, vec![(3, "input")]), (1, vec![(3, "trigger")])];
         }
-        "sum" => {
+        "sum" | "gathered" => {
             e.push(entity("ramp".into(), "Ramp", &[]));
             e.push(entity("sum".into(), "AddSubtract", &[]));
             groups.push((0, vec![(1, "plus"); size]));
+        }
+        // What `ptrun gen` writes, but for the number of tokens.
+        "network" | "flat" => {
+            e.push(entity("src".into(), "Ramp", &[]));
+            for n in 1..=size {
+                let factor = if n % 3 == 0 { -1 } else { 1 };
+                let class = if kind == "network" && n % 10 == 0 { "Composite" } else { "Scale" };
+                e.push(entity(format!("s{n}"), class, &[("factor", factor)]));
+            }
+            e.push(entity("sink".into(), "Discard", &[]));
+            let (e, groups, last) = row(e);
+            return (e, groups, last - 1);
+        }
+        // One ramp into SIZE scales, all of which go to a sum.
+        "butterfly" => {
+            e.push(entity("src".into(), "Ramp", &[]));
+            for n in 1..=size {
+                e.push(entity(format!("s{n}"), "Scale", &[("factor", 1 + n as i64 % 3)]));
+            }
+            e.push(entity("sum".into(), "AddSubtract", &[]));
+            groups.push((0, (1..=size).map(|k| (k, "input")).collect()));
+            for n in 1..=size {
+                groups.push((n, vec![(size + 1, "plus")]));
+            }
         }
         "stages" => {
             e.push(entity("ramp".into(), "Ramp", &[]));
@@ -326,13 +350,38 @@ fn actor_of(e: &Entity) -> LibraryActor {
     LibraryActor::started(GLOBAL, &params).ok().unwrap().unwrap()
 }
 
+/// An SDF composite of a scale between its input and its output.
+fn scale_within(e: &Entity) -> (Body, Row<Node>) {
+    let scale = entity("k".into(), "Scale", &e.values);
+    let plan = CorePlan {
+        sources: row([Source::Own(0), Source::Output(0, 0)]),
+        places: counts([1]),
+        needs: counts([1]),
+        rates: row([counts([1])]),
+        repetitions: counts([1]),
+        takes: counts([1]),
+        gives: counts([1]),
+        order: row([0]),
+        room: counts([1, 1]),
+    };
+    let core = Core::new(GLOBAL, plan, Channels::new(GLOBAL, 2).ok().unwrap()).ok().unwrap();
+    let mut scale = scale;
+    scale.plus.push(0);
+    (Body::Composite(Either::First(core)), row([node_of(&scale, false)]))
+}
+
 fn node_of(e: &Entity, recorded: bool) -> Node {
-    let start = actor_of(e);
-    let actor = start.copy(GLOBAL).ok().unwrap();
+    let (body, children) = if e.class == "Composite" {
+        scale_within(e)
+    } else {
+        let start = actor_of(e);
+        let actor = start.copy(GLOBAL).ok().unwrap();
+        (Body::Actor(Held { start, actor }), Row::new(GLOBAL))
+    };
     Node {
         past: Past { made: 0, last: None },
-        body: Body::Actor(Held { start, actor }),
-        children: Row::new(GLOBAL),
+        body,
+        children,
         records: Records::of(row(recorded.then(|| Recorded::new(GLOBAL, 0, 0, text("output"))))),
         path: text(&e.name),
         labels: Labels::none(GLOBAL),
@@ -349,9 +398,15 @@ pub fn sizes() {
     );
 }
 
-pub fn build(kind: &str, size: usize, by: &str) -> (Node, usize, usize) {
+pub fn build(kind: &str, size: usize, iterations: u64, by: &str) -> (Node, usize, usize) {
     let (mut entities, groups, last) = document(kind, size);
     let channels = join(&mut entities, &groups);
+    if is_network(kind) {
+        entities[0].values.push(("firingCountLimit", iterations as i64));
+        let children = row(entities.iter().enumerate().map(|(k, e)| node_of(e, k == last)));
+        let core = crate::pt_pn::Core::new(GLOBAL, network_plan(&entities, &channels, children.as_slice())).ok().unwrap();
+        return (top_of(Either::Other(Either::Other(Either::Other(core))), children), 0, last);
+    }
     let (order, room) = match by {
         _ if is_timed(kind) => (vec![], vec![]),
         "bursts" => ordered(&entities, &channels, false),
@@ -408,6 +463,28 @@ fn is_timed(kind: &str) -> bool {
     ["clocks", "server", "spread"].contains(&kind)
 }
 
+/// Whether a model is under PN.
+fn is_network(kind: &str) -> bool {
+    ["network", "flat", "gathered", "butterfly"].contains(&kind)
+}
+
+/// The plan of a PN composite with the capacities that a director has by default.
+fn network_plan(entities: &[Entity], channels: &[(usize, usize)], children: &[Node]) -> crate::pt_process::CorePlan {
+    crate::pt_process::CorePlan {
+        sources: row(channels.iter().map(|(from, _)| Source::Output(*from as u32, 0))),
+        places: counts(entities.iter().map(|e| e.plus.len() + e.minus.len())),
+        takes: counts([]),
+        initial: 1,
+        maximum: 65536,
+        first: row(channels.iter().map(|_| Tokens::new())),
+        starts: row(children.iter().map(|child| match child.need() {
+            Need::Over => None,
+            Need::All(need) => Some(need.copy(GLOBAL).ok().unwrap()),
+            Need::Any => panic!(),
+        })),
+    }
+}
+
 /// The plan of a DE composite, of which no channel is deeper than two children.
 fn timed_plan(entities: &[Entity], channels: &[(usize, usize)], children: &[Node]) -> DePlan {
     let actor = |child: usize| {
@@ -458,6 +535,17 @@ pub fn run(top: &mut Node, iterations: u64) {
     }
 }
 
+/// One firing of the top, and how many firings it was.
+#[inline(never)]
+pub fn fire_once(top: &mut Node) -> u64 {
+    let mut left = u64::MAX;
+    let inputs: Row<Tokens> = Row::new(GLOBAL);
+    match fire_within(GLOBAL, top, Tag { time: 0, step: 0 }, &Inputs::of(&inputs), &mut left) {
+        Answer::Done(_) => u64::MAX - left,
+        _ => panic!("not done"),
+    }
+}
+
 /// What pt_run asks a DE top: the tag of its next firing, up to the stop time.
 fn next_turn(inputs: &[Row<(Tag, Token)>], stop: u64, wake: Option<Tag>, last: Option<Tag>) -> Option<(Tag, Row<Tokens>)> {
     let event = first_event(last, inputs);
@@ -496,8 +584,9 @@ pub extern "C" fn proto_main() {
     let words: Vec<String> = std::env::args().skip(1).collect();
     let (kind, size, iterations) = (&words[0], words[1].parse().unwrap(), words[2].parse().unwrap());
     let by = words.get(3).map_or("", |word| word);
-    let (mut top, firings, last) = build(kind, size, by);
+    let (mut top, firings, last) = build(kind, size, iterations, by);
     let made = match kind.as_str() {
+        _ if is_network(kind) => fire_once(&mut top),
         "clocks" => run_until(&mut top, 2 * iterations - 1),
         "server" => run_until(&mut top, size as u64 * iterations - 1),
         "spread" => run_until(&mut top, iterations - 1),
