@@ -138,3 +138,8 @@ arrivals-all ss c inputs now all h e = sym (append-nil now) ∙ ap (λ v. now ++
     past [] (suc c) h = refl
     past (x ∷ ss) zero h = absurd (omega (arith, h))
     past (x ∷ ss) (suc c) h = past ss c (omega (arith, h))
+
+-- one token on the one port
+pub number-puts : (ss : List Source) (i : ℕ) (x : Token) (now after : List (Put Token)) (cs : List ℕ) → now ≡ [] → cs ≡ channels_from 0 (Output i 0) ss → after ≡ now ++ to_each x cs → after ≡ puts_of ss i 0 ((x ∷ []) ∷ [])
+number-puts ss i x now after cs z e f =
+    f ∙ ap₂ (λ v d. v ++ to_each x d) z e ∙ sym (append-nil (to_each x (channels_from 0 (Output i 0) ss))) ∙ sym (append-nil (to_each x (channels_from 0 (Output i 0) ss) ++ []))

@@ -86,6 +86,9 @@ next-gets p s ns place v h n l u =
 pub next-over : (p : Inside) (s : Standing) → seen_process p ≡ s → p.need ≡ None → s.puts ≡ [] → DoesNext s event.Over
 next-over p s v n u = (u, sym (ap (λ (t : Standing). t.need) v) ∙ ap need_in n)
 
+pub need-is : (p : Inside) (s : Standing) → seen_process p ≡ s → need_in p.need ≡ s.need
+need-is p s v = ap (λ (t : Standing). t.need) v
+
 -- once it has fired
 pub renewed-is : (p : Inside) (s : Standing) (need : Option (List ℕ)) (m : Need) (L : List (Spared Token)) → lists_of L ≡ emptied s.got → need_in need ≡ m → seen_process p ≡ s → (let t : Standing = record { need = need_in need; got = lists_of L; puts = puts_in p.puts.items; handed = false } in t) ≡ renewed m s
 renewed-is p s need m L e n v =

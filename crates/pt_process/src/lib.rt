@@ -4,12 +4,14 @@
 mod copied;
 mod fans;
 mod network;
+mod numbers;
 mod plan;
 mod process;
 mod renew;
 mod staged;
 
 pub use network::Network;
+pub use numbers::stage_number;
 pub use plan::{CorePlan, need_copy};
 pub use process::{Event, Process, StagedPut};
 pub use staged::{promise, stage_inputs, stage_outputs};

@@ -1,4 +1,4 @@
-ghost use Rattle.std.specs.Prelude.{◌≡◌, ℕ, ◌<◌, ◌≤◌, [], length, nat_eq, false, IfOk, OnOk};
+ghost use Rattle.std.specs.Prelude.{◌≡◌, ℕ, ◌<◌, ◌≤◌, [], length, nat_eq, false, true, IfOk, OnOk, Some};
 ghost use Rattle.pt_meaning.specs.Streams.{at};
 ghost use Rattle.pt_firing.specs.Need.{need_of};
 ghost use Rattle.pt_reaction.specs.Channels.{lists_of};
@@ -59,6 +59,43 @@ impl Process {
         ensures renewed { OnOk result (self.new ≡ renewed (need_of need.entry) self.old) }
         ensures kept { OnErr result (self.new ≡ self.old) }
     {
+        if self.needs(need) {
+            return self.need_again(alloc);
+        }
+        self.need_now(alloc, need)
+    }
+
+    /// Whether it has this need already.
+    fn needs(&self, need: Need<'_>) -> bool
+        ensures { result ≡ true → self.now.need ≡ need_of need.entry }
+    {
+        match need {
+            Need::Over => self.need.is_none(),
+            Need::All(counts) => is_kept(&self.need, counts),
+            Need::Any => false,
+        }
+    }
+
+    /// It has used what it gathered, and needs the same again. After an `Err` it is as before.
+    fn need_again(&mut self, alloc: Global) -> Result<(), AllocError>
+        requires handed { self.old.handed ≡ true }
+        requires places { HasPlaces (length self.old.got) self.old.need }
+        ensures renewed { OnOk result (self.new ≡ renewed self.old.need self.old) }
+        ensures kept { OnErr result (self.new ≡ self.old) }
+    {
+        make_rooms(alloc, &mut self.lines, &self.need)?;
+        self.full = 0;
+        self.is_handed = false;
+        Ok(())
+    }
+
+    /// It has used what it gathered, and has another need. After an `Err` it is as before.
+    fn need_now(&mut self, alloc: Global, need: Need<'_>) -> Result<(), AllocError>
+        requires handed { self.old.handed ≡ true }
+        requires places { HasPlaces (length self.old.got) (need_of need) }
+        ensures renewed { OnOk result (self.new ≡ renewed (need_of need.entry) self.old) }
+        ensures kept { OnErr result (self.new ≡ self.old) }
+    {
         let need = kept_need(alloc, need)?;
         make_rooms(alloc, &mut self.lines, &need)?;
         self.need = need;
@@ -72,6 +109,16 @@ impl Process {
         ensures { self.new ≡ with_puts (puts_in puts.old.items) self.old }
     {
         mem::swap(&mut self.puts, puts);
+    }
+}
+
+/// Whether these counts are kept.
+fn is_kept(kept: &Option<Counts>, counts: &Counts) -> bool
+    ensures { result ≡ true → kept.now ≡ Some counts.now }
+{
+    match kept {
+        Some(kept) => kept.as_slice() == counts.as_slice(),
+        None => false,
     }
 }
 

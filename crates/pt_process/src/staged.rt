@@ -103,7 +103,7 @@ fn stage_port(
 }
 
 /// A copy of a token to each of the channels.
-fn stage_token(
+pub(crate) fn stage_token(
     alloc: Global,
     staged: &mut VecDeque<StagedPut>,
     token: &Token,

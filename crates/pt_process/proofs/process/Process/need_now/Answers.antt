@@ -4,7 +4,7 @@ use Rattle.pt_pn_laws.specs.Lawful.{HasPlaces}
 use Rattle.pt_process.specs.Process.{need_in}
 use Rattle.pt_process.proofs.RoomLaws.{rooms-gather, rooms-emptied, places-kept}
 use Rattle.pt_process.proofs.StepLaws.{renewed-is, got-long}
-use Rattle.pt_process.proofs.process.Process.renew.Goals as goal
+use Rattle.pt_process.proofs.process.Process.need_now.Goals as goal
 
 pub kept_need-requires : goal.kept_need-requires
 kept_need-requires c = places-kept (length c.args.self.now.got) (need_of c.args.need) c.requires.places
