@@ -3,6 +3,9 @@
 
 mod driven;
 mod fresh;
+mod growth;
+mod looks;
+mod numbers;
 mod outlets;
 mod pn;
 mod processes;

@@ -10,10 +10,12 @@ const NOBODY: u32 = u32::MAX;
 /// No contract speaks of it. Whoever takes a process from it looks at the process, and looks at all where it is empty.
 #[derive(Drop)]
 pub(crate) struct Worklist {
-    /// The processes that stand in it, the last of which is taken first.
+    /// The process that is taken next, if one is: it made the last event.
+    next: u32,
+    /// The others, of which the last is taken first.
     woken: Vec<u32>,
-    /// Whether each process stands in it.
-    listed: Vec<bool>,
+    /// On which channels a process waits, for a token or for room.
+    waited: Vec<bool>,
     /// How many processes there are.
     processes: u32,
     /// The process that puts on each channel, if one does.
@@ -27,8 +29,9 @@ impl Worklist {
     pub(crate) fn new(alloc: Global, network: &Network) -> Result<Worklist, AllocError> {
         let processes = network.processes();
         let mut worklist = Worklist {
+            next: NOBODY,
             woken: Vec::with_capacity(alloc, processes)?,
-            listed: vec![in alloc; false; processes]?,
+            waited: vec![in alloc; false; network.channels()]?,
             processes: processes as u32,
             writers: writers_of(alloc, network)?,
             readers: readers_of(alloc, network)?,
@@ -37,70 +40,107 @@ impl Worklist {
         Ok(worklist)
     }
 
-    /// Each process stands in it.
+    /// Each process stands in it, and waits for nothing.
     pub(crate) fn restart(&mut self) {
+        self.next = NOBODY;
+        self.woken.clear();
         for process in 0..self.processes {
-            self.note(process);
+            self.wake(process);
+        }
+        for waited in &mut self.waited {
+            *waited = false;
         }
     }
 
     /// At most so many processes stand in it.
     pub(crate) fn len(&self) -> usize {
-        self.woken.len()
+        if self.next == NOBODY {
+            return self.woken.len();
+        }
+        self.woken.len().saturating_add(1)
     }
 
     /// Takes a process out of it.
     pub(crate) fn take(&mut self) -> Option<u32> {
-        let process = self.woken.pop()?;
-        if let Some(listed) = self.listed.get_mut(process as usize) {
-            *listed = false;
+        let next = self.next;
+        if next == NOBODY {
+            return self.woken.pop();
         }
-        Some(process)
+        self.next = NOBODY;
+        Some(next)
+    }
+
+    /// A process has made an event, or has fired: it may go on.
+    pub(crate) fn note(&mut self, process: u32) {
+        if self.next != NOBODY {
+            self.wake(self.next);
+        }
+        self.next = process;
     }
 
     /// A process stands in it.
-    pub(crate) fn note(&mut self, process: u32) {
-        if let Some(listed) = self.listed.get_mut(process as usize)
-            && !*listed
-            && self.woken.len() < self.woken.capacity()
-        {
-            *listed = true;
+    fn wake(&mut self, process: u32) {
+        if self.woken.len() < self.woken.capacity() {
             self.woken.push_reserved(process);
         }
     }
 
-    /// A process has put on a channel: it may go on, and so may the one that gets from there.
+    /// A process waits for a token on a channel, or for room.
+    pub(crate) fn note_wait(&mut self, channel: u32) {
+        if let Some(waited) = self.waited.get_mut(channel as usize) {
+            *waited = true;
+        }
+    }
+
+    /// Whether a process waited on a channel, which it does no more.
+    fn ends_wait(&mut self, channel: u32) -> bool {
+        match self.waited.get_mut(channel as usize) {
+            Some(waited) => {
+                let was = *waited;
+                *waited = false;
+                was
+            }
+            None => false,
+        }
+    }
+
+    /// A process has put on a channel: it may go on, and so may the one that waits for a token there.
     pub(crate) fn note_put(&mut self, process: u32, channel: u32) {
-        if let Some(reader) = self.readers.get(channel as usize) {
+        if self.ends_wait(channel)
+            && let Some(reader) = self.readers.get(channel as usize)
+        {
             let reader = *reader;
-            self.note(reader);
+            self.wake(reader);
         }
         self.note(process);
     }
 
-    /// A process has got from a channel: it may go on, and so may the one that puts there.
+    /// A process has got from a channel: it may go on, and so may the one that waits for room there.
     pub(crate) fn note_get(&mut self, process: u32, channel: u32) {
         self.note_room(channel);
         self.note(process);
     }
 
-    /// A channel has more room: the process that puts there may go on.
+    /// A channel has more room: the process that waits for it may go on.
     pub(crate) fn note_room(&mut self, channel: u32) {
-        if let Some(writer) = self.writers.get(channel as usize) {
+        if self.ends_wait(channel)
+            && let Some(writer) = self.writers.get(channel as usize)
+        {
             let writer = *writer;
-            self.note(writer);
+            self.wake(writer);
         }
     }
 
     /// The same again.
     pub(crate) fn copy(&self, alloc: Global) -> Result<Worklist, AllocError> {
-        let mut woken = Vec::with_capacity(alloc, self.listed.len())?;
+        let mut woken = Vec::with_capacity(alloc, self.processes as usize)?;
         for process in &self.woken {
             woken.push(*process)?;
         }
         Ok(Worklist {
+            next: self.next,
             woken,
-            listed: Vec::from_slice(alloc, &self.listed)?,
+            waited: Vec::from_slice(alloc, &self.waited)?,
             processes: self.processes,
             writers: Vec::from_slice(alloc, &self.writers)?,
             readers: Vec::from_slice(alloc, &self.readers)?,

@@ -1,4 +1,4 @@
-use Rattle.std.proofs.Common.{◌+◌, ap, refl, arith}
+use Rattle.std.proofs.Common.{◌+◌, ap, arith}
 use Rattle.pt_pn.proofs.StepLaws.{in-net, place-channel, place-few, empty-stops, some-gets}
 use Rattle.pt_pn.proofs.pn.Core.look_at_get.Goals as goal
 
@@ -15,7 +15,7 @@ pub len-requires : goal.len-requires
 len-requires c = let h = place-channel c.self.inside c.self.invariant c.args.self.now c.self.view_is c.args.process c.args.place c.requires.there c.requires.lacks in omega (arith, h, c.offset.ensures)
 
 pub returns-then-len-eq0 : goal.returns-then-len-eq0
-returns-then-len-eq0 c = (empty-stops c.self.inside c.self.invariant c.args.self.now c.self.view_is c.args.process c.args.place (c.offset.result + c.args.place) c.len.result c.requires.lacks (ap (λ o. o + c.args.place) c.offset.ensures) c.len.ensures c.if-len-eq0.true, refl)
+returns-then-len-eq0 c = (empty-stops c.self.inside c.self.invariant c.args.self.now c.self.view_is c.args.process c.args.place (c.offset.result + c.args.place) c.len.result c.requires.lacks (ap (λ o. o + c.args.place) c.offset.ensures) c.len.ensures c.if-len-eq0.true, c.self.view_is)
 
 pub get-requires-clause-may : goal.get-requires-clause-may
 get-requires-clause-may c =

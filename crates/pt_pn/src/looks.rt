@@ -1,0 +1,155 @@
+use crate::outlets::next_token;
+use crate::pn::{Core, Stage};
+use crate::processes::{get_at, hand_at, next_of, take_put};
+use crate::puts::put_promised;
+use pt_firing::Ask;
+use pt_process::Event;
+
+/// What comes of a look at a process, and at one after another.
+impl Core {
+    ghost use Rattle.std.specs.Prelude.{◌≡◌, ◌+◌, ◌<◌, length, IfSome};
+    ghost use Rattle.pt_pn_laws.specs.State.{Open, MayPut, MayFire, offset_of, has_room};
+    ghost use Rattle.pt_pn_work.specs.Core.{PutsOn, LacksAt, GetsAt};
+    ghost use Rattle.pt_pn.specs.Core.{Comes, MayCome, Looks};
+
+    /// What comes of a process in the worklist, or else of any. All processes are looked at only where the worklist is empty.
+    pub(crate) fn next(&mut self) -> Ask
+        requires { self.old.stage ≡ Open }
+        ensures { Comes self.old result self.new }
+    {
+        for _ in 0..self.worklist.len() {
+            match self.look_at_next() {
+                Some(ask) => return ask,
+                None => {}
+            }
+        }
+        self.look_at_all()
+    }
+
+    /// What comes of the next process in the worklist, if anything does.
+    fn look_at_next(&mut self) -> Option<Ask>
+        requires { self.old.stage ≡ Open }
+        ensures { MayCome self.old result self.new }
+    {
+        match self.taken() {
+            Some(process) => self.look(process),
+            None => None,
+        }
+    }
+
+    /// Takes a process out of the worklist.
+    fn taken(&mut self) -> Option<u32>
+        ensures same { self.new ≡ self.old }
+        ensures there { IfSome result (λ process. process < length self.old.network.plan.net.places) }
+    {
+        let process = self.worklist.take()?;
+        if (process as usize) < self.network.processes() {
+            return Some(process);
+        }
+        None
+    }
+
+    /// What comes of a look at each process.
+    fn look_at_all(&mut self) -> Ask
+        requires { self.old.stage ≡ Open }
+        ensures { Comes self.old result self.new }
+    {
+        for process in 0..self.network.processes() {
+            match self.look(process as u32) {
+                Some(ask) => return ask,
+                None => {}
+            }
+        }
+        self.stopped()
+    }
+
+    /// What comes of a look at a process: it makes its next event, or is stopped.
+    fn look(&mut self, process: u32) -> Option<Ask>
+        requires there { process < length self.old.network.plan.net.places }
+        requires running { self.old.stage ≡ Open }
+        ensures { Looks self.old process result self.new }
+    {
+        match next_of(&mut self.processes, process as usize) {
+            Event::Put(channel) => self.look_at_put(process, channel),
+            Event::Get(place) => self.look_at_get(process, place),
+            Event::Fire => Some(self.fire(process)),
+            Event::Over => None,
+        }
+    }
+
+    /// The same where its next event is a put.
+    fn look_at_put(&mut self, process: u32, channel: u32) -> Option<Ask>
+        requires there { process < length self.old.network.plan.net.places }
+        requires running { self.old.stage ≡ Open }
+        requires puts { PutsOn self.old process channel }
+        ensures { Looks self.old process result self.new }
+    {
+        if !self.has_room(process, channel) {
+            self.worklist.note_wait(channel);
+            return None;
+        }
+        Some(self.put(process))
+    }
+
+    /// Whether a put on a channel may be made, which is the next one of a process.
+    fn has_room(&self, process: u32, channel: u32) -> bool
+        requires { PutsOn self.now process channel }
+        ensures { result ≡ has_room self.now channel }
+    {
+        if channel as usize >= self.network.inner() {
+            return true;
+        }
+        self.queues.len(channel) < self.capacity[channel as usize]
+    }
+
+    /// A process makes its next put.
+    fn put(&mut self, process: u32) -> Ask
+        requires running { self.old.stage ≡ Open }
+        requires may { MayPut self.old process }
+        ensures { Comes self.old result self.new }
+    {
+        let put = take_put(&mut self.processes, process as usize);
+        self.worklist.note_put(process, put.channel);
+        put_promised(&mut self.queues, &mut self.promised, put);
+        Ask::Put(process)
+    }
+
+    /// What comes of a look at a process whose next event is a get.
+    fn look_at_get(&mut self, process: u32, place: usize) -> Option<Ask>
+        requires there { process < length self.old.network.plan.net.places }
+        requires running { self.old.stage ≡ Open }
+        requires lacks { LacksAt self.old process place }
+        ensures { Looks self.old process result self.new }
+    {
+        let channel = (self.network.offset(process as usize) + place) as u32;
+        if self.queues.len(channel) == 0 {
+            self.worklist.note_wait(channel);
+            return None;
+        }
+        Some(self.get(process, place, channel))
+    }
+
+    /// A process takes a token at a place, from the channel that ends there.
+    fn get(&mut self, process: u32, place: usize, channel: u32) -> Ask
+        requires running { self.old.stage ≡ Open }
+        requires may { GetsAt self.old process place }
+        requires channel { channel ≡ offset_of self.old.network.plan.net.places process + place }
+        ensures { Comes self.old result self.new }
+    {
+        let token = next_token(&mut self.queues, channel);
+        get_at(&mut self.processes, process as usize, place, token);
+        self.worklist.note_get(process, channel);
+        Ask::Get(process)
+    }
+
+    /// A process hands over what it has gathered, and is asked to fire.
+    fn fire(&mut self, process: u32) -> Ask
+        requires running { self.old.stage ≡ Open }
+        requires may { MayFire self.old process }
+        ensures { Comes self.old result self.new }
+    {
+        hand_at(&mut self.processes, process as usize);
+        self.stage = Stage::Asked(process);
+        Ask::Fire(process, self.tag)
+    }
+}
