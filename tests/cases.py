@@ -9,6 +9,8 @@ from collections import Counter
 from dataclasses import dataclass, field
 from pathlib import Path
 
+import made as makers
+
 TESTS = Path(__file__).resolve().parent
 ROOT = TESTS.parent
 EXAMPLES = ROOT / "examples"
@@ -21,7 +23,7 @@ ROW_FILES = {
 TABLE_FIELDS = {"about", "needs", "until", "args", "status", "schema", "bases", "cases"}
 CASE_FIELDS = {
     "name", "about", "needs", "until", "args", "status", "schema", "stdout", "either",
-    "document", "text", "hex", "base", "set", "drop",
+    "document", "text", "hex", "base", "set", "drop", "made",
 }
 
 
@@ -51,6 +53,7 @@ class Case:
     until: set[str] = field(default_factory=set)
     document: bytes = b""
     maker: Path | None = None
+    made: tuple | None = None
     before: list[list[str]] = field(default_factory=list)
     directory: bool = False
     sink: str | None = None
@@ -58,6 +61,10 @@ class Case:
 
     def given(self) -> bytes:
         """What stands on standard input."""
+        if self.made is not None:
+            name, *arguments = self.made
+            document = getattr(makers, name)(*arguments)
+            return (document if isinstance(document, str) else json.dumps(document)).encode()
         if self.maker is None:
             return self.document
         made = subprocess.run(
@@ -176,9 +183,11 @@ def drop_part(document, pointer: str):
 
 
 def case_document(table: dict, case: dict) -> bytes:
-    given = [key for key in ("document", "text", "hex", "base") if key in case]
+    given = [key for key in ("document", "text", "hex", "base", "made") if key in case]
     if len(given) != 1:
-        raise BadCase(f"{case['name']}: one of document, text, hex and base")
+        raise BadCase(f"{case['name']}: one of document, text, hex, base and made")
+    if "made" in case:
+        return b""
     if "text" in case:
         return case["text"].encode()
     if "hex" in case:
@@ -197,6 +206,8 @@ def table_case(path: Path, table: dict, case: dict) -> Case:
         raise BadCase(f"{path.name} {case.get('name')}: a field is missing or unknown {sorted(unknown)}")
     status = case.get("status", table.get("status", 0))
     outputs = case["either"] if "either" in case else [case["stdout"]]
+    # A long document is made only where the case is run, and the schema isn't asked of it.
+    told = case.get("schema", table.get("schema", "any" if "made" in case else None))
     return Case(
         name=f"{path.stem}/{case['name']}",
         about=case["about"],
@@ -206,7 +217,8 @@ def table_case(path: Path, table: dict, case: dict) -> Case:
         needs=set(table.get("needs", [])) | set(case.get("needs", [])),
         until=set(table.get("until", [])) | set(case.get("until", [])),
         document=case_document(table, case),
-        schema=schema_answer(case.get("schema", table.get("schema")), status),
+        made=tuple(case["made"]) if "made" in case else None,
+        schema=schema_answer(told, status),
     )
 
 

@@ -12,8 +12,8 @@ __all__ = ["Case", "EXAMPLES", "ROOT", "cases_of_runs", "case", "spread"]
 
 @lru_cache(maxsize=None)
 def cases_of_runs() -> list[Case]:
-    """The cases of tests/tables in which one document is run."""
-    return [case for case in table_cases() if case.words[:1] == ["run"] and case.outputs[0] != b"refused words\n"]
+    """The cases of tests/tables in which one document is run, but for the long ones that are made."""
+    return [case for case in table_cases() if case.words[:1] == ["run"] and not case.made and case.outputs[0] != b"refused words\n"]
 
 
 def case(name: str) -> Case:

@@ -1,0 +1,6 @@
+import json
+import sys
+
+from made import jams
+
+json.dump(jams(3000), sys.stdout)
