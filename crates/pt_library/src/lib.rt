@@ -1,6 +1,7 @@
 //! The library actors: those of each library, in one enum.
 #![tactic(auto)]
 
+mod integers;
 mod laws;
 mod library_actor;
 

@@ -2,9 +2,11 @@ ghost use Rattle.std.specs.Prelude.{◌≡◌, IfOk, IfSome, option_map};
 ghost use Rattle.pt_lib_flow.specs.FlowActor as flow_actor;
 ghost use Rattle.pt_flow_base.specs.Rates.{IsCount};
 ghost use Rattle.pt_flow_base.specs.Number.{GivesNumber, GivesNumbers};
+ghost use Rattle.pt_lib_timed.specs.Signal.{GivesSignal, TellsSignal};
 ghost use Rattle.pt_library.specs.LibraryActor as library;
 ghost use Rattle.pt_library.specs.Laws.{IsRatedActor};
 
+use crate::integers::int_inputs;
 use pt_firing::{Actor, Counts, Fires, Inputs, IntInputs, Need, Partial, Step};
 use pt_flow_base::Params;
 use pt_lib_data::DataActor;
@@ -147,6 +149,38 @@ impl LibraryActor {
         match self {
             LibraryActor::Flow(actor) => actor.number(inputs),
             LibraryActor::Data(_) | LibraryActor::Time(_) | LibraryActor::Timed(_) => None,
+        }
+    }
+
+    /// Makes a firing that gives one integer at most on its one port. Where it makes none, `step` makes the firing. `row` is a buffer.
+    #[inline(always)]
+    pub fn signal(
+        &mut self,
+        tag: Tag,
+        inputs: &Inputs<'_>,
+        row: &mut Vec<i64>,
+    ) -> Option<Option<i64>>
+        ensures { GivesSignal library.step self.old tag inputs.now result self.new }
+    {
+        match self {
+            LibraryActor::Flow(actor) => {
+                let inputs = int_inputs(inputs, row)?;
+                let number = actor.number(&inputs)?;
+                Some(Some(number))
+            }
+            LibraryActor::Timed(actor) => actor.signal(tag, inputs),
+            LibraryActor::Data(_) | LibraryActor::Time(_) => None,
+        }
+    }
+
+    /// What it gives early at a tag, whatever is known of its inputs, where that is one integer at most on its one port.
+    #[inline(always)]
+    pub fn early_signal(&self, tag: Tag) -> Option<Option<i64>>
+        ensures { TellsSignal library.early self.now tag result }
+    {
+        match self {
+            LibraryActor::Timed(actor) => actor.early_signal(tag),
+            LibraryActor::Flow(_) | LibraryActor::Data(_) | LibraryActor::Time(_) => None,
         }
     }
 
