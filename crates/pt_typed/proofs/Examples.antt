@@ -53,8 +53,8 @@ plan = record { net = record { sources = Output 0 0 ∷ []; places = 0 ∷ 1 ∷
 -- the composite is typed
 composite_is_typed : IsTypedNode IsTokenOf IsBelow IsTypedActor (types Int) (tree.composite (tree.Sdf plan ([] ∷ [])) (tree.actor ramp ∷ tree.actor scale ∷ []))
 composite_is_typed = within
-  (record { typed_net = record { places_counted = refl; sized = (refl, (refl, tt)); fed = (refl, tt) }; repetitions_counted = refl; rates_counted = refl; gives_counted = refl; room = omega arith; held = (tt, tt) })
-  (twice (rows-type (types Int (0 ∷ [])) ramp ramp_meets), (twice (rows-type (types Int (1 ∷ [])) scale scale_meets), tt))
+    (record { typed_net = record { places_counted = refl; sized = (refl, (refl, tt)); fed = (refl, tt) }; repetitions_counted = refl; rates_counted = refl; gives_counted = refl; room = omega arith; held = (tt, tt) })
+    (twice (rows-type (types Int (0 ∷ [])) ramp ramp_meets), (twice (rows-type (types Int (1 ∷ [])) scale scale_meets), tt))
 
 -- so it is of SR, whose channels keep nothing
 abbrev ticks : TickPlan
@@ -62,8 +62,8 @@ ticks = record { net = plan.net; inputs = 0 }
 
 tick_is_typed : IsTypedNode IsTokenOf IsBelow IsTypedActor (types Int) (tree.composite (tree.Sr ticks) (tree.actor ramp ∷ tree.actor scale ∷ []))
 tick_is_typed = within
-  (record { places_counted = refl; sized = (refl, (refl, tt)); fed = (refl, tt) })
-  (twice (rows-type (types Int (0 ∷ [])) ramp ramp_meets), (twice (rows-type (types Int (1 ∷ [])) scale scale_meets), tt))
+    (record { places_counted = refl; sized = (refl, (refl, tt)); fed = (refl, tt) })
+    (twice (rows-type (types Int (0 ∷ [])) ramp ramp_meets), (twice (rows-type (types Int (1 ∷ [])) scale scale_meets), tt))
 
 -- a ramp within a composite of its own, whose output feeds the scale: that composite is of SR in one of SDF, and of SDF in one of SR
 abbrev nested : Signatures Datatype
@@ -76,18 +76,17 @@ inner = record { net = record { sources = Output 0 0 ∷ []; places = 0 ∷ [] }
 
 ticks_in_iterations : IsTypedNode IsTokenOf IsBelow IsTypedActor nested (tree.composite (tree.Sdf plan ([] ∷ [])) (tree.composite (tree.Sr (record { net = inner.net; inputs = 0 })) (tree.actor ramp ∷ []) ∷ tree.actor scale ∷ []))
 ticks_in_iterations = within
-  (record { typed_net = record { places_counted = refl; sized = (refl, (refl, tt)); fed = (refl, tt) }; repetitions_counted = refl; rates_counted = refl; gives_counted = refl; room = omega arith; held = (tt, tt) })
-  (within (record { places_counted = refl; sized = (refl, tt); fed = (refl, tt) }) (twice (rows-type (types Int (0 ∷ [])) ramp ramp_meets), tt), (twice (rows-type (types Int (1 ∷ [])) scale scale_meets), tt))
+    (record { typed_net = record { places_counted = refl; sized = (refl, (refl, tt)); fed = (refl, tt) }; repetitions_counted = refl; rates_counted = refl; gives_counted = refl; room = omega arith; held = (tt, tt) })
+    (within (record { places_counted = refl; sized = (refl, tt); fed = (refl, tt) }) (twice (rows-type (types Int (0 ∷ [])) ramp ramp_meets), tt), (twice (rows-type (types Int (1 ∷ [])) scale scale_meets), tt))
 
 iterations_in_ticks : IsTypedNode IsTokenOf IsBelow IsTypedActor nested (tree.composite (tree.Sr ticks) (tree.composite (tree.Sdf inner ([] ∷ [])) (tree.actor ramp ∷ []) ∷ tree.actor scale ∷ []))
 iterations_in_ticks = within
-  (record { places_counted = refl; sized = (refl, (refl, tt)); fed = (refl, tt) })
-  (
-    within
-    (record { typed_net = record { places_counted = refl; sized = (refl, tt); fed = (refl, tt) }; repetitions_counted = refl; rates_counted = refl; gives_counted = refl; room = omega arith; held = (tt, tt) })
-    (twice (rows-type (types Int (0 ∷ [])) ramp ramp_meets), tt),
-    (twice (rows-type (types Int (1 ∷ [])) scale scale_meets), tt),
-  )
+    (record { places_counted = refl; sized = (refl, (refl, tt)); fed = (refl, tt) }) (
+      within
+          (record { typed_net = record { places_counted = refl; sized = (refl, tt); fed = (refl, tt) }; repetitions_counted = refl; rates_counted = refl; gives_counted = refl; room = omega arith; held = (tt, tt) })
+          (twice (rows-type (types Int (0 ∷ [])) ramp ramp_meets), tt),
+      (twice (rows-type (types Int (1 ∷ [])) scale scale_meets), tt),
+    )
 
 -- with an input of truth values that feeds nothing, whose tokens are kept
 abbrev gated : Signatures Datatype
@@ -99,8 +98,8 @@ gated_plan = record { net = record { sources = Output 0 0 ∷ Own 0 ∷ []; plac
 
 gated_is_typed : IsTypedNode IsTokenOf IsBelow IsTypedActor gated (tree.composite (tree.Sdf gated_plan ([] ∷ (token.Bool true ∷ []) ∷ [])) (tree.actor ramp ∷ tree.actor scale ∷ []))
 gated_is_typed = within
-  (record { typed_net = record { places_counted = refl; sized = (refl, (refl, tt)); fed = (refl, (refl, tt)) }; repetitions_counted = refl; rates_counted = refl; gives_counted = refl; room = omega arith; held = (tt, ((refl, tt), tt)) })
-  (twice (rows-type (types Int (0 ∷ [])) ramp ramp_meets), (twice (rows-type (types Int (1 ∷ [])) scale scale_meets), tt))
+    (record { typed_net = record { places_counted = refl; sized = (refl, (refl, tt)); fed = (refl, (refl, tt)) }; repetitions_counted = refl; rates_counted = refl; gives_counted = refl; room = omega arith; held = (tt, ((refl, tt), tt)) })
+    (twice (rows-type (types Int (0 ∷ [])) ramp ramp_meets), (twice (rows-type (types Int (1 ∷ [])) scale scale_meets), tt))
 
 -- a number that is kept there breaks it
 kept_breaks : AreOf IsTokenOf (kinds_in gated gated_plan) ([] ∷ (token.Int (pos 1) ∷ []) ∷ []) → false ≡ true
