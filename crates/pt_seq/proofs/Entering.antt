@@ -26,12 +26,13 @@ use Rattle.pt_node.specs.declared.body.Held.{Held}
 use Rattle.pt_node.specs.Acts.{acts}
 use Rattle.pt_node.specs.Recorded.{trace_of}
 use Rattle.pt_node.specs.Shown.{Shown, AllShown, Branch, Frame, shown, shown_node, level, all_of}
-use Rattle.pt_node.specs.View.{Tree, heading_of, kepts_of, Outline, Named, outline_of, outlines_of, count_of}
+use Rattle.pt_node.specs.View.{Tree, heading_of, kept_of, kepts_of, Outline, Named, outline_of, outlines_of, count_of}
 use Rattle.pt_node.specs.Live.{IsFit, AllFit}
 use Rattle.pt_node.specs.Stuck.{fault_of}
 use Rattle.pt_seq.specs.declared.fire.Within.{Within}
 use Rattle.pt_seq.specs.declared.fire.Within.TheVariants.{Done, Fault, Spent, Full, Memory}
 use Rattle.pt_seq.specs.Within.{WithinTo, StaysFit, ActorTo, Gave, SeveralTo}
+use Rattle.pt_seq.specs.Signals.{GaveAt}
 use Rattle.pt_seq.specs.Composite.{CompositeTo, KeepsFit}
 use Rattle.pt_seq.proofs.Recording.{made-children, off-none}
 
@@ -140,22 +141,34 @@ module _ (n n' : Node) (r r' : opens.Node-F Node) (d d' : Director) (ks' : AllSh
   unfolding frame-in
   composite-stays fit = subst (λ s. StaysFit w s) (sym new-composite) (composite-fit (frame-in r) d' ks' w fit)
 
--- a firing of a node that gave these outputs
+-- a firing of a node at a tag that gave these outputs
+module _ (n n' : Node) (r r' : opens.Node-F Node) (held held' : Held) (e : roll-Node r ≡ n) (e' : roll-Node r' ≡ n') (is : r.body ≡ body.Actor held) (tag : Tag) (X out : Streams Token) (gives : library.step tag held.actor X ≡ tree.Gives held'.actor out) (start : held'.start ≡ held.start)
+    (now : level r' ≡ Branch (record { past = r.past; body = body.Actor held'; records = r.records; path = r.path; labels = r.labels; live = false }) (all_of (map shown r.children.items))) where
+  was-shown : shown_node n ≡ with-body r (body.Actor held)
+  was-shown = old-is n r (body.Actor held) e is
+
+  is-shown : shown_node n' ≡ Branch (record { past = r.past; body = body.Actor held'; records = r.records; path = r.path; labels = r.labels; live = false }) (all_of (map shown r.children.items))
+  is-shown = ap (λ m. shown_node m) (sym e') ∙ ap (λ x. level x) (out-roll-Node r') ∙ now
+
+  pub gave-at : IsFit (shown_node n) → GaveAt tag (shown_node n) X out (shown_node n')
+  gave-at fit = record {
+    goes = actor-enters n n' r r' held held' e e' is tag X (Done out) (gives, start) now;
+    fit = actor-stays n n' r r' held held' e e' is tag X (Done out) (gives, start) now fit;
+    keeps = record {
+      kept = ap (λ s. kept_of s) is-shown ∙ sym (ap (λ s. kept_of s) was-shown);
+      outline = ap (λ s. outline_of s) is-shown ∙ sym (ap (λ s. outline_of s) was-shown);
+      count = ap (λ s. count_of s) is-shown ∙ sym (ap (λ s. count_of s) was-shown);
+    };
+  }
+
+-- a firing of a node, whatever its tag, that gave these outputs
 module _ (n n' : Node) (r r' : opens.Node-F Node) (held held' : Held) (e : roll-Node r ≡ n) (e' : roll-Node r' ≡ n') (is : r.body ≡ body.Actor held) (X out : Streams Token) (gives : (tag : Tag) → library.step tag held.actor X ≡ tree.Gives held'.actor out) (start : held'.start ≡ held.start)
     (now : level r' ≡ Branch (record { past = r.past; body = body.Actor held'; records = r.records; path = r.path; labels = r.labels; live = false }) (all_of (map shown r.children.items))) where
-  old-shown : shown_node n ≡ with-body r (body.Actor held)
-  old-shown = old-is n r (body.Actor held) e is
-
-  new-shown : shown_node n' ≡ Branch (record { past = r.past; body = body.Actor held'; records = r.records; path = r.path; labels = r.labels; live = false }) (all_of (map shown r.children.items))
-  new-shown = ap (λ m. shown_node m) (sym e') ∙ ap (λ x. level x) (out-roll-Node r') ∙ now
-
   pub gave-out : IsFit (shown_node n) → Gave (shown_node n) X out (shown_node n')
-  gave-out fit = record {
-    goes = λ tag. actor-enters n n' r r' held held' e e' is tag X (Done out) (gives tag, start) now;
-    fit = let tag : Tag = record { time = 0; step = 0 } in actor-stays n n' r r' held held' e e' is tag X (Done out) (gives tag, start) now fit;
-    outline = ap (λ s. outline_of s) new-shown ∙ sym (ap (λ s. outline_of s) old-shown);
-    count = ap (λ s. count_of s) new-shown ∙ sym (ap (λ s. count_of s) old-shown);
-  }
+  gave-out fit =
+      let some : Tag = record { time = 0; step = 0 } in
+      let once = λ (tag : Tag). gave-at n n' r r' held held' e e' is tag X out (gives tag) start now fit in
+      record { goes = λ tag. (once tag).goes; fit = (once some).fit; outline = (once some).keeps.outline; count = (once some).keeps.count }
 
 -- a node whose fields were written, and which then isn't live
 abbrev pub not-live : opens.Node-F Node → opens.Node-F Node

@@ -11,3 +11,4 @@ pub mod Firing
 pub mod Loop
 pub mod NumberRows
 pub mod Quickly
+pub mod Signalling

@@ -32,7 +32,7 @@ use Rattle.pt_seq.specs.Within.{IsLeftOff, Given}
 use Rattle.pt_seq.specs.Composite.{composite, CompositeTo}
 use Rattle.pt_seq.specs.Turns.{ChildFired, TurnTo, TurnFrom, MayFire}
 use Rattle.pt_seq.specs.Between.{At, Between, InTurn, Halts}
-use Rattle.pt_seq.proofs.Children.{get-or, get-map, map-set, set-again, get-again, set-same, get-some, fit-get, depth-get}
+use Rattle.pt_seq.proofs.Children.{get-or, get-map, map-set, set-again, get-again, set-same, get-some, fit-get, depth-get, kepts-same, outlines-set, counts-same}
 use Rattle.pt_seq.proofs.Turning.{turn-told}
 use Rattle.pt_seq.proofs.Taking.{lent-takes}
 use Rattle.pt_seq.proofs.Firing.{LeftOffAt, fire-asked, fire-in, fire-lent, at-fired, outlines-after, counted-after, off-within, fault-within, early-asked, early-in, early-learns, at-heard, reset-in, reset-rests, at-reset, reset-halts, asked-maximum, is-usual, off-here, full-within}
@@ -153,6 +153,22 @@ module _ {D : Type 0} (a : Acts rows D) (law : Lawful a) where
                 gave = g;
                 some = p;
               }))
+
+          -- or memory was wanting for what is recorded of it
+          pub halts-in : (s' : D) (left' : ℕ) → s' ≡ s → left' ≡ left → KeepsRecords (shown_node d) (shown_node n) → Halts a before olds tag X allowance s' (map shown (set kids i n)) left'
+          halts-in s' left' e l k =
+              subst (λ v. Halts a before olds tag X allowance v (map shown (set kids i n)) left') (sym e)
+              (subst (λ v. Halts a before olds tag X allowance s (map shown (set kids i n)) v) (sym l)
+              (subst (λ ss. Halts a before olds tag X allowance s ss left) (set-is kids i n)
+              (record {
+                state = b.state;
+                kids = map shown kids;
+                at = b.at;
+                kept = kepts-same (map shown kids) i (shown_node d) (shown_node n) there k.kept;
+                outlines = outlines-set (map shown kids) i (shown_node d) (shown_node n) there k.outline;
+                counts = counts-same (map shown kids) i (shown_node d) (shown_node n) there k.count;
+                maximum = between-maximum b;
+              })))
 
     -- it is its turn, and nothing was given
     pub turn-of : {s : D} {now : List Shown} {left i : ℕ} {when : Tag} → Between a before olds tag X allowance (ask.Fire i when) s now left → 0 < left → InTurn a before olds tag X allowance i when None s now left

@@ -98,7 +98,8 @@ abbrev pub Heeded : Director → List Shown → Tag → Streams Token → (allow
 Heeded before olds tag X allowance state None s now left = At acts before olds tag X allowance s now left × (director_calls.waits s < director_calls.waits state)
 Heeded before olds tag X allowance state (Some pause) s now left = Paused before olds tag X allowance pause s now left
 
--- so it is after a row of firings of numbers alone: it is the turn of a child, or the director has this answer
+-- so it is after a row of firings of numbers alone: it is the turn of a child, or the director has this answer, or memory was wanting
 abbrev pub Rested : Director → List Shown → Tag → Streams Token → (allowance : ℕ) → Rest → Director → List Shown → (left : ℕ) → Type 0
 Rested before olds tag X allowance (rest.Turn i when given) s now left = InTurn acts before olds tag X allowance i when given s now left
 Rested before olds tag X allowance (rest.Asked next) s now left = Between acts before olds tag X allowance next s now left
+Rested before olds tag X allowance rest.Memory s now left = Halts acts before olds tag X allowance s now left

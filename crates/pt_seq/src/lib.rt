@@ -1,11 +1,13 @@
 //! Firing a tree of nodes on one thread.
 #![tactic(auto)]
 
+mod events;
 mod fire;
 mod full;
 mod number_core;
 mod numbers;
 mod pause;
+mod pn;
 mod sdf;
 mod sr;
 mod tokens;

@@ -1,10 +1,12 @@
-ghost use Rattle.std.specs.Prelude.{◌≡◌, [], ◌∷◌, IfSome, IsSome, IsTrue, Option, Some, true, if◌then◌else◌};
-ghost use Rattle.pt_meaning.specs.Basics as basics;
-ghost use Rattle.pt_meaning.specs.Machine as machine;
+ghost use Rattle.std.specs.Prelude.{◌≡◌, [], ◌∷◌, IfSome, IsSome, IsTrue, Some, true, false};
 ghost use Rattle.pt_value.specs.declared.token.Token.TheVariants.{Int};
 ghost use Rattle.pt_directors.specs.Directors.{Director, director_calls};
+ghost use Rattle.pt_node.specs.Shown.{shown_node};
+ghost use Rattle.pt_seq.specs.Turns.{IsTold};
 
 use pt_firing::{Ask, IntInputs};
+use pt_node::Node;
+use std::alloc::Global;
 
 /// The core of a director whose children may take and give integers as they are, without a list of tokens. Its calls are those of the director.
 pub(crate) trait NumberCore: Sized {
@@ -25,9 +27,10 @@ pub(crate) trait NumberCore: Sized {
     fn gives_several(&self, child: u32) -> bool
         requires { director_calls.asked_of (director self.now) ≡ Some child };
 
-    /// Takes the integer that the child gave as the one token on its one port, which is accepted, whichever wake and need the child has then: so a core that keeps these takes none. `false` says that nothing was done.
-    fn told_number(&mut self, child: u32, number: i64) -> bool
+    /// Takes the integer that the child of this number gave as the one token on its one port, which is accepted, with the wake and the need that the child has once its firing is recorded. `false` says that nothing was done.
+    fn told_number(&mut self, alloc: Global, of: &Node, child: u32, number: i64) -> bool
         requires asked { director_calls.asked_of (director self.old) ≡ Some child }
-        ensures told { (wake : Option basics.Tag) (need : machine.Need) → director self.new ≡ (if result then director_calls.told child ((Int number ∷ []) ∷ []) wake need (director self.old) else director self.old) }
+        ensures told { IsTrue result → IsTold director_calls (director self.old) (shown_node of.now) child ((Int number ∷ []) ∷ []) (director self.new) }
+        ensures kept { result ≡ false → director self.new ≡ director self.old }
         ensures accepted { IsTrue result → director_calls.accepts (director self.old) child ((Int number ∷ []) ∷ []) ≡ true };
 }

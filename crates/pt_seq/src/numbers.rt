@@ -11,7 +11,7 @@ ghost use Rattle.pt_node.specs.View.{outline_of, count_of};
 ghost use Rattle.pt_node.specs.Live.{IsFit};
 ghost use Rattle.pt_seq.specs.Within.{NumberTo, SeveralTo};
 ghost use Rattle.pt_seq.specs.Turns.{TurnSpends, IsTold, TellTo, QuickTo, QuickSpends};
-ghost use Rattle.pt_seq.specs.Between.{At, IsUnderWay, Rested};
+ghost use Rattle.pt_seq.specs.Between.{At, IsUnderWay, Between, Rested};
 
 use crate::number_core::NumberCore;
 use crate::tokens::tell_tokens;
@@ -56,12 +56,15 @@ pub(crate) enum Rest {
     Turn(u32, Tag, Option<i64>),
     /// The core has this answer, for which nothing was done.
     Asked(Ask),
+    /// Memory was wanting for what is recorded of the last firing.
+    Memory,
 }
 
 /// Makes one firing of a child after another, as the core asks for them, as long as each takes integers and gives one, of which nothing is recorded and no memory is wanted.
 /// This is the inner loop of a run. On its common path it calls nothing, so that it stays in registers.
 #[inline(never)]
 pub(crate) fn fire_numbers<C: NumberCore>(
+    alloc: Global,
     core: &mut C,
     children: &mut Vec<Node>,
     left: &mut u64,
@@ -72,13 +75,15 @@ pub(crate) fn fire_numbers<C: NumberCore>(
     ensures goes { (before : directors.Director) (olds : List Shown) (tag : basics.Tag) (X : basics.Streams Token) (allowance : ℕ) → At acts before olds tag X allowance (C.director core.old) (map shown children.old.items) left.old → Rested before olds tag X allowance result (C.director core.new) (map shown children.new.items) left.new }
 {
     loop {
-        match core.ask() {
+        match asked(core) {
             Ask::Fire(number, when) => {
                 if *left == 0 {
                     return Rest::Asked(Ask::Fire(number, when));
                 }
                 let child = &mut children[number as usize];
-                if let Quick::Open(given) = turn_of_number(core, child, number, when, left, row) {
+                if let Quick::Open(given) = turn_of_number(
+                    alloc, core, child, number, when, left, row,
+                ) {
                     return Rest::Turn(number, when, given);
                 }
             }
@@ -87,9 +92,24 @@ pub(crate) fn fire_numbers<C: NumberCore>(
     }
 }
 
+/// What the core asks for that isn't a move of its own. Such a move is made already, and it is only asked again.
+#[inline(always)]
+fn asked<C: NumberCore>(core: &mut C) -> Ask
+    requires { (now : List Shown) × ((left : ℕ) × ((tag : basics.Tag) × IsUnderWay acts tag (C.director core.old) now left)) }
+    ensures { (before : directors.Director) (olds : List Shown) (tag : basics.Tag) (X : basics.Streams Token) (allowance : ℕ) (now : List Shown) (left : ℕ) → At acts before olds tag X allowance (C.director core.old) now left → Between acts before olds tag X allowance result (C.director core.new) now left }
+{
+    loop {
+        match core.ask() {
+            Ask::Get(_) | Ask::Put(_) | Ask::Grow => {}
+            next => return next,
+        }
+    }
+}
+
 /// The turn of a child that may give one number.
 #[inline(always)]
 fn turn_of_number<C: NumberCore>(
+    alloc: Global,
     core: &mut C,
     child: &mut Node,
     number: u32,
@@ -114,7 +134,7 @@ fn turn_of_number<C: NumberCore>(
     if !child.records.as_slice().is_empty() || child.past.made == u64::MAX {
         return Quick::Open(Some(given));
     }
-    if !core.told_number(number, given) {
+    if !core.told_number(alloc, child, number, given) {
         return Quick::Open(Some(given));
     }
     child.record_alone(tag);
@@ -173,7 +193,8 @@ fn int_inputs<'a>(director: &'a Director, row: &'a mut Vec<i64>) -> Option<IntIn
     match director {
         Either::First(core) => NumberCore::int_inputs(core, row),
         Either::Other(Either::First(core)) => NumberCore::int_inputs(core, row),
-        Either::Other(Either::Other(_)) => None,
+        Either::Other(Either::Other(Either::First(_))) => None,
+        Either::Other(Either::Other(Either::Other(core))) => NumberCore::int_inputs(core, row),
     }
 }
 

@@ -10,6 +10,7 @@ ghost use Rattle.pt_node.specs.Shown.{Shown, shown, shown_node};
 ghost use Rattle.pt_node.specs.View.{node_of};
 ghost use Rattle.pt_seq.specs.Between.{At, IsUnderWay, IsAskedUnderWay, Heeded, Paused, Rested};
 
+use crate::events::fire_events;
 use crate::numbers::{Rest, fire_numbers};
 use pt_core::{Core, Either};
 use pt_directors::Director;
@@ -46,18 +47,20 @@ pub(crate) fn next(
     ensures lowered { left.new ≤ left.old }
     ensures goes { (before : directors.Director) (olds : List Shown) (tag : basics.Tag) (X : basics.Streams Token) (allowance : ℕ) → At acts before olds tag X allowance director.old (map shown children.old.items) left.old → Paused before olds tag X allowance result director.new (map shown children.new.items) left.new }
 {
-    match fire_row(director, children, left, row) {
+    match fire_row(alloc, director, children, left, row) {
         Rest::Turn(number, when, given) => Pause::Turn(number, when, given),
         Rest::Asked(asked) => match heed(alloc, director, children, asked, *left) {
             Some(pause) => pause,
             None => wait(alloc, director, children, *left),
         },
+        Rest::Memory => Pause::Memory,
     }
 }
 
-/// Makes firings of numbers alone, by the core of the director. One that knows no numbers is only asked.
+/// Makes firings of numbers alone, by the core of the director, or of one integer at most under DE.
 #[inline(always)]
 fn fire_row(
+    alloc: Global,
     director: &mut Director,
     children: &mut Vec<Node>,
     left: &mut u64,
@@ -68,9 +71,14 @@ fn fire_row(
     ensures goes { (before : directors.Director) (olds : List Shown) (tag : basics.Tag) (X : basics.Streams Token) (allowance : ℕ) → At acts before olds tag X allowance director.old (map shown children.old.items) left.old → Rested before olds tag X allowance result director.new (map shown children.new.items) left.new }
 {
     match director {
-        Either::First(core) => fire_numbers(core, children, left, row),
-        Either::Other(Either::First(core)) => fire_numbers(core, children, left, row),
-        Either::Other(Either::Other(core)) => Rest::Asked(core.ask()),
+        Either::First(core) => fire_numbers(alloc, core, children, left, row),
+        Either::Other(Either::First(core)) => fire_numbers(alloc, core, children, left, row),
+        Either::Other(Either::Other(Either::First(core))) => {
+            fire_events(core, children, left, row)
+        }
+        Either::Other(Either::Other(Either::Other(core))) => {
+            fire_numbers(alloc, core, children, left, row)
+        }
     }
 }
 

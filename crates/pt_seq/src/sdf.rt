@@ -2,7 +2,9 @@ ghost use Rattle.pt_core.specs.declared.either.Either.TheVariants.{First};
 
 use crate::number_core::NumberCore;
 use pt_firing::{Ask, IntInputs};
+use pt_node::Node;
 use pt_sdf::Core;
+use std::alloc::Global;
 
 impl NumberCore for Core {
     ghost director = { First };
@@ -23,7 +25,7 @@ impl NumberCore for Core {
     }
 
     #[inline(always)]
-    fn told_number(&mut self, child: u32, number: i64) -> bool {
+    fn told_number(&mut self, _alloc: Global, _of: &Node, child: u32, number: i64) -> bool {
         self.told_number(child, number)
     }
 }

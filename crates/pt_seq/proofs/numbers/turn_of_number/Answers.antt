@@ -1,9 +1,7 @@
-use Rattle.std.proofs.Common.{◌≡◌, ℤ, w64, SFits, rules, [], ◌∷◌, true, Option, None, refl, ap, sym, subst, ◌∙◌}
+use Rattle.std.proofs.Common.{◌≡◌, ℤ, w64, SFits, rules, [], ◌∷◌, true, refl, ap, sym, subst, ◌∙◌}
 use Rattle.std.proofs.lemmas.Bool.{eqb-true}
 use Rattle.std.proofs.lemmas.Int.{to_z-of_z}
 use Rattle.std.proofs.lemmas.List.{nil_from_length}
-use Rattle.pt_meaning.specs.Basics.{Tag}
-use Rattle.pt_meaning.specs.Machine.{Need, Over}
 use Rattle.pt_value.specs.declared.token.Token.TheVariants.{Int}
 use Rattle.pt_directors.specs.Directors.{Director, director_calls}
 use Rattle.pt_node.specs.declared.node.Node.{out-Node}
@@ -11,6 +9,7 @@ use Rattle.pt_node.specs.Shown.{shown_node}
 use Rattle.pt_node.specs.View.{outline_of}
 use Rattle.pt_node.proofs.OutlineLaws.{outline_recorded}
 use Rattle.pt_seq.specs.Within.{Gave}
+use Rattle.pt_seq.specs.Turns.{IsTold}
 use Rattle.pt_seq.proofs.Quickly.{quickly-fired, records-in}
 use Rattle.pt_seq.proofs.numbers.turn_of_number.Goals as goal
 
@@ -24,7 +23,7 @@ returns-clause-goes g c =
     let n : ℤ = c.in-Some.given in
     let fits : SFits w64 n = search rules in
     let none : (out-Node c.fire_number.new.node).records ≡ [] = records-in c.fire_number.new.node _ c.child.view_is (sym c.as_slice.ensures ∙ nil_from_length _ (eqb-true _ _ (sym c.is_empty.ensures ∙ c.if-not-is_empty.false))) in
-    let told : (wake : Option Tag) (need : Need) → d' ≡ director_calls.told c.args.number ((Int n ∷ []) ∷ []) wake need d = λ wake need. c.if-not-told_number.ensures.told wake need ∙ ap (λ z. director_calls.told c.args.number ((Int z ∷ []) ∷ []) wake need d) (to_z-of_z w64 n fits) in
+    let told : IsTold director_calls d (shown_node c.fire_number.new.node) c.args.number ((Int n ∷ []) ∷ []) d' = subst (λ z. IsTold director_calls d (shown_node c.fire_number.new.node) c.args.number ((Int z ∷ []) ∷ []) d') (to_z-of_z w64 n fits) (c.if-not-told_number.ensures.told refl) in
     let right : director_calls.accepts d c.args.number ((Int n ∷ []) ∷ []) ≡ true = subst (λ z. director_calls.accepts d c.args.number ((Int z ∷ []) ∷ []) ≡ true) (to_z-of_z w64 n fits) (c.if-not-told_number.ensures.accepted refl) in
     quickly-fired d (shown_node c.args.child.now) (shown_node c.fire_number.new.node) c.args.number c.args.tag ((Int n ∷ []) ∷ []) d' (shown_node c.record_alone.new.self) c.in-Some.ensures.goes (ap (λ p. p.made) c.in-Some.ensures.past) none told right c.record_alone.ensures
 
@@ -36,6 +35,6 @@ returns-then-not-told_number-clause-goes g c =
     let d : Director = g.C.NumberCore.director c.args.core.now in
     let n : ℤ = c.in-Some.given in
     let fits : SFits w64 n = search rules in (
-      c.if-not-told_number.ensures.told None Over,
+      c.if-not-told_number.ensures.kept refl,
       (subst (λ z. Gave (shown_node c.args.child.now) (director_calls.lent_of d) ((Int z ∷ []) ∷ []) (shown_node c.fire_number.new.node)) (sym (to_z-of_z w64 n fits)) c.in-Some.ensures.goes, ap (λ p. p.made) c.in-Some.ensures.past),
     )

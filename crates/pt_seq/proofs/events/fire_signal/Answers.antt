@@ -1,0 +1,25 @@
+use Rattle.std.proofs.Common.{[], ◌∷◌, refl, subst}
+use Rattle.pt_meaning.specs.Basics.{Streams}
+use Rattle.pt_value.specs.declared.token.Token.{Token}
+use Rattle.pt_library.specs.LibraryActor.{signal_of}
+use Rattle.pt_node.specs.declared.node.Node.{Node, roll-Node, out-Node}
+use Rattle.pt_node.specs.declared.node.Node.TheViews.{roll-out-Node}
+use Rattle.pt_node.specs.declared.node.Node.TheOpen as opens
+use Rattle.pt_node.specs.declared.body.Body.TheVariants as body
+use Rattle.pt_node.specs.declared.body.Held.{Held}
+use Rattle.pt_node.specs.Shown.{shown_node}
+use Rattle.pt_seq.specs.Signals.{GaveAt}
+use Rattle.pt_seq.proofs.Entering.{gave-at, not-live, no-longer-live}
+use Rattle.pt_seq.proofs.events.fire_signal.Goals as goal
+
+pub returns-in_ok-given-in-Actor-clause-goes : goal.returns-in_ok-given-in-Actor-clause-goes
+returns-in_ok-given-in-Actor-clause-goes c =
+    let n : Node = c.args.node.now in
+    let r : opens.Node-F Node = out-Node n in
+    let held : Held = c.in-Actor.held in
+    let held' : Held = record { start = held.start; actor = c.signal.new.self } in
+    let out : Streams Token = signal_of c.in_ok-given-in-Actor.given ∷ [] in
+    let written : opens.Node-F Node = record { past = r.past; body = body.Actor held'; children = r.children; records = r.records; path = r.path; labels = r.labels; live = r.live } in
+    let r' : opens.Node-F Node = not-live (out-Node (roll-Node written)) in
+    subst (λ X. GaveAt c.args.tag (shown_node n) X out (shown_node (roll-Node r'))) c.lent.ensures
+    (gave-at n (roll-Node r') r r' held held' (roll-out-Node n) refl c.in-Actor.is c.args.tag c.lent.result out c.in_ok-given-in-Actor.ensures refl (no-longer-live written) c.requires.fit)

@@ -1,0 +1,53 @@
+-- Firings under DE that give one integer at most: what a node gives so, and what the turn of a child comes to that does.
+use Rattle.std.specs.Prelude.{◌≡◌, ℕ, ℤ, ◌<◌, List, [], ◌∷◌, Option, Some, None}
+use Rattle.pt_meaning.specs.Basics.{Tag, Streams}
+use Rattle.pt_meaning.specs.Machine.{Partial, Known}
+use Rattle.pt_meaning.specs.NodeFacts.{early_of}
+use Rattle.pt_value.specs.declared.token.Token.{Token}
+use Rattle.pt_core.specs.declared.either.Either.TheVariants.{First, Other}
+use Rattle.pt_core.specs.Acts.{Calls}
+use Rattle.pt_library.specs.LibraryActor.{rows, signal_of}
+use Rattle.pt_de_laws.specs.DeActs as de
+use Rattle.pt_directors.specs.Directors.{Director}
+use Rattle.pt_node.specs.Shown.{Shown}
+use Rattle.pt_node.specs.Reset.{KeepsRecords}
+use Rattle.pt_node.specs.View.{node_of}
+use Rattle.pt_node.specs.Live.{IsFit}
+use Rattle.pt_seq.specs.declared.fire.Within.TheVariants.{Done}
+use Rattle.pt_seq.specs.declared.events.Signalled.{Signalled}
+use Rattle.pt_seq.specs.declared.events.Signalled.TheVariants as signalled
+use Rattle.pt_seq.specs.Within.{WithinTo}
+use Rattle.pt_seq.specs.Turns.{ChildFired}
+
+-- the director that is this core of DE
+abbrev pub de_of : de.State → Director
+de_of s = Other (Other (First s))
+
+-- A firing of a node at a tag that is done with these outputs and isn't recorded yet. How often it and all within it fired, what is recorded of them, and their names are as before.
+pub record GaveAt (tag : Tag) (old : Shown) (X out : Streams Token) (new : Shown) : Type 0 where
+  pub goes : WithinTo old tag X (Done out) new
+  pub fit : IsFit new
+  pub keeps : KeepsRecords old new
+
+-- such a firing was made and gave one integer at most, on its one port, or nothing was done
+abbrev pub SignalTo : Tag → Shown → Streams Token → Option (Option ℤ) → Shown → Type 0
+SignalTo tag old X (Some given) new = GaveAt tag old X (signal_of given ∷ []) new
+SignalTo tag old X None new = new ≡ old
+
+-- Whatever is known of its inputs, the node gives early just that, one integer at most, on its one port. Where nothing is told nothing is said.
+abbrev pub TellsAt : Tag → Shown → Option (Option ℤ) → Type 0
+TellsAt tag s (Some given) = (vs : List (Partial Token)) → early_of rows tag (node_of s) vs ≡ Known (signal_of given) ∷ []
+TellsAt tag s None = Unit {0}
+
+module _ {D : Type 0} (c : Calls D) where
+  -- the turn of child i is done, which gave one integer at most; or nothing was done; or memory was wanting for what is recorded of it, and the director isn't told
+  abbrev pub SignalledTo : D → Shown → ℕ → Tag → Signalled → D → Shown → Type 0
+  SignalledTo s child i tag signalled.Done s' after = ChildFired c s child i tag s' after
+  SignalledTo s child i tag signalled.Open s' after = (s' ≡ s) × (after ≡ child)
+  SignalledTo s child i tag signalled.Memory s' after = (s' ≡ s) × KeepsRecords child after
+
+-- a turn that is done spends some of the allowance, and another none
+abbrev pub SignalSpends : Signalled → ℕ → ℕ → Type 0
+SignalSpends signalled.Done left left' = left' < left
+SignalSpends signalled.Open left left' = left' ≡ left
+SignalSpends signalled.Memory left left' = left' ≡ left
