@@ -1,0 +1,209 @@
+-- The calls of the core are lawful, with the meetings made in a firing.
+use Rattle.std.proofs.Common.{◌≡◌, ◌⊎◌, inl, inr, ℕ, zero, suc, ◌<◌, List, [], ◌∷◌, true, false, length, map, set, get_or, Some, None, refl, sym, ap, ap₂, subst, ◌∙◌, arith, length-set}
+use Rattle.std.specs.Prelude.{IsSome}
+use Rattle.std.proofs.lemmas.Bool.{cases_eq}
+use Rattle.std.proofs.lemmas.List.{length-map}
+use Rattle.pt_meaning.specs.Tag.{Tag}
+use Rattle.pt_meaning.specs.Streams.{Streams, get}
+use Rattle.pt_meaning.specs.Log.{Meeting}
+use Rattle.pt_meaning.specs.Machine.{Fault, Need, Over}
+use Rattle.pt_meaning.specs.Meetings.{below_child}
+use Rattle.pt_meaning.specs.Children.{numbered, child_facts}
+use Rattle.pt_meaning.specs.Tree.{Rows, Past, Node, list_of, nodes_of, made_of, reset_of, fired_at, height, heights}
+use Rattle.pt_meaning.specs.Tree as tree
+use Rattle.pt_meaning.specs.NodeFacts.{facts_of, need_of}
+use Rattle.pt_meaning.specs.Step.{step_at, Step}
+use Rattle.pt_meaning.specs.Lawful.{LawfulRows}
+use Rattle.pt_meaning.specs.Asked.{IsAsked}
+use Rattle.pt_laws.specs.CompositeRuns.{steps_below}
+use Rattle.pt_laws.specs.SoundRuns.{count_at}
+use Rattle.pt_value.specs.declared.token.Token.{Token}
+use Rattle.pt_records.specs.Kept.{Kept, Entry, kept_at, kept_by}
+use Rattle.pt_records.specs.Fired.{FromSome, FiresTo, SticksAt, LeavesOff}
+use Rattle.pt_records.specs.Shut.{IsShut}
+use Rattle.pt_records.proofs.SoFarLaws.{recorded-done}
+use Rattle.pt_core.specs.Acts.{Beginning}
+use Rattle.pt_core.specs.Lawful.{IsLentTo, node, outcome, below_fault}
+use Rattle.pt_core.specs.Reached.{Becomes, Stays, Fires, Resets, Always, AllAlways}
+use Rattle.pt_core.proofs.ReachedLaws.{always-reset}
+use Rattle.pt_rv_laws.specs.State.{Closed, MayFire, IsLegal, IsOver, net_of, got_of, in_stage, begun, after_meet, after_told, closed, restarted, started, waits}
+use Rattle.pt_rv_laws.specs.Lawful.{HasPlaces, AllCount}
+use Rattle.pt_rv_laws.specs.SoFar.{AreMet, entry_with, composite_of, outcome_of, child_outcome}
+use Rattle.pt_rv_laws.specs.RvActs as acts
+use Rattle.pt_rv_laws.specs.RvActs.{State, MayAsk, Gives, asking, Going, Fits, IsStuck, IsLeftOff, rv_acts, RvLawful}
+use Rattle.pt_rv_laws.proofs.ChainLaws.{calls-are-rv}
+use Rattle.pt_rv_laws.proofs.FireLaws as fire
+use Rattle.pt_rv_laws.proofs.SoFarLaws.{under, firings-are-rv}
+
+-- what holds of all that a list of nodes becomes, where one of them has fired
+get-set-same : {B : Type 0} (xs : List B) (i : ℕ) (x y : B) → get (set xs i x) i ≡ Some y → y ≡ x
+get-set-same [] i x y e = absurd (cc)
+get-set-same (z ∷ xs) zero x y e = cc
+get-set-same (z ∷ xs) (suc i) x y e = get-set-same xs i x y e
+
+get-set-other : {B : Type 0} (xs : List B) (i j : ℕ) (x : B) → (j ≡ i → ⊥) → get (set xs i x) j ≡ get xs j
+get-set-other [] i j x z = refl
+get-set-other (y ∷ xs) zero zero x z = absurd (z refl)
+get-set-other (y ∷ xs) zero (suc j) x z = refl
+get-set-other (y ∷ xs) (suc i) zero x z = refl
+get-set-other (y ∷ xs) (suc i) (suc j) x z = get-set-other xs i j x (λ e. z (ap (λ n. suc n) e))
+
+always-set : {T A : Type 0} (rows : Rows T A) (P : ℕ → Node T A → Type 0) (nodes : List (Node T A)) (i : ℕ) (first next : Node T A) → get nodes i ≡ Some first → ((later : Node T A) → Becomes rows next later → Becomes rows first later) → AllAlways rows P nodes → AllAlways rows P (set nodes i next)
+always-set {T} {A} rows P nodes i first next e more all j other f = by (cases_eq j i)
+  where
+    by : (j ≡ i) ⊎ (j ≡ i → ⊥) → Always rows (P j) other
+    by (inr z) = all j other (sym (get-set-other nodes i j next z) ∙ f)
+    by (inl z) = λ later b. all j first (ap (λ n. get nodes n) z ∙ e) later (more later (subst (λ (n : Node T A). Becomes rows n later) (get-set-same nodes i next other (sym (ap (λ n. get (set nodes i next) n) z) ∙ f)) b))
+
+get-there : {B : Type 0} (xs : List B) (i : ℕ) → i < length xs → (x : B) × (get xs i ≡ Some x)
+get-there [] i l = absurd (omega (arith, l))
+get-there (x ∷ xs) zero l = (x, refl)
+get-there (x ∷ xs) (suc i) l = get-there xs i (omega (arith, l))
+
+-- the needs of children at their starts
+starts-are : {T A : Type 0} (rows : Rows T A) (needs : List Need) (kids : List (Node T A)) → length needs ≡ length kids → ((i : ℕ) (child : Node T A) → get kids i ≡ Some child → need_of rows (reset_of child) ≡ get_or needs i Over) → needs ≡ map (λ c. need_of rows c) (map reset_of kids)
+starts-are rows [] [] e h = refl
+starts-are rows [] (z ∷ kids) e h = absurd (omega (arith, e))
+starts-are rows (n ∷ needs) [] e h = absurd (omega (arith, e))
+starts-are rows (n ∷ needs) (z ∷ kids) e h = ap₂ (λ v vs. v ∷ vs) (sym (h 0 z refl)) (starts-are rows needs kids (omega (arith, e)) (λ i child w. h (suc i) child w))
+
+module _ {A : Type 0} (rows : Rows Token A) where
+  begins-one : (b : Beginning A State) → Fits rows b.before (list_of b.kids) → length (list_of b.kids) ≡ length b.olds → Going rows b (begun b.tag b.inputs b.before) (list_of b.kids) b.olds
+  begins-one b f o = record {
+    stage = refl;
+    tag = refl;
+    suits = record { children = f.suits.children; counts = f.suits.counts; starts = f.suits.starts };
+    so_far = firings-are-rv.begins rows b.meets b.tag b.before b.kids b.inputs b.olds f.fitting o;
+  }
+
+  again-one : (s : State) (kids : List (Node Token A)) → Fits rows s kids → Fits rows (restarted s) (map reset_of kids)
+  again-one s kids f = record {
+    idle = refl;
+    fitting = calls-are-rv.starts (facts_of rows) s.processes (map reset_of kids) f.fitting.lawful (starts-are rows s.processes.starts kids (f.fitting.lawful.starts ∙ sym f.suits.children) (λ i child e. f.suits.starts i child e child (Stays child))) counts;
+    suits = record {
+      children = length-map kids reset_of ∙ f.suits.children;
+      counts = always-reset rows (λ j n. HasPlaces (count_at (net_of s).places j) (need_of rows n)) kids f.suits.counts;
+      starts = always-reset rows (λ j n. need_of rows (reset_of n) ≡ get_or s.processes.starts j Over) kids f.suits.starts;
+    };
+  }
+    where
+      counts : AllCount {T = Token} (started s.processes)
+      counts i l =
+          let c = get-there kids i (let e = f.suits.children in omega (arith, l, e)) in
+          subst (λ v. HasPlaces (count_at (net_of s).places i) v) (f.suits.starts i c.0 c.1 c.0 (Stays c.0)) (f.suits.counts i c.0 c.1 (reset_of c.0) (Resets c.0 (reset_of c.0) (Stays (reset_of c.0))))
+
+  module _ (b : Beginning A State) (s : State) (now : List (Node Token A)) (news : List (Kept Token)) (g : Going rows b s now news) where
+    meets-one : (m : Meeting) → IsLegal s m → Going rows b (after_meet m s) now news × (waits (after_meet m s) < waits s)
+    meets-one m legal =
+        let r = firings-are-rv.meets rows b.meets b.before b.kids b.inputs b.olds s now news g.so_far m legal in
+        (record { stage = g.stage; tag = g.tag; suits = record { children = g.suits.children; counts = g.suits.counts; starts = g.suits.starts }; so_far = r.0 }, r.1)
+
+    there-one : (i : ℕ) → MayFire s i → i < length now
+    there-one i may =
+        let l = fire.there (child_facts (facts_of rows)) (steps_below rows g.so_far.run.0 (heights b.kids) b.meets) b.before (numbered 0 (list_of b.kids)) b.inputs s g.so_far.made (numbered 0 now) g.so_far.logs (under rows b.meets b.before b.kids b.inputs b.olds s now news g.so_far) i may in
+        let e = g.suits.children in
+        omega (arith, l, e)
+
+    lends-one : (i : ℕ) → (child : Node Token A) → get now i ≡ Some child → IsLentTo rows child (got_of s i)
+    lends-one i child e = record {
+      places = λ ns n.
+          let u = under rows b.meets b.before b.kids b.inputs b.olds s now news g.so_far in
+          let c : length ns ≡ count_at (net_of s).places i = subst (λ v. HasPlaces (count_at (net_of s).places i) v) n (g.suits.counts i child e child (Stays child)) in
+          u.sized.rooms.gathers i ∙ sym c;
+    }
+
+    goes-one : (i : ℕ) (when : Tag) → Gives s (acts.Fire i when) → (child next : Node Token A) (out : Streams Token) (k : Kept Token) → get now i ≡ Some child → FiresTo (λ fuel. Step fuel rows (below_child i b.meets) child when (got_of s i)) next out (kept_at news i) k →
+        Going rows b (after_told i out (need_of rows next) (asking (acts.Fire i when) s)) (set now i next) (set news i k)
+    goes-one i when q child next out k e fires =
+        let f : FiresTo (λ fuel. Step fuel rows (below_child i b.meets) child s.tag (got_of s i)) next out (kept_at news i) k = subst (λ t. FiresTo (λ fuel. Step fuel rows (below_child i b.meets) child t (got_of s i)) next out (kept_at news i) k) q.2 fires in
+        record {
+          stage = refl;
+          tag = g.tag;
+          suits = record {
+            children = length-set now i next ∙ g.suits.children;
+            counts = always-set rows (λ j n. HasPlaces (count_at (net_of s).places j) (need_of rows n)) now i child next e (becomes f) g.suits.counts;
+            starts = always-set rows (λ j n. need_of rows (reset_of n) ≡ get_or s.processes.starts j Over) now i child next e (becomes f) g.suits.starts;
+          };
+          so_far = firings-are-rv.goes_on rows b.meets b.before b.kids b.inputs b.olds s now news g.so_far i q.1 child next out k e f (g.suits.counts i child e next (becomes f next (Stays next)));
+        }
+      where
+        becomes : (f : FiresTo (λ fuel. Step fuel rows (below_child i b.meets) child s.tag (got_of s i)) next out (kept_at news i) k) → (later : Node Token A) → Becomes rows next later → Becomes rows child later
+        becomes f later m =
+            let r = recorded-done (made_of child) s.tag (got_of s i) (step_at rows f.done.0 (height child) (below_child i b.meets) s.tag child (got_of s i)) next out f.log (f.done.1 f.done.0 (omega arith)) in
+            Fires child next later f.done.0 (height child) (below_child i b.meets) s.tag (got_of s i) out r.0 r.1 m
+
+    fits-one : Gives s acts.Finished → Fits rows (closed (asking acts.Finished s)) now
+    fits-one q = record {
+      idle = refl;
+      fitting = firings-are-rv.rests rows b.meets b.before b.kids b.inputs b.olds s now news g.so_far q.1;
+      suits = record { children = g.suits.children; counts = g.suits.counts; starts = g.suits.starts };
+    }
+
+clash : true ≡ false → ⊥
+clash e = cc
+
+module _ {A : Type 0} (rows : Rows Token A) (law : LawfulRows rows) (b : Beginning A State) (s : State) (now : List (Node Token A)) (news : List (Kept Token)) (g : Going rows b s now news) where
+  -- at the tag at which the firing began
+  module _ (h : Past) (e : Entry Token) (met : AreMet b.meets h s.met e) where
+    abbrev entry : Entry Token
+    entry = entry_with h.made s.met e
+
+    ends-one : IsOver s → FiresTo (outcome (rv_acts rows) b h) (node (rv_acts rows) (fired_at b.tag h) (closed (in_stage Closed s)) (nodes_of now)) s.outputs (kept_by e b.olds) (kept_by entry news)
+    ends-one o =
+        subst (λ t. FiresTo (outcome_of rows b.meets h b.before b.kids t b.inputs) (composite_of (fired_at t h) (closed s) (nodes_of now)) s.outputs (kept_by e b.olds) (kept_by entry news)) g.tag
+        (firings-are-rv.ends rows b.meets b.before b.kids b.inputs b.olds s now news g.so_far o h e met)
+
+    off-one : IsLeftOff rows b h e s news
+    off-one =
+        subst (λ t. LeavesOff (outcome_of rows b.meets h b.before b.kids t b.inputs) (IsShut rows b.meets (composite_of h b.before b.kids) t b.inputs None) (kept_by e b.olds) (kept_by entry news)) g.tag
+        (firings-are-rv.off rows law b.meets b.before b.kids b.inputs b.olds s now news g.so_far h e met)
+
+    module _ (i : ℕ) (may : MayFire s i) (child : Node Token A) (k : Kept Token) (there : get now i ≡ Some child) where
+      within-one : LeavesOff (child_outcome rows b.meets s i child) (IsShut rows (below_child i b.meets) child s.tag (got_of s i) None) (kept_at news i) k → IsLeftOff rows b h e s (set news i k)
+      within-one x =
+          subst (λ t. LeavesOff (outcome_of rows b.meets h b.before b.kids t b.inputs) (IsShut rows b.meets (composite_of h b.before b.kids) t b.inputs None) (kept_by e b.olds) (kept_by entry (set news i k))) g.tag
+          (firings-are-rv.off_within rows law b.meets b.before b.kids b.inputs b.olds s now news g.so_far i may child k there x h e met)
+
+      sticks-one : (f : Fault) → SticksAt (child_outcome rows b.meets s i child) (IsShut rows (below_child i b.meets) child s.tag (got_of s i) (Some f)) f (kept_at news i) k → IsStuck rows b h e s (below_fault i f) (set news i k)
+      sticks-one f x =
+          subst (λ t. SticksAt (outcome_of rows b.meets h b.before b.kids t b.inputs) (IsShut rows b.meets (composite_of h b.before b.kids) t b.inputs (Some (below_fault i f))) (below_fault i f) (kept_by e b.olds) (kept_by entry (set news i k))) g.tag
+          (firings-are-rv.sticks rows law b.meets b.before b.kids b.inputs b.olds s now news g.so_far i may child k f there x h e met)
+
+  module _ (i : ℕ) (may : MayFire s i) (child : Node Token A) (there : get now i ≡ Some child) (h : Past) (listed : b.meets [] h.made ≡ s.met) where
+    abbrev AskedFor : Tag → Tag → Type 0
+    AskedFor tag when = FromSome (λ k. IsAsked (child_facts (facts_of rows)) (steps_below rows k (heights b.kids) b.meets) (b.meets [] h.made) h.made (tree.Rv b.before.processes.plan b.before.places) (numbered 0 (list_of b.kids)) tag b.inputs i (record { number = i; node = child }) when (got_of s i))
+
+    asks-one : (when : Tag) → when ≡ s.tag → AskedFor b.tag when
+    asks-one when e = subst (λ t. AskedFor b.tag t) (sym e) (subst (λ t. AskedFor t s.tag) g.tag (firings-are-rv.asks rows b.meets b.before b.kids b.inputs b.olds s now news g.so_far i may child there h listed))
+
+pub rv-is-lawful : {A : Type 0} (rows : Rows Token A) → LawfulRows rows → RvLawful rows
+rv-is-lawful rows law = record {
+  agree = record {
+    asked = λ s i when q. refl;
+    listened = λ s i when q. absurd q;
+    hands = λ s i e. (subst (λ v. IsSome v) (sym e) refl, e, refl);
+    hands_on = λ s i e out wake need. (refl, refl, refl);
+    asks_on = λ s i out wake need e. tt;
+    tells = λ s i out wake need e. refl;
+    finishes = λ s q. refl;
+    restarts = λ s. (refl, refl);
+    keeps_maximum = record { begun = λ tag inputs s. refl; asking = λ answer s. refl; handed = λ s. refl; told = λ i out wake need s. refl; heard = λ i early s. refl; closed = λ s. refl; restarted = λ s. refl };
+  };
+  idle = λ s kids f. f.idle;
+  wakes = λ s kids f. refl;
+  fits_again = again-one rows;
+  begins = λ b f t o. begins-one rows b f o;
+  middle = λ b s now news g. record {
+    asks = subst (λ v. MayAsk v) (sym g.stage) tt;
+    fires_one = λ i when q. there-one rows b s now news g i q.1;
+    lends = λ i when q child e. lends-one rows b s now news g i child e;
+    goes_on = λ i when q child next out k e f. goes-one rows b s now news g i when q child next out k e f;
+    sticks = λ i when q child k f there x h e met. sticks-one rows law b s now news g h e met i q.1 child k there f (subst (λ t. SticksAt (λ fuel. step_at rows fuel (height child) (below_child i b.meets) t child (got_of s i)) (IsShut rows (below_child i b.meets) child t (got_of s i) (Some f)) f (kept_at news i) k) q.2 x);
+    asks_as = λ i when q child there h listed. asks-one rows law b s now news g i q.1 child there h listed when q.2;
+    meets = λ m q. meets-one rows b s now news g m q.2;
+    ends = λ q h e met. ends-one rows law b s now news g h e met q.1;
+    fits = λ q. fits-one rows b s now news g q;
+    off = λ h e met. off-one rows law b s now news g h e met;
+    off_within = λ i when q child k there x h e met. within-one rows law b s now news g h e met i q.1 child k there (subst (λ t. LeavesOff (λ fuel. step_at rows fuel (height child) (below_child i b.meets) t child (got_of s i)) (IsShut rows (below_child i b.meets) child t (got_of s i) None) (kept_at news i) k) q.2 x);
+  };
+}

@@ -1,0 +1,17 @@
+pub mod Examples
+pub mod SeatLaws
+pub mod SceneSeen
+pub mod WaitLaws
+pub mod MeetLaws
+pub mod BeginLaws
+pub mod FireLaws
+pub mod CourseLaws
+pub mod EndLaws
+pub mod ChainLaws
+pub mod ApartLaws
+pub mod TurnLaws
+pub mod MetShut
+pub mod PauseLaws
+pub mod SoFarLaws
+pub mod ComesLaws
+pub mod ActsLaws
