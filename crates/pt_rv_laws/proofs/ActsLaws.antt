@@ -189,6 +189,7 @@ rv-is-lawful rows law = record {
     restarts = λ s. (refl, refl);
     keeps_maximum = record { begun = λ tag inputs s. refl; asking = λ answer s. refl; handed = λ s. refl; told = λ i out wake need s. refl; heard = λ i early s. refl; closed = λ s. refl; restarted = λ s. refl };
   };
+  tells = record { begun = λ tag inputs s. refl; fires = λ process tag s. refl; meets = λ m s. refl; told = λ process out need s. refl; finishes = λ s. refl };
   idle = λ s kids f. f.idle;
   wakes = λ s kids f. refl;
   fits_again = again-one rows;

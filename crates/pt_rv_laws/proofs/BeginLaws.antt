@@ -1,9 +1,8 @@
 -- A core at its start fits its processes, and a firing begins.
-use Rattle.std.proofs.Common.{◌≡◌, ℕ, zero, suc, ◌<◌, List, [], ◌∷◌, length, map, drop, refl, sym, ap, ap₂, subst, ◌∙◌}
+use Rattle.std.proofs.Common.{◌≡◌, ℕ, zero, suc, ◌<◌, List, [], ◌∷◌, length, map, drop, refl, sym, ap, subst, ◌∙◌}
 use Rattle.std.proofs.lemmas.List.{length-map}
 use Rattle.pt_meaning.specs.Tag.{Tag}
 use Rattle.pt_meaning.specs.Streams.{Streams}
-use Rattle.pt_meaning.specs.Log.{Meeting}
 use Rattle.pt_meaning.specs.Machine.{Stepping, Facts}
 use Rattle.pt_meaning.specs.Net.{Source}
 use Rattle.pt_meaning.specs.Process.{Put, emptied}
@@ -13,7 +12,7 @@ use Rattle.pt_laws.specs.LogsOfRuns.{silents}
 use Rattle.pt_laws.specs.SoundRuns.{got_by, count_at}
 use Rattle.pt_rv_laws.specs.State.{Processes, RvState, net_of, started, begun}
 use Rattle.pt_rv_laws.specs.Lawful.{IsLawful, AllCount, IsFor}
-use Rattle.pt_rv_laws.specs.Chain.{Course, Begins, standing, met_events, scene_of, opened, Underway}
+use Rattle.pt_rv_laws.specs.Chain.{Course, Begins, standing, scene_of, opened, Underway}
 use Rattle.pt_rv_laws.proofs.SeatLaws.{seats-first}
 
 tokens-long : (T : Type 0) (n : ℕ) → length (no_tokens {T = T} n) ≡ n
@@ -45,7 +44,6 @@ calls-start {T} facts p kids lawful needs counts = record {
   needs = needs;
   counts = counts;
   none = refl;
-  unmet = refl;
 }
 
 pub arriving-long : {T : Type 0} (sources : List Source) (b : ℕ) (kept : List (List (Put T))) (X : Streams T) → length (arriving sources b kept X) ≡ length kept
@@ -71,7 +69,7 @@ module _ {T S : Type 0} (facts : Facts T S) (step : Stepping T S) (before : RvSt
   opens-as : (n : ℕ) → opened before kids inputs ≡ scene_of n (begun tag inputs before) kids (silents kids)
   opens-as n =
       ap (λ ps. let sc : Scene T S = record { parties = ps; inputs = arrived_inputs; outputs = outlets (net_of before).places (net_of before).sources; met = [] } in sc) (sym (seats-first before.processes.plan.barriers before.places.got before.places.puts kids)) ∙
-      ap₂ (λ out (ms : List Meeting). let sc : Scene T S = record { parties = standing before.processes.plan.barriers before.places.got before.places.puts kids (silents kids); inputs = arrived_inputs; outputs = out; met = met_events n ms } in sc) (sym f.none) (sym f.unmet)
+      ap (λ out. let sc : Scene T S = record { parties = standing before.processes.plan.barriers before.places.got before.places.puts kids (silents kids); inputs = arrived_inputs; outputs = out; met = [] } in sc) (sym f.none)
 
   pub calls-begin : Underway facts step before kids inputs (begun tag inputs before) 0 kids (silents kids)
   calls-begin = record {
@@ -89,7 +87,5 @@ module _ {T S : Type 0} (facts : Facts T S) (step : Stepping T S) (before : RvSt
     children = kids-long;
     logged = silents-long T kids ∙ kids-long;
     first_sized = f.sized;
-    course = λ n.
-        subst (λ ms. Course facts step tag (net_of before) n (opened before kids inputs) 0 ms (scene_of n (begun tag inputs before) kids (silents kids))) (sym f.unmet)
-        (subst (λ sc. Course facts step tag (net_of before) n (opened before kids inputs) 0 [] sc) (opens-as n) Begins);
+    course = λ n. subst (λ sc. Course facts step tag (net_of before) n (opened before kids inputs) 0 [] sc) (opens-as n) Begins;
   }

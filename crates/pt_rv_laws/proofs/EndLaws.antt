@@ -1,27 +1,29 @@
 -- Where a firing is over it is done, where a process is stuck it is stuck, and in its middle it may be left off.
-use Rattle.std.proofs.Common.{◌≡◌, inl, inr, ℕ, zero, suc, ◌+◌, ◌<◌, ◌≤◌, List, [], ◌∷◌, ◌++◌, true, ◌&&◌, not, get_or, Some, refl, sym, ap, ap₂, subst, ◌∙◌, arith, append-nil}
+use Rattle.std.proofs.Common.{◌≡◌, inl, inr, ℕ, zero, suc, ◌+◌, ◌<◌, ◌≤◌, List, [], ◌∷◌, ◌++◌, true, ◌&&◌, not, get_or, Some, refl, sym, ap, ap₂, subst, ◌∙◌, arith, append-nil, Bool, false}
 use Rattle.pt_meaning.specs.Streams.{Streams, IsPrefix, get, change_at}
 use Rattle.pt_meaning.specs.Log.{Log, LogBelow, Meeting, log_below}
 use Rattle.pt_meaning.specs.Machine.{Need, Fault, Outcome, Done, Stuck, Stepping, Facts}
 use Rattle.pt_meaning.specs.Net.{Net, Inside, prefixed}
 use Rattle.pt_meaning.specs.Process.{Party, Mood, Broken, all_rest, advance, mood_faults, party_faults}
 use Rattle.pt_meaning.specs.Process as process
-use Rattle.pt_meaning.specs.Meetings.{Scene, any_legal}
-use Rattle.pt_meaning.specs.Rendezvous.{Places, with_meetings, scene_log, under_meetings}
+use Rattle.pt_meaning.specs.Meetings.{Scene, any_legal, meet}
+use Rattle.pt_meaning.specs.Rendezvous.{Places, with_meetings, scene_log, under_meetings, settled, ended, if_ended, if_meets}
 use Rattle.pt_meaning.specs.AnyOrder as order
 use Rattle.pt_meaning.specs.AnyOrder.{fires_in}
 use Rattle.pt_meaning.specs.Asked.{AsksInScene}
 use Rattle.pt_meaning.specs.Laws.{IsIn}
 use Rattle.pt_laws.specs.LogsOfRuns.{logs_then, log_at, log_in}
 use Rattle.pt_laws.proofs.Order.{IsPrefix-trans, IsPrefix-append}
+use Rattle.pt_laws.proofs.RoundLaws.{grows-refl}
+use Rattle.pt_laws.proofs.MeetingLaws.{all-rest-same}
 use Rattle.pt_laws.proofs.KahnLaws.{in-left, in-right}
 use Rattle.pt_laws.proofs.MeetingIndex.{some-same, fires-are}
 use Rattle.pt_laws.proofs.MeetingRunLaws.{order-is-prefix, asked-in-order}
-use Rattle.pt_laws.proofs.OrderOfMeetings.{underway-fire, underway-end, underway-stuck}
-use Rattle.pt_rv_laws.specs.State.{Processes, RvState, need_facts, net_of, got_of, MayFire, IsOver, closed}
+use Rattle.pt_laws.proofs.OrderOfMeetings.{underway-fire, underway-end, underway-stuck, as-ahead}
+use Rattle.pt_rv_laws.specs.State.{Processes, RvState, need_facts, net_of, got_of, MayFire, IsOver, closed, AllRest}
 use Rattle.pt_rv_laws.specs.Lawful.{IsFor}
 use Rattle.pt_rv_laws.specs.Chain.{met_events, scene_of, opened, Underway, firing_from, logged_of, IsStuckAt}
-use Rattle.pt_rv_laws.proofs.SceneSeen.{over-seen}
+use Rattle.pt_rv_laws.proofs.SceneSeen.{over-seen, rests-seen}
 use Rattle.pt_rv_laws.proofs.MeetLaws as meets
 use Rattle.pt_rv_laws.proofs.FireLaws as fire
 use Rattle.pt_rv_laws.proofs.CourseLaws.{course-underway, course-came}
@@ -75,6 +77,40 @@ module _ {T S : Type 0} (facts : Facts T S) (step : Stepping T S) (before : RvSt
       ap₂ (λ (X : Places T) ss. let r : Outcome T (Inside (Places T) S) = Done (record { held = X; kids = ss }) s.outputs (scene_log (scene n)) in r) (meets.held-is facts step before kids inputs s count now ls u n) (meets.parts facts step before kids inputs s count now ls u).states ∙
       ap (λ m. let r : Outcome T (Inside (Places T) S) = Done (record { held = s.places; kids = now }) s.outputs m in r) (log-is n)
 
+  -- the definition's firing is what the scene after the meetings comes to
+  all-made : (n k : ℕ) (ms : List Meeting) (sc : Scene T S) → order.AllLegal facts step s.tag net n k ms sc → under_meetings facts step s.tag net k n ms sc ≡ ended facts step s.tag net k n (order.scene_after facts step s.tag net n k ms sc)
+  unfolding under_meetings
+  all-made n k [] sc a = refl
+  all-made n k (m ∷ ms) sc a =
+      ap (λ b. if_meets facts step s.tag net k n b (under_meetings facts step s.tag net k n ms) m (settled facts step s.tag net k n sc)) a.0 ∙ all-made n k ms (meet net n m (settled facts step s.tag net k n sc)) a.1
+
+  is-done : (b : Bool) (sc : Scene T S) (x : Inside (Places T) S) (out : Streams T) (l : Log T) → if_ended b sc ≡ Done x out l → b ≡ true
+  is-done true sc x out l e = refl
+  is-done false sc x out l e = absurd (clash e)
+    where
+      clash : Stuck (party_faults 0 sc.parties) (scene_log sc) ≡ Done x out l → ⊥
+      clash h = cc
+
+  rest-is : AllRest s → (n : ℕ) → all_rest facts (scene n).parties ≡ true
+  rest-is r n = sym (rests-seen facts (scene n).parties) ∙ ap (λ (sc : Scene T Need). all_rest need_facts sc.parties) (meets.seen-is facts step before kids inputs s count now ls u n) ∙ r
+
+  pub calls-done : AllRest s → (n k : ℕ) → count ≤ k → (x : Inside (Places T) S) (out : Streams T) (l : Log T) → firing_from facts step before kids s.tag inputs n k s.met ≡ Done x out l → IsOver s
+  calls-done r n k o x out l e =
+      let far : Scene T S = order.scene_after facts step s.tag net n k s.met start in
+      let h = as-ahead facts step s.tag net n count k o (scene n) far ((under n).behind k o) in
+      let same : far ≡ scene n = scene-same (scene n) far (all-rest-same facts step step s.tag (grows-refl step) net.sources 0 (scene n).parties far.parties h.parties (rest-is r n)) h.inputs h.outputs h.met in
+      let here : if_ended (all_rest facts (scene n).parties && not (any_legal facts net (scene n))) (scene n) ≡ Done x out l =
+      ap (λ sc. ended facts step s.tag net k n sc) (sym same) ∙ sym (all-made n k s.met start ((under n).legal k o)) ∙ firing-is n k s.met ∙ e
+      in
+      sym (ap (λ (sc : Scene T Need). all_rest need_facts sc.parties && not (any_legal need_facts net sc)) (meets.seen-is facts step before kids inputs s count now ls u n)) ∙ over-seen facts net [] (scene n) ∙ is-done _ (scene n) x out l here
+    where
+      scene-same : (a b : Scene T S) → b.parties ≡ a.parties → b.inputs ≡ a.inputs → b.outputs ≡ a.outputs → b.met ≡ a.met → b ≡ a
+      scene-same a b p i w m =
+          ap (λ v. let sc : Scene T S = record { parties = v; inputs = b.inputs; outputs = b.outputs; met = b.met } in sc) p ∙
+          ap (λ v. let sc : Scene T S = record { parties = a.parties; inputs = v; outputs = b.outputs; met = b.met } in sc) i ∙
+          ap (λ v. let sc : Scene T S = record { parties = a.parties; inputs = a.inputs; outputs = v; met = b.met } in sc) w ∙
+          ap (λ v. let sc : Scene T S = record { parties = a.parties; inputs = a.inputs; outputs = a.outputs; met = v } in sc) m
+
   pub calls-rest : IsOver s → IsFor facts (closed s) now
   calls-rest o = record {
     lawful = u.lawful;
@@ -82,7 +118,6 @@ module _ {T S : Type 0} (facts : Facts T S) (step : Stepping T S) (before : RvSt
     needs = u.needs;
     counts = u.counts;
     none = u.outputs;
-    unmet = refl;
   }
 
   pub calls-leave-off : (n k : ℕ) (more : List Meeting) → count ≤ k → LogBelow (logged_of n s ls) (log_in (firing_from facts step before kids s.tag inputs n k (s.met ++ more)))

@@ -47,10 +47,10 @@ get-short (y ∷ xs) zero x e = omega arith
 get-short (y ∷ xs) (suc i) x e = let r = get-short xs i x e in omega (arith, r)
 
 numbered-for : {T A : Type 0} (rows : Rows T A) (s : RvState T) (kids : List (Node T A)) → IsFor (facts_of rows) s kids → IsFor (child_facts (facts_of rows)) s (numbered 0 kids)
-numbered-for rows s kids f = record { lawful = f.lawful; sized = f.sized; needs = f.needs ∙ sym (mapped-numbered (need_of rows) 0 kids); counts = f.counts; none = f.none; unmet = f.unmet }
+numbered-for rows s kids f = record { lawful = f.lawful; sized = f.sized; needs = f.needs ∙ sym (mapped-numbered (need_of rows) 0 kids); counts = f.counts; none = f.none }
 
 for-numbered : {T A : Type 0} (rows : Rows T A) (s : RvState T) (kids : List (Node T A)) → IsFor (child_facts (facts_of rows)) s (numbered 0 kids) → IsFor (facts_of rows) s kids
-for-numbered rows s kids f = record { lawful = f.lawful; sized = f.sized; needs = f.needs ∙ mapped-numbered (need_of rows) 0 kids; counts = f.counts; none = f.none; unmet = f.unmet }
+for-numbered rows s kids f = record { lawful = f.lawful; sized = f.sized; needs = f.needs ∙ mapped-numbered (need_of rows) 0 kids; counts = f.counts; none = f.none }
 
 -- what is kept of the composite itself goes on by the meetings
 module _ (T : Type 0) (n : ℕ) where

@@ -14,7 +14,7 @@ use Rattle.pt_meaning.specs.Asked.{AsksInScene}
 use Rattle.pt_meaning.specs.Laws.{IsIn}
 use Rattle.pt_laws.specs.LogsOfRuns.{silents, logs_then, log_in}
 use Rattle.pt_laws.specs.SoundRuns.{count_at}
-use Rattle.pt_rv_laws.specs.State.{Processes, RvState, need_facts, net_of, got_of, scene_in, IsLegal, MayFire, IsOver, started, begun, after_meet, after_told, closed, waits}
+use Rattle.pt_rv_laws.specs.State.{Processes, RvState, need_facts, net_of, got_of, scene_in, IsLegal, MayFire, AllRest, IsOver, started, begun, after_meet, after_told, closed, waits}
 use Rattle.pt_rv_laws.specs.Lawful.{IsLawful, IsSized, HasPlaces, AllCount, IsFor}
 
 -- From a scene a composite comes to another by so many firings of its processes, which are done, and by these meetings, each of them legal when it is made, in any order of firings and meetings.
@@ -70,7 +70,7 @@ abbrev pub IsStuckAt : {T S : Type 0} → Outcome T (Inside (Places T) S) → �
 IsStuckAt {T} r i f l = (gs : List Fault) × (m : Log T) × (r ≡ Stuck gs m) × IsIn (record { path = i ∷ f.path; firing = f.firing; code = f.code }) gs × LogBelow l m
 
 -- What a chain of calls makes of a firing: a core at its start fits its processes; `begin` begins the firing; a meeting goes on with it, and leaves less to wait for; where `ask` asks for a process and its step is done, `told` goes on with it, whose need is for a count at each of its places or for any token.
--- Where it is over the firing is done under the meetings that were made, with the places of the core and the outputs that `finish` gives, and the core fits the processes again; where the process that was asked for is stuck, so is the firing, at its place. In the middle the processes have logged a beginning of the firing's log, however the meetings go on.
+-- Where it is over, and only there, the firing is done under the meetings that were made, with the places of the core and the outputs that `finish` gives, and the core fits the processes again; where the process that was asked for is stuck, so is the firing, at its place. In the middle the processes have logged a beginning of the firing's log, however the meetings go on.
 pub record CallsAreRv (T S : Type 0) : Type 0 where
   pub starts : (facts : Facts T S) (p : Processes) (kids : List S) → IsLawful p → p.starts ≡ map (λ c. facts.need c) kids → AllCount {T = T} (started p) → IsFor facts (started p) kids
   pub begins : (facts : Facts T S) (step : Stepping T S) (before : RvState T) (kids : List S) (tag : Tag) (inputs : Streams T) → IsFor facts before kids → Underway facts step before kids inputs (begun tag inputs before) 0 kids (silents kids)
@@ -87,6 +87,9 @@ pub record CallsAreRv (T S : Type 0) : Type 0 where
       (i : ℕ) → MayFire s i → (d : S) (n : ℕ) (more : List Meeting) → AsksInScene facts step s.tag (net_of s) n (s.met ++ more) (opened before kids inputs) i (get_or now i d) (got_of s i)
   pub ends : (facts : Facts T S) (step : Stepping T S) (before : RvState T) (kids : List S) (inputs : Streams T) (s : RvState T) (count : ℕ) (now : List S) (ls : List (Log T)) → Underway facts step before kids inputs s count now ls →
       IsOver s → (n k : ℕ) → count ≤ k → firing_from facts step before kids s.tag inputs n k s.met ≡ Done (record { held = s.places; kids = now }) s.outputs (logged_of n s ls)
+  -- and only there: where no process can fire and the definition's firing under these meetings is done, the core is over
+  pub done : (facts : Facts T S) (step : Stepping T S) (before : RvState T) (kids : List S) (inputs : Streams T) (s : RvState T) (count : ℕ) (now : List S) (ls : List (Log T)) → Underway facts step before kids inputs s count now ls →
+      AllRest s → (n k : ℕ) → count ≤ k → (x : Inside (Places T) S) (out : Streams T) (l : Log T) → firing_from facts step before kids s.tag inputs n k s.met ≡ Done x out l → IsOver s
   pub rests : (facts : Facts T S) (step : Stepping T S) (before : RvState T) (kids : List S) (inputs : Streams T) (s : RvState T) (count : ℕ) (now : List S) (ls : List (Log T)) → Underway facts step before kids inputs s count now ls → IsOver s → IsFor facts (closed s) now
   pub sticks : (facts : Facts T S) (step : Stepping T S) (before : RvState T) (kids : List S) (inputs : Streams T) (s : RvState T) (count : ℕ) (now : List S) (ls : List (Log T)) → Underway facts step before kids inputs s count now ls →
       (i : ℕ) → MayFire s i → (d : S) (fs : List Fault) (l : Log T) → step s.tag (get_or now i d) (got_of s i) ≡ Stuck fs l → (f : Fault) → IsIn f fs → (n k : ℕ) → count < k →

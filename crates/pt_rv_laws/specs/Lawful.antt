@@ -1,5 +1,5 @@
 -- What the processes of a composite owe, and what holds of a core between two firings.
-use Rattle.std.specs.Prelude.{◌≡◌, ℕ, ◌<◌, List, [], length, map, get_or, Some}
+use Rattle.std.specs.Prelude.{◌≡◌, ℕ, ◌<◌, List, length, map, get_or, Some}
 use Rattle.pt_meaning.specs.Streams.{get}
 use Rattle.pt_meaning.specs.Machine.{Need, Over, Counts, Any, Facts}
 use Rattle.pt_meaning.specs.Net.{Own}
@@ -29,11 +29,10 @@ HasPlaces places Any = Unit {0}
 abbrev pub AllCount : {T : Type 0} → RvState T → Type 0
 AllCount s = (i : ℕ) → i < length (net_of s).places → HasPlaces (count_at (net_of s).places i) (get_or s.needs i Over)
 
--- A core fits its processes while no firing is under way: it knows what each needs, nothing is at the own outputs, and no meeting is made.
+-- A core fits its processes while no firing is under way: it knows what each needs, and nothing is at the own outputs.
 pub record IsFor {T S : Type 0} (facts : Facts T S) (s : RvState T) (kids : List S) : Type 0 where
   pub lawful : IsLawful s.processes
   pub sized : IsSized s
   pub needs : s.needs ≡ map (λ c. facts.need c) kids
   pub counts : AllCount s
   pub none : s.outputs ≡ outlets (net_of s).places (net_of s).sources
-  pub unmet : s.met ≡ []

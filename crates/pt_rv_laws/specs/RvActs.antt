@@ -1,10 +1,10 @@
 -- The calls of the core as a driver is to know them, and their laws. The core makes a meeting itself where it is asked what comes next, with the answer that tells it, so that a driver has to record it and ask again.
 -- The answers of pt_firing don't tell yet which meeting was made, and the laws of pt_core don't speak of meetings. So the core has its own answers here, and its laws are stated as those of pt_core are, with the meetings of the firing in them.
-use Rattle.std.specs.Prelude.{◌≡◌, ℕ, ◌<◌, List, [], length, map, set, get_or, true, false, Some, None, IsSome}
+use Rattle.std.specs.Prelude.{◌∷◌, ◌++◌, ◌≡◌, ℕ, ◌<◌, List, [], length, map, set, get_or, true, false, Some, None, IsSome}
 use Rattle.pt_meaning.specs.Tag.{Tag}
 use Rattle.pt_meaning.specs.Streams.{Streams, get}
 use Rattle.pt_meaning.specs.Log.{Meeting}
-use Rattle.pt_meaning.specs.Machine.{Fault, Over}
+use Rattle.pt_meaning.specs.Machine.{Fault, Need, Over}
 use Rattle.pt_meaning.specs.Meetings.{below_child}
 use Rattle.pt_meaning.specs.Rendezvous.{first_places}
 use Rattle.pt_meaning.specs.Children.{numbered, child_facts, child_step}
@@ -54,6 +54,14 @@ abbrev pub asking : RvAnswer → State → State
 asking (Fire process tag) s = in_stage (Asked process) s
 asking (Meet m) s = after_meet m s
 asking Finished s = in_stage Closed s
+
+-- The meetings of a firing are those that the core has told since it began.
+pub record TellsMeetings : Type 0 where
+  pub begun : (tag : Tag) (inputs : Streams Token) (s : State) → (begun tag inputs s).met ≡ []
+  pub fires : (process : ℕ) (tag : Tag) (s : State) → (asking (Fire process tag) s).met ≡ s.met
+  pub meets : (m : Meeting) (s : State) → (asking (Meet m) s).met ≡ s.met ++ (m ∷ [])
+  pub told : (process : ℕ) (out : Streams Token) (need : Need) (s : State) → (after_told process out need s).met ≡ s.met
+  pub finishes : (s : State) → (asking Finished s).met ≡ s.met
 
 -- the same by the answers of pt_firing, none of which tells a meeting
 abbrev pub GivesPlain : State → Ask → Type 0
@@ -174,6 +182,7 @@ module _ {A : Type 0} (rows : Rows Token A) where
   -- A firing begins where none is under way, and goes on, ends, is stuck or is left off as its middle says.
   pub record RvLawful : Type 0 where
     pub agree : CallsAgree rv_calls
+    pub tells : TellsMeetings
     pub idle : (s : State) (kids : List (Node Token A)) → Fits s kids → rv_calls.IsIdle s
     pub wakes : (s : State) (kids : List (Node Token A)) → Fits s kids → rv_calls.wake s ≡ core_wake (rv_calls.core_of s) (wakes_of rows (nodes_of kids))
     pub fits_again : (s : State) (kids : List (Node Token A)) → Fits s kids → Fits (restarted s) (map reset_of kids)

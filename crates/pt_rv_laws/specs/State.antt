@@ -90,14 +90,14 @@ module _ {T : Type 0} where
   abbrev pub restarted : RvState T → RvState T
   restarted s = started s.processes
 
-  -- a firing begins: each own input has its new tokens to put, behind those that it kept
+  -- a firing begins: each own input has its new tokens to put, behind those that it kept, and no meeting is made
   abbrev pub begun : Tag → Streams T → RvState T → RvState T
   begun tag inputs s = record {
     processes = s.processes;
     needs = s.needs;
     places = record { got = s.places.got; puts = s.places.puts; inputs = arriving (net_of s).sources 0 s.places.inputs inputs };
     outputs = s.outputs;
-    met = s.met;
+    met = [];
     tag = tag;
     stage = Open;
   }
