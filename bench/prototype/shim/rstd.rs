@@ -669,6 +669,9 @@ impl<T> VecDeque<T> {
     pub fn front(&self) -> Option<&T> {
         if self.len == 0 { None } else { Some(&self[0]) }
     }
+    pub fn get(&self, i: usize) -> Option<&T> {
+        if i < self.len { Some(&self[i]) } else { None }
+    }
     pub fn back(&self) -> Option<&T> {
         if self.len == 0 { None } else { Some(&self[self.len - 1]) }
     }
