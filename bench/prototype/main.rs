@@ -123,6 +123,16 @@ fn document(kind: &str, size: usize) -> (Vec<Entity>, Vec<(usize, Vec<(usize, &'
             let (e, groups, last) = row(e);
             return (e, groups, last - 1);
         }
+        // SIZE times a ramp into a sum, straight and by a DownSample, so that the straight channel has to grow twice.
+        "forks" => {
+            for n in 0..size {
+                e.push(entity(format!("src{n}"), "Ramp", &[]));
+                e.push(entity(format!("down{n}"), "DownSample", &[("factor", 4)]));
+                e.push(entity(format!("sum{n}"), "AddSubtract", &[]));
+                groups.push((3 * n, vec![(3 * n + 2, "plus"), (3 * n + 1, "input")]));
+                groups.push((3 * n + 1, vec![(3 * n + 2, "plus")]));
+            }
+        }
         // One ramp into SIZE scales, all of which go to a sum.
         "butterfly" => {
             e.push(entity("src".into(), "Ramp", &[]));
@@ -402,7 +412,9 @@ pub fn build(kind: &str, size: usize, iterations: u64, by: &str) -> (Node, usize
     let (mut entities, groups, last) = document(kind, size);
     let channels = join(&mut entities, &groups);
     if is_network(kind) {
-        entities[0].values.push(("firingCountLimit", iterations as i64));
+        for ramp in entities.iter_mut().filter(|e| e.class == "Ramp") {
+            ramp.values.push(("firingCountLimit", iterations as i64));
+        }
         let children = row(entities.iter().enumerate().map(|(k, e)| node_of(e, k == last)));
         let core = crate::pt_pn::Core::new(GLOBAL, network_plan(&entities, &channels, children.as_slice())).ok().unwrap();
         return (top_of(Either::Other(Either::Other(Either::Other(core))), children), 0, last);
@@ -465,7 +477,7 @@ fn is_timed(kind: &str) -> bool {
 
 /// Whether a model is under PN.
 fn is_network(kind: &str) -> bool {
-    ["network", "flat", "gathered", "butterfly"].contains(&kind)
+    ["network", "flat", "gathered", "butterfly", "forks"].contains(&kind)
 }
 
 /// The plan of a PN composite with the capacities that a director has by default.
