@@ -13,6 +13,7 @@ mod numbers;
 mod parameters;
 mod parsing;
 mod plans;
+mod pn_cores;
 mod printed_expressions;
 mod rates;
 mod receivers;
@@ -50,6 +51,7 @@ impl Answers for Questions {
             "rates.txt" => rates::answer(alloc, section, question, out),
             "plans.txt" => plans::answer(alloc, section, question, out),
             "de_plans.txt" => de_plans::answer(alloc, section, question, out),
+            "pn_cores.txt" => pn_cores::answer(alloc, section, question, out),
             "de_cores.txt" => de_cores::answer(alloc, section, question, out),
             "modal.txt" => modal::answer(alloc, section, question, out),
             "receivers.txt" => receivers::answer(alloc, section, question, out),

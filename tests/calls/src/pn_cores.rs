@@ -4,7 +4,6 @@ use crate::numbers::{part, size};
 use crate::plans::source;
 use crate::tags;
 use crate::token_texts::{show, show_ports};
-use pt_core::Core as Driven;
 use pt_firing::{Ask, Counts, Inputs, Need, Outputs, Tokens};
 use pt_pn::Core;
 use pt_process::CorePlan;
