@@ -1,5 +1,6 @@
 -- What the names in guards and actions stand for: a token where there is one, of the type of its name.
-use Rattle.std.specs.Prelude.{ℕ, suc, ◌≡◌, List, [], ◌∷◌, Bool, false, ◌||◌, Option, Some, None, if◌then◌else◌}
+use Rattle.std.specs.Prelude.{ℕ, suc, ◌≡◌, List, [], ◌∷◌, Bool, false, ◌||◌, not, Option, Some, None, unwrap_or, if◌then◌else◌}
+use Rattle.pt_meaning.specs.Streams.{get}
 use Rattle.pt_meaning.specs.Transitions.{input_in, output_in, variable_in}
 use Rattle.pt_meaning.specs.Transitions.{Scope as Reads}
 use Rattle.pt_value.specs.Value.{Value}
@@ -36,3 +37,26 @@ is_named table name = is_among name (names table.variables) || (is_among name (n
 -- a scope has the parameters under all other names
 abbrev pub HasParameters : NameTable → Scope → Type 0
 HasParameters table scope = (name : List ℕ) → is_named table name ≡ false → scope name ≡ parameters table.parameters name
+
+-- ---- a Variable that has another value
+
+-- a port has the name
+abbrev pub is_port : NameTable → List ℕ → Bool
+is_port table name = is_among name (names table.outputs) || is_among name (names table.inputs)
+
+-- of each of these Variables, whether no later one has its name, and none of the names that are taken is that
+abbrev pub shown_among : (taken : List ℕ → Bool) → List (List ℕ × Datatype) → List Bool
+shown_among taken [] = []
+shown_among taken (e ∷ es) = not (is_among e.0 (names es) || taken e.0) ∷ shown_among taken es
+
+-- which Variables are what their names stand for: neither a later Variable nor a port hides them
+abbrev pub are_shown : NameTable → List Bool
+are_shown table = shown_among (is_port table) table.variables
+
+abbrev pub renamed : Option (List ℕ × Datatype) → Token → Scope → Scope
+renamed (Some e) x scope = with_name e.0 (of_type e.1 (Some x)) scope
+renamed None x scope = scope
+
+-- with another token for the name of a Variable, where the name stands for the Variable
+abbrev pub with_value : NameTable → ℕ → Token → Scope → Scope
+with_value table i x scope = if unwrap_or (get (are_shown table) i) false then renamed (get table.variables i) x scope else scope

@@ -1,18 +1,19 @@
-ghost use Rattle.std.specs.Prelude.{◌≡◌, [], ◌∷◌, IfOk, map, option_map, true};
-ghost use Rattle.pt_meaning.specs.Streams.{change_at};
+ghost use Rattle.std.specs.Prelude.{◌≡◌, [], ◌∷◌, IfOk, OnOk, map, option_map, true};
+ghost use Rattle.pt_meaning.specs.Streams.{Streams, change_at};
+ghost use Rattle.pt_value.specs.declared.token.Token.{Token};
 ghost use Rattle.pt_language.specs.Expr.{tree_of};
 ghost use Rattle.pt_language.specs.Meaning.{value};
 ghost use Rattle.pt_language.specs.Outcome.{Wrong};
 ghost use Rattle.pt_expr.specs.Env.{scope_of};
 ghost use Rattle.pt_firing.specs.RunFault.{code_of};
 ghost use Rattle.pt_chart.specs.Chart.{reading_of};
-ghost use Rattle.pt_chart.specs.Names.{HasParameters};
+ghost use Rattle.pt_chart.specs.Bindings.{Fits, scope_on, IsBound, Follows};
 ghost use Rattle.pt_chart.specs.Typed.{types_of, are_typed_actions};
 ghost use Rattle.pt_chart.specs.Acts.{AreRight, put_one, set_one, put_all, set_all};
 ghost use Rattle.pt_chart.specs.Views.{action_view, names_view};
 
+use crate::bindings::Bindings;
 use crate::evaluation::{Reading, read};
-use crate::names::Reads;
 use crate::written::{Action, Names};
 use pt_expr::Env;
 use pt_firing::{RunFault, Tokens};
@@ -67,51 +68,80 @@ fn give(outputs: &mut Vec<Tokens>, port: u32, token: Token)
 }
 
 /// Runs set actions in listed order, each seeing the Variables as the earlier ones left them. The fault of one ends them.
+///
+/// A name is bound anew only where a later action may read it.
 pub(crate) fn set_all(
     alloc: Global,
     actions: &[Action],
     names: &Names,
-    env: &mut Env,
-    inputs: &[Tokens],
-    given: &[Tokens],
+    bindings: &mut Bindings,
     values: &mut Vec<Token>,
 ) -> Result<Option<RunFault>, AllocError>
     requires typed { are_typed_actions (types_of (names_view names.now)) (map action_view actions.now) ≡ true }
-    requires parameters { HasParameters (names_view names.now) (scope_of env.old) }
-    ensures parameters { HasParameters (names_view names.now) (scope_of env.new) }
-    ensures set { IfOk result (λ fault. set_all (names_view names.now) (map action_view actions.now) inputs.now given.now values.old.items ≡ (option_map code_of fault, values.new.items)) }
+    requires fits { Fits (names_view names.now) bindings.old }
+    requires bound { IsBound (names_view names.now) values.old.items (scope_of bindings.old.env) }
+    ensures fits { Fits (names_view names.now) bindings.new }
+    ensures set { IfOk result (λ fault. (came given : Streams Token) → scope_of bindings.old.env ≡ scope_on (names_view names.now) values.old.items came given → set_all (names_view names.now) (map action_view actions.now) came given values.old.items ≡ (option_map code_of fault, values.new.items)) }
 {
-    for action in actions {
-        let reads = Reads {
-            values: values.as_slice(),
-            inputs,
-            given,
-        };
-        names.bind(env, alloc, &reads)?;
-        if let Some(fault) = set_one(alloc, action, env, values)? {
+    for (number, action) in actions.iter().enumerate() {
+        let more = number + 1 < actions.len();
+        if let Some(fault) = set_one(alloc, action, names, bindings, values, more)? {
             return Ok(Some(fault));
         }
     }
     Ok(None)
 }
 
+/// Runs a set action. Where more of them come, the name of its Variable is bound anew.
 fn set_one(
     alloc: Global,
     action: &Action,
-    env: &Env,
+    names: &Names,
+    bindings: &mut Bindings,
     values: &mut Vec<Token>,
+    more: bool,
 ) -> Result<Option<RunFault>, AllocError>
-    requires right { ¬ (value (scope_of env.now) (tree_of action.now.value) ≡ Wrong) }
-    ensures { IfOk result (λ fault. set_one (reading_of (value (scope_of env.now) (tree_of action.now.value))) action.now.target values.old.items ≡ (option_map code_of fault, values.new.items)) }
+    requires right { ¬ (value (scope_of bindings.old.env) (tree_of action.now.value) ≡ Wrong) }
+    requires fits { Fits (names_view names.now) bindings.old }
+    ensures fits { Fits (names_view names.now) bindings.new }
+    ensures set { IfOk result (λ fault. set_one (reading_of (value (scope_of bindings.old.env) (tree_of action.now.value))) action.now.target values.old.items ≡ (option_map code_of fault, values.new.items)) }
+    ensures bound { OnOk result (more ≡ true → Follows (names_view names.now) values.old.items (scope_of bindings.old.env) values.new.items (scope_of bindings.new.env)) }
 {
-    match read(alloc, &action.value, env)? {
+    match read(alloc, &action.value, &bindings.env)? {
         Reading::Reads(token) => {
-            assign(values, action.target, token);
+            if more {
+                assign_named(alloc, names, bindings, values, action.target, token)?;
+            } else {
+                assign(values, action.target, token);
+            }
             Ok(None)
         }
         Reading::Absent => Ok(None),
         Reading::Faulty(fault) => Ok(Some(fault)),
     }
+}
+
+/// Gives a Variable a value, and its name.
+fn assign_named(
+    alloc: Global,
+    names: &Names,
+    bindings: &mut Bindings,
+    values: &mut Vec<Token>,
+    variable: u32,
+    token: Token,
+) -> Result<(), AllocError>
+    requires fits { Fits (names_view names.now) bindings.old }
+    ensures fits { Fits (names_view names.now) bindings.new }
+    ensures set { OnOk result (values.new.items ≡ change_at variable (λ old. token) values.old.items) }
+    ensures bound { OnOk result (Follows (names_view names.now) values.old.items (scope_of bindings.old.env) values.new.items (scope_of bindings.new.env)) }
+{
+    let variable = variable as usize;
+    if variable >= values.len() {
+        return Ok(());
+    }
+    bindings.set(alloc, names, variable, &token)?;
+    values[variable] = token;
+    Ok(())
 }
 
 /// Gives a Variable a value.

@@ -2,12 +2,11 @@ ghost use Rattle.std.specs.Prelude.{◌≡◌, IfOk, map};
 ghost use Rattle.pt_chart.specs.Acts.{mode_at, kind_of};
 ghost use Rattle.pt_chart.specs.Views.{mode_view, transition_view};
 
+use crate::bindings::Bindings;
 use crate::lists::{empty_lists, picked, shown};
-use crate::names::bound;
 use crate::reaction::{Reaction, react};
 use crate::typed::is_typed_machine;
 use crate::written::{Mode, Transition, Written, copied_tokens};
-use pt_expr::Env;
 use pt_firing::{Outputs, Tokens};
 use pt_value::Token;
 use std::alloc::{AllocError, Global};
@@ -16,17 +15,25 @@ use std::marker::Model;
 /// The chart of a Modal: what is written, all of whose guards and actions have a type.
 ///
 /// The parameters are bound once. At a reaction only ports and Variables are bound anew, and what they were bound to before doesn't count.
-#[derive(Drop)]
 pub struct Chart {
     written: Written,
-    env: Env,
+    bindings: Bindings,
+}
+
+// Written by hand, so that letting go of a chart is one call in the proofs above.
+impl Drop for Chart {
+    fn drop(self) {
+        let Chart {
+            written: _,
+            bindings: _,
+        } = self;
+    }
 }
 
 impl Model for Chart {
     ghost use Rattle.std.specs.Prelude.{◌≡◌, true};
-    ghost use Rattle.pt_expr.specs.Env.{scope_of};
     ghost use Rattle.pt_chart.specs.Machine.{Machine, coded_machine};
-    ghost use Rattle.pt_chart.specs.Names.{HasParameters};
+    ghost use Rattle.pt_chart.specs.Bindings.{Fits};
     ghost use Rattle.pt_chart.specs.Typed.{is_typed_machine};
     ghost use Rattle.pt_chart.specs.Views.{names_view, machine_of};
 
@@ -36,7 +43,7 @@ impl Model for Chart {
 
     ghost view = { λ c. machine_of c.written };
 
-    ghost invariant = { λ c. HasParameters (names_view c.written.names) (scope_of c.env) × (is_typed_machine (machine_of c.written) ≡ true) };
+    ghost invariant = { λ c. Fits (names_view c.written.names) c.bindings × (is_typed_machine (machine_of c.written) ≡ true) };
 }
 
 impl Chart {
@@ -63,8 +70,13 @@ impl Chart {
         requires { is_typed_machine (machine_of written) ≡ true }
         ensures { IfOk result (λ chart. chart ≡ machine_of written) }
     {
-        let env = bound(alloc, &written.names.parameters)?;
-        Ok(Chart { written, env })
+        match Bindings::of(alloc, &written.names) {
+            Ok(bindings) => Ok(Chart { written, bindings }),
+            Err(fault) => {
+                drop(written);
+                Err(fault)
+            }
+        }
     }
 
     /// How many own inputs there are.
@@ -145,7 +157,7 @@ impl Chart {
             alloc,
             transitions,
             names,
-            &mut self.env,
+            &mut self.bindings,
             values,
             inputs,
             given,
@@ -170,7 +182,7 @@ impl Chart {
             alloc,
             transitions,
             names,
-            &mut self.env,
+            &mut self.bindings,
             values,
             inputs,
             given,

@@ -2,12 +2,14 @@
 #![tactic(auto)]
 
 mod acts;
+mod bindings;
 mod chart;
 mod choose;
 mod evaluation;
 mod lists;
 mod names;
 mod reaction;
+mod shown;
 mod typed;
 mod written;
 

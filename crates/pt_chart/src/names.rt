@@ -6,7 +6,7 @@ ghost use Rattle.pt_types.specs.Ty.{type_of};
 ghost use Rattle.pt_types.specs.Entry.{typed_entry};
 ghost use Rattle.pt_expr.specs.Env.{scope_of};
 ghost use Rattle.pt_lib_flow.specs.Formula.{names, parameters, is_among};
-ghost use Rattle.pt_chart.specs.Names.{of_type, with_names, over, is_named};
+ghost use Rattle.pt_chart.specs.Names.{of_type, with_names, over, is_named, renamed};
 ghost use Rattle.pt_chart.specs.Views.{names_view, reads_view};
 
 use crate::written::Names;
@@ -89,6 +89,26 @@ fn bind_values(
         let token = held(alloc, ty, value_at(values, i))?;
         env.bind(name.as_str(), token)?;
     }
+    Ok(())
+}
+
+/// Binds the name of the Variable of this number to a token, if there is one.
+pub(crate) fn rebind(
+    env: &mut Env,
+    alloc: Global,
+    entries: &[(Text, Ty)],
+    variable: usize,
+    token: &Token,
+) -> Result<(), AllocError>
+    ensures ok { OnOk result ((name : List ℕ) → scope_of env.new name ≡ renamed (get (map typed_entry entries.now) variable) token.now (scope_of env.old) name) }
+    ensures others { (name : List ℕ) → is_among name (names (map typed_entry entries.now)) ≡ false → scope_of env.new name ≡ scope_of env.old name }
+{
+    if variable >= entries.len() {
+        return Ok(());
+    }
+    let (name, ty) = &entries[variable];
+    let token = held(alloc, ty, Some(token))?;
+    env.bind(name.as_str(), token)?;
     Ok(())
 }
 

@@ -1,19 +1,19 @@
 ghost use Rattle.std.specs.Prelude.{◌≡◌, ℕ, IfOk, map, true};
+ghost use Rattle.pt_meaning.specs.Streams.{Streams};
+ghost use Rattle.pt_value.specs.declared.token.Token.{Token};
 ghost use Rattle.pt_expr.specs.Env.{scope_of};
-ghost use Rattle.pt_chart.specs.Names.{HasParameters};
+ghost use Rattle.pt_chart.specs.Bindings.{Fits, scope_on};
 ghost use Rattle.pt_chart.specs.Typed.{types_of, are_typed_transitions, is_typed_transition};
 ghost use Rattle.pt_chart.specs.Reacted.{by_actions};
 ghost use Rattle.pt_chart.specs.Acts.{acted, reacted_by};
-ghost use Rattle.pt_chart.specs.Names.{names_in};
 ghost use Rattle.pt_chart.specs.Views.{transition_view, names_view};
 ghost use Rattle.pt_chart.specs.Moves.{reaction_view};
 
 use crate::acts::{put_all, set_all};
+use crate::bindings::Bindings;
 use crate::choose::{Choice, choose};
-use crate::lists::copied_lists;
 use crate::names::Reads;
 use crate::written::{Names, Transition, copied_tokens};
-use pt_expr::Env;
 use pt_firing::{RunFault, Tokens};
 use pt_value::Token;
 use std::alloc::{AllocError, Global};
@@ -38,38 +38,33 @@ pub struct Move {
     pub values: Vec<Token>,
 }
 
-/// What comes of some transitions. Only names that are bound anew by each firing are changed in the environment.
+/// What comes of some transitions. Only names of ports and Variables are bound anew, and only where there is a guard.
 pub(crate) fn react(
     alloc: Global,
     transitions: &[Transition],
     names: &Names,
-    env: &mut Env,
+    bindings: &mut Bindings,
     values: &[Token],
     inputs: &[Tokens],
     given: Vec<Tokens>,
 ) -> Result<Reaction, AllocError>
     requires typed { are_typed_transitions (types_of (names_view names.now)) (map transition_view transitions.now) ≡ true }
-    requires parameters { HasParameters (names_view names.now) (scope_of env.old) }
-    ensures parameters { HasParameters (names_view names.now) (scope_of env.new) }
+    requires fits { Fits (names_view names.now) bindings.old }
+    ensures fits { Fits (names_view names.now) bindings.new }
     ensures reaction { IfOk result (λ r. (mode : ℕ) → reaction_view r ≡ reacted_by (names_view names.now) mode (map transition_view transitions.now) (record { values = values.now; inputs = inputs.now; given = given.items })) }
 {
+    if transitions.is_empty() {
+        return Ok(Reaction::Stays(given));
+    }
     let reads = Reads {
         values,
         inputs,
         given: given.as_slice(),
     };
-    names.bind(env, alloc, &reads)?;
-    match choose(alloc, transitions, env)? {
+    bindings.bind(alloc, names, &reads)?;
+    match choose(alloc, transitions, &bindings.env)? {
         Choice::Nothing => Ok(Reaction::Stays(given)),
-        Choice::One(number) => take(
-            alloc,
-            &transitions[number],
-            names,
-            env,
-            values,
-            inputs,
-            &given,
-        ),
+        Choice::One(number) => take(alloc, &transitions[number], names, bindings, values, given),
         Choice::Wrong(fault) => Ok(Reaction::Stops(fault)),
     }
 }
@@ -79,24 +74,23 @@ fn take(
     alloc: Global,
     transition: &Transition,
     names: &Names,
-    env: &mut Env,
+    bindings: &mut Bindings,
     values: &[Token],
-    inputs: &[Tokens],
-    given: &[Tokens],
+    given: Vec<Tokens>,
 ) -> Result<Reaction, AllocError>
     requires typed { is_typed_transition (types_of (names_view names.now)) (transition_view transition.now) ≡ true }
-    requires bound { scope_of env.old ≡ names_in (names_view names.now) (record { values = values.now; inputs = inputs.now; given = given.now }) }
-    requires parameters { HasParameters (names_view names.now) (scope_of env.old) }
-    ensures parameters { HasParameters (names_view names.now) (scope_of env.new) }
-    ensures reaction { IfOk result (λ r. reaction_view r ≡ by_actions transition.now.target transition.now.history (acted (names_view names.now) (transition_view transition.now) (record { values = values.now; inputs = inputs.now; given = given.now }))) }
+    requires fits { Fits (names_view names.now) bindings.old }
+    requires bound { (came : Streams Token) × (scope_of bindings.old.env ≡ scope_on (names_view names.now) values.now came given.items) }
+    ensures fits { Fits (names_view names.now) bindings.new }
+    ensures reaction { IfOk result (λ r. (came : Streams Token) → scope_of bindings.old.env ≡ scope_on (names_view names.now) values.now came given.items → reaction_view r ≡ by_actions transition.now.target transition.now.history (acted (names_view names.now) (transition_view transition.now) (record { values = values.now; inputs = came; given = given.items }))) }
 {
-    let mut outputs = copied_lists(alloc, given)?;
-    if let Some(fault) = put_all(alloc, &transition.outputs, env, &mut outputs)? {
+    let mut outputs = given;
+    if let Some(fault) = put_all(alloc, &transition.outputs, &bindings.env, &mut outputs)? {
         return Ok(Reaction::Stops(fault));
     }
     let mut values = copied_tokens(alloc, values)?;
     let sets = transition.sets.as_slice();
-    if let Some(fault) = set_all(alloc, sets, names, env, inputs, given, &mut values)? {
+    if let Some(fault) = set_all(alloc, sets, names, bindings, &mut values)? {
         return Ok(Reaction::Stops(fault));
     }
     Ok(Reaction::Moves(Move {

@@ -7,6 +7,8 @@ use pt_language::Expr;
 use pt_value::Token;
 use std::alloc::{AllocError, Global};
 
+// The drops of what holds trees are written by hand, so that letting go of them is one call in the proofs above.
+
 /// An action: the number of an output or a Variable, and the expression whose value it gives that.
 #[derive(Drop)]
 pub struct Action {
@@ -15,7 +17,6 @@ pub struct Action {
 }
 
 /// A transition: its guard, its actions in listed order, the state to which it leads, and whether it keeps history.
-#[derive(Drop)]
 pub struct Transition {
     pub guard: Expr,
     pub outputs: Vec<Action>,
@@ -24,12 +25,33 @@ pub struct Transition {
     pub history: bool,
 }
 
+impl Drop for Transition {
+    fn drop(self) {
+        let Transition {
+            guard: _,
+            outputs: _,
+            sets: _,
+            target: _,
+            history: _,
+        } = self;
+    }
+}
+
 /// A state: its refinement, and its transitions, preemptive and not, each kind in listed order.
-#[derive(Drop)]
 pub struct Mode {
     pub refinement: Option<u32>,
     pub preemptive: Vec<Transition>,
     pub others: Vec<Transition>,
+}
+
+impl Drop for Mode {
+    fn drop(self) {
+        let Mode {
+            refinement: _,
+            preemptive: _,
+            others: _,
+        } = self;
+    }
 }
 
 /// The ports of a refinement: for each of its inputs the own input of that name, and for each own output its port of that name.
@@ -49,7 +71,6 @@ pub struct Names {
 }
 
 /// A Modal as it is written.
-#[derive(Drop)]
 pub struct Written {
     pub names: Names,
     /// The first values of the Variables.
@@ -58,6 +79,18 @@ pub struct Written {
     pub modes: Vec<Mode>,
     /// Those of each refinement.
     pub ports: Vec<Ports>,
+}
+
+impl Drop for Written {
+    fn drop(self) {
+        let Written {
+            names: _,
+            values: _,
+            initial: _,
+            modes: _,
+            ports: _,
+        } = self;
+    }
 }
 
 impl Action {

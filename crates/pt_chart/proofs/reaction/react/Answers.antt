@@ -1,4 +1,5 @@
-use Rattle.std.proofs.Common.{◌≡◌, ℕ, ◌<◌, List, map, length, sym, ap, subst, ◌∙◌, arith, rules}
+use Rattle.std.proofs.Common.{◌≡◌, ℕ, ◌<◌, List, [], ◌∷◌, map, length, refl, sym, ap, subst, ◌∙◌, arith, rules}
+use Rattle.std.proofs.lemmas.Bool.{eqb-true}
 use Rattle.std.proofs.lemmas.Grind.{common_steps}
 use Rattle.std.proofs.lemmas.List.{length-map}
 use Rattle.std.proofs.lemmas.Result.{IfOk-weaker}
@@ -11,8 +12,10 @@ use Rattle.pt_language.specs.Scope.{Scope}
 use Rattle.pt_language.specs.Meaning.{value}
 use Rattle.pt_expr.specs.Env.{scope_of}
 use Rattle.pt_chart.specs.declared.reaction.Reaction.{Reaction}
+use Rattle.pt_chart.specs.declared.written.Transition.{Transition}
 use Rattle.pt_chart.specs.Machine.{TransitionTree}
-use Rattle.pt_chart.specs.Names.{over, names_in}
+use Rattle.pt_chart.specs.Names.{names_in}
+use Rattle.pt_chart.specs.Bindings.{scope_on}
 use Rattle.pt_chart.specs.Typed.{types_of, is_typed_transition}
 use Rattle.pt_chart.specs.Chart.{test_of}
 use Rattle.pt_chart.specs.Choose.{AreRightGuards, tests_in, choice_view}
@@ -20,24 +23,34 @@ use Rattle.pt_chart.specs.Reacted.{by_actions}
 use Rattle.pt_chart.specs.Acts.{acted, reacted_by}
 use Rattle.pt_chart.specs.Moves.{reaction_view}
 use Rattle.pt_chart.specs.Views.{names_view, transition_view}
-use Rattle.pt_chart.proofs.NameLaws.{over-parameters}
 use Rattle.pt_chart.proofs.ChooseLaws.{chosen-there}
 use Rattle.pt_chart.proofs.RightLaws.{right-guards, all-at}
 use Rattle.pt_chart.proofs.ReactLaws.{nothing-chosen, one-chosen}
 use Rattle.pt_chart.proofs.reaction.react.Goals as goal
 
+nothing : {A : Type 0} (xs : List A) → length xs ≡ 0 → xs ≡ []
+nothing [] none = refl
+nothing (x ∷ xs) none = absurd (omega (arith, none))
+
+pub returns-then-is_empty-clause-reaction : goal.returns-then-is_empty-clause-reaction
+returns-then-is_empty-clause-reaction c mode =
+    let table = names_view c.args.names.now in
+    let reads : Reads Token = record { values = c.args.values.now; inputs = c.args.inputs.now; given = c.args.given.items } in
+    let none : c.args.transitions.now ≡ [] = nothing c.args.transitions.now (eqb-true (length c.args.transitions.now) 0 (sym c.is_empty.ensures ∙ c.if-is_empty.true)) in
+    sym (ap (λ (ts : List Transition). reacted_by table mode (map transition_view ts) reads) none)
+
 pub choose-requires : goal.choose-requires
 choose-requires c =
     let table = names_view c.args.names.now in
-    let s = scope_of c.bind.new.env in
+    let s = scope_of c.bind.new.self.env in
     let reads : Reads Token = record { values = c.args.values.now; inputs = c.args.inputs.now; given = c.args.given.items } in
-    let bound : s ≡ names_in table reads = over-parameters table reads (scope_of c.args.env.now) s c.requires.parameters (λ name. c.in_ok-bind.ensures.ok name ∙ ap (λ (g : Streams Token). over table (record { values = c.args.values.now; inputs = c.args.inputs.now; given = g }) (scope_of c.args.env.now) name) c.as_slice.ensures.value) in
+    let bound : s ≡ names_in table reads = c.in_ok-bind.ensures.bound ∙ ap (λ (g : Streams Token). scope_on table c.args.values.now c.args.inputs.now g) c.as_slice.ensures.value in
     let ts : List TransitionTree = map transition_view c.args.transitions.now in
     record { right = subst (λ (u : Scope). AreRightGuards u ts) (sym bound) (right-guards table reads ts c.requires.typed) }
 
 pub bounds-transitions-number : goal.bounds-transitions-number
 bounds-transitions-number c =
-    let s = scope_of c.bind.new.env in
+    let s = scope_of c.bind.new.self.env in
     let ts : List TransitionTree = map transition_view c.args.transitions.now in
     let is = sym c.in_ok-choose.ensures ∙ ap choice_view c.in-One.is in
     let there = (chosen-there 0 c.in-One.number (tests_in s ts) is).1 in
@@ -46,57 +59,57 @@ bounds-transitions-number c =
 pub take-requires : goal.take-requires
 take-requires c =
     let table = names_view c.args.names.now in
-    let s = scope_of c.bind.new.env in
+    let s = scope_of c.bind.new.self.env in
     let reads : Reads Token = record { values = c.args.values.now; inputs = c.args.inputs.now; given = c.args.given.items } in
-    let bound : s ≡ names_in table reads = over-parameters table reads (scope_of c.args.env.now) s c.requires.parameters (λ name. c.in_ok-bind.ensures.ok name ∙ ap (λ (g : Streams Token). over table (record { values = c.args.values.now; inputs = c.args.inputs.now; given = g }) (scope_of c.args.env.now) name) c.as_slice.ensures.value) in
+    let bound : s ≡ names_in table reads = c.in_ok-bind.ensures.bound ∙ ap (λ (g : Streams Token). scope_on table c.args.values.now c.args.inputs.now g) c.as_slice.ensures.value in
     let ts : List TransitionTree = map transition_view c.args.transitions.now in
     let is = sym c.in_ok-choose.ensures ∙ ap choice_view c.in-One.is in
     let there = (chosen-there 0 c.in-One.number (tests_in s ts) is).1 in
     let short : c.in-One.number < length c.args.transitions.now = omega (arith, there, length-map ts (λ t. test_of (value s t.guard)), length-map c.args.transitions.now transition_view) in
     record {
       typed = all-at (is_typed_transition (types_of table)) transition_view c.args.transitions.now c.in-One.number c.index-transitions-number.result c.requires.typed short c.index-transitions-number.is;
-      bound = bound ∙ ap (λ (g : Streams Token). names_in table (record { values = c.args.values.now; inputs = c.args.inputs.now; given = g })) (sym c.deref.ensures.value);
-      parameters = λ name apart. c.bind.ensures.others name apart ∙ c.requires.parameters name apart;
+      fits = c.bind.ensures.fits;
+      bound = (c.args.inputs.now, bound);
     }
 
 pub returns-in-Nothing-clause-reaction : goal.returns-in-Nothing-clause-reaction
 returns-in-Nothing-clause-reaction c mode =
     let table = names_view c.args.names.now in
-    let s = scope_of c.bind.new.env in
+    let s = scope_of c.bind.new.self.env in
     let reads : Reads Token = record { values = c.args.values.now; inputs = c.args.inputs.now; given = c.args.given.items } in
-    let bound : s ≡ names_in table reads = over-parameters table reads (scope_of c.args.env.now) s c.requires.parameters (λ name. c.in_ok-bind.ensures.ok name ∙ ap (λ (g : Streams Token). over table (record { values = c.args.values.now; inputs = c.args.inputs.now; given = g }) (scope_of c.args.env.now) name) c.as_slice.ensures.value) in
+    let bound : s ≡ names_in table reads = c.in_ok-bind.ensures.bound ∙ ap (λ (g : Streams Token). scope_on table c.args.values.now c.args.inputs.now g) c.as_slice.ensures.value in
     let ts : List TransitionTree = map transition_view c.args.transitions.now in
     nothing-chosen table mode ts reads s Nothing bound (ap choice_view (sym c.in-Nothing.is) ∙ c.in_ok-choose.ensures)
 
 pub returns-in-Wrong-clause-reaction : goal.returns-in-Wrong-clause-reaction
 returns-in-Wrong-clause-reaction c mode =
     let table = names_view c.args.names.now in
-    let s = scope_of c.bind.new.env in
+    let s = scope_of c.bind.new.self.env in
     let reads : Reads Token = record { values = c.args.values.now; inputs = c.args.inputs.now; given = c.args.given.items } in
-    let bound : s ≡ names_in table reads = over-parameters table reads (scope_of c.args.env.now) s c.requires.parameters (λ name. c.in_ok-bind.ensures.ok name ∙ ap (λ (g : Streams Token). over table (record { values = c.args.values.now; inputs = c.args.inputs.now; given = g }) (scope_of c.args.env.now) name) c.as_slice.ensures.value) in
+    let bound : s ≡ names_in table reads = c.in_ok-bind.ensures.bound ∙ ap (λ (g : Streams Token). scope_on table c.args.values.now c.args.inputs.now g) c.as_slice.ensures.value in
     let ts : List TransitionTree = map transition_view c.args.transitions.now in
     nothing-chosen table mode ts reads s (Wrong (code_of c.in-Wrong.fault)) bound (ap choice_view (sym c.in-Wrong.is) ∙ c.in_ok-choose.ensures)
 
 pub returns-in-One-clause-reaction : goal.returns-in-One-clause-reaction
 returns-in-One-clause-reaction c =
     let table = names_view c.args.names.now in
-    let s = scope_of c.bind.new.env in
+    let s = scope_of c.bind.new.self.env in
     let reads : Reads Token = record { values = c.args.values.now; inputs = c.args.inputs.now; given = c.args.given.items } in
-    let bound : s ≡ names_in table reads = over-parameters table reads (scope_of c.args.env.now) s c.requires.parameters (λ name. c.in_ok-bind.ensures.ok name ∙ ap (λ (g : Streams Token). over table (record { values = c.args.values.now; inputs = c.args.inputs.now; given = g }) (scope_of c.args.env.now) name) c.as_slice.ensures.value) in
+    let bound : s ≡ names_in table reads = c.in_ok-bind.ensures.bound ∙ ap (λ (g : Streams Token). scope_on table c.args.values.now c.args.inputs.now g) c.as_slice.ensures.value in
     let ts : List TransitionTree = map transition_view c.args.transitions.now in
     let is = sym c.in_ok-choose.ensures ∙ ap choice_view c.in-One.is in
     let there = (chosen-there 0 c.in-One.number (tests_in s ts) is).1 in
     let short : c.in-One.number < length c.args.transitions.now = omega (arith, there, length-map ts (λ t. test_of (value s t.guard)), length-map c.args.transitions.now transition_view) in
     let x = c.index-transitions-number.result in
     IfOk-weaker c.take.result
-    (λ (r : Reaction). reaction_view r ≡ by_actions x.target x.history (acted table (transition_view x) (record { values = c.args.values.now; inputs = c.args.inputs.now; given = c.deref.result.now })))
+    (λ (r : Reaction). (came : Streams Token) → s ≡ scope_on table c.args.values.now came c.args.given.items → reaction_view r ≡ by_actions x.target x.history (acted table (transition_view x) (record { values = c.args.values.now; inputs = came; given = c.args.given.items })))
     (λ (r : Reaction). (mode : ℕ) → reaction_view r ≡ reacted_by table mode ts reads)
-    (λ r made mode. made ∙ ap (λ (g : Streams Token). by_actions x.target x.history (acted table (transition_view x) (record { values = c.args.values.now; inputs = c.args.inputs.now; given = g }))) c.deref.ensures.value ∙ one-chosen table mode c.args.transitions.now reads s c.in-One.number x bound (sym is) short c.index-transitions-number.is)
+    (λ r made mode. made c.args.inputs.now bound ∙ one-chosen table mode c.args.transitions.now reads s c.in-One.number x bound (sym is) short c.index-transitions-number.is)
     c.take.ensures.reaction
 
 pub offset_bounds-transitions-number : goal.offset_bounds-transitions-number
 offset_bounds-transitions-number c =
-    let s = scope_of c.bind.new.env in
+    let s = scope_of c.bind.new.self.env in
     let ts : List TransitionTree = map transition_view c.args.transitions.now in
     let is = sym c.in_ok-choose.ensures ∙ ap choice_view c.in-One.is in
     let there = (chosen-there 0 c.in-One.number (tests_in s ts) is).1 in

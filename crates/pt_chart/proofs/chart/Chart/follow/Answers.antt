@@ -19,7 +19,7 @@ react-requires c =
     let kinds = c.transitions_of-transitions.ensures ∙ ap (λ (ms : List Mode). kind_of false (mode_at (map mode_view ms) c.args.mode)) c.deref.ensures.value in
     record {
       typed = subst (λ (ts : List TransitionTree). are_typed_transitions (types_of m.names) ts ≡ true) (sym kinds) (typed-kind (types_of m.names) false m.modes c.args.mode c.self.invariant.1);
-      parameters = c.self.invariant.0;
+      fits = c.self.invariant.0;
     }
 
 pub returns-clause-reaction : goal.returns-clause-reaction
