@@ -3,8 +3,6 @@
 
 mod due;
 mod events;
-#[cfg(test)]
-mod tests;
 mod turn;
 
 pub use events::{are_ascending, first_event, tokens_at};

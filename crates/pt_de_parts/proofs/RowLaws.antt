@@ -121,9 +121,6 @@ module _ {T : Type 0} where
   one-row : (X : Streams T) → longest X ≤ 1 → rows_for false X ≡ X ∷ []
   one-row X h = let e : max 1 (longest X) ≡ 1 = omega (arith, h) in ap (λ n. rows_from n X) e ∙ ap (λ r. r ∷ []) (heads-single X h)
 
-  pub rows-whole : (b : Bool) (X : Streams T) → b ≡ true → rows_for b X ≡ X ∷ []
-  rows-whole b X e = ap (λ c. rows_for c X) e
-
   pub rows-single : (b : Bool) (first end : ℕ) (Y : Streams T) → b ≡ false → end ≤ length Y → ((c : ℕ) → first ≤ c → c < end → length (at Y c) ≤ 1) → rows_for b (take (end - first) (drop first Y)) ≡ take (end - first) (drop first Y) ∷ []
   rows-single b first end Y e l h = ap (λ c. rows_for c X) e ∙ one-row X (longest-single X each)
     where

@@ -9,8 +9,6 @@ mod laws;
 mod queue;
 mod search;
 mod stores;
-#[cfg(test)]
-mod tests;
 mod walk;
 
 pub use depth::{DepthFault, are_between, depths};

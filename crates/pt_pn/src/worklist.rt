@@ -1,6 +1,7 @@
 use pt_core::Source;
 use pt_process::Network;
 use std::alloc::{AllocError, Global};
+use std::collections::VecDeque;
 
 /// The number of no process.
 const NOBODY: u32 = u32::MAX;
@@ -12,8 +13,8 @@ const NOBODY: u32 = u32::MAX;
 pub(crate) struct Worklist {
     /// The process that is taken next, if one is: it made the last event.
     next: u32,
-    /// The others, of which the last is taken first.
-    woken: Vec<u32>,
+    /// The others, of which that is taken first that was woken first: what is under way in a long chain stays close together, and in the cache.
+    woken: VecDeque<u32>,
     /// On which channels a process waits, for a token or for room.
     waited: Vec<bool>,
     /// How many processes there are.
@@ -30,7 +31,7 @@ impl Worklist {
         let processes = network.processes();
         let mut worklist = Worklist {
             next: NOBODY,
-            woken: Vec::with_capacity(alloc, processes)?,
+            woken: VecDeque::with_capacity(alloc, processes)?,
             waited: vec![in alloc; false; network.channels()]?,
             processes: processes as u32,
             writers: writers_of(alloc, network)?,
@@ -64,7 +65,7 @@ impl Worklist {
     pub(crate) fn take(&mut self) -> Option<u32> {
         let next = self.next;
         if next == NOBODY {
-            return self.woken.pop();
+            return self.woken.pop_front();
         }
         self.next = NOBODY;
         Some(next)
@@ -81,7 +82,7 @@ impl Worklist {
     /// A process stands in it.
     fn wake(&mut self, process: u32) {
         if self.woken.len() < self.woken.capacity() {
-            self.woken.push_reserved(process);
+            self.woken.push_back_reserved(process);
         }
     }
 
@@ -133,9 +134,13 @@ impl Worklist {
 
     /// The same again.
     pub(crate) fn copy(&self, alloc: Global) -> Result<Worklist, AllocError> {
-        let mut woken = Vec::with_capacity(alloc, self.processes as usize)?;
-        for process in &self.woken {
-            woken.push(*process)?;
+        let mut woken = VecDeque::with_capacity(alloc, self.processes as usize)?;
+        for number in 0..self.woken.len() {
+            let process = self.woken[number];
+            match woken.push_back(process) {
+                Ok(()) => {}
+                Err(_) => return Err(AllocError),
+            }
         }
         Ok(Worklist {
             next: self.next,

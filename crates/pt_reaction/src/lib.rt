@@ -7,8 +7,6 @@ mod given;
 mod line;
 mod marks;
 mod offsets;
-#[cfg(test)]
-mod tests;
 
 pub use channels::Channels;
 pub use feeds::{Feed, feeds_of};

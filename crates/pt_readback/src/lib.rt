@@ -10,8 +10,6 @@ mod names;
 mod open;
 mod reading;
 mod report;
-#[cfg(test)]
-mod tests;
 mod token;
 mod traces;
 

@@ -12,8 +12,10 @@ pub(crate) struct Worklist {
     seeds: Vec<u32>,
     /// How many of these were taken.
     at: usize,
-    /// The children that stand in the worklist again.
+    /// The children that stand in the worklist again, but those that give early answers.
     woken: Vec<u32>,
+    /// Those that do, which come last: more is known to them then.
+    early: Vec<u32>,
     /// Whether each child stands in the worklist.
     listed: Vec<bool>,
     /// For how many inputs each child still waits that doesn't, until it is to be looked at again.
@@ -35,10 +37,12 @@ impl Worklist {
         let seeds = seeds_of(alloc, &plan.order, children)?;
         let eager = Vec::from_slice(alloc, &plan.nonstrict)?;
         let woken = Vec::with_capacity(alloc, children)?;
+        let early = Vec::with_capacity(alloc, children)?;
         Ok(Worklist {
             seeds,
             at: 0,
             woken,
+            early,
             listed: vec![in alloc; true; children]?,
             waits: vec![in alloc; 0; children]?,
             eager,
@@ -50,6 +54,7 @@ impl Worklist {
     pub(crate) fn restart(&mut self) {
         self.at = 0;
         self.woken.clear();
+        self.early.clear();
         for child in 0..self.listed.len() {
             self.listed[child] = true;
         }
@@ -61,6 +66,7 @@ impl Worklist {
             .len()
             .saturating_sub(self.at)
             .saturating_add(self.woken.len())
+            .saturating_add(self.early.len())
     }
 
     /// Takes a child out of it.
@@ -78,9 +84,14 @@ impl Worklist {
         if let Some(child) = self.woken.pop() {
             return Some(child);
         }
-        let child = *self.seeds.get(self.at)?;
-        self.at = self.at.saturating_add(1);
-        Some(child)
+        match self.seeds.get(self.at) {
+            Some(child) => {
+                let child = *child;
+                self.at = self.at.saturating_add(1);
+                Some(child)
+            }
+            None => self.early.pop(),
+        }
     }
 
     /// Notes that a child that was taken waits for so many inputs, of which it wants to be told once all are known, or where it gives early answers at each.
@@ -107,8 +118,13 @@ impl Worklist {
     /// One input less is unknown of a child that doesn't stand in the worklist.
     #[inline(never)]
     fn wake(&mut self, child: u32) {
-        if self.has_woken(child as usize) && self.woken.len() < self.woken.capacity() {
-            self.woken.push_reserved(child);
+        if !self.has_woken(child as usize) {
+            return;
+        }
+        if matches!(self.eager.get(child as usize), Some(true)) {
+            list(&mut self.early, child);
+        } else {
+            list(&mut self.woken, child);
         }
     }
 
@@ -133,15 +149,27 @@ impl Worklist {
         for child in &self.woken {
             woken.push(*child)?;
         }
+        let mut early = Vec::with_capacity(alloc, self.listed.len())?;
+        for child in &self.early {
+            early.push(*child)?;
+        }
         Ok(Worklist {
             seeds: Vec::from_slice(alloc, &self.seeds)?,
             at: self.at,
             woken,
+            early,
             listed: Vec::from_slice(alloc, &self.listed)?,
             waits: Vec::from_slice(alloc, &self.waits)?,
             eager: Vec::from_slice(alloc, &self.eager)?,
             readers: Vec::from_slice(alloc, &self.readers)?,
         })
+    }
+}
+
+/// Puts a child behind others, where there is room.
+fn list(row: &mut Vec<u32>, child: u32) {
+    if row.len() < row.capacity() {
+        row.push_reserved(child);
     }
 }
 

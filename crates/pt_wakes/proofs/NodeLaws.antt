@@ -87,14 +87,6 @@ module _ (leaves : ℕ) (nodes : List (Option Tag)) (t : IsTree leaves nodes) wh
       let k : suc 0 + (leaves - 1) ≡ leaves = omega (arith, p) in
       sym each ∙ first ∙ from-leaves (leaves - 1) 0 k
 
--- where the least is due there is a leaf, and node 1 is due
-some-leaf : (tag : Tag) (leaves : ℕ) (nodes : List (Option Tag)) → length nodes ≡ leaves + leaves → is_due tag (least (drop leaves nodes)) ≡ true → 0 < leaves
-some-leaf tag zero nodes len h = absurd (false≢true (sym (ap (λ ws. is_due tag (least ws)) (nil_from_length nodes len)) ∙ h))
-some-leaf tag (suc n) nodes len h = omega arith
-
-pub root-due : (tag : Tag) (leaves : ℕ) (nodes : List (Option Tag)) → IsTree leaves nodes → is_due tag (least (drop leaves nodes)) ≡ true → is_due tag (node nodes 1) ≡ true
-root-due tag leaves nodes t h = ap (is_due tag) (root-least leaves nodes t (some-leaf tag leaves nodes t.len h)) ∙ h
-
 -- a number that isn't 0
 pub positive : (n : ℕ) → (n ≡ 0 → ⊥) → 0 < n
 positive zero h = absurd (h refl)

@@ -6,8 +6,6 @@ mod moved;
 mod nodes;
 mod queue;
 mod tags;
-#[cfg(test)]
-mod tests;
 mod wakes;
 
 pub use due::DueChildren;

@@ -7,8 +7,6 @@ mod line;
 mod number;
 mod parts;
 mod reserved;
-#[cfg(test)]
-mod tests;
 
 pub use fault::WordsFault;
 pub use line::{Line, Task, lines_are_within, read, words_are_one_line};

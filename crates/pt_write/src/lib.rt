@@ -7,7 +7,5 @@ mod fields;
 mod inputs;
 mod parts;
 mod property;
-#[cfg(test)]
-mod tests;
 
 pub use document::{document_is_read, write};
