@@ -214,6 +214,7 @@ impl Core for DeCore {
         true
     }
 
+    #[inline(always)]
     fn begin(&mut self, alloc: Global, tag: Tag, inputs: &Inputs<'_>) -> Result<(), AllocError> {
         self.reaction.begin(alloc, tag, inputs, &mut self.staged)?;
         self.stage = Stage::Open;
@@ -284,6 +285,7 @@ impl Core for DeCore {
         }
     }
 
+    #[inline(always)]
     fn finish(&mut self, alloc: Global) -> Result<Outputs, AllocError> {
         let outputs = self.reaction.hand_out(alloc)?;
         self.stage = Stage::Idle;

@@ -44,6 +44,7 @@ fn state_of(alloc: Global, delayed: bool, tokens: &[Token]) -> Result<TriState, 
 }
 
 /// Takes the tokens of the channels from one on. After an `Err` none were taken.
+#[inline(always)]
 pub fn own_outputs(
     alloc: Global,
     channels: &mut Channels,

@@ -23,6 +23,7 @@ impl Reaction {
     ghost use Rattle.pt_de_reaction.specs.Reaction.{IsStaged, no_target};
 
     /// Stages what comes to the own inputs.
+    #[inline(never)]
     pub(crate) fn stage_own(
         &mut self,
         alloc: Global,
@@ -39,6 +40,7 @@ impl Reaction {
     }
 
     /// Moves what was staged to the channels of a row of feeds.
+    #[inline(never)]
     pub(crate) fn deliver(&mut self, row: usize, staged: &mut Vec<Tokens>)
         requires there { row ≤ length self.old.state.plan.net.places }
         requires running { self.old.state.stage ≡ Open }
@@ -66,6 +68,7 @@ impl Reaction {
     }
 
     /// How many channels a row feeds.
+    #[inline(always)]
     pub(crate) fn fed(&self, row: usize) -> usize
         requires { row ≤ length self.now.state.plan.net.places }
         ensures { result ≡ length (targets (length self.now.state.plan.net.places) row 0 self.now.state.plan.net.sources) }

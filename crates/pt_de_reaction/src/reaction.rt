@@ -99,6 +99,7 @@ impl Reaction {
     }
 
     /// Begins a reaction with the tokens of the own inputs. After an `Err` it is as before. `staged` is a buffer.
+    #[inline(always)]
     pub fn begin(
         &mut self,
         alloc: Global,
@@ -122,6 +123,7 @@ impl Reaction {
     }
 
     /// How many children there are.
+    #[inline(always)]
     pub(crate) fn children(&self) -> usize
         ensures { result ≡ length self.now.state.plan.net.places }
     {
@@ -129,6 +131,7 @@ impl Reaction {
     }
 
     /// Begins a reaction to which nothing has come yet.
+    #[inline(always)]
     fn start(&mut self, tag: Tag)
         requires { self.old.state.stage ≡ Idle }
         ensures state { self.new.state ≡ opened tag self.old.state }
@@ -141,6 +144,7 @@ impl Reaction {
     }
 
     /// Hands out the own outputs, and ends the reaction. After an `Err` it is as before.
+    #[inline(always)]
     pub fn hand_out(&mut self, alloc: Global) -> Result<Outputs, AllocError>
         requires running { self.old.state.stage ≡ Open }
         requires over { IsOver self.old.state }
