@@ -55,8 +55,8 @@ impl Worklist {
         self.at = 0;
         self.woken.clear();
         self.early.clear();
-        for child in 0..self.listed.len() {
-            self.listed[child] = true;
+        for listed in &mut self.listed {
+            *listed = true;
         }
     }
 
