@@ -37,14 +37,6 @@ fn so_many<T: Copy + Drop>(alloc: Global, value: T, count: usize, out: &mut Answ
     out.or(vec![in alloc; value; count], Vec::new(alloc))
 }
 
-/// A wake, or a dash for none.
-fn wake(word: &str) -> Option<Tag> {
-    match word {
-        "-" => None,
-        _ => Some(tags::tag(word)),
-    }
-}
-
 /// Which children take their lists whole; none where nothing is said.
 fn whole(alloc: Global, written: &str, children: usize, out: &mut Answer) -> Vec<bool> {
     if written.is_empty() {
@@ -59,7 +51,7 @@ fn starts(alloc: Global, written: &str, children: usize, out: &mut Answer) -> Ve
     if written.is_empty() {
         so_many(alloc, None, children, out)
     } else {
-        out.or(each_plain(alloc, written, " ", wake), Vec::new(alloc))
+        out.or(each_plain(alloc, written, " ", tags::any), Vec::new(alloc))
     }
 }
 

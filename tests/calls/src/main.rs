@@ -1,8 +1,11 @@
 //! Compares what calls of the crates answer with what was worked by hand, and tells the rows that differ.
 
+mod agenda;
+mod cores;
 mod de_cores;
 mod de_plans;
 mod evaluation;
+mod events;
 mod expression_types;
 mod firing;
 mod flow_library;
@@ -16,7 +19,10 @@ mod plans;
 mod pn_cores;
 mod printed_expressions;
 mod rates;
+mod reaction;
+mod readback;
 mod receivers;
+mod scripts;
 mod tags;
 mod time_library;
 mod timed_library;
@@ -24,6 +30,9 @@ mod token_texts;
 mod traces;
 mod types;
 mod values;
+mod wakes;
+mod words;
+mod written_documents;
 
 use pt_table::{Answer, Answers, Place, tell};
 use std::alloc::Global;
@@ -50,7 +59,11 @@ impl Answers for Questions {
             "expression_types.txt" => expression_types::answer(alloc, section, question, out),
             "rates.txt" => rates::answer(alloc, section, question, out),
             "plans.txt" => plans::answer(alloc, section, question, out),
+            "events.txt" => events::answer(alloc, section, question, out),
+            "wakes.txt" => wakes::answer(alloc, section, question, out),
+            "agenda.txt" => agenda::answer(alloc, section, question, out),
             "de_plans.txt" => de_plans::answer(alloc, section, question, out),
+            "reaction.txt" => reaction::answer(alloc, section, question, out),
             "pn_cores.txt" => pn_cores::answer(alloc, section, question, out),
             "de_cores.txt" => de_cores::answer(alloc, section, question, out),
             "modal.txt" => modal::answer(alloc, section, question, out),
@@ -62,6 +75,9 @@ impl Answers for Questions {
             "time_library.txt" => time_library::answer(alloc, section, question, out),
             "timed_library.txt" => timed_library::answer(alloc, section, question, out),
             "traces.txt" => traces::answer(alloc, section, question, out),
+            "readback.txt" => readback::answer(alloc, section, question, out),
+            "written_documents.txt" => written_documents::answer(alloc, section, question, out),
+            "words.txt" => words::answer(alloc, section, question, out),
             _ => out.text("no such table"),
         }
     }

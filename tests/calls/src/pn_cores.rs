@@ -1,29 +1,21 @@
+use crate::cores::{Asked, begin, copied, finish, show_lent, tell_asked};
 use crate::library::place;
 use crate::lists::{each, each_in, each_plain};
 use crate::numbers::{part, size};
 use crate::plans::source;
+use crate::scripts::{self, Subject};
 use crate::tags;
-use crate::token_texts::{show, show_ports};
-use pt_firing::{Ask, Counts, Inputs, Need, Outputs, Tokens};
+use pt_firing::{Ask, Counts, Need, Outputs, Tokens};
 use pt_pn::Core;
 use pt_process::CorePlan;
 use pt_table::Answer;
 use std::alloc::{AllocError, Global};
 
-/// A core, and the process that it asked last.
-#[derive(Drop)]
-struct Asked {
-    core: Core,
-    process: u32,
-}
-
 /// Answers a script of calls on a core of PN, behind the network that it is made of.
 pub fn answer(alloc: Global, section: &str, question: &str, out: &mut Answer) {
     match section {
         "firings" => {
-            let (written, script) = question.split_once(" | ").unwrap_or((question, ""));
-            out.text(written);
-            out.text(" | ");
+            let (written, script) = scripts::parts(question, out);
             run(alloc, written, script, out);
         }
         _ => out.no_such_section(),
@@ -32,7 +24,7 @@ pub fn answer(alloc: Global, section: &str, question: &str, out: &mut Answer) {
 
 fn run(alloc: Global, written: &str, script: &str, out: &mut Answer) {
     match Core::new(alloc, plan(alloc, written, out)) {
-        Ok(core) => run_calls(alloc, Asked { core, process: 0 }, script, out),
+        Ok(core) => scripts::run(alloc, Asked { core, child: 0 }, script, out),
         Err(fault) => out.note(Err(fault)),
     }
 }
@@ -87,47 +79,33 @@ fn plan(alloc: Global, written: &str, out: &mut Answer) -> CorePlan {
     }
 }
 
-fn run_calls(alloc: Global, mut asked: Asked, script: &str, out: &mut Answer) {
-    for (number, part) in script.split(", ").enumerate() {
-        let (call, _) = part.split_once(" = ").unwrap_or((part, ""));
-        if number > 0 {
-            out.text(", ");
+impl Subject for Asked<Core> {
+    fn call(&mut self, alloc: Global, name: &str, rest: &str, out: &mut Answer) {
+        match name {
+            "begin" => begin(alloc, &mut self.core, tags::tag("0.0"), rest, out),
+            "ask" => ask(alloc, self, out),
+            "told" => told(alloc, self, rest, out),
+            "finish" => finish(alloc, &mut self.core, out),
+            "blocked" => blocked(alloc, &self.core, out),
+            "reset" => out.note(self.core.reset(alloc)),
+            _ => scripts::no_such_call(out),
         }
-        out.text(call);
-        act(alloc, &mut asked, call, out);
+    }
+
+    fn copied(&self, alloc: Global) -> Result<Asked<Core>, AllocError> {
+        copied(alloc, self)
     }
 }
 
-fn act(alloc: Global, asked: &mut Asked, call: &str, out: &mut Answer) {
-    let (name, rest) = call.split_once(' ').unwrap_or((call, ""));
-    match name {
-        "begin" => begin(alloc, &mut asked.core, rest, out),
-        "ask" => ask(alloc, asked, out),
-        "told" => told(alloc, asked, rest, out),
-        "finish" => finish(alloc, &mut asked.core, out),
-        "blocked" => blocked(alloc, &asked.core, out),
-        "reset" => out.note(asked.core.reset(alloc)),
-        "copy" => copy(alloc, asked, out),
-        _ => out.text(" = no such call"),
-    }
-}
-
-/// Begins on the tokens of the own inputs: `4 5/-`.
-fn begin(alloc: Global, core: &mut Core, written: &str, out: &mut Answer) {
-    let lists = each_in(alloc, written, "/", place, out);
-    out.note(core.begin(alloc, tags::tag("0.0"), &Inputs::of(&lists)));
-    drop(lists);
-}
-
-fn ask(alloc: Global, asked: &mut Asked, out: &mut Answer) {
+fn ask(alloc: Global, asked: &mut Asked<Core>, out: &mut Answer) {
     match asked.core.ask() {
         Ask::Fire(process, _) => {
-            asked.process = process;
-            tell(alloc, " = fire ", process, out);
+            asked.child = process;
+            tell_asked(alloc, " = fire ", process, out);
             show_lent(&asked.core, out);
         }
-        Ask::Get(process) => tell(alloc, " = get ", process, out),
-        Ask::Put(process) => tell(alloc, " = put ", process, out),
+        Ask::Get(process) => tell_asked(alloc, " = get ", process, out),
+        Ask::Put(process) => tell_asked(alloc, " = put ", process, out),
         Ask::Grow => out.text(" = grow"),
         Ask::Finished => out.text(" = finished"),
         Ask::Full => out.text(" = full"),
@@ -135,22 +113,8 @@ fn ask(alloc: Global, asked: &mut Asked, out: &mut Answer) {
     }
 }
 
-fn tell(alloc: Global, what: &str, process: u32, out: &mut Answer) {
-    out.text(what);
-    out.number(alloc, i128::from(process));
-}
-
-fn show_lent(core: &Core, out: &mut Answer) {
-    let inputs = core.lent();
-    out.text(":");
-    for number in 0..inputs.places() {
-        out.text(" ");
-        show(inputs.list(number), out);
-    }
-}
-
 /// What the process gave that was asked, and its need then: `5 7/- needs 1+1`.
-fn told(alloc: Global, asked: &mut Asked, written: &str, out: &mut Answer) {
+fn told(alloc: Global, asked: &mut Asked<Core>, written: &str, out: &mut Answer) {
     let (given, needed) = written.split_once("needs ").unwrap_or((written, "-"));
     let outputs = Outputs::of(each_in(alloc, given, "/", place, out));
     let needed = out.or(need(alloc, needed), None);
@@ -158,15 +122,8 @@ fn told(alloc: Global, asked: &mut Asked, written: &str, out: &mut Answer) {
         Some(counts) => Need::All(counts),
         None => Need::Over,
     };
-    out.note(asked.core.told(alloc, asked.process, outputs, need));
+    out.note(asked.core.told(alloc, asked.child, outputs, need));
     drop(needed);
-}
-
-fn finish(alloc: Global, core: &mut Core, out: &mut Answer) {
-    let outputs = out.or(core.finish(alloc), Outputs::none(0));
-    out.text(" = ");
-    show_ports(&outputs, out);
-    drop(outputs);
 }
 
 /// The channels that are waited for, each with its length.
@@ -174,17 +131,9 @@ fn blocked(alloc: Global, core: &Core, out: &mut Answer) {
     out.text(" =");
     let full = out.or(core.blocked(alloc), Vec::new(alloc));
     for (channel, length) in &full {
-        tell(alloc, " ", *channel, out);
+        tell_asked(alloc, " ", *channel, out);
         out.text(":");
         out.number(alloc, *length as i128);
     }
     drop(full);
-}
-
-/// Goes on with a copy.
-fn copy(alloc: Global, asked: &mut Asked, out: &mut Answer) {
-    match asked.core.copy(alloc) {
-        Ok(core) => asked.core = core,
-        Err(fault) => out.note(Err(fault)),
-    }
 }

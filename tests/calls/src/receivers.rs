@@ -1,41 +1,27 @@
 use crate::lists::each_plain;
 use crate::numbers::{integer, size, small};
+use crate::scripts::{self, Subject, first_word, tell_count, tell_whether};
 use crate::token_texts::{show_token, token};
 use pt_recv::{Channels, Queue};
 use pt_table::Answer;
 use pt_value::Token;
-use std::alloc::Global;
+use std::alloc::{AllocError, Global};
+
+/// Channels, and how many there are.
+#[derive(Drop)]
+struct Counted {
+    channels: Channels,
+    count: u32,
+}
 
 /// Answers a script of calls on a queue or on channels, each of which has its answer behind a `=` where it gives one.
 pub fn answer(alloc: Global, section: &str, question: &str, out: &mut Answer) {
     match section {
-        "a queue" => run_queue(alloc, question, out),
+        "a queue" => scripts::run(alloc, Queue::new(alloc), question, out),
         "one channel" => run_channels(alloc, 1, question, out),
         "two channels" => run_channels(alloc, 2, question, out),
         _ => out.no_such_section(),
     }
-}
-
-/// The call of a part of a script, without the answer; what is written begins like it.
-fn call<'s>(part: &'s str, out: &mut Answer) -> &'s str {
-    let (call, _) = part.split_once(" = ").unwrap_or((part, ""));
-    out.between(", ");
-    out.text(call);
-    call
-}
-
-/// The name of a call, and what stands behind it.
-fn named(call: &str) -> (&str, &str) {
-    call.split_once(' ').unwrap_or((call, ""))
-}
-
-fn tell_whether(answer: bool, out: &mut Answer) {
-    out.either(answer, " = yes", " = no");
-}
-
-fn tell_count(alloc: Global, count: usize, out: &mut Answer) {
-    out.text(" = ");
-    out.number(alloc, count as i128);
 }
 
 fn tell_token(taken: Option<Token>, out: &mut Answer) {
@@ -49,30 +35,22 @@ fn tell_token(taken: Option<Token>, out: &mut Answer) {
     }
 }
 
-fn copy_queue(alloc: Global, queue: &mut Queue, out: &mut Answer) {
-    let copy = queue.copy(alloc);
-    *queue = out.or(copy, Queue::new(alloc));
-}
-
-fn act_on_queue(alloc: Global, queue: &mut Queue, call: &str, out: &mut Answer) {
-    let (name, word) = named(call);
-    match name {
-        "reserve" => out.note(queue.reserve(size(word))),
-        "put" => {
-            let put = queue.put(token(alloc, word, out));
-            tell_whether(put.is_ok(), out);
+impl Subject for Queue {
+    fn call(&mut self, alloc: Global, name: &str, rest: &str, out: &mut Answer) {
+        match name {
+            "reserve" => out.note(self.reserve(size(rest))),
+            "put" => {
+                let put = self.put(token(alloc, rest, out));
+                tell_whether(put.is_ok(), out);
+            }
+            "take" => tell_token(self.take(), out),
+            "len" => tell_count(alloc, self.len(), out),
+            _ => scripts::no_such_call(out),
         }
-        "take" => tell_token(queue.take(), out),
-        "len" => tell_count(alloc, queue.len(), out),
-        "copy" => copy_queue(alloc, queue, out),
-        _ => out.text(" = no such call"),
     }
-}
 
-fn run_queue(alloc: Global, script: &str, out: &mut Answer) {
-    let mut queue = Queue::new(alloc);
-    for part in script.split(", ") {
-        act_on_queue(alloc, &mut queue, call(part, out), out);
+    fn copied(&self, alloc: Global) -> Result<Queue, AllocError> {
+        self.copy(alloc)
     }
 }
 
@@ -150,7 +128,7 @@ fn act_in(
         "put_numbers" => put_all(alloc, channels, c, rest, out),
         "push_number" => tell_whether(channels.push_number(c, integer(rest)), out),
         "push_numbers" => push_all(alloc, channels, c, rest, out),
-        _ => out.text(" = no such call"),
+        _ => scripts::no_such_call(out),
     }
 }
 
@@ -167,42 +145,32 @@ fn act(alloc: Global, channels: &mut Channels, c: u32, name: &str, rest: &str, o
     }
 }
 
-/// A copy in the place of some channels.
-fn copy(alloc: Global, channels: &mut Channels, out: &mut Answer) {
-    match channels.copy(alloc) {
-        Ok(copy) => *channels = copy,
-        Err(fault) => out.note(Err(fault)),
+/// A call has its channel behind its name, and then what else it takes.
+impl Subject for Counted {
+    fn call(&mut self, alloc: Global, name: &str, rest: &str, out: &mut Answer) {
+        let (number, rest) = first_word(rest);
+        let c = small(number);
+        if c >= self.count {
+            out.text(" = no such channel");
+        } else if name == "move_front" {
+            move_front(&mut self.channels, self.count, c, small(rest), out);
+        } else {
+            act(alloc, &mut self.channels, c, name, rest, out);
+        }
     }
-}
 
-/// A call on one of so many channels: its name, the channel, and what else it takes.
-fn act_on(alloc: Global, channels: &mut Channels, count: u32, call: &str, out: &mut Answer) {
-    let (name, rest) = named(call);
-    let (number, rest) = named(rest);
-    let c = small(number);
-    if name == "copy" {
-        copy(alloc, channels, out);
-    } else if c >= count {
-        out.text(" = no such channel");
-    } else if name == "move_front" {
-        move_front(channels, count, c, small(rest), out);
-    } else {
-        act(alloc, channels, c, name, rest, out);
-    }
-}
-
-fn run(alloc: Global, channels: &mut Channels, count: u32, script: &str, out: &mut Answer) {
-    for part in script.split(", ") {
-        act_on(alloc, channels, count, call(part, out), out);
+    fn copied(&self, alloc: Global) -> Result<Counted, AllocError> {
+        let channels = self.channels.copy(alloc)?;
+        Ok(Counted {
+            channels,
+            count: self.count,
+        })
     }
 }
 
 fn run_channels(alloc: Global, count: u32, script: &str, out: &mut Answer) {
     match Channels::new(alloc, count) {
-        Ok(mut channels) => {
-            run(alloc, &mut channels, count, script, out);
-            drop(channels);
-        }
+        Ok(channels) => scripts::run(alloc, Counted { channels, count }, script, out),
         Err(fault) => out.note(Err(fault)),
     }
 }

@@ -14,10 +14,7 @@ pub fn answer(alloc: Global, section: &str, question: &str, out: &mut Answer) {
         "clamp" => clamp(from, tag(second)),
         _ => None,
     };
-    match found {
-        Some(tag) => show(alloc, tag, out),
-        None => out.text("none"),
-    }
+    show_any(alloc, found, out);
 }
 
 /// A tag, as its time and its microstep: `3.5`.
@@ -43,4 +40,20 @@ pub fn show(alloc: Global, tag: Tag, out: &mut Answer) {
     out.number(alloc, i128::from(tag.time));
     out.text(".");
     out.number(alloc, i128::from(tag.step));
+}
+
+/// The same where there is a tag.
+pub fn show_any(alloc: Global, tag: Option<Tag>, out: &mut Answer) {
+    match tag {
+        Some(tag) => show(alloc, tag, out),
+        None => out.text("none"),
+    }
+}
+
+/// A tag, or a dash for none.
+pub fn any(written: &str) -> Option<Tag> {
+    match written.trim() {
+        "-" => None,
+        _ => Some(tag(written)),
+    }
 }
