@@ -1,10 +1,14 @@
 pub mod PutLaws
+pub mod FlagLaws
+pub mod WakeLaws
 pub mod FreshLaws
 pub mod WaitLaws
 pub mod OutletLaws
+pub mod SettledLaws
 pub mod CoreLaws
 pub mod StateLaws
 pub mod StepLaws
+pub mod NotedLaws
 pub mod BestLaws
 pub mod EndLaws
 pub mod CallLaws

@@ -10,6 +10,7 @@ use Rattle.pt_pn_laws.specs.PnActs.{Gives, asking}
 use Rattle.pt_process.specs.Plan.{IsSoundNetwork}
 use Rattle.pt_process.specs.Process.{Standing}
 use Rattle.pt_pn_work.specs.Core.{State, nobody, puts_of_all, state_with, staged_on, ArePlaced, NoneHanded, IsAlone}
+use Rattle.pt_pn.specs.Noted.{AreSettled}
 use Rattle.pt_pn.specs.declared.pn.Stage as declared
 use Rattle.pt_pn.specs.declared.pn.Stage.TheVariants as code
 use Rattle.pt_pn.specs.declared.pn.Core.TheInside.{Inside}
@@ -48,6 +49,7 @@ StageFits code.Blocked ps = NoneHanded ps
 pub record IsSound (c : Inside) : Type 0 where
   pub kept : IsKept c.network c.processes.items c.capacity.items c.queues.lists c.queues.spares c.promised.items
   pub stage : StageFits c.stage c.processes.items
+  pub settled : AreSettled c.network c.processes.items c.capacity.items c.queues.lists c.notes
 
 -- the core may answer so, and then stands so
 abbrev pub Comes : State → Ask → State → Type 0

@@ -3,4 +3,6 @@ pub mod Puts
 pub mod Waiting
 pub mod Outlets
 pub mod Fresh
+pub mod Flags
+pub mod Noted
 pub mod Core

@@ -8,11 +8,12 @@ use pt_firing::Ask;
 
 /// What comes where no process goes further.
 impl Core {
-    ghost use Rattle.std.specs.Prelude.{◌≡◌, ◌+◌, ◌<◌, length, IfSome, Some, None};
+    ghost use Rattle.std.specs.Prelude.{◌≡◌, ◌+◌, ◌<◌, length, true, false, IfSome, Some, None};
     ghost use Rattle.pt_pn_laws.specs.State.{Open, AllStopped, least_full};
     ghost use Rattle.pt_pn_work.specs.Core.{PutsOn};
     ghost use Rattle.pt_pn_work.specs.Least.{IsBest};
     ghost use Rattle.pt_pn.specs.Core.{Comes};
+    ghost use Rattle.pt_pn.specs.Waiting.{SomePuts, NonePut};
 
     /// What comes where no process goes further: the best channel grows, or the firing is over or in a jam.
     pub(crate) fn stopped(&mut self) -> Ask
@@ -85,7 +86,7 @@ impl Core {
     {
         let greatest = self.network.greatest(channel as usize);
         self.capacity[channel as usize] = doubled(capacity, greatest);
-        self.worklist.note_room(channel);
+        self.notes.note_room(channel);
         Ask::Grow
     }
 
@@ -96,13 +97,24 @@ impl Core {
         requires none { least_full self.old ≡ None }
         ensures { Comes self.old result self.new }
     {
-        if is_any_putting(&self.processes) {
+        if self.is_anyone_putting() {
             self.stage = Stage::Blocked;
             Ask::Full
         } else {
             self.stage = Stage::Closed;
             Ask::Finished
         }
+    }
+
+    /// Whether some process waits to put. Where it is noted that none does, no process is looked at.
+    fn is_anyone_putting(&self) -> bool
+        ensures some { result ≡ true → SomePuts self.now.halfway.puts }
+        ensures none { result ≡ false → NonePut self.now.halfway.puts }
+    {
+        if self.notes.are_resting() {
+            return false;
+        }
+        is_any_putting(&self.processes)
     }
 }
 

@@ -2,9 +2,11 @@
 #![tactic(auto)]
 
 mod driven;
+mod flags;
 mod fresh;
 mod growth;
 mod looks;
+mod notes;
 mod numbers;
 mod outlets;
 mod pn;

@@ -12,16 +12,27 @@ impl Core {
     ghost use Rattle.pt_pn_work.specs.Core.{PutsOn, LacksAt, GetsAt};
     ghost use Rattle.pt_pn.specs.Core.{Comes, MayCome, Looks};
 
-    /// What comes of a process in the worklist, or else of any. All processes are looked at only where the worklist is empty.
+    /// What comes of a process in the worklist, or else of any.
     pub(crate) fn next(&mut self) -> Ask
         requires { self.old.stage ≡ Open }
         ensures { Comes self.old result self.new }
     {
-        for _ in 0..self.worklist.len() {
+        for _ in 0..self.notes.len() {
             match self.look_at_next() {
                 Some(ask) => return ask,
                 None => {}
             }
+        }
+        self.next_of_all()
+    }
+
+    /// What comes of any process. All are looked at only where one isn't noted as stopped.
+    fn next_of_all(&mut self) -> Ask
+        requires { self.old.stage ≡ Open }
+        ensures { Comes self.old result self.new }
+    {
+        if self.notes.are_settled() {
+            return self.stopped();
         }
         self.look_at_all()
     }
@@ -42,7 +53,7 @@ impl Core {
         ensures same { self.new ≡ self.old }
         ensures there { IfSome result (λ process. process < length self.old.network.plan.net.places) }
     {
-        let process = self.worklist.take()?;
+        let process = self.notes.take()?;
         if (process as usize) < self.network.processes() {
             return Some(process);
         }
@@ -73,7 +84,10 @@ impl Core {
             Event::Put(channel) => self.look_at_put(process, channel),
             Event::Get(place) => self.look_at_get(process, place),
             Event::Fire => Some(self.fire(process)),
-            Event::Over => None,
+            Event::Over => {
+                self.notes.rest(process);
+                None
+            }
         }
     }
 
@@ -85,7 +99,7 @@ impl Core {
         ensures { Looks self.old process result self.new }
     {
         if !self.has_room(process, channel) {
-            self.worklist.note_wait(channel);
+            self.notes.await_room(process, channel);
             return None;
         }
         Some(self.put(process))
@@ -109,7 +123,7 @@ impl Core {
         ensures { Comes self.old result self.new }
     {
         let put = take_put(&mut self.processes, process as usize);
-        self.worklist.note_put(process, put.channel);
+        self.notes.note_put(process, put.channel);
         put_promised(&mut self.queues, &mut self.promised, put);
         Ask::Put(process)
     }
@@ -123,7 +137,7 @@ impl Core {
     {
         let channel = (self.network.offset(process as usize) + place) as u32;
         if self.queues.len(channel) == 0 {
-            self.worklist.note_wait(channel);
+            self.notes.await_token(process, channel);
             return None;
         }
         Some(self.get(process, place, channel))
@@ -138,7 +152,7 @@ impl Core {
     {
         let token = next_token(&mut self.queues, channel);
         get_at(&mut self.processes, process as usize, place, token);
-        self.worklist.note_get(process, channel);
+        self.notes.note_get(process, channel);
         Ask::Get(process)
     }
 

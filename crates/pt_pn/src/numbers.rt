@@ -43,7 +43,7 @@ impl Core {
         stage_number(alloc, &mut self.staged, &self.network, which, number)?;
         promise(&mut self.queues, &mut self.promised, &self.staged)?;
         tell_at(alloc, &mut self.processes, which, need, &mut self.staged)?;
-        self.worklist.note(process);
+        self.notes.note(process);
         self.stage = Stage::Open;
         Ok(())
     }

@@ -1,9 +1,9 @@
 use crate::fresh::Fresh;
+use crate::notes::Notes;
 use crate::outlets::hand_out;
 use crate::processes::{copies, fits, tell_at};
 use crate::puts::put_all;
 use crate::waiting::{lengths_of, waited_on};
-use crate::worklist::Worklist;
 use pt_firing::{Ask, Counts, Inputs, Need, Outputs};
 use pt_process::{CorePlan, Network, Process, StagedPut, promise, stage_inputs, stage_outputs};
 use pt_recv::Channels;
@@ -39,7 +39,7 @@ pub struct Core {
     pub(crate) promised: Vec<usize>,
     // A buffer.
     pub(crate) staged: VecDeque<StagedPut>,
-    pub(crate) worklist: Worklist,
+    pub(crate) notes: Notes,
     pub(crate) tag: Tag,
     pub(crate) stage: Stage,
 }
@@ -54,7 +54,7 @@ impl Drop for Core {
             queues: _,
             promised: _,
             staged: _,
-            worklist: _,
+            notes: _,
             tag: _,
             stage: _,
         } = self;
@@ -83,6 +83,7 @@ impl Core {
     ghost use Rattle.pt_process.specs.Plan.{network_of, IsSoundNetwork};
     ghost use Rattle.pt_pn.specs.Core.{Comes};
     ghost use Rattle.pt_pn.specs.Fresh.{IsFresh};
+    ghost use Rattle.pt_pn.specs.Noted.{AreNone};
 
     /// A core of this plan, at its start.
     pub fn new(alloc: Global, plan: CorePlan) -> Result<Core, AllocError>
@@ -105,8 +106,8 @@ impl Core {
         requires fresh { IsFresh network fresh }
         ensures { IfOk result (λ core. core ≡ started network) }
     {
-        match Worklist::new(alloc, &network) {
-            Ok(worklist) => {
+        match Notes::new(alloc, &network) {
+            Ok(notes) => {
                 let Fresh {
                     processes,
                     capacity,
@@ -120,7 +121,7 @@ impl Core {
                     queues,
                     promised,
                     staged: VecDeque::new(alloc),
-                    worklist,
+                    notes,
                     tag: ORIGIN,
                     stage: Stage::Idle,
                 })
@@ -148,8 +149,12 @@ impl Core {
     {
         stage_inputs(alloc, &mut self.staged, &self.network, inputs)?;
         promise(&mut self.queues, &mut self.promised, &self.staged)?;
-        put_all(&mut self.queues, &mut self.promised, &mut self.staged);
-        self.worklist.restart();
+        put_all(
+            &mut self.queues,
+            &mut self.promised,
+            &mut self.staged,
+            &mut self.notes,
+        );
         self.tag = tag;
         self.stage = Stage::Open;
         Ok(())
@@ -197,7 +202,7 @@ impl Core {
         stage_outputs(alloc, &mut self.staged, &self.network, number, &outputs)?;
         promise(&mut self.queues, &mut self.promised, &self.staged)?;
         tell_at(alloc, &mut self.processes, number, need, &mut self.staged)?;
-        self.worklist.note(process);
+        self.notes.note(process);
         self.stage = Stage::Open;
         Ok(())
     }
@@ -237,14 +242,16 @@ impl Core {
         ensures reset { OnOk result (self.new ≡ restarted self.old) }
         ensures kept { OnErr result (self.new ≡ self.old) }
     {
+        let notes = Notes::new(alloc, &self.network)?;
         let fresh = Fresh::of(alloc, &self.network)?;
-        self.restart(fresh);
+        self.restart(fresh, notes);
         Ok(())
     }
 
     /// The processes and channels are those at the start.
-    fn restart(&mut self, fresh: Fresh)
-        requires { IsFresh self.old.network fresh }
+    fn restart(&mut self, fresh: Fresh, notes: Notes)
+        requires fresh { IsFresh self.old.network fresh }
+        requires none { AreNone (length self.old.network.plan.net.places) notes }
         ensures { self.new ≡ restarted self.old }
     {
         let Fresh {
@@ -257,6 +264,7 @@ impl Core {
         self.capacity = capacity;
         self.queues = queues;
         self.promised = promised;
+        self.notes = notes;
         self.tag = ORIGIN;
         self.stage = Stage::Idle;
     }
@@ -265,7 +273,7 @@ impl Core {
     pub fn copy(&self, alloc: Global) -> Result<Core, AllocError>
         ensures { IfOk result (λ core. core ≡ self.now) }
     {
-        let worklist = self.worklist.copy(alloc)?;
+        let notes = self.notes.copy(alloc)?;
         let capacity = Vec::from_slice(alloc, &self.capacity)?;
         let promised = Vec::from_slice(alloc, &self.promised)?;
         let queues = self.queues.copy(alloc)?;
@@ -278,7 +286,7 @@ impl Core {
             queues,
             promised,
             staged: VecDeque::new(alloc),
-            worklist,
+            notes,
             tag: self.tag,
             stage: self.stage,
         })

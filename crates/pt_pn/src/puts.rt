@@ -2,7 +2,9 @@ ghost use Rattle.std.specs.Prelude.{◌≡◌, ℕ, ◌+◌, ◌-◌, ◌<◌, �
 ghost use Rattle.pt_recv.specs.Lines.{spare_at, pushed, lowered};
 ghost use Rattle.pt_process.specs.Process.{put_of, puts_in, count_on};
 ghost use Rattle.pt_pn.specs.Puts.{all_put};
+ghost use Rattle.pt_pn.specs.Noted.{tokens_came};
 
+use crate::notes::Notes;
 use pt_process::StagedPut;
 use pt_recv::Channels;
 use std::collections::VecDeque;
@@ -23,11 +25,12 @@ pub(crate) fn put_promised(queues: &mut Channels, promised: &mut Vec<usize>, put
     promised[channel as usize] -= 1;
 }
 
-/// Puts all that is staged on its channels, where room was promised for it. It takes no memory.
+/// Puts all that is staged on its channels, where room was promised for it, and wakes who waits for it. It takes no memory.
 pub(crate) fn put_all(
     queues: &mut Channels,
     promised: &mut Vec<usize>,
     staged: &mut VecDeque<StagedPut>,
+    notes: &mut Notes,
 )
     requires counted { length promised.old.items ≡ length queues.old.lists }
     requires spares { length queues.old.spares ≡ length queues.old.lists }
@@ -38,9 +41,11 @@ pub(crate) fn put_all(
     ensures counted { length promised.new.items ≡ length promised.old.items }
     ensures room { (d : ℕ) → get_or promised.new.items d 0 ≤ spare_at queues.new.spares d }
     ensures left { (d : ℕ) → get_or promised.old.items d 0 ≤ get_or promised.new.items d 0 + count_on d (puts_in staged.old.items) }
+    ensures noted { notes.new ≡ tokens_came (puts_in staged.old.items) notes.old }
 {
     for _ in 0..staged.len() {
         let put = next_staged(staged);
+        notes.note_token(put.channel);
         put_promised(queues, promised, put);
     }
 }

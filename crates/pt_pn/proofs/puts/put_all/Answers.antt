@@ -6,6 +6,7 @@ use Rattle.pt_process.specs.Process.{put_of, puts_in, count_on}
 use Rattle.pt_process.proofs.ProcessLaws.{no-staged}
 use Rattle.pt_pn_work.proofs.CoreLaws.{room-less}
 use Rattle.pt_pn.specs.Puts.{all_put}
+use Rattle.pt_pn.specs.Noted.{tokens_came}
 use Rattle.pt_pn.proofs.PutLaws.{counts-less, left-less, one-promised, within-promised}
 use Rattle.pt_pn.proofs.puts.put_all.Goals as goal
 
@@ -19,6 +20,7 @@ loop-init c = record {
   room = c.requires.room;
   promised = c.requires.promised;
   left = λ d. omega arith;
+  noted = refl;
 }
 
 pub next_staged-put-requires : goal.next_staged-put-requires
@@ -61,6 +63,7 @@ loop-preserved c =
       left = λ d.
           subst (λ v. get_or c.args.promised.now.items d 0 + count_on d us ≤ get_or v d 0 + count_on d (puts_in c.args.staged.now.items)) (sym c.put_promised.ensures.promised)
           (left-less c.args.promised.now.items P u us (puts_in c.args.staged.now.items) one (λ e. subst (λ v. get_or c.args.promised.now.items e 0 + count_on e v ≤ get_or P e 0 + count_on e (puts_in c.args.staged.now.items)) c.next_staged-put.ensures.first (c.loop.invariant.left e)) d);
+      noted = ap (λ m. tokens_came us m) c.note_token.ensures ∙ sym (ap (λ v. tokens_came v c.loop.notes) c.next_staged-put.ensures.first) ∙ c.loop.invariant.noted;
     }
 
 pub returns-clause-lists : goal.returns-clause-lists
@@ -71,3 +74,6 @@ returns-clause-left c d =
     let e = ap (λ v. count_on d v) (no-staged c.loop.staged.items (omega (arith, c.loop-test.false, c.loop.invariant.left_over, c.len-end.ensures, c.args.staged.now.ok.0))) in
     let l = c.loop.invariant.left d in
     omega (arith, e, l)
+
+pub returns-clause-noted : goal.returns-clause-noted
+returns-clause-noted c = sym (ap (λ v. tokens_came v c.loop.notes) (no-staged c.loop.staged.items (omega (arith, c.loop-test.false, c.loop.invariant.left_over, c.len-end.ensures, c.args.staged.now.ok.0)))) ∙ c.loop.invariant.noted

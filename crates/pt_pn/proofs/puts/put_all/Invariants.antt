@@ -2,6 +2,7 @@ use Rattle.std.proofs.Common.{◌≡◌, ℕ, ◌+◌, ◌≤◌, length, get_or
 use Rattle.pt_recv.specs.Lines.{spare_at}
 use Rattle.pt_process.specs.Process.{puts_in, count_on}
 use Rattle.pt_pn.specs.Puts.{all_put}
+use Rattle.pt_pn.specs.Noted.{tokens_came}
 use Rattle.pt_pn.proofs.puts.put_all.Given as goal
 
 abbrev pub invariant-loop : goal.invariant-loop
@@ -14,4 +15,5 @@ invariant-loop l = record {
   room : (d : ℕ) → get_or l.promised.items d 0 ≤ spare_at l.queues.spares d;
   promised : (d : ℕ) → count_on d (puts_in l.staged.items) ≤ get_or l.promised.items d 0;
   left : (d : ℕ) → get_or l.fn.promised.items d 0 + count_on d (puts_in l.staged.items) ≤ get_or l.promised.items d 0 + count_on d (puts_in l.fn.staged.items);
+  noted : tokens_came (puts_in l.staged.items) l.notes ≡ tokens_came (puts_in l.fn.staged.items) l.fn.notes;
 }

@@ -2,6 +2,7 @@ use Rattle.std.proofs.Common.{length, ap, sym, ◌∙◌, arith}
 use Rattle.pt_process.specs.Process.{puts_in}
 use Rattle.pt_pn.specs.Puts.{all_put}
 use Rattle.pt_pn.proofs.CallLaws.{promise-counted, promise-spares, arrivals-there, begin-keeps, begin-fits, begin-is}
+use Rattle.pt_pn.proofs.SettledLaws.{begun-settled}
 use Rattle.pt_pn.proofs.pn.Core.begin.Goals as goal
 
 pub promise-requires : goal.promise-requires
@@ -28,4 +29,6 @@ invariant_of-self-2 c = record {
   kept = begin-keeps c.self.inside c.self.invariant c.args.self.now c.self.view_is (puts_in c.stage_inputs.new.staged.items) c.put_all.new.queues.lists c.promise.new.queues.spares c.promise.new.promised.items c.put_all.new.queues.spares c.put_all.new.promised.items
       (c.put_all.ensures.lists ∙ ap (λ X. all_put (puts_in c.stage_inputs.new.staged.items) X) c.in_ok-promise.ensures.lists) c.in_ok-promise.ensures.spares c.in_ok-promise.ensures.counted c.put_all.ensures.spares c.put_all.ensures.counted c.in_ok-promise.ensures.promised c.put_all.ensures.room c.put_all.ensures.left;
   stage = begin-fits c.self.inside c.self.invariant c.args.self.now c.self.view_is c.requires.idle;
+  settled = begun-settled c.self.inside.network c.self.inside.processes.items c.self.inside.capacity.items c.self.inside.queues.lists c.put_all.new.queues.lists c.self.inside.notes c.put_all.new.notes (puts_in c.stage_inputs.new.staged.items)
+      (c.put_all.ensures.lists ∙ ap (λ X. all_put (puts_in c.stage_inputs.new.staged.items) X) c.in_ok-promise.ensures.lists) c.put_all.ensures.noted c.self.invariant.settled;
 }

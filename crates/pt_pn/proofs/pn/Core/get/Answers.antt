@@ -4,6 +4,7 @@ use Rattle.pt_pn_work.specs.Core.{State}
 use Rattle.pt_process.specs.Process.{with_token}
 use Rattle.pt_pn.proofs.CoreLaws.{kept-get}
 use Rattle.pt_pn.proofs.StepLaws.{in-list, gathers, lacks-so, get-channel, get-made, handed-still}
+use Rattle.pt_pn.proofs.SettledLaws.{get-settled}
 use Rattle.pt_pn.proofs.pn.Core.get.Goals as goal
 
 pub next_token-token-requires : goal.next_token-token-requires
@@ -23,6 +24,8 @@ invariant_of-self c = record {
   kept = kept-get c.self.inside.network c.self.inside.processes.items c.self.inside.capacity.items c.self.inside.queues.lists c.self.inside.queues.spares c.self.inside.promised.items c.self.invariant.kept c.args.process c.args.place c.args.channel c.next_token-token.result c.get_at.new.processes.items
       c.next_token-token.new.queues.lists c.next_token-token.new.queues.spares c.get_at.ensures c.next_token-token.ensures.lists c.next_token-token.ensures.spares;
   stage = handed-still c.self.inside c.self.invariant c.args.self.now c.self.view_is c.requires.running c.args.process (with_token c.args.place c.next_token-token.result) c.get_at.new.processes.items (λ p. refl) c.get_at.ensures;
+  settled = get-settled c.self.inside.network c.self.inside.processes.items c.get_at.new.processes.items c.self.inside.capacity.items c.self.inside.queues.lists c.next_token-token.new.queues.lists c.self.inside.notes c.note_get.new.self c.args.process c.args.channel (with_token c.args.place c.next_token-token.result)
+      c.get_at.ensures c.next_token-token.ensures.lists c.note_get.ensures c.self.invariant.settled;
 }
 
 pub returns : goal.returns

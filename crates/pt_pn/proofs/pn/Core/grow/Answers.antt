@@ -2,12 +2,14 @@ use Rattle.std.proofs.Common.{set, refl, ap}
 use Rattle.pt_pn.proofs.CoreLaws.{kept-grown}
 use Rattle.pt_pn.proofs.CallLaws.{grow-made}
 use Rattle.pt_pn.proofs.StepLaws.{read-greatest}
+use Rattle.pt_pn.proofs.SettledLaws.{grown-settled}
 use Rattle.pt_pn.proofs.pn.Core.grow.Goals as goal
 
 pub invariant_of-self : goal.invariant_of-self
 invariant_of-self c = record {
   kept = kept-grown c.self.inside.network c.self.inside.processes.items c.self.inside.capacity.items c.self.inside.queues.lists c.self.inside.queues.spares c.self.inside.promised.items c.self.invariant.kept c.args.channel c.doubled.result _ refl;
   stage = c.self.invariant.stage;
+  settled = grown-settled c.self.inside.network c.self.inside.processes.items c.self.inside.capacity.items _ c.self.inside.queues.lists c.self.inside.notes c.note_room.new.self c.args.channel c.doubled.result refl c.note_room.ensures c.self.invariant.settled;
 }
 
 pub returns : goal.returns

@@ -1,8 +1,10 @@
-use Rattle.std.proofs.Common.{sym, subst}
+use Rattle.std.proofs.Common.{refl, sym, subst}
 use Rattle.pt_pn_laws.specs.State.{MayFire}
 use Rattle.pt_process.specs.declared.process.Event.TheVariants as event
 use Rattle.pt_pn_work.specs.Core.{State, PutsOn, LacksAt}
-use Rattle.pt_pn.proofs.StepLaws.{in-list, gathers, still, next-does}
+use Rattle.pt_pn.proofs.StepLaws.{in-list, gathers, still, stage-still, next-does}
+use Rattle.pt_pn.proofs.CoreLaws.{kept-same}
+use Rattle.pt_pn.proofs.SettledLaws.{same-settled, over-noted}
 use Rattle.pt_pn.proofs.pn.Core.look.Goals as goal
 
 pub next_of-requires : goal.next_of-requires
@@ -31,3 +33,32 @@ returns-in-Over c = (
   next-does c.self.inside c.self.invariant c.args.self.now c.self.view_is c.args.process c.requires.there event.Over c.in-Over.ensures.next,
   still c.self.inside c.self.invariant c.args.self.now c.self.view_is c.next_of.new.processes.items c.next_of.ensures.same,
 )
+
+pub invariant_of-self : goal.invariant_of-self
+invariant_of-self c = record {
+  kept = kept-same c.self.inside.network c.self.inside.processes.items c.self.inside.capacity.items c.self.inside.queues.lists c.self.inside.queues.spares c.self.inside.promised.items c.self.invariant.kept c.next_of.new.processes.items c.next_of.ensures.same;
+  stage = stage-still c.self.inside c.self.invariant c.args.self.now c.self.view_is c.next_of.new.processes.items c.next_of.ensures.same;
+  settled = same-settled c.self.inside.network c.self.inside.processes.items c.next_of.new.processes.items c.self.inside.capacity.items c.self.inside.queues.lists c.self.inside.queues.lists c.self.inside.notes c.next_of.ensures.same refl c.self.invariant.settled;
+}
+
+pub invariant_of-self-in-Get : goal.invariant_of-self-in-Get
+invariant_of-self-in-Get c = record {
+  kept = kept-same c.self.inside.network c.self.inside.processes.items c.self.inside.capacity.items c.self.inside.queues.lists c.self.inside.queues.spares c.self.inside.promised.items c.self.invariant.kept c.next_of.new.processes.items c.next_of.ensures.same;
+  stage = stage-still c.self.inside c.self.invariant c.args.self.now c.self.view_is c.next_of.new.processes.items c.next_of.ensures.same;
+  settled = same-settled c.self.inside.network c.self.inside.processes.items c.next_of.new.processes.items c.self.inside.capacity.items c.self.inside.queues.lists c.self.inside.queues.lists c.self.inside.notes c.next_of.ensures.same refl c.self.invariant.settled;
+}
+
+pub invariant_of-self-in-Fire : goal.invariant_of-self-in-Fire
+invariant_of-self-in-Fire c = record {
+  kept = kept-same c.self.inside.network c.self.inside.processes.items c.self.inside.capacity.items c.self.inside.queues.lists c.self.inside.queues.spares c.self.inside.promised.items c.self.invariant.kept c.next_of.new.processes.items c.next_of.ensures.same;
+  stage = stage-still c.self.inside c.self.invariant c.args.self.now c.self.view_is c.next_of.new.processes.items c.next_of.ensures.same;
+  settled = same-settled c.self.inside.network c.self.inside.processes.items c.next_of.new.processes.items c.self.inside.capacity.items c.self.inside.queues.lists c.self.inside.queues.lists c.self.inside.notes c.next_of.ensures.same refl c.self.invariant.settled;
+}
+
+pub invariant_of-self-in-Over : goal.invariant_of-self-in-Over
+invariant_of-self-in-Over c = record {
+  kept = kept-same c.self.inside.network c.self.inside.processes.items c.self.inside.capacity.items c.self.inside.queues.lists c.self.inside.queues.spares c.self.inside.promised.items c.self.invariant.kept c.next_of.new.processes.items c.next_of.ensures.same;
+  stage = stage-still c.self.inside c.self.invariant c.args.self.now c.self.view_is c.next_of.new.processes.items c.next_of.ensures.same;
+  settled = same-settled c.self.inside.network c.self.inside.processes.items c.next_of.new.processes.items c.self.inside.capacity.items c.self.inside.queues.lists c.self.inside.queues.lists c.rest.new.self c.next_of.ensures.same refl
+      (over-noted c.self.inside.network c.self.inside.processes.items c.self.inside.capacity.items c.self.inside.queues.lists c.self.inside.notes c.rest.new.self c.args.process c.in-Over.ensures.next c.rest.ensures c.self.invariant.settled);
+}

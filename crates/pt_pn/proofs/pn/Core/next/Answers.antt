@@ -12,8 +12,8 @@ returns-in-Some c = subst (λ (s : State). Comes s c.in-Some.ask c.look_at_next.
 pub loop-preserved : goal.loop-preserved
 loop-preserved c = c.in-None.ensures ∙ c.loop.invariant
 
-pub look_at_all-requires : goal.look_at_all-requires
-look_at_all-requires c = ap (λ (s : State). s.stage) c.loop.invariant ∙ c.requires
+pub next_of_all-requires : goal.next_of_all-requires
+next_of_all-requires c = ap (λ (s : State). s.stage) c.loop.invariant ∙ c.requires
 
 pub returns : goal.returns
-returns c = subst (λ (s : State). Comes s c.look_at_all.result c.look_at_all.new.self) c.loop.invariant c.look_at_all.ensures
+returns c = subst (λ (s : State). Comes s c.next_of_all.result c.next_of_all.new.self) c.loop.invariant c.next_of_all.ensures
