@@ -53,6 +53,7 @@ pub fn fire_seq(
 }
 
 /// The same by what is left of an allowance, which is lowered by each firing that is recorded.
+#[inline(always)]
 pub fn fire_within(
     alloc: Global,
     node: &mut Node,
@@ -91,6 +92,7 @@ pub fn fire_within(
 
 /// One firing of the node, which isn't recorded. What is left of the allowance is lowered by each firing within.
 #[cycle(fire)]
+#[inline(always)]
 fn fire(alloc: Global, node: &mut Node, tag: Tag, inputs: &Inputs<'_>, left: &mut u64) -> Within
     requires fit { IsFit (shown_node node.old) }
     requires inputs { Takes tag (shown_node node.old) inputs.now }
@@ -284,6 +286,7 @@ fn fire_any(
 }
 
 /// The own outputs of a composite whose director is finished.
+#[inline(always)]
 fn finish(alloc: Global, director: &mut Director) -> Within
     requires { director_calls.MayFinish director.old }
     ensures { FinishTo director_calls director.old result director.new }

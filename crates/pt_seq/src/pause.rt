@@ -97,6 +97,7 @@ fn wait(alloc: Global, director: &mut Director, children: &mut Vec<Node>, left: 
 }
 
 /// Does what the director asked for, where that is an early answer of a child or that it is brought back to its start, and tells what it comes to otherwise. A move is made already.
+#[inline(always)]
 fn heed(
     alloc: Global,
     director: &mut Director,
