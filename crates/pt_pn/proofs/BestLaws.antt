@@ -9,7 +9,7 @@ use Rattle.pt_pn_work.specs.Core.{State, PutsOn}
 use Rattle.pt_pn_work.specs.Least.{IsBest, IsNoWorse}
 use Rattle.pt_pn_work.proofs.LeastLaws.{skip-best, keep-best, take-best, best-is}
 
-abbrev channel_of : List (Put Token) → ℕ
+abbrev pub channel_of : List (Put Token) → ℕ
 channel_of [] = 0
 channel_of (w ∷ ws) = w.channel
 

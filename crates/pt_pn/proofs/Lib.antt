@@ -4,11 +4,14 @@ pub mod WakeLaws
 pub mod FreshLaws
 pub mod WaitLaws
 pub mod OutletLaws
+pub mod ChangedLaws
+pub mod RankLaws
 pub mod SettledLaws
 pub mod CoreLaws
 pub mod StateLaws
 pub mod StepLaws
 pub mod NotedLaws
 pub mod BestLaws
+pub mod GrowingLaws
 pub mod EndLaws
 pub mod CallLaws

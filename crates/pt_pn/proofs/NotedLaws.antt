@@ -36,13 +36,13 @@ module _ (c : Inside) (w : IsSound c) (s : State) (v : seen_core c ≡ s) where
   none-puts e = subst (λ (x : State). NonePut x.halfway.puts) v (none-putting n ps K L c.tag (stage_of c.stage) w.kept.placed c.notes w.settled e)
 
   -- a process waits for room
-  pub room-now : (i channel : ℕ) → PutsOn s i channel → has_room s channel ≡ false → (m : Noted) → IsRoomNoted i channel c.notes m → AreSettled n ps K L m
-  room-now i channel p f m o =
+  pub room-now : (i channel capacity : ℕ) → PutsOn s i channel → has_room s channel ≡ false → capacity ≡ get_or K channel 0 → (m : Noted) → IsRoomNoted i channel capacity c.notes m → AreSettled n ps K L m
+  room-now i channel capacity p f k m o =
       let q = subst (λ (x : State). PutsOn x i channel) (sym v) p in
       let r = no-room (seen_core c) channel (subst (λ (x : State). has_room x channel ≡ false) (sym v) f) in
       let full = r.1 in
       let e = ap (λ (xs : List Token). length xs) (list-is L channel) in
-      room-noted n ps K L c.notes m i channel q.first q.rest (sym (puts-is ps i) ∙ q.next) q.on r.0 (omega (arith, full, e)) o w.settled
+      room-noted n ps K L c.notes m i channel capacity q.first q.rest (sym (puts-is ps i) ∙ q.next) q.on r.0 (omega (arith, full, e)) k o w.settled
 
   -- a process waits for a token
   pub token-now : (i place channel held : ℕ) → i < length s.network.plan.net.places → LacksAt s i place → channel ≡ offset_of n.plan.net.places i + place → held ≡ length (list_at L channel) → held ≡ 0 → (m : Noted) → IsTokenNoted i channel c.notes m → AreSettled n ps K L m

@@ -1,5 +1,5 @@
 -- What is noted of processes stays so where an event wakes the processes that it concerns.
-use Rattle.std.proofs.Common.{◌≡◌, ◌⊎◌, inl, inr, ℕ, zero, suc, ◌+◌, ◌<◌, ◌≤◌, List, [], ◌∷◌, ◌++◌, Bool, true, false, not, ◌&&◌, nat_eq, nat_lt, length, set, take, drop, get_or, Some, refl, sym, ap, ap₂, subst, ◌∙◌, arith, length-set}
+use Rattle.std.proofs.Common.{◌≡◌, ◌⊎◌, inl, inr, ℕ, zero, suc, ◌+◌, ◌<◌, ◌≤◌, List, [], ◌∷◌, ◌++◌, Bool, true, false, not, ◌&&◌, nat_eq, nat_lt, length, set, take, drop, get_or, Option, Some, None, refl, sym, ap, ap₂, subst, ◌∙◌, arith, length-set}
 use Rattle.std.proofs.lemmas.Bool.{ltb-true, ltb-false, false≢true}
 use Rattle.std.proofs.lemmas.Bool.Decides.{nat_tests}
 use Rattle.pt_meaning.specs.Tag.{Tag}
@@ -10,122 +10,35 @@ use Rattle.pt_meaning.specs.Running.{total}
 use Rattle.pt_recv.specs.Lines.{list_at, pushed, popped}
 use Rattle.pt_value.specs.declared.token.Token.{Token}
 use Rattle.pt_pn_laws.specs.State.{Network, Stage, IsStopped, AllStopped, has_room, need_at, lacking_place, offset_of}
+use Rattle.pt_process.specs.Network.{greatest_in}
 use Rattle.pt_process.specs.Process.{Standing, with_handed}
 use Rattle.pt_pn_work.specs.Core.{State, nobody, puts_of_all, state_with, ArePlaced}
 use Rattle.pt_pn_work.proofs.CoreLaws.{change-other, placed-long, puts-is, need-is, part-is, put-stops, get-stops, over-stops, room-inside, list-is}
 use Rattle.pt_pn.specs.Puts.{all_put}
 use Rattle.pt_pn.specs.Waiting.{NonePut}
-use Rattle.pt_pn.specs.Noted.{Noted, AwaitsRoom, AwaitsToken, Waits, AreSettled, AreNone, awake, without_token, without_room, woken_if, token_came, room_came, tokens_came, token_awaited, room_awaited, at_end, IsTokenNoted, IsRoomNoted}
-
--- flags of which one is cleared or set
-pub cleared : (F : List Bool) (i j : ℕ) → get_or (set F i false) j false ≡ true → (nat_eq i j ≡ false) × (get_or F j false ≡ true)
-cleared [] i j e = absurd (false≢true e)
-cleared (b ∷ F) zero zero e = absurd (false≢true e)
-cleared (b ∷ F) zero (suc j) e = (grind (arith, nat_tests), e)
-cleared (b ∷ F) (suc i) zero e = (grind (arith, nat_tests), e)
-cleared (b ∷ F) (suc i) (suc j) e = let r = cleared F i j e in (suc-other i j r.0, r.1)
-  where
-    suc-other : (i j : ℕ) → nat_eq i j ≡ false → nat_eq (suc i) (suc j) ≡ false
-    suc-other i j h = grind (arith, nat_tests)
-
-pub still-set : (F : List Bool) (i j : ℕ) → nat_eq i j ≡ false → get_or F j false ≡ true → get_or (set F i false) j false ≡ true
-still-set [] i j h e = e
-still-set (b ∷ F) zero zero h e = absurd (false≢true (sym h))
-still-set (b ∷ F) zero (suc j) h e = e
-still-set (b ∷ F) (suc i) zero h e = e
-still-set (b ∷ F) (suc i) (suc j) h e = still-set F i j (suc-less i j h) e
-  where
-    suc-less : (i j : ℕ) → nat_eq (suc i) (suc j) ≡ false → nat_eq i j ≡ false
-    suc-less i j h = grind (arith, nat_tests)
-
-pub set-or-same : (F : List Bool) (i j : ℕ) → get_or (set F i true) j false ≡ true → (i ≡ j) ⊎ (get_or F j false ≡ true)
-set-or-same [] i j e = inr e
-set-or-same (b ∷ F) zero zero e = inl refl
-set-or-same (b ∷ F) zero (suc j) e = inr e
-set-or-same (b ∷ F) (suc i) zero e = inr e
-set-or-same (b ∷ F) (suc i) (suc j) e = by (set-or-same F i j e)
-  where
-    by : (i ≡ j) ⊎ (get_or F j false ≡ true) → (suc i ≡ suc j) ⊎ (get_or F j false ≡ true)
-    by (inl q) = inl (ap (λ k. suc k) q)
-    by (inr q) = inr q
-
-pub set-keeps : (F : List Bool) (i j : ℕ) → get_or F j false ≡ true → get_or (set F i true) j false ≡ true
-set-keeps [] i j e = e
-set-keeps (b ∷ F) zero zero e = refl
-set-keeps (b ∷ F) zero (suc j) e = e
-set-keeps (b ∷ F) (suc i) zero e = e
-set-keeps (b ∷ F) (suc i) (suc j) e = set-keeps F i j e
-
-pub set-now : (F : List Bool) (i : ℕ) → i < length F → get_or (set F i true) i false ≡ true
-set-now [] i h = absurd (omega (arith, h))
-set-now (b ∷ F) zero h = refl
-set-now (b ∷ F) (suc i) h = set-now F i (omega (arith, h))
-
--- channels of which one has another list
-pub list-else : (L : Streams Token) (X : List Token) (c d : ℕ) → nat_eq c d ≡ false → list_at (set L c X) d ≡ list_at L d
-list-else [] X c d h = refl
-list-else (xs ∷ L) X zero zero h = absurd (false≢true (sym h))
-list-else (xs ∷ L) X zero (suc d) h = refl
-list-else (xs ∷ L) X (suc c) zero h = refl
-list-else (xs ∷ L) X (suc c) (suc d) h = list-else L X c d (suc-less c d h)
-  where
-    suc-less : (i j : ℕ) → nat_eq (suc i) (suc j) ≡ false → nat_eq i j ≡ false
-    suc-less i j h = grind (arith, nat_tests)
-
-pub list-longer : (L : Streams Token) (X : List Token) (c d : ℕ) → length (list_at L c) ≤ length X → length (list_at L d) ≤ length (list_at (set L c X) d)
-list-longer [] X c d h = omega arith
-list-longer (xs ∷ L) X zero zero h = h
-list-longer (xs ∷ L) X zero (suc d) h = omega arith
-list-longer (xs ∷ L) X (suc c) zero h = omega arith
-list-longer (xs ∷ L) X (suc c) (suc d) h = list-longer L X c d h
-
-pub list-shorter : (L : Streams Token) (X : List Token) (c d : ℕ) → length X ≤ length (list_at L c) → length (list_at (set L c X) d) ≤ length (list_at L d)
-list-shorter [] X c d h = omega arith
-list-shorter (xs ∷ L) X zero zero h = h
-list-shorter (xs ∷ L) X zero (suc d) h = omega arith
-list-shorter (xs ∷ L) X (suc c) zero h = omega arith
-list-shorter (xs ∷ L) X (suc c) (suc d) h = list-shorter L X c d h
-
-number-else : (K : List ℕ) (x c d : ℕ) → nat_eq c d ≡ false → get_or (set K c x) d 0 ≡ get_or K d 0
-number-else [] x c d h = refl
-number-else (k ∷ K) x zero zero h = absurd (false≢true (sym h))
-number-else (k ∷ K) x zero (suc d) h = refl
-number-else (k ∷ K) x (suc c) zero h = refl
-number-else (k ∷ K) x (suc c) (suc d) h = number-else K x c d (suc-less c d h)
-  where
-    suc-less : (i j : ℕ) → nat_eq (suc i) (suc j) ≡ false → nat_eq i j ≡ false
-    suc-less i j h = grind (arith, nat_tests)
-
-same-number : (i j : ℕ) → nat_eq i j ≡ true → i ≡ j
-same-number i j h = grind (arith, nat_tests)
-
-longer-end : {A : Type 0} (xs : List A) (x : A) → length xs ≤ length (xs ++ (x ∷ []))
-longer-end [] x = omega arith
-longer-end (y ∷ xs) x = let r = longer-end xs x in omega (arith, r)
-
-shorter-front : {A : Type 0} (xs : List A) → length (drop 1 xs) ≤ length xs
-shorter-front [] = omega arith
-shorter-front (x ∷ xs) = omega arith
+use Rattle.pt_pn.specs.Noted.{Noted, AwaitsRoom, AwaitsToken, Waits, AreSettled, AreNone, awake, without_token, without_room, woken_if, token_came, room_came, tokens_came, token_awaited, room_awaited, at_end, IsTokenNoted, IsRoomNoted, IsRanked, rank_at}
+use Rattle.pt_pn.proofs.ChangedLaws.{cleared, still-set, set-or-same, set-keeps, set-now, list-else, list-longer, list-shorter, number-else, same-number, longer-end, shorter-front}
+use Rattle.pt_pn.proofs.RankLaws.{rank-now, rank-stays}
 
 module _ (n : Network Token) where
   -- a process that waits for room waits on, where its channel stays full and marked
-  room-on : (K K' : List ℕ) (L L' : Streams Token) (m m' : Noted) (i : ℕ) (p : Standing) → m'.writers ≡ m.writers → (h : AwaitsRoom n K L m i p) → get_or K' h.first.channel 0 ≤ length (list_at L' h.first.channel) → get_or m'.rooms h.first.channel false ≡ true → AwaitsRoom n K' L' m' i p
-  room-on K K' L L' m m' i p w h f r = record { first = h.first; rest = h.rest; next = h.next; inner = h.inner; full = f; marked = r; writer = ap (λ v. get_or v h.first.channel 0) w ∙ h.writer }
+  pub room-on : (K K' : List ℕ) (L L' : Streams Token) (m m' : Noted) (i : ℕ) (p : Standing) → m'.writers ≡ m.writers → (h : AwaitsRoom n K L m i p) → get_or K' h.first.channel 0 ≤ length (list_at L' h.first.channel) → get_or m'.rooms h.first.channel false ≡ true → IsRanked n K' m' h.first.channel → AwaitsRoom n K' L' m' i p
+  room-on K K' L L' m m' i p w h f r o = record { first = h.first; rest = h.rest; next = h.next; inner = h.inner; full = f; marked = r; writer = ap (λ v. get_or v h.first.channel 0) w ∙ h.writer; ranked = o }
 
   -- one that waits for a token waits on, where its channel stays empty and marked
-  token-on : (L L' : Streams Token) (m m' : Noted) (i : ℕ) (p : Standing) → m'.readers ≡ m.readers → (h : AwaitsToken n L m i p) → length (list_at L' (offset_of n.plan.net.places i + h.place)) ≡ 0 → get_or m'.tokens (offset_of n.plan.net.places i + h.place) false ≡ true → AwaitsToken n L' m' i p
+  pub token-on : (L L' : Streams Token) (m m' : Noted) (i : ℕ) (p : Standing) → m'.readers ≡ m.readers → (h : AwaitsToken n L m i p) → length (list_at L' (offset_of n.plan.net.places i + h.place)) ≡ 0 → get_or m'.tokens (offset_of n.plan.net.places i + h.place) false ≡ true → AwaitsToken n L' m' i p
   token-on L L' m m' i p w h f r = record { none = h.none; place = h.place; lacks = h.lacks; within = h.within; empty = f; marked = r; reader = ap (λ v. get_or v (offset_of n.plan.net.places i + h.place) 0) w ∙ h.reader }
 
   -- the notes say the same of channels
-  waits-on : (K : List ℕ) (L : Streams Token) (m m' : Noted) (i : ℕ) (p : Standing) → m'.writers ≡ m.writers → m'.readers ≡ m.readers → ((d : ℕ) → get_or m.rooms d false ≡ true → get_or m'.rooms d false ≡ true) → ((d : ℕ) → get_or m.tokens d false ≡ true → get_or m'.tokens d false ≡ true) → Waits n K L m i p → Waits n K L m' i p
-  waits-on K L m m' i p w r a b (inl h) = inl (room-on K K L L m m' i p w h h.full (a h.first.channel h.marked))
-  waits-on K L m m' i p w r a b (inr (inl h)) = inr (inl (token-on L L m m' i p r h h.empty (b (offset_of n.plan.net.places i + h.place) h.marked)))
-  waits-on K L m m' i p w r a b (inr (inr h)) = inr (inr h)
+  waits-on : (K : List ℕ) (L : Streams Token) (m m' : Noted) (i : ℕ) (p : Standing) → m'.writers ≡ m.writers → m'.readers ≡ m.readers → ((d : ℕ) → IsRanked n K m d → IsRanked n K m' d) → ((d : ℕ) → get_or m.rooms d false ≡ true → get_or m'.rooms d false ≡ true) → ((d : ℕ) → get_or m.tokens d false ≡ true → get_or m'.tokens d false ≡ true) → Waits n K L m i p → Waits n K L m' i p
+  waits-on K L m m' i p w r o a b (inl h) = inl (room-on K K L L m m' i p w h h.full (a h.first.channel h.marked) (o h.first.channel h.ranked))
+  waits-on K L m m' i p w r o a b (inr (inl h)) = inr (inl (token-on L L m m' i p r h h.empty (b (offset_of n.plan.net.places i + h.place) h.marked)))
+  waits-on K L m m' i p w r o a b (inr (inr h)) = inr (inr h)
 
   -- process i is looked at again, which now stands otherwise
   pub awake-settled : (ps ps' : List Standing) (K : List ℕ) (L : Streams Token) (m : Noted) (i : ℕ) → ((j : ℕ) → nat_eq i j ≡ false → get_or ps' j nobody ≡ get_or ps j nobody) → AreSettled n ps K L m → AreSettled n ps' K L (awake i m)
   awake-settled ps ps' K L m i o h = record {
-    settled = λ j e. let r = cleared m.settled i j e in subst (λ p. Waits n K L (awake i m) j p) (sym (o j r.0)) (waits-on K L m (awake i m) j (get_or ps j nobody) refl refl (λ d z. z) (λ d z. z) (h.settled j r.1));
+    settled = λ j e. let r = cleared m.settled i j e in subst (λ p. Waits n K L (awake i m) j p) (sym (o j r.0)) (waits-on K L m (awake i m) j (get_or ps j nobody) refl refl (λ d z. z) (λ d z. z) (λ d z. z) (h.settled j r.1));
     resting = λ j e. let r = cleared m.resting i j e in ap (λ (p : Standing). p.puts) (o j r.0) ∙ h.resting j r.1;
     counted = length-set m.settled i false ∙ h.counted;
     rest_counted = length-set m.resting i false ∙ h.rest_counted;
@@ -137,7 +50,7 @@ module _ (n : Network Token) where
     where
       -- a process that doesn't wait on the channel for a token waits on
       on : (j : ℕ) (p : Standing) → (get_or m.tokens c false ≡ true → get_or m.readers c 0 ≡ j → ⊥) → Waits n K L m j p → Waits n K L' (without_token c m) j p
-      on j p a (inl w) = inl (room-on K K L L' m (without_token c m) j p refl w (let q = w.full in let l = g w.first.channel in omega (arith, q, l)) w.marked)
+      on j p a (inl w) = inl (room-on K K L L' m (without_token c m) j p refl w (let q = w.full in let l = g w.first.channel in omega (arith, q, l)) w.marked w.ranked)
       on j p a (inr (inr w)) = inr (inr w)
       on j p a (inr (inl w)) = apart (offset_of n.plan.net.places j + w.place) (nat_eq c (offset_of n.plan.net.places j + w.place)) refl refl
         where
@@ -149,7 +62,7 @@ module _ (n : Network Token) where
 
       by : (b : Bool) → get_or m.tokens c false ≡ b → AreSettled n ps K L' (woken_if b (get_or m.readers c 0) (without_token c m))
       by true e = record {
-        settled = λ j s. let r = cleared m.settled (get_or m.readers c 0) j s in waits-on K L' (without_token c m) (awake (get_or m.readers c 0) (without_token c m)) j (get_or ps j nobody) refl refl (λ d z. z) (λ d z. z) (on j (get_or ps j nobody) (λ _ q. differ (get_or m.readers c 0) j r.0 q) (h.settled j r.1));
+        settled = λ j s. let r = cleared m.settled (get_or m.readers c 0) j s in waits-on K L' (without_token c m) (awake (get_or m.readers c 0) (without_token c m)) j (get_or ps j nobody) refl refl (λ d z. z) (λ d z. z) (λ d z. z) (on j (get_or ps j nobody) (λ _ q. differ (get_or m.readers c 0) j r.0 q) (h.settled j r.1));
         resting = λ j s. h.resting j (cleared m.resting (get_or m.readers c 0) j s).1;
         counted = length-set m.settled (get_or m.readers c 0) false ∙ h.counted;
         rest_counted = length-set m.resting (get_or m.readers c 0) false ∙ h.rest_counted;
@@ -168,6 +81,9 @@ module _ (n : Network Token) where
   pub room-settled : (ps : List Standing) (K K' : List ℕ) (L L' : Streams Token) (m : Noted) (c : ℕ) → ((d : ℕ) → length (list_at L' d) ≤ length (list_at L d)) → ((d : ℕ) → nat_eq c d ≡ false → list_at L' d ≡ list_at L d) → ((d : ℕ) → nat_eq c d ≡ false → get_or K' d 0 ≡ get_or K d 0) → AreSettled n ps K L m → AreSettled n ps K' L' (room_came c m)
   room-settled ps K K' L L' m c g o k h = by (get_or m.rooms c false) refl
     where
+      still-ranked : (R : List (Option Tag)) (d k k' : ℕ) → k' ≡ k → (k < greatest_in n d → get_or R d None ≡ Some (rank_at k d)) → k' < greatest_in n d → get_or R d None ≡ Some (rank_at k' d)
+      still-ranked R d k k' e r = subst (λ x. x < greatest_in n d → get_or R d None ≡ Some (rank_at x d)) (sym e) r
+
       on : (j : ℕ) (p : Standing) → (get_or m.rooms c false ≡ true → get_or m.writers c 0 ≡ j → ⊥) → Waits n K L m j p → Waits n K' L' (without_room c m) j p
       on j p a (inr (inr w)) = inr (inr w)
       on j p a (inr (inl w)) = inr (inl (token-on L L' m (without_room c m) j p refl w (let q = w.empty in let l = g (offset_of n.plan.net.places j + w.place) in omega (arith, q, l)) w.marked))
@@ -180,11 +96,11 @@ module _ (n : Network Token) where
               let u = k w.first.channel f in
               let v = ap (λ y. length y) (o w.first.channel f) in
               let q = w.full in
-              inl (room-on K K' L L' m (without_room c m) j p refl w (omega (arith, u, v, q)) (still-set m.rooms c w.first.channel f w.marked))
+              inl (room-on K K' L L' m (without_room c m) j p refl w (omega (arith, u, v, q)) (still-set m.rooms c w.first.channel f w.marked) (still-ranked m.ranks w.first.channel (get_or K w.first.channel 0) (get_or K' w.first.channel 0) u w.ranked))
 
       by : (b : Bool) → get_or m.rooms c false ≡ b → AreSettled n ps K' L' (woken_if b (get_or m.writers c 0) (without_room c m))
       by true e = record {
-        settled = λ j s. let r = cleared m.settled (get_or m.writers c 0) j s in waits-on K' L' (without_room c m) (awake (get_or m.writers c 0) (without_room c m)) j (get_or ps j nobody) refl refl (λ d z. z) (λ d z. z) (on j (get_or ps j nobody) (λ _ q. differ (get_or m.writers c 0) j r.0 q) (h.settled j r.1));
+        settled = λ j s. let r = cleared m.settled (get_or m.writers c 0) j s in waits-on K' L' (without_room c m) (awake (get_or m.writers c 0) (without_room c m)) j (get_or ps j nobody) refl refl (λ d z. z) (λ d z. z) (λ d z. z) (on j (get_or ps j nobody) (λ _ q. differ (get_or m.writers c 0) j r.0 q) (h.settled j r.1));
         resting = λ j s. h.resting j (cleared m.resting (get_or m.writers c 0) j s).1;
         counted = length-set m.settled (get_or m.writers c 0) false ∙ h.counted;
         rest_counted = length-set m.resting (get_or m.writers c 0) false ∙ h.rest_counted;
@@ -242,7 +158,7 @@ module _ (n : Network Token) where
       handed-same (q ∷ qs) (suc i) (suc j) = handed-same qs i j
 
       handed-waits : (K : List ℕ) (L : Streams Token) (m : Noted) (j : ℕ) (p p' : Standing) → (p'.need ≡ p.need) × (p'.got ≡ p.got) × (p'.puts ≡ p.puts) → Waits n K L m j p → Waits n K L m j p'
-      handed-waits K L m j p p' (a, b, c) (inl w) = inl (record { first = w.first; rest = w.rest; next = c ∙ w.next; inner = w.inner; full = w.full; marked = w.marked; writer = w.writer })
+      handed-waits K L m j p p' (a, b, c) (inl w) = inl (record { first = w.first; rest = w.rest; next = c ∙ w.next; inner = w.inner; full = w.full; marked = w.marked; writer = w.writer; ranked = w.ranked })
       handed-waits K L m j p p' (a, b, c) (inr (inl w)) = inr (inl (record { none = c ∙ w.none; place = w.place; lacks = ap₂ (λ x y. lacking_place x y) a b ∙ w.lacks; within = w.within; empty = w.empty; marked = w.marked; reader = w.reader }))
       handed-waits K L m j p p' (a, b, c) (inr (inr w)) = inr (inr (c ∙ w.0, a ∙ w.1))
 
@@ -288,36 +204,44 @@ module _ (n : Network Token) where
 
       by : (j : ℕ) → (i ≡ j) ⊎ (get_or m.settled j false ≡ true) → Waits n K L (token_awaited i c m) j (get_or ps j nobody)
       by j (inl y) = subst (λ d. Waits n K L (token_awaited i c m) d (get_or ps d nobody)) y (inr (inl now))
-      by j (inr y) = waits-on K L m (token_awaited i c m) j (get_or ps j nobody) refl refl (λ d a. a) (λ d a. set-keeps m.tokens c d a) (h.settled j y)
+      by j (inr y) = waits-on K L m (token_awaited i c m) j (get_or ps j nobody) refl refl (λ d a. a) (λ d a. a) (λ d a. set-keeps m.tokens c d a) (h.settled j y)
 
       rests : (j : ℕ) → (i ≡ j) ⊎ (get_or m.resting j false ≡ true) → (get_or ps j nobody).puts ≡ []
       rests j (inl y) = subst (λ d. (get_or ps d nobody).puts ≡ []) y z
       rests j (inr y) = h.resting j y
 
-  pub room-noted : (ps : List Standing) (K : List ℕ) (L : Streams Token) (m m' : Noted) (i c : ℕ) (u : Put Token) (us : List (Put Token)) → (get_or ps i nobody).puts ≡ u ∷ us → u.channel ≡ c → c < total n.plan.net.places → get_or K c 0 ≤ length (list_at L c) →
-      IsRoomNoted i c m m' → AreSettled n ps K L m → AreSettled n ps K L m'
-  room-noted ps K L m m' i c u us z k w f (inl q) h = subst (λ v. AreSettled n ps K L v) (sym q) h
-  room-noted ps K L m m' i c u us z k w f (inr (t, r, q)) h = subst (λ v. AreSettled n ps K L v) (sym q) (record {
+  pub room-noted : (ps : List Standing) (K : List ℕ) (L : Streams Token) (m m' : Noted) (i c k : ℕ) (u : Put Token) (us : List (Put Token)) → (get_or ps i nobody).puts ≡ u ∷ us → u.channel ≡ c → c < total n.plan.net.places → get_or K c 0 ≤ length (list_at L c) → k ≡ get_or K c 0 →
+      IsRoomNoted i c k m m' → AreSettled n ps K L m → AreSettled n ps K L m'
+  room-noted ps K L m m' i c k u us z y w f x (inl q) h = subst (λ v. AreSettled n ps K L v) (sym q) h
+  room-noted ps K L m m' i c k u us z y w f x (inr (t, l, r, q)) h = subst (λ v. AreSettled n ps K L v) (sym q) (record {
     settled = λ j s. by j (set-or-same m.settled i j s);
     resting = h.resting;
     counted = length-set m.settled i true ∙ h.counted;
     rest_counted = h.rest_counted;
   })
     where
-      now : AwaitsRoom n K L (room_awaited i c m) i (get_or ps i nobody)
+      -- the rank of the channel is what it is, and those of others stay
+      here : IsRanked n K (room_awaited i c k m) c
+      here _ = rank-now m.ranks (Some (rank_at k c)) c l ∙ ap (λ a. Option.Some (rank_at a c)) x
+
+      there : (d : ℕ) → IsRanked n K m d → IsRanked n K (room_awaited i c k m) d
+      there d o g = rank-stays m.ranks (Some (rank_at k c)) (Some (rank_at (get_or K d 0) d)) c d (o g) (λ e. ap (λ a. Option.Some (rank_at a c)) x ∙ ap (λ a. Option.Some (rank_at (get_or K a 0) a)) e)
+
+      now : AwaitsRoom n K L (room_awaited i c k m) i (get_or ps i nobody)
       now = record {
         first = u;
         rest = us;
         next = z;
-        inner = subst (λ d. d < total n.plan.net.places) (sym k) w;
-        full = subst (λ d. get_or K d 0 ≤ length (list_at L d)) (sym k) f;
-        marked = ap (λ d. get_or (set m.rooms c true) d false) k ∙ set-now m.rooms c t;
-        writer = ap (λ d. get_or m.writers d 0) k ∙ r;
+        inner = subst (λ d. d < total n.plan.net.places) (sym y) w;
+        full = subst (λ d. get_or K d 0 ≤ length (list_at L d)) (sym y) f;
+        marked = ap (λ d. get_or (set m.rooms c true) d false) y ∙ set-now m.rooms c t;
+        writer = ap (λ d. get_or m.writers d 0) y ∙ r;
+        ranked = subst (λ d. IsRanked n K (room_awaited i c k m) d) (sym y) here;
       }
 
-      by : (j : ℕ) → (i ≡ j) ⊎ (get_or m.settled j false ≡ true) → Waits n K L (room_awaited i c m) j (get_or ps j nobody)
-      by j (inl y) = subst (λ d. Waits n K L (room_awaited i c m) d (get_or ps d nobody)) y (inl now)
-      by j (inr y) = waits-on K L m (room_awaited i c m) j (get_or ps j nobody) refl refl (λ d a. set-keeps m.rooms c d a) (λ d a. a) (h.settled j y)
+      by : (j : ℕ) → (i ≡ j) ⊎ (get_or m.settled j false ≡ true) → Waits n K L (room_awaited i c k m) j (get_or ps j nobody)
+      by j (inl e) = subst (λ d. Waits n K L (room_awaited i c k m) d (get_or ps d nobody)) e (inl now)
+      by j (inr e) = waits-on K L m (room_awaited i c k m) j (get_or ps j nobody) refl refl there (λ d a. set-keeps m.rooms c d a) (λ d a. a) (h.settled j e)
 
   pub over-noted : (ps : List Standing) (K : List ℕ) (L : Streams Token) (m m' : Noted) (i : ℕ) → ((get_or ps i nobody).puts ≡ []) × ((get_or ps i nobody).need ≡ Over) → m' ≡ at_end i m → AreSettled n ps K L m → AreSettled n ps K L m'
   over-noted ps K L m m' i (z, o) q h = subst (λ v. AreSettled n ps K L v) (sym q) (record {
@@ -329,7 +253,7 @@ module _ (n : Network Token) where
     where
       by : (j : ℕ) → (i ≡ j) ⊎ (get_or m.settled j false ≡ true) → Waits n K L (at_end i m) j (get_or ps j nobody)
       by j (inl y) = subst (λ d. Waits n K L (at_end i m) d (get_or ps d nobody)) y (inr (inr (z, o)))
-      by j (inr y) = waits-on K L m (at_end i m) j (get_or ps j nobody) refl refl (λ d a. a) (λ d a. a) (h.settled j y)
+      by j (inr y) = waits-on K L m (at_end i m) j (get_or ps j nobody) refl refl (λ d a. a) (λ d a. a) (λ d a. a) (h.settled j y)
 
       rests : (j : ℕ) → (i ≡ j) ⊎ (get_or m.resting j false ≡ true) → (get_or ps j nobody).puts ≡ []
       rests j (inl y) = subst (λ d. (get_or ps d nobody).puts ≡ []) y z
@@ -354,7 +278,7 @@ module _ (n : Network Token) where
       same d q = ap (λ v. list_at v d) l ∙ left-of from L d (omega (arith, q, f))
 
       by : (j : ℕ) (p : Standing) → Waits n K L m j p → Waits n K L' m j p
-      by j p (inl w) = inl (room-on K K L L' m m j p refl w (let q = w.full in let e = ap (λ v. length v) (same w.first.channel w.inner) in omega (arith, q, e)) w.marked)
+      by j p (inl w) = inl (room-on K K L L' m m j p refl w (let q = w.full in let e = ap (λ v. length v) (same w.first.channel w.inner) in omega (arith, q, e)) w.marked w.ranked)
       by j p (inr (inl w)) = inr (inl (token-on L L' m m j p refl w (ap (λ v. length v) (same (offset_of n.plan.net.places j + w.place) (within-total n.plan.net.places j w.place w.within)) ∙ w.empty) w.marked))
       by j p (inr (inr w)) = inr (inr w)
 

@@ -3,10 +3,10 @@ use Rattle.std.proofs.Common.{◌≡◌, ℕ, List, Bool, true, false, get_or, s
 use Rattle.pt_pn.specs.Noted.{Noted, awake, without_token, without_room, woken_if, token_came, room_came}
 
 abbrev pub with_tokens : List Bool → Noted → Noted
-with_tokens T m = record { settled = m.settled; resting = m.resting; tokens = T; rooms = m.rooms; writers = m.writers; readers = m.readers }
+with_tokens T m = record { settled = m.settled; resting = m.resting; tokens = T; rooms = m.rooms; writers = m.writers; readers = m.readers; ranks = m.ranks }
 
 abbrev pub with_rooms : List Bool → Noted → Noted
-with_rooms R m = record { settled = m.settled; resting = m.resting; tokens = m.tokens; rooms = R; writers = m.writers; readers = m.readers }
+with_rooms R m = record { settled = m.settled; resting = m.resting; tokens = m.tokens; rooms = R; writers = m.writers; readers = m.readers; ranks = m.ranks }
 
 module _ (s m : Noted) (v : s ≡ m) (c : ℕ) (b : Bool) where
   pub no-token : (T : List Bool) → b ≡ get_or s.tokens c false → b ≡ false → T ≡ set s.tokens c false → with_tokens T s ≡ token_came c m

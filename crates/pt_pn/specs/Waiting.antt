@@ -4,6 +4,8 @@ use Rattle.pt_meaning.specs.Streams.{at}
 use Rattle.pt_meaning.specs.Process.{Put}
 use Rattle.pt_meaning.specs.Jam.{is_next_put}
 use Rattle.pt_value.specs.declared.token.Token.{Token}
+use Rattle.pt_pn_laws.specs.State.{capacity_of, greatest_of}
+use Rattle.pt_pn_work.specs.Core.{State, PutsOn}
 
 -- some process has a put to make, or none has
 abbrev pub SomePuts : List (List (Put Token)) → Type 0
@@ -20,3 +22,9 @@ MarksWaited marks puts = (c : ℕ) → c < length marks → get_or marks c false
 abbrev pub marked_with : Option ℕ → ℕ → Bool → Bool
 marked_with None c before = before
 marked_with (Some channel) c before = before || nat_eq channel c
+
+-- process i waits to put on the channel, which has this capacity and may grow
+pub record AwaitsGrowth (s : State) (i c k : ℕ) : Type 0 where
+  pub puts : PutsOn s i c
+  pub capacity : k ≡ capacity_of s c
+  pub below : k < greatest_of s c

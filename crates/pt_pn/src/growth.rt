@@ -27,8 +27,8 @@ impl Core {
         }
     }
 
-    /// Of the channels that processes wait to put on, and that may still grow, the one of least capacity, and of these the one of least number, with its capacity.
-    fn best(&self) -> Option<(u32, usize)>
+    /// The best channel, by a look at each process.
+    pub(crate) fn best_of_all(&self) -> Option<(u32, usize)>
         ensures best { result ≡ least_full self.now }
         ensures there { IfSome result (λ best. best.0 < length self.now.network.plan.net.sources) }
     {

@@ -5,6 +5,7 @@ mod driven;
 mod flags;
 mod fresh;
 mod growth;
+mod least;
 mod looks;
 mod notes;
 mod numbers;

@@ -99,7 +99,8 @@ impl Core {
         ensures { Looks self.old process result self.new }
     {
         if !self.has_room(process, channel) {
-            self.notes.await_room(process, channel);
+            let capacity = self.capacity[channel as usize];
+            self.notes.await_room(process, channel, capacity);
             return None;
         }
         Some(self.put(process))

@@ -1,9 +1,12 @@
-ghost use Rattle.std.specs.Prelude.{◌≡◌, get_or, set, false};
+ghost use Rattle.std.specs.Prelude.{◌≡◌, ◌<◌, length, get_or, set, true, false, Some};
+ghost use Rattle.pt_pn.specs.Noted.{rank_of};
 
 use crate::flags::Flags;
 use crate::worklist::Worklist;
 use pt_core::Source;
 use pt_process::Network;
+use pt_time::Tag;
+use pt_wakes::Wakes;
 use std::alloc::{AllocError, Global};
 use std::marker::Model;
 
@@ -24,6 +27,8 @@ pub(crate) struct Notes {
     writers: Vec<u32>,
     /// The process that gets from each channel that ends at one.
     readers: Vec<u32>,
+    /// The rank of each channel on which a process waits for room. One that isn't waited for any more, or has grown, may keep its old one.
+    ranks: Wakes,
     worklist: Worklist,
 }
 
@@ -39,7 +44,8 @@ impl Model for Notes {
 
 impl Notes {
     ghost use Rattle.std.specs.Prelude.{◌≡◌, ℕ, ◌<◌, length, get_or, true, false, IfOk};
-    ghost use Rattle.pt_pn.specs.Noted.{AreNone, awake, token_came, room_came, IsTokenNoted, IsRoomNoted, at_end};
+    ghost use Rattle.pt_pn.specs.Noted.{AreNone, awake, token_came, room_came, IsTokenNoted, IsRoomNoted, at_end, ranked};
+    ghost use Rattle.pt_meaning.specs.Tag.{least};
 
     /// The notes on a network of which no process was looked at: each stands in the worklist.
     pub(crate) fn new(alloc: Global, network: &Network) -> Result<Notes, AllocError>
@@ -54,6 +60,7 @@ impl Notes {
             rooms: vec![in alloc; false; network.channels()]?,
             writers: writers_of(alloc, network)?,
             readers: readers_of(alloc, network)?,
+            ranks: no_ranks(alloc, network.channels())?,
             worklist: Worklist::new(alloc, network.processes())?,
         })
     }
@@ -154,15 +161,49 @@ impl Notes {
         self.resting.set(process as usize);
     }
 
-    /// A process is stopped, since it waits for room on a channel. Nothing is noted of one that doesn't put there.
-    pub(crate) fn await_room(&mut self, process: u32, channel: u32)
-        ensures { IsRoomNoted process channel self.old self.new }
+    /// A process is stopped, since it waits for room on a channel of this capacity. Nothing is noted of one that doesn't put there.
+    pub(crate) fn await_room(&mut self, process: u32, channel: u32, capacity: usize)
+        ensures { IsRoomNoted process channel capacity self.old self.new }
     {
-        if channel as usize >= self.rooms.len() || process_at(&self.writers, channel) != process {
+        let number = channel as usize;
+        if number >= self.rooms.len() || number >= self.ranks.len() {
             return;
         }
-        self.rooms[channel as usize] = true;
+        if process_at(&self.writers, channel) != process {
+            return;
+        }
+        self.rooms[number] = true;
         self.settled.set(process as usize);
+        set_rank(&mut self.ranks, channel, capacity);
+    }
+
+    /// The least of the ranks that are noted.
+    pub(crate) fn least(&self) -> Option<Tag>
+        ensures { result ≡ least self.now.ranks }
+    {
+        self.ranks.least()
+    }
+
+    /// In so many turns each rank is looked at, and then the least.
+    pub(crate) fn turns(&self) -> usize {
+        self.ranks.len().saturating_add(1)
+    }
+
+    /// The process that puts on a channel, if one does.
+    pub(crate) fn writer(&self, channel: u32) -> u32
+        ensures { result ≡ get_or self.now.writers channel 0 }
+    {
+        process_at(&self.writers, channel)
+    }
+
+    /// A channel has the rank of this capacity, or none.
+    pub(crate) fn note_rank(&mut self, channel: u32, capacity: Option<usize>)
+        ensures { self.new ≡ ranked capacity channel self.old }
+    {
+        if channel as usize >= self.ranks.len() {
+            return;
+        }
+        self.ranks.set(channel as usize, rank_of(channel, capacity));
     }
 
     /// A process is stopped, since it is over.
@@ -186,6 +227,7 @@ impl Notes {
             rooms: Vec::from_slice(alloc, &self.rooms)?,
             writers: Vec::from_slice(alloc, &self.writers)?,
             readers: Vec::from_slice(alloc, &self.readers)?,
+            ranks: self.ranks.copy(alloc)?,
             worklist: self.worklist.copy(alloc)?,
         })
     }
@@ -202,6 +244,46 @@ fn ends_wait(waited: &mut Vec<bool>, channel: u32) -> bool
     let was = waited[channel as usize];
     waited[channel as usize] = false;
     was
+}
+
+/// The rank of a channel of this capacity, if it has one: that of less capacity is less, and of channels of the same capacity that of less number.
+fn rank_of(channel: u32, capacity: Option<usize>) -> Option<Tag>
+    ensures { result ≡ rank_of capacity channel }
+{
+    match capacity {
+        Some(capacity) => Some(Tag {
+            time: capacity as u64,
+            step: channel,
+        }),
+        None => None,
+    }
+}
+
+/// A channel has the rank of this capacity. Where it has it already, nothing is written.
+fn set_rank(ranks: &mut Wakes, channel: u32, capacity: usize)
+    requires { channel < length ranks.old }
+    ensures { ranks.new ≡ set ranks.old channel (rank_of (Some capacity) channel) }
+{
+    if is_of(ranks.get(channel as usize), channel, capacity) {
+        return;
+    }
+    ranks.set(channel as usize, rank_of(channel, Some(capacity)));
+}
+
+/// Whether a rank is that of a channel of this capacity.
+fn is_of(rank: Option<Tag>, channel: u32, capacity: usize) -> bool
+    ensures { result ≡ true → rank ≡ rank_of (Some capacity) channel }
+{
+    match rank {
+        Some(rank) => rank.time == capacity as u64 && rank.step == channel,
+        None => false,
+    }
+}
+
+/// No rank for each of so many channels.
+fn no_ranks(alloc: Global, channels: usize) -> Result<Wakes, AllocError> {
+    let ranks: Vec<Option<Tag>> = vec![in alloc; None; channels]?;
+    Wakes::new(alloc, &ranks)
 }
 
 /// The process at an end of a channel, by a table of these.

@@ -1,26 +1,25 @@
-use Rattle.std.proofs.Common.{length, arith}
-use Rattle.pt_pn_work.proofs.LeastLaws.{none-best}
-use Rattle.pt_pn.proofs.BestLaws.{best-of-all}
-use Rattle.pt_pn.proofs.StepLaws.{puts-long, capacity-long, list-in-net}
+use Rattle.std.proofs.Common.{◌<◌, length, IfSome, ap, subst, ◌∙◌}
+use Rattle.pt_pn_laws.specs.State.{least_full}
+use Rattle.pt_pn_work.specs.Core.{State}
 use Rattle.pt_pn.proofs.pn.Core.best.Goals as goal
 
-pub loop-process-init : goal.loop-process-init
-loop-process-init c = record { best = none-best c.args.self.now; within = tt }
+pub returns-in-Some-clause-same : goal.returns-in-Some-clause-same
+returns-in-Some-clause-same c = c.best_noted.ensures.same ∙ c.loop.invariant
 
-pub better-best-requires : goal.better-best-requires
-better-best-requires c = record {
-  there = list-in-net c.self.inside c.self.invariant c.args.self.now c.self.view_is c.loop-process.process (omega (arith, c.loop-process-test.true, c.len-process-end.ensures, c.self.inside.processes.ok.0));
-  best = c.loop-process.invariant.best;
-  within = c.loop-process.invariant.within;
-}
+pub returns-in-Some-clause-best : goal.returns-in-Some-clause-best
+returns-in-Some-clause-best c = c.in-Some.ensures.best ∙ ap (λ (s : State). least_full s) c.loop.invariant
 
-pub loop-process-preserved : goal.loop-process-preserved
-loop-process-preserved c = record { best = c.better-best.ensures.best; within = c.better-best.ensures.within }
+pub returns-in-Some-clause-there : goal.returns-in-Some-clause-there
+returns-in-Some-clause-there c = subst (λ (s : State). IfSome c.in-Some.best (λ best. best.0 < length s.network.plan.net.sources)) c.loop.invariant c.in-Some.ensures.there
+
+pub loop-preserved : goal.loop-preserved
+loop-preserved c = c.best_noted.ensures.same ∙ c.loop.invariant
+
+pub returns-clause-same : goal.returns-clause-same
+returns-clause-same c = c.loop.invariant
 
 pub returns-clause-best : goal.returns-clause-best
-returns-clause-best c =
-    let l = puts-long c.self.inside c.self.invariant c.args.self.now c.self.view_is in
-    best-of-all c.args.self.now c.loop-process.best c.loop-process.process (length c.args.self.now.network.plan.net.sources) (omega (arith, l, c.loop-process-test.false, c.len-process-end.ensures, c.self.inside.processes.ok.0)) (capacity-long c.self.inside c.self.invariant c.args.self.now c.self.view_is) c.loop-process.invariant.within c.loop-process.invariant.best
+returns-clause-best c = c.best_of_all.ensures.best ∙ ap (λ (s : State). least_full s) c.loop.invariant
 
 pub returns-clause-there : goal.returns-clause-there
-returns-clause-there c = c.loop-process.invariant.within
+returns-clause-there c = subst (λ (s : State). IfSome c.best_of_all.result (λ best. best.0 < length s.network.plan.net.sources)) c.loop.invariant c.best_of_all.ensures.there
