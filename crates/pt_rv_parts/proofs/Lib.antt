@@ -1,0 +1,8 @@
+pub mod ListLaws
+pub mod FanLaws
+pub mod TargetLaws
+pub mod GatherLaws
+pub mod StepLaws
+pub mod CopyLaws
+pub mod TeamLaws
+pub mod PlanLaws

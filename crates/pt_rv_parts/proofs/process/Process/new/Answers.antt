@@ -1,0 +1,14 @@
+use Rattle.std.proofs.Common.{sym, subst, ◌∙◌}
+use Rattle.pt_rv_laws.specs.Lawful.{HasPlaces}
+use Rattle.pt_rv_parts.specs.Process.{need_in}
+use Rattle.pt_rv_parts.proofs.StepLaws.{start-is, start-gathers}
+use Rattle.pt_rv_parts.proofs.process.Process.new.Goals as goal
+
+pub invariant_of-result : goal.invariant_of-result
+invariant_of-result c = record {
+  row = c.in_ok-row.ensures.counted ∙ sym (c.in_ok-make_rooms.ensures.counted ∙ c.in_ok-lines.ensures);
+  gathers = start-gathers c.args.need c.most_needed.result c.in_ok-row.row.items c.make_rooms.new.lines.items (subst (λ n. HasPlaces n (need_in c.args.need)) (sym (c.in_ok-make_rooms.ensures.counted ∙ c.in_ok-lines.ensures)) c.requires) c.most_needed.ensures c.in_ok-row.ensures.empty c.in_ok-make_rooms.ensures.rooms;
+}
+
+pub returns : goal.returns
+returns c = start-is c.args.is_barrier c.args.need c.args.places c.most_needed.result c.in_ok-row.row.items c.make_rooms.new.lines.items c.new.result.items c.in_ok-row.ensures.counted c.in_ok-row.ensures.empty (c.in_ok-make_rooms.ensures.counted ∙ c.in_ok-lines.ensures) c.in_ok-make_rooms.ensures.rooms c.new.ensures.items

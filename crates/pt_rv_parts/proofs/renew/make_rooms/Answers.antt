@@ -1,0 +1,9 @@
+use Rattle.std.proofs.Common.{◌∙◌}
+use Rattle.pt_rv_parts.proofs.GatherLaws.{rooms-more}
+use Rattle.pt_rv_parts.proofs.renew.make_rooms.Goals as goal
+
+pub loop-place-preserved : goal.loop-place-preserved
+loop-place-preserved c = record {
+  counted = c.in_ok-make_room.ensures.counted ∙ c.loop-place.invariant.counted;
+  rooms = rooms-more c.args.count c.loop-place.lines.items c.make_room.new.lines.items c.loop-place.place c.loop-place.invariant.rooms c.in_ok-make_room.ensures.empty c.in_ok-make_room.ensures.room c.in_ok-make_room.ensures.others;
+}

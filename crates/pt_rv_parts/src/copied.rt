@@ -1,0 +1,99 @@
+ghost use Rattle.std.specs.Prelude.{◌≡◌, ℕ, ◌+◌, ◌<◌, ◌≤◌, length, IfOk};
+ghost use Rattle.pt_meaning.specs.Streams.{at};
+ghost use Rattle.pt_reaction.specs.Channels.{lists_of};
+ghost use Rattle.pt_process.specs.Process.{room_at, put_of, puts_in};
+
+use crate::need::KeptNeed;
+use crate::process::Process;
+use crate::renew::most_needed;
+use pt_firing::Tokens;
+use pt_process::StagedPut;
+use pt_reaction::Line;
+use std::alloc::{AllocError, Global};
+use std::collections::VecDeque;
+
+impl Process {
+    ghost use Rattle.std.specs.Prelude.{◌≡◌, IfOk};
+
+    /// Another process in the same state.
+    pub fn copy(&self, alloc: Global) -> Result<Process, AllocError>
+        ensures { IfOk result (λ process. process ≡ self.now) }
+    {
+        let puts = puts_again(alloc, &self.puts)?;
+        let lines = lines_again(alloc, &self.lines, most_needed(&self.need))?;
+        let row = row_again(alloc, &self.row)?;
+        let need = self.need.copy(alloc)?;
+        Ok(Process {
+            is_barrier: self.is_barrier,
+            need,
+            lines,
+            row,
+            is_handed: self.is_handed,
+            full: self.full,
+            filled: self.filled,
+            puts,
+        })
+    }
+}
+
+/// The same puts again.
+pub(crate) fn puts_again(
+    alloc: Global,
+    puts: &VecDeque<StagedPut>,
+) -> Result<VecDeque<StagedPut>, AllocError>
+    ensures { IfOk result (λ copies. puts_in copies.items ≡ puts_in puts.now.items) }
+{
+    let mut copies = VecDeque::new(alloc);
+    for k in 0..puts.len() {
+        let copy = put_again(alloc, &puts[k])?;
+        match copies.push_back(copy) {
+            Ok(()) => {}
+            Err(_) => return Err(AllocError),
+        }
+    }
+    Ok(copies)
+}
+
+fn put_again(alloc: Global, put: &StagedPut) -> Result<StagedPut, AllocError>
+    ensures { IfOk result (λ copy. put_of copy ≡ put_of put.now) }
+{
+    Ok(StagedPut {
+        channel: put.channel,
+        token: put.token.copy(alloc)?,
+    })
+}
+
+/// The same lists again.
+fn row_again(alloc: Global, lists: &[Tokens]) -> Result<Vec<Tokens>, AllocError>
+    ensures { IfOk result (λ copies. copies.items ≡ lists.now) }
+{
+    let mut copies = Vec::with_capacity(alloc, lists.len())?;
+    for tokens in lists {
+        let tokens = tokens.copy(alloc)?;
+        copies.push(tokens)?;
+    }
+    Ok(copies)
+}
+
+/// The same lines again, each with room for so many tokens.
+fn lines_again(alloc: Global, lines: &[Line], count: usize) -> Result<Vec<Line>, AllocError>
+    ensures lists { IfOk result (λ copies. lists_of copies.items ≡ lists_of lines.now) }
+    ensures rooms { IfOk result (λ copies. (q : ℕ) → q < length lines.now → count ≤ length (at (lists_of copies.items) q) + room_at copies.items q) }
+{
+    let mut copies = Vec::with_capacity(alloc, lines.len())?;
+    for line in lines {
+        let copy = line_again(alloc, line, count)?;
+        copies.push(copy)?;
+    }
+    Ok(copies)
+}
+
+/// The same of one line.
+fn line_again(alloc: Global, line: &Line, count: usize) -> Result<Line, AllocError>
+    ensures list { IfOk result (λ copy. copy.list ≡ line.now.list) }
+    ensures room { IfOk result (λ copy. count ≤ length copy.list + copy.spare) }
+{
+    let mut copy = line.copy(alloc)?;
+    copy.reserve(alloc, count.saturating_sub(line.len()))?;
+    Ok(copy)
+}

@@ -1,0 +1,27 @@
+//! The parts of a Rendezvous composite: its plan with tables, its processes, which gather, fire and put, and its own inputs and outputs.
+#![tactic(auto)]
+
+mod copied;
+mod fans;
+mod inlet;
+mod meetings;
+mod need;
+mod outlet;
+mod plan;
+mod process;
+mod renew;
+mod rv_plan;
+mod staged;
+mod targets;
+mod team;
+
+pub use inlet::Inlet;
+pub use meetings::{Meeting, Meetings};
+pub use need::KeptNeed;
+pub use outlet::Outlet;
+pub use plan::CorePlan;
+pub use process::{Event, Process};
+pub use rv_plan::Plan;
+pub use staged::stage_outputs;
+pub use targets::Target;
+pub use team::Team;

@@ -1,0 +1,295 @@
+ghost use Rattle.std.specs.Prelude.{◌≡◌, ◌+◌, ◌^◌, ◌<◌, not, length, get_or, slice_get, false, true, IfOk, OnOk, OnErr, Some};
+ghost use Rattle.pt_meaning.specs.Streams.{change_at};
+ghost use Rattle.pt_meaning.specs.Process.{at_rest};
+ghost use Rattle.pt_firing.specs.Need.{need_of};
+ghost use Rattle.pt_rv_laws.specs.Lawful.{HasPlaces};
+ghost use Rattle.pt_process.specs.Process.{put_of, puts_in};
+ghost use Rattle.pt_rv_work.specs.Core.{nobody, next_of, with_token, with_put_made, with_handed, once_fired};
+ghost use Rattle.pt_rv_parts.specs.Process.{DoesNext, MayTake};
+ghost use Rattle.pt_rv_parts.specs.Team.{NoneHanded, firing_in, one_unless};
+
+use crate::process::{Event, Process};
+use pt_firing::{Inputs, Need};
+use pt_process::StagedPut;
+use pt_value::Token;
+use std::alloc::{AllocError, Global};
+use std::collections::VecDeque;
+use std::marker::Model;
+
+/// The processes of a composite, and how many of them may fire.
+#[derive(Drop)]
+pub struct Team {
+    processes: Vec<Process>,
+    firing: usize,
+}
+
+impl Model for Team {
+    ghost use Rattle.std.specs.Prelude.{◌≡◌, List};
+    ghost use Rattle.std.specs.Coded.{coded_list};
+    ghost use Rattle.pt_value.specs.declared.token.Token.{Token};
+    ghost use Rattle.pt_rv_work.specs.Core.{Standing};
+    ghost use Rattle.pt_rv_parts.specs.Codes.{coded_standing};
+    ghost use Rattle.pt_rv_parts.specs.Team.{firing_in};
+
+    ghost Value = { List (Standing Token) };
+
+    ghost coded = { coded_list coded_standing };
+
+    ghost view = { λ t. t.processes.items };
+
+    ghost invariant = { λ t. t.firing ≡ firing_in t.processes.items };
+}
+
+impl Team {
+    ghost use Rattle.std.specs.Prelude.{◌≡◌, ℕ, ◌<◌, length, get_or, slice_get, false, true, IfOk, IfSome, IsNone, OnOk, OnErr, Some};
+    ghost use Rattle.pt_meaning.specs.Streams.{change_at};
+    ghost use Rattle.pt_meaning.specs.Process.{Fires, at_rest};
+    ghost use Rattle.pt_firing.specs.Need.{need_of};
+    ghost use Rattle.pt_rv_laws.specs.Lawful.{HasPlaces};
+    ghost use Rattle.pt_process.specs.Process.{PutsFirst, put_of, puts_in};
+    ghost use Rattle.pt_rv_work.specs.Core.{nobody, next_of, with_token, with_put_made, with_handed, once_fired};
+    ghost use Rattle.pt_rv_parts.specs.Process.{DoesNext, MayTake};
+    ghost use Rattle.pt_rv_parts.specs.Team.{AllAtRest, NoneHanded};
+
+    pub fn of(mut processes: Vec<Process>) -> Team
+        requires { NoneHanded processes.items }
+        ensures { result ≡ processes.items }
+    {
+        let firing = count_firing(&mut processes);
+        Team { processes, firing }
+    }
+
+    /// How many processes there are.
+    pub fn len(&self) -> usize
+        ensures { result ≡ length self.now }
+    {
+        self.processes.len()
+    }
+
+    /// Whether none of them may fire.
+    pub fn is_at_rest(&self) -> bool
+        ensures rests { result ≡ true → AllAtRest self.now }
+        ensures none { AllAtRest self.now → result ≡ true }
+    {
+        if self.firing == 0 {
+            return true;
+        }
+        false
+    }
+
+    /// What a process does next.
+    pub fn next(&mut self, process: usize) -> Event
+        requires there { process < length self.old }
+        requires gathers { (get_or self.old process nobody).handed ≡ false }
+        ensures same { self.new ≡ self.old }
+        ensures next { DoesNext (get_or self.old process nobody) result }
+    {
+        next_at(&mut self.processes, process)
+    }
+
+    /// The first process that may fire, if one may.
+    pub fn first_firing(&mut self) -> Option<usize>
+        requires { NoneHanded self.old }
+        ensures same { self.new ≡ self.old }
+        ensures there { IfSome result (λ process. process < length self.old) }
+        ensures fires { IfSome result (λ process. next_of (get_or self.old process nobody) ≡ Fires) }
+        ensures first { IfSome result (λ process. (i : ℕ) → i < process → at_rest (next_of (get_or self.old i nobody)) ≡ true) }
+        ensures rests { IsNone result → AllAtRest self.old }
+    {
+        for process in 0..self.processes.len() {
+            let event = self.next(process);
+            if event.is_fire() {
+                return Some(process);
+            }
+        }
+        None
+    }
+
+    /// The channel of the next put of a process, if it has one.
+    pub fn next_put(&self, process: usize) -> Option<u32>
+        requires { process < length self.now }
+        ensures { PutsFirst (get_or self.now process nobody).puts result }
+    {
+        self.processes[process].next_put()
+    }
+
+    /// A process takes a token at a place. It takes no memory.
+    pub fn get(&mut self, process: usize, place: usize, token: Token)
+        requires there { process < length self.old }
+        requires may { MayTake (get_or self.old process nobody) place }
+        ensures { self.new ≡ change_at process (with_token place token) self.old }
+    {
+        let fired = is_firing(&mut self.processes, process);
+        get_at(&mut self.processes, process, place, token);
+        let fires = is_firing(&mut self.processes, process);
+        self.firing = recounted(self.firing, fired, fires);
+    }
+
+    /// Takes out the next put of a process.
+    pub fn put(&mut self, process: usize) -> StagedPut
+        requires there { process < length self.old }
+        requires gathers { (get_or self.old process nobody).handed ≡ false }
+        requires some { 0 < length (get_or self.old process nobody).puts }
+        ensures put { slice_get (get_or self.old process nobody).puts 0 ≡ Some (put_of result) }
+        ensures left { self.new ≡ change_at process with_put_made self.old }
+    {
+        let fired = is_firing(&mut self.processes, process);
+        let put = put_at(&mut self.processes, process);
+        let fires = is_firing(&mut self.processes, process);
+        self.firing = recounted(self.firing, fired, fires);
+        put
+    }
+
+    /// A process hands over what it has gathered. It takes no memory.
+    pub fn hand(&mut self, process: usize)
+        requires there { process < length self.old }
+        requires gathers { (get_or self.old process nobody).handed ≡ false }
+        ensures { self.new ≡ change_at process with_handed self.old }
+    {
+        hand_at(&mut self.processes, process);
+    }
+
+    /// What a process has gathered.
+    pub fn lent(&self, process: usize) -> Inputs<'_>
+        requires there { process < length self.now }
+        requires handed { (get_or self.now process nobody).handed ≡ true }
+        ensures { result ≡ (get_or self.now process nobody).got }
+    {
+        self.processes[process].lent()
+    }
+
+    /// A process has fired, and has these puts to make, and this need. After an `Err` all are as before.
+    pub fn told(
+        &mut self,
+        alloc: Global,
+        process: usize,
+        need: Need<'_>,
+        puts: &mut VecDeque<StagedPut>,
+    ) -> Result<(), AllocError>
+        requires there { process < length self.old }
+        requires handed { (get_or self.old process nobody).handed ≡ true }
+        requires fires { next_of (get_or self.old process nobody) ≡ Fires }
+        requires places { HasPlaces (length (get_or self.old process nobody).got) (need_of need) }
+        ensures told { OnOk result (self.new ≡ change_at process (once_fired (need_of need.entry) (puts_in puts.old.items)) self.old) }
+        ensures kept { OnErr result (self.new ≡ self.old) }
+    {
+        tell_at(alloc, &mut self.processes, process, need, puts)?;
+        let fires = is_firing(&mut self.processes, process);
+        self.firing = recounted(self.firing, true, fires);
+        Ok(())
+    }
+
+    /// The same processes again.
+    pub fn copy(&self, alloc: Global) -> Result<Team, AllocError>
+        ensures { IfOk result (λ team. team ≡ self.now) }
+    {
+        let processes = copies(alloc, &self.processes)?;
+        Ok(Team {
+            processes,
+            firing: self.firing,
+        })
+    }
+}
+
+/// How many of them may fire, once one of them that fired or not does so or not.
+fn recounted(firing: usize, fired: bool, fires: bool) -> usize
+    requires fewer { fired ≡ true → 0 < firing }
+    requires room { firing < 2 ^ 63 }
+    ensures { result + one_unless (not fired) ≡ firing + one_unless (not fires) }
+{
+    if fired == fires {
+        return firing;
+    }
+    if fires { firing + 1 } else { firing - 1 }
+}
+
+/// How many of these processes may fire.
+fn count_firing(processes: &mut Vec<Process>) -> usize
+    requires { NoneHanded processes.old.items }
+    ensures same { processes.new.items ≡ processes.old.items }
+    ensures count { result ≡ firing_in processes.old.items }
+{
+    let mut firing = 0;
+    for process in 0..processes.len() {
+        let fires = is_firing(processes, process);
+        firing = recounted(firing, false, fires);
+    }
+    firing
+}
+
+/// What a process does next.
+fn next_at(processes: &mut Vec<Process>, process: usize) -> Event
+    requires there { process < length processes.old.items }
+    requires gathers { (get_or processes.old.items process nobody).handed ≡ false }
+    ensures same { processes.new.items ≡ processes.old.items }
+    ensures next { DoesNext (get_or processes.old.items process nobody) result }
+{
+    processes[process].next()
+}
+
+/// Whether a process may fire.
+fn is_firing(processes: &mut Vec<Process>, process: usize) -> bool
+    requires there { process < length processes.old.items }
+    requires gathers { (get_or processes.old.items process nobody).handed ≡ false }
+    ensures same { processes.new.items ≡ processes.old.items }
+    ensures rests { at_rest (next_of (get_or processes.old.items process nobody)) ≡ not result }
+{
+    processes[process].is_firing()
+}
+
+/// A process takes a token at a place.
+fn get_at(processes: &mut Vec<Process>, process: usize, place: usize, token: Token)
+    requires there { process < length processes.old.items }
+    requires may { MayTake (get_or processes.old.items process nobody) place }
+    ensures { processes.new.items ≡ change_at process (with_token place token) processes.old.items }
+{
+    processes[process].get(place, token);
+}
+
+/// Takes out the next put of a process.
+fn put_at(processes: &mut Vec<Process>, process: usize) -> StagedPut
+    requires there { process < length processes.old.items }
+    requires some { 0 < length (get_or processes.old.items process nobody).puts }
+    ensures put { slice_get (get_or processes.old.items process nobody).puts 0 ≡ Some (put_of result) }
+    ensures left { processes.new.items ≡ change_at process with_put_made processes.old.items }
+{
+    processes[process].put()
+}
+
+/// A process hands over what it has gathered.
+fn hand_at(processes: &mut Vec<Process>, process: usize)
+    requires there { process < length processes.old.items }
+    requires gathers { (get_or processes.old.items process nobody).handed ≡ false }
+    ensures { processes.new.items ≡ change_at process with_handed processes.old.items }
+{
+    processes[process].hand();
+}
+
+/// A process has fired. After an `Err` all are as before.
+fn tell_at(
+    alloc: Global,
+    processes: &mut Vec<Process>,
+    process: usize,
+    need: Need<'_>,
+    puts: &mut VecDeque<StagedPut>,
+) -> Result<(), AllocError>
+    requires there { process < length processes.old.items }
+    requires handed { (get_or processes.old.items process nobody).handed ≡ true }
+    requires places { HasPlaces (length (get_or processes.old.items process nobody).got) (need_of need) }
+    ensures told { OnOk result (processes.new.items ≡ change_at process (once_fired (need_of need.entry) (puts_in puts.old.items)) processes.old.items) }
+    ensures kept { OnErr result (processes.new.items ≡ processes.old.items) }
+{
+    processes[process].told(alloc, need, puts)
+}
+
+/// The same processes again.
+fn copies(alloc: Global, processes: &[Process]) -> Result<Vec<Process>, AllocError>
+    ensures { IfOk result (λ copies. copies.items ≡ processes.now) }
+{
+    let mut copies = Vec::with_capacity(alloc, processes.len())?;
+    for process in processes {
+        let copy = process.copy(alloc)?;
+        copies.push(copy)?;
+    }
+    Ok(copies)
+}
