@@ -48,6 +48,7 @@ impl Agenda {
     }
 
     /// Makes a child due, which it may be already.
+    #[inline(always)]
     pub fn insert(&mut self, child: usize)
         requires { child < length self.old.wakes }
         ensures { self.new ≡ record { wakes = self.old.wakes; set = with_due self.old.set child true } }

@@ -57,6 +57,7 @@ impl Rows {
     }
 
     /// Takes what came to the places of a child, whose channels are those from one on to another, and goes to the first of its rows.
+    #[inline(always)]
     pub fn take(&mut self, channels: &mut Channels, first: usize, end: usize, whole: bool)
         requires within { first ≤ end }
         requires room { end - first ≤ self.old.width }
@@ -134,6 +135,7 @@ fn fill(lines: &mut Vec<Line>, channels: &mut Channels, first: usize, end: usize
 }
 
 /// Whether what came to the channels from one on to another is one row.
+#[inline(always)]
 fn are_one_row(channels: &Channels, first: usize, end: usize, whole: bool) -> bool
     requires { end ≤ length channels.now.lists }
     ensures one { let came = take (end - first) (drop first channels.now.lists) in result ≡ true → rows_for whole came ≡ came ∷ [] }
@@ -143,6 +145,7 @@ fn are_one_row(channels: &Channels, first: usize, end: usize, whole: bool) -> bo
 }
 
 /// Whether each channel from one on to another has one token at most.
+#[inline(always)]
 fn are_single(channels: &Channels, first: usize, end: usize) -> bool
     requires { end ≤ length channels.now.lists }
     ensures { IsTrue result ↔ ((channel : ℕ) → first ≤ channel → channel < end → length (at channels.now.lists channel) ≤ 1) }
@@ -156,6 +159,7 @@ fn are_single(channels: &Channels, first: usize, end: usize) -> bool
 }
 
 /// Takes all tokens of the channels from one on to another as the row.
+#[inline(always)]
 fn fill_row(row: &mut Vec<Tokens>, channels: &mut Channels, first: usize, end: usize)
     requires within { first ≤ end }
     requires room { end - first ≤ length row.old.items }

@@ -7,6 +7,7 @@ use crate::turns::Turns;
 use pt_wakes::DueChildren;
 
 /// Where the child at whose place a channel ends has had no turn, it is due, or comes last where the channel ends at a delay.
+#[inline(always)]
 pub fn tell_reader(
     net: &Net,
     turns: &Turns,

@@ -118,6 +118,7 @@ impl Reaction {
     }
 
     /// Notes that a child has answered early.
+    #[inline(always)]
     pub(crate) fn note_answer(&mut self, child: usize)
         requires there { child < length self.old.state.plan.net.places }
         requires running { self.old.state.stage ≡ Open }

@@ -65,6 +65,7 @@ impl Reaction {
     }
 
     /// Puts an integer on each channel that the first port of a child feeds.
+    #[inline(always)]
     fn give(&mut self, child: usize, number: i64)
         requires there { child < length self.old.state.plan.net.places }
         requires running { self.old.state.stage ≡ Open }

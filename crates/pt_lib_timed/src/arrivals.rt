@@ -108,6 +108,7 @@ pub(crate) fn fire(
 }
 
 /// Puts the integer that arrives behind what is pending, if any does. Where several tokens arrive, or another one, where it would be due past the limits, or for want of memory, nothing is done.
+#[inline(always)]
 fn arrive_alone(pending: &mut Pending, tokens: &[Token], wait: Wait) -> bool
     ensures all { IsTrue result → Some pending.new ≡ behind pending.old (arriving wait.in_turn wait.from wait.delay tokens.now) }
     ensures kept { result ≡ false → pending.new ≡ pending.old }

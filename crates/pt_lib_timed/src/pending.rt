@@ -63,6 +63,7 @@ impl Pending {
     }
 
     /// Puts a token behind the others. After an `Err` the list is as before.
+    #[inline(always)]
     pub fn put(&mut self, tag: Tag, token: Token) -> Result<(), AllocError>
         ensures { self.new ≡ (if is_ok result then self.old ++ (tag, token) ∷ [] else self.old) }
     {
@@ -144,6 +145,7 @@ impl Pending {
     }
 
     /// Lets go of the first, if there is one.
+    #[inline(always)]
     pub fn drop_first(&mut self)
         ensures { self.new ≡ drop 1 self.old }
     {

@@ -257,6 +257,7 @@ impl Actor for TimedActor {
         of_class!(self, actor => actor.early(alloc, tag, partial))
     }
 
+    #[inline(always)]
     fn next(&self) -> Option<Tag> {
         of_class!(self, actor => actor.next())
     }

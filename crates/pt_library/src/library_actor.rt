@@ -242,6 +242,7 @@ impl Actor for LibraryActor {
         of_library!(self, actor => actor.early(alloc, tag, partial))
     }
 
+    #[inline(always)]
     fn next(&self) -> Option<Tag> {
         of_library!(self, actor => actor.next())
     }

@@ -75,6 +75,7 @@ impl Core {
     }
 
     /// What comes of a look at a process: it makes its next event, or is stopped.
+    #[inline(always)]
     fn look(&mut self, process: u32) -> Option<Ask>
         requires there { process < length self.old.network.plan.net.places }
         requires running { self.old.stage ≡ Open }
@@ -92,6 +93,7 @@ impl Core {
     }
 
     /// The same where its next event is a put.
+    #[inline(always)]
     fn look_at_put(&mut self, process: u32, channel: u32) -> Option<Ask>
         requires there { process < length self.old.network.plan.net.places }
         requires running { self.old.stage ≡ Open }
@@ -107,6 +109,7 @@ impl Core {
     }
 
     /// Whether a put on a channel may be made, which is the next one of a process.
+    #[inline(always)]
     fn has_room(&self, process: u32, channel: u32) -> bool
         requires { PutsOn self.now process channel }
         ensures { result ≡ has_room self.now channel }
@@ -118,6 +121,7 @@ impl Core {
     }
 
     /// A process makes its next put.
+    #[inline(always)]
     fn put(&mut self, process: u32) -> Ask
         requires running { self.old.stage ≡ Open }
         requires may { MayPut self.old process }
@@ -130,6 +134,7 @@ impl Core {
     }
 
     /// What comes of a look at a process whose next event is a get.
+    #[inline(always)]
     fn look_at_get(&mut self, process: u32, place: usize) -> Option<Ask>
         requires there { process < length self.old.network.plan.net.places }
         requires running { self.old.stage ≡ Open }
@@ -145,6 +150,7 @@ impl Core {
     }
 
     /// A process takes a token at a place, from the channel that ends there.
+    #[inline(always)]
     fn get(&mut self, process: u32, place: usize, channel: u32) -> Ask
         requires running { self.old.stage ≡ Open }
         requires may { GetsAt self.old process place }
@@ -158,6 +164,7 @@ impl Core {
     }
 
     /// A process hands over what it has gathered, and is asked to fire.
+    #[inline(always)]
     fn fire(&mut self, process: u32) -> Ask
         requires running { self.old.stage ≡ Open }
         requires may { MayFire self.old process }

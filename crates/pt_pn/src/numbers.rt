@@ -24,6 +24,7 @@ impl Core {
     }
 
     /// Takes the integer that the firing of the process gave as the one token on its one port, and the need that it has then: a count for each of its places, or none. After an `Err` the core is as before.
+    #[inline(always)]
     pub fn told_number(
         &mut self,
         alloc: Global,

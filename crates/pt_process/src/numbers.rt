@@ -18,6 +18,7 @@ impl Process {
     ghost use Rattle.std.specs.Prelude.{◌≡◌, true, IfSome};
 
     /// What it has gathered, where that is one integer at each place. `row` is a buffer. `None` says nothing of it.
+    #[inline(always)]
     pub fn int_inputs<'a>(&'a self, row: &'a mut Vec<i64>) -> Option<IntInputs<'a>>
         requires { self.now.handed ≡ true }
         ensures { IfSome result (λ inputs. inputs ≡ self.now.got) }
@@ -27,6 +28,7 @@ impl Process {
 }
 
 /// Stages the puts of a process that gave an integer on its one port.
+#[inline(always)]
 pub fn stage_number(
     alloc: Global,
     staged: &mut VecDeque<StagedPut>,

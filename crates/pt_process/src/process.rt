@@ -62,6 +62,7 @@ impl Process {
     ghost use Rattle.pt_process.specs.Process.{DoesNext, PutsFirst, put_of, with_token, with_put_made, with_handed};
 
     /// What it does next.
+    #[inline(always)]
     pub fn next(&mut self) -> Event
         requires { self.old.handed ≡ false }
         ensures same { self.new ≡ self.old }
@@ -74,6 +75,7 @@ impl Process {
     }
 
     /// The same where it has no put to make.
+    #[inline(always)]
     fn next_of_need(&mut self) -> Event
         requires gathers { self.old.handed ≡ false }
         requires none { self.old.puts ≡ [] }
@@ -94,6 +96,7 @@ impl Process {
     }
 
     /// Takes a token at the place that lacks one. It takes no memory.
+    #[inline(always)]
     pub fn get(&mut self, place: usize, token: Token)
         requires gathers { self.old.handed ≡ false }
         requires lacks { lacking_place self.old.need self.old.got ≡ Some place }
@@ -104,6 +107,7 @@ impl Process {
     }
 
     /// Takes out its next put.
+    #[inline(always)]
     pub fn put(&mut self) -> StagedPut
         requires { 0 < length self.old.puts }
         ensures put { slice_get self.old.puts 0 ≡ Some (put_of result) }
@@ -116,6 +120,7 @@ impl Process {
     }
 
     /// Hands over what it has gathered, so that it can be lent. It takes no memory.
+    #[inline(always)]
     pub fn hand(&mut self)
         requires { self.old.handed ≡ false }
         ensures { self.new ≡ with_handed self.old }
@@ -165,6 +170,7 @@ fn event_of(lacks: Option<usize>) -> Event
 }
 
 /// The first place that lacks a token, where so many at the front lack nothing. As many are found to lack nothing then.
+#[inline(always)]
 fn lacking_of(counts: &[usize], lines: &[Line], full: &mut usize) -> Option<usize>
     requires counted { length counts.now ≡ length lines.now }
     requires full { (q : ℕ) → q < full.old → get_or counts.now q 0 ≤ length (at (lists_of lines.now) q) }
@@ -184,6 +190,7 @@ fn lacking_of(counts: &[usize], lines: &[Line], full: &mut usize) -> Option<usiz
 }
 
 /// Moves the tokens of each place into a row.
+#[inline(always)]
 fn hand_over(lines: &mut Vec<Line>, row: &mut Vec<Tokens>)
     requires { length row.old.items ≡ length lines.old.items }
     ensures row { row.new.items ≡ lists_of lines.old.items }

@@ -36,6 +36,7 @@ impl Process {
     }
 
     /// Once it has fired it has these puts to make, and this need. After an `Err` it is as before.
+    #[inline(always)]
     pub fn told(
         &mut self,
         alloc: Global,
@@ -53,6 +54,7 @@ impl Process {
     }
 
     /// It has used what it gathered, and has this need. After an `Err` it is as before.
+    #[inline(always)]
     fn renew(&mut self, alloc: Global, need: Need<'_>) -> Result<(), AllocError>
         requires handed { self.old.handed ≡ true }
         requires places { HasPlaces (length self.old.got) (need_of need) }
@@ -66,6 +68,7 @@ impl Process {
     }
 
     /// Whether it has this need already.
+    #[inline(always)]
     fn needs(&self, need: Need<'_>) -> bool
         ensures { result ≡ true → self.now.need ≡ need_of need.entry }
     {
@@ -77,6 +80,7 @@ impl Process {
     }
 
     /// It has used what it gathered, and needs the same again. After an `Err` it is as before.
+    #[inline(always)]
     fn need_again(&mut self, alloc: Global) -> Result<(), AllocError>
         requires handed { self.old.handed ≡ true }
         requires places { HasPlaces (length self.old.got) self.old.need }
@@ -138,6 +142,7 @@ fn kept_need(alloc: Global, need: Need<'_>) -> Result<Option<Counts>, AllocError
 }
 
 /// Empties each place, and makes room there for what is needed.
+#[inline(always)]
 fn make_rooms(alloc: Global, lines: &mut Vec<Line>, need: &Option<Counts>) -> Result<(), AllocError>
     ensures counted { length lines.new.items ≡ length lines.old.items }
     ensures rooms { OnOk result (HasRooms need.now lines.new.items) }
@@ -162,6 +167,7 @@ pub(crate) fn count_at(need: &Option<Counts>, place: usize) -> usize
 }
 
 /// The same of one place.
+#[inline(always)]
 fn make_room(
     alloc: Global,
     lines: &mut Vec<Line>,

@@ -103,6 +103,7 @@ fn stage_port(
 }
 
 /// A copy of a token to each of the channels.
+#[inline(always)]
 pub(crate) fn stage_token(
     alloc: Global,
     staged: &mut VecDeque<StagedPut>,

@@ -11,6 +11,7 @@ pub mod Portions
 pub mod Ticks
 pub mod OneFiring
 pub mod Turns
+pub mod AloneTurns
 pub mod Counted
 pub mod Jams
 pub mod Reaching

@@ -3,6 +3,7 @@
 
 mod de;
 mod once;
+mod reactions;
 mod reporting;
 mod running;
 mod sdf;

@@ -6,6 +6,7 @@ ghost use Rattle.pt_trees.specs.Start.{IsRunnable};
 ghost use Rattle.pt_trees.specs.Run.{IsRun, IsAffordable, IsDefined};
 ghost use Rattle.pt_run.specs.Ran.{IsCount};
 
+use crate::reactions::run_reactions;
 use crate::turn::{Turn, end_told, next_turn, past_limit};
 use pt_firing::{Answer, Inputs};
 use pt_node::Node;
@@ -30,14 +31,37 @@ pub fn run(alloc: Global, top: &mut Node, job: &Top, budget: u64) -> Result<Ran,
     ensures outline { outline_of (shown_node top.new) ≡ outline_of (shown_node top.old) }
 {
     let mut left = budget;
-    let ended = run_within(alloc, top, job, budget, &mut left)?;
+    let ended = run_job(alloc, top, job, budget, &mut left)?;
     Ok(Ran {
         ended,
         firings: budget - left,
     })
 }
 
-/// The same by what is left of the budget, which is lowered by each firing.
+/// The same by what is left of the budget, which is lowered by each firing. A DE top without inputs has a loop of its own, since what it takes to fire a top counts where its reactions are short.
+fn run_job(
+    alloc: Global,
+    top: &mut Node,
+    job: &Top,
+    budget: u64,
+    left: &mut u64,
+) -> Result<Ended, AllocError>
+    requires runnable { IsRunnable job.now (shown_node top.old) }
+    requires whole { left.old ≡ budget }
+    ensures report { IfOk result (λ ended. IsRun (meets_of (kept_of (shown_node top.new))) job.now budget (shown_node top.old) (shown_node top.new) ended) }
+    ensures counted { OnOk result (left.new + count_of (shown_node top.new) ≡ budget) }
+    ensures complete { IsAffordable job.now budget (shown_node top.old) → IfOk result IsDefined }
+    ensures outline { outline_of (shown_node top.new) ≡ outline_of (shown_node top.old) }
+{
+    match job {
+        Top::De(reactions) if reactions.inputs.is_empty() => {
+            run_reactions(alloc, top, reactions, budget, left)
+        }
+        _ => run_within(alloc, top, job, budget, left),
+    }
+}
+
+/// The same for each job.
 fn run_within(
     alloc: Global,
     top: &mut Node,

@@ -59,6 +59,18 @@ module _ {D : Type 0} (a : Acts rows D) (law : Lawful a) where
     lowered = omega arith;
   }
 
+  -- or there is no memory for it to begin
+  pub begin-halts : (before s : D) (olds : List Shown) (tag : Tag) (X : Streams Token) (left : ℕ) → a.Fits before (tree.list_of (nodes_of (all_of olds))) → a.calls.Takes before X → AllFit (all_of olds) → s ≡ before → Halts a before olds tag X left s olds left
+  begin-halts before s olds tag X left fits takes fit e = record {
+    state = a.calls.begun tag X before;
+    kids = olds;
+    at = at-begun before (a.calls.begun tag X before) olds tag X left fits takes fit refl;
+    kept = refl;
+    outlines = refl;
+    counts = refl;
+    maximum = ap (λ v. a.calls.maximum v) e;
+  }
+
   module _ {before : D} {olds : List Shown} {tag : Tag} {X : Streams Token} {allowance : ℕ} {s : D} {now : List Shown} {left : ℕ} (at : At a before olds tag X allowance s now left) where
     middle-of : (m : Meets) → AllMadeBefore m (kepts_of (all_of now)) → Middle a (beginning a m before (all_of olds) tag X) s (tree.list_of (nodes_of (all_of now))) (kepts_of (all_of now))
     middle-of m made = law.middle (beginning a m before (all_of olds) tag X) s (tree.list_of (nodes_of (all_of now))) (kepts_of (all_of now)) (at.going.so_far m made)

@@ -9,6 +9,7 @@ pub mod Turning
 pub mod Taking
 pub mod Firing
 pub mod Loop
+pub mod Ending
 pub mod NumberRows
 pub mod Quickly
 pub mod Signalling

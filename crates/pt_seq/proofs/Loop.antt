@@ -60,7 +60,7 @@ pub set-is : (kids : List Node) (i : ℕ) (n : Node) → set (map shown kids) i 
 set-is kids i n = ap (λ v. set (map shown kids) i v) (sym (shown-node n)) ∙ sym (map-set shown kids i n)
 
 -- a number that was given changes neither names nor counts
-given-outline : (given : Option ℤ) (old : Shown) (X : Streams Token) (new : Shown) → Given given old X new → outline_of new ≡ outline_of old
+pub given-outline : (given : Option ℤ) (old : Shown) (X : Streams Token) (new : Shown) → Given given old X new → outline_of new ≡ outline_of old
 given-outline (Some n) old X new g = g.0.outline
 given-outline None old X new g = ap (λ v. outline_of v) g
 

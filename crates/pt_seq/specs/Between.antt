@@ -103,3 +103,11 @@ abbrev pub Rested : Director → List Shown → Tag → Streams Token → (allow
 Rested before olds tag X allowance (rest.Turn i when given) s now left = InTurn acts before olds tag X allowance i when given s now left
 Rested before olds tag X allowance (rest.Asked next) s now left = Between acts before olds tag X allowance next s now left
 Rested before olds tag X allowance rest.Memory s now left = Halts acts before olds tag X allowance s now left
+
+-- the same of a firing at this tag that began in some way
+pub record IsRestedUnderWay (tag : Tag) (rest : Rest) (s : Director) (now : List Shown) (left : ℕ) : Type 0 where
+  pub before : Director
+  pub olds : List Shown
+  pub inputs : Streams Token
+  pub allowance : ℕ
+  pub rested : Rested before olds tag inputs allowance rest s now left

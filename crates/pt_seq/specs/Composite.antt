@@ -1,5 +1,5 @@
 -- What a firing of a composite comes to, by its director and its children, whichever director that is.
-use Rattle.std.specs.Prelude.{◌≡◌, ℕ, List}
+use Rattle.std.specs.Prelude.{◌≡◌, ℕ, ◌+◌, ◌≤◌, List}
 use Rattle.pt_meaning.specs.Basics.{Tag, Streams}
 use Rattle.pt_meaning.specs.Meetings.{Meets}
 use Rattle.pt_meaning.specs.Tree as tree
@@ -12,11 +12,11 @@ use Rattle.pt_core.specs.Lawful as lawful
 use Rattle.pt_library.specs.LibraryActor.{rows}
 use Rattle.pt_node.specs.Shown.{AllShown}
 use Rattle.pt_node.specs.View as view
-use Rattle.pt_node.specs.View.{Tree, Heading, Outline, nodes_of, kepts_of, outlines_of}
+use Rattle.pt_node.specs.View.{Tree, Heading, Outline, nodes_of, kepts_of, outlines_of, counts_of}
 use Rattle.pt_node.specs.Live.{AllFit}
 use Rattle.pt_seq.specs.declared.fire.Within.{Within}
 use Rattle.pt_seq.specs.declared.fire.Within.TheVariants.{Done, Fault, Spent, Full, Memory}
-use Rattle.pt_seq.specs.Within.{outcome, IsLeftOff, IsStuck, IsFull}
+use Rattle.pt_seq.specs.Within.{outcome, IsLeftOff, IsStuck, IsFull, SpendsAll}
 
 module _ {D : Type 0} (a : Acts rows D) where
   -- the composite, by a state of its director
@@ -42,6 +42,16 @@ module _ {D : Type 0} (a : Acts rows D) where
   KeepsFit Spent s ks = Unit {0}
   KeepsFit (Full blocked) s ks = Unit {0}
   KeepsFit Memory s ks = Unit {0}
+
+  -- what a firing comes to that began from the director `before` and the children olds with this allowance: besides, the children have their names, the director states the maximum capacity that it stated, and the allowance was lowered by each firing of a child
+  pub record EndsAs (path : List ℕ) (labels : List (List ℕ)) (made : ℕ) (before : D) (olds : AllShown) (tag : Tag) (X : Streams Token) (allowance : ℕ) (w : Within) (s : D) (now : AllShown) (left : ℕ) : Type 0 where
+    pub goes : CompositeTo path labels made before olds tag X w s now
+    pub spends : SpendsAll w left
+    pub lowered : left ≤ allowance
+    pub fit : KeepsFit w s now
+    pub outlines : outlines_of now ≡ outlines_of olds
+    pub maximum : a.calls.maximum s ≡ a.calls.maximum before
+    pub counted : counts_of now + left ≡ counts_of olds + allowance
 
 -- the own outputs were handed out, or there was no memory for them, and the director is as before
 abbrev pub FinishTo : {D : Type 0} → Calls D → D → Within → D → Type 0

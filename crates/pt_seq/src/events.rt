@@ -9,19 +9,19 @@ ghost use Rattle.pt_directors.specs.Directors.{director_calls};
 ghost use Rattle.pt_node.specs.Acts.{acts};
 ghost use Rattle.pt_node.specs.declared.node.Node.{out-Node};
 ghost use Rattle.pt_node.specs.Firing.{noted, bare, recorded};
-ghost use Rattle.pt_node.specs.Shown.{Shown, shown, shown_node};
+ghost use Rattle.pt_node.specs.Shown.{Shown, all_of, shown, shown_node};
 ghost use Rattle.pt_node.specs.View.{node_of, outline_of, count_of};
-ghost use Rattle.pt_node.specs.Live.{IsFit};
+ghost use Rattle.pt_node.specs.Live.{AllFit, IsFit, IsReady, TakenBy};
 ghost use Rattle.pt_seq.specs.Signals.{de_of, SignalTo, TellsAt, SignalledTo, SignalSpends};
 ghost use Rattle.pt_seq.specs.Between.{At, Between, IsUnderWay, Rested};
 
 use crate::numbers::Rest;
 use pt_core::Core;
 use pt_de::DeCore;
-use pt_firing::Ask;
+use pt_firing::{Ask, Inputs};
 use pt_node::{Body, Node};
 use pt_time::Tag;
-use std::alloc::AllocError;
+use std::alloc::{AllocError, Global};
 
 /// How the turn of a child went that may give one integer at most.
 #[derive(Clone, Copy, Debug)]
@@ -31,6 +31,28 @@ enum Signalled {
     Open,
     /// Memory was wanting for what is recorded.
     Memory,
+}
+
+/// Begins a reaction at a tag on the own inputs, and makes its first row of firings.
+#[inline(always)]
+pub(crate) fn first_reaction(
+    alloc: Global,
+    core: &mut DeCore,
+    children: &mut Vec<Node>,
+    tag: Tag,
+    inputs: &Inputs<'_>,
+    left: &mut u64,
+    row: &mut Vec<i64>,
+) -> Rest
+    requires ready { IsReady (de_of core.old) (all_of (map shown children.old.items)) }
+    requires fit { AllFit (all_of (map shown children.old.items)) }
+    requires inputs { TakenBy (de_of core.old) inputs.now }
+    ensures { Rested (de_of core.old) (map shown children.old.items) tag inputs.now left.old result (de_of core.new) (map shown children.new.items) left.new }
+{
+    if core.begin(alloc, tag, inputs).is_err() {
+        return Rest::Memory;
+    }
+    fire_events(core, children, left, row)
 }
 
 /// Makes one firing of a child after another, as the core asks for them, as long as each gives one integer at most and there is room for it. Early answers of that kind are told too.

@@ -1,18 +1,22 @@
-ghost use Rattle.std.specs.Prelude.{◌≡◌, ◌+◌, ◌<◌, ◌≤◌, Some, false, map};
+ghost use Rattle.std.specs.Prelude.{◌≡◌, ◌+◌, ◌<◌, ◌≤◌, List, ℕ, Some, false, map};
+ghost use Rattle.pt_meaning.specs.Basics as basics;
+ghost use Rattle.pt_value.specs.declared.token.Token.{Token};
 ghost use Rattle.pt_library.specs.LibraryActor as library;
 ghost use Rattle.pt_node.specs.declared.node.Node.{out-Node};
+ghost use Rattle.pt_directors.specs.Directors as directors;
 ghost use Rattle.pt_directors.specs.Directors.{director_calls};
 ghost use Rattle.pt_node.specs.Acts.{acts};
-ghost use Rattle.pt_node.specs.Shown.{shown, shown_node, all_of};
+ghost use Rattle.pt_node.specs.Shown.{Shown, shown, shown_node, all_of};
 ghost use Rattle.pt_node.specs.View.{outline_of, outlines_of, count_of, counts_of};
 ghost use Rattle.pt_node.specs.Live.{IsLive, is_live, IsFit, Takes, AllFit, IsReady, TakenBy};
 ghost use Rattle.pt_seq.specs.Within.{WithinTo, SpendsAll, StaysFit, AnswersTo, EndsLive, ActorTo, IsFaultAt};
-ghost use Rattle.pt_seq.specs.Composite.{CompositeTo, KeepsFit, FinishTo};
+ghost use Rattle.pt_seq.specs.Composite.{CompositeTo, KeepsFit, EndsAs, FinishTo};
 ghost use Rattle.pt_seq.specs.Turns.{TurnTo, TurnFrom, TurnSpends, MayFire};
+ghost use Rattle.pt_seq.specs.Between.{Rested, IsRestedUnderWay};
 
 use crate::full::full_at;
-use crate::numbers::{Buffers, several, tell_numbers};
-use crate::pause::{Pause, next};
+use crate::numbers::{Buffers, Rest, several, tell_numbers};
+use crate::pause::{Pause, fire_row, first_row, settle};
 use crate::turn::{Turn, tell};
 use pt_core::Core;
 use pt_directors::Director;
@@ -122,9 +126,9 @@ fn fire(alloc: Global, node: &mut Node, tag: Tag, inputs: &Inputs<'_>, left: &mu
     }
 }
 
-/// One firing of a composite: its director says what comes next. `path`, `labels` and `made` are its own, to tell where it is stuck itself, or full.
+/// One firing of a composite: its director says what comes next. Often it is finished after one row of firings, and then nothing more is looked at. `path`, `labels` and `made` are its own, to tell where it is stuck itself, or full.
 #[cycle(fire)]
-#[inline(never)]
+#[inline(always)]
 fn fire_composite(
     alloc: Global,
     director: &mut Director,
@@ -147,24 +151,55 @@ fn fire_composite(
     ensures maximum { director_calls.maximum director.new ≡ director_calls.maximum director.old }
     ensures counted { counts_of (all_of (map shown children.new.items)) + left.new ≡ counts_of (all_of (map shown children.old.items)) + left.old }
 {
-    if director.begin(alloc, tag, inputs).is_err() {
-        return Within::Memory;
-    }
     let mut buffers = Buffers::new(alloc);
+    let rest = first_row(
+        alloc,
+        director,
+        children,
+        tag,
+        inputs,
+        left,
+        &mut buffers.row,
+    );
+    if rest.is_finished() {
+        return finish(alloc, director);
+    }
+    go_on(
+        alloc,
+        director,
+        children,
+        path,
+        labels,
+        made,
+        rest,
+        left,
+        &mut buffers,
+    )
+}
+
+/// Carries on the firing of a composite from where its first row of firings has come to.
+#[cycle(fire)]
+#[inline(never)]
+fn go_on(
+    alloc: Global,
+    director: &mut Director,
+    children: &mut Vec<Node>,
+    path: &Text,
+    labels: &Labels,
+    made: u64,
+    first: Rest,
+    left: &mut u64,
+    buffers: &mut Buffers,
+) -> Within
+    requires { (tag : basics.Tag) × IsRestedUnderWay tag first director.old (map shown children.old.items) left.old }
+    ensures { (before : directors.Director) (olds : List Shown) (tag : basics.Tag) (X : basics.Streams Token) (allowance : ℕ) → Rested before olds tag X allowance first director.old (map shown children.old.items) left.old → EndsAs acts path.now labels.now made before (all_of olds) tag X allowance result director.new (all_of (map shown children.new.items)) left.new }
+{
+    let mut rest = first;
     loop {
-        match next(alloc, director, children, left, &mut buffers.row) {
+        match settle(alloc, director, children, rest, *left) {
             Pause::Turn(number, when, given) => {
                 let child = &mut children[number as usize];
-                match fire_child(
-                    alloc,
-                    director,
-                    child,
-                    number,
-                    when,
-                    given,
-                    left,
-                    &mut buffers,
-                ) {
+                match fire_child(alloc, director, child, number, when, given, left, buffers) {
                     Turn::Done => {}
                     Turn::Fault(place) => return Within::Fault(place),
                     Turn::Spent => return Within::Spent,
@@ -178,6 +213,7 @@ fn fire_composite(
             Pause::Full => return full_at(alloc, director, path, labels),
             Pause::Memory => return Within::Memory,
         }
+        rest = fire_row(alloc, director, children, left, &mut buffers.row);
     }
 }
 

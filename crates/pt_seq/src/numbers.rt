@@ -1,7 +1,8 @@
-ghost use Rattle.std.specs.Prelude.{◌≡◌, ◌+◌, ◌<◌, ◌≤◌, ◌∷◌, [], List, ℕ, Option, Some, IsSome, IfSome, OnOk, OnErr, map};
+ghost use Rattle.std.specs.Prelude.{◌≡◌, ◌+◌, ◌<◌, ◌≤◌, ◌∷◌, [], List, ℕ, Option, Some, IsSome, IfSome, OnOk, OnErr, map, true};
 ghost use Rattle.pt_meaning.specs.Basics as basics;
 ghost use Rattle.pt_value.specs.declared.token.Token.{Token};
 ghost use Rattle.pt_value.specs.declared.token.Token.TheVariants.{Int};
+ghost use Rattle.pt_firing.specs.declared.ask.Ask.TheVariants as ask;
 ghost use Rattle.pt_directors.specs.Directors as directors;
 ghost use Rattle.pt_directors.specs.Directors.{director_calls};
 ghost use Rattle.pt_node.specs.Acts.{acts};
@@ -9,6 +10,7 @@ ghost use Rattle.pt_node.specs.declared.node.Node.{out-Node};
 ghost use Rattle.pt_node.specs.Shown.{Shown, shown, shown_node};
 ghost use Rattle.pt_node.specs.View.{outline_of, count_of};
 ghost use Rattle.pt_node.specs.Live.{IsFit};
+ghost use Rattle.pt_seq.specs.declared.numbers.Rest.TheVariants as rest;
 ghost use Rattle.pt_seq.specs.Within.{NumberTo, SeveralTo};
 ghost use Rattle.pt_seq.specs.Turns.{TurnSpends, IsTold, TellTo, QuickTo, QuickSpends};
 ghost use Rattle.pt_seq.specs.Between.{At, IsUnderWay, Between, Rested};
@@ -58,6 +60,19 @@ pub(crate) enum Rest {
     Asked(Ask),
     /// Memory was wanting for what is recorded of the last firing.
     Memory,
+}
+
+impl Rest {
+    /// Whether the children have fired enough.
+    #[inline(always)]
+    pub(crate) fn is_finished(&self) -> bool
+        ensures { result ≡ true → self.now ≡ rest.Asked ask.Finished }
+    {
+        match self {
+            Rest::Asked(Ask::Finished) => true,
+            _ => false,
+        }
+    }
 }
 
 /// Makes one firing of a child after another, as the core asks for them, as long as each takes integers and gives one, of which nothing is recorded and no memory is wanted.

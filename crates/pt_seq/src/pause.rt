@@ -6,15 +6,16 @@ ghost use Rattle.pt_library.specs.LibraryActor.{rows};
 ghost use Rattle.pt_directors.specs.Directors as directors;
 ghost use Rattle.pt_directors.specs.Directors.{director_calls};
 ghost use Rattle.pt_node.specs.Acts.{acts};
-ghost use Rattle.pt_node.specs.Shown.{Shown, shown, shown_node};
+ghost use Rattle.pt_node.specs.Live.{AllFit, IsReady, TakenBy};
+ghost use Rattle.pt_node.specs.Shown.{Shown, all_of, shown, shown_node};
 ghost use Rattle.pt_node.specs.View.{node_of};
-ghost use Rattle.pt_seq.specs.Between.{At, IsUnderWay, IsAskedUnderWay, Heeded, Paused, Rested};
+ghost use Rattle.pt_seq.specs.Between.{At, IsUnderWay, IsAskedUnderWay, Heeded, Paused, Rested, IsRestedUnderWay};
 
-use crate::events::fire_events;
+use crate::events::{fire_events, first_reaction};
 use crate::numbers::{Rest, fire_numbers};
 use pt_core::{Core, Either};
 use pt_directors::Director;
-use pt_firing::{Ask, RunFault};
+use pt_firing::{Ask, Inputs, RunFault};
 use pt_node::Node;
 use pt_time::Tag;
 use std::alloc::{AllocError, Global};
@@ -34,32 +35,78 @@ pub(crate) enum Pause {
     Memory,
 }
 
-/// Goes on to the next turn of a child that isn't a matter of numbers alone, or to the end.
+/// Goes on from a row of firings to the next turn of a child that isn't a matter of numbers alone, or to the end.
 #[inline(always)]
-pub(crate) fn next(
+pub(crate) fn settle(
     alloc: Global,
     director: &mut Director,
     children: &mut Vec<Node>,
-    left: &mut u64,
-    row: &mut Vec<i64>,
+    rest: Rest,
+    left: u64,
 ) -> Pause
-    requires { (tag : basics.Tag) × IsUnderWay acts tag director.old (map shown children.old.items) left.old }
-    ensures lowered { left.new ≤ left.old }
-    ensures goes { (before : directors.Director) (olds : List Shown) (tag : basics.Tag) (X : basics.Streams Token) (allowance : ℕ) → At acts before olds tag X allowance director.old (map shown children.old.items) left.old → Paused before olds tag X allowance result director.new (map shown children.new.items) left.new }
+    requires { (tag : basics.Tag) × IsRestedUnderWay tag rest director.old (map shown children.old.items) left }
+    ensures { (before : directors.Director) (olds : List Shown) (tag : basics.Tag) (X : basics.Streams Token) (allowance : ℕ) → Rested before olds tag X allowance rest director.old (map shown children.old.items) left → Paused before olds tag X allowance result director.new (map shown children.new.items) left }
 {
-    match fire_row(alloc, director, children, left, row) {
+    match rest {
         Rest::Turn(number, when, given) => Pause::Turn(number, when, given),
-        Rest::Asked(asked) => match heed(alloc, director, children, asked, *left) {
+        Rest::Asked(asked) => match heed(alloc, director, children, asked, left) {
             Some(pause) => pause,
-            None => wait(alloc, director, children, *left),
+            None => wait(alloc, director, children, left),
         },
         Rest::Memory => Pause::Memory,
     }
 }
 
+/// Begins the firing of a composite at a tag on its own inputs, and makes its first row of firings.
+#[inline(always)]
+pub(crate) fn first_row(
+    alloc: Global,
+    director: &mut Director,
+    children: &mut Vec<Node>,
+    tag: Tag,
+    inputs: &Inputs<'_>,
+    left: &mut u64,
+    row: &mut Vec<i64>,
+) -> Rest
+    requires ready { IsReady director.old (all_of (map shown children.old.items)) }
+    requires fit { AllFit (all_of (map shown children.old.items)) }
+    requires inputs { TakenBy director.old inputs.now }
+    ensures { Rested director.old (map shown children.old.items) tag inputs.now left.old result director.new (map shown children.new.items) left.new }
+{
+    match director {
+        // A reaction is often a row of one or two firings, so that what it takes to begin one counts.
+        Either::Other(Either::Other(Either::First(core))) => {
+            first_reaction(alloc, core, children, tag, inputs, left, row)
+        }
+        _ => begin_row(alloc, director, children, tag, inputs, left, row),
+    }
+}
+
+/// The same, whichever the director.
+#[inline(always)]
+fn begin_row(
+    alloc: Global,
+    director: &mut Director,
+    children: &mut Vec<Node>,
+    tag: Tag,
+    inputs: &Inputs<'_>,
+    left: &mut u64,
+    row: &mut Vec<i64>,
+) -> Rest
+    requires ready { IsReady director.old (all_of (map shown children.old.items)) }
+    requires fit { AllFit (all_of (map shown children.old.items)) }
+    requires inputs { TakenBy director.old inputs.now }
+    ensures { Rested director.old (map shown children.old.items) tag inputs.now left.old result director.new (map shown children.new.items) left.new }
+{
+    if director.begin(alloc, tag, inputs).is_err() {
+        return Rest::Memory;
+    }
+    fire_row(alloc, director, children, left, row)
+}
+
 /// Makes firings of numbers alone, by the core of the director, or of one integer at most under DE.
 #[inline(always)]
-fn fire_row(
+pub(crate) fn fire_row(
     alloc: Global,
     director: &mut Director,
     children: &mut Vec<Node>,

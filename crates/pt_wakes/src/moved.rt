@@ -7,6 +7,7 @@ use crate::wakes::Wakes;
 use pt_time::Tag;
 
 /// Makes each child due whose wake is at or before the tag. It takes no memory.
+#[inline(always)]
 pub fn wake_due(wakes: &Wakes, children: &mut DueChildren, tag: Tag)
     requires { length wakes.now ≡ length children.old.due }
     ensures { children.new ≡ with_woken tag wakes.now children.old }
