@@ -4,7 +4,7 @@ use crate::balance::repetitions;
 use crate::pt_firing::{Actor, Answer, Counts, Inputs, Need, Ports, Tokens, Values};
 use crate::pt_flow_base::Params;
 use crate::pt_library::LibraryActor;
-use crate::pt_agenda::{Turn, first_event, tokens_at};
+use crate::pt_agenda::Turn;
 use crate::pt_core::{Either, Source};
 use crate::pt_de::DeCore;
 use crate::pt_de_plan::{DeInside, DePlan};
@@ -558,22 +558,13 @@ pub fn fire_once(top: &mut Node) -> u64 {
     }
 }
 
-/// What pt_run asks a DE top: the tag of its next firing, up to the stop time.
-fn next_turn(inputs: &[Row<(Tag, Token)>], stop: u64, wake: Option<Tag>, last: Option<Tag>) -> Option<(Tag, Row<Tokens>)> {
-    let event = first_event(last, inputs);
-    match crate::pt_agenda::next_turn(Some(stop), event, wake, last) {
-        Turn::Fire(tag) => Some((tag, tokens_at(GLOBAL, tag, inputs).ok().unwrap())),
-        _ => None,
-    }
-}
-
-/// Reactions until the stop time, and how many firings they were.
+/// Reactions until the stop time, and how many firings they were, in the loop of pt_run for a top of DE without inputs.
 #[inline(never)]
 pub fn run_until(top: &mut Node, stop: u64) -> u64 {
-    let inputs: Row<Row<(Tag, Token)>> = Row::new(GLOBAL);
+    let none: Row<Tokens> = Row::new(GLOBAL);
     let (mut left, mut last) = (u64::MAX, None);
-    while let Some((tag, lists)) = next_turn(inputs.as_slice(), stop, top.next(), last) {
-        match fire_within(GLOBAL, top, tag, &Inputs::of(&lists), &mut left) {
+    while let Turn::Fire(tag) = crate::pt_agenda::next_turn(Some(stop), None, top.next(), last) {
+        match fire_within(GLOBAL, top, tag, &Inputs::of(&none), &mut left) {
             Answer::Done(_) => {}
             _ => panic!("not done"),
         }

@@ -81,6 +81,7 @@ impl Node {
     }
 
     /// The wake that it has once it has fired.
+    #[inline(always)]
     fn own_wake(&self) -> Option<Tag>
         requires { IsFit (shown_node self.now) }
         ensures { result ≡ own_wake (shown_node self.now) }
@@ -92,6 +93,7 @@ impl Node {
     }
 
     /// The wake of the node. It walks over no children, and takes no memory.
+    #[inline(always)]
     pub fn next(&self) -> Option<Tag>
         requires { IsFit (shown_node self.now) }
         ensures { result ≡ facts.next_of library.rows (node_of (shown_node self.now)) }
@@ -100,6 +102,7 @@ impl Node {
     }
 
     /// The wake that the node has once its firing under way is recorded, at whatever tag. It walks over no children, and takes no memory.
+    #[inline(always)]
     pub fn wake(&self) -> Option<Tag>
         requires { IsFit (shown_node self.now) }
         ensures { (tag : basics.Tag) → result ≡ facts.next_of library.rows (node_of (recorded tag (shown_node self.now))) }

@@ -1,10 +1,11 @@
 -- The laws of the tree of wakes: node 1 has the least.
-use Rattle.std.proofs.Common.{◌≡◌, ℕ, zero, suc, ◌+◌, ◌-◌, ◌<◌, ◌≤◌, true, false, List, [], ◌∷◌, length, drop, Option, None, refl, sym, ap, subst, ◌∙◌, arith, ◌⊎◌, inl, inr}
-use Rattle.std.proofs.lemmas.Bool.{false≢true}
-use Rattle.std.proofs.lemmas.List.{get_or-drop, length-drop, drop_more, nil_from_length}
+use Rattle.std.proofs.Common.{◌≡◌, ℕ, zero, suc, ◌+◌, ◌-◌, ◌*◌, ◌/◌, ◌<◌, ◌≤◌, true, false, List, [], ◌∷◌, length, length-set, set, drop, Option, None, refl, sym, ap, subst, ◌∙◌, arith, ◌⊎◌, inl, inr}
+use Rattle.std.proofs.lemmas.Bool.{false≢true, cases_eq}
+use Rattle.std.proofs.lemmas.Grind.{get_or-set_at}
+use Rattle.std.proofs.lemmas.List.{get_or-set_other, get_or-drop, length-drop, drop_more, nil_from_length}
 use Rattle.pt_meaning.specs.Tag.{Tag, earlier, least, is_due}
 use Rattle.pt_wakes.specs.Wakes.{wake_of, NoneIsDue, IsDueAt}
-use Rattle.pt_wakes.specs.Nodes.{node, IsSettled, IsTree}
+use Rattle.pt_wakes.specs.Nodes.{node, below, settled, IsSettled, IsTree, IsTreeBut}
 use Rattle.pt_wakes.proofs.Earlier.{earlier-self, earlier-comm, earlier-assoc, earlier-none, earlier-first, earlier-second, due-below}
 
 -- the least of some wakes is at or before each of them
@@ -105,3 +106,54 @@ pub leaf-due : (tag : Tag) (leaves : ℕ) (nodes wakes : List (Option Tag)) (q :
 leaf-due tag leaves nodes wakes q n v f l h =
     let m = ap length (sym v) ∙ length-drop leaves nodes in
     (omega (arith, m, n, f, l), ap (λ w. is_due tag (wake_of w (q - leaves))) (sym v) ∙ ap (is_due tag) (get_or-drop leaves nodes (q - leaves) None ∙ ap (node nodes) (omega (arith, f))) ∙ h)
+
+-- what changes before the leaves leaves them as they are
+pub drop-before : (nodes : List (Option Tag)) (leaves h : ℕ) (w : Option Tag) → h < leaves → drop leaves (set nodes h w) ≡ drop leaves nodes
+drop-before [] leaves h w l = refl
+drop-before (n ∷ nodes) zero h w l = absurd (omega (arith, l))
+drop-before (n ∷ nodes) (suc leaves) zero w l = refl
+drop-before (n ∷ nodes) (suc leaves) (suc h) w l = drop-before nodes leaves h w (omega (arith, l))
+
+-- where each node but the one above q has the lesser wake of the two below it, and that one is given it, only the one above that may lack it
+pub settled-up : (q leaves : ℕ) (nodes : List (Option Tag)) → 1 < q → q < leaves + leaves → IsTreeBut q leaves nodes → IsTreeBut (q / 2) leaves (settled nodes (q / 2))
+settled-up q leaves nodes b l t =
+    let h : ℕ = q / 2 in
+    let v : Option Tag = below nodes h in
+    let there : h < length nodes = omega (arith, b, l, t.len) in
+    record {
+      len = length-set nodes h v ∙ t.len;
+      settled = λ p some within left right.
+          let first : node (set nodes h v) (p + p) ≡ node nodes (p + p) = get_or-set_other nodes h (p + p) v None left in
+          let second : node (set nodes h v) (suc (p + p)) ≡ node nodes (suc (p + p)) = get_or-set_other nodes h (suc (p + p)) v None right in
+          let same : below nodes p ≡ below (set nodes h v) p = ap (λ w. earlier w (node nodes (suc (p + p)))) (sym first) ∙ ap (earlier (node (set nodes h v) (p + p))) (sym second) in
+          elim (cases_eq p h) [
+            | inl e ↦ get_or-set_at nodes h p v None e (omega (arith, e, there)) ∙ ap (below nodes) (sym e) ∙ same
+            | inr n ↦ get_or-set_other nodes h p v None n ∙ t.settled p some within (λ e. n (omega (arith, e))) (λ e. n (omega (arith, e))) ∙ same
+          ];
+    }
+
+-- the lesser wake of a node and of the node beside it is that of the two below the one above
+pub beside-below : (q : ℕ) (nodes : List (Option Tag)) → 1 < q → earlier (node nodes q) (node nodes (4 * (q / 2) + 1 - q)) ≡ below nodes (q / 2)
+beside-below q nodes b =
+    let h : ℕ = q / 2 in
+    let k : ℕ = 4 * h + 1 - q in
+    elim (halved q).1.cases [
+      | inl e ↦
+          let first : q ≡ h + h = omega (arith, e) in
+          let second : k ≡ suc (h + h) = omega (arith, e, first) in
+          ap (λ i. earlier (node nodes i) (node nodes k)) first ∙ ap (λ i. earlier (node nodes (h + h)) (node nodes i)) second
+      | inr e ↦
+          let second : q ≡ suc (h + h) = omega (arith, e) in
+          let first : k ≡ h + h = omega (arith, e, second) in
+          ap (λ i. earlier (node nodes i) (node nodes k)) second ∙ ap (λ i. earlier (node nodes (suc (h + h))) (node nodes i)) first ∙ earlier-comm (node nodes (suc (h + h))) (node nodes (h + h))
+    ]
+
+-- where that one has it already, each node has
+pub settled-whole : (q leaves : ℕ) (nodes : List (Option Tag)) → IsTreeBut q leaves nodes → IsSettled nodes (q / 2) → IsTree leaves nodes
+settled-whole q leaves nodes t s = record {
+  len = t.len;
+  settled = λ p some within. elim (cases_eq p (q / 2)) [
+    | inl e ↦ subst (IsSettled nodes) (sym e) s
+    | inr n ↦ t.settled p some within (λ e. n (omega (arith, e))) (λ e. n (omega (arith, e)))
+  ];
+}

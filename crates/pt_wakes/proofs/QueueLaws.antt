@@ -96,6 +96,13 @@ front-set (i ∷ is) d K x k l h f =
     let none : wake_of (set K x k) i ≡ None = get_or-set_other K x i k None (λ e. n (sym e)) ∙ f.1 in
     (there, none, subst (λ ys. IsFront d ys is) (sym (set-swap K x i k c n)) (front-set is d (set K i c) x k (subst (λ m. x < m) (sym (length-set K i c)) l) h f.2))
 
+-- one without a key isn't among the others either
+pub not-behind : (F : List ℕ) (d : ℕ) (K : List (Option Tag)) (x : ℕ) → x < length K → wake_of (with_front F d K) x ≡ None → wake_of K x ≡ None
+not-behind [] d K x l h = h
+not-behind (i ∷ is) d K x l h =
+    let c : Option Tag = key_of true d in
+    sym (get_or-set_other K i x c None (aside is d K i x l h)) ∙ not-behind is d (set K i c) x (subst (λ n. x < n) (sym (length-set K i c)) l) h
+
 -- where no key is of a lesser depth
 not-before : (d : ℕ) (k : Option Tag) → is_before d k ≡ false → earlier (key_of true d) k ≡ key_of true d
 not-before d None h = refl
@@ -182,6 +189,9 @@ module _ (F P : List ℕ) (d : ℕ) (K : List (Option Tag)) (x : ℕ) (e : F ≡
   pub last-there : IsFront d K F → x < length K
   last-there f = subst (λ n. x < n) (with-long P d K) (last f).there
 
+  pub last-out : IsFront d K F → wake_of K x ≡ None
+  last-out f = not-behind P d K x (last-there f) (last f).none
+
   pub last-back : IsFront d K F → IsFront d (set K x (key_of true d)) P
   last-back f = let r = last f in front-set P d K x (key_of true d) (last-there f) r.none r.front
 
@@ -191,6 +201,9 @@ module _ (F P : List ℕ) (d : ℕ) (K : List (Option Tag)) (x : ℕ) (e : F ≡
 module _ (F : List ℕ) (d : ℕ) (K : List (Option Tag)) (x e : ℕ) (l : x < length (with_front F d K)) (h : wake_of (with_front F d K) x ≡ None) where
   there : x < length K
   there = subst (λ n. x < n) (with-long F d K) l
+
+  pub put-out : wake_of K x ≡ None
+  put-out = not-behind F d K x there h
 
   pub put-same : with_front F d (set K x (key_of true e)) ≡ set (with_front F d K) x (key_of true e)
   put-same = with-set F d K x (key_of true e) there h

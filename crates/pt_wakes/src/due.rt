@@ -1,7 +1,7 @@
 ghost use Rattle.std.specs.Prelude.{◌≡◌, ◌<◌, length, replicate, true, false, IfOk, IfSome, IfNone};
 ghost use Rattle.pt_wakes.specs.Due.{with_due, IsFirst, NoneDue};
 
-use crate::queue::Queue;
+use crate::ahead::Ahead;
 use std::alloc::{AllocError, Global};
 use std::marker::Model;
 
@@ -11,7 +11,7 @@ pub struct DueChildren {
     depths: Vec<u32>,
     due: Vec<bool>,
     // Those that are due, by depth.
-    queue: Queue,
+    queue: Ahead,
 }
 
 impl Model for DueChildren {
@@ -35,7 +35,7 @@ impl DueChildren {
         ensures { IfOk result (λ children. children ≡ record { depths = depths.now; due = replicate (length depths.now) false }) }
     {
         let due = none_due(alloc, depths.len())?;
-        let queue = Queue::new(alloc, depths.len())?;
+        let queue = Ahead::new(alloc, depths.len())?;
         Ok(DueChildren {
             depths: Vec::from_slice(alloc, depths)?,
             due,

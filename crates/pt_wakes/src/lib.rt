@@ -1,6 +1,7 @@
 //! The wakes of the children of a DE composite, the least of them at hand, and which children are due, by depth.
 #![tactic(auto)]
 
+mod ahead;
 mod due;
 mod moved;
 mod nodes;

@@ -43,11 +43,17 @@ pub(crate) fn settle_above(nodes: &mut Vec<Wake>, leaves: usize, leaf: usize)
     ensures leaves { drop leaves nodes.new.items ≡ drop leaves nodes.old.items }
 {
     let mut p = leaf;
+    let mut least = nodes[leaf];
     while p > 1 {
-        p /= 2;
-        if !settle(nodes, p) {
+        let above = p / 2;
+        let beside = nodes[4 * above + 1 - p];
+        least = least.earlier(beside);
+        let before = nodes[above];
+        if least.is_same(before) {
             return;
         }
+        nodes[above] = least;
+        p = above;
     }
 }
 

@@ -51,6 +51,13 @@ impl Queue {
         })
     }
 
+    /// How many children there are.
+    pub(crate) fn len(&self) -> usize
+        ensures { result ≡ length self.now }
+    {
+        self.behind.len()
+    }
+
     /// Puts in a child that isn't there. It takes no memory.
     #[inline(always)]
     pub(crate) fn put(&mut self, child: usize, depth: u32)
@@ -73,7 +80,7 @@ impl Queue {
 
     /// Whether it has a child of a lesser depth.
     #[inline(always)]
-    fn has_before(&self, depth: u32) -> bool
+    pub(crate) fn has_before(&self, depth: u32) -> bool
         ensures { result ≡ is_before depth (tags.least self.now) }
     {
         if last_of(&self.front).is_some() {
@@ -136,7 +143,7 @@ impl Queue {
 
 /// The last in front.
 #[inline(always)]
-fn last_of(front: &[usize]) -> Option<usize>
+pub(crate) fn last_of(front: &[usize]) -> Option<usize>
     ensures some { IfSome result (λ child. front.now ≡ take (length front.now - 1) front.now ++ child ∷ []) }
     ensures none { IfNone result (front.now ≡ []) }
 {
@@ -171,7 +178,7 @@ fn put_back(front: &mut Vec<usize>, depth: u32, behind: &mut Wakes)
 }
 
 /// A child with the least wake.
-#[inline(never)]
+#[inline(always)]
 fn first_of(wakes: &Wakes) -> Option<usize>
     ensures first { IfSome result (IsFirstKey wakes.now) }
     ensures none { IfNone result (tags.least wakes.now ≡ None) }
@@ -183,7 +190,11 @@ fn first_of(wakes: &Wakes) -> Option<usize>
 }
 
 /// The same children in front, with room for as many as there are.
-fn copy_of_front(alloc: Global, front: &[usize], children: usize) -> Result<Vec<usize>, AllocError>
+pub(crate) fn copy_of_front(
+    alloc: Global,
+    front: &[usize],
+    children: usize,
+) -> Result<Vec<usize>, AllocError>
     ensures { IfOk result (λ copy. copy.items ≡ front.now) }
 {
     let mut copy = Vec::with_capacity(alloc, children)?;
