@@ -9,12 +9,12 @@ import unittest
 
 from house import House
 
-RUN, TRY, BUILD, PARTS = "bin/ptrun", "bin/try", "bin/build", "bin/side_by_side.py"
+RUN, TRY, BUILD = "bin/ptrun", "bin/try", "bin/build"
 ANSWER = "words: run\nthe model\n"
 
 
 class Program(House):
-    scripts = (RUN, TRY, BUILD, PARTS)
+    scripts = (RUN, TRY, BUILD)
 
     def built(self) -> None:
         self.assertEqual(self.call(BUILD).returncode, 0)
@@ -108,68 +108,50 @@ class Build(Program):
         self.assertEqual((told.returncode, told.stdout), (3, ANSWER))
         self.assertIn("proving 3 crates", told.stderr)
         self.assertIn("proved and built", told.stderr)
-        self.assertEqual([line.split()[0] for line in self.asked()], ["all", "run", "version"])
+        self.assertEqual(self.asked(), ["ci", "version"])
         again = self.call(RUN, "run", given="the model\n")
         self.assertEqual((again.returncode, again.stdout, again.stderr), (3, ANSWER, ""))
-        self.assertEqual(len(self.asked()), 3)
+        self.assertEqual(len(self.asked()), 2)
 
     def test_what_cannot_be_built_has_a_status_of_its_own(self) -> None:
         told = self.call(RUN, "run", given="the model\n", fake="unproved")
         self.assertEqual((told.returncode, told.stdout), (125, ""))
         self.assertIn("fn it: not proved", told.stderr)
 
-    def test_fewer_at_a_time_where_memory_is_short(self) -> None:
-        told = self.call(BUILD, "--jobs", "8", fake="memory")
+    def test_what_is_proved_is_told(self) -> None:
+        told = self.call(BUILD, fake="kept")
         self.assertEqual(told.returncode, 0)
-        self.assertEqual([line for line in self.asked() if line.startswith("all")], [f"all check --jobs {jobs}" for jobs in (8, 4, 2)])
-        self.assertIn("on with 4 at a time", told.stderr)
-
-    def test_an_interrupted_build_goes_on(self) -> None:
-        for fake, first in (("slow", "all check"), ("slow parts", "lib pt_a")):
-            build = subprocess.Popen([self.root / BUILD], stderr=subprocess.PIPE, text=True, env=self.environment(fake=fake))
-            while not any(line.startswith(first) for line in self.asked()):
-                self.assertIsNone(build.poll())
-                time.sleep(0.05)
-            build.send_signal(signal.SIGTERM)
-            _, said = build.communicate(timeout=300)
-            self.assertEqual(build.returncode, 143)
-            self.assertIn("the next build goes on from there", said)
-        told = self.call(RUN, "run", given="the model\n")
-        self.assertEqual(told.stdout, ANSWER)
-
-
-class SideBySide(Program):
-    """The build by the kit's own parts."""
-
-    def test_what_is_proved_is_not_proved_again(self) -> None:
-        self.assertEqual(self.call(BUILD, fake="unproved parts").returncode, 1)
-        self.log.write_text("")
-        (self.root / "crates/pt_a/out/rlib").mkdir(parents=True, exist_ok=True)
-        (self.root / "crates/pt_a/out/rlib/stamp").write_text("pt_a")
-        told = self.call(BUILD, fake="parts")
-        self.assertEqual(told.returncode, 0)
-        self.assertEqual([line for line in self.asked() if not line.startswith("stamp")], ["share True", "lib pt_b", "run ptrun", "version"])
-        self.assertIn("2 of 3: pt_b is proved, after 0:0", told.stderr)
+        self.assertIn("2 of 3: pt_b is proved", told.stderr)
         self.assertNotIn("pt_a", told.stderr)
         self.assertIn("== pt_b\nwhat the prover says\n", (self.root / "crates/ptrun/out/build.log").read_text())
-        again = self.call(RUN, "run", given="the model\n", fake="parts")
-        self.assertEqual((again.returncode, again.stdout, again.stderr), (3, ANSWER, ""))
 
     def test_a_crate_that_is_not_proved_ends_it(self) -> None:
-        told = self.call(RUN, "run", given="the model\n", fake="unproved parts")
-        self.assertEqual((told.returncode, told.stdout), (125, ""))
+        told = self.call(BUILD, fake="unproved")
+        self.assertEqual(told.returncode, 1)
         self.assertIn("pt_a is not proved", told.stderr)
-        self.assertIn("fn it: not proved", told.stderr)
-        self.assertNotIn("lib pt_b", self.asked())
+        self.assertFalse((self.root / "crates/ptrun/out/ptrun").exists())
 
-    def test_each_crate_is_hashed_once_in_a_stamp(self) -> None:
-        """pt_d uses pt_a itself, and by pt_b and pt_c: by the paths its stamp would hash pt_a four times."""
-        (self.root / "crates/pt_d/src").mkdir(parents=True)
-        (self.root / "crates.txt").write_text("pt_a:\npt_b: pt_a\npt_c: pt_a pt_b\npt_d: pt_a pt_b pt_c\nptrun: pt_d\n")
-        self.assertEqual(self.call(BUILD, fake="parts").returncode, 0)
-        asked = self.asked()
-        last = asked[asked.index("lib pt_d") :]
-        self.assertEqual(sorted(last[: last.index("run ptrun")]), ["lib pt_d", *(f"stamp pt_{it}" for it in "abcd")])
+    def test_only_what_the_program_stands_on_is_copied(self) -> None:
+        """No edit, and not pt_c; and the copy goes."""
+        for folder in ("edits", "must-fail"):
+            (self.root / "crates/pt_a" / folder).mkdir()
+            (self.root / "crates/pt_a" / folder / "one.edit").write_text("")
+        self.assertEqual(self.call(BUILD).returncode, 0)
+        self.assertNotIn("pt_c", (self.root / "crates/ptrun/out/build.log").read_text())
+        self.assertEqual(list(self.temporary.iterdir()), [])
+
+    def test_an_interrupted_build_goes_on(self) -> None:
+        build = subprocess.Popen([self.root / BUILD], stderr=subprocess.PIPE, text=True, env=self.environment(fake="slow"))
+        while "ci" not in self.asked():
+            self.assertIsNone(build.poll())
+            time.sleep(0.05)
+        build.send_signal(signal.SIGTERM)
+        _, said = build.communicate(timeout=300)
+        self.assertEqual(build.returncode, 143)
+        self.assertIn("the next build goes on from there", said)
+        self.assertEqual(list(self.temporary.iterdir()), [])
+        told = self.call(RUN, "run", given="the model\n")
+        self.assertEqual(told.stdout, ANSWER)
 
 
 class Stale(Program):
