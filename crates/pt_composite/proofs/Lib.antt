@@ -1,12 +1,5 @@
-pub mod NeedSteps
-pub mod HeldLaws
-pub mod PlanLaws
-pub mod LoopLaws
-pub mod InsideLaws
 pub mod ChildLaws
 pub mod SdfLaws
-pub mod WiredLaws
 pub mod SrLaws
 pub mod DeLaws
-pub mod KeptLaws
 pub mod PnLaws

@@ -44,8 +44,8 @@ use Rattle.pt_trees.proofs.NodeLaws.{get-at}
 use Rattle.pt_de_inside.proofs.FlagLaws.{told-at}
 use Rattle.pt_composite.specs.Networks.{network_round}
 use Rattle.pt_composite.specs.Nodes.{built}
-use Rattle.pt_composite.proofs.HeldLaws.{held-length}
-use Rattle.pt_composite.proofs.KeptLaws.{node-kept, needs-again}
+use Rattle.pt_inside.proofs.HeldLaws.{held-length}
+use Rattle.pt_inside.proofs.KeptLaws.{node-kept, needs-again}
 
 -- ---- the wiring
 

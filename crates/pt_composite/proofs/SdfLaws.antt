@@ -42,7 +42,7 @@ use Rattle.pt_composite.specs.Unplanned.{IsToldAs}
 use Rattle.pt_composite.proofs.ChildLaws.{all-steady}
 use Rattle.pt_trees.proofs.FreshLaws.{list-again, nodes-list, nodes-are, all-fit, all-start, all-fitting, all-plans, all-unrecorded}
 use Rattle.pt_trees.proofs.NeedLaws.{needs-length, planned-length}
-use Rattle.pt_composite.proofs.HeldLaws.{held-length, held-append}
+use Rattle.pt_inside.proofs.HeldLaws.{held-length, held-append}
 use Rattle.pt_trees.proofs.NodeLaws.{map-append}
 
 -- ---- first tokens

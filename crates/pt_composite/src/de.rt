@@ -8,10 +8,10 @@ ghost use Rattle.pt_trees.specs.Rates.{AllStarted};
 ghost use Rattle.pt_composite.specs.Timed.{StartsByPlan};
 
 use crate::node::composite_node;
-use crate::wired::is_wired;
 use pt_core::Either;
 use pt_de::DeCore;
 use pt_de_inside::{begin_at_outputs, planned};
+use pt_inside::is_wired;
 use pt_node::{Labels, Node, Records};
 use pt_trees::{CompositeFault, Wiring};
 use pt_value::Text;

@@ -10,11 +10,9 @@ ghost use Rattle.pt_trees.specs.Pn.{pn};
 ghost use Rattle.pt_composite.specs.Networks.{network_round};
 
 use crate::node::composite_node;
-use crate::starts::starts_of;
-use crate::tokens::first_lists;
-use crate::wired::is_wired;
 use pt_core::{Either, Source};
 use pt_firing::Counts;
+use pt_inside::{first_lists, is_wired, starts_of};
 use pt_node::{Labels, Node, Records};
 use pt_pn::Core;
 use pt_process::CorePlan;

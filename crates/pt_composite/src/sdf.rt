@@ -13,11 +13,10 @@ ghost use Rattle.pt_trees.specs.Composite.{trees_of, IsComposed, IsUncomposed};
 ghost use Rattle.pt_trees.specs.Sdf.{sdf};
 ghost use Rattle.pt_composite.specs.Unplanned.{IsToldAs};
 
-use crate::inside::inside_of;
 use crate::node::composite_node;
-use crate::tokens::first_tokens;
 use pt_core::Either;
 use pt_document::Code;
+use pt_inside::{first_tokens, inside_of};
 use pt_node::{Labels, Node, Records};
 use pt_plan::{PlanFault, plan};
 use pt_sdf::{Core, CorePlan};

@@ -5,15 +5,11 @@ ghost use Rattle.pt_trees.specs.Sr.{sr, tick_plan, IsWired};
 ghost use Rattle.pt_trees.specs.Fresh.{AllFresh, AreEmpty};
 ghost use Rattle.pt_trees.specs.Composite.{trees_of, IsComposed, IsUncomposed};
 ghost use Rattle.pt_sr.specs.State.{started};
-ghost use Rattle.pt_composite.specs.Nonstrict.{is_nonstrict};
+ghost use Rattle.pt_inside.specs.Nonstrict.{is_nonstrict};
 
 use crate::node::composite_node;
-use crate::nonstrict::nonstrict_of;
-use crate::order::order_of;
-use crate::outputs::outputs_of;
-use crate::rates::ones;
-use crate::wired::is_wired;
 use pt_core::Either;
+use pt_inside::{is_wired, nonstrict_of, ones, order_of, outputs_of};
 use pt_node::{Labels, Node, Records};
 use pt_sr::{Core, CorePlan};
 use pt_trees::{CompositeFault, Wiring};

@@ -8,7 +8,7 @@ use Rattle.pt_trees.specs.Around.{around_of}
 use Rattle.pt_trees.specs.Sr.{sr, tick_plan, IsWired, IsWiredIf}
 use Rattle.pt_trees.specs.Composite.{trees_of, IsComposed}
 use Rattle.pt_composite.specs.Nodes.{built}
-use Rattle.pt_composite.specs.Nonstrict.{is_nonstrict}
+use Rattle.pt_inside.specs.Nonstrict.{is_nonstrict}
 use Rattle.pt_composite.proofs.SrLaws.{composite-is}
 use Rattle.pt_composite.proofs.sr.sr_composite.Goals as goal
 

@@ -1,0 +1,48 @@
+ghost use Rattle.std.specs.Prelude.{IfOk, IfErr, map};
+ghost use Rattle.pt_plan.specs.Inside.{IsInside};
+ghost use Rattle.pt_node.specs.Shown.{shown};
+ghost use Rattle.pt_trees.specs.Around.{around_of};
+ghost use Rattle.pt_trees.specs.Sdf.{sdf, IsInsideOf};
+ghost use Rattle.pt_trees.specs.Composite.{trees_of, IsUncomposed};
+ghost use Rattle.pt_trees.specs.Rates.{AllStarted};
+
+use crate::needs::needs_of;
+use crate::rates::rates_of;
+use crate::steady::are_steady;
+use crate::tokens::first_counts;
+use pt_firing::Counts;
+use pt_node::Node;
+use pt_plan::Inside;
+use pt_trees::{CompositeFault, Wiring};
+use std::alloc::Global;
+
+/// The inside of an SDF composite round these children, if each is steady and it is well formed.
+pub fn inside_of(alloc: Global, children: &[Node], wiring: Wiring) -> Result<Inside, CompositeFault>
+    requires { AllStarted (trees_of (map shown children.now)) }
+    ensures inside { IfOk result (λ inside. IsInsideOf (around_of wiring) (trees_of (map shown children.now)) inside) }
+    ensures formed { IfOk result IsInside }
+    ensures stands { IfErr result (IsUncomposed sdf (around_of wiring) (map shown children.now)) }
+{
+    if !are_steady(children) {
+        return Err(CompositeFault::Unbuilt);
+    }
+    let Some(needs) = needs_of(alloc, children, wiring.places.as_slice())? else {
+        return Err(CompositeFault::Unbuilt);
+    };
+    let Some(rates) = rates_of(alloc, children, &wiring.declared)? else {
+        return Err(CompositeFault::Unbuilt);
+    };
+    let inside = Inside {
+        first: first_counts(alloc, children, &wiring.sources)?,
+        sources: wiring.sources,
+        places: wiring.places,
+        needs: Counts::of(needs),
+        rates,
+        inputs: wiring.inputs,
+        outputs: wiring.outputs,
+    };
+    if !inside.is_well_formed() {
+        return Err(CompositeFault::Unbuilt);
+    }
+    Ok(inside)
+}
