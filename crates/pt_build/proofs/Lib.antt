@@ -1,9 +1,5 @@
-pub mod RecordedLists
 pub mod TreeLaws
-pub mod PortLaws
 pub mod FaultLaws
 pub mod LoopLaws
 pub mod TopLaws
 pub mod NestedLaws
-pub mod WithinLaws
-pub mod LabelLaws

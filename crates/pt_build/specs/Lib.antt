@@ -1,3 +1,2 @@
-pub mod Within
 pub mod Starts
 pub mod Reached

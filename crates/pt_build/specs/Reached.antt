@@ -5,7 +5,7 @@ use Rattle.pt_trees.specs.Trees.{AreStarted}
 use Rattle.pt_trees.specs.Recorded.{AreRecordLists}
 use Rattle.pt_build.specs.declared.builder.Builder.{Builder}
 use Rattle.pt_build.specs.Starts.{starts_in}
-use Rattle.pt_build.specs.Within.{AreWithin}
+use Rattle.pt_within.specs.Within.{AreWithin}
 use Rattle.pt_trees.specs.Built.{IsNested}
 
 -- what is kept of a net is its own

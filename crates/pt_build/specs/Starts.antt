@@ -1,5 +1,5 @@
 -- What the builder is given beside a net: which actors its entities start as, and what its process networks state.
-use Rattle.std.specs.Prelude.{ℕ, List, Option, None, get_or, option_map}
+use Rattle.std.specs.Prelude.{List, Option}
 use Rattle.pt_library.specs.declared.library_actor.LibraryActor.{LibraryActor}
 use Rattle.pt_stated.specs.declared.stated.Stated.{Stated}
 use Rattle.pt_trees.specs.Trees.{Starts}
@@ -11,7 +11,3 @@ starts_of actors stated = record { actors = actors; stated = stated }
 -- what a builder has been given
 abbrev pub starts_in : Builder → Starts
 starts_in b = starts_of b.starts.now b.stated.now
-
--- how many tokens a firing of the entity of that number is to give on each of its outputs, where it is a process network
-abbrev pub declared_in : List (Option Stated) → ℕ → Option (List ℕ)
-declared_in stated k = option_map (λ (s : Stated). s.gives) (get_or stated k None)

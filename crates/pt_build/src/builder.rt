@@ -2,13 +2,6 @@ ghost use Rattle.std.specs.Prelude.{◌≡◌, ◌≤◌, ◌<◌, IfOk, true, f
 ghost use Rattle.pt_node.specs.Shown.{shown_node};
 ghost use Rattle.pt_trees.specs.Built.{IsToldAs, held_node};
 
-use crate::entities::{director_of, entity_in, is_undirected, start_in};
-use crate::labels::labels_of;
-use crate::networks::{declared_of, stated_at};
-use crate::numbering::{numbers_at, record_lists};
-use crate::records::records_of;
-use crate::wiring::{inputs_of, narrow_sources, outputs_of};
-use crate::within::{Within, within_all, within_at};
 use pt_composite::composite;
 use pt_document::{Director, Refusal};
 use pt_firing::{Counts, Fires};
@@ -19,6 +12,11 @@ use pt_stated::Stated;
 use pt_trees::{BuildFault, CompositeFault, Wiring};
 use pt_value::Text;
 use pt_wiring::{Insides, Numbers};
+use pt_within::{
+    Within, declared_of, director_of, entity_in, inputs_of, is_undirected, labels_of,
+    narrow_sources, numbers_at, outputs_of, record_lists, records_of, start_in, stated_at,
+    within_all, within_at,
+};
 use std::alloc::{AllocError, Global};
 
 /// How many composites may stand one in another: more than a document can have.

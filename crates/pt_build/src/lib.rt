@@ -3,12 +3,5 @@
 
 mod builder;
 mod building;
-mod entities;
-mod labels;
-mod networks;
-mod numbering;
-mod records;
-mod wiring;
-mod within;
 
 pub use building::build;

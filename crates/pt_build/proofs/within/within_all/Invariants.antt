@@ -1,6 +1,0 @@
-use Rattle.std.proofs.Common.{take}
-use Rattle.pt_build.specs.Within.{AreWithin}
-use Rattle.pt_build.proofs.within.within_all.Given as goal
-
-abbrev pub invariant-loop-channel : goal.invariant-loop-channel
-invariant-loop-channel l = AreWithin l.count (take l.channel-index l.channels) l.lists.items

@@ -1,0 +1,4 @@
+pub mod RecordedLists
+pub mod PortLaws
+pub mod WithinLaws
+pub mod LabelLaws

@@ -1,0 +1,66 @@
+ghost use Rattle.std.specs.Prelude.{◌≡◌, IfSome, IfNone, Some, None, true, false, slice_get};
+ghost use Rattle.pt_library.specs.declared.library_actor.LibraryActor.{LibraryActor};
+ghost use Rattle.pt_trees.specs.Directors.{named, director_of};
+ghost use Rattle.pt_trees.specs.Trees.{IsUndirected};
+
+use pt_document::{Director, director_named};
+use pt_library::LibraryActor;
+use pt_net::{NetDirector, NetEntity};
+
+/// The entity of that number, if there is one.
+pub fn entity_in(entities: &[NetEntity], k: usize) -> Option<&NetEntity>
+    ensures some { IfSome result (λ entity. slice_get entities.now k ≡ Some entity.now) }
+    ensures none { IfNone result (slice_get entities.now k ≡ None) }
+{
+    match entities.get(k) {
+        Some(entity) => Some(entity),
+        None => None,
+    }
+}
+
+/// The actor that the entity of that number starts as, if there is one.
+pub fn start_in(starts: &[Option<LibraryActor>], k: usize) -> Option<&LibraryActor>
+    ensures some { IfSome result (λ actor. slice_get starts.now k ≡ Some (Some actor.now)) }
+    ensures none { IfNone result ((a : LibraryActor) → slice_get starts.now k ≡ Some (Some a) → ⊥) }
+{
+    match starts.get(k) {
+        Some(Some(actor)) => Some(actor),
+        Some(None) => None,
+        None => None,
+    }
+}
+
+/// Whether the entity is a library actor.
+pub fn is_undirected(entity: &NetEntity) -> bool
+    ensures yes { result ≡ true → IsUndirected entity.now }
+    ensures no { result ≡ false → IsUndirected entity.now → ⊥ }
+{
+    match &entity.director {
+        Some(_) => false,
+        None => true,
+    }
+}
+
+/// The director of the class that a property names.
+fn named(director: &Option<NetDirector>) -> Option<Director>
+    ensures { result ≡ named director.now }
+{
+    match director {
+        Some(director) => match director_named(director.class.as_str()) {
+            Some(row) => Some(row.director),
+            None => None,
+        },
+        None => None,
+    }
+}
+
+/// The director of the entity, if it is a composite with one.
+pub fn director_of(entity: &NetEntity) -> Option<Director>
+    ensures { result ≡ director_of entity.now }
+{
+    if entity.class.as_str() == "Composite" {
+        named(&entity.director)
+    } else {
+        None
+    }
+}
