@@ -1,5 +1,5 @@
 -- What a process gathers, place by place.
-use Rattle.std.proofs.Common.{◌≡◌, ◌⊎◌, inl, inr, ℕ, zero, suc, ◌+◌, ◌<◌, ◌≤◌, List, [], ◌∷◌, ◌++◌, true, false, nat_eq, length, set, get_or, replicate, Some, refl, sym, ap, subst, ◌∙◌, arith, length-append, length-set}
+use Rattle.std.proofs.Common.{◌≡◌, ◌⊎◌, inl, inr, ℕ, zero, suc, ◌+◌, ◌<◌, ◌≤◌, List, [], ◌∷◌, ◌++◌, Bool, true, false, nat_eq, max, length, set, get_or, replicate, Some, refl, sym, ap, subst, ◌∙◌, arith, length-append, length-set}
 use Rattle.pt_meaning.specs.Streams.{Streams, at, any_present, change_at}
 use Rattle.pt_meaning.specs.Process.{emptied}
 use Rattle.pt_value.specs.declared.token.Token.{Token}
@@ -9,7 +9,7 @@ use Rattle.pt_pn_laws.proofs.ListLaws.{either-nat, nat-apart, at-change, at-chan
 use Rattle.pt_process.specs.Process.{room_at}
 use Rattle.pt_process.proofs.ProcessLaws.{lines-long}
 use Rattle.pt_process.proofs.RoomLaws.{are-empty, emptied-is}
-use Rattle.pt_rv_parts.specs.Process.{GathersBy, FilledAt, HaveRoom}
+use Rattle.pt_rv_parts.specs.Process.{GathersBy, FilledAt, HaveRoom, IsLeast, most_in, taken_at}
 
 -- tokens at some place or at none
 pub any-none : {T : Type 0} (X : Streams T) → ((q : ℕ) → at X q ≡ []) → any_present X ≡ false
@@ -49,8 +49,8 @@ emptied-as X Y h e = are-empty X (λ q l. h q) ∙ ap (λ n. replicate n []) e �
 pub empty-as : (X : Streams Token) (n : ℕ) → ((q : ℕ) → at X q ≡ []) → length X ≡ n → X ≡ replicate n []
 empty-as X n h e = are-empty X (λ q l. h q) ∙ ap (λ k. replicate k []) e
 
-pub room-empty : (count : ℕ) (L : List (Spared Token)) → HaveRoom count L → (q : ℕ) → at (lists_of L) q ≡ []
-room-empty count L h q = by (under q (length L))
+pub room-empty : (barrier : Bool) (ns : List ℕ) (L : List (Spared Token)) → HaveRoom barrier ns L → (q : ℕ) → at (lists_of L) q ≡ []
+room-empty barrier ns L h q = by (under q (length L))
   where
     under : (q n : ℕ) → (q < n) ⊎ (n ≤ q)
     under q n = grind arith
@@ -60,21 +60,39 @@ room-empty count L h q = by (under q (length L))
     by (inr l) = past-end (lists_of L) q (let n = lines-long L in omega (arith, l, n))
 
 -- a process that begins to gather by counts
-pub gathers-first : (ns : List ℕ) (count : ℕ) (L : List (Spared Token)) → length ns ≡ length L → ((r : ℕ) → get_or ns r 0 ≤ count) → HaveRoom count L → GathersBy ns 0 L
-gathers-first ns count L e m h = record {
+pub gathers-first : (barrier : Bool) (ns : List ℕ) (L : List (Spared Token)) → length ns ≡ length L → HaveRoom barrier ns L → GathersBy barrier ns 0 L
+gathers-first barrier ns L e h = record {
   counted = e;
   full = λ q l. absurd (omega (arith, l));
-  room = λ q r l. let a = (h q l).1 in let b = m r in omega (arith, a, b);
+  room = λ q l. let a = (h q l).1 in omega (arith, a);
 }
 
+-- the greatest count
+pub most-under : (ns : List ℕ) (m : ℕ) → ((r : ℕ) → get_or ns r 0 ≤ m) → most_in ns ≤ m
+most-under [] m h = omega arith
+most-under (n ∷ ns) m h = let a = h 0 in let b = most-under ns m (λ r. h (suc r)) in omega (arith, a, b)
+
+pub most-over : (ns : List ℕ) (r : ℕ) → get_or ns r 0 ≤ most_in ns
+most-over [] r = omega arith
+most-over (n ∷ ns) zero = omega arith
+most-over (n ∷ ns) (suc r) = let a = most-over ns r in omega (arith, a)
+
+-- room for the count of a place, and for the least that all have
+pub taken-under : (barrier : Bool) (ns : List ℕ) (least q room : ℕ) → IsLeast barrier ns least → max (get_or ns q 0) least ≤ room → taken_at barrier ns q ≤ room
+taken-under true ns least q room i h = let a = i refl in omega (arith, a, h)
+taken-under false ns least q room i h = omega (arith, h)
+
 -- one place more that is empty
-pub rooms-more : (count : ℕ) (before after : List (Spared Token)) (k : ℕ) → ((q : ℕ) → q < k → (at (lists_of before) q ≡ []) × (count ≤ room_at before q)) → at (lists_of after) k ≡ [] → count ≤ room_at after k →
-    ((q : ℕ) → nat_eq k q ≡ false → (at (lists_of after) q ≡ at (lists_of before) q) × (room_at after q ≡ room_at before q)) → (q : ℕ) → q < k + 1 → (at (lists_of after) q ≡ []) × (count ≤ room_at after q)
-rooms-more count before after k h a b o q w = by (either-nat k q)
+pub rooms-more : (f : ℕ → ℕ) (before after : List (Spared Token)) (k : ℕ) → ((q : ℕ) → q < k → (at (lists_of before) q ≡ []) × (f q ≤ room_at before q)) → at (lists_of after) k ≡ [] → f k ≤ room_at after k →
+    ((q : ℕ) → nat_eq k q ≡ false → (at (lists_of after) q ≡ at (lists_of before) q) × (room_at after q ≡ room_at before q)) → (q : ℕ) → q < k + 1 → (at (lists_of after) q ≡ []) × (f q ≤ room_at after q)
+rooms-more f before after k h a b o q w = by (either-nat k q)
   where
-    by : (k ≡ q) ⊎ (nat_eq k q ≡ false) → (at (lists_of after) q ≡ []) × (count ≤ room_at after q)
-    by (inl z) = subst (λ j. (at (lists_of after) j ≡ []) × (count ≤ room_at after j)) z (a, b)
-    by (inr z) = let f = o q z in let d = nat-apart k q z in let g = h q (grind arith) in (f.0 ∙ g.0, let x = f.1 in let y = g.1 in omega (arith, x, y))
+    by : (k ≡ q) ⊎ (nat_eq k q ≡ false) → (at (lists_of after) q ≡ []) × (f q ≤ room_at after q)
+    by (inl z) = subst (λ j. (at (lists_of after) j ≡ []) × (f j ≤ room_at after j)) z (a, b)
+    by (inr z) = let r = o q z in let d = nat-apart k q z in let g = h q (grind arith) in (r.0 ∙ g.0, let x = r.1 in let y = g.1 in omega (arith, x, y))
+
+pub rooms-all : (barrier : Bool) (ns : List ℕ) (least : ℕ) (L : List (Spared Token)) (k : ℕ) → IsLeast barrier ns least → length L ≤ k → ((q : ℕ) → q < k → (at (lists_of L) q ≡ []) × (max (get_or ns q 0) least ≤ room_at L q)) → HaveRoom barrier ns L
+rooms-all barrier ns least L k i n h q l = let r = h q (omega (arith, l, n)) in (r.0, taken-under barrier ns least q (room_at L q) i r.1)
 
 pub empties-more : (before after : Streams Token) (k : ℕ) → ((q : ℕ) → q < k → at before q ≡ []) → at after k ≡ [] → ((q : ℕ) → nat_eq k q ≡ false → at after q ≡ at before q) → (q : ℕ) → q < k + 1 → at after q ≡ []
 empties-more before after k h a o q w = by (either-nat k q)
@@ -102,7 +120,7 @@ filled-emptied row place f q = by (either-nat place q)
     by (inr z) = at-set-other row place q [] z ∙ f.2 q z
 
 -- one token more at a place that has room
-module _ (ns : List ℕ) (full : ℕ) (L M : List (Spared Token)) (g : GathersBy ns full L) (place : ℕ) (x : Token) (there : place < length L) (lists : lists_of M ≡ change_at place (λ xs. xs ++ (x ∷ [])) (lists_of L)) (counted : length M ≡ length L) (room : room_at M place + 1 ≡ room_at L place)
+module _ (barrier : Bool) (ns : List ℕ) (full : ℕ) (L M : List (Spared Token)) (g : GathersBy barrier ns full L) (place : ℕ) (x : Token) (there : place < length L) (lists : lists_of M ≡ change_at place (λ xs. xs ++ (x ∷ [])) (lists_of L)) (counted : length M ≡ length L) (room : room_at M place + 1 ≡ room_at L place)
     (others : (q : ℕ) → nat_eq place q ≡ false → room_at M q ≡ room_at L q) where
   long-there : length (at (lists_of M) place) ≡ length (at (lists_of L) place) + 1
   long-there =
@@ -120,16 +138,16 @@ module _ (ns : List ℕ) (full : ℕ) (L M : List (Spared Token)) (g : GathersBy
       by (inl z) = subst (λ j. length (at (lists_of L) j) ≤ length (at (lists_of M) j)) z (let a = long-there in omega (arith, a))
       by (inr z) = let a = long-other q z in omega (arith, a)
 
-  roomy : (q r : ℕ) → q < length L → get_or ns r 0 ≤ length (at (lists_of M) q) + room_at M q
-  roomy q r l = by (either-nat place q)
+  roomy : (q : ℕ) → q < length L → taken_at barrier ns q ≤ length (at (lists_of M) q) + room_at M q
+  roomy q l = by (either-nat place q)
     where
-      by : (place ≡ q) ⊎ (nat_eq place q ≡ false) → get_or ns r 0 ≤ length (at (lists_of M) q) + room_at M q
-      by (inl z) = subst (λ j. get_or ns r 0 ≤ length (at (lists_of M) j) + room_at M j) z (let a = long-there in let b = g.room place r there in omega (arith, a, b, room))
-      by (inr z) = let a = long-other q z in let b = others q z in let c = g.room q r l in omega (arith, a, b, c)
+      by : (place ≡ q) ⊎ (nat_eq place q ≡ false) → taken_at barrier ns q ≤ length (at (lists_of M) q) + room_at M q
+      by (inl z) = subst (λ j. taken_at barrier ns j ≤ length (at (lists_of M) j) + room_at M j) z (let a = long-there in let b = g.room place there in omega (arith, a, b, room))
+      by (inr z) = let a = long-other q z in let b = others q z in let c = g.room q l in omega (arith, a, b, c)
 
-  pub gathers-more : GathersBy ns full M
+  pub gathers-more : GathersBy barrier ns full M
   gathers-more = record {
     counted = g.counted ∙ sym counted;
     full = λ q l. let a = g.full q l in let b = longer q in omega (arith, a, b);
-    room = λ q r l. roomy q r (omega (arith, l, counted));
+    room = λ q l. roomy q (omega (arith, l, counted));
   }

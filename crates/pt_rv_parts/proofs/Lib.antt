@@ -4,5 +4,6 @@ pub mod TargetLaws
 pub mod GatherLaws
 pub mod StepLaws
 pub mod CopyLaws
+pub mod FlagLaws
 pub mod TeamLaws
 pub mod PlanLaws

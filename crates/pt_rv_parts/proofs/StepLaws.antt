@@ -1,7 +1,6 @@
 -- What the calls of a process keep, and what they make of what contracts see.
 use Rattle.std.proofs.Common.{◌≡◌, ◌⊎◌, inl, inr, ℕ, ◌+◌, ◌<◌, ◌≤◌, List, [], ◌∷◌, ◌++◌, Bool, true, false, not, nat_eq, length, set, get_or, replicate, Option, Some, None, refl, sym, ap, ap₂, subst, ◌∙◌, arith}
 use Rattle.std.specs.Prelude.{slice_get}
-use Rattle.std.proofs.lemmas.Bool.{false≢true}
 use Rattle.pt_meaning.specs.Streams.{Streams, at, any_present, change_at}
 use Rattle.pt_meaning.specs.Machine.{Need}
 use Rattle.pt_meaning.specs.Machine as machine
@@ -19,7 +18,7 @@ use Rattle.pt_rv_parts.specs.declared.need.KeptNeed.TheVariants.{Over, Counts, A
 use Rattle.pt_rv_parts.specs.declared.process.Event.{Event}
 use Rattle.pt_rv_parts.specs.declared.process.Event.TheVariants as event
 use Rattle.pt_rv_parts.specs.declared.process.Process.TheInside.{Inside}
-use Rattle.pt_rv_parts.specs.Process.{IsSound, GathersBy, Gathers, FilledAt, HaveRoom, DoesNext, MayTake, TakesAt, IsCounted, IsByCounts, IsMost, event_by, any_event_by, fires_by, need_in, got_in, row_if, seen_process, at_start, renewed}
+use Rattle.pt_rv_parts.specs.Process.{IsSound, GathersBy, Gathers, FilledAt, HaveRoom, DoesNext, MayTake, TakesAt, IsCounted, IsByCounts, counts_in, event_by, any_event_by, fires_by, need_in, got_in, row_if, seen_process, at_start, renewed}
 use Rattle.pt_rv_parts.proofs.GatherLaws.{any-none, any-some, none-at, alone-at, filled-now, emptied-as, empty-as, room-empty, gathers-first, gathers-more}
 
 -- what it does next where it has no put to make
@@ -48,17 +47,6 @@ rests-by s event.Join d = ap at_rest d
 rests-by s event.Fire d = ap at_rest d
 rests-by s event.Over d = ap at_rest d
 
-pub fires-next : (s : Standing Token) (ev : Event) → DoesNext s ev → fires_by ev ≡ true → next_of s ≡ Fires
-fires-next s (event.Put channel) d f = absurd (false≢true f)
-fires-next s (event.Get place) d f = absurd (false≢true f)
-fires-next s event.GetAny d f = absurd (false≢true f)
-fires-next s event.Join d f = absurd (false≢true f)
-fires-next s event.Fire d f = d
-fires-next s event.Over d f = absurd (false≢true f)
-
-pub rests-next : (s : Standing Token) (ev : Event) → DoesNext s ev → fires_by ev ≡ false → at_rest (next_of s) ≡ true
-rests-next s ev d f = rests-by s ev d ∙ ap (λ b. not b) f
-
 module _ (p : Inside) (s : Standing Token) (v : seen_process p ≡ s) where
   pub not-handed : s.handed ≡ false → p.is_handed ≡ false
   not-handed h = ap (λ (t : Standing Token). t.handed) v ∙ h
@@ -79,7 +67,7 @@ module _ (p : Inside) (s : Standing Token) (v : seen_process p ≡ s) where
 
   pub any-next : (ev : Event) → IsSound p → p.need ≡ Any → s.puts ≡ [] → ev ≡ any_event_by p.filled → DoesNext s ev
   any-next ev w n u e =
-      subst (λ (t : Standing Token). DoesNext t ev) v (subst (λ x. DoesNext (seen_process p) x) (sym e) (any-does (seen_process p) p.filled p.row.items (subst (λ m. Gathers m p.is_handed p.full p.filled p.row.items p.lines.items) n w.gathers) (no-puts u)
+      subst (λ (t : Standing Token). DoesNext t ev) v (subst (λ x. DoesNext (seen_process p) x) (sym e) (any-does (seen_process p) p.filled p.row.items (subst (λ m. Gathers p.is_barrier m p.is_handed p.full p.filled p.row.items p.lines.items) n w.gathers) (no-puts u)
       (ap (λ m. by_need p.is_barrier (need_in m) (got_in m p.is_handed p.row.items p.lines.items)) n)))
 
 -- where a token comes to a place of one that gathers by counts
@@ -87,25 +75,25 @@ pub record Takes (p : Inside) (place : ℕ) : Type 0 where
   pub ns : List ℕ
   pub need : p.need ≡ Counts ns
   pub free : p.is_handed ≡ false
-  pub gathers : GathersBy ns p.full p.lines.items
+  pub gathers : GathersBy p.is_barrier ns p.full p.lines.items
   pub there : place < length p.lines.items
   pub room : 0 < room_at p.lines.items place
 
-takes-by : (need : KeptNeed) (handed : Bool) (full : ℕ) (filled : Option ℕ) (row : Streams Token) (L : List (Spared Token)) (place : ℕ) → Gathers need handed full filled row L → handed ≡ false → place < length (got_in need handed row L) → TakesAt (need_in need) (got_in need handed row L) place → IsCounted (need_in need) →
-    (ns : List ℕ) × (need ≡ Counts ns) × GathersBy ns full L × (place < length L) × (0 < room_at L place)
-takes-by Over handed full filled row L place g h l t k = absurd k
-takes-by Any handed full filled row L place g h l t k = absurd k
-takes-by (Counts ns) true full filled row L place g h l t k = absurd (cc)
-takes-by (Counts ns) false full filled row L place g h l t k =
+takes-by : (barrier : Bool) (need : KeptNeed) (handed : Bool) (full : ℕ) (filled : Option ℕ) (row : Streams Token) (L : List (Spared Token)) (place : ℕ) → Gathers barrier need handed full filled row L → handed ≡ false → place < length (got_in need handed row L) →
+    TakesAt barrier (need_in need) (got_in need handed row L) place → IsCounted (need_in need) → (ns : List ℕ) × (need ≡ Counts ns) × GathersBy barrier ns full L × (place < length L) × (0 < room_at L place)
+takes-by barrier Over handed full filled row L place g h l t k = absurd k
+takes-by barrier Any handed full filled row L place g h l t k = absurd k
+takes-by barrier (Counts ns) true full filled row L place g h l t k = absurd (cc)
+takes-by barrier (Counts ns) false full filled row L place g h l t k =
     let n = lines-long L in
     let there : place < length L = omega (arith, l, n) in
     let by = g refl in
-    (ns, refl, by, there, let a = by.room place t.0 there in let b = t.1 in omega (arith, a, b))
+    (ns, refl, by, there, let a = by.room place there in omega (arith, a, t))
 
 pub takes-there : (p : Inside) (s : Standing Token) (place : ℕ) → IsSound p → seen_process p ≡ s → MayTake s place → IsCounted s.need → Takes p place
 takes-there p s place w v may k =
     let m : MayTake (seen_process p) place = subst (λ (t : Standing Token). MayTake t place) (sym v) may in
-    let r = takes-by p.need p.is_handed p.full p.filled p.row.items p.lines.items place w.gathers m.gathers m.there m.takes (subst (λ (t : Standing Token). IsCounted t.need) (sym v) k) in
+    let r = takes-by p.is_barrier p.need p.is_handed p.full p.filled p.row.items p.lines.items place w.gathers m.gathers m.there m.takes (subst (λ (t : Standing Token). IsCounted t.need) (sym v) k) in
     record { ns = r.0; need = r.1; free = m.gathers; gathers = r.2; there = r.3; room = r.4 }
 
 pub takes-is : (p : Inside) (s : Standing Token) (place : ℕ) (t : Takes p place) (M : List (Spared Token)) (x : Token) → seen_process p ≡ s → lists_of M ≡ change_at place (λ xs. xs ++ (x ∷ [])) (lists_of p.lines.items) →
@@ -116,12 +104,12 @@ takes-is p s place t M x v e =
     ap (λ (q : Standing Token). with_token place x q) v
 
 pub takes-gathers : (p : Inside) (place : ℕ) (t : Takes p place) (M : List (Spared Token)) (x : Token) → lists_of M ≡ change_at place (λ xs. xs ++ (x ∷ [])) (lists_of p.lines.items) → length M ≡ length p.lines.items → room_at M place + 1 ≡ room_at p.lines.items place →
-    ((q : ℕ) → nat_eq place q ≡ false → room_at M q ≡ room_at p.lines.items q) → Gathers p.need p.is_handed p.full p.filled p.row.items M
-takes-gathers p place t M x e n r o = subst (λ m. Gathers m p.is_handed p.full p.filled p.row.items M) (sym t.need) (λ h. gathers-more t.ns p.full p.lines.items M t.gathers place x t.there e n r o)
+    ((q : ℕ) → nat_eq place q ≡ false → room_at M q ≡ room_at p.lines.items q) → Gathers p.is_barrier p.need p.is_handed p.full p.filled p.row.items M
+takes-gathers p place t M x e n r o = subst (λ m. Gathers p.is_barrier m p.is_handed p.full p.filled p.row.items M) (sym t.need) (λ h. gathers-more p.is_barrier t.ns p.full p.lines.items M t.gathers place x t.there e n r o)
 
 -- a token comes to one that gathers by counts, or from any place, and to none that is over
 pub over-takes : (p : Inside) (s : Standing Token) (place : ℕ) → seen_process p ≡ s → p.need ≡ Over → MayTake s place → ⊥
-over-takes p s place v n may = subst (λ m. TakesAt m s.got place) (sym (ap (λ (t : Standing Token). t.need) v) ∙ ap need_in n) may.takes
+over-takes p s place v n may = subst (λ m. TakesAt s.barrier m s.got place) (sym (ap (λ (t : Standing Token). t.need) v) ∙ ap need_in n) may.takes
 
 pub counts-counted : (p : Inside) (s : Standing Token) (ns : List ℕ) → seen_process p ≡ s → p.need ≡ Counts ns → IsCounted s.need
 counts-counted p s ns v n = subst IsCounted (sym (ap need_in n) ∙ ap (λ (t : Standing Token). t.need) v) tt
@@ -149,15 +137,15 @@ any-need p s v n = need-any p.need (ap (λ (t : Standing Token). t.need) v ∙ n
 pub counts-need : (p : Inside) (s : Standing Token) (ns : List ℕ) → seen_process p ≡ s → s.need ≡ machine.Counts ns → p.need ≡ Counts ns
 counts-need p s ns v n = need-counts p.need ns (ap (λ (t : Standing Token). t.need) v ∙ n)
 
-any-takes : (need : KeptNeed) (handed : Bool) (row : Streams Token) (L : List (Spared Token)) (place : ℕ) → need ≡ Any → place < length (got_in need handed row L) → TakesAt (need_in need) (got_in need handed row L) place → (place < length row) × (any_present row ≡ false)
-any-takes Over handed row L place n l t = absurd (cc)
-any-takes (Counts ns) handed row L place n l t = absurd (cc)
-any-takes Any handed row L place n l t = (l, t)
+any-takes : (barrier : Bool) (need : KeptNeed) (handed : Bool) (row : Streams Token) (L : List (Spared Token)) (place : ℕ) → need ≡ Any → place < length (got_in need handed row L) → TakesAt barrier (need_in need) (got_in need handed row L) place → (place < length row) × (any_present row ≡ false)
+any-takes barrier Over handed row L place n l t = absurd (cc)
+any-takes barrier (Counts ns) handed row L place n l t = absurd (cc)
+any-takes barrier Any handed row L place n l t = (l, t)
 
 pub any-there : (p : Inside) (s : Standing Token) (place : ℕ) → seen_process p ≡ s → MayTake s place → s.need ≡ machine.Any → (place < length p.row.items) × (any_present p.row.items ≡ false)
 any-there p s place v may n =
     let m : MayTake (seen_process p) place = subst (λ (t : Standing Token). MayTake t place) (sym v) may in
-    any-takes p.need p.is_handed p.row.items p.lines.items place (any-need p s v n) m.there m.takes
+    any-takes p.is_barrier p.need p.is_handed p.row.items p.lines.items place (any-need p s v n) m.there m.takes
 
 pub any-got : (need : KeptNeed) (handed : Bool) (row : Streams Token) (L : List (Spared Token)) → need ≡ Any → got_in need handed row L ≡ row
 any-got need handed row L n = ap (λ m. got_in m handed row L) n
@@ -169,8 +157,8 @@ any-is p s place x R v n e r =
     (any-got p.need p.is_handed R p.lines.items n ∙ r ∙ alone-at p.row.items place x (none-at p.row.items e place) ∙ ap (λ X. change_at place (λ xs. xs ++ (x ∷ [])) X) (sym (any-got p.need p.is_handed p.row.items p.lines.items n))) ∙
     ap (λ (q : Standing Token). with_token place x q) v
 
-pub any-gathers : (p : Inside) (place : ℕ) (x : Token) (R : Streams Token) (L : List (Spared Token)) → p.need ≡ Any → place < length p.row.items → any_present p.row.items ≡ false → R ≡ set p.row.items place (x ∷ []) → Gathers p.need p.is_handed p.full (Some place) R L
-any-gathers p place x R L n l e r = subst (λ m. Gathers m p.is_handed p.full (Some place) R L) (sym n) (subst (λ X. FilledAt (Some place) X) (sym r) (filled-now p.row.items place x l e))
+pub any-gathers : (p : Inside) (place : ℕ) (x : Token) (R : Streams Token) (L : List (Spared Token)) → p.need ≡ Any → place < length p.row.items → any_present p.row.items ≡ false → R ≡ set p.row.items place (x ∷ []) → Gathers p.is_barrier p.need p.is_handed p.full (Some place) R L
+any-gathers p place x R L n l e r = subst (λ m. Gathers p.is_barrier m p.is_handed p.full (Some place) R L) (sym n) (subst (λ X. FilledAt (Some place) X) (sym r) (filled-now p.row.items place x l e))
 
 -- where its next put is made
 pub put-first : (p : Inside) (s : Standing Token) (u : StagedPut) (us : List StagedPut) → seen_process p ≡ s → p.puts.items ≡ u ∷ us → slice_get s.puts 0 ≡ Some (put_of u)
@@ -187,13 +175,13 @@ by-counts Over row row' L M k e = e
 by-counts (Counts ns) row row' L M k e = e
 by-counts Any row row' L M k e = absurd k
 
-handed-gathers : (need : KeptNeed) (full : ℕ) (filled : Option ℕ) (row : Streams Token) (L : List (Spared Token)) → IsByCounts (need_in need) → Gathers need true full filled row L
-handed-gathers Over full filled row L k = tt
-handed-gathers (Counts ns) full filled row L k = λ h. absurd (cc)
-handed-gathers Any full filled row L k = absurd k
+handed-gathers : (barrier : Bool) (need : KeptNeed) (full : ℕ) (filled : Option ℕ) (row : Streams Token) (L : List (Spared Token)) → IsByCounts (need_in need) → Gathers barrier need true full filled row L
+handed-gathers barrier Over full filled row L k = tt
+handed-gathers barrier (Counts ns) full filled row L k = λ h. absurd (cc)
+handed-gathers barrier Any full filled row L k = absurd k
 
-pub lines-handed : (p : Inside) (s : Standing Token) (row : Streams Token) (M : List (Spared Token)) → seen_process p ≡ s → IsByCounts s.need → Gathers p.need true p.full p.filled row M
-lines-handed p s row M v k = handed-gathers p.need p.full p.filled row M (subst (λ (t : Standing Token). IsByCounts t.need) (sym v) k)
+pub lines-handed : (p : Inside) (s : Standing Token) (row : Streams Token) (M : List (Spared Token)) → seen_process p ≡ s → IsByCounts s.need → Gathers p.is_barrier p.need true p.full p.filled row M
+lines-handed p s row M v k = handed-gathers p.is_barrier p.need p.full p.filled row M (subst (λ (t : Standing Token). IsByCounts t.need) (sym v) k)
 
 pub hand-is : (p : Inside) (s : Standing Token) (row : Streams Token) (M : List (Spared Token)) → seen_process p ≡ s → s.handed ≡ false → IsByCounts s.need → row ≡ lists_of p.lines.items →
     (let q : Standing Token = record { barrier = p.is_barrier; need = need_in p.need; got = got_in p.need true row M; puts = puts_in p.puts.items; handed = true } in q) ≡ with_handed s
@@ -212,8 +200,8 @@ any-handed p s v n =
     ap (λ X. let q : Standing Token = record { barrier = p.is_barrier; need = need_in p.need; got = X; puts = puts_in p.puts.items; handed = true } in q)
     (any-got p.need true p.row.items p.lines.items n ∙ sym (any-got p.need p.is_handed p.row.items p.lines.items n)) ∙ ap (λ (q : Standing Token). with_handed q) v
 
-pub any-handed-gathers : (p : Inside) → IsSound p → p.need ≡ Any → Gathers p.need true p.full p.filled p.row.items p.lines.items
-any-handed-gathers p w n = subst (λ m. Gathers m true p.full p.filled p.row.items p.lines.items) (sym n) (subst (λ m. Gathers m p.is_handed p.full p.filled p.row.items p.lines.items) n w.gathers)
+pub any-handed-gathers : (p : Inside) → IsSound p → p.need ≡ Any → Gathers p.is_barrier p.need true p.full p.filled p.row.items p.lines.items
+any-handed-gathers p w n = subst (λ m. Gathers p.is_barrier m true p.full p.filled p.row.items p.lines.items) (sym n) (subst (λ m. Gathers p.is_barrier m p.is_handed p.full p.filled p.row.items p.lines.items) n w.gathers)
 
 handed-row : (need : KeptNeed) (handed : Bool) (row : Streams Token) (L : List (Spared Token)) → handed ≡ true → got_in need handed row L ≡ row
 handed-row Over handed row L h = ap (λ b. row_if b row L) h
@@ -248,42 +236,43 @@ pub row-emptied : (p : Inside) (s : Standing Token) (R : Streams Token) → IsSo
 row-emptied p s R w v h e = emptied-as R s.got h (e ∙ w.row ∙ sym (got-long p s w v))
 
 -- at its start
-pub start-is : (barrier : Bool) (need : KeptNeed) (places count : ℕ) (row : Streams Token) (L : List (Spared Token)) (us : List StagedPut) → length row ≡ places → ((q : ℕ) → at row q ≡ []) → length L ≡ places → HaveRoom count L → us ≡ [] →
+pub start-is : (barrier : Bool) (need : KeptNeed) (ns : List ℕ) (places : ℕ) (row : Streams Token) (L : List (Spared Token)) (us : List StagedPut) → length row ≡ places → ((q : ℕ) → at row q ≡ []) → length L ≡ places → HaveRoom barrier ns L → us ≡ [] →
     (let q : Standing Token = record { barrier = barrier; need = need_in need; got = got_in need false row L; puts = puts_in us; handed = false } in q) ≡ at_start barrier (need_in need) places
-start-is barrier need places count row L us r f l h u =
+start-is barrier need ns places row L us r f l h u =
     ap₂ (λ X vs. let q : Standing Token = record { barrier = barrier; need = need_in need; got = X; puts = puts_in vs; handed = false } in q) (got need) u
   where
     got : (m : KeptNeed) → got_in m false row L ≡ replicate places []
-    got Over = empty-as (lists_of L) places (room-empty count L h) (lines-long L ∙ l)
-    got (Counts ns) = empty-as (lists_of L) places (room-empty count L h) (lines-long L ∙ l)
+    got Over = empty-as (lists_of L) places (room-empty barrier ns L h) (lines-long L ∙ l)
+    got (Counts ms) = empty-as (lists_of L) places (room-empty barrier ns L h) (lines-long L ∙ l)
     got Any = empty-as row places f r
 
-pub start-gathers : (need : KeptNeed) (count : ℕ) (row : Streams Token) (L : List (Spared Token)) → HasPlaces (length L) (need_in need) → IsMost (need_in need) count → ((q : ℕ) → at row q ≡ []) → HaveRoom count L → Gathers need false 0 None row L
-start-gathers Over count row L p m f h = tt
-start-gathers (Counts ns) count row L p m f h = λ _. gathers-first ns count L p m h
-start-gathers Any count row L p m f h = f
+start-by : (barrier : Bool) (need : KeptNeed) (row : Streams Token) (L : List (Spared Token)) → HasPlaces (length L) (need_in need) → ((q : ℕ) → at row q ≡ []) → HaveRoom barrier (counts_in (need_in need)) L → Gathers barrier need false 0 None row L
+start-by barrier Over row L p f h = tt
+start-by barrier (Counts ns) row L p f h = λ _. gathers-first barrier ns L p h
+start-by barrier Any row L p f h = f
 
-pub most-by-counts : (need : KeptNeed) (ns : List ℕ) (most : ℕ) → need ≡ Counts ns → ((r : ℕ) → get_or ns r 0 ≤ most) → IsMost (need_in need) most
-most-by-counts need ns most e h = subst (λ m. IsMost (need_in m) most) (sym e) h
+pub start-gathers : (barrier : Bool) (need : KeptNeed) (ns : List ℕ) (row : Streams Token) (L : List (Spared Token)) → ns ≡ counts_in (need_in need) → HasPlaces (length L) (need_in need) → ((q : ℕ) → at row q ≡ []) → HaveRoom barrier ns L → Gathers barrier need false 0 None row L
+start-gathers barrier need ns row L e p f h = start-by barrier need row L p f (subst (λ v. HaveRoom barrier v L) e h)
 
-pub most-none : (need : KeptNeed) (most : ℕ) → (need ≡ Over) ⊎ (need ≡ Any) → IsMost (need_in need) most
-most-none need most (inl e) = subst (λ m. IsMost (need_in m) most) (sym e) tt
-most-none need most (inr e) = subst (λ m. IsMost (need_in m) most) (sym e) tt
+-- a need without counts
+pub no-counts : (need : KeptNeed) → (need ≡ Over) ⊎ (need ≡ Any) → counts_in (need_in need) ≡ []
+no-counts need (inl e) = ap (λ m. counts_in (need_in m)) e
+no-counts need (inr e) = ap (λ m. counts_in (need_in m)) e
 
 -- what is known where it gathers by counts
-gathers-so : (need : KeptNeed) (ns : List ℕ) (handed : Bool) (full : ℕ) (filled : Option ℕ) (row : Streams Token) (L : List (Spared Token)) → need ≡ Counts ns → handed ≡ false → Gathers need handed full filled row L → GathersBy ns full L
-gathers-so need ns handed full filled row L n h g = (subst (λ m. Gathers m handed full filled row L) n g) h
+gathers-so : (barrier : Bool) (need : KeptNeed) (ns : List ℕ) (handed : Bool) (full : ℕ) (filled : Option ℕ) (row : Streams Token) (L : List (Spared Token)) → need ≡ Counts ns → handed ≡ false → Gathers barrier need handed full filled row L → GathersBy barrier ns full L
+gathers-so barrier need ns handed full filled row L n h g = (subst (λ m. Gathers barrier m handed full filled row L) n g) h
 
 -- more places at the front are found to lack nothing
-pub lacking-gathers : (p : Inside) (s : Standing Token) (ns ms : List ℕ) (L : List (Spared Token)) (full : ℕ) → IsSound p → seen_process p ≡ s → s.handed ≡ false → p.need ≡ Counts ns → ms ≡ ns → L ≡ p.lines.items → ((q : ℕ) → q < full → get_or ms q 0 ≤ length (at (lists_of L) q)) → Gathers p.need p.is_handed full p.filled p.row.items p.lines.items
+pub lacking-gathers : (p : Inside) (s : Standing Token) (ns ms : List ℕ) (L : List (Spared Token)) (full : ℕ) → IsSound p → seen_process p ≡ s → s.handed ≡ false → p.need ≡ Counts ns → ms ≡ ns → L ≡ p.lines.items → ((q : ℕ) → q < full → get_or ms q 0 ≤ length (at (lists_of L) q)) → Gathers p.is_barrier p.need p.is_handed full p.filled p.row.items p.lines.items
 lacking-gathers p s ns ms L full w v h n e f g =
-    let b = gathers-so p.need ns p.is_handed p.full p.filled p.row.items p.lines.items n (not-handed p s v h) w.gathers in
+    let b = gathers-so p.is_barrier p.need ns p.is_handed p.full p.filled p.row.items p.lines.items n (not-handed p s v h) w.gathers in
     let found : (q : ℕ) → q < full → get_or ns q 0 ≤ length (at (lists_of p.lines.items) q) = λ q l. subst (λ x. get_or x q 0 ≤ length (at (lists_of p.lines.items) q)) e (subst (λ x. get_or ms q 0 ≤ length (at (lists_of x) q)) f (g q l)) in
-    subst (λ m. Gathers m p.is_handed full p.filled p.row.items p.lines.items) (sym n) (λ _. record { counted = b.counted; full = found; room = b.room })
+    subst (λ m. Gathers p.is_barrier m p.is_handed full p.filled p.row.items p.lines.items) (sym n) (λ _. record { counted = b.counted; full = found; room = b.room })
 
 pub lacking-needs : (p : Inside) (s : Standing Token) (ns ms : List ℕ) (L : List (Spared Token)) → IsSound p → seen_process p ≡ s → s.handed ≡ false → p.need ≡ Counts ns → ms ≡ ns → L ≡ p.lines.items → (length ms ≡ length L) × ((q : ℕ) → q < p.full → get_or ms q 0 ≤ length (at (lists_of L) q))
 lacking-needs p s ns ms L w v h n e f =
-    let g = gathers-so p.need ns p.is_handed p.full p.filled p.row.items p.lines.items n (not-handed p s v h) w.gathers in (
+    let g = gathers-so p.is_barrier p.need ns p.is_handed p.full p.filled p.row.items p.lines.items n (not-handed p s v h) w.gathers in (
       ap (λ x. length x) e ∙ g.counted ∙ ap (λ x. length x) (sym f),
       λ q l. subst (λ x. get_or x q 0 ≤ length (at (lists_of L) q)) (sym e) (subst (λ x. get_or ns q 0 ≤ length (at (lists_of x) q)) (sym f) (g.full q l)),
     )

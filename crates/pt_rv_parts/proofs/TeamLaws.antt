@@ -1,111 +1,38 @@
--- Processes side by side, and how many of them may fire.
-use Rattle.std.proofs.Common.{◌≡◌, ◌⊎◌, inl, inr, ℕ, zero, suc, ◌+◌, ◌<◌, ◌≤◌, List, [], ◌∷◌, Bool, true, false, not, length, take, get_or, refl, sym, ap, ap₂, subst, ◌∙◌, arith, add-one}
-use Rattle.pt_meaning.specs.Streams.{change_at}
-use Rattle.pt_meaning.specs.Process.{Fires, at_rest}
+-- Processes side by side, and which of them may fire.
+use Rattle.std.proofs.Common.{◌≡◌, ◌≢◌, ◌⊎◌, inl, inr, ℕ, zero, suc, ◌+◌, ◌<◌, ◌≤◌, List, [], ◌∷◌, Bool, true, false, not, length, set, get_or, Option, Some, None, IfSome, refl, sym, ap, ap₂, subst, ◌∙◌, arith}
+use Rattle.std.proofs.lemmas.Bool.{false≢true}
+use Rattle.std.proofs.lemmas.List.{get_or-set_same, get_or-set_other}
+use Rattle.pt_meaning.specs.Streams.{Streams, change_at, any_present}
+use Rattle.pt_meaning.specs.Machine.{Need, Over, Counts, Any}
+use Rattle.pt_meaning.specs.Process.{Put, Fires, at_rest, by_need, by_puts, if_lacking, if_any, lacking}
 use Rattle.pt_value.specs.declared.token.Token.{Token}
 use Rattle.pt_rv_work.specs.Core.{Standing, nobody, next_of, with_handed}
-use Rattle.pt_rv_parts.specs.Team.{one_unless, firing_in, AllAtRest}
+use Rattle.pt_rv_parts.specs.Team.{fires_in, AllAtRest}
 
--- a change of one process
-pub firing-change : (ps : List (Standing Token)) (i : ℕ) (f : Standing Token → Standing Token) → i < length ps → firing_in (change_at i f ps) + one_unless (at_rest (next_of (get_or ps i nobody))) ≡ firing_in ps + one_unless (at_rest (next_of (f (get_or ps i nobody))))
-firing-change [] i f h = absurd (omega (arith, h))
-firing-change (p ∷ ps) zero f h = turned (one_unless (at_rest (next_of (f p)))) (firing_in ps) (one_unless (at_rest (next_of p)))
-  where
-    turned : (a b c : ℕ) → (a + b) + c ≡ (c + b) + a
-    turned a b c = omega arith
-firing-change (p ∷ ps) (suc i) f h = let r = firing-change ps i f (omega (arith, h)) in omega (arith, r)
+twice : (b : Bool) → not (not b) ≡ b
+twice true = refl
+twice false = refl
 
-pub firing-few : (ps : List (Standing Token)) → firing_in ps ≤ length ps
-firing-few [] = omega arith
-firing-few (p ∷ ps) = let r = firing-few ps in let a = one (at_rest (next_of p)) in omega (arith, r, a)
-  where
-    one : (b : Bool) → one_unless b ≤ 1
-    one true = omega arith
-    one false = omega arith
+-- one of the flags
+fires-at : (ps : List (Standing Token)) (i : ℕ) → get_or (fires_in ps) i false ≡ not (at_rest (next_of (get_or ps i nobody)))
+fires-at [] i = refl
+fires-at (p ∷ ps) zero = refl
+fires-at (p ∷ ps) (suc i) = fires-at ps i
 
--- one that may fire is counted
-pub firing-some : (ps : List (Standing Token)) (i : ℕ) → i < length ps → at_rest (next_of (get_or ps i nobody)) ≡ false → 0 < firing_in ps
-firing-some [] i h e = absurd (omega (arith, h))
-firing-some (p ∷ ps) zero h e = let a = ap one_unless e in omega (arith, a)
-firing-some (p ∷ ps) (suc i) h e = let r = firing-some ps i (omega (arith, h)) e in omega (arith, r)
+pub fires-long : (ps : List (Standing Token)) → length (fires_in ps) ≡ length ps
+fires-long [] = refl
+fires-long (p ∷ ps) = ap (λ v. suc v) (fires-long ps)
 
-none-fires : (b : Bool) → one_unless b ≡ 0 → b ≡ true
-none-fires true e = refl
-none-fires false e = absurd (omega (arith, e))
-
-pub firing-none : (ps : List (Standing Token)) → firing_in ps ≡ 0 → AllAtRest ps
-firing-none [] e i h = absurd (omega (arith, h))
-firing-none (p ∷ ps) e zero h = none-fires (at_rest (next_of p)) (omega (arith, e))
-firing-none (p ∷ ps) e (suc i) h = firing-none ps (omega (arith, e)) i (omega (arith, h))
-
-pub rest-none : (ps : List (Standing Token)) → AllAtRest ps → firing_in ps ≡ 0
-rest-none [] h = refl
-rest-none (p ∷ ps) h =
-    let a = ap one_unless (h zero (omega arith)) in
-    let b = rest-none ps (λ i l. h (suc i) (omega (arith, l))) in
-    omega (arith, a, b)
-
--- the count once one process is changed
-pub recount : (ps : List (Standing Token)) (i : ℕ) (f : Standing Token → Standing Token) (qs : List (Standing Token)) (before after : Bool) (n m : ℕ) → i < length ps → qs ≡ change_at i f ps → at_rest (next_of (get_or ps i nobody)) ≡ not before → at_rest (next_of (get_or qs i nobody)) ≡ not after → n ≡ firing_in ps → m + one_unless (not before) ≡ n + one_unless (not after) → m ≡ firing_in qs
-recount ps i f qs before after n m h e b a c r =
-    let there : get_or qs i nobody ≡ f (get_or ps i nobody) = ap (λ (v : List (Standing Token)). get_or v i nobody) e ∙ changed nobody ps i f h in
-    let k : firing_in qs + one_unless (not before) ≡ firing_in ps + one_unless (not after) =
-    ap₂ (λ v w. firing_in v + one_unless w) e (sym b) ∙ firing-change ps i f h ∙ ap (λ w. firing_in ps + one_unless w) (sym (ap (λ (p : Standing Token). at_rest (next_of p)) there) ∙ a) in
-    omega (arith, k, c, r)
-  where
-    changed : {A : Type 0} (d : A) (xs : List A) (i : ℕ) (g : A → A) → i < length xs → get_or (change_at i g xs) i d ≡ g (get_or xs i d)
-    changed d [] i g h = absurd (omega (arith, h))
-    changed d (x ∷ xs) zero g h = refl
-    changed d (x ∷ xs) (suc i) g h = changed d xs i g (omega (arith, h))
+fires-change : (ps : List (Standing Token)) (i : ℕ) (f : Standing Token → Standing Token) → i < length ps → fires_in (change_at i f ps) ≡ set (fires_in ps) i (not (at_rest (next_of (f (get_or ps i nobody)))))
+fires-change [] i f h = absurd (omega (arith, h))
+fires-change (p ∷ ps) zero f h = refl
+fires-change (p ∷ ps) (suc i) f h = ap (λ v. not (at_rest (next_of p)) ∷ v) (fires-change ps i f (omega (arith, h)))
 
 -- what a process hands over says nothing of what it does next
-pub handed-count : (ps : List (Standing Token)) (i : ℕ) → firing_in (change_at i with_handed ps) ≡ firing_in ps
-handed-count [] i = refl
-handed-count (p ∷ ps) zero = refl
-handed-count (p ∷ ps) (suc i) = ap (λ n. one_unless (at_rest (next_of p)) + n) (handed-count ps i)
-
--- one process more that is counted
-pub counted-more : (ps : List (Standing Token)) (k n m : ℕ) (fires : Bool) → k < length ps → n ≡ firing_in (take k ps) → m + one_unless (not false) ≡ n + one_unless (not fires) → at_rest (next_of (get_or ps k nobody)) ≡ not fires → m ≡ firing_in (take (k + 1) ps)
-counted-more ps k n m fires h e f r =
-    let a = next ps k h in
-    let b = ap one_unless r in
-    (let g : m ≡ firing_in (take (suc k) ps) = omega (arith, a, b, e, f) in g) ∙ ap (λ j. firing_in (take j ps)) (sym (add-one k))
-  where
-    next : (ps : List (Standing Token)) (k : ℕ) → k < length ps → firing_in (take (suc k) ps) ≡ firing_in (take k ps) + one_unless (at_rest (next_of (get_or ps k nobody)))
-    next [] k h = absurd (omega (arith, h))
-    next (p ∷ ps) zero h = plus (one_unless (at_rest (next_of p)))
-      where
-        plus : (n : ℕ) → n + 0 ≡ 0 + n
-        plus n = omega arith
-    next (p ∷ ps) (suc k) h = let r = next ps k (omega (arith, h)) in omega (arith, r)
-
-pub recounted-few : (n m k : ℕ) (fires : Bool) → m + one_unless (not false) ≡ n + one_unless (not fires) → n ≤ k → m ≤ k + 1
-recounted-few n m k true e h = omega (arith, e, h)
-recounted-few n m k false e h = omega (arith, e, h)
-
--- one more that may not fire
-pub rest-more : (ps : List (Standing Token)) (k : ℕ) → ((i : ℕ) → i < k → at_rest (next_of (get_or ps i nobody)) ≡ true) → at_rest (next_of (get_or ps k nobody)) ≡ true → (i : ℕ) → i < k + 1 → at_rest (next_of (get_or ps i nobody)) ≡ true
-rest-more ps k h e i l = by (split i k l)
-  where
-    split : (r k : ℕ) → r < k + 1 → (r < k) ⊎ (k ≡ r)
-    split r k l = grind arith
-
-    by : (i < k) ⊎ (k ≡ i) → at_rest (next_of (get_or ps i nobody)) ≡ true
-    by (inl w) = h i w
-    by (inr z) = subst (λ j. at_rest (next_of (get_or ps j nobody)) ≡ true) z e
-
--- before and after a change of one process
-pub record Before (ps now : List (Standing Token)) (process : ℕ) (before : Bool) (n : ℕ) : Type 0 where
-  pub there : process < length now
-  pub fewer : before ≡ true → 0 < n
-  pub room : n ≤ length ps
-
-pub before-is : (ps : List (Standing Token)) (now : List (Standing Token)) (process : ℕ) (before : Bool) (n : ℕ) → ps ≡ now → process < length now → n ≡ firing_in ps → at_rest (next_of (get_or ps process nobody)) ≡ not before → Before ps now process before n
-before-is ps now process before n e h k r = record {
-  there = h;
-  fewer = λ b. let l = firing-some ps process (let z = ap (λ v. length v) e in omega (arith, h, z)) (r ∙ ap (λ v. not v) b) in omega (arith, l, k);
-  room = let l = firing-few ps in omega (arith, l, k);
-}
+pub fires-handed : (ps : List (Standing Token)) (i : ℕ) → fires_in (change_at i with_handed ps) ≡ fires_in ps
+fires-handed [] i = refl
+fires-handed (p ∷ ps) zero = refl
+fires-handed (p ∷ ps) (suc i) = ap (λ v. not (at_rest (next_of p)) ∷ v) (fires-handed ps i)
 
 pub there-of : (ps now : List (Standing Token)) (process : ℕ) → ps ≡ now → process < length now → process < length ps
 there-of ps now process e h = let z = ap (λ v. length v) e in omega (arith, h, z)
@@ -126,6 +53,70 @@ changed-is ps process f qs e h = ap (λ (v : List (Standing Token)). get_or v pr
     changed (x ∷ xs) zero h = refl
     changed (x ∷ xs) (suc i) h = changed xs i (omega (arith, h))
 
--- what fires isn't at rest
-pub fires-not : (p : Standing Token) → next_of p ≡ Fires → at_rest (next_of p) ≡ not true
-fires-not p e = ap at_rest e
+-- the flags once one process is changed
+pub flagged : (ps : List (Standing Token)) (i : ℕ) (f : Standing Token → Standing Token) (qs : List (Standing Token)) (fires : Bool) (before after : List Bool) → i < length ps → before ≡ fires_in ps → qs ≡ change_at i f ps → at_rest (next_of (get_or qs i nobody)) ≡ not fires → after ≡ set before i fires →
+    after ≡ fires_in qs
+flagged ps i f qs fires before after l b e r a =
+    let there : get_or qs i nobody ≡ f (get_or ps i nobody) = changed-is ps i f qs e l in
+    let flag : fires ≡ not (at_rest (next_of (f (get_or ps i nobody)))) = sym (ap (λ v. not v) (sym (ap (λ (p : Standing Token). at_rest (next_of p)) there) ∙ r) ∙ twice fires) in
+    a ∙ ap₂ (λ v w. set v i w) b flag ∙ sym (fires-change ps i f l) ∙ ap fires_in (sym e)
+
+pub flag-there : (ps : List (Standing Token)) (fs : List Bool) (i : ℕ) → fs ≡ fires_in ps → i < length fs → i < length ps
+flag-there ps fs i e h = let a = ap (λ v. length v) e in let b = fires-long ps in omega (arith, a, b, h)
+
+pub mark-there : (ps : List (Standing Token)) (fs : List Bool) (i : ℕ) → fs ≡ fires_in ps → i < length ps → i < length fs
+mark-there ps fs i e h = let a = ap (λ v. length v) e in let b = fires-long ps in omega (arith, a, b, h)
+
+-- one that isn't at rest fires, since none is stuck
+fires-next : (us : List (Put Token)) (barrier : Bool) (need : Need) (got : Streams Token) → not (at_rest (by_puts us (by_need barrier need got))) ≡ true → by_puts us (by_need barrier need got) ≡ Fires
+fires-next (u ∷ us) barrier need got h = absurd (false≢true h)
+fires-next [] barrier Over got h = absurd (false≢true h)
+fires-next [] barrier (Counts ns) got h = by barrier (lacking 0 ns got) h
+  where
+    by : (b : Bool) (o : Option ℕ) → not (at_rest (if_lacking b o)) ≡ true → if_lacking b o ≡ Fires
+    by b None h = refl
+    by true (Some q) h = absurd (false≢true h)
+    by false (Some q) h = absurd (false≢true h)
+fires-next [] barrier Any got h = by (any_present got) h
+  where
+    by : (b : Bool) → not (at_rest (if_any b)) ≡ true → if_any b ≡ Fires
+    by true h = refl
+    by false h = absurd (false≢true h)
+
+pub flag-fires : (ps : List (Standing Token)) (fs : List Bool) (i : ℕ) → fs ≡ fires_in ps → get_or fs i false ≡ true → next_of (get_or ps i nobody) ≡ Fires
+flag-fires ps fs i e h =
+    let p : Standing Token = get_or ps i nobody in
+    fires-next p.puts p.barrier p.need p.got (sym (fires-at ps i) ∙ sym (ap (λ v. get_or v i false) e) ∙ h)
+
+pub flag-rests : (ps : List (Standing Token)) (fs : List Bool) → fs ≡ fires_in ps → ((i : ℕ) → get_or fs i false ≡ false) → AllAtRest ps
+flag-rests ps fs e h i l = by (at_rest (next_of (get_or ps i nobody))) (sym (fires-at ps i) ∙ sym (ap (λ v. get_or v i false) e) ∙ h i)
+  where
+    by : (b : Bool) → not b ≡ false → b ≡ true
+    by true z = refl
+    by false z = absurd (false≢true (sym z))
+
+-- one process more that is flagged
+pub flags-more : (ps : List (Standing Token)) (k : ℕ) (fires : Bool) (before after : List Bool) → k < length before → after ≡ set before k fires → at_rest (next_of (get_or ps k nobody)) ≡ not fires → ((i : ℕ) → i < k → get_or before i false ≡ get_or (fires_in ps) i false) → (i : ℕ) → i < k + 1 →
+    get_or after i false ≡ get_or (fires_in ps) i false
+flags-more ps k fires before after l e r h i w = by (split i k w)
+  where
+    split : (i k : ℕ) → i < k + 1 → (i < k) ⊎ (k ≡ i)
+    split i k w = grind arith
+
+    by : (i < k) ⊎ (k ≡ i) → get_or after i false ≡ get_or (fires_in ps) i false
+    by (inl s) = let apart : i ≢ k = omega (arith, s) in ap (λ v. get_or v i false) e ∙ get_or-set_other before k i fires false apart ∙ h i s
+    by (inr z) = subst (λ j. get_or after j false ≡ get_or (fires_in ps) j false) z (ap (λ v. get_or v k false) e ∙ get_or-set_same before k fires false l ∙ sym (fires-at ps k ∙ ap (λ v. not v) r ∙ twice fires))
+
+pub flags-all : (fs gs : List Bool) (k : ℕ) → length fs ≡ length gs → length gs ≤ k → ((i : ℕ) → i < k → get_or fs i false ≡ get_or gs i false) → fs ≡ gs
+flags-all fs gs k n l h = same fs gs n (λ i w. h i (omega (arith, w, n, l)))
+  where
+    same : (fs gs : List Bool) → length fs ≡ length gs → ((i : ℕ) → i < length fs → get_or fs i false ≡ get_or gs i false) → fs ≡ gs
+    same [] [] n h = refl
+    same [] (g ∷ gs) n h = absurd (omega (arith, n))
+    same (f ∷ fs) [] n h = absurd (omega (arith, n))
+    same (f ∷ fs) (g ∷ gs) n h = ap₂ (λ v w. v ∷ w) (h 0 (omega arith)) (same fs gs (omega (arith, n)) (λ i w. h (suc i) (omega (arith, w))))
+
+-- what follows of what is there
+pub where-some : {A : Type 0} (r : Option A) (P Q : A → Type 0) → ((x : A) → P x → Q x) → IfSome r P → IfSome r Q
+where-some None P Q f h = tt
+where-some (Some x) P Q f h = f x h

@@ -1,5 +1,5 @@
 -- What the code's plan is among the definitions, and its tables: where the places of each process begin, which channels begin at each source, and where each channel ends.
-use Rattle.std.specs.Prelude.{◌≡◌, ℕ, ◌+◌, ◌^◌, ◌<◌, List, [], ◌++◌, length, map, get_or, Some}
+use Rattle.std.specs.Prelude.{◌≡◌, ℕ, ◌^◌, ◌<◌, List, [], ◌++◌, length, map, get_or, Some}
 use Rattle.std.specs.List.{All}
 use Rattle.pt_meaning.specs.Streams.{get}
 use Rattle.pt_meaning.specs.Machine.{Over}

@@ -1,5 +1,5 @@
 -- One process of a Rendezvous composite: what it needs, what it has gathered, and what it has still to put (Hoare 1978, "Communicating Sequential Processes").
-use Rattle.std.specs.Prelude.{◌≡◌, ℕ, ◌+◌, ◌<◌, ◌≤◌, List, [], Bool, true, false, nat_eq, length, get_or, replicate, Option, Some, None}
+use Rattle.std.specs.Prelude.{◌≡◌, ℕ, ◌+◌, ◌<◌, ◌≤◌, List, [], ◌∷◌, Bool, true, false, nat_eq, max, length, get_or, replicate, Option, Some, None}
 use Rattle.pt_meaning.specs.Streams.{Streams, at, any_present}
 use Rattle.pt_meaning.specs.Machine.{Need}
 use Rattle.pt_meaning.specs.Machine as machine
@@ -36,11 +36,21 @@ got_in Any handed row lines = row
 abbrev pub seen_process : Inside → Standing Token
 seen_process p = record { barrier = p.is_barrier; need = need_in p.need; got = got_in p.need p.is_handed p.row.items p.lines.items; puts = puts_in p.puts.items; handed = p.is_handed }
 
--- A process gathers by these counts: so many places at the front lack nothing, and each place has room for as many tokens as any count says.
-pub record GathersBy (ns : List ℕ) (front : ℕ) (lines : List (Spared Token)) : Type 0 where
+-- the greatest of these counts
+abbrev pub most_in : List ℕ → ℕ
+most_in [] = 0
+most_in (n ∷ ns) = max n (most_in ns)
+
+-- As many tokens as a place takes by these counts: its own, and of a Barrier the greatest, since it takes a token at all places until none lacks one.
+abbrev pub taken_at : (barrier : Bool) → List ℕ → (place : ℕ) → ℕ
+taken_at true ns place = most_in ns
+taken_at false ns place = get_or ns place 0
+
+-- A process gathers by these counts: so many places at the front lack nothing, and each place has room for as many tokens as it takes.
+pub record GathersBy (barrier : Bool) (ns : List ℕ) (front : ℕ) (lines : List (Spared Token)) : Type 0 where
   pub counted : length ns ≡ length lines
   pub full : (q : ℕ) → q < front → get_or ns q 0 ≤ length (at (lists_of lines) q)
-  pub room : (q r : ℕ) → q < length lines → get_or ns r 0 ≤ length (at (lists_of lines) q) + room_at lines q
+  pub room : (q : ℕ) → q < length lines → taken_at barrier ns q ≤ length (at (lists_of lines) q) + room_at lines q
 
 -- only the place that is filled has tokens
 abbrev pub FilledAt : Option ℕ → Streams Token → Type 0
@@ -48,15 +58,15 @@ FilledAt None row = (q : ℕ) → at row q ≡ []
 FilledAt (Some place) row = (place < length row) × (0 < length (at row place)) × ((q : ℕ) → nat_eq place q ≡ false → at row q ≡ [])
 
 -- what is known of what a process gathers
-abbrev pub Gathers : KeptNeed → Bool → ℕ → Option ℕ → Streams Token → List (Spared Token) → Type 0
-Gathers Over handed full filled row lines = Unit {0}
-Gathers (Counts ns) handed full filled row lines = handed ≡ false → GathersBy ns full lines
-Gathers Any handed full filled row lines = FilledAt filled row
+abbrev pub Gathers : Bool → KeptNeed → Bool → ℕ → Option ℕ → Streams Token → List (Spared Token) → Type 0
+Gathers barrier Over handed full filled row lines = Unit {0}
+Gathers barrier (Counts ns) handed full filled row lines = handed ≡ false → GathersBy barrier ns full lines
+Gathers barrier Any handed full filled row lines = FilledAt filled row
 
 -- what a process keeps
 pub record IsSound (p : Inside) : Type 0 where
   pub row : length p.row.items ≡ length p.lines.items
-  pub gathers : Gathers p.need p.is_handed p.full p.filled p.row.items p.lines.items
+  pub gathers : Gathers p.is_barrier p.need p.is_handed p.full p.filled p.row.items p.lines.items
 
 -- what a process does next: its next put is on this channel, or it does this
 abbrev pub DoesNext : Standing Token → Event → Type 0
@@ -116,17 +126,17 @@ IsByCounts machine.Over = Unit {0}
 IsByCounts (machine.Counts ns) = Unit {0}
 IsByCounts machine.Any = ⊥
 
--- a token may come to this place: fewer are gathered there than some count says, or none is gathered where any will do
-abbrev pub TakesAt : Need → Streams Token → ℕ → Type 0
-TakesAt machine.Over got place = ⊥
-TakesAt (machine.Counts ns) got place = (r : ℕ) × (length (at got place) < get_or ns r 0)
-TakesAt machine.Any got place = any_present got ≡ false
+-- a token may come to this place: fewer are gathered there than it takes by the counts, or none is gathered where any will do
+abbrev pub TakesAt : Bool → Need → Streams Token → ℕ → Type 0
+TakesAt barrier machine.Over got place = ⊥
+TakesAt barrier (machine.Counts ns) got place = length (at got place) < taken_at barrier ns place
+TakesAt barrier machine.Any got place = any_present got ≡ false
 
 -- a process gathers, and a token may come to this place
 pub record MayTake (s : Standing Token) (place : ℕ) : Type 0 where
   pub gathers : s.handed ≡ false
   pub there : place < length s.got
-  pub takes : TakesAt s.need s.got place
+  pub takes : TakesAt s.barrier s.need s.got place
 
 -- a process with so many places at its start
 abbrev pub at_start : Bool → Need → ℕ → Standing Token
@@ -139,12 +149,16 @@ renewed need s = record { barrier = s.barrier; need = need; got = process.emptie
 abbrev pub with_puts : List (Put Token) → Standing Token → Standing Token
 with_puts us s = record { barrier = s.barrier; need = s.need; got = s.got; puts = us; handed = s.handed }
 
--- each place is empty, and has room for so many tokens
-abbrev pub HaveRoom : ℕ → List (Spared Token) → Type 0
-HaveRoom count lines = (q : ℕ) → q < length lines → (at (lists_of lines) q ≡ []) × (count ≤ room_at lines q)
+-- each place is empty, and has room for as many tokens as it takes
+abbrev pub HaveRoom : Bool → List ℕ → List (Spared Token) → Type 0
+HaveRoom barrier ns lines = (q : ℕ) → q < length lines → (at (lists_of lines) q ≡ []) × (taken_at barrier ns q ≤ room_at lines q)
 
--- no count of the need is more
-abbrev pub IsMost : Need → ℕ → Type 0
-IsMost machine.Over most = Unit {0}
-IsMost (machine.Counts ns) most = (r : ℕ) → get_or ns r 0 ≤ most
-IsMost machine.Any most = Unit {0}
+-- the counts of a need, or none
+abbrev pub counts_in : Need → List ℕ
+counts_in machine.Over = []
+counts_in (machine.Counts ns) = ns
+counts_in machine.Any = []
+
+-- of a Barrier no count is more
+abbrev pub IsLeast : Bool → List ℕ → ℕ → Type 0
+IsLeast barrier ns least = barrier ≡ true → most_in ns ≤ least

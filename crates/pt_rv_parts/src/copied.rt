@@ -2,10 +2,11 @@ ghost use Rattle.std.specs.Prelude.{◌≡◌, ℕ, ◌+◌, ◌<◌, ◌≤◌,
 ghost use Rattle.pt_meaning.specs.Streams.{at};
 ghost use Rattle.pt_reaction.specs.Channels.{lists_of};
 ghost use Rattle.pt_process.specs.Process.{room_at, put_of, puts_in};
+ghost use Rattle.pt_rv_parts.specs.Process.{taken_at};
 
 use crate::need::KeptNeed;
 use crate::process::Process;
-use crate::renew::most_needed;
+use crate::renew::{counts_of, least_room, room_of};
 use pt_firing::Tokens;
 use pt_process::StagedPut;
 use pt_reaction::Line;
@@ -20,7 +21,7 @@ impl Process {
         ensures { IfOk result (λ process. process ≡ self.now) }
     {
         let puts = puts_again(alloc, &self.puts)?;
-        let lines = lines_again(alloc, &self.lines, most_needed(&self.need))?;
+        let lines = lines_again(alloc, &self.lines, self.is_barrier, counts_of(&self.need))?;
         let row = row_again(alloc, &self.row)?;
         let need = self.need.copy(alloc)?;
         Ok(Process {
@@ -75,20 +76,28 @@ fn row_again(alloc: Global, lists: &[Tokens]) -> Result<Vec<Tokens>, AllocError>
     Ok(copies)
 }
 
-/// The same lines again, each with room for so many tokens.
-fn lines_again(alloc: Global, lines: &[Line], count: usize) -> Result<Vec<Line>, AllocError>
+/// The same lines again, each with room for as many tokens as its place takes.
+fn lines_again(
+    alloc: Global,
+    lines: &[Line],
+    is_barrier: bool,
+    counts: &[usize],
+) -> Result<Vec<Line>, AllocError>
     ensures lists { IfOk result (λ copies. lists_of copies.items ≡ lists_of lines.now) }
-    ensures rooms { IfOk result (λ copies. (q : ℕ) → q < length lines.now → count ≤ length (at (lists_of copies.items) q) + room_at copies.items q) }
+    ensures rooms { IfOk result (λ copies. (q : ℕ) → q < length lines.now → taken_at is_barrier counts.now q ≤ length (at (lists_of copies.items) q) + room_at copies.items q) }
 {
+    let least = least_room(is_barrier, counts);
     let mut copies = Vec::with_capacity(alloc, lines.len())?;
     for line in lines {
-        let copy = line_again(alloc, line, count)?;
+        let place = copies.len();
+        let room = room_of(counts, least, place);
+        let copy = line_again(alloc, line, room)?;
         copies.push(copy)?;
     }
     Ok(copies)
 }
 
-/// The same of one line.
+/// The same line again, with room for so many tokens.
 fn line_again(alloc: Global, line: &Line, count: usize) -> Result<Line, AllocError>
     ensures list { IfOk result (λ copy. copy.list ≡ line.now.list) }
     ensures room { IfOk result (λ copy. count ≤ length copy.list + copy.spare) }

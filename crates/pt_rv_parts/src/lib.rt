@@ -3,6 +3,7 @@
 
 mod copied;
 mod fans;
+mod flags;
 mod inlet;
 mod meetings;
 mod need;

@@ -1,9 +1,9 @@
-ghost use Rattle.std.specs.Prelude.{◌≡◌, ℕ, ◌<◌, ◌≤◌, [], length, get_or, nat_eq, false, true, IfOk, OnOk, Some};
+ghost use Rattle.std.specs.Prelude.{◌≡◌, ℕ, ◌<◌, ◌≤◌, [], length, get_or, nat_eq, max, false, true, IfOk, OnOk, Some};
 ghost use Rattle.pt_meaning.specs.Streams.{at};
 ghost use Rattle.pt_reaction.specs.Channels.{lists_of};
 ghost use Rattle.pt_process.specs.Process.{room_at};
 ghost use Rattle.pt_rv_parts.specs.declared.need.KeptNeed.TheVariants as kept_need;
-ghost use Rattle.pt_rv_parts.specs.Process.{HaveRoom, FilledAt, IsMost, need_in};
+ghost use Rattle.pt_rv_parts.specs.Process.{HaveRoom, FilledAt, IsLeast, counts_in, need_in};
 
 use crate::need::KeptNeed;
 use crate::process::Process;
@@ -35,7 +35,7 @@ impl Process {
     {
         let row = empty_row(alloc, places)?;
         let mut lines = empty_lines(alloc, places)?;
-        make_rooms(alloc, &mut lines, most_needed(&need))?;
+        make_rooms(alloc, &mut lines, is_barrier, counts_of(&need))?;
         Ok(Process {
             is_barrier,
             need,
@@ -156,7 +156,7 @@ impl Process {
         ensures renewed { OnOk result (self.new ≡ renewed (machine.Counts counts.now) self.old) }
         ensures kept { OnErr result (self.new ≡ self.old) }
     {
-        make_rooms(alloc, &mut self.lines, most_of(counts.as_slice()))?;
+        make_rooms(alloc, &mut self.lines, self.is_barrier, counts.as_slice())?;
         self.full = 0;
         self.is_handed = false;
         Ok(())
@@ -170,7 +170,7 @@ impl Process {
         ensures kept { OnErr result (self.new ≡ self.old) }
     {
         let copy = counts.copy(alloc)?;
-        make_rooms(alloc, &mut self.lines, most_of(counts.as_slice()))?;
+        make_rooms(alloc, &mut self.lines, self.is_barrier, counts.as_slice())?;
         self.need = KeptNeed::Counts(copy);
         self.full = 0;
         self.is_handed = false;
@@ -195,14 +195,21 @@ fn is_kept(kept: &KeptNeed, counts: &Counts) -> bool
     }
 }
 
-/// As many tokens as any count says.
-pub(crate) fn most_needed(need: &KeptNeed) -> usize
-    ensures { IsMost (need_in need.now) result }
+/// The counts of a need, or none.
+pub(crate) fn counts_of(need: &KeptNeed) -> &[usize]
+    ensures { result.now ≡ counts_in (need_in need.now) }
 {
     match need {
-        KeptNeed::Counts(counts) => most_of(counts.as_slice()),
-        KeptNeed::Over | KeptNeed::Any => 0,
+        KeptNeed::Counts(counts) => counts.as_slice(),
+        KeptNeed::Over | KeptNeed::Any => &[],
     }
+}
+
+/// For so many tokens each place has room at least: of a Barrier, which takes a token at all places until none lacks one, for as many as any count says.
+pub(crate) fn least_room(is_barrier: bool, counts: &[usize]) -> usize
+    ensures { IsLeast is_barrier counts.now result }
+{
+    if is_barrier { most_of(counts) } else { 0 }
 }
 
 /// The greatest of these counts.
@@ -216,18 +223,37 @@ pub(crate) fn most_of(counts: &[usize]) -> usize
     most
 }
 
-/// Empties each place, and makes room there for so many tokens.
-fn make_rooms(alloc: Global, lines: &mut Vec<Line>, count: usize) -> Result<(), AllocError>
-    ensures counted { length lines.new.items ≡ length lines.old.items }
-    ensures rooms { OnOk result (HaveRoom count lines.new.items) }
+/// For so many tokens a place has room: its own count, and no less than all have.
+pub(crate) fn room_of(counts: &[usize], least: usize, place: usize) -> usize
+    ensures { result ≡ max (get_or counts.now place 0) least }
 {
+    let places = counts.len();
+    if place >= places {
+        return least;
+    }
+    let count = counts[place];
+    count.max(least)
+}
+
+/// Empties each place, and makes room there for as many tokens as it takes.
+fn make_rooms(
+    alloc: Global,
+    lines: &mut Vec<Line>,
+    is_barrier: bool,
+    counts: &[usize],
+) -> Result<(), AllocError>
+    ensures counted { length lines.new.items ≡ length lines.old.items }
+    ensures rooms { OnOk result (HaveRoom is_barrier counts.now lines.new.items) }
+{
+    let least = least_room(is_barrier, counts);
     for place in 0..lines.len() {
-        make_room(alloc, lines, place, count)?;
+        let room = room_of(counts, least, place);
+        make_room(alloc, lines, place, room)?;
     }
     Ok(())
 }
 
-/// The same of one place.
+/// Empties one place, and makes room there for so many tokens.
 fn make_room(
     alloc: Global,
     lines: &mut Vec<Line>,

@@ -41,6 +41,7 @@ impl Plan {
     ghost use Rattle.pt_pn_laws.specs.State.{offset_of};
     ghost use Rattle.pt_rv_parts.specs.Plan.{processes_of, AreSound, IsSourceAt, target_of};
 
+    /// A plan with its tables.
     pub fn new(alloc: Global, plan: CorePlan) -> Result<Plan, AllocError>
         requires { AreSound (processes_of plan) }
         ensures { IfOk result (λ tabled. tabled ≡ processes_of plan) }
@@ -56,6 +57,7 @@ impl Plan {
         })
     }
 
+    /// The same plan again.
     pub fn copy(&self, alloc: Global) -> Result<Plan, AllocError>
         ensures { IfOk result (λ plan. plan ≡ self.now) }
     {
@@ -63,6 +65,7 @@ impl Plan {
         Plan::new(alloc, plan)
     }
 
+    /// How many processes there are.
     pub fn processes(&self) -> usize
         ensures count { result ≡ length self.now.plan.net.places }
         ensures few { result < 2 ^ 32 }
@@ -70,6 +73,7 @@ impl Plan {
         self.plan.places.len()
     }
 
+    /// How many channels there are.
     pub fn channels(&self) -> usize
         ensures count { result ≡ length self.now.plan.net.sources }
         ensures few { result < 2 ^ 32 }
@@ -108,6 +112,7 @@ impl Plan {
         self.offsets[self.plan.places.len()]
     }
 
+    /// Where a channel begins.
     pub fn source(&self, channel: usize) -> Source
         requires { channel < length self.now.plan.net.sources }
         ensures { IsSourceAt self.now channel result }

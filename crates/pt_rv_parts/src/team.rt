@@ -1,4 +1,4 @@
-ghost use Rattle.std.specs.Prelude.{◌≡◌, ◌+◌, ◌^◌, ◌<◌, not, length, get_or, slice_get, false, true, IfOk, OnOk, OnErr, Some};
+ghost use Rattle.std.specs.Prelude.{◌≡◌, ◌<◌, not, length, get_or, slice_get, false, true, IfOk, OnOk, OnErr, Some};
 ghost use Rattle.pt_meaning.specs.Streams.{change_at};
 ghost use Rattle.pt_meaning.specs.Process.{at_rest};
 ghost use Rattle.pt_firing.specs.Need.{need_of};
@@ -6,8 +6,9 @@ ghost use Rattle.pt_rv_laws.specs.Lawful.{HasPlaces};
 ghost use Rattle.pt_process.specs.Process.{put_of, puts_in};
 ghost use Rattle.pt_rv_work.specs.Core.{nobody, next_of, with_token, with_put_made, with_handed, once_fired};
 ghost use Rattle.pt_rv_parts.specs.Process.{DoesNext, MayTake};
-ghost use Rattle.pt_rv_parts.specs.Team.{NoneHanded, firing_in, one_unless};
+ghost use Rattle.pt_rv_parts.specs.Team.{NoneHanded, fires_in};
 
+use crate::flags::Flags;
 use crate::process::{Event, Process};
 use pt_firing::{Inputs, Need};
 use pt_process::StagedPut;
@@ -16,11 +17,11 @@ use std::alloc::{AllocError, Global};
 use std::collections::VecDeque;
 use std::marker::Model;
 
-/// The processes of a composite, and how many of them may fire.
+/// The processes of a composite, and which of them may fire.
 #[derive(Drop)]
 pub struct Team {
     processes: Vec<Process>,
-    firing: usize,
+    firing: Flags,
 }
 
 impl Model for Team {
@@ -29,7 +30,7 @@ impl Model for Team {
     ghost use Rattle.pt_value.specs.declared.token.Token.{Token};
     ghost use Rattle.pt_rv_work.specs.Core.{Standing};
     ghost use Rattle.pt_rv_parts.specs.Codes.{coded_standing};
-    ghost use Rattle.pt_rv_parts.specs.Team.{firing_in};
+    ghost use Rattle.pt_rv_parts.specs.Team.{fires_in};
 
     ghost Value = { List (Standing Token) };
 
@@ -37,13 +38,13 @@ impl Model for Team {
 
     ghost view = { λ t. t.processes.items };
 
-    ghost invariant = { λ t. t.firing ≡ firing_in t.processes.items };
+    ghost invariant = { λ t. t.firing ≡ fires_in t.processes.items };
 }
 
 impl Team {
     ghost use Rattle.std.specs.Prelude.{◌≡◌, ℕ, ◌<◌, length, get_or, slice_get, false, true, IfOk, IfSome, IsNone, OnOk, OnErr, Some};
     ghost use Rattle.pt_meaning.specs.Streams.{change_at};
-    ghost use Rattle.pt_meaning.specs.Process.{Fires, at_rest};
+    ghost use Rattle.pt_meaning.specs.Process.{Fires};
     ghost use Rattle.pt_firing.specs.Need.{need_of};
     ghost use Rattle.pt_rv_laws.specs.Lawful.{HasPlaces};
     ghost use Rattle.pt_process.specs.Process.{PutsFirst, put_of, puts_in};
@@ -51,12 +52,13 @@ impl Team {
     ghost use Rattle.pt_rv_parts.specs.Process.{DoesNext, MayTake};
     ghost use Rattle.pt_rv_parts.specs.Team.{AllAtRest, NoneHanded};
 
-    pub fn of(mut processes: Vec<Process>) -> Team
+    /// A team of these processes.
+    pub fn of(alloc: Global, mut processes: Vec<Process>) -> Result<Team, AllocError>
         requires { NoneHanded processes.items }
-        ensures { result ≡ processes.items }
+        ensures { IfOk result (λ team. team ≡ processes.items) }
     {
-        let firing = count_firing(&mut processes);
-        Team { processes, firing }
+        let firing = flags_of(alloc, &mut processes)?;
+        Ok(Team { processes, firing })
     }
 
     /// How many processes there are.
@@ -66,15 +68,13 @@ impl Team {
         self.processes.len()
     }
 
-    /// Whether none of them may fire.
-    pub fn is_at_rest(&self) -> bool
-        ensures rests { result ≡ true → AllAtRest self.now }
-        ensures none { AllAtRest self.now → result ≡ true }
+    /// A process that may fire, if one may. It is found in constant time.
+    pub fn any_firing(&self) -> Option<usize>
+        ensures there { IfSome result (λ process. process < length self.now) }
+        ensures fires { IfSome result (λ process. next_of (get_or self.now process nobody) ≡ Fires) }
+        ensures rests { IsNone result → AllAtRest self.now }
     {
-        if self.firing == 0 {
-            return true;
-        }
-        false
+        self.firing.any()
     }
 
     /// What a process does next.
@@ -85,24 +85,6 @@ impl Team {
         ensures next { DoesNext (get_or self.old process nobody) result }
     {
         next_at(&mut self.processes, process)
-    }
-
-    /// The first process that may fire, if one may.
-    pub fn first_firing(&mut self) -> Option<usize>
-        requires { NoneHanded self.old }
-        ensures same { self.new ≡ self.old }
-        ensures there { IfSome result (λ process. process < length self.old) }
-        ensures fires { IfSome result (λ process. next_of (get_or self.old process nobody) ≡ Fires) }
-        ensures first { IfSome result (λ process. (i : ℕ) → i < process → at_rest (next_of (get_or self.old i nobody)) ≡ true) }
-        ensures rests { IsNone result → AllAtRest self.old }
-    {
-        for process in 0..self.processes.len() {
-            let event = self.next(process);
-            if event.is_fire() {
-                return Some(process);
-            }
-        }
-        None
     }
 
     /// The channel of the next put of a process, if it has one.
@@ -119,10 +101,9 @@ impl Team {
         requires may { MayTake (get_or self.old process nobody) place }
         ensures { self.new ≡ change_at process (with_token place token) self.old }
     {
-        let fired = is_firing(&mut self.processes, process);
         get_at(&mut self.processes, process, place, token);
         let fires = is_firing(&mut self.processes, process);
-        self.firing = recounted(self.firing, fired, fires);
+        self.firing.mark(process, fires);
     }
 
     /// Takes out the next put of a process.
@@ -133,10 +114,9 @@ impl Team {
         ensures put { slice_get (get_or self.old process nobody).puts 0 ≡ Some (put_of result) }
         ensures left { self.new ≡ change_at process with_put_made self.old }
     {
-        let fired = is_firing(&mut self.processes, process);
         let put = put_at(&mut self.processes, process);
         let fires = is_firing(&mut self.processes, process);
-        self.firing = recounted(self.firing, fired, fires);
+        self.firing.mark(process, fires);
         put
     }
 
@@ -168,14 +148,13 @@ impl Team {
     ) -> Result<(), AllocError>
         requires there { process < length self.old }
         requires handed { (get_or self.old process nobody).handed ≡ true }
-        requires fires { next_of (get_or self.old process nobody) ≡ Fires }
         requires places { HasPlaces (length (get_or self.old process nobody).got) (need_of need) }
         ensures told { OnOk result (self.new ≡ change_at process (once_fired (need_of need.entry) (puts_in puts.old.items)) self.old) }
         ensures kept { OnErr result (self.new ≡ self.old) }
     {
         tell_at(alloc, &mut self.processes, process, need, puts)?;
         let fires = is_firing(&mut self.processes, process);
-        self.firing = recounted(self.firing, true, fires);
+        self.firing.mark(process, fires);
         Ok(())
     }
 
@@ -184,37 +163,23 @@ impl Team {
         ensures { IfOk result (λ team. team ≡ self.now) }
     {
         let processes = copies(alloc, &self.processes)?;
-        Ok(Team {
-            processes,
-            firing: self.firing,
-        })
+        let firing = self.firing.copy(alloc)?;
+        Ok(Team { processes, firing })
     }
 }
 
-/// How many of them may fire, once one of them that fired or not does so or not.
-fn recounted(firing: usize, fired: bool, fires: bool) -> usize
-    requires fewer { fired ≡ true → 0 < firing }
-    requires room { firing < 2 ^ 63 }
-    ensures { result + one_unless (not fired) ≡ firing + one_unless (not fires) }
-{
-    if fired == fires {
-        return firing;
-    }
-    if fires { firing + 1 } else { firing - 1 }
-}
-
-/// How many of these processes may fire.
-fn count_firing(processes: &mut Vec<Process>) -> usize
+/// Which of these processes may fire.
+fn flags_of(alloc: Global, processes: &mut Vec<Process>) -> Result<Flags, AllocError>
     requires { NoneHanded processes.old.items }
     ensures same { processes.new.items ≡ processes.old.items }
-    ensures count { result ≡ firing_in processes.old.items }
+    ensures flags { IfOk result (λ flags. flags ≡ fires_in processes.old.items) }
 {
-    let mut firing = 0;
+    let mut flags = Flags::new(alloc, processes.len())?;
     for process in 0..processes.len() {
         let fires = is_firing(processes, process);
-        firing = recounted(firing, false, fires);
+        flags.mark(process, fires);
     }
-    firing
+    Ok(flags)
 }
 
 /// What a process does next.

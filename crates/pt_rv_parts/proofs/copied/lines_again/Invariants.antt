@@ -7,5 +7,5 @@ abbrev pub invariant-loop-line : goal.invariant-loop-line
 invariant-loop-line l = record {
   counted : length l.copies.items ≡ l.line-index;
   lists : lists_of l.copies.items ≡ lists_of (take l.line-index l.lines);
-  rooms : (q : ℕ) → q < l.line-index → HasRoomAt l.count l.copies.items q;
+  rooms : (q : ℕ) → q < l.line-index → HasRoomAt l.counts l.least l.copies.items q;
 }

@@ -7,12 +7,12 @@ use Rattle.pt_rv_parts.proofs.process.Process.any_again.Goals as goal
 
 pub empty_filled-requires : goal.empty_filled-requires
 empty_filled-requires c =
-    subst (λ m. Gathers m c.self.inside.is_handed c.self.inside.full c.self.inside.filled c.self.inside.row.items c.self.inside.lines.items) (any-need c.self.inside c.args.self.now c.self.view_is c.requires.same) c.self.invariant.gathers
+    subst (λ m. Gathers c.self.inside.is_barrier m c.self.inside.is_handed c.self.inside.full c.self.inside.filled c.self.inside.row.items c.self.inside.lines.items) (any-need c.self.inside c.args.self.now c.self.view_is c.requires.same) c.self.invariant.gathers
 
 pub invariant_of-self : goal.invariant_of-self
 invariant_of-self c = record {
   row = c.empty_filled.ensures.counted ∙ c.self.invariant.row;
-  gathers = subst (λ m. Gathers m false c.self.inside.full None c.empty_filled.new.row.items c.self.inside.lines.items) (sym (any-need c.self.inside c.args.self.now c.self.view_is c.requires.same)) c.empty_filled.ensures.empty;
+  gathers = subst (λ m. Gathers c.self.inside.is_barrier m false c.self.inside.full None c.empty_filled.new.row.items c.self.inside.lines.items) (sym (any-need c.self.inside c.args.self.now c.self.view_is c.requires.same)) c.empty_filled.ensures.empty;
 }
 
 pub returns : goal.returns

@@ -10,7 +10,7 @@ invariant_of-result c =
     let row = c.in_ok-row.ensures ∙ c.deref-2.ensures.value in
     record {
       row = ap (λ v. length v) row ∙ c.self.invariant.row ∙ sym (same-lines c.self.inside.lines.items c.in_ok-lines.lines.items lists);
-      gathers = gathers-again c.self.inside.need c.in_ok-need.need c.self.inside.is_handed c.self.inside.full c.most_needed.result c.self.inside.filled c.self.inside.row.items c.in_ok-row.row.items c.self.inside.lines.items c.in_ok-lines.lines.items c.in_ok-need.ensures row lists c.most_needed.ensures
+      gathers = gathers-again c.self.inside.is_barrier c.self.inside.need c.in_ok-need.need c.counts_of.result.now c.self.inside.is_handed c.self.inside.full c.self.inside.filled c.self.inside.row.items c.in_ok-row.row.items c.self.inside.lines.items c.in_ok-lines.lines.items c.in_ok-need.ensures row lists c.counts_of.ensures
           (λ q l. c.in_ok-lines.ensures.rooms q (let e = ap (λ v. length v) c.deref.ensures.value in omega (arith, l, e))) c.self.invariant.gathers;
     }
 

@@ -7,8 +7,8 @@ use Rattle.pt_rv_parts.proofs.process.Process.new.Goals as goal
 pub invariant_of-result : goal.invariant_of-result
 invariant_of-result c = record {
   row = c.in_ok-row.ensures.counted ∙ sym (c.in_ok-make_rooms.ensures.counted ∙ c.in_ok-lines.ensures);
-  gathers = start-gathers c.args.need c.most_needed.result c.in_ok-row.row.items c.make_rooms.new.lines.items (subst (λ n. HasPlaces n (need_in c.args.need)) (sym (c.in_ok-make_rooms.ensures.counted ∙ c.in_ok-lines.ensures)) c.requires) c.most_needed.ensures c.in_ok-row.ensures.empty c.in_ok-make_rooms.ensures.rooms;
+  gathers = start-gathers c.args.is_barrier c.args.need c.counts_of.result.now c.in_ok-row.row.items c.make_rooms.new.lines.items c.counts_of.ensures (subst (λ n. HasPlaces n (need_in c.args.need)) (sym (c.in_ok-make_rooms.ensures.counted ∙ c.in_ok-lines.ensures)) c.requires) c.in_ok-row.ensures.empty c.in_ok-make_rooms.ensures.rooms;
 }
 
 pub returns : goal.returns
-returns c = start-is c.args.is_barrier c.args.need c.args.places c.most_needed.result c.in_ok-row.row.items c.make_rooms.new.lines.items c.new.result.items c.in_ok-row.ensures.counted c.in_ok-row.ensures.empty (c.in_ok-make_rooms.ensures.counted ∙ c.in_ok-lines.ensures) c.in_ok-make_rooms.ensures.rooms c.new.ensures.items
+returns c = start-is c.args.is_barrier c.args.need c.counts_of.result.now c.args.places c.in_ok-row.row.items c.make_rooms.new.lines.items c.new.result.items c.in_ok-row.ensures.counted c.in_ok-row.ensures.empty (c.in_ok-make_rooms.ensures.counted ∙ c.in_ok-lines.ensures) c.in_ok-make_rooms.ensures.rooms c.new.ensures.items

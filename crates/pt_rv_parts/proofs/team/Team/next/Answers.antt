@@ -2,7 +2,7 @@ use Rattle.std.proofs.Common.{get_or, ap, sym, subst, ◌∙◌, List}
 use Rattle.pt_value.specs.declared.token.Token.{Token}
 use Rattle.pt_rv_work.specs.Core.{nobody, Standing}
 use Rattle.pt_rv_parts.specs.Process.{DoesNext}
-use Rattle.pt_rv_parts.specs.Team.{firing_in}
+use Rattle.pt_rv_parts.specs.Team.{fires_in}
 use Rattle.pt_rv_parts.proofs.TeamLaws.{there-of}
 use Rattle.pt_rv_parts.proofs.team.Team.next.Goals as goal
 
@@ -13,7 +13,7 @@ next_at-requires c = record {
 }
 
 pub invariant_of-self : goal.invariant_of-self
-invariant_of-self c = c.self.invariant ∙ ap firing_in (sym c.next_at.ensures.same)
+invariant_of-self c = c.self.invariant ∙ ap fires_in (sym c.next_at.ensures.same)
 
 pub returns-clause-same : goal.returns-clause-same
 returns-clause-same c = c.next_at.ensures.same ∙ c.self.view_is
