@@ -16,6 +16,7 @@ pub(crate) enum Due {
 }
 
 /// When its wake is due: at its tag, but not before the microstep after the last firing.
+#[inline(always)]
 pub(crate) fn due_after(wake: Option<Tag>, last: Option<Tag>) -> Due
     ensures { due_of result ≡ schedule.due_after wake last }
 {
@@ -33,6 +34,7 @@ pub(crate) fn due_after(wake: Option<Tag>, last: Option<Tag>) -> Due
 }
 
 /// The lesser of the tag of an event, where there is one, and of that at which a wake is due. Past the last tag there is none.
+#[inline(always)]
 pub(crate) fn lesser(event: Option<Tag>, due: Due) -> Due
     ensures { due_of result ≡ schedule.lesser event (due_of due) }
 {
@@ -51,6 +53,7 @@ pub(crate) fn lesser(event: Option<Tag>, due: Due) -> Due
 }
 
 /// The microstep after a tag.
+#[inline(always)]
 fn one_later(tag: Tag) -> Due
     ensures { due_of result ≡ schedule.due_or_past (tags.one_later tag) }
 {
@@ -61,6 +64,7 @@ fn one_later(tag: Tag) -> Due
 }
 
 /// Whether a tag is after another.
+#[inline(always)]
 pub(crate) fn is_after(a: Tag, b: Tag) -> bool
     ensures { result ≡ not (tags.tag_le a b) }
 {

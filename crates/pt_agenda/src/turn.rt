@@ -22,6 +22,7 @@ pub enum Turn {
 
 /// What a DE top is asked next: by the stop time, if there is one, the tag of the next event on any input, the top's wake,
 /// and the tag of its last firing. Events at the stop time itself are handled.
+#[inline(always)]
 pub fn next_turn(
     stop: Option<u64>,
     event: Option<Tag>,
@@ -38,6 +39,7 @@ pub fn next_turn(
 }
 
 /// A firing at a tag, or the end where the tag is past the stop time.
+#[inline(always)]
 fn until(stop: Option<u64>, tag: Tag) -> Turn
     ensures { (inputs : List (List Event)) → turn_of inputs result ≡ schedule.fire_until (schedule.in_time stop tag) tag (schedule.events_at tag inputs) }
 {

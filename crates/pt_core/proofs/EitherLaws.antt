@@ -1,5 +1,6 @@
 -- Where two directors are lawful, one of them is.
 use Rattle.std.proofs.Common.{◌≡◌, ℕ, List, length, map, not, Option, Some, ap}
+use Rattle.std.specs.Prelude.{IsSome}
 use Rattle.pt_meaning.specs.Tag.{Tag}
 use Rattle.pt_meaning.specs.Streams.{Streams}
 use Rattle.pt_meaning.specs.Machine.{Need, Partial}
@@ -7,12 +8,14 @@ use Rattle.pt_meaning.specs.Tree.{Rows, Node, list_of, nodes_of, reset_of}
 use Rattle.pt_meaning.specs.NodeFacts.{core_wake, wakes_of}
 use Rattle.pt_value.specs.declared.token.Token.{Token}
 use Rattle.pt_firing.specs.declared.ask.Ask.{Ask}
-use Rattle.pt_firing.specs.declared.ask.Ask.TheVariants.{Fire, Early, Finished}
+use Rattle.pt_firing.specs.declared.ask.Meeting.{Meeting}
+use Rattle.pt_firing.specs.declared.ask.Ask.TheVariants.{Fire, Early, Meet, Finished}
 use Rattle.pt_records.specs.Kept.{Kept}
 use Rattle.pt_core.specs.declared.either.Either.{Either}
 use Rattle.pt_core.specs.declared.either.Either.TheVariants.{First, Other}
 use Rattle.pt_core.specs.Acts.{Beginning, Calls, Acts}
-use Rattle.pt_core.specs.Lawful.{KeepsMaximum, CallsAgree, Middle, Lawful}
+use Rattle.pt_core.specs.Met.{none_met, met_after}
+use Rattle.pt_core.specs.Lawful.{KeepsMaximum, TellsMeetings, CallsAgree, Middle, Lawful}
 use Rattle.pt_core.specs.EitherActs.{either_calls, begun_as, UnderwayFrom, either_acts}
 
 module _ {A B : Type 0} (a : Calls A) (b : Calls B) (la : CallsAgree a) (lb : CallsAgree b) where
@@ -82,8 +85,43 @@ module _ {A B : Type 0} (a : Calls A) (b : Calls B) (la : CallsAgree a) (lb : Ca
   keeps-one : KeepsMaximum (either_calls a b)
   keeps-one = record { begun = begun-max; asking = asking-max; handed = handed-max; told = told-max; heard = heard-max; closed = closed-max; restarted = restarted-max }
 
+  tells-met : (m : Meeting) (s : Either A B) → c.Gives s (Meet m) → IsSome (c.met s)
+  tells-met m (First s) q = la.tells_meetings.tells m s q
+  tells-met m (Other s) q = lb.tells_meetings.tells m s q
+
+  begun-met : (tag : Tag) (inputs : Streams Token) (s : Either A B) → c.met (c.begun tag inputs s) ≡ none_met (c.met s)
+  begun-met tag inputs (First s) = la.tells_meetings.begun tag inputs s
+  begun-met tag inputs (Other s) = lb.tells_meetings.begun tag inputs s
+
+  asking-met : (answer : Ask) (s : Either A B) → c.met (c.asking answer s) ≡ met_after answer (c.met s)
+  asking-met answer (First s) = la.tells_meetings.asking answer s
+  asking-met answer (Other s) = lb.tells_meetings.asking answer s
+
+  handed-met : (s : Either A B) → c.met (c.handed s) ≡ c.met s
+  handed-met (First s) = la.tells_meetings.handed s
+  handed-met (Other s) = lb.tells_meetings.handed s
+
+  told-met : (i : ℕ) (out : Streams Token) (wake : Option Tag) (need : Need) (s : Either A B) → c.met (c.told i out wake need s) ≡ c.met s
+  told-met i out wake need (First s) = la.tells_meetings.told i out wake need s
+  told-met i out wake need (Other s) = lb.tells_meetings.told i out wake need s
+
+  heard-met : (i : ℕ) (early : List (Partial Token)) (s : Either A B) → c.met (c.heard i early s) ≡ c.met s
+  heard-met i early (First s) = la.tells_meetings.heard i early s
+  heard-met i early (Other s) = lb.tells_meetings.heard i early s
+
+  closed-met : (s : Either A B) → c.met (c.closed s) ≡ none_met (c.met s)
+  closed-met (First s) = la.tells_meetings.closed s
+  closed-met (Other s) = lb.tells_meetings.closed s
+
+  restarted-met : (s : Either A B) → c.met (c.restarted s) ≡ none_met (c.met s)
+  restarted-met (First s) = la.tells_meetings.restarted s
+  restarted-met (Other s) = lb.tells_meetings.restarted s
+
+  tells-one-met : TellsMeetings (either_calls a b)
+  tells-one-met = record { tells = tells-met; begun = begun-met; asking = asking-met; handed = handed-met; told = told-met; heard = heard-met; closed = closed-met; restarted = restarted-met }
+
   pub either-agrees : CallsAgree (either_calls a b)
-  either-agrees = record { asked = asked-one; listened = listened-one; hands = hands-one; hands_on = on-one; asks_on = asks-one; tells = tells-one; finishes = finishes-one; restarts = restarts-one; keeps_maximum = keeps-one }
+  either-agrees = record { asked = asked-one; listened = listened-one; hands = hands-one; hands_on = on-one; asks_on = asks-one; tells = tells-one; finishes = finishes-one; restarts = restarts-one; keeps_maximum = keeps-one; tells_meetings = tells-one-met }
 
 module _ {N A B : Type 0} {rows : Rows Token N} (a : Acts rows A) (b : Acts rows B) (la : Lawful a) (lb : Lawful b) where
   abbrev e : Acts rows (Either A B)

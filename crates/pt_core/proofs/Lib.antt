@@ -1,2 +1,3 @@
+pub mod MetLaws
 pub mod EitherLaws
 pub mod ReachedLaws

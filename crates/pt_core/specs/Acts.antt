@@ -2,6 +2,7 @@
 use Rattle.std.specs.Prelude.{ℕ, List, Option, Bool}
 use Rattle.pt_meaning.specs.Tag.{Tag}
 use Rattle.pt_meaning.specs.Streams.{Streams}
+use Rattle.pt_meaning.specs.Log.{Meeting}
 use Rattle.pt_meaning.specs.Machine.{Need, Partial}
 use Rattle.pt_meaning.specs.Meetings.{Meets}
 use Rattle.pt_meaning.specs.Tree.{Rows, Core, Node, Nodes}
@@ -61,6 +62,8 @@ pub record Calls (C : Type 0) : Type 1 where
   -- the maximum capacity of a channel that its director states, 0 where it states none, and where it is full the channels that are waited for, by number, each with its length
   pub maximum : C → ℕ
   pub blocked : C → List (ℕ × ℕ)
+  -- the meetings made in the firing that is under way, in order, and None of a director that makes none
+  pub met : C → Option (List Meeting)
 
 -- How they make firings of a composite whose children are nodes of a library of actors.
 pub record Acts {A : Type 0} (rows : Rows Token A) (C : Type 0) : Type 1 where

@@ -2,6 +2,7 @@
 use Rattle.std.specs.Prelude.{ℕ, List, Option, Bool}
 use Rattle.pt_meaning.specs.Tag.{Tag}
 use Rattle.pt_meaning.specs.Streams.{Streams}
+use Rattle.pt_meaning.specs.Log.{Meeting}
 use Rattle.pt_meaning.specs.Machine.{Need, Partial}
 use Rattle.pt_meaning.specs.Tree.{Rows, Core, Node}
 use Rattle.pt_value.specs.declared.token.Token.{Token}
@@ -121,6 +122,10 @@ module _ {A B : Type 0} (a : Calls A) (b : Calls B) where
   blocked (First s) = a.blocked s
   blocked (Other s) = b.blocked s
 
+  abbrev pub met : Either A B → Option (List Meeting)
+  met (First s) = a.met s
+  met (Other s) = b.met s
+
   abbrev pub either_calls : Calls (Either A B)
   either_calls = record {
     start_of = start_of;
@@ -150,6 +155,7 @@ module _ {A B : Type 0} (a : Calls A) (b : Calls B) where
     waits = waits;
     maximum = maximum;
     blocked = blocked;
+    met = met;
   }
 
 -- a beginning, as one of a director of another kind

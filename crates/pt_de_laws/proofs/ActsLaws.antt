@@ -28,11 +28,12 @@ use Rattle.pt_records.proofs.SoFarLaws.{recorded-done}
 use Rattle.pt_core.specs.Acts.{Beginning, Acts}
 use Rattle.pt_core.specs.Lawful.{Lawful, IsUsual, IsMove, IsLentTo, IsStuck, IsLeftOff, node, outcome, below_fault}
 use Rattle.pt_core.specs.Reached.{Becomes, Stays, Fires, Always, AllAlways}
+use Rattle.pt_core.proofs.MetLaws.{tells-none}
 use Rattle.pt_core.proofs.ReachedLaws.{always-reset}
 use Rattle.pt_de_laws.specs.State.{Roles, Stage, Idle, Open, Listens, Asked, Between, Closed, MayAnswer, IsOver, rows_for, asked_child, asked_row, partial_of, own_of, in_stage, begun, asked_on, after_row, after_fired, after_told, after_heard, closed}
 use Rattle.pt_de_laws.specs.Chain.{Answers, IsFor, AsksFor, IsAmid, Underway, with_tokens, rounds_of}
 use Rattle.pt_de_laws.specs.SoFar.{DeSoFar}
-use Rattle.pt_de_laws.specs.DeActs.{State, AnswersIf, HasPlaces, Suits, MayAsk, Going, Gives, de_acts}
+use Rattle.pt_de_laws.specs.DeActs.{State, AnswersIf, HasPlaces, Suits, MayAsk, Going, Gives, de_calls, de_acts}
 use Rattle.pt_de_laws.proofs.PlaceLaws.{get-or-there}
 use Rattle.pt_de_laws.proofs.ReadyLaws.{clash, known-long}
 use Rattle.pt_de_laws.proofs.ChainLaws.{its-turn}
@@ -170,7 +171,7 @@ module _ {A : Type 0} (rows : Rows Token A) (law : LawfulRows rows) where
   usual-one s (ask.Get child) q = absurd q
   usual-one s (ask.Put child) q = absurd q
   usual-one s ask.Grow q = absurd q
-  usual-one s ask.Meet q = q
+  usual-one s (ask.Meet meeting) q = absurd q
   usual-one s ask.Await q = q
   usual-one s ask.Full q = absurd q
 
@@ -185,7 +186,7 @@ module _ {A : Type 0} (rows : Rows Token A) (law : LawfulRows rows) where
   none-moves s ask.Finished m q = m
   none-moves s (ask.Faulted kind child) m q = m
   none-moves s ask.Full m q = m
-  none-moves s ask.Meet m q = m
+  none-moves s (ask.Meet meeting) m q = q
   none-moves s ask.Await m q = m
 
   -- it fits the children as they are now
@@ -250,7 +251,7 @@ module _ {A : Type 0} (rows : Rows Token A) (law : LawfulRows rows) where
           (subst (λ t. FiresTo (λ fuel. step_at rows fuel (suc (heights b.kids)) b.meets t (Composite h (De b.before.plan) (De b.before.plan) b.kids) b.inputs) (Composite (fired_at t h) (De b.before.plan) (De b.before.plan) (nodes_of now)) (own_of s) (kept_by e b.olds) (kept_by e news)) g.tag
           (over rows b.meets b.before b.kids b.inputs b.olds s now news g.so_far h (De b.before.plan) e o f))
 
-      off-one : IsLeftOff a b h e news
+      off-one : IsLeftOff a b h e s news
       off-one =
           subst (λ t. LeavesOff (λ fuel. step_at rows fuel (suc (heights b.kids)) b.meets t (Composite h (De b.before.plan) (De b.before.plan) b.kids) b.inputs) (IsShut rows b.meets (Composite h (De b.before.plan) (De b.before.plan) b.kids) t b.inputs None) (kept_by e b.olds) (kept_by e news)) g.tag
           (off-between rows b.meets b.before b.kids b.inputs b.olds s now news g.so_far h (De b.before.plan) e law)
@@ -332,14 +333,14 @@ module _ {A : Type 0} (rows : Rows Token A) (law : LawfulRows rows) where
               (so-far.run.0, λ k o. asks-planned rows k b.meets h b.before b.kids b.inputs so-far.any (with_tokens (so-far.run.1 k o).all t) now so-far.logs (so-far.run.1 k o).course i its-row.0 its-row.1 its-row.2 child e))))
 
         module _ (h : Past) (e' : Entry Token) (k : Kept Token) where
-          sticks-one : (f : Fault) → SticksAt (λ fuel. step_at rows fuel (height child) (below_child i b.meets) s.tag child (asked_row t.stage)) (IsShut rows (below_child i b.meets) child s.tag (asked_row t.stage) (Some f)) f (kept_at news i) k → IsStuck a b h e' (below_fault i f) (set news i k)
+          sticks-one : (f : Fault) → SticksAt (λ fuel. step_at rows fuel (height child) (below_child i b.meets) s.tag child (asked_row t.stage)) (IsShut rows (below_child i b.meets) child s.tag (asked_row t.stage) (Some f)) f (kept_at news i) k → IsStuck a b h e' s (below_fault i f) (set news i k)
           sticks-one f x0 =
               subst (λ v. SticksAt (λ fuel. step_at rows fuel (suc (heights b.kids)) b.meets v (Composite h (De b.before.plan) (De b.before.plan) b.kids) b.inputs) (IsShut rows b.meets (Composite h (De b.before.plan) (De b.before.plan) b.kids) v b.inputs (Some (below_fault i f))) (below_fault i f) (kept_by e' b.olds) (kept_by e' (set news i k))) tag-is
               (stuck-within rows b.meets b.before b.kids b.inputs b.olds t now news so-far h (De b.before.plan) e' i its-row.0 its-row.1 its-row.2 child e k law f
               (subst (λ v. SticksAt (λ fuel. step_at rows fuel (height child) (below_child i b.meets) v child its-row.0) (IsShut rows (below_child i b.meets) child v its-row.0 (Some f)) f (kept_at news i) k) (sym kept.tag)
               (subst (λ (X : Streams Token). SticksAt (λ fuel. step_at rows fuel (height child) (below_child i b.meets) s.tag child X) (IsShut rows (below_child i b.meets) child s.tag X (Some f)) f (kept_at news i) k) row-is x0)))
 
-          within-one : LeavesOff (λ fuel. step_at rows fuel (height child) (below_child i b.meets) s.tag child (asked_row t.stage)) (IsShut rows (below_child i b.meets) child s.tag (asked_row t.stage) None) (kept_at news i) k → IsLeftOff a b h e' (set news i k)
+          within-one : LeavesOff (λ fuel. step_at rows fuel (height child) (below_child i b.meets) s.tag child (asked_row t.stage)) (IsShut rows (below_child i b.meets) child s.tag (asked_row t.stage) None) (kept_at news i) k → IsLeftOff a b h e' s (set news i k)
           within-one x0 =
               subst (λ v. LeavesOff (λ fuel. step_at rows fuel (suc (heights b.kids)) b.meets v (Composite h (De b.before.plan) (De b.before.plan) b.kids) b.inputs) (IsShut rows b.meets (Composite h (De b.before.plan) (De b.before.plan) b.kids) v b.inputs None) (kept_by e' b.olds) (kept_by e' (set news i k))) tag-is
               (off-within rows b.meets b.before b.kids b.inputs b.olds t now news so-far h (De b.before.plan) e' i its-row.0 its-row.1 its-row.2 child e k law
@@ -358,6 +359,7 @@ module _ {A : Type 0} (rows : Rows Token A) (law : LawfulRows rows) where
       finishes = λ s q. refl;
       restarts = λ s. (refl, refl);
       keeps_maximum = record { begun = λ tag inputs s. refl; asking = λ answer s. refl; handed = λ s. refl; told = λ i out wake need s. refl; heard = λ i early s. refl; closed = λ s. refl; restarted = λ s. refl };
+      tells_meetings = tells-none de_calls (λ s. refl) (λ m s q. q);
     };
     idle = λ s kids f. f.0;
     wakes = λ s kids f. ap (λ ws. least ws) (f.1 ∙ wakes-are rows kids);
@@ -370,8 +372,8 @@ module _ {A : Type 0} (rows : Rows Token A) (law : LawfulRows rows) where
       lends = λ i when q child e. lends-one b s now news g i q.0 child e;
       goes_on = λ i when q child next out k e f ok. goes-one b s now news g i q.0 child e next out k (subst (λ v. FiresTo (λ fuel. Step fuel rows (below_child i b.meets) child v (asked_row (asked_on s.stage i s).stage)) next out (kept_at news i) k) q.1 f);
       refuses = λ i when q child next out k there f no. clash no;
-      sticks = λ i when q child k f there x h e. sticks-one b s now news g i q.0 child there h e k f (subst (λ v. SticksAt (λ fuel. step_at rows fuel (height child) (below_child i b.meets) v child (asked_row (asked_on s.stage i s).stage)) (IsShut rows (below_child i b.meets) child v (asked_row (asked_on s.stage i s).stage) (Some f)) f (kept_at news i) k) q.1 x);
-      asks_as = λ i when q child there h. asks-one b s now news g i q.0 child there h when q.1;
+      sticks = λ i when q child k f there x h e met. sticks-one b s now news g i q.0 child there h e k f (subst (λ v. SticksAt (λ fuel. step_at rows fuel (height child) (below_child i b.meets) v child (asked_row (asked_on s.stage i s).stage)) (IsShut rows (below_child i b.meets) child v (asked_row (asked_on s.stage i s).stage) (Some f)) f (kept_at news i) k) q.1 x);
+      asks_as = λ i when q child there h met. asks-one b s now news g i q.0 child there h when q.1;
       listens = λ i when q. omega (arith, q.1.0.there, g.suits.children);
       hears = λ i when q child e. subst (λ v. Going rows b (after_heard i (early_of rows v child (partial_of s i)) s) now news) (sym q.2) (hears-one b s now news g i child e q.0 q.1);
       learns = λ i when q early. calls-are-de.learns (child_facts (facts_of rows)) _ b.before (numbered 0 (list_of b.kids)) b.inputs _ s (numbered 0 now) _ (under rows b.meets b.before b.kids b.inputs b.olds s now news g.so_far) i q.1 early;
@@ -379,11 +381,11 @@ module _ {A : Type 0} (rows : Rows Token A) (law : LawfulRows rows) where
       resets = λ i q child e. absurd q;
       rests = λ i q. absurd q;
       moves = λ answer m q. absurd (none-moves s answer m q);
-      ends = λ q h e. ends-one b s now news g h e q.0 q.1;
+      ends = λ q h e met. ends-one b s now news g h e q.0 q.1;
       fits = λ q. (refl, wakes-now b s now news g, g.suits);
       faults = λ kind q. absurd q;
       jams = λ q. absurd q;
-      off = λ h e. off-one b s now news g h e;
-      off_within = λ i when q child k there x h e. within-one b s now news g i q.0 child there h e k (subst (λ v. LeavesOff (λ fuel. step_at rows fuel (height child) (below_child i b.meets) v child (asked_row (asked_on s.stage i s).stage)) (IsShut rows (below_child i b.meets) child v (asked_row (asked_on s.stage i s).stage) None) (kept_at news i) k) q.1 x);
+      off = λ h e met. off-one b s now news g h e;
+      off_within = λ i when q child k there x h e met. within-one b s now news g i q.0 child there h e k (subst (λ v. LeavesOff (λ fuel. step_at rows fuel (height child) (below_child i b.meets) v child (asked_row (asked_on s.stage i s).stage)) (IsShut rows (below_child i b.meets) child v (asked_row (asked_on s.stage i s).stage) None) (kept_at news i) k) q.1 x);
     };
   }

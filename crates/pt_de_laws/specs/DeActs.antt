@@ -64,7 +64,7 @@ Gives s (ask.Reset child) = ⊥
 Gives s (ask.Get child) = ⊥
 Gives s (ask.Put child) = ⊥
 Gives s ask.Grow = ⊥
-Gives s ask.Meet = ⊥
+Gives s (ask.Meet meeting) = ⊥
 Gives s ask.Await = ⊥
 Gives s ask.Full = ⊥
 
@@ -77,7 +77,7 @@ asking (ask.Reset child) s = s
 asking (ask.Get child) s = s
 asking (ask.Put child) s = s
 asking ask.Grow s = s
-asking ask.Meet s = s
+asking (ask.Meet meeting) s = s
 asking ask.Await s = s
 asking ask.Full s = s
 
@@ -116,6 +116,7 @@ de_calls = record {
   waits = waits;
   maximum = λ s. 0;
   blocked = λ s. [];
+  met = λ s. None;
 }
 
 -- The wakes are those of the children, so that the least of them is the composite's.

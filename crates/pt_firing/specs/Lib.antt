@@ -3,6 +3,7 @@ pub mod IntInputs
 pub mod Outputs
 pub mod Need
 pub mod RunFault
+pub mod Meeting
 pub mod PartialCode
 pub mod TriState
 pub mod Step

@@ -1,6 +1,13 @@
 use crate::fault::RunFault;
 use pt_time::Tag;
 
+/// A meeting of a Rendezvous composite: on the channel, or of the Barrier, a child, on all its channels at once.
+#[derive(Clone, Copy, PartialEq, Eq, Debug)]
+pub enum Meeting {
+    Channel(u32),
+    Barrier(u32),
+}
+
 /// What a director's core asks for next. A number names a child, or a process.
 #[derive(Clone, Copy, PartialEq, Eq, Debug)]
 pub enum Ask {
@@ -16,8 +23,8 @@ pub enum Ask {
     Put(u32),
     /// Let a full channel grow.
     Grow,
-    /// Make a meeting.
-    Meet,
+    /// This meeting is made.
+    Meet(Meeting),
     /// Wait for a child that is away.
     Await,
     Finished,

@@ -20,7 +20,7 @@ mod tokens;
 
 pub use actor::{Actor, Fires};
 pub use answer::{Answer, Blocked, Place, Rows};
-pub use ask::Ask;
+pub use ask::{Ask, Meeting};
 pub use fault::RunFault;
 pub use gate::{Gate, OpenGate};
 pub use inputs::Inputs;

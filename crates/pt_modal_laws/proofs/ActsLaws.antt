@@ -33,10 +33,11 @@ use Rattle.pt_records.proofs.SoFarLaws.{numbered-set, numbered-nodes}
 use Rattle.pt_core.specs.Acts.{Beginning}
 use Rattle.pt_core.specs.Lawful.{Lawful, Middle, IsUsual, IsMove, IsLentTo, IsStuck, IsLeftOff, node, outcome, own_fault, below_fault}
 use Rattle.pt_core.specs.Reached.{Stays, Resets}
+use Rattle.pt_core.proofs.MetLaws.{tells-none}
 use Rattle.pt_modal_laws.specs.State.{ModalPlan, Stage, Due, Asked, Over, Closed, Failed, resets_in, in_stage, opened, with_wake, after_reset, closed, chart_in, begun, after_told}
 use Rattle.pt_modal_laws.specs.State as state
 use Rattle.pt_modal_laws.specs.Chain.{IsKnownIn, IsKnown, firing_from, IsDue, due_from, local_of, inputs_for}
-use Rattle.pt_modal_laws.specs.ModalActs.{State, Suits, MayAsk, Settles, Begins, Going, Waits, Knows, Gives, modal_acts}
+use Rattle.pt_modal_laws.specs.ModalActs.{State, Suits, MayAsk, Settles, Begins, Going, Waits, Knows, Gives, modal_calls, modal_acts}
 use Rattle.pt_modal_laws.proofs.PartLaws.{numbered-get, silents-below, map-set, due-number, known-asks, known-log, never-due, Keeps, preemptive-keeps, given-asks}
 use Rattle.pt_modal_laws.proofs.NodeLaws.{wakes-are, again-starts, suits-set, suits-again}
 use Rattle.pt_modal_laws.proofs.FiringLaws.{start, composite-at, within, off-begins, asks-one, lends-one, goes-one, sticks-one, within-one}
@@ -55,7 +56,7 @@ usual-one s (ask.Reset child) q = tt
 usual-one s (ask.Get child) q = absurd q
 usual-one s (ask.Put child) q = absurd q
 usual-one s ask.Grow q = absurd q
-usual-one s ask.Meet q = q
+usual-one s (ask.Meet meeting) q = absurd q
 usual-one s ask.Await q = q
 usual-one s ask.Full q = absurd q
 
@@ -70,7 +71,7 @@ none-moves s (ask.Reset child) m q = m
 none-moves s ask.Finished m q = m
 none-moves s (ask.Faulted kind child) m q = m
 none-moves s ask.Full m q = m
-none-moves s ask.Meet m q = m
+none-moves s (ask.Meet meeting) m q = q
 none-moves s ask.Await m q = m
 
 -- a stage is not another
@@ -103,9 +104,9 @@ module _ {M A : Type 0} (reads : M → Chart Token) (rows : Rows Token A) (law :
       goes : (child next : Node Token A) (out : Streams Token) (k : Kept Token) → get (list_of b.kids) j ≡ Some child → FiresTo (λ fuel. Step fuel rows (below_child j b.meets) child when (inputs_for reads b.before b.inputs j)) next out (kept_at b.olds j) k →
           Going reads rows b (after_told reads j out (next_of rows next) (in_stage (Asked j) due)) (set (list_of b.kids) j next) (set b.olds j k)
       sticks : (child : Node Token A) (k : Kept Token) (f : Fault) → get (list_of b.kids) j ≡ Some child → SticksAt (λ fuel. step_at rows fuel (height child) (below_child j b.meets) when child (inputs_for reads b.before b.inputs j)) (IsShut rows (below_child j b.meets) child when (inputs_for reads b.before b.inputs j) (Some f)) f (kept_at b.olds j) k →
-          (h : Past) (e : Entry Token) → IsStuck (modal_acts reads rows) b h e (below_fault j f) (set b.olds j k)
+          (h : Past) (e : Entry Token) → IsStuck (modal_acts reads rows) b h e due (below_fault j f) (set b.olds j k)
       off : (child : Node Token A) (k : Kept Token) → get (list_of b.kids) j ≡ Some child → LeavesOff (λ fuel. step_at rows fuel (height child) (below_child j b.meets) when child (inputs_for reads b.before b.inputs j)) (IsShut rows (below_child j b.meets) child when (inputs_for reads b.before b.inputs j) None) (kept_at b.olds j) k →
-          (h : Past) (e : Entry Token) → IsLeftOff (modal_acts reads rows) b h e (set b.olds j k)
+          (h : Past) (e : Entry Token) → IsLeftOff (modal_acts reads rows) b h e due (set b.olds j k)
       asks : (child : Node Token A) → get (list_of b.kids) j ≡ Some child → (h : Past) →
           FromSome (λ k. IsAsked (child_facts (facts_of rows)) (steps_below rows k (heights b.kids) b.meets) (b.meets [] h.made) h.made (Modal (chart_in reads b.before) b.before.modes) (numbered 0 (list_of b.kids)) b.tag b.inputs j (record { number = j; node = child }) when (inputs_for reads b.before b.inputs j))
 
@@ -130,8 +131,8 @@ module _ {M A : Type 0} (reads : M → Chart Token) (rows : Rows Token A) (law :
       lends = λ j when q child e. (asked-so j when q).lends child e;
       goes_on = λ j when q child next out k e f ok. (asked-so j when q).goes child next out k e f;
       refuses = λ j when q child next out k e f no. absurd (clash no);
-      sticks = λ j when q child k f e x h c. (asked-so j when q).sticks child k f e x h c;
-      asks_as = λ j when q child e h. (asked-so j when q).asks child e h;
+      sticks = λ j when q child k f e x h c met. (asked-so j when q).sticks child k f e x h c;
+      asks_as = λ j when q child e h met. (asked-so j when q).asks child e h;
       listens = λ j when q. absurd q;
       hears = λ j when q child e. absurd q;
       learns = λ j when q early. absurd q;
@@ -139,12 +140,12 @@ module _ {M A : Type 0} (reads : M → Chart Token) (rows : Rows Token A) (law :
       resets = λ j q child e. absurd (due-resets i j q);
       rests = λ j q. absurd (due-resets i j q);
       moves = λ answer m q. absurd (none-moves due answer m q);
-      ends = λ q h c. absurd (due-over i q);
+      ends = λ q h c met. absurd (due-over i q);
       fits = λ q. absurd (due-over i q);
       faults = λ kind q. absurd (due-failed i (code_of kind) q);
       jams = λ q. absurd q;
-      off = λ h c. off-begins reads rows law b w i d h c;
-      off_within = λ j when q child k e x h c. (asked-so j when q).off child k e x h c;
+      off = λ h c met. off-begins reads rows law b w i d h c;
+      off_within = λ j when q child k e x h c met. (asked-so j when q).off child k e x h c;
     }
 
   -- it is known what the firing comes to
@@ -179,7 +180,7 @@ module _ {M A : Type 0} (reads : M → Chart Token) (rows : Rows Token A) (law :
       shut-so : IsShut rows b.meets before-node b.tag b.inputs None the_log
       shut-so = subst (λ (l : Log Token). IsShut rows b.meets before-node b.tag b.inputs None l) (log-so h x.known.0 (omega arith)) (stepped-is-shut rows law b.meets before-node x.known.0 (suc (heights b.kids)) (omega arith) b.tag b.inputs)
 
-      off-so : IsLeftOff (modal_acts reads rows) b h e news
+      off-so : IsLeftOff (modal_acts reads rows) b h e s news
       off-so = record {
         log = the_log;
         beginning = (x.known.0, λ k o. subst (λ (l : Log Token). LogBelow the_log l) (sym (log-so h k o)) (log-refl the_log));
@@ -187,7 +188,7 @@ module _ {M A : Type 0} (reads : M → Chart Token) (rows : Rows Token A) (law :
         part = shut-so;
       }
 
-      faults-so : (kind : RunFault) → s.stage ≡ Failed (code_of kind) → IsStuck (modal_acts reads rows) b h e (own_fault h kind) news
+      faults-so : (kind : RunFault) → s.stage ≡ Failed (code_of kind) → IsStuck (modal_acts reads rows) b h e s (own_fault h kind) news
       faults-so kind q = record {
         log = the_log;
         stuck = (
@@ -249,8 +250,8 @@ module _ {M A : Type 0} (reads : M → Chart Token) (rows : Rows Token A) (law :
       lends = λ i when q child e. absurd (never i q.0);
       goes_on = λ i when q child next out k e f ok. absurd (never i q.0);
       refuses = λ i when q child next out k e f no. absurd (clash no);
-      sticks = λ i when q child k f e x h c. absurd (never i q.0);
-      asks_as = λ i when q child e h. absurd (never i q.0);
+      sticks = λ i when q child k f e x h c met. absurd (never i q.0);
+      asks_as = λ i when q child e h met. absurd (never i q.0);
       listens = λ i when q. absurd q;
       hears = λ i when q child e. absurd q;
       learns = λ i when q early. absurd q;
@@ -258,12 +259,12 @@ module _ {M A : Type 0} (reads : M → Chart Token) (rows : Rows Token A) (law :
       resets = λ i q child e. resets-so i q child e;
       rests = λ i q. none-left s i q;
       moves = λ answer m q. absurd (none-moves s answer m q);
-      ends = λ q h c. ends-so h c q;
+      ends = λ q h c met. ends-so h c q;
       fits = λ q. (refl, fits-so.0, fits-so.1);
-      faults = λ kind q h c. faults-so h c kind q;
+      faults = λ kind q h c met. faults-so h c kind q;
       jams = λ q. absurd q;
-      off = λ h c. off-so h c;
-      off_within = λ i when q child k e x h c. absurd (never i q.0);
+      off = λ h c met. off-so h c;
+      off_within = λ i when q child k e x h c met. absurd (never i q.0);
     }
 
   -- a reaction begins
@@ -330,6 +331,7 @@ modal-is-lawful reads rows law = record {
     finishes = λ s q. refl;
     restarts = λ s. (refl, refl);
     keeps_maximum = record { begun = λ tag inputs s. refl; asking = λ answer s. refl; handed = λ s. refl; told = λ i out wake need s. refl; heard = λ i early s. refl; closed = λ s. refl; restarted = λ s. refl };
+    tells_meetings = tells-none (modal_calls reads) (λ s. refl) (λ m s q. q);
   };
   idle = λ s kids f. f.0;
   wakes = λ s kids f. ap (λ ws. modal_wake ((chart_in reads s).refinement s.modes.mode) s.modes.stays ws) (f.1 ∙ wakes-are rows kids);

@@ -118,7 +118,7 @@ module _ {M A : Type 0} (reads : M → Chart Token) (rows : Rows Token A) (law :
     kept-begins : (l : Log Token) (k : Kept Token) → GrewBy l (kept_at b.olds i) k → (h : Past) (e : Entry Token) → GrewBy (within_firing h.made (log_below (logs_then i l quiet))) (kept_by e b.olds) (kept_by e (set b.olds i k))
     kept-begins l k g h e = grew-within h.made (logs_then i l quiet) e b.olds (set b.olds i k) (all-go-on i l quiet b.olds b.olds k within-olds (all-begin first b.olds (numbered-length 0 kids ∙ w.kept)) g)
 
-    pub off-begins : (h : Past) (e : Entry Token) → IsLeftOff a b h e b.olds
+    pub off-begins : (h : Past) (e : Entry Token) → IsLeftOff a b h e due b.olds
     off-begins h e = record {
       log = within_firing h.made (log_below quiet);
       beginning = (0, λ k o. log-at h k (log_below quiet) (subst (λ (l : Log Token). LogBelow l (log_in (fired-so h k))) (sym (silents-below first)) (λ p. tt)));
@@ -205,7 +205,7 @@ module _ {M A : Type 0} (reads : M → Chart Token) (rows : Rows Token A) (law :
         log-within : (j : ℕ) (l n : Log Token) → LogBelow l n → LogBelow (log_below (logs_then i l quiet)) (below_number i n)
         log-within j l n g = subst (λ (m : Log Token). LogBelow m (below_number i n)) (number-below i l first within-first) (number-grows i l n g)
 
-        pub sticks-one : (f : Fault) → SticksAt its-outcome (IsShut rows (below_child i b.meets) child when got (Some f)) f (kept_at b.olds i) k → IsStuck a b h e (below_fault i f) (set b.olds i k)
+        pub sticks-one : (f : Fault) → SticksAt its-outcome (IsShut rows (below_child i b.meets) child when got (Some f)) f (kept_at b.olds i) k → IsStuck a b h e due (below_fault i f) (set b.olds i k)
         sticks-one f x = record {
           log = so-far x.log;
           stuck = (
@@ -233,7 +233,7 @@ module _ {M A : Type 0} (reads : M → Chart Token) (rows : Rows Token A) (law :
             subst (λ v. LogBelow (log_below (logs_then i l quiet)) (log_in v)) (sym ((calls-are-modal reads).sticks its-facts (steps j) h.made b.before first b.tag b.inputs i d it fs n it-is (its-step j (Stuck fs n) g)))
             (log-within j l n x)
 
-        pub within-one : LeavesOff its-outcome (IsShut rows (below_child i b.meets) child when got None) (kept_at b.olds i) k → IsLeftOff a b h e (set b.olds i k)
+        pub within-one : LeavesOff its-outcome (IsShut rows (below_child i b.meets) child when got None) (kept_at b.olds i) k → IsLeftOff a b h e due (set b.olds i k)
         within-one x = record {
           log = so-far x.log;
           beginning = (x.beginning.0, λ j o. log-at h j (log_below (logs_then i x.log quiet)) (log-of-it j (its-outcome j) refl x.log (x.beginning.1 j o)));

@@ -49,7 +49,7 @@ Gives s (ask.Early child tag) = ⊥
 Gives s (ask.Get child) = ⊥
 Gives s (ask.Put child) = ⊥
 Gives s ask.Grow = ⊥
-Gives s ask.Meet = ⊥
+Gives s (ask.Meet meeting) = ⊥
 Gives s ask.Await = ⊥
 Gives s ask.Full = ⊥
 
@@ -62,7 +62,7 @@ asking (ask.Early child tag) s = s
 asking (ask.Get child) s = s
 asking (ask.Put child) s = s
 asking ask.Grow s = s
-asking ask.Meet s = s
+asking (ask.Meet meeting) s = s
 asking ask.Await s = s
 asking ask.Full s = s
 
@@ -125,6 +125,7 @@ module _ {M : Type 0} (reads : M → Chart Token) where
     waits = λ s. resets_in s.stage;
     maximum = λ s. 0;
     blocked = λ s. [];
+    met = λ s. None;
   }
 
   -- The wakes are those of the children, of which that of the mode's refinement is the composite's, with the lag added.

@@ -71,6 +71,7 @@ impl Node {
     }
 
     /// Whether it begins by itself, and so has the wake 0.0 until it fires for the first time.
+    #[inline(always)]
     fn begins(&self) -> bool
         ensures { result ≡ begins (shown_node self.now) }
     {
@@ -131,6 +132,7 @@ impl Node {
     }
 
     /// Notes what a firing gave on the recorded outputs. Nothing is recorded by that.
+    #[inline(always)]
     pub fn note(&mut self, alloc: Global, tag: Tag, outputs: &Outputs) -> Result<(), AllocError>
         ensures noted { IfOk result (λ _. shown_node self.new ≡ noted tag outputs.now (shown_node self.old)) }
         ensures kept { bare (shown_node self.new) ≡ bare (shown_node self.old) }

@@ -68,6 +68,7 @@ impl Recorded {
     }
 
     /// Notes what a firing gave, in place of what was noted before.
+    #[inline(always)]
     pub fn note(&mut self, alloc: Global, tag: Tag, outputs: &Outputs) -> Result<(), AllocError>
         ensures noted { IfOk result (λ _. self.new ≡ noting tag outputs.now self.old) }
         ensures recorded { unnoted self.new ≡ unnoted self.old }
@@ -138,6 +139,7 @@ impl Records {
     }
 
     /// Notes what a firing gave on each of them. After want of memory nothing more is recorded.
+    #[inline(always)]
     pub fn note(&mut self, alloc: Global, tag: Tag, outputs: &Outputs) -> Result<(), AllocError>
         ensures noted { IfOk result (λ _. self.new ≡ map (noting tag outputs.now) self.old) }
         ensures recorded { map unnoted self.new ≡ map unnoted self.old }

@@ -28,6 +28,7 @@ use Rattle.pt_records.proofs.SoFarLaws.{recorded-done}
 use Rattle.pt_core.specs.Acts.{Beginning, Acts}
 use Rattle.pt_core.specs.Lawful.{Lawful, IsUsual, IsMove, IsLentTo, IsStuck, IsLeftOff, node, outcome, below_fault}
 use Rattle.pt_core.specs.Reached.{Becomes, Stays, Fires, Resets, Always, AllAlways}
+use Rattle.pt_core.proofs.MetLaws.{tells-none}
 use Rattle.pt_core.proofs.ReachedLaws.{always-reset}
 use Rattle.pt_pn_laws.specs.State.{Network, Closed, MayFire, MayGrow, IsFull, IsOver, net_of, got_of, held_of, in_stage, grown_by, begun, least_full, after_grow, after_told, own_of, closed, restarted, started, blocked_of, waits}
 use Rattle.pt_pn_laws.specs.Lawful.{HasPlaces, AllCount}
@@ -105,7 +106,7 @@ module _ {A : Type 0} (rows : Rows Token A) where
     moves-one (ask.Early child tag) m q = absurd m
     moves-one (ask.Reset child) m q = absurd m
     moves-one (ask.Faulted kind child) m q = absurd m
-    moves-one ask.Meet m q = absurd m
+    moves-one (ask.Meet meeting) m q = absurd q
     moves-one ask.Await m q = absurd m
 
     lends-one : (i : ℕ) → i < length (net_of s).places → (child : Node Token A) → get now i ≡ Some child → IsLentTo rows child (got_of s i)
@@ -177,7 +178,7 @@ usual-one s (ask.Early child tag) q = absurd q
 usual-one s (ask.Reset child) q = absurd q
 usual-one s (ask.Faulted kind (Some child)) q = absurd q
 usual-one s (ask.Faulted kind None) q = absurd q
-usual-one s ask.Meet q = absurd q
+usual-one s (ask.Meet meeting) q = absurd q
 usual-one s ask.Await q = absurd q
 
 clash : true ≡ false → ⊥
@@ -194,18 +195,18 @@ module _ {A : Type 0} (rows : Rows Token A) (law : LawfulRows rows) (b : Beginni
         subst (λ t. FiresTo (outcome_of rows b.meets h b.before b.kids t b.inputs) (composite_of (fired_at t h) (closed s) (nodes_of now)) (own_of s) (kept_by e b.olds) (kept_by e news)) g.tag
         (firings-are-pn.ends rows b.meets b.before b.kids b.inputs b.olds s now news g.so_far o h e)
 
-    off-one : IsLeftOff a b h e news
+    off-one : IsLeftOff a b h e s news
     off-one =
         subst (λ t. LeavesOff (outcome_of rows b.meets h b.before b.kids t b.inputs) (IsShut rows b.meets (composite_of h b.before b.kids) t b.inputs None) (kept_by e b.olds) (kept_by e news)) g.tag
         (firings-are-pn.off rows law b.meets b.before b.kids b.inputs b.olds s now news g.so_far h e)
 
     module _ (i : ℕ) (may : MayFire s i) (child : Node Token A) (k : Kept Token) (there : get now i ≡ Some child) where
-      sticks-one : (f : Fault) → SticksAt (child_outcome rows b.meets s i child) (IsShut rows (below_child i b.meets) child s.tag (got_of s i) (Some f)) f (kept_at news i) k → IsStuck a b h e (below_fault i f) (set news i k)
+      sticks-one : (f : Fault) → SticksAt (child_outcome rows b.meets s i child) (IsShut rows (below_child i b.meets) child s.tag (got_of s i) (Some f)) f (kept_at news i) k → IsStuck a b h e s (below_fault i f) (set news i k)
       sticks-one f x =
           subst (λ t. SticksAt (outcome_of rows b.meets h b.before b.kids t b.inputs) (IsShut rows b.meets (composite_of h b.before b.kids) t b.inputs (Some (below_fault i f))) (below_fault i f) (kept_by e b.olds) (kept_by e (set news i k))) g.tag
           (firings-are-pn.sticks rows law b.meets b.before b.kids b.inputs b.olds s now news g.so_far i may child k f there x h e)
 
-      within-one : LeavesOff (child_outcome rows b.meets s i child) (IsShut rows (below_child i b.meets) child s.tag (got_of s i) None) (kept_at news i) k → IsLeftOff a b h e (set news i k)
+      within-one : LeavesOff (child_outcome rows b.meets s i child) (IsShut rows (below_child i b.meets) child s.tag (got_of s i) None) (kept_at news i) k → IsLeftOff a b h e s (set news i k)
       within-one x =
           subst (λ t. LeavesOff (outcome_of rows b.meets h b.before b.kids t b.inputs) (IsShut rows b.meets (composite_of h b.before b.kids) t b.inputs None) (kept_by e b.olds) (kept_by e (set news i k))) g.tag
           (firings-are-pn.off_within rows law b.meets b.before b.kids b.inputs b.olds s now news g.so_far i may child k there x h e)
@@ -241,7 +242,7 @@ asking-keeps ask.Full s = refl
 asking-keeps (ask.Early child tag) s = refl
 asking-keeps (ask.Reset child) s = refl
 asking-keeps (ask.Faulted kind child) s = refl
-asking-keeps ask.Meet s = refl
+asking-keeps (ask.Meet meeting) s = refl
 asking-keeps ask.Await s = refl
 
 pub pn-is-lawful : {A : Type 0} (rows : Rows Token A) → LawfulRows rows → Lawful (pn_acts rows)
@@ -256,6 +257,7 @@ pn-is-lawful rows law = record {
     finishes = λ s q. refl;
     restarts = λ s. (ap (λ X. tree.Pn s.network.plan X) (joined-first (total s.network.plan.net.places) s.network.first), refl);
     keeps_maximum = record { begun = λ tag inputs s. refl; asking = asking-keeps; handed = λ s. refl; told = λ i out wake need s. refl; heard = λ i early s. refl; closed = λ s. refl; restarted = λ s. refl };
+    tells_meetings = tells-none pn_calls (λ s. refl) (λ m s q. q);
   };
   idle = λ s kids f. f.idle;
   wakes = λ s kids f. refl;
@@ -268,8 +270,8 @@ pn-is-lawful rows law = record {
     lends = λ i when q child e. lends-one rows b s now news g i q.1.there child e;
     goes_on = λ i when q child next out k e f ok. goes-one rows b s now news g i when q child next out k e f;
     refuses = λ i when q child next out k there f no. absurd (clash no);
-    sticks = λ i when q child k f there x h e. sticks-one rows law b s now news g h e i q.1 child k there f (subst (λ t. SticksAt (λ fuel. step_at rows fuel (height child) (below_child i b.meets) t child (got_of s i)) (IsShut rows (below_child i b.meets) child t (got_of s i) (Some f)) f (kept_at news i) k) q.2 x);
-    asks_as = λ i when q child there h. asks-one rows law b s now news g i q.1 child there h when q.2;
+    sticks = λ i when q child k f there x h e met. sticks-one rows law b s now news g h e i q.1 child k there f (subst (λ t. SticksAt (λ fuel. step_at rows fuel (height child) (below_child i b.meets) t child (got_of s i)) (IsShut rows (below_child i b.meets) child t (got_of s i) (Some f)) f (kept_at news i) k) q.2 x);
+    asks_as = λ i when q child there h met. asks-one rows law b s now news g i q.1 child there h when q.2;
     listens = λ i when q. absurd q;
     hears = λ i when q child e. absurd q;
     learns = λ i when q early. absurd q;
@@ -277,11 +279,11 @@ pn-is-lawful rows law = record {
     resets = λ i q child e. absurd q;
     rests = λ i q. absurd q;
     moves = λ answer m q. moves-one rows b s now news g answer m q;
-    ends = λ q h e. ends-one rows law b s now news g h e q.1;
+    ends = λ q h e met. ends-one rows law b s now news g h e q.1;
     fits = λ q. fits-one rows b s now news g q;
     faults = λ kind q. absurd q;
-    jams = λ q h maximum count most made each. jams-one rows law b s now news g q.1 h maximum count most made each;
-    off = λ h e. off-one rows law b s now news g h e;
-    off_within = λ i when q child k there x h e. within-one rows law b s now news g h e i q.1 child k there (subst (λ t. LeavesOff (λ fuel. step_at rows fuel (height child) (below_child i b.meets) t child (got_of s i)) (IsShut rows (below_child i b.meets) child t (got_of s i) None) (kept_at news i) k) q.2 x);
+    jams = λ q h met maximum count most made each. jams-one rows law b s now news g q.1 h maximum count most made each;
+    off = λ h e met. off-one rows law b s now news g h e;
+    off_within = λ i when q child k there x h e met. within-one rows law b s now news g h e i q.1 child k there (subst (λ t. LeavesOff (λ fuel. step_at rows fuel (height child) (below_child i b.meets) t child (got_of s i)) (IsShut rows (below_child i b.meets) child t (got_of s i) None) (kept_at news i) k) q.2 x);
   };
 }

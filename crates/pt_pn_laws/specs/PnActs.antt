@@ -37,7 +37,7 @@ Gives s ask.Full = (s.stage ≡ Open) × IsFull s
 Gives s (ask.Early child tag) = ⊥
 Gives s (ask.Reset child) = ⊥
 Gives s (ask.Faulted kind child) = ⊥
-Gives s ask.Meet = ⊥
+Gives s (ask.Meet meeting) = ⊥
 Gives s ask.Await = ⊥
 
 abbrev pub asking : Ask → State → State
@@ -50,7 +50,7 @@ asking ask.Full s = in_stage Blocked s
 asking (ask.Early child tag) s = s
 asking (ask.Reset child) s = s
 asking (ask.Faulted kind child) s = s
-asking ask.Meet s = s
+asking (ask.Meet meeting) s = s
 asking ask.Await s = s
 
 -- A network fits these children, whatever they fire: each needs a count for each of its places, or is over, and at its start what the network says.
@@ -102,6 +102,7 @@ pn_calls = record {
   waits = waits;
   maximum = λ s. s.network.maximum;
   blocked = blocked_of;
+  met = λ s. None;
 }
 
 abbrev pub pn_acts : {A : Type 0} (rows : Rows Token A) → Acts rows State

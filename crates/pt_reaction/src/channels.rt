@@ -93,6 +93,7 @@ impl Channels {
     }
 
     /// Puts the first token on a channel that has none. It takes no memory.
+    #[inline(always)]
     pub fn put_first(&mut self, c: usize, token: Token)
         requires there { c < length self.old.lists }
         requires empty { at self.old.lists c ≡ [] }

@@ -1,4 +1,4 @@
--- The calls of the core are lawful, with the meetings made in a firing.
+-- The calls of the core are lawful.
 use Rattle.std.proofs.Common.{◌≡◌, ◌⊎◌, inl, inr, ℕ, zero, suc, ◌<◌, List, [], ◌∷◌, true, false, length, map, set, get_or, Some, None, refl, sym, ap, ap₂, subst, ◌∙◌, arith, length-set}
 use Rattle.std.specs.Prelude.{IsSome}
 use Rattle.std.proofs.lemmas.Bool.{cases_eq}
@@ -18,19 +18,22 @@ use Rattle.pt_meaning.specs.Asked.{IsAsked}
 use Rattle.pt_laws.specs.CompositeRuns.{steps_below}
 use Rattle.pt_laws.specs.SoundRuns.{count_at}
 use Rattle.pt_value.specs.declared.token.Token.{Token}
+use Rattle.pt_firing.specs.declared.ask.Ask.{Ask}
+use Rattle.pt_firing.specs.declared.ask.Ask.TheVariants as ask
+use Rattle.pt_firing.specs.Meeting.{meeting_of}
 use Rattle.pt_records.specs.Kept.{Kept, Entry, kept_at, kept_by}
 use Rattle.pt_records.specs.Fired.{FromSome, FiresTo, SticksAt, LeavesOff}
 use Rattle.pt_records.specs.Shut.{IsShut}
 use Rattle.pt_records.proofs.SoFarLaws.{recorded-done}
 use Rattle.pt_core.specs.Acts.{Beginning}
-use Rattle.pt_core.specs.Lawful.{IsLentTo, node, outcome, below_fault}
+use Rattle.pt_core.specs.Met.{AreMet, entry_with, met_after}
+use Rattle.pt_core.specs.Lawful.{Lawful, IsUsual, IsMove, IsLentTo, IsStuck, IsLeftOff, node, outcome, below_fault}
 use Rattle.pt_core.specs.Reached.{Becomes, Stays, Fires, Resets, Always, AllAlways}
 use Rattle.pt_core.proofs.ReachedLaws.{always-reset}
 use Rattle.pt_rv_laws.specs.State.{Closed, MayFire, IsLegal, IsOver, net_of, got_of, in_stage, begun, after_meet, after_told, closed, restarted, started, waits}
 use Rattle.pt_rv_laws.specs.Lawful.{HasPlaces, AllCount}
-use Rattle.pt_rv_laws.specs.SoFar.{AreMet, entry_with, composite_of, outcome_of, child_outcome}
-use Rattle.pt_rv_laws.specs.RvActs as acts
-use Rattle.pt_rv_laws.specs.RvActs.{State, MayAsk, Gives, asking, Going, Fits, IsStuck, IsLeftOff, rv_acts, RvLawful}
+use Rattle.pt_rv_laws.specs.SoFar.{composite_of, outcome_of, child_outcome}
+use Rattle.pt_rv_laws.specs.RvActs.{State, MayAsk, Gives, asking, Going, Fits, rv_calls, rv_acts}
 use Rattle.pt_rv_laws.proofs.ChainLaws.{calls-are-rv}
 use Rattle.pt_rv_laws.proofs.FireLaws as fire
 use Rattle.pt_rv_laws.proofs.SoFarLaws.{under, firings-are-rv}
@@ -98,6 +101,19 @@ module _ {A : Type 0} (rows : Rows Token A) where
         let r = firings-are-rv.meets rows b.meets b.before b.kids b.inputs b.olds s now news g.so_far m legal in
         (record { stage = g.stage; tag = g.tag; suits = record { children = g.suits.children; counts = g.suits.counts; starts = g.suits.starts }; so_far = r.0 }, r.1)
 
+    moves-one : (answer : Ask) → IsMove answer → Gives s answer → Going rows b (asking answer s) now news × (waits (asking answer s) < waits s)
+    moves-one (ask.Meet meeting) m q = meets-one (meeting_of meeting) q.2
+    moves-one (ask.Get child) m q = absurd q
+    moves-one (ask.Put child) m q = absurd q
+    moves-one ask.Grow m q = absurd q
+    moves-one (ask.Fire child tag) m q = absurd m
+    moves-one (ask.Early child tag) m q = absurd m
+    moves-one (ask.Reset child) m q = absurd m
+    moves-one ask.Await m q = absurd m
+    moves-one ask.Finished m q = absurd m
+    moves-one (ask.Faulted kind child) m q = absurd m
+    moves-one ask.Full m q = absurd m
+
     there-one : (i : ℕ) → MayFire s i → i < length now
     there-one i may =
         let l = fire.there (child_facts (facts_of rows)) (steps_below rows g.so_far.run.0 (heights b.kids) b.meets) b.before (numbered 0 (list_of b.kids)) b.inputs s g.so_far.made (numbered 0 now) g.so_far.logs (under rows b.meets b.before b.kids b.inputs b.olds s now news g.so_far) i may in
@@ -112,8 +128,8 @@ module _ {A : Type 0} (rows : Rows Token A) where
           u.sized.rooms.gathers i ∙ sym c;
     }
 
-    goes-one : (i : ℕ) (when : Tag) → Gives s (acts.Fire i when) → (child next : Node Token A) (out : Streams Token) (k : Kept Token) → get now i ≡ Some child → FiresTo (λ fuel. Step fuel rows (below_child i b.meets) child when (got_of s i)) next out (kept_at news i) k →
-        Going rows b (after_told i out (need_of rows next) (asking (acts.Fire i when) s)) (set now i next) (set news i k)
+    goes-one : (i : ℕ) (when : Tag) → Gives s (ask.Fire i when) → (child next : Node Token A) (out : Streams Token) (k : Kept Token) → get now i ≡ Some child → FiresTo (λ fuel. Step fuel rows (below_child i b.meets) child when (got_of s i)) next out (kept_at news i) k →
+        Going rows b (after_told i out (need_of rows next) (asking (ask.Fire i when) s)) (set now i next) (set news i k)
     goes-one i when q child next out k e fires =
         let f : FiresTo (λ fuel. Step fuel rows (below_child i b.meets) child s.tag (got_of s i)) next out (kept_at news i) k = subst (λ t. FiresTo (λ fuel. Step fuel rows (below_child i b.meets) child t (got_of s i)) next out (kept_at news i) k) q.2 fires in
         record {
@@ -132,7 +148,7 @@ module _ {A : Type 0} (rows : Rows Token A) where
             let r = recorded-done (made_of child) s.tag (got_of s i) (step_at rows f.done.0 (height child) (below_child i b.meets) s.tag child (got_of s i)) next out f.log (f.done.1 f.done.0 (omega arith)) in
             Fires child next later f.done.0 (height child) (below_child i b.meets) s.tag (got_of s i) out r.0 r.1 m
 
-    fits-one : Gives s acts.Finished → Fits rows (closed (asking acts.Finished s)) now
+    fits-one : Gives s ask.Finished → Fits rows (closed (asking ask.Finished s)) now
     fits-one q = record {
       idle = refl;
       fitting = firings-are-rv.rests rows b.meets b.before b.kids b.inputs b.olds s now news g.so_far q.1;
@@ -153,18 +169,18 @@ module _ {A : Type 0} (rows : Rows Token A) (law : LawfulRows rows) (b : Beginni
         subst (λ t. FiresTo (outcome_of rows b.meets h b.before b.kids t b.inputs) (composite_of (fired_at t h) (closed s) (nodes_of now)) s.outputs (kept_by e b.olds) (kept_by entry news)) g.tag
         (firings-are-rv.ends rows b.meets b.before b.kids b.inputs b.olds s now news g.so_far o h e met)
 
-    off-one : IsLeftOff rows b h e s news
+    off-one : IsLeftOff (rv_acts rows) b h e s news
     off-one =
         subst (λ t. LeavesOff (outcome_of rows b.meets h b.before b.kids t b.inputs) (IsShut rows b.meets (composite_of h b.before b.kids) t b.inputs None) (kept_by e b.olds) (kept_by entry news)) g.tag
         (firings-are-rv.off rows law b.meets b.before b.kids b.inputs b.olds s now news g.so_far h e met)
 
     module _ (i : ℕ) (may : MayFire s i) (child : Node Token A) (k : Kept Token) (there : get now i ≡ Some child) where
-      within-one : LeavesOff (child_outcome rows b.meets s i child) (IsShut rows (below_child i b.meets) child s.tag (got_of s i) None) (kept_at news i) k → IsLeftOff rows b h e s (set news i k)
+      within-one : LeavesOff (child_outcome rows b.meets s i child) (IsShut rows (below_child i b.meets) child s.tag (got_of s i) None) (kept_at news i) k → IsLeftOff (rv_acts rows) b h e s (set news i k)
       within-one x =
           subst (λ t. LeavesOff (outcome_of rows b.meets h b.before b.kids t b.inputs) (IsShut rows b.meets (composite_of h b.before b.kids) t b.inputs None) (kept_by e b.olds) (kept_by entry (set news i k))) g.tag
           (firings-are-rv.off_within rows law b.meets b.before b.kids b.inputs b.olds s now news g.so_far i may child k there x h e met)
 
-      sticks-one : (f : Fault) → SticksAt (child_outcome rows b.meets s i child) (IsShut rows (below_child i b.meets) child s.tag (got_of s i) (Some f)) f (kept_at news i) k → IsStuck rows b h e s (below_fault i f) (set news i k)
+      sticks-one : (f : Fault) → SticksAt (child_outcome rows b.meets s i child) (IsShut rows (below_child i b.meets) child s.tag (got_of s i) (Some f)) f (kept_at news i) k → IsStuck (rv_acts rows) b h e s (below_fault i f) (set news i k)
       sticks-one f x =
           subst (λ t. SticksAt (outcome_of rows b.meets h b.before b.kids t b.inputs) (IsShut rows b.meets (composite_of h b.before b.kids) t b.inputs (Some (below_fault i f))) (below_fault i f) (kept_by e b.olds) (kept_by entry (set news i k))) g.tag
           (firings-are-rv.sticks rows law b.meets b.before b.kids b.inputs b.olds s now news g.so_far i may child k f there x h e met)
@@ -176,7 +192,35 @@ module _ {A : Type 0} (rows : Rows Token A) (law : LawfulRows rows) (b : Beginni
     asks-one : (when : Tag) → when ≡ s.tag → AskedFor b.tag when
     asks-one when e = subst (λ t. AskedFor b.tag t) (sym e) (subst (λ t. AskedFor t s.tag) g.tag (firings-are-rv.asks rows b.meets b.before b.kids b.inputs b.olds s now news g.so_far i may child there h listed))
 
-pub rv-is-lawful : {A : Type 0} (rows : Rows Token A) → LawfulRows rows → RvLawful rows
+usual-one : (s : State) (answer : Ask) → Gives s answer → IsUsual answer
+usual-one s (ask.Fire child tag) q = tt
+usual-one s (ask.Meet meeting) q = tt
+usual-one s ask.Finished q = tt
+usual-one s (ask.Early child tag) q = absurd q
+usual-one s (ask.Reset child) q = absurd q
+usual-one s (ask.Get child) q = absurd q
+usual-one s (ask.Put child) q = absurd q
+usual-one s ask.Grow q = absurd q
+usual-one s ask.Await q = absurd q
+usual-one s (ask.Faulted kind (Some child)) q = absurd q
+usual-one s (ask.Faulted kind None) q = absurd q
+usual-one s ask.Full q = absurd q
+
+-- a meeting that it tells is made, and the others stay
+asking-met : (answer : Ask) (s : State) → rv_calls.met (asking answer s) ≡ met_after answer (rv_calls.met s)
+asking-met (ask.Fire child tag) s = refl
+asking-met (ask.Meet meeting) s = refl
+asking-met ask.Finished s = refl
+asking-met (ask.Early child tag) s = refl
+asking-met (ask.Reset child) s = refl
+asking-met (ask.Get child) s = refl
+asking-met (ask.Put child) s = refl
+asking-met ask.Grow s = refl
+asking-met ask.Await s = refl
+asking-met (ask.Faulted kind child) s = refl
+asking-met ask.Full s = refl
+
+pub rv-is-lawful : {A : Type 0} (rows : Rows Token A) → LawfulRows rows → Lawful (rv_acts rows)
 rv-is-lawful rows law = record {
   agree = record {
     asked = λ s i when q. refl;
@@ -188,22 +232,32 @@ rv-is-lawful rows law = record {
     finishes = λ s q. refl;
     restarts = λ s. (refl, refl);
     keeps_maximum = record { begun = λ tag inputs s. refl; asking = λ answer s. refl; handed = λ s. refl; told = λ i out wake need s. refl; heard = λ i early s. refl; closed = λ s. refl; restarted = λ s. refl };
+    tells_meetings = record { tells = λ m s q. refl; begun = λ tag inputs s. refl; asking = asking-met; handed = λ s. refl; told = λ i out wake need s. refl; heard = λ i early s. refl; closed = λ s. refl; restarted = λ s. refl };
   };
-  tells = record { begun = λ tag inputs s. refl; fires = λ process tag s. refl; meets = λ m s. refl; told = λ process out need s. refl; finishes = λ s. refl };
   idle = λ s kids f. f.idle;
   wakes = λ s kids f. refl;
   fits_again = again-one rows;
   begins = λ b f t o. begins-one rows b f o;
   middle = λ b s now news g. record {
     asks = subst (λ v. MayAsk v) (sym g.stage) tt;
+    usual = usual-one s;
     fires_one = λ i when q. there-one rows b s now news g i q.1;
     lends = λ i when q child e. lends-one rows b s now news g i child e;
-    goes_on = λ i when q child next out k e f. goes-one rows b s now news g i when q child next out k e f;
+    goes_on = λ i when q child next out k e f right. goes-one rows b s now news g i when q child next out k e f;
+    refuses = λ i when q child next out k there f no. absurd (clash no);
     sticks = λ i when q child k f there x h e met. sticks-one rows law b s now news g h e met i q.1 child k there f (subst (λ t. SticksAt (λ fuel. step_at rows fuel (height child) (below_child i b.meets) t child (got_of s i)) (IsShut rows (below_child i b.meets) child t (got_of s i) (Some f)) f (kept_at news i) k) q.2 x);
     asks_as = λ i when q child there h listed. asks-one rows law b s now news g i q.1 child there h listed when q.2;
-    meets = λ m q. meets-one rows b s now news g m q.2;
+    listens = λ i when q. absurd q;
+    hears = λ i when q child e. absurd q;
+    learns = λ i when q early. absurd q;
+    resets_one = λ i q. absurd q;
+    resets = λ i q child e. absurd q;
+    rests = λ i q. absurd q;
+    moves = λ answer m q. moves-one rows b s now news g answer m q;
     ends = λ q h e met. ends-one rows law b s now news g h e met q.1;
     fits = λ q. fits-one rows b s now news g q;
+    faults = λ kind q. absurd q;
+    jams = λ q. absurd q;
     off = λ h e met. off-one rows law b s now news g h e met;
     off_within = λ i when q child k there x h e met. within-one rows law b s now news g h e met i q.1 child k there (subst (λ t. LeavesOff (λ fuel. step_at rows fuel (height child) (below_child i b.meets) t child (got_of s i)) (IsShut rows (below_child i b.meets) child t (got_of s i) None) (kept_at news i) k) q.2 x);
   };

@@ -28,10 +28,11 @@ use Rattle.pt_records.specs.Middle.{below_place}
 use Rattle.pt_records.proofs.GrowthLaws.{all-begin, all-go-on, grew-within, all-long}
 use Rattle.pt_records.proofs.PauseShut.{pauses-are-shut}
 use Rattle.pt_records.proofs.SoFarLaws.{numbered-at, numbered-set, numbered-nodes, low-get, low-set, low-kids, recorded-done}
+use Rattle.pt_core.specs.Met.{made_with, entry_with, AreMet}
 use Rattle.pt_rv_laws.specs.State.{Processes, RvState, net_of, got_of, IsLegal, MayFire, IsOver, begun, after_meet, after_told, closed, waits}
 use Rattle.pt_rv_laws.specs.Lawful.{HasPlaces, IsFor}
 use Rattle.pt_rv_laws.specs.Chain.{Underway, firing_from, logged_of, met_events}
-use Rattle.pt_rv_laws.specs.SoFar.{RvSoFar, composite_of, outcome_of, child_outcome, below_fault, made_with, entry_with, AreMet, FiringsAreRv}
+use Rattle.pt_rv_laws.specs.SoFar.{RvSoFar, composite_of, outcome_of, child_outcome, below_fault, FiringsAreRv}
 use Rattle.pt_rv_laws.proofs.ChainLaws.{calls-are-rv}
 use Rattle.pt_rv_laws.proofs.MeetLaws.{now-long}
 use Rattle.pt_rv_laws.proofs.MetShut.{met-quiet, shut-with-met}

@@ -1,5 +1,5 @@
 -- A Rendezvous composite of a tree in the middle of a firing: what its processes have done so far, what is kept of them and of the meetings made, and what a chain of calls makes of the composite's own firing.
-use Rattle.std.specs.Prelude.{◌≡◌, ℕ, ◌<◌, ◌≤◌, List, [], ◌∷◌, ◌++◌, length, map, set, Option, Some, None}
+use Rattle.std.specs.Prelude.{◌≡◌, ℕ, ◌<◌, List, [], ◌∷◌, length, set, Some, None}
 use Rattle.pt_meaning.specs.Tag.{Tag}
 use Rattle.pt_meaning.specs.Streams.{Streams, get}
 use Rattle.pt_meaning.specs.Log.{Log, Meeting}
@@ -14,10 +14,11 @@ use Rattle.pt_meaning.specs.Lawful.{LawfulRows}
 use Rattle.pt_meaning.specs.Asked.{IsAsked}
 use Rattle.pt_laws.specs.CompositeRuns.{steps_below}
 use Rattle.pt_laws.specs.SoundRuns.{count_at}
-use Rattle.pt_records.specs.Kept.{Made, Kept, Entry, kept_at, kept_by, AllGrewBy}
+use Rattle.pt_records.specs.Kept.{Kept, Entry, kept_at, kept_by, AllGrewBy}
 use Rattle.pt_records.specs.Fired.{FromSome, FiresTo, SticksAt, LeavesOff}
 use Rattle.pt_records.specs.Shut.{IsShut}
 use Rattle.pt_records.specs.SoFar.{AllLow}
+use Rattle.pt_core.specs.Met.{AreMet, entry_with}
 use Rattle.pt_rv_laws.specs.State.{RvState, net_of, got_of, IsLegal, MayFire, IsOver, begun, after_meet, after_told, closed, waits}
 use Rattle.pt_rv_laws.specs.Lawful.{HasPlaces, IsFor}
 use Rattle.pt_rv_laws.specs.Chain.{Underway}
@@ -46,21 +47,6 @@ child_outcome rows m s i child fuel = step_at rows fuel (height child) (below_ch
 -- a stuck place of child i, as one of the composite
 abbrev pub below_fault : ℕ → Fault → Fault
 below_fault i f = record { path = i ∷ f.path; firing = f.firing; code = f.code }
-
--- the meetings that are recorded of a composite, once these of its firing of number n are recorded too
-abbrev pub made_with : ℕ → List Meeting → Option Made → Option Made
-made_with n ms None = None
-made_with n ms (Some made) = Some (made ++ map (λ m. (n, m)) ms)
-
-abbrev pub entry_with : {T : Type 0} → ℕ → List Meeting → Entry T → Entry T
-entry_with n ms e = record { count = e.count; recorded = e.recorded; meetings = made_with n ms e.meetings }
-
--- The firing of a composite with this past is the next one after those that its entry counts, its entry records meetings, and those of the firing are these, among all that are given.
-pub record AreMet {T : Type 0} (m : Meets) (h : Past) (ms : List Meeting) (e : Entry T) : Type 0 where
-  pub listed : m [] h.made ≡ ms
-  pub next : e.count ≤ h.made
-  pub made : Made
-  pub recorded : e.meetings ≡ Some made
 
 -- What a chain of calls makes of the firing of a composite whose processes are nodes: it begins; it goes on by a legal meeting, and by the recorded firing of a child that was asked for; it is done, is stuck where that child is, and may be left off between two firings of children or within one. What is kept of the composite itself goes on by the meetings made.
 pub record FiringsAreRv (T A : Type 0) : Type 0 where

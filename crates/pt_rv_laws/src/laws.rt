@@ -3,11 +3,12 @@
 ghost use Rattle.pt_meaning.specs.Tree.{Rows};
 ghost use Rattle.pt_meaning.specs.Lawful.{LawfulRows};
 ghost use Rattle.pt_value.specs.declared.token.Token.{Token};
+ghost use Rattle.pt_core.specs.Lawful.{Lawful};
 ghost use Rattle.pt_rv_laws.specs.Chain.{CallsAreRv};
 ghost use Rattle.pt_rv_laws.specs.Apart.{MeetingsAreApart};
 ghost use Rattle.pt_rv_laws.specs.SoFar.{FiringsAreRv};
 ghost use Rattle.pt_rv_laws.specs.Comes.{AlwaysComes};
-ghost use Rattle.pt_rv_laws.specs.RvActs.{RvLawful};
+ghost use Rattle.pt_rv_laws.specs.RvActs.{rv_acts};
 
 /// A chain of calls makes the firing of the composite: processes fire and meet in any order.
 pub fn calls_are_rv<T, S>()
@@ -31,5 +32,5 @@ pub fn something_comes<T>()
 
 /// The calls are lawful: a driver that records meetings makes firings of Rendezvous composites by a core that has them.
 pub fn rv_is_lawful<A>()
-    ensures { (rows : Rows Token A) → LawfulRows rows → RvLawful rows }
+    ensures { (rows : Rows Token A) → LawfulRows rows → Lawful (rv_acts rows) }
 {}

@@ -34,6 +34,7 @@ use Rattle.pt_records.proofs.SoFarLaws.{recorded-done, so-far-begins, so-far-goe
 use Rattle.pt_core.specs.Acts.{Beginning, Acts}
 use Rattle.pt_core.specs.Lawful.{Lawful, IsUsual, IsMove, IsLentTo, IsStuck, IsLeftOff, node, outcome, child_outcome, below_fault, child_fault}
 use Rattle.pt_core.specs.Reached.{Becomes, Stays, Fires, Resets, Always}
+use Rattle.pt_core.proofs.MetLaws.{tells-none}
 use Rattle.pt_core.proofs.ReachedLaws.{got-reset}
 use Rattle.pt_sdf.specs.ByNeed.{by_need, needs_of, place_of}
 use Rattle.pt_sdf.specs.State.{Stage, Idle, Open, Asked, Handed, Wrong, Closed, Allows, IsEnough, asked_child, lent_in, hand, handed, IsHanded, needs_at, lent_of, left_of, is_wrong, in_stage, begun, asked, if_told, after_told, closed, own_of, owed}
@@ -53,7 +54,7 @@ answered s (ask.Reset child) t q = absurd q
 answered s (ask.Get child) t q = absurd q
 answered s (ask.Put child) t q = absurd q
 answered s ask.Grow t q = absurd q
-answered s ask.Meet t q = absurd q
+answered s (ask.Meet meeting) t q = absurd q
 answered s ask.Await t q = absurd q
 answered s ask.Full t q = absurd q
 
@@ -177,7 +178,7 @@ module _ {A : Type 0} (rows : Rows Token A) where
   usual-one b s now news g (ask.Get child) q = absurd q
   usual-one b s now news g (ask.Put child) q = absurd q
   usual-one b s now news g ask.Grow q = absurd q
-  usual-one b s now news g ask.Meet q = q
+  usual-one b s now news g (ask.Meet meeting) q = absurd q
   usual-one b s now news g ask.Await q = q
   usual-one b s now news g ask.Full q = absurd q
 
@@ -192,7 +193,7 @@ module _ {A : Type 0} (rows : Rows Token A) where
   none-moves s ask.Finished m q = m
   none-moves s (ask.Faulted kind child) m q = m
   none-moves s ask.Full m q = m
-  none-moves s ask.Meet m q = m
+  none-moves s (ask.Meet meeting) m q = q
   none-moves s ask.Await m q = m
 
   module _ (b : Beginning A State) (s : State) (now : List (Node Token A)) (news : List (Kept Token)) (g : Going rows b s now news) where
@@ -291,7 +292,7 @@ module _ {A : Type 0} (rows : Rows Token A) where
       abbrev start : Core Token
       start = Sdf b.before.plan b.before.first
 
-      off-one : IsLeftOff a b h e news
+      off-one : IsLeftOff a b h e s news
       off-one = sdf-is-left-off rows law b.meets b.tag h start b.before.plan b.before.held b.kids b.inputs e b.olds s.fired now s.held news sdf-so-far
 
       abbrev Ended : SdfPlan → Streams Token → ℕ → Type 0
@@ -309,15 +310,15 @@ module _ {A : Type 0} (rows : Rows Token A) where
         here : i < length now
         here = get-short now i child there
 
-        sticks-one : (f : Fault) → SticksAt (child_outcome a b (asked i s) i b.tag child) (IsShut rows (below_child i b.meets) child b.tag (lent_of s i) (Some f)) f (kept_at news i) k → IsStuck a b h e (below_fault i f) (set news i k)
+        sticks-one : (f : Fault) → SticksAt (child_outcome a b (asked i s) i b.tag child) (IsShut rows (below_child i b.meets) child b.tag (lent_of s i) (Some f)) f (kept_at news i) k → IsStuck a b h e s (below_fault i f) (set news i k)
         sticks-one f x = sdf-is-stuck rows law b.meets b.tag h start b.before.plan b.before.held b.kids b.inputs e b.olds s.fired now s.held news sdf-so-far i child (lent_of s i) (left_of s i) k f (sdf-asked i child there allows) (kept-within i here) x
 
-        refuses-one : (next : Node Token A) (out : Streams Token) → FiresTo (child_outcome a b (asked i s) i b.tag child) next out (kept_at news i) k → has_rates (get_or s.plan.rates i []) out ≡ false → IsStuck a b h e (child_fault i child Rate) (set news i k)
+        refuses-one : (next : Node Token A) (out : Streams Token) → FiresTo (child_outcome a b (asked i s) i b.tag child) next out (kept_at news i) k → has_rates (get_or s.plan.rates i []) out ≡ false → IsStuck a b h e s (child_fault i child Rate) (set news i k)
         refuses-one next out f unrated =
             sdf-is-unrated rows law b.meets b.tag h start b.before.plan b.before.held b.kids b.inputs e b.olds s.fired now s.held news sdf-so-far i child next (lent_of s i) (left_of s i) out k (get_or s.plan.rates i []) (sdf-asked i child there allows) (kept-within i here) f
             (ap (λ cs. rates_at cs i) (sym same-limits) ∙ rates-one i here) unrated
 
-        within-one : LeavesOff (child_outcome a b (asked i s) i b.tag child) (IsShut rows (below_child i b.meets) child b.tag (lent_of s i) None) (kept_at news i) k → IsLeftOff a b h e (set news i k)
+        within-one : LeavesOff (child_outcome a b (asked i s) i b.tag child) (IsShut rows (below_child i b.meets) child b.tag (lent_of s i) None) (kept_at news i) k → IsLeftOff a b h e s (set news i k)
         within-one x = sdf-is-left-off-within rows law b.meets b.tag h start b.before.plan b.before.held b.kids b.inputs e b.olds s.fired now s.held news sdf-so-far i child (lent_of s i) (left_of s i) k (sdf-asked i child there allows) (kept-within i here) x
 
     fits-one : IsFor (facts_of rows) (closed (in_stage Closed s)) now
@@ -361,6 +362,7 @@ module _ {A : Type 0} (rows : Rows Token A) where
       finishes = λ s q. refl;
       restarts = λ s. (refl, refl);
       keeps_maximum = record { begun = λ tag inputs s. refl; asking = λ answer s. refl; handed = λ s. refl; told = λ i out wake need s. refl; heard = λ i early s. refl; closed = λ s. refl; restarted = λ s. refl };
+      tells_meetings = tells-none sdf_calls (λ s. refl) (λ m s q. q);
     };
     idle = λ s kids f. f.idle;
     wakes = λ s kids f. refl;
@@ -372,9 +374,9 @@ module _ {A : Type 0} (rows : Rows Token A) where
       fires_one = λ i when q. child-within b s now news g i q.1;
       lends = λ i when q child e. lends-one b s now news g i child e q.2;
       goes_on = λ i when q child next out k e f rated. goes-one b s now news g i child next out k e q.2 (subst (λ t. FiresTo (λ fuel. Step fuel rows (below_child i b.meets) child t (lent_of s i)) next out (kept_at news i) k) (q.3 ∙ g.tag) f) rated;
-      refuses = λ i when q child next out k there f unrated h e. refuses-one b s now news g law h e i child there q.2 k next out (subst (λ t. FiresTo (child_outcome (sdf_acts rows) b (asked i s) i t child) next out (kept_at news i) k) (q.3 ∙ g.tag) f) unrated;
-      sticks = λ i when q child k f there x h e. sticks-one b s now news g law h e i child there q.2 k f (subst (λ t. SticksAt (child_outcome (sdf_acts rows) b (asked i s) i t child) (IsShut rows (below_child i b.meets) child t (lent_of s i) (Some f)) f (kept_at news i) k) (q.3 ∙ g.tag) x);
-      asks_as = λ i when q child there h. subst (λ t. FromSome (λ k. meant.IsAsked (child_facts (facts_of rows)) (steps_below rows k (heights b.kids) b.meets) (b.meets [] h.made) h.made (Sdf b.before.plan b.before.held) (numbered 0 (list_of b.kids)) b.tag b.inputs i (record { number = i; node = child }) t (lent_of s i))) (sym (q.3 ∙ g.tag)) (asks-one b s now news g i child there q.2 h);
+      refuses = λ i when q child next out k there f unrated h e met. refuses-one b s now news g law h e i child there q.2 k next out (subst (λ t. FiresTo (child_outcome (sdf_acts rows) b (asked i s) i t child) next out (kept_at news i) k) (q.3 ∙ g.tag) f) unrated;
+      sticks = λ i when q child k f there x h e met. sticks-one b s now news g law h e i child there q.2 k f (subst (λ t. SticksAt (child_outcome (sdf_acts rows) b (asked i s) i t child) (IsShut rows (below_child i b.meets) child t (lent_of s i) (Some f)) f (kept_at news i) k) (q.3 ∙ g.tag) x);
+      asks_as = λ i when q child there h met. subst (λ t. FromSome (λ k. meant.IsAsked (child_facts (facts_of rows)) (steps_below rows k (heights b.kids) b.meets) (b.meets [] h.made) h.made (Sdf b.before.plan b.before.held) (numbered 0 (list_of b.kids)) b.tag b.inputs i (record { number = i; node = child }) t (lent_of s i))) (sym (q.3 ∙ g.tag)) (asks-one b s now news g i child there q.2 h);
       listens = λ i when q. absurd q;
       hears = λ i when q child e. absurd q;
       learns = λ i when q early. absurd q;
@@ -382,11 +384,11 @@ module _ {A : Type 0} (rows : Rows Token A) where
       resets = λ i q child e. absurd q;
       rests = λ i q. absurd q;
       moves = λ answer m q. absurd (none-moves s answer m q);
-      ends = λ q h e. ends-one b s now news g law h e q.1;
+      ends = λ q h e met. ends-one b s now news g law h e q.1;
       fits = λ q. record { idle = refl; fitting = fits-one b s now news g; starts = g.starts; steady = g.steady };
-      faults = λ kind q h e. absurd q;
+      faults = λ kind q h e met. absurd q;
       jams = λ q. absurd q;
-      off = λ h e. off-one b s now news g law h e;
-      off_within = λ i when q child k there x h e. within-one b s now news g law h e i child there q.2 k (subst (λ t. LeavesOff (child_outcome (sdf_acts rows) b (asked i s) i t child) (IsShut rows (below_child i b.meets) child t (lent_of s i) None) (kept_at news i) k) (q.3 ∙ g.tag) x);
+      off = λ h e met. off-one b s now news g law h e;
+      off_within = λ i when q child k there x h e met. within-one b s now news g law h e i child there q.2 k (subst (λ t. LeavesOff (child_outcome (sdf_acts rows) b (asked i s) i t child) (IsShut rows (below_child i b.meets) child t (lent_of s i) None) (kept_at news i) k) (q.3 ∙ g.tag) x);
     };
   }

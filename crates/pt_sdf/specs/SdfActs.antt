@@ -48,7 +48,7 @@ Gives s (ask.Reset child) = ⊥
 Gives s (ask.Get child) = ⊥
 Gives s (ask.Put child) = ⊥
 Gives s ask.Grow = ⊥
-Gives s ask.Meet = ⊥
+Gives s (ask.Meet meeting) = ⊥
 Gives s ask.Await = ⊥
 Gives s ask.Full = ⊥
 
@@ -61,7 +61,7 @@ asking (ask.Reset child) s = s
 asking (ask.Get child) s = s
 asking (ask.Put child) s = s
 asking ask.Grow s = s
-asking ask.Meet s = s
+asking (ask.Meet meeting) s = s
 asking ask.Await s = s
 asking ask.Full s = s
 
@@ -95,6 +95,7 @@ sdf_calls = record {
   waits = λ s. 0;
   maximum = λ s. 0;
   blocked = λ s. [];
+  met = λ s. None;
 }
 
 -- No firing is under way, and the plan is one for these children, whose needs stay. Each place has a channel, now and at the start.

@@ -8,7 +8,6 @@ use Rattle.pt_firing.specs.declared.answer.Blocked.{Blocked}
 use Rattle.pt_firing.specs.declared.answer.Place.{Place}
 use Rattle.pt_firing.specs.declared.fault.RunFault.{RunFault}
 use Rattle.pt_core.specs.Acts.{Acts}
-use Rattle.pt_core.specs.Lawful.{Lawful}
 use Rattle.pt_library.specs.LibraryActor.{rows}
 use Rattle.pt_directors.specs.Directors.{Director}
 use Rattle.pt_node.specs.declared.node.Node.{Node}
@@ -24,12 +23,13 @@ use Rattle.pt_seq.specs.Within.{SpendsAll, IsFaultAt, IsFullAt}
 use Rattle.pt_seq.specs.Composite.{EndsAs, FinishTo}
 use Rattle.pt_seq.specs.Turns.{TurnFrom}
 use Rattle.pt_seq.specs.Between.{Between, InTurn, Halts, Rested}
+use Rattle.pt_seq.proofs.Unmet.{LawfulUnmet}
 use Rattle.pt_seq.proofs.Children.{outlines-set}
 use Rattle.pt_seq.proofs.Acting.{acts-law}
 use Rattle.pt_seq.proofs.Firing.{off-here, finish-goes, finish-fits, finish-maximum, faulted-goes, faulted-fits, faulted-spends, full-goes, full-fits, full-spends}
 use Rattle.pt_seq.proofs.Loop.{between-maximum, given-outline, turn-maximum, turn-outlines, turn-counted, turn-fault, turn-spent, turn-jam, turn-memory, halts-off, halts-outlines, halts-counted}
 
-module _ {D : Type 0} (a : Acts rows D) (law : Lawful a) where
+module _ {D : Type 0} (a : Acts rows D) (law : LawfulUnmet a) where
   finish-spends : (s : D) (w : Within) (s' : D) (left : ℕ) → FinishTo a.calls s w s' → SpendsAll w left
   finish-spends s (within.Done out) s' left f = tt
   finish-spends s (within.Fault place) s' left f = tt

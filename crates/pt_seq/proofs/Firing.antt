@@ -15,11 +15,14 @@ use Rattle.pt_firing.specs.declared.answer.Blocked.{Blocked}
 use Rattle.pt_firing.specs.declared.answer.Place.{Place}
 use Rattle.pt_firing.specs.declared.fault.RunFault.{RunFault}
 use Rattle.pt_firing.specs.RunFault.{code_of}
-use Rattle.pt_records.specs.Kept.{Entry, kept_by}
+use Rattle.pt_records.specs.Kept.{Kept, Entry, kept_by}
 use Rattle.pt_records.specs.Made.{AreMade, AllMade, AllMadeBefore}
 use Rattle.pt_records.specs.Fired.{FiresTo}
 use Rattle.pt_core.specs.Acts.{Acts}
-use Rattle.pt_core.specs.Lawful.{IsUsual, IsMove, IsLentTo, Middle, Lawful, own_fault, child_fault}
+use Rattle.pt_core.specs.Met.{HasMet, IsListed}
+use Rattle.pt_core.specs.Lawful as laws
+use Rattle.pt_core.specs.Lawful.{IsUsual, IsMove, IsLentTo, Middle, own_fault, child_fault}
+use Rattle.pt_core.proofs.MetLaws.{none-has-met, none-listed, entry-none}
 use Rattle.pt_library.specs.LibraryActor.{rows}
 use Rattle.pt_node.specs.Shown.{Shown, all_of}
 use Rattle.pt_node.specs.Reset.{WasReset, KeepsRecords}
@@ -34,6 +37,7 @@ use Rattle.pt_seq.specs.Within.{outcome, IsLeftOff, IsStuckIn, IsStuck, SpendsAl
 use Rattle.pt_seq.specs.Composite.{composite, names, CompositeTo, KeepsFit, FinishTo}
 use Rattle.pt_seq.specs.Turns.{ChildFired, ChildRefused, TurnTo}
 use Rattle.pt_seq.specs.Between.{beginning, At, Halts}
+use Rattle.pt_seq.proofs.Unmet.{LawfulUnmet}
 use Rattle.pt_seq.proofs.Children.{nodes-set, kepts-set, kepts-at, kepts-same, nodes-get, kepts-long, nodes-long, nodes-again, fit-set, outlines-set, text-get, labels-get, counts-same, counts-set}
 use Rattle.pt_seq.proofs.Jams.{have-made, jam-below}
 use Rattle.pt_seq.proofs.MadeOf.{finished-made, meets-in, meets-made, made-of-child, made-of-fired, made-before}
@@ -43,7 +47,7 @@ use Rattle.pt_seq.proofs.Recording.{made-within}
 abbrev pub LeftOffAt : {D : Type 0} → Acts rows D → D → List Shown → Tag → Streams Token → List Shown → Type 0
 LeftOffAt a before olds tag X now = (m : Meets) → AllMade m (kepts_of (all_of now)) → (h : tree.Past) (e : Entry Token) → IsLeftOff m (composite a h before (all_of olds)) tag X (kept_by e (kepts_of (all_of olds))) (kept_by e (kepts_of (all_of now)))
 
-module _ {D : Type 0} (a : Acts rows D) (law : Lawful a) where
+module _ {D : Type 0} (a : Acts rows D) (law : LawfulUnmet a) where
   -- it begins
   pub at-begun : (before s : D) (olds : List Shown) (tag : Tag) (X : Streams Token) (left : ℕ) → a.Fits before (tree.list_of (nodes_of (all_of olds))) → a.calls.Takes before X → AllFit (all_of olds) → s ≡ a.calls.begun tag X before → At a before olds tag X left s olds left
   at-begun before s olds tag X left fits takes fit e = record {
@@ -51,10 +55,10 @@ module _ {D : Type 0} (a : Acts rows D) (law : Lawful a) where
       fit = fit;
       so_far = λ m made.
           subst (λ v. a.Underway (beginning a m before (all_of olds) tag X) v (tree.list_of (nodes_of (all_of olds))) (kepts_of (all_of olds))) (sym e)
-          (law.begins (beginning a m before (all_of olds) tag X) fits takes (nodes-long olds ∙ sym (kepts-long olds)));
+          (law.lawful.begins (beginning a m before (all_of olds) tag X) fits takes (nodes-long olds ∙ sym (kepts-long olds)));
     };
     outlines = refl;
-    maximum = ap (λ v. a.calls.maximum v) e ∙ law.agree.keeps_maximum.begun tag X before;
+    maximum = ap (λ v. a.calls.maximum v) e ∙ law.lawful.agree.keeps_maximum.begun tag X before;
     counted = refl;
     lowered = omega arith;
   }
@@ -73,11 +77,24 @@ module _ {D : Type 0} (a : Acts rows D) (law : Lawful a) where
 
   module _ {before : D} {olds : List Shown} {tag : Tag} {X : Streams Token} {allowance : ℕ} {s : D} {now : List Shown} {left : ℕ} (at : At a before olds tag X allowance s now left) where
     middle-of : (m : Meets) → AllMadeBefore m (kepts_of (all_of now)) → Middle a (beginning a m before (all_of olds) tag X) s (tree.list_of (nodes_of (all_of now))) (kepts_of (all_of now))
-    middle-of m made = law.middle (beginning a m before (all_of olds) tag X) s (tree.list_of (nodes_of (all_of now))) (kepts_of (all_of now)) (at.going.so_far m made)
+    middle-of m made = law.lawful.middle (beginning a m before (all_of olds) tag X) s (tree.list_of (nodes_of (all_of now))) (kepts_of (all_of now)) (at.going.so_far m made)
 
     -- under some meetings, for what doesn't speak of them
     some-middle : Middle a (beginning a (meets-in (kepts_of (all_of now))) before (all_of olds) tag X) s (tree.list_of (nodes_of (all_of now))) (kepts_of (all_of now))
     some-middle = middle-of (meets-in (kepts_of (all_of now))) (meets-made (kepts_of (all_of now)))
+
+    -- it makes no meetings, so that nothing is asked of them, and what is kept of its own path stays
+    none-met : (m : Meets) (h : tree.Past) (e : Entry Token) → HasMet (a.calls.met s) m h e
+    none-met m h e = none-has-met (a.calls.met s) (law.unmet s) m h e
+
+    listed : (m : Meets) (h : tree.Past) → IsListed (a.calls.met s) m h
+    listed m h = none-listed (a.calls.met s) (law.unmet s) m h
+
+    left-off : (m : Meets) (h : tree.Past) (e : Entry Token) (news : List (Kept Token)) → laws.IsLeftOff a (beginning a m before (all_of olds) tag X) h e s news → IsLeftOff m (composite a h before (all_of olds)) tag X (kept_by e (kepts_of (all_of olds))) (kept_by e news)
+    left-off m h e news l = subst (λ v. IsLeftOff m (composite a h before (all_of olds)) tag X (kept_by e (kepts_of (all_of olds))) (kept_by v news)) (entry-none (a.calls.met s) (law.unmet s) h.made e) l
+
+    stuck-in : (m : Meets) (h : tree.Past) (e : Entry Token) (f : machine.Fault) (news : List (Kept Token)) → laws.IsStuck a (beginning a m before (all_of olds) tag X) h e s f news → IsStuckIn m (composite a h before (all_of olds)) tag X f (kept_by e (kepts_of (all_of olds))) (kept_by e news)
+    stuck-in m h e f news k = subst (λ v. IsStuckIn m (composite a h before (all_of olds)) tag X f (kept_by e (kepts_of (all_of olds))) (kept_by v news)) (entry-none (a.calls.met s) (law.unmet s) h.made e) k
 
     pub may-ask : a.calls.MayAsk s
     may-ask = some-middle.asks
@@ -87,11 +104,11 @@ module _ {D : Type 0} (a : Acts rows D) (law : Lawful a) where
 
     -- whatever it answers, it states the maximum capacity that it stated when the firing began
     pub asked-maximum : (next : Ask) (mid : D) → mid ≡ a.calls.asking next s → a.calls.maximum mid ≡ a.calls.maximum before
-    asked-maximum next mid e = ap (λ v. a.calls.maximum v) e ∙ law.agree.keeps_maximum.asking next s ∙ at.maximum
+    asked-maximum next mid e = ap (λ v. a.calls.maximum v) e ∙ law.lawful.agree.keeps_maximum.asking next s ∙ at.maximum
 
     -- it is left off between two firings
     pub off-here : LeftOffAt a before olds tag X now
-    off-here m made h e = (middle-of m (finished-made m (kepts_of (all_of now)) made)).off h e
+    off-here m made h e = left-off m h e (kepts_of (all_of now)) ((middle-of m (finished-made m (kepts_of (all_of now)) made)).off h e (none-met m h e))
 
     -- it asks for a firing of child i
     module _ (i : ℕ) (when : Tag) (g : a.calls.Gives s (Fire i when)) where
@@ -99,7 +116,7 @@ module _ {D : Type 0} (a : Acts rows D) (law : Lawful a) where
       t = a.calls.asking (Fire i when) s
 
       pub fire-asked : a.calls.asked_of t ≡ Some i
-      fire-asked = law.agree.asked s i when g
+      fire-asked = law.lawful.agree.asked s i when g
 
       pub fire-in : i < length now
       fire-in = let p = some-middle.fires_one i when g in omega (arith, p, nodes-long now)
@@ -123,7 +140,7 @@ module _ {D : Type 0} (a : Acts rows D) (law : Lawful a) where
                   (subst (λ k. FiresTo (λ fuel. Step fuel rows (below_child i m) (node_of child) when (a.calls.lent_of t)) (node_of after) f.out k (kept_of after)) (sym (kepts-at now i child there)) fires) f.accepted)));
             };
             outlines = outlines-set now i child after there o ∙ at.outlines;
-            maximum = ap (λ v. a.calls.maximum v) f.told ∙ law.agree.keeps_maximum.told i f.out (next_of rows (node_of after)) (need_of rows (node_of after)) t ∙ asked-maximum (Fire i when) t refl;
+            maximum = ap (λ v. a.calls.maximum v) f.told ∙ law.lawful.agree.keeps_maximum.told i f.out (next_of rows (node_of after)) (need_of rows (node_of after)) t ∙ asked-maximum (Fire i when) t refl;
             counted = counts-set now i child after left left' (counts_of (all_of olds) + allowance) there c at.counted;
             lowered = omega (arith, l, at.lowered);
           }
@@ -140,15 +157,16 @@ module _ {D : Type 0} (a : Acts rows D) (law : Lawful a) where
           off-within off m made h e =
               let l = off (below_child i m) (made-of-child m now i child after there made) in
               subst (λ ks. IsLeftOff m (composite a h before (all_of olds)) tag X (kept_by e (kepts_of (all_of olds))) (kept_by e ks)) (sym (kepts-set now i after))
+              (left-off m h e (set (kepts_of (all_of now)) i (kept_of after))
               ((middle-of m (made-before m now i child after there l.log l.kept (finished-made m (kepts_of (all_of (set now i after))) made))).off_within i when g (node_of child) (kept_of after) (nodes-get now i child there)
-              (subst (λ k. IsLeftOff (below_child i m) (node_of child) when (a.calls.lent_of t) k (kept_of after)) (sym (kepts-at now i child there)) l) h e)
+              (subst (λ k. IsLeftOff (below_child i m) (node_of child) when (a.calls.lent_of t) k (kept_of after)) (sym (kepts-at now i child there)) l) h e (none-met m h e)))
 
           -- a network within it is in a jam
           module _ (path : List ℕ) (labels : List (List ℕ)) (number : ℕ) (blocked : Blocked) (s' : D) where
             pub full-within : TurnTo a.calls t child i when (turn.Full blocked) s' after → CompositeTo a path labels number before (all_of olds) tag X (Full blocked) s' (all_of (set now i after))
             full-within full m made h own e count hs =
                 let f = full (below_child i m) (made-of-child m now i child after there made) in
-                let asks = (middle-of m (made-before m now i child after there f.0.log f.0.kept (finished-made m (kepts_of (all_of (set now i after))) made))).asks_as i when g (node_of child) (nodes-get now i child there) h in (
+                let asks = (middle-of m (made-before m now i child after there f.0.log f.0.kept (finished-made m (kepts_of (all_of (set now i after))) made))).asks_as i when g (node_of child) (nodes-get now i child there) h (listed m h) in (
                   off-within (λ n those. (full n those).0) m made h e,
                   record {
                     path = i ∷ f.1.path;
@@ -179,8 +197,9 @@ module _ {D : Type 0} (a : Acts rows D) (law : Lawful a) where
                   i ∷ k.0,
                   ap (λ os. text_below os i k.0) (sym at.outlines) ∙ text-get now i child k.0 there ∙ k.1,
                   subst (λ ks. IsStuckIn m (composite a h before (all_of olds)) tag X (fault_of (i ∷ k.0) place) (kept_by e (kepts_of (all_of olds))) (kept_by e ks)) (sym (kepts-set now i after))
+                      (stuck-in m h e (fault_of (i ∷ k.0) place) (set (kepts_of (all_of now)) i (kept_of after))
                       ((middle-of m (made-before m now i child after there k.2.log k.2.kept (finished-made m (kepts_of (all_of (set now i after))) made))).sticks i when g (node_of child) (kept_of after) (fault_of k.0 place) (nodes-get now i child there)
-                      (subst (λ v. IsStuckIn (below_child i m) (node_of child) when (a.calls.lent_of t) (fault_of k.0 place) v (kept_of after)) (sym (kepts-at now i child there)) k.2) h e),
+                      (subst (λ v. IsStuckIn (below_child i m) (node_of child) when (a.calls.lent_of t) (fault_of k.0 place) v (kept_of after)) (sym (kepts-at now i child there)) k.2) h e (none-met m h e))),
                 )
 
             -- it gave what isn't accepted
@@ -192,8 +211,9 @@ module _ {D : Type 0} (a : Acts rows D) (law : Lawful a) where
                   ap (λ os. text_below os i []) (sym at.outlines) ∙ text-get now i child [] there ∙ u.path,
                   subst (λ ks. IsStuckIn m (composite a h before (all_of olds)) tag X (fault_of (i ∷ []) place) (kept_by e (kepts_of (all_of olds))) (kept_by e ks)) (sym (kepts-set now i after))
                       (subst (λ f. IsStuckIn m (composite a h before (all_of olds)) tag X f (kept_by e (kepts_of (all_of olds))) (kept_by e (set (kepts_of (all_of now)) i (kept_of after)))) told
+                      (stuck-in m h e (child_fault i (node_of child) (a.calls.refusal t)) (set (kepts_of (all_of now)) i (kept_of after))
                       ((middle-of m (made-before m now i child after there gives.log gives.kept (finished-made m (kepts_of (all_of (set now i after))) made))).refuses i when g (node_of child) u.next u.out (kept_of after) (nodes-get now i child there)
-                      (subst (λ v. FiresTo (outcome (below_child i m) (node_of child) when (a.calls.lent_of t)) u.next u.out v (kept_of after)) (sym (kepts-at now i child there)) gives) u.refused h e)),
+                      (subst (λ v. FiresTo (outcome (below_child i m) (node_of child) when (a.calls.lent_of t)) u.next u.out v (kept_of after)) (sym (kepts-at now i child there)) gives) u.refused h e (none-met m h e)))),
                 )
 
             pub fault-within : TurnTo a.calls t child i when (turn.Fault place) s' after → CompositeTo a path labels number before (all_of olds) tag X (Fault place) s' (all_of (set now i after))
@@ -206,7 +226,7 @@ module _ {D : Type 0} (a : Acts rows D) (law : Lawful a) where
     -- it asks for an early answer of child i
     module _ (i : ℕ) (when : Tag) (g : a.calls.Gives s (Early i when)) where
       pub early-asked : a.calls.listened_of (a.calls.asking (Early i when) s) ≡ Some i
-      early-asked = law.agree.listened s i when g
+      early-asked = law.lawful.agree.listened s i when g
 
       pub early-in : i < length now
       early-in = let p = some-middle.listens i when g in omega (arith, p, nodes-long now)
@@ -224,7 +244,7 @@ module _ {D : Type 0} (a : Acts rows D) (law : Lawful a) where
                 ((middle-of m made).hears i when g (node_of child) (nodes-get now i child there));
           };
           outlines = at.outlines;
-          maximum = ap (λ v. a.calls.maximum v) e ∙ law.agree.keeps_maximum.heard i (early_of rows when (node_of child) (a.calls.partial_of (a.calls.asking (Early i when) s))) (a.calls.asking (Early i when) s) ∙ asked-maximum (Early i when) (a.calls.asking (Early i when) s) refl;
+          maximum = ap (λ v. a.calls.maximum v) e ∙ law.lawful.agree.keeps_maximum.heard i (early_of rows when (node_of child) (a.calls.partial_of (a.calls.asking (Early i when) s))) (a.calls.asking (Early i when) s) ∙ asked-maximum (Early i when) (a.calls.asking (Early i when) s) refl;
           counted = at.counted;
           lowered = at.lowered;
         }
@@ -295,14 +315,15 @@ module _ {D : Type 0} (a : Acts rows D) (law : Lawful a) where
       -- it is finished
       module _ (g : a.calls.Gives s Finished) (mid : D) (is : mid ≡ a.calls.asking Finished s) where
         pub may-finish : a.calls.MayFinish mid
-        may-finish = subst (λ v. a.calls.MayFinish v) (sym is) (law.agree.finishes s g)
+        may-finish = subst (λ v. a.calls.MayFinish v) (sym is) (law.lawful.agree.finishes s g)
 
         done-here : (s' : D) (out : Streams Token) → s' ≡ a.calls.closed (a.calls.asking Finished s) → out ≡ a.calls.own_of (a.calls.asking Finished s) → CompositeTo a path labels number before (all_of olds) tag X (Done out) s' (all_of now)
         done-here s' out c o m made h e =
             subst (λ v. FiresTo (outcome m (composite a h before (all_of olds)) tag X) (composite a (tree.fired_at tag h) v (all_of now)) out (kept_by e (kepts_of (all_of olds))) (kept_by e (kepts_of (all_of now)))) (sym c)
             (subst (λ v. FiresTo (outcome m (composite a h before (all_of olds)) tag X) (composite a (tree.fired_at tag h) (a.calls.closed (a.calls.asking Finished s)) (all_of now)) v (kept_by e (kepts_of (all_of olds))) (kept_by e (kepts_of (all_of now)))) (sym o)
             (subst (λ ks. let n : Tree = tree.Composite (tree.fired_at tag h) (a.calls.start_of (a.calls.closed (a.calls.asking Finished s))) (a.calls.core_of (a.calls.closed (a.calls.asking Finished s))) ks in FiresTo (outcome m (composite a h before (all_of olds)) tag X) n (a.calls.own_of (a.calls.asking Finished s)) (kept_by e (kepts_of (all_of olds))) (kept_by e (kepts_of (all_of now)))) (nodes-again (nodes_of (all_of now)))
-            ((middle-of m made).ends g h e)))
+            (subst (λ v. FiresTo (outcome m (composite a h before (all_of olds)) tag X) (laws.node a (tree.fired_at tag h) (a.calls.closed (a.calls.asking Finished s)) (tree.nodes_of (tree.list_of (nodes_of (all_of now))))) (a.calls.own_of (a.calls.asking Finished s)) (kept_by e (kepts_of (all_of olds))) (kept_by v (kepts_of (all_of now)))) (entry-none (a.calls.met s) (law.unmet s) h.made e)
+            ((middle-of m made).ends g h e (none-met m h e)))))
 
         pub finish-goes : (w : Within) (s' : D) → FinishTo a.calls mid w s' → CompositeTo a path labels number before (all_of olds) tag X w s' (all_of now)
         finish-goes (Done out) s' f = done-here s' out (f.0 ∙ ap (λ v. a.calls.closed v) is) (f.1 ∙ ap (λ v. a.calls.own_of v) is)
@@ -319,7 +340,7 @@ module _ {D : Type 0} (a : Acts rows D) (law : Lawful a) where
         finish-fits Memory s' f = tt
 
         pub finish-maximum : (w : Within) (s' : D) → FinishTo a.calls mid w s' → a.calls.maximum s' ≡ a.calls.maximum before
-        finish-maximum (Done out) s' f = ap (λ v. a.calls.maximum v) f.0 ∙ law.agree.keeps_maximum.closed mid ∙ asked-maximum Finished mid is
+        finish-maximum (Done out) s' f = ap (λ v. a.calls.maximum v) f.0 ∙ law.lawful.agree.keeps_maximum.closed mid ∙ asked-maximum Finished mid is
         finish-maximum (Fault place) s' f = absurd f
         finish-maximum Spent s' f = absurd f
         finish-maximum (Full blocked) s' f = absurd f
@@ -334,7 +355,7 @@ module _ {D : Type 0} (a : Acts rows D) (law : Lawful a) where
             path = [];
             full = a.calls.blocked (a.calls.asking ask.Full s);
             told = record { path_is = ap (λ v. Option.Some v) (sym p); channels = c ∙ ap (λ v. told_by labels (a.calls.blocked v)) is };
-            jams = (middle-of m (finished-made m (kepts_of (all_of now)) made)).jams g h (maximum_at (names a path labels hs before (all_of olds))) (λ q. (kept_by e (kepts_of (all_of now)) q).count) refl (own ∙ sym count) (have-made (λ q. (kept_by e (kepts_of (all_of now)) q).count) now (λ j. refl));
+            jams = (middle-of m (finished-made m (kepts_of (all_of now)) made)).jams g h (listed m h) (maximum_at (names a path labels hs before (all_of olds))) (λ q. (kept_by e (kepts_of (all_of now)) q).count) refl (own ∙ sym count) (have-made (λ q. (kept_by e (kepts_of (all_of now)) q).count) now (λ j. refl));
           },
         )
 
@@ -366,7 +387,7 @@ module _ {D : Type 0} (a : Acts rows D) (law : Lawful a) where
             let told : own_fault h kind ≡ fault_of [] place = ap₂ (λ v c. let f : machine.Fault = record { path = []; firing = v; code = c } in f) (own ∙ sym n) (ap (λ v. code_of v) (sym k)) in (
               [],
               ap (λ v. Option.Some v) (sym p),
-              subst (λ f. IsStuckIn m (composite a h before (all_of olds)) tag X f (kept_by e (kepts_of (all_of olds))) (kept_by e (kepts_of (all_of now)))) told ((middle-of m (finished-made m (kepts_of (all_of now)) made)).faults kind g h e),
+              subst (λ f. IsStuckIn m (composite a h before (all_of olds)) tag X f (kept_by e (kepts_of (all_of olds))) (kept_by e (kepts_of (all_of now)))) told (stuck-in m h e (own_fault h kind) (kepts_of (all_of now)) ((middle-of m (finished-made m (kepts_of (all_of now)) made)).faults kind g h e (none-met m h e))),
             )
 
         pub faulted-goes : (w : Within) (s' : D) → IsFaultAt path number kind w → CompositeTo a path labels number before (all_of olds) tag X w s' (all_of now)

@@ -1,3 +1,4 @@
+pub mod Unmet
 pub mod Acting
 pub mod Children
 pub mod MadeOf

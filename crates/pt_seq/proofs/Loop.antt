@@ -1,7 +1,7 @@
 -- The loop over the children of a composite, by the code's list of nodes.
 use Rattle.std.proofs.Common.{◌≡◌, ◌⊎◌, inl, inr, ℕ, ℤ, ◌+◌, ◌<◌, ◌≤◌, List, [], ◌∷◌, false, true, length, map, get_or, set, Option, Some, None, refl, sym, ap, subst, ◌∙◌, arith, Result, Ok, Err, is_err, length-set}
 use Rattle.std.proofs.lemmas.List.{length-map}
-use Rattle.std.specs.Prelude.{OnOk, OnErr}
+use Rattle.std.specs.Prelude.{OnOk, OnErr, is_some}
 use Rattle.pt_meaning.specs.Basics.{Tag, Streams}
 use Rattle.pt_meaning.specs.Streams.{get}
 use Rattle.pt_meaning.specs.Meetings.{Meets}
@@ -10,13 +10,14 @@ use Rattle.pt_value.specs.declared.token.Token.{Token}
 use Rattle.pt_value.specs.declared.token.Token.TheVariants.{Int}
 use Rattle.pt_firing.specs.declared.ask.Ask.{Ask}
 use Rattle.pt_firing.specs.declared.ask.Ask.TheVariants as ask
+use Rattle.pt_firing.specs.declared.ask.Meeting.{Meeting}
 use Rattle.pt_firing.specs.declared.answer.Blocked.{Blocked}
 use Rattle.pt_firing.specs.declared.answer.Place.{Place}
 use Rattle.pt_firing.specs.declared.fault.RunFault.{RunFault}
 use Rattle.pt_records.specs.Kept.{kept_by}
 use Rattle.pt_records.specs.Made.{AreMade, AllMade}
 use Rattle.pt_core.specs.Acts.{Calls, Acts}
-use Rattle.pt_core.specs.Lawful.{IsUsual, IsMove, IsLentTo, Lawful}
+use Rattle.pt_core.specs.Lawful.{IsUsual, IsMove, IsLentTo}
 use Rattle.pt_library.specs.LibraryActor.{rows}
 use Rattle.pt_node.specs.declared.node.Node.{Node}
 use Rattle.pt_node.specs.Shown.{Shown, shown, shown_node, all_of}
@@ -32,6 +33,7 @@ use Rattle.pt_seq.specs.Within.{IsLeftOff, Given}
 use Rattle.pt_seq.specs.Composite.{composite, CompositeTo}
 use Rattle.pt_seq.specs.Turns.{ChildFired, TurnTo, TurnFrom, MayFire}
 use Rattle.pt_seq.specs.Between.{At, Between, InTurn, Halts}
+use Rattle.pt_seq.proofs.Unmet.{LawfulUnmet}
 use Rattle.pt_seq.proofs.Children.{get-or, get-map, map-set, set-again, get-again, set-same, get-some, fit-get, depth-get, kepts-same, outlines-set, counts-same}
 use Rattle.pt_seq.proofs.Turning.{turn-told}
 use Rattle.pt_seq.proofs.Taking.{lent-takes}
@@ -88,23 +90,32 @@ is-move next (inl get) = subst (λ v. IsMove v) (sym get.1) tt
 is-move next (inr (inl put)) = subst (λ v. IsMove v) (sym put.1) tt
 is-move next (inr (inr grow)) = subst (λ v. IsMove v) (sym grow) tt
 
--- no director asks for anything else
-pub no-unusual : (next : Ask) → IsUsual next → ((i : ℕ) (when : Tag) → next ≡ ask.Fire i when → ⊥) → ((i : ℕ) (when : Tag) → next ≡ ask.Early i when → ⊥) → ((i : ℕ) → next ≡ ask.Reset i → ⊥) → ((i : ℕ) → next ≡ ask.Get i → ⊥) → ((i : ℕ) → next ≡ ask.Put i → ⊥) → (next ≡ ask.Grow → ⊥) → (next ≡ ask.Finished → ⊥) → ((kind : RunFault) (child : Option ℕ) → next ≡ ask.Faulted kind child → ⊥) → (next ≡ ask.Full → ⊥) → ⊥
-no-unusual (ask.Fire i when) u fire early reset get put grow finished faulted full = fire i when refl
-no-unusual (ask.Early i when) u fire early reset get put grow finished faulted full = early i when refl
-no-unusual (ask.Reset i) u fire early reset get put grow finished faulted full = reset i refl
-no-unusual (ask.Get i) u fire early reset get put grow finished faulted full = get i refl
-no-unusual (ask.Put i) u fire early reset get put grow finished faulted full = put i refl
-no-unusual ask.Grow u fire early reset get put grow finished faulted full = grow refl
-no-unusual ask.Finished u fire early reset get put grow finished faulted full = finished refl
-no-unusual (ask.Faulted kind child) u fire early reset get put grow finished faulted full = faulted kind child refl
-no-unusual ask.Full u fire early reset get put grow finished faulted full = full refl
-no-unusual ask.Meet u fire early reset get put grow finished faulted full = u
-no-unusual ask.Await u fire early reset get put grow finished faulted full = u
+-- no director asks for anything else, where none tells a meeting
+pub no-unusual : (next : Ask) → IsUsual next → ((m : Meeting) → next ≡ ask.Meet m → ⊥) → ((i : ℕ) (when : Tag) → next ≡ ask.Fire i when → ⊥) → ((i : ℕ) (when : Tag) → next ≡ ask.Early i when → ⊥) → ((i : ℕ) → next ≡ ask.Reset i → ⊥) → ((i : ℕ) → next ≡ ask.Get i → ⊥) → ((i : ℕ) → next ≡ ask.Put i → ⊥) → (next ≡ ask.Grow → ⊥) → (next ≡ ask.Finished → ⊥) → ((kind : RunFault) (child : Option ℕ) → next ≡ ask.Faulted kind child → ⊥) → (next ≡ ask.Full → ⊥) → ⊥
+no-unusual (ask.Fire i when) u meet fire early reset get put grow finished faulted full = fire i when refl
+no-unusual (ask.Early i when) u meet fire early reset get put grow finished faulted full = early i when refl
+no-unusual (ask.Reset i) u meet fire early reset get put grow finished faulted full = reset i refl
+no-unusual (ask.Get i) u meet fire early reset get put grow finished faulted full = get i refl
+no-unusual (ask.Put i) u meet fire early reset get put grow finished faulted full = put i refl
+no-unusual ask.Grow u meet fire early reset get put grow finished faulted full = grow refl
+no-unusual ask.Finished u meet fire early reset get put grow finished faulted full = finished refl
+no-unusual (ask.Faulted kind child) u meet fire early reset get put grow finished faulted full = faulted kind child refl
+no-unusual ask.Full u meet fire early reset get put grow finished faulted full = full refl
+no-unusual (ask.Meet m) u meet fire early reset get put grow finished faulted full = meet m refl
+no-unusual ask.Await u meet fire early reset get put grow finished faulted full = u
 
-module _ {D : Type 0} (a : Acts rows D) (law : Lawful a) where
+module _ {D : Type 0} (a : Acts rows D) (law : LawfulUnmet a) where
   pub once-asked : {before : D} {olds : List Shown} {tag : Tag} {X : Streams Token} {allowance : ℕ} {s : D} {now : List Shown} {left : ℕ} → At a before olds tag X allowance s now left → (next : Ask) (s' : D) → a.calls.Gives s next → s' ≡ a.calls.asking next s → Between a before olds tag X allowance next s' now left
   once-asked {before} {olds} {tag} {X} {allowance} {s} {now} {left} at next s' g e = record { state = s; at = at; gives = g; asking = e }
+
+  -- it makes no meetings, and tells none
+  pub no-meeting : (s : D) (next : Ask) → a.calls.Gives s next → (m : Meeting) → next ≡ ask.Meet m → ⊥
+  no-meeting s next g m e =
+      let some = law.lawful.agree.tells_meetings.tells m s (subst (λ n. a.calls.Gives s n) e g) in
+      clash (sym (ap (λ v. is_some v) (law.unmet s)) ∙ some)
+    where
+      clash : false ≡ true → ⊥
+      clash e = cc
 
   -- the director states the maximum capacity that it stated when the firing began
   pub between-maximum : {before : D} {olds : List Shown} {tag : Tag} {X : Streams Token} {allowance : ℕ} {next : Ask} {s : D} {now : List Shown} {left : ℕ} → Between a before olds tag X allowance next s now left → a.calls.maximum s ≡ a.calls.maximum before

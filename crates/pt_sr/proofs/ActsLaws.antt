@@ -28,12 +28,13 @@ use Rattle.pt_records.proofs.SoFarLaws.{recorded-done}
 use Rattle.pt_core.specs.Acts.{Beginning, Acts}
 use Rattle.pt_core.specs.Lawful.{Lawful, IsUsual, IsMove, IsLentTo, IsStuck, IsLeftOff, node, outcome, child_outcome, below_fault, own_fault, child_fault}
 use Rattle.pt_core.specs.Reached.{Becomes, Stays, Fires, Always, AllAlways}
+use Rattle.pt_core.proofs.MetLaws.{tells-none}
 use Rattle.pt_core.proofs.ReachedLaws.{always-reset}
 use Rattle.pt_sr.specs.State.{Stage, Open, Wrong, Closed, MayFire, MayAnswer, asked, listening, in_stage, begun, if_told, after_told, after_heard, inputs_of, unknown_in, lent_of, own_of, closed, at_first, all_of, known_of}
 use Rattle.pt_sr.specs.Clauses.{State, MayAsk, IsAsked}
 use Rattle.pt_sr.specs.Chain.{IsFor, AllFired, NothingComes}
 use Rattle.pt_sr.specs.SoFar.{SrSoFar, sr_node, sr_outcome}
-use Rattle.pt_sr.specs.SrActs.{IsStrictIf, HasPlaces, Suits, Going, Gives, asking, is_wrong, sr_acts}
+use Rattle.pt_sr.specs.SrActs.{IsStrictIf, HasPlaces, Suits, Going, Gives, asking, is_wrong, sr_calls, sr_acts}
 use Rattle.pt_sr.proofs.KnownLaws.{after-long}
 use Rattle.pt_sr.proofs.OffsetLaws.{total-within}
 use Rattle.pt_sr.proofs.ChainLaws.{get-or-there, total-set}
@@ -50,7 +51,7 @@ answered s (ask.Reset child) t q = absurd q
 answered s (ask.Get child) t q = absurd q
 answered s (ask.Put child) t q = absurd q
 answered s ask.Grow t q = absurd q
-answered s ask.Meet t q = absurd q
+answered s (ask.Meet meeting) t q = absurd q
 answered s ask.Await t q = absurd q
 answered s ask.Full t q = absurd q
 
@@ -104,7 +105,7 @@ module _ {A : Type 0} (rows : Rows Token A) (law : LawfulRows rows) where
   usual-one b s now news g (ask.Get child) q = absurd q
   usual-one b s now news g (ask.Put child) q = absurd q
   usual-one b s now news g ask.Grow q = absurd q
-  usual-one b s now news g ask.Meet q = q
+  usual-one b s now news g (ask.Meet meeting) q = absurd q
   usual-one b s now news g ask.Await q = q
   usual-one b s now news g ask.Full q = absurd q
 
@@ -119,7 +120,7 @@ module _ {A : Type 0} (rows : Rows Token A) (law : LawfulRows rows) where
   none-moves s ask.Finished m q = m
   none-moves s (ask.Faulted kind child) m q = m
   none-moves s ask.Full m q = m
-  none-moves s ask.Meet m q = m
+  none-moves s (ask.Meet meeting) m q = q
   none-moves s ask.Await m q = m
 
   -- it fits the children as they are now
@@ -211,7 +212,7 @@ module _ {A : Type 0} (rows : Rows Token A) (law : LawfulRows rows) where
           (subst (λ t. FiresTo (sr_outcome rows b.meets h start b.before b.kids t b.inputs) (sr_node (fired_at t h) start b.before (nodes_of now)) (own_of s) (kept_by e b.olds) (kept_by e news)) g.tag
           (sr-is-done rows b.meets h start b.before b.kids b.inputs e b.olds s now news g.so_far f))
 
-      off-one : IsLeftOff a b h e news
+      off-one : IsLeftOff a b h e s news
       off-one =
           subst (λ t. LeavesOff (sr_outcome rows b.meets h start b.before b.kids t b.inputs) (IsShut rows b.meets (sr_node h start b.before b.kids) t b.inputs None) (kept_by e b.olds) (kept_by e news)) g.tag
           (sr-is-left-off rows law b.meets h start b.before b.kids b.inputs e b.olds s now news g.so_far)
@@ -219,20 +220,20 @@ module _ {A : Type 0} (rows : Rows Token A) (law : LawfulRows rows) where
       stuck-so : Tag → Fault → List (Kept Token) → Type 0
       stuck-so t f ks = SticksAt (sr_outcome rows b.meets h start b.before b.kids t b.inputs) (IsShut rows b.meets (sr_node h start b.before b.kids) t b.inputs (Some f)) f (kept_by e b.olds) (kept_by e ks)
 
-      lacks-one : NothingComes s.tick → (w : ℕ) → w < length s.tick.plan.net.places → get_or s.tick.fired w false ≡ false → IsStuck a b h e (own_fault h Causality) news
+      lacks-one : NothingComes s.tick → (w : ℕ) → w < length s.tick.plan.net.places → get_or s.tick.fired w false ≡ false → IsStuck a b h e s (own_fault h Causality) news
       unfolding stuck-so
       lacks-one n w l q = subst (λ t. stuck-so t (own_fault h Causality) news) g.tag (sr-lacks rows law b.meets h start b.before b.kids b.inputs e b.olds s now news g.so_far n w l q)
 
       module _ (i : ℕ) (child : Node Token A) (there : get now i ≡ Some child) (may : MayFire s.tick i) (k : Kept Token) where
-        sticks-one : (f : Fault) → SticksAt (child_outcome a b (asked i s) i s.tag child) (IsShut rows (below_child i b.meets) child s.tag (lent_of s i) (Some f)) f (kept_at news i) k → IsStuck a b h e (below_fault i f) (set news i k)
+        sticks-one : (f : Fault) → SticksAt (child_outcome a b (asked i s) i s.tag child) (IsShut rows (below_child i b.meets) child s.tag (lent_of s i) (Some f)) f (kept_at news i) k → IsStuck a b h e s (below_fault i f) (set news i k)
         unfolding stuck-so
         sticks-one f x = subst (λ t. stuck-so t (below_fault i f) (set news i k)) g.tag (sr-is-stuck rows law b.meets h start b.before b.kids b.inputs e b.olds s now news g.so_far i child k f there may x)
 
-        refuses-one : (next : Node Token A) (out : Streams Token) → FiresTo (child_outcome a b (asked i s) i s.tag child) next out (kept_at news i) k → all_single out ≡ false → IsStuck a b h e (child_fault i child SecondToken) (set news i k)
+        refuses-one : (next : Node Token A) (out : Streams Token) → FiresTo (child_outcome a b (asked i s) i s.tag child) next out (kept_at news i) k → all_single out ≡ false → IsStuck a b h e s (child_fault i child SecondToken) (set news i k)
         unfolding stuck-so
         refuses-one next out f twice = subst (λ t. stuck-so t (child_fault i child SecondToken) (set news i k)) g.tag (sr-gives-two rows law b.meets h start b.before b.kids b.inputs e b.olds s now news g.so_far i child next out k there may f twice)
 
-        within-one : LeavesOff (child_outcome a b (asked i s) i s.tag child) (IsShut rows (below_child i b.meets) child s.tag (lent_of s i) None) (kept_at news i) k → IsLeftOff a b h e (set news i k)
+        within-one : LeavesOff (child_outcome a b (asked i s) i s.tag child) (IsShut rows (below_child i b.meets) child s.tag (lent_of s i) None) (kept_at news i) k → IsLeftOff a b h e s (set news i k)
         within-one x =
             subst (λ t. LeavesOff (sr_outcome rows b.meets h start b.before b.kids t b.inputs) (IsShut rows b.meets (sr_node h start b.before b.kids) t b.inputs None) (kept_by e b.olds) (kept_by e (set news i k))) g.tag
             (sr-is-left-off-within rows law b.meets h start b.before b.kids b.inputs e b.olds s now news g.so_far i child k there may x)
@@ -257,6 +258,7 @@ module _ {A : Type 0} (rows : Rows Token A) (law : LawfulRows rows) where
       finishes = λ s q. refl;
       restarts = λ s. (refl, refl);
       keeps_maximum = record { begun = λ tag inputs s. refl; asking = λ answer s. refl; handed = λ s. refl; told = λ i out wake need s. refl; heard = λ i early s. refl; closed = λ s. refl; restarted = λ s. refl };
+      tells_meetings = tells-none sr_calls (λ s. refl) (λ m s q. q);
     };
     idle = λ s kids f. f.0;
     wakes = λ s kids f. refl;
@@ -268,9 +270,9 @@ module _ {A : Type 0} (rows : Rows Token A) (law : LawfulRows rows) where
       fires_one = λ i when q. child-within b s now news g i q.1.there;
       lends = λ i when q child e. lends-one b s now news g i child q.1.there e;
       goes_on = λ i when q child next out k e f single. goes-one b s now news g i child e q.1 next out k (subst (λ t. FiresTo (λ fuel. Step fuel rows (below_child i b.meets) child t (lent_of s i)) next out (kept_at news i) k) q.2 f) single;
-      refuses = λ i when q child next out k there f twice h e. refuses-one b s now news g h e i child there q.1 k next out (subst (λ t. FiresTo (child_outcome (sr_acts rows) b (asked i s) i t child) next out (kept_at news i) k) q.2 f) twice;
-      sticks = λ i when q child k f there x h e. sticks-one b s now news g h e i child there q.1 k f (subst (λ t. SticksAt (child_outcome (sr_acts rows) b (asked i s) i t child) (IsShut rows (below_child i b.meets) child t (lent_of s i) (Some f)) f (kept_at news i) k) q.2 x);
-      asks_as = λ i when q child there h. asks-one b s now news g i child there q.1 h when q.2;
+      refuses = λ i when q child next out k there f twice h e met. refuses-one b s now news g h e i child there q.1 k next out (subst (λ t. FiresTo (child_outcome (sr_acts rows) b (asked i s) i t child) next out (kept_at news i) k) q.2 f) twice;
+      sticks = λ i when q child k f there x h e met. sticks-one b s now news g h e i child there q.1 k f (subst (λ t. SticksAt (child_outcome (sr_acts rows) b (asked i s) i t child) (IsShut rows (below_child i b.meets) child t (lent_of s i) (Some f)) f (kept_at news i) k) q.2 x);
+      asks_as = λ i when q child there h met. asks-one b s now news g i child there q.1 h when q.2;
       listens = λ i when q. child-within b s now news g i q.1.there;
       hears = λ i when q child e. subst (λ t. Going rows b (after_heard i (early_of rows t child (inputs_of s.tick i)) (listening i s)) now news) (sym q.2) (hears-one b s now news g i child e q.1);
       learns = λ i when q early. total-set s.tick.heard i (unknown_in (inputs_of s.tick i)) (omega (arith, q.1.there, (g.so_far.run.1 g.so_far.run.0 (omega arith)).numbers)) q.1.news;
@@ -278,11 +280,11 @@ module _ {A : Type 0} (rows : Rows Token A) (law : LawfulRows rows) where
       resets = λ i q child e. absurd q;
       rests = λ i q. absurd q;
       moves = λ answer m q. absurd (none-moves s answer m q);
-      ends = λ q h e. ends-one b s now news g h e q.1;
+      ends = λ q h e met. ends-one b s now news g h e q.1;
       fits = λ q. (refl, record { children = g.suits.children; channels = g.suits.channels; strict = g.suits.strict; places = g.suits.places });
-      faults = λ kind q h e. subst (λ v. IsStuck (sr_acts rows) b h e (own_fault h v) news) (sym q.0) (lacks-one b s now news g h e q.2.0 q.2.1.0 q.2.1.1 q.2.1.2);
+      faults = λ kind q h e met. subst (λ v. IsStuck (sr_acts rows) b h e s (own_fault h v) news) (sym q.0) (lacks-one b s now news g h e q.2.0 q.2.1.0 q.2.1.1 q.2.1.2);
       jams = λ q. absurd q;
-      off = λ h e. off-one b s now news g h e;
-      off_within = λ i when q child k there x h e. within-one b s now news g h e i child there q.1 k (subst (λ t. LeavesOff (child_outcome (sr_acts rows) b (asked i s) i t child) (IsShut rows (below_child i b.meets) child t (lent_of s i) None) (kept_at news i) k) q.2 x);
+      off = λ h e met. off-one b s now news g h e;
+      off_within = λ i when q child k there x h e met. within-one b s now news g h e i child there q.1 k (subst (λ t. LeavesOff (child_outcome (sr_acts rows) b (asked i s) i t child) (IsShut rows (below_child i b.meets) child t (lent_of s i) None) (kept_at news i) k) q.2 x);
     };
   }

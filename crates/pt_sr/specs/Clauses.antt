@@ -35,7 +35,7 @@ IsAsked s (ask.Reset child) t = ⊥
 IsAsked s (ask.Get child) t = ⊥
 IsAsked s (ask.Put child) t = ⊥
 IsAsked s ask.Grow t = ⊥
-IsAsked s ask.Meet t = ⊥
+IsAsked s (ask.Meet meeting) t = ⊥
 IsAsked s ask.Await t = ⊥
 IsAsked s ask.Full t = ⊥
 

@@ -58,7 +58,7 @@ Gives s (ask.Reset child) = ⊥
 Gives s (ask.Get child) = ⊥
 Gives s (ask.Put child) = ⊥
 Gives s ask.Grow = ⊥
-Gives s ask.Meet = ⊥
+Gives s (ask.Meet meeting) = ⊥
 Gives s ask.Await = ⊥
 Gives s ask.Full = ⊥
 
@@ -71,7 +71,7 @@ asking (ask.Reset child) s = s
 asking (ask.Get child) s = s
 asking (ask.Put child) s = s
 asking ask.Grow s = s
-asking ask.Meet s = s
+asking (ask.Meet meeting) s = s
 asking ask.Await s = s
 asking ask.Full s = s
 
@@ -123,6 +123,7 @@ sr_calls = record {
   waits = waits;
   maximum = λ s. 0;
   blocked = λ s. [];
+  met = λ s. None;
 }
 
 abbrev pub sr_acts : {A : Type 0} (rows : Rows Token A) → Acts rows State

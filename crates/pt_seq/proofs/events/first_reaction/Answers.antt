@@ -9,7 +9,7 @@ use Rattle.pt_seq.proofs.Loop.{on-ok, on-err}
 use Rattle.pt_seq.proofs.events.first_reaction.Goals as goal
 
 pub begin-requires-clause-idle : goal.begin-requires-clause-idle
-begin-requires-clause-idle c = acts-law.idle (de_of c.args.core.now) _ c.requires.ready
+begin-requires-clause-idle c = acts-law.lawful.idle (de_of c.args.core.now) _ c.requires.ready
 
 pub returns-then-is_err : goal.returns-then-is_err
 returns-then-is_err c = begin-halts acts acts-law (de_of c.args.core.now) (de_of c.begin.new.self) (map shown c.args.children.now.items) c.args.tag c.args.inputs.now c.args.left.now c.requires.ready c.requires.inputs c.requires.fit (ap (λ v. de_of v) (on-err c.begin.result (c.begin.new.self ≡ c.args.core.now) (sym c.is_err.ensures.value ∙ c.if-is_err.true) c.begin.ensures.kept))

@@ -17,30 +17,30 @@ use Rattle.pt_seq.proofs.Entering.{actor-enters, actor-named, actor-stays, compo
 use Rattle.pt_seq.proofs.fire.+fire.Goals as goal
 
 pub fire_any-lent-requires : goal.fire_any-lent-requires
-fire_any-lent-requires t c = handed-once director_calls acts-law.agree c.args.director.now c.hand.new.self c.args.number c.requires.asked c.hand.ensures
+fire_any-lent-requires t c = handed-once director_calls acts-law.lawful.agree c.args.director.now c.hand.new.self c.args.number c.requires.asked c.hand.ensures
 
 pub fire_any-tell-requires-clause-fit : goal.fire_any-tell-requires-clause-fit
 fire_any-tell-requires-clause-fit t c = c.in-Done.ensures.fit
 
 pub fire_any-tell-requires-clause-asked : goal.fire_any-tell-requires-clause-asked
-fire_any-tell-requires-clause-asked t c = asked-once-handed director_calls acts-law.agree c.args.director.now c.hand.new.self c.args.number c.requires.asked c.hand.ensures
+fire_any-tell-requires-clause-asked t c = asked-once-handed director_calls acts-law.lawful.agree c.args.director.now c.hand.new.self c.args.number c.requires.asked c.hand.ensures
 
 pub fire_any-returns-in-Fault-clause-goes : goal.fire_any-returns-in-Fault-clause-goes
-fire_any-returns-in-Fault-clause-goes t c = turn-stuck director_calls c.args.director.now (shown_node c.args.child.now) (shown_node c.fire.new.node) c.args.number c.args.tag c.lent.result c.in-Fault.place c.hand.new.self (lent-once-handed director_calls acts-law.agree c.args.director.now c.hand.new.self c.args.number c.requires.asked c.hand.ensures c.lent.result c.lent.ensures) c.in-Fault.ensures.goes
+fire_any-returns-in-Fault-clause-goes t c = turn-stuck director_calls c.args.director.now (shown_node c.args.child.now) (shown_node c.fire.new.node) c.args.number c.args.tag c.lent.result c.in-Fault.place c.hand.new.self (lent-once-handed director_calls acts-law.lawful.agree c.args.director.now c.hand.new.self c.args.number c.requires.asked c.hand.ensures c.lent.result c.lent.ensures) c.in-Fault.ensures.goes
 
 pub fire_any-returns-in-Spent-clause-goes : goal.fire_any-returns-in-Spent-clause-goes
-fire_any-returns-in-Spent-clause-goes t c = turn-off (shown_node c.args.child.now) (shown_node c.fire.new.node) c.args.tag c.lent.result (director_calls.lent_of c.args.director.now) (lent-once-handed director_calls acts-law.agree c.args.director.now c.hand.new.self c.args.number c.requires.asked c.hand.ensures c.lent.result c.lent.ensures) c.in-Spent.ensures.goes
+fire_any-returns-in-Spent-clause-goes t c = turn-off (shown_node c.args.child.now) (shown_node c.fire.new.node) c.args.tag c.lent.result (director_calls.lent_of c.args.director.now) (lent-once-handed director_calls acts-law.lawful.agree c.args.director.now c.hand.new.self c.args.number c.requires.asked c.hand.ensures c.lent.result c.lent.ensures) c.in-Spent.ensures.goes
 
 pub fire_any-returns-in-Memory-clause-goes : goal.fire_any-returns-in-Memory-clause-goes
-fire_any-returns-in-Memory-clause-goes t c = turn-off (shown_node c.args.child.now) (shown_node c.fire.new.node) c.args.tag c.lent.result (director_calls.lent_of c.args.director.now) (lent-once-handed director_calls acts-law.agree c.args.director.now c.hand.new.self c.args.number c.requires.asked c.hand.ensures c.lent.result c.lent.ensures) c.in-Memory.ensures.goes
+fire_any-returns-in-Memory-clause-goes t c = turn-off (shown_node c.args.child.now) (shown_node c.fire.new.node) c.args.tag c.lent.result (director_calls.lent_of c.args.director.now) (lent-once-handed director_calls acts-law.lawful.agree c.args.director.now c.hand.new.self c.args.number c.requires.asked c.hand.ensures c.lent.result c.lent.ensures) c.in-Memory.ensures.goes
 
 pub fire_any-returns-then-left-eq0-clause-goes : goal.fire_any-returns-then-left-eq0-clause-goes
-fire_any-returns-then-left-eq0-clause-goes t c = turn-off-done (shown_node c.args.child.now) (shown_node c.fire.new.node) c.args.tag c.lent.result (director_calls.lent_of c.args.director.now) c.in-Done.outputs (lent-once-handed director_calls acts-law.agree c.args.director.now c.hand.new.self c.args.number c.requires.asked c.hand.ensures c.lent.result c.lent.ensures) c.in-Done.ensures.goes
+fire_any-returns-then-left-eq0-clause-goes t c = turn-off-done (shown_node c.args.child.now) (shown_node c.fire.new.node) c.args.tag c.lent.result (director_calls.lent_of c.args.director.now) c.in-Done.outputs (lent-once-handed director_calls acts-law.lawful.agree c.args.director.now c.hand.new.self c.args.number c.requires.asked c.hand.ensures c.lent.result c.lent.ensures) c.in-Done.ensures.goes
 
 pub fire_any-returns-clause-goes : goal.fire_any-returns-clause-goes
 fire_any-returns-clause-goes t c =
-    turn-after director_calls c.args.director.now (shown_node c.args.child.now) (shown_node c.fire.new.node) c.args.number c.args.tag c.lent.result c.in-Done.outputs c.tell.result c.tell.new.director (shown_node c.tell.new.child) (lent-once-handed director_calls acts-law.agree c.args.director.now c.hand.new.self c.args.number c.requires.asked c.hand.ensures c.lent.result c.lent.ensures) c.in-Done.ensures.goes c.in-Done.ensures.fit c.in-Done.ensures.outline (ap (λ p. p.made) c.in-Done.ensures.past)
-    (told-once-handed director_calls acts-law.agree c.args.director.now c.hand.new.self c.args.number c.requires.asked c.hand.ensures (shown_node c.fire.new.node) c.args.tag c.in-Done.outputs c.tell.result c.tell.new.director (shown_node c.tell.new.child) c.tell.ensures.goes)
+    turn-after director_calls c.args.director.now (shown_node c.args.child.now) (shown_node c.fire.new.node) c.args.number c.args.tag c.lent.result c.in-Done.outputs c.tell.result c.tell.new.director (shown_node c.tell.new.child) (lent-once-handed director_calls acts-law.lawful.agree c.args.director.now c.hand.new.self c.args.number c.requires.asked c.hand.ensures c.lent.result c.lent.ensures) c.in-Done.ensures.goes c.in-Done.ensures.fit c.in-Done.ensures.outline (ap (λ p. p.made) c.in-Done.ensures.past)
+    (told-once-handed director_calls acts-law.lawful.agree c.args.director.now c.hand.new.self c.args.number c.requires.asked c.hand.ensures (shown_node c.fire.new.node) c.args.tag c.in-Done.outputs c.tell.result c.tell.new.director (shown_node c.tell.new.child) c.tell.ensures.goes)
 
 pub fire-returns-in-Actor-clause-goes : goal.fire-returns-in-Actor-clause-goes
 fire-returns-in-Actor-clause-goes t c = actor-enters c.args.node.now _ _ _ c.in-Actor.held c.fire_actor.new.held c.node.view_is refl c.in-Actor.is c.args.tag c.args.inputs.now c.fire_actor.result c.fire_actor.ensures.goes refl
@@ -61,25 +61,25 @@ fire_child-returns-then-several-clause-goes t c =
     (subst (λ v. TellTo director_calls c.args.director.now (shown_node c.several.new.node) c.args.number c.args.tag (map Int v ∷ []) c.tell_numbers-then-several.result c.tell_numbers-then-several.new.director (shown_node c.tell_numbers-then-several.new.child)) c.deref.ensures.value c.tell_numbers-then-several.ensures.goes)
 
 pub fire_any-returns-in-Full-clause-goes : goal.fire_any-returns-in-Full-clause-goes
-fire_any-returns-in-Full-clause-goes t c = turn-full director_calls c.args.director.now (shown_node c.args.child.now) (shown_node c.fire.new.node) c.args.number c.args.tag c.lent.result c.in-Full.blocked c.hand.new.self (lent-once-handed director_calls acts-law.agree c.args.director.now c.hand.new.self c.args.number c.requires.asked c.hand.ensures c.lent.result c.lent.ensures) c.in-Full.ensures.goes
+fire_any-returns-in-Full-clause-goes t c = turn-full director_calls c.args.director.now (shown_node c.args.child.now) (shown_node c.fire.new.node) c.args.number c.args.tag c.lent.result c.in-Full.blocked c.hand.new.self (lent-once-handed director_calls acts-law.lawful.agree c.args.director.now c.hand.new.self c.args.number c.requires.asked c.hand.ensures c.lent.result c.lent.ensures) c.in-Full.ensures.goes
 
 pub fire_any-returns-in-Fault-clause-maximum : goal.fire_any-returns-in-Fault-clause-maximum
-fire_any-returns-in-Fault-clause-maximum t c = maximum-once-handed director_calls acts-law.agree c.args.director.now c.hand.new.self c.args.number c.requires.asked c.hand.ensures
+fire_any-returns-in-Fault-clause-maximum t c = maximum-once-handed director_calls acts-law.lawful.agree c.args.director.now c.hand.new.self c.args.number c.requires.asked c.hand.ensures
 
 pub fire_any-returns-in-Spent-clause-maximum : goal.fire_any-returns-in-Spent-clause-maximum
-fire_any-returns-in-Spent-clause-maximum t c = maximum-once-handed director_calls acts-law.agree c.args.director.now c.hand.new.self c.args.number c.requires.asked c.hand.ensures
+fire_any-returns-in-Spent-clause-maximum t c = maximum-once-handed director_calls acts-law.lawful.agree c.args.director.now c.hand.new.self c.args.number c.requires.asked c.hand.ensures
 
 pub fire_any-returns-in-Full-clause-maximum : goal.fire_any-returns-in-Full-clause-maximum
-fire_any-returns-in-Full-clause-maximum t c = maximum-once-handed director_calls acts-law.agree c.args.director.now c.hand.new.self c.args.number c.requires.asked c.hand.ensures
+fire_any-returns-in-Full-clause-maximum t c = maximum-once-handed director_calls acts-law.lawful.agree c.args.director.now c.hand.new.self c.args.number c.requires.asked c.hand.ensures
 
 pub fire_any-returns-in-Memory-clause-maximum : goal.fire_any-returns-in-Memory-clause-maximum
-fire_any-returns-in-Memory-clause-maximum t c = maximum-once-handed director_calls acts-law.agree c.args.director.now c.hand.new.self c.args.number c.requires.asked c.hand.ensures
+fire_any-returns-in-Memory-clause-maximum t c = maximum-once-handed director_calls acts-law.lawful.agree c.args.director.now c.hand.new.self c.args.number c.requires.asked c.hand.ensures
 
 pub fire_any-returns-then-left-eq0-clause-maximum : goal.fire_any-returns-then-left-eq0-clause-maximum
-fire_any-returns-then-left-eq0-clause-maximum t c = maximum-once-handed director_calls acts-law.agree c.args.director.now c.hand.new.self c.args.number c.requires.asked c.hand.ensures
+fire_any-returns-then-left-eq0-clause-maximum t c = maximum-once-handed director_calls acts-law.lawful.agree c.args.director.now c.hand.new.self c.args.number c.requires.asked c.hand.ensures
 
 pub fire_any-returns-clause-maximum : goal.fire_any-returns-clause-maximum
-fire_any-returns-clause-maximum t c = c.tell.ensures.maximum ∙ maximum-once-handed director_calls acts-law.agree c.args.director.now c.hand.new.self c.args.number c.requires.asked c.hand.ensures
+fire_any-returns-clause-maximum t c = c.tell.ensures.maximum ∙ maximum-once-handed director_calls acts-law.lawful.agree c.args.director.now c.hand.new.self c.args.number c.requires.asked c.hand.ensures
 
 pub fire-returns-in-Actor-clause-outline : goal.fire-returns-in-Actor-clause-outline
 fire-returns-in-Actor-clause-outline t c = actor-named c.args.node.now _ _ _ c.in-Actor.held c.fire_actor.new.held c.node.view_is refl c.in-Actor.is c.args.tag c.args.inputs.now c.fire_actor.result c.fire_actor.ensures.goes refl

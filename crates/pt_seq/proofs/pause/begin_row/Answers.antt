@@ -8,7 +8,7 @@ use Rattle.pt_seq.proofs.Loop.{on-ok, on-err}
 use Rattle.pt_seq.proofs.pause.begin_row.Goals as goal
 
 pub begin-requires-clause-idle : goal.begin-requires-clause-idle
-begin-requires-clause-idle c = acts-law.idle c.args.director.now _ c.requires.ready
+begin-requires-clause-idle c = acts-law.lawful.idle c.args.director.now _ c.requires.ready
 
 pub returns-then-is_err : goal.returns-then-is_err
 returns-then-is_err c = begin-halts acts acts-law c.args.director.now c.begin.new.self (map shown c.args.children.now.items) c.args.tag c.args.inputs.now c.args.left.now c.requires.ready c.requires.inputs c.requires.fit (on-err c.begin.result (c.begin.new.self ≡ c.args.director.now) (sym c.is_err.ensures.value ∙ c.if-is_err.true) c.begin.ensures.kept)

@@ -9,7 +9,7 @@ use Rattle.pt_node.specs.Shown.{shown_node}
 use Rattle.pt_node.specs.View.{node_of}
 use Rattle.pt_seq.proofs.Acting.{acts-law}
 use Rattle.pt_seq.proofs.Firing.{is-usual, asked-maximum, halts-here, at-moved, move-lessens}
-use Rattle.pt_seq.proofs.Loop.{on-ok, on-err, once-asked, turn-of, faulted-itself, is-move, no-unusual, listen-in, listen-asked, listen-learns, listen-next, restart-in, restart-rests, restart-fit, restart-next, restart-halts}
+use Rattle.pt_seq.proofs.Loop.{on-ok, on-err, once-asked, turn-of, faulted-itself, is-move, no-unusual, no-meeting, listen-in, listen-asked, listen-learns, listen-next, restart-in, restart-rests, restart-fit, restart-next, restart-halts}
 use Rattle.pt_seq.proofs.pause.heed.Goals as goal
 
 pub returns-then-left-eq0 : goal.returns-then-left-eq0
@@ -32,7 +32,7 @@ returns-in-Get c before olds tag X allowance state a g e = let move = is-move c.
 
 pub unreachable-requires : goal.unreachable-requires
 unreachable-requires c =
-    no-unusual c.args.next (is-usual acts acts-law c.requires.1.between.at c.args.next c.requires.1.between.gives) c.in_default.not-Fire c.in_default.not-Early c.in_default.not-Reset c.in_default.not-Get c.in_default.not-Put c.in_default.not-Grow c.in_default.not-Finished c.in_default.not-Faulted c.in_default.not-Full
+    no-unusual c.args.next (is-usual acts acts-law c.requires.1.between.at c.args.next c.requires.1.between.gives) (no-meeting acts acts-law c.requires.1.between.state c.args.next c.requires.1.between.gives) c.in_default.not-Fire c.in_default.not-Early c.in_default.not-Reset c.in_default.not-Get c.in_default.not-Put c.in_default.not-Grow c.in_default.not-Finished c.in_default.not-Faulted c.in_default.not-Full
 
 pub index-child-requires : goal.index-child-requires
 index-child-requires c = let h = listen-in acts acts-law c.args.children.now.items c.requires.1.between.at c.in-Early.number c.in-Early.when (subst (λ n. director_calls.Gives c.requires.1.between.state n) c.in-Early.is c.requires.1.between.gives) c.args.director.now (c.requires.1.between.asking ∙ ap (λ n. director_calls.asking n c.requires.1.between.state) c.in-Early.is) in grind (arith, h)
