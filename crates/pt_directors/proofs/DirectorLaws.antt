@@ -15,16 +15,24 @@ use Rattle.pt_de_laws.specs.DeActs.{de_acts}
 use Rattle.pt_de_laws.proofs.ActsLaws.{de-is-lawful}
 use Rattle.pt_pn_laws.specs.PnActs.{pn_acts}
 use Rattle.pt_pn_laws.proofs.ActsLaws.{pn-is-lawful}
+use Rattle.pt_chart.specs.Chart.{chart_of}
+use Rattle.pt_modal_laws.specs.ModalActs.{modal_acts}
+use Rattle.pt_modal_laws.proofs.ActsLaws.{modal-is-lawful}
 use Rattle.pt_directors.specs.Directors.{Director, director_calls, director_acts}
 
 pub director-is-lawful : {A : Type 0} (rows : Rows Token A) → LawfulRows rows → Lawful (director_acts rows)
 director-is-lawful rows law =
-    let de-or-pn = either-is-lawful (de_acts rows) (pn_acts rows) (de-is-lawful rows law) (pn-is-lawful rows law) in
-    let sr-or-other = either-is-lawful (sr_acts rows) (either_acts (de_acts rows) (pn_acts rows)) (sr-is-lawful rows law) de-or-pn in
-    either-is-lawful (sdf_acts rows) (either_acts (sr_acts rows) (either_acts (de_acts rows) (pn_acts rows))) (sdf-is-lawful rows law) sr-or-other
+    let pn-or-modal = either_acts (pn_acts rows) (modal_acts chart_of rows) in
+    let de-or-other = either_acts (de_acts rows) pn-or-modal in
+    let sr-or-other = either_acts (sr_acts rows) de-or-other in
+    let pn-law = either-is-lawful (pn_acts rows) (modal_acts chart_of rows) (pn-is-lawful rows law) (modal-is-lawful chart_of rows law) in
+    let de-law = either-is-lawful (de_acts rows) pn-or-modal (de-is-lawful rows law) pn-law in
+    let sr-law = either-is-lawful (sr_acts rows) de-or-other (sr-is-lawful rows law) de-law in
+    either-is-lawful (sdf_acts rows) sr-or-other (sdf-is-lawful rows law) sr-law
 
 pub director-unmet : (s : Director) → director_calls.met s ≡ None
 director-unmet (First s) = refl
 director-unmet (Other (First s)) = refl
 director-unmet (Other (Other (First s))) = refl
-director-unmet (Other (Other (Other s))) = refl
+director-unmet (Other (Other (Other (First s)))) = refl
+director-unmet (Other (Other (Other (Other s)))) = refl

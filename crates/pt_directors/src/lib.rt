@@ -1,6 +1,6 @@
-//! The directors that a composite may have. A new one is named here, in the type and in its acts, and in no other crate below a document.
+//! The directors that a composite may have. A new one is named here, in the type and in its acts.
 #![tactic(auto)]
 
 mod director;
 
-pub use director::Director;
+pub use director::{Director, de, modal, pn, sdf, sr};

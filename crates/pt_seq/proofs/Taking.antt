@@ -5,6 +5,7 @@ use Rattle.pt_meaning.specs.Tree as tree
 use Rattle.pt_value.specs.declared.token.Token.{Token}
 use Rattle.pt_core.specs.Lawful.{IsLentTo}
 use Rattle.pt_core.specs.declared.either.Either.TheVariants.{First, Other}
+use Rattle.pt_chart.specs.Chart.{chart_of}
 use Rattle.pt_directors.specs.Directors.{Director}
 use Rattle.pt_library.specs.declared.library_actor.LibraryActor.{LibraryActor}
 use Rattle.pt_library.specs.declared.library_actor.LibraryActor.TheVariants.{Flow, Data, Time, Timed}
@@ -30,7 +31,8 @@ director-takes : (h : tree.Past) (d : Director) (ks : AllShown) (X : Streams Tok
 director-takes h (First s) ks X l = l.places s.plan.takes refl
 director-takes h (Other (First s)) ks X l = l.places (replicate s.tick.plan.inputs 1) refl ∙ long-replicate s.tick.plan.inputs 1
 director-takes h (Other (Other (First s))) ks X l = l.places (replicate s.plan.inputs 1) refl ∙ long-replicate s.plan.inputs 1
-director-takes h (Other (Other (Other s))) ks X l = l.places s.network.plan.takes refl
+director-takes h (Other (Other (Other (First s)))) ks X l = l.places s.network.plan.takes refl
+director-takes h (Other (Other (Other (Other s)))) ks X l = l.places (replicate (chart_of s.plan.machine).inputs 1) refl ∙ long-replicate (chart_of s.plan.machine).inputs 1
 
 body-takes : (tag : Tag) (h : tree.Past) (b : Body) (ks : AllShown) (X : Streams Token) → IsLentTo rows (node_with h b (nodes_of ks)) X → TakesBody tag b X
 body-takes tag h (body.Actor held) ks X l = actor-takes tag held.actor X

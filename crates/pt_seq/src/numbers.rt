@@ -209,7 +209,10 @@ fn int_inputs<'a>(director: &'a Director, row: &'a mut Vec<i64>) -> Option<IntIn
         Either::First(core) => NumberCore::int_inputs(core, row),
         Either::Other(Either::First(core)) => NumberCore::int_inputs(core, row),
         Either::Other(Either::Other(Either::First(_))) => None,
-        Either::Other(Either::Other(Either::Other(core))) => NumberCore::int_inputs(core, row),
+        Either::Other(Either::Other(Either::Other(Either::First(core)))) => {
+            NumberCore::int_inputs(core, row)
+        }
+        Either::Other(Either::Other(Either::Other(Either::Other(_)))) => None,
     }
 }
 

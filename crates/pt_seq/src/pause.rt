@@ -104,7 +104,7 @@ fn begin_row(
     fire_row(alloc, director, children, left, row)
 }
 
-/// Makes firings of numbers alone, by the core of the director, or of one integer at most under DE.
+/// Makes firings of numbers alone, by the core of the director, or of one integer at most under DE. A Modal director is only asked what comes next.
 #[inline(always)]
 pub(crate) fn fire_row(
     alloc: Global,
@@ -123,8 +123,12 @@ pub(crate) fn fire_row(
         Either::Other(Either::Other(Either::First(core))) => {
             fire_events(core, children, left, row)
         }
-        Either::Other(Either::Other(Either::Other(core))) => {
+        Either::Other(Either::Other(Either::Other(Either::First(core)))) => {
             fire_numbers(alloc, core, children, left, row)
+        }
+        // A reaction fires one child at most.
+        Either::Other(Either::Other(Either::Other(Either::Other(_)))) => {
+            Rest::Asked(director.ask())
         }
     }
 }

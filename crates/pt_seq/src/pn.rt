@@ -1,4 +1,4 @@
-ghost use Rattle.pt_core.specs.declared.either.Either.TheVariants.{Other};
+ghost use Rattle.pt_directors.specs.Directors.{of_pn};
 
 use crate::number_core::NumberCore;
 use pt_firing::{Ask, IntInputs};
@@ -7,7 +7,7 @@ use pt_pn::Core;
 use std::alloc::Global;
 
 impl NumberCore for Core {
-    ghost director = { λ s. Other (Other (Other s)) };
+    ghost director = { of_pn };
 
     #[inline(always)]
     fn ask(&mut self) -> Ask {
