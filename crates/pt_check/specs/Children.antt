@@ -27,7 +27,7 @@ abbrev pub director_depths : Director → List ℕ
 director_depths (First sdf) = []
 director_depths (Other (First sr)) = []
 director_depths (Other (Other (First de))) = de.roles.depths
-director_depths (Other (Other (Other pn))) = []
+director_depths (Other (Other (Other other))) = []
 
 abbrev pub depths_of : Body → List ℕ
 depths_of (Actor held) = []

@@ -29,7 +29,8 @@ fn node_rates(alloc: Global, node: &Node) -> Result<Option<Counts>, AllocError>
             Ok(Some(ones(alloc, core.outlets())?))
         }
         Body::Composite(Either::Other(Either::Other(Either::First(_)))) => Ok(None),
-        Body::Composite(Either::Other(Either::Other(Either::Other(_)))) => Ok(None),
+        Body::Composite(Either::Other(Either::Other(Either::Other(Either::First(_))))) => Ok(None),
+        Body::Composite(Either::Other(Either::Other(Either::Other(Either::Other(_))))) => Ok(None),
     }
 }
 

@@ -93,7 +93,7 @@ PlansDepths around kids (Actor held) = Unit {0}
 PlansDepths around kids (Composite (First sdf)) = Unit {0}
 PlansDepths around kids (Composite (Other (First sr))) = Unit {0}
 PlansDepths around kids (Composite (Other (Other (First core)))) = AreDepthsIn (tick_plan around) (delayed_in around kids) core.roles.depths
-PlansDepths around kids (Composite (Other (Other (Other pn)))) = Unit {0}
+PlansDepths around kids (Composite (Other (Other (Other other)))) = Unit {0}
 
 -- it is refused where some directed loop has none
 pub record IsDeRefused (around : Around) (kids : List Tree) (code : Code) : Type 0 where
