@@ -6,7 +6,6 @@ use Rattle.pt_meaning.specs.Tree as tree
 use Rattle.pt_meaning.specs.Valuation.{TickPlan}
 use Rattle.pt_laws.specs.Heights.{IsFitting}
 use Rattle.pt_laws.specs.StartedRuns.{IsWhole}
-use Rattle.pt_core.specs.declared.either.Either.TheVariants.{First, Other}
 use Rattle.pt_core.specs.declared.source.Source.{Source}
 use Rattle.pt_core.specs.Source.{source_of}
 use Rattle.pt_de_laws.specs.DeActs.{State, de_acts}
@@ -14,6 +13,7 @@ use Rattle.pt_de_laws.specs.State.{started}
 use Rattle.pt_de_plan.specs.declared.planning.DePlan.{DePlan}
 use Rattle.pt_de_plan.specs.Inside.{plan_of, roles_of}
 use Rattle.pt_library.specs.LibraryActor.{rows}
+use Rattle.pt_directors.specs.Directors.{of_de}
 use Rattle.pt_node.specs.Recorded.{RecordedPort}
 use Rattle.pt_node.specs.Shown.{Shown, all_of}
 use Rattle.pt_node.specs.View.{Tree, node_of, nodes_of}
@@ -53,7 +53,7 @@ module _ (around : Around) (kids : List Shown) (path : List ℕ) (records : List
   core = started (plan_of p.inside) (roles_of p.inside p.depths.items)
 
   abbrev made : Shown
-  made = built (Other (Other (First core))) kids path records labels
+  made = built (of_de core) kids path records labels
 
   same : plan_of p.inside ≡ tick_plan around
   same = plan.inside.plan

@@ -17,7 +17,6 @@ use Rattle.pt_laws.specs.StartedRuns.{AllThere, IsWhole}
 use Rattle.pt_value.specs.declared.token.Token.{Token}
 use Rattle.pt_core.specs.Reached.{AllAlways}
 use Rattle.pt_core.specs.Source.{source_of}
-use Rattle.pt_core.specs.declared.either.Either.TheVariants.{Other}
 use Rattle.pt_pn_laws.specs.Lawful.{AllCount, HasPlaces, IsFor, IsLawful}
 use Rattle.pt_pn_laws.specs.PnActs.{State, Suits, pn_acts}
 use Rattle.pt_pn_laws.specs.State.{Network, started}
@@ -27,6 +26,7 @@ use Rattle.pt_process.specs.declared.plan.CorePlan.{CorePlan}
 use Rattle.pt_process.specs.Plan.{network_of, IsNamed, IsSoundNetwork}
 use Rattle.pt_process.specs.Process.{need_in, IsKept}
 use Rattle.pt_library.specs.LibraryActor.{rows}
+use Rattle.pt_directors.specs.Directors.{of_pn}
 use Rattle.pt_node.specs.Recorded.{RecordedPort}
 use Rattle.pt_node.specs.Shown.{Shown, all_of}
 use Rattle.pt_node.specs.View.{Tree, node_of, nodes_of}
@@ -138,7 +138,7 @@ module _ (around : Around) (kids : List Shown) (path : List ℕ) (records : List
   core = started (network around its wired)
 
   abbrev made : Shown
-  made = built (Other (Other (Other core))) kids path records labels
+  made = built (of_pn core) kids path records labels
 
   abbrev first : Streams Token
   first = first_held rows its around.sources

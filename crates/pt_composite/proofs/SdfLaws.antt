@@ -11,7 +11,6 @@ use Rattle.pt_meaning.specs.Tree as tree
 use Rattle.pt_laws.specs.Heights.{IsFitting}
 use Rattle.pt_laws.specs.StartedRuns.{ArePlans}
 use Rattle.pt_value.specs.declared.token.Token.{Token}
-use Rattle.pt_core.specs.declared.either.Either.TheVariants.{First}
 use Rattle.pt_core.specs.Source.{source_of}
 use Rattle.pt_sdf.specs.declared.plan.CorePlan.{CorePlan}
 use Rattle.pt_sdf.specs.ByNeed.{needs_of, planned}
@@ -28,6 +27,7 @@ use Rattle.pt_plan.specs.PlanOf.{IsPlanOf}
 use Rattle.pt_plan.specs.Unfed.{own, unfed, sources_of, no_tokens, first_of}
 use Rattle.pt_plan.proofs.UnfedLaws.{sources-long}
 use Rattle.pt_library.specs.LibraryActor.{rows}
+use Rattle.pt_directors.specs.Directors.{of_sdf}
 use Rattle.pt_node.specs.Recorded.{RecordedPort}
 use Rattle.pt_node.specs.Shown.{Shown, all_of}
 use Rattle.pt_node.specs.View.{Tree, node_of, nodes_of}
@@ -77,7 +77,7 @@ module _ (around : Around) (kids : List Shown) (path : List ℕ) (records : List
   core = started (plan_of p) p.needs first
 
   abbrev made : Shown
-  made = built (First core) kids path records labels
+  made = built (of_sdf core) kids path records labels
 
   sources-are : (plan_of p).net.sources ≡ map source_of (sources_of x)
   sources-are = ap (λ (n : net.Net). n.sources) plan.net

@@ -10,7 +10,6 @@ use Rattle.pt_laws.specs.StartedRuns.{IsWhole}
 use Rattle.pt_value.specs.declared.token.Token.{Token}
 use Rattle.pt_core.specs.Reached.{Always, AllAlways}
 use Rattle.pt_core.proofs.ReachedLaws as reached
-use Rattle.pt_core.specs.declared.either.Either.TheVariants.{First, Other}
 use Rattle.pt_sr.specs.Clauses.{State}
 use Rattle.pt_sr.specs.Chain.{IsStrict}
 use Rattle.pt_sr.specs.SrActs.{IsStrictIf, HasPlaces, Suits}
@@ -19,6 +18,7 @@ use Rattle.pt_library.specs.declared.library_actor.LibraryActor.{LibraryActor}
 use Rattle.pt_library.specs.LibraryActor as library
 use Rattle.pt_library.specs.LibraryActor.{rows}
 use Rattle.pt_library.proofs.StrictLaws.{told-strict}
+use Rattle.pt_directors.specs.Directors.{of_sr}
 use Rattle.pt_node.specs.Recorded.{RecordedPort}
 use Rattle.pt_node.specs.Shown.{Shown, all_of}
 use Rattle.pt_node.specs.View.{Tree, node_of, nodes_of}
@@ -67,7 +67,7 @@ module _ (around : Around) (kids : List Shown) (path : List ℕ) (records : List
   core = started (tick_plan around) (map is_nonstrict (trees_of kids))
 
   abbrev made : Shown
-  made = built (Other (First core)) kids path records labels
+  made = built (of_sr core) kids path records labels
 
   entries : length (trees_of kids) ≡ length around.places
   entries = sym (needs-length (facts_of rows) (trees_of kids)) ∙ ap (λ v. length v) wired.needed ∙ planned-length around.places wired.needs

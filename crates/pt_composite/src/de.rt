@@ -8,7 +8,6 @@ ghost use Rattle.pt_trees.specs.Rates.{AllStarted};
 ghost use Rattle.pt_composite.specs.Timed.{StartsByPlan};
 
 use crate::node::composite_node;
-use pt_core::Either;
 use pt_de::DeCore;
 use pt_de_inside::{begin_at_outputs, planned};
 use pt_inside::is_wired;
@@ -33,13 +32,7 @@ pub(crate) fn de_composite(
     ensures stands { IfErr result (IsUncomposed de (around_of wiring) (map shown children.items)) }
 {
     let core = core_of(alloc, &children, wiring)?;
-    Ok(composite_node(
-        Either::Other(Either::Other(Either::First(core))),
-        children,
-        path,
-        records,
-        labels,
-    ))
+    Ok(composite_node(pt_directors::de(core), children, path, records, labels))
 }
 
 /// The core of the composite, which starts with its plan.

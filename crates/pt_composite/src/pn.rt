@@ -10,7 +10,7 @@ ghost use Rattle.pt_trees.specs.Pn.{pn};
 ghost use Rattle.pt_composite.specs.Networks.{network_round};
 
 use crate::node::composite_node;
-use pt_core::{Either, Source};
+use pt_core::Source;
 use pt_firing::Counts;
 use pt_inside::{first_lists, is_wired, starts_of};
 use pt_node::{Labels, Node, Records};
@@ -54,13 +54,7 @@ pub(crate) fn pn_composite(
         return Err(CompositeFault::Unbuilt);
     }
     let core = core_of(alloc, &children, sources, places, stated)?;
-    Ok(composite_node(
-        Either::Other(Either::Other(Either::Other(core))),
-        children,
-        path,
-        records,
-        labels,
-    ))
+    Ok(composite_node(pt_directors::pn(core), children, path, records, labels))
 }
 
 /// Whether what is stated is lawful for so many own ports.

@@ -14,7 +14,6 @@ ghost use Rattle.pt_trees.specs.Sdf.{sdf};
 ghost use Rattle.pt_composite.specs.Unplanned.{IsToldAs};
 
 use crate::node::composite_node;
-use pt_core::Either;
 use pt_document::Code;
 use pt_inside::{first_tokens, inside_of};
 use pt_node::{Labels, Node, Records};
@@ -45,7 +44,7 @@ pub(crate) fn sdf_composite(
         Err(fault) => return Err(told(fault)),
     };
     let core = core_of(alloc, &children, plan)?;
-    Ok(composite_node(Either::First(core), children, path, records, labels))
+    Ok(composite_node(pt_directors::sdf(core), children, path, records, labels))
 }
 
 /// The core of a plan, whose channels hold the first tokens of the children that feed them.

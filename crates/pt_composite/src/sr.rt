@@ -8,7 +8,6 @@ ghost use Rattle.pt_sr.specs.State.{started};
 ghost use Rattle.pt_inside.specs.Nonstrict.{is_nonstrict};
 
 use crate::node::composite_node;
-use pt_core::Either;
 use pt_inside::{is_wired, nonstrict_of, ones, order_of, outputs_of};
 use pt_node::{Labels, Node, Records};
 use pt_sr::{Core, CorePlan};
@@ -34,13 +33,7 @@ pub(crate) fn sr_composite(
         return Err(CompositeFault::Unbuilt);
     }
     let core = core_of(alloc, &children, wiring)?;
-    Ok(composite_node(
-        Either::Other(Either::First(core)),
-        children,
-        path,
-        records,
-        labels,
-    ))
+    Ok(composite_node(pt_directors::sr(core), children, path, records, labels))
 }
 
 /// The core round these children, of which those that their libraries don't tell to be strict are asked for early answers.

@@ -1,9 +1,8 @@
 use Rattle.std.proofs.Common.{◌≡◌, Bool, List, map, sym, ap, ◌∙◌, subst}
 use Rattle.pt_core.specs.Source.{source_of}
-use Rattle.pt_core.specs.declared.either.Either.TheVariants.{Other}
-use Rattle.pt_pn_laws.specs.PnActs.{State}
 use Rattle.pt_pn_laws.specs.State.{started}
 use Rattle.pt_process.specs.Plan.{IsSoundNetwork}
+use Rattle.pt_directors.specs.Directors.{Director, of_pn}
 use Rattle.pt_node.specs.declared.node.Node.{Node}
 use Rattle.pt_node.specs.Shown.{Shown, shown}
 use Rattle.pt_trees.specs.Around.{Around, around_of}
@@ -34,5 +33,5 @@ returns-clause-node c =
     let is : c.in_ok-core.core ≡ started (network_round around.sources around.places c.in-Some.stated (trees_of kids)) =
     c.in_ok-core.ensures ∙ ap (λ (v : List Node). started (network_round around.sources around.places c.in-Some.stated (trees_of (map shown v)))) c.deref-2.ensures.value in
     subst (λ (s : Shown). IsComposed pn around kids c.args.path c.args.records c.args.labels s)
-    (sym (c.composite_node.ensures ∙ ap (λ (core : State). built (Other (Other (Other core))) kids c.args.path c.args.records c.args.labels) is))
+    (sym (c.composite_node.ensures ∙ ap (λ (d : Director). built d kids c.args.path c.args.records c.args.labels) (c.pn.ensures ∙ ap of_pn is)))
     (composite-is around kids c.args.path c.args.records c.args.labels wired c.requires.fresh c.requires.empty)
