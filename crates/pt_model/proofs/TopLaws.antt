@@ -37,7 +37,9 @@ use Rattle.pt_sdf.specs.Clauses as sdf
 use Rattle.pt_sr.specs.Clauses as sr
 use Rattle.pt_de_laws.specs.DeActs as de
 use Rattle.pt_pn_laws.specs.PnActs as pn
-use Rattle.pt_directors.specs.Directors.{Director as DirectorState}
+use Rattle.pt_chart.specs.Machine.{Machine}
+use Rattle.pt_modal_laws.specs.ModalActs as modal
+use Rattle.pt_directors.specs.Directors.{Director as DirectorState, of_pn, of_modal}
 use Rattle.pt_node.specs.declared.body.Body.{Body}
 use Rattle.pt_node.specs.declared.body.Body.TheVariants.{Actor, Composite}
 use Rattle.pt_node.specs.Recorded.{RecordedPort}
@@ -260,8 +262,12 @@ sr-iterates net values s doc valued has st e = iterates net values has.entity do
 pub sdf-top : (net : Net) (s : Shown) (has : HasCore net s) (st : sdf.State) → body_of s ≡ Composite (First st) → may_lack (net_view net) ≡ false
 sdf-top net s has st e = present-under Sdf (λ same. (let no : Sr ≡ Sdf = same in cc)) net has.entity has.at (core-is net s has (First st) e).0
 
-pub pn-top : (net : Net) (s : Shown) (has : HasCore net s) (st : pn.State) → body_of s ≡ Composite (Other (Other (Other st))) → may_lack (net_view net) ≡ false
-pn-top net s has st e = present-under Pn (λ same. (let no : Sr ≡ Pn = same in cc)) net has.entity has.at (core-is net s has (Other (Other (Other st))) e).0
+pub pn-top : (net : Net) (s : Shown) (has : HasCore net s) (st : pn.State) → body_of s ≡ Composite (of_pn st) → may_lack (net_view net) ≡ false
+pn-top net s has st e = present-under Pn (λ same. (let no : Sr ≡ Pn = same in cc)) net has.entity has.at (core-is net s has (of_pn st) e).0
+
+-- no top is Modal
+pub modal-top : (net : Net) (s : Shown) (has : HasCore net s) (st : modal.State Machine) → body_of s ≡ Composite (of_modal st) → ⊥
+modal-top net s has st e = core-is net s has (of_modal st) e
 
 pub sdf-fits : (net : Net) (values : Values) (s : Shown) (has : HasCore net s) (st : sdf.State) (j : SdfJob) → body_of s ≡ Composite (First st) → AreSupplied (net_view net) values (supply_of (top.Sdf j)) → j.takes ≡ st.plan.takes → IsJobFor (top.Sdf j) (node_of s)
 sdf-fits net values (Branch f ks) has st j e supplied takes =
@@ -285,9 +291,9 @@ de-fits net values (Branch f ks) has st j e supplied ascend =
     sym (length-map j.inputs.items (λ (input : agenda.Input). input.items)) ∙ sym (length-map E tokens_in) ∙ lists-counted net values has.entity (supply_of (top.De j)) has.at supplied ∙ sym is.1 in
     subst (λ b. IsJobFor (top.De j) (node_with f.past b (nodes_of ks))) (sym e) (long, ascend)
 
-pub pn-fits : (net : Net) (values : Values) (s : Shown) (has : HasCore net s) (st : pn.State) (j : OnceJob) → body_of s ≡ Composite (Other (Other (Other st))) → AreSupplied (net_view net) values (supply_of (top.Once j)) → IsJobFor (top.Once j) (node_of s)
+pub pn-fits : (net : Net) (values : Values) (s : Shown) (has : HasCore net s) (st : pn.State) (j : OnceJob) → body_of s ≡ Composite (of_pn st) → AreSupplied (net_view net) values (supply_of (top.Once j)) → IsJobFor (top.Once j) (node_of s)
 pn-fits net values (Branch f ks) has st j e supplied =
-    let is = core-is net (Branch f ks) has (Other (Other (Other st))) e in
+    let is = core-is net (Branch f ks) has (of_pn st) e in
     let long : length j.inputs.items ≡ length st.network.plan.takes =
     sym (length-map j.inputs.items (λ (ts : List Token). map Some ts)) ∙ lists-counted net values has.entity (supply_of (top.Once j)) has.at supplied ∙ sym is.1 in
     subst (λ b. IsJobFor (top.Once j) (node_with f.past b (nodes_of ks))) (sym e) long

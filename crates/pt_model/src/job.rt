@@ -139,10 +139,14 @@ pub(crate) fn job_of(
                     let job = de_job(alloc, net, started)?;
                     Ok(Top::De(job))
                 }
-                Either::Other(_) => {
-                    let job = once_job(alloc, net, started)?;
-                    Ok(Top::Once(job))
-                }
+                Either::Other(last) => match last {
+                    Either::First(_) => {
+                        let job = once_job(alloc, net, started)?;
+                        Ok(Top::Once(job))
+                    }
+                    // The top has a director, so it is no Modal entity.
+                    Either::Other(_) => unreachable!(),
+                },
             },
         },
     }

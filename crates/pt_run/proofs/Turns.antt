@@ -48,7 +48,8 @@ mutual
       by_body (body.Composite (First s)) kids = (tt, kids)
       by_body (body.Composite (Other (First s))) kids = (tt, kids)
       by_body (body.Composite (Other (Other (First s)))) kids = (tt, kids)
-      by_body (body.Composite (Other (Other (Other s)))) kids = (tt, kids)
+      by_body (body.Composite (Other (Other (Other (First s))))) kids = (tt, kids)
+      by_body (body.Composite (Other (Other (Other (Other s))))) kids = (tt, kids)
 
   quiet-nodes : (ks : AllShown) → AllQuiet (nodes_of ks)
   quiet-nodes none = tt
@@ -79,10 +80,14 @@ lists-fit (Branch f ks) j tag X = by_body f.body j
     by_body (body.Composite (Other (Other (First s)))) (Sr j) h l = absurd h
     by_body (body.Composite (Other (Other (First s)))) (De j) h l = l ∙ h.0
     by_body (body.Composite (Other (Other (First s)))) (Once j) h l = absurd h
-    by_body (body.Composite (Other (Other (Other s)))) (Sdf j) h l = absurd h
-    by_body (body.Composite (Other (Other (Other s)))) (Sr j) h l = absurd h
-    by_body (body.Composite (Other (Other (Other s)))) (De j) h l = absurd h
-    by_body (body.Composite (Other (Other (Other s)))) (Once j) h l = l ∙ h
+    by_body (body.Composite (Other (Other (Other (First s))))) (Sdf j) h l = absurd h
+    by_body (body.Composite (Other (Other (Other (First s))))) (Sr j) h l = absurd h
+    by_body (body.Composite (Other (Other (Other (First s))))) (De j) h l = absurd h
+    by_body (body.Composite (Other (Other (Other (First s))))) (Once j) h l = l ∙ h
+    by_body (body.Composite (Other (Other (Other (Other s))))) (Sdf j) h l = absurd h
+    by_body (body.Composite (Other (Other (Other (Other s))))) (Sr j) h l = absurd h
+    by_body (body.Composite (Other (Other (Other (Other s))))) (De j) h l = absurd h
+    by_body (body.Composite (Other (Other (Other (Other s))))) (Once j) h l = absurd h
 
 -- ---- the lists of a turn
 

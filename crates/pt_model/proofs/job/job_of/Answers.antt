@@ -3,7 +3,7 @@ use Rattle.pt_typing.specs.Least.{assignment}
 use Rattle.pt_core.specs.declared.either.Either.TheVariants.{Other}
 use Rattle.pt_node.specs.declared.body.Body.TheVariants.{Composite}
 use Rattle.pt_node.specs.Shown.{shown_node}
-use Rattle.pt_model.proofs.TopLaws.{top-core, top-directs, sdf-iterates, sr-iterates, de-timed, sdf-top, pn-top, sdf-fits, sr-fits, de-fits, pn-fits}
+use Rattle.pt_model.proofs.TopLaws.{top-core, top-directs, sdf-iterates, sr-iterates, de-timed, sdf-top, pn-top, modal-top, sdf-fits, sr-fits, de-fits, pn-fits}
 use Rattle.pt_elaboration.specs.Begun.{starts_in}
 use Rattle.pt_model.proofs.job.job_of.Goals as goal
 
@@ -40,8 +40,8 @@ sdf_job-requires-clause-present c =
 pub once_job-requires-clause-present : goal.once_job-requires-clause-present
 once_job-requires-clause-present c =
     let s = c.args.started.now in
-    pn-top c.args.net.now (shown_node c.args.top.now) (top-core c.args.net.now s.values (starts_in s) (shown_node c.args.top.now) c.requires.started.placed c.requires.built) c.in-Other-later.field-0
-    (c.director_of.ensures ∙ ap Composite (c.in-Other.is ∙ ap (λ v. Other v) (c.in-Other-other.is ∙ ap (λ v. Other v) c.in-Other-later.is)))
+    pn-top c.args.net.now (shown_node c.args.top.now) (top-core c.args.net.now s.values (starts_in s) (shown_node c.args.top.now) c.requires.started.placed c.requires.built) c.in-First-last.field-0
+    (c.director_of.ensures ∙ ap Composite (c.in-Other.is ∙ ap (λ v. Other v) (c.in-Other-other.is ∙ ap (λ v. Other v) (c.in-Other-later.is ∙ ap (λ v. Other v) c.in-First-last.is))))
 
 pub returns-in_ok-job-in-First-clause-fits : goal.returns-in_ok-job-in-First-clause-fits
 returns-in_ok-job-in-First-clause-fits c =
@@ -61,8 +61,15 @@ returns-in_ok-job-in-First-later-clause-fits c =
     de-fits c.args.net.now s.values (shown_node c.args.top.now) (top-core c.args.net.now s.values (starts_in s) (shown_node c.args.top.now) c.requires.started.placed c.requires.built) c.in-First-later.field-0 c.in_ok-job-in-First-later.job
     (c.director_of.ensures ∙ ap Composite (c.in-Other.is ∙ ap (λ v. Other v) (c.in-Other-other.is ∙ ap (λ v. Other v) c.in-First-later.is))) c.in_ok-job-in-First-later.ensures.supplied c.in_ok-job-in-First-later.ensures.ascend
 
-pub returns-in_ok-job-in-Other-later-clause-fits : goal.returns-in_ok-job-in-Other-later-clause-fits
-returns-in_ok-job-in-Other-later-clause-fits c =
+pub returns-in_ok-job-in-First-last-clause-fits : goal.returns-in_ok-job-in-First-last-clause-fits
+returns-in_ok-job-in-First-last-clause-fits c =
     let s = c.args.started.now in
-    pn-fits c.args.net.now s.values (shown_node c.args.top.now) (top-core c.args.net.now s.values (starts_in s) (shown_node c.args.top.now) c.requires.started.placed c.requires.built) c.in-Other-later.field-0 c.in_ok-job-in-Other-later.job
-    (c.director_of.ensures ∙ ap Composite (c.in-Other.is ∙ ap (λ v. Other v) (c.in-Other-other.is ∙ ap (λ v. Other v) c.in-Other-later.is))) c.in_ok-job-in-Other-later.ensures.supplied
+    pn-fits c.args.net.now s.values (shown_node c.args.top.now) (top-core c.args.net.now s.values (starts_in s) (shown_node c.args.top.now) c.requires.started.placed c.requires.built) c.in-First-last.field-0 c.in_ok-job-in-First-last.job
+    (c.director_of.ensures ∙ ap Composite (c.in-Other.is ∙ ap (λ v. Other v) (c.in-Other-other.is ∙ ap (λ v. Other v) (c.in-Other-later.is ∙ ap (λ v. Other v) c.in-First-last.is)))) c.in_ok-job-in-First-last.ensures.supplied
+
+-- no top is Modal
+pub unreachable-requires : goal.unreachable-requires
+unreachable-requires c =
+    let s = c.args.started.now in
+    modal-top c.args.net.now (shown_node c.args.top.now) (top-core c.args.net.now s.values (starts_in s) (shown_node c.args.top.now) c.requires.started.placed c.requires.built) c.in-Other-last.field-0
+    (c.director_of.ensures ∙ ap Composite (c.in-Other.is ∙ ap (λ v. Other v) (c.in-Other-other.is ∙ ap (λ v. Other v) (c.in-Other-later.is ∙ ap (λ v. Other v) c.in-Other-last.is))))
