@@ -7,6 +7,7 @@ ghost use Rattle.pt_language.specs.Expr.{tree_of};
 ghost use Rattle.pt_net.specs.Net.{entity_view};
 ghost use Rattle.pt_scopes.specs.Texts.{names_in};
 ghost use Rattle.pt_scopes.specs.Valued as valued;
+ghost use Rattle.pt_inequalities.specs.Frames.{frames_of};
 ghost use Rattle.pt_inequalities.specs.ModalScopes.{is_in_scope, modal_scope};
 ghost use Rattle.pt_charts.specs.Readable.{output_text, set_text, transition_texts, texts_of, IsFoundIn, IsEntityReadable, IsEntityUnreadable, AreReadableBelow, IsFirstOf, AreReadable, IsUnreadableAt, ReadableTextsAreClean};
 ghost use Rattle.pt_frames.specs.Views.{frames_view};
@@ -167,15 +168,14 @@ fn first_unreadable(
 /// in each the guard, then the output actions, then the set actions.
 pub fn unreadable(
     alloc: Global,
+    frames: &Frames,
     net: &Net,
     values: &Values,
 ) -> Result<Option<(Code, usize)>, AllocError>
+    requires { frames_view frames.now ≡ frames_of net.now values.now }
     ensures { IfOk result (λ found. MatchOption found (AreReadable net.now values.now) (λ at. IsUnreadableAt net.now values.now at.0 at.1)) }
 {
-    let frames = Frames::of(alloc, net, values)?;
-    let found = first_unreadable(alloc, &frames, &net.entities, &values.entities);
-    drop(frames);
-    found
+    first_unreadable(alloc, frames, &net.entities, &values.entities)
 }
 
 /// Where guards and actions are expressions over what they may name, none of them is refused.

@@ -3,6 +3,7 @@ ghost use Rattle.pt_document.specs.Document.{JobTree};
 ghost use Rattle.pt_net.specs.Net.{IsNetOf};
 
 use pt_document::{Direction, Job, Port};
+use pt_frames::Frames;
 use pt_graph::flatten;
 use pt_moml::read;
 use pt_net::{Net, NetEntity};
@@ -81,8 +82,9 @@ fn tell_typing(
     values: &Values,
     out: &mut Answer,
 ) -> Result<(), AllocError> {
-    let typing = net_typing(alloc, net, values)?;
-    match broken(alloc, net, values, &typing)? {
+    let frames = Frames::of(alloc, net, values)?;
+    let typing = net_typing(alloc, &frames, net, values)?;
+    match broken(alloc, &frames, net, values, &typing)? {
         Some(place) => {
             let path = path_at(net, place);
             out.text(if is_among(path, paths) { "yes" } else { path });

@@ -203,27 +203,6 @@ fn add_inputs(
     Ok(())
 }
 
-/// What is within the entities of a net.
-fn add_valued(
-    alloc: Global,
-    net: &Net,
-    values: &Values,
-    inequalities: &mut Vec<Inequality>,
-) -> Result<(), AllocError>
-    ensures { OnOk result (IsAdded inequalities.old.items inequalities.new.items (of_entities (frames_of net.now values.now) 0 (map entity_view net.now.entities.items) (map valued.entity_view values.now.entities.items))) }
-{
-    let frames = Frames::of(alloc, net, values)?;
-    let added = add_entities(
-        alloc,
-        &frames,
-        &net.entities,
-        &values.entities,
-        inequalities,
-    );
-    drop(frames);
-    added
-}
-
 /// The tokens of the inputs of a net are below their ports.
 fn add_supplied(
     alloc: Global,
@@ -239,17 +218,19 @@ fn add_supplied(
     added
 }
 
-/// The inequalities between the types of a net, but those of its Modal entities and of the types that ports declare.
+/// The inequalities between the types of a net with these frames, but those of its Modal entities and of the types that ports declare.
 pub fn inequalities_of(
     alloc: Global,
+    frames: &Frames,
     net: &Net,
     values: &Values,
 ) -> Result<Vec<Inequality>, AllocError>
+    requires { frames_view frames.now ≡ frames_of net.now values.now }
     ensures { IfOk result (λ qs. map inequality_view qs.items ≡ inequalities net.now values.now) }
 {
     let mut list = Vec::with_capacity(alloc, net.channels.len())?;
     add_channels(&net.channels, &mut list)?;
-    add_valued(alloc, net, values, &mut list)?;
+    add_entities(alloc, frames, &net.entities, &values.entities, &mut list)?;
     add_supplied(alloc, net, values, &mut list)?;
     Ok(list)
 }

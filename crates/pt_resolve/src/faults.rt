@@ -190,8 +190,10 @@ fn failing(
     }
 }
 
-/// The number of an entity at which the typing of a net with these frames breaks, if there is one.
-fn broken_among(
+/// The number of an entity at which the typing of a net with these frames breaks, if there is one: a port is general, above what its row
+/// allows, or not below what it declares; an expression, a guard or an action has no type; a guard is no truth value; or a set
+/// action gives what its Variable doesn't hold.
+pub(crate) fn broken_entity(
     alloc: Global,
     frames: &Frames,
     net: &Net,
@@ -206,22 +208,4 @@ fn broken_among(
         Some(number) => Ok(Some(number)),
         None => failing(alloc, frames, typing, &net.entities, &values.entities),
     }
-}
-
-/// The number of an entity at which the typing of a net breaks, if there is one: a port is general, above what its row
-/// allows, or not below what it declares; an expression, a guard or an action has no type; a guard is no truth value; or a set
-/// action gives what its Variable doesn't hold.
-pub(crate) fn broken_entity(
-    alloc: Global,
-    net: &Net,
-    values: &Values,
-    typing: &Typing,
-) -> Result<Option<usize>, AllocError>
-    ensures some { IfOk result (λ found. (k : ℕ) → found ≡ Some k → (e : NetEntityTree) × (slice_get (map entity_view net.now.entities.items) k ≡ Some e) × IsBroken net.now values.now (assignment typing.now) e) }
-    ensures none { IfOk result (λ found. found ≡ None → (e : NetEntityTree) → IsBroken net.now values.now (assignment typing.now) e → ⊥) }
-{
-    let frames = Frames::of(alloc, net, values)?;
-    let found = broken_among(alloc, &frames, net, values, typing);
-    drop(frames);
-    found
 }

@@ -7,6 +7,7 @@ use crate::variable::Variable;
 use pt_types::{Rule, Ty};
 use pt_value::Text;
 use std::alloc::{AllocError, Global};
+use std::slice;
 
 /// An inequality as a rule on the types of numbers.
 #[derive(Drop)]
@@ -15,7 +16,25 @@ pub struct Bound<'a> {
     pub inequality: &'a Inequality,
     pub numbers: &'a Numbers,
     /// The numbers of the variables of the term, for the solver. One that is missing costs time, and changes no answer.
-    pub reads: Vec<u32>,
+    pub reads: Reads,
+}
+
+/// Some numbers. Most rules read one number at most, for which no list is made.
+#[derive(Drop)]
+pub enum Reads {
+    Nothing,
+    One(u32),
+    Many(Vec<u32>),
+}
+
+impl Reads {
+    fn as_slice(&self) -> &[u32] {
+        match self {
+            Reads::Nothing => &[],
+            Reads::One(number) => slice::from_ref(number),
+            Reads::Many(numbers) => numbers.as_slice(),
+        }
+    }
 }
 
 impl Rule for Bound<'_> {
@@ -53,22 +72,16 @@ fn numbers_of(
     Ok(list)
 }
 
-fn one(alloc: Global, number: u32) -> Result<Vec<u32>, AllocError> {
-    let mut list = Vec::with_capacity(alloc, 1)?;
-    list.push(number)?;
-    Ok(list)
-}
-
 /// The numbers of the variables of a term.
-fn reads_of(alloc: Global, numbers: &Numbers, term: &Term) -> Result<Vec<u32>, AllocError> {
+fn reads_of(alloc: Global, numbers: &Numbers, term: &Term) -> Result<Reads, AllocError> {
     match term {
-        Term::Fixed(_) => Ok(Vec::new(alloc)),
+        Term::Fixed(_) => Ok(Reads::Nothing),
         Term::Same(variable)
         | Term::ArrayOf(variable)
         | Term::ElementOf(variable)
-        | Term::FieldOf(variable, _) => one(alloc, numbers.number(*variable)),
-        Term::RecordOf(fields) => numbers_of(alloc, numbers, fields.as_slice()),
-        Term::TreeOf(tree) => numbers_of(alloc, numbers, tree.ports.as_slice()),
+        | Term::FieldOf(variable, _) => Ok(Reads::One(numbers.number(*variable))),
+        Term::RecordOf(fields) => numbers_of(alloc, numbers, fields.as_slice()).map(Reads::Many),
+        Term::TreeOf(tree) => { numbers_of(alloc, numbers, tree.ports.as_slice()).map(Reads::Many) }
     }
 }
 

@@ -5,6 +5,6 @@ use Rattle.pt_charts.proofs.readable.unreadable.Goals as goal
 
 pub returns : goal.returns
 returns c =
-    IfOk-weaker c.first_unreadable-found.result _ _
-    (λ found w. told c.args.net.now c.args.values.now (frames_view c.in_ok-frames.frames) c.deref.result.now c.deref-2.result.now found c.in_ok-frames.ensures c.deref.ensures.value c.deref-2.ensures.value w)
-    c.first_unreadable-found.ensures
+    IfOk-weaker c.first_unreadable.result _ _
+    (λ found w. told c.args.net.now c.args.values.now (frames_view c.args.frames.now) c.deref.result.now c.deref-2.result.now found c.requires c.deref.ensures.value c.deref-2.ensures.value w)
+    c.first_unreadable.ensures

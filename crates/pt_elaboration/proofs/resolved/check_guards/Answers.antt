@@ -18,7 +18,7 @@ refusal_of_entity-requires c =
 pub returns-in-Some-clause-stands : goal.returns-in-Some-clause-stands
 returns-in-Some-clause-stands c =
     let told : IsUnreadableAt c.args.net.now c.args.values.now c.in-Some.code c.in-Some.number = subst (IsFound c.args.net.now c.args.values.now) c.in-Some.is c.in_ok-code.ensures in
-    guards-stand c.args.net.now c.args.values.now c.in-Some.code c.in-Some.number c.refusal_of_entity.result c.requires told c.refusal_of_entity.ensures
+    guards-stand c.args.net.now c.args.values.now c.in-Some.code c.in-Some.number c.refusal_of_entity.result c.requires.valued told c.refusal_of_entity.ensures
 
 pub returns-in-None-clause-readable : goal.returns-in-None-clause-readable
 returns-in-None-clause-readable c = subst (IsFound c.args.net.now c.args.values.now) c.in-None.is c.in_ok-code.ensures

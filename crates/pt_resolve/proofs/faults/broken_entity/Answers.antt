@@ -4,7 +4,7 @@ use Rattle.pt_typing.specs.Least.{assignment}
 use Rattle.pt_resolve.proofs.Breaks.{first-told, found-broken, none-broken}
 use Rattle.pt_resolve.proofs.ModalBreaks.{failing-broken}
 use Rattle.pt_resolve.proofs.NetTypings.{charts-told}
-use Rattle.pt_resolve.proofs.faults.broken_among.Goals as goal
+use Rattle.pt_resolve.proofs.faults.broken_entity.Goals as goal
 
 pub returns-in-Some-clause-some : goal.returns-in-Some-clause-some
 returns-in-Some-clause-some c =

@@ -5,7 +5,7 @@ use Rattle.pt_inequalities.specs.Frames.{frames_of}
 use Rattle.pt_inequalities.specs.Modals.{AreCharts}
 use Rattle.pt_charts.specs.Views.{chart_view}
 use Rattle.pt_resolve.proofs.NetTypings.{charts-told}
-use Rattle.pt_resolve.proofs.net_types.inequalities_among.Goals as goal
+use Rattle.pt_resolve.proofs.net_types.all_inequalities.Goals as goal
 
 pub inequalities_with-made-requires-clause-charts : goal.inequalities_with-made-requires-clause-charts
 inequalities_with-made-requires-clause-charts c =
