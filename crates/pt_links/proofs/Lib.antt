@@ -1,3 +1,4 @@
+pub mod Firsts
 pub mod Positions
 pub mod Keys
 pub mod Told

@@ -25,11 +25,16 @@ impl<K: Copy + Eq + Hash> Places<K> {
 pub fn first_places<K: Copy + Eq + Hash>(alloc: Global, keys: &[K]) -> Result<Places<K>, AllocError>
     ensures { IfOk result (λ places. (key : K) → get K.eq places.numbers key ≡ position (K.eq key) keys.now) }
 {
-    let mut numbers = IndexMap::with_hasher(alloc, BuildHasherDefault::new());
-    for (number, key) in keys.iter().enumerate() {
-        if !numbers.contains_key(key) {
-            numbers.insert(*key, number)?;
-        }
+    let mut numbers = IndexMap::with_capacity_and_hasher(
+        alloc,
+        keys.len(),
+        BuildHasherDefault::new(),
+    )?;
+    // What is put later replaces what was there.
+    let mut left = keys.len();
+    while left > 0 {
+        left -= 1;
+        numbers.insert(keys[left], left)?;
     }
     Ok(Places { numbers })
 }

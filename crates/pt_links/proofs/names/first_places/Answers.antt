@@ -1,18 +1,26 @@
-use Rattle.std.proofs.Common.{sym, ap, ◌∙◌}
+use Rattle.std.proofs.Common.{◌≡◌, ◌<◌, ◌-◌, ◌+◌, length, drop, sym, ap, ◌∙◌, arith}
+use Rattle.std.proofs.lemmas.Iterator.Adapters.{position_from-zero}
+use Rattle.std.specs.List.{position_from}
 use Rattle.indexmap.specs.IndexMap.{get}
-use Rattle.pt_links.proofs.Positions.{stays_at, grows_at}
+use Rattle.pt_links.proofs.Firsts.{firsts-more}
 use Rattle.pt_links.proofs.names.first_places.Goals as goal
-use Rattle.pt_links.proofs.names.first_places.Goals.{then-not-contains_key+in_ok-insert, else-not-contains_key}
 
-pub loop-number-preserved : goal.loop-number-preserved
-loop-number-preserved g c =
+pub loop-left-preserved : goal.loop-left-preserved
+loop-left-preserved g c =
     let eq = g.K.PartialEq.eq in
-    let had = λ (k : g.row.K.Denot). get eq c.loop-number.numbers k in
-    elim c.if-not-contains_key.branch [
-      | then-not-contains_key+in_ok-insert w ↦
-          λ key. ap (λ m. get eq m key) w.numbers-is
-          ∙ grows_at eq g.met.K.Eq.laws had c.args.keys.now c.loop-number.number c.index-keys-number.result c.loop-number-test.true c.index-keys-number.is c.loop-number.invariant (λ k. get eq w.insert.new.self k) (sym c.contains_key.ensures ∙ w.if-not-contains_key.true) w.in_ok-insert.ensures.updates.0 key
-      | else-not-contains_key w ↦
-          λ key. ap (λ m. get eq m key) w.numbers-is
-          ∙ stays_at eq g.met.K.Eq.laws had c.args.keys.now c.loop-number.number c.index-keys-number.result c.loop-number-test.true c.index-keys-number.is c.loop-number.invariant (sym c.contains_key.ensures ∙ w.if-not-contains_key.false) key
-    ]
+    let keys = c.args.keys.now in
+    let n = c.loop-left.left - 1 in
+    let inv = c.loop-left.invariant in
+    let more : c.loop-left.left ≡ n + 1 = omega (arith, c.loop-left-test.true) in
+    let short : n < length keys = omega (arith, inv.within, c.loop-left-test.true) in
+    record {
+      rest = firsts-more eq g.met.K.Eq.laws (get eq c.loop-left.numbers) (get eq c.insert.new.self) keys n c.index-keys-left.result short c.index-keys-left.is (λ k. inv.rest k ∙ ap (λ m. position_from (eq k) m (drop m keys)) more) c.in_ok-insert.ensures.updates.0;
+      within = omega (arith, inv.within);
+    }
+
+pub returns : goal.returns
+returns g c key =
+    let eq = g.K.PartialEq.eq in
+    let keys = c.args.keys.now in
+    let none : c.loop-left.left ≡ 0 = omega (arith, c.loop-left-test.false) in
+    c.loop-left.invariant.rest key ∙ ap (λ m. position_from (eq key) m (drop m keys)) none ∙ sym (position_from-zero (eq key) keys)
