@@ -1,9 +1,9 @@
+use crate::answer::Answer;
 use crate::lists::{each, each_in};
 use crate::numbers::part;
 use crate::tags;
 use crate::token_texts::{read_token, show};
 use pt_agenda::{Turn, are_ascending, first_event, next_turn, tokens_at};
-use pt_table::Answer;
 use pt_time::Tag;
 use pt_value::Token;
 use std::alloc::{AllocError, Global};

@@ -1,11 +1,11 @@
 //! What the scripts of all cores have in common: these functions see a core by its trait alone.
 
+use crate::answer::Answer;
 use crate::library::place;
 use crate::lists::each_in;
 use crate::token_texts::{show, show_ports};
 use pt_core::Core;
 use pt_firing::{Inputs, Outputs};
-use pt_table::Answer;
 use pt_time::Tag;
 use std::alloc::{AllocError, Global};
 

@@ -1,3 +1,4 @@
+use crate::answer::Answer;
 use crate::cores::{Asked, begin, copied, finish, show_lent, tell_asked};
 use crate::de_plans::inside;
 use crate::firing::{no_places, tell_places};
@@ -9,7 +10,6 @@ use pt_core::Core;
 use pt_de::DeCore;
 use pt_de_plan::plan;
 use pt_firing::{Ask, Need, Outputs, Partial};
-use pt_table::Answer;
 use std::alloc::{AllocError, Global};
 
 /// Answers a script of calls on a core of DE, behind the inside that it is made of.

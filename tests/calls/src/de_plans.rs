@@ -1,3 +1,4 @@
+use crate::answer::Answer;
 use crate::lists::each_plain;
 use crate::numbers::{named, part, size, small};
 use crate::plans::source;
@@ -5,7 +6,6 @@ use crate::tags;
 use pt_de_plan::{DeInside, plan};
 use pt_events::DepthFault;
 use pt_firing::Counts;
-use pt_table::Answer;
 use pt_time::Tag;
 use std::alloc::{AllocError, Global};
 

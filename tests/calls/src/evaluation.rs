@@ -1,10 +1,10 @@
+use crate::answer::Answer;
 use crate::lists::{each_in, each_plain};
 use crate::parsing::{cause, parsed};
 use crate::token_texts::show_token;
 use pt_expr::{Env, eval};
 use pt_expr_type::{TypeEnv, type_of};
 use pt_language::{EvalFault, Expr, Exprs, NamedExpr, NamedExprs, ParseFault};
-use pt_table::Answer;
 use pt_value::{Text, Token};
 use std::alloc::{AllocError, Global};
 

@@ -1,9 +1,9 @@
+use crate::answer::Answer;
 use crate::lists::each_plain;
 use crate::numbers::{named, small};
 use crate::scripts::{self, Subject, first_word, tell_child, tell_tag};
 use crate::tags;
 use pt_events::{DepthFault, EventQueue, are_between, depths};
-use pt_table::Answer;
 use pt_time::Tag;
 use std::alloc::{AllocError, Global};
 

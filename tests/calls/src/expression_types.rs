@@ -1,10 +1,10 @@
+use crate::answer::Answer;
 use crate::lists::{each, each_in, each_plain};
 use crate::numbers::small;
 use crate::parsing::{cause, parsed};
 use crate::types::{base, show};
 use pt_expr_type::{ExprRule, TypeEnv, type_of};
 use pt_language::{Expr, NamedExpr, NamedExprs};
-use pt_table::Answer;
 use pt_types::{Rule, Ty, least};
 use pt_value::Text;
 use std::alloc::{AllocError, Global};

@@ -1,9 +1,9 @@
+use crate::answer::Answer;
 use crate::library::state;
 use crate::lists::{each_in, each_plain};
 use crate::numbers::{part, size};
 use crate::token_texts::{lists, show, show_ports, show_token, token, tokens};
 use pt_firing::{Counts, Inputs, Outputs, Partial, Tokens, TriState};
-use pt_table::Answer;
 use std::alloc::{AllocError, Global};
 
 /// Answers a question about tokens, outputs, inputs or what is known of places.

@@ -1,3 +1,4 @@
+use crate::answer::Answer;
 use crate::library::{copy_fires, early, params};
 use crate::numbers::{integer, part};
 use crate::token_texts::read_tokens;
@@ -6,7 +7,6 @@ use pt_flow_base::{Params, PortTypes};
 use pt_flow_streams::SampleDelay;
 use pt_language::{BinaryOp, Expr};
 use pt_lib_flow::{Expression, FlowActor, Values};
-use pt_table::Answer;
 use pt_types::Ty;
 use pt_value::Text;
 use std::alloc::{AllocError, Global};

@@ -1,5 +1,6 @@
 // Firings of library actors, of whichever library: these functions see an actor by its trait alone.
 
+use crate::answer::Answer;
 use crate::firing::{no_places, tell_places};
 use crate::lists::each_in;
 use crate::numbers::part;
@@ -8,7 +9,6 @@ use crate::tags;
 use crate::token_texts::{read_tokens, show_ports};
 use pt_firing::{Actor, Fires, Inputs, Partial, Step, Tokens, TriState};
 use pt_flow_base::{Params, PortTypes};
-use pt_table::Answer;
 use pt_time::Tag;
 use pt_value::Text;
 use std::alloc::{AllocError, Global};

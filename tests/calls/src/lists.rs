@@ -1,6 +1,6 @@
 //! Lists as tables write them: parts with a mark between them.
 
-use pt_table::Answer;
+use crate::answer::Answer;
 use std::alloc::{AllocError, Global};
 
 /// What a function makes of each part of a text. A text of blanks has no parts.

@@ -1,14 +1,18 @@
 //! Compares what calls of the crates answer with what was worked by hand, and tells the rows that differ.
 
 mod agenda;
+mod answer;
 mod cores;
 mod de_cores;
 mod de_plans;
+mod documents;
 mod evaluation;
 mod events;
 mod expression_types;
 mod firing;
 mod flow_library;
+mod io_calls;
+mod json;
 mod library;
 mod lists;
 mod modal;
@@ -18,28 +22,35 @@ mod parsing;
 mod plans;
 mod pn_cores;
 mod printed_expressions;
+mod program;
 mod rates;
 mod reaction;
 mod readback;
 mod receivers;
 mod scripts;
+mod table;
 mod tags;
 mod time_library;
 mod timed_library;
 mod token_texts;
 mod traces;
+mod typed_nets;
 mod types;
 mod values;
 mod wakes;
 mod words;
+mod written;
 mod written_documents;
 
-use pt_table::{Answer, Answers, Place, tell};
+use answer::Answer;
 use std::alloc::Global;
 use std::{env, io};
+use table::{Answers, Place, tell};
 
 /// The questions of all tables: each table has a module of its name.
-struct Questions;
+struct Questions<'r> {
+    rt: &'r HostRuntime,
+}
 
 /// The name of a table's file, without its folder.
 fn file_name(table: &str) -> &str {
@@ -47,7 +58,7 @@ fn file_name(table: &str) -> &str {
     name
 }
 
-impl Answers for Questions {
+impl Answers for Questions<'_> {
     fn answer(&self, alloc: Global, place: Place<'_>, question: &str, out: &mut Answer) {
         let section = place.section;
         match file_name(place.table) {
@@ -78,6 +89,11 @@ impl Answers for Questions {
             "readback.txt" => readback::answer(alloc, section, question, out),
             "written_documents.txt" => written_documents::answer(alloc, section, question, out),
             "words.txt" => words::answer(alloc, section, question, out),
+            "json.txt" => json::answer(alloc, section, question, out),
+            "io_calls.txt" => io_calls::answer(alloc, section, question, out),
+            "documents.txt" => documents::answer(alloc, section, question, out),
+            "typed_nets.txt" => typed_nets::answer(alloc, section, question, out),
+            "program.txt" => program::answer(self.rt, alloc, section, question, out),
             _ => out.text("no such table"),
         }
     }
@@ -86,7 +102,7 @@ impl Answers for Questions {
 /// Tells each table that the words name.
 fn main(rt: HostRuntime) -> io::Result<()> {
     for name in env::args(&rt)?.skip(1) {
-        tell(&rt, &Questions, &[name.as_str()])?;
+        tell(&rt, &Questions { rt: &rt }, &[name.as_str()])?;
     }
     Ok(())
 }

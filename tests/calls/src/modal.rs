@@ -1,3 +1,4 @@
+use crate::answer::Answer;
 use crate::lists::each;
 use crate::numbers::{natural, part, small};
 use crate::parsing::parsed;
@@ -8,7 +9,6 @@ use pt_firing::{Ask, Inputs, Need, Outputs, Tokens, Values};
 use pt_flow_base::PortTypes;
 use pt_language::{Expr, ParseFault};
 use pt_modal::{Core, CorePlan};
-use pt_table::Answer;
 use pt_time::Tag;
 use pt_types::Ty;
 use pt_value::{Text, Token};

@@ -1,6 +1,6 @@
 //! Numbers as tables write them, the parts of a question, and lists as answers write them.
 
-use pt_table::Answer;
+use crate::answer::Answer;
 use std::alloc::Global;
 use std::fmt::Debug;
 

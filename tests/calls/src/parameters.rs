@@ -1,8 +1,8 @@
+use crate::answer::Answer;
 use crate::lists::each_in;
 use crate::numbers::{integer, part, small};
 use crate::token_texts::read_token;
 use pt_firing::{Gate, Names, OpenGate, Outputs, Ports, RunFault, Step, StepFault, Values};
-use pt_table::Answer;
 use pt_value::{Text, Token};
 use std::alloc::{AllocError, Global};
 

@@ -1,7 +1,7 @@
+use crate::answer::Answer;
 use crate::numbers::size;
 use pt_expr_text::{parse, split};
 use pt_language::{BinaryOp, Expr, ParseFault};
-use pt_table::Answer;
 use std::alloc::{AllocError, Global};
 
 /// Answers a question about the words and the trees of texts.

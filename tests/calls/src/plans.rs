@@ -1,10 +1,10 @@
+use crate::answer::Answer;
 use crate::lists::{each_in, each_plain};
 use crate::numbers::{named, part, size, small};
 use pt_core::Source;
 use pt_firing::Counts;
 use pt_plan::{Inside, plan};
 use pt_sdf::CorePlan;
-use pt_table::Answer;
 use std::alloc::{AllocError, Global};
 
 /// Answers the question for the plan of an inside, which is written by its lists.

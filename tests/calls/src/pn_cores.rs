@@ -1,3 +1,4 @@
+use crate::answer::Answer;
 use crate::cores::{Asked, begin, copied, finish, show_lent, tell_asked};
 use crate::library::place;
 use crate::lists::{each, each_in, each_plain};
@@ -8,7 +9,6 @@ use crate::tags;
 use pt_firing::{Ask, Counts, Need, Outputs, Tokens};
 use pt_pn::Core;
 use pt_process::CorePlan;
-use pt_table::Answer;
 use std::alloc::{AllocError, Global};
 
 /// Answers a script of calls on a core of PN, behind the network that it is made of.

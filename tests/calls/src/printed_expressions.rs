@@ -1,8 +1,8 @@
+use crate::answer::Answer;
 use crate::parsing::{cause, repeated};
 use pt_expr_print::{print, reread};
 use pt_expr_text::parse;
 use pt_language::{Expr, ParseFault};
-use pt_table::Answer;
 use pt_value::Text;
 use std::alloc::Global;
 

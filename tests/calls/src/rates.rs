@@ -1,8 +1,8 @@
+use crate::answer::Answer;
 use crate::lists::each_plain;
 use crate::numbers::{named, natural, small};
 use pt_rates::{Edge, are_channels, solve};
 use pt_sched::{SchedEdge, schedule};
-use pt_table::Answer;
 use std::alloc::{AllocError, Global};
 use std::str::SplitWhitespace;
 

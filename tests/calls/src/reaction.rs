@@ -1,3 +1,4 @@
+use crate::answer::Answer;
 use crate::library::{place, state};
 use crate::lists::{each_in, each_plain};
 use crate::numbers::{named, part, size, small};
@@ -9,7 +10,6 @@ use pt_reaction::{
     Channels, Feed, Line, Marks, copy_of, feeds_of, offsets_of, readers_of, stage_inputs,
     stage_outputs, stage_partial,
 };
-use pt_table::Answer;
 use std::alloc::{AllocError, Global};
 
 /// Channels, and how many there are.

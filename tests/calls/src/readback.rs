@@ -1,7 +1,7 @@
+use crate::answer::Answer;
 use crate::numbers::size;
 use pt_firing::Place;
 use pt_readback::{ReportFault, TokenFault, parse_report, read_token};
-use pt_table::Answer;
 use pt_trace::{Report, RunEnd, text};
 use pt_value::{Token, print};
 use std::alloc::{AllocError, Global};

@@ -1,9 +1,9 @@
+use crate::answer::Answer;
 use crate::lists::each_plain;
 use crate::numbers::{integer, size, small};
 use crate::scripts::{self, Subject, first_word, tell_count, tell_whether};
 use crate::token_texts::{show_token, token};
 use pt_recv::{Channels, Queue};
-use pt_table::Answer;
 use pt_value::Token;
 use std::alloc::{AllocError, Global};
 

@@ -1,8 +1,8 @@
 //! Scripts: calls in their order, each with its answer behind `=` where it gives one.
 
+use crate::answer::Answer;
 use crate::tags;
 use crate::token_texts::show;
-use pt_table::Answer;
 use pt_time::Tag;
 use pt_value::Token;
 use std::alloc::{AllocError, Global};

@@ -1,5 +1,5 @@
+use crate::answer::Answer;
 use crate::numbers::{natural, small};
-use pt_table::Answer;
 use pt_time::{Tag, after, clamp, local, outer};
 use std::alloc::Global;
 

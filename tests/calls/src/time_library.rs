@@ -1,7 +1,7 @@
+use crate::answer::Answer;
 use crate::library::{copy_lets_know, copy_ticks, params};
 use crate::numbers::part;
 use pt_lib_time::TimeActor;
-use pt_table::Answer;
 use std::alloc::{AllocError, Global};
 
 /// Answers a question about actors of synchronous models: `class C; values NAME TOKEN, ..; ports NAME CHANNELS, ..; ticks TOKEN / TOKEN .., ..; known TOKEN / TOKEN ..`.

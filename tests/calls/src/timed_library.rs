@@ -1,7 +1,7 @@
+use crate::answer::Answer;
 use crate::library::{copy_fires_in_time, copy_lets_know_at, copy_wakes, params};
 use crate::numbers::part;
 use pt_lib_timed::TimedActor;
-use pt_table::Answer;
 use std::alloc::{AllocError, Global};
 
 /// Answers a question about actors of timed models: `class C; values NAME TOKEN, ..; ports NAME CHANNELS, ..; firings TAG: TOKEN .. / TOKEN .., ..; at TAG; known TOKEN .. / TOKEN ..`.

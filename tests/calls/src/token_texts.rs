@@ -1,9 +1,9 @@
 //! Tokens as tables write them: `7`, `true`, words as `"or"`, and arrays of integers without blanks, as `{1,2}`.
 
+use crate::answer::Answer;
 use crate::lists::{each, each_in, each_plain};
 use crate::numbers::integer;
 use pt_firing::{Outputs, Tokens};
-use pt_table::Answer;
 use pt_value::{Items, Text, Token, print};
 use std::alloc::{AllocError, Global};
 

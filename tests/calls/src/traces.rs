@@ -1,9 +1,9 @@
+use crate::answer::Answer;
 use crate::lists::{each, each_in};
 use crate::numbers::{natural, part};
 use crate::parameters::fault_named;
 use crate::token_texts::read_token;
 use pt_firing::{Blocked, Place, Rows};
-use pt_table::Answer;
 use pt_time::Tag;
 use pt_trace::{ChildPlace, MeetingLine, Meetings, Met, Report, RunEnd, Trace, summary, text};
 use pt_value::{Text, Token};

@@ -1,6 +1,6 @@
+use crate::answer::Answer;
 use crate::lists::each;
 use crate::numbers::small;
-use pt_table::Answer;
 use pt_types::{ElementTy, RecordTy, Ty, below, join, print};
 use pt_value::{FieldsFault, Text};
 use std::alloc::{AllocError, Global};

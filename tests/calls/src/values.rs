@@ -1,6 +1,6 @@
+use crate::answer::Answer;
 use crate::lists::{each, each_plain};
 use crate::token_texts::show_token;
-use pt_table::Answer;
 use pt_value::{Fields, FieldsFault, Items, Text, Token, is_name};
 use std::alloc::{AllocError, Global};
 

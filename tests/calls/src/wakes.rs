@@ -1,8 +1,8 @@
+use crate::answer::Answer;
 use crate::lists::each_plain;
 use crate::numbers::{part, size, small};
 use crate::scripts::{self, Subject, first_word, tell_child, tell_count, tell_tag, tell_whether};
 use crate::tags;
-use pt_table::Answer;
 use pt_wakes::{DueChildren, Wakes, wake_due};
 use std::alloc::{AllocError, Global};
 

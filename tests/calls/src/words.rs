@@ -1,5 +1,5 @@
+use crate::answer::Answer;
 use crate::lists::each;
-use pt_table::Answer;
 use pt_words::{Line, Task, WordsFault, read};
 use std::alloc::{AllocError, Global};
 
@@ -12,7 +12,7 @@ pub fn answer(alloc: Global, section: &str, question: &str, out: &mut Answer) {
 }
 
 /// A word; `""` is the one without characters.
-fn word(alloc: Global, written: &str) -> Result<String, AllocError> {
+pub fn word(alloc: Global, written: &str) -> Result<String, AllocError> {
     String::from_str(alloc, if written == "\"\"" { "" } else { written })
 }
 

@@ -1,6 +1,6 @@
+use crate::answer::Answer;
 use pt_document::{DocFault, Job};
 use pt_moml::read;
-use pt_table::Answer;
 use pt_write::write;
 use std::alloc::{AllocError, Global};
 

@@ -1,5 +1,5 @@
+use crate::answer::Answer;
 use pt_io::{Failed, MemSink, MemSource, ReadAll, read_all, write_all};
-use pt_table::Answer;
 use std::alloc::{AllocError, Global};
 
 /// Answers a question about bytes that are read and written.

@@ -1,7 +1,4 @@
-ghost use Rattle.std.specs.Prelude.{IfOk, IfSome};
-ghost use Rattle.pt_document.specs.Document.{JobTree};
-ghost use Rattle.pt_net.specs.Net.{IsNetOf};
-
+use crate::answer::Answer;
 use pt_document::{Direction, Job, Port};
 use pt_frames::Frames;
 use pt_graph::flatten;
@@ -9,7 +6,6 @@ use pt_moml::read;
 use pt_net::{Net, NetEntity};
 use pt_resolve::{BrokenAt, broken, net_typing};
 use pt_scopes::{Values, nets_are_ordered};
-use pt_table::Answer;
 use pt_types::print;
 use pt_typing::{Typing, Variable};
 use pt_values::values_of;
@@ -28,9 +24,7 @@ pub fn answer(alloc: Global, section: &str, question: &str, out: &mut Answer) {
 }
 
 /// The net of a job, if it has one.
-fn net_of_job(alloc: Global, job: &Job) -> Option<Net>
-    ensures { IfSome result (λ net. (job : JobTree) × IsNetOf job net) }
-{
+fn net_of_job(alloc: Global, job: &Job) -> Option<Net> {
     match flatten(alloc, job) {
         Ok(net) => Some(net),
         Err(_) => None,
@@ -38,9 +32,7 @@ fn net_of_job(alloc: Global, job: &Job) -> Option<Net>
 }
 
 /// The net of a document, if it has one.
-fn net_of(alloc: Global, document: &str) -> Option<Net>
-    ensures { IfSome result (λ net. (job : JobTree) × IsNetOf job net) }
-{
+fn net_of(alloc: Global, document: &str) -> Option<Net> {
     match read(alloc, document.as_bytes()) {
         Ok(job) => net_of_job(alloc, &job),
         Err(_) => None,
@@ -55,16 +47,12 @@ fn answer_about(alloc: Global, paths: &str, document: &str, out: &mut Answer) {
 }
 
 /// What its texts come to, if they come to something.
-fn values_in(alloc: Global, net: &Net) -> Option<Values>
-    requires { (job : JobTree) × IsNetOf job net.now }
-{
+fn values_in(alloc: Global, net: &Net) -> Option<Values> {
     nets_are_ordered();
     values_of(alloc, net).ok()
 }
 
-fn tell_net(alloc: Global, paths: &str, net: &Net, out: &mut Answer)
-    requires { (job : JobTree) × IsNetOf job net.now }
-{
+fn tell_net(alloc: Global, paths: &str, net: &Net, out: &mut Answer) {
     match values_in(alloc, net) {
         Some(values) => {
             let told = tell_typing(alloc, paths, net, &values, out);

@@ -1,5 +1,5 @@
+use crate::answer::Answer;
 use pt_json::{Scratch, Unread, Value, read};
-use pt_table::Answer;
 use std::alloc::Global;
 
 /// Answers a question about bytes of JSON.

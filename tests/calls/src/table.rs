@@ -1,4 +1,4 @@
-use crate::writing::Answer;
+use crate::answer::Answer;
 use crate::written::plain;
 use std::alloc::{AllocError, Global};
 use std::io;

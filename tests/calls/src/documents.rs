@@ -1,6 +1,6 @@
+use crate::answer::Answer;
 use pt_document::{DocFault, Job, Refusal};
 use pt_moml::read;
-use pt_table::Answer;
 use std::alloc::{AllocError, Global};
 
 /// Answers the question what comes of a document: how much stands at its top, or the number and the name of the code that refuses
