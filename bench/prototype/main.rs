@@ -5,7 +5,8 @@ use crate::pt_firing::{Actor, Answer, Counts, Inputs, Need, Ports, Tokens, Value
 use crate::pt_flow_base::Params;
 use crate::pt_library::LibraryActor;
 use crate::pt_agenda::Turn;
-use crate::pt_core::{Either, Source};
+use crate::pt_core::Source;
+use crate::pt_directors as directors;
 use crate::pt_de::DeCore;
 use crate::pt_de_plan::{DeInside, DePlan};
 use crate::pt_node::{Body, Held, Labels, Node, Past, Recorded, Records};
@@ -377,7 +378,7 @@ fn scale_within(e: &Entity) -> (Body, Row<Node>) {
     let core = Core::new(GLOBAL, plan, Channels::new(GLOBAL, 2).ok().unwrap()).ok().unwrap();
     let mut scale = scale;
     scale.plus.push(0);
-    (Body::Composite(Either::First(core)), row([node_of(&scale, false)]))
+    (Body::Composite(directors::sdf(core)), row([node_of(&scale, false)]))
 }
 
 fn node_of(e: &Entity, recorded: bool) -> Node {
@@ -417,7 +418,7 @@ pub fn build(kind: &str, size: usize, iterations: u64, by: &str) -> (Node, usize
         }
         let children = row(entities.iter().enumerate().map(|(k, e)| node_of(e, k == last)));
         let core = crate::pt_pn::Core::new(GLOBAL, network_plan(&entities, &channels, children.as_slice())).ok().unwrap();
-        return (top_of(Either::Other(Either::Other(Either::Other(core))), children), 0, last);
+        return (top_of(directors::pn(core), children), 0, last);
     }
     let (order, room) = match by {
         _ if is_timed(kind) => (vec![], vec![]),
@@ -444,11 +445,11 @@ pub fn build(kind: &str, size: usize, iterations: u64, by: &str) -> (Node, usize
             order: row(order),
         };
         let core = crate::pt_sr::Core::new(GLOBAL, plan).ok().unwrap();
-        return (top_of(Either::Other(Either::First(core)), children), firings, last);
+        return (top_of(directors::sr(core), children), firings, last);
     }
     if is_timed(kind) {
         let core = DeCore::new(GLOBAL, timed_plan(&entities, &channels, children.as_slice())).ok().unwrap();
-        return (top_of(Either::Other(Either::Other(Either::First(core))), children), firings, last);
+        return (top_of(directors::de(core), children), firings, last);
     }
     let rates = row(children.as_slice().iter().map(|child| {
         let Body::Actor(held) = &child.body else { panic!() };
@@ -467,7 +468,7 @@ pub fn build(kind: &str, size: usize, iterations: u64, by: &str) -> (Node, usize
     };
     let first = Channels::new(GLOBAL, channels.len() as u32).ok().unwrap();
     let core = Core::new(GLOBAL, plan, first).ok().unwrap();
-    (top_of(Either::First(core), children), firings, last)
+    (top_of(directors::sdf(core), children), firings, last)
 }
 
 /// Whether a model is under DE.
@@ -523,7 +524,7 @@ fn timed_plan(entities: &[Entity], channels: &[(usize, usize)], children: &[Node
     }
 }
 
-fn top_of(director: crate::pt_directors::Director, children: Row<Node>) -> Node {
+fn top_of(director: directors::Director, children: Row<Node>) -> Node {
     Node {
         past: Past { made: 0, last: None },
         body: Body::Composite(director),

@@ -44,12 +44,14 @@ mod written_documents;
 
 use answer::Answer;
 use std::alloc::Global;
+use std::sync::Wait;
+use std::thread::Threads;
 use std::{env, io};
 use table::{Answers, Place, tell};
 
 /// The questions of all tables: each table has a module of its name.
-struct Questions<'r> {
-    rt: &'r HostRuntime,
+struct Questions<'r, R> {
+    rt: &'r R,
 }
 
 /// The name of a table's file, without its folder.
@@ -58,7 +60,7 @@ fn file_name(table: &str) -> &str {
     name
 }
 
-impl Answers for Questions<'_> {
+impl<R: Threads + Wait + Sync> Answers for Questions<'_, R> {
     fn answer(&self, alloc: Global, place: Place<'_>, question: &str, out: &mut Answer) {
         let section = place.section;
         match file_name(place.table) {

@@ -5,6 +5,8 @@ use pt_firing::OpenGate;
 use pt_io::{MemSink, MemSource};
 use pt_top::{Status, run_program};
 use std::alloc::{AllocError, Global};
+use std::sync::Wait;
+use std::thread::Threads;
 
 /// How many bytes a sink takes at a call, and in all.
 const AT_ONCE: usize = 7;
@@ -22,7 +24,13 @@ struct Devices {
 }
 
 /// Answers what the program writes, and its exit status: for a document by the words of the section, or for words alone.
-pub fn answer(rt: &HostRuntime, alloc: Global, section: &str, question: &str, out: &mut Answer) {
+pub fn answer<R: Threads + Wait + Sync>(
+    rt: &R,
+    alloc: Global,
+    section: &str,
+    question: &str,
+    out: &mut Answer,
+) {
     let (words, document, length) = match section {
         "words alone" => (question, "", 0),
         "a third read that fails" => ("run", question, LONG),
@@ -57,8 +65,8 @@ fn failing(alloc: Global, call: Option<u32>) -> Result<Vec<u32>, AllocError> {
     Ok(calls)
 }
 
-fn tell(
-    rt: &HostRuntime,
+fn tell<R: Threads + Wait + Sync>(
+    rt: &R,
     alloc: Global,
     words: &str,
     devices: Devices,
