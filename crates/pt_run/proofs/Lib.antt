@@ -2,6 +2,7 @@ pub mod Course
 pub mod Unmet
 pub mod UnmetTicks
 pub mod UnmetReactions
+pub mod UnmetModal
 pub mod UnmetRuns
 pub mod Counting
 pub mod Traces

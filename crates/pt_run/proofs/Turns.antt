@@ -45,11 +45,11 @@ mutual
     where
       by_body : (b : Body) → AllQuiet (nodes_of ks) → IsQuiet (node_with f.past b (nodes_of ks))
       by_body (body.Actor held) kids = tt
-      by_body (body.Composite (First s)) kids = (tt, kids)
-      by_body (body.Composite (Other (First s))) kids = (tt, kids)
-      by_body (body.Composite (Other (Other (First s)))) kids = (tt, kids)
-      by_body (body.Composite (Other (Other (Other (First s))))) kids = (tt, kids)
-      by_body (body.Composite (Other (Other (Other (Other s))))) kids = (tt, kids)
+      by_body (body.Composite (First s)) kids = (tt, tt, kids)
+      by_body (body.Composite (Other (First s))) kids = (tt, tt, kids)
+      by_body (body.Composite (Other (Other (First s)))) kids = (tt, tt, kids)
+      by_body (body.Composite (Other (Other (Other (First s))))) kids = (tt, tt, kids)
+      by_body (body.Composite (Other (Other (Other (Other s))))) kids = (tt, tt, kids)
 
   quiet-nodes : (ks : AllShown) → AllQuiet (nodes_of ks)
   quiet-nodes none = tt

@@ -1,13 +1,14 @@
--- Trees of SDF, PN, SR and DE composites make no meetings.
+-- Trees without Rendezvous make no meetings.
 use Rattle.std.proofs.Common.{◌≡◌, ℕ, zero, suc, List, [], ◌∷◌, refl, sym, subst}
 use Rattle.pt_meaning.specs.Basics.{Tag, Streams, Log, Firing, own, log_then}
 use Rattle.pt_meaning.specs.Machine.{Outcome, Done, Stuck, Stepping, recorded}
 use Rattle.pt_meaning.specs.Sdf.{sdf}
 use Rattle.pt_meaning.specs.Pn.{pn}
+use Rattle.pt_meaning.specs.Modal.{modal}
 use Rattle.pt_meaning.specs.Tick.{sr_active, sr_turn, sr, de_early, de_active, de_turn, de}
 use Rattle.pt_meaning.specs.Children.{Child, numbered, nodes, child_facts, child_step, with_number}
 use Rattle.pt_meaning.specs.Meetings.{Meets, below_child}
-use Rattle.pt_meaning.specs.Tree.{Rows, Answer, Gives, Fails, Core, Sdf, Pn, Sr, De, Rv, Modal, Past, Node, Nodes, Actor, Composite, none, more, list_of, nodes_of, made_of, fired_at, height}
+use Rattle.pt_meaning.specs.Tree.{Rows, Answer, Gives, Fails, Core, Sdf, Pn, Sr, De, Rv, Modal, Past, Node, Nodes, Actor, Composite, none, more, list_of, nodes_of, made_of, fired_at, height, reset_of, reset_all}
 use Rattle.pt_meaning.specs.NodeFacts.{facts_of}
 use Rattle.pt_meaning.specs.Step.{actor_outcome, level, step_at}
 use Rattle.pt_meaning.specs.Job as job
@@ -18,25 +19,36 @@ use Rattle.pt_laws.proofs.FiringLaws.{done-within}
 use Rattle.pt_run.proofs.Unmet.{Unmet, Unmeeting, AllIn, unmet-then, unmet-own, unmet-within, kahn-unmet, kahn-keeps}
 use Rattle.pt_run.proofs.UnmetTicks.{turn-unmeeting, tick-unmet, tick-keeps}
 use Rattle.pt_run.proofs.UnmetReactions.{reaction-unmeeting}
+use Rattle.pt_run.proofs.UnmetModal.{modal-unmet, modal-keeps}
 
--- a director of the code, none of which makes meetings
+-- a director that makes no meetings
 abbrev pub IsQuietCore : {T : Type 0} → Core T → Type 0
 IsQuietCore (Sdf p X) = Unit {0}
 IsQuietCore (Pn p X) = Unit {0}
 IsQuietCore (Sr p) = Unit {0}
 IsQuietCore (De p) = Unit {0}
 IsQuietCore (Rv p X) = ⊥
-IsQuietCore (Modal chart m) = ⊥
+IsQuietCore (Modal chart m) = Unit {0}
 
--- each composite of the tree has one
+-- each composite of the tree has one, and starts with one
 abbrev mutual
   pub IsQuiet : {T A : Type 0} → Node T A → Type 0
   IsQuiet (Actor h a b) = Unit {0}
-  IsQuiet (Composite h c d kids) = IsQuietCore d × AllQuiet kids
+  IsQuiet (Composite h c d kids) = IsQuietCore c × IsQuietCore d × AllQuiet kids
 
   pub AllQuiet : {T A : Type 0} → Nodes T A → Type 0
   AllQuiet none = Unit {0}
   AllQuiet (more n ns) = IsQuiet n × AllQuiet ns
+
+-- so it is once it is brought back to its start
+mutual
+  reset-quiet : {T A : Type 0} (n : Node T A) → IsQuiet n → IsQuiet (reset_of n)
+  reset-quiet (Actor h a b) q = tt
+  reset-quiet (Composite h c d kids) q = (q.0, q.0, resets-quiet kids q.2)
+
+  resets-quiet : {T A : Type 0} (ns : Nodes T A) → AllQuiet ns → AllQuiet (reset_all ns)
+  resets-quiet none q = tt
+  resets-quiet (more n ns) q = (reset-quiet n q.0, resets-quiet ns q.1)
 
 abbrev IsQuietChild : {T A : Type 0} → Child (Node T A) → Type 0
 IsQuietChild c = IsQuiet c.node
@@ -82,47 +94,55 @@ module _ {T A : Type 0} (rows : Rows T A) (k d : ℕ) (m : Meets) (u : (i : ℕ)
   level-logs tag (Actor h a b) X s = actor-log tag h a (rows.react tag b X)
   level-logs tag (Composite h c (Sdf p Y) kids) X s =
       let l : Log T = log_in (sdf (child_facts (facts_of rows)) (child_step steps) p k tag (record { held = Y; kids = numbered 0 (list_of kids) }) X) in
-      let inside : Unmet l = kahn-unmet (child_facts (facts_of rows)) IsQuietChild tag (child_step steps) (child-unmeeting steps u) p.net _ _ _ (numbered 0 (list_of kids)) _ k (children-quiet 0 kids s.1) in
+      let inside : Unmet l = kahn-unmet (child_facts (facts_of rows)) IsQuietChild tag (child_step steps) (child-unmeeting steps u) p.net _ _ _ (numbered 0 (list_of kids)) _ k (children-quiet 0 kids s.2) in
       subst (λ (l : Log T). Unmet l) (sym (log-as-node tag h c (Sdf p) _)) (unmet-within h.made l inside)
   level-logs tag (Composite h c (Pn p Y) kids) X s =
       let l : Log T = log_in (pn (child_facts (facts_of rows)) (child_step steps) p k tag (record { held = Y; kids = numbered 0 (list_of kids) }) X) in
-      let inside : Unmet l = kahn-unmet (child_facts (facts_of rows)) IsQuietChild tag (child_step steps) (child-unmeeting steps u) p.net _ _ _ (numbered 0 (list_of kids)) _ k (children-quiet 0 kids s.1) in
+      let inside : Unmet l = kahn-unmet (child_facts (facts_of rows)) IsQuietChild tag (child_step steps) (child-unmeeting steps u) p.net _ _ _ (numbered 0 (list_of kids)) _ k (children-quiet 0 kids s.2) in
       subst (λ (l : Log T). Unmet l) (sym (log-as-node tag h c (Pn p) _)) (unmet-within h.made l inside)
   level-logs tag (Composite h c (Sr p) kids) X s =
       let facts = child_facts (facts_of rows) in
       let l : Log T = log_in (sr facts (child_step steps) p k h.made tag (numbered 0 (list_of kids)) X) in
-      let inside : Unmet l = tick-unmet IsQuietChild facts.early sr_active (sr_turn facts (child_step steps)) (turn-unmeeting IsQuietChild facts (child_step steps) (child-unmeeting steps u)) tag p.net _ (numbered 0 (list_of kids)) X k (children-quiet 0 kids s.1) in
+      let inside : Unmet l = tick-unmet IsQuietChild facts.early sr_active (sr_turn facts (child_step steps)) (turn-unmeeting IsQuietChild facts (child_step steps) (child-unmeeting steps u)) tag p.net _ (numbered 0 (list_of kids)) X k (children-quiet 0 kids s.2) in
       subst (λ (l : Log T). Unmet l) (sym (log-as-node tag h c (λ Y. Sr p) _)) (unmet-within h.made l inside)
   level-logs tag (Composite h c (De p) kids) X s =
       let facts = child_facts (facts_of rows) in
       let l : Log T = log_in (de facts (child_step steps) p k tag (numbered 0 (list_of kids)) X) in
-      let inside : Unmet l = tick-unmet IsQuietChild (de_early facts) (de_active facts) (de_turn facts (child_step steps)) (reaction-unmeeting IsQuietChild facts (child_step steps) (child-unmeeting steps u)) tag p.net _ (numbered 0 (list_of kids)) X k (children-quiet 0 kids s.1) in
+      let inside : Unmet l = tick-unmet IsQuietChild (de_early facts) (de_active facts) (de_turn facts (child_step steps)) (reaction-unmeeting IsQuietChild facts (child_step steps) (child-unmeeting steps u)) tag p.net _ (numbered 0 (list_of kids)) X k (children-quiet 0 kids s.2) in
       subst (λ (l : Log T). Unmet l) (sym (log-as-node tag h c (λ Y. De p) _)) (unmet-within h.made l inside)
-  level-logs tag (Composite h c (Rv p Y) kids) X s = absurd s.0
-  level-logs tag (Composite h c (Modal chart n) kids) X s = absurd s.0
+  level-logs tag (Composite h c (Rv p Y) kids) X s = absurd s.1
+  level-logs tag (Composite h c (Modal chart n) kids) X s =
+      let facts = child_facts (facts_of rows) in
+      let l : Log T = log_in (modal chart facts (child_step steps) h.made tag n (numbered 0 (list_of kids)) X) in
+      let inside : Unmet l = modal-unmet IsQuietChild chart facts (child_step steps) (child-unmeeting steps u) (λ z q. reset-quiet z.node q) h.made tag n X (numbered 0 (list_of kids)) (children-quiet 0 kids s.2) in
+      subst (λ (l : Log T). Unmet l) (sym (log-as-node tag h c (Modal chart) _)) (unmet-within h.made l inside)
 
   level-keeps : (tag : Tag) (n z : Node T A) (X out : Streams T) (l : Log T) → IsQuiet n → level rows steps k (m []) tag n X ≡ Done z out l → IsQuiet z
   level-keeps tag (Actor h a b) z X out l s e = actor-after tag h a (rows.react tag b X) z out l e
   level-keeps tag (Composite h c (Sdf p Y) kids) z X out l s e =
       let y = done-within tag h c (Sdf p) _ z out l e in
       subst (λ (v : Node T A). IsQuiet v) (sym y.state)
-      (tt, nodes-quiet y.inside.kids (kahn-keeps (child_facts (facts_of rows)) IsQuietChild tag (child_step steps) (child-unmeeting steps u) p.net _ _ _ (numbered 0 (list_of kids)) _ k y.inside out y.log (children-quiet 0 kids s.1) y.done))
+      (s.0, tt, nodes-quiet y.inside.kids (kahn-keeps (child_facts (facts_of rows)) IsQuietChild tag (child_step steps) (child-unmeeting steps u) p.net _ _ _ (numbered 0 (list_of kids)) _ k y.inside out y.log (children-quiet 0 kids s.2) y.done))
   level-keeps tag (Composite h c (Pn p Y) kids) z X out l s e =
       let y = done-within tag h c (Pn p) _ z out l e in
       subst (λ (v : Node T A). IsQuiet v) (sym y.state)
-      (tt, nodes-quiet y.inside.kids (kahn-keeps (child_facts (facts_of rows)) IsQuietChild tag (child_step steps) (child-unmeeting steps u) p.net _ _ _ (numbered 0 (list_of kids)) _ k y.inside out y.log (children-quiet 0 kids s.1) y.done))
+      (s.0, tt, nodes-quiet y.inside.kids (kahn-keeps (child_facts (facts_of rows)) IsQuietChild tag (child_step steps) (child-unmeeting steps u) p.net _ _ _ (numbered 0 (list_of kids)) _ k y.inside out y.log (children-quiet 0 kids s.2) y.done))
   level-keeps tag (Composite h c (Sr p) kids) z X out l s e =
       let facts = child_facts (facts_of rows) in
       let y = done-within tag h c (λ Y. Sr p) _ z out l e in
       subst (λ (v : Node T A). IsQuiet v) (sym y.state)
-      (tt, nodes-quiet y.inside.kids (tick-keeps IsQuietChild facts.early sr_active (sr_turn facts (child_step steps)) (turn-unmeeting IsQuietChild facts (child_step steps) (child-unmeeting steps u)) tag p.net _ (numbered 0 (list_of kids)) X k y.inside out y.log (children-quiet 0 kids s.1) y.done))
+      (s.0, tt, nodes-quiet y.inside.kids (tick-keeps IsQuietChild facts.early sr_active (sr_turn facts (child_step steps)) (turn-unmeeting IsQuietChild facts (child_step steps) (child-unmeeting steps u)) tag p.net _ (numbered 0 (list_of kids)) X k y.inside out y.log (children-quiet 0 kids s.2) y.done))
   level-keeps tag (Composite h c (De p) kids) z X out l s e =
       let facts = child_facts (facts_of rows) in
       let y = done-within tag h c (λ Y. De p) _ z out l e in
       subst (λ (v : Node T A). IsQuiet v) (sym y.state)
-      (tt, nodes-quiet y.inside.kids (tick-keeps IsQuietChild (de_early facts) (de_active facts) (de_turn facts (child_step steps)) (reaction-unmeeting IsQuietChild facts (child_step steps) (child-unmeeting steps u)) tag p.net _ (numbered 0 (list_of kids)) X k y.inside out y.log (children-quiet 0 kids s.1) y.done))
-  level-keeps tag (Composite h c (Rv p Y) kids) z X out l s e = absurd s.0
-  level-keeps tag (Composite h c (Modal chart n) kids) z X out l s e = absurd s.0
+      (s.0, tt, nodes-quiet y.inside.kids (tick-keeps IsQuietChild (de_early facts) (de_active facts) (de_turn facts (child_step steps)) (reaction-unmeeting IsQuietChild facts (child_step steps) (child-unmeeting steps u)) tag p.net _ (numbered 0 (list_of kids)) X k y.inside out y.log (children-quiet 0 kids s.2) y.done))
+  level-keeps tag (Composite h c (Rv p Y) kids) z X out l s e = absurd s.1
+  level-keeps tag (Composite h c (Modal chart n) kids) z X out l s e =
+      let facts = child_facts (facts_of rows) in
+      let y = done-within tag h c (Modal chart) _ z out l e in
+      subst (λ (v : Node T A). IsQuiet v) (sym y.state)
+      (s.0, tt, nodes-quiet y.inside.kids (modal-keeps IsQuietChild chart facts (child_step steps) (child-unmeeting steps u) (λ z q. reset-quiet z.node q) h.made tag n X (numbered 0 (list_of kids)) y.inside out y.log (children-quiet 0 kids s.2) y.done))
 
 unmeeting-at : {T A : Type 0} (rows : Rows T A) (k d : ℕ) (m : Meets) → Unmeeting (step_at rows k d m) IsQuiet
 unfolding step_at
