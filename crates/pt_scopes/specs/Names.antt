@@ -1,6 +1,6 @@
 -- What the program holds under names.
 use Rattle.std.specs.Prelude.{ℕ, List, [], ◌∷◌, Option, Some, None, option_map, slice_get}
-use Rattle.indexmap.specs.IndexMap.{get_by_text}
+use Rattle.pt_name_map.specs.NameMap as name_map
 use Rattle.pt_value.specs.Value.{Value}
 use Rattle.pt_value.specs.Token.{value_of}
 use Rattle.pt_language.specs.Scope.{Scope}
@@ -9,7 +9,7 @@ use Rattle.pt_scopes.specs.declared.scope.Seen.{Seen}
 
 -- the value under each name
 abbrev pub held : Names → List ℕ → Option Value
-held names name = option_map value_of (get_by_text names.tokens name)
+held names name = option_map value_of (name_map.held names.tokens name)
 
 abbrev pub or_else : {A : Type 0} → Option A → Option A → Option A
 or_else (Some x) other = Some x

@@ -1,12 +1,12 @@
 -- The names of ports that the program holds.
 use Rattle.std.specs.Prelude.{ℕ, List, Bool, false, ◌||◌, Option, Some, None, is_some}
-use Rattle.indexmap.specs.IndexMap.{get_by_text}
+use Rattle.pt_name_map.specs.NameMap.{held}
 use Rattle.pt_language.specs.Scope.{port_in}
 use Rattle.pt_scopes.specs.declared.port_names.PortNames.{PortNames}
 
 -- a port has this name
 abbrev pub has_port : PortNames → List ℕ → Bool
-has_port ports name = is_some (get_by_text ports.names name)
+has_port ports name = is_some (held ports.names name)
 
 abbrev pub has_presence : PortNames → Option (List ℕ) → Bool
 has_presence ports None = false

@@ -3,15 +3,14 @@ ghost use Rattle.std.specs.Str.{bytes_eq};
 ghost use Rattle.pt_value.specs.Token.{value_of};
 ghost use Rattle.pt_scopes.specs.Names.{held};
 
-use indexmap::IndexMap;
+use pt_name_map::NameMap;
 use pt_value::Token;
 use std::alloc::{AllocError, Global};
-use std::hash::{BuildHasherDefault, DefaultHasher};
 
-/// Parameters of one composite with their tokens. Names of one hash are hard to find for its hasher.
+/// Parameters of one composite with their tokens.
 #[derive(Drop)]
 pub struct Names {
-    tokens: IndexMap<String, Token, BuildHasherDefault<DefaultHasher>>,
+    tokens: NameMap<Token>,
 }
 
 impl Names {
@@ -20,7 +19,7 @@ impl Names {
         ensures { (name : List ℕ) → held result name ≡ None }
     {
         Names {
-            tokens: IndexMap::with_hasher(alloc, BuildHasherDefault::new()),
+            tokens: NameMap::new(alloc),
         }
     }
 
@@ -29,9 +28,7 @@ impl Names {
         ensures ok { OnOk result ((other : List ℕ) → held self.new other ≡ (if bytes_eq name.now other then Some (value_of token) else held self.old other)) }
         ensures err { OnErr result ((other : List ℕ) → held self.new other ≡ held self.old other) }
     {
-        let key = String::from_str(alloc, name)?;
-        self.tokens.insert(key, token)?;
-        Ok(())
+        self.tokens.put(alloc, name, token)
     }
 
     /// The token of a parameter.

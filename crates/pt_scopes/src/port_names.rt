@@ -3,9 +3,8 @@ ghost use Rattle.std.specs.Str.{bytes_eq};
 ghost use Rattle.pt_language.specs.Scope.{port_in};
 ghost use Rattle.pt_scopes.specs.PortNames.{has_port, has_presence, names_port_of};
 
-use indexmap::IndexMap;
+use pt_name_map::NameMap;
 use std::alloc::{AllocError, Global};
-use std::hash::{BuildHasherDefault, DefaultHasher};
 
 /// What stands behind the name of a port where an expression asks whether the port has a token.
 const MARK: &str = "_isPresent";
@@ -13,7 +12,7 @@ const MARK: &str = "_isPresent";
 /// The names of the ports that an expression may name.
 #[derive(Drop)]
 pub struct PortNames {
-    names: IndexMap<String, bool, BuildHasherDefault<DefaultHasher>>,
+    names: NameMap<bool>,
 }
 
 impl PortNames {
@@ -22,7 +21,7 @@ impl PortNames {
         ensures { (name : List ℕ) → has_port result name ≡ false }
     {
         PortNames {
-            names: IndexMap::with_hasher(alloc, BuildHasherDefault::new()),
+            names: NameMap::new(alloc),
         }
     }
 
@@ -31,9 +30,7 @@ impl PortNames {
         ensures ok { OnOk result ((other : List ℕ) → has_port self.new other ≡ (if bytes_eq name.now other then true else has_port self.old other)) }
         ensures err { OnErr result ((other : List ℕ) → has_port self.new other ≡ has_port self.old other) }
     {
-        let key = String::from_str(alloc, name)?;
-        self.names.insert(key, true)?;
-        Ok(())
+        self.names.put(alloc, name, true)
     }
 
     fn contains(&self, name: &str) -> bool
