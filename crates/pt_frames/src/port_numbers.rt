@@ -4,16 +4,15 @@ ghost use Rattle.pt_net.specs.Net.{entity_view};
 ghost use Rattle.pt_inequalities.specs.Inequalities.{with_port, with_ports, with_input, with_inputs, no_ports, top_inputs};
 ghost use Rattle.pt_frames.specs.Views.{port_numbers};
 
-use indexmap::IndexMap;
 use pt_document::{Direction, Port};
+use pt_name_map::NameMap;
 use pt_net::NetEntity;
 use std::alloc::{AllocError, Global};
-use std::hash::{BuildHasherDefault, DefaultHasher};
 
 /// The ports of an entity by their names: the number of each.
 #[derive(Drop)]
 pub struct PortNumbers {
-    numbers: IndexMap<String, usize, BuildHasherDefault<DefaultHasher>>,
+    numbers: NameMap<usize>,
 }
 
 impl PortNumbers {
@@ -21,7 +20,7 @@ impl PortNumbers {
         ensures { (name : List ℕ) → port_numbers result name ≡ None }
     {
         PortNumbers {
-            numbers: IndexMap::with_hasher(alloc, BuildHasherDefault::new()),
+            numbers: NameMap::new(alloc),
         }
     }
 
@@ -29,9 +28,7 @@ impl PortNumbers {
     fn put(&mut self, alloc: Global, name: &str, number: usize) -> Result<(), AllocError>
         ensures { OnOk result ((other : List ℕ) → port_numbers self.new other ≡ with_port name.now number (port_numbers self.old) other) }
     {
-        let key = String::from_str(alloc, name)?;
-        self.numbers.insert(key, number)?;
-        Ok(())
+        self.numbers.put(alloc, name, number)
     }
 
     /// The number of the port of a name.
