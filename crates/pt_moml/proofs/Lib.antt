@@ -16,3 +16,4 @@ pub mod RuleLaws
 pub mod EntityForms
 pub mod EntityLaws
 pub mod DocumentLaws
+pub mod Apart

@@ -4,7 +4,7 @@ ghost use Rattle.serde_json.specs.Data.{Data};
 ghost use Rattle.pt_json.specs.View.{view, items_view, members_view};
 ghost use Rattle.pt_document.specs.declared.refusal.Refusal.{Refusal};
 ghost use Rattle.pt_document.specs.Outcome.{Gives, IsRefusal};
-ghost use Rattle.pt_document.specs.Names.{are_distinct};
+ghost use Rattle.pt_document.specs.Names.{are_distinct, has_name};
 ghost use Rattle.pt_moml.specs.Fields.{text_at, required_text, optional_text, name_at, truth_at, required_truth, optional_truth, required_whole, has_only, listed, items_at, required_list, optional_list, distinct_at};
 
 use indexmap::IndexSet;
@@ -13,6 +13,9 @@ use pt_json::Value;
 use pt_value::Text;
 use std::alloc::{AllocError, Global};
 use std::hash::BuildHasherDefault;
+
+/// How many parts are compared with one another at most, in place of a set of their names.
+const MOST_COMPARED: usize = 8;
 
 /// The text at a place that must have one.
 pub fn text_of(alloc: Global, path: &str, value: &Value) -> Result<Text, DocFault>
@@ -159,6 +162,30 @@ pub trait Named {
     ghost of_more: { (part : Self) (parts : List Self) → names (part ∷ parts) ≡ name part ∷ names parts };
 }
 
+/// Whether one of the parts has the name.
+fn has_name<T: Named>(parts: &[T], name: &str) -> bool
+    ensures { result ≡ has_name (T.names parts.now) name.now }
+{
+    for part in parts {
+        if name == part.name() {
+            return true;
+        }
+    }
+    false
+}
+
+/// Whether the name of each part differs from those before it, for few parts.
+fn are_apart<T: Named>(parts: &[T]) -> bool
+    ensures { result ≡ are_distinct (T.names parts.now) }
+{
+    for (place, part) in parts.iter().enumerate() {
+        if has_name(&parts[..place], part.name()) {
+            return false;
+        }
+    }
+    true
+}
+
 /// Puts the names of the parts into a set that is empty, up to one that is there already: whether there is none.
 fn are_new<'a, T: Named>(seen: &mut NameSet<&'a str>, parts: &'a [T]) -> Result<bool, AllocError>
     requires { map (λ n. n.now) seen.old.keys ≡ [] }
@@ -177,6 +204,9 @@ fn are_new<'a, T: Named>(seen: &mut NameSet<&'a str>, parts: &'a [T]) -> Result<
 fn differ<T: Named>(alloc: Global, parts: &[T]) -> Result<bool, AllocError>
     ensures { IfOk result (λ b. b ≡ are_distinct (T.names parts.now)) }
 {
+    if parts.len() <= MOST_COMPARED {
+        return Ok(are_apart(parts));
+    }
     let mut seen: NameSet<&str> = IndexSet::with_hasher(alloc, BuildHasherDefault::new());
     let are_new = are_new(&mut seen, parts);
     drop(seen);
