@@ -50,6 +50,7 @@ use std::{env, io};
 use table::{Answers, Place, tell};
 
 /// The questions of all tables: each table has a module of its name.
+#[derive(Drop)]
 struct Questions<'r, R> {
     rt: &'r R,
 }

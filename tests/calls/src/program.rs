@@ -17,6 +17,7 @@ const ROOM: usize = 65_536;
 const LONG: usize = 10_000;
 
 /// What is read, and which call of each device fails, if one does.
+#[derive(Drop)]
 struct Devices {
     document: Vec<u8>,
     failing_read: Option<u32>,
