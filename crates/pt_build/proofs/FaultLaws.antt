@@ -1,13 +1,13 @@
 -- The answer for a composite that isn't built stands.
 use Rattle.std.proofs.Common.{◌≡◌, ℕ, List, [], ◌∷◌, ◌++◌, ◌+◌, ◌<◌, length, take, map, get_or, sym, ap, subst, ◌∙◌}
 use Rattle.std.proofs.lemmas.List.{take_more}
-use Rattle.pt_document.specs.declared.classes.Director.{Director}
 use Rattle.pt_net.specs.declared.net.Net.{Net}
 use Rattle.pt_net.specs.declared.net.NetEntity.{NetEntity}
 use Rattle.pt_net.specs.Inside.{children_of}
 use Rattle.pt_node.specs.declared.node.Node.{Node}
 use Rattle.pt_node.specs.Shown.{Shown, shown, shown_node}
 use Rattle.pt_node.proofs.Link.{shown-node}
+use Rattle.pt_trees.specs.declared.directing.Directing.{Directing}
 use Rattle.pt_trees.specs.declared.composite_fault.CompositeFault.{CompositeFault}
 use Rattle.pt_trees.specs.declared.composite_fault.CompositeFault.TheVariants as composite_fault
 use Rattle.pt_trees.specs.Composite.{trees_of, CompositeFaultStands}
@@ -19,7 +19,7 @@ use Rattle.pt_trees.specs.Trees.{IsEntity, around_in, Starts}
 use Rattle.pt_trees.specs.Built.{AreBuilt, IsBuilt, IsToldAs, BuildFaultStands, misfit}
 use Rattle.pt_build.proofs.TreeLaws.{built-snoc, fresh-snoc}
 
-pub fault-stands : (net : Net) (starts : Starts) (k : ℕ) (e : NetEntity) (director : Director) (kids : List Shown) (fault : CompositeFault) (answer : BuildFault) → IsEntity net k e → IsDirectedBy e director → AreBuilt net starts (children_of net.entities.items k) kids →
+pub fault-stands : (net : Net) (starts : Starts) (k : ℕ) (e : NetEntity) (director : Directing) (kids : List Shown) (fault : CompositeFault) (answer : BuildFault) → IsEntity net k e → IsDirectedBy e director → AreBuilt net starts (children_of net.entities.items k) kids →
     CompositeFaultStands director (around_in net starts k e) kids fault → IsToldAs fault e.path answer → BuildFaultStands net starts answer
 fault-stands net starts k e director kids composite_fault.Unbuilt answer at directed all stands told = subst (λ f. BuildFaultStands net starts f) (sym told) (misfit k e director kids at directed all stands)
 fault-stands net starts k e director kids (composite_fault.Refused code) (Refused r) at directed all stands told =

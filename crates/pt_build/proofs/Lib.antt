@@ -3,3 +3,4 @@ pub mod FaultLaws
 pub mod LoopLaws
 pub mod TopLaws
 pub mod NestedLaws
+pub mod MachineLaws

@@ -2,18 +2,19 @@ ghost use Rattle.std.specs.Prelude.{◌≡◌, ◌≤◌, ◌<◌, IfOk, true, f
 ghost use Rattle.pt_node.specs.Shown.{shown_node};
 ghost use Rattle.pt_trees.specs.Built.{IsToldAs, held_node};
 
+use pt_chart::Written;
 use pt_composite::composite;
-use pt_document::{Director, Refusal};
+use pt_document::Refusal;
 use pt_firing::{Counts, Fires};
 use pt_library::LibraryActor;
 use pt_net::{Net, NetEntity};
 use pt_node::{Body, Held, Labels, Node, Past, Records};
 use pt_stated::Stated;
-use pt_trees::{BuildFault, CompositeFault, Wiring};
+use pt_trees::{BuildFault, CompositeFault, Directing, Wiring};
 use pt_value::Text;
 use pt_wiring::{Insides, Numbers};
 use pt_within::{
-    Within, declared_of, director_of, entity_in, inputs_of, is_undirected, labels_of,
+    Within, declared_of, director_of, entity_in, inputs_of, is_undirected, labels_of, machine_at,
     narrow_sources, numbers_at, outputs_of, record_lists, records_of, start_in, stated_at,
     within_all, within_at,
 };
@@ -37,6 +38,7 @@ pub(crate) struct Builder<'a> {
     net: &'a Net,
     starts: &'a [Option<LibraryActor>],
     stated: &'a [Option<Stated>],
+    machines: &'a [Option<Written>],
     insides: Insides,
     records: Vec<Numbers>,
     channels: Vec<Within>,
@@ -93,7 +95,8 @@ fn actor_node(alloc: Global, held: Held, path: Text, records: Records) -> Node
 }
 
 impl<'a> Builder<'a> {
-    ghost use Rattle.std.specs.Prelude.{◌≡◌, ℕ, ◌<◌, IfOk, IfErr, length, map, true};
+    ghost use Rattle.std.specs.Prelude.{◌≡◌, ℕ, ◌<◌, IfOk, IfErr, length, map, option_map, true};
+    ghost use Rattle.pt_chart.specs.Views.{machine_of};
     ghost use Rattle.pt_net.specs.Inside.{children_of};
     ghost use Rattle.pt_node.specs.Shown.{shown, shown_node};
     ghost use Rattle.pt_trees.specs.Around.{around_of};
@@ -101,7 +104,7 @@ impl<'a> Builder<'a> {
     ghost use Rattle.pt_trees.specs.Labels.{labels_of};
     ghost use Rattle.pt_trees.specs.Recorded.{recorded_of};
     ghost use Rattle.pt_trees.specs.Directors.{IsDirectedBy};
-    ghost use Rattle.pt_trees.specs.Trees.{IsEntity, IsUndirected, AreStarted, StartsAs, around_in, stated_at, declared_by};
+    ghost use Rattle.pt_trees.specs.Trees.{IsEntity, IsUndirected, AreStarted, StartsAs, around_in, stated_at, machine_at, declared_by};
     ghost use Rattle.pt_trees.specs.Built.{IsBuilt, AreBuilt, IsNested, BuildFaultStands};
     ghost use Rattle.pt_build.specs.Starts.{starts_of, starts_in};
     ghost use Rattle.pt_build.specs.Reached.{IsPrepared, IsReached, HasRoom};
@@ -111,8 +114,9 @@ impl<'a> Builder<'a> {
         net: &'a Net,
         starts: &'a [Option<LibraryActor>],
         stated: &'a [Option<Stated>],
+        machines: &'a [Option<Written>],
     ) -> Result<Builder<'a>, AllocError>
-        ensures { IfOk result (λ b. (b.net.now ≡ net.now) × (starts_in b ≡ starts_of starts.now stated.now) × IsPrepared b) }
+        ensures { IfOk result (λ b. (b.net.now ≡ net.now) × (starts_in b ≡ starts_of starts.now stated.now machines.now) × IsPrepared b) }
     {
         let insides = Insides::of(alloc, net)?;
         let records = record_lists(alloc, net.entities.len(), &net.recorded)?;
@@ -121,6 +125,7 @@ impl<'a> Builder<'a> {
             net,
             starts,
             stated,
+            machines,
             insides,
             records,
             channels,
@@ -206,6 +211,7 @@ impl<'a> Builder<'a> {
             outputs: outputs_of(&entity.ports)?,
             stated: self.stated_at(alloc, k)?,
             declared: self.declared_at(alloc, k)?,
+            machine: self.machine_at(alloc, k)?,
         })
     }
 
@@ -216,13 +222,20 @@ impl<'a> Builder<'a> {
         stated_at(alloc, self.stated, k)
     }
 
+    /// The machine of the entity of that number, if it is a Modal entity.
+    fn machine_at(&self, alloc: Global, k: usize) -> Result<Option<Written>, AllocError>
+        ensures { IfOk result (λ machine. option_map machine_of machine ≡ machine_at (starts_in self.now) k) }
+    {
+        machine_at(alloc, self.machines, k)
+    }
+
     /// What is declared of the children of the composite of that number.
     fn declared_at(&self, alloc: Global, k: usize) -> Result<Vec<Option<Counts>>, AllocError>
         requires prepared { IsPrepared self.now }
         requires there { k < length self.now.net.now.entities.items }
         ensures { IfOk result (λ declared. declared.items ≡ map (declared_by (starts_in self.now)) (children_of self.now.net.now.entities.items k)) }
     {
-        declared_of(alloc, self.stated, self.children_of(k))
+        declared_of(alloc, self.stated, self.machines, self.children_of(k))
     }
 
     /// What the composite of that number is made of beside its children.
@@ -247,7 +260,7 @@ impl<'a> Builder<'a> {
         &self,
         alloc: Global,
         k: usize,
-        director: Director,
+        director: Directing,
         entity: &NetEntity,
         children: Vec<Node>,
     ) -> Result<Node, BuildFault>
@@ -282,7 +295,7 @@ impl<'a> Builder<'a> {
         k: usize,
         depth: u32,
         entity: &NetEntity,
-    ) -> Result<Director, BuildFault>
+    ) -> Result<Directing, BuildFault>
         requires reached { IsReached self.now k depth }
         requires entity { IsEntity self.now.net.now k entity.now }
         requires directed { IsUndirected entity.now → ⊥ }

@@ -7,6 +7,7 @@ ghost use Rattle.pt_trees.specs.Built.{IsBuilt, BuildFaultStands};
 ghost use Rattle.pt_build.specs.Starts.{starts_of};
 
 use crate::builder::Builder;
+use pt_chart::Written;
 use pt_library::LibraryActor;
 use pt_net::Net;
 use pt_node::Node;
@@ -14,19 +15,20 @@ use pt_stated::Stated;
 use pt_trees::BuildFault;
 use std::alloc::Global;
 
-/// The tree of a net at its start, whose library actors start as these, and whose process networks state these, by the numbers of their entities.
+/// The tree of a net at its start, whose library actors start as these, whose process networks state these, and whose Modal entities have these machines, by the numbers of their entities.
 pub fn build(
     alloc: Global,
     net: &Net,
     starts: &[Option<LibraryActor>],
     stated: &[Option<Stated>],
+    machines: &[Option<Written>],
 ) -> Result<Node, BuildFault>
-    requires { AreStarted (starts_of starts.now stated.now) }
-    ensures tree { IfOk result (λ node. IsTree net.now (starts_of starts.now stated.now) 0 (node_of (shown_node node))) }
-    ensures built { IfOk result (λ node. IsBuilt net.now (starts_of starts.now stated.now) 0 (shown_node node)) }
+    requires { AreStarted (starts_of starts.now stated.now machines.now) }
+    ensures tree { IfOk result (λ node. IsTree net.now (starts_of starts.now stated.now machines.now) 0 (node_of (shown_node node))) }
+    ensures built { IfOk result (λ node. IsBuilt net.now (starts_of starts.now stated.now machines.now) 0 (shown_node node)) }
     ensures fresh { IfOk result (λ node. IsFresh (shown_node node)) }
-    ensures stands { IfErr result (BuildFaultStands net.now (starts_of starts.now stated.now)) }
+    ensures stands { IfErr result (BuildFaultStands net.now (starts_of starts.now stated.now machines.now)) }
 {
-    let builder = Builder::of(alloc, net, starts, stated)?;
+    let builder = Builder::of(alloc, net, starts, stated, machines)?;
     builder.node_at(alloc, 0, 0)
 }

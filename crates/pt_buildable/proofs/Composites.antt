@@ -4,7 +4,6 @@ use Rattle.std.specs.List.{slice_get}
 use Rattle.std.proofs.lemmas.Bool.{both_ways}
 use Rattle.std.proofs.lemmas.Option.{none-some, same_Some, slice_get_within}
 use Rattle.pt_document.specs.Document.{parts, JobTree}
-use Rattle.pt_document.specs.declared.classes.Director.{Director}
 use Rattle.pt_net.specs.declared.net.Net.{Net}
 use Rattle.pt_net.specs.declared.net.NetDirector.{NetDirector}
 use Rattle.pt_net.specs.declared.net.NetEntity.{NetEntity}
@@ -13,6 +12,7 @@ use Rattle.pt_net.specs.Net.{NetEntityTree, entity_view, IsNetOf}
 use Rattle.pt_scopes.specs.Scopes.{net_view, is_composite_class}
 use Rattle.pt_start.specs.Nested.{IsNested}
 use Rattle.pt_start.proofs.Outward.{view-at}
+use Rattle.pt_trees.specs.declared.directing.Directing.{Directing}
 use Rattle.pt_trees.specs.Directors.{director_of}
 use Rattle.pt_trees.specs.Trees.{IsEntity, IsDirected}
 use Rattle.pt_trees.proofs.DirectorLaws.{is-directed}
@@ -62,7 +62,7 @@ other-or-built net = elim (among net.entities.items) [ inl w ↦ inl (record { n
 pub is-directed-by : (e : NetEntity) → is_built (director_of e) ≡ true → IsDirected e
 is-directed-by e built = by-director (director_of e) refl built
   where
-    by-director : (o : Option Director) → director_of e ≡ o → is_built o ≡ true → IsDirected e
+    by-director : (o : Option Directing) → director_of e ≡ o → is_built o ≡ true → IsDirected e
     by-director None is b = absurd (let h : false ≡ true = b in cc)
     by-director (Some director) is b = is-directed e director is
 

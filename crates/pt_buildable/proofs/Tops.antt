@@ -23,6 +23,7 @@ use Rattle.pt_scopes.specs.Valued.{IsValued}
 use Rattle.pt_scopes.proofs.Document.{get-left, get-last}
 use Rattle.pt_start.proofs.Outward.{view-at}
 use Rattle.pt_job.specs.Iterations.{iterations}
+use Rattle.pt_trees.specs.declared.directing.Directing.TheVariants.{By}
 use Rattle.pt_trees.specs.Directors.{named, IsDirectedBy}
 use Rattle.pt_trees.specs.Trees.{IsEntity, IsDirected}
 use Rattle.pt_trees.proofs.DirectorLaws.{named-of, is-directed}
@@ -108,19 +109,19 @@ unfolding director_row
 iterating o d is (inl sdf) = let w = row-found directors d.class Sdf (ap named (sym is) ∙ sdf) in subst IsIterating (sym (sdf-row w.0 w.1 w.3) ∙ w.2) sdf-iterates
 iterating o d is (inr sr) = let w = row-found directors d.class Sr (ap named (sym is) ∙ sr) in subst IsIterating (sym (sr-row w.0 w.1 w.3) ∙ w.2) sr-iterates
 
-by-director : (e : NetEntity) → IsDirectedBy e Sdf ⊎ IsDirectedBy e Sr → (named e.director ≡ Some Sdf) ⊎ (named e.director ≡ Some Sr)
+by-director : (e : NetEntity) → IsDirectedBy e (By Sdf) ⊎ IsDirectedBy e (By Sr) → (named e.director ≡ Some Sdf) ⊎ (named e.director ≡ Some Sr)
 by-director e (inl sdf) = inl (named-of e Sdf sdf)
 by-director e (inr sr) = inr (named-of e Sr sr)
 
-composite-of : (e : NetEntity) → IsDirectedBy e Sdf ⊎ IsDirectedBy e Sr → IsDirected e
-composite-of e (inl sdf) = is-directed e Sdf sdf
-composite-of e (inr sr) = is-directed e Sr sr
+composite-of : (e : NetEntity) → IsDirectedBy e (By Sdf) ⊎ IsDirectedBy e (By Sr) → IsDirected e
+composite-of e (inl sdf) = is-directed e (By Sdf) sdf
+composite-of e (inr sr) = is-directed e (By Sr) sr
 
 class-given : (o : Option (List ℕ)) → names_director o ≡ true → o ≡ Some (unwrap_or o [])
 class-given None e = absurd (let h : false ≡ true = e in cc)
 class-given (Some class) e = refl
 
-pub top-iterates : (net : Net) (values : Values) (e : NetEntity) → IsNetOfDocument net → IsValued (net_view net) values → IsEntity net 0 e → IsDirectedBy e Sdf ⊎ IsDirectedBy e Sr → (n : ℕ) × (iterations (net_view net) values ≡ Some n)
+pub top-iterates : (net : Net) (values : Values) (e : NetEntity) → IsNetOfDocument net → IsValued (net_view net) values → IsEntity net 0 e → IsDirectedBy e (By Sdf) ⊎ IsDirectedBy e (By Sr) → (n : ℕ) × (iterations (net_view net) values ≡ Some n)
 top-iterates net values e doc valued at built =
     let leaves = documents-leaves doc.bytes doc.job doc.read in
     let placed = all-placed doc.job leaves in

@@ -1,21 +1,23 @@
 -- Which composites of a net are built: those with the director SDF, SR, DE or PN.
 use Rattle.std.specs.Prelude.{◌≡◌, ℕ, Bool, true, false, Option, Some, None}
-use Rattle.pt_document.specs.declared.classes.Director.{Director}
 use Rattle.pt_document.specs.declared.classes.Director.TheVariants.{Sdf, Pn, Rendezvous, Sr, De}
 use Rattle.pt_net.specs.declared.net.Net.{Net}
 use Rattle.pt_net.specs.declared.net.NetEntity.{NetEntity}
 use Rattle.pt_scopes.specs.Scopes.{is_composite_class}
+use Rattle.pt_trees.specs.declared.directing.Directing.{Directing}
+use Rattle.pt_trees.specs.declared.directing.Directing.TheVariants.{By, Modal}
 use Rattle.pt_trees.specs.Directors.{director_of, IsDirectedBy}
 use Rattle.pt_trees.specs.Trees.{IsEntity, Starts, stated_at}
 
 -- composites of this director are built
-abbrev pub is_built : Option Director → Bool
+abbrev pub is_built : Option Directing → Bool
 is_built None = false
-is_built (Some Sdf) = true
-is_built (Some Sr) = true
-is_built (Some De) = true
-is_built (Some Pn) = true
-is_built (Some Rendezvous) = false
+is_built (Some (By Sdf)) = true
+is_built (Some (By Sr)) = true
+is_built (Some (By De)) = true
+is_built (Some (By Pn)) = true
+is_built (Some (By Rendezvous)) = false
+is_built (Some Modal) = false
 
 -- a composite with a director that isn't built, or a Modal entity
 abbrev pub IsOtherComposite : NetEntity → Type 0
@@ -37,5 +39,5 @@ pub record HasUnstatedNetwork (net : Net) (starts : Starts) : Type 0 where
   pub number : ℕ
   pub entity : NetEntity
   pub at : IsEntity net number entity
-  pub network : IsDirectedBy entity Pn
+  pub network : IsDirectedBy entity (By Pn)
   pub unstated : stated_at starts number ≡ None

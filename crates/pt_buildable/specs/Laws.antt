@@ -18,6 +18,7 @@ use Rattle.pt_typing.specs.Least.{Assignment}
 use Rattle.pt_start.specs.Misplaced.{IsMisplaced}
 use Rattle.pt_job.specs.Iterations.{iterations}
 use Rattle.pt_node.specs.View.{Tree}
+use Rattle.pt_trees.specs.declared.directing.Directing.TheVariants.{By}
 use Rattle.pt_trees.specs.Around.{Around}
 use Rattle.pt_trees.specs.De.{BeginsAtOutput}
 use Rattle.pt_trees.specs.Rates.{HasUnsteady}
@@ -42,7 +43,7 @@ DirectorsAreOfComposites = (net : Net) (k : ℕ) (e : NetEntity) (d : NetDirecto
 
 -- a top with the director SDF or SR has a number of iterations
 abbrev pub TopsHaveIterations : Type 0
-TopsHaveIterations = (net : Net) (values : Values) (e : NetEntity) → IsNetOfDocument net → IsValued (net_view net) values → IsEntity net 0 e → IsDirectedBy e Sdf ⊎ IsDirectedBy e Sr → (n : ℕ) × (iterations (net_view net) values ≡ Some n)
+TopsHaveIterations = (net : Net) (values : Values) (e : NetEntity) → IsNetOfDocument net → IsValued (net_view net) values → IsEntity net 0 e → IsDirectedBy e (By Sdf) ⊎ IsDirectedBy e (By Sr) → (n : ℕ) × (iterations (net_view net) values ≡ Some n)
 
 -- Some composite of a net isn't built, or all are.
 abbrev pub CompositesAreBuiltOrNot : Type 0
@@ -67,7 +68,7 @@ CompositesHaveChannels =
 -- Under SDF each child needs and gives the same at each firing, where the texts of a net come to these values, each entity may stand where it stands, and its actors start so; unless it isn't known of some process network what it states.
 abbrev pub ChildrenAreSteady : Type 0
 ChildrenAreSteady =
-    (net : Net) (values : Values) (typing : Assignment) (starts : Starts) (k : ℕ) (e : NetEntity) (kids : List Tree) → IsValued (net_view net) values → ((cause : Code) (n : ℕ) → IsMisplaced (net_view net) values cause n → ⊥) → AreStartedIn net values typing starts → IsEntity net k e → IsDirectedBy e Sdf →
+    (net : Net) (values : Values) (typing : Assignment) (starts : Starts) (k : ℕ) (e : NetEntity) (kids : List Tree) → IsValued (net_view net) values → ((cause : Code) (n : ℕ) → IsMisplaced (net_view net) values cause n → ⊥) → AreStartedIn net values typing starts → IsEntity net k e → IsDirectedBy e (By Sdf) →
     AreTrees net starts (children_of net.entities.items k) kids → HasUnsteady (around_in net starts k e) kids → HasUnstatedNetwork net starts
 
 -- Where a channel of a composite begins at a child that answers early, it begins at an output that this child has.

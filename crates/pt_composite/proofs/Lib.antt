@@ -3,3 +3,4 @@ pub mod SdfLaws
 pub mod SrLaws
 pub mod DeLaws
 pub mod PnLaws
+pub mod ModalLaws

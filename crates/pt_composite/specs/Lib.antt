@@ -1,4 +1,5 @@
 pub mod Networks
+pub mod Machines
 pub mod Nodes
 pub mod Timed
 pub mod Unplanned

@@ -3,6 +3,7 @@
 
 mod composing;
 mod de;
+mod modal;
 mod node;
 mod pn;
 mod sdf;

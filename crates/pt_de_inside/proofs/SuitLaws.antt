@@ -45,7 +45,7 @@ use Rattle.pt_de_inside.proofs.StartedLaws.{one-output, within-places}
 
 -- ---- a child, whatever it fires
 
-fitting-at : (ss : List Shown) → AllFresh ss → (i : ℕ) (kid : Tree) → get (trees_of ss) i ≡ Some kid → IsFitting kid
+pub fitting-at : (ss : List Shown) → AllFresh ss → (i : ℕ) (kid : Tree) → get (trees_of ss) i ≡ Some kid → IsFitting kid
 fitting-at [] f i kid e = absurd (cc)
 fitting-at (s ∷ ss) f zero kid e = let same : node_of s ≡ kid = cc in subst (λ (t : Tree). IsFitting t) same f.0.fitting
 fitting-at (s ∷ ss) f (suc i) kid e = fitting-at ss f.1 i kid e
@@ -55,7 +55,7 @@ whole-child (Actor h a b) start =
     actor-always h a b start.1 (λ node. whole_of rows node ≡ library.whole b) (λ fs past c g. let stay = delays-stay fs a c g in stay.wholes ∙ sym (ap library.whole start.1))
 whole-child (Composite h c d kids) start = λ later t. stays-whole rows h c d kids (ap (λ (e : Core Token). core_whole e) (sym start.1)) later t
 
-wake-child : (kid : Tree) → IsAtStart rows kid → IsFitting kid → Always rows (λ node. next_of rows (reset_of node) ≡ next_of rows kid) kid
+pub wake-child : (kid : Tree) → IsAtStart rows kid → IsFitting kid → Always rows (λ node. next_of rows (reset_of node) ≡ next_of rows kid) kid
 wake-child kid start fits = λ later t. comes-again rows kid later t fits ∙ wakes-at-start rows kid start
 
 -- ---- the early answer of a child

@@ -44,7 +44,7 @@ pub(crate) fn whole_of(alloc: Global, children: &[Node]) -> Result<Vec<bool>, Al
 }
 
 /// The wake of each child, which is at its start.
-pub(crate) fn wakes_of(alloc: Global, children: &[Node]) -> Result<Vec<Option<Tag>>, AllocError>
+pub fn wakes_of(alloc: Global, children: &[Node]) -> Result<Vec<Option<Tag>>, AllocError>
     requires { AllFresh (map shown children.now) }
     ensures { IfOk result (λ wakes. wakes.items ≡ map (facts.next_of library.rows) (trees_of (map shown children.now))) }
 {

@@ -8,6 +8,7 @@ mod laws;
 mod outputs;
 mod planning;
 
+pub use children::wakes_of;
 pub use inside::inside_of;
 pub use laws::{insides_are_formed, plans_fit, plans_make_cores, plans_suit};
 pub use outputs::begin_at_outputs;

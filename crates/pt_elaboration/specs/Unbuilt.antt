@@ -1,12 +1,13 @@
 -- What isn't built yet: the causes of code 40, and there are no others.
 use Rattle.std.specs.Prelude.{◌≡◌, ℕ, List, false, Some, None, slice_get}
-use Rattle.pt_document.specs.declared.classes.Director.{Director}
 use Rattle.pt_document.specs.declared.classes.Director.TheVariants.{Sdf, Pn, Rendezvous, Sr, De}
 use Rattle.pt_net.specs.declared.net.Net.{Net}
 use Rattle.pt_net.specs.declared.net.NetEntity.{NetEntity}
 use Rattle.pt_net.specs.Inside.{children_of}
 use Rattle.pt_scopes.specs.Scopes.{is_composite_class}
 use Rattle.pt_node.specs.View.{Tree}
+use Rattle.pt_trees.specs.declared.directing.Directing.{Directing}
+use Rattle.pt_trees.specs.declared.directing.Directing.TheVariants.{By, Modal}
 use Rattle.pt_trees.specs.Around.{Around}
 use Rattle.pt_trees.specs.Directors.{IsDirectedBy}
 use Rattle.pt_trees.specs.Sdf.{HasInside}
@@ -15,15 +16,16 @@ use Rattle.pt_trees.specs.Trees.{IsEntity, IsUndirected, Starts, StartsAs, AreTr
 use Rattle.pt_buildable.specs.Composites.{HasOtherComposite}
 
 -- the children of the composite don't fit the channels around them, or a rate is none that its director takes
-abbrev pub IsMalformed : Director → Around → List Tree → Type 0
-IsMalformed Sdf around kids = HasInside around kids → ⊥
-IsMalformed Sr around kids = IsWired around kids → ⊥
-IsMalformed De around kids = IsWired around kids → ⊥
-IsMalformed Pn around kids = IsWired around kids → ⊥
-IsMalformed Rendezvous around kids = ⊥
+abbrev pub IsMalformed : Directing → Around → List Tree → Type 0
+IsMalformed (By Sdf) around kids = HasInside around kids → ⊥
+IsMalformed (By Sr) around kids = IsWired around kids → ⊥
+IsMalformed (By De) around kids = IsWired around kids → ⊥
+IsMalformed (By Pn) around kids = IsWired around kids → ⊥
+IsMalformed (By Rendezvous) around kids = ⊥
+IsMalformed Modal around kids = ⊥
 
 -- What isn't built yet of a net whose entities start as these: a composite with another director than SDF, SR, DE and PN, or a Modal entity; a library actor that has no start; a composite of one of these directors round trees that are built, which it doesn't fit.
 pub data IsUnbuilt (net : Net) (starts : Starts) : Type 0 where
   other : HasOtherComposite net → IsUnbuilt net starts
   unstarted : (k : ℕ) (e : NetEntity) → IsEntity net k e → IsUndirected e → is_composite_class e.class ≡ false → slice_get starts.actors k ≡ Some None → IsUnbuilt net starts
-  malformed : (k : ℕ) (e : NetEntity) (director : Director) (kids : List Tree) → IsEntity net k e → IsDirectedBy e director → AreTrees net starts (children_of net.entities.items k) kids → IsMalformed director (around_in net starts k e) kids → IsUnbuilt net starts
+  malformed : (k : ℕ) (e : NetEntity) (director : Directing) (kids : List Tree) → IsEntity net k e → IsDirectedBy e director → AreTrees net starts (children_of net.entities.items k) kids → IsMalformed director (around_in net starts k e) kids → IsUnbuilt net starts

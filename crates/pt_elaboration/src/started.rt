@@ -12,6 +12,7 @@ ghost use Rattle.pt_elaboration.specs.Refused.{FaultStands};
 use crate::refusal::refusal_of_entity;
 use crate::resolved::{typing_in, values_in};
 use crate::starts::starts_of;
+use pt_chart::Written;
 use pt_cover::nets_are_nested;
 use pt_document::DocFault;
 use pt_library::LibraryActor;
@@ -30,6 +31,8 @@ pub struct Started {
     pub typing: Typing,
     pub starts: Vec<Option<LibraryActor>>,
     pub stated: Vec<Option<Stated>>,
+    /// No machine of a Modal entity is made yet.
+    pub machines: Vec<Option<Written>>,
 }
 
 /// Refuses an entity that may not stand where it stands.
@@ -63,6 +66,7 @@ impl Started {
             typing,
             starts,
             stated,
+            machines: Vec::new(alloc),
         })
     }
 }

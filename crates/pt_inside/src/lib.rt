@@ -13,6 +13,7 @@ mod tokens;
 mod wired;
 
 pub use inside::inside_of;
+pub use needs::needs_of;
 pub use nonstrict::nonstrict_of;
 pub use order::order_of;
 pub use outputs::outputs_of;

@@ -16,6 +16,7 @@ use Rattle.pt_start.proofs.Outward.{view-at}
 use Rattle.pt_stated.specs.declared.stated.Stated.{Stated}
 use Rattle.pt_stated.specs.Networks.{stated_of, AreStated}
 use Rattle.pt_stated.specs.Laws.{StatedIsLawful, NetworksAreStated}
+use Rattle.pt_trees.specs.declared.directing.Directing.TheVariants.{By}
 use Rattle.pt_trees.specs.Directors.{named, IsDirectedBy}
 use Rattle.pt_trees.specs.Pn.{IsStatedFor}
 use Rattle.pt_trees.specs.Trees.{IsEntity, Starts, stated_at}
@@ -36,9 +37,9 @@ module _ (lawful : StatedIsLawful) (stated : NetworksAreStated) (net : Net) (val
       ∙ ap (λ m. stated_of values m (entity_view e)) z
 
   -- where the texts of the net have values, a process network states its numbers
-  pub network-states : IsValued (net_view net) values → (k : ℕ) (e : NetEntity) → IsEntity net k e → IsDirectedBy e Pn → (s : Stated) × (stated_at starts k ≡ Some s)
+  pub network-states : IsValued (net_view net) values → (k : ℕ) (e : NetEntity) → IsEntity net k e → IsDirectedBy e (By Pn) → (s : Stated) × (stated_at starts k ≡ Some s)
   network-states valued k e at by =
-      let d = is-directed e Pn by in
+      let d = is-directed e (By Pn) by in
       let own : (entity_view e).director ≡ Some (director_view d.director) = ap (λ (o : Option NetDirector). option_map director_view o) d.has in
       let class : bytes_eq d.director.class (codes "PN") ≡ true = pn-class d.director (ap named (sym d.has) ∙ named-of e Pn by) in
       let s = stated (net_view net) values valued k (entity_view e) (director_view d.director) (view-at entity_view net.entities.items k e at) own class in

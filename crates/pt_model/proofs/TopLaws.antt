@@ -50,6 +50,8 @@ use Rattle.pt_trees.specs.Composite.{children_in, trees_of}
 use Rattle.pt_trees.specs.Fresh as fresh
 use Rattle.pt_trees.specs.Fresh.{IsFresh}
 use Rattle.pt_trees.specs.Trees.{IsEntity, IsUndirected, around_in, Starts}
+use Rattle.pt_trees.specs.declared.directing.Directing.{Directing}
+use Rattle.pt_trees.specs.declared.directing.Directing.TheVariants.{By, Modal}
 use Rattle.pt_trees.specs.Directors.{named, IsDirectedBy, composing}
 use Rattle.pt_trees.specs.Built.{IsBuilt, AreBuilt, built_actor, built_composite, none_built, more_built}
 use Rattle.pt_trees.specs.Start.{IsBranched, HasLeaves, AllHaveLeaves, AreUntold, IsUnrecorded, AllUnrecorded, IsRunnable}
@@ -62,7 +64,7 @@ use Rattle.pt_trees.specs.declared.top.SrJob.{SrJob}
 use Rattle.pt_trees.specs.declared.top.Top.{Top}
 use Rattle.pt_trees.specs.declared.top.Top.TheVariants as top
 use Rattle.pt_trees.specs.Top.{supply_of, IsJobFor}
-use Rattle.pt_trees.proofs.DirectorLaws.{named-of}
+use Rattle.pt_trees.proofs.DirectorLaws.{named-of, none-modal}
 use Rattle.pt_order.specs.Laws.{IsNetOfDocument}
 use Rattle.pt_buildable.proofs.Joined.{tops-iterate}
 use Rattle.pt_elaboration.specs.Resolved.{IsPlaced}
@@ -81,10 +83,10 @@ top-directed net values e placed at is =
 
 -- a core that an entity may have, with so many own inputs
 abbrev pub IsCoreOf : NetEntity → tree.Core Token → Type 0
-IsCoreOf e (tree.Sdf p X) = IsDirectedBy e Sdf × (length p.takes ≡ count_by is_input e.ports.items)
-IsCoreOf e (tree.Pn p X) = IsDirectedBy e Pn × (length p.takes ≡ count_by is_input e.ports.items)
-IsCoreOf e (tree.Sr p) = IsDirectedBy e Sr × (p.inputs ≡ count_by is_input e.ports.items)
-IsCoreOf e (tree.De p) = IsDirectedBy e De × (p.inputs ≡ count_by is_input e.ports.items)
+IsCoreOf e (tree.Sdf p X) = IsDirectedBy e (By Sdf) × (length p.takes ≡ count_by is_input e.ports.items)
+IsCoreOf e (tree.Pn p X) = IsDirectedBy e (By Pn) × (length p.takes ≡ count_by is_input e.ports.items)
+IsCoreOf e (tree.Sr p) = IsDirectedBy e (By Sr) × (p.inputs ≡ count_by is_input e.ports.items)
+IsCoreOf e (tree.De p) = IsDirectedBy e (By De) × (p.inputs ≡ count_by is_input e.ports.items)
 IsCoreOf e (tree.Rv p X) = ⊥
 IsCoreOf e (tree.Modal chart m) = ⊥
 
@@ -98,12 +100,13 @@ pub record HasCore (net : Net) (s : Shown) : Type 0 where
   pub is : IsCoreOf entity core
 
 -- so is each that its director makes
-core-made : (by : Director) (net : Net) (starts : Starts) (k : ℕ) (e : NetEntity) (kids : List Tree) (c : tree.Core Token) → IsDirectedBy e by → (composing by).IsCore (around_in net starts k e) kids c → IsCoreOf e c
-core-made Sdf net starts k e kids c directed has = subst (λ v. IsCoreOf e v) (sym has.is) (directed, has.planned.takes ∙ has.is_inside.inputs)
-core-made Sr net starts k e kids c directed has = subst (λ v. IsCoreOf e v) (sym has.is) (directed, refl)
-core-made De net starts k e kids c directed has = subst (λ v. IsCoreOf e v) (sym has.is) (directed, refl)
-core-made Pn net starts k e kids c directed has = subst (λ v. IsCoreOf e v) (sym has.is) (directed, has.wired.lawful.takes)
-core-made Rendezvous net starts k e kids c directed has = absurd has
+core-made : (by : Directing) (net : Net) (starts : Starts) (k : ℕ) (e : NetEntity) (kids : List Tree) (c : tree.Core Token) → IsDirectedBy e by → (composing by).IsCore (around_in net starts k e) kids c → IsCoreOf e c
+core-made (By Sdf) net starts k e kids c directed has = subst (λ v. IsCoreOf e v) (sym has.is) (directed, has.planned.takes ∙ has.is_inside.inputs)
+core-made (By Sr) net starts k e kids c directed has = subst (λ v. IsCoreOf e v) (sym has.is) (directed, refl)
+core-made (By De) net starts k e kids c directed has = subst (λ v. IsCoreOf e v) (sym has.is) (directed, refl)
+core-made (By Pn) net starts k e kids c directed has = subst (λ v. IsCoreOf e v) (sym has.is) (directed, has.wired.lawful.takes)
+core-made (By Rendezvous) net starts k e kids c directed has = absurd has
+core-made Modal net starts k e kids c directed has = absurd (none-modal e directed)
 
 core-at : {net : Net} {starts : Starts} {k : ℕ} {s : Shown} (values : Values) → IsPlaced net values → k ≡ 0 → IsBuilt net starts k s → HasCore net s
 core-at {net = net} values placed first (built_actor k e a at is starts_as) = absurd (top-directed net values e placed (subst (λ j. IsEntity net j e) first at) is)
@@ -200,7 +203,7 @@ full-under by other (Some d) e = by-class (bytes_eq d.class (codes "SR")) refl
     by-class false is = is
     by-class true is = absurd (other (same_Some Sr by (sym sr-director ∙ ap class-director (sym ((bytes_eq-Decides d.class (codes "SR")).0 is)) ∙ e)))
 
-present-under : (by : Director) → (Sr ≡ by → ⊥) → (net : Net) (e : NetEntity) → IsEntity net 0 e → IsDirectedBy e by → may_lack (net_view net) ≡ false
+present-under : (by : Director) → (Sr ≡ by → ⊥) → (net : Net) (e : NetEntity) → IsEntity net 0 e → IsDirectedBy e (By by) → may_lack (net_view net) ≡ false
 present-under by other net e at directed = ap (λ o. ticks_at o) (view-at entity_view net.entities.items 0 e at) ∙ full-under by other e.director (named-of e by directed)
 
 -- under DE the net is timed
@@ -247,7 +250,7 @@ de-timed net s has st e =
 some-number : (o : Option ℕ) (n : ℕ) → o ≡ Some n → IsSome o
 some-number o n e = subst (λ (v : Option ℕ). IsSome v) (sym e) refl
 
-iterates : (net : Net) (values : Values) (e : NetEntity) → IsNetOfDocument net → IsValued (net_view net) values → IsEntity net 0 e → IsDirectedBy e Sdf ⊎ IsDirectedBy e Sr → IsSome (iterations (net_view net) values)
+iterates : (net : Net) (values : Values) (e : NetEntity) → IsNetOfDocument net → IsValued (net_view net) values → IsEntity net 0 e → IsDirectedBy e (By Sdf) ⊎ IsDirectedBy e (By Sr) → IsSome (iterations (net_view net) values)
 iterates net values e doc valued at by = let n = tops-iterate net values e doc valued at by in some-number (iterations (net_view net) values) n.0 n.1
 
 -- a top of SDF or SR has a number of iterations or ticks

@@ -1,8 +1,7 @@
 -- Of what a builder of trees may lack, the net of a document lacks nothing but what isn't built.
 use Rattle.std.proofs.Common.{◌≡◌, inl, inr, ℕ, List, Bool, true, false, ◌||◌, if◌then◌else◌, bytes_eq, codes, refl, sym, ap, ◌∙◌, arith}
-use Rattle.std.specs.Prelude.{Option, Some, None, slice_get}
+use Rattle.std.specs.Prelude.{Option, Some, None, option_map, slice_get}
 use Rattle.std.proofs.lemmas.Option.{none-some}
-use Rattle.pt_document.specs.declared.classes.Director.{Director}
 use Rattle.pt_document.specs.declared.classes.Director.TheVariants.{Sdf, Pn, Rendezvous, Sr, De}
 use Rattle.pt_net.specs.declared.net.Net.{Net}
 use Rattle.pt_net.specs.declared.net.NetDirector.{NetDirector}
@@ -13,13 +12,15 @@ use Rattle.pt_scopes.specs.Scopes.{is_composite_class}
 use Rattle.pt_typing.specs.Least.{Assignment}
 use Rattle.pt_library.specs.declared.library_actor.LibraryActor.{LibraryActor}
 use Rattle.pt_node.specs.View.{Tree}
+use Rattle.pt_trees.specs.declared.directing.Directing.{Directing}
+use Rattle.pt_trees.specs.declared.directing.Directing.TheVariants.{By, Modal}
 use Rattle.pt_trees.specs.Composite.{trees_of}
 use Rattle.pt_trees.specs.De.{IsDeWired}
 use Rattle.pt_trees.specs.Pn.{IsPnWired}
 use Rattle.pt_trees.specs.Directors.{named, director_of, IsDirectedBy, composing}
 use Rattle.pt_trees.specs.Trees.{IsEntity, IsUndirected, around_in, Starts, StartsAs, AreTrees}
 use Rattle.pt_trees.specs.Built as built
-use Rattle.pt_trees.proofs.DirectorLaws.{is-directed}
+use Rattle.pt_trees.proofs.DirectorLaws.{is-directed, none-modal}
 use Rattle.pt_build.proofs.TreeLaws.{built-trees}
 use Rattle.pt_order.specs.Laws.{IsNetOfDocument}
 use Rattle.pt_buildable.specs.Composites.{is_built, HasOtherComposite, HasUnstatedNetwork}
@@ -33,19 +34,19 @@ use Rattle.pt_model.proofs.TypedLaws.{started-in, directed-top}
 -- ---- composites of other directors
 
 -- a composite with this director is of a class of composites
-of-class : (e : NetEntity) (director : Director) → IsDirectedBy e director → is_composite_class e.class ≡ true
+of-class : (e : NetEntity) (director : Directing) → IsDirectedBy e director → is_composite_class e.class ≡ true
 of-class e director by = ap (λ b. b || bytes_eq e.class (codes "Modal")) (is-directed e director by).composite
 
 -- so one with a director that isn't built is another
-other-by : (net : Net) (k : ℕ) (e : NetEntity) (director : Director) → IsEntity net k e → IsDirectedBy e director → is_built (Some director) ≡ false → HasOtherComposite net
+other-by : (net : Net) (k : ℕ) (e : NetEntity) (director : Directing) → IsEntity net k e → IsDirectedBy e director → is_built (Some director) ≡ false → HasOtherComposite net
 other-by net k e director at by unbuilt = record { number = k; entity = e; at = at; other = (of-class e director by, ap is_built by ∙ unbuilt) }
 
 -- what has no director is directed by none
 undirected-none : (e : NetEntity) → IsUndirected e → director_of e ≡ None
 undirected-none e none = by-class (bytes_eq e.class (codes "Composite"))
   where
-    by-class : (b : Bool) → (if b then named e.director else None) ≡ None
-    by-class true = ap named none
+    by-class : (b : Bool) → (if b then option_map By (named e.director) else None) ≡ None
+    by-class true = ap (λ (o : Option NetDirector). option_map By (named o)) none
     by-class false = refl
 
 -- ---- the tree of a net
@@ -69,14 +70,14 @@ module _ (law : StatedIsLawful) (stating : NetworksAreStated) (net : Net) (value
       by-class false is (Some a) start = absurd (none a start)
 
   -- a composite of DE that doesn't fit it has other places than its children: where all composites are built, channels begin at outputs
-  unfit-events : (k : ℕ) (e : NetEntity) (kids : List Tree) → IsEntity net k e → IsDirectedBy e De → AreTrees net starts (children_of net.entities.items k) kids → (IsDeWired (around_in net starts k e) kids → ⊥) → IsUnbuilt net starts
+  unfit-events : (k : ℕ) (e : NetEntity) (kids : List Tree) → IsEntity net k e → IsDirectedBy e (By De) → AreTrees net starts (children_of net.entities.items k) kids → (IsDeWired (around_in net starts k e) kids → ⊥) → IsUnbuilt net starts
   unfit-events k e kids at by all bad = elim (composites-built net) [
     | inl some ↦ other some
     | inr built ↦ (
         let top = tops-there net doc in
         let d = directed-top net values top.0 started.placed top.1 in
         let order = nets-ordered net top.0 d.0 doc built top.1 d.1 in
-        malformed k e De kids at by all (λ wired. bad (record { wired = wired; begin = begin-at-outputs net values typing starts k e kids order (started-in net values typing starts started.started) at all })))
+        malformed k e (By De) kids at by all (λ wired. bad (record { wired = wired; begin = begin-at-outputs net values typing starts k e kids order (started-in net values typing starts started.started) at all })))
   ]
 
   -- each process network states its numbers
@@ -84,19 +85,20 @@ module _ (law : StatedIsLawful) (stating : NetworksAreStated) (net : Net) (value
   none-unstated has = let s = network-states law stating net values starts started.stated started.resolved.valued has.number has.entity has.at has.network in none-some s.0 (sym has.unstated ∙ s.1)
 
   -- one that doesn't fit its director has other places than its children: what it states is lawful
-  unfit-network : (k : ℕ) (e : NetEntity) (kids : List Tree) → IsEntity net k e → IsDirectedBy e Pn → AreTrees net starts (children_of net.entities.items k) kids → (IsPnWired (around_in net starts k e) kids → ⊥) → IsUnbuilt net starts
+  unfit-network : (k : ℕ) (e : NetEntity) (kids : List Tree) → IsEntity net k e → IsDirectedBy e (By Pn) → AreTrees net starts (children_of net.entities.items k) kids → (IsPnWired (around_in net starts k e) kids → ⊥) → IsUnbuilt net starts
   unfit-network k e kids at by all bad =
       let s = network-states law stating net values starts started.stated started.resolved.valued k e at by in
-      malformed k e Pn kids at by all (λ wired. bad (record { wired = wired; stated = s.0; is = s.1; lawful = lawful-for law stating net values starts started.stated k e s.0 at s.1 }))
+      malformed k e (By Pn) kids at by all (λ wired. bad (record { wired = wired; stated = s.0; is = s.1; lawful = lawful-for law stating net values starts started.stated k e s.0 at s.1 }))
 
   -- a composite that doesn't fit its director
-  unfit : (k : ℕ) (e : NetEntity) (director : Director) (kids : List Tree) → IsEntity net k e → IsDirectedBy e director → AreTrees net starts (children_of net.entities.items k) kids → (composing director).IsMisfit (around_in net starts k e) kids → IsUnbuilt net starts
-  unfit k e Sdf kids at by all (inl unsteady) = absurd (none-unstated (children-steady net values typing starts k e kids started.resolved.valued started.placed (started-in net values typing starts started.started) at by all unsteady))
-  unfit k e Sdf kids at by all (inr bad) = malformed k e Sdf kids at by all bad
-  unfit k e Sr kids at by all bad = malformed k e Sr kids at by all bad
-  unfit k e De kids at by all bad = unfit-events k e kids at by all bad
-  unfit k e Pn kids at by all bad = unfit-network k e kids at by all bad
-  unfit k e Rendezvous kids at by all bad = other (other-by net k e Rendezvous at by refl)
+  unfit : (k : ℕ) (e : NetEntity) (director : Directing) (kids : List Tree) → IsEntity net k e → IsDirectedBy e director → AreTrees net starts (children_of net.entities.items k) kids → (composing director).IsMisfit (around_in net starts k e) kids → IsUnbuilt net starts
+  unfit k e (By Sdf) kids at by all (inl unsteady) = absurd (none-unstated (children-steady net values typing starts k e kids started.resolved.valued started.placed (started-in net values typing starts started.started) at by all unsteady))
+  unfit k e (By Sdf) kids at by all (inr bad) = malformed k e (By Sdf) kids at by all bad
+  unfit k e (By Sr) kids at by all bad = malformed k e (By Sr) kids at by all bad
+  unfit k e (By De) kids at by all bad = unfit-events k e kids at by all bad
+  unfit k e (By Pn) kids at by all bad = unfit-network k e kids at by all bad
+  unfit k e (By Rendezvous) kids at by all bad = other (other-by net k e (By Rendezvous) at by refl)
+  unfit k e Modal kids at by all bad = absurd (none-modal e by)
 
   -- where there is no tree, something isn't built
   pub no-tree-unbuilt : built.IsUnbuilt net starts → IsUnbuilt net starts

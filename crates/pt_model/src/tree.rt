@@ -34,7 +34,13 @@ pub(crate) fn tree_of(alloc: Global, net: &Net, started: &Started) -> Result<Nod
 {
     stated_is_lawful();
     networks_are_stated();
-    match build(alloc, net, &started.starts, &started.stated) {
+    match build(
+        alloc,
+        net,
+        &started.starts,
+        &started.stated,
+        &started.machines,
+    ) {
         Ok(top) => Ok(top),
         Err(BuildFault::Refused(refusal)) => Err(DocFault::Refused(refusal)),
         Err(BuildFault::Unbuilt) => Err(unbuilt(alloc)),

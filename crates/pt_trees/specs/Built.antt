@@ -2,7 +2,6 @@
 use Rattle.std.specs.Prelude.{◌≡◌, ℕ, suc, List, [], ◌∷◌, true, None}
 use Rattle.std.specs.List.{Contains}
 use Rattle.pt_meaning.specs.Tree as tree
-use Rattle.pt_document.specs.declared.classes.Director.{Director}
 use Rattle.pt_document.specs.declared.refusal.Refusal.{Refusal}
 use Rattle.pt_net.specs.declared.net.Net.{Net}
 use Rattle.pt_net.specs.declared.net.NetEntity.{NetEntity}
@@ -12,6 +11,7 @@ use Rattle.pt_node.specs.declared.body.Body.TheVariants as body
 use Rattle.pt_node.specs.declared.body.Held.{Held}
 use Rattle.pt_node.specs.Recorded.{RecordedPort}
 use Rattle.pt_node.specs.Shown.{Shown, Branch, none}
+use Rattle.pt_trees.specs.declared.directing.Directing.{Directing}
 use Rattle.pt_trees.specs.declared.build_fault.BuildFault.{BuildFault}
 use Rattle.pt_trees.specs.declared.build_fault.BuildFault.TheVariants.{Refused, Unbuilt, Memory}
 use Rattle.pt_trees.specs.Composite.{trees_of, IsComposite}
@@ -33,7 +33,7 @@ actor_node a path records = held_node (record { start = a; actor = a }) path rec
 mutual
   pub data IsBuilt (net : Net) (starts : Starts) : ℕ → Shown → Type 0 where
     built_actor : (k : ℕ) (e : NetEntity) (a : LibraryActor) → IsEntity net k e → IsUndirected e → StartsAs starts k a → IsBuilt net starts k (actor_node a e.path (recorded_of net k e))
-    built_composite : (k : ℕ) (e : NetEntity) (director : Director) (kids : List Shown) (s : Shown) → IsEntity net k e → IsDirectedBy e director → AreBuilt net starts (children_of net.entities.items k) kids →
+    built_composite : (k : ℕ) (e : NetEntity) (director : Directing) (kids : List Shown) (s : Shown) → IsEntity net k e → IsDirectedBy e director → AreBuilt net starts (children_of net.entities.items k) kids →
         IsComposite director (around_in net starts k e) kids e.path (recorded_of net k e) (labels_of net k e) s → IsBuilt net starts k s
 
   pub data AreBuilt (net : Net) (starts : Starts) : List ℕ → List Shown → Type 0 where
@@ -52,7 +52,7 @@ pub record IsRefused (net : Net) (starts : Starts) (r : Refusal) : Type 0 where
   pub number : ℕ
   pub entity : NetEntity
   pub at : IsEntity net number entity
-  pub director : Director
+  pub director : Directing
   pub directed : IsDirectedBy entity director
   pub kids : List Shown
   pub built : AreBuilt net starts (children_of net.entities.items number) kids
@@ -65,7 +65,7 @@ pub data IsUnbuilt (net : Net) (starts : Starts) : Type 0 where
   absent : ((e : NetEntity) → IsEntity net 0 e → ⊥) → IsUnbuilt net starts
   undirected : (k : ℕ) (e : NetEntity) → IsEntity net k e → (IsUndirected e → ⊥) → director_of e ≡ None → IsUnbuilt net starts
   unstarted : (k : ℕ) (e : NetEntity) → IsEntity net k e → IsUndirected e → ((a : LibraryActor) → StartsAs starts k a → ⊥) → IsUnbuilt net starts
-  misfit : (k : ℕ) (e : NetEntity) (director : Director) (kids : List Shown) → IsEntity net k e → IsDirectedBy e director → AreBuilt net starts (children_of net.entities.items k) kids →
+  misfit : (k : ℕ) (e : NetEntity) (director : Directing) (kids : List Shown) → IsEntity net k e → IsDirectedBy e director → AreBuilt net starts (children_of net.entities.items k) kids →
       (composing director).IsMisfit (around_in net starts k e) (trees_of kids) → IsUnbuilt net starts
   deep : (k : ℕ) → IsNested net k 32 → IsUnbuilt net starts
 

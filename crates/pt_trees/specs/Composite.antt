@@ -2,11 +2,11 @@
 use Rattle.std.specs.Prelude.{◌≡◌, ℕ, List, map}
 use Rattle.pt_meaning.specs.Tree as tree
 use Rattle.pt_value.specs.declared.token.Token.{Token}
-use Rattle.pt_document.specs.declared.classes.Director.{Director}
 use Rattle.pt_node.specs.declared.body.Body.{Body}
 use Rattle.pt_node.specs.Recorded.{RecordedPort}
 use Rattle.pt_node.specs.Shown.{Shown, Branch, Frame, list_of}
 use Rattle.pt_node.specs.View.{Tree, node_of, maximum_in}
+use Rattle.pt_trees.specs.declared.directing.Directing.{Directing}
 use Rattle.pt_trees.specs.declared.composite_fault.CompositeFault.{CompositeFault}
 use Rattle.pt_trees.specs.declared.composite_fault.CompositeFault.TheVariants.{Unbuilt, Refused, Memory}
 use Rattle.pt_trees.specs.Around.{Around}
@@ -43,7 +43,7 @@ pub record IsRound (IsCore : tree.Core Token → Type 0) (HasDepths : Body → T
 abbrev pub IsComposed : Composing → Around → List Shown → (path : List ℕ) → List RecordedPort → (labels : List (List ℕ)) → Shown → Type 0
 IsComposed how around kids path records labels s = IsRound (how.IsCore around (trees_of kids)) (PlansDepths around (trees_of kids)) (how.maximum around) kids path records labels s
 
-abbrev pub IsComposite : Director → Around → List Shown → (path : List ℕ) → List RecordedPort → (labels : List (List ℕ)) → Shown → Type 0
+abbrev pub IsComposite : Directing → Around → List Shown → (path : List ℕ) → List RecordedPort → (labels : List (List ℕ)) → Shown → Type 0
 IsComposite director around kids path records labels s = IsComposed (composing director) around kids path records labels s
 
 -- why there is none
@@ -52,5 +52,5 @@ IsUncomposed how around kids Unbuilt = how.IsMisfit around (trees_of kids)
 IsUncomposed how around kids (Refused code) = how.IsRefused around (trees_of kids) code
 IsUncomposed how around kids Memory = Unit {0}
 
-abbrev pub CompositeFaultStands : Director → Around → List Shown → CompositeFault → Type 0
+abbrev pub CompositeFaultStands : Directing → Around → List Shown → CompositeFault → Type 0
 CompositeFaultStands director around kids fault = IsUncomposed (composing director) around kids fault

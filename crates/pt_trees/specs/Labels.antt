@@ -1,6 +1,5 @@
 -- How a report tells the channels of a process network: by the places where they end.
 use Rattle.std.specs.Prelude.{ℕ, List, [], ◌∷◌, ◌++◌, map, Bool, true, false, nat_eq, unwrap_or, codes, bytes_eq, Option, Some, None, slice_get, if◌then◌else◌}
-use Rattle.pt_document.specs.declared.classes.Director.{Director}
 use Rattle.pt_document.specs.declared.classes.Director.TheVariants.{Sdf, Pn, Rendezvous, Sr, De}
 use Rattle.pt_document.specs.declared.job.Port.{Port}
 use Rattle.pt_document.specs.Names.{top_path}
@@ -9,6 +8,8 @@ use Rattle.pt_net.specs.declared.net.Net.{Net}
 use Rattle.pt_net.specs.declared.net.NetEntity.{NetEntity}
 use Rattle.pt_net.specs.Inside.{channels_in}
 use Rattle.pt_trace.specs.MeetingText.{place_text}
+use Rattle.pt_trees.specs.declared.directing.Directing.{Directing}
+use Rattle.pt_trees.specs.declared.directing.Directing.TheVariants.{By, Modal}
 use Rattle.pt_trees.specs.Directors.{director_of}
 
 -- what is behind a front, where a text begins with it
@@ -35,14 +36,15 @@ abbrev pub label_of : Net → (round : List ℕ) → Channel → List ℕ
 label_of net round x = child_label round (slice_get net.entities.items x.to.entity) x.to.port x.to.index
 
 -- a director tells the channels of its composites where they are process networks
-abbrev pub is_network : Director → Bool
-is_network Sdf = false
-is_network Sr = false
-is_network De = false
-is_network Rendezvous = false
-is_network Pn = true
+abbrev pub is_network : Directing → Bool
+is_network (By Sdf) = false
+is_network (By Sr) = false
+is_network (By De) = false
+is_network (By Rendezvous) = false
+is_network (By Pn) = true
+is_network Modal = false
 
-abbrev pub has_network : Option Director → Bool
+abbrev pub has_network : Option Directing → Bool
 has_network None = false
 has_network (Some director) = is_network director
 

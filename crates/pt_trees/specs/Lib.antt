@@ -5,6 +5,7 @@ pub mod Sdf
 pub mod Sr
 pub mod De
 pub mod Pn
+pub mod Modal
 pub mod Directors
 pub mod Fresh
 pub mod Composite

@@ -1,18 +1,19 @@
 -- The tree of a net among the definitions, and what the nodes of the code are: each entity of the net at its start.
-use Rattle.std.specs.Prelude.{◌≡◌, ℕ, List, [], ◌∷◌, Option, Some, None, map, option_map, get_or, count_by, slice_get, codes, true, bytes_eq}
+use Rattle.std.specs.Prelude.{◌≡◌, ℕ, List, [], ◌∷◌, Option, Some, None, map, get_or, count_by, slice_get, codes, true, bytes_eq}
 use Rattle.pt_meaning.specs.Tree as tree
 use Rattle.pt_value.specs.declared.token.Token.{Token}
-use Rattle.pt_document.specs.declared.classes.Director.{Director}
 use Rattle.pt_net.specs.declared.net.Net.{Net}
 use Rattle.pt_net.specs.declared.net.NetDirector.{NetDirector}
 use Rattle.pt_net.specs.declared.net.NetEntity.{NetEntity}
 use Rattle.pt_net.specs.Inside.{children_of, place_count, source_of, channels_in, is_input, is_output}
+use Rattle.pt_chart.specs.Machine.{Machine}
 use Rattle.pt_library.specs.declared.library_actor.LibraryActor.{LibraryActor}
 use Rattle.pt_flow_base.specs.declared.params.Params.{Params}
 use Rattle.pt_library.specs.LibraryActor.{start}
 use Rattle.pt_node.specs.View.{Tree}
 use Rattle.pt_stated.specs.declared.stated.Stated.{Stated}
-use Rattle.pt_trees.specs.Around.{Around}
+use Rattle.pt_trees.specs.declared.directing.Directing.{Directing}
+use Rattle.pt_trees.specs.Around.{Around, declared_as}
 use Rattle.pt_trees.specs.Directors.{IsDirectedBy, composing}
 
 -- ---- entities
@@ -33,10 +34,11 @@ pub record IsDirected (e : NetEntity) : Type 0 where
 
 -- ---- what a net starts with
 
--- Which actor each entity starts as, and what each states of its channels and of its ports, where it is a process network.
+-- Which actor each entity starts as, what each states of its channels and of its ports, where it is a process network, and the machine of each, where it is a Modal entity.
 pub record Starts : Type 0 where
   pub actors : List (Option LibraryActor)
   pub stated : List (Option Stated)
+  pub machines : List (Option Machine)
 
 -- the entity of that number starts as this actor
 abbrev pub StartsAs : Starts → ℕ → LibraryActor → Type 0
@@ -50,9 +52,13 @@ AreStarted starts = (k : ℕ) (a : LibraryActor) → StartsAs starts k a → (pa
 abbrev pub stated_at : Starts → ℕ → Option Stated
 stated_at starts k = get_or starts.stated k None
 
--- how many tokens a firing of it is to give on each of its outputs, where it is a process network
+-- the machine of it, if it is a Modal entity
+abbrev pub machine_at : Starts → ℕ → Option Machine
+machine_at starts k = get_or starts.machines k None
+
+-- how many tokens a firing of it is to give on each of its outputs: where it is a process network as it states, and one where it is a Modal entity
 abbrev pub declared_by : Starts → ℕ → Option (List ℕ)
-declared_by starts k = option_map (λ (s : Stated). s.gives) (stated_at starts k)
+declared_by starts k = declared_as (stated_at starts k) (machine_at starts k)
 
 -- the wiring of a composite of the net
 abbrev pub around_in : Net → Starts → ℕ → NetEntity → Around
@@ -63,6 +69,7 @@ around_in net starts k e = record {
   outputs = count_by is_output e.ports.items;
   stated = stated_at starts k;
   declared = map (declared_by starts) (children_of net.entities.items k);
+  machine = machine_at starts k;
 }
 
 -- ---- the tree
@@ -72,7 +79,7 @@ around_in net starts k e = record {
 mutual
   pub data IsTree (net : Net) (starts : Starts) : ℕ → Tree → Type 0 where
     of_actor : (k : ℕ) (e : NetEntity) (a : LibraryActor) → IsEntity net k e → IsUndirected e → StartsAs starts k a → IsTree net starts k (tree.actor a)
-    of_composite : (k : ℕ) (e : NetEntity) (director : Director) (kids : List Tree) (core : tree.Core Token) → IsEntity net k e → IsDirectedBy e director → AreTrees net starts (children_of net.entities.items k) kids →
+    of_composite : (k : ℕ) (e : NetEntity) (director : Directing) (kids : List Tree) (core : tree.Core Token) → IsEntity net k e → IsDirectedBy e director → AreTrees net starts (children_of net.entities.items k) kids →
         (composing director).IsCore (around_in net starts k e) kids core → IsTree net starts k (tree.composite core kids)
 
   pub data AreTrees (net : Net) (starts : Starts) : List ℕ → List Tree → Type 0 where

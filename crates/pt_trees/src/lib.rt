@@ -3,6 +3,7 @@
 
 mod build_fault;
 mod composite_fault;
+mod directing;
 mod ended;
 mod meetings;
 mod top;
@@ -10,6 +11,7 @@ mod wiring;
 
 pub use build_fault::BuildFault;
 pub use composite_fault::CompositeFault;
+pub use directing::Directing;
 pub use ended::Ended;
 pub use meetings::meetings_by_example;
 pub use top::{DeJob, OnceJob, SdfJob, SrJob, Top};

@@ -1,3 +1,4 @@
+use pt_chart::Written;
 use pt_core::Source;
 use pt_firing::Counts;
 use pt_stated::Stated;
@@ -5,7 +6,7 @@ use pt_stated::Stated;
 /// What a composite is round, but for its children: where its channels begin, how many places each child has, how many
 /// own inputs and outputs there are, and what is stated. Channels are numbered by the places where they end: those of the
 /// children in order, then the own outputs.
-#[derive(Debug, Drop)]
+#[derive(Drop)]
 pub struct Wiring {
     pub sources: Vec<Source>,
     pub places: Counts,
@@ -13,6 +14,9 @@ pub struct Wiring {
     pub outputs: u32,
     /// What it states of its channels and of its ports, where it is a process network.
     pub stated: Option<Stated>,
-    /// How many tokens a firing of each child is to give on each of its outputs, where the child is a process network.
+    /// How many tokens a firing of each child is to give on each of its outputs, where the child is a process network or a
+    /// Modal entity.
     pub declared: Vec<Option<Counts>>,
+    /// Its machine as it is written, where it is a Modal entity.
+    pub machine: Option<Written>,
 }

@@ -15,7 +15,6 @@ use Rattle.pt_meaning.specs.Sdf.{SdfPlan, unfed}
 use Rattle.pt_meaning.specs.Start.{first_of_node, first_of, first_held}
 use Rattle.pt_meaning.specs.Tree.{Core, list_of, nodes_of, Actor, Composite}
 use Rattle.pt_value.specs.declared.token.Token.{Token}
-use Rattle.pt_document.specs.declared.classes.Director.{Director}
 use Rattle.pt_document.specs.declared.classes.Director.TheVariants.{Sdf, Pn, Rendezvous, Sr, De}
 use Rattle.pt_document.specs.declared.job.Port.{Port}
 use Rattle.pt_datatypes.specs.Datatype.{Datatype}
@@ -36,13 +35,15 @@ use Rattle.pt_plan.specs.PlanOf.{IsPlanOf}
 use Rattle.pt_plan.specs.Unfed as own_inputs
 use Rattle.pt_plan.proofs.UnfedLaws.{unfed-below}
 use Rattle.pt_node.specs.View.{Tree}
+use Rattle.pt_trees.specs.declared.directing.Directing.{Directing}
+use Rattle.pt_trees.specs.declared.directing.Directing.TheVariants.{By, Modal}
 use Rattle.pt_trees.specs.Sdf.{IsInsideOf}
 use Rattle.pt_trees.specs.Pn.{pn_plan}
-use Rattle.pt_trees.specs.Directors.{composing}
+use Rattle.pt_trees.specs.Directors.{IsDirectedBy, composing}
 use Rattle.pt_stated.specs.declared.stated.Stated.{Stated}
 use Rattle.pt_trees.specs.Rates.{all_given}
 use Rattle.pt_trees.specs.Trees.{Starts, StartsAs, around_in, IsTree, of_actor, of_composite, AreTrees, no_trees, more_trees}
-use Rattle.pt_trees.proofs.DirectorLaws.{is-directed}
+use Rattle.pt_trees.proofs.DirectorLaws.{is-directed, none-modal}
 use Rattle.pt_kinds.specs.Signature.{Signatures, AreOf}
 use Rattle.pt_typed.specs.TokenTypes.{IsTokenOf}
 use Rattle.pt_typed.specs.TypedActor.{MeetsRow, IsTypedActor}
@@ -237,12 +238,13 @@ module _ (net : Net) (typing : Assignment) (starts : Starts) (wired : IsWired ne
     }
 
     -- so it is with the core that a director makes
-    core-typed : (by : Director) (c : Core Token) → (composing by).IsCore (around_in net starts k e) kids c → IsTypedCore {A = LibraryActor} IsTokenOf IsBelow IsTypedActor sigs (length (list_of (nodes_of kids))) c
-    core-typed Sdf c has = subst (λ v. IsTypedCore {A = LibraryActor} IsTokenOf IsBelow IsTypedActor sigs (length (list_of (nodes_of kids))) v) (sym has.is) (sdf-typed has.inside has.plan has.is_inside has.planned)
-    core-typed Sr c has = subst (λ v. IsTypedCore {A = LibraryActor} IsTokenOf IsBelow IsTypedActor sigs (length (list_of (nodes_of kids))) v) (sym has.is) tick-typed
-    core-typed De c has = subst (λ v. IsTypedCore {A = LibraryActor} IsTokenOf IsBelow IsTypedActor sigs (length (list_of (nodes_of kids))) v) (sym has.is) tick-typed
-    core-typed Pn c has = subst (λ v. IsTypedCore {A = LibraryActor} IsTokenOf IsBelow IsTypedActor sigs (length (list_of (nodes_of kids))) v) (sym has.is) (pn-typed has.wired.stated)
-    core-typed Rendezvous c has = absurd has
+    core-typed : (by : Directing) (c : Core Token) → IsDirectedBy e by → (composing by).IsCore (around_in net starts k e) kids c → IsTypedCore {A = LibraryActor} IsTokenOf IsBelow IsTypedActor sigs (length (list_of (nodes_of kids))) c
+    core-typed (By Sdf) c by has = subst (λ v. IsTypedCore {A = LibraryActor} IsTokenOf IsBelow IsTypedActor sigs (length (list_of (nodes_of kids))) v) (sym has.is) (sdf-typed has.inside has.plan has.is_inside has.planned)
+    core-typed (By Sr) c by has = subst (λ v. IsTypedCore {A = LibraryActor} IsTokenOf IsBelow IsTypedActor sigs (length (list_of (nodes_of kids))) v) (sym has.is) tick-typed
+    core-typed (By De) c by has = subst (λ v. IsTypedCore {A = LibraryActor} IsTokenOf IsBelow IsTypedActor sigs (length (list_of (nodes_of kids))) v) (sym has.is) tick-typed
+    core-typed (By Pn) c by has = subst (λ v. IsTypedCore {A = LibraryActor} IsTokenOf IsBelow IsTypedActor sigs (length (list_of (nodes_of kids))) v) (sym has.is) (pn-typed has.wired.stated)
+    core-typed (By Rendezvous) c by has = absurd has
+    core-typed Modal c by has = absurd (none-modal e by)
 
   -- ---- the tree
 
@@ -251,7 +253,7 @@ module _ (net : Net) (typing : Assignment) (starts : Starts) (wired : IsWired ne
     tree-typed (of_actor k e a at undirected start) = let fits = rows-type (types_below net typing k []) a (meet k a start) in (fits, fits)
     tree-typed (of_composite k e by kids c at directed trees has) =
         let w = is-directed e by directed in
-        let typed = core-typed k e w.director at w.has kids trees by c has in
+        let typed = core-typed k e w.director at w.has kids trees by c directed has in
         (typed, typed, trees-typed trees k e w.director at w.has 0 (λ j c h. ap (slice_get (children_of net.entities.items k)) (let z : 0 + j ≡ j = omega arith in z) ∙ h))
 
     trees-typed : {cs : List ℕ} {ts : List Tree} → AreTrees net starts cs ts → (k : ℕ) (e : NetEntity) (d : NetDirector) → slice_get net.entities.items k ≡ Some e → e.director ≡ Some d → (i : ℕ) → ((j c : ℕ) → slice_get cs j ≡ Some c → slice_get (children_of net.entities.items k) (i + j) ≡ Some c) →

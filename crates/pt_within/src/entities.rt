@@ -1,11 +1,13 @@
-ghost use Rattle.std.specs.Prelude.{◌≡◌, IfSome, IfNone, Some, None, true, false, slice_get};
+ghost use Rattle.std.specs.Prelude.{◌≡◌, IfSome, IfNone, Some, None, true, false, option_map, slice_get};
 ghost use Rattle.pt_library.specs.declared.library_actor.LibraryActor.{LibraryActor};
+ghost use Rattle.pt_trees.specs.declared.directing.Directing.TheVariants.{By};
 ghost use Rattle.pt_trees.specs.Directors.{named, director_of};
 ghost use Rattle.pt_trees.specs.Trees.{IsUndirected};
 
 use pt_document::{Director, director_named};
 use pt_library::LibraryActor;
 use pt_net::{NetDirector, NetEntity};
+use pt_trees::Directing;
 
 /// The entity of that number, if there is one.
 pub fn entity_in(entities: &[NetEntity], k: usize) -> Option<&NetEntity>
@@ -54,12 +56,22 @@ fn named(director: &Option<NetDirector>) -> Option<Director>
     }
 }
 
-/// The director of the entity, if it is a composite with one.
-pub fn director_of(entity: &NetEntity) -> Option<Director>
+/// What directs a composite with this property.
+fn directed(director: &Option<NetDirector>) -> Option<Directing>
+    ensures { result ≡ option_map By (named director.now) }
+{
+    match named(director) {
+        Some(director) => Some(Directing::By(director)),
+        None => None,
+    }
+}
+
+/// What directs the entity, if it is a composite with a director.
+pub fn director_of(entity: &NetEntity) -> Option<Directing>
     ensures { result ≡ director_of entity.now }
 {
     if entity.class.as_str() == "Composite" {
-        named(&entity.director)
+        directed(&entity.director)
     } else {
         None
     }

@@ -8,6 +8,7 @@ use crate::entities::{director_of, entity_in};
 use pt_document::Director;
 use pt_net::{Channel, Net, NetEntity};
 use pt_node::Labels;
+use pt_trees::Directing;
 use pt_value::Text;
 use std::alloc::{AllocError, Global};
 
@@ -89,12 +90,13 @@ fn labels_in(
 }
 
 /// Whether the composites of a director are process networks.
-fn is_network(director: Director) -> bool
+fn is_network(director: Directing) -> bool
     ensures { result ≡ is_network director }
 {
     match director {
-        Director::Pn => true,
-        Director::Sdf | Director::Sr | Director::De | Director::Rendezvous => false,
+        Directing::By(Director::Pn) => true,
+        Directing::By(Director::Sdf | Director::Sr | Director::De | Director::Rendezvous) => false,
+        Directing::Modal => false,
     }
 }
 

@@ -3,6 +3,7 @@
 
 mod entities;
 mod labels;
+mod machines;
 mod networks;
 mod numbering;
 mod records;
@@ -11,6 +12,7 @@ mod within;
 
 pub use entities::{director_of, entity_in, is_undirected, start_in};
 pub use labels::labels_of;
+pub use machines::machine_at;
 pub use networks::{declared_of, stated_at};
 pub use numbering::{numbers_at, record_lists};
 pub use records::records_of;

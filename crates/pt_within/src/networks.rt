@@ -1,6 +1,10 @@
-ghost use Rattle.std.specs.Prelude.{◌≡◌, IfOk, None, get_or, map};
-ghost use Rattle.pt_within.specs.Gives.{declared_in};
+ghost use Rattle.std.specs.Prelude.{◌≡◌, IfOk, None, get_or, map, option_map};
+ghost use Rattle.pt_chart.specs.Views.{machine_of};
+ghost use Rattle.pt_trees.specs.Around.{ones_of};
+ghost use Rattle.pt_within.specs.Gives.{machine_in, declared_in};
 
+use crate::machines::written_at;
+use pt_chart::Written;
 use pt_firing::Counts;
 use pt_stated::Stated;
 use std::alloc::{AllocError, Global};
@@ -32,18 +36,41 @@ pub fn stated_at(
     }
 }
 
-/// How many tokens a firing of it is to give on each of its outputs, if it is one.
+/// One token on each output of a Modal entity.
+fn ones_of(alloc: Global, machine: &Written) -> Result<Counts, AllocError>
+    ensures { IfOk result (λ counts. counts ≡ ones_of (machine_of machine.now)) }
+{
+    let outputs = machine.names.outputs.as_slice().len();
+    Ok(Counts::of(vec![in alloc; 1usize; outputs]?))
+}
+
+/// One token on each output of the entity of that number, if it is a Modal entity.
+fn ones_at(
+    alloc: Global,
+    machines: &[Option<Written>],
+    k: usize,
+) -> Result<Option<Counts>, AllocError>
+    ensures { IfOk result (λ found. found ≡ option_map ones_of (machine_in machines.now k)) }
+{
+    match written_at(machines, k) {
+        Some(machine) => Ok(Some(ones_of(alloc, machine)?)),
+        None => Ok(None),
+    }
+}
+
+/// How many tokens a firing of it is to give on each of its outputs, if that is declared: of a process network and of a Modal entity.
 fn declared_by(
     alloc: Global,
     stated: &[Option<Stated>],
+    machines: &[Option<Written>],
     k: usize,
 ) -> Result<Option<Counts>, AllocError>
-    ensures { IfOk result (λ found. found ≡ declared_in stated.now k) }
+    ensures { IfOk result (λ found. found ≡ declared_in stated.now machines.now k) }
 {
     match stated.get(k) {
         Some(Some(stated)) => Ok(Some(stated.gives.copy(alloc)?)),
-        Some(None) => Ok(None),
-        None => Ok(None),
+        Some(None) => ones_at(alloc, machines, k),
+        None => ones_at(alloc, machines, k),
     }
 }
 
@@ -51,13 +78,14 @@ fn declared_by(
 pub fn declared_of(
     alloc: Global,
     stated: &[Option<Stated>],
+    machines: &[Option<Written>],
     children: &[usize],
 ) -> Result<Vec<Option<Counts>>, AllocError>
-    ensures { IfOk result (λ declared. declared.items ≡ map (declared_in stated.now) children.now) }
+    ensures { IfOk result (λ declared. declared.items ≡ map (declared_in stated.now machines.now) children.now) }
 {
     let mut declared = Vec::with_capacity(alloc, children.len())?;
     for child in children {
-        declared.push(declared_by(alloc, stated, *child)?)?;
+        declared.push(declared_by(alloc, stated, machines, *child)?)?;
     }
     Ok(declared)
 }

@@ -1,23 +1,15 @@
 use Rattle.std.proofs.Common.{map, sym, subst}
 use Rattle.std.specs.Prelude.{IfOk}
-use Rattle.pt_document.specs.declared.classes.Director.{Director}
 use Rattle.pt_node.specs.Shown.{shown, shown_node}
+use Rattle.pt_trees.specs.declared.directing.Directing.{Directing}
 use Rattle.pt_trees.specs.Around.{around_of}
 use Rattle.pt_trees.specs.Composite.{IsComposite}
 use Rattle.pt_composite.proofs.composing.composite.Goals as goal
 
-pub returns-in-Sdf-clause-node : goal.returns-in-Sdf-clause-node
-returns-in-Sdf-clause-node c =
-    subst (λ (d : Director). IfOk c.sdf_composite.result (λ node. IsComposite d (around_of c.args.wiring) (map shown c.args.children.items) c.args.path c.args.records c.args.labels (shown_node node))) (sym c.in-Sdf.is) c.sdf_composite.ensures.node
+pub returns-in-By-clause-node : goal.returns-in-By-clause-node
+returns-in-By-clause-node c =
+    subst (λ (d : Directing). IfOk c.directed_composite.result (λ node. IsComposite d (around_of c.args.wiring) (map shown c.args.children.items) c.args.path c.args.records c.args.labels (shown_node node))) (sym c.in-By.is) c.directed_composite.ensures.node
 
-pub returns-in-Sr-clause-node : goal.returns-in-Sr-clause-node
-returns-in-Sr-clause-node c =
-    subst (λ (d : Director). IfOk c.sr_composite.result (λ node. IsComposite d (around_of c.args.wiring) (map shown c.args.children.items) c.args.path c.args.records c.args.labels (shown_node node))) (sym c.in-Sr.is) c.sr_composite.ensures.node
-
-pub returns-in-De-clause-node : goal.returns-in-De-clause-node
-returns-in-De-clause-node c =
-    subst (λ (d : Director). IfOk c.de_composite.result (λ node. IsComposite d (around_of c.args.wiring) (map shown c.args.children.items) c.args.path c.args.records c.args.labels (shown_node node))) (sym c.in-De.is) c.de_composite.ensures.node
-
-pub returns-in-Pn-clause-node : goal.returns-in-Pn-clause-node
-returns-in-Pn-clause-node c =
-    subst (λ (d : Director). IfOk c.pn_composite.result (λ node. IsComposite d (around_of c.args.wiring) (map shown c.args.children.items) c.args.path c.args.records c.args.labels (shown_node node))) (sym c.in-Pn.is) c.pn_composite.ensures.node
+pub returns-in-Modal-clause-node : goal.returns-in-Modal-clause-node
+returns-in-Modal-clause-node c =
+    subst (λ (d : Directing). IfOk c.modal_composite.result (λ node. IsComposite d (around_of c.args.wiring) (map shown c.args.children.items) c.args.path c.args.records c.args.labels (shown_node node))) (sym c.in-Modal.is) c.modal_composite.ensures.node
