@@ -40,7 +40,7 @@ use Rattle.pt_trees.proofs.NodeLaws.{get-at}
 use Rattle.pt_de_inside.proofs.FlagLaws.{told-at}
 use Rattle.pt_de_inside.proofs.SuitLaws.{fitting-at, wake-child}
 use Rattle.pt_inside.specs.Needs.{NeedAll, AreNeeds}
-use Rattle.pt_composite.specs.Machines.{StartsByMachine}
+use Rattle.pt_composite.specs.Machines.{StartsByMachine, IsChartRound}
 use Rattle.pt_composite.specs.Nodes.{built}
 
 -- ---- the machine, as it is looked at
@@ -75,8 +75,8 @@ refinements-if w kids inputs outputs count needs true many all iff =
       fits = record {
         inputs_are = h.0;
         outputs_are = h.1;
-        mapped = all-from ports_view (IsMapped inputs outputs) w.ports.items h.2.0;
-        refined = subst (λ n. All (IsRefined n) (map mode_view w.modes.items)) many (all-from mode_view (IsRefined count) w.modes.items h.2.1);
+        mapped = all-from ports_view (IsMapped inputs outputs) w.ports.items h.2;
+        refined = subst (λ n. All (IsRefined n) (map mode_view w.modes.items)) many (all-from mode_view (IsRefined count) w.modes.items h.3);
       };
       needs = needs;
       needed = all.needs;
@@ -84,7 +84,7 @@ refinements-if w kids inputs outputs count needs true many all iff =
     }
 refinements-if w kids inputs outputs count needs false many all iff = λ has.
     let refined : All (IsRefined count) (map mode_view w.modes.items) = subst (λ n. All (IsRefined n) (map mode_view w.modes.items)) (sym many) has.fits.refined in
-    let t : false ≡ true = iff.1 (has.fits.inputs_are, (has.fits.outputs_are, (all-to ports_view (IsMapped inputs outputs) w.ports.items has.fits.mapped, all-to mode_view (IsRefined count) w.modes.items refined))) in
+    let t : false ≡ true = iff.1 (has.fits.inputs_are, has.fits.outputs_are, all-to ports_view (IsMapped inputs outputs) w.ports.items has.fits.mapped, all-to mode_view (IsRefined count) w.modes.items refined) in
     cc
 
 pub none-needed : (w : Written) (kids : List Tree) (inputs outputs : ℕ) → ((ns : List ℕ) → NeedAll kids (places_of (machine_of w)) ns → ⊥) → HasRefinements inputs outputs kids (machine_of w) → ⊥
@@ -95,30 +95,32 @@ none-needed w kids inputs outputs none has = none has.needs (record { needs = ha
 pub none-there : (around : Around) (kids : List Tree) → around.machine ≡ None → IsModalWired around kids → ⊥
 none-there around kids none wired = none-some wired.machine (sym none ∙ wired.is)
 
-pub none-refined : (around : Around) (kids : List Tree) (m : Machine) → around.machine ≡ Some m → (HasRefinements around.inputs around.outputs kids m → ⊥) → IsModalWired around kids → ⊥
-none-refined around kids m is none wired = none (subst (λ (x : Machine). HasRefinements around.inputs around.outputs kids x) (same_Some wired.machine m (sym wired.is ∙ is)) wired.refinements)
+-- ---- the chart of a machine
 
--- a chart is made of a machine exactly where that has its types
-typed-if : (b : Bool) (m x : Machine) → Some x ≡ (if b then Some m else None) → (b ≡ true) × (x ≡ m)
-typed-if true m x e = (refl, same_Some x m e)
-typed-if false m x e = absurd (none-some x (sym e))
+-- there is one exactly where the machine has its types
+pub charted : (inputs outputs : ℕ) (kids : List Tree) (m : Machine) (o : Option Machine) → HasRefinements inputs outputs kids m → o ≡ (if is_typed_machine m then Some m else None) → IsChartRound inputs outputs kids m o
+charted inputs outputs kids m o refined e = by_type (is_typed_machine m) refl o e
+  where
+    by_type : (b : Bool) → is_typed_machine m ≡ b → (o : Option Machine) → o ≡ (if b then Some m else None) → IsChartRound inputs outputs kids m o
+    by_type true t None e = absurd (none-some m e)
+    by_type true t (Some x) e = (same_Some x m e, t, refined)
+    by_type false t None e = λ typed has. let no : false ≡ true = sym t ∙ typed in cc
+    by_type false t (Some x) e = absurd (none-some x (sym e))
 
-untyped-if : (b : Bool) (m : Machine) → None ≡ (if b then Some m else None) → b ≡ true → ⊥
-untyped-if true m e t = none-some m e
-untyped-if false m e t = cc
+pub uncharted : (inputs outputs : ℕ) (kids : List Tree) (m : Machine) → (HasRefinements inputs outputs kids m → ⊥) → IsChartRound inputs outputs kids m None
+uncharted inputs outputs kids m none = λ typed has. none has
 
-pub none-typed : (around : Around) (kids : List Tree) (m : Machine) → around.machine ≡ Some m → None ≡ (if is_typed_machine m then Some m else None) → IsModalWired around kids → ⊥
-none-typed around kids m is e wired = untyped-if (is_typed_machine m) m e (subst (λ (x : Machine). is_typed_machine x ≡ true) (same_Some wired.machine m (sym wired.is ∙ is)) wired.typed)
+pub none-charted : (around : Around) (kids : List Tree) (m : Machine) → around.machine ≡ Some m → IsChartRound around.inputs around.outputs kids m None → IsModalWired around kids → ⊥
+none-charted around kids m is none wired =
+    let same : wired.machine ≡ m = same_Some wired.machine m (sym wired.is ∙ is) in
+    none (subst (λ (x : Machine). is_typed_machine x ≡ true) same wired.typed) (subst (λ (x : Machine). HasRefinements around.inputs around.outputs kids x) same wired.refinements)
 
 -- a core that starts with it
-pub starts-by : (around : Around) (kids : List Tree) (m x : Machine) (core : State Machine) → around.machine ≡ Some m → HasRefinements around.inputs around.outputs kids m → Some x ≡ (if is_typed_machine m then Some m else None) →
-    core ≡ started chart_of (record { machine = x; starts = map (next_of rows) kids }) → StartsByMachine around kids core
-starts-by around kids m x core is refined e starts =
-    let t = typed-if (is_typed_machine m) m x e in
-    record {
-      wired = record { machine = m; is = is; typed = t.0; refinements = refined };
-      is = starts ∙ ap (λ (v : Machine). started chart_of (record { machine = v; starts = map (next_of rows) kids })) t.1;
-    }
+pub starts-by : (around : Around) (kids : List Tree) (m x : Machine) (core : State Machine) → around.machine ≡ Some m → IsChartRound around.inputs around.outputs kids m (Some x) → core ≡ started chart_of (record { machine = x; starts = map (next_of rows) kids }) → StartsByMachine around kids core
+starts-by around kids m x core is round starts = record {
+  wired = record { machine = m; is = is; typed = round.1; refinements = round.2 };
+  is = starts ∙ ap (λ (v : Machine). started chart_of (record { machine = v; starts = map (next_of rows) kids })) round.0;
+}
 
 -- ---- the chart
 
@@ -199,7 +201,7 @@ module _ (around : Around) (kids : List Shown) (path : List ℕ) (records : List
   suits = record { children = sym starts-long; named = named; starts = starts-each; places = placed-each }
 
   fits : (modal_acts chart_of rows).Fits core its
-  fits = (refl, (refl, suits))
+  fits = (refl, refl, suits)
 
   -- as many times are kept as there are refinements
   modes-are : (n : ℕ) → n ≡ length its → first_modes chart (length plan.starts) ≡ first_modes chart n
@@ -212,7 +214,7 @@ module _ (around : Around) (kids : List Shown) (path : List ℕ) (records : List
   listed = ap (λ (v : List Tree). length v) (nodes-list kids)
 
   start : IsAtStart rows (node_of made)
-  start = (refl, (refl, (modes-are (length (tree.list_of (nodes_of (all_of kids)))) listed, all-start kids fresh)))
+  start = (refl, refl, modes-are (length (tree.list_of (nodes_of (all_of kids)))) listed, all-start kids fresh)
 
   shown-each : (i : ℕ) → i < length its → length (chart.out_ports i) ≡ chart.outputs
   shown-each i h = outputs-shown around.inputs around.outputs m.ports i wired.refinements.fits.mapped (omega (arith, h, entries)) ∙ sym wired.refinements.fits.outputs_are
@@ -221,7 +223,7 @@ module _ (around : Around) (kids : List Shown) (path : List ℕ) (records : List
   long = subst (λ n. HasEntries n (tree.Modal chart (first_modes chart (length plan.starts)))) (sym listed) (length-replicate (length plan.starts) unentered ∙ starts-long, record { named = named; outputs = shown-each })
 
   fitting : IsFitting (node_of made)
-  fitting = (long, (long, all-fitting kids fresh))
+  fitting = (long, long, all-fitting kids fresh)
 
   planned : IsPlanned (tree.Modal chart (first_modes chart (length plan.starts)))
   planned i = subst (λ n. AllBelow n (chart.in_ports i)) (sym wired.refinements.fits.inputs_are) (inputs-below around.inputs around.outputs m.ports i wired.refinements.fits.mapped)

@@ -9,7 +9,7 @@ ghost use Rattle.pt_trees.specs.Around.{around_of};
 ghost use Rattle.pt_trees.specs.Composite.{trees_of, IsComposed, IsUncomposed};
 ghost use Rattle.pt_trees.specs.Fresh.{AllFresh, AreEmpty};
 ghost use Rattle.pt_trees.specs.Modal.{modal, taken_by, IsOneOf, HasRefinementsIf};
-ghost use Rattle.pt_composite.specs.Machines.{StartsByMachine};
+ghost use Rattle.pt_composite.specs.Machines.{StartsByMachine, IsChartRound};
 
 use crate::node::composite_node;
 use pt_chart::{Chart, Mode, Ports, Written};
@@ -54,18 +54,32 @@ fn core_of(alloc: Global, children: &[Node], wiring: Wiring) -> Result<Core, Com
     let Some(machine) = machine else {
         return Err(CompositeFault::Unbuilt);
     };
-    let fits = has_refinements(alloc, children, &machine, inputs, outputs)?;
-    if !fits {
-        return Err(CompositeFault::Unbuilt);
+    let chart = charted(alloc, children, machine, inputs, outputs)?;
+    match chart {
+        Some(chart) => Ok(core_with(alloc, children, chart)?),
+        None => Err(CompositeFault::Unbuilt),
     }
-    let Some(chart) = Chart::new(alloc, machine)? else {
-        return Err(CompositeFault::Unbuilt);
-    };
-    Ok(started(alloc, children, chart)?)
+}
+
+/// The chart of a machine with so many own ports, if these children are its refinements, and its guards and actions have their types.
+fn charted(
+    alloc: Global,
+    children: &[Node],
+    machine: Written,
+    inputs: u32,
+    outputs: u32,
+) -> Result<Option<Chart>, AllocError>
+    ensures { IfOk result (IsChartRound inputs outputs (trees_of (map shown children.now)) (machine_of machine)) }
+{
+    if !has_refinements(alloc, children, &machine, inputs, outputs)? {
+        drop(machine);
+        return Ok(None);
+    }
+    Chart::new(alloc, machine)
 }
 
 /// A core of this chart, before its first reaction: it knows the wakes of its refinements at their start.
-fn started(alloc: Global, children: &[Node], chart: Chart) -> Result<Core, AllocError>
+fn core_with(alloc: Global, children: &[Node], chart: Chart) -> Result<Core, AllocError>
     requires { AllFresh (map shown children.now) }
     ensures { IfOk result (λ core. core ≡ started chart_of (record { machine = chart; starts = map (next_of rows) (trees_of (map shown children.now)) })) }
 {

@@ -8,7 +8,7 @@ use Rattle.pt_library.specs.LibraryActor.{rows}
 use Rattle.pt_modal_laws.specs.State.{ModalPlan, started}
 use Rattle.pt_node.specs.Shown.{shown}
 use Rattle.pt_trees.specs.Composite.{trees_of}
-use Rattle.pt_composite.proofs.modal.started.Goals as goal
+use Rattle.pt_composite.proofs.modal.core_with.Goals as goal
 
 pub returns : goal.returns
 returns c =
