@@ -1,5 +1,5 @@
 -- The composite of a Modal entity that is built is fresh, and it is the one of the definitions.
-use Rattle.std.proofs.Common.{◌≡◌, ◌↔◌, ℕ, zero, suc, ◌<◌, List, [], ◌∷◌, length, map, get_or, Bool, true, false, Option, Some, None, refl, sym, ap, ap₂, subst, ◌∙◌, arith}
+use Rattle.std.proofs.Common.{◌≡◌, ◌↔◌, ℕ, zero, suc, ◌+◌, ◌<◌, List, [], ◌∷◌, ◌++◌, length, take, map, get_or, Bool, true, false, Option, Some, None, refl, sym, ap, ap₂, subst, ◌∙◌, arith}
 use Rattle.std.specs.Prelude.{All, if◌then◌else◌}
 use Rattle.std.proofs.lemmas.List.{length-map, length-replicate}
 use Rattle.std.proofs.lemmas.Option.{none-some, same_Some}
@@ -26,20 +26,21 @@ use Rattle.pt_modal_laws.specs.ModalActs.{State, HasPlaces, Suits, modal_acts}
 use Rattle.pt_modal_laws.specs.State.{ModalPlan, started}
 use Rattle.pt_directors.specs.Directors.{of_modal}
 use Rattle.pt_library.specs.LibraryActor.{rows}
+use Rattle.pt_node.specs.declared.node.Node.{Node}
 use Rattle.pt_node.specs.Recorded.{RecordedPort}
-use Rattle.pt_node.specs.Shown.{Shown, all_of}
+use Rattle.pt_node.specs.Shown.{Shown, all_of, shown_node}
 use Rattle.pt_node.specs.View.{Tree, node_of, nodes_of}
 use Rattle.pt_trees.specs.Around.{Around}
 use Rattle.pt_trees.specs.Composite.{trees_of, IsComposed}
 use Rattle.pt_trees.specs.Fresh.{AllFresh, AreEmpty}
-use Rattle.pt_trees.specs.Modal.{modal, taken_by, places_of, IsMapped, IsOneOf, IsRefined, IsFor, HasRefinements, HasRefinementsIf, IsModalWired}
+use Rattle.pt_trees.specs.Modal.{modal, taken_by, places_of, is_opaque, AreOpaque, IsMapped, IsOneOf, IsRefined, IsFor, HasRefinements, HasRefinementsIf, IsModalWired}
 use Rattle.pt_trees.proofs.ChildLaws.{placed-child}
 use Rattle.pt_trees.proofs.FreshLaws.{list-again, nodes-list, nodes-are, all-fit, all-start, all-fitting, all-plans, all-unrecorded, start-at}
 use Rattle.pt_trees.proofs.NeedLaws.{needs-length, planned-length, need-at, get-length}
-use Rattle.pt_trees.proofs.NodeLaws.{get-at}
+use Rattle.pt_trees.proofs.NodeLaws.{get-at, trees, trees-more, tree-at}
 use Rattle.pt_de_inside.proofs.FlagLaws.{told-at}
 use Rattle.pt_de_inside.proofs.SuitLaws.{fitting-at, wake-child}
-use Rattle.pt_inside.specs.Needs.{NeedAll, AreNeeds}
+use Rattle.pt_inside.specs.Needs.{NeedAll}
 use Rattle.pt_composite.specs.Machines.{StartsByMachine, IsChartRound}
 use Rattle.pt_composite.specs.Nodes.{built}
 
@@ -68,10 +69,11 @@ abbrev pub Fits : Written → (inputs outputs count : ℕ) → Type 0
 Fits w inputs outputs count =
     (length w.names.inputs ≡ inputs) × (length w.names.outputs ≡ outputs) × All (λ (p : Ports). All (λ i. i < inputs) p.inputs.items × (length p.outputs.items ≡ outputs)) w.ports.items × All (λ (m : Mode). IsOneOf count m.refinement) w.modes.items
 
-pub refinements-if : (w : Written) (kids : List Tree) (inputs outputs count : ℕ) (needs : List ℕ) (fits : Bool) → count ≡ length kids → NeedAll kids (places_of (machine_of w)) needs → ((fits ≡ true) ↔ Fits w inputs outputs count) → HasRefinementsIf inputs outputs kids (machine_of w) fits
-refinements-if w kids inputs outputs count needs true many all iff =
+pub refinements-if : (w : Written) (kids : List Tree) (inputs outputs count : ℕ) (needs : List ℕ) (fits : Bool) → count ≡ length kids → AreOpaque kids → NeedAll kids (places_of (machine_of w)) needs → ((fits ≡ true) ↔ Fits w inputs outputs count) → HasRefinementsIf inputs outputs kids (machine_of w) fits
+refinements-if w kids inputs outputs count needs true many opaque all iff =
     let h = iff.0 refl in
     record {
+      opaque = opaque;
       fits = record {
         inputs_are = h.0;
         outputs_are = h.1;
@@ -82,13 +84,29 @@ refinements-if w kids inputs outputs count needs true many all iff =
       needed = all.needs;
       counted = all.counted;
     }
-refinements-if w kids inputs outputs count needs false many all iff = λ has.
+refinements-if w kids inputs outputs count needs false many opaque all iff = λ has.
     let refined : All (IsRefined count) (map mode_view w.modes.items) = subst (λ n. All (IsRefined n) (map mode_view w.modes.items)) (sym many) has.fits.refined in
     let t : false ≡ true = iff.1 (has.fits.inputs_are, has.fits.outputs_are, all-to ports_view (IsMapped inputs outputs) w.ports.items has.fits.mapped, all-to mode_view (IsRefined count) w.modes.items refined) in
     cc
 
 pub none-needed : (w : Written) (kids : List Tree) (inputs outputs : ℕ) → ((ns : List ℕ) → NeedAll kids (places_of (machine_of w)) ns → ⊥) → HasRefinements inputs outputs kids (machine_of w) → ⊥
 none-needed w kids inputs outputs none has = none has.needs (record { needs = has.needed; counted = has.counted })
+
+-- ---- the children
+
+-- one more that is opaque
+pub opaque-more : (kids : List Node) (i : ℕ) (d : Node) → i < length kids → d ≡ get_or kids i d → AreOpaque (trees (take i kids)) → is_opaque (node_of (shown_node d)) ≡ true → AreOpaque (trees (take (i + 1) kids))
+opaque-more kids i d h is all one = subst (λ (v : List Tree). AreOpaque v) (sym (trees-more kids i d h is)) (snoc (trees (take i kids)) (node_of (shown_node d)) all one)
+  where
+    snoc : (ts : List Tree) (t : Tree) → AreOpaque ts → is_opaque t ≡ true → AreOpaque (ts ++ t ∷ [])
+    snoc [] t all one zero kid e = sym (ap is_opaque (same_Some t kid e)) ∙ one
+    snoc [] t all one (suc j) kid e = absurd (none-some kid e)
+    snoc (s ∷ ts) t all one zero kid e = all zero kid e
+    snoc (s ∷ ts) t all one (suc j) kid e = snoc ts t (λ k x f. all (suc k) x f) one j kid e
+
+-- one that isn't
+pub plain-at : (kids : List Node) (i : ℕ) (d : Node) → i < length kids → d ≡ get_or kids i d → is_opaque (node_of (shown_node d)) ≡ false → AreOpaque (trees kids) → ⊥
+plain-at kids i d h is not all = let no : true ≡ false = sym (all i (node_of (shown_node d)) (tree-at kids i d h is)) ∙ not in cc
 
 -- ---- no machine
 

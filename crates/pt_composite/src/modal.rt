@@ -1,4 +1,4 @@
-ghost use Rattle.std.specs.Prelude.{◌≡◌, ◌↔◌, ◌<◌, IfOk, IfErr, IsTrue, All, length, map};
+ghost use Rattle.std.specs.Prelude.{◌≡◌, ◌↔◌, ◌<◌, IfOk, IfErr, IsTrue, All, length, map, true, false};
 ghost use Rattle.pt_meaning.specs.NodeFacts.{next_of};
 ghost use Rattle.pt_chart.specs.Chart.{chart_of};
 ghost use Rattle.pt_chart.specs.Views.{machine_of, ports_view};
@@ -8,7 +8,8 @@ ghost use Rattle.pt_node.specs.Shown.{shown, shown_node};
 ghost use Rattle.pt_trees.specs.Around.{around_of};
 ghost use Rattle.pt_trees.specs.Composite.{trees_of, IsComposed, IsUncomposed};
 ghost use Rattle.pt_trees.specs.Fresh.{AllFresh, AreEmpty};
-ghost use Rattle.pt_trees.specs.Modal.{modal, taken_by, IsOneOf, HasRefinementsIf};
+ghost use Rattle.pt_node.specs.View.{node_of};
+ghost use Rattle.pt_trees.specs.Modal.{modal, taken_by, is_opaque, AreOpaque, IsOneOf, HasRefinementsIf};
 ghost use Rattle.pt_composite.specs.Machines.{StartsByMachine, IsChartRound};
 
 use crate::node::composite_node;
@@ -16,7 +17,7 @@ use pt_chart::{Chart, Mode, Ports, Written};
 use pt_de_inside::wakes_of;
 use pt_inside::needs_of;
 use pt_modal::{Core, CorePlan};
-use pt_node::{Labels, Node, Records};
+use pt_node::{Body, Labels, Node, Records};
 use pt_trees::{CompositeFault, Wiring};
 use pt_value::Text;
 use std::alloc::{AllocError, Global};
@@ -98,11 +99,37 @@ fn has_refinements(
 ) -> Result<bool, AllocError>
     ensures { IfOk result (HasRefinementsIf inputs outputs (trees_of (map shown children.now)) (machine_of machine.now)) }
 {
+    if !are_opaque(children) {
+        return Ok(false);
+    }
     let places = places_of(alloc, &machine.ports)?;
     match needs_of(alloc, children, &places)? {
         Some(_) => Ok(is_for(machine, children.len(), inputs, outputs)),
         None => Ok(false),
     }
+}
+
+/// Whether a node is an opaque composite or a Modal entity.
+fn is_opaque(node: &Node) -> bool
+    ensures { result ≡ is_opaque (node_of (shown_node node.now)) }
+{
+    match &node.body {
+        Body::Actor(_) => false,
+        Body::Composite(_) => true,
+    }
+}
+
+/// Whether each child is one.
+fn are_opaque(children: &[Node]) -> bool
+    ensures yes { result ≡ true → AreOpaque (trees_of (map shown children.now)) }
+    ensures no { result ≡ false → AreOpaque (trees_of (map shown children.now)) → ⊥ }
+{
+    for child in children {
+        if !is_opaque(child) {
+            return false;
+        }
+    }
+    true
 }
 
 /// How many own inputs each refinement takes from.

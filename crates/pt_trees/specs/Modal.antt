@@ -4,6 +4,7 @@ use Rattle.std.specs.List.{All}
 use Rattle.pt_meaning.specs.Modal.{first_modes}
 use Rattle.pt_meaning.specs.NodeFacts.{facts_of}
 use Rattle.pt_meaning.specs.Running.{total}
+use Rattle.pt_meaning.specs.Streams.{get}
 use Rattle.pt_meaning.specs.Tree as tree
 use Rattle.pt_value.specs.declared.token.Token.{Token}
 use Rattle.pt_chart.specs.Chart.{chart_of}
@@ -43,8 +44,17 @@ pub record IsFor (inputs outputs count : ℕ) (m : Machine) : Type 0 where
   pub mapped : All (IsMapped inputs outputs) m.ports
   pub refined : All (IsRefined count) m.modes
 
+-- a refinement is an opaque composite, or a Modal entity itself
+abbrev pub is_opaque : Tree → Bool
+is_opaque (tree.Actor h a b) = false
+is_opaque (tree.Composite h c d kids) = true
+
+abbrev pub AreOpaque : List Tree → Type 0
+AreOpaque kids = (i : ℕ) (kid : Tree) → get kids i ≡ Some kid → is_opaque kid ≡ true
+
 -- these are its refinements: each needs a count for each place that it has
 pub record HasRefinements (inputs outputs : ℕ) (kids : List Tree) (m : Machine) : Type 0 where
+  pub opaque : AreOpaque kids
   pub fits : IsFor inputs outputs (length kids) m
   pub needs : List ℕ
   pub needed : needs_of (facts_of rows) kids ≡ planned (places_of m) needs

@@ -11,13 +11,16 @@ use Rattle.pt_inside.specs.Needs.{AreNeeds, NeedAll}
 use Rattle.pt_composite.proofs.ModalLaws.{places-are, refinements-if, none-needed}
 use Rattle.pt_composite.proofs.modal.has_refinements.Goals as goal
 
+pub returns-then-not-are_opaque : goal.returns-then-not-are_opaque
+returns-then-not-are_opaque c = λ has. c.are_opaque.ensures.no c.if-not-are_opaque.true has.opaque
+
 pub returns-in-Some : goal.returns-in-Some
 returns-in-Some c =
     let kids : List Tree = trees_of (map shown c.args.children.now) in
     let w = c.args.machine.now in
     let places : c.deref-2.result.now ≡ places_of (machine_of w) = c.deref-2.ensures.value ∙ places-are c.in_ok-places.places.items w (c.in_ok-places.ensures ∙ ap (λ (v : List Ports). map (λ p. taken_by (ports_view p)) v) c.deref.ensures.value) in
     let all : NeedAll kids (places_of (machine_of w)) c.in-Some.field-0.items = subst (λ (v : List ℕ). NeedAll kids v c.in-Some.field-0.items) places (subst (λ o. AreNeeds kids c.deref-2.result.now o) c.in-Some.is c.in_ok-needs_of.ensures) in
-    refinements-if w kids c.args.inputs c.args.outputs c.len.result c.in-Some.field-0.items c.is_for.result (c.len.ensures ∙ sym (trees-length c.args.children.now)) all c.is_for.ensures
+    refinements-if w kids c.args.inputs c.args.outputs c.len.result c.in-Some.field-0.items c.is_for.result (c.len.ensures ∙ sym (trees-length c.args.children.now)) (c.are_opaque.ensures.yes c.if-not-are_opaque.false) all c.is_for.ensures
 
 pub returns-in-None : goal.returns-in-None
 returns-in-None c =
