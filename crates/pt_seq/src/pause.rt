@@ -126,11 +126,19 @@ pub(crate) fn fire_row(
         Either::Other(Either::Other(Either::Other(Either::First(core)))) => {
             fire_numbers(alloc, core, children, left, row)
         }
-        // A reaction fires one child at most.
-        Either::Other(Either::Other(Either::Other(Either::Other(_)))) => {
-            Rest::Asked(director.ask())
-        }
+        // A Modal director fires one child at most in a reaction.
+        _ => ask_next(director, children, *left),
     }
+}
+
+/// Asks the director what comes next, and makes no firing.
+#[inline(never)]
+fn ask_next(director: &mut Director, children: &Vec<Node>, left: u64) -> Rest
+    requires { (tag : basics.Tag) × IsUnderWay acts tag director.old (map shown children.now.items) left }
+    ensures { (before : directors.Director) (olds : List Shown) (tag : basics.Tag) (X : basics.Streams Token) (allowance : ℕ) → At acts before olds tag X allowance director.old (map shown children.now.items) left → Rested before olds tag X allowance result director.new (map shown children.now.items) left }
+{
+    let asked = director.ask();
+    Rest::Asked(asked)
 }
 
 /// Asks the director until it asks for a firing or is at an end, and does what it asks for before.

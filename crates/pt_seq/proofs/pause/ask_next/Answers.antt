@@ -1,0 +1,11 @@
+use Rattle.pt_node.specs.Acts.{acts}
+use Rattle.pt_seq.proofs.Acting.{acts-law}
+use Rattle.pt_seq.proofs.Firing.{may-ask}
+use Rattle.pt_seq.proofs.Loop.{once-asked}
+use Rattle.pt_seq.proofs.pause.ask_next.Goals as goal
+
+pub ask-asked-requires : goal.ask-asked-requires
+ask-asked-requires c = may-ask acts acts-law c.requires.1.at
+
+pub returns : goal.returns
+returns c before olds tag X allowance a = once-asked acts acts-law a c.ask-asked.result c.ask-asked.new.self c.ask-asked.ensures.gives c.ask-asked.ensures.state
