@@ -73,7 +73,7 @@ class Repository:
         self.documents = [path for path in self.paths if path.endswith(".md")]
         self.words = set()
         for path in self.paths:
-            if path.startswith("crates/") and path.endswith((".rt", ".antt")):
+            if path.startswith(("crates/", "tests/calls/src/")) and path.endswith((".rt", ".antt", ".rs")):
                 self.words |= set(re.findall(r"[^\W\d][\w-]*", texts.read(path)))
         self.words |= {word for name in self.words for word in name.split("-")}
         self.words |= {PurePosixPath(path).stem for path in self.known}
