@@ -1,4 +1,4 @@
-ghost use Rattle.std.specs.Prelude.{IfOk, IfErr};
+ghost use Rattle.std.specs.Prelude.{◌≡◌, IfOk, IfErr};
 ghost use Rattle.pt_document.specs.Document.{JobTree};
 ghost use Rattle.pt_net.specs.Net.{IsNetOf};
 ghost use Rattle.pt_scopes.specs.Scopes.{net_view};

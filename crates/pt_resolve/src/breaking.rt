@@ -1,4 +1,4 @@
-ghost use Rattle.std.specs.Prelude.{IfOk, MatchOption};
+ghost use Rattle.std.specs.Prelude.{◌≡◌, IfOk, MatchOption};
 ghost use Rattle.pt_typing.specs.Least.{assignment};
 ghost use Rattle.pt_inequalities.specs.Frames.{frames_of};
 ghost use Rattle.pt_frames.specs.Views.{frames_view};
