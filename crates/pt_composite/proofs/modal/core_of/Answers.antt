@@ -14,14 +14,14 @@ use Rattle.pt_composite.proofs.modal.core_of.Goals as goal
 pub returns-in_default-clause-stands : goal.returns-in_default-clause-stands
 returns-in_default-clause-stands c = none-there (around_of c.args.wiring) (trees_of (map shown c.args.children.now)) (ap (λ (o : Option Written). option_map machine_of o) c.in_default.is)
 
-pub returns-in-None-clause-stands : goal.returns-in-None-clause-stands
-returns-in-None-clause-stands c =
+pub returns-clause-stands : goal.returns-clause-stands
+returns-clause-stands c =
     let kids : List Tree = trees_of (map shown c.args.children.now) in
     let m = machine_of c.in-Some.machine in
     none-charted (around_of c.args.wiring) kids m (ap (λ (o : Option Written). option_map machine_of o) c.in-Some.is) (subst (λ (o : Option Machine). IsChartRound c.args.wiring.inputs c.args.wiring.outputs kids m o) c.in-None.is c.in_ok-chart.ensures)
 
-pub returns-in_ok-core_with-clause-core : goal.returns-in_ok-core_with-clause-core
-returns-in_ok-core_with-clause-core c =
+pub returns-in-Some-chart-clause-core : goal.returns-in-Some-chart-clause-core
+returns-in-Some-chart-clause-core c =
     let kids : List Tree = trees_of (map shown c.args.children.now) in
     let m = machine_of c.in-Some.machine in
-    starts-by (around_of c.args.wiring) kids m c.in-Some-chart.chart c.in_ok-core_with.field-0 (ap (λ (o : Option Written). option_map machine_of o) c.in-Some.is) (subst (λ (o : Option Machine). IsChartRound c.args.wiring.inputs c.args.wiring.outputs kids m o) c.in-Some-chart.is c.in_ok-chart.ensures) c.in_ok-core_with.ensures
+    starts-by (around_of c.args.wiring) kids m c.in-Some-chart.chart c.in_ok-core_with-in-Some-chart.field-0 (ap (λ (o : Option Written). option_map machine_of o) c.in-Some.is) (subst (λ (o : Option Machine). IsChartRound c.args.wiring.inputs c.args.wiring.outputs kids m o) c.in-Some-chart.is c.in_ok-chart.ensures) c.in_ok-core_with-in-Some-chart.ensures

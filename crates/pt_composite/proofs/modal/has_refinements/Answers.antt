@@ -20,10 +20,10 @@ returns-in-Some c =
     let w = c.args.machine.now in
     let places : c.deref-2.result.now ≡ places_of (machine_of w) = c.deref-2.ensures.value ∙ places-are c.in_ok-places.places.items w (c.in_ok-places.ensures ∙ ap (λ (v : List Ports). map (λ p. taken_by (ports_view p)) v) c.deref.ensures.value) in
     let all : NeedAll kids (places_of (machine_of w)) c.in-Some.field-0.items = subst (λ (v : List ℕ). NeedAll kids v c.in-Some.field-0.items) places (subst (λ o. AreNeeds kids c.deref-2.result.now o) c.in-Some.is c.in_ok-needs_of.ensures) in
-    refinements-if w kids c.args.inputs c.args.outputs c.len.result c.in-Some.field-0.items c.is_for.result (c.len.ensures ∙ sym (trees-length c.args.children.now)) (c.are_opaque.ensures.yes c.if-not-are_opaque.false) all c.is_for.ensures
+    refinements-if w kids c.args.inputs c.args.outputs (length c.args.children.now) c.in-Some.field-0.items c.is_for.result (sym (trees-length c.args.children.now)) (c.are_opaque.ensures.yes c.if-not-are_opaque.false) all c.is_for.ensures
 
-pub returns-in-None : goal.returns-in-None
-returns-in-None c =
+pub returns : goal.returns
+returns c =
     let kids : List Tree = trees_of (map shown c.args.children.now) in
     let w = c.args.machine.now in
     let places : c.deref-2.result.now ≡ places_of (machine_of w) = c.deref-2.ensures.value ∙ places-are c.in_ok-places.places.items w (c.in_ok-places.ensures ∙ ap (λ (v : List Ports). map (λ p. taken_by (ports_view p)) v) c.deref.ensures.value) in
