@@ -1,0 +1,4 @@
+pub mod Views
+pub mod Sites
+pub mod Charted
+pub mod Grounds
