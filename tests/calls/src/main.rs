@@ -15,6 +15,7 @@ mod io_calls;
 mod json;
 mod library;
 mod lists;
+mod machines;
 mod modal;
 mod numbers;
 mod parameters;
@@ -95,6 +96,7 @@ impl<R: Threads + Wait + Sync> Answers for Questions<'_, R> {
             "json.txt" => json::answer(alloc, section, question, out),
             "io_calls.txt" => io_calls::answer(alloc, section, question, out),
             "documents.txt" => documents::answer(alloc, section, question, out),
+            "machines.txt" => machines::answer(alloc, section, question, out),
             "typed_nets.txt" => typed_nets::answer(alloc, section, question, out),
             "program.txt" => program::answer(self.rt, alloc, section, question, out),
             _ => out.text("no such table"),

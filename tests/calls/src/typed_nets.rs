@@ -32,7 +32,7 @@ fn net_of_job(alloc: Global, job: &Job) -> Option<Net> {
 }
 
 /// The net of a document, if it has one.
-fn net_of(alloc: Global, document: &str) -> Option<Net> {
+pub fn net_of(alloc: Global, document: &str) -> Option<Net> {
     match read(alloc, document.as_bytes()) {
         Ok(job) => net_of_job(alloc, &job),
         Err(_) => None,
@@ -47,7 +47,7 @@ fn answer_about(alloc: Global, paths: &str, document: &str, out: &mut Answer) {
 }
 
 /// What its texts come to, if they come to something.
-fn values_in(alloc: Global, net: &Net) -> Option<Values> {
+pub fn values_in(alloc: Global, net: &Net) -> Option<Values> {
     nets_are_ordered();
     values_of(alloc, net).ok()
 }
