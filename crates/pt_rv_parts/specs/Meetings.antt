@@ -1,14 +1,9 @@
 -- The meetings made in a firing, among the definitions.
 use Rattle.std.specs.Prelude.{◌+◌, ◌≤◌, length, map, vec_capacity}
 use Rattle.pt_meaning.specs.Log as log
+use Rattle.pt_firing.specs.Meeting.{meeting_of}
 use Rattle.pt_reaction.specs.Spared.{Spared}
-use Rattle.pt_rv_parts.specs.declared.meetings.Meeting.{Meeting}
-use Rattle.pt_rv_parts.specs.declared.meetings.Meeting.TheVariants.{Channel, Barrier}
 use Rattle.pt_rv_parts.specs.declared.meetings.Meetings.TheInside.{Inside}
-
-abbrev pub meeting_of : Meeting → log.Meeting
-meeting_of (Channel channel) = log.Channel channel
-meeting_of (Barrier process) = log.Barrier process
 
 abbrev pub seen_meetings : Inside → Spared log.Meeting
 seen_meetings m = record { list = map meeting_of m.list.items; spare = m.promised }

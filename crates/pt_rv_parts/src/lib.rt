@@ -17,7 +17,7 @@ mod targets;
 mod team;
 
 pub use inlet::Inlet;
-pub use meetings::{Meeting, Meetings};
+pub use meetings::Meetings;
 pub use need::KeptNeed;
 pub use outlet::Outlet;
 pub use plan::CorePlan;

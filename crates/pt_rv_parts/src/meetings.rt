@@ -1,12 +1,6 @@
+use pt_firing::Meeting;
 use std::alloc::{AllocError, Global};
 use std::marker::Model;
-
-/// A meeting of a Rendezvous composite: on one channel, or of a Barrier, by the number of its process.
-#[derive(Clone, Copy, PartialEq, Eq, Debug)]
-pub enum Meeting {
-    Channel(u32),
-    Barrier(u32),
-}
 
 /// The meetings made in a firing, with room for so many that were promised.
 #[derive(Drop)]
@@ -32,7 +26,7 @@ impl Model for Meetings {
 
 impl Meetings {
     ghost use Rattle.std.specs.Prelude.{◌≡◌, ◌+◌, ◌<◌, [], ◌∷◌, ◌++◌, map, IfOk, OnOk, OnErr};
-    ghost use Rattle.pt_rv_parts.specs.Meetings.{meeting_of};
+    ghost use Rattle.pt_firing.specs.Meeting.{meeting_of};
 
     /// None yet.
     pub fn new(alloc: Global) -> Meetings

@@ -1,5 +1,5 @@
 use Rattle.std.proofs.Common.{length, map, ap, arith}
-use Rattle.pt_rv_parts.specs.Meetings.{meeting_of}
+use Rattle.pt_firing.specs.Meeting.{meeting_of}
 use Rattle.pt_rv_parts.proofs.meetings.Meetings.clear.Goals as goal
 
 pub invariant_of-self : goal.invariant_of-self

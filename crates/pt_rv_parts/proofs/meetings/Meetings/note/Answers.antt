@@ -1,8 +1,8 @@
 use Rattle.std.proofs.Common.{[], ◌∷◌, ◌++◌, length, map, ap, ◌∙◌, arith, length-append}
 use Rattle.std.proofs.lemmas.List.{map-append}
 use Rattle.pt_meaning.specs.Log as log
+use Rattle.pt_firing.specs.Meeting.{meeting_of}
 use Rattle.pt_reaction.specs.Spared.{Spared}
-use Rattle.pt_rv_parts.specs.Meetings.{meeting_of}
 use Rattle.pt_rv_parts.proofs.meetings.Meetings.note.Goals as goal
 
 pub push_reserved-requires : goal.push_reserved-requires
