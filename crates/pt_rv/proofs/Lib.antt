@@ -1,0 +1,10 @@
+pub mod EndLaws
+pub mod WeightLaws
+pub mod ShapeLaws
+pub mod NextLaws
+pub mod OfferLaws
+pub mod PassLaws
+pub mod BarrierLaws
+pub mod CoreLaws
+pub mod CallLaws
+pub mod FreshLaws

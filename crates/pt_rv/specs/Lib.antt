@@ -1,0 +1,5 @@
+pub mod StateCode
+pub mod Parties
+pub mod Ends
+pub mod Fresh
+pub mod Core
