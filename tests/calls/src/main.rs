@@ -28,6 +28,7 @@ mod rates;
 mod reaction;
 mod readback;
 mod receivers;
+mod rv_cores;
 mod scripts;
 mod table;
 mod tags;
@@ -80,6 +81,7 @@ impl<R: Threads + Wait + Sync> Answers for Questions<'_, R> {
             "de_plans.txt" => de_plans::answer(alloc, section, question, out),
             "reaction.txt" => reaction::answer(alloc, section, question, out),
             "pn_cores.txt" => pn_cores::answer(alloc, section, question, out),
+            "rv_cores.txt" => rv_cores::answer(alloc, section, question, out),
             "de_cores.txt" => de_cores::answer(alloc, section, question, out),
             "modal.txt" => modal::answer(alloc, section, question, out),
             "receivers.txt" => receivers::answer(alloc, section, question, out),

@@ -1,0 +1,132 @@
+use crate::cores::{Asked, begin, copied, finish, show_lent, tell_asked};
+use crate::library::place;
+use crate::lists::{each, each_in, each_plain};
+use crate::numbers::{part, size};
+use crate::plans::source;
+use crate::scripts::{self, Subject};
+use crate::tags;
+use pt_firing::{Ask, Counts, Meeting, Need, Outputs};
+use pt_rv::Core;
+use pt_rv_parts::{CorePlan, KeptNeed};
+use pt_table::Answer;
+use std::alloc::{AllocError, Global};
+
+/// Answers a script of calls on a core of Rendezvous, behind the net that it is made of.
+pub fn answer(alloc: Global, section: &str, question: &str, out: &mut Answer) {
+    match section {
+        "firings" => {
+            let (written, script) = scripts::parts(question, out);
+            run(alloc, written, script, out);
+        }
+        _ => out.no_such_section(),
+    }
+}
+
+fn run(alloc: Global, written: &str, script: &str, out: &mut Answer) {
+    match Core::new(alloc, plan(alloc, written, out)) {
+        Ok(core) => scripts::run(alloc, Asked { core, child: 0 }, script, out),
+        Err(fault) => out.note(Err(fault)),
+    }
+}
+
+fn counts(alloc: Global, written: &str, between: &str) -> Result<Counts, AllocError> {
+    Ok(Counts::of(each_plain(alloc, written, between, size)?))
+}
+
+/// A need: `1+2` at its places, `.` where there is none, `any` where a token at any place will do, and `-` where the process is over.
+fn need(alloc: Global, word: &str) -> Result<KeptNeed, AllocError> {
+    match word.trim() {
+        "-" => Ok(KeptNeed::Over),
+        "any" => Ok(KeptNeed::Any),
+        "." => Ok(KeptNeed::Counts(Counts::of(Vec::new(alloc)))),
+        counted => Ok(KeptNeed::Counts(counts(alloc, counted, "+")?)),
+    }
+}
+
+fn plan(alloc: Global, written: &str, out: &mut Answer) -> CorePlan {
+    CorePlan {
+        sources: out.or(
+            each_plain(alloc, part(written, "sources"), " ", source),
+            Vec::new(alloc),
+        ),
+        places: out.or(
+            counts(alloc, part(written, "places"), " "),
+            Counts::of(Vec::new(alloc)),
+        ),
+        barriers: out.or(
+            each_plain(alloc, part(written, "barriers"), " ", |word| word == "yes"),
+            Vec::new(alloc),
+        ),
+        takes: out.or(
+            counts(alloc, part(written, "takes"), " "),
+            Counts::of(Vec::new(alloc)),
+        ),
+        starts: out.or(
+            each(alloc, part(written, "starts"), " ", need),
+            Vec::new(alloc),
+        ),
+    }
+}
+
+impl Subject for Asked<Core> {
+    fn call(&mut self, alloc: Global, name: &str, rest: &str, out: &mut Answer) {
+        match name {
+            "begin" => begin(alloc, &mut self.core, tags::tag("0.0"), rest, out),
+            "ask" => ask(alloc, self, out),
+            "told" => told(alloc, self, rest, out),
+            "met" => met(alloc, &self.core, out),
+            "finish" => finish(alloc, &mut self.core, out),
+            "reset" => out.note(self.core.reset(alloc)),
+            _ => scripts::no_such_call(out),
+        }
+    }
+
+    fn copied(&self, alloc: Global) -> Result<Asked<Core>, AllocError> {
+        copied(alloc, self)
+    }
+}
+
+fn ask(alloc: Global, asked: &mut Asked<Core>, out: &mut Answer) {
+    match asked.core.ask() {
+        Ask::Fire(process, _) => {
+            asked.child = process;
+            tell_asked(alloc, " = fire ", process, out);
+            show_lent(&asked.core, out);
+        }
+        Ask::Meet(meeting) => {
+            out.text(" =");
+            show_meeting(alloc, meeting, out);
+        }
+        Ask::Finished => out.text(" = finished"),
+        _ => out.text(" = other"),
+    }
+}
+
+fn show_meeting(alloc: Global, meeting: Meeting, out: &mut Answer) {
+    match meeting {
+        Meeting::Channel(channel) => tell_asked(alloc, " meet ", channel, out),
+        Meeting::Barrier(process) => tell_asked(alloc, " barrier ", process, out),
+    }
+}
+
+/// What the process gave that was asked, and its need then: `5 7/- needs 1+1`.
+fn told(alloc: Global, asked: &mut Asked<Core>, written: &str, out: &mut Answer) {
+    let (given, needed) = written.split_once("needs ").unwrap_or((written, "-"));
+    let outputs = Outputs::of(each_in(alloc, given, "/", place, out));
+    let needed = out.or(need(alloc, needed), KeptNeed::Over);
+    let need = match &needed {
+        KeptNeed::Over => Need::Over,
+        KeptNeed::Counts(counts) => Need::All(counts),
+        KeptNeed::Any => Need::Any,
+    };
+    out.note(asked.core.told(alloc, asked.child, outputs, need));
+    drop(needed);
+}
+
+/// The meetings of the firing.
+fn met(alloc: Global, core: &Core, out: &mut Answer) {
+    out.text(" =");
+    for meeting in core.met() {
+        show_meeting(alloc, *meeting, out);
+    }
+}
