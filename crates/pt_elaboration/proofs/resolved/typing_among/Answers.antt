@@ -28,13 +28,13 @@ refusal_of_composite-requires c =
 pub returns-in-Some-Entity-clause-stands : goal.returns-in-Some-Entity-clause-stands
 returns-in-Some-Entity-clause-stands c =
     let w = broken-there c.args.net.now c.args.values.now (assignment c.in_ok-typing.typing) c.in_ok-number.field-0 c.in-Some-Entity.field-0 (Entity c.in-Some-Entity.number) c.in_ok-number.ensures c.in-Some-Entity.is c.in-Some-Entity.field-0-is in
-    types-stand c.args.net.now c.args.values.now (assignment c.in_ok-typing.typing) c.in-Some-Entity.number w.0 c.refusal_of_entity.result c.requires.valued c.in_ok-check_guards.ensures c.in_ok-typing.ensures w.1 w.2 c.refusal_of_entity.ensures
+    types-stand c.args.net.now c.args.values.now (assignment c.in_ok-typing.typing) c.in-Some-Entity.number w.0 c.refusal_of_entity.result c.requires.valued c.in_ok-check_guards.ensures.readable c.in_ok-typing.ensures w.1 w.2 c.refusal_of_entity.ensures
 
 pub returns-in-Some-Transparent-clause-stands : goal.returns-in-Some-Transparent-clause-stands
 returns-in-Some-Transparent-clause-stands c =
     let w = broken-there c.args.net.now c.args.values.now (assignment c.in_ok-typing.typing) c.in_ok-number.field-0 c.in-Some-Transparent.field-0 (Transparent c.in-Some-Transparent.number) c.in_ok-number.ensures c.in-Some-Transparent.is c.in-Some-Transparent.field-0-is in
-    composite-stands c.args.net.now c.args.values.now (assignment c.in_ok-typing.typing) c.in-Some-Transparent.number w.0 c.refusal_of_composite.result c.requires.valued c.in_ok-check_guards.ensures c.in_ok-typing.ensures w.1 w.2 c.refusal_of_composite.ensures
+    composite-stands c.args.net.now c.args.values.now (assignment c.in_ok-typing.typing) c.in-Some-Transparent.number w.0 c.refusal_of_composite.result c.requires.valued c.in_ok-check_guards.ensures.readable c.in_ok-typing.ensures w.1 w.2 c.refusal_of_composite.ensures
 
 pub returns-clause-resolved : goal.returns-clause-resolved
 returns-clause-resolved c =
-    record { valued = c.requires.valued; readable = c.in_ok-check_guards.ensures; typed = c.in_ok-typing.ensures; sound = subst (IsFound c.args.net.now c.args.values.now (assignment c.in_ok-typing.typing)) c.in-None.is c.in_ok-number.ensures }
+    record { valued = c.requires.valued; readable = c.in_ok-check_guards.ensures.readable; typed = c.in_ok-typing.ensures; sound = subst (IsFound c.args.net.now c.args.values.now (assignment c.in_ok-typing.typing)) c.in-None.is c.in_ok-number.ensures }
