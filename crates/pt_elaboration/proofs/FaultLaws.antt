@@ -21,6 +21,8 @@ use Rattle.pt_inequalities.specs.Typing.{IsTyping}
 use Rattle.pt_resolve.specs.Faults.{IsBroken, IsBrokenComposite, at_entity, at_composite}
 use Rattle.pt_charts.specs.Readable.{AreReadable, IsUnreadableAt}
 use Rattle.pt_start.specs.Misplaced.{IsMisplaced}
+use Rattle.pt_machine.specs.declared.cause.Cause.{Cause}
+use Rattle.pt_machine.specs.Causes.{IsFaultIn}
 use Rattle.pt_job.specs.Inputs as inputs
 use Rattle.pt_job.proofs.Members.{unmapped}
 use Rattle.pt_node.specs.Shown.{Shown}
@@ -28,7 +30,7 @@ use Rattle.pt_trees.specs.Trees.{IsEntity, Starts}
 use Rattle.pt_trees.specs.Built.{IsBuilt}
 use Rattle.pt_elaboration.specs.Resolved.{IsResolved, IsStarted}
 use Rattle.pt_elaboration.specs.Unbuilt.{IsUnbuilt}
-use Rattle.pt_elaboration.specs.Refused.{FaultStands, for_guards, for_types, for_place, for_inputs, unbuilt}
+use Rattle.pt_elaboration.specs.Refused.{FaultStands, for_guards, for_types, for_place, for_states, for_inputs, unbuilt}
 
 pub unbuilt-stands : (net : Net) (values : Values) (typing : Assignment) (starts : Starts) (m : DocFault) → IsStarted net values typing starts → IsUnbuilt net starts → IsRefusal m code.Unbuilt top_path → FaultStands net m
 unbuilt-stands net values typing starts Memory started is told = tt
@@ -81,3 +83,12 @@ place-stands net values typing cause k m resolved misplaced told =
     by_fault : (f : DocFault) (x : NetEntity) → IsEntity net k x → IsRefusal f cause x.path → FaultStands net f
     by_fault Memory x at h = tt
     by_fault (Refused s) x at h = for_place values typing k x resolved (subst (λ c. IsMisplaced (net_view net) values c k) (sym (ap (λ (v : Refusal). v.code) h)) misplaced) at (ap (λ (v : Refusal). v.path) h)
+
+pub states-stand : (net : Net) (values : Values) (typing : Assignment) (why : Cause) (k : ℕ) (m : DocFault) → IsResolved net values typing → IsFaultIn net k why → ((x : NetEntity) → IsEntity net k x → IsRefusal m code.States x.path) → FaultStands net m
+states-stand net values typing why k m resolved fault told =
+    let r = unmapped entity_view net.entities.items k fault.entity fault.at in
+    by_fault m r.0 r.1 (told r.0 r.1)
+  where
+    by_fault : (f : DocFault) (x : NetEntity) → IsEntity net k x → IsRefusal f code.States x.path → FaultStands net f
+    by_fault Memory x at h = tt
+    by_fault (Refused s) x at h = for_states values typing why k x resolved fault at (ap (λ (v : Refusal). v.code) h) (ap (λ (v : Refusal). v.path) h)

@@ -11,6 +11,7 @@ use Rattle.pt_scopes.specs.Valued.{IsValued}
 use Rattle.pt_inequalities.specs.Typing.{IsTyping}
 use Rattle.pt_resolve.specs.Faults.{IsWhole}
 use Rattle.pt_charts.specs.Readable.{AreReadable}
+use Rattle.pt_machine.specs.Machines.{AreMachines}
 use Rattle.pt_library.specs.declared.library_actor.LibraryActor.{LibraryActor}
 use Rattle.pt_start.specs.Started.{PortTyping, IsStart}
 use Rattle.pt_start.specs.Misplaced.{IsMisplaced}
@@ -43,9 +44,10 @@ pub record AreStartsOf (net : Net) (values : Values) (typing : Assignment) (begu
   pub actors : (k : ℕ) (e : NetEntity) → IsEntity net k e → IsUndirected e → (start : Option LibraryActor) × (slice_get begun k ≡ Some start) × IsStart net values (port_typing typing) k start
   pub others : (k : ℕ) (e : NetEntity) → IsEntity net k e → (IsUndirected e → ⊥) → slice_get begun k ≡ Some None
 
--- A net without faults of its texts, its types and its places, with what its entities start as and what its process networks state.
+-- A net without faults of its texts, its types, its places and its states, with what its entities start as, what its process networks state, and the machines of its Modal entities.
 pub record IsStarted (net : Net) (values : Values) (typing : Assignment) (starts : Starts) : Type 0 where
   pub resolved : IsResolved net values typing
   pub placed : IsPlaced net values
   pub started : AreStartsOf net values typing starts.actors
   pub stated : AreStated (net_view net) values starts.stated
+  pub machines : AreMachines net values typing starts.machines

@@ -9,6 +9,7 @@ ghost use Rattle.pt_elaboration.specs.Begun.{starts_in};
 ghost use Rattle.pt_elaboration.specs.Resolved.{IsResolved, IsPlaced, IsStarted};
 ghost use Rattle.pt_elaboration.specs.Refused.{FaultStands};
 
+use crate::machines::machines_of;
 use crate::refusal::refusal_of_entity;
 use crate::resolved::{typing_in, values_in};
 use crate::starts::starts_of;
@@ -23,15 +24,14 @@ use pt_stated::{Stated, stated_in};
 use pt_typing::Typing;
 use std::alloc::Global;
 
-/// What the texts of a net come to, its types, what its entities start as and what its process networks state, where no fault of its texts, its types or its places
-/// stands.
+/// What the texts of a net come to, its types, what its entities start as, what its process networks state and the machines of its Modal entities, where no fault of
+/// its texts, its types, its places or its states stands.
 #[derive(Drop)]
 pub struct Started {
     pub values: Values,
     pub typing: Typing,
     pub starts: Vec<Option<LibraryActor>>,
     pub stated: Vec<Option<Stated>>,
-    /// No machine of a Modal entity is made yet.
     pub machines: Vec<Option<Written>>,
 }
 
@@ -49,7 +49,7 @@ fn check_places(alloc: Global, net: &Net, values: &Values) -> Result<(), DocFaul
 }
 
 impl Started {
-    /// Evaluates the texts of the net of a job, finds its types and starts its actors.
+    /// Evaluates the texts of the net of a job, finds its types and its machines, and starts its actors.
     pub fn of(alloc: Global, net: &Net) -> Result<Started, DocFault>
         requires { (job : JobTree) × ActorsAreLeaves job × IsNetOf job net.now }
         ensures started { IfOk result (λ s. IsStarted net.now s.values (assignment s.typing) (starts_in s)) }
@@ -59,6 +59,7 @@ impl Started {
         let values = values_in(alloc, net)?;
         let typing = typing_in(alloc, net, &values)?;
         check_places(alloc, net, &values)?;
+        let machines = machines_of(alloc, net, &values, &typing)?;
         let starts = starts_of(alloc, net, &values, &typing)?;
         let stated = stated_in(alloc, net, &values)?;
         Ok(Started {
@@ -66,7 +67,7 @@ impl Started {
             typing,
             starts,
             stated,
-            machines: Vec::new(alloc),
+            machines,
         })
     }
 }
