@@ -1,3 +1,4 @@
+use crate::answer::Answer;
 use crate::cores::{Asked, begin, copied, finish, show_lent, tell_asked};
 use crate::library::place;
 use crate::lists::{each, each_in, each_plain};
@@ -8,7 +9,6 @@ use crate::tags;
 use pt_firing::{Ask, Counts, Meeting, Need, Outputs};
 use pt_rv::Core;
 use pt_rv_parts::{CorePlan, KeptNeed};
-use pt_table::Answer;
 use std::alloc::{AllocError, Global};
 
 /// Answers a script of calls on a core of Rendezvous, behind the net that it is made of.
