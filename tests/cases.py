@@ -29,7 +29,7 @@ CASE_FIELDS = {
 
 # What a case may need, in the order in which it is built.
 WORDS = (
-    "thin", "document", "expressions", "types", "rates", "nested", "declared", "guards", "sr", "lines", "de", "modal", "pn", "capacities", "threads", "rendezvous",
+    "thin", "document", "expressions", "types", "rates", "nested", "declared", "guards", "sr", "lines", "de", "machines", "modal", "pn", "capacities", "threads", "rendezvous",
     "generated", "several", "classes", "certificates", "wide", "giotto",
 )
 
