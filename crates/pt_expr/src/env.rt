@@ -6,8 +6,8 @@ ghost use Rattle.pt_language.specs.Outcome.{Gives, Stops, Wrong};
 ghost use Rattle.pt_language.specs.Scope.{named, port_in, presence};
 ghost use Rattle.pt_expr.specs.Env.{scope_of};
 
-use indexmap::IndexMap;
 use pt_language::EvalFault;
+use pt_name_map::NameMap;
 use pt_value::Token;
 use std::alloc::{AllocError, Global};
 
@@ -17,7 +17,7 @@ const MARK: &str = "_isPresent";
 /// The names that an expression may use, with their tokens.
 #[derive(Drop)]
 pub struct Env {
-    bound: IndexMap<String, Option<Token>>,
+    bound: NameMap<Option<Token>>,
     alloc: Global,
 }
 
@@ -27,7 +27,7 @@ impl Env {
         ensures { (name : List ℕ) → scope_of result name ≡ None }
     {
         Env {
-            bound: IndexMap::new(alloc),
+            bound: NameMap::new(alloc),
             alloc,
         }
     }
@@ -37,9 +37,7 @@ impl Env {
         ensures ok { OnOk result ((other : List ℕ) → scope_of self.new other ≡ (if bytes_eq name.now other then Some (option_map value_of value) else scope_of self.old other)) }
         ensures err { OnErr result ((other : List ℕ) → scope_of self.new other ≡ scope_of self.old other) }
     {
-        let key = String::from_str(self.alloc, name)?;
-        self.bound.insert(key, value)?;
-        Ok(())
+        self.bound.put(self.alloc, name, value)
     }
 
     /// The token that a name stands for.

@@ -7,8 +7,8 @@ ghost use Rattle.pt_language.specs.Answer.{Gives, Stops, looked_up};
 ghost use Rattle.pt_language.specs.Types.{type_under, presence_type};
 ghost use Rattle.pt_expr_type.specs.TypeEnv.{types_in};
 
-use indexmap::IndexMap;
 use pt_language::TypeFault;
+use pt_name_map::NameMap;
 use pt_types::Ty;
 use std::alloc::{AllocError, Global};
 
@@ -18,7 +18,7 @@ const MARK: &str = "_isPresent";
 /// The names that an expression may use, with their types.
 #[derive(Drop)]
 pub struct TypeEnv {
-    bound: IndexMap<String, Ty>,
+    bound: NameMap<Ty>,
     alloc: Global,
 }
 
@@ -28,7 +28,7 @@ impl TypeEnv {
         ensures { (name : List ℕ) → types_in result name ≡ None }
     {
         TypeEnv {
-            bound: IndexMap::new(alloc),
+            bound: NameMap::new(alloc),
             alloc,
         }
     }
@@ -38,9 +38,7 @@ impl TypeEnv {
         ensures ok { OnOk result ((other : List ℕ) → types_in self.new other ≡ (if bytes_eq name.now other then Some (type_of ty) else types_in self.old other)) }
         ensures err { OnErr result ((other : List ℕ) → types_in self.new other ≡ types_in self.old other) }
     {
-        let key = String::from_str(self.alloc, name)?;
-        self.bound.insert(key, ty)?;
-        Ok(())
+        self.bound.put(self.alloc, name, ty)
     }
 
     /// The type that a name stands for.
@@ -62,7 +60,7 @@ impl TypeEnv {
         ensures ok { IfOk result (λ t. looked_up (presence_type (types_in self.now) (Some port.now)) ≡ Gives (type_of t)) }
         ensures err { IfErr result (λ fault. looked_up (presence_type (types_in self.now) (Some port.now)) ≡ Stops fault) }
     {
-        if self.bound.contains_key(port) {
+        if self.bound.get(port).is_some() {
             Ok(Ty::Boolean)
         } else {
             Err(TypeFault::Name)

@@ -5,16 +5,15 @@ ghost use Rattle.pt_types.specs.Entry.{typed_entry};
 ghost use Rattle.pt_flow_base.specs.PortTypes.{type_named};
 ghost use Rattle.pt_flow_base.specs.TypeTable.{types_in};
 
-use indexmap::IndexMap;
+use pt_name_map::NameMap;
 use pt_types::Ty;
 use pt_value::Text;
 use std::alloc::{AllocError, Global};
-use std::hash::{BuildHasherDefault, DefaultHasher};
 
-/// Types by name. Names of one hash are hard to find for its hasher.
+/// Types by name.
 #[derive(Drop)]
 pub(crate) struct TypeTable {
-    types: IndexMap<String, Ty, BuildHasherDefault<DefaultHasher>>,
+    types: NameMap<Ty>,
 }
 
 impl TypeTable {
@@ -22,7 +21,7 @@ impl TypeTable {
         ensures { (name : List ℕ) → types_in result name ≡ None }
     {
         TypeTable {
-            types: IndexMap::with_hasher(alloc, BuildHasherDefault::new()),
+            types: NameMap::new(alloc),
         }
     }
 
@@ -30,9 +29,7 @@ impl TypeTable {
     fn put(&mut self, alloc: Global, name: &str, ty: Ty) -> Result<(), AllocError>
         ensures { OnOk result ((other : List ℕ) → types_in self.new other ≡ (if bytes_eq name.now other then Some (type_of ty) else types_in self.old other)) }
     {
-        let key = String::from_str(alloc, name)?;
-        self.types.insert(key, ty)?;
-        Ok(())
+        self.types.put(alloc, name, ty)
     }
 
     /// Puts a copy of the type of an entry under its name.
