@@ -13,14 +13,15 @@ use Rattle.pt_scopes.specs.Scopes.{net_view, is_composite_class}
 use Rattle.pt_start.specs.Nested.{IsNested}
 use Rattle.pt_start.proofs.Outward.{view-at}
 use Rattle.pt_trees.specs.declared.directing.Directing.{Directing}
+use Rattle.pt_trees.specs.declared.directing.Directing.TheVariants.{By, Modal}
 use Rattle.pt_trees.specs.Directors.{director_of}
 use Rattle.pt_trees.specs.Trees.{IsEntity, IsDirected}
-use Rattle.pt_trees.proofs.DirectorLaws.{is-directed}
+use Rattle.pt_trees.proofs.DirectorLaws.{is-directed, is-modal}
 use Rattle.pt_cover.proofs.Walk.{ArePlaced}
 use Rattle.pt_cover.proofs.Nesting.{IsRooted, get-within}
 use Rattle.pt_order.proofs.Standings.{AreSeen}
 use Rattle.pt_order.proofs.NetStandings.{standing-of, is-directed as is-directed-standing}
-use Rattle.pt_buildable.specs.Composites.{is_built, IsOtherComposite, HasOtherComposite, HasBuiltComposites}
+use Rattle.pt_buildable.specs.Composites.{is_built, IsOtherComposite, HasOtherComposite, HasBuiltComposites, HasOpaqueRefinements}
 use Rattle.pt_buildable.proofs.Directors.{directed-composite}
 
 -- ---- one way or the other
@@ -59,12 +60,13 @@ other-or-built net = elim (among net.entities.items) [ inl w ↦ inl (record { n
 
 -- ---- what is built has a director
 
-pub is-directed-by : (e : NetEntity) → is_built (director_of e) ≡ true → IsDirected e
-is-directed-by e built = by-director (director_of e) refl built
+is-directed-by : (e : NetEntity) (d : NetDirector) → e.director ≡ Some d → is_built (director_of e) ≡ true → IsDirected e
+is-directed-by e d has built = by-director (director_of e) refl built
   where
     by-director : (o : Option Directing) → director_of e ≡ o → is_built o ≡ true → IsDirected e
     by-director None is b = absurd (let h : false ≡ true = b in cc)
-    by-director (Some director) is b = is-directed e director is
+    by-director (Some (By director)) is b = is-directed e director is
+    by-director (Some Modal) is b = absurd (none-some d (sym (is-modal e is).unnamed ∙ has))
 
 named-composite : (class : List ℕ) → bytes_eq class (codes "Composite") ≡ true → is_composite_class class ≡ true
 named-composite class e = ap (λ b. b || bytes_eq class (codes "Modal")) e
@@ -81,7 +83,7 @@ module _ (job : JobTree) (net : Net) (seen : AreSeen (entities job)) (placed : A
 
   module _ (nested : IsNested (net_view net)) (rooted : IsRooted (net_view net)) (built : HasBuiltComposites net) where
     pub directed-built : (k : ℕ) (e : NetEntity) (d : NetDirector) → IsEntity net k e → e.director ≡ Some d → IsDirected e
-    directed-built k e d at has = is-directed-by e (built k e at (director-composite k e d at has))
+    directed-built k e d at has = is-directed-by e d has (built k e at (director-composite k e d at has))
 
     -- what an entity stands in is built
     pub holder-built : (k j : ℕ) (e : NetEntity) → IsEntity net k e → e.parent ≡ Some j → (f : NetEntity) × IsEntity net j f × (is_built (director_of f) ≡ true)
@@ -91,16 +93,14 @@ module _ (job : JobTree) (net : Net) (seen : AreSeen (entities job)) (placed : A
         let f = get-within net.entities.items j (omega (arith, w, below)) in
         (f.0, f.1, built j f.0 f.1 ((nested.entities k (entity_view e) (view-at entity_view net.entities.items k e at)).opaque j (entity_view f.0) round (view-at entity_view net.entities.items j f.0 f.1)))
 
-    pub holder-directed : (k j : ℕ) (e : NetEntity) → IsEntity net k e → e.parent ≡ Some j → (f : NetEntity) × IsEntity net j f × IsDirected f
-    holder-directed k j e at round = let h = holder-built k j e at round in (h.0, h.1, is-directed-by h.0 h.2)
-
-    -- and what has none is a library actor
-    pub undirected-actor : (k : ℕ) (e : NetEntity) → IsEntity net k e → e.director ≡ None → is_composite_class e.class ≡ false
-    undirected-actor k e at none = by-test (is_composite_class e.class) refl
+    -- what is of a library stands in a composite with a director
+    pub holder-directed : HasOpaqueRefinements net → (k j : ℕ) (e : NetEntity) → IsEntity net k e → e.parent ≡ Some j → is_composite_class e.class ≡ false → (f : NetEntity) × IsEntity net j f × IsDirected f
+    holder-directed opaque k j e at round plain = let h = holder-built k j e at round in by-director h.0 h.1 (director_of h.0) refl h.2
       where
-        by-test : (b : Bool) → is_composite_class e.class ≡ b → is_composite_class e.class ≡ false
-        by-test true h = let d = is-directed-by e (built k e at h) in absurd (none-some d.director (sym none ∙ d.has))
-        by-test false h = h
+        by-director : (f : NetEntity) → IsEntity net j f → (o : Option Directing) → director_of f ≡ o → is_built o ≡ true → (f : NetEntity) × IsEntity net j f × IsDirected f
+        by-director f there None is b = absurd (let h : false ≡ true = b in cc)
+        by-director f there (Some (By director)) is b = (f, there, is-directed f director is)
+        by-director f there (Some Modal) is b = absurd (both_ways (is_composite_class e.class) plain (opaque k j e f at round there is))
 
     pub stands-in : (k : ℕ) (e : NetEntity) → IsEntity net k e → (k ≡ 0 → ⊥) → (j : ℕ) × (e.parent ≡ Some j)
     stands-in zero e at later = absurd (later refl)

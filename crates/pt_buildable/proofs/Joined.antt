@@ -28,7 +28,7 @@ pub composites-built : CompositesAreBuiltOrNot
 composites-built = other-or-built
 
 pub nets-ordered : BuiltNetsAreInOrder
-nets-ordered net e d doc built at has = ordered net doc built e d at has
+nets-ordered net e d doc built opaque at has = ordered net doc built opaque e d at has
 
 pub composites-channels : CompositesHaveChannels
 composites-channels net starts k e d doc within order at has = record {

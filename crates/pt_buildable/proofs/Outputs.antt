@@ -32,6 +32,7 @@ use Rattle.pt_lib_timed.specs.TimedActor as timed_actor
 use Rattle.pt_library.specs.declared.library_actor.LibraryActor.{LibraryActor}
 use Rattle.pt_library.specs.declared.library_actor.LibraryActor.TheVariants.{Flow, Data, Time, Timed}
 use Rattle.pt_library.specs.LibraryActor as library
+use Rattle.pt_scopes.specs.Scopes.{is_composite_class}
 use Rattle.pt_start.proofs.Outward.{view-at}
 use Rattle.pt_node.specs.View.{Tree}
 use Rattle.pt_trees.specs.De.{BeginsAtOutput, HasOutput, HasOutputIf, IsOutputIf}
@@ -143,7 +144,7 @@ module _ (net : Net) (values : Values) (typing : Assignment) (starts : Starts) (
       let from = s.3.started_from in
       let view : from.entity ≡ entity_view e = same_Some from.entity (entity_view e) (sym from.at ∙ view-at entity_view es j e at) in
       let classed : params.class ≡ e.class = from.from.class_is ∙ ap (λ (x : NetEntityTree). x.class) view in
-      let has : HasClassPorts net j e = ports j e at (ap (λ (x : NetEntity). x.director) (sym same) ∙ s.2) in
+      let has : HasClassPorts net j e = ports j e at (ap (λ (x : NetEntity). is_composite_class x.class) (sym same) ∙ s.2) in
       let timed : timed_actor.start params ≡ Some a = timed-start params a s.3.is in
       let c = timed-in (timed_actor.class_of params.class) params a timed in
       its-output net j e has c.0 (sym classed ∙ class-named params.class c.0 c.1)

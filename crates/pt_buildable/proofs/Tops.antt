@@ -114,8 +114,8 @@ by-director e (inl sdf) = inl (named-of e Sdf sdf)
 by-director e (inr sr) = inr (named-of e Sr sr)
 
 composite-of : (e : NetEntity) → IsDirectedBy e (By Sdf) ⊎ IsDirectedBy e (By Sr) → IsDirected e
-composite-of e (inl sdf) = is-directed e (By Sdf) sdf
-composite-of e (inr sr) = is-directed e (By Sr) sr
+composite-of e (inl sdf) = is-directed e Sdf sdf
+composite-of e (inr sr) = is-directed e Sr sr
 
 class-given : (o : Option (List ℕ)) → names_director o ≡ true → o ≡ Some (unwrap_or o [])
 class-given None e = absurd (let h : false ≡ true = e in cc)

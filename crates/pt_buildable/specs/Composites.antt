@@ -1,4 +1,4 @@
--- Which composites of a net are built: those with the director SDF, SR, DE or PN.
+-- Which composites of a net are built: those with the director SDF, SR, DE or PN, and Modal entities.
 use Rattle.std.specs.Prelude.{◌≡◌, ℕ, Bool, true, false, Option, Some, None}
 use Rattle.pt_document.specs.declared.classes.Director.TheVariants.{Sdf, Pn, Rendezvous, Sr, De}
 use Rattle.pt_net.specs.declared.net.Net.{Net}
@@ -17,9 +17,9 @@ is_built (Some (By Sr)) = true
 is_built (Some (By De)) = true
 is_built (Some (By Pn)) = true
 is_built (Some (By Rendezvous)) = false
-is_built (Some Modal) = false
+is_built (Some Modal) = true
 
--- a composite with a director that isn't built, or a Modal entity
+-- a composite with a director that isn't built
 abbrev pub IsOtherComposite : NetEntity → Type 0
 IsOtherComposite e = (is_composite_class e.class ≡ true) × (is_built (director_of e) ≡ false)
 
@@ -30,9 +30,13 @@ pub record HasOtherComposite (net : Net) : Type 0 where
   pub at : IsEntity net number entity
   pub other : IsOtherComposite entity
 
--- each composite of the net has one of these directors, and none is a Modal entity
+-- each composite of the net has one of these directors, or is a Modal entity
 abbrev pub HasBuiltComposites : Net → Type 0
 HasBuiltComposites net = (k : ℕ) (e : NetEntity) → IsEntity net k e → is_composite_class e.class ≡ true → is_built (director_of e) ≡ true
+
+-- what stands in a Modal entity of the net is of a class of composites
+abbrev pub HasOpaqueRefinements : Net → Type 0
+HasOpaqueRefinements net = (k j : ℕ) (e f : NetEntity) → IsEntity net k e → e.parent ≡ Some j → IsEntity net j f → IsDirectedBy f Modal → is_composite_class e.class ≡ true
 
 -- a process network, which is a composite of PN, of which it isn't known what it states of its channels and of its ports
 pub record HasUnstatedNetwork (net : Net) (starts : Starts) : Type 0 where

@@ -27,7 +27,7 @@ use Rattle.pt_trees.specs.Trees.{IsEntity, Starts, StartsAs, AreTrees, around_in
 use Rattle.pt_trees.specs.Built.{IsNested}
 use Rattle.pt_order.specs.Laws.{IsNetOfDocument, IsInOrder}
 use Rattle.pt_typed.specs.RowLaw.{AreStartedIn}
-use Rattle.pt_buildable.specs.Composites.{HasOtherComposite, HasBuiltComposites, HasUnstatedNetwork}
+use Rattle.pt_buildable.specs.Composites.{HasOtherComposite, HasBuiltComposites, HasOpaqueRefinements, HasUnstatedNetwork}
 
 -- its top is there
 abbrev pub TopsAreThere : Type 0
@@ -49,9 +49,9 @@ TopsHaveIterations = (net : Net) (values : Values) (e : NetEntity) → IsNetOfDo
 abbrev pub CompositesAreBuiltOrNot : Type 0
 CompositesAreBuiltOrNot = (net : Net) → HasOtherComposite net ⊎ HasBuiltComposites net
 
--- where all are, and the top is one, the net is in order, whether or not a tree can be built of it
+-- where all are, the top is one with a director, and nothing of a library stands in a Modal entity, the net is in order, whether or not a tree can be built of it
 abbrev pub BuiltNetsAreInOrder : Type 0
-BuiltNetsAreInOrder = (net : Net) (e : NetEntity) (d : NetDirector) → IsNetOfDocument net → HasBuiltComposites net → IsEntity net 0 e → e.director ≡ Some d → IsInOrder net
+BuiltNetsAreInOrder = (net : Net) (e : NetEntity) (d : NetDirector) → IsNetOfDocument net → HasBuiltComposites net → HasOpaqueRefinements net → IsEntity net 0 e → e.director ≡ Some d → IsInOrder net
 
 -- Each channel of a composite begins at an own input or at a child, and there is one for each place of a child and for each own output. There are few of them, and few children.
 pub record HasChannels (around : Around) : Type 0 where

@@ -19,6 +19,7 @@ use Rattle.pt_library.specs.LibraryActor.{start}
 use Rattle.pt_start.specs.Started.{PortTyping, type_at, ArePortTypes, IsActor, IsStart}
 use Rattle.pt_start.proofs.Outward.{view-at}
 use Rattle.pt_trees.specs.Trees.{IsEntity, IsUndirected, Starts, AreStarted}
+use Rattle.pt_trees.proofs.DirectorLaws.{decided}
 use Rattle.pt_cover.specs.Leaves.{AreStartedByClass}
 use Rattle.pt_cover.proofs.Starting.{by-class}
 use Rattle.pt_elaboration.specs.Resolved.{port_typing, IsStartOf, AreStartsOf}
@@ -31,7 +32,7 @@ pub is-actor : (net : Net) (k : ℕ) (e : NetEntity) → IsEntity net k e → Is
 is-actor net k e at undirected = record {
   entity = entity_view e;
   at = view-at entity_view net.entities.items k e at;
-  undirected = ap (option_map director_view) undirected;
+  undirected = ap (option_map director_view) undirected.unnamed;
 }
 
 -- the types of its ports are those that the typing has
@@ -88,15 +89,14 @@ first-all net values typing count starts all are = record {
 
 -- each actor is one that parameters of the class of its entity start
 pub started-by-class : (net : Net) (values : Values) (typing : Assignment) (starts : Starts) → AreStartsOf net values typing starts.actors → AreStartedByClass net starts
-started-by-class net values typing starts are k e a at is = by_director e.director refl
-  where
-    by_director : (d : Option NetDirector) → e.director ≡ d → (params : Params) × (params.class ≡ e.class) × (start params ≡ Some a)
-    by_director None undirected =
-        let r = are.actors k e at undirected in
-        by-class net values (port_typing typing) k e a at (subst (λ (s : Option LibraryActor). IsStart net values (port_typing typing) k s) (same_Some r.0 (Some a) (sym r.1 ∙ is)) r.2)
-    by_director (Some d) directed =
-        let none : slice_get starts.actors k ≡ Some None = are.others k e at (λ undirected. none-some d (sym undirected ∙ directed)) in
-        absurd (none-some a (same_Some None (Some a) (sym none ∙ is)))
+started-by-class net values typing starts are k e a at is = elim (decided e) [
+  | inl undirected ↦ (
+      let r = are.actors k e at undirected in
+      by-class net values (port_typing typing) k e a at (subst (λ (s : Option LibraryActor). IsStart net values (port_typing typing) k s) (same_Some r.0 (Some a) (sym r.1 ∙ is)) r.2))
+  | inr directed ↦ (
+      let none : slice_get starts.actors k ≡ Some None = are.others k e at directed in
+      absurd (none-some a (same_Some None (Some a) (sym none ∙ is))))
+]
 
 -- so each is one that parameters start
 pub are-started : (net : Net) (values : Values) (typing : Assignment) (starts : Starts) → AreStartsOf net values typing starts.actors → AreStarted starts

@@ -10,6 +10,7 @@ use Rattle.pt_trees.specs.declared.directing.Directing.{Directing}
 use Rattle.pt_trees.specs.declared.directing.Directing.TheVariants.{By, Modal}
 use Rattle.pt_trees.specs.Around.{Around}
 use Rattle.pt_trees.specs.Directors.{IsDirectedBy}
+use Rattle.pt_trees.specs.Modal.{IsModalWired}
 use Rattle.pt_trees.specs.Sdf.{HasInside}
 use Rattle.pt_trees.specs.Sr.{IsWired}
 use Rattle.pt_trees.specs.Trees.{IsEntity, IsUndirected, Starts, StartsAs, AreTrees, around_in}
@@ -22,9 +23,9 @@ IsMalformed (By Sr) around kids = IsWired around kids → ⊥
 IsMalformed (By De) around kids = IsWired around kids → ⊥
 IsMalformed (By Pn) around kids = IsWired around kids → ⊥
 IsMalformed (By Rendezvous) around kids = ⊥
-IsMalformed Modal around kids = ⊥
+IsMalformed Modal around kids = IsModalWired around kids → ⊥
 
--- What isn't built yet of a net whose entities start as these: a composite with another director than SDF, SR, DE and PN, or a Modal entity; a library actor that has no start; a composite of one of these directors round trees that are built, which it doesn't fit.
+-- What isn't built yet of a net whose entities start as these: a composite with another director than SDF, SR, DE and PN; a library actor that has no start; a composite of one of these directors, or a Modal entity, round trees that are built, which it doesn't fit.
 pub data IsUnbuilt (net : Net) (starts : Starts) : Type 0 where
   other : HasOtherComposite net → IsUnbuilt net starts
   unstarted : (k : ℕ) (e : NetEntity) → IsEntity net k e → IsUndirected e → is_composite_class e.class ≡ false → slice_get starts.actors k ≡ Some None → IsUnbuilt net starts

@@ -1,4 +1,4 @@
-ghost use Rattle.std.specs.Prelude.{◌≡◌, IfOk, map, true, false};
+ghost use Rattle.std.specs.Prelude.{◌≡◌, IfOk, map};
 ghost use Rattle.std.specs.List.{enumerate_from};
 ghost use Rattle.pt_document.specs.View.{port_view};
 ghost use Rattle.pt_types.specs.Ty.{type_of};
@@ -8,7 +8,7 @@ ghost use Rattle.pt_scopes.specs.Valued.{IsValued};
 ghost use Rattle.pt_start.specs.Nested.{IsNested};
 ghost use Rattle.pt_start.specs.Started.{type_at};
 ghost use Rattle.pt_start.specs.Seen.{IsReady};
-ghost use Rattle.pt_trees.specs.Trees.{IsEntity, IsUndirected};
+ghost use Rattle.pt_trees.specs.Trees.{IsEntity};
 ghost use Rattle.pt_elaboration.specs.Resolved.{port_typing, AreStartsOf, IsStartOf};
 
 use pt_document::Port;
@@ -18,18 +18,8 @@ use pt_scopes::Values;
 use pt_start::Starts;
 use pt_types::Ty;
 use pt_typing::{Typing, Variable};
+use pt_within::is_undirected;
 use std::alloc::{AllocError, Global};
-
-/// Whether the entity is a library actor.
-fn is_undirected(entity: &NetEntity) -> bool
-    ensures yes { result ≡ true → IsUndirected entity.now }
-    ensures no { result ≡ false → IsUndirected entity.now → ⊥ }
-{
-    match &entity.director {
-        Some(_) => false,
-        None => true,
-    }
-}
 
 /// The types of the ports of the entity of that number, in order.
 fn types_of(

@@ -39,7 +39,7 @@ module _ (lawful : StatedIsLawful) (stated : NetworksAreStated) (net : Net) (val
   -- where the texts of the net have values, a process network states its numbers
   pub network-states : IsValued (net_view net) values → (k : ℕ) (e : NetEntity) → IsEntity net k e → IsDirectedBy e (By Pn) → (s : Stated) × (stated_at starts k ≡ Some s)
   network-states valued k e at by =
-      let d = is-directed e (By Pn) by in
+      let d = is-directed e Pn by in
       let own : (entity_view e).director ≡ Some (director_view d.director) = ap (λ (o : Option NetDirector). option_map director_view o) d.has in
       let class : bytes_eq d.director.class (codes "PN") ≡ true = pn-class d.director (ap named (sym d.has) ∙ named-of e Pn by) in
       let s = stated (net_view net) values valued k (entity_view e) (director_view d.director) (view-at entity_view net.entities.items k e at) own class in

@@ -49,7 +49,7 @@ use Rattle.pt_library.specs.LibraryActor.{rows}
 use Rattle.pt_trees.specs.Composite.{children_in, trees_of}
 use Rattle.pt_trees.specs.Fresh as fresh
 use Rattle.pt_trees.specs.Fresh.{IsFresh}
-use Rattle.pt_trees.specs.Trees.{IsEntity, IsUndirected, around_in, Starts}
+use Rattle.pt_trees.specs.Trees.{IsEntity, around_in, Starts}
 use Rattle.pt_trees.specs.declared.directing.Directing.{Directing}
 use Rattle.pt_trees.specs.declared.directing.Directing.TheVariants.{By, Modal}
 use Rattle.pt_trees.specs.Directors.{named, IsDirectedBy, composing}
@@ -64,7 +64,7 @@ use Rattle.pt_trees.specs.declared.top.SrJob.{SrJob}
 use Rattle.pt_trees.specs.declared.top.Top.{Top}
 use Rattle.pt_trees.specs.declared.top.Top.TheVariants as top
 use Rattle.pt_trees.specs.Top.{supply_of, IsJobFor}
-use Rattle.pt_trees.proofs.DirectorLaws.{named-of, none-modal}
+use Rattle.pt_trees.proofs.DirectorLaws.{named-of, is-modal}
 use Rattle.pt_order.specs.Laws.{IsNetOfDocument}
 use Rattle.pt_buildable.proofs.Joined.{tops-iterate}
 use Rattle.pt_elaboration.specs.Resolved.{IsPlaced}
@@ -77,7 +77,7 @@ top-misplaced : (d : Option NetDirector) → d ≡ None → (nat_eq 0 0 && is_no
 top-misplaced d e = ap (λ (x : Option NetDirector). nat_eq 0 0 && is_none (director_in (option_map director_view x))) e
 
 -- where each entity may stand where it stands, the top has a director
-pub top-directed : (net : Net) (values : Values) (e : NetEntity) → IsPlaced net values → IsEntity net 0 e → IsUndirected e → ⊥
+pub top-directed : (net : Net) (values : Values) (e : NetEntity) → IsPlaced net values → IsEntity net 0 e → e.director ≡ None → ⊥
 top-directed net values e placed at is =
     placed code.Place 0 (record { entity = entity_view e; at = view-at entity_view net.entities.items 0 e at; refused = undirected (top-misplaced e.director is) })
 
@@ -99,25 +99,27 @@ pub record HasCore (net : Net) (s : Shown) : Type 0 where
   pub node : node_of s ≡ tree.composite core kids
   pub is : IsCoreOf entity core
 
--- so is each that its director makes
-core-made : (by : Directing) (net : Net) (starts : Starts) (k : ℕ) (e : NetEntity) (kids : List Tree) (c : tree.Core Token) → IsDirectedBy e by → (composing by).IsCore (around_in net starts k e) kids c → IsCoreOf e c
-core-made (By Sdf) net starts k e kids c directed has = subst (λ v. IsCoreOf e v) (sym has.is) (directed, has.planned.takes ∙ has.is_inside.inputs)
-core-made (By Sr) net starts k e kids c directed has = subst (λ v. IsCoreOf e v) (sym has.is) (directed, refl)
-core-made (By De) net starts k e kids c directed has = subst (λ v. IsCoreOf e v) (sym has.is) (directed, refl)
-core-made (By Pn) net starts k e kids c directed has = subst (λ v. IsCoreOf e v) (sym has.is) (directed, has.wired.lawful.takes)
-core-made (By Rendezvous) net starts k e kids c directed has = absurd has
-core-made Modal net starts k e kids c directed has = absurd (none-modal e directed)
+-- so is each that its director makes, where it is no Modal entity
+core-made : (by : Directing) (net : Net) (starts : Starts) (k : ℕ) (e : NetEntity) (kids : List Tree) (c : tree.Core Token) → (IsDirectedBy e Modal → ⊥) → IsDirectedBy e by → (composing by).IsCore (around_in net starts k e) kids c → IsCoreOf e c
+core-made (By Sdf) net starts k e kids c plain directed has = subst (λ v. IsCoreOf e v) (sym has.is) (directed, has.planned.takes ∙ has.is_inside.inputs)
+core-made (By Sr) net starts k e kids c plain directed has = subst (λ v. IsCoreOf e v) (sym has.is) (directed, refl)
+core-made (By De) net starts k e kids c plain directed has = subst (λ v. IsCoreOf e v) (sym has.is) (directed, refl)
+core-made (By Pn) net starts k e kids c plain directed has = subst (λ v. IsCoreOf e v) (sym has.is) (directed, has.wired.lawful.takes)
+core-made (By Rendezvous) net starts k e kids c plain directed has = absurd has
+core-made Modal net starts k e kids c plain directed has = absurd (plain directed)
 
 core-at : {net : Net} {starts : Starts} {k : ℕ} {s : Shown} (values : Values) → IsPlaced net values → k ≡ 0 → IsBuilt net starts k s → HasCore net s
-core-at {net = net} values placed first (built_actor k e a at is starts_as) = absurd (top-directed net values e placed (subst (λ j. IsEntity net j e) first at) is)
-core-at {net = net} {starts = starts} values placed first (built_composite k e by kids s at directed all is) = record {
-  entity = e;
-  at = subst (λ j. IsEntity net j e) first at;
-  core = is.core;
-  kids = trees_of kids;
-  node = is.node;
-  is = core-made by net starts k e (trees_of kids) is.core directed is.is_core;
-}
+core-at {net = net} values placed first (built_actor k e a at is starts_as) = absurd (top-directed net values e placed (subst (λ j. IsEntity net j e) first at) is.unnamed)
+core-at {net = net} {starts = starts} values placed first (built_composite k e by kids s at directed all is) =
+    let top = subst (λ j. IsEntity net j e) first at in
+    record {
+      entity = e;
+      at = top;
+      core = is.core;
+      kids = trees_of kids;
+      node = is.node;
+      is = core-made by net starts k e (trees_of kids) is.core (λ modal. top-directed net values e placed top (is-modal e modal).unnamed) directed is.is_core;
+    }
 
 pub top-core : (net : Net) (values : Values) (starts : Starts) (s : Shown) → IsPlaced net values → IsBuilt net starts 0 s → HasCore net s
 top-core net values starts s placed is = core-at values placed refl is

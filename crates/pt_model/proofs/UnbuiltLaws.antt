@@ -17,50 +17,42 @@ use Rattle.pt_trees.specs.declared.directing.Directing.TheVariants.{By, Modal}
 use Rattle.pt_trees.specs.Composite.{trees_of}
 use Rattle.pt_trees.specs.De.{IsDeWired}
 use Rattle.pt_trees.specs.Pn.{IsPnWired}
-use Rattle.pt_trees.specs.Directors.{named, director_of, IsDirectedBy, composing}
+use Rattle.pt_trees.specs.Directors.{director_of, IsDirectedBy, composing}
 use Rattle.pt_trees.specs.Trees.{IsEntity, IsUndirected, around_in, Starts, StartsAs, AreTrees}
 use Rattle.pt_trees.specs.Built as built
-use Rattle.pt_trees.proofs.DirectorLaws.{is-directed, none-modal}
+use Rattle.pt_trees.proofs.DirectorLaws.{undirected-none}
 use Rattle.pt_build.proofs.TreeLaws.{built-trees}
 use Rattle.pt_order.specs.Laws.{IsNetOfDocument}
+use Rattle.std.proofs.Math.Bool.{or-true}
+use Rattle.pt_order.proofs.TreeCover.{directed-class}
 use Rattle.pt_buildable.specs.Composites.{is_built, HasOtherComposite, HasUnstatedNetwork}
 use Rattle.pt_buildable.proofs.Joined.{tops-there, entities-shallow, directors-of-composites, children-steady, composites-built, nets-ordered, begin-at-outputs}
 use Rattle.pt_elaboration.specs.Resolved.{IsStarted}
 use Rattle.pt_elaboration.specs.Unbuilt.{IsUnbuilt, other, unstarted, malformed}
 use Rattle.pt_model.proofs.StatedLaws.{network-states, lawful-for}
 use Rattle.pt_stated.specs.Laws.{StatedIsLawful, NetworksAreStated}
+use Rattle.pt_model.proofs.Refinements.{opaque-refinements}
 use Rattle.pt_model.proofs.TypedLaws.{started-in, directed-top}
 
 -- ---- composites of other directors
 
--- a composite with this director is of a class of composites
-of-class : (e : NetEntity) (director : Directing) → IsDirectedBy e director → is_composite_class e.class ≡ true
-of-class e director by = ap (λ b. b || bytes_eq e.class (codes "Modal")) (is-directed e director by).composite
-
--- so one with a director that isn't built is another
+-- one with a director that isn't built is another
 other-by : (net : Net) (k : ℕ) (e : NetEntity) (director : Directing) → IsEntity net k e → IsDirectedBy e director → is_built (Some director) ≡ false → HasOtherComposite net
-other-by net k e director at by unbuilt = record { number = k; entity = e; at = at; other = (of-class e director by, ap is_built by ∙ unbuilt) }
-
--- what has no director is directed by none
-undirected-none : (e : NetEntity) → IsUndirected e → director_of e ≡ None
-undirected-none e none = by-class (bytes_eq e.class (codes "Composite"))
-  where
-    by-class : (b : Bool) → (if b then option_map By (named e.director) else None) ≡ None
-    by-class true = ap (λ (o : Option NetDirector). option_map By (named o)) none
-    by-class false = refl
+other-by net k e director at by unbuilt = record { number = k; entity = e; at = at; other = (directed-class e director by, ap is_built by ∙ unbuilt) }
 
 -- ---- the tree of a net
 
 module _ (law : StatedIsLawful) (stating : NetworksAreStated) (net : Net) (values : Values) (typing : Assignment) (starts : Starts) (doc : IsNetOfDocument net) (started : IsStarted net values typing starts) where
-  -- an entity with a director that none of the table is
+  -- an entity that is no library actor, and that nothing directs
   nameless : (k : ℕ) (e : NetEntity) → IsEntity net k e → (IsUndirected e → ⊥) → director_of e ≡ None → IsUnbuilt net starts
-  nameless k e at directed none = by-director e.director refl
+  nameless k e at directed none = other (record { number = k; entity = e; at = at; other = (by-director e.director refl (bytes_eq e.class (codes "Modal")) refl, ap is_built none) })
     where
-      by-director : (o : Option NetDirector) → e.director ≡ o → IsUnbuilt net starts
-      by-director None is = absurd (directed is)
-      by-director (Some d) is = other (record { number = k; entity = e; at = at; other = (directors-of-composites net k e d doc at is, ap is_built none) })
+      by-director : (o : Option NetDirector) → e.director ≡ o → (b : Bool) → bytes_eq e.class (codes "Modal") ≡ b → is_composite_class e.class ≡ true
+      by-director (Some d) is b modal = directors-of-composites net k e d doc at is
+      by-director None is true modal = ap (λ c. bytes_eq e.class (codes "Composite") || c) modal ∙ or-true (bytes_eq e.class (codes "Composite"))
+      by-director None is false modal = absurd (directed (record { unnamed = is; plain = modal }))
 
-  -- an entity without a start is a library actor or a Modal entity
+  -- an entity without a start is a library actor or a Composite without a director
   startless : (k : ℕ) (e : NetEntity) → IsEntity net k e → IsUndirected e → ((a : LibraryActor) → StartsAs starts k a → ⊥) → IsUnbuilt net starts
   startless k e at undirected none = by-class (is_composite_class e.class) refl (started.started.actors k e at undirected).0 (started.started.actors k e at undirected).1
     where
@@ -76,7 +68,7 @@ module _ (law : StatedIsLawful) (stating : NetworksAreStated) (net : Net) (value
     | inr built ↦ (
         let top = tops-there net doc in
         let d = directed-top net values top.0 started.placed top.1 in
-        let order = nets-ordered net top.0 d.0 doc built top.1 d.1 in
+        let order = nets-ordered net top.0 d.0 doc built (opaque-refinements net values typing starts doc started.machines) top.1 d.1 in
         malformed k e (By De) kids at by all (λ wired. bad (record { wired = wired; begin = begin-at-outputs net values typing starts k e kids order (started-in net values typing starts started.started) at all })))
   ]
 
@@ -98,7 +90,7 @@ module _ (law : StatedIsLawful) (stating : NetworksAreStated) (net : Net) (value
   unfit k e (By De) kids at by all bad = unfit-events k e kids at by all bad
   unfit k e (By Pn) kids at by all bad = unfit-network k e kids at by all bad
   unfit k e (By Rendezvous) kids at by all bad = other (other-by net k e (By Rendezvous) at by refl)
-  unfit k e Modal kids at by all bad = absurd (none-modal e by)
+  unfit k e Modal kids at by all bad = malformed k e Modal kids at by all bad
 
   -- where there is no tree, something isn't built
   pub no-tree-unbuilt : built.IsUnbuilt net starts → IsUnbuilt net starts

@@ -8,7 +8,6 @@ use Rattle.pt_document.specs.declared.job.Direction.TheVariants.{Input, Output}
 use Rattle.pt_document.specs.Classes.{ClassPort, Class, Kind, Actor, kind_of}
 use Rattle.pt_document.specs.Document.{Parts, parts, JobTree}
 use Rattle.pt_net.specs.declared.net.Net.{Net}
-use Rattle.pt_net.specs.declared.net.NetDirector.{NetDirector}
 use Rattle.pt_net.specs.declared.net.NetEntity.{NetEntity}
 use Rattle.pt_net.specs.Standing.{entities}
 use Rattle.pt_net.specs.Table.{joined_ports, declared_port, ports_of_kind, ports_of, tables_of}
@@ -60,9 +59,9 @@ module _ (job : JobTree) (net : Net) (seen : AreSeen (entities job)) (placed : A
       let value : counts m ≡ channels_at net k m = omega (arith, whole, first, second, all, none) in
       value
 
-  pub class-ports-held : HasNoLinkFault (tables_of job) → ((k j : ℕ) (e : NetEntity) → slice_get net.entities.items k ≡ Some e → e.parent ≡ Some j → (f : NetEntity) × (slice_get net.entities.items j ≡ Some f) × IsDirected f) → ((k : ℕ) (e : NetEntity) (d : NetDirector) → slice_get net.entities.items k ≡ Some e → e.director ≡ Some d → IsDirected e)
-      → (k c : ℕ) (e : NetEntity) (class : Class) → slice_get net.entities.items k ≡ Some e → e.parent ≡ Some c → kind_of e.class ≡ Some (Actor class) → HasClassPorts net k e
-  class-ports-held clean holder owner k c e class at round kind =
+  -- a library actor in a composite with a director has the ports of its class
+  pub class-ports-held : HasNoLinkFault (tables_of job) → (k c : ℕ) (e f : NetEntity) (class : Class) → slice_get net.entities.items k ≡ Some e → e.parent ≡ Some c → slice_get net.entities.items c ≡ Some f → IsDirected f → kind_of e.class ≡ Some (Actor class) → HasClassPorts net k e
+  class-ports-held clean k c e f class at round holder directed kind =
       let st = standing-of job net placed is k e at in
       let own = parts st.standing.tree in
       let kind-own : kind_of own.class ≡ Some (Actor class) = ap (λ (x : NetEntityTree). kind_of x.class) (sym st.same) ∙ kind in
@@ -84,5 +83,5 @@ module _ (job : JobTree) (net : Net) (seen : AreSeen (entities job)) (placed : A
             let here : slice_get (ports_of own) i ≡ Some q = ap (λ ps. slice_get ps i) (class-ports own class kind-own) ∙ there in
             let inward : is_inward q.direction ≡ true = ap is_inward input in
             let dirs : slice_get (map way (ports_of own)) i ≡ Some q.direction = slice_get-map way (ports_of own) i ∙ ap (λ (o : Option ClassPort). option_map way o) here in
-            sym (ends-at-input k i e st q.direction dirs inward) ∙ linked job net seen placed is nested clean owner holder k c e st (b.0.first + i) b.0.place i q at round (b.0.ports_at i q here) inward single);
+            sym (ends-at-input k i e st q.direction dirs inward) ∙ linked job net seen placed is nested clean k c e f st (b.0.first + i) b.0.place i q at round holder directed (b.0.ports_at i q here) inward single);
       }

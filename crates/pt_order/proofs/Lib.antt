@@ -8,6 +8,7 @@ pub mod Ends
 pub mod PlaceBlocks
 pub mod Sides
 pub mod NetStandings
+pub mod ClassNames
 pub mod LinkFacts
 pub mod WiredNets
 pub mod ClassPortsHeld

@@ -17,10 +17,12 @@ use Rattle.pt_net.specs.Net.{NetEntityTree, entity_view, entity_tree, wires, IsN
 use Rattle.pt_net.specs.Stands.{has_one_at_most, has_one, twice_outside, twice_inside, no_link, no_link_inside, needs_link}
 use Rattle.pt_trees.specs.Trees.{IsDirected}
 use Rattle.pt_cover.proofs.Walk.{ArePlaced}
+use Rattle.pt_scopes.specs.Scopes.{is_composite_class}
 use Rattle.pt_cover.proofs.Nesting.{viewed}
 use Rattle.pt_order.specs.Laws.{HasNoLinkFault}
 use Rattle.pt_order.proofs.Standings.{IsIn, AreSeen}
 use Rattle.pt_order.proofs.Owners.{port-there}
+use Rattle.pt_order.proofs.ClassNames.{composite-or-modal}
 use Rattle.pt_order.proofs.NetStandings.{entity-of}
 
 one-long : (xs : List ℕ) → (1 < length xs → ⊥) → (xs ≡ [] → ⊥) → length xs ≡ 1
@@ -28,15 +30,20 @@ one-long [] short some = absurd (some refl)
 one-long (x ∷ []) short some = refl
 one-long (x ∷ y ∷ xs) short some = absurd (short (omega arith))
 
--- a Composite is no Modal entity, and its ports are single
+-- a Composite is no Modal entity
 modal-not : (own : Parts) → is_composite own ≡ true → is_modal own ≡ false
 modal-not own e = ap (λ (c : List ℕ). bytes_eq c (codes "Modal")) ((bytes_eq-Decides own.class (codes "Composite")).0 e)
 
-composite-ports : (own : Parts) → is_composite own ≡ true → ports_of own ≡ map declared_port own.ports
+-- a Composite and a Modal entity have the ports that they declare
+composite-ports : (own : Parts) → is_composite_class own.class ≡ true → ports_of own ≡ map declared_port own.ports
 unfolding ports_of kind_of
-composite-ports own e = ap (λ (c : List ℕ). ports_of_kind (kind_of c) (map declared_port own.ports)) ((bytes_eq-Decides own.class (codes "Composite")).0 e)
+composite-ports own e = by-name (composite-or-modal own.class e)
+  where
+    by-name : (own.class ≡ codes "Composite") ⊎ (own.class ≡ codes "Modal") → ports_of own ≡ map declared_port own.ports
+    by-name (inl is) = ap (λ (n : List ℕ). ports_of_kind (kind_of n) (map declared_port own.ports)) is
+    by-name (inr is) = ap (λ (n : List ℕ). ports_of_kind (kind_of n) (map declared_port own.ports)) is
 
-pub composite-single : (own : Parts) (i : ℕ) (q : ClassPort) → is_composite own ≡ true → slice_get (ports_of own) i ≡ Some q → q.arity ≡ Single
+pub composite-single : (own : Parts) (i : ℕ) (q : ClassPort) → is_composite_class own.class ≡ true → slice_get (ports_of own) i ≡ Some q → q.arity ≡ Single
 composite-single own i q e at =
     let v = viewed declared_port (slice_get own.ports i) q (sym (slice_get-map declared_port own.ports i) ∙ ap (λ ps. slice_get ps i) (sym (composite-ports own e)) ∙ at) in
     ap (λ (p : ClassPort). p.arity) (sym v.2)

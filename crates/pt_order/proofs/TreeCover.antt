@@ -1,11 +1,12 @@
 -- Each entity of a net of which a tree is built is in that tree: a library actor that is started, or a composite with a director.
-use Rattle.std.proofs.Common.{◌≡◌, ◌<◌, ℕ, zero, suc, List, Bool, true, false, ◌||◌, cond, Option, Some, None, codes, bytes_eq, refl, sym, ap, subst, ◌∙◌, arith}
+use Rattle.std.proofs.Common.{◌≡◌, ◌⊎◌, inl, inr, ◌<◌, ℕ, zero, suc, List, Bool, true, false, ◌||◌, cond, Option, Some, None, codes, bytes_eq, refl, sym, ap, subst, ◌∙◌, arith}
 use Rattle.std.specs.Prelude.{option_map}
 use Rattle.std.specs.Option.{option_or}
+use Rattle.std.proofs.Math.Bool.{or-true}
 use Rattle.std.proofs.lemmas.Bool.{both_ways, eq-eqb}
 use Rattle.std.proofs.lemmas.Option.{none-some, same_Some, slice_get_within}
-use Rattle.std.proofs.lemmas.Slice.Eq.{bytes_eq-Decides}
 use Rattle.std.specs.List.{slice_get}
+use Rattle.pt_meaning.specs.Streams.{get}
 use Rattle.pt_document.specs.Document.{JobTree}
 use Rattle.pt_document.specs.Classes.{Class as ClassRow, Kind, Composite, Modal, Actor, kind_of, class_row}
 use Rattle.pt_net.specs.declared.net.Net.{Net}
@@ -24,30 +25,34 @@ use Rattle.pt_lib_time.specs.declared.time_actor.Class.{Class as TimeClass}
 use Rattle.pt_lib_time.specs.TimeActor as time_actor
 use Rattle.pt_lib_timed.specs.declared.timed_actor.Class.{Class as TimedClass}
 use Rattle.pt_lib_timed.specs.TimedActor as timed_actor
-use Rattle.pt_library.specs.declared.library_actor.LibraryActor.{LibraryActor}
 use Rattle.pt_library.specs.declared.library_actor.LibraryActor.TheVariants.{Flow, Data, Time, Timed}
 use Rattle.pt_library.specs.LibraryActor.{start}
 use Rattle.pt_node.specs.View.{Tree}
-use Rattle.pt_trees.specs.Trees.{Starts, StartsAs, IsEntity, IsDirected, IsTree, of_actor, of_composite, AreTrees, no_trees, more_trees}
-use Rattle.pt_trees.proofs.DirectorLaws.{is-directed}
+use Rattle.pt_trees.specs.declared.directing.Directing.{Directing}
+use Rattle.pt_trees.specs.declared.directing.Directing.TheVariants.{By}
+use Rattle.pt_trees.specs.declared.directing.Directing.TheVariants as directing
+use Rattle.pt_trees.specs.Directors.{IsDirectedBy}
+use Rattle.pt_trees.specs.Modal.{is_opaque, AreOpaque}
+use Rattle.pt_trees.specs.Trees.{Starts, IsEntity, IsDirected, IsTree, of_actor, of_composite, AreTrees, no_trees, more_trees}
+use Rattle.pt_trees.proofs.DirectorLaws.{is-directed, is-modal}
 use Rattle.pt_cover.specs.Leaves.{ActorsAreLeaves, AreStartedByClass}
 use Rattle.pt_cover.proofs.Nesting.{get-within, net-nested, net-rooted}
 use Rattle.pt_cover.proofs.Nodes.{AreChildless, AreRooted}
 use Rattle.pt_cover.proofs.Numbering.{childless, entities-rooted}
+use Rattle.pt_order.proofs.ClassNames.{composite-or-modal}
 use Rattle.pt_order.proofs.Children.{child-number, get-is}
 
 -- ---- what starts as an actor is of a class of actors
 
 -- no library has a class of this name
 no-class : {C : Type 0} (class_of : List ℕ → Option C) → class_of (codes "Composite") ≡ None → class_of (codes "Modal") ≡ None → (class : List ℕ) → is_composite_class class ≡ true → class_of class ≡ None
-no-class class_of composite modal class passes = by-name (bytes_eq class (codes "Composite")) (bytes_eq class (codes "Modal")) refl refl passes
+no-class class_of composite modal class passes = by-name (composite-or-modal class passes)
   where
-    by-name : (b c : Bool) → bytes_eq class (codes "Composite") ≡ b → bytes_eq class (codes "Modal") ≡ c → (b || c) ≡ true → class_of class ≡ None
-    by-name true c is also passes = ap class_of ((bytes_eq-Decides class (codes "Composite")).0 is) ∙ composite
-    by-name false true is also passes = ap class_of ((bytes_eq-Decides class (codes "Modal")).0 also) ∙ modal
-    by-name false false is also passes = absurd cc
+    by-name : (class ≡ codes "Composite") ⊎ (class ≡ codes "Modal") → class_of class ≡ None
+    by-name (inl is) = ap class_of is ∙ composite
+    by-name (inr is) = ap class_of is ∙ modal
 
-no-start : (params : Params) → is_composite_class params.class ≡ true → start params ≡ None
+pub no-start : (params : Params) → is_composite_class params.class ≡ true → start params ≡ None
 no-start params passes =
     let of-flow : flow_actor.start params ≡ None = ap (λ (c : Option Class). flow_actor.start_in c params) (no-class flow_actor.class_of refl refl params.class passes) in
     let of-data : data_actor.start params.class params.values params.ports ≡ None = ap (λ (c : Option DataClass). data_actor.start_in c params.values params.ports) (no-class function.class_of refl refl params.class passes) in
@@ -69,6 +74,17 @@ actor-kind class kind e other = by-name (bytes_eq class (codes "Composite")) (by
     by-name true c is also o = absurd (let h : true ≡ false = o in cc)
     by-name false true is also o = absurd (let h : true ≡ false = o in cc)
     by-name false false is also o = of-row (class_row class) (ap (λ b. cond b (Some Composite) (cond (bytes_eq class (codes "Modal")) (Some Modal) (option_map Actor (class_row class)))) is ∙ ap (λ c. cond c (Some Modal) (option_map Actor (class_row class))) also)
+
+-- ---- what directs an entity
+
+-- an entity has a director or none
+other-director : (f e : NetEntity) (d : NetDirector) → f ≡ e → f.director ≡ None → e.director ≡ Some d → ⊥
+other-director f e d same none directed = none-some d (sym (subst (λ (x : NetEntity). x.director ≡ None) same none) ∙ directed)
+
+-- what is directed is of a class of composites
+pub directed-class : (e : NetEntity) (director : Directing) → IsDirectedBy e director → is_composite_class e.class ≡ true
+directed-class e (By director) by = ap (λ b. b || bytes_eq e.class (codes "Modal")) (is-directed e director by).composite
+directed-class e directing.Modal by = ap (λ b. bytes_eq e.class (codes "Composite") || b) (is-modal e by).modal ∙ or-true (bytes_eq e.class (codes "Composite"))
 
 -- ---- the trees of entities
 
@@ -116,16 +132,35 @@ module _ (job : JobTree) (net : Net) (starts : Starts) (top : Tree) (leaves : Ac
   -- ---- so each entity is
 
   of-directed : {k : ℕ} {t : Tree} → IsTree net starts k t → (e : NetEntity) (d : NetDirector) → IsEntity net k e → e.director ≡ Some d → IsDirected e
-  of-directed (of_actor k f a there undirected started) e d at directed = let same : f ≡ e = same_Some f e (sym there ∙ at) in absurd (none-some d (sym (subst (λ (x : NetEntity). x.director ≡ None) same undirected) ∙ directed))
-  of-directed (of_composite k f director kids core there by trees has) e d at directed = subst IsDirected (same_Some f e (sym there ∙ at)) (is-directed f director by)
+  of-directed (of_actor k f a there undirected started) e d at directed = absurd (other-director f e d (same_Some f e (sym there ∙ at)) undirected.unnamed directed)
+  of-directed (of_composite k f (By director) kids core there by trees has) e d at directed = subst IsDirected (same_Some f e (sym there ∙ at)) (is-directed f director by)
+  of-directed (of_composite k f directing.Modal kids core there by trees has) e d at directed = absurd (other-director f e d (same_Some f e (sym there ∙ at)) (is-modal f by).unnamed directed)
 
   -- one with a director is a composite
   pub directed-composite : (k : ℕ) (e : NetEntity) (d : NetDirector) → IsEntity net k e → e.director ≡ Some d → IsDirected e
   directed-composite k e d at directed = of-directed (tree-at k e at).1 e d at directed
 
-  of-holder : {j : ℕ} {t : Tree} → IsTree net starts j t → (k : ℕ) (e : NetEntity) → IsEntity net k e → e.parent ≡ Some j → (f : NetEntity) × IsEntity net j f × IsDirected f
-  of-holder (of_actor j f a at undirected started) k e there round = absurd (both_ways (is_child j e) (alone j f a at started k e there) (number-of j e.parent round))
-  of-holder (of_composite j f director kids core at directed trees has) k e there round = (f, at, is-directed f director directed)
+  -- what has the tree of a composite is of a class of composites
+  of-plain : {k : ℕ} {t : Tree} → IsTree net starts k t → (e : NetEntity) → IsEntity net k e → is_composite_class e.class ≡ false → is_opaque t ≡ false
+  of-plain (of_actor k f a there undirected started) e at plain = refl
+  of-plain (of_composite k f director kids core there by trees has) e at plain = absurd (both_ways (is_composite_class e.class) plain (subst (λ (x : NetEntity). is_composite_class x.class ≡ true) (same_Some f e (sym there ∙ at)) (directed-class f director by)))
+
+  kid-at : {cs : List ℕ} {ts : List Tree} → AreTrees net starts cs ts → (i c : ℕ) → slice_get cs i ≡ Some c → (t : Tree) × (get ts i ≡ Some t) × IsTree net starts c t
+  kid-at no_trees i c at = absurd (none-some c at)
+  kid-at (more_trees k ks t ts a b) zero c at = (t, refl, subst (λ (j : ℕ). IsTree net starts j t) (same_Some k c at) a)
+  kid-at (more_trees k ks t ts a b) (suc i) c at = kid-at b i c at
+
+  -- what stands in a Modal entity is none of a library
+  no-plain : (j k : ℕ) (kids : List Tree) (e f : NetEntity) → IsEntity net j f → AreTrees net starts (children_of net.entities.items j) kids → AreOpaque kids → IsEntity net k e → e.parent ≡ Some j → is_composite_class e.class ≡ false → ⊥
+  no-plain j k kids e f at trees opaque there round plain =
+      let number : slice_get (children_of net.entities.items j) (child_number net.entities.items k) ≡ Some k = sym (get-is (children_of net.entities.items j) (child_number net.entities.items k)) ∙ child-number net.entities.items k j e f there round at in
+      let w = kid-at trees (child_number net.entities.items k) k number in
+      both_ways (is_opaque w.0) (of-plain w.2 e there plain) (opaque (child_number net.entities.items k) w.0 w.1)
+
+  of-holder : {j : ℕ} {t : Tree} → IsTree net starts j t → (k : ℕ) (e : NetEntity) → IsEntity net k e → e.parent ≡ Some j → is_composite_class e.class ≡ false → (f : NetEntity) × IsEntity net j f × IsDirected f
+  of-holder (of_actor j f a at undirected started) k e there round plain = absurd (both_ways (is_child j e) (alone j f a at started k e there) (number-of j e.parent round))
+  of-holder (of_composite j f (By director) kids core at directed trees has) k e there round plain = (f, at, is-directed f director directed)
+  of-holder (of_composite j f directing.Modal kids core at directed trees has) k e there round plain = absurd (no-plain j k kids e f at trees has.wired.refinements.opaque there round plain)
 
   -- each entity but the top stands in one before it
   pub stands-in : (k : ℕ) (e : NetEntity) → IsEntity net k e → (k ≡ 0 → ⊥) → (j : ℕ) × (e.parent ≡ Some j)
@@ -136,27 +171,9 @@ module _ (job : JobTree) (net : Net) (starts : Starts) (top : Tree) (leaves : Ac
   parent-below zero j e at round = absurd (none-some j (sym (rooted.top e at) ∙ round))
   parent-below (suc k) j e at round = let r = rooted.others (suc k) e (omega arith) at in let same : r.0 ≡ j = same_Some r.0 j (sym r.1 ∙ round) in omega (arith, same, r.2)
 
-  -- and that is a composite with a director
-  pub holder-composite : (k j : ℕ) (e : NetEntity) → IsEntity net k e → e.parent ≡ Some j → (f : NetEntity) × IsEntity net j f × IsDirected f
-  holder-composite k j e at round =
+  -- and where it is of a library, that is a composite with a director
+  pub holder-composite : (k j : ℕ) (e : NetEntity) → IsEntity net k e → e.parent ≡ Some j → is_composite_class e.class ≡ false → (f : NetEntity) × IsEntity net j f × IsDirected f
+  holder-composite k j e at round plain =
       let w = slice_get_within net.entities.items k e at in
       let f = get-within net.entities.items j (omega (arith, w, parent-below k j e at round)) in
-      of-holder (tree-at j f.0 f.1).1 k e at round
-
-  not-directed : (e f : NetEntity) → f ≡ e → IsDirected f → e.director ≡ None → ⊥
-  not-directed e f same directed none = let w = subst IsDirected same directed in none-some w.director (sym none ∙ w.has)
-
-  of-undirected : {k : ℕ} {t : Tree} → IsTree net starts k t → (e : NetEntity) → IsEntity net k e → e.director ≡ None → (a : LibraryActor) × StartsAs starts k a
-  of-undirected (of_actor k f a there undirected started) e at none = (a, started)
-  of-undirected (of_composite k f director kids core there directed trees has) e at none = absurd (not-directed e f (same_Some f e (sym there ∙ at)) (is-directed f director directed) none)
-
-  -- and one without is of a class of library actors
-  pub undirected-class : (k : ℕ) (e : NetEntity) → IsEntity net k e → e.director ≡ None → is_composite_class e.class ≡ false
-  undirected-class k e at none =
-      let s = of-undirected (tree-at k e at).1 e at none in
-      let from = by_class k e s.0 at s.1 in
-      by-test from.0 from.1 from.2 (is_composite_class e.class) refl
-    where
-      by-test : {a : LibraryActor} (params : Params) → params.class ≡ e.class → start params ≡ Some a → (b : Bool) → is_composite_class e.class ≡ b → is_composite_class e.class ≡ false
-      by-test params class started true h = absurd (none-some _ (sym (no-start params (ap is_composite_class class ∙ h)) ∙ started))
-      by-test params class started false h = h
+      of-holder (tree-at j f.0 f.1).1 k e at round plain

@@ -25,6 +25,7 @@ use Rattle.pt_net.specs.Inside.{is_number, children_from, children_of, channels_
 use Rattle.pt_trees.specs.Trees.{IsDirected}
 use Rattle.pt_cover.proofs.Walk.{ArePlaced}
 use Rattle.pt_cover.proofs.Nesting.{viewed}
+use Rattle.pt_scopes.specs.Scopes.{is_composite_class}
 use Rattle.pt_order.specs.Wired.{arrivals, departures, goes_out, number_if, port_numbers, BeginsIn, at_own, at_child, IsWired}
 use Rattle.pt_order.specs.Laws.{HasNoLinkFault}
 use Rattle.pt_order.proofs.Standings.{AreSeen}
@@ -176,28 +177,27 @@ module _ (job : JobTree) (net : Net) (seen : AreSeen (entities job)) (placed : A
       let b = subst (λ (m : ℕ). IsPortBlock t.ports (inside_of (wires t)) is_outward m st.standing (filter (ending m) in-parts.outs)) z (block-at to_entity (IsOf GoesOut) (IsPortBlock t.ports (inside_of (wires t)) is_outward) 0 (filter is_kept all) in-parts.outs k st.standing in-parts.go st.among) in
       (b, ap (map to_port) (departures-are k) ∙ b.ends)
 
-  -- where each entity with a director is a composite, and so is what each entity stands in
-  module _ (clean : HasNoLinkFault t) (owner : (k : ℕ) (e : NetEntity) (d : NetDirector) → slice_get es k ≡ Some e → e.director ≡ Some d → IsDirected e) (holder : (k j : ℕ) (e : NetEntity) → slice_get es k ≡ Some e → e.parent ≡ Some j → (f : NetEntity) × (slice_get es j ≡ Some f) × IsDirected f) where
-    -- a single input has one link
-    pub linked : (k c : ℕ) (e : NetEntity) (st : IsStandingOf all k e) (g n m : ℕ) (q : ClassPort) → slice_get es k ≡ Some e → e.parent ≡ Some c → slice_get t.ports g ≡ Some (record { entity = n; standing = st.standing; number = m; port = q }) → is_inward q.direction ≡ true → q.arity ≡ Single → length (outside_of (wires t) g) ≡ 1
-    linked k c e st g n m q at round there input single =
-        let f = holder k c e at round in
-        single-linked job net seen placed is clean g (record { entity = n; standing = st.standing; number = m; port = q }) c f.0 there st.kept input single (sym (ap (λ (y : NetEntityTree). y.parent) st.same) ∙ round) f.1 f.2
+  -- a single input of what stands in a composite with a director has one link
+  pub linked : HasNoLinkFault t → (k c : ℕ) (e f : NetEntity) (st : IsStandingOf all k e) (g n m : ℕ) (q : ClassPort) → slice_get es k ≡ Some e → e.parent ≡ Some c → slice_get es c ≡ Some f → IsDirected f → slice_get t.ports g ≡ Some (record { entity = n; standing = st.standing; number = m; port = q }) → is_inward q.direction ≡ true → q.arity ≡ Single → length (outside_of (wires t) g) ≡ 1
+  linked clean k c e f st g n m q at round holder directed there input single =
+      single-linked job net seen placed is clean g (record { entity = n; standing = st.standing; number = m; port = q }) c f there st.kept input single (sym (ap (λ (y : NetEntityTree). y.parent) st.same) ∙ round) holder directed
 
-    input-ports : (k c : ℕ) (e : NetEntity) (d : NetDirector) → slice_get es k ≡ Some e → e.director ≡ Some d → e.parent ≡ Some c → map to_port (arrivals ks k) ≡ port_numbers is_input 0 e.ports.items
-    input-ports k c e d at directed round =
+  -- where each entity with a director is a composite
+  module _ (clean : HasNoLinkFault t) (owner : (k : ℕ) (e : NetEntity) (d : NetDirector) → slice_get es k ≡ Some e → e.director ≡ Some d → IsDirected e) where
+    input-ports : (k c : ℕ) (e f : NetEntity) (d : NetDirector) → slice_get es k ≡ Some e → is_composite_class e.class ≡ true → e.parent ≡ Some c → slice_get es c ≡ Some f → f.director ≡ Some d → map to_port (arrivals ks k) ≡ port_numbers is_input 0 e.ports.items
+    input-ports k c e f d at class round holder directed =
         let st = standing-of job net placed is k e at in
         let b = arriving k e st in
-        let composite = class-composite e st.standing st.same (owner k e d at directed) in
+        let composite : is_composite_class (parts st.standing.tree).class ≡ true = ap (λ (x : NetEntityTree). is_composite_class x.class) (sym st.same) ∙ class in
         b.1
         ∙ spread-once is_inward (λ m. length (outside_of (wires t) (b.0.first + m))) 0 (map way (ports_of (parts st.standing.tree))) (λ m w there input. once st b.0 composite m w there input)
         ∙ ap (numbers_of is_inward 0) (sym (net-ways e st.standing st.same)) ∙ input-numbers 0 e.ports.items
       where
-        once : (st : IsStandingOf all k e) (b : IsPortBlock t.ports (outside_of (wires t)) is_inward k st.standing (filter (ending k) in-parts.ins)) → is_composite (parts st.standing.tree) ≡ true → (m : ℕ) (w : Direction) → slice_get (map way (ports_of (parts st.standing.tree))) m ≡ Some w → is_inward w ≡ true → length (outside_of (wires t) (b.first + (0 + m))) ≡ 1
+        once : (st : IsStandingOf all k e) (b : IsPortBlock t.ports (outside_of (wires t)) is_inward k st.standing (filter (ending k) in-parts.ins)) → is_composite_class (parts st.standing.tree).class ≡ true → (m : ℕ) (w : Direction) → slice_get (map way (ports_of (parts st.standing.tree))) m ≡ Some w → is_inward w ≡ true → length (outside_of (wires t) (b.first + (0 + m))) ≡ 1
         once st b composite m w there input =
             let q = viewed way (slice_get (ports_of (parts st.standing.tree)) m) w (sym (slice_get-map way (ports_of (parts st.standing.tree)) m) ∙ there) in
             let z : b.first + m ≡ b.first + (0 + m) = omega arith in
-            linked k c e st (b.first + (0 + m)) b.place m q.0 at round (ap (slice_get t.ports) (sym z) ∙ b.ports_at m q.0 q.1) (ap is_inward q.2 ∙ input) (composite-single (parts st.standing.tree) m q.0 composite q.1)
+            linked clean k c e f st (b.first + (0 + m)) b.place m q.0 at round holder (owner c f d holder directed) (ap (slice_get t.ports) (sym z) ∙ b.ports_at m q.0 q.1) (ap is_inward q.2 ∙ input) (composite-single (parts st.standing.tree) m q.0 composite q.1)
 
     output-ports : (k : ℕ) (e : NetEntity) (d : NetDirector) → slice_get es k ≡ Some e → e.director ≡ Some d → map to_port (departures ks k) ≡ port_numbers is_output 0 e.ports.items
     output-ports k e d at directed =
@@ -218,7 +218,7 @@ module _ (job : JobTree) (net : Net) (seen : AreSeen (entities job)) (placed : A
     pub wired : IsWired net
     wired = record {
       grouped = λ k e d at directed. in-order k;
-      inputs = λ k c e d at directed round. input-ports k c e d at directed round;
+      inputs = λ k c e f d at class round holder directed. input-ports k c e f d at class round holder directed;
       outputs = λ k e d at directed. output-ports k e d at directed;
       begin = λ x there. begins x ((is.channels x).0 there);
     }

@@ -11,6 +11,7 @@ use Rattle.pt_net.specs.declared.net.Net.{Net}
 use Rattle.pt_net.specs.declared.net.NetEntity.{NetEntity}
 use Rattle.pt_net.specs.Table.{joined_ports, declared_port}
 use Rattle.pt_net.specs.Net.{row_port, entity_view}
+use Rattle.pt_scopes.specs.Scopes.{is_composite_class}
 use Rattle.pt_start.specs.Started.{ends_at}
 use Rattle.pt_order.specs.Wired.{arrivals}
 
@@ -45,4 +46,4 @@ pub record HasClassPorts (net : Net) (k : ℕ) (e : NetEntity) : Type 0 where
 
 -- so it is of each library actor
 abbrev pub HaveClassPorts : Net → Type 0
-HaveClassPorts net = (k : ℕ) (e : NetEntity) → slice_get net.entities.items k ≡ Some e → e.director ≡ None → HasClassPorts net k e
+HaveClassPorts net = (k : ℕ) (e : NetEntity) → slice_get net.entities.items k ≡ Some e → is_composite_class e.class ≡ false → HasClassPorts net k e

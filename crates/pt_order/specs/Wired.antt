@@ -6,6 +6,7 @@ use Rattle.pt_net.specs.declared.net.Channel.{Channel}
 use Rattle.pt_net.specs.declared.net.Net.{Net}
 use Rattle.pt_net.specs.declared.net.NetDirector.{NetDirector}
 use Rattle.pt_net.specs.declared.net.NetEntity.{NetEntity}
+use Rattle.pt_scopes.specs.Scopes.{is_composite_class}
 use Rattle.pt_net.specs.Inside.{children_of, comes_to, channels_in, is_input, is_output}
 
 -- ---- channels
@@ -42,9 +43,9 @@ pub data BeginsIn (net : Net) (k : Channel) : Type 0 where
   at_child : (e : NetEntity) (p : Port) → (k.from.entity ≡ k.composite → ⊥) → slice_get net.entities.items k.from.entity ≡ Some e → e.parent ≡ Some k.composite → slice_get e.ports.items k.from.port ≡ Some p → is_output p ≡ true → BeginsIn net k
 
 -- The channels of a net stand in the order of their places: those to the children of a composite, child by child, and then those to its own outputs.
--- A composite has one channel to each of its inputs, and one to each of its outputs, in the order of its ports.
+-- A composite that stands in one with a director has one channel to each of its inputs, and one with a director has one to each of its outputs, in the order of its ports. Refinements of a Modal entity have none.
 pub record IsWired (net : Net) : Type 0 where
   pub grouped : (k : ℕ) (e : NetEntity) (d : NetDirector) → slice_get net.entities.items k ≡ Some e → e.director ≡ Some d → channels_in net.channels.items k ≡ flat_map (arrivals net.channels.items) (children_of net.entities.items k) ++ departures net.channels.items k
-  pub inputs : (k c : ℕ) (e : NetEntity) (d : NetDirector) → slice_get net.entities.items k ≡ Some e → e.director ≡ Some d → e.parent ≡ Some c → map (λ (x : Channel). x.to.port) (arrivals net.channels.items k) ≡ port_numbers is_input 0 e.ports.items
+  pub inputs : (k c : ℕ) (e f : NetEntity) (d : NetDirector) → slice_get net.entities.items k ≡ Some e → is_composite_class e.class ≡ true → e.parent ≡ Some c → slice_get net.entities.items c ≡ Some f → f.director ≡ Some d → map (λ (x : Channel). x.to.port) (arrivals net.channels.items k) ≡ port_numbers is_input 0 e.ports.items
   pub outputs : (k : ℕ) (e : NetEntity) (d : NetDirector) → slice_get net.entities.items k ≡ Some e → e.director ≡ Some d → map (λ (x : Channel). x.to.port) (departures net.channels.items k) ≡ port_numbers is_output 0 e.ports.items
   pub begin : (k : Channel) → Contains net.channels.items k → BeginsIn net k

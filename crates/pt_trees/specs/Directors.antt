@@ -19,9 +19,14 @@ abbrev pub named : Option NetDirector → Option Director
 named None = None
 named (Some d) = option_map (λ (r : DirectorClass). r.director) (director_row d.class)
 
--- what directs an entity, where it is a composite with a director
+-- Modal, where no property names a director
+abbrev pub modal_unless : Option NetDirector → Option Directing
+modal_unless None = Some Modal
+modal_unless (Some d) = None
+
+-- what directs an entity, where it is a composite with a director or a Modal entity
 abbrev pub director_of : NetEntity → Option Directing
-director_of e = if bytes_eq e.class (codes "Composite") then option_map By (named e.director) else None
+director_of e = if bytes_eq e.class (codes "Composite") then option_map By (named e.director) else (if bytes_eq e.class (codes "Modal") then modal_unless e.director else None)
 
 abbrev pub IsDirectedBy : NetEntity → Directing → Type 0
 IsDirectedBy e director = director_of e ≡ Some director

@@ -1,5 +1,5 @@
 -- The tree of a net among the definitions, and what the nodes of the code are: each entity of the net at its start.
-use Rattle.std.specs.Prelude.{◌≡◌, ℕ, List, [], ◌∷◌, Option, Some, None, map, get_or, count_by, slice_get, codes, true, bytes_eq}
+use Rattle.std.specs.Prelude.{◌≡◌, ℕ, List, [], ◌∷◌, Option, Some, None, map, get_or, count_by, slice_get, codes, true, false, bytes_eq}
 use Rattle.pt_meaning.specs.Tree as tree
 use Rattle.pt_value.specs.declared.token.Token.{Token}
 use Rattle.pt_net.specs.declared.net.Net.{Net}
@@ -22,9 +22,15 @@ use Rattle.pt_trees.specs.Directors.{IsDirectedBy, composing}
 abbrev pub IsEntity : Net → ℕ → NetEntity → Type 0
 IsEntity net k e = slice_get net.entities.items k ≡ Some e
 
--- it is a library actor: it has no director
-abbrev pub IsUndirected : NetEntity → Type 0
-IsUndirected e = e.director ≡ None
+-- it is a library actor: it has no director, and is no Modal entity
+pub record IsUndirected (e : NetEntity) : Type 0 where
+  pub unnamed : e.director ≡ None
+  pub plain : bytes_eq e.class (codes "Modal") ≡ false
+
+-- it is a Modal entity
+pub record IsModalEntity (e : NetEntity) : Type 0 where
+  pub modal : bytes_eq e.class (codes "Modal") ≡ true
+  pub unnamed : e.director ≡ None
 
 -- it is a composite with a director, whichever
 pub record IsDirected (e : NetEntity) : Type 0 where

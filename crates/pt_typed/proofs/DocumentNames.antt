@@ -31,16 +31,16 @@ use Rattle.pt_typed.proofs.SeenFrames.{unviewed}
 
 -- ---- lists
 
-all-at : {X : Type 0} (P : X → Type 0) (xs : List X) (n : ℕ) (x : X) → AllByRecursion P xs → slice_get xs n ≡ Some x → P x
+pub all-at : {X : Type 0} (P : X → Type 0) (xs : List X) (n : ℕ) (x : X) → AllByRecursion P xs → slice_get xs n ≡ Some x → P x
 all-at P [] n x a e = absurd (cc)
 all-at P (y ∷ xs) zero x a e = subst P (same_Some y x e) a.0
 all-at P (y ∷ xs) (suc n) x a e = all-at P xs n x a.1 e
 
-all-from : {X : Type 0} (P : X → Type 0) (xs : List X) → ((n : ℕ) (x : X) → slice_get xs n ≡ Some x → P x) → AllByRecursion P xs
+pub all-from : {X : Type 0} (P : X → Type 0) (xs : List X) → ((n : ℕ) (x : X) → slice_get xs n ≡ Some x → P x) → AllByRecursion P xs
 all-from P [] h = tt
 all-from P (x ∷ xs) h = (h 0 x refl, all-from P xs (λ n y e. h (suc n) y e))
 
-all-kept : {X : Type 0} (P : X → Type 0) (test : X → Bool) (xs : List X) → AllByRecursion P xs → AllByRecursion (λ x. (test x ≡ true) × P x) (filter test xs)
+pub all-kept : {X : Type 0} (P : X → Type 0) (test : X → Bool) (xs : List X) → AllByRecursion P xs → AllByRecursion (λ x. (test x ≡ true) × P x) (filter test xs)
 all-kept P test [] a = tt
 all-kept P test (x ∷ xs) a = by_test (test x) refl (all-kept P test xs a.1)
   where
@@ -49,7 +49,7 @@ all-kept P test (x ∷ xs) a = by_test (test x) refl (all-kept P test xs a.1)
     by_test false e rest = rest
 
 -- what holds of each that passes holds of all that are kept
-kept-all : {X : Type 0} (Q : X → Type 0) (test : X → Bool) (xs : List X) → ((x : X) → IsIn x xs → test x ≡ true → Q x) → AllByRecursion Q (filter test xs)
+pub kept-all : {X : Type 0} (Q : X → Type 0) (test : X → Bool) (xs : List X) → ((x : X) → IsIn x xs → test x ≡ true → Q x) → AllByRecursion Q (filter test xs)
 kept-all Q test [] h = tt
 kept-all Q test (x ∷ xs) h = by_test (test x) refl (kept-all Q test xs (λ y i. h y (inr i)))
   where
@@ -59,7 +59,7 @@ kept-all Q test (x ∷ xs) h = by_test (test x) refl (kept-all Q test xs (λ y i
 
 -- ---- parameters
 
-not-true : (b : Bool) → not b ≡ true → b ≡ false
+pub not-true : (b : Bool) → not b ≡ true → b ≡ false
 not-true true e = absurd (cc)
 not-true false e = refl
 
@@ -74,7 +74,7 @@ not-false : (b : Bool) → (b ≡ false → ⊥) → b ≡ true
 not-false true h = refl
 not-false false h = absurd (h refl)
 
-not-reserved : (b : Bool) → (b ≡ true → ⊥) → b ≡ false
+pub not-reserved : (b : Bool) → (b ≡ true → ⊥) → b ≡ false
 not-reserved true h = absurd (h refl)
 not-reserved false h = refl
 
@@ -89,7 +89,7 @@ composite-kind class kind composite e = by_name (bytes_eq class (codes "Composit
     by_name false false one e = absurd (cc)
 
 -- no refusal stands in an entity that is read
-unbroken : (own : Parts) (r : IsRead own) (cause : Code) (path : List ℕ) → BreaksRule r.here own.properties own.ports r.kind cause path → ⊥
+pub unbroken : (own : Parts) (r : IsRead own) (cause : Code) (path : List ℕ) → BreaksRule r.here own.properties own.ports r.kind cause path → ⊥
 unbroken own r cause path b = rules_clean r.here r.kind own.properties own.ports cause path b r.given r.rules
 
 module _ (own : Parts) (r : IsRead own) where

@@ -107,7 +107,7 @@ either : (a b : Bool) → b ≡ true → (a || b) ≡ true
 either true b e = refl
 either false b e = e
 
-asking-reserved : (name port : List ℕ) → port_in name ≡ Some port → is_reserved name ≡ true
+pub asking-reserved : (name port : List ℕ) → port_in name ≡ Some port → is_reserved name ≡ true
 unfolding is_reserved
 asking-reserved name port e =
     let front = take (length name - length mark) name in

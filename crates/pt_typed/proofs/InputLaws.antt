@@ -37,7 +37,7 @@ use Rattle.pt_inequalities.specs.Typing.{IsTyping}
 use Rattle.pt_job.specs.Inputs.{inputs_at, own_inputs, named_ports, input_to, AreTokensOf, ComeTo}
 use Rattle.pt_kinds.specs.Signature.{AreAllOf}
 use Rattle.pt_typed.specs.TokenTypes.{IsTokenOf}
-use Rattle.pt_typed.specs.NetTypes.{place_type, arrivals, number_if, port_numbers, port_types, by_director, types_of}
+use Rattle.pt_typed.specs.NetTypes.{place_type, arrivals, number_if, port_numbers, port_types, by_class, types_of}
 use Rattle.pt_typed.specs.InputLaw.{present, InputsAreTyped}
 use Rattle.pt_typed.proofs.PortFacts.{all-met, all-front, all-back}
 use Rattle.pt_typed.proofs.RowsMet.{viewed}
@@ -165,7 +165,7 @@ module _ (net : Net) (values : Values) (typing : Assignment) (typed : IsTyping n
               (ap (λ n. suc n) w.0, (come-typed p.name i ts at (input_to (net_view net) p.name) refl y.0, w.1))
 
 pub inputs-typed : InputsAreTyped
-inputs-typed net values typing e d lists at directed own typed supplied =
+inputs-typed net values typing e lists at class own typed supplied =
     let es = map entity_view net.entities.items in
     let top : slice_get es 0 ≡ Some (entity_view e) = viewed entity_view net.entities.items 0 e at in
     let names : own_inputs (net_view net) ≡ inputs_of (entity_view e) = ap inputs_at top in
@@ -174,7 +174,7 @@ inputs-typed net values typing e d lists at directed own typed supplied =
     ap (λ (f : PortNumbers). f p.name) ports-is
     ∙ numbered no_ports 0 (entity_view e).ports n (port_view p) (viewed port_view e.ports.items n p g) (test-is net values typing typed (port_view p) p.direction ∙ input) (λ m q l there same. absurd (omega (arith, l, own m n q (port_view p) there (viewed port_view e.ports.items n p g) same))))
     (subst (λ ns. AllZip (ComeTo (net_view net) values) ns lists) names supplied) in
-    subst (λ ts. AreAllOf IsTokenOf ts (map present lists)) (sym (ap (λ (o : Option NetEntity). (types_of net typing 0 o).places) at ∙ ap (λ o. by_director o (port_types typing 0 (port_numbers is_input 0 e.ports.items)) (map (place_type typing) (arrivals net.channels.items 0))) directed)) all
+    subst (λ ts. AreAllOf IsTokenOf ts (map present lists)) (sym (ap (λ (o : Option NetEntity). (types_of net typing 0 o).places) at ∙ ap (λ b. by_class b (port_types typing 0 (port_numbers is_input 0 e.ports.items)) (map (place_type typing) (arrivals net.channels.items 0))) class)) all
   where
     top-ports : (es : List NetEntityTree) (t : NetEntityTree) → slice_get es 0 ≡ Some t → top_inputs es ≡ with_inputs no_ports 0 t.ports
     top-ports [] t e = absurd (cc)

@@ -135,5 +135,5 @@ turns-typed sigs (Once j) whole a zero last top tag X h = let ts = (sigs []).pla
 turns-typed sigs (Once j) whole a (suc n) last top tag X h = never-of (sigs []).places X tag h
 
 pub nets-keep-types : NetsKeepTypes
-nets-keep-types net typing starts top wired up meet is j whole a m k =
-    runs-keep (types_below net typing 0) m (schedule j) top (trees-are-typed net typing starts 0 top wired up meet is) (turns-typed (types_below net typing 0) j whole a) k
+nets-keep-types net typing starts top wired up meet modals is j whole a m k =
+    runs-keep (types_below net typing 0) m (schedule j) top (trees-are-typed net typing starts 0 top wired up meet modals is) (turns-typed (types_below net typing 0) j whole a) k

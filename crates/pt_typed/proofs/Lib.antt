@@ -38,3 +38,6 @@ pub mod HeldRows
 pub mod ExpressionPorts
 pub mod ExpressionRows
 pub mod DocumentNames
+pub mod ModalPorts
+pub mod ModalsMet
+pub mod ModalNames

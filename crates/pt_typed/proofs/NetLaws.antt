@@ -1,5 +1,5 @@
 -- Along each channel of a composite of a net types go up, in the numbers that its director uses.
-use Rattle.std.proofs.Common.{◌≡◌, ℕ, zero, suc, ◌+◌, List, [], ◌∷◌, ◌++◌, Bool, true, false, ◌&&◌, not, nat_eq, length, take, map, Option, Some, None, refl, sym, ap, ap₂, subst, arith, ◌∙◌, append_assoc, slice_get, if◌then◌else◌}
+use Rattle.std.proofs.Common.{◌≡◌, ℕ, zero, suc, ◌+◌, List, [], ◌∷◌, ◌++◌, Bool, true, false, ◌&&◌, not, nat_eq, length, take, map, Option, Some, refl, sym, ap, ap₂, subst, arith, ◌∙◌, append_assoc, slice_get, if◌then◌else◌}
 use Rattle.std.specs.Prelude.{filter, flat_map, count_by}
 use Rattle.std.specs.List.{AllByRecursion, Contains}
 use Rattle.std.proofs.lemmas.Bool.{eq-eqb, ne_eqb, eqb-true}
@@ -20,12 +20,13 @@ use Rattle.pt_net.specs.declared.net.NetDirector.{NetDirector}
 use Rattle.pt_net.specs.declared.net.NetEntity.{NetEntity}
 use Rattle.pt_net.specs.Inside.{children_of, child_number, is_input, is_output, number_by, port_number, ports_in, ports_at, source_of, is_within, channels_in, comes_to, place_count}
 use Rattle.pt_typing.specs.declared.variable.Variable.TheVariants as variable
+use Rattle.pt_scopes.specs.Scopes.{is_composite_class}
 use Rattle.pt_typing.specs.Least.{Assignment}
 use Rattle.pt_order.proofs.Children.{child-number, child-stands, get-is}
 use Rattle.pt_kinds.specs.Signature.{Signature, Signatures, below}
 use Rattle.pt_kinds.specs.TypedTree.{kind_of, kinds_from, AreSized, IsFed, AreFed}
 use Rattle.pt_cover.specs.Paths.{entity_at}
-use Rattle.pt_typed.specs.NetTypes.{source_type, place_type, TypesGoUp, arrivals, goes_out, departures, number_if, port_numbers, port_types, by_director, types_of, types_at, types_below, BeginsIn, at_own, at_child, IsWired}
+use Rattle.pt_typed.specs.NetTypes.{source_type, place_type, TypesGoUp, arrivals, goes_out, departures, number_if, port_numbers, port_types, by_class, types_of, types_at, types_below, BeginsIn, at_own, at_child, IsWired}
 
 -- ---- lists
 
@@ -114,25 +115,25 @@ module _ (net : Net) (typing : Assignment) (wired : IsWired net) where
   their-own = recursion_from_All (Contains ks) ks (All-contains_itself ks)
 
   -- what ends at a composite ends at its inputs, and its own outputs' channels end at these
-  pub input-types : (k c : ℕ) (e : NetEntity) (d : NetDirector) → slice_get es k ≡ Some e → e.director ≡ Some d → e.parent ≡ Some c → map (place_type typing) (arrivals ks k) ≡ port_types typing k (port_numbers is_input 0 e.ports.items)
-  input-types k c e d at directed round =
+  pub input-types : (k c : ℕ) (e f : NetEntity) (d : NetDirector) → slice_get es k ≡ Some e → is_composite_class e.class ≡ true → e.parent ≡ Some c → slice_get es c ≡ Some f → f.director ≡ Some d → map (place_type typing) (arrivals ks k) ≡ port_types typing k (port_numbers is_input 0 e.ports.items)
+  input-types k c e f d at class round holder directed =
       types-at-ends typing k (arrivals ks k) (all-implied (λ (x : Channel). Contains ks x × (comes_to k x ≡ true)) (λ (x : Channel). x.to.entity ≡ k) (λ x h. eqb-true x.to.entity k (and-first (nat_eq x.to.entity k) (not (nat_eq x.composite k)) h.1)) (arrivals ks k) (all-filtered (Contains ks) (comes_to k) ks their-own))
-      ∙ ap (port_types typing k) (wired.inputs k c e d at directed round)
+      ∙ ap (port_types typing k) (wired.inputs k c e f d at class round holder directed)
 
   pub output-types : (k : ℕ) (e : NetEntity) (d : NetDirector) → slice_get es k ≡ Some e → e.director ≡ Some d → map (place_type typing) (departures ks k) ≡ port_types typing k (port_numbers is_output 0 e.ports.items)
   output-types k e d at directed =
       types-at-ends typing k (departures ks k) (all-implied (λ (x : Channel). Contains ks x × (goes_out k x ≡ true)) (λ (x : Channel). x.to.entity ≡ k) (λ x h. eqb-true x.to.entity k (and-first (nat_eq x.to.entity k) (nat_eq x.composite k) h.1)) (departures ks k) (all-filtered (Contains ks) (goes_out k) ks their-own))
       ∙ ap (port_types typing k) (wired.outputs k e d at directed)
 
-  -- the types at the places of an entity in a composite are those of the channels that end there
-  pub places-are : (k c : ℕ) (e : NetEntity) → slice_get es k ≡ Some e → e.parent ≡ Some c → (o : Option NetDirector) → e.director ≡ o → (types_of net typing k (Some e)).places ≡ map (place_type typing) (arrivals ks k)
-  places-are k c e at round None d = ap (λ o. by_director o (port_types typing k (port_numbers is_input 0 e.ports.items)) (map (place_type typing) (arrivals ks k))) d
-  places-are k c e at round (Some x) d = ap (λ o. by_director o (port_types typing k (port_numbers is_input 0 e.ports.items)) (map (place_type typing) (arrivals ks k))) d ∙ sym (input-types k c e x at d round)
+  -- the types at the places of an entity in a composite with a director are those of the channels that end there
+  pub places-are : (k c : ℕ) (e f : NetEntity) (d : NetDirector) → slice_get es k ≡ Some e → e.parent ≡ Some c → slice_get es c ≡ Some f → f.director ≡ Some d → (b : Bool) → is_composite_class e.class ≡ b → (types_of net typing k (Some e)).places ≡ map (place_type typing) (arrivals ks k)
+  places-are k c e f d at round holder directed false class = ap (λ b. by_class b (port_types typing k (port_numbers is_input 0 e.ports.items)) (map (place_type typing) (arrivals ks k))) class
+  places-are k c e f d at round holder directed true class = ap (λ b. by_class b (port_types typing k (port_numbers is_input 0 e.ports.items)) (map (place_type typing) (arrivals ks k))) class ∙ sym (input-types k c e f d at class round holder directed)
 
-  -- the type of what begins at a source
-  module _ (k : ℕ) (e : NetEntity) (d : NetDirector) (at : slice_get es k ≡ Some e) (directed : e.director ≡ Some d) where
+  -- the types of the ports of a composite
+  module _ (k : ℕ) (e : NetEntity) (at : slice_get es k ≡ Some e) (class : is_composite_class e.class ≡ true) where
     pub own-places : (types_below net typing k []).places ≡ port_types typing k (port_numbers is_input 0 e.ports.items)
-    own-places = ap (λ (o : Option NetEntity). (types_of net typing k o).places) at ∙ ap (λ o. by_director o (port_types typing k (port_numbers is_input 0 e.ports.items)) (map (place_type typing) (arrivals ks k))) directed
+    own-places = ap (λ (o : Option NetEntity). (types_of net typing k o).places) at ∙ ap (λ b. by_class b (port_types typing k (port_numbers is_input 0 e.ports.items)) (map (place_type typing) (arrivals ks k))) class
 
     pub own-outputs : (types_below net typing k []).outputs ≡ port_types typing k (port_numbers is_output 0 e.ports.items)
     own-outputs = ap (λ (o : Option NetEntity). (types_of net typing k o).outputs) at
@@ -141,6 +142,8 @@ module _ (net : Net) (typing : Assignment) (wired : IsWired net) where
     pub child-below : (i c : ℕ) → slice_get (children_of es k) i ≡ Some c → below (types_below net typing k) i ≡ types_below net typing c
     child-below i c there = ap (λ (o : Option ℕ). λ (p : Path). types_at net typing (option_and_then (λ n. entity_at es n p) o)) there
 
+  -- the type of what begins at a source
+  module _ (k : ℕ) (e : NetEntity) (d : NetDirector) (at : slice_get es k ≡ Some e) (directed : e.director ≡ Some d) (class : is_composite_class e.class ≡ true) where
     pub source-kind : (x : Channel) → x.composite ≡ k → BeginsIn net x → kind_of (types_below net typing k) (source_of es x) ≡ Some (source_type typing x)
     source-kind x inside (at_own f p same there port way) =
         let n = x.from.port in
@@ -151,7 +154,7 @@ module _ (net : Net) (typing : Assignment) (wired : IsWired net) where
         ap (λ b. if b then Own (port_number (ports_at es x.from.entity) n) else Output (child_number es x.from.entity) (port_number (ports_at es x.from.entity) n)) (eq-eqb x.from.entity x.composite same)
         ∙ ap (λ m. Own m) (ap (λ ps. port_number ps n) (ap ports_in (ap (slice_get es) here ∙ at)) ∙ input-number e.ports.items n p port' way) in
         ap (kind_of (types_below net typing k)) own
-        ∙ ap (λ ts. get ts (count_by is_input (take n e.ports.items))) own-places
+        ∙ ap (λ ts. get ts (count_by is_input (take n e.ports.items))) (own-places k e at class)
         ∙ get-map (λ m. typing.types (variable.Port k m)) (port_numbers is_input 0 e.ports.items) (count_by is_input (take n e.ports.items)) n (number-at is_input e.ports.items n p port' way)
         ∙ ap (λ m. Some (typing.types (variable.Port m n))) (sym here)
     source-kind x inside (at_child f p other there round port way) =
@@ -162,7 +165,7 @@ module _ (net : Net) (typing : Assignment) (wired : IsWired net) where
         ap (λ b. if b then Own (port_number (ports_at es j) n) else Output (child_number es j) (port_number (ports_at es j) n)) (ne_eqb j x.composite other)
         ∙ ap (λ m. Output (child_number es j) m) (ap (λ ps. port_number ps n) (ap ports_in there) ∙ output-number f.ports.items n p port way) in
         ap (kind_of (types_below net typing k)) out
-        ∙ ap (λ (s : Signatures Datatype). get (s []).outputs (count_by is_output (take n f.ports.items))) (child-below (child_number es j) j number)
+        ∙ ap (λ (s : Signatures Datatype). get (s []).outputs (count_by is_output (take n f.ports.items))) (child-below k e at class (child_number es j) j number)
         ∙ ap (λ (o : Option NetEntity). get (types_of net typing j o).outputs (count_by is_output (take n f.ports.items))) there
         ∙ get-map (λ m. typing.types (variable.Port j m)) (port_numbers is_output 0 f.ports.items) (count_by is_output (take n f.ports.items)) n (number-at is_output f.ports.items n p port way)
 
@@ -183,9 +186,9 @@ module _ (net : Net) (typing : Assignment) (wired : IsWired net) where
     place-at : (j c : ℕ) → slice_get (children_of es k) j ≡ Some c → (types_below net typing k (j ∷ [])).places ≡ map (place_type typing) (arrivals ks c)
     place-at j c there =
         let w = child-stands k es j c there in
-        ap (λ (s : Signatures Datatype). (s []).places) (child-below j c there)
+        ap (λ (s : Signatures Datatype). (s []).places) (child-below k e at class j c there)
         ∙ ap (λ (o : Option NetEntity). (types_of net typing c o).places) w.1
-        ∙ places-are c k w.0 w.1 w.2 w.0.director refl
+        ∙ places-are c k w.0 e d w.1 w.2 at directed (is_composite_class w.0.class) refl
 
     all-places : PlacesFrom 0 (children_of es k)
     all-places = places-from 0 (children_of es k) (λ j c there. subst (λ m. (types_below net typing k (m ∷ [])).places ≡ map (place_type typing) (arrivals ks c)) (let z : j ≡ 0 + j = omega arith in z) (place-at j c there))
@@ -193,7 +196,7 @@ module _ (net : Net) (typing : Assignment) (wired : IsWired net) where
     -- with these behind them
     module _ (unfed : List Datatype) where
       kinds-of : (i : ℕ) (cs : List ℕ) → PlacesFrom i cs → kinds_from (types_below net typing k) unfed i (map (place_count ks) cs) ≡ map (place_type typing) (flat_map (arrivals ks) cs ++ departures ks k) ++ unfed
-      kinds-of i [] a = ap (λ ts. ts ++ unfed) (own-outputs ∙ sym (output-types k e d at directed))
+      kinds-of i [] a = ap (λ ts. ts ++ unfed) (own-outputs k e at class ∙ sym (output-types k e d at directed))
       kinds-of i (c ∷ cs) a =
           let rest = flat_map (arrivals ks) cs ++ departures ks k in
           ap₂ (λ xs ys. xs ++ ys) a.0 (kinds-of (suc i) cs a.1)

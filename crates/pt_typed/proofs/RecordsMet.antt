@@ -1,5 +1,5 @@
 -- The typing of a net meets the rows of a RecordAssembler and of a RecordDisassembler.
-use Rattle.std.proofs.Common.{◌≡◌, inl, inr, ℕ, zero, suc, ◌+◌, List, [], ◌∷◌, ◌++◌, length, map, replicate, true, false, Option, Some, None, refl, sym, ap, subst, ◌∙◌, slice_get, arith, if◌then◌else◌}
+use Rattle.std.proofs.Common.{◌≡◌, inl, inr, ℕ, zero, suc, ◌+◌, List, [], ◌∷◌, ◌++◌, length, map, replicate, true, false, Option, Some, refl, sym, ap, subst, ◌∙◌, slice_get, arith, if◌then◌else◌}
 use Rattle.std.specs.Prelude.{codes, bytes_eq}
 use Rattle.std.specs.List.{AllByRecursion, zip, enumerate_from}
 use Rattle.std.proofs.lemmas.Option.{same_Some}
@@ -50,10 +50,11 @@ use Rattle.pt_lib_timed.specs.TimedActor as timed_actor
 use Rattle.pt_library.specs.declared.library_actor.LibraryActor.{LibraryActor}
 use Rattle.pt_library.specs.declared.library_actor.LibraryActor.TheVariants.{Flow, Data, Time, Timed}
 use Rattle.pt_library.specs.LibraryActor.{start}
+use Rattle.pt_scopes.specs.Scopes.{is_composite_class}
 use Rattle.pt_typed.specs.TokenTypes.{IsUnder, ToFirst, field_of}
 use Rattle.pt_typed.specs.TypedActor.{MeetsRow}
 use Rattle.pt_typed.specs.TypedData.{IsTypedFunction}
-use Rattle.pt_typed.specs.NetTypes.{arrivals, place_type, port_numbers, port_types, by_director, types_of, types_below}
+use Rattle.pt_typed.specs.NetTypes.{arrivals, place_type, port_numbers, port_types, by_class, types_of, types_below}
 use Rattle.pt_typed.specs.NetRows.{ends_if, ends_from, channels_at, HasClassPorts, is_record_function, is_record_actor}
 use Rattle.pt_typed.specs.RowLaw.{RecordRowsAreMet}
 use Rattle.pt_typed.proofs.NetLaws.{types-at-ends, ends-of}
@@ -103,7 +104,7 @@ pub directions-behind : (ps : List PortTree) (p : PortTree) → map (λ (q : Por
 directions-behind [] p = refl
 directions-behind (q ∷ ps) p = ap (λ ds. q.direction ∷ ds) (directions-behind ps p)
 
-module _ (net : Net) (values : Values) (typing : Assignment) (k : ℕ) (e : NetEntity) (at : slice_get net.entities.items k ≡ Some e) (undirected : e.director ≡ None) (has : HasClassPorts net k e) (typed : IsTyping net values typing) (params : Params)
+module _ (net : Net) (values : Values) (typing : Assignment) (k : ℕ) (e : NetEntity) (at : slice_get net.entities.items k ≡ Some e) (plain : is_composite_class e.class ≡ false) (has : HasClassPorts net k e) (typed : IsTyping net values typing) (params : Params)
     (classed : params.class ≡ e.class) (v : valued.EntityView) (held : slice_get (map valued.entity_view values.entities.items) k ≡ Some v) (ports-are : params.ports ≡ ports_of net.channels.items k (entity_view e)) where
   abbrev types : ℕ → Datatype
   types n = typing.types (variable.Port k n)
@@ -124,7 +125,7 @@ module _ (net : Net) (values : Values) (typing : Assignment) (k : ℕ) (e : NetE
   places-by : (ps : List PortTree) → (entity_view e).ports ≡ ps → (types_below net typing k []).places ≡ map types (ends_from counts 0 (ways ps))
   places-by ps is =
       ap (λ (o : Option NetEntity). (types_of net typing k o).places) at
-      ∙ ap (λ o. by_director o (port_types typing k (port_numbers is_input 0 e.ports.items)) (map (place_type typing) (arrivals net.channels.items k))) undirected
+      ∙ ap (λ o. by_class o (port_types typing k (port_numbers is_input 0 e.ports.items)) (map (place_type typing) (arrivals net.channels.items k))) plain
       ∙ types-at-ends typing k (arrivals net.channels.items k) (ends-of net k)
       ∙ ap (port_types typing k) (has.ends ∙ ap (λ qs. ends_from counts 0 (ways qs)) is)
 
@@ -218,7 +219,7 @@ module _ (net : Net) (values : Values) (typing : Assignment) (k : ℕ) (e : NetE
 other-function : {P : Type 0} (f g : Function) → g ≡ f → is_record_function g ≡ false → is_record_function f ≡ true → P
 other-function f g e n p = absurd (let no : false ≡ true = sym n ∙ ap is_record_function e ∙ p in cc)
 
-module _ (net : Net) (values : Values) (typing : Assignment) (k : ℕ) (e : NetEntity) (at : slice_get net.entities.items k ≡ Some e) (undirected : e.director ≡ None) (has : HasClassPorts net k e) (typed : IsTyping net values typing) (params : Params)
+module _ (net : Net) (values : Values) (typing : Assignment) (k : ℕ) (e : NetEntity) (at : slice_get net.entities.items k ≡ Some e) (plain : is_composite_class e.class ≡ false) (has : HasClassPorts net k e) (typed : IsTyping net values typing) (params : Params)
     (classed : params.class ≡ e.class) (v : valued.EntityView) (held : slice_get (map valued.entity_view values.entities.items) k ≡ Some v) (ports-are : params.ports ≡ ports_of net.channels.items k (entity_view e)) where
   by-class : (c : DataClass) (a : DataActor) → function.class_of params.class ≡ Some c → data_actor.started_as c params.values params.ports ≡ Some a → (f : Function) → function.start_as c params.values params.ports ≡ Some f → is_record_function f ≡ true → MeetsRow (types_below net typing k []) (Data a)
   by-class kinds.ArrayElement a is started f e' p = let w = mapped made.ArrayElement (array_element.start params.values) f e' in other-function f (made.ArrayElement w.0) w.2 refl p
@@ -230,8 +231,8 @@ module _ (net : Net) (values : Values) (typing : Assignment) (k : ℕ) (e : NetE
   by-class kinds.Limiter a is started f e' p = let w = mapped made.Limiter (limiter.start params.values) f e' in other-function f (made.Limiter w.0) w.2 refl p
   by-class kinds.LogicFunction a is started f e' p = let w = mapped made.LogicFunction (logic_function.start params.values) f e' in other-function f (made.LogicFunction w.0) w.2 refl p
   by-class kinds.LogicalNot a is started f e' p = other-function f made.LogicalNot (same_Some made.LogicalNot f e') refl p
-  by-class kinds.RecordAssembler a is started f e' p = assembler-meets net values typing k e at undirected has typed params classed v held ports-are a is started
-  by-class kinds.RecordDisassembler a is started f e' p = disassembler-meets net values typing k e at undirected has typed params classed v held ports-are a is started
+  by-class kinds.RecordAssembler a is started f e' p = assembler-meets net values typing k e at plain has typed params classed v held ports-are a is started
+  by-class kinds.RecordDisassembler a is started f e' p = disassembler-meets net values typing k e at plain has typed params classed v held ports-are a is started
   by-class kinds.SequenceToArray a is started f e' p = let w = mapped made.SequenceToArray (sequence_to_array.start params.values) f e' in other-function f (made.SequenceToArray w.0) w.2 refl p
   by-class kinds.StringLength a is started f e' p = other-function f made.StringLength (same_Some made.StringLength f e') refl p
 
@@ -247,8 +248,8 @@ module _ (net : Net) (values : Values) (typing : Assignment) (k : ℕ) (e : NetE
   ]
 
 pub record-rows-met : RecordRowsAreMet
-record-rows-met net values typing k e a at undirected has typed started p =
+record-rows-met net values typing k e a at plain has typed started p =
     let from = started.started_from in
     let view : entity_view e ≡ from.entity = same_Some (entity_view e) from.entity (sym (viewed entity_view net.entities.items k e at) ∙ from.at) in
-    record-meets net values typing k e at undirected has typed started.params (from.from.class_is ∙ ap (λ (d : NetEntityTree). d.class) (sym view)) (valued.entity_view from.held) (viewed valued.entity_view values.entities.items k from.held from.held_at)
+    record-meets net values typing k e at plain has typed started.params (from.from.class_is ∙ ap (λ (d : NetEntityTree). d.class) (sym view)) (valued.entity_view from.held) (viewed valued.entity_view values.entities.items k from.held from.held_at)
     (from.from.ports_are ∙ ap (ports_of net.channels.items k) (sym view)) a started.is p

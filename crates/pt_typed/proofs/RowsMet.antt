@@ -47,12 +47,13 @@ use Rattle.pt_lib_timed.specs.TimedActor as timed_actor
 use Rattle.pt_library.specs.declared.library_actor.LibraryActor.{LibraryActor}
 use Rattle.pt_library.specs.declared.library_actor.LibraryActor.TheVariants.{Flow, Data, Time, Timed}
 use Rattle.pt_library.specs.LibraryActor.{start}
+use Rattle.pt_scopes.specs.Scopes.{is_composite_class}
 use Rattle.pt_typed.specs.TypedActor.{MeetsRow}
 use Rattle.pt_typed.specs.TypedFlow.{IsTypedFlow}
 use Rattle.pt_typed.specs.TypedData.{IsTypedFunction}
 use Rattle.pt_typed.specs.TypedTime.{IsTypedTime}
 use Rattle.pt_typed.specs.TypedTimed.{IsTypedTimed}
-use Rattle.pt_typed.specs.NetTypes.{arrivals, place_type, number_if, port_numbers, port_types, by_director, types_of, types_below}
+use Rattle.pt_typed.specs.NetTypes.{arrivals, place_type, number_if, port_numbers, port_types, by_class, types_of, types_below}
 use Rattle.pt_typed.specs.NetRows.{ends_from, channels_at, HasClassPorts, is_plain_flow, is_plain_function, is_plain_time, is_plain_timed, is_plain_actor}
 use Rattle.pt_typed.specs.RowLaw.{PlainRowsAreMet}
 use Rattle.pt_typed.proofs.NetLaws.{types-at-ends, ends-of}
@@ -145,7 +146,7 @@ viewed f [] n x e = absurd (cc)
 viewed f (y ∷ xs) zero x e = ap (λ z. Some (f z)) (same_Some y x e)
 viewed f (y ∷ xs) (suc n) x e = viewed f xs n x e
 
-module _ (net : Net) (values : Values) (typing : Assignment) (k : ℕ) (e : NetEntity) (at : slice_get net.entities.items k ≡ Some e) (undirected : e.director ≡ None) (has : HasClassPorts net k e) (typed : IsTyping net values typing) (params : Params)
+module _ (net : Net) (values : Values) (typing : Assignment) (k : ℕ) (e : NetEntity) (at : slice_get net.entities.items k ≡ Some e) (plain : is_composite_class e.class ≡ false) (has : HasClassPorts net k e) (typed : IsTyping net values typing) (params : Params)
     (classed : params.class ≡ e.class) (v : valued.EntityView) (held : slice_get (map valued.entity_view values.entities.items) k ≡ Some v) where
   abbrev types : ℕ → Datatype
   types n = typing.types (variable.Port k n)
@@ -176,7 +177,7 @@ module _ (net : Net) (values : Values) (typing : Assignment) (k : ℕ) (e : NetE
     pub its-places : (types_below net typing k []).places ≡ map types (ends_from (channels_at net k) 0 (map (λ (h : List ℕ × Direction). h.1) heads))
     its-places =
         ap (λ (o : Option NetEntity). (types_of net typing k o).places) at
-        ∙ ap (λ o. by_director o (port_types typing k (port_numbers is_input 0 e.ports.items)) (map (place_type typing) (arrivals net.channels.items k))) undirected
+        ∙ ap (λ o. by_class o (port_types typing k (port_numbers is_input 0 e.ports.items)) (map (place_type typing) (arrivals net.channels.items k))) plain
         ∙ types-at-ends typing k (arrivals net.channels.items k) (ends-of net k)
         ∙ ap (port_types typing k) (has.ends ∙ ap (ends_from (channels_at net k) 0) its-directions)
 
@@ -258,7 +259,7 @@ module _ (net : Net) (values : Values) (typing : Assignment) (k : ℕ) (e : NetE
   ]
 
 pub plain-rows-met : PlainRowsAreMet
-plain-rows-met net values typing k e a at undirected has typed started p =
+plain-rows-met net values typing k e a at plain has typed started p =
     let from = started.started_from in
     let view : entity_view e ≡ from.entity = same_Some (entity_view e) from.entity (sym (viewed entity_view net.entities.items k e at) ∙ from.at) in
-    plain-meets net values typing k e at undirected has typed started.params (from.from.class_is ∙ ap (λ (d : NetEntityTree). d.class) (sym view)) (valued.entity_view from.held) (viewed valued.entity_view values.entities.items k from.held from.held_at) a started.is p
+    plain-meets net values typing k e at plain has typed started.params (from.from.class_is ∙ ap (λ (d : NetEntityTree). d.class) (sym view)) (valued.entity_view from.held) (viewed valued.entity_view values.entities.items k from.held from.held_at) a started.is p

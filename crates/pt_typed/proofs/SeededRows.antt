@@ -75,6 +75,7 @@ use Rattle.pt_lib_timed.specs.TimedActor as timed_actor
 use Rattle.pt_library.specs.declared.library_actor.LibraryActor.{LibraryActor}
 use Rattle.pt_library.specs.declared.library_actor.LibraryActor.TheVariants.{Flow, Data, Time, Timed}
 use Rattle.pt_library.specs.LibraryActor.{start}
+use Rattle.pt_scopes.specs.Scopes.{is_composite_class}
 use Rattle.pt_typed.specs.TokenTypes.{IsTokenOf}
 use Rattle.pt_typed.specs.TypedActor.{MeetsRow}
 use Rattle.pt_typed.specs.TypedFlow.{IsTypedFlow}
@@ -141,7 +142,7 @@ append-none : {X : Type 0} (xs : List X) → xs ++ [] ≡ xs
 append-none [] = refl
 append-none (x ∷ xs) = ap (λ ys. x ∷ ys) (append-none xs)
 
-module _ (net : Net) (values : Values) (typing : Assignment) (k : ℕ) (e : NetEntity) (at : slice_get net.entities.items k ≡ Some e) (undirected : e.director ≡ None) (has : HasClassPorts net k e) (typed : IsTyping net values typing) (params : Params)
+module _ (net : Net) (values : Values) (typing : Assignment) (k : ℕ) (e : NetEntity) (at : slice_get net.entities.items k ≡ Some e) (plain : is_composite_class e.class ≡ false) (has : HasClassPorts net k e) (typed : IsTyping net values typing) (params : Params)
     (classed : params.class ≡ e.class) (v : valued.EntityView) (held : slice_get (map valued.entity_view values.entities.items) k ≡ Some v) (vs : List ParameterValue) (its-values : v.parameters ≡ map held_view vs) (holds : HoldsTokens (entity_view e).parameters vs) (values-are : params.values ≡ own_tokens (entity_view e).parameters vs) where
   abbrev types : ℕ → Datatype
   types n = typing.types (variable.Port k n)
@@ -173,9 +174,9 @@ module _ (net : Net) (values : Values) (typing : Assignment) (k : ℕ) (e : NetE
       let name = flows.name_of c in
       let named = flows.class-named params.class c is in
       let heads = flow_classes.heads_of c in
-      let places = its-places net values typing k e at undirected has typed params classed v held name named heads (flow_classes.heads-are c) declares in
-      let outputs = its-outputs net values typing k e at undirected has typed params classed v held name named heads (flow_classes.heads-are c) declares in
-      let facts = its-facts net values typing k e at undirected has typed params classed v held name named heads (flow_classes.heads-are c) declares in
+      let places = its-places net values typing k e at plain has typed params classed v held name named heads (flow_classes.heads-are c) declares in
+      let outputs = its-outputs net values typing k e at plain has typed params classed v held name named heads (flow_classes.heads-are c) declares in
+      let facts = its-facts net values typing k e at plain has typed params classed v held name named heads (flow_classes.heads-are c) declares in
       let asked = h (sym classed ∙ named) (subst (λ ts. PortFacts row types 0 ts) (flow_classes.types-are c) facts) in
       subst (λ qs. IsTypedFlow qs (types_below net typing k []).outputs a) (sym places) (subst (λ us. IsTypedFlow (map types (ends_from (channels_at net k) 0 (map (λ (h : List ℕ × Direction). h.1) heads))) us a) (sym outputs) asked)
 
@@ -231,9 +232,9 @@ module _ (net : Net) (values : Values) (typing : Assignment) (k : ℕ) (e : NetE
       let named = signals.class-named params.class c is in
       let heads = time_classes.heads_of c in
       let declares = time_classes.declares-none c in
-      let places = its-places net values typing k e at undirected has typed params classed v held name named heads (time_classes.heads-are c) declares in
-      let outputs = its-outputs net values typing k e at undirected has typed params classed v held name named heads (time_classes.heads-are c) declares in
-      let facts = its-facts net values typing k e at undirected has typed params classed v held name named heads (time_classes.heads-are c) declares in
+      let places = its-places net values typing k e at plain has typed params classed v held name named heads (time_classes.heads-are c) declares in
+      let outputs = its-outputs net values typing k e at plain has typed params classed v held name named heads (time_classes.heads-are c) declares in
+      let facts = its-facts net values typing k e at plain has typed params classed v held name named heads (time_classes.heads-are c) declares in
       let asked = h (sym classed ∙ named) (subst (λ ts. PortFacts row types 0 ts) (time_classes.types-are c) facts) in
       subst (λ qs. IsTypedTime qs (types_below net typing k []).outputs a) (sym places) (subst (λ us. IsTypedTime (map types (ends_from (channels_at net k) 0 (map (λ (h : List ℕ × Direction). h.1) heads))) us a) (sym outputs) asked)
 
@@ -278,10 +279,10 @@ module _ (net : Net) (values : Values) (typing : Assignment) (k : ℕ) (e : NetE
       let its = sym classed ∙ named in
       let heads = timed_classes.heads_of c in
       let declares = timed_classes.declares-none c in
-      let places = its-places net values typing k e at undirected has typed params classed v held name named heads (timed_classes.heads-are c) declares in
-      let outputs = its-outputs net values typing k e at undirected has typed params classed v held name named heads (timed_classes.heads-are c) declares in
-      let facts = subst (λ ts. PortFacts row types 0 ts) (timed_classes.types-are c) (its-facts net values typing k e at undirected has typed params classed v held name named heads (timed_classes.heads-are c) declares) in
-      let singles = subst (λ ms. SinglesFrom (channels_at net k) 0 ms) (timed_classes.marks-are c) (its-singles net values typing k e at undirected has typed params classed v held name named heads (timed_classes.heads-are c) declares) in
+      let places = its-places net values typing k e at plain has typed params classed v held name named heads (timed_classes.heads-are c) declares in
+      let outputs = its-outputs net values typing k e at plain has typed params classed v held name named heads (timed_classes.heads-are c) declares in
+      let facts = subst (λ ts. PortFacts row types 0 ts) (timed_classes.types-are c) (its-facts net values typing k e at plain has typed params classed v held name named heads (timed_classes.heads-are c) declares) in
+      let singles = subst (λ ms. SinglesFrom (channels_at net k) 0 ms) (timed_classes.marks-are c) (its-singles net values typing k e at plain has typed params classed v held name named heads (timed_classes.heads-are c) declares) in
       let asked = seeded-fits typing k params ps vs holds values-are (channels_at net k) c a s started (parameters-met name its, standards-met name its) facts singles in
       subst (λ qs. IsTypedTimed qs (types_below net typing k []).outputs a) (sym places) (subst (λ us. IsTypedTimed (map types (ends_from (channels_at net k) 0 (map (λ (h : List ℕ × Direction). h.1) heads))) us a) (sym outputs) asked)
 
@@ -294,7 +295,7 @@ module _ (net : Net) (values : Values) (typing : Assignment) (k : ℕ) (e : NetE
   ]
 
 pub seeded-rows-met : SeededRowsAreMet
-seeded-rows-met net values typing k e a at undirected has valued-so typed started s =
+seeded-rows-met net values typing k e a at plain has valued-so typed started s =
     let from = started.started_from in
     let holds = parameters-hold-tokens net values (types_of_ports typing) k a valued-so started s in
     let params = started.params in
@@ -303,4 +304,4 @@ seeded-rows-met net values typing k e a at undirected has valued-so typed starte
     let holds-here : HoldsTokens (entity_view e).parameters vs = subst (λ (d : NetEntityTree). HoldsTokens d.parameters vs) (sym view) holds in
     let values-are : params.values ≡ own_tokens (entity_view e).parameters vs =
     from.from.values_are ∙ ap (λ o. own_tokens from.entity.parameters vs ++ seen_tokens from.seen o) (no-tree vs holds.held) ∙ append-none (own_tokens from.entity.parameters vs) ∙ ap (λ (d : NetEntityTree). own_tokens d.parameters vs) (sym view) in
-    all-meet net values typing k e at undirected has typed params (from.from.class_is ∙ ap (λ (d : NetEntityTree). d.class) (sym view)) (valued.entity_view from.held) (viewed valued.entity_view values.entities.items k from.held from.held_at) vs refl holds-here values-are a started.is s
+    all-meet net values typing k e at plain has typed params (from.from.class_is ∙ ap (λ (d : NetEntityTree). d.class) (sym view)) (valued.entity_view from.held) (viewed valued.entity_view values.entities.items k from.held from.held_at) vs refl holds-here values-are a started.is s

@@ -13,8 +13,10 @@ use Rattle.pt_meaning.specs.Running.{total}
 use Rattle.pt_meaning.specs.Kahn.{skip_places}
 use Rattle.pt_meaning.specs.Sdf.{SdfPlan, unfed}
 use Rattle.pt_meaning.specs.Start.{first_of_node, first_of, first_held}
+use Rattle.pt_meaning.specs.Modal.{first_modes}
 use Rattle.pt_meaning.specs.Tree.{Core, list_of, nodes_of, Actor, Composite}
 use Rattle.pt_value.specs.declared.token.Token.{Token}
+use Rattle.pt_document.specs.declared.classes.Director.{Director}
 use Rattle.pt_document.specs.declared.classes.Director.TheVariants.{Sdf, Pn, Rendezvous, Sr, De}
 use Rattle.pt_document.specs.declared.job.Port.{Port}
 use Rattle.pt_datatypes.specs.Datatype.{Datatype}
@@ -26,7 +28,9 @@ use Rattle.pt_net.specs.declared.net.NetDirector.{NetDirector}
 use Rattle.pt_net.specs.declared.net.NetEntity.{NetEntity}
 use Rattle.pt_net.specs.Inside.{children_of, place_count, source_of, channels_in, is_within, is_input, is_output}
 use Rattle.pt_typing.specs.declared.variable.Variable.TheVariants as variable
+use Rattle.pt_scopes.specs.Scopes.{is_composite_class}
 use Rattle.pt_typing.specs.Least.{Assignment}
+use Rattle.pt_chart.specs.Chart.{chart_of}
 use Rattle.pt_library.specs.declared.library_actor.LibraryActor.{LibraryActor}
 use Rattle.pt_library.specs.LibraryActor.{rows}
 use Rattle.pt_plan.specs.declared.inside.Inside.{Inside}
@@ -42,14 +46,16 @@ use Rattle.pt_trees.specs.Pn.{pn_plan}
 use Rattle.pt_trees.specs.Directors.{IsDirectedBy, composing}
 use Rattle.pt_stated.specs.declared.stated.Stated.{Stated}
 use Rattle.pt_trees.specs.Rates.{all_given}
-use Rattle.pt_trees.specs.Trees.{Starts, StartsAs, around_in, IsTree, of_actor, of_composite, AreTrees, no_trees, more_trees}
-use Rattle.pt_trees.proofs.DirectorLaws.{is-directed, none-modal}
+use Rattle.pt_trees.specs.Trees.{Starts, around_in, IsTree, of_actor, of_composite, AreTrees, no_trees, more_trees}
+use Rattle.pt_trees.specs.Modal.{IsModalCore}
+use Rattle.pt_trees.proofs.DirectorLaws.{is-directed}
+use Rattle.pt_order.proofs.TreeCover.{directed-class}
 use Rattle.pt_kinds.specs.Signature.{Signatures, AreOf}
 use Rattle.pt_typed.specs.TokenTypes.{IsTokenOf}
 use Rattle.pt_typed.specs.TypedActor.{MeetsRow, IsTypedActor}
-use Rattle.pt_kinds.specs.TypedTree.{kind_of, kinds_from, kind_before, kinds_at, kinds_in, AreSized, AreFed, IsTypedNet, IsTypedSdf, IsTypedPn, IsTypedCore, IsTypedNode, AreTypedNodes}
+use Rattle.pt_kinds.specs.TypedTree.{kind_of, kinds_from, kind_before, kinds_at, kinds_in, AreSized, AreFed, IsTypedNet, IsTypedSdf, IsTypedPn, IsTypedModal, IsTypedCore, IsTypedNode, AreTypedNodes}
 use Rattle.pt_typed.specs.NetTypes.{number_if, port_numbers, source_type, place_type, TypesGoUp, types_below, IsWired}
-use Rattle.pt_typed.specs.TypedNet.{MeetRows, TreesAreTyped}
+use Rattle.pt_typed.specs.TypedNet.{MeetRows, MeetModals, TreesAreTyped}
 use Rattle.pt_kinds.proofs.StreamLaws.{all-mono}
 use Rattle.pt_typed.proofs.TypeLaws.{token-wider}
 use Rattle.pt_typed.proofs.ActorLaws.{rows-type, first-tokens}
@@ -83,7 +89,7 @@ numbers-count test i (p ∷ ps) = by_test (test p) (numbers-count test (suc i) p
     by_test true rest = ap (λ n. suc n) rest
     by_test false rest = rest
 
-module _ (net : Net) (typing : Assignment) (starts : Starts) (wired : IsWired net) (up : TypesGoUp net typing) (meet : MeetRows net typing starts) where
+module _ (net : Net) (typing : Assignment) (starts : Starts) (wired : IsWired net) (up : TypesGoUp net typing) (meet : MeetRows net typing starts) (meet_modals : MeetModals net typing starts) where
   trees-length : {cs : List ℕ} {ts : List Tree} → AreTrees net starts cs ts → length ts ≡ length cs
   trees-length no_trees = refl
   trees-length (more_trees k ks t ts a b) = ap (λ n. suc n) (trees-length b)
@@ -105,7 +111,7 @@ module _ (net : Net) (typing : Assignment) (starts : Starts) (wired : IsWired ne
   kid-at (more_trees k ks s ts a b) zero t e = let same : s ≡ t = same_Some s t e in (k, refl, subst (λ v. FirstMeets k v) same (first-meets a))
   kid-at (more_trees k ks s ts a b) (suc i) t e = kid-at b i t e
 
-  module _ (k : ℕ) (e : NetEntity) (d : NetDirector) (at : slice_get net.entities.items k ≡ Some e) (directed : e.director ≡ Some d) (kids : List Tree) (trees : AreTrees net starts (children_of net.entities.items k) kids) where
+  module _ (k : ℕ) (e : NetEntity) (d : NetDirector) (at : slice_get net.entities.items k ≡ Some e) (directed : e.director ≡ Some d) (class : is_composite_class e.class ≡ true) (kids : List Tree) (trees : AreTrees net starts (children_of net.entities.items k) kids) where
     abbrev sigs : Signatures Datatype
     sigs = types_below net typing k
 
@@ -115,7 +121,7 @@ module _ (net : Net) (typing : Assignment) (starts : Starts) (wired : IsWired ne
     node-first i port u (Some (Composite h' c d' ks)) g h = tt
     node-first i port u (Some (Actor h' a b)) g h =
         let w = kid-at trees i (Actor h' a b) g in
-        first-tokens (sigs (i ∷ [])) a port u (subst (λ (s : Signatures Datatype). MeetsRow (s []) a) (sym (child-below net typing wired k e d at directed i w.0 w.1)) w.2) h
+        first-tokens (sigs (i ∷ [])) a port u (subst (λ (s : Signatures Datatype). MeetsRow (s []) a) (sym (child-below net typing wired k e at class i w.0 w.1)) w.2) h
 
     source-first : (c : Source) (u : Datatype) → kind_of sigs c ≡ Some u → AllByRecursion (IsTokenOf u) (first_of rows kids c)
     source-first (Own port) u h = tt
@@ -123,10 +129,10 @@ module _ (net : Net) (typing : Assignment) (starts : Starts) (wired : IsWired ne
 
     -- the own ports of the composite
     inputs-count : length (sigs []).places ≡ count_by is_input e.ports.items
-    inputs-count = ap length (own-places net typing wired k e d at directed) ∙ length-map (port_numbers is_input 0 e.ports.items) (λ i. typing.types (variable.Port k i)) ∙ numbers-count is_input 0 e.ports.items ∙ length-filter is_input e.ports.items
+    inputs-count = ap length (own-places net typing wired k e at class) ∙ length-map (port_numbers is_input 0 e.ports.items) (λ i. typing.types (variable.Port k i)) ∙ numbers-count is_input 0 e.ports.items ∙ length-filter is_input e.ports.items
 
     outputs-count : length (sigs []).outputs ≡ count_by is_output e.ports.items
-    outputs-count = ap length (own-outputs net typing wired k e d at directed) ∙ length-map (port_numbers is_output 0 e.ports.items) (λ i. typing.types (variable.Port k i)) ∙ numbers-count is_output 0 e.ports.items ∙ length-filter is_output e.ports.items
+    outputs-count = ap length (own-outputs net typing wired k e at class) ∙ length-map (port_numbers is_output 0 e.ports.items) (λ i. typing.types (variable.Port k i)) ∙ numbers-count is_output 0 e.ports.items ∙ length-filter is_output e.ports.items
 
     -- where its channels begin that end at a place or at an own output, and how many places its children have
     abbrev ending : List Source
@@ -137,11 +143,11 @@ module _ (net : Net) (typing : Assignment) (starts : Starts) (wired : IsWired ne
 
     ending-count : length ending ≡ total places + length (sigs []).outputs
     ending-count =
-        let all : length (kinds_from sigs [] 0 places) ≡ length (map (place_type typing) (channels_in net.channels.items k) ++ []) = ap length (kinds-are net typing wired k e d at directed []) in
+        let all : length (kinds_from sigs [] 0 places) ≡ length (map (place_type typing) (channels_in net.channels.items k) ++ []) = ap length (kinds-are net typing wired k e d at directed class []) in
         omega (
           arith,
           all,
-          kinds-length sigs [] 0 places (sized net typing wired k e d at directed),
+          kinds-length sigs [] 0 places (sized net typing wired k e d at directed class),
           length-append (map (place_type typing) (channels_in net.channels.items k)) [],
           length-map (channels_in net.channels.items k) (place_type typing),
           length-map (channels_in net.channels.items k) (source_of net.entities.items),
@@ -164,15 +170,15 @@ module _ (net : Net) (typing : Assignment) (starts : Starts) (wired : IsWired ne
       held-along [] a = held-own us there
       held-along (x ∷ cs) a = (
         all-mono (IsTokenOf (source_type typing x)) (IsTokenOf (place_type typing x)) (λ t h. token-wider (source_type typing x) (place_type typing x) t (up x a.0.0) h) (first_of rows kids (source_of net.entities.items x))
-            (source-first (source_of net.entities.items x) (source_type typing x) (source-kind net typing wired k e d at directed x (eqb-true x.composite k a.0.1) (wired.begin x a.0.0))),
+            (source-first (source_of net.entities.items x) (source_type typing x) (source-kind net typing wired k e d at directed class x (eqb-true x.composite k a.0.1) (wired.begin x a.0.0))),
         held-along cs a.1,
       )
 
       held-of : AreOf IsTokenOf (kinds_from sigs (kinds_at sigs own) 0 places) (first_held rows kids (ending ++ own))
-      held-of = subst (λ ts. AreOf IsTokenOf ts (first_held rows kids (ending ++ own))) (sym (kinds-are net typing wired k e d at directed (kinds_at sigs own))) (held-along (channels_in net.channels.items k) (all-filtered (Contains net.channels.items) (is_within k) net.channels.items (their-own net typing wired)))
+      held-of = subst (λ ts. AreOf IsTokenOf ts (first_held rows kids (ending ++ own))) (sym (kinds-are net typing wired k e d at directed class (kinds_at sigs own))) (held-along (channels_in net.channels.items k) (all-filtered (Contains net.channels.items) (is_within k) net.channels.items (their-own net typing wired)))
 
       fed-of : AreFed {A = LibraryActor} IsTokenOf IsBelow IsTypedActor sigs (ending ++ own) (kinds_from sigs (kinds_at sigs own) 0 places)
-      fed-of = fed net typing wired k e d at directed IsTokenOf IsTypedActor up own (kinds_at sigs own) (own-fed IsTokenOf IsBelow IsTypedActor below-refl sigs us there)
+      fed-of = fed net typing wired k e d at directed class IsTokenOf IsTypedActor up own (kinds_at sigs own) (own-fed IsTokenOf IsBelow IsTypedActor below-refl sigs us there)
 
       -- a plan of these channels has these kinds
       module _ (p : SdfPlan) (are-places : p.net.places ≡ places) (are-sources : p.net.sources ≡ ending ++ own) (given : length p.gives ≡ length (sigs []).outputs) where
@@ -211,7 +217,7 @@ module _ (net : Net) (typing : Assignment) (starts : Starts) (wired : IsWired ne
         record {
           typed_net = record {
             places_counted = count;
-            sized = subst (λ ns. AreSized sigs 0 ns) (sym are-places) (sized net typing wired k e d at directed);
+            sized = subst (λ ns. AreSized sigs 0 ns) (sym are-places) (sized net typing wired k e d at directed class);
             fed = plan-fed us there p are-places are-sources given;
           };
           repetitions_counted = plan.repetitions ∙ its ∙ count;
@@ -225,7 +231,7 @@ module _ (net : Net) (typing : Assignment) (starts : Starts) (wired : IsWired ne
     tick-typed : IsTypedNet {A = LibraryActor} IsTokenOf IsBelow IsTypedActor sigs (length (list_of (nodes_of kids))) (record { sources = ending; places = places }) []
     tick-typed = record {
       places_counted = length-map (children_of net.entities.items k) (place_count net.channels.items) ∙ sym (trees-length trees) ∙ sym (listed kids);
-      sized = sized net typing wired k e d at directed;
+      sized = sized net typing wired k e d at directed class;
       fed = subst (λ cs. AreFed {A = LibraryActor} IsTokenOf IsBelow IsTypedActor sigs cs (kinds_from sigs [] 0 places)) (append-nil ending) (fed-of [] tt);
     }
 
@@ -238,13 +244,28 @@ module _ (net : Net) (typing : Assignment) (starts : Starts) (wired : IsWired ne
     }
 
     -- so it is with the core that a director makes
-    core-typed : (by : Directing) (c : Core Token) → IsDirectedBy e by → (composing by).IsCore (around_in net starts k e) kids c → IsTypedCore {A = LibraryActor} IsTokenOf IsBelow IsTypedActor sigs (length (list_of (nodes_of kids))) c
-    core-typed (By Sdf) c by has = subst (λ v. IsTypedCore {A = LibraryActor} IsTokenOf IsBelow IsTypedActor sigs (length (list_of (nodes_of kids))) v) (sym has.is) (sdf-typed has.inside has.plan has.is_inside has.planned)
-    core-typed (By Sr) c by has = subst (λ v. IsTypedCore {A = LibraryActor} IsTokenOf IsBelow IsTypedActor sigs (length (list_of (nodes_of kids))) v) (sym has.is) tick-typed
-    core-typed (By De) c by has = subst (λ v. IsTypedCore {A = LibraryActor} IsTokenOf IsBelow IsTypedActor sigs (length (list_of (nodes_of kids))) v) (sym has.is) tick-typed
-    core-typed (By Pn) c by has = subst (λ v. IsTypedCore {A = LibraryActor} IsTokenOf IsBelow IsTypedActor sigs (length (list_of (nodes_of kids))) v) (sym has.is) (pn-typed has.wired.stated)
-    core-typed (By Rendezvous) c by has = absurd has
-    core-typed Modal c by has = absurd (none-modal e by)
+    core-typed : (by : Director) (c : Core Token) → (composing (By by)).IsCore (around_in net starts k e) kids c → IsTypedCore {A = LibraryActor} IsTokenOf IsBelow IsTypedActor sigs (length (list_of (nodes_of kids))) c
+    core-typed Sdf c has = subst (λ v. IsTypedCore {A = LibraryActor} IsTokenOf IsBelow IsTypedActor sigs (length (list_of (nodes_of kids))) v) (sym has.is) (sdf-typed has.inside has.plan has.is_inside has.planned)
+    core-typed Sr c has = subst (λ v. IsTypedCore {A = LibraryActor} IsTokenOf IsBelow IsTypedActor sigs (length (list_of (nodes_of kids))) v) (sym has.is) tick-typed
+    core-typed De c has = subst (λ v. IsTypedCore {A = LibraryActor} IsTokenOf IsBelow IsTypedActor sigs (length (list_of (nodes_of kids))) v) (sym has.is) tick-typed
+    core-typed Pn c has = subst (λ v. IsTypedCore {A = LibraryActor} IsTokenOf IsBelow IsTypedActor sigs (length (list_of (nodes_of kids))) v) (sym has.is) (pn-typed has.wired.stated)
+    core-typed Rendezvous c has = absurd has
+
+  -- and with that of a Modal entity
+  modal-typed : (k : ℕ) (e : NetEntity) (at : slice_get net.entities.items k ≡ Some e) (kids : List Tree) → AreTrees net starts (children_of net.entities.items k) kids → (c : Core Token) → IsDirectedBy e Modal → IsModalCore (around_in net starts k e) kids c →
+      IsTypedCore {A = LibraryActor} IsTokenOf IsBelow IsTypedActor (types_below net typing k) (length (list_of (nodes_of kids))) c
+  modal-typed k e at kids trees c by has =
+      let x = has.wired.machine in
+      let met = meet_modals k (length kids) e x at by has.wired.is in
+      let count : length (children_of net.entities.items k) ≡ length (list_of (nodes_of kids)) = sym (listed kids ∙ trees-length trees) in
+      subst (λ v. IsTypedCore {A = LibraryActor} IsTokenOf IsBelow IsTypedActor (types_below net typing k) (length (list_of (nodes_of kids))) v) (sym has.is)
+      (subst (λ (n : ℕ). IsTypedModal {A = LibraryActor} IsTokenOf IsBelow IsTypedActor (types_below net typing k) n (chart_of x) (first_modes (chart_of x) (length kids))) count met)
+
+  -- with what directs it
+  composite-typed : (k : ℕ) (e : NetEntity) (at : slice_get net.entities.items k ≡ Some e) (kids : List Tree) → AreTrees net starts (children_of net.entities.items k) kids → (by : Directing) (c : Core Token) → IsDirectedBy e by → (composing by).IsCore (around_in net starts k e) kids c →
+      IsTypedCore {A = LibraryActor} IsTokenOf IsBelow IsTypedActor (types_below net typing k) (length (list_of (nodes_of kids))) c
+  composite-typed k e at kids trees (By director) c by has = let w = is-directed e director by in core-typed k e w.director at w.has (directed-class e (By director) by) kids trees director c has
+  composite-typed k e at kids trees Modal c by has = modal-typed k e at kids trees c by has
 
   -- ---- the tree
 
@@ -252,18 +273,17 @@ module _ (net : Net) (typing : Assignment) (starts : Starts) (wired : IsWired ne
     tree-typed : {k : ℕ} {t : Tree} → IsTree net starts k t → IsTypedNode IsTokenOf IsBelow IsTypedActor (types_below net typing k) t
     tree-typed (of_actor k e a at undirected start) = let fits = rows-type (types_below net typing k []) a (meet k a start) in (fits, fits)
     tree-typed (of_composite k e by kids c at directed trees has) =
-        let w = is-directed e by directed in
-        let typed = core-typed k e w.director at w.has kids trees by c directed has in
-        (typed, typed, trees-typed trees k e w.director at w.has 0 (λ j c h. ap (slice_get (children_of net.entities.items k)) (let z : 0 + j ≡ j = omega arith in z) ∙ h))
+        let typed = composite-typed k e at kids trees by c directed has in
+        (typed, typed, trees-typed trees k e at (directed-class e by directed) 0 (λ j c h. ap (slice_get (children_of net.entities.items k)) (let z : 0 + j ≡ j = omega arith in z) ∙ h))
 
-    trees-typed : {cs : List ℕ} {ts : List Tree} → AreTrees net starts cs ts → (k : ℕ) (e : NetEntity) (d : NetDirector) → slice_get net.entities.items k ≡ Some e → e.director ≡ Some d → (i : ℕ) → ((j c : ℕ) → slice_get cs j ≡ Some c → slice_get (children_of net.entities.items k) (i + j) ≡ Some c) →
+    trees-typed : {cs : List ℕ} {ts : List Tree} → AreTrees net starts cs ts → (k : ℕ) (e : NetEntity) → slice_get net.entities.items k ≡ Some e → is_composite_class e.class ≡ true → (i : ℕ) → ((j c : ℕ) → slice_get cs j ≡ Some c → slice_get (children_of net.entities.items k) (i + j) ≡ Some c) →
         AreTypedNodes IsTokenOf IsBelow IsTypedActor (types_below net typing k) i (nodes_of ts)
-    trees-typed no_trees k e d at directed i h = tt
-    trees-typed (more_trees c cs t ts a b) k e d at directed i h =
+    trees-typed no_trees k e at class i h = tt
+    trees-typed (more_trees c cs t ts a b) k e at class i h =
         let here : slice_get (children_of net.entities.items k) i ≡ Some c = ap (slice_get (children_of net.entities.items k)) (let z : i ≡ i + 0 = omega arith in z) ∙ h 0 c refl in (
-          subst (λ (s : Signatures Datatype). IsTypedNode IsTokenOf IsBelow IsTypedActor s t) (sym (child-below net typing wired k e d at directed i c here)) (tree-typed a),
-          trees-typed b k e d at directed (suc i) (λ j n g. ap (slice_get (children_of net.entities.items k)) (let z : suc i + j ≡ i + suc j = omega arith in z) ∙ h (suc j) n g),
+          subst (λ (s : Signatures Datatype). IsTypedNode IsTokenOf IsBelow IsTypedActor s t) (sym (child-below net typing wired k e at class i c here)) (tree-typed a),
+          trees-typed b k e at class (suc i) (λ j n g. ap (slice_get (children_of net.entities.items k)) (let z : suc i + j ≡ i + suc j = omega arith in z) ∙ h (suc j) n g),
         )
 
 pub trees-are-typed : TreesAreTyped
-trees-are-typed net typing starts k t wired up meet is = tree-typed net typing starts wired up meet is
+trees-are-typed net typing starts k t wired up meet meet_modals is = tree-typed net typing starts wired up meet meet_modals is

@@ -1,8 +1,10 @@
 -- A run of the tree of the net of a document with its typing.
-use Rattle.std.proofs.Common.{◌≡◌, Bool, true, false, Some, refl, [], subst, sym}
+use Rattle.std.proofs.Common.{◌≡◌, ℕ, Bool, true, false, ◌||◌, Some, bytes_eq, codes, refl, [], ap, subst, sym}
 use Rattle.pt_net.specs.declared.net.Net.{Net}
+use Rattle.pt_net.specs.declared.net.NetDirector.{NetDirector}
+use Rattle.pt_net.specs.declared.net.NetEntity.{NetEntity}
 use Rattle.pt_scopes.specs.declared.values.Values.{Values}
-use Rattle.pt_scopes.specs.Scopes.{net_view}
+use Rattle.pt_scopes.specs.Scopes.{net_view, is_composite_class}
 use Rattle.pt_scopes.specs.Valued.{IsValued}
 use Rattle.pt_typing.specs.Least.{Assignment}
 use Rattle.pt_inequalities.specs.Typing.{IsTyping}
@@ -19,12 +21,13 @@ use Rattle.pt_lib_timed.specs.declared.timed_actor.TimedActor.{TimedActor}
 use Rattle.pt_lib_timed.specs.declared.timed_actor.TimedActor.TheVariants as timed
 use Rattle.pt_library.specs.declared.library_actor.LibraryActor.{LibraryActor}
 use Rattle.pt_library.specs.declared.library_actor.LibraryActor.TheVariants.{Flow, Data, Time, Timed}
-use Rattle.pt_trees.specs.Trees.{Starts}
+use Rattle.pt_trees.specs.Trees.{IsEntity, Starts}
 use Rattle.pt_trees.specs.Top.{supply_of}
 use Rattle.pt_cover.proofs.Reading.{documents-leaves}
 use Rattle.pt_cover.proofs.Nesting.{net-nested}
 use Rattle.pt_cover.specs.Leaves.{AreStartedByClass}
 use Rattle.pt_cover.proofs.Starting.{by-class}
+use Rattle.pt_order.proofs.TreeCover.{directed-composite}
 use Rattle.pt_order.proofs.NetsInOrder.{nets-in-order}
 use Rattle.pt_typed.specs.TypedActor.{MeetsRow}
 use Rattle.pt_typed.specs.NetTypes.{types_below}
@@ -39,6 +42,8 @@ use Rattle.pt_typed.proofs.InputLaws.{inputs-typed}
 use Rattle.pt_typed.proofs.SeededRows.{seeded-rows-met}
 use Rattle.pt_typed.proofs.ExpressionRows.{expression-rows-met}
 use Rattle.pt_typed.proofs.DocumentNames.{documents-named}
+use Rattle.pt_typed.proofs.ModalsMet.{modals-met}
+use Rattle.pt_typed.proofs.ModalNames.{asked-freely, documents-free}
 use Rattle.pt_typed.proofs.JobLaws.{nets-keep-types}
 
 -- ---- the actors that are left are Expressions
@@ -123,9 +128,14 @@ by-class-started : (net : Net) (values : Values) (typing : Assignment) (starts :
 by-class-started net values typing starts started k e a at is = let w = started k a is in by-class net values (types_of_ports typing) k e a at w.3
 
 pub typed-nets-keep-types : TypedNetsKeepTypes
-typed-nets-keep-types net values typing starts e d top j doc valued typed started is at directed supplied whole m k =
+typed-nets-keep-types net values typing starts e d top j doc valued typed sound started machines is at directed supplied whole m k =
     let named = documents-named doc.bytes doc.job net doc.read doc.made in
-    let nested = net-nested doc.job net (documents-leaves doc.bytes doc.job doc.read) doc.made in
-    let order = nets-in-order net starts e d top doc (by-class-started net values typing starts started) is at directed in
-    nets-keep-types net typing starts top order.wired (channels-go-up net values typing typed) (meet-rows net values typing starts order.class_ports named.1 named.0 nested valued typed started) is j whole
-    (inputs-typed net values typing e d (supply_of j) at directed (named.1 0 e at) typed supplied) m k
+    let leaves = documents-leaves doc.bytes doc.job doc.read in
+    let nested = net-nested doc.job net leaves doc.made in
+    let by_class = by-class-started net values typing starts started in
+    let order = nets-in-order net starts e d top doc by_class is at directed in
+    let class = ap (λ b. b || bytes_eq e.class (codes "Modal")) (directed-composite doc.job net starts top leaves doc.made by_class is 0 e d at directed).composite in
+    let classes : (n : ℕ) (f : NetEntity) (g : NetDirector) → IsEntity net n f → f.director ≡ Some g → is_composite_class f.class ≡ true = λ n f g there has. ap (λ b. b || bytes_eq f.class (codes "Modal")) (directed-composite doc.job net starts top leaves doc.made by_class is n f g there has).composite in
+    let modals = modals-met net values typing starts order.wired named.1 (asked-freely net values valued nested named.0 (documents-free doc.bytes doc.job net doc.read doc.made)) nested valued typed sound classes machines in
+    nets-keep-types net typing starts top order.wired (channels-go-up net values typing typed) (meet-rows net values typing starts order.class_ports named.1 named.0 nested valued typed started) modals is j whole
+    (inputs-typed net values typing e (supply_of j) at class (named.1 0 e at) typed supplied) m k

@@ -1,13 +1,13 @@
 -- The types at the places of the entities of a net and on their outputs.
-use Rattle.std.specs.Prelude.{ℕ, List, [], map, Option, Some, None, slice_get}
+use Rattle.std.specs.Prelude.{ℕ, List, [], map, Bool, true, false, Option, Some, None, slice_get}
 use Rattle.std.specs.List.{Contains}
 use Rattle.pt_datatypes.specs.Datatype.{Datatype}
 use Rattle.pt_datatypes.specs.Order.{IsBelow}
 use Rattle.pt_net.specs.declared.net.Channel.{Channel}
 use Rattle.pt_net.specs.declared.net.Net.{Net}
-use Rattle.pt_net.specs.declared.net.NetDirector.{NetDirector}
 use Rattle.pt_net.specs.declared.net.NetEntity.{NetEntity}
 use Rattle.pt_net.specs.Inside.{is_input, is_output}
+use Rattle.pt_scopes.specs.Scopes.{is_composite_class}
 use Rattle.pt_typing.specs.declared.variable.Variable.TheVariants as variable
 use Rattle.pt_typing.specs.Least.{Assignment}
 use Rattle.pt_cover.specs.Paths.{entity_at}
@@ -35,15 +35,15 @@ abbrev pub port_types : Assignment → (entity : ℕ) → List ℕ → List Data
 port_types typing k numbers = map (λ i. typing.types (variable.Port k i)) numbers
 
 -- the places of a library actor are the ends of channels, and those of a composite are its inputs
-abbrev pub by_director : Option NetDirector → (inputs ends : List Datatype) → List Datatype
-by_director None inputs ends = ends
-by_director (Some d) inputs ends = inputs
+abbrev pub by_class : Bool → (inputs ends : List Datatype) → List Datatype
+by_class false inputs ends = ends
+by_class true inputs ends = inputs
 
 -- the types of an entity
 abbrev pub types_of : Net → Assignment → ℕ → Option NetEntity → Signature Datatype
 types_of net typing k None = record { places = []; outputs = [] }
 types_of net typing k (Some e) =
-    record { places = by_director e.director (port_types typing k (port_numbers is_input 0 e.ports.items)) (map (place_type typing) (arrivals net.channels.items k)); outputs = port_types typing k (port_numbers is_output 0 e.ports.items) }
+    record { places = by_class (is_composite_class e.class) (port_types typing k (port_numbers is_input 0 e.ports.items)) (map (place_type typing) (arrivals net.channels.items k)); outputs = port_types typing k (port_numbers is_output 0 e.ports.items) }
 
 -- those of an entity by its number, if there is one
 abbrev pub types_at : Net → Assignment → Option ℕ → Signature Datatype

@@ -16,7 +16,7 @@ pub fn first_tokens_are_typed()
     ensures { FirstTokensAreTyped }
 {}
 
-/// In a tree of typed actors, and of composites whose directors only move tokens, along whose channels types go up, each firing keeps to the types.
+/// In a tree of typed actors, of composites whose directors only move tokens, and of Modal entities that keep to types, along whose channels types go up, each firing keeps to the types.
 pub fn typed_steps_keep_types()
     ensures { TypedStepsKeepTypes }
 {}
@@ -26,7 +26,7 @@ pub fn typed_runs_keep_types()
     ensures { TypedRunsKeepTypes }
 {}
 
-/// The tree of a net is typed by the types of its ports: where its channels stand in order, types go up along them, and the row of each actor is met.
+/// The tree of a net is typed by the types of its ports: where its channels stand in order, types go up along them, the row of each actor is met, and each Modal entity keeps to the types.
 pub fn trees_are_typed()
     ensures { TreesAreTyped }
 {}
@@ -76,7 +76,7 @@ pub fn inputs_are_typed()
     ensures { InputsAreTyped }
 {}
 
-/// No finished firing in a run of the tree of the net of a document takes or gives a token of another type than its port's.
+/// No finished firing in a run of the tree of the net of a document, whose types break nowhere, takes or gives a token of another type than its port's.
 pub fn tokens_are_typed()
     ensures { TypedNetsKeepTypes }
 {}

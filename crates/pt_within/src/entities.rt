@@ -1,7 +1,7 @@
-ghost use Rattle.std.specs.Prelude.{◌≡◌, IfSome, IfNone, Some, None, true, false, option_map, slice_get};
+ghost use Rattle.std.specs.Prelude.{◌≡◌, IfSome, IfNone, Some, None, true, false, option_map, slice_get, bytes_eq, codes};
 ghost use Rattle.pt_library.specs.declared.library_actor.LibraryActor.{LibraryActor};
 ghost use Rattle.pt_trees.specs.declared.directing.Directing.TheVariants.{By};
-ghost use Rattle.pt_trees.specs.Directors.{named, director_of};
+ghost use Rattle.pt_trees.specs.Directors.{named, modal_unless, director_of};
 ghost use Rattle.pt_trees.specs.Trees.{IsUndirected};
 
 use pt_document::{Director, director_named};
@@ -32,11 +32,21 @@ pub fn start_in(starts: &[Option<LibraryActor>], k: usize) -> Option<&LibraryAct
     }
 }
 
+/// Whether the entity is of the class Modal.
+fn is_modal(entity: &NetEntity) -> bool
+    ensures { result ≡ bytes_eq entity.now.class (codes "Modal") }
+{
+    entity.class.as_str() == "Modal"
+}
+
 /// Whether the entity is a library actor.
 pub fn is_undirected(entity: &NetEntity) -> bool
     ensures yes { result ≡ true → IsUndirected entity.now }
     ensures no { result ≡ false → IsUndirected entity.now → ⊥ }
 {
+    if is_modal(entity) {
+        return false;
+    }
     match &entity.director {
         Some(_) => false,
         None => true,
@@ -66,12 +76,24 @@ fn directed(director: &Option<NetDirector>) -> Option<Directing>
     }
 }
 
-/// What directs the entity, if it is a composite with a director.
+/// Modal, where no property names a director.
+fn modal_unless(director: &Option<NetDirector>) -> Option<Directing>
+    ensures { result ≡ modal_unless director.now }
+{
+    match director {
+        Some(_) => None,
+        None => Some(Directing::Modal),
+    }
+}
+
+/// What directs the entity, if it is a composite with a director or a Modal entity.
 pub fn director_of(entity: &NetEntity) -> Option<Directing>
     ensures { result ≡ director_of entity.now }
 {
     if entity.class.as_str() == "Composite" {
         directed(&entity.director)
+    } else if is_modal(entity) {
+        modal_unless(&entity.director)
     } else {
         None
     }
