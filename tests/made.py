@@ -157,6 +157,129 @@ def repeats(count: int) -> dict:
     return top(director("PN", maximumQueueCapacity=1), actors, chained(names), ["d.output"])
 
 
+# ---- Modal entities
+
+
+def state(name: str, refinement: str | None = None) -> dict:
+    return {"name": name, "refinement": refinement} if refinement else {"name": name}
+
+
+def transition(start: str, end: str, guard: str, history: bool = True, output: dict | None = None, sets: dict | None = None) -> dict:
+    made = {"from": start, "to": end, "guard": guard, "history": history}
+    if output:
+        made["output"] = [{"port": name, "value": value} for name, value in output.items()]
+    if sets:
+        made["set"] = [{"name": name, "value": value} for name, value in sets.items()]
+    return made
+
+
+def variable(name: str, value) -> dict:
+    return {"name": name, "class": "Variable", "value": str(value)}
+
+
+def machine(ports: list[dict], states: list[dict], transitions: list[dict], refinements=(), variables=(), name: str = "M") -> dict:
+    """A Modal entity that begins in the first of its states."""
+    parts = {"properties": [*variables], "ports": ports, "entities": [*refinements], "states": states, "initial": states[0]["name"], "transitions": transitions}
+    return {"name": name, "class": "Modal", **{key: value for key, value in parts.items() if value}}
+
+
+def at_ticks(count: int, entities: list[dict], groups=()) -> dict:
+    return top(director("SR", iterations=count), entities, [*groups], ["M.y"])
+
+
+Y = [port("y", "output")]
+XY = [port("x", "input"), *Y]
+COUNTED = {"n": "n + 1"}
+
+
+def states_in_a_ring(count: int, ticks: int) -> dict:
+    """So many states, each of which leads to the next; the last gives how many transitions came before."""
+    names = [f"s{number}" for number in range(count)]
+    moves = [transition(one, two, "true", sets=COUNTED) for one, two in zip(names, [*names[1:], names[0]])]
+    moves[-1]["output"] = [{"port": "y", "value": "n"}]
+    return at_ticks(ticks, [machine(Y, [state(name) for name in names], moves, variables=[variable("n", 0)])])
+
+
+def transitions_of_one_state(count: int, ticks: int) -> dict:
+    """So many transitions from one state, of which number x is taken and gives how many are behind it; from the other state one leads back."""
+    moves = [transition("a", "b", f"x == {number}", output={"y": str(count - 1 - number)}) for number in range(count)]
+    made = machine(XY, [state("a"), state("b")], [*moves, transition("b", "a", "true")])
+    return at_ticks(ticks, [entity("r", "Ramp"), made], [["r.output", "M.x"]])
+
+
+def guards_that_disagree(count: int, last: str) -> dict:
+    """So many transitions from one state, of which two are enabled, and a last one with this guard."""
+    guards = ["true", *["false"] * (count - 3), "true", last]
+    return at_ticks(1, [machine(Y, [state("a")], [transition("a", "a", guard, output={"y": "1"}) for guard in guards])])
+
+
+def guards_of_another_state(count: int, ticks: int) -> dict:
+    """A state with so many transitions, which is entered after so many ticks in another one."""
+    moves = [transition("a", "a", f"n == {number}", output={"y": "-n"}) for number in range(count)]
+    moves += [transition("b", "b", f"n < {ticks - 1}", sets=COUNTED), transition("b", "a", f"n == {ticks - 1}", output={"y": "n"}, sets={"n": str(count - 1)})]
+    return at_ticks(ticks + 1, [machine(Y, [state("b"), state("a")], moves, variables=[variable("n", 0)])])
+
+
+def resets(count: int, ticks: int, history: bool) -> dict:
+    """A refinement of so many actors behind a ramp, which is entered anew at each tick."""
+    names = ["k", *(f"s{number}" for number in range(1, count))]
+    actors = [entity("k", "Ramp", init=7), *(entity(name, "Scale") for name in names[1:])]
+    inside = composite("R", director("SDF"), actors, [*chained(names), [f"{names[-1]}.output", "y"]], Y)
+    return at_ticks(ticks, [machine(Y, [state("a", "R")], [transition("a", "a", "true", history)], [inside])])
+
+
+def states_at_one_time(count: int) -> dict:
+    """So many states, each entered a microstep after the one before, since its refinement has no inputs; the last gives its number."""
+    last = count - 1
+    refinements = [composite(f"R{number}", director("SDF"), [entity("c", "Const", value=number)], [["c.output", "y"]] if number == last else [], Y if number == last else []) for number in range(count)]
+    states = [state(f"s{number}", f"R{number}") for number in range(count)]
+    moves = [transition(f"s{number}", f"s{number + 1}", "true", False) for number in range(last)]
+    return top(director("DE"), [machine(Y, states, moves, refinements)], [], ["M.y", f"M.R{last}.y"])
+
+
+def reactions(count: int, refined: bool) -> dict:
+    """So many reactions of a machine of two states to a clock, by turns; a sampler gives at the last what it gave."""
+    inside = composite("R", director("SDF"), [entity("k", "Ramp")], [["x", "k.trigger"], ["k.output", "y"]], XY)
+    moves = [transition("a", "b", "x == 1", output={} if refined else {"y": "n"}, sets=COUNTED), transition("b", "a", "x == 1", output={"y": "-n"}, sets=COUNTED)]
+    made = machine(XY, [state("a", "R" if refined else None), state("b")], moves, [inside] if refined else [], [variable("n", 0)])
+    actors = [entity("c", "DiscreteClock", period=1), entity("end", "SingleEvent", time=count - 1), made, entity("s", "Sampler")]
+    return top(director("DE", stopTime=count - 1), actors, [["c.output", "M.x"], ["M.y", "s.input"], ["end.output", "s.trigger"]], ["s.output"])
+
+
+def machines_nested(levels: int) -> dict:
+    """Machines in one another, so many levels of entities in all, of which the innermost doubles what comes."""
+    inner = machine(XY, [state("a")], [transition("a", "a", "true", output={"y": "2 * x"})])
+    for _ in range(levels - 2):
+        inner = machine(XY, [state("a", "M")], [], [inner])
+    return top(director("DE"), [entity("s", "SingleEvent", time=3), inner], [["s.output", "M.x"]], ["M.y"])
+
+
+def variables_in_a_row(count: int) -> dict:
+    """So many Variables; at each tick the first gets x, and each other one what the one before has got."""
+    sets = {"v0": "x", **{f"v{number}": f"v{number - 1}" for number in range(1, count)}}
+    made = machine(XY, [state("a")], [transition("a", "a", "true", output={"y": f"v{count - 1}"}, sets=sets)], variables=[variable(f"v{number}", -1) for number in range(count)])
+    return at_ticks(3, [entity("r", "Ramp"), made], [["r.output", "M.x"]])
+
+
+def names_of_a_machine(count: int, where: str) -> dict:
+    """A name of so many letters where a machine names something."""
+    name = "a" * count
+    made = machine(Y, [state("a")], [transition("a", "a", "true")])
+    if where == "state":
+        made["states"].append(state(name))
+    elif where == "refinement":
+        made["states"] = [state("a", name)]
+    elif where == "guard":
+        made["transitions"][0]["guard"] = f"true || {name}"
+    elif where in ("from", "to"):
+        made["transitions"][0][where] = name
+    elif where == "initial":
+        made["initial"] = name
+    elif where == "port":
+        made["transitions"][0]["output"] = [{"port": name, "value": "1"}]
+    return at_ticks(1, [made])
+
+
 # ---- what holds for all
 
 

@@ -45,7 +45,7 @@ def hostile_document() -> dict:
 class Drawings(unittest.TestCase):
     def test_composites_actors_and_relations_are_there(self):
         dot = example("thermostat").dot
-        for words in ["<B>room</B>", "<I>Modal</I>", "<I>DE</I>", "stopTime = 8", "<B>fall</B>", "init = 20", "degrees &lt;= low", "<B>off</B>"]:
+        for words in ["<B>room</B>", "<I>Modal</I>", "<I>DE</I>", "stopTime = 12", "<B>fall</B>", "init = high - loss", "degrees &lt;= low", "<B>off</B>"]:
             self.assertIn(words, dot)
         self.assertEqual(dot.count("subgraph cluster_"), 4)
 
