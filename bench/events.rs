@@ -1,7 +1,8 @@
-//! The interpreter's models of DE: DiscreteClock with one event of value 1 a period, Server, Sampler and AddSubtract, right in the top, of integers.
+//! The interpreter's models of DE: DiscreteClock with one event of value 1 a period, Server, Sampler, AddSubtract and the machines of `machines.rs`, right in the top, of integers.
 //!
 //! A heap holds the wakes, and within a reaction a second one the actors that are active, by depth. A server gives before it takes.
 
+use crate::machines::Machine;
 use crate::{push_number, Json, Node};
 use std::cmp::Reverse;
 use std::collections::{BinaryHeap, VecDeque};
@@ -14,6 +15,7 @@ enum Timed {
     Server { time: u64, pending: VecDeque<(Tag, i64)> },
     Sampler { kept: Option<i64> },
     AddSubtract,
+    Machine(Machine),
 }
 
 fn after(tag: Tag, ticks: u64) -> Tag {
@@ -45,6 +47,7 @@ impl Timed {
             },
             "Sampler" => Timed::Sampler { kept: None },
             "AddSubtract" => Timed::AddSubtract,
+            "Modal" => Timed::Machine(Machine::of(entity)),
             other => panic!("the class {other} under DE"),
         }
     }
@@ -57,7 +60,7 @@ impl Timed {
         match self {
             Timed::Clock { period, offset, round } => Some((round * period + offset, 0)),
             Timed::Server { pending, .. } => pending.front().map(|&(tag, _)| tag),
-            Timed::Sampler { .. } | Timed::AddSubtract => None,
+            Timed::Sampler { .. } | Timed::AddSubtract | Timed::Machine(_) => None,
         }
     }
 }
@@ -158,6 +161,7 @@ impl Events {
                 self.tokens[node.minus[0]].take().and(*kept)
             }
             Timed::AddSubtract => Some(self.sum(number)),
+            Timed::Machine(machine) => machine.react(self.tokens[self.nodes[number].plus[0]].take()),
         };
         if !self.timed[number].is_delay() {
             self.wait(number);

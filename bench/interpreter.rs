@@ -1,13 +1,14 @@
 //! A hand-written interpreter of flat dataflow models, to measure ptrun against.
 //!
 //! It reads the same documents on standard input and writes the same reports, for models of Ramp, Scale,
-//! AddSubtract, UpSample and DownSample under SDF, of the first three under SR, of what `events.rs` knows under DE, or of what
-//! `networks.rs` knows under PN, whose actors stand right in the top.
+//! AddSubtract, UpSample and DownSample under SDF, of the first three under SR, of what `events.rs` and `machines.rs` know
+//! under DE, or of what `networks.rs` knows under PN, whose actors stand right in the top.
 //! It does what such a model needs and no more: an iteration, or a tick, is an order of firings that is found once. It
 //! refuses nothing by name; a document that it doesn't know ends it with a panic. Plain Rust over std alone: `rustc --edition 2021 -O interpreter.rs`.
 
 mod balance;
 mod events;
+mod machines;
 mod networks;
 
 use balance::repetitions;
@@ -204,7 +205,7 @@ fn actor_of(entity: &Json) -> Actor {
             factor: entity.parameter("factor", 2) as usize,
             phase: entity.parameter("phase", 0) as usize,
         },
-        "DiscreteClock" | "Server" | "Sampler" => Actor::Timed,
+        "DiscreteClock" | "Server" | "Sampler" | "Modal" => Actor::Timed,
         "Discard" => Actor::Discard,
         "Composite" => Actor::Composite,
         other => panic!("the class {other}"),
