@@ -14,3 +14,4 @@ pub mod Ending
 pub mod NumberRows
 pub mod Quickly
 pub mod Signalling
+pub mod Untaken

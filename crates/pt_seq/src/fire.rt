@@ -180,7 +180,7 @@ fn fire_composite(
 /// Carries on the firing of a composite from where its first row of firings has come to.
 #[cycle(fire)]
 #[inline(never)]
-fn go_on(
+pub(crate) fn go_on(
     alloc: Global,
     director: &mut Director,
     children: &mut Vec<Node>,
@@ -218,7 +218,7 @@ fn go_on(
 }
 
 /// One step of a library actor, whose path and number of firings are told where it is stuck.
-fn fire_actor(
+pub(crate) fn fire_actor(
     alloc: Global,
     held: &mut Held,
     path: &Text,

@@ -1,6 +1,7 @@
 //! Firing a tree of nodes on one thread.
 #![tactic(auto)]
 
+mod alone;
 mod events;
 mod fire;
 mod full;
@@ -13,4 +14,5 @@ mod sr;
 mod tokens;
 mod turn;
 
+pub use alone::{Fired, fire_alone};
 pub use fire::{fire_seq, fire_within};
