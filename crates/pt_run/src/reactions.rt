@@ -9,9 +9,9 @@ ghost use Rattle.pt_trees.specs.Run.{IsRun, IsAffordable, IsDefined};
 
 use crate::turn::past_limit;
 use pt_agenda::{Turn, next_turn};
-use pt_firing::{Answer, Inputs, Tokens};
+use pt_firing::{Inputs, Tokens};
 use pt_node::Node;
-use pt_seq::fire_within;
+use pt_seq::{Fired, fire_alone};
 use pt_trees::{DeJob, Ended};
 use std::alloc::{AllocError, Global};
 
@@ -41,12 +41,12 @@ pub(crate) fn run_reactions(
             Turn::Idle => return Ok(Ended::Idle),
             Turn::Limit => return Ok(Ended::Fault(past_limit(alloc, top, fired)?)),
         };
-        match fire_within(alloc, top, tag, &Inputs::of(&none), left) {
-            Answer::Done(_) => {}
-            Answer::Fault(place) => return Ok(Ended::Fault(place)),
-            Answer::Spent(_) => return Ok(Ended::Spent(budget)),
-            Answer::Full(blocked) => return Ok(Ended::Full(blocked)),
-            Answer::Memory => return Err(AllocError),
+        match fire_alone(alloc, top, tag, &Inputs::of(&none), left) {
+            Fired::Done => {}
+            Fired::Fault(place) => return Ok(Ended::Fault(place)),
+            Fired::Spent(_) => return Ok(Ended::Spent(budget)),
+            Fired::Full(blocked) => return Ok(Ended::Full(blocked)),
+            Fired::Memory => return Err(AllocError),
         }
         fired += 1;
         last = Some(tag);

@@ -31,13 +31,13 @@ pub returns-in-Limit-clause-counted : goal.returns-in-Limit-clause-counted
 returns-in-Limit-clause-counted c = c.loop-left.invariant.counted
 
 pub returns-in-Fault-clause-counted : goal.returns-in-Fault-clause-counted
-returns-in-Fault-clause-counted c = omega (arith, c.loop-left.invariant.counted, c.fire_within.ensures.counted)
+returns-in-Fault-clause-counted c = omega (arith, c.loop-left.invariant.counted, c.fire_alone.ensures.counted)
 
 pub returns-in-Full-clause-counted : goal.returns-in-Full-clause-counted
-returns-in-Full-clause-counted c = omega (arith, c.loop-left.invariant.counted, c.fire_within.ensures.counted)
+returns-in-Full-clause-counted c = omega (arith, c.loop-left.invariant.counted, c.fire_alone.ensures.counted)
 
 pub returns-in-Spent-clause-counted : goal.returns-in-Spent-clause-counted
-returns-in-Spent-clause-counted c = omega (arith, c.loop-left.invariant.counted, c.fire_within.ensures.counted)
+returns-in-Spent-clause-counted c = omega (arith, c.loop-left.invariant.counted, c.fire_alone.ensures.counted)
 
 pub returns-clause-counted : goal.returns-clause-counted
 returns-clause-counted c = c.loop-left.invariant.counted
@@ -46,8 +46,8 @@ returns-clause-counted c = c.loop-left.invariant.counted
 pub overflow_add-fired : goal.overflow_add-fired
 overflow_add-fired c = omega (arith, c.loop-left.invariant.few, c.loop-left.invariant.counted, c.loop-left-test.true, c.ranges.budget.fits)
 
-pub fire_within-requires-clause-inputs : goal.fire_within-requires-clause-inputs
-fire_within-requires-clause-inputs c = takes-inputs (De c.args.job.now) c.args.budget (shown_node c.args.top.now) c.requires.runnable c.loop-left.fired c.loop-left.last (shown_node c.loop-left.top) c.loop-left.left c.loop-left.invariant c.in-Fire.tag c.of.result (reaction-fires c.args.job.now c.requires.alone c.loop-left.fired c.loop-left.last (node_of (shown_node c.loop-left.top)) c.next.result c.next.ensures c.next_turn.result c.next_turn.ensures c.in-Fire.tag c.in-Fire.is ∙ ap (λ X. job.Fire c.in-Fire.tag X) (sym (c.of.ensures ∙ c.deref.ensures.value ∙ c.new-none.ensures.items)))
+pub fire_alone-requires-clause-inputs : goal.fire_alone-requires-clause-inputs
+fire_alone-requires-clause-inputs c = takes-inputs (De c.args.job.now) c.args.budget (shown_node c.args.top.now) c.requires.runnable c.loop-left.fired c.loop-left.last (shown_node c.loop-left.top) c.loop-left.left c.loop-left.invariant c.in-Fire.tag c.of.result (reaction-fires c.args.job.now c.requires.alone c.loop-left.fired c.loop-left.last (node_of (shown_node c.loop-left.top)) c.next.result c.next.ensures c.next_turn.result c.next_turn.ensures c.in-Fire.tag c.in-Fire.is ∙ ap (λ X. job.Fire c.in-Fire.tag X) (sym (c.of.ensures ∙ c.deref.ensures.value ∙ c.new-none.ensures.items)))
 
 pub returns-in-Stop-clause-report : goal.returns-in-Stop-clause-report
 returns-in-Stop-clause-report c = ends-defined (De c.args.job.now) c.args.budget (shown_node c.args.top.now) c.requires.runnable c.loop-left.fired c.loop-left.last (shown_node c.loop-left.top) c.loop-left.left c.loop-left.invariant c.loop-left-test.true end.Stop (reaction-turn c.args.job.now c.requires.alone c.loop-left.fired c.loop-left.last (node_of (shown_node c.loop-left.top)) c.next.result c.next.ensures c.next_turn.result c.next_turn.ensures ∙ ap (λ u. turn_of [] u) c.in-Stop.is) (meets_of (kept_of (shown_node c.loop-left.top))) (its-own (shown_node c.loop-left.top))
@@ -68,28 +68,28 @@ pub returns-in-Limit-clause-complete : goal.returns-in-Limit-clause-complete
 returns-in-Limit-clause-complete c = λ a. is_complete (De c.args.job.now) c.args.budget (shown_node c.args.top.now) (shown_node c.loop-left.top) (ended.Fault c.in_ok-past_limit-in-Limit.field-0) (ends-past (De c.args.job.now) c.args.budget (shown_node c.args.top.now) c.requires.runnable c.loop-left.fired c.loop-left.last (shown_node c.loop-left.top) c.loop-left.left c.loop-left.invariant (reaction-turn c.args.job.now c.requires.alone c.loop-left.fired c.loop-left.last (node_of (shown_node c.loop-left.top)) c.next.result c.next.ensures c.next_turn.result c.next_turn.ensures ∙ ap (λ u. turn_of [] u) c.in-Limit.is) c.in_ok-past_limit-in-Limit.field-0 c.in_ok-past_limit-in-Limit.ensures no_meetings (none-are-those (shown_node c.loop-left.top))) a
 
 pub returns-in-Fault-clause-report : goal.returns-in-Fault-clause-report
-returns-in-Fault-clause-report c = ends-fault (De c.args.job.now) c.args.budget (shown_node c.args.top.now) c.requires.runnable c.loop-left.fired c.loop-left.last (shown_node c.loop-left.top) c.loop-left.left c.loop-left.invariant c.in-Fire.tag c.of.result (reaction-fires c.args.job.now c.requires.alone c.loop-left.fired c.loop-left.last (node_of (shown_node c.loop-left.top)) c.next.result c.next.ensures c.next_turn.result c.next_turn.ensures c.in-Fire.tag c.in-Fire.is ∙ ap (λ X. job.Fire c.in-Fire.tag X) (sym (c.of.ensures ∙ c.deref.ensures.value ∙ c.new-none.ensures.items))) (shown_node c.fire_within.new.node) c.in-Fault.ensures.outline c.in-Fault.place c.in-Fault.ensures.answers (meets_of (kept_of (shown_node c.fire_within.new.node))) (its-own (shown_node c.fire_within.new.node))
+returns-in-Fault-clause-report c = ends-fault (De c.args.job.now) c.args.budget (shown_node c.args.top.now) c.requires.runnable c.loop-left.fired c.loop-left.last (shown_node c.loop-left.top) c.loop-left.left c.loop-left.invariant c.in-Fire.tag c.of.result (reaction-fires c.args.job.now c.requires.alone c.loop-left.fired c.loop-left.last (node_of (shown_node c.loop-left.top)) c.next.result c.next.ensures c.next_turn.result c.next_turn.ensures c.in-Fire.tag c.in-Fire.is ∙ ap (λ X. job.Fire c.in-Fire.tag X) (sym (c.of.ensures ∙ c.deref.ensures.value ∙ c.new-none.ensures.items))) (shown_node c.fire_alone.new.node) c.in-Fault.ensures.outline c.in-Fault.place c.in-Fault.ensures.answers (meets_of (kept_of (shown_node c.fire_alone.new.node))) (its-own (shown_node c.fire_alone.new.node))
 
 pub returns-in-Fault-clause-complete : goal.returns-in-Fault-clause-complete
-returns-in-Fault-clause-complete c = λ a. is_complete (De c.args.job.now) c.args.budget (shown_node c.args.top.now) (shown_node c.fire_within.new.node) (ended.Fault c.in-Fault.place) (ends-fault (De c.args.job.now) c.args.budget (shown_node c.args.top.now) c.requires.runnable c.loop-left.fired c.loop-left.last (shown_node c.loop-left.top) c.loop-left.left c.loop-left.invariant c.in-Fire.tag c.of.result (reaction-fires c.args.job.now c.requires.alone c.loop-left.fired c.loop-left.last (node_of (shown_node c.loop-left.top)) c.next.result c.next.ensures c.next_turn.result c.next_turn.ensures c.in-Fire.tag c.in-Fire.is ∙ ap (λ X. job.Fire c.in-Fire.tag X) (sym (c.of.ensures ∙ c.deref.ensures.value ∙ c.new-none.ensures.items))) (shown_node c.fire_within.new.node) c.in-Fault.ensures.outline c.in-Fault.place c.in-Fault.ensures.answers no_meetings (none-are-those (shown_node c.fire_within.new.node))) a
+returns-in-Fault-clause-complete c = λ a. is_complete (De c.args.job.now) c.args.budget (shown_node c.args.top.now) (shown_node c.fire_alone.new.node) (ended.Fault c.in-Fault.place) (ends-fault (De c.args.job.now) c.args.budget (shown_node c.args.top.now) c.requires.runnable c.loop-left.fired c.loop-left.last (shown_node c.loop-left.top) c.loop-left.left c.loop-left.invariant c.in-Fire.tag c.of.result (reaction-fires c.args.job.now c.requires.alone c.loop-left.fired c.loop-left.last (node_of (shown_node c.loop-left.top)) c.next.result c.next.ensures c.next_turn.result c.next_turn.ensures c.in-Fire.tag c.in-Fire.is ∙ ap (λ X. job.Fire c.in-Fire.tag X) (sym (c.of.ensures ∙ c.deref.ensures.value ∙ c.new-none.ensures.items))) (shown_node c.fire_alone.new.node) c.in-Fault.ensures.outline c.in-Fault.place c.in-Fault.ensures.answers no_meetings (none-are-those (shown_node c.fire_alone.new.node))) a
 
 pub returns-in-Full-clause-report : goal.returns-in-Full-clause-report
-returns-in-Full-clause-report c = ends-full (De c.args.job.now) c.args.budget (shown_node c.args.top.now) c.requires.runnable c.loop-left.fired c.loop-left.last (shown_node c.loop-left.top) c.loop-left.left c.loop-left.invariant c.in-Fire.tag c.of.result (reaction-fires c.args.job.now c.requires.alone c.loop-left.fired c.loop-left.last (node_of (shown_node c.loop-left.top)) c.next.result c.next.ensures c.next_turn.result c.next_turn.ensures c.in-Fire.tag c.in-Fire.is ∙ ap (λ X. job.Fire c.in-Fire.tag X) (sym (c.of.ensures ∙ c.deref.ensures.value ∙ c.new-none.ensures.items))) (shown_node c.fire_within.new.node) c.in-Full.ensures.outline c.in-Full.blocked c.in-Full.ensures.answers (meets_of (kept_of (shown_node c.fire_within.new.node))) (its-own (shown_node c.fire_within.new.node))
+returns-in-Full-clause-report c = ends-full (De c.args.job.now) c.args.budget (shown_node c.args.top.now) c.requires.runnable c.loop-left.fired c.loop-left.last (shown_node c.loop-left.top) c.loop-left.left c.loop-left.invariant c.in-Fire.tag c.of.result (reaction-fires c.args.job.now c.requires.alone c.loop-left.fired c.loop-left.last (node_of (shown_node c.loop-left.top)) c.next.result c.next.ensures c.next_turn.result c.next_turn.ensures c.in-Fire.tag c.in-Fire.is ∙ ap (λ X. job.Fire c.in-Fire.tag X) (sym (c.of.ensures ∙ c.deref.ensures.value ∙ c.new-none.ensures.items))) (shown_node c.fire_alone.new.node) c.in-Full.ensures.outline c.in-Full.blocked c.in-Full.ensures.answers (meets_of (kept_of (shown_node c.fire_alone.new.node))) (its-own (shown_node c.fire_alone.new.node))
 
 pub returns-in-Full-clause-complete : goal.returns-in-Full-clause-complete
-returns-in-Full-clause-complete c = λ a. is_complete (De c.args.job.now) c.args.budget (shown_node c.args.top.now) (shown_node c.fire_within.new.node) (ended.Full c.in-Full.blocked) (ends-full (De c.args.job.now) c.args.budget (shown_node c.args.top.now) c.requires.runnable c.loop-left.fired c.loop-left.last (shown_node c.loop-left.top) c.loop-left.left c.loop-left.invariant c.in-Fire.tag c.of.result (reaction-fires c.args.job.now c.requires.alone c.loop-left.fired c.loop-left.last (node_of (shown_node c.loop-left.top)) c.next.result c.next.ensures c.next_turn.result c.next_turn.ensures c.in-Fire.tag c.in-Fire.is ∙ ap (λ X. job.Fire c.in-Fire.tag X) (sym (c.of.ensures ∙ c.deref.ensures.value ∙ c.new-none.ensures.items))) (shown_node c.fire_within.new.node) c.in-Full.ensures.outline c.in-Full.blocked c.in-Full.ensures.answers no_meetings (none-are-those (shown_node c.fire_within.new.node))) a
+returns-in-Full-clause-complete c = λ a. is_complete (De c.args.job.now) c.args.budget (shown_node c.args.top.now) (shown_node c.fire_alone.new.node) (ended.Full c.in-Full.blocked) (ends-full (De c.args.job.now) c.args.budget (shown_node c.args.top.now) c.requires.runnable c.loop-left.fired c.loop-left.last (shown_node c.loop-left.top) c.loop-left.left c.loop-left.invariant c.in-Fire.tag c.of.result (reaction-fires c.args.job.now c.requires.alone c.loop-left.fired c.loop-left.last (node_of (shown_node c.loop-left.top)) c.next.result c.next.ensures c.next_turn.result c.next_turn.ensures c.in-Fire.tag c.in-Fire.is ∙ ap (λ X. job.Fire c.in-Fire.tag X) (sym (c.of.ensures ∙ c.deref.ensures.value ∙ c.new-none.ensures.items))) (shown_node c.fire_alone.new.node) c.in-Full.ensures.outline c.in-Full.blocked c.in-Full.ensures.answers no_meetings (none-are-those (shown_node c.fire_alone.new.node))) a
 
 pub returns-in-Spent-clause-report : goal.returns-in-Spent-clause-report
-returns-in-Spent-clause-report c = ends-within (De c.args.job.now) c.args.budget (shown_node c.args.top.now) c.requires.runnable c.loop-left.fired c.loop-left.last (shown_node c.loop-left.top) c.loop-left.left c.loop-left.invariant c.in-Fire.tag c.of.result (reaction-fires c.args.job.now c.requires.alone c.loop-left.fired c.loop-left.last (node_of (shown_node c.loop-left.top)) c.next.result c.next.ensures c.next_turn.result c.next_turn.ensures c.in-Fire.tag c.in-Fire.is ∙ ap (λ X. job.Fire c.in-Fire.tag X) (sym (c.of.ensures ∙ c.deref.ensures.value ∙ c.new-none.ensures.items))) (shown_node c.fire_within.new.node) c.in-Spent.ensures.outline c.fire_within.new.left c.in-Spent.ensures.counted c.in-Spent.field-0 c.in-Spent.ensures.answers (meets_of (kept_of (shown_node c.fire_within.new.node))) (its-own (shown_node c.fire_within.new.node))
+returns-in-Spent-clause-report c = ends-within (De c.args.job.now) c.args.budget (shown_node c.args.top.now) c.requires.runnable c.loop-left.fired c.loop-left.last (shown_node c.loop-left.top) c.loop-left.left c.loop-left.invariant c.in-Fire.tag c.of.result (reaction-fires c.args.job.now c.requires.alone c.loop-left.fired c.loop-left.last (node_of (shown_node c.loop-left.top)) c.next.result c.next.ensures c.next_turn.result c.next_turn.ensures c.in-Fire.tag c.in-Fire.is ∙ ap (λ X. job.Fire c.in-Fire.tag X) (sym (c.of.ensures ∙ c.deref.ensures.value ∙ c.new-none.ensures.items))) (shown_node c.fire_alone.new.node) c.in-Spent.ensures.outline c.fire_alone.new.left c.in-Spent.ensures.counted c.in-Spent.field-0 c.in-Spent.ensures.answers (meets_of (kept_of (shown_node c.fire_alone.new.node))) (its-own (shown_node c.fire_alone.new.node))
 
 pub returns-in-Spent-clause-complete : goal.returns-in-Spent-clause-complete
-returns-in-Spent-clause-complete c = λ a. is_complete (De c.args.job.now) c.args.budget (shown_node c.args.top.now) (shown_node c.fire_within.new.node) (ended.Spent c.args.budget) (ends-within (De c.args.job.now) c.args.budget (shown_node c.args.top.now) c.requires.runnable c.loop-left.fired c.loop-left.last (shown_node c.loop-left.top) c.loop-left.left c.loop-left.invariant c.in-Fire.tag c.of.result (reaction-fires c.args.job.now c.requires.alone c.loop-left.fired c.loop-left.last (node_of (shown_node c.loop-left.top)) c.next.result c.next.ensures c.next_turn.result c.next_turn.ensures c.in-Fire.tag c.in-Fire.is ∙ ap (λ X. job.Fire c.in-Fire.tag X) (sym (c.of.ensures ∙ c.deref.ensures.value ∙ c.new-none.ensures.items))) (shown_node c.fire_within.new.node) c.in-Spent.ensures.outline c.fire_within.new.left c.in-Spent.ensures.counted c.in-Spent.field-0 c.in-Spent.ensures.answers no_meetings (none-are-those (shown_node c.fire_within.new.node))) a
+returns-in-Spent-clause-complete c = λ a. is_complete (De c.args.job.now) c.args.budget (shown_node c.args.top.now) (shown_node c.fire_alone.new.node) (ended.Spent c.args.budget) (ends-within (De c.args.job.now) c.args.budget (shown_node c.args.top.now) c.requires.runnable c.loop-left.fired c.loop-left.last (shown_node c.loop-left.top) c.loop-left.left c.loop-left.invariant c.in-Fire.tag c.of.result (reaction-fires c.args.job.now c.requires.alone c.loop-left.fired c.loop-left.last (node_of (shown_node c.loop-left.top)) c.next.result c.next.ensures c.next_turn.result c.next_turn.ensures c.in-Fire.tag c.in-Fire.is ∙ ap (λ X. job.Fire c.in-Fire.tag X) (sym (c.of.ensures ∙ c.deref.ensures.value ∙ c.new-none.ensures.items))) (shown_node c.fire_alone.new.node) c.in-Spent.ensures.outline c.fire_alone.new.left c.in-Spent.ensures.counted c.in-Spent.field-0 c.in-Spent.ensures.answers no_meetings (none-are-those (shown_node c.fire_alone.new.node))) a
 
 pub loop-left-smaller : goal.loop-left-smaller
-loop-left-smaller c = falls (De c.args.job.now) c.args.budget (shown_node c.args.top.now) c.requires.runnable c.loop-left.fired c.loop-left.last (shown_node c.loop-left.top) c.loop-left.left c.loop-left.invariant c.in-Fire.tag c.of.result (reaction-fires c.args.job.now c.requires.alone c.loop-left.fired c.loop-left.last (node_of (shown_node c.loop-left.top)) c.next.result c.next.ensures c.next_turn.result c.next_turn.ensures c.in-Fire.tag c.in-Fire.is ∙ ap (λ X. job.Fire c.in-Fire.tag X) (sym (c.of.ensures ∙ c.deref.ensures.value ∙ c.new-none.ensures.items))) (shown_node c.fire_within.new.node) c.in-Done.ensures.outline c.fire_within.new.left c.in-Done.ensures.counted c.in-Done.field-0 c.in-Done.ensures.answers
+loop-left-smaller c = falls (De c.args.job.now) c.args.budget (shown_node c.args.top.now) c.requires.runnable c.loop-left.fired c.loop-left.last (shown_node c.loop-left.top) c.loop-left.left c.loop-left.invariant c.in-Fire.tag c.of.result (reaction-fires c.args.job.now c.requires.alone c.loop-left.fired c.loop-left.last (node_of (shown_node c.loop-left.top)) c.next.result c.next.ensures c.next_turn.result c.next_turn.ensures c.in-Fire.tag c.in-Fire.is ∙ ap (λ X. job.Fire c.in-Fire.tag X) (sym (c.of.ensures ∙ c.deref.ensures.value ∙ c.new-none.ensures.items))) (shown_node c.fire_alone.new.node) c.in-Done.ensures.outline c.fire_alone.new.left c.in-Done.ensures.counted c.in-Done.ensures.answers.0 c.in-Done.ensures.answers.1
 
 pub loop-left-preserved : goal.loop-left-preserved
-loop-left-preserved c = goes-on (De c.args.job.now) c.args.budget (shown_node c.args.top.now) c.requires.runnable c.loop-left.fired c.loop-left.last (shown_node c.loop-left.top) c.loop-left.left c.loop-left.invariant c.in-Fire.tag c.of.result (reaction-fires c.args.job.now c.requires.alone c.loop-left.fired c.loop-left.last (node_of (shown_node c.loop-left.top)) c.next.result c.next.ensures c.next_turn.result c.next_turn.ensures c.in-Fire.tag c.in-Fire.is ∙ ap (λ X. job.Fire c.in-Fire.tag X) (sym (c.of.ensures ∙ c.deref.ensures.value ∙ c.new-none.ensures.items))) (shown_node c.fire_within.new.node) c.in-Done.ensures.outline c.fire_within.new.left c.in-Done.ensures.counted c.in-Done.field-0 c.in-Done.ensures.answers
+loop-left-preserved c = goes-on (De c.args.job.now) c.args.budget (shown_node c.args.top.now) c.requires.runnable c.loop-left.fired c.loop-left.last (shown_node c.loop-left.top) c.loop-left.left c.loop-left.invariant c.in-Fire.tag c.of.result (reaction-fires c.args.job.now c.requires.alone c.loop-left.fired c.loop-left.last (node_of (shown_node c.loop-left.top)) c.next.result c.next.ensures c.next_turn.result c.next_turn.ensures c.in-Fire.tag c.in-Fire.is ∙ ap (λ X. job.Fire c.in-Fire.tag X) (sym (c.of.ensures ∙ c.deref.ensures.value ∙ c.new-none.ensures.items))) (shown_node c.fire_alone.new.node) c.in-Done.ensures.outline c.fire_alone.new.left c.in-Done.ensures.counted c.in-Done.ensures.answers.0 c.in-Done.ensures.answers.1
 
 pub returns-clause-report : goal.returns-clause-report
 returns-clause-report c = ends-spent (De c.args.job.now) c.args.budget (shown_node c.args.top.now) c.requires.runnable c.loop-left.fired c.loop-left.last (shown_node c.loop-left.top) c.loop-left.left c.loop-left.invariant (omega (arith, c.loop-left-test.false)) (meets_of (kept_of (shown_node c.loop-left.top))) (its-own (shown_node c.loop-left.top))
