@@ -3,8 +3,11 @@
 use crate::balance::repetitions;
 use crate::pt_firing::{Actor, Answer, Counts, Inputs, Need, Ports, Tokens, Values};
 use crate::pt_flow_base::Params;
+use crate::pt_chart::{Action, Chart, Mode, Names, Transition, Written};
+use crate::pt_flow_base::PortTypes;
+use crate::pt_language::{BinaryOp, Expr};
 use crate::pt_library::LibraryActor;
-use crate::pt_agenda::Turn;
+use crate::pt_types::Ty;
 use crate::pt_core::Source;
 use crate::pt_directors as directors;
 use crate::pt_de::DeCore;
@@ -12,8 +15,10 @@ use crate::pt_de_plan::{DeInside, DePlan};
 use crate::pt_node::{Body, Held, Labels, Node, Past, Recorded, Records};
 use crate::pt_recv::Channels;
 use crate::pt_sdf::{Core, CorePlan};
+use crate::pt_run::reactions::run_reactions;
 use crate::pt_seq::fire_within;
 use crate::pt_time::Tag;
+use crate::pt_trees::{DeJob, Ended};
 use crate::pt_value::{Items, Text, Token};
 use crate::pt_firing::Fires;
 use crate::rstd::alloc::GLOBAL;
@@ -106,6 +111,13 @@ fn document(kind: &str, size: usize) -> (Vec<Entity>, Vec<(usize, Vec<(usize, &'
             e.push(entity("s".into(), "Server", &[("serviceTime", 1)]));
             e.push(entity("each".into(), "Sampler", &[]));
             groups = vec![(0, vec![(2, "input")]), (2, vec![(3, "input")]), (1, vec![(3, "trigger")])];
+        }
+        // A clock whose ticks a machine counts: in one state it gives its input, in the other nothing.
+        "machine" => {
+            e.push(entity("c".into(), "DiscreteClock", &[("period", 1)]));
+            e.push(entity("m".into(), "Modal", &[]));
+            e.push(entity("out".into(), "Scale", &[]));
+            groups = vec![(0, vec![(1, "input")]), (1, vec![(2, "input")])];
         }
         "sum" | "gathered" => {
             e.push(entity("ramp".into(), "Ramp", &[]));
@@ -381,8 +393,52 @@ fn scale_within(e: &Entity) -> (Body, Row<Node>) {
     (Body::Composite(directors::sdf(core)), row([node_of(&scale, false)]))
 }
 
+fn name(of: &str) -> Expr {
+    Expr::Name(text(of))
+}
+
+fn binary(op: BinaryOp, a: Expr, b: Expr) -> Expr {
+    Expr::Binary(op, rstd_box(a), rstd_box(b))
+}
+
+fn rstd_box(e: Expr) -> crate::rstd::Box<Expr> {
+    crate::rstd::Box::new(GLOBAL, e).ok().unwrap()
+}
+
+/// Two states without refinements: `n` counts ticks, up to three in each.
+fn machine() -> Body {
+    let types = |names: &[&str]| PortTypes::of(row(names.iter().map(|n| (text(n), Ty::Int))));
+    let stays = |gives: bool, target: u32| Transition {
+        guard: binary(BinaryOp::Less, name("n"), Expr::Int(3)),
+        outputs: row(gives.then(|| Action { target: 0, value: binary(BinaryOp::Add, name("n"), name("input")) })),
+        sets: row([Action { target: 0, value: binary(BinaryOp::Add, name("n"), Expr::Int(1)) }]),
+        target,
+        history: true,
+    };
+    let moves = |target: u32| Transition {
+        guard: binary(BinaryOp::GreaterEqual, name("n"), Expr::Int(3)),
+        outputs: row([Action { target: 0, value: name("n") }]),
+        sets: row([Action { target: 0, value: Expr::Int(0) }]),
+        target,
+        history: true,
+    };
+    let mode = |gives: bool, here: u32| Mode { refinement: None, preemptive: row([]), others: row([stays(gives, here), moves(1 - here)]) };
+    let written = Written {
+        names: Names { inputs: types(&["input"]), outputs: types(&["output"]), variables: types(&["n"]), parameters: Values::of(row([])) },
+        values: row([Token::Int(0)]),
+        initial: 0,
+        modes: row([mode(true, 0), mode(false, 1)]),
+        ports: row([]),
+    };
+    let chart = Chart::new(GLOBAL, written).ok().unwrap().unwrap();
+    let plan = crate::pt_modal::CorePlan::of(GLOBAL, chart, row([])).ok().unwrap();
+    Body::Composite(directors::modal(crate::pt_modal::Core::new(GLOBAL, plan).ok().unwrap()))
+}
+
 fn node_of(e: &Entity, recorded: bool) -> Node {
-    let (body, children) = if e.class == "Composite" {
+    let (body, children) = if e.class == "Modal" {
+        (machine(), Row::new(GLOBAL))
+    } else if e.class == "Composite" {
         scale_within(e)
     } else {
         let start = actor_of(e);
@@ -429,12 +485,12 @@ pub fn build(kind: &str, size: usize, iterations: u64, by: &str) -> (Node, usize
     let firings = order.len();
     let children = row(entities.iter().enumerate().map(|(k, e)| node_of(e, k == last)));
     let mut needs = vec![];
-    for child in children.as_slice() {
+    for child in children.as_slice().iter().filter(|_| !is_timed(kind)) {
         let Body::Actor(held) = &child.body else { panic!() };
         let Need::All(need) = held.actor.need() else { panic!() };
         needs.extend(need.as_slice().iter().copied());
     }
-    assert!(needs.len() == channels.len());
+    assert!(is_timed(kind) || needs.len() == channels.len());
     if kind.starts_with("ticks") {
         let plan = crate::pt_sr::CorePlan {
             sources: row(channels.iter().map(|(from, _)| Source::Output(*from as u32, 0))),
@@ -473,7 +529,7 @@ pub fn build(kind: &str, size: usize, iterations: u64, by: &str) -> (Node, usize
 
 /// Whether a model is under DE.
 fn is_timed(kind: &str) -> bool {
-    ["clocks", "server", "spread"].contains(&kind)
+    ["clocks", "server", "spread", "machine"].contains(&kind)
 }
 
 /// Whether a model is under PN.
@@ -498,27 +554,29 @@ fn network_plan(entities: &[Entity], channels: &[(usize, usize)], children: &[No
     }
 }
 
-/// The plan of a DE composite, of which no channel is deeper than two children.
+/// The plan of a DE composite, whose depths are those of its kinds of models.
 fn timed_plan(entities: &[Entity], channels: &[(usize, usize)], children: &[Node]) -> DePlan {
     let actor = |child: usize| {
-        let Body::Actor(held) = &children[child].body else { panic!() };
-        &held.actor
+        match &children[child].body {
+            Body::Actor(held) => Some(&held.actor),
+            Body::Composite(_) => None,
+        }
     };
     let places = |child: usize| entities[child].plus.len() + entities[child].minus.len();
     let mut delayed = vec![];
     for child in 0..entities.len() {
-        delayed.extend((0..places(child)).map(|place| actor(child).is_delay(place)));
+        delayed.extend((0..places(child)).map(|place| actor(child).is_some_and(|actor| actor.is_delay(place))));
     }
     let is_fed = |child: usize| channels.iter().zip(&delayed).any(|((_, to), delayed)| *to == child && !delayed);
     DePlan {
-        depths: row((0..entities.len()).map(|child| is_fed(child) as u32)),
+        depths: row((0..entities.len()).map(|child| if entities[child].name == "out" { 2 } else { is_fed(child) as u32 })),
         inside: DeInside {
             sources: row(channels.iter().map(|(from, _)| Source::Output(*from as u32, 0))),
             places: counts((0..entities.len()).map(places)),
             inputs: 0,
-            early: row((0..entities.len()).map(|child| (0..places(child)).any(|place| actor(child).is_delay(place)))),
+            early: row((0..entities.len()).map(|child| (0..places(child)).any(|place| actor(child).is_some_and(|actor| actor.is_delay(place))))),
             delayed: row(delayed.iter().copied()),
-            whole: row((0..entities.len()).map(|child| actor(child).whole())),
+            whole: row((0..entities.len()).map(|child| actor(child).is_some_and(|actor| actor.whole()))),
             starts: row(children.iter().map(|child| child.next())),
         },
     }
@@ -559,19 +617,15 @@ pub fn fire_once(top: &mut Node) -> u64 {
     }
 }
 
-/// Reactions until the stop time, and how many firings they were, in the loop of pt_run for a top of DE without inputs.
+/// Reactions until the stop time, and how many firings they were.
 #[inline(never)]
 pub fn run_until(top: &mut Node, stop: u64) -> u64 {
-    let none: Row<Tokens> = Row::new(GLOBAL);
-    let (mut left, mut last) = (u64::MAX, None);
-    while let Turn::Fire(tag) = crate::pt_agenda::next_turn(Some(stop), None, top.next(), last) {
-        match fire_within(GLOBAL, top, tag, &Inputs::of(&none), &mut left) {
-            Answer::Done(_) => {}
-            _ => panic!("not done"),
-        }
-        last = Some(tag);
+    let mut left = u64::MAX;
+    let job = DeJob { stop: Some(stop), inputs: Row::new(GLOBAL) };
+    match run_reactions(GLOBAL, top, &job, u64::MAX, &mut left) {
+        Ok(Ended::Stop | Ended::Idle) => u64::MAX - left,
+        _ => panic!("not done"),
     }
-    u64::MAX - left
 }
 
 fn checksum(numbers: impl Iterator<Item = i64>) -> (u64, u64) {
@@ -593,7 +647,7 @@ pub extern "C" fn proto_main() {
         _ if is_network(kind) => fire_once(&mut top),
         "clocks" => run_until(&mut top, 2 * iterations - 1),
         "server" => run_until(&mut top, size as u64 * iterations - 1),
-        "spread" => run_until(&mut top, iterations - 1),
+        "spread" | "machine" => run_until(&mut top, iterations - 1),
         _ => {
             run(&mut top, iterations);
             (firings as u64 + 1) * iterations

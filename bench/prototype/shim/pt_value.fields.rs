@@ -23,6 +23,21 @@ impl Fields {
         }
         Ok(Fields { fields })
     }
+    pub fn of(_alloc: Global, fields: Vec<(Text, Token)>) -> Result<Fields, AllocError> {
+        let mut made = Vec::new(crate::rstd::alloc::GLOBAL);
+        for (name, value) in fields {
+            made.push(Field { name, value })?;
+        }
+        Ok(Fields { fields: made })
+    }
+    pub fn get(&self, name: &str) -> Option<&Token> {
+        for field in &self.fields {
+            if field.name.as_str() == name {
+                return Some(&field.value);
+            }
+        }
+        None
+    }
     pub fn size(&self) -> u64 {
         0
     }

@@ -1,0 +1,2 @@
+pub mod reactions;
+mod turn;
