@@ -25,12 +25,9 @@ pub fn answer(alloc: Global, section: &str, question: &str, out: &mut Answer) {
 }
 
 fn tell_net(alloc: Global, net: &Net, out: &mut Answer) {
-    match values_in(alloc, net) {
-        Some(values) => {
-            let told = tell_machines(alloc, net, &values, out);
-            out.note(told);
-        }
-        None => out.text("no values"),
+    if let Some(values) = values_in(alloc, net, out) {
+        let told = tell_machines(alloc, net, &values, out);
+        out.note(told);
     }
 }
 

@@ -29,12 +29,13 @@ fn run(alloc: Global, written: &str, script: &str, out: &mut Answer) {
     }
 }
 
-fn counts(alloc: Global, written: &str, between: &str) -> Result<Counts, AllocError> {
+/// Some counts in a row.
+pub fn counts(alloc: Global, written: &str, between: &str) -> Result<Counts, AllocError> {
     Ok(Counts::of(each_plain(alloc, written, between, size)?))
 }
 
 /// A need: `1+2` at its places, `.` where there is none, and `-` where the process is over.
-fn need(alloc: Global, word: &str) -> Result<Option<Counts>, AllocError> {
+pub fn need(alloc: Global, word: &str) -> Result<Option<Counts>, AllocError> {
     match word.trim() {
         "-" => Ok(None),
         "." => Ok(Some(Counts::of(Vec::new(alloc)))),

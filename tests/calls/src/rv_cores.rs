@@ -2,8 +2,9 @@ use crate::answer::Answer;
 use crate::cores::{Asked, begin, copied, finish, show_lent, tell_asked};
 use crate::library::place;
 use crate::lists::{each, each_in, each_plain};
-use crate::numbers::{part, size};
+use crate::numbers::part;
 use crate::plans::source;
+use crate::pn_cores::{self, counts};
 use crate::scripts::{self, Subject};
 use crate::tags;
 use pt_firing::{Ask, Counts, Meeting, Need, Outputs};
@@ -29,17 +30,14 @@ fn run(alloc: Global, written: &str, script: &str, out: &mut Answer) {
     }
 }
 
-fn counts(alloc: Global, written: &str, between: &str) -> Result<Counts, AllocError> {
-    Ok(Counts::of(each_plain(alloc, written, between, size)?))
-}
-
-/// A need: `1+2` at its places, `.` where there is none, `any` where a token at any place will do, and `-` where the process is over.
+/// A need as under PN, or `any` where a token at any place will do.
 fn need(alloc: Global, word: &str) -> Result<KeptNeed, AllocError> {
-    match word.trim() {
-        "-" => Ok(KeptNeed::Over),
-        "any" => Ok(KeptNeed::Any),
-        "." => Ok(KeptNeed::Counts(Counts::of(Vec::new(alloc)))),
-        counted => Ok(KeptNeed::Counts(counts(alloc, counted, "+")?)),
+    if word.trim() == "any" {
+        return Ok(KeptNeed::Any);
+    }
+    match pn_cores::need(alloc, word)? {
+        Some(counts) => Ok(KeptNeed::Counts(counts)),
+        None => Ok(KeptNeed::Over),
     }
 }
 

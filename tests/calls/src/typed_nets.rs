@@ -46,19 +46,20 @@ fn answer_about(alloc: Global, paths: &str, document: &str, out: &mut Answer) {
     }
 }
 
-/// What its texts come to, if they come to something.
-pub fn values_in(alloc: Global, net: &Net) -> Option<Values> {
+/// What its texts come to. Where they come to nothing that is told.
+pub fn values_in(alloc: Global, net: &Net, out: &mut Answer) -> Option<Values> {
     nets_are_ordered();
-    values_of(alloc, net).ok()
+    let values = values_of(alloc, net).ok();
+    if values.is_none() {
+        out.text("no values");
+    }
+    values
 }
 
 fn tell_net(alloc: Global, paths: &str, net: &Net, out: &mut Answer) {
-    match values_in(alloc, net) {
-        Some(values) => {
-            let told = tell_typing(alloc, paths, net, &values, out);
-            out.note(told);
-        }
-        None => out.text("no values"),
+    if let Some(values) = values_in(alloc, net, out) {
+        let told = tell_typing(alloc, paths, net, &values, out);
+        out.note(told);
     }
 }
 
