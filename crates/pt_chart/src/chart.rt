@@ -7,7 +7,7 @@ use crate::lists::{empty_lists, picked, shown};
 use crate::reaction::{Reaction, react};
 use crate::typed::is_typed_machine;
 use crate::written::{Mode, Transition, Written, copied_tokens};
-use pt_firing::{Outputs, Tokens};
+use pt_firing::{Inputs, Outputs, Tokens};
 use pt_value::Token;
 use std::alloc::{AllocError, Global};
 use std::marker::Model;
@@ -112,7 +112,7 @@ impl Chart {
         &self,
         alloc: Global,
         refinement: u32,
-        inputs: &[Tokens],
+        inputs: &Inputs<'_>,
     ) -> Result<Vec<Tokens>, AllocError>
         ensures { IfOk result (λ lists. lists.items ≡ modal.picked ((chart_of self.now).in_ports refinement) inputs.now) }
     {
@@ -145,7 +145,7 @@ impl Chart {
         alloc: Global,
         mode: u32,
         values: &[Token],
-        inputs: &[Tokens],
+        inputs: &Inputs<'_>,
     ) -> Result<Reaction, AllocError>
         ensures reaction { IfOk result (λ r. reaction_view r ≡ reacted (chart_of self.old) true mode values.now inputs.now (unfired_outputs (chart_of self.old))) }
         ensures kept { self.new ≡ self.old }
@@ -170,7 +170,7 @@ impl Chart {
         alloc: Global,
         mode: u32,
         values: &[Token],
-        inputs: &[Tokens],
+        inputs: &Inputs<'_>,
         given: Vec<Tokens>,
     ) -> Result<Reaction, AllocError>
         ensures reaction { IfOk result (λ r. reaction_view r ≡ reacted (chart_of self.old) false mode values.now inputs.now given.items) }

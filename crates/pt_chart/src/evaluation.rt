@@ -7,7 +7,7 @@ ghost use Rattle.pt_expr.specs.Env.{scope_of};
 ghost use Rattle.pt_chart.specs.Chart.{test_of, reading_of};
 ghost use Rattle.pt_chart.specs.Told.{test_view, reading_view, told_test, told_reading};
 
-use pt_expr::{Env, eval};
+use pt_expr::{Env, eval, integer, truth_value};
 use pt_firing::RunFault;
 use pt_language::{EvalFault, Expr};
 use pt_value::Token;
@@ -34,7 +34,11 @@ pub(crate) fn test_guard(alloc: Global, guard: &Expr, env: &Env) -> Result<Test,
     requires right { ¬ (value (scope_of env.now) (tree_of guard.now) ≡ Wrong) }
     ensures { IfOk result (λ test. test_view test ≡ test_of (value (scope_of env.now) (tree_of guard.now))) }
 {
-    tested(eval(alloc, guard, env))
+    match truth_value(guard, env) {
+        Some(true) => Ok(Test::On),
+        Some(false) => Ok(Test::Off),
+        None => tested(eval(alloc, guard, env)),
+    }
 }
 
 /// What the expression of an action comes to.
@@ -42,7 +46,10 @@ pub(crate) fn read(alloc: Global, tree: &Expr, env: &Env) -> Result<Reading, All
     requires right { ¬ (value (scope_of env.now) (tree_of tree.now) ≡ Wrong) }
     ensures { IfOk result (λ reading. reading_view reading ≡ reading_of (value (scope_of env.now) (tree_of tree.now))) }
 {
-    told(eval(alloc, tree, env))
+    match integer(tree, env) {
+        Some(n) => Ok(Reading::Reads(Token::Int(n))),
+        None => told(eval(alloc, tree, env)),
+    }
 }
 
 /// How an evaluation tells whether a guard is enabled.

@@ -43,7 +43,7 @@ pub fn copied_inputs(alloc: Global, inputs: &Inputs<'_>) -> Result<Vec<Tokens>, 
 pub(crate) fn picked(
     alloc: Global,
     ports: &[u32],
-    inputs: &[Tokens],
+    inputs: &Inputs<'_>,
 ) -> Result<Vec<Tokens>, AllocError>
     ensures { IfOk result (λ lists. lists.items ≡ picked ports.now inputs.now) }
 {
@@ -97,11 +97,11 @@ fn copy_of(alloc: Global, tokens: &[Token]) -> Result<Tokens, AllocError>
     Ok(copy)
 }
 
-fn copy_at(alloc: Global, lists: &[Tokens], port: usize) -> Result<Tokens, AllocError>
+fn copy_at(alloc: Global, lists: &Inputs<'_>, port: usize) -> Result<Tokens, AllocError>
     ensures { IfOk result (λ tokens. tokens ≡ at lists.now port) }
 {
-    if port >= lists.len() {
+    if port >= lists.places() {
         return Ok(Tokens::new());
     }
-    lists[port].copy(alloc)
+    copy_of(alloc, lists.list(port))
 }

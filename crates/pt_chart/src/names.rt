@@ -11,7 +11,7 @@ ghost use Rattle.pt_chart.specs.Views.{names_view, reads_view};
 
 use crate::written::Names;
 use pt_expr::Env;
-use pt_firing::{Tokens, Values};
+use pt_firing::{Inputs, Tokens, Values};
 use pt_types::{Ty, is_of};
 use pt_value::{Text, Token};
 use std::alloc::{AllocError, Global};
@@ -20,7 +20,7 @@ use std::alloc::{AllocError, Global};
 #[derive(Clone, Copy)]
 pub(crate) struct Reads<'a> {
     pub(crate) values: &'a [Token],
-    pub(crate) inputs: &'a [Tokens],
+    pub(crate) inputs: &'a Inputs<'a>,
     pub(crate) given: &'a [Tokens],
 }
 
@@ -36,7 +36,8 @@ impl Names {
         ensures others { (name : List ℕ) → is_named (names_view self.now) name ≡ false → scope_of env.new name ≡ scope_of env.old name }
     {
         bind_values(env, alloc, self.variables.as_slice(), reads.values)?;
-        bind_ports(env, alloc, self.outputs.as_slice(), reads.given)?;
+        let given = Inputs::of(reads.given);
+        bind_ports(env, alloc, self.outputs.as_slice(), &given)?;
         bind_ports(env, alloc, self.inputs.as_slice(), reads.inputs)?;
         Ok(())
     }
@@ -63,7 +64,7 @@ fn bind_ports(
     env: &mut Env,
     alloc: Global,
     entries: &[(Text, Ty)],
-    lists: &[Tokens],
+    lists: &Inputs<'_>,
 ) -> Result<(), AllocError>
     ensures ok { OnOk result ((name : List ℕ) → scope_of env.new name ≡ with_names 0 (map typed_entry entries.now) (λ port. last_of (at lists.now port)) (scope_of env.old) name) }
     ensures others { (name : List ℕ) → is_among name (names (map typed_entry entries.now)) ≡ false → scope_of env.new name ≡ scope_of env.old name }
@@ -129,11 +130,11 @@ fn held(alloc: Global, ty: &Ty, token: Option<&Token>) -> Result<Option<Token>, 
 }
 
 /// The last token of a port.
-fn last_at(lists: &[Tokens], port: usize) -> Option<&Token>
+fn last_at<'a>(lists: &'a Inputs<'_>, port: usize) -> Option<&'a Token>
     ensures { option_map (λ t. t.now) result ≡ last_of (at lists.now port) }
 {
-    if port < lists.len() {
-        last(lists[port].as_slice())
+    if port < lists.places() {
+        last(lists.list(port))
     } else {
         None
     }

@@ -14,7 +14,7 @@ use crate::bindings::Bindings;
 use crate::choose::{Choice, choose};
 use crate::names::Reads;
 use crate::written::{Names, Transition, copied_tokens};
-use pt_firing::{RunFault, Tokens};
+use pt_firing::{Inputs, RunFault, Tokens};
 use pt_value::Token;
 use std::alloc::{AllocError, Global};
 
@@ -45,7 +45,7 @@ pub(crate) fn react(
     names: &Names,
     bindings: &mut Bindings,
     values: &[Token],
-    inputs: &[Tokens],
+    inputs: &Inputs<'_>,
     given: Vec<Tokens>,
 ) -> Result<Reaction, AllocError>
     requires typed { are_typed_transitions (types_of (names_view names.now)) (map transition_view transitions.now) ≡ true }

@@ -1,6 +1,7 @@
-ghost use Rattle.std.specs.Prelude.{◌≡◌, ◌⊎◌, OnOk, OnErr, IfOk, IfErr, None, Some, List, ℕ, option_map, if◌then◌else◌};
+ghost use Rattle.std.specs.Prelude.{◌≡◌, ◌⊎◌, OnOk, OnErr, IfOk, IfErr, IfSome, None, Some, List, ℕ, option_map, if◌then◌else◌};
 ghost use Rattle.std.specs.Str.{bytes_eq};
 ghost use Rattle.pt_value.specs.Token.{value_of};
+ghost use Rattle.pt_value.specs.Value.{Int, Bool};
 ghost use Rattle.pt_language.specs.declared.eval_fault.EvalFault.TheVariants.{Memory};
 ghost use Rattle.pt_language.specs.Outcome.{Gives, Stops, Wrong};
 ghost use Rattle.pt_language.specs.Scope.{named, port_in, presence};
@@ -53,6 +54,26 @@ impl Env {
                 Some(port) => Ok(self.presence(port)),
                 None => unreachable!(),
             },
+        }
+    }
+
+    /// The integer that a name stands for.
+    pub(crate) fn integer(&self, name: &str) -> Option<i64>
+        ensures { IfSome result (λ n. named (scope_of self.now) name.now ≡ Gives (Int n)) }
+    {
+        match self.bound.get(name) {
+            Some(Some(Token::Int(n))) => Some(*n),
+            _ => None,
+        }
+    }
+
+    /// The truth value that a name stands for.
+    pub(crate) fn truth_value(&self, name: &str) -> Option<bool>
+        ensures { IfSome result (λ b. named (scope_of self.now) name.now ≡ Gives (Bool b)) }
+    {
+        match self.bound.get(name) {
+            Some(Some(Token::Bool(b))) => Some(*b),
+            _ => None,
         }
     }
 

@@ -4,6 +4,8 @@
 mod env;
 mod evaluation;
 mod operators;
+mod quick;
 
 pub use env::Env;
 pub use evaluation::eval;
+pub use quick::{integer, truth_value};

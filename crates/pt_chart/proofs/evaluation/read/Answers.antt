@@ -9,7 +9,7 @@ use Rattle.std.proofs.Common.{◌≡◌}
 use Rattle.pt_chart.proofs.EvaluationLaws.{reading-told}
 use Rattle.pt_chart.proofs.evaluation.read.Goals as goal
 
-pub returns : goal.returns
-returns c =
+pub returns-in-None : goal.returns-in-None
+returns-in-None c =
     let o = value (scope_of c.args.env.now) (tree_of c.args.tree.now) in
     IfOk-weaker c.told.result (λ (t : Reading). told_reading c.eval.result (reading_view t)) (λ (t : Reading). reading_view t ≡ reading_of o) (λ t told. reading-told c.eval.result o (reading_view t) c.eval.ensures.ok c.eval.ensures.err told) c.told.ensures
