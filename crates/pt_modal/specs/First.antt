@@ -1,5 +1,5 @@
 -- A reaction by what comes of its guards: first the preemptive ones, then, where the mode has no refinement or once it was told, the others.
-use Rattle.std.specs.Prelude.{◌≡◌, ℕ, List, Bool, true, false, Option, Some, None}
+use Rattle.std.specs.Prelude.{◌≡◌, ℕ, List, [], Bool, true, false, Option, Some, None}
 use Rattle.pt_meaning.specs.Streams.{Streams}
 use Rattle.pt_meaning.specs.Modal.{Chart, Modes, picked, unfired_outputs}
 use Rattle.pt_modal_laws.specs.State.{ModalState, Due, Over, Failed, in_stage, with_outcome, moved_stays, stage_after, chart_in}
@@ -9,6 +9,11 @@ use Rattle.pt_chart.specs.Reacted.{Reacted, Stays, Moves, Stops, reacted}
 pub data FirstStep (T : Type 0) : Type 0 where
   Fires : (refinement : ℕ) (lists : Streams T) → FirstStep T
   Comes : Reacted T → FirstStep T
+
+-- what is kept of the inputs: all where the refinement is to fire
+abbrev pub kept_for : {T : Type 0} → FirstStep T → Streams T → Streams T
+kept_for (Fires i lists) inputs = inputs
+kept_for (Comes r) inputs = []
 
 -- the lists are what a refinement takes of these inputs
 abbrev pub Picks : {T : Type 0} → Chart T → Streams T → FirstStep T → Type 0

@@ -8,7 +8,7 @@ use crate::modes::Modes;
 use crate::plan::CorePlan;
 use crate::stage::Stage;
 use crate::wakes::{lagged, set_wake, wake_of};
-use pt_chart::{Move, Reaction, copied_inputs};
+use pt_chart::{Move, Reaction};
 use pt_firing::{Ask, Counts, Inputs, Outputs, Tokens};
 use pt_time::Tag;
 use std::alloc::{AllocError, Global};
@@ -98,9 +98,9 @@ impl Core {
         ensures begun { OnOk result (self.new ≡ begun chart_of tag inputs.now self.old) }
         ensures kept { OnErr result (self.new ≡ self.old) }
     {
-        let inputs = copied_inputs(alloc, inputs)?;
-        let step = self.plan.first_step(alloc, &self.modes, &inputs)?;
-        self.open(alloc, tag, inputs);
+        let step = self.plan.first_step(alloc, &self.modes, inputs)?;
+        let kept = step.kept(alloc, inputs)?;
+        self.open(alloc, tag, kept);
         self.go_on(step);
         Ok(())
     }
@@ -224,10 +224,10 @@ impl Core {
         ensures told { OnOk result (self.new ≡ after_told chart_of refinement outputs.now wake self.old) }
         ensures kept { OnErr result (self.new ≡ self.old) }
     {
-        let inputs = self.lists.inputs.as_slice();
+        let inputs = Inputs::of(self.lists.inputs.as_slice());
         let reaction = self
             .plan
-            .follow(alloc, &self.modes, inputs, refinement, outputs)?;
+            .follow(alloc, &self.modes, &inputs, refinement, outputs)?;
         set_wake(&mut self.wakes, refinement, wake);
         self.settle(reaction);
         Ok(())

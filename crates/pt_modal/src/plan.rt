@@ -3,7 +3,7 @@ ghost use Rattle.std.specs.Prelude.{◌≡◌, IfOk, replicate, length};
 use crate::first::{FirstStep, first_step};
 use crate::modes::Modes;
 use pt_chart::{Chart, Reaction};
-use pt_firing::{Counts, Outputs, Tokens};
+use pt_firing::{Counts, Inputs, Outputs};
 use pt_time::Tag;
 use std::alloc::{AllocError, Global};
 use std::marker::Model;
@@ -97,7 +97,7 @@ impl CorePlan {
         &mut self,
         alloc: Global,
         modes: &Modes,
-        inputs: &[Tokens],
+        inputs: &Inputs<'_>,
     ) -> Result<FirstStep, AllocError>
         ensures first { IfOk result (λ step. first_view step ≡ first_step (chart_of self.old.machine) modes.now inputs.now) }
         ensures kept { self.new ≡ self.old }
@@ -110,7 +110,7 @@ impl CorePlan {
         &mut self,
         alloc: Global,
         modes: &Modes,
-        inputs: &[Tokens],
+        inputs: &Inputs<'_>,
         refinement: u32,
         outputs: &Outputs,
     ) -> Result<Reaction, AllocError>

@@ -34,11 +34,11 @@ use Rattle.pt_core.specs.Acts.{Beginning}
 use Rattle.pt_core.specs.Lawful.{Lawful, Middle, IsUsual, IsMove, IsLentTo, IsStuck, IsLeftOff, node, outcome, own_fault, below_fault}
 use Rattle.pt_core.specs.Reached.{Stays, Resets}
 use Rattle.pt_core.proofs.MetLaws.{tells-none}
-use Rattle.pt_modal_laws.specs.State.{ModalPlan, Stage, Due, Asked, Over, Closed, Failed, resets_in, in_stage, opened, with_wake, after_reset, closed, chart_in, begun, after_told}
+use Rattle.pt_modal_laws.specs.State.{ModalPlan, Stage, Due, Asked, Over, Closed, Failed, resets_in, in_stage, opened, with_wake, after_reset, closed, chart_in, after_preemptive, begun, after_told}
 use Rattle.pt_modal_laws.specs.State as state
 use Rattle.pt_modal_laws.specs.Chain.{IsKnownIn, IsKnown, firing_from, IsDue, due_from, local_of, inputs_for}
 use Rattle.pt_modal_laws.specs.ModalActs.{State, Suits, MayAsk, Settles, Begins, Going, Waits, Knows, Gives, modal_calls, modal_acts}
-use Rattle.pt_modal_laws.proofs.PartLaws.{numbered-get, silents-below, map-set, due-number, known-asks, known-log, never-due, Keeps, preemptive-keeps, given-asks}
+use Rattle.pt_modal_laws.proofs.PartLaws.{numbered-get, silents-below, map-set, due-number, known-asks, known-log, never-due, Keeps, preemptive-keeps, pared-keeps, given-asks}
 use Rattle.pt_modal_laws.proofs.NodeLaws.{wakes-are, again-starts, suits-set, suits-again}
 use Rattle.pt_modal_laws.proofs.FiringLaws.{start, composite-at, within, off-begins, asks-one, lends-one, goes-one, sticks-one, within-one}
 use Rattle.pt_modal_laws.proofs.ReactionLaws.{calls-are-modal}
@@ -295,7 +295,10 @@ module _ {M A : Type 0} (reads : M → Chart Token) (rows : Rows Token A) (law :
       one (inr y) = y
 
   opening-keeps : Keeps reads (opened b.tag b.inputs b.before) opening
-  opening-keeps = preemptive-keeps reads (chosen 0 ((chart_in reads b.before).preemptive b.before.modes.mode b.before.modes.values b.inputs)) (opened b.tag b.inputs b.before)
+  opening-keeps =
+      let first = chosen 0 ((chart_in reads b.before).preemptive b.before.modes.mode b.before.modes.values b.inputs) in
+      let start = opened b.tag b.inputs b.before in
+      pared-keeps reads start (after_preemptive reads first start) (preemptive-keeps reads first start)
 
   begins-so : Begins reads rows b → Going reads rows b opening (list_of b.kids) b.olds
   begins-so w = by (opens 0 0)

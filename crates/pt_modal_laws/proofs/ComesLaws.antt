@@ -4,11 +4,12 @@ use Rattle.pt_meaning.specs.Streams.{Streams}
 use Rattle.pt_meaning.specs.Tag.{local}
 use Rattle.pt_meaning.specs.Modal.{Test, Off, On, Bad, Chart, Choice, Nothing, One, Wrong, Acted, Acts, Fails, after_on, chosen, lag_of, unfired_outputs}
 use Rattle.pt_value.specs.declared.token.Token.{Token}
+use Rattle.pt_firing.specs.declared.ask.Ask.{Ask}
 use Rattle.pt_firing.specs.declared.ask.Ask.TheVariants as ask
 use Rattle.pt_firing.specs.declared.fault.RunFault.TheVariants.{Ambiguous}
-use Rattle.pt_modal_laws.specs.State.{Failed, stage_after, moved_stays, with_outcome, opened, with_wake, chart_in, after_taken, after_chosen, after_given, after_calm, after_preemptive}
+use Rattle.pt_modal_laws.specs.State.{Failed, stage_after, moved_stays, with_outcome, opened, pared, with_wake, chart_in, after_taken, after_chosen, after_given, after_calm, after_preemptive}
 use Rattle.pt_meaning.specs.Modal.{Modes}
-use Rattle.pt_modal_laws.specs.ModalActs.{State}
+use Rattle.pt_modal_laws.specs.ModalActs.{State, Gives}
 use Rattle.pt_modal_laws.specs.Comes.{IsCode, AreCodedTests, IsCodedActed, IsCoded, SomethingComes, AlwaysComes}
 
 -- a choice fails by a fault of a run
@@ -64,9 +65,29 @@ module _ {M : Type 0} (reads : M → Chart Token) where
   preemptive-comes s coded (One n) h = taken-comes s true n ((chart_in reads s).act true s.modes.mode n s.modes.values s.inputs (unfired_outputs (chart_in reads s))) (coded.act true s.modes.mode n s.modes.values s.inputs (unfired_outputs (chart_in reads s)))
   preemptive-comes s coded (Wrong code) h = (ask.Faulted h.0 None, ap (λ c. Failed c) h.1)
 
+-- what is kept of the inputs changes no answer
+pared-gives : {M : Type 0} (s : State M) (answer : Ask) → Gives s answer → Gives (pared s) answer
+pared-gives s (ask.Fire child tag) g = g
+pared-gives s (ask.Reset child) g = g
+pared-gives s ask.Finished g = g
+pared-gives s (ask.Faulted kind None) g = g
+pared-gives s (ask.Faulted kind (Some child)) g = g
+pared-gives s (ask.Early child tag) g = g
+pared-gives s (ask.Get child) g = g
+pared-gives s (ask.Put child) g = g
+pared-gives s ask.Grow g = g
+pared-gives s (ask.Meet meeting) g = g
+pared-gives s ask.Await g = g
+pared-gives s ask.Full g = g
+
+pared-comes : {M : Type 0} (s : State M) → SomethingComes s → SomethingComes (pared s)
+pared-comes s x = (x.0, pared-gives s x.0 x.1)
+
 pub always-comes : {M : Type 0} (reads : M → Chart Token) → AlwaysComes reads
 always-comes reads = record {
-  begun = λ s coded tag inputs. let tests = (chart_in reads s).preemptive s.modes.mode s.modes.values inputs in preemptive-comes reads (opened tag inputs s) coded (chosen 0 tests) (chosen-coded 0 tests (coded.preemptive s.modes.mode s.modes.values inputs));
+  begun = λ s coded tag inputs.
+      let tests = (chart_in reads s).preemptive s.modes.mode s.modes.values inputs in
+      pared-comes (after_preemptive reads (chosen 0 tests) (opened tag inputs s)) (preemptive-comes reads (opened tag inputs s) coded (chosen 0 tests) (chosen-coded 0 tests (coded.preemptive s.modes.mode s.modes.values inputs)));
   told = λ s coded child out wake. given-comes reads (with_wake child wake s) coded _;
   reset = λ s child. (ask.Finished, refl);
 }

@@ -12,7 +12,7 @@ use Rattle.pt_meaning.specs.Closed.{as_own}
 use Rattle.pt_laws.specs.Explained.{Turned, gives_in}
 use Rattle.pt_laws.specs.LogsOfRuns.{silents, logs_then, log_at, log_in}
 use Rattle.pt_laws.proofs.Order.{IsPrefix-refl}
-use Rattle.pt_modal_laws.specs.State.{Stage, Idle, Due, Asked, Resets, Over, Closed, Failed, ModalState, stage_after, chart_in, after_taken, after_chosen, after_given, after_calm, after_preemptive}
+use Rattle.pt_modal_laws.specs.State.{Stage, Idle, Due, Asked, Resets, Over, Closed, Failed, ModalState, stage_after, pared, chart_in, after_taken, after_chosen, after_given, after_calm, after_preemptive}
 use Rattle.pt_modal_laws.specs.Chain.{IsKnownIn}
 use Rattle.pt_modal_laws.specs.ModalActs.{MayAsk}
 
@@ -189,6 +189,9 @@ module _ {T M : Type 0} (reads : M → Chart T) where
   preemptive-keeps Nothing s = calm-keeps ((chart_in reads s).refinement s.modes.mode) s
   preemptive-keeps (One n) s = taken-keeps true n ((chart_in reads s).act true s.modes.mode n s.modes.values s.inputs (unfired_outputs (chart_in reads s))) s
   preemptive-keeps (Wrong code) s = record { plan = refl; wakes = refl; reset = λ i e. absurd (failed-resets code i e) }
+
+  pub pared-keeps : (s t : ModalState T M) → Keeps reads s t → Keeps reads s (pared t)
+  pared-keeps s t k = record { plan = k.plan; wakes = k.wakes; reset = k.reset }
 
   -- and it may be asked what comes next
   taken-asks : (early : Bool) (n : ℕ) (a : Acted T) (s : ModalState T M) → MayAsk (after_taken reads early n a s).stage

@@ -6,7 +6,7 @@ use Rattle.pt_meaning.specs.Log.{Log, silent, log_then, own}
 use Rattle.pt_meaning.specs.Machine.{Fault, Outcome, Done, Stuck, Stepping, Facts, recorded}
 use Rattle.pt_meaning.specs.Net.{Inside, prefixed}
 use Rattle.pt_meaning.specs.Modal.{Chart, Modes, Choice, Nothing, One, Wrong, Acted, Acts, Fails, chosen, change_at, change_if, reset_unless, shown, below_number, unfired_outputs, taken, afterwards, put_state, on_refinement, at_refinement, with_refinement, preempted}
-use Rattle.pt_modal_laws.specs.State.{Stage, Asked, Resets, ModalState, stage_after, in_stage, opened, with_wake, after_reset, chart_in, after_taken, after_chosen, after_calm, after_preemptive, begun, after_told}
+use Rattle.pt_modal_laws.specs.State.{Stage, Asked, Resets, ModalState, stage_after, in_stage, opened, pared, with_wake, after_reset, chart_in, after_taken, after_chosen, after_calm, after_preemptive, begun, after_told}
 use Rattle.pt_modal_laws.specs.Chain.{IsKnownIn, IsKnown, firing_from, IsDue, due_from, local_of, inputs_for, CallsAreModal}
 
 -- an entry that is put in the place of what is there
@@ -66,11 +66,20 @@ module _ {T M S : Type 0} (reads : M → Chart T) (facts : Facts T S) (step : St
     choice-begins (One n) = inr (taken-known start true n kids silent (chart.act true before.modes.mode n before.modes.values inputs (unfired_outputs chart)))
     choice-begins (Wrong code) = inr refl
 
+    -- what is kept of the inputs changes nothing of that
+    pared-begins : (c : Choice) (s : ModalState T M) (r : Outcome T (Inside (Modes T) S)) → Begun c s r → Begun c (pared s) r
+    unfolding Begun
+    pared-begins c s r (inl b) = inl (b.0, b.1, b.2, ap (λ (t : ModalState T M). pared t) b.3)
+    pared-begins c s r (inr k) = inr k
+
     begins-one : ((i : ℕ) × IsDue reads before tag inputs i × (begun reads tag inputs before ≡ due i)) ⊎ IsKnown facts.reset made (begun reads tag inputs before) kids silent (firing_from reads facts step made before kids tag inputs)
     unfolding Begun
-    begins-one = by (choice-begins (chosen 0 (chart.preemptive before.modes.mode before.modes.values inputs)))
+    begins-one = by (pared-begins first (after_preemptive reads first start) (firing_from reads facts step made before kids tag inputs) (choice-begins first))
       where
-        by : Begun (chosen 0 (chart.preemptive before.modes.mode before.modes.values inputs)) (begun reads tag inputs before) (firing_from reads facts step made before kids tag inputs) →
+        first : Choice
+        first = chosen 0 (chart.preemptive before.modes.mode before.modes.values inputs)
+
+        by : Begun first (begun reads tag inputs before) (firing_from reads facts step made before kids tag inputs) →
             ((i : ℕ) × IsDue reads before tag inputs i × (begun reads tag inputs before ≡ due i)) ⊎ IsKnown facts.reset made (begun reads tag inputs before) kids silent (firing_from reads facts step made before kids tag inputs)
         by (inl r) = inl (r.0, record { calm = r.1; current = r.2 }, r.3)
         by (inr k) = inr k

@@ -56,6 +56,16 @@ stage_after keeps None = Over
 stage_after true (Some i) = Over
 stage_after false (Some i) = Resets i
 
+-- What came to the own inputs is kept where a refinement is to fire, for the guards over what it gives; once it is known what comes of the guards nobody asks for it.
+abbrev pub kept_in : {T : Type 0} → Stage → Streams T → Streams T
+kept_in Idle inputs = []
+kept_in (Due i) inputs = inputs
+kept_in (Asked i) inputs = []
+kept_in (Resets i) inputs = []
+kept_in Over inputs = []
+kept_in Closed inputs = []
+kept_in (Failed code) inputs = []
+
 -- the times of the refinements once a transition was taken at a time: of the one that is left, and of the one that is entered, whose time starts again at 0 without history
 abbrev pub moved_stays : (time : ℕ) → (keeps : Bool) → (left entered : Option ℕ) → List Stay → List Stay
 moved_stays time keeps left entered stays = change_if entered (entered_at time) (change_if entered (fresh_unless keeps) (change_if left (left_at time) stays))
@@ -76,6 +86,10 @@ module _ {T M : Type 0} where
   -- a reaction begins at a tag on these inputs, and no guard is tested yet
   abbrev pub opened : Tag → Streams T → ModalState T M → ModalState T M
   opened tag inputs s = record { plan = s.plan; modes = s.modes; wakes = s.wakes; tag = tag; inputs = inputs; outputs = []; stage = Idle }
+
+  -- once the reaction has begun
+  abbrev pub pared : ModalState T M → ModalState T M
+  pared s = record { plan = s.plan; modes = s.modes; wakes = s.wakes; tag = s.tag; inputs = kept_in s.stage s.inputs; outputs = s.outputs; stage = s.stage }
 
   -- child i has this wake
   abbrev pub with_wake : ℕ → Option Tag → ModalState T M → ModalState T M
@@ -135,7 +149,7 @@ module _ {T M : Type 0} (reads : M → Chart T) where
   after_preemptive (Wrong code) s = in_stage (Failed code) s
 
   abbrev pub begun : Tag → Streams T → ModalState T M → ModalState T M
-  begun tag inputs s = after_preemptive (chosen 0 ((chart_in s).preemptive s.modes.mode s.modes.values inputs)) (opened tag inputs s)
+  begun tag inputs s = pared (after_preemptive (chosen 0 ((chart_in s).preemptive s.modes.mode s.modes.values inputs)) (opened tag inputs s))
 
   -- the refinement i has fired and gave this on its ports
   abbrev pub after_told : ℕ → Streams T → Option Tag → ModalState T M → ModalState T M

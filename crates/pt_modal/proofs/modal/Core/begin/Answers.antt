@@ -7,9 +7,9 @@ use Rattle.pt_modal_laws.specs.State.{ModalPlan, opened, begun}
 use Rattle.pt_modal_laws.specs.ModalActs.{State}
 use Rattle.pt_modal.specs.Stage.{stage_of, IsAtHand}
 use Rattle.pt_modal.specs.Seen.{seen_core}
-use Rattle.pt_modal.specs.First.{FirstStep, Picks, first_step, after_first}
+use Rattle.pt_modal.specs.First.{FirstStep, Picks, kept_for, after_first}
 use Rattle.pt_modal.specs.Views.{first_view}
-use Rattle.pt_modal.proofs.FirstLaws.{begun-is, first-picks}
+use Rattle.pt_modal.proofs.FirstLaws.{begun-is, first-picks, kept-picks}
 use Rattle.pt_modal.proofs.CoreLaws.{state}
 use Rattle.pt_modal.proofs.modal.Core.begin.Goals as goal
 
@@ -24,9 +24,9 @@ go_on-requires c =
     let i = c.self.inside in
     let view = first_view c.in_ok-step.step in
     let chart = chart_of i.plan.machine in
-    let by-lent = subst (λ (f : FirstStep Token). Picks chart c.deref.result.now f) (sym c.in_ok-step.ensures.first) (first-picks chart i.modes c.deref.result.now) in
-    let by-own = subst (λ (X : Streams Token). Picks chart X view) c.deref.ensures.value by-lent in
-    let by-plan = subst (λ (p : ModalPlan Machine). Picks (chart_of p.machine) c.in_ok-inputs.inputs.items view) (sym c.first_step.ensures.kept) by-own in
+    let by-lent = subst (λ (f : FirstStep Token). Picks chart c.args.inputs.now f) (sym c.in_ok-step.ensures.first) (first-picks chart i.modes c.args.inputs.now) in
+    let by-own = subst (λ (X : Streams Token). Picks chart X view) (sym c.in_ok-kept.ensures) (kept-picks chart c.args.inputs.now view by-lent) in
+    let by-plan = subst (λ (p : ModalPlan Machine). Picks (chart_of p.machine) c.in_ok-kept.kept.items view) (sym c.first_step.ensures.kept) by-own in
     subst (λ (s : State Machine). Picks (chart_of s.plan.machine) s.inputs view) (sym c.open.ensures) by-plan
 
 pub returns-clause-begun : goal.returns-clause-begun
@@ -37,9 +37,8 @@ returns-clause-begun c =
     let chart = chart_of i.plan.machine in
     c.go_on.ensures
     ∙ ap (λ (t : State Machine). after_first chart_of view t) c.open.ensures
-    ∙ ap (λ (p : ModalPlan Machine). after_first chart_of view (opened c.args.tag c.in_ok-inputs.inputs.items (state p i.modes i.wakes.items i.tag i.lists.inputs.items i.lists.outputs.items (stage_of i.stage)))) c.first_step.ensures.kept
-    ∙ ap (λ (f : FirstStep Token). after_first chart_of f (opened c.args.tag c.in_ok-inputs.inputs.items s)) c.in_ok-step.ensures.first
-    ∙ ap (λ (X : Streams Token). after_first chart_of (first_step chart i.modes X) (opened c.args.tag c.in_ok-inputs.inputs.items s)) c.deref.ensures.value
-    ∙ begun-is chart_of c.args.tag c.in_ok-inputs.inputs.items s
-    ∙ ap (λ (X : Streams Token). begun chart_of c.args.tag X s) c.in_ok-inputs.ensures
+    ∙ ap (λ (p : ModalPlan Machine). after_first chart_of view (opened c.args.tag c.in_ok-kept.kept.items (state p i.modes i.wakes.items i.tag i.lists.inputs.items i.lists.outputs.items (stage_of i.stage)))) c.first_step.ensures.kept
+    ∙ ap (λ (X : Streams Token). after_first chart_of view (opened c.args.tag X s)) c.in_ok-kept.ensures
+    ∙ ap (λ (f : FirstStep Token). after_first chart_of f (opened c.args.tag (kept_for f c.args.inputs.now) s)) c.in_ok-step.ensures.first
+    ∙ begun-is chart_of c.args.tag c.args.inputs.now s
     ∙ ap (λ (t : State Machine). begun chart_of c.args.tag c.args.inputs.now t) c.self.view_is

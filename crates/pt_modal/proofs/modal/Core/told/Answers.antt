@@ -33,6 +33,6 @@ returns-clause-told c =
     ∙ ap (λ (p : ModalPlan Machine). after_reacted chart_of r (state p i.modes c.set_wake.new.wakes.items i.tag i.lists.inputs.items i.lists.outputs.items (stage_of i.stage))) c.follow.ensures.kept
     ∙ ap (λ (ws : List (Option Tag)). after_reacted chart_of r (state i.plan i.modes ws i.tag i.lists.inputs.items i.lists.outputs.items (stage_of i.stage))) c.set_wake.ensures
     ∙ ap (λ (q : Reacted Token). after_reacted chart_of q (with_wake c.args.refinement c.args.wake s)) c.in_ok-reaction.ensures.reaction
-    ∙ ap (λ (X : Streams Token). after_reacted chart_of (reacted chart false i.modes.mode i.modes.values X given) (with_wake c.args.refinement c.args.wake s)) c.as_slice-inputs.ensures.value
+    ∙ ap (λ (X : Streams Token). after_reacted chart_of (reacted chart false i.modes.mode i.modes.values X given) (with_wake c.args.refinement c.args.wake s)) (c.of-inputs.ensures ∙ c.as_slice.ensures.value)
     ∙ told-is chart_of c.args.refinement c.args.outputs.now c.args.wake s
     ∙ ap (λ (t : State Machine). after_told chart_of c.args.refinement c.args.outputs.now c.args.wake t) c.self.view_is
