@@ -10,7 +10,7 @@ use Rattle.pt_lib_data.specs.declared.data_actor.DataActor.{DataActor}
 use Rattle.pt_lib_data.specs.declared.function.Class.{Class}
 use Rattle.pt_lib_data.specs.declared.function.Class.TheVariants as class
 use Rattle.pt_lib_data.specs.declared.function.Function.{Function}
-use Rattle.pt_lib_data.specs.declared.function.Function.TheVariants.{ArrayElement, ArrayToSequence, Comparator, Discard, ElementsToArray, Equals, Limiter, LogicFunction, LogicalNot, RecordAssembler, RecordDisassembler, SequenceToArray, StringLength}
+use Rattle.pt_lib_data.specs.declared.function.Function.TheVariants.{ArrayElement, ArrayToSequence, Barrier, Comparator, Discard, ElementsToArray, Equals, Limiter, LogicFunction, LogicalNot, RecordAssembler, RecordDisassembler, SequenceToArray, StringLength}
 use Rattle.pt_lib_data.specs.ArrayElement as array_element
 use Rattle.pt_lib_data.specs.Comparator as comparator
 use Rattle.pt_lib_data.specs.Limiter as limiter
@@ -62,6 +62,7 @@ same-as g f h e = let same : g ≡ f = cc in subst IsInRange same h
 in-range : (c : Class) (values : List (List ℕ × Token)) (ports : List (List ℕ × ℕ)) (f : Function) → function.start_as c values ports ≡ Some f → IsInRange f
 in-range class.ArrayElement values ports f e = from ArrayElement (array_element.start values) f (λ x h. (λ n. ones 1, ones 1)) e
 in-range class.ArrayToSequence values ports f e = from ArrayToSequence (sequence_to_array.start values) f (λ x h. (λ n. ones 1, (length-ranged (int_or (codes "arrayLength") (pos 1) values) x h, tt))) e
+in-range class.Barrier values ports f e = same-as Barrier f (λ n. ones n, ones 1) e
 in-range class.Comparator values ports f e = from Comparator (comparator.start values) f (λ x h. (λ n. ones 2, ones 1)) e
 in-range class.Discard values ports f e = same-as Discard f (λ n. ones n, tt) e
 in-range class.ElementsToArray values ports f e = same-as ElementsToArray f (λ n. ones n, ones 1) e

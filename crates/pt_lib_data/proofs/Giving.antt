@@ -16,7 +16,7 @@ use Rattle.pt_firing.specs.declared.fault.RunFault.TheVariants.{Size, Length, Ov
 use Rattle.pt_lib_data.specs.declared.comparator.Relation.{Relation}
 use Rattle.pt_lib_data.specs.declared.data_actor.DataActor.{DataActor}
 use Rattle.pt_lib_data.specs.declared.function.Function.{Function}
-use Rattle.pt_lib_data.specs.declared.function.Function.TheVariants.{ArrayElement, ArrayToSequence, Comparator, Discard, ElementsToArray, Equals, Limiter, LogicFunction, LogicalNot, RecordAssembler, RecordDisassembler, SequenceToArray, StringLength}
+use Rattle.pt_lib_data.specs.declared.function.Function.TheVariants.{ArrayElement, ArrayToSequence, Barrier, Comparator, Discard, ElementsToArray, Equals, Limiter, LogicFunction, LogicalNot, RecordAssembler, RecordDisassembler, SequenceToArray, StringLength}
 use Rattle.pt_lib_data.specs.Reply.{Reply, Gives, Fails, one, nothing, on, sized, largest}
 use Rattle.pt_lib_data.specs.ArrayElement as array_element
 use Rattle.pt_lib_data.specs.ArrayToSequence as array_to_sequence
@@ -136,6 +136,7 @@ measured (Some (token.Record fs)) = none 1
 pours : (f : Function) (X : Streams Token) → Pours (function.rates f) (function.give f X)
 pours (ArrayElement index) X = element index (token_at X 0)
 pours (ArrayToSequence count) X = elements count (token_at X 0)
+pours Barrier X = by-test (1 ∷ []) (all_present X) (sized (elements_to_array.array_of (elements_to_array.firsts X))) nothing (one-sized (elements_to_array.array_of (elements_to_array.firsts X))) (none 1)
 pours (Comparator relation) X = compared relation (number_at X 0) (number_at X 1)
 pours Discard X = λ port rate e. absurd (cc)
 pours ElementsToArray X = by-test (1 ∷ []) (all_present X) (sized (elements_to_array.array_of (elements_to_array.firsts X))) nothing (one-sized (elements_to_array.array_of (elements_to_array.firsts X))) (none 1)

@@ -23,6 +23,10 @@ rates actor = function.rates actor.function
 abbrev pub is_steady : DataActor → Bool
 is_steady actor = true
 
+-- it takes a token of each channel in one meeting, under Rendezvous
+abbrev pub is_barrier : DataActor → Bool
+is_barrier actor = function.is_barrier actor.function
+
 abbrev pub need : DataActor → Need
 need actor = Counts actor.needed
 

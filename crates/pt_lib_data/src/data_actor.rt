@@ -68,6 +68,13 @@ impl DataActor {
         true
     }
 
+    /// Whether under Rendezvous it takes a token of each channel in one meeting.
+    pub fn is_barrier(&self) -> bool
+        ensures { result ≡ data_actor.is_barrier self.now }
+    {
+        self.function.is_barrier()
+    }
+
     /// Whether it begins by itself: it has no input places.
     pub fn begins(&self) -> bool
         ensures { result ≡ data_actor.rows.begins self.now }

@@ -18,6 +18,7 @@ use std::alloc::{AllocError, Global};
 pub enum Class {
     ArrayElement,
     ArrayToSequence,
+    Barrier,
     Comparator,
     Discard,
     ElementsToArray,
@@ -38,6 +39,7 @@ impl Class {
         match name {
             "ArrayElement" => Some(Class::ArrayElement),
             "ArrayToSequence" => Some(Class::ArrayToSequence),
+            "Barrier" => Some(Class::Barrier),
             "Comparator" => Some(Class::Comparator),
             "Discard" => Some(Class::Discard),
             "ElementsToArray" => Some(Class::ElementsToArray),
@@ -59,6 +61,7 @@ impl Class {
 pub enum Function {
     ArrayElement(i64),
     ArrayToSequence(usize),
+    Barrier,
     Comparator(Relation),
     Discard,
     ElementsToArray,
@@ -87,6 +90,7 @@ impl Function {
             Class::ArrayToSequence => sequence_to_array::start(values).map(
                 Function::ArrayToSequence,
             ),
+            Class::Barrier => Some(Function::Barrier),
             Class::Comparator => Relation::start(values).map(Function::Comparator),
             Class::Discard => Some(Function::Discard),
             Class::ElementsToArray => Some(Function::ElementsToArray),
@@ -112,7 +116,8 @@ impl Function {
         ensures { IfOk result (λ counts. counts ≡ function.needed self.now channels) }
     {
         match self {
-            Function::Discard
+            Function::Barrier
+            | Function::Discard
             | Function::ElementsToArray
             | Function::Equals
             | Function::LogicFunction(_) => one_each(alloc, channels as usize),
@@ -137,6 +142,7 @@ impl Function {
             Function::RecordDisassembler(names) => names.len(),
             Function::ArrayElement(_)
             | Function::ArrayToSequence(_)
+            | Function::Barrier
             | Function::Comparator(_)
             | Function::ElementsToArray
             | Function::Equals
@@ -158,6 +164,7 @@ impl Function {
             Function::Discard => one_each(alloc, 0),
             Function::RecordDisassembler(names) => one_each(alloc, names.len()),
             Function::ArrayElement(_)
+            | Function::Barrier
             | Function::Comparator(_)
             | Function::ElementsToArray
             | Function::Equals
@@ -170,6 +177,28 @@ impl Function {
         }
     }
 
+    /// Whether under Rendezvous it takes a token of each channel in one meeting.
+    pub(crate) fn is_barrier(&self) -> bool
+        ensures { result ≡ function.is_barrier self.now }
+    {
+        match self {
+            Function::Barrier => true,
+            Function::ArrayElement(_)
+            | Function::ArrayToSequence(_)
+            | Function::Comparator(_)
+            | Function::Discard
+            | Function::ElementsToArray
+            | Function::Equals
+            | Function::Limiter(_)
+            | Function::LogicFunction(_)
+            | Function::LogicalNot
+            | Function::RecordAssembler(_)
+            | Function::RecordDisassembler(_)
+            | Function::SequenceToArray(_)
+            | Function::StringLength => false,
+        }
+    }
+
     /// What it makes of the inputs.
     pub(crate) fn give(&self, alloc: Global, inputs: &Inputs<'_>) -> Step
         ensures { Tells (function.give self.now inputs.now) result }
@@ -177,6 +206,7 @@ impl Function {
         match self {
             Function::ArrayElement(index) => array_element::give(alloc, *index, inputs),
             Function::ArrayToSequence(length) => array_to_sequence::give(alloc, *length, inputs),
+            Function::Barrier => elements_to_array::give(alloc, inputs),
             Function::Comparator(relation) => relation.give(inputs),
             Function::Discard => discard::give(),
             Function::ElementsToArray => elements_to_array::give(alloc, inputs),
@@ -197,6 +227,7 @@ impl Function {
         Ok(match self {
             Function::ArrayElement(index) => Function::ArrayElement(*index),
             Function::ArrayToSequence(length) => Function::ArrayToSequence(*length),
+            Function::Barrier => Function::Barrier,
             Function::Comparator(relation) => Function::Comparator(*relation),
             Function::Discard => Function::Discard,
             Function::ElementsToArray => Function::ElementsToArray,

@@ -2,4 +2,5 @@ pub mod Early
 pub mod Gates
 pub mod RowLaws
 pub mod Giving
+pub mod Merging
 pub mod Worked

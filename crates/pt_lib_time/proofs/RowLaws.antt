@@ -14,7 +14,7 @@ use Rattle.pt_firing.specs.Strict.{told_by}
 use Rattle.pt_firing.specs.TriState.{tokens_known}
 use Rattle.pt_firing.proofs.StrictLaws.{strict-grows}
 use Rattle.pt_lib_time.specs.declared.time_actor.TimeActor.{TimeActor}
-use Rattle.pt_lib_time.specs.declared.time_actor.TimeActor.TheVariants.{Absent, Current, Default, NonStrictDelay, NonStrictLogicGate, NonStrictMux, Pre, When}
+use Rattle.pt_lib_time.specs.declared.time_actor.TimeActor.TheVariants.{Absent, Current, Default, Merge, NonStrictDelay, NonStrictLogicGate, NonStrictMux, Pre, When}
 use Rattle.pt_lib_time.specs.declared.fallback.Default as defaults
 use Rattle.pt_lib_time.specs.declared.non_strict_logic_gate.Gate.{Gate}
 use Rattle.pt_lib_time.specs.declared.non_strict_logic_gate.NonStrictLogicGate as gates
@@ -23,6 +23,7 @@ use Rattle.pt_lib_time.specs.Signal.{tokens_of, told, known_token, known_signal,
 use Rattle.pt_lib_time.specs.Absent as absent
 use Rattle.pt_lib_time.specs.Current as current
 use Rattle.pt_lib_time.specs.Default as fallback
+use Rattle.pt_lib_time.specs.Merge as merge
 use Rattle.pt_lib_time.specs.NonStrictLogicGate as non_strict_logic_gate
 use Rattle.pt_lib_time.specs.NonStrictMux as non_strict_mux
 use Rattle.pt_lib_time.specs.Pre as pre
@@ -73,6 +74,7 @@ grows : (tag : Tag) (a : TimeActor) (vs ws : List (Partial Token)) → KnownBelo
 grows tag (Absent actor) vs ws b p = strict-grows 1 absent.step tag actor vs ws b p
 grows tag (Current actor) vs ws b p = strict-grows 1 current.step tag actor vs ws b p
 grows tag (Default actor) vs ws b p = decided-grows 1 fallback.step tag actor vs fallback.decided ws b (default-decided vs ws b) p
+grows tag (Merge actor) vs ws b p = strict-grows 1 merge.step tag actor vs ws b p
 grows tag (NonStrictDelay actor) vs ws b p = below-same (partial_at (told actor.kept) p)
 grows tag (NonStrictLogicGate actor) vs ws b p = decided-grows 1 non_strict_logic_gate.step tag actor vs (non_strict_logic_gate.decided actor.gate) ws b (gate-decided actor.gate vs ws b) p
 grows tag (NonStrictMux actor) vs ws b p = decided-grows 1 non_strict_mux.step tag actor vs (non_strict_mux.decided actor) ws b (mux-decided actor vs ws b) p
@@ -127,6 +129,7 @@ pub known-tell : (tag : Tag) (a : TimeActor) (vs : List (Partial Token)) (X : St
 known-tell tag (Absent actor) vs X k = strict-tells 1 absent.step tag actor vs X k ∙ told-held Absent (absent.step tag actor X)
 known-tell tag (Current actor) vs X k = strict-tells 1 current.step tag actor vs X k ∙ told-held Current (current.step tag actor X)
 known-tell tag (Default actor) vs X k = decided-tells 1 fallback.step tag actor vs X (fallback.decided vs) k (λ xs e. default-right tag actor vs X xs k e) ∙ told-held Default (fallback.step tag actor X)
+known-tell tag (Merge actor) vs X k = strict-tells 1 merge.step tag actor vs X k ∙ told-held Merge (merge.step tag actor X)
 known-tell tag (NonStrictDelay actor) vs X k = refl
 known-tell tag (NonStrictLogicGate actor) vs X k = decided-tells 1 non_strict_logic_gate.step tag actor vs X (non_strict_logic_gate.decided actor.gate vs) k (λ xs e. gate-right tag actor vs X xs k e) ∙ told-held NonStrictLogicGate (non_strict_logic_gate.step tag actor X)
 known-tell tag (NonStrictMux actor) vs X k = decided-tells 1 non_strict_mux.step tag actor vs X (non_strict_mux.decided actor vs) k (λ xs e. mux-right tag actor vs X xs k e) ∙ told-held NonStrictMux (non_strict_mux.step tag actor X)
@@ -150,6 +153,7 @@ pub strict-wait : (tag : Tag) (a : TimeActor) (vs : List (Partial Token)) → is
 strict-wait tag (Absent actor) vs s k = strict-waits 1 absent.step tag actor vs k
 strict-wait tag (Current actor) vs s k = strict-waits 1 current.step tag actor vs k
 strict-wait tag (Default actor) vs s k = cc
+strict-wait tag (Merge actor) vs s k = strict-waits 1 merge.step tag actor vs k
 strict-wait tag (NonStrictDelay actor) vs s k = cc
 strict-wait tag (NonStrictLogicGate actor) vs s k = cc
 strict-wait tag (NonStrictMux actor) vs s k = cc

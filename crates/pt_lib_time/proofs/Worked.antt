@@ -1,8 +1,9 @@
 -- The examples compute.
 use Rattle.std.proofs.Common.{refl}
 use Rattle.pt_firing.specs.Params.{value_under, channels_to}
+use Rattle.pt_lib_time.specs.Merge.{first_present}
 use Rattle.pt_lib_time.specs.NonStrictLogicGate.{result, is_decided}
-use Rattle.pt_lib_time.specs.Examples.{AbsentExamples, CurrentExamples, DefaultExamples, NonStrictDelayExamples, NonStrictLogicGateExamples, NonStrictMuxExamples, PreExamples, WhenExamples, OtherExamples, TimeExamples}
+use Rattle.pt_lib_time.specs.Examples.{AbsentExamples, CurrentExamples, DefaultExamples, MergeExamples, NonStrictDelayExamples, NonStrictLogicGateExamples, NonStrictMuxExamples, PreExamples, WhenExamples, OtherExamples, TimeExamples}
 
 absent_examples : AbsentExamples
 unfolding value_under channels_to result is_decided
@@ -26,6 +27,14 @@ default_examples = record {
   alternate_waits = refl;
   absent_waits = refl;
   absent_then = refl;
+}
+
+merge_examples : MergeExamples
+unfolding value_under channels_to first_present
+merge_examples = record {
+  takes_any = refl;
+  first_of_two = refl;
+  waits = refl;
 }
 
 non_strict_delay_examples : NonStrictDelayExamples
@@ -92,6 +101,7 @@ time_examples = record {
   absent = absent_examples;
   current = current_examples;
   default = default_examples;
+  merge = merge_examples;
   non_strict_delay = non_strict_delay_examples;
   non_strict_logic_gate = non_strict_logic_gate_examples;
   non_strict_mux = non_strict_mux_examples;

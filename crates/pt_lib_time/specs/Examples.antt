@@ -111,6 +111,15 @@ pub record DefaultExamples : Type 0 where
   pub absent_waits : early_at_start default (Known absent ∷ Unknown ∷ []) ≡ unknown
   pub absent_then : early_at_start default (Known absent ∷ Known (int 2) ∷ []) ≡ known_as (int 2)
 
+-- Merge: three channels, of which one has a token, or two have
+abbrev pub merge : Params
+merge = of_class (codes "Merge") [] ((codes "input", 3) ∷ [])
+
+pub record MergeExamples : Type 0 where
+  pub takes_any : run merge ((absent ∷ int 4 ∷ absent ∷ []) ∷ (int 5 ∷ absent ∷ absent ∷ []) ∷ (absent ∷ absent ∷ int 6 ∷ []) ∷ []) ≡ gives (int 4 ∷ int 5 ∷ int 6 ∷ [])
+  pub first_of_two : run merge ((absent ∷ int 4 ∷ int 7 ∷ []) ∷ []) ≡ gives (int 4 ∷ [])
+  pub waits : early_at_start merge (Known absent ∷ Known (int 2) ∷ Unknown ∷ []) ≡ unknown
+
 -- NonStrictDelay: the input is 1, then absent, then 3
 abbrev pub delay : Params
 delay = of_class (codes "NonStrictDelay") ((codes "initialValue", token.Int (pos 7)) ∷ []) one_input
@@ -191,6 +200,7 @@ pub record TimeExamples : Type 0 where
   pub absent : AbsentExamples
   pub current : CurrentExamples
   pub default : DefaultExamples
+  pub merge : MergeExamples
   pub non_strict_delay : NonStrictDelayExamples
   pub non_strict_logic_gate : NonStrictLogicGateExamples
   pub non_strict_mux : NonStrictMuxExamples

@@ -1,7 +1,7 @@
 -- The laws of the library, beside those that every library keeps: what is known early, what a firing gives, and what an actor needs.
-use Rattle.std.specs.Prelude.{◌≡◌, List, [], ◌∷◌, true, Option, Some, None, replicate}
+use Rattle.std.specs.Prelude.{◌≡◌, List, [], ◌∷◌, true, false, Option, Some, None, replicate}
 use Rattle.pt_meaning.specs.Basics.{Tag, Streams}
-use Rattle.pt_meaning.specs.Machine.{Partial, Unknown}
+use Rattle.pt_meaning.specs.Machine.{Partial, Unknown, Any}
 use Rattle.pt_meaning.specs.Valuation.{known}
 use Rattle.pt_meaning.specs.Node.{Gives}
 use Rattle.pt_value.specs.declared.token.Token.{Token}
@@ -23,9 +23,9 @@ KnownInputsTellTheStep = (tag : Tag) (a : TimeActor) (vs : List (Partial Token))
 abbrev pub SignalsAreGiven : Type 0
 SignalsAreGiven = (tag : Tag) (a b : TimeActor) (X out : Streams Token) → step tag a X ≡ Gives b out → (signal : Option Token) × (out ≡ tokens_of signal ∷ [])
 
--- an actor needs one token on each of its places
+-- a steady actor needs one token on each of its places, and any other one on any
 abbrev pub NeedsAreOne : Type 0
-NeedsAreOne = (a : TimeActor) → need a ≡ one_each (places a)
+NeedsAreOne = (a : TimeActor) → (is_steady a ≡ true → need a ≡ one_each (places a)) × (is_steady a ≡ false → need a ≡ Any)
 
 -- after a firing a steady actor needs what it needed, and is steady
 abbrev pub SteadyActorsStay : Type 0

@@ -4,6 +4,7 @@ pub mod Signal
 pub mod Absent
 pub mod Current
 pub mod Default
+pub mod Merge
 pub mod NonStrictDelay
 pub mod NonStrictLogicGate
 pub mod NonStrictMux

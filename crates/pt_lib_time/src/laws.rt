@@ -23,7 +23,7 @@ pub fn signals_are_given()
     ensures { SignalsAreGiven }
 {}
 
-/// An actor needs one token on each of its places.
+/// A steady actor needs one token on each of its places, and any other, which is a Merge, one on any.
 pub fn needs_are_one()
     ensures { NeedsAreOne }
 {}

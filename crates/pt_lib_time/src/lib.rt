@@ -6,6 +6,7 @@ mod current;
 mod examples;
 mod fallback;
 mod laws;
+mod merge;
 mod non_strict_delay;
 mod non_strict_logic_gate;
 mod non_strict_mux;
@@ -22,6 +23,7 @@ pub use laws::{
     known_inputs_tell_the_step, needs_are_one, rows_are_lawful, signals_are_given,
     steady_actors_stay, strict_actors_wait,
 };
+pub use merge::Merge;
 pub use non_strict_delay::NonStrictDelay;
 pub use non_strict_logic_gate::{Gate, NonStrictLogicGate};
 pub use non_strict_mux::NonStrictMux;

@@ -5,6 +5,7 @@ ghost use Rattle.pt_lib_time.specs.TimeActor.{class_of, start_as, start};
 use crate::absent::Absent;
 use crate::current::Current;
 use crate::fallback::Default;
+use crate::merge::Merge;
 use crate::non_strict_delay::NonStrictDelay;
 use crate::non_strict_logic_gate::NonStrictLogicGate;
 use crate::non_strict_mux::NonStrictMux;
@@ -22,6 +23,7 @@ pub enum TimeActor {
     Absent(Absent),
     Current(Current),
     Default(Default),
+    Merge(Merge),
     NonStrictDelay(NonStrictDelay),
     NonStrictLogicGate(NonStrictLogicGate),
     NonStrictMux(NonStrictMux),
@@ -35,6 +37,7 @@ pub enum Class {
     Absent,
     Current,
     Default,
+    Merge,
     NonStrictDelay,
     NonStrictLogicGate,
     NonStrictMux,
@@ -50,6 +53,7 @@ impl Class {
             "Absent" => Some(Class::Absent),
             "Current" => Some(Class::Current),
             "Default" => Some(Class::Default),
+            "Merge" => Some(Class::Merge),
             "NonStrictDelay" => Some(Class::NonStrictDelay),
             "NonStrictLogicGate" => Some(Class::NonStrictLogicGate),
             "NonStrictMux" => Some(Class::NonStrictMux),
@@ -67,6 +71,7 @@ macro_rules! of_class {
             TimeActor::Absent($actor) => $code,
             TimeActor::Current($actor) => $code,
             TimeActor::Default($actor) => $code,
+            TimeActor::Merge($actor) => $code,
             TimeActor::NonStrictDelay($actor) => $code,
             TimeActor::NonStrictLogicGate($actor) => $code,
             TimeActor::NonStrictMux($actor) => $code,
@@ -119,6 +124,7 @@ impl TimeActor {
             Class::Absent => held_as!(Absent, Absent::start(alloc, params)?),
             Class::Current => held_as!(Current, Current::start(alloc, params)?),
             Class::Default => held_as!(Default, Default::start(alloc, params)?),
+            Class::Merge => held_as!(Merge, Merge::start(params)),
             Class::NonStrictDelay => held_as!(
                 NonStrictDelay,
                 NonStrictDelay::start(alloc, params)?
@@ -140,11 +146,21 @@ impl TimeActor {
         1
     }
 
-    /// Whether it needs the same at each firing. Each of these actors does.
+    /// Whether it needs the same at each of its places, at each firing. Each but a Merge does.
     pub fn is_steady(&self) -> bool
         ensures { result ≡ time_actor.is_steady self.now }
     {
-        true
+        match self {
+            TimeActor::Merge(_) => false,
+            TimeActor::Absent(_)
+            | TimeActor::Current(_)
+            | TimeActor::Default(_)
+            | TimeActor::NonStrictDelay(_)
+            | TimeActor::NonStrictLogicGate(_)
+            | TimeActor::NonStrictMux(_)
+            | TimeActor::Pre(_)
+            | TimeActor::When(_) => true,
+        }
     }
 
     /// Whether it has no early answer before all its inputs are known.
@@ -156,8 +172,11 @@ impl TimeActor {
             | TimeActor::NonStrictDelay(_)
             | TimeActor::NonStrictLogicGate(_)
             | TimeActor::NonStrictMux(_) => false,
-            TimeActor::Absent(_) | TimeActor::Current(_) | TimeActor::Pre(_) | TimeActor::When(_) =>
-                true,
+            TimeActor::Absent(_)
+            | TimeActor::Current(_)
+            | TimeActor::Merge(_)
+            | TimeActor::Pre(_)
+            | TimeActor::When(_) => true,
         }
     }
 
@@ -165,7 +184,17 @@ impl TimeActor {
     pub fn begins(&self) -> bool
         ensures { result ≡ time_actor.rows.begins self.now }
     {
-        has_no_places(self.need())
+        match self {
+            TimeActor::Merge(actor) => actor.places == 0,
+            TimeActor::Absent(_)
+            | TimeActor::Current(_)
+            | TimeActor::Default(_)
+            | TimeActor::NonStrictDelay(_)
+            | TimeActor::NonStrictLogicGate(_)
+            | TimeActor::NonStrictMux(_)
+            | TimeActor::Pre(_)
+            | TimeActor::When(_) => has_no_places(self.need()),
+        }
     }
 
     /// Whether under DE it takes its lists whole. None of these actors does.
@@ -194,6 +223,7 @@ impl Fires for TimeActor {
             TimeActor::Absent(actor) => TimeActor::Absent(actor.copy(alloc)?),
             TimeActor::Current(actor) => TimeActor::Current(actor.copy(alloc)?),
             TimeActor::Default(actor) => TimeActor::Default(actor.copy(alloc)?),
+            TimeActor::Merge(actor) => TimeActor::Merge(actor.copy(alloc)?),
             TimeActor::NonStrictDelay(actor) => TimeActor::NonStrictDelay(actor.copy(alloc)?),
             TimeActor::NonStrictLogicGate(actor) => {
                 TimeActor::NonStrictLogicGate(actor.copy(alloc)?)
