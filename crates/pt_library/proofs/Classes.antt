@@ -44,11 +44,11 @@ flow-alone name is =
 
 data-alone : (name : List ℕ) → IsSome (function.class_of name) → IsNotLater name
 data-alone name is =
-    (or-later IsNotLater name (codes "ArrayElement") kinds.ArrayElement _ (or-later IsNotLater name (codes "ArrayToSequence") kinds.ArrayToSequence _ (or-later IsNotLater name (codes "Comparator") kinds.Comparator _ (or-later IsNotLater name (codes "Discard") kinds.Discard _ (or-later IsNotLater name (codes "ElementsToArray") kinds.ElementsToArray _ (or-later IsNotLater name (codes "Equals") kinds.Equals _ (or-later IsNotLater name (codes "Limiter") kinds.Limiter _ (or-later IsNotLater name (codes "LogicFunction") kinds.LogicFunction _ (or-later IsNotLater name (codes "LogicalNot") kinds.LogicalNot _ (or-later IsNotLater name (codes "RecordAssembler") kinds.RecordAssembler _ (or-later IsNotLater name (codes "RecordDisassembler") kinds.RecordDisassembler _ (or-later IsNotLater name (codes "SequenceToArray") kinds.SequenceToArray _ (or-later IsNotLater name (codes "StringLength") kinds.StringLength None (λ none. absurd (false≢true none)) (refl, refl)) (refl, refl)) (refl, refl)) (refl, refl)) (refl, refl)) (refl, refl)) (refl, refl)) (refl, refl)) (refl, refl)) (refl, refl)) (refl, refl)) (refl, refl)) (refl, refl)) is
+    (or-later IsNotLater name (codes "ArrayElement") kinds.ArrayElement _ (or-later IsNotLater name (codes "ArrayToSequence") kinds.ArrayToSequence _ (or-later IsNotLater name (codes "Barrier") kinds.Barrier _ (or-later IsNotLater name (codes "Comparator") kinds.Comparator _ (or-later IsNotLater name (codes "Discard") kinds.Discard _ (or-later IsNotLater name (codes "ElementsToArray") kinds.ElementsToArray _ (or-later IsNotLater name (codes "Equals") kinds.Equals _ (or-later IsNotLater name (codes "Limiter") kinds.Limiter _ (or-later IsNotLater name (codes "LogicFunction") kinds.LogicFunction _ (or-later IsNotLater name (codes "LogicalNot") kinds.LogicalNot _ (or-later IsNotLater name (codes "RecordAssembler") kinds.RecordAssembler _ (or-later IsNotLater name (codes "RecordDisassembler") kinds.RecordDisassembler _ (or-later IsNotLater name (codes "SequenceToArray") kinds.SequenceToArray _ (or-later IsNotLater name (codes "StringLength") kinds.StringLength None (λ none. absurd (false≢true none)) (refl, refl)) (refl, refl)) (refl, refl)) (refl, refl)) (refl, refl)) (refl, refl)) (refl, refl)) (refl, refl)) (refl, refl)) (refl, refl)) (refl, refl)) (refl, refl)) (refl, refl)) (refl, refl)) is
 
 time-alone : (name : List ℕ) → IsSome (time_actor.class_of name) → IsNoTimed name
 time-alone name is =
-    (or-later IsNoTimed name (codes "Absent") instants.Absent _ (or-later IsNoTimed name (codes "Current") instants.Current _ (or-later IsNoTimed name (codes "Default") instants.Default _ (or-later IsNoTimed name (codes "NonStrictDelay") instants.NonStrictDelay _ (or-later IsNoTimed name (codes "NonStrictLogicGate") instants.NonStrictLogicGate _ (or-later IsNoTimed name (codes "NonStrictMux") instants.NonStrictMux _ (or-later IsNoTimed name (codes "Pre") instants.Pre _ (or-later IsNoTimed name (codes "When") instants.When None (λ none. absurd (false≢true none)) refl) refl) refl) refl) refl) refl) refl) refl) is
+    (or-later IsNoTimed name (codes "Absent") instants.Absent _ (or-later IsNoTimed name (codes "Current") instants.Current _ (or-later IsNoTimed name (codes "Default") instants.Default _ (or-later IsNoTimed name (codes "Merge") instants.Merge _ (or-later IsNoTimed name (codes "NonStrictDelay") instants.NonStrictDelay _ (or-later IsNoTimed name (codes "NonStrictLogicGate") instants.NonStrictLogicGate _ (or-later IsNoTimed name (codes "NonStrictMux") instants.NonStrictMux _ (or-later IsNoTimed name (codes "Pre") instants.Pre _ (or-later IsNoTimed name (codes "When") instants.When None (λ none. absurd (false≢true none)) refl) refl) refl) refl) refl) refl) refl) refl) refl) is
 
 pub one-library : ClassesAreOfOneLibrary
 one-library name = record {

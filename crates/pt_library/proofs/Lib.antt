@@ -5,4 +5,5 @@ pub mod Classes
 pub mod IntegerLaws
 pub mod StrictLaws
 pub mod PlaceLaws
+pub mod AnyLaws
 pub mod DelayLaws

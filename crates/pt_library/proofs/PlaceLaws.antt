@@ -2,7 +2,7 @@
 use Rattle.std.proofs.Common.{◌≡◌, ◌⊎◌, inl, inr, ℕ, List, [], ◌∷◌, length, replicate, Bool, true, false, Option, Some, None, refl, sym, ap, subst, ◌∙◌, if◌then◌else◌, ℤ}
 use Rattle.std.proofs.lemmas.List.{length-replicate}
 use Rattle.pt_meaning.specs.Basics.{Tag, Streams}
-use Rattle.pt_meaning.specs.Machine.{Counts}
+use Rattle.pt_meaning.specs.Machine.{Counts, Any}
 use Rattle.pt_meaning.specs.Node.{Answer, Gives, Fails}
 use Rattle.pt_meaning.specs.Closed.{on_answer}
 use Rattle.pt_value.specs.Token.{token_of}
@@ -26,6 +26,8 @@ use Rattle.pt_lib_flow.specs.declared.flow_actor.FlowActor.{FlowActor}
 use Rattle.pt_lib_flow.specs.declared.flow_actor.FlowActor.TheVariants.{AbsoluteValue, Accumulator, AddSubtract, BooleanSelect, BooleanSwitch, Const, Counter, DownSample, Expression, Extreme, MultiplyDivide, Ramp, Repeat, SampleDelay, Scale, Sequence, UpSample}
 use Rattle.pt_lib_flow.specs.FlowActor as flow_actor
 use Rattle.pt_lib_flow.proofs.Steadiness.{Leaves, held}
+use Rattle.pt_lib_time.specs.TimeActor as time_actor
+use Rattle.pt_lib_time.proofs.Giving as time_laws
 use Rattle.pt_library.specs.declared.library_actor.LibraryActor.{LibraryActor}
 use Rattle.pt_library.specs.declared.library_actor.LibraryActor.TheVariants.{Flow, Data, Time, Timed}
 use Rattle.pt_library.specs.LibraryActor as library
@@ -141,7 +143,7 @@ flow-keeps tag a b X out e gave = subst (Leaves (Same a)) gave (flow-leaves tag 
 
 -- ---- all libraries
 
--- of an actor that isn't steady; those are all of the library of flow
+-- of an actor that isn't steady: it is of the library of flow, or a Merge, which has no counts
 abbrev places : LibraryActor → ℕ
 places (Flow a) = flow_actor.places a
 places (Data a) = 0
@@ -151,7 +153,7 @@ places (Timed a) = 0
 unsteady-places : (a : LibraryActor) → library.is_steady a ≡ false → (ns : List ℕ) → library.need a ≡ Counts ns → length ns ≡ places a
 unsteady-places (Flow a) e ns h = flow-places a e ns h
 unsteady-places (Data a) e ns h = cc
-unsteady-places (Time a) e ns h = cc
+unsteady-places (Time a) e ns h = absurd (let no : Any ≡ Counts ns = sym (time_laws.needs-any a e) ∙ h in cc)
 unsteady-places (Timed a) e ns h = cc
 
 unsteady-once : (tag : Tag) (a b : LibraryActor) (X out : Streams Token) → library.is_steady a ≡ false → library.step tag a X ≡ Gives b out → (library.is_steady b ≡ false) × (places b ≡ places a)
@@ -160,7 +162,9 @@ unsteady-once tag (Flow a) b X out e h =
     let same = flow-keeps tag a gave.0 X out e gave.2 in
     (sym (ap library.is_steady gave.1) ∙ same.0, sym (ap places gave.1) ∙ same.1)
 unsteady-once tag (Data a) b X out e h = cc
-unsteady-once tag (Time a) b X out e h = cc
+unsteady-once tag (Time a) b X out e h =
+    let gave = held-gives Time (time_actor.step tag a X) b out h in
+    (sym (ap library.is_steady gave.1) ∙ time_laws.class-stays tag a gave.0 X out gave.2 ∙ e, sym (ap places gave.1))
 unsteady-once tag (Timed a) b X out e h = cc
 
 -- it is steady and has n places, or isn't and has them

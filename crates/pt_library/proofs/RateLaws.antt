@@ -66,7 +66,7 @@ all-ones (suc n) = (record { least = omega arith; most = omega arith }, all-ones
 pub started-needs : (params : Params) (a : LibraryActor) → library.start params ≡ Some a → library.is_steady a ≡ true → IsCounted (library.need a)
 started-needs params a e =
     by-library (λ c. library.is_steady c ≡ true → IsCounted (library.need c)) (flow_actor.start params) (data_actor.start params.class params.values params.ports) (time_actor.start params) (timed_actor.start params) a e (λ b h. flow_bounds.started-needs params b h)
-    (λ b h steady. all-counts b.needed (data_bounds.needs-bounded params.class params.values params.ports b h)) (λ b h steady. subst IsCounted (sym (time_laws.needs-one b)) (all-ones (time_actor.places b)))
+    (λ b h steady. all-counts b.needed (data_bounds.needs-bounded params.class params.values params.ports b h)) (λ b h steady. subst IsCounted (sym (time_laws.needs-one b steady)) (all-ones (time_actor.places b)))
     (λ b h steady. subst IsCounted (sym (timed_laws.needs-one b)) (all-ones (timed_actor.places b)))
 
 -- ---- what is given

@@ -9,10 +9,11 @@ use Rattle.pt_value.specs.declared.token.Token.{Token}
 use Rattle.pt_lib_data.specs.DataActor as data_actor
 use Rattle.pt_lib_flow.specs.FlowActor as flow_actor
 use Rattle.pt_lib_time.specs.declared.time_actor.TimeActor.{TimeActor}
-use Rattle.pt_lib_time.specs.declared.time_actor.TimeActor.TheVariants.{Absent, Current, Default, NonStrictDelay, NonStrictLogicGate, NonStrictMux, Pre, When}
+use Rattle.pt_lib_time.specs.declared.time_actor.TimeActor.TheVariants.{Absent, Current, Default, Merge, NonStrictDelay, NonStrictLogicGate, NonStrictMux, Pre, When}
 use Rattle.pt_lib_time.specs.Absent as absent
 use Rattle.pt_lib_time.specs.Current as current
 use Rattle.pt_lib_time.specs.Default as fallback
+use Rattle.pt_lib_time.specs.Merge as merge
 use Rattle.pt_lib_time.specs.NonStrictDelay as non_strict_delay
 use Rattle.pt_lib_time.specs.NonStrictLogicGate as non_strict_logic_gate
 use Rattle.pt_lib_time.specs.NonStrictMux as non_strict_mux
@@ -54,6 +55,7 @@ time-stays : (tag : Tag) (a b : TimeActor) (X out : Streams Token) → time_acto
 time-stays tag (Absent a) b X out e = held-strict Absent true (λ s. refl) (absent.step tag a X) b out e
 time-stays tag (Current a) b X out e = held-strict Current true (λ s. refl) (current.step tag a X) b out e
 time-stays tag (Default a) b X out e = held-strict Default false (λ s. refl) (fallback.step tag a X) b out e
+time-stays tag (Merge a) b X out e = held-strict Merge true (λ s. refl) (merge.step tag a X) b out e
 time-stays tag (NonStrictDelay a) b X out e = held-strict NonStrictDelay false (λ s. refl) (non_strict_delay.step tag a X) b out e
 time-stays tag (NonStrictLogicGate a) b X out e = held-strict NonStrictLogicGate false (λ s. refl) (non_strict_logic_gate.step tag a X) b out e
 time-stays tag (NonStrictMux a) b X out e = held-strict NonStrictMux false (λ s. refl) (non_strict_mux.step tag a X) b out e

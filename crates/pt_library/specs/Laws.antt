@@ -14,7 +14,7 @@ use Rattle.pt_lib_timed.specs.TimedActor as timed_actor
 use Rattle.pt_flow_base.specs.Rates.{IsCount, IsCounted}
 use Rattle.pt_library.specs.declared.library_actor.LibraryActor.{LibraryActor}
 use Rattle.pt_library.specs.LibraryActor.{is_steady, is_strict, need, rates, step, start}
-use Rattle.pt_library.specs.Steady.{IsSteadyActor, HasPlaces, IsStrictActor}
+use Rattle.pt_library.specs.Steady.{IsSteadyActor, HasPlaces, KeepsAny, IsStrictActor}
 
 -- a class of one library is none of another
 pub record IsOfOneLibrary (name : List ℕ) : Type 0 where
@@ -39,6 +39,10 @@ ToldActorsAreStrict = (a : LibraryActor) → is_strict a ≡ true → IsStrictAc
 -- where an actor needs a number of tokens at each of its places, it has as many places whatever it fires
 abbrev pub PlacesStay : Type 0
 PlacesStay = (a : LibraryActor) (ns : List ℕ) → need a ≡ Counts ns → HasPlaces (length ns) a
+
+-- an actor that needs a token at any one place does so whatever it fires, and no other one ever does
+abbrev pub AnyNeedsStay : Type 0
+AnyNeedsStay = (a : LibraryActor) → KeepsAny a
 
 -- a steady actor, once it is started, needs from 1 to 1,000,000 tokens at each of its places
 abbrev pub SteadyNeedsAreCounts : Type 0

@@ -61,6 +61,13 @@ is_strict (Data actor) = true
 is_strict (Time actor) = time_actor.is_strict actor
 is_strict (Timed actor) = timed_actor.is_strict actor
 
+-- it takes a token of each channel in one meeting, under Rendezvous
+abbrev pub is_barrier : LibraryActor → Bool
+is_barrier (Flow actor) = false
+is_barrier (Data actor) = data_actor.is_barrier actor
+is_barrier (Time actor) = false
+is_barrier (Timed actor) = false
+
 -- How many tokens a firing gives on each output, where each input has the tokens that it needs, of the types of its row. There are none where the numbers vary, and none of an actor that gives signals: a signal may be absent.
 abbrev pub rates : LibraryActor → Option (List ℕ)
 rates (Flow actor) = flow_actor.rates actor

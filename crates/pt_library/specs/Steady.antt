@@ -1,7 +1,7 @@
--- What holds of an actor whatever it fires: that it needs the same, that it has so many places, and that it is strict.
-use Rattle.std.specs.Prelude.{◌≡◌, ℕ, List, [], ◌∷◌, length, Option, Some, None}
+-- What holds of an actor whatever it fires: that it needs the same, that it has so many places, whether it needs a token at any one of them, and that it is strict.
+use Rattle.std.specs.Prelude.{◌≡◌, ◌↔◌, ℕ, List, [], ◌∷◌, length, Option, Some, None}
 use Rattle.pt_meaning.specs.Basics.{Tag, Streams}
-use Rattle.pt_meaning.specs.Machine.{Counts, Partial, Unknown, partial_at}
+use Rattle.pt_meaning.specs.Machine.{Counts, Any, Partial, Unknown, partial_at}
 use Rattle.pt_meaning.specs.Valuation.{known}
 use Rattle.pt_meaning.specs.Closed.{on_answer}
 use Rattle.pt_value.specs.declared.token.Token.{Token}
@@ -21,6 +21,10 @@ pub record IsSteadyActor (a : LibraryActor) : Type 0 where
 -- Whatever it fires, it has so many places, where it needs a number of tokens at each.
 abbrev pub HasPlaces : ℕ → LibraryActor → Type 0
 HasPlaces n a = (fs : List (Tag × Streams Token)) (b : LibraryActor) → after fs a ≡ Some b → (ns : List ℕ) → library.need b ≡ Counts ns → length ns ≡ n
+
+-- Whatever it fires, it needs a token at any one of its places exactly where it did so at first.
+abbrev pub KeepsAny : LibraryActor → Type 0
+KeepsAny a = (fs : List (Tag × Streams Token)) (b : LibraryActor) → after fs a ≡ Some b → (library.need b ≡ Any) ↔ (library.need a ≡ Any)
 
 -- Whatever it fires, nothing is known of its outputs while an input is unknown.
 abbrev pub IsStrictActor : LibraryActor → Type 0

@@ -1,6 +1,6 @@
 ghost use Rattle.pt_meaning.specs.Lawful.{LawfulRows};
 ghost use Rattle.pt_library.specs.LibraryActor.{rows};
-ghost use Rattle.pt_library.specs.Laws.{ClassesAreOfOneLibrary, ToldActorsAreSteady, ToldActorsAreStrict, PlacesStay, SteadyNeedsAreCounts, RatesAreCounts, RatesAreGiven};
+ghost use Rattle.pt_library.specs.Laws.{ClassesAreOfOneLibrary, ToldActorsAreSteady, ToldActorsAreStrict, PlacesStay, AnyNeedsStay, SteadyNeedsAreCounts, RatesAreCounts, RatesAreGiven};
 ghost use Rattle.pt_library.specs.Delays.{DelaysTellEarly, DelaysAreWhole, DelaysStay};
 
 /// The rows of all libraries are lawful, since those of each are.
@@ -27,6 +27,11 @@ pub fn told_actors_are_strict()
 /// An actor has as many places whatever it fires.
 pub fn places_stay()
     ensures { PlacesStay }
+{}
+
+/// An actor that needs a token at any one place does so whatever it fires, and no other one ever does.
+pub fn any_needs_stay()
+    ensures { AnyNeedsStay }
 {}
 
 /// A steady actor, once it is started, needs from 1 to 1,000,000 tokens at each of its places.

@@ -117,6 +117,16 @@ impl LibraryActor {
         }
     }
 
+    /// Whether under Rendezvous it takes a token of each channel in one meeting.
+    pub fn is_barrier(&self) -> bool
+        ensures { result ≡ library.is_barrier self.now }
+    {
+        match self {
+            LibraryActor::Data(actor) => actor.is_barrier(),
+            LibraryActor::Flow(_) | LibraryActor::Time(_) | LibraryActor::Timed(_) => false,
+        }
+    }
+
     /// Whether it begins by itself: it has no input places and no wakes of its own.
     pub fn begins(&self) -> bool
         ensures { result ≡ library.begins self.now }
