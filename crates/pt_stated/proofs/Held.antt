@@ -1,4 +1,4 @@
--- What a valued net has as the numbers of a process network.
+-- What a valued net has as the numbers of a composite of processes.
 use Rattle.std.proofs.Common.{◌≡◌, ℕ, zero, suc, ◌<◌, List, [], ◌∷◌, map, Bool, true, false, ℤ, pos, refl, ap, subst, ◌∙◌, arith, bytes_eq, codes, if◌then◌else◌}
 use Rattle.std.specs.Prelude.{Option, Some, None, IsTrue, option_map, slice_get}
 use Rattle.std.specs.List.{AllZip}

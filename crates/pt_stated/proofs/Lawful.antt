@@ -1,5 +1,5 @@
 -- What is stated is lawful.
-use Rattle.std.proofs.Common.{◌≡◌, ℕ, suc, ◌+◌, ◌<◌, List, [], ◌∷◌, length, map, filter, Bool, true, false, not, ◌&&◌, cond, refl, ap, subst, ◌∙◌, arith, codes, if◌then◌else◌}
+use Rattle.std.proofs.Common.{◌≡◌, ℕ, suc, ◌+◌, ◌<◌, List, [], ◌∷◌, length, map, filter, Bool, true, false, not, ◌&&◌, cond, refl, sym, ap, subst, ◌∙◌, arith, codes, if◌then◌else◌}
 use Rattle.std.specs.Prelude.{Option, Some, None, nat_lt, nat_le, slice_get}
 use Rattle.std.specs.List.{list_all, filter_map, cons_option, enumerate_from, All}
 use Rattle.std.proofs.lemmas.Bool.{and_parts, ltb-true, leb-true}
@@ -15,10 +15,11 @@ use Rattle.pt_scopes.specs.declared.values.Values.{Values}
 use Rattle.pt_scopes.specs.Given.{held_view}
 use Rattle.pt_scopes.specs.Sites.{is_input_port}
 use Rattle.pt_scopes.specs.Agreement.{named, integer_of}
+use Rattle.pt_stated.specs.declared.capacities.Capacities.{Capacities}
 use Rattle.pt_stated.specs.declared.stated.Stated.{Stated}
-use Rattle.pt_stated.specs.Numbers.{rate_in, is_along, rate_along}
-use Rattle.pt_stated.specs.Networks.{numbers_of, is_lawful, lawful, is_network, stated_by, stated_of}
-use Rattle.pt_stated.specs.Laws.{IsRate, IsLawful}
+use Rattle.pt_stated.specs.Numbers.{capacity, rate_in, is_along, rate_along}
+use Rattle.pt_stated.specs.Networks.{is_network, has_processes, capacities_of, numbers_of, are_lawful, is_lawful, lawful, stated_by, stated_of}
+use Rattle.pt_stated.specs.Laws.{IsRate, AreCapacitiesIf, IsLawful}
 use Rattle.pt_stated.proofs.Counts.{count-most, rate-most}
 
 -- ---- rates
@@ -55,22 +56,31 @@ along-output : (name : List ℕ) (direction : Direction) (declared : Option (Lis
 along-output name Input declared properties = refl
 along-output name Output declared properties = refl
 
--- ---- a network
+-- ---- a composite of processes
 
-numbers-lawful : (d : DirectorTree) (e : NetEntityTree) (v : EntityValues) → is_lawful (numbers_of d e.ports v) ≡ true → IsLawful e (numbers_of d e.ports v)
-numbers-lawful d e v h =
+capacities-lawful : (d : DirectorTree) (v : EntityValues) → are_lawful (capacities_of d v) ≡ true → AreCapacitiesIf (is_network d) (capacities_of d v)
+capacities-lawful d v h = by_test (is_network d) h
+  where
+    c : Capacities
+    c = record { initial = capacity d v.director.items (codes "initialQueueCapacity"); maximum = capacity d v.director.items (codes "maximumQueueCapacity") }
+
+    by_test : (b : Bool) → are_lawful (if b then Some c else None) ≡ true → AreCapacitiesIf b (if b then Some c else None)
+    by_test true h =
+        let w = and_parts (nat_lt 0 c.initial) (nat_le c.initial c.maximum) h in
+        record { room = ltb-true 0 c.initial w.0; ordered = leb-true c.initial c.maximum w.1; bounded = count-most (integer_of d.class (named d.parameters (map held_view v.director.items)) (codes "maximumQueueCapacity")) }
+    by_test false h = tt
+
+numbers-lawful : (d : DirectorTree) (e : NetEntityTree) (v : EntityValues) → e.director ≡ Some d → is_lawful (numbers_of d e.ports v) ≡ true → IsLawful e (numbers_of d e.ports v)
+numbers-lawful d e v directed h =
     let n = numbers_of d e.ports v in
-    let to_gives = and_parts (nat_lt 0 n.initial && nat_le n.initial n.maximum && list_all (nat_lt 0) n.takes) (list_all (nat_lt 0) n.gives) h in
-    let to_takes = and_parts (nat_lt 0 n.initial && nat_le n.initial n.maximum) (list_all (nat_lt 0) n.takes) to_gives.0 in
-    let to_room = and_parts (nat_lt 0 n.initial) (nat_le n.initial n.maximum) to_takes.0 in
+    let to_gives = and_parts (are_lawful n.capacities && list_all (nat_lt 0) n.takes) (list_all (nat_lt 0) n.gives) h in
+    let to_takes = and_parts (are_lawful n.capacities) (list_all (nat_lt 0) n.takes) to_gives.0 in
     record {
-      room = ltb-true 0 n.initial to_room.0;
-      ordered = leb-true n.initial n.maximum to_room.1;
-      bounded = count-most (integer_of d.class (named d.parameters (map held_view v.director.items)) (codes "maximumQueueCapacity"));
       takes = rates-lawful Input v.rates.items 0 e.ports to_takes.1;
       gives = rates-lawful Output v.rates.items 0 e.ports to_gives.1;
       inputs = rates-count Input v.rates.items is_input_port (λ p. along-input p.name p.direction p.declared p.properties) 0 e.ports;
       outputs = rates-count Output v.rates.items (λ p. not (is_input_port p)) (λ p. along-output p.name p.direction p.declared p.properties) 0 e.ports;
+      capacities = λ other is. subst (λ (x : DirectorTree). AreCapacitiesIf (is_network x) (capacities_of d v)) (same_Some d other (sym directed ∙ is)) (capacities-lawful d v to_takes.0);
     }
 
 chosen : (n s : Stated) (b : Bool) → is_lawful n ≡ b → (if b then Some n else None) ≡ Some s → (n ≡ s) × (is_lawful n ≡ true)
@@ -78,15 +88,15 @@ chosen n s true is h = (same_Some n s h, is)
 chosen n s false is h = absurd (none-some s h)
 
 pub stated-lawful : (values : Values) (k : ℕ) (e : NetEntityTree) (s : Stated) → stated_of values k e ≡ Some s → IsLawful e s
-stated-lawful values k e s h = by_director e.director (slice_get values.entities.items k) h
+stated-lawful values k e s h = by_director e.director (slice_get values.entities.items k) refl h
   where
-    by_class : (d : DirectorTree) (v : EntityValues) (b : Bool) → (if b then lawful (numbers_of d e.ports v) else None) ≡ Some s → IsLawful e s
-    by_class d v true h =
+    by_class : (d : DirectorTree) (v : EntityValues) (b : Bool) → e.director ≡ Some d → (if b then lawful (numbers_of d e.ports v) else None) ≡ Some s → IsLawful e s
+    by_class d v true directed h =
         let w = chosen (numbers_of d e.ports v) s (is_lawful (numbers_of d e.ports v)) refl h in
-        subst (IsLawful e) w.0 (numbers-lawful d e v w.1)
-    by_class d v false h = absurd (none-some s h)
+        subst (IsLawful e) w.0 (numbers-lawful d e v directed w.1)
+    by_class d v false directed h = absurd (none-some s h)
 
-    by_director : (o : Option DirectorTree) (v : Option EntityValues) → stated_by o e.ports v ≡ Some s → IsLawful e s
-    by_director None v h = absurd (none-some s h)
-    by_director (Some d) None h = absurd (none-some s h)
-    by_director (Some d) (Some v) h = by_class d v (is_network d) h
+    by_director : (o : Option DirectorTree) (v : Option EntityValues) → e.director ≡ o → stated_by o e.ports v ≡ Some s → IsLawful e s
+    by_director None v directed h = absurd (none-some s h)
+    by_director (Some d) None directed h = absurd (none-some s h)
+    by_director (Some d) (Some v) directed h = by_class d v (has_processes d) directed h

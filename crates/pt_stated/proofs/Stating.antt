@@ -1,4 +1,4 @@
--- Each process network of a valued net states its numbers.
+-- Each composite of processes of a valued net states its numbers.
 use Rattle.std.proofs.Common.{◌≡◌, ℕ, zero, suc, ◌+◌, ◌<◌, ◌≤◌, List, [], ◌∷◌, map, Bool, true, false, not, ◌&&◌, refl, sym, ap, subst, ◌∙◌, codes, if◌then◌else◌}
 use Rattle.std.specs.Prelude.{Option, Some, None, IsTrue, int_lt, nat_lt, nat_le, slice_get}
 use Rattle.std.specs.List.{AllZip, list_all, filter_map, cons_option, enumerate_from}
@@ -20,9 +20,10 @@ use Rattle.pt_scopes.specs.Agreement.{named, integer_of, standard_of, standard_i
 use Rattle.pt_scopes.specs.ClassParameters.{AreParametersOf}
 use Rattle.pt_scopes.specs.Valued.{AreOfDirector, IsEntityValued, IsValued}
 use Rattle.pt_scopes.specs.Valued as valued
+use Rattle.pt_stated.specs.declared.capacities.Capacities.{Capacities}
 use Rattle.pt_stated.specs.declared.stated.Stated.{Stated}
-use Rattle.pt_stated.specs.Numbers.{count, rate_in, is_along, rate_along}
-use Rattle.pt_stated.specs.Networks.{numbers_of, is_lawful, lawful, is_network, stated_by, stated_of}
+use Rattle.pt_stated.specs.Numbers.{count, capacity, rate_in, is_along, rate_along}
+use Rattle.pt_stated.specs.Networks.{is_network, has_processes, capacities_of, numbers_of, are_lawful, is_lawful, lawful, stated_by, stated_of}
 use Rattle.pt_stated.proofs.Counts.{is_number, count-least, count-ordered}
 use Rattle.pt_stated.proofs.Held.{integer-numbered, initial-formed, maximum-formed, initial-standard, maximum-standard, rate-least}
 
@@ -69,27 +70,35 @@ capacities scope parent d hs is given = subst (λ (class : List ℕ). AreCapacit
         let agreed : not (int_lt n m) ≡ true = g.agreed in
         record { room = count-least m first; ordered = count-ordered m n first most agreed }
 
--- ---- a network
+-- ---- a composite of processes
 
-numbers-are : (d : DirectorTree) (ports : List PortTree) (v : EntityValues) → AreCapacities (numbers_of d ports v).initial (numbers_of d ports v).maximum → ((k : ℕ) → 0 < rate_in (slice_get v.rates.items k)) → is_lawful (numbers_of d ports v) ≡ true
+capacities-are : (d : DirectorTree) (v : EntityValues) → (is_network d ≡ true → AreCapacities (capacity d v.director.items (codes "initialQueueCapacity")) (capacity d v.director.items (codes "maximumQueueCapacity"))) → are_lawful (capacities_of d v) ≡ true
+capacities-are d v held = by_test (is_network d) refl
+  where
+    c : Capacities
+    c = record { initial = capacity d v.director.items (codes "initialQueueCapacity"); maximum = capacity d v.director.items (codes "maximumQueueCapacity") }
+
+    by_test : (b : Bool) → is_network d ≡ b → are_lawful (if b then Some c else None) ≡ true
+    by_test true is =
+        let h = held is in
+        and_from (nat_lt 0 c.initial) (nat_le c.initial c.maximum) (lt-ltb 0 c.initial h.room) (le-leb c.initial c.maximum h.ordered)
+    by_test false is = refl
+
+numbers-are : (d : DirectorTree) (ports : List PortTree) (v : EntityValues) → are_lawful (capacities_of d v) ≡ true → ((k : ℕ) → 0 < rate_in (slice_get v.rates.items k)) → is_lawful (numbers_of d ports v) ≡ true
 numbers-are d ports v held least =
     let n = numbers_of d ports v in
-    let room = lt-ltb 0 n.initial held.room in
-    let ordered = le-leb n.initial n.maximum held.ordered in
     let takes = rates-positive Input v.rates.items least 0 ports in
     let gives = rates-positive Output v.rates.items least 0 ports in
-    and_from (nat_lt 0 n.initial && nat_le n.initial n.maximum && list_all (nat_lt 0) n.takes) (list_all (nat_lt 0) n.gives)
-    (and_from (nat_lt 0 n.initial && nat_le n.initial n.maximum) (list_all (nat_lt 0) n.takes)
-    (and_from (nat_lt 0 n.initial) (nat_le n.initial n.maximum) room ordered) takes) gives
+    and_from (are_lawful n.capacities && list_all (nat_lt 0) n.takes) (list_all (nat_lt 0) n.gives) (and_from (are_lawful n.capacities) (list_all (nat_lt 0) n.takes) held takes) gives
 
-pub networks-stated : (net : NetTree) (values : Values) → IsValued net values → (k : ℕ) (e : NetEntityTree) (d : DirectorTree) → slice_get net.entities k ≡ Some e → e.director ≡ Some d → IsTrue (is_network d) → (s : Stated) × (stated_of values k e ≡ Some s)
-networks-stated net values is k e d at directed network =
+pub processes-stated : (net : NetTree) (values : Values) → IsValued net values → (k : ℕ) (e : NetEntityTree) (d : DirectorTree) → slice_get net.entities k ≡ Some e → e.director ≡ Some d → IsTrue (has_processes d) → (s : Stated) × (stated_of values k e ≡ Some s)
+processes-stated net values is k e d at directed processes =
     let z = zip-at (IsEntityValued net) net.entities (map valued.entity_view values.entities.items) is.entities k e at in
     let v = mapped-at valued.entity_view values.entities.items k z.0 z.1 in
     let held : IsEntityValued net e (valued.entity_view v.0) = subst (IsEntityValued net e) (sym v.2) z.2 in
     let hs = map held_view v.0.director.items in
     let own : AreOfDirector e.parent (Some d) (bound held.inner) hs = subst (λ (o : Option DirectorTree). AreOfDirector e.parent o (bound held.inner) hs) directed held.director in
-    let class : d.class ≡ codes "PN" = (bytes_eq-Decides d.class (codes "PN")).0 network in
     let n = numbers_of d e.ports v.0 in
-    let proper : is_lawful n ≡ true = numbers-are d e.ports v.0 (capacities (bound held.inner) e.parent d hs class own) (rate-least e.ports v.0.rates.items held.rates) in
-    (n, ap (λ (o : Option DirectorTree). stated_by o e.ports (slice_get values.entities.items k)) directed ∙ ap (stated_by (Some d) e.ports) v.1 ∙ ap (λ (b : Bool). if b then lawful n else None) network ∙ ap (λ (b : Bool). if b then Some n else None) proper)
+    let lawful_capacities : are_lawful (capacities_of d v.0) ≡ true = capacities-are d v.0 (λ network. capacities (bound held.inner) e.parent d hs ((bytes_eq-Decides d.class (codes "PN")).0 network) own) in
+    let proper : is_lawful n ≡ true = numbers-are d e.ports v.0 lawful_capacities (rate-least e.ports v.0.rates.items held.rates) in
+    (n, ap (λ (o : Option DirectorTree). stated_by o e.ports (slice_get values.entities.items k)) directed ∙ ap (stated_by (Some d) e.ports) v.1 ∙ ap (λ (b : Bool). if b then lawful n else None) processes ∙ ap (λ (b : Bool). if b then Some n else None) proper)

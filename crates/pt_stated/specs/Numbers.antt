@@ -1,4 +1,4 @@
--- The numbers that a process network states: the capacities of its channels, and the rates of its own ports.
+-- The numbers that a composite of processes states: the rates of its own ports, and the capacities of its channels.
 use Rattle.std.specs.Prelude.{ℕ, ℤ, pos, nat_abs, List, map, Bool, true, false, Option, Some, None, slice_get, if◌then◌else◌}
 use Rattle.std.specs.List.{filter_map, enumerate_from}
 use Rattle.pt_value.specs.declared.token.Token.{Token}

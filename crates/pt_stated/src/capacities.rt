@@ -13,6 +13,13 @@ use pt_net::NetDirector;
 use pt_scopes::{ParameterValue, Standard, standard_of};
 use pt_value::Token;
 
+/// How many tokens a channel of a process network has room for: at first, and at most.
+#[derive(Clone, Copy, Debug)]
+pub struct Capacities {
+    pub initial: usize,
+    pub maximum: usize,
+}
+
 fn is_named(property: &Property, name: &str) -> bool
     ensures { result ≡ bytes_eq (property_name (property_view property.now)) name.now }
 {

@@ -1,4 +1,4 @@
-//! What the process networks of a net state: the capacities of their channels, and the rates of their own ports.
+//! What the composites of processes of a net state: the rates of their own ports, and the capacities of their channels.
 #![tactic(auto)]
 
 mod capacities;
@@ -8,6 +8,7 @@ mod networks;
 mod rates;
 mod stated;
 
-pub use laws::{networks_are_stated, stated_is_lawful};
+pub use capacities::Capacities;
+pub use laws::{processes_are_stated, stated_is_lawful};
 pub use networks::stated_in;
 pub use stated::Stated;

@@ -6,7 +6,7 @@ ghost use Rattle.pt_scopes.specs.Scopes.{net_view};
 ghost use Rattle.pt_stated.specs.Networks as spec;
 ghost use Rattle.pt_stated.specs.Networks.{AreStated};
 
-use crate::capacities::capacity;
+use crate::capacities::{Capacities, capacity};
 use crate::rates::rates_along;
 use crate::stated::Stated;
 use pt_document::{Direction, Port};
@@ -15,7 +15,35 @@ use pt_net::{Net, NetDirector, NetEntity};
 use pt_scopes::{EntityValues, Values};
 use std::alloc::{AllocError, Global};
 
-/// The numbers of a network with this director and these ports.
+/// Whether a composite of this director is a process network, whose channels hold tokens.
+fn is_network(director: &NetDirector) -> bool
+    ensures { result ≡ spec.is_network (director_view director.now) }
+{
+    director.class.as_str() == "PN"
+}
+
+/// Whether its children are processes: those of a network, or those that meet.
+fn has_processes(director: &NetDirector) -> bool
+    ensures { result ≡ spec.has_processes (director_view director.now) }
+{
+    is_network(director) || director.class.as_str() == "Rendezvous"
+}
+
+/// The capacities of its channels, where it is a process network.
+fn capacities_of(director: &NetDirector, values: &EntityValues) -> Option<Capacities>
+    ensures { result ≡ spec.capacities_of (director_view director.now) values.now }
+{
+    if is_network(director) {
+        Some(Capacities {
+            initial: capacity(director, &values.director, "initialQueueCapacity"),
+            maximum: capacity(director, &values.director, "maximumQueueCapacity"),
+        })
+    } else {
+        None
+    }
+}
+
+/// The numbers of a composite with this director and these ports.
 fn numbers_of(
     alloc: Global,
     director: &NetDirector,
@@ -27,11 +55,20 @@ fn numbers_of(
     let takes = rates_along(alloc, Direction::Input, ports, &values.rates)?;
     let gives = rates_along(alloc, Direction::Output, ports, &values.rates)?;
     Ok(Stated {
-        initial: capacity(director, &values.director, "initialQueueCapacity"),
-        maximum: capacity(director, &values.director, "maximumQueueCapacity"),
         takes: Counts::of(takes),
         gives: Counts::of(gives),
+        capacities: capacities_of(director, values),
     })
+}
+
+/// Whether there is room for a token in each channel, and the initial capacity is at most the maximum one.
+fn are_lawful(capacities: Option<Capacities>) -> bool
+    ensures { result ≡ spec.are_lawful capacities }
+{
+    match capacities {
+        Some(room) => 0 < room.initial && room.initial <= room.maximum,
+        None => true,
+    }
 }
 
 fn are_positive(counts: &Counts) -> bool
@@ -40,15 +77,11 @@ fn are_positive(counts: &Counts) -> bool
     counts.as_slice().iter().all(|count| 0 < *count)
 }
 
-/// Whether there is room for a token in each channel, the initial capacity is at most the maximum one, and each rate is 1 or
-/// more.
+/// Whether the capacities are lawful, where there are some, and each rate is 1 or more.
 fn is_lawful(stated: &Stated) -> bool
     ensures { result ≡ spec.is_lawful stated.now }
 {
-    0 < stated.initial
-        && stated.initial <= stated.maximum
-        && are_positive(&stated.takes)
-        && are_positive(&stated.gives)
+    are_lawful(stated.capacities) && are_positive(&stated.takes) && are_positive(&stated.gives)
 }
 
 fn lawful(stated: Stated) -> Option<Stated>
@@ -61,12 +94,6 @@ fn lawful(stated: Stated) -> Option<Stated>
     }
 }
 
-fn is_network(director: &NetDirector) -> bool
-    ensures { result ≡ spec.is_network (director_view director.now) }
-{
-    director.class.as_str() == "PN"
-}
-
 fn stated_by(
     alloc: Global,
     director: &NetDirector,
@@ -75,7 +102,7 @@ fn stated_by(
 ) -> Result<Option<Stated>, AllocError>
     ensures { IfOk result (λ stated. stated ≡ spec.stated_by (Some (director_view director.now)) (map port_view ports.now) (Some values.now)) }
 {
-    if is_network(director) {
+    if has_processes(director) {
         Ok(lawful(numbers_of(alloc, director, ports, values)?))
     } else {
         Ok(None)
@@ -114,7 +141,7 @@ fn stated_among(
     Ok(stated)
 }
 
-/// For each entity of a net what it states, where it is a process network whose numbers are lawful: the values of its
+/// For each entity of a net what it states, where it is a composite of processes whose numbers are lawful: the values of its
 /// parameters, or what stands for them where they aren't given.
 pub fn stated_in(
     alloc: Global,
