@@ -1,12 +1,15 @@
 ghost use Rattle.std.specs.Prelude.{◌≡◌};
-ghost use Rattle.pt_directors.specs.Directors.{of_sdf, of_sr, of_de, of_pn, of_modal};
+ghost use Rattle.pt_directors.specs.Directors.{of_sdf, of_sr, of_de, of_pn, of_modal, of_rendezvous};
 
 use pt_core::Either;
 
-/// The core of a composite's director: that of SDF, of SR, of DE, of PN, or of Modal.
+/// The core of a composite's director: that of SDF, of SR, of DE, of PN, of Modal, or of Rendezvous.
 pub type Director = Either<
     pt_sdf::Core,
-    Either<pt_sr::Core, Either<pt_de::DeCore, Either<pt_pn::Core, pt_modal::Core>>>,
+    Either<
+        pt_sr::Core,
+        Either<pt_de::DeCore, Either<pt_pn::Core, Either<pt_modal::Core, pt_rv::Core>>>,
+    >,
 >;
 
 /// The director that is this core of SDF.
@@ -41,5 +44,12 @@ pub fn pn(core: pt_pn::Core) -> Director
 pub fn modal(core: pt_modal::Core) -> Director
     ensures { result ≡ of_modal core }
 {
-    Either::Other(Either::Other(Either::Other(Either::Other(core))))
+    Either::Other(Either::Other(Either::Other(Either::Other(Either::First(core)))))
+}
+
+/// The director that is this core of Rendezvous.
+pub fn rendezvous(core: pt_rv::Core) -> Director
+    ensures { result ≡ of_rendezvous core }
+{
+    Either::Other(Either::Other(Either::Other(Either::Other(Either::Other(core)))))
 }

@@ -3,4 +3,4 @@
 
 mod director;
 
-pub use director::{Director, de, modal, pn, sdf, sr};
+pub use director::{Director, de, modal, pn, rendezvous, sdf, sr};
