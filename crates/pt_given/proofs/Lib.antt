@@ -1,0 +1,4 @@
+pub mod GivenLogs
+pub mod OwnPath
+pub mod GivenSteps
+pub mod GivenRuns
