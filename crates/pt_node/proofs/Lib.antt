@@ -1,4 +1,5 @@
 pub mod RecordedLaws
+pub mod MeetingsLaws
 pub mod Link
 pub mod OutlineLaws
 pub mod UnmetLaws

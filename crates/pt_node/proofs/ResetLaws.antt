@@ -14,8 +14,10 @@ use Rattle.pt_node.specs.Acts.{acts}
 use Rattle.pt_node.specs.Shown.{Shown, AllShown, all_of}
 use Rattle.pt_node.specs.View.{Tree, Trees, Outlines, with, node_with, nodes_of, maximum_in, kept_of, kepts_of, outline_of, outlines_of, count_of, counts_of}
 use Rattle.pt_node.specs.Live.{IsReady, IsReadyBody, AllFit}
+use Rattle.pt_node.specs.Meetings.{Serves}
 use Rattle.pt_node.specs.Reset.{WasReset, WereReset, BodyReset, KeepsRecords, KeepRecords, ResetTo}
 use Rattle.pt_node.proofs.ActsLaws.{acts-are-lawful}
+use Rattle.pt_node.proofs.MeetingsLaws.{serves-none}
 
 -- one by one
 pub reset-none : (ss : List Shown) → ResetTo 0 ss ss
@@ -82,6 +84,7 @@ actor-reset held held' ks fit s a = record {
   node = λ h. ap₂ (λ (v w : LibraryActor). let n : Tree = tree.Actor (tree.forgotten h) v w in n) s a;
   ready = tt;
   fit = fit;
+  serves = λ n r s. tt;
 }
 
 -- a composite
@@ -97,6 +100,7 @@ composite-reset d d' ks ks' ready e w = record {
       ap (λ (v : Trees). let n : Tree = tree.Composite (tree.forgotten h) (acts.calls.start_of d) (acts.calls.start_of d) v in n) w.nodes;
   ready = subst (λ v. IsReady v ks') (sym e) (subst (λ (v : List Tree). acts.Fits (acts.calls.restarted d) v) (sym (ap (λ (v : Trees). tree.list_of v) w.nodes ∙ list-reset (nodes_of ks))) (acts-are-lawful.fits_again d (tree.list_of (nodes_of ks)) ready));
   fit = w.fit;
+  serves = λ n r s. subst (λ v. Serves v n r) (sym (ap (λ v. acts.calls.met v) e ∙ acts-are-lawful.agree.tells_meetings.restarted d)) (serves-none (acts.calls.met d) n r s);
 }
 
 -- where all within could be brought back

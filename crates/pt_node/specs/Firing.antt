@@ -8,7 +8,7 @@ use Rattle.pt_node.specs.Shown.{Shown, Branch}
 
 -- the node with other records
 abbrev pub with_records : (List RecordedPort → List RecordedPort) → Shown → Shown
-with_records f (Branch g ks) = Branch (record { past = g.past; body = g.body; records = f g.records; path = g.path; labels = g.labels; live = g.live }) ks
+with_records f (Branch g ks) = Branch (record { past = g.past; body = g.body; records = f g.records; path = g.path; labels = g.labels; meetings = g.meetings; live = g.live }) ks
 
 -- with what a firing gave noted
 abbrev pub noted : Tag → Streams Token → Shown → Shown
@@ -20,4 +20,4 @@ bare s = with_records (map unnoted) s
 
 -- the node with its firing recorded, and live again
 abbrev pub recorded : Tag → Shown → Shown
-recorded tag (Branch g ks) = Branch (record { past = tree.fired_at tag g.past; body = g.body; records = map recording g.records; path = g.path; labels = g.labels; live = true }) ks
+recorded tag (Branch g ks) = Branch (record { past = tree.fired_at tag g.past; body = g.body; records = map recording g.records; path = g.path; labels = g.labels; meetings = g.meetings; live = true }) ks

@@ -1,5 +1,6 @@
 pub mod Acts
 pub mod Recorded
+pub mod Meetings
 pub mod Shown
 pub mod View
 pub mod Live

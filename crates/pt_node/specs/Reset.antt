@@ -1,10 +1,12 @@
 -- A node that is brought back to its start, with all within it.
-use Rattle.std.specs.Prelude.{◌≡◌, ℕ, zero, suc, List, [], ◌∷◌}
+use Rattle.std.specs.Prelude.{◌≡◌, ℕ, zero, suc, List, [], ◌∷◌, Option}
 use Rattle.pt_meaning.specs.Tree.{Past, forgotten, reset_of, reset_all}
+use Rattle.pt_records.specs.Kept.{Made}
 use Rattle.pt_node.specs.declared.body.Body.{Body}
+use Rattle.pt_node.specs.Meetings.{Serves}
 use Rattle.pt_node.specs.Shown.{Shown, AllShown}
 use Rattle.pt_node.specs.View.{node_with, node_of, nodes_of, kept_of, kepts_of, outline_of, outlines_of, count_of, counts_of}
-use Rattle.pt_node.specs.Live.{IsLive, IsReadyBody, AllFit}
+use Rattle.pt_node.specs.Live.{IsLive, IsReadyBody, AllFit, met_in}
 
 -- among the definitions it is the node that a reset gives, and it may fire
 pub record WasReset (old new : Shown) : Type 0 where
@@ -16,11 +18,12 @@ pub record WereReset (old new : AllShown) : Type 0 where
   pub nodes : nodes_of new ≡ reset_all (nodes_of old)
   pub fit : AllFit new
 
--- the same of what a node is, whatever its past, with its children
+-- the same of what a node is, whatever its past, with its children; a record of meetings serves it as before
 pub record BodyReset (old : Body) (olds : AllShown) (new : Body) (news : AllShown) : Type 0 where
   pub node : (h : Past) → node_with (forgotten h) new (nodes_of news) ≡ reset_of (node_with h old (nodes_of olds))
   pub ready : IsReadyBody new news
   pub fit : AllFit news
+  pub serves : (n : ℕ) (r : Option Made) → Serves (met_in old) n r → Serves (met_in new) n r
 
 -- how often it fired, what is recorded of it, and its names are as before
 pub record KeepsRecords (old new : Shown) : Type 0 where

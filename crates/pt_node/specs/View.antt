@@ -3,7 +3,7 @@ use Rattle.std.specs.Prelude.{ℕ, zero, suc, ◌+◌, max, List, [], ◌∷◌,
 use Rattle.pt_meaning.specs.Basics.{Path}
 use Rattle.pt_meaning.specs.Tree as tree
 use Rattle.pt_value.specs.declared.token.Token.{Token}
-use Rattle.pt_records.specs.Kept.{Kept, Entry, Made, kept_by}
+use Rattle.pt_records.specs.Kept.{Kept, Entry, kept_by}
 use Rattle.pt_node.specs.declared.body.Body.{Body}
 use Rattle.pt_node.specs.declared.body.Body.TheVariants.{Actor, Composite}
 use Rattle.pt_directors.specs.Directors.{Director, director_calls}
@@ -38,17 +38,9 @@ abbrev mutual
   nodes_of none = tree.none
   nodes_of (more s ss) = tree.more (node_of s) (nodes_of ss)
 
--- the meetings that were recorded: no director of the code is Rendezvous, and a library actor makes none
-abbrev pub meetings_of : Director → Option Made
-meetings_of director = None
-
-abbrev pub meetings_in : Body → Option Made
-meetings_in (Actor held) = None
-meetings_in (Composite director) = meetings_of director
-
 -- what is kept of a node at its own path: the number of its firings, its recorded outputs, and its meetings
 abbrev pub entry_of : Frame → Entry Token
-entry_of f = record { count = f.past.made; recorded = map trace_of f.records; meetings = meetings_in f.body }
+entry_of f = record { count = f.past.made; recorded = map trace_of f.records; meetings = f.meetings }
 
 -- what is kept of a node and of all within it
 abbrev mutual

@@ -3,6 +3,7 @@
 
 mod body;
 mod labels;
+mod meetings;
 mod node;
 mod past;
 mod recorded;
@@ -10,6 +11,7 @@ mod unmet;
 
 pub use body::{Body, Held};
 pub use labels::Labels;
+pub use meetings::MeetingRecord;
 pub use node::Node;
 pub use past::Past;
 pub use recorded::{Recorded, Records};

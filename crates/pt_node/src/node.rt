@@ -6,14 +6,15 @@ ghost use Rattle.pt_meaning.specs.Basics as basics;
 ghost use Rattle.pt_meaning.specs.NodeFacts as facts;
 ghost use Rattle.pt_firing.specs.Need.{need_of};
 ghost use Rattle.pt_library.specs.LibraryActor as library;
-ghost use Rattle.pt_node.specs.Live.{is_live, IsFit, IsReadyBody, AllFit};
+ghost use Rattle.pt_node.specs.Live.{is_live, IsFit, IsReadyNode, IsReadyBody, AllFit};
 ghost use Rattle.pt_node.specs.Reset.{WasReset, WereReset, BodyReset, KeepsRecords, KeepRecords};
-ghost use Rattle.pt_node.specs.View.{node_of, meetings_in, maximum_in};
+ghost use Rattle.pt_node.specs.View.{node_of, maximum_in};
 ghost use Rattle.pt_node.specs.Firing.{noted, bare, recorded};
 ghost use Rattle.pt_node.specs.Wake.{begins, own_wake};
 
 use crate::body::Body;
 use crate::labels::Labels;
+use crate::meetings::MeetingRecord;
 use crate::past::Past;
 use crate::recorded::Records;
 use pt_core::Core;
@@ -35,6 +36,8 @@ pub struct Node {
     pub path: Text,
     /// How a report tells the channels of a process network.
     pub labels: Labels,
+    /// The meetings that were made, where its director makes meetings.
+    pub meetings: MeetingRecord,
 }
 
 // Written by hand, as that of what is in it: so letting go of a tree is one call in the proofs of the crates above, whatever a node holds.
@@ -48,6 +51,7 @@ impl Drop for Node {
             children: _,
             path: _,
             labels: _,
+            meetings: _,
         } = self;
     }
 }
@@ -84,7 +88,7 @@ impl Node {
     /// The wake that it has once it has fired.
     #[inline(always)]
     fn own_wake(&self) -> Option<Tag>
-        requires { IsFit (shown_node self.now) }
+        requires { IsReadyNode (shown_node self.now) }
         ensures { result ≡ own_wake (shown_node self.now) }
     {
         match &self.body {
@@ -105,7 +109,7 @@ impl Node {
     /// The wake that the node has once its firing under way is recorded, at whatever tag. It walks over no children, and takes no memory.
     #[inline(always)]
     pub fn wake(&self) -> Option<Tag>
-        requires { IsFit (shown_node self.now) }
+        requires { IsReadyNode (shown_node self.now) }
         ensures { (tag : basics.Tag) → result ≡ facts.next_of library.rows (node_of (recorded tag (shown_node self.now))) }
     {
         self.own_wake()
@@ -193,7 +197,6 @@ fn reset_body(alloc: Global, body: &mut Body, children: &mut Vec<Node>) -> Resul
     requires ready { IsReadyBody body.old (all_of (map shown children.old.items)) }
     requires fit { AllFit (all_of (map shown children.old.items)) }
     ensures reset { OnOk result (BodyReset body.old (all_of (map shown children.old.items)) body.new (all_of (map shown children.new.items))) }
-    ensures meetings { meetings_in body.new ≡ meetings_in body.old }
     ensures maximum { maximum_in body.new ≡ maximum_in body.old }
     ensures kept { KeepRecords (all_of (map shown children.old.items)) (all_of (map shown children.new.items)) }
 {

@@ -5,5 +5,8 @@ use Rattle.pt_node.specs.Wake.{past_of}
 use Rattle.pt_node.proofs.WakeLaws.{next-wake}
 use Rattle.pt_node.proofs.node.Node.next.Goals as goal
 
+pub own_wake-requires : goal.own_wake-requires
+own_wake-requires c = c.requires.0
+
 pub returns : goal.returns
 returns c = c.wake.ensures ∙ ap₂ (λ b w. at_first b (past_of (shown_node c.args.self.now)).last w) c.begins.ensures c.own_wake.ensures ∙ next-wake (shown_node c.args.self.now)
