@@ -1,5 +1,5 @@
 -- The firing of a node of the code, by what its body is.
-use Rattle.std.proofs.Common.{◌≡◌, ℕ, ℤ, List, [], ◌∷◌, Bool, true, false, map, Option, None, refl, sym, ap, ap₂, subst, ◌∙◌, inl}
+use Rattle.std.proofs.Common.{◌≡◌, ℕ, ℤ, suc, ◌<◌, List, [], ◌∷◌, Bool, true, false, map, Option, refl, arith, sym, ap, ap₂, subst, ◌∙◌, inl}
 use Rattle.pt_meaning.specs.Basics.{Tag, Streams, silent}
 use Rattle.pt_meaning.specs.Machine as machine
 use Rattle.pt_meaning.specs.Machine.{Outcome}
@@ -9,7 +9,8 @@ use Rattle.pt_meaning.specs.Step.{actor_outcome, step_at}
 use Rattle.pt_value.specs.declared.token.Token.{Token}
 use Rattle.pt_value.specs.declared.token.Token.TheVariants.{Int}
 use Rattle.pt_firing.specs.RunFault.{code_of}
-use Rattle.pt_records.specs.Kept.{Kept, Entry, kept_by}
+use Rattle.pt_records.specs.Kept.{Made, Kept, kept_by}
+use Rattle.pt_records.specs.Made.{IsMade}
 use Rattle.pt_records.proofs.ShutSteps.{nothing-is-shut, at-own-place}
 use Rattle.pt_records.proofs.GrowthLaws.{grew-none}
 use Rattle.pt_library.specs.declared.library_actor.LibraryActor.{LibraryActor}
@@ -24,9 +25,8 @@ use Rattle.pt_node.specs.declared.body.Body.{Body}
 use Rattle.pt_node.specs.declared.body.Body.TheVariants as body
 use Rattle.pt_node.specs.declared.body.Held.{Held}
 use Rattle.pt_node.specs.Acts.{acts}
-use Rattle.pt_node.specs.Recorded.{trace_of}
 use Rattle.pt_node.specs.Shown.{Shown, AllShown, Branch, Frame, shown, shown_node, level, all_of}
-use Rattle.pt_node.specs.View.{Tree, heading_of, kept_of, kepts_of, Outline, Named, outline_of, outlines_of, count_of}
+use Rattle.pt_node.specs.View.{Tree, entry_of, heading_of, kept_of, kepts_of, Outline, Named, outline_of, outlines_of, count_of}
 use Rattle.pt_node.specs.Live.{IsFit, AllFit}
 use Rattle.pt_node.specs.Stuck.{fault_of}
 use Rattle.pt_seq.specs.declared.fire.Within.{Within}
@@ -34,6 +34,7 @@ use Rattle.pt_seq.specs.declared.fire.Within.TheVariants.{Done, Fault, Spent, Fu
 use Rattle.pt_seq.specs.Within.{WithinTo, StaysFit, ActorTo, Gave, SeveralTo}
 use Rattle.pt_seq.specs.Signals.{GaveAt}
 use Rattle.pt_seq.specs.Composite.{CompositeTo, KeepsFit}
+use Rattle.pt_seq.specs.OwnMeetings.{OwnMeetings, own_of, with_meetings, IsOwnPath}
 use Rattle.pt_seq.proofs.Recording.{made-children, off-none}
 
 -- a library actor
@@ -41,21 +42,17 @@ actor-step : (m : Meets) (k : ℕ) (h : tree.Past) (a b : LibraryActor) (tag : T
 unfolding step_at
 actor-step m k h a b tag X = refl
 
--- what is kept of a node that isn't a Rendezvous composite, at its own path
-abbrev entry-unmet : Frame → Entry Token
-entry-unmet f = record { count = f.past.made; recorded = map trace_of f.records; meetings = None }
-
 actor-goes : (f : Frame) (held held' : Held) (ks : AllShown) (tag : Tag) (X : Streams Token) (w : Within) → ActorTo held f.path f.past.made tag X w held' →
-    WithinTo (Branch (record { past = f.past; body = body.Actor held; records = f.records; path = f.path; labels = f.labels; live = f.live }) ks) tag X w (Branch (record { past = f.past; body = body.Actor held'; records = f.records; path = f.path; labels = f.labels; live = false }) ks)
+    WithinTo (Branch (record { past = f.past; body = body.Actor held; records = f.records; path = f.path; labels = f.labels; meetings = f.meetings; live = f.live }) ks) tag X w (Branch (record { past = f.past; body = body.Actor held'; records = f.records; path = f.path; labels = f.labels; meetings = f.meetings; live = false }) ks)
 actor-goes f held held' ks tag X (Done out) a = λ m made.
-    let kept : Kept Token = kept_by (entry-unmet f) (kepts_of ks) in
+    let kept : Kept Token = kept_by (entry_of f) (kepts_of ks) in
     record {
       log = silent;
       done = (0, λ k l. actor-step m k f.past held.start held.actor tag X ∙ ap (λ r. actor_outcome tag f.past held.start r) a.0 ∙ ap (λ v. let r : Outcome Token Tree = machine.Done (tree.Actor (tree.fired_at tag f.past) v held'.actor) out silent in r) (sym a.1));
       kept = grew-none kept;
     }
 actor-goes f held held' ks tag X (Fault place) a = λ m made.
-    let kept : Kept Token = kept_by (entry-unmet f) (kepts_of ks) in
+    let kept : Kept Token = kept_by (entry_of f) (kepts_of ks) in
     let told : record { path = []; firing = f.past.made; code = code_of place.kind } ≡ fault_of [] place = ap (λ n. let g : machine.Fault = record { path = []; firing = n; code = code_of place.kind } in g) (sym a.2) in (
       [],
       ap (λ v. Option.Some v) (sym a.1),
@@ -68,45 +65,53 @@ actor-goes f held held' ks tag X (Fault place) a = λ m made.
     )
 actor-goes f held held' ks tag X Spent a = absurd a
 actor-goes f held held' ks tag X (Full blocked) a = absurd a
-actor-goes f held held' ks tag X Memory a = λ m made. off-none m (tree.Actor f.past held.start held.actor) tag X (kept_by (entry-unmet f) (kepts_of ks))
+actor-goes f held held' ks tag X Memory a = λ m made. off-none m (tree.Actor f.past held.start held.actor) tag X (kept_by (entry_of f) (kepts_of ks))
 
-actor-fit : (f : Frame) (held held' : Held) (ks : AllShown) (w : Within) → AllFit ks → StaysFit w (Branch (record { past = f.past; body = body.Actor held'; records = f.records; path = f.path; labels = f.labels; live = false }) ks)
-actor-fit f held held' ks (Done out) fit = (tt, fit)
+actor-fit : (f : Frame) (held held' : Held) (ks : AllShown) (w : Within) → AllFit ks → StaysFit w (Branch (record { past = f.past; body = body.Actor held'; records = f.records; path = f.path; labels = f.labels; meetings = f.meetings; live = false }) ks)
+actor-fit f held held' ks (Done out) fit = (tt, fit, tt)
 actor-fit f held held' ks (Fault place) fit = tt
 actor-fit f held held' ks Spent fit = tt
 actor-fit f held held' ks (Full blocked) fit = tt
 actor-fit f held held' ks Memory fit = tt
 
--- a composite
-composite-goes : (f : Frame) (d d' : Director) (ks ks' : AllShown) (tag : Tag) (X : Streams Token) (w : Within) → CompositeTo acts f.path f.labels f.past.made d ks tag X w d' ks' →
-    WithinTo (Branch (record { past = f.past; body = body.Composite d; records = f.records; path = f.path; labels = f.labels; live = f.live }) ks) tag X w (Branch (record { past = f.past; body = body.Composite d'; records = f.records; path = f.path; labels = f.labels; live = false }) ks')
-composite-goes f d d' ks ks' tag X (Done out) g = λ m made. g m made.below f.past (entry-unmet f)
-composite-goes f d d' ks ks' tag X (Fault place) g = λ m made. g m (made-children m (entry-unmet f) (kepts_of ks') made) f.past refl (entry-unmet f) (map heading_of f.records)
-composite-goes f d d' ks ks' tag X Spent g = λ m made. g m (made-children m (entry-unmet f) (kepts_of ks') made) f.past (entry-unmet f)
-composite-goes f d d' ks ks' tag X (Full blocked) g = λ m made. g m (made-children m (entry-unmet f) (kepts_of ks') made) f.past refl (entry-unmet f) refl (map heading_of f.records)
-composite-goes f d d' ks ks' tag X Memory g = λ m made. g m (made-children m (entry-unmet f) (kepts_of ks') made) f.past (entry-unmet f)
+-- a composite, with those meetings recorded after the firing
+module _ (f : Frame) (made : Option Made) where
+  abbrev own : OwnMeetings
+  own = own_of f.past.made f.meetings made
 
-composite-fit : (f : Frame) (d' : Director) (ks' : AllShown) (w : Within) → KeepsFit acts w d' ks' → StaysFit w (Branch (record { past = f.past; body = body.Composite d'; records = f.records; path = f.path; labels = f.labels; live = false }) ks')
-composite-fit f d' ks' (Done out) g = g
-composite-fit f d' ks' (Fault place) g = tt
-composite-fit f d' ks' Spent g = tt
-composite-fit f d' ks' (Full blocked) g = tt
-composite-fit f d' ks' Memory g = tt
+  -- its own path, under the meetings that are recorded of it
+  own-path : (m : Meets) → IsMade made f.past.made (m [] f.past.made) → IsOwnPath m own f.past (entry_of f)
+  own-path m given = record { number = refl; count = refl; meetings = refl; given = given }
+
+  composite-goes : (d d' : Director) (ks ks' : AllShown) (tag : Tag) (X : Streams Token) (w : Within) → CompositeTo acts f.path f.labels own d ks tag X w d' ks' →
+      WithinTo (Branch (record { past = f.past; body = body.Composite d; records = f.records; path = f.path; labels = f.labels; meetings = f.meetings; live = f.live }) ks) tag X w (Branch (record { past = f.past; body = body.Composite d'; records = f.records; path = f.path; labels = f.labels; meetings = made; live = false }) ks')
+  composite-goes d d' ks ks' tag X (Done out) g = λ m given. let next : f.past.made < suc f.past.made = omega arith in g m given.below f.past (entry_of f) (own-path m (given.own f.past.made next))
+  composite-goes d d' ks ks' tag X (Fault place) g = λ m given. g m (made-children m (with_meetings made (entry_of f)) (kepts_of ks') given) f.past (entry_of f) (own-path m (given [] f.past.made)) (map heading_of f.records)
+  composite-goes d d' ks ks' tag X Spent g = λ m given. g m (made-children m (with_meetings made (entry_of f)) (kepts_of ks') given) f.past (entry_of f) (own-path m (given [] f.past.made))
+  composite-goes d d' ks ks' tag X (Full blocked) g = λ m given. g m (made-children m (with_meetings made (entry_of f)) (kepts_of ks') given) f.past (entry_of f) (own-path m (given [] f.past.made)) (map heading_of f.records)
+  composite-goes d d' ks ks' tag X Memory g = λ m given. g m (made-children m (with_meetings made (entry_of f)) (kepts_of ks') given) f.past (entry_of f) (own-path m (given [] f.past.made))
+
+  composite-fit : (d' : Director) (ks' : AllShown) (w : Within) → KeepsFit acts own w d' ks' → StaysFit w (Branch (record { past = f.past; body = body.Composite d'; records = f.records; path = f.path; labels = f.labels; meetings = made; live = false }) ks')
+  composite-fit d' ks' (Done out) g = g
+  composite-fit d' ks' (Fault place) g = tt
+  composite-fit d' ks' Spent g = tt
+  composite-fit d' ks' (Full blocked) g = tt
+  composite-fit d' ks' Memory g = tt
 
 -- the fields of a node, with another body
 abbrev with-body : opens.Node-F Node → Body → Shown
-with-body r b = Branch (record { past = r.past; body = b; records = r.records; path = r.path; labels = r.labels; live = r.live }) (all_of (map shown r.children.items))
+with-body r b = Branch (record { past = r.past; body = b; records = r.records; path = r.path; labels = r.labels; meetings = r.meetings; live = r.live }) (all_of (map shown r.children.items))
 
 frame-in : opens.Node-F Node → Frame
-frame-in r = record { past = r.past; body = r.body; records = r.records; path = r.path; labels = r.labels; live = r.live }
+frame-in r = record { past = r.past; body = r.body; records = r.records; path = r.path; labels = r.labels; meetings = r.meetings; live = r.live }
 
 module _ (n : Node) (r : opens.Node-F Node) (b : Body) (e : roll-Node r ≡ n) (is : r.body ≡ b) where
   pub old-is : shown_node n ≡ with-body r b
   old-is = ap (λ m. shown_node m) (sym e) ∙ ap (λ x. level x) (out-roll-Node r) ∙ ap (λ v. with-body r v) is
 
 module _ (n n' : Node) (r r' : opens.Node-F Node) (held held' : Held) (e : roll-Node r ≡ n) (e' : roll-Node r' ≡ n') (is : r.body ≡ body.Actor held) (tag : Tag) (X : Streams Token) (w : Within) (goes : ActorTo held r.path r.past.made tag X w held')
-    (now : level r' ≡ Branch (record { past = r.past; body = body.Actor held'; records = r.records; path = r.path; labels = r.labels; live = false }) (all_of (map shown r.children.items))) where
-  new-actor : shown_node n' ≡ Branch (record { past = r.past; body = body.Actor held'; records = r.records; path = r.path; labels = r.labels; live = false }) (all_of (map shown r.children.items))
+    (now : level r' ≡ Branch (record { past = r.past; body = body.Actor held'; records = r.records; path = r.path; labels = r.labels; meetings = r.meetings; live = false }) (all_of (map shown r.children.items))) where
+  new-actor : shown_node n' ≡ Branch (record { past = r.past; body = body.Actor held'; records = r.records; path = r.path; labels = r.labels; meetings = r.meetings; live = false }) (all_of (map shown r.children.items))
   new-actor = ap (λ m. shown_node m) (sym e') ∙ ap (λ x. level x) (out-roll-Node r') ∙ now
 
   pub actor-enters : WithinTo (shown_node n) tag X w (shown_node n')
@@ -122,32 +127,32 @@ module _ (n n' : Node) (r r' : opens.Node-F Node) (held held' : Held) (e : roll-
   unfolding frame-in
   actor-stays fit = subst (λ s. StaysFit w s) (sym new-actor) (actor-fit (frame-in r) held held' (all_of (map shown r.children.items)) w (subst (λ s. IsFit s) (old-is n r (body.Actor held) e is) fit).1)
 
-module _ (n n' : Node) (r r' : opens.Node-F Node) (d d' : Director) (ks' : AllShown) (e : roll-Node r ≡ n) (e' : roll-Node r' ≡ n') (is : r.body ≡ body.Composite d) (w : Within)
-    (now : level r' ≡ Branch (record { past = r.past; body = body.Composite d'; records = r.records; path = r.path; labels = r.labels; live = false }) ks') where
-  new-composite : shown_node n' ≡ Branch (record { past = r.past; body = body.Composite d'; records = r.records; path = r.path; labels = r.labels; live = false }) ks'
+module _ (n n' : Node) (r r' : opens.Node-F Node) (d d' : Director) (ks' : AllShown) (made : Option Made) (e : roll-Node r ≡ n) (e' : roll-Node r' ≡ n') (is : r.body ≡ body.Composite d) (w : Within)
+    (now : level r' ≡ Branch (record { past = r.past; body = body.Composite d'; records = r.records; path = r.path; labels = r.labels; meetings = made; live = false }) ks') where
+  new-composite : shown_node n' ≡ Branch (record { past = r.past; body = body.Composite d'; records = r.records; path = r.path; labels = r.labels; meetings = made; live = false }) ks'
   new-composite = ap (λ m. shown_node m) (sym e') ∙ ap (λ x. level x) (out-roll-Node r') ∙ now
 
-  pub composite-enters : (tag : Tag) (X : Streams Token) → CompositeTo acts r.path r.labels r.past.made d (all_of (map shown r.children.items)) tag X w d' ks' → WithinTo (shown_node n) tag X w (shown_node n')
+  pub composite-enters : (tag : Tag) (X : Streams Token) → CompositeTo acts r.path r.labels (own_of r.past.made r.meetings made) d (all_of (map shown r.children.items)) tag X w d' ks' → WithinTo (shown_node n) tag X w (shown_node n')
   unfolding frame-in
   composite-enters tag X goes =
       subst (λ s. WithinTo s tag X w (shown_node n')) (sym (old-is n r (body.Composite d) e is))
-      (subst (λ s. WithinTo (with-body r (body.Composite d)) tag X w s) (sym new-composite) (composite-goes (frame-in r) d d' (all_of (map shown r.children.items)) ks' tag X w goes))
+      (subst (λ s. WithinTo (with-body r (body.Composite d)) tag X w s) (sym new-composite) (composite-goes (frame-in r) made d d' (all_of (map shown r.children.items)) ks' tag X w goes))
 
   pub composite-named : acts.calls.maximum d' ≡ acts.calls.maximum d → outlines_of ks' ≡ outlines_of (all_of (map shown r.children.items)) → outline_of (shown_node n') ≡ outline_of (shown_node n)
   composite-named most names =
       ap (λ s. outline_of s) new-composite ∙ ap₂ (λ v os. let o : Outline = Named r.path (map heading_of r.records) v r.labels os in o) most names ∙ sym (ap (λ s. outline_of s) (old-is n r (body.Composite d) e is))
 
-  pub composite-stays : KeepsFit acts w d' ks' → StaysFit w (shown_node n')
+  pub composite-stays : KeepsFit acts (own_of r.past.made r.meetings made) w d' ks' → StaysFit w (shown_node n')
   unfolding frame-in
-  composite-stays fit = subst (λ s. StaysFit w s) (sym new-composite) (composite-fit (frame-in r) d' ks' w fit)
+  composite-stays fit = subst (λ s. StaysFit w s) (sym new-composite) (composite-fit (frame-in r) made d' ks' w fit)
 
 -- a firing of a node at a tag that gave these outputs
 module _ (n n' : Node) (r r' : opens.Node-F Node) (held held' : Held) (e : roll-Node r ≡ n) (e' : roll-Node r' ≡ n') (is : r.body ≡ body.Actor held) (tag : Tag) (X out : Streams Token) (gives : library.step tag held.actor X ≡ tree.Gives held'.actor out) (start : held'.start ≡ held.start)
-    (now : level r' ≡ Branch (record { past = r.past; body = body.Actor held'; records = r.records; path = r.path; labels = r.labels; live = false }) (all_of (map shown r.children.items))) where
+    (now : level r' ≡ Branch (record { past = r.past; body = body.Actor held'; records = r.records; path = r.path; labels = r.labels; meetings = r.meetings; live = false }) (all_of (map shown r.children.items))) where
   was-shown : shown_node n ≡ with-body r (body.Actor held)
   was-shown = old-is n r (body.Actor held) e is
 
-  is-shown : shown_node n' ≡ Branch (record { past = r.past; body = body.Actor held'; records = r.records; path = r.path; labels = r.labels; live = false }) (all_of (map shown r.children.items))
+  is-shown : shown_node n' ≡ Branch (record { past = r.past; body = body.Actor held'; records = r.records; path = r.path; labels = r.labels; meetings = r.meetings; live = false }) (all_of (map shown r.children.items))
   is-shown = ap (λ m. shown_node m) (sym e') ∙ ap (λ x. level x) (out-roll-Node r') ∙ now
 
   pub gave-at : IsFit (shown_node n) → GaveAt tag (shown_node n) X out (shown_node n')
@@ -163,7 +168,7 @@ module _ (n n' : Node) (r r' : opens.Node-F Node) (held held' : Held) (e : roll-
 
 -- a firing of a node, whatever its tag, that gave these outputs
 module _ (n n' : Node) (r r' : opens.Node-F Node) (held held' : Held) (e : roll-Node r ≡ n) (e' : roll-Node r' ≡ n') (is : r.body ≡ body.Actor held) (X out : Streams Token) (gives : (tag : Tag) → library.step tag held.actor X ≡ tree.Gives held'.actor out) (start : held'.start ≡ held.start)
-    (now : level r' ≡ Branch (record { past = r.past; body = body.Actor held'; records = r.records; path = r.path; labels = r.labels; live = false }) (all_of (map shown r.children.items))) where
+    (now : level r' ≡ Branch (record { past = r.past; body = body.Actor held'; records = r.records; path = r.path; labels = r.labels; meetings = r.meetings; live = false }) (all_of (map shown r.children.items))) where
   pub gave-out : IsFit (shown_node n) → Gave (shown_node n) X out (shown_node n')
   gave-out fit =
       let some : Tag = record { time = 0; step = 0 } in
@@ -172,14 +177,14 @@ module _ (n n' : Node) (r r' : opens.Node-F Node) (held held' : Held) (e : roll-
 
 -- a node whose fields were written, and which then isn't live
 abbrev pub not-live : opens.Node-F Node → opens.Node-F Node
-not-live x = record { past = x.past; body = x.body; children = x.children; records = x.records; path = x.path; labels = x.labels; live = false }
+not-live x = record { past = x.past; body = x.body; children = x.children; records = x.records; path = x.path; labels = x.labels; meetings = x.meetings; live = false }
 
-pub no-longer-live : (r : opens.Node-F Node) → level (not-live (out-Node (roll-Node r))) ≡ Branch (record { past = r.past; body = r.body; records = r.records; path = r.path; labels = r.labels; live = false }) (all_of (map shown r.children.items))
-no-longer-live r = ap (λ (x : opens.Node-F Node). Branch (record { past = x.past; body = x.body; records = x.records; path = x.path; labels = x.labels; live = false }) (all_of (map shown x.children.items))) (out-roll-Node r)
+pub no-longer-live : (r : opens.Node-F Node) → level (not-live (out-Node (roll-Node r))) ≡ Branch (record { past = r.past; body = r.body; records = r.records; path = r.path; labels = r.labels; meetings = r.meetings; live = false }) (all_of (map shown r.children.items))
+no-longer-live r = ap (λ (x : opens.Node-F Node). Branch (record { past = x.past; body = x.body; records = x.records; path = x.path; labels = x.labels; meetings = x.meetings; live = false }) (all_of (map shown x.children.items))) (out-roll-Node r)
 
 -- one of which nothing else was written
-pub only-not-live : (r : opens.Node-F Node) (b : Body) → r.body ≡ b → level (not-live r) ≡ Branch (record { past = r.past; body = b; records = r.records; path = r.path; labels = r.labels; live = false }) (all_of (map shown r.children.items))
-only-not-live r b is = ap (λ x. Branch (record { past = r.past; body = x; records = r.records; path = r.path; labels = r.labels; live = false }) (all_of (map shown r.children.items))) is
+pub only-not-live : (r : opens.Node-F Node) (b : Body) → r.body ≡ b → level (not-live r) ≡ Branch (record { past = r.past; body = b; records = r.records; path = r.path; labels = r.labels; meetings = r.meetings; live = false }) (all_of (map shown r.children.items))
+only-not-live r b is = ap (λ x. Branch (record { past = r.past; body = x; records = r.records; path = r.path; labels = r.labels; meetings = r.meetings; live = false }) (all_of (map shown r.children.items))) is
 
 -- such a firing that gave numbers
 pub some-given : (old new : Shown) (X : Streams Token) (b : Bool) (ns : List ℤ) → SeveralTo old X b ns new → b ≡ true → Gave old X (map Int ns ∷ []) new

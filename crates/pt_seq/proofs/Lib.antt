@@ -1,4 +1,4 @@
-pub mod Unmet
+pub mod OwnLaws
 pub mod Acting
 pub mod Children
 pub mod MadeOf

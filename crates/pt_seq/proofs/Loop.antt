@@ -1,23 +1,24 @@
 -- The loop over the children of a composite, by the code's list of nodes.
 use Rattle.std.proofs.Common.{◌≡◌, ◌⊎◌, inl, inr, ℕ, ℤ, ◌+◌, ◌<◌, ◌≤◌, List, [], ◌∷◌, false, true, length, map, get_or, set, Option, Some, None, refl, sym, ap, subst, ◌∙◌, arith, Result, Ok, Err, is_err, length-set}
 use Rattle.std.proofs.lemmas.List.{length-map}
-use Rattle.std.specs.Prelude.{OnOk, OnErr, is_some}
+use Rattle.std.specs.Prelude.{OnOk, OnErr}
 use Rattle.pt_meaning.specs.Basics.{Tag, Streams}
 use Rattle.pt_meaning.specs.Streams.{get}
+use Rattle.pt_meaning.specs.Log.{Meeting}
 use Rattle.pt_meaning.specs.Meetings.{Meets}
 use Rattle.pt_meaning.specs.NodeFacts.{early_of}
 use Rattle.pt_value.specs.declared.token.Token.{Token}
 use Rattle.pt_value.specs.declared.token.Token.TheVariants.{Int}
 use Rattle.pt_firing.specs.declared.ask.Ask.{Ask}
 use Rattle.pt_firing.specs.declared.ask.Ask.TheVariants as ask
-use Rattle.pt_firing.specs.declared.ask.Meeting.{Meeting}
 use Rattle.pt_firing.specs.declared.answer.Blocked.{Blocked}
 use Rattle.pt_firing.specs.declared.answer.Place.{Place}
 use Rattle.pt_firing.specs.declared.fault.RunFault.{RunFault}
 use Rattle.pt_records.specs.Kept.{kept_by}
 use Rattle.pt_records.specs.Made.{AreMade, AllMade}
 use Rattle.pt_core.specs.Acts.{Calls, Acts}
-use Rattle.pt_core.specs.Lawful.{IsUsual, IsMove, IsLentTo}
+use Rattle.pt_core.specs.Met.{met_after}
+use Rattle.pt_core.specs.Lawful.{Lawful, IsUsual, IsMove, IsLentTo}
 use Rattle.pt_library.specs.LibraryActor.{rows}
 use Rattle.pt_node.specs.declared.node.Node.{Node}
 use Rattle.pt_node.specs.Shown.{Shown, shown, shown_node, all_of}
@@ -33,7 +34,7 @@ use Rattle.pt_seq.specs.Within.{IsLeftOff, Given}
 use Rattle.pt_seq.specs.Composite.{composite, CompositeTo}
 use Rattle.pt_seq.specs.Turns.{ChildFired, TurnTo, TurnFrom, MayFire}
 use Rattle.pt_seq.specs.Between.{At, Between, InTurn, Halts}
-use Rattle.pt_seq.proofs.Unmet.{LawfulUnmet}
+use Rattle.pt_seq.specs.OwnMeetings.{OwnMeetings, with_meetings}
 use Rattle.pt_seq.proofs.Children.{get-or, get-map, map-set, set-again, get-again, set-same, get-some, fit-get, depth-get, kepts-same, outlines-set, counts-same}
 use Rattle.pt_seq.proofs.Turning.{turn-told}
 use Rattle.pt_seq.proofs.Taking.{lent-takes}
@@ -90,45 +91,28 @@ is-move next (inl get) = subst (λ v. IsMove v) (sym get.1) tt
 is-move next (inr (inl put)) = subst (λ v. IsMove v) (sym put.1) tt
 is-move next (inr (inr grow)) = subst (λ v. IsMove v) (sym grow) tt
 
--- no director asks for anything else, where none tells a meeting
-pub no-unusual : (next : Ask) → IsUsual next → ((m : Meeting) → next ≡ ask.Meet m → ⊥) → ((i : ℕ) (when : Tag) → next ≡ ask.Fire i when → ⊥) → ((i : ℕ) (when : Tag) → next ≡ ask.Early i when → ⊥) → ((i : ℕ) → next ≡ ask.Reset i → ⊥) → ((i : ℕ) → next ≡ ask.Get i → ⊥) → ((i : ℕ) → next ≡ ask.Put i → ⊥) → (next ≡ ask.Grow → ⊥) → (next ≡ ask.Finished → ⊥) → ((kind : RunFault) (child : Option ℕ) → next ≡ ask.Faulted kind child → ⊥) → (next ≡ ask.Full → ⊥) → ⊥
-no-unusual (ask.Fire i when) u meet fire early reset get put grow finished faulted full = fire i when refl
-no-unusual (ask.Early i when) u meet fire early reset get put grow finished faulted full = early i when refl
-no-unusual (ask.Reset i) u meet fire early reset get put grow finished faulted full = reset i refl
-no-unusual (ask.Get i) u meet fire early reset get put grow finished faulted full = get i refl
-no-unusual (ask.Put i) u meet fire early reset get put grow finished faulted full = put i refl
-no-unusual ask.Grow u meet fire early reset get put grow finished faulted full = grow refl
-no-unusual ask.Finished u meet fire early reset get put grow finished faulted full = finished refl
-no-unusual (ask.Faulted kind child) u meet fire early reset get put grow finished faulted full = faulted kind child refl
-no-unusual ask.Full u meet fire early reset get put grow finished faulted full = full refl
-no-unusual (ask.Meet m) u meet fire early reset get put grow finished faulted full = meet m refl
-no-unusual ask.Await u meet fire early reset get put grow finished faulted full = u
+-- and none of them is a meeting
+pub no-meeting : (next : Ask) → ((i : ℕ) × (next ≡ ask.Get i)) ⊎ (((i : ℕ) × (next ≡ ask.Put i)) ⊎ (next ≡ ask.Grow)) → (met : Option (List Meeting)) → met_after next met ≡ met
+no-meeting next (inl get) met = ap (λ v. met_after v met) get.1
+no-meeting next (inr (inl put)) met = ap (λ v. met_after v met) put.1
+no-meeting next (inr (inr grow)) met = ap (λ v. met_after v met) grow
 
-module _ {D : Type 0} (a : Acts rows D) (law : LawfulUnmet a) where
-  pub once-asked : {before : D} {olds : List Shown} {tag : Tag} {X : Streams Token} {allowance : ℕ} {s : D} {now : List Shown} {left : ℕ} → At a before olds tag X allowance s now left → (next : Ask) (s' : D) → a.calls.Gives s next → s' ≡ a.calls.asking next s → Between a before olds tag X allowance next s' now left
-  once-asked {before} {olds} {tag} {X} {allowance} {s} {now} {left} at next s' g e = record { state = s; at = at; gives = g; asking = e }
-
-  -- it makes no meetings, and tells none
-  pub no-meeting : (s : D) (next : Ask) → a.calls.Gives s next → (m : Meeting) → next ≡ ask.Meet m → ⊥
-  no-meeting s next g m e =
-      let some = law.lawful.agree.tells_meetings.tells m s (subst (λ n. a.calls.Gives s n) e g) in
-      clash (sym (ap (λ v. is_some v) (law.unmet s)) ∙ some)
-    where
-      clash : false ≡ true → ⊥
-      clash e = cc
+module _ {D : Type 0} (a : Acts rows D) (law : Lawful a) where
+  pub once-asked : {before : D} {olds : List Shown} {tag : Tag} {X : Streams Token} {allowance : ℕ} {own : OwnMeetings} {s : D} {now : List Shown} {left : ℕ} → At a before olds tag X allowance own s now left → (next : Ask) (s' : D) → a.calls.Gives s next → s' ≡ a.calls.asking next s → Between a before olds tag X allowance own next s' now left
+  once-asked {before} {olds} {tag} {X} {allowance} {own} {s} {now} {left} at next s' g e = record { state = s; at = at; gives = g; asking = e }
 
   -- the director states the maximum capacity that it stated when the firing began
-  pub between-maximum : {before : D} {olds : List Shown} {tag : Tag} {X : Streams Token} {allowance : ℕ} {next : Ask} {s : D} {now : List Shown} {left : ℕ} → Between a before olds tag X allowance next s now left → a.calls.maximum s ≡ a.calls.maximum before
-  between-maximum {before} {olds} {tag} {X} {allowance} {next} {s} {now} {left} b = asked-maximum a law b.at next s b.asking
+  pub between-maximum : {before : D} {olds : List Shown} {tag : Tag} {X : Streams Token} {allowance : ℕ} {own : OwnMeetings} {next : Ask} {s : D} {now : List Shown} {left : ℕ} → Between a before olds tag X allowance own next s now left → a.calls.maximum s ≡ a.calls.maximum before
+  between-maximum {before} {olds} {tag} {X} {allowance} {own} {next} {s} {now} {left} b = asked-maximum a law b.at next s b.asking
 
-  module _ {before : D} {olds : List Shown} {tag : Tag} {X : Streams Token} {allowance : ℕ} where
+  module _ {before : D} {olds : List Shown} {tag : Tag} {X : Streams Token} {allowance : ℕ} {own : OwnMeetings} where
     -- the fault that is told is the composite's own
-    pub faulted-itself : {s : D} {now : List Shown} {left : ℕ} → At a before olds tag X allowance s now left → (kind : RunFault) (child : Option ℕ) (s' : D) → a.calls.Gives s (ask.Faulted kind child) → s' ≡ a.calls.asking (ask.Faulted kind child) s → Between a before olds tag X allowance (ask.Faulted kind None) s' now left
+    pub faulted-itself : {s : D} {now : List Shown} {left : ℕ} → At a before olds tag X allowance own s now left → (kind : RunFault) (child : Option ℕ) (s' : D) → a.calls.Gives s (ask.Faulted kind child) → s' ≡ a.calls.asking (ask.Faulted kind child) s → Between a before olds tag X allowance own (ask.Faulted kind None) s' now left
     faulted-itself at kind None s' g e = once-asked at (ask.Faulted kind None) s' g e
     faulted-itself at kind (Some child) s' g e = absurd (is-usual a law at (ask.Faulted kind (Some child)) g)
 
     -- a child of the code's list that was asked for
-    module _ {s : D} (kids : List Node) {left i : ℕ} {when : Tag} (b : Between a before olds tag X allowance (ask.Fire i when) s (map shown kids) left) where
+    module _ {s : D} (kids : List Node) {left i : ℕ} {when : Tag} (b : Between a before olds tag X allowance own (ask.Fire i when) s (map shown kids) left) where
       pub index-in : i < length kids
       index-in = in-list kids i (fire-in a law b.at i when b.gives)
 
@@ -144,16 +128,16 @@ module _ {D : Type 0} (a : Acts rows D) (law : LawfulUnmet a) where
 
         module _ (n : Node) where
           -- its firing is recorded
-          pub goes-on : (s' : D) (left' : ℕ) → ChildFired a.calls s (shown_node d) i when s' (shown_node n) → outline_of (shown_node n) ≡ outline_of (shown_node d) → count_of (shown_node n) + left' ≡ count_of (shown_node d) + left → left' ≤ left → At a before olds tag X allowance s' (map shown (set kids i n)) left'
+          pub goes-on : (s' : D) (left' : ℕ) → ChildFired a.calls s (shown_node d) i when s' (shown_node n) → outline_of (shown_node n) ≡ outline_of (shown_node d) → count_of (shown_node n) + left' ≡ count_of (shown_node d) + left → left' ≤ left → At a before olds tag X allowance own s' (map shown (set kids i n)) left'
           goes-on s' left' f o c l =
-              subst (λ ss. At a before olds tag X allowance s' ss left') (set-is kids i n)
+              subst (λ ss. At a before olds tag X allowance own s' ss left') (set-is kids i n)
               (at-fired a law b.at i when b.gives (shown_node d) there (shown_node n) s' left' (subst (λ v. ChildFired a.calls v (shown_node d) i when s' (shown_node n)) b.asking f) o c l)
 
           -- or it is its turn
-          pub in-turn : (given : Option ℤ) (s' : D) (left' : ℕ) → s' ≡ s → left' ≡ left → 0 < left → Given given (shown_node d) (a.calls.lent_of s) (shown_node n) → InTurn a before olds tag X allowance i when given s' (map shown (set kids i n)) left'
+          pub in-turn : (given : Option ℤ) (s' : D) (left' : ℕ) → s' ≡ s → left' ≡ left → 0 < left → Given given (shown_node d) (a.calls.lent_of s) (shown_node n) → InTurn a before olds tag X allowance own i when given s' (map shown (set kids i n)) left'
           in-turn given s' left' e l p g =
-              subst (λ v. InTurn a before olds tag X allowance i when given v (map shown (set kids i n)) left') (sym e)
-              (subst (λ v. InTurn a before olds tag X allowance i when given s (map shown (set kids i n)) v) (sym l)
+              subst (λ v. InTurn a before olds tag X allowance own i when given v (map shown (set kids i n)) left') (sym e)
+              (subst (λ v. InTurn a before olds tag X allowance own i when given s (map shown (set kids i n)) v) (sym l)
               (record {
                 kids = map shown kids;
                 child = shown_node d;
@@ -166,11 +150,11 @@ module _ {D : Type 0} (a : Acts rows D) (law : LawfulUnmet a) where
               }))
 
           -- or memory was wanting for what is recorded of it
-          pub halts-in : (s' : D) (left' : ℕ) → s' ≡ s → left' ≡ left → KeepsRecords (shown_node d) (shown_node n) → Halts a before olds tag X allowance s' (map shown (set kids i n)) left'
+          pub halts-in : (s' : D) (left' : ℕ) → s' ≡ s → left' ≡ left → KeepsRecords (shown_node d) (shown_node n) → Halts a before olds tag X allowance own s' (map shown (set kids i n)) left'
           halts-in s' left' e l k =
-              subst (λ v. Halts a before olds tag X allowance v (map shown (set kids i n)) left') (sym e)
-              (subst (λ v. Halts a before olds tag X allowance s (map shown (set kids i n)) v) (sym l)
-              (subst (λ ss. Halts a before olds tag X allowance s ss left) (set-is kids i n)
+              subst (λ v. Halts a before olds tag X allowance own v (map shown (set kids i n)) left') (sym e)
+              (subst (λ v. Halts a before olds tag X allowance own s (map shown (set kids i n)) v) (sym l)
+              (subst (λ ss. Halts a before olds tag X allowance own s ss left) (set-is kids i n)
               (record {
                 state = b.state;
                 kids = map shown kids;
@@ -182,7 +166,7 @@ module _ {D : Type 0} (a : Acts rows D) (law : LawfulUnmet a) where
               })))
 
     -- it is its turn, and nothing was given
-    pub turn-of : {s : D} {now : List Shown} {left i : ℕ} {when : Tag} → Between a before olds tag X allowance (ask.Fire i when) s now left → 0 < left → InTurn a before olds tag X allowance i when None s now left
+    pub turn-of : {s : D} {now : List Shown} {left i : ℕ} {when : Tag} → Between a before olds tag X allowance own (ask.Fire i when) s now left → 0 < left → InTurn a before olds tag X allowance own i when None s now left
     turn-of {s} {now} {left} {i} {when} b p =
         let found = get-some now i (fire-in a law b.at i when b.gives) in
         record {
@@ -197,7 +181,7 @@ module _ {D : Type 0} (a : Acts rows D) (law : LawfulUnmet a) where
         }
 
     -- the turn of a child of the code's list
-    module _ {s : D} (kids : List Node) {left i : ℕ} {when : Tag} {given : Option ℤ} (t : InTurn a before olds tag X allowance i when given s (map shown kids) left) where
+    module _ {s : D} (kids : List Node) {left i : ℕ} {when : Tag} {given : Option ℤ} (t : InTurn a before olds tag X allowance own i when given s (map shown kids) left) where
       in-kids : i < length t.kids
       in-kids = fire-in a law t.between.at i when t.between.gives
 
@@ -244,8 +228,8 @@ module _ {D : Type 0} (a : Acts rows D) (law : LawfulUnmet a) where
           counted : (left' : ℕ) → count_of (shown_node n) + left' ≡ count_of (shown_node d) + left → count_of (shown_node n) + left' ≡ count_of t.child + left
           counted left' c = c ∙ ap (λ v. v + left) (given-count given t.child (a.calls.lent_of s) (shown_node d) gave)
 
-          pub turn-next : (s' : D) (left' : ℕ) → TurnFrom a.calls given s (shown_node d) i when turn.Done s' (shown_node n) → outline_of (shown_node n) ≡ outline_of (shown_node d) → count_of (shown_node n) + left' ≡ count_of (shown_node d) + left → left' ≤ left → At a before olds tag X allowance s' (map shown (set kids i n)) left'
-          turn-next s' left' f o c l = subst (λ ss. At a before olds tag X allowance s' ss left') set-so (at-fired a law t.between.at i when t.between.gives t.child t.there (shown_node n) s' left' (turned turn.Done s' f) (named o) (counted left' c) l)
+          pub turn-next : (s' : D) (left' : ℕ) → TurnFrom a.calls given s (shown_node d) i when turn.Done s' (shown_node n) → outline_of (shown_node n) ≡ outline_of (shown_node d) → count_of (shown_node n) + left' ≡ count_of (shown_node d) + left → left' ≤ left → At a before olds tag X allowance own s' (map shown (set kids i n)) left'
+          turn-next s' left' f o c l = subst (λ ss. At a before olds tag X allowance own s' ss left') set-so (at-fired a law t.between.at i when t.between.gives t.child t.there (shown_node n) s' left' (turned turn.Done s' f) (named o) (counted left' c) l)
 
           pub turn-outlines : outline_of (shown_node n) ≡ outline_of (shown_node d) → outlines_of (all_of (map shown (set kids i n))) ≡ outlines_of (all_of olds)
           turn-outlines o = subst (λ ss. outlines_of (all_of ss) ≡ outlines_of (all_of olds)) set-so (outlines-after a law t.between.at i when t.between.gives t.child t.there (shown_node n) (named o))
@@ -253,23 +237,23 @@ module _ {D : Type 0} (a : Acts rows D) (law : LawfulUnmet a) where
           pub turn-counted : (left' : ℕ) → count_of (shown_node n) + left' ≡ count_of (shown_node d) + left → counts_of (all_of (map shown (set kids i n))) + left' ≡ counts_of (all_of olds) + allowance
           turn-counted left' c = subst (λ ss. counts_of (all_of ss) + left' ≡ counts_of (all_of olds) + allowance) set-so (counted-after a law t.between.at i when t.between.gives t.child t.there (shown_node n) left' (counted left' c))
 
-          pub turn-fault : (path : List ℕ) (labels : List (List ℕ)) (number : ℕ) (place : Place) (s' : D) → TurnFrom a.calls given s (shown_node d) i when (turn.Fault place) s' (shown_node n) → CompositeTo a path labels number before (all_of olds) tag X (within.Fault place) s' (all_of (map shown (set kids i n)))
-          turn-fault path labels number place s' f = subst (λ ss. CompositeTo a path labels number before (all_of olds) tag X (within.Fault place) s' (all_of ss)) set-so (fault-within a law t.between.at i when t.between.gives t.child t.there (shown_node n) path labels number place s' (turned (turn.Fault place) s' f))
+          pub turn-fault : (path : List ℕ) (labels : List (List ℕ)) (place : Place) (s' : D) → TurnFrom a.calls given s (shown_node d) i when (turn.Fault place) s' (shown_node n) → CompositeTo a path labels own before (all_of olds) tag X (within.Fault place) s' (all_of (map shown (set kids i n)))
+          turn-fault path labels place s' f = subst (λ ss. CompositeTo a path labels own before (all_of olds) tag X (within.Fault place) s' (all_of ss)) set-so (fault-within a law t.between.at i when t.between.gives t.child t.there (shown_node n) path labels place s' (turned (turn.Fault place) s' f))
 
-          pub turn-jam : (path : List ℕ) (labels : List (List ℕ)) (number : ℕ) (blocked : Blocked) (s' : D) → TurnFrom a.calls given s (shown_node d) i when (turn.Full blocked) s' (shown_node n) → CompositeTo a path labels number before (all_of olds) tag X (within.Full blocked) s' (all_of (map shown (set kids i n)))
-          turn-jam path labels number blocked s' f = subst (λ ss. CompositeTo a path labels number before (all_of olds) tag X (within.Full blocked) s' (all_of ss)) set-so (full-within a law t.between.at i when t.between.gives t.child t.there (shown_node n) path labels number blocked s' (turned (turn.Full blocked) s' f))
+          pub turn-jam : (path : List ℕ) (labels : List (List ℕ)) (blocked : Blocked) (s' : D) → TurnFrom a.calls given s (shown_node d) i when (turn.Full blocked) s' (shown_node n) → CompositeTo a path labels own before (all_of olds) tag X (within.Full blocked) s' (all_of (map shown (set kids i n)))
+          turn-jam path labels blocked s' f = subst (λ ss. CompositeTo a path labels own before (all_of olds) tag X (within.Full blocked) s' (all_of ss)) set-so (full-within a law t.between.at i when t.between.gives t.child t.there (shown_node n) path labels blocked s' (turned (turn.Full blocked) s' f))
 
-          off-so : ((m : Meets) → AreMade m (kept_of (shown_node n)) → IsLeftOff m (node_of t.child) when (a.calls.lent_of (a.calls.asking (ask.Fire i when) t.between.state)) (kept_of t.child) (kept_of (shown_node n))) → LeftOffAt a before olds tag X (map shown (set kids i n))
-          off-so off = subst (λ ss. LeftOffAt a before olds tag X ss) set-so (off-within a law t.between.at i when t.between.gives t.child t.there (shown_node n) off)
+          off-so : ((m : Meets) → AreMade m (kept_of (shown_node n)) → IsLeftOff m (node_of t.child) when (a.calls.lent_of (a.calls.asking (ask.Fire i when) t.between.state)) (kept_of t.child) (kept_of (shown_node n))) → LeftOffAt a before olds tag X own (map shown (set kids i n))
+          off-so off = subst (λ ss. LeftOffAt a before olds tag X own ss) set-so (off-within a law t.between.at i when t.between.gives t.child t.there (shown_node n) off)
 
-          pub turn-spent : (s' : D) → TurnFrom a.calls given s (shown_node d) i when turn.Spent s' (shown_node n) → LeftOffAt a before olds tag X (map shown (set kids i n))
+          pub turn-spent : (s' : D) → TurnFrom a.calls given s (shown_node d) i when turn.Spent s' (shown_node n) → LeftOffAt a before olds tag X own (map shown (set kids i n))
           turn-spent s' f = off-so (turned turn.Spent s' f)
 
-          pub turn-memory : (s' : D) → TurnFrom a.calls given s (shown_node d) i when turn.Memory s' (shown_node n) → LeftOffAt a before olds tag X (map shown (set kids i n))
+          pub turn-memory : (s' : D) → TurnFrom a.calls given s (shown_node d) i when turn.Memory s' (shown_node n) → LeftOffAt a before olds tag X own (map shown (set kids i n))
           turn-memory s' f = off-so (turned turn.Memory s' f)
 
     -- a child of the code's list that is asked for an early answer
-    module _ {s : D} (kids : List Node) {left : ℕ} (at : At a before olds tag X allowance s (map shown kids) left) (i : ℕ) where
+    module _ {s : D} (kids : List Node) {left : ℕ} (at : At a before olds tag X allowance own s (map shown kids) left) (i : ℕ) where
       module _ (when : Tag) (g : a.calls.Gives s (ask.Early i when)) (mid : D) (is : mid ≡ a.calls.asking (ask.Early i when) s) where
         pub listen-in : i < length kids
         listen-in = in-list kids i (early-in a law at i when g)
@@ -284,7 +268,7 @@ module _ {D : Type 0} (a : Acts rows D) (law : LawfulUnmet a) where
           pub listen-learns : a.calls.waits s' < a.calls.waits s
           listen-learns = early-learns a law at i when g (shown_node d) (there-in kids i d (early-in a law at i when g) value) s' heard
 
-          pub listen-next : At a before olds tag X allowance s' (map shown kids) left
+          pub listen-next : At a before olds tag X allowance own s' (map shown kids) left
           listen-next = at-heard a law at i when g (shown_node d) (there-in kids i d (early-in a law at i when g) value) s' heard
 
       -- or is brought back to its start
@@ -303,18 +287,18 @@ module _ {D : Type 0} (a : Acts rows D) (law : LawfulUnmet a) where
           restart-fit = fit-get (map shown kids) i (shown_node d) again at.going.fit
 
           module _ (n : Node) (k : KeepsRecords (shown_node d) (shown_node n)) where
-            pub restart-next : WasReset (shown_node d) (shown_node n) → At a before olds tag X allowance mid (map shown (set kids i n)) left
-            restart-next r = subst (λ ss. At a before olds tag X allowance mid ss left) (set-is kids i n) (at-reset a law at i g (shown_node d) (shown_node n) again k mid is r)
+            pub restart-next : WasReset (shown_node d) (shown_node n) → At a before olds tag X allowance own mid (map shown (set kids i n)) left
+            restart-next r = subst (λ ss. At a before olds tag X allowance own mid ss left) (set-is kids i n) (at-reset a law at i g (shown_node d) (shown_node n) again k mid is r)
 
-            pub restart-halts : Halts a before olds tag X allowance mid (map shown (set kids i n)) left
-            restart-halts = subst (λ ss. Halts a before olds tag X allowance mid ss left) (set-is kids i n) (reset-halts a law at i g (shown_node d) (shown_node n) again k mid is)
+            pub restart-halts : Halts a before olds tag X allowance own mid (map shown (set kids i n)) left
+            restart-halts = subst (λ ss. Halts a before olds tag X allowance own mid ss left) (set-is kids i n) (reset-halts a law at i g (shown_node d) (shown_node n) again k mid is)
 
     -- it is left off for want of memory
-    module _ {s : D} {now : List Shown} {left : ℕ} (h : Halts a before olds tag X allowance s now left) where
-      pub halts-off : LeftOffAt a before olds tag X now
-      halts-off m made past e =
-          subst (λ ks. IsLeftOff m (composite a past before (all_of olds)) tag X (kept_by e (kepts_of (all_of olds))) (kept_by e ks)) (sym h.kept)
-          (off-here a law h.at m (subst (λ ks. AllMade m ks) h.kept made) past e)
+    module _ {s : D} {now : List Shown} {left : ℕ} (h : Halts a before olds tag X allowance own s now left) where
+      pub halts-off : LeftOffAt a before olds tag X own now
+      halts-off m made past e p =
+          subst (λ ks. IsLeftOff m (composite a past before (all_of olds)) tag X (kept_by e (kepts_of (all_of olds))) (kept_by (with_meetings own.now e) ks)) (sym h.kept)
+          (off-here a law h.at m (subst (λ ks. AllMade m ks) h.kept made) past e p)
 
       pub halts-outlines : outlines_of (all_of now) ≡ outlines_of (all_of olds)
       halts-outlines = h.outlines ∙ h.at.outlines

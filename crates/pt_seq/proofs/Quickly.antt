@@ -23,7 +23,7 @@ records_of (Branch f ks) = f.records
 -- nothing is noted where nothing is recorded
 pub none-noted : (tag : Tag) (out : Streams Token) (s : Shown) → records_of s ≡ [] → firing.noted tag out s ≡ s
 none-noted tag out (Branch g ks) e =
-    ap (λ rs. let f : Frame = record { past = g.past; body = g.body; records = rs; path = g.path; labels = g.labels; live = g.live } in Branch f ks) (ap (λ rs. map (noting tag out) rs) e ∙ sym e)
+    ap (λ rs. let f : Frame = record { past = g.past; body = g.body; records = rs; path = g.path; labels = g.labels; meetings = g.meetings; live = g.live } in Branch f ks) (ap (λ rs. map (noting tag out) rs) e ∙ sym e)
 
 pub records-in : (n : Node) (r : opens.Node-F Node) → roll-Node r ≡ n → r.records ≡ [] → (out-Node n).records ≡ []
 records-in n r e h = ap (λ m. (out-Node m).records) (sym e) ∙ ap (λ (x : opens.Node-F Node). x.records) (out-roll-Node r) ∙ h

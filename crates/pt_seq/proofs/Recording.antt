@@ -22,8 +22,8 @@ use Rattle.pt_node.specs.declared.body.Body.TheVariants as body
 use Rattle.pt_node.specs.Recorded.{RecordedPort, noting, recording, unnoted, trace_of}
 use Rattle.pt_node.specs.Shown.{Shown, AllShown, Branch}
 use Rattle.pt_node.specs.Firing as firing
-use Rattle.pt_node.specs.View.{Tree, node_of, nodes_of, node_with, meetings_in, entry_of, kept_of, kepts_of, outline_of, text_at, count_of}
-use Rattle.pt_node.specs.Live.{IsFit, IsLive, is_live}
+use Rattle.pt_node.specs.View.{Tree, node_of, nodes_of, node_with, entry_of, kept_of, kepts_of, outline_of, text_at, count_of}
+use Rattle.pt_node.specs.Live.{IsFit, HasFired, IsLive, is_live}
 use Rattle.pt_seq.specs.Within.{outcome, IsLeftOff, IsStuckIn, fired, path_of, made_of}
 
 -- what has all the recorded meetings has those of the firings that are finished, and what has them with the node's own record has them without
@@ -89,10 +89,10 @@ step-fires m old mid tag X out f =
       kept = grew-joined f.log (own own_firing) (kept_of old) (kept_of mid) (kept_of (firing.recorded tag (firing.noted tag out mid))) f.kept (record-grew own_firing mid);
     }
 
-pub fit-recorded : (tag : Tag) (out : Streams Token) (s : Shown) → IsFit s → IsFit (firing.recorded tag (firing.noted tag out s))
+pub fit-recorded : (tag : Tag) (out : Streams Token) (s : Shown) → HasFired s → IsFit (firing.recorded tag (firing.noted tag out s))
 fit-recorded tag out (Branch g ks) f = f
 
-pub live-recorded : (tag : Tag) (out : Streams Token) (s : Shown) → IsFit s → IsLive (firing.recorded tag (firing.noted tag out s))
+pub live-recorded : (tag : Tag) (out : Streams Token) (s : Shown) → HasFired s → IsLive (firing.recorded tag (firing.noted tag out s))
 live-recorded tag out (Branch g ks) f = (refl, f)
 
 -- notes keep what is recorded
@@ -101,7 +101,7 @@ traces-unnoted [] = refl
 traces-unnoted (r ∷ rs) = ap (λ v. trace_of r ∷ v) (traces-unnoted rs)
 
 kept-of-bare : (s : Shown) → kept_of (firing.bare s) ≡ kept_of s
-kept-of-bare (Branch g ks) = ap (λ rs. let e : Entry Token = record { count = g.past.made; recorded = rs; meetings = meetings_in g.body } in kept_by e (kepts_of ks)) (traces-unnoted g.records)
+kept-of-bare (Branch g ks) = ap (λ rs. let e : Entry Token = record { count = g.past.made; recorded = rs; meetings = g.meetings } in kept_by e (kepts_of ks)) (traces-unnoted g.records)
 
 pub kept-bare : (s t : Shown) → firing.bare s ≡ firing.bare t → kept_of s ≡ kept_of t
 kept-bare s t e = sym (kept-of-bare s) ∙ ap (λ v. kept_of v) e ∙ kept-of-bare t
@@ -118,13 +118,13 @@ live-bare s t e = sym (live-of-bare s) ∙ ap (λ v. is_live v) e ∙ live-of-ba
     live-of-bare : (v : Shown) → is_live (firing.bare v) ≡ is_live v
     live-of-bare (Branch g ks) = refl
 
-pub fit-bare : (s t : Shown) → firing.bare s ≡ firing.bare t → IsFit t → IsFit s
-fit-bare s t e fit = out_of s (subst (λ v. IsFit v) (sym e) (into t fit))
+pub fit-bare : (s t : Shown) → firing.bare s ≡ firing.bare t → HasFired t → HasFired s
+fit-bare s t e fit = out_of s (subst (λ v. HasFired v) (sym e) (into t fit))
   where
-    into : (v : Shown) → IsFit v → IsFit (firing.bare v)
+    into : (v : Shown) → HasFired v → HasFired (firing.bare v)
     into (Branch g ks) f = f
 
-    out_of : (v : Shown) → IsFit (firing.bare v) → IsFit v
+    out_of : (v : Shown) → HasFired (firing.bare v) → HasFired v
     out_of (Branch g ks) f = f
 
 -- the path and the number of firings of a node, among its names and the definitions

@@ -32,7 +32,8 @@ director-takes h (First s) ks X l = l.places s.plan.takes refl
 director-takes h (Other (First s)) ks X l = l.places (replicate s.tick.plan.inputs 1) refl ∙ long-replicate s.tick.plan.inputs 1
 director-takes h (Other (Other (First s))) ks X l = l.places (replicate s.plan.inputs 1) refl ∙ long-replicate s.plan.inputs 1
 director-takes h (Other (Other (Other (First s)))) ks X l = l.places s.network.plan.takes refl
-director-takes h (Other (Other (Other (Other s)))) ks X l = l.places (replicate (chart_of s.plan.machine).inputs 1) refl ∙ long-replicate (chart_of s.plan.machine).inputs 1
+director-takes h (Other (Other (Other (Other (First s))))) ks X l = l.places (replicate (chart_of s.plan.machine).inputs 1) refl ∙ long-replicate (chart_of s.plan.machine).inputs 1
+director-takes h (Other (Other (Other (Other (Other s))))) ks X l = l.places s.processes.plan.takes refl
 
 body-takes : (tag : Tag) (h : tree.Past) (b : Body) (ks : AllShown) (X : Streams Token) → IsLentTo rows (node_with h b (nodes_of ks)) X → TakesBody tag b X
 body-takes tag h (body.Actor held) ks X l = actor-takes tag held.actor X

@@ -20,7 +20,7 @@ use Rattle.pt_node.specs.declared.body.Body.TheVariants as body
 use Rattle.pt_node.specs.Shown.{Shown, Branch}
 use Rattle.pt_node.specs.Firing as firing
 use Rattle.pt_node.specs.View.{Tree, Trees, node_of, nodes_of, node_with, kept_of, outline_of, text_at}
-use Rattle.pt_node.specs.Live.{IsFit}
+use Rattle.pt_node.specs.Live.{IsFit, HasFired}
 use Rattle.pt_seq.specs.declared.fire.Within.TheVariants.{Done, Fault, Full}
 use Rattle.pt_seq.specs.declared.turn.Turn.{Turn}
 use Rattle.pt_seq.specs.declared.turn.Turn.TheVariants as turn
@@ -36,7 +36,7 @@ turn-off-done old after tag X Y out e w = turn-off old after tag X Y e (λ m mad
 
 module _ {D : Type 0} (c : Calls D) where
   -- its firing gave these outputs, of which the director was told
-  pub turn-told : (s : D) (old mid : Shown) (i : ℕ) (tag : Tag) (out : Streams Token) (t : Turn) (s' : D) (after : Shown) → WithinTo old tag (c.lent_of s) (Done out) mid → IsFit mid → outline_of mid ≡ outline_of old → made_of mid ≡ made_of old →
+  pub turn-told : (s : D) (old mid : Shown) (i : ℕ) (tag : Tag) (out : Streams Token) (t : Turn) (s' : D) (after : Shown) → WithinTo old tag (c.lent_of s) (Done out) mid → HasFired mid → outline_of mid ≡ outline_of old → made_of mid ≡ made_of old →
       TellTo c s mid i tag out t s' after → TurnTo c s old i tag t s' after
   turn-told s old mid i tag out turn.Done s' after w f o p t =
       let same : after ≡ firing.recorded tag (firing.noted tag out mid) = t.2 in
@@ -63,7 +63,7 @@ module _ {D : Type 0} (c : Calls D) where
       let before : AreMade m (kept_of mid) = subst (λ k. AreMade m k) (kept-bare after mid t) made in
       subst (λ k. IsLeftOff m (node_of old) tag (c.lent_of s) (kept_of old) k) (sym (kept-bare after mid t)) (off-done m (node_of old) tag (c.lent_of s) (fired tag (node_of mid)) out (kept_of old) (kept_of mid) (w m (made-within m (kept_of mid) before)))
 
-  pub turn-after : (s : D) (old mid : Shown) (i : ℕ) (tag : Tag) (X out : Streams Token) (t : Turn) (s' : D) (after : Shown) → X ≡ c.lent_of s → WithinTo old tag X (Done out) mid → IsFit mid → outline_of mid ≡ outline_of old → made_of mid ≡ made_of old →
+  pub turn-after : (s : D) (old mid : Shown) (i : ℕ) (tag : Tag) (X out : Streams Token) (t : Turn) (s' : D) (after : Shown) → X ≡ c.lent_of s → WithinTo old tag X (Done out) mid → HasFired mid → outline_of mid ≡ outline_of old → made_of mid ≡ made_of old →
       TellTo c s mid i tag out t s' after → TurnTo c s old i tag t s' after
   turn-after s old mid i tag X out t s' after e w f o p told = turn-told s old mid i tag out t s' after (subst (λ Y. WithinTo old tag Y (Done out) mid) e w) f o p told
 

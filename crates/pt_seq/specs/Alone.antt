@@ -7,7 +7,7 @@ use Rattle.pt_core.specs.Acts.{Calls}
 use Rattle.pt_directors.specs.Directors.{Director}
 use Rattle.pt_node.specs.Acts.{acts}
 use Rattle.pt_node.specs.Shown.{Shown, AllShown}
-use Rattle.pt_node.specs.Live.{IsFit}
+use Rattle.pt_node.specs.Live.{HasFired}
 use Rattle.pt_seq.specs.declared.fire.Within.{Within}
 use Rattle.pt_seq.specs.declared.fire.Within.TheVariants as within
 use Rattle.pt_seq.specs.declared.alone.Fired.{Fired}
@@ -16,6 +16,7 @@ use Rattle.pt_seq.specs.declared.alone.Untaken.{Untaken}
 use Rattle.pt_seq.specs.declared.alone.Untaken.TheVariants.{Done, Fault, Spent, Full, Memory}
 use Rattle.pt_seq.specs.Within.{WithinTo, AnswersTo}
 use Rattle.pt_seq.specs.Composite.{EndsAs}
+use Rattle.pt_seq.specs.OwnMeetings.{OwnMeetings}
 
 -- how a firing went, without its outputs
 abbrev pub untaken_of : Within → Untaken
@@ -49,21 +50,21 @@ UntakenSpends Spent left = left ≡ 0
 UntakenSpends (Full blocked) left = Unit {0}
 UntakenSpends Memory left = Unit {0}
 
--- after a firing that is done the node fits
+-- after a firing that is done the node fits, once that is recorded
 abbrev pub UntakenFits : Untaken → Shown → Type 0
-UntakenFits Done new = IsFit new
+UntakenFits Done new = HasFired new
 UntakenFits (Fault place) new = Unit {0}
 UntakenFits Spent new = Unit {0}
 UntakenFits (Full blocked) new = Unit {0}
 UntakenFits Memory new = Unit {0}
 
 -- what a firing of a composite comes to
-abbrev pub EndsUntaken : (path : List ℕ) (labels : List (List ℕ)) (made : ℕ) (before : Director) (olds : AllShown) (tag : Tag) (X : Streams Token) (allowance : ℕ) → Untaken → Director → AllShown → (left : ℕ) → Type 0
-EndsUntaken path labels made before olds tag X allowance Done s now left = (out : Streams Token) × EndsAs acts path labels made before olds tag X allowance (within.Done out) s now left
-EndsUntaken path labels made before olds tag X allowance (Fault place) s now left = EndsAs acts path labels made before olds tag X allowance (within.Fault place) s now left
-EndsUntaken path labels made before olds tag X allowance Spent s now left = EndsAs acts path labels made before olds tag X allowance within.Spent s now left
-EndsUntaken path labels made before olds tag X allowance (Full blocked) s now left = EndsAs acts path labels made before olds tag X allowance (within.Full blocked) s now left
-EndsUntaken path labels made before olds tag X allowance Memory s now left = EndsAs acts path labels made before olds tag X allowance within.Memory s now left
+abbrev pub EndsUntaken : (path : List ℕ) (labels : List (List ℕ)) (own : OwnMeetings) (before : Director) (olds : AllShown) (tag : Tag) (X : Streams Token) (allowance : ℕ) → Untaken → Director → AllShown → (left : ℕ) → Type 0
+EndsUntaken path labels own before olds tag X allowance Done s now left = (out : Streams Token) × EndsAs acts path labels own before olds tag X allowance (within.Done out) s now left
+EndsUntaken path labels own before olds tag X allowance (Fault place) s now left = EndsAs acts path labels own before olds tag X allowance (within.Fault place) s now left
+EndsUntaken path labels own before olds tag X allowance Spent s now left = EndsAs acts path labels own before olds tag X allowance within.Spent s now left
+EndsUntaken path labels own before olds tag X allowance (Full blocked) s now left = EndsAs acts path labels own before olds tag X allowance (within.Full blocked) s now left
+EndsUntaken path labels own before olds tag X allowance Memory s now left = EndsAs acts path labels own before olds tag X allowance within.Memory s now left
 
 -- the own outputs were let go of, or there was no memory for them, and the director is as before
 abbrev pub CloseTo : {D : Type 0} → Calls D → D → Untaken → D → Type 0

@@ -7,6 +7,7 @@ use Rattle.pt_meaning.specs.Tree as tree
 use Rattle.pt_value.specs.declared.token.Token.{Token}
 use Rattle.pt_firing.specs.declared.ask.Ask.{Ask}
 use Rattle.pt_firing.specs.declared.ask.Ask.TheVariants as ask
+use Rattle.pt_records.specs.Kept.{Made}
 use Rattle.pt_records.specs.Made.{AllMadeBefore}
 use Rattle.pt_core.specs.Acts.{Beginning, Acts}
 use Rattle.pt_library.specs.declared.library_actor.LibraryActor.{LibraryActor}
@@ -21,6 +22,7 @@ use Rattle.pt_seq.specs.declared.pause.Pause.TheVariants as pause
 use Rattle.pt_seq.specs.declared.numbers.Rest.{Rest}
 use Rattle.pt_seq.specs.declared.numbers.Rest.TheVariants as rest
 use Rattle.pt_seq.specs.Within.{Given}
+use Rattle.pt_seq.specs.OwnMeetings.{OwnMeetings, own_of, AreRecorded}
 
 module _ {D : Type 0} (a : Acts rows D) where
   -- how the firing began, under these meetings
@@ -32,11 +34,12 @@ module _ {D : Type 0} (a : Acts rows D) where
     pub fit : AllFit now
     pub so_far : (m : Meets) → AllMadeBefore m (kepts_of now) → a.Underway (beginning m before olds tag inputs) s (tree.list_of (nodes_of now)) (kepts_of now)
 
-  -- It has come so far. The children have their names, the director states the maximum capacity that it stated, and the allowance was lowered by each firing of a child.
-  pub record At (before : D) (olds : List Shown) (tag : Tag) (inputs : Streams Token) (allowance : ℕ) (s : D) (now : List Shown) (left : ℕ) : Type 0 where
+  -- It has come so far. The children have their names, the director states the maximum capacity that it stated, what is recorded of the composite's own meetings has those that it has told, and the allowance was lowered by each firing of a child.
+  pub record At (before : D) (olds : List Shown) (tag : Tag) (inputs : Streams Token) (allowance : ℕ) (own : OwnMeetings) (s : D) (now : List Shown) (left : ℕ) : Type 0 where
     pub going : Going before (all_of olds) tag inputs s (all_of now)
     pub outlines : outlines_of (all_of now) ≡ outlines_of (all_of olds)
     pub maximum : a.calls.maximum s ≡ a.calls.maximum before
+    pub met : AreRecorded (a.calls.met s) own
     pub counted : counts_of (all_of now) + left ≡ counts_of (all_of olds) + allowance
     pub lowered : left ≤ allowance
 
@@ -46,68 +49,80 @@ module _ {D : Type 0} (a : Acts rows D) where
     pub olds : List Shown
     pub inputs : Streams Token
     pub allowance : ℕ
-    pub at : At before olds tag inputs allowance s now left
+    pub own : OwnMeetings
+    pub at : At before olds tag inputs allowance own s now left
 
-  -- the director was asked in such a state, and answered next
-  pub record Between (before : D) (olds : List Shown) (tag : Tag) (inputs : Streams Token) (allowance : ℕ) (next : Ask) (s : D) (now : List Shown) (left : ℕ) : Type 0 where
-    pub state : D
-    pub at : At before olds tag inputs allowance state now left
-    pub gives : a.calls.Gives state next
-    pub asking : s ≡ a.calls.asking next state
-
-  -- the same of a firing at this tag that began in some way
-  pub record IsAskedUnderWay (tag : Tag) (next : Ask) (s : D) (now : List Shown) (left : ℕ) : Type 0 where
+  -- the same where this is recorded now of the composite's own meetings, in its firing of that number
+  pub record IsUnderWayWith (tag : Tag) (number : ℕ) (made : Option Made) (s : D) (now : List Shown) (left : ℕ) : Type 0 where
     pub before : D
     pub olds : List Shown
     pub inputs : Streams Token
     pub allowance : ℕ
-    pub between : Between before olds tag inputs allowance next s now left
+    pub start : Option Made
+    pub at : At before olds tag inputs allowance (own_of number start made) s now left
+
+  -- the director was asked in such a state, and answered next
+  pub record Between (before : D) (olds : List Shown) (tag : Tag) (inputs : Streams Token) (allowance : ℕ) (own : OwnMeetings) (next : Ask) (s : D) (now : List Shown) (left : ℕ) : Type 0 where
+    pub state : D
+    pub at : At before olds tag inputs allowance own state now left
+    pub gives : a.calls.Gives state next
+    pub asking : s ≡ a.calls.asking next state
+
+  -- the same of a firing at this tag that began in some way, where this is recorded now
+  pub record IsAskedUnderWay (tag : Tag) (number : ℕ) (made : Option Made) (next : Ask) (s : D) (now : List Shown) (left : ℕ) : Type 0 where
+    pub before : D
+    pub olds : List Shown
+    pub inputs : Streams Token
+    pub allowance : ℕ
+    pub start : Option Made
+    pub between : Between before olds tag inputs allowance (own_of number start made) next s now left
 
   -- It is the turn of child i at a tag. Its firing gave one number already, of which the director wasn't told yet, or isn't made; the other children are as they were when the director asked for it.
-  pub record InTurn (before : D) (olds : List Shown) (tag : Tag) (inputs : Streams Token) (allowance i : ℕ) (when : Tag) (given : Option ℤ) (s : D) (now : List Shown) (left : ℕ) : Type 0 where
+  pub record InTurn (before : D) (olds : List Shown) (tag : Tag) (inputs : Streams Token) (allowance : ℕ) (own : OwnMeetings) (i : ℕ) (when : Tag) (given : Option ℤ) (s : D) (now : List Shown) (left : ℕ) : Type 0 where
     pub kids : List Shown
     pub child : Shown
     pub mid : Shown
     pub there : get kids i ≡ Some child
-    pub between : Between before olds tag inputs allowance (ask.Fire i when) s kids left
+    pub between : Between before olds tag inputs allowance own (ask.Fire i when) s kids left
     pub others : now ≡ set kids i mid
     pub gave : Given given child (a.calls.lent_of s) mid
     pub some : 0 < left
 
   -- It is left off here for want of memory: nothing was recorded since it had come so far.
-  pub record Halts (before : D) (olds : List Shown) (tag : Tag) (inputs : Streams Token) (allowance : ℕ) (s : D) (now : List Shown) (left : ℕ) : Type 0 where
+  pub record Halts (before : D) (olds : List Shown) (tag : Tag) (inputs : Streams Token) (allowance : ℕ) (own : OwnMeetings) (s : D) (now : List Shown) (left : ℕ) : Type 0 where
     pub state : D
     pub kids : List Shown
-    pub at : At before olds tag inputs allowance state kids left
+    pub at : At before olds tag inputs allowance own state kids left
     pub kept : kepts_of (all_of now) ≡ kepts_of (all_of kids)
     pub outlines : outlines_of (all_of now) ≡ outlines_of (all_of kids)
     pub counts : counts_of (all_of now) ≡ counts_of (all_of kids)
     pub maximum : a.calls.maximum s ≡ a.calls.maximum before
 
 -- where it has come to from there, without a firing that the director isn't told of but the last
-abbrev pub Paused : Director → List Shown → Tag → Streams Token → (allowance : ℕ) → Pause → Director → List Shown → (left : ℕ) → Type 0
-Paused before olds tag X allowance (pause.Turn i when given) s now left = InTurn acts before olds tag X allowance i when given s now left
-Paused before olds tag X allowance pause.Finished s now left = Between acts before olds tag X allowance ask.Finished s now left
-Paused before olds tag X allowance (pause.Faulted kind) s now left = Between acts before olds tag X allowance (ask.Faulted kind None) s now left
-Paused before olds tag X allowance pause.Spent s now left = (left ≡ 0) × ((next : Ask) × Between acts before olds tag X allowance next s now left)
-Paused before olds tag X allowance pause.Full s now left = Between acts before olds tag X allowance ask.Full s now left
-Paused before olds tag X allowance pause.Memory s now left = Halts acts before olds tag X allowance s now left
+abbrev pub Paused : Director → List Shown → Tag → Streams Token → (allowance : ℕ) → OwnMeetings → Pause → Director → List Shown → (left : ℕ) → Type 0
+Paused before olds tag X allowance own (pause.Turn i when given) s now left = InTurn acts before olds tag X allowance own i when given s now left
+Paused before olds tag X allowance own pause.Finished s now left = Between acts before olds tag X allowance own ask.Finished s now left
+Paused before olds tag X allowance own (pause.Faulted kind) s now left = Between acts before olds tag X allowance own (ask.Faulted kind None) s now left
+Paused before olds tag X allowance own pause.Spent s now left = (left ≡ 0) × ((next : Ask) × Between acts before olds tag X allowance own next s now left)
+Paused before olds tag X allowance own pause.Full s now left = Between acts before olds tag X allowance own ask.Full s now left
+Paused before olds tag X allowance own pause.Memory s now left = Halts acts before olds tag X allowance own s now left
 
 -- the director asked for something in this state, which was done, and it has less to wait for; or it has come there
-abbrev pub Heeded : Director → List Shown → Tag → Streams Token → (allowance : ℕ) → (state : Director) → Option Pause → Director → List Shown → (left : ℕ) → Type 0
-Heeded before olds tag X allowance state None s now left = At acts before olds tag X allowance s now left × (director_calls.waits s < director_calls.waits state)
-Heeded before olds tag X allowance state (Some pause) s now left = Paused before olds tag X allowance pause s now left
+abbrev pub Heeded : Director → List Shown → Tag → Streams Token → (allowance : ℕ) → OwnMeetings → (state : Director) → Option Pause → Director → List Shown → (left : ℕ) → Type 0
+Heeded before olds tag X allowance own state None s now left = At acts before olds tag X allowance own s now left × (director_calls.waits s < director_calls.waits state)
+Heeded before olds tag X allowance own state (Some pause) s now left = Paused before olds tag X allowance own pause s now left
 
 -- so it is after a row of firings of numbers alone: it is the turn of a child, or the director has this answer, or memory was wanting
-abbrev pub Rested : Director → List Shown → Tag → Streams Token → (allowance : ℕ) → Rest → Director → List Shown → (left : ℕ) → Type 0
-Rested before olds tag X allowance (rest.Turn i when given) s now left = InTurn acts before olds tag X allowance i when given s now left
-Rested before olds tag X allowance (rest.Asked next) s now left = Between acts before olds tag X allowance next s now left
-Rested before olds tag X allowance rest.Memory s now left = Halts acts before olds tag X allowance s now left
+abbrev pub Rested : Director → List Shown → Tag → Streams Token → (allowance : ℕ) → OwnMeetings → Rest → Director → List Shown → (left : ℕ) → Type 0
+Rested before olds tag X allowance own (rest.Turn i when given) s now left = InTurn acts before olds tag X allowance own i when given s now left
+Rested before olds tag X allowance own (rest.Asked next) s now left = Between acts before olds tag X allowance own next s now left
+Rested before olds tag X allowance own rest.Memory s now left = Halts acts before olds tag X allowance own s now left
 
--- the same of a firing at this tag that began in some way
-pub record IsRestedUnderWay (tag : Tag) (rest : Rest) (s : Director) (now : List Shown) (left : ℕ) : Type 0 where
+-- the same of a firing at this tag that began in some way, where this is recorded now
+pub record IsRestedUnderWay (tag : Tag) (number : ℕ) (made : Option Made) (rest : Rest) (s : Director) (now : List Shown) (left : ℕ) : Type 0 where
   pub before : Director
   pub olds : List Shown
   pub inputs : Streams Token
   pub allowance : ℕ
-  pub rested : Rested before olds tag inputs allowance rest s now left
+  pub start : Option Made
+  pub rested : Rested before olds tag inputs allowance (own_of number start made) rest s now left

@@ -12,7 +12,7 @@ use Rattle.pt_directors.specs.Directors.{Director}
 use Rattle.pt_node.specs.Shown.{Shown}
 use Rattle.pt_node.specs.Reset.{KeepsRecords}
 use Rattle.pt_node.specs.View.{node_of}
-use Rattle.pt_node.specs.Live.{IsFit}
+use Rattle.pt_node.specs.Live.{HasFired}
 use Rattle.pt_seq.specs.declared.fire.Within.TheVariants.{Done}
 use Rattle.pt_seq.specs.declared.events.Signalled.{Signalled}
 use Rattle.pt_seq.specs.declared.events.Signalled.TheVariants as signalled
@@ -26,7 +26,7 @@ de_of s = Other (Other (First s))
 -- A firing of a node at a tag that is done with these outputs and isn't recorded yet. How often it and all within it fired, what is recorded of them, and their names are as before.
 pub record GaveAt (tag : Tag) (old : Shown) (X out : Streams Token) (new : Shown) : Type 0 where
   pub goes : WithinTo old tag X (Done out) new
-  pub fit : IsFit new
+  pub fit : HasFired new
   pub keeps : KeepsRecords old new
 
 -- such a firing was made and gave one integer at most, on its one port, or nothing was done

@@ -16,7 +16,7 @@ use Rattle.pt_library.specs.LibraryActor.{rows}
 use Rattle.pt_node.specs.Shown.{Shown}
 use Rattle.pt_node.specs.Firing.{noted, bare, recorded}
 use Rattle.pt_node.specs.View.{Tree, node_of, kept_of, outline_of, text_at}
-use Rattle.pt_node.specs.Live.{IsFit, Takes}
+use Rattle.pt_node.specs.Live.{IsFit, HasFired, Takes}
 use Rattle.pt_seq.specs.declared.turn.Turn.{Turn}
 use Rattle.pt_seq.specs.declared.turn.Turn.TheVariants as turn
 use Rattle.pt_seq.specs.declared.numbers.Quick.{Quick}
@@ -93,7 +93,7 @@ RefusesTo child kind turn.Spent = ⊥
 RefusesTo child kind (turn.Full blocked) = ⊥
 RefusesTo child kind turn.Memory = Unit {0}
 
--- a child whose turn it is fits, and takes these inputs if it fires now
+-- a child whose turn it is fits, once its firing is recorded if that is made, and takes these inputs if it fires now
 abbrev pub MayFire : Option ℤ → Tag → Shown → Streams Token → Type 0
-MayFire (Some n) tag child X = IsFit child
+MayFire (Some n) tag child X = HasFired child
 MayFire None tag child X = IsFit child × Takes tag child X

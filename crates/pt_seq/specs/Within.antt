@@ -24,7 +24,7 @@ use Rattle.pt_library.specs.LibraryActor as library
 use Rattle.pt_node.specs.declared.body.Held.{Held}
 use Rattle.pt_node.specs.Shown.{Shown, Branch}
 use Rattle.pt_node.specs.View.{Tree, node_of, kept_of, count_of, Outline, outline_of, text_at, maximum_at}
-use Rattle.pt_node.specs.Live.{IsFit, IsLive, is_live}
+use Rattle.pt_node.specs.Live.{HasFired, IsLive, is_live}
 use Rattle.pt_node.specs.Stuck.{fault_of}
 use Rattle.pt_node.specs.Full.{told_by, IsToldFull}
 use Rattle.pt_seq.specs.declared.fire.Within.{Within}
@@ -78,9 +78,9 @@ SpendsAll Spent left = left ≡ 0
 SpendsAll (Full blocked) left = Unit {0}
 SpendsAll Memory left = Unit {0}
 
--- after a firing that is done the node fits
+-- after a firing that is done the node fits, once that is recorded
 abbrev pub StaysFit : Within → Shown → Type 0
-StaysFit (Done out) new = IsFit new
+StaysFit (Done out) new = HasFired new
 StaysFit (Fault place) new = Unit {0}
 StaysFit Spent new = Unit {0}
 StaysFit (Full blocked) new = Unit {0}
@@ -128,7 +128,7 @@ made_of (Branch f ks) = f.past.made
 -- A firing of a node, whatever its tag, that is done with these outputs. It isn't recorded yet.
 pub record Gave (old : Shown) (X out : Streams Token) (new : Shown) : Type 0 where
   pub goes : (tag : Tag) → WithinTo old tag X (Done out) new
-  pub fit : IsFit new
+  pub fit : HasFired new
   pub outline : outline_of new ≡ outline_of old
   pub count : count_of new ≡ count_of old
 

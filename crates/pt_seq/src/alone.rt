@@ -5,6 +5,8 @@ ghost use Rattle.pt_node.specs.declared.node.Node.{out-Node};
 ghost use Rattle.pt_node.specs.Shown.{shown, shown_node, all_of};
 ghost use Rattle.pt_node.specs.View.{outline_of, count_of};
 ghost use Rattle.pt_node.specs.Live.{IsLive, IsFit, Takes, AllFit, IsReady, TakenBy};
+ghost use Rattle.pt_node.specs.Meetings.{Serves};
+ghost use Rattle.pt_seq.specs.OwnMeetings.{own_of};
 ghost use Rattle.pt_seq.specs.Signals.{de_of};
 ghost use Rattle.pt_seq.specs.Alone.{untaken_of, FiredTo, UntakenTo, UntakenSpends, UntakenFits, EndsUntaken, CloseTo};
 
@@ -15,7 +17,7 @@ use pt_core::{Core, Either};
 use pt_de::DeCore;
 use pt_directors::Director;
 use pt_firing::{Answer, Blocked, Inputs, Place};
-use pt_node::{Body, Labels, Node};
+use pt_node::{Body, Labels, MeetingRecord, Node};
 use pt_time::Tag;
 use pt_value::Text;
 use std::alloc::Global;
@@ -147,6 +149,7 @@ fn fire_untaken(
             &node.path,
             &node.labels,
             node.past.made,
+            &mut node.meetings,
             tag,
             inputs,
             left,
@@ -163,6 +166,7 @@ fn fire_closed(
     path: &Text,
     labels: &Labels,
     made: u64,
+    meetings: &mut MeetingRecord,
     tag: Tag,
     inputs: &Inputs<'_>,
     left: &mut u64,
@@ -170,7 +174,8 @@ fn fire_closed(
     requires ready { IsReady director.old (all_of (map shown children.old.items)) }
     requires fit { AllFit (all_of (map shown children.old.items)) }
     requires inputs { TakenBy director.old inputs.now }
-    ensures { EndsUntaken path.now labels.now made director.old (all_of (map shown children.old.items)) tag inputs.now left.old result director.new (all_of (map shown children.new.items)) left.new }
+    requires serves { Serves (director_calls.met director.old) made meetings.old }
+    ensures { EndsUntaken path.now labels.now (own_of made meetings.old meetings.new) director.old (all_of (map shown children.old.items)) tag inputs.now left.old result director.new (all_of (map shown children.new.items)) left.new }
 {
     let mut buffers = Buffers::new(alloc);
     let rest = first_row(
@@ -192,6 +197,7 @@ fn fire_closed(
         path,
         labels,
         made,
+        meetings,
         rest,
         left,
         &mut buffers,

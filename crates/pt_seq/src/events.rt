@@ -1,5 +1,5 @@
 // Firings under DE of which each gives one integer at most, or none.
-ghost use Rattle.std.specs.Prelude.{◌≡◌, ◌+◌, ◌<◌, ◌≤◌, ◌^◌, ◌∷◌, [], List, ℕ, true, false, Some, IsSome, OnOk, OnErr, map};
+ghost use Rattle.std.specs.Prelude.{◌≡◌, ◌+◌, ◌<◌, ◌≤◌, ◌^◌, ◌∷◌, [], List, ℕ, Option, true, false, Some, IsSome, OnOk, OnErr, map};
 ghost use Rattle.pt_meaning.specs.Basics as basics;
 ghost use Rattle.pt_meaning.specs.NodeFacts.{early_of};
 ghost use Rattle.pt_value.specs.declared.token.Token.{Token};
@@ -12,8 +12,11 @@ ghost use Rattle.pt_node.specs.Firing.{noted, bare, recorded};
 ghost use Rattle.pt_node.specs.Shown.{Shown, all_of, shown, shown_node};
 ghost use Rattle.pt_node.specs.View.{node_of, outline_of, count_of};
 ghost use Rattle.pt_node.specs.Live.{AllFit, IsFit, IsReady, TakenBy};
+ghost use Rattle.pt_node.specs.Meetings.{Serves};
+ghost use Rattle.pt_records.specs.Kept.{Made};
 ghost use Rattle.pt_seq.specs.Signals.{de_of, SignalTo, TellsAt, SignalledTo, SignalSpends};
 ghost use Rattle.pt_seq.specs.Between.{At, Between, IsUnderWay, Rested};
+ghost use Rattle.pt_seq.specs.OwnMeetings.{OwnMeetings, own_of};
 
 use crate::numbers::Rest;
 use pt_core::Core;
@@ -47,7 +50,7 @@ pub(crate) fn first_reaction(
     requires ready { IsReady (de_of core.old) (all_of (map shown children.old.items)) }
     requires fit { AllFit (all_of (map shown children.old.items)) }
     requires inputs { TakenBy (de_of core.old) inputs.now }
-    ensures { Rested (de_of core.old) (map shown children.old.items) tag inputs.now left.old result (de_of core.new) (map shown children.new.items) left.new }
+    ensures { (number : ℕ) (made : Option Made) → Serves (director_calls.met (de_of core.old)) number made → Rested (de_of core.old) (map shown children.old.items) tag inputs.now left.old (own_of number made made) result (de_of core.new) (map shown children.new.items) left.new }
 {
     if core.begin(alloc, tag, inputs).is_err() {
         return Rest::Memory;
@@ -66,7 +69,7 @@ pub(crate) fn fire_events(
 ) -> Rest
     requires { (tag : basics.Tag) × IsUnderWay acts tag (de_of core.old) (map shown children.old.items) left.old }
     ensures lowered { left.new ≤ left.old }
-    ensures goes { (before : directors.Director) (olds : List Shown) (tag : basics.Tag) (X : basics.Streams Token) (allowance : ℕ) → At acts before olds tag X allowance (de_of core.old) (map shown children.old.items) left.old → Rested before olds tag X allowance result (de_of core.new) (map shown children.new.items) left.new }
+    ensures goes { (before : directors.Director) (olds : List Shown) (tag : basics.Tag) (X : basics.Streams Token) (allowance : ℕ) (own : OwnMeetings) → At acts before olds tag X allowance own (de_of core.old) (map shown children.old.items) left.old → Rested before olds tag X allowance own result (de_of core.new) (map shown children.new.items) left.new }
 {
     loop {
         match ask_on(core, children) {
@@ -90,7 +93,7 @@ pub(crate) fn fire_events(
 #[inline(always)]
 fn ask_on(core: &mut DeCore, children: &Vec<Node>) -> Ask
     requires { (left : ℕ) × ((tag : basics.Tag) × IsUnderWay acts tag (de_of core.old) (map shown children.now.items) left) }
-    ensures { (before : directors.Director) (olds : List Shown) (tag : basics.Tag) (X : basics.Streams Token) (allowance left : ℕ) → At acts before olds tag X allowance (de_of core.old) (map shown children.now.items) left → Between acts before olds tag X allowance result (de_of core.new) (map shown children.now.items) left }
+    ensures { (before : directors.Director) (olds : List Shown) (tag : basics.Tag) (X : basics.Streams Token) (allowance : ℕ) (own : OwnMeetings) (left : ℕ) → At acts before olds tag X allowance own (de_of core.old) (map shown children.now.items) left → Between acts before olds tag X allowance own result (de_of core.new) (map shown children.now.items) left }
 {
     loop {
         match core.ask() {

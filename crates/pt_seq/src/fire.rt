@@ -1,6 +1,7 @@
-ghost use Rattle.std.specs.Prelude.{◌≡◌, ◌+◌, ◌<◌, ◌≤◌, List, ℕ, Some, false, map};
+ghost use Rattle.std.specs.Prelude.{◌≡◌, ◌+◌, ◌<◌, ◌≤◌, List, ℕ, Option, Some, false, map};
 ghost use Rattle.pt_meaning.specs.Basics as basics;
 ghost use Rattle.pt_value.specs.declared.token.Token.{Token};
+ghost use Rattle.pt_records.specs.Kept.{Made};
 ghost use Rattle.pt_library.specs.LibraryActor as library;
 ghost use Rattle.pt_node.specs.declared.node.Node.{out-Node};
 ghost use Rattle.pt_directors.specs.Directors as directors;
@@ -9,10 +10,12 @@ ghost use Rattle.pt_node.specs.Acts.{acts};
 ghost use Rattle.pt_node.specs.Shown.{Shown, shown, shown_node, all_of};
 ghost use Rattle.pt_node.specs.View.{outline_of, outlines_of, count_of, counts_of};
 ghost use Rattle.pt_node.specs.Live.{IsLive, is_live, IsFit, Takes, AllFit, IsReady, TakenBy};
+ghost use Rattle.pt_node.specs.Meetings.{Serves};
 ghost use Rattle.pt_seq.specs.Within.{WithinTo, SpendsAll, StaysFit, AnswersTo, EndsLive, ActorTo, IsFaultAt};
 ghost use Rattle.pt_seq.specs.Composite.{CompositeTo, KeepsFit, EndsAs, FinishTo};
 ghost use Rattle.pt_seq.specs.Turns.{TurnTo, TurnFrom, TurnSpends, MayFire};
 ghost use Rattle.pt_seq.specs.Between.{Rested, IsRestedUnderWay};
+ghost use Rattle.pt_seq.specs.OwnMeetings.{own_of};
 
 use crate::full::full_at;
 use crate::numbers::{Buffers, Rest, several, tell_numbers};
@@ -21,7 +24,7 @@ use crate::turn::{Turn, tell};
 use pt_core::Core;
 use pt_directors::Director;
 use pt_firing::{Answer, Blocked, Fires, Inputs, Outputs, Place, RunFault, Step};
-use pt_node::{Body, Held, Labels, Node};
+use pt_node::{Body, Held, Labels, MeetingRecord, Node};
 use pt_time::Tag;
 use pt_value::Text;
 use std::alloc::Global;
@@ -119,6 +122,7 @@ fn fire(alloc: Global, node: &mut Node, tag: Tag, inputs: &Inputs<'_>, left: &mu
             &node.path,
             &node.labels,
             node.past.made,
+            &mut node.meetings,
             tag,
             inputs,
             left,
@@ -126,7 +130,7 @@ fn fire(alloc: Global, node: &mut Node, tag: Tag, inputs: &Inputs<'_>, left: &mu
     }
 }
 
-/// One firing of a composite: its director says what comes next. Often it is finished after one row of firings, and then nothing more is looked at. `path`, `labels` and `made` are its own, to tell where it is stuck itself, or full.
+/// One firing of a composite: its director says what comes next. Often it is finished after one row of firings, and then nothing more is looked at. `path`, `labels` and `made` are its own, to tell where it is stuck itself, or full, and `meetings` has those that it made.
 #[cycle(fire)]
 #[inline(always)]
 fn fire_composite(
@@ -136,6 +140,7 @@ fn fire_composite(
     path: &Text,
     labels: &Labels,
     made: u64,
+    meetings: &mut MeetingRecord,
     tag: Tag,
     inputs: &Inputs<'_>,
     left: &mut u64,
@@ -143,10 +148,11 @@ fn fire_composite(
     requires ready { IsReady director.old (all_of (map shown children.old.items)) }
     requires fit { AllFit (all_of (map shown children.old.items)) }
     requires inputs { TakenBy director.old inputs.now }
-    ensures goes { CompositeTo acts path.now labels.now made director.old (all_of (map shown children.old.items)) tag inputs.now result director.new (all_of (map shown children.new.items)) }
+    requires serves { Serves (director_calls.met director.old) made meetings.old }
+    ensures goes { CompositeTo acts path.now labels.now (own_of made meetings.old meetings.new) director.old (all_of (map shown children.old.items)) tag inputs.now result director.new (all_of (map shown children.new.items)) }
     ensures spends { SpendsAll result left.new }
     ensures lowered { left.new ≤ left.old }
-    ensures fit { KeepsFit acts result director.new (all_of (map shown children.new.items)) }
+    ensures fit { KeepsFit acts (own_of made meetings.old meetings.new) result director.new (all_of (map shown children.new.items)) }
     ensures outlines { outlines_of (all_of (map shown children.new.items)) ≡ outlines_of (all_of (map shown children.old.items)) }
     ensures maximum { director_calls.maximum director.new ≡ director_calls.maximum director.old }
     ensures counted { counts_of (all_of (map shown children.new.items)) + left.new ≡ counts_of (all_of (map shown children.old.items)) + left.old }
@@ -171,6 +177,7 @@ fn fire_composite(
         path,
         labels,
         made,
+        meetings,
         rest,
         left,
         &mut buffers,
@@ -187,16 +194,17 @@ pub(crate) fn go_on(
     path: &Text,
     labels: &Labels,
     made: u64,
+    meetings: &mut MeetingRecord,
     first: Rest,
     left: &mut u64,
     buffers: &mut Buffers,
 ) -> Within
-    requires { (tag : basics.Tag) × IsRestedUnderWay tag first director.old (map shown children.old.items) left.old }
-    ensures { (before : directors.Director) (olds : List Shown) (tag : basics.Tag) (X : basics.Streams Token) (allowance : ℕ) → Rested before olds tag X allowance first director.old (map shown children.old.items) left.old → EndsAs acts path.now labels.now made before (all_of olds) tag X allowance result director.new (all_of (map shown children.new.items)) left.new }
+    requires { (tag : basics.Tag) × IsRestedUnderWay tag made meetings.old first director.old (map shown children.old.items) left.old }
+    ensures { (before : directors.Director) (olds : List Shown) (tag : basics.Tag) (X : basics.Streams Token) (allowance : ℕ) (start : Option Made) → Rested before olds tag X allowance (own_of made start meetings.old) first director.old (map shown children.old.items) left.old → EndsAs acts path.now labels.now (own_of made start meetings.new) before (all_of olds) tag X allowance result director.new (all_of (map shown children.new.items)) left.new }
 {
     let mut rest = first;
     loop {
-        match settle(alloc, director, children, rest, *left) {
+        match settle(alloc, director, children, made, meetings, rest, *left) {
             Pause::Turn(number, when, given) => {
                 let child = &mut children[number as usize];
                 match fire_child(alloc, director, child, number, when, given, left, buffers) {

@@ -9,11 +9,12 @@ ghost use Rattle.pt_node.specs.Acts.{acts};
 ghost use Rattle.pt_node.specs.declared.node.Node.{out-Node};
 ghost use Rattle.pt_node.specs.Shown.{Shown, shown, shown_node};
 ghost use Rattle.pt_node.specs.View.{outline_of, count_of};
-ghost use Rattle.pt_node.specs.Live.{IsFit};
+ghost use Rattle.pt_node.specs.Live.{IsFit, HasFired, IsReadyNode};
 ghost use Rattle.pt_seq.specs.declared.numbers.Rest.TheVariants as rest;
 ghost use Rattle.pt_seq.specs.Within.{NumberTo, SeveralTo};
 ghost use Rattle.pt_seq.specs.Turns.{TurnSpends, IsTold, TellTo, QuickTo, QuickSpends};
 ghost use Rattle.pt_seq.specs.Between.{At, IsUnderWay, Between, Rested};
+ghost use Rattle.pt_seq.specs.OwnMeetings.{OwnMeetings};
 
 use crate::number_core::NumberCore;
 use crate::tokens::tell_tokens;
@@ -87,7 +88,7 @@ pub(crate) fn fire_numbers<C: NumberCore>(
 ) -> Rest
     requires { (tag : basics.Tag) × IsUnderWay acts tag (C.director core.old) (map shown children.old.items) left.old }
     ensures lowered { left.new ≤ left.old }
-    ensures goes { (before : directors.Director) (olds : List Shown) (tag : basics.Tag) (X : basics.Streams Token) (allowance : ℕ) → At acts before olds tag X allowance (C.director core.old) (map shown children.old.items) left.old → Rested before olds tag X allowance result (C.director core.new) (map shown children.new.items) left.new }
+    ensures goes { (before : directors.Director) (olds : List Shown) (tag : basics.Tag) (X : basics.Streams Token) (allowance : ℕ) (own : OwnMeetings) → At acts before olds tag X allowance own (C.director core.old) (map shown children.old.items) left.old → Rested before olds tag X allowance own result (C.director core.new) (map shown children.new.items) left.new }
 {
     loop {
         match asked(core) {
@@ -111,7 +112,7 @@ pub(crate) fn fire_numbers<C: NumberCore>(
 #[inline(always)]
 fn asked<C: NumberCore>(core: &mut C) -> Ask
     requires { (now : List Shown) × ((left : ℕ) × ((tag : basics.Tag) × IsUnderWay acts tag (C.director core.old) now left)) }
-    ensures { (before : directors.Director) (olds : List Shown) (tag : basics.Tag) (X : basics.Streams Token) (allowance : ℕ) (now : List Shown) (left : ℕ) → At acts before olds tag X allowance (C.director core.old) now left → Between acts before olds tag X allowance result (C.director core.new) now left }
+    ensures { (before : directors.Director) (olds : List Shown) (tag : basics.Tag) (X : basics.Streams Token) (allowance : ℕ) (own : OwnMeetings) (now : List Shown) (left : ℕ) → At acts before olds tag X allowance own (C.director core.old) now left → Between acts before olds tag X allowance own result (C.director core.new) now left }
 {
     loop {
         match core.ask() {
@@ -226,7 +227,7 @@ fn told_numbers(
     numbers: &[i64],
 ) -> Result<(), AllocError>
     requires asked { director_calls.asked_of director.old ≡ Some number }
-    requires fit { IsFit (shown_node child.now) }
+    requires fit { IsReadyNode (shown_node child.now) }
     ensures told { OnOk result (IsTold director_calls director.old (shown_node child.now) number (map Int numbers.now ∷ []) director.new) }
     ensures kept { OnErr result (director.new ≡ director.old) }
 {
@@ -250,7 +251,7 @@ pub(crate) fn tell_numbers(
 ) -> Turn
     requires asked { director_calls.asked_of director.old ≡ Some number }
     requires left { 0 < left.old }
-    requires fit { IsFit (shown_node child.old) }
+    requires fit { HasFired (shown_node child.old) }
     ensures goes { TellTo director_calls director.old (shown_node child.old) number tag (map Int given.now ∷ []) result director.new (shown_node child.new) }
     ensures maximum { director_calls.maximum director.new ≡ director_calls.maximum director.old }
     ensures spends { TurnSpends result left.old left.new }

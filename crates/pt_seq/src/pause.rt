@@ -1,4 +1,4 @@
-ghost use Rattle.std.specs.Prelude.{◌≡◌, ◌≤◌, List, ℕ, Some, OnOk, OnErr, map};
+ghost use Rattle.std.specs.Prelude.{◌≡◌, ◌≤◌, List, ℕ, Option, Some, OnOk, OnErr, map};
 ghost use Rattle.pt_meaning.specs.Basics as basics;
 ghost use Rattle.pt_meaning.specs.NodeFacts.{early_of};
 ghost use Rattle.pt_value.specs.declared.token.Token.{Token};
@@ -7,16 +7,19 @@ ghost use Rattle.pt_directors.specs.Directors as directors;
 ghost use Rattle.pt_directors.specs.Directors.{director_calls};
 ghost use Rattle.pt_node.specs.Acts.{acts};
 ghost use Rattle.pt_node.specs.Live.{AllFit, IsReady, TakenBy};
+ghost use Rattle.pt_node.specs.Meetings.{Serves};
 ghost use Rattle.pt_node.specs.Shown.{Shown, all_of, shown, shown_node};
 ghost use Rattle.pt_node.specs.View.{node_of};
-ghost use Rattle.pt_seq.specs.Between.{At, IsUnderWay, IsAskedUnderWay, Heeded, Paused, Rested, IsRestedUnderWay};
+ghost use Rattle.pt_records.specs.Kept.{Made};
+ghost use Rattle.pt_seq.specs.Between.{At, IsUnderWay, IsUnderWayWith, IsAskedUnderWay, Heeded, Paused, Rested, IsRestedUnderWay};
+ghost use Rattle.pt_seq.specs.OwnMeetings.{OwnMeetings, own_of};
 
 use crate::events::{fire_events, first_reaction};
 use crate::numbers::{Rest, fire_numbers};
 use pt_core::{Core, Either};
 use pt_directors::Director;
 use pt_firing::{Ask, Inputs, RunFault};
-use pt_node::Node;
+use pt_node::{MeetingRecord, Node};
 use pt_time::Tag;
 use std::alloc::{AllocError, Global};
 
@@ -35,23 +38,25 @@ pub(crate) enum Pause {
     Memory,
 }
 
-/// Goes on from a row of firings to the next turn of a child that isn't a matter of numbers alone, or to the end.
+/// Goes on from a row of firings to the next turn of a child that isn't a matter of numbers alone, or to the end. Meetings are recorded on the way, as those of the firing of the composite of that number.
 #[inline(always)]
 pub(crate) fn settle(
     alloc: Global,
     director: &mut Director,
     children: &mut Vec<Node>,
+    made: u64,
+    meetings: &mut MeetingRecord,
     rest: Rest,
     left: u64,
 ) -> Pause
-    requires { (tag : basics.Tag) × IsRestedUnderWay tag rest director.old (map shown children.old.items) left }
-    ensures { (before : directors.Director) (olds : List Shown) (tag : basics.Tag) (X : basics.Streams Token) (allowance : ℕ) → Rested before olds tag X allowance rest director.old (map shown children.old.items) left → Paused before olds tag X allowance result director.new (map shown children.new.items) left }
+    requires { (tag : basics.Tag) × IsRestedUnderWay tag made meetings.old rest director.old (map shown children.old.items) left }
+    ensures { (before : directors.Director) (olds : List Shown) (tag : basics.Tag) (X : basics.Streams Token) (allowance : ℕ) (start : Option Made) → Rested before olds tag X allowance (own_of made start meetings.old) rest director.old (map shown children.old.items) left → Paused before olds tag X allowance (own_of made start meetings.new) result director.new (map shown children.new.items) left }
 {
     match rest {
         Rest::Turn(number, when, given) => Pause::Turn(number, when, given),
-        Rest::Asked(asked) => match heed(alloc, director, children, asked, left) {
+        Rest::Asked(asked) => match heed(alloc, director, children, made, meetings, asked, left) {
             Some(pause) => pause,
-            None => wait(alloc, director, children, left),
+            None => wait(alloc, director, children, made, meetings, left),
         },
         Rest::Memory => Pause::Memory,
     }
@@ -71,7 +76,7 @@ pub(crate) fn first_row(
     requires ready { IsReady director.old (all_of (map shown children.old.items)) }
     requires fit { AllFit (all_of (map shown children.old.items)) }
     requires inputs { TakenBy director.old inputs.now }
-    ensures { Rested director.old (map shown children.old.items) tag inputs.now left.old result director.new (map shown children.new.items) left.new }
+    ensures { (number : ℕ) (made : Option Made) → Serves (director_calls.met director.old) number made → Rested director.old (map shown children.old.items) tag inputs.now left.old (own_of number made made) result director.new (map shown children.new.items) left.new }
 {
     match director {
         // A reaction is often a row of one or two firings, so that what it takes to begin one counts.
@@ -96,7 +101,7 @@ fn begin_row(
     requires ready { IsReady director.old (all_of (map shown children.old.items)) }
     requires fit { AllFit (all_of (map shown children.old.items)) }
     requires inputs { TakenBy director.old inputs.now }
-    ensures { Rested director.old (map shown children.old.items) tag inputs.now left.old result director.new (map shown children.new.items) left.new }
+    ensures { (number : ℕ) (made : Option Made) → Serves (director_calls.met director.old) number made → Rested director.old (map shown children.old.items) tag inputs.now left.old (own_of number made made) result director.new (map shown children.new.items) left.new }
 {
     if director.begin(alloc, tag, inputs).is_err() {
         return Rest::Memory;
@@ -104,7 +109,7 @@ fn begin_row(
     fire_row(alloc, director, children, left, row)
 }
 
-/// Makes firings of numbers alone, by the core of the director, or of one integer at most under DE. A Modal director is only asked what comes next.
+/// Makes firings of numbers alone, by the core of the director, or of one integer at most under DE. A director of Modal or of Rendezvous is only asked what comes next.
 #[inline(always)]
 pub(crate) fn fire_row(
     alloc: Global,
@@ -115,7 +120,7 @@ pub(crate) fn fire_row(
 ) -> Rest
     requires { (tag : basics.Tag) × IsUnderWay acts tag director.old (map shown children.old.items) left.old }
     ensures lowered { left.new ≤ left.old }
-    ensures goes { (before : directors.Director) (olds : List Shown) (tag : basics.Tag) (X : basics.Streams Token) (allowance : ℕ) → At acts before olds tag X allowance director.old (map shown children.old.items) left.old → Rested before olds tag X allowance result director.new (map shown children.new.items) left.new }
+    ensures goes { (before : directors.Director) (olds : List Shown) (tag : basics.Tag) (X : basics.Streams Token) (allowance : ℕ) (own : OwnMeetings) → At acts before olds tag X allowance own director.old (map shown children.old.items) left.old → Rested before olds tag X allowance own result director.new (map shown children.new.items) left.new }
 {
     match director {
         Either::First(core) => fire_numbers(alloc, core, children, left, row),
@@ -126,8 +131,10 @@ pub(crate) fn fire_row(
         Either::Other(Either::Other(Either::Other(Either::First(core)))) => {
             fire_numbers(alloc, core, children, left, row)
         }
-        // A Modal director fires one child at most in a reaction.
-        _ => ask_next(director, children, *left),
+        // A Modal director fires one child at most in a reaction, and one of Rendezvous knows no integers.
+        Either::Other(Either::Other(Either::Other(Either::Other(_)))) => {
+            ask_next(director, children, *left)
+        }
     }
 }
 
@@ -135,7 +142,7 @@ pub(crate) fn fire_row(
 #[inline(never)]
 fn ask_next(director: &mut Director, children: &Vec<Node>, left: u64) -> Rest
     requires { (tag : basics.Tag) × IsUnderWay acts tag director.old (map shown children.now.items) left }
-    ensures { (before : directors.Director) (olds : List Shown) (tag : basics.Tag) (X : basics.Streams Token) (allowance : ℕ) → At acts before olds tag X allowance director.old (map shown children.now.items) left → Rested before olds tag X allowance result director.new (map shown children.now.items) left }
+    ensures { (before : directors.Director) (olds : List Shown) (tag : basics.Tag) (X : basics.Streams Token) (allowance : ℕ) (own : OwnMeetings) → At acts before olds tag X allowance own director.old (map shown children.now.items) left → Rested before olds tag X allowance own result director.new (map shown children.now.items) left }
 {
     let asked = director.ask();
     Rest::Asked(asked)
@@ -143,29 +150,38 @@ fn ask_next(director: &mut Director, children: &Vec<Node>, left: u64) -> Rest
 
 /// Asks the director until it asks for a firing or is at an end, and does what it asks for before.
 #[inline(never)]
-fn wait(alloc: Global, director: &mut Director, children: &mut Vec<Node>, left: u64) -> Pause
-    requires { (tag : basics.Tag) × IsUnderWay acts tag director.old (map shown children.old.items) left }
-    ensures { (before : directors.Director) (olds : List Shown) (tag : basics.Tag) (X : basics.Streams Token) (allowance : ℕ) → At acts before olds tag X allowance director.old (map shown children.old.items) left → Paused before olds tag X allowance result director.new (map shown children.new.items) left }
+fn wait(
+    alloc: Global,
+    director: &mut Director,
+    children: &mut Vec<Node>,
+    made: u64,
+    meetings: &mut MeetingRecord,
+    left: u64,
+) -> Pause
+    requires { (tag : basics.Tag) × IsUnderWayWith acts tag made meetings.old director.old (map shown children.old.items) left }
+    ensures { (before : directors.Director) (olds : List Shown) (tag : basics.Tag) (X : basics.Streams Token) (allowance : ℕ) (start : Option Made) → At acts before olds tag X allowance (own_of made start meetings.old) director.old (map shown children.old.items) left → Paused before olds tag X allowance (own_of made start meetings.new) result director.new (map shown children.new.items) left }
 {
     loop {
         let asked = director.ask();
-        if let Some(pause) = heed(alloc, director, children, asked, left) {
+        if let Some(pause) = heed(alloc, director, children, made, meetings, asked, left) {
             return pause;
         }
     }
 }
 
-/// Does what the director asked for, where that is an early answer of a child or that it is brought back to its start, and tells what it comes to otherwise. A move is made already.
+/// Does what the director asked for, where that is an early answer of a child or that it is brought back to its start, and tells what it comes to otherwise. A move is made already, and a meeting is recorded.
 #[inline(always)]
 fn heed(
     alloc: Global,
     director: &mut Director,
     children: &mut Vec<Node>,
+    made: u64,
+    meetings: &mut MeetingRecord,
     next: Ask,
     left: u64,
 ) -> Option<Pause>
-    requires { (tag : basics.Tag) × IsAskedUnderWay acts tag next director.old (map shown children.old.items) left }
-    ensures { (before : directors.Director) (olds : List Shown) (tag : basics.Tag) (X : basics.Streams Token) (allowance : ℕ) (state : directors.Director) → At acts before olds tag X allowance state (map shown children.old.items) left → director_calls.Gives state next → director.old ≡ director_calls.asking next state → Heeded before olds tag X allowance state result director.new (map shown children.new.items) left }
+    requires { (tag : basics.Tag) × IsAskedUnderWay acts tag made meetings.old next director.old (map shown children.old.items) left }
+    ensures { (before : directors.Director) (olds : List Shown) (tag : basics.Tag) (X : basics.Streams Token) (allowance : ℕ) (start : Option Made) (state : directors.Director) → At acts before olds tag X allowance (own_of made start meetings.old) state (map shown children.old.items) left → director_calls.Gives state next → director.old ≡ director_calls.asking next state → Heeded before olds tag X allowance (own_of made start meetings.new) state result director.new (map shown children.new.items) left }
 {
     match next {
         Ask::Fire(number, when) => {
@@ -189,10 +205,16 @@ fn heed(
             None
         }
         Ask::Get(_) | Ask::Put(_) | Ask::Grow => None,
+        Ask::Meet(meeting) => {
+            if meetings.note(made, meeting).is_err() {
+                return Some(Pause::Memory);
+            }
+            None
+        }
         Ask::Finished => Some(Pause::Finished),
         Ask::Faulted(kind, _) => Some(Pause::Faulted(kind)),
         Ask::Full => Some(Pause::Full),
-        _ => unreachable!(),
+        Ask::Await => unreachable!(),
     }
 }
 

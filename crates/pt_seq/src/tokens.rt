@@ -1,7 +1,7 @@
 ghost use Rattle.std.specs.Prelude.{◌≡◌, [], ◌∷◌, Some, OnOk, OnErr, IfOk, map};
 ghost use Rattle.pt_value.specs.declared.token.Token.TheVariants.{Int};
 ghost use Rattle.pt_node.specs.Shown.{shown_node};
-ghost use Rattle.pt_node.specs.Live.{IsFit};
+ghost use Rattle.pt_node.specs.Live.{IsReadyNode};
 ghost use Rattle.pt_seq.specs.Turns.{IsTold};
 
 use pt_core::Core;
@@ -20,7 +20,7 @@ pub(crate) fn tell_tokens<C: Core>(
     numbers: &[i64],
 ) -> Result<(), AllocError>
     requires asked { C.calls.asked_of core.old ≡ Some number }
-    requires fit { IsFit (shown_node child.now) }
+    requires fit { IsReadyNode (shown_node child.now) }
     ensures told { OnOk result (IsTold C.calls core.old (shown_node child.now) number (map Int numbers.now ∷ []) core.new) }
     ensures kept { OnErr result (core.new ≡ core.old) }
 {

@@ -2,7 +2,7 @@ ghost use Rattle.std.specs.Prelude.{◌≡◌, ◌+◌, ◌<◌, ◌≤◌, Some
 ghost use Rattle.pt_directors.specs.Directors.{director_calls};
 ghost use Rattle.pt_node.specs.Shown.{shown_node};
 ghost use Rattle.pt_node.specs.View.{outline_of, count_of};
-ghost use Rattle.pt_node.specs.Live.{IsFit};
+ghost use Rattle.pt_node.specs.Live.{HasFired};
 ghost use Rattle.pt_seq.specs.Turns.{TurnSpends, TellTo, RefusesTo};
 
 use crate::fire::{Within, fault_at};
@@ -35,7 +35,7 @@ pub(crate) fn tell(
 ) -> Turn
     requires asked { director_calls.asked_of director.old ≡ Some number }
     requires left { 0 < left.old }
-    requires fit { IsFit (shown_node child.old) }
+    requires fit { HasFired (shown_node child.old) }
     ensures goes { TellTo director_calls director.old (shown_node child.old) number tag outputs result director.new (shown_node child.new) }
     ensures maximum { director_calls.maximum director.new ≡ director_calls.maximum director.old }
     ensures spends { TurnSpends result left.old left.new }

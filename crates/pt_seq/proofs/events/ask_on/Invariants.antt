@@ -6,11 +6,12 @@ use Rattle.pt_node.specs.Acts.{acts}
 use Rattle.pt_node.specs.Shown.{Shown, shown}
 use Rattle.pt_seq.specs.Signals.{de_of}
 use Rattle.pt_seq.specs.Between.{At}
+use Rattle.pt_seq.specs.OwnMeetings.{OwnMeetings}
 use Rattle.pt_seq.proofs.events.ask_on.Given as goal
 
 -- however the firing began, it has come so far
 abbrev pub invariant-loop-number : goal.invariant-loop-number
-invariant-loop-number l = (before : Director) (olds : List Shown) (tag : Tag) (X : Streams Token) (allowance left : ℕ) → At acts before olds tag X allowance (de_of l.fn.core) (map shown l.children.items) left → At acts before olds tag X allowance (de_of l.core) (map shown l.children.items) left
+invariant-loop-number l = (before : Director) (olds : List Shown) (tag : Tag) (X : Streams Token) (allowance : ℕ) (own : OwnMeetings) (left : ℕ) → At acts before olds tag X allowance own (de_of l.fn.core) (map shown l.children.items) left → At acts before olds tag X allowance own (de_of l.core) (map shown l.children.items) left
 
 abbrev pub decreases-loop-number : goal.decreases-loop-number
 decreases-loop-number l = director_calls.waits (de_of l.core)

@@ -19,7 +19,7 @@ returns-in_ok-given-in-Actor-clause-goes c =
     let held : Held = c.in-Actor.held in
     let held' : Held = record { start = held.start; actor = c.signal.new.self } in
     let out : Streams Token = signal_of c.in_ok-given-in-Actor.given ∷ [] in
-    let written : opens.Node-F Node = record { past = r.past; body = body.Actor held'; children = r.children; records = r.records; path = r.path; labels = r.labels; live = r.live } in
+    let written : opens.Node-F Node = record { past = r.past; body = body.Actor held'; children = r.children; records = r.records; path = r.path; labels = r.labels; meetings = r.meetings; live = r.live } in
     let r' : opens.Node-F Node = not-live (out-Node (roll-Node written)) in
     subst (λ X. GaveAt c.args.tag (shown_node n) X out (shown_node (roll-Node r'))) c.lent.ensures
     (gave-at n (roll-Node r') r r' held held' (roll-out-Node n) refl c.in-Actor.is c.args.tag c.lent.result out c.in_ok-given-in-Actor.ensures refl (no-longer-live written) c.requires.fit)

@@ -12,7 +12,7 @@ pub has_room-requires : goal.has_room-requires
 has_room-requires c = inl c.requires.asked
 
 pub wake-wake-requires : goal.wake-wake-requires
-wake-wake-requires c = c.in-Some.ensures.goes.fit
+wake-wake-requires c = c.in-Some.ensures.goes.fit.0
 
 pub told_signal-requires-clause-room : goal.told_signal-requires-clause-room
 told_signal-requires-clause-room c = c.if-not-has_room.ensures.0 refl

@@ -20,7 +20,7 @@ returns-in_ok-given-in-Actor-clause-goes g c =
     let held' : Held = record { start = held.start; actor = c.number.new.self } in
     let given : ℤ = c.in_ok-given-in-Actor.given in
     let fits : SFits w64 given = search rules in
-    let written : opens.Node-F Node = record { past = r.past; body = body.Actor held'; children = r.children; records = r.records; path = r.path; labels = r.labels; live = r.live } in
+    let written : opens.Node-F Node = record { past = r.past; body = body.Actor held'; children = r.children; records = r.records; path = r.path; labels = r.labels; meetings = r.meetings; live = r.live } in
     let r' : opens.Node-F Node = not-live (out-Node (roll-Node written)) in
     subst (λ z. Gave (shown_node n) (director_calls.lent_of (g.C.NumberCore.director c.args.core.now)) ((Int z ∷ []) ∷ []) (shown_node (roll-Node r'))) (sym (to_z-of_z w64 given fits))
     (subst (λ X. Gave (shown_node n) X ((Int given ∷ []) ∷ []) (shown_node (roll-Node r'))) c.in_ok-inputs-in-Actor.ensures

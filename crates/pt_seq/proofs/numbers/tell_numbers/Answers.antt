@@ -17,12 +17,12 @@ use Rattle.pt_seq.proofs.numbers.tell_numbers.Goals as goal
 use Rattle.pt_seq.proofs.numbers.tell_numbers.Goals.{then-child-via-then-child, then-child-via-else-child+then-is_err}
 
 pub told_numbers-requires-clause-fit : goal.told_numbers-requires-clause-fit
-told_numbers-requires-clause-fit c = fit-bare (shown_node c.note_numbers.new.self) (shown_node c.args.child.now) c.note_numbers.ensures.kept c.requires.fit
+told_numbers-requires-clause-fit c = (fit-bare (shown_node c.note_numbers.new.self) (shown_node c.args.child.now) c.note_numbers.ensures.kept c.requires.fit).0
 
 pub is_wrong-requires : goal.is_wrong-requires
 is_wrong-requires c =
     let told = on-ok c.told_numbers.result (IsTold director_calls c.args.director.now (shown_node c.note_numbers.new.self) c.args.number (map Int c.args.given.now ∷ []) c.told_numbers.new.director) (sym c.is_err-2.ensures.value ∙ c.if-is_err-2.false) c.told_numbers.ensures.told in
-    may-ask-if-told director_calls acts-law.lawful.agree c.args.director.now c.told_numbers.new.director (shown_node c.note_numbers.new.self) c.args.number (map Int c.args.given.now ∷ []) c.requires.asked told
+    may-ask-if-told director_calls acts-law.agree c.args.director.now c.told_numbers.new.director (shown_node c.note_numbers.new.self) c.args.number (map Int c.args.given.now ∷ []) c.requires.asked told
 
 pub returns-then-child-clause-outline : goal.returns-then-child-clause-outline
 returns-then-child-clause-outline c =
@@ -38,7 +38,7 @@ pub returns-then-is_wrong-clause-goes : goal.returns-then-is_wrong-clause-goes
 returns-then-is_wrong-clause-goes c =
     let told = on-ok c.told_numbers.result (IsTold director_calls c.args.director.now (shown_node c.note_numbers.new.self) c.args.number (map Int c.args.given.now ∷ []) c.told_numbers.new.director) (sym c.is_err-2.ensures.value ∙ c.if-is_err-2.false) c.told_numbers.ensures.told in
     tell-refused director_calls c.args.director.now c.told_numbers.new.director (shown_node c.args.child.now) (shown_node c.note_numbers.new.self) c.args.number c.args.tag (map Int c.args.given.now ∷ []) c.refusal-refusal.result c.refuse.result
-    (refused-if-told director_calls acts-law.lawful.agree c.args.director.now c.told_numbers.new.director (shown_node c.note_numbers.new.self) c.args.number (map Int c.args.given.now ∷ []) c.requires.asked told c.is_wrong.result c.is_wrong.ensures c.if-is_wrong.true) c.refusal-refusal.ensures c.note_numbers.ensures.kept c.refuse.ensures
+    (refused-if-told director_calls acts-law.agree c.args.director.now c.told_numbers.new.director (shown_node c.note_numbers.new.self) c.args.number (map Int c.args.given.now ∷ []) c.requires.asked told c.is_wrong.result c.is_wrong.ensures c.if-is_wrong.true) c.refusal-refusal.ensures c.note_numbers.ensures.kept c.refuse.ensures
 
 pub returns-then-is_wrong-clause-spends : goal.returns-then-is_wrong-clause-spends
 returns-then-is_wrong-clause-spends c = refused-spends (shown_node c.note_numbers.new.self) c.refusal-refusal.result c.refuse.result c.args.left.now c.args.left.now c.refuse.ensures
@@ -49,7 +49,7 @@ returns-then-is_wrong-clause-outline c = outline_bare (shown_node c.note_numbers
 pub returns-clause-goes : goal.returns-clause-goes
 returns-clause-goes c =
     let told = on-ok c.told_numbers.result (IsTold director_calls c.args.director.now (shown_node c.note_numbers.new.self) c.args.number (map Int c.args.given.now ∷ []) c.told_numbers.new.director) (sym c.is_err-2.ensures.value ∙ c.if-is_err-2.false) c.told_numbers.ensures.told in (
-      accepted-if-told director_calls acts-law.lawful.agree c.args.director.now c.told_numbers.new.director (shown_node c.note_numbers.new.self) c.args.number (map Int c.args.given.now ∷ []) c.requires.asked told c.is_wrong.result c.is_wrong.ensures c.if-is_wrong.false,
+      accepted-if-told director_calls acts-law.agree c.args.director.now c.told_numbers.new.director (shown_node c.note_numbers.new.self) c.args.number (map Int c.args.given.now ∷ []) c.requires.asked told c.is_wrong.result c.is_wrong.ensures c.if-is_wrong.false,
       told c.args.tag ∙ ap (λ v. director_calls.told c.args.number (map Int c.args.given.now ∷ []) (next_of rows (node_of v)) (need_of rows (node_of v)) c.args.director.now) (sym c.record.ensures),
       c.record.ensures ∙ ap (λ s. recorded c.args.tag s) (if-ok c.note_numbers.result (shown_node c.note_numbers.new.self ≡ noted c.args.tag (map Int c.args.given.now ∷ []) (shown_node c.args.child.now)) (sym c.is_err.ensures.value ∙ c.if-is_err.false) c.note_numbers.ensures.noted),
     )
@@ -61,7 +61,7 @@ pub returns-then-is_err-2-clause-maximum : goal.returns-then-is_err-2-clause-max
 returns-then-is_err-2-clause-maximum c = ap (λ v. director_calls.maximum v) (on-err c.told_numbers.result (c.told_numbers.new.director ≡ c.args.director.now) (sym c.is_err-2.ensures.value ∙ c.if-is_err-2.true) c.told_numbers.ensures.kept)
 
 pub returns-then-is_wrong-clause-maximum : goal.returns-then-is_wrong-clause-maximum
-returns-then-is_wrong-clause-maximum c = maximum-if-told director_calls acts-law.lawful.agree c.args.director.now c.told_numbers.new.director (shown_node c.note_numbers.new.self) c.args.number (map Int c.args.given.now ∷ []) c.requires.asked (on-ok c.told_numbers.result (IsTold director_calls c.args.director.now (shown_node c.note_numbers.new.self) c.args.number (map Int c.args.given.now ∷ []) c.told_numbers.new.director) (sym c.is_err-2.ensures.value ∙ c.if-is_err-2.false) c.told_numbers.ensures.told)
+returns-then-is_wrong-clause-maximum c = maximum-if-told director_calls acts-law.agree c.args.director.now c.told_numbers.new.director (shown_node c.note_numbers.new.self) c.args.number (map Int c.args.given.now ∷ []) c.requires.asked (on-ok c.told_numbers.result (IsTold director_calls c.args.director.now (shown_node c.note_numbers.new.self) c.args.number (map Int c.args.given.now ∷ []) c.told_numbers.new.director) (sym c.is_err-2.ensures.value ∙ c.if-is_err-2.false) c.told_numbers.ensures.told)
 
 pub returns-clause-maximum : goal.returns-clause-maximum
-returns-clause-maximum c = maximum-if-told director_calls acts-law.lawful.agree c.args.director.now c.told_numbers.new.director (shown_node c.note_numbers.new.self) c.args.number (map Int c.args.given.now ∷ []) c.requires.asked (on-ok c.told_numbers.result (IsTold director_calls c.args.director.now (shown_node c.note_numbers.new.self) c.args.number (map Int c.args.given.now ∷ []) c.told_numbers.new.director) (sym c.is_err-2.ensures.value ∙ c.if-is_err-2.false) c.told_numbers.ensures.told)
+returns-clause-maximum c = maximum-if-told director_calls acts-law.agree c.args.director.now c.told_numbers.new.director (shown_node c.note_numbers.new.self) c.args.number (map Int c.args.given.now ∷ []) c.requires.asked (on-ok c.told_numbers.result (IsTold director_calls c.args.director.now (shown_node c.note_numbers.new.self) c.args.number (map Int c.args.given.now ∷ []) c.told_numbers.new.director) (sym c.is_err-2.ensures.value ∙ c.if-is_err-2.false) c.told_numbers.ensures.told)

@@ -8,4 +8,4 @@ pub ask-asked-requires : goal.ask-asked-requires
 ask-asked-requires c = may-ask acts acts-law c.requires.1.at
 
 pub returns : goal.returns
-returns c before olds tag X allowance a = once-asked acts acts-law a c.ask-asked.result c.ask-asked.new.self c.ask-asked.ensures.gives c.ask-asked.ensures.state
+returns c before olds tag X allowance own a = once-asked acts acts-law a c.ask-asked.result c.ask-asked.new.self c.ask-asked.ensures.gives c.ask-asked.ensures.state
