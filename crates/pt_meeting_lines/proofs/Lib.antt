@@ -1,0 +1,4 @@
+pub mod Paths
+pub mod Telling
+pub mod Firings
+pub mod ExampleLaws

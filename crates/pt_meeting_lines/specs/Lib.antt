@@ -1,0 +1,4 @@
+pub mod Tells
+pub mod Lines
+pub mod Inside
+pub mod Examples
