@@ -1,0 +1,5 @@
+pub mod Scenes
+pub mod Own
+pub mod Firings
+pub mod There
+pub mod Meanings
