@@ -7,7 +7,7 @@ use Rattle.pt_chart.specs.Views.{machine_of}
 use Rattle.pt_stated.specs.declared.stated.Stated.{Stated}
 use Rattle.pt_trees.specs.declared.wiring.Wiring.{Wiring}
 
--- Where the channels of a composite begin, how many places each child has, how many own ports there are, what it states of its channels and of its ports where it is a process network,
+-- Where the channels of a composite begin, how many places each child has, how many own ports there are, what it states of its ports and of its channels where its children are processes,
 -- how many tokens a firing of each child is to give on each of its outputs, where that is declared, and its machine, where it is a Modal entity.
 pub record Around : Type 0 where
   pub sources : List net.Source
@@ -25,7 +25,7 @@ around_of w = record { sources = map source_of w.sources.items; places = w.place
 abbrev pub ones_of : Machine → List ℕ
 ones_of m = replicate (length m.names.outputs) 1
 
--- how many tokens a firing of an entity is to give: of a process network what it states, one on each output of a Modal entity, and of others nothing is declared
+-- how many tokens a firing of an entity is to give: of a composite of processes what it states, one on each output of a Modal entity, and of others nothing is declared
 abbrev pub declared_as : Option Stated → Option Machine → Option (List ℕ)
 declared_as (Some stated) machine = Some stated.gives
 declared_as None machine = option_map ones_of machine

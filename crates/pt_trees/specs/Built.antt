@@ -24,7 +24,7 @@ use Rattle.pt_trees.specs.declared.composite_fault.CompositeFault.TheVariants as
 
 -- the node of a library actor that has not fired
 abbrev pub held_node : Held → (path : List ℕ) → List RecordedPort → Shown
-held_node held path records = Branch (record { past = tree.unfired; body = body.Actor held; records = records; path = path; labels = []; live = true }) none
+held_node held path records = Branch (record { past = tree.unfired; body = body.Actor held; records = records; path = path; labels = []; meetings = None; live = true }) none
 
 -- a node of a library actor, as it starts
 abbrev pub actor_node : LibraryActor → (path : List ℕ) → List RecordedPort → Shown
@@ -59,7 +59,7 @@ pub record IsRefused (net : Net) (starts : Starts) (r : Refusal) : Type 0 where
   pub refused : (composing director).IsRefused (around_in net starts number entity) (trees_of kids) r.code
   pub path_is : r.path ≡ entity.path
 
--- What isn't built: an entity that is neither a library actor nor a composite with a director; a library actor without a start; a composite that doesn't fit its director, or whose director isn't built yet;
+-- What isn't built: an entity that is neither a library actor nor a composite with a director; a library actor without a start; a composite that doesn't fit its director;
 -- a net whose top isn't there, or that is nested deeper than documents are.
 pub data IsUnbuilt (net : Net) (starts : Starts) : Type 0 where
   absent : ((e : NetEntity) → IsEntity net 0 e → ⊥) → IsUnbuilt net starts

@@ -1,7 +1,8 @@
 -- A composite that is built from its children, by its director.
-use Rattle.std.specs.Prelude.{◌≡◌, ℕ, List, map}
+use Rattle.std.specs.Prelude.{◌≡◌, ℕ, List, map, Option}
 use Rattle.pt_meaning.specs.Tree as tree
 use Rattle.pt_value.specs.declared.token.Token.{Token}
+use Rattle.pt_records.specs.Kept.{Made}
 use Rattle.pt_node.specs.declared.body.Body.{Body}
 use Rattle.pt_node.specs.Recorded.{RecordedPort}
 use Rattle.pt_node.specs.Shown.{Shown, Branch, Frame, list_of}
@@ -26,8 +27,8 @@ frame_in (Branch f ks) = f
 abbrev pub children_in : Shown → List Shown
 children_in (Branch f ks) = list_of ks
 
--- The node is a fresh composite with a core of this kind, such depths and this maximum capacity round these children, under its path, with its recorded outputs and with its channels told so.
-pub record IsRound (IsCore : tree.Core Token → Type 0) (HasDepths : Body → Type 0) (maximum : ℕ) (kids : List Shown) (path : List ℕ) (records : List RecordedPort) (labels : List (List ℕ)) (s : Shown) : Type 0 where
+-- The node is a fresh composite with a core of this kind, such depths, this maximum capacity and this record of meetings round these children, under its path, with its recorded outputs and with its channels told so.
+pub record IsRound (IsCore : tree.Core Token → Type 0) (HasDepths : Body → Type 0) (maximum : ℕ) (meetings : Option Made) (kids : List Shown) (path : List ℕ) (records : List RecordedPort) (labels : List (List ℕ)) (s : Shown) : Type 0 where
   pub core : tree.Core Token
   pub is_core : IsCore core
   pub depths : HasDepths (frame_in s).body
@@ -37,11 +38,12 @@ pub record IsRound (IsCore : tree.Core Token → Type 0) (HasDepths : Body → T
   pub path_is : (frame_in s).path ≡ path
   pub records_are : (frame_in s).records ≡ records
   pub labels_are : (frame_in s).labels ≡ labels
+  pub meetings_are : (frame_in s).meetings ≡ meetings
   pub fresh : IsFresh s
 
 -- the node is the composite that a director makes with this wiring round these children
 abbrev pub IsComposed : Composing → Around → List Shown → (path : List ℕ) → List RecordedPort → (labels : List (List ℕ)) → Shown → Type 0
-IsComposed how around kids path records labels s = IsRound (how.IsCore around (trees_of kids)) (PlansDepths around (trees_of kids)) (how.maximum around) kids path records labels s
+IsComposed how around kids path records labels s = IsRound (how.IsCore around (trees_of kids)) (PlansDepths around (trees_of kids)) (how.maximum around) how.meetings kids path records labels s
 
 abbrev pub IsComposite : Directing → Around → List Shown → (path : List ℕ) → List RecordedPort → (labels : List (List ℕ)) → Shown → Type 0
 IsComposite director around kids path records labels s = IsComposed (composing director) around kids path records labels s

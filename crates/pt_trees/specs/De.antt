@@ -103,4 +103,4 @@ pub record IsDeRefused (around : Around) (kids : List Tree) (code : Code) : Type
   pub is : code ≡ ZeroDelayLoop
 
 abbrev pub de : Composing
-de = record { IsCore = IsDeCore; IsMisfit = λ around kids. IsDeWired around kids → ⊥; IsRefused = IsDeRefused; maximum = λ around. 0 }
+de = record { IsCore = IsDeCore; IsMisfit = λ around kids. IsDeWired around kids → ⊥; IsRefused = IsDeRefused; maximum = λ around. 0; meetings = None }

@@ -7,10 +7,11 @@ use Rattle.pt_net.specs.declared.net.NetDirector.{NetDirector}
 use Rattle.pt_net.specs.declared.net.NetEntity.{NetEntity}
 use Rattle.pt_trees.specs.declared.directing.Directing.{Directing}
 use Rattle.pt_trees.specs.declared.directing.Directing.TheVariants.{By, Modal}
-use Rattle.pt_trees.specs.Composing.{Composing, unbuilt}
+use Rattle.pt_trees.specs.Composing.{Composing}
 use Rattle.pt_trees.specs.De.{de}
 use Rattle.pt_trees.specs.Modal.{modal}
 use Rattle.pt_trees.specs.Pn.{pn}
+use Rattle.pt_trees.specs.Rendezvous.{rendezvous}
 use Rattle.pt_trees.specs.Sdf.{sdf}
 use Rattle.pt_trees.specs.Sr.{sr}
 
@@ -37,5 +38,5 @@ composing (By Sdf) = sdf
 composing (By Sr) = sr
 composing (By De) = de
 composing (By Pn) = pn
-composing (By Rendezvous) = unbuilt
+composing (By Rendezvous) = rendezvous
 composing Modal = modal

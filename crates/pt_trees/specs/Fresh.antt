@@ -1,8 +1,9 @@
--- A node as it was built: it may fire, nothing has fired yet, and nothing is recorded.
-use Rattle.std.specs.Prelude.{◌≡◌, List, [], ◌∷◌, true}
+-- A node as it was built: it may fire, nothing has fired yet, and nothing is recorded, neither outputs nor meetings.
+use Rattle.std.specs.Prelude.{◌≡◌, List, [], ◌∷◌, true, Option, Some, None}
 use Rattle.pt_meaning.specs.Start.{IsAtStart}
 use Rattle.pt_laws.specs.Heights.{IsFitting}
 use Rattle.pt_laws.specs.StartedRuns.{ArePlans}
+use Rattle.pt_records.specs.Kept.{Made}
 use Rattle.pt_library.specs.LibraryActor.{rows}
 use Rattle.pt_node.specs.Recorded.{RecordedPort}
 use Rattle.pt_node.specs.Shown.{Shown, AllShown, Branch, none, more}
@@ -14,10 +15,15 @@ abbrev pub AreEmpty : List RecordedPort → Type 0
 AreEmpty [] = Unit {0}
 AreEmpty (r ∷ rs) = (r.trace ≡ []) × (r.noted ≡ []) × AreEmpty rs
 
--- nor of any output of a node within
+-- no meeting is recorded
+abbrev pub IsBlank : Option Made → Type 0
+IsBlank None = Unit {0}
+IsBlank (Some made) = made ≡ []
+
+-- nothing is recorded of a node, nor of any within it
 abbrev mutual
   pub IsUnrecorded : Shown → Type 0
-  IsUnrecorded (Branch f ks) = AreEmpty f.records × AllUnrecorded ks
+  IsUnrecorded (Branch f ks) = AreEmpty f.records × IsBlank f.meetings × AllUnrecorded ks
 
   pub AllUnrecorded : AllShown → Type 0
   AllUnrecorded none = Unit {0}

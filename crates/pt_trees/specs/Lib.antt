@@ -6,6 +6,7 @@ pub mod Sr
 pub mod De
 pub mod Pn
 pub mod Modal
+pub mod Rendezvous
 pub mod Directors
 pub mod Fresh
 pub mod Composite

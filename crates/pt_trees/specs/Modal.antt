@@ -81,4 +81,4 @@ pub record IsModalCore (around : Around) (kids : List Tree) (core : tree.Core To
 
 -- no Modal entity is refused, and it has no channels
 abbrev pub modal : Composing
-modal = record { IsCore = IsModalCore; IsMisfit = λ around kids. IsModalWired around kids → ⊥; IsRefused = λ around kids code. ⊥; maximum = λ around. 0 }
+modal = record { IsCore = IsModalCore; IsMisfit = λ around kids. IsModalWired around kids → ⊥; IsRefused = λ around kids code. ⊥; maximum = λ around. 0; meetings = None }

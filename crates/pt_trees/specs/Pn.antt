@@ -6,6 +6,7 @@ use Rattle.pt_meaning.specs.Tree as tree
 use Rattle.pt_value.specs.declared.token.Token.{Token}
 use Rattle.pt_library.specs.LibraryActor.{rows}
 use Rattle.pt_node.specs.View.{Tree}
+use Rattle.pt_stated.specs.declared.capacities.Capacities.{Capacities}
 use Rattle.pt_stated.specs.declared.stated.Stated.{Stated}
 use Rattle.pt_trees.specs.Around.{Around}
 use Rattle.pt_trees.specs.Composing.{Composing}
@@ -15,10 +16,12 @@ use Rattle.pt_trees.specs.Sr.{IsWired}
 abbrev pub pn_plan : Around → Stated → PnPlan
 pn_plan around stated = record { net = record { sources = around.sources; places = around.places }; takes = stated.takes }
 
--- What is stated is lawful for so many own ports: a channel holds a token at first, and not more than at most; and each port has a number.
+-- What is stated is lawful for so many own ports: there are capacities, a channel holds a token at first, and not more than at most; and each port has a number.
 pub record IsStatedFor (inputs outputs : ℕ) (stated : Stated) : Type 0 where
-  pub holds : 0 < stated.initial
-  pub grows : stated.initial ≤ stated.maximum
+  pub capacities : Capacities
+  pub are : stated.capacities ≡ Some capacities
+  pub holds : 0 < capacities.initial
+  pub grows : capacities.initial ≤ capacities.maximum
   pub takes : length stated.takes ≡ inputs
   pub gives : length stated.gives ≡ outputs
 
@@ -40,10 +43,14 @@ pub record IsPnCore (around : Around) (kids : List Tree) (core : tree.Core Token
   pub is : core ≡ tree.Pn (pn_plan around wired.stated) (first_held rows kids around.sources)
 
 -- the most that a channel may hold, as it is stated
+abbrev pub most_of : Option Capacities → ℕ
+most_of None = 0
+most_of (Some capacities) = capacities.maximum
+
 abbrev pub most_stated : Option Stated → ℕ
 most_stated None = 0
-most_stated (Some stated) = stated.maximum
+most_stated (Some stated) = most_of stated.capacities
 
 -- no composite of PN is refused
 abbrev pub pn : Composing
-pn = record { IsCore = IsPnCore; IsMisfit = λ around kids. IsPnWired around kids → ⊥; IsRefused = λ around kids code. ⊥; maximum = λ around. most_stated around.stated }
+pn = record { IsCore = IsPnCore; IsMisfit = λ around kids. IsPnWired around kids → ⊥; IsRefused = λ around kids code. ⊥; maximum = λ around. most_stated around.stated; meetings = None }

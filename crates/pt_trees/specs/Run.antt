@@ -4,11 +4,10 @@ use Rattle.pt_meaning.specs.Asked.{IsJamOf}
 use Rattle.pt_meaning.specs.Basics.{Path, Log}
 use Rattle.pt_meaning.specs.Machine.{Fault}
 use Rattle.pt_meaning.specs.Job as job
-use Rattle.pt_meaning.specs.Job.{Schedule, IsStuckPlace, meaning}
+use Rattle.pt_meaning.specs.Job.{Schedule, AreLegal, IsStuckPlace, meaning}
 use Rattle.pt_meaning.specs.Schedule.{schedule_of}
 use Rattle.pt_meaning.specs.Headline.{Ending, Defined, Faulty, Spent, Queued, IsReportOf, count_in}
 use Rattle.pt_meaning.specs.Meetings.{Meets}
-use Rattle.pt_meaning.specs.Step.{no_meetings}
 use Rattle.pt_value.specs.declared.token.Token.{Token}
 use Rattle.pt_library.specs.declared.library_actor.LibraryActor.{LibraryActor}
 use Rattle.pt_library.specs.LibraryActor.{rows}
@@ -60,8 +59,8 @@ IsDefined (ended.Fault place) = ⊥
 IsDefined (ended.Full blocked) = ⊥
 IsDefined (ended.Spent firings) = ⊥
 
--- The meaning has no stuck place and no jam, by the maximum capacities of the tree, and stays below the budget at every fuel. The top has no Rendezvous within, and so no meetings.
+-- Under every legal list of meetings the meaning has no stuck place and no jam, by the maximum capacities of the tree, and stays below the budget at every fuel.
 pub record IsAffordable (j : Top) (budget : ℕ) (top : Shown) : Type 0 where
-  pub never_stuck : (f : Fault) → IsStuckPlace rows no_meetings (schedule j) (node_of top) f → ⊥
-  pub never_jammed : (l : Log Token) (p : Path) (full : List (ℕ × ℕ)) → IsJamOf rows no_meetings (schedule j) (node_of top) (maxima_of top) l p full → ⊥
-  pub within_budget : (k : ℕ) → count_in (meaning k rows no_meetings (schedule j) (node_of top)) (node_of top) < budget
+  pub never_stuck : (m : Meets) → AreLegal rows m (schedule j) (node_of top) → (f : Fault) → IsStuckPlace rows m (schedule j) (node_of top) f → ⊥
+  pub never_jammed : (m : Meets) → AreLegal rows m (schedule j) (node_of top) → (l : Log Token) (p : Path) (full : List (ℕ × ℕ)) → IsJamOf rows m (schedule j) (node_of top) (maxima_of top) l p full → ⊥
+  pub within_budget : (m : Meets) → AreLegal rows m (schedule j) (node_of top) → (k : ℕ) → count_in (meaning k rows m (schedule j) (node_of top)) (node_of top) < budget

@@ -70,4 +70,4 @@ pub record IsUnplanned (around : Around) (kids : List Tree) (c : Code) : Type 0 
   pub code_is : IsCodeOf fault c
 
 abbrev pub sdf : Composing
-sdf = record { IsCore = IsSdfCore; IsMisfit = IsUnplannable; IsRefused = IsUnplanned; maximum = λ around. 0 }
+sdf = record { IsCore = IsSdfCore; IsMisfit = IsUnplannable; IsRefused = IsUnplanned; maximum = λ around. 0; meetings = None }

@@ -1,5 +1,5 @@
 -- Composites of SR: the net of the wiring, round children of any kind.
-use Rattle.std.specs.Prelude.{◌≡◌, ℕ, ◌+◌, ◌^◌, ◌<◌, List, length, Bool, true, false}
+use Rattle.std.specs.Prelude.{◌≡◌, ℕ, ◌+◌, ◌^◌, ◌<◌, List, length, Bool, true, false, None}
 use Rattle.pt_meaning.specs.NodeFacts.{facts_of}
 use Rattle.pt_meaning.specs.Running.{total}
 use Rattle.pt_meaning.specs.Valuation.{TickPlan}
@@ -38,4 +38,4 @@ pub record IsSrCore (around : Around) (kids : List Tree) (core : tree.Core Token
 
 -- no composite of SR is refused
 abbrev pub sr : Composing
-sr = record { IsCore = IsSrCore; IsMisfit = λ around kids. IsWired around kids → ⊥; IsRefused = λ around kids code. ⊥; maximum = λ around. 0 }
+sr = record { IsCore = IsSrCore; IsMisfit = λ around kids. IsWired around kids → ⊥; IsRefused = λ around kids code. ⊥; maximum = λ around. 0; meetings = None }

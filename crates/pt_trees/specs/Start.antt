@@ -11,6 +11,7 @@ use Rattle.pt_node.specs.View.{node_of}
 use Rattle.pt_node.specs.Live.{IsLive}
 use Rattle.pt_node.specs.Recorded.{RecordedPort}
 use Rattle.pt_trees.specs.declared.top.Top.{Top}
+use Rattle.pt_trees.specs.Fresh.{IsBlank}
 use Rattle.pt_trees.specs.Top.{IsJobFor}
 
 -- a library actor has no children
@@ -32,9 +33,10 @@ abbrev pub AreUntold : List RecordedPort → Type 0
 AreUntold [] = Unit {0}
 AreUntold (r ∷ rs) = (r.trace ≡ []) × AreUntold rs
 
+-- nor any meeting of a node of it
 abbrev mutual
   pub IsUnrecorded : Shown → Type 0
-  IsUnrecorded (Branch f ks) = AreUntold f.records × AllUnrecorded ks
+  IsUnrecorded (Branch f ks) = AreUntold f.records × IsBlank f.meetings × AllUnrecorded ks
 
   pub AllUnrecorded : AllShown → Type 0
   AllUnrecorded none = Unit {0}

@@ -65,7 +65,7 @@ OnceFits j (tree.Sdf p X) = ⊥
 OnceFits j (tree.Pn p X) = length j.inputs.items ≡ length p.takes
 OnceFits j (tree.Sr p) = ⊥
 OnceFits j (tree.De p) = ⊥
-OnceFits j (tree.Rv p X) = ⊥
+OnceFits j (tree.Rv p X) = length j.inputs.items ≡ length p.takes
 OnceFits j (tree.Modal chart m) = ⊥
 
 abbrev pub FitsCore : Top → tree.Core Token → Type 0

@@ -40,7 +40,7 @@ pub record IsDirected (e : NetEntity) : Type 0 where
 
 -- ---- what a net starts with
 
--- Which actor each entity starts as, what each states of its channels and of its ports, where it is a process network, and the machine of each, where it is a Modal entity.
+-- Which actor each entity starts as, what each states of its ports and of its channels, where its children are processes, and the machine of each, where it is a Modal entity.
 pub record Starts : Type 0 where
   pub actors : List (Option LibraryActor)
   pub stated : List (Option Stated)
@@ -62,7 +62,7 @@ stated_at starts k = get_or starts.stated k None
 abbrev pub machine_at : Starts → ℕ → Option Machine
 machine_at starts k = get_or starts.machines k None
 
--- how many tokens a firing of it is to give on each of its outputs: where it is a process network as it states, and one where it is a Modal entity
+-- how many tokens a firing of it is to give on each of its outputs: where its children are processes as it states, and one where it is a Modal entity
 abbrev pub declared_by : Starts → ℕ → Option (List ℕ)
 declared_by starts k = declared_as (stated_at starts k) (machine_at starts k)
 

@@ -25,7 +25,7 @@ pub struct DeJob {
     pub inputs: Vec<Vec<(Tag, Token)>>,
 }
 
-/// What a job asks of a PN top, which fires once: all tokens of each own input.
+/// What a job asks of a top of PN or Rendezvous, which fires once: all tokens of each own input.
 #[derive(Drop)]
 pub struct OnceJob {
     pub inputs: Vec<Tokens>,

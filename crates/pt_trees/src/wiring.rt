@@ -12,10 +12,10 @@ pub struct Wiring {
     pub places: Counts,
     pub inputs: u32,
     pub outputs: u32,
-    /// What it states of its channels and of its ports, where it is a process network.
+    /// What it states of its ports and of its channels, where its children are processes.
     pub stated: Option<Stated>,
-    /// How many tokens a firing of each child is to give on each of its outputs, where the child is a process network or a
-    /// Modal entity.
+    /// How many tokens a firing of each child is to give on each of its outputs, where the child is a composite of processes or
+    /// a Modal entity.
     pub declared: Vec<Option<Counts>>,
     /// Its machine as it is written, where it is a Modal entity.
     pub machine: Option<Written>,
