@@ -1,70 +1,28 @@
--- What a child needs, whatever it fires: counts, or nothing more. No library actor waits for a token at any one place.
-use Rattle.std.proofs.Common.{◌≡◌, ℕ, Bool, true, false, Option, Some, None, refl, sym, ap, subst, ◌∙◌}
-use Rattle.pt_meaning.specs.Machine.{Need}
+-- What a child needs, whatever it fires: counts, or nothing more, unless it waits for a token at any one place from its start on.
+use Rattle.std.proofs.Common.{◌≡◌, refl, sym, ap, subst, ◌∙◌}
+use Rattle.pt_meaning.specs.Machine.{Need, Over, Counts, Any}
 use Rattle.pt_meaning.specs.NodeFacts.{core_need, need_of}
 use Rattle.pt_meaning.specs.Start.{IsAtStart}
 use Rattle.pt_meaning.specs.Tree.{Core, Sdf, Pn, Sr, De, Rv, Modal, Actor, Composite, reset_of}
-use Rattle.pt_value.specs.Value.{Value}
 use Rattle.pt_value.specs.declared.token.Token.{Token}
 use Rattle.pt_core.specs.Reached.{Always}
 use Rattle.pt_core.proofs.ReachedLaws as reached
 use Rattle.pt_process.specs.Process.{IsKept}
-use Rattle.pt_flow_base.specs.Limit.{is_over, source_need}
-use Rattle.pt_flow_streams.specs.declared.boolean_select.Turn.{Turn}
-use Rattle.pt_flow_streams.specs.declared.boolean_select.Turn.TheVariants.{Control, Input}
-use Rattle.pt_flow_streams.specs.BooleanSelect as boolean_select
-use Rattle.pt_flow_streams.specs.Sequence as sequence
-use Rattle.pt_lib_flow.specs.declared.flow_actor.FlowActor.{FlowActor}
-use Rattle.pt_lib_flow.specs.declared.flow_actor.FlowActor.TheVariants.{AbsoluteValue, Accumulator, AddSubtract, BooleanSelect, BooleanSwitch, Const, Counter, DownSample, Expression, Extreme, MultiplyDivide, Ramp, Repeat, SampleDelay, Scale, Sequence, UpSample}
-use Rattle.pt_lib_flow.specs.FlowActor as flow_actor
-use Rattle.pt_lib_time.proofs.Giving as time_laws
-use Rattle.pt_lib_timed.proofs.Staying as timed_laws
-use Rattle.pt_library.specs.declared.library_actor.LibraryActor.{LibraryActor}
-use Rattle.pt_library.specs.declared.library_actor.LibraryActor.TheVariants.{Flow, Data, Time, Timed}
 use Rattle.pt_library.specs.LibraryActor as library
 use Rattle.pt_library.specs.LibraryActor.{rows}
+use Rattle.pt_library.proofs.AnyLaws.{keeps-any}
 use Rattle.pt_node.specs.View.{Tree}
 use Rattle.pt_trees.proofs.ChildLaws.{actor-always}
 
 -- ---- library actors
 
-by-limit : (over : Bool) (places : ℕ) → IsKept (source_need over places)
-by-limit true places = tt
-by-limit false places = tt
+kept-unless : (n : Need) → (n ≡ Any → ⊥) → IsKept n
+kept-unless Over never = tt
+kept-unless (Counts ns) never = tt
+kept-unless Any never = absurd (never refl)
 
-by-value : (places : ℕ) (o : Option Value) → IsKept (sequence.need_by places o)
-by-value places None = tt
-by-value places (Some value) = tt
-
-by-turn : (turn : Turn) → IsKept (boolean_select.need turn)
-by-turn Control = tt
-by-turn (Input true) = tt
-by-turn (Input false) = tt
-
-flow-kept : (a : FlowActor) → IsKept (flow_actor.need a)
-flow-kept (AbsoluteValue a) = tt
-flow-kept (Accumulator a) = tt
-flow-kept (AddSubtract a) = tt
-flow-kept (BooleanSelect a) = by-turn a
-flow-kept (BooleanSwitch a) = tt
-flow-kept (Const a) = by-limit (is_over a.limit) a.places
-flow-kept (Counter a) = tt
-flow-kept (DownSample a) = tt
-flow-kept (Expression a) = tt
-flow-kept (Extreme a) = tt
-flow-kept (MultiplyDivide a) = tt
-flow-kept (Ramp a) = by-limit (is_over a.limit) a.places
-flow-kept (Repeat a) = tt
-flow-kept (SampleDelay a) = tt
-flow-kept (Scale a) = tt
-flow-kept (Sequence a) = by-value a.places (sequence.due a)
-flow-kept (UpSample a) = tt
-
-actor-kept : (a : LibraryActor) → IsKept (library.need a)
-actor-kept (Flow a) = flow-kept a
-actor-kept (Data a) = tt
-actor-kept (Time a) = subst (λ (n : Need). IsKept n) (sym (time_laws.needs-one a)) tt
-actor-kept (Timed a) = subst (λ (n : Need). IsKept n) (sym (timed_laws.needs-one a)) tt
+not-any : (n : Need) → IsKept n → n ≡ Any → ⊥
+not-any n kept e = subst (λ (m : Need). IsKept m) e kept
 
 -- ---- nodes
 
@@ -76,9 +34,16 @@ core-kept (De p) = tt
 core-kept (Rv p X) = tt
 core-kept (Modal chart m) = tt
 
-pub node-kept : (node : Tree) → IsKept (need_of rows node)
-node-kept (Actor h a b) = actor-kept b
-node-kept (Composite h c d kids) = core-kept d
+-- a child that doesn't wait for a token at any one place at its start never does
+pub kept-stays : (kid : Tree) → IsAtStart rows kid → IsKept (need_of rows kid) → Always rows (λ node. IsKept (need_of rows node)) kid
+kept-stays (Actor h a b) start kept =
+    actor-always h a b start.1 (λ node. IsKept (need_of rows node)) (λ fs past c g. kept-unless (library.need c) (λ any. not-any (library.need b) kept (ap library.need start.1 ∙ (keeps-any a fs c g).0 any)))
+kept-stays (Composite h c d kids) start kept = λ later t. subst (λ (n : Need). IsKept n) (sym (reached.composite-steady rows h c d kids (ap core_need (sym start.1)) later t)) (core-kept d)
+
+-- one that does so at its start always does
+pub any-stays : (kid : Tree) → IsAtStart rows kid → need_of rows kid ≡ Any → Always rows (λ node. need_of rows node ≡ Any) kid
+any-stays (Actor h a b) start is = actor-always h a b start.1 (λ node. need_of rows node ≡ Any) (λ fs past c g. (keeps-any a fs c g).1 (ap library.need (sym start.1) ∙ is))
+any-stays (Composite h c d kids) start is = λ later t. reached.composite-steady rows h c d kids (ap core_need (sym start.1)) later t ∙ is
 
 -- brought back to its start, a child needs what it needs there, whatever it fired
 pub needs-again : (kid : Tree) → IsAtStart rows kid → Always rows (λ node. need_of rows (reset_of node) ≡ need_of rows kid) kid

@@ -10,7 +10,7 @@ use Rattle.pt_meaning.specs.Start.{first_of, first_held}
 use Rattle.pt_value.specs.declared.token.Token.{Token}
 use Rattle.pt_core.specs.declared.source.Source.{Source}
 use Rattle.pt_core.specs.Source.{source_of}
-use Rattle.pt_process.specs.Process.{need_in}
+use Rattle.pt_process.specs.Process.{need_in, IsKept}
 use Rattle.pt_library.specs.LibraryActor.{rows}
 use Rattle.pt_node.specs.declared.node.Node.{Node}
 use Rattle.pt_node.specs.Shown.{shown_node}
@@ -19,6 +19,7 @@ use Rattle.pt_node.specs.View.{Tree, node_of}
 use Rattle.pt_trees.specs.Sdf.{first_counts}
 use Rattle.pt_trees.specs.Around.{Around, declared_at}
 use Rattle.pt_trees.specs.Rates.{rates_given, all_given, HaveRates, is_steady, AreSteady, HasUnsteady, IsStarted, AllStarted}
+use Rattle.pt_inside.specs.Kept.{AreKept}
 use Rattle.pt_inside.specs.Nonstrict.{is_nonstrict}
 use Rattle.pt_inside.proofs.HeldLaws.{held_to, held-append, held-empty, held-more}
 use Rattle.pt_trees.proofs.NodeLaws.{trees, trees-length, trees-more, tree-at, map-append}
@@ -128,6 +129,10 @@ held-step kids sources n d L new ts h e f g =
 pub flags-more : (kids : List Node) (i : ℕ) (d : Node) (flags : List Bool) (flag : Bool) → i < length kids → d ≡ get_or kids i d → flags ≡ map is_nonstrict (trees (take i kids)) → flag ≡ is_nonstrict (node_of (shown_node d)) → flags ++ flag ∷ [] ≡ map is_nonstrict (trees (take (i + 1) kids))
 flags-more kids i d flags flag h is e f =
     ap₂ (λ (v : List Bool) (w : Bool). v ++ w ∷ []) e f ∙ sym (map-append is_nonstrict (trees (take i kids)) (node_of (shown_node d) ∷ [])) ∙ ap (λ v. map is_nonstrict v) (sym (trees-more kids i d h is))
+
+-- a child among others of which none waits for a token at any one place
+pub kept-at : (kids : List Node) (i : ℕ) (d : Node) → i < length kids → d ≡ get_or kids i d → AreKept (trees kids) → IsKept (need_of rows (node_of (shown_node d)))
+kept-at kids i d h is all = all i (node_of (shown_node d)) (tree-at kids i d h is)
 
 -- what one child more needs now
 pub starts-more : (kids : List Node) (i : ℕ) (d : Node) (starts : List (Option (List ℕ))) (start : Option (List ℕ)) → i < length kids → d ≡ get_or kids i d → map need_in starts ≡ map (need_of rows) (trees (take i kids)) → need_in start ≡ need_of rows (node_of (shown_node d)) →

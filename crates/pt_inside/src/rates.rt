@@ -30,7 +30,12 @@ fn node_rates(alloc: Global, node: &Node) -> Result<Option<Counts>, AllocError>
         }
         Body::Composite(Either::Other(Either::Other(Either::First(_)))) => Ok(None),
         Body::Composite(Either::Other(Either::Other(Either::Other(Either::First(_))))) => Ok(None),
-        Body::Composite(Either::Other(Either::Other(Either::Other(Either::Other(_))))) => Ok(None),
+        Body::Composite(
+            Either::Other(Either::Other(Either::Other(Either::Other(Either::First(_))))),
+        ) => Ok(None),
+        Body::Composite(
+            Either::Other(Either::Other(Either::Other(Either::Other(Either::Other(_))))),
+        ) => Ok(None),
     }
 }
 

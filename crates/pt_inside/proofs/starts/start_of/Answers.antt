@@ -3,10 +3,7 @@ use Rattle.pt_meaning.specs.Machine as machine
 use Rattle.pt_firing.specs.declared.need.Need.{Need}
 use Rattle.pt_firing.specs.Need.{need_of}
 use Rattle.pt_process.specs.Process.{IsKept}
-use Rattle.pt_node.specs.Shown.{shown_node}
-use Rattle.pt_node.specs.View.{node_of}
-use Rattle.pt_inside.proofs.KeptLaws.{node-kept}
 use Rattle.pt_inside.proofs.starts.start_of.Goals as goal
 
 pub returns-in-Any : goal.returns-in-Any
-returns-in-Any c = absurd (subst (λ (n : machine.Need). IsKept n) (sym c.need.ensures ∙ ap (λ (n : Need). need_of n) c.in-Any.is) (node-kept (node_of (shown_node c.args.node.now))))
+returns-in-Any c = absurd (subst (λ (n : machine.Need). IsKept n) (sym c.need.ensures ∙ ap (λ (n : Need). need_of n) c.in-Any.is) c.requires)

@@ -1,7 +1,10 @@
 use Rattle.std.proofs.Common.{ap, ◌∙◌, map, List, Option, ℕ}
 use Rattle.pt_process.specs.Process.{need_in}
-use Rattle.pt_inside.proofs.LoopLaws.{starts-more}
+use Rattle.pt_inside.proofs.LoopLaws.{kept-at, starts-more}
 use Rattle.pt_inside.proofs.starts.starts_of.Goals as goal
+
+pub start_of-requires : goal.start_of-requires
+start_of-requires c = kept-at c.args.children.now c.loop-child.child-index c.child-item.result c.loop-child-test.true c.child-item.is c.requires
 
 pub loop-child-preserved : goal.loop-child-preserved
 loop-child-preserved c =
