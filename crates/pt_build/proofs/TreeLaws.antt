@@ -36,7 +36,7 @@ recorded-empty f none (n ∷ ns) = ((none n).0, (none n).1, recorded-empty f non
 
 -- the node of a library actor is fresh
 pub actor-fresh : (a : LibraryActor) (path : List ℕ) (records : List RecordedPort) → AreEmpty records → IsFresh (actor_node a path records)
-actor-fresh a path records empty = record { live = refl; fit = (tt, tt); start = (refl, refl); fitting = tt; plans = tt; unrecorded = (empty, tt) }
+actor-fresh a path records empty = record { live = refl; fit = (tt, tt, tt); start = (refl, refl); fitting = tt; plans = tt; unrecorded = (empty, tt, tt) }
 
 -- where each start comes from parameters, so does each library actor that is built
 one-started : {net : Net} {starts : Starts} {k : ℕ} {s : Shown} → AreStarted starts → IsBuilt net starts k s → IsStarted (node_of s)

@@ -8,7 +8,7 @@ use pt_document::Refusal;
 use pt_firing::{Counts, Fires};
 use pt_library::LibraryActor;
 use pt_net::{Net, NetEntity};
-use pt_node::{Body, Held, Labels, Node, Past, Records};
+use pt_node::{Body, Held, Labels, MeetingRecord, Node, Past, Records};
 use pt_stated::Stated;
 use pt_trees::{BuildFault, CompositeFault, Directing, Wiring};
 use pt_value::Text;
@@ -90,6 +90,7 @@ fn actor_node(alloc: Global, held: Held, path: Text, records: Records) -> Node
         records,
         path,
         labels: Labels::none(alloc),
+        meetings: MeetingRecord::unrecorded(),
         live: true,
     }
 }

@@ -1,5 +1,5 @@
 -- The DE composite that is built is fresh, and it is the one of the definitions.
-use Rattle.std.proofs.Common.{◌≡◌, ◌↔◌, ℕ, zero, suc, List, [], ◌∷◌, length, map, Bool, true, false, refl, sym, ap, ap₂, ◌∙◌, subst, arith}
+use Rattle.std.proofs.Common.{◌≡◌, ◌↔◌, ℕ, zero, suc, List, [], ◌∷◌, length, map, None, Bool, true, false, refl, sym, ap, ap₂, ◌∙◌, subst, arith}
 use Rattle.std.specs.List.{All}
 use Rattle.pt_meaning.specs.Start.{IsAtStart}
 use Rattle.pt_meaning.specs.Tree as tree
@@ -53,7 +53,7 @@ module _ (around : Around) (kids : List Shown) (path : List ℕ) (records : List
   core = started (plan_of p.inside) (roles_of p.inside p.depths.items)
 
   abbrev made : Shown
-  made = built (of_de core) kids path records labels
+  made = built (of_de core) None kids path records labels
 
   same : plan_of p.inside ≡ tick_plan around
   same = plan.inside.plan
@@ -87,12 +87,13 @@ module _ (around : Around) (kids : List Shown) (path : List ℕ) (records : List
     path_is = refl;
     records_are = refl;
     labels_are = refl;
+    meetings_are = refl;
     fresh = record {
       live = refl;
-      fit = (subst (λ (v : List Tree). (de_acts rows).Fits core v) (sym (nodes-list kids)) for_core.fits, all-fit kids fresh);
+      fit = (subst (λ (v : List Tree). (de_acts rows).Fits core v) (sym (nodes-list kids)) for_core.fits, all-fit kids fresh, tt);
       start = start;
       fitting = fitting;
       plans = (whole, all-plans kids fresh);
-      unrecorded = (empty, all-unrecorded kids fresh);
+      unrecorded = (empty, tt, all-unrecorded kids fresh);
     };
   }

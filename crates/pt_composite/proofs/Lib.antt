@@ -4,3 +4,4 @@ pub mod SrLaws
 pub mod DeLaws
 pub mod PnLaws
 pub mod ModalLaws
+pub mod RendezvousLaws

@@ -191,7 +191,7 @@ module _ (around : Around) (kids : List Shown) (path : List ℕ) (records : List
   core = started chart_of plan
 
   abbrev made : Shown
-  made = built (of_modal core) kids path records labels
+  made = built (of_modal core) None kids path records labels
 
   starts-long : length plan.starts ≡ length its
   starts-long = length-map its (next_of rows)
@@ -257,12 +257,13 @@ module _ (around : Around) (kids : List Shown) (path : List ℕ) (records : List
     path_is = refl;
     records_are = refl;
     labels_are = refl;
+    meetings_are = refl;
     fresh = record {
       live = refl;
-      fit = (subst (λ (v : List Tree). (modal_acts chart_of rows).Fits core v) (sym (nodes-list kids)) fits, all-fit kids fresh);
+      fit = (subst (λ (v : List Tree). (modal_acts chart_of rows).Fits core v) (sym (nodes-list kids)) fits, all-fit kids fresh, tt);
       start = start;
       fitting = fitting;
       plans = (planned, all-plans kids fresh);
-      unrecorded = (empty, all-unrecorded kids fresh);
+      unrecorded = (empty, tt, all-unrecorded kids fresh);
     };
   }

@@ -30,12 +30,13 @@ use Rattle.pt_directors.specs.Directors.{of_pn}
 use Rattle.pt_node.specs.Recorded.{RecordedPort}
 use Rattle.pt_node.specs.Shown.{Shown, all_of}
 use Rattle.pt_node.specs.View.{Tree, node_of, nodes_of}
+use Rattle.pt_stated.specs.declared.capacities.Capacities.{Capacities}
 use Rattle.pt_stated.specs.declared.stated.Stated.{Stated}
 use Rattle.pt_trees.specs.declared.wiring.Wiring.{Wiring}
 use Rattle.pt_trees.specs.Around.{Around, around_of}
 use Rattle.pt_trees.specs.Composite.{trees_of, IsComposed}
 use Rattle.pt_trees.specs.Fresh.{AllFresh, AreEmpty}
-use Rattle.pt_trees.specs.Pn.{pn, pn_plan, most_stated, IsStatedFor, IsPnWired}
+use Rattle.pt_trees.specs.Pn.{pn, pn_plan, most_of, most_stated, IsStatedFor, IsPnWired}
 use Rattle.pt_trees.specs.Sr.{IsWired}
 use Rattle.pt_trees.proofs.ChildLaws.{placed-child}
 use Rattle.pt_trees.proofs.FreshLaws.{list-again, nodes-list, nodes-are, all-fit, all-start, all-fitting, all-plans, all-unrecorded, start-at}
@@ -44,25 +45,38 @@ use Rattle.pt_trees.proofs.NodeLaws.{get-at}
 use Rattle.pt_de_inside.proofs.FlagLaws.{told-at}
 use Rattle.pt_composite.specs.Networks.{network_round}
 use Rattle.pt_composite.specs.Nodes.{built}
+use Rattle.pt_inside.specs.Kept.{AreKept}
 use Rattle.pt_inside.proofs.HeldLaws.{held-length}
-use Rattle.pt_inside.proofs.KeptLaws.{node-kept, needs-again}
+use Rattle.pt_inside.proofs.KeptLaws.{kept-stays, needs-again}
 
 -- ---- the wiring
 
+-- what is looked at of the numbers that are stated
+abbrev pub AreLawful : Wiring → Stated → Capacities → Type 0
+AreLawful w stated capacities = (0 < capacities.initial) × (capacities.initial ≤ capacities.maximum) × (length stated.takes ≡ w.inputs) × (length stated.gives ≡ w.outputs)
+
 -- with what is stated, which is lawful
-abbrev pub wired-with : (w : Wiring) (kids : List Tree) (stated : Stated) → IsWired (around_of w) kids → w.stated ≡ Some stated → (0 < stated.initial) × (stated.initial ≤ stated.maximum) × (length stated.takes ≡ w.inputs) × (length stated.gives ≡ w.outputs) → IsPnWired (around_of w) kids
-wired-with w kids stated wired is lawful = record { wired = wired; stated = stated; is = is; lawful = record { holds = lawful.0; grows = lawful.1; takes = lawful.2; gives = lawful.3 } }
+abbrev pub wired-with : (w : Wiring) (kids : List Tree) (stated : Stated) (capacities : Capacities) → IsWired (around_of w) kids → w.stated ≡ Some stated → stated.capacities ≡ Some capacities → AreLawful w stated capacities → IsPnWired (around_of w) kids
+wired-with w kids stated capacities wired is are lawful =
+    record { wired = wired; stated = stated; is = is; lawful = record { capacities = capacities; are = are; holds = lawful.0; grows = lawful.1; takes = lawful.2; gives = lawful.3 } }
 
 -- where nothing is stated, it is none
 pub none-stated : (w : Wiring) (kids : List Tree) → w.stated ≡ None → IsPnWired (around_of w) kids → ⊥
 none-stated w kids none wired = none-some wired.stated (sym none ∙ wired.is)
 
+lawful-as : (w : Wiring) (kids : List Tree) (stated : Stated) → w.stated ≡ Some stated → IsPnWired (around_of w) kids → IsStatedFor w.inputs w.outputs stated
+lawful-as w kids stated is wired = subst (λ (s : Stated). IsStatedFor w.inputs w.outputs s) (same_Some wired.stated stated (sym wired.is ∙ is)) wired.lawful
+
+-- nor where no capacities are
+pub none-capacities : (w : Wiring) (kids : List Tree) (stated : Stated) → w.stated ≡ Some stated → stated.capacities ≡ None → IsPnWired (around_of w) kids → ⊥
+none-capacities w kids stated is none wired = let l = lawful-as w kids stated is wired in none-some l.capacities (sym none ∙ l.are)
+
 -- nor where what is stated isn't lawful
-pub none-lawful : (w : Wiring) (kids : List Tree) (stated : Stated) → w.stated ≡ Some stated → ((0 < stated.initial) × (stated.initial ≤ stated.maximum) × (length stated.takes ≡ w.inputs) × (length stated.gives ≡ w.outputs) → ⊥) → IsPnWired (around_of w) kids → ⊥
-none-lawful w kids stated is not wired =
-    let same : wired.stated ≡ stated = same_Some wired.stated stated (sym wired.is ∙ is) in
-    let l : IsStatedFor w.inputs w.outputs stated = subst (λ (s : Stated). IsStatedFor w.inputs w.outputs s) same wired.lawful in
-    not (l.holds, l.grows, l.takes, l.gives)
+pub none-lawful : (w : Wiring) (kids : List Tree) (stated : Stated) (capacities : Capacities) → w.stated ≡ Some stated → stated.capacities ≡ Some capacities → (AreLawful w stated capacities → ⊥) → IsPnWired (around_of w) kids → ⊥
+none-lawful w kids stated capacities is are not wired =
+    let l = lawful-as w kids stated is wired in
+    let same : l.capacities ≡ capacities = same_Some l.capacities capacities (sym l.are ∙ are) in
+    not (subst (λ (c : Capacities). 0 < c.initial) same l.holds, subst (λ (c : Capacities). c.initial ≤ c.maximum) same l.grows, l.takes, l.gives)
 
 -- each channel begins at what is there
 named-from : (inputs children : ℕ) (cs : List net.Source) → AllThere inputs children cs → All (IsNamed children) cs
@@ -87,7 +101,7 @@ there (x ∷ xs) (suc i) h = there xs i (omega (arith, h))
 
 module _ (around : Around) (kids : List Tree) (wired : IsPnWired around kids) where
   abbrev network : Network Token
-  network = network_round around.sources around.places wired.stated kids
+  network = network_round around.sources around.places wired.stated.takes wired.lawful.capacities kids
 
   entries : length kids ≡ length around.places
   entries = sym (needs-length (facts_of rows) kids) ∙ ap (λ v. length v) wired.wired.needed ∙ planned-length around.places wired.wired.needs
@@ -122,11 +136,22 @@ module _ (around : Around) (kids : List Tree) (wired : IsPnWired around kids) wh
     counts = counts;
   }
 
+-- of its children none waits for a token at any one place
+has-kept : (places : ℕ) (need : Need) → HasPlaces places need → IsKept need
+has-kept places Over has = tt
+has-kept places (Counts ns) has = tt
+has-kept places Any has = has
+
+pub all-kept : (sources : List net.Source) (places takes : List ℕ) (capacities : Capacities) (kids : List Tree) → IsSoundNetwork (network_round sources places takes capacities kids) → AreKept kids
+all-kept sources places takes capacities kids sound i kid e =
+    let within : i < length places = omega (arith, get-length kids i kid e, sound.lawful.starts, length-map kids (need_of rows)) in
+    has-kept (get_or places i 0) (need_of rows kid) (subst (λ (need : Need). HasPlaces (get_or places i 0) need) (told-at (need_of rows) kids i kid Over e) (sound.counts i within))
+
 -- the plan of the code has this network
-pub network-is : (sources : List net.Source) (places : List ℕ) (stated : Stated) (kids : List Tree) (p : CorePlan) → map source_of p.sources.items ≡ sources → p.places ≡ places → p.takes ≡ stated.takes → p.initial ≡ stated.initial → p.maximum ≡ stated.maximum → p.first.items ≡ first_held rows kids sources →
-    map need_in p.starts.items ≡ map (need_of rows) kids → network_of p ≡ network_round sources places stated kids
-network-is sources places stated kids p sources_are places_are takes initial maximum first starts =
-    λ i. record { plan = record { net = record { sources = sources_are i; places = places_are i }; takes = takes i }; initial = initial i; maximum = maximum i; first = first i; starts = starts i }
+pub network-is : (sources : List net.Source) (places takes : List ℕ) (capacities : Capacities) (kids : List Tree) (p : CorePlan) → map source_of p.sources.items ≡ sources → p.places ≡ places → p.takes ≡ takes → p.initial ≡ capacities.initial → p.maximum ≡ capacities.maximum → p.first.items ≡ first_held rows kids sources →
+    map need_in p.starts.items ≡ map (need_of rows) kids → network_of p ≡ network_round sources places takes capacities kids
+network-is sources places takes capacities kids p sources_are places_are takes_are initial maximum first starts =
+    λ i. record { plan = record { net = record { sources = sources_are i; places = places_are i }; takes = takes_are i }; initial = initial i; maximum = maximum i; first = first i; starts = starts i }
 
 -- ---- the composite
 
@@ -138,7 +163,7 @@ module _ (around : Around) (kids : List Shown) (path : List ℕ) (records : List
   core = started (network around its wired)
 
   abbrev made : Shown
-  made = built (of_pn core) kids path records labels
+  made = built (of_pn core) None kids path records labels
 
   abbrev first : Streams Token
   first = first_held rows its around.sources
@@ -146,7 +171,9 @@ module _ (around : Around) (kids : List Shown) (path : List ℕ) (records : List
   counts-each : AllAlways rows (λ i node. HasPlaces (get_or around.places i 0) (need_of rows node)) its
   counts-each i kid e = λ later t.
       let n = needs-at around its wired i kid e in
-      has-places (get_or around.places i 0) (need_of rows later) (node-kept later) (placed-child (get_or around.places i 0) kid (start-at kids fresh i kid e) n.0 n.1 n.2 later t)
+      let start = start-at kids fresh i kid e in
+      let kept = kept-stays kid start (subst (λ (need : Need). IsKept need) (sym n.1) tt) later t in
+      has-places (get_or around.places i 0) (need_of rows later) kept (placed-child (get_or around.places i 0) kid start n.0 n.1 n.2 later t)
 
   starts-each : AllAlways rows (λ i node. need_of rows (reset_of node) ≡ get_or (map (need_of rows) its) i Over) its
   starts-each i kid e = λ later t. needs-again kid (start-at kids fresh i kid e) later t ∙ sym (told-at (need_of rows) its i kid Over e)
@@ -186,18 +213,19 @@ module _ (around : Around) (kids : List Shown) (path : List ℕ) (records : List
     core = tree.Pn (pn_plan around wired.stated) first;
     is_core = record { wired = wired; is = refl };
     depths = tt;
-    maximum_is = ap most_stated (sym wired.is);
+    maximum_is = sym (ap most_stated wired.is ∙ ap most_of wired.lawful.are);
     node = node;
     children = list-again kids;
     path_is = refl;
     records_are = refl;
     labels_are = refl;
+    meetings_are = refl;
     fresh = record {
       live = refl;
-      fit = (subst (λ (v : List Tree). (pn_acts rows).Fits core v) (sym (nodes-list kids)) fits, all-fit kids fresh);
+      fit = (subst (λ (v : List Tree). (pn_acts rows).Fits core v) (sym (nodes-list kids)) fits, all-fit kids fresh, tt);
       start = start;
       fitting = fitting;
       plans = (whole, all-plans kids fresh);
-      unrecorded = (empty, all-unrecorded kids fresh);
+      unrecorded = (empty, tt, all-unrecorded kids fresh);
     };
   }

@@ -1,5 +1,5 @@
 -- The SDF composite that is built is fresh, and it is the one of the definitions.
-use Rattle.std.proofs.Common.{◌≡◌, ℕ, ◌+◌, ◌≤◌, List, [], ◌∷◌, ◌++◌, length, map, refl, sym, ap, ap₂, ◌∙◌, subst, arith}
+use Rattle.std.proofs.Common.{◌≡◌, ℕ, ◌+◌, ◌≤◌, List, [], ◌∷◌, ◌++◌, length, map, None, refl, sym, ap, ap₂, ◌∙◌, subst, arith}
 use Rattle.std.proofs.lemmas.List.{length-map}
 use Rattle.pt_meaning.specs.Basics.{Streams}
 use Rattle.pt_meaning.specs.Net as net
@@ -77,7 +77,7 @@ module _ (around : Around) (kids : List Shown) (path : List ℕ) (records : List
   core = started (plan_of p) p.needs first
 
   abbrev made : Shown
-  made = built (of_sdf core) kids path records labels
+  made = built (of_sdf core) None kids path records labels
 
   sources-are : (plan_of p).net.sources ≡ map source_of (sources_of x)
   sources-are = ap (λ (n : net.Net). n.sources) plan.net
@@ -147,5 +147,6 @@ module _ (around : Around) (kids : List Shown) (path : List ℕ) (records : List
     path_is = refl;
     records_are = refl;
     labels_are = refl;
-    fresh = record { live = refl; fit = (ready, all-fit kids fresh); start = start; fitting = fitting; plans = plans; unrecorded = (empty, all-unrecorded kids fresh) };
+    meetings_are = refl;
+    fresh = record { live = refl; fit = (ready, all-fit kids fresh, tt); start = start; fitting = fitting; plans = plans; unrecorded = (empty, tt, all-unrecorded kids fresh) };
   }

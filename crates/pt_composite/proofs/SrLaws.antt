@@ -1,5 +1,5 @@
 -- The SR composite that is built is fresh, and it is the one of the definitions.
-use Rattle.std.proofs.Common.{◌≡◌, ℕ, zero, suc, List, [], ◌∷◌, length, map, get_or, Bool, true, false, not, Some, refl, sym, ap, ◌∙◌, subst, arith}
+use Rattle.std.proofs.Common.{◌≡◌, ℕ, zero, suc, List, [], ◌∷◌, length, map, None, get_or, Bool, true, false, not, Some, refl, sym, ap, ◌∙◌, subst, arith}
 use Rattle.pt_meaning.specs.NodeFacts.{facts_of, core_need}
 use Rattle.pt_meaning.specs.Start.{IsAtStart}
 use Rattle.pt_meaning.specs.Streams.{get}
@@ -67,7 +67,7 @@ module _ (around : Around) (kids : List Shown) (path : List ℕ) (records : List
   core = started (tick_plan around) (map is_nonstrict (trees_of kids))
 
   abbrev made : Shown
-  made = built (of_sr core) kids path records labels
+  made = built (of_sr core) None kids path records labels
 
   entries : length (trees_of kids) ≡ length around.places
   entries = sym (needs-length (facts_of rows) (trees_of kids)) ∙ ap (λ v. length v) wired.needed ∙ planned-length around.places wired.needs
@@ -110,12 +110,13 @@ module _ (around : Around) (kids : List Shown) (path : List ℕ) (records : List
     path_is = refl;
     records_are = refl;
     labels_are = refl;
+    meetings_are = refl;
     fresh = record {
       live = refl;
-      fit = ((refl, subst (λ (v : List Tree). Suits rows (tick_plan around) (map is_nonstrict (trees_of kids)) v) (sym (nodes-list kids)) suits), all-fit kids fresh);
+      fit = ((refl, subst (λ (v : List Tree). Suits rows (tick_plan around) (map is_nonstrict (trees_of kids)) v) (sym (nodes-list kids)) suits), all-fit kids fresh, tt);
       start = start;
       fitting = fitting;
       plans = (whole, all-plans kids fresh);
-      unrecorded = (empty, all-unrecorded kids fresh);
+      unrecorded = (empty, tt, all-unrecorded kids fresh);
     };
   }

@@ -1,4 +1,5 @@
 pub mod Networks
+pub mod Processes
 pub mod Machines
 pub mod Nodes
 pub mod Timed

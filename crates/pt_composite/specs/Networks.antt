@@ -7,9 +7,9 @@ use Rattle.pt_value.specs.declared.token.Token.{Token}
 use Rattle.pt_pn_laws.specs.State.{Network}
 use Rattle.pt_library.specs.LibraryActor.{rows}
 use Rattle.pt_node.specs.View.{Tree}
-use Rattle.pt_stated.specs.declared.stated.Stated.{Stated}
+use Rattle.pt_stated.specs.declared.capacities.Capacities.{Capacities}
 
 -- Its net has these channels and places, a firing takes and each channel may hold as many tokens as are stated, and a channel begins with its first tokens; and each child needs what it needs at its start.
-abbrev pub network_round : List net.Source → (places : List ℕ) → Stated → List Tree → Network Token
-network_round sources places stated kids =
-    record { plan = record { net = record { sources = sources; places = places }; takes = stated.takes }; initial = stated.initial; maximum = stated.maximum; first = first_held rows kids sources; starts = map (need_of rows) kids }
+abbrev pub network_round : List net.Source → (places takes : List ℕ) → Capacities → List Tree → Network Token
+network_round sources places takes capacities kids =
+    record { plan = record { net = record { sources = sources; places = places }; takes = takes }; initial = capacities.initial; maximum = capacities.maximum; first = first_held rows kids sources; starts = map (need_of rows) kids }

@@ -9,6 +9,7 @@ ghost use Rattle.pt_trees.specs.Rates.{AllStarted};
 use crate::de::de_composite;
 use crate::modal::modal_composite;
 use crate::pn::pn_composite;
+use crate::rendezvous::rendezvous_composite;
 use crate::sdf::sdf_composite;
 use crate::sr::sr_composite;
 use pt_document::Director;
@@ -63,8 +64,7 @@ fn directed_composite(
         Director::De => de_composite(alloc, children, wiring, path, records, labels),
         Director::Pn => pn_composite(alloc, children, wiring, path, records, labels),
         Director::Rendezvous => {
-            drop(children);
-            Err(CompositeFault::Unbuilt)
+            rendezvous_composite(alloc, children, wiring, path, records, labels)
         }
     }
 }

@@ -6,6 +6,7 @@ mod de;
 mod modal;
 mod node;
 mod pn;
+mod rendezvous;
 mod sdf;
 mod sr;
 

@@ -1,12 +1,12 @@
-ghost use Rattle.std.specs.Prelude.{◌≡◌, map};
+ghost use Rattle.std.specs.Prelude.{◌≡◌, map, None};
 ghost use Rattle.pt_node.specs.Shown.{shown, shown_node};
 ghost use Rattle.pt_composite.specs.Nodes.{built};
 
 use pt_directors::Director;
-use pt_node::{Body, Labels, Node, Past, Records};
+use pt_node::{Body, Labels, MeetingRecord, Node, Past, Records};
 use pt_value::Text;
 
-/// The node of a composite that has not fired.
+/// The node of a composite that has not fired, whose director makes no meetings.
 pub(crate) fn composite_node(
     director: Director,
     children: Vec<Node>,
@@ -14,7 +14,22 @@ pub(crate) fn composite_node(
     records: Records,
     labels: Labels,
 ) -> Node
-    ensures { shown_node result ≡ built director (map shown children.items) path records labels }
+    ensures { shown_node result ≡ built director None (map shown children.items) path records labels }
+{
+    let meetings = MeetingRecord::unrecorded();
+    recording_node(director, meetings, children, path, records, labels)
+}
+
+/// The node of a composite that has not fired, with this record of its meetings.
+pub(crate) fn recording_node(
+    director: Director,
+    meetings: MeetingRecord,
+    children: Vec<Node>,
+    path: Text,
+    records: Records,
+    labels: Labels,
+) -> Node
+    ensures { shown_node result ≡ built director meetings (map shown children.items) path records labels }
 {
     Node {
         past: Past {
@@ -26,6 +41,7 @@ pub(crate) fn composite_node(
         records,
         path,
         labels,
+        meetings,
         live: true,
     }
 }

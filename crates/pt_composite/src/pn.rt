@@ -16,7 +16,7 @@ use pt_inside::{first_lists, is_wired, starts_of};
 use pt_node::{Labels, Node, Records};
 use pt_pn::Core;
 use pt_process::CorePlan;
-use pt_stated::Stated;
+use pt_stated::{Capacities, Stated};
 use pt_trees::{CompositeFault, Wiring};
 use pt_value::Text;
 use std::alloc::{AllocError, Global};
@@ -50,19 +50,22 @@ pub(crate) fn pn_composite(
     let Some(stated) = stated else {
         return Err(CompositeFault::Unbuilt);
     };
-    if !is_lawful(&stated, inputs, outputs) {
+    let Some(capacities) = stated.capacities else {
+        return Err(CompositeFault::Unbuilt);
+    };
+    if !are_lawful(capacities, &stated, inputs, outputs) {
         return Err(CompositeFault::Unbuilt);
     }
-    let core = core_of(alloc, &children, sources, places, stated)?;
+    let core = core_of(alloc, &children, sources, places, stated.takes, capacities)?;
     Ok(composite_node(pt_directors::pn(core), children, path, records, labels))
 }
 
-/// Whether what is stated is lawful for so many own ports.
-fn is_lawful(stated: &Stated, inputs: u32, outputs: u32) -> bool
-    ensures { IsTrue result ↔ ((0 < stated.now.initial) × (stated.now.initial ≤ stated.now.maximum) × (length stated.now.takes ≡ inputs) × (length stated.now.gives ≡ outputs)) }
+/// Whether the capacities are lawful, and a number is stated for each of so many own ports.
+fn are_lawful(capacities: Capacities, stated: &Stated, inputs: u32, outputs: u32) -> bool
+    ensures { IsTrue result ↔ ((0 < capacities.initial) × (capacities.initial ≤ capacities.maximum) × (length stated.now.takes ≡ inputs) × (length stated.now.gives ≡ outputs)) }
 {
-    stated.initial > 0
-        && stated.initial <= stated.maximum
+    capacities.initial > 0
+        && capacities.initial <= capacities.maximum
         && stated.takes.len() == inputs as usize
         && stated.gives.len() == outputs as usize
 }
@@ -73,10 +76,11 @@ fn core_of(
     children: &[Node],
     sources: Vec<Source>,
     places: Counts,
-    stated: Stated,
+    takes: Counts,
+    capacities: Capacities,
 ) -> Result<Core, AllocError>
-    requires { IsSoundNetwork (network_round (map source_of sources.items) places stated (trees_of (map shown children.now))) }
-    ensures { IfOk result (λ core. core ≡ started (network_round (map source_of sources.items) places stated (trees_of (map shown children.now)))) }
+    requires { IsSoundNetwork (network_round (map source_of sources.items) places takes capacities (trees_of (map shown children.now))) }
+    ensures { IfOk result (λ core. core ≡ started (network_round (map source_of sources.items) places takes capacities (trees_of (map shown children.now)))) }
 {
     let first = first_lists(alloc, children, &sources)?;
     let starts = starts_of(alloc, children)?;
@@ -85,9 +89,9 @@ fn core_of(
         CorePlan {
             sources,
             places,
-            takes: stated.takes,
-            initial: stated.initial,
-            maximum: stated.maximum,
+            takes,
+            initial: capacities.initial,
+            maximum: capacities.maximum,
             first,
             starts,
         },

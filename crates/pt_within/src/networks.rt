@@ -14,14 +14,13 @@ fn copy_of(alloc: Global, stated: &Stated) -> Result<Stated, AllocError>
     ensures { IfOk result (λ copy. copy ≡ stated.now) }
 {
     Ok(Stated {
-        initial: stated.initial,
-        maximum: stated.maximum,
         takes: stated.takes.copy(alloc)?,
         gives: stated.gives.copy(alloc)?,
+        capacities: stated.capacities,
     })
 }
 
-/// What the entity of that number states, if it is a process network.
+/// What the entity of that number states, if its children are processes.
 pub fn stated_at(
     alloc: Global,
     stated: &[Option<Stated>],
@@ -58,7 +57,7 @@ fn ones_at(
     }
 }
 
-/// How many tokens a firing of it is to give on each of its outputs, if that is declared: of a process network and of a Modal entity.
+/// How many tokens a firing of it is to give on each of its outputs, if that is declared: of a composite of processes and of a Modal entity.
 fn declared_by(
     alloc: Global,
     stated: &[Option<Stated>],

@@ -22,3 +22,7 @@ returns-in-De-clause-node c =
 pub returns-in-Pn-clause-node : goal.returns-in-Pn-clause-node
 returns-in-Pn-clause-node c =
     subst (λ (d : Director). IfOk c.pn_composite.result (λ node. IsComposite (By d) (around_of c.args.wiring) (map shown c.args.children.items) c.args.path c.args.records c.args.labels (shown_node node))) (sym c.in-Pn.is) c.pn_composite.ensures.node
+
+pub returns-in-Rendezvous-clause-node : goal.returns-in-Rendezvous-clause-node
+returns-in-Rendezvous-clause-node c =
+    subst (λ (d : Director). IfOk c.rendezvous_composite.result (λ node. IsComposite (By d) (around_of c.args.wiring) (map shown c.args.children.items) c.args.path c.args.records c.args.labels (shown_node node))) (sym c.in-Rendezvous.is) c.rendezvous_composite.ensures.node

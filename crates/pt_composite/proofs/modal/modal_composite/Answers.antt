@@ -1,4 +1,4 @@
-use Rattle.std.proofs.Common.{List, map, sym, ap, ◌∙◌, subst}
+use Rattle.std.proofs.Common.{List, map, None, sym, ap, ◌∙◌, subst}
 use Rattle.pt_chart.specs.Chart.{chart_of}
 use Rattle.pt_chart.specs.Machine.{Machine}
 use Rattle.pt_directors.specs.Directors.{Director, of_modal}
@@ -23,5 +23,5 @@ returns-clause-node c =
     let by : StartsByMachine (around_of c.args.wiring) (trees_of kids) c.in_ok-core.core =
     subst (λ (v : List Node). StartsByMachine (around_of c.args.wiring) (trees_of (map shown v)) c.in_ok-core.core) c.deref.ensures.value c.in_ok-core.ensures.core in
     subst (λ (s : Shown). IsComposed modal (around_of c.args.wiring) kids c.args.path c.args.records c.args.labels s)
-    (sym (c.composite_node.ensures ∙ ap (λ (d : Director). built d kids c.args.path c.args.records c.args.labels) (c.modal.ensures ∙ ap of_modal by.is)))
+    (sym (c.composite_node.ensures ∙ ap (λ (d : Director). built d None kids c.args.path c.args.records c.args.labels) (c.modal.ensures ∙ ap of_modal by.is)))
     (composite-is (around_of c.args.wiring) kids c.args.path c.args.records c.args.labels by.wired c.requires.fresh c.requires.empty)

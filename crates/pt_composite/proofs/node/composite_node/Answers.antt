@@ -1,12 +1,8 @@
-use Rattle.std.proofs.Common.{None, true, ap}
-use Rattle.pt_node.specs.declared.body.Body.TheVariants as body
-use Rattle.pt_node.specs.declared.node.Node.{Node}
-use Rattle.pt_node.specs.declared.node.Node.TheOpen as opens
-use Rattle.pt_node.specs.declared.node.Node.TheViews.{out-roll-Node}
-use Rattle.pt_node.specs.Shown.{level}
+use Rattle.std.proofs.Common.{map, ap, ◌∙◌}
+use Rattle.pt_node.specs.Shown.{shown}
+use Rattle.pt_composite.specs.Nodes.{built}
 use Rattle.pt_composite.proofs.node.composite_node.Goals as goal
 
 pub returns : goal.returns
 returns c =
-    let r : opens.Node-F Node = record { past = record { made = 0; last = None }; body = body.Composite c.args.director; children = c.args.children; records = c.args.records; path = c.args.path; labels = c.args.labels; live = true } in
-    ap (λ (x : opens.Node-F Node). level x) (out-roll-Node r)
+    c.recording_node.ensures ∙ ap (λ meetings. built c.args.director meetings (map shown c.args.children.items) c.args.path c.args.records c.args.labels) c.unrecorded-meetings.ensures

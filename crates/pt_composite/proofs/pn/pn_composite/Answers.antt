@@ -1,4 +1,4 @@
-use Rattle.std.proofs.Common.{◌≡◌, Bool, List, map, sym, ap, ◌∙◌, subst}
+use Rattle.std.proofs.Common.{◌≡◌, Bool, List, map, None, sym, ap, ◌∙◌, subst}
 use Rattle.pt_core.specs.Source.{source_of}
 use Rattle.pt_pn_laws.specs.State.{started}
 use Rattle.pt_process.specs.Plan.{IsSoundNetwork}
@@ -20,8 +20,8 @@ core_of-requires c =
     let kids : List Shown = map shown c.args.children.items in
     let fits : IsWired around (trees_of kids) =
     subst (λ (b : Bool). IsWiredIf around (trees_of kids) b) c.if-not-wired.false (subst (λ (v : List Node). IsWiredIf around (trees_of (map shown v)) c.in_ok-wired.wired) c.deref.ensures.value c.in_ok-wired.ensures) in
-    subst (λ (v : List Node). IsSoundNetwork (network_round around.sources around.places c.in-Some.stated (trees_of (map shown v)))) (sym c.deref-2.ensures.value)
-    (sound around (trees_of kids) (wired-with c.args.wiring (trees_of kids) c.in-Some.stated fits c.in-Some.is (c.is_lawful.ensures.0 c.if-not-is_lawful.false)))
+    subst (λ (v : List Node). IsSoundNetwork (network_round around.sources around.places c.in-Some.stated.takes c.in-Some-capacities.capacities (trees_of (map shown v)))) (sym c.deref-2.ensures.value)
+    (sound around (trees_of kids) (wired-with c.args.wiring (trees_of kids) c.in-Some.stated c.in-Some-capacities.capacities fits c.in-Some.is c.in-Some-capacities.is (c.are_lawful.ensures.0 c.if-not-are_lawful.false)))
 
 pub returns-clause-node : goal.returns-clause-node
 returns-clause-node c =
@@ -29,9 +29,9 @@ returns-clause-node c =
     let kids : List Shown = map shown c.args.children.items in
     let fits : IsWired around (trees_of kids) =
     subst (λ (b : Bool). IsWiredIf around (trees_of kids) b) c.if-not-wired.false (subst (λ (v : List Node). IsWiredIf around (trees_of (map shown v)) c.in_ok-wired.wired) c.deref.ensures.value c.in_ok-wired.ensures) in
-    let wired : IsPnWired around (trees_of kids) = wired-with c.args.wiring (trees_of kids) c.in-Some.stated fits c.in-Some.is (c.is_lawful.ensures.0 c.if-not-is_lawful.false) in
-    let is : c.in_ok-core.core ≡ started (network_round around.sources around.places c.in-Some.stated (trees_of kids)) =
-    c.in_ok-core.ensures ∙ ap (λ (v : List Node). started (network_round around.sources around.places c.in-Some.stated (trees_of (map shown v)))) c.deref-2.ensures.value in
+    let wired : IsPnWired around (trees_of kids) = wired-with c.args.wiring (trees_of kids) c.in-Some.stated c.in-Some-capacities.capacities fits c.in-Some.is c.in-Some-capacities.is (c.are_lawful.ensures.0 c.if-not-are_lawful.false) in
+    let is : c.in_ok-core.core ≡ started (network_round around.sources around.places c.in-Some.stated.takes c.in-Some-capacities.capacities (trees_of kids)) =
+    c.in_ok-core.ensures ∙ ap (λ (v : List Node). started (network_round around.sources around.places c.in-Some.stated.takes c.in-Some-capacities.capacities (trees_of (map shown v)))) c.deref-2.ensures.value in
     subst (λ (s : Shown). IsComposed pn around kids c.args.path c.args.records c.args.labels s)
-    (sym (c.composite_node.ensures ∙ ap (λ (d : Director). built d kids c.args.path c.args.records c.args.labels) (c.pn.ensures ∙ ap of_pn is)))
+    (sym (c.composite_node.ensures ∙ ap (λ (d : Director). built d None kids c.args.path c.args.records c.args.labels) (c.pn.ensures ∙ ap of_pn is)))
     (composite-is around kids c.args.path c.args.records c.args.labels wired c.requires.fresh c.requires.empty)

@@ -1,4 +1,4 @@
-use Rattle.std.proofs.Common.{◌≡◌, Bool, List, map, sym, ap, ◌∙◌, subst}
+use Rattle.std.proofs.Common.{◌≡◌, Bool, List, map, None, sym, ap, ◌∙◌, subst}
 use Rattle.pt_sr.specs.State.{started}
 use Rattle.pt_directors.specs.Directors.{Director, of_sr}
 use Rattle.pt_node.specs.declared.node.Node.{Node}
@@ -30,5 +30,5 @@ returns-clause-node c =
     let is : c.in_ok-core.core ≡ started (tick_plan (around_of c.args.wiring)) (map is_nonstrict (trees_of kids)) =
     c.in_ok-core.ensures ∙ ap (λ (v : List Node). started (tick_plan (around_of c.args.wiring)) (map is_nonstrict (trees_of (map shown v)))) c.deref-2.ensures.value in
     subst (λ (s : Shown). IsComposed sr (around_of c.args.wiring) kids c.args.path c.args.records c.args.labels s)
-    (sym (c.composite_node.ensures ∙ ap (λ (d : Director). built d kids c.args.path c.args.records c.args.labels) (c.sr.ensures ∙ ap of_sr is)))
+    (sym (c.composite_node.ensures ∙ ap (λ (d : Director). built d None kids c.args.path c.args.records c.args.labels) (c.sr.ensures ∙ ap of_sr is)))
     (composite-is (around_of c.args.wiring) kids c.args.path c.args.records c.args.labels wired c.requires.fresh c.requires.empty)
