@@ -2,7 +2,7 @@
 use Rattle.std.proofs.Common.{◌≡◌, ℕ, suc, ◌+◌, ◌<◌, ◌≤◌, [], Option, Some, None, sym, ap, ap₂, subst, ◌∙◌, arith, refl}
 use Rattle.pt_meaning.specs.Basics.{Tag, Streams, Path, Log}
 use Rattle.pt_meaning.specs.Meetings.{Meets}
-use Rattle.pt_meaning.specs.Step.{Step, no_meetings}
+use Rattle.pt_meaning.specs.Step.{Step}
 use Rattle.pt_meaning.specs.Job as job
 use Rattle.pt_meaning.specs.Job.{Schedule, meaning}
 use Rattle.pt_meaning.specs.Headline.{Ending, Defined, Faulty, Spent, Queued}
@@ -14,7 +14,7 @@ use Rattle.pt_firing.specs.declared.answer.Place.{Place}
 use Rattle.pt_firing.specs.RunFault.{code_of}
 use Rattle.pt_records.specs.Kept.{GrewBy}
 use Rattle.pt_records.specs.Fired.{FiresTo}
-use Rattle.pt_records.specs.Made.{made_if, meets_of, AreMadeBefore}
+use Rattle.pt_records.specs.Made.{meets_of, AreMadeBefore}
 use Rattle.pt_records.proofs.MadeLaws.{made-back, those-made}
 use Rattle.pt_library.specs.declared.library_actor.LibraryActor.{LibraryActor}
 use Rattle.pt_library.specs.LibraryActor.{rows}
@@ -22,7 +22,6 @@ use Rattle.pt_node.specs.Full.{IsToldFull}
 use Rattle.pt_node.specs.Live as live
 use Rattle.pt_node.specs.Shown.{Shown}
 use Rattle.pt_node.specs.View.{Tree, node_of, kept_of, count_of, Outline, outline_of, text_at}
-use Rattle.pt_node.proofs.UnmetLaws.{node-unmet}
 use Rattle.pt_seq.specs.Within.{AnswersTo}
 use Rattle.pt_node.specs.Stuck.{fault_of}
 use Rattle.pt_trees.specs.declared.top.Top.{Top}
@@ -42,18 +41,18 @@ use Rattle.pt_trees.proofs.TopLaws.{is-whole}
 use Rattle.pt_run.proofs.Turns.{takes-fit}
 use Rattle.pt_run.proofs.Reaching.{Reached, IsLogOf, at-start, one-more, reported, defined-end, spent-between, past_limit, stuck-between, spent-within, stuck-within, jammed-within, count-below}
 
-pub is_complete : (j : Top) (budget : ℕ) (old new : Shown) (e : Ended) → IsRun no_meetings j budget old new e → IsAffordable j budget old → IsDefined e
-is_complete j budget old new ended.Iterations r a = tt
-is_complete j budget old new ended.Inputs r a = tt
-is_complete j budget old new ended.Stop r a = tt
-is_complete j budget old new ended.Idle r a = tt
-is_complete j budget old new ended.Deadlock r a = tt
-is_complete j budget old new (ended.Fault place) r a = a.never_stuck (fault_of r.0 place) (r.2 0).caused.0
-is_complete j budget old new (ended.Full blocked) r a = let p = r.3 0 in a.never_jammed p.log r.0 r.1 p.caused
-is_complete j budget old new (ended.Spent firings) r a =
+is_complete : (m : Meets) (j : Top) (budget : ℕ) (old new : Shown) (e : Ended) → IsRun m j budget old new e → IsAffordable j budget old → IsDefined e
+is_complete m j budget old new ended.Iterations r a = tt
+is_complete m j budget old new ended.Inputs r a = tt
+is_complete m j budget old new ended.Stop r a = tt
+is_complete m j budget old new ended.Idle r a = tt
+is_complete m j budget old new ended.Deadlock r a = tt
+is_complete m j budget old new (ended.Fault place) r a = let p = r.2 0 in a.never_stuck m p.legal (fault_of r.0 place) p.caused.0
+is_complete m j budget old new (ended.Full blocked) r a = let p = r.3 0 in a.never_jammed m p.legal p.log r.0 r.1 p.caused
+is_complete m j budget old new (ended.Spent firings) r a =
     let p = r 0 in
-    let few = count-below p.log (meaning p.prefix.0 rows no_meetings (schedule j) (node_of old)) (paths_of (node_of old)) p.prefix.1 in
-    omega (arith, few, p.caused.0, p.caused.1, a.within_budget p.prefix.0)
+    let few = count-below p.log (meaning p.prefix.0 rows m (schedule j) (node_of old)) (paths_of (node_of old)) p.prefix.1 in
+    omega (arith, few, p.caused.0, p.caused.1, a.within_budget m p.legal p.prefix.0)
 
 -- Every meeting is one that was recorded of the tree.
 abbrev AreThose : Meets → Shown → Type 0
@@ -65,8 +64,9 @@ those-before m now e = λ p n l. those-made m (kept_of now) e p n
 pub its-own : (now : Shown) → AreThose (meets_of (kept_of now)) now
 its-own now p n = refl
 
-pub none-are-those : (now : Shown) → AreThose no_meetings now
-none-are-those now p n = sym (ap (λ v. made_if n v) (node-unmet now p))
+-- so that its run under these completes
+pub completes : (j : Top) (budget : ℕ) (old new : Shown) (e : Ended) → ((m : Meets) → AreThose m new → IsRun m j budget old new e) → IsAffordable j budget old → IsDefined e
+completes j budget old new e run a = let m : Meets = meets_of (kept_of new) in is_complete m j budget old new e (run m (its-own new)) a
 
 -- a turn that fires does so at this tag on these inputs, one that ends by this end, and past the limit there is none
 pub turn-fires : (plan : Schedule Token LibraryActor) (n : ℕ) (last : Option Tag) (top : Tree) (t : Turn) → IsNext plan n last top t → (f : Firing) → t ≡ Fire f → (X : Streams Token) → X ≡ f.inputs.items → plan n last top ≡ job.Fire f.tag X

@@ -86,12 +86,12 @@ children-steady ramp_path scale_path text (suc (suc i)) child e = absurd (cc)
 
 pub chain_runnable : (j : SdfJob) → length j.inputs.items ≡ length j.takes → (path ramp_path scale_path text : List ℕ) → IsRunnable (Sdf j) (chain j.takes path ramp_path scale_path text)
 chain_runnable j lists path ramp_path scale_path text = record {
-  live = (refl, (record { idle = refl; fitting = record { repetitions = refl; rates = refl; channels = omega arith; needs = refl }; starts = omega arith; steady = children-steady ramp_path scale_path text }, ((tt, tt), ((tt, tt), tt))));
+  live = (refl, (record { idle = refl; fitting = record { repetitions = refl; rates = refl; channels = omega arith; needs = refl }; starts = omega arith; steady = children-steady ramp_path scale_path text }, ((tt, tt, tt), ((tt, tt, tt), tt)), tt));
   start = (refl, refl, ap (λ X. [] ∷ X) (bare-held (list_of (nodes_of (chain_kids ramp_path scale_path text))) 0 j.takes), ((refl, refl), ((refl, refl), tt)));
   fitting = ((refl, refl, refl), (refl, refl, refl), (tt, (tt, tt)));
   planned = (omega arith, (tt, (tt, tt)));
   leaves = (tt, ((refl, tt), ((refl, tt), tt)));
-  unrecorded = (tt, ((tt, tt), (((refl, tt), tt), tt)));
+  unrecorded = (tt, tt, ((tt, tt, tt), (((refl, tt), tt, tt), tt)));
   fits = (refl, lists);
 }
 

@@ -1,11 +1,7 @@
 pub mod Course
-pub mod Unmet
-pub mod UnmetTicks
-pub mod UnmetReactions
-pub mod UnmetModal
-pub mod UnmetRuns
 pub mod Counting
 pub mod Traces
+pub mod Unrecorded
 pub mod Gathering
 pub mod Walking
 pub mod Portions

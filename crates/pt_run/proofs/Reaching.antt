@@ -17,12 +17,13 @@ use Rattle.pt_laws.proofs.Order.{IsPrefix-trans, IsPrefix-after}
 use Rattle.pt_value.specs.declared.token.Token.{Token}
 use Rattle.pt_firing.specs.declared.answer.Answer.TheVariants as answer
 use Rattle.pt_records.specs.Kept.{GrewBy}
-use Rattle.pt_records.specs.Made.{made_if, meets_of, AreMadeBefore}
+use Rattle.pt_records.specs.Made.{meets_of, AreMadeBefore}
 use Rattle.pt_records.specs.Fired.{FromSome, FiresTo, SticksAt, LeavesOff}
 use Rattle.pt_records.specs.Shut.{IsShut, IsReached}
 use Rattle.pt_records.proofs.RunShutLaws.{runs-are-shut}
 use Rattle.pt_records.proofs.GrowthLaws.{grew-none, grew-joined}
 use Rattle.pt_records.proofs.MadeLaws.{grew-met, made-back}
+use Rattle.pt_given.proofs.GivenRuns.{all-are-legal}
 use Rattle.pt_library.specs.declared.library_actor.LibraryActor.{LibraryActor}
 use Rattle.pt_library.specs.LibraryActor.{rows}
 use Rattle.pt_library.proofs.RowLaws.{rows_lawful}
@@ -30,7 +31,6 @@ use Rattle.pt_node.specs.Shown.{Shown}
 use Rattle.pt_node.specs.View as view
 use Rattle.pt_node.specs.View.{node_of, kept_of, Outline, outline_of, maximum_at}
 use Rattle.pt_node.specs.Live.{IsLive}
-use Rattle.pt_node.proofs.UnmetLaws.{node-unmet}
 use Rattle.pt_seq.specs.Within.{AnswersTo}
 use Rattle.pt_trees.specs.declared.top.Top.{Top}
 use Rattle.pt_trees.specs.Ports.{recorded_ports, ports_of, traces_of}
@@ -38,13 +38,12 @@ use Rattle.pt_trees.specs.Top.{IsJobFor}
 use Rattle.pt_trees.specs.Start.{IsRunnable}
 use Rattle.pt_trees.specs.Run.{schedule, maxima_of, counts_of}
 use Rattle.pt_run.proofs.Course.{after-more, after-below, ended-at, halted-at}
-use Rattle.pt_run.proofs.Unmet.{finished-before, no-meetings}
-use Rattle.pt_run.proofs.UnmetRuns.{meaning-unmet}
 use Rattle.pt_run.proofs.Counting.{count-is, none-at}
 use Rattle.pt_run.proofs.Counted.{firings-counted}
 use Rattle.pt_run.proofs.Jams.{jammed-made, made-kept}
 use Rattle.pt_run.proofs.Traces.{traces-are}
-use Rattle.pt_run.proofs.Turns.{quiet-node, step-stays}
+use Rattle.pt_run.proofs.Unrecorded.{none-met}
+use Rattle.pt_run.proofs.Turns.{step-stays}
 
 -- what a turn of the top logs
 log-on-step : {T A : Type 0} (c : Course T A) (tag : Tag) (r : Outcome T (Node T A)) → log_of (on_step c tag r) ≡ log_then c.log (log_in r)
@@ -137,7 +136,7 @@ module _ (m : Meets) (j : Top) (top : Shown) where
   reported run budget new e o l those count = record {
     log = l.log;
     counted = λ p. omega (arith, (l.kept p).count, none-at top run.leaves run.start p);
-    legal = λ p n. (0, sym (met p n ∙ no-meetings n (l.log p) (finished-before (l.log p) (meaning l.prefix.0 rows m plan first p) (l.prefix.1 p) (meaning-unmet rows m plan first (quiet-node top) l.prefix.0 p))));
+    legal = all-are-legal rows rows_lawful m plan first run.fitting run.planned run.start l.log l.prefix met;
     met = met;
     prefix = l.prefix;
     under_way = l.under_way;
@@ -148,7 +147,7 @@ module _ (m : Meets) (j : Top) (top : Shown) where
     where
       -- what the tree has recorded of meetings is what the log tells of them
       met : (p : Path) (n : ℕ) → m p n ≡ meetings_in n (l.log p)
-      met p n = those p n ∙ sym (grew-met l.log (kept_of top) (kept_of new) l.kept p n (ap (λ v. made_if n v) (node-unmet top p)))
+      met p n = those p n ∙ sym (grew-met l.log (kept_of top) (kept_of new) l.kept p n (none-met top run.unrecorded p n))
 
   reached : IsRunnable j top → (n : ℕ) (last : Option Tag) (now : Shown) (r : Reached n last now) → IsReached rows m plan first n (course_at n last now r.log)
   reached run n last now r = record { fitting = run.fitting; planned = run.planned; start = run.start; goes = r.goes }

@@ -47,7 +47,7 @@ mutual
       let headings : map heading_of g.records ≡ map heading_of f.records = cc in
       let outlines : outlines_of js ≡ outlines_of ks = cc in
       told-append log (own_ports f.records) (own_ports g.records) (ports_below 0 ks) (ports_below 0 js) (told-own log f.records g.records u.0 headings (k []).recorded)
-      (told-kids log 0 ks js u.1 outlines (λ j p. let z : 0 + j ≡ j = omega arith in subst (λ n. EntryGrew (log (n ∷ p)) (kept_at (kepts_of ks) j p) (kept_at (kepts_of js) j p)) (sym z) (k (j ∷ p))))
+      (told-kids log 0 ks js u.2 outlines (λ j p. let z : 0 + j ≡ j = omega arith in subst (λ n. EntryGrew (log (n ∷ p)) (kept_at (kepts_of ks) j p) (kept_at (kepts_of js) j p)) (sym z) (k (j ∷ p))))
 
   told-kids : (log : Log Token) (i : ℕ) (ks js : AllShown) → AllUnrecorded ks → outlines_of js ≡ outlines_of ks → ((j : ℕ) (p : Path) → EntryGrew (log ((i + j) ∷ p)) (kept_at (kepts_of ks) j p) (kept_at (kepts_of js) j p)) → AreTold log (ports_below i ks) (ports_below i js)
   told-kids log i none none u o k = tt

@@ -8,7 +8,6 @@ use Rattle.pt_meaning.specs.Tag.{origin}
 use Rattle.pt_meaning.specs.Machine.{Done}
 use Rattle.pt_meaning.specs.Meetings.{Meets}
 use Rattle.pt_meaning.specs.Tree as tree
-use Rattle.pt_meaning.specs.Tree.{Rows, Node}
 use Rattle.pt_meaning.specs.NodeFacts.{next_of}
 use Rattle.pt_meaning.specs.Step.{step_at, Step}
 use Rattle.pt_meaning.specs.Job.{Fire}
@@ -21,7 +20,7 @@ use Rattle.pt_library.specs.LibraryActor.{rows}
 use Rattle.pt_node.specs.declared.body.Body.{Body}
 use Rattle.pt_node.specs.declared.body.Body.TheVariants as body
 use Rattle.pt_core.specs.declared.either.Either.TheVariants.{First, Other}
-use Rattle.pt_node.specs.Shown.{Shown, AllShown, Branch, none, more}
+use Rattle.pt_node.specs.Shown.{Shown, Branch}
 use Rattle.pt_node.specs.View.{Tree, node_of, nodes_of, node_with}
 use Rattle.pt_node.specs.Live as live
 use Rattle.pt_agenda.specs.Events as agenda
@@ -34,26 +33,8 @@ use Rattle.pt_trees.specs.declared.top.Top.{Top}
 use Rattle.pt_trees.specs.declared.top.Top.TheVariants.{Sdf, Sr, De, Once}
 use Rattle.pt_trees.specs.Top.{ticks_of, SdfFits, SrFits, DeFits, OnceFits, FitsCore, IsJobFor, IsWhole}
 use Rattle.pt_trees.specs.Run.{schedule}
-use Rattle.pt_run.proofs.UnmetRuns.{IsQuiet, AllQuiet}
 
--- ---- the directors of the code
-
--- no composite of the code makes meetings
-mutual
-  pub quiet-node : (s : Shown) → IsQuiet (node_of s)
-  quiet-node (Branch f ks) = by_body f.body (quiet-nodes ks)
-    where
-      by_body : (b : Body) → AllQuiet (nodes_of ks) → IsQuiet (node_with f.past b (nodes_of ks))
-      by_body (body.Actor held) kids = tt
-      by_body (body.Composite (First s)) kids = (tt, tt, kids)
-      by_body (body.Composite (Other (First s))) kids = (tt, tt, kids)
-      by_body (body.Composite (Other (Other (First s)))) kids = (tt, tt, kids)
-      by_body (body.Composite (Other (Other (Other (First s))))) kids = (tt, tt, kids)
-      by_body (body.Composite (Other (Other (Other (Other s))))) kids = (tt, tt, kids)
-
-  quiet-nodes : (ks : AllShown) → AllQuiet (nodes_of ks)
-  quiet-nodes none = tt
-  quiet-nodes (more s ss) = (quiet-node s, quiet-nodes ss)
+-- ---- the inputs
 
 -- a list for each own input
 abbrev HasLists : Top → Streams Token → Type 0
@@ -84,10 +65,14 @@ lists-fit (Branch f ks) j tag X = by_body f.body j
     by_body (body.Composite (Other (Other (Other (First s))))) (Sr j) h l = absurd h
     by_body (body.Composite (Other (Other (Other (First s))))) (De j) h l = absurd h
     by_body (body.Composite (Other (Other (Other (First s))))) (Once j) h l = l ∙ h
-    by_body (body.Composite (Other (Other (Other (Other s))))) (Sdf j) h l = absurd h
-    by_body (body.Composite (Other (Other (Other (Other s))))) (Sr j) h l = absurd h
-    by_body (body.Composite (Other (Other (Other (Other s))))) (De j) h l = absurd h
-    by_body (body.Composite (Other (Other (Other (Other s))))) (Once j) h l = absurd h
+    by_body (body.Composite (Other (Other (Other (Other (First s)))))) (Sdf j) h l = absurd h
+    by_body (body.Composite (Other (Other (Other (Other (First s)))))) (Sr j) h l = absurd h
+    by_body (body.Composite (Other (Other (Other (Other (First s)))))) (De j) h l = absurd h
+    by_body (body.Composite (Other (Other (Other (Other (First s)))))) (Once j) h l = absurd h
+    by_body (body.Composite (Other (Other (Other (Other (Other s)))))) (Sdf j) h l = absurd h
+    by_body (body.Composite (Other (Other (Other (Other (Other s)))))) (Sr j) h l = absurd h
+    by_body (body.Composite (Other (Other (Other (Other (Other s)))))) (De j) h l = absurd h
+    by_body (body.Composite (Other (Other (Other (Other (Other s)))))) (Once j) h l = l ∙ h
 
 -- ---- the lists of a turn
 
@@ -120,7 +105,7 @@ due-lists stop E (At t) tag X e = by-time (in_time stop t) e
     by-time true g = let same : events_at t E ≡ X = cc in ap (λ v. length v) (sym same) ∙ events-length t E
     by-time false g = absurd (cc)
 
--- and at a PN top
+-- and at a top that fires once
 once-lists : (n : ℕ) (last : Option Tag) (top : Tree) (tag : Tag) (Y X : Streams Token) → once_top Y n last top ≡ Fire tag X → Y ≡ X
 once-lists zero last top tag Y X e = cc
 once-lists (suc n) last top tag Y X e = absurd (cc)
@@ -177,7 +162,7 @@ module _ (k d : ℕ) (m : Meets) (z : Tree) (tag : Tag) (X out : Streams Token) 
   once-stays j (tree.Pn p Y) f g = subst (λ (v : Tree). IsJobFor (Once j) v) (sym (done-within tag h c (tree.Pn p) _ z out l g).state) f
   once-stays j (tree.Sr p) f g = absurd f
   once-stays j (tree.De p) f g = absurd f
-  once-stays j (tree.Rv p Y) f g = absurd f
+  once-stays j (tree.Rv p Y) f g = subst (λ (v : Tree). IsJobFor (Once j) v) (sym (done-within tag h c (tree.Rv p) _ z out l g).state) f
   once-stays j (tree.Modal chart n) f g = absurd f
 
   core-stays : (j : Top) (e : tree.Core Token) → FitsCore j e → step_at rows k (suc d) m tag (tree.Composite h c e kids) X ≡ Done z out l → IsJobFor j z

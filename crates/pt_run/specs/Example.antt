@@ -1,5 +1,5 @@
 -- An example: a ramp that feeds a scale, in an SDF composite, whose own inputs feed nothing.
-use Rattle.std.specs.Prelude.{ℕ, suc, List, [], ◌∷◌, true, pos, map}
+use Rattle.std.specs.Prelude.{ℕ, suc, List, [], ◌∷◌, true, None, pos, map}
 use Rattle.pt_meaning.specs.Basics.{Streams}
 use Rattle.pt_meaning.specs.Net.{Source, Own, Output}
 use Rattle.pt_meaning.specs.Sdf.{SdfPlan}
@@ -40,10 +40,10 @@ abbrev pub scale : LibraryActor
 scale = Flow (Scale (record { factor = pos 2; places = 1 }))
 
 abbrev pub leaf : LibraryActor → List RecordedPort → List ℕ → Shown
-leaf actor records path = Branch (record { past = unfired; body = Actor (record { start = actor; actor = actor }); records = records; path = path; labels = []; live = true }) none
+leaf actor records path = Branch (record { past = unfired; body = Actor (record { start = actor; actor = actor }); records = records; path = path; labels = []; meetings = None; live = true }) none
 
 abbrev pub chain_kids : (ramp_path scale_path text : List ℕ) → AllShown
 chain_kids ramp_path scale_path text = more (leaf ramp [] ramp_path) (more (leaf scale (record { port = 0; number = 0; text = text; trace = []; noted = [] } ∷ []) scale_path) none)
 
 abbrev pub chain : (takes path ramp_path scale_path text : List ℕ) → Shown
-chain takes path ramp_path scale_path text = Branch (record { past = unfired; body = Composite (First (chain_core takes)); records = []; path = path; labels = []; live = true }) (chain_kids ramp_path scale_path text)
+chain takes path ramp_path scale_path text = Branch (record { past = unfired; body = Composite (First (chain_core takes)); records = []; path = path; labels = []; meetings = None; live = true }) (chain_kids ramp_path scale_path text)

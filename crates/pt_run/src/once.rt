@@ -1,4 +1,4 @@
-// What comes next at a PN top: its one firing, which takes all tokens of each input, then the end.
+// What comes next at a PN or a Rendezvous top: its one firing, which takes all tokens of each input, then the end.
 ghost use Rattle.std.specs.Prelude.{◌≡◌, IfOk};
 ghost use Rattle.pt_meaning.specs.Schedule.{once_top};
 ghost use Rattle.pt_run.specs.Turn.{IsAlwaysNext};
@@ -8,8 +8,8 @@ use pt_firing::Tokens;
 use pt_trees::OnceJob;
 use std::alloc::{AllocError, Global};
 
-/// What comes after so many firings: the one firing, or the end where it is made. It is done where each process waits for tokens or is
-/// over, which is a deadlock.
+/// What comes after so many firings: the one firing, or the end where it is made. It is done where each process waits or is over, which is
+/// a deadlock.
 pub(crate) fn next_turn(alloc: Global, job: &OnceJob, fired: u64) -> Result<Turn, AllocError>
     ensures { IfOk result (IsAlwaysNext (once_top job.now.inputs.items) fired) }
 {

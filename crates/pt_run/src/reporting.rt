@@ -5,23 +5,29 @@ ghost use Rattle.pt_trees.specs.Report.{end_of};
 
 use pt_node::{Node, Recorded};
 use pt_time::Tag;
-use pt_trace::{Report, RunEnd, Trace};
+use pt_trace::{Meetings, Report, RunEnd, Trace};
 use pt_trees::Ended;
 use pt_value::{Text, Token};
 use std::alloc::{AllocError, Global};
 
-/// The report of a run: what each port of the tree has recorded, in the order of the numbers of the ports, of which there are so many.
-pub fn report(alloc: Global, top: &Node, ended: Ended, count: usize) -> Result<Report, AllocError>
+/// The report of a run with these meetings: what each port of the tree has recorded, in the order of the numbers of the ports, of which there are so many.
+pub fn report(
+    alloc: Global,
+    top: &Node,
+    meetings: Vec<Meetings>,
+    ended: Ended,
+    count: usize,
+) -> Result<Report, AllocError>
     requires { AreNumbered count (shown_node top.now) }
     ensures traces { IfOk result (λ report. report.traces ≡ told_of (recorded_ports count (shown_node top.now))) }
-    ensures meetings { IfOk result (λ report. report.meetings ≡ []) }
+    ensures meetings { IfOk result (λ report. report.meetings ≡ meetings.items) }
     ensures end { IfOk result (λ report. report.end ≡ end_of ended) }
 {
     let mut traces = blank_traces(alloc, count)?;
     gather(alloc, top, &mut traces)?;
     Ok(Report {
         traces,
-        meetings: Vec::new(alloc),
+        meetings,
         end: end_told(ended),
     })
 }

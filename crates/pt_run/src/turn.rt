@@ -14,7 +14,7 @@ use pt_time::Tag;
 use pt_trees::{Ended, Top};
 use std::alloc::{AllocError, Global};
 
-/// The tag of each firing of an SDF top, and of the one of a PN top.
+/// The tag of each firing of an SDF top, and of the one of a PN or a Rendezvous top.
 pub(crate) const ORIGIN: Tag = Tag { time: 0, step: 0 };
 
 /// An end of a job.

@@ -1,5 +1,4 @@
 use Rattle.std.proofs.Common.{arith, None, ◌∙◌, sym, subst}
-use Rattle.pt_meaning.specs.Step.{no_meetings}
 use Rattle.pt_records.specs.Made.{meets_of}
 use Rattle.pt_node.specs.Shown.{shown_node}
 use Rattle.pt_node.specs.View.{node_of, kept_of}
@@ -7,7 +6,7 @@ use Rattle.pt_trees.specs.declared.ended.Ended.{Ended}
 use Rattle.pt_trees.specs.declared.ended.Ended.TheVariants as ended
 use Rattle.pt_trees.specs.Run.{schedule, IsRun, IsDefined}
 use Rattle.pt_run.specs.Turn.{ended_by}
-use Rattle.pt_run.proofs.Completing.{Going, is_complete, turn-fires, turn-ends, turn-past, whole, begins, ends-defined, ends-spent, ends-past, takes-inputs, ends-fault, ends-full, ends-within, falls, goes-on, its-own, none-are-those}
+use Rattle.pt_run.proofs.Completing.{Going, completes, turn-fires, turn-ends, turn-past, whole, begins, ends-defined, ends-spent, ends-past, takes-inputs, ends-fault, ends-full, ends-within, falls, goes-on, its-own}
 use Rattle.pt_run.proofs.running.run_within.Goals as goal
 
 -- the whole budget is left
@@ -50,8 +49,8 @@ returns-in-Ends-clause-report c =
 pub returns-in-Ends-clause-complete : goal.returns-in-Ends-clause-complete
 returns-in-Ends-clause-complete c = λ a.
     subst (λ (e : Ended). IsDefined e) (sym c.end_told.ensures)
-    (is_complete c.args.job.now c.args.budget (shown_node c.args.top.now) (shown_node c.loop-left.top) (ended_by c.in-Ends.end)
-    (ends-defined c.args.job.now c.args.budget (shown_node c.args.top.now) c.requires.runnable c.loop-left.fired c.loop-left.last (shown_node c.loop-left.top) c.loop-left.left c.loop-left.invariant c.loop-left-test.true c.in-Ends.end (turn-ends (schedule c.args.job.now) c.loop-left.fired c.loop-left.last (node_of (shown_node c.loop-left.top)) c.in_ok-firing.field-0 c.in_ok-firing.ensures c.in-Ends.end c.in-Ends.is) no_meetings (none-are-those (shown_node c.loop-left.top))) a)
+    (completes c.args.job.now c.args.budget (shown_node c.args.top.now) (shown_node c.loop-left.top) (ended_by c.in-Ends.end)
+    (λ m those. ends-defined c.args.job.now c.args.budget (shown_node c.args.top.now) c.requires.runnable c.loop-left.fired c.loop-left.last (shown_node c.loop-left.top) c.loop-left.left c.loop-left.invariant c.loop-left-test.true c.in-Ends.end (turn-ends (schedule c.args.job.now) c.loop-left.fired c.loop-left.last (node_of (shown_node c.loop-left.top)) c.in_ok-firing.field-0 c.in_ok-firing.ensures c.in-Ends.end c.in-Ends.is) m those) a)
 
 pub returns-in-Limit-clause-report : goal.returns-in-Limit-clause-report
 returns-in-Limit-clause-report c =
@@ -60,10 +59,10 @@ returns-in-Limit-clause-report c =
     c.in_ok-past_limit-in-Limit.field-0 c.in_ok-past_limit-in-Limit.ensures (meets_of (kept_of (shown_node c.loop-left.top))) (its-own (shown_node c.loop-left.top))
 
 pub returns-in-Limit-clause-complete : goal.returns-in-Limit-clause-complete
-returns-in-Limit-clause-complete c = λ a. is_complete c.args.job.now c.args.budget (shown_node c.args.top.now) (shown_node c.loop-left.top) (ended.Fault c.in_ok-past_limit-in-Limit.field-0)
-    (ends-past c.args.job.now c.args.budget (shown_node c.args.top.now) c.requires.runnable c.loop-left.fired c.loop-left.last (shown_node c.loop-left.top) c.loop-left.left c.loop-left.invariant
+returns-in-Limit-clause-complete c = λ a. completes c.args.job.now c.args.budget (shown_node c.args.top.now) (shown_node c.loop-left.top) (ended.Fault c.in_ok-past_limit-in-Limit.field-0)
+    (λ m those. ends-past c.args.job.now c.args.budget (shown_node c.args.top.now) c.requires.runnable c.loop-left.fired c.loop-left.last (shown_node c.loop-left.top) c.loop-left.left c.loop-left.invariant
     (turn-past (schedule c.args.job.now) c.loop-left.fired c.loop-left.last (node_of (shown_node c.loop-left.top)) c.in_ok-firing.field-0 c.in_ok-firing.ensures c.in-Limit.is)
-    c.in_ok-past_limit-in-Limit.field-0 c.in_ok-past_limit-in-Limit.ensures no_meetings (none-are-those (shown_node c.loop-left.top))) a
+    c.in_ok-past_limit-in-Limit.field-0 c.in_ok-past_limit-in-Limit.ensures m those) a
 
 pub returns-in-Fault-clause-report : goal.returns-in-Fault-clause-report
 returns-in-Fault-clause-report c =
@@ -72,10 +71,10 @@ returns-in-Fault-clause-report c =
     (shown_node c.fire_within.new.node) c.in-Fault.ensures.outline c.in-Fault.place c.in-Fault.ensures.answers (meets_of (kept_of (shown_node c.fire_within.new.node))) (its-own (shown_node c.fire_within.new.node))
 
 pub returns-in-Fault-clause-complete : goal.returns-in-Fault-clause-complete
-returns-in-Fault-clause-complete c = λ a. is_complete c.args.job.now c.args.budget (shown_node c.args.top.now) (shown_node c.fire_within.new.node) (ended.Fault c.in-Fault.place)
-    (ends-fault c.args.job.now c.args.budget (shown_node c.args.top.now) c.requires.runnable c.loop-left.fired c.loop-left.last (shown_node c.loop-left.top) c.loop-left.left c.loop-left.invariant c.in-Fire.firing.tag c.of.result
+returns-in-Fault-clause-complete c = λ a. completes c.args.job.now c.args.budget (shown_node c.args.top.now) (shown_node c.fire_within.new.node) (ended.Fault c.in-Fault.place)
+    (λ m those. ends-fault c.args.job.now c.args.budget (shown_node c.args.top.now) c.requires.runnable c.loop-left.fired c.loop-left.last (shown_node c.loop-left.top) c.loop-left.left c.loop-left.invariant c.in-Fire.firing.tag c.of.result
     (turn-fires (schedule c.args.job.now) c.loop-left.fired c.loop-left.last (node_of (shown_node c.loop-left.top)) c.in_ok-firing.field-0 c.in_ok-firing.ensures c.in-Fire.firing c.in-Fire.is c.of.result (c.of.ensures ∙ c.deref.ensures.value))
-    (shown_node c.fire_within.new.node) c.in-Fault.ensures.outline c.in-Fault.place c.in-Fault.ensures.answers no_meetings (none-are-those (shown_node c.fire_within.new.node))) a
+    (shown_node c.fire_within.new.node) c.in-Fault.ensures.outline c.in-Fault.place c.in-Fault.ensures.answers m those) a
 
 pub returns-in-Full-clause-report : goal.returns-in-Full-clause-report
 returns-in-Full-clause-report c =
@@ -84,10 +83,10 @@ returns-in-Full-clause-report c =
     (shown_node c.fire_within.new.node) c.in-Full.ensures.outline c.in-Full.blocked c.in-Full.ensures.answers (meets_of (kept_of (shown_node c.fire_within.new.node))) (its-own (shown_node c.fire_within.new.node))
 
 pub returns-in-Full-clause-complete : goal.returns-in-Full-clause-complete
-returns-in-Full-clause-complete c = λ a. is_complete c.args.job.now c.args.budget (shown_node c.args.top.now) (shown_node c.fire_within.new.node) (ended.Full c.in-Full.blocked)
-    (ends-full c.args.job.now c.args.budget (shown_node c.args.top.now) c.requires.runnable c.loop-left.fired c.loop-left.last (shown_node c.loop-left.top) c.loop-left.left c.loop-left.invariant c.in-Fire.firing.tag c.of.result
+returns-in-Full-clause-complete c = λ a. completes c.args.job.now c.args.budget (shown_node c.args.top.now) (shown_node c.fire_within.new.node) (ended.Full c.in-Full.blocked)
+    (λ m those. ends-full c.args.job.now c.args.budget (shown_node c.args.top.now) c.requires.runnable c.loop-left.fired c.loop-left.last (shown_node c.loop-left.top) c.loop-left.left c.loop-left.invariant c.in-Fire.firing.tag c.of.result
     (turn-fires (schedule c.args.job.now) c.loop-left.fired c.loop-left.last (node_of (shown_node c.loop-left.top)) c.in_ok-firing.field-0 c.in_ok-firing.ensures c.in-Fire.firing c.in-Fire.is c.of.result (c.of.ensures ∙ c.deref.ensures.value))
-    (shown_node c.fire_within.new.node) c.in-Full.ensures.outline c.in-Full.blocked c.in-Full.ensures.answers no_meetings (none-are-those (shown_node c.fire_within.new.node))) a
+    (shown_node c.fire_within.new.node) c.in-Full.ensures.outline c.in-Full.blocked c.in-Full.ensures.answers m those) a
 
 pub returns-in-Spent-clause-report : goal.returns-in-Spent-clause-report
 returns-in-Spent-clause-report c =
@@ -96,10 +95,10 @@ returns-in-Spent-clause-report c =
     (shown_node c.fire_within.new.node) c.in-Spent.ensures.outline c.fire_within.new.left c.in-Spent.ensures.counted c.in-Spent.field-0 c.in-Spent.ensures.answers (meets_of (kept_of (shown_node c.fire_within.new.node))) (its-own (shown_node c.fire_within.new.node))
 
 pub returns-in-Spent-clause-complete : goal.returns-in-Spent-clause-complete
-returns-in-Spent-clause-complete c = λ a. is_complete c.args.job.now c.args.budget (shown_node c.args.top.now) (shown_node c.fire_within.new.node) (ended.Spent c.args.budget)
-    (ends-within c.args.job.now c.args.budget (shown_node c.args.top.now) c.requires.runnable c.loop-left.fired c.loop-left.last (shown_node c.loop-left.top) c.loop-left.left c.loop-left.invariant c.in-Fire.firing.tag c.of.result
+returns-in-Spent-clause-complete c = λ a. completes c.args.job.now c.args.budget (shown_node c.args.top.now) (shown_node c.fire_within.new.node) (ended.Spent c.args.budget)
+    (λ m those. ends-within c.args.job.now c.args.budget (shown_node c.args.top.now) c.requires.runnable c.loop-left.fired c.loop-left.last (shown_node c.loop-left.top) c.loop-left.left c.loop-left.invariant c.in-Fire.firing.tag c.of.result
     (turn-fires (schedule c.args.job.now) c.loop-left.fired c.loop-left.last (node_of (shown_node c.loop-left.top)) c.in_ok-firing.field-0 c.in_ok-firing.ensures c.in-Fire.firing c.in-Fire.is c.of.result (c.of.ensures ∙ c.deref.ensures.value))
-    (shown_node c.fire_within.new.node) c.in-Spent.ensures.outline c.fire_within.new.left c.in-Spent.ensures.counted c.in-Spent.field-0 c.in-Spent.ensures.answers no_meetings (none-are-those (shown_node c.fire_within.new.node))) a
+    (shown_node c.fire_within.new.node) c.in-Spent.ensures.outline c.fire_within.new.left c.in-Spent.ensures.counted c.in-Spent.field-0 c.in-Spent.ensures.answers m those) a
 
 pub loop-left-smaller : goal.loop-left-smaller
 loop-left-smaller c =
@@ -118,5 +117,5 @@ returns-clause-report c =
     ends-spent c.args.job.now c.args.budget (shown_node c.args.top.now) c.requires.runnable c.loop-left.fired c.loop-left.last (shown_node c.loop-left.top) c.loop-left.left c.loop-left.invariant (omega (arith, c.loop-left-test.false)) (meets_of (kept_of (shown_node c.loop-left.top))) (its-own (shown_node c.loop-left.top))
 
 pub returns-clause-complete : goal.returns-clause-complete
-returns-clause-complete c = λ a. is_complete c.args.job.now c.args.budget (shown_node c.args.top.now) (shown_node c.loop-left.top) (ended.Spent c.args.budget)
-    (ends-spent c.args.job.now c.args.budget (shown_node c.args.top.now) c.requires.runnable c.loop-left.fired c.loop-left.last (shown_node c.loop-left.top) c.loop-left.left c.loop-left.invariant (omega (arith, c.loop-left-test.false)) no_meetings (none-are-those (shown_node c.loop-left.top))) a
+returns-clause-complete c = λ a. completes c.args.job.now c.args.budget (shown_node c.args.top.now) (shown_node c.loop-left.top) (ended.Spent c.args.budget)
+    (λ m those. ends-spent c.args.job.now c.args.budget (shown_node c.args.top.now) c.requires.runnable c.loop-left.fired c.loop-left.last (shown_node c.loop-left.top) c.loop-left.left c.loop-left.invariant (omega (arith, c.loop-left-test.false)) m those) a
