@@ -1,6 +1,7 @@
 -- What the reading of a document leaves of the rules on its entities: each is of a kind, its parts keep the rules of that, and its ports have names that differ.
 use Rattle.std.proofs.Common.{◌≡◌, ℕ, List, [], ◌∷◌, ◌++◌, true, Option, Some, None, Result, Ok, codes, map, sym, ap, ◌∙◌, subst}
 use Rattle.std.proofs.Common.{Ordering, Less, Equal, Greater}
+use Rattle.std.specs.List.{AllByRecursion}
 use Rattle.std.specs.Ordering.{nat_cmp, match_ordering}
 use Rattle.std.specs.Cmp.Lexicographic.{slice_cmp}
 use Rattle.serde_json.specs.Data.{Data, null, boolean, number, string, array, object, Items, no_items, item, Members, no_members, member}
@@ -12,15 +13,20 @@ use Rattle.pt_document.specs.declared.job.State.{State}
 use Rattle.pt_document.specs.declared.refusal.Refusal.{Refusal}
 use Rattle.pt_document.specs.Document.{PropertyTree, PortTree, TransitionTree, Parts, EntityTree, EntityTrees, entity, no_entities, one_entity, to_entities, entity_name, JobTree}
 use Rattle.pt_document.specs.Classes.{Kind, kind_of}
-use Rattle.pt_document.specs.Names.{are_distinct, below, top_path}
+use Rattle.pt_document.specs.Names.{is_name, are_distinct, below, top_path}
 use Rattle.pt_document.specs.Outcome.{◌>>=◌}
-use Rattle.pt_moml.specs.Fields.{listed, name_at, optional_list, text_at, distinct_at}
+use Rattle.pt_moml.specs.Fields.{listed, name_at, items_at, optional_list, optional_truth, text_at, distinct_at}
 use Rattle.pt_moml.specs.Rules.{parts_fit}
-use Rattle.pt_moml.specs.Reading.{named, entity_fields, properties_field, port_at, ports_field, relations_field, link_at, states_field, initial_field, transition_at, parts_at, entity_from, entities_in, entities_under, entities_at, entity_items, entities_field, limits_at, model_at, version_at, job_fields, input_at, job_of, IsJobOf}
+use Rattle.pt_moml.specs.Reading.{named, entity_fields, properties_field, port_fields, direction_at, declared_at, port_at, ports_field, relations_field, link_at, states_field, initial_field, transition_at, parts_at, entity_from, entities_in, entities_under, entities_at, entity_items, entities_field, limits_at, model_at, version_at, job_fields, input_at, job_of, IsJobOf}
 use Rattle.pt_document.proofs.Chains.{good, bind_ok, never_ok, test_ok}
+use Rattle.pt_moml.proofs.FieldLaws.{name_ok}
 use Rattle.pt_moml.proofs.EntityLaws.{steps}
 
--- an entity is of a kind, its properties and ports are as that wants them, and its ports have names that differ
+-- the ports have names as documents have them
+abbrev pub AreNamed : List PortTree → Type 0
+AreNamed ps = AllByRecursion (λ (p : PortTree). is_name p.name ≡ true) ps
+
+-- an entity is of a kind, its properties and ports are as that wants them, and its ports have names, which differ
 pub record IsRead (own : Parts) : Type 0 where
   pub here : List ℕ
   pub kind : Kind
@@ -28,6 +34,7 @@ pub record IsRead (own : Parts) : Type 0 where
   pub kind_is : kind_of own.class ≡ Some kind
   pub rules : parts_fit here kind own.properties own.ports ≡ Ok given
   pub distinct : are_distinct (map (λ (p : PortTree). p.name) own.ports) ≡ true
+  pub names : AreNamed own.ports
 
 -- an entity and all within it
 abbrev mutual
@@ -80,6 +87,52 @@ distinct-ports here field ps e =
     let is : a.0 ≡ ps = cc in
     subst (λ (qs : List PortTree). are_distinct (map (λ (p : PortTree). p.name) qs) ≡ true) is distinct.0
 
+-- each has a name
+port-named : (here : List ℕ) (d : Data) (p : PortTree) → port_at here d ≡ Ok p → is_name p.name ≡ true
+unfolding port_at
+port-named here d p e =
+    let a = bind_ok (listed here port_fields d) _ p e in
+    let b = bind_ok (name_at here (get (codes "name") d)) _ p a.2 in
+    let c = bind_ok (optional_truth here (get (codes "input") d)) _ p b.2 in
+    let f = bind_ok (optional_truth here (get (codes "output") d)) _ p c.2 in
+    let g = bind_ok (direction_at here c.0 f.0) _ p f.2 in
+    let h = bind_ok (declared_at here (get (codes "type") d)) _ p g.2 in
+    let i = bind_ok (properties_field here (get (codes "properties") d)) _ p h.2 in
+    let same : record { name = b.0; direction = g.0; declared = h.0; properties = i.0 } ≡ p = same_good _ p i.2 in
+    subst (λ (q : PortTree). is_name q.name ≡ true) same (name_ok here (get (codes "name") d) b.0 b.1).1
+  where
+    same_good : (q r : PortTree) → good q ≡ good r → q ≡ r
+    same_good q r e = cc
+
+named-push : (ps : List PortTree) (p : PortTree) → AreNamed ps → is_name p.name ≡ true → AreNamed (ps ++ p ∷ [])
+named-push [] p all one = (one, tt)
+named-push (q ∷ ps) p all one = (all.0, named-push ps p all.1 one)
+
+items-named : (here : List ℕ) (done : List PortTree) (ds : Items) (ps : List PortTree) → AreNamed done → items_at (port_at here) done ds ≡ Ok ps → AreNamed ps
+items-named here done no_items ps all e = let h : good done ≡ good ps = e in let is : done ≡ ps = cc in subst AreNamed is all
+items-named here done (item d ds) ps all e =
+    let a = bind_ok (port_at here d) (λ x. items_at (port_at here) (done ++ x ∷ []) ds) ps e in
+    items-named here (done ++ a.0 ∷ []) ds ps (named-push done a.0 all (port-named here d a.0 a.1)) a.2
+
+list-named : (here : List ℕ) (field : Option Data) (ps : List PortTree) → optional_list port_at here field ≡ Ok ps → AreNamed ps
+unfolding optional_list
+list-named here None ps e = let h : good [] ≡ good ps = e in let is : [] ≡ ps = cc in subst AreNamed is tt
+list-named here (Some (array ds)) ps e = items-named here [] ds ps tt e
+list-named here (Some null) ps e = absurd (never_ok _ here ps e)
+list-named here (Some (boolean b)) ps e = absurd (never_ok _ here ps e)
+list-named here (Some (number n)) ps e = absurd (never_ok _ here ps e)
+list-named here (Some (string s)) ps e = absurd (never_ok _ here ps e)
+list-named here (Some (object ms)) ps e = absurd (never_ok _ here ps e)
+
+ports-named : (here : List ℕ) (field : Option Data) (ps : List PortTree) → ports_field here field ≡ Ok ps → AreNamed ps
+unfolding named distinct_at
+ports-named here field ps e =
+    let a = bind_ok (optional_list port_at here field) (λ qs. named here (λ (p : PortTree). p.name) qs) ps e in
+    let b = bind_ok (distinct_at here (map (λ (p : PortTree). p.name) a.0)) (λ _. good a.0) ps a.2 in
+    let both : good a.0 ≡ good ps = b.2 in
+    let is : a.0 ≡ ps = cc in
+    subst AreNamed is (list-named here field a.0 a.1)
+
 entity-read : (here name : List ℕ) (d : Data) (inner : Result (List EntityTree) Refusal) (e : EntityTree) → ((es : List EntityTree) → inner ≡ Ok es → AllRead es) → entity_from here name d inner ≡ Ok e → IsReadWhole e
 entity-read here name d inner e read h =
     let s = steps here name d inner e h in
@@ -91,6 +144,7 @@ entity-read here name d inner e read h =
       kind_is = ap kind_of (sym p.same) ∙ s.kind_is;
       rules = s.rules_are;
       distinct = distinct-ports here (get (codes "ports") d) s.own.ports p.ports;
+      names = ports-named here (get (codes "ports") d) s.own.ports p.ports;
     } in
     subst (λ (x : EntityTree). IsReadWhole x) s.is (own, read s.entities s.entities_are)
 
