@@ -1,0 +1,4 @@
+pub mod Sites
+pub mod Standing
+pub mod Tables
+pub mod Laws
