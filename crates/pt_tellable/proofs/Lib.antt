@@ -1,0 +1,10 @@
+pub mod Names
+pub mod Naming
+pub mod Places
+pub mod NetPaths
+pub mod PortNames
+pub mod Extents
+pub mod Ends
+pub mod OwnTexts
+pub mod Telling
+pub mod Forms
