@@ -33,6 +33,7 @@ use Rattle.pt_lib_time.specs.TimeActor as time_actor
 use Rattle.pt_lib_time.specs.Absent as absent
 use Rattle.pt_lib_time.specs.Current as current
 use Rattle.pt_lib_time.specs.Default as fallback
+use Rattle.pt_lib_time.specs.Merge as merge
 use Rattle.pt_lib_time.specs.NonStrictDelay as non_strict_delay
 use Rattle.pt_lib_time.specs.NonStrictLogicGate as non_strict_logic_gate
 use Rattle.pt_lib_time.specs.NonStrictMux as non_strict_mux
@@ -172,6 +173,7 @@ there-mapped f o w = (f w.0, ap (option_map f) w.1)
 function-starts : (c : Class) (params : Params) → AreOfClass (name_of c) params → IsThere (start_as c params.values params.ports)
 function-starts class.ArrayElement params of = there-mapped function.ArrayElement (array_element.start params.values) (index-there params of)
 function-starts class.ArrayToSequence params of = there-mapped function.ArrayToSequence (sequence_to_array.start params.values) (length-there (codes "ArrayToSequence") params of to-sequence)
+function-starts class.Barrier params of = (_, refl)
 function-starts class.Comparator params of = there-mapped function.Comparator (comparator.start params.values) (relation-there params of)
 function-starts class.Discard params of = (_, refl)
 function-starts class.ElementsToArray params of = (_, refl)
@@ -195,6 +197,7 @@ pub time-starts : (c : TimeClass) (params : Params) → AreOfClass (signals.name
 time-starts time_class.Absent params of e = mapped-there time.Absent (absent.start params) (_, refl) e
 time-starts time_class.Current params of e = mapped-there time.Current (current.start params) (_, refl) e
 time-starts time_class.Default params of e = mapped-there time.Default (fallback.start params) (_, refl) e
+time-starts time_class.Merge params of e = mapped-there time.Merge (merge.start params) (_, refl) e
 time-starts time_class.NonStrictDelay params of e = mapped-there time.NonStrictDelay (non_strict_delay.start params) (_, refl) e
 time-starts time_class.NonStrictLogicGate params of e = mapped-there time.NonStrictLogicGate (non_strict_logic_gate.start params) (gate-there params of) e
 time-starts time_class.NonStrictMux params of e = mapped-there time.NonStrictMux (non_strict_mux.start params) (_, refl) e

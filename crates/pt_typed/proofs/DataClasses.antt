@@ -25,6 +25,7 @@ use Rattle.pt_typed.proofs.ClassPorts.{heads_in, marks_in, declares_in, outs_fro
 abbrev pub heads_of : Class → List (List ℕ × Direction)
 heads_of class.ArrayElement = (codes "input", Input) ∷ (codes "output", Output) ∷ []
 heads_of class.ArrayToSequence = (codes "input", Input) ∷ (codes "output", Output) ∷ []
+heads_of class.Barrier = (codes "input", Input) ∷ (codes "output", Output) ∷ []
 heads_of class.Comparator = (codes "left", Input) ∷ (codes "right", Input) ∷ (codes "output", Output) ∷ []
 heads_of class.Discard = (codes "input", Input) ∷ []
 heads_of class.ElementsToArray = (codes "input", Input) ∷ (codes "output", Output) ∷ []
@@ -40,6 +41,7 @@ heads_of class.StringLength = (codes "input", Input) ∷ (codes "output", Output
 abbrev pub marks_of : Class → List (Direction × Arity)
 marks_of class.ArrayElement = (Input, arity.Single) ∷ (Output, arity.Single) ∷ []
 marks_of class.ArrayToSequence = (Input, arity.Single) ∷ (Output, arity.Single) ∷ []
+marks_of class.Barrier = (Input, arity.Many) ∷ (Output, arity.Single) ∷ []
 marks_of class.Comparator = (Input, arity.Single) ∷ (Input, arity.Single) ∷ (Output, arity.Single) ∷ []
 marks_of class.Discard = (Input, arity.Many) ∷ []
 marks_of class.ElementsToArray = (Input, arity.Many) ∷ (Output, arity.Single) ∷ []
@@ -56,6 +58,7 @@ marks_of class.StringLength = (Input, arity.Single) ∷ (Output, arity.Single) �
 abbrev pub types_of : Class → List PortType
 types_of class.ArrayElement = port.RowArray ∷ port.Row ∷ []
 types_of class.ArrayToSequence = port.RowArray ∷ port.Row ∷ []
+types_of class.Barrier = port.Row ∷ port.RowArray ∷ []
 types_of class.Comparator = port.Int ∷ port.Int ∷ port.Boolean ∷ []
 types_of class.Discard = port.Free ∷ []
 types_of class.ElementsToArray = port.Row ∷ port.RowArray ∷ []
@@ -72,6 +75,7 @@ types_of class.StringLength = port.Words ∷ port.Int ∷ []
 abbrev pub is_plain : Class → Bool
 is_plain class.ArrayElement = true
 is_plain class.ArrayToSequence = true
+is_plain class.Barrier = true
 is_plain class.Comparator = true
 is_plain class.Discard = true
 is_plain class.ElementsToArray = true
@@ -88,6 +92,7 @@ pub heads-are : (c : Class) → heads_in (kind_of (name_of c)) ≡ heads_of c
 unfolding kind_of class_row classes
 heads-are class.ArrayElement = refl
 heads-are class.ArrayToSequence = refl
+heads-are class.Barrier = refl
 heads-are class.Comparator = refl
 heads-are class.Discard = refl
 heads-are class.ElementsToArray = refl
@@ -104,6 +109,7 @@ pub marks-are : (c : Class) → marks_in (kind_of (name_of c)) ≡ marks_of c
 unfolding kind_of class_row classes
 marks-are class.ArrayElement = refl
 marks-are class.ArrayToSequence = refl
+marks-are class.Barrier = refl
 marks-are class.Comparator = refl
 marks-are class.Discard = refl
 marks-are class.ElementsToArray = refl
@@ -120,6 +126,7 @@ pub plain-declares : (c : Class) → is_plain c ≡ true → declares_in (kind_o
 unfolding kind_of class_row classes
 plain-declares class.ArrayElement p = refl
 plain-declares class.ArrayToSequence p = refl
+plain-declares class.Barrier p = refl
 plain-declares class.Comparator p = refl
 plain-declares class.Discard p = refl
 plain-declares class.ElementsToArray p = refl
@@ -136,6 +143,7 @@ pub types-are : (c : Class) → map (head_type (name_of c)) (heads_of c) ≡ typ
 unfolding head_type port_rows
 types-are class.ArrayElement = refl
 types-are class.ArrayToSequence = refl
+types-are class.Barrier = refl
 types-are class.Comparator = refl
 types-are class.Discard = refl
 types-are class.ElementsToArray = refl
@@ -152,6 +160,7 @@ types-are class.StringLength = refl
 pub data-fits : (c : Class) (r : Datatype) (types : ℕ → Datatype) (counts : ℕ → ℕ) (ports : List (List ℕ × ℕ)) → is_plain c ≡ true → PortFacts r types 0 (types_of c) → DataAsks (map types (ends_from counts 0 (map (λ h. h.1) (heads_of c)))) (map types (outs_from 0 (map (λ h. h.1) (heads_of c)))) c ports
 data-fits class.ArrayElement r types counts ports p f = one-array types (counts 0) 0 (types 1) (below-trans (or_general (element (types 0))) r (types 1) f.0.1 f.1.0.0)
 data-fits class.ArrayToSequence r types counts ports p f = one-array types (counts 0) 0 (types 1) (below-trans (or_general (element (types 0))) r (types 1) f.0.1 f.1.0.0)
+data-fits class.Barrier r types counts ports p f = record { element = r; above = all-ports types (counts 0) 0 r f.0.1; taken = f.1.0.0 }
 data-fits class.Comparator r types counts ports p f = f.1.1.0
 data-fits class.Discard r types counts ports p f = tt
 data-fits class.ElementsToArray r types counts ports p f = record { element = r; above = all-ports types (counts 0) 0 r f.0.1; taken = f.1.0.0 }

@@ -27,7 +27,7 @@ use Rattle.pt_firing.specs.declared.fault.RunFault.TheVariants.{Size, Length, Ov
 use Rattle.pt_lib_data.specs.declared.comparator.Relation.{Relation}
 use Rattle.pt_lib_data.specs.declared.data_actor.DataActor.{DataActor}
 use Rattle.pt_lib_data.specs.declared.function.Function.{Function}
-use Rattle.pt_lib_data.specs.declared.function.Function.TheVariants.{ArrayElement, ArrayToSequence, Comparator, Discard, ElementsToArray, Equals, Limiter, LogicFunction, LogicalNot, RecordAssembler, RecordDisassembler, SequenceToArray, StringLength}
+use Rattle.pt_lib_data.specs.declared.function.Function.TheVariants.{ArrayElement, ArrayToSequence, Barrier, Comparator, Discard, ElementsToArray, Equals, Limiter, LogicFunction, LogicalNot, RecordAssembler, RecordDisassembler, SequenceToArray, StringLength}
 use Rattle.pt_lib_data.specs.Reply.{Reply, Gives, Fails, one, nothing, on, sized, largest}
 use Rattle.pt_lib_data.specs.ArrayElement as array_element
 use Rattle.pt_lib_data.specs.ArrayToSequence as array_to_sequence
@@ -190,6 +190,8 @@ give-of ps [] (ArrayElement index) X h a = absurd h
 give-of ps (u ∷ us) (ArrayElement index) X h a = index-of ps u us index X a.1 h (token_at X 0) refl
 give-of ps [] (ArrayToSequence count) X h a = absurd h
 give-of ps (u ∷ us) (ArrayToSequence count) X h a = sequence-of ps u us count X a.1 h (token_at X 0) refl
+give-of ps [] Barrier X h a = absurd h
+give-of ps (u ∷ us) Barrier X h a = arrays-of ps u us X a.1 h
 give-of ps us (Comparator relation) X h a = compared-of us relation (number_at X 0) (number_at X 1) h
 give-of ps us Discard X h a = tt
 give-of ps [] ElementsToArray X h a = absurd h

@@ -11,7 +11,7 @@ use Rattle.pt_lib_data.specs.declared.data_actor.DataActor.{DataActor}
 use Rattle.pt_lib_data.specs.declared.function.Class.{Class}
 use Rattle.pt_lib_data.specs.declared.function.Class.TheVariants as class
 use Rattle.pt_lib_data.specs.declared.function.Function.{Function}
-use Rattle.pt_lib_data.specs.declared.function.Function.TheVariants.{ArrayElement, ArrayToSequence, Comparator, Discard, ElementsToArray, Equals, Limiter, LogicFunction, LogicalNot, RecordAssembler, RecordDisassembler, SequenceToArray, StringLength}
+use Rattle.pt_lib_data.specs.declared.function.Function.TheVariants.{ArrayElement, ArrayToSequence, Barrier, Comparator, Discard, ElementsToArray, Equals, Limiter, LogicFunction, LogicalNot, RecordAssembler, RecordDisassembler, SequenceToArray, StringLength}
 use Rattle.pt_lib_data.specs.ArrayElement as array_element
 use Rattle.pt_lib_data.specs.Comparator as comparator
 use Rattle.pt_lib_data.specs.Limiter as limiter
@@ -26,6 +26,7 @@ use Rattle.pt_typed.proofs.FlowStarts.{mapped}
 abbrev pub name_of : Class → List ℕ
 name_of class.ArrayElement = codes "ArrayElement"
 name_of class.ArrayToSequence = codes "ArrayToSequence"
+name_of class.Barrier = codes "Barrier"
 name_of class.Comparator = codes "Comparator"
 name_of class.Discard = codes "Discard"
 name_of class.ElementsToArray = codes "ElementsToArray"
@@ -48,12 +49,13 @@ or-named name this c d later more is e = by_test (bytes_eq name this) refl e
 -- the name of a class that is found
 pub class-named : (name : List ℕ) (d : Class) → class_of name ≡ Some d → name ≡ name_of d
 class-named name d is =
-    (or-named name (codes "ArrayElement") class.ArrayElement d _ (or-named name (codes "ArrayToSequence") class.ArrayToSequence d _ (or-named name (codes "Comparator") class.Comparator d _ (or-named name (codes "Discard") class.Discard d _ (or-named name (codes "ElementsToArray") class.ElementsToArray d _ (or-named name (codes "Equals") class.Equals d _ (or-named name (codes "Limiter") class.Limiter d _ (or-named name (codes "LogicFunction") class.LogicFunction d _ (or-named name (codes "LogicalNot") class.LogicalNot d _ (or-named name (codes "RecordAssembler") class.RecordAssembler d _ (or-named name (codes "RecordDisassembler") class.RecordDisassembler d _ (or-named name (codes "SequenceToArray") class.SequenceToArray d _ (or-named name (codes "StringLength") class.StringLength d None (λ none. absurd (cc)) refl) refl) refl) refl) refl) refl) refl) refl) refl) refl) refl) refl) refl) is
+    (or-named name (codes "ArrayElement") class.ArrayElement d _ (or-named name (codes "ArrayToSequence") class.ArrayToSequence d _ (or-named name (codes "Barrier") class.Barrier d _ (or-named name (codes "Comparator") class.Comparator d _ (or-named name (codes "Discard") class.Discard d _ (or-named name (codes "ElementsToArray") class.ElementsToArray d _ (or-named name (codes "Equals") class.Equals d _ (or-named name (codes "Limiter") class.Limiter d _ (or-named name (codes "LogicFunction") class.LogicFunction d _ (or-named name (codes "LogicalNot") class.LogicalNot d _ (or-named name (codes "RecordAssembler") class.RecordAssembler d _ (or-named name (codes "RecordDisassembler") class.RecordDisassembler d _ (or-named name (codes "SequenceToArray") class.SequenceToArray d _ (or-named name (codes "StringLength") class.StringLength d None (λ none. absurd (cc)) refl) refl) refl) refl) refl) refl) refl) refl) refl) refl) refl) refl) refl) refl) is
 
 -- what a class asks of the types
 abbrev pub DataAsks : (places outputs : List Datatype) → Class → List (List ℕ × ℕ) → Type 0
 DataAsks places outputs class.ArrayElement ports = ToFirst (λ u. IsUnder (elements_of (get places 0)) u) outputs
 DataAsks places outputs class.ArrayToSequence ports = ToFirst (λ u. IsUnder (elements_of (get places 0)) u) outputs
+DataAsks places outputs class.Barrier ports = ToFirst (λ u. TakesArrays places u) outputs
 DataAsks places outputs class.Comparator ports = ToFirst (λ u. IsBelow Boolean u) outputs
 DataAsks places outputs class.Discard ports = Unit {0}
 DataAsks places outputs class.ElementsToArray ports = ToFirst (λ u. TakesArrays places u) outputs
@@ -69,6 +71,7 @@ DataAsks places outputs class.StringLength ports = ToFirst (λ u. IsBelow Int u)
 function-asked : (places outputs : List Datatype) (c : Class) (values : List (List ℕ × Token)) (ports : List (List ℕ × ℕ)) (f : Function) → start_as c values ports ≡ Some f → DataAsks places outputs c ports → IsTypedFunction places outputs f
 function-asked places outputs class.ArrayElement values ports f e h = let w = mapped ArrayElement (array_element.start values) f e in subst (IsTypedFunction places outputs) w.2 h
 function-asked places outputs class.ArrayToSequence values ports f e h = let w = mapped ArrayToSequence (sequence_to_array.start values) f e in subst (IsTypedFunction places outputs) w.2 h
+function-asked places outputs class.Barrier values ports f e h = let same : Barrier ≡ f = cc in subst (IsTypedFunction places outputs) same h
 function-asked places outputs class.Comparator values ports f e h = let w = mapped Comparator (comparator.start values) f e in subst (IsTypedFunction places outputs) w.2 h
 function-asked places outputs class.Discard values ports f e h = let same : Discard ≡ f = cc in subst (IsTypedFunction places outputs) same h
 function-asked places outputs class.ElementsToArray values ports f e h = let same : ElementsToArray ≡ f = cc in subst (IsTypedFunction places outputs) same h

@@ -9,6 +9,7 @@ pub mod ActorLaws
 pub mod TypedRunLaws
 pub mod NetLaws
 pub mod UnfedLaws
+pub mod FirstPlaces
 pub mod TreeLaws
 pub mod JobLaws
 pub mod Examples

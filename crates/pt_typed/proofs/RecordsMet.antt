@@ -224,6 +224,7 @@ module _ (net : Net) (values : Values) (typing : Assignment) (k : ℕ) (e : NetE
   by-class : (c : DataClass) (a : DataActor) → function.class_of params.class ≡ Some c → data_actor.started_as c params.values params.ports ≡ Some a → (f : Function) → function.start_as c params.values params.ports ≡ Some f → is_record_function f ≡ true → MeetsRow (types_below net typing k []) (Data a)
   by-class kinds.ArrayElement a is started f e' p = let w = mapped made.ArrayElement (array_element.start params.values) f e' in other-function f (made.ArrayElement w.0) w.2 refl p
   by-class kinds.ArrayToSequence a is started f e' p = let w = mapped made.ArrayToSequence (sequence_to_array.start params.values) f e' in other-function f (made.ArrayToSequence w.0) w.2 refl p
+  by-class kinds.Barrier a is started f e' p = other-function f made.Barrier (same_Some made.Barrier f e') refl p
   by-class kinds.Comparator a is started f e' p = let w = mapped made.Comparator (comparator.start params.values) f e' in other-function f (made.Comparator w.0) w.2 refl p
   by-class kinds.Discard a is started f e' p = other-function f made.Discard (same_Some made.Discard f e') refl p
   by-class kinds.ElementsToArray a is started f e' p = other-function f made.ElementsToArray (same_Some made.ElementsToArray f e') refl p

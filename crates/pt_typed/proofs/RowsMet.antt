@@ -111,6 +111,7 @@ plain-class class.UpSample params a e p = refl
 plain-function : (c : DataClass) (params : Params) (f : Function) → function.start_as c params.values params.ports ≡ Some f → is_plain_function f ≡ true → data_classes.is_plain c ≡ true
 plain-function kinds.ArrayElement params f e p = refl
 plain-function kinds.ArrayToSequence params f e p = refl
+plain-function kinds.Barrier params f e p = refl
 plain-function kinds.Comparator params f e p = refl
 plain-function kinds.Discard params f e p = refl
 plain-function kinds.ElementsToArray params f e p = refl

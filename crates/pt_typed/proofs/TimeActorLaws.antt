@@ -15,13 +15,14 @@ use Rattle.pt_datatypes.specs.Order.{IsBelow}
 use Rattle.pt_firing.specs.Row.{first_in, token_at, number_of, number_at, truth_at, on_present}
 use Rattle.pt_firing.specs.Strict.{strict}
 use Rattle.pt_lib_time.specs.declared.time_actor.TimeActor.{TimeActor}
-use Rattle.pt_lib_time.specs.declared.time_actor.TimeActor.TheVariants.{Absent, Current, Default, NonStrictDelay, NonStrictLogicGate, NonStrictMux, Pre, When}
+use Rattle.pt_lib_time.specs.declared.time_actor.TimeActor.TheVariants.{Absent, Current, Default, Merge, NonStrictDelay, NonStrictLogicGate, NonStrictMux, Pre, When}
 use Rattle.pt_lib_time.specs.declared.non_strict_mux.NonStrictMux as muxes
 use Rattle.pt_lib_time.specs.declared.pre.Pre as pres
 use Rattle.pt_lib_time.specs.Signal.{tokens_of, shows, known_token, signal_known, decided_or}
 use Rattle.pt_lib_time.specs.Absent as absent
 use Rattle.pt_lib_time.specs.Current as current
 use Rattle.pt_lib_time.specs.Default as fallback
+use Rattle.pt_lib_time.specs.Merge as merge
 use Rattle.pt_lib_time.specs.NonStrictLogicGate as non_strict_logic_gate
 use Rattle.pt_lib_time.specs.NonStrictMux as non_strict_mux
 use Rattle.pt_lib_time.specs.Pre as pre
@@ -50,6 +51,13 @@ arrived ps X n u a h = by_token (token_at X n) refl
 pub either : (u : Datatype) (o p : Option Token) → IsSignalOf u o → IsSignalOf u p → IsSignalOf u (option_or o p)
 either u None p h k = k
 either u (Some t) p h k = h
+
+-- the first token that is there, where each place is below
+first-arrived : (ps : List Datatype) (X : Streams Token) (u : Datatype) → AreOf IsTokenOf ps X → AllByRecursion (λ t. IsBelow t u) ps → IsSignalOf u (merge.first_present X)
+unfolding merge.first_present
+first-arrived ps [] u a h = tt
+first-arrived [] (xs ∷ X) u a h = absurd a
+first-arrived (p ∷ ps) (xs ∷ X) u a h = either u (first_in xs) (merge.first_present X) (arrived (p ∷ ps) (xs ∷ X) 0 u a h.0) (first-arrived ps X u a.1 h.1)
 
 where-true : (u : Datatype) (c : Option Bool) (o : Option Token) → IsSignalOf u o → IsSignalOf u (when.where_true c o)
 where-true u None o h = tt
@@ -111,6 +119,7 @@ leaves-of ps u us tag (Current a) X h i =
     let given = either u (token_at X 0) a.kept (arrived ps X 0 u i h.0) h.1 in
     shown u us (IsTypedTime ps (u ∷ us)) (Current (record a { kept = signal })) signal given (h.0, given)
 leaves-of ps u us tag (Default a) X h i = shown u us (IsTypedTime ps (u ∷ us)) (Default a) (option_or (token_at X 0) (token_at X 1)) (either u (token_at X 0) (token_at X 1) (arrived ps X 0 u i h.0) (arrived ps X 1 u i h.1)) h
+leaves-of ps u us tag (Merge a) X h i = shown u us (IsTypedTime ps (u ∷ us)) (Merge a) (merge.first_present X) (first-arrived ps X u i h) h
 leaves-of ps u us tag (NonStrictDelay a) X h i = shown u us (IsTypedTime ps (u ∷ us)) (NonStrictDelay (record a { kept = token_at X 0 })) a.kept h.1 (h.0, arrived ps X 0 u i h.0)
 leaves-of ps u us tag (NonStrictLogicGate a) X h i =
     let truth = non_strict_logic_gate.result a.gate X in
@@ -128,6 +137,7 @@ no-output : (ps : List Datatype) (a : TimeActor) → IsTypedTime ps [] a → ⊥
 no-output ps (Absent a) h = h
 no-output ps (Current a) h = h
 no-output ps (Default a) h = h
+no-output ps (Merge a) h = h
 no-output ps (NonStrictDelay a) h = h
 no-output ps (NonStrictLogicGate a) h = h
 no-output ps (NonStrictMux a) h = h
@@ -190,6 +200,7 @@ tells-of ps u us tag (Absent a) vs h k = as-strict ps u us tag Absent absent.ste
 tells-of ps u us tag (Current a) vs h k = as-strict ps u us tag Current current.step (λ s X. refl) a vs h k
 tells-of ps u us tag (Default a) vs h k =
     decided-of u us (fallback.decided vs) (strict 1 fallback.step tag a vs) (present-of u (known_token vs 0) (first-known u (partial_at vs 0) (known-at ps vs 0 u k.1 h.0))) (as-strict ps u us tag Default fallback.step (λ s X. refl) a vs h k)
+tells-of ps u us tag (Merge a) vs h k = as-strict ps u us tag Merge merge.step (λ s X. refl) a vs h k
 tells-of ps u us tag (NonStrictDelay a) vs h k = one-known u us (Known (tokens_of a.kept)) (tokens-known u a.kept h.1)
 tells-of ps u us tag (NonStrictLogicGate a) vs h k =
     decided-of u us (non_strict_logic_gate.decided a.gate vs) (strict 1 non_strict_logic_gate.step tag a vs) (gate-decided u (non_strict_logic_gate.is_decided a.gate vs) (non_strict_logic_gate.decider a.gate) h) (as-strict ps u us tag NonStrictLogicGate non_strict_logic_gate.step (λ s X. refl) a vs h k)

@@ -27,6 +27,7 @@ abbrev pub heads_of : Class → List (List ℕ × Direction)
 heads_of class.Absent = (codes "output", Output) ∷ []
 heads_of class.Current = (codes "input", Input) ∷ (codes "output", Output) ∷ []
 heads_of class.Default = (codes "preferred", Input) ∷ (codes "alternate", Input) ∷ (codes "output", Output) ∷ []
+heads_of class.Merge = (codes "input", Input) ∷ (codes "output", Output) ∷ []
 heads_of class.NonStrictDelay = (codes "input", Input) ∷ (codes "output", Output) ∷ []
 heads_of class.NonStrictLogicGate = (codes "input", Input) ∷ (codes "output", Output) ∷ []
 heads_of class.NonStrictMux = (codes "select", Input) ∷ (codes "input", Input) ∷ (codes "output", Output) ∷ []
@@ -37,6 +38,7 @@ abbrev pub marks_of : Class → List (Direction × Arity)
 marks_of class.Absent = (Output, arity.Single) ∷ []
 marks_of class.Current = (Input, arity.Single) ∷ (Output, arity.Single) ∷ []
 marks_of class.Default = (Input, arity.Single) ∷ (Input, arity.Single) ∷ (Output, arity.Single) ∷ []
+marks_of class.Merge = (Input, arity.Many) ∷ (Output, arity.Single) ∷ []
 marks_of class.NonStrictDelay = (Input, arity.Single) ∷ (Output, arity.Single) ∷ []
 marks_of class.NonStrictLogicGate = (Input, arity.Many) ∷ (Output, arity.Single) ∷ []
 marks_of class.NonStrictMux = (Input, arity.Single) ∷ (Input, arity.Many) ∷ (Output, arity.Single) ∷ []
@@ -48,6 +50,7 @@ abbrev pub types_of : Class → List PortType
 types_of class.Absent = port.Free ∷ []
 types_of class.Current = port.Row ∷ port.Row ∷ []
 types_of class.Default = port.Row ∷ port.Row ∷ port.Row ∷ []
+types_of class.Merge = port.Row ∷ port.Row ∷ []
 types_of class.NonStrictDelay = port.Row ∷ port.Row ∷ []
 types_of class.NonStrictLogicGate = port.Boolean ∷ port.Boolean ∷ []
 types_of class.NonStrictMux = port.Int ∷ port.Row ∷ port.Row ∷ []
@@ -59,6 +62,7 @@ unfolding kind_of class_row classes
 heads-are class.Absent = refl
 heads-are class.Current = refl
 heads-are class.Default = refl
+heads-are class.Merge = refl
 heads-are class.NonStrictDelay = refl
 heads-are class.NonStrictLogicGate = refl
 heads-are class.NonStrictMux = refl
@@ -70,6 +74,7 @@ unfolding kind_of class_row classes
 marks-are class.Absent = refl
 marks-are class.Current = refl
 marks-are class.Default = refl
+marks-are class.Merge = refl
 marks-are class.NonStrictDelay = refl
 marks-are class.NonStrictLogicGate = refl
 marks-are class.NonStrictMux = refl
@@ -82,6 +87,7 @@ unfolding kind_of class_row classes
 declares-none class.Absent = refl
 declares-none class.Current = refl
 declares-none class.Default = refl
+declares-none class.Merge = refl
 declares-none class.NonStrictDelay = refl
 declares-none class.NonStrictLogicGate = refl
 declares-none class.NonStrictMux = refl
@@ -93,6 +99,7 @@ unfolding head_type port_rows
 types-are class.Absent = refl
 types-are class.Current = refl
 types-are class.Default = refl
+types-are class.Merge = refl
 types-are class.NonStrictDelay = refl
 types-are class.NonStrictLogicGate = refl
 types-are class.NonStrictMux = refl
@@ -108,6 +115,7 @@ pub time-fits : (c : Class) (r : Datatype) (types : ℕ → Datatype) (counts : 
 time-fits class.Absent r types counts params p f s = tt
 time-fits class.Current r types counts params p f s = one-port types (counts 0) 0 (types 1) (below-trans (types 0) r (types 1) f.0.1 f.1.0.0)
 time-fits class.Default r types counts params p f s = (first-port types (counts 0) 0 (replicate (counts 1) 1 ++ []) (types 2) s.0 (below-trans (types 0) r (types 2) f.0.1 f.1.1.0.0), second-port types (counts 0) (counts 1) 0 1 [] (types 2) s.0 s.1.0 (below-trans (types 1) r (types 2) f.1.0.1 f.1.1.0.0))
+time-fits class.Merge r types counts params p f s = all-ports types (counts 0) 0 (types 1) (below-trans (types 0) r (types 1) f.0.1 f.1.0.0)
 time-fits class.NonStrictDelay r types counts params p f s = absurd (let e : false ≡ true = p in cc)
 time-fits class.NonStrictLogicGate r types counts params p f s = f.1.0
 time-fits class.NonStrictMux r types counts params p f s = behind-first types (counts 0) (counts 1) 0 1 (types 2) s.0 (below-trans (types 1) r (types 2) f.1.0.1 f.1.1.0.0)

@@ -11,12 +11,13 @@ use Rattle.pt_flow_base.specs.declared.params.Params.{Params}
 use Rattle.pt_lib_time.specs.declared.time_actor.Class.{Class}
 use Rattle.pt_lib_time.specs.declared.time_actor.Class.TheVariants as class
 use Rattle.pt_lib_time.specs.declared.time_actor.TimeActor.{TimeActor}
-use Rattle.pt_lib_time.specs.declared.time_actor.TimeActor.TheVariants.{Absent, Current, Default, NonStrictDelay, NonStrictLogicGate, NonStrictMux, Pre, When}
+use Rattle.pt_lib_time.specs.declared.time_actor.TimeActor.TheVariants.{Absent, Current, Default, Merge, NonStrictDelay, NonStrictLogicGate, NonStrictMux, Pre, When}
 use Rattle.pt_lib_time.specs.declared.current.Current as currents
 use Rattle.pt_lib_time.specs.TimeActor.{class_of, start_as, start_in}
 use Rattle.pt_lib_time.specs.Absent as absent
 use Rattle.pt_lib_time.specs.Current as current
 use Rattle.pt_lib_time.specs.Default as fallback
+use Rattle.pt_lib_time.specs.Merge as merge
 use Rattle.pt_lib_time.specs.NonStrictDelay as non_strict_delay
 use Rattle.pt_lib_time.specs.NonStrictLogicGate as non_strict_logic_gate
 use Rattle.pt_lib_time.specs.NonStrictMux as non_strict_mux
@@ -33,6 +34,7 @@ abbrev pub name_of : Class → List ℕ
 name_of class.Absent = codes "Absent"
 name_of class.Current = codes "Current"
 name_of class.Default = codes "Default"
+name_of class.Merge = codes "Merge"
 name_of class.NonStrictDelay = codes "NonStrictDelay"
 name_of class.NonStrictLogicGate = codes "NonStrictLogicGate"
 name_of class.NonStrictMux = codes "NonStrictMux"
@@ -49,7 +51,7 @@ or-named name this c d later more is e = by_test (bytes_eq name this) refl e
 -- the name of a class that is found
 pub class-named : (name : List ℕ) (d : Class) → class_of name ≡ Some d → name ≡ name_of d
 class-named name d is =
-    (or-named name (codes "Absent") class.Absent d _ (or-named name (codes "Current") class.Current d _ (or-named name (codes "Default") class.Default d _ (or-named name (codes "NonStrictDelay") class.NonStrictDelay d _ (or-named name (codes "NonStrictLogicGate") class.NonStrictLogicGate d _ (or-named name (codes "NonStrictMux") class.NonStrictMux d _ (or-named name (codes "Pre") class.Pre d _ (or-named name (codes "When") class.When d None (λ none. absurd (cc)) refl) refl) refl) refl) refl) refl) refl) refl) is
+    (or-named name (codes "Absent") class.Absent d _ (or-named name (codes "Current") class.Current d _ (or-named name (codes "Default") class.Default d _ (or-named name (codes "Merge") class.Merge d _ (or-named name (codes "NonStrictDelay") class.NonStrictDelay d _ (or-named name (codes "NonStrictLogicGate") class.NonStrictLogicGate d _ (or-named name (codes "NonStrictMux") class.NonStrictMux d _ (or-named name (codes "Pre") class.Pre d _ (or-named name (codes "When") class.When d None (λ none. absurd (cc)) refl) refl) refl) refl) refl) refl) refl) refl) refl) is
 
 pub time-in : (o : Option Class) (params : Params) (a : TimeActor) → start_in o params ≡ Some a → (c : Class) × (o ≡ Some c) × (start_as c params ≡ Some a)
 time-in None params a e = absurd (cc)
@@ -62,6 +64,7 @@ abbrev pub TimeAsks : (places outputs : List Datatype) → Class → Params → 
 TimeAsks places outputs class.Absent params = ToFirst (λ u. Unit {0}) outputs
 TimeAsks places outputs class.Current params = ToFirst (λ u. IsUnder (get places 0) u) outputs
 TimeAsks places outputs class.Default params = ToFirst (λ u. IsUnder (get places 0) u × IsUnder (get places 1) u) outputs
+TimeAsks places outputs class.Merge params = ToFirst (λ u. AllByRecursion (λ t. IsBelow t u) places) outputs
 TimeAsks places outputs class.NonStrictDelay params = (a : TimeActor) → start_as class.NonStrictDelay params ≡ Some a → IsTypedTime places outputs a
 TimeAsks places outputs class.NonStrictLogicGate params = ToFirst (λ u. IsBelow Boolean u) outputs
 TimeAsks places outputs class.NonStrictMux params = ToFirst (λ u. AllByRecursion (λ t. IsBelow t u) (drop 1 places)) outputs
@@ -78,6 +81,7 @@ pub time-asked : (places outputs : List Datatype) (c : Class) (params : Params) 
 time-asked places outputs class.Absent params a e h = let w = mapped Absent (absent.start params) a e in subst (IsTypedTime places outputs) w.2 h
 time-asked places outputs class.Current params a e h = let w = mapped Current (current.start params) a e in subst (IsTypedTime places outputs) w.2 (current-asked places outputs w.0 (same_Some _ w.0 w.1) h)
 time-asked places outputs class.Default params a e h = let w = mapped Default (fallback.start params) a e in subst (IsTypedTime places outputs) w.2 h
+time-asked places outputs class.Merge params a e h = let w = mapped Merge (merge.start params) a e in subst (IsTypedTime places outputs) w.2 h
 time-asked places outputs class.NonStrictDelay params a e h = h a e
 time-asked places outputs class.NonStrictLogicGate params a e h = let w = mapped NonStrictLogicGate (non_strict_logic_gate.start params) a e in subst (IsTypedTime places outputs) w.2 h
 time-asked places outputs class.NonStrictMux params a e h = let w = mapped NonStrictMux (non_strict_mux.start params) a e in subst (IsTypedTime places outputs) w.2 h
@@ -90,6 +94,7 @@ abbrev pub is_plain : Class → Bool
 is_plain class.Absent = true
 is_plain class.Current = true
 is_plain class.Default = true
+is_plain class.Merge = true
 is_plain class.NonStrictDelay = false
 is_plain class.NonStrictLogicGate = true
 is_plain class.NonStrictMux = true
@@ -100,6 +105,7 @@ pub plain-class : (c : Class) (params : Params) (a : TimeActor) → start_as c p
 plain-class class.Absent params a e p = refl
 plain-class class.Current params a e p = refl
 plain-class class.Default params a e p = refl
+plain-class class.Merge params a e p = refl
 plain-class class.NonStrictDelay params a e p = let w = mapped NonStrictDelay (non_strict_delay.start params) a e in let no : false ≡ true = ap is_plain_time w.2 ∙ p in absurd (cc)
 plain-class class.NonStrictLogicGate params a e p = refl
 plain-class class.NonStrictMux params a e p = refl
@@ -111,6 +117,7 @@ pub seeded-class : (P : Class → Type 0) (c : Class) (params : Params) (a : Tim
 seeded-class P class.Absent params a n p e s = let w = mapped Absent (absent.start params) a e in absurd (let no : false ≡ true = ap is_seeded_time w.2 ∙ s in cc)
 seeded-class P class.Current params a n p e s = let w = mapped Current (current.start params) a e in absurd (let no : false ≡ true = ap is_seeded_time w.2 ∙ s in cc)
 seeded-class P class.Default params a n p e s = let w = mapped Default (fallback.start params) a e in absurd (let no : false ≡ true = ap is_seeded_time w.2 ∙ s in cc)
+seeded-class P class.Merge params a n p e s = let w = mapped Merge (merge.start params) a e in absurd (let no : false ≡ true = ap is_seeded_time w.2 ∙ s in cc)
 seeded-class P class.NonStrictDelay params a n p e s = n
 seeded-class P class.NonStrictLogicGate params a n p e s = let w = mapped NonStrictLogicGate (non_strict_logic_gate.start params) a e in absurd (let no : false ≡ true = ap is_seeded_time w.2 ∙ s in cc)
 seeded-class P class.NonStrictMux params a n p e s = let w = mapped NonStrictMux (non_strict_mux.start params) a e in absurd (let no : false ≡ true = ap is_seeded_time w.2 ∙ s in cc)

@@ -14,6 +14,7 @@ use Rattle.pt_meaning.specs.Kahn.{skip_places}
 use Rattle.pt_meaning.specs.Sdf.{SdfPlan, unfed}
 use Rattle.pt_meaning.specs.Start.{first_of_node, first_of, first_held}
 use Rattle.pt_meaning.specs.Modal.{first_modes}
+use Rattle.pt_meaning.specs.Rendezvous.{first_places}
 use Rattle.pt_meaning.specs.Tree.{Core, list_of, nodes_of, Actor, Composite}
 use Rattle.pt_value.specs.declared.token.Token.{Token}
 use Rattle.pt_document.specs.declared.classes.Director.{Director}
@@ -43,6 +44,7 @@ use Rattle.pt_trees.specs.declared.directing.Directing.{Directing}
 use Rattle.pt_trees.specs.declared.directing.Directing.TheVariants.{By, Modal}
 use Rattle.pt_trees.specs.Sdf.{IsInsideOf}
 use Rattle.pt_trees.specs.Pn.{pn_plan}
+use Rattle.pt_trees.specs.Rendezvous.{is_barrier, rv_plan}
 use Rattle.pt_trees.specs.Directors.{IsDirectedBy, composing}
 use Rattle.pt_stated.specs.declared.stated.Stated.{Stated}
 use Rattle.pt_trees.specs.Rates.{all_given}
@@ -53,10 +55,11 @@ use Rattle.pt_order.proofs.TreeCover.{directed-class}
 use Rattle.pt_kinds.specs.Signature.{Signatures, AreOf}
 use Rattle.pt_typed.specs.TokenTypes.{IsTokenOf}
 use Rattle.pt_typed.specs.TypedActor.{MeetsRow, IsTypedActor}
-use Rattle.pt_kinds.specs.TypedTree.{kind_of, kinds_from, kind_before, kinds_at, kinds_in, AreSized, AreFed, IsTypedNet, IsTypedSdf, IsTypedPn, IsTypedModal, IsTypedCore, IsTypedNode, AreTypedNodes}
+use Rattle.pt_kinds.specs.TypedTree.{kind_of, kinds_from, kind_before, kinds_at, kinds_in, AreSized, AreFed, IsTypedNet, IsTypedSdf, IsTypedPn, IsTypedRv, IsTypedModal, IsTypedCore, IsTypedNode, AreTypedNodes}
 use Rattle.pt_typed.specs.NetTypes.{number_if, port_numbers, source_type, place_type, TypesGoUp, types_below, IsWired}
 use Rattle.pt_typed.specs.TypedNet.{MeetRows, MeetModals, TreesAreTyped}
 use Rattle.pt_kinds.proofs.StreamLaws.{all-mono}
+use Rattle.pt_typed.proofs.FirstPlaces.{seated-first, none-in-places}
 use Rattle.pt_typed.proofs.TypeLaws.{token-wider}
 use Rattle.pt_typed.proofs.ActorLaws.{rows-type, first-tokens}
 use Rattle.pt_typed.proofs.NetLaws.{map-append, all-filtered, own-places, own-outputs, child-below, source-kind, kinds-are, sized, fed, their-own}
@@ -243,13 +246,22 @@ module _ (net : Net) (typing : Assignment) (starts : Starts) (wired : IsWired ne
       held = subst (λ cs. AreOf IsTokenOf (kinds_from sigs [] 0 places) (first_held rows kids cs)) (append-nil ending) (held-of [] tt);
     }
 
+    -- processes that meet along these channels, at their first places
+    rv-typed : (stated : Stated) → IsTypedRv {A = LibraryActor} IsTokenOf IsBelow IsTypedActor sigs (length (list_of (nodes_of kids))) (rv_plan (around_in net starts k e) kids stated) (first_places (rv_plan (around_in net starts k e) kids stated))
+    rv-typed stated = record {
+      typed_net = tick-typed;
+      barriers_counted = length-map kids is_barrier ∙ sym (listed kids);
+      seated = seated-first (rv_plan (around_in net starts k e) kids stated) (length (list_of (nodes_of kids))) tick-typed.places_counted;
+      held = λ c t x stands is. absurd (none-in-places (rv_plan (around_in net starts k e) kids stated) c x stands);
+    }
+
     -- so it is with the core that a director makes
     core-typed : (by : Director) (c : Core Token) → (composing (By by)).IsCore (around_in net starts k e) kids c → IsTypedCore {A = LibraryActor} IsTokenOf IsBelow IsTypedActor sigs (length (list_of (nodes_of kids))) c
     core-typed Sdf c has = subst (λ v. IsTypedCore {A = LibraryActor} IsTokenOf IsBelow IsTypedActor sigs (length (list_of (nodes_of kids))) v) (sym has.is) (sdf-typed has.inside has.plan has.is_inside has.planned)
     core-typed Sr c has = subst (λ v. IsTypedCore {A = LibraryActor} IsTokenOf IsBelow IsTypedActor sigs (length (list_of (nodes_of kids))) v) (sym has.is) tick-typed
     core-typed De c has = subst (λ v. IsTypedCore {A = LibraryActor} IsTokenOf IsBelow IsTypedActor sigs (length (list_of (nodes_of kids))) v) (sym has.is) tick-typed
     core-typed Pn c has = subst (λ v. IsTypedCore {A = LibraryActor} IsTokenOf IsBelow IsTypedActor sigs (length (list_of (nodes_of kids))) v) (sym has.is) (pn-typed has.wired.stated)
-    core-typed Rendezvous c has = absurd has
+    core-typed Rendezvous c has = subst (λ v. IsTypedCore {A = LibraryActor} IsTokenOf IsBelow IsTypedActor sigs (length (list_of (nodes_of kids))) v) (sym has.is) (rv-typed has.wired.stated)
 
   -- and with that of a Modal entity
   modal-typed : (k : ℕ) (e : NetEntity) (at : slice_get net.entities.items k ≡ Some e) (kids : List Tree) → AreTrees net starts (children_of net.entities.items k) kids → (c : Core Token) → IsDirectedBy e Modal → IsModalCore (around_in net starts k e) kids c →

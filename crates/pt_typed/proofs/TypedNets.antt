@@ -70,6 +70,7 @@ flow-left (flow.UpSample a) p q = absurd (cc)
 no-function-left : (g : Function) → is_plain_function g ≡ false → is_record_function g ≡ false → ⊥
 no-function-left (made.ArrayElement x) p r = cc
 no-function-left (made.ArrayToSequence x) p r = cc
+no-function-left made.Barrier p r = cc
 no-function-left (made.Comparator x) p r = cc
 no-function-left made.Discard p r = cc
 no-function-left made.ElementsToArray p r = cc
@@ -86,6 +87,7 @@ no-time-left : (a : TimeActor) → is_plain_time a ≡ false → is_seeded_time 
 no-time-left (time.Absent x) p s = cc
 no-time-left (time.Current x) p s = cc
 no-time-left (time.Default x) p s = cc
+no-time-left (time.Merge x) p s = cc
 no-time-left (time.NonStrictDelay x) p s = cc
 no-time-left (time.NonStrictLogicGate x) p s = cc
 no-time-left (time.NonStrictMux x) p s = cc

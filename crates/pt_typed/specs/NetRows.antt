@@ -7,9 +7,9 @@ use Rattle.pt_scopes.specs.declared.parameter_value.ParameterValue.TheVariants a
 use Rattle.pt_lib_flow.specs.declared.flow_actor.FlowActor.{FlowActor}
 use Rattle.pt_lib_flow.specs.declared.flow_actor.FlowActor.TheVariants.{AbsoluteValue, Accumulator, AddSubtract, BooleanSelect, BooleanSwitch, Const, Counter, DownSample, Expression, Extreme, MultiplyDivide, Ramp, Repeat, SampleDelay, Scale, Sequence, UpSample}
 use Rattle.pt_lib_data.specs.declared.function.Function.{Function}
-use Rattle.pt_lib_data.specs.declared.function.Function.TheVariants.{ArrayElement, ArrayToSequence, Comparator, Discard, ElementsToArray, Equals, Limiter, LogicFunction, LogicalNot, RecordAssembler, RecordDisassembler, SequenceToArray, StringLength}
+use Rattle.pt_lib_data.specs.declared.function.Function.TheVariants.{ArrayElement, ArrayToSequence, Barrier, Comparator, Discard, ElementsToArray, Equals, Limiter, LogicFunction, LogicalNot, RecordAssembler, RecordDisassembler, SequenceToArray, StringLength}
 use Rattle.pt_lib_time.specs.declared.time_actor.TimeActor.{TimeActor}
-use Rattle.pt_lib_time.specs.declared.time_actor.TimeActor.TheVariants.{Absent, Current, Default, NonStrictDelay, NonStrictLogicGate, NonStrictMux, Pre, When}
+use Rattle.pt_lib_time.specs.declared.time_actor.TimeActor.TheVariants.{Absent, Current, Default, Merge, NonStrictDelay, NonStrictLogicGate, NonStrictMux, Pre, When}
 use Rattle.pt_lib_timed.specs.declared.timed_actor.TimedActor.{TimedActor}
 use Rattle.pt_lib_timed.specs.declared.timed_actor.TimedActor.TheVariants.{CurrentTime, DiscreteClock, Register, Sampler, Server, SingleEvent, TimeDelay}
 use Rattle.pt_library.specs.declared.library_actor.LibraryActor.{LibraryActor}
@@ -40,6 +40,7 @@ is_plain_flow (UpSample a) = true
 abbrev pub is_plain_function : Function → Bool
 is_plain_function (ArrayElement index) = true
 is_plain_function (ArrayToSequence count) = true
+is_plain_function Barrier = true
 is_plain_function (Comparator relation) = true
 is_plain_function Discard = true
 is_plain_function ElementsToArray = true
@@ -57,6 +58,7 @@ abbrev pub is_plain_time : TimeActor → Bool
 is_plain_time (Absent a) = true
 is_plain_time (Current a) = true
 is_plain_time (Default a) = true
+is_plain_time (Merge a) = true
 is_plain_time (NonStrictDelay a) = false
 is_plain_time (NonStrictLogicGate a) = true
 is_plain_time (NonStrictMux a) = true
@@ -105,6 +107,7 @@ abbrev pub is_seeded_time : TimeActor → Bool
 is_seeded_time (Absent a) = false
 is_seeded_time (Current a) = false
 is_seeded_time (Default a) = false
+is_seeded_time (Merge a) = false
 is_seeded_time (NonStrictDelay a) = true
 is_seeded_time (NonStrictLogicGate a) = false
 is_seeded_time (NonStrictMux a) = false
@@ -143,6 +146,7 @@ pub record HoldsTokens (ps : List PropertyTree) (vs : List ParameterValue) : Typ
 abbrev pub is_record_function : Function → Bool
 is_record_function (ArrayElement index) = false
 is_record_function (ArrayToSequence count) = false
+is_record_function Barrier = false
 is_record_function (Comparator relation) = false
 is_record_function Discard = false
 is_record_function ElementsToArray = false

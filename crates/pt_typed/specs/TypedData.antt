@@ -8,7 +8,7 @@ use Rattle.pt_datatypes.specs.Order.{IsBelow}
 use Rattle.pt_language.specs.Typing.{or_general}
 use Rattle.pt_language.specs.TreeType.{recorded}
 use Rattle.pt_lib_data.specs.declared.function.Function.{Function}
-use Rattle.pt_lib_data.specs.declared.function.Function.TheVariants.{ArrayElement, ArrayToSequence, Comparator, Discard, ElementsToArray, Equals, Limiter, LogicFunction, LogicalNot, RecordAssembler, RecordDisassembler, SequenceToArray, StringLength}
+use Rattle.pt_lib_data.specs.declared.function.Function.TheVariants.{ArrayElement, ArrayToSequence, Barrier, Comparator, Discard, ElementsToArray, Equals, Limiter, LogicFunction, LogicalNot, RecordAssembler, RecordDisassembler, SequenceToArray, StringLength}
 use Rattle.pt_typed.specs.TokenTypes.{IsUnder, ToFirst, elements_of, field_of}
 
 -- one type above all places, whose arrays the output takes
@@ -27,6 +27,7 @@ TakeFields o (name ∷ names) (u ∷ us) = IsUnder (field_of name o) u × TakeFi
 abbrev pub IsTypedFunction : (places outputs : List Datatype) → Function → Type 0
 IsTypedFunction places outputs (ArrayElement index) = ToFirst (λ u. IsUnder (elements_of (get places 0)) u) outputs
 IsTypedFunction places outputs (ArrayToSequence count) = ToFirst (λ u. IsUnder (elements_of (get places 0)) u) outputs
+IsTypedFunction places outputs Barrier = ToFirst (λ u. TakesArrays places u) outputs
 IsTypedFunction places outputs (Comparator relation) = ToFirst (λ u. IsBelow Boolean u) outputs
 IsTypedFunction places outputs Discard = Unit {0}
 IsTypedFunction places outputs ElementsToArray = ToFirst (λ u. TakesArrays places u) outputs
