@@ -1,11 +1,11 @@
 -- The laws of the net of a document.
-use Rattle.pt_buildable.specs.Laws.{TopsAreThere, EntitiesAreShallow, DirectorsAreOfComposites, TopsHaveIterations, CompositesAreBuiltOrNot, BuiltNetsAreInOrder, CompositesHaveChannels, ChildrenAreSteady, ChannelsBeginAtOutputs}
+use Rattle.pt_buildable.specs.Laws.{TopsAreThere, EntitiesAreShallow, DirectorsAreOfComposites, TopsHaveIterations, CompositesAreDirected, DirectedNetsAreInOrder, CompositesHaveChannels, ChildrenAreSteady, ChannelsBeginAtOutputs}
 use Rattle.pt_buildable.proofs.Depths.{documents-small}
 use Rattle.pt_buildable.proofs.Levels.{documents-shallow}
 use Rattle.pt_buildable.proofs.Nesting.{nested-few}
 use Rattle.pt_buildable.proofs.Tops.{has-top, top-iterates}
-use Rattle.pt_buildable.proofs.Composites.{other-or-built, director-composite}
-use Rattle.pt_buildable.proofs.Ordered.{seen, placed, ordered}
+use Rattle.pt_buildable.proofs.Composites.{director-composite, all-directed}
+use Rattle.pt_buildable.proofs.Ordered.{seen, placed, rooted, ordered}
 use Rattle.pt_buildable.proofs.Insides.{channels-counted, sources-there}
 use Rattle.pt_buildable.proofs.Few.{few-places, few-sources, few-kids}
 use Rattle.pt_buildable.proofs.Kids.{unsteady-network}
@@ -24,11 +24,11 @@ directors-of-composites net k e d doc at has = director-composite doc.job net (s
 pub tops-iterate : TopsHaveIterations
 tops-iterate net values e doc valued at built = top-iterates net values e doc valued at built
 
-pub composites-built : CompositesAreBuiltOrNot
-composites-built = other-or-built
+pub composites-directed : CompositesAreDirected
+composites-directed net e d doc at has = all-directed doc.job net (seen net doc) (placed net doc) doc.made (rooted net doc) e d at has
 
-pub nets-ordered : BuiltNetsAreInOrder
-nets-ordered net e d doc built opaque at has = ordered net doc built opaque e d at has
+pub nets-ordered : DirectedNetsAreInOrder
+nets-ordered net e d doc opaque at has = ordered net doc (composites-directed net e d doc at has) opaque e d at has
 
 pub composites-channels : CompositesHaveChannels
 composites-channels net starts k e d doc within order at has = record {

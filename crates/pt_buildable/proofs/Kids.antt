@@ -36,7 +36,7 @@ use Rattle.pt_trees.specs.Trees.{Starts, StartsAs, IsEntity, stated_at, machine_
 use Rattle.pt_trees.proofs.DirectorLaws.{named-of}
 use Rattle.pt_order.proofs.Children.{child-stands}
 use Rattle.pt_typed.specs.RowLaw.{types_of_ports, AreStartedIn}
-use Rattle.pt_buildable.specs.Composites.{HasUnstatedNetwork}
+use Rattle.pt_buildable.specs.Composites.{has_processes, HasUnstatedProcesses}
 use Rattle.pt_buildable.proofs.Steady.{IsSteadyStart, steady-started}
 
 -- ---- the director round an entity
@@ -60,13 +60,13 @@ machine-declares : (o : Option Stated) (machine : Option Machine) (m : Machine) 
 machine-declares None machine m has e = none-some (ones_of m) (sym e ∙ ap (λ (v : Option Machine). option_map ones_of v) has)
 machine-declares (Some s) machine m has e = none-some s.gives (sym e)
 
--- a core that a composite has at its start has rates, but for that of DE, and that of PN; those of a Modal entity are declared
-unrated-core : (director : Directing) (around : Around) (kids : List Tree) (core : tree.Core Token) (o : Option Stated) → (director ≡ By De → ⊥) → (composing director).IsCore around kids core → declared_as o around.machine ≡ None → core_rates core ≡ None → director ≡ By Pn
+-- a core that a composite has at its start has rates, but for that of DE, and those of processes; those of a Modal entity are declared
+unrated-core : (director : Directing) (around : Around) (kids : List Tree) (core : tree.Core Token) (o : Option Stated) → (director ≡ By De → ⊥) → (composing director).IsCore around kids core → declared_as o around.machine ≡ None → core_rates core ≡ None → has_processes director ≡ true
 unrated-core (By Sdf) around kids core o untimed is declared unrated = absurd (none-some is.plan.gives (sym unrated ∙ ap core_rates is.is))
 unrated-core (By Sr) around kids core o untimed is declared unrated = absurd (none-some (tick_gives (tick_plan around)) (sym unrated ∙ ap core_rates is.is))
 unrated-core (By De) around kids core o untimed is declared unrated = absurd (untimed refl)
 unrated-core (By Pn) around kids core o untimed is declared unrated = refl
-unrated-core (By Rendezvous) around kids core o untimed is declared unrated = absurd is
+unrated-core (By Rendezvous) around kids core o untimed is declared unrated = refl
 unrated-core Modal around kids core o untimed is declared unrated = absurd (machine-declares o around.machine is.wired.machine is.wired.is declared)
 
 -- what is given of a child is what is declared of it, where it is
@@ -84,15 +84,15 @@ get-mapped f d [] i x at = absurd (none-some x at)
 get-mapped f d (y ∷ xs) zero x at = ap f (same_Some y x at)
 get-mapped f d (y ∷ xs) (suc i) x at = get-mapped f d xs i x at
 
--- a composite that may be unsteady is a process network of which nothing is stated, and no actor is that starts so
-unsteady-kid : (net : Net) (starts : Starts) {c : ℕ} {kid : Tree} → IsTree net starts c kid → ((a : LibraryActor) → StartsAs starts c a → IsSteadyStart a) → ((e : NetEntity) → IsEntity net c e → IsDirectedBy e (By De) → ⊥) → IsUnsteady (declared_by starts c) kid → HasUnstatedNetwork net starts
+-- a composite that may be unsteady is one of processes of which nothing is stated, and no actor is that starts so
+unsteady-kid : (net : Net) (starts : Starts) {c : ℕ} {kid : Tree} → IsTree net starts c kid → ((a : LibraryActor) → StartsAs starts c a → IsSteadyStart a) → ((e : NetEntity) → IsEntity net c e → IsDirectedBy e (By De) → ⊥) → IsUnsteady (declared_by starts c) kid → HasUnstatedProcesses net starts
 unsteady-kid net starts (of_actor k e a at undirected started) steady untimed (inl unsteady) = absurd (both_ways (library.is_steady a) unsteady (steady a started).steady)
 unsteady-kid net starts (of_actor k e a at undirected started) steady untimed (inr unrated) = absurd ((steady a started).rated (given-none (declared_by starts k) (tree.actor a) unrated).1)
 unsteady-kid net starts (of_composite k e director kids core at by all is) steady untimed (inl unsteady) = absurd (let h : true ≡ false = unsteady in cc)
 unsteady-kid net starts (of_composite k e director kids core at by all is) steady untimed (inr unrated) =
     let none = given-none (declared_by starts k) (tree.composite core kids) unrated in
-    let network = unrated-core director (around_in net starts k e) kids core (stated_at starts k) (λ de. untimed e at (by ∙ ap (λ (d : Directing). Option.Some d) de)) is none.0 none.1 in
-    record { number = k; entity = e; at = at; network = by ∙ ap (λ (d : Directing). Option.Some d) network; unstated = nothing-stated (stated_at starts k) (machine_at starts k) none.0 }
+    let processes = unrated-core director (around_in net starts k e) kids core (stated_at starts k) (λ de. untimed e at (by ∙ ap (λ (d : Directing). Option.Some d) de)) is none.0 none.1 in
+    record { number = k; entity = e; at = at; director = director; by = by; processes = processes; unstated = nothing-stated (stated_at starts k) (machine_at starts k) none.0 }
 
 -- a composite of DE may not stand in one of SDF
 untimed-kid : (net : Net) (values : Values) → ((cause : Code) (k : ℕ) → IsMisplaced (net_view net) values cause k → ⊥) → (k c : ℕ) (e kid : NetEntity) → IsEntity net k e → IsDirectedBy e (By Sdf) → IsEntity net c kid → kid.parent ≡ Some k → IsDirectedBy kid (By De) → ⊥
@@ -106,7 +106,7 @@ untimed-kid net values placed k c e kid at sdf there parent de =
     })
 
 pub unsteady-network : (net : Net) (values : Values) (typing : Assignment) (starts : Starts) → IsValued (net_view net) values → ((cause : Code) (k : ℕ) → IsMisplaced (net_view net) values cause k → ⊥) → AreStartedIn net values typing starts → (k : ℕ) (e : NetEntity) (kids : List Tree) → IsEntity net k e → IsDirectedBy e (By Sdf) →
-    AreTrees net starts (children_of net.entities.items k) kids → HasUnsteady (around_in net starts k e) kids → HasUnstatedNetwork net starts
+    AreTrees net starts (children_of net.entities.items k) kids → HasUnsteady (around_in net starts k e) kids → HasUnstatedProcesses net starts
 unsteady-network net values typing starts valued placed started k e kids at sdf all unsteady =
     let w = tree-among net starts all unsteady.0 unsteady.1 unsteady.2 in
     let child = child-stands k net.entities.items unsteady.0 w.0 w.1 in

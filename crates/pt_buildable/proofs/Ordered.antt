@@ -1,4 +1,4 @@
--- The net of a document without faults of links, of which all composites are built, is in order.
+-- The net of a document without faults of links whose composites are directed is in order.
 use Rattle.std.proofs.Common.{◌≡◌, ℕ, true, ◌||◌, Some, codes, bytes_eq, sym, ap, subst, ◌∙◌}
 use Rattle.std.proofs.lemmas.Bool.{both_ways}
 use Rattle.std.proofs.lemmas.Option.{same_Some}
@@ -27,8 +27,8 @@ use Rattle.pt_order.proofs.WiredNets.{wired}
 use Rattle.pt_order.proofs.ClassPortsHeld.{class-ports-held}
 use Rattle.pt_order.proofs.TreeCover.{actor-kind}
 use Rattle.pt_order.proofs.NetsInOrder.{composite-declares}
-use Rattle.pt_buildable.specs.Composites.{HasBuiltComposites, HasOpaqueRefinements}
-use Rattle.pt_buildable.proofs.Composites.{directed-built, holder-directed, stands-in}
+use Rattle.pt_buildable.specs.Composites.{HasDirectedComposites, HasOpaqueRefinements}
+use Rattle.pt_buildable.proofs.Composites.{directed-there, holder-directed, stands-in}
 
 module _ (net : Net) (doc : IsNetOfDocument net) where
   pub leaves : ActorsAreLeaves doc.job
@@ -46,9 +46,9 @@ module _ (net : Net) (doc : IsNetOfDocument net) where
   pub rooted : IsRooted (net_view net)
   rooted = net-rooted doc.job net leaves doc.made
 
-  module _ (built : HasBuiltComposites net) where
+  module _ (all : HasDirectedComposites net) where
     pub owner : (k : ℕ) (e : NetEntity) (d : NetDirector) → IsEntity net k e → e.director ≡ Some d → IsDirected e
-    owner = directed-built doc.job net seen placed doc.made nested rooted built
+    owner = directed-there doc.job net seen placed doc.made nested rooted all
 
     is-wired : IsWired net
     is-wired = wired doc.job net seen placed doc.made nested doc.clean owner
@@ -61,8 +61,8 @@ module _ (net : Net) (doc : IsNetOfDocument net) where
         let kind = actor-kind e.class read.kind (ap kind_of (sym same) ∙ read.kind_is) plain in
         let top_class = ap (λ b. b || bytes_eq first.class (codes "Modal")) (owner 0 first d at directed).composite in
         let later = λ (zero : k ≡ 0). both_ways (is_composite_class e.class) plain (ap (λ (x : NetEntity). is_composite_class x.class) (same_Some e first (sym there ∙ ap (slice_get net.entities.items) zero ∙ at)) ∙ top_class) in
-        let round = stands-in doc.job net seen placed doc.made nested rooted built k e there later in
-        let f = holder-directed doc.job net seen placed doc.made nested rooted built opaque k round.0 e there round.1 plain in
+        let round = stands-in doc.job net seen placed doc.made nested rooted all k e there later in
+        let f = holder-directed doc.job net seen placed doc.made nested rooted all opaque k round.0 e there round.1 plain in
         class-ports-held doc.job net seen placed doc.made nested doc.clean k round.0 e f.0 kind.0 there round.1 f.1 f.2 kind.1
 
     have-own-names : (k : ℕ) (e : NetEntity) → IsEntity net k e → is_composite_class e.class ≡ true → HaveOwnNames (entity_view e).ports

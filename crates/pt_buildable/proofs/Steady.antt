@@ -118,6 +118,7 @@ unfolding class_row classes
 time-outside time_class.Absent = outside (codes "Absent") (class_row (codes "Absent")) refl refl refl
 time-outside time_class.Current = outside (codes "Current") (class_row (codes "Current")) refl refl refl
 time-outside time_class.Default = outside (codes "Default") (class_row (codes "Default")) refl refl refl
+time-outside time_class.Merge = outside (codes "Merge") (class_row (codes "Merge")) refl refl refl
 time-outside time_class.NonStrictDelay = outside (codes "NonStrictDelay") (class_row (codes "NonStrictDelay")) refl refl refl
 time-outside time_class.NonStrictLogicGate = outside (codes "NonStrictLogicGate") (class_row (codes "NonStrictLogicGate")) refl refl refl
 time-outside time_class.NonStrictMux = outside (codes "NonStrictMux") (class_row (codes "NonStrictMux")) refl refl refl

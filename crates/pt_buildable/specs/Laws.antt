@@ -27,7 +27,7 @@ use Rattle.pt_trees.specs.Trees.{IsEntity, Starts, StartsAs, AreTrees, around_in
 use Rattle.pt_trees.specs.Built.{IsNested}
 use Rattle.pt_order.specs.Laws.{IsNetOfDocument, IsInOrder}
 use Rattle.pt_typed.specs.RowLaw.{AreStartedIn}
-use Rattle.pt_buildable.specs.Composites.{HasOtherComposite, HasBuiltComposites, HasOpaqueRefinements, HasUnstatedNetwork}
+use Rattle.pt_buildable.specs.Composites.{HasDirectedComposites, HasOpaqueRefinements, HasUnstatedProcesses}
 
 -- its top is there
 abbrev pub TopsAreThere : Type 0
@@ -45,13 +45,13 @@ DirectorsAreOfComposites = (net : Net) (k : ℕ) (e : NetEntity) (d : NetDirecto
 abbrev pub TopsHaveIterations : Type 0
 TopsHaveIterations = (net : Net) (values : Values) (e : NetEntity) → IsNetOfDocument net → IsValued (net_view net) values → IsEntity net 0 e → IsDirectedBy e (By Sdf) ⊎ IsDirectedBy e (By Sr) → (n : ℕ) × (iterations (net_view net) values ≡ Some n)
 
--- Some composite of a net isn't built, or all are.
-abbrev pub CompositesAreBuiltOrNot : Type 0
-CompositesAreBuiltOrNot = (net : Net) → HasOtherComposite net ⊎ HasBuiltComposites net
+-- where the top has a director, each composite has one or is a Modal entity
+abbrev pub CompositesAreDirected : Type 0
+CompositesAreDirected = (net : Net) (e : NetEntity) (d : NetDirector) → IsNetOfDocument net → IsEntity net 0 e → e.director ≡ Some d → HasDirectedComposites net
 
--- where all are, the top is one with a director, and nothing of a library stands in a Modal entity, the net is in order, whether or not a tree can be built of it
-abbrev pub BuiltNetsAreInOrder : Type 0
-BuiltNetsAreInOrder = (net : Net) (e : NetEntity) (d : NetDirector) → IsNetOfDocument net → HasBuiltComposites net → HasOpaqueRefinements net → IsEntity net 0 e → e.director ≡ Some d → IsInOrder net
+-- and where nothing of a library stands in a Modal entity the net is in order, whether or not a tree can be built of it
+abbrev pub DirectedNetsAreInOrder : Type 0
+DirectedNetsAreInOrder = (net : Net) (e : NetEntity) (d : NetDirector) → IsNetOfDocument net → HasOpaqueRefinements net → IsEntity net 0 e → e.director ≡ Some d → IsInOrder net
 
 -- Each channel of a composite begins at an own input or at a child, and there is one for each place of a child and for each own output. There are few of them, and few children.
 pub record HasChannels (around : Around) : Type 0 where
@@ -65,11 +65,11 @@ abbrev pub CompositesHaveChannels : Type 0
 CompositesHaveChannels =
     (net : Net) (starts : Starts) (k : ℕ) (e : NetEntity) (d : NetDirector) → (doc : IsNetOfDocument net) → ((path : List ℕ) → IsPastLimit (tables_of doc.job) doc.job.records path → ⊥) → IsInOrder net → IsEntity net k e → e.director ≡ Some d → HasChannels (around_in net starts k e)
 
--- Under SDF each child needs and gives the same at each firing, where the texts of a net come to these values, each entity may stand where it stands, and its actors start so; unless it isn't known of some process network what it states.
+-- Under SDF each child needs and gives the same at each firing, where the texts of a net come to these values, each entity may stand where it stands, and its actors start so; unless it isn't known of some composite of processes what it states.
 abbrev pub ChildrenAreSteady : Type 0
 ChildrenAreSteady =
     (net : Net) (values : Values) (typing : Assignment) (starts : Starts) (k : ℕ) (e : NetEntity) (kids : List Tree) → IsValued (net_view net) values → ((cause : Code) (n : ℕ) → IsMisplaced (net_view net) values cause n → ⊥) → AreStartedIn net values typing starts → IsEntity net k e → IsDirectedBy e (By Sdf) →
-    AreTrees net starts (children_of net.entities.items k) kids → HasUnsteady (around_in net starts k e) kids → HasUnstatedNetwork net starts
+    AreTrees net starts (children_of net.entities.items k) kids → HasUnsteady (around_in net starts k e) kids → HasUnstatedProcesses net starts
 
 -- Where a channel of a composite begins at a child that answers early, it begins at an output that this child has.
 abbrev pub ChannelsBeginAtOutputs : Type 0

@@ -1,4 +1,4 @@
-ghost use Rattle.pt_buildable.specs.Laws.{TopsAreThere, EntitiesAreShallow, DirectorsAreOfComposites, TopsHaveIterations, CompositesAreBuiltOrNot, BuiltNetsAreInOrder, CompositesHaveChannels, ChildrenAreSteady, ChannelsBeginAtOutputs};
+ghost use Rattle.pt_buildable.specs.Laws.{TopsAreThere, EntitiesAreShallow, DirectorsAreOfComposites, TopsHaveIterations, CompositesAreDirected, DirectedNetsAreInOrder, CompositesHaveChannels, ChildrenAreSteady, ChannelsBeginAtOutputs};
 
 /// The net of a document has its top.
 pub fn tops_are_there()
@@ -20,14 +20,14 @@ pub fn tops_have_iterations()
     ensures { TopsHaveIterations }
 {}
 
-/// A net has a Modal entity or a composite of Rendezvous, or all its composites have the director SDF, SR, DE or PN.
-pub fn composites_are_built_or_not()
-    ensures { CompositesAreBuiltOrNot }
+/// Where the top has a director, each composite has one or is a Modal entity.
+pub fn composites_are_directed()
+    ensures { CompositesAreDirected }
 {}
 
-/// In the latter, where the top is a composite, the net is in order.
-pub fn built_nets_are_in_order()
-    ensures { BuiltNetsAreInOrder }
+/// Such a net is in order.
+pub fn directed_nets_are_in_order()
+    ensures { DirectedNetsAreInOrder }
 {}
 
 /// Each channel of a composite of a net in order begins at what is there, and there is one for each place and each own output, and there are few.
@@ -35,7 +35,7 @@ pub fn composites_have_channels()
     ensures { CompositesHaveChannels }
 {}
 
-/// Under SDF each child needs and gives the same at each firing, unless it isn't known of some process network what it states.
+/// Under SDF each child needs and gives the same at each firing, unless it isn't known of some composite of processes what it states.
 pub fn children_are_steady()
     ensures { ChildrenAreSteady }
 {}

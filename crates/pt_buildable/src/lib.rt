@@ -4,7 +4,7 @@
 mod laws;
 
 pub use laws::{
-    built_nets_are_in_order, channels_begin_at_outputs, children_are_steady,
-    composites_are_built_or_not, composites_have_channels, directors_are_of_composites,
+    channels_begin_at_outputs, children_are_steady, composites_are_directed,
+    composites_have_channels, directed_nets_are_in_order, directors_are_of_composites,
     entities_are_shallow, tops_are_there, tops_have_iterations,
 };

@@ -11,10 +11,10 @@ use Rattle.pt_trees.specs.declared.directing.Directing.TheVariants.{By, Modal}
 use Rattle.pt_trees.specs.Around.{Around}
 use Rattle.pt_trees.specs.Directors.{IsDirectedBy}
 use Rattle.pt_trees.specs.Modal.{IsModalWired}
+use Rattle.pt_trees.specs.Rendezvous.{IsMet}
 use Rattle.pt_trees.specs.Sdf.{HasInside}
 use Rattle.pt_trees.specs.Sr.{IsWired}
 use Rattle.pt_trees.specs.Trees.{IsEntity, IsUndirected, Starts, StartsAs, AreTrees, around_in}
-use Rattle.pt_buildable.specs.Composites.{HasOtherComposite}
 
 -- the children of the composite don't fit the channels around them, or a rate is none that its director takes
 abbrev pub IsMalformed : Directing → Around → List Tree → Type 0
@@ -22,11 +22,10 @@ IsMalformed (By Sdf) around kids = HasInside around kids → ⊥
 IsMalformed (By Sr) around kids = IsWired around kids → ⊥
 IsMalformed (By De) around kids = IsWired around kids → ⊥
 IsMalformed (By Pn) around kids = IsWired around kids → ⊥
-IsMalformed (By Rendezvous) around kids = ⊥
+IsMalformed (By Rendezvous) around kids = IsMet around kids → ⊥
 IsMalformed Modal around kids = IsModalWired around kids → ⊥
 
--- What isn't built yet of a net whose entities start as these: a composite with another director than SDF, SR, DE and PN; a library actor that has no start; a composite of one of these directors, or a Modal entity, round trees that are built, which it doesn't fit.
+-- What isn't built yet of a net whose entities start as these: a library actor that has no start; a composite with a director, or a Modal entity, round trees that are built, which it doesn't fit.
 pub data IsUnbuilt (net : Net) (starts : Starts) : Type 0 where
-  other : HasOtherComposite net → IsUnbuilt net starts
   unstarted : (k : ℕ) (e : NetEntity) → IsEntity net k e → IsUndirected e → is_composite_class e.class ≡ false → slice_get starts.actors k ≡ Some None → IsUnbuilt net starts
   malformed : (k : ℕ) (e : NetEntity) (director : Directing) (kids : List Tree) → IsEntity net k e → IsDirectedBy e director → AreTrees net starts (children_of net.entities.items k) kids → IsMalformed director (around_in net starts k e) kids → IsUnbuilt net starts

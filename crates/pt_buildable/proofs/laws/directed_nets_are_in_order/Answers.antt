@@ -1,5 +1,5 @@
 use Rattle.pt_buildable.proofs.Joined.{nets-ordered}
-use Rattle.pt_buildable.proofs.laws.built_nets_are_in_order.Goals as goal
+use Rattle.pt_buildable.proofs.laws.directed_nets_are_in_order.Goals as goal
 
 pub returns : goal.returns
 returns c = nets-ordered
