@@ -32,6 +32,7 @@ use Rattle.pt_start.specs.Misplaced.{undirected}
 use Rattle.pt_start.proofs.Outward.{view-at}
 use Rattle.pt_job.specs.Inputs.{inputs_at, own_inputs, ComeTo, AreSupplied, has_ticks, ticks_at, may_lack, has_time, time_at, is_timed}
 use Rattle.pt_job.specs.Iterations.{iterations}
+use Rattle.pt_core.specs.declared.either.Either.{Either}
 use Rattle.pt_core.specs.declared.either.Either.TheVariants.{First, Other}
 use Rattle.pt_sdf.specs.Clauses as sdf
 use Rattle.pt_sr.specs.Clauses as sr
@@ -39,7 +40,8 @@ use Rattle.pt_de_laws.specs.DeActs as de
 use Rattle.pt_pn_laws.specs.PnActs as pn
 use Rattle.pt_chart.specs.Machine.{Machine}
 use Rattle.pt_modal_laws.specs.ModalActs as modal
-use Rattle.pt_directors.specs.Directors.{Director as DirectorState, of_pn, of_modal}
+use Rattle.pt_rv_laws.specs.RvActs as rv
+use Rattle.pt_directors.specs.Directors.{Director as DirectorState, of_pn, of_modal, of_rendezvous}
 use Rattle.pt_node.specs.declared.body.Body.{Body}
 use Rattle.pt_node.specs.declared.body.Body.TheVariants.{Actor, Composite}
 use Rattle.pt_node.specs.Recorded.{RecordedPort}
@@ -87,7 +89,7 @@ IsCoreOf e (tree.Sdf p X) = IsDirectedBy e (By Sdf) × (length p.takes ≡ count
 IsCoreOf e (tree.Pn p X) = IsDirectedBy e (By Pn) × (length p.takes ≡ count_by is_input e.ports.items)
 IsCoreOf e (tree.Sr p) = IsDirectedBy e (By Sr) × (p.inputs ≡ count_by is_input e.ports.items)
 IsCoreOf e (tree.De p) = IsDirectedBy e (By De) × (p.inputs ≡ count_by is_input e.ports.items)
-IsCoreOf e (tree.Rv p X) = ⊥
+IsCoreOf e (tree.Rv p X) = IsDirectedBy e (By Rendezvous) × (length p.takes ≡ count_by is_input e.ports.items)
 IsCoreOf e (tree.Modal chart m) = ⊥
 
 -- the node at the top is a composite
@@ -105,7 +107,7 @@ core-made (By Sdf) net starts k e kids c plain directed has = subst (λ v. IsCor
 core-made (By Sr) net starts k e kids c plain directed has = subst (λ v. IsCoreOf e v) (sym has.is) (directed, refl)
 core-made (By De) net starts k e kids c plain directed has = subst (λ v. IsCoreOf e v) (sym has.is) (directed, refl)
 core-made (By Pn) net starts k e kids c plain directed has = subst (λ v. IsCoreOf e v) (sym has.is) (directed, has.wired.lawful.takes)
-core-made (By Rendezvous) net starts k e kids c plain directed has = absurd has
+core-made (By Rendezvous) net starts k e kids c plain directed has = subst (λ v. IsCoreOf e v) (sym has.is) (directed, has.wired.rated.takes)
 core-made Modal net starts k e kids c plain directed has = absurd (plain directed)
 
 core-at : {net : Net} {starts : Starts} {k : ℕ} {s : Shown} (values : Values) → IsPlaced net values → k ≡ 0 → IsBuilt net starts k s → HasCore net s
@@ -232,10 +234,18 @@ pn-named : AreNamed Pn (codes "PN") directors
 unfolding AreNamed directors
 pn-named = ((λ e. absurd (cc)), ((λ e. absurd (cc)), ((λ e. absurd (cc)), ((λ e. refl), ((λ e. absurd (cc)), tt)))))
 
--- the director of a process network has this class
+rv-named : AreNamed Rendezvous (codes "Rendezvous") directors
+unfolding AreNamed directors
+rv-named = ((λ e. absurd (cc)), ((λ e. absurd (cc)), ((λ e. absurd (cc)), ((λ e. absurd (cc)), ((λ e. refl), tt)))))
+
+-- the director of a process network has this class, and that of processes that meet this one
 pub pn-class : (d : NetDirector) → named (Some d) ≡ Some Pn → bytes_eq d.class (codes "PN") ≡ true
 unfolding director_row
 pn-class d e = (bytes_eq-Decides d.class (codes "PN")).1 (row-name Pn (codes "PN") directors d.class pn-named e)
+
+pub rv-class : (d : NetDirector) → named (Some d) ≡ Some Rendezvous → bytes_eq d.class (codes "Rendezvous") ≡ true
+unfolding director_row
+rv-class d e = (bytes_eq-Decides d.class (codes "Rendezvous")).1 (row-name Rendezvous (codes "Rendezvous") directors d.class rv-named e)
 
 de-has-time : (d : Option NetDirector) → named d ≡ Some De → has_time (option_map director_view d) ≡ true
 unfolding director_row
@@ -270,6 +280,9 @@ sdf-top net s has st e = present-under Sdf (λ same. (let no : Sr ≡ Sdf = same
 pub pn-top : (net : Net) (s : Shown) (has : HasCore net s) (st : pn.State) → body_of s ≡ Composite (of_pn st) → may_lack (net_view net) ≡ false
 pn-top net s has st e = present-under Pn (λ same. (let no : Sr ≡ Pn = same in cc)) net has.entity has.at (core-is net s has (of_pn st) e).0
 
+pub rv-top : (net : Net) (s : Shown) (has : HasCore net s) (st : rv.State) → body_of s ≡ Composite (of_rendezvous st) → may_lack (net_view net) ≡ false
+rv-top net s has st e = present-under Rendezvous (λ same. (let no : Sr ≡ Rendezvous = same in cc)) net has.entity has.at (core-is net s has (of_rendezvous st) e).0
+
 -- no top is Modal
 pub modal-top : (net : Net) (s : Shown) (has : HasCore net s) (st : modal.State Machine) → body_of s ≡ Composite (of_modal st) → ⊥
 modal-top net s has st e = core-is net s has (of_modal st) e
@@ -303,6 +316,13 @@ pn-fits net values (Branch f ks) has st j e supplied =
     sym (length-map j.inputs.items (λ (ts : List Token). map Some ts)) ∙ lists-counted net values has.entity (supply_of (top.Once j)) has.at supplied ∙ sym is.1 in
     subst (λ b. IsJobFor (top.Once j) (node_with f.past b (nodes_of ks))) (sym e) long
 
+pub rv-fits : (net : Net) (values : Values) (s : Shown) (has : HasCore net s) (st : rv.State) (j : OnceJob) → body_of s ≡ Composite (of_rendezvous st) → AreSupplied (net_view net) values (supply_of (top.Once j)) → IsJobFor (top.Once j) (node_of s)
+rv-fits net values (Branch f ks) has st j e supplied =
+    let is = core-is net (Branch f ks) has (of_rendezvous st) e in
+    let long : length j.inputs.items ≡ length st.processes.plan.takes =
+    sym (length-map j.inputs.items (λ (ts : List Token). map Some ts)) ∙ lists-counted net values has.entity (supply_of (top.Once j)) has.at supplied ∙ sym is.1 in
+    subst (λ b. IsJobFor (top.Once j) (node_with f.past b (nodes_of ks))) (sym e) long
+
 -- ---- library actors have no children
 
 all-list : (ks : AllShown) → all_of (list_of ks) ≡ ks
@@ -333,7 +353,7 @@ are-untold (r ∷ rs) h = (h.0, are-untold rs h.2)
 
 mutual
   is-unrecorded : (s : Shown) → fresh.IsUnrecorded s → IsUnrecorded s
-  is-unrecorded (Branch f ks) h = (are-untold f.records h.0, all-unrecorded ks h.1)
+  is-unrecorded (Branch f ks) h = (are-untold f.records h.0, h.1, all-unrecorded ks h.2)
 
   all-unrecorded : (ss : AllShown) → fresh.AllUnrecorded ss → AllUnrecorded ss
   all-unrecorded none h = tt

@@ -144,8 +144,14 @@ pub(crate) fn job_of(
                         let job = once_job(alloc, net, started)?;
                         Ok(Top::Once(job))
                     }
-                    // The top has a director, so it is no Modal entity.
-                    Either::Other(_) => unreachable!(),
+                    Either::Other(end) => match end {
+                        // The top has a director, so it is no Modal entity.
+                        Either::First(_) => unreachable!(),
+                        Either::Other(_) => {
+                            let job = once_job(alloc, net, started)?;
+                            Ok(Top::Once(job))
+                        }
+                    },
                 },
             },
         },

@@ -19,7 +19,7 @@ use pt_document::DocFault;
 use pt_elaboration::{Started, unbuilt};
 use pt_net::Net;
 use pt_node::{Body, Node};
-use pt_stated::{networks_are_stated, stated_is_lawful};
+use pt_stated::{processes_are_stated, stated_is_lawful};
 use pt_trees::BuildFault;
 use std::alloc::Global;
 
@@ -33,7 +33,7 @@ pub(crate) fn tree_of(alloc: Global, net: &Net, started: &Started) -> Result<Nod
     ensures stands { IfErr result (FaultStands net.now) }
 {
     stated_is_lawful();
-    networks_are_stated();
+    processes_are_stated();
     match build(
         alloc,
         net,

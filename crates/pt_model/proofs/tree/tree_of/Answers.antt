@@ -58,4 +58,4 @@ returns-in-Err-Unbuilt-clause-stands c =
     let given = starts_of c.deref.result.now c.deref-2.result.now c.deref-3.result.now in
     let same : given ≡ starts_in s = same-starts c.deref.result.now s.starts.items c.deref-2.result.now s.stated.items c.deref-3.result.now s.machines.items c.deref.ensures.value c.deref-2.ensures.value c.deref-3.ensures.value in
     let stands : BuildFaultStands net given fault.Unbuilt = subst (λ (f : BuildFault). BuildFaultStands net given f) c.in-Err-Unbuilt.field-0-is c.in-Err-Unbuilt.ensures.stands in
-    unbuilt-stands net s.values (assignment s.typing) (starts_in s) c.unbuilt.result c.requires.started (no-tree-unbuilt c.stated_is_lawful.ensures c.networks_are_stated.ensures net s.values (assignment s.typing) (starts_in s) c.requires.document c.requires.started (subst (λ (v : Starts). built.IsUnbuilt net v) same stands)) c.unbuilt.ensures
+    unbuilt-stands net s.values (assignment s.typing) (starts_in s) c.unbuilt.result c.requires.started (no-tree-unbuilt c.stated_is_lawful.ensures c.processes_are_stated.ensures net s.values (assignment s.typing) (starts_in s) c.requires.document c.requires.started (subst (λ (v : Starts). built.IsUnbuilt net v) same stands)) c.unbuilt.ensures
