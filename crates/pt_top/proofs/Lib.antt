@@ -1,4 +1,5 @@
 pub mod ReportLaws
+pub mod MeetingsTold
 pub mod AnswerLaws
 pub mod CheckLaws
 pub mod Completeness

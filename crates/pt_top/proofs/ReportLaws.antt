@@ -1,21 +1,14 @@
 -- A report from its parts, and what a run and a refusal answer.
-use Rattle.std.proofs.Common.{◌≡◌, ◌⊎◌, inl, inr, ℕ, List, [], length, All, Option, Some, None, Result, Ok, Err, IfOk, refl, ap, sym, subst, arith, ◌∙◌}
-use Rattle.std.specs.List.{AllZip}
-use Rattle.pt_meaning.specs.Basics.{Path}
+use Rattle.std.proofs.Common.{◌≡◌, ◌⊎◌, inl, inr, ℕ, List, length, Result, Ok, Err, IfOk, ap, sym, subst, ◌∙◌}
 use Rattle.std.specs.declared.alloc.AllocError.{AllocError}
 use Rattle.pt_document.specs.declared.refusal.Refusal.{Refusal}
 use Rattle.pt_net.specs.declared.net.Net.{Net}
 use Rattle.pt_trace.specs.declared.run_end.RunEnd.{RunEnd}
 use Rattle.pt_trace.specs.Report.{Trace, Meetings, Report}
-use Rattle.pt_trace.specs.ReportForm.{AreMeetings}
-use Rattle.pt_records.specs.Made.{made_if, meets_of}
 use Rattle.pt_node.specs.Shown.{Shown}
-use Rattle.pt_node.specs.View.{Outline, kept_of, text_at}
-use Rattle.pt_node.proofs.UnmetLaws.{node-unmet}
 use Rattle.pt_trees.specs.declared.ended.Ended.{Ended}
 use Rattle.pt_trees.specs.Ports.{recorded_ports, told_of}
 use Rattle.pt_trees.specs.Report.{end_of}
-use Rattle.pt_trees.specs.Meetings.{TellsAt, lines_of, TellMeetings}
 use Rattle.pt_elaboration.specs.Refused.{IsRefused}
 use Rattle.pt_trees.specs.declared.ended.Ended.TheVariants as ended
 use Rattle.pt_top.specs.declared.form.Form.{Form}
@@ -27,11 +20,11 @@ use Rattle.pt_top.specs.Reply.{refusal_text, status_of, report_of, IsReport, Ans
 made : List Trace → List Meetings → RunEnd → Report
 made traces meetings end = record { traces = traces; meetings = meetings; end = end }
 
-pub same-report : (net : Net) (top : Shown) (e : Ended) (count : ℕ) (r : Report) → count ≡ length net.recorded.items → r.traces ≡ told_of (recorded_ports count top) → r.meetings ≡ [] → r.end ≡ end_of e → r ≡ report_of net [] top e
+pub same-report : (net : Net) (lists : List Meetings) (top : Shown) (e : Ended) (count : ℕ) (r : Report) → count ≡ length net.recorded.items → r.traces ≡ told_of (recorded_ports count top) → r.meetings ≡ lists → r.end ≡ end_of e → r ≡ report_of net lists top e
 unfolding made
-same-report net top e count r counted traces meetings end =
+same-report net lists top e count r counted traces meetings end =
     let told = told_of (recorded_ports (length net.recorded.items) top) in
-    ap (λ ts. made ts r.meetings r.end) (traces ∙ ap (λ n. told_of (recorded_ports n top)) counted) ∙ ap (λ ms. made told ms r.end) meetings ∙ ap (λ x. made told [] x) end
+    ap (λ ts. made ts r.meetings r.end) (traces ∙ ap (λ n. told_of (recorded_ports n top)) counted) ∙ ap (λ ms. made told ms r.end) meetings ∙ ap (λ x. made told lists x) end
 
 -- what is told of a run answers its net, by how it ended
 told-answers : (f : Form) (net : Net) (budget : ℕ) (e : Ended) (s : Status) (text : List ℕ) → s ≡ status_of e → IsReport f net budget s text → AnswersNet f net budget s text
@@ -62,22 +55,3 @@ refused-over (Err e) h = tt
 pub refusal-answers : (f : Form) (net : Net) (budget : ℕ) (why : Refusal) (reply : Result Reply AllocError) → IfOk reply (λ r. (r.status ≡ Document) × (r.text.items ≡ refusal_text why)) → IsRefused net why → IfOk reply (λ r. AnswersNet f net budget r.status r.text.items)
 refusal-answers f net budget why (Ok r) h stands = subst (λ s. AnswersNet f net budget s r.text.items) (sym h.0) (why, stands, h.1)
 refusal-answers f net budget why (Err e) h stands = tt
-
--- the report of a node without Rendezvous within lists no meetings, and there are none
-none-lines : (n : ℕ) (path : Option (List ℕ)) → lines_of n path [] ≡ []
-none-lines n None = refl
-none-lines n (Some path) = refl
-
-none-of : {A : Type 0} (P : A → Type 0) → All P []
-none-of P k d l = absurd (omega (arith, l))
-
-pub none-formed : All AreMeetings []
-none-formed = none-of AreMeetings
-
-pub none-told : (net : Net) (names : Outline) (s : Shown) → TellMeetings net names [] (meets_of (kept_of s))
-none-told net names s = record {
-  there = none-of (λ (t : Meetings). (p : Path) × (text_at names p ≡ Some t.path));
-  each = λ p n.
-      subst (λ ls. AllZip (TellsAt net (text_at names p)) ls (meets_of (kept_of s) p n)) (sym (none-lines n (text_at names p)))
-      (subst (λ ms. AllZip (TellsAt net (text_at names p)) [] ms) (sym (ap (λ v. made_if n v) (node-unmet s p))) tt);
-}

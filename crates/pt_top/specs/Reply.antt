@@ -17,6 +17,7 @@ use Rattle.pt_trees.specs.Ports.{AreNumbered, recorded_ports, told_of}
 use Rattle.pt_trees.specs.Report.{end_of}
 use Rattle.pt_trees.specs.Meetings.{TellMeetings}
 use Rattle.pt_trees.specs.Run.{IsRun, IsAffordable}
+use Rattle.pt_meetings.specs.Laws.{AreListed}
 use Rattle.pt_run.specs.Ran.{IsCount}
 use Rattle.pt_model.specs.Model.{IsModel}
 use Rattle.pt_elaboration.specs.Refused as unmodelled
@@ -62,8 +63,9 @@ pub record IsReport (form : Form) (net : Net) (budget : ℕ) (status : Status) (
   -- the tree after it, which has kept the names of its nodes and of its recorded ports
   pub after : Shown
   pub named : outline_of after ≡ outline_of top
-  -- the meetings that the report lists, and those that they are in the model
+  -- the meetings that the report lists, for each node that records any in the order of the document, and those that they are in the model
   pub meetings : List Meetings
+  pub listed : AreListed net after meetings
   pub formed : All AreMeetings meetings
   pub meets : Meets
   pub read : TellMeetings net (outline_of top) meetings meets

@@ -16,6 +16,7 @@ ghost use Rattle.pt_top.specs.Reply.{refusal_text, text_in, IsReport, AnswersNet
 use crate::form::Form;
 use crate::status::Status;
 use pt_document::{DocFault, Refusal};
+use pt_meetings::meetings_of;
 use pt_model::{Model, model_of};
 use pt_net::Net;
 use pt_node::Node;
@@ -79,6 +80,7 @@ fn report_run(
     job: &Top,
     budget: u64,
 ) -> Result<Reply, AllocError>
+    requires net { IsNetOfDocument net.now }
     requires model { IsModel net.now (shown_node top.old) job.now }
     requires runnable { IsRunnable job.now (shown_node top.old) }
     requires numbered { AreNumbered (length net.now.recorded.items) (shown_node top.old) }
@@ -90,7 +92,8 @@ fn report_run(
     let ran = run(alloc, top, job, budget)?;
     let firings = ran.firings;
     let status = status_of(&ran.ended);
-    let report = report(alloc, top, ran.ended, net.recorded.len())?;
+    let meetings = meetings_of(alloc, net, top)?;
+    let report = report(alloc, top, meetings, ran.ended, net.recorded.len())?;
     Ok(Reply {
         status,
         text: told_in(alloc, form, &report, firings)?,
@@ -106,6 +109,7 @@ fn answer_model(
     mut model: Model,
     budget: u64,
 ) -> Result<Reply, AllocError>
+    requires net { IsNetOfDocument net.now }
     requires model { IsModel net.now (shown_node model.top) model.job }
     requires runnable { IsRunnable model.job (shown_node model.top) }
     requires numbered { AreNumbered (length net.now.recorded.items) (shown_node model.top) }
