@@ -157,6 +157,76 @@ def repeats(count: int) -> dict:
     return top(director("PN", maximumQueueCapacity=1), actors, chained(names), ["d.output"])
 
 
+# ---- rendezvous
+
+
+def meeting(entities: list[dict], groups: list[list[str]], record: list[str]) -> dict:
+    return top(director("Rendezvous"), entities, groups, record)
+
+
+def handshakes(count: int) -> dict:
+    """One pair that meets so many times."""
+    return meeting([entity("r", "Ramp", firingCountLimit=count), entity("d", "Discard")], [["r.output", "d.input"]], [])
+
+
+def meeting_pairs(count: int, times: int) -> dict:
+    """So many pairs, each of which meets so many times; what one sender gives begins behind what the one before gives."""
+    actors = []
+    for number in range(count):
+        actors += [entity(f"r{number}", "Ramp", init=number * times, firingCountLimit=times), entity(f"k{number}", "Scale", factor=2)]
+    return meeting(actors, [[f"r{number}.output", f"k{number}.input"] for number in range(count)], [f"k{count - 1}.output"])
+
+
+def visitors(count: int) -> dict:
+    """So many senders into one Merge, each with a token of its own, and a sum behind it."""
+    names = [f"r{number}" for number in range(count)]
+    actors = [*(entity(name, "Ramp", init=number, firingCountLimit=1) for number, name in enumerate(names)), entity("m", "Merge"), entity("x", "Accumulator")]
+    return meeting(actors, [*([f"{name}.output", "m.input"] for name in names), ["m.output", "x.input"]], ["m.output", "x.output"])
+
+
+def gathering(count: int, late: int) -> dict:
+    """So many senders to one Barrier, the last of which never come; behind it how many came, and the last of them."""
+    names = [f"r{number}" for number in range(count)]
+    actors = [entity(name, "Ramp", init=number, firingCountLimit=1) for number, name in enumerate(names[: count - late])]
+    actors += [entity(name, "Scale") for name in names[count - late :]]
+    length = {**entity("n", "Expression", expression="x.length()"), "ports": [port("x", "input")]}
+    actors += [entity("b", "Barrier"), length, entity("e", "ArrayElement", index=count - 1)]
+    groups = [*([f"{name}.output", "b.input", *([f"{name}.input"] if number >= count - late else [])] for number, name in enumerate(names))]
+    return meeting(actors, [*groups, ["b.output", "n.x", "e.input"]], ["n.output", "e.output"])
+
+
+def long_texts(length: int) -> dict:
+    """Two texts of so many letters, which meet at a Barrier."""
+    count = {**entity("n", "Expression", expression="x.length()"), "ports": [port("x", "input")]}
+    actors = [*(entity(name, "Const", value=f'"{"a" * length}"', firingCountLimit=1) for name in "pq"), entity("b", "Barrier"), count]
+    return meeting(actors, [["p.output", "b.input"], ["q.output", "b.input"], ["b.output", "n.x"]], ["n.output"])
+
+
+def ring_that_waits(count: int) -> dict:
+    """So many processes in a ring, each of which waits for the one before it."""
+    names = [f"s{number}" for number in range(count)]
+    return meeting([entity(name, "Scale") for name in names], chained([*names, names[0]]), [f"{names[-1]}.output"])
+
+
+def row_of_barriers(count: int) -> dict:
+    """So many Barriers of one channel, each of which takes what the one before it gave."""
+    names = ["r", *(f"b{number}" for number in range(count))]
+    return meeting([entity("r", "Ramp", firingCountLimit=1), *(entity(name, "Barrier") for name in names[1:])], chained(names), [f"{names[-1]}.output"])
+
+
+def places_in_turn(count: int) -> dict:
+    """A sender of one token to so many places of a sum."""
+    return meeting([entity("r", "Ramp", init=3, firingCountLimit=1), entity("a", "AddSubtract")], [["r.output", *["a.plus"] * count]], ["a.output"])
+
+
+def fired(times: int) -> dict:
+    """A Rendezvous composite that fires so many times. At each other one it has gathered four tokens, and gives the sum of the last of each four."""
+    actors = [entity("k", "Repeat"), entity("d", "DownSample", factor=4), entity("x", "Accumulator")]
+    groups = [["in", "k.input"], *chained(["k", "d", "x"]), ["x.output", "out"]]
+    inside = composite("N", director("Rendezvous"), actors, groups, [port("in", "input"), port("out", "output")])
+    return top(director("SR", iterations=times), [entity("r", "Ramp"), inside], [["r.output", "N.in"]], ["N.out"])
+
+
 # ---- Modal entities
 
 
