@@ -2,17 +2,19 @@
 //!
 //! It reads the same documents on standard input and writes the same reports, for models of Ramp, Scale,
 //! AddSubtract, UpSample and DownSample under SDF, of the first three under SR, of what `events.rs` and `machines.rs` know
-//! under DE, or of what `networks.rs` knows under PN, whose actors stand right in the top.
+//! under DE, or of what `networks.rs` knows under PN and, of single actors, under Rendezvous, whose actors stand right in the top.
 //! It does what such a model needs and no more: an iteration, or a tick, is an order of firings that is found once. It
 //! refuses nothing by name; a document that it doesn't know ends it with a panic. Plain Rust over std alone: `rustc --edition 2021 -O interpreter.rs`.
 
 mod balance;
 mod events;
 mod machines;
+mod meetings;
 mod networks;
 
 use balance::repetitions;
 use events::Events;
+use meetings::Meetings;
 use networks::Network;
 use std::collections::{HashMap, VecDeque};
 use std::io::{Read, Write};
@@ -476,6 +478,17 @@ fn report_network(job: &Json) -> (Vec<u8>, i32) {
     (network.report(&record, stuck), if stuck.is_some() { 3 } else { 0 })
 }
 
+/// Runs a model of Rendezvous, and gives its report and the exit status.
+fn report_meetings(job: &Json) -> (Vec<u8>, i32) {
+    let top = job.get("model").expect("a model");
+    let mut nodes: Vec<Node> = top.list("entities").iter().map(node_of).collect();
+    let channels = join(top, &mut nodes);
+    let record = recorded(job, &mut nodes);
+    let mut meetings = Meetings::new(top, nodes, channels);
+    let stuck = meetings.run();
+    (meetings.report(&record, stuck), if stuck.is_some() { 3 } else { 0 })
+}
+
 /// Runs a model of SDF or SR, and gives its report and the exit status.
 fn report_iterations(job: &Json) -> (Vec<u8>, i32) {
     let mut model = model_of(job);
@@ -494,6 +507,7 @@ fn main() {
     let (report, status) = match director_of(job.get("model").expect("a model")).text("class") {
         "DE" => (report_events(&job), 0),
         "PN" => report_network(&job),
+        "Rendezvous" => report_meetings(&job),
         _ => report_iterations(&job),
     };
     std::io::stdout().lock().write_all(&report).expect("standard output");

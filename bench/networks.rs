@@ -41,14 +41,14 @@ impl Inner {
     }
 }
 
-struct Process {
-    node: Node,
+pub struct Process {
+    pub node: Node,
     inner: Option<Inner>,
     /// After so many firings it is over.
     limit: u64,
     takes: usize,
     /// What it has gathered, place by place, of all that it needs.
-    gathered: Vec<i64>,
+    pub gathered: Vec<i64>,
     needed: usize,
     /// What it has still to put: this token of those that it gave, on this output, and what is behind it.
     given: Vec<i64>,
@@ -57,7 +57,7 @@ struct Process {
 }
 
 impl Process {
-    fn new(entity: &Json, node: Node) -> Process {
+    pub fn new(entity: &Json, node: Node) -> Process {
         let limit = match entity.parameter("firingCountLimit", 0) {
             0 => u64::MAX,
             limit => limit as u64,
@@ -82,18 +82,30 @@ impl Process {
     }
 
     /// The channel of its next get, if it needs one before it can fire.
-    fn next_get(&self) -> Option<usize> {
+    pub fn next_get(&self) -> Option<usize> {
         let have = self.gathered.len();
         (have < self.needed).then(|| self.place(if self.takes == 1 { have } else { have / self.takes }))
     }
 
     /// The channel and the token of its next put, if it has one to make.
-    fn next_put(&self) -> Option<(usize, i64)> {
+    pub fn next_put(&self) -> Option<(usize, i64)> {
         let token = *self.given.get(self.token)?;
         Some((*self.node.outputs.get(self.output)?, token))
     }
 
-    fn put_made(&mut self) {
+    pub fn is_over(&self) -> bool {
+        self.node.firings >= self.limit
+    }
+
+    /// The channel that it waits to get from, where it has made its puts.
+    pub fn waits_for(&self) -> Option<usize> {
+        if self.next_put().is_some() || self.is_over() {
+            return None;
+        }
+        self.next_get()
+    }
+
+    pub fn put_made(&mut self) {
         self.output += 1;
         if self.output == self.node.outputs.len() {
             self.output = 0;
@@ -102,7 +114,7 @@ impl Process {
     }
 
     /// Fires on what it gathered, or answers `false` where a number leaves 64 bits.
-    fn fire(&mut self) -> bool {
+    pub fn fire(&mut self) -> bool {
         self.given.clear();
         (self.token, self.output) = (0, 0);
         let one = match self.node.actor {
@@ -201,7 +213,7 @@ impl Network {
             if !self.put_all(number) {
                 return true;
             }
-            if self.processes[number].node.firings >= self.processes[number].limit || !self.gather(number) {
+            if self.processes[number].is_over() || !self.gather(number) {
                 return true;
             }
             if !self.processes[number].fire() {
