@@ -1,4 +1,4 @@
-//! KIND SIZE ITERATIONS [WORD]: a model of bench/generate is built and fired, and a checksum of its trace is printed. `ticks` and `ticks_back` are under SR, `clocks`, `server` and `spread` under DE, `network` and those below it under PN.
+//! KIND SIZE ITERATIONS [WORD]: a model of bench/generate is built and fired, and a checksum of its trace is printed. `ticks` and `ticks_back` are under SR, `clocks`, `server` and `spread` under DE, `network` and those below it under PN, `meetings` under Rendezvous.
 //! WORD: `bursts` is the interpreter's order of firings, `turns` one firing after another; else it is pt_sched's. `sizes` prints sizes.
 use crate::balance::repetitions;
 use crate::pt_firing::{Actor, Answer, Counts, Inputs, Need, Ports, Tokens, Values};
@@ -12,8 +12,9 @@ use crate::pt_core::Source;
 use crate::pt_directors as directors;
 use crate::pt_de::DeCore;
 use crate::pt_de_plan::{DeInside, DePlan};
-use crate::pt_node::{Body, Held, Labels, Node, Past, Recorded, Records};
+use crate::pt_node::{Body, Held, Labels, MeetingRecord, Node, Past, Recorded, Records};
 use crate::pt_recv::Channels;
+use crate::pt_rv_parts::KeptNeed;
 use crate::pt_sdf::{Core, CorePlan};
 use crate::pt_run::reactions::run_reactions;
 use crate::pt_seq::fire_within;
@@ -64,9 +65,9 @@ fn document(kind: &str, size: usize) -> (Vec<Entity>, Vec<(usize, Vec<(usize, &'
         (e, groups, last)
     };
     match kind {
-        "pairs" => {
+        "pairs" | "meetings" => {
             for n in 0..size {
-                e.push(entity(format!("a{n}"), "Ramp", &[("init", n as i64)]));
+                e.push(entity(format!("a{n}"), "Ramp", &[("init", if kind == "pairs" { n as i64 } else { 0 })]));
                 e.push(entity(format!("b{n}"), "Scale", &[("factor", n as i64 + 1)]));
                 groups.push((2 * n, vec![(2 * n + 1, "input")]));
             }
@@ -453,6 +454,7 @@ fn node_of(e: &Entity, recorded: bool) -> Node {
         path: text(&e.name),
         labels: Labels::none(GLOBAL),
         live: true,
+        meetings: MeetingRecord::unrecorded(),
     }
 }
 
@@ -468,11 +470,14 @@ pub fn sizes() {
 pub fn build(kind: &str, size: usize, iterations: u64, by: &str) -> (Node, usize, usize) {
     let (mut entities, groups, last) = document(kind, size);
     let channels = join(&mut entities, &groups);
-    if is_network(kind) {
+    if is_network(kind) || kind == "meetings" {
         for ramp in entities.iter_mut().filter(|e| e.class == "Ramp") {
             ramp.values.push(("firingCountLimit", iterations as i64));
         }
         let children = row(entities.iter().enumerate().map(|(k, e)| node_of(e, k == last)));
+        if kind == "meetings" {
+            return (meetings_of(&entities, &channels, children), 0, last);
+        }
         let core = crate::pt_pn::Core::new(GLOBAL, network_plan(&entities, &channels, children.as_slice())).ok().unwrap();
         return (top_of(directors::pn(core), children), 0, last);
     }
@@ -554,6 +559,28 @@ fn network_plan(entities: &[Entity], channels: &[(usize, usize)], children: &[No
     }
 }
 
+/// A composite of Rendezvous, with a record of its meetings.
+fn meetings_of(entities: &[Entity], channels: &[(usize, usize)], children: Row<Node>) -> Node {
+    let plan = crate::pt_rv_parts::CorePlan {
+        sources: row(channels.iter().map(|(from, _)| Source::Output(*from as u32, 0))),
+        places: counts(entities.iter().map(|e| e.plus.len() + e.minus.len())),
+        barriers: row(children.as_slice().iter().map(|child| match &child.body {
+            Body::Actor(held) => held.actor.is_barrier(),
+            Body::Composite(_) => false,
+        })),
+        takes: counts([]),
+        starts: row(children.as_slice().iter().map(|child| match child.need() {
+            Need::Over => KeptNeed::Over,
+            Need::All(need) => KeptNeed::Counts(need.copy(GLOBAL).ok().unwrap()),
+            Need::Any => KeptNeed::Any,
+        })),
+    };
+    let core = crate::pt_rv::Core::new(GLOBAL, plan).ok().unwrap();
+    let mut top = top_of(directors::rendezvous(core), children);
+    top.meetings = MeetingRecord::new(GLOBAL);
+    top
+}
+
 /// The plan of a DE composite, whose depths are those of its kinds of models.
 fn timed_plan(entities: &[Entity], channels: &[(usize, usize)], children: &[Node]) -> DePlan {
     let actor = |child: usize| {
@@ -591,6 +618,7 @@ fn top_of(director: directors::Director, children: Row<Node>) -> Node {
         path: text("top"),
         labels: Labels::none(GLOBAL),
         live: true,
+        meetings: MeetingRecord::unrecorded(),
     }
 }
 
@@ -644,7 +672,7 @@ pub extern "C" fn proto_main() {
     let by = words.get(3).map_or("", |word| word);
     let (mut top, firings, last) = build(kind, size, iterations, by);
     let made = match kind.as_str() {
-        _ if is_network(kind) => fire_once(&mut top),
+        _ if is_network(kind) || kind == "meetings" => fire_once(&mut top),
         "clocks" => run_until(&mut top, 2 * iterations - 1),
         "server" => run_until(&mut top, size as u64 * iterations - 1),
         "spread" | "machine" => run_until(&mut top, iterations - 1),
@@ -661,7 +689,8 @@ pub extern "C" fn proto_main() {
         Token::Int(n) => *n,
         _ => panic!(),
     }));
-    println!("checksum {sum:016x} tokens {count} firings {made}");
+    let met = top.meetings.as_slice().map_or(String::new(), |met| format!(" meetings {}", met.len()));
+    println!("checksum {sum:016x} tokens {count} firings {made}{met}");
     if words.get(3).is_some_and(|word| word == "sizes") {
         sizes();
     }

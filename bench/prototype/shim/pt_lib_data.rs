@@ -32,6 +32,9 @@ impl DataActor {
     pub fn is_steady(&self) -> bool {
         true
     }
+    pub fn is_barrier(&self) -> bool {
+        false
+    }
 }
 impl Fires for DataActor {
     fn step(&mut self, _alloc: Global, _tag: Tag, _inputs: &Inputs<'_>) -> Step {

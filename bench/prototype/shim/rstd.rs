@@ -647,6 +647,14 @@ impl<T> VecDeque<T> {
     pub fn reserve(&mut self, n: usize) -> Result<(), AllocError> {
         if n <= self.cap - self.len || self.grow(n) { Ok(()) } else { Err(AllocError) }
     }
+    // Not as Rattle's: one by one.
+    pub fn append(&mut self, other: &mut VecDeque<T>) -> Result<(), AllocError> {
+        self.reserve(other.len())?;
+        while let Some(x) = other.pop_front() {
+            self.write_back(x);
+        }
+        Ok(())
+    }
     pub fn clear(&mut self) {
         while let Some(x) = self.pop_front() {
             drop(x);
