@@ -1,5 +1,5 @@
 -- What a firing of a composite comes to where it ends, by where it has come to.
-use Rattle.std.proofs.Common.{◌≡◌, ℕ, ℤ, ◌+◌, ◌≤◌, List, map, get_or, set, Option, None, sym, ap, subst, ◌∙◌, arith}
+use Rattle.std.proofs.Common.{◌≡◌, ◌⊎◌, inl, inr, ℕ, ℤ, ◌+◌, ◌≤◌, List, map, get_or, set, Option, None, sym, ap, subst, ◌∙◌, arith}
 use Rattle.pt_meaning.specs.Basics.{Tag, Streams}
 use Rattle.pt_value.specs.declared.token.Token.{Token}
 use Rattle.pt_firing.specs.declared.ask.Ask.{Ask}
@@ -23,7 +23,7 @@ use Rattle.pt_seq.specs.declared.turn.Turn.TheVariants as turn
 use Rattle.pt_seq.specs.Within.{SpendsAll, IsFaultAt, IsFullAt}
 use Rattle.pt_seq.specs.Composite.{EndsAs, FinishTo}
 use Rattle.pt_seq.specs.Turns.{TurnFrom}
-use Rattle.pt_seq.specs.Between.{Between, InTurn, Halts, Rested}
+use Rattle.pt_seq.specs.Between.{At, Between, InTurn, Halts, Rested}
 use Rattle.pt_seq.specs.OwnMeetings.{OwnMeetings}
 use Rattle.pt_seq.proofs.Children.{outlines-set}
 use Rattle.pt_seq.proofs.Acting.{acts-law}
@@ -81,17 +81,21 @@ module _ {D : Type 0} (a : Acts rows D) (law : Lawful a) where
         counted = p.at.counted;
       }
 
-      -- or nothing is left of the allowance
-      pub spent-ends : {s : D} {now : List Shown} {left : ℕ} → (left ≡ 0) × ((next : Ask) × Between a before olds tag X allowance own next s now left) → EndsAs a path labels own before (all_of olds) tag X allowance within.Spent s (all_of now) left
-      spent-ends {s} {now} {left} p = record {
-        goes = off-here a law p.1.1.at;
-        spends = p.0;
-        lowered = p.1.1.at.lowered;
+      -- or nothing is left of the allowance, whether the director was asked or not
+      spent-at : {state : D} (s : D) {now : List Shown} {left : ℕ} → left ≡ 0 → At a before olds tag X allowance own state now left → a.calls.maximum s ≡ a.calls.maximum before → EndsAs a path labels own before (all_of olds) tag X allowance within.Spent s (all_of now) left
+      spent-at {state} s {now} {left} z at e = record {
+        goes = off-here a law at;
+        spends = z;
+        lowered = at.lowered;
         fit = tt;
-        outlines = p.1.1.at.outlines;
-        maximum = between-maximum a law p.1.1;
-        counted = p.1.1.at.counted;
+        outlines = at.outlines;
+        maximum = e;
+        counted = at.counted;
       }
+
+      pub spent-ends : {s : D} {now : List Shown} {left : ℕ} → left ≡ 0 → At a before olds tag X allowance own s now left ⊎ ((next : Ask) × Between a before olds tag X allowance own next s now left) → EndsAs a path labels own before (all_of olds) tag X allowance within.Spent s (all_of now) left
+      spent-ends {s} {now} {left} z (inl at) = spent-at s z at at.maximum
+      spent-ends {s} {now} {left} z (inr asked) = spent-at s z asked.1.at (between-maximum a law asked.1)
 
       -- or memory was wanting
       pub halts-ends : {s : D} {now : List Shown} {left : ℕ} → Halts a before olds tag X allowance own s now left → EndsAs a path labels own before (all_of olds) tag X allowance within.Memory s (all_of now) left
@@ -161,6 +165,7 @@ module _ (before : Director) (olds : List Shown) (tag : Tag) (X : Streams Token)
   rested-names (rest.Turn i when given) t = turn-names acts acts-law t
   rested-names (rest.Asked next) b = b.at.outlines
   rested-names rest.Memory h = halts-outlines acts acts-law h
+  rested-names rest.Spent p = p.1.outlines
 
   -- what a row of firings has come to, once it is known
   pub rested-as : (r q : Rest) → r ≡ q → Rested before olds tag X allowance own r s now left → Rested before olds tag X allowance own q s now left

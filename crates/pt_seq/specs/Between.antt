@@ -1,5 +1,5 @@
 -- Where the firing of a composite stands between two firings of its children. What is under way is the director's own affair.
-use Rattle.std.specs.Prelude.{◌≡◌, ℕ, ℤ, ◌+◌, ◌<◌, ◌≤◌, List, Option, Some, None, set}
+use Rattle.std.specs.Prelude.{◌≡◌, ◌⊎◌, ℕ, ℤ, ◌+◌, ◌<◌, ◌≤◌, List, Option, Some, None, set}
 use Rattle.pt_meaning.specs.Basics.{Tag, Streams}
 use Rattle.pt_meaning.specs.Streams.{get}
 use Rattle.pt_meaning.specs.Meetings.{Meets}
@@ -103,7 +103,7 @@ abbrev pub Paused : Director → List Shown → Tag → Streams Token → (allow
 Paused before olds tag X allowance own (pause.Turn i when given) s now left = InTurn acts before olds tag X allowance own i when given s now left
 Paused before olds tag X allowance own pause.Finished s now left = Between acts before olds tag X allowance own ask.Finished s now left
 Paused before olds tag X allowance own (pause.Faulted kind) s now left = Between acts before olds tag X allowance own (ask.Faulted kind None) s now left
-Paused before olds tag X allowance own pause.Spent s now left = (left ≡ 0) × ((next : Ask) × Between acts before olds tag X allowance own next s now left)
+Paused before olds tag X allowance own pause.Spent s now left = (left ≡ 0) × (At acts before olds tag X allowance own s now left ⊎ ((next : Ask) × Between acts before olds tag X allowance own next s now left))
 Paused before olds tag X allowance own pause.Full s now left = Between acts before olds tag X allowance own ask.Full s now left
 Paused before olds tag X allowance own pause.Memory s now left = Halts acts before olds tag X allowance own s now left
 
@@ -112,11 +112,12 @@ abbrev pub Heeded : Director → List Shown → Tag → Streams Token → (allow
 Heeded before olds tag X allowance own state None s now left = At acts before olds tag X allowance own s now left × (director_calls.waits s < director_calls.waits state)
 Heeded before olds tag X allowance own state (Some pause) s now left = Paused before olds tag X allowance own pause s now left
 
--- so it is after a row of firings of numbers alone: it is the turn of a child, or the director has this answer, or memory was wanting
+-- so it is after a row of firings of numbers alone: it is the turn of a child, or the director has this answer, or memory was wanting, or nothing is left and the director wasn't asked
 abbrev pub Rested : Director → List Shown → Tag → Streams Token → (allowance : ℕ) → OwnMeetings → Rest → Director → List Shown → (left : ℕ) → Type 0
 Rested before olds tag X allowance own (rest.Turn i when given) s now left = InTurn acts before olds tag X allowance own i when given s now left
 Rested before olds tag X allowance own (rest.Asked next) s now left = Between acts before olds tag X allowance own next s now left
 Rested before olds tag X allowance own rest.Memory s now left = Halts acts before olds tag X allowance own s now left
+Rested before olds tag X allowance own rest.Spent s now left = (left ≡ 0) × At acts before olds tag X allowance own s now left
 
 -- the same of a firing at this tag that began in some way, where this is recorded now
 pub record IsRestedUnderWay (tag : Tag) (number : ℕ) (made : Option Made) (rest : Rest) (s : Director) (now : List Shown) (left : ℕ) : Type 0 where

@@ -61,6 +61,8 @@ pub(crate) enum Rest {
     Asked(Ask),
     /// Memory was wanting for what is recorded of the last firing.
     Memory,
+    /// Nothing is left of the allowance, and the core wasn't asked.
+    Spent,
 }
 
 impl Rest {

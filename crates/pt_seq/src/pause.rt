@@ -59,6 +59,7 @@ pub(crate) fn settle(
             None => wait(alloc, director, children, made, meetings, left),
         },
         Rest::Memory => Pause::Memory,
+        Rest::Spent => Pause::Spent,
     }
 }
 
@@ -138,12 +139,15 @@ pub(crate) fn fire_row(
     }
 }
 
-/// Asks the director what comes next, and makes no firing.
+/// Asks the director what comes next, and makes no firing. Where nothing is left of the allowance it isn't asked, so that it makes no more moves.
 #[inline(never)]
 fn ask_next(director: &mut Director, children: &Vec<Node>, left: u64) -> Rest
     requires { (tag : basics.Tag) × IsUnderWay acts tag director.old (map shown children.now.items) left }
     ensures { (before : directors.Director) (olds : List Shown) (tag : basics.Tag) (X : basics.Streams Token) (allowance : ℕ) (own : OwnMeetings) → At acts before olds tag X allowance own director.old (map shown children.now.items) left → Rested before olds tag X allowance own result director.new (map shown children.now.items) left }
 {
+    if left == 0 {
+        return Rest::Spent;
+    }
     let asked = director.ask();
     Rest::Asked(asked)
 }

@@ -180,7 +180,7 @@ pub go_on-returns-in-Full : goal.go_on-returns-in-Full
 go_on-returns-in-Full t c before olds tag X allowance start a = full-ends acts acts-law c.args.path.now c.args.labels.now (c.in-Full.ensures before olds tag X allowance start (c.loop-number.invariant before olds tag X allowance start a)) c.full_at.result c.full_at.ensures
 
 pub go_on-returns-in-Spent : goal.go_on-returns-in-Spent
-go_on-returns-in-Spent t c before olds tag X allowance start a = spent-ends acts acts-law c.args.path.now c.args.labels.now (c.in-Spent.ensures before olds tag X allowance start (c.loop-number.invariant before olds tag X allowance start a))
+go_on-returns-in-Spent t c before olds tag X allowance start a = let p = c.in-Spent.ensures before olds tag X allowance start (c.loop-number.invariant before olds tag X allowance start a) in spent-ends acts acts-law c.args.path.now c.args.labels.now p.0 p.1
 
 pub go_on-returns-in-Memory : goal.go_on-returns-in-Memory
 go_on-returns-in-Memory t c before olds tag X allowance start a = halts-ends acts acts-law c.args.path.now c.args.labels.now (c.in-Memory.ensures before olds tag X allowance start (c.loop-number.invariant before olds tag X allowance start a))

@@ -1,4 +1,4 @@
-use Rattle.std.proofs.Common.{◌≡◌, arith, [], ◌∷◌, map, sym, ap, subst, ◌∙◌}
+use Rattle.std.proofs.Common.{◌≡◌, inr, arith, [], ◌∷◌, map, sym, ap, subst, ◌∙◌}
 use Rattle.pt_firing.specs.declared.ask.Ask.TheVariants as ask
 use Rattle.pt_firing.specs.Meeting.{meeting_of}
 use Rattle.pt_core.specs.Met.{made_with}
@@ -18,7 +18,7 @@ use Rattle.pt_seq.proofs.Loop.{on-ok, on-err, once-asked, turn-of, faulted-itsel
 use Rattle.pt_seq.proofs.pause.heed.Goals as goal
 
 pub returns-then-left-eq0 : goal.returns-then-left-eq0
-returns-then-left-eq0 c before olds tag X allowance start state a g e = (omega (arith, c.if-left-eq0.true), (c.args.next, once-asked acts acts-law a c.args.next c.args.director.now g e))
+returns-then-left-eq0 c before olds tag X allowance start state a g e = (omega (arith, c.if-left-eq0.true), inr (c.args.next, once-asked acts acts-law a c.args.next c.args.director.now g e))
 
 pub returns-else-left-eq0 : goal.returns-else-left-eq0
 returns-else-left-eq0 c before olds tag X allowance start state a g e = turn-of acts acts-law (once-asked acts acts-law a (ask.Fire c.in-Fire.number c.in-Fire.when) c.args.director.now (subst (λ n. director_calls.Gives state n) c.in-Fire.is g) (e ∙ ap (λ n. director_calls.asking n state) c.in-Fire.is)) (omega (arith, c.if-left-eq0.false))

@@ -1,4 +1,4 @@
-use Rattle.std.proofs.Common.{map}
+use Rattle.std.proofs.Common.{inl, map}
 use Rattle.pt_node.specs.Shown.{shown}
 use Rattle.pt_seq.specs.declared.numbers.Rest.TheVariants as rest
 use Rattle.pt_seq.specs.OwnMeetings.{own_of}
@@ -10,6 +10,9 @@ returns-in-Turn c before olds tag X allowance start a = rested-as before olds ta
 
 pub returns-in-Memory : goal.returns-in-Memory
 returns-in-Memory c before olds tag X allowance start a = rested-as before olds tag X allowance (own_of c.args.made start c.args.meetings.now) c.args.director.now (map shown c.args.children.now.items) c.args.left c.args.rest rest.Memory c.in-Memory.is a
+
+pub returns-in-Spent : goal.returns-in-Spent
+returns-in-Spent c before olds tag X allowance start a = let p = rested-as before olds tag X allowance (own_of c.args.made start c.args.meetings.now) c.args.director.now (map shown c.args.children.now.items) c.args.left c.args.rest rest.Spent c.in-Spent.is a in (p.0, inl p.1)
 
 pub heed-requires : goal.heed-requires
 heed-requires c = let r = c.requires.1 in (c.requires.0, record { before = r.before; olds = r.olds; inputs = r.inputs; allowance = r.allowance; start = r.start; between = rested-as r.before r.olds c.requires.0 r.inputs r.allowance (own_of c.args.made r.start c.args.meetings.now) c.args.director.now (map shown c.args.children.now.items) c.args.left c.args.rest (rest.Asked c.in-Asked.asked) c.in-Asked.is r.rested })
