@@ -1,6 +1,7 @@
 """Long documents, each made by a function of this module that a table names in the field `made`."""
 
 import json
+from itertools import accumulate
 
 from models import director, entity, joined
 
@@ -182,6 +183,15 @@ def visitors(count: int) -> dict:
     names = [f"r{number}" for number in range(count)]
     actors = [*(entity(name, "Ramp", init=number, firingCountLimit=1) for number, name in enumerate(names)), entity("m", "Merge"), entity("x", "Accumulator")]
     return meeting(actors, [*([f"{name}.output", "m.input"] for name in names), ["m.output", "x.input"]], ["m.output", "x.output"])
+
+
+def visited(order: list[int], end: str) -> list[str]:
+    """The report of these visitors where they met the Merge in this order, the sum each time before the next of them."""
+    tokens = [f"{number} 0.0 {value}" for number, value in enumerate(order)]
+    sums = [f"{number} 0.0 {value}" for number, value in enumerate(accumulate(order))]
+    words = [word for sender in order for word in (f"meet m.input.{sender}", "meet x.input.0")]
+    met = [f"0 {index} {word}" for index, word in enumerate(words)]
+    return ["trace m.output", *tokens, "trace x.output", *sums, "meetings .", *met, end]
 
 
 def gathering(count: int, late: int) -> dict:
