@@ -38,7 +38,7 @@ several-on n Nothing = refl
 several-on n (One j) = refl
 several-on n (Wrong code) = refl
 
-joined-on : (e : Enabled) (n : ℕ) (c : Choice) → joined e (after_on n c) ≡ joined (with_on e n) c
+pub joined-on : (e : Enabled) (n : ℕ) (c : Choice) → joined e (after_on n c) ≡ joined (with_on e n) c
 joined-on enabled.Nothing n c = refl
 joined-on (enabled.One i) n c = on-on i n c
 joined-on enabled.Several n c = several-on n c

@@ -1,4 +1,5 @@
 pub mod NameLaws
+pub mod PlacedLaws
 pub mod ShownLaws
 pub mod EvaluationLaws
 pub mod ListLaws

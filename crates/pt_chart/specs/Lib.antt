@@ -1,5 +1,6 @@
 pub mod Machine
 pub mod Names
+pub mod Placed
 pub mod Bindings
 pub mod Typed
 pub mod Chart

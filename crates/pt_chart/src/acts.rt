@@ -58,7 +58,7 @@ fn put_one(
 }
 
 /// Puts a token in the place of what a port has.
-fn give(outputs: &mut Vec<Tokens>, port: u32, token: Token)
+pub(crate) fn give(outputs: &mut Vec<Tokens>, port: u32, token: Token)
     ensures { outputs.new.items ≡ change_at port (λ old. token ∷ []) outputs.old.items }
 {
     let port = port as usize;
@@ -145,7 +145,7 @@ fn assign_named(
 }
 
 /// Gives a Variable a value.
-fn assign(values: &mut Vec<Token>, variable: u32, token: Token)
+pub(crate) fn assign(values: &mut Vec<Token>, variable: u32, token: Token)
     ensures { values.new.items ≡ change_at variable (λ old. token) values.old.items }
 {
     let variable = variable as usize;

@@ -1,8 +1,11 @@
-ghost use Rattle.std.specs.Prelude.{◌≡◌, IfOk, map};
+ghost use Rattle.std.specs.Prelude.{◌≡◌, List, IfOk, map};
 ghost use Rattle.pt_chart.specs.Acts.{mode_at, kind_of};
+ghost use Rattle.pt_chart.specs.Machine.{NameTable, ModeTree};
+ghost use Rattle.pt_chart.specs.Placed.{SayModes, SayTransitions};
 ghost use Rattle.pt_chart.specs.Views.{mode_view, transition_view};
 
 use crate::bindings::Bindings;
+use crate::kept::{PlacedMode, PlacedTransition, placed_modes};
 use crate::lists::{empty_lists, picked, shown};
 use crate::reaction::{Reaction, react};
 use crate::typed::is_typed_machine;
@@ -14,10 +17,13 @@ use std::marker::Model;
 
 /// The chart of a Modal: what is written, all of whose guards and actions have a type.
 ///
-/// The parameters are bound once. At a reaction only ports and Variables are bound anew, and what they were bound to before doesn't count.
+/// The parameters are bound once. Only a reaction of which the places don't say it all binds ports and Variables anew, and what they
+/// were bound to before doesn't count.
 pub struct Chart {
     written: Written,
     bindings: Bindings,
+    /// The guards and actions of integers and truth values, with places for names.
+    placed: Vec<PlacedMode>,
 }
 
 // Written by hand, so that letting go of a chart is one call in the proofs above.
@@ -26,6 +32,7 @@ impl Drop for Chart {
         let Chart {
             written: _,
             bindings: _,
+            placed: _,
         } = self;
     }
 }
@@ -35,6 +42,7 @@ impl Model for Chart {
     ghost use Rattle.pt_chart.specs.Machine.{Machine, coded_machine};
     ghost use Rattle.pt_chart.specs.Bindings.{Fits};
     ghost use Rattle.pt_chart.specs.Typed.{is_typed_machine};
+    ghost use Rattle.pt_chart.specs.Placed.{SayModes};
     ghost use Rattle.pt_chart.specs.Views.{names_view, machine_of};
 
     ghost Value = { Machine };
@@ -43,7 +51,7 @@ impl Model for Chart {
 
     ghost view = { λ c. machine_of c.written };
 
-    ghost invariant = { λ c. Fits (names_view c.written.names) c.bindings × (is_typed_machine (machine_of c.written) ≡ true) };
+    ghost invariant = { λ c. Fits (names_view c.written.names) c.bindings × (is_typed_machine (machine_of c.written) ≡ true) × SayModes (names_view c.written.names) c.placed.items (machine_of c.written).modes };
 }
 
 impl Chart {
@@ -70,13 +78,13 @@ impl Chart {
         requires { is_typed_machine (machine_of written) ≡ true }
         ensures { IfOk result (λ chart. chart ≡ machine_of written) }
     {
-        match Bindings::of(alloc, &written.names) {
-            Ok(bindings) => Ok(Chart { written, bindings }),
-            Err(fault) => {
-                drop(written);
-                Err(fault)
-            }
-        }
+        let placed = placed_modes(alloc, &written.modes, &written.names)?;
+        let bindings = Bindings::of(alloc, &written.names)?;
+        Ok(Chart {
+            written,
+            bindings,
+            placed,
+        })
     }
 
     /// How many own inputs there are.
@@ -152,10 +160,12 @@ impl Chart {
     {
         let given = empty_lists(alloc, self.written.names.outputs.as_slice().len())?;
         let transitions = transitions_of(&self.written.modes, mode, true);
+        let placed = placed_of(&self.placed, mode, true);
         let names = &self.written.names;
         react(
             alloc,
             transitions,
+            placed,
             names,
             &mut self.bindings,
             values,
@@ -177,10 +187,12 @@ impl Chart {
         ensures kept { self.new ≡ self.old }
     {
         let transitions = transitions_of(&self.written.modes, mode, false);
+        let placed = placed_of(&self.placed, mode, false);
         let names = &self.written.names;
         react(
             alloc,
             transitions,
+            placed,
             names,
             &mut self.bindings,
             values,
@@ -215,6 +227,22 @@ fn transitions_of(modes: &[Mode], mode: u32, early: bool) -> &[Transition]
     let mode = mode as usize;
     if mode < modes.len() {
         if early {
+            modes[mode].preemptive.as_slice()
+        } else {
+            modes[mode].others.as_slice()
+        }
+    } else {
+        &[]
+    }
+}
+
+/// The transitions of one kind in a state, with places for names.
+fn placed_of(modes: &[PlacedMode], mode: u32, preemptive: bool) -> &[PlacedTransition]
+    ensures { (table : NameTable) (trees : List ModeTree) → SayModes table modes.now trees → SayTransitions table result.now (kind_of preemptive (mode_at trees mode)) }
+{
+    let mode = mode as usize;
+    if mode < modes.len() {
+        if preemptive {
             modes[mode].preemptive.as_slice()
         } else {
             modes[mode].others.as_slice()

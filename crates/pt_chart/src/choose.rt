@@ -21,7 +21,7 @@ pub(crate) enum Choice {
 
 /// Which guards are enabled of those that were tested.
 #[derive(Clone, Copy, Debug)]
-enum Enabled {
+pub(crate) enum Enabled {
     Nothing,
     One(usize),
     Several,
@@ -29,7 +29,7 @@ enum Enabled {
 
 impl Enabled {
     /// With the guard at this number.
-    fn with(self, number: usize) -> Enabled
+    pub(crate) fn with(self, number: usize) -> Enabled
         ensures { result ≡ with_on self number }
     {
         match self {
@@ -51,7 +51,7 @@ impl Enabled {
     }
 
     /// What is chosen where no more are tested.
-    fn choice(self) -> Choice
+    pub(crate) fn choice(self) -> Choice
         ensures { choice_view result ≡ joined self modal.Nothing }
     {
         match self {

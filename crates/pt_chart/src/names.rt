@@ -130,7 +130,7 @@ fn held(alloc: Global, ty: &Ty, token: Option<&Token>) -> Result<Option<Token>, 
 }
 
 /// The last token of a port.
-fn last_at<'a>(lists: &'a Inputs<'_>, port: usize) -> Option<&'a Token>
+pub(crate) fn last_at<'a>(lists: &'a Inputs<'_>, port: usize) -> Option<&'a Token>
     ensures { option_map (λ t. t.now) result ≡ last_of (at lists.now port) }
 {
     if port < lists.places() {
@@ -147,7 +147,7 @@ fn last(tokens: &[Token]) -> Option<&Token>
 }
 
 /// The value of a Variable.
-fn value_at(values: &[Token], i: usize) -> Option<&Token>
+pub(crate) fn value_at(values: &[Token], i: usize) -> Option<&Token>
     ensures { option_map (λ t. t.now) result ≡ get values.now i }
 {
     if i < values.len() {

@@ -1,18 +1,24 @@
-ghost use Rattle.std.specs.Prelude.{◌≡◌, ℕ, IfOk, map, true};
+ghost use Rattle.std.specs.Prelude.{◌≡◌, ℕ, IfOk, IfSome, map, true, None};
 ghost use Rattle.pt_meaning.specs.Streams.{Streams};
 ghost use Rattle.pt_value.specs.declared.token.Token.{Token};
 ghost use Rattle.pt_expr.specs.Env.{scope_of};
 ghost use Rattle.pt_chart.specs.Bindings.{Fits, scope_on};
 ghost use Rattle.pt_chart.specs.Typed.{types_of, are_typed_transitions, is_typed_transition};
+ghost use Rattle.pt_chart.specs.Machine.{NameTable};
+ghost use Rattle.pt_chart.specs.Names.{names_in};
+ghost use Rattle.pt_meaning.specs.Transitions.{Scope};
+ghost use Rattle.pt_chart.specs.Placed.{SayTransitions, SaysTransition, AreGiven};
 ghost use Rattle.pt_chart.specs.Reacted.{by_actions};
-ghost use Rattle.pt_chart.specs.Acts.{acted, reacted_by};
-ghost use Rattle.pt_chart.specs.Views.{transition_view, names_view};
+ghost use Rattle.pt_chart.specs.Acts.{acted, reacted_by, set_all};
+ghost use Rattle.pt_chart.specs.Views.{transition_view, names_view, reads_view};
 ghost use Rattle.pt_chart.specs.Moves.{reaction_view};
 
 use crate::acts::{put_all, set_all};
 use crate::bindings::Bindings;
 use crate::choose::{Choice, choose};
+use crate::kept::PlacedTransition;
 use crate::names::Reads;
+use crate::quick::{chosen_quickly, given_quickly, put_given, set_quickly};
 use crate::written::{Names, Transition, copied_tokens};
 use pt_firing::{Inputs, RunFault, Tokens};
 use pt_value::Token;
@@ -38,8 +44,48 @@ pub struct Move {
     pub values: Vec<Token>,
 }
 
-/// What comes of some transitions. Only names of ports and Variables are bound anew, and only where there is a guard.
+/// What comes of some transitions: by their places where these say it all, and else by trees whose names are bound.
 pub(crate) fn react(
+    alloc: Global,
+    transitions: &[Transition],
+    placed: &[PlacedTransition],
+    names: &Names,
+    bindings: &mut Bindings,
+    values: &[Token],
+    inputs: &Inputs<'_>,
+    given: Vec<Tokens>,
+) -> Result<Reaction, AllocError>
+    requires typed { are_typed_transitions (types_of (names_view names.now)) (map transition_view transitions.now) ≡ true }
+    requires says { SayTransitions (names_view names.now) placed.now (map transition_view transitions.now) }
+    requires fits { Fits (names_view names.now) bindings.old }
+    ensures fits { Fits (names_view names.now) bindings.new }
+    ensures reaction { IfOk result (λ r. (mode : ℕ) → reaction_view r ≡ reacted_by (names_view names.now) mode (map transition_view transitions.now) (record { values = values.now; inputs = inputs.now; given = given.items })) }
+{
+    if transitions.is_empty() {
+        return Ok(Reaction::Stays(given));
+    }
+    let reads = Reads {
+        values: &*values,
+        inputs: &*inputs,
+        given: given.as_slice(),
+    };
+    match chosen_quickly(placed, &reads) {
+        Some(Choice::Nothing) => return Ok(Reaction::Stays(given)),
+        Some(Choice::Wrong(fault)) => return Ok(Reaction::Stops(fault)),
+        Some(Choice::One(number)) => {
+            let transition = &transitions[number];
+            let taken = take_quickly(alloc, transition, &placed[number], &reads)?;
+            if let Some((values, puts)) = taken {
+                return Ok(moved(transition, given, &puts, values));
+            }
+        }
+        None => {}
+    }
+    react_bound(alloc, transitions, names, bindings, values, inputs, given)
+}
+
+/// What comes of some transitions, by their trees. Only names of ports and Variables are bound anew.
+fn react_bound(
     alloc: Global,
     transitions: &[Transition],
     names: &Names,
@@ -53,9 +99,6 @@ pub(crate) fn react(
     ensures fits { Fits (names_view names.now) bindings.new }
     ensures reaction { IfOk result (λ r. (mode : ℕ) → reaction_view r ≡ reacted_by (names_view names.now) mode (map transition_view transitions.now) (record { values = values.now; inputs = inputs.now; given = given.items })) }
 {
-    if transitions.is_empty() {
-        return Ok(Reaction::Stays(given));
-    }
     let reads = Reads {
         values,
         inputs,
@@ -67,6 +110,40 @@ pub(crate) fn react(
         Choice::One(number) => take(alloc, &transitions[number], names, bindings, values, given),
         Choice::Wrong(fault) => Ok(Reaction::Stops(fault)),
     }
+}
+
+/// What the actions of a transition come to: the values of the Variables, and what is put on the own outputs. None says nothing.
+fn take_quickly(
+    alloc: Global,
+    transition: &Transition,
+    placed: &PlacedTransition,
+    reads: &Reads<'_>,
+) -> Result<Option<(Vec<Token>, Vec<i64>)>, AllocError>
+    ensures { IfOk result (λ taken. IfSome taken (λ p. (table : NameTable) → SaysTransition table placed.now (transition_view transition.now) → AreGiven (names_in table (reads_view reads.now)) (transition_view transition.now).outputs p.1.items × (set_all table (transition_view transition.now).sets (reads_view reads.now).inputs (reads_view reads.now).given (reads_view reads.now).values ≡ (None, p.0.items)))) }
+{
+    let mut values = copied_tokens(alloc, reads.values)?;
+    if !set_quickly(&transition.sets, &placed.sets, reads, &mut values) {
+        return Ok(None);
+    }
+    match given_quickly(alloc, &placed.outputs, reads)? {
+        Some(puts) => Ok(Some((values, puts))),
+        None => Ok(None),
+    }
+}
+
+/// A transition that is taken.
+fn moved(transition: &Transition, given: Vec<Tokens>, puts: &[i64], values: Vec<Token>) -> Reaction
+    ensures { (table : NameTable) (reads : Scope Token) → reads.given ≡ given.items → AreGiven (names_in table reads) (transition_view transition.now).outputs puts.now → set_all table (transition_view transition.now).sets reads.inputs reads.given reads.values ≡ (None, values.items) → reaction_view result ≡ by_actions transition.now.target transition.now.history (acted table (transition_view transition.now) reads) }
+{
+    let mut outputs = given;
+    let history = transition.history;
+    put_given(&transition.outputs, puts, &mut outputs);
+    Reaction::Moves(Move {
+        target: transition.target,
+        history,
+        outputs,
+        values,
+    })
 }
 
 /// Takes a transition: its output actions, then its set actions.

@@ -7,6 +7,8 @@ use Rattle.pt_types.specs.Entry.{typed_entry}
 use Rattle.pt_chart.specs.declared.reaction.Reaction.{Reaction}
 use Rattle.pt_chart.specs.declared.written.Mode.{Mode}
 use Rattle.pt_chart.specs.Machine.{TransitionTree}
+use Rattle.pt_chart.specs.declared.kept.PlacedMode.{PlacedMode}
+use Rattle.pt_chart.specs.Placed.{SayModes, SayTransitions}
 use Rattle.pt_chart.specs.Typed.{types_of, are_typed_transitions}
 use Rattle.pt_chart.specs.Chart.{chart_of}
 use Rattle.pt_chart.specs.Reacted.{reacted}
@@ -24,6 +26,7 @@ react-requires c =
     record {
       typed = subst (λ (ts : List TransitionTree). are_typed_transitions (types_of m.names) ts ≡ true) (sym kinds) (typed-kind (types_of m.names) true m.modes c.args.mode c.self.invariant.1);
       fits = c.self.invariant.0;
+      says = subst (λ (ts : List TransitionTree). SayTransitions m.names c.placed_of-placed.result.now ts) (sym kinds) (c.placed_of-placed.ensures m.names m.modes (subst (λ (ps : List PlacedMode). SayModes m.names ps m.modes) (sym c.deref-2.ensures.value) c.self.invariant.2));
     }
 
 pub returns-clause-reaction : goal.returns-clause-reaction
