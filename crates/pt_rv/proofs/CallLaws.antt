@@ -85,6 +85,14 @@ emptied-long (x ∷ X) = ap (λ v. suc v) (emptied-long X)
 pub outputs-long : (os : List (Spared Token)) → length (outputs_of os) ≡ length os
 outputs-long os = length-map os (λ (o : Spared Token). o.list)
 
+-- the process that fires next has no put left to make
+pub alone-puts : (w : Parties) (i : ℕ) → IsAlone i w → (get_or w.team i nobody).puts ≡ []
+alone-puts w i alone = by (get_or w.team i nobody).puts alone.fires
+  where
+    by : (vs : List (Put Token)) → by_puts vs (by_need (get_or w.team i nobody).barrier (get_or w.team i nobody).need (get_or w.team i nobody).got) ≡ Fires → vs ≡ []
+    by [] f = refl
+    by (v ∷ vs) f = absurd (cc)
+
 -- one process has fired
 module _ (p : Processes) (w u : Parties) (i : ℕ) (need : Need) (us : List (Put Token)) (alone : IsAlone i w) (fit : FitIn p w) (e : u.team ≡ change_at i (once_fired need us) w.team) where
   here : get_or u.team i nobody ≡ once_fired need us (get_or w.team i nobody)
@@ -131,19 +139,12 @@ module _ (p : Processes) (w u : Parties) (i : ℕ) (need : Need) (us : List (Put
       by (inl z) = subst (λ k. (get_or u.team k nobody).handed ≡ false) z (ap (λ (x : Standing Token). x.handed) here)
       by (inr z) = ap (λ (x : Standing Token). x.handed) (other j z) ∙ alone.others j z
 
-  no-puts : (get_or w.team i nobody).puts ≡ []
-  no-puts = by (get_or w.team i nobody).puts alone.fires
-    where
-      by : (vs : List (Put Token)) → by_puts vs (by_need (get_or w.team i nobody).barrier (get_or w.team i nobody).need (get_or w.team i nobody).got) ≡ Fires → vs ≡ []
-      by [] f = refl
-      by (v ∷ vs) f = absurd (cc)
-
   pub told-waits : inputs_of u.inlets.items ≡ inputs_of w.inlets.items → (f : Put Token → ℕ) → waiting f (moving_in u) ≤ waiting f (moving_in w) + weights_of f (us ∷ [])
   told-waits h f =
       let a = ap (λ ps. weights_of f (puts_of_all ps)) e ∙ ap (λ v. weights_of f v) (map-change (λ (x : Standing Token). x.puts) (once_fired need us) (λ vs. us) w.team i (λ x. refl)) in
       let n = puts-long w.team in
       let l = alone.there in
-      let b = weights-new f (puts_of_all w.team) i us (omega (arith, l, n)) (puts-is w.team i ∙ no-puts) in
+      let b = weights-new f (puts_of_all w.team) i us (omega (arith, l, n)) (puts-is w.team i ∙ alone-puts w i alone) in
       let d = ap (λ v. weights_of f v) h in
       omega (arith, a, b, d)
 

@@ -3,7 +3,7 @@ ghost use Rattle.std.specs.Prelude.{◌≡◌, ℕ, ◌+◌, ◌<◌, ◌≤◌,
 ghost use Rattle.pt_meaning.specs.Streams.{at};
 ghost use Rattle.pt_meaning.specs.Net.{Own};
 ghost use Rattle.pt_meaning.specs.Process.{puts_of_port, channels_from, emptied};
-ghost use Rattle.pt_process.specs.Process.{puts_in};
+ghost use Rattle.pt_process.specs.Process.{put_of, puts_in};
 ghost use Rattle.pt_rv.specs.Parties.{inputs_of, outputs_of, weight_of, on, spare_at, one_if};
 ghost use Rattle.pt_rv.specs.Ends.{comings_of, arrived_in, no_inlet, PromisedMore};
 
@@ -93,6 +93,25 @@ pub(crate) fn promise(
 {
     met.promise(staged.len())?;
     promise_all(alloc, outlets, staged, inner)?;
+    Ok(())
+}
+
+/// Makes room for one put, and for the meeting that it makes.
+#[inline(always)]
+pub(crate) fn promise_put(
+    alloc: Global,
+    outlets: &mut Vec<Outlet>,
+    met: &mut Meetings,
+    put: &StagedPut,
+    inner: usize,
+) -> Result<(), AllocError>
+    ensures lists { outputs_of outlets.new.items ≡ outputs_of outlets.old.items }
+    ensures met { met.new.list ≡ met.old.list }
+    ensures kept { PromisedMore inner outlets.old.items outlets.new.items met.old.spare met.new.spare [] }
+    ensures more { OnOk result (PromisedMore inner outlets.old.items outlets.new.items met.old.spare met.new.spare ((put_of put.now ∷ []) ∷ [])) }
+{
+    met.promise(1)?;
+    promise_one(alloc, outlets, put.channel as usize, inner)?;
     Ok(())
 }
 

@@ -6,6 +6,7 @@ mod ends;
 mod fresh;
 mod hints;
 mod looks;
+mod numbers;
 mod offers;
 mod parties;
 mod passing;

@@ -12,6 +12,7 @@ impl Core {
     ghost use Rattle.pt_rv.specs.Core.{Comes, Looks, FiresOrRests, NoneOnChannels};
 
     /// What comes next: a firing of a process, or where none can fire a meeting, or the end.
+    #[inline(always)]
     pub(crate) fn next(&mut self) -> Ask
         requires { self.old.stage ≡ Open }
         ensures { Comes self.old result self.new }
@@ -23,6 +24,7 @@ impl Core {
     }
 
     /// Asks a process to fire, if one may.
+    #[inline(always)]
     fn fire_next(&mut self) -> Option<Ask>
         requires { self.old.stage ≡ Open }
         ensures { FiresOrRests self.old result self.new }
@@ -45,6 +47,7 @@ impl Core {
     }
 
     /// A process hands over what it has gathered, and is asked to fire.
+    #[inline(always)]
     fn fire(&mut self, process: u32) -> Ask
         requires running { self.old.stage ≡ Open }
         requires may { MayFire self.old process }
@@ -56,6 +59,7 @@ impl Core {
     }
 
     /// Makes a meeting that is legal, or ends. Only where the worklist leads to none are all looked at.
+    #[inline(always)]
     fn meet_next(&mut self) -> Ask
         requires running { self.old.stage ≡ Open }
         requires rests { AllRest self.old }
@@ -112,6 +116,7 @@ impl Core {
     }
 
     /// Makes the meeting on a channel, if that is legal.
+    #[inline(always)]
     pub(crate) fn look_at_channel(&mut self, channel: u32) -> Option<Ask>
         requires there { channel < length self.old.processes.plan.net.sources }
         requires running { self.old.stage ≡ Open }

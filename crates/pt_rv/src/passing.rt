@@ -38,6 +38,7 @@ pub(crate) fn pass_all(plan: &Plan, parties: &mut Parties, barrier: u32)
 }
 
 /// Passes the token that is offered on a channel. It takes no memory.
+#[inline(always)]
 pub(crate) fn pass(plan: &Plan, parties: &mut Parties, channel: usize, target: Target)
     requires sound { AreSound plan.now }
     requires fit { FitIn plan.now parties.old }
@@ -57,6 +58,7 @@ pub(crate) fn pass(plan: &Plan, parties: &mut Parties, channel: usize, target: T
 }
 
 /// Takes the next put out of who sends at a source.
+#[inline(always)]
 fn take_put(parties: &mut Parties, source: Source) -> StagedPut
     requires sender { IsSender (source_of source) parties.old }
     requires some { 0 < length (puts_at (moving_in parties.old) (Some (source_of source))) }
@@ -83,6 +85,7 @@ fn put_of_inlet(inlets: &mut Vec<Inlet>, port: usize) -> StagedPut
 }
 
 /// A token comes to where a channel ends.
+#[inline(always)]
 fn deliver(parties: &mut Parties, target: Target, token: Token)
     requires { MayReceive (target_of target) parties.old }
     ensures moved { moving_in parties.new ≡ received_by token (target_of target) (moving_in parties.old) }

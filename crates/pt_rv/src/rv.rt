@@ -145,6 +145,7 @@ impl Core {
     }
 
     /// What comes next. A meeting is made as it is told. It takes no memory.
+    #[inline(always)]
     pub fn ask(&mut self) -> Ask
         requires { MayAsk self.old.stage }
         ensures { Comes self.old result self.new }
@@ -200,7 +201,7 @@ impl Core {
     }
 
     /// How many places a process has.
-    fn places_of(&self, process: usize) -> usize
+    pub(crate) fn places_of(&self, process: usize) -> usize
         requires { process < length self.now.processes.plan.net.places }
         ensures { result ≡ get_or self.now.processes.plan.net.places process 0 }
     {
@@ -269,7 +270,7 @@ impl Core {
 }
 
 /// Whether a need is a count for each of so many places, one token from any, or none.
-fn fits(need: Need<'_>, places: usize) -> bool
+pub(crate) fn fits(need: Need<'_>, places: usize) -> bool
     ensures { result ≡ true → HasPlaces places (need_of need.entry) }
 {
     match need {

@@ -49,6 +49,7 @@ impl Process {
     }
 
     /// Once it has fired it has these puts to make, and this need. After an `Err` it is as before.
+    #[inline(always)]
     pub fn told(
         &mut self,
         alloc: Global,
@@ -66,7 +67,8 @@ impl Process {
     }
 
     /// It has used what it gathered, and has this need. After an `Err` it is as before.
-    fn renew(&mut self, alloc: Global, need: Need<'_>) -> Result<(), AllocError>
+    #[inline(always)]
+    pub(crate) fn renew(&mut self, alloc: Global, need: Need<'_>) -> Result<(), AllocError>
         requires handed { self.old.handed ≡ true }
         requires places { HasPlaces (length self.old.got) (need_of need) }
         ensures renewed { OnOk result (self.new ≡ renewed (need_of need.entry) self.old) }
@@ -129,6 +131,7 @@ impl Process {
     }
 
     /// It has used what it gathered, and needs so many tokens at each place. After an `Err` it is as before.
+    #[inline(always)]
     fn need_counts(&mut self, alloc: Global, counts: &Counts) -> Result<(), AllocError>
         requires handed { self.old.handed ≡ true }
         requires places { length counts.now ≡ length self.old.got }
@@ -149,6 +152,7 @@ impl Process {
     }
 
     /// It has used what it gathered, and needs the same again. After an `Err` it is as before.
+    #[inline(always)]
     fn need_again(&mut self, alloc: Global, counts: &Counts) -> Result<(), AllocError>
         requires handed { self.old.handed ≡ true }
         requires places { length counts.now ≡ length self.old.got }
@@ -190,9 +194,23 @@ fn is_kept(kept: &KeptNeed, counts: &Counts) -> bool
     ensures { result ≡ true → kept.now ≡ kept_need.Counts counts.now }
 {
     match kept {
-        KeptNeed::Counts(kept) => kept.as_slice() == counts.as_slice(),
+        KeptNeed::Counts(kept) => are_same(kept.as_slice(), counts.as_slice()),
         KeptNeed::Over | KeptNeed::Any => false,
     }
+}
+
+/// Whether these counts are the same. Where there is one, nothing is called for that.
+#[inline(always)]
+fn are_same(kept: &[usize], counts: &[usize]) -> bool
+    ensures { result ≡ true → kept.now ≡ counts.now }
+{
+    if let [count] = counts {
+        return match kept {
+            [kept] => *kept == *count,
+            _ => false,
+        };
+    }
+    kept == counts
 }
 
 /// The counts of a need, or none.
@@ -236,6 +254,7 @@ pub(crate) fn room_of(counts: &[usize], least: usize, place: usize) -> usize
 }
 
 /// Empties each place, and makes room there for as many tokens as it takes.
+#[inline(always)]
 fn make_rooms(
     alloc: Global,
     lines: &mut Vec<Line>,
@@ -254,6 +273,7 @@ fn make_rooms(
 }
 
 /// Empties one place, and makes room there for so many tokens.
+#[inline(always)]
 fn make_room(
     alloc: Global,
     lines: &mut Vec<Line>,

@@ -44,7 +44,8 @@ pub(crate) fn stage_port(
 }
 
 /// A copy of a token to each of the channels.
-fn stage_token(
+#[inline(always)]
+pub(crate) fn stage_token(
     alloc: Global,
     staged: &mut VecDeque<StagedPut>,
     token: &Token,

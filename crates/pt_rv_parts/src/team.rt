@@ -1,4 +1,4 @@
-ghost use Rattle.std.specs.Prelude.{◌≡◌, ◌<◌, not, length, get_or, slice_get, false, true, IfOk, OnOk, OnErr, Some};
+ghost use Rattle.std.specs.Prelude.{◌≡◌, ◌<◌, [], ◌∷◌, not, length, get_or, slice_get, false, true, IfOk, OnOk, OnErr, Some};
 ghost use Rattle.pt_meaning.specs.Streams.{change_at};
 ghost use Rattle.pt_meaning.specs.Process.{at_rest};
 ghost use Rattle.pt_firing.specs.Need.{need_of};
@@ -10,7 +10,7 @@ ghost use Rattle.pt_rv_parts.specs.Team.{NoneHanded, fires_in};
 
 use crate::flags::Flags;
 use crate::process::{Event, Process};
-use pt_firing::{Inputs, Need};
+use pt_firing::{Inputs, IntInputs, Need};
 use pt_process::StagedPut;
 use pt_value::Token;
 use std::alloc::{AllocError, Global};
@@ -42,7 +42,7 @@ impl Model for Team {
 }
 
 impl Team {
-    ghost use Rattle.std.specs.Prelude.{◌≡◌, ℕ, ◌<◌, length, get_or, slice_get, false, true, IfOk, IfSome, IsNone, OnOk, OnErr, Some};
+    ghost use Rattle.std.specs.Prelude.{◌≡◌, ℕ, ◌<◌, [], ◌∷◌, length, get_or, slice_get, false, true, IfOk, IfSome, IsNone, OnOk, OnErr, Some};
     ghost use Rattle.pt_meaning.specs.Streams.{change_at};
     ghost use Rattle.pt_meaning.specs.Process.{Fires};
     ghost use Rattle.pt_firing.specs.Need.{need_of};
@@ -96,6 +96,7 @@ impl Team {
     }
 
     /// A process takes a token at a place. It takes no memory.
+    #[inline(always)]
     pub fn get(&mut self, process: usize, place: usize, token: Token)
         requires there { process < length self.old }
         requires may { MayTake (get_or self.old process nobody) place }
@@ -107,6 +108,7 @@ impl Team {
     }
 
     /// Takes out the next put of a process.
+    #[inline(always)]
     pub fn put(&mut self, process: usize) -> StagedPut
         requires there { process < length self.old }
         requires gathers { (get_or self.old process nobody).handed ≡ false }
@@ -121,6 +123,7 @@ impl Team {
     }
 
     /// A process hands over what it has gathered. It takes no memory.
+    #[inline(always)]
     pub fn hand(&mut self, process: usize)
         requires there { process < length self.old }
         requires gathers { (get_or self.old process nobody).handed ≡ false }
@@ -138,7 +141,18 @@ impl Team {
         self.processes[process].lent()
     }
 
+    /// The same, where it is one integer at each place. `row` is a buffer. `None` says nothing of it.
+    #[inline(always)]
+    pub fn int_inputs<'a>(&'a self, process: usize, row: &'a mut Vec<i64>) -> Option<IntInputs<'a>>
+        requires there { process < length self.now }
+        requires handed { (get_or self.now process nobody).handed ≡ true }
+        ensures { IfSome result (λ inputs. inputs ≡ (get_or self.now process nobody).got) }
+    {
+        self.processes[process].int_inputs(row)
+    }
+
     /// A process has fired, and has these puts to make, and this need. After an `Err` all are as before.
+    #[inline(always)]
     pub fn told(
         &mut self,
         alloc: Global,
@@ -155,6 +169,49 @@ impl Team {
         tell_at(alloc, &mut self.processes, process, need, puts)?;
         let fires = is_firing(&mut self.processes, process);
         self.firing.mark(process, fires);
+        Ok(())
+    }
+
+    /// A process has fired, and has no put to make, and this need. After an `Err` all are as before.
+    #[inline(always)]
+    pub fn told_none(
+        &mut self,
+        alloc: Global,
+        process: usize,
+        need: Need<'_>,
+    ) -> Result<(), AllocError>
+        requires there { process < length self.old }
+        requires handed { (get_or self.old process nobody).handed ≡ true }
+        requires none { (get_or self.old process nobody).puts ≡ [] }
+        requires places { HasPlaces (length (get_or self.old process nobody).got) (need_of need) }
+        ensures told { OnOk result (self.new ≡ change_at process (once_fired (need_of need.entry) []) self.old) }
+        ensures kept { OnErr result (self.new ≡ self.old) }
+    {
+        tell_none_at(alloc, &mut self.processes, process, need)?;
+        let fires = is_firing(&mut self.processes, process);
+        self.firing.mark(process, fires);
+        Ok(())
+    }
+
+    /// A process has fired, and has this one put to make, and this need. After an `Err` all are as before.
+    #[inline(always)]
+    pub fn told_one(
+        &mut self,
+        alloc: Global,
+        process: usize,
+        need: Need<'_>,
+        put: StagedPut,
+    ) -> Result<(), AllocError>
+        requires there { process < length self.old }
+        requires handed { (get_or self.old process nobody).handed ≡ true }
+        requires none { (get_or self.old process nobody).puts ≡ [] }
+        requires places { HasPlaces (length (get_or self.old process nobody).got) (need_of need) }
+        ensures told { OnOk result (self.new ≡ change_at process (once_fired (need_of need.entry) (put_of put ∷ [])) self.old) }
+        ensures kept { OnErr result (self.new ≡ self.old) }
+    {
+        tell_one_at(alloc, &mut self.processes, process, need, put)?;
+        // It has a put to make, so it doesn't fire next.
+        self.firing.mark(process, false);
         Ok(())
     }
 
@@ -245,6 +302,43 @@ fn tell_at(
     ensures kept { OnErr result (processes.new.items ≡ processes.old.items) }
 {
     processes[process].told(alloc, need, puts)
+}
+
+/// A process has fired, and has no put to make. After an `Err` all are as before.
+#[inline(always)]
+fn tell_none_at(
+    alloc: Global,
+    processes: &mut Vec<Process>,
+    process: usize,
+    need: Need<'_>,
+) -> Result<(), AllocError>
+    requires there { process < length processes.old.items }
+    requires handed { (get_or processes.old.items process nobody).handed ≡ true }
+    requires none { (get_or processes.old.items process nobody).puts ≡ [] }
+    requires places { HasPlaces (length (get_or processes.old.items process nobody).got) (need_of need) }
+    ensures told { OnOk result (processes.new.items ≡ change_at process (once_fired (need_of need.entry) []) processes.old.items) }
+    ensures kept { OnErr result (processes.new.items ≡ processes.old.items) }
+{
+    processes[process].told_none(alloc, need)
+}
+
+/// A process has fired, and has one put to make. After an `Err` all are as before.
+#[inline(always)]
+fn tell_one_at(
+    alloc: Global,
+    processes: &mut Vec<Process>,
+    process: usize,
+    need: Need<'_>,
+    put: StagedPut,
+) -> Result<(), AllocError>
+    requires there { process < length processes.old.items }
+    requires handed { (get_or processes.old.items process nobody).handed ≡ true }
+    requires none { (get_or processes.old.items process nobody).puts ≡ [] }
+    requires places { HasPlaces (length (get_or processes.old.items process nobody).got) (need_of need) }
+    ensures told { OnOk result (processes.new.items ≡ change_at process (once_fired (need_of need.entry) (put_of put ∷ [])) processes.old.items) }
+    ensures kept { OnErr result (processes.new.items ≡ processes.old.items) }
+{
+    processes[process].told_one(alloc, need, put)
 }
 
 /// The same processes again.

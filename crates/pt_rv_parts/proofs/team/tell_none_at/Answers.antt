@@ -1,0 +1,22 @@
+use Rattle.std.proofs.Common.{[], length, ap, sym, subst, ◌∙◌}
+use Rattle.pt_firing.specs.Need.{need_of}
+use Rattle.pt_rv_laws.specs.Lawful.{HasPlaces}
+use Rattle.pt_value.specs.declared.token.Token.{Token}
+use Rattle.pt_rv_work.specs.Core.{Standing, nobody, once_fired}
+use Rattle.pt_rv_parts.proofs.ListLaws.{change-set, set-same, read-as, where-ok, where-err}
+use Rattle.pt_rv_parts.proofs.team.tell_none_at.Goals as goal
+
+pub told_none-requires-clause-handed : goal.told_none-requires-clause-handed
+told_none-requires-clause-handed c = ap (λ (p : Standing Token). p.handed) (read-as c.args.processes.now.items c.args.process c.index_mut.result.now nobody c.requires.there c.index_mut.ensures.value) ∙ c.requires.handed
+
+pub told_none-requires-clause-none : goal.told_none-requires-clause-none
+told_none-requires-clause-none c = ap (λ (p : Standing Token). p.puts) (read-as c.args.processes.now.items c.args.process c.index_mut.result.now nobody c.requires.there c.index_mut.ensures.value) ∙ c.requires.none
+
+pub told_none-requires-clause-places : goal.told_none-requires-clause-places
+told_none-requires-clause-places c = subst (λ (p : Standing Token). HasPlaces (length p.got) (need_of c.args.need)) (sym (read-as c.args.processes.now.items c.args.process c.index_mut.result.now nobody c.requires.there c.index_mut.ensures.value)) c.requires.places
+
+pub returns-clause-told : goal.returns-clause-told
+returns-clause-told c = where-ok c.told_none.result (λ e. change-set c.args.processes.now.items c.args.process c.index_mut.result.now c.told_none.new.self (once_fired (need_of c.args.need) []) c.requires.there c.index_mut.ensures.value e) c.told_none.ensures.told
+
+pub returns-clause-kept : goal.returns-clause-kept
+returns-clause-kept c = where-err c.told_none.result (λ e. set-same c.args.processes.now.items c.args.process c.index_mut.result.now c.told_none.new.self c.index_mut.ensures.value e) c.told_none.ensures.kept

@@ -1,0 +1,139 @@
+// Firings of processes that take and give integers alone, of which no lists of tokens are made.
+ghost use Rattle.std.specs.Prelude.{◌≡◌, ◌<◌, ◌∷◌, [], length, IfSome, IsTrue, OnOk};
+ghost use Rattle.pt_firing.specs.IntInputs.{one_at_each};
+ghost use Rattle.pt_meaning.specs.Process.{puts_of};
+ghost use Rattle.pt_value.specs.declared.token.Token.TheVariants.{Int};
+ghost use Rattle.pt_process.specs.Process.{puts_in};
+
+use crate::process::Process;
+use crate::rv_plan::Plan;
+use crate::staged::stage_token;
+use pt_firing::{IntInputs, Need, Tokens};
+use pt_process::StagedPut;
+use pt_value::Token;
+use std::alloc::{AllocError, Global};
+use std::collections::VecDeque;
+use std::slice;
+
+impl Process {
+    ghost use Rattle.std.specs.Prelude.{◌≡◌, [], ◌∷◌, length, true, IfSome, OnOk, OnErr};
+    ghost use Rattle.pt_firing.specs.Need.{need_of};
+    ghost use Rattle.pt_rv_laws.specs.Lawful.{HasPlaces};
+    ghost use Rattle.pt_process.specs.Process.{put_of};
+    ghost use Rattle.pt_rv_work.specs.Core.{once_fired};
+
+    /// What it has gathered, where that is one integer at each place. `row` is a buffer. `None` says nothing of it.
+    #[inline(always)]
+    pub fn int_inputs<'a>(&'a self, row: &'a mut Vec<i64>) -> Option<IntInputs<'a>>
+        requires { self.now.handed ≡ true }
+        ensures { IfSome result (λ inputs. inputs ≡ self.now.got) }
+    {
+        int_inputs_of(&self.row, row)
+    }
+
+    /// Once it has fired it has no put to make, and this need. After an `Err` it is as before.
+    #[inline(always)]
+    pub fn told_none(&mut self, alloc: Global, need: Need<'_>) -> Result<(), AllocError>
+        requires handed { self.old.handed ≡ true }
+        requires none { self.old.puts ≡ [] }
+        requires places { HasPlaces (length self.old.got) (need_of need) }
+        ensures told { OnOk result (self.new ≡ once_fired (need_of need.entry) [] self.old) }
+        ensures kept { OnErr result (self.new ≡ self.old) }
+    {
+        self.renew(alloc, need)
+    }
+
+    /// Once it has fired it has this one put to make, and this need. After an `Err` it is as before.
+    #[inline(always)]
+    pub fn told_one(
+        &mut self,
+        alloc: Global,
+        need: Need<'_>,
+        put: StagedPut,
+    ) -> Result<(), AllocError>
+        requires handed { self.old.handed ≡ true }
+        requires none { self.old.puts ≡ [] }
+        requires places { HasPlaces (length self.old.got) (need_of need) }
+        ensures told { OnOk result (self.new ≡ once_fired (need_of need.entry) (put_of put ∷ []) self.old) }
+        ensures kept { OnErr result (self.new ≡ self.old) }
+    {
+        // The put goes first, since it may want memory, and is the only one.
+        if self.puts.push_back(put).is_err() {
+            return Err(AllocError);
+        }
+        let renewed = self.renew(alloc, need);
+        if renewed.is_err() {
+            self.puts.clear();
+        }
+        renewed
+    }
+}
+
+/// Stages the puts of a process that gave an integer on its one port.
+pub fn stage_number(
+    alloc: Global,
+    staged: &mut VecDeque<StagedPut>,
+    plan: &Plan,
+    process: usize,
+    number: i64,
+) -> Result<(), AllocError>
+    requires { process < length plan.now.plan.net.places }
+    ensures { OnOk result (puts_in staged.new.items ≡ puts_of plan.now.plan.net.sources process 0 ((Int number ∷ []) ∷ [])) }
+{
+    staged.clear();
+    let token = Token::Int(number);
+    stage_token(alloc, staged, &token, plan.fan(process, 0))?;
+    Ok(())
+}
+
+/// What is in these lists, where each has one integer. `row` is a buffer for several.
+#[inline(always)]
+fn int_inputs_of<'a>(lists: &'a [Tokens], row: &'a mut Vec<i64>) -> Option<IntInputs<'a>>
+    ensures { IfSome result (λ inputs. inputs ≡ lists.now) }
+{
+    if let [tokens] = lists {
+        return alone(tokens);
+    }
+    if first_numbers(lists, row) {
+        return Some(IntInputs::one_at_each(row));
+    }
+    None
+}
+
+/// The same of the only list.
+#[inline(always)]
+fn alone(tokens: &Tokens) -> Option<IntInputs<'_>>
+    ensures { IfSome result (λ inputs. inputs ≡ tokens.now ∷ []) }
+{
+    match tokens.as_slice() {
+        [Token::Int(number)] => Some(IntInputs::all_at_one(slice::from_ref(number))),
+        _ => None,
+    }
+}
+
+/// Puts the one integer of each list into the buffer, if each has one, and memory suffices.
+#[inline(never)]
+fn first_numbers(lists: &[Tokens], row: &mut Vec<i64>) -> bool
+    ensures { IsTrue result → one_at_each row.new.items ≡ lists.now }
+{
+    row.clear();
+    for k in 0..lists.len() {
+        let Some(number) = number_of(&lists[k]) else {
+            return false;
+        };
+        if row.push(number).is_err() {
+            return false;
+        }
+    }
+    true
+}
+
+/// The one integer of a list.
+fn number_of(tokens: &Tokens) -> Option<i64>
+    ensures { IfSome result (λ number. tokens.now ≡ Int number ∷ []) }
+{
+    match tokens.as_slice() {
+        [Token::Int(number)] => Some(*number),
+        _ => None,
+    }
+}
