@@ -18,7 +18,7 @@ use Rattle.pt_records.specs.Kept.{kept_by}
 use Rattle.pt_records.specs.Made.{AreMade, AllMade}
 use Rattle.pt_core.specs.Acts.{Calls, Acts}
 use Rattle.pt_core.specs.Met.{met_after}
-use Rattle.pt_core.specs.Lawful.{Lawful, IsUsual, IsMove, IsLentTo}
+use Rattle.pt_core.specs.Lawful.{Lawful, IsMove, IsLentTo}
 use Rattle.pt_library.specs.LibraryActor.{rows}
 use Rattle.pt_node.specs.declared.node.Node.{Node}
 use Rattle.pt_node.specs.Shown.{Shown, shown, shown_node, all_of}
@@ -100,6 +100,10 @@ no-meeting next (inr (inr grow)) met = ap (λ v. met_after v met) grow
 module _ {D : Type 0} (a : Acts rows D) (law : Lawful a) where
   pub once-asked : {before : D} {olds : List Shown} {tag : Tag} {X : Streams Token} {allowance : ℕ} {own : OwnMeetings} {s : D} {now : List Shown} {left : ℕ} → At a before olds tag X allowance own s now left → (next : Ask) (s' : D) → a.calls.Gives s next → s' ≡ a.calls.asking next s → Between a before olds tag X allowance own next s' now left
   once-asked {before} {olds} {tag} {X} {allowance} {own} {s} {now} {left} at next s' g e = record { state = s; at = at; gives = g; asking = e }
+
+  -- the answer by another name
+  pub asked-as : {before : D} {olds : List Shown} {tag : Tag} {X : Streams Token} {allowance : ℕ} {own : OwnMeetings} {next other : Ask} {s : D} {now : List Shown} {left : ℕ} → next ≡ other → Between a before olds tag X allowance own next s now left → Between a before olds tag X allowance own other s now left
+  asked-as {before} {olds} {tag} {X} {allowance} {own} {next} {other} {s} {now} {left} e b = subst (λ n. Between a before olds tag X allowance own n s now left) e b
 
   -- the director states the maximum capacity that it stated when the firing began
   pub between-maximum : {before : D} {olds : List Shown} {tag : Tag} {X : Streams Token} {allowance : ℕ} {own : OwnMeetings} {next : Ask} {s : D} {now : List Shown} {left : ℕ} → Between a before olds tag X allowance own next s now left → a.calls.maximum s ≡ a.calls.maximum before

@@ -1,5 +1,5 @@
 -- What is recorded of a composite's own meetings has all that its director has told, so that the laws of the director speak of it.
-use Rattle.std.proofs.Common.{◌≡◌, ℕ, zero, suc, ◌≤◌, List, [], ◌∷◌, ◌++◌, map, Bool, true, false, nat_eq, Option, Some, None, refl, sym, ap, ap₂, subst, ◌∙◌, arith, append-nil, append_assoc}
+use Rattle.std.proofs.Common.{◌≡◌, ℕ, suc, ◌≤◌, List, [], ◌∷◌, ◌++◌, map, Bool, true, false, nat_eq, Option, Some, None, refl, sym, ap, ap₂, subst, ◌∙◌, arith, append-nil, append_assoc}
 use Rattle.std.proofs.lemmas.Bool.Decides.{nat_tests}
 use Rattle.std.specs.Prelude.{IsSome}
 use Rattle.pt_meaning.specs.Log.{Meeting, if_same}
@@ -10,7 +10,7 @@ use Rattle.pt_records.specs.Made.{made_in, IsMade}
 use Rattle.pt_core.specs.Met.{HasMet, IsListed, made_with, none_met, one_met, entry_met}
 use Rattle.pt_node.specs.Meetings.{Serves}
 use Rattle.pt_node.proofs.MeetingsLaws.{serves-any}
-use Rattle.pt_seq.specs.OwnMeetings.{OwnMeetings, own_of, recorded_with, one_more, AreRecorded, with_meetings, IsOwnPath}
+use Rattle.pt_seq.specs.OwnMeetings.{OwnMeetings, own_of, one_more, AreRecorded, with_meetings, IsOwnPath}
 
 -- meetings, each as one of firing n
 abbrev of_firing : ℕ → List Meeting → Made

@@ -182,6 +182,8 @@ fn fire_closed(
         alloc,
         director,
         children,
+        made,
+        meetings,
         tag,
         inputs,
         left,

@@ -162,6 +162,8 @@ fn fire_composite(
         alloc,
         director,
         children,
+        made,
+        meetings,
         tag,
         inputs,
         left,
@@ -221,7 +223,15 @@ pub(crate) fn go_on(
             Pause::Full => return full_at(alloc, director, path, labels),
             Pause::Memory => return Within::Memory,
         }
-        rest = fire_row(alloc, director, children, left, &mut buffers.row);
+        rest = fire_row(
+            alloc,
+            director,
+            children,
+            made,
+            meetings,
+            left,
+            &mut buffers.row,
+        );
     }
 }
 

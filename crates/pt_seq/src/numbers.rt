@@ -46,7 +46,7 @@ impl Buffers {
 
 /// How the turn of a child went that may give one number.
 #[derive(Clone, Copy, Debug)]
-enum Quick {
+pub(crate) enum Quick {
     Done,
     /// The firing gave this number, of which the core isn't told yet, or wasn't made.
     Open(Option<i64>),
@@ -126,7 +126,7 @@ fn asked<C: NumberCore>(core: &mut C) -> Ask
 
 /// The turn of a child that may give one number.
 #[inline(always)]
-fn turn_of_number<C: NumberCore>(
+pub(crate) fn turn_of_number<C: NumberCore>(
     alloc: Global,
     core: &mut C,
     child: &mut Node,
@@ -215,7 +215,10 @@ fn int_inputs<'a>(director: &'a Director, row: &'a mut Vec<i64>) -> Option<IntIn
         Either::Other(Either::Other(Either::Other(Either::First(core)))) => {
             NumberCore::int_inputs(core, row)
         }
-        Either::Other(Either::Other(Either::Other(Either::Other(_)))) => None,
+        Either::Other(Either::Other(Either::Other(Either::Other(Either::First(_))))) => None,
+        Either::Other(Either::Other(Either::Other(Either::Other(Either::Other(core))))) => {
+            NumberCore::int_inputs(core, row)
+        }
     }
 }
 
@@ -236,7 +239,22 @@ fn told_numbers(
     match director {
         Either::First(core) => core.told_numbers(alloc, number, numbers),
         Either::Other(Either::First(core)) => core.told_numbers(alloc, number, numbers),
-        Either::Other(Either::Other(core)) => tell_tokens(alloc, core, child, number, numbers),
+        Either::Other(Either::Other(Either::First(core))) => {
+            tell_tokens(alloc, core, child, number, numbers)
+        }
+        Either::Other(Either::Other(Either::Other(Either::First(core)))) => match numbers {
+            [one] => core.told_number(alloc, number, *one, child.need()),
+            _ => tell_tokens(alloc, core, child, number, numbers),
+        },
+        Either::Other(Either::Other(Either::Other(Either::Other(Either::First(core))))) => {
+            tell_tokens(alloc, core, child, number, numbers)
+        }
+        Either::Other(Either::Other(Either::Other(Either::Other(Either::Other(core))))) => {
+            match numbers {
+                [one] => core.told_number(alloc, number, *one, child.need()),
+                _ => tell_tokens(alloc, core, child, number, numbers),
+            }
+        }
     }
 }
 

@@ -15,6 +15,7 @@ ghost use Rattle.pt_seq.specs.Between.{At, IsUnderWay, IsUnderWayWith, IsAskedUn
 ghost use Rattle.pt_seq.specs.OwnMeetings.{OwnMeetings, own_of};
 
 use crate::events::{fire_events, first_reaction};
+use crate::meetings::fire_meetings;
 use crate::numbers::{Rest, fire_numbers};
 use pt_core::{Core, Either};
 use pt_directors::Director;
@@ -69,6 +70,8 @@ pub(crate) fn first_row(
     alloc: Global,
     director: &mut Director,
     children: &mut Vec<Node>,
+    made: u64,
+    meetings: &mut MeetingRecord,
     tag: Tag,
     inputs: &Inputs<'_>,
     left: &mut u64,
@@ -77,14 +80,17 @@ pub(crate) fn first_row(
     requires ready { IsReady director.old (all_of (map shown children.old.items)) }
     requires fit { AllFit (all_of (map shown children.old.items)) }
     requires inputs { TakenBy director.old inputs.now }
-    ensures { (number : ℕ) (made : Option Made) → Serves (director_calls.met director.old) number made → Rested director.old (map shown children.old.items) tag inputs.now left.old (own_of number made made) result director.new (map shown children.new.items) left.new }
+    requires serves { Serves (director_calls.met director.old) made meetings.old }
+    ensures { Rested director.old (map shown children.old.items) tag inputs.now left.old (own_of made meetings.old meetings.new) result director.new (map shown children.new.items) left.new }
 {
     match director {
         // A reaction is often a row of one or two firings, so that what it takes to begin one counts.
         Either::Other(Either::Other(Either::First(core))) => {
             first_reaction(alloc, core, children, tag, inputs, left, row)
         }
-        _ => begin_row(alloc, director, children, tag, inputs, left, row),
+        _ => begin_row(
+            alloc, director, children, made, meetings, tag, inputs, left, row,
+        ),
     }
 }
 
@@ -94,6 +100,8 @@ fn begin_row(
     alloc: Global,
     director: &mut Director,
     children: &mut Vec<Node>,
+    made: u64,
+    meetings: &mut MeetingRecord,
     tag: Tag,
     inputs: &Inputs<'_>,
     left: &mut u64,
@@ -102,26 +110,29 @@ fn begin_row(
     requires ready { IsReady director.old (all_of (map shown children.old.items)) }
     requires fit { AllFit (all_of (map shown children.old.items)) }
     requires inputs { TakenBy director.old inputs.now }
-    ensures { (number : ℕ) (made : Option Made) → Serves (director_calls.met director.old) number made → Rested director.old (map shown children.old.items) tag inputs.now left.old (own_of number made made) result director.new (map shown children.new.items) left.new }
+    requires serves { Serves (director_calls.met director.old) made meetings.old }
+    ensures { Rested director.old (map shown children.old.items) tag inputs.now left.old (own_of made meetings.old meetings.new) result director.new (map shown children.new.items) left.new }
 {
     if director.begin(alloc, tag, inputs).is_err() {
         return Rest::Memory;
     }
-    fire_row(alloc, director, children, left, row)
+    fire_row(alloc, director, children, made, meetings, left, row)
 }
 
-/// Makes firings of numbers alone, by the core of the director, or of one integer at most under DE. A director of Modal or of Rendezvous is only asked what comes next.
+/// Makes firings of numbers alone, by the core of the director, or of one integer at most under DE. Under Rendezvous the meetings between them are recorded, as those of the firing of the composite of that number. A director of Modal is only asked what comes next.
 #[inline(always)]
 pub(crate) fn fire_row(
     alloc: Global,
     director: &mut Director,
     children: &mut Vec<Node>,
+    made: u64,
+    meetings: &mut MeetingRecord,
     left: &mut u64,
     row: &mut Vec<i64>,
 ) -> Rest
-    requires { (tag : basics.Tag) × IsUnderWay acts tag director.old (map shown children.old.items) left.old }
+    requires { (tag : basics.Tag) × IsUnderWayWith acts tag made meetings.old director.old (map shown children.old.items) left.old }
     ensures lowered { left.new ≤ left.old }
-    ensures goes { (before : directors.Director) (olds : List Shown) (tag : basics.Tag) (X : basics.Streams Token) (allowance : ℕ) (own : OwnMeetings) → At acts before olds tag X allowance own director.old (map shown children.old.items) left.old → Rested before olds tag X allowance own result director.new (map shown children.new.items) left.new }
+    ensures goes { (before : directors.Director) (olds : List Shown) (tag : basics.Tag) (X : basics.Streams Token) (allowance : ℕ) (start : Option Made) → At acts before olds tag X allowance (own_of made start meetings.old) director.old (map shown children.old.items) left.old → Rested before olds tag X allowance (own_of made start meetings.new) result director.new (map shown children.new.items) left.new }
 {
     match director {
         Either::First(core) => fire_numbers(alloc, core, children, left, row),
@@ -132,9 +143,12 @@ pub(crate) fn fire_row(
         Either::Other(Either::Other(Either::Other(Either::First(core)))) => {
             fire_numbers(alloc, core, children, left, row)
         }
-        // A Modal director fires one child at most in a reaction, and one of Rendezvous knows no integers.
-        Either::Other(Either::Other(Either::Other(Either::Other(_)))) => {
+        // It fires one child at most in a reaction.
+        Either::Other(Either::Other(Either::Other(Either::Other(Either::First(_))))) => {
             ask_next(director, children, *left)
+        }
+        Either::Other(Either::Other(Either::Other(Either::Other(Either::Other(core))))) => {
+            fire_meetings(alloc, core, children, made, meetings, left, row)
         }
     }
 }

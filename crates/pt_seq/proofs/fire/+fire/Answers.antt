@@ -89,55 +89,55 @@ pub fire-returns-in-Composite-clause-outline : goal.fire-returns-in-Composite-cl
 fire-returns-in-Composite-clause-outline t c = composite-named c.args.node.now _ _ _ c.in-Composite.director c.fire_composite.new.director _ c.fire_composite.new.meetings c.node.view_is refl c.in-Composite.is c.fire_composite.result refl c.fire_composite.ensures.maximum c.fire_composite.ensures.outlines
 
 pub fire_composite-finish-requires : goal.fire_composite-finish-requires
-fire_composite-finish-requires t c = let p = (rested-as c.args.director.now (map shown c.args.children.now.items) c.args.tag c.args.inputs.now c.args.left.now (own_of c.args.made c.args.meetings.now c.args.meetings.now) c.first_row-rest.new.director (map shown c.first_row-rest.new.children.items) c.first_row-rest.new.left c.first_row-rest.result (rest.Asked ask.Finished) (c.if-is_finished.ensures refl) (c.first_row-rest.ensures c.args.made c.args.meetings.now c.requires.serves)) in may-finish acts acts-law p.at c.args.path.now c.args.labels.now p.gives c.first_row-rest.new.director p.asking
+fire_composite-finish-requires t c = let p = (rested-as c.args.director.now (map shown c.args.children.now.items) c.args.tag c.args.inputs.now c.args.left.now (own_of c.args.made c.args.meetings.now c.first_row-rest.new.meetings) c.first_row-rest.new.director (map shown c.first_row-rest.new.children.items) c.first_row-rest.new.left c.first_row-rest.result (rest.Asked ask.Finished) (c.if-is_finished.ensures refl) c.first_row-rest.ensures) in may-finish acts acts-law p.at c.args.path.now c.args.labels.now p.gives c.first_row-rest.new.director p.asking
 
 pub fire_composite-returns-then-is_finished-clause-goes : goal.fire_composite-returns-then-is_finished-clause-goes
-fire_composite-returns-then-is_finished-clause-goes t c = (finish-ends acts acts-law c.args.path.now c.args.labels.now (rested-as c.args.director.now (map shown c.args.children.now.items) c.args.tag c.args.inputs.now c.args.left.now (own_of c.args.made c.args.meetings.now c.args.meetings.now) c.first_row-rest.new.director (map shown c.first_row-rest.new.children.items) c.first_row-rest.new.left c.first_row-rest.result (rest.Asked ask.Finished) (c.if-is_finished.ensures refl) (c.first_row-rest.ensures c.args.made c.args.meetings.now c.requires.serves)) c.finish.result c.finish.new.director c.finish.ensures).goes
+fire_composite-returns-then-is_finished-clause-goes t c = (finish-ends acts acts-law c.args.path.now c.args.labels.now (rested-as c.args.director.now (map shown c.args.children.now.items) c.args.tag c.args.inputs.now c.args.left.now (own_of c.args.made c.args.meetings.now c.first_row-rest.new.meetings) c.first_row-rest.new.director (map shown c.first_row-rest.new.children.items) c.first_row-rest.new.left c.first_row-rest.result (rest.Asked ask.Finished) (c.if-is_finished.ensures refl) c.first_row-rest.ensures) c.finish.result c.finish.new.director c.finish.ensures).goes
 
 pub fire_composite-returns-then-is_finished-clause-spends : goal.fire_composite-returns-then-is_finished-clause-spends
-fire_composite-returns-then-is_finished-clause-spends t c = (finish-ends acts acts-law c.args.path.now c.args.labels.now (rested-as c.args.director.now (map shown c.args.children.now.items) c.args.tag c.args.inputs.now c.args.left.now (own_of c.args.made c.args.meetings.now c.args.meetings.now) c.first_row-rest.new.director (map shown c.first_row-rest.new.children.items) c.first_row-rest.new.left c.first_row-rest.result (rest.Asked ask.Finished) (c.if-is_finished.ensures refl) (c.first_row-rest.ensures c.args.made c.args.meetings.now c.requires.serves)) c.finish.result c.finish.new.director c.finish.ensures).spends
+fire_composite-returns-then-is_finished-clause-spends t c = (finish-ends acts acts-law c.args.path.now c.args.labels.now (rested-as c.args.director.now (map shown c.args.children.now.items) c.args.tag c.args.inputs.now c.args.left.now (own_of c.args.made c.args.meetings.now c.first_row-rest.new.meetings) c.first_row-rest.new.director (map shown c.first_row-rest.new.children.items) c.first_row-rest.new.left c.first_row-rest.result (rest.Asked ask.Finished) (c.if-is_finished.ensures refl) c.first_row-rest.ensures) c.finish.result c.finish.new.director c.finish.ensures).spends
 
 pub fire_composite-returns-then-is_finished-clause-lowered : goal.fire_composite-returns-then-is_finished-clause-lowered
-fire_composite-returns-then-is_finished-clause-lowered t c = (finish-ends acts acts-law c.args.path.now c.args.labels.now (rested-as c.args.director.now (map shown c.args.children.now.items) c.args.tag c.args.inputs.now c.args.left.now (own_of c.args.made c.args.meetings.now c.args.meetings.now) c.first_row-rest.new.director (map shown c.first_row-rest.new.children.items) c.first_row-rest.new.left c.first_row-rest.result (rest.Asked ask.Finished) (c.if-is_finished.ensures refl) (c.first_row-rest.ensures c.args.made c.args.meetings.now c.requires.serves)) c.finish.result c.finish.new.director c.finish.ensures).lowered
+fire_composite-returns-then-is_finished-clause-lowered t c = (finish-ends acts acts-law c.args.path.now c.args.labels.now (rested-as c.args.director.now (map shown c.args.children.now.items) c.args.tag c.args.inputs.now c.args.left.now (own_of c.args.made c.args.meetings.now c.first_row-rest.new.meetings) c.first_row-rest.new.director (map shown c.first_row-rest.new.children.items) c.first_row-rest.new.left c.first_row-rest.result (rest.Asked ask.Finished) (c.if-is_finished.ensures refl) c.first_row-rest.ensures) c.finish.result c.finish.new.director c.finish.ensures).lowered
 
 pub fire_composite-returns-then-is_finished-clause-fit : goal.fire_composite-returns-then-is_finished-clause-fit
-fire_composite-returns-then-is_finished-clause-fit t c = (finish-ends acts acts-law c.args.path.now c.args.labels.now (rested-as c.args.director.now (map shown c.args.children.now.items) c.args.tag c.args.inputs.now c.args.left.now (own_of c.args.made c.args.meetings.now c.args.meetings.now) c.first_row-rest.new.director (map shown c.first_row-rest.new.children.items) c.first_row-rest.new.left c.first_row-rest.result (rest.Asked ask.Finished) (c.if-is_finished.ensures refl) (c.first_row-rest.ensures c.args.made c.args.meetings.now c.requires.serves)) c.finish.result c.finish.new.director c.finish.ensures).fit
+fire_composite-returns-then-is_finished-clause-fit t c = (finish-ends acts acts-law c.args.path.now c.args.labels.now (rested-as c.args.director.now (map shown c.args.children.now.items) c.args.tag c.args.inputs.now c.args.left.now (own_of c.args.made c.args.meetings.now c.first_row-rest.new.meetings) c.first_row-rest.new.director (map shown c.first_row-rest.new.children.items) c.first_row-rest.new.left c.first_row-rest.result (rest.Asked ask.Finished) (c.if-is_finished.ensures refl) c.first_row-rest.ensures) c.finish.result c.finish.new.director c.finish.ensures).fit
 
 pub fire_composite-returns-then-is_finished-clause-outlines : goal.fire_composite-returns-then-is_finished-clause-outlines
-fire_composite-returns-then-is_finished-clause-outlines t c = (finish-ends acts acts-law c.args.path.now c.args.labels.now (rested-as c.args.director.now (map shown c.args.children.now.items) c.args.tag c.args.inputs.now c.args.left.now (own_of c.args.made c.args.meetings.now c.args.meetings.now) c.first_row-rest.new.director (map shown c.first_row-rest.new.children.items) c.first_row-rest.new.left c.first_row-rest.result (rest.Asked ask.Finished) (c.if-is_finished.ensures refl) (c.first_row-rest.ensures c.args.made c.args.meetings.now c.requires.serves)) c.finish.result c.finish.new.director c.finish.ensures).outlines
+fire_composite-returns-then-is_finished-clause-outlines t c = (finish-ends acts acts-law c.args.path.now c.args.labels.now (rested-as c.args.director.now (map shown c.args.children.now.items) c.args.tag c.args.inputs.now c.args.left.now (own_of c.args.made c.args.meetings.now c.first_row-rest.new.meetings) c.first_row-rest.new.director (map shown c.first_row-rest.new.children.items) c.first_row-rest.new.left c.first_row-rest.result (rest.Asked ask.Finished) (c.if-is_finished.ensures refl) c.first_row-rest.ensures) c.finish.result c.finish.new.director c.finish.ensures).outlines
 
 pub fire_composite-returns-then-is_finished-clause-maximum : goal.fire_composite-returns-then-is_finished-clause-maximum
-fire_composite-returns-then-is_finished-clause-maximum t c = (finish-ends acts acts-law c.args.path.now c.args.labels.now (rested-as c.args.director.now (map shown c.args.children.now.items) c.args.tag c.args.inputs.now c.args.left.now (own_of c.args.made c.args.meetings.now c.args.meetings.now) c.first_row-rest.new.director (map shown c.first_row-rest.new.children.items) c.first_row-rest.new.left c.first_row-rest.result (rest.Asked ask.Finished) (c.if-is_finished.ensures refl) (c.first_row-rest.ensures c.args.made c.args.meetings.now c.requires.serves)) c.finish.result c.finish.new.director c.finish.ensures).maximum
+fire_composite-returns-then-is_finished-clause-maximum t c = (finish-ends acts acts-law c.args.path.now c.args.labels.now (rested-as c.args.director.now (map shown c.args.children.now.items) c.args.tag c.args.inputs.now c.args.left.now (own_of c.args.made c.args.meetings.now c.first_row-rest.new.meetings) c.first_row-rest.new.director (map shown c.first_row-rest.new.children.items) c.first_row-rest.new.left c.first_row-rest.result (rest.Asked ask.Finished) (c.if-is_finished.ensures refl) c.first_row-rest.ensures) c.finish.result c.finish.new.director c.finish.ensures).maximum
 
 pub fire_composite-returns-then-is_finished-clause-counted : goal.fire_composite-returns-then-is_finished-clause-counted
-fire_composite-returns-then-is_finished-clause-counted t c = (finish-ends acts acts-law c.args.path.now c.args.labels.now (rested-as c.args.director.now (map shown c.args.children.now.items) c.args.tag c.args.inputs.now c.args.left.now (own_of c.args.made c.args.meetings.now c.args.meetings.now) c.first_row-rest.new.director (map shown c.first_row-rest.new.children.items) c.first_row-rest.new.left c.first_row-rest.result (rest.Asked ask.Finished) (c.if-is_finished.ensures refl) (c.first_row-rest.ensures c.args.made c.args.meetings.now c.requires.serves)) c.finish.result c.finish.new.director c.finish.ensures).counted
+fire_composite-returns-then-is_finished-clause-counted t c = (finish-ends acts acts-law c.args.path.now c.args.labels.now (rested-as c.args.director.now (map shown c.args.children.now.items) c.args.tag c.args.inputs.now c.args.left.now (own_of c.args.made c.args.meetings.now c.first_row-rest.new.meetings) c.first_row-rest.new.director (map shown c.first_row-rest.new.children.items) c.first_row-rest.new.left c.first_row-rest.result (rest.Asked ask.Finished) (c.if-is_finished.ensures refl) c.first_row-rest.ensures) c.finish.result c.finish.new.director c.finish.ensures).counted
 
 pub fire_composite-go_on-requires : goal.fire_composite-go_on-requires
 fire_composite-go_on-requires t c = (
-  omega (arith, c.decreases, ap (λ os. depths os) (rested-names c.args.director.now (map shown c.args.children.now.items) c.args.tag c.args.inputs.now c.args.left.now (own_of c.args.made c.args.meetings.now c.args.meetings.now) c.first_row-rest.new.director (map shown c.first_row-rest.new.children.items) c.first_row-rest.new.left c.first_row-rest.result (c.first_row-rest.ensures c.args.made c.args.meetings.now c.requires.serves))),
-  (c.args.tag, record { before = c.args.director.now; olds = map shown c.args.children.now.items; inputs = c.args.inputs.now; allowance = c.args.left.now; start = c.args.meetings.now; rested = (c.first_row-rest.ensures c.args.made c.args.meetings.now c.requires.serves) }),
+  omega (arith, c.decreases, ap (λ os. depths os) (rested-names c.args.director.now (map shown c.args.children.now.items) c.args.tag c.args.inputs.now c.args.left.now (own_of c.args.made c.args.meetings.now c.first_row-rest.new.meetings) c.first_row-rest.new.director (map shown c.first_row-rest.new.children.items) c.first_row-rest.new.left c.first_row-rest.result c.first_row-rest.ensures)),
+  (c.args.tag, record { before = c.args.director.now; olds = map shown c.args.children.now.items; inputs = c.args.inputs.now; allowance = c.args.left.now; start = c.args.meetings.now; rested = c.first_row-rest.ensures }),
 )
 
 pub fire_composite-returns-clause-goes : goal.fire_composite-returns-clause-goes
-fire_composite-returns-clause-goes t c = (c.go_on.ensures c.args.director.now (map shown c.args.children.now.items) c.args.tag c.args.inputs.now c.args.left.now c.args.meetings.now (c.first_row-rest.ensures c.args.made c.args.meetings.now c.requires.serves)).goes
+fire_composite-returns-clause-goes t c = (c.go_on.ensures c.args.director.now (map shown c.args.children.now.items) c.args.tag c.args.inputs.now c.args.left.now c.args.meetings.now c.first_row-rest.ensures).goes
 
 pub fire_composite-returns-clause-spends : goal.fire_composite-returns-clause-spends
-fire_composite-returns-clause-spends t c = (c.go_on.ensures c.args.director.now (map shown c.args.children.now.items) c.args.tag c.args.inputs.now c.args.left.now c.args.meetings.now (c.first_row-rest.ensures c.args.made c.args.meetings.now c.requires.serves)).spends
+fire_composite-returns-clause-spends t c = (c.go_on.ensures c.args.director.now (map shown c.args.children.now.items) c.args.tag c.args.inputs.now c.args.left.now c.args.meetings.now c.first_row-rest.ensures).spends
 
 pub fire_composite-returns-clause-lowered : goal.fire_composite-returns-clause-lowered
-fire_composite-returns-clause-lowered t c = (c.go_on.ensures c.args.director.now (map shown c.args.children.now.items) c.args.tag c.args.inputs.now c.args.left.now c.args.meetings.now (c.first_row-rest.ensures c.args.made c.args.meetings.now c.requires.serves)).lowered
+fire_composite-returns-clause-lowered t c = (c.go_on.ensures c.args.director.now (map shown c.args.children.now.items) c.args.tag c.args.inputs.now c.args.left.now c.args.meetings.now c.first_row-rest.ensures).lowered
 
 pub fire_composite-returns-clause-fit : goal.fire_composite-returns-clause-fit
-fire_composite-returns-clause-fit t c = (c.go_on.ensures c.args.director.now (map shown c.args.children.now.items) c.args.tag c.args.inputs.now c.args.left.now c.args.meetings.now (c.first_row-rest.ensures c.args.made c.args.meetings.now c.requires.serves)).fit
+fire_composite-returns-clause-fit t c = (c.go_on.ensures c.args.director.now (map shown c.args.children.now.items) c.args.tag c.args.inputs.now c.args.left.now c.args.meetings.now c.first_row-rest.ensures).fit
 
 pub fire_composite-returns-clause-outlines : goal.fire_composite-returns-clause-outlines
-fire_composite-returns-clause-outlines t c = (c.go_on.ensures c.args.director.now (map shown c.args.children.now.items) c.args.tag c.args.inputs.now c.args.left.now c.args.meetings.now (c.first_row-rest.ensures c.args.made c.args.meetings.now c.requires.serves)).outlines
+fire_composite-returns-clause-outlines t c = (c.go_on.ensures c.args.director.now (map shown c.args.children.now.items) c.args.tag c.args.inputs.now c.args.left.now c.args.meetings.now c.first_row-rest.ensures).outlines
 
 pub fire_composite-returns-clause-maximum : goal.fire_composite-returns-clause-maximum
-fire_composite-returns-clause-maximum t c = (c.go_on.ensures c.args.director.now (map shown c.args.children.now.items) c.args.tag c.args.inputs.now c.args.left.now c.args.meetings.now (c.first_row-rest.ensures c.args.made c.args.meetings.now c.requires.serves)).maximum
+fire_composite-returns-clause-maximum t c = (c.go_on.ensures c.args.director.now (map shown c.args.children.now.items) c.args.tag c.args.inputs.now c.args.left.now c.args.meetings.now c.first_row-rest.ensures).maximum
 
 pub fire_composite-returns-clause-counted : goal.fire_composite-returns-clause-counted
-fire_composite-returns-clause-counted t c = (c.go_on.ensures c.args.director.now (map shown c.args.children.now.items) c.args.tag c.args.inputs.now c.args.left.now c.args.meetings.now (c.first_row-rest.ensures c.args.made c.args.meetings.now c.requires.serves)).counted
+fire_composite-returns-clause-counted t c = (c.go_on.ensures c.args.director.now (map shown c.args.children.now.items) c.args.tag c.args.inputs.now c.args.left.now c.args.meetings.now c.first_row-rest.ensures).counted
 
 pub go_on-settle-requires : goal.go_on-settle-requires
 go_on-settle-requires t c = let r = c.requires.1 in (c.requires.0, record { before = r.before; olds = r.olds; inputs = r.inputs; allowance = r.allowance; start = r.start; rested = (c.loop-number.invariant r.before r.olds c.requires.0 r.inputs r.allowance r.start r.rested) })
@@ -156,7 +156,7 @@ go_on-fire_child-requires t c =
     )
 
 pub go_on-fire_row-rest-requires : goal.go_on-fire_row-rest-requires
-go_on-fire_row-rest-requires t c = let r = c.requires.1 in (c.requires.0, record { before = r.before; olds = r.olds; inputs = r.inputs; allowance = r.allowance; own = own_of c.args.made r.start c.settle.new.meetings; at = turn-next acts acts-law c.settle.new.children.items (c.in-Turn.ensures r.before r.olds c.requires.0 r.inputs r.allowance r.start (c.loop-number.invariant r.before r.olds c.requires.0 r.inputs r.allowance r.start r.rested)) c.index_mut-child.result.now c.index_mut-child.ensures.value c.fire_child.new.child c.fire_child.new.director c.fire_child.new.left c.in-Done.ensures.goes c.in-Done.ensures.outline c.in-Done.ensures.counted c.in-Done.ensures.lowered })
+go_on-fire_row-rest-requires t c = let r = c.requires.1 in (c.requires.0, record { before = r.before; olds = r.olds; inputs = r.inputs; allowance = r.allowance; start = r.start; at = turn-next acts acts-law c.settle.new.children.items (c.in-Turn.ensures r.before r.olds c.requires.0 r.inputs r.allowance r.start (c.loop-number.invariant r.before r.olds c.requires.0 r.inputs r.allowance r.start r.rested)) c.index_mut-child.result.now c.index_mut-child.ensures.value c.fire_child.new.child c.fire_child.new.director c.fire_child.new.left c.in-Done.ensures.goes c.in-Done.ensures.outline c.in-Done.ensures.counted c.in-Done.ensures.lowered })
 
 pub go_on-loop-number-init : goal.go_on-loop-number-init
 go_on-loop-number-init t c before olds tag X allowance start a = a
@@ -165,7 +165,7 @@ pub go_on-loop-number-smaller : goal.go_on-loop-number-smaller
 go_on-loop-number-smaller t c = omega (arith, c.in-Done.ensures.spends, c.fire_row-rest.ensures.lowered)
 
 pub go_on-loop-number-preserved : goal.go_on-loop-number-preserved
-go_on-loop-number-preserved t c before olds tag X allowance start a = c.fire_row-rest.ensures.goes before olds tag X allowance (own_of c.args.made start c.settle.new.meetings) (turn-next acts acts-law c.settle.new.children.items (c.in-Turn.ensures before olds tag X allowance start (c.loop-number.invariant before olds tag X allowance start a)) c.index_mut-child.result.now c.index_mut-child.ensures.value c.fire_child.new.child c.fire_child.new.director c.fire_child.new.left c.in-Done.ensures.goes c.in-Done.ensures.outline c.in-Done.ensures.counted c.in-Done.ensures.lowered)
+go_on-loop-number-preserved t c before olds tag X allowance start a = c.fire_row-rest.ensures.goes before olds tag X allowance start (turn-next acts acts-law c.settle.new.children.items (c.in-Turn.ensures before olds tag X allowance start (c.loop-number.invariant before olds tag X allowance start a)) c.index_mut-child.result.now c.index_mut-child.ensures.value c.fire_child.new.child c.fire_child.new.director c.fire_child.new.left c.in-Done.ensures.goes c.in-Done.ensures.outline c.in-Done.ensures.counted c.in-Done.ensures.lowered)
 
 pub go_on-finish-requires : goal.go_on-finish-requires
 go_on-finish-requires t c = let r = c.requires.1 in let p = (c.in-Finished.ensures r.before r.olds c.requires.0 r.inputs r.allowance r.start (c.loop-number.invariant r.before r.olds c.requires.0 r.inputs r.allowance r.start r.rested)) in may-finish acts acts-law p.at c.args.path.now c.args.labels.now p.gives c.settle.new.director p.asking
