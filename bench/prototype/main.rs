@@ -12,6 +12,9 @@ use crate::pt_core::Source;
 use crate::pt_directors as directors;
 use crate::pt_de::DeCore;
 use crate::pt_de_plan::{DeInside, DePlan};
+use crate::pt_firing::Meeting;
+use crate::pt_meeting_lines::Inside;
+use crate::pt_net::{Channel, End, Net, NetEntity, Port};
 use crate::pt_node::{Body, Held, Labels, MeetingRecord, Node, Past, Recorded, Records};
 use crate::pt_recv::Channels;
 use crate::pt_rv_parts::KeptNeed;
@@ -665,6 +668,41 @@ fn checksum(numbers: impl Iterator<Item = i64>) -> (u64, u64) {
     (sum, count)
 }
 
+/// The net of a model, as far as a report of its meetings looks at it: the top, its children, and the channels between them.
+fn net_of(kind: &str, size: usize) -> Net {
+    let (mut entities, groups, _) = document(kind, size);
+    let channels = join(&mut entities, &groups);
+    let port = |name: &str| Port { name: text(name) };
+    let mut all = row([NetEntity { path: text("."), ports: row([]) }]);
+    for e in &entities {
+        all.push(NetEntity { path: text(&e.name), ports: row([port("input"), port("output")]) }).ok().unwrap();
+    }
+    let end = |node: usize, port: u32| End { entity: node as u32 + 1, port, index: 0 };
+    Net { entities: all, channels: row(channels.iter().map(|&(from, to)| Channel { composite: 0, from: end(from, 1), to: end(to, 0) })) }
+}
+
+/// Writes the report of a run of meetings.
+#[inline(never)]
+fn told(kind: &str, size: usize, top: &Node) {
+    use std::io::Write;
+    let net = net_of(kind, size);
+    let children = row(1..net.entities.len());
+    let inside = Inside { net: &net, number: 0, composite: &net.entities[0], children: &children, channels: &net.channels };
+    let made = top.meetings.as_slice().unwrap();
+    let text = report_of(&inside, made, top);
+    std::io::stdout().write_all(&text).unwrap();
+    drop(text);
+}
+
+#[inline(never)]
+fn report_of(inside: &Inside<'_>, made: &[(u64, Meeting)], top: &Node) -> Row<u8> {
+    let meetings = inside.meetings(GLOBAL, made).ok().unwrap();
+    let report = crate::pt_run::report(GLOBAL, top, row([meetings]), Ended::Deadlock, 1).ok().unwrap();
+    let text = crate::pt_trace::text(GLOBAL, &report).ok().unwrap();
+    drop(report);
+    text
+}
+
 #[unsafe(no_mangle)]
 pub extern "C" fn proto_main() {
     let words: Vec<String> = std::env::args().skip(1).collect();
@@ -681,6 +719,11 @@ pub extern "C" fn proto_main() {
             (firings as u64 + 1) * iterations
         }
     };
+    if words.get(3).is_some_and(|word| word == "report") {
+        told(kind, size, &top);
+        drop(top);
+        std::process::exit(0);
+    }
     let child = &top.children[last];
     let trace = child.records.as_slice()[0].trace();
     let (sum, count) = checksum(trace.iter().map(|(tag, token)| match token {

@@ -1,2 +1,4 @@
 pub mod reactions;
+mod reporting;
 mod turn;
+pub use reporting::report;

@@ -14,3 +14,7 @@ pub(crate) fn write_separator(index: usize, out: &mut Vec<u8>) -> Result<(), All
     }
     Ok(())
 }
+/// No report here has another token than an integer, and these go another way.
+pub fn print(_token: &crate::pt_value::Token, out: &mut Vec<u8>) -> Result<(), AllocError> {
+    out.extend_from_slice(b"?")
+}
