@@ -23,7 +23,7 @@ use Rattle.pt_plan.specs.declared.inside.Inside.{Inside}
 use Rattle.pt_plan.specs.Inside.{IsInside}
 use Rattle.pt_plan.specs.declared.planning.PlanFault.{PlanFault}
 use Rattle.pt_plan.specs.Fault.{FaultStands}
-use Rattle.pt_plan.specs.PlanOf.{IsPlanOf}
+use Rattle.pt_plan.specs.PlanOf.{IsPlanOf, IsWithinLimits}
 use Rattle.pt_plan.specs.Unfed.{own, unfed, sources_of, no_tokens, first_of}
 use Rattle.pt_plan.proofs.UnfedLaws.{sources-long}
 use Rattle.pt_library.specs.LibraryActor.{rows}
@@ -71,7 +71,7 @@ fault-stands around kids x fault Memory is stands told = tt
 
 -- ---- the composite
 
-module _ (around : Around) (kids : List Shown) (path : List ℕ) (records : List RecordedPort) (labels : List (List ℕ)) (x : Inside) (p : CorePlan) (first : Streams Token) (is : IsInsideOf around (trees_of kids) x) (formed : IsInside x) (plan : IsPlanOf x (plan_of p)) (needs : p.needs ≡ x.needs)
+module _ (around : Around) (kids : List Shown) (path : List ℕ) (records : List RecordedPort) (labels : List (List ℕ)) (x : Inside) (p : CorePlan) (first : Streams Token) (is : IsInsideOf around (trees_of kids) x) (formed : IsInside x) (plan : IsPlanOf x (plan_of p)) (limits : IsWithinLimits x (plan_of p)) (needs : p.needs ≡ x.needs)
     (held : first ≡ first_held rows (trees_of kids) (plan_of p).net.sources) (fresh : AllFresh kids) (empty : AreEmpty records) where
   abbrev core : State
   core = started (plan_of p) p.needs first
@@ -139,7 +139,7 @@ module _ (around : Around) (kids : List Shown) (path : List ℕ) (records : List
   pub composite-is : IsComposed sdf around kids path records labels made
   composite-is = record {
     core = tree.Sdf (plan_of p) (first_held rows (trees_of kids) (plan_of p).net.sources);
-    is_core = record { inside = x; is_inside = is; plan = plan_of p; planned = plan; is = refl };
+    is_core = record { inside = x; is_inside = is; plan = plan_of p; planned = plan; within = limits; is = refl };
     depths = tt;
     maximum_is = refl;
     node = node;

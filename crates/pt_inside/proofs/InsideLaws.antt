@@ -1,10 +1,15 @@
 -- The inside that is made, and that there is no other.
-use Rattle.std.proofs.Common.{◌≡◌, ℕ, List, [], ◌∷◌, length, map, Option, None, inl, inr, refl, sym, ap, ap₂, ◌∙◌}
+use Rattle.std.proofs.Common.{◌≡◌, ◌+◌, ◌<◌, ◌^◌, ℕ, List, [], ◌∷◌, length, map, Option, Some, None, inl, inr, refl, sym, ap, ap₂, ◌∙◌, arith}
+use Rattle.std.proofs.lemmas.List.{length-map}
+use Rattle.std.specs.Prelude.{Vec}
+use Rattle.std.specs.Global.{Global}
 use Rattle.pt_meaning.specs.Running.{total}
 use Rattle.pt_plan.specs.declared.inside.Inside.{Inside}
 use Rattle.pt_plan.specs.Inside.{IsInside}
 use Rattle.pt_node.specs.View.{Tree}
-use Rattle.pt_trees.specs.Around.{Around}
+use Rattle.pt_core.specs.Source.{source_of}
+use Rattle.pt_trees.specs.declared.wiring.Wiring.{Wiring}
+use Rattle.pt_trees.specs.Around.{Around, around_of}
 use Rattle.pt_trees.specs.Sdf.{IsInsideOf, HasInside, IsUnplannable}
 use Rattle.pt_trees.specs.Rates.{AreRates, HasUnsteady}
 use Rattle.pt_inside.specs.Needs.{NeedAll, AreNeeds}
@@ -37,8 +42,17 @@ by-steady around kids some = inl some
 pub by-rates : (around : Around) (kids : List Tree) → AreRates around.declared kids None → IsUnplannable around kids
 by-rates around kids some = inl (some.0, some.1, some.2, inr some.3)
 
-pub by-needs : (around : Around) (kids : List Tree) → AreNeeds kids around.places None → IsUnplannable around kids
-by-needs around kids none = inr (λ h. none h.0.needs (inside-needs around kids h.0 h.1 h.2))
+pub by-needs : (around : Around) (kids : List Tree) → length around.sources + around.inputs < 2 ^ 32 → AreNeeds kids around.places None → IsUnplannable around kids
+by-needs around kids few none = inr (record { few = few; without = λ h. none h.0.needs (inside-needs around kids h.0 h.1 h.2) })
 
-pub by-form : (around : Around) (kids : List Tree) (x : Inside) → IsInsideOf around kids x → length x.needs ≡ total around.places → (IsInside x → ⊥) → IsUnplannable around kids
-by-form around kids x is counted not = inr (none-formed around kids x is counted not)
+-- without a list there are no needs
+pub no-needs : (kids : List Tree) (places : List ℕ) (o : Option (Vec ℕ Global)) → ((needs : Vec ℕ Global) → o ≡ Some needs → ⊥) → AreNeeds kids places o → AreNeeds kids places None
+no-needs kids places None without are = are
+no-needs kids places (Some needs) without are = absurd (without needs refl)
+
+pub by-form : (around : Around) (kids : List Tree) (x : Inside) → length around.sources + around.inputs < 2 ^ 32 → IsInsideOf around kids x → length x.needs ≡ total around.places → (IsInside x → ⊥) → IsUnplannable around kids
+by-form around kids x few is counted not = inr (record { few = few; without = none-formed around kids x is counted not })
+
+-- few channels of the wiring are few of the code
+pub few-around : (w : Wiring) → length w.sources.items + w.inputs < 2 ^ 32 → length (around_of w).sources + (around_of w).inputs < 2 ^ 32
+few-around w few = let long = length-map w.sources.items source_of in omega (arith, few, long)

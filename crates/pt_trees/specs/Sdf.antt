@@ -1,5 +1,5 @@
 -- Composites of SDF: a plan of what is within, and the first tokens on the channels.
-use Rattle.std.specs.Prelude.{◌≡◌, ◌⊎◌, ℕ, List, length, map, Option, Some, None}
+use Rattle.std.specs.Prelude.{◌≡◌, ◌⊎◌, ℕ, ◌+◌, ◌<◌, ◌^◌, List, length, map, Option, Some, None}
 use Rattle.pt_meaning.specs.Net as net
 use Rattle.pt_meaning.specs.NodeFacts.{facts_of}
 use Rattle.pt_meaning.specs.Sdf.{SdfPlan}
@@ -14,7 +14,7 @@ use Rattle.pt_plan.specs.declared.inside.Inside.{Inside}
 use Rattle.pt_plan.specs.declared.planning.PlanFault.{PlanFault}
 use Rattle.pt_plan.specs.declared.planning.PlanFault.TheVariants as plan_fault
 use Rattle.pt_plan.specs.Inside.{IsInside}
-use Rattle.pt_plan.specs.PlanOf.{IsPlanOf}
+use Rattle.pt_plan.specs.PlanOf.{IsPlanOf, IsWithinLimits}
 use Rattle.pt_plan.specs.Fault.{FaultStands}
 use Rattle.pt_library.specs.LibraryActor.{rows}
 use Rattle.pt_node.specs.View.{Tree}
@@ -42,17 +42,23 @@ pub record IsInsideOf (around : Around) (kids : List Tree) (x : Inside) : Type 0
 abbrev pub HasInside : Around → List Tree → Type 0
 HasInside around kids = (x : Inside) × IsInsideOf around kids x × IsInside x
 
--- The core of SDF: its plan is that of the inside, and its channels hold the first tokens.
+-- The core of SDF: its plan is that of the inside, within the limits, and its channels hold the first tokens.
 pub record IsSdfCore (around : Around) (kids : List Tree) (core : tree.Core Token) : Type 0 where
   pub inside : Inside
   pub is_inside : IsInsideOf around kids inside
   pub plan : SdfPlan
   pub planned : IsPlanOf inside plan
+  pub within : IsWithinLimits inside plan
   pub is : core ≡ tree.Sdf plan (first_held rows kids plan.net.sources)
+
+-- It has none, though there are few enough channels that each own input may have one more: with more than these nothing is told but want of memory.
+pub record IsUnfit (around : Around) (kids : List Tree) : Type 0 where
+  pub few : length around.sources + around.inputs < 2 ^ 32
+  pub without : HasInside around kids → ⊥
 
 -- SDF can't plan a child, or what is within isn't well formed
 abbrev pub IsUnplannable : Around → List Tree → Type 0
-IsUnplannable around kids = HasUnsteady around kids ⊎ (HasInside around kids → ⊥)
+IsUnplannable around kids = HasUnsteady around kids ⊎ IsUnfit around kids
 
 -- the code that a composite without a plan is refused with
 abbrev pub IsCodeOf : PlanFault → Code → Type 0

@@ -11,8 +11,8 @@ pub enum BuildFault {
     /// A composite has no plan.
     #[error(transparent)]
     Refused(Refusal),
-    /// The net asks for what isn't built yet.
-    #[error("the net isn't built yet")]
+    /// The net has no tree: an entity is no actor that starts and no composite with a director, or a composite doesn't fit its director. A net of a document has nothing of the kind.
+    #[error("the net has no tree")]
     Unbuilt,
     #[error("out of memory")]
     Memory,

@@ -8,7 +8,7 @@ use thiserror::Error;
 /// Why a composite isn't built.
 #[derive(Clone, Copy, Debug, PartialEq, Eq, Error)]
 pub enum CompositeFault {
-    /// It doesn't have the form that its director asks for, or its director isn't built yet.
+    /// Its children or what is stated of it don't fit its director. In the net of a document none is so.
     #[error("the composite isn't built")]
     Unbuilt,
     #[error("the composite is refused")]
