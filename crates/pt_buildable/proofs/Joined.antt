@@ -31,10 +31,10 @@ pub nets-ordered : DirectedNetsAreInOrder
 nets-ordered net e d doc opaque at has = ordered net doc (composites-directed net e d doc at has) opaque e d at has
 
 pub composites-channels : CompositesHaveChannels
-composites-channels net starts k e d doc within order at has = record {
+composites-channels net starts k e d doc order at has = record {
   counted = channels-counted net starts k e d order.wired at has;
   there = sources-there net starts k e at order.wired;
-  few = few-sources doc.job net starts k e doc.made (few-places (tables_of doc.job) doc.job.records within);
+  few = few-sources doc.job net starts k e doc.made (few-places (tables_of doc.job) doc.job.records doc.few);
   fewer = few-kids doc.job net starts k e doc.made (documents-small doc.bytes doc.job doc.read);
 }
 

@@ -9,8 +9,6 @@ use Rattle.pt_net.specs.declared.net.Net.{Net}
 use Rattle.pt_net.specs.declared.net.NetDirector.{NetDirector}
 use Rattle.pt_net.specs.declared.net.NetEntity.{NetEntity}
 use Rattle.pt_net.specs.Inside.{children_of}
-use Rattle.pt_net.specs.Table.{tables_of}
-use Rattle.pt_net.specs.Stands.{IsPastLimit}
 use Rattle.pt_scopes.specs.declared.values.Values.{Values}
 use Rattle.pt_scopes.specs.Scopes.{net_view, is_composite_class}
 use Rattle.pt_scopes.specs.Valued.{IsValued}
@@ -60,10 +58,10 @@ pub record HasChannels (around : Around) : Type 0 where
   pub few : length around.sources ≤ 100000
   pub fewer : length around.places ≤ 10000
 
--- so it is of each composite of such a net within the limit of channels
+-- so it is of each composite of such a net
 abbrev pub CompositesHaveChannels : Type 0
 CompositesHaveChannels =
-    (net : Net) (starts : Starts) (k : ℕ) (e : NetEntity) (d : NetDirector) → (doc : IsNetOfDocument net) → ((path : List ℕ) → IsPastLimit (tables_of doc.job) doc.job.records path → ⊥) → IsInOrder net → IsEntity net k e → e.director ≡ Some d → HasChannels (around_in net starts k e)
+    (net : Net) (starts : Starts) (k : ℕ) (e : NetEntity) (d : NetDirector) → IsNetOfDocument net → IsInOrder net → IsEntity net k e → e.director ≡ Some d → HasChannels (around_in net starts k e)
 
 -- Under SDF each child needs and gives the same at each firing, where the texts of a net come to these values, each entity may stand where it stands, and its actors start so; unless it isn't known of some composite of processes what it states.
 abbrev pub ChildrenAreSteady : Type 0

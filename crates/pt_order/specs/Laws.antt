@@ -6,7 +6,7 @@ use Rattle.pt_net.specs.declared.net.Net.{Net}
 use Rattle.pt_net.specs.declared.net.NetDirector.{NetDirector}
 use Rattle.pt_net.specs.declared.net.NetEntity.{NetEntity}
 use Rattle.pt_net.specs.Table.{Tables, tables_of}
-use Rattle.pt_net.specs.Stands.{IsLinkFault}
+use Rattle.pt_net.specs.Stands.{IsLinkFault, IsPastLimit}
 use Rattle.pt_net.specs.Net.{entity_view, IsNetOf}
 use Rattle.pt_node.specs.View.{Tree}
 use Rattle.pt_trees.specs.Trees.{Starts, IsTree}
@@ -19,13 +19,14 @@ use Rattle.pt_order.specs.ClassPorts.{HaveOwnNames, HaveClassPorts}
 abbrev pub HasNoLinkFault : Tables → Type 0
 HasNoLinkFault t = (path : List ℕ) → IsLinkFault t path → ⊥
 
--- a net is that of a job that a document stands for, in which no link is at fault
+-- a net is that of a job that a document stands for, in which no link is at fault, and that has no more channels and recorded ports than a document may have
 pub record IsNetOfDocument (net : Net) : Type 0 where
   pub bytes : List ℕ
   pub job : JobTree
   pub read : IsJobOf bytes job
   pub made : IsNetOf job net
   pub clean : HasNoLinkFault (tables_of job)
+  pub few : (path : List ℕ) → IsPastLimit (tables_of job) job.records path → ⊥
 
 -- what the laws of types ask of a net beside its typing: its channels stand in order, its actors have the ports of their classes, and no two ports of a composite or a Modal entity have one name
 pub record IsInOrder (net : Net) : Type 0 where

@@ -38,7 +38,7 @@ net-answers f job net budget (Err e) n c a = tt
 
 -- no link of a document is at fault whose net this is
 pub net-of-document : (bytes : List ℕ) (job : JobTree) (net : Net) → IsJobOf bytes job → IsNetOf job net → IsWellLinked job → IsNetOfDocument net
-net-of-document bytes job net j n l = record { bytes = bytes; job = job; read = j; made = n; clean = λ path h. l code.Link path h }
+net-of-document bytes job net j n l = record { bytes = bytes; job = job; read = j; made = n; clean = λ path h. l code.Link path h; few = λ path h. l code.Limit path h }
 
 -- a report of the net of a document is that of the document
 reported : (f : Form) (bytes : List ℕ) (job : JobTree) (budget : ℕ) → IsJobOf bytes job → reading.IsClean bytes → (s : Status) (text : List ℕ) (net : Net) → IsNetOf job net → IsWellLinked job → IsReport f net budget s text → IsReportOf f bytes budget s text
