@@ -1,8 +1,8 @@
 -- Each class of data actors and each of synchronous models starts from parameters of the class.
-use Rattle.std.proofs.Common.{◌≡◌, ℕ, List, [], ◌∷◌, Bool, true, false, not, ◌&&◌, Option, Some, None, IsTrue, ℤ, pos, negsuc, refl, sym, ap, ap₂, subst, ◌∙◌, if◌then◌else◌}
+use Rattle.std.proofs.Common.{◌≡◌, ℕ, List, [], ◌∷◌, Bool, true, false, not, Option, Some, None, IsTrue, ℤ, pos, negsuc, refl, sym, ap, ap₂, subst, ◌∙◌, if◌then◌else◌}
 use Rattle.std.specs.Prelude.{codes, bytes_eq, option_map, int_lt, int_le, unsigned_abs}
 use Rattle.std.specs.List.{AllByRecursion}
-use Rattle.std.proofs.lemmas.Option.{none-some, same_Some}
+use Rattle.std.proofs.lemmas.Option.{none-some}
 use Rattle.std.proofs.lemmas.Slice.Eq.{bytes_eq-Decides}
 use Rattle.pt_value.specs.declared.token.Token.{Token}
 use Rattle.pt_value.specs.declared.token.Token.TheVariants as token
@@ -10,7 +10,6 @@ use Rattle.pt_value.specs.Token.{value_of}
 use Rattle.pt_document.specs.Names.{is_among}
 use Rattle.pt_firing.specs.Params.{as_int, value_under, channels_to}
 use Rattle.pt_flow_base.specs.declared.params.Params.{Params}
-use Rattle.pt_scopes.specs.declared.form.Form.TheVariants as form
 use Rattle.pt_scopes.specs.Forms.{forms, form_of, fits, comparisons, functions, gates}
 use Rattle.pt_scopes.specs.Agreement.{standard_of, standard_integer, integer_of}
 use Rattle.pt_lib_data.specs.declared.function.Class.{Class}
@@ -43,7 +42,7 @@ use Rattle.pt_typed.proofs.DataStarts.{name_of}
 use Rattle.pt_typed.proofs.TimeStarts as signals
 use Rattle.pt_startable.proofs.Held.{is_evaluated, words_of}
 use Rattle.pt_startable.proofs.Required.{limiter-bottom, limiter-top}
-use Rattle.pt_startable.proofs.Found.{IsThere, Fits, mapped-there, integer-there, within-there, at-most}
+use Rattle.pt_startable.proofs.Found.{IsThere, mapped-there, integer-there, within-there, at-most}
 use Rattle.pt_startable.proofs.Facts.{AreOfClass}
 use Rattle.pt_startable.proofs.FlowStarts.{number, count, found, integer-is}
 

@@ -1,5 +1,5 @@
 -- What is known of the parameters that an actor of a class is started from.
-use Rattle.std.proofs.Common.{◌≡◌, ℕ, List, Bool, true, Option, Some, None, IsTrue, refl}
+use Rattle.std.proofs.Common.{◌≡◌, ℕ, List, true, Some, IsTrue}
 use Rattle.std.specs.Prelude.{option_map}
 use Rattle.pt_value.specs.declared.token.Token.{Token}
 use Rattle.pt_value.specs.declared.token.Token.TheVariants as token
@@ -7,7 +7,6 @@ use Rattle.pt_value.specs.Token.{value_of}
 use Rattle.pt_document.specs.Names.{is_among}
 use Rattle.pt_firing.specs.Params.{value_under}
 use Rattle.pt_flow_base.specs.declared.params.Params.{Params}
-use Rattle.pt_scopes.specs.declared.form.Form.{Form}
 use Rattle.pt_scopes.specs.Forms.{form_of, fits}
 use Rattle.pt_scopes.specs.Agreement.{Parameters, given, value_in, agree}
 use Rattle.pt_startable.proofs.Held.{is_evaluated, words_of}

@@ -1,20 +1,18 @@
 -- Each class of flow actors starts from parameters of the class; an Expression apart.
-use Rattle.std.proofs.Common.{◌≡◌, ℕ, List, [], ◌∷◌, map, Bool, true, false, not, ◌&&◌, Option, Some, None, IsTrue, ℤ, pos, negsuc, ◌*ℤ◌, refl, sym, ap, ap₂, subst, ◌∙◌, if◌then◌else◌}
+use Rattle.std.proofs.Common.{◌≡◌, ℕ, List, [], ◌∷◌, Bool, true, false, not, ◌&&◌, Option, Some, None, IsTrue, ℤ, pos, negsuc, ◌*ℤ◌, refl, sym, ap, ap₂, subst, ◌∙◌, if◌then◌else◌}
 use Rattle.std.specs.Prelude.{codes, option_map, int_lt, unsigned_abs, int_le}
-use Rattle.std.proofs.lemmas.Bool.{and_parts}
 use Rattle.std.proofs.lemmas.Option.{none-some, same_Some}
 use Rattle.pt_value.specs.declared.token.Token.{Token}
 use Rattle.pt_value.specs.declared.token.Token.TheVariants as token
 use Rattle.pt_value.specs.Token.{value_of}
-use Rattle.pt_firing.specs.Params.{value_under, as_int, only_within, as_bool, channels_to, int_or, bool_or}
+use Rattle.pt_firing.specs.Params.{value_under, as_int, only_within, channels_to}
 use Rattle.pt_flow_base.specs.declared.params.Params.{Params}
-use Rattle.pt_flow_base.specs.declared.limit.Limit.{Limit}
 use Rattle.pt_flow_base.specs.Limit.{limit_of, limit_in}
-use Rattle.pt_flow_base.specs.Rates.{phased, factor_and_phase, repeated_block, times_and_size}
+use Rattle.pt_flow_base.specs.Rates.{phased, factor_and_phase, repeated_block}
 use Rattle.pt_scopes.specs.declared.form.Form.{Form}
 use Rattle.pt_scopes.specs.declared.form.Form.TheVariants as form
 use Rattle.pt_scopes.specs.Forms.{forms, form_of, fits}
-use Rattle.pt_scopes.specs.Agreement.{standard_of, standard_integer, integer_in, integer_of, given, value_in}
+use Rattle.pt_scopes.specs.Agreement.{standard_of, standard_integer, integer_in, integer_of}
 use Rattle.pt_flow_numbers.specs.declared.extreme.Side.TheVariants.{Greatest, Least}
 use Rattle.pt_lib_flow.specs.declared.flow_actor.FlowActor.TheVariants as flow
 use Rattle.pt_lib_flow.specs.declared.flow_actor.Class.{Class}

@@ -1,7 +1,7 @@
 -- What is started from a parameter that has its form: an integer, one of a range, a truth value, and what two of them agree in.
-use Rattle.std.proofs.Common.{◌≡◌, ℕ, zero, suc, ◌*◌, List, Bool, true, false, not, ◌&&◌, Option, Some, None, IsTrue, ℤ, pos, negsuc, ◌*ℤ◌, leb, ltb, refl, sym, ap, subst, ◌∙◌, arith, if◌then◌else◌}
+use Rattle.std.proofs.Common.{◌≡◌, ℕ, ◌*◌, Bool, true, false, not, ◌&&◌, Option, Some, None, IsTrue, ℤ, pos, negsuc, ◌*ℤ◌, leb, ltb, refl, sym, ap, ◌∙◌, if◌then◌else◌}
 use Rattle.std.specs.Prelude.{option_map, int_le, int_lt, nat_le, unsigned_abs}
-use Rattle.std.proofs.lemmas.Bool.{and_parts, and_from, ltb-false, le-leb}
+use Rattle.std.proofs.lemmas.Bool.{and_parts, and_from, ltb-false, le-leb, false≢true}
 use Rattle.std.proofs.lemmas.Option.{none-some, same_Some}
 use Rattle.pt_value.specs.declared.token.Token.{Token}
 use Rattle.pt_value.specs.declared.token.Token.TheVariants as token
@@ -68,6 +68,14 @@ pub within-there : (least most default : ℤ) (o : Option Token) → (int_le lea
 within-there least most default o d f =
     let w = ranged-there least most default o d f in
     (w.0, w.1, ap (only_within least most) w.1 ∙ ap (λ b. if b then Some w.0 else None) w.2)
+
+-- so is one that is found, whatever would stand for it
+pub held-within : (least most default : ℤ) (o : Option Token) (t : Token) → o ≡ Some t → Fits (form.Integer least most) o → IsThere (only_within least most (as_int default o))
+held-within least most default o (token.Int n) e f = (n, ap (λ x. only_within least most (as_int default x)) e ∙ ap (λ b. if b then Some n else None) (between least most n (f (token.Int n) e)))
+held-within least most default o (token.Bool b) e f = absurd (false≢true (f (token.Bool b) e))
+held-within least most default o (token.Text t) e f = absurd (false≢true (f (token.Text t) e))
+held-within least most default o (token.Array ts) e f = absurd (false≢true (f (token.Array ts) e))
+held-within least most default o (token.Record fs) e f = absurd (false≢true (f (token.Record fs) e))
 
 -- an integer that is found, or stands for it, is what is compared
 pub integer-same : (default : ℤ) (o : Option Token) (n : ℤ) → as_int default o ≡ Some n → integer_in (option_map value_of o) default ≡ n

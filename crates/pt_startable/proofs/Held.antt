@@ -1,7 +1,8 @@
 -- What an actor finds under the name of one of its parameters, by the form of that parameter.
-use Rattle.std.proofs.Common.{◌≡◌, ℕ, List, [], ◌∷◌, ◌++◌, map, Bool, true, false, not, ◌&&◌, ◌||◌, Option, Some, None, IsTrue, refl, sym, ap, subst, ◌∙◌, append-nil, if◌then◌else◌}
+use Rattle.std.proofs.Common.{◌≡◌, ℕ, List, [], ◌∷◌, map, Bool, true, false, not, ◌&&◌, ◌||◌, Option, Some, None, IsTrue, refl, sym, ap, subst, ◌∙◌, if◌then◌else◌}
 use Rattle.std.specs.Prelude.{codes, bytes_eq, option_map}
 use Rattle.std.specs.List.{AllZip, list_all}
+use Rattle.std.proofs.lemmas.Bool.{false≢true}
 use Rattle.std.proofs.lemmas.Option.{none-some, same_Some}
 use Rattle.std.proofs.lemmas.Slice.Eq.{bytes_eq-Decides}
 use Rattle.pt_datatypes.proofs.Fields.{and_left, and_right}
@@ -194,6 +195,22 @@ module _ (is_port : List ℕ → Bool) (scope : Scope) (form_named : List ℕ �
       chosen : (b : Bool) → (if b then true else is_among (map property_name ps) name) ≡ true → (is_among (map property_name ps) name ≡ true → (t : Token) × (value_under name (own_tokens ps vs) ≡ Some t)) → (t : Token) × ((if b then Some (token.Text (text_of p)) else value_under name (own_tokens ps vs)) ≡ Some t)
       chosen true h later = (token.Text (text_of p), refl)
       chosen false h later = later h
+
+  -- a parameter that is read as a tree and is given has one
+  pub tree-there : (name : List ℕ) (ps : List PropertyTree) (vs : List ParameterValue) → AreGiven ps vs → form_named name ≡ form.Tree → is_among (map property_name ps) name ≡ true → (t : Tree) × (given_tree vs ≡ Some t)
+  tree-there name [] vs g e among = absurd (false≢true among)
+  tree-there name (p ∷ ps) [] g e among = absurd g
+  tree-there name (p ∷ ps) (parameter.Tree x ∷ vs) g e among = (tree_of x, refl)
+  tree-there name (p ∷ ps) (parameter.Token x ∷ vs) g e among = chosen (bytes_eq (property_name p) name) refl among (λ later. tree-there name ps vs g.1 e later)
+    where
+      chosen : (b : Bool) → bytes_eq (property_name p) name ≡ b → (if b then true else is_among (map property_name ps) name) ≡ true → (is_among (map property_name ps) name ≡ true → (t : Tree) × (given_tree vs ≡ Some t)) → (t : Tree) × (given_tree vs ≡ Some t)
+      chosen true same h later = absurd (false≢true (subst (λ f. IsTrue (fits f (value_of x))) (form-same p name same ∙ e) g.0.1))
+      chosen false same h later = later h
+  tree-there name (p ∷ ps) (parameter.Word ∷ vs) g e among = chosen (bytes_eq (property_name p) name) refl among (λ later. tree-there name ps vs g.1 e later)
+    where
+      chosen : (b : Bool) → bytes_eq (property_name p) name ≡ b → (if b then true else is_among (map property_name ps) name) ≡ true → (is_among (map property_name ps) name ≡ true → (t : Tree) × (given_tree vs ≡ Some t)) → (t : Tree) × (given_tree vs ≡ Some t)
+      chosen true same h later = absurd (subst (λ f. IsGiven is_port scope f (text_of p) Word) (form-same p name same ∙ e) g.0)
+      chosen false same h later = later h
 
   -- where no form is that of a tree, there is none
   pub no-tree : (ps : List PropertyTree) (vs : List ParameterValue) → AreGiven ps vs → ((name : List ℕ) → is_tree (form_named name) ≡ false) → given_tree vs ≡ None

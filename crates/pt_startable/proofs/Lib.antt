@@ -4,4 +4,8 @@ pub mod Required
 pub mod Facts
 pub mod FlowStarts
 pub mod DataStarts
+pub mod TimedStarts
+pub mod Known
+pub mod ExpressionPorts
+pub mod ExpressionStarts
 pub mod Joined

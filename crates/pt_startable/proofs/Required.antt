@@ -1,6 +1,6 @@
 -- The parameters that the row of a class asks for are given in the net of a document.
 use Rattle.std.proofs.Common.{◌≡◌, inl, inr, ℕ, List, [], ◌∷◌, map, filter, Bool, true, false, not, ◌&&◌, ◌||◌, cond, Option, Some, None, refl, sym, ap, subst, ◌∙◌, if◌then◌else◌, codes, bytes_eq}
-use Rattle.std.specs.Prelude.{is_some, option_map}
+use Rattle.std.specs.Prelude.{is_some}
 use Rattle.std.specs.Option.{is_none}
 use Rattle.std.specs.List.{slice_get}
 use Rattle.std.proofs.lemmas.Bool.{and_parts, and_from}
@@ -68,6 +68,22 @@ limiter-bottom = record { plain = refl; required = refl }
 pub limiter-top : IsAsked (codes "Limiter") (codes "top")
 unfolding kind_of class_row classes is_layout
 limiter-top = record { plain = refl; required = refl }
+
+pub delay-delay : IsAsked (codes "TimeDelay") (codes "delay")
+unfolding kind_of class_row classes is_layout
+delay-delay = record { plain = refl; required = refl }
+
+pub server-time : IsAsked (codes "Server") (codes "serviceTime")
+unfolding kind_of class_row classes is_layout
+server-time = record { plain = refl; required = refl }
+
+pub clock-period : IsAsked (codes "DiscreteClock") (codes "period")
+unfolding kind_of class_row classes is_layout
+clock-period = record { plain = refl; required = refl }
+
+pub expression-tree : IsAsked (codes "Expression") (codes "expression")
+unfolding kind_of class_row classes is_layout
+expression-tree = record { plain = refl; required = refl }
 
 must-need : (here : List ℕ) (n : Need) → is_must n ≡ true → is_needed here n ≡ true
 must-need here Required e = refl

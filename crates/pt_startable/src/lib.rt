@@ -1,6 +1,6 @@
-//! A law of the actors of a document's net: those of a class that a library has start, but for Expressions. It is the contract of a public function, which has no code.
+//! Laws of the library actors of a document's net: a library has the class of each, and each starts. They are the contracts of public functions, which have no code.
 #![tactic(auto)]
 
 mod laws;
 
-pub use laws::actors_start;
+pub use laws::{classes_are_of_libraries, library_actors_start};
