@@ -1,0 +1,13 @@
+pub mod Each
+pub mod FlowNeeds
+pub mod DataNeeds
+pub mod TimeNeeds
+pub mod TimedNeeds
+pub mod Over
+pub mod Widths
+pub mod ClassWidths
+pub mod Declared
+pub mod Places
+pub mod Actors
+pub mod Composites
+pub mod Trees
