@@ -1,0 +1,9 @@
+pub mod Values
+pub mod Seen
+pub mod Firsts
+pub mod Ports
+pub mod Counts
+pub mod Declared
+pub mod Kids
+pub mod Gathered
+pub mod Joined
