@@ -1,0 +1,4 @@
+pub mod Sound
+pub mod Kids
+pub mod Machines
+pub mod Joined
