@@ -7,7 +7,6 @@ use Rattle.pt_document.specs.declared.code.Code.TheVariants as code
 use Rattle.pt_document.specs.declared.refusal.DocFault.{DocFault}
 use Rattle.pt_document.specs.declared.refusal.DocFault.TheVariants.{Refused, Memory}
 use Rattle.pt_document.specs.declared.refusal.Refusal.{Refusal}
-use Rattle.pt_document.specs.Names.{top_path}
 use Rattle.pt_document.specs.Outcome.{IsRefusal}
 use Rattle.pt_net.specs.declared.net.Net.{Net}
 use Rattle.pt_net.specs.declared.net.NetEntity.{NetEntity}
@@ -29,12 +28,7 @@ use Rattle.pt_node.specs.Shown.{Shown}
 use Rattle.pt_trees.specs.Trees.{IsEntity, Starts}
 use Rattle.pt_trees.specs.Built.{IsBuilt}
 use Rattle.pt_elaboration.specs.Resolved.{IsResolved, IsStarted}
-use Rattle.pt_elaboration.specs.Unbuilt.{IsUnbuilt}
-use Rattle.pt_elaboration.specs.Refused.{FaultStands, for_guards, for_types, for_place, for_states, for_inputs, unbuilt}
-
-pub unbuilt-stands : (net : Net) (values : Values) (typing : Assignment) (starts : Starts) (m : DocFault) → IsStarted net values typing starts → IsUnbuilt net starts → IsRefusal m code.Unbuilt top_path → FaultStands net m
-unbuilt-stands net values typing starts Memory started is told = tt
-unbuilt-stands net values typing starts (Refused r) started is told = unbuilt values typing starts started is told
+use Rattle.pt_elaboration.specs.Refused.{FaultStands, for_guards, for_types, for_place, for_states, for_inputs}
 
 pub inputs-stand : (net : Net) (values : Values) (typing : Assignment) (starts : Starts) (top : Shown) (f : DocFault) → IsStarted net values typing starts → IsBuilt net starts 0 top → inputs.IsFaultOf (net_view net) f → FaultStands net f
 inputs-stand net values typing starts top Memory started is h = tt

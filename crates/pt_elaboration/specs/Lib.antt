@@ -1,4 +1,3 @@
 pub mod Resolved
 pub mod Begun
-pub mod Unbuilt
 pub mod Refused

@@ -5,7 +5,6 @@ use Rattle.pt_document.specs.declared.code.Code.TheVariants as code
 use Rattle.pt_document.specs.declared.refusal.DocFault.{DocFault}
 use Rattle.pt_document.specs.declared.refusal.DocFault.TheVariants.{Refused, Memory}
 use Rattle.pt_document.specs.declared.refusal.Refusal.{Refusal}
-use Rattle.pt_document.specs.Names.{top_path}
 use Rattle.pt_net.specs.declared.net.Net.{Net}
 use Rattle.pt_net.specs.declared.net.NetEntity.{NetEntity}
 use Rattle.pt_scopes.specs.declared.values.Values.{Values}
@@ -24,9 +23,8 @@ use Rattle.pt_trees.specs.Trees.{IsEntity, Starts}
 use Rattle.pt_trees.specs.Built as built
 use Rattle.pt_trees.specs.Built.{IsBuilt}
 use Rattle.pt_elaboration.specs.Resolved.{IsResolved, IsStarted}
-use Rattle.pt_elaboration.specs.Unbuilt.{IsUnbuilt}
 
--- A refusal of a net stands: for a text, for a guard or an action of a Modal entity, for types, for where an entity stands, for a Modal entity whose states, transitions and refinements don't agree, for a composite without a plan, for an input of the top, or since its form isn't built.
+-- A refusal of a net stands: for a text, for a guard or an action of a Modal entity, for types, for where an entity stands, for a Modal entity whose states, transitions and refinements don't agree, for a composite without a plan, or for an input of the top.
 pub data IsRefused (net : Net) (r : Refusal) : Type 0 where
   for_values : valued.Stands (net_view net) r.code r.path → IsRefused net r
   for_guards : (values : Values) (k : ℕ) (e : NetEntity) → IsValued (net_view net) values → IsUnreadableAt net values r.code k → IsEntity net k e → r.path ≡ e.path → IsRefused net r
@@ -35,7 +33,6 @@ pub data IsRefused (net : Net) (r : Refusal) : Type 0 where
   for_states : (values : Values) (typing : Assignment) (why : Cause) (k : ℕ) (e : NetEntity) → IsResolved net values typing → IsFaultIn net k why → IsEntity net k e → r.code ≡ code.States → r.path ≡ e.path → IsRefused net r
   for_plan : (values : Values) (typing : Assignment) (starts : Starts) → IsStarted net values typing starts → built.IsRefused net starts r → IsRefused net r
   for_inputs : (values : Values) (typing : Assignment) (starts : Starts) (top : Shown) → IsStarted net values typing starts → IsBuilt net starts 0 top → r.code ≡ code.Inputs → IsInputFault (net_view net) r.path → IsRefused net r
-  unbuilt : (values : Values) (typing : Assignment) (starts : Starts) → IsStarted net values typing starts → IsUnbuilt net starts → r ≡ record { code = code.Unbuilt; path = top_path } → IsRefused net r
 
 -- a fault is want of memory, or a refusal that stands
 abbrev pub FaultStands : Net → DocFault → Type 0

@@ -7,5 +7,4 @@ mod resolved;
 mod started;
 mod starts;
 
-pub use refusal::unbuilt;
 pub use started::Started;

@@ -1,7 +1,5 @@
 ghost use Rattle.std.specs.Prelude.{◌≡◌, ◌<◌, length, Some, slice_get};
-ghost use Rattle.pt_document.specs.Names.{top_path};
 ghost use Rattle.pt_document.specs.Outcome.{IsRefusal};
-ghost use Rattle.pt_document.specs.declared.code.Code.TheVariants as code;
 ghost use Rattle.pt_net.specs.declared.net.NetEntity.{NetEntity};
 ghost use Rattle.pt_net.specs.declared.net.Transparent.{Transparent};
 ghost use Rattle.pt_trees.specs.Trees.{IsEntity};
@@ -26,11 +24,4 @@ pub(crate) fn refusal_of_composite(alloc: Global, code: Code, net: &Net, number:
 {
     let composite = &net.transparent[number];
     refused(alloc, code, composite.path.as_str())
-}
-
-/// A refusal of a net whose form isn't built yet, if there is memory for the path of the top.
-pub fn unbuilt(alloc: Global) -> DocFault
-    ensures { IsRefusal result code.Unbuilt top_path }
-{
-    refused(alloc, Code::Unbuilt, ".")
 }

@@ -3,4 +3,4 @@ pub mod Outcomes
 pub mod TypedLaws
 pub mod StatedLaws
 pub mod Refinements
-pub mod UnbuiltLaws
+pub mod TreesBuilt

@@ -1,14 +1,13 @@
 -- What stands in a Modal entity of a net with machines is a composite with a director, or a Modal entity.
-use Rattle.std.proofs.Common.{◌≡◌, ℕ, suc, zero, ◌<◌, List, [], ◌∷◌, Bool, true, false, ◌||◌, cond, Option, Some, None, length, map, filter, get_or, codes, bytes_eq, nat_eq, refl, sym, ap, subst, ◌∙◌, arith}
-use Rattle.std.specs.Prelude.{slice_get}
+use Rattle.std.proofs.Common.{◌≡◌, ℕ, suc, zero, ◌<◌, List, [], ◌∷◌, Bool, true, false, ◌||◌, cond, Option, Some, None, length, map, filter, get_or, codes, bytes_eq, refl, sym, ap, subst, ◌∙◌, arith}
 use Rattle.std.specs.Option.{is_some}
 use Rattle.std.specs.List.{Contains}
 use Rattle.std.proofs.lemmas.Bool.{both_ways, eq-eqb}
-use Rattle.std.proofs.lemmas.Option.{none-some, same_Some, slice_get_within}
+use Rattle.std.proofs.lemmas.Option.{slice_get_within}
 use Rattle.pt_net.specs.declared.net.Net.{Net}
 use Rattle.pt_net.specs.declared.net.NetDirector.{NetDirector}
 use Rattle.pt_net.specs.declared.net.NetEntity.{NetEntity}
-use Rattle.pt_net.specs.Net.{NetEntityTree, entity_view}
+use Rattle.pt_net.specs.Net.{entity_view}
 use Rattle.pt_net.specs.Inside.{is_number}
 use Rattle.pt_net.proofs.Members.{contains_slice}
 use Rattle.pt_scopes.specs.declared.values.Values.{Values}
@@ -19,8 +18,6 @@ use Rattle.pt_chart.specs.Machine.{Machine}
 use Rattle.pt_machine.specs.Children.{stands_in, is_opaque, kids_in}
 use Rattle.pt_machine.specs.Machines.{IsMachineOf, AreMachines}
 use Rattle.pt_machine.proofs.Clean.{all-of}
-use Rattle.pt_trees.specs.declared.directing.Directing.TheVariants.{Modal}
-use Rattle.pt_trees.specs.Directors.{IsDirectedBy}
 use Rattle.pt_trees.specs.Trees.{IsEntity, Starts}
 use Rattle.pt_trees.proofs.DirectorLaws.{is-modal}
 use Rattle.pt_order.specs.Laws.{IsNetOfDocument}

@@ -32,7 +32,6 @@ use Rattle.pt_start.specs.Misplaced.{undirected}
 use Rattle.pt_start.proofs.Outward.{view-at}
 use Rattle.pt_job.specs.Inputs.{inputs_at, own_inputs, ComeTo, AreSupplied, has_ticks, ticks_at, may_lack, has_time, time_at, is_timed}
 use Rattle.pt_job.specs.Iterations.{iterations}
-use Rattle.pt_core.specs.declared.either.Either.{Either}
 use Rattle.pt_core.specs.declared.either.Either.TheVariants.{First, Other}
 use Rattle.pt_sdf.specs.Clauses as sdf
 use Rattle.pt_sr.specs.Clauses as sr

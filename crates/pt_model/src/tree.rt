@@ -16,7 +16,7 @@ ghost use Rattle.pt_model.specs.Model.{IsCompositeBody};
 use pt_build::build;
 use pt_directors::Director;
 use pt_document::DocFault;
-use pt_elaboration::{Started, unbuilt};
+use pt_elaboration::Started;
 use pt_net::Net;
 use pt_node::{Body, Node};
 use pt_stated::{processes_are_stated, stated_is_lawful};
@@ -43,7 +43,7 @@ pub(crate) fn tree_of(alloc: Global, net: &Net, started: &Started) -> Result<Nod
     ) {
         Ok(top) => Ok(top),
         Err(BuildFault::Refused(refusal)) => Err(DocFault::Refused(refusal)),
-        Err(BuildFault::Unbuilt) => Err(unbuilt(alloc)),
+        Err(BuildFault::Unbuilt) => unreachable!(),
         Err(BuildFault::Memory) => Err(DocFault::Memory),
     }
 }

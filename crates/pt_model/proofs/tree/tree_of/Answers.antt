@@ -15,8 +15,7 @@ use Rattle.pt_build.specs.Starts.{starts_of}
 use Rattle.pt_elaboration.specs.Begun.{starts_in}
 use Rattle.pt_elaboration.specs.Refused.{for_plan}
 use Rattle.pt_elaboration.proofs.StartLaws.{are-started}
-use Rattle.pt_elaboration.proofs.FaultLaws.{unbuilt-stands}
-use Rattle.pt_model.proofs.UnbuiltLaws.{no-tree-unbuilt}
+use Rattle.pt_model.proofs.TreesBuilt.{has-tree}
 use Rattle.pt_model.proofs.tree.tree_of.Goals as goal
 
 -- what is lent of the lists is what the net starts with
@@ -51,11 +50,11 @@ returns-in-Err-Refused-clause-stands c =
     let stands : BuildFaultStands net given (fault.Refused refusal) = subst (λ (f : BuildFault). BuildFaultStands net given f) c.in-Err-Refused.field-0-is c.in-Err-Refused.ensures.stands in
     for_plan s.values (assignment s.typing) (starts_in s) c.requires.started (subst (λ (v : Starts). built.IsRefused net v refusal) same stands)
 
-pub returns-in-Err-Unbuilt-clause-stands : goal.returns-in-Err-Unbuilt-clause-stands
-returns-in-Err-Unbuilt-clause-stands c =
+pub unreachable-requires : goal.unreachable-requires
+unreachable-requires c =
     let net = c.args.net.now in
     let s = c.args.started.now in
     let given = starts_of c.deref.result.now c.deref-2.result.now c.deref-3.result.now in
     let same : given ≡ starts_in s = same-starts c.deref.result.now s.starts.items c.deref-2.result.now s.stated.items c.deref-3.result.now s.machines.items c.deref.ensures.value c.deref-2.ensures.value c.deref-3.ensures.value in
     let stands : BuildFaultStands net given fault.Unbuilt = subst (λ (f : BuildFault). BuildFaultStands net given f) c.in-Err-Unbuilt.field-0-is c.in-Err-Unbuilt.ensures.stands in
-    unbuilt-stands net s.values (assignment s.typing) (starts_in s) c.unbuilt.result c.requires.started (no-tree-unbuilt c.stated_is_lawful.ensures c.processes_are_stated.ensures net s.values (assignment s.typing) (starts_in s) c.requires.document c.requires.started (subst (λ (v : Starts). built.IsUnbuilt net v) same stands)) c.unbuilt.ensures
+    has-tree c.stated_is_lawful.ensures c.processes_are_stated.ensures net s.values (assignment s.typing) (starts_in s) c.requires.document c.requires.started (subst (λ (v : Starts). built.IsUnbuilt net v) same stands)
