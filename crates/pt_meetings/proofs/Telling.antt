@@ -1,5 +1,5 @@
 -- The lists of a tree tell what its nodes have recorded.
-use Rattle.std.proofs.Common.{◌≡◌, ℕ, List, [], ◌∷◌, ◌++◌, Bool, true, false, All, Option, Some, None, refl, sym, ap, subst, ◌∙◌}
+use Rattle.std.proofs.Common.{◌≡◌, ℕ, List, [], ◌∷◌, Bool, true, false, All, Option, Some, None, refl, sym, ap, subst, ◌∙◌}
 use Rattle.std.specs.Prelude.{bytes_eq}
 use Rattle.std.specs.List.{AllZip, AllByRecursion}
 use Rattle.std.specs.Bool.{Decides}
@@ -16,9 +16,10 @@ use Rattle.pt_node.specs.View.{Outline, outline_of, text_at}
 use Rattle.pt_trees.specs.Meetings.{TellsAt, lines_if, lines_of}
 use Rattle.pt_meeting_lines.specs.Lines.{met_in}
 use Rattle.pt_meeting_lines.proofs.Firings.{by-firing}
-use Rattle.pt_meetings.specs.Sites.{Site, IsToldAs, sites_in}
+use Rattle.pt_meetings.specs.Sites.{Site, IsToldAs, AreWrittenFor, sites_in}
 use Rattle.pt_meetings.specs.Standing.{HasOwnTexts}
-use Rattle.pt_meetings.specs.Laws.{AreListed, ListsTellMeetings}
+use Rattle.pt_meetings.specs.Laws.{ListsTellMeetings}
+use Rattle.pt_meetings.specs.Written.{AreWrittenLists}
 use Rattle.pt_meetings.proofs.SiteMeetings.{if_at, met_at, same-test, NotAt, none-at, kept-met}
 use Rattle.pt_meetings.proofs.SiteTexts.{HasText, HaveTexts, texts-in}
 use Rattle.pt_meetings.proofs.Walking.{zip-append}
@@ -77,8 +78,6 @@ lists-tell net s told st own listed =
           (at-path net (outline_of s) p n (text_at (outline_of s) p) own refl told (sites_in net.entities.items 0 s) listed texts);
     }
 
--- what a walk from the top adds to an empty list
-pub listed-by : (net held : Net) (s : Shown) (before now : List Meetings) → held ≡ net → before ≡ [] → (more : List Meetings) × (now ≡ before ++ more) × AllZip (IsToldAs held) more (sites_in held.entities.items 0 s) → AreListed net s now
-listed-by net held s before now same empty h =
-    subst (λ (n : Net). AllZip (IsToldAs n) now (sites_in n.entities.items 0 s)) same
-    (subst (λ v. AllZip (IsToldAs held) v (sites_in held.entities.items 0 s)) (sym (h.1 ∙ ap (λ v. v ++ h.0) empty)) h.2)
+-- what a walk from the top writes
+pub written-by : (net held : Net) (s : Shown) (old new : List ℕ) → held ≡ net → AreWrittenFor held (sites_in held.entities.items 0 s) old new → AreWrittenLists net s old new
+written-by net held s old new same h = (h.0, subst (λ (n : Net). AllZip (IsToldAs n) h.0 (sites_in n.entities.items 0 s)) same h.1, h.2)

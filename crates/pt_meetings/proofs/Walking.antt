@@ -1,16 +1,18 @@
 -- The loop over the children of a node, and the lists that it adds.
-use Rattle.std.proofs.Common.{◌≡◌, ℕ, zero, suc, ◌+◌, ◌<◌, ◌≤◌, max, List, [], ◌∷◌, ◌++◌, All, map, length, drop, get_or, refl, sym, ap, ap₂, subst, ◌∙◌, arith, append_assoc}
+use Rattle.std.proofs.Common.{◌≡◌, ℕ, zero, suc, ◌+◌, ◌<◌, ◌≤◌, max, List, [], ◌∷◌, ◌++◌, All, map, length, drop, get_or, refl, sym, ap, ap₂, subst, ◌∙◌, arith, append_assoc, flat_map}
 use Rattle.std.specs.List.{AllZip, AllByRecursion}
 use Rattle.std.proofs.lemmas.List.{append-nil}
+use Rattle.std.proofs.lemmas.Grind.{flat_map-append}
 use Rattle.std.proofs.lemmas.List.Elements.{All-from_recursion, recursion_from_All}
 use Rattle.pt_net.specs.declared.net.Net.{Net}
 use Rattle.pt_net.specs.declared.net.NetEntity.{NetEntity}
 use Rattle.pt_trace.specs.Report.{Meetings}
+use Rattle.pt_trace.specs.MeetingText.{meetings_text}
 use Rattle.pt_node.specs.declared.node.Node.{Node}
 use Rattle.pt_node.specs.Shown.{Shown, AllShown, shown, shown_node, all_of, none, more}
 use Rattle.pt_node.specs.View.{depth, depths, outline_of, outlines_of}
 use Rattle.pt_node.proofs.Link.{shown-node}
-use Rattle.pt_meetings.specs.Sites.{Site, CanBeTold, IsToldAs, seen_below, sites_in, sites_below}
+use Rattle.pt_meetings.specs.Sites.{Site, CanBeTold, IsToldAs, AreWrittenFor, seen_below, sites_in, sites_below}
 use Rattle.pt_meetings.specs.Standing.{StandsFor, AllStandFor}
 
 drop-more : {A : Type 0} (xs : List A) (k : ℕ) (d : A) → k < length xs → d ≡ get_or xs k d → drop k xs ≡ d ∷ drop (k + 1) xs
@@ -146,3 +148,33 @@ pub can-split : (net : Net) (xs ys : List Site) → All (CanBeTold net) (xs ++ y
 can-split net xs ys h =
     let each = recursion_from_All (CanBeTold net) (xs ++ ys) h in
     (All-from_recursion (CanBeTold net) xs (each-left (CanBeTold net) xs ys each), each-right (CanBeTold net) xs ys each)
+
+-- ---- their texts
+
+-- the lists so far, and their texts
+pub record Telling (net : Net) (numbers : List ℕ) (items : List Node) (i : ℕ) (old now : List ℕ) (all : List Site) : Type 0 where
+  pub lists : List Meetings
+  pub gathering : Gathering net numbers items i [] lists all
+  pub text : now ≡ old ++ flat_map meetings_text lists
+
+pub telling-first : (net : Net) (numbers : List ℕ) (items : List Node) (old now : List ℕ) (first : List Site) → AllStandFor net.entities.items numbers (outlines_of (all_of (map shown items))) →
+    AllByRecursion (CanBeTold net) (sites_below net.entities.items 0 numbers (all_of (map shown items))) → AreWrittenFor net first old now →
+    Telling net numbers items 0 old now (first ++ sites_below net.entities.items 0 numbers (all_of (map shown items)))
+telling-first net numbers items old now first stands can h = record {
+  lists = h.0;
+  gathering = gathering-first net numbers items [] h.0 h.0 first stands can refl h.1;
+  text = h.2;
+}
+
+pub telling-next : (net : Net) (numbers : List ℕ) (items : List Node) (i c : ℕ) (d : Node) (old now new : List ℕ) (all : List Site) → Telling net numbers items i old now all → i < length items → d ≡ get_or items i d → i < length numbers → c ≡ get_or numbers i c →
+    AreWrittenFor net (sites_in net.entities.items c (shown_node d)) now new → Telling net numbers items (i + 1) old new all
+telling-next net numbers items i c d old now new all t l e m f h = record {
+  lists = t.lists ++ h.0;
+  gathering = gathering-next net numbers items i c d [] t.lists (t.lists ++ h.0) h.0 all t.gathering l e m f refl h.1;
+  text = h.2 ∙ ap (λ v. v ++ flat_map meetings_text h.0) t.text ∙ append_assoc old (flat_map meetings_text t.lists) (flat_map meetings_text h.0) ∙ ap (λ v. old ++ v) (sym (flat_map-append meetings_text t.lists h.0));
+}
+
+pub telling-last : (net : Net) (numbers : List ℕ) (items : List Node) (i : ℕ) (old now : List ℕ) (all : List Site) → Telling net numbers items i old now all → length items ≤ i → AreWrittenFor net all old now
+telling-last net numbers items i old now all t l =
+    let h = gathering-last net numbers items i [] t.lists all t.gathering l in
+    (h.0, h.2, t.text ∙ ap (λ v. old ++ flat_map meetings_text v) h.1)

@@ -1,5 +1,6 @@
 -- The composites of a tree that record meetings, each with the number of its entity in the net and what it has recorded.
-use Rattle.std.specs.Prelude.{◌≡◌, ℕ, suc, List, [], ◌∷◌, ◌++◌, All, Option, Some, None, slice_get}
+use Rattle.std.specs.Prelude.{◌≡◌, ℕ, suc, List, [], ◌∷◌, ◌++◌, All, Option, Some, None, slice_get, flat_map}
+use Rattle.std.specs.List.{AllZip}
 use Rattle.pt_meaning.specs.Basics.{Path}
 use Rattle.pt_records.specs.Kept.{Made}
 use Rattle.pt_net.specs.declared.net.Net.{Net}
@@ -7,6 +8,7 @@ use Rattle.pt_net.specs.declared.net.NetEntity.{NetEntity}
 use Rattle.pt_net.specs.Inside.{children_of}
 use Rattle.pt_trace.specs.declared.meetings.Met.{Met}
 use Rattle.pt_trace.specs.Report.{Meetings}
+use Rattle.pt_trace.specs.MeetingText.{meetings_text}
 use Rattle.pt_node.specs.Shown.{Shown, AllShown, Branch, none, more}
 use Rattle.pt_meeting_lines.specs.Tells.{Tells}
 use Rattle.pt_meeting_lines.specs.Lines.{AreLinesOf}
@@ -44,3 +46,7 @@ CanBeTold net x = (round : NetEntity) → slice_get net.entities.items x.number 
 -- its meetings, as a report lists them
 abbrev pub IsToldAs : Net → Meetings → Site → Type 0
 IsToldAs net told x = (round : NetEntity) × (slice_get net.entities.items x.number ≡ Some round) × AreLinesOf net x.number round told x.made
+
+-- the text of a list for each of these follows
+abbrev pub AreWrittenFor : Net → List Site → (old new : List ℕ) → Type 0
+AreWrittenFor net xs old new = (told : List Meetings) × AllZip (IsToldAs net) told xs × (new ≡ old ++ flat_map meetings_text told)

@@ -6,4 +6,4 @@ mod meetings;
 mod table;
 
 pub use laws::{built_nodes_stand, lists_tell_meetings};
-pub use meetings::meetings_of;
+pub use meetings::write_meetings_of;

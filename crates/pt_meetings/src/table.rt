@@ -1,18 +1,16 @@
-ghost use Rattle.std.specs.Prelude.{◌≡◌, ◌<◌, ◌++◌, List, IfOk, OnOk, Some, All, length, slice_get};
-ghost use Rattle.std.specs.List.{AllZip};
-ghost use Rattle.pt_trace.specs.Report.{Meetings};
+ghost use Rattle.std.specs.Prelude.{◌≡◌, ◌<◌, IfOk, OnOk, Some, All, length, slice_get};
 ghost use Rattle.pt_node.specs.Shown.{shown_node};
 ghost use Rattle.pt_node.specs.View.{outline_of};
 ghost use Rattle.pt_meeting_lines.specs.Inside.{IsInsideOf};
 ghost use Rattle.pt_net.specs.Inside.{children_of};
-ghost use Rattle.pt_meetings.specs.Sites.{CanBeTold, IsToldAs, own_site, sites_in};
+ghost use Rattle.pt_meetings.specs.Sites.{CanBeTold, AreWrittenFor, own_site, sites_in};
 ghost use Rattle.pt_meetings.specs.Standing.{StandsFor};
 ghost use Rattle.pt_meetings.specs.Tables.{IsPrepared};
 
 use pt_meeting_lines::Inside;
+use pt_meeting_text::write_meetings;
 use pt_net::{Net, NetEntity};
 use pt_node::{MeetingRecord, Node};
-use pt_trace::Meetings;
 use pt_wiring::Insides;
 use pt_within::{Within, within_all, within_at};
 use std::alloc::{AllocError, Global};
@@ -78,46 +76,45 @@ impl<'a> Table<'a> {
         }
     }
 
-    /// Adds the list of a node itself, if it records meetings.
-    fn gather_own(
+    /// Writes the list of a node itself, if it records meetings.
+    fn write_own(
         &self,
         alloc: Global,
         k: usize,
         record: &MeetingRecord,
-        told: &mut Vec<Meetings>,
+        out: &mut Vec<u8>,
     ) -> Result<(), AllocError>
         requires prepared { IsPrepared self.now }
         requires there { k < length self.now.net.now.entities.items }
         requires told { All (CanBeTold self.now.net.now) (own_site k record.now) }
-        ensures { OnOk result ((more : List Meetings) × (told.new.items ≡ told.old.items ++ more) × AllZip (IsToldAs self.now.net.now) more (own_site k record.now)) }
+        ensures { OnOk result (AreWrittenFor self.now.net.now (own_site k record.now) out.old.items out.new.items) }
     {
         let Some(made) = record.as_slice() else {
             return Ok(());
         };
         let inside = self.inside(k);
-        let list = inside.meetings(alloc, made)?;
-        told.push(list)?;
+        write_meetings(alloc, &inside, made, out)?;
         Ok(())
     }
 
-    /// Adds the lists of the node of entity `k` and of all within it.
-    pub(crate) fn gather(
+    /// Writes the lists of the node of entity `k` and of all within it.
+    pub(crate) fn write(
         &self,
         alloc: Global,
         k: usize,
         node: &Node,
-        told: &mut Vec<Meetings>,
+        out: &mut Vec<u8>,
     ) -> Result<(), AllocError>
         requires prepared { IsPrepared self.now }
         requires stands { StandsFor self.now.net.now.entities.items k (outline_of (shown_node node.now)) }
         requires told { All (CanBeTold self.now.net.now) (sites_in self.now.net.now.entities.items k (shown_node node.now)) }
-        ensures { OnOk result ((more : List Meetings) × (told.new.items ≡ told.old.items ++ more) × AllZip (IsToldAs self.now.net.now) more (sites_in self.now.net.now.entities.items k (shown_node node.now))) }
+        ensures { OnOk result (AreWrittenFor self.now.net.now (sites_in self.now.net.now.entities.items k (shown_node node.now)) out.old.items out.new.items) }
     {
-        self.gather_own(alloc, k, &node.meetings, told)?;
+        self.write_own(alloc, k, &node.meetings, out)?;
         let numbers = self.children_of(k);
         for place in 0..node.children.len() {
             let child = &node.children[place];
-            self.gather(alloc, numbers[place], child, told)?;
+            self.write(alloc, numbers[place], child, out)?;
         }
         Ok(())
     }

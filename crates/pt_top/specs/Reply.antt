@@ -48,6 +48,10 @@ status_of (ended.Spent firings) = Budget
 abbrev pub report_of : Net → List Meetings → Shown → Ended → Report
 report_of net meetings top e = record { traces = told_of (recorded_ports (length net.recorded.items) top); meetings = meetings; end = end_of e }
 
+-- a report with other lists of meetings
+abbrev pub with_meetings : Report → List Meetings → Report
+with_meetings report meetings = record { traces = report.traces; meetings = meetings; end = report.end }
+
 -- what is written of a run that made so many firings and has this report: the report, or a summary of it
 abbrev pub text_in : Form → (firings : ℕ) → Report → List ℕ
 text_in form.Report firings report = report_text report

@@ -1,5 +1,9 @@
 // What is answered to a net.
-ghost use Rattle.std.specs.Prelude.{◌≡◌, ◌⊎◌, ◌<◌, ℕ, length, IfOk};
+ghost use Rattle.std.specs.Prelude.{◌≡◌, ◌⊎◌, ◌<◌, ℕ, List, [], length, flat_map, IfOk};
+ghost use Rattle.pt_trace.specs.Report.{Meetings};
+ghost use Rattle.pt_trace.specs.EndText.{end_text};
+ghost use Rattle.pt_trace.specs.MeetingText.{meetings_text};
+ghost use Rattle.pt_trace.specs.ReportText.{report_text};
 ghost use Rattle.pt_order.specs.Laws.{IsNetOfDocument};
 ghost use Rattle.pt_node.specs.Shown.{shown_node};
 ghost use Rattle.pt_trees.specs.Start.{IsRunnable};
@@ -11,12 +15,12 @@ ghost use Rattle.pt_model.specs.Model.{IsModel};
 ghost use Rattle.pt_top.specs.declared.form.Form.{Form};
 ghost use Rattle.pt_top.specs.declared.status.Status.TheVariants.{Done, Document};
 ghost use Rattle.pt_top.specs.Reply as reply;
-ghost use Rattle.pt_top.specs.Reply.{refusal_text, text_in, IsReport, AnswersNet, IsAffordableNet};
+ghost use Rattle.pt_top.specs.Reply.{refusal_text, text_in, with_meetings, IsReport, AnswersNet, IsAffordableNet};
 
 use crate::form::Form;
 use crate::status::Status;
 use pt_document::{DocFault, Refusal};
-use pt_meetings::meetings_of;
+use pt_meetings::write_meetings_of;
 use pt_model::{Model, model_of};
 use pt_net::Net;
 use pt_node::Node;
@@ -61,13 +65,45 @@ fn status_of(ended: &Ended) -> Status
     }
 }
 
-/// What is written of a run that made so many firings and has this report.
-fn told_in(alloc: Global, form: Form, report: &Report, firings: u64) -> Result<Vec<u8>, AllocError>
-    ensures { IfOk result (λ bytes. bytes.items ≡ text_in form firings report.now) }
+/// The text of how a run ended, behind all else in a report.
+fn end_of(alloc: Global, report: Report) -> Result<Vec<u8>, AllocError>
+    ensures { IfOk result (λ bytes. bytes.items ≡ end_text report.end) }
+{
+    let last = Report {
+        traces: Vec::new(alloc),
+        meetings: Vec::new(alloc),
+        end: report.end,
+    };
+    text(alloc, &last)
+}
+
+/// The text of a report with these lists of meetings, whose text stands before the end.
+fn text_with(alloc: Global, report: Report, lists: &[u8]) -> Result<Vec<u8>, AllocError>
+    requires { report.meetings ≡ [] }
+    ensures { IfOk result (λ bytes. (meetings : List Meetings) → lists.now ≡ flat_map meetings_text meetings → bytes.items ≡ report_text (with_meetings report meetings)) }
+{
+    let mut out = text(alloc, &report)?;
+    let end = end_of(alloc, report)?;
+    out.truncate(out.len() - end.len());
+    out.extend_from_slice(lists)?;
+    out.extend_from_slice(&end)?;
+    Ok(out)
+}
+
+/// What is written of a run that made so many firings and has this report with these lists of meetings.
+fn told_in(
+    alloc: Global,
+    form: Form,
+    report: Report,
+    lists: &[u8],
+    firings: u64,
+) -> Result<Vec<u8>, AllocError>
+    requires { report.meetings ≡ [] }
+    ensures { IfOk result (λ bytes. (meetings : List Meetings) → lists.now ≡ flat_map meetings_text meetings → bytes.items ≡ text_in form firings (with_meetings report meetings)) }
 {
     match form {
-        Form::Report => text(alloc, report),
-        Form::Summary => summary(alloc, report, firings),
+        Form::Report => text_with(alloc, report, lists),
+        Form::Summary => summary(alloc, &report, firings),
     }
 }
 
@@ -92,11 +128,12 @@ fn report_run(
     let ran = run(alloc, top, job, budget)?;
     let firings = ran.firings;
     let status = status_of(&ran.ended);
-    let meetings = meetings_of(alloc, net, top)?;
-    let report = report(alloc, top, meetings, ran.ended, net.recorded.len())?;
+    let mut lists = Vec::new(alloc);
+    write_meetings_of(alloc, net, top, &mut lists)?;
+    let report = report(alloc, top, Vec::new(alloc), ran.ended, net.recorded.len())?;
     Ok(Reply {
         status,
-        text: told_in(alloc, form, &report, firings)?,
+        text: told_in(alloc, form, report, &lists, firings)?,
     })
 }
 

@@ -1,4 +1,4 @@
-use Rattle.std.proofs.Common.{◌≡◌, List, ℕ, IfOk, subst, ◌∙◌}
+use Rattle.std.proofs.Common.{◌≡◌, IfOk, subst, ◌∙◌}
 use Rattle.pt_top.specs.declared.form.Form.TheVariants.{Summary}
 use Rattle.pt_top.specs.declared.status.Status.TheVariants.{Done}
 use Rattle.pt_top.specs.Outcome.{AnswersAs, IsFaultless}

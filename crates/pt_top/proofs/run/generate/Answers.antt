@@ -1,4 +1,4 @@
-use Rattle.std.proofs.Common.{◌≡◌, inl, inr, refl, ◌∙◌}
+use Rattle.std.proofs.Common.{inl, inr, refl, ◌∙◌}
 use Rattle.pt_top.specs.declared.status.Status.TheVariants.{Done, Memory}
 use Rattle.pt_top.proofs.run.generate.Goals as goal
 

@@ -1,4 +1,4 @@
-use Rattle.std.proofs.Common.{◌≡◌, inl, inr, List, [], refl, rules, map, string_bytes, subst}
+use Rattle.std.proofs.Common.{◌≡◌, inl, inr, [], refl, map, string_bytes, subst}
 use Rattle.std.specs.Io.KnownBytes.{IsAtEnd}
 use Rattle.pt_io.specs.Causes.{Rose}
 use Rattle.pt_words.specs.declared.line.Line.{Line}

@@ -1,6 +1,0 @@
-use Rattle.pt_node.specs.Shown.{shown_node}
-use Rattle.pt_meetings.proofs.Recording.{none-listed}
-use Rattle.pt_meetings.proofs.meetings.lists_of.Goals as goal
-
-pub returns-else-records_any : goal.returns-else-records_any
-returns-else-records_any c = none-listed c.args.net.now (shown_node c.args.top.now) c.new.result.items (c.records_any.ensures c.if-records_any.false) c.new.ensures.items
