@@ -18,18 +18,18 @@ EXAMPLE_NEEDS = TESTS / "examples"
 
 ROW_FILES = {
     "about", "args", "status", "stdout", "judge.py", "model.json", "make.py", "stdin", "before", "sink",
-    "needs", "until", "schema",
+    "needs", "schema",
 }
-TABLE_FIELDS = {"about", "needs", "until", "args", "status", "schema", "bases", "cases"}
+TABLE_FIELDS = {"about", "needs", "args", "status", "schema", "bases", "cases"}
 CASE_FIELDS = {
-    "name", "about", "needs", "until", "args", "status", "schema", "stdout", "either",
+    "name", "about", "needs", "args", "status", "schema", "stdout", "either",
     "document", "text", "hex", "base", "set", "drop", "made",
 }
 
 
 # What a case may need, in the order in which it is built.
 WORDS = (
-    "thin", "document", "expressions", "types", "rates", "nested", "declared", "guards", "sr", "lines", "de", "machines", "modal", "pn", "capacities", "threads", "rendezvous",
+    "document", "expressions", "types", "rates", "nested", "declared", "guards", "sr", "lines", "de", "machines", "modal", "pn", "capacities", "threads", "rendezvous",
     "generated", "several", "classes", "certificates", "wide", "giotto",
 )
 
@@ -50,7 +50,6 @@ class Case:
     outputs: list[bytes] = field(default_factory=list)
     judge: Path | None = None
     needs: set[str] = field(default_factory=set)
-    until: set[str] = field(default_factory=set)
     document: bytes = b""
     maker: Path | None = None
     made: tuple | None = None
@@ -75,10 +74,6 @@ class Case:
     def waits_for(self, built: set[str]) -> set[str]:
         """What the case needs and isn't built."""
         return self.needs - built
-
-    def is_past(self, built: set[str]) -> bool:
-        """The case spoke of what wasn't built, and now is."""
-        return bool(self.until & built)
 
 
 def words_of(path: Path) -> list[str]:
@@ -119,7 +114,6 @@ def row_case(folder: Path) -> Case:
         outputs=[(folder / name).read_bytes() for name in outputs],
         judge=folder / "judge.py" if "judge.py" in names else None,
         needs=set(words_of(folder / "needs")),
-        until=set(words_of(folder / "until")),
         document=model.read_bytes() if model.exists() else b"",
         maker=folder / "make.py" if "make.py" in names else None,
         before=[line.split() for line in words_of(folder / "before")],
@@ -215,7 +209,6 @@ def table_case(path: Path, table: dict, case: dict) -> Case:
         status=status,
         outputs=[text_of(lines) for lines in outputs],
         needs=set(table.get("needs", [])) | set(case.get("needs", [])),
-        until=set(table.get("until", [])) | set(case.get("until", [])),
         document=case_document(table, case),
         made=tuple(case["made"]) if "made" in case else None,
         schema=schema_answer(told, status),
@@ -291,5 +284,5 @@ def all_cases() -> list[Case]:
     if repeated:
         raise BadCase(f"repeated names {repeated}")
     for case in cases:
-        known(case.needs | case.until, case.name)
+        known(case.needs, case.name)
     return cases
