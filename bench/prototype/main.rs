@@ -116,10 +116,18 @@ fn document(kind: &str, size: usize) -> (Vec<Entity>, Vec<(usize, Vec<(usize, &'
             e.push(entity("each".into(), "Sampler", &[]));
             groups = vec![(0, vec![(2, "input")]), (2, vec![(3, "input")]), (1, vec![(3, "trigger")])];
         }
-        // A clock whose ticks a machine counts: in one state it gives its input, in the other nothing.
+        // A clock into a machine of two states, of which a sampler gives each 999th output.
         "machine" => {
             e.push(entity("c".into(), "DiscreteClock", &[("period", 1)]));
-            e.push(entity("m".into(), "Modal", &[]));
+            e.push(entity("t".into(), "DiscreteClock", &[("period", 999)]));
+            e.push(entity("m".into(), "Turning", &[]));
+            e.push(entity("out".into(), "Sampler", &[]));
+            groups = vec![(0, vec![(2, "input")]), (2, vec![(3, "input")]), (1, vec![(3, "trigger")])];
+        }
+        // A clock whose ticks a machine counts: in one state it gives its input, in the other nothing.
+        "states" => {
+            e.push(entity("c".into(), "DiscreteClock", &[("period", 1)]));
+            e.push(entity("m".into(), "Counting", &[]));
             e.push(entity("out".into(), "Scale", &[]));
             groups = vec![(0, vec![(1, "input")]), (1, vec![(2, "input")])];
         }
@@ -409,29 +417,14 @@ fn rstd_box(e: Expr) -> crate::rstd::Box<Expr> {
     crate::rstd::Box::new(GLOBAL, e).ok().unwrap()
 }
 
-/// Two states without refinements: `n` counts ticks, up to three in each.
-fn machine() -> Body {
+/// A machine of one input, one output and one Variable, without refinements.
+fn machine(modes: [[Transition; 2]; 2]) -> Body {
     let types = |names: &[&str]| PortTypes::of(row(names.iter().map(|n| (text(n), Ty::Int))));
-    let stays = |gives: bool, target: u32| Transition {
-        guard: binary(BinaryOp::Less, name("n"), Expr::Int(3)),
-        outputs: row(gives.then(|| Action { target: 0, value: binary(BinaryOp::Add, name("n"), name("input")) })),
-        sets: row([Action { target: 0, value: binary(BinaryOp::Add, name("n"), Expr::Int(1)) }]),
-        target,
-        history: true,
-    };
-    let moves = |target: u32| Transition {
-        guard: binary(BinaryOp::GreaterEqual, name("n"), Expr::Int(3)),
-        outputs: row([Action { target: 0, value: name("n") }]),
-        sets: row([Action { target: 0, value: Expr::Int(0) }]),
-        target,
-        history: true,
-    };
-    let mode = |gives: bool, here: u32| Mode { refinement: None, preemptive: row([]), others: row([stays(gives, here), moves(1 - here)]) };
     let written = Written {
         names: Names { inputs: types(&["input"]), outputs: types(&["output"]), variables: types(&["n"]), parameters: Values::of(row([])) },
         values: row([Token::Int(0)]),
         initial: 0,
-        modes: row([mode(true, 0), mode(false, 1)]),
+        modes: row(modes.map(|others| Mode { refinement: None, preemptive: row([]), others: row(others) })),
         ports: row([]),
     };
     let chart = Chart::new(GLOBAL, written).ok().unwrap().unwrap();
@@ -439,9 +432,39 @@ fn machine() -> Body {
     Body::Composite(directors::modal(crate::pt_modal::Core::new(GLOBAL, plan).ok().unwrap()))
 }
 
+fn transition(guard: Expr, gives: Option<Expr>, sets: Expr, target: u32) -> Transition {
+    let action = |value| Action { target: 0, value };
+    Transition { guard, outputs: row(gives.map(action)), sets: row([action(sets)]), target, history: true }
+}
+
+/// Two states: `n` counts ticks, up to three in each.
+fn counting() -> [[Transition; 2]; 2] {
+    let number = |op, n| binary(op, name("n"), Expr::Int(n));
+    [0, 1].map(|here| {
+        let gives = (here == 0).then(|| binary(BinaryOp::Add, name("n"), name("input")));
+        let stays = transition(number(BinaryOp::Less, 3), gives, number(BinaryOp::Add, 1), here);
+        [stays, transition(number(BinaryOp::GreaterEqual, 3), Some(name("n")), Expr::Int(0), 1 - here)]
+    })
+}
+
+/// Two states that are entered by turns: `n` counts reactions, and is given as it is or as its negative.
+fn turning() -> [[Transition; 2]; 2] {
+    let reads = |op| binary(op, name("input"), Expr::Int(1));
+    let more = || binary(BinaryOp::Add, name("n"), Expr::Int(1));
+    [0, 1].map(|here| {
+        let gives = if here == 0 { name("n") } else { Expr::Negate(rstd_box(name("n"))) };
+        [
+            transition(reads(BinaryOp::Equal), Some(gives), more(), 1 - here),
+            transition(reads(BinaryOp::Greater), Some(Expr::Int(0)), more(), here),
+        ]
+    })
+}
+
 fn node_of(e: &Entity, recorded: bool) -> Node {
-    let (body, children) = if e.class == "Modal" {
-        (machine(), Row::new(GLOBAL))
+    let (body, children) = if e.class == "Counting" {
+        (machine(counting()), Row::new(GLOBAL))
+    } else if e.class == "Turning" {
+        (machine(turning()), Row::new(GLOBAL))
     } else if e.class == "Composite" {
         scale_within(e)
     } else {
@@ -537,7 +560,7 @@ pub fn build(kind: &str, size: usize, iterations: u64, by: &str) -> (Node, usize
 
 /// Whether a model is under DE.
 fn is_timed(kind: &str) -> bool {
-    ["clocks", "server", "spread", "machine"].contains(&kind)
+    ["clocks", "server", "spread", "machine", "states"].contains(&kind)
 }
 
 /// Whether a model is under PN.
@@ -713,7 +736,7 @@ pub extern "C" fn proto_main() {
         _ if is_network(kind) || kind == "meetings" => fire_once(&mut top),
         "clocks" => run_until(&mut top, 2 * iterations - 1),
         "server" => run_until(&mut top, size as u64 * iterations - 1),
-        "spread" | "machine" => run_until(&mut top, iterations - 1),
+        "spread" | "machine" | "states" => run_until(&mut top, iterations - 1),
         _ => {
             run(&mut top, iterations);
             (firings as u64 + 1) * iterations
