@@ -364,16 +364,6 @@ def first_too_many(job: Job) -> tuple[Value | None, str]:
     return None, ""
 
 
-def _unbuilt(job: Job, path: str, finding: Finding) -> None:
-    for entity in job.top.walk():
-        if entity.director_name not in ("", "SDF"):
-            finding.marks = [entity.path]
-            finding.points_to((entity.director or entity).at("class"))
-            finding.says(f"{entity.director_name} may be what isn't built yet: docs/FORMAT.md lists it under 'Not built yet'.")
-            return
-    finding.says("docs/FORMAT.md lists under 'Not built yet' what this program doesn't run.")
-
-
 _TELLERS: dict[int, Callable[[Job, str, Finding], None]] = {
     11: _shape,
     12: _name,
@@ -394,5 +384,4 @@ _TELLERS: dict[int, Callable[[Job, str, Finding], None]] = {
     27: _inputs,
     28: _limit,
     29: _value,
-    40: _unbuilt,
 }

@@ -1,7 +1,7 @@
 -- The numbers and names of refusals.
 use Rattle.std.specs.Prelude.{ℕ, List, codes}
 use Rattle.pt_document.specs.declared.code.Code.{Code}
-use Rattle.pt_document.specs.declared.code.Code.TheVariants.{Json, Shape, Name, Class, Parameter, Link, TwoSources, ExprSyntax, ExprName, «Type», Place, Rates, SdfDeadlock, ZeroDelayLoop, Timed, States, Record, Inputs, Limit, Value, Unbuilt}
+use Rattle.pt_document.specs.declared.code.Code.TheVariants.{Json, Shape, Name, Class, Parameter, Link, TwoSources, ExprSyntax, ExprName, «Type», Place, Rates, SdfDeadlock, ZeroDelayLoop, Timed, States, Record, Inputs, Limit, Value}
 
 -- the number under which a refusal is printed
 abbrev pub code_number : Code → ℕ
@@ -25,7 +25,6 @@ code_number Record = 26
 code_number Inputs = 27
 code_number Limit = 28
 code_number Value = 29
-code_number Unbuilt = 40
 
 -- the name under which a refusal is printed
 abbrev pub code_name : Code → List ℕ
@@ -49,4 +48,3 @@ code_name Record = codes "Record"
 code_name Inputs = codes "Inputs"
 code_name Limit = codes "Limit"
 code_name Value = codes "Value"
-code_name Unbuilt = codes "Unbuilt"

@@ -24,7 +24,6 @@ pub enum Code {
     Inputs,
     Limit,
     Value,
-    Unbuilt,
 }
 
 impl Code {
@@ -53,7 +52,6 @@ impl Code {
             Code::Inputs => 27,
             Code::Limit => 28,
             Code::Value => 29,
-            Code::Unbuilt => 40,
         }
     }
 
@@ -82,7 +80,6 @@ impl Code {
             Code::Inputs => "Inputs",
             Code::Limit => "Limit",
             Code::Value => "Value",
-            Code::Unbuilt => "Unbuilt",
         }
     }
 }
