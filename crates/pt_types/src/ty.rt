@@ -104,7 +104,13 @@ impl Ty {
     pub fn is_proper(&self) -> bool
         ensures { result ≡ is_proper (written self.now) }
     {
-        self.is_plain() && self.depth() <= DEEPEST && self.node_count() <= MOST_NODES
+        match self {
+            Ty::Unknown | Ty::Int | Ty::Boolean | Ty::Words => true,
+            Ty::General => false,
+            Ty::Array(_) | Ty::Record(_) => {
+                self.is_plain() && self.depth() <= DEEPEST && self.node_count() <= MOST_NODES
+            }
+        }
     }
 
     /// The type that it stands for. It takes no memory.
