@@ -2,7 +2,7 @@ ghost use Rattle.std.specs.Prelude.{◌≡◌, IfOk, IfErr, map};
 ghost use Rattle.pt_meaning.specs.Start.{first_held};
 ghost use Rattle.pt_core.specs.Source.{source_of};
 ghost use Rattle.pt_sdf.specs.Lawful.{IsLawful};
-ghost use Rattle.pt_sdf.specs.Plan.{plan_of};
+ghost use Rattle.pt_sdf.specs.Plan.{plan_of, order_of};
 ghost use Rattle.pt_sdf.specs.State.{started};
 ghost use Rattle.pt_library.specs.LibraryActor.{rows};
 ghost use Rattle.pt_node.specs.Shown.{shown, shown_node};
@@ -49,7 +49,7 @@ pub(crate) fn sdf_composite(
 
 /// The core of a plan, whose channels hold the first tokens of the children that feed them.
 fn core_of(alloc: Global, children: &[Node], plan: CorePlan) -> Result<Core, AllocError>
-    requires { IsLawful (plan_of plan) plan.needs plan.order.items plan.room (first_held rows (trees_of (map shown children.now)) (map source_of plan.sources.items)) }
+    requires { IsLawful (plan_of plan) plan.needs (order_of plan) plan.room (first_held rows (trees_of (map shown children.now)) (map source_of plan.sources.items)) }
     ensures { IfOk result (λ core. core ≡ started (plan_of plan) plan.needs (first_held rows (trees_of (map shown children.now)) (map source_of plan.sources.items))) }
 {
     match first_tokens(alloc, children, &plan.sources) {

@@ -2,9 +2,10 @@ ghost use Rattle.std.specs.Prelude.{◌≡◌, ◌+◌, ◌≤◌, ◌++◌, All
 ghost use Rattle.pt_rates.specs.Balance.{IsRepetitionVector, tokens_on};
 ghost use Rattle.pt_sched.specs.Runs.{IsSchedule, AreGreatestLengths};
 ghost use Rattle.pt_sched.specs.Channels.{IsSchedEdge};
+ghost use Rattle.pt_sched.specs.Stretches.{spread};
 ghost use Rattle.pt_sched.specs.declared.edge.SchedEdge.{SchedEdge};
 ghost use Rattle.pt_sdf.specs.Lawful.{IsLawful};
-ghost use Rattle.pt_sdf.specs.Plan.{plan_of};
+ghost use Rattle.pt_sdf.specs.Plan.{plan_of, order_of};
 ghost use Rattle.pt_value.specs.declared.token.Token.{Token};
 ghost use Rattle.pt_plan.specs.Channels.{nodes_of, channels_of, edges_of, is_between, between};
 ghost use Rattle.pt_plan.specs.Fault.{FaultStands, of_rates, of_sched};
@@ -22,7 +23,7 @@ use crate::unfed::add_unfed;
 use pt_core::Source;
 use pt_firing::Counts;
 use pt_rates::{Edge, RatesFault, solve};
-use pt_sched::{Plan, SchedEdge, SchedFault, schedule};
+use pt_sched::{Plan, SchedEdge, SchedFault, Stretch, schedule};
 use pt_sdf::CorePlan;
 use std::alloc::{AllocError, Global};
 use thiserror::Error;
@@ -89,9 +90,9 @@ pub fn plan(alloc: Global, inside: Inside) -> Result<CorePlan, PlanFault>
     ensures plan { IfOk result (λ p. IsPlanOf inside (plan_of p)) }
     ensures limits { IfOk result (λ p. IsWithinLimits inside (plan_of p)) }
     ensures needs { IfOk result (λ p. p.needs ≡ inside.needs) }
-    ensures order { IfOk result (λ p. IsSchedule (between inside) p.repetitions p.order.items) }
-    ensures room { IfOk result (λ p. AreRooms inside p.order.items (repetitions_of (plan_of p)) p.room) }
-    ensures lawful { IfOk result (λ p. (first : List (List Token)) → map (λ (tokens : List Token). length tokens) first ≡ first_of inside → IsLawful (plan_of p) p.needs p.order.items p.room first) }
+    ensures order { IfOk result (λ p. IsSchedule (between inside) p.repetitions (order_of p)) }
+    ensures room { IfOk result (λ p. AreRooms inside (order_of p) (repetitions_of (plan_of p)) p.room) }
+    ensures lawful { IfOk result (λ p. (first : List (List Token)) → map (λ (tokens : List Token). length tokens) first ≡ first_of inside → IsLawful (plan_of p) p.needs (order_of p) p.room first) }
     ensures err { IfErr result (FaultStands inside) }
 {
     match iteration_of(alloc, &inside) {
@@ -140,7 +141,7 @@ struct PlanChannels {
 #[derive(Drop)]
 struct Iteration {
     counts: IterationCounts,
-    order: Vec<u32>,
+    order: Vec<Stretch>,
     channels: PlanChannels,
 }
 
@@ -149,9 +150,9 @@ fn iteration_of(alloc: Global, inside: &Inside) -> Result<Iteration, PlanFault>
     requires { IsInside inside.now }
     ensures plan { IfOk result (λ made. IsPlanOf inside.now (planned inside.now made)) }
     ensures limits { IfOk result (λ made. IsWithinLimits inside.now (planned inside.now made)) }
-    ensures order { IfOk result (λ made. IsSchedule (between inside.now) made.counts.repetitions made.order.items) }
+    ensures order { IfOk result (λ made. IsSchedule (between inside.now) made.counts.repetitions (spread made.order.items)) }
     ensures sources { IfOk result (λ made. made.channels.sources.items ≡ sources_of inside.now) }
-    ensures room { IfOk result (λ made. AreRooms inside.now made.order.items (repetitions_of (planned inside.now made)) made.channels.room) }
+    ensures room { IfOk result (λ made. AreRooms inside.now (spread made.order.items) (repetitions_of (planned inside.now made)) made.channels.room) }
     ensures err { IfErr result (FaultStands inside.now) }
 {
     let nodes = count_nodes(inside)?;
@@ -259,8 +260,8 @@ fn scheduled(
     requires nodes { nodes_of inside.now ≤ 1000000 }
     requires least { IsRepetitionVector (nodes_of inside.now) (edges_of inside.now) q.now }
     requires sum { sum q.now ≤ 1000000 }
-    ensures order { IfOk result (λ plan. IsSchedule (between inside.now) (take (length inside.now.places) q.now) plan.order.items) }
-    ensures lengths { IfOk result (λ plan. AreGreatestLengths (between inside.now) plan.order.items plan.lengths.items) }
+    ensures order { IfOk result (λ plan. IsSchedule (between inside.now) (take (length inside.now.places) q.now) (spread plan.order.items)) }
+    ensures lengths { IfOk result (λ plan. AreGreatestLengths (between inside.now) (spread plan.order.items) plan.lengths.items) }
     ensures err { IfErr result (FaultStands inside.now) }
 {
     let children = inside.places.len();

@@ -2,6 +2,8 @@ pub mod Confluence
 pub mod Counts
 pub mod Ends
 pub mod Greatest
+pub mod Lasting
 pub mod Lengthening
 pub mod Listing
+pub mod Spreading
 pub mod Steps

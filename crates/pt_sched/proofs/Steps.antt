@@ -1,17 +1,17 @@
--- The tests of a child, and the run after it fires.
-use Rattle.std.proofs.Common.{◌≡◌, ℕ, zero, suc, ◌+◌, ◌<◌, ◌≤◌, inl, inr, List, [], ◌∷◌, ◌++◌, length, get_or, set, sum, replicate, true, false, refl, sym, ap, subst, ◌∙◌, arith}
+-- The tests of a child, and the run after it fires some times.
+use Rattle.std.proofs.Common.{◌≡◌, ℕ, zero, suc, ◌+◌, ◌*◌, ◌<◌, ◌≤◌, inl, inr, List, [], ◌∷◌, ◌++◌, length, get_or, set, sum, replicate, true, false, refl, sym, ap, subst, ◌∙◌, arith}
 use Rattle.std.proofs.lemmas.Bool.{cases_eq, cases_lt, false≢true}
-use Rattle.std.proofs.lemmas.List.{get_or-set_same, get_or-set_other, get_or_default, get_or_past, get_or-replicate, length-replicate}
+use Rattle.std.proofs.lemmas.List.{append-nil, length-set, get_or-set_same, get_or-set_other, get_or_default, get_or_past, get_or-replicate, length-replicate}
 use Rattle.std.proofs.lemmas.List.Elements.{Contains-get_or}
 use Rattle.std.proofs.lemmas.List.Sums.{get_or-le-sum_by}
 use Rattle.pt_sched.specs.Channels.{AreSmall}
 use Rattle.pt_sched.specs.Lists.{AreAt}
-use Rattle.pt_sched.specs.Next.{IsReady}
+use Rattle.pt_sched.specs.Next.{IsReady, IsReadyFor, HasTokensFor}
 use Rattle.pt_sched.specs.Runs.{firings, put_on, taken_from, HasTokens, IsRun, at_first, fires, IsSchedule, IsStuck, AreGreatestLengths}
 use Rattle.pt_sched.specs.State.{IsCounted, left}
 use Rattle.pt_sched.specs.declared.edge.SchedEdge.{SchedEdge}
 use Rattle.pt_sched.specs.declared.lists.Side.TheVariants.{End}
-use Rattle.pt_sched.proofs.Counts.{firings-push_same, firings-push_other, run-bounded}
+use Rattle.pt_sched.proofs.Counts.{firings-push_same, firings-push_le, put_on-le, one-first, firings-times_same, firings-times_other, run-bounded}
 use Rattle.pt_sched.proofs.Greatest.{greatest-start}
 use Rattle.pt_sched.proofs.Listing.{no_channel}
 
@@ -41,12 +41,12 @@ module _ (channels : List SchedEdge) (fired : ℕ → ℕ) (child : ℕ) (number
       let o = at.only (get_or numbers index 0) (Contains-get_or numbers index 0 inside) in
       omega (arith, less, tokens (get_or numbers index 0) no_channel o.0 (o.1 no_channel))
 
--- the numbers of firings after one more
-module _ (order fired : List ℕ) (child : ℕ) (same : (other : ℕ) → get_or fired other 0 ≡ firings order other) (inside : child < length fired) where
-  pub fired-more : (other : ℕ) → get_or (set fired child (get_or fired child 0 + 1)) other 0 ≡ firings (order ++ child ∷ []) other
+-- the numbers of firings after some more of a child
+module _ (order fired : List ℕ) (child times : ℕ) (same : (other : ℕ) → get_or fired other 0 ≡ firings order other) (inside : child < length fired) where
+  pub fired-more : (other : ℕ) → get_or (set fired child (get_or fired child 0 + times)) other 0 ≡ firings (order ++ replicate times child) other
   fired-more other = elim (cases_eq child other) [
-    | inl e ↦ subst (λ o. get_or (set fired child (get_or fired child 0 + 1)) o 0 ≡ firings (order ++ child ∷ []) o) e (get_or-set_same fired child (get_or fired child 0 + 1) 0 inside ∙ ap (λ n. n + 1) (same child) ∙ sym (firings-push_same order child child refl))
-    | inr d ↦ get_or-set_other fired child other (get_or fired child 0 + 1) 0 (λ e. d (sym e)) ∙ same other ∙ sym (firings-push_other order child other d)
+    | inl e ↦ subst (λ o. get_or (set fired child (get_or fired child 0 + times)) o 0 ≡ firings (order ++ replicate times child) o) e (get_or-set_same fired child (get_or fired child 0 + times) 0 inside ∙ ap (λ n. n + times) (same child) ∙ sym (firings-times_same order child child times refl))
+    | inr d ↦ get_or-set_other fired child other (get_or fired child 0 + times) 0 (λ e. d (sym e)) ∙ same other ∙ sym (firings-times_other order child other times d)
   ]
 
 -- the counts of a run within the limit
@@ -60,10 +60,22 @@ small-run channels q order fired small run same child =
       | inr past ↦ omega (arith, get_or_past q child 0 past)
     ]
 
--- a child that is ready by the counts may fire next
-pub run-more : (channels : List SchedEdge) (q order fired : List ℕ) (child : ℕ) → IsRun channels q order → ((other : ℕ) → get_or fired other 0 ≡ firings order other) → IsReady channels q (λ other. get_or fired other 0) child → IsRun channels q (order ++ child ∷ [])
-run-more channels q order fired child run same ready =
-    fires order child run (omega (arith, same child, ready.0)) (subst (λ f. HasTokens channels f child) (λ i other. same other i) ready.1)
+-- a child that has the tokens of so many firings may make them next
+pub run-times : (channels : List SchedEdge) (q order : List ℕ) (child times : ℕ) → IsRun channels q order → firings order child + times ≤ get_or q child 0 → HasTokensFor channels (firings order) child times → IsRun channels q (order ++ replicate times child)
+run-times channels q order child zero run lacking tokens = subst (IsRun channels q) (sym (append-nil order)) run
+run-times channels q order child (suc times) run lacking tokens =
+    subst (IsRun channels q) (one-first order child times) (run-times channels q (order ++ child ∷ []) child times (fires order child run (omega (arith, lacking)) (λ k d short to. omega (arith, tokens k d short to))) (omega (arith, lacking, firings-push_same order child child refl)) later)
+  where
+    later : HasTokensFor channels (firings (order ++ child ∷ [])) child times
+    later k d short to =
+        let channel : SchedEdge = get_or channels k d in
+        let put : put_on channel (firings order) ≤ put_on channel (firings (order ++ child ∷ [])) = put_on-le channel (firings order) (firings (order ++ child ∷ [])) (firings-push_le order child channel.edge.from) in
+        omega (arith, put, tokens k d short to, ap (λ n. n * channel.edge.consumed) (firings-push_same order child channel.edge.to (sym to)))
+
+-- and so may one that has them by the counts
+pub run-more : (channels : List SchedEdge) (q order fired : List ℕ) (child times : ℕ) → IsRun channels q order → ((other : ℕ) → get_or fired other 0 ≡ firings order other) → IsReadyFor channels q (λ other. get_or fired other 0) child times → IsRun channels q (order ++ replicate times child)
+run-more channels q order fired child times run same ready =
+    run-times channels q order child times run (omega (arith, same child, ready.lacking)) (subst (λ f. HasTokensFor channels f child times) (λ i other. same other i) ready.tokens)
 
 -- a child with firings left is one of those that q counts
 pub lacking-inside : (q : List ℕ) (child n : ℕ) → n < get_or q child 0 → child < length q
@@ -72,6 +84,26 @@ lacking-inside q child n less = elim (cases_lt child (length q)) [
   | inr past ↦ absurd (omega (arith, less, get_or_past q child 0 past))
 ]
 
+-- it makes no more than q says
+pub few-times : (q : List ℕ) (child fired times : ℕ) → sum q ≤ 1000000 → fired + times ≤ get_or q child 0 → fired + times ≤ 1000000
+few-times q child fired times small lacking = elim (cases_lt child (length q)) [
+  | inl inside ↦ omega (arith, lacking, get_or-le-sum_by (λ x. x) q child 0 inside)
+  | inr past ↦ omega (arith, lacking, get_or_past q child 0 past)
+]
+
+-- so the counts stay within the limit
+pub small-times : (q fired : List ℕ) (child times : ℕ) → sum q ≤ 1000000 → AreSmall fired → get_or fired child 0 + times ≤ get_or q child 0 → AreSmall (set fired child (get_or fired child 0 + times))
+small-times q fired child times cap small lacking other = elim (cases_eq child other) [
+  | inl e ↦ subst (λ o. get_or (set fired child (get_or fired child 0 + times)) o 0 ≤ 1000000) e here
+  | inr d ↦ omega (arith, get_or-set_other fired child other (get_or fired child 0 + times) 0 (λ e. d (sym e)), small other)
+]
+  where
+    here : get_or (set fired child (get_or fired child 0 + times)) child 0 ≤ 1000000
+    here = elim (cases_lt child (length fired)) [
+      | inl inside ↦ omega (arith, get_or-set_same fired child (get_or fired child 0 + times) 0 inside, few-times q child (get_or fired child 0) times cap lacking)
+      | inr past ↦ omega (arith, get_or_past (set fired child (get_or fired child 0 + times)) child 0 (omega (arith, past, length-set fired child (get_or fired child 0 + times))))
+    ]
+
 -- before the first firing
 pub none-fired : (n child : ℕ) → get_or (replicate n 0) child 0 ≡ firings [] child
 none-fired n child = elim (cases_lt child n) [
@@ -79,12 +111,12 @@ none-fired n child = elim (cases_lt child n) [
   | inr past ↦ get_or_past (replicate n 0) child 0 (omega (arith, length-replicate {A = ℕ} n 0)) ∙ (let none : 0 ≡ firings [] child = omega arith in none)
 ]
 
--- a firing takes one from what is left
-pub left-fired : (q fired : List ℕ) (child : ℕ) → length fired ≡ length q → get_or fired child 0 < get_or q child 0 → left q (set fired child (get_or fired child 0 + 1)) < left q fired
-left-fired [] fired child e h = absurd (omega arith)
-left-fired (m ∷ q) [] child e h = absurd (omega (arith, e))
-left-fired (m ∷ q) (k ∷ fired) zero e h = omega (arith, h)
-left-fired (m ∷ q) (k ∷ fired) (suc child) e h = omega (arith, left-fired q fired child (omega (arith, e)) h)
+-- firings take their number from what is left
+pub left-fired : (q fired : List ℕ) (child times : ℕ) → length fired ≡ length q → 0 < times → get_or fired child 0 + times ≤ get_or q child 0 → left q (set fired child (get_or fired child 0 + times)) < left q fired
+left-fired [] fired child times e some h = absurd (omega arith)
+left-fired (m ∷ q) [] child times e some h = absurd (omega (arith, e))
+left-fired (m ∷ q) (k ∷ fired) zero times e some h = omega (arith, some, h)
+left-fired (m ∷ q) (k ∷ fired) (suc child) times e some h = omega (arith, left-fired q fired child times (omega (arith, e)) some h)
 
 -- no child lacks firings
 pub complete : (channels : List SchedEdge) (q order fired : List ℕ) → IsRun channels q order → ((other : ℕ) → get_or fired other 0 ≡ firings order other) → ((child : ℕ) → get_or q child 0 ≤ get_or fired child 0) → IsSchedule channels q order
@@ -113,13 +145,13 @@ held-start channels q order fired lengths n none zeros counted many first = (
   }),
 )
 
--- the run after a firing
-pub held-fired : (channels : List SchedEdge) (q order order' fired fired' lengths' : List ℕ) (child : ℕ) → sum q ≤ 1000000 → IsRun channels q order → IsCounted fired order → length fired ≡ length q → IsReady channels q (λ other. get_or fired other 0) child → order' ≡ order ++ child ∷ [] → IsCounted fired' (order ++ child ∷ []) → length fired' ≡ length fired → AreGreatestLengths channels (order ++ child ∷ []) lengths' → IsRun channels q order' × (length fired' ≡ length q) × IsCounted fired' order' × AreSmall fired' × AreGreatestLengths channels order' lengths'
-held-fired channels q order order' fired fired' lengths' child small run same counted ready longer more long greatest =
-    let next : IsRun channels q (order ++ child ∷ []) = run-more channels q order fired child run same ready in (
+-- the run after some firings
+pub held-fired : (channels : List SchedEdge) (q order order' fired fired' lengths' : List ℕ) (child times : ℕ) → sum q ≤ 1000000 → IsRun channels q order → IsCounted fired order → length fired ≡ length q → IsReadyFor channels q (λ other. get_or fired other 0) child times → order' ≡ order ++ replicate times child → IsCounted fired' (order ++ replicate times child) → length fired' ≡ length fired → AreGreatestLengths channels (order ++ replicate times child) lengths' → IsRun channels q order' × (length fired' ≡ length q) × IsCounted fired' order' × AreSmall fired' × AreGreatestLengths channels order' lengths'
+held-fired channels q order order' fired fired' lengths' child times small run same counted ready longer more long greatest =
+    let next : IsRun channels q (order ++ replicate times child) = run-more channels q order fired child times run same ready in (
       subst (IsRun channels q) (sym longer) next,
       long ∙ counted,
       subst (IsCounted fired') (sym longer) more,
-      small-run channels q (order ++ child ∷ []) fired' small next more,
+      small-run channels q (order ++ replicate times child) fired' small next more,
       subst (λ o. AreGreatestLengths channels o lengths') (sym longer) greatest,
     )

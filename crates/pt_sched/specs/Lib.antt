@@ -5,3 +5,4 @@ pub mod Next
 pub mod Plan
 pub mod Runs
 pub mod State
+pub mod Stretches

@@ -38,7 +38,7 @@ impl Hints {
         Ok(hints)
     }
 
-    /// After a firing: the child itself, and before it those that it gave the last tokens that they lacked.
+    /// After firings of a child: the child itself, and before it those that it gave the last tokens that they lacked.
     pub(crate) fn fired(
         &mut self,
         channels: &[SchedEdge],

@@ -1,18 +1,20 @@
-ghost use Rattle.std.specs.Prelude.{◌≡◌, ℕ, ◌+◌, ◌<◌, ◌≤◌, ◌++◌, ◌∷◌, [], All, IfOk, List, OnOk, length, slice_index, slice_set, sum};
+ghost use Rattle.std.specs.Prelude.{◌≡◌, ℕ, ◌+◌, ◌<◌, ◌≤◌, ◌++◌, All, IfOk, List, OnOk, length, replicate, slice_index, slice_set, sum};
 ghost use Rattle.pt_sched.specs.Channels.{IsSchedEdge, AreSmall};
 ghost use Rattle.pt_sched.specs.Lists.{AreAt};
-ghost use Rattle.pt_sched.specs.Next.{IsReady};
+ghost use Rattle.pt_sched.specs.Next.{IsReadyFor};
 ghost use Rattle.pt_sched.specs.Runs.{AreGreatestLengths};
 ghost use Rattle.pt_sched.specs.State.{IsHeld, IsCounted};
+ghost use Rattle.pt_sched.specs.Stretches.{spread};
 ghost use Rattle.pt_sched.specs.declared.lists.Side.TheVariants.{Start};
 
 use crate::edge::{SchedEdge, tokens};
+use crate::stretch::Stretch;
 use std::alloc::{AllocError, Global};
 
 /// A run: its order, how often each child fired in it, and the greatest length of each channel.
 #[derive(Drop)]
 pub(crate) struct Run {
-    pub(crate) order: Vec<u32>,
+    pub(crate) order: Vec<Stretch>,
     pub(crate) fired: Vec<u64>,
     pub(crate) lengths: Vec<u64>,
 }
@@ -34,37 +36,39 @@ impl Run {
         })
     }
 
-    /// Fires a child that has its tokens. `outs` are the channels that begin at it.
+    /// Fires a child that has its tokens so many times. `outs` are the channels that begin at it.
     pub(crate) fn fire(
         &mut self,
         channels: &[SchedEdge],
         q: &[u64],
         outs: &[usize],
         child: u32,
+        times: u64,
     ) -> Result<(), AllocError>
         requires channels { All (IsSchedEdge (length q.now)) channels.now }
         requires q { sum q.now ≤ 1000000 }
         requires held { IsHeld channels.now q.now self.old }
         requires outs { AreAt Start channels.now child outs.now }
-        requires ready { IsReady channels.now q.now (slice_index self.old.fired.items) child }
+        requires ready { IsReadyFor channels.now q.now (slice_index self.old.fired.items) child times }
         ensures held { OnOk result (IsHeld channels.now q.now self.new) }
-        ensures order { OnOk result (self.new.order.items ≡ self.old.order.items ++ child ∷ []) }
-        ensures fired { OnOk result (self.new.fired.items ≡ slice_set self.old.fired.items child (slice_index self.old.fired.items child + 1)) }
+        ensures order { OnOk result (spread self.new.order.items ≡ spread self.old.order.items ++ replicate times child) }
+        ensures fired { OnOk result (self.new.fired.items ≡ slice_set self.old.fired.items child (slice_index self.old.fired.items child + times)) }
     {
-        self.order.push(child)?;
-        self.fired[child as usize] += 1;
+        let again = (times - 1) as u32;
+        self.order.push(Stretch { child, again })?;
+        self.fired[child as usize] += times;
         raise(channels, outs, &self.fired, &mut self.lengths);
         Ok(())
     }
 }
 
-/// Raises the greatest lengths of these channels, which are all that begin at a child, after the child has fired.
+/// Raises the greatest lengths of these channels, which are all that begin at a child, after the child has fired some times.
 fn raise(channels: &[SchedEdge], outs: &[usize], fired: &[u64], lengths: &mut [u64])
     requires channels { All (IsSchedEdge (length fired.now)) channels.now }
     requires small { AreSmall fired.now }
     requires inside { All (λ number. number < length channels.now) outs.now }
     requires counted { length lengths.old ≡ length channels.now }
-    ensures { (order : List ℕ) (child : ℕ) → IsCounted fired.now (order ++ child ∷ []) → AreAt Start channels.now child outs.now → AreGreatestLengths channels.now order lengths.old → AreGreatestLengths channels.now (order ++ child ∷ []) lengths.new }
+    ensures { (order : List ℕ) (child times : ℕ) → IsCounted fired.now (order ++ replicate times child) → AreAt Start channels.now child outs.now → AreGreatestLengths channels.now order lengths.old → AreGreatestLengths channels.now (order ++ replicate times child) lengths.new }
 {
     for number in outs {
         let most = lengths[*number];

@@ -251,17 +251,18 @@ rooms-made p needs rooms child e r i k h b z =
     let c : ℕ = place_of p.net.places i + k in
     subst (λ j. HasRoom (get_or needs j 0) (get_or rooms j None)) (zero-add c) (r c (omega (arith, part-fits p.net.places i h, b, e)))
 
-pub copy-sound : (p p' : SdfPlan) (needs needs' order order' room room' offsets offsets' : List ℕ) (feeds feeds' : List (Vec Feed Global)) (first first' held held' : Streams Token) (rooms rooms' : List (Option (Vec Token Global))) (lent lent' : Streams Token) (staged staged' : List Token) (turns left place : ℕ) (stage : declared.Stage) →
+pub copy-sound : (p p' : SdfPlan) (needs needs' order order' room room' offsets offsets' : List ℕ) (feeds feeds' : List (Vec Feed Global)) (first first' held held' : Streams Token) (rooms rooms' : List (Option (Vec Token Global))) (lent lent' : Streams Token) (staged staged' : List Token) (turns left place place' : ℕ) (stage : declared.Stage) →
     Sound p needs order room offsets feeds first held rooms lent staged turns left place stage → p' ≡ p → needs' ≡ needs → order' ≡ order → room' ≡ room → offsets' ≡ begins 0 p'.net.places → AreFeeds (length p'.net.places) p'.net.sources feeds' → first' ≡ first → held' ≡ held →
-    length rooms' ≡ length needs' → HaveRooms needs' rooms' 0 (length needs') → lent' ≡ lent → staged' ≡ [] → Sound p' needs' order' room' offsets' feeds' first' held' rooms' lent' staged' turns left place stage
-copy-sound p p' needs needs' order order' room room' offsets offsets' feeds feeds' first first' held held' rooms rooms' lent lent' staged staged' turns left place stage s e n o r b f a d c h l g =
-    subst (λ v. Sound v needs' order' room' offsets' feeds' first' held' rooms' lent' staged' turns left place stage) (sym e)
-    (subst (λ v. Sound p v order' room' offsets' feeds' first' held' rooms' lent' staged' turns left place stage) (sym n)
-    (subst (λ v. Sound p needs v room' offsets' feeds' first' held' rooms' lent' staged' turns left place stage) (sym o)
-    (subst (λ v. Sound p needs order v offsets' feeds' first' held' rooms' lent' staged' turns left place stage) (sym r)
-    (subst (λ v. Sound p needs order room offsets' feeds' v held' rooms' lent' staged' turns left place stage) (sym a)
-    (subst (λ v. Sound p needs order room offsets' feeds' first v rooms' lent' staged' turns left place stage) (sym d)
-    (subst (λ v. Sound p needs order room offsets' feeds' first held rooms' v staged' turns left place stage) (sym l)
+    length rooms' ≡ length needs' → HaveRooms needs' rooms' 0 (length needs') → lent' ≡ lent → staged' ≡ [] → place' ≡ place → Sound p' needs' order' room' offsets' feeds' first' held' rooms' lent' staged' turns left place' stage
+copy-sound p p' needs needs' order order' room room' offsets offsets' feeds feeds' first first' held held' rooms rooms' lent lent' staged staged' turns left place place' stage s e n o r b f a d c h l g z =
+    subst (λ v. Sound v needs' order' room' offsets' feeds' first' held' rooms' lent' staged' turns left place' stage) (sym e)
+    (subst (λ v. Sound p v order' room' offsets' feeds' first' held' rooms' lent' staged' turns left place' stage) (sym n)
+    (subst (λ v. Sound p needs v room' offsets' feeds' first' held' rooms' lent' staged' turns left place' stage) (sym o)
+    (subst (λ v. Sound p needs order v offsets' feeds' first' held' rooms' lent' staged' turns left place' stage) (sym r)
+    (subst (λ v. Sound p needs order room offsets' feeds' v held' rooms' lent' staged' turns left place' stage) (sym a)
+    (subst (λ v. Sound p needs order room offsets' feeds' first v rooms' lent' staged' turns left place' stage) (sym d)
+    (subst (λ v. Sound p needs order room offsets' feeds' first held rooms' v staged' turns left place' stage) (sym l)
+    (subst (λ v. Sound p needs order room offsets' feeds' first held rooms' lent staged' turns left v stage) (sym z)
     (record {
       lawful = s.lawful;
       places_begin = b ∙ ap (λ (v : SdfPlan). begins 0 v.net.places) e;
@@ -273,7 +274,7 @@ copy-sound p p' needs needs' order order' room room' offsets offsets' feeds feed
       roomy = rooms-made p needs rooms' (busy stage) s.lawful.needed (subst (λ v. HaveRooms v rooms' 0 (length v)) n h);
       lists = s.lists;
       none_staged = g;
-    })))))))
+    }))))))))
 
 pub copy-state : (p p' : SdfPlan) (needs needs' order order' : List ℕ) (first first' held held' lent lent' : Streams Token) (turns left place : ℕ) (tag : Tag) (stage : declared.Stage) → p' ≡ p → needs' ≡ needs → order' ≡ order → first' ≡ first → held' ≡ held → lent' ≡ lent →
     state_of p' needs' order' first' held' lent' turns left place tag stage ≡ state_of p needs order first held lent turns left place tag stage

@@ -20,7 +20,8 @@ use Rattle.pt_sdf.specs.Plan.{plan_of}
 use Rattle.pt_core.specs.Source.{source_of}
 use Rattle.pt_sdf.specs.Feeds.{target_of, put_back, allowed_by, AreThere, AreApart, MovesOnce}
 use Rattle.pt_sdf.specs.Rooms.{HasRoom, HaveRooms}
-use Rattle.pt_sdf.specs.Core.{stage_of, state_of, state_in, with_asked, seen_in, left_at_first, place_behind, busy, Sound, IsSound}
+use Rattle.pt_sdf.specs.Core.{stage_of, state_of, state_in, with_asked, seen_in, left_at_first, busy, Sound, IsSound, order_in, at_in}
+use Rattle.pt_sdf.specs.Stretches.{place_behind}
 use Rattle.pt_sdf.proofs.Lists.{read-at, at-is, skip-long}
 use Rattle.pt_sdf.proofs.NeedLaws.{part-fits}
 use Rattle.pt_sdf.proofs.SoundLaws.{child-there, offset-is, total-fits, enough, may-fire, ask-sound, asked-alone, stage-open, stage-idle, stage-closed, stage-asked, told-there, told-firings, told-sound, told-kept, wrong-sound}
@@ -30,7 +31,7 @@ use Rattle.pt_sdf.proofs.UnfedLaws.{counts_of, all-left}
 -- the same core, by its parts at another stage
 abbrev pub SoundAt : Inside → declared.Stage → Type 0
 SoundAt i stage =
-    Sound (plan_of i.plan) i.plan.needs i.plan.order.items i.plan.room i.tables.offsets.items i.tables.feeds.items i.first.lists i.channels.lists i.rooms.items i.lent.items i.staged.list i.turns i.left i.at stage
+    Sound (plan_of i.plan) i.plan.needs (order_in i) i.plan.room i.tables.offsets.items i.tables.feeds.items i.first.lists i.channels.lists i.rooms.items i.lent.items i.staged.list i.turns i.left (at_in i) stage
 
 -- the stage by what contracts see
 pub is-open : (i : Inside) (v : State) → seen_in i ≡ v → v.stage ≡ Open → i.stage ≡ code.Open
@@ -62,24 +63,24 @@ seen-restarted i = by i.stage (state_in i)
     by code.Closed s = refl
 
 -- a child is asked for
-module _ (i : Inside) (s : IsSound i) (g : i.stage ≡ code.Open) (l : 0 < i.left) (child : ℕ) (e : child ≡ get_or i.plan.order.items i.at child) where
+module _ (i : Inside) (s : IsSound i) (g : i.stage ≡ code.Open) (l : 0 < i.left) (child : ℕ) (e : child ≡ get_or (order_in i) (at_in i) child) where
   opened : SoundAt i code.Open
   opened = subst (λ v. SoundAt i v) g s
 
-  next : get_or i.plan.order.items i.at 0 ≡ child
-  next = sym (read-at i.plan.order.items i.at child 0 (s.position.within l) e)
+  next : get_or (order_in i) (at_in i) 0 ≡ child
+  next = sym (read-at (order_in i) (at_in i) child 0 (s.position.within l) e)
 
   pub asked-there : child < length i.plan.places
   asked-there =
-      child-there (plan_of i.plan) i.plan.needs i.plan.order.items i.plan.room i.tables.offsets.items i.tables.feeds.items i.first.lists i.channels.lists i.rooms.items i.lent.items i.staged.list i.turns i.left i.at i.stage s child l next
+      child-there (plan_of i.plan) i.plan.needs (order_in i) i.plan.room i.tables.offsets.items i.tables.feeds.items i.first.lists i.channels.lists i.rooms.items i.lent.items i.staged.list i.turns i.left (at_in i) i.stage s child l next
 
   module _ (o n : ℕ) (f : o ≡ get_or i.tables.offsets.items child o) (m : n ≡ get_or i.plan.places child 0) where
     asked-place : o ≡ place_of i.plan.places child
-    asked-place = offset-is (plan_of i.plan) i.plan.needs i.plan.order.items i.plan.room i.tables.offsets.items i.tables.feeds.items i.first.lists i.channels.lists i.rooms.items i.lent.items i.staged.list i.turns i.left i.at i.stage s child o asked-there f
+    asked-place = offset-is (plan_of i.plan) i.plan.needs (order_in i) i.plan.room i.tables.offsets.items i.tables.feeds.items i.first.lists i.channels.lists i.rooms.items i.lent.items i.staged.list i.turns i.left (at_in i) i.stage s child o asked-there f
 
     pub asked-fits : (o + n ≤ length i.channels.lists) × (o + n ≤ length i.plan.needs) × (o + n ≤ length i.rooms.items)
     asked-fits =
-        let t = total-fits (plan_of i.plan) i.plan.needs i.plan.order.items i.plan.room i.tables.offsets.items i.tables.feeds.items i.first.lists i.channels.lists i.rooms.items i.lent.items i.staged.list i.turns i.left i.at i.stage s child asked-there in
+        let t = total-fits (plan_of i.plan) i.plan.needs (order_in i) i.plan.room i.tables.offsets.items i.tables.feeds.items i.first.lists i.channels.lists i.rooms.items i.lent.items i.staged.list i.turns i.left (at_in i) i.stage s child asked-there in
         (omega (arith, t.0, asked-place, m), omega (arith, t.1, asked-place, m), omega (arith, t.2, asked-place, m))
 
     pub asked-lists : o + n ≤ length i.lent.items
@@ -89,7 +90,7 @@ module _ (i : Inside) (s : IsSound i) (g : i.stage ≡ code.Open) (l : 0 < i.lef
     asked-enough k h =
         subst (λ v. get_or i.plan.needs (v + k) 0 ≤ length (get_or i.channels.lists (v + k) [])) (sym asked-place)
         (subst (λ v. get_or i.plan.needs (place_of i.plan.places child + k) 0 ≤ length v) (at-is i.channels.lists (place_of i.plan.places child + k))
-        (enough (plan_of i.plan) i.plan.needs i.plan.order.items i.plan.room i.tables.offsets.items i.tables.feeds.items i.first.lists i.channels.lists i.rooms.items i.lent.items i.staged.list i.turns i.left i.at i.stage s child l next (ap busy g) k (subst (λ v. k < v) m h)))
+        (enough (plan_of i.plan) i.plan.needs (order_in i) i.plan.room i.tables.offsets.items i.tables.feeds.items i.first.lists i.channels.lists i.rooms.items i.lent.items i.staged.list i.turns i.left (at_in i) i.stage s child l next (ap busy g) k (subst (λ v. k < v) m h)))
 
     pub asked-rooms : HaveRooms i.plan.needs i.rooms.items o n
     asked-rooms k h =
@@ -98,59 +99,59 @@ module _ (i : Inside) (s : IsSound i) (g : i.stage ≡ code.Open) (l : 0 < i.lef
 
     module _ (held' lent' : Streams Token) (rooms' : List (Option (Vec Token Global))) (a : held' ≡ skip_at o (take n (drop o i.plan.needs)) i.channels.lists) where
       pub asked-sound : ((c : ℕ) → (c < o) ⊎ (o + n ≤ c) ⊎ (get_or i.plan.needs c 0 ≤ 1) → get_or rooms' c None ≡ get_or i.rooms.items c None) → length rooms' ≡ length i.rooms.items → length lent' ≡ length i.lent.items →
-          Sound (plan_of i.plan) i.plan.needs i.plan.order.items i.plan.room i.tables.offsets.items i.tables.feeds.items i.first.lists held' rooms' lent' i.staged.list i.turns i.left i.at (code.Handed child)
+          Sound (plan_of i.plan) i.plan.needs (order_in i) i.plan.room i.tables.offsets.items i.tables.feeds.items i.first.lists held' rooms' lent' i.staged.list i.turns i.left (at_in i) (code.Handed child)
       asked-sound b r q =
-          ask-sound (plan_of i.plan) i.plan.needs i.plan.order.items i.plan.room i.tables.offsets.items i.tables.feeds.items i.first.lists i.channels.lists i.rooms.items i.lent.items i.staged.list i.turns i.left i.at child opened l next held' rooms' lent'
+          ask-sound (plan_of i.plan) i.plan.needs (order_in i) i.plan.room i.tables.offsets.items i.tables.feeds.items i.first.lists i.channels.lists i.rooms.items i.lent.items i.staged.list i.turns i.left (at_in i) child opened l next held' rooms' lent'
           (a ∙ ap₂ (λ x y. skip_at x (take y (drop x i.plan.needs)) i.channels.lists) asked-place m)
           (subst (λ v. (c : ℕ) → (c < v) ⊎ (v + get_or i.plan.places child 0 ≤ c) ⊎ (get_or i.plan.needs c 0 ≤ 1) → get_or rooms' c None ≡ get_or i.rooms.items c None) asked-place (subst (λ v. (c : ℕ) → (c < o) ⊎ (o + v ≤ c) ⊎ (get_or i.plan.needs c 0 ≤ 1) → get_or rooms' c None ≡ get_or i.rooms.items c None) m b)) r q
 
       pub asked-state : take n (drop o lent') ≡ firsts (take n (drop o i.plan.needs)) (take n (drop o i.channels.lists)) →
-          state_of (plan_of i.plan) i.plan.needs i.plan.order.items i.first.lists held' lent' i.turns i.left i.at i.tag (code.Handed child) ≡ handed (asked child (state_in i))
-      asked-state b = ask-state (plan_of i.plan) i.plan.needs i.plan.order.items i.first.lists i.channels.lists held' i.lent.items lent' i.turns i.left i.at child o n i.tag i.stage asked-place m b a
+          state_of (plan_of i.plan) i.plan.needs (order_in i) i.first.lists held' lent' i.turns i.left (at_in i) i.tag (code.Handed child) ≡ handed (asked child (state_in i))
+      asked-state b = ask-state (plan_of i.plan) i.plan.needs (order_in i) i.first.lists i.channels.lists held' i.lent.items lent' i.turns i.left (at_in i) child o n i.tag i.stage asked-place m b a
 
   pub asked-allowed : Allows (state_in i) child
   asked-allowed =
-      may-fire (plan_of i.plan) i.plan.needs i.plan.order.items i.plan.room i.tables.offsets.items i.tables.feeds.items i.first.lists i.channels.lists i.rooms.items i.lent.items i.staged.list i.turns i.left i.at i.stage s child l next i.tag (ap busy g)
+      may-fire (plan_of i.plan) i.plan.needs (order_in i) i.plan.room i.tables.offsets.items i.tables.feeds.items i.first.lists i.channels.lists i.rooms.items i.lent.items i.staged.list i.turns i.left (at_in i) i.stage s child l next i.tag (ap busy g)
 
   -- it takes nothing yet
   pub ask-alone : SoundAt i (code.Asked child)
-  ask-alone = asked-alone (plan_of i.plan) i.plan.needs i.plan.order.items i.plan.room i.tables.offsets.items i.tables.feeds.items i.first.lists i.channels.lists i.rooms.items i.lent.items i.staged.list i.turns i.left i.at child opened l next
+  ask-alone = asked-alone (plan_of i.plan) i.plan.needs (order_in i) i.plan.room i.tables.offsets.items i.tables.feeds.items i.first.lists i.channels.lists i.rooms.items i.lent.items i.staged.list i.turns i.left (at_in i) child opened l next
 
 -- the end of a firing
 pub enough-fired : (i : Inside) (s : IsSound i) → i.left ≡ 0 → IsEnough (state_in i)
-enough-fired i s e = whole-fired (plan_of i.plan) i.plan.needs i.plan.order.items i.plan.room i.tables.offsets.items i.tables.feeds.items i.first.lists i.channels.lists i.rooms.items i.lent.items i.staged.list i.turns i.left i.at i.stage s e
+enough-fired i s e = whole-fired (plan_of i.plan) i.plan.needs (order_in i) i.plan.room i.tables.offsets.items i.tables.feeds.items i.first.lists i.channels.lists i.rooms.items i.lent.items i.staged.list i.turns i.left (at_in i) i.stage s e
 
 -- a firing of the composite begins
 module _ (i : Inside) (s : IsSound i) (row : Vec Feed Global) (e : row ≡ get_or i.tables.feeds.items (length i.plan.places) row) where
   pub begin-there : (inputs : Streams Token) → length inputs ≡ length i.plan.takes → AreThere (length i.channels.lists) (length inputs) row.items
   begin-there inputs l =
-      row-there (plan_of i.plan) i.plan.needs i.plan.order.items i.plan.room i.tables.offsets.items i.tables.feeds.items i.first.lists i.channels.lists i.rooms.items i.lent.items i.staged.list i.turns i.left i.at i.stage s (length i.plan.places) row (omega arith) e (length inputs)
-      (own-ports (plan_of i.plan) i.plan.needs i.plan.order.items i.plan.room i.tables.offsets.items i.tables.feeds.items i.first.lists i.channels.lists i.rooms.items i.lent.items i.staged.list i.turns i.left i.at i.stage s inputs l)
+      row-there (plan_of i.plan) i.plan.needs (order_in i) i.plan.room i.tables.offsets.items i.tables.feeds.items i.first.lists i.channels.lists i.rooms.items i.lent.items i.staged.list i.turns i.left (at_in i) i.stage s (length i.plan.places) row (omega arith) e (length inputs)
+      (own-ports (plan_of i.plan) i.plan.needs (order_in i) i.plan.room i.tables.offsets.items i.tables.feeds.items i.first.lists i.channels.lists i.rooms.items i.lent.items i.staged.list i.turns i.left (at_in i) i.stage s inputs l)
 
   pub begin-apart : AreApart row.items
-  begin-apart = row-apart (plan_of i.plan) i.plan.needs i.plan.order.items i.plan.room i.tables.offsets.items i.tables.feeds.items i.first.lists i.channels.lists i.rooms.items i.lent.items i.staged.list i.turns i.left i.at i.stage s (length i.plan.places) row (omega arith) e
+  begin-apart = row-apart (plan_of i.plan) i.plan.needs (order_in i) i.plan.room i.tables.offsets.items i.tables.feeds.items i.first.lists i.channels.lists i.rooms.items i.lent.items i.staged.list i.turns i.left (at_in i) i.stage s (length i.plan.places) row (omega arith) e
 
   pub begin-moves : MovesOnce row.items
-  begin-moves = row-moves (plan_of i.plan) i.plan.needs i.plan.order.items i.plan.room i.tables.offsets.items i.tables.feeds.items i.first.lists i.channels.lists i.rooms.items i.lent.items i.staged.list i.turns i.left i.at i.stage s (length i.plan.places) row (omega arith) e
+  begin-moves = row-moves (plan_of i.plan) i.plan.needs (order_in i) i.plan.room i.tables.offsets.items i.tables.feeds.items i.first.lists i.channels.lists i.rooms.items i.lent.items i.staged.list i.turns i.left (at_in i) i.stage s (length i.plan.places) row (omega arith) e
 
   module _ (inputs held' : Streams Token) (d : held' ≡ put_back (map target_of row.items) inputs i.channels.lists) where
     arrives : held' ≡ arrived (map source_of i.plan.sources.items) inputs i.channels.lists
-    arrives = own-arrives (plan_of i.plan) i.plan.needs i.plan.order.items i.plan.room i.tables.offsets.items i.tables.feeds.items i.first.lists i.channels.lists i.rooms.items i.lent.items i.staged.list i.turns i.left i.at i.stage s row inputs held' e d
+    arrives = own-arrives (plan_of i.plan) i.plan.needs (order_in i) i.plan.room i.tables.offsets.items i.tables.feeds.items i.first.lists i.channels.lists i.rooms.items i.lent.items i.staged.list i.turns i.left (at_in i) i.stage s row inputs held' e d
 
     pub begin-long : length held' ≡ length i.channels.lists
     begin-long = ap (λ v. length v) arrives ∙ arrived-long (map source_of i.plan.sources.items) inputs i.channels.lists
 
-    module _ (g : i.stage ≡ code.Idle) (turns left : ℕ) (t : turns ≡ or_one (allowed_by i.plan.takes (map target_of row.items) held')) (l : left ≡ left_at_first i.plan.order.items turns) where
+    module _ (g : i.stage ≡ code.Idle) (turns left : ℕ) (t : turns ≡ or_one (allowed_by i.plan.takes (map target_of row.items) held')) (l : left ≡ left_at_first (order_in i) turns) where
       turns-are : turns ≡ iterations (plan_of i.plan) held'
-      turns-are = own-turns (plan_of i.plan) i.plan.needs i.plan.order.items i.plan.room i.tables.offsets.items i.tables.feeds.items i.first.lists i.channels.lists i.rooms.items i.lent.items i.staged.list i.turns i.left i.at i.stage s row turns held' e begin-long t
+      turns-are = own-turns (plan_of i.plan) i.plan.needs (order_in i) i.plan.room i.tables.offsets.items i.tables.feeds.items i.first.lists i.channels.lists i.rooms.items i.lent.items i.staged.list i.turns i.left (at_in i) i.stage s row turns held' e begin-long t
 
-      pub begun-sound : (staged : List Token) → staged ≡ [] → Sound (plan_of i.plan) i.plan.needs i.plan.order.items i.plan.room i.tables.offsets.items i.tables.feeds.items i.first.lists held' i.rooms.items i.lent.items staged turns left 0 code.Open
+      pub begun-sound : (staged : List Token) → staged ≡ [] → Sound (plan_of i.plan) i.plan.needs (order_in i) i.plan.room i.tables.offsets.items i.tables.feeds.items i.first.lists held' i.rooms.items i.lent.items staged turns left 0 code.Open
       begun-sound staged n =
-          begin-sound (plan_of i.plan) i.plan.needs i.plan.order.items i.plan.room i.tables.offsets.items i.tables.feeds.items i.first.lists i.channels.lists i.rooms.items i.lent.items i.staged.list i.turns i.left i.at i.stage s g inputs held' turns left arrives turns-are l staged n
+          begin-sound (plan_of i.plan) i.plan.needs (order_in i) i.plan.room i.tables.offsets.items i.tables.feeds.items i.first.lists i.channels.lists i.rooms.items i.lent.items i.staged.list i.turns i.left (at_in i) i.stage s g inputs held' turns left arrives turns-are l staged n
 
-      pub begun-state : (tag : Tag) → state_of (plan_of i.plan) i.plan.needs i.plan.order.items i.first.lists held' i.lent.items turns left 0 tag code.Open ≡ begun tag inputs (state_in i)
+      pub begun-state : (tag : Tag) → state_of (plan_of i.plan) i.plan.needs (order_in i) i.first.lists held' i.lent.items turns left 0 tag code.Open ≡ begun tag inputs (state_in i)
       begun-state tag =
-          begin-state (plan_of i.plan) i.plan.needs i.plan.order.items i.plan.room i.tables.offsets.items i.tables.feeds.items i.first.lists i.channels.lists i.rooms.items i.lent.items i.staged.list i.turns i.left i.at i.stage s g inputs held' turns left arrives turns-are l i.tag tag
+          begin-state (plan_of i.plan) i.plan.needs (order_in i) i.plan.room i.tables.offsets.items i.tables.feeds.items i.first.lists i.channels.lists i.rooms.items i.lent.items i.staged.list i.turns i.left (at_in i) i.stage s g inputs held' turns left arrives turns-are l i.tag tag
 
 -- the own outputs are handed out, and then what the iterations took from own inputs that feed nothing is gone
 module _ (i : Inside) (s : IsSound i) (from : ℕ) (given : Streams Token) (d : given ≡ skip_at from (times i.turns i.plan.gives) i.channels.lists) where
@@ -167,13 +168,13 @@ module _ (i : Inside) (s : IsSound i) (from : ℕ) (given : Streams Token) (d : 
         all-left (plan_of i.plan) s.lawful.channels i.turns i.channels.lists given s.counted (d ∙ ap (λ v. skip_at v (times i.turns i.plan.gives) i.channels.lists) o) left
         (e ∙ ap (λ v. skip_at (v + length i.plan.gives) (times i.turns (counts_of i.plan.takes i.plan.sources.items (v + length i.plan.gives))) given) o)
 
-    pub finished-sound : Sound (plan_of i.plan) i.plan.needs i.plan.order.items i.plan.room i.tables.offsets.items i.tables.feeds.items i.first.lists left i.rooms.items i.lent.items i.staged.list i.turns i.left i.at code.Idle
+    pub finished-sound : Sound (plan_of i.plan) i.plan.needs (order_in i) i.plan.room i.tables.offsets.items i.tables.feeds.items i.first.lists left i.rooms.items i.lent.items i.staged.list i.turns i.left (at_in i) code.Idle
     finished-sound =
-        finish-sound (plan_of i.plan) i.plan.needs i.plan.order.items i.plan.room i.tables.offsets.items i.tables.feeds.items i.first.lists i.channels.lists i.rooms.items i.lent.items i.staged.list i.turns i.left i.at i.stage s g left left-of-all
+        finish-sound (plan_of i.plan) i.plan.needs (order_in i) i.plan.room i.tables.offsets.items i.tables.feeds.items i.first.lists i.channels.lists i.rooms.items i.lent.items i.staged.list i.turns i.left (at_in i) i.stage s g left left-of-all
 
-    pub finished-state : state_of (plan_of i.plan) i.plan.needs i.plan.order.items i.first.lists left i.lent.items i.turns i.left i.at i.tag code.Idle ≡ closed (state_in i)
+    pub finished-state : state_of (plan_of i.plan) i.plan.needs (order_in i) i.first.lists left i.lent.items i.turns i.left (at_in i) i.tag code.Idle ≡ closed (state_in i)
     finished-state =
-        finish-state (plan_of i.plan) i.plan.needs i.plan.order.items i.plan.room i.tables.offsets.items i.tables.feeds.items i.first.lists i.channels.lists i.rooms.items i.lent.items i.staged.list i.turns i.left i.at i.stage s g left left-of-all i.tag
+        finish-state (plan_of i.plan) i.plan.needs (order_in i) i.plan.room i.tables.offsets.items i.tables.feeds.items i.first.lists i.channels.lists i.rooms.items i.lent.items i.staged.list i.turns i.left (at_in i) i.stage s g left left-of-all i.tag
 
 -- a child was told
 module _ (i : Inside) (s : IsSound i) (child : ℕ) (g : i.stage ≡ code.Handed child) where
@@ -181,33 +182,33 @@ module _ (i : Inside) (s : IsSound i) (child : ℕ) (g : i.stage ≡ code.Handed
   told = subst (λ v. SoundAt i v) g s
 
   pub told-child : child < length i.plan.places
-  told-child = told-there (plan_of i.plan) i.plan.needs i.plan.order.items i.plan.room i.tables.offsets.items i.tables.feeds.items i.first.lists i.channels.lists i.rooms.items i.lent.items i.staged.list i.turns i.left i.at child told
+  told-child = told-there (plan_of i.plan) i.plan.needs (order_in i) i.plan.room i.tables.offsets.items i.tables.feeds.items i.first.lists i.channels.lists i.rooms.items i.lent.items i.staged.list i.turns i.left (at_in i) child told
 
   pub told-left : 0 < i.left
   told-left = told.position.fits.0
 
-  pub told-within : i.at < length i.plan.order.items
+  pub told-within : (at_in i) < length (order_in i)
   told-within = told.position.within told.position.fits.0
 
   pub told-wrong : SoundAt i (code.Wrong child)
-  told-wrong = wrong-sound (plan_of i.plan) i.plan.needs i.plan.order.items i.plan.room i.tables.offsets.items i.tables.feeds.items i.first.lists i.channels.lists i.rooms.items i.lent.items i.staged.list i.turns i.left i.at child told
+  told-wrong = wrong-sound (plan_of i.plan) i.plan.needs (order_in i) i.plan.room i.tables.offsets.items i.tables.feeds.items i.first.lists i.channels.lists i.rooms.items i.lent.items i.staged.list i.turns i.left (at_in i) child told
 
-  pub wrongly-told : (out : Streams Token) → has_rates (get_or i.plan.rates.items child []) out ≡ false → state_of (plan_of i.plan) i.plan.needs i.plan.order.items i.first.lists i.channels.lists i.lent.items i.turns i.left i.at i.tag (code.Wrong child) ≡ after_told child out (state_in i)
-  wrongly-told out r = wrong-state (plan_of i.plan) i.plan.needs i.plan.order.items i.first.lists i.channels.lists i.lent.items i.turns i.left i.at child i.tag i.stage out r
+  pub wrongly-told : (out : Streams Token) → has_rates (get_or i.plan.rates.items child []) out ≡ false → state_of (plan_of i.plan) i.plan.needs (order_in i) i.first.lists i.channels.lists i.lent.items i.turns i.left (at_in i) i.tag (code.Wrong child) ≡ after_told child out (state_in i)
+  wrongly-told out r = wrong-state (plan_of i.plan) i.plan.needs (order_in i) i.first.lists i.channels.lists i.lent.items i.turns i.left (at_in i) child i.tag i.stage out r
 
   pub told-keeps : (held' : Streams Token) (rooms' : List (Option (Vec Token Global))) (staged' : List Token) → held' ≡ i.channels.lists → staged' ≡ [] → length rooms' ≡ length i.rooms.items → ((c : ℕ) → HasRoom (get_or i.plan.needs c 0) (get_or i.rooms.items c None) → HasRoom (get_or i.plan.needs c 0) (get_or rooms' c None)) →
-      Sound (plan_of i.plan) i.plan.needs i.plan.order.items i.plan.room i.tables.offsets.items i.tables.feeds.items i.first.lists held' rooms' i.lent.items staged' i.turns i.left i.at i.stage
+      Sound (plan_of i.plan) i.plan.needs (order_in i) i.plan.room i.tables.offsets.items i.tables.feeds.items i.first.lists held' rooms' i.lent.items staged' i.turns i.left (at_in i) i.stage
   told-keeps held' rooms' staged' d m n k =
-      subst (λ v. Sound (plan_of i.plan) i.plan.needs i.plan.order.items i.plan.room i.tables.offsets.items i.tables.feeds.items i.first.lists held' rooms' i.lent.items staged' i.turns i.left i.at v) (sym g)
-      (told-kept (plan_of i.plan) i.plan.needs i.plan.order.items i.plan.room i.tables.offsets.items i.tables.feeds.items i.first.lists i.channels.lists i.rooms.items i.lent.items i.staged.list i.turns i.left i.at child told rooms' staged' held' d m n k)
+      subst (λ v. Sound (plan_of i.plan) i.plan.needs (order_in i) i.plan.room i.tables.offsets.items i.tables.feeds.items i.first.lists held' rooms' i.lent.items staged' i.turns i.left (at_in i) v) (sym g)
+      (told-kept (plan_of i.plan) i.plan.needs (order_in i) i.plan.room i.tables.offsets.items i.tables.feeds.items i.first.lists i.channels.lists i.rooms.items i.lent.items i.staged.list i.turns i.left (at_in i) child told rooms' staged' held' d m n k)
 
   module _ (o n : ℕ) (f : o ≡ get_or i.tables.offsets.items child o) (m : n ≡ get_or i.plan.places child 0) where
     pub told-place : o ≡ place_of i.plan.places child
-    told-place = offset-is (plan_of i.plan) i.plan.needs i.plan.order.items i.plan.room i.tables.offsets.items i.tables.feeds.items i.first.lists i.channels.lists i.rooms.items i.lent.items i.staged.list i.turns i.left i.at i.stage s child o told-child f
+    told-place = offset-is (plan_of i.plan) i.plan.needs (order_in i) i.plan.room i.tables.offsets.items i.tables.feeds.items i.first.lists i.channels.lists i.rooms.items i.lent.items i.staged.list i.turns i.left (at_in i) i.stage s child o told-child f
 
     pub told-fits : (o + n ≤ length i.plan.needs) × (o + n ≤ length i.rooms.items)
     told-fits =
-        let t = total-fits (plan_of i.plan) i.plan.needs i.plan.order.items i.plan.room i.tables.offsets.items i.tables.feeds.items i.first.lists i.channels.lists i.rooms.items i.lent.items i.staged.list i.turns i.left i.at i.stage s child told-child in
+        let t = total-fits (plan_of i.plan) i.plan.needs (order_in i) i.plan.room i.tables.offsets.items i.tables.feeds.items i.first.lists i.channels.lists i.rooms.items i.lent.items i.staged.list i.turns i.left (at_in i) i.stage s child told-child in
         (omega (arith, t.1, told-place, m), omega (arith, t.2, told-place, m))
 
     pub told-lists : o + n ≤ length i.lent.items
@@ -225,28 +226,28 @@ module _ (i : Inside) (s : IsSound i) (child : ℕ) (g : i.stage ≡ code.Handed
 
     pub told-into : AreThere (length i.channels.lists) (length out) row.items
     told-into =
-        row-there (plan_of i.plan) i.plan.needs i.plan.order.items i.plan.room i.tables.offsets.items i.tables.feeds.items i.first.lists i.channels.lists i.rooms.items i.lent.items i.staged.list i.turns i.left i.at i.stage s child row child-fits e (length out)
-        (child-ports (plan_of i.plan) i.plan.needs i.plan.order.items i.plan.room i.tables.offsets.items i.tables.feeds.items i.first.lists i.channels.lists i.rooms.items i.lent.items i.staged.list i.turns i.left i.at i.stage s child out told-child r)
+        row-there (plan_of i.plan) i.plan.needs (order_in i) i.plan.room i.tables.offsets.items i.tables.feeds.items i.first.lists i.channels.lists i.rooms.items i.lent.items i.staged.list i.turns i.left (at_in i) i.stage s child row child-fits e (length out)
+        (child-ports (plan_of i.plan) i.plan.needs (order_in i) i.plan.room i.tables.offsets.items i.tables.feeds.items i.first.lists i.channels.lists i.rooms.items i.lent.items i.staged.list i.turns i.left (at_in i) i.stage s child out told-child r)
 
     pub told-apart : AreApart row.items
-    told-apart = row-apart (plan_of i.plan) i.plan.needs i.plan.order.items i.plan.room i.tables.offsets.items i.tables.feeds.items i.first.lists i.channels.lists i.rooms.items i.lent.items i.staged.list i.turns i.left i.at i.stage s child row child-fits e
+    told-apart = row-apart (plan_of i.plan) i.plan.needs (order_in i) i.plan.room i.tables.offsets.items i.tables.feeds.items i.first.lists i.channels.lists i.rooms.items i.lent.items i.staged.list i.turns i.left (at_in i) i.stage s child row child-fits e
 
     pub told-moves : MovesOnce row.items
-    told-moves = row-moves (plan_of i.plan) i.plan.needs i.plan.order.items i.plan.room i.tables.offsets.items i.tables.feeds.items i.first.lists i.channels.lists i.rooms.items i.lent.items i.staged.list i.turns i.left i.at i.stage s child row child-fits e
+    told-moves = row-moves (plan_of i.plan) i.plan.needs (order_in i) i.plan.room i.tables.offsets.items i.tables.feeds.items i.first.lists i.channels.lists i.rooms.items i.lent.items i.staged.list i.turns i.left (at_in i) i.stage s child row child-fits e
 
-    module _ (held' : Streams Token) (d : held' ≡ put_back (map target_of row.items) out i.channels.lists) (next : ℕ × ℕ) (t : next ≡ place_behind (nat_eq (i.at + 1) (length i.plan.order.items)) i.left i.at) where
+    module _ (held' : Streams Token) (d : held' ≡ put_back (map target_of row.items) out i.channels.lists) (next : ℕ × ℕ) (t : next ≡ place_behind (nat_eq ((at_in i) + 1) (length (order_in i))) i.left (at_in i)) where
       puts-are : held' ≡ plus i.channels.lists (puts child out (map source_of i.plan.sources.items))
-      puts-are = child-puts (plan_of i.plan) i.plan.needs i.plan.order.items i.plan.room i.tables.offsets.items i.tables.feeds.items i.first.lists i.channels.lists i.rooms.items i.lent.items i.staged.list i.turns i.left i.at i.stage s child row out held' told-child e d
+      puts-are = child-puts (plan_of i.plan) i.plan.needs (order_in i) i.plan.room i.tables.offsets.items i.tables.feeds.items i.first.lists i.channels.lists i.rooms.items i.lent.items i.staged.list i.turns i.left (at_in i) i.stage s child row out held' told-child e d
 
       pub told-goes-on : (rooms' : List (Option (Vec Token Global))) (staged' : List Token) → staged' ≡ [] → length rooms' ≡ length i.rooms.items → ((c : ℕ) → HasRoom (get_or i.plan.needs c 0) (get_or i.rooms.items c None) → HasRoom (get_or i.plan.needs c 0) (get_or rooms' c None)) → HaveRooms i.plan.needs rooms' (place_of i.plan.places child) (get_or i.plan.places child 0) →
-          Sound (plan_of i.plan) i.plan.needs i.plan.order.items i.plan.room i.tables.offsets.items i.tables.feeds.items i.first.lists held' rooms' i.lent.items staged' i.turns next.0 next.1 code.Open
+          Sound (plan_of i.plan) i.plan.needs (order_in i) i.plan.room i.tables.offsets.items i.tables.feeds.items i.first.lists held' rooms' i.lent.items staged' i.turns next.0 next.1 code.Open
       told-goes-on rooms' staged' m n k h =
-          told-sound (plan_of i.plan) i.plan.needs i.plan.order.items i.plan.room i.tables.offsets.items i.tables.feeds.items i.first.lists i.channels.lists i.rooms.items i.lent.items i.staged.list i.turns i.left i.at child told out held' rooms' staged' next r puts-are m n k h t
+          told-sound (plan_of i.plan) i.plan.needs (order_in i) i.plan.room i.tables.offsets.items i.tables.feeds.items i.first.lists i.channels.lists i.rooms.items i.lent.items i.staged.list i.turns i.left (at_in i) child told out held' rooms' staged' next r puts-are m n k h t
 
-      pub told-is : state_of (plan_of i.plan) i.plan.needs i.plan.order.items i.first.lists held' i.lent.items i.turns next.0 next.1 i.tag code.Open ≡ after_told child out (state_in i)
+      pub told-is : state_of (plan_of i.plan) i.plan.needs (order_in i) i.first.lists held' i.lent.items i.turns next.0 next.1 i.tag code.Open ≡ after_told child out (state_in i)
       told-is =
-          told-state (plan_of i.plan) i.plan.needs i.plan.order.items i.first.lists i.channels.lists held' i.lent.items i.turns i.left i.at child next i.tag i.stage out r puts-are
-          (told-firings (plan_of i.plan) i.plan.needs i.plan.order.items i.plan.room i.tables.offsets.items i.tables.feeds.items i.first.lists i.channels.lists i.rooms.items i.lent.items i.staged.list i.turns i.left i.at child told next t)
+          told-state (plan_of i.plan) i.plan.needs (order_in i) i.first.lists i.channels.lists held' i.lent.items i.turns i.left (at_in i) child next i.tag i.stage out r puts-are
+          (told-firings (plan_of i.plan) i.plan.needs (order_in i) i.plan.room i.tables.offsets.items i.tables.feeds.items i.first.lists i.channels.lists i.rooms.items i.lent.items i.staged.list i.turns i.left (at_in i) child told next t)
 
 -- the rates that are read are those of the child
 pub rates-read : (i : Inside) (s : IsSound i) (child : ℕ) (rs : List ℕ) → child < length i.plan.places → rs ≡ get_or i.plan.rates.items child rs → rs ≡ get_or i.plan.rates.items child []

@@ -11,18 +11,18 @@ use Rattle.pt_sdf.specs.State.{Open, asked_child, asked, handed, in_stage, if_to
 use Rattle.pt_sdf.specs.Rooms.{HaveRooms}
 use Rattle.pt_sdf.specs.Clauses.{State}
 use Rattle.pt_sdf.specs.Plan.{plan_of}
-use Rattle.pt_sdf.specs.Core.{state_in, seen_in, unmoved, IsSound}
+use Rattle.pt_sdf.specs.Core.{state_in, seen_in, unmoved, IsSound, order_in, at_in}
 use Rattle.pt_sdf.proofs.Lists.{skip-zero}
 use Rattle.pt_sdf.proofs.SoundLaws.{open-again, told-kept, offset-is, total-fits, begins-long, begins-at}
 use Rattle.pt_sdf.proofs.CoreLaws.{SoundAt, is-asked, seen-at, asked-there, asked-enough, asked-sound, told-child, told-left}
 
 -- the core before the child was asked for
 abbrev pub reopened : Inside → Inside
-reopened i = record { plan = i.plan; tables = i.tables; first = i.first; channels = i.channels; rooms = i.rooms; lent = i.lent; heavy = i.heavy; staged = i.staged; tag = i.tag; turns = i.turns; left = i.left; at = i.at; stage = code.Open }
+reopened i = record { plan = i.plan; tables = i.tables; first = i.first; channels = i.channels; rooms = i.rooms; lent = i.lent; heavy = i.heavy; staged = i.staged; tag = i.tag; turns = i.turns; left = i.left; at = i.at; done = i.done; stage = code.Open }
 
 -- and as if the inputs of the child had been taken, with these channels left
 abbrev pub handing : Inside → ℕ → Streams Token → Inside
-handing i child held' = record { plan = i.plan; tables = i.tables; first = i.first; channels = record { lists = held'; spares = i.channels.spares }; rooms = i.rooms; lent = i.lent; heavy = i.heavy; staged = i.staged; tag = i.tag; turns = i.turns; left = i.left; at = i.at; stage = code.Handed child }
+handing i child held' = record { plan = i.plan; tables = i.tables; first = i.first; channels = record { lists = held'; spares = i.channels.spares }; rooms = i.rooms; lent = i.lent; heavy = i.heavy; staged = i.staged; tag = i.tag; turns = i.turns; left = i.left; at = i.at; done = i.done; stage = code.Handed child }
 
 read-back : (xs : List ℕ) (i x : ℕ) → i < length xs → get_or xs i 0 ≡ x → x ≡ get_or xs i x
 read-back [] i x h e = absurd (omega arith)
@@ -53,13 +53,13 @@ module _ (i : Inside) (s : IsSound i) (child : ℕ) (g : i.stage ≡ code.Asked 
   asked-here = subst (λ v. SoundAt i v) g s
 
   pub reopened-sound : IsSound (reopened i)
-  reopened-sound = open-again (plan_of i.plan) i.plan.needs i.plan.order.items i.plan.room i.tables.offsets.items i.tables.feeds.items i.first.lists i.channels.lists i.rooms.items i.lent.items i.staged.list i.turns i.left i.at child asked-here
+  reopened-sound = open-again (plan_of i.plan) i.plan.needs (order_in i) i.plan.room i.tables.offsets.items i.tables.feeds.items i.first.lists i.channels.lists i.rooms.items i.lent.items i.staged.list i.turns i.left (at_in i) child asked-here
 
   pub reopened-left : 0 < i.left
   reopened-left = asked-here.position.fits.0
 
-  pub reopened-next : child ≡ get_or i.plan.order.items i.at child
-  reopened-next = read-back i.plan.order.items i.at child (asked-here.position.within reopened-left) asked-here.position.fits.1
+  pub reopened-next : child ≡ get_or (order_in i) (at_in i) child
+  reopened-next = read-back (order_in i) (at_in i) child (asked-here.position.within reopened-left) asked-here.position.fits.1
 
 -- where the places of a child begin
 pub offset-read : (i : Inside) (s : IsSound i) (child : ℕ) → child < length i.plan.places → place_of i.plan.places child ≡ get_or i.tables.offsets.items child (place_of i.plan.places child)
@@ -75,12 +75,12 @@ module _ (i : Inside) (s : IsSound i) (child : ℕ) (a : (i.stage ≡ code.Asked
   pub busy-left : 0 < i.left
   busy-left = ⊎_elim (λ g. reopened-left i s child g) (λ g. told-left i s child g) a
 
-  pub busy-within : i.at < length i.plan.order.items
+  pub busy-within : (at_in i) < length (order_in i)
   busy-within = s.position.within busy-left
 
   module _ (o n m : ℕ) (f : o ≡ get_or i.tables.offsets.items child o) (p : n ≡ get_or i.plan.places child 0) (u : m ≡ unmoved i.stage n) where
     pub place-is : o ≡ place_of i.plan.places child
-    place-is = offset-is (plan_of i.plan) i.plan.needs i.plan.order.items i.plan.room i.tables.offsets.items i.tables.feeds.items i.first.lists i.channels.lists i.rooms.items i.lent.items i.staged.list i.turns i.left i.at i.stage s child o busy-there f
+    place-is = offset-is (plan_of i.plan) i.plan.needs (order_in i) i.plan.room i.tables.offsets.items i.tables.feeds.items i.first.lists i.channels.lists i.rooms.items i.lent.items i.staged.list i.turns i.left (at_in i) i.stage s child o busy-there f
 
     fewer : m ≤ n
     fewer = subst (λ v. v ≤ n) (sym u) (some i.stage)
@@ -95,7 +95,7 @@ module _ (i : Inside) (s : IsSound i) (child : ℕ) (a : (i.stage ≡ code.Asked
 
     all-fit : (o + n ≤ length i.channels.lists) × (o + n ≤ length i.plan.needs) × (o + n ≤ length i.rooms.items)
     all-fit =
-        let t = total-fits (plan_of i.plan) i.plan.needs i.plan.order.items i.plan.room i.tables.offsets.items i.tables.feeds.items i.first.lists i.channels.lists i.rooms.items i.lent.items i.staged.list i.turns i.left i.at i.stage s child busy-there in
+        let t = total-fits (plan_of i.plan) i.plan.needs (order_in i) i.plan.room i.tables.offsets.items i.tables.feeds.items i.first.lists i.channels.lists i.rooms.items i.lent.items i.staged.list i.turns i.left (at_in i) i.stage s child busy-there in
         (omega (arith, t.0, place-is, p), omega (arith, t.1, place-is, p), omega (arith, t.2, place-is, p))
 
     pub busy-fits : (o + n ≤ length i.plan.needs) × (o + n ≤ length i.rooms.items)
@@ -124,7 +124,7 @@ module _ (i : Inside) (s : IsSound i) (child : ℕ) (a : (i.stage ≡ code.Asked
       handing-sound =
           ⊎_elim
           (λ g. asked-sound (reopened i) (reopened-sound i s child g) refl (reopened-left i s child g) child (reopened-next i s child g) o n f p held' i.lent.items i.rooms.items (taken-all g) (λ c h. refl) refl refl)
-          (λ g. told-kept (plan_of i.plan) i.plan.needs i.plan.order.items i.plan.room i.tables.offsets.items i.tables.feeds.items i.first.lists i.channels.lists i.rooms.items i.lent.items i.staged.list i.turns i.left i.at child (subst (λ v. SoundAt i v) g s) i.rooms.items i.staged.list held' (taken-none g) s.none_staged refl (λ c h. h)) a
+          (λ g. told-kept (plan_of i.plan) i.plan.needs (order_in i) i.plan.room i.tables.offsets.items i.tables.feeds.items i.first.lists i.channels.lists i.rooms.items i.lent.items i.staged.list i.turns i.left (at_in i) child (subst (λ v. SoundAt i v) g s) i.rooms.items i.staged.list held' (taken-none g) s.none_staged refl (λ c h. h)) a
 
       pub handing-told : (out : Streams Token) → after_told child out (state_in (handing i child held')) ≡ after_told child out (seen_in i)
       handing-told out =

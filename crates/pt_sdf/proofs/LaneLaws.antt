@@ -22,7 +22,8 @@ use Rattle.pt_sdf.specs.declared.lanes.Outlet.{Outlet}
 use Rattle.pt_sdf.specs.declared.lanes.Outlet.TheVariants.{Nothing, One, Burst, Several}
 use Rattle.pt_sdf.specs.Lanes.{IsInlet, FitsInlet, IsOutlet, FitsOutlet, IsLane, IsOutletIn, NeedsOneEach, no_lane, targets_of, count_of}
 use Rattle.pt_sdf.specs.Rooms.{HaveRooms}
-use Rattle.pt_sdf.specs.Core.{state_of, state_in, seen_in, unmoved, place_behind, Sound, IsSound, IsWhole}
+use Rattle.pt_sdf.specs.Core.{state_of, state_in, seen_in, unmoved, Sound, IsSound, IsWhole, order_in, at_in}
+use Rattle.pt_sdf.specs.Stretches.{place_behind}
 use Rattle.pt_sdf.proofs.Lists.{read-at, skip-zero, skip-long, skip-put, put-keeps, next-left, next-taken}
 use Rattle.pt_sdf.proofs.SoundLaws.{told-sound, told-firings}
 use Rattle.pt_sdf.proofs.CallLaws.{child-puts-on, child-feeds-there, told-state}
@@ -135,7 +136,7 @@ module _ (i : Inside) (s : IsSound i) (child : ℕ) (g : i.stage ≡ code.Handed
           ap (λ b. b && true) t
 
   there-all : AreThere (length i.channels.lists) 1 (get_or (rows_in i.tables.feeds.items) child [])
-  there-all = child-feeds-there (plan_of i.plan) i.plan.needs i.plan.order.items i.plan.room i.tables.offsets.items i.tables.feeds.items i.first.lists i.channels.lists i.rooms.items i.lent.items i.staged.list i.turns i.left i.at i.stage s child (tokens ∷ []) (told-child i s child g) fits
+  there-all = child-feeds-there (plan_of i.plan) i.plan.needs (order_in i) i.plan.room i.tables.offsets.items i.tables.feeds.items i.first.lists i.channels.lists i.rooms.items i.lent.items i.staged.list i.turns i.left (at_in i) i.stage s child (tokens ∷ []) (told-child i s child g) fits
 
   pub fed-there : (c : ℕ) → ts ≡ record { channel = c; port = 0 } ∷ [] → c < length i.channels.lists
   fed-there c e = one-there (get_or (rows_in i.tables.feeds.items) child []) c (o.fed ∙ e) there-all
@@ -144,19 +145,19 @@ module _ (i : Inside) (s : IsSound i) (child : ℕ) (g : i.stage ≡ code.Handed
       one-there [] c e h = absurd (cc)
       one-there (f ∷ fs) c e h = subst (λ v. v < length i.channels.lists) (ap (λ v. (get_or v 0 (target_of no_feed)).channel) e) (h.channels 0 (omega arith))
 
-  module _ (held' : Streams Token) (d : held' ≡ put_back ts (tokens ∷ []) i.channels.lists) (next : ℕ × ℕ) (n : next ≡ place_behind (nat_eq (i.at + 1) (length i.plan.order.items)) i.left i.at) where
+  module _ (held' : Streams Token) (d : held' ≡ put_back ts (tokens ∷ []) i.channels.lists) (next : ℕ × ℕ) (n : next ≡ place_behind (nat_eq ((at_in i) + 1) (length (order_in i))) i.left (at_in i)) where
     puts-are : held' ≡ plus i.channels.lists (puts child (tokens ∷ []) (map source_of i.plan.sources.items))
-    puts-are = child-puts-on (plan_of i.plan) i.plan.needs i.plan.order.items i.plan.room i.tables.offsets.items i.tables.feeds.items i.first.lists i.channels.lists i.rooms.items i.lent.items i.staged.list i.turns i.left i.at i.stage s child ts (tokens ∷ []) held' (told-child i s child g) o.fed d
+    puts-are = child-puts-on (plan_of i.plan) i.plan.needs (order_in i) i.plan.room i.tables.offsets.items i.tables.feeds.items i.first.lists i.channels.lists i.rooms.items i.lent.items i.staged.list i.turns i.left (at_in i) i.stage s child ts (tokens ∷ []) held' (told-child i s child g) o.fed d
 
-    pub outlet-sound : HaveRooms i.plan.needs i.rooms.items (place_of i.plan.places child) (get_or i.plan.places child 0) → Sound (plan_of i.plan) i.plan.needs i.plan.order.items i.plan.room i.tables.offsets.items i.tables.feeds.items i.first.lists held' i.rooms.items i.lent.items i.staged.list i.turns next.0 next.1 code.Open
+    pub outlet-sound : HaveRooms i.plan.needs i.rooms.items (place_of i.plan.places child) (get_or i.plan.places child 0) → Sound (plan_of i.plan) i.plan.needs (order_in i) i.plan.room i.tables.offsets.items i.tables.feeds.items i.first.lists held' i.rooms.items i.lent.items i.staged.list i.turns next.0 next.1 code.Open
     outlet-sound roomy =
-        told-sound (plan_of i.plan) i.plan.needs i.plan.order.items i.plan.room i.tables.offsets.items i.tables.feeds.items i.first.lists i.channels.lists i.rooms.items i.lent.items i.staged.list i.turns i.left i.at child told (tokens ∷ []) held' i.rooms.items i.staged.list next fits puts-are
+        told-sound (plan_of i.plan) i.plan.needs (order_in i) i.plan.room i.tables.offsets.items i.tables.feeds.items i.first.lists i.channels.lists i.rooms.items i.lent.items i.staged.list i.turns i.left (at_in i) child told (tokens ∷ []) held' i.rooms.items i.staged.list next fits puts-are
         s.none_staged refl (λ k h. h) roomy n
 
-    pub outlet-state : state_of (plan_of i.plan) i.plan.needs i.plan.order.items i.first.lists held' i.lent.items i.turns next.0 next.1 i.tag code.Open ≡ after_told child (tokens ∷ []) (state_in i)
+    pub outlet-state : state_of (plan_of i.plan) i.plan.needs (order_in i) i.first.lists held' i.lent.items i.turns next.0 next.1 i.tag code.Open ≡ after_told child (tokens ∷ []) (state_in i)
     outlet-state =
-        told-state (plan_of i.plan) i.plan.needs i.plan.order.items i.first.lists i.channels.lists held' i.lent.items i.turns i.left i.at child next i.tag i.stage (tokens ∷ []) fits puts-are
-        (told-firings (plan_of i.plan) i.plan.needs i.plan.order.items i.plan.room i.tables.offsets.items i.tables.feeds.items i.first.lists i.channels.lists i.rooms.items i.lent.items i.staged.list i.turns i.left i.at child told next n)
+        told-state (plan_of i.plan) i.plan.needs (order_in i) i.first.lists i.channels.lists held' i.lent.items i.turns i.left (at_in i) child next i.tag i.stage (tokens ∷ []) fits puts-are
+        (told-firings (plan_of i.plan) i.plan.needs (order_in i) i.plan.room i.tables.offsets.items i.tables.feeds.items i.first.lists i.channels.lists i.rooms.items i.lent.items i.staged.list i.turns i.left (at_in i) child told next n)
 
 -- a child that was asked for alone gave tokens by its lane, and its inputs, at n places from o on, are taken behind that
 module _ (i : Inside) (w : IsWhole i) (child : ℕ) (g : i.stage ≡ code.Asked child) (lane : Lane) (e : lane ≡ get_or i.tables.lanes.items child lane) where
@@ -194,7 +195,7 @@ module _ (i : Inside) (w : IsWhole i) (child : ℕ) (g : i.stage ≡ code.Asked 
       pub lane-given-enough : (k : ℕ) → k < n → get_or i.plan.needs (o + k) 0 ≤ length (get_or given (o + k) [])
       lane-given-enough k h = omega (arith, lane-enough k h, given-keeps lane.outlet tokens i.channels.lists (o + k), ap (λ v. length (get_or v (o + k) [])) a)
 
-      module _ (held' : Streams Token) (b : held' ≡ skip_at o (take n (drop o i.plan.needs)) given) (next : ℕ × ℕ) (d : next ≡ place_behind (nat_eq (i.at + 1) (length i.plan.order.items)) i.left i.at) where
+      module _ (held' : Streams Token) (b : held' ≡ skip_at o (take n (drop o i.plan.needs)) given) (next : ℕ × ℕ) (d : next ≡ place_behind (nat_eq ((at_in i) + 1) (length (order_in i))) i.left (at_in i)) where
         enough-taken : (k : ℕ) → k < length (take n (drop o i.plan.needs)) → get_or (take n (drop o i.plan.needs)) k 0 ≤ length (get_or i.channels.lists (o + k) [])
         enough-taken k h =
             let l : k < n = omega (arith, h, length-take n (drop o i.plan.needs)) in
@@ -206,12 +207,12 @@ module _ (i : Inside) (w : IsWhole i) (child : ℕ) (g : i.stage ≡ code.Asked 
         outlet : IsOutlet (get_or i.plan.rates.items child []) (get_or (rows_in i.tables.feeds.items) child []) (length tokens) (targets_of lane.outlet)
         outlet = outlet-of (get_or i.plan.rates.items child []) (get_or (rows_in i.tables.feeds.items) child []) lane.outlet (length tokens) fits-outlet count
 
-        pub lane-sound : Sound (plan_of i.plan) i.plan.needs i.plan.order.items i.plan.room i.tables.offsets.items i.tables.feeds.items i.first.lists held' i.rooms.items i.lent.items i.staged.list i.turns next.0 next.1 code.Open
+        pub lane-sound : Sound (plan_of i.plan) i.plan.needs (order_in i) i.plan.room i.tables.offsets.items i.tables.feeds.items i.first.lists held' i.rooms.items i.lent.items i.staged.list i.turns next.0 next.1 code.Open
         lane-sound =
             outlet-sound (handing i child taken) sound child refl tokens (length tokens) refl (targets_of lane.outlet) outlet held' put-is next d
             (busy-rooms i w.sound child (inl g) o n n f p unmoved-all i.rooms.items (asked-rooms (reopened i) (reopened-sound i w.sound child g) refl (reopened-left i w.sound child g) child (reopened-next i w.sound child g) o n f p))
 
-        pub lane-state : state_of (plan_of i.plan) i.plan.needs i.plan.order.items i.first.lists held' i.lent.items i.turns next.0 next.1 i.tag code.Open ≡ after_told child (tokens ∷ []) (seen_in i)
+        pub lane-state : state_of (plan_of i.plan) i.plan.needs (order_in i) i.first.lists held' i.lent.items i.turns next.0 next.1 i.tag code.Open ≡ after_told child (tokens ∷ []) (seen_in i)
         lane-state =
             outlet-state (handing i child taken) sound child refl tokens (length tokens) refl (targets_of lane.outlet) outlet held' put-is next d
             ∙ handing-told i w.sound child (inl g) o n n f p unmoved-all taken refl (tokens ∷ [])

@@ -15,3 +15,4 @@ pub mod SoundLaws
 pub mod TableLaws
 pub mod UnfedLaws
 pub mod ActsLaws
+pub mod StretchLaws

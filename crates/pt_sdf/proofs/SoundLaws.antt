@@ -24,7 +24,8 @@ use Rattle.pt_sdf.specs.Lawful.{occurs, IsNamed, IsLawful}
 use Rattle.pt_sdf.specs.Feeds.{AreFeeds}
 use Rattle.pt_sdf.specs.Rooms.{HasRoom, HaveRooms}
 use Rattle.pt_sdf.specs.Lanes.{begins}
-use Rattle.pt_sdf.specs.Core.{stage_of, fired_from, state_of, with_asked, place_behind, busy, taken_by, IsPosition, IsLevel, AreLevel, Sound}
+use Rattle.pt_sdf.specs.Core.{stage_of, fired_from, state_of, with_asked, busy, taken_by, IsPosition, IsLevel, AreLevel, Sound}
+use Rattle.pt_sdf.specs.Stretches.{place_behind}
 use Rattle.pt_sdf.proofs.Lists.{read-at, at-is, skip-untouched, skip-before, skip-there, skip-long}
 use Rattle.pt_sdf.proofs.NeedLaws.{allows, part-fits, length-part, get-part}
 use Rattle.pt_sdf.proofs.FeedLaws.{IsWithin}

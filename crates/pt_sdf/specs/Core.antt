@@ -1,5 +1,5 @@
 -- The fields of a core, and the state that contracts see.
-use Rattle.std.specs.Prelude.{◌≡◌, ℕ, suc, ◌+◌, ◌-◌, ◌*◌, ◌<◌, ◌≤◌, List, [], ◌∷◌, length, take, drop, get_or, set, Bool, true, false, Option, Some, None, Vec}
+use Rattle.std.specs.Prelude.{◌≡◌, ℕ, suc, ◌+◌, ◌-◌, ◌*◌, ◌<◌, ◌≤◌, List, [], ◌∷◌, length, take, drop, get_or, set, Option, Some, None, Vec}
 use Rattle.std.specs.Global.{Global}
 use Rattle.pt_meaning.specs.Tag.{Tag}
 use Rattle.pt_meaning.specs.Streams.{Streams, at}
@@ -13,11 +13,12 @@ use Rattle.pt_sdf.specs.declared.sdf.Core.TheInside.{Inside}
 use Rattle.pt_sdf.specs.ByNeed.{place_of}
 use Rattle.pt_sdf.specs.State.{Stage, Idle, Open, Handed, Wrong, Closed, SdfState, asked}
 use Rattle.pt_sdf.specs.declared.feeds.Feed.{Feed}
-use Rattle.pt_sdf.specs.Plan.{plan_of}
+use Rattle.pt_sdf.specs.Plan.{plan_of, order_of}
 use Rattle.pt_sdf.specs.Lawful.{occurs, rate_at, IsLawful}
 use Rattle.pt_sdf.specs.Feeds.{AreFeeds}
 use Rattle.pt_sdf.specs.Rooms.{HasRoom}
 use Rattle.pt_sdf.specs.Lanes.{begins, AreLanes}
+use Rattle.pt_sdf.specs.Stretches.{place_at, IsWithin}
 
 -- The stage, where the places of a child whose inputs were handed over have their tokens in their lent lists.
 -- Where a child was asked for alone, all stands as before.
@@ -47,8 +48,15 @@ state_of p needs order first held lent turns left at tag stage = record {
   stage = stage_of p.net.places lent stage;
 }
 
+-- the firings of an iteration, one after another, and how many of these were asked for and told
+abbrev pub order_in : Inside → List ℕ
+order_in c = order_of c.plan
+
+abbrev pub at_in : Inside → ℕ
+at_in c = place_at c.at c.done c.plan.order.items
+
 abbrev pub state_in : Inside → SdfState Token
-state_in c = state_of (plan_of c.plan) c.plan.needs c.plan.order.items c.first.lists c.channels.lists c.lent.items c.turns c.left c.at c.tag c.stage
+state_in c = state_of (plan_of c.plan) c.plan.needs (order_in c) c.first.lists c.channels.lists c.lent.items c.turns c.left (at_in c) c.tag c.stage
 
 -- a child that was asked for has its inputs, though they still stand on their channels
 abbrev pub with_asked : declared.Stage → SdfState Token → SdfState Token
@@ -76,11 +84,6 @@ seen_in c = with_asked c.stage (state_in c)
 abbrev pub left_at_first : (order : List ℕ) → (turns : ℕ) → ℕ
 left_at_first [] turns = 0
 left_at_first (child ∷ order) turns = turns
-
--- the number of turns that are left, and the place in the order, after one firing more, which may be the last of a turn
-abbrev pub place_behind : (is_last : Bool) → (left at : ℕ) → ℕ × ℕ
-place_behind true left at = (left - 1, 0)
-place_behind false left at = (left, at + 1)
 
 -- the child whose inputs were taken last, where its firing isn't done
 abbrev pub busy : declared.Stage → Option ℕ
@@ -141,9 +144,10 @@ pub record Sound (p : SdfPlan) (needs order room offsets : List ℕ) (feeds : Li
 
 abbrev pub IsSound : Inside → Type 0
 IsSound c =
-    Sound (plan_of c.plan) c.plan.needs c.plan.order.items c.plan.room c.tables.offsets.items c.tables.feeds.items c.first.lists c.channels.lists c.rooms.items c.lent.items c.staged.list c.turns c.left c.at c.stage
+    Sound (plan_of c.plan) c.plan.needs (order_in c) c.plan.room c.tables.offsets.items c.tables.feeds.items c.first.lists c.channels.lists c.rooms.items c.lent.items c.staged.list c.turns c.left (at_in c) c.stage
 
--- and what is simple of its children
+-- and what is simple of its children, and that there is a stretch under way where iterations are left
 pub record IsWhole (c : Inside) : Type 0 where
   pub sound : IsSound c
+  pub stretch : 0 < c.left → IsWithin c.plan.order.items c.at c.done
   pub lanes : AreLanes c.plan.places c.plan.needs c.plan.rates.items c.tables.feeds.items c.tables.lanes.items

@@ -7,6 +7,7 @@ pub mod Lawful
 pub mod Feeds
 pub mod Rooms
 pub mod Lanes
+pub mod Stretches
 pub mod Core
 pub mod Chain
 pub mod SdfActs

@@ -1,7 +1,8 @@
 -- What the code's plan is among the definitions.
-use Rattle.std.specs.Prelude.{◌≡◌, map}
+use Rattle.std.specs.Prelude.{◌≡◌, ℕ, List, map}
 use Rattle.pt_meaning.specs.Net as net
 use Rattle.pt_meaning.specs.Sdf.{SdfPlan}
+use Rattle.pt_sched.specs.Stretches.{spread}
 use Rattle.pt_core.specs.Source.{source_of}
 use Rattle.pt_sdf.specs.declared.plan.CorePlan.{CorePlan}
 
@@ -10,6 +11,10 @@ net_of p = record { sources = map source_of p.sources.items; places = p.places }
 
 abbrev pub plan_of : CorePlan → SdfPlan
 plan_of p = record { net = net_of p; repetitions = p.repetitions; takes = p.takes; gives = p.gives; rates = p.rates.items }
+
+-- the children of an iteration's firings, one after another
+abbrev pub order_of : CorePlan → List ℕ
+order_of p = spread p.order.items
 
 -- two plans are the same, list by list
 pub record IsSamePlan (p q : CorePlan) : Type 0 where

@@ -2,6 +2,7 @@ ghost use Rattle.std.specs.Prelude.{◌≡◌, IfOk};
 
 use pt_core::Source;
 use pt_firing::Counts;
+use pt_sched::Stretch;
 use std::alloc::{AllocError, Global};
 
 /// The net of an SDF composite with its rates, and the order of the firings of an iteration.
@@ -23,8 +24,8 @@ pub struct CorePlan {
     pub takes: Counts,
     /// How many tokens an iteration gives on each own output.
     pub gives: Counts,
-    /// The children of an iteration's firings, one after another.
-    pub order: Vec<u32>,
+    /// The children of an iteration's firings, one after another, stretch by stretch.
+    pub order: Vec<Stretch>,
     /// How many tokens each channel is to have room for.
     pub room: Counts,
 }
@@ -49,7 +50,7 @@ struct IterationCounts {
 #[derive(Drop)]
 struct ChannelLists {
     sources: Vec<Source>,
-    order: Vec<u32>,
+    order: Vec<Stretch>,
     room: Counts,
 }
 

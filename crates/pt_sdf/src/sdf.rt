@@ -71,9 +71,10 @@ pub struct Core {
     staged: Queue,
     tag: Tag,
     turns: usize,
-    // The iterations that aren't finished, and how many firings of the first of these were asked for and told.
+    // The iterations that aren't finished; and of the first of these the stretch that is under way, and how many of its firings were asked for and told.
     left: usize,
     at: usize,
+    done: u32,
     stage: Stage,
 }
 
@@ -93,6 +94,7 @@ impl Drop for Core {
             turns: _,
             left: _,
             at: _,
+            done: _,
             stage: _,
         } = self;
     }
@@ -120,12 +122,12 @@ impl Core {
     ghost use Rattle.pt_meaning.specs.Kahn.{firsts};
     ghost use Rattle.pt_sdf.specs.State.{Idle, Open, Closed, asked_child, lent_in, handed, started, restarted, begun, after_told, closed, owed, own_of, IsHanded, is_wrong};
     ghost use Rattle.pt_sdf.specs.Clauses.{MayAsk, IsAsked};
-    ghost use Rattle.pt_sdf.specs.Plan.{plan_of};
+    ghost use Rattle.pt_sdf.specs.Plan.{plan_of, order_of};
     ghost use Rattle.pt_sdf.specs.Lawful.{IsLawful};
 
     /// A core of this plan, with these first tokens on its channels.
     pub fn new(alloc: Global, plan: CorePlan, first: Channels) -> Result<Core, AllocError>
-        requires lawful { IsLawful (plan_of plan) plan.needs plan.order.items plan.room first.lists }
+        requires lawful { IsLawful (plan_of plan) plan.needs (order_of plan) plan.room first.lists }
         ensures { IfOk result (λ core. core ≡ started (plan_of plan) plan.needs first.lists) }
     {
         let mut first = first;
@@ -141,6 +143,7 @@ impl Core {
                 turns: 0,
                 left: 0,
                 at: 0,
+                done: 0,
                 stage: Stage::Idle,
                 first,
                 plan,
@@ -176,6 +179,7 @@ impl Core {
         self.turns = iterations(&self.channels, arrivals, self.plan.takes.as_slice());
         self.left = turns_of(&self.plan.order, self.turns);
         self.at = 0;
+        self.done = 0;
         self.tag = tag;
         self.stage = Stage::Open;
         Ok(())
@@ -203,7 +207,7 @@ impl Core {
             self.stage = Stage::Closed;
             return Ask::Finished;
         }
-        let child = self.plan.order[self.at];
+        let child = self.plan.order[self.at].child;
         self.stage = Stage::Asked(child);
         Ask::Fire(child, self.tag)
     }
@@ -321,6 +325,7 @@ impl Core {
         self.turns = 0;
         self.left = 0;
         self.at = 0;
+        self.done = 0;
         self.stage = Stage::Idle;
         Ok(())
     }
@@ -342,6 +347,7 @@ impl Core {
                 turns: self.turns,
                 left: self.left,
                 at: self.at,
+                done: self.done,
                 stage: self.stage,
                 first: copied.first,
                 plan,

@@ -1,14 +1,17 @@
-ghost use Rattle.std.specs.Prelude.{◌≡◌, ℕ, ◌^◌, ◌<◌, ◌≤◌, length, get_or, IfOk, nat_eq, ◌+◌};
+ghost use Rattle.std.specs.Prelude.{◌≡◌, ◌^◌, ◌<◌, ◌≤◌, length, IfOk};
 ghost use Rattle.pt_meaning.specs.Rounds.{has_rates};
 ghost use Rattle.pt_meaning.specs.Running.{total};
-ghost use Rattle.pt_sdf.specs.Core.{left_at_first, place_behind};
+ghost use Rattle.pt_sched.specs.Stretches.{spread};
+ghost use Rattle.pt_sdf.specs.Core.{left_at_first};
 ghost use Rattle.pt_sdf.specs.Lanes.{begins, AreTables};
+ghost use Rattle.pt_sdf.specs.Stretches.{IsWithin, IsAdvanced};
 
 use crate::feeds::{Feed, feeds_of};
 use crate::lanes::{Lane, lanes_of};
 use crate::plan::CorePlan;
 use pt_firing::{Outputs, Tokens};
 use pt_recv::Channels;
+use pt_sched::Stretch;
 use std::alloc::{AllocError, Global};
 
 /// What is worked out of a plan once.
@@ -116,23 +119,32 @@ pub(crate) fn fits_rates(rates: &[usize], outputs: &Outputs) -> bool
     true
 }
 
-/// Goes on to the next place in an order of so many firings, or to the next turn.
+/// Goes on by one firing in an order, or to the next turn. `at` is the stretch, of which `done` firings are made.
 #[inline(always)]
-pub(crate) fn advance(order: usize, left: &mut usize, at: &mut usize)
-    requires within { at.old < order }
+pub(crate) fn advance(order: &[Stretch], left: &mut usize, at: &mut usize, done: &mut u32)
+    requires within { IsWithin order.now at.old done.old }
     requires some { 0 < left.old }
-    ensures { (left.new, at.new) ≡ place_behind (nat_eq (at.old + 1) order) left.old at.old }
+    ensures { IsAdvanced order.now left.old at.old done.old left.new at.new done.new }
 {
-    *at += 1;
-    if *at == order {
+    if *done < order[*at].again {
+        *done += 1;
+        return;
+    }
+    *done = 0;
+    if *at + 1 == order.len() {
         *left -= 1;
         *at = 0;
+        return;
     }
+    *at += 1;
 }
 
 /// How many turns of an order are to be made.
-pub(crate) fn turns_of(order: &[u32], turns: usize) -> usize
-    ensures { result ≡ left_at_first order.now turns }
+pub(crate) fn turns_of(order: &[Stretch], turns: usize) -> usize
+    ensures { result ≡ left_at_first (spread order.now) turns }
 {
-    if order.is_empty() { 0 } else { turns }
+    if order.is_empty() {
+        return 0;
+    }
+    turns
 }

@@ -1,6 +1,7 @@
 use crate::answer::Answer;
 use crate::lists::{each_in, each_plain};
 use crate::numbers::{named, part, size, small};
+use crate::rates::spelled;
 use pt_core::Source;
 use pt_firing::Counts;
 use pt_plan::{Inside, plan};
@@ -57,7 +58,7 @@ fn show_plan(alloc: Global, plan: &CorePlan, out: &mut Answer) {
     show(alloc, ", takes ", plan.takes.as_slice(), out);
     show(alloc, ", gives ", plan.gives.as_slice(), out);
     out.text(", order ");
-    named(alloc, &plan.order.as_slice(), out);
+    spelled(alloc, &plan.order, out);
     show(alloc, ", room ", plan.room.as_slice(), out);
     out.text(", sources ");
     named(alloc, &plan.sources.as_slice(), out);

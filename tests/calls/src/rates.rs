@@ -2,7 +2,7 @@ use crate::answer::Answer;
 use crate::lists::each_plain;
 use crate::numbers::{named, natural, small};
 use pt_rates::{Edge, are_channels, solve};
-use pt_sched::{SchedEdge, schedule};
+use pt_sched::{SchedEdge, Stretch, schedule};
 use std::alloc::{AllocError, Global};
 use std::str::SplitWhitespace;
 
@@ -91,12 +91,31 @@ fn tell_rates(
     }
 }
 
+/// The firings of an order, one after another.
+pub fn spelled(alloc: Global, order: &[Stretch], out: &mut Answer) {
+    match firings(alloc, order) {
+        Ok(firings) => named(alloc, &firings, out),
+        Err(fault) => out.note(Err(fault)),
+    }
+}
+
+fn firings(alloc: Global, order: &[Stretch]) -> Result<Vec<u32>, AllocError> {
+    let mut firings = Vec::new(alloc);
+    for stretch in order {
+        firings.push(stretch.child)?;
+        for _ in 0..stretch.again {
+            firings.push(stretch.child)?;
+        }
+    }
+    Ok(firings)
+}
+
 /// The order and the greatest lengths of the channels, or why there is none.
 fn tell_schedule(alloc: Global, count: u32, channels: &[SchedEdge], q: &[u64], out: &mut Answer) {
     match schedule(alloc, count, channels, q) {
         Ok(plan) => {
             out.text(" in the order ");
-            named(alloc, &plan.order, out);
+            spelled(alloc, &plan.order, out);
             out.text(" with ");
             named(alloc, &plan.lengths, out);
         }

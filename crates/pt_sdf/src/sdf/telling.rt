@@ -45,7 +45,12 @@ impl Core {
             from,
             unmoved,
         )?;
-        advance(self.plan.order.len(), &mut self.left, &mut self.at);
+        advance(
+            &self.plan.order,
+            &mut self.left,
+            &mut self.at,
+            &mut self.done,
+        );
         self.stage = Stage::Open;
         Ok(())
     }
@@ -74,7 +79,12 @@ impl Core {
             from,
             n,
         );
-        advance(self.plan.order.len(), &mut self.left, &mut self.at);
+        advance(
+            &self.plan.order,
+            &mut self.left,
+            &mut self.at,
+            &mut self.done,
+        );
         self.stage = Stage::Open;
         true
     }
@@ -102,7 +112,12 @@ impl Core {
             from,
             n,
         );
-        advance(self.plan.order.len(), &mut self.left, &mut self.at);
+        advance(
+            &self.plan.order,
+            &mut self.left,
+            &mut self.at,
+            &mut self.done,
+        );
         self.stage = Stage::Open;
         true
     }
@@ -146,7 +161,12 @@ impl Core {
         make_room(&mut self.channels, &self.tables.feeds[i], numbers.len())?;
         skip_places(&mut self.channels, needs, from, unmoved);
         put_on_each(&mut self.channels, &self.tables.feeds[i], numbers);
-        advance(self.plan.order.len(), &mut self.left, &mut self.at);
+        advance(
+            &self.plan.order,
+            &mut self.left,
+            &mut self.at,
+            &mut self.done,
+        );
         self.stage = Stage::Open;
         Ok(())
     }

@@ -5,7 +5,7 @@ use Rattle.pt_meaning.specs.Start.{first_held}
 use Rattle.pt_value.specs.declared.token.Token.{Token}
 use Rattle.pt_core.specs.Source.{source_of}
 use Rattle.pt_sdf.specs.Lawful.{IsLawful}
-use Rattle.pt_sdf.specs.Plan.{plan_of}
+use Rattle.pt_sdf.specs.Plan.{plan_of, order_of}
 use Rattle.pt_sdf.specs.State.{started}
 use Rattle.pt_plan.specs.Unfed.{sources_of}
 use Rattle.pt_library.specs.LibraryActor.{rows}
@@ -35,7 +35,7 @@ core_of-requires c =
     let inside : IsInsideOf (around_of c.args.wiring) kids c.in_ok-inside.inside = subst (λ (v : List Node). IsInsideOf (around_of c.args.wiring) (trees_of (map shown v)) c.in_ok-inside.inside) c.deref.ensures.value c.in_ok-inside.ensures.inside in
     let sources : List net.Source = map source_of c.in-Ok.plan.sources.items in
     let is : sources ≡ map source_of (sources_of c.in_ok-inside.inside) = ap (λ (n : net.Net). n.sources) c.in-Ok.ensures.plan.net in
-    subst (λ (v : List Node). IsLawful (plan_of c.in-Ok.plan) c.in-Ok.plan.needs c.in-Ok.plan.order.items c.in-Ok.plan.room (first_held rows (trees_of (map shown v)) sources)) (sym c.deref-2.ensures.value)
+    subst (λ (v : List Node). IsLawful (plan_of c.in-Ok.plan) c.in-Ok.plan.needs (order_of c.in-Ok.plan) c.in-Ok.plan.room (first_held rows (trees_of (map shown v)) sources)) (sym c.deref-2.ensures.value)
     (c.in-Ok.ensures.lawful (first_held rows kids sources) (first-counted (around_of c.args.wiring) kids c.in_ok-inside.inside sources inside is))
 
 pub returns-clause-node : goal.returns-clause-node

@@ -3,6 +3,7 @@ use Rattle.pt_rates.specs.Balance.{tokens_on}
 use Rattle.pt_sched.specs.Channels.{IsSchedEdge}
 use Rattle.pt_sched.specs.Runs.{IsSchedule}
 use Rattle.pt_sched.specs.declared.edge.SchedEdge.{SchedEdge}
+use Rattle.pt_sched.specs.Stretches.{spread}
 use Rattle.pt_plan.specs.Channels.{nodes_of, between}
 use Rattle.pt_plan.specs.Iteration.{IsCut}
 use Rattle.pt_plan.proofs.Formed.{all-channels, channel-tokens}
@@ -29,28 +30,28 @@ returns-clause-plan c =
     let x = c.args.inside.now in
     let counts = c.in_ok-counts.counts in
     let cut = subst (λ (v : List ℕ). IsCut x v counts.repetitions counts.takes counts.gives) c.deref-4.ensures.value c.in_ok-counts.ensures in
-    let schedule : IsSchedule (between x) (take (length x.places) c.in_ok-q.q.items) c.in_ok-order.field-0.order.items = subst (λ (xs : List ℕ). IsSchedule (between x) (take (length x.places) xs) c.in_ok-order.field-0.order.items) c.deref-3.ensures.value c.in_ok-order.ensures.order in
-    plan-is x c.in_ok-q.q.items c.in_ok-order.field-0.order.items counts.repetitions counts.takes counts.gives cut c.in_ok-ends.ends.sources.items c.in_ok-ends.ensures.sources c.in_ok-q.ensures.least schedule
+    let schedule : IsSchedule (between x) (take (length x.places) c.in_ok-q.q.items) (spread c.in_ok-order.field-0.order.items) = subst (λ (xs : List ℕ). IsSchedule (between x) (take (length x.places) xs) (spread c.in_ok-order.field-0.order.items)) c.deref-3.ensures.value c.in_ok-order.ensures.order in
+    plan-is x c.in_ok-q.q.items (spread c.in_ok-order.field-0.order.items) counts.repetitions counts.takes counts.gives cut c.in_ok-ends.ends.sources.items c.in_ok-ends.ensures.sources c.in_ok-q.ensures.least schedule
 
 pub returns-clause-limits : goal.returns-clause-limits
 returns-clause-limits c =
     let x = c.args.inside.now in
     let counts = c.in_ok-counts.counts in
     let cut = subst (λ (v : List ℕ). IsCut x v counts.repetitions counts.takes counts.gives) c.deref-4.ensures.value c.in_ok-counts.ensures in
-    limits-are x c.in_ok-q.q.items c.in_ok-order.field-0.order.items counts.repetitions counts.takes counts.gives cut c.in_ok-ends.ends.sources.items c.in_ok-q.ensures.sum c.in_ok-q.ensures.tokens
+    limits-are x c.in_ok-q.q.items (spread c.in_ok-order.field-0.order.items) counts.repetitions counts.takes counts.gives cut c.in_ok-ends.ends.sources.items c.in_ok-q.ensures.sum c.in_ok-q.ensures.tokens
 
 pub returns-clause-order : goal.returns-clause-order
 returns-clause-order c =
     let x = c.args.inside.now in
     let counts = c.in_ok-counts.counts in
     let cut = subst (λ (v : List ℕ). IsCut x v counts.repetitions counts.takes counts.gives) c.deref-4.ensures.value c.in_ok-counts.ensures in
-    let schedule : IsSchedule (between x) (take (length x.places) c.in_ok-q.q.items) c.in_ok-order.field-0.order.items = subst (λ (xs : List ℕ). IsSchedule (between x) (take (length x.places) xs) c.in_ok-order.field-0.order.items) c.deref-3.ensures.value c.in_ok-order.ensures.order in
-    schedule-is x c.in_ok-q.q.items c.in_ok-order.field-0.order.items counts.repetitions counts.takes counts.gives cut schedule
+    let schedule : IsSchedule (between x) (take (length x.places) c.in_ok-q.q.items) (spread c.in_ok-order.field-0.order.items) = subst (λ (xs : List ℕ). IsSchedule (between x) (take (length x.places) xs) (spread c.in_ok-order.field-0.order.items)) c.deref-3.ensures.value c.in_ok-order.ensures.order in
+    schedule-is x c.in_ok-q.q.items (spread c.in_ok-order.field-0.order.items) counts.repetitions counts.takes counts.gives cut schedule
 
 pub returns-clause-room : goal.returns-clause-room
 returns-clause-room c =
     let x = c.args.inside.now in
     let counts = c.in_ok-counts.counts in
     let cut = subst (λ (v : List ℕ). IsCut x v counts.repetitions counts.takes counts.gives) c.deref-4.ensures.value c.in_ok-counts.ensures in
-    rooms-is x c.in_ok-q.q.items c.in_ok-order.field-0.order.items counts.repetitions counts.takes counts.gives cut c.deref-6.result.now c.in_ok-order.field-0.lengths.items c.deref-7.result.now c.in_ok-ends.ends.room c.deref-5.result.now c.in_ok-ends.ensures.room c.deref-6.ensures.value
+    rooms-is x c.in_ok-q.q.items (spread c.in_ok-order.field-0.order.items) counts.repetitions counts.takes counts.gives cut c.deref-6.result.now c.in_ok-order.field-0.lengths.items c.deref-7.result.now c.in_ok-ends.ends.room c.deref-5.result.now c.in_ok-ends.ensures.room c.deref-6.ensures.value
     (c.deref-5.ensures.value ∙ c.in_ok-channels.ensures) c.deref-7.ensures.value c.in_ok-order.ensures.lengths

@@ -8,6 +8,8 @@ use Rattle.pt_sdf.specs.State.{begun}
 use Rattle.pt_sdf.specs.Clauses.{State}
 use Rattle.pt_sdf.specs.Core.{left_at_first}
 use Rattle.pt_sdf.specs.Feeds.{target_of, put_back, allowed_by, no_feed, AreThere, AreApart, MovesOnce}
+use Rattle.pt_sched.specs.Stretches.{spread}
+use Rattle.pt_sdf.proofs.StretchLaws.{first-within}
 use Rattle.pt_sdf.proofs.CoreLaws.{is-idle, seen-at, begin-there, begin-apart, begin-moves, begin-long, begun-sound, begun-state}
 use Rattle.pt_sdf.proofs.sdf.Core.begin.Goals as goal
 
@@ -45,7 +47,8 @@ invariant_of-self-2 c =
       sound =
           begun-sound c.self.inside c.self.invariant.sound row e c.in_ok-arrived.arrived c.scatter.new.channels.lists d (is-idle c.self.inside c.args.self.now c.self.view_is c.requires.idle) c.iterations-self-inside.result c.turns_of-self-inside.result
           (c.iterations-self-inside.ensures ∙ ap₂ (λ x y. or_one (allowed_by x (map target_of y) c.scatter.new.channels.lists)) c.as_slice.ensures c.deref-2.ensures.value)
-          (c.turns_of-self-inside.ensures ∙ ap (λ v. left_at_first v c.iterations-self-inside.result) c.deref-3.ensures.value) c.scatter.new.staged.list c.in_ok-scatter.ensures.empty;
+          (c.turns_of-self-inside.ensures ∙ ap (λ v. left_at_first (spread v) c.iterations-self-inside.result) c.deref-3.ensures.value) c.scatter.new.staged.list c.in_ok-scatter.ensures.empty;
+      stretch = first-within c.self.inside.plan.order.items c.iterations-self-inside.result c.turns_of-self-inside.result (c.turns_of-self-inside.ensures ∙ ap (λ v. left_at_first (spread v) c.iterations-self-inside.result) c.deref-3.ensures.value);
       lanes = c.self.invariant.lanes;
     }
 
@@ -56,5 +59,5 @@ returns-clause-begun c =
     let d = c.in_ok-scatter.ensures.lists ∙ ap (λ v. put_back (map target_of v) c.in_ok-arrived.arrived c.self.inside.channels.lists) c.deref.ensures.value in
     begun-state c.self.inside c.self.invariant.sound row e c.in_ok-arrived.arrived c.scatter.new.channels.lists d (is-idle c.self.inside c.args.self.now c.self.view_is c.requires.idle) c.iterations-self-inside.result c.turns_of-self-inside.result
     (c.iterations-self-inside.ensures ∙ ap₂ (λ x y. or_one (allowed_by x (map target_of y) c.scatter.new.channels.lists)) c.as_slice.ensures c.deref-2.ensures.value)
-    (c.turns_of-self-inside.ensures ∙ ap (λ v. left_at_first v c.iterations-self-inside.result) c.deref-3.ensures.value) c.args.tag ∙
+    (c.turns_of-self-inside.ensures ∙ ap (λ v. left_at_first (spread v) c.iterations-self-inside.result) c.deref-3.ensures.value) c.args.tag ∙
     ap₂ (λ (x : Streams Token) (s : State). begun c.args.tag x s) c.in_ok-arrived.ensures (seen-at c.self.inside code.Idle (is-idle c.self.inside c.args.self.now c.self.view_is c.requires.idle) ∙ c.self.view_is)

@@ -21,6 +21,7 @@ invariant_of-self-2 c = record {
       finished-sound c.self.inside c.self.invariant.sound c.len-from.result c.hand_out.new.channels.lists (c.in_ok-outputs.ensures.left ∙ ap (λ v. skip_at c.len-from.result (times c.self.inside.turns v) c.self.inside.channels.lists) c.as_slice.ensures)
       (is-closed c.self.inside c.args.self.now c.self.view_is c.requires) (omega (arith, c.len-from.ensures, c.self.inside.lent.ok.0)) c.use_up.new.channels.lists
       (c.use_up.ensures ∙ (λ j. skip_at (c.len-from.result + c.len.ensures j) (times c.self.inside.turns (counts_of (c.as_slice-2.ensures j) (c.deref.ensures.value j) (c.len-from.result + c.len.ensures j))) c.hand_out.new.channels.lists));
+  stretch = c.self.invariant.stretch;
   lanes = c.self.invariant.lanes;
 }
 

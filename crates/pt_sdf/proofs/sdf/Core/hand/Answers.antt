@@ -45,6 +45,7 @@ invariant_of-self c =
           (c.gather.ensures.left ∙ ap (λ v. skip_at c.index-from.result.now (take (get_or c.as_slice.result.now c.in-Asked.child 0) (drop c.index-from.result.now v)) c.self.inside.channels.lists) c.as_slice-in-Asked.ensures)
           (subst (λ v. (k : ℕ) → (k < c.index-from.result.now) ⊎ (c.index-from.result.now + get_or c.as_slice.result.now c.in-Asked.child 0 ≤ k) ⊎ (get_or v k 0 ≤ 1) → get_or c.gather.new.rooms.items k None ≡ get_or c.self.inside.rooms.items k None) c.as_slice-in-Asked.ensures c.gather.ensures.others)
           c.gather.ensures.rooms c.gather.ensures.counted;
+      stretch = c.self.invariant.stretch;
       lanes = c.self.invariant.lanes;
     }
 
