@@ -8,3 +8,4 @@ pub mod RightLaws
 pub mod ActLaws
 pub mod ReactLaws
 pub mod TypedLaws
+pub mod AloneLaws

@@ -45,7 +45,7 @@ nothing-there (suc n) zero = refl
 nothing-there (suc n) (suc p) = nothing-there n p
 
 -- the same names, whether the refinement gave nothing or wasn't fired
-unfired-names : (table : NameTable) (n : ℕ) (values : List Token) (inputs : Streams Token) → names_in table (record { values = values; inputs = inputs; given = [] }) ≡ names_in table (record { values = values; inputs = inputs; given = replicate n [] })
+pub unfired-names : (table : NameTable) (n : ℕ) (values : List Token) (inputs : Streams Token) → names_in table (record { values = values; inputs = inputs; given = [] }) ≡ names_in table (record { values = values; inputs = inputs; given = replicate n [] })
 unfired-names table n values inputs =
     let none : ℕ → Option Token = λ p. None in
     let found : ℕ → Option Token = λ p. last_of {T = Token} (at {T = Token} (replicate n []) p) in

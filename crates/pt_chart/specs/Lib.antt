@@ -10,3 +10,4 @@ pub mod Told
 pub mod Choose
 pub mod Acts
 pub mod Moves
+pub mod Alone

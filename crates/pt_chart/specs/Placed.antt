@@ -5,7 +5,7 @@ use Rattle.pt_meaning.specs.Transitions.{Scope as Reads}
 use Rattle.pt_value.specs.Value as value
 use Rattle.pt_value.specs.declared.token.Token.{Token}
 use Rattle.pt_value.specs.declared.token.Token.TheVariants as token
-use Rattle.pt_language.specs.Tree.{Tree, Not, Binary, Cond}
+use Rattle.pt_language.specs.Tree.{Tree, Negate, Not, Binary, Cond}
 use Rattle.pt_language.specs.Outcome.{Gives}
 use Rattle.pt_language.specs.Meaning as meaning
 use Rattle.pt_chart.specs.declared.placed.Place.{Place}
@@ -42,6 +42,7 @@ Says table (code.Int n) tree = (reads : Reads Token) → meaning.value (names_in
 Says table (code.Bool b) tree = (reads : Reads Token) → meaning.value (names_in table reads) tree ≡ Gives (value.Bool b)
 Says table (code.IntAt p) tree = (reads : Reads Token) (n : _) → at_place p reads ≡ Some (token.Int n) → meaning.value (names_in table reads) tree ≡ Gives (value.Int n)
 Says table (code.BoolAt p) tree = (reads : Reads Token) (b : _) → at_place p reads ≡ Some (token.Bool b) → meaning.value (names_in table reads) tree ≡ Gives (value.Bool b)
+Says table (code.Negate' p e) tree = (t : Tree) × (tree ≡ Negate t) × Says table e t
 Says table (code.Not' p e) tree = (t : Tree) × (tree ≡ Not t) × Says table e t
 Says table (code.Binary' op p a q b) tree = (s : Tree) × (t : Tree) × (tree ≡ Binary op s t) × Says table a s × Says table b t
 Says table (code.Cond' p c q a r b) tree = (u : Tree) × (s : Tree) × (t : Tree) × (tree ≡ Cond u s t) × Says table c u × Says table a s × Says table b t

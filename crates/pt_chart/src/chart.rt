@@ -8,8 +8,9 @@ use crate::bindings::Bindings;
 use crate::kept::{PlacedMode, PlacedTransition, placed_modes};
 use crate::lists::{empty_lists, picked, shown};
 use crate::reaction::{Reaction, react};
+use crate::signal::{Signal, signal_in};
 use crate::typed::is_typed_machine;
-use crate::written::{Mode, Transition, Written, copied_tokens};
+use crate::written::{Mode, Transition, Written, copied_tokens, refinement_of};
 use pt_firing::{Inputs, Outputs, Tokens};
 use pt_value::Token;
 use std::alloc::{AllocError, Global};
@@ -55,13 +56,14 @@ impl Model for Chart {
 }
 
 impl Chart {
-    ghost use Rattle.std.specs.Prelude.{Some, None, true, false, length, if◌then◌else◌};
+    ghost use Rattle.std.specs.Prelude.{Some, None, true, false, length, if◌then◌else◌, IfSome, IfNone};
     ghost use Rattle.pt_meaning.specs.Modal as modal;
     ghost use Rattle.pt_meaning.specs.Modal.{unfired_outputs};
     ghost use Rattle.pt_chart.specs.Typed.{is_typed_machine};
     ghost use Rattle.pt_chart.specs.Chart.{chart_of};
     ghost use Rattle.pt_chart.specs.Reacted.{reacted};
     ghost use Rattle.pt_chart.specs.Moves.{reaction_view};
+    ghost use Rattle.pt_chart.specs.Alone.{AloneTo};
     ghost use Rattle.pt_chart.specs.Views.{machine_of};
 
     /// The chart of what is written, if all its guards and actions have a type.
@@ -201,22 +203,32 @@ impl Chart {
         )
     }
 
+    /// A whole reaction in a state without refinement, where it gives one integer at most, on the one own output. The Variables are set in place.
+    ///
+    /// `None` says nothing: there is a refinement, or one would be entered, or there are more own outputs or none, or a guard or an
+    /// action has a fault or isn't of integers and truth values. Then the Variables are as before.
+    #[inline(always)]
+    pub fn signal(&self, mode: u32, values: &mut Vec<Token>, inputs: &Inputs<'_>) -> Option<Signal>
+        ensures kept { IfNone result (values.new.items ≡ values.old.items) }
+        ensures goes { IfSome result (λ s. AloneTo (chart_of self.now) mode values.old.items inputs.now s values.new.items) }
+    {
+        let at = mode as usize;
+        let modes = self.written.modes.as_slice();
+        let placed = self.placed.as_slice();
+        if at >= modes.len() || at >= placed.len() {
+            return None;
+        }
+        if self.written.names.outputs.as_slice().len() != 1 || modes[at].refinement.is_some() {
+            return None;
+        }
+        signal_in(modes, mode, &modes[at], &placed[at], values, inputs)
+    }
+
     /// Another chart of what is written here.
     pub fn copy(&self, alloc: Global) -> Result<Chart, AllocError>
         ensures { IfOk result (λ chart. chart ≡ self.now) }
     {
         Chart::of(alloc, self.written.copy(alloc)?)
-    }
-}
-
-fn refinement_of(modes: &[Mode], mode: u32) -> Option<u32>
-    ensures { result ≡ (mode_at (map mode_view modes.now) mode).refinement }
-{
-    let mode = mode as usize;
-    if mode < modes.len() {
-        modes[mode].refinement
-    } else {
-        None
     }
 }
 

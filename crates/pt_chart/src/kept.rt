@@ -107,6 +107,7 @@ fn placed(alloc: Global, tree: &Expr, names: &Names) -> Result<Placed, AllocErro
         Expr::Int(n) => Ok(Placed::Int(*n)),
         Expr::Bool(b) => Ok(Placed::Bool(*b)),
         Expr::Name(name) => Ok(place_of(names, name.as_str())),
+        Expr::Negate(e) => Ok(Placed::Negate(boxed(alloc, e, names)?)),
         Expr::Not(e) => Ok(Placed::Not(boxed(alloc, e, names)?)),
         Expr::Binary(op, a, b) => {
             let a = boxed(alloc, a, names)?;

@@ -13,10 +13,12 @@ mod placed;
 mod quick;
 mod reaction;
 mod shown;
+mod signal;
 mod typed;
 mod written;
 
 pub use chart::Chart;
 pub use lists::{copied_inputs, copied_lists};
 pub use reaction::{Move, Reaction};
+pub use signal::Signal;
 pub use written::{Action, Mode, Names, Ports, Transition, Written, copied_tokens};

@@ -30,6 +30,7 @@ pub(crate) enum Placed {
     Bool(bool),
     IntAt(Place),
     BoolAt(Place),
+    Negate(Box<Placed>),
     Not(Box<Placed>),
     Binary(BinaryOp, Box<Placed>, Box<Placed>),
     Cond(Box<Placed>, Box<Placed>, Box<Placed>),
@@ -47,6 +48,21 @@ fn token_at<'a>(place: Place, reads: &Reads<'a>) -> Option<&'a Token>
     }
 }
 
+/// The integer that a number or a name comes to. Of any other expression nothing is said.
+#[inline(always)]
+fn leaf(placed: &Placed, reads: &Reads<'_>) -> Option<i64>
+    ensures { IfSome result (λ n. (table : NameTable) (tree : Tree) → Says table placed.now tree → value (names_in table (reads_view reads.now)) tree ≡ Gives (Int n)) }
+{
+    match placed {
+        Placed::Int(n) => Some(*n),
+        Placed::IntAt(place) => match token_at(*place, reads) {
+            Some(Token::Int(n)) => Some(*n),
+            _ => None,
+        },
+        _ => None,
+    }
+}
+
 /// The integer that an expression comes to, where it is made of integers and no fault is met.
 #[cycle(quick)]
 pub(crate) fn integer(placed: &Placed, reads: &Reads<'_>) -> Option<i64>
@@ -58,9 +74,19 @@ pub(crate) fn integer(placed: &Placed, reads: &Reads<'_>) -> Option<i64>
             Some(Token::Int(n)) => Some(*n),
             _ => None,
         },
+        Placed::Negate(e) => match leaf(e, reads) {
+            Some(n) => n.checked_neg(),
+            None => integer(e, reads)?.checked_neg(),
+        },
         Placed::Binary(op, a, b) => {
-            let a = integer(a, reads)?;
-            computed(*op, a, integer(b, reads)?)
+            let a = match leaf(a, reads) {
+                Some(n) => n,
+                None => integer(a, reads)?,
+            };
+            match leaf(b, reads) {
+                Some(b) => computed(*op, a, b),
+                None => computed(*op, a, integer(b, reads)?),
+            }
         }
         Placed::Cond(test, a, b) => {
             if truth_value(test, reads)? {
@@ -100,10 +126,44 @@ pub(crate) fn truth_value(placed: &Placed, reads: &Reads<'_>) -> Option<bool>
             }
         }
         Placed::Binary(op, a, b) => {
-            let a = integer(a, reads)?;
-            compared(*op, a, integer(b, reads)?)
+            let a = match leaf(a, reads) {
+                Some(n) => n,
+                None => integer(a, reads)?,
+            };
+            match leaf(b, reads) {
+                Some(b) => compared(*op, a, b),
+                None => compared(*op, a, integer(b, reads)?),
+            }
         }
         _ => None,
+    }
+}
+
+/// The integer that an expression comes to, as `integer` says. A number and a name are read without a call.
+#[inline(always)]
+pub(crate) fn operand(placed: &Placed, reads: &Reads<'_>) -> Option<i64>
+    ensures { IfSome result (λ n. (table : NameTable) (tree : Tree) → Says table placed.now tree → value (names_in table (reads_view reads.now)) tree ≡ Gives (Int n)) }
+{
+    match leaf(placed, reads) {
+        Some(n) => Some(n),
+        None => integer(placed, reads),
+    }
+}
+
+/// The truth value that an expression comes to, as `truth_value` says. A comparison is made without a call.
+#[inline(always)]
+pub(crate) fn test(placed: &Placed, reads: &Reads<'_>) -> Option<bool>
+    ensures { IfSome result (λ b. (table : NameTable) (tree : Tree) → Says table placed.now tree → value (names_in table (reads_view reads.now)) tree ≡ Gives (Bool b)) }
+{
+    match placed {
+        Placed::Binary(BinaryOp::Or, _, _) | Placed::Binary(BinaryOp::And, _, _) => {
+            truth_value(placed, reads)
+        }
+        Placed::Binary(op, a, b) => {
+            let a = operand(a, reads)?;
+            compared(*op, a, operand(b, reads)?)
+        }
+        _ => truth_value(placed, reads),
     }
 }
 
@@ -120,6 +180,7 @@ fn computed(op: BinaryOp, m: i64, n: i64) -> Option<i64>
 }
 
 /// What an operator that compares makes of two integers.
+#[inline(always)]
 fn compared(op: BinaryOp, m: i64, n: i64) -> Option<bool>
     ensures { IfSome result (λ b. applied op (Int m) (Int n) ≡ Gives (Bool b)) }
 {

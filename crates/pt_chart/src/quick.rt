@@ -13,19 +13,20 @@ use crate::acts::{assign, give};
 use crate::choose::{Choice, Enabled};
 use crate::kept::PlacedTransition;
 use crate::names::Reads;
-use crate::placed::{Placed, integer, truth_value};
+use crate::placed::{Placed, operand, test};
 use crate::written::Action;
 use pt_firing::Tokens;
 use pt_value::Token;
 use std::alloc::{AllocError, Global};
 
 /// Which guard is enabled. None says nothing.
+#[inline(always)]
 pub(crate) fn chosen_quickly(transitions: &[PlacedTransition], reads: &Reads<'_>) -> Option<Choice>
     ensures { IfSome result (λ c. (table : NameTable) (ts : List TransitionTree) → SayTransitions table transitions.now ts → choice_view c ≡ chosen 0 (tests_in (names_in table (reads_view reads.now)) ts)) }
 {
     let mut enabled = Enabled::Nothing;
     for (number, transition) in transitions.iter().enumerate() {
-        if truth_value(&transition.guard, reads)? {
+        if test(&transition.guard, reads)? {
             enabled = enabled.with(number);
         }
     }
@@ -50,7 +51,7 @@ pub(crate) fn set_quickly(
             inputs: reads.inputs,
             given: reads.given,
         };
-        match integer(&placed[number], &now) {
+        match operand(&placed[number], &now) {
             Some(n) => assign(values, action.target, Token::Int(n)),
             None => return false,
         }
@@ -68,7 +69,7 @@ pub(crate) fn given_quickly(
 {
     let mut given = Vec::with_capacity(alloc, placed.len())?;
     for action in placed {
-        match integer(action, reads) {
+        match operand(action, reads) {
             Some(n) => given.push(n)?,
             None => return Ok(None),
         }

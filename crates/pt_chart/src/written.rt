@@ -1,4 +1,5 @@
 ghost use Rattle.std.specs.Prelude.{◌≡◌, IfOk, map};
+ghost use Rattle.pt_chart.specs.Acts.{mode_at};
 ghost use Rattle.pt_chart.specs.Views.{action_view, transition_view, mode_view, ports_view, names_view, machine_of};
 
 use pt_firing::Values;
@@ -166,6 +167,18 @@ impl Written {
             modes: copied_modes(alloc, &self.modes)?,
             ports: copied_ports(alloc, &self.ports)?,
         })
+    }
+}
+
+/// The refinement of a state.
+pub(crate) fn refinement_of(modes: &[Mode], mode: u32) -> Option<u32>
+    ensures { result ≡ (mode_at (map mode_view modes.now) mode).refinement }
+{
+    let mode = mode as usize;
+    if mode < modes.len() {
+        modes[mode].refinement
+    } else {
+        None
     }
 }
 

@@ -13,13 +13,13 @@ loop-number-preserved c table ts says =
     let s = names_in table (reads_view c.args.reads.now) in
     let n = c.loop-number.number in
     let e = c.loop-number.enabled in
-    let b = c.in_ok-truth_value.field-0 in
+    let b = c.in_ok-test.field-0 in
     let made : after b e n ≡ c.if-branch.enabled = elim c.if-branch.branch [
       | then-branch w ↦ ap (λ t. after t e n) w.if-branch.true ∙ sym w.with-enabled.ensures ∙ sym w.enabled-is
       | else-branch w ↦ ap (λ t. after t e n) w.if-branch.false ∙ sym w.enabled-is
     ] in
     c.loop-number.invariant table ts says
-    ∙ guard-next table s c.args.transitions.now ts n c.index-transitions-number.result e b says c.loop-number-test.true c.index-transitions-number.is (λ tree told. c.in_ok-truth_value.ensures table tree told)
+    ∙ guard-next table s c.args.transitions.now ts n c.index-transitions-number.result e b says c.loop-number-test.true c.index-transitions-number.is (λ tree told. c.in_ok-test.ensures table tree told)
     ∙ ap (λ (x : Enabled). joined x (chosen (n + 1) (drop (n + 1) (tests_in s ts)))) made
 
 pub returns : goal.returns
