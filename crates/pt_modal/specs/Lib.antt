@@ -5,3 +5,4 @@ pub mod Entered
 pub mod First
 pub mod Views
 pub mod Seen
+pub mod Signals

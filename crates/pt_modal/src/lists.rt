@@ -1,4 +1,4 @@
-ghost use Rattle.std.specs.Prelude.{◌≡◌, IfOk};
+ghost use Rattle.std.specs.Prelude.{◌≡◌, IfOk, IsTrue};
 
 use pt_chart::copied_lists;
 use pt_firing::Tokens;
@@ -25,6 +25,13 @@ impl Lists {
             lent: Vec::new(alloc),
             outputs: Vec::new(alloc),
         }
+    }
+
+    /// Whether none is under way: no own input and no own output has a list.
+    pub(crate) fn are_none(&self) -> bool
+        ensures { IsTrue result → IsBare self.now }
+    {
+        self.inputs.is_empty() && self.outputs.is_empty()
     }
 
     /// Hands out what the own outputs have, and lets go of the rest.

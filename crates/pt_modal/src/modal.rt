@@ -60,15 +60,16 @@ impl Model for Core {
 }
 
 impl Core {
-    ghost use Rattle.std.specs.Prelude.{◌≡◌, replicate, IfOk, IsSome, OnOk, OnErr};
+    ghost use Rattle.std.specs.Prelude.{◌≡◌, replicate, IfOk, IfSome, IfNone, IsSome, OnOk, OnErr};
     ghost use Rattle.pt_meaning.specs.Tag.{local};
     ghost use Rattle.pt_meaning.specs.Modal.{lag_of};
     ghost use Rattle.pt_chart.specs.Chart.{chart_of};
     ghost use Rattle.pt_chart.specs.Moves.{reaction_view};
-    ghost use Rattle.pt_modal_laws.specs.State.{Closed, asked_child, opened, after_reset, closed, taken_by, started, begun, after_told, restarted, wake_of};
+    ghost use Rattle.pt_modal_laws.specs.State.{Idle, Closed, asked_child, opened, after_reset, closed, taken_by, started, begun, after_told, restarted, wake_of};
     ghost use Rattle.pt_modal_laws.specs.ModalActs.{MayAsk, Gives, asking};
     ghost use Rattle.pt_modal.specs.First.{Picks, after_first, after_reacted, moved};
     ghost use Rattle.pt_modal.specs.Views.{first_view};
+    ghost use Rattle.pt_modal.specs.Signals.{IsSignal};
 
     /// A core of this plan, before its first reaction.
     pub fn new(alloc: Global, plan: CorePlan) -> Result<Core, AllocError>
@@ -103,6 +104,23 @@ impl Core {
         self.open(alloc, tag, kept);
         self.go_on(step);
         Ok(())
+    }
+
+    /// A whole reaction, from `begin` to `finish`, where no refinement is left, entered or fired, and the one own output has one integer at most. It takes no memory. After `None` the core is as before.
+    ///
+    /// It says nothing of the tag, since only the times of refinements depend on it.
+    #[inline(never)]
+    pub fn signal(&mut self, inputs: &Inputs<'_>) -> Option<Option<i64>>
+        requires idle { self.old.stage ≡ Idle }
+        ensures kept { IfNone result (self.new ≡ self.old) }
+        ensures goes { IfSome result (λ given. IsSignal chart_of given inputs.now self.old self.new) }
+    {
+        if !self.lists.are_none() {
+            return None;
+        }
+        let given = self.plan.signal(&mut self.modes, inputs)?;
+        self.tag = ORIGIN;
+        Some(given)
     }
 
     /// A reaction begins, and no guard is tested yet.

@@ -1,7 +1,8 @@
-ghost use Rattle.std.specs.Prelude.{◌≡◌, IfOk};
+ghost use Rattle.std.specs.Prelude.{◌≡◌, IfOk, IfSome, IfNone};
 
 use crate::stays::{Stay, lag_of, pass, unentered};
 use pt_chart::{Chart, copied_tokens};
+use pt_firing::Inputs;
 use pt_value::Token;
 use std::alloc::{AllocError, Global};
 use std::marker::Model;
@@ -31,6 +32,7 @@ impl Modes {
     ghost use Rattle.pt_modal_laws.specs.State.{moved_stays};
     ghost use Rattle.pt_chart.specs.Chart.{chart_of};
     ghost use Rattle.pt_modal.specs.Entered.{with_stays, in_mode};
+    ghost use Rattle.pt_modal.specs.Signals.{PassesAlone};
 
     /// Where the Modal of a chart with so many refinements begins.
     pub(crate) fn first(
@@ -83,6 +85,17 @@ impl Modes {
     {
         self.mode = mode;
         self.values = values;
+    }
+
+    /// A whole reaction in which no refinement is left, entered or fired, and the one own output has one integer at most. After `None` all is as before.
+    #[inline(always)]
+    pub(crate) fn signal(&mut self, chart: &Chart, inputs: &Inputs<'_>) -> Option<Option<i64>>
+        ensures kept { IfNone result (self.new ≡ self.old) }
+        ensures goes { IfSome result (λ given. PassesAlone (chart_of chart.now) inputs.now given self.old self.new) }
+    {
+        let signal = chart.signal(self.mode, &mut self.values, inputs)?;
+        self.mode = signal.target;
+        Some(signal.given)
     }
 
     pub(crate) fn copy(&self, alloc: Global) -> Result<Modes, AllocError>

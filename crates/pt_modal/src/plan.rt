@@ -1,4 +1,4 @@
-ghost use Rattle.std.specs.Prelude.{◌≡◌, IfOk, replicate, length};
+ghost use Rattle.std.specs.Prelude.{◌≡◌, IfOk, IfSome, IfNone, replicate, length};
 
 use crate::first::{FirstStep, first_step};
 use crate::modes::Modes;
@@ -50,6 +50,7 @@ impl CorePlan {
     ghost use Rattle.pt_chart.specs.Moves.{reaction_view};
     ghost use Rattle.pt_chart.specs.Reacted.{reacted};
     ghost use Rattle.pt_modal.specs.First.{first_step};
+    ghost use Rattle.pt_modal.specs.Signals.{PassesAlone};
     ghost use Rattle.pt_modal.specs.Views.{first_view};
 
     /// The plan of a composite with this chart, whose refinements have these wakes at their start.
@@ -120,6 +121,15 @@ impl CorePlan {
         let given = self.chart.shown(alloc, refinement, outputs)?;
         self.chart
             .follow(alloc, modes.mode(), modes.values(), inputs, given)
+    }
+
+    /// A whole reaction in which no refinement is left, entered or fired, and the one own output has one integer at most. After `None` the modes are as before.
+    #[inline(always)]
+    pub(crate) fn signal(&self, modes: &mut Modes, inputs: &Inputs<'_>) -> Option<Option<i64>>
+        ensures kept { IfNone result (modes.new ≡ modes.old) }
+        ensures goes { IfSome result (λ given. PassesAlone (chart_of self.now.machine) inputs.now given modes.old modes.new) }
+    {
+        modes.signal(&self.chart, inputs)
     }
 
     pub(crate) fn copy(&self, alloc: Global) -> Result<CorePlan, AllocError>
