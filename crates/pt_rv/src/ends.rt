@@ -133,6 +133,7 @@ fn promise_all(
 }
 
 /// Makes room for one token more on a channel, if that ends at an own output.
+#[inline(always)]
 fn promise_one(
     alloc: Global,
     outlets: &mut Vec<Outlet>,

@@ -11,6 +11,7 @@ impl Core {
     ghost use Rattle.pt_rv.specs.Core.{MayCome};
 
     /// What comes of the next party in the worklist, if anything does.
+    #[inline(always)]
     pub(crate) fn look_at_next(&mut self) -> Option<Ask>
         requires running { self.old.stage ≡ Open }
         requires rests { AllRest self.old }
@@ -23,14 +24,102 @@ impl Core {
     }
 
     /// Takes a party out of the worklist.
+    #[inline(always)]
     fn next_party(&mut self) -> Option<u32>
         ensures { self.new ≡ self.old }
     {
         self.worklist.take()
     }
 
-    /// What comes of a look at a party.
+    /// What comes of a look at a party: first at the channel of what it does next, then at whatever else that may lead to.
+    #[inline(always)]
     fn look_at_party(&mut self, party: u32) -> Option<Ask>
+        requires running { self.old.stage ≡ Open }
+        requires rests { AllRest self.old }
+        ensures { MayCome self.old result self.new }
+    {
+        match self.look_at_channel_of(party) {
+            Some(answer) => Some(answer),
+            None => self.look_further(party),
+        }
+    }
+
+    /// What comes of a look at the channel of what a party does next.
+    #[inline(always)]
+    fn look_at_channel_of(&mut self, party: u32) -> Option<Ask>
+        requires running { self.old.stage ≡ Open }
+        requires rests { AllRest self.old }
+        ensures { MayCome self.old result self.new }
+    {
+        match self.channel_of(party) {
+            Some(channel) => self.try_channel(channel),
+            None => None,
+        }
+    }
+
+    /// The channel of the put or of the get that a party does next, if it does one.
+    #[inline(always)]
+    fn channel_of(&mut self, party: u32) -> Option<usize>
+        requires { self.old.stage ≡ Open }
+        ensures { self.new ≡ self.old }
+    {
+        if (party as usize) < self.plan.processes() {
+            return self.channel_of_process(party);
+        }
+        match self.inlet_put(party as usize) {
+            Some(channel) => Some(channel as usize),
+            None => None,
+        }
+    }
+
+    /// The same of a process.
+    #[inline(always)]
+    fn channel_of_process(&mut self, process: u32) -> Option<usize>
+        requires there { process < length self.old.processes.plan.net.places }
+        requires running { self.old.stage ≡ Open }
+        ensures { self.new ≡ self.old }
+    {
+        let event = self.event(process);
+        match event {
+            Event::Put(channel) => Some(channel as usize),
+            Event::Get(place) => self.channel_to(process, place),
+            Event::GetAny | Event::Join | Event::Fire | Event::Over => None,
+        }
+    }
+
+    /// The channel of the next put of the own input with this number behind the processes, if it has one.
+    fn inlet_put(&self, party: usize) -> Option<u32> {
+        let port = party.saturating_sub(self.plan.processes());
+        match self.parties.inlets.get(port) {
+            Some(inlet) => inlet.next_put(),
+            None => None,
+        }
+    }
+
+    /// What a process does next.
+    #[inline(always)]
+    fn event(&mut self, process: u32) -> Event
+        requires there { process < length self.old.processes.plan.net.places }
+        requires running { self.old.stage ≡ Open }
+        ensures { self.new ≡ self.old }
+    {
+        self.parties.team.next(process as usize)
+    }
+
+    /// The channel that ends at a place of a process, if it has that.
+    #[inline(always)]
+    fn channel_to(&self, process: u32, place: usize) -> Option<usize>
+        requires { process < length self.now.processes.plan.net.places }
+    {
+        if place >= self.plan.places(process as usize) {
+            return None;
+        }
+        Some(self.plan.channel_at(process as usize, place))
+    }
+
+    /// What else comes of a party, where no meeting on the channel of what it does next is legal.
+    #[inline(never)]
+    fn look_further(&mut self, party: u32) -> Option<Ask>
         requires running { self.old.stage ≡ Open }
         requires rests { AllRest self.old }
         ensures { MayCome self.old result self.new }
@@ -44,16 +133,7 @@ impl Core {
         }
     }
 
-    /// The channel of the next put of the own input with this number behind the processes, if it has one.
-    fn inlet_put(&self, party: usize) -> Option<u32> {
-        let port = party.saturating_sub(self.plan.processes());
-        match self.parties.inlets.get(port) {
-            Some(inlet) => inlet.next_put(),
-            None => None,
-        }
-    }
-
-    /// What comes of a look at a process.
+    /// What else comes of a process.
     fn look_at_process(&mut self, process: u32) -> Option<Ask>
         requires there { process < length self.old.processes.plan.net.places }
         requires running { self.old.stage ≡ Open }
@@ -64,16 +144,7 @@ impl Core {
         self.look_by(process, event)
     }
 
-    /// What a process does next.
-    fn event(&mut self, process: u32) -> Event
-        requires there { process < length self.old.processes.plan.net.places }
-        requires running { self.old.stage ≡ Open }
-        ensures { self.new ≡ self.old }
-    {
-        self.parties.team.next(process as usize)
-    }
-
-    /// What comes of a process that does this next.
+    /// What else comes of a process that does this next.
     fn look_by(&mut self, process: u32, event: Event) -> Option<Ask>
         requires there { process < length self.old.processes.plan.net.places }
         requires running { self.old.stage ≡ Open }
@@ -82,23 +153,21 @@ impl Core {
     {
         match event {
             Event::Put(channel) => self.look_along(channel),
-            Event::Get(place) => self.look_at_place(process, place),
             Event::GetAny => self.look_at_waiting(process),
             Event::Join => self.look_at_join(process),
-            Event::Fire | Event::Over => None,
+            Event::Get(_) | Event::Fire | Event::Over => None,
         }
     }
 
-    /// What comes of a put on a channel.
+    /// What else comes of a put on a channel, by what is done where it ends.
     fn look_along(&mut self, channel: u32) -> Option<Ask>
         requires running { self.old.stage ≡ Open }
         requires rests { AllRest self.old }
         ensures { MayCome self.old result self.new }
     {
         match self.end_of(channel) {
-            Some(Target::Outlet(_)) => self.try_channel(channel as usize),
             Some(Target::Place(process, _)) => self.look_at_receiver(process, channel),
-            None => None,
+            Some(Target::Outlet(_)) | None => None,
         }
     }
 
@@ -110,7 +179,7 @@ impl Core {
         Some(self.plan.target(channel as usize))
     }
 
-    /// What comes of a put on a channel that ends at a process.
+    /// What else comes of a put on a channel that ends at a process.
     fn look_at_receiver(&mut self, process: u32, channel: u32) -> Option<Ask>
         requires running { self.old.stage ≡ Open }
         requires rests { AllRest self.old }
@@ -123,7 +192,7 @@ impl Core {
         self.look_from(process, channel, event)
     }
 
-    /// What comes of a put to a process that does this next. Where that is something else than a get, the token waits.
+    /// What else comes of a put to a process that does this next. Where that is something else than a get, the token waits.
     fn look_from(&mut self, process: u32, channel: u32, event: Event) -> Option<Ask>
         requires there { process < length self.old.processes.plan.net.places }
         requires running { self.old.stage ≡ Open }
@@ -132,7 +201,7 @@ impl Core {
     {
         match event {
             Event::Join => self.look_at_join(process),
-            Event::Get(_) | Event::GetAny => self.try_channel(channel as usize),
+            Event::Get(_) | Event::GetAny => None,
             Event::Put(_) | Event::Fire | Event::Over => self.wait(process, channel),
         }
     }
@@ -143,29 +212,6 @@ impl Core {
     {
         self.worklist.wait(process, channel);
         None
-    }
-
-    /// What comes of a get at a place.
-    fn look_at_place(&mut self, process: u32, place: usize) -> Option<Ask>
-        requires there { process < length self.old.processes.plan.net.places }
-        requires running { self.old.stage ≡ Open }
-        requires rests { AllRest self.old }
-        ensures { MayCome self.old result self.new }
-    {
-        match self.channel_to(process, place) {
-            Some(channel) => self.try_channel(channel),
-            None => None,
-        }
-    }
-
-    /// The channel that ends at a place of a process, if it has that.
-    fn channel_to(&self, process: u32, place: usize) -> Option<usize>
-        requires { process < length self.now.processes.plan.net.places }
-    {
-        if place >= self.plan.places(process as usize) {
-            return None;
-        }
-        Some(self.plan.channel_at(process as usize, place))
     }
 
     /// What comes of a get at any place, by the channels on which tokens wait for it.
@@ -203,6 +249,7 @@ impl Core {
     }
 
     /// What comes of the meeting on a channel, if it is there.
+    #[inline(always)]
     fn try_channel(&mut self, channel: usize) -> Option<Ask>
         requires running { self.old.stage ≡ Open }
         requires rests { AllRest self.old }

@@ -36,6 +36,7 @@ impl Core {
     }
 
     /// A process that may fire, if one may.
+    #[inline(always)]
     fn any_firing(&self) -> Option<u32>
         ensures may { IfSome result (λ process. MayFire self.now process) }
         ensures rests { IsNone result → AllRest self.now }
@@ -130,6 +131,7 @@ impl Core {
     }
 
     /// Whether the meeting on a channel is legal.
+    #[inline(always)]
     fn is_channel_legal(&mut self, channel: u32) -> bool
         requires there { channel < length self.old.processes.plan.net.sources }
         requires running { self.old.stage ≡ Open }
@@ -141,6 +143,7 @@ impl Core {
     }
 
     /// Makes the meeting on a channel.
+    #[inline(always)]
     fn meet_on(&mut self, channel: u32) -> Ask
         requires there { channel < length self.old.processes.plan.net.sources }
         requires running { self.old.stage ≡ Open }

@@ -15,6 +15,7 @@ use pt_core::Source;
 use pt_rv_parts::{Plan, Target};
 
 /// Whether a token is offered on a channel, and who receives at its end gets there next.
+#[inline(always)]
 pub(crate) fn can_pass(plan: &Plan, parties: &mut Parties, channel: usize) -> bool
     requires sound { AreSound plan.now }
     requires fit { FitIn plan.now parties.old }
@@ -48,6 +49,7 @@ pub(crate) fn can_join(plan: &Plan, parties: &mut Parties, barrier: usize) -> bo
 }
 
 /// Whether a token is offered on a channel.
+#[inline(always)]
 pub(crate) fn is_offered(plan: &Plan, parties: &Parties, channel: usize) -> bool
     requires sound { AreSound plan.now }
     requires fit { FitIn plan.now parties.now }
@@ -61,6 +63,7 @@ pub(crate) fn is_offered(plan: &Plan, parties: &Parties, channel: usize) -> bool
 }
 
 /// The channel of the next put of who sends at a source, if there is one.
+#[inline(always)]
 fn next_put(parties: &Parties, source: Source) -> Option<u32>
     requires { IsThere (source_of source) parties.now }
     ensures { PutsFirst (puts_at (moving_in parties.now) (Some (source_of source))) result }
@@ -72,6 +75,7 @@ fn next_put(parties: &Parties, source: Source) -> Option<u32>
 }
 
 /// Whether the next put is on this channel.
+#[inline(always)]
 fn is_on(next: Option<u32>, channel: usize) -> bool
     ensures { result ≡ is_next next channel }
 {
@@ -82,6 +86,7 @@ fn is_on(next: Option<u32>, channel: usize) -> bool
 }
 
 /// Whether who receives at the end of a channel gets there next.
+#[inline(always)]
 fn is_received(parties: &mut Parties, target: Target) -> bool
     requires there { EndsThere (target_of target) parties.old }
     requires free { NoneHanded parties.old.team }

@@ -201,6 +201,7 @@ impl Core {
     }
 
     /// How many places a process has.
+    #[inline(always)]
     pub(crate) fn places_of(&self, process: usize) -> usize
         requires { process < length self.now.processes.plan.net.places }
         ensures { result ≡ get_or self.now.processes.plan.net.places process 0 }
@@ -270,6 +271,7 @@ impl Core {
 }
 
 /// Whether a need is a count for each of so many places, one token from any, or none.
+#[inline(always)]
 pub(crate) fn fits(need: Need<'_>, places: usize) -> bool
     ensures { result ≡ true → HasPlaces places (need_of need.entry) }
 {

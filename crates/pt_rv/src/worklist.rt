@@ -47,11 +47,13 @@ impl Worklist {
     }
 
     /// So many parties stand in it.
+    #[inline(always)]
     pub(crate) fn len(&self) -> usize {
         self.noted.len()
     }
 
     /// A party has moved.
+    #[inline(always)]
     pub(crate) fn note(&mut self, party: u32) {
         let number = party as usize;
         if number >= self.is_noted.len() || self.is_noted[number] {
@@ -64,6 +66,7 @@ impl Worklist {
     }
 
     /// Takes out the party that was noted first.
+    #[inline(always)]
     pub(crate) fn take(&mut self) -> Option<u32> {
         let party = self.noted.pop_front()?;
         let number = party as usize;
@@ -74,6 +77,7 @@ impl Worklist {
     }
 
     /// Who sends at a source has moved.
+    #[inline(always)]
     pub(crate) fn note_sender(&mut self, source: Source) {
         match source {
             Source::Own(port) => self.note(self.processes.saturating_add(port)),
@@ -82,6 +86,7 @@ impl Worklist {
     }
 
     /// Who receives at the end of a channel has moved.
+    #[inline(always)]
     pub(crate) fn note_target(&mut self, target: Target) {
         match target {
             Target::Place(process, _) => self.note(process),

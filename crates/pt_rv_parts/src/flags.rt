@@ -47,6 +47,7 @@ impl Flags {
     }
 
     /// The number of one that is set, if there is one.
+    #[inline(always)]
     pub(crate) fn any(&self) -> Option<usize>
         ensures there { IfSome result (λ number. number < length self.now) }
         ensures set { IfSome result (λ number. get_or self.now number false ≡ true) }
@@ -60,6 +61,7 @@ impl Flags {
     }
 
     /// Sets a flag, or takes it back. It takes no memory.
+    #[inline(always)]
     pub(crate) fn mark(&mut self, number: usize, flag: bool)
         requires { number < length self.old }
         ensures { self.new ≡ set self.old number flag }
@@ -71,6 +73,7 @@ impl Flags {
         }
     }
 
+    #[inline(always)]
     fn set(&mut self, number: usize)
         requires { number < length self.old }
         ensures { self.new ≡ set self.old number true }
@@ -83,6 +86,7 @@ impl Flags {
         enter(&mut self.numbers, &mut self.places, number);
     }
 
+    #[inline(always)]
     fn clear(&mut self, number: usize)
         requires { number < length self.old }
         ensures { self.new ≡ set self.old number false }
@@ -121,6 +125,7 @@ fn zeros(alloc: Global, count: usize) -> Result<Vec<usize>, AllocError>
 }
 
 /// A number comes into the list, behind the others.
+#[inline(always)]
 fn enter(numbers: &mut Vec<usize>, places: &mut Vec<usize>, number: usize)
     requires there { number < length places.old.items }
     requires room { length numbers.old.items < vec_capacity numbers.old }
@@ -133,6 +138,7 @@ fn enter(numbers: &mut Vec<usize>, places: &mut Vec<usize>, number: usize)
 }
 
 /// A number leaves the list, and the last one comes into its place.
+#[inline(always)]
 fn leave(numbers: &mut Vec<usize>, places: &mut Vec<usize>, number: usize)
     requires there { number < length places.old.items }
     requires listed { get_or places.old.items number 0 < length numbers.old.items }

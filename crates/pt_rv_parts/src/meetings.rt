@@ -40,6 +40,7 @@ impl Meetings {
     }
 
     /// Makes room for so many more.
+    #[inline(always)]
     pub fn promise(&mut self, more: usize) -> Result<(), AllocError>
         ensures list { self.new.list ≡ self.old.list }
         ensures spare { OnOk result (self.new.spare ≡ self.old.spare + more) }
@@ -54,6 +55,7 @@ impl Meetings {
     }
 
     /// A meeting is made. It takes no memory.
+    #[inline(always)]
     pub fn note(&mut self, meeting: Meeting)
         requires { 0 < self.old.spare }
         ensures list { self.new.list ≡ self.old.list ++ meeting_of meeting ∷ [] }

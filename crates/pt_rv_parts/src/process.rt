@@ -32,6 +32,7 @@ impl Event {
     ghost use Rattle.std.specs.Prelude.{◌≡◌};
     ghost use Rattle.pt_rv_parts.specs.Process.{fires_by, gets_by, joins_by};
 
+    #[inline(always)]
     pub fn is_fire(self) -> bool
         ensures { result ≡ fires_by self }
     {
@@ -42,6 +43,7 @@ impl Event {
     }
 
     /// Whether it gets at this place.
+    #[inline(always)]
     pub fn is_get(self, place: usize) -> bool
         ensures { result ≡ gets_by self place }
     {
@@ -103,6 +105,7 @@ impl Process {
     ghost use Rattle.pt_rv_parts.specs.Process.{DoesNext, MayTake, IsCounted, IsByCounts};
 
     /// What it does next.
+    #[inline(always)]
     pub fn next(&mut self) -> Event
         requires { self.old.handed ≡ false }
         ensures same { self.new ≡ self.old }
@@ -115,6 +118,7 @@ impl Process {
     }
 
     /// The same where it has no put to make.
+    #[inline(always)]
     fn next_of_need(&mut self) -> Event
         requires gathers { self.old.handed ≡ false }
         requires none { self.old.puts ≡ [] }
@@ -132,6 +136,7 @@ impl Process {
     }
 
     /// Whether it may fire.
+    #[inline(always)]
     pub fn is_firing(&mut self) -> bool
         requires { self.old.handed ≡ false }
         ensures same { self.new ≡ self.old }
@@ -142,6 +147,7 @@ impl Process {
     }
 
     /// The channel of its next put, if it has one.
+    #[inline(always)]
     pub fn next_put(&self) -> Option<u32>
         ensures { PutsFirst self.now.puts result }
     {
@@ -149,6 +155,7 @@ impl Process {
     }
 
     /// Takes a token at a place. It takes no memory.
+    #[inline(always)]
     pub fn get(&mut self, place: usize, token: Token)
         requires { MayTake self.old place }
         ensures { self.new ≡ with_token place token self.old }
@@ -161,6 +168,7 @@ impl Process {
     }
 
     /// The same of a process that needs so many tokens at each place.
+    #[inline(always)]
     fn get_counted(&mut self, place: usize, token: Token)
         requires may { MayTake self.old place }
         requires counts { IsCounted self.old.need }
@@ -180,6 +188,7 @@ impl Process {
     }
 
     /// Takes out its next put.
+    #[inline(always)]
     pub fn put(&mut self) -> StagedPut
         requires { 0 < length self.old.puts }
         ensures put { slice_get self.old.puts 0 ≡ Some (put_of result) }
@@ -192,6 +201,7 @@ impl Process {
     }
 
     /// Hands over what it has gathered, so that it can be lent. It takes no memory.
+    #[inline(always)]
     pub fn hand(&mut self)
         requires { self.old.handed ≡ false }
         ensures { self.new ≡ with_handed self.old }
@@ -203,6 +213,7 @@ impl Process {
     }
 
     /// The same of a process that gathers by counts.
+    #[inline(always)]
     fn hand_lines(&mut self)
         requires gathers { self.old.handed ≡ false }
         requires lines { IsByCounts self.old.need }
@@ -222,6 +233,7 @@ impl Process {
 }
 
 /// The channel of the first of these puts, if there is one.
+#[inline(always)]
 pub(crate) fn first_put(puts: &VecDeque<StagedPut>) -> Option<u32>
     ensures { PutsFirst (puts_in puts.now.items) result }
 {
@@ -233,6 +245,7 @@ pub(crate) fn first_put(puts: &VecDeque<StagedPut>) -> Option<u32>
 }
 
 /// What comes of the first place that lacks a token.
+#[inline(always)]
 fn event_of(is_barrier: bool, lacks: Option<usize>) -> Event
     ensures { result ≡ event_by is_barrier lacks }
 {
@@ -249,6 +262,7 @@ fn event_of(is_barrier: bool, lacks: Option<usize>) -> Event
 }
 
 /// What comes where any token will do.
+#[inline(always)]
 fn any_event(filled: Option<usize>) -> Event
     ensures { result ≡ any_event_by filled }
 {
@@ -259,6 +273,7 @@ fn any_event(filled: Option<usize>) -> Event
 }
 
 /// The first place that lacks a token, where so many at the front lack nothing. As many are found to lack nothing then.
+#[inline(always)]
 fn lacking_of(counts: &[usize], lines: &[Line], full: &mut usize) -> Option<usize>
     requires counted { length counts.now ≡ length lines.now }
     requires full { (q : ℕ) → q < full.old → get_or counts.now q 0 ≤ length (at (lists_of lines.now) q) }
@@ -278,6 +293,7 @@ fn lacking_of(counts: &[usize], lines: &[Line], full: &mut usize) -> Option<usiz
 }
 
 /// Puts a token behind the others of a place that has room.
+#[inline(always)]
 fn put_in_line(lines: &mut Vec<Line>, place: usize, token: Token)
     requires there { place < length lines.old.items }
     requires room { 0 < room_at lines.old.items place }
@@ -291,6 +307,7 @@ fn put_in_line(lines: &mut Vec<Line>, place: usize, token: Token)
 }
 
 /// Moves the tokens of each place into a row.
+#[inline(always)]
 fn hand_over(lines: &mut Vec<Line>, row: &mut Vec<Tokens>)
     requires { length row.old.items ≡ length lines.old.items }
     ensures row { row.new.items ≡ lists_of lines.old.items }

@@ -145,6 +145,7 @@ impl Process {
     }
 
     /// Whether it needs so many tokens already.
+    #[inline(always)]
     fn needs(&self, counts: &Counts) -> bool
         ensures { result ≡ true → self.now.need ≡ machine.Counts counts.now }
     {
@@ -190,6 +191,7 @@ impl Process {
 }
 
 /// Whether these counts are kept.
+#[inline(always)]
 fn is_kept(kept: &KeptNeed, counts: &Counts) -> bool
     ensures { result ≡ true → kept.now ≡ kept_need.Counts counts.now }
 {
@@ -199,18 +201,19 @@ fn is_kept(kept: &KeptNeed, counts: &Counts) -> bool
     }
 }
 
-/// Whether these counts are the same. Where there is one, nothing is called for that.
+/// Whether these counts are the same. Where there is one or none, nothing is called for that.
 #[inline(always)]
 fn are_same(kept: &[usize], counts: &[usize]) -> bool
     ensures { result ≡ true → kept.now ≡ counts.now }
 {
-    if let [count] = counts {
-        return match kept {
+    match counts {
+        [] => kept.is_empty(),
+        [count] => match kept {
             [kept] => *kept == *count,
             _ => false,
-        };
+        },
+        _ => kept == counts,
     }
-    kept == counts
 }
 
 /// The counts of a need, or none.
@@ -224,6 +227,7 @@ pub(crate) fn counts_of(need: &KeptNeed) -> &[usize]
 }
 
 /// For so many tokens each place has room at least: of a Barrier, which takes a token at all places until none lacks one, for as many as any count says.
+#[inline(always)]
 pub(crate) fn least_room(is_barrier: bool, counts: &[usize]) -> usize
     ensures { IsLeast is_barrier counts.now result }
 {
@@ -242,6 +246,7 @@ pub(crate) fn most_of(counts: &[usize]) -> usize
 }
 
 /// For so many tokens a place has room: its own count, and no less than all have.
+#[inline(always)]
 pub(crate) fn room_of(counts: &[usize], least: usize, place: usize) -> usize
     ensures { result ≡ max (get_or counts.now place 0) least }
 {
@@ -287,9 +292,19 @@ fn make_room(
     ensures others { OnOk result ((q : ℕ) → nat_eq place q ≡ false → (at (lists_of lines.new.items) q ≡ at (lists_of lines.old.items) q) × (room_at lines.new.items q ≡ room_at lines.old.items q)) }
 {
     let line = &mut lines[place];
-    line.clear();
+    empty(line);
     line.reserve(alloc, count)?;
     Ok(())
+}
+
+/// Empties a line. Most often it is empty, since its tokens were handed over.
+#[inline(always)]
+fn empty(line: &mut Line)
+    ensures { line.new.list ≡ [] }
+{
+    if !line.is_empty() {
+        line.clear();
+    }
 }
 
 /// Empties each place.

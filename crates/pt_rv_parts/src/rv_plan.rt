@@ -66,6 +66,7 @@ impl Plan {
     }
 
     /// How many processes there are.
+    #[inline(always)]
     pub fn processes(&self) -> usize
         ensures count { result ≡ length self.now.plan.net.places }
         ensures few { result < 2 ^ 32 }
@@ -74,6 +75,7 @@ impl Plan {
     }
 
     /// How many channels there are.
+    #[inline(always)]
     pub fn channels(&self) -> usize
         ensures count { result ≡ length self.now.plan.net.sources }
         ensures few { result < 2 ^ 32 }
@@ -89,6 +91,7 @@ impl Plan {
     }
 
     /// How many places a process has.
+    #[inline(always)]
     pub fn places(&self, process: usize) -> usize
         requires { process < length self.now.plan.net.places }
         ensures { result ≡ get_or self.now.plan.net.places process 0 }
@@ -97,6 +100,7 @@ impl Plan {
     }
 
     /// The channel that ends at a place of a process.
+    #[inline(always)]
     pub fn channel_at(&self, process: usize, place: usize) -> usize
         requires there { process < length self.now.plan.net.places }
         requires within { place < get_or self.now.plan.net.places process 0 }
@@ -106,6 +110,7 @@ impl Plan {
     }
 
     /// How many channels end at processes.
+    #[inline(always)]
     pub fn inner(&self) -> usize
         ensures { result ≡ total self.now.plan.net.places }
     {
@@ -113,6 +118,7 @@ impl Plan {
     }
 
     /// Where a channel begins.
+    #[inline(always)]
     pub fn source(&self, channel: usize) -> Source
         requires { channel < length self.now.plan.net.sources }
         ensures { IsSourceAt self.now channel result }
@@ -121,6 +127,7 @@ impl Plan {
     }
 
     /// Where a channel ends.
+    #[inline(always)]
     pub fn target(&self, channel: usize) -> Target
         requires { channel < length self.now.plan.net.sources }
         ensures { target_of result ≡ target_from 0 self.now.plan.net.places channel }
@@ -129,6 +136,7 @@ impl Plan {
     }
 
     /// The channels that begin at a port of a process.
+    #[inline(always)]
     pub fn fan(&self, process: usize, port: usize) -> &[u32]
         requires { process < length self.now.plan.net.places }
         ensures { result.now ≡ channels_from 0 (Output process port) self.now.plan.net.sources }
@@ -152,6 +160,7 @@ impl Plan {
 }
 
 /// The channel that ends at a place, by where the places of each process begin.
+#[inline(always)]
 fn channel_in(offsets: &[usize], process: usize, place: usize) -> usize
     requires there { process + 1 < length offsets.now }
     requires within { get_or offsets.now process 0 + place < get_or offsets.now (process + 1) 0 }
@@ -161,6 +170,7 @@ fn channel_in(offsets: &[usize], process: usize, place: usize) -> usize
 }
 
 /// What a table has in a row at a number, or nothing.
+#[inline(always)]
 fn read_fan(fans: &[Vec<Vec<u32>>], row: usize, port: usize) -> &[u32]
     ensures { result.now ≡ fan_at (fans_in fans.now) row port }
 {

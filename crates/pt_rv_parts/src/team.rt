@@ -69,6 +69,7 @@ impl Team {
     }
 
     /// A process that may fire, if one may. It is found in constant time.
+    #[inline(always)]
     pub fn any_firing(&self) -> Option<usize>
         ensures there { IfSome result (λ process. process < length self.now) }
         ensures fires { IfSome result (λ process. next_of (get_or self.now process nobody) ≡ Fires) }
@@ -78,6 +79,7 @@ impl Team {
     }
 
     /// What a process does next.
+    #[inline(always)]
     pub fn next(&mut self, process: usize) -> Event
         requires there { process < length self.old }
         requires gathers { (get_or self.old process nobody).handed ≡ false }
@@ -88,6 +90,7 @@ impl Team {
     }
 
     /// The channel of the next put of a process, if it has one.
+    #[inline(always)]
     pub fn next_put(&self, process: usize) -> Option<u32>
         requires { process < length self.now }
         ensures { PutsFirst (get_or self.now process nobody).puts result }
@@ -240,6 +243,7 @@ fn flags_of(alloc: Global, processes: &mut Vec<Process>) -> Result<Flags, AllocE
 }
 
 /// What a process does next.
+#[inline(always)]
 fn next_at(processes: &mut Vec<Process>, process: usize) -> Event
     requires there { process < length processes.old.items }
     requires gathers { (get_or processes.old.items process nobody).handed ≡ false }
@@ -250,6 +254,7 @@ fn next_at(processes: &mut Vec<Process>, process: usize) -> Event
 }
 
 /// Whether a process may fire.
+#[inline(always)]
 fn is_firing(processes: &mut Vec<Process>, process: usize) -> bool
     requires there { process < length processes.old.items }
     requires gathers { (get_or processes.old.items process nobody).handed ≡ false }
@@ -260,6 +265,7 @@ fn is_firing(processes: &mut Vec<Process>, process: usize) -> bool
 }
 
 /// A process takes a token at a place.
+#[inline(always)]
 fn get_at(processes: &mut Vec<Process>, process: usize, place: usize, token: Token)
     requires there { process < length processes.old.items }
     requires may { MayTake (get_or processes.old.items process nobody) place }
@@ -269,6 +275,7 @@ fn get_at(processes: &mut Vec<Process>, process: usize, place: usize, token: Tok
 }
 
 /// Takes out the next put of a process.
+#[inline(always)]
 fn put_at(processes: &mut Vec<Process>, process: usize) -> StagedPut
     requires there { process < length processes.old.items }
     requires some { 0 < length (get_or processes.old.items process nobody).puts }
@@ -279,6 +286,7 @@ fn put_at(processes: &mut Vec<Process>, process: usize) -> StagedPut
 }
 
 /// A process hands over what it has gathered.
+#[inline(always)]
 fn hand_at(processes: &mut Vec<Process>, process: usize)
     requires there { process < length processes.old.items }
     requires gathers { (get_or processes.old.items process nobody).handed ≡ false }

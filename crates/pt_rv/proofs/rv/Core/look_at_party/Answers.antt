@@ -1,10 +1,14 @@
-use Rattle.std.proofs.Common.{length, ap, arith}
+use Rattle.std.proofs.Common.{ap, sym, subst, ◌∙◌}
+use Rattle.pt_rv_laws.specs.State.{AllRest}
 use Rattle.pt_rv_laws.specs.RvActs.{State}
+use Rattle.pt_rv.specs.Core.{MayCome}
 use Rattle.pt_rv.proofs.rv.Core.look_at_party.Goals as goal
 
-pub look_at_process-requires : goal.look_at_process-requires
-look_at_process-requires c = record {
-  there = let v = ap (λ (s : State). length s.processes.plan.net.places) c.self.view_is in omega (arith, v, c.if-party-processes.true, c.processes.ensures.count);
-  running = c.requires.running;
-  rests = c.requires.rests;
+pub look_further-requires : goal.look_further-requires
+look_further-requires c = record {
+  running = ap (λ (s : State). s.stage) c.in-None.ensures ∙ c.requires.running;
+  rests = subst (λ (s : State). AllRest s) (sym c.in-None.ensures) c.requires.rests;
 }
+
+pub returns-in-None : goal.returns-in-None
+returns-in-None c = subst (λ (s : State). MayCome s c.look_further.result c.look_further.new.self) c.in-None.ensures c.look_further.ensures

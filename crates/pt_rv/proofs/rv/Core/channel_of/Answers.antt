@@ -1,0 +1,9 @@
+use Rattle.std.proofs.Common.{length, ap, arith}
+use Rattle.pt_rv_laws.specs.RvActs.{State}
+use Rattle.pt_rv.proofs.rv.Core.channel_of.Goals as goal
+
+pub channel_of_process-requires : goal.channel_of_process-requires
+channel_of_process-requires c = record {
+  there = let v = ap (λ (s : State). length s.processes.plan.net.places) c.self.view_is in omega (arith, v, c.if-party-processes.true, c.processes.ensures.count);
+  running = c.requires;
+}
