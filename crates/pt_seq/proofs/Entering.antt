@@ -99,7 +99,7 @@ module _ (f : Frame) (made : Option Made) where
   composite-fit d' ks' Memory g = tt
 
 -- the fields of a node, with another body
-abbrev with-body : opens.Node-F Node → Body → Shown
+abbrev pub with-body : opens.Node-F Node → Body → Shown
 with-body r b = Branch (record { past = r.past; body = b; records = r.records; path = r.path; labels = r.labels; meetings = r.meetings; live = r.live }) (all_of (map shown r.children.items))
 
 frame-in : opens.Node-F Node → Frame

@@ -15,3 +15,4 @@ pub mod NumberRows
 pub mod Quickly
 pub mod Signalling
 pub mod Untaken
+pub mod AtOnce

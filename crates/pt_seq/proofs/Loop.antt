@@ -130,6 +130,9 @@ module _ {D : Type 0} (a : Acts rows D) (law : Lawful a) where
         pub child-fit : IsFit (shown_node d)
         child-fit = fit-get (map shown kids) i (shown_node d) there b.at.going.fit
 
+        pub child-takes : live.Takes when (shown_node d) (a.calls.lent_of s)
+        child-takes = lent-takes when (shown_node d) (a.calls.lent_of s) (subst (λ v. IsLentTo rows (node_of (shown_node d)) (a.calls.lent_of v)) (sym b.asking) (fire-lent a law b.at i when b.gives (shown_node d) there))
+
         module _ (n : Node) where
           -- its firing is recorded
           pub goes-on : (s' : D) (left' : ℕ) → ChildFired a.calls s (shown_node d) i when s' (shown_node n) → outline_of (shown_node n) ≡ outline_of (shown_node d) → count_of (shown_node n) + left' ≡ count_of (shown_node d) + left → left' ≤ left → At a before olds tag X allowance own s' (map shown (set kids i n)) left'

@@ -4,6 +4,7 @@ use Rattle.pt_meaning.specs.Basics.{Tag, Streams}
 use Rattle.pt_meaning.specs.Machine.{Partial, Known}
 use Rattle.pt_meaning.specs.NodeFacts.{early_of}
 use Rattle.pt_value.specs.declared.token.Token.{Token}
+use Rattle.pt_firing.specs.declared.ask.Ask.TheVariants.{Finished}
 use Rattle.pt_core.specs.declared.either.Either.TheVariants.{First, Other}
 use Rattle.pt_core.specs.Acts.{Calls}
 use Rattle.pt_library.specs.LibraryActor.{rows, signal_of}
@@ -45,6 +46,17 @@ module _ {D : Type 0} (c : Calls D) where
   SignalledTo s child i tag signalled.Done s' after = ChildFired c s child i tag s' after
   SignalledTo s child i tag signalled.Open s' after = (s' ≡ s) × (after ≡ child)
   SignalledTo s child i tag signalled.Memory s' after = (s' ≡ s) × KeepsRecords child after
+
+  -- A firing of a composite on these inputs, whatever its tag: as soon as it has begun its director is finished, and none of its children fires. It gives one integer at most, on its one own output. So the director is once that is handed out.
+  pub record EndsAtOnce (s : D) (X : Streams Token) (given : Option ℤ) (s' : D) (tag : Tag) : Type 0 where
+    pub finished : c.Gives (c.begun tag X s) Finished
+    pub own : c.own_of (c.asking Finished (c.begun tag X s)) ≡ signal_of given ∷ []
+    pub state : s' ≡ c.closed (c.asking Finished (c.begun tag X s))
+
+  -- the director made such a firing, or nothing was done
+  abbrev pub AtOnceTo : D → Streams Token → Option (Option ℤ) → D → Type 0
+  AtOnceTo s X (Some given) s' = (tag : Tag) → EndsAtOnce s X given s' tag
+  AtOnceTo s X None s' = s' ≡ s
 
 -- a turn that is done spends some of the allowance, and another none
 abbrev pub SignalSpends : Signalled → ℕ → ℕ → Type 0

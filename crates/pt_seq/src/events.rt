@@ -11,16 +11,17 @@ ghost use Rattle.pt_node.specs.declared.node.Node.{out-Node};
 ghost use Rattle.pt_node.specs.Firing.{noted, bare, recorded};
 ghost use Rattle.pt_node.specs.Shown.{Shown, all_of, shown, shown_node};
 ghost use Rattle.pt_node.specs.View.{node_of, outline_of, count_of};
-ghost use Rattle.pt_node.specs.Live.{AllFit, IsFit, IsReady, TakenBy};
+ghost use Rattle.pt_node.specs.Live.{AllFit, IsFit, IsReady, TakenBy, Takes};
 ghost use Rattle.pt_node.specs.Meetings.{Serves};
 ghost use Rattle.pt_records.specs.Kept.{Made};
-ghost use Rattle.pt_seq.specs.Signals.{de_of, SignalTo, TellsAt, SignalledTo, SignalSpends};
+ghost use Rattle.pt_seq.specs.Signals.{de_of, AtOnceTo, SignalTo, TellsAt, SignalledTo, SignalSpends};
 ghost use Rattle.pt_seq.specs.Between.{At, Between, IsUnderWay, Rested};
 ghost use Rattle.pt_seq.specs.OwnMeetings.{OwnMeetings, own_of};
 
 use crate::numbers::Rest;
-use pt_core::Core;
+use pt_core::{Core, Either};
 use pt_de::DeCore;
+use pt_directors::Director;
 use pt_firing::{Ask, Inputs};
 use pt_node::{Body, Node};
 use pt_time::Tag;
@@ -150,6 +151,7 @@ fn turn_of_signal(
 ) -> Signalled
     requires asked { director_calls.asked_of (de_of core.old) ≡ Some number }
     requires fit { IsFit (shown_node child.old) }
+    requires takes { Takes tag (shown_node child.old) (director_calls.lent_of (de_of core.old)) }
     requires left { 0 < left.old }
     ensures goes { SignalledTo director_calls (de_of core.old) (shown_node child.old) number tag result (de_of core.new) (shown_node child.new) }
     ensures spends { SignalSpends result left.old left.new }
@@ -174,11 +176,12 @@ fn turn_of_signal(
     Signalled::Done
 }
 
-/// One firing of a library actor at a tag, where it gives one integer at most. The firing isn't recorded. Where nothing is told, nothing was done.
+/// One firing of a child at a tag, where it gives one integer at most: of a library actor, or of a composite whose director makes it at once. The firing isn't recorded. Where nothing is told, nothing was done.
 #[inline(always)]
 fn fire_signal(core: &DeCore, node: &mut Node, tag: Tag, row: &mut Vec<i64>) -> Option<Option<i64>>
     requires asked { IsSome (director_calls.asked_of (de_of core.now)) }
     requires fit { IsFit (shown_node node.old) }
+    requires takes { Takes tag (shown_node node.old) (director_calls.lent_of (de_of core.now)) }
     ensures goes { SignalTo tag (shown_node node.old) (director_calls.lent_of (de_of core.now)) result (shown_node node.new) }
     ensures past { (out-Node node.new).past ≡ (out-Node node.old).past }
 {
@@ -188,7 +191,26 @@ fn fire_signal(core: &DeCore, node: &mut Node, tag: Tag, row: &mut Vec<i64>) -> 
             node.live = false;
             Some(given)
         }
-        Body::Composite(_) => None,
+        Body::Composite(director) => {
+            let given = fire_at_once(director, &core.lent())?;
+            node.live = false;
+            Some(given)
+        }
+    }
+}
+
+/// The whole firing of a composite on its own inputs, where its director makes it at once and gives one integer at most, as that of Modal does where no refinement has to fire. It says nothing of the tag. Where nothing is told, nothing was done.
+#[inline(always)]
+fn fire_at_once(director: &mut Director, inputs: &Inputs<'_>) -> Option<Option<i64>>
+    requires { director_calls.IsIdle director.old }
+    ensures { AtOnceTo director_calls director.old inputs.now result director.new }
+{
+    match director {
+        Either::Other(Either::Other(Either::Other(others))) => match others {
+            Either::Other(Either::First(core)) => core.signal(inputs),
+            _ => None,
+        },
+        _ => None,
     }
 }
 

@@ -11,13 +11,13 @@ ghost use Rattle.pt_seq.specs.Between.{At, Between, Halts, IsUnderWayWith, Reste
 ghost use Rattle.pt_seq.specs.OwnMeetings.{own_of};
 
 use crate::number_core::NumberCore;
-use crate::numbers::{Quick, Rest, turn_of_number};
+use crate::numbers::{Quick, Rest, turn_with_records};
 use pt_firing::Ask;
 use pt_node::{MeetingRecord, Node};
 use pt_rv::Core;
 use std::alloc::Global;
 
-/// Makes one firing of a child after another, as the core asks for them, as long as each takes integers and gives one, of which nothing is recorded. The meetings between them are recorded as those of the firing of the composite of that number.
+/// Makes one firing of a child after another, as the core asks for them, as long as each takes integers and gives one. The meetings between them are recorded as those of the firing of the composite of that number.
 /// Where nothing is left of the allowance the core isn't asked, since it would make a meeting.
 #[inline(never)]
 pub(crate) fn fire_meetings(
@@ -44,7 +44,7 @@ pub(crate) fn fire_meetings(
         match next {
             Ask::Fire(number, when) => {
                 let child = &mut children[number as usize];
-                if let Quick::Open(given) = turn_of_number(
+                if let Quick::Open(given) = turn_with_records(
                     alloc, core, child, number, when, left, row,
                 ) {
                     return Rest::Turn(number, when, given);

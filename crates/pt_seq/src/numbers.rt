@@ -11,7 +11,7 @@ ghost use Rattle.pt_node.specs.Shown.{Shown, shown, shown_node};
 ghost use Rattle.pt_node.specs.View.{outline_of, count_of};
 ghost use Rattle.pt_node.specs.Live.{IsFit, HasFired, IsReadyNode};
 ghost use Rattle.pt_seq.specs.declared.numbers.Rest.TheVariants as rest;
-ghost use Rattle.pt_seq.specs.Within.{NumberTo, SeveralTo};
+ghost use Rattle.pt_seq.specs.Within.{NumberTo, SeveralTo, Given};
 ghost use Rattle.pt_seq.specs.Turns.{TurnSpends, IsTold, TellTo, QuickTo, QuickSpends};
 ghost use Rattle.pt_seq.specs.Between.{At, IsUnderWay, Between, Rested};
 ghost use Rattle.pt_seq.specs.OwnMeetings.{OwnMeetings};
@@ -25,6 +25,7 @@ use pt_firing::{Ask, IntInputs};
 use pt_node::{Body, Node};
 use pt_time::Tag;
 use std::alloc::{AllocError, Global};
+use std::slice;
 
 /// Where firings of numbers alone take and give them.
 #[derive(Drop)]
@@ -156,6 +157,87 @@ pub(crate) fn turn_of_number<C: NumberCore>(
         return Quick::Open(Some(given));
     }
     child.record_alone(tag);
+    *left -= 1;
+    Quick::Done
+}
+
+/// The same, where a number of which something is recorded is told too.
+#[inline(always)]
+pub(crate) fn turn_with_records<C: NumberCore>(
+    alloc: Global,
+    core: &mut C,
+    child: &mut Node,
+    number: u32,
+    tag: Tag,
+    left: &mut u64,
+    row: &mut Vec<i64>,
+) -> Quick
+    requires asked { director_calls.asked_of (C.director core.old) ≡ Some number }
+    requires fit { IsFit (shown_node child.old) }
+    requires left { 0 < left.old }
+    ensures goes { QuickTo director_calls (C.director core.old) (shown_node child.old) number tag result (C.director core.new) (shown_node child.new) }
+    ensures spends { QuickSpends result left.old left.new }
+    ensures outline { outline_of (shown_node child.new) ≡ outline_of (shown_node child.old) }
+    ensures counted { count_of (shown_node child.new) + left.new ≡ count_of (shown_node child.old) + left.old }
+{
+    match turn_of_number(alloc, core, child, number, tag, left, row) {
+        Quick::Done => Quick::Done,
+        Quick::Open(given) => tell_open(alloc, core, child, number, tag, left, given),
+    }
+}
+
+/// Tells the core the integer that a child gave, if its firing was made, and records the firing.
+#[inline(always)]
+fn tell_open<C: NumberCore>(
+    alloc: Global,
+    core: &mut C,
+    child: &mut Node,
+    number: u32,
+    tag: Tag,
+    left: &mut u64,
+    given: Option<i64>,
+) -> Quick
+    requires asked { director_calls.asked_of (C.director core.old) ≡ Some number }
+    requires left { 0 < left.old }
+    ensures goes { (old : Shown) → Given given old (director_calls.lent_of (C.director core.old)) (shown_node child.old) → QuickTo director_calls (C.director core.old) old number tag result (C.director core.new) (shown_node child.new) }
+    ensures spends { QuickSpends result left.old left.new }
+    ensures outline { outline_of (shown_node child.new) ≡ outline_of (shown_node child.old) }
+    ensures counted { count_of (shown_node child.new) + left.new ≡ count_of (shown_node child.old) + left.old }
+{
+    match given {
+        Some(given) => tell_recorded(alloc, core, child, number, tag, left, given),
+        None => Quick::Open(None),
+    }
+}
+
+/// Tells the core the integer that a child gave, and records its firing with what it gave.
+#[inline(never)]
+fn tell_recorded<C: NumberCore>(
+    alloc: Global,
+    core: &mut C,
+    node: &mut Node,
+    number: u32,
+    tag: Tag,
+    left: &mut u64,
+    given: i64,
+) -> Quick
+    requires asked { director_calls.asked_of (C.director core.old) ≡ Some number }
+    requires left { 0 < left.old }
+    ensures goes { (old : Shown) → Given (Some given) old (director_calls.lent_of (C.director core.old)) (shown_node node.old) → QuickTo director_calls (C.director core.old) old number tag result (C.director core.new) (shown_node node.new) }
+    ensures spends { QuickSpends result left.old left.new }
+    ensures outline { outline_of (shown_node node.new) ≡ outline_of (shown_node node.old) }
+    ensures counted { count_of (shown_node node.new) + left.new ≡ count_of (shown_node node.old) + left.old }
+{
+    if node.past.made == u64::MAX {
+        return Quick::Open(Some(given));
+    }
+    if node.note_numbers(tag, slice::from_ref(&given)).is_err() {
+        return Quick::Open(Some(given));
+    }
+    if !core.told_number(alloc, node, number, given) {
+        return Quick::Open(Some(given));
+    }
+    node.record(tag);
     *left -= 1;
     Quick::Done
 }

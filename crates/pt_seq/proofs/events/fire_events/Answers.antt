@@ -2,7 +2,7 @@ use Rattle.std.proofs.Common.{None, arith}
 use Rattle.pt_node.specs.Acts.{acts}
 use Rattle.pt_seq.specs.Signals.{de_of}
 use Rattle.pt_seq.proofs.Acting.{acts-law}
-use Rattle.pt_seq.proofs.Loop.{index-in, child-asked, child-fit, goes-on, in-turn, halts-in}
+use Rattle.pt_seq.proofs.Loop.{index-in, child-asked, child-fit, child-takes, goes-on, in-turn, halts-in}
 use Rattle.pt_seq.proofs.events.fire_events.Goals as goal
 
 pub loop-number-init : goal.loop-number-init
@@ -33,6 +33,11 @@ pub turn_of_signal-requires-clause-fit : goal.turn_of_signal-requires-clause-fit
 turn_of_signal-requires-clause-fit c =
     let r = c.requires.1 in
     child-fit acts acts-law c.loop-number.children.items (c.in-Fire.ensures r.before r.olds c.requires.0 r.inputs r.allowance r.own c.loop-number.left (c.loop-number.invariant.so_far r.before r.olds c.requires.0 r.inputs r.allowance r.own r.at)) c.index_mut-child.result.now c.index_mut-child.ensures.value
+
+pub turn_of_signal-requires-clause-takes : goal.turn_of_signal-requires-clause-takes
+turn_of_signal-requires-clause-takes c =
+    let r = c.requires.1 in
+    child-takes acts acts-law c.loop-number.children.items (c.in-Fire.ensures r.before r.olds c.requires.0 r.inputs r.allowance r.own c.loop-number.left (c.loop-number.invariant.so_far r.before r.olds c.requires.0 r.inputs r.allowance r.own r.at)) c.index_mut-child.result.now c.index_mut-child.ensures.value
 
 pub returns-in-Open-clause-goes : goal.returns-in-Open-clause-goes
 returns-in-Open-clause-goes c before olds tag X allowance own a =

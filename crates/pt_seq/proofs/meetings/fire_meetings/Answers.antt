@@ -28,24 +28,24 @@ index_mut-child-requires c =
     let h = index-in acts acts-law c.loop-left.children.items (asked-as acts acts-law c.in-Fire.is (c.in-Some.ensures r.before r.olds c.requires.0 r.inputs r.allowance r.start (map shown c.loop-left.children.items) c.loop-left.left (c.loop-left.invariant.so_far r.before r.olds c.requires.0 r.inputs r.allowance r.start r.at))) in
     grind (arith, h)
 
-pub turn_of_number-requires-clause-asked : goal.turn_of_number-requires-clause-asked
-turn_of_number-requires-clause-asked c =
+pub turn_with_records-requires-clause-asked : goal.turn_with_records-requires-clause-asked
+turn_with_records-requires-clause-asked c =
     let r = c.requires.1 in
     child-asked acts acts-law c.loop-left.children.items (asked-as acts acts-law c.in-Fire.is (c.in-Some.ensures r.before r.olds c.requires.0 r.inputs r.allowance r.start (map shown c.loop-left.children.items) c.loop-left.left (c.loop-left.invariant.so_far r.before r.olds c.requires.0 r.inputs r.allowance r.start r.at))) c.index_mut-child.result.now c.index_mut-child.ensures.value
 
-pub turn_of_number-requires-clause-fit : goal.turn_of_number-requires-clause-fit
-turn_of_number-requires-clause-fit c =
+pub turn_with_records-requires-clause-fit : goal.turn_with_records-requires-clause-fit
+turn_with_records-requires-clause-fit c =
     let r = c.requires.1 in
     child-fit acts acts-law c.loop-left.children.items (asked-as acts acts-law c.in-Fire.is (c.in-Some.ensures r.before r.olds c.requires.0 r.inputs r.allowance r.start (map shown c.loop-left.children.items) c.loop-left.left (c.loop-left.invariant.so_far r.before r.olds c.requires.0 r.inputs r.allowance r.start r.at))) c.index_mut-child.result.now c.index_mut-child.ensures.value
 
 pub returns-in-Open-clause-goes : goal.returns-in-Open-clause-goes
 returns-in-Open-clause-goes c before olds tag X allowance start a =
-    in-turn acts acts-law c.loop-left.children.items (asked-as acts acts-law c.in-Fire.is (c.in-Some.ensures before olds tag X allowance start (map shown c.loop-left.children.items) c.loop-left.left (c.loop-left.invariant.so_far before olds tag X allowance start a))) c.index_mut-child.result.now c.index_mut-child.ensures.value c.turn_of_number.new.child c.in-Open.given (of_rendezvous c.turn_of_number.new.core) c.turn_of_number.new.left c.in-Open.ensures.goes.0 c.in-Open.ensures.spends (omega (arith, c.if-left-eq0.false)) c.in-Open.ensures.goes.1
+    in-turn acts acts-law c.loop-left.children.items (asked-as acts acts-law c.in-Fire.is (c.in-Some.ensures before olds tag X allowance start (map shown c.loop-left.children.items) c.loop-left.left (c.loop-left.invariant.so_far before olds tag X allowance start a))) c.index_mut-child.result.now c.index_mut-child.ensures.value c.turn_with_records.new.child c.in-Open.given (of_rendezvous c.turn_with_records.new.core) c.turn_with_records.new.left c.in-Open.ensures.goes.0 c.in-Open.ensures.spends (omega (arith, c.if-left-eq0.false)) c.in-Open.ensures.goes.1
 
 pub loop-left-preserved : goal.loop-left-preserved
 loop-left-preserved c = record {
-  lowered = omega (arith, c.in_default-turn_of_number.ensures.spends, c.loop-left.invariant.lowered);
+  lowered = omega (arith, c.in_default-turn_with_records.ensures.spends, c.loop-left.invariant.lowered);
   so_far = λ before olds tag X allowance start a.
       goes-on acts acts-law c.loop-left.children.items (asked-as acts acts-law c.in-Fire.is (c.in-Some.ensures before olds tag X allowance start (map shown c.loop-left.children.items) c.loop-left.left (c.loop-left.invariant.so_far before olds tag X allowance start a))) c.index_mut-child.result.now c.index_mut-child.ensures.value
-      c.turn_of_number.new.child (of_rendezvous c.turn_of_number.new.core) c.turn_of_number.new.left c.in_default-turn_of_number.ensures.goes c.in_default-turn_of_number.ensures.outline c.in_default-turn_of_number.ensures.counted (omega (arith, c.in_default-turn_of_number.ensures.spends));
+      c.turn_with_records.new.child (of_rendezvous c.turn_with_records.new.core) c.turn_with_records.new.left c.in_default-turn_with_records.ensures.goes c.in_default-turn_with_records.ensures.outline c.in_default-turn_with_records.ensures.counted (omega (arith, c.in_default-turn_with_records.ensures.spends));
 }
