@@ -208,7 +208,7 @@ pub fn net_entities(alloc: Global, table: &[Placed]) -> Result<Vec<NetEntity>, D
     ensures ok { IfOk result (λ entities. map net.entity_view entities.items ≡ map net.entity_tree (filter is_kept (table_view table.now))) }
     ensures err { IfErr result (λ e. e ≡ Memory) }
 {
-    let mut entities = Vec::new(alloc);
+    let mut entities = Vec::with_capacity(alloc, table.len())?;
     for placed in table {
         if placed.is_kept() {
             add_entity(alloc, &mut entities, placed)?;

@@ -1,12 +1,13 @@
 -- The ports that texts name.
-use Rattle.std.specs.Prelude.{◌≡◌, ℕ, ◌<◌, List, map, Bool, not, ◌&&◌, Option, Some, None, if◌then◌else◌, slice_get, position}
-use Rattle.std.specs.List.{filter_map}
+use Rattle.std.specs.Prelude.{◌≡◌, ℕ, ◌<◌, List, length, map, Bool, not, ◌&&◌, ◌||◌, nat_lt, Option, Some, None, if◌then◌else◌, slice_get, position}
+use Rattle.std.specs.List.{filter_map, list_any, starts_with}
 use Rattle.std.specs.Borrow.{Bor}
 use Rattle.std.specs.Cmp.Lexicographic.{pointwise}
 use Rattle.std.specs.Prelude.{nat_eq, bytes_eq, slice_index_or, []}
 use Rattle.indexmap.specs.IndexMap.{get}
 use Rattle.pt_net.specs.declared.net.NetPort.{NetPort}
 use Rattle.pt_links.specs.declared.records.Outputs.{Outputs}
+use Rattle.pt_document.specs.Names.{top_path}
 use Rattle.pt_net.specs.Standing.{is_opaque}
 use Rattle.pt_net.specs.Table.{PortAt, Tables, port_path}
 use Rattle.pt_net.specs.Wires.{is_input}
@@ -22,8 +23,20 @@ pub record OutputAt : Type 0 where
 abbrev pub output_of : PortAt → Option OutputAt
 output_of p = if is_opaque p.standing && not (is_input p) then Some (record { path = port_path p; port = net_port p }) else None
 
-abbrev pub outputs_of : List PortAt → List OutputAt
-outputs_of ports = filter_map output_of ports
+-- the text begins with the path
+abbrev pub begins_with : List ℕ → List ℕ → Bool
+begins_with path text = starts_with nat_eq text path
+
+-- a port of the entity of this path may be one that a text names: the top's may be any, and so may each where there are many texts
+abbrev pub may_name : List (List ℕ) → List ℕ → Bool
+may_name texts path = bytes_eq path top_path || (nat_lt 8 (length texts) || list_any (begins_with path) texts)
+
+-- the output ports that may be named by one of the texts
+abbrev pub sought_of : List (List ℕ) → PortAt → Option OutputAt
+sought_of texts p = if may_name texts p.standing.path then output_of p else None
+
+abbrev pub sought_in : List (List ℕ) → List PortAt → List OutputAt
+sought_in texts ports = filter_map (sought_of texts) ports
 
 -- what the program holds of these outputs
 pub record AreOutputs (all : List OutputAt) (held : Outputs) : Type 0 where
@@ -48,8 +61,8 @@ pub record IsRecorded (t : Tables) (records : List (List ℕ)) (n : ℕ) (port :
 -- what the program looks texts up in
 pub record Looks (t : Tables) (records : List (List ℕ)) (r : Recorder) : Type 0 where
   pub firsts : (name : Name) → get name_eq r.firsts.numbers name ≡ position (bytes_eq name.now) records
-  pub places : (name : Name) → get name_eq r.places.numbers name ≡ position (bytes_eq name.now) (map (λ o. o.path) (outputs_of t.ports))
-  pub ports : r.ports.now ≡ map (λ o. o.port) (outputs_of t.ports)
+  pub places : (name : Name) → get name_eq r.places.numbers name ≡ position (bytes_eq name.now) (map (λ o. o.path) (sought_in records t.ports))
+  pub ports : r.ports.now ≡ map (λ o. o.port) (sought_in records t.ports)
 
 abbrev pub IsRecorder : Recorder → Type 0
 IsRecorder r = Looks (tables_view r.tables.now) r.records.now r

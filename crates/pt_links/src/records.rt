@@ -1,6 +1,6 @@
 ghost use Rattle.std.specs.Prelude.{◌≡◌, ◌≢◌, ℕ, ◌<◌, ◌≤◌, ◌++◌, [], ◌∷◌, List, length, map, Some, IsTrue, ◌↔◌, IfOk, IfErr, OnOk, MatchOption, slice_get, position, bytes_eq};
 ghost use Rattle.std.specs.Borrow.{Bor};
-ghost use Rattle.std.specs.List.{AllZip};
+ghost use Rattle.std.specs.List.{AllZip, list_any};
 ghost use Rattle.indexmap.specs.IndexMap.{get};
 ghost use Rattle.pt_document.specs.declared.code.Code.TheVariants as code;
 ghost use Rattle.pt_document.specs.declared.refusal.DocFault.TheVariants.{Memory};
@@ -9,7 +9,7 @@ ghost use Rattle.pt_net.specs.Table as table;
 ghost use Rattle.pt_survey.specs.Survey.{tables_view, ports_view, port_at};
 ghost use Rattle.pt_net.specs.Net as net;
 ghost use Rattle.pt_net.specs.Stands.{IsTold, IsRecordFault};
-ghost use Rattle.pt_links.specs.Recorded.{outputs_of, AreOutputs, name_eq, AreDistinct, IsRecorder, IsRecorded};
+ghost use Rattle.pt_links.specs.Recorded.{begins_with, may_name, sought_in, AreOutputs, name_eq, AreDistinct, IsRecorder, IsRecorded};
 
 use crate::names::{Places, first_places};
 use crate::refusal::refused_at;
@@ -19,7 +19,35 @@ use pt_survey::{PlacedPort, Tables, number, path_below};
 use pt_value::Text;
 use std::alloc::{AllocError, Global};
 
-/// The output ports that can be recorded: their paths, and the ports of the net.
+/// How many texts the paths of entities are compared with at most.
+const MOST_COMPARED: usize = 8;
+
+fn begins_with(path: &str, text: &Text) -> bool
+    ensures { result ≡ begins_with path.now text.now }
+{
+    text.as_str().as_bytes().starts_with(path.as_bytes())
+}
+
+/// Whether one of these texts begins with this path.
+fn is_begun(texts: &[Text], path: &str) -> bool
+    ensures { result ≡ list_any (begins_with path.now) texts.now }
+{
+    for text in texts {
+        if begins_with(path, text) {
+            return true;
+        }
+    }
+    false
+}
+
+/// Whether a port of the entity of this path may be one that a text names.
+fn may_name(texts: &[Text], path: &str) -> bool
+    ensures { result ≡ may_name texts.now path.now }
+{
+    path == "." || (MOST_COMPARED < texts.len() || is_begun(texts, path))
+}
+
+/// The output ports that a text may name: their paths, and the ports of the net.
 #[derive(Drop)]
 struct Outputs {
     paths: Vec<Text>,
@@ -44,21 +72,22 @@ fn net_port(port: &PlacedPort) -> Result<NetPort, DocFault>
 }
 
 impl Outputs {
-    fn add(&mut self, alloc: Global, port: &PlacedPort) -> Result<(), DocFault>
-        ensures paths { OnOk result (self.new.paths.items ≡ self.old.paths.items ++ map (λ o. o.path) (outputs_of (port_at port.now ∷ []))) }
-        ensures ports { OnOk result (self.new.ports.items ≡ self.old.ports.items ++ map (λ o. o.port) (outputs_of (port_at port.now ∷ []))) }
+    fn add(&mut self, alloc: Global, port: &PlacedPort, records: &[Text]) -> Result<(), DocFault>
+        ensures paths { OnOk result (self.new.paths.items ≡ self.old.paths.items ++ map (λ o. o.path) (sought_in records.now (port_at port.now ∷ []))) }
+        ensures ports { OnOk result (self.new.ports.items ≡ self.old.ports.items ++ map (λ o. o.port) (sought_in records.now (port_at port.now ∷ []))) }
         ensures err { IfErr result (λ e. e ≡ Memory) }
     {
-        if port.is_opaque() && !port.is_input() {
-            let path = path_below(alloc, port.placed.path.as_str(), port.port.name)?;
+        let path = port.placed.path.as_str();
+        if may_name(records, path) && port.is_opaque() && !port.is_input() {
+            let path = path_below(alloc, path, port.port.name)?;
             self.paths.push(path)?;
             self.ports.push(net_port(port)?)?;
         }
         Ok(())
     }
 
-    fn of(alloc: Global, ports: &[PlacedPort]) -> Result<Outputs, DocFault>
-        ensures ok { IfOk result (λ outputs. AreOutputs (outputs_of (ports_view ports.now)) outputs) }
+    fn of(alloc: Global, ports: &[PlacedPort], records: &[Text]) -> Result<Outputs, DocFault>
+        ensures ok { IfOk result (λ outputs. AreOutputs (sought_in records.now (ports_view ports.now)) outputs) }
         ensures err { IfErr result (λ e. e ≡ Memory) }
     {
         let mut outputs = Outputs {
@@ -66,7 +95,7 @@ impl Outputs {
             ports: Vec::new(alloc),
         };
         for port in ports {
-            outputs.add(alloc, port)?;
+            outputs.add(alloc, port, records)?;
         }
         Ok(outputs)
     }
@@ -106,7 +135,7 @@ impl<'k, 't, 'a> Recorder<'k, 't, 'a> {
         records: &'k [Text],
         outputs: &'k Outputs,
     ) -> Result<Recorder<'k, 't, 'a>, AllocError>
-        requires { AreOutputs (outputs_of (tables_view tables.now).ports) outputs.now }
+        requires { AreOutputs (sought_in records.now (tables_view tables.now).ports) outputs.now }
         ensures tables { IfOk result (λ recorder. recorder.tables.now ≡ tables.now) }
         ensures records { IfOk result (λ recorder. recorder.records.now ≡ records.now) }
         ensures recorder { IfOk result IsRecorder }
@@ -147,7 +176,7 @@ impl<'k, 't, 'a> Recorder<'k, 't, 'a> {
 
     fn place(&self, text: &str) -> Option<usize>
         requires { IsRecorder self.now }
-        ensures { result ≡ position (bytes_eq text.now) (map (λ o. o.path) (outputs_of (tables_view self.now.tables.now).ports)) }
+        ensures { result ≡ position (bytes_eq text.now) (map (λ o. o.path) (sought_in self.now.records.now (tables_view self.now.tables.now).ports)) }
     {
         self.places.get(&text)
     }
@@ -191,7 +220,7 @@ fn recorded_among(
     records: &[Text],
     outputs: &Outputs,
 ) -> Result<Vec<NetPort>, DocFault>
-    requires { AreOutputs (outputs_of (tables_view tables.now).ports) outputs.now }
+    requires { AreOutputs (sought_in records.now (tables_view tables.now).ports) outputs.now }
     ensures ok { IfOk result (λ ports. AllZip (net.Records (tables_view tables.now)) records.now ports.items) }
     ensures distinct { OnOk result (AreDistinct records.now) }
     ensures told { IfErr result (IsTold code.Record (IsRecordFault (tables_view tables.now) records.now)) }
@@ -209,7 +238,7 @@ pub fn recorded(alloc: Global, tables: &Tables, records: &[Text]) -> Result<Vec<
     ensures distinct { OnOk result (AreDistinct records.now) }
     ensures told { IfErr result (IsTold code.Record (IsRecordFault (tables_view tables.now) records.now)) }
 {
-    let outputs = Outputs::of(alloc, &tables.ports)?;
+    let outputs = Outputs::of(alloc, &tables.ports, records)?;
     let ports = recorded_among(alloc, tables, records, &outputs);
     drop(outputs);
     ports

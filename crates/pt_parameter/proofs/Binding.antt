@@ -79,7 +79,7 @@ module _ (scope env env' : Scope) (types types' : Types) (name : List ℕ) (v : 
   }
 
 -- at first no name is bound
-none : (name : List ℕ) → Contains [] name → ⊥
+pub none : (name : List ℕ) → Contains [] name → ⊥
 none name w = omega (arith, w.1)
 
 pub bound-none : (scope env : Scope) (types : Types) → ((name : List ℕ) → env name ≡ None) → ((name : List ℕ) → types name ≡ None) → AreBound scope env types []

@@ -1,7 +1,11 @@
 -- What is told of a text, from what is told of its parts.
 use Rattle.std.proofs.Common.{◌≡◌, ◌⊎◌, inl, inr, ℕ, List, None, sym, subst, ◌∙◌}
-use Rattle.std.specs.Prelude.{Some}
-use Rattle.pt_value.specs.Value.{Value}
+use Rattle.std.specs.Prelude.{Some, [], refl}
+use Rattle.std.specs.List.{Contains}
+use Rattle.pt_value.specs.Value.{Value, Int}
+use Rattle.pt_datatypes.specs.Datatype as datatype
+use Rattle.pt_language.specs.Tree as tree
+use Rattle.pt_parameter.specs.Literals.{literal_of}
 use Rattle.pt_datatypes.specs.Datatype.{Datatype}
 use Rattle.pt_document.specs.declared.code.Code.{Code}
 use Rattle.pt_document.specs.declared.code.Code.TheVariants as code
@@ -18,7 +22,7 @@ use Rattle.pt_scopes.specs.declared.fault.TextFault.TheVariants.{Refused, Memory
 use Rattle.pt_scopes.specs.TextFault.{of_evaluation, IsTold}
 use Rattle.pt_scopes.specs.Texts.{IsRead, IsBound, IsReaderFault, IsTextFault, HasValue, names_in}
 use Rattle.pt_scopes.specs.Binding.{AreBound, HasStrange, TreeGives, IsTreeValueFault}
-use Rattle.pt_parameter.proofs.Binding.{has-value, has-clash, has-fault}
+use Rattle.pt_parameter.proofs.Binding.{none, has-value, has-clash, has-fault}
 
 pub weaker : (P Q : Code → Type 0) → ((cause : Code) → P cause → Q cause) → (fault : TextFault) → IsTold P fault → IsTold Q fault
 weaker P Q go (Refused cause) h = go cause h
@@ -56,3 +60,13 @@ evaluation_told env types t s typed evaluation.Overflow (inr e) = record { type 
 evaluation_told env types t s typed evaluation.Index (inr e) = record { type = s; typed = typed; fault = evaluation.Index; stops = e }
 evaluation_told env types t s typed evaluation.Size (inr e) = record { type = s; typed = typed; fault = evaluation.Size; stops = e }
 evaluation_told env types t s typed evaluation.Absent (inr e) = record { type = s; typed = typed; fault = evaluation.Absent; stops = e }
+
+-- a literal comes to its value, whatever is seen
+pub literal_value : (scope : Scope) (text : List ℕ) (t : Tree) (v : Value) → Some v ≡ literal_of t → IsRead text t → HasValue scope text v
+literal_value scope text (tree.Int n) v e read =
+    let same : Int n ≡ v = cc in
+    subst (HasValue scope text) same (record { read = tree.Int n; is_read = read; known = λ name there. unnamed name there; type = datatype.Int; typed = refl; gives = refl })
+  where
+    unnamed : (name : List ℕ) → Contains [] name → (x : Value) × (scope name ≡ Some (Some x))
+    unnamed name there = absurd (none name there)
+literal_value scope text _ v e read = absurd cc

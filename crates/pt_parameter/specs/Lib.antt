@@ -1,1 +1,2 @@
 pub mod ParametersView
+pub mod Literals

@@ -1,4 +1,4 @@
-ghost use Rattle.std.specs.Prelude.{◌≡◌, ◌++◌, [], ◌∷◌, ℕ, List, IfOk, IfErr, OnOk, None, true};
+ghost use Rattle.std.specs.Prelude.{◌≡◌, ◌++◌, [], ◌∷◌, ℕ, List, IfOk, IfErr, OnOk, None, true, option_map};
 ghost use Rattle.pt_value.specs.Token.{value_of};
 ghost use Rattle.pt_document.specs.declared.code.Code.TheVariants as code;
 ghost use Rattle.pt_expr.specs.Env.{scope_of};
@@ -10,6 +10,7 @@ ghost use Rattle.pt_scopes.specs.Names.{seen_scope};
 ghost use Rattle.pt_scopes.specs.Binding.{AreBound, HasStrange, TreeGives, IsTreeValueFault};
 ghost use Rattle.pt_scopes.specs.Texts.{HasValue, IsTextFault};
 ghost use Rattle.pt_scopes.specs.TextFault.{IsTold};
+ghost use Rattle.pt_parameter.specs.Literals.{literal_of};
 
 use crate::reading::read;
 use pt_document::Code;
@@ -76,12 +77,39 @@ impl Binding {
     }
 }
 
+/// What a tree comes to that is the literal of an integer, as most texts read.
+fn literal(tree: &Expr) -> Option<Token>
+    ensures { option_map value_of result ≡ literal_of (tree_of tree.now) }
+{
+    match tree {
+        Expr::Int(n) => Some(Token::Int(*n)),
+        Expr::Bool(_)
+        | Expr::Words(_)
+        | Expr::Name(_)
+        | Expr::List(_)
+        | Expr::Record(_)
+        | Expr::Negate(_)
+        | Expr::Not(_)
+        | Expr::Binary(..)
+        | Expr::Cond(..)
+        | Expr::Abs(_)
+        | Expr::Max(..)
+        | Expr::Min(..)
+        | Expr::Apply(..)
+        | Expr::Field(..)
+        | Expr::Length(_) => None,
+    }
+}
+
 /// The token that a text comes to, where its names are those that are seen.
 pub fn evaluated(alloc: Global, seen: &Seen, text: &str) -> Result<Token, TextFault>
     ensures ok { IfOk result (λ t. HasValue (seen_scope seen.now) text.now (value_of t)) }
     ensures told { IfErr result (IsTold (IsTextFault (seen_scope seen.now) text.now)) }
 {
     let tree = read(alloc, text)?;
+    if let Some(token) = literal(&tree) {
+        return Ok(token);
+    }
     let names = names_of(alloc, &tree)?;
     let binding = Binding::of(alloc, seen, &names)?;
     binding.value(alloc, &tree)

@@ -10,3 +10,4 @@ pub mod Made
 pub mod PlaceLaws
 pub mod NamedTokens
 pub mod Misplacing
+pub mod Turned

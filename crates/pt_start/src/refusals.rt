@@ -1,9 +1,10 @@
-ghost use Rattle.std.specs.Prelude.{◌≡◌, ℕ, true, false, None, IfSome, option_map};
+ghost use Rattle.std.specs.Prelude.{◌≡◌, ℕ, ◌&&◌, true, false, None, IfSome, option_map, slice_get};
 ghost use Rattle.std.specs.Option.{is_some};
 ghost use Rattle.pt_document.specs.declared.code.Code.{Code};
 ghost use Rattle.pt_document.specs.Classes.{class_row};
 ghost use Rattle.pt_net.specs.Net.{entity_view};
 ghost use Rattle.pt_scopes.specs.Scopes.{net_view};
+ghost use Rattle.pt_start.specs.Places.{director_over};
 ghost use Rattle.pt_start.specs.Nested.{IsNested};
 ghost use Rattle.pt_start.specs.Misplaced as misplaced;
 ghost use Rattle.pt_start.specs.Misplaced.{IsTimedBelow, IsRefusedThere, IsMisplaced};
@@ -61,13 +62,20 @@ fn is_limited_with(entity: &NetEntity, values: Option<&EntityValues>) -> bool
     }
 }
 
-/// Whether this is a library actor under SDF that fires only so often.
+/// Whether this stands under SDF and fires only so often.
+fn is_limited_there(net: &Net, values: &Values, number: usize, entity: &NetEntity) -> bool
+    ensures { result ≡ (misplaced.is_sdf (director_over (net_view net.now) (entity_view entity.now).parent) && misplaced.is_limited_with (entity_view entity.now) (slice_get values.now.entities.items number)) }
+{
+    is_sdf(director_over(net, entity.parent))
+        && is_limited_with(entity, values.entities.get(number))
+}
+
+/// Whether this is a library actor under SDF that fires only so often. Its class, which takes longest to find, is looked at last.
+#[tactic(auto, using(crate::proofs::Turned::and_true, crate::proofs::Turned::and_false))]
 fn is_limited_under_sdf(net: &Net, values: &Values, number: usize, entity: &NetEntity) -> bool
     ensures { result ≡ misplaced.is_limited_under_sdf (net_view net.now) values.now number (entity_view entity.now) }
 {
-    is_actor(entity)
-        && is_sdf(director_over(net, entity.parent))
-        && is_limited_with(entity, values.entities.get(number))
+    is_limited_there(net, values, number, entity) && is_actor(entity)
 }
 
 /// Whether this is a DE composite below a director other than DE.

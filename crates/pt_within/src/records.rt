@@ -52,6 +52,9 @@ pub fn records_of(
 ) -> Result<Records, AllocError>
     ensures { IfOk result (λ records. records ≡ map (recorded_at net.now entity.now) numbers.now) }
 {
+    if numbers.is_empty() {
+        return Ok(Records::of(Vec::new(alloc)));
+    }
     let outputs = port_numbers(alloc, &entity.ports)?;
     let mut ports = Vec::new(alloc);
     for number in numbers {

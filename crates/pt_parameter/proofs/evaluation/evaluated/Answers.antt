@@ -10,8 +10,11 @@ use Rattle.pt_scopes.specs.Texts.{IsTextFault, names_in}
 use Rattle.pt_scopes.specs.TextFault.{IsTold}
 use Rattle.pt_scopes.specs.Binding.{AreBound, HasStrange, IsTreeValueFault}
 use Rattle.pt_parameter.proofs.Binding.{keeps, all-bound}
-use Rattle.pt_parameter.proofs.Told.{weaker, strange_told, tree_told, tree_gives}
+use Rattle.pt_parameter.proofs.Told.{weaker, strange_told, tree_told, tree_gives, literal_value}
 use Rattle.pt_parameter.proofs.evaluation.evaluated.Goals as goal
+
+pub returns-in-Some-clause-ok : goal.returns-in-Some-clause-ok
+returns-in-Some-clause-ok c = literal_value (seen_scope c.args.seen.now) c.args.text.now (tree_of c.in_ok-tree.tree) (value_of c.in-Some.token) c.in-Some.ensures c.in_ok-tree.ensures.ok
 
 pub returns-in_err-binding-clause-told : goal.returns-in_err-binding-clause-told
 returns-in_err-binding-clause-told c =

@@ -8,7 +8,7 @@ use Rattle.pt_net.specs.declared.net.NetPort.{NetPort}
 use Rattle.pt_net.specs.Table.{shown}
 use Rattle.pt_survey.specs.Survey.{tables_view}
 use Rattle.pt_net.specs.Net.{Records}
-use Rattle.pt_links.specs.Recorded.{outputs_of}
+use Rattle.pt_links.specs.Recorded.{sought_in}
 use Rattle.pt_net.specs.Stands.{IsRecordFault}
 use Rattle.pt_links.proofs.Told.{told}
 use Rattle.pt_links.proofs.RecordSteps.{repeated_told, unnamed_told, named, place_below}
@@ -33,14 +33,14 @@ returns-in-Some-clause-ok c =
     let text = c.as_str-text.result.now in
     let same : text ≡ get_or records c.args.number [] = c.as_str-text.ensures ∙ get_or_default records c.args.number c.index-self-number.result [] c.requires.number in
     let first : position (bytes_eq text) records ≡ Some c.args.number = c.is_first.ensures.0 c.if-not-is_first.false in
-    let place : position (bytes_eq text) (map (λ o. o.path) (outputs_of t.ports)) ≡ Some c.in-Some.place = sym c.in-Some.ensures in
-    let held = map (λ o. o.port) (outputs_of t.ports) in
+    let place : position (bytes_eq text) (map (λ o. o.path) (sought_in records t.ports)) ≡ Some c.in-Some.place = sym c.in-Some.ensures in
+    let held = map (λ o. o.port) (sought_in records t.ports) in
     let d : NetPort = record { entity = 0; port = 0 } in
     let port = get_or c.args.self.now.ports.now c.in-Some.place d in
-    let at : slice_get held c.in-Some.place ≡ Some port = slice_get-get_or held c.in-Some.place d (place_below t text c.in-Some.place place) ∙ ap (λ (ps : List NetPort). Some (get_or ps c.in-Some.place d)) (sym c.requires.recorder.ports) in
+    let at : slice_get held c.in-Some.place ≡ Some port = slice_get-get_or held c.in-Some.place d (place_below t records text c.in-Some.place place) ∙ ap (λ (ps : List NetPort). Some (get_or ps c.in-Some.place d)) (sym c.requires.recorder.ports) in
     record {
       first = subst (λ (x : List ℕ). position (bytes_eq x) records ≡ Some c.args.number) same first;
-      named = subst (λ (x : List ℕ). Records t x port) same (named t text c.in-Some.place port place at);
+      named = subst (λ (x : List ℕ). Records t x port) same (named t records text c.in-Some.place port place at);
     }
 
 pub returns-in-None-clause-told : goal.returns-in-None-clause-told
