@@ -1,12 +1,15 @@
 -- How far the builder has come.
-use Rattle.std.specs.Prelude.{ℕ, ◌<◌, ◌≤◌, length}
+use Rattle.std.specs.Prelude.{◌≡◌, ℕ, ◌<◌, ◌≤◌, ◌++◌, ◌∷◌, [], List, length}
 use Rattle.pt_net.specs.Inside.{AreInsides}
 use Rattle.pt_trees.specs.Trees.{AreStarted}
 use Rattle.pt_trees.specs.Recorded.{AreRecordLists}
+use Rattle.pt_trees.specs.Fresh.{IsFresh}
+use Rattle.pt_node.specs.declared.node.Node.{Node}
+use Rattle.pt_node.specs.Shown.{shown_node}
 use Rattle.pt_build.specs.declared.builder.Builder.{Builder}
 use Rattle.pt_build.specs.Starts.{starts_in}
 use Rattle.pt_within.specs.Within.{AreWithin}
-use Rattle.pt_trees.specs.Built.{IsNested}
+use Rattle.pt_trees.specs.Built.{IsBuilt, IsNested}
 
 -- what is kept of a net is its own
 pub record IsPrepared (b : Builder) : Type 0 where
@@ -26,3 +29,10 @@ pub record HasRoom (b : Builder) (k depth : ℕ) : Type 0 where
   pub reached : IsReached b k depth
   pub there : k < length b.net.now.entities.items
   pub room : depth < 32
+
+-- there is one node more, which is that of the entity at its start
+pub record IsAdded (b : Builder) (k : ℕ) (old new : List Node) : Type 0 where
+  pub node : Node
+  pub is_last : new ≡ old ++ node ∷ []
+  pub built : IsBuilt b.net.now (starts_in b) k (shown_node node)
+  pub fresh : IsFresh (shown_node node)

@@ -96,7 +96,7 @@ fn actor_node(alloc: Global, held: Held, path: Text, records: Records) -> Node
 }
 
 impl<'a> Builder<'a> {
-    ghost use Rattle.std.specs.Prelude.{◌≡◌, ℕ, ◌<◌, IfOk, IfErr, length, map, option_map, true};
+    ghost use Rattle.std.specs.Prelude.{◌≡◌, ℕ, ◌<◌, IfOk, IfErr, OnOk, length, map, option_map, true};
     ghost use Rattle.pt_chart.specs.Views.{machine_of};
     ghost use Rattle.pt_net.specs.Inside.{children_of};
     ghost use Rattle.pt_node.specs.Shown.{shown, shown_node};
@@ -108,7 +108,7 @@ impl<'a> Builder<'a> {
     ghost use Rattle.pt_trees.specs.Trees.{IsEntity, IsUndirected, AreStarted, StartsAs, around_in, stated_at, machine_at, declared_by};
     ghost use Rattle.pt_trees.specs.Built.{IsBuilt, AreBuilt, IsNested, BuildFaultStands};
     ghost use Rattle.pt_build.specs.Starts.{starts_of, starts_in};
-    ghost use Rattle.pt_build.specs.Reached.{IsPrepared, IsReached, HasRoom};
+    ghost use Rattle.pt_build.specs.Reached.{IsPrepared, IsReached, HasRoom, IsAdded};
 
     pub(crate) fn of(
         alloc: Global,
@@ -339,6 +339,48 @@ impl<'a> Builder<'a> {
         self.composite_at(alloc, k, director, entity, children)
     }
 
+    /// Puts the node of the library actor of that number behind others. A node is large, so it isn't handed from call to call.
+    fn add_actor(
+        &self,
+        alloc: Global,
+        k: usize,
+        entity: &NetEntity,
+        nodes: &mut Vec<Node>,
+    ) -> Result<(), BuildFault>
+        requires prepared { IsPrepared self.now }
+        requires entity { IsEntity self.now.net.now k entity.now }
+        requires undirected { IsUndirected entity.now }
+        ensures added { OnOk result (IsAdded self.now k nodes.old.items nodes.new.items) }
+        ensures stands { IfErr result (BuildFaultStands self.now.net.now (starts_in self.now)) }
+    {
+        let Some(actor) = start_in(self.starts, k) else {
+            return Err(BuildFault::Unbuilt);
+        };
+        nodes.push(self.started_at(alloc, k, entity, actor)?)?;
+        Ok(())
+    }
+
+    /// Puts the node of the entity of that number, which stands below so many composites, behind others.
+    #[cycle(tree)]
+    fn add_node(
+        &self,
+        alloc: Global,
+        k: usize,
+        depth: u32,
+        nodes: &mut Vec<Node>,
+    ) -> Result<(), BuildFault>
+        requires { IsReached self.now k depth }
+        ensures added { OnOk result (IsAdded self.now k nodes.old.items nodes.new.items) }
+        ensures stands { IfErr result (BuildFaultStands self.now.net.now (starts_in self.now)) }
+    {
+        let entity = self.entity_at(k)?;
+        if is_undirected(entity) {
+            return self.add_actor(alloc, k, entity, nodes);
+        }
+        nodes.push(self.node_at(alloc, k, depth)?)?;
+        Ok(())
+    }
+
     /// The nodes of the children of a composite, which stands below so many composites.
     #[cycle(tree)]
     fn children_at(&self, alloc: Global, k: usize, depth: u32) -> Result<Vec<Node>, BuildFault>
@@ -348,10 +390,10 @@ impl<'a> Builder<'a> {
         ensures stands { IfErr result (BuildFaultStands self.now.net.now (starts_in self.now)) }
     {
         let numbers = self.children_of(k);
-        let mut children = Vec::new(alloc);
+        // A node is large, so that a list which grows would move the nodes many times.
+        let mut children = Vec::with_capacity(alloc, numbers.len())?;
         for number in numbers {
-            let node = self.node_at(alloc, *number, depth + 1)?;
-            children.push(node)?;
+            self.add_node(alloc, *number, depth + 1, &mut children)?;
         }
         Ok(children)
     }

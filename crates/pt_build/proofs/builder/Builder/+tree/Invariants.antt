@@ -6,10 +6,13 @@ use Rattle.pt_build.specs.Starts.{starts_in}
 use Rattle.pt_build.proofs.builder.Builder.+tree.Given as goal
 
 abbrev pub decreases-node_at : goal.decreases-node_at
-decreases-node_at l = 2 * (32 - l.depth) + 1
+decreases-node_at l = 3 * (32 - l.depth) + 1
+
+abbrev pub decreases-add_node : goal.decreases-add_node
+decreases-add_node l = 3 * (32 - l.depth) + 2
 
 abbrev pub decreases-children_at : goal.decreases-children_at
-decreases-children_at l = 2 * (32 - l.depth)
+decreases-children_at l = 3 * (32 - l.depth)
 
 abbrev pub invariant-children_at-loop-number : goal.invariant-children_at-loop-number
 invariant-children_at-loop-number l = record {
