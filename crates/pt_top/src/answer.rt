@@ -14,8 +14,10 @@ use pt_document::{DocFault, Job};
 use pt_graph::flatten;
 use pt_moml::read;
 use std::alloc::{AllocError, Global};
+use std::mem::ManuallyDrop;
 
-/// The answer to the job of a document in a form, within a budget, unless memory runs out for it.
+/// The answer to the job of a document in a form, within a budget, unless memory runs out for it. Its net is kept to the end of the
+/// program, as its model is.
 fn answer_job(alloc: Global, form: Form, job: &Job, budget: u64) -> Result<Reply, AllocError>
     requires job { (bytes : List ℕ) × IsJobOf bytes (job_view job.now) }
     requires budget { 0 < budget }
@@ -25,20 +27,29 @@ fn answer_job(alloc: Global, form: Form, job: &Job, budget: u64) -> Result<Reply
         → IfOk result (λ r. (r.status ≡ Done) ⊎ (r.status ≡ Document)) }
 {
     match flatten(alloc, job) {
-        Ok(net) => reply_to_net(alloc, form, &net, budget),
+        Ok(net) => {
+            let reply = reply_to_net(alloc, form, &net, budget);
+            let _kept = ManuallyDrop::new(net);
+            reply
+        }
         Err(DocFault::Refused(refusal)) => refuse(alloc, &refusal),
         Err(DocFault::Memory) => Err(AllocError),
     }
 }
 
-/// The answer to a document's bytes in a form, within a budget, unless memory runs out for it.
+/// The answer to a document's bytes in a form, within a budget, unless memory runs out for it. Its job is kept to the end of the
+/// program.
 pub fn answer(alloc: Global, form: Form, bytes: &[u8], budget: u64) -> Result<Reply, AllocError>
     requires { 0 < budget }
     ensures answers { IfOk result (λ r. AnswersAs form bytes.now budget r.status r.text.items) }
     ensures complete { IsFaultless bytes.now budget → IfOk result (λ r. r.status ≡ Done) }
 {
     match read(alloc, bytes) {
-        Ok(job) => answer_job(alloc, form, &job, budget),
+        Ok(job) => {
+            let reply = answer_job(alloc, form, &job, budget);
+            let _kept = ManuallyDrop::new(job);
+            reply
+        }
         Err(DocFault::Refused(refusal)) => refuse(alloc, &refusal),
         Err(DocFault::Memory) => Err(AllocError),
     }

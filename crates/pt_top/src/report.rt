@@ -28,6 +28,7 @@ use pt_run::{numbers_stay, report, run};
 use pt_trace::{Report, summary, text};
 use pt_trees::{Ended, Top};
 use std::alloc::{AllocError, Global};
+use std::mem::ManuallyDrop;
 
 /// A status, and the text that goes with it.
 #[derive(Drop)]
@@ -137,8 +138,8 @@ fn report_run(
     })
 }
 
-/// The answer of a run of a net's model within a budget. The model is let go by a call, which keeps what that takes out of the
-/// proof.
+/// The answer of a run of a net's model within a budget. The model is kept to the end of the program, which is near, and where the
+/// system takes all memory back at once.
 fn answer_model(
     alloc: Global,
     form: Form,
@@ -155,7 +156,7 @@ fn answer_model(
     ensures complete { IsAffordable model.job budget (shown_node model.top) → IfOk result (λ r. (r.status ≡ Done) ⊎ (r.status ≡ Document)) }
 {
     let reply = report_run(alloc, form, net, &mut model.top, &model.job, budget);
-    drop(model);
+    let _kept = ManuallyDrop::new(model);
     reply
 }
 
