@@ -18,6 +18,8 @@ use crate::pt_net::{Channel, End, Net, NetEntity, Port};
 use crate::pt_node::{Body, Held, Labels, MeetingRecord, Node, Past, Recorded, Records};
 use crate::pt_recv::Channels;
 use crate::pt_rv_parts::KeptNeed;
+use crate::pt_rates::Edge;
+use crate::pt_sched::{SchedEdge, Stretch, schedule};
 use crate::pt_sdf::{Core, CorePlan};
 use crate::pt_run::reactions::run_reactions;
 use crate::pt_seq::fire_within;
@@ -190,6 +192,16 @@ fn document(kind: &str, size: usize) -> (Vec<Entity>, Vec<(usize, Vec<(usize, &'
             }
             return row(e);
         }
+        // Not of bench/generate: the order has nearly all firings of an iteration in stretches.
+        "repeats" => {
+            e.push(entity("ramp".into(), "Ramp", &[]));
+            e.push(entity("up".into(), "UpSample", &[("factor", size as i64)]));
+            for n in 0..9 {
+                e.push(entity(format!("s{n}"), "Scale", &[("factor", -1)]));
+            }
+            e.push(entity("down".into(), "DownSample", &[("factor", size as i64)]));
+            return row(e);
+        }
         // Not of bench/generate: every actor's numbers come to the recorded one. `verify` has its document.
         "mixed" => {
             e.push(entity("ramp".into(), "Ramp", &[("init", 3), ("step", 2)]));
@@ -280,72 +292,20 @@ fn ordered(nodes: &[Entity], channels: &[(usize, usize)], by_turns: bool) -> (Ve
     (order, room)
 }
 
-/// The order of pt_sched: of the children that can fire, whoever was given its last token goes first.
-fn scheduled(nodes: &[Entity], channels: &[(usize, usize)]) -> (Vec<u32>, Vec<usize>) {
-    let q = repetitions_of(nodes, channels);
-    let n = nodes.len();
-    let (mut held, mut room) = (vec![0usize; channels.len()], vec![0usize; channels.len()]);
-    let mut ins = vec![vec![]; n];
-    let mut outs = vec![vec![]; n];
-    for (c, (from, to)) in channels.iter().enumerate() {
-        outs[*from].push(c);
-        ins[*to].push(c);
-    }
-    let (mut short, mut lacking) = (vec![false; channels.len()], vec![0usize; n]);
-    let mut ready: Vec<usize> = vec![];
-    let mut fired = vec![0; n];
-    let mut order = vec![];
-    fn look(nodes: &[Entity], channels: &[(usize, usize)], held: &[usize], short: &mut [bool], lacking: &mut [usize], c: usize) -> bool {
-        let to = channels[c].1;
-        let now = held[c] < nodes[to].takes;
-        if short[c] == now {
-            return false;
-        }
-        short[c] = now;
-        if now { lacking[to] += 1 } else { lacking[to] -= 1 }
-        !now
-    }
-    for c in 0..channels.len() {
-        look(nodes, channels, &held, &mut short, &mut lacking, c);
-    }
-    for child in (0..n).rev() {
-        if lacking[child] == 0 {
-            ready.push(child);
-        }
-    }
-    loop {
-        let can = |child: usize, held: &[usize], fired: &[usize]| fired[child] < q[child] && ins[child].iter().all(|&c| held[c] >= nodes[child].takes);
-        let mut next = None;
-        while let Some(child) = ready.pop() {
-            if can(child, &held, &fired) {
-                next = Some(child);
-                break;
-            }
-        }
-        let Some(child) = next.or_else(|| (0..n).find(|&child| can(child, &held, &fired))) else { break };
-        order.push(child as u32);
-        fired[child] += 1;
-        for &c in &ins[child] {
-            held[c] -= nodes[child].takes;
-        }
-        for &c in &outs[child] {
-            held[c] += nodes[child].gives;
-            room[c] = room[c].max(held[c]);
-        }
-        for &c in &ins[child] {
-            look(nodes, channels, &held, &mut short, &mut lacking, c);
-        }
-        if lacking[child] == 0 {
-            ready.push(child);
-        }
-        for &c in &outs[child] {
-            if look(nodes, channels, &held, &mut short, &mut lacking, c) && lacking[channels[c].1] == 0 {
-                ready.push(channels[c].1);
-            }
-        }
-    }
-    assert!(fired == q, "no loop");
-    (order, room)
+/// The order of pt_sched.
+fn scheduled(nodes: &[Entity], channels: &[(usize, usize)]) -> (Vec<Stretch>, Vec<usize>) {
+    let edges: Row<SchedEdge> = row(channels.iter().map(|&(from, to)| SchedEdge {
+        edge: Edge { from: from as u32, produced: nodes[from].gives as u64, to: to as u32, consumed: nodes[to].takes as u64 },
+        initial: 0,
+    }));
+    let q: Row<u64> = row(repetitions_of(nodes, channels).into_iter().map(|n| n as u64));
+    let plan = schedule(GLOBAL, nodes.len() as u32, &edges, &q).ok().unwrap();
+    (plan.order.iter().copied().collect(), plan.lengths.iter().map(|n| *n as usize).collect())
+}
+
+/// Each firing as a stretch of its own.
+fn one_by_one((order, room): (Vec<u32>, Vec<usize>)) -> (Vec<Stretch>, Vec<usize>) {
+    (order.into_iter().map(|child| Stretch { child, again: 0 }).collect(), room)
 }
 
 fn text(words: &str) -> Text {
@@ -396,7 +356,7 @@ fn scale_within(e: &Entity) -> (Body, Row<Node>) {
         repetitions: counts([1]),
         takes: counts([1]),
         gives: counts([1]),
-        order: row([0]),
+        order: row([Stretch { child: 0, again: 0 }]),
         room: counts([1, 1]),
     };
     let core = Core::new(GLOBAL, plan, Channels::new(GLOBAL, 2).ok().unwrap()).ok().unwrap();
@@ -509,11 +469,11 @@ pub fn build(kind: &str, size: usize, iterations: u64, by: &str) -> (Node, usize
     }
     let (order, room) = match by {
         _ if is_timed(kind) => (vec![], vec![]),
-        "bursts" => ordered(&entities, &channels, false),
-        "turns" => ordered(&entities, &channels, true),
+        "bursts" => one_by_one(ordered(&entities, &channels, false)),
+        "turns" => one_by_one(ordered(&entities, &channels, true)),
         _ => scheduled(&entities, &channels),
     };
-    let firings = order.len();
+    let firings = order.iter().map(|stretch| stretch.again as usize + 1).sum();
     let children = row(entities.iter().enumerate().map(|(k, e)| node_of(e, k == last)));
     let mut needs = vec![];
     for child in children.as_slice().iter().filter(|_| !is_timed(kind)) {
@@ -529,7 +489,7 @@ pub fn build(kind: &str, size: usize, iterations: u64, by: &str) -> (Node, usize
             outputs: counts(entities.iter().map(|_| 1)),
             nonstrict: row(entities.iter().map(|_| false)),
             takes: counts([]),
-            order: row(order),
+            order: row(order.iter().map(|stretch| stretch.child)),
         };
         let core = crate::pt_sr::Core::new(GLOBAL, plan).ok().unwrap();
         return (top_of(directors::sr(core), children), firings, last);
