@@ -1,5 +1,6 @@
 pub mod Tokens
 pub mod IntInputs
+pub mod IntRows
 pub mod Outputs
 pub mod Need
 pub mod RunFault
