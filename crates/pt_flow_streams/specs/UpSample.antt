@@ -21,6 +21,10 @@ zeros count = replicate count (Int (pos 0))
 abbrev pub among_zeros : ℕ → ℤ → ℕ → List Token
 among_zeros before number after = zeros before ++ Int number ∷ zeros after
 
+-- the same of numbers
+abbrev pub number_among : ℕ → ℤ → ℕ → List ℤ
+number_among before number after = replicate before (pos 0) ++ number ∷ replicate after (pos 0)
+
 abbrev pub step : Tag → UpSample → Streams Token → Answer Token UpSample
 step tag actor X = on_present actor (λ input. Gives actor (among_zeros actor.before input actor.after ∷ [])) (number_at X 0)
 

@@ -1,12 +1,12 @@
-ghost use Rattle.std.specs.Prelude.{◌≡◌, ◌-◌, ◌++◌, [], map, IfOk, IfSome, OnOk};
-ghost use Rattle.pt_value.specs.declared.token.Token.TheVariants.{Int};
-ghost use Rattle.pt_flow_base.specs.Number.{GivesNumbers};
+ghost use Rattle.std.specs.Prelude.{◌≡◌, ◌+◌, ◌-◌, ◌++◌, IfOk, IfSome, IsTrue, OnOk, None};
+ghost use Rattle.pt_flow_base.specs.Number.{GivesNumbers, GivesStretch};
 ghost use Rattle.pt_flow_base.specs.Rates.{IsCount};
-ghost use Rattle.pt_flow_streams.specs.UpSample.{zeros, among_zeros};
+ghost use Rattle.pt_flow_streams.specs.UpSample.{zeros, among_zeros, number_among};
 ghost use Rattle.pt_flow_streams.specs.UpSample as up_sample;
 
 use pt_firing::{
-    Actor, Fires, Inputs, IntInputs, Need, OneEach, Outputs, Partial, Step, Tokens, strict_early,
+    Actor, Fires, Inputs, IntInputs, IntRows, Need, OneEach, Outputs, Partial, Step, Tokens,
+    strict_early,
 };
 use pt_flow_base::{Params, factor_and_phase};
 use pt_time::Tag;
@@ -61,17 +61,48 @@ impl UpSample {
             None => false,
         }
     }
+
+    /// Makes the first firings of a stretch, where each gives `rate` numbers, and tells how many. The buffer has the numbers then.
+    pub fn stretch(&self, inputs: &IntRows<'_>, rate: usize, given: &mut Vec<i64>) -> usize
+        ensures { GivesStretch up_sample.step self.now inputs.now rate result given.new.items self.now }
+    {
+        given.clear();
+        let firings = inputs.firings();
+        if !is_sum(rate, self.before, self.after) {
+            return 0;
+        }
+        for k in 0..firings {
+            let Some(input) = inputs.firing(k).number_at(0) else {
+                return k;
+            };
+            if put_among_zeros(given, self.before, input, self.after).is_none() {
+                return k;
+            }
+        }
+        firings
+    }
 }
 
-/// Puts a number with so many zeros before it and after it into an empty buffer.
+/// Puts a number with so many zeros before it and after it behind those in the buffer. Where that isn't told, the buffer is as before.
 fn put_among_zeros(given: &mut Vec<i64>, before: usize, number: i64, after: usize) -> Option<()>
-    requires { given.old.items ≡ [] }
-    ensures { IfSome result (λ _. map Int given.new.items ≡ among_zeros before number after) }
+    ensures put { IfSome result (λ _. given.new.items ≡ given.old.items ++ number_among before number after) }
+    ensures kept { result ≡ None → given.new.items ≡ given.old.items }
 {
-    let count = before.checked_add(1)?.checked_add(after)?;
+    let at = given.len().checked_add(before)?;
+    let count = at.checked_add(1)?.checked_add(after)?;
     given.resize(count, 0).ok()?;
-    given[before] = number;
+    given[at] = number;
     Some(())
+}
+
+/// Whether so many numbers are one, and those before it and after it.
+fn is_sum(count: usize, before: usize, after: usize) -> bool
+    ensures { IsTrue result → count ≡ before + 1 + after }
+{
+    match before.checked_add(1) {
+        Some(first) => first.checked_add(after) == Some(count),
+        None => false,
+    }
 }
 
 /// A number with so many zeros before it and after it.

@@ -1,11 +1,11 @@
 ghost use Rattle.std.specs.Prelude.{◌≡◌, IfOk, IfSome, IsSome};
 ghost use Rattle.pt_flow_base.specs.Rates.{IsCount};
-ghost use Rattle.pt_flow_base.specs.Number.{GivesNumber, GivesNumbers};
+ghost use Rattle.pt_flow_base.specs.Number.{GivesNumber, GivesNumbers, GivesStretch};
 ghost use Rattle.pt_lib_flow.specs.FlowActor as flow_actor;
 ghost use Rattle.pt_lib_flow.specs.FlowActor.{class_of, start_as, start, outputs, rate, is_steady};
 
 use crate::expression::Expression;
-use pt_firing::{Actor, Fires, Inputs, IntInputs, Need, Partial, Step, strict_early};
+use pt_firing::{Actor, Fires, Inputs, IntInputs, IntRows, Need, Partial, Step, strict_early};
 use pt_flow_base::{Params, has_no_places};
 use pt_flow_numbers::{
     AbsoluteValue, Accumulator, AddSubtract, Counter, Extreme, MultiplyDivide, Ramp, Scale, Side,
@@ -335,6 +335,37 @@ impl FlowActor {
             | FlowActor::Scale(_)
             | FlowActor::Sequence(_) => false,
         }
+    }
+
+    /// Makes the first firings of a stretch, one after another, where each gives `rate` integers on its one port, and nothing else, and tells how many. `given` has the integers then, in order. Where it makes none, `step` makes the firing.
+    pub fn stretch(&mut self, inputs: &IntRows<'_>, rate: usize, given: &mut Vec<i64>) -> usize
+        ensures { GivesStretch flow_actor.step self.old inputs.now rate result given.new.items self.new }
+    {
+        if let FlowActor::UpSample(actor) = self {
+            return actor.stretch(inputs, rate, given);
+        }
+        self.stretch_of_ones(inputs, rate, given)
+    }
+
+    /// The same by firings that give one integer each.
+    fn stretch_of_ones(&mut self, inputs: &IntRows<'_>, rate: usize, given: &mut Vec<i64>) -> usize
+        ensures { GivesStretch flow_actor.step self.old inputs.now rate result given.new.items self.new }
+    {
+        given.clear();
+        let firings = inputs.firings();
+        if rate != 1 {
+            return 0;
+        }
+        if given.reserve(firings).is_err() {
+            return 0;
+        }
+        for k in 0..firings {
+            let Some(number) = self.number(&inputs.firing(k)) else {
+                return k;
+            };
+            given.push_reserved(number);
+        }
+        firings
     }
 }
 

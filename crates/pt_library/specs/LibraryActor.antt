@@ -10,7 +10,7 @@ use Rattle.pt_flow_base.specs.declared.params.Params.{Params}
 use Rattle.pt_lib_flow.specs.FlowActor as flow_actor
 use Rattle.pt_lib_time.specs.TimeActor as time_actor
 use Rattle.pt_lib_timed.specs.TimedActor as timed_actor
-pub use Rattle.pt_flow_base.specs.Number.{GivesNumber, GivesNumbers}
+pub use Rattle.pt_flow_base.specs.Number.{GivesNumber, GivesNumbers, numbers_of, MakesInTurn, GivesStretch}
 pub use Rattle.pt_lib_timed.specs.Signal.{signal_of, GivesSignal, TellsSignal}
 use Rattle.pt_library.specs.declared.library_actor.LibraryActor.{LibraryActor}
 use Rattle.pt_library.specs.declared.library_actor.LibraryActor.TheVariants.{Flow, Data, Time, Timed}

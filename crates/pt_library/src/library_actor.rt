@@ -1,13 +1,13 @@
 ghost use Rattle.std.specs.Prelude.{◌≡◌, IfOk, IfSome, option_map};
 ghost use Rattle.pt_lib_flow.specs.FlowActor as flow_actor;
 ghost use Rattle.pt_flow_base.specs.Rates.{IsCount};
-ghost use Rattle.pt_flow_base.specs.Number.{GivesNumber, GivesNumbers};
+ghost use Rattle.pt_flow_base.specs.Number.{GivesNumber, GivesNumbers, GivesStretch};
 ghost use Rattle.pt_lib_timed.specs.Signal.{GivesSignal, TellsSignal};
 ghost use Rattle.pt_library.specs.LibraryActor as library;
 ghost use Rattle.pt_library.specs.Laws.{IsRatedActor};
 
 use crate::integers::int_inputs;
-use pt_firing::{Actor, Counts, Fires, Inputs, IntInputs, Need, Partial, Step};
+use pt_firing::{Actor, Counts, Fires, Inputs, IntInputs, IntRows, Need, Partial, Step};
 use pt_flow_base::Params;
 use pt_lib_data::DataActor;
 use pt_lib_flow::FlowActor;
@@ -203,6 +203,18 @@ impl LibraryActor {
             LibraryActor::Flow(actor) => actor.numbers(inputs, given),
             LibraryActor::Data(_) | LibraryActor::Time(_) | LibraryActor::Timed(_) => false,
         }
+    }
+
+    /// Makes the first firings of a stretch, one after another, where each gives `rate` integers on its one port, and nothing else, and tells how many. `given` has the integers then, in order. Where it makes none, `step` makes the firing.
+    #[inline(always)]
+    pub fn stretch(&mut self, inputs: &IntRows<'_>, rate: usize, given: &mut Vec<i64>) -> usize
+        ensures { GivesStretch library.step self.old inputs.now rate result given.new.items self.new }
+    {
+        if let LibraryActor::Flow(actor) = self {
+            return actor.stretch(inputs, rate, given);
+        }
+        given.clear();
+        0
     }
 }
 
