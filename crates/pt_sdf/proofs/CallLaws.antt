@@ -71,7 +71,7 @@ module _ (p : SdfPlan) (needs order room offsets : List ℕ) (feeds : List (Vec 
         row-of (f ∷ feeds) zero row h e = ap (λ (v : Vec Feed Global). v.items) e
         row-of (f ∷ feeds) (suc r) row h e = row-of feeds r row (omega arith) e
 
-    row-targets : map target_of row.items ≡ targets (length p.net.places) r 0 p.net.sources
+    pub row-targets : map target_of row.items ≡ targets (length p.net.places) r 0 p.net.sources
     row-targets = ap (λ v. map target_of v) row-is ∙ s.fed.targets.each r h
 
     pub row-apart : AreApart row.items

@@ -1,11 +1,14 @@
 -- Integers that stand in front of channels.
-use Rattle.std.proofs.Common.{◌≡◌, ℕ, ℤ, pos, zero, suc, ◌+◌, ◌<◌, ◌≤◌, List, [], ◌∷◌, ◌++◌, length, get_or, map, take, drop, Option, Some, None, IfSome, refl, ap, ap₂, ◌∙◌, sym, arith, length-drop}
-use Rattle.std.proofs.lemmas.List.{get_or-drop, map_push}
+use Rattle.std.proofs.Common.{◌≡◌, ℕ, ℤ, pos, zero, suc, ◌+◌, ◌-◌, ◌*◌, ◌<◌, ◌≤◌, List, [], ◌∷◌, ◌++◌, length, get_or, map, take, drop, Option, Some, None, IfSome, refl, ap, ap₂, ◌∙◌, sym, arith, length-drop}
+use Rattle.std.proofs.lemmas.List.{get_or-drop, map_push, length-map, length-take, drop-map, drop-take}
 use Rattle.pt_meaning.specs.Streams.{Streams}
 use Rattle.pt_meaning.specs.Kahn.{firsts}
 use Rattle.pt_value.specs.declared.token.Token.{Token}
 use Rattle.pt_value.specs.declared.token.Token.TheVariants.{Int}
 use Rattle.pt_firing.specs.IntInputs.{one_at_each}
+use Rattle.pt_firing.specs.IntRows.{at_one_place}
+use Rattle.pt_firing.proofs.InARow.{firings-long, row-within, row-at}
+use Rattle.pt_sdf.specs.InARow.{AreInFront}
 use Rattle.pt_sdf.proofs.Lists.{firsts-step}
 
 -- fewer of those in front are the first of the channel
@@ -33,3 +36,21 @@ row-more X from k needs row ns m h l one e f some is =
 pub some-more : {X : Type 0} {P Q : X → Type 0} (o : Option X) → ((x : X) → P x → Q x) → IfSome o P → IfSome o Q
 some-more None f p = tt
 some-more (Some x) f p = f x p
+
+-- those in front are what firings in a row take
+pub in-front : (need firings : ℕ) (ns : List ℤ) (xs : List Token) → map Int ns ≡ take (length ns) xs → firings * need ≤ length ns → AreInFront need xs (at_one_place need firings ns)
+in-front need firings ns xs e room = record {
+  enough = omega (arith, ap (λ k. k * need) long, room, ap (λ v. length v) e, length-map ns Int, length-take (length ns) xs);
+  each = λ k short. sym (row-at need firings ns k (omega (arith, short, long))) ∙ ap (λ (v : List Token). let r : Streams Token = v ∷ [] in r) (piece k (omega (arith, short, long)));
+}
+  where
+    long : length (at_one_place need firings ns) ≡ firings
+    long = firings-long (Some need) firings ns
+
+    piece : (k : ℕ) → k < firings → map Int (take need (drop (k * need) ns)) ≡ take need (drop (k * need) xs)
+    piece k short =
+        let behind : k * need + need ≤ firings * need = row-within need firings k short in
+        let rest : length (drop (k * need) ns) ≡ length ns - k * need = length-drop (k * need) ns in
+        let all : length ns ≡ k * need + length (drop (k * need) ns) = omega (arith, rest, behind, room) in
+        front-of (drop (k * need) ns) (drop (k * need) xs) need
+        (sym (drop-map Int (k * need) ns) ∙ ap (λ v. drop (k * need) v) e ∙ ap (λ m. drop (k * need) (take m xs)) all ∙ drop-take (k * need) (length (drop (k * need) ns)) xs) (omega (arith, rest, behind, room))

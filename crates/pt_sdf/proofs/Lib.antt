@@ -16,3 +16,6 @@ pub mod TableLaws
 pub mod UnfedLaws
 pub mod ActsLaws
 pub mod StretchLaws
+pub mod RowLists
+pub mod RowLaws
+pub mod AheadLaws

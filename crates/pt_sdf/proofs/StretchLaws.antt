@@ -36,6 +36,10 @@ place-child (stretch ∷ order) zero done h = get_or_append_left (row stretch) (
 place-child (stretch ∷ order) (suc at) done h =
     ap (λ n. get_or (row stretch ++ spread order) (n + place_at at done order) 0) (sym (row-long stretch)) ∙ get_or-append-add (row stretch) (spread order) (place_at at done order) 0 ∙ place-child order at done (record { there = omega (arith, h.there); begun = h.begun })
 
+-- how many firings of the stretch that is read are to come
+pub again-read : (order : List Stretch) (at done : ℕ) (stretch : Stretch) → IsWithin order at done → stretch ≡ get_or order at stretch → stretch.again ≡ (get_or order at no_stretch).again
+again-read order at done stretch h e = ap (λ (s : Stretch). s.again) (e ∙ get_or_default order at stretch no_stretch h.there)
+
 -- the child that is read is the next of the firings
 pub next-child : (order : List Stretch) (at done : ℕ) (stretch : Stretch) → IsWithin order at done → stretch ≡ get_or order at stretch → stretch.child ≡ get_or (spread order) (place_at at done order) stretch.child
 next-child order at done stretch h e =

@@ -1,5 +1,7 @@
 -- What is simple of the children of a plan, so that their firings need no walk.
-use Rattle.std.specs.Prelude.{◌≡◌, ℕ, ◌+◌, ◌<◌, List, [], ◌∷◌, length, map, get_or, Option, Some, None, Vec}
+use Rattle.std.specs.Prelude.{◌≡◌, ℕ, ◌+◌, ◌*◌, ◌<◌, ◌≤◌, List, [], ◌∷◌, length, map, get_or, set, drop, Option, Some, None, Vec}
+use Rattle.pt_meaning.specs.Streams.{Streams}
+use Rattle.pt_value.specs.declared.token.Token.{Token}
 use Rattle.std.specs.Global.{Global}
 use Rattle.pt_sdf.specs.declared.feeds.Feed.{Feed}
 use Rattle.pt_sdf.specs.declared.lanes.Lane.{Lane}
@@ -85,3 +87,24 @@ pub record AreTables (plan : CorePlan) (tables : Tables) : Type 0 where
   pub begin : tables.offsets.items ≡ begins 0 plan.places
   pub fed : AreFeeds (length plan.places) (map source_of plan.sources.items) tables.feeds.items
   pub lanes : AreLanes plan.places plan.needs plan.rates.items tables.feeds.items tables.lanes.items
+
+-- the channels without what so many firings need of a child with one place or none
+abbrev pub row_left : Inlet → ℕ → Streams Token → Streams Token
+row_left inlet.Nothing firings X = X
+row_left (inlet.Alone c need) firings X = set X c (drop (firings * need) (get_or X c []))
+row_left inlet.Each firings X = X
+row_left inlet.Several firings X = X
+
+-- they have that
+abbrev pub HasRow : Inlet → ℕ → Streams Token → Type 0
+HasRow inlet.Nothing firings X = Unit {0}
+HasRow (inlet.Alone c need) firings X = firings * need ≤ length (get_or X c [])
+HasRow inlet.Each firings X = ⊥
+HasRow inlet.Several firings X = ⊥
+
+-- its one place is a channel of so many
+abbrev pub IsInletIn : (channel_count : ℕ) → Inlet → Type 0
+IsInletIn n inlet.Nothing = Unit {0}
+IsInletIn n (inlet.Alone c need) = c < n
+IsInletIn n inlet.Each = Unit {0}
+IsInletIn n inlet.Several = Unit {0}

@@ -2,6 +2,7 @@ pub mod ByNeed
 pub mod State
 pub mod StateCode
 pub mod Clauses
+pub mod InARow
 pub mod Plan
 pub mod Lawful
 pub mod Feeds

@@ -1,9 +1,9 @@
 ghost use Rattle.std.specs.Prelude.{◌≡◌, ℕ, ◌+◌, ◌^◌, ◌<◌, ◌≤◌, [], ◌∷◌, Some, length, map, take, drop, get_or, IsTrue, if◌then◌else◌};
 ghost use Rattle.pt_value.specs.declared.token.Token.TheVariants.{Int};
-ghost use Rattle.pt_recv.specs.Lines.{list_at};
+ghost use Rattle.pt_recv.specs.Lines.{list_at, spare_at};
 ghost use Rattle.pt_sdf.specs.ByNeed.{skip_at};
 ghost use Rattle.pt_sdf.specs.Feeds.{put_back};
-ghost use Rattle.pt_sdf.specs.Lanes.{FitsInlet, IsOutletIn, targets_of, count_of};
+ghost use Rattle.pt_sdf.specs.Lanes.{FitsInlet, IsInletIn, IsOutletIn, HasRow, row_left, targets_of, count_of};
 
 use crate::lanes::{Inlet, Outlet};
 use crate::skip::skip_places;
@@ -35,6 +35,27 @@ pub(crate) fn give_numbers(channels: &mut Channels, outlet: Outlet, numbers: &[i
         Outlet::One(c) => numbers.len() == 1 && channels.push_numbers(c, numbers),
         Outlet::Nothing => numbers.len() == 1,
         Outlet::Several => false,
+    }
+}
+
+/// Takes away what so many firings need, where an inlet tells one place or none, and there is as much. `false` says that nothing was done.
+#[inline(always)]
+pub(crate) fn skip_rows(channels: &mut Channels, inlet: Inlet, firings: usize) -> bool
+    requires { IsInletIn (length channels.old.lists) inlet }
+    ensures lists { channels.new.lists ≡ (if result then row_left inlet firings channels.old.lists else channels.old.lists) }
+    ensures enough { IsTrue result → HasRow inlet firings channels.old.lists }
+    ensures keeps { (d : ℕ) → spare_at channels.old.spares d ≤ spare_at channels.new.spares d }
+{
+    match inlet {
+        Inlet::Alone(c, need) => match firings.checked_mul(need) {
+            Some(all) if all <= channels.len(c) => {
+                channels.skip(c, all);
+                true
+            }
+            _ => false,
+        },
+        Inlet::Nothing => true,
+        Inlet::Each | Inlet::Several => false,
     }
 }
 

@@ -1,4 +1,4 @@
-ghost use Rattle.std.specs.Prelude.{◌≡◌, ℕ, ◌+◌, ◌-◌, ◌^◌, ◌<◌, ◌≤◌, List, [], ◌∷◌, ◌++◌, length, map, slice_set, take, drop, get_or, OnOk, IfSome, IsTrue};
+ghost use Rattle.std.specs.Prelude.{◌≡◌, ℕ, ◌+◌, ◌-◌, ◌*◌, ◌^◌, ◌<◌, ◌≤◌, List, [], ◌∷◌, ◌++◌, length, map, slice_set, take, drop, get_or, OnOk, IfSome, IsTrue};
 ghost use Rattle.pt_value.specs.declared.token.Token.{Token};
 ghost use Rattle.pt_value.specs.declared.token.Token.TheVariants.{Int};
 ghost use Rattle.pt_recv.specs.Lines.{list_at, spare_at};
@@ -7,9 +7,10 @@ ghost use Rattle.pt_meaning.specs.Rounds.{has_rates};
 ghost use Rattle.pt_firing.specs.IntInputs.{one_at_each};
 ghost use Rattle.pt_sdf.specs.Feeds.{no_feed, target_of, put_back, AreThere, AreApart};
 ghost use Rattle.pt_sdf.specs.Lanes.{NeedsOneEach};
+ghost use Rattle.pt_sdf.specs.InARow.{AreInFront};
 
 use crate::feeds::Feed;
-use pt_firing::IntInputs;
+use pt_firing::{IntInputs, IntRows};
 use pt_recv::Channels;
 use std::alloc::AllocError;
 
@@ -31,6 +32,36 @@ pub(crate) fn numbers_in_front(channels: &Channels, c: u32, need: usize) -> Opti
         return None;
     }
     Some(IntInputs::all_at_one(&numbers[..need]))
+}
+
+/// Whether the rates are those of an actor that gives so many tokens on its one port, and there are those of so many firings.
+pub(crate) fn are_rows_of_one(rates: &[usize], rate: usize, firings: usize, n: usize) -> bool
+    ensures rate { IsTrue result → rates.now ≡ rate ∷ [] }
+    ensures all { IsTrue result → n ≡ firings * rate }
+{
+    rates.len() == 1 && rates[0] == rate && firings.checked_mul(rate) == Some(n)
+}
+
+/// What those of at most so many firings take, each of which needs so many tokens of a channel, where these are integers that stand in front.
+#[inline(always)]
+pub(crate) fn rows_in_front(channels: &Channels, c: u32, need: usize, most: usize) -> IntRows<'_>
+    requires { c < length channels.now.lists }
+    ensures { AreInFront need (list_at channels.now.lists c) result }
+{
+    let numbers = channels.numbers(c);
+    let firings = most.min(times_within(numbers.len(), need));
+    IntRows::at_one_place(numbers, need, firings)
+}
+
+/// How often so many are among `n`, and never where they are none.
+fn times_within(n: usize, need: usize) -> usize
+    ensures { result * need ≤ n }
+{
+    match need {
+        0 => 0,
+        1 => n,
+        _ => n / need,
+    }
 }
 
 /// Puts the first tokens of these channels into the buffer, where they are integers that stand in front, and memory suffices.

@@ -1,7 +1,7 @@
 ghost use Rattle.std.specs.Prelude.{◌≡◌, ◌↔◌, ◌<◌, length, IfOk, IsTrue, OnOk, OnErr, Option, Some, List};
 
 use crate::gather::{Span, gather, lighten};
-use crate::lanes::{Inlet, Outlet};
+use crate::lanes::Inlet;
 use crate::numbers::{first_numbers, numbers_in_front};
 use crate::outlets::hand_out;
 use crate::plan::CorePlan;
@@ -18,6 +18,7 @@ use std::alloc::{AllocError, Global};
 use std::marker::Model;
 
 mod made;
+mod stretch;
 mod telling;
 
 use made::{at_first, parts_again};
@@ -234,17 +235,6 @@ impl Core {
                 None
             }
             Inlet::Several => None,
-        }
-    }
-
-    /// Whether the child just asked for gives several numbers, or none, to one channel. A hint of how it may fire.
-    #[inline(always)]
-    pub fn gives_several(&self, child: u32) -> bool
-        requires { asked_child self.now.stage ≡ Some child }
-    {
-        match self.tables.lanes[child as usize].outlet {
-            Outlet::Burst(_, _) => true,
-            Outlet::Nothing | Outlet::One(_) | Outlet::Several => false,
         }
     }
 
