@@ -7,3 +7,4 @@ pub mod ActsLaws
 pub mod ResetLaws
 pub mod ResetLoop
 pub mod WakeLaws
+pub mod InTurnLaws

@@ -7,7 +7,7 @@ use Rattle.pt_value.specs.declared.token.Token.{Token}
 use Rattle.pt_value.specs.declared.token.Token.TheVariants.{Int}
 use Rattle.pt_node.specs.Recorded.{RecordedPort, noting, unnoted}
 
-with_tag-append : {T : Type 0} (t : Tag) (xs ys : List T) → with_tag t (xs ++ ys) ≡ with_tag t xs ++ with_tag t ys
+pub with_tag-append : {T : Type 0} (t : Tag) (xs ys : List T) → with_tag t (xs ++ ys) ≡ with_tag t xs ++ with_tag t ys
 with_tag-append t [] ys = refl
 with_tag-append t (x ∷ xs) ys = ap (λ v. (t, x) ∷ v) (with_tag-append t xs ys)
 

@@ -10,3 +10,4 @@ pub mod Stuck
 pub mod Full
 pub mod Unmet
 pub mod Wake
+pub mod InTurn

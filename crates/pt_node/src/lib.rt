@@ -2,6 +2,7 @@
 #![tactic(auto)]
 
 mod body;
+mod in_turn;
 mod labels;
 mod meetings;
 mod node;
@@ -10,6 +11,7 @@ mod recorded;
 mod unmet;
 
 pub use body::{Body, Held};
+pub use in_turn::notes_add_up;
 pub use labels::Labels;
 pub use meetings::MeetingRecord;
 pub use node::Node;

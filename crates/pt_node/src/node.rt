@@ -9,7 +9,7 @@ ghost use Rattle.pt_library.specs.LibraryActor as library;
 ghost use Rattle.pt_node.specs.Live.{is_live, IsFit, IsReadyNode, IsReadyBody, AllFit};
 ghost use Rattle.pt_node.specs.Reset.{WasReset, WereReset, BodyReset, KeepsRecords, KeepRecords};
 ghost use Rattle.pt_node.specs.View.{node_of, maximum_in};
-ghost use Rattle.pt_node.specs.Firing.{noted, bare, recorded};
+ghost use Rattle.pt_node.specs.Firing.{noted, bare, recorded, recorded_times};
 ghost use Rattle.pt_node.specs.Wake.{begins, own_wake};
 
 use crate::body::Body;
@@ -160,6 +160,16 @@ impl Node {
         ensures { shown_node self.new ≡ recorded tag (shown_node self.old) }
     {
         self.past = self.past.fired_at(tag);
+        self.records.record();
+        self.live = true;
+    }
+
+    /// Records so many firings at the tag, with what was noted of all of them together. The node is live again.
+    pub fn record_row(&mut self, tag: Tag, firings: u64)
+        requires { (out-Node self.old).past.made + firings < 2 ^ 64 }
+        ensures { shown_node self.new ≡ recorded_times tag firings (shown_node self.old) }
+    {
+        self.past = self.past.fired_times(tag, firings);
         self.records.record();
         self.live = true;
     }

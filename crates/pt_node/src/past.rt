@@ -1,4 +1,4 @@
-ghost use Rattle.std.specs.Prelude.{◌≡◌, ◌+◌, ◌<◌, ◌^◌};
+ghost use Rattle.std.specs.Prelude.{◌≡◌, ◌+◌, ◌<◌, ◌^◌, Some};
 ghost use Rattle.pt_meaning.specs.Tree as tree;
 ghost use Rattle.pt_meaning.specs.NodeFacts.{at_first};
 
@@ -40,6 +40,17 @@ impl Past {
         match self.last {
             None if begins => Some(Tag { time: 0, step: 0 }),
             None | Some(_) => own,
+        }
+    }
+
+    /// So many firings more, at that tag.
+    pub fn fired_times(self, tag: Tag, firings: u64) -> Past
+        requires { self.made + firings < 2 ^ 64 }
+        ensures { result ≡ record { made = self.made + firings; last = Some tag.time } }
+    {
+        Past {
+            made: self.made + firings,
+            last: Some(tag.time),
         }
     }
 
