@@ -9,7 +9,7 @@ use Rattle.pt_process.specs.Process.{puts_in, room_at}
 use Rattle.pt_process.proofs.CopyLaws.{same-lines}
 use Rattle.pt_rv_work.specs.Core.{Standing}
 use Rattle.pt_rv_parts.specs.declared.need.KeptNeed.{KeptNeed}
-use Rattle.pt_rv_parts.specs.declared.need.KeptNeed.TheVariants.{Over, Counts, Any}
+use Rattle.pt_rv_parts.specs.declared.need.KeptNeed.TheVariants.{Over, Counts, One, Any}
 use Rattle.pt_rv_parts.specs.declared.process.Process.TheInside.{Inside}
 use Rattle.pt_rv_parts.specs.Process.{Gathers, taken_at, counts_in, need_in, got_in, row_if, seen_process}
 
@@ -61,6 +61,7 @@ again barrier (Counts ns) handed full filled row L M e r g = λ h. let b = g h i
   full = λ q l. subst (λ X. get_or ns q 0 ≤ length (at X q)) (sym e) (b.full q l);
   room = λ q l. r q (let z = same-lines L M e in omega (arith, l, z));
 }
+again barrier One handed full filled row L M e r g = g
 again barrier Any handed full filled row L M e r g = g
 
 pub gathers-again : (barrier : Bool) (need need' : KeptNeed) (ns : List ℕ) (handed : Bool) (full : ℕ) (filled : Option ℕ) (row row' : Streams Token) (L M : List (Spared Token)) → need' ≡ need → row' ≡ row → lists_of M ≡ lists_of L → ns ≡ counts_in (need_in need) →
@@ -82,4 +83,5 @@ copied-is p s need row M us e f g h v =
     got : (m : KeptNeed) (b : Bool) → got_in m b row M ≡ got_in m b p.row.items p.lines.items
     got Over b = rows b
     got (Counts ns) b = rows b
+    got One b = f
     got Any b = f

@@ -1,5 +1,5 @@
 -- What the calls of a process keep, and what they make of what contracts see.
-use Rattle.std.proofs.Common.{◌≡◌, ◌⊎◌, inl, inr, ℕ, ◌+◌, ◌<◌, ◌≤◌, List, [], ◌∷◌, ◌++◌, Bool, true, false, not, nat_eq, length, set, get_or, replicate, Option, Some, None, refl, sym, ap, ap₂, subst, ◌∙◌, arith}
+use Rattle.std.proofs.Common.{◌≡◌, ◌⊎◌, inl, inr, ℕ, zero, suc, ◌+◌, ◌<◌, ◌≤◌, List, [], ◌∷◌, ◌++◌, Bool, true, false, not, nat_eq, length, set, get_or, replicate, Option, Some, None, refl, sym, ap, ap₂, subst, ◌∙◌, arith, length-set}
 use Rattle.std.specs.Prelude.{slice_get}
 use Rattle.pt_meaning.specs.Streams.{Streams, at, any_present, change_at}
 use Rattle.pt_meaning.specs.Machine.{Need}
@@ -11,14 +11,14 @@ use Rattle.pt_reaction.specs.Channels.{lists_of}
 use Rattle.pt_rv_laws.specs.Lawful.{HasPlaces}
 use Rattle.pt_process.specs.declared.process.StagedPut.{StagedPut}
 use Rattle.pt_process.specs.Process.{put_of, puts_in, room_at}
-use Rattle.pt_process.proofs.ProcessLaws.{lines-long}
+use Rattle.pt_process.proofs.ProcessLaws.{lines-long, lacking-some, lacking-none}
 use Rattle.pt_rv_work.specs.Core.{Standing, next_of, with_token, with_put_made, with_handed}
 use Rattle.pt_rv_parts.specs.declared.need.KeptNeed.{KeptNeed}
-use Rattle.pt_rv_parts.specs.declared.need.KeptNeed.TheVariants.{Over, Counts, Any}
+use Rattle.pt_rv_parts.specs.declared.need.KeptNeed.TheVariants.{Over, Counts, One, Any}
 use Rattle.pt_rv_parts.specs.declared.process.Event.{Event}
 use Rattle.pt_rv_parts.specs.declared.process.Event.TheVariants as event
 use Rattle.pt_rv_parts.specs.declared.process.Process.TheInside.{Inside}
-use Rattle.pt_rv_parts.specs.Process.{IsSound, GathersBy, Gathers, FilledAt, HaveRoom, DoesNext, MayTake, TakesAt, IsCounted, IsByCounts, counts_in, event_by, any_event_by, fires_by, need_in, got_in, row_if, seen_process, at_start, renewed}
+use Rattle.pt_rv_parts.specs.Process.{IsSound, GathersBy, Gathers, FilledAt, HaveRoom, DoesNext, MayTake, TakesAt, taken_at, counts_in, event_by, any_event_by, lacks_one, fires_by, need_in, got_in, row_if, seen_process, at_start, renewed}
 use Rattle.pt_rv_parts.proofs.GatherLaws.{any-none, any-some, none-at, alone-at, filled-now, emptied-as, empty-as, room-empty, gathers-first, gathers-more}
 
 -- what it does next where it has no put to make
@@ -34,7 +34,39 @@ any-does : (s : Standing Token) (o : Option ℕ) (row : Streams Token) → Fille
 any-does s None row f u e = next-by s GetsAny u (e ∙ ap if_any (any-none row f))
 any-does s (Some place) row f u e = next-by s Fires u (e ∙ ap if_any (any-some row place f.1))
 
+-- the only place, which needs one token
+one-under : (r : ℕ) → get_or (1 ∷ []) r 0 ≤ 1
+one-under zero = omega arith
+one-under (suc r) = omega arith
+
+one-lacks : (row : Streams Token) (o : Option ℕ) → length row ≡ 1 → FilledAt o row → lacking 0 (1 ∷ []) row ≡ lacks_one o
+one-lacks row None n f = lacking-some (1 ∷ []) row 0 0 (λ r l. absurd (omega (arith, l))) (omega arith) (omega (arith, n)) (let e = ap (λ v. length v) (f 0) in omega (arith, e))
+one-lacks row (Some place) n f = lacking-none (1 ∷ []) row 0 (λ r l.
+    let p = f.0 in
+    let e : place ≡ r = omega (arith, l, n, p) in
+    let a = subst (λ j. 0 < length (at row j)) e f.1 in
+    let b = one-under r in
+    omega (arith, a, b))
+
+one-taken : (barrier : Bool) (place : ℕ) → taken_at barrier (1 ∷ []) place ≤ 1
+one-taken true place = omega arith
+one-taken false place = one-under place
+
+none-in-one : (xs : List Token) → length xs < 1 → any_present (xs ∷ []) ≡ false
+none-in-one [] h = refl
+none-in-one (x ∷ xs) h = absurd (omega (arith, h))
+
+one-takes : (barrier : Bool) (row : Streams Token) (place : ℕ) → length row ≡ 1 → place < length row → TakesAt barrier (machine.Counts (1 ∷ [])) row place → any_present row ≡ false
+one-takes barrier [] place n l t = absurd (omega (arith, l))
+one-takes barrier (xs ∷ []) zero n l t = none-in-one xs (let a = one-taken barrier 0 in omega (arith, a, t))
+one-takes barrier (xs ∷ []) (suc place) n l t = absurd (omega (arith, l))
+one-takes barrier (xs ∷ (ys ∷ row)) place n l t = absurd (omega (arith, n))
+
 -- what is gathered
+pub alone-got : (need : KeptNeed) (handed : Bool) (row : Streams Token) (L : List (Spared Token)) → (need ≡ One) ⊎ (need ≡ Any) → got_in need handed row L ≡ row
+alone-got need handed row L (inl n) = ap (λ m. got_in m handed row L) n
+alone-got need handed row L (inr n) = ap (λ m. got_in m handed row L) n
+
 pub counted-got : (need : KeptNeed) (ns : List ℕ) (handed : Bool) (row : Streams Token) (L : List (Spared Token)) → need ≡ Counts ns → handed ≡ false → got_in need handed row L ≡ lists_of L
 counted-got need ns handed row L n h = ap₂ (λ m b. got_in m b row L) n h
 
@@ -65,6 +97,12 @@ module _ (p : Inside) (s : Standing Token) (v : seen_process p ≡ s) where
       subst (λ (t : Standing Token). DoesNext t ev) v (subst (λ x. DoesNext (seen_process p) x) (sym e) (event-does (seen_process p) p.is_barrier o (no-puts u)
       (ap₂ (λ m b. by_need p.is_barrier (need_in m) (got_in m b p.row.items p.lines.items)) n (not-handed h) ∙ ap (λ x. if_lacking p.is_barrier x) (sym l))))
 
+  pub one-next : (ev : Event) → IsSound p → p.need ≡ One → s.puts ≡ [] → ev ≡ event_by p.is_barrier (lacks_one p.filled) → DoesNext s ev
+  one-next ev w n u e =
+      let g : Gathers p.is_barrier One p.is_handed p.full p.filled p.row.items p.lines.items = subst (λ m. Gathers p.is_barrier m p.is_handed p.full p.filled p.row.items p.lines.items) n w.gathers in
+      subst (λ (t : Standing Token). DoesNext t ev) v (subst (λ x. DoesNext (seen_process p) x) (sym e) (event-does (seen_process p) p.is_barrier (lacks_one p.filled) (no-puts u)
+      (ap (λ m. by_need p.is_barrier (need_in m) (got_in m p.is_handed p.row.items p.lines.items)) n ∙ ap (λ x. if_lacking p.is_barrier x) (one-lacks p.row.items p.filled g.0 g.1))))
+
   pub any-next : (ev : Event) → IsSound p → p.need ≡ Any → s.puts ≡ [] → ev ≡ any_event_by p.filled → DoesNext s ev
   any-next ev w n u e =
       subst (λ (t : Standing Token). DoesNext t ev) v (subst (λ x. DoesNext (seen_process p) x) (sym e) (any-does (seen_process p) p.filled p.row.items (subst (λ m. Gathers p.is_barrier m p.is_handed p.full p.filled p.row.items p.lines.items) n w.gathers) (no-puts u)
@@ -79,22 +117,21 @@ pub record Takes (p : Inside) (place : ℕ) : Type 0 where
   pub there : place < length p.lines.items
   pub room : 0 < room_at p.lines.items place
 
-takes-by : (barrier : Bool) (need : KeptNeed) (handed : Bool) (full : ℕ) (filled : Option ℕ) (row : Streams Token) (L : List (Spared Token)) (place : ℕ) → Gathers barrier need handed full filled row L → handed ≡ false → place < length (got_in need handed row L) →
-    TakesAt barrier (need_in need) (got_in need handed row L) place → IsCounted (need_in need) → (ns : List ℕ) × (need ≡ Counts ns) × GathersBy barrier ns full L × (place < length L) × (0 < room_at L place)
-takes-by barrier Over handed full filled row L place g h l t k = absurd k
-takes-by barrier Any handed full filled row L place g h l t k = absurd k
-takes-by barrier (Counts ns) true full filled row L place g h l t k = absurd (cc)
-takes-by barrier (Counts ns) false full filled row L place g h l t k =
+takes-by : (barrier : Bool) (ns : List ℕ) (handed : Bool) (full : ℕ) (filled : Option ℕ) (row : Streams Token) (L : List (Spared Token)) (place : ℕ) → Gathers barrier (Counts ns) handed full filled row L → handed ≡ false → place < length (got_in (Counts ns) handed row L) →
+    TakesAt barrier (machine.Counts ns) (got_in (Counts ns) handed row L) place → GathersBy barrier ns full L × (place < length L) × (0 < room_at L place)
+takes-by barrier ns true full filled row L place g h l t = absurd (cc)
+takes-by barrier ns false full filled row L place g h l t =
     let n = lines-long L in
     let there : place < length L = omega (arith, l, n) in
     let by = g refl in
-    (ns, refl, by, there, let a = by.room place there in omega (arith, a, t))
+    (by, there, let a = by.room place there in omega (arith, a, t))
 
-pub takes-there : (p : Inside) (s : Standing Token) (place : ℕ) → IsSound p → seen_process p ≡ s → MayTake s place → IsCounted s.need → Takes p place
-takes-there p s place w v may k =
+pub takes-there : (p : Inside) (s : Standing Token) (place : ℕ) (ns : List ℕ) → IsSound p → seen_process p ≡ s → MayTake s place → p.need ≡ Counts ns → Takes p place
+takes-there p s place ns w v may n =
     let m : MayTake (seen_process p) place = subst (λ (t : Standing Token). MayTake t place) (sym v) may in
-    let r = takes-by p.is_barrier p.need p.is_handed p.full p.filled p.row.items p.lines.items place w.gathers m.gathers m.there m.takes (subst (λ (t : Standing Token). IsCounted t.need) (sym v) k) in
-    record { ns = r.0; need = r.1; free = m.gathers; gathers = r.2; there = r.3; room = r.4 }
+    let r = takes-by p.is_barrier ns p.is_handed p.full p.filled p.row.items p.lines.items place (subst (λ k. Gathers p.is_barrier k p.is_handed p.full p.filled p.row.items p.lines.items) n w.gathers) m.gathers
+    (subst (λ k. place < length (got_in k p.is_handed p.row.items p.lines.items)) n m.there) (subst (λ k. TakesAt p.is_barrier (need_in k) (got_in k p.is_handed p.row.items p.lines.items) place) n m.takes) in
+    record { ns = ns; need = n; free = m.gathers; gathers = r.0; there = r.1; room = r.2 }
 
 pub takes-is : (p : Inside) (s : Standing Token) (place : ℕ) (t : Takes p place) (M : List (Spared Token)) (x : Token) → seen_process p ≡ s → lists_of M ≡ change_at place (λ xs. xs ++ (x ∷ [])) (lists_of p.lines.items) →
     (let q : Standing Token = record { barrier = p.is_barrier; need = need_in p.need; got = got_in p.need p.is_handed p.row.items M; puts = puts_in p.puts.items; handed = p.is_handed } in q) ≡ with_token place x s
@@ -111,9 +148,6 @@ takes-gathers p place t M x e n r o = subst (λ m. Gathers p.is_barrier m p.is_h
 pub over-takes : (p : Inside) (s : Standing Token) (place : ℕ) → seen_process p ≡ s → p.need ≡ Over → MayTake s place → ⊥
 over-takes p s place v n may = subst (λ m. TakesAt s.barrier m s.got place) (sym (ap (λ (t : Standing Token). t.need) v) ∙ ap need_in n) may.takes
 
-pub counts-counted : (p : Inside) (s : Standing Token) (ns : List ℕ) → seen_process p ≡ s → p.need ≡ Counts ns → IsCounted s.need
-counts-counted p s ns v n = subst IsCounted (sym (ap need_in n) ∙ ap (λ (t : Standing Token). t.need) v) tt
-
 pub need-is : (p : Inside) (s : Standing Token) (m : KeptNeed) → seen_process p ≡ s → p.need ≡ m → s.need ≡ need_in m
 need-is p s m v n = sym (ap (λ (t : Standing Token). t.need) v) ∙ ap need_in n
 
@@ -121,25 +155,41 @@ need-is p s m v n = sym (ap (λ (t : Standing Token). t.need) v) ∙ ap need_in 
 need-any : (m : KeptNeed) → need_in m ≡ machine.Any → m ≡ Any
 need-any Over e = absurd (cc)
 need-any (Counts ns) e = absurd (cc)
+need-any One e = absurd (cc)
 need-any Any e = refl
 
-need-counts : (m : KeptNeed) (ns : List ℕ) → need_in m ≡ machine.Counts ns → m ≡ Counts ns
-need-counts Over ns e = absurd (cc)
-need-counts (Counts ms) ns e = ap (λ v. Counts v) (counts-same ms ns e)
+-- a need that is kept in another way than as one token at the only place
+abbrev pub IsOther : KeptNeed → Type 0
+IsOther need = (need ≡ Over) ⊎ (((ns : List ℕ) × (need ≡ Counts ns)) ⊎ (need ≡ Any))
+
+need-counts : (m : KeptNeed) (ns : List ℕ) → IsOther m → need_in m ≡ machine.Counts ns → m ≡ Counts ns
+need-counts Over ns o e = absurd (cc)
+need-counts (Counts ms) ns o e = ap (λ v. Counts v) (counts-same ms ns e)
   where
     counts-same : (ms ns : List ℕ) → machine.Counts ms ≡ machine.Counts ns → ms ≡ ns
     counts-same ms ns e = cc
-need-counts Any ns e = absurd (cc)
+need-counts One ns (inl o) e = absurd (cc)
+need-counts One ns (inr (inl o)) e = absurd (let z = o.1 in cc)
+need-counts One ns (inr (inr o)) e = absurd (cc)
+need-counts Any ns o e = absurd (cc)
 
 pub any-need : (p : Inside) (s : Standing Token) → seen_process p ≡ s → s.need ≡ machine.Any → p.need ≡ Any
 any-need p s v n = need-any p.need (ap (λ (t : Standing Token). t.need) v ∙ n)
 
-pub counts-need : (p : Inside) (s : Standing Token) (ns : List ℕ) → seen_process p ≡ s → s.need ≡ machine.Counts ns → p.need ≡ Counts ns
-counts-need p s ns v n = need-counts p.need ns (ap (λ (t : Standing Token). t.need) v ∙ n)
+pub counts-need : (p : Inside) (s : Standing Token) (ns : List ℕ) → seen_process p ≡ s → IsOther p.need → s.need ≡ machine.Counts ns → p.need ≡ Counts ns
+counts-need p s ns v o n = need-counts p.need ns o (ap (λ (t : Standing Token). t.need) v ∙ n)
+
+-- counts of one token at one place
+pub counts-one : (m : KeptNeed) → counts_in (need_in m) ≡ 1 ∷ [] → machine.Counts (1 ∷ []) ≡ need_in m
+counts-one Over e = absurd (cc)
+counts-one (Counts ns) e = ap (λ v. machine.Counts v) (sym e)
+counts-one One e = refl
+counts-one Any e = absurd (cc)
 
 any-takes : (barrier : Bool) (need : KeptNeed) (handed : Bool) (row : Streams Token) (L : List (Spared Token)) (place : ℕ) → need ≡ Any → place < length (got_in need handed row L) → TakesAt barrier (need_in need) (got_in need handed row L) place → (place < length row) × (any_present row ≡ false)
 any-takes barrier Over handed row L place n l t = absurd (cc)
 any-takes barrier (Counts ns) handed row L place n l t = absurd (cc)
+any-takes barrier One handed row L place n l t = absurd (cc)
 any-takes barrier Any handed row L place n l t = (l, t)
 
 pub any-there : (p : Inside) (s : Standing Token) (place : ℕ) → seen_process p ≡ s → MayTake s place → s.need ≡ machine.Any → (place < length p.row.items) × (any_present p.row.items ≡ false)
@@ -147,14 +197,26 @@ any-there p s place v may n =
     let m : MayTake (seen_process p) place = subst (λ (t : Standing Token). MayTake t place) (sym v) may in
     any-takes p.is_barrier p.need p.is_handed p.row.items p.lines.items place (any-need p s v n) m.there m.takes
 
-pub any-got : (need : KeptNeed) (handed : Bool) (row : Streams Token) (L : List (Spared Token)) → need ≡ Any → got_in need handed row L ≡ row
-any-got need handed row L n = ap (λ m. got_in m handed row L) n
+pub one-there : (p : Inside) (s : Standing Token) (place : ℕ) → IsSound p → seen_process p ≡ s → MayTake s place → p.need ≡ One → (place < length p.row.items) × (any_present p.row.items ≡ false)
+one-there p s place w v may n =
+    let m : MayTake (seen_process p) place = subst (λ (t : Standing Token). MayTake t place) (sym v) may in
+    let g : Gathers p.is_barrier One p.is_handed p.full p.filled p.row.items p.lines.items = subst (λ k. Gathers p.is_barrier k p.is_handed p.full p.filled p.row.items p.lines.items) n w.gathers in
+    let there : place < length p.row.items = subst (λ k. place < length (got_in k p.is_handed p.row.items p.lines.items)) n m.there in
+    (there, one-takes p.is_barrier p.row.items place g.0 there (subst (λ k. TakesAt p.is_barrier (need_in k) (got_in k p.is_handed p.row.items p.lines.items) place) n m.takes))
 
-pub any-is : (p : Inside) (s : Standing Token) (place : ℕ) (x : Token) (R : Streams Token) → seen_process p ≡ s → p.need ≡ Any → any_present p.row.items ≡ false → R ≡ set p.row.items place (x ∷ []) →
+pub one-gathers : (p : Inside) (place : ℕ) (x : Token) (R : Streams Token) (L : List (Spared Token)) → IsSound p → p.need ≡ One → place < length p.row.items → any_present p.row.items ≡ false → R ≡ set p.row.items place (x ∷ []) → Gathers p.is_barrier p.need p.is_handed p.full (Some place) R L
+one-gathers p place x R L w n l e r =
+    let g : Gathers p.is_barrier One p.is_handed p.full p.filled p.row.items p.lines.items = subst (λ k. Gathers p.is_barrier k p.is_handed p.full p.filled p.row.items p.lines.items) n w.gathers in
+    subst (λ m. Gathers p.is_barrier m p.is_handed p.full (Some place) R L) (sym n) (ap (λ v. length v) r ∙ length-set p.row.items place (x ∷ []) ∙ g.0, subst (λ X. FilledAt (Some place) X) (sym r) (filled-now p.row.items place x l e))
+
+pub one-filled : (p : Inside) → IsSound p → p.need ≡ One → (length p.row.items ≡ 1) × FilledAt p.filled p.row.items
+one-filled p w n = subst (λ k. Gathers p.is_barrier k p.is_handed p.full p.filled p.row.items p.lines.items) n w.gathers
+
+pub alone-is : (p : Inside) (s : Standing Token) (place : ℕ) (x : Token) (R : Streams Token) → seen_process p ≡ s → (p.need ≡ One) ⊎ (p.need ≡ Any) → any_present p.row.items ≡ false → R ≡ set p.row.items place (x ∷ []) →
     (let q : Standing Token = record { barrier = p.is_barrier; need = need_in p.need; got = got_in p.need p.is_handed R p.lines.items; puts = puts_in p.puts.items; handed = p.is_handed } in q) ≡ with_token place x s
-any-is p s place x R v n e r =
+alone-is p s place x R v n e r =
     ap (λ X. let q : Standing Token = record { barrier = p.is_barrier; need = need_in p.need; got = X; puts = puts_in p.puts.items; handed = p.is_handed } in q)
-    (any-got p.need p.is_handed R p.lines.items n ∙ r ∙ alone-at p.row.items place x (none-at p.row.items e place) ∙ ap (λ X. change_at place (λ xs. xs ++ (x ∷ [])) X) (sym (any-got p.need p.is_handed p.row.items p.lines.items n))) ∙
+    (alone-got p.need p.is_handed R p.lines.items n ∙ r ∙ alone-at p.row.items place x (none-at p.row.items e place) ∙ ap (λ X. change_at place (λ xs. xs ++ (x ∷ [])) X) (sym (alone-got p.need p.is_handed p.row.items p.lines.items n))) ∙
     ap (λ (q : Standing Token). with_token place x q) v
 
 pub any-gathers : (p : Inside) (place : ℕ) (x : Token) (R : Streams Token) (L : List (Spared Token)) → p.need ≡ Any → place < length p.row.items → any_present p.row.items ≡ false → R ≡ set p.row.items place (x ∷ []) → Gathers p.is_barrier p.need p.is_handed p.full (Some place) R L
@@ -170,42 +232,35 @@ put-made p s u us v e =
     ap (λ w. let q : Standing Token = record { barrier = p.is_barrier; need = need_in p.need; got = got_in p.need p.is_handed p.row.items p.lines.items; puts = rest_of (puts_in w); handed = p.is_handed } in q) (sym e) ∙ ap (λ (q : Standing Token). with_put_made q) v
 
 -- where it hands over what it has gathered
-by-counts : (need : KeptNeed) (row row' : Streams Token) (L M : List (Spared Token)) → IsByCounts (need_in need) → row' ≡ lists_of L → got_in need true row' M ≡ got_in need false row L
-by-counts Over row row' L M k e = e
-by-counts (Counts ns) row row' L M k e = e
-by-counts Any row row' L M k e = absurd k
+by-counts : (need : KeptNeed) (row row' : Streams Token) (L M : List (Spared Token)) → (need ≡ Over) ⊎ ((ns : List ℕ) × (need ≡ Counts ns)) → row' ≡ lists_of L → got_in need true row' M ≡ got_in need false row L
+by-counts need row row' L M (inl n) e = ap (λ m. got_in m true row' M) n ∙ e ∙ ap (λ m. got_in m false row L) (sym n)
+by-counts need row row' L M (inr n) e = ap (λ m. got_in m true row' M) n.1 ∙ e ∙ ap (λ m. got_in m false row L) (sym n.1)
 
-handed-gathers : (barrier : Bool) (need : KeptNeed) (full : ℕ) (filled : Option ℕ) (row : Streams Token) (L : List (Spared Token)) → IsByCounts (need_in need) → Gathers barrier need true full filled row L
-handed-gathers barrier Over full filled row L k = tt
-handed-gathers barrier (Counts ns) full filled row L k = λ h. absurd (cc)
-handed-gathers barrier Any full filled row L k = absurd k
+pub lines-handed : (barrier : Bool) (need : KeptNeed) (full : ℕ) (filled : Option ℕ) (row : Streams Token) (L : List (Spared Token)) → (need ≡ Over) ⊎ ((ns : List ℕ) × (need ≡ Counts ns)) → Gathers barrier need true full filled row L
+lines-handed barrier need full filled row L (inl n) = subst (λ m. Gathers barrier m true full filled row L) (sym n) tt
+lines-handed barrier need full filled row L (inr n) = subst (λ m. Gathers barrier m true full filled row L) (sym n.1) (λ h. absurd (cc))
 
-pub lines-handed : (p : Inside) (s : Standing Token) (row : Streams Token) (M : List (Spared Token)) → seen_process p ≡ s → IsByCounts s.need → Gathers p.is_barrier p.need true p.full p.filled row M
-lines-handed p s row M v k = handed-gathers p.is_barrier p.need p.full p.filled row M (subst (λ (t : Standing Token). IsByCounts t.need) (sym v) k)
-
-pub hand-is : (p : Inside) (s : Standing Token) (row : Streams Token) (M : List (Spared Token)) → seen_process p ≡ s → s.handed ≡ false → IsByCounts s.need → row ≡ lists_of p.lines.items →
+pub hand-is : (p : Inside) (s : Standing Token) (row : Streams Token) (M : List (Spared Token)) → seen_process p ≡ s → s.handed ≡ false → (p.need ≡ Over) ⊎ ((ns : List ℕ) × (p.need ≡ Counts ns)) → row ≡ lists_of p.lines.items →
     (let q : Standing Token = record { barrier = p.is_barrier; need = need_in p.need; got = got_in p.need true row M; puts = puts_in p.puts.items; handed = true } in q) ≡ with_handed s
 hand-is p s row M v h k e =
     ap (λ X. let q : Standing Token = record { barrier = p.is_barrier; need = need_in p.need; got = X; puts = puts_in p.puts.items; handed = true } in q)
-    (by-counts p.need p.row.items row p.lines.items M (subst (λ (t : Standing Token). IsByCounts t.need) (sym v) k) e ∙ ap (λ b. got_in p.need b p.row.items p.lines.items) (sym (not-handed p s v h))) ∙
+    (by-counts p.need p.row.items row p.lines.items M k e ∙ ap (λ b. got_in p.need b p.row.items p.lines.items) (sym (not-handed p s v h))) ∙
     ap (λ (q : Standing Token). with_handed q) v
 
-pub by-counts-if : (p : Inside) (s : Standing Token) → seen_process p ≡ s → (p.need ≡ Over) ⊎ ((ns : List ℕ) × (p.need ≡ Counts ns)) → IsByCounts s.need
-by-counts-if p s v (inl n) = subst IsByCounts (sym (need-is p s Over v n)) tt
-by-counts-if p s v (inr n) = subst IsByCounts (sym (need-is p s (Counts n.0) v n.1)) tt
-
-pub any-handed : (p : Inside) (s : Standing Token) → seen_process p ≡ s → p.need ≡ Any →
+pub alone-handed : (p : Inside) (s : Standing Token) → seen_process p ≡ s → (p.need ≡ One) ⊎ (p.need ≡ Any) →
     (let q : Standing Token = record { barrier = p.is_barrier; need = need_in p.need; got = got_in p.need true p.row.items p.lines.items; puts = puts_in p.puts.items; handed = true } in q) ≡ with_handed s
-any-handed p s v n =
+alone-handed p s v n =
     ap (λ X. let q : Standing Token = record { barrier = p.is_barrier; need = need_in p.need; got = X; puts = puts_in p.puts.items; handed = true } in q)
-    (any-got p.need true p.row.items p.lines.items n ∙ sym (any-got p.need p.is_handed p.row.items p.lines.items n)) ∙ ap (λ (q : Standing Token). with_handed q) v
+    (alone-got p.need true p.row.items p.lines.items n ∙ sym (alone-got p.need p.is_handed p.row.items p.lines.items n)) ∙ ap (λ (q : Standing Token). with_handed q) v
 
-pub any-handed-gathers : (p : Inside) → IsSound p → p.need ≡ Any → Gathers p.is_barrier p.need true p.full p.filled p.row.items p.lines.items
-any-handed-gathers p w n = subst (λ m. Gathers p.is_barrier m true p.full p.filled p.row.items p.lines.items) (sym n) (subst (λ m. Gathers p.is_barrier m p.is_handed p.full p.filled p.row.items p.lines.items) n w.gathers)
+pub alone-handed-gathers : (p : Inside) → IsSound p → (p.need ≡ One) ⊎ (p.need ≡ Any) → Gathers p.is_barrier p.need true p.full p.filled p.row.items p.lines.items
+alone-handed-gathers p w (inl n) = subst (λ m. Gathers p.is_barrier m true p.full p.filled p.row.items p.lines.items) (sym n) (subst (λ m. Gathers p.is_barrier m p.is_handed p.full p.filled p.row.items p.lines.items) n w.gathers)
+alone-handed-gathers p w (inr n) = subst (λ m. Gathers p.is_barrier m true p.full p.filled p.row.items p.lines.items) (sym n) (subst (λ m. Gathers p.is_barrier m p.is_handed p.full p.filled p.row.items p.lines.items) n w.gathers)
 
 handed-row : (need : KeptNeed) (handed : Bool) (row : Streams Token) (L : List (Spared Token)) → handed ≡ true → got_in need handed row L ≡ row
 handed-row Over handed row L h = ap (λ b. row_if b row L) h
 handed-row (Counts ns) handed row L h = ap (λ b. row_if b row L) h
+handed-row One handed row L h = refl
 handed-row Any handed row L h = refl
 
 pub lent-is : (p : Inside) (s : Standing Token) → seen_process p ≡ s → s.handed ≡ true → p.row.items ≡ s.got
@@ -217,6 +272,7 @@ got-places Over true row L e = e
 got-places Over false row L e = lines-long L
 got-places (Counts ns) true row L e = e
 got-places (Counts ns) false row L e = lines-long L
+got-places One handed row L e = e
 got-places Any handed row L e = e
 
 pub got-long : (p : Inside) (s : Standing Token) → IsSound p → seen_process p ≡ s → length s.got ≡ length p.lines.items
@@ -244,15 +300,17 @@ start-is barrier need ns places row L us r f l h u =
     got : (m : KeptNeed) → got_in m false row L ≡ replicate places []
     got Over = empty-as (lists_of L) places (room-empty barrier ns L h) (lines-long L ∙ l)
     got (Counts ms) = empty-as (lists_of L) places (room-empty barrier ns L h) (lines-long L ∙ l)
+    got One = empty-as row places f r
     got Any = empty-as row places f r
 
-start-by : (barrier : Bool) (need : KeptNeed) (row : Streams Token) (L : List (Spared Token)) → HasPlaces (length L) (need_in need) → ((q : ℕ) → at row q ≡ []) → HaveRoom barrier (counts_in (need_in need)) L → Gathers barrier need false 0 None row L
-start-by barrier Over row L p f h = tt
-start-by barrier (Counts ns) row L p f h = λ _. gathers-first barrier ns L p h
-start-by barrier Any row L p f h = f
+start-by : (barrier : Bool) (need : KeptNeed) (row : Streams Token) (L : List (Spared Token)) → length row ≡ length L → HasPlaces (length L) (need_in need) → ((q : ℕ) → at row q ≡ []) → HaveRoom barrier (counts_in (need_in need)) L → Gathers barrier need false 0 None row L
+start-by barrier Over row L r p f h = tt
+start-by barrier (Counts ns) row L r p f h = λ _. gathers-first barrier ns L p h
+start-by barrier One row L r p f h = (r ∙ sym p, f)
+start-by barrier Any row L r p f h = f
 
-pub start-gathers : (barrier : Bool) (need : KeptNeed) (ns : List ℕ) (row : Streams Token) (L : List (Spared Token)) → ns ≡ counts_in (need_in need) → HasPlaces (length L) (need_in need) → ((q : ℕ) → at row q ≡ []) → HaveRoom barrier ns L → Gathers barrier need false 0 None row L
-start-gathers barrier need ns row L e p f h = start-by barrier need row L p f (subst (λ v. HaveRoom barrier v L) e h)
+pub start-gathers : (barrier : Bool) (need : KeptNeed) (ns : List ℕ) (row : Streams Token) (L : List (Spared Token)) → ns ≡ counts_in (need_in need) → length row ≡ length L → HasPlaces (length L) (need_in need) → ((q : ℕ) → at row q ≡ []) → HaveRoom barrier ns L → Gathers barrier need false 0 None row L
+start-gathers barrier need ns row L e r p f h = start-by barrier need row L r p f (subst (λ v. HaveRoom barrier v L) e h)
 
 -- a need without counts
 pub no-counts : (need : KeptNeed) → (need ≡ Over) ⊎ (need ≡ Any) → counts_in (need_in need) ≡ []

@@ -11,7 +11,7 @@ use Rattle.pt_value.specs.declared.token.Token.{Token}
 use Rattle.pt_process.specs.Process.{PutsFirst, puts_in, room_at}
 use Rattle.pt_rv_work.specs.Core.{Standing, next_of}
 use Rattle.pt_rv_parts.specs.declared.need.KeptNeed.{KeptNeed}
-use Rattle.pt_rv_parts.specs.declared.need.KeptNeed.TheVariants.{Over, Counts, Any}
+use Rattle.pt_rv_parts.specs.declared.need.KeptNeed.TheVariants.{Over, Counts, One, Any}
 use Rattle.pt_rv_parts.specs.declared.process.Event.{Event}
 use Rattle.pt_rv_parts.specs.declared.process.Event.TheVariants as event
 use Rattle.pt_rv_parts.specs.declared.process.Process.TheInside.{Inside}
@@ -20,6 +20,7 @@ use Rattle.pt_rv_parts.specs.declared.process.Process.TheInside.{Inside}
 abbrev pub need_in : KeptNeed → Need
 need_in Over = machine.Over
 need_in (Counts ns) = machine.Counts ns
+need_in One = machine.Counts (1 ∷ [])
 need_in Any = machine.Any
 
 -- the lists that are lent, or those that grow
@@ -27,10 +28,11 @@ abbrev pub row_if : Bool → Streams Token → List (Spared Token) → Streams T
 row_if true row lines = row
 row_if false row lines = lists_of lines
 
--- What is gathered: one token from any place is kept where it is lent, and tokens by counts are handed over to there.
+-- What is gathered: one token, at the only place or from any, is kept where it is lent, and tokens by counts are handed over to there.
 abbrev pub got_in : KeptNeed → Bool → Streams Token → List (Spared Token) → Streams Token
 got_in Over handed row lines = row_if handed row lines
 got_in (Counts ns) handed row lines = row_if handed row lines
+got_in One handed row lines = row
 got_in Any handed row lines = row
 
 abbrev pub seen_process : Inside → Standing Token
@@ -61,6 +63,7 @@ FilledAt (Some place) row = (place < length row) × (0 < length (at row place)) 
 abbrev pub Gathers : Bool → KeptNeed → Bool → ℕ → Option ℕ → Streams Token → List (Spared Token) → Type 0
 Gathers barrier Over handed full filled row lines = Unit {0}
 Gathers barrier (Counts ns) handed full filled row lines = handed ≡ false → GathersBy barrier ns full lines
+Gathers barrier One handed full filled row lines = (length row ≡ 1) × FilledAt filled row
 Gathers barrier Any handed full filled row lines = FilledAt filled row
 
 -- what a process keeps
@@ -82,6 +85,11 @@ abbrev pub event_by : Bool → Option ℕ → Event
 event_by barrier None = event.Fire
 event_by true (Some place) = event.Join
 event_by false (Some place) = event.Get place
+
+-- the only place lacks its one token where none is filled
+abbrev pub lacks_one : Option ℕ → Option ℕ
+lacks_one None = Some 0
+lacks_one (Some place) = None
 
 -- whether it fires next
 abbrev pub fires_by : Event → Bool
@@ -114,17 +122,6 @@ joins_by event.Over = false
 abbrev pub any_event_by : Option ℕ → Event
 any_event_by None = event.GetAny
 any_event_by (Some place) = event.Fire
-
--- the need is by counts, or it isn't one of any token
-abbrev pub IsCounted : Need → Type 0
-IsCounted machine.Over = ⊥
-IsCounted (machine.Counts ns) = Unit {0}
-IsCounted machine.Any = ⊥
-
-abbrev pub IsByCounts : Need → Type 0
-IsByCounts machine.Over = Unit {0}
-IsByCounts (machine.Counts ns) = Unit {0}
-IsByCounts machine.Any = ⊥
 
 -- a token may come to this place: fewer are gathered there than it takes by the counts, or none is gathered where any will do
 abbrev pub TakesAt : Bool → Need → Streams Token → ℕ → Type 0

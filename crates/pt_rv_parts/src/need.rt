@@ -8,6 +8,8 @@ pub enum KeptNeed {
     Over,
     /// So many tokens on each place.
     Counts(Counts),
+    /// One token, on the only place.
+    One,
     /// One token, on any one place.
     Any,
 }
@@ -25,6 +27,7 @@ impl KeptNeed {
                 Ok(counts) => Ok(KeptNeed::Counts(counts)),
                 Err(fault) => Err(fault),
             },
+            KeptNeed::One => Ok(KeptNeed::One),
             KeptNeed::Any => Ok(KeptNeed::Any),
         }
     }

@@ -1,9 +1,9 @@
-ghost use Rattle.std.specs.Prelude.{◌≡◌, ℕ, ◌+◌, ◌<◌, ◌≤◌, [], ◌∷◌, ◌++◌, nat_eq, length, get_or, false};
+ghost use Rattle.std.specs.Prelude.{◌≡◌, ℕ, ◌+◌, ◌<◌, ◌≤◌, [], ◌∷◌, ◌++◌, nat_eq, length, get_or, set, false, Some};
 ghost use Rattle.pt_meaning.specs.Streams.{at, change_at};
 ghost use Rattle.pt_meaning.specs.Process.{lacking};
 ghost use Rattle.pt_reaction.specs.Channels.{lists_of};
 ghost use Rattle.pt_process.specs.Process.{PutsFirst, puts_in, room_at};
-ghost use Rattle.pt_rv_parts.specs.Process.{event_by, any_event_by};
+ghost use Rattle.pt_rv_parts.specs.Process.{event_by, any_event_by, lacks_one};
 
 use crate::need::KeptNeed;
 use pt_firing::{Inputs, Tokens};
@@ -71,12 +71,12 @@ pub struct Process {
     pub(crate) need: KeptNeed,
     /// What is gathered by counts, with room for all of it.
     pub(crate) lines: Vec<Line>,
-    /// The same once it is handed over. Where any token will do it is gathered here, so that a firing doesn't go over all places.
+    /// The same once it is handed over. Where one token will do, at the only place or at any, it is gathered here, so that it isn't moved.
     pub(crate) row: Vec<Tokens>,
     pub(crate) is_handed: bool,
     /// So many places at the front lack nothing.
     pub(crate) full: usize,
-    /// The place that has a token, where any will do.
+    /// The place that has a token, where one will do.
     pub(crate) filled: Option<usize>,
     pub(crate) puts: VecDeque<StagedPut>,
 }
@@ -102,7 +102,7 @@ impl Process {
     ghost use Rattle.pt_meaning.specs.Process.{at_rest};
     ghost use Rattle.pt_process.specs.Process.{PutsFirst, put_of};
     ghost use Rattle.pt_rv_work.specs.Core.{next_of, with_token, with_put_made, with_handed};
-    ghost use Rattle.pt_rv_parts.specs.Process.{DoesNext, MayTake, IsCounted, IsByCounts};
+    ghost use Rattle.pt_rv_parts.specs.Process.{DoesNext, MayTake};
 
     /// What it does next.
     #[inline(always)]
@@ -131,6 +131,7 @@ impl Process {
                 self.is_barrier,
                 lacking_of(counts.as_slice(), &self.lines, &mut self.full),
             ),
+            KeptNeed::One => one_event(self.is_barrier, self.filled),
             KeptNeed::Any => any_event(self.filled),
         }
     }
@@ -162,19 +163,10 @@ impl Process {
     {
         match self.need {
             KeptNeed::Over => unreachable!(),
-            KeptNeed::Counts(_) => self.get_counted(place, token),
+            KeptNeed::Counts(_) => put_in_line(&mut self.lines, place, token),
+            KeptNeed::One => put_alone(&mut self.row, &mut self.filled, place, token),
             KeptNeed::Any => self.get_any(place, token),
         }
-    }
-
-    /// The same of a process that needs so many tokens at each place.
-    #[inline(always)]
-    fn get_counted(&mut self, place: usize, token: Token)
-        requires may { MayTake self.old place }
-        requires counts { IsCounted self.old.need }
-        ensures { self.new ≡ with_token place token self.old }
-    {
-        put_in_line(&mut self.lines, place, token);
     }
 
     /// The same of a process that needs one token from any place.
@@ -183,8 +175,7 @@ impl Process {
         requires any { self.old.need ≡ Any }
         ensures { self.new ≡ with_token place token self.old }
     {
-        self.row[place] = Tokens::one(token);
-        self.filled = Some(place);
+        put_alone(&mut self.row, &mut self.filled, place, token);
     }
 
     /// Takes out its next put.
@@ -207,20 +198,12 @@ impl Process {
         ensures { self.new ≡ with_handed self.old }
     {
         match self.need {
-            KeptNeed::Over | KeptNeed::Counts(_) => self.hand_lines(),
-            KeptNeed::Any => self.is_handed = true,
+            KeptNeed::Over | KeptNeed::Counts(_) => {
+                hand_over(&mut self.lines, &mut self.row);
+                self.is_handed = true;
+            }
+            KeptNeed::One | KeptNeed::Any => self.is_handed = true,
         }
-    }
-
-    /// The same of a process that gathers by counts.
-    #[inline(always)]
-    fn hand_lines(&mut self)
-        requires gathers { self.old.handed ≡ false }
-        requires lines { IsByCounts self.old.need }
-        ensures { self.new ≡ with_handed self.old }
-    {
-        hand_over(&mut self.lines, &mut self.row);
-        self.is_handed = true;
     }
 
     /// What it has gathered.
@@ -261,6 +244,17 @@ fn event_of(is_barrier: bool, lacks: Option<usize>) -> Event
     }
 }
 
+/// What comes of the only place, which needs one token.
+#[inline(always)]
+fn one_event(is_barrier: bool, filled: Option<usize>) -> Event
+    ensures { result ≡ event_by is_barrier (lacks_one filled) }
+{
+    match filled {
+        Some(_) => event_of(is_barrier, None),
+        None => event_of(is_barrier, Some(0)),
+    }
+}
+
 /// What comes where any token will do.
 #[inline(always)]
 fn any_event(filled: Option<usize>) -> Event
@@ -290,6 +284,17 @@ fn lacking_of(counts: &[usize], lines: &[Line], full: &mut usize) -> Option<usiz
     }
     *full = counts.len();
     None
+}
+
+/// A token is alone in a row of places.
+#[inline(always)]
+fn put_alone(row: &mut Vec<Tokens>, filled: &mut Option<usize>, place: usize, token: Token)
+    requires { place < length row.old.items }
+    ensures row { row.new.items ≡ set row.old.items place (token ∷ []) }
+    ensures filled { filled.new ≡ Some place }
+{
+    row[place] = Tokens::one(token);
+    *filled = Some(place);
 }
 
 /// Puts a token behind the others of a place that has room.

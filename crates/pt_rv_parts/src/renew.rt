@@ -1,8 +1,8 @@
-ghost use Rattle.std.specs.Prelude.{◌≡◌, ℕ, ◌<◌, ◌≤◌, [], length, get_or, nat_eq, max, false, true, IfOk, OnOk, Some};
+ghost use Rattle.std.specs.Prelude.{◌≡◌, ℕ, ◌<◌, ◌≤◌, [], ◌∷◌, length, get_or, nat_eq, max, false, true, IfOk, OnOk, Some, None};
 ghost use Rattle.pt_meaning.specs.Streams.{at};
 ghost use Rattle.pt_reaction.specs.Channels.{lists_of};
 ghost use Rattle.pt_process.specs.Process.{room_at};
-ghost use Rattle.pt_rv_parts.specs.declared.need.KeptNeed.TheVariants as kept_need;
+ghost use Rattle.pt_meaning.specs.Machine as machine;
 ghost use Rattle.pt_rv_parts.specs.Process.{HaveRoom, FilledAt, IsLeast, counts_in, need_in};
 
 use crate::need::KeptNeed;
@@ -15,7 +15,7 @@ use std::collections::VecDeque;
 use std::mem;
 
 impl Process {
-    ghost use Rattle.std.specs.Prelude.{◌≡◌, length, true, IfOk, OnOk, OnErr};
+    ghost use Rattle.std.specs.Prelude.{◌≡◌, [], ◌∷◌, length, true, IfOk, OnOk, OnErr};
     ghost use Rattle.pt_meaning.specs.Machine as machine;
     ghost use Rattle.pt_firing.specs.Need.{need_of};
     ghost use Rattle.pt_rv_laws.specs.Lawful.{HasPlaces};
@@ -36,6 +36,7 @@ impl Process {
         let row = empty_row(alloc, places)?;
         let mut lines = empty_lines(alloc, places)?;
         make_rooms(alloc, &mut lines, is_barrier, counts_of(&need))?;
+        let need = narrowed(need);
         Ok(Process {
             is_barrier,
             need,
@@ -104,7 +105,7 @@ impl Process {
     {
         match self.need {
             KeptNeed::Any => self.any_again(),
-            KeptNeed::Over | KeptNeed::Counts(_) => self.any_now(),
+            KeptNeed::Over | KeptNeed::Counts(_) | KeptNeed::One => self.any_now(),
         }
     }
 
@@ -114,8 +115,7 @@ impl Process {
         requires same { self.old.need ≡ machine.Any }
         ensures { self.new ≡ renewed machine.Any self.old }
     {
-        empty_filled(&mut self.row, self.filled);
-        self.filled = None;
+        take_alone(&mut self.row, &mut self.filled);
         self.is_handed = false;
     }
 
@@ -161,10 +161,19 @@ impl Process {
         ensures renewed { OnOk result (self.new ≡ renewed (machine.Counts counts.now) self.old) }
         ensures kept { OnErr result (self.new ≡ self.old) }
     {
-        make_rooms(alloc, &mut self.lines, self.is_barrier, counts.as_slice())?;
-        self.full = 0;
-        self.is_handed = false;
-        Ok(())
+        match self.need {
+            KeptNeed::One => {
+                take_alone(&mut self.row, &mut self.filled);
+                self.is_handed = false;
+                Ok(())
+            }
+            KeptNeed::Over | KeptNeed::Counts(_) | KeptNeed::Any => {
+                make_rooms(alloc, &mut self.lines, self.is_barrier, counts.as_slice())?;
+                self.full = 0;
+                self.is_handed = false;
+                Ok(())
+            }
+        }
     }
 
     /// It has used what it gathered, and has another need. After an `Err` it is as before.
@@ -174,12 +183,28 @@ impl Process {
         ensures renewed { OnOk result (self.new ≡ renewed (machine.Counts counts.now) self.old) }
         ensures kept { OnErr result (self.new ≡ self.old) }
     {
+        if is_one(counts.as_slice()) {
+            self.one_now();
+            return Ok(());
+        }
         let copy = counts.copy(alloc)?;
         make_rooms(alloc, &mut self.lines, self.is_barrier, counts.as_slice())?;
         self.need = KeptNeed::Counts(copy);
         self.full = 0;
         self.is_handed = false;
         Ok(())
+    }
+
+    /// It has used what it gathered, and needs one token at its only place.
+    fn one_now(&mut self)
+        requires handed { self.old.handed ≡ true }
+        requires place { length self.old.got ≡ 1 }
+        ensures { self.new ≡ renewed (machine.Counts (1 ∷ [])) self.old }
+    {
+        empty_row_again(&mut self.row);
+        self.need = KeptNeed::One;
+        self.filled = None;
+        self.is_handed = false;
     }
 
     /// It has these puts to make.
@@ -193,12 +218,34 @@ impl Process {
 /// Whether these counts are kept.
 #[inline(always)]
 fn is_kept(kept: &KeptNeed, counts: &Counts) -> bool
-    ensures { result ≡ true → kept.now ≡ kept_need.Counts counts.now }
+    ensures { result ≡ true → need_in kept.now ≡ machine.Counts counts.now }
 {
     match kept {
         KeptNeed::Counts(kept) => are_same(kept.as_slice(), counts.as_slice()),
+        KeptNeed::One => is_one(counts.as_slice()),
         KeptNeed::Over | KeptNeed::Any => false,
     }
+}
+
+/// Whether these counts are one token at one place.
+#[inline(always)]
+fn is_one(counts: &[usize]) -> bool
+    ensures { result ≡ true → counts.now ≡ 1 ∷ [] }
+{
+    match counts {
+        [count] => *count == 1,
+        _ => false,
+    }
+}
+
+/// The same need, without counts where it is one token at the only place.
+fn narrowed(need: KeptNeed) -> KeptNeed
+    ensures { need_in result ≡ need_in need }
+{
+    if is_one(counts_of(&need)) {
+        return KeptNeed::One;
+    }
+    need
 }
 
 /// Whether these counts are the same. Where there is one or none, nothing is called for that.
@@ -222,6 +269,7 @@ pub(crate) fn counts_of(need: &KeptNeed) -> &[usize]
 {
     match need {
         KeptNeed::Counts(counts) => counts.as_slice(),
+        KeptNeed::One => &[1],
         KeptNeed::Over | KeptNeed::Any => &[],
     }
 }
@@ -338,7 +386,20 @@ fn empty_row_again(row: &mut Vec<Tokens>)
     }
 }
 
+/// Takes away the token that is alone in a row.
+#[inline(always)]
+fn take_alone(row: &mut Vec<Tokens>, filled: &mut Option<usize>)
+    requires { FilledAt filled.old row.old.items }
+    ensures empty { (q : ℕ) → at row.new.items q ≡ [] }
+    ensures counted { length row.new.items ≡ length row.old.items }
+    ensures filled { filled.new ≡ None }
+{
+    empty_filled(row, *filled);
+    *filled = None;
+}
+
 /// Empties the one list that is filled.
+#[inline(always)]
 fn empty_filled(row: &mut Vec<Tokens>, filled: Option<usize>)
     requires { FilledAt filled row.old.items }
     ensures empty { (q : ℕ) → at row.new.items q ≡ [] }
@@ -351,6 +412,7 @@ fn empty_filled(row: &mut Vec<Tokens>, filled: Option<usize>)
 }
 
 /// Empties the list at a place, where all others are empty.
+#[inline(always)]
 fn empty_at(row: &mut Vec<Tokens>, place: usize)
     requires { FilledAt (Some place) row.old.items }
     ensures empty { (q : ℕ) → at row.new.items q ≡ [] }
