@@ -8,7 +8,9 @@ use Rattle.pt_reaction.specs.Channels.{lists_of}
 use Rattle.pt_value.specs.declared.token.Token.{Token}
 use Rattle.pt_process.specs.declared.process.StagedPut.{StagedPut}
 use Rattle.pt_process.specs.declared.process.Process.TheInside.{Inside}
-use Rattle.pt_process.specs.Process.{Standing, put_of, puts_in, need_in, got_in, needed_at, room_at, Gathers, seen_process}
+use Rattle.pt_process.specs.declared.need.KeptNeed.{KeptNeed}
+use Rattle.pt_process.specs.declared.need.KeptNeed.TheVariants as kept
+use Rattle.pt_process.specs.Process.{Standing, put_of, puts_in, need_kept, row_if, got_in, lined_in, room_at, HasOne, Gathers, seen_process}
 use Rattle.pt_process.proofs.ProcessLaws.{lines-long}
 use Rattle.pt_process.proofs.StagedLaws.{puts-more}
 
@@ -24,12 +26,12 @@ lines-next L R k l w h e z f = behind R ∙ ap₂ (λ x y. x ++ (y ∷ [])) f (z
     behind [] = refl
     behind (x ∷ R) = ap (λ v. x.list ∷ v) (behind R)
 
--- there is room for what is needed at a place
-abbrev pub HasRoomAt : Option (List ℕ) → List (Spared Token) → ℕ → Type 0
-HasRoomAt need lines q = needed_at need q ≤ length (at (lists_of lines) q) + room_at lines q
+-- there is room for as many tokens as are gathered at a place
+abbrev pub HasRoomAt : List ℕ → List (Spared Token) → ℕ → Type 0
+HasRoomAt ns lines q = get_or ns q 0 ≤ length (at (lists_of lines) q) + room_at lines q
 
-pub rooms-next : (need : Option (List ℕ)) (R : List (Spared Token)) (w : Spared Token) (k count : ℕ) → length R ≡ k → ((q : ℕ) → q < k → HasRoomAt need R q) → count ≡ needed_at need k → count ≤ length w.list + w.spare → (q : ℕ) → q < k + 1 → HasRoomAt need (R ++ (w ∷ [])) q
-rooms-next need R w k count n h e r q l = by (split q k l)
+pub rooms-next : (ns : List ℕ) (R : List (Spared Token)) (w : Spared Token) (k count : ℕ) → length R ≡ k → ((q : ℕ) → q < k → HasRoomAt ns R q) → count ≡ get_or ns k 0 → count ≤ length w.list + w.spare → (q : ℕ) → q < k + 1 → HasRoomAt ns (R ++ (w ∷ [])) q
+rooms-next ns R w k count n h e r q l = by (split q k l)
   where
     split : (q k : ℕ) → q < k + 1 → (q < k) ⊎ (k ≡ q)
     split q k l = grind arith
@@ -52,37 +54,45 @@ rooms-next need R w k count n h e r q l = by (split q k l)
     room-end [] = refl
     room-end (x ∷ R) = room-end R
 
-    by : (q < k) ⊎ (k ≡ q) → HasRoomAt need (R ++ (w ∷ [])) q
+    by : (q < k) ⊎ (k ≡ q) → HasRoomAt ns (R ++ (w ∷ [])) q
     by (inl s) =
         let a = ap (λ v. length v) (lists-front R q (omega (arith, n, s))) in
         let b = rooms-front R q (omega (arith, n, s)) in
         let c = h q s in
         omega (arith, a, b, c)
-    by (inr s) = subst (λ j. HasRoomAt need (R ++ (w ∷ [])) j) (n ∙ s) (
+    by (inr s) = subst (λ j. HasRoomAt ns (R ++ (w ∷ [])) j) (n ∙ s) (
         let a = ap (λ v. length v) (list-end R) in
         let b = room-end R in
-        let c = e ∙ ap (λ j. needed_at need j) (sym n) in
+        let c = e ∙ ap (λ j. get_or ns j 0) (sym n) in
         omega (arith, a, b, c, r)
         )
 
 pub same-lines : (L M : List (Spared Token)) → lists_of M ≡ lists_of L → length M ≡ length L
 same-lines L M e = sym (lines-long M) ∙ ap (λ v. length v) e ∙ lines-long L
 
-pub gathers-again : (need : Option (List ℕ)) (full : ℕ) (L M : List (Spared Token)) → lists_of M ≡ lists_of L → ((q : ℕ) → q < length L → HasRoomAt need M q) → Gathers need full L → Gathers need full M
-gathers-again None full L M e r g = tt
-gathers-again (Some ns) full L M e r g = record {
-  counted = g.counted ∙ sym (same-lines L M e);
-  order = ap (λ X. is_in_order ns X) e ∙ g.order;
-  full = λ q l. subst (λ X. get_or ns q 0 ≤ length (at X q)) (sym e) (g.full q l);
-  room = λ q l. r q (let z = same-lines L M e in omega (arith, l, z));
-}
+module _ (handed : Bool) (full : ℕ) (row row' : Streams Token) (L M : List (Spared Token)) (f : row' ≡ row) (e : lists_of M ≡ lists_of L) where
+  pub gathers-same : (need : KeptNeed) → ((q : ℕ) → q < length L → HasRoomAt (lined_in need) M q) → Gathers need handed full row L → Gathers need handed full row' M
+  gathers-same kept.Over r g = tt
+  gathers-same (kept.Counts ns) r g = λ h.
+      record {
+        counted = (g h).counted ∙ sym (same-lines L M e);
+        order = ap (λ X. is_in_order ns X) e ∙ (g h).order;
+        full = λ q l. subst (λ X. get_or ns q 0 ≤ length (at X q)) (sym e) ((g h).full q l);
+        room = λ q l. r q (let z = same-lines L M e in omega (arith, l, z));
+      }
+  gathers-same kept.One r g = subst (λ X. HasOne full X) (sym f) g
 
-pub copied-is : (p : Inside) (s : Standing) (need : Option (List ℕ)) (row : Streams Token) (M : List (Spared Token)) (us : List StagedPut) → need ≡ p.need → row ≡ p.row.items → lists_of M ≡ lists_of p.lines.items → puts_in us ≡ puts_in p.puts.items → seen_process p ≡ s →
-    (let t : Standing = record { need = need_in need; got = got_in p.is_handed row M; puts = puts_in us; handed = p.is_handed } in t) ≡ s
+  row-same : (b : Bool) → row_if b row' M ≡ row_if b row L
+  row-same true = f
+  row-same false = e
+
+  pub got-same : (need : KeptNeed) → got_in need handed row' M ≡ got_in need handed row L
+  got-same kept.Over = row-same handed
+  got-same (kept.Counts ns) = row-same handed
+  got-same kept.One = f
+
+pub copied-is : (p : Inside) (s : Standing) (need : KeptNeed) (row : Streams Token) (M : List (Spared Token)) (us : List StagedPut) → need ≡ p.need → row ≡ p.row.items → lists_of M ≡ lists_of p.lines.items → puts_in us ≡ puts_in p.puts.items → seen_process p ≡ s →
+    (let t : Standing = record { need = need_kept need; got = got_in need p.is_handed row M; puts = puts_in us; handed = p.is_handed } in t) ≡ s
 copied-is p s need row M us e f g h v =
-    ap₂ (λ m w. let t : Standing = record { need = need_in m; got = got_in p.is_handed row M; puts = w; handed = p.is_handed } in t) e h ∙
-    ap (λ X. let t : Standing = record { need = need_in p.need; got = X; puts = puts_in p.puts.items; handed = p.is_handed } in t) (got p.is_handed) ∙ v
-  where
-    got : (b : Bool) → got_in b row M ≡ got_in b p.row.items p.lines.items
-    got true = f
-    got false = g
+    ap₂ (λ m w. let t : Standing = record { need = need_kept m; got = got_in m p.is_handed row M; puts = w; handed = p.is_handed } in t) e h ∙
+    ap (λ X. let t : Standing = record { need = need_kept p.need; got = X; puts = puts_in p.puts.items; handed = p.is_handed } in t) (got-same p.is_handed p.full p.row.items row p.lines.items M f g p.need) ∙ v

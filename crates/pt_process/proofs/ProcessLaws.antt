@@ -15,7 +15,9 @@ use Rattle.pt_pn_laws.proofs.ComesLaws.{in-order-takes}
 use Rattle.pt_meaning.specs.Machine.{Takes, counted}
 use Rattle.std.specs.Prelude.{slice_get}
 use Rattle.pt_process.specs.declared.process.StagedPut.{StagedPut}
-use Rattle.pt_process.specs.Process.{GathersBy, room_at, put_of, puts_in, got_in}
+use Rattle.pt_process.specs.declared.need.KeptNeed.{KeptNeed}
+use Rattle.pt_process.specs.declared.need.KeptNeed.TheVariants as kept
+use Rattle.pt_process.specs.Process.{GathersBy, room_at, put_of, puts_in, row_if, got_in}
 
 -- the first place that lacks a token
 pub lacking-some : {T : Type 0} (ns : List ℕ) (X : Streams T) (b q : ℕ) → ((k : ℕ) → k < q → get_or ns k 0 ≤ length (at X k)) → q < length ns → length ns ≡ length X → length (at X q) < get_or ns q 0 → lacking b ns X ≡ Some (b + q)
@@ -236,14 +238,23 @@ staged-rest (u ∷ us) = refl
 pub staged-long : (us : List StagedPut) → length (puts_in us) ≡ length us
 staged-long us = length-map us put_of
 
--- what is gathered where it isn't handed over
-pub got-lines : (handed : Bool) (row : Streams Token) (L : List (Spared Token)) → handed ≡ false → got_in handed row L ≡ lists_of L
-got-lines true row L e = absurd (cc)
-got-lines false row L e = refl
+-- what is gathered by counts, where it isn't handed over
+pub got-lines : (need : KeptNeed) (ns : List ℕ) (handed : Bool) (row : Streams Token) (L : List (Spared Token)) → need ≡ kept.Counts ns → handed ≡ false → got_in need handed row L ≡ lists_of L
+got-lines need ns handed row L n h = ap₂ (λ m b. got_in m b row L) n h
 
-pub got-row : (handed : Bool) (row : Streams Token) (L : List (Spared Token)) → handed ≡ true → got_in handed row L ≡ row
-got-row false row L e = absurd (cc)
-got-row true row L e = refl
+-- and what is, where it is handed over
+pub got-row : (need : KeptNeed) (handed : Bool) (row : Streams Token) (L : List (Spared Token)) → handed ≡ true → got_in need handed row L ≡ row
+got-row kept.Over handed row L h = ap (λ b. row_if b row L) h
+got-row (kept.Counts ns) handed row L h = ap (λ b. row_if b row L) h
+got-row kept.One handed row L h = refl
+
+-- as many places as the row has, and the lines
+pub got-places : (need : KeptNeed) (handed : Bool) (row : Streams Token) (L : List (Spared Token)) → length row ≡ length L → length (got_in need handed row L) ≡ length L
+got-places kept.Over true row L e = e
+got-places kept.Over false row L e = lines-long L
+got-places (kept.Counts ns) true row L e = e
+got-places (kept.Counts ns) false row L e = lines-long L
+got-places kept.One handed row L e = e
 
 -- what a process that has no put to make does next
 pub gets-next : (ns : List ℕ) (X : Streams Token) (place : ℕ) → lacking 0 ns X ≡ Some place → place < length X

@@ -1,43 +1,82 @@
 -- What the calls of a process keep, and what they make of what contracts see.
-use Rattle.std.proofs.Common.{◌≡◌, ℕ, ◌+◌, ◌<◌, List, [], ◌∷◌, ◌++◌, Bool, true, false, length, set, get_or, Option, Some, None, refl, sym, ap, ap₂, subst, ◌∙◌, arith, zero-add}
+use Rattle.std.proofs.Common.{◌≡◌, ◌⊎◌, inl, inr, ℕ, zero, suc, ◌+◌, ◌<◌, ◌≤◌, List, [], ◌∷◌, ◌++◌, Bool, true, false, length, drop, set, get_or, Option, Some, None, refl, sym, ap, ap₂, subst, ◌∙◌, arith, zero-add, length-set}
 use Rattle.pt_meaning.specs.Streams.{Streams, at, change_at}
 use Rattle.pt_meaning.specs.Machine.{Need, Counts, Takes, front}
-use Rattle.pt_meaning.specs.Process.{lacking, emptied}
+use Rattle.pt_meaning.specs.Process.{Put, lacking, emptied}
 use Rattle.pt_pn_laws.specs.State.{lacking_place}
 use Rattle.pt_reaction.specs.Spared.{Spared}
 use Rattle.pt_reaction.specs.Channels.{lists_of}
 use Rattle.pt_value.specs.declared.token.Token.{Token}
+use Rattle.pt_process.specs.declared.need.KeptNeed.{KeptNeed}
+use Rattle.pt_process.specs.declared.need.KeptNeed.TheVariants as kept
 use Rattle.pt_process.specs.declared.process.Event.{Event}
 use Rattle.pt_process.specs.declared.process.Event.TheVariants as event
 use Rattle.pt_process.specs.declared.process.Process.TheInside.{Inside}
-use Rattle.pt_process.specs.Process.{Standing, IsSound, GathersBy, Gathers, DoesNext, event_by, seen_process, need_in, got_in, puts_in, with_token, with_handed, renewed}
-use Rattle.pt_process.proofs.ProcessLaws.{got-lines, lines-long, line-spare, line-more, lacks-there, gathers-more, gets-next, fires-next}
+use Rattle.pt_process.specs.Process.{Standing, IsSound, GathersBy, Gathers, HasOne, DoesNext, event_by, lacks_one, seen_process, need_kept, got_in, puts_in, with_token, with_put_made, with_handed, renewed}
+use Rattle.pt_process.proofs.ProcessLaws.{got-lines, got-row, got-places, lines-long, line-spare, line-more, lacks-there, gathers-more, gets-next, fires-next}
 
 pub not-handed : (p : Inside) (s : Standing) → seen_process p ≡ s → s.handed ≡ false → p.is_handed ≡ false
 not-handed p s v h = ap (λ (t : Standing). t.handed) v ∙ h
 
--- the place at which a process gets next
+pub is-handed : (p : Inside) (s : Standing) → seen_process p ≡ s → s.handed ≡ true → p.is_handed ≡ true
+is-handed p s v h = ap (λ (t : Standing). t.handed) v ∙ h
+
+-- where it gathers by counts
+pub gathers-so : (p : Inside) (s : Standing) (ns : List ℕ) → IsSound p → seen_process p ≡ s → s.handed ≡ false → p.need ≡ kept.Counts ns → GathersBy ns p.full p.lines.items
+gathers-so p s ns w v h n = (subst (λ m. Gathers m p.is_handed p.full p.row.items p.lines.items) n w.gathers) (not-handed p s v h)
+
+-- what is asked of them where its next event is looked for, and how many places are found to lack nothing then
+pub front-needs : (p : Inside) (s : Standing) (ns : List ℕ) (L : List (Spared Token)) → IsSound p → seen_process p ≡ s → s.handed ≡ false → p.need ≡ kept.Counts ns → L ≡ p.lines.items → (length ns ≡ length L) × ((q : ℕ) → q < p.full → get_or ns q 0 ≤ length (at (lists_of L) q))
+front-needs p s ns L w v h n e =
+    let g = gathers-so p s ns w v h n in
+    (g.counted ∙ ap (λ x. length x) (sym e), λ q l. subst (λ x. get_or ns q 0 ≤ length (at (lists_of x) q)) (sym e) (g.full q l))
+
+pub front-gathers : (p : Inside) (s : Standing) (ns : List ℕ) (L : List (Spared Token)) (full : ℕ) → IsSound p → seen_process p ≡ s → s.handed ≡ false → p.need ≡ kept.Counts ns → L ≡ p.lines.items → ((q : ℕ) → q < full → get_or ns q 0 ≤ length (at (lists_of L) q)) → Gathers p.need p.is_handed full p.row.items p.lines.items
+front-gathers p s ns L full w v h n e f =
+    let g = gathers-so p s ns w v h n in
+    subst (λ m. Gathers m p.is_handed full p.row.items p.lines.items) (sym n) (λ _. record {
+      counted = g.counted;
+      order = g.order;
+      full = λ q l. subst (λ x. get_or ns q 0 ≤ length (at (lists_of x) q)) e (f q l);
+      room = g.room;
+    })
+
+-- where it is over, or gathers by counts, nothing is known of what it handed over
+pub lines-handed : (need : KeptNeed) (full : ℕ) (row : Streams Token) (L : List (Spared Token)) → (need ≡ kept.Over) ⊎ ((ns : List ℕ) × (need ≡ kept.Counts ns)) → Gathers need true full row L
+lines-handed need full row L (inl n) = subst (λ m. Gathers m true full row L) (sym n) tt
+lines-handed need full row L (inr n) = subst (λ m. Gathers m true full row L) (sym n.1) (λ h. absurd (cc))
+
+-- and of no need is anything known of the lines then
+pub handed-free : (need : KeptNeed) (handed : Bool) (full : ℕ) (row : Streams Token) (L M : List (Spared Token)) → handed ≡ true → Gathers need handed full row L → Gathers need handed full row M
+handed-free kept.Over handed full row L M h g = tt
+handed-free (kept.Counts ns) handed full row L M h g = λ f. absurd (let z : true ≡ false = sym h ∙ f in cc)
+handed-free kept.One handed full row L M h g = g
+
+-- the place at which a process gets next that gathers by counts
 pub record GetsThere (p : Inside) (place : ℕ) : Type 0 where
   pub ns : List ℕ
-  pub need : p.need ≡ Some ns
+  pub need : p.need ≡ kept.Counts ns
+  pub free : p.is_handed ≡ false
   pub lacks : lacking 0 ns (lists_of p.lines.items) ≡ Some place
   pub gathers : GathersBy ns p.full p.lines.items
   pub there : place < length p.lines.items
   pub fewer : length (at (lists_of p.lines.items) place) < get_or ns place 0
 
-gets-by : (need : Option (List ℕ)) (full : ℕ) (L : List (Spared Token)) (place : ℕ) → Gathers need full L → lacking_place (need_in need) (lists_of L) ≡ Some place → (ns : List ℕ) × (need ≡ Some ns) × (lacking 0 ns (lists_of L) ≡ Some place) × GathersBy ns full L
-gets-by None full L place g e = absurd (cc)
-gets-by (Some ns) full L place g e = (ns, refl, e, g)
+gets-by : (need : KeptNeed) (handed : Bool) (full : ℕ) (row : Streams Token) (L : List (Spared Token)) (place : ℕ) → (need ≡ kept.Over) ⊎ ((ns : List ℕ) × (need ≡ kept.Counts ns)) → handed ≡ false → Gathers need handed full row L → lacking_place (need_kept need) (got_in need handed row L) ≡ Some place →
+    (ns : List ℕ) × (need ≡ kept.Counts ns) × (lacking 0 ns (lists_of L) ≡ Some place) × GathersBy ns full L
+gets-by need handed full row L place (inl n) h g e = absurd (let z : None ≡ Option.Some place = ap (λ m. lacking_place (need_kept m) (got_in m handed row L)) (sym n) ∙ e in cc)
+gets-by need handed full row L place (inr n) h g e =
+    (n.0, n.1, ap₂ (λ m b. lacking_place (need_kept m) (got_in m b row L)) (sym n.1) (sym h) ∙ e, (subst (λ m. Gathers m handed full row L) n.1 g) h)
 
-pub gets-there : (p : Inside) (s : Standing) (place : ℕ) → IsSound p → seen_process p ≡ s → s.handed ≡ false → lacking_place s.need s.got ≡ Some place → GetsThere p place
-gets-there p s place w v h l =
+pub gets-there : (p : Inside) (s : Standing) (place : ℕ) → (p.need ≡ kept.Over) ⊎ ((ns : List ℕ) × (p.need ≡ kept.Counts ns)) → IsSound p → seen_process p ≡ s → s.handed ≡ false → lacking_place s.need s.got ≡ Some place → GetsThere p place
+gets-there p s place k w v h l =
     let free = not-handed p s v h in
-    let e : lacking_place (need_in p.need) (lists_of p.lines.items) ≡ Some place = ap (λ X. lacking_place (need_in p.need) X) (sym (got-lines p.is_handed p.row.items p.lines.items free)) ∙ ap (λ (t : Standing). lacking_place t.need t.got) v ∙ l in
-    let r = gets-by p.need p.full p.lines.items place (w.gathers free) e in
+    let r = gets-by p.need p.is_handed p.full p.row.items p.lines.items place k free w.gathers (ap (λ (t : Standing). lacking_place t.need t.got) v ∙ l) in
     let there = gets-next r.0 (lists_of p.lines.items) place r.2 in
     record {
       ns = r.0;
       need = r.1;
+      free = free;
       lacks = r.2;
       gathers = r.3;
       there = let n = lines-long p.lines.items in omega (arith, there, n);
@@ -52,59 +91,127 @@ room-there p place g l e =
     let c = g.fewer in
     omega (arith, a, b, c)
 
-pub got-keeps : (p : Inside) (w : IsSound p) (place : ℕ) (g : GetsThere p place) (l m : Spared Token) (x : Token) → l ≡ get_or p.lines.items place l → m.list ≡ l.list ++ (x ∷ []) → m.spare + 1 ≡ l.spare → Gathers p.need p.full (set p.lines.items place m)
-got-keeps p w place g l m x e f s = subst (λ n. Gathers n p.full (set p.lines.items place m)) (sym g.need) (gathers-more g.ns p.full p.lines.items g.gathers place l m x g.there e f s g.lacks)
+pub got-keeps : (p : Inside) (place : ℕ) (g : GetsThere p place) (l m : Spared Token) (x : Token) → l ≡ get_or p.lines.items place l → m.list ≡ l.list ++ (x ∷ []) → m.spare + 1 ≡ l.spare → Gathers p.need p.is_handed p.full p.row.items (set p.lines.items place m)
+got-keeps p place g l m x e f s = subst (λ n. Gathers n p.is_handed p.full p.row.items (set p.lines.items place m)) (sym g.need) (λ _. gathers-more g.ns p.full p.lines.items g.gathers place l m x g.there e f s g.lacks)
 
-pub get-is : (p : Inside) (s : Standing) (place : ℕ) (g : GetsThere p place) (l m : Spared Token) (x : Token) → p.is_handed ≡ false → l ≡ get_or p.lines.items place l → m.list ≡ l.list ++ (x ∷ []) → seen_process p ≡ s →
-    (let t : Standing = record { need = need_in p.need; got = got_in p.is_handed p.row.items (set p.lines.items place m); puts = puts_in p.puts.items; handed = p.is_handed } in t) ≡ with_token place x s
-get-is p s place g l m x free e f v =
-    ap (λ X. let t : Standing = record { need = need_in p.need; got = X; puts = puts_in p.puts.items; handed = p.is_handed } in t)
-    (got-lines p.is_handed p.row.items (set p.lines.items place m) free ∙ line-more p.lines.items place l m x g.there e f ∙ ap (λ X. change_at place (λ xs. xs ++ (x ∷ [])) X) (sym (got-lines p.is_handed p.row.items p.lines.items free))) ∙
+pub get-is : (p : Inside) (s : Standing) (place : ℕ) (g : GetsThere p place) (l m : Spared Token) (x : Token) → l ≡ get_or p.lines.items place l → m.list ≡ l.list ++ (x ∷ []) → seen_process p ≡ s →
+    (let t : Standing = record { need = need_kept p.need; got = got_in p.need p.is_handed p.row.items (set p.lines.items place m); puts = puts_in p.puts.items; handed = p.is_handed } in t) ≡ with_token place x s
+get-is p s place g l m x e f v =
+    ap (λ X. let t : Standing = record { need = need_kept p.need; got = X; puts = puts_in p.puts.items; handed = p.is_handed } in t)
+    (got-lines p.need g.ns p.is_handed p.row.items (set p.lines.items place m) g.need g.free ∙ line-more p.lines.items place l m x g.there e f ∙ ap (λ X. change_at place (λ xs. xs ++ (x ∷ [])) X) (sym (got-lines p.need g.ns p.is_handed p.row.items p.lines.items g.need g.free))) ∙
+    ap (λ (t : Standing). with_token place x t) v
+
+-- where it needs one token at its only place
+pub has-one : (p : Inside) → IsSound p → p.need ≡ kept.One → HasOne p.full p.row.items
+has-one p w n = subst (λ m. Gathers m p.is_handed p.full p.row.items p.lines.items) n w.gathers
+
+pub one-long : (full : ℕ) (row : Streams Token) → HasOne full row → length row ≡ 1
+one-long zero row f = ap (λ v. length v) f
+one-long (suc k) row f = ap (λ v. length v) f.1
+
+one-lacks : (full : ℕ) (row : Streams Token) (place : ℕ) → HasOne full row → lacking 0 (1 ∷ []) row ≡ Some place → (row ≡ [] ∷ []) × (place ≡ 0)
+one-lacks zero row place f e = (f, some-is place 0 (sym e ∙ ap (λ X. lacking 0 (1 ∷ []) X) f))
+  where
+    some-is : (a b : ℕ) → Option.Some a ≡ Option.Some b → a ≡ b
+    some-is a b e = cc
+one-lacks (suc k) row place f e = absurd (let z : Option.Some place ≡ None = sym e ∙ ap (λ X. lacking 0 (1 ∷ []) X) f.1 in cc)
+
+pub one-there : (p : Inside) (s : Standing) (place : ℕ) → IsSound p → seen_process p ≡ s → p.need ≡ kept.One → lacking_place s.need s.got ≡ Some place → (p.row.items ≡ [] ∷ []) × (place ≡ 0)
+one-there p s place w v n l = one-lacks p.full p.row.items place (has-one p w n) (ap (λ m. lacking_place (need_kept m) (got_in m p.is_handed p.row.items p.lines.items)) (sym n) ∙ ap (λ (t : Standing). lacking_place t.need t.got) v ∙ l)
+
+one-set : (row : Streams Token) (place : ℕ) (x : Token) → row ≡ [] ∷ [] → place ≡ 0 → set row place (x ∷ []) ≡ (x ∷ []) ∷ []
+one-set row place x e z = ap₂ (λ r q. set r q (x ∷ [])) e z
+
+one-more : (row : Streams Token) (place : ℕ) (x : Token) → row ≡ [] ∷ [] → place ≡ 0 → change_at place (λ xs. xs ++ (x ∷ [])) row ≡ (x ∷ []) ∷ []
+one-more row place x e z = ap₂ (λ r q. change_at q (λ xs. xs ++ (x ∷ [])) r) e z
+
+pub one-gathers : (p : Inside) (place : ℕ) (x : Token) (R : Streams Token) → p.need ≡ kept.One → p.row.items ≡ [] ∷ [] → place ≡ 0 → R ≡ set p.row.items place (x ∷ []) → Gathers p.need p.is_handed 1 R p.lines.items
+one-gathers p place x R n e z r = subst (λ m. Gathers m p.is_handed 1 R p.lines.items) (sym n) (x, r ∙ one-set p.row.items place x e z)
+
+pub one-is : (p : Inside) (s : Standing) (place : ℕ) (x : Token) (R : Streams Token) → seen_process p ≡ s → p.need ≡ kept.One → p.row.items ≡ [] ∷ [] → place ≡ 0 → R ≡ set p.row.items place (x ∷ []) →
+    (let t : Standing = record { need = need_kept p.need; got = got_in p.need p.is_handed R p.lines.items; puts = puts_in p.puts.items; handed = p.is_handed } in t) ≡ with_token place x s
+one-is p s place x R v n e z r =
+    ap (λ X. let t : Standing = record { need = need_kept p.need; got = X; puts = puts_in p.puts.items; handed = p.is_handed } in t)
+    (ap (λ m. got_in m p.is_handed R p.lines.items) n ∙ r ∙ one-set p.row.items place x e z ∙ sym (one-more p.row.items place x e z) ∙ ap (λ m. change_at place (λ xs. xs ++ (x ∷ [])) (got_in m p.is_handed p.row.items p.lines.items)) (sym n)) ∙
     ap (λ (t : Standing). with_token place x t) v
 
 -- where it hands over what it has gathered
-pub hand-is : (p : Inside) (s : Standing) (row : Streams Token) → p.is_handed ≡ false → row ≡ lists_of p.lines.items → seen_process p ≡ s → (let t : Standing = record { need = need_in p.need; got = row; puts = puts_in p.puts.items; handed = true } in t) ≡ with_handed s
-hand-is p s row free e v =
-    ap (λ X. let t : Standing = record { need = need_in p.need; got = X; puts = puts_in p.puts.items; handed = true } in t) (e ∙ sym (got-lines p.is_handed p.row.items p.lines.items free)) ∙ ap (λ (t : Standing). with_handed t) v
+pub hand-is : (p : Inside) (s : Standing) (row : Streams Token) (M : List (Spared Token)) → (p.need ≡ kept.Over) ⊎ ((ns : List ℕ) × (p.need ≡ kept.Counts ns)) → p.is_handed ≡ false → row ≡ lists_of p.lines.items → seen_process p ≡ s →
+    (let t : Standing = record { need = need_kept p.need; got = got_in p.need true row M; puts = puts_in p.puts.items; handed = true } in t) ≡ with_handed s
+hand-is p s row M k free e v =
+    ap (λ X. let t : Standing = record { need = need_kept p.need; got = X; puts = puts_in p.puts.items; handed = true } in t) (by k) ∙ ap (λ (t : Standing). with_handed t) v
+  where
+    by : (p.need ≡ kept.Over) ⊎ ((ns : List ℕ) × (p.need ≡ kept.Counts ns)) → got_in p.need true row M ≡ got_in p.need p.is_handed p.row.items p.lines.items
+    by (inl n) = ap (λ m. got_in m true row M) n ∙ e ∙ sym (ap₂ (λ m b. got_in m b p.row.items p.lines.items) n free)
+    by (inr n) = ap (λ m. got_in m true row M) n.1 ∙ e ∙ sym (ap₂ (λ m b. got_in m b p.row.items p.lines.items) n.1 free)
+
+pub one-handed : (p : Inside) (s : Standing) → seen_process p ≡ s → p.need ≡ kept.One →
+    (let t : Standing = record { need = need_kept p.need; got = got_in p.need true p.row.items p.lines.items; puts = puts_in p.puts.items; handed = true } in t) ≡ with_handed s
+one-handed p s v n =
+    ap (λ X. let t : Standing = record { need = need_kept p.need; got = X; puts = puts_in p.puts.items; handed = true } in t)
+    (ap (λ m. got_in m true p.row.items p.lines.items) n ∙ sym (ap (λ m. got_in m p.is_handed p.row.items p.lines.items) n)) ∙ ap (λ (t : Standing). with_handed t) v
+
+pub one-handed-gathers : (p : Inside) → IsSound p → p.need ≡ kept.One → Gathers p.need true p.full p.row.items p.lines.items
+one-handed-gathers p w n = subst (λ m. Gathers m true p.full p.row.items p.lines.items) (sym n) (has-one p w n)
+
+pub lent-is : (p : Inside) (s : Standing) → seen_process p ≡ s → s.handed ≡ true → p.row.items ≡ s.got
+lent-is p s v h = sym (got-row p.need p.is_handed p.row.items p.lines.items (is-handed p s v h)) ∙ ap (λ (t : Standing). t.got) v
+
+-- where its next put is made
+pub put-made : (p : Inside) (s : Standing) (us : List (Put Token)) → seen_process p ≡ s → us ≡ drop 1 (puts_in p.puts.items) →
+    (let t : Standing = record { need = need_kept p.need; got = got_in p.need p.is_handed p.row.items p.lines.items; puts = us; handed = p.is_handed } in t) ≡ with_put_made s
+put-made p s us v e = ap (λ w. let t : Standing = record { need = need_kept p.need; got = got_in p.need p.is_handed p.row.items p.lines.items; puts = w; handed = p.is_handed } in t) e ∙ ap (λ (t : Standing). with_put_made t) v
 
 -- what it does next
-pub next-fires : (p : Inside) (s : Standing) (ns : List ℕ) → IsSound p → seen_process p ≡ s → s.handed ≡ false → p.need ≡ Some ns → lacking 0 ns (lists_of p.lines.items) ≡ None → s.puts ≡ [] → DoesNext s event.Fire
-next-fires p s ns w v h n l u =
-    let free = not-handed p s v h in
-    let got : lists_of p.lines.items ≡ s.got = sym (got-lines p.is_handed p.row.items p.lines.items free) ∙ ap (λ (t : Standing). t.got) v in
-    let need : Counts ns ≡ s.need = ap need_in (sym n) ∙ ap (λ (t : Standing). t.need) v in
-    let r = fires-next ns p.full p.lines.items (subst (λ m. Gathers m p.full p.lines.items) n (w.gathers free)) l in
-    (u, r.0, subst (λ m. front m s.got ≡ Takes s.got r.0) need (subst (λ X. front (Counts ns) X ≡ Takes X r.0) got r.1))
+module _ (p : Inside) (s : Standing) (ns : List ℕ) (w : IsSound p) (v : seen_process p ≡ s) (h : s.handed ≡ false) (n : p.need ≡ kept.Counts ns) (u : s.puts ≡ []) where
+  is-got : lists_of p.lines.items ≡ s.got
+  is-got = sym (got-lines p.need ns p.is_handed p.row.items p.lines.items n (not-handed p s v h)) ∙ ap (λ (t : Standing). t.got) v
 
-pub next-gets : (p : Inside) (s : Standing) (ns : List ℕ) (place : ℕ) → seen_process p ≡ s → s.handed ≡ false → p.need ≡ Some ns → lacking 0 ns (lists_of p.lines.items) ≡ Some place → s.puts ≡ [] → DoesNext s (event.Get place)
-next-gets p s ns place v h n l u =
-    let free = not-handed p s v h in
-    let got : lists_of p.lines.items ≡ s.got = sym (got-lines p.is_handed p.row.items p.lines.items free) ∙ ap (λ (t : Standing). t.got) v in
-    let need : Counts ns ≡ s.need = ap need_in (sym n) ∙ ap (λ (t : Standing). t.need) v in
-    (u, ap₂ (λ m X. lacking_place m X) (sym need) (sym got) ∙ l, subst (λ X. place < length X) got (gets-next ns (lists_of p.lines.items) place l))
+  is-need : Counts ns ≡ s.need
+  is-need = ap need_kept (sym n) ∙ ap (λ (t : Standing). t.need) v
 
-pub next-over : (p : Inside) (s : Standing) → seen_process p ≡ s → p.need ≡ None → s.puts ≡ [] → DoesNext s event.Over
-next-over p s v n u = (u, sym (ap (λ (t : Standing). t.need) v) ∙ ap need_in n)
+  next-fires : lacking 0 ns (lists_of p.lines.items) ≡ None → DoesNext s event.Fire
+  next-fires l =
+      let r = fires-next ns p.full p.lines.items (gathers-so p s ns w v h n) l in
+      (u, r.0, subst (λ m. front m s.got ≡ Takes s.got r.0) is-need (subst (λ X. front (Counts ns) X ≡ Takes X r.0) is-got r.1))
 
-pub need-is : (p : Inside) (s : Standing) → seen_process p ≡ s → need_in p.need ≡ s.need
+  next-gets : (place : ℕ) → lacking 0 ns (lists_of p.lines.items) ≡ Some place → DoesNext s (event.Get place)
+  next-gets place l = (u, ap₂ (λ m X. lacking_place m X) (sym is-need) (sym is-got) ∙ l, subst (λ X. place < length X) is-got (gets-next ns (lists_of p.lines.items) place l))
+
+  by-lacking : (o : Option ℕ) → lacking 0 ns (lists_of p.lines.items) ≡ o → DoesNext s (event_by o)
+  by-lacking None l = next-fires l
+  by-lacking (Some q) l = next-gets q l
+
+  pub next-by : (ev : Event) → ev ≡ event_by (lacking 0 ns (lists_of p.lines.items)) → DoesNext s ev
+  next-by ev e = subst (λ x. DoesNext s x) (sym e) (by-lacking (lacking 0 ns (lists_of p.lines.items)) refl)
+
+pub next-over : (p : Inside) (s : Standing) → seen_process p ≡ s → p.need ≡ kept.Over → s.puts ≡ [] → DoesNext s event.Over
+next-over p s v n u = (u, sym (ap (λ (t : Standing). t.need) v) ∙ ap need_kept n)
+
+one-does : (s : Standing) (full : ℕ) (row : Streams Token) → HasOne full row → s.puts ≡ [] → s.need ≡ Counts (1 ∷ []) → s.got ≡ row → DoesNext s (event_by (lacks_one full))
+one-does s zero row f u n g = (u, ap₂ (λ m X. lacking_place m X) n (g ∙ f), let l = ap (λ v. length v) (g ∙ f) in omega (arith, l))
+one-does s (suc k) row f u n g = (u, [] ∷ [], ap₂ (λ m X. front m X) n (g ∙ f.1) ∙ ap (λ (X : Streams Token). Takes X ([] ∷ [])) (sym (g ∙ f.1)))
+
+pub one-next : (p : Inside) (s : Standing) (ev : Event) → IsSound p → seen_process p ≡ s → p.need ≡ kept.One → s.puts ≡ [] → ev ≡ event_by (lacks_one p.full) → DoesNext s ev
+one-next p s ev w v n u e =
+    subst (λ x. DoesNext s x) (sym e)
+    (one-does s p.full p.row.items (has-one p w n) u (sym (ap (λ (t : Standing). t.need) v) ∙ ap need_kept n) (sym (ap (λ (t : Standing). t.got) v) ∙ ap (λ m. got_in m p.is_handed p.row.items p.lines.items) n))
+
+pub need-is : (p : Inside) (s : Standing) → seen_process p ≡ s → need_kept p.need ≡ s.need
 need-is p s v = ap (λ (t : Standing). t.need) v
 
 -- once it has fired
-pub renewed-is : (p : Inside) (s : Standing) (need : Option (List ℕ)) (m : Need) (L : List (Spared Token)) → lists_of L ≡ emptied s.got → need_in need ≡ m → seen_process p ≡ s → (let t : Standing = record { need = need_in need; got = lists_of L; puts = puts_in p.puts.items; handed = false } in t) ≡ renewed m s
-renewed-is p s need m L e n v =
-    ap₂ (λ w X. let t : Standing = record { need = w; got = X; puts = puts_in p.puts.items; handed = false } in t) n e ∙
+pub renewed-is : (p : Inside) (s : Standing) (need : KeptNeed) (m : Need) (X : Streams Token) → X ≡ emptied s.got → need_kept need ≡ m → seen_process p ≡ s → (let t : Standing = record { need = need_kept need; got = X; puts = puts_in p.puts.items; handed = false } in t) ≡ renewed m s
+renewed-is p s need m X e n v =
+    ap₂ (λ w Y. let t : Standing = record { need = w; got = Y; puts = puts_in p.puts.items; handed = false } in t) n e ∙
     ap (λ us. let t : Standing = record { need = m; got = emptied s.got; puts = us; handed = false } in t) (ap (λ (t : Standing). t.puts) v)
 
 pub got-long : (p : Inside) (s : Standing) → IsSound p → seen_process p ≡ s → length s.got ≡ length p.lines.items
-got-long p s w v = sym (ap (λ (t : Standing). length t.got) v) ∙ by p.is_handed
-  where
-    by : (b : Bool) → length (got_in b p.row.items p.lines.items) ≡ length p.lines.items
-    by true = w.row
-    by false = lines-long p.lines.items
+got-long p s w v = sym (ap (λ (t : Standing). length t.got) v) ∙ got-places p.need p.is_handed p.row.items p.lines.items w.row
 
-pub next-by : (p : Inside) (s : Standing) (ns : List ℕ) (ev : Event) → IsSound p → seen_process p ≡ s → s.handed ≡ false → p.need ≡ Some ns → s.puts ≡ [] → ev ≡ event_by (lacking 0 ns (lists_of p.lines.items)) → DoesNext s ev
-next-by p s ns ev w v h n u e = subst (λ x. DoesNext s x) (sym e) (by (lacking 0 ns (lists_of p.lines.items)) refl)
+pub one-renewed : (p : Inside) (s : Standing) (R : Streams Token) → IsSound p → seen_process p ≡ s → p.need ≡ kept.One → R ≡ [] ∷ [] → got_in p.need false R p.lines.items ≡ emptied s.got
+one-renewed p s R w v n e = ap (λ m. got_in m false R p.lines.items) n ∙ e ∙ sym (only p.full p.row.items (has-one p w n)) ∙ ap (λ X. emptied X) (sym (ap (λ m. got_in m p.is_handed p.row.items p.lines.items) n) ∙ ap (λ (t : Standing). t.got) v)
   where
-    by : (o : Option ℕ) → lacking 0 ns (lists_of p.lines.items) ≡ o → DoesNext s (event_by o)
-    by None l = next-fires p s ns w v h n l u
-    by (Some q) l = next-gets p s ns q v h n l u
+    only : (full : ℕ) (row : Streams Token) → HasOne full row → emptied row ≡ [] ∷ []
+    only zero row f = ap (λ X. emptied X) f
+    only (suc k) row f = ap (λ X. emptied X) f.1

@@ -1,5 +1,5 @@
 -- One process of a network: what it needs, what it has gathered, and what it has still to put (Kahn and MacQueen 1977).
-use Rattle.std.specs.Prelude.{◌≡◌, ℕ, suc, ◌+◌, ◌<◌, ◌≤◌, List, [], ◌∷◌, ◌++◌, Bool, true, false, nat_eq, length, map, drop, get_or, replicate, Option, Some, None, refl}
+use Rattle.std.specs.Prelude.{◌≡◌, ℕ, zero, suc, ◌+◌, ◌<◌, ◌≤◌, List, [], ◌∷◌, ◌++◌, Bool, true, false, nat_eq, length, map, drop, get_or, replicate, Option, Some, None, refl}
 use Rattle.std.specs.Coded.{Coded, code_by, coded×, coded_bool, coded_list}
 use Rattle.pt_meaning.specs.Streams.{Streams, at, change_at}
 use Rattle.pt_meaning.specs.Machine.{Need, Over, Counts, Any, Takes, front}
@@ -14,6 +14,8 @@ use Rattle.pt_value.specs.declared.token.Token.{Token}
 use Rattle.pt_process.specs.declared.process.StagedPut.{StagedPut}
 use Rattle.pt_process.specs.declared.process.Event.{Event}
 use Rattle.pt_process.specs.declared.process.Event.TheVariants as event
+use Rattle.pt_process.specs.declared.need.KeptNeed.{KeptNeed}
+use Rattle.pt_process.specs.declared.need.KeptNeed.TheVariants as kept
 use Rattle.pt_process.specs.declared.process.Process.TheInside.{Inside}
 use Rattle.pt_process.specs.Codes.{coded_need, coded_streams, coded_put}
 
@@ -44,13 +46,25 @@ put_of u = record { channel = u.channel; token = u.token }
 abbrev pub puts_in : List StagedPut → List (Put Token)
 puts_in us = map put_of us
 
--- what is gathered: the lists that are lent, or those that grow
-abbrev pub got_in : Bool → Streams Token → List (Spared Token) → Streams Token
-got_in true row lines = row
-got_in false row lines = lists_of lines
+-- a need that is kept, among the definitions
+abbrev pub need_kept : KeptNeed → Need
+need_kept kept.Over = Over
+need_kept (kept.Counts ns) = Counts ns
+need_kept kept.One = Counts (1 ∷ [])
+
+-- the lists that are lent, or those that grow
+abbrev pub row_if : Bool → Streams Token → List (Spared Token) → Streams Token
+row_if true row lines = row
+row_if false row lines = lists_of lines
+
+-- What is gathered: one token at the only place is kept where it is lent, and tokens by counts are handed over to there.
+abbrev pub got_in : KeptNeed → Bool → Streams Token → List (Spared Token) → Streams Token
+got_in kept.Over handed row lines = row_if handed row lines
+got_in (kept.Counts ns) handed row lines = row_if handed row lines
+got_in kept.One handed row lines = row
 
 abbrev pub seen_process : Inside → Standing
-seen_process p = record { need = need_in p.need; got = got_in p.is_handed p.row.items p.lines.items; puts = puts_in p.puts.items; handed = p.is_handed }
+seen_process p = record { need = need_kept p.need; got = got_in p.need p.is_handed p.row.items p.lines.items; puts = puts_in p.puts.items; handed = p.is_handed }
 
 -- room for so many more tokens at a place
 abbrev pub room_at : List (Spared Token) → ℕ → ℕ
@@ -63,14 +77,21 @@ pub record GathersBy (ns : List ℕ) (front : ℕ) (lines : List (Spared Token))
   pub full : (q : ℕ) → q < front → get_or ns q 0 ≤ length (at (lists_of lines) q)
   pub room : (q : ℕ) → q < length lines → get_or ns q 0 ≤ length (at (lists_of lines) q) + room_at lines q
 
-abbrev pub Gathers : Option (List ℕ) → ℕ → List (Spared Token) → Type 0
-Gathers None full lines = Unit {0}
-Gathers (Some ns) full lines = GathersBy ns full lines
+-- The only place has its one token, or none yet, where it lacks nothing, or something.
+abbrev pub HasOne : (front : ℕ) → Streams Token → Type 0
+HasOne zero row = row ≡ [] ∷ []
+HasOne (suc n) row = (x : Token) × (row ≡ (x ∷ []) ∷ [])
+
+-- what is known of what a process gathers
+abbrev pub Gathers : KeptNeed → Bool → (front : ℕ) → Streams Token → List (Spared Token) → Type 0
+Gathers kept.Over handed front row lines = Unit {0}
+Gathers (kept.Counts ns) handed front row lines = handed ≡ false → GathersBy ns front lines
+Gathers kept.One handed front row lines = HasOne front row
 
 -- what a process keeps
 pub record IsSound (p : Inside) : Type 0 where
   pub row : length p.row.items ≡ length p.lines.items
-  pub gathers : p.is_handed ≡ false → Gathers p.need p.full p.lines.items
+  pub gathers : Gathers p.need p.is_handed p.full p.row.items p.lines.items
 
 -- of these puts the first is on this channel, or there is none
 abbrev pub PutsFirst : List (Put Token) → Option ℕ → Type 0
@@ -88,6 +109,11 @@ DoesNext s event.Over = (s.puts ≡ []) × (s.need ≡ Over)
 abbrev pub event_by : Option ℕ → Event
 event_by None = event.Fire
 event_by (Some place) = event.Get place
+
+-- the only place lacks its one token where none is there
+abbrev pub lacks_one : (front : ℕ) → Option ℕ
+lacks_one zero = Some 0
+lacks_one (suc n) = None
 
 -- a process with so many places at its start
 abbrev pub at_start : Need → ℕ → Standing
@@ -121,14 +147,15 @@ IsKept Over = Unit {0}
 IsKept (Counts ns) = Unit {0}
 IsKept Any = ⊥
 
--- how many tokens are needed at a place
-abbrev pub needed_at : Option (List ℕ) → ℕ → ℕ
-needed_at None q = 0
-needed_at (Some ns) q = get_or ns q 0
+-- so many tokens are gathered at each place in the lines, and at the others none
+abbrev pub lined_in : KeptNeed → List ℕ
+lined_in kept.Over = []
+lined_in (kept.Counts ns) = ns
+lined_in kept.One = []
 
--- each place is empty, and has room for what is needed
-abbrev pub HasRooms : Option (List ℕ) → List (Spared Token) → Type 0
-HasRooms need lines = (q : ℕ) → q < length lines → (at (lists_of lines) q ≡ []) × (needed_at need q ≤ room_at lines q)
+-- each line is empty, and has room for so many tokens
+abbrev pub HasRooms : List ℕ → List (Spared Token) → Type 0
+HasRooms ns lines = (q : ℕ) → q < length lines → (at (lists_of lines) q ≡ []) × (get_or ns q 0 ≤ room_at lines q)
 
 -- how many of these puts are on the channel
 abbrev pub one_if : Bool → ℕ

@@ -1,12 +1,11 @@
 ghost use Rattle.std.specs.Prelude.{◌≡◌, ℕ, ◌+◌, ◌<◌, ◌≤◌, length, get_or, IfOk};
 ghost use Rattle.pt_meaning.specs.Streams.{at};
 ghost use Rattle.pt_reaction.specs.Channels.{lists_of};
-ghost use Rattle.pt_process.specs.Process.{needed_at, room_at, put_of, puts_in};
+ghost use Rattle.pt_process.specs.Process.{room_at, put_of, puts_in};
 
-use crate::plan::{copies, need_copy};
+use crate::plan::copies;
 use crate::process::{Process, StagedPut};
 use crate::renew::count_at;
-use pt_firing::Counts;
 use pt_reaction::Line;
 use std::alloc::{AllocError, Global};
 use std::collections::VecDeque;
@@ -19,9 +18,9 @@ impl Process {
         ensures { IfOk result (λ process. process ≡ self.now) }
     {
         let puts = puts_again(alloc, &self.puts)?;
-        let lines = lines_again(alloc, &self.lines, &self.need)?;
+        let lines = lines_again(alloc, &self.lines, self.need.lined())?;
         let row = copies(alloc, &self.row)?;
-        let need = need_copy(alloc, &self.need)?;
+        let need = self.need.copy(alloc)?;
         Ok(Process {
             need,
             lines,
@@ -57,18 +56,14 @@ fn put_again(alloc: Global, put: &StagedPut) -> Result<StagedPut, AllocError>
     })
 }
 
-/// The same lines again, each with room for all that is needed.
-fn lines_again(
-    alloc: Global,
-    lines: &[Line],
-    need: &Option<Counts>,
-) -> Result<Vec<Line>, AllocError>
+/// The same lines again, each with room for as many tokens as are gathered there.
+fn lines_again(alloc: Global, lines: &[Line], counts: &[usize]) -> Result<Vec<Line>, AllocError>
     ensures lists { IfOk result (λ copies. lists_of copies.items ≡ lists_of lines.now) }
-    ensures rooms { IfOk result (λ copies. (q : ℕ) → q < length lines.now → needed_at need.now q ≤ length (at (lists_of copies.items) q) + room_at copies.items q) }
+    ensures rooms { IfOk result (λ copies. (q : ℕ) → q < length lines.now → get_or counts.now q 0 ≤ length (at (lists_of copies.items) q) + room_at copies.items q) }
 {
     let mut copies = Vec::with_capacity(alloc, lines.len())?;
     for place in 0..lines.len() {
-        let copy = line_again(alloc, &lines[place], count_at(need, place))?;
+        let copy = line_again(alloc, &lines[place], count_at(counts, place))?;
         copies.push(copy)?;
     }
     Ok(copies)

@@ -3,6 +3,7 @@
 
 mod copied;
 mod fans;
+mod need;
 mod network;
 mod numbers;
 mod plan;

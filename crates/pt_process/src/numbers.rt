@@ -45,12 +45,21 @@ pub fn stage_number(
 }
 
 /// What is in these lists, where each has one integer. `row` is a buffer for several.
+#[inline(always)]
 fn int_inputs_of<'a>(lists: &'a [Tokens], row: &'a mut Vec<i64>) -> Option<IntInputs<'a>>
     ensures { IfSome result (λ inputs. inputs ≡ lists.now) }
 {
-    if let [tokens] = lists {
-        return alone(tokens);
+    match lists {
+        [] => Some(IntInputs::one_at_each(&[])),
+        [tokens] => alone(tokens),
+        _ => several(lists, row),
     }
+}
+
+/// The same of several lists.
+fn several<'a>(lists: &[Tokens], row: &'a mut Vec<i64>) -> Option<IntInputs<'a>>
+    ensures { IfSome result (λ inputs. inputs ≡ lists.now) }
+{
     if first_numbers(lists, row) {
         return Some(IntInputs::one_at_each(row));
     }

@@ -1,9 +1,10 @@
-ghost use Rattle.std.specs.Prelude.{◌≡◌, ℕ, ◌<◌, ◌≤◌, ◌+◌, [], length, map, take, drop, get_or, slice_get, option_map, true, false, IfOk, IfSome, OnOk, OnErr, Some};
+ghost use Rattle.std.specs.Prelude.{◌≡◌, ℕ, ◌<◌, ◌≤◌, ◌+◌, [], ◌∷◌, length, map, set, take, drop, get_or, slice_get, option_map, true, false, IfOk, IfSome, OnOk, OnErr, Some};
 ghost use Rattle.pt_meaning.specs.Streams.{at};
 ghost use Rattle.pt_meaning.specs.Process.{lacking};
 ghost use Rattle.pt_reaction.specs.Channels.{lists_of};
-ghost use Rattle.pt_process.specs.Process.{PutsFirst, event_by, puts_in};
+ghost use Rattle.pt_process.specs.Process.{PutsFirst, event_by, lacks_one, puts_in};
 
+use crate::need::KeptNeed;
 use pt_firing::{Counts, Inputs, Tokens};
 use pt_reaction::Line;
 use pt_value::Token;
@@ -32,11 +33,10 @@ pub enum Event {
 /// A process of a network: what it needs, what it has gathered, and what it has still to put.
 #[derive(Drop)]
 pub struct Process {
-    /// How many tokens it needs at each place, or `None` where it is over.
-    pub(crate) need: Option<Counts>,
+    pub(crate) need: KeptNeed,
     /// What is gathered at each place, with room for all that is needed.
     pub(crate) lines: Vec<Line>,
-    /// The same once it is handed over.
+    /// The same once it is handed over. One token at the only place is gathered here, so that it isn't moved.
     pub(crate) row: Vec<Tokens>,
     pub(crate) is_handed: bool,
     /// So many places at the front lack nothing.
@@ -83,8 +83,9 @@ impl Process {
         ensures next { DoesNext self.old result }
     {
         match &self.need {
-            Some(counts) => next_by(counts, &self.lines, &mut self.full),
-            None => Event::Over,
+            KeptNeed::Over => Event::Over,
+            KeptNeed::Counts(counts) => next_by(counts, &self.lines, &mut self.full),
+            KeptNeed::One => one_event(self.full),
         }
     }
 
@@ -102,8 +103,16 @@ impl Process {
         requires lacks { lacking_place self.old.need self.old.got ≡ Some place }
         ensures { self.new ≡ with_token place token self.old }
     {
-        let line = &mut self.lines[place];
-        line.put(token);
+        match self.need {
+            KeptNeed::Over | KeptNeed::Counts(_) => {
+                let line = &mut self.lines[place];
+                line.put(token);
+            }
+            KeptNeed::One => {
+                put_alone(&mut self.row, place, token);
+                self.full = 1;
+            }
+        }
     }
 
     /// Takes out its next put.
@@ -125,8 +134,13 @@ impl Process {
         requires { self.old.handed ≡ false }
         ensures { self.new ≡ with_handed self.old }
     {
-        hand_over(&mut self.lines, &mut self.row);
-        self.is_handed = true;
+        match self.need {
+            KeptNeed::Over | KeptNeed::Counts(_) => {
+                hand_over(&mut self.lines, &mut self.row);
+                self.is_handed = true;
+            }
+            KeptNeed::One => self.is_handed = true,
+        }
     }
 
     /// What it has gathered.
@@ -167,6 +181,26 @@ fn event_of(lacks: Option<usize>) -> Event
         Some(place) => Event::Get(place),
         None => Event::Fire,
     }
+}
+
+/// What comes of the only place, which needs one token.
+#[inline(always)]
+fn one_event(full: usize) -> Event
+    ensures { result ≡ event_by (lacks_one full) }
+{
+    if full == 0 {
+        return Event::Get(0);
+    }
+    Event::Fire
+}
+
+/// A token is alone at its place of a row.
+#[inline(always)]
+fn put_alone(row: &mut Vec<Tokens>, place: usize, token: Token)
+    requires { place < length row.old.items }
+    ensures { row.new.items ≡ set row.old.items place (token ∷ []) }
+{
+    row[place] = Tokens::one(token);
 }
 
 /// The first place that lacks a token, where so many at the front lack nothing. As many are found to lack nothing then.

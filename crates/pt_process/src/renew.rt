@@ -1,9 +1,11 @@
-ghost use Rattle.std.specs.Prelude.{◌≡◌, ℕ, ◌<◌, ◌≤◌, [], length, nat_eq, false, true, IfOk, OnOk, Some};
+ghost use Rattle.std.specs.Prelude.{◌≡◌, ℕ, ◌<◌, ◌≤◌, [], ◌∷◌, length, replicate, get_or, nat_eq, false, true, IfOk, OnOk};
 ghost use Rattle.pt_meaning.specs.Streams.{at};
 ghost use Rattle.pt_firing.specs.Need.{need_of};
 ghost use Rattle.pt_reaction.specs.Channels.{lists_of};
-ghost use Rattle.pt_process.specs.Process.{need_in, needed_at, room_at, HasRooms, IsKept};
+ghost use Rattle.pt_meaning.specs.Machine as machine;
+ghost use Rattle.pt_process.specs.Process.{need_kept, room_at, HasRooms, IsKept};
 
+use crate::need::{KeptNeed, is_one};
 use crate::process::{Process, StagedPut};
 use pt_firing::{Counts, Need, Tokens};
 use pt_reaction::Line;
@@ -22,9 +24,10 @@ impl Process {
         requires { HasPlaces places (need_in need) }
         ensures { IfOk result (λ process. process ≡ at_start (need_in need) places) }
     {
+        let need = KeptNeed::new(need);
         let row = empty_row(alloc, places)?;
         let mut lines = empty_lines(alloc, places)?;
-        make_rooms(alloc, &mut lines, &need)?;
+        make_rooms(alloc, &mut lines, need.lined())?;
         Ok(Process {
             need,
             lines,
@@ -73,7 +76,7 @@ impl Process {
         ensures { result ≡ true → self.now.need ≡ need_of need.entry }
     {
         match need {
-            Need::Over => self.need.is_none(),
+            Need::Over => is_over(&self.need),
             Need::All(counts) => is_kept(&self.need, counts),
             Need::Any => false,
         }
@@ -87,10 +90,20 @@ impl Process {
         ensures renewed { OnOk result (self.new ≡ renewed self.old.need self.old) }
         ensures kept { OnErr result (self.new ≡ self.old) }
     {
-        make_rooms(alloc, &mut self.lines, &self.need)?;
-        self.full = 0;
-        self.is_handed = false;
-        Ok(())
+        match self.need {
+            KeptNeed::One => {
+                take_alone(&mut self.row);
+                self.full = 0;
+                self.is_handed = false;
+                Ok(())
+            }
+            KeptNeed::Over | KeptNeed::Counts(_) => {
+                make_rooms(alloc, &mut self.lines, self.need.lined())?;
+                self.full = 0;
+                self.is_handed = false;
+                Ok(())
+            }
+        }
     }
 
     /// It has used what it gathered, and has another need. After an `Err` it is as before.
@@ -101,7 +114,8 @@ impl Process {
         ensures kept { OnErr result (self.new ≡ self.old) }
     {
         let need = kept_need(alloc, need)?;
-        make_rooms(alloc, &mut self.lines, &need)?;
+        make_rooms(alloc, &mut self.lines, need.lined())?;
+        empty_row_again(&mut self.row);
         self.need = need;
         self.full = 0;
         self.is_handed = false;
@@ -116,52 +130,87 @@ impl Process {
     }
 }
 
-/// Whether these counts are kept.
-fn is_kept(kept: &Option<Counts>, counts: &Counts) -> bool
-    ensures { result ≡ true → kept.now ≡ Some counts.now }
+/// Whether a process with this need is over.
+#[inline(always)]
+fn is_over(kept: &KeptNeed) -> bool
+    ensures { result ≡ true → need_kept kept.now ≡ machine.Over }
 {
     match kept {
-        Some(kept) => kept.as_slice() == counts.as_slice(),
-        None => false,
+        KeptNeed::Over => true,
+        KeptNeed::Counts(_) | KeptNeed::One => false,
+    }
+}
+
+/// Whether these counts are kept.
+#[inline(always)]
+fn is_kept(kept: &KeptNeed, counts: &Counts) -> bool
+    ensures { result ≡ true → need_kept kept.now ≡ machine.Counts counts.now }
+{
+    match kept {
+        KeptNeed::Over => false,
+        KeptNeed::Counts(kept) => are_same(kept.as_slice(), counts.as_slice()),
+        KeptNeed::One => is_one(counts.as_slice()),
+    }
+}
+
+/// Whether these counts are the same. Where there is one or none, nothing is called for that.
+#[inline(always)]
+fn are_same(kept: &[usize], counts: &[usize]) -> bool
+    ensures { result ≡ true → kept.now ≡ counts.now }
+{
+    match counts {
+        [] => kept.is_empty(),
+        [count] => match kept {
+            [kept] => *kept == *count,
+            _ => false,
+        },
+        _ => kept == counts,
     }
 }
 
 /// A need that is kept.
-fn kept_need(alloc: Global, need: Need<'_>) -> Result<Option<Counts>, AllocError>
+fn kept_need(alloc: Global, need: Need<'_>) -> Result<KeptNeed, AllocError>
     requires { IsKept (need_of need) }
-    ensures { IfOk result (λ kept. need_in kept ≡ need_of need.entry) }
+    ensures { IfOk result (λ kept. need_kept kept ≡ need_of need.entry) }
 {
     match need {
-        Need::Over => Ok(None),
-        Need::All(counts) => match counts.copy(alloc) {
-            Ok(counts) => Ok(Some(counts)),
-            Err(fault) => Err(fault),
-        },
+        Need::Over => Ok(KeptNeed::Over),
+        Need::All(counts) => kept_counts(alloc, counts),
         Need::Any => unreachable!(),
     }
 }
 
-/// Empties each place, and makes room there for what is needed.
+/// The same of so many tokens at each place.
+fn kept_counts(alloc: Global, counts: &Counts) -> Result<KeptNeed, AllocError>
+    ensures { IfOk result (λ kept. need_kept kept ≡ machine.Counts counts.now) }
+{
+    if is_one(counts.as_slice()) {
+        return Ok(KeptNeed::One);
+    }
+    match counts.copy(alloc) {
+        Ok(counts) => Ok(KeptNeed::Counts(counts)),
+        Err(fault) => Err(fault),
+    }
+}
+
+/// Empties each line, and makes room there for so many tokens.
 #[inline(always)]
-fn make_rooms(alloc: Global, lines: &mut Vec<Line>, need: &Option<Counts>) -> Result<(), AllocError>
+fn make_rooms(alloc: Global, lines: &mut Vec<Line>, counts: &[usize]) -> Result<(), AllocError>
     ensures counted { length lines.new.items ≡ length lines.old.items }
-    ensures rooms { OnOk result (HasRooms need.now lines.new.items) }
+    ensures rooms { OnOk result (HasRooms counts.now lines.new.items) }
 {
     for place in 0..lines.len() {
-        make_room(alloc, lines, place, count_at(need, place))?;
+        make_room(alloc, lines, place, count_at(counts, place))?;
     }
     Ok(())
 }
 
-/// How many tokens are needed at a place.
-pub(crate) fn count_at(need: &Option<Counts>, place: usize) -> usize
-    ensures { result ≡ needed_at need.now place }
+/// The count of a place.
+pub(crate) fn count_at(counts: &[usize], place: usize) -> usize
+    ensures { result ≡ get_or counts.now place 0 }
 {
-    match need {
-        Some(counts) => match counts.as_slice().get(place) {
-            Some(count) => *count,
-            None => 0,
-        },
+    match counts.get(place) {
+        Some(count) => *count,
         None => 0,
     }
 }
@@ -181,13 +230,42 @@ fn make_room(
     ensures others { OnOk result ((q : ℕ) → nat_eq place q ≡ false → (at (lists_of lines.new.items) q ≡ at (lists_of lines.old.items) q) × (room_at lines.new.items q ≡ room_at lines.old.items q)) }
 {
     let line = &mut lines[place];
-    line.clear();
+    empty(line);
     line.reserve(alloc, count)?;
     Ok(())
 }
 
+/// Empties a line. Most often it is empty, since its tokens were handed over.
+#[inline(always)]
+fn empty(line: &mut Line)
+    ensures { line.new.list ≡ [] }
+{
+    if !line.is_empty() {
+        line.clear();
+    }
+}
+
+/// Takes away the token of the only place.
+#[inline(always)]
+fn take_alone(row: &mut Vec<Tokens>)
+    requires { length row.old.items ≡ 1 }
+    ensures { row.new.items ≡ [] ∷ [] }
+{
+    row[0] = Tokens::new();
+}
+
+/// Empties each list of a row.
+fn empty_row_again(row: &mut Vec<Tokens>)
+    ensures empty { (q : ℕ) → q < length row.new.items → at row.new.items q ≡ [] }
+    ensures counted { length row.new.items ≡ length row.old.items }
+{
+    for place in 0..row.len() {
+        row[place] = Tokens::new();
+    }
+}
+
 fn empty_row(alloc: Global, places: usize) -> Result<Vec<Tokens>, AllocError>
-    ensures { IfOk result (λ row. length row.items ≡ places) }
+    ensures { IfOk result (λ row. row.items ≡ replicate places []) }
 {
     let mut row = Vec::with_capacity(alloc, places)?;
     for _ in 0..places {

@@ -7,5 +7,5 @@ abbrev pub invariant-loop-place : goal.invariant-loop-place
 invariant-loop-place l = record {
   counted : length l.copies.items ≡ l.place;
   lists : lists_of l.copies.items ≡ lists_of (take l.place l.lines);
-  rooms : (q : ℕ) → q < l.place → HasRoomAt l.need l.copies.items q;
+  rooms : (q : ℕ) → q < l.place → HasRoomAt l.counts l.copies.items q;
 }

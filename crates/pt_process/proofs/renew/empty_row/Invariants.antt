@@ -1,5 +1,5 @@
-use Rattle.std.proofs.Common.{◌≡◌, length}
+use Rattle.std.proofs.Common.{◌≡◌, [], replicate}
 use Rattle.pt_process.proofs.renew.empty_row.Given as goal
 
 abbrev pub invariant-loop : goal.invariant-loop
-invariant-loop l = length l.row.items ≡ l.counter
+invariant-loop l = l.row.items ≡ replicate l.counter []

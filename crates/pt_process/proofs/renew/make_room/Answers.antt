@@ -3,7 +3,7 @@ use Rattle.pt_process.proofs.ProcessLaws.{list-set, list-other, spare-set, spare
 use Rattle.pt_process.proofs.renew.make_room.Goals as goal
 
 pub returns-clause-empty : goal.returns-clause-empty
-returns-clause-empty c = list-set c.args.lines.now.items c.args.place c.reserve.new.self c.requires ∙ c.in_ok-reserve.ensures.list ∙ c.clear.ensures
+returns-clause-empty c = list-set c.args.lines.now.items c.args.place c.reserve.new.self c.requires ∙ c.in_ok-reserve.ensures.list ∙ c.empty.ensures
 
 pub returns-clause-room : goal.returns-clause-room
 returns-clause-room c = let e = spare-set c.args.lines.now.items c.args.place c.reserve.new.self c.requires in let l = c.in_ok-reserve.ensures.room in omega (arith, e, l)

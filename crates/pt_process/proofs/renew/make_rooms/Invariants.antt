@@ -1,11 +1,11 @@
-use Rattle.std.proofs.Common.{◌≡◌, ℕ, ◌<◌, ◌≤◌, [], length}
+use Rattle.std.proofs.Common.{◌≡◌, ℕ, ◌<◌, ◌≤◌, [], length, get_or}
 use Rattle.pt_meaning.specs.Streams.{at}
 use Rattle.pt_reaction.specs.Channels.{lists_of}
-use Rattle.pt_process.specs.Process.{needed_at, room_at}
+use Rattle.pt_process.specs.Process.{room_at}
 use Rattle.pt_process.proofs.renew.make_rooms.Given as goal
 
 abbrev pub invariant-loop-place : goal.invariant-loop-place
 invariant-loop-place l = record {
   counted : length l.lines.items ≡ length l.fn.lines.items;
-  rooms : (q : ℕ) → q < l.place → (at (lists_of l.lines.items) q ≡ []) × (needed_at l.need q ≤ room_at l.lines.items q);
+  rooms : (q : ℕ) → q < l.place → (at (lists_of l.lines.items) q ≡ []) × (get_or l.counts q 0 ≤ room_at l.lines.items q);
 }

@@ -1,5 +1,23 @@
-use Rattle.pt_process.proofs.StepLaws.{not-handed, hand-is}
+use Rattle.std.proofs.Common.{length, ap, sym, ◌∙◌}
+use Rattle.pt_process.proofs.ProcessLaws.{lines-long}
+use Rattle.pt_process.proofs.StepLaws.{not-handed, lines-handed, hand-is, one-handed, one-handed-gathers}
 use Rattle.pt_process.proofs.process.Process.hand.Goals as goal
 
-pub returns : goal.returns
-returns c = hand-is c.self.inside c.args.self.now c.hand_over.new.row.items (not-handed c.self.inside c.args.self.now c.self.view_is c.requires) c.hand_over.ensures.row c.self.view_is
+pub invariant_of-self : goal.invariant_of-self
+invariant_of-self c = record {
+  row = ap (λ v. length v) c.hand_over.ensures.row ∙ lines-long c.self.inside.lines.items ∙ sym c.hand_over.ensures.lines;
+  gathers = lines-handed c.self.inside.need c.self.inside.full c.hand_over.new.row.items c.hand_over.new.lines.items c.in-Over.is;
+}
+
+pub returns-in-Over : goal.returns-in-Over
+returns-in-Over c =
+    hand-is c.self.inside c.args.self.now c.hand_over.new.row.items c.hand_over.new.lines.items c.in-Over.is (not-handed c.self.inside c.args.self.now c.self.view_is c.requires) c.hand_over.ensures.row c.self.view_is
+
+pub invariant_of-self-in-One : goal.invariant_of-self-in-One
+invariant_of-self-in-One c = record {
+  row = c.self.invariant.row;
+  gathers = one-handed-gathers c.self.inside c.self.invariant c.in-One.is;
+}
+
+pub returns-in-One : goal.returns-in-One
+returns-in-One c = one-handed c.self.inside c.args.self.now c.self.view_is c.in-One.is
