@@ -15,3 +15,4 @@ pub mod BestLaws
 pub mod GrowingLaws
 pub mod EndLaws
 pub mod CallLaws
+pub mod MoveLaws

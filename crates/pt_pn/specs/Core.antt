@@ -6,10 +6,11 @@ use Rattle.pt_firing.specs.declared.ask.Ask.{Ask}
 use Rattle.pt_recv.specs.Lines.{spare_at}
 use Rattle.pt_pn_laws.specs.State.{Network, Stage, Idle, Open, Asked, Closed, Blocked, IsStopped, need_at}
 use Rattle.pt_pn_laws.specs.Lawful.{HasPlaces}
-use Rattle.pt_pn_laws.specs.PnActs.{Gives, asking}
+use Rattle.pt_pn_laws.specs.PnActs.{Gives, asking, pn_calls}
 use Rattle.pt_process.specs.Plan.{IsSoundNetwork}
 use Rattle.pt_process.specs.Process.{Standing}
 use Rattle.pt_pn_work.specs.Core.{State, nobody, puts_of_all, state_with, staged_on, ArePlaced, NoneHanded, IsAlone}
+use Rattle.pt_pn.specs.Moves.{IsTransfer, Moves, ComesOn}
 use Rattle.pt_pn.specs.Noted.{AreSettled}
 use Rattle.pt_pn.specs.declared.pn.Stage as declared
 use Rattle.pt_pn.specs.declared.pn.Stage.TheVariants as code
@@ -64,3 +65,13 @@ Looks before i None after = IsStopped before i (at before.halfway.puts i) (need_
 abbrev pub MayCome : State → Option Ask → State → Type 0
 MayCome before (Some answer) after = Comes before answer after
 MayCome before None after = after ≡ before
+
+-- it tells a get or a put
+abbrev pub IsSomeTransfer : Option Ask → Type 0
+IsSomeTransfer None = ⊥
+IsSomeTransfer (Some answer) = IsTransfer answer
+
+-- after some gets and puts the core may answer so and then stands so, or has no answer yet
+abbrev pub GoesOn : State → Option Ask → State → Type 0
+GoesOn before (Some answer) after = ComesOn pn_calls before answer after
+GoesOn before None after = Moves pn_calls before after

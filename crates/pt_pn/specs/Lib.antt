@@ -5,4 +5,5 @@ pub mod Outlets
 pub mod Fresh
 pub mod Flags
 pub mod Noted
+pub mod Moves
 pub mod Core

@@ -7,6 +7,7 @@ mod fresh;
 mod growth;
 mod least;
 mod looks;
+mod moves;
 mod notes;
 mod numbers;
 mod outlets;

@@ -27,7 +27,7 @@ impl Core {
     }
 
     /// What comes of any process. All are looked at only where one isn't noted as stopped.
-    fn next_of_all(&mut self) -> Ask
+    pub(crate) fn next_of_all(&mut self) -> Ask
         requires { self.old.stage ≡ Open }
         ensures { Comes self.old result self.new }
     {
@@ -43,13 +43,13 @@ impl Core {
         ensures { MayCome self.old result self.new }
     {
         match self.taken() {
-            Some(process) => self.look(process),
+            Some(process) => self.look_once(process),
             None => None,
         }
     }
 
     /// Takes a process out of the worklist.
-    fn taken(&mut self) -> Option<u32>
+    pub(crate) fn taken(&mut self) -> Option<u32>
         ensures same { self.new ≡ self.old }
         ensures there { IfSome result (λ process. process < length self.old.network.plan.net.places) }
     {
@@ -66,7 +66,7 @@ impl Core {
         ensures { Comes self.old result self.new }
     {
         for process in 0..self.network.processes() {
-            match self.look(process as u32) {
+            match self.look_once(process as u32) {
                 Some(ask) => return ask,
                 None => {}
             }
@@ -74,9 +74,35 @@ impl Core {
         self.stopped()
     }
 
+    /// What comes of a look at a process, which stands in the worklist again where it made a get or a put.
+    fn look_once(&mut self, process: u32) -> Option<Ask>
+        requires there { process < length self.old.network.plan.net.places }
+        requires running { self.old.stage ≡ Open }
+        ensures { Looks self.old process result self.new }
+    {
+        match self.look(process) {
+            Some(Ask::Get(of)) => {
+                self.look_again(process);
+                Some(Ask::Get(of))
+            }
+            Some(Ask::Put(of)) => {
+                self.look_again(process);
+                Some(Ask::Put(of))
+            }
+            other => other,
+        }
+    }
+
+    /// A process stands in the worklist again.
+    fn look_again(&mut self, process: u32)
+        ensures { self.new ≡ self.old }
+    {
+        self.notes.look_again(process);
+    }
+
     /// What comes of a look at a process: it makes its next event, or is stopped.
     #[inline(always)]
-    fn look(&mut self, process: u32) -> Option<Ask>
+    pub(crate) fn look(&mut self, process: u32) -> Option<Ask>
         requires there { process < length self.old.network.plan.net.places }
         requires running { self.old.stage ≡ Open }
         ensures { Looks self.old process result self.new }

@@ -100,6 +100,22 @@ impl Notes {
         self.worklist.note(process);
     }
 
+    /// A process has made an event: it isn't noted as stopped.
+    #[inline(always)]
+    fn unsettle(&mut self, process: u32)
+        ensures { self.new ≡ awake process self.old }
+    {
+        self.settled.clear(process as usize);
+        self.resting.clear(process as usize);
+    }
+
+    /// A process is looked at next.
+    pub(crate) fn look_again(&mut self, process: u32)
+        ensures { self.new ≡ self.old }
+    {
+        self.worklist.note(process);
+    }
+
     /// A process that waited may go on.
     fn wake(&mut self, process: u32)
         ensures { self.new ≡ awake process self.old }
@@ -134,19 +150,21 @@ impl Notes {
     }
 
     /// A process has put on a channel.
+    #[inline(always)]
     pub(crate) fn note_put(&mut self, process: u32, channel: u32)
         ensures { self.new ≡ awake process (token_came channel self.old) }
     {
         self.note_token(channel);
-        self.note(process);
+        self.unsettle(process);
     }
 
     /// A process has got from a channel.
+    #[inline(always)]
     pub(crate) fn note_get(&mut self, process: u32, channel: u32)
         ensures { self.new ≡ awake process (room_came channel self.old) }
     {
         self.note_room(channel);
-        self.note(process);
+        self.unsettle(process);
     }
 
     /// A process is stopped, since it waits for a token on a channel. Nothing is noted of one that doesn't get from there.

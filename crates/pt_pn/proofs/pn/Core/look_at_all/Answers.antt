@@ -5,14 +5,14 @@ use Rattle.pt_pn_work.specs.Core.{State}
 use Rattle.pt_pn.specs.Core.{Comes}
 use Rattle.pt_pn.proofs.pn.Core.look_at_all.Goals as goal
 
-pub look-requires : goal.look-requires
-look-requires c = record {
+pub look_once-requires : goal.look_once-requires
+look_once-requires c = record {
   there = let e : length c.loop-process.self.network.plan.net.places ≡ length c.args.self.now.network.plan.net.places = ap (λ (s : State). length s.network.plan.net.places) c.loop-process.invariant.same in let v : length c.self.inside.network.plan.net.places ≡ length c.args.self.now.network.plan.net.places = ap (λ (s : State). length s.network.plan.net.places) c.self.view_is in omega (arith, e, v, c.loop-process-test.true, c.processes-process-end.ensures.count);
   running = ap (λ (s : State). s.stage) c.loop-process.invariant.same ∙ c.requires;
 }
 
 pub returns-in-Some : goal.returns-in-Some
-returns-in-Some c = subst (λ (s : State). Comes s c.in-Some.ask c.look.new.self) c.loop-process.invariant.same c.in-Some.ensures
+returns-in-Some c = subst (λ (s : State). Comes s c.in-Some.ask c.look_once.new.self) c.loop-process.invariant.same c.in-Some.ensures
 
 pub loop-process-preserved : goal.loop-process-preserved
 loop-process-preserved c = record {
