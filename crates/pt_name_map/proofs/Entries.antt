@@ -1,6 +1,9 @@
 -- Entries by their names: which one is first, and what is found after a change.
 use Rattle.std.proofs.Common.{◌≡◌, ℕ, zero, suc, ◌+◌, ◌<◌, List, [], ◌∷◌, ◌++◌, length, drop, get_or, set, Bool, true, false, Option, Some, None, if◌then◌else◌, refl, sym, ap, subst, ◌∙◌, arith}
-use Rattle.std.specs.Prelude.{string_bytes}
+use Rattle.std.specs.Prelude.{string_bytes, String}
+use Rattle.std.specs.Map.{lookup}
+use Rattle.std.specs.HashMap.{HashMap}
+use Rattle.indexmap.specs.IndexMap.{get_by_text, index_map_len}
 use Rattle.std.specs.Str.{bytes_eq}
 use Rattle.std.proofs.lemmas.Slice.Eq.{bytes_eq-Decides}
 use Rattle.pt_name_map.specs.declared.name_map.Entry.{Entry}
@@ -106,3 +109,12 @@ held-added es name e other rest own none =
 -- it stands outside the list
 pub held-beside : {V : Type 0} (es : List (Entry V)) (name other : List ℕ) (v : V) (rest : Option V) → listed es name ≡ None → or_else (listed es other) (if bytes_eq name other then Some v else rest) ≡ (if bytes_eq name other then Some v else or_else (listed es other) rest)
 held-beside es name other v rest none = beside (listed es other) (bytes_eq name other) v rest (free es name other none)
+
+-- ---- an empty map
+
+lookup-none : {K V : Type 0} (test : K → Bool) (es : List (K × V)) → length es ≡ 0 → lookup test es ≡ None
+lookup-none test [] e = refl
+lookup-none test (x ∷ es) e = absurd (omega (arith, e))
+
+pub none_among : {Y V S : Type 0} (m : HashMap (String Y) V S) (name : List ℕ) → index_map_len m ≡ 0 → None ≡ get_by_text m name
+none_among m name e = sym (lookup-none (λ k. bytes_eq name (string_bytes k)) m.entries e)

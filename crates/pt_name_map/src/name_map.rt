@@ -1,5 +1,6 @@
 ghost use Rattle.std.specs.Prelude.{◌≡◌, OnOk, OnErr, None, Some, List, ℕ, IfNone, IfSome, option_copied, length, ◌<◌, if◌then◌else◌};
 ghost use Rattle.std.specs.Str.{bytes_eq};
+ghost use Rattle.indexmap.specs.IndexMap.{get_by_text};
 ghost use Rattle.pt_name_map.specs.NameMap.{held, listed, IsPlace};
 
 use indexmap::IndexMap;
@@ -96,7 +97,18 @@ impl<V: Drop> NameMap<V> {
     {
         match value_in(&self.few, name) {
             Some(value) => Some(value),
-            None => self.others.get(name),
+            None => self.other(name),
         }
+    }
+
+    /// The value under a name that isn't in the list. Where nothing is behind it, the name isn't hashed.
+    #[tactic(auto, using(crate::proofs::Entries::none_among))]
+    fn other(&self, name: &str) -> Option<&V>
+        ensures { option_copied result ≡ get_by_text self.now.others name.now }
+    {
+        if self.others.is_empty() {
+            return None;
+        }
+        self.others.get(name)
     }
 }

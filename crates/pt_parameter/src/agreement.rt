@@ -49,16 +49,6 @@ fn standard_integer(standard: Standard) -> i64
     }
 }
 
-/// An integer that is given, or else the other one.
-fn integer_in(token: Option<&Token>, other: i64) -> i64
-    ensures { result ≡ agreement.integer_in (option_map (λ t. value_of t.now) token.entry) other }
-{
-    match token {
-        Some(Token::Int(n)) => *n,
-        Some(Token::Bool(_) | Token::Text(_) | Token::Array(_) | Token::Record(_)) | None => other,
-    }
-}
-
 impl<'a> Parameters<'a> {
     /// What is given under a name.
     fn given(&self, name: &str) -> Option<&'a ParameterValue>
@@ -72,14 +62,15 @@ impl<'a> Parameters<'a> {
         None
     }
 
-    /// The integer that a parameter has.
+    /// The integer that a parameter has. What stands for one that isn't given is looked for only then.
     fn integer(&self, name: &str) -> i64
         ensures { result ≡ agreement.integer_of self.now.class.now (parameters_view self.now) name.now }
     {
-        integer_in(
-            token_in(self.given(name)),
-            standard_integer(standard_of(self.class, name)),
-        )
+        match token_in(self.given(name)) {
+            Some(Token::Int(n)) => *n,
+            Some(Token::Bool(_) | Token::Text(_) | Token::Array(_) | Token::Record(_)) | None =>
+                standard_integer(standard_of(self.class, name)),
+        }
     }
 
     /// Whether the one is at most the other.
@@ -112,9 +103,9 @@ impl<'a> Parameters<'a> {
         let offsets = token_in(self.given("offsets"));
         let values = token_in(self.given("values"));
         let period = self.integer("period");
-        are_below(offsets, standard_of(self.class, "offsets"), period)
-            && count_in(offsets, standard_of(self.class, "offsets"))
-                == count_in(values, standard_of(self.class, "values"))
+        let standard = standard_of(self.class, "offsets");
+        are_below(offsets, standard, period)
+            && count_in(offsets, standard) == count_in(values, standard_of(self.class, "values"))
     }
 
     /// Whether the parameters agree with one another.

@@ -13,7 +13,6 @@ ghost use Rattle.pt_frames.specs.Views.{frames_view, port_numbers};
 ghost use Rattle.pt_places.specs.Views.{IsAdded};
 
 use crate::place::{Place, add};
-use crate::same::are_same;
 use crate::seeds::{joined_with, standard_type};
 use pt_document::{Input, Property};
 use pt_frames::{Frames, PortNumbers, values_at};
@@ -58,7 +57,7 @@ fn add_standard(
     ensures { OnOk result (IsAdded inequalities.old.items inequalities.new.items (of_standard place.now.number place.now.entity.now.class (properties_view place.now.entity.now.parameters.items) (seeding row.now))) }
 {
     let class = place.entity.class.as_str();
-    if are_same(row.class, class) && !is_given(&place.entity.parameters, row.parameter) {
+    if row.class == class && !is_given(&place.entity.parameters, row.parameter) {
         let ty = standard_type(standard_of(class, row.parameter));
         add(inequalities, Variable::Row(place.number), Term::Fixed(ty))
     } else {

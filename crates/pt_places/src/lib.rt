@@ -6,7 +6,6 @@ mod joints;
 mod place;
 mod refinements;
 mod rows;
-mod same;
 mod seeds;
 
 pub use inequalities::inequalities_of;

@@ -2,7 +2,6 @@ ghost use Rattle.std.specs.Prelude.{◌≡◌, map};
 ghost use Rattle.pt_document.specs.View.{port_view};
 ghost use Rattle.pt_inequalities.specs.Rows.{port_row, seeding, port_type_in, port_type, seed_in, seed_of, declared_output, port_rows, seedings};
 
-use crate::same::are_same;
 use pt_document::{Direction, Port};
 use pt_inequalities::{PORT_TYPES, PortType, PortTypeRow, SEEDS, Seed, SeedRow};
 
@@ -10,7 +9,7 @@ fn port_type_among(rows: &'static [PortTypeRow<&'static str>], class: &str, name
     ensures { result ≡ port_type_in (map port_row rows.now) class.now name.now }
 {
     for row in rows {
-        if are_same(row.class, class) && row.port == name {
+        if row.class == class && row.port == name {
             return row.ty;
         }
     }
@@ -46,7 +45,7 @@ fn seed_among(rows: &'static [SeedRow<&'static str>], class: &str, name: &str) -
     ensures { result ≡ seed_in (map seeding rows.now) class.now name.now }
 {
     for row in rows {
-        if are_same(row.class, class) && row.parameter == name {
+        if row.class == class && row.parameter == name {
             return Some(row.seed);
         }
     }
