@@ -1,5 +1,5 @@
 -- The whole tree, from the node at the top.
-use Rattle.std.proofs.Common.{◌≡◌, Result, Ok, Err, sym, subst, arith}
+use Rattle.std.proofs.Common.{◌≡◌, Result, Ok, Err, List, [], ◌∷◌, ◌++◌, length, sym, ap, subst, ◌∙◌, arith}
 use Rattle.std.specs.Prelude.{IfOk, IfErr}
 use Rattle.pt_net.specs.declared.net.Net.{Net}
 use Rattle.pt_node.specs.declared.node.Node.{Node}
@@ -25,3 +25,22 @@ top-tree net starts (Err fault) is = tt
 
 pub top-stands : (n m : Net) (s t : Starts) (r : Result Node BuildFault) → n ≡ m → s ≡ t → IfErr r (BuildFaultStands n s) → IfErr r (BuildFaultStands m t)
 top-stands n m s t r e f is = subst (λ (v : Net). IfErr r (BuildFaultStands v t)) e (subst (λ (v : Starts). IfErr r (BuildFaultStands n v)) f is)
+
+-- ---- the only node of a list
+
+nothing-ends : (left : List Node) (last : Node) → [] ≡ left ++ last ∷ [] → ⊥
+nothing-ends [] last e = let h : [] ≡ last ∷ [] = e in absurd cc
+nothing-ends (x ∷ left) last e = let h : [] ≡ x ∷ (left ++ last ∷ []) = e in absurd cc
+
+only-last : (left : List Node) (node last : Node) → node ∷ [] ≡ left ++ last ∷ [] → node ≡ last
+only-last [] node last e = cc
+only-last (x ∷ left) node last e = let rest : [] ≡ left ++ last ∷ [] = cc in absurd (nothing-ends left last rest)
+
+-- what is taken off the end is what was put behind nothing
+pub popped : (old all left : List Node) (node last : Node) → old ≡ [] → all ≡ old ++ node ∷ [] → all ≡ left ++ last ∷ [] → node ≡ last
+popped old all left node last none is ends = only-last left node last (sym (is ∙ ap (λ (v : List Node). v ++ node ∷ []) none) ∙ ends)
+
+pub none-popped : (old all : List Node) (node : Node) → old ≡ [] → all ≡ old ++ node ∷ [] → length all ≡ 0 → ⊥
+none-popped old all node none is empty =
+    let one : length all ≡ 1 = ap (λ (v : List Node). length v) (is ∙ ap (λ (v : List Node). v ++ node ∷ []) none) in
+    omega (arith, one, empty)

@@ -67,6 +67,7 @@ fn fault_at(alloc: Global, fault: CompositeFault, path: &Text) -> BuildFault
 }
 
 /// An actor beside its start.
+#[inline(always)]
 fn held_of(alloc: Global, actor: &LibraryActor) -> Result<Held, AllocError>
     ensures { IfOk result (λ held. held ≡ record { start = actor.now; actor = actor.now }) }
 {
@@ -77,6 +78,7 @@ fn held_of(alloc: Global, actor: &LibraryActor) -> Result<Held, AllocError>
 }
 
 /// The node of a library actor at its start.
+#[inline(always)]
 fn actor_node(alloc: Global, held: Held, path: Text, records: Records) -> Node
     ensures { shown_node result ≡ held_node held path records }
 {
@@ -161,42 +163,6 @@ impl<'a> Builder<'a> {
             return Err(BuildFault::Unbuilt);
         };
         Ok(entity)
-    }
-
-    /// The node of a library actor that starts as this one.
-    fn started_at(
-        &self,
-        alloc: Global,
-        k: usize,
-        entity: &NetEntity,
-        actor: &LibraryActor,
-    ) -> Result<Node, AllocError>
-        requires prepared { IsPrepared self.now }
-        requires entity { IsEntity self.now.net.now k entity.now }
-        requires undirected { IsUndirected entity.now }
-        requires actor { StartsAs (starts_in self.now) k actor.now }
-        ensures built { IfOk result (λ node. IsBuilt self.now.net.now (starts_in self.now) k (shown_node node)) }
-        ensures fresh { IfOk result (λ node. IsFresh (shown_node node)) }
-    {
-        let records = self.records_at(alloc, k, entity)?;
-        let path = entity.path.copy(alloc)?;
-        let held = held_of(alloc, actor)?;
-        Ok(actor_node(alloc, held, path, records))
-    }
-
-    /// The node of a library actor.
-    fn actor_at(&self, alloc: Global, k: usize, entity: &NetEntity) -> Result<Node, BuildFault>
-        requires prepared { IsPrepared self.now }
-        requires entity { IsEntity self.now.net.now k entity.now }
-        requires undirected { IsUndirected entity.now }
-        ensures built { IfOk result (λ node. IsBuilt self.now.net.now (starts_in self.now) k (shown_node node)) }
-        ensures fresh { IfOk result (λ node. IsFresh (shown_node node)) }
-        ensures stands { IfErr result (BuildFaultStands self.now.net.now (starts_in self.now)) }
-    {
-        let Some(actor) = start_in(self.starts, k) else {
-            return Err(BuildFault::Unbuilt);
-        };
-        Ok(self.started_at(alloc, k, entity, actor)?)
     }
 
     /// The wiring of the composite of that number.
@@ -322,23 +288,6 @@ impl<'a> Builder<'a> {
         self.insides.children[k].as_slice()
     }
 
-    /// The node of the entity of that number, which stands below so many composites.
-    #[cycle(tree)]
-    pub(crate) fn node_at(&self, alloc: Global, k: usize, depth: u32) -> Result<Node, BuildFault>
-        requires { IsReached self.now k depth }
-        ensures built { IfOk result (λ node. IsBuilt self.now.net.now (starts_in self.now) k (shown_node node)) }
-        ensures fresh { IfOk result (λ node. IsFresh (shown_node node)) }
-        ensures stands { IfErr result (BuildFaultStands self.now.net.now (starts_in self.now)) }
-    {
-        let entity = self.entity_at(k)?;
-        if is_undirected(entity) {
-            return self.actor_at(alloc, k, entity);
-        }
-        let director = self.check_composite(k, depth, entity)?;
-        let children = self.children_at(alloc, k, depth)?;
-        self.composite_at(alloc, k, director, entity, children)
-    }
-
     /// Puts the node of the library actor of that number behind others. A node is large, so it isn't handed from call to call.
     fn add_actor(
         &self,
@@ -356,13 +305,16 @@ impl<'a> Builder<'a> {
         let Some(actor) = start_in(self.starts, k) else {
             return Err(BuildFault::Unbuilt);
         };
-        nodes.push(self.started_at(alloc, k, entity, actor)?)?;
+        let records = self.records_at(alloc, k, entity)?;
+        let path = entity.path.copy(alloc)?;
+        let held = held_of(alloc, actor)?;
+        nodes.push(actor_node(alloc, held, path, records))?;
         Ok(())
     }
 
     /// Puts the node of the entity of that number, which stands below so many composites, behind others.
     #[cycle(tree)]
-    fn add_node(
+    pub(crate) fn add_node(
         &self,
         alloc: Global,
         k: usize,
@@ -377,8 +329,30 @@ impl<'a> Builder<'a> {
         if is_undirected(entity) {
             return self.add_actor(alloc, k, entity, nodes);
         }
-        nodes.push(self.node_at(alloc, k, depth)?)?;
+        let node = self.composite_node(alloc, k, depth, entity)?;
+        nodes.push(node)?;
         Ok(())
+    }
+
+    /// The node of the composite of that number, which stands below so many composites.
+    #[cycle(tree)]
+    fn composite_node(
+        &self,
+        alloc: Global,
+        k: usize,
+        depth: u32,
+        entity: &NetEntity,
+    ) -> Result<Node, BuildFault>
+        requires reached { IsReached self.now k depth }
+        requires entity { IsEntity self.now.net.now k entity.now }
+        requires directed { IsUndirected entity.now → ⊥ }
+        ensures built { IfOk result (λ node. IsBuilt self.now.net.now (starts_in self.now) k (shown_node node)) }
+        ensures fresh { IfOk result (λ node. IsFresh (shown_node node)) }
+        ensures stands { IfErr result (BuildFaultStands self.now.net.now (starts_in self.now)) }
+    {
+        let director = self.check_composite(k, depth, entity)?;
+        let children = self.children_at(alloc, k, depth)?;
+        self.composite_at(alloc, k, director, entity, children)
     }
 
     /// The nodes of the children of a composite, which stands below so many composites.
@@ -396,5 +370,20 @@ impl<'a> Builder<'a> {
             self.add_node(alloc, *number, depth + 1, &mut children)?;
         }
         Ok(children)
+    }
+
+    /// The node of the top.
+    pub(crate) fn top(&self, alloc: Global) -> Result<Node, BuildFault>
+        requires { IsReached self.now 0 0 }
+        ensures built { IfOk result (λ node. IsBuilt self.now.net.now (starts_in self.now) 0 (shown_node node)) }
+        ensures fresh { IfOk result (λ node. IsFresh (shown_node node)) }
+        ensures stands { IfErr result (BuildFaultStands self.now.net.now (starts_in self.now)) }
+    {
+        let mut nodes = Vec::with_capacity(alloc, 1)?;
+        self.add_node(alloc, 0, 0, &mut nodes)?;
+        match nodes.pop() {
+            Some(node) => Ok(node),
+            None => unreachable!(),
+        }
     }
 }

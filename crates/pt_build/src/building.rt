@@ -30,5 +30,5 @@ pub fn build(
     ensures stands { IfErr result (BuildFaultStands net.now (starts_of starts.now stated.now machines.now)) }
 {
     let builder = Builder::of(alloc, net, starts, stated, machines)?;
-    builder.node_at(alloc, 0, 0)
+    builder.top(alloc)
 }

@@ -170,8 +170,8 @@ fn modes(alloc: Global, entity: &Entity) -> Result<Behavior, AllocError>
     })
 }
 
-fn net_entity(alloc: Global, placed: &Placed) -> Result<NetEntity, DocFault>
-    ensures ok { IfOk result (λ entity. net.entity_view entity ≡ net.entity_tree (placed_view placed.now)) }
+fn add_entity(alloc: Global, entities: &mut Vec<NetEntity>, placed: &Placed) -> Result<(), DocFault>
+    ensures ok { OnOk result (map net.entity_view entities.new.items ≡ map net.entity_view entities.old.items ++ net.entity_tree (placed_view placed.now) ∷ []) }
     ensures err { IfErr result (λ e. e ≡ Memory) }
 {
     let parent = optional_number(placed.round.parent)?;
@@ -179,7 +179,7 @@ fn net_entity(alloc: Global, placed: &Placed) -> Result<NetEntity, DocFault>
     let named = named(alloc, placed)?;
     let given = given(alloc, placed.entity)?;
     let modes = modes(alloc, placed.entity)?;
-    Ok(NetEntity {
+    entities.push(NetEntity {
         path: named.path,
         class: named.class,
         director: named.director,
@@ -191,15 +191,7 @@ fn net_entity(alloc: Global, placed: &Placed) -> Result<NetEntity, DocFault>
         states: modes.states,
         initial: modes.initial,
         transitions: modes.transitions,
-    })
-}
-
-fn add_entity(alloc: Global, entities: &mut Vec<NetEntity>, placed: &Placed) -> Result<(), DocFault>
-    ensures ok { OnOk result (map net.entity_view entities.new.items ≡ map net.entity_view entities.old.items ++ net.entity_tree (placed_view placed.now) ∷ []) }
-    ensures err { IfErr result (λ e. e ≡ Memory) }
-{
-    let entity = net_entity(alloc, placed)?;
-    entities.push(entity)?;
+    })?;
     Ok(())
 }
 

@@ -1,5 +1,5 @@
 -- What stands before the model of a net: its values, its types, and the actors that its entities start as.
-use Rattle.std.specs.Prelude.{◌≡◌, ℕ, List, length, Option, Some, None, slice_get}
+use Rattle.std.specs.Prelude.{◌≡◌, ℕ, List, ◌++◌, ◌∷◌, [], length, Option, Some, None, slice_get}
 use Rattle.pt_typing.specs.declared.variable.Variable.TheVariants.{Port}
 use Rattle.pt_typing.specs.Least.{Assignment}
 use Rattle.pt_document.specs.declared.code.Code.{Code}
@@ -37,6 +37,12 @@ port_typing typing k i = typing.types (Port k i)
 pub record IsStartOf (net : Net) (values : Values) (typing : Assignment) (k : ℕ) (e : NetEntity) (start : Option LibraryActor) : Type 0 where
   pub actor : IsUndirected e → IsStart net values (port_typing typing) k start
   pub other : (IsUndirected e → ⊥) → start ≡ None
+
+-- there is one start more, which is that of the entity
+pub record IsBegun (net : Net) (values : Values) (typing : Assignment) (k : ℕ) (e : NetEntity) (old new : List (Option LibraryActor)) : Type 0 where
+  pub start : Option LibraryActor
+  pub is_last : new ≡ old ++ start ∷ []
+  pub is_start : IsStartOf net values typing k e start
 
 -- What the entities of a net start as: a library actor as the actor that its parameters, channels and types start, if the library has one, and a composite as none.
 pub record AreStartsOf (net : Net) (values : Values) (typing : Assignment) (begun : List (Option LibraryActor)) : Type 0 where

@@ -1,4 +1,4 @@
-ghost use Rattle.std.specs.Prelude.{◌≡◌, IfOk, map};
+ghost use Rattle.std.specs.Prelude.{◌≡◌, IfOk, OnOk, map};
 ghost use Rattle.std.specs.List.{enumerate_from};
 ghost use Rattle.pt_document.specs.View.{port_view};
 ghost use Rattle.pt_types.specs.Ty.{type_of};
@@ -9,7 +9,7 @@ ghost use Rattle.pt_start.specs.Nested.{IsNested};
 ghost use Rattle.pt_start.specs.Started.{type_at};
 ghost use Rattle.pt_start.specs.Seen.{IsReady};
 ghost use Rattle.pt_trees.specs.Trees.{IsEntity};
-ghost use Rattle.pt_elaboration.specs.Resolved.{port_typing, AreStartsOf, IsStartOf};
+ghost use Rattle.pt_elaboration.specs.Resolved.{port_typing, AreStartsOf, IsBegun};
 
 use pt_document::Port;
 use pt_library::LibraryActor;
@@ -37,24 +37,26 @@ fn types_of(
     Ok(types)
 }
 
-/// The actor that the entity of that number starts as, if it is a library actor and the library has one.
-fn start_of(
+/// Puts what the entity of that number starts as behind what others do: its actor, if it is a library actor and the library has one.
+fn add_start(
     alloc: Global,
     starts: &Starts,
     typing: &Typing,
     number: usize,
     entity: &NetEntity,
-) -> Result<Option<LibraryActor>, AllocError>
+    begun: &mut Vec<Option<LibraryActor>>,
+) -> Result<(), AllocError>
     requires ready { IsReady starts.now }
     requires entity { IsEntity starts.now.net.now number entity.now }
-    ensures { IfOk result (IsStartOf starts.now.net.now starts.now.values.now (assignment typing.now) number entity.now) }
+    ensures { OnOk result (IsBegun starts.now.net.now starts.now.values.now (assignment typing.now) number entity.now begun.old.items begun.new.items) }
 {
-    if is_undirected(entity) {
-        let types = types_of(alloc, typing, number, &entity.ports)?;
-        starts.actor(alloc, number, &types)
-    } else {
-        Ok(None)
+    if !is_undirected(entity) {
+        begun.push(None)?;
+        return Ok(());
     }
+    let types = types_of(alloc, typing, number, &entity.ports)?;
+    begun.push(starts.actor(alloc, number, &types)?)?;
+    Ok(())
 }
 
 /// What the entities of a net start as: a library actor as its actor, if the library has one, and a composite as none.
@@ -71,7 +73,7 @@ pub(crate) fn starts_of(
     let prepared = Starts::of(alloc, net, values)?;
     let mut starts = Vec::with_capacity(alloc, net.entities.len())?;
     for (number, entity) in net.entities.iter().enumerate() {
-        starts.push(start_of(alloc, &prepared, typing, number, entity)?)?;
+        add_start(alloc, &prepared, typing, number, entity, &mut starts)?;
     }
     Ok(starts)
 }

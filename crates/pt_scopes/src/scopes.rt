@@ -56,7 +56,7 @@ impl Scopes {
         ensures ok { IfOk result (λ inside. inside.items ≡ length self.now.frames.items ∷ chain.now) }
         ensures err { IfErr result (λ e. e ≡ Memory) }
     {
-        let mut inside = Vec::with_capacity(alloc, chain.len())?;
+        let mut inside = Vec::with_capacity(alloc, chain.len() + 1)?;
         inside.push(frame_number(self.frames.len())?)?;
         for number in chain {
             inside.push(*number)?;

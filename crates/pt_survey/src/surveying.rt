@@ -126,23 +126,17 @@ impl<'a> Entities<'a> {
     }
 
     /// Appends an entity, and gives what stands round its children.
-    fn add(
-        &mut self,
-        alloc: Global,
-        round: Round,
-        path: &str,
-        entity: &'a Entity,
-    ) -> Result<Round, AllocError>
+    fn add(&mut self, round: Round, path: Text, entity: &'a Entity) -> Result<Round, AllocError>
         requires { IsCounted self.old }
         ensures counted { OnOk result (IsCounted self.new) }
-        ensures table { OnOk result (table_view self.new.table.items ≡ table_view self.old.table.items ++ standing.standing (table_view self.old.table.items) (round_view round) path.now (entity_view entity.now) ∷ []) }
-        ensures round { IfOk result (λ inside. round_view inside ≡ standing.round_in (length (table_view self.old.table.items)) (standing.standing (table_view self.old.table.items) (round_view round) path.now (entity_view entity.now))) }
+        ensures table { OnOk result (table_view self.new.table.items ≡ table_view self.old.table.items ++ standing.standing (table_view self.old.table.items) (round_view round) path (entity_view entity.now) ∷ []) }
+        ensures round { IfOk result (λ inside. round_view inside ≡ standing.round_in (length (table_view self.old.table.items)) (standing.standing (table_view self.old.table.items) (round_view round) path (entity_view entity.now))) }
     {
         let placed = Placed {
             round,
             number: self.kept,
             is_directed: has_director(&entity.properties),
-            path: Text::of(alloc, path)?,
+            path,
             entity,
         };
         let inside = placed.round_inside(self.table.len());
@@ -155,17 +149,23 @@ impl<'a> Entities<'a> {
         &mut self,
         alloc: Global,
         round: Round,
-        path: &str,
+        path: Text,
         entity: &'a Entity,
     ) -> Result<(), AllocError>
         requires { IsCounted self.old }
         ensures counted { OnOk result (IsCounted self.new) }
-        ensures table { OnOk result (table_view self.new.table.items ≡ standing.with_entity (table_view self.old.table.items) (round_view round) path.now (entity_view entity.now)) }
+        ensures table { OnOk result (table_view self.new.table.items ≡ standing.with_entity (table_view self.old.table.items) (round_view round) path (entity_view entity.now)) }
     {
-        let inside = self.add(alloc, round, path, entity)?;
+        if entity.entities.as_slice().is_empty() {
+            self.add(round, path, entity)?;
+            return Ok(());
+        }
+        let kept = path.copy(alloc)?;
+        let here = kept.as_str();
+        let inside = self.add(round, path, entity)?;
         for child in &entity.entities {
-            let path_inside = path_below(alloc, path, child.name.as_str())?;
-            self.add_all(alloc, inside, path_inside.as_str(), child)?;
+            let path_inside = path_below(alloc, here, child.name.as_str())?;
+            self.add_all(alloc, inside, path_inside, child)?;
         }
         Ok(())
     }
@@ -186,6 +186,6 @@ pub fn survey<'a>(alloc: Global, job: &'a Job) -> Result<Vec<Placed<'a>>, AllocE
         within: None,
         is_refinement: false,
     };
-    entities.add_all(alloc, round, ".", &job.model)?;
+    entities.add_all(alloc, round, Text::of(alloc, ".")?, &job.model)?;
     Ok(entities.table)
 }

@@ -1,3 +1,4 @@
 pub mod Walking
 pub mod EntityParts
 pub mod Unseen
+pub mod Unnamed

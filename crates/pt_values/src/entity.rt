@@ -1,4 +1,4 @@
-ghost use Rattle.std.specs.Prelude.{◌≡◌, IfOk, IfErr, OnOk, ℕ, List, None, true, if◌then◌else◌, [], map, option_map};
+ghost use Rattle.std.specs.Prelude.{◌≡◌, IfOk, IfErr, OnOk, ℕ, List, None, true, if◌then◌else◌, [], map, option_map, codes};
 ghost use Rattle.std.specs.Str.{bytes_eq};
 ghost use Rattle.pt_document.specs.View.{port_view};
 ghost use Rattle.pt_net.specs.Net as net;
@@ -12,6 +12,7 @@ ghost use Rattle.pt_scopes.specs.Scopes as scopes;
 ghost use Rattle.pt_scopes.specs.Frames.{Means};
 ghost use Rattle.pt_scopes.specs.Sites.{is_input_port, inputs_of};
 ghost use Rattle.pt_scopes.specs.Valued.{entity_view, AreOfDirector};
+ghost use Rattle.pt_values.specs.Ports.{AgreeOnTrees};
 ghost use Rattle.pt_scopes.specs.ClassParameters.{AreParametersOf, IsClassFault};
 ghost use Rattle.pt_scopes.specs.Told.{IsToldAt, chain_scope, IsOwn, IsEntityIn, IsDirectorFault, IsFaultWhere};
 
@@ -52,6 +53,24 @@ fn inputs_of(alloc: Global, entity: &NetEntity) -> Result<PortNames, AllocError>
     Ok(names)
 }
 
+/// Whether actors of this class have expressions.
+fn has_trees(class: &str) -> bool
+    ensures { result ≡ bytes_eq class.now (codes "Expression") }
+{
+    class == "Expression"
+}
+
+/// The names of the ports of an actor, where its parameters are such as may name them.
+fn ports_seen(alloc: Global, entity: &NetEntity) -> Result<PortNames, AllocError>
+    ensures { IfOk result (λ names. AgreeOnTrees entity.now.class (names_port_of names) (names_port (inputs_of (net.entity_view entity.now)))) }
+{
+    if has_trees(entity.class.as_str()) {
+        inputs_of(alloc, entity)
+    } else {
+        Ok(no_ports(alloc))
+    }
+}
+
 /// No names of ports.
 fn no_ports(alloc: Global) -> PortNames
     ensures { names_port_of result ≡ names_port [] }
@@ -89,7 +108,7 @@ fn actor_parameters(
         frames,
         chain,
     };
-    let ports = inputs_of(alloc, entity)?;
+    let ports = ports_seen(alloc, entity)?;
     let owner = Owner {
         class,
         parent: None,

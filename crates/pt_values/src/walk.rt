@@ -16,7 +16,7 @@ use pt_document::{DocFault, Input};
 use pt_net::{Net, NetEntity, Transparent};
 use pt_scopes::{EntityValues, Inside, Scopes, Values};
 use pt_value::Token;
-use std::alloc::Global;
+use std::alloc::{AllocError, Global};
 
 /// How far a net is gone through: what is seen where, and what the texts so far come to.
 #[derive(Drop)]
@@ -27,15 +27,17 @@ pub struct Walk {
 }
 
 impl Walk {
-    fn new(alloc: Global) -> Walk
-        ensures walk { (net : NetTree) → IsWalk net result }
-        ensures transparent { length result.transparent.items ≡ 0 }
+    /// Nothing is gone through yet, and there is room for so many entities.
+    fn of(alloc: Global, entities: usize) -> Result<Walk, AllocError>
+        ensures walk { IfOk result (λ walk. (net : NetTree) → IsWalk net walk) }
+        ensures transparent { IfOk result (λ walk. length walk.transparent.items ≡ 0) }
     {
-        Walk {
+        let entities = Vec::with_capacity(alloc, entities)?;
+        Ok(Walk {
             scopes: Scopes::new(alloc),
-            entities: Vec::new(alloc),
+            entities,
             transparent: Vec::new(alloc),
-        }
+        })
     }
 
     /// Goes through an entity, and tells whether it did: not where what stands round it isn't gone through.
@@ -164,7 +166,7 @@ pub fn values_of(alloc: Global, net: &Net) -> Result<Values, DocFault>
     ensures ok { IfOk result (IsValued (net_view net.now)) }
     ensures err { IfErr result (IsFaultOf (net_view net.now)) }
 {
-    let mut walk = Walk::new(alloc);
+    let mut walk = Walk::of(alloc, net.entities.len())?;
     walk.enter_entities(alloc, net)?;
     for composite in &net.transparent {
         walk.enter_transparent(alloc, composite)?;

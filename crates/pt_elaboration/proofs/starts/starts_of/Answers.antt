@@ -11,9 +11,9 @@ loop-number-preserved c =
     let k = c.loop-number.number in
     let e = c.entity-item.result in
     let at = read-at net.entities.items c.deref-entity-items.result.now k e c.deref-entity-items.ensures.value c.loop-number-test.true c.entity-item.is in
-    first-more net c.args.values.now typing k c.loop-number.starts.items c.push.new.self.items e c.in_ok-start_of.field-0 c.loop-number.invariant at
-    (start-same c.in_ok-prepared.prepared.net.now net c.in_ok-prepared.prepared.values.now c.args.values.now typing k e c.in_ok-start_of.field-0 (ap (λ r. r.now) c.in_ok-prepared.ensures.0) (ap (λ r. r.now) c.in_ok-prepared.ensures.1) c.in_ok-start_of.ensures)
-    c.in_ok-push.ensures.items
+    first-more net c.args.values.now typing k c.loop-number.starts.items c.add_start.new.begun.items e c.in_ok-add_start.ensures.start c.loop-number.invariant at
+    (start-same c.in_ok-prepared.prepared.net.now net c.in_ok-prepared.prepared.values.now c.args.values.now typing k e c.in_ok-add_start.ensures.start (ap (λ r. r.now) c.in_ok-prepared.ensures.0) (ap (λ r. r.now) c.in_ok-prepared.ensures.1) c.in_ok-add_start.ensures.is_start)
+    c.in_ok-add_start.ensures.is_last
 
 pub returns : goal.returns
 returns c =

@@ -13,7 +13,7 @@ use Rattle.pt_values.proofs.Walking.{view-at, composite-seen, all-entities, enti
 use Rattle.pt_values.proofs.walk.values_of.Goals as goal
 
 pub enter_entities-requires : goal.enter_entities-requires
-enter_entities-requires c = c.new-walk.ensures.walk (net_view c.args.net.now)
+enter_entities-requires c = c.in_ok-walk.ensures.walk (net_view c.args.net.now)
 
 pub enter_transparent-requires : goal.enter_transparent-requires
 enter_transparent-requires c =

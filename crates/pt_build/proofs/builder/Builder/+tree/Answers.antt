@@ -5,18 +5,15 @@ use Rattle.pt_build.proofs.FaultLaws.{fresh-more}
 use Rattle.pt_build.specs.Starts.{starts_in}
 use Rattle.pt_build.proofs.builder.Builder.+tree.Goals as goal
 
-pub node_at-entity_at-requires : goal.node_at-entity_at-requires
-node_at-entity_at-requires t c = (c.args.depth, c.requires.nested)
-
 pub add_node-entity_at-requires : goal.add_node-entity_at-requires
 add_node-entity_at-requires t c = (c.args.depth, c.requires.nested)
 
 pub add_node-returns-clause-added : goal.add_node-returns-clause-added
 add_node-returns-clause-added t c = record {
-  node = c.in_ok-node_at.field-0;
+  node = c.in_ok-node.node;
   is_last = c.in_ok-push.ensures.items;
-  built = c.in_ok-node_at.ensures.built;
-  fresh = c.in_ok-node_at.ensures.fresh;
+  built = c.in_ok-node.ensures.built;
+  fresh = c.in_ok-node.ensures.fresh;
 }
 
 pub children_at-add_node-requires : goal.children_at-add_node-requires

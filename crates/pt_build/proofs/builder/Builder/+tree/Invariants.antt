@@ -5,8 +5,8 @@ use Rattle.pt_trees.specs.Built.{AreBuilt}
 use Rattle.pt_build.specs.Starts.{starts_in}
 use Rattle.pt_build.proofs.builder.Builder.+tree.Given as goal
 
-abbrev pub decreases-node_at : goal.decreases-node_at
-decreases-node_at l = 3 * (32 - l.depth) + 1
+abbrev pub decreases-composite_node : goal.decreases-composite_node
+decreases-composite_node l = 3 * (32 - l.depth) + 1
 
 abbrev pub decreases-add_node : goal.decreases-add_node
 decreases-add_node l = 3 * (32 - l.depth) + 2
