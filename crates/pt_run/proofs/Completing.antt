@@ -22,7 +22,7 @@ use Rattle.pt_node.specs.Full.{IsToldFull}
 use Rattle.pt_node.specs.Live as live
 use Rattle.pt_node.specs.Shown.{Shown}
 use Rattle.pt_node.specs.View.{Tree, node_of, kept_of, count_of, Outline, outline_of, text_at}
-use Rattle.pt_seq.specs.Within.{AnswersTo}
+use Rattle.pt_turns.specs.Within.{AnswersTo}
 use Rattle.pt_node.specs.Stuck.{fault_of}
 use Rattle.pt_trees.specs.declared.top.Top.{Top}
 use Rattle.pt_trees.specs.declared.ended.Ended.{Ended}

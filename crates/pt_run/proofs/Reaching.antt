@@ -31,7 +31,7 @@ use Rattle.pt_node.specs.Shown.{Shown}
 use Rattle.pt_node.specs.View as view
 use Rattle.pt_node.specs.View.{node_of, kept_of, Outline, outline_of, maximum_at}
 use Rattle.pt_node.specs.Live.{IsLive}
-use Rattle.pt_seq.specs.Within.{AnswersTo}
+use Rattle.pt_turns.specs.Within.{AnswersTo}
 use Rattle.pt_trees.specs.declared.top.Top.{Top}
 use Rattle.pt_trees.specs.Ports.{recorded_ports, ports_of, traces_of}
 use Rattle.pt_trees.specs.Top.{IsJobFor}

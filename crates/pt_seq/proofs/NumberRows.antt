@@ -4,11 +4,11 @@ use Rattle.pt_meaning.specs.Basics.{Tag}
 use Rattle.pt_value.specs.declared.token.Token.TheVariants.{Int}
 use Rattle.pt_directors.specs.Directors.{Director, director_calls}
 use Rattle.pt_node.specs.Shown.{Shown}
-use Rattle.pt_seq.specs.declared.turn.Turn.{Turn}
-use Rattle.pt_seq.specs.Within.{Gave, made_of}
-use Rattle.pt_seq.specs.Turns.{TellTo, TurnFrom}
-use Rattle.pt_seq.proofs.Turning.{turn-told}
-use Rattle.pt_seq.proofs.Loop.{none-given}
+use Rattle.pt_turns.specs.declared.turn.Turn.{Turn}
+use Rattle.pt_turns.specs.Within.{Gave, made_of}
+use Rattle.pt_turns.specs.Turns.{TellTo, TurnFrom}
+use Rattle.pt_turns.proofs.Turning.{turn-told}
+use Rattle.pt_turns.proofs.Loop.{none-given}
 
 pub turn-of-several : (d : Director) (given : Option ℤ) → ((n : ℤ) → given ≡ Some n → ⊥) → (child mid : Shown) (i : ℕ) (tag : Tag) (ns : List ℤ) (t : Turn) (d' : Director) (after : Shown) →
     Gave child (director_calls.lent_of d) (map Int ns ∷ []) mid → made_of mid ≡ made_of child → TellTo director_calls d mid i tag (map Int ns ∷ []) t d' after → TurnFrom director_calls given d child i tag t d' after

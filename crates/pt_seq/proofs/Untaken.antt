@@ -10,19 +10,19 @@ use Rattle.pt_node.specs.declared.node.Node.TheOpen as opens
 use Rattle.pt_node.specs.declared.body.Body.TheVariants as body
 use Rattle.pt_node.specs.Acts.{acts}
 use Rattle.pt_node.specs.Shown.{Shown, AllShown, Branch, level, shown, shown_node, all_of}
-use Rattle.pt_node.specs.View.{outline_of, outlines_of}
-use Rattle.pt_seq.specs.declared.fire.Within.{Within}
-use Rattle.pt_seq.specs.declared.fire.Within.TheVariants as within
+use Rattle.pt_node.specs.View.{outline_of}
+use Rattle.pt_turns.specs.declared.within.Within.{Within}
+use Rattle.pt_turns.specs.declared.within.Within.TheVariants as within
 use Rattle.pt_seq.specs.declared.alone.Untaken.{Untaken}
 use Rattle.pt_seq.specs.declared.alone.Untaken.TheVariants.{Done, Fault, Spent, Full, Memory}
-use Rattle.pt_seq.specs.Within.{WithinTo, StaysFit}
-use Rattle.pt_seq.specs.Composite.{EndsAs}
-use Rattle.pt_seq.specs.Between.{Between}
-use Rattle.pt_seq.specs.OwnMeetings.{OwnMeetings, own_of}
-use Rattle.pt_seq.specs.Alone.{untaken_of, UntakenTo, UntakenFits, UntakenSpends, EndsUntaken, CloseTo}
-use Rattle.pt_seq.proofs.Acting.{acts-law}
-use Rattle.pt_seq.proofs.Ending.{finish-ends}
-use Rattle.pt_seq.proofs.Entering.{composite-enters, composite-named, composite-stays}
+use Rattle.pt_turns.specs.Within.{WithinTo, StaysFit}
+use Rattle.pt_turns.specs.Composite.{EndsAs}
+use Rattle.pt_turns.specs.Between.{Between}
+use Rattle.pt_turns.specs.OwnMeetings.{OwnMeetings, own_of}
+use Rattle.pt_seq.specs.Alone.{untaken_of, UntakenTo, UntakenFits, EndsUntaken, CloseTo}
+use Rattle.pt_turns.proofs.Acting.{acts-law}
+use Rattle.pt_turns.proofs.Ending.{finish-ends}
+use Rattle.pt_turns.proofs.Entering.{composite-enters, composite-named, composite-stays}
 
 -- of a node
 module _ (old : Shown) (tag : Tag) (X : Streams Token) (new : Shown) where

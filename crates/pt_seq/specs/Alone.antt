@@ -8,15 +8,15 @@ use Rattle.pt_directors.specs.Directors.{Director}
 use Rattle.pt_node.specs.Acts.{acts}
 use Rattle.pt_node.specs.Shown.{Shown, AllShown}
 use Rattle.pt_node.specs.Live.{HasFired}
-use Rattle.pt_seq.specs.declared.fire.Within.{Within}
-use Rattle.pt_seq.specs.declared.fire.Within.TheVariants as within
+use Rattle.pt_turns.specs.declared.within.Within.{Within}
+use Rattle.pt_turns.specs.declared.within.Within.TheVariants as within
 use Rattle.pt_seq.specs.declared.alone.Fired.{Fired}
 use Rattle.pt_seq.specs.declared.alone.Fired.TheVariants as fired
 use Rattle.pt_seq.specs.declared.alone.Untaken.{Untaken}
 use Rattle.pt_seq.specs.declared.alone.Untaken.TheVariants.{Done, Fault, Spent, Full, Memory}
-use Rattle.pt_seq.specs.Within.{WithinTo, AnswersTo}
-use Rattle.pt_seq.specs.Composite.{EndsAs}
-use Rattle.pt_seq.specs.OwnMeetings.{OwnMeetings}
+use Rattle.pt_turns.specs.Within.{WithinTo, AnswersTo}
+use Rattle.pt_turns.specs.Composite.{EndsAs}
+use Rattle.pt_turns.specs.OwnMeetings.{OwnMeetings}
 
 -- how a firing went, without its outputs
 abbrev pub untaken_of : Within → Untaken

@@ -1,24 +1,24 @@
 // Firings of a node whose outputs nobody takes: they are let go of where they are handed out.
-ghost use Rattle.std.specs.Prelude.{◌≡◌, ◌+◌, ◌<◌, ◌^◌, [], map};
-ghost use Rattle.pt_directors.specs.Directors.{director_calls};
+ghost use Rattle.std.specs.Prelude.{◌≡◌, ◌+◌, ◌<◌, [], map};
+ghost use Rattle.pt_directors.specs.Directors.{director_calls, of_de};
 ghost use Rattle.pt_node.specs.declared.node.Node.{out-Node};
 ghost use Rattle.pt_node.specs.Shown.{shown, shown_node, all_of};
 ghost use Rattle.pt_node.specs.View.{outline_of, count_of};
 ghost use Rattle.pt_node.specs.Live.{IsLive, IsFit, Takes, AllFit, IsReady, TakenBy};
 ghost use Rattle.pt_node.specs.Meetings.{Serves};
-ghost use Rattle.pt_seq.specs.OwnMeetings.{own_of};
-ghost use Rattle.pt_seq.specs.Signals.{de_of};
+ghost use Rattle.pt_turns.specs.OwnMeetings.{own_of};
 ghost use Rattle.pt_seq.specs.Alone.{untaken_of, FiredTo, UntakenTo, UntakenSpends, UntakenFits, EndsUntaken, CloseTo};
 
-use crate::fire::{Within, fire_actor, fire_within, go_on};
-use crate::numbers::Buffers;
+use crate::fire::{fire_actor, fire_within, go_on};
 use crate::pause::first_row;
 use pt_core::{Core, Either};
 use pt_de::DeCore;
 use pt_directors::Director;
 use pt_firing::{Answer, Blocked, Inputs, Place};
 use pt_node::{Body, Labels, MeetingRecord, Node};
+use pt_number_rows::Buffers;
 use pt_time::Tag;
+use pt_turns::Within;
 use pt_value::Text;
 use std::alloc::Global;
 
@@ -235,8 +235,8 @@ fn close(alloc: Global, director: &mut Director) -> Untaken
 /// The same under DE.
 #[inline(always)]
 fn close_reaction(alloc: Global, core: &mut DeCore) -> Untaken
-    requires { director_calls.MayFinish (de_of core.old) }
-    ensures { CloseTo director_calls (de_of core.old) result (de_of core.new) }
+    requires { director_calls.MayFinish (of_de core.old) }
+    ensures { CloseTo director_calls (of_de core.old) result (of_de core.new) }
 {
     match core.finish(alloc) {
         Ok(_) => Untaken::Done,

@@ -11,34 +11,24 @@ ghost use Rattle.pt_node.specs.Shown.{Shown, shown, shown_node, all_of};
 ghost use Rattle.pt_node.specs.View.{outline_of, outlines_of, count_of, counts_of};
 ghost use Rattle.pt_node.specs.Live.{IsLive, is_live, IsFit, Takes, AllFit, IsReady, TakenBy};
 ghost use Rattle.pt_node.specs.Meetings.{Serves};
-ghost use Rattle.pt_seq.specs.Within.{WithinTo, SpendsAll, StaysFit, AnswersTo, EndsLive, ActorTo, IsFaultAt};
-ghost use Rattle.pt_seq.specs.Composite.{CompositeTo, KeepsFit, EndsAs, FinishTo};
-ghost use Rattle.pt_seq.specs.Turns.{TurnTo, TurnFrom, TurnSpends, MayFire};
-ghost use Rattle.pt_seq.specs.Between.{Rested, IsRestedUnderWay};
-ghost use Rattle.pt_seq.specs.OwnMeetings.{own_of};
+ghost use Rattle.pt_turns.specs.Within.{WithinTo, SpendsAll, StaysFit, AnswersTo, EndsLive, ActorTo};
+ghost use Rattle.pt_turns.specs.Composite.{CompositeTo, KeepsFit, EndsAs, FinishTo};
+ghost use Rattle.pt_turns.specs.Turns.{TurnTo, TurnFrom, TurnSpends, MayFire};
+ghost use Rattle.pt_turns.specs.Between.{Rested, IsRestedUnderWay};
+ghost use Rattle.pt_turns.specs.OwnMeetings.{own_of};
 
 use crate::full::full_at;
-use crate::numbers::{Buffers, Rest, several, tell_numbers};
 use crate::pause::{Pause, fire_row, first_row, settle};
-use crate::turn::{Turn, tell};
 use pt_core::Core;
 use pt_directors::Director;
-use pt_firing::{Answer, Blocked, Fires, Inputs, Outputs, Place, RunFault, Step};
+use pt_firing::{Answer, Fires, Inputs, Step};
 use pt_node::{Body, Held, Labels, MeetingRecord, Node};
+use pt_number_rows::{Buffers, several, tell_numbers};
 use pt_time::Tag;
+use pt_turns::{Rest, Turn, Within, fault_at, tell};
 use pt_value::Text;
 use std::alloc::Global;
 use std::slice;
-
-/// How a firing went that isn't recorded yet.
-#[derive(Drop)]
-pub(crate) enum Within {
-    Done(Outputs),
-    Fault(Place),
-    Spent,
-    Full(Blocked),
-    Memory,
-}
 
 /// One firing of the node at a tag, on a list of tokens for each of its places. At most `allowance` firings are recorded in it, those of the node and of all within it.
 /// After any answer but `Done` the node isn't live, and fires no more.
@@ -251,16 +241,6 @@ pub(crate) fn fire_actor(
         Step::Done(outputs) => Within::Done(outputs),
         Step::Fault(kind) => fault_at(alloc, path, made, kind),
         Step::Memory => Within::Memory,
-    }
-}
-
-/// The firing of that number is stuck at the path.
-pub(crate) fn fault_at(alloc: Global, path: &Text, firing: u64, kind: RunFault) -> Within
-    ensures { IsFaultAt path.now firing kind result }
-{
-    match path.copy(alloc) {
-        Ok(path) => Within::Fault(Place { path, firing, kind }),
-        Err(_) => Within::Memory,
     }
 }
 

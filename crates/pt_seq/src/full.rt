@@ -1,13 +1,13 @@
 ghost use Rattle.std.specs.Prelude.{◌≡◌, IfOk};
 ghost use Rattle.pt_directors.specs.Directors.{director_calls};
 ghost use Rattle.pt_node.specs.Full.{told_by};
-ghost use Rattle.pt_seq.specs.Within.{IsFullAt};
+ghost use Rattle.pt_turns.specs.Within.{IsFullAt};
 
-use crate::fire::Within;
 use pt_core::Core;
 use pt_directors::Director;
 use pt_firing::{Blocked, Rows};
 use pt_node::Labels;
+use pt_turns::Within;
 use pt_value::Text;
 use std::alloc::{AllocError, Global};
 

@@ -11,17 +11,18 @@ ghost use Rattle.pt_node.specs.Meetings.{Serves};
 ghost use Rattle.pt_node.specs.Shown.{Shown, all_of, shown, shown_node};
 ghost use Rattle.pt_node.specs.View.{node_of};
 ghost use Rattle.pt_records.specs.Kept.{Made};
-ghost use Rattle.pt_seq.specs.Between.{At, IsUnderWay, IsUnderWayWith, IsAskedUnderWay, Heeded, Paused, Rested, IsRestedUnderWay};
-ghost use Rattle.pt_seq.specs.OwnMeetings.{OwnMeetings, own_of};
+ghost use Rattle.pt_turns.specs.Between.{At, IsUnderWay, IsUnderWayWith, IsAskedUnderWay, Rested, IsRestedUnderWay};
+ghost use Rattle.pt_turns.specs.OwnMeetings.{OwnMeetings, own_of};
+ghost use Rattle.pt_seq.specs.Paused.{Paused, Heeded};
 
-use crate::events::{fire_events, first_reaction};
-use crate::meetings::fire_meetings;
-use crate::numbers::{Rest, fire_numbers};
 use pt_core::{Core, Either};
 use pt_directors::Director;
+use pt_event_rows::{fire_events, first_reaction};
 use pt_firing::{Ask, Inputs, RunFault};
 use pt_node::{MeetingRecord, Node};
+use pt_number_rows::{fire_meetings, fire_numbers, fire_stretches};
 use pt_time::Tag;
+use pt_turns::Rest;
 use std::alloc::{AllocError, Global};
 
 /// What a composite comes to next.
@@ -135,7 +136,7 @@ pub(crate) fn fire_row(
     ensures goes { (before : directors.Director) (olds : List Shown) (tag : basics.Tag) (X : basics.Streams Token) (allowance : ℕ) (start : Option Made) → At acts before olds tag X allowance (own_of made start meetings.old) director.old (map shown children.old.items) left.old → Rested before olds tag X allowance (own_of made start meetings.new) result director.new (map shown children.new.items) left.new }
 {
     match director {
-        Either::First(core) => fire_numbers(alloc, core, children, left, row),
+        Either::First(core) => fire_stretches(alloc, core, children, left, row),
         Either::Other(Either::First(core)) => fire_numbers(alloc, core, children, left, row),
         Either::Other(Either::Other(Either::First(core))) => {
             fire_events(core, children, left, row)

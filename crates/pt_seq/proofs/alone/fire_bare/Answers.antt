@@ -3,8 +3,8 @@ use Rattle.pt_node.specs.Shown.{shown_node}
 use Rattle.pt_node.specs.Firing.{recorded}
 use Rattle.pt_node.specs.View.{outline_of}
 use Rattle.pt_node.proofs.OutlineLaws.{outline_recorded}
-use Rattle.pt_seq.proofs.Answering.{seq-fault, seq-full, seq-off, seq-spent, seq-spent-done, seq-memory-done, seq-done}
-use Rattle.pt_seq.proofs.Quickly.{none-noted}
+use Rattle.pt_turns.proofs.Answering.{seq-fault, seq-full, seq-off, seq-spent, seq-spent-done, seq-memory-done, seq-done}
+use Rattle.pt_turns.proofs.Quickly.{none-noted}
 use Rattle.pt_seq.proofs.alone.fire_bare.Goals as goal
 
 pub returns-in-Fault-clause-answers : goal.returns-in-Fault-clause-answers

@@ -2,11 +2,11 @@ use Rattle.std.proofs.Common.{map, refl}
 use Rattle.pt_firing.specs.declared.ask.Ask.TheVariants as ask
 use Rattle.pt_node.specs.Acts.{acts}
 use Rattle.pt_node.specs.Shown.{shown, all_of}
-use Rattle.pt_seq.specs.declared.numbers.Rest.TheVariants as rest
-use Rattle.pt_seq.specs.OwnMeetings.{own_of}
-use Rattle.pt_seq.proofs.Acting.{acts-law}
-use Rattle.pt_seq.proofs.Firing.{may-finish}
-use Rattle.pt_seq.proofs.Ending.{rested-as}
+use Rattle.pt_turns.specs.declared.rest.Rest.TheVariants as rest
+use Rattle.pt_turns.specs.OwnMeetings.{own_of}
+use Rattle.pt_turns.proofs.Acting.{acts-law}
+use Rattle.pt_turns.proofs.Firing.{may-finish}
+use Rattle.pt_turns.proofs.Ending.{rested-as}
 use Rattle.pt_seq.proofs.Untaken.{ends-untaken, close-ends}
 use Rattle.pt_seq.proofs.alone.fire_closed.Goals as goal
 

@@ -1,6 +1,6 @@
 use Rattle.std.proofs.Common.{refl}
 use Rattle.pt_node.specs.Shown.{shown_node}
-use Rattle.pt_seq.proofs.Entering.{actor-enters, actor-named, actor-stays}
+use Rattle.pt_turns.proofs.Entering.{actor-enters, actor-named, actor-stays}
 use Rattle.pt_seq.proofs.Untaken.{within-untaken, fits-untaken, untaken-enters, untaken-stays, untaken-named}
 use Rattle.pt_seq.proofs.alone.fire_untaken.Goals as goal
 

@@ -1,20 +1,20 @@
-use Rattle.std.proofs.Common.{◌≡◌, [], ◌∷◌, ap, arith, map, sym, subst, ◌∙◌, refl}
+use Rattle.std.proofs.Common.{[], ◌∷◌, ap, arith, map, subst, ◌∙◌, refl}
 use Rattle.pt_value.specs.declared.token.Token.TheVariants.{Int}
 use Rattle.pt_firing.specs.declared.ask.Ask.TheVariants as ask
 use Rattle.pt_directors.specs.Directors.{director_calls}
 use Rattle.pt_node.specs.Acts.{acts}
 use Rattle.pt_node.specs.Shown.{shown, shown_node}
 use Rattle.pt_node.specs.View.{depths}
-use Rattle.pt_seq.specs.declared.numbers.Rest.TheVariants as rest
-use Rattle.pt_seq.specs.Turns.{TellTo}
-use Rattle.pt_seq.specs.OwnMeetings.{own_of}
-use Rattle.pt_seq.proofs.Turning.{turn-stuck, turn-full, turn-off, turn-off-done, turn-after, handed-once, asked-once-handed, maximum-once-handed, lent-once-handed, told-once-handed}
-use Rattle.pt_seq.proofs.Acting.{acts-law}
-use Rattle.pt_seq.proofs.Firing.{may-finish}
-use Rattle.pt_seq.proofs.Loop.{turn-in, turn-asked, turn-may, turn-depth, turn-next}
-use Rattle.pt_seq.proofs.Ending.{rested-as, rested-names, finish-ends, faulted-ends, full-ends, spent-ends, halts-ends, turn-fault-ends, turn-jam-ends, turn-spent-ends, turn-memory-ends}
+use Rattle.pt_turns.specs.declared.rest.Rest.TheVariants as rest
+use Rattle.pt_turns.specs.Turns.{TellTo}
+use Rattle.pt_turns.specs.OwnMeetings.{own_of}
+use Rattle.pt_turns.proofs.Turning.{turn-stuck, turn-full, turn-off, turn-off-done, turn-after, handed-once, asked-once-handed, maximum-once-handed, lent-once-handed, told-once-handed}
+use Rattle.pt_turns.proofs.Acting.{acts-law}
+use Rattle.pt_turns.proofs.Firing.{may-finish}
+use Rattle.pt_turns.proofs.Loop.{turn-in, turn-asked, turn-may, turn-depth, turn-next}
+use Rattle.pt_turns.proofs.Ending.{rested-as, rested-names, finish-ends, faulted-ends, full-ends, spent-ends, halts-ends, turn-fault-ends, turn-jam-ends, turn-spent-ends, turn-memory-ends}
 use Rattle.pt_seq.proofs.NumberRows.{turn-of-several}
-use Rattle.pt_seq.proofs.Entering.{actor-enters, actor-named, actor-stays, composite-enters, composite-named, composite-stays, some-given}
+use Rattle.pt_turns.proofs.Entering.{actor-enters, actor-named, actor-stays, composite-enters, composite-named, composite-stays, some-given}
 use Rattle.pt_seq.proofs.fire.+fire.Goals as goal
 
 pub fire_any-lent-requires : goal.fire_any-lent-requires

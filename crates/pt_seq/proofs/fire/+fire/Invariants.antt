@@ -5,8 +5,8 @@ use Rattle.pt_records.specs.Kept.{Made}
 use Rattle.pt_directors.specs.Directors.{Director}
 use Rattle.pt_node.specs.Shown.{Shown, shown, shown_node, all_of}
 use Rattle.pt_node.specs.View.{outline_of, outlines_of, depth, depths}
-use Rattle.pt_seq.specs.Between.{Rested}
-use Rattle.pt_seq.specs.OwnMeetings.{own_of}
+use Rattle.pt_turns.specs.Between.{Rested}
+use Rattle.pt_turns.specs.OwnMeetings.{own_of}
 use Rattle.pt_seq.proofs.fire.+fire.Given as goal
 
 abbrev pub decreases-fire : goal.decreases-fire

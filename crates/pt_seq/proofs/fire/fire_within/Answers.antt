@@ -4,8 +4,8 @@ use Rattle.pt_node.specs.Firing.{noted, recorded}
 use Rattle.pt_node.specs.Live.{is_live}
 use Rattle.pt_node.specs.View.{outline_of}
 use Rattle.pt_node.proofs.OutlineLaws.{outline_bare, outline_recorded}
-use Rattle.pt_seq.proofs.Answering.{if-ok, seq-fault, seq-full, seq-off, seq-spent, seq-spent-done, seq-memory-done, seq-done}
-use Rattle.pt_seq.proofs.Recording.{live-bare}
+use Rattle.pt_turns.proofs.Answering.{if-ok, seq-fault, seq-full, seq-off, seq-spent, seq-spent-done, seq-memory-done, seq-done}
+use Rattle.pt_turns.proofs.Recording.{live-bare}
 use Rattle.pt_seq.proofs.fire.fire_within.Goals as goal
 
 pub returns-in-Fault-clause-answers : goal.returns-in-Fault-clause-answers

@@ -2,9 +2,9 @@ use Rattle.std.proofs.Common.{◌≡◌, ◌∙◌, map, sym}
 use Rattle.pt_directors.specs.Directors.{director_calls}
 use Rattle.pt_node.specs.Acts.{acts}
 use Rattle.pt_node.specs.Shown.{shown}
-use Rattle.pt_seq.proofs.Acting.{acts-law}
-use Rattle.pt_seq.proofs.Firing.{at-begun, begin-halts}
-use Rattle.pt_seq.proofs.Loop.{on-ok, on-err}
+use Rattle.pt_turns.proofs.Acting.{acts-law}
+use Rattle.pt_turns.proofs.Firing.{at-begun, begin-halts}
+use Rattle.pt_turns.proofs.Loop.{on-ok, on-err}
 use Rattle.pt_seq.proofs.pause.begin_row.Goals as goal
 
 pub begin-requires-clause-idle : goal.begin-requires-clause-idle

@@ -10,11 +10,11 @@ use Rattle.pt_node.specs.Acts.{acts}
 use Rattle.pt_node.specs.Reset.{WasReset}
 use Rattle.pt_node.specs.Shown.{shown, shown_node}
 use Rattle.pt_node.specs.View.{node_of}
-use Rattle.pt_seq.specs.Between.{At, Halts}
-use Rattle.pt_seq.specs.OwnMeetings.{own_of}
-use Rattle.pt_seq.proofs.Acting.{acts-law}
-use Rattle.pt_seq.proofs.Firing.{is-usual, asked-maximum, halts-here, at-moved, at-met, move-lessens}
-use Rattle.pt_seq.proofs.Loop.{on-ok, on-err, once-asked, turn-of, faulted-itself, is-move, no-meeting, listen-in, listen-asked, listen-learns, listen-next, restart-in, restart-rests, restart-fit, restart-next, restart-halts}
+use Rattle.pt_turns.specs.Between.{At, Halts}
+use Rattle.pt_turns.specs.OwnMeetings.{own_of}
+use Rattle.pt_turns.proofs.Acting.{acts-law}
+use Rattle.pt_turns.proofs.Firing.{is-usual, asked-maximum, halts-here, at-moved, at-met, move-lessens}
+use Rattle.pt_turns.proofs.Loop.{on-ok, on-err, once-asked, turn-of, faulted-itself, is-move, no-meeting, listen-in, listen-asked, listen-learns, listen-next, restart-in, restart-rests, restart-fit, restart-next, restart-halts}
 use Rattle.pt_seq.proofs.pause.heed.Goals as goal
 
 pub returns-then-left-eq0 : goal.returns-then-left-eq0

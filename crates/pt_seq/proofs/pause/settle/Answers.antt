@@ -1,8 +1,8 @@
 use Rattle.std.proofs.Common.{inl, map}
 use Rattle.pt_node.specs.Shown.{shown}
-use Rattle.pt_seq.specs.declared.numbers.Rest.TheVariants as rest
-use Rattle.pt_seq.specs.OwnMeetings.{own_of}
-use Rattle.pt_seq.proofs.Ending.{rested-as}
+use Rattle.pt_turns.specs.declared.rest.Rest.TheVariants as rest
+use Rattle.pt_turns.specs.OwnMeetings.{own_of}
+use Rattle.pt_turns.proofs.Ending.{rested-as}
 use Rattle.pt_seq.proofs.pause.settle.Goals as goal
 
 pub returns-in-Turn : goal.returns-in-Turn

@@ -1,7 +1,7 @@
 use Rattle.pt_node.specs.Acts.{acts}
-use Rattle.pt_seq.proofs.Acting.{acts-law}
-use Rattle.pt_seq.proofs.Firing.{may-ask}
-use Rattle.pt_seq.proofs.Loop.{once-asked}
+use Rattle.pt_turns.proofs.Acting.{acts-law}
+use Rattle.pt_turns.proofs.Firing.{may-ask}
+use Rattle.pt_turns.proofs.Loop.{once-asked}
 use Rattle.pt_seq.proofs.pause.wait.Goals as goal
 
 pub ask-asked-requires : goal.ask-asked-requires

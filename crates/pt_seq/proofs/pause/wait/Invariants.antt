@@ -5,8 +5,8 @@ use Rattle.pt_records.specs.Kept.{Made}
 use Rattle.pt_directors.specs.Directors.{Director, director_calls}
 use Rattle.pt_node.specs.Acts.{acts}
 use Rattle.pt_node.specs.Shown.{Shown, shown}
-use Rattle.pt_seq.specs.Between.{At}
-use Rattle.pt_seq.specs.OwnMeetings.{own_of}
+use Rattle.pt_turns.specs.Between.{At}
+use Rattle.pt_turns.specs.OwnMeetings.{own_of}
 use Rattle.pt_seq.proofs.pause.wait.Given as goal
 
 -- however the firing began, it has come so far

@@ -1,0 +1,2 @@
+pub mod Signalling
+pub mod AtOnce

@@ -1,0 +1,3 @@
+pub mod Stretching
+pub mod Together
+pub mod Moving

@@ -1,0 +1,14 @@
+pub mod OwnLaws
+pub mod Acting
+pub mod Children
+pub mod MadeOf
+pub mod Recording
+pub mod Jams
+pub mod Entering
+pub mod Answering
+pub mod Turning
+pub mod Taking
+pub mod Firing
+pub mod Loop
+pub mod Ending
+pub mod Quickly
