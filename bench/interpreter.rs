@@ -1,7 +1,7 @@
 //! A hand-written interpreter of flat dataflow models, to measure ptrun against.
 //!
 //! It reads the same documents on standard input and writes the same reports, for models of Ramp, Scale,
-//! AddSubtract, UpSample and DownSample under SDF, of the first three under SR, of what `events.rs` and `machines.rs` know
+//! AddSubtract, UpSample, Repeat of single tokens and DownSample under SDF, of the first three under SR, of what `events.rs` and `machines.rs` know
 //! under DE, or of what `networks.rs` knows under PN and, of single actors, under Rendezvous, whose actors stand right in the top.
 //! It does what such a model needs and no more: an iteration, or a tick, is an order of firings that is found once. It
 //! refuses nothing by name; a document that it doesn't know ends it with a panic. Plain Rust over std alone: `rustc --edition 2021 -O interpreter.rs`.
@@ -141,6 +141,7 @@ enum Actor {
     Scale { factor: i64 },
     AddSubtract,
     UpSample { factor: usize, phase: usize },
+    Repeat { times: usize },
     DownSample { factor: usize, phase: usize },
     /// An actor of DE, of which `events.rs` has the rest.
     Timed,
@@ -162,6 +163,7 @@ impl Actor {
     fn gives(&self) -> usize {
         match self {
             Actor::UpSample { factor, .. } => *factor,
+            Actor::Repeat { times } => *times,
             Actor::Discard => 0,
             _ => 1,
         }
@@ -202,6 +204,9 @@ fn actor_of(entity: &Json) -> Actor {
         "UpSample" => Actor::UpSample {
             factor: entity.parameter("factor", 2) as usize,
             phase: entity.parameter("phase", 0) as usize,
+        },
+        "Repeat" => Actor::Repeat {
+            times: entity.parameter("numberOfTimes", 2) as usize,
         },
         "DownSample" => Actor::DownSample {
             factor: entity.parameter("factor", 2) as usize,
@@ -370,7 +375,7 @@ impl Node {
                 let taken = channels[self.plus[0]].drain(..factor);
                 taken.rev().nth(phase)
             }
-            Actor::UpSample { .. } => unreachable!("a burst"),
+            Actor::UpSample { .. } | Actor::Repeat { .. } => unreachable!("a burst"),
             Actor::Timed | Actor::Discard | Actor::Composite => unreachable!("an actor of DE or PN"),
         }
     }
@@ -389,6 +394,11 @@ impl Node {
             let token = take(channels, self.plus[0]);
             for number in 0..factor {
                 self.give(channels, if number == phase { token } else { 0 });
+            }
+        } else if let Actor::Repeat { times } = self.actor {
+            let token = take(channels, self.plus[0]);
+            for _ in 0..times {
+                self.give(channels, token);
             }
         } else {
             let Some(token) = self.step(channels) else { return false };

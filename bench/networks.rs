@@ -131,13 +131,17 @@ impl Process {
                 self.given[phase] = self.gathered[0];
                 None
             }
+            Actor::Repeat { times } => {
+                self.given.resize(times, self.gathered[0]);
+                None
+            }
             Actor::Composite => self.inner.as_mut().expect("actors").fire(self.gathered[0]),
             Actor::Discard => None,
             Actor::Timed => unreachable!("an actor of DE"),
         };
         match one {
             Some(token) => self.given.push(token),
-            None if matches!(self.node.actor, Actor::UpSample { .. } | Actor::Discard) => {}
+            None if matches!(self.node.actor, Actor::UpSample { .. } | Actor::Repeat { .. } | Actor::Discard) => {}
             None => return false,
         }
         self.gathered.clear();
