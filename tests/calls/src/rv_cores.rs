@@ -30,14 +30,31 @@ fn run(alloc: Global, written: &str, script: &str, out: &mut Answer) {
     }
 }
 
+/// A need that a script tells.
+#[derive(Drop)]
+enum Needed {
+    Over,
+    Counts(Counts),
+    Any,
+}
+
 /// A need as under PN, or `any` where a token at any place will do.
-fn need(alloc: Global, word: &str) -> Result<KeptNeed, AllocError> {
+fn needed(alloc: Global, word: &str) -> Result<Needed, AllocError> {
     if word.trim() == "any" {
-        return Ok(KeptNeed::Any);
+        return Ok(Needed::Any);
     }
     match pn_cores::need(alloc, word)? {
-        Some(counts) => Ok(KeptNeed::Counts(counts)),
-        None => Ok(KeptNeed::Over),
+        Some(counts) => Ok(Needed::Counts(counts)),
+        None => Ok(Needed::Over),
+    }
+}
+
+/// The same as a plan has it.
+fn need(alloc: Global, word: &str) -> Result<KeptNeed, AllocError> {
+    match needed(alloc, word)? {
+        Needed::Over => Ok(KeptNeed::Over),
+        Needed::Counts(counts) => Ok(KeptNeed::Counts(counts)),
+        Needed::Any => Ok(KeptNeed::Any),
     }
 }
 
@@ -109,16 +126,16 @@ fn show_meeting(alloc: Global, meeting: Meeting, out: &mut Answer) {
 
 /// What the process gave that was asked, and its need then: `5 7/- needs 1+1`.
 fn told(alloc: Global, asked: &mut Asked<Core>, written: &str, out: &mut Answer) {
-    let (given, needed) = written.split_once("needs ").unwrap_or((written, "-"));
+    let (given, written) = written.split_once("needs ").unwrap_or((written, "-"));
     let outputs = Outputs::of(each_in(alloc, given, "/", place, out));
-    let needed = out.or(need(alloc, needed), KeptNeed::Over);
-    let need = match &needed {
-        KeptNeed::Over => Need::Over,
-        KeptNeed::Counts(counts) => Need::All(counts),
-        KeptNeed::Any => Need::Any,
+    let kept = out.or(needed(alloc, written), Needed::Over);
+    let need = match &kept {
+        Needed::Over => Need::Over,
+        Needed::Counts(counts) => Need::All(counts),
+        Needed::Any => Need::Any,
     };
     out.note(asked.core.told(alloc, asked.child, outputs, need));
-    drop(needed);
+    drop(kept);
 }
 
 /// The meetings of the firing.
