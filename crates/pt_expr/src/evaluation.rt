@@ -14,7 +14,7 @@ use crate::operators::{
     truth, within,
 };
 use pt_language::{BinaryOp, EvalFault, Expr, Exprs, NamedExprs};
-use pt_value::{Items, Text, Token};
+use pt_value::{Items, Text, Token, TokenText};
 use std::alloc::{AllocError, Global};
 
 /// What an expression comes to where its names are bound as in `env`.
@@ -28,7 +28,7 @@ pub fn eval(alloc: Global, expr: &Expr, env: &Env) -> Result<Token, EvalFault>
     match expr {
         Expr::Int(n) => Ok(Token::Int(*n)),
         Expr::Bool(b) => Ok(Token::Bool(*b)),
-        Expr::Words(text) => Ok(Token::Text(text.copy(alloc)?)),
+        Expr::Words(text) => Ok(Token::Text(TokenText::of(alloc, text.as_str())?)),
         Expr::Name(name) => env.token(alloc, name.as_str()),
         Expr::List(parts) => within(Token::Array(Items::of(part_values(alloc, parts, env)?))),
         Expr::Record(fields) => record_of(alloc, field_values(alloc, fields, env)?),

@@ -7,7 +7,7 @@ ghost use Rattle.pt_language.specs.Outcome.{Gives, Stops, Wrong, and_then};
 ghost use Rattle.pt_language.specs.Meaning as meaning;
 
 use pt_language::{BinaryOp, EvalFault};
-use pt_value::{Fields, Items, Text, Token};
+use pt_value::{Fields, Items, Text, Token, TokenText};
 use std::alloc::Global;
 
 /// The greatest size of a token that an expression makes.
@@ -130,7 +130,7 @@ fn joined(alloc: Global, first: &str, second: &str) -> Result<Token, EvalFault>
     ensures ok { IfOk result (λ t. meaning.within (Words (first.now ++ second.now)) ≡ Gives (value_of t)) }
     ensures err { IfErr result (λ fault. (fault ≡ Memory) ⊎ (meaning.within (Words (first.now ++ second.now)) ≡ Stops fault)) }
 {
-    let text = Text::of(alloc, format!(in alloc; "{first}{second}")?.as_str())?;
+    let text = TokenText::of(alloc, format!(in alloc; "{first}{second}")?.as_str())?;
     within(Token::Text(text))
 }
 

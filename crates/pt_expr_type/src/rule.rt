@@ -101,6 +101,10 @@ impl Rule for ExprRule {
         }
     }
 
+    fn is_met(&self, _types: &[Ty], _ty: &Ty) -> bool {
+        false
+    }
+
     fn reads(&self) -> &[u32] {
         self.numbers.as_slice()
     }

@@ -1,9 +1,10 @@
-ghost use Rattle.std.specs.Prelude.{◌≡◌, OnOk, OnErr, None, Some, List, ℕ, IfNone, IfSome, option_copied, length, ◌<◌, if◌then◌else◌};
+ghost use Rattle.std.specs.Prelude.{◌≡◌, OnOk, OnErr, None, Some, List, ℕ, IfNone, IfSome, option_copied, length, ◌<◌, if◌then◌else◌, IfOk};
 ghost use Rattle.std.specs.Str.{bytes_eq};
 ghost use Rattle.indexmap.specs.IndexMap.{get_by_text};
-ghost use Rattle.pt_name_map.specs.NameMap.{held, listed, IsPlace};
+ghost use Rattle.pt_name_map.specs.NameMap.{held, hashed, listed, IsPlace};
 
 use indexmap::IndexMap;
+use pt_value::Text;
 use std::alloc::{AllocError, Global};
 use std::hash::{BuildHasherDefault, DefaultHasher};
 
@@ -13,16 +14,19 @@ const MOST_LISTED: usize = 8;
 /// A name with its value.
 #[derive(Drop)]
 struct Entry<V> {
-    name: String,
+    name: Text,
     value: V,
 }
 
-/// Values under names. The first eight names stand in a list that is searched, and only the others are hashed; those of one
-/// hash are hard to find for the hasher.
+/// Values by the hash of their names. Names of one hash are hard to find for the hasher.
+type Hashed<V> = IndexMap<String, V, BuildHasherDefault<DefaultHasher>>;
+
+/// Values under names. The first eight names stand in a list that is searched, and only the others are hashed, in a table that is
+/// there once it is wanted.
 #[derive(Drop)]
 pub struct NameMap<V> {
     few: Vec<Entry<V>>,
-    others: IndexMap<String, V, BuildHasherDefault<DefaultHasher>>,
+    others: Option<Box<Hashed<V>>>,
 }
 
 /// The place of a name in a list.
@@ -51,6 +55,60 @@ fn value_in<'a, V>(entries: &'a [Entry<V>], name: &str) -> Option<&'a V>
     None
 }
 
+/// Puts a value under a name into a table, in place of the one that is there.
+fn put_into<V: Drop>(
+    table: &mut Hashed<V>,
+    alloc: Global,
+    name: &str,
+    value: V,
+) -> Result<(), AllocError>
+    ensures ok { OnOk result ((other : List ℕ) → get_by_text table.new other ≡ (if bytes_eq name.now other then Some value else get_by_text table.old other)) }
+    ensures err { OnErr result ((other : List ℕ) → get_by_text table.new other ≡ get_by_text table.old other) }
+{
+    let name = String::from_str(alloc, name)?;
+    table.insert(name, value)?;
+    Ok(())
+}
+
+/// A table with one name.
+fn one_hashed<V: Drop>(alloc: Global, name: &str, value: V) -> Result<Hashed<V>, AllocError>
+    ensures { IfOk result (λ table. (other : List ℕ) → get_by_text table other ≡ (if bytes_eq name.now other then Some value else None)) }
+{
+    let mut table = IndexMap::with_hasher(alloc, BuildHasherDefault::new());
+    put_into(&mut table, alloc, name, value)?;
+    Ok(table)
+}
+
+/// The same into a table that is made where there is none.
+fn put_hashed<V: Drop>(
+    others: &mut Option<Box<Hashed<V>>>,
+    alloc: Global,
+    name: &str,
+    value: V,
+) -> Result<(), AllocError>
+    ensures ok { OnOk result ((other : List ℕ) → hashed others.new other ≡ (if bytes_eq name.now other then Some value else hashed others.old other)) }
+    ensures err { OnErr result ((other : List ℕ) → hashed others.new other ≡ hashed others.old other) }
+{
+    match others {
+        Some(table) => put_into(table, alloc, name, value),
+        None => {
+            let table = one_hashed(alloc, name, value)?;
+            *others = Some(Box::new(alloc, table)?);
+            Ok(())
+        }
+    }
+}
+
+/// The value under a name in a table, if there is one. Where there is none, the name isn't hashed.
+fn hashed_value<'a, V>(others: &'a Option<Box<Hashed<V>>>, name: &str) -> Option<&'a V>
+    ensures { option_copied result ≡ hashed others.now name.now }
+{
+    match others {
+        Some(table) => table.get(name),
+        None => None,
+    }
+}
+
 impl<V: Drop> NameMap<V> {
     /// No names. It takes no memory.
     pub fn new(alloc: Global) -> NameMap<V>
@@ -58,7 +116,7 @@ impl<V: Drop> NameMap<V> {
     {
         NameMap {
             few: Vec::new(alloc),
-            others: IndexMap::with_hasher(alloc, BuildHasherDefault::new()),
+            others: None,
         }
     }
 
@@ -68,13 +126,13 @@ impl<V: Drop> NameMap<V> {
         ensures ok { OnOk result ((other : List ℕ) → held self.new other ≡ (if bytes_eq name.now other then Some value else held self.old other)) }
         ensures err { OnErr result ((other : List ℕ) → held self.new other ≡ held self.old other) }
     {
-        let name = String::from_str(alloc, name)?;
         if self.few.len() < MOST_LISTED {
+            let name = Text::of(alloc, name)?;
             self.few.push(Entry { name, value })?;
+            Ok(())
         } else {
-            self.others.insert(name, value)?;
+            put_hashed(&mut self.others, alloc, name, value)
         }
-        Ok(())
     }
 
     /// Puts a value under a name, in place of the one that is there.
@@ -97,18 +155,7 @@ impl<V: Drop> NameMap<V> {
     {
         match value_in(&self.few, name) {
             Some(value) => Some(value),
-            None => self.other(name),
+            None => hashed_value(&self.others, name),
         }
-    }
-
-    /// The value under a name that isn't in the list. Where nothing is behind it, the name isn't hashed.
-    #[tactic(auto, using(crate::proofs::Entries::none_among))]
-    fn other(&self, name: &str) -> Option<&V>
-        ensures { option_copied result ≡ get_by_text self.now.others name.now }
-    {
-        if self.others.is_empty() {
-            return None;
-        }
-        self.others.get(name)
     }
 }

@@ -6,7 +6,7 @@ ghost use Rattle.pt_readback.specs.Reading.{Gives, field_first, opened, opened_a
 use crate::fault::TokenFault;
 use crate::open::{Open, Pairs};
 use pt_language::{Symbol, Word};
-use pt_value::{Items, Text, Token};
+use pt_value::{Items, Text, Token, TokenText};
 use std::alloc::{AllocError, Global};
 
 /// The words after a symbol, where it comes first.
@@ -61,7 +61,7 @@ pub(crate) fn whole_first(alloc: Global, words: &[Word]) -> Result<(Token, &[Wor
     };
     match first {
         Word::Digits(number) => Ok((positive(*number)?, rest)),
-        Word::Quoted(text) => Ok((Token::Text(text.copy(alloc)?), rest)),
+        Word::Quoted(text) => Ok((Token::Text(TokenText::of(alloc, text.as_str())?), rest)),
         Word::Name(_) => Err(TokenFault::Shape),
         Word::Symbol(symbol) => symbol_first(alloc, *symbol, rest),
     }

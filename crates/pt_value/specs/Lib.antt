@@ -1,5 +1,6 @@
 pub mod Value
 pub mod ValueCode
+pub mod Text
 pub mod Token
 pub mod TokenHeight
 pub mod Name

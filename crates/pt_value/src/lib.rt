@@ -7,6 +7,7 @@ mod name;
 mod printed;
 mod text;
 mod token;
+mod token_text;
 
 pub use fields::{Field, Fields, FieldsFault};
 pub use items::Items;
@@ -14,3 +15,4 @@ pub use name::is_name;
 pub use printed::print;
 pub use text::Text;
 pub use token::Token;
+pub use token_text::TokenText;

@@ -6,7 +6,7 @@ ghost use Rattle.pt_value.specs.Printed.{printed, IsExtended};
 use crate::fields::Fields;
 use crate::items::Items;
 use crate::printed::{write_bool, write_int, write_quoted};
-use crate::text::Text;
+use crate::token_text::TokenText;
 use std::alloc::{AllocError, Global};
 
 /// A datum that an actor takes or gives.
@@ -15,7 +15,7 @@ use std::alloc::{AllocError, Global};
 pub enum Token {
     Int(i64),
     Bool(bool),
-    Text(Text),
+    Text(TokenText),
     Array(Items),
     Record(Fields),
 }

@@ -5,7 +5,7 @@ use crate::parsing::{cause, parsed};
 use crate::types::{base, show};
 use pt_expr_type::{ExprRule, TypeEnv, type_of};
 use pt_language::{Expr, NamedExpr, NamedExprs};
-use pt_types::{Rule, Ty, least};
+use pt_types::{Rule, Ty, below, least};
 use pt_value::Text;
 use std::alloc::{AllocError, Global};
 
@@ -161,6 +161,10 @@ impl Rule for AboveInt {
 
     fn value(&self, _: Global, _: &[Ty]) -> Result<Ty, AllocError> {
         Ok(Ty::Int)
+    }
+
+    fn is_met(&self, _: &[Ty], ty: &Ty) -> bool {
+        below(&Ty::Int, ty)
     }
 
     fn reads(&self) -> &[u32] {

@@ -4,7 +4,7 @@ use crate::answer::Answer;
 use crate::lists::{each, each_in, each_plain};
 use crate::numbers::integer;
 use pt_firing::{Outputs, Tokens};
-use pt_value::{Items, Text, Token, print};
+use pt_value::{Items, Token, TokenText, print};
 use std::alloc::{AllocError, Global};
 
 /// A number or a truth value.
@@ -26,7 +26,7 @@ pub fn read_token(alloc: Global, word: &str) -> Result<Token, AllocError> {
     match word.strip_prefix('{') {
         Some(rest) => read_array(alloc, rest.trim_end_matches('}')),
         None => match word.strip_prefix('"') {
-            Some(rest) => Text::of(alloc, rest.trim_end_matches('"')).map(Token::Text),
+            Some(rest) => TokenText::of(alloc, rest.trim_end_matches('"')).map(Token::Text),
             None => Ok(number_or_truth(word)),
         },
     }

@@ -1,7 +1,7 @@
 use crate::answer::Answer;
 use crate::lists::{each, each_plain};
 use crate::token_texts::show_token;
-use pt_value::{Fields, FieldsFault, Items, Text, Token, is_name};
+use pt_value::{Fields, FieldsFault, Items, Text, Token, TokenText, is_name};
 use std::alloc::{AllocError, Global};
 
 /// Answers a question about tokens, which are written without the parser of expressions.
@@ -23,7 +23,7 @@ fn part(alloc: Global, written: &str) -> Result<Token, FieldsFault> {
     match kind {
         "int" => Ok(integer(rest)),
         "bool" => Ok(Token::Bool(rest == "true")),
-        "text" => Ok(Token::Text(Text::of(alloc, rest)?)),
+        "text" => Ok(Token::Text(TokenText::of(alloc, rest)?)),
         "ints" => Ok(Token::Array(Items::of(each_plain(alloc, rest, " ", integer)?))),
         _ => Ok(Token::Record(fields(alloc, rest)?)),
     }
