@@ -1,4 +1,4 @@
-ghost use Rattle.std.specs.Prelude.{◌≡◌, ℕ, ◌≤◌, ◌↔◌, All, IsTrue, IfErr, IfNone, IfOk, IfSome, length, sum};
+ghost use Rattle.std.specs.Prelude.{◌≡◌, ℕ, ◌≤◌, ◌↔◌, All, IsTrue, IfErr, IfNone, IfOk, IfSome, length, replicate, sum};
 ghost use Rattle.pt_rates.specs.Balance.{IsChannel, IsRepetitionVector, tokens_on};
 ghost use Rattle.pt_rates.specs.Fault.{FaultStands, IsCrowdedAt};
 ghost use Rattle.pt_rates.specs.declared.edge.Edge.{Edge};
@@ -46,10 +46,17 @@ pub fn are_channels(n: u32, edges: &[Edge]) -> bool
     edges.iter().all(|edge| edge.is_channel(n))
 }
 
+/// Whether each channel is given as many tokens by a firing as one takes from it.
+fn are_even(edges: &[Edge]) -> bool
+    ensures { IsTrue result → All (λ edge. edge.produced ≡ edge.consumed) edges.now }
+{
+    edges.iter().all(|edge| edge.produced == edge.consumed)
+}
+
 /// The repetition vector of a dataflow graph with nodes 0 to `n - 1`: how often each fires in one iteration.
 ///
 /// It is least in each connected part, so a node without channels fires once. Of the channels that break a ratio the
-/// first in the list is told.
+/// first in the list is told. Where each channel is given and asked for as many tokens, each node fires once, and no parts are made.
 pub fn solve(alloc: Global, n: u32, edges: &[Edge]) -> Result<Vec<u64>, RatesFault>
     requires { All (IsChannel n) edges.now }
     ensures least { IfOk result (λ q. IsRepetitionVector n edges.now q.items) }
@@ -57,6 +64,10 @@ pub fn solve(alloc: Global, n: u32, edges: &[Edge]) -> Result<Vec<u64>, RatesFau
     ensures tokens { IfOk result (λ q. All (λ edge. tokens_on q.items edge ≤ 1000000) edges.now) }
     ensures err { IfErr result (FaultStands n edges.now) }
 {
+    if n as u128 <= MOST_FIRINGS && are_even(edges) {
+        let ones = vec![in alloc; 1u64; n as usize]?;
+        return Ok(ones);
+    }
     let parts = connected(alloc, n, edges)?;
     match first_crowded(edges, &parts.repetitions) {
         Some(channel) => Err(RatesFault::Tokens(channel)),

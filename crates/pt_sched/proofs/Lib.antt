@@ -1,6 +1,7 @@
 pub mod Confluence
 pub mod Counts
 pub mod Ends
+pub mod InTurn
 pub mod Greatest
 pub mod Lasting
 pub mod Lengthening

@@ -1,4 +1,5 @@
 pub mod Channels
+pub mod Forward
 pub mod Laws
 pub mod Lists
 pub mod Next

@@ -2,6 +2,7 @@
 #![tactic(auto)]
 
 mod edge;
+mod forward;
 mod hints;
 mod laws;
 mod lists;

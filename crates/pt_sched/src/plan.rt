@@ -6,6 +6,7 @@ ghost use Rattle.pt_sched.specs.Stretches.{spread};
 ghost use Rattle.pt_sched.specs.declared.plan.SchedFault.TheVariants.{Memory};
 
 use crate::edge::SchedEdge;
+use crate::forward::{in_turn, is_forward};
 use crate::hints::Hints;
 use crate::lists::{Side, listed, numbers_at};
 use crate::run::Run;
@@ -43,7 +44,7 @@ pub struct Plan {
 /// A schedule of one iteration, in which each of the children 0 to `n - 1` fires as often as `q` says.
 ///
 /// A child that can fire does so as often in a row as its tokens last, but for a bound on the tokens that this puts on a channel.
-/// The lengths are those between firings, before the first and after the last. `q` may be any numbers with a sum of at
+/// Where each fires once and each channel leads to a later child, they fire in the order of their numbers. The lengths are those between firings, before the first and after the last. `q` may be any numbers with a sum of at
 /// most 1,000,000; where it balances the channels, each holds as many tokens after the schedule as at first.
 pub fn schedule(alloc: Global, n: u32, edges: &[SchedEdge], q: &[u64]) -> Result<Plan, SchedFault>
     requires channels { All (IsSchedEdge n) edges.now }
@@ -53,6 +54,10 @@ pub fn schedule(alloc: Global, n: u32, edges: &[SchedEdge], q: &[u64]) -> Result
     ensures lengths { IfOk result (λ plan. AreGreatestLengths edges.now (spread plan.order.items) plan.lengths.items) }
     ensures err { IfErr result (FaultStands edges.now q.now) }
 {
+    if is_forward(edges, q) {
+        let plan = in_turn(alloc, n, edges, q)?;
+        return Ok(plan);
+    }
     let ins = listed(alloc, n, Side::End, edges)?;
     let outs = listed(alloc, n, Side::Start, edges)?;
     let mut run = Run::new(alloc, n, edges)?;
