@@ -1,5 +1,6 @@
 pub mod Counting
 pub mod Cuts
+pub mod Lone
 pub mod Numbers
 pub mod Repeats
 pub mod Splitting

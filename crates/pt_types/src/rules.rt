@@ -24,6 +24,10 @@ pub trait Rule {
     fn value(&self, alloc: Global, types: &[Ty]) -> Result<Ty, AllocError>
         ensures { IfOk result (λ t. type_of t ≡ value_of self.now (map type_of types.now)) };
 
+    /// Whether what the rule makes of the types of all numbers is below a type, where that is seen without making it.
+    fn is_met(&self, types: &[Ty], ty: &Ty) -> bool
+        ensures { IsTrue result → IsBelow (value_of self.now (map type_of types.now)) (type_of ty.now) };
+
     /// The numbers whose types the value depends on. A list that lacks some costs time, and changes no answer.
     fn reads(&self) -> &[u32];
 
@@ -89,6 +93,9 @@ fn raise<R: Rule>(
         (λ raised. length changed.new.items ≡ length changed.old.items + (if raised then 1 else 0)) }
 {
     let target = rule.target();
+    if rule.is_met(types, &types[target as usize]) {
+        return Ok(false);
+    }
     let value = rule.value(alloc, types)?;
     let Some(joined) = raised(alloc, &types[target as usize], value)? else {
         return Ok(false);

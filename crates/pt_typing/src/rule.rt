@@ -1,10 +1,12 @@
-ghost use Rattle.std.specs.Prelude.{IfOk};
-ghost use Rattle.pt_typing.specs.Views.{IsRuleOf};
+ghost use Rattle.std.specs.Prelude.{IfOk, IsTrue, map};
+ghost use Rattle.pt_datatypes.specs.Order.{IsBelow};
+ghost use Rattle.pt_types.specs.Ty.{type_of};
+ghost use Rattle.pt_typing.specs.Views.{IsRuleOf, assigned};
 
 use crate::numbers::Numbers;
 use crate::term::{Inequality, Term};
 use crate::variable::Variable;
-use pt_types::{Rule, Ty};
+use pt_types::{Rule, Ty, below};
 use pt_value::Text;
 use std::alloc::{AllocError, Global};
 use std::slice;
@@ -55,8 +57,31 @@ impl Rule for Bound<'_> {
         self.inequality.term.value(alloc, self.numbers, types)
     }
 
+    /// Of a variable and of a type that is given.
+    fn is_met(&self, types: &[Ty], ty: &Ty) -> bool {
+        match &self.inequality.term {
+            Term::Same(variable) => is_variable_below(self.numbers, types, *variable, ty),
+            Term::Fixed(fixed) => below(fixed, ty),
+            Term::ArrayOf(_)
+            | Term::ElementOf(_)
+            | Term::FieldOf(..)
+            | Term::RecordOf(_)
+            | Term::TreeOf(_) => false,
+        }
+    }
+
     fn reads(&self) -> &[u32] {
         self.reads.as_slice()
+    }
+}
+
+/// Whether there is a type of a variable, and it is below another.
+fn is_variable_below(numbers: &Numbers, types: &[Ty], variable: Variable, ty: &Ty) -> bool
+    ensures { IsTrue result → IsBelow (assigned numbers.now (map type_of types.now) variable) (type_of ty.now) }
+{
+    match types.get(numbers.number(variable) as usize) {
+        Some(found) => below(found, ty),
+        None => false,
     }
 }
 
