@@ -13,7 +13,7 @@ use std::alloc::{AllocError, Global};
 pub fn text(alloc: Global, old: &Text) -> Result<Text, AllocError>
     ensures { IfOk result (λ new. new ≡ old.now) }
 {
-    Text::of(alloc, old.as_str())
+    old.copy(alloc)
 }
 
 /// The same text, if there is one.

@@ -71,7 +71,20 @@ impl Groups {
     }
 }
 
-/// The number of a group for each of `count` things, the same for two exactly where the links join them.
+/// Each thing by its own number.
+fn alone(alloc: Global, count: usize) -> Result<Vec<usize>, AllocError>
+    ensures counted { IfOk result (λ group. length group.items ≡ count) }
+    ensures own { IfOk result (λ group. (t : ℕ) → t < count → slice_index group.items t ≡ t) }
+{
+    let mut group = Vec::with_capacity(alloc, count)?;
+    for thing in 0..count {
+        group.push(thing)?;
+    }
+    Ok(group)
+}
+
+/// The number of a group for each of `count` things, the same for two exactly where the links join them. Where there are no links no
+/// lists of members are made.
 pub fn group(
     alloc: Global,
     count: usize,
@@ -80,6 +93,10 @@ pub fn group(
     requires ends { All (λ link. (link.0 < count) × (link.1 < count)) links.now }
     ensures { IfOk result (λ group. IsGrouping count links.now group.items) }
 {
+    if links.is_empty() {
+        let group = alone(alloc, count)?;
+        return Ok(group);
+    }
     let mut groups = Groups::apart(alloc, count)?;
     for (a, b) in links {
         groups.join(alloc, *a, *b)?;

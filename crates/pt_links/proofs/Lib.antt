@@ -7,3 +7,4 @@ pub mod WireFacts
 pub mod PortTests
 pub mod Counts
 pub mod RecordSteps
+pub mod Marked

@@ -1,5 +1,6 @@
 ghost use Rattle.std.specs.Prelude.{◌≡◌, position, IfOk};
 ghost use Rattle.indexmap.specs.IndexMap.{get};
+ghost use Rattle.std.specs.Map.{lookup};
 
 use indexmap::IndexMap;
 use std::alloc::{AllocError, Global};
@@ -13,10 +14,14 @@ pub struct Places<K: Copy + Eq + Hash> {
 }
 
 impl<K: Copy + Eq + Hash> Places<K> {
-    /// The number of a key.
+    /// The number of a key. Where there are none, the key isn't hashed.
+    #[tactic(auto, using(crate::proofs::Firsts::none_among))]
     pub fn get(&self, key: &K) -> Option<usize>
         ensures { result ≡ get K.eq self.now.numbers key.now }
     {
+        if self.numbers.is_empty() {
+            return None;
+        }
         self.numbers.get(key).copied()
     }
 }
@@ -35,6 +40,28 @@ pub fn first_places<K: Copy + Eq + Hash>(alloc: Global, keys: &[K]) -> Result<Pl
     while left > 0 {
         left -= 1;
         numbers.insert(keys[left], left)?;
+    }
+    Ok(Places { numbers })
+}
+
+/// The number beside each key, the first one where the key stands more than once.
+pub fn first_numbers<K: Copy + Eq + Hash>(
+    alloc: Global,
+    pairs: &[(K, usize)],
+) -> Result<Places<K>, AllocError>
+    ensures { IfOk result (λ places. (key : K) → get K.eq places.numbers key ≡ lookup (K.eq key) pairs.now) }
+{
+    let mut numbers = IndexMap::with_capacity_and_hasher(
+        alloc,
+        pairs.len(),
+        BuildHasherDefault::new(),
+    )?;
+    // What is put later replaces what was there.
+    let mut left = pairs.len();
+    while left > 0 {
+        left -= 1;
+        let pair = pairs[left];
+        numbers.insert(pair.0, pair.1)?;
     }
     Ok(Places { numbers })
 }

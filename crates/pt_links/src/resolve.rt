@@ -1,13 +1,16 @@
-ghost use Rattle.std.specs.Prelude.{◌≡◌, ℕ, List, map, Some, position, IfOk, IfErr, option_map};
+ghost use Rattle.std.specs.Prelude.{◌≡◌, ◌++◌, ◌∷◌, [], ℕ, List, length, map, Some, true, position, IfOk, IfErr, OnOk, option_map};
 ghost use Rattle.std.specs.Borrow.{Bor};
 ghost use Rattle.indexmap.specs.IndexMap.{get};
 ghost use Rattle.pt_document.specs.declared.code.Code.TheVariants as code;
-ghost use Rattle.pt_links.specs.Resolve.{pair_eq, child_eq, outside_text, IsNames};
-ghost use Rattle.pt_survey.specs.Survey.{ports_view, relations_view, tables_view, link_at};
+ghost use Rattle.std.specs.List.{All, Contains};
+ghost use Rattle.std.specs.Map.{lookup};
+ghost use Rattle.pt_links.specs.Resolve.{Name, pair_eq, child_eq, outside_text, is_marked, HasLinks, IsNames};
+ghost use Rattle.pt_net.specs.Table.{PortAt, LinkAt};
+ghost use Rattle.pt_survey.specs.Survey.{port_at, ports_view, relations_view, links_view, tables_view, link_at};
 ghost use Rattle.pt_net.specs.Wires as wires;
 ghost use Rattle.pt_net.specs.Stands.{IsTold, IsLinkFault};
 
-use crate::names::{Places, first_places};
+use crate::names::{Places, first_numbers, first_places};
 use crate::refusal::refused_link;
 use pt_document::{DocFault, Link};
 use pt_net::Wire;
@@ -37,17 +40,77 @@ fn outside_texts(alloc: Global, ports: &[PlacedPort]) -> Result<Vec<Text>, Alloc
     Ok(texts)
 }
 
-fn inside_places<'k>(
+/// Whether an entity may have links, by these marks.
+fn is_marked(marks: &[bool], entity: usize) -> bool
+    ensures { result ≡ is_marked marks.now entity }
+{
+    match marks.get(entity) {
+        Some(is_marked) => *is_marked,
+        None => true,
+    }
+}
+
+/// Marks an entity that has links.
+fn mark(marks: &mut Vec<bool>, entity: usize)
+    ensures marked { is_marked marks.new.items entity ≡ true }
+    ensures kept { (other : ℕ) → is_marked marks.old.items other ≡ true → is_marked marks.new.items other ≡ true }
+{
+    if entity < marks.len() {
+        marks[entity] = true;
+    }
+}
+
+/// Which of so many entities have links.
+fn marks_of(alloc: Global, count: usize, links: &[PlacedLink]) -> Result<Vec<bool>, AllocError>
+    ensures { IfOk result (λ marks. All (λ link. is_marked marks.items link.composite ≡ true) links.now) }
+{
+    let mut marks = vec![in alloc; false; count]?;
+    for link in links {
+        mark(&mut marks, link.composite);
+    }
+    Ok(marks)
+}
+
+/// Adds a port by its name within its entity, if that is marked.
+fn add_inside<'k>(
+    pairs: &mut Vec<((usize, &'k str), usize)>,
+    marks: &[bool],
+    number: usize,
+    port: &'k PlacedPort,
+) -> Result<(), AllocError>
+    ensures { OnOk result ((c : ℕ) (text : Name) (ports : List PortAt) → is_marked marks.now c ≡ true → length ports ≡ number → lookup (pair_eq (c, text)) pairs.old.items ≡ position (wires.names_inside c text.now) ports → lookup (pair_eq (c, text)) pairs.new.items ≡ position (wires.names_inside c text.now) (ports ++ port_at port.now ∷ [])) }
+{
+    if is_marked(marks, port.entity) {
+        pairs.push(((port.entity, port.port.name), number))?;
+    }
+    Ok(())
+}
+
+/// The numbers of ports by their names within marked entities.
+fn marked_places<'k>(
     alloc: Global,
     ports: &'k [PlacedPort],
+    marks: &[bool],
 ) -> Result<Places<(usize, &'k str)>, AllocError>
-    ensures { IfOk result (λ places. (c : ℕ) (text : Bor (List ℕ)) → get pair_eq places.numbers (c, text) ≡ position (wires.names_inside c text.now) (ports_view ports.now)) }
+    ensures { IfOk result (λ places. (c : ℕ) (text : Bor (List ℕ)) → is_marked marks.now c ≡ true → get pair_eq places.numbers (c, text) ≡ position (wires.names_inside c text.now) (ports_view ports.now)) }
 {
-    let mut keys = Vec::with_capacity(alloc, ports.len())?;
-    for port in ports {
-        keys.push((port.entity, port.port.name))?;
+    let mut pairs = Vec::new(alloc);
+    for (number, port) in ports.iter().enumerate() {
+        add_inside(&mut pairs, marks, number, port)?;
     }
-    first_places(alloc, &keys)
+    first_numbers(alloc, &pairs)
+}
+
+/// The numbers of ports by their names within entities that have links. No link names another port from inside.
+fn inside_places<'k>(
+    alloc: Global,
+    tables: &'k Tables,
+) -> Result<Places<(usize, &'k str)>, AllocError>
+    ensures { IfOk result (λ places. (c : ℕ) (text : Bor (List ℕ)) → HasLinks (tables_view tables.now).links c → get pair_eq places.numbers (c, text) ≡ position (wires.names_inside c text.now) (tables_view tables.now).ports) }
+{
+    let marks = marks_of(alloc, tables.entities.len(), &tables.links)?;
+    let places = marked_places(alloc, &tables.ports, &marks)?;
+    Ok(places)
 }
 
 fn outside_places<'k>(
@@ -89,7 +152,7 @@ impl<'k, 't, 'a> Names<'k, 't, 'a> {
         ensures tables { IfOk result (λ names. names.tables.now ≡ tables.now) }
         ensures names { IfOk result IsNames }
     {
-        let inside = inside_places(alloc, &tables.ports)?;
+        let inside = inside_places(alloc, tables)?;
         let outside = match outside_places(alloc, &tables.ports, texts) {
             Ok(outside) => outside,
             Err(fault) => {
@@ -113,7 +176,8 @@ impl<'k, 't, 'a> Names<'k, 't, 'a> {
     }
 
     fn port_inside(&self, composite: usize, text: &str) -> Option<usize>
-        requires { IsNames self.now }
+        requires names { IsNames self.now }
+        requires linked { HasLinks (tables_view self.now.tables.now).links composite }
         ensures { result ≡ position (wires.names_inside composite text.now) (tables_view self.now.tables.now).ports }
     {
         self.inside.get(&(composite, text))
@@ -135,7 +199,8 @@ impl<'k, 't, 'a> Names<'k, 't, 'a> {
 
     /// What a link joins, or `None` where it names no port or no relation.
     fn wire(&self, link: &PlacedLink) -> Option<Wire>
-        requires { IsNames self.now }
+        requires names { IsNames self.now }
+        requires link { Contains (tables_view self.now.tables.now).links (link_at link.now) }
         ensures { result ≡ wires.wire_of (tables_view self.now.tables.now).ports (tables_view self.now.tables.now).relations (link_at link.now) }
     {
         let composite = link.composite;
