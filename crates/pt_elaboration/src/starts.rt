@@ -54,6 +54,10 @@ fn add_start(
         begun.push(None)?;
         return Ok(());
     }
+    if !starts.has_tree(number) {
+        begun.push(starts.treeless_actor(alloc, number)?)?;
+        return Ok(());
+    }
     let types = types_of(alloc, typing, number, &entity.ports)?;
     begun.push(starts.actor(alloc, number, &types)?)?;
     Ok(())

@@ -43,7 +43,7 @@ use Rattle.pt_rv_laws.specs.RvActs as rv
 use Rattle.pt_directors.specs.Directors.{Director as DirectorState, of_pn, of_modal, of_rendezvous}
 use Rattle.pt_node.specs.declared.body.Body.{Body}
 use Rattle.pt_node.specs.declared.body.Body.TheVariants.{Actor, Composite}
-use Rattle.pt_node.specs.Recorded.{RecordedPort}
+use Rattle.pt_past.specs.Recorded.{RecordedPort}
 use Rattle.pt_node.specs.Shown.{Shown, AllShown, Branch, none, more, all_of, list_of}
 use Rattle.pt_node.specs.View.{Tree, Trees, core_of, node_of, nodes_of, node_with}
 use Rattle.pt_library.specs.LibraryActor.{rows}

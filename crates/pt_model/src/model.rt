@@ -20,6 +20,7 @@ use pt_net::Net;
 use pt_node::Node;
 use pt_trees::Top;
 use std::alloc::Global;
+use std::mem::ManuallyDrop;
 
 /// The model of a net: the tree of its nodes at their start, and what the job asks of the top.
 #[derive(Drop)]
@@ -59,7 +60,7 @@ pub(crate) fn model_with(alloc: Global, net: &Net, started: &Started) -> Result<
 
 /// The model of the net of a document: its texts are evaluated, its types found, its actors started, its composites planned, and what the job supplies is put to the
 /// inputs of the top. Refuses a net for the first kind of fault that stands: values, guards and actions, types, places, plans, inputs. In the document no link is at
-/// fault.
+/// fault. What its entities started from is kept to the end of the program, as its document is.
 pub fn model_of(alloc: Global, net: &Net) -> Result<Model, DocFault>
     requires { IsNetOfDocument net.now }
     ensures model { IfOk result (λ model. IsModel net.now (shown_node model.top) model.job) }
@@ -69,5 +70,7 @@ pub fn model_of(alloc: Global, net: &Net) -> Result<Model, DocFault>
 {
     ports_are_numbered();
     let started = Started::of(alloc, net)?;
-    model_with(alloc, net, &started)
+    let model = model_with(alloc, net, &started);
+    let _kept = ManuallyDrop::new(started);
+    model
 }

@@ -14,6 +14,10 @@ use pt_document::{Code, DocFault, Entity, Input, Job, refused};
 use pt_json::{Scratch, Unread, Value};
 use pt_value::Text;
 use std::alloc::Global;
+use std::mem::ManuallyDrop;
+
+/// How many bytes a document has at most whose value is kept to the end of the program.
+const MOST_KEPT: usize = 4_194_304;
 
 fn check_version(alloc: Global, field: Option<&Value>) -> Result<(), DocFault>
     ensures { Gives (λ u. u) result (version_at (option_map (λ v. view v.now) field.entry)) }
@@ -90,6 +94,15 @@ fn job_at(alloc: Global, value: &Value) -> Result<Job, DocFault>
     }
 }
 
+/// Lets go of the value of so many bytes. That of few bytes is kept to the end of the program, which takes no time.
+fn let_go(value: Value, length: usize) {
+    if length <= MOST_KEPT {
+        let _kept = ManuallyDrop::new(value);
+    } else {
+        drop(value);
+    }
+}
+
 fn read_exactly(alloc: Global, bytes: &[u8]) -> Result<Job, DocFault>
     ensures job { IfOk result (λ j. IsJobOf bytes.now (job_view j)) }
     // Of the refusals that stand the first one in the order of reading is told.
@@ -97,7 +110,11 @@ fn read_exactly(alloc: Global, bytes: &[u8]) -> Result<Job, DocFault>
 {
     let mut scratch = Scratch::new(alloc);
     match pt_json::read(alloc, bytes, &mut scratch) {
-        Ok(value) => job_at(alloc, &value),
+        Ok(value) => {
+            let job = job_at(alloc, &value);
+            let_go(value, bytes.len());
+            job
+        }
         Err(Unread::Memory) => Err(DocFault::Memory),
         Err(Unread::NoJson) => Err(refused(alloc, Code::Json, ".")),
     }

@@ -6,6 +6,7 @@ pub mod Behind
 pub mod Outward
 pub mod CountLaws
 pub mod Kept
+pub mod Treeless
 pub mod Made
 pub mod PlaceLaws
 pub mod NamedTokens

@@ -1,6 +1,6 @@
 -- What an actor is started from is that of its entity.
 use Rattle.std.proofs.Common.{◌≡◌, ℕ, zero, suc, ◌+◌, ◌<◌, ◌≤◌, List, [], ◌∷◌, length, map, get_or, refl, sym, ap, ap₂, ◌∙◌, arith}
-use Rattle.std.specs.Prelude.{Option, Some, slice_get, count_by}
+use Rattle.std.specs.Prelude.{Option, Some, None, slice_get, count_by}
 use Rattle.std.specs.List.{AllZip, enumerate_from}
 use Rattle.std.proofs.lemmas.Option.{slice_get_within, slice_get-get_or}
 use Rattle.pt_document.specs.Document.{PortTree}
@@ -18,11 +18,12 @@ use Rattle.pt_library.specs.declared.library_actor.LibraryActor.{LibraryActor}
 use Rattle.pt_library.specs.LibraryActor.{start}
 use Rattle.pt_start.specs.declared.starts.Starts.{Starts}
 use Rattle.pt_start.specs.Nested.{AreRound}
-use Rattle.pt_start.specs.Started.{ends_at, counted_port, typed_port, type_at, ArePortTypes, IsActor, IsStart, PortTyping}
+use Rattle.pt_start.specs.Started.{ends_at, counted_port, typed_port, type_at, types_of, given_tree, ArePortTypes, IsActor, IsStart, PortTyping}
 use Rattle.pt_start.specs.PortTypes.{named_types}
 use Rattle.pt_start.specs.Counts.{port_with}
 use Rattle.pt_start.specs.Seen.{IsReady, IsMade}
 use Rattle.pt_start.proofs.Outward.{zip-at, view-at}
+use Rattle.pt_start.proofs.Treeless.{with_types, start-treeless, no-tree}
 
 some-same : {A : Type 0} (x y : A) → Some x ≡ Some y → x ≡ y
 some-same x y e = cc
@@ -93,6 +94,29 @@ module _ (s : Starts) (k : ℕ) (e : NetEntity) (vs : EntityValues) (counts : Li
       let long : length (get_or s.counts.items k []) ≡ length e.ports.items = sized-at (λ (x : NetEntity). length x.ports.items) s.net.now.entities.items s.counts.items k e ready.prepared.sized at in
       let short : i < length (get_or s.counts.items k []) = omega (arith, high, long, map-length port_view e.ports.items) in
       ap (λ (row : List ℕ). get_or row i 0) counts_at ∙ ready.prepared.counts k i short
+
+  -- without a tree it is that of any types
+  pub is-treeless : given_tree vs.parameters.items ≡ None → (found : Option LibraryActor) → found ≡ start params → (typing : PortTyping) → IsStart s.net.now s.values.now typing k found
+  is-treeless none found is typing = record {
+    params = with_types params (types_of typing k (entity_view e));
+    started_from = record {
+      entity = entity_view e;
+      at = view;
+      undirected = ap (λ (d : NetEntityTree). d.director) (sym same-entity) ∙ actor.undirected;
+      held = vs;
+      held_at = held_at;
+      seen = valued-so.around;
+      sees = valued-so.sees;
+      from = record {
+        class_is = made.class_is;
+        values_are = made.values_are valued-so.around valued-so.sees;
+        ports_are = made.ports_are ∙ ports-same s.net.now.channels.items k counts (map port_view e.ports.items) 0 count-is;
+        types_are = refl;
+        tree_is = made.tree_is;
+      };
+    };
+    is = start-treeless params (types_of typing k (entity_view e)) (no-tree params.tree (made.tree_is ∙ none)) ∙ sym is;
+  }
 
   pub is-start : (found : Option LibraryActor) → found ≡ start params → (typing : PortTyping) → ArePortTypes s.net.now typing k types → IsStart s.net.now s.values.now typing k found
   is-start found is typing typed = record {

@@ -1,5 +1,5 @@
 -- What is found under a name, outward from an entity.
-use Rattle.std.specs.Prelude.{◌≡◌, ℕ, ◌+◌, ◌*◌, ◌<◌, List, ◌++◌, length, map, Option, Some, None, option_map}
+use Rattle.std.specs.Prelude.{◌≡◌, ℕ, ◌+◌, ◌*◌, ◌<◌, List, ◌++◌, length, map, Option, Some, None, option_map, slice_get}
 use Rattle.std.specs.List.{enumerate_from}
 use Rattle.pt_datatypes.specs.Datatype.{Datatype}
 use Rattle.pt_value.specs.declared.token.Token.{Token}
@@ -33,6 +33,10 @@ pub record IsReady (s : Starts) : Type 0 where
   pub prepared : IsPrepared s
   pub nested : IsNested (net_view s.net.now)
   pub valued : IsValued (net_view s.net.now) s.values.now
+
+-- the entity of that number has no tree among its values
+abbrev pub IsTreeless : Starts → ℕ → Type 0
+IsTreeless s k = (vs : EntityValues) → slice_get s.values.now.entities.items k ≡ Some vs → given_tree vs.parameters.items ≡ None
 
 abbrev pub number_or_none : Option ℕ → ℕ
 number_or_none None = 0

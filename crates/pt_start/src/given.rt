@@ -11,7 +11,7 @@ ghost use Rattle.pt_start.specs.Own.{own_token};
 use pt_document::Property;
 use pt_language::Expr;
 use pt_scopes::ParameterValue;
-use pt_value::{Text, Token};
+use pt_value::{Text, Token, TokenText};
 use std::alloc::{AllocError, Global};
 
 /// The name of a property.
@@ -67,7 +67,7 @@ fn add_text(
 ) -> Result<(), AllocError>
     ensures { OnOk result (tokens.new.items ≡ tokens.old.items ++ own_token (property_view property.now) (Some Word)) }
 {
-    let text = Text::of(alloc, text_of(property))?;
+    let text = TokenText::of(alloc, text_of(property))?;
     tokens.push((property.name.copy(alloc)?, Token::Text(text)))?;
     Ok(())
 }

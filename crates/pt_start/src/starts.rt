@@ -1,4 +1,4 @@
-ghost use Rattle.std.specs.Prelude.{◌≡◌, ◌++◌, MatchOption, IfOk, OnOk, map, option_map};
+ghost use Rattle.std.specs.Prelude.{◌≡◌, ◌++◌, false, MatchOption, IfOk, OnOk, map, option_map};
 ghost use Rattle.std.specs.List.{filter_map};
 ghost use Rattle.pt_language.specs.Expr.{tree_of};
 ghost use Rattle.pt_document.specs.View.{properties_view};
@@ -7,7 +7,7 @@ ghost use Rattle.pt_scopes.specs.Scopes.{Bindings, net_view};
 ghost use Rattle.pt_start.specs.Nested.{AreRound};
 ghost use Rattle.pt_start.specs.Started as started;
 ghost use Rattle.pt_start.specs.Started.{PortTyping, ArePortTypes, IsActor, IsStart, seen_token, seen_tokens};
-ghost use Rattle.pt_start.specs.Seen.{IsPrepared, IsReady, SeesIn, SeesNothing, IsOutward, IsFound, IsMade, round_of};
+ghost use Rattle.pt_start.specs.Seen.{IsPrepared, IsReady, IsTreeless, SeesIn, SeesNothing, IsOutward, IsFound, IsMade, round_of};
 
 use crate::counts::{Counts, counts_of};
 use crate::frames::{opaque_names, transparent_names};
@@ -179,6 +179,37 @@ impl<'a> Starts<'a> {
             types: PortTypes::of(typed_ports(alloc, &entity.ports, types)?),
             tree,
         })
+    }
+
+    /// Whether an actor is started from a tree, so that the types of its ports matter.
+    pub fn has_tree(&self, number: usize) -> bool
+        requires ready { IsReady self.now }
+        requires actor { IsActor self.now.net.now number }
+        ensures { result ≡ false → IsTreeless self.now number }
+    {
+        given_tree(&self.values.entities[number].parameters).is_some()
+    }
+
+    /// The actor of the entity of this number, which is started from no tree, at its start; none where no library has a start of that.
+    pub fn treeless_actor(
+        &self,
+        alloc: Global,
+        number: usize,
+    ) -> Result<Option<LibraryActor>, AllocError>
+        requires ready { IsReady self.now }
+        requires actor { IsActor self.now.net.now number }
+        requires treeless { IsTreeless self.now number }
+        ensures { IfOk result (λ actor. (typing : PortTyping) → IsStart self.now.net.now self.now.values.now typing number actor) }
+    {
+        let entity = &self.net.entities[number];
+        let params = self.params(
+            alloc,
+            entity,
+            &self.values.entities[number],
+            &self.counts[number],
+            &[],
+        )?;
+        LibraryActor::started(alloc, &params)
     }
 
     /// The actor of the entity of this number, whose ports have these types, at its start; none where no library has a start of
