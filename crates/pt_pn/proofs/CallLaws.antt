@@ -4,7 +4,8 @@ use Rattle.std.specs.List.{All}
 use Rattle.pt_meaning.specs.Tag.{Tag}
 use Rattle.pt_meaning.specs.Streams.{Streams, change_at}
 use Rattle.pt_meaning.specs.Machine.{Need}
-use Rattle.pt_meaning.specs.Process.{Put, puts_of, emptied}
+use Rattle.pt_meaning.specs.Net.{Output}
+use Rattle.pt_meaning.specs.Process.{Put, puts_of, to_each, channels_from, emptied}
 use Rattle.pt_meaning.specs.Running.{total}
 use Rattle.pt_value.specs.declared.token.Token.{Token}
 use Rattle.pt_firing.specs.declared.ask.Ask.TheVariants as ask
@@ -12,8 +13,9 @@ use Rattle.pt_recv.specs.Lines.{list_at, spare_at, pushed}
 use Rattle.pt_pn_laws.specs.State.{Network, Idle, Open, Closed, AllStopped, asked_process, lent_if, least_full, doubled, greatest_of, begun, after_told, after_grow, closed, own_of}
 use Rattle.pt_pn_laws.specs.Lawful.{HasPlaces}
 use Rattle.pt_process.specs.Process.{Standing, arrivals, count_on, once_fired}
+use Rattle.pt_process.proofs.StagedLaws.{fan-puts, each-there}
 use Rattle.pt_pn_work.specs.Core.{State, nobody, state_with, NoneHanded}
-use Rattle.pt_pn_work.proofs.CoreLaws.{placed-at}
+use Rattle.pt_pn_work.proofs.CoreLaws.{placed-at, puts-is}
 use Rattle.pt_pn.specs.declared.pn.Core.TheInside.{Inside}
 use Rattle.pt_pn.specs.Puts.{all_put}
 use Rattle.pt_pn.specs.Core.{IsSound, IsKept, Comes, stage_of, seen_core}
@@ -54,6 +56,10 @@ module _ (c : Inside) (w : IsSound c) (s : State) (v : seen_core c ≡ s) where
   pub puts-there : (i : ℕ) (out : Streams Token) (us : List (Put Token)) → us ≡ puts_of n.plan.net.sources i 0 out → All (λ (u : Put Token). u.channel < length L) us
   puts-there i out us e = subst (λ x. All (λ (u : Put Token). u.channel < length L) x) (sym e) (subst (λ m. All (λ (u : Put Token). u.channel < m) (puts_of n.plan.net.sources i 0 out)) (sym w.kept.lists) (puts-below n.plan.net.sources i 0 out))
 
+  -- the channels at the one port of a process
+  pub fan-there : (i : ℕ) (x : Token) (cs : List ℕ) → cs ≡ channels_from 0 (Output i 0) n.plan.net.sources → All (λ d. d < length L) cs
+  fan-there i x cs e = each-there (λ d. d < length L) x cs (puts-there i ((x ∷ []) ∷ []) (to_each x cs) (fan-puts n.plan.net.sources i x cs e))
+
   -- where memory is wanting after room was made
   pub room-keeps : (L' : Streams Token) (S' P' : List ℕ) → L' ≡ L → length S' ≡ length S → length P' ≡ length P → ((d : ℕ) → get_or P' d 0 ≤ spare_at S' d) → ((d : ℕ) → get_or P d 0 ≤ get_or P' d 0) → IsKept n ps K L' S' P'
   room-keeps L' S' P' l a b r m = subst (λ X. IsKept n ps K X S' P') (sym l) (kept-promised n ps K L S P w.kept S' P' a b r m)
@@ -86,6 +92,9 @@ module _ (c : Inside) (w : IsSound c) (s : State) (v : seen_core c ≡ s) where
 
   pub told-got : (i : ℕ) (need : Need) → asked_process s.stage ≡ Some i → HasPlaces (get_or n.plan.net.places i 0) need → HasPlaces (length (get_or ps i nobody).got) need
   told-got i need a f = subst (λ k. HasPlaces k need) (sym (placed-at n.plan.net.places ps i w.kept.placed (asked-in-net c w s v i a))) f
+
+  pub told-none : (i : ℕ) → asked_process s.stage ≡ Some i → (get_or ps i nobody).puts ≡ []
+  told-none i a = sym (puts-is ps i) ∙ asked-none c w s v i a
 
   pub told-keeps : (i : ℕ) (need : Need) (us : List (Put Token)) (ps' : List Standing) (L' : Streams Token) (S' P' : List ℕ) → asked_process s.stage ≡ Some i → HasPlaces (get_or n.plan.net.places i 0) need → ps' ≡ change_at i (once_fired need us) ps → L' ≡ L → length S' ≡ length S →
       length P' ≡ length P → ((d : ℕ) → get_or P' d 0 ≤ spare_at S' d) → ((d : ℕ) → get_or P d 0 + count_on d us ≤ get_or P' d 0) → IsKept n ps' K L' S' P'

@@ -1,17 +1,17 @@
 -- Which channel grows, by the ranks that are noted.
-use Rattle.std.proofs.Common.{◌≡◌, ◌⊎◌, inl, inr, ℕ, zero, suc, ◌<◌, ◌≤◌, List, [], ◌∷◌, true, false, length, get_or, Option, Some, None, IfSome, IfNone, refl, sym, ap, subst, ◌∙◌, arith}
+use Rattle.std.proofs.Common.{◌≡◌, inl, inr, ℕ, zero, suc, ◌<◌, ◌≤◌, List, [], ◌∷◌, true, false, length, get_or, Option, Some, None, IfSome, IfNone, refl, sym, ap, subst, ◌∙◌, arith}
 use Rattle.pt_meaning.specs.Tag.{Tag, least}
 use Rattle.pt_meaning.specs.Streams.{Streams, at}
 use Rattle.pt_meaning.specs.Process.{Put}
 use Rattle.pt_value.specs.declared.token.Token.{Token}
 use Rattle.pt_pn_laws.specs.State.{Network, least_full, capacity_of, greatest_of}
 use Rattle.pt_process.specs.Process.{Standing}
-use Rattle.pt_pn_work.specs.Core.{State, PutsOn, nobody, puts_of_all}
-use Rattle.pt_pn_work.specs.Least.{IsBest, IsNoWorse}
+use Rattle.pt_pn_work.specs.Core.{State, PutsOn, nobody}
+use Rattle.pt_pn_work.specs.Least.{IsNoWorse}
 use Rattle.pt_pn_work.proofs.CoreLaws.{puts-is, placed-long}
 use Rattle.pt_pn.specs.declared.pn.Core.TheInside.{Inside}
 use Rattle.pt_pn.specs.Waiting.{AwaitsGrowth}
-use Rattle.pt_pn.specs.Noted.{Noted, AwaitsRoom, AwaitsToken, Waits, AreSettled, IsRanked, rank_at, rank_of, ranked}
+use Rattle.pt_pn.specs.Noted.{Noted, AwaitsRoom, Waits, AreSettled, IsRanked, rank_at, rank_of, ranked}
 use Rattle.pt_pn.specs.Core.{IsSound, seen_core}
 use Rattle.pt_pn.proofs.RankLaws.{rank-stays, none-ranked, IsNoLater, least-first}
 use Rattle.pt_pn.proofs.SettledLaws.{room-on, token-on}

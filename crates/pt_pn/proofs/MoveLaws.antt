@@ -2,8 +2,8 @@
 use Rattle.std.proofs.Common.{◌≡◌, ℕ, ◌<◌, List, [], ◌∷◌, ◌++◌, length, Option, Some, None, refl, sym, ap, subst, ◌∙◌}
 use Rattle.pt_firing.specs.declared.ask.Ask.{Ask}
 use Rattle.pt_firing.specs.declared.ask.Ask.TheVariants as ask
-use Rattle.pt_pn_laws.specs.State.{Stage, Open}
-use Rattle.pt_pn_laws.specs.PnActs.{Gives, asking, pn_calls}
+use Rattle.pt_pn_laws.specs.State.{Open}
+use Rattle.pt_pn_laws.specs.PnActs.{asking, pn_calls}
 use Rattle.pt_pn_work.specs.Core.{State}
 use Rattle.pt_pn.specs.Moves.{IsTransfer, MovesBy, Moves, ComesOn}
 use Rattle.pt_pn.specs.Core.{Comes, Looks, GoesOn, IsSomeTransfer}

@@ -1,6 +1,6 @@
 -- The ranks of channels: one of them is changed, and which is the least.
 use Rattle.std.proofs.Common.{◌≡◌, ◌⊎◌, inl, inr, ℕ, zero, suc, ◌<◌, ◌≤◌, List, [], ◌∷◌, Bool, true, false, ◌&&◌, ◌||◌, nat_eq, nat_lt, nat_le, length, set, get_or, Option, Some, None, if◌then◌else◌, refl, sym, ap, ◌∙◌, arith}
-use Rattle.std.proofs.lemmas.Bool.{ltb-false, leb-false, eqb-true, false≢true}
+use Rattle.std.proofs.lemmas.Bool.{leb-false, eqb-true, false≢true}
 use Rattle.std.proofs.lemmas.Bool.Decides.{nat_tests}
 use Rattle.pt_meaning.specs.Tag.{Tag, tag_le, earlier, least}
 use Rattle.pt_pn.specs.Noted.{Noted, rank_of, ranked}

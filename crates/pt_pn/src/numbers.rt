@@ -1,8 +1,8 @@
 // Firings of processes that take and give integers alone, of which no lists of tokens are made.
 use crate::pn::{Core, Stage};
-use crate::processes::{fits, tell_at};
+use crate::processes::{fits, tell_number_at};
 use pt_firing::{IntInputs, Need};
-use pt_process::{promise, stage_number};
+use pt_process::promise_each;
 use std::alloc::{AllocError, Global};
 
 impl Core {
@@ -41,9 +41,9 @@ impl Core {
         if !fits(need, self.places_of(which)) {
             return Err(AllocError);
         }
-        stage_number(alloc, &mut self.staged, &self.network, which, number)?;
-        promise(&mut self.queues, &mut self.promised, &self.staged)?;
-        tell_at(alloc, &mut self.processes, which, need, &mut self.staged)?;
+        let fan = self.network.fan(which, 0);
+        promise_each(&mut self.queues, &mut self.promised, fan)?;
+        tell_number_at(alloc, &mut self.processes, which, need, number, fan)?;
         self.notes.note(process);
         self.stage = Stage::Open;
         Ok(())

@@ -1,5 +1,7 @@
 ghost use Rattle.std.specs.Prelude.{◌≡◌, ◌<◌, [], length, get_or, slice_get, false, true, IfOk, OnOk, OnErr, Some};
 ghost use Rattle.pt_meaning.specs.Streams.{change_at};
+ghost use Rattle.pt_meaning.specs.Process.{to_each};
+ghost use Rattle.pt_value.specs.declared.token.Token.TheVariants.{Int};
 ghost use Rattle.pt_firing.specs.Need.{need_of};
 ghost use Rattle.pt_pn_laws.specs.State.{lacking_place};
 ghost use Rattle.pt_pn_laws.specs.Lawful.{HasPlaces};
@@ -66,6 +68,26 @@ pub(crate) fn tell_at(
     ensures kept { OnErr result (processes.new.items ≡ processes.old.items) }
 {
     processes[process].told(alloc, need, puts)
+}
+
+/// A process has fired, and has this integer to put on each of these channels, and this need. After an `Err` all are as before.
+#[inline(always)]
+pub(crate) fn tell_number_at(
+    alloc: Global,
+    processes: &mut Vec<Process>,
+    process: usize,
+    need: Need<'_>,
+    number: i64,
+    fan: &[u32],
+) -> Result<(), AllocError>
+    requires there { process < length processes.old.items }
+    requires handed { (get_or processes.old.items process nobody).handed ≡ true }
+    requires none { (get_or processes.old.items process nobody).puts ≡ [] }
+    requires places { HasPlaces (length (get_or processes.old.items process nobody).got) (need_of need) }
+    ensures told { OnOk result (processes.new.items ≡ change_at process (once_fired (need_of need.entry) (to_each (Int number) fan.now)) processes.old.items) }
+    ensures kept { OnErr result (processes.new.items ≡ processes.old.items) }
+{
+    processes[process].told_number(alloc, need, number, fan)
 }
 
 /// Whether a need is a count for each of so many places, or none.

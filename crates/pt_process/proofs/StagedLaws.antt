@@ -87,6 +87,32 @@ promised-more us k u P Q R h e f g m d = subst (λ j. get_or P d 0 + count_on d 
         let b = g d in
         omega (arith, n, a, b)
 
+count-each : (x : Token) (d : ℕ) (cs : List ℕ) (k : ℕ) → k < length cs → count_on d (to_each x (take (suc k) cs)) ≡ count_on d (to_each x (take k cs)) + one_if (nat_eq (get_or cs k 0) d)
+count-each x d [] k h = absurd (omega (arith, h))
+count-each x d (c ∷ cs) zero h = plus (one_if (nat_eq c d))
+  where
+    plus : (n : ℕ) → n + 0 ≡ 0 + n
+    plus n = omega arith
+count-each x d (c ∷ cs) (suc k) h = let r = count-each x d cs k (omega (arith, h)) in omega (arith, r)
+
+-- the same of one channel more of a port
+pub each-promised : (x : Token) (cs : List ℕ) (k : ℕ) (P Q R : List ℕ) → k < length cs → ((d : ℕ) → get_or P d 0 + count_on d (to_each x (take k cs)) ≤ get_or Q d 0) → ((d : ℕ) → get_or Q d 0 ≤ get_or R d 0) → get_or Q (get_or cs k 0) 0 + 1 ≤ get_or R (get_or cs k 0) 0 →
+    (d : ℕ) → get_or P d 0 + count_on d (to_each x (take (k + 1) cs)) ≤ get_or R d 0
+each-promised x cs k P Q R h f g m d = subst (λ j. get_or P d 0 + count_on d (to_each x (take j cs)) ≤ get_or R d 0) (sym (add-one k)) (by (nat_eq (get_or cs k 0) d) refl)
+  where
+    by : (b : Bool) → nat_eq (get_or cs k 0) d ≡ b → get_or P d 0 + count_on d (to_each x (take (suc k) cs)) ≤ get_or R d 0
+    by true w =
+        let z : get_or cs k 0 ≡ d = grind (arith, nat_tests) in
+        let n = count-each x d cs k h ∙ ap (λ b. count_on d (to_each x (take k cs)) + one_if b) w in
+        let a = f d in
+        let b = subst (λ j. get_or Q j 0 + 1 ≤ get_or R j 0) z m in
+        omega (arith, n, a, b)
+    by false w =
+        let n = count-each x d cs k h ∙ ap (λ b. count_on d (to_each x (take k cs)) + one_if b) w in
+        let a = f d in
+        let b = g d in
+        omega (arith, n, a, b)
+
 -- room for one token more on a channel
 pub raised-room : (P S : List ℕ) (c n : ℕ) → length P ≡ length S → ((d : ℕ) → get_or P d 0 ≤ spare_at S d) → (d : ℕ) → get_or (set P c n) d 0 ≤ spare_at (slice_set S c (max n (spare_at S c))) d
 raised-room P S c n e h d = both P S c d e (h d)
@@ -140,6 +166,15 @@ arrivals-all ss c inputs now all h e = sym (append-nil now) ∙ ap (λ v. now ++
     past (x ∷ ss) (suc c) h = past ss c (omega (arith, h))
 
 -- one token on the one port
+pub fan-puts : (ss : List Source) (i : ℕ) (x : Token) (cs : List ℕ) → cs ≡ channels_from 0 (Output i 0) ss → to_each x cs ≡ puts_of ss i 0 ((x ∷ []) ∷ [])
+fan-puts ss i x cs e =
+    ap (λ d. to_each x d) e ∙ sym (append-nil (to_each x (channels_from 0 (Output i 0) ss))) ∙ sym (append-nil (to_each x (channels_from 0 (Output i 0) ss) ++ []))
+
 pub number-puts : (ss : List Source) (i : ℕ) (x : Token) (now after : List (Put Token)) (cs : List ℕ) → now ≡ [] → cs ≡ channels_from 0 (Output i 0) ss → after ≡ now ++ to_each x cs → after ≡ puts_of ss i 0 ((x ∷ []) ∷ [])
-number-puts ss i x now after cs z e f =
-    f ∙ ap₂ (λ v d. v ++ to_each x d) z e ∙ sym (append-nil (to_each x (channels_from 0 (Output i 0) ss))) ∙ sym (append-nil (to_each x (channels_from 0 (Output i 0) ss) ++ []))
+number-puts ss i x now after cs z e f = f ∙ ap (λ v. v ++ to_each x cs) z ∙ fan-puts ss i x cs e
+
+-- of puts of a token on each of these channels
+pub each-there : (P : ℕ → Type 0) (x : Token) (cs : List ℕ) → All (λ (u : Put Token). P u.channel) (to_each x cs) → All P cs
+each-there P x [] a k d h = absurd (omega (arith, h))
+each-there P x (c ∷ cs) a zero d h = a 0 (record { channel = 0; token = x }) (omega arith)
+each-there P x (c ∷ cs) a (suc k) d h = each-there P x cs (λ j u l. a (suc j) u (omega (arith, l))) k d (omega (arith, h))

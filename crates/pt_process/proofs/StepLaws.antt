@@ -1,5 +1,5 @@
 -- What the calls of a process keep, and what they make of what contracts see.
-use Rattle.std.proofs.Common.{◌≡◌, ◌⊎◌, inl, inr, ℕ, zero, suc, ◌+◌, ◌<◌, ◌≤◌, List, [], ◌∷◌, ◌++◌, Bool, true, false, length, drop, set, get_or, Option, Some, None, refl, sym, ap, ap₂, subst, ◌∙◌, arith, zero-add, length-set}
+use Rattle.std.proofs.Common.{◌≡◌, ◌⊎◌, inl, inr, ℕ, zero, suc, ◌+◌, ◌<◌, ◌≤◌, List, [], ◌∷◌, ◌++◌, Bool, true, false, length, set, get_or, Option, Some, None, refl, sym, ap, ap₂, subst, ◌∙◌, arith, zero-add}
 use Rattle.pt_meaning.specs.Streams.{Streams, at, change_at}
 use Rattle.pt_meaning.specs.Machine.{Need, Counts, Takes, front}
 use Rattle.pt_meaning.specs.Process.{Put, lacking, emptied}
@@ -12,7 +12,7 @@ use Rattle.pt_process.specs.declared.need.KeptNeed.TheVariants as kept
 use Rattle.pt_process.specs.declared.process.Event.{Event}
 use Rattle.pt_process.specs.declared.process.Event.TheVariants as event
 use Rattle.pt_process.specs.declared.process.Process.TheInside.{Inside}
-use Rattle.pt_process.specs.Process.{Standing, IsSound, GathersBy, Gathers, HasOne, DoesNext, event_by, lacks_one, seen_process, need_kept, got_in, puts_in, with_token, with_put_made, with_handed, renewed}
+use Rattle.pt_process.specs.Process.{Standing, IsSound, GathersBy, Gathers, HasOne, DoesNext, event_by, lacks_one, seen_process, need_kept, got_in, puts_in, with_token, with_handed, renewed, once_fired}
 use Rattle.pt_process.proofs.ProcessLaws.{got-lines, got-row, got-places, lines-long, line-spare, line-more, lacks-there, gathers-more, gets-next, fires-next}
 
 pub not-handed : (p : Inside) (s : Standing) → seen_process p ≡ s → s.handed ≡ false → p.is_handed ≡ false
@@ -45,12 +45,6 @@ front-gathers p s ns L full w v h n e f =
 pub lines-handed : (need : KeptNeed) (full : ℕ) (row : Streams Token) (L : List (Spared Token)) → (need ≡ kept.Over) ⊎ ((ns : List ℕ) × (need ≡ kept.Counts ns)) → Gathers need true full row L
 lines-handed need full row L (inl n) = subst (λ m. Gathers m true full row L) (sym n) tt
 lines-handed need full row L (inr n) = subst (λ m. Gathers m true full row L) (sym n.1) (λ h. absurd (cc))
-
--- and of no need is anything known of the lines then
-pub handed-free : (need : KeptNeed) (handed : Bool) (full : ℕ) (row : Streams Token) (L M : List (Spared Token)) → handed ≡ true → Gathers need handed full row L → Gathers need handed full row M
-handed-free kept.Over handed full row L M h g = tt
-handed-free (kept.Counts ns) handed full row L M h g = λ f. absurd (let z : true ≡ false = sym h ∙ f in cc)
-handed-free kept.One handed full row L M h g = g
 
 -- the place at which a process gets next that gathers by counts
 pub record GetsThere (p : Inside) (place : ℕ) : Type 0 where
@@ -157,11 +151,6 @@ one-handed-gathers p w n = subst (λ m. Gathers m true p.full p.row.items p.line
 pub lent-is : (p : Inside) (s : Standing) → seen_process p ≡ s → s.handed ≡ true → p.row.items ≡ s.got
 lent-is p s v h = sym (got-row p.need p.is_handed p.row.items p.lines.items (is-handed p s v h)) ∙ ap (λ (t : Standing). t.got) v
 
--- where its next put is made
-pub put-made : (p : Inside) (s : Standing) (us : List (Put Token)) → seen_process p ≡ s → us ≡ drop 1 (puts_in p.puts.items) →
-    (let t : Standing = record { need = need_kept p.need; got = got_in p.need p.is_handed p.row.items p.lines.items; puts = us; handed = p.is_handed } in t) ≡ with_put_made s
-put-made p s us v e = ap (λ w. let t : Standing = record { need = need_kept p.need; got = got_in p.need p.is_handed p.row.items p.lines.items; puts = w; handed = p.is_handed } in t) e ∙ ap (λ (t : Standing). with_put_made t) v
-
 -- what it does next
 module _ (p : Inside) (s : Standing) (ns : List ℕ) (w : IsSound p) (v : seen_process p ≡ s) (h : s.handed ≡ false) (n : p.need ≡ kept.Counts ns) (u : s.puts ≡ []) where
   is-got : lists_of p.lines.items ≡ s.got
@@ -205,6 +194,10 @@ pub renewed-is : (p : Inside) (s : Standing) (need : KeptNeed) (m : Need) (X : S
 renewed-is p s need m X e n v =
     ap₂ (λ w Y. let t : Standing = record { need = w; got = Y; puts = puts_in p.puts.items; handed = false } in t) n e ∙
     ap (λ us. let t : Standing = record { need = m; got = emptied s.got; puts = us; handed = false } in t) (ap (λ (t : Standing). t.puts) v)
+
+-- where it has these puts to make then
+pub told-is : (p : Inside) (s : Standing) (m : Need) (us vs : List (Put Token)) (t : Standing) → seen_process p ≡ s → us ≡ vs → t ≡ renewed m (let r : Standing = record { need = need_kept p.need; got = got_in p.need p.is_handed p.row.items p.lines.items; puts = us; handed = p.is_handed } in r) → t ≡ once_fired m vs s
+told-is p s m us vs t v e f = f ∙ ap₂ (λ (r : Standing) ws. once_fired m ws r) v e
 
 pub got-long : (p : Inside) (s : Standing) → IsSound p → seen_process p ≡ s → length s.got ≡ length p.lines.items
 got-long p s w v = sym (ap (λ (t : Standing). length t.got) v) ∙ got-places p.need p.is_handed p.row.items p.lines.items w.row

@@ -12,7 +12,6 @@ mod renew;
 mod staged;
 
 pub use network::Network;
-pub use numbers::stage_number;
 pub use plan::{CorePlan, need_copy};
 pub use process::{Event, Process, StagedPut};
-pub use staged::{promise, stage_inputs, stage_outputs};
+pub use staged::{promise, promise_each, stage_inputs, stage_outputs};

@@ -1,21 +1,24 @@
 // Firings of processes that take and give integers alone, of which no lists of tokens are made.
-ghost use Rattle.std.specs.Prelude.{◌≡◌, ◌∷◌, [], IfSome, IsTrue, OnOk};
+ghost use Rattle.std.specs.Prelude.{◌≡◌, ◌∷◌, [], ◌++◌, IfSome, IsTrue, OnOk, OnErr};
 ghost use Rattle.pt_firing.specs.IntInputs.{one_at_each};
-ghost use Rattle.pt_meaning.specs.Process.{puts_of};
+ghost use Rattle.pt_meaning.specs.Process.{to_each};
 ghost use Rattle.pt_value.specs.declared.token.Token.TheVariants.{Int};
 ghost use Rattle.pt_process.specs.Process.{puts_in};
 
-use crate::network::Network;
 use crate::process::{Process, StagedPut};
-use crate::staged::stage_token;
-use pt_firing::{IntInputs, Tokens};
+use pt_firing::{IntInputs, Need, Tokens};
 use pt_value::Token;
 use std::alloc::{AllocError, Global};
 use std::collections::VecDeque;
 use std::slice;
 
 impl Process {
-    ghost use Rattle.std.specs.Prelude.{◌≡◌, true, IfSome};
+    ghost use Rattle.std.specs.Prelude.{◌≡◌, [], length, true, IfSome, OnOk, OnErr};
+    ghost use Rattle.pt_meaning.specs.Process.{to_each};
+    ghost use Rattle.pt_firing.specs.Need.{need_of};
+    ghost use Rattle.pt_value.specs.declared.token.Token.TheVariants.{Int};
+    ghost use Rattle.pt_pn_laws.specs.Lawful.{HasPlaces};
+    ghost use Rattle.pt_process.specs.Process.{once_fired};
 
     /// What it has gathered, where that is one integer at each place. `row` is a buffer. `None` says nothing of it.
     #[inline(always)]
@@ -25,23 +28,62 @@ impl Process {
     {
         int_inputs_of(&self.row, row)
     }
+
+    /// Once it has fired it has this integer to put on each of these channels, and this need. After an `Err` it is as before.
+    #[inline(always)]
+    pub fn told_number(
+        &mut self,
+        alloc: Global,
+        need: Need<'_>,
+        number: i64,
+        fan: &[u32],
+    ) -> Result<(), AllocError>
+        requires handed { self.old.handed ≡ true }
+        requires none { self.old.puts ≡ [] }
+        requires places { HasPlaces (length self.old.got) (need_of need) }
+        ensures told { OnOk result (self.new ≡ once_fired (need_of need.entry) (to_each (Int number) fan.now) self.old) }
+        ensures kept { OnErr result (self.new ≡ self.old) }
+    {
+        put_on_each(&mut self.puts, number, fan)?;
+        match self.renew(alloc, need) {
+            Ok(()) => Ok(()),
+            Err(fault) => {
+                self.puts.clear();
+                Err(fault)
+            }
+        }
+    }
 }
 
-/// Stages the puts of a process that gave an integer on its one port.
+/// Puts an integer on each of these channels, where there was no put before. After an `Err` there is none.
 #[inline(always)]
-pub fn stage_number(
-    alloc: Global,
-    staged: &mut VecDeque<StagedPut>,
-    network: &Network,
-    process: usize,
-    number: i64,
-) -> Result<(), AllocError>
-    ensures { OnOk result (puts_in staged.new.items ≡ puts_of network.now.plan.net.sources process 0 ((Int number ∷ []) ∷ [])) }
+fn put_on_each(puts: &mut VecDeque<StagedPut>, number: i64, fan: &[u32]) -> Result<(), AllocError>
+    requires { puts_in puts.old.items ≡ [] }
+    ensures put { OnOk result (puts_in puts.new.items ≡ to_each (Int number) fan.now) }
+    ensures none { OnErr result (puts_in puts.new.items ≡ []) }
 {
-    staged.clear();
-    let token = Token::Int(number);
-    stage_token(alloc, staged, &token, network.fan(process, 0))?;
+    for channel in fan {
+        match put_on(puts, number, *channel) {
+            Ok(()) => {}
+            Err(fault) => {
+                puts.clear();
+                return Err(fault);
+            }
+        }
+    }
     Ok(())
+}
+
+/// Puts an integer on a channel.
+#[inline(always)]
+fn put_on(puts: &mut VecDeque<StagedPut>, number: i64, channel: u32) -> Result<(), AllocError>
+    ensures { OnOk result (puts_in puts.new.items ≡ puts_in puts.old.items ++ to_each (Int number) (channel ∷ [])) }
+{
+    let token = Token::Int(number);
+    match puts.push_back(StagedPut { channel, token }) {
+        Ok(()) => Ok(()),
+        Err(_) => Err(AllocError),
+    }
 }
 
 /// What is in these lists, where each has one integer. `row` is a buffer for several.

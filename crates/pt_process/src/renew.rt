@@ -58,7 +58,7 @@ impl Process {
 
     /// It has used what it gathered, and has this need. After an `Err` it is as before.
     #[inline(always)]
-    fn renew(&mut self, alloc: Global, need: Need<'_>) -> Result<(), AllocError>
+    pub(crate) fn renew(&mut self, alloc: Global, need: Need<'_>) -> Result<(), AllocError>
         requires handed { self.old.handed ≡ true }
         requires places { HasPlaces (length self.old.got) (need_of need) }
         ensures renewed { OnOk result (self.new ≡ renewed (need_of need.entry) self.old) }

@@ -4,6 +4,7 @@ ghost use Rattle.pt_meaning.specs.Streams.{at};
 ghost use Rattle.pt_meaning.specs.Kahn.{arrival};
 ghost use Rattle.pt_meaning.specs.Process.{puts_of, puts_of_port, to_each};
 ghost use Rattle.pt_core.specs.Source.{source_of};
+ghost use Rattle.pt_value.specs.declared.token.Token.{Token};
 ghost use Rattle.pt_recv.specs.Lines.{spare_at};
 ghost use Rattle.pt_process.specs.Process.{puts_in, arrivals};
 ghost use Rattle.pt_process.specs.Process.{count_on};
@@ -154,6 +155,29 @@ pub fn promise(
     for k in 0..staged.len() {
         let channel = staged[k].channel;
         promise_one(queues, promised, channel)?;
+    }
+    Ok(())
+}
+
+/// Makes room for one token more on each of these channels, beside what was promised before.
+pub fn promise_each(
+    queues: &mut Channels,
+    promised: &mut Vec<usize>,
+    fan: &[u32],
+) -> Result<(), AllocError>
+    requires there { All (λ channel. channel < length queues.old.lists) fan.now }
+    requires counted { length promised.old.items ≡ length queues.old.lists }
+    requires spares { length queues.old.spares ≡ length queues.old.lists }
+    requires room { (d : ℕ) → get_or promised.old.items d 0 ≤ spare_at queues.old.spares d }
+    ensures lists { queues.new.lists ≡ queues.old.lists }
+    ensures spares { length queues.new.spares ≡ length queues.old.spares }
+    ensures counted { length promised.new.items ≡ length promised.old.items }
+    ensures room { (d : ℕ) → get_or promised.new.items d 0 ≤ spare_at queues.new.spares d }
+    ensures kept { (d : ℕ) → get_or promised.old.items d 0 ≤ get_or promised.new.items d 0 }
+    ensures promised { OnOk result ((x : Token) (d : ℕ) → get_or promised.old.items d 0 + count_on d (to_each x fan.now) ≤ get_or promised.new.items d 0) }
+{
+    for channel in fan {
+        promise_one(queues, promised, *channel)?;
     }
     Ok(())
 }

@@ -1,4 +1,4 @@
-use Rattle.std.proofs.Common.{[], ◌∷◌, length, false, ap, sym, subst, ◌∙◌}
+use Rattle.std.proofs.Common.{length, false, ap, sym, subst, ◌∙◌}
 use Rattle.pt_pn_laws.specs.Lawful.{HasPlaces}
 use Rattle.pt_process.specs.Process.{Gathers, HasRooms, got_in, need_kept}
 use Rattle.pt_process.proofs.RoomLaws.{again-gather, again-got}

@@ -3,7 +3,7 @@ use Rattle.pt_firing.specs.Need.{need_of}
 use Rattle.pt_pn_laws.specs.Lawful.{HasPlaces}
 use Rattle.pt_process.specs.Process.{HasRooms, got_in, need_kept}
 use Rattle.pt_process.proofs.RoomLaws.{are-empty, rooms-gather, rooms-renewed, places-kept}
-use Rattle.pt_process.proofs.StepLaws.{renewed-is, got-long, is-handed, handed-free}
+use Rattle.pt_process.proofs.StepLaws.{renewed-is, got-long}
 use Rattle.pt_process.proofs.process.Process.need_now.Goals as goal
 
 pub kept_need-requires : goal.kept_need-requires
