@@ -5,6 +5,7 @@ ghost use Rattle.pt_lib_flow.specs.FlowActor as flow_actor;
 ghost use Rattle.pt_lib_flow.specs.FlowActor.{class_of, start_as, start, outputs, rate, is_steady};
 
 use crate::expression::Expression;
+use crate::ones::stretch_of_ones;
 use pt_firing::{Actor, Fires, Inputs, IntInputs, IntRows, Need, Partial, Step, strict_early};
 use pt_flow_base::{Params, has_no_places};
 use pt_flow_numbers::{
@@ -341,31 +342,28 @@ impl FlowActor {
     pub fn stretch(&mut self, inputs: &IntRows<'_>, rate: usize, given: &mut Vec<i64>) -> usize
         ensures { GivesStretch flow_actor.step self.old inputs.now rate result given.new.items self.new }
     {
-        if let FlowActor::UpSample(actor) = self {
-            return actor.stretch(inputs, rate, given);
+        match self {
+            FlowActor::AbsoluteValue(actor) => stretch_of_ones(actor, inputs, rate, given),
+            FlowActor::Accumulator(actor) => stretch_of_ones(actor, inputs, rate, given),
+            FlowActor::AddSubtract(actor) => stretch_of_ones(actor, inputs, rate, given),
+            FlowActor::Const(actor) => stretch_of_ones(actor, inputs, rate, given),
+            FlowActor::Counter(actor) => stretch_of_ones(actor, inputs, rate, given),
+            FlowActor::DownSample(actor) => stretch_of_ones(actor, inputs, rate, given),
+            FlowActor::Extreme(actor) => stretch_of_ones(actor, inputs, rate, given),
+            FlowActor::MultiplyDivide(actor) => stretch_of_ones(actor, inputs, rate, given),
+            FlowActor::Ramp(actor) => stretch_of_ones(actor, inputs, rate, given),
+            FlowActor::SampleDelay(actor) => stretch_of_ones(actor, inputs, rate, given),
+            FlowActor::Scale(actor) => stretch_of_ones(actor, inputs, rate, given),
+            FlowActor::Sequence(actor) => stretch_of_ones(actor, inputs, rate, given),
+            FlowActor::UpSample(actor) => actor.stretch(inputs, rate, given),
+            FlowActor::BooleanSelect(_)
+            | FlowActor::BooleanSwitch(_)
+            | FlowActor::Expression(_)
+            | FlowActor::Repeat(_) => {
+                given.clear();
+                0
+            }
         }
-        self.stretch_of_ones(inputs, rate, given)
-    }
-
-    /// The same by firings that give one integer each.
-    fn stretch_of_ones(&mut self, inputs: &IntRows<'_>, rate: usize, given: &mut Vec<i64>) -> usize
-        ensures { GivesStretch flow_actor.step self.old inputs.now rate result given.new.items self.new }
-    {
-        given.clear();
-        let firings = inputs.firings();
-        if rate != 1 {
-            return 0;
-        }
-        if given.reserve(firings).is_err() {
-            return 0;
-        }
-        for k in 0..firings {
-            let Some(number) = self.number(&inputs.firing(k)) else {
-                return k;
-            };
-            given.push_reserved(number);
-        }
-        firings
     }
 }
 

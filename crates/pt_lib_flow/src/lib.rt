@@ -4,6 +4,7 @@
 mod expression;
 mod flow_actor;
 mod laws;
+mod ones;
 
 pub use expression::Expression;
 pub use flow_actor::{Class, FlowActor};

@@ -1,0 +1,124 @@
+ghost use Rattle.pt_flow_base.specs.Number.{GivesNumber, GivesStretch};
+
+use pt_firing::{Fires, IntInputs, IntRows};
+use pt_flow_numbers::{
+    AbsoluteValue, Accumulator, AddSubtract, Counter, Extreme, MultiplyDivide, Ramp, Scale,
+};
+use pt_flow_streams::{Const, DownSample, SampleDelay, Sequence};
+
+/// A class whose firings may give one integer each.
+pub(crate) trait GivesOne: Fires {
+    /// Makes the firing where it gives one integer, and nothing else. Else it makes none.
+    fn one(&mut self, inputs: &IntInputs<'_>) -> Option<i64>
+        ensures { GivesNumber Self.step self.old inputs.now result self.new };
+}
+
+/// Makes the first firings of a stretch, one after another, where each gives one integer, and tells how many. `given` has the integers then, in order.
+pub(crate) fn stretch_of_ones<A: GivesOne>(
+    actor: &mut A,
+    inputs: &IntRows<'_>,
+    rate: usize,
+    given: &mut Vec<i64>,
+) -> usize
+    ensures { GivesStretch A.step actor.old inputs.now rate result given.new.items actor.new }
+{
+    given.clear();
+    let firings = inputs.firings();
+    if rate != 1 {
+        return 0;
+    }
+    if given.reserve(firings).is_err() {
+        return 0;
+    }
+    for k in 0..firings {
+        let Some(number) = actor.one(&inputs.firing(k)) else {
+            return k;
+        };
+        given.push_reserved(number);
+    }
+    firings
+}
+
+impl GivesOne for AbsoluteValue {
+    #[inline(always)]
+    fn one(&mut self, inputs: &IntInputs<'_>) -> Option<i64> {
+        self.number(inputs)
+    }
+}
+
+impl GivesOne for Accumulator {
+    #[inline(always)]
+    fn one(&mut self, inputs: &IntInputs<'_>) -> Option<i64> {
+        self.number(inputs)
+    }
+}
+
+impl GivesOne for AddSubtract {
+    #[inline(always)]
+    fn one(&mut self, inputs: &IntInputs<'_>) -> Option<i64> {
+        self.number(inputs)
+    }
+}
+
+impl GivesOne for Const {
+    #[inline(always)]
+    fn one(&mut self, inputs: &IntInputs<'_>) -> Option<i64> {
+        self.number(inputs)
+    }
+}
+
+impl GivesOne for Counter {
+    #[inline(always)]
+    fn one(&mut self, inputs: &IntInputs<'_>) -> Option<i64> {
+        self.number(inputs)
+    }
+}
+
+impl GivesOne for DownSample {
+    #[inline(always)]
+    fn one(&mut self, inputs: &IntInputs<'_>) -> Option<i64> {
+        self.number(inputs)
+    }
+}
+
+impl GivesOne for Extreme {
+    #[inline(always)]
+    fn one(&mut self, inputs: &IntInputs<'_>) -> Option<i64> {
+        self.number(inputs)
+    }
+}
+
+impl GivesOne for MultiplyDivide {
+    #[inline(always)]
+    fn one(&mut self, inputs: &IntInputs<'_>) -> Option<i64> {
+        self.number(inputs)
+    }
+}
+
+impl GivesOne for Ramp {
+    #[inline(always)]
+    fn one(&mut self, inputs: &IntInputs<'_>) -> Option<i64> {
+        self.number(inputs)
+    }
+}
+
+impl GivesOne for SampleDelay {
+    #[inline(always)]
+    fn one(&mut self, inputs: &IntInputs<'_>) -> Option<i64> {
+        self.number(inputs)
+    }
+}
+
+impl GivesOne for Scale {
+    #[inline(always)]
+    fn one(&mut self, inputs: &IntInputs<'_>) -> Option<i64> {
+        self.number(inputs)
+    }
+}
+
+impl GivesOne for Sequence {
+    #[inline(always)]
+    fn one(&mut self, inputs: &IntInputs<'_>) -> Option<i64> {
+        self.number(inputs)
+    }
+}
