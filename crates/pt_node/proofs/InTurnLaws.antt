@@ -1,14 +1,13 @@
 -- Firings that are noted and recorded together, as they are one after another.
-use Rattle.std.proofs.Common.{◌≡◌, ℕ, ℤ, zero, suc, ◌+◌, ◌*◌, ◌≤◌, List, [], ◌∷◌, ◌++◌, length, take, drop, map, Some, true, refl, ap, ap₂, sym, ◌∙◌, arith, append_assoc}
+use Rattle.std.proofs.Common.{◌≡◌, ℕ, ℤ, zero, suc, ◌+◌, ◌*◌, List, [], ◌∷◌, ◌++◌, length, take, drop, map, Some, true, refl, ap, ap₂, sym, ◌∙◌, arith, append_assoc}
 use Rattle.std.proofs.lemmas.List.{append-nil, map-append, take_all}
 use Rattle.pt_meaning.specs.Basics.{Tag, Streams, at, with_tag}
-use Rattle.pt_meaning.specs.Tree as tree
 use Rattle.pt_value.specs.declared.token.Token.{Token}
 use Rattle.pt_value.specs.declared.token.Token.TheVariants.{Int}
-use Rattle.pt_node.specs.Recorded.{RecordedPort, noting, recording}
+use Rattle.pt_past.specs.Recorded.{RecordedPort, noting, recording}
 use Rattle.pt_node.specs.Shown.{Shown, AllShown, Frame, Branch}
 use Rattle.pt_node.specs.Firing.{noted, recorded, recorded_times, recorded_in_turn}
-use Rattle.pt_node.proofs.RecordedLaws.{with_tag-append}
+use Rattle.pt_past.proofs.RecordedLaws.{with_tag-append}
 
 -- a port on which these tokens were recorded besides
 abbrev recorded_with : Tag → List Token → RecordedPort → RecordedPort

@@ -1,5 +1,3 @@
-pub mod RecordedLaws
-pub mod MeetingsLaws
 pub mod Link
 pub mod OutlineLaws
 pub mod UnmetLaws

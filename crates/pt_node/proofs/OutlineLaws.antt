@@ -2,7 +2,7 @@
 use Rattle.std.proofs.Common.{◌≡◌, List, [], ◌∷◌, map, refl, sym, ap, ◌∙◌}
 use Rattle.pt_meaning.specs.Basics.{Tag, Streams}
 use Rattle.pt_value.specs.declared.token.Token.{Token}
-use Rattle.pt_node.specs.Recorded.{RecordedPort, noting, recording, unnoted}
+use Rattle.pt_past.specs.Recorded.{RecordedPort, noting, recording, unnoted}
 use Rattle.pt_node.specs.Shown.{Shown, Branch}
 use Rattle.pt_node.specs.Firing.{noted, bare, recorded}
 use Rattle.pt_node.specs.View.{heading_of, maximum_in, Named, outline_of, outlines_of}

@@ -14,10 +14,10 @@ use Rattle.pt_node.specs.Acts.{acts}
 use Rattle.pt_node.specs.Shown.{Shown, AllShown, all_of}
 use Rattle.pt_node.specs.View.{Tree, Trees, Outlines, with, node_with, nodes_of, maximum_in, kept_of, kepts_of, outline_of, outlines_of, count_of, counts_of}
 use Rattle.pt_node.specs.Live.{IsReady, IsReadyBody, AllFit}
-use Rattle.pt_node.specs.Meetings.{Serves}
+use Rattle.pt_past.specs.Meetings.{Serves}
 use Rattle.pt_node.specs.Reset.{WasReset, WereReset, BodyReset, KeepsRecords, KeepRecords, ResetTo}
 use Rattle.pt_node.proofs.ActsLaws.{acts-are-lawful}
-use Rattle.pt_node.proofs.MeetingsLaws.{serves-none}
+use Rattle.pt_past.proofs.MeetingsLaws.{serves-none}
 
 -- one by one
 pub reset-none : (ss : List Shown) → ResetTo 0 ss ss

@@ -3,7 +3,7 @@ use Rattle.std.specs.Prelude.{ℕ, zero, suc, ◌+◌, List, true, Some, map}
 use Rattle.pt_meaning.specs.Basics.{Tag, Streams}
 use Rattle.pt_meaning.specs.Tree as tree
 use Rattle.pt_value.specs.declared.token.Token.{Token}
-use Rattle.pt_node.specs.Recorded.{RecordedPort, noting, recording, unnoted}
+use Rattle.pt_past.specs.Recorded.{RecordedPort, noting, recording, unnoted}
 use Rattle.pt_node.specs.Shown.{Shown, Branch}
 
 -- the node with other records

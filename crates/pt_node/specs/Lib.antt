@@ -1,6 +1,4 @@
 pub mod Acts
-pub mod Recorded
-pub mod Meetings
 pub mod Shown
 pub mod View
 pub mod Live

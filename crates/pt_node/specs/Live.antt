@@ -9,7 +9,7 @@ use Rattle.pt_library.specs.LibraryActor as library
 use Rattle.pt_node.specs.declared.body.Body.{Body}
 use Rattle.pt_node.specs.declared.body.Body.TheVariants.{Actor, Composite}
 use Rattle.pt_node.specs.Acts.{acts}
-use Rattle.pt_node.specs.Meetings.{Serves}
+use Rattle.pt_past.specs.Meetings.{Serves}
 use Rattle.pt_node.specs.Shown.{Frame, Shown, AllShown, Branch, none, more}
 use Rattle.pt_node.specs.View.{nodes_of}
 

@@ -3,7 +3,7 @@ use Rattle.std.specs.Prelude.{◌≡◌, ℕ, zero, suc, List, [], ◌∷◌, Op
 use Rattle.pt_meaning.specs.Tree.{Past, forgotten, reset_of, reset_all}
 use Rattle.pt_records.specs.Kept.{Made}
 use Rattle.pt_node.specs.declared.body.Body.{Body}
-use Rattle.pt_node.specs.Meetings.{Serves}
+use Rattle.pt_past.specs.Meetings.{Serves}
 use Rattle.pt_node.specs.Shown.{Shown, AllShown}
 use Rattle.pt_node.specs.View.{node_with, node_of, nodes_of, kept_of, kepts_of, outline_of, outlines_of, count_of, counts_of}
 use Rattle.pt_node.specs.Live.{IsLive, IsReadyBody, AllFit, met_in}

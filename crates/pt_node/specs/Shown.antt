@@ -6,7 +6,7 @@ use Rattle.pt_node.specs.declared.body.Body.{Body}
 use Rattle.pt_node.specs.declared.node.Node.{Node, out-Node}
 use Rattle.pt_node.specs.declared.node.Node.TheFolds.{fold-Node}
 use Rattle.pt_node.specs.declared.node.Node.TheOpen as opens
-use Rattle.pt_node.specs.Recorded.{RecordedPort}
+use Rattle.pt_past.specs.Recorded.{RecordedPort}
 
 -- a node without its children
 pub record Frame : Type 0 where

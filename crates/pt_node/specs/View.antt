@@ -8,7 +8,7 @@ use Rattle.pt_node.specs.declared.body.Body.{Body}
 use Rattle.pt_node.specs.declared.body.Body.TheVariants.{Actor, Composite}
 use Rattle.pt_directors.specs.Directors.{Director, director_calls}
 use Rattle.pt_library.specs.declared.library_actor.LibraryActor.{LibraryActor}
-use Rattle.pt_node.specs.Recorded.{RecordedPort, trace_of}
+use Rattle.pt_past.specs.Recorded.{RecordedPort, trace_of}
 use Rattle.pt_node.specs.Shown.{Shown, AllShown, Branch, Frame, none, more}
 
 abbrev pub Tree : Type 0

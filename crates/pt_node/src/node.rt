@@ -13,12 +13,9 @@ ghost use Rattle.pt_node.specs.Firing.{noted, bare, recorded, recorded_times};
 ghost use Rattle.pt_node.specs.Wake.{begins, own_wake};
 
 use crate::body::Body;
-use crate::labels::Labels;
-use crate::meetings::MeetingRecord;
-use crate::past::Past;
-use crate::recorded::Records;
 use pt_core::Core;
 use pt_firing::{Actor, Need, Outputs, Partial};
+use pt_past::{Labels, MeetingRecord, Past, Records};
 use pt_time::Tag;
 use pt_value::Text;
 use std::alloc::{AllocError, Global};

@@ -1,5 +1,5 @@
-use Rattle.pt_node.proofs.RecordedLaws.{note-none}
-use Rattle.pt_node.proofs.recorded.Recorded.note.Goals as goal
+use Rattle.pt_past.proofs.RecordedLaws.{note-none}
+use Rattle.pt_past.proofs.recorded.Recorded.note.Goals as goal
 
 pub returns-then-self-ports-clause-noted : goal.returns-then-self-ports-clause-noted
 returns-then-self-ports-clause-noted c =

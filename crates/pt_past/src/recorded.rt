@@ -1,7 +1,7 @@
 ghost use Rattle.std.specs.Prelude.{◌≡◌, ◌++◌, [], ◌∷◌, IfOk, length, map, take};
 ghost use Rattle.pt_meaning.specs.Basics.{with_tag};
 ghost use Rattle.pt_value.specs.declared.token.Token.TheVariants.{Int};
-ghost use Rattle.pt_node.specs.Recorded.{noting, recording, unnoted, empty};
+ghost use Rattle.pt_past.specs.Recorded.{noting, recording, unnoted, empty};
 
 use pt_firing::Outputs;
 use pt_time::Tag;
@@ -23,7 +23,7 @@ pub struct Recorded {
 
 impl Model for Recorded {
     ghost use Rattle.std.specs.Prelude.{◌≤◌, length, take, drop};
-    ghost use Rattle.pt_node.specs.Recorded.{RecordedPort, coded_port};
+    ghost use Rattle.pt_past.specs.Recorded.{RecordedPort, coded_port};
 
     ghost Value = { RecordedPort };
 
@@ -99,6 +99,22 @@ impl Recorded {
         self.recorded = self.tokens.len();
     }
 
+    /// Its text in a report, and the tokens that are recorded.
+    pub fn into_told(self) -> (Text, Vec<(Tag, Token)>)
+        ensures text { result.0 ≡ self.text }
+        ensures trace { result.1.items ≡ self.trace }
+    {
+        let Recorded {
+            port: _,
+            number: _,
+            text,
+            mut tokens,
+            recorded,
+        } = self;
+        tokens.truncate(recorded);
+        (text, tokens)
+    }
+
     /// The same port before any firing.
     pub fn empty(&self, alloc: Global) -> Result<Recorded, AllocError>
         ensures { IfOk result (λ port. port ≡ empty self.now) }
@@ -116,7 +132,7 @@ pub struct Records {
 impl Model for Records {
     ghost use Rattle.std.specs.Prelude.{List};
     ghost use Rattle.std.specs.Coded.{coded_list};
-    ghost use Rattle.pt_node.specs.Recorded.{RecordedPort, coded_port};
+    ghost use Rattle.pt_past.specs.Recorded.{RecordedPort, coded_port};
 
     ghost Value = { List RecordedPort };
 
@@ -136,6 +152,13 @@ impl Records {
         ensures { result.now ≡ self.now }
     {
         self.ports.as_slice()
+    }
+
+    /// The ports themselves.
+    pub fn into_ports(self) -> Vec<Recorded>
+        ensures { result.items ≡ self }
+    {
+        self.ports
     }
 
     /// Notes what a firing gave on each of them. After want of memory nothing more is recorded.

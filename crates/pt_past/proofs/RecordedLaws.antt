@@ -5,7 +5,7 @@ use Rattle.std.proofs.lemmas.List.{length-map}
 use Rattle.pt_meaning.specs.Basics.{Tag, Streams, at, with_tag}
 use Rattle.pt_value.specs.declared.token.Token.{Token}
 use Rattle.pt_value.specs.declared.token.Token.TheVariants.{Int}
-use Rattle.pt_node.specs.Recorded.{RecordedPort, noting, unnoted}
+use Rattle.pt_past.specs.Recorded.{RecordedPort, noting, unnoted}
 
 pub with_tag-append : {T : Type 0} (t : Tag) (xs ys : List T) → with_tag t (xs ++ ys) ≡ with_tag t xs ++ with_tag t ys
 with_tag-append t [] ys = refl

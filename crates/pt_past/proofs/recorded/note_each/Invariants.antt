@@ -1,7 +1,7 @@
 use Rattle.std.proofs.Common.{◌≡◌, ◌++◌, map, take}
 use Rattle.pt_meaning.specs.Basics.{with_tag}
 use Rattle.pt_value.specs.declared.token.Token.TheVariants.{Int}
-use Rattle.pt_node.proofs.recorded.note_each.Given as goal
+use Rattle.pt_past.proofs.recorded.note_each.Given as goal
 
 -- the integers so far, each with the tag
 abbrev pub invariant-loop-number : goal.invariant-loop-number

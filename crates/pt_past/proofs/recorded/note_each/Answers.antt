@@ -1,7 +1,7 @@
 use Rattle.std.proofs.Common.{◌≡◌, ℤ, pos, ◌++◌, ◌∷◌, [], get_or, rules, ◌∙◌}
 use Rattle.pt_value.specs.declared.token.Token.TheVariants.{Int}
-use Rattle.pt_node.proofs.RecordedLaws.{noted-number}
-use Rattle.pt_node.proofs.recorded.note_each.Goals as goal
+use Rattle.pt_past.proofs.RecordedLaws.{noted-number}
+use Rattle.pt_past.proofs.recorded.note_each.Goals as goal
 
 pub loop-number-preserved : goal.loop-number-preserved
 loop-number-preserved c =

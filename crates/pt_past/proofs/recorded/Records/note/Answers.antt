@@ -1,7 +1,7 @@
 use Rattle.std.proofs.Common.{◌∙◌, ap, arith, map}
-use Rattle.pt_node.specs.Recorded.{noting, unnoted}
-use Rattle.pt_node.proofs.RecordedLaws.{changed-step, unnoted-stays, unnoted-noting}
-use Rattle.pt_node.proofs.recorded.Records.note.Goals as goal
+use Rattle.pt_past.specs.Recorded.{noting, unnoted}
+use Rattle.pt_past.proofs.RecordedLaws.{changed-step, unnoted-stays, unnoted-noting}
+use Rattle.pt_past.proofs.recorded.Records.note.Goals as goal
 
 pub returns-in_err-note-clause-recorded : goal.returns-in_err-note-clause-recorded
 returns-in_err-note-clause-recorded c =

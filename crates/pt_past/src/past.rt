@@ -48,9 +48,10 @@ impl Past {
         requires { self.made + firings < 2 ^ 64 }
         ensures { result ≡ record { made = self.made + firings; last = Some tag.time } }
     {
+        let last = Some(tag.time);
         Past {
             made: self.made + firings,
-            last: Some(tag.time),
+            last,
         }
     }
 

@@ -1,8 +1,8 @@
 use Rattle.std.proofs.Common.{◌∙◌, ap, arith, [], ◌∷◌, map}
 use Rattle.pt_value.specs.declared.token.Token.TheVariants.{Int}
-use Rattle.pt_node.specs.Recorded.{noting, unnoted}
-use Rattle.pt_node.proofs.RecordedLaws.{changed-step, unnoted-stays, unnoted-noting}
-use Rattle.pt_node.proofs.recorded.Records.note_numbers.Goals as goal
+use Rattle.pt_past.specs.Recorded.{noting, unnoted}
+use Rattle.pt_past.proofs.RecordedLaws.{changed-step, unnoted-stays, unnoted-noting}
+use Rattle.pt_past.proofs.recorded.Records.note_numbers.Goals as goal
 
 pub returns-in_err-note_numbers-clause-recorded : goal.returns-in_err-note_numbers-clause-recorded
 returns-in_err-note_numbers-clause-recorded c =

@@ -1,6 +1,6 @@
 use Rattle.std.proofs.Common.{◌∙◌}
-use Rattle.pt_node.proofs.RecordedLaws.{noted-more}
-use Rattle.pt_node.proofs.recorded.note_all.Goals as goal
+use Rattle.pt_past.proofs.RecordedLaws.{noted-more}
+use Rattle.pt_past.proofs.recorded.note_all.Goals as goal
 
 pub loop-token-preserved : goal.loop-token-preserved
 loop-token-preserved c =

@@ -1,7 +1,7 @@
 ghost use Rattle.std.specs.Prelude.{◌≡◌, [], ◌∷◌, map, MatchOption, None, Some, OnOk, OnErr};
 ghost use Rattle.pt_core.specs.Met.{made_with};
 ghost use Rattle.pt_firing.specs.Meeting.{meeting_of};
-ghost use Rattle.pt_node.specs.Meetings.{told};
+ghost use Rattle.pt_past.specs.Meetings.{told};
 
 use pt_firing::Meeting;
 use std::alloc::{AllocError, Global};
@@ -16,7 +16,7 @@ pub struct MeetingRecord {
 impl Model for MeetingRecord {
     ghost use Rattle.std.specs.Prelude.{Option, option_map, map};
     ghost use Rattle.pt_records.specs.Kept.{Made};
-    ghost use Rattle.pt_node.specs.Meetings.{told};
+    ghost use Rattle.pt_past.specs.Meetings.{told};
 
     ghost Value = { Option Made };
 

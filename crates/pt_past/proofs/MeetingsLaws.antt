@@ -5,7 +5,7 @@ use Rattle.pt_firing.specs.declared.ask.Meeting as asked
 use Rattle.pt_firing.specs.Meeting.{meeting_of}
 use Rattle.pt_records.specs.Kept.{Made}
 use Rattle.pt_core.specs.Met.{none_met}
-use Rattle.pt_node.specs.Meetings.{told, Serves}
+use Rattle.pt_past.specs.Meetings.{told, Serves}
 
 pub told_more : (made : List (ℕ × asked.Meeting)) (n : ℕ) (m : asked.Meeting) → map told (made ++ ((n, m) ∷ [])) ≡ map told made ++ ((n, meeting_of m) ∷ [])
 told_more [] n m = refl

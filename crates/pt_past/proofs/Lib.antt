@@ -1,0 +1,2 @@
+pub mod RecordedLaws
+pub mod MeetingsLaws
