@@ -7,7 +7,7 @@ use Rattle.std.proofs.lemmas.List.Sums.{sum_by-cons}
 use Rattle.pt_sched.specs.Runs.{firings, HasTokens, IsRun, at_first, fires}
 use Rattle.pt_sched.specs.declared.edge.SchedEdge.{SchedEdge}
 use Rattle.pt_sched.proofs.Steps.{lacking-inside}
-use Rattle.pt_sdf.specs.Lawful.{occurs}
+use Rattle.pt_sdf_parts.specs.Lawful.{occurs}
 
 -- an order has each child as often as it fires
 pub occurs-firings : (child : ℕ) (order : List ℕ) → occurs child order ≡ firings order child

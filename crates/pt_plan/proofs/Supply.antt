@@ -12,8 +12,8 @@ use Rattle.pt_rates.specs.Balance.{IsBalancedAt, IsSolution}
 use Rattle.pt_sched.specs.Runs.{firings, put_on, taken_from, IsSchedule}
 use Rattle.pt_sched.specs.declared.edge.SchedEdge.{SchedEdge}
 use Rattle.pt_sched.proofs.Listing.{no_channel}
-use Rattle.pt_sdf.specs.ByNeed.{place_of}
-use Rattle.pt_sdf.specs.Lawful.{occurs, rate_at, IsNamed, NeverLacks, IsSupplied, IsLawful}
+use Rattle.pt_sdf_parts.specs.ByNeed.{place_of}
+use Rattle.pt_sdf_parts.specs.Lawful.{occurs, rate_at, IsNamed, NeverLacks, IsSupplied, IsLawful}
 use Rattle.pt_core.specs.Source.{source_of}
 use Rattle.pt_core.specs.declared.source.Source.{Source}
 use Rattle.pt_core.specs.declared.source.Source.TheVariants.{Own, Output}

@@ -4,7 +4,7 @@ use Rattle.std.specs.Prelude.{ℕ, suc, ◌+◌, ◌-◌, List, [], ◌∷◌, �
 use Rattle.pt_meaning.specs.Running.{total}
 use Rattle.pt_rates.specs.declared.edge.Edge.{Edge}
 use Rattle.pt_sched.specs.declared.edge.SchedEdge.{SchedEdge}
-use Rattle.pt_sdf.specs.Lawful.{rate_at}
+use Rattle.pt_sdf_parts.specs.Lawful.{rate_at}
 use Rattle.pt_core.specs.declared.source.Source.{Source}
 use Rattle.pt_core.specs.declared.source.Source.TheVariants.{Own, Output}
 use Rattle.pt_plan.specs.declared.inside.Inside.{Inside}

@@ -36,12 +36,12 @@ use Rattle.pt_core.specs.Lawful.{Lawful, IsUsual, IsMove, IsLentTo, IsStuck, IsL
 use Rattle.pt_core.specs.Reached.{Becomes, Stays, Fires, Resets, Always}
 use Rattle.pt_core.proofs.MetLaws.{tells-none}
 use Rattle.pt_core.proofs.ReachedLaws.{got-reset}
-use Rattle.pt_sdf.specs.ByNeed.{by_need, needs_of, place_of}
+use Rattle.pt_sdf_parts.specs.ByNeed.{by_need, needs_of, place_of}
 use Rattle.pt_sdf.specs.State.{Stage, Idle, Open, Asked, Handed, Wrong, Closed, Allows, IsEnough, asked_child, lent_in, hand, handed, IsHanded, needs_at, lent_of, left_of, is_wrong, in_stage, begun, asked, if_told, after_told, closed, own_of, owed}
 use Rattle.pt_sdf.specs.Chain.{IsFor}
 use Rattle.pt_sdf.specs.Clauses.{State, MayAsk, IsAsked}
 use Rattle.pt_sdf.specs.SdfActs.{AllSteady, Going, Gives, asking, Fits, sdf_calls, sdf_acts}
-use Rattle.pt_sdf.proofs.NeedLaws.{asks-as, needs-length, needs-kept, planned-length, skip-length, limits-length, limits-rates, all-fit}
+use Rattle.pt_sdf_parts.proofs.NeedLaws.{asks-as, needs-length, needs-kept, planned-length, skip-length, limits-length, limits-rates, all-fit}
 
 -- the answer that a contract tells
 pub answered : (s : State) (a : Ask) (t : State) → IsAsked s a t → Gives s a × (t ≡ asking a s)

@@ -1,21 +1,22 @@
 -- What the next firings of a child take, that was asked for: what stands in front of its only channel, whatever it gives in them.
-use Rattle.std.proofs.Common.{◌≡◌, ℕ, zero, suc, ◌+◌, ◌*◌, ◌<◌, ◌≤◌, List, [], ◌∷◌, ◌++◌, Bool, true, false, length, get_or, set, take, drop, replicate, refl, ap, sym, subst, ◌∙◌, arith, append_assoc, length-set}
+use Rattle.std.proofs.Common.{◌≡◌, ℕ, zero, suc, ◌+◌, ◌*◌, ◌<◌, ◌≤◌, List, [], ◌∷◌, ◌++◌, Bool, true, false, length, get_or, take, drop, replicate, ap, sym, subst, ◌∙◌, arith, append_assoc}
 use Rattle.std.proofs.Math.Nat.{mul-le-mul_right}
 use Rattle.std.proofs.lemmas.List.{append-nil, drop-append-le, take-append-le, drop-drop, length-drop, length-replicate, get_or-replicate, get_or-set_same}
 use Rattle.pt_meaning.specs.Streams.{Streams, at}
 use Rattle.pt_meaning.specs.Rounds.{has_rates}
 use Rattle.pt_meaning.specs.Kahn.{firsts}
-use Rattle.pt_meaning.specs.Running.{plus, puts}
+use Rattle.pt_meaning.specs.Running.{puts}
 use Rattle.pt_laws.proofs.Indexed.{plus-at}
 use Rattle.pt_laws.proofs.RunLaws.{plus-length}
 use Rattle.pt_value.specs.declared.token.Token.{Token}
-use Rattle.pt_sdf.specs.ByNeed.{place_of, skip_at}
-use Rattle.pt_sdf.specs.State.{Open, lent_in, lent_of, left_of, asked, if_told, after_told}
+use Rattle.pt_sdf_parts.specs.ByNeed.{place_of}
+use Rattle.pt_sdf.specs.State.{Open, lent_in, lent_of, left_of, asked, if_told}
 use Rattle.pt_sdf.specs.Clauses.{State}
-use Rattle.pt_sdf.specs.InARow.{AsksAgain, AreAhead, AreInFront}
-use Rattle.pt_sdf.specs.Lanes.{IsInlet}
-use Rattle.pt_sdf.proofs.Lists.{at-is, skip-long}
-use Rattle.pt_sdf.proofs.LaneLaws.{inlet-left, inlet-taken}
+use Rattle.pt_sdf.specs.InARow.{AsksAgain, AreAhead}
+use Rattle.pt_sdf_parts.specs.InFront.{AreInFront}
+use Rattle.pt_sdf_parts.specs.Lanes.{IsInlet}
+use Rattle.pt_sdf_parts.proofs.Lists.{at-is, skip-long}
+use Rattle.pt_sdf_parts.proofs.LaneLaws.{inlet-left, inlet-taken}
 
 -- the child has one place in this state, with so many tokens needed there
 pub record IsAlone (child c need : ℕ) (s : State) : Type 0 where

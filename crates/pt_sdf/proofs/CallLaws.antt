@@ -9,27 +9,28 @@ use Rattle.pt_meaning.specs.Sdf.{SdfPlan, number_at, or_one, iterations, times, 
 use Rattle.pt_meaning.specs.Running.{total, plus, puts, zeros}
 use Rattle.pt_laws.proofs.FiringLaws.{arrived-long}
 use Rattle.pt_value.specs.declared.token.Token.{Token}
-use Rattle.pt_sdf.specs.declared.feeds.Feed.{Feed}
+use Rattle.pt_sdf_parts.specs.declared.feeds.Feed.{Feed}
 use Rattle.pt_sdf.specs.declared.sdf.Stage as declared
 use Rattle.pt_sdf.specs.declared.sdf.Stage.TheVariants as code
-use Rattle.pt_sdf.specs.ByNeed.{place_of, skip_at}
+use Rattle.pt_sdf_parts.specs.ByNeed.{place_of, skip_at}
 use Rattle.pt_sdf.specs.State.{Handed, started, begun, asked, handed, after_told, if_told, closed}
-use Rattle.pt_sdf.specs.declared.plan.CorePlan.{CorePlan}
-use Rattle.pt_sdf.specs.Plan.{plan_of, IsSamePlan}
+use Rattle.pt_sdf_parts.specs.declared.plan.CorePlan.{CorePlan}
+use Rattle.pt_sdf_parts.specs.Plan.{plan_of, IsSamePlan}
 use Rattle.pt_core.specs.Source.{source_of}
 use Rattle.pt_sdf.specs.Clauses.{State}
-use Rattle.pt_sdf.specs.Lawful.{occurs, IsNamed}
-use Rattle.pt_sdf.specs.Feeds.{Target, row_of, port_of, targets, target_of, rows_in, put_back, allowed_by, AreFeeds, AreThere, AreApart, MovesOnce}
-use Rattle.pt_sdf.specs.Rooms.{HasRoom, HaveRooms}
-use Rattle.pt_sdf.specs.Lanes.{begins}
-use Rattle.pt_sdf.specs.Core.{fired_from, state_of, left_at_first, busy, taken_by, StageFits, IsPosition, IsLevel, AreLevel, HaveRoom, Sound}
-use Rattle.pt_sdf.proofs.Lists.{at-is, skip-before, skip-long}
-use Rattle.pt_sdf.proofs.NeedLaws.{part-fits}
-use Rattle.pt_sdf.proofs.FeedLaws.{IsWithin, put-back-is, row-puts, row-arrives, allow-is, feeds-there, feeds-apart}
+use Rattle.pt_sdf_parts.specs.Lawful.{occurs, IsNamed}
+use Rattle.pt_sdf_parts.specs.Feeds.{Target, row_of, port_of, targets, target_of, rows_in, put_back, allowed_by, AreFeeds, AreThere, AreApart, MovesOnce}
+use Rattle.pt_sdf_parts.specs.Rooms.{HasRoom, HaveRooms}
+use Rattle.pt_sdf_parts.specs.Lanes.{begins}
+use Rattle.pt_sdf.specs.Core.{fired_from, state_of, busy, taken_by, StageFits, IsPosition, IsLevel, AreLevel, HaveRoom, Sound}
+use Rattle.pt_sdf_parts.specs.Stretches.{left_at_first}
+use Rattle.pt_sdf_parts.proofs.Lists.{at-is, skip-before, skip-long}
+use Rattle.pt_sdf_parts.proofs.NeedLaws.{part-fits}
+use Rattle.pt_sdf_parts.proofs.FeedLaws.{IsWithin, put-back-is, row-puts, row-arrives, allow-is, feeds-there, feeds-apart}
 use Rattle.pt_sdf.proofs.OrderLaws.{fired-none, fired-whole}
 use Rattle.pt_sdf.proofs.LevelLaws.{level-begun, allow-bound}
 use Rattle.pt_sdf.proofs.SoundLaws.{named-within, rates-long, map-times, zeros-at, arrived-at, fired-never}
-use Rattle.pt_sdf.proofs.UnfedLaws.{left-is}
+use Rattle.pt_sdf_parts.proofs.UnfedLaws.{left-is}
 
 -- a state by its parts
 pub same-state : (s t : State) → s.plan ≡ t.plan → s.needs ≡ t.needs → s.first ≡ t.first → s.held ≡ t.held → s.fired ≡ t.fired → s.turns ≡ t.turns → s.tag ≡ t.tag → s.stage ≡ t.stage → s ≡ t

@@ -15,10 +15,10 @@ use Rattle.pt_laws.proofs.LogLaws.{begins-with, asked-fires, ends-with, sticks-w
 use Rattle.pt_laws.proofs.RunLaws.{running-step-with, plus-length}
 use Rattle.pt_laws.proofs.FiringLaws.{arrived-long}
 use Rattle.pt_laws.proofs.CompositeLaws.{first-part, second-part}
-use Rattle.pt_sdf.specs.ByNeed.{by_need, planned, place_of}
+use Rattle.pt_sdf_parts.specs.ByNeed.{by_need, planned, place_of}
 use Rattle.pt_sdf.specs.State.{SdfState, Allows, IsEnough, lent_of, left_of, needs_at, asked, begun, if_told, after_told, closed, own_of, owed}
 use Rattle.pt_sdf.specs.Chain.{IsFor, Underway, firing_from, IsStuckAt, CallsAreSdf}
-use Rattle.pt_sdf.proofs.NeedLaws.{asks-as, asks-below, asked-sticks, none-at-caps, enough-made, needs-length, needs-kept, planned-length, skip-length, limits-length, limits-rates, all-fit}
+use Rattle.pt_sdf_parts.proofs.NeedLaws.{asks-as, asks-below, asked-sticks, none-at-caps, enough-made, needs-length, needs-kept, planned-length, skip-length, limits-length, limits-rates, all-fit}
 
 module _ {T S : Type 0} (facts : Facts T S) (step : Stepping T S) (before : SdfState T) (kids : List S) where
   pub calls-begin : (tag : Tag) (inputs : Streams T) → IsFor facts before kids → Underway facts step before kids inputs (begun tag inputs before) kids (silents kids)

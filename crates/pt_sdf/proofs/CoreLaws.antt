@@ -9,24 +9,25 @@ use Rattle.pt_meaning.specs.Sdf.{or_one, iterations, times, leaves}
 use Rattle.pt_meaning.specs.Running.{total, plus, puts}
 use Rattle.pt_laws.proofs.FiringLaws.{arrived-long}
 use Rattle.pt_value.specs.declared.token.Token.{Token}
-use Rattle.pt_sdf.specs.declared.feeds.Feed.{Feed}
+use Rattle.pt_sdf_parts.specs.declared.feeds.Feed.{Feed}
 use Rattle.pt_sdf.specs.declared.sdf.Stage as declared
 use Rattle.pt_sdf.specs.declared.sdf.Stage.TheVariants as code
 use Rattle.pt_sdf.specs.declared.sdf.Core.TheInside.{Inside}
-use Rattle.pt_sdf.specs.ByNeed.{place_of, skip_at}
+use Rattle.pt_sdf_parts.specs.ByNeed.{place_of, skip_at}
 use Rattle.pt_sdf.specs.State.{Open, Idle, Closed, Allows, IsEnough, asked_child, lent_in, asked, handed, restarted, begun, after_told, closed}
 use Rattle.pt_sdf.specs.Clauses.{State}
-use Rattle.pt_sdf.specs.Plan.{plan_of}
+use Rattle.pt_sdf_parts.specs.Plan.{plan_of}
 use Rattle.pt_core.specs.Source.{source_of}
-use Rattle.pt_sdf.specs.Feeds.{target_of, put_back, allowed_by, AreThere, AreApart, MovesOnce}
-use Rattle.pt_sdf.specs.Rooms.{HasRoom, HaveRooms}
-use Rattle.pt_sdf.specs.Core.{stage_of, state_of, state_in, with_asked, seen_in, left_at_first, busy, Sound, IsSound, order_in, at_in}
-use Rattle.pt_sdf.specs.Stretches.{place_behind}
-use Rattle.pt_sdf.proofs.Lists.{read-at, at-is, skip-long}
-use Rattle.pt_sdf.proofs.NeedLaws.{part-fits}
+use Rattle.pt_sdf_parts.specs.Feeds.{target_of, put_back, allowed_by, AreThere, AreApart, MovesOnce}
+use Rattle.pt_sdf_parts.specs.Rooms.{HasRoom, HaveRooms}
+use Rattle.pt_sdf.specs.Core.{stage_of, state_of, state_in, with_asked, seen_in, busy, Sound, IsSound, order_in, at_in}
+use Rattle.pt_sdf_parts.specs.Stretches.{left_at_first}
+use Rattle.pt_sdf_parts.specs.Stretches.{place_behind}
+use Rattle.pt_sdf_parts.proofs.Lists.{read-at, at-is, skip-long}
+use Rattle.pt_sdf_parts.proofs.NeedLaws.{part-fits}
 use Rattle.pt_sdf.proofs.SoundLaws.{child-there, offset-is, total-fits, enough, may-fire, ask-sound, asked-alone, stage-open, stage-idle, stage-closed, stage-asked, told-there, told-firings, told-sound, told-kept, wrong-sound}
 use Rattle.pt_sdf.proofs.CallLaws.{whole-fired, row-apart, row-moves, row-there, child-ports, child-puts, own-ports, own-arrives, own-turns, begin-sound, begin-state, finish-sound, finish-state, ask-state, told-state, wrong-state}
-use Rattle.pt_sdf.proofs.UnfedLaws.{counts_of, all-left}
+use Rattle.pt_sdf_parts.proofs.UnfedLaws.{counts_of, all-left}
 
 -- the same core, by its parts at another stage
 abbrev pub SoundAt : Inside → declared.Stage → Type 0

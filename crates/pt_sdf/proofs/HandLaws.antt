@@ -6,14 +6,15 @@ use Rattle.pt_value.specs.declared.token.Token.{Token}
 use Rattle.pt_sdf.specs.declared.sdf.Stage as declared
 use Rattle.pt_sdf.specs.declared.sdf.Stage.TheVariants as code
 use Rattle.pt_sdf.specs.declared.sdf.Core.TheInside.{Inside}
-use Rattle.pt_sdf.specs.ByNeed.{place_of, skip_at}
+use Rattle.pt_sdf_parts.specs.ByNeed.{place_of, skip_at}
 use Rattle.pt_sdf.specs.State.{Open, asked_child, asked, handed, in_stage, if_told, after_told}
-use Rattle.pt_sdf.specs.Rooms.{HaveRooms}
+use Rattle.pt_sdf_parts.specs.Rooms.{HaveRooms}
 use Rattle.pt_sdf.specs.Clauses.{State}
-use Rattle.pt_sdf.specs.Plan.{plan_of}
+use Rattle.pt_sdf_parts.specs.Plan.{plan_of}
 use Rattle.pt_sdf.specs.Core.{state_in, seen_in, unmoved, IsSound, order_in, at_in}
-use Rattle.pt_sdf.proofs.Lists.{skip-zero}
-use Rattle.pt_sdf.proofs.SoundLaws.{open-again, told-kept, offset-is, total-fits, begins-long, begins-at}
+use Rattle.pt_sdf_parts.proofs.Lists.{skip-zero}
+use Rattle.pt_sdf.proofs.SoundLaws.{open-again, told-kept, offset-is, total-fits}
+use Rattle.pt_sdf_parts.proofs.TableLaws.{begins-long, begins-at}
 use Rattle.pt_sdf.proofs.CoreLaws.{SoundAt, is-asked, seen-at, asked-there, asked-enough, asked-sound, told-child, told-left}
 
 -- the core before the child was asked for

@@ -3,9 +3,9 @@ use Rattle.std.proofs.Common.{◌≡◌, ℕ, zero, suc, ◌+◌, ◌-◌, ◌*�
 use Rattle.pt_meaning.specs.Streams.{Streams, at}
 use Rattle.pt_meaning.specs.Net.{Source, Own, Output}
 use Rattle.pt_meaning.specs.Sdf.{SdfPlan, number_at}
-use Rattle.pt_sdf.specs.Lawful.{occurs, rate_at, IsSupplied}
+use Rattle.pt_sdf_parts.specs.Lawful.{occurs, rate_at, IsSupplied}
 use Rattle.pt_sdf.specs.Core.{IsLevel}
-use Rattle.pt_sdf.proofs.FeedLaws.{IsWithin}
+use Rattle.pt_sdf_parts.proofs.FeedLaws.{IsWithin}
 use Rattle.pt_meaning.specs.Sdf.{allows, all_allow}
 use Rattle.pt_meaning.specs.Running.{puts_on}
 use Rattle.std.proofs.lemmas.Bool.Decides.{nat_tests}

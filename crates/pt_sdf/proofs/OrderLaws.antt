@@ -3,7 +3,7 @@ use Rattle.std.proofs.Common.{◌≡◌, ℕ, zero, suc, ◌+◌, ◌*◌, ◌<�
 use Rattle.std.proofs.lemmas.List.{take_more}
 use Rattle.std.proofs.lemmas.Bool.Decides.{nat_tests}
 use Rattle.pt_meaning.specs.Running.{zeros}
-use Rattle.pt_sdf.specs.Lawful.{occurs}
+use Rattle.pt_sdf_parts.specs.Lawful.{occurs}
 use Rattle.pt_sdf.specs.Core.{fired_from}
 
 pub occurs-append : (n : ℕ) (xs ys : List ℕ) → occurs n (xs ++ ys) ≡ occurs n xs + occurs n ys

@@ -12,27 +12,27 @@ use Rattle.pt_firing.specs.declared.ask.Ask.TheVariants as ask
 use Rattle.pt_core.specs.Source.{source_of}
 use Rattle.pt_sdf.specs.declared.sdf.Stage.TheVariants as code
 use Rattle.pt_sdf.specs.declared.sdf.Core.TheInside.{Inside}
-use Rattle.pt_sdf.specs.ByNeed.{place_of, skip_at}
+use Rattle.pt_sdf_parts.specs.ByNeed.{place_of, skip_at}
 use Rattle.pt_sdf.specs.State.{after_told, lent_in}
 use Rattle.pt_sdf.specs.Clauses.{State, IsAsked}
 use Rattle.pt_sdf.specs.InARow.{AsksAgain, TellsInTurn, given_by}
-use Rattle.pt_sdf.specs.Feeds.{target_of, put_back, AreThere, AreApart}
-use Rattle.pt_sdf.specs.declared.lanes.Inlet.{Inlet}
-use Rattle.pt_sdf.specs.declared.lanes.Inlet.TheVariants as inlet
-use Rattle.pt_sdf.specs.Lanes.{FitsInlet, IsInletIn, HasRow, row_left}
-use Rattle.pt_sdf.specs.declared.feeds.Feed.{Feed}
-use Rattle.pt_sdf.specs.declared.lanes.Lane.{Lane}
-use Rattle.pt_sdf.specs.Plan.{plan_of}
-use Rattle.pt_sdf.specs.Stretches.{no_stretch, place_at, IsAdvanced}
-use Rattle.pt_sdf.specs.Core.{state_of, state_in, seen_in, unmoved, Sound, IsSound, IsWhole, order_in, at_in}
+use Rattle.pt_sdf_parts.specs.Feeds.{target_of, put_back, AreThere, AreApart}
+use Rattle.pt_sdf_parts.specs.declared.lanes.Inlet.{Inlet}
+use Rattle.pt_sdf_parts.specs.declared.lanes.Inlet.TheVariants as inlet
+use Rattle.pt_sdf_parts.specs.Lanes.{FitsInlet, IsInletIn, HasRow, row_left}
+use Rattle.pt_sdf_parts.specs.declared.feeds.Feed.{Feed}
+use Rattle.pt_sdf_parts.specs.declared.lanes.Lane.{Lane}
+use Rattle.pt_sdf_parts.specs.Plan.{plan_of}
+use Rattle.pt_sdf_parts.specs.Stretches.{no_stretch, place_at, IsAdvanced}
+use Rattle.pt_sdf.specs.Core.{state_of, seen_in, unmoved, Sound, IsSound, IsWhole, order_in, at_in}
 use Rattle.pt_sdf.proofs.SoundLaws.{told-sound, told-firings, asked-alone}
 use Rattle.pt_sdf.proofs.CallLaws.{told-state, row-targets, child-ports}
 use Rattle.pt_sdf.proofs.CallLaws as calls
-use Rattle.pt_sdf.proofs.FeedLaws.{put-back-is, row-puts}
-use Rattle.pt_sdf.proofs.LaneLaws.{is-lane}
+use Rattle.pt_sdf_parts.proofs.FeedLaws.{put-back-is, row-puts}
+use Rattle.pt_sdf.proofs.ToldLaws.{is-lane}
 use Rattle.pt_sdf.proofs.CoreLaws.{SoundAt, asked-rooms, asked-allowed, seen-at}
 use Rattle.pt_sdf.proofs.HandLaws.{reopened, handing, reopened-sound, reopened-left, reopened-next, busy-there, busy-left, busy-rooms, unmoved-fits, offset-read, handing-sound, handing-told}
-use Rattle.pt_sdf.proofs.StretchLaws.{place-child, stays-in-stretch}
+use Rattle.pt_sdf_parts.proofs.StretchLaws.{place-child, stays-in-stretch}
 use Rattle.pt_sdf.proofs.RowLists.{skipped, after_row, row-apart, row-left-is, row-enough, row-left-long}
 
 -- the child asked for, after so many firings of its stretch, with these channels

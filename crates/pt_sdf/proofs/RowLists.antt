@@ -7,13 +7,13 @@ use Rattle.pt_meaning.specs.Net.{Source, Own, Output}
 use Rattle.pt_meaning.specs.Running.{plus, puts, puts_on}
 use Rattle.pt_value.specs.declared.token.Token.{Token}
 use Rattle.pt_value.specs.declared.token.Token.TheVariants.{Int}
-use Rattle.pt_sdf.specs.ByNeed.{skip_at}
+use Rattle.pt_sdf_parts.specs.ByNeed.{skip_at}
 use Rattle.pt_sdf.specs.InARow.{given_by}
-use Rattle.pt_sdf.specs.declared.lanes.Inlet.{Inlet}
-use Rattle.pt_sdf.specs.declared.lanes.Inlet.TheVariants as inlet
-use Rattle.pt_sdf.specs.Lanes.{IsInlet, FitsInlet, HasRow, row_left}
-use Rattle.pt_sdf.proofs.Lists.{take-plus, skip-zero, skip-long}
-use Rattle.pt_sdf.proofs.LaneLaws.{inlet-left}
+use Rattle.pt_sdf_parts.specs.declared.lanes.Inlet.{Inlet}
+use Rattle.pt_sdf_parts.specs.declared.lanes.Inlet.TheVariants as inlet
+use Rattle.pt_sdf_parts.specs.Lanes.{IsInlet, FitsInlet, HasRow, row_left}
+use Rattle.pt_sdf_parts.proofs.Lists.{take-plus, skip-zero}
+use Rattle.pt_sdf_parts.proofs.LaneLaws.{inlet-left}
 
 module _ {T : Type 0} where
   skip-front : (ns : List ℕ) (X P : Streams T) → ((k : ℕ) → k < length ns → get_or ns k 0 ≤ length (get_or X k [])) → skip_at 0 ns (plus X P) ≡ plus (skip_at 0 ns X) P

@@ -14,33 +14,25 @@ use Rattle.pt_laws.proofs.Indexed.{plus-at}
 use Rattle.pt_laws.proofs.KahnLaws.{and-left, and-right}
 use Rattle.pt_laws.proofs.RunLaws.{plus-length}
 use Rattle.pt_value.specs.declared.token.Token.{Token}
-use Rattle.pt_sdf.specs.declared.feeds.Feed.{Feed}
+use Rattle.pt_sdf_parts.specs.declared.feeds.Feed.{Feed}
 use Rattle.pt_sdf.specs.declared.sdf.Stage as declared
 use Rattle.pt_sdf.specs.declared.sdf.Stage.TheVariants as code
-use Rattle.pt_sdf.specs.ByNeed.{place_of, skip_at}
+use Rattle.pt_sdf_parts.specs.ByNeed.{place_of, skip_at}
 use Rattle.pt_sdf.specs.State.{Idle, Open, Closed, Allows, asked_child}
 use Rattle.pt_sdf.specs.Clauses.{State}
-use Rattle.pt_sdf.specs.Lawful.{occurs, IsNamed, IsLawful}
-use Rattle.pt_sdf.specs.Feeds.{AreFeeds}
-use Rattle.pt_sdf.specs.Rooms.{HasRoom, HaveRooms}
-use Rattle.pt_sdf.specs.Lanes.{begins}
+use Rattle.pt_sdf_parts.specs.Lawful.{occurs, IsNamed, IsLawful}
+use Rattle.pt_sdf_parts.specs.Feeds.{AreFeeds}
+use Rattle.pt_sdf_parts.specs.Rooms.{HasRoom, HaveRooms}
+use Rattle.pt_sdf_parts.specs.Lanes.{begins}
 use Rattle.pt_sdf.specs.Core.{stage_of, fired_from, state_of, with_asked, busy, taken_by, IsPosition, IsLevel, AreLevel, Sound}
-use Rattle.pt_sdf.specs.Stretches.{place_behind}
-use Rattle.pt_sdf.proofs.Lists.{read-at, at-is, skip-untouched, skip-before, skip-there, skip-long}
-use Rattle.pt_sdf.proofs.NeedLaws.{allows, part-fits, length-part, get-part}
-use Rattle.pt_sdf.proofs.FeedLaws.{IsWithin}
+use Rattle.pt_sdf_parts.specs.Stretches.{place_behind}
+use Rattle.pt_sdf_parts.proofs.Lists.{read-at, at-is, skip-untouched, skip-before, skip-there, skip-long}
+use Rattle.pt_sdf_parts.proofs.NeedLaws.{part-fits, length-part, get-part}
+use Rattle.pt_sdf.proofs.AllowLaws.{allows}
+use Rattle.pt_sdf_parts.proofs.FeedLaws.{IsWithin}
 use Rattle.pt_sdf.proofs.OrderLaws.{occurs-next, fired-long, fired-at, fired-more, fired-turn, fired-none}
 use Rattle.pt_sdf.proofs.LevelLaws.{enough-there, level-taken, level-same, level-told, level-start}
-
--- where the places of a child begin
-pub begins-at : (o : ℕ) (ps : List ℕ) (i : ℕ) → i < length ps → get_or (begins o ps) i 0 ≡ o + place_of ps i
-begins-at o [] i h = absurd (omega arith)
-begins-at o (p ∷ ps) zero h = omega arith
-begins-at o (p ∷ ps) (suc i) h = let k = begins-at (o + p) ps i (omega arith) in omega (arith, k)
-
-pub begins-long : (o : ℕ) (ps : List ℕ) → length (begins o ps) ≡ length ps
-begins-long o [] = refl
-begins-long o (p ∷ ps) = ap (λ k. suc k) (begins-long (o + p) ps)
+use Rattle.pt_sdf_parts.proofs.TableLaws.{begins-at, begins-long}
 
 -- the places of one child lie before those of a later one
 pub place-before : (ps : List ℕ) (i j : ℕ) → i < j → j < length ps → place_of ps i + get_or ps i 0 ≤ place_of ps j

@@ -11,7 +11,7 @@ use Rattle.pt_meaning.specs.Sdf.{iterations, sdf_limits, sdf}
 use Rattle.pt_meaning.specs.Running.{total}
 use Rattle.pt_laws.specs.LogsOfRuns.{RunningWith, silents, logs_then}
 use Rattle.pt_meaning.specs.Laws.{IsIn}
-use Rattle.pt_sdf.specs.ByNeed.{needs_of, planned}
+use Rattle.pt_sdf_parts.specs.ByNeed.{needs_of, planned}
 use Rattle.pt_sdf.specs.State.{SdfState, Allows, IsEnough, lent_of, asked, begun, after_told, closed, own_of, owed}
 
 -- a core fits its children: its lists have an entry for each, each place has a channel, and each child needs what the plan says

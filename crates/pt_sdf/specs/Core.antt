@@ -10,15 +10,15 @@ use Rattle.pt_value.specs.declared.token.Token.{Token}
 use Rattle.pt_sdf.specs.declared.sdf.Stage as declared
 use Rattle.pt_sdf.specs.declared.sdf.Stage.TheVariants as code
 use Rattle.pt_sdf.specs.declared.sdf.Core.TheInside.{Inside}
-use Rattle.pt_sdf.specs.ByNeed.{place_of}
+use Rattle.pt_sdf_parts.specs.ByNeed.{place_of}
 use Rattle.pt_sdf.specs.State.{Stage, Idle, Open, Handed, Wrong, Closed, SdfState, asked}
-use Rattle.pt_sdf.specs.declared.feeds.Feed.{Feed}
-use Rattle.pt_sdf.specs.Plan.{plan_of, order_of}
-use Rattle.pt_sdf.specs.Lawful.{occurs, rate_at, IsLawful}
-use Rattle.pt_sdf.specs.Feeds.{AreFeeds}
-use Rattle.pt_sdf.specs.Rooms.{HasRoom}
-use Rattle.pt_sdf.specs.Lanes.{begins, AreLanes}
-use Rattle.pt_sdf.specs.Stretches.{place_at, IsWithin}
+use Rattle.pt_sdf_parts.specs.declared.feeds.Feed.{Feed}
+use Rattle.pt_sdf_parts.specs.Plan.{plan_of, order_of}
+use Rattle.pt_sdf_parts.specs.Lawful.{occurs, rate_at, IsLawful}
+use Rattle.pt_sdf_parts.specs.Feeds.{AreFeeds}
+use Rattle.pt_sdf_parts.specs.Rooms.{HasRoom}
+use Rattle.pt_sdf_parts.specs.Lanes.{begins, AreLanes}
+use Rattle.pt_sdf_parts.specs.Stretches.{place_at, IsWithin}
 
 -- The stage, where the places of a child whose inputs were handed over have their tokens in their lent lists.
 -- Where a child was asked for alone, all stands as before.
@@ -79,11 +79,6 @@ unmoved code.Closed n = 0
 -- what contracts see
 abbrev pub seen_in : Inside → SdfState Token
 seen_in c = with_asked c.stage (state_in c)
-
--- how many turns of an order are to be made: one without firings is over at once
-abbrev pub left_at_first : (order : List ℕ) → (turns : ℕ) → ℕ
-left_at_first [] turns = 0
-left_at_first (child ∷ order) turns = turns
 
 -- the child whose inputs were taken last, where its firing isn't done
 abbrev pub busy : declared.Stage → Option ℕ

@@ -1,5 +1,5 @@
 -- Firings of one child in a row: it is told what each gave, and asked for again between them.
-use Rattle.std.specs.Prelude.{◌≡◌, ℕ, ℤ, zero, suc, ◌*◌, ◌<◌, ◌≤◌, List, [], ◌∷◌, length, map, take, drop, get_or}
+use Rattle.std.specs.Prelude.{◌≡◌, ℕ, ℤ, zero, suc, ◌*◌, ◌<◌, List, [], ◌∷◌, length, map, take, drop, get_or}
 use Rattle.pt_meaning.specs.Streams.{Streams}
 use Rattle.pt_value.specs.declared.token.Token.{Token}
 use Rattle.pt_value.specs.declared.token.Token.TheVariants.{Int}
@@ -24,8 +24,3 @@ AreAhead i rows s = (inputs outputs : ℕ → Streams Token) (k : ℕ) (t : Stat
 -- the outputs of one of the firings that give so many of some numbers each, in order, on the one port
 abbrev pub given_by : (rate : ℕ) → List ℤ → ℕ → Streams Token
 given_by rate numbers k = map Int (take rate (drop (k * rate) numbers)) ∷ []
-
--- the tokens of a channel are integers where the firings need them, each as many
-pub record AreInFront (need : ℕ) (tokens : List Token) (rows : List (Streams Token)) : Type 0 where
-  pub enough : length rows * need ≤ length tokens
-  pub each : (k : ℕ) → k < length rows → get_or rows k [] ≡ take need (drop (k * need) tokens) ∷ []

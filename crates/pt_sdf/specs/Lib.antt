@@ -1,14 +1,8 @@
-pub mod ByNeed
 pub mod State
 pub mod StateCode
 pub mod Clauses
 pub mod InARow
-pub mod Plan
-pub mod Lawful
-pub mod Feeds
-pub mod Rooms
-pub mod Lanes
-pub mod Stretches
 pub mod Core
 pub mod Chain
 pub mod SdfActs
+pub mod Bare

@@ -6,7 +6,7 @@ use Rattle.pt_meaning.specs.Rounds.{has_rates}
 use Rattle.pt_meaning.specs.Kahn.{arrived, firsts, behind}
 use Rattle.pt_meaning.specs.Sdf.{SdfPlan, iterations, sdf_limits, times, leaves}
 use Rattle.pt_meaning.specs.Running.{Asks, plus, puts, total, zeros}
-use Rattle.pt_sdf.specs.ByNeed.{by_need, planned, place_of, skip_at}
+use Rattle.pt_sdf_parts.specs.ByNeed.{by_need, planned, place_of, skip_at}
 
 -- where a firing of the composite stands: there is none, a child may be asked for, one was asked for and has these inputs, which may be handed over to be lent, one gave another number of tokens than its rates, or all is made
 pub data Stage (T : Type 0) : Type 0 where

@@ -1,27 +1,22 @@
-ghost use Rattle.std.specs.Prelude.{◌≡◌, ◌↔◌, ◌<◌, length, IfOk, IsTrue, OnOk, OnErr, Option, Some, List};
+ghost use Rattle.std.specs.Prelude.{◌≡◌, ◌↔◌, ◌<◌, length, IfOk, IsTrue, OnOk, OnErr, Option, Some};
 
-use crate::gather::{Span, gather, lighten};
-use crate::lanes::Inlet;
-use crate::numbers::{first_numbers, numbers_in_front};
-use crate::outlets::hand_out;
-use crate::plan::CorePlan;
-use crate::rooms::rooms_for;
-use crate::scatter::{copies_of, scatter};
-use crate::tables::{Tables, turns_of};
-use crate::turns::iterations;
-use crate::unfed::use_up;
 use pt_firing::{Ask, Counts, Inputs, IntInputs, Outputs, RunFault, Tokens};
 use pt_recv::{Channels, Queue};
+use pt_sdf_parts::{
+    CorePlan, Inlet, Span, Tables, copies_of, first_numbers, gather, hand_out, iterations, lighten,
+    numbers_in_front, rooms_for, scatter, turns_of, use_up,
+};
 use pt_time::Tag;
 use pt_value::Token;
 use std::alloc::{AllocError, Global};
 use std::marker::Model;
 
+mod bare;
 mod made;
 mod stretch;
 mod telling;
 
-use made::{at_first, parts_again};
+use made::{at_first, copied_ready, parts_again};
 
 /// The tag of a core that hasn't begun.
 const ORIGIN: Tag = Tag { time: 0, step: 0 };
@@ -118,21 +113,19 @@ impl Model for Core {
 }
 
 impl Core {
-    ghost use Rattle.std.specs.Prelude.{◌≡◌, ◌↔◌, ◌<◌, [], ◌∷◌, length, map, List, IfOk, IfSome, IsSome, IsTrue, OnOk, OnErr, Option, Some, None};
-    ghost use Rattle.pt_value.specs.declared.token.Token.TheVariants.{Int};
+    ghost use Rattle.std.specs.Prelude.{◌≡◌, ◌↔◌, ◌<◌, [], length, IfOk, IfSome, IsSome, IsTrue, OnOk, OnErr, Option, Some, None};
     ghost use Rattle.pt_meaning.specs.Kahn.{firsts};
-    ghost use Rattle.pt_sdf.specs.State.{Idle, Open, Closed, asked_child, lent_in, handed, started, restarted, begun, after_told, closed, owed, own_of, IsHanded, is_wrong};
+    ghost use Rattle.pt_sdf.specs.State.{Idle, Open, Closed, asked_child, lent_in, handed, started, restarted, begun, closed, owed, own_of, IsHanded};
     ghost use Rattle.pt_sdf.specs.Clauses.{MayAsk, IsAsked};
-    ghost use Rattle.pt_sdf.specs.Plan.{plan_of, order_of};
-    ghost use Rattle.pt_sdf.specs.Lawful.{IsLawful};
+    ghost use Rattle.pt_sdf_parts.specs.Plan.{plan_of, order_of};
+    ghost use Rattle.pt_sdf_parts.specs.Lawful.{IsLawful};
 
     /// A core of this plan, with these first tokens on its channels.
     pub fn new(alloc: Global, plan: CorePlan, first: Channels) -> Result<Core, AllocError>
         requires lawful { IsLawful (plan_of plan) plan.needs (order_of plan) plan.room first.lists }
         ensures { IfOk result (λ core. core ≡ started (plan_of plan) plan.needs first.lists) }
     {
-        let mut first = first;
-        match at_first(alloc, &plan, &mut first) {
+        match at_first(alloc, &plan, &first) {
             Ok((made, lent)) => Ok(Core {
                 tables: made.tables,
                 channels: made.channels,
@@ -309,7 +302,7 @@ impl Core {
         ensures kept { OnErr result (self.new ≡ self.old) }
     {
         let rooms = rooms_for(alloc, self.plan.needs.as_slice())?;
-        self.channels = self.first.copy(alloc)?;
+        self.channels = copied_ready(alloc, &self.first, self.plan.room.as_slice())?;
         self.rooms = rooms;
         self.tag = ORIGIN;
         self.turns = 0;

@@ -5,7 +5,7 @@ use crate::rates::spelled;
 use pt_core::Source;
 use pt_firing::Counts;
 use pt_plan::{Inside, plan};
-use pt_sdf::CorePlan;
+use pt_sdf_parts::CorePlan;
 use std::alloc::{AllocError, Global};
 
 /// Answers the question for the plan of an inside, which is written by its lists.

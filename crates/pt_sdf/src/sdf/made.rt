@@ -2,14 +2,12 @@
 
 ghost use Rattle.std.specs.Prelude.{◌≡◌, ◌<◌, ◌≤◌, ◌^◌, length, IfOk};
 ghost use Rattle.pt_meaning.specs.Running.{total};
-ghost use Rattle.pt_sdf.specs.Lanes.{AreTables};
-ghost use Rattle.pt_sdf.specs.Rooms.{HaveRooms};
+ghost use Rattle.pt_sdf_parts.specs.Lanes.{AreTables};
+ghost use Rattle.pt_sdf_parts.specs.Rooms.{HaveRooms};
 
-use crate::plan::CorePlan;
-use crate::rooms::rooms_for;
-use crate::tables::{Tables, copies_of_lists, empty_lists, make_ready};
 use pt_firing::Tokens;
 use pt_recv::Channels;
+use pt_sdf_parts::{CorePlan, Tables, copies_of_lists, empty_lists, make_ready, rooms_for};
 use pt_value::Token;
 use std::alloc::{AllocError, Global};
 
@@ -44,29 +42,50 @@ impl Made {
     }
 }
 
-/// What a new core makes, and the lists that it lends, which are empty. Its first tokens are made ready.
+/// A copy of the tokens on some channels, with room for so many on each.
+pub(super) fn copied_ready(
+    alloc: Global,
+    held: &Channels,
+    room: &[usize],
+) -> Result<Channels, AllocError>
+    requires few { length held.now.lists < 2 ^ 32 }
+    requires counted { length room.now ≡ length held.now.lists }
+    ensures { IfOk result (λ channels. channels.lists ≡ held.now.lists) }
+{
+    let mut channels = held.copy(alloc)?;
+    make_ready(&mut channels, room)?;
+    Ok(channels)
+}
+
+/// What a new core makes, and the lists that it lends, which are empty. Its channels are made ready, and not the first tokens that it
+/// keeps beside them.
 pub(super) fn at_first(
     alloc: Global,
     plan: &CorePlan,
-    first: &mut Channels,
+    first: &Channels,
 ) -> Result<(Made, Vec<Tokens>), AllocError>
     requires few { length plan.now.sources.items < 2 ^ 32 }
     requires rates { length plan.now.rates.items ≡ length plan.now.places }
     requires needed { length plan.now.needs ≡ total plan.now.places }
     requires channels { total plan.now.places ≤ length plan.now.sources.items }
     requires children { length plan.now.places < usize.MAX }
-    requires lists { length first.old.lists < 2 ^ 32 }
-    requires room { length plan.now.room ≡ length first.old.lists }
-    ensures first { first.new.lists ≡ first.old.lists }
+    requires lists { length first.now.lists < 2 ^ 32 }
+    requires room { length plan.now.room ≡ length first.now.lists }
     ensures tables { IfOk result (λ m. AreTables plan.now m.0.tables) }
-    ensures channels { IfOk result (λ m. m.0.channels.lists ≡ first.old.lists) }
+    ensures channels { IfOk result (λ m. m.0.channels.lists ≡ first.now.lists) }
     ensures counted { IfOk result (λ m. length m.0.rooms.items ≡ length plan.now.needs) }
     ensures rooms { IfOk result (λ m. HaveRooms plan.now.needs m.0.rooms.items 0 (length plan.now.needs)) }
     ensures lent { IfOk result (λ m. length m.1.items ≡ length plan.now.needs) }
 {
-    make_ready(first, plan.room.as_slice())?;
+    let tables = Tables::of(alloc, plan)?;
+    let channels = copied_ready(alloc, first, plan.room.as_slice())?;
+    let rooms = rooms_for(alloc, plan.needs.as_slice())?;
     let lent = empty_lists(alloc, plan.needs.as_slice().len())?;
-    let made = Made::of(alloc, plan, first)?;
+    let made = Made {
+        tables,
+        channels,
+        rooms,
+    };
     Ok((made, lent))
 }
 

@@ -3,11 +3,10 @@
 ghost use Rattle.std.specs.Prelude.{◌≡◌};
 
 use super::{Core, Stage};
-use crate::lanes::{Inlet, Outlet};
-use crate::number::skip_rows;
-use crate::numbers::{are_rows_of_one, make_room, put_on_each, rows_in_front};
-use crate::tables::advance;
 use pt_firing::IntRows;
+use pt_sdf_parts::{
+    Inlet, Outlet, advance, are_rows_of_one, make_room, put_on_each, rows_in_front, skip_rows,
+};
 use std::alloc::AllocError;
 
 /// With no more firings than so many and one in a stretch, each by itself costs less.

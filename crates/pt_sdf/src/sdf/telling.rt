@@ -3,13 +3,11 @@
 ghost use Rattle.std.specs.Prelude.{◌≡◌};
 
 use super::{Core, Stage};
-use crate::number::{give_number, give_numbers, skip_inlet};
-use crate::numbers::{are_all_of_one, make_room, put_on_each};
-use crate::rooms::fill_rooms;
-use crate::scatter::scatter;
-use crate::skip::skip_places;
-use crate::tables::{advance, fits_rates};
 use pt_firing::Outputs;
+use pt_sdf_parts::{
+    advance, are_all_of_one, fill_rooms, fits_rates, give_number, give_numbers, make_room,
+    put_on_each, scatter, skip_inlet, skip_places,
+};
 use std::alloc::{AllocError, Global};
 
 impl Core {

@@ -3,7 +3,7 @@ use Rattle.pt_sdf.specs.State.{Allows, IsEnough, in_stage, asked, Closed}
 use Rattle.pt_sdf.specs.Clauses.{State}
 use Rattle.pt_sdf.specs.declared.sdf.Stage.TheVariants as code
 use Rattle.pt_sdf.proofs.CoreLaws.{is-open, seen-at, enough-fired, asked-there, asked-allowed, ask-alone}
-use Rattle.pt_sdf.proofs.StretchLaws.{next-child}
+use Rattle.pt_sdf_parts.proofs.StretchLaws.{next-child}
 use Rattle.pt_sdf.proofs.sdf.Core.ask_next.Goals as goal
 
 pub returns-then-self-eq0 : goal.returns-then-self-eq0

@@ -2,14 +2,14 @@ use Rattle.std.proofs.Common.{ℕ, ◌<◌, Vec, Global, length, get_or, map, ap
 use Rattle.pt_meaning.specs.Streams.{Streams}
 use Rattle.pt_meaning.specs.Sdf.{or_one}
 use Rattle.pt_value.specs.declared.token.Token.{Token}
-use Rattle.pt_sdf.specs.declared.feeds.Feed.{Feed}
+use Rattle.pt_sdf_parts.specs.declared.feeds.Feed.{Feed}
 use Rattle.pt_sdf.specs.declared.sdf.Stage.TheVariants as code
 use Rattle.pt_sdf.specs.State.{begun}
 use Rattle.pt_sdf.specs.Clauses.{State}
-use Rattle.pt_sdf.specs.Core.{left_at_first}
-use Rattle.pt_sdf.specs.Feeds.{target_of, put_back, allowed_by, no_feed, AreThere, AreApart, MovesOnce}
+use Rattle.pt_sdf_parts.specs.Stretches.{left_at_first}
+use Rattle.pt_sdf_parts.specs.Feeds.{target_of, put_back, allowed_by, no_feed, AreThere, AreApart, MovesOnce}
 use Rattle.pt_sched.specs.Stretches.{spread}
-use Rattle.pt_sdf.proofs.StretchLaws.{first-within}
+use Rattle.pt_sdf_parts.proofs.StretchLaws.{first-within}
 use Rattle.pt_sdf.proofs.CoreLaws.{is-idle, seen-at, begin-there, begin-apart, begin-moves, begin-long, begun-sound, begun-state}
 use Rattle.pt_sdf.proofs.sdf.Core.begin.Goals as goal
 

@@ -2,9 +2,9 @@ use Rattle.std.proofs.Common.{ap, subst, sym, ◌∙◌}
 use Rattle.pt_recv.specs.Lines.{Lines}
 use Rattle.pt_value.specs.declared.token.Token.{Token}
 use Rattle.pt_sched.specs.Stretches.{spread}
-use Rattle.pt_sdf.specs.Plan.{plan_of, order_of}
+use Rattle.pt_sdf_parts.specs.Plan.{plan_of, order_of}
 use Rattle.pt_sdf.specs.Core.{order_in, at_in}
-use Rattle.pt_sdf.specs.Stretches.{place_at, IsWithin}
+use Rattle.pt_sdf_parts.specs.Stretches.{place_at, IsWithin}
 use Rattle.pt_sdf.proofs.CallLaws.{plan-same, copy-sound}
 use Rattle.pt_sdf.proofs.sdf.Core.copy.Goals as goal
 

@@ -1,10 +1,10 @@
 use Rattle.std.proofs.Common.{◌+◌, length, ap, ◌∙◌, arith}
 use Rattle.pt_meaning.specs.Sdf.{times}
 use Rattle.pt_sdf.specs.declared.sdf.Stage.TheVariants as code
-use Rattle.pt_sdf.specs.ByNeed.{skip_at}
+use Rattle.pt_sdf_parts.specs.ByNeed.{skip_at}
 use Rattle.pt_sdf.specs.State.{closed}
 use Rattle.pt_sdf.specs.Clauses.{State}
-use Rattle.pt_sdf.proofs.UnfedLaws.{counts_of}
+use Rattle.pt_sdf_parts.proofs.UnfedLaws.{counts_of}
 use Rattle.pt_sdf.proofs.CoreLaws.{is-closed, seen-at, given-long, given-few, finished-sound, finished-state}
 use Rattle.pt_sdf.proofs.sdf.Core.finish.Goals as goal
 

@@ -1,5 +1,5 @@
-use Rattle.std.proofs.Common.{◌+◌, ◌<◌, length, arith}
-use Rattle.pt_sdf.proofs.HandLaws.{busy-there, busy-left}
+use Rattle.std.proofs.Common.{arith}
+use Rattle.pt_sdf.proofs.HandLaws.{busy-left}
 use Rattle.pt_sdf.proofs.CoreLaws.{is-asked}
 use Rattle.pt_sdf.proofs.sdf.Core.gives_several.Goals as goal
 

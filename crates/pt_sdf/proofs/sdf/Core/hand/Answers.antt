@@ -1,11 +1,11 @@
 use Rattle.std.proofs.Common.{◌≡◌, ℕ, ◌+◌, ◌⊎◌, None, ◌<◌, ◌≤◌, [], length, get_or, take, drop, refl, ap, ◌∙◌, sym, subst, arith, inl}
 use Rattle.pt_meaning.specs.Kahn.{firsts}
-use Rattle.pt_sdf.specs.ByNeed.{skip_at}
+use Rattle.pt_sdf_parts.specs.ByNeed.{skip_at}
 use Rattle.pt_sdf.specs.State.{handed}
 use Rattle.pt_sdf.specs.Clauses.{State}
-use Rattle.pt_sdf.specs.Rooms.{HaveRooms}
+use Rattle.pt_sdf_parts.specs.Rooms.{HaveRooms}
 use Rattle.pt_sdf.specs.declared.sdf.Stage.TheVariants as code
-use Rattle.pt_sdf.proofs.SoundLaws.{begins-long}
+use Rattle.pt_sdf_parts.proofs.TableLaws.{begins-long}
 use Rattle.pt_sdf.proofs.CoreLaws.{seen-at, asked-fits, asked-lists, asked-enough, asked-rooms, asked-sound, asked-state}
 use Rattle.pt_sdf.proofs.HandLaws.{reopened, reopened-sound, reopened-left, reopened-next, busy-there}
 use Rattle.pt_sdf.proofs.sdf.Core.hand.Goals as goal

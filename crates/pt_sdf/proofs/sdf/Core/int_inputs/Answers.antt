@@ -1,16 +1,17 @@
 use Rattle.std.proofs.Common.{◌≡◌, ◌+◌, ◌<◌, ◌≤◌, length, get_or, take, drop, inl, refl, ap, ap₂, ◌∙◌, sym, subst, arith}
 use Rattle.pt_meaning.specs.Kahn.{firsts}
 use Rattle.pt_firing.specs.IntInputs.{one_at_each}
-use Rattle.pt_sdf.specs.ByNeed.{place_of}
+use Rattle.pt_sdf_parts.specs.ByNeed.{place_of}
 use Rattle.pt_sdf.specs.State.{lent_in}
 use Rattle.pt_sdf.specs.Clauses.{State}
 use Rattle.pt_sdf.specs.Core.{unmoved}
 use Rattle.pt_sdf.specs.declared.sdf.Stage.TheVariants as code
-use Rattle.pt_sdf.proofs.SoundLaws.{begins-long}
+use Rattle.pt_sdf_parts.proofs.TableLaws.{begins-long}
 use Rattle.pt_sdf.proofs.CoreLaws.{seen-at}
 use Rattle.pt_sdf.proofs.HandLaws.{busy-there, offset-read, place-is, unmoved-fits}
-use Rattle.pt_sdf.proofs.IntLaws.{some-more}
-use Rattle.pt_sdf.proofs.LaneLaws.{source-of, inlet-of, each-of, inlet-taken}
+use Rattle.pt_sdf_parts.proofs.IntLaws.{some-more}
+use Rattle.pt_sdf.proofs.ToldLaws.{source-of, inlet-of, each-of}
+use Rattle.pt_sdf_parts.proofs.LaneLaws.{inlet-taken}
 use Rattle.pt_sdf.proofs.sdf.Core.int_inputs.Goals as goal
 
 pub returns-in-Nothing : goal.returns-in-Nothing

@@ -1,6 +1,6 @@
-use Rattle.std.proofs.Common.{◌≡◌, ℕ, ◌+◌, ◌<◌, ◌≤◌, length, get_or, inl, refl, ap, ◌∙◌, sym, subst, arith}
+use Rattle.std.proofs.Common.{ℕ, get_or, inl, refl, ap, ◌∙◌, sym, subst, arith}
 use Rattle.pt_recv.specs.Lines.{list_at}
-use Rattle.pt_sdf.specs.ByNeed.{place_of}
+use Rattle.pt_sdf_parts.specs.ByNeed.{place_of}
 use Rattle.pt_sdf.specs.Clauses.{State}
 use Rattle.pt_sdf.specs.State.{asked}
 use Rattle.pt_sdf.specs.Core.{state_in, unmoved}
@@ -9,8 +9,8 @@ use Rattle.pt_sdf.specs.declared.sdf.Stage.TheVariants as code
 use Rattle.pt_sdf.proofs.AheadLaws.{IsAlone, front-ahead, nothing-ahead}
 use Rattle.pt_sdf.proofs.CoreLaws.{seen-at}
 use Rattle.pt_sdf.proofs.HandLaws.{asked-now, busy-there, busy-left, offset-read, unmoved-fits}
-use Rattle.pt_sdf.proofs.LaneLaws.{source-of, inlet-of}
-use Rattle.pt_sdf.proofs.StretchLaws.{again-read}
+use Rattle.pt_sdf.proofs.ToldLaws.{source-of, inlet-of}
+use Rattle.pt_sdf_parts.proofs.StretchLaws.{again-read}
 use Rattle.pt_sdf.proofs.sdf.Core.int_rows.Goals as goal
 
 pub index-requires : goal.index-requires

@@ -2,7 +2,7 @@ use Rattle.std.proofs.Common.{◌≡◌, ℕ, ◌+◌, ◌-◌, length, get_or, 
 use Rattle.pt_sdf.specs.State.{lent_in}
 use Rattle.pt_sdf.specs.Clauses.{State}
 use Rattle.pt_sdf.specs.declared.sdf.Stage.TheVariants as code
-use Rattle.pt_sdf.proofs.SoundLaws.{begins-long}
+use Rattle.pt_sdf_parts.proofs.TableLaws.{begins-long}
 use Rattle.pt_sdf.proofs.CoreLaws.{seen-at, told-child, told-lists, told-lent}
 use Rattle.pt_sdf.proofs.sdf.Core.lent.Goals as goal
 

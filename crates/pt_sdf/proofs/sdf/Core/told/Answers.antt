@@ -1,13 +1,13 @@
 use Rattle.std.proofs.Common.{◌≡◌, ◌+◌, ◌≤◌, [], true, false, None, length, get_or, take, drop, map, refl, ap, ◌∙◌, sym, subst, arith}
 use Rattle.pt_meaning.specs.Rounds.{has_rates}
-use Rattle.pt_sdf.specs.ByNeed.{skip_at}
+use Rattle.pt_sdf_parts.specs.ByNeed.{skip_at}
 use Rattle.pt_sdf.specs.State.{after_told}
 use Rattle.pt_sdf.specs.Clauses.{State}
-use Rattle.pt_sdf.specs.Rooms.{HasRoom, HaveRooms}
-use Rattle.pt_sdf.specs.Stretches.{place_at, IsWithin, IsAdvanced}
-use Rattle.pt_sdf.specs.Feeds.{target_of, put_back, AreThere, AreApart, MovesOnce}
-use Rattle.pt_sdf.proofs.Lists.{skip-long}
-use Rattle.pt_sdf.proofs.SoundLaws.{begins-long}
+use Rattle.pt_sdf_parts.specs.Rooms.{HasRoom, HaveRooms}
+use Rattle.pt_sdf_parts.specs.Stretches.{place_at, IsWithin, IsAdvanced}
+use Rattle.pt_sdf_parts.specs.Feeds.{target_of, put_back, AreThere, AreApart, MovesOnce}
+use Rattle.pt_sdf_parts.proofs.Lists.{skip-long}
+use Rattle.pt_sdf_parts.proofs.TableLaws.{begins-long}
 use Rattle.pt_sdf.proofs.CoreLaws.{is-asked, told-wrong, wrongly-told, told-into, told-apart, told-moves, told-goes-on, told-is, rates-read}
 use Rattle.pt_sdf.proofs.HandLaws.{handing, busy-there, busy-fits, busy-rooms, unmoved-fits, unmoved-enough, handing-sound, handing-told, busy-left}
 use Rattle.pt_sdf.proofs.sdf.Core.told.Goals as goal

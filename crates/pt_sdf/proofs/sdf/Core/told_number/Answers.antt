@@ -1,15 +1,16 @@
 use Rattle.std.proofs.Common.{inl, ◌+◌, ◌≤◌, [], ◌∷◌, length, take, drop, get_or, w64, ap, ◌∙◌, sym, subst, arith}
 use Rattle.std.proofs.lemmas.Int.{to_z-of_z}
 use Rattle.pt_value.specs.declared.token.Token.TheVariants.{Int}
-use Rattle.pt_sdf.specs.ByNeed.{skip_at}
+use Rattle.pt_sdf_parts.specs.ByNeed.{skip_at}
 use Rattle.pt_sdf.specs.State.{after_told}
 use Rattle.pt_sdf.specs.Clauses.{State}
-use Rattle.pt_sdf.specs.Feeds.{put_back}
-use Rattle.pt_sdf.specs.Lanes.{FitsInlet, targets_of}
-use Rattle.pt_sdf.specs.Stretches.{place_at, IsWithin, IsAdvanced}
-use Rattle.pt_sdf.proofs.SoundLaws.{begins-long}
+use Rattle.pt_sdf_parts.specs.Feeds.{put_back}
+use Rattle.pt_sdf_parts.specs.Lanes.{FitsInlet, targets_of}
+use Rattle.pt_sdf_parts.specs.Stretches.{place_at, IsWithin, IsAdvanced}
+use Rattle.pt_sdf_parts.proofs.TableLaws.{begins-long}
 use Rattle.pt_sdf.proofs.HandLaws.{asked-now, busy-left}
-use Rattle.pt_sdf.proofs.LaneLaws.{if-so, lane-there, lane-outlet, lane-inlet, lane-fits, lane-given-places, lane-given-enough, lane-sound, lane-state}
+use Rattle.pt_sdf.proofs.ToldLaws.{lane-there, lane-outlet, lane-inlet, lane-fits, lane-given-places, lane-given-enough, lane-sound, lane-state}
+use Rattle.pt_sdf_parts.proofs.LaneLaws.{if-so}
 use Rattle.pt_sdf.proofs.sdf.Core.told_number.Goals as goal
 
 pub give_number-requires : goal.give_number-requires

@@ -1,4 +1,4 @@
-use Rattle.std.proofs.Common.{rules, ◌≡◌, ℕ, ℤ, suc, ◌+◌, ◌*◌, ◌≤◌, [], ◌∷◌, true, length, get_or, map, Fits, w32, inl, ap, sym, subst, ◌∙◌, arith, if◌then◌else◌}
+use Rattle.std.proofs.Common.{rules, ◌≡◌, ℕ, suc, ◌+◌, ◌*◌, ◌≤◌, [], ◌∷◌, true, length, get_or, map, Fits, w32, inl, ap, sym, subst, ◌∙◌, arith}
 use Rattle.std.proofs.lemmas.Grind.{common_steps}
 use Rattle.pt_meaning.specs.Streams.{Streams}
 use Rattle.pt_value.specs.declared.token.Token.{Token}
@@ -6,15 +6,15 @@ use Rattle.pt_value.specs.declared.token.Token.TheVariants.{Int}
 use Rattle.pt_sdf.specs.Core.{state_of, with_asked, Sound, order_in, at_in}
 use Rattle.pt_sdf.specs.declared.sdf.Stage.TheVariants as code
 use Rattle.pt_sdf.specs.Clauses.{State}
-use Rattle.pt_sdf.specs.Feeds.{target_of, put_back, AreThere, AreApart}
+use Rattle.pt_sdf_parts.specs.Feeds.{target_of, put_back, AreThere, AreApart}
 use Rattle.pt_sdf.specs.InARow.{TellsInTurn, given_by}
-use Rattle.pt_sdf.specs.Lanes.{HasRow, IsInletIn, row_left}
-use Rattle.pt_sdf.specs.Plan.{plan_of}
-use Rattle.pt_sdf.specs.Stretches.{no_stretch, place_at, IsWithin, IsAdvanced}
+use Rattle.pt_sdf_parts.specs.Lanes.{HasRow, IsInletIn, row_left}
+use Rattle.pt_sdf_parts.specs.Plan.{plan_of}
+use Rattle.pt_sdf_parts.specs.Stretches.{no_stretch, place_at, IsWithin, IsAdvanced}
 use Rattle.pt_sdf.proofs.CoreLaws.{rates-read}
 use Rattle.pt_sdf.proofs.HandLaws.{asked-now, busy-there, busy-left}
-use Rattle.pt_sdf.proofs.LaneLaws.{if-so}
-use Rattle.pt_sdf.proofs.StretchLaws.{again-read}
+use Rattle.pt_sdf_parts.proofs.LaneLaws.{if-so}
+use Rattle.pt_sdf_parts.proofs.StretchLaws.{again-read}
 use Rattle.pt_sdf.proofs.RowLists.{if-not, row-left-long}
 use Rattle.pt_sdf.proofs.RowLaws.{row_held, row_inputs, row-told-sound, row-told, row-fed, row-fed-apart, row-inlet, row-put}
 use Rattle.pt_sdf.proofs.sdf.Core.told_rows.Goals as goal

@@ -1,5 +1,5 @@
 use Rattle.std.proofs.Common.{length, ap, ◌∙◌, subst}
-use Rattle.pt_sdf.specs.Rooms.{HaveRooms}
+use Rattle.pt_sdf_parts.specs.Rooms.{HaveRooms}
 use Rattle.pt_sdf.proofs.sdf.made.Made.of.Goals as goal
 
 pub returns-clause-tables : goal.returns-clause-tables

@@ -1,5 +1,0 @@
-use Rattle.std.proofs.Common.{◌≡◌, ◌++◌, take}
-use Rattle.pt_sdf.proofs.scatter.stage.Given as goal
-
-abbrev pub invariant-loop-token : goal.invariant-loop-token
-invariant-loop-token l = l.staged.list ≡ l.fn.staged.list ++ take l.token-index l.tokens

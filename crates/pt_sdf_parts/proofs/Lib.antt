@@ -1,0 +1,10 @@
+pub mod Lists
+pub mod NeedLaws
+pub mod FeedLaws
+pub mod MarkLaws
+pub mod IntLaws
+pub mod OutletLaws
+pub mod UnfedLaws
+pub mod StretchLaws
+pub mod TableLaws
+pub mod LaneLaws
