@@ -1,6 +1,6 @@
 //! A stand-in: whatever is written here has types.
 use super::written::Written;
 use crate::rstd::alloc::{AllocError, Global};
-pub(crate) fn is_typed_machine(_alloc: Global, _written: &Written) -> Result<bool, AllocError> {
+pub fn is_typed_machine(_alloc: Global, _written: &Written) -> Result<bool, AllocError> {
     Ok(true)
 }

@@ -1,13 +1,6 @@
 pub mod Machine
 pub mod Names
-pub mod Placed
-pub mod Bindings
 pub mod Typed
 pub mod Chart
 pub mod Reacted
 pub mod Views
-pub mod Told
-pub mod Choose
-pub mod Acts
-pub mod Moves
-pub mod Alone

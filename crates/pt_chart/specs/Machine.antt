@@ -1,6 +1,7 @@
 -- A Modal as it is written: its states with their transitions, whose guards and actions are expressions, what these may name, and the ports of its refinements (the book, "Finite State Machines" and "Modal Models").
-use Rattle.std.specs.Prelude.{ℕ, List, Bool, Option, refl}
+use Rattle.std.specs.Prelude.{ℕ, List, [], Bool, true, false, Option, Some, None, refl}
 use Rattle.std.specs.Coded.{Coded, code_by, coded×, coded_ℕ, coded_list, coded_option, coded_bool}
+use Rattle.pt_meaning.specs.Streams.{get}
 use Rattle.pt_value.specs.Token.{coded_token}
 use Rattle.pt_value.specs.declared.token.Token.{Token}
 use Rattle.pt_datatypes.specs.Datatype.{Datatype}
@@ -46,6 +47,22 @@ pub record Machine : Type 0 where
   pub initial : ℕ
   pub modes : List ModeTree
   pub ports : List PortMap
+
+-- a state in which nothing happens
+abbrev pub still : ModeTree
+still = record { refinement = None; preemptive = []; others = [] }
+
+abbrev pub or_still : Option ModeTree → ModeTree
+or_still None = still
+or_still (Some m) = m
+
+abbrev pub mode_at : List ModeTree → ℕ → ModeTree
+mode_at modes mode = or_still (get modes mode)
+
+-- the transitions of a kind
+abbrev pub kind_of : (early : Bool) → ModeTree → List TransitionTree
+kind_of true m = m.preemptive
+kind_of false m = m.others
 
 -- ---- how a proof tells such a Modal from others
 

@@ -1,9 +1,6 @@
 -- What the program holds of a Modal, as it is written.
 use Rattle.std.specs.Prelude.{map}
-use Rattle.pt_meaning.specs.Transitions.{Scope}
-use Rattle.pt_value.specs.declared.token.Token.{Token}
 use Rattle.pt_language.specs.Expr.{tree_of}
-use Rattle.pt_chart.specs.declared.names.Reads.{Reads}
 use Rattle.pt_chart.specs.declared.written.Action.{Action}
 use Rattle.pt_chart.specs.declared.written.Transition.{Transition}
 use Rattle.pt_chart.specs.declared.written.Mode.{Mode}
@@ -29,6 +26,3 @@ names_view n = record { inputs = n.inputs; outputs = n.outputs; variables = n.va
 
 abbrev pub machine_of : Written → Machine
 machine_of w = record { names = names_view w.names; values = w.values.items; initial = w.initial; modes = map mode_view w.modes.items; ports = map ports_view w.ports.items }
-
-abbrev pub reads_view : Reads → Scope Token
-reads_view r = record { values = r.values.now; inputs = r.inputs.now; given = r.given.now }

@@ -15,7 +15,7 @@ use pt_value::Text;
 use std::alloc::{AllocError, Global};
 
 /// Whether all guards and actions have a type.
-pub(crate) fn is_typed_machine(alloc: Global, written: &Written) -> Result<bool, AllocError>
+pub fn is_typed_machine(alloc: Global, written: &Written) -> Result<bool, AllocError>
     ensures { IfOk result (λ typed. typed ≡ is_typed_machine (machine_of written.now)) }
 {
     let types = types_of(alloc, &written.names)?;

@@ -1,5 +1,5 @@
 ghost use Rattle.std.specs.Prelude.{◌≡◌, IfOk, map};
-ghost use Rattle.pt_chart.specs.Acts.{mode_at};
+ghost use Rattle.pt_chart.specs.Machine.{mode_at};
 ghost use Rattle.pt_chart.specs.Views.{action_view, transition_view, mode_view, ports_view, names_view, machine_of};
 
 use pt_firing::Values;
@@ -171,7 +171,7 @@ impl Written {
 }
 
 /// The refinement of a state.
-pub(crate) fn refinement_of(modes: &[Mode], mode: u32) -> Option<u32>
+pub fn refinement_of(modes: &[Mode], mode: u32) -> Option<u32>
     ensures { result ≡ (mode_at (map mode_view modes.now) mode).refinement }
 {
     let mode = mode as usize;

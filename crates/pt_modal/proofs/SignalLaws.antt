@@ -4,9 +4,9 @@ use Rattle.pt_meaning.specs.Tag.{Tag}
 use Rattle.pt_meaning.specs.Streams.{Streams}
 use Rattle.pt_meaning.specs.Modal.{Chart, Modes, Choice, Nothing, One, Wrong, Acted, Acts, Fails, chosen, unfired_outputs}
 use Rattle.pt_value.specs.declared.token.Token.{Token}
-use Rattle.pt_chart.specs.declared.signal.Signal.{Signal}
+use Rattle.pt_transitions.specs.declared.signal.Signal.{Signal}
 use Rattle.pt_chart.specs.Reacted.{Reacted, Stays, Moves, Stops, by_actions, by_choice, reacted}
-use Rattle.pt_chart.specs.Alone.{ComesTo, by_both, signal_of}
+use Rattle.pt_transitions.specs.Alone.{ComesTo, by_both, signal_of}
 use Rattle.pt_modal_laws.specs.State.{Over, moved_stays, stage_after, with_outcome, opened, pared, closed, at_rest, chart_in, after_taken, after_calm, after_preemptive, begun}
 use Rattle.pt_modal_laws.specs.ModalActs.{State}
 use Rattle.pt_modal.specs.First.{after_reacted}

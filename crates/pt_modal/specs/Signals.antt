@@ -4,7 +4,7 @@ use Rattle.pt_meaning.specs.Tag.{Tag}
 use Rattle.pt_meaning.specs.Streams.{Streams}
 use Rattle.pt_meaning.specs.Modal.{Chart, Modes}
 use Rattle.pt_value.specs.declared.token.Token.{Token}
-use Rattle.pt_chart.specs.Alone.{AloneTo, signal_of}
+use Rattle.pt_transitions.specs.Alone.{AloneTo, signal_of}
 use Rattle.pt_modal_laws.specs.State.{Over, closed, begun}
 use Rattle.pt_modal_laws.specs.ModalActs.{State}
 

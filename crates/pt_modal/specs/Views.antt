@@ -1,6 +1,6 @@
 -- What the program tells of what comes first in a reaction.
 use Rattle.pt_value.specs.declared.token.Token.{Token}
-use Rattle.pt_chart.specs.Moves.{reaction_view}
+use Rattle.pt_transitions.specs.Moves.{reaction_view}
 use Rattle.pt_modal.specs.declared.first.FirstStep as declared
 use Rattle.pt_modal.specs.declared.first.FirstStep.TheVariants as code
 use Rattle.pt_modal.specs.First.{FirstStep, Fires, Comes}

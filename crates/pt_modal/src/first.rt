@@ -4,8 +4,8 @@ ghost use Rattle.pt_modal.specs.First.{by_refinement, first_step, kept_for};
 ghost use Rattle.pt_modal.specs.Views.{first_view};
 
 use crate::modes::Modes;
-use pt_chart::{Chart, Reaction, copied_inputs};
 use pt_firing::{Inputs, Tokens};
+use pt_transitions::{Chart, Reaction, copied_inputs};
 use std::alloc::{AllocError, Global};
 
 /// What comes first in a reaction.

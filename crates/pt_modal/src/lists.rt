@@ -1,7 +1,7 @@
 ghost use Rattle.std.specs.Prelude.{◌≡◌, IfOk, IsTrue};
 
-use pt_chart::copied_lists;
 use pt_firing::Tokens;
+use pt_transitions::copied_lists;
 use std::alloc::{AllocError, Global};
 use std::mem;
 

@@ -8,9 +8,9 @@ use crate::modes::Modes;
 use crate::plan::CorePlan;
 use crate::stage::Stage;
 use crate::wakes::{lagged, set_wake, wake_of};
-use pt_chart::{Move, Reaction};
 use pt_firing::{Ask, Counts, Inputs, Outputs, Tokens};
 use pt_time::Tag;
+use pt_transitions::{Move, Reaction};
 use std::alloc::{AllocError, Global};
 use std::marker::Model;
 
@@ -64,7 +64,7 @@ impl Core {
     ghost use Rattle.pt_meaning.specs.Tag.{local};
     ghost use Rattle.pt_meaning.specs.Modal.{lag_of};
     ghost use Rattle.pt_chart.specs.Chart.{chart_of};
-    ghost use Rattle.pt_chart.specs.Moves.{reaction_view};
+    ghost use Rattle.pt_transitions.specs.Moves.{reaction_view};
     ghost use Rattle.pt_modal_laws.specs.State.{Idle, Closed, asked_child, opened, after_reset, closed, taken_by, started, begun, after_told, restarted, wake_of};
     ghost use Rattle.pt_modal_laws.specs.ModalActs.{MayAsk, Gives, asking};
     ghost use Rattle.pt_modal.specs.First.{Picks, after_first, after_reacted, moved};

@@ -1,8 +1,9 @@
 ghost use Rattle.std.specs.Prelude.{◌≡◌, IfOk, IfSome, IfNone};
 
 use crate::stays::{Stay, lag_of, pass, unentered};
-use pt_chart::{Chart, copied_tokens};
+use pt_chart::copied_tokens;
 use pt_firing::Inputs;
+use pt_transitions::Chart;
 use pt_value::Token;
 use std::alloc::{AllocError, Global};
 use std::marker::Model;

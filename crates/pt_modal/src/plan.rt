@@ -2,9 +2,9 @@ ghost use Rattle.std.specs.Prelude.{◌≡◌, IfOk, IfSome, IfNone, replicate, 
 
 use crate::first::{FirstStep, first_step};
 use crate::modes::Modes;
-use pt_chart::{Chart, Reaction};
 use pt_firing::{Counts, Inputs, Outputs};
 use pt_time::Tag;
+use pt_transitions::{Chart, Reaction};
 use std::alloc::{AllocError, Global};
 use std::marker::Model;
 
@@ -47,7 +47,7 @@ impl CorePlan {
     ghost use Rattle.std.specs.Prelude.{false};
     ghost use Rattle.pt_meaning.specs.Modal.{first_modes, shown};
     ghost use Rattle.pt_chart.specs.Chart.{chart_of};
-    ghost use Rattle.pt_chart.specs.Moves.{reaction_view};
+    ghost use Rattle.pt_transitions.specs.Moves.{reaction_view};
     ghost use Rattle.pt_chart.specs.Reacted.{reacted};
     ghost use Rattle.pt_modal.specs.First.{first_step};
     ghost use Rattle.pt_modal.specs.Signals.{PassesAlone};

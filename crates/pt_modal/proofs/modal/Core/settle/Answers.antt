@@ -1,8 +1,8 @@
 use Rattle.std.proofs.Common.{ap, sym, ◌∙◌}
-use Rattle.pt_chart.specs.declared.reaction.Reaction.{Reaction}
+use Rattle.pt_transitions.specs.declared.reaction.Reaction.{Reaction}
 use Rattle.pt_chart.specs.Machine.{Machine}
 use Rattle.pt_chart.specs.Chart.{chart_of}
-use Rattle.pt_chart.specs.Moves.{reaction_view}
+use Rattle.pt_transitions.specs.Moves.{reaction_view}
 use Rattle.pt_firing.specs.RunFault.{code_of}
 use Rattle.pt_modal_laws.specs.State.{Over, Failed, in_stage, with_outcome}
 use Rattle.pt_modal_laws.specs.ModalActs.{State}

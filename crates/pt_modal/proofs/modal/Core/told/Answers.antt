@@ -6,7 +6,7 @@ use Rattle.pt_value.specs.declared.token.Token.{Token}
 use Rattle.pt_chart.specs.Machine.{Machine}
 use Rattle.pt_chart.specs.Chart.{chart_of}
 use Rattle.pt_chart.specs.Reacted.{Reacted, reacted}
-use Rattle.pt_chart.specs.Moves.{reaction_view}
+use Rattle.pt_transitions.specs.Moves.{reaction_view}
 use Rattle.pt_modal_laws.specs.State.{ModalPlan, with_wake, after_told}
 use Rattle.pt_modal_laws.specs.ModalActs.{State}
 use Rattle.pt_modal.specs.Stage.{stage_of, IsAtHand}

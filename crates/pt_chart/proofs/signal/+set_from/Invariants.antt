@@ -1,5 +1,0 @@
-use Rattle.std.proofs.Common.{length, ◌-◌}
-use Rattle.pt_chart.proofs.signal.+set_from.Given as goal
-
-abbrev pub decreases-set_from : goal.decreases-set_from
-decreases-set_from l = length l.actions.now - l.number

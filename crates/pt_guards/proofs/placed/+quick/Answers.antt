@@ -1,0 +1,18 @@
+use Rattle.std.proofs.Common.{◌≡◌, ◌∙◌, ap, subst, to_z, of_z, w64, rules, arith, sym}
+use Rattle.std.proofs.lemmas.Int.{to_z-of_z}
+use Rattle.pt_value.specs.Value.{Value, Int}
+use Rattle.pt_language.specs.Outcome.{Outcome, Gives}
+use Rattle.pt_guards.specs.Placed.{Says}
+use Rattle.pt_guards.specs.declared.placed.Placed.{Placed}
+use Rattle.pt_guards.specs.Reads.{reads_view}
+use Rattle.pt_guards.proofs.placed.+quick.Goals as goal
+
+pub integer-returns-in-Int : goal.integer-returns-in-Int
+integer-returns-in-Int t c table tree says =
+    let n = c.in-Int.n in
+    let passed : to_z w64 (of_z w64 n) ≡ n = first_of (search rules, grind (arith, to_z-of_z)) in
+    let gives = subst (λ (p : Placed). Says table p tree) c.in-Int.is says (reads_view c.args.reads.now) in
+    gives ∙ ap (λ z. let o : Outcome Value = Gives (Int z) in o) (sym passed)
+
+pub truth_value-returns-in-Bool : goal.truth_value-returns-in-Bool
+truth_value-returns-in-Bool t c table tree says = subst (λ (p : Placed). Says table p tree) c.in-Bool.is says (reads_view c.args.reads.now)

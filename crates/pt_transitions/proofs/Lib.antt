@@ -1,0 +1,2 @@
+pub mod ReactLaws
+pub mod AloneLaws
