@@ -6,14 +6,11 @@ ghost use Rattle.pt_trees.specs.Composite.{trees_of, IsComposite, CompositeFault
 ghost use Rattle.pt_trees.specs.Fresh.{AllFresh, AreEmpty};
 ghost use Rattle.pt_trees.specs.Rates.{AllStarted};
 
-use crate::de::de_composite;
-use crate::modal::modal_composite;
-use crate::pn::pn_composite;
-use crate::rendezvous::rendezvous_composite;
-use crate::sdf::sdf_composite;
-use crate::sr::sr_composite;
 use pt_document::Director;
-use pt_node::{Labels, Node, Records};
+use pt_flow_composites::{pn_composite, rendezvous_composite, sdf_composite};
+use pt_node::Node;
+use pt_past::{Labels, Records};
+use pt_reactive_composites::{de_composite, modal_composite, sr_composite};
 use pt_trees::{CompositeFault, Directing, Wiring};
 use pt_value::Text;
 use std::alloc::Global;

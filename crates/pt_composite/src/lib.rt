@@ -2,12 +2,5 @@
 #![tactic(auto)]
 
 mod composing;
-mod de;
-mod modal;
-mod node;
-mod pn;
-mod rendezvous;
-mod sdf;
-mod sr;
 
 pub use composing::composite;

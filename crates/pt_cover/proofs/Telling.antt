@@ -11,7 +11,7 @@ use Rattle.pt_net.specs.declared.net.NetEntity.{NetEntity}
 use Rattle.pt_net.specs.declared.net.NetPort.{NetPort}
 use Rattle.pt_net.specs.Net.{IsNetOf}
 use Rattle.pt_net.specs.Inside.{port_number}
-use Rattle.pt_node.specs.Recorded.{RecordedPort}
+use Rattle.pt_past.specs.Recorded.{RecordedPort}
 use Rattle.pt_node.specs.Shown.{Shown, AllShown, Branch, none, more, list_of}
 use Rattle.pt_node.specs.View.{outline_of, outlines_of, text_at, text_below}
 use Rattle.pt_trees.specs.Composite.{frame_in, children_in}

@@ -17,7 +17,7 @@ use Rattle.pt_net.specs.Net.{entity_view, director_view}
 use Rattle.pt_net.specs.Inside.{is_child, child_if, children_from}
 use Rattle.pt_machine.specs.Children.{stands_in}
 use Rattle.pt_machine.specs.Children as machine
-use Rattle.pt_sdf.specs.ByNeed.{needs_of, planned}
+use Rattle.pt_sdf_parts.specs.ByNeed.{needs_of, planned}
 use Rattle.pt_library.specs.LibraryActor.{rows}
 use Rattle.pt_node.specs.View.{Tree}
 use Rattle.pt_trees.specs.Modal.{is_opaque}

@@ -2,7 +2,7 @@
 use Rattle.std.proofs.Common.{◌≡◌, ℕ, ◌+◌, ◌<◌, List, [], ◌∷◌, ◌++◌, length, take, get_or, Option, sym, ap, ap₂, ◌∙◌, subst, arith}
 use Rattle.std.proofs.lemmas.List.{take_more}
 use Rattle.pt_meaning.specs.NodeFacts.{facts_of}
-use Rattle.pt_sdf.specs.ByNeed.{planned}
+use Rattle.pt_sdf_parts.specs.ByNeed.{planned}
 use Rattle.pt_library.specs.LibraryActor.{rows}
 use Rattle.pt_node.specs.declared.node.Node.{Node}
 use Rattle.pt_node.specs.Shown.{shown_node}

@@ -4,7 +4,7 @@ use Rattle.std.specs.Global.{Global}
 use Rattle.pt_meaning.specs.Machine.{Counts}
 use Rattle.pt_meaning.specs.NodeFacts.{facts_of, need_of}
 use Rattle.pt_meaning.specs.Running.{total}
-use Rattle.pt_sdf.specs.ByNeed.{needs_of, planned}
+use Rattle.pt_sdf_parts.specs.ByNeed.{needs_of, planned}
 use Rattle.pt_library.specs.LibraryActor.{rows}
 use Rattle.pt_node.specs.View.{Tree}
 

@@ -1,7 +1,7 @@
 ghost use Rattle.std.specs.Prelude.{◌≡◌, ℕ, ◌++◌, ◌+◌, List, Option, Some, None, IfOk, MatchOption, length, map, true, false};
 ghost use Rattle.pt_meaning.specs.NodeFacts.{facts_of};
 ghost use Rattle.pt_meaning.specs.Running.{total};
-ghost use Rattle.pt_sdf.specs.ByNeed.{needs_of, planned};
+ghost use Rattle.pt_sdf_parts.specs.ByNeed.{needs_of, planned};
 ghost use Rattle.pt_library.specs.LibraryActor.{rows};
 ghost use Rattle.pt_node.specs.Shown.{shown, shown_node};
 ghost use Rattle.pt_node.specs.View.{node_of};

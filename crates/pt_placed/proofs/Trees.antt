@@ -13,7 +13,7 @@ use Rattle.pt_net.specs.declared.net.Net.{Net}
 use Rattle.pt_net.specs.declared.net.NetEntity.{NetEntity}
 use Rattle.pt_net.specs.Inside.{children_of, place_count}
 use Rattle.pt_library.specs.LibraryActor.{rows}
-use Rattle.pt_sdf.specs.ByNeed.{needs_of, planned}
+use Rattle.pt_sdf_parts.specs.ByNeed.{needs_of, planned}
 use Rattle.pt_node.specs.View.{Tree}
 use Rattle.pt_trees.specs.Rendezvous.{IsPlaced}
 use Rattle.pt_trees.specs.Trees.{IsEntity, Starts, around_in, IsTree, of_actor, of_composite, AreTrees, no_trees, more_trees}

@@ -13,7 +13,7 @@ use Rattle.pt_meaning.specs.Streams.{get}
 use Rattle.pt_net.specs.declared.net.Net.{Net}
 use Rattle.pt_net.specs.declared.net.NetEntity.{NetEntity}
 use Rattle.pt_net.specs.Inside.{is_output}
-use Rattle.pt_sdf.specs.ByNeed.{needs_of, planned}
+use Rattle.pt_sdf_parts.specs.ByNeed.{needs_of, planned}
 use Rattle.pt_library.specs.LibraryActor.{rows}
 use Rattle.pt_node.specs.View.{Tree}
 use Rattle.pt_trees.specs.Around.{declared_at}

@@ -5,7 +5,7 @@ use Rattle.std.proofs.Math.Seq.{take-length}
 use Rattle.pt_meaning.specs.Streams.{get}
 use Rattle.pt_meaning.specs.Machine.{Counts, Facts}
 use Rattle.pt_meaning.specs.Running.{total}
-use Rattle.pt_sdf.specs.ByNeed.{needs_of, planned}
+use Rattle.pt_sdf_parts.specs.ByNeed.{needs_of, planned}
 
 module _ {T S : Type 0} (facts : Facts T S) where
   pub needs-append : (xs ys : List S) → needs_of facts (xs ++ ys) ≡ needs_of facts xs ++ needs_of facts ys

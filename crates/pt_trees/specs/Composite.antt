@@ -4,7 +4,7 @@ use Rattle.pt_meaning.specs.Tree as tree
 use Rattle.pt_value.specs.declared.token.Token.{Token}
 use Rattle.pt_records.specs.Kept.{Made}
 use Rattle.pt_node.specs.declared.body.Body.{Body}
-use Rattle.pt_node.specs.Recorded.{RecordedPort}
+use Rattle.pt_past.specs.Recorded.{RecordedPort}
 use Rattle.pt_node.specs.Shown.{Shown, Branch, Frame, list_of}
 use Rattle.pt_node.specs.View.{Tree, node_of, maximum_in}
 use Rattle.pt_trees.specs.declared.directing.Directing.{Directing}

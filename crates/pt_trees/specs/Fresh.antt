@@ -5,7 +5,7 @@ use Rattle.pt_laws.specs.Heights.{IsFitting}
 use Rattle.pt_laws.specs.StartedRuns.{ArePlans}
 use Rattle.pt_records.specs.Kept.{Made}
 use Rattle.pt_library.specs.LibraryActor.{rows}
-use Rattle.pt_node.specs.Recorded.{RecordedPort}
+use Rattle.pt_past.specs.Recorded.{RecordedPort}
 use Rattle.pt_node.specs.Shown.{Shown, AllShown, Branch, none, more}
 use Rattle.pt_node.specs.View.{node_of}
 use Rattle.pt_node.specs.Live.{is_live, IsFit}

@@ -10,7 +10,7 @@ use Rattle.pt_value.specs.declared.token.Token.{Token}
 use Rattle.pt_chart.specs.Chart.{chart_of}
 use Rattle.pt_chart.specs.Machine.{Machine, ModeTree, PortMap}
 use Rattle.pt_chart.specs.Typed.{is_typed_machine}
-use Rattle.pt_sdf.specs.ByNeed.{needs_of, planned}
+use Rattle.pt_sdf_parts.specs.ByNeed.{needs_of, planned}
 use Rattle.pt_library.specs.LibraryActor.{rows}
 use Rattle.pt_node.specs.View.{Tree}
 use Rattle.pt_trees.specs.Around.{Around}

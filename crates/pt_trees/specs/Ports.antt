@@ -4,7 +4,7 @@ use Rattle.pt_meaning.specs.Basics.{Tag, Path}
 use Rattle.pt_meaning.specs.Headline.{Port}
 use Rattle.pt_value.specs.declared.token.Token.{Token}
 use Rattle.pt_trace.specs.Report.{Trace}
-use Rattle.pt_node.specs.Recorded.{RecordedPort}
+use Rattle.pt_past.specs.Recorded.{RecordedPort}
 use Rattle.pt_node.specs.Shown.{Shown, AllShown, Branch, none, more}
 use Rattle.pt_node.specs.View.{outline_of}
 

@@ -4,7 +4,7 @@ use Rattle.pt_net.specs.declared.net.Net.{Net}
 use Rattle.pt_net.specs.declared.net.NetEntity.{NetEntity}
 use Rattle.pt_net.specs.declared.net.NetPort.{NetPort}
 use Rattle.pt_net.specs.Inside.{child_if, port_number}
-use Rattle.pt_node.specs.Recorded.{RecordedPort}
+use Rattle.pt_past.specs.Recorded.{RecordedPort}
 
 -- the numbers of those of an entity, from number i on
 abbrev pub numbers_from : (k i : ℕ) → List NetPort → List ℕ

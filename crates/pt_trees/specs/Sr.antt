@@ -6,7 +6,7 @@ use Rattle.pt_meaning.specs.Valuation.{TickPlan}
 use Rattle.pt_meaning.specs.Tree as tree
 use Rattle.pt_laws.specs.StartedRuns.{AllThere}
 use Rattle.pt_value.specs.declared.token.Token.{Token}
-use Rattle.pt_sdf.specs.ByNeed.{needs_of, planned}
+use Rattle.pt_sdf_parts.specs.ByNeed.{needs_of, planned}
 use Rattle.pt_library.specs.LibraryActor.{rows}
 use Rattle.pt_node.specs.View.{Tree}
 use Rattle.pt_trees.specs.Around.{Around}

@@ -9,7 +9,7 @@ use Rattle.pt_library.specs.LibraryActor.{rows}
 use Rattle.pt_node.specs.Shown.{Shown, AllShown, Branch, none, more}
 use Rattle.pt_node.specs.View.{node_of}
 use Rattle.pt_node.specs.Live.{IsLive}
-use Rattle.pt_node.specs.Recorded.{RecordedPort}
+use Rattle.pt_past.specs.Recorded.{RecordedPort}
 use Rattle.pt_trees.specs.declared.top.Top.{Top}
 use Rattle.pt_trees.specs.Fresh.{IsBlank}
 use Rattle.pt_trees.specs.Top.{IsJobFor}

@@ -7,7 +7,7 @@ use Rattle.std.proofs.lemmas.List.{map_more}
 use Rattle.pt_document.specs.declared.job.Port.{Port}
 use Rattle.pt_net.specs.Inside.{port_number, number_by}
 use Rattle.pt_wiring.specs.Ports.{ArePortNumbers}
-use Rattle.pt_node.specs.Recorded.{RecordedPort}
+use Rattle.pt_past.specs.Recorded.{RecordedPort}
 
 pub row-at : (ports : List Port) (row : List ℕ) → ArePortNumbers ports row → (p : ℕ) → get_or row p 0 ≡ port_number ports p
 row-at ports row are p = elim (cases_order p (length ports)) [ inl same ↦ past (omega (arith, same)) | inr other ↦ elim other [ inl below ↦ are.each p below | inr above ↦ past (omega (arith, above)) ] ]

@@ -7,7 +7,7 @@ ghost use Rattle.pt_trees.specs.Labels.{path_below, child_label, label_of, is_ne
 use crate::entities::{director_of, entity_in};
 use pt_document::Director;
 use pt_net::{Channel, Net, NetEntity};
-use pt_node::Labels;
+use pt_past::Labels;
 use pt_trees::Directing;
 use pt_value::Text;
 use std::alloc::{AllocError, Global};

@@ -3,7 +3,7 @@ ghost use Rattle.pt_wiring.specs.Ports.{ArePortNumbers};
 ghost use Rattle.pt_trees.specs.Recorded.{recorded_at, port_in, text_in};
 
 use pt_net::{Net, NetEntity};
-use pt_node::{Recorded, Records};
+use pt_past::{Recorded, Records};
 use pt_value::Text;
 use pt_wiring::{Numbers, number_at, port_numbers};
 use std::alloc::{AllocError, Global};

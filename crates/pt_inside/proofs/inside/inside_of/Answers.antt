@@ -2,7 +2,7 @@ use Rattle.std.proofs.Common.{◌≡◌, ℕ, List, Option, None, true, length, 
 use Rattle.pt_meaning.specs.Running.{total}
 use Rattle.pt_plan.specs.declared.inside.Inside.{Inside}
 use Rattle.pt_core.specs.declared.source.Source.{Source}
-use Rattle.pt_sdf.specs.ByNeed.{planned}
+use Rattle.pt_sdf_parts.specs.ByNeed.{planned}
 use Rattle.pt_core.specs.Source.{source_of}
 use Rattle.pt_node.specs.Shown.{shown}
 use Rattle.pt_node.specs.View.{Tree}

@@ -1,5 +1,5 @@
 use Rattle.std.proofs.Common.{ℕ, List, ap₂, ◌∙◌, [], get_or}
-use Rattle.pt_node.specs.Recorded.{RecordedPort}
+use Rattle.pt_past.specs.Recorded.{RecordedPort}
 use Rattle.pt_within.proofs.PortLaws.{row-at}
 use Rattle.pt_within.proofs.records.recorded_at.Goals as goal
 

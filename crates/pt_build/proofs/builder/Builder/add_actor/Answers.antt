@@ -1,7 +1,7 @@
 use Rattle.std.proofs.Common.{◌≡◌, ℕ, List, refl, sym, ap, subst, ◌∙◌}
 use Rattle.pt_library.specs.declared.library_actor.LibraryActor.{LibraryActor}
 use Rattle.pt_node.specs.declared.body.Held.{Held}
-use Rattle.pt_node.specs.Recorded.{RecordedPort}
+use Rattle.pt_past.specs.Recorded.{RecordedPort}
 use Rattle.pt_node.specs.Shown.{Shown}
 use Rattle.pt_trees.specs.Fresh.{IsFresh}
 use Rattle.pt_trees.specs.Recorded.{recorded_at, recorded_of, numbers_at}

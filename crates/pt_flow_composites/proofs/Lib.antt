@@ -1,0 +1,4 @@
+pub mod ChildLaws
+pub mod SdfLaws
+pub mod PnLaws
+pub mod RendezvousLaws

@@ -1,0 +1,3 @@
+pub mod SrLaws
+pub mod DeLaws
+pub mod ModalLaws
