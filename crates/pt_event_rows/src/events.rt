@@ -12,7 +12,7 @@ ghost use Rattle.pt_node.specs.Firing.{noted, bare, recorded};
 ghost use Rattle.pt_node.specs.Shown.{Shown, all_of, shown, shown_node};
 ghost use Rattle.pt_node.specs.View.{node_of, outline_of, count_of};
 ghost use Rattle.pt_node.specs.Live.{AllFit, IsFit, IsReady, TakenBy, Takes};
-ghost use Rattle.pt_node.specs.Meetings.{Serves};
+ghost use Rattle.pt_past.specs.Meetings.{Serves};
 ghost use Rattle.pt_records.specs.Kept.{Made};
 ghost use Rattle.pt_event_rows.specs.Signals.{AtOnceTo, SignalTo, TellsAt, SignalledTo, SignalSpends};
 ghost use Rattle.pt_turns.specs.Between.{At, Between, IsUnderWay, Rested};

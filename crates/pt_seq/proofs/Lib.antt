@@ -1,2 +1,1 @@
 pub mod NumberRows
-pub mod Untaken

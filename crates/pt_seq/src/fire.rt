@@ -10,7 +10,7 @@ ghost use Rattle.pt_node.specs.Acts.{acts};
 ghost use Rattle.pt_node.specs.Shown.{Shown, shown, shown_node, all_of};
 ghost use Rattle.pt_node.specs.View.{outline_of, outlines_of, count_of, counts_of};
 ghost use Rattle.pt_node.specs.Live.{IsLive, is_live, IsFit, Takes, AllFit, IsReady, TakenBy};
-ghost use Rattle.pt_node.specs.Meetings.{Serves};
+ghost use Rattle.pt_past.specs.Meetings.{Serves};
 ghost use Rattle.pt_turns.specs.Within.{WithinTo, SpendsAll, StaysFit, AnswersTo, EndsLive, ActorTo};
 ghost use Rattle.pt_turns.specs.Composite.{CompositeTo, KeepsFit, EndsAs, FinishTo};
 ghost use Rattle.pt_turns.specs.Turns.{TurnTo, TurnFrom, TurnSpends, MayFire};
@@ -18,12 +18,13 @@ ghost use Rattle.pt_turns.specs.Between.{Rested, IsRestedUnderWay};
 ghost use Rattle.pt_turns.specs.OwnMeetings.{own_of};
 
 use crate::full::full_at;
-use crate::pause::{Pause, fire_row, first_row, settle};
 use pt_core::Core;
 use pt_directors::Director;
 use pt_firing::{Answer, Fires, Inputs, Step};
-use pt_node::{Body, Held, Labels, MeetingRecord, Node};
+use pt_node::{Body, Held, Node};
 use pt_number_rows::{Buffers, several, tell_numbers};
+use pt_past::{Labels, MeetingRecord};
+use pt_pause::{Pause, fire_row, first_row, settle};
 use pt_time::Tag;
 use pt_turns::{Rest, Turn, Within, fault_at, tell};
 use pt_value::Text;
@@ -179,7 +180,7 @@ fn fire_composite(
 /// Carries on the firing of a composite from where its first row of firings has come to.
 #[cycle(fire)]
 #[inline(never)]
-pub(crate) fn go_on(
+pub fn go_on(
     alloc: Global,
     director: &mut Director,
     children: &mut Vec<Node>,
@@ -226,7 +227,7 @@ pub(crate) fn go_on(
 }
 
 /// One step of a library actor, whose path and number of firings are told where it is stuck.
-pub(crate) fn fire_actor(
+pub fn fire_actor(
     alloc: Global,
     held: &mut Held,
     path: &Text,

@@ -6,7 +6,7 @@ ghost use Rattle.pt_turns.specs.Within.{IsFullAt};
 use pt_core::Core;
 use pt_directors::Director;
 use pt_firing::{Blocked, Rows};
-use pt_node::Labels;
+use pt_past::Labels;
 use pt_turns::Within;
 use pt_value::Text;
 use std::alloc::{AllocError, Global};

@@ -29,7 +29,7 @@ use Rattle.pt_node.specs.Shown.{Shown, all_of}
 use Rattle.pt_node.specs.Reset.{WasReset, KeepsRecords}
 use Rattle.pt_node.specs.View.{Tree, node_of, nodes_of, kept_of, kepts_of, outline_of, outlines_of, text_below, maximum_at, labels_below, count_of, counts_of}
 use Rattle.pt_node.specs.Live.{AllFit}
-use Rattle.pt_node.specs.Meetings.{Serves}
+use Rattle.pt_past.specs.Meetings.{Serves}
 use Rattle.pt_node.specs.Stuck.{fault_of}
 use Rattle.pt_node.specs.Full.{told_by}
 use Rattle.pt_turns.specs.declared.within.Within.{Within}

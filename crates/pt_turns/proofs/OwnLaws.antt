@@ -8,8 +8,8 @@ use Rattle.pt_meaning.specs.Tree.{Past}
 use Rattle.pt_records.specs.Kept.{Made, Entry}
 use Rattle.pt_records.specs.Made.{made_in, IsMade}
 use Rattle.pt_core.specs.Met.{HasMet, IsListed, made_with, none_met, one_met, entry_met}
-use Rattle.pt_node.specs.Meetings.{Serves}
-use Rattle.pt_node.proofs.MeetingsLaws.{serves-any}
+use Rattle.pt_past.specs.Meetings.{Serves}
+use Rattle.pt_past.proofs.MeetingsLaws.{serves-any}
 use Rattle.pt_turns.specs.OwnMeetings.{OwnMeetings, own_of, one_more, AreRecorded, with_meetings, IsOwnPath}
 
 -- meetings, each as one of firing n

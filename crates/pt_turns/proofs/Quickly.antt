@@ -11,7 +11,7 @@ use Rattle.pt_directors.specs.Directors.{Director, director_calls}
 use Rattle.pt_node.specs.declared.node.Node.{Node, roll-Node, out-Node}
 use Rattle.pt_node.specs.declared.node.Node.TheViews.{out-roll-Node}
 use Rattle.pt_node.specs.declared.node.Node.TheOpen as opens
-use Rattle.pt_node.specs.Recorded.{RecordedPort, noting}
+use Rattle.pt_past.specs.Recorded.{RecordedPort, noting}
 use Rattle.pt_node.specs.Shown.{Shown, Branch, Frame}
 use Rattle.pt_node.specs.Firing as firing
 use Rattle.pt_node.specs.View.{Tree, node_of, kept_of}

@@ -19,7 +19,7 @@ use Rattle.pt_library.specs.LibraryActor.{rows}
 use Rattle.pt_library.proofs.RowLaws.{rows_lawful}
 use Rattle.pt_node.specs.declared.body.Body.{Body}
 use Rattle.pt_node.specs.declared.body.Body.TheVariants as body
-use Rattle.pt_node.specs.Recorded.{RecordedPort, noting, recording, unnoted, trace_of}
+use Rattle.pt_past.specs.Recorded.{RecordedPort, noting, recording, unnoted, trace_of}
 use Rattle.pt_node.specs.Shown.{Shown, AllShown, Branch}
 use Rattle.pt_node.specs.Firing as firing
 use Rattle.pt_node.specs.View.{Tree, node_of, nodes_of, node_with, entry_of, kept_of, kepts_of, outline_of, text_at, count_of}

@@ -14,7 +14,7 @@ use Rattle.pt_node.specs.Shown.{AllShown}
 use Rattle.pt_node.specs.View as view
 use Rattle.pt_node.specs.View.{Tree, Heading, Outline, nodes_of, kepts_of, outlines_of, counts_of}
 use Rattle.pt_node.specs.Live.{AllFit}
-use Rattle.pt_node.specs.Meetings.{Serves}
+use Rattle.pt_past.specs.Meetings.{Serves}
 use Rattle.pt_turns.specs.declared.within.Within.{Within}
 use Rattle.pt_turns.specs.declared.within.Within.TheVariants.{Done, Fault, Spent, Full, Memory}
 use Rattle.pt_turns.specs.Within.{outcome, IsLeftOff, IsStuck, IsFull, SpendsAll}

@@ -6,7 +6,7 @@ use Rattle.pt_meaning.specs.Tree.{Past}
 use Rattle.pt_records.specs.Kept.{Made, Entry}
 use Rattle.pt_records.specs.Made.{IsMade}
 use Rattle.pt_core.specs.Met.{made_with}
-use Rattle.pt_node.specs.Meetings.{Serves}
+use Rattle.pt_past.specs.Meetings.{Serves}
 
 -- the number of the firing under way, what was recorded as it began, and what is now
 pub record OwnMeetings : Type 0 where

@@ -3,7 +3,7 @@ use Rattle.pt_de_laws.specs.DeActs.{de_calls}
 use Rattle.pt_directors.specs.Directors.{director_calls}
 use Rattle.pt_node.specs.Acts.{acts}
 use Rattle.pt_node.specs.Shown.{shown}
-use Rattle.pt_node.proofs.MeetingsLaws.{serves-new}
+use Rattle.pt_past.proofs.MeetingsLaws.{serves-new}
 use Rattle.pt_turns.specs.OwnMeetings.{own_of}
 use Rattle.pt_directors.specs.Directors.{of_de}
 use Rattle.pt_turns.proofs.Acting.{acts-law}

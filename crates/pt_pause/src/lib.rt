@@ -1,0 +1,6 @@
+//! What the director of a composite does by itself between the firings of its children that it asks for one by one.
+#![tactic(auto)]
+
+mod pause;
+
+pub use pause::{Pause, fire_row, first_row, settle};

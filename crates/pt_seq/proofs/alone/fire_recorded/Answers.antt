@@ -1,4 +1,0 @@
-use Rattle.pt_seq.proofs.alone.fire_recorded.Goals as goal
-
-pub returns-in-Done-clause-answers : goal.returns-in-Done-clause-answers
-returns-in-Done-clause-answers c = (c.in-Done.field-0, c.in-Done.ensures.answers)
