@@ -1,0 +1,3 @@
+pub mod OffsetLaws
+pub mod InputLaws
+pub mod WorkingLaws
