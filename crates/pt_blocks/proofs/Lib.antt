@@ -1,0 +1,10 @@
+pub mod EachLaws
+pub mod BareLaws
+pub mod StateLaws
+pub mod TakenLaws
+pub mod WorkedLaws
+pub mod KeptLaws
+pub mod ChildLaws
+pub mod WorkLaws
+pub mod MadeLaws
+pub mod TopLaws
