@@ -1,5 +1,5 @@
 -- A job that its budget allows ends as the definitions say; and the loop over the firings of the top.
-use Rattle.std.proofs.Common.{◌≡◌, ℕ, suc, ◌+◌, ◌<◌, ◌≤◌, [], Option, Some, None, sym, ap, ap₂, subst, ◌∙◌, arith, refl}
+use Rattle.std.proofs.Common.{◌≡◌, ℕ, suc, ◌+◌, ◌<◌, [], Option, Some, sym, ap, ap₂, subst, ◌∙◌, arith, refl}
 use Rattle.pt_meaning.specs.Basics.{Tag, Streams, Path, Log}
 use Rattle.pt_meaning.specs.Meetings.{Meets}
 use Rattle.pt_meaning.specs.Step.{Step}
@@ -30,16 +30,17 @@ use Rattle.pt_trees.specs.declared.ended.Ended.TheVariants as ended
 use Rattle.pt_trees.specs.Top.{IsWhole}
 use Rattle.pt_trees.specs.Start.{IsRunnable}
 use Rattle.pt_trees.specs.Run.{schedule, Reports, IsRun, IsDefined, IsAffordable}
+use Rattle.pt_going.specs.Going.{Reached, Going}
 use Rattle.pt_run.specs.declared.turn.End.{End}
 use Rattle.pt_run.specs.declared.turn.End.TheVariants.{Iterations, Inputs, Stop, Idle, Deadlock}
 use Rattle.pt_run.specs.declared.turn.Firing.{Firing}
 use Rattle.pt_run.specs.declared.turn.Turn.{Turn}
 use Rattle.pt_run.specs.declared.turn.Turn.TheVariants.{Fire, Ends, Limit}
 use Rattle.pt_run.specs.Turn.{end_of, turn_of, IsNext, IsPastLimit, ended_by}
-use Rattle.pt_run.proofs.Counting.{none-counted, fires-count}
+use Rattle.pt_run.proofs.Counting.{fires-count}
 use Rattle.pt_trees.proofs.TopLaws.{is-whole}
 use Rattle.pt_run.proofs.Turns.{takes-fit}
-use Rattle.pt_run.proofs.Reaching.{Reached, IsLogOf, at-start, one-more, reported, defined-end, spent-between, past_limit, stuck-between, spent-within, stuck-within, jammed-within, count-below}
+use Rattle.pt_run.proofs.Reaching.{IsLogOf, one-more, reported, defined-end, spent-between, past_limit, stuck-between, spent-within, stuck-within, jammed-within, count-below}
 
 is_complete : (m : Meets) (j : Top) (budget : ℕ) (old new : Shown) (e : Ended) → IsRun m j budget old new e → IsAffordable j budget old → IsDefined e
 is_complete m j budget old new ended.Iterations r a = tt
@@ -78,14 +79,6 @@ turn-ends plan n last top t next e is = next ∙ ap turn_of is
 pub turn-past : (plan : Schedule Token LibraryActor) (n : ℕ) (last : Option Tag) (top : Tree) (t : Turn) → IsNext plan n last top t → t ≡ Limit → plan n last top ≡ job.Limit
 turn-past plan n last top t next is = next ∙ ap turn_of is
 
--- After n firings, the last of them at this tag, so much of the budget is left. The tree has come so far under the meetings that it recorded of the firings that are finished.
-pub record Going (j : Top) (top : Shown) (budget n : ℕ) (last : Option Tag) (now : Shown) (left : ℕ) : Type 0 where
-  pub live : live.IsLive now
-  pub outline : outline_of now ≡ outline_of top
-  pub reached : (m : Meets) → AreMadeBefore m (kept_of now) → Reached m j top n last now
-  pub counted : left + count_of now ≡ budget
-  pub few : n ≤ count_of now
-
 -- ---- the ends of the code's loop
 
 module _ (j : Top) (budget : ℕ) (old : Shown) (run : IsRunnable j old) where
@@ -94,9 +87,6 @@ module _ (j : Top) (budget : ℕ) (old : Shown) (run : IsRunnable j old) where
 
   pub whole : IsWhole j
   whole = is-whole j (node_of old) run.fits
-
-  pub begins : GoingTo 0 None old budget
-  begins = record { live = run.live; outline = refl; reached = λ m made. at-start m j old run; counted = let none = none-counted old run.leaves run.start in omega (arith, none); few = omega arith }
 
   -- what it has come to by the meetings that it has recorded itself
   self : (n : ℕ) (last : Option Tag) (now : Shown) (left : ℕ) → (g : GoingTo n last now left) → Reached (meets_of (kept_of now)) j old n last now

@@ -11,8 +11,8 @@ use Rattle.pt_library.specs.LibraryActor.{rows}
 use Rattle.pt_node.specs.View.{Tree, nodes_of}
 use Rattle.pt_core.specs.Reached.{Always}
 use Rattle.pt_sdf.specs.SdfActs.{AllSteady}
-use Rattle.pt_sdf.specs.ByNeed.{place_of}
-use Rattle.pt_sdf.specs.Lawful.{IsLawful, IsNamed, IsSupplied, NeverLacks, occurs}
+use Rattle.pt_sdf_parts.specs.ByNeed.{place_of}
+use Rattle.pt_sdf_parts.specs.Lawful.{IsLawful, IsNamed, IsSupplied, NeverLacks, occurs}
 use Rattle.pt_trees.specs.Ports.{AreNumbered, of_number, ports_in}
 use Rattle.pt_trees.specs.declared.top.SdfJob.{SdfJob}
 use Rattle.pt_trees.specs.declared.top.Top.TheVariants.{Sdf}

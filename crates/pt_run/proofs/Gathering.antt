@@ -2,7 +2,7 @@
 use Rattle.std.proofs.Common.{◌≡◌, ℕ, zero, suc, ◌+◌, ◌<◌, ◌≤◌, List, [], ◌∷◌, ◌++◌, Bool, true, false, nat_eq, map, length, set, replicate, refl, sym, ap, ap₂, subst, ◌∙◌, arith, length-set}
 use Rattle.std.proofs.lemmas.Bool.Decides.{nat_tests}
 use Rattle.pt_trace.specs.Report.{Trace}
-use Rattle.pt_node.specs.Recorded.{RecordedPort}
+use Rattle.pt_past.specs.Recorded.{RecordedPort}
 use Rattle.pt_node.specs.Shown.{Shown, AllShown, Branch, none, more}
 use Rattle.pt_node.specs.View.{Heading, heading_of, outline_of, outlines_of}
 use Rattle.pt_trees.specs.Ports.{Listed, own_ports, seen_below, ports_in, ports_below, listed_if, of_number, by_number, recorded_ports, outputs_in, outputs_below, AreBelow, AreNumbered, NumbersStay, told, told_of, filled}

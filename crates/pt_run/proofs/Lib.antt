@@ -1,4 +1,3 @@
-pub mod Course
 pub mod Counting
 pub mod Traces
 pub mod Unrecorded

@@ -2,7 +2,7 @@
 use Rattle.std.proofs.Common.{◌≡◌, ℕ, suc, ◌<◌, ◌≤◌, inl, inr, max, List, [], ◌∷◌, ◌++◌, Option, Some, None, refl, sym, ap, subst, ◌∙◌, arith}
 use Rattle.std.proofs.Math.Path.{fun_ext}
 use Rattle.pt_meaning.specs.Asked.{IsJammed, IsJamOf}
-use Rattle.pt_meaning.specs.Basics.{Tag, Streams, IsPrefix, Path, Event, Finished, Met, Log, LogBelow, silent, log_then, firings_in}
+use Rattle.pt_meaning.specs.Basics.{Tag, Streams, IsPrefix, Path, Event, Finished, Met, Log, LogBelow, log_then, firings_in}
 use Rattle.pt_meaning.specs.Log.{meetings_in}
 use Rattle.pt_meaning.specs.Machine.{time_limit_code, Fault, Outcome, Done, Stuck}
 use Rattle.pt_meaning.specs.Meetings.{Meets}
@@ -21,7 +21,7 @@ use Rattle.pt_records.specs.Made.{meets_of, AreMadeBefore}
 use Rattle.pt_records.specs.Fired.{FromSome, FiresTo, SticksAt, LeavesOff}
 use Rattle.pt_records.specs.Shut.{IsShut, IsReached}
 use Rattle.pt_records.proofs.RunShutLaws.{runs-are-shut}
-use Rattle.pt_records.proofs.GrowthLaws.{grew-none, grew-joined}
+use Rattle.pt_records.proofs.GrowthLaws.{grew-joined}
 use Rattle.pt_records.proofs.MadeLaws.{grew-met, made-back}
 use Rattle.pt_given.proofs.GivenRuns.{all-are-legal}
 use Rattle.pt_library.specs.declared.library_actor.LibraryActor.{LibraryActor}
@@ -30,20 +30,19 @@ use Rattle.pt_library.proofs.RowLaws.{rows_lawful}
 use Rattle.pt_node.specs.Shown.{Shown}
 use Rattle.pt_node.specs.View as view
 use Rattle.pt_node.specs.View.{node_of, kept_of, Outline, outline_of, maximum_at}
-use Rattle.pt_node.specs.Live.{IsLive}
 use Rattle.pt_turns.specs.Within.{AnswersTo}
 use Rattle.pt_trees.specs.declared.top.Top.{Top}
 use Rattle.pt_trees.specs.Ports.{recorded_ports, ports_of, traces_of}
-use Rattle.pt_trees.specs.Top.{IsJobFor}
 use Rattle.pt_trees.specs.Start.{IsRunnable}
 use Rattle.pt_trees.specs.Run.{schedule, maxima_of, counts_of}
-use Rattle.pt_run.proofs.Course.{after-more, after-below, ended-at, halted-at}
-use Rattle.pt_run.proofs.Counting.{count-is, none-at}
+use Rattle.pt_going.specs.Going.{course_at, Reached}
+use Rattle.pt_going.proofs.Course.{after-more, after-below, ended-at, halted-at}
+use Rattle.pt_going.proofs.Counting.{count-is, none-at}
 use Rattle.pt_run.proofs.Counted.{firings-counted}
 use Rattle.pt_run.proofs.Jams.{jammed-made, made-kept}
 use Rattle.pt_run.proofs.Traces.{traces-are}
 use Rattle.pt_run.proofs.Unrecorded.{none-met}
-use Rattle.pt_run.proofs.Turns.{step-stays}
+use Rattle.pt_going.proofs.Staying.{step-stays}
 
 -- what a turn of the top logs
 log-on-step : {T A : Type 0} (c : Course T A) (tag : Tag) (r : Outcome T (Node T A)) → log_of (on_step c tag r) ≡ log_then c.log (log_in r)
@@ -77,36 +76,23 @@ module _ (m : Meets) (j : Top) (top : Shown) where
   abbrev pub first : Node Token LibraryActor
   first = node_of top
 
-  abbrev pub course_at : ℕ → Option Tag → Shown → Log Token → Course Token LibraryActor
-  course_at n last now log = record { fired = n; last = last; top = node_of now; log = log }
-
-  -- After n firings that are done, the last of them at this tag, the tree is now, and what is kept of it went on by what they logged.
-  pub record Reached (n : ℕ) (last : Option Tag) (now : Shown) : Type 0 where
-    pub live : IsLive now
-    pub outline : outline_of now ≡ outline_of top
-    pub fits : IsJobFor j (node_of now)
-    pub log : Log Token
-    pub goes : FromSome (λ k. after k rows m plan n (begin first) ≡ Goes (course_at n last now log))
-    pub kept : GrewBy log (kept_of top) (kept_of now)
-
-  pub at-start : IsRunnable j top → Reached 0 None top
-  unfolding after
-  at-start r = record { live = r.live; outline = refl; fits = r.fits; log = silent; goes = (0, λ k l. refl); kept = grew-none (kept_of top) }
+  abbrev pub ReachedTo : ℕ → Option Tag → Shown → Type 0
+  ReachedTo n last now = Reached m j top n last now
 
   -- what comes next there
   abbrev pub Asks : (n : ℕ) (last : Option Tag) (now : Shown) → job.Turn Token → Type 0
   Asks n last now turn = plan n last (node_of now) ≡ turn
 
   -- the next turn of the top, which fires
-  turned : (n : ℕ) (last : Option Tag) (now : Shown) (r : Reached n last now) (tag : Tag) (X : Streams Token) → Asks n last now (Fire tag X) → (k : ℕ) → r.goes.0 ≤ k →
+  turned : (n : ℕ) (last : Option Tag) (now : Shown) (r : ReachedTo n last now) (tag : Tag) (X : Streams Token) → Asks n last now (Fire tag X) → (k : ℕ) → r.goes.0 ≤ k →
       after k rows m plan (suc n) (begin first) ≡ on_step (course_at n last now r.log) tag (Step k rows m (node_of now) tag X)
   turned n last now r tag X e k o =
       after-more k rows m plan n (begin first) (course_at n last now r.log) (r.goes.1 k o) ∙
       ap (λ t. on_turn k rows m (course_at n last now r.log) t) e
 
   -- one firing more
-  pub one-more : (n : ℕ) (last : Option Tag) (now : Shown) → (AreMadeBefore m (kept_of now) → Reached n last now) → (tag : Tag) (X : Streams Token) → Asks n last now (Fire tag X) → (out : Streams Token) (allowance : ℕ) (new : Shown) →
-      AnswersTo now tag X allowance (answer.Done out) new → outline_of new ≡ outline_of now → AreMadeBefore m (kept_of new) → Reached (suc n) (Some tag) new
+  pub one-more : (n : ℕ) (last : Option Tag) (now : Shown) → (AreMadeBefore m (kept_of now) → ReachedTo n last now) → (tag : Tag) (X : Streams Token) → Asks n last now (Fire tag X) → (out : Streams Token) (allowance : ℕ) (new : Shown) →
+      AnswersTo now tag X allowance (answer.Done out) new → outline_of new ≡ outline_of now → AreMadeBefore m (kept_of new) → ReachedTo (suc n) (Some tag) new
   one-more n last now before tag X e out allowance new a o made =
       let f : FiresTo (λ k. Step k rows m (node_of now) tag X) (node_of new) out (kept_of now) (kept_of new) = a.0 m made in
       let r = before (made-back m f.log (kept_of now) (kept_of new) f.kept made) in
@@ -149,18 +135,18 @@ module _ (m : Meets) (j : Top) (top : Shown) where
       met : (p : Path) (n : ℕ) → m p n ≡ meetings_in n (l.log p)
       met p n = those p n ∙ sym (grew-met l.log (kept_of top) (kept_of new) l.kept p n (none-met top run.unrecorded p n))
 
-  reached : IsRunnable j top → (n : ℕ) (last : Option Tag) (now : Shown) (r : Reached n last now) → IsReached rows m plan first n (course_at n last now r.log)
+  reached : IsRunnable j top → (n : ℕ) (last : Option Tag) (now : Shown) (r : ReachedTo n last now) → IsReached rows m plan first n (course_at n last now r.log)
   reached run n last now r = record { fitting = run.fitting; planned = run.planned; start = run.start; goes = r.goes }
 
   -- whole firings are a beginning of the meaning's log
-  whole-below : (n : ℕ) (last : Option Tag) (now : Shown) (r : Reached n last now) → (k : ℕ) → r.goes.0 ≤ k → n ≤ k → LogBelow r.log (meaning k rows m plan first)
+  whole-below : (n : ℕ) (last : Option Tag) (now : Shown) (r : ReachedTo n last now) → (k : ℕ) → r.goes.0 ≤ k → n ≤ k → LogBelow r.log (meaning k rows m plan first)
   whole-below n last now r k o l = λ p. subst (λ (s : Standing Token LibraryActor). IsPrefix (log_of s p) (meaning k rows m plan first p)) (r.goes.1 k o) (after-below rows rows_lawful m plan first k n l p)
 
-  whole-shut : IsRunnable j top → (n : ℕ) (last : Option Tag) (now : Shown) (r : Reached n last now) → (way : UnderWay Token) × ((k : ℕ) → LogBelow r.log (meaning k rows m plan first) → IsClosedRun rows m plan first (meaning k rows m plan first) r.log way)
+  whole-shut : IsRunnable j top → (n : ℕ) (last : Option Tag) (now : Shown) (r : ReachedTo n last now) → (way : UnderWay Token) × ((k : ℕ) → LogBelow r.log (meaning k rows m plan first) → IsClosedRun rows m plan first (meaning k rows m plan first) r.log way)
   whole-shut run n last now r = (runs-are-shut {T = Token} {A = LibraryActor}).between rows rows_lawful m plan first n (course_at n last now r.log) (reached run n last now r)
 
   -- a defined end
-  module _ (run : IsRunnable j top) (n : ℕ) (last : Option Tag) (now : Shown) (r : Reached n last now) (e : End) (turn : Asks n last now (job.Ends e)) (budget : ℕ) (few : view.count_of now < budget) where
+  module _ (run : IsRunnable j top) (n : ℕ) (last : Option Tag) (now : Shown) (r : ReachedTo n last now) (e : End) (turn : Asks n last now (job.Ends e)) (budget : ℕ) (few : view.count_of now < budget) where
     ends-at : (k : ℕ) → max r.goes.0 (suc n) ≤ k → after k rows m plan k (begin first) ≡ job.Ended e (course_at n last now r.log)
     ends-at k o =
         ended-at rows m plan first k (suc n) (course_at n last now r.log) e (omega (arith, o))
@@ -183,7 +169,7 @@ module _ (m : Meets) (j : Top) (top : Shown) where
         }
 
   -- the budget is spent between two firings
-  pub spent-between : IsRunnable j top → (n : ℕ) (last : Option Tag) (now : Shown) → Reached n last now → (budget count : ℕ) → count ≡ view.count_of now → budget ≤ count → IsLogOf budget now (Spent count)
+  pub spent-between : IsRunnable j top → (n : ℕ) (last : Option Tag) (now : Shown) → ReachedTo n last now → (budget count : ℕ) → count ≡ view.count_of now → budget ≤ count → IsLogOf budget now (Spent count)
   spent-between run n last now r budget count e b =
       let k₁ : ℕ = max r.goes.0 n in
       record {
@@ -196,7 +182,7 @@ module _ (m : Meets) (j : Top) (top : Shown) where
       }
 
   -- the next tag is past the limit
-  pub stuck-between : IsRunnable j top → (n : ℕ) (last : Option Tag) (now : Shown) → Reached n last now → Asks n last now job.Limit → (budget : ℕ) → IsLogOf budget now (Faulty (past_limit n))
+  pub stuck-between : IsRunnable j top → (n : ℕ) (last : Option Tag) (now : Shown) → ReachedTo n last now → Asks n last now job.Limit → (budget : ℕ) → IsLogOf budget now (Faulty (past_limit n))
   stuck-between run n last now r turn budget =
       let k₁ : ℕ = max r.goes.0 (suc n) in
       let halts : after k₁ rows m plan (suc n) (begin first) ≡ Halted (past_limit n ∷ []) r.log = after-more k₁ rows m plan n (begin first) (course_at n last now r.log) (r.goes.1 k₁ (omega arith)) ∙ ap (λ t. on_turn k₁ rows m (course_at n last now r.log) t) turn in
@@ -213,7 +199,7 @@ module _ (m : Meets) (j : Top) (top : Shown) where
       }
 
   -- the run was left off within a firing, with a part of its log
-  module _ (run : IsRunnable j top) (n : ℕ) (last : Option Tag) (now : Shown) (r : Reached n last now) (tag : Tag) (X : Streams Token) (turn : Asks n last now (Fire tag X)) where
+  module _ (run : IsRunnable j top) (n : ℕ) (last : Option Tag) (now : Shown) (r : ReachedTo n last now) (tag : Tag) (X : Streams Token) (turn : Asks n last now (Fire tag X)) where
     module _ (place : Option Fault) (log : Log Token) (part : IsShut rows m (node_of now) tag X place log) (beginning : FromSome (λ k. LogBelow log (log_in (Step k rows m (node_of now) tag X)))) where
       within-below : (k : ℕ) → max (max r.goes.0 beginning.0) (suc n) ≤ k → LogBelow (log_then r.log log) (meaning k rows m plan first)
       within-below k o p =

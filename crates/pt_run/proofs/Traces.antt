@@ -4,7 +4,7 @@ use Rattle.pt_meaning.specs.Basics.{Log, Path, trace, given_on}
 use Rattle.pt_meaning.specs.Headline.{AreTraces}
 use Rattle.pt_value.specs.declared.token.Token.{Token}
 use Rattle.pt_records.specs.Kept.{kept_at, EntryGrew, GrewBy, TracesGrew}
-use Rattle.pt_node.specs.Recorded.{RecordedPort, trace_of}
+use Rattle.pt_past.specs.Recorded.{RecordedPort, trace_of}
 use Rattle.pt_node.specs.Shown.{Shown, AllShown, Branch, none, more}
 use Rattle.pt_node.specs.View.{kept_of, kepts_of, Heading, heading_of, outline_of, outlines_of}
 use Rattle.pt_trees.specs.Ports.{Listed, own_ports, seen_below, ports_in, ports_below, listed_if, of_number, by_number, recorded_ports, ports_of, traces_of}

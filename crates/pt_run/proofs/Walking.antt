@@ -1,8 +1,12 @@
 -- Loops over the children of a node, and over lists.
 use Rattle.std.proofs.Common.{◌≡◌, ℕ, zero, suc, ◌+◌, ◌<◌, ◌≤◌, max, List, [], ◌∷◌, ◌++◌, map, length, drop, get_or, set, refl, sym, ap, subst, ◌∙◌, arith}
+use Rattle.std.specs.Vec.{vec_len}
+use Rattle.std.proofs.lemmas.List.{length-set, drop-set-lt}
 use Rattle.pt_trace.specs.Report.{Trace}
-use Rattle.pt_node.specs.declared.node.Node.{Node}
-use Rattle.pt_node.specs.Recorded.{RecordedPort}
+use Rattle.pt_node.specs.declared.node.Node.{Node, roll-Node, out-Node}
+use Rattle.pt_node.specs.declared.node.Node.TheOpen as opens
+use Rattle.pt_node.specs.declared.node.Node.TheViews.{out-roll-Node}
+use Rattle.pt_past.specs.Recorded.{RecordedPort}
 use Rattle.pt_node.specs.Shown.{Shown, shown, shown_node, all_of}
 use Rattle.pt_node.specs.View.{depth, depths, outline_of, outlines_of}
 use Rattle.pt_node.proofs.Link.{shown-node}
@@ -35,6 +39,47 @@ pub kid_depth : (items : List Node) (k : ℕ) (d : Node) → k < length items �
 kid_depth [] k d l e = absurd (omega (arith, l))
 kid_depth (x ∷ xs) zero d l e = let same : shown x ≡ shown_node d = ap (λ v. shown v) (sym e) ∙ shown-node d in subst (λ s. depth (outline_of s) ≤ max (depth (outline_of (shown x))) (depths (outlines_of (all_of (map shown xs))))) same (omega arith)
 kid_depth (x ∷ xs) (suc k) d l e = let h = kid_depth xs k d (omega (arith, l)) e in omega (arith, h)
+
+-- as many as before, of which those from number k on are as they were
+pub record StayFrom (k : ℕ) (old now : List Node) : Type 0 where
+  pub count : length now ≡ length old
+  pub rest : drop k now ≡ drop k old
+
+pub all-stay : (items : List Node) → StayFrom 0 items items
+all-stay items = record { count = refl; rest = refl }
+
+found-first : {A : Type 0} (xs ys : List A) (k : ℕ) (d : A) → drop k xs ≡ d ∷ ys → d ≡ get_or xs k d
+found-first [] ys zero d e = absurd (cc)
+found-first [] ys (suc k) d e = absurd (cc)
+found-first (x ∷ xs) ys zero d e = cc
+found-first (x ∷ xs) ys (suc k) d e = found-first xs ys k d e
+
+-- the next of them is as it was
+pub stay-next : (k : ℕ) (old now : List Node) (d : Node) → StayFrom k old now → k < length old → d ≡ get_or now k d → d ≡ get_or old k d
+stay-next k old now d s l e = found-first old (drop (k + 1) now) k d (sym s.rest ∙ drop-more now k d (omega (arith, l, s.count)) e)
+
+drop-next : {A : Type 0} (xs : List A) (k : ℕ) → drop (suc k) xs ≡ drop 1 (drop k xs)
+drop-next [] zero = refl
+drop-next [] (suc k) = refl
+drop-next (x ∷ xs) zero = refl
+drop-next (x ∷ xs) (suc k) = drop-next xs k
+
+-- and once it is another, those behind it are as they were
+pub stay-more : (k : ℕ) (old now : List Node) (d : Node) → StayFrom k old now → StayFrom (k + 1) old (set now k d)
+stay-more k old now d s = record {
+  count = length-set now k d ∙ s.count;
+  rest =
+      let one : suc k ≡ k + 1 = omega arith in
+      let past : drop (suc k) now ≡ drop (suc k) old = drop-next now k ∙ ap (λ v. drop 1 v) s.rest ∙ sym (drop-next old k) in
+      drop-set-lt (k + 1) now k d (omega arith) ∙ subst (λ n. drop n now ≡ drop n old) one past;
+}
+
+-- of a node that is made of its fields
+pub stay-made : (k : ℕ) (old : List Node) (r : opens.Node-F Node) → StayFrom k old r.children.items → StayFrom k old (out-Node (roll-Node r)).children.items
+stay-made k old r s = subst (λ (x : opens.Node-F Node). StayFrom k old x.children.items) (sym (out-roll-Node r)) s
+
+pub count-made : (r : opens.Node-F Node) → vec_len (out-Node (roll-Node r)).children ≡ length r.children.items
+count-made r = ap (λ (x : opens.Node-F Node). vec_len x.children) (out-roll-Node r) ∙ r.children.ok.0
 
 -- what is left to be put at its place
 pub record Filling (rs : List RecordedPort) (ts : List Trace) (all : List Trace) : Type 0 where

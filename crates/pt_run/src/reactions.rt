@@ -9,9 +9,9 @@ ghost use Rattle.pt_trees.specs.Run.{IsRun, IsAffordable, IsDefined};
 
 use crate::turn::past_limit;
 use pt_agenda::{Turn, next_turn};
+use pt_alone::{Fired, fire_alone};
 use pt_firing::{Inputs, Tokens};
 use pt_node::Node;
-use pt_seq::{Fired, fire_alone};
 use pt_trees::{DeJob, Ended};
 use std::alloc::{AllocError, Global};
 

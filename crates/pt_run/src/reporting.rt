@@ -1,30 +1,31 @@
-ghost use Rattle.std.specs.Prelude.{◌≡◌, length, replicate, [], IfOk, OnOk};
+ghost use Rattle.std.specs.Prelude.{◌≡◌, length, replicate, [], IfOk};
 ghost use Rattle.pt_node.specs.Shown.{shown_node};
-ghost use Rattle.pt_trees.specs.Ports.{AreBelow, AreNumbered, NumbersStay, outputs_in, recorded_ports, told, told_of, filled};
+ghost use Rattle.pt_trees.specs.Ports.{AreBelow, AreNumbered, NumbersStay, outputs_in, recorded_ports, told_of, filled};
 ghost use Rattle.pt_trees.specs.Report.{end_of};
 
-use pt_node::{Node, Recorded};
-use pt_time::Tag;
+use pt_node::Node;
+use pt_past::{Recorded, Records};
 use pt_trace::{Meetings, Report, RunEnd, Trace};
 use pt_trees::Ended;
-use pt_value::{Text, Token};
+use pt_value::Text;
 use std::alloc::{AllocError, Global};
+use std::mem;
 
-/// The report of a run with these meetings: what each port of the tree has recorded, in the order of the numbers of the ports, of which there are so many.
+/// The report of a run with these meetings: what each port of the tree has recorded, in the order of the numbers of the ports, of which there are so many. It is taken out of the tree, which keeps none of it.
 pub fn report(
     alloc: Global,
-    top: &Node,
+    top: &mut Node,
     meetings: Vec<Meetings>,
     ended: Ended,
     count: usize,
 ) -> Result<Report, AllocError>
-    requires { AreNumbered count (shown_node top.now) }
-    ensures traces { IfOk result (λ report. report.traces ≡ told_of (recorded_ports count (shown_node top.now))) }
+    requires { AreNumbered count (shown_node top.old) }
+    ensures traces { IfOk result (λ report. report.traces ≡ told_of (recorded_ports count (shown_node top.old))) }
     ensures meetings { IfOk result (λ report. report.meetings ≡ meetings.items) }
     ensures end { IfOk result (λ report. report.end ≡ end_of ended) }
 {
     let mut traces = blank_traces(alloc, count)?;
-    gather(alloc, top, &mut traces)?;
+    gather(alloc, top, &mut traces);
     Ok(Report {
         traces,
         meetings,
@@ -51,48 +52,28 @@ fn blank_traces(alloc: Global, count: usize) -> Result<Vec<Trace>, AllocError>
     Ok(traces)
 }
 
-/// Puts what each port of a node and of all within it has recorded at the place of its number.
-fn gather(alloc: Global, node: &Node, traces: &mut Vec<Trace>) -> Result<(), AllocError>
-    requires { AreBelow (length traces.old.items) (outputs_in (shown_node node.now)) }
-    ensures { OnOk result (traces.new.items ≡ filled (outputs_in (shown_node node.now)) traces.old.items) }
+/// Takes what each port of a node and of all within it has recorded, and puts it at the place of its number.
+fn gather(alloc: Global, node: &mut Node, traces: &mut Vec<Trace>)
+    requires { AreBelow (length traces.old.items) (outputs_in (shown_node node.old)) }
+    ensures { traces.new.items ≡ filled (outputs_in (shown_node node.old)) traces.old.items }
 {
-    gather_own(alloc, node.records.as_slice(), traces)?;
-    for child in &node.children {
-        gather(alloc, child, traces)?;
+    let records = mem::replace(&mut node.records, Records::of(Vec::new(alloc)));
+    put_own(records.into_ports(), traces);
+    for k in 0..node.children.len() {
+        gather(alloc, &mut node.children[k], traces);
     }
-    Ok(())
 }
 
-fn gather_own(alloc: Global, ports: &[Recorded], traces: &mut Vec<Trace>) -> Result<(), AllocError>
-    requires { AreBelow (length traces.old.items) ports.now }
-    ensures { OnOk result (traces.new.items ≡ filled ports.now traces.old.items) }
+/// Puts what each of the ports has recorded at the place of its number.
+fn put_own(ports: Vec<Recorded>, traces: &mut Vec<Trace>)
+    requires { AreBelow (length traces.old.items) ports.items }
+    ensures { traces.new.items ≡ filled ports.items traces.old.items }
 {
     for port in ports {
-        traces[port.number()] = trace_of(alloc, port)?;
+        let number = port.number();
+        let (text, tokens) = port.into_told();
+        traces[number] = Trace { text, tokens };
     }
-    Ok(())
-}
-
-fn trace_of(alloc: Global, port: &Recorded) -> Result<Trace, AllocError>
-    ensures { IfOk result (λ trace. trace ≡ told port.now) }
-{
-    Ok(Trace {
-        text: port.text().copy(alloc)?,
-        tokens: copies(alloc, port.trace())?,
-    })
-}
-
-fn copies(alloc: Global, trace: &[(Tag, Token)]) -> Result<Vec<(Tag, Token)>, AllocError>
-    ensures { IfOk result (λ copies. copies.items ≡ trace.now) }
-{
-    let mut copies = Vec::with_capacity(alloc, trace.len())?;
-    for (tag, token) in trace {
-        match token {
-            Token::Int(n) => copies.push_reserved((*tag, Token::Int(*n))),
-            _ => copies.push_reserved((*tag, token.copy(alloc)?)),
-        }
-    }
-    Ok(copies)
 }
 
 fn end_told(ended: Ended) -> RunEnd

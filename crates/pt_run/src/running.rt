@@ -4,13 +4,16 @@ ghost use Rattle.pt_records.specs.Made.{meets_of};
 ghost use Rattle.pt_node.specs.View.{kept_of, count_of, outline_of};
 ghost use Rattle.pt_trees.specs.Start.{IsRunnable};
 ghost use Rattle.pt_trees.specs.Run.{IsRun, IsAffordable, IsDefined};
+ghost use Rattle.pt_going.specs.Going.{Going, last_after};
 ghost use Rattle.pt_run.specs.Ran.{IsCount};
 
 use crate::reactions::run_reactions;
-use crate::turn::{Turn, end_told, next_turn, past_limit};
+use crate::turn::{ORIGIN, Turn, end_told, next_turn, past_limit};
 use pt_firing::{Answer, Inputs};
+use pt_going::run_blocks;
 use pt_node::Node;
 use pt_seq::fire_within;
+use pt_time::Tag;
 use pt_trees::{Ended, Top};
 use std::alloc::{AllocError, Global};
 
@@ -76,8 +79,8 @@ fn run_within(
     ensures complete { IsAffordable job.now budget (shown_node top.old) → IfOk result IsDefined }
     ensures outline { outline_of (shown_node top.new) ≡ outline_of (shown_node top.old) }
 {
-    let mut fired = 0;
-    let mut last = None;
+    let mut fired = run_ahead(alloc, top, job, left)?;
+    let mut last = last_after(fired);
     while *left > 0 {
         let firing = match next_turn(alloc, job, fired, &last, top)? {
             Turn::Fire(firing) => firing,
@@ -95,4 +98,25 @@ fn run_within(
         last = Some(firing.tag);
     }
     Ok(Ended::Spent(budget))
+}
+
+/// Makes the firings of the top that can be made several at once, before all others: blocks of iterations of an SDF top without inputs. Answers how many were made.
+fn run_ahead(alloc: Global, top: &mut Node, job: &Top, left: &mut u64) -> Result<u64, AllocError>
+    requires { IsRunnable job.now (shown_node top.old) }
+    ensures going { IfOk result (λ fired. Going job.now (shown_node top.old) left.old fired (last_after fired) (shown_node top.new) left.new) }
+    ensures outline { outline_of (shown_node top.new) ≡ outline_of (shown_node top.old) }
+{
+    match job {
+        Top::Sdf(iterations) if iterations.inputs.is_empty() => {
+            run_blocks(alloc, top, iterations, left)
+        }
+        _ => Ok(0),
+    }
+}
+
+/// The tag of the last of so many firings that were made ahead.
+fn last_after(fired: u64) -> Option<Tag>
+    ensures { result ≡ last_after fired }
+{
+    if fired > 0 { Some(ORIGIN) } else { None }
 }

@@ -1,6 +1,6 @@
 use Rattle.pt_node.specs.Shown.{shown_node}
 use Rattle.pt_trees.specs.declared.top.Top.TheVariants.{De}
-use Rattle.pt_run.proofs.Completing.{Going}
+use Rattle.pt_going.specs.Going.{Going}
 use Rattle.pt_run.proofs.reactions.run_reactions.Given as goal
 
 abbrev pub invariant-loop-left : goal.invariant-loop-left

@@ -5,4 +5,4 @@ use Rattle.pt_run.proofs.Gathering.{gathered}
 use Rattle.pt_run.proofs.reporting.report.Goals as goal
 
 pub returns-clause-traces : goal.returns-clause-traces
-returns-clause-traces c = c.in_ok-gather.ensures ∙ ap (λ v. filled (outputs_in (shown_node c.args.top.now)) v) c.in_ok-traces.ensures ∙ gathered c.args.count (shown_node c.args.top.now) _ c.requires
+returns-clause-traces c = c.gather.ensures ∙ ap (λ v. filled (outputs_in (shown_node c.args.top.now)) v) c.in_ok-traces.ensures ∙ gathered c.args.count (shown_node c.args.top.now) _ c.requires

@@ -1,17 +1,21 @@
-use Rattle.std.proofs.Common.{arith, None, ◌∙◌, sym, subst}
+use Rattle.std.proofs.Common.{Option, arith, ◌∙◌, sym, subst}
+use Rattle.pt_meaning.specs.Basics.{Tag}
 use Rattle.pt_records.specs.Made.{meets_of}
 use Rattle.pt_node.specs.Shown.{shown_node}
 use Rattle.pt_node.specs.View.{node_of, kept_of}
 use Rattle.pt_trees.specs.declared.ended.Ended.{Ended}
 use Rattle.pt_trees.specs.declared.ended.Ended.TheVariants as ended
 use Rattle.pt_trees.specs.Run.{schedule, IsRun, IsDefined}
+use Rattle.pt_going.specs.Going.{Going, last_after}
 use Rattle.pt_run.specs.Turn.{ended_by}
-use Rattle.pt_run.proofs.Completing.{Going, completes, turn-fires, turn-ends, turn-past, whole, begins, ends-defined, ends-spent, ends-past, takes-inputs, ends-fault, ends-full, ends-within, falls, goes-on, its-own}
+use Rattle.pt_run.proofs.Completing.{completes, turn-fires, turn-ends, turn-past, whole, ends-defined, ends-spent, ends-past, takes-inputs, ends-fault, ends-full, ends-within, falls, goes-on, its-own}
 use Rattle.pt_run.proofs.running.run_within.Goals as goal
 
--- the whole budget is left
+-- so far it has come by the firings that were made ahead
 pub loop-left-init : goal.loop-left-init
-loop-left-init c = subst (λ left. Going c.args.job.now (shown_node c.args.top.now) c.args.budget 0 None (shown_node c.args.top.now) left) (sym c.requires.whole) (begins c.args.job.now c.args.budget (shown_node c.args.top.now) c.requires.runnable)
+loop-left-init c =
+    subst (λ (last : Option Tag). Going c.args.job.now (shown_node c.args.top.now) c.args.budget c.in_ok-fired.fired last (shown_node c.run_ahead.new.top) c.run_ahead.new.left) (sym c.last_after-last.ensures)
+    (subst (λ budget. Going c.args.job.now (shown_node c.args.top.now) budget c.in_ok-fired.fired (last_after c.in_ok-fired.fired) (shown_node c.run_ahead.new.top) c.run_ahead.new.left) c.requires.whole c.in_ok-fired.ensures.going)
 
 pub next_turn-requires-clause-whole : goal.next_turn-requires-clause-whole
 next_turn-requires-clause-whole c = whole c.args.job.now c.args.budget (shown_node c.args.top.now) c.requires.runnable

@@ -1,5 +1,5 @@
 use Rattle.pt_node.specs.Shown.{shown_node}
-use Rattle.pt_run.proofs.Completing.{Going}
+use Rattle.pt_going.specs.Going.{Going}
 use Rattle.pt_run.proofs.running.run_within.Given as goal
 
 abbrev pub invariant-loop-left : goal.invariant-loop-left

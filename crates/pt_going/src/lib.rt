@@ -1,0 +1,6 @@
+//! How far the run of a job has come, and how far blocks of iterations bring that of an SDF top without inputs.
+#![tactic(auto)]
+
+mod blocks;
+
+pub use blocks::run_blocks;
