@@ -3,24 +3,27 @@
 use crate::balance::repetitions;
 use crate::pt_firing::{Actor, Answer, Counts, Inputs, Need, Ports, Tokens, Values};
 use crate::pt_flow_base::Params;
-use crate::pt_chart::{Action, Chart, Mode, Names, Transition, Written};
+use crate::pt_chart::{Action, Mode, Names, Transition, Written};
+use crate::pt_transitions::Chart;
 use crate::pt_flow_base::PortTypes;
 use crate::pt_language::{BinaryOp, Expr};
 use crate::pt_library::LibraryActor;
 use crate::pt_types::Ty;
+use crate::pt_blocks::{Blocks, fire_block};
 use crate::pt_core::Source;
 use crate::pt_directors as directors;
 use crate::pt_de::DeCore;
 use crate::pt_de_plan::{DeInside, DePlan};
-use crate::pt_firing::Meeting;
 use crate::pt_meeting_lines::Inside;
 use crate::pt_net::{Channel, End, Net, NetEntity, Port};
-use crate::pt_node::{Body, Held, Labels, MeetingRecord, Node, Past, Recorded, Records};
+use crate::pt_node::{Body, Held, Node};
+use crate::pt_past::{Labels, MeetingRecord, Past, Recorded, Records};
 use crate::pt_recv::Channels;
 use crate::pt_rv_parts::KeptNeed;
 use crate::pt_rates::Edge;
 use crate::pt_sched::{SchedEdge, Stretch, schedule};
-use crate::pt_sdf::{Core, CorePlan};
+use crate::pt_sdf::Core;
+use crate::pt_sdf_parts::CorePlan;
 use crate::pt_run::reactions::run_reactions;
 use crate::pt_seq::fire_within;
 use crate::pt_time::Tag;
@@ -611,7 +614,20 @@ fn top_of(director: directors::Director, children: Row<Node>) -> Node {
 #[inline(never)]
 pub fn run(top: &mut Node, iterations: u64) {
     let mut left = u64::MAX;
-    for _ in 0..iterations {
+    let mut made = 0;
+    let mut blocks = if std::env::var("NOBLOCKS").is_ok() { None } else { Blocks::of(GLOBAL, top).ok().unwrap() };
+    while made < iterations {
+        if let Some(of) = &mut blocks {
+            let n = of.within(iterations - made, left);
+            if n > 1 {
+                if fire_block(GLOBAL, top, of, Tag { time: 0, step: 0 }, n, &mut left) {
+                    made += n;
+                    continue;
+                }
+                blocks = None;
+            }
+        }
+        made += 1;
         let inputs: Row<Tokens> = Row::new(GLOBAL);
         match fire_within(GLOBAL, top, Tag { time: 0, step: 0 }, &Inputs::of(&inputs), &mut left) {
             Answer::Done(_) => {}
@@ -666,20 +682,19 @@ fn net_of(kind: &str, size: usize) -> Net {
 
 /// Writes the report of a run of meetings.
 #[inline(never)]
-fn told(kind: &str, size: usize, top: &Node) {
+fn told(kind: &str, size: usize, top: &mut Node) {
     use std::io::Write;
     let net = net_of(kind, size);
     let children = row(1..net.entities.len());
     let inside = Inside { net: &net, number: 0, composite: &net.entities[0], children: &children, channels: &net.channels };
-    let made = top.meetings.as_slice().unwrap();
-    let text = report_of(&inside, made, top);
+    let text = report_of(&inside, top);
     std::io::stdout().write_all(&text).unwrap();
     drop(text);
 }
 
 #[inline(never)]
-fn report_of(inside: &Inside<'_>, made: &[(u64, Meeting)], top: &Node) -> Row<u8> {
-    let meetings = inside.meetings(GLOBAL, made).ok().unwrap();
+fn report_of(inside: &Inside<'_>, top: &mut Node) -> Row<u8> {
+    let meetings = inside.meetings(GLOBAL, top.meetings.as_slice().unwrap()).ok().unwrap();
     let report = crate::pt_run::report(GLOBAL, top, row([meetings]), Ended::Deadlock, 1).ok().unwrap();
     let text = crate::pt_trace::text(GLOBAL, &report).ok().unwrap();
     drop(report);
@@ -703,7 +718,7 @@ pub extern "C" fn proto_main() {
         }
     };
     if words.get(3).is_some_and(|word| word == "report") {
-        told(kind, size, &top);
+        told(kind, size, &mut top);
         drop(top);
         std::process::exit(0);
     }
