@@ -1,5 +1,7 @@
 """What bench/gate measured, as a page."""
 
+import re
+
 TASKS = ("proof", "tests", "edits")
 OTHER = "other"
 
@@ -62,6 +64,13 @@ def longest(kept: dict, of: dict[str, float]) -> str:
     return f"{sum(of[name] for name in chain):.1f} minutes: {', '.join(chain)}"
 
 
+def ending(kept: dict) -> str:
+    """How the gate ended, in words."""
+    if re.fullmatch(r"\d+ passed, \d+ failed", kept["said"]):
+        return f"the gate said `{kept['said']}`."
+    return "then the gate was ended. What follows was measured until then: crates that weren't reached have no figures, and those under way too small ones."
+
+
 def page(kept: dict) -> str:
     """What was measured, as a page."""
     uses = kept["uses"]
@@ -75,7 +84,7 @@ def page(kept: dict) -> str:
             "",
             f"`rt ci` from nothing, on commit {kept['commit']} of {kept['date']}, with {kept['kit']}, on {kept['processors']} processors and {kept['gibibytes']} GiB. Measured by `bench/gate`.{busy}",
             "",
-            f"- {kept['elapsed'] / 60:.1f} minutes by the clock; the gate said `{kept['said']}`.",
+            f"- {kept['elapsed'] / 60:.1f} minutes by the clock; {ending(kept)}",
             f"- {sum(sums.values()) + others + own:.1f} minutes of processors: {parts}, `rt` itself {own:.1f}, all else {others:.1f}.",
             f"- The longest chain of proofs, each crate used by the next: {longest(kept, {name: minutes(kept, name, 'proof') for name in uses})}.",
             f"- The longest by the clock, each proof with the processors that it was given: {longest(kept, {name: took(kept, name) for name in uses})}.",

@@ -4,6 +4,8 @@ import importlib.machinery
 import importlib.util
 import json
 import re
+import signal
+import subprocess
 import sys
 import unittest
 
@@ -149,6 +151,7 @@ class Page(unittest.TestCase):
         self.assertIn("the processors that it was given: 3.0 minutes: pt_a, pt_b.", told)
         self.assertNotIn("other work", told)
         self.assertIn("its load was 1.5 at the start", page().page(kept | {"load": 1.5}))
+        self.assertIn("- 3.6 minutes by the clock; then the gate was ended.", page().page(kept | {"said": "rt: pt_a proved"}))
 
 
 class Run(House):
@@ -180,6 +183,16 @@ class Run(House):
         self.assertEqual(told.returncode, 1, told.stderr)
         self.assertIn("the gate said `6 passed, 1 failed`", told.stdout)
         self.assertEqual(self.call(GATE, "--read", "bench/target/gate.json").returncode, 1)
+
+    def test_a_gate_that_is_ended(self) -> None:
+        self.commit()
+        running = subprocess.Popen([self.root / GATE], stdout=subprocess.PIPE, stderr=subprocess.PIPE, text=True, env=self.environment(fake="slow"), cwd=self.root)
+        self.assertIn("rt: pt_a proved", running.stderr.readline())
+        running.send_signal(signal.SIGTERM)
+        told, _ = running.communicate(timeout=50)
+        self.assertNotEqual(running.returncode, 0)
+        self.assertIn("then the gate was ended", told)
+        self.assertIn("then the gate was ended", self.call(GATE, "--read", "bench/target/gate.json").stdout)
 
     def test_some_crates_with_those_below(self) -> None:
         self.commit()
