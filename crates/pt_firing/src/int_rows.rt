@@ -59,6 +59,18 @@ impl<'a> IntRows<'a> {
         }
     }
 
+    /// The same rows.
+    #[inline(always)]
+    pub fn same(&self) -> IntRows<'a>
+        ensures { result ≡ self.now }
+    {
+        IntRows {
+            numbers: self.numbers,
+            need: self.need,
+            firings: self.firings,
+        }
+    }
+
     /// How many firings there are.
     #[inline(always)]
     pub fn firings(&self) -> usize

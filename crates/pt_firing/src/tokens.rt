@@ -1,4 +1,5 @@
 ghost use Rattle.std.specs.Prelude.{◌≡◌, ◌↔◌, [], ◌∷◌, ◌++◌, length, is_ok, IsOk, IsTrue, IfOk, IfSome, if◌then◌else◌};
+ghost use Rattle.pt_value.specs.declared.token.Token.TheVariants.{Int};
 ghost use Rattle.pt_firing.specs.Tokens.{tokens_in};
 
 use pt_value::Token;
@@ -105,6 +106,17 @@ impl Tokens {
             Held::Many(tokens) => tokens.push(token)?,
         }
         Ok(())
+    }
+
+    /// Holds one integer alone, in the place of the token that it held alone, if any.
+    #[inline(always)]
+    pub fn set_number(&mut self, number: i64)
+        ensures { self.new ≡ Int number ∷ [] }
+    {
+        match &mut self.held {
+            Held::One(Token::Int(there)) => *there = number,
+            _ => self.held = Held::One(Token::Int(number)),
+        }
     }
 
     /// Takes every token away, and keeps the room.

@@ -419,6 +419,7 @@ impl Actor for FlowActor {
         of_class!(self, actor => actor.first())
     }
 
+    #[inline(always)]
     fn need(&self) -> Need<'_> {
         of_class!(self, actor => actor.need())
     }

@@ -1,3 +1,4 @@
+ghost use Rattle.std.specs.Prelude.{◌≡◌, ◌≤◌, [], length, vec_capacity};
 ghost use Rattle.pt_flow_base.specs.Number.{GivesNumber, GivesStretch};
 
 use pt_firing::{Fires, IntInputs, IntRows};
@@ -5,6 +6,7 @@ use pt_flow_numbers::{
     AbsoluteValue, Accumulator, AddSubtract, Counter, Extreme, MultiplyDivide, Ramp, Scale,
 };
 use pt_flow_streams::{Const, DownSample, SampleDelay, Sequence};
+use std::mem;
 
 /// A class whose firings may give one integer each.
 pub(crate) trait GivesOne: Fires {
@@ -30,6 +32,22 @@ pub(crate) fn stretch_of_ones<A: GivesOne>(
     if given.reserve(firings).is_err() {
         return 0;
     }
+    // In places of their own the inputs and the buffer aren't read again at each firing.
+    let alloc = *given.allocator();
+    let mut row = mem::replace(given, Vec::new(alloc));
+    let made = put_ones(actor, &inputs.same(), &mut row);
+    *given = row;
+    made
+}
+
+/// Puts the integers of the first firings into an empty buffer that has room for those of all.
+#[inline(always)]
+fn put_ones<A: GivesOne>(actor: &mut A, inputs: &IntRows<'_>, given: &mut Vec<i64>) -> usize
+    requires empty { given.old.items ≡ [] }
+    requires room { length inputs.now ≤ vec_capacity given.old }
+    ensures { GivesStretch A.step actor.old inputs.now 1 result given.new.items actor.new }
+{
+    let firings = inputs.firings();
     for k in 0..firings {
         let Some(number) = actor.one(&inputs.firing(k)) else {
             return k;

@@ -1,10 +1,6 @@
-use Rattle.std.proofs.Common.{◌≡◌, ℕ, ℤ, ◌*◌, [], ◌∷◌, ◌++◌, List, map, w64, SFits, rules, ap, sym, subst, ◌∙◌, arith}
-use Rattle.std.proofs.lemmas.Int.{to_z-of_z}
-use Rattle.pt_meaning.specs.Basics.{Tag}
-use Rattle.pt_meaning.specs.Node.{Gives}
-use Rattle.pt_value.specs.declared.token.Token.TheVariants.{Int}
+use Rattle.std.proofs.Common.{sym, subst, ◌∙◌}
 use Rattle.pt_flow_base.specs.Number.{GivesStretch}
-use Rattle.pt_flow_base.proofs.InTurn.{stretch-none, stretch-more}
+use Rattle.pt_flow_base.proofs.InTurn.{stretch-none}
 use Rattle.pt_lib_flow.proofs.ones.stretch_of_ones.Goals as goal
 
 pub returns-then-rate-ne1 : goal.returns-then-rate-ne1
@@ -13,34 +9,7 @@ returns-then-rate-ne1 g c = stretch-none g.A.Fires.step c.args.actor.now c.args.
 pub returns-then-is_err : goal.returns-then-is_err
 returns-then-is_err g c = stretch-none g.A.Fires.step c.args.actor.now c.args.inputs.now c.args.rate c.reserve.new.self.items (c.reserve.ensures.items ∙ c.clear.ensures.items)
 
-pub loop-k-init : goal.loop-k-init
-loop-k-init g c = record {
-  so_far = stretch-none g.A.Fires.step c.args.actor.now c.args.inputs.now c.args.rate c.reserve.new.self.items (c.reserve.ensures.items ∙ c.clear.ensures.items);
-  room = search rules;
-}
-
-pub returns-in_default : goal.returns-in_default
-returns-in_default g c = subst (λ s. GivesStretch g.A.Fires.step c.args.actor.now c.args.inputs.now c.args.rate c.loop-k.k c.loop-k.given.items s) (sym c.in_default.ensures) c.loop-k.invariant.so_far
-
-pub push_reserved-requires : goal.push_reserved-requires
-push_reserved-requires g c =
-    let k : ℕ = c.loop-k.k in
-    let one : k * c.args.rate ≡ k = ap (λ r. k * r) c.if-rate-ne1.false ∙ omega arith in
-    omega (arith, c.loop-k.invariant.so_far.counted, one, c.loop-k.invariant.room, c.loop-k-test.true, c.loop-k.given.ok.0)
-
-pub loop-k-preserved : goal.loop-k-preserved
-loop-k-preserved g c =
-    let n : ℤ = c.in-Some.number in
-    let ns = c.loop-k.given.items in
-    let fits : SFits w64 n = search rules in
-    let put : c.push_reserved.new.self.items ≡ ns ++ n ∷ [] = ◌∙◌ {A = List ℤ} c.push_reserved.ensures.items (ap (λ z. ns ++ z ∷ []) (to_z-of_z w64 n fits)) in
-    let last = subst (λ X. (tag : Tag) → g.A.Fires.step tag c.loop-k.actor X ≡ Gives c.one.new.self (map Int (n ∷ []) ∷ [])) c.firing.ensures c.in-Some.ensures in
-    record {
-      so_far = stretch-more g.A.Fires.step c.args.actor.now c.loop-k.actor c.one.new.self c.args.inputs.now c.args.rate c.loop-k.k ns (n ∷ []) c.push_reserved.new.self.items c.loop-k.invariant.so_far (omega (arith, c.loop-k-test.true, c.firings-firings.ensures)) last (sym c.if-rate-ne1.false) put;
-      room = omega (arith, c.loop-k.invariant.room, c.push_reserved.ensures.capacity);
-    }
-
 pub returns : goal.returns
 returns g c =
-    let all : c.loop-k.k ≡ c.firings-firings.result = omega (arith, c.loop-k-test.false, c.loop-k.auto.k-end) in
-    subst (λ k. GivesStretch g.A.Fires.step c.args.actor.now c.args.inputs.now c.args.rate k c.loop-k.given.items c.loop-k.actor) all c.loop-k.invariant.so_far
+    subst (λ X. GivesStretch g.A.Fires.step c.args.actor.now X c.args.rate c.put_ones-made.result c.put_ones-made.new.given.items c.put_ones-made.new.actor) c.same.ensures
+    (subst (λ rate. GivesStretch g.A.Fires.step c.args.actor.now c.same.result rate c.put_ones-made.result c.put_ones-made.new.given.items c.put_ones-made.new.actor) (sym c.if-rate-ne1.false) c.put_ones-made.ensures)
