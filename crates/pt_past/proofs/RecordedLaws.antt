@@ -1,10 +1,9 @@
 -- Tokens that are noted one by one, and ports one by one.
-use Rattle.std.proofs.Common.{◌≡◌, ℕ, ℤ, pos, zero, suc, ◌+◌, ◌<◌, ◌≤◌, List, [], ◌∷◌, ◌++◌, length, take, drop, map, get_or, set, refl, sym, ap, ap₂, ◌∙◌, arith, append_assoc, add-one}
+use Rattle.std.proofs.Common.{◌≡◌, ℕ, zero, suc, ◌+◌, ◌<◌, ◌≤◌, List, [], ◌∷◌, ◌++◌, length, take, drop, map, get_or, set, refl, sym, ap, ap₂, ◌∙◌, arith, append_assoc, add-one}
 use Rattle.std.proofs.Math.Seq.{take-suc}
-use Rattle.std.proofs.lemmas.List.{length-map}
+use Rattle.std.proofs.lemmas.List.{take-append-drop, take_at}
 use Rattle.pt_meaning.specs.Basics.{Tag, Streams, at, with_tag}
 use Rattle.pt_value.specs.declared.token.Token.{Token}
-use Rattle.pt_value.specs.declared.token.Token.TheVariants.{Int}
 use Rattle.pt_past.specs.Recorded.{RecordedPort, noting, unnoted}
 
 pub with_tag-append : {T : Type 0} (t : Tag) (xs ys : List T) → with_tag t (xs ++ ys) ≡ with_tag t xs ++ with_tag t ys
@@ -17,16 +16,11 @@ noted-more old now tag xs k x y h b e f =
     ap (λ v. old ++ v) (ap (λ (z : Token). with_tag tag (take k xs) ++ ((tag, z) ∷ [])) e ∙ sym (with_tag-append tag (take k xs) (get_or xs k x ∷ [])) ∙ ap (λ v. with_tag tag v) (sym (take-suc xs k x b))) ∙
     ap (λ n. old ++ with_tag tag (take n xs)) (sym (add-one k))
 
--- integers are noted as the tokens that they are
-int-at : (ns : List ℤ) (k : ℕ) (d : Token) → k < length ns → Int (get_or ns k (pos 0)) ≡ get_or (map Int ns) k d
-int-at [] k d h = absurd (omega (arith, h))
-int-at (n ∷ ns) zero d h = refl
-int-at (n ∷ ns) (suc k) d h = int-at ns k d (omega (arith, h))
-
-pub noted-number : (old now : List (Tag × Token)) (tag : Tag) (ns : List ℤ) (k : ℕ) → now ≡ old ++ with_tag tag (take k (map Int ns)) → k < length ns → now ++ ((tag, Int (get_or ns k (pos 0))) ∷ []) ≡ old ++ with_tag tag (take (k + 1) (map Int ns))
-noted-number old now tag ns k h b =
-    let x : Token = Int (get_or ns k (pos 0)) in
-    noted-more old now tag (map Int ns) k x x h (omega (arith, b, length-map ns Int)) (int-at ns k x b) refl
+-- what comes behind others, and behind what these begin with
+pub first-stay : (old more noted now : List (Tag × Token)) → noted ≡ old ++ more → take (length noted) now ≡ noted → take (length old) now ≡ old
+first-stay old more noted now e k =
+    let behind = drop (length noted) now in
+    ap (λ v. take (length old) v) (sym (take-append-drop (length noted) now) ∙ ap (λ v. v ++ behind) (k ∙ e) ∙ append_assoc old more behind) ∙ take_at old (more ++ behind) (length old) refl
 
 at-past : {T : Type 0} (X : Streams T) (n : ℕ) → length X ≤ n → at X n ≡ []
 at-past [] n h = refl

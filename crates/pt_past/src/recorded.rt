@@ -4,6 +4,7 @@ ghost use Rattle.pt_value.specs.declared.token.Token.TheVariants.{Int};
 ghost use Rattle.pt_past.specs.Recorded.{noting, recording, unnoted, empty};
 
 use pt_firing::Outputs;
+use pt_tagged::Tagged;
 use pt_time::Tag;
 use pt_value::{Text, Token};
 use std::alloc::{AllocError, Global};
@@ -16,7 +17,7 @@ pub struct Recorded {
     port: usize,
     number: usize,
     text: Text,
-    tokens: Vec<(Tag, Token)>,
+    tokens: Tagged,
     /// So many of the tokens are recorded, and those behind are noted.
     recorded: usize,
 }
@@ -29,9 +30,9 @@ impl Model for Recorded {
 
     ghost coded = { coded_port };
 
-    ghost view = { λ r. record { port = r.port; number = r.number; text = r.text; trace = take r.recorded r.tokens.items; noted = drop r.recorded r.tokens.items } };
+    ghost view = { λ r. record { port = r.port; number = r.number; text = r.text; trace = take r.recorded r.tokens; noted = drop r.recorded r.tokens } };
 
-    ghost invariant = { λ r. r.recorded ≤ length r.tokens.items };
+    ghost invariant = { λ r. r.recorded ≤ length r.tokens };
 }
 
 impl Recorded {
@@ -43,16 +44,9 @@ impl Recorded {
             port,
             number,
             text,
-            tokens: Vec::new(alloc),
+            tokens: Tagged::new(alloc),
             recorded: 0,
         }
-    }
-
-    /// The tokens that are recorded.
-    pub fn trace(&self) -> &[(Tag, Token)]
-        ensures { result.now ≡ self.now.trace }
-    {
-        &self.tokens.as_slice()[..self.recorded]
     }
 
     pub fn text(&self) -> &Text
@@ -89,7 +83,7 @@ impl Recorded {
         if self.port > 0 {
             return Ok(());
         }
-        note_each(tag, numbers, &mut self.tokens)
+        self.tokens.push_numbers(tag, numbers)
     }
 
     /// Records what was noted.
@@ -100,9 +94,9 @@ impl Recorded {
     }
 
     /// Its text in a report, and the tokens that are recorded.
-    pub fn into_told(self) -> (Text, Vec<(Tag, Token)>)
+    pub fn into_told(self) -> (Text, Tagged)
         ensures text { result.0 ≡ self.text }
-        ensures trace { result.1.items ≡ self.trace }
+        ensures trace { result.1 ≡ self.trace }
     {
         let Recorded {
             port: _,
@@ -209,28 +203,12 @@ impl Records {
 }
 
 /// Puts copies of the tokens behind those that are there, each with the tag.
-fn note_all(
-    alloc: Global,
-    tag: Tag,
-    tokens: &[Token],
-    noted: &mut Vec<(Tag, Token)>,
-) -> Result<(), AllocError>
-    ensures noted { IfOk result (λ _. noted.new.items ≡ noted.old.items ++ with_tag tag tokens.now) }
-    ensures before { take (length noted.old.items) noted.new.items ≡ noted.old.items }
+fn note_all(alloc: Global, tag: Tag, tokens: &[Token], noted: &mut Tagged) -> Result<(), AllocError>
+    ensures noted { IfOk result (λ _. noted.new ≡ noted.old ++ with_tag tag tokens.now) }
+    ensures before { take (length noted.old) noted.new ≡ noted.old }
 {
     for token in tokens {
-        noted.push((tag, token.copy(alloc)?))?;
-    }
-    Ok(())
-}
-
-/// Puts the integers behind those that are there, each with the tag.
-fn note_each(tag: Tag, numbers: &[i64], noted: &mut Vec<(Tag, Token)>) -> Result<(), AllocError>
-    ensures noted { IfOk result (λ _. noted.new.items ≡ noted.old.items ++ with_tag tag (map Int numbers.now)) }
-    ensures before { take (length noted.old.items) noted.new.items ≡ noted.old.items }
-{
-    for number in numbers {
-        noted.push((tag, Token::Int(*number)))?;
+        noted.push(tag, token.copy(alloc)?)?;
     }
     Ok(())
 }

@@ -15,6 +15,7 @@ use crate::cuts::{cut, cut_three, cut_two, front, number};
 use crate::fault::{ReportFault, TokenFault};
 use crate::names::names;
 use crate::token::read_token;
+use pt_tagged::Tagged;
 use pt_time::Tag;
 use pt_trace::Trace;
 use pt_value::Token;
@@ -46,6 +47,7 @@ fn trace(alloc: Global, text: &[u8]) -> Result<(Trace, &[u8]), ReportFault>
     };
     let text = names(alloc, port)?;
     let (tokens, rest) = tokens(alloc, lines)?;
+    let tokens = Tagged::of(alloc, tokens);
     Ok((Trace { text, tokens }, rest))
 }
 

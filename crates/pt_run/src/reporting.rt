@@ -5,6 +5,7 @@ ghost use Rattle.pt_trees.specs.Report.{end_of};
 
 use pt_node::Node;
 use pt_past::{Recorded, Records};
+use pt_tagged::Tagged;
 use pt_trace::{Meetings, Report, RunEnd, Trace};
 use pt_trees::Ended;
 use pt_value::Text;
@@ -46,7 +47,7 @@ fn blank_traces(alloc: Global, count: usize) -> Result<Vec<Trace>, AllocError>
     for _ in 0..count {
         traces.push(Trace {
             text: Text::of(alloc, "")?,
-            tokens: Vec::new(alloc),
+            tokens: Tagged::new(alloc),
         })?;
     }
     Ok(traces)

@@ -1,2 +1,3 @@
+pub mod TokenLines
 pub mod MeetingLines
 pub mod Forms

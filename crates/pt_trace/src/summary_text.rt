@@ -5,7 +5,7 @@ use crate::report::Report;
 use crate::run_end::write_end;
 use crate::trace::Trace;
 use crate::writing::write_number;
-use pt_time::Tag;
+use pt_tagged::Tagged;
 use pt_value::{Token, print};
 use std::alloc::{AllocError, Global};
 
@@ -46,11 +46,15 @@ fn write_trace_line(trace: &Trace, out: &mut Vec<u8>) -> Result<(), AllocError>
 }
 
 /// The value of the last token, or a dash where there is none.
-fn write_last(tokens: &[(Tag, Token)], out: &mut Vec<u8>) -> Result<(), AllocError>
+fn write_last(tokens: &Tagged, out: &mut Vec<u8>) -> Result<(), AllocError>
     ensures { OnOk result (out.new.items ≡ out.old.items ++ last_text (last tokens.now)) }
 {
-    match tokens.last() {
-        Some((_, token)) => print(token, out),
+    let (_, numbers, rest) = tokens.parts();
+    if let Some((_, token)) = rest.last() {
+        return print(token, out);
+    }
+    match numbers.last() {
+        Some(number) => print(&Token::Int(*number), out),
         None => out.extend_from_slice(b"-"),
     }
 }

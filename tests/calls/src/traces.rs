@@ -4,6 +4,7 @@ use crate::numbers::{natural, part};
 use crate::parameters::fault_named;
 use crate::token_texts::read_token;
 use pt_firing::{Blocked, Place, Rows};
+use pt_tagged::Tagged;
 use pt_time::Tag;
 use pt_trace::{ChildPlace, MeetingLine, Meetings, Met, Report, RunEnd, Trace, summary, text};
 use pt_value::{Text, Token};
@@ -29,6 +30,7 @@ fn trace(alloc: Global, written: &str) -> Result<Trace, AllocError> {
     let (path, data) = written.split_once(": ").unwrap_or((written, ""));
     let tokens = each(alloc, data, " ", tagged)?;
     let text = Text::of(alloc, path)?;
+    let tokens = Tagged::of(alloc, tokens);
     Ok(Trace { text, tokens })
 }
 

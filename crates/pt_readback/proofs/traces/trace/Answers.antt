@@ -23,4 +23,5 @@ returns-clause-found c = λ earlier t after h s e.
     let q = same_Some _ _ (c.in-Some.ensures.parts ∙ trace_cut t after c.args.text.now h e) in
     let a = c.in_ok-text.ensures.found (subst AreNames (sym (ap (λ r. r.1) q)) h.form) ∙ ap (λ r. r.1) q in
     let b = c.in_ok-tokens.ensures.found t.tokens after h.tokens s refl (sym (ap (λ r. r.2) q)) in
-    λ i. (record { text = a i; tokens = (b i).0 }, (b i).1)
+    let tokens = c.of-tokens.ensures ∙ ap (λ r. r.0) b in
+    λ i. (record { text = a i; tokens = tokens i }, (b i).1)
