@@ -10,7 +10,7 @@ use Rattle.pt_process.specs.declared.process.StagedPut.{StagedPut}
 use Rattle.pt_process.specs.declared.process.Process.TheInside.{Inside}
 use Rattle.pt_process.specs.declared.need.KeptNeed.{KeptNeed}
 use Rattle.pt_process.specs.declared.need.KeptNeed.TheVariants as kept
-use Rattle.pt_process.specs.Process.{Standing, put_of, puts_in, need_kept, row_if, got_in, lined_in, room_at, HasOne, Gathers, seen_process}
+use Rattle.pt_process.specs.Process.{Standing, put_of, puts_in, need_kept, row_if, got_in, alone_in, lined_in, room_at, HasOne, Gathers, seen_process}
 use Rattle.pt_process.proofs.ProcessLaws.{lines-long}
 use Rattle.pt_process.proofs.StagedLaws.{puts-more}
 
@@ -80,19 +80,19 @@ module _ (handed : Bool) (full : ℕ) (row row' : Streams Token) (L M : List (Sp
         full = λ q l. subst (λ X. get_or ns q 0 ≤ length (at X q)) (sym e) ((g h).full q l);
         room = λ q l. r q (let z = same-lines L M e in omega (arith, l, z));
       }
-  gathers-same kept.One r g = subst (λ X. HasOne full X) (sym f) g
+  gathers-same kept.One r g = subst (λ X. HasOne handed full X) (sym f) g
 
   row-same : (b : Bool) → row_if b row' M ≡ row_if b row L
   row-same true = f
   row-same false = e
 
-  pub got-same : (need : KeptNeed) → got_in need handed row' M ≡ got_in need handed row L
+  pub got-same : (need : KeptNeed) → got_in need handed full row' M ≡ got_in need handed full row L
   got-same kept.Over = row-same handed
   got-same (kept.Counts ns) = row-same handed
-  got-same kept.One = f
+  got-same kept.One = ap (λ X. alone_in full X) f
 
 pub copied-is : (p : Inside) (s : Standing) (need : KeptNeed) (row : Streams Token) (M : List (Spared Token)) (us : List StagedPut) → need ≡ p.need → row ≡ p.row.items → lists_of M ≡ lists_of p.lines.items → puts_in us ≡ puts_in p.puts.items → seen_process p ≡ s →
-    (let t : Standing = record { need = need_kept need; got = got_in need p.is_handed row M; puts = puts_in us; handed = p.is_handed } in t) ≡ s
+    (let t : Standing = record { need = need_kept need; got = got_in need p.is_handed p.full row M; puts = puts_in us; handed = p.is_handed } in t) ≡ s
 copied-is p s need row M us e f g h v =
-    ap₂ (λ m w. let t : Standing = record { need = need_kept m; got = got_in m p.is_handed row M; puts = w; handed = p.is_handed } in t) e h ∙
+    ap₂ (λ m w. let t : Standing = record { need = need_kept m; got = got_in m p.is_handed p.full row M; puts = w; handed = p.is_handed } in t) e h ∙
     ap (λ X. let t : Standing = record { need = need_kept p.need; got = X; puts = puts_in p.puts.items; handed = p.is_handed } in t) (got-same p.is_handed p.full p.row.items row p.lines.items M f g p.need) ∙ v

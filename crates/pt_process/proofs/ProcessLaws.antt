@@ -17,7 +17,7 @@ use Rattle.std.specs.Prelude.{slice_get}
 use Rattle.pt_process.specs.declared.process.StagedPut.{StagedPut}
 use Rattle.pt_process.specs.declared.need.KeptNeed.{KeptNeed}
 use Rattle.pt_process.specs.declared.need.KeptNeed.TheVariants as kept
-use Rattle.pt_process.specs.Process.{GathersBy, room_at, put_of, puts_in, row_if, got_in}
+use Rattle.pt_process.specs.Process.{GathersBy, Gathers, HasOne, alone_in, room_at, put_of, puts_in, row_if, got_in}
 
 -- the first place that lacks a token
 pub lacking-some : {T : Type 0} (ns : List ℕ) (X : Streams T) (b q : ℕ) → ((k : ℕ) → k < q → get_or ns k 0 ≤ length (at X k)) → q < length ns → length ns ≡ length X → length (at X q) < get_or ns q 0 → lacking b ns X ≡ Some (b + q)
@@ -239,22 +239,39 @@ pub staged-long : (us : List StagedPut) → length (puts_in us) ≡ length us
 staged-long us = length-map us put_of
 
 -- what is gathered by counts, where it isn't handed over
-pub got-lines : (need : KeptNeed) (ns : List ℕ) (handed : Bool) (row : Streams Token) (L : List (Spared Token)) → need ≡ kept.Counts ns → handed ≡ false → got_in need handed row L ≡ lists_of L
-got-lines need ns handed row L n h = ap₂ (λ m b. got_in m b row L) n h
+pub got-lines : (need : KeptNeed) (ns : List ℕ) (handed : Bool) (full : ℕ) (row : Streams Token) (L : List (Spared Token)) → need ≡ kept.Counts ns → handed ≡ false → got_in need handed full row L ≡ lists_of L
+got-lines need ns handed full row L n h = ap₂ (λ m b. got_in m b full row L) n h
+
+-- what is gathered at the only place, in the row once it is handed over
+alone-handed : (handed : Bool) (full : ℕ) (row : Streams Token) → HasOne handed full row → handed ≡ true → alone_in full row ≡ row
+alone-handed handed zero row f h = sym (f.1 h)
+alone-handed handed (suc n) row f h = refl
+
+pub alone-long : (handed : Bool) (full : ℕ) (row : Streams Token) → HasOne handed full row → length (alone_in full row) ≡ length row
+alone-long handed zero row f = sym f.0
+alone-long handed (suc n) row f = refl
+
+pub alone-has : (handed : Bool) (full : ℕ) (row : Streams Token) → HasOne handed full row → HasOne true full (alone_in full row)
+alone-has handed zero row f = (refl, λ _. refl)
+alone-has handed (suc n) row f = f
+
+pub alone-twice : (full : ℕ) (row : Streams Token) → alone_in full (alone_in full row) ≡ alone_in full row
+alone-twice zero row = refl
+alone-twice (suc n) row = refl
 
 -- and what is, where it is handed over
-pub got-row : (need : KeptNeed) (handed : Bool) (row : Streams Token) (L : List (Spared Token)) → handed ≡ true → got_in need handed row L ≡ row
-got-row kept.Over handed row L h = ap (λ b. row_if b row L) h
-got-row (kept.Counts ns) handed row L h = ap (λ b. row_if b row L) h
-got-row kept.One handed row L h = refl
+pub got-row : (need : KeptNeed) (handed : Bool) (full : ℕ) (row : Streams Token) (L : List (Spared Token)) → Gathers need handed full row L → handed ≡ true → got_in need handed full row L ≡ row
+got-row kept.Over handed full row L g h = ap (λ b. row_if b row L) h
+got-row (kept.Counts ns) handed full row L g h = ap (λ b. row_if b row L) h
+got-row kept.One handed full row L g h = alone-handed handed full row g h
 
 -- as many places as the row has, and the lines
-pub got-places : (need : KeptNeed) (handed : Bool) (row : Streams Token) (L : List (Spared Token)) → length row ≡ length L → length (got_in need handed row L) ≡ length L
-got-places kept.Over true row L e = e
-got-places kept.Over false row L e = lines-long L
-got-places (kept.Counts ns) true row L e = e
-got-places (kept.Counts ns) false row L e = lines-long L
-got-places kept.One handed row L e = e
+pub got-places : (need : KeptNeed) (handed : Bool) (full : ℕ) (row : Streams Token) (L : List (Spared Token)) → Gathers need handed full row L → length row ≡ length L → length (got_in need handed full row L) ≡ length L
+got-places kept.Over true full row L g e = e
+got-places kept.Over false full row L g e = lines-long L
+got-places (kept.Counts ns) true full row L g e = e
+got-places (kept.Counts ns) false full row L g e = lines-long L
+got-places kept.One handed full row L g e = alone-long handed full row g ∙ e
 
 -- what a process that has no put to make does next
 pub gets-next : (ns : List ℕ) (X : Streams Token) (place : ℕ) → lacking 0 ns X ≡ Some place → place < length X

@@ -55,24 +55,24 @@ module _ (row : Streams Token) (lines : List (Spared Token)) (e : row ≡ replic
   pub rooms-gather : (need : KeptNeed) → HasPlaces (length lines) (need_kept need) → HasRooms (lined_in need) lines → Gathers need false 0 row lines
   rooms-gather kept.Over h r = tt
   rooms-gather (kept.Counts ns) h r = λ _. rooms-by ns lines h r
-  rooms-gather kept.One h r = e ∙ ap (λ n. replicate n []) (sym h)
+  rooms-gather kept.One h r = (ap (λ v. length v) (e ∙ ap (λ n. replicate n []) (sym h)), λ z. absurd (cc))
 
-  pub rooms-got : (need : KeptNeed) → HasRooms (lined_in need) lines → got_in need false row lines ≡ replicate (length lines) []
-  rooms-got kept.Over r = rooms-empty [] lines r
-  rooms-got (kept.Counts ns) r = rooms-empty ns lines r
-  rooms-got kept.One r = e
+  pub rooms-got : (need : KeptNeed) → HasPlaces (length lines) (need_kept need) → HasRooms (lined_in need) lines → got_in need false 0 row lines ≡ replicate (length lines) []
+  rooms-got kept.Over h r = rooms-empty [] lines r
+  rooms-got (kept.Counts ns) h r = rooms-empty ns lines r
+  rooms-got kept.One h r = ap (λ n. replicate n []) h
 
-  pub rooms-renewed : (need : KeptNeed) (X : Streams Token) → length X ≡ length lines → HasRooms (lined_in need) lines → got_in need false row lines ≡ emptied X
-  rooms-renewed need X n r = rooms-got need r ∙ ap (λ n. replicate n []) (sym n) ∙ sym (emptied-is X)
+  pub rooms-renewed : (need : KeptNeed) (X : Streams Token) → length X ≡ length lines → HasPlaces (length lines) (need_kept need) → HasRooms (lined_in need) lines → got_in need false 0 row lines ≡ emptied X
+  rooms-renewed need X n h r = rooms-got need h r ∙ ap (λ n. replicate n []) (sym n) ∙ sym (emptied-is X)
 
 -- the same of what is gathered in lines, whatever lies in the row
 pub again-gather : (need : KeptNeed) (row : Streams Token) (lines : List (Spared Token)) → (need ≡ kept.Over) ⊎ ((ns : List ℕ) × (need ≡ kept.Counts ns)) → HasPlaces (length lines) (need_kept need) → HasRooms (lined_in need) lines → Gathers need false 0 row lines
 again-gather need row lines (inl n) h r = subst (λ m. Gathers m false 0 row lines) (sym n) tt
 again-gather need row lines (inr n) h r = subst (λ m. Gathers m false 0 row lines) (sym n.1) (λ _. rooms-by n.0 lines (subst (λ m. HasPlaces (length lines) (need_kept m)) n.1 h) (subst (λ m. HasRooms (lined_in m) lines) n.1 r))
 
-pub again-got : (need : KeptNeed) (row : Streams Token) (lines : List (Spared Token)) → (need ≡ kept.Over) ⊎ ((ns : List ℕ) × (need ≡ kept.Counts ns)) → HasRooms (lined_in need) lines → (X : Streams Token) → length X ≡ length lines → got_in need false row lines ≡ emptied X
-again-got need row lines (inl n) r X e = ap (λ m. got_in m false row lines) n ∙ rooms-emptied (lined_in need) lines r X e
-again-got need row lines (inr n) r X e = ap (λ m. got_in m false row lines) n.1 ∙ rooms-emptied (lined_in need) lines r X e
+pub again-got : (need : KeptNeed) (row : Streams Token) (lines : List (Spared Token)) → (need ≡ kept.Over) ⊎ ((ns : List ℕ) × (need ≡ kept.Counts ns)) → HasRooms (lined_in need) lines → (X : Streams Token) → length X ≡ length lines → got_in need false 0 row lines ≡ emptied X
+again-got need row lines (inl n) r X e = ap (λ m. got_in m false 0 row lines) n ∙ rooms-emptied (lined_in need) lines r X e
+again-got need row lines (inr n) r X e = ap (λ m. got_in m false 0 row lines) n.1 ∙ rooms-emptied (lined_in need) lines r X e
 
 -- nothing is gathered in lines
 pub not-lined : (need : KeptNeed) → (need ≡ kept.Over) ⊎ (need ≡ kept.One) → lined_in need ≡ []

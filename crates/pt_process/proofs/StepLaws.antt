@@ -12,8 +12,8 @@ use Rattle.pt_process.specs.declared.need.KeptNeed.TheVariants as kept
 use Rattle.pt_process.specs.declared.process.Event.{Event}
 use Rattle.pt_process.specs.declared.process.Event.TheVariants as event
 use Rattle.pt_process.specs.declared.process.Process.TheInside.{Inside}
-use Rattle.pt_process.specs.Process.{Standing, IsSound, GathersBy, Gathers, HasOne, DoesNext, event_by, lacks_one, seen_process, need_kept, got_in, puts_in, with_token, with_handed, renewed, once_fired}
-use Rattle.pt_process.proofs.ProcessLaws.{got-lines, got-row, got-places, lines-long, line-spare, line-more, lacks-there, gathers-more, gets-next, fires-next}
+use Rattle.pt_process.specs.Process.{Standing, IsSound, GathersBy, Gathers, HasOne, DoesNext, event_by, lacks_one, alone_in, seen_process, need_kept, got_in, puts_in, with_token, with_handed, renewed, once_fired}
+use Rattle.pt_process.proofs.ProcessLaws.{got-lines, got-row, got-places, alone-has, alone-twice, lines-long, line-spare, line-more, lacks-there, gathers-more, gets-next, fires-next}
 
 pub not-handed : (p : Inside) (s : Standing) → seen_process p ≡ s → s.handed ≡ false → p.is_handed ≡ false
 not-handed p s v h = ap (λ (t : Standing). t.handed) v ∙ h
@@ -41,6 +41,11 @@ front-gathers p s ns L full w v h n e f =
       room = g.room;
     })
 
+pub front-same : (p : Inside) (s : Standing) (ns : List ℕ) (full : ℕ) → seen_process p ≡ s → p.need ≡ kept.Counts ns → (let t : Standing = record { need = need_kept p.need; got = got_in p.need p.is_handed full p.row.items p.lines.items; puts = puts_in p.puts.items; handed = p.is_handed } in t) ≡ s
+front-same p s ns full v n =
+    ap (λ X. let t : Standing = record { need = need_kept p.need; got = X; puts = puts_in p.puts.items; handed = p.is_handed } in t)
+    (ap (λ m. got_in m p.is_handed full p.row.items p.lines.items) n ∙ sym (ap (λ m. got_in m p.is_handed p.full p.row.items p.lines.items) n)) ∙ v
+
 -- where it is over, or gathers by counts, nothing is known of what it handed over
 pub lines-handed : (need : KeptNeed) (full : ℕ) (row : Streams Token) (L : List (Spared Token)) → (need ≡ kept.Over) ⊎ ((ns : List ℕ) × (need ≡ kept.Counts ns)) → Gathers need true full row L
 lines-handed need full row L (inl n) = subst (λ m. Gathers m true full row L) (sym n) tt
@@ -56,11 +61,11 @@ pub record GetsThere (p : Inside) (place : ℕ) : Type 0 where
   pub there : place < length p.lines.items
   pub fewer : length (at (lists_of p.lines.items) place) < get_or ns place 0
 
-gets-by : (need : KeptNeed) (handed : Bool) (full : ℕ) (row : Streams Token) (L : List (Spared Token)) (place : ℕ) → (need ≡ kept.Over) ⊎ ((ns : List ℕ) × (need ≡ kept.Counts ns)) → handed ≡ false → Gathers need handed full row L → lacking_place (need_kept need) (got_in need handed row L) ≡ Some place →
+gets-by : (need : KeptNeed) (handed : Bool) (full : ℕ) (row : Streams Token) (L : List (Spared Token)) (place : ℕ) → (need ≡ kept.Over) ⊎ ((ns : List ℕ) × (need ≡ kept.Counts ns)) → handed ≡ false → Gathers need handed full row L → lacking_place (need_kept need) (got_in need handed full row L) ≡ Some place →
     (ns : List ℕ) × (need ≡ kept.Counts ns) × (lacking 0 ns (lists_of L) ≡ Some place) × GathersBy ns full L
-gets-by need handed full row L place (inl n) h g e = absurd (let z : None ≡ Option.Some place = ap (λ m. lacking_place (need_kept m) (got_in m handed row L)) (sym n) ∙ e in cc)
+gets-by need handed full row L place (inl n) h g e = absurd (let z : None ≡ Option.Some place = ap (λ m. lacking_place (need_kept m) (got_in m handed full row L)) (sym n) ∙ e in cc)
 gets-by need handed full row L place (inr n) h g e =
-    (n.0, n.1, ap₂ (λ m b. lacking_place (need_kept m) (got_in m b row L)) (sym n.1) (sym h) ∙ e, (subst (λ m. Gathers m handed full row L) n.1 g) h)
+    (n.0, n.1, ap₂ (λ m b. lacking_place (need_kept m) (got_in m b full row L)) (sym n.1) (sym h) ∙ e, (subst (λ m. Gathers m handed full row L) n.1 g) h)
 
 pub gets-there : (p : Inside) (s : Standing) (place : ℕ) → (p.need ≡ kept.Over) ⊎ ((ns : List ℕ) × (p.need ≡ kept.Counts ns)) → IsSound p → seen_process p ≡ s → s.handed ≡ false → lacking_place s.need s.got ≡ Some place → GetsThere p place
 gets-there p s place k w v h l =
@@ -89,72 +94,82 @@ pub got-keeps : (p : Inside) (place : ℕ) (g : GetsThere p place) (l m : Spared
 got-keeps p place g l m x e f s = subst (λ n. Gathers n p.is_handed p.full p.row.items (set p.lines.items place m)) (sym g.need) (λ _. gathers-more g.ns p.full p.lines.items g.gathers place l m x g.there e f s g.lacks)
 
 pub get-is : (p : Inside) (s : Standing) (place : ℕ) (g : GetsThere p place) (l m : Spared Token) (x : Token) → l ≡ get_or p.lines.items place l → m.list ≡ l.list ++ (x ∷ []) → seen_process p ≡ s →
-    (let t : Standing = record { need = need_kept p.need; got = got_in p.need p.is_handed p.row.items (set p.lines.items place m); puts = puts_in p.puts.items; handed = p.is_handed } in t) ≡ with_token place x s
+    (let t : Standing = record { need = need_kept p.need; got = got_in p.need p.is_handed p.full p.row.items (set p.lines.items place m); puts = puts_in p.puts.items; handed = p.is_handed } in t) ≡ with_token place x s
 get-is p s place g l m x e f v =
     ap (λ X. let t : Standing = record { need = need_kept p.need; got = X; puts = puts_in p.puts.items; handed = p.is_handed } in t)
-    (got-lines p.need g.ns p.is_handed p.row.items (set p.lines.items place m) g.need g.free ∙ line-more p.lines.items place l m x g.there e f ∙ ap (λ X. change_at place (λ xs. xs ++ (x ∷ [])) X) (sym (got-lines p.need g.ns p.is_handed p.row.items p.lines.items g.need g.free))) ∙
+    (got-lines p.need g.ns p.is_handed p.full p.row.items (set p.lines.items place m) g.need g.free ∙ line-more p.lines.items place l m x g.there e f ∙ ap (λ X. change_at place (λ xs. xs ++ (x ∷ [])) X) (sym (got-lines p.need g.ns p.is_handed p.full p.row.items p.lines.items g.need g.free))) ∙
     ap (λ (t : Standing). with_token place x t) v
 
 -- where it needs one token at its only place
-pub has-one : (p : Inside) → IsSound p → p.need ≡ kept.One → HasOne p.full p.row.items
+pub has-one : (p : Inside) → IsSound p → p.need ≡ kept.One → HasOne p.is_handed p.full p.row.items
 has-one p w n = subst (λ m. Gathers m p.is_handed p.full p.row.items p.lines.items) n w.gathers
 
-pub one-long : (full : ℕ) (row : Streams Token) → HasOne full row → length row ≡ 1
-one-long zero row f = ap (λ v. length v) f
-one-long (suc k) row f = ap (λ v. length v) f.1
+one-only : (handed : Bool) (full : ℕ) (row : Streams Token) → HasOne handed full row → length row ≡ 1
+one-only handed zero row f = f.0
+one-only handed (suc k) row f = ap (λ v. length v) f.1
 
-one-lacks : (full : ℕ) (row : Streams Token) (place : ℕ) → HasOne full row → lacking 0 (1 ∷ []) row ≡ Some place → (row ≡ [] ∷ []) × (place ≡ 0)
-one-lacks zero row place f e = (f, some-is place 0 (sym e ∙ ap (λ X. lacking 0 (1 ∷ []) X) f))
+pub one-long : (p : Inside) → IsSound p → p.need ≡ kept.One → length p.row.items ≡ 1
+one-long p w n = one-only p.is_handed p.full p.row.items (has-one p w n)
+
+one-lacks : (handed : Bool) (full : ℕ) (row : Streams Token) (place : ℕ) → HasOne handed full row → lacking 0 (1 ∷ []) (alone_in full row) ≡ Some place → (length row ≡ 1) × (full ≡ 0) × (place ≡ 0)
+one-lacks handed zero row place f e = (f.0, refl, some-is place 0 (sym e))
   where
     some-is : (a b : ℕ) → Option.Some a ≡ Option.Some b → a ≡ b
     some-is a b e = cc
-one-lacks (suc k) row place f e = absurd (let z : Option.Some place ≡ None = sym e ∙ ap (λ X. lacking 0 (1 ∷ []) X) f.1 in cc)
+one-lacks handed (suc k) row place f e = absurd (let z : Option.Some place ≡ None = sym e ∙ ap (λ X. lacking 0 (1 ∷ []) X) f.1 in cc)
 
-pub one-there : (p : Inside) (s : Standing) (place : ℕ) → IsSound p → seen_process p ≡ s → p.need ≡ kept.One → lacking_place s.need s.got ≡ Some place → (p.row.items ≡ [] ∷ []) × (place ≡ 0)
-one-there p s place w v n l = one-lacks p.full p.row.items place (has-one p w n) (ap (λ m. lacking_place (need_kept m) (got_in m p.is_handed p.row.items p.lines.items)) (sym n) ∙ ap (λ (t : Standing). lacking_place t.need t.got) v ∙ l)
+pub one-there : (p : Inside) (s : Standing) (place : ℕ) → IsSound p → seen_process p ≡ s → p.need ≡ kept.One → lacking_place s.need s.got ≡ Some place → (length p.row.items ≡ 1) × (p.full ≡ 0) × (place ≡ 0)
+one-there p s place w v n l =
+    one-lacks p.is_handed p.full p.row.items place (has-one p w n)
+    (ap (λ m. lacking_place (need_kept m) (got_in m p.is_handed p.full p.row.items p.lines.items)) (sym n) ∙ ap (λ (t : Standing). lacking_place t.need t.got) v ∙ l)
 
-one-set : (row : Streams Token) (place : ℕ) (x : Token) → row ≡ [] ∷ [] → place ≡ 0 → set row place (x ∷ []) ≡ (x ∷ []) ∷ []
-one-set row place x e z = ap₂ (λ r q. set r q (x ∷ [])) e z
+one-set : (row : Streams Token) (place : ℕ) (x : Token) → length row ≡ 1 → place ≡ 0 → set row place (x ∷ []) ≡ (x ∷ []) ∷ []
+one-set row place x e z = ap (λ q. set row q (x ∷ [])) z ∙ first row e
+  where
+    first : (row : Streams Token) → length row ≡ 1 → set row 0 (x ∷ []) ≡ (x ∷ []) ∷ []
+    first [] e = absurd (omega (arith, e))
+    first (xs ∷ []) e = refl
+    first (xs ∷ (ys ∷ row)) e = absurd (omega (arith, e))
 
-one-more : (row : Streams Token) (place : ℕ) (x : Token) → row ≡ [] ∷ [] → place ≡ 0 → change_at place (λ xs. xs ++ (x ∷ [])) row ≡ (x ∷ []) ∷ []
-one-more row place x e z = ap₂ (λ r q. change_at q (λ xs. xs ++ (x ∷ [])) r) e z
+one-more : (full : ℕ) (row : Streams Token) (place : ℕ) (x : Token) → full ≡ 0 → place ≡ 0 → change_at place (λ xs. xs ++ (x ∷ [])) (alone_in full row) ≡ (x ∷ []) ∷ []
+one-more full row place x e z = ap₂ (λ k q. change_at q (λ xs. xs ++ (x ∷ [])) (alone_in k row)) e z
 
-pub one-gathers : (p : Inside) (place : ℕ) (x : Token) (R : Streams Token) → p.need ≡ kept.One → p.row.items ≡ [] ∷ [] → place ≡ 0 → R ≡ set p.row.items place (x ∷ []) → Gathers p.need p.is_handed 1 R p.lines.items
+pub one-gathers : (p : Inside) (place : ℕ) (x : Token) (R : Streams Token) → p.need ≡ kept.One → length p.row.items ≡ 1 → place ≡ 0 → R ≡ set p.row.items place (x ∷ []) → Gathers p.need p.is_handed 1 R p.lines.items
 one-gathers p place x R n e z r = subst (λ m. Gathers m p.is_handed 1 R p.lines.items) (sym n) (x, r ∙ one-set p.row.items place x e z)
 
-pub one-is : (p : Inside) (s : Standing) (place : ℕ) (x : Token) (R : Streams Token) → seen_process p ≡ s → p.need ≡ kept.One → p.row.items ≡ [] ∷ [] → place ≡ 0 → R ≡ set p.row.items place (x ∷ []) →
-    (let t : Standing = record { need = need_kept p.need; got = got_in p.need p.is_handed R p.lines.items; puts = puts_in p.puts.items; handed = p.is_handed } in t) ≡ with_token place x s
-one-is p s place x R v n e z r =
+pub one-is : (p : Inside) (s : Standing) (place : ℕ) (x : Token) (R : Streams Token) → seen_process p ≡ s → p.need ≡ kept.One → (length p.row.items ≡ 1) × (p.full ≡ 0) × (place ≡ 0) → R ≡ set p.row.items place (x ∷ []) →
+    (let t : Standing = record { need = need_kept p.need; got = got_in p.need p.is_handed 1 R p.lines.items; puts = puts_in p.puts.items; handed = p.is_handed } in t) ≡ with_token place x s
+one-is p s place x R v n t r =
     ap (λ X. let t : Standing = record { need = need_kept p.need; got = X; puts = puts_in p.puts.items; handed = p.is_handed } in t)
-    (ap (λ m. got_in m p.is_handed R p.lines.items) n ∙ r ∙ one-set p.row.items place x e z ∙ sym (one-more p.row.items place x e z) ∙ ap (λ m. change_at place (λ xs. xs ++ (x ∷ [])) (got_in m p.is_handed p.row.items p.lines.items)) (sym n)) ∙
+    (ap (λ m. got_in m p.is_handed 1 R p.lines.items) n ∙ r ∙ one-set p.row.items place x t.0 t.2 ∙ sym (one-more p.full p.row.items place x t.1 t.2) ∙ ap (λ m. change_at place (λ xs. xs ++ (x ∷ [])) (got_in m p.is_handed p.full p.row.items p.lines.items)) (sym n)) ∙
     ap (λ (t : Standing). with_token place x t) v
 
 -- where it hands over what it has gathered
 pub hand-is : (p : Inside) (s : Standing) (row : Streams Token) (M : List (Spared Token)) → (p.need ≡ kept.Over) ⊎ ((ns : List ℕ) × (p.need ≡ kept.Counts ns)) → p.is_handed ≡ false → row ≡ lists_of p.lines.items → seen_process p ≡ s →
-    (let t : Standing = record { need = need_kept p.need; got = got_in p.need true row M; puts = puts_in p.puts.items; handed = true } in t) ≡ with_handed s
+    (let t : Standing = record { need = need_kept p.need; got = got_in p.need true p.full row M; puts = puts_in p.puts.items; handed = true } in t) ≡ with_handed s
 hand-is p s row M k free e v =
     ap (λ X. let t : Standing = record { need = need_kept p.need; got = X; puts = puts_in p.puts.items; handed = true } in t) (by k) ∙ ap (λ (t : Standing). with_handed t) v
   where
-    by : (p.need ≡ kept.Over) ⊎ ((ns : List ℕ) × (p.need ≡ kept.Counts ns)) → got_in p.need true row M ≡ got_in p.need p.is_handed p.row.items p.lines.items
-    by (inl n) = ap (λ m. got_in m true row M) n ∙ e ∙ sym (ap₂ (λ m b. got_in m b p.row.items p.lines.items) n free)
-    by (inr n) = ap (λ m. got_in m true row M) n.1 ∙ e ∙ sym (ap₂ (λ m b. got_in m b p.row.items p.lines.items) n.1 free)
+    by : (p.need ≡ kept.Over) ⊎ ((ns : List ℕ) × (p.need ≡ kept.Counts ns)) → got_in p.need true p.full row M ≡ got_in p.need p.is_handed p.full p.row.items p.lines.items
+    by (inl n) = ap (λ m. got_in m true p.full row M) n ∙ e ∙ sym (ap₂ (λ m b. got_in m b p.full p.row.items p.lines.items) n free)
+    by (inr n) = ap (λ m. got_in m true p.full row M) n.1 ∙ e ∙ sym (ap₂ (λ m b. got_in m b p.full p.row.items p.lines.items) n.1 free)
 
-pub one-handed : (p : Inside) (s : Standing) → seen_process p ≡ s → p.need ≡ kept.One →
-    (let t : Standing = record { need = need_kept p.need; got = got_in p.need true p.row.items p.lines.items; puts = puts_in p.puts.items; handed = true } in t) ≡ with_handed s
-one-handed p s v n =
+pub one-handed : (p : Inside) (s : Standing) (row : Streams Token) → seen_process p ≡ s → p.need ≡ kept.One → row ≡ alone_in p.full p.row.items →
+    (let t : Standing = record { need = need_kept p.need; got = got_in p.need true p.full row p.lines.items; puts = puts_in p.puts.items; handed = true } in t) ≡ with_handed s
+one-handed p s row v n r =
     ap (λ X. let t : Standing = record { need = need_kept p.need; got = X; puts = puts_in p.puts.items; handed = true } in t)
-    (ap (λ m. got_in m true p.row.items p.lines.items) n ∙ sym (ap (λ m. got_in m p.is_handed p.row.items p.lines.items) n)) ∙ ap (λ (t : Standing). with_handed t) v
+    (ap (λ m. got_in m true p.full row p.lines.items) n ∙ ap (λ X. alone_in p.full X) r ∙ alone-twice p.full p.row.items ∙ sym (ap (λ m. got_in m p.is_handed p.full p.row.items p.lines.items) n)) ∙ ap (λ (t : Standing). with_handed t) v
 
-pub one-handed-gathers : (p : Inside) → IsSound p → p.need ≡ kept.One → Gathers p.need true p.full p.row.items p.lines.items
-one-handed-gathers p w n = subst (λ m. Gathers m true p.full p.row.items p.lines.items) (sym n) (has-one p w n)
+pub one-handed-gathers : (p : Inside) (row : Streams Token) → IsSound p → p.need ≡ kept.One → row ≡ alone_in p.full p.row.items → Gathers p.need true p.full row p.lines.items
+one-handed-gathers p row w n r = subst (λ m. Gathers m true p.full row p.lines.items) (sym n) (subst (λ X. HasOne true p.full X) (sym r) (alone-has p.is_handed p.full p.row.items (has-one p w n)))
 
-pub lent-is : (p : Inside) (s : Standing) → seen_process p ≡ s → s.handed ≡ true → p.row.items ≡ s.got
-lent-is p s v h = sym (got-row p.need p.is_handed p.row.items p.lines.items (is-handed p s v h)) ∙ ap (λ (t : Standing). t.got) v
+pub lent-is : (p : Inside) (s : Standing) → IsSound p → seen_process p ≡ s → s.handed ≡ true → p.row.items ≡ s.got
+lent-is p s w v h = sym (got-row p.need p.is_handed p.full p.row.items p.lines.items w.gathers (is-handed p s v h)) ∙ ap (λ (t : Standing). t.got) v
 
 -- what it does next
 module _ (p : Inside) (s : Standing) (ns : List ℕ) (w : IsSound p) (v : seen_process p ≡ s) (h : s.handed ≡ false) (n : p.need ≡ kept.Counts ns) (u : s.puts ≡ []) where
   is-got : lists_of p.lines.items ≡ s.got
-  is-got = sym (got-lines p.need ns p.is_handed p.row.items p.lines.items n (not-handed p s v h)) ∙ ap (λ (t : Standing). t.got) v
+  is-got = sym (got-lines p.need ns p.is_handed p.full p.row.items p.lines.items n (not-handed p s v h)) ∙ ap (λ (t : Standing). t.got) v
 
   is-need : Counts ns ≡ s.need
   is-need = ap need_kept (sym n) ∙ ap (λ (t : Standing). t.need) v
@@ -177,14 +192,14 @@ module _ (p : Inside) (s : Standing) (ns : List ℕ) (w : IsSound p) (v : seen_p
 pub next-over : (p : Inside) (s : Standing) → seen_process p ≡ s → p.need ≡ kept.Over → s.puts ≡ [] → DoesNext s event.Over
 next-over p s v n u = (u, sym (ap (λ (t : Standing). t.need) v) ∙ ap need_kept n)
 
-one-does : (s : Standing) (full : ℕ) (row : Streams Token) → HasOne full row → s.puts ≡ [] → s.need ≡ Counts (1 ∷ []) → s.got ≡ row → DoesNext s (event_by (lacks_one full))
-one-does s zero row f u n g = (u, ap₂ (λ m X. lacking_place m X) n (g ∙ f), let l = ap (λ v. length v) (g ∙ f) in omega (arith, l))
-one-does s (suc k) row f u n g = (u, [] ∷ [], ap₂ (λ m X. front m X) n (g ∙ f.1) ∙ ap (λ (X : Streams Token). Takes X ([] ∷ [])) (sym (g ∙ f.1)))
+one-does : (s : Standing) (handed : Bool) (full : ℕ) (row : Streams Token) → HasOne handed full row → s.puts ≡ [] → s.need ≡ Counts (1 ∷ []) → s.got ≡ alone_in full row → DoesNext s (event_by (lacks_one full))
+one-does s handed zero row f u n g = (u, ap₂ (λ m X. lacking_place m X) n g, let l = ap (λ v. length v) g in omega (arith, l))
+one-does s handed (suc k) row f u n g = (u, [] ∷ [], ap₂ (λ m X. front m X) n (g ∙ f.1) ∙ ap (λ (X : Streams Token). Takes X ([] ∷ [])) (sym (g ∙ f.1)))
 
 pub one-next : (p : Inside) (s : Standing) (ev : Event) → IsSound p → seen_process p ≡ s → p.need ≡ kept.One → s.puts ≡ [] → ev ≡ event_by (lacks_one p.full) → DoesNext s ev
 one-next p s ev w v n u e =
     subst (λ x. DoesNext s x) (sym e)
-    (one-does s p.full p.row.items (has-one p w n) u (sym (ap (λ (t : Standing). t.need) v) ∙ ap need_kept n) (sym (ap (λ (t : Standing). t.got) v) ∙ ap (λ m. got_in m p.is_handed p.row.items p.lines.items) n))
+    (one-does s p.is_handed p.full p.row.items (has-one p w n) u (sym (ap (λ (t : Standing). t.need) v) ∙ ap need_kept n) (sym (ap (λ (t : Standing). t.got) v) ∙ ap (λ m. got_in m p.is_handed p.full p.row.items p.lines.items) n))
 
 pub need-is : (p : Inside) (s : Standing) → seen_process p ≡ s → need_kept p.need ≡ s.need
 need-is p s v = ap (λ (t : Standing). t.need) v
@@ -196,15 +211,20 @@ renewed-is p s need m X e n v =
     ap (λ us. let t : Standing = record { need = m; got = emptied s.got; puts = us; handed = false } in t) (ap (λ (t : Standing). t.puts) v)
 
 -- where it has these puts to make then
-pub told-is : (p : Inside) (s : Standing) (m : Need) (us vs : List (Put Token)) (t : Standing) → seen_process p ≡ s → us ≡ vs → t ≡ renewed m (let r : Standing = record { need = need_kept p.need; got = got_in p.need p.is_handed p.row.items p.lines.items; puts = us; handed = p.is_handed } in r) → t ≡ once_fired m vs s
+pub told-is : (p : Inside) (s : Standing) (m : Need) (us vs : List (Put Token)) (t : Standing) → seen_process p ≡ s → us ≡ vs → t ≡ renewed m (let r : Standing = record { need = need_kept p.need; got = got_in p.need p.is_handed p.full p.row.items p.lines.items; puts = us; handed = p.is_handed } in r) → t ≡ once_fired m vs s
 told-is p s m us vs t v e f = f ∙ ap₂ (λ (r : Standing) ws. once_fired m ws r) v e
 
 pub got-long : (p : Inside) (s : Standing) → IsSound p → seen_process p ≡ s → length s.got ≡ length p.lines.items
-got-long p s w v = sym (ap (λ (t : Standing). length t.got) v) ∙ got-places p.need p.is_handed p.row.items p.lines.items w.row
+got-long p s w v = sym (ap (λ (t : Standing). length t.got) v) ∙ got-places p.need p.is_handed p.full p.row.items p.lines.items w.gathers w.row
 
-pub one-renewed : (p : Inside) (s : Standing) (R : Streams Token) → IsSound p → seen_process p ≡ s → p.need ≡ kept.One → R ≡ [] ∷ [] → got_in p.need false R p.lines.items ≡ emptied s.got
-one-renewed p s R w v n e = ap (λ m. got_in m false R p.lines.items) n ∙ e ∙ sym (only p.full p.row.items (has-one p w n)) ∙ ap (λ X. emptied X) (sym (ap (λ m. got_in m p.is_handed p.row.items p.lines.items) n) ∙ ap (λ (t : Standing). t.got) v)
+-- where its only place is let go of, whatever lies there
+pub one-again : (p : Inside) → IsSound p → p.need ≡ kept.One → Gathers p.need false 0 p.row.items p.lines.items
+one-again p w n = subst (λ m. Gathers m false 0 p.row.items p.lines.items) (sym n) (one-long p w n, λ h. absurd (cc))
+
+pub one-renewed : (p : Inside) (s : Standing) → IsSound p → seen_process p ≡ s → p.need ≡ kept.One → got_in p.need false 0 p.row.items p.lines.items ≡ emptied s.got
+one-renewed p s w v n =
+    ap (λ m. got_in m false 0 p.row.items p.lines.items) n ∙ sym (only p.is_handed p.full p.row.items (has-one p w n)) ∙ ap (λ X. emptied X) (sym (ap (λ m. got_in m p.is_handed p.full p.row.items p.lines.items) n) ∙ ap (λ (t : Standing). t.got) v)
   where
-    only : (full : ℕ) (row : Streams Token) → HasOne full row → emptied row ≡ [] ∷ []
-    only zero row f = ap (λ X. emptied X) f
-    only (suc k) row f = ap (λ X. emptied X) f.1
+    only : (handed : Bool) (full : ℕ) (row : Streams Token) → HasOne handed full row → emptied (alone_in full row) ≡ [] ∷ []
+    only handed zero row f = refl
+    only handed (suc k) row f = ap (λ X. emptied X) f.1

@@ -57,14 +57,19 @@ abbrev pub row_if : Bool → Streams Token → List (Spared Token) → Streams T
 row_if true row lines = row
 row_if false row lines = lists_of lines
 
+-- what is gathered at the only place: its token, or none where it lacks one, though a used token may lie there
+abbrev pub alone_in : (front : ℕ) → Streams Token → Streams Token
+alone_in zero row = [] ∷ []
+alone_in (suc n) row = row
+
 -- What is gathered: one token at the only place is kept where it is lent, and tokens by counts are handed over to there.
-abbrev pub got_in : KeptNeed → Bool → Streams Token → List (Spared Token) → Streams Token
-got_in kept.Over handed row lines = row_if handed row lines
-got_in (kept.Counts ns) handed row lines = row_if handed row lines
-got_in kept.One handed row lines = row
+abbrev pub got_in : KeptNeed → Bool → (front : ℕ) → Streams Token → List (Spared Token) → Streams Token
+got_in kept.Over handed front row lines = row_if handed row lines
+got_in (kept.Counts ns) handed front row lines = row_if handed row lines
+got_in kept.One handed front row lines = alone_in front row
 
 abbrev pub seen_process : Inside → Standing
-seen_process p = record { need = need_kept p.need; got = got_in p.need p.is_handed p.row.items p.lines.items; puts = puts_in p.puts.items; handed = p.is_handed }
+seen_process p = record { need = need_kept p.need; got = got_in p.need p.is_handed p.full p.row.items p.lines.items; puts = puts_in p.puts.items; handed = p.is_handed }
 
 -- room for so many more tokens at a place
 abbrev pub room_at : List (Spared Token) → ℕ → ℕ
@@ -77,16 +82,16 @@ pub record GathersBy (ns : List ℕ) (front : ℕ) (lines : List (Spared Token))
   pub full : (q : ℕ) → q < front → get_or ns q 0 ≤ length (at (lists_of lines) q)
   pub room : (q : ℕ) → q < length lines → get_or ns q 0 ≤ length (at (lists_of lines) q) + room_at lines q
 
--- The only place has its one token, or none yet, where it lacks nothing, or something.
-abbrev pub HasOne : (front : ℕ) → Streams Token → Type 0
-HasOne zero row = row ≡ [] ∷ []
-HasOne (suc n) row = (x : Token) × (row ≡ (x ∷ []) ∷ [])
+-- The only place has its one token, where it lacks nothing. Where it lacks one, a used token may lie there, but not once it is handed over.
+abbrev pub HasOne : Bool → (front : ℕ) → Streams Token → Type 0
+HasOne handed zero row = (length row ≡ 1) × (handed ≡ true → row ≡ [] ∷ [])
+HasOne handed (suc n) row = (x : Token) × (row ≡ (x ∷ []) ∷ [])
 
 -- what is known of what a process gathers
 abbrev pub Gathers : KeptNeed → Bool → (front : ℕ) → Streams Token → List (Spared Token) → Type 0
 Gathers kept.Over handed front row lines = Unit {0}
 Gathers (kept.Counts ns) handed front row lines = handed ≡ false → GathersBy ns front lines
-Gathers kept.One handed front row lines = HasOne front row
+Gathers kept.One handed front row lines = HasOne handed front row
 
 -- what a process keeps
 pub record IsSound (p : Inside) : Type 0 where

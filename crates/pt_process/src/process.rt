@@ -2,7 +2,8 @@ ghost use Rattle.std.specs.Prelude.{◌≡◌, ℕ, ◌<◌, ◌≤◌, ◌+◌,
 ghost use Rattle.pt_meaning.specs.Streams.{at};
 ghost use Rattle.pt_meaning.specs.Process.{lacking};
 ghost use Rattle.pt_reaction.specs.Channels.{lists_of};
-ghost use Rattle.pt_process.specs.Process.{PutsFirst, event_by, lacks_one, puts_in};
+ghost use Rattle.pt_value.specs.declared.token.Token.TheVariants.{Int};
+ghost use Rattle.pt_process.specs.Process.{PutsFirst, event_by, lacks_one, alone_in, puts_in};
 
 use crate::need::KeptNeed;
 use pt_firing::{Counts, Inputs, Tokens};
@@ -36,7 +37,8 @@ pub struct Process {
     pub(crate) need: KeptNeed,
     /// What is gathered at each place, with room for all that is needed.
     pub(crate) lines: Vec<Line>,
-    /// The same once it is handed over. One token at the only place is gathered here, so that it isn't moved.
+    /// The same once it is handed over. One token at the only place is gathered here, so that it isn't moved, and stays
+    /// here once it is used, until the next is put over it.
     pub(crate) row: Vec<Tokens>,
     pub(crate) is_handed: bool,
     /// So many places at the front lack nothing.
@@ -59,6 +61,7 @@ impl Model for Process {
 impl Process {
     ghost use Rattle.std.specs.Prelude.{◌≡◌, ◌<◌, [], length, slice_get, true, false, Some};
     ghost use Rattle.pt_pn_laws.specs.State.{lacking_place};
+    ghost use Rattle.pt_value.specs.declared.token.Token.TheVariants.{Int};
     ghost use Rattle.pt_process.specs.Process.{DoesNext, PutsFirst, put_of, with_token, with_put_made, with_handed};
 
     /// What it does next.
@@ -115,6 +118,25 @@ impl Process {
         }
     }
 
+    /// Takes an integer at the place that lacks a token. It takes no memory. Where an integer that is used lies there, it is put over that.
+    #[inline(always)]
+    pub fn get_number(&mut self, place: usize, number: i64)
+        requires gathers { self.old.handed ≡ false }
+        requires lacks { lacking_place self.old.need self.old.got ≡ Some place }
+        ensures { self.new ≡ with_token place (Int number) self.old }
+    {
+        match self.need {
+            KeptNeed::Over | KeptNeed::Counts(_) => {
+                let line = &mut self.lines[place];
+                line.put(Token::Int(number));
+            }
+            KeptNeed::One => {
+                put_number_alone(&mut self.row, place, number);
+                self.full = 1;
+            }
+        }
+    }
+
     /// Takes out its next put.
     #[inline(always)]
     pub fn put(&mut self) -> StagedPut
@@ -139,7 +161,10 @@ impl Process {
                 hand_over(&mut self.lines, &mut self.row);
                 self.is_handed = true;
             }
-            KeptNeed::One => self.is_handed = true,
+            KeptNeed::One => {
+                let_go_of_used(&mut self.row, self.full);
+                self.is_handed = true;
+            }
         }
     }
 
@@ -201,6 +226,27 @@ fn put_alone(row: &mut Vec<Tokens>, place: usize, token: Token)
     ensures { row.new.items ≡ set row.old.items place (token ∷ []) }
 {
     row[place] = Tokens::one(token);
+}
+
+/// The same of an integer, which is put over the token that lies there.
+#[inline(always)]
+fn put_number_alone(row: &mut Vec<Tokens>, place: usize, number: i64)
+    requires { place < length row.old.items }
+    ensures { row.new.items ≡ set row.old.items place (Int number ∷ []) }
+{
+    row[place].set_number(number);
+}
+
+/// Empties the only place, where the token that lies there is used.
+#[inline(always)]
+fn let_go_of_used(row: &mut Vec<Tokens>, full: usize)
+    requires { length row.old.items ≡ 1 }
+    ensures { row.new.items ≡ alone_in full row.old.items }
+{
+    if full > 0 {
+        return;
+    }
+    row[0] = Tokens::new();
 }
 
 /// The first place that lacks a token, where so many at the front lack nothing. As many are found to lack nothing then.

@@ -1,4 +1,4 @@
-ghost use Rattle.std.specs.Prelude.{◌≡◌, ℕ, ◌<◌, ◌≤◌, [], ◌∷◌, length, replicate, get_or, nat_eq, false, true, IfOk, OnOk};
+ghost use Rattle.std.specs.Prelude.{◌≡◌, ℕ, ◌<◌, ◌≤◌, [], length, replicate, get_or, nat_eq, false, true, IfOk, OnOk};
 ghost use Rattle.pt_meaning.specs.Streams.{at};
 ghost use Rattle.pt_firing.specs.Need.{need_of};
 ghost use Rattle.pt_reaction.specs.Channels.{lists_of};
@@ -91,8 +91,8 @@ impl Process {
         ensures kept { OnErr result (self.new ≡ self.old) }
     {
         match self.need {
+            // The used token stays where it lies until the next one is put over it.
             KeptNeed::One => {
-                take_alone(&mut self.row);
                 self.full = 0;
                 self.is_handed = false;
                 Ok(())
@@ -243,15 +243,6 @@ fn empty(line: &mut Line)
     if !line.is_empty() {
         line.clear();
     }
-}
-
-/// Takes away the token of the only place.
-#[inline(always)]
-fn take_alone(row: &mut Vec<Tokens>)
-    requires { length row.old.items ≡ 1 }
-    ensures { row.new.items ≡ [] ∷ [] }
-{
-    row[0] = Tokens::new();
 }
 
 /// Empties each list of a row.

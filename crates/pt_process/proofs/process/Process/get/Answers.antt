@@ -1,4 +1,4 @@
-use Rattle.std.proofs.Common.{◌<◌, length, sym, subst, ap, ◌∙◌, arith, length-set}
+use Rattle.std.proofs.Common.{length, sym, ap, ◌∙◌, arith, length-set}
 use Rattle.pt_process.proofs.StepLaws.{gets-there, room-there, got-keeps, get-is, one-there, one-gathers, one-is}
 use Rattle.pt_process.proofs.process.Process.get.Goals as goal
 
@@ -29,17 +29,19 @@ returns-in-Over c =
 pub put_alone-requires : goal.put_alone-requires
 put_alone-requires c =
     let t = one-there c.self.inside c.args.self.now c.args.place c.self.invariant c.self.view_is c.in-One.is c.requires.lacks in
-    subst (λ q. q < length c.self.inside.row.items) (sym t.1) (let n = ap (λ v. length v) t.0 in omega (arith, n))
+    let n = t.0 in
+    let z = t.2 in
+    omega (arith, n, z)
 
 pub invariant_of-self-in-One : goal.invariant_of-self-in-One
 invariant_of-self-in-One c =
     let t = one-there c.self.inside c.args.self.now c.args.place c.self.invariant c.self.view_is c.in-One.is c.requires.lacks in
     record {
       row = ap (λ v. length v) c.put_alone.ensures ∙ length-set c.self.inside.row.items c.args.place _ ∙ c.self.invariant.row;
-      gathers = one-gathers c.self.inside c.args.place c.args.token c.put_alone.new.row.items c.in-One.is t.0 t.1 c.put_alone.ensures;
+      gathers = one-gathers c.self.inside c.args.place c.args.token c.put_alone.new.row.items c.in-One.is t.0 t.2 c.put_alone.ensures;
     }
 
 pub returns-in-One : goal.returns-in-One
 returns-in-One c =
     let t = one-there c.self.inside c.args.self.now c.args.place c.self.invariant c.self.view_is c.in-One.is c.requires.lacks in
-    one-is c.self.inside c.args.self.now c.args.place c.args.token c.put_alone.new.row.items c.self.view_is c.in-One.is t.0 t.1 c.put_alone.ensures
+    one-is c.self.inside c.args.self.now c.args.place c.args.token c.put_alone.new.row.items c.self.view_is c.in-One.is t c.put_alone.ensures

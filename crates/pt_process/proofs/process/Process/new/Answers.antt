@@ -24,5 +24,6 @@ returns c =
     let long : length c.make_rooms.new.lines.items ≡ c.args.places = c.in_ok-make_rooms.ensures.counted ∙ c.in_ok-lines.ensures in
     let row : c.in_ok-row.row.items ≡ replicate (length c.make_rooms.new.lines.items) [] = c.in_ok-row.ensures ∙ ap (λ n. replicate n []) (sym long) in
     ap₂ (λ (m : Need) (X : Streams Token). let t : Standing = record { need = m; got = X; puts = puts_in c.new.result.items; handed = false } in t) c.new-need.ensures
-    (rooms-got c.in_ok-row.row.items c.make_rooms.new.lines.items row c.new-need.result (subst (λ ns. HasRooms ns c.make_rooms.new.lines.items) c.lined.ensures c.in_ok-make_rooms.ensures.rooms) ∙ ap (λ n. replicate n []) long) ∙
+    (rooms-got c.in_ok-row.row.items c.make_rooms.new.lines.items row c.new-need.result (subst (λ m. HasPlaces (length c.make_rooms.new.lines.items) m) (sym c.new-need.ensures) (subst (λ n. HasPlaces n (need_in c.args.need)) (sym long) c.requires))
+    (subst (λ ns. HasRooms ns c.make_rooms.new.lines.items) c.lined.ensures c.in_ok-make_rooms.ensures.rooms) ∙ ap (λ n. replicate n []) long) ∙
     ap (λ (us : List StagedPut). let t : Standing = record { need = need_in c.args.need; got = replicate c.args.places []; puts = puts_in us; handed = false } in t) c.new.ensures.items

@@ -2,7 +2,7 @@ use Rattle.std.proofs.Common.{ap, ◌∙◌}
 use Rattle.pt_meaning.specs.Process.{lacking}
 use Rattle.pt_reaction.specs.Channels.{lists_of}
 use Rattle.pt_process.specs.Process.{event_by}
-use Rattle.pt_process.proofs.StepLaws.{next-over, next-by, one-next, front-needs, front-gathers}
+use Rattle.pt_process.proofs.StepLaws.{next-over, next-by, one-next, front-needs, front-gathers, front-same}
 use Rattle.pt_process.proofs.process.Process.next_of_need.Goals as goal
 
 pub returns-in-Over-clause-next : goal.returns-in-Over-clause-next
@@ -26,3 +26,6 @@ invariant_of-self c = record {
   row = c.self.invariant.row;
   gathers = front-gathers c.self.inside c.args.self.now c.in-Counts.counts c.deref.result.now c.next_by.new.full c.self.invariant c.self.view_is c.requires.gathers c.in-Counts.is c.deref.ensures.value c.next_by.ensures.full;
 }
+
+pub returns-in-Counts-clause-same : goal.returns-in-Counts-clause-same
+returns-in-Counts-clause-same c = front-same c.self.inside c.args.self.now c.in-Counts.counts c.next_by.new.full c.self.view_is c.in-Counts.is
