@@ -1,5 +1,5 @@
 pub mod PutLaws
-pub mod FlagLaws
+pub mod MarkLaws
 pub mod WakeLaws
 pub mod FreshLaws
 pub mod WaitLaws

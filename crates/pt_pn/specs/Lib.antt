@@ -3,7 +3,8 @@ pub mod Puts
 pub mod Waiting
 pub mod Outlets
 pub mod Fresh
-pub mod Flags
+pub mod Marks
+pub mod Gets
 pub mod Noted
 pub mod Moves
 pub mod Core

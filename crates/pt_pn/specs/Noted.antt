@@ -35,7 +35,7 @@ coded_noted =
     (λ _. refl)
 
 abbrev pub seen_notes : Inside → Noted
-seen_notes m = record { settled = m.settled; resting = m.resting; tokens = m.tokens.items; rooms = m.rooms.items; writers = m.writers.items; readers = m.readers.items; ranks = m.ranks }
+seen_notes m = record { settled = m.marks.settled; resting = m.marks.resting; tokens = m.tokens.items; rooms = m.rooms.items; writers = m.writers.items; readers = m.readers.items; ranks = m.ranks }
 
 -- process i is looked at again
 abbrev pub awake : ℕ → Noted → Noted

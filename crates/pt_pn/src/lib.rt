@@ -2,11 +2,11 @@
 #![tactic(auto)]
 
 mod driven;
-mod flags;
 mod fresh;
 mod growth;
 mod least;
 mod looks;
+mod marks;
 mod moves;
 mod notes;
 mod numbers;

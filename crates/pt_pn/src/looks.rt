@@ -1,6 +1,5 @@
-use crate::outlets::next_token;
 use crate::pn::{Core, Stage};
-use crate::processes::{get_at, hand_at, next_of, take_put};
+use crate::processes::{get_from, hand_at, next_of, take_put};
 use crate::puts::put_promised;
 use pt_firing::Ask;
 use pt_process::Event;
@@ -183,8 +182,8 @@ impl Core {
         requires channel { channel ≡ offset_of self.old.network.plan.net.places process + place }
         ensures { Comes self.old result self.new }
     {
-        let token = next_token(&mut self.queues, channel);
-        get_at(&mut self.processes, process as usize, place, token);
+        let which = process as usize;
+        get_from(&mut self.queues, channel, &mut self.processes, which, place);
         self.notes.note_get(process, channel);
         Ask::Get(process)
     }

@@ -1,7 +1,7 @@
 ghost use Rattle.std.specs.Prelude.{◌≡◌, ◌<◌, length, get_or, set, true, false, Some};
 ghost use Rattle.pt_pn.specs.Noted.{rank_of};
 
-use crate::flags::Flags;
+use crate::marks::Marks;
 use crate::worklist::Worklist;
 use pt_core::Source;
 use pt_process::Network;
@@ -16,10 +16,8 @@ const NOBODY: u32 = u32::MAX;
 /// What is noted of processes: which were looked at and are stopped since then, and on which channels they wait. So an event wakes only the process that waits for it, and that all are stopped is known without a walk.
 #[derive(Drop)]
 pub(crate) struct Notes {
-    /// Which processes were looked at, and are stopped since then.
-    settled: Flags,
-    /// Which of them have no put to make.
-    resting: Flags,
+    /// Which processes were looked at, and are stopped since then, and which of them have no put to make.
+    marks: Marks,
     /// On which channels a process waits for a token, and on which for room.
     tokens: Vec<bool>,
     rooms: Vec<bool>,
@@ -51,11 +49,9 @@ impl Notes {
     pub(crate) fn new(alloc: Global, network: &Network) -> Result<Notes, AllocError>
         ensures { IfOk result (λ notes. AreNone (length network.now.plan.net.places) notes) }
     {
-        let settled = Flags::new(alloc, network.processes())?;
-        let resting = Flags::new(alloc, network.processes())?;
+        let marks = Marks::new(alloc, network.processes())?;
         Ok(Notes {
-            settled,
-            resting,
+            marks,
             tokens: vec![in alloc; false; network.channels()]?,
             rooms: vec![in alloc; false; network.channels()]?,
             writers: writers_of(alloc, network)?,
@@ -81,22 +77,21 @@ impl Notes {
     pub(crate) fn are_settled(&self) -> bool
         ensures { result ≡ true → (i : ℕ) → i < length self.now.settled → get_or self.now.settled i false ≡ true }
     {
-        self.settled.are_set()
+        self.marks.are_settled()
     }
 
     /// Whether no process has a put to make, as far as is noted.
     pub(crate) fn are_resting(&self) -> bool
         ensures { result ≡ true → (i : ℕ) → i < length self.now.resting → get_or self.now.resting i false ≡ true }
     {
-        self.resting.are_set()
+        self.marks.are_resting()
     }
 
     /// A process has made an event, or has fired: it is looked at next.
     pub(crate) fn note(&mut self, process: u32)
         ensures { self.new ≡ awake process self.old }
     {
-        self.settled.clear(process as usize);
-        self.resting.clear(process as usize);
+        self.marks.wake(process as usize);
         self.worklist.note(process);
     }
 
@@ -105,8 +100,7 @@ impl Notes {
     fn unsettle(&mut self, process: u32)
         ensures { self.new ≡ awake process self.old }
     {
-        self.settled.clear(process as usize);
-        self.resting.clear(process as usize);
+        self.marks.wake(process as usize);
     }
 
     /// A process is looked at next.
@@ -120,9 +114,7 @@ impl Notes {
     fn wake(&mut self, process: u32)
         ensures { self.new ≡ awake process self.old }
     {
-        let was_settled = self.settled.clear(process as usize);
-        self.resting.clear(process as usize);
-        if was_settled {
+        if self.marks.wake(process as usize) {
             self.worklist.wake(process);
         }
     }
@@ -175,8 +167,7 @@ impl Notes {
             return;
         }
         self.tokens[channel as usize] = true;
-        self.settled.set(process as usize);
-        self.resting.set(process as usize);
+        self.marks.rest(process as usize);
     }
 
     /// A process is stopped, since it waits for room on a channel of this capacity. Nothing is noted of one that doesn't put there.
@@ -191,7 +182,7 @@ impl Notes {
             return;
         }
         self.rooms[number] = true;
-        self.settled.set(process as usize);
+        self.marks.wait(process as usize);
         set_rank(&mut self.ranks, channel, capacity);
     }
 
@@ -228,19 +219,16 @@ impl Notes {
     pub(crate) fn rest(&mut self, process: u32)
         ensures { self.new ≡ at_end process self.old }
     {
-        self.settled.set(process as usize);
-        self.resting.set(process as usize);
+        self.marks.rest(process as usize);
     }
 
     /// The same again.
     pub(crate) fn copy(&self, alloc: Global) -> Result<Notes, AllocError>
         ensures { IfOk result (λ notes. notes ≡ self.now) }
     {
-        let settled = self.settled.copy(alloc)?;
-        let resting = self.resting.copy(alloc)?;
+        let marks = self.marks.copy(alloc)?;
         Ok(Notes {
-            settled,
-            resting,
+            marks,
             tokens: Vec::from_slice(alloc, &self.tokens)?,
             rooms: Vec::from_slice(alloc, &self.rooms)?,
             writers: Vec::from_slice(alloc, &self.writers)?,

@@ -7,9 +7,13 @@ ghost use Rattle.pt_pn_laws.specs.State.{lacking_place};
 ghost use Rattle.pt_pn_laws.specs.Lawful.{HasPlaces};
 ghost use Rattle.pt_process.specs.Process.{DoesNext, put_of, puts_in, with_token, with_put_made, with_handed, once_fired};
 ghost use Rattle.pt_pn_work.specs.Core.{nobody, puts_of_all};
+ghost use Rattle.pt_recv.specs.Lines.{list_at};
+ghost use Rattle.pt_pn.specs.Gets.{GetsFirst};
 
+use crate::outlets::next_token;
 use pt_firing::Need;
 use pt_process::{Event, Process, StagedPut};
+use pt_recv::Channels;
 use pt_value::Token;
 use std::alloc::{AllocError, Global};
 use std::collections::VecDeque;
@@ -25,13 +29,49 @@ pub(crate) fn next_of(processes: &mut Vec<Process>, process: usize) -> Event
 }
 
 /// A process takes a token at the place that lacks one.
-pub(crate) fn get_at(processes: &mut Vec<Process>, process: usize, place: usize, token: Token)
+fn get_at(processes: &mut Vec<Process>, process: usize, place: usize, token: Token)
     requires there { process < length processes.old.items }
     requires gathers { (get_or processes.old.items process nobody).handed ≡ false }
     requires lacks { lacking_place (get_or processes.old.items process nobody).need (get_or processes.old.items process nobody).got ≡ Some place }
     ensures { processes.new.items ≡ change_at process (with_token place token) processes.old.items }
 {
     processes[process].get(place, token);
+}
+
+/// A process takes an integer at the place that lacks a token.
+#[inline(always)]
+fn get_number_at(processes: &mut Vec<Process>, process: usize, place: usize, number: i64)
+    requires there { process < length processes.old.items }
+    requires gathers { (get_or processes.old.items process nobody).handed ≡ false }
+    requires lacks { lacking_place (get_or processes.old.items process nobody).need (get_or processes.old.items process nobody).got ≡ Some place }
+    ensures { processes.new.items ≡ change_at process (with_token place (Int number)) processes.old.items }
+{
+    processes[process].get_number(place, number);
+}
+
+/// A process takes the first token of a channel at the place that lacks one. An integer goes from the one to the other as it is.
+#[inline(always)]
+pub(crate) fn get_from(
+    queues: &mut Channels,
+    channel: u32,
+    processes: &mut Vec<Process>,
+    process: usize,
+    place: usize,
+)
+    requires channel { channel < length queues.old.lists }
+    requires some { 0 < length (list_at queues.old.lists channel) }
+    requires there { process < length processes.old.items }
+    requires gathers { (get_or processes.old.items process nobody).handed ≡ false }
+    requires lacks { lacking_place (get_or processes.old.items process nobody).need (get_or processes.old.items process nobody).got ≡ Some place }
+    ensures { GetsFirst channel process place queues.old queues.new processes.old.items processes.new.items }
+{
+    match queues.take_number(channel) {
+        Some(number) => get_number_at(processes, process, place, number),
+        None => {
+            let token = next_token(queues, channel);
+            get_at(processes, process, place, token);
+        }
+    }
 }
 
 /// Takes out the next put of a process.
@@ -45,6 +85,7 @@ pub(crate) fn take_put(processes: &mut Vec<Process>, process: usize) -> StagedPu
 }
 
 /// A process hands over what it has gathered.
+#[inline(always)]
 pub(crate) fn hand_at(processes: &mut Vec<Process>, process: usize)
     requires there { process < length processes.old.items }
     requires gathers { (get_or processes.old.items process nobody).handed ≡ false }

@@ -7,28 +7,27 @@ use Rattle.pt_pn.proofs.StepLaws.{in-list, gathers, lacks-so, get-channel, get-m
 use Rattle.pt_pn.proofs.SettledLaws.{get-settled}
 use Rattle.pt_pn.proofs.pn.Core.get.Goals as goal
 
-pub next_token-token-requires : goal.next_token-token-requires
-next_token-token-requires c =
+pub get_from-requires : goal.get_from-requires
+get_from-requires c =
     let g = get-channel c.self.inside c.self.invariant c.args.self.now c.self.view_is c.args.process c.args.place c.args.channel c.requires.may c.requires.channel in
-    record { there = g.0; some = g.1 }
-
-pub get_at-requires : goal.get_at-requires
-get_at-requires c = record {
-  there = in-list c.self.inside c.self.invariant c.args.self.now c.self.view_is c.args.process c.requires.may.there;
-  gathers = gathers c.self.inside c.self.invariant c.args.self.now c.self.view_is c.requires.running c.args.process;
-  lacks = lacks-so c.self.inside c.self.invariant c.args.self.now c.self.view_is c.args.process c.args.place c.requires.may.there c.requires.may.next;
-}
+    record {
+      channel = g.0;
+      some = g.1;
+      there = in-list c.self.inside c.self.invariant c.args.self.now c.self.view_is c.args.process c.requires.may.there;
+      gathers = gathers c.self.inside c.self.invariant c.args.self.now c.self.view_is c.requires.running c.args.process;
+      lacks = lacks-so c.self.inside c.self.invariant c.args.self.now c.self.view_is c.args.process c.args.place c.requires.may.there c.requires.may.next;
+    }
 
 pub invariant_of-self : goal.invariant_of-self
 invariant_of-self c = record {
-  kept = kept-get c.self.inside.network c.self.inside.processes.items c.self.inside.capacity.items c.self.inside.queues.lists c.self.inside.queues.spares c.self.inside.promised.items c.self.invariant.kept c.args.process c.args.place c.args.channel c.next_token-token.result c.get_at.new.processes.items
-      c.next_token-token.new.queues.lists c.next_token-token.new.queues.spares c.get_at.ensures c.next_token-token.ensures.lists c.next_token-token.ensures.spares;
-  stage = handed-still c.self.inside c.self.invariant c.args.self.now c.self.view_is c.requires.running c.args.process (with_token c.args.place c.next_token-token.result) c.get_at.new.processes.items (λ p. refl) c.get_at.ensures;
-  settled = get-settled c.self.inside.network c.self.inside.processes.items c.get_at.new.processes.items c.self.inside.capacity.items c.self.inside.queues.lists c.next_token-token.new.queues.lists c.self.inside.notes c.note_get.new.self c.args.process c.args.channel (with_token c.args.place c.next_token-token.result)
-      c.get_at.ensures c.next_token-token.ensures.lists c.note_get.ensures c.self.invariant.settled;
+  kept = kept-get c.self.inside.network c.self.inside.processes.items c.self.inside.capacity.items c.self.inside.queues.lists c.self.inside.queues.spares c.self.inside.promised.items c.self.invariant.kept c.args.process c.args.place c.args.channel c.get_from.ensures.token c.get_from.new.processes.items
+      c.get_from.new.queues.lists c.get_from.new.queues.spares c.get_from.ensures.got c.get_from.ensures.lists c.get_from.ensures.spares;
+  stage = handed-still c.self.inside c.self.invariant c.args.self.now c.self.view_is c.requires.running c.args.process (with_token c.args.place c.get_from.ensures.token) c.get_from.new.processes.items (λ p. refl) c.get_from.ensures.got;
+  settled = get-settled c.self.inside.network c.self.inside.processes.items c.get_from.new.processes.items c.self.inside.capacity.items c.self.inside.queues.lists c.get_from.new.queues.lists c.self.inside.notes c.note_get.new.self c.args.process c.args.channel (with_token c.args.place c.get_from.ensures.token)
+      c.get_from.ensures.got c.get_from.ensures.lists c.note_get.ensures c.self.invariant.settled;
 }
 
 pub returns : goal.returns
 returns c =
-    get-made c.self.inside c.self.invariant c.args.self.now c.self.view_is c.requires.running c.args.process c.args.place c.args.channel c.requires.may c.next_token-token.result c.get_at.new.processes.items c.next_token-token.new.queues.lists
-    (c.requires.channel ∙ sym (ap (λ (s : State). offset_of s.network.plan.net.places c.args.process + c.args.place) c.self.view_is)) c.next_token-token.ensures.first c.get_at.ensures c.next_token-token.ensures.lists
+    get-made c.self.inside c.self.invariant c.args.self.now c.self.view_is c.requires.running c.args.process c.args.place c.args.channel c.requires.may c.get_from.ensures.token c.get_from.new.processes.items c.get_from.new.queues.lists
+    (c.requires.channel ∙ sym (ap (λ (s : State). offset_of s.network.plan.net.places c.args.process + c.args.place) c.self.view_is)) c.get_from.ensures.first c.get_from.ensures.got c.get_from.ensures.lists
