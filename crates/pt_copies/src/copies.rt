@@ -99,7 +99,7 @@ fn is_variable(old: &Property) -> bool
 pub fn parameters(alloc: Global, old: &[Property]) -> Result<Vec<Property>, AllocError>
     ensures { IfOk result (λ new. view.properties_view new.items ≡ filter net.is_parameter (view.properties_view old.now)) }
 {
-    let mut new = Vec::new(alloc);
+    let mut new = Vec::with_capacity(alloc, old.len())?;
     for item in old {
         if is_parameter(item) {
             new.push(property(alloc, item)?)?;

@@ -60,6 +60,7 @@ fn director(alloc: Global, properties: &[Property]) -> Result<Option<NetDirector
 fn add_declared(alloc: Global, ports: &mut Vec<Port>, declared: &[Port]) -> Result<(), AllocError>
     ensures { OnOk result (map view.port_view ports.new.items ≡ map view.port_view ports.old.items ++ map view.port_view declared.now) }
 {
+    ports.reserve_exact(declared.len())?;
     for item in declared {
         ports.push(port(alloc, item)?)?;
     }
@@ -80,6 +81,7 @@ fn row_port(alloc: Global, row: &ClassPort) -> Result<Port, AllocError>
 fn add_rows(alloc: Global, ports: &mut Vec<Port>, rows: &[ClassPort]) -> Result<(), AllocError>
     ensures { OnOk result (map view.port_view ports.new.items ≡ map view.port_view ports.old.items ++ map net.row_port (map port_of rows.now)) }
 {
+    ports.reserve_exact(rows.len())?;
     for row in rows {
         ports.push(row_port(alloc, row)?)?;
     }

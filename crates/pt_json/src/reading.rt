@@ -124,6 +124,7 @@ fn push_item<'a>(found: &mut Vec<Value<'a>>, item: Value<'a>) -> Result<(), Unre
     Ok(())
 }
 
+/// Most objects of a document have three members at most, and take the room of three.
 fn push_member<'a>(
     found: &mut Vec<(&'a str, Value<'a>)>,
     name: &'a str,
@@ -132,6 +133,9 @@ fn push_member<'a>(
     ensures ok { OnOk result (found.new.items ≡ found.old.items ++ (name.entry, member.entry) ∷ []) }
     ensures memory { OnErr result (result ≡ Err Memory) }
 {
+    if found.is_empty() {
+        found.reserve_exact(3)?;
+    }
     found.push((name, member))?;
     Ok(())
 }

@@ -10,7 +10,9 @@ ghost use Rattle.pt_moml.specs.Reading.{entity_fields, kind_at, ports_field, rel
 ghost use Rattle.pt_document.specs.View.{port_view, entity_view, entities_view};
 ghost use Rattle.pt_moml.specs.StageView.{wiring_view, machine_view, own_view};
 
-use crate::fields::{Named, has_fields, list, list_or_empty, name_of, names_differ, required};
+use crate::fields::{
+    MOST_ROOM, Named, has_fields, list, list_or_empty, name_of, names_differ, required,
+};
 use crate::property::properties_of;
 use crate::rules::parts_fit;
 use pt_document::{
@@ -313,7 +315,7 @@ fn read_entities(alloc: Global, here: &str, items: &[Value]) -> Result<Vec<Entit
     ensures { Gives (λ v. entities_view v.items) result
         (entity_items here.now [] (items_view items.now)) }
 {
-    let mut found = Vec::new(alloc);
+    let mut found = Vec::with_capacity(alloc, items.len().min(MOST_ROOM))?;
     for item in items {
         found.push(entity_of(alloc, here, item)?)?;
     }

@@ -17,6 +17,9 @@ use std::hash::BuildHasherDefault;
 /// How many parts are compared with one another at most, in place of a set of their names.
 const MOST_COMPARED: usize = 8;
 
+/// For so many items a list has room from the start at most, so that a long list that is refused at once takes little memory.
+pub(crate) const MOST_ROOM: usize = 1 << 14;
+
 /// The text at a place that must have one.
 pub fn text_of(alloc: Global, path: &str, value: &Value) -> Result<Text, DocFault>
     ensures { Gives (λ t. t) result (text_at path.now (view value.now)) }
@@ -230,7 +233,7 @@ fn read_items<P: Part>(alloc: Global, path: &str, items: &[Value]) -> Result<Vec
     ensures { Gives (λ v. P.trees v.items) result
         (items_at (P.reading path.now) [] (items_view items.now)) }
 {
-    let mut found = Vec::new(alloc);
+    let mut found = Vec::with_capacity(alloc, items.len().min(MOST_ROOM))?;
     for item in items {
         found.push(P::read(alloc, path, item)?)?;
     }

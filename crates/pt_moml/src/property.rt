@@ -8,7 +8,7 @@ ghost use Rattle.pt_document.specs.declared.refusal.DocFault.TheVariants.{Memory
 ghost use Rattle.pt_moml.specs.Fields.{listed};
 ghost use Rattle.pt_moml.specs.Reading.{property_fields, property_from, property_at, properties_field, property_items, named};
 
-use crate::fields::{Named, has_fields, name_of, names_differ, optional};
+use crate::fields::{MOST_ROOM, Named, has_fields, name_of, names_differ, optional};
 use pt_document::{Code, DocFault, Property, refused};
 use pt_json::Value;
 use std::alloc::Global;
@@ -129,7 +129,7 @@ fn read_properties(alloc: Global, path: &str, items: &[Value]) -> Result<Vec<Pro
     ensures { Gives (λ v. properties_view v.items) result
         (property_items path.now [] (items_view items.now)) }
 {
-    let mut found = Vec::new(alloc);
+    let mut found = Vec::with_capacity(alloc, items.len().min(MOST_ROOM))?;
     for item in items {
         push(&mut found, property_of(alloc, path, item)?)?;
     }

@@ -14,7 +14,7 @@ entity_of_name-entities_of-requires t c =
     (rw c.get.ensures (omega (arith, one)), tt)
 
 pub read_entities-loop-item-init : goal.read_entities-loop-item-init
-read_entities-loop-item-init t c = rw c.new-found.ensures.items (sym (items_are c.args.here.now [] (items_view c.args.items.now)))
+read_entities-loop-item-init t c = rw c.in_ok-found.ensures.items (sym (items_are c.args.here.now [] (items_view c.args.items.now)))
 
 pub read_entities-entity_of-requires : goal.read_entities-entity_of-requires
 read_entities-entity_of-requires t c =

@@ -13,7 +13,7 @@ property_of-properties_of-requires t c =
     (rw c.get.ensures (omega (arith, one)), tt)
 
 pub read_properties-loop-item-init : goal.read_properties-loop-item-init
-read_properties-loop-item-init t c = rw c.new-found.ensures.items (sym (items_are c.args.path.now [] (items_view c.args.items.now)))
+read_properties-loop-item-init t c = rw c.in_ok-found.ensures.items (sym (items_are c.args.path.now [] (items_view c.args.items.now)))
 
 pub read_properties-property_of-requires : goal.read_properties-property_of-requires
 read_properties-property_of-requires t c =
