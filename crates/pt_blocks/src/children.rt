@@ -23,6 +23,7 @@ pub(crate) fn copies(
     ensures { OnOk result (AreOf (map shown children.now) actors.new.items) }
 {
     actors.clear();
+    actors.reserve_exact(children.len())?;
     for child in children {
         let Body::Actor(held) = &child.body else {
             return Err(AllocError);

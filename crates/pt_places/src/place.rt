@@ -144,6 +144,7 @@ impl Place<'_> {
         match value {
             ParameterValue::Tree(tree) => {
                 let term = self.tree(alloc, tree)?;
+                let term = Box::new(alloc, term)?;
                 add(inequalities, variable, Term::TreeOf(term))
             }
             ParameterValue::Token(_) | ParameterValue::Word => Ok(()),

@@ -26,7 +26,7 @@ fn add_action_at(
     };
     match tree {
         Some(tree) => {
-            let term = scope.tree(alloc, tree)?;
+            let term = Box::new(alloc, scope.tree(alloc, tree)?)?;
             let port = Variable::Port(scope.number as usize, port);
             add(inequalities, port, Term::TreeOf(term))
         }

@@ -1,5 +1,5 @@
 -- The inequalities that the program holds.
-use Rattle.std.specs.Prelude.{◌≡◌, ℕ, List, map}
+use Rattle.std.specs.Prelude.{◌≡◌, ℕ, List, map, box_value}
 use Rattle.pt_types.specs.declared.ty.Ty.{Ty}
 use Rattle.pt_datatypes.specs.Datatype.{Datatype}
 use Rattle.pt_datatypes.specs.Rules.{type_at}
@@ -29,7 +29,7 @@ term_view (given.ArrayOf v) = ArrayOf v
 term_view (given.ElementOf v) = ElementOf v
 term_view (given.FieldOf v name) = FieldOf v name
 term_view (given.RecordOf fs) = RecordOf fs.items
-term_view (given.TreeOf t) = tree_view t
+term_view (given.TreeOf t) = tree_view (box_value t)
 
 -- a variable, and the term that is below it
 abbrev pub Inequality : Type 0

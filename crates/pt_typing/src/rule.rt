@@ -26,7 +26,7 @@ pub struct Bound<'a> {
 pub enum Reads {
     Nothing,
     One(u32),
-    Many(Vec<u32>),
+    Many(Box<Vec<u32>>),
 }
 
 impl Reads {
@@ -97,6 +97,12 @@ fn numbers_of(
     Ok(list)
 }
 
+/// The numbers of named variables.
+fn many(alloc: Global, numbers: &Numbers, names: &[(Text, Variable)]) -> Result<Reads, AllocError> {
+    let list = numbers_of(alloc, numbers, names)?;
+    Ok(Reads::Many(Box::new(alloc, list)?))
+}
+
 /// The numbers of the variables of a term.
 fn reads_of(alloc: Global, numbers: &Numbers, term: &Term) -> Result<Reads, AllocError> {
     match term {
@@ -105,8 +111,8 @@ fn reads_of(alloc: Global, numbers: &Numbers, term: &Term) -> Result<Reads, Allo
         | Term::ArrayOf(variable)
         | Term::ElementOf(variable)
         | Term::FieldOf(variable, _) => Ok(Reads::One(numbers.number(*variable))),
-        Term::RecordOf(fields) => numbers_of(alloc, numbers, fields.as_slice()).map(Reads::Many),
-        Term::TreeOf(tree) => { numbers_of(alloc, numbers, tree.ports.as_slice()).map(Reads::Many) }
+        Term::RecordOf(fields) => many(alloc, numbers, fields.as_slice()),
+        Term::TreeOf(tree) => many(alloc, numbers, tree.ports.as_slice()),
     }
 }
 

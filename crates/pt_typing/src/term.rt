@@ -33,7 +33,8 @@ pub enum Term {
     ElementOf(Variable),
     FieldOf(Variable, Text),
     RecordOf(Vec<(Text, Variable)>),
-    TreeOf(TreeTerm),
+    /// In a place of its own, since few terms are of expressions, and a list of terms has the room of the largest for each.
+    TreeOf(Box<TreeTerm>),
 }
 
 /// A variable, and the term that is below it.
