@@ -256,6 +256,7 @@ impl Actor for LibraryActor {
         of_library!(self, actor => actor.first())
     }
 
+    #[inline(always)]
     fn need(&self) -> Need<'_> {
         of_library!(self, actor => actor.need())
     }

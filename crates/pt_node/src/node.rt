@@ -62,6 +62,7 @@ impl Node {
     }
 
     /// What the node needs before it can fire.
+    #[inline(always)]
     pub fn need(&self) -> Need<'_>
         ensures { need_of result ≡ facts.need_of library.rows (node_of (shown_node self.now)) }
     {
