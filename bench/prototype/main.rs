@@ -680,10 +680,16 @@ fn net_of(kind: &str, size: usize) -> Net {
     Net { entities: all, channels: row(channels.iter().map(|&(from, to)| Channel { composite: 0, from: end(from, 1), to: end(to, 0) })) }
 }
 
-/// Writes the report of a run of meetings.
+/// Writes the report of a run.
 #[inline(never)]
 fn told(kind: &str, size: usize, top: &mut Node) {
     use std::io::Write;
+    if kind != "meetings" {
+        let report = crate::pt_run::report(GLOBAL, top, row([]), Ended::Iterations, 1).ok().unwrap();
+        let text = crate::pt_trace::text(GLOBAL, &report).ok().unwrap();
+        std::io::stdout().write_all(&text).unwrap();
+        return;
+    }
     let net = net_of(kind, size);
     let children = row(1..net.entities.len());
     let inside = Inside { net: &net, number: 0, composite: &net.entities[0], children: &children, channels: &net.channels };
@@ -722,14 +728,16 @@ pub extern "C" fn proto_main() {
         drop(top);
         std::process::exit(0);
     }
-    let child = &top.children[last];
-    let trace = child.records.as_slice()[0].trace();
-    let (sum, count) = checksum(trace.iter().map(|(tag, token)| match token {
-        // Under SDF and SR the tag tells nothing.
-        Token::Int(n) if is_timed(kind) => n.wrapping_add(tag.time as i64 * 31).wrapping_add(tag.step as i64 * 17),
-        Token::Int(n) => *n,
+    let records = std::mem::replace(&mut top.children[last].records, Records::of(row([])));
+    let (_, tokens) = records.into_ports().into_iter().next().unwrap().into_told();
+    let (first, numbers, rest) = tokens.parts();
+    // Under SDF and SR the tag tells nothing.
+    let told = |tag: Tag, n: i64| if is_timed(kind) { n.wrapping_add(tag.time as i64 * 31).wrapping_add(tag.step as i64 * 17) } else { n };
+    let behind = rest.iter().map(|(tag, token)| match token {
+        Token::Int(n) => told(*tag, *n),
         _ => panic!(),
-    }));
+    });
+    let (sum, count) = checksum(numbers.iter().map(|n| told(first, *n)).chain(behind));
     let met = top.meetings.as_slice().map_or(String::new(), |met| format!(" meetings {}", met.len()));
     println!("checksum {sum:016x} tokens {count} firings {made}{met}");
     if words.get(3).is_some_and(|word| word == "sizes") {

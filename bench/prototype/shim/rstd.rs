@@ -237,6 +237,10 @@ pub mod vec {
             self.cap
         }
 
+        pub fn allocator(&self) -> &Global {
+            &self.alloc
+        }
+
         pub fn is_empty(&self) -> bool {
             self.len == 0
         }
@@ -250,6 +254,13 @@ pub mod vec {
         }
 
         pub fn reserve(&mut self, additional: usize) -> Result<(), AllocError> {
+            if !self.grow(additional) {
+                return Err(AllocError);
+            }
+            Ok(())
+        }
+
+        pub fn reserve_exact(&mut self, additional: usize) -> Result<(), AllocError> {
             if !self.grow(additional) {
                 return Err(AllocError);
             }
