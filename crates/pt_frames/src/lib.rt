@@ -5,6 +5,6 @@ mod entities;
 mod frames;
 mod port_numbers;
 
-pub use entities::{is_modal, values_at};
+pub use entities::{has_modal, is_modal, values_at};
 pub use frames::{Frame, Frames, names_of_tokens};
 pub use port_numbers::PortNumbers;

@@ -1,26 +1,22 @@
 -- The tables of the relations at each port, one wire on.
-use Rattle.std.proofs.Common.{◌≡◌, ℕ, ◌+◌, ◌<◌, inl, inr, Bool, true, false, cond, Some, None, List, [], ◌∷◌, ◌++◌, length, get_or, set, take, nat_eq, refl, sym, ap, subst, ◌∙◌, arith, get_or-set_same, get_or-set_other, length-set, Vec, Global}
+use Rattle.std.proofs.Common.{◌≡◌, ℕ, ◌+◌, ◌<◌, inl, inr, Bool, true, false, cond, Some, None, List, [], ◌∷◌, ◌++◌, length, get_or, set, take, nat_eq, refl, sym, ap, subst, ◌∙◌, arith, get_or-set_same, get_or-set_other, length-set}
 use Rattle.std.proofs.lemmas.Bool.{cases_eq, eq-eqb, ne_eqb}
-use Rattle.std.proofs.lemmas.List.{append-nil, get_or-map, map-set, take_more}
+use Rattle.std.proofs.lemmas.List.{append-nil, get_or_default, take_more}
 use Rattle.std.proofs.lemmas.List.Elements.{filter_map-append}
 use Rattle.std.specs.List.{filter_map, cons_option}
 use Rattle.pt_net.specs.declared.wire.Wire.{Wire}
 use Rattle.pt_net.specs.declared.wire.Wire.TheVariants.{Outside, Inside, Bond}
 use Rattle.pt_net.specs.Wires.{relation_outside, relation_inside, outside_of, inside_of}
-use Rattle.pt_links.specs.Ties.{rows, appended, outside_with, inside_with, IsPortWithin, AreTied}
-
-abbrev Row : Type 0
-Row = Vec ℕ Global
+use Rattle.pt_links.specs.Ties.{appended, outside_with, inside_with, IsPortWithin, AreTied}
 
 -- a row that was read, and written with one number more
-pub append_row : (vs : List Row) (g r : ℕ) (v w : Row) → g < length vs → v ≡ get_or vs g v → w.items ≡ v.items ++ r ∷ [] → rows (set vs g w) ≡ appended (rows vs) g r
+pub append_row : (vs : List (List ℕ)) (g r : ℕ) (v w : List ℕ) → g < length vs → v ≡ get_or vs g v → w ≡ v ++ r ∷ [] → set vs g w ≡ appended vs g r
 append_row vs g r v w within is new =
-    map-set {A = Row} {B = List ℕ} (λ u. u.items) vs g w
-    ∙ ap (λ (xs : List ℕ). set (rows vs) g xs) (new ∙ ap (λ (xs : List ℕ). xs ++ r ∷ []) (ap (λ (u : Row). u.items) is ∙ sym (get_or-map {X = Row} {Y = List ℕ} (λ u. u.items) vs g v [] within)))
+    ap (λ (xs : List ℕ). set vs g xs) (new ∙ ap (λ (xs : List ℕ). xs ++ r ∷ []) (is ∙ get_or_default vs g v [] within))
 
 -- a row that was read
-pub row_is : (vs : List Row) (g : ℕ) (v : Row) (xs ys : List ℕ) → g < length vs → v ≡ get_or vs g v → xs ≡ v.items → get_or (rows vs) g [] ≡ ys → xs ≡ ys
-row_is vs g v xs ys within is e f = e ∙ ap (λ (u : Row). u.items) is ∙ sym (get_or-map {X = Row} {Y = List ℕ} (λ u. u.items) vs g v [] within) ∙ f
+pub row_is : (vs : List (List ℕ)) (g : ℕ) (v xs ys : List ℕ) → g < length vs → v ≡ get_or vs g v → xs ≡ v → get_or vs g [] ≡ ys → xs ≡ ys
+row_is vs g v xs ys within is e f = e ∙ is ∙ get_or_default vs g v [] within ∙ f
 
 abbrev only : Bool → ℕ → List ℕ
 only b r = cond b (r ∷ []) []

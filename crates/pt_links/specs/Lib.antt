@@ -1,4 +1,5 @@
 pub mod Resolve
+pub mod Row
 pub mod Ties
 pub mod Wiring
 pub mod Recorded

@@ -1,13 +1,8 @@
 -- The relations at each port, as tables.
-use Rattle.std.specs.Prelude.{◌≡◌, ℕ, ◌<◌, ◌++◌, List, [], ◌∷◌, length, map, slice_index_or, slice_set}
+use Rattle.std.specs.Prelude.{◌≡◌, ℕ, ◌<◌, ◌++◌, List, [], ◌∷◌, length, slice_index_or, slice_set}
 use Rattle.pt_net.specs.declared.wire.Wire.{Wire}
 use Rattle.pt_net.specs.declared.wire.Wire.TheVariants.{Outside, Inside, Bond}
 use Rattle.pt_net.specs.Wires.{outside_of, inside_of}
-use Rattle.std.specs.Prelude.{Vec}
-use Rattle.std.specs.Global.{Global}
-
-abbrev pub rows : List (Vec ℕ Global) → List (List ℕ)
-rows vs = map (λ v. v.items) vs
 
 -- the rows with one number more in the row of a port
 abbrev pub appended : List (List ℕ) → ℕ → ℕ → List (List ℕ)

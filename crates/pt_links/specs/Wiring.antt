@@ -6,7 +6,7 @@ use Rattle.pt_net.specs.Table.{PortAt, LinkAt, Tables, ports_of}
 use Rattle.pt_document.specs.Document.{parts}
 use Rattle.pt_survey.specs.Survey.{tables_view}
 use Rattle.pt_net.specs.Wires.{wire_of, is_input, outside_of, inside_of}
-use Rattle.pt_links.specs.Ties.{rows, IsWithin, AreTied}
+use Rattle.pt_links.specs.Ties.{IsWithin, AreTied}
 use Rattle.pt_net.specs.Net.{wires}
 use Rattle.pt_net.specs.Stands.{is_single, is_many, needs_link, needs_link_inside, least_channels, channels_in}
 use Rattle.pt_net.specs.Standing.{Standing}
@@ -31,7 +31,7 @@ pub record AreWires (t : Tables) (w : Wiring) : Type 0 where
   pub owned : AreOwned t
   pub wires_are : w.wires.items ≡ wires t
   pub within : All (IsWithin (length t.ports) (length t.relations)) (wires t)
-  pub tied : AreTied (length t.ports) (wires t) (rows w.ties.outside.items) (rows w.ties.inside.items)
+  pub tied : AreTied (length t.ports) (wires t) w.ties.outside.items w.ties.inside.items
 
 abbrev pub IsWiring : Wiring → Type 0
 IsWiring w = AreWires (tables_view w.tables.now) w

@@ -7,6 +7,7 @@ mod names;
 mod records;
 mod refusal;
 mod resolve;
+mod row;
 mod ties;
 mod wiring;
 
@@ -14,5 +15,6 @@ pub use checks::{check_counts, check_ports};
 pub use joining::joints;
 pub use records::recorded;
 pub use refusal::{refused_at, refused_port, refused_relation};
+pub use row::Row;
 pub use ties::Ties;
 pub use wiring::Wiring;

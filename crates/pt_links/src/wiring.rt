@@ -46,7 +46,7 @@ impl<'w, 't, 'a> Wiring<'w, 't, 'a> {
         requires number { number < length (tables_view self.now.tables.now).ports }
         ensures { result.now ≡ spec.outside_of (net.wires (tables_view self.now.tables.now)) number }
     {
-        &self.ties.outside[number]
+        self.ties.outside[number].as_slice()
     }
 
     /// The relations to which a port is linked from inside.
@@ -55,7 +55,7 @@ impl<'w, 't, 'a> Wiring<'w, 't, 'a> {
         requires number { number < length (tables_view self.now.tables.now).ports }
         ensures { result.now ≡ spec.inside_of (net.wires (tables_view self.now.tables.now)) number }
     {
-        &self.ties.inside[number]
+        self.ties.inside[number].as_slice()
     }
 
     /// The relations from which a port takes tokens.

@@ -210,7 +210,11 @@ fn differ<T: Named>(alloc: Global, parts: &[T]) -> Result<bool, AllocError>
     if parts.len() <= MOST_COMPARED {
         return Ok(are_apart(parts));
     }
-    let mut seen: NameSet<&str> = IndexSet::with_hasher(alloc, BuildHasherDefault::new());
+    let mut seen: NameSet<&str> = IndexSet::with_capacity_and_hasher(
+        alloc,
+        parts.len(),
+        BuildHasherDefault::new(),
+    )?;
     let are_new = are_new(&mut seen, parts);
     drop(seen);
     are_new

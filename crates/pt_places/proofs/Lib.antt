@@ -1,2 +1,4 @@
 pub mod Parts
+pub mod Plain
+pub mod RowLaws
 pub mod Tables

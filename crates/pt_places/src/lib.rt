@@ -12,4 +12,4 @@ pub use inequalities::inequalities_of;
 pub use joints::{add_passing, all_ports, port_counts};
 pub use place::{Place, add};
 pub use refinements::add_refinements;
-pub use rows::port_type;
+pub use rows::{port_type_by, rows_of};

@@ -10,7 +10,7 @@ ghost use Rattle.pt_typing.specs.Views.{known_entry, tree_view, term_view};
 ghost use Rattle.pt_inequalities.specs.Inequalities.{input_at, inputs_of, with_type, known, of_tree, of_held, of_trees, of_fields, of_port, of_ports, of_seed, of_value, of_parameter, of_parameters};
 ghost use Rattle.pt_places.specs.Views.{types_at, IsAdded};
 
-use crate::rows::{port_type, seed_of};
+use crate::rows::{port_type_by, rows_of, seed_of};
 use crate::seeds::seeded;
 use pt_document::{Direction, Port};
 use pt_frames::Frames;
@@ -227,8 +227,10 @@ impl Place<'_> {
     ) -> Result<(), AllocError>
         ensures { OnOk result (IsAdded inequalities.old.items inequalities.new.items (of_ports self.now.number (entity_view self.now.entity.now) (valued.entity_view self.now.values.now) (types_at self.now) 0 (map port_view self.now.entity.now.ports.items))) }
     {
+        let class = self.entity.class.as_str();
+        let rows = rows_of(class);
         for (index, port) in self.entity.ports.iter().enumerate() {
-            let ty = port_type(self.entity.class.as_str(), port);
+            let ty = port_type_by(rows, class, port);
             self.add_port(alloc, index, port.name.as_str(), ty, inequalities)?;
         }
         Ok(())

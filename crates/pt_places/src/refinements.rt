@@ -9,7 +9,7 @@ ghost use Rattle.pt_places.specs.Views.{IsAdded};
 
 use crate::place::add;
 use pt_document::{Direction, Port};
-use pt_frames::{PortNumbers, is_modal};
+use pt_frames::{PortNumbers, has_modal, is_modal};
 use pt_net::NetEntity;
 use pt_typing::{Inequality, Term, Variable};
 use std::alloc::{AllocError, Global};
@@ -127,7 +127,7 @@ fn add_children(
     Ok(())
 }
 
-/// The inequalities of the refinements of a net.
+/// The inequalities of the refinements of a net. Where no entity is Modal there are none, and no tables are made.
 pub fn add_refinements(
     alloc: Global,
     entities: &[NetEntity],
@@ -135,6 +135,9 @@ pub fn add_refinements(
 ) -> Result<(), AllocError>
     ensures { OnOk result (IsAdded inequalities.old.items inequalities.new.items (refined (map entity_view entities.now))) }
 {
+    if !has_modal(entities) {
+        return Ok(());
+    }
     let tables = port_tables(alloc, entities)?;
     add_children(&tables, entities, inequalities)
 }

@@ -3,6 +3,7 @@ ghost use Rattle.pt_types.specs.Ty.{type_of};
 ghost use Rattle.pt_document.specs.View.{port_view};
 ghost use Rattle.pt_typing.specs.declared.variable.Variable.TheVariants as variable;
 ghost use Rattle.pt_typing.specs.Least.{assignment};
+ghost use Rattle.pt_said.specs.SaidWords.{type_in};
 ghost use Rattle.pt_resolve.specs.Broken.{is_over_type, is_over, has_port_over};
 
 use pt_document::Port;
@@ -22,20 +23,16 @@ pub(crate) fn is_over_type(ty: &Ty, bound: &Option<Ty>) -> bool
     }
 }
 
-/// Whether a type isn't below the one that a port declares.
-fn is_over(alloc: Global, ty: &Ty, declared: &Option<Text>) -> Result<bool, AllocError>
-    ensures { IfOk result (λ b. b ≡ is_over (type_of ty.now) declared.now) }
+/// Whether a type isn't below the one that a text says, where it says one.
+fn is_over(alloc: Global, ty: &Ty, text: &Text) -> Result<bool, AllocError>
+    ensures { IfOk result (λ b. b ≡ is_over_type (type_of ty.now) (type_in text.now)) }
 {
-    match declared {
-        Some(text) => {
-            let bound = type_in(alloc, text.as_str())?;
-            Ok(is_over_type(ty, &bound))
-        }
-        None => Ok(false),
-    }
+    let bound = type_in(alloc, text.as_str())?;
+    Ok(is_over_type(ty, &bound))
 }
 
-/// The same of what passes at the port of this number of an entity.
+/// Whether what passes at the port of this number of an entity isn't below what the port declares. Where it declares nothing, its type
+/// isn't asked for.
 fn is_port_over(
     alloc: Global,
     typing: &Typing,
@@ -45,8 +42,13 @@ fn is_port_over(
 ) -> Result<bool, AllocError>
     ensures { IfOk result (λ b. b ≡ is_over ((assignment typing.now).types (variable.Port number index)) (port_view port.now).declared) }
 {
-    let ty = typing.ty(alloc, Variable::Port(number, index))?;
-    is_over(alloc, &ty, &port.declared)
+    match &port.declared {
+        Some(text) => {
+            let ty = typing.ty(alloc, Variable::Port(number, index))?;
+            is_over(alloc, &ty, text)
+        }
+        None => Ok(false),
+    }
 }
 
 /// Whether a port of an entity isn't below what it declares.

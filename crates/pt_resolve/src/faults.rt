@@ -6,22 +6,22 @@ ghost use Rattle.pt_scopes.specs.Given.{held_view};
 ghost use Rattle.pt_scopes.specs.Valued as valued;
 ghost use Rattle.pt_typing.specs.declared.variable.Variable.TheVariants as variable;
 ghost use Rattle.pt_typing.specs.Least.{assignment};
-ghost use Rattle.pt_inequalities.specs.Rows.{port_type};
+ghost use Rattle.pt_inequalities.specs.Rows.{port_row, port_type};
 ghost use Rattle.pt_inequalities.specs.Frames.{frames_of, seen_types};
 ghost use Rattle.pt_resolve.specs.Faults.{is_above, IsBroken};
 ghost use Rattle.pt_resolve.specs.Broken.{has_port_above, lacks_type, has_untyped, breaks, first_broken};
 ghost use Rattle.pt_resolve.specs.ModalFaults.{IsFailing};
 ghost use Rattle.pt_frames.specs.Views.{frames_view};
-ghost use Rattle.pt_places.specs.Views.{types_at};
+ghost use Rattle.pt_places.specs.Views.{types_at, class_rows};
 
 use crate::bounds::has_port_over;
 use crate::modal_faults::first_failing;
 use pt_charts::charts_of;
 use pt_document::Port;
 use pt_frames::{Frames, values_at};
-use pt_inequalities::PortType;
+use pt_inequalities::{PortType, PortTypeRow};
 use pt_net::{Net, NetEntity};
-use pt_places::{Place, port_type};
+use pt_places::{Place, port_type_by, rows_of};
 use pt_scopes::{EntityValues, ParameterValue, Values};
 use pt_types::{Ty, below};
 use pt_typing::{Typing, Variable};
@@ -44,19 +44,21 @@ fn is_above(row: PortType, ty: &Ty) -> bool
     }
 }
 
-/// Whether a port is general, or above what its row allows: the port `index` of the entity `number`.
+/// Whether a port is general, or above what its row allows: the port `index` of the entity `number`, whose class has these rows.
 fn is_port_above(
     alloc: Global,
     typing: &Typing,
     number: usize,
+    rows: &'static [PortTypeRow<&'static str>],
     class: &str,
     index: usize,
     port: &Port,
 ) -> Result<bool, AllocError>
+    requires { map port_row rows.now ≡ class_rows class.now }
     ensures { IfOk result (λ b. b ≡ is_above (port_type class.now (port_view port.now)) ((assignment typing.now).types (variable.Port number index))) }
 {
     let ty = typing.ty(alloc, Variable::Port(number, index))?;
-    Ok(is_above(port_type(class, port), &ty))
+    Ok(is_above(port_type_by(rows, class, port), &ty))
 }
 
 /// Whether one of the ports of an entity is general, or above what its row allows.
@@ -69,8 +71,9 @@ fn has_port_above(
 ) -> Result<bool, AllocError>
     ensures { IfOk result (λ b. b ≡ has_port_above (assignment typing.now) number class.now 0 (map port_view ports.now)) }
 {
+    let rows = rows_of(class);
     for (index, port) in ports.iter().enumerate() {
-        if is_port_above(alloc, typing, number, class, index, port)? {
+        if is_port_above(alloc, typing, number, rows, class, index, port)? {
             return Ok(true);
         }
     }

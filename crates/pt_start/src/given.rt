@@ -98,7 +98,7 @@ pub fn own_tokens(
 ) -> Result<Vec<(Text, Token)>, AllocError>
     ensures { IfOk result (λ tokens. tokens.items ≡ own_tokens (properties_view properties.now) values.now) }
 {
-    let mut tokens = Vec::new(alloc);
+    let mut tokens = Vec::with_capacity(alloc, properties.len())?;
     for (number, property) in properties.iter().enumerate() {
         add_own(alloc, property, values.get(number), &mut tokens)?;
     }

@@ -158,39 +158,39 @@ fn add_rows<'a>(ports: &mut Vec<PortRow<&'a str>>, rows: &[ClassPort]) -> Result
     ports.extend_from_slice(rows)
 }
 
-/// The ports of an entity: those of its class and those that it declares.
+/// Lists the ports of an entity, those of its class and those that it declares, in place of what the list had.
 #[tactic(auto, unfolding(pt_net::specs::Table::ports_of))]
-fn ports_of<'a>(alloc: Global, entity: &'a Entity) -> Result<Vec<PortRow<&'a str>>, AllocError>
-    ensures { IfOk result (λ ports. map port_of ports.items ≡ spec.ports_of (parts (entity_view entity.now))) }
+fn list_ports<'a>(ports: &mut Vec<PortRow<&'a str>>, entity: &'a Entity) -> Result<(), AllocError>
+    ensures { OnOk result (map port_of ports.new.items ≡ spec.ports_of (parts (entity_view entity.now))) }
 {
-    let mut ports = Vec::new(alloc);
+    ports.clear();
     match kind_named(entity.class.as_str()) {
         Some(Kind::Actor(class)) => match class.declares {
             Some(Direction::Output) => {
-                add_rows(&mut ports, class.ports)?;
-                add_declared(&mut ports, &entity.ports)?;
+                add_rows(ports, class.ports)?;
+                add_declared(ports, &entity.ports)?;
             }
             Some(Direction::Input) | None => {
-                add_declared(&mut ports, &entity.ports)?;
-                add_rows(&mut ports, class.ports)?;
+                add_declared(ports, &entity.ports)?;
+                add_rows(ports, class.ports)?;
             }
         },
         Some(Kind::Composite) | Some(Kind::Modal) | None => {
-            add_declared(&mut ports, &entity.ports)?;
+            add_declared(ports, &entity.ports)?;
         }
     }
-    Ok(ports)
+    Ok(())
 }
 
-fn add_ports<'t, 'a>(
-    alloc: Global,
+/// Adds these ports of an entity.
+fn add_listed<'t, 'a>(
     table: &mut Vec<PlacedPort<'t, 'a>>,
     entity: usize,
     placed: &'t Placed<'a>,
+    ports: &[PortRow<&'a str>],
 ) -> Result<(), AllocError>
-    ensures { OnOk result (ports_view table.new.items ≡ ports_view table.old.items ++ spec.numbered_ports entity (placed_view placed.now) 0 (spec.ports_of (parts (placed_view placed.now).tree))) }
+    ensures { OnOk result (ports_view table.new.items ≡ ports_view table.old.items ++ spec.numbered_ports entity (placed_view placed.now) 0 (map port_of ports.now)) }
 {
-    let ports = ports_of(alloc, placed.entity)?;
     for (number, port) in ports.iter().enumerate() {
         table.push(PlacedPort {
             entity,
@@ -200,6 +200,19 @@ fn add_ports<'t, 'a>(
         })?;
     }
     Ok(())
+}
+
+/// Adds the ports of an entity. The room is for their list, so that none is made for each entity.
+fn add_ports<'t, 'a>(
+    room: &mut Vec<PortRow<&'a str>>,
+    table: &mut Vec<PlacedPort<'t, 'a>>,
+    entity: usize,
+    placed: &'t Placed<'a>,
+) -> Result<(), AllocError>
+    ensures { OnOk result (ports_view table.new.items ≡ ports_view table.old.items ++ spec.numbered_ports entity (placed_view placed.now) 0 (spec.ports_of (parts (placed_view placed.now).tree))) }
+{
+    list_ports(room, placed.entity)?;
+    add_listed(table, entity, placed, room.as_slice())
 }
 
 fn add_relations<'t, 'a>(
@@ -252,7 +265,7 @@ impl<'t, 'a> Tables<'t, 'a> {
     /// Adds the ports, relations and links of the entity of this number.
     fn add(
         &mut self,
-        alloc: Global,
+        room: &mut Vec<PortRow<&'a str>>,
         number: usize,
         placed: &'t Placed<'a>,
     ) -> Result<(), AllocError>
@@ -261,7 +274,7 @@ impl<'t, 'a> Tables<'t, 'a> {
         ensures relations { OnOk result (relations_view self.new.relations.items ≡ relations_view self.old.relations.items ++ spec.relations_in number (placed_view placed.now)) }
         ensures links { OnOk result (links_view self.new.links.items ≡ links_view self.old.links.items ++ spec.links_in number (placed_view placed.now)) }
     {
-        add_ports(alloc, &mut self.ports, number, placed)?;
+        add_ports(room, &mut self.ports, number, placed)?;
         add_relations(&mut self.relations, number, placed)?;
         add_links(&mut self.links, number, placed)
     }
@@ -280,8 +293,9 @@ pub fn tables_of<'t, 'a>(
         relations: Vec::new(alloc),
         links: Vec::new(alloc),
     };
+    let mut room = Vec::new(alloc);
     for (number, placed) in entities.iter().enumerate() {
-        tables.add(alloc, number, placed)?;
+        tables.add(&mut room, number, placed)?;
     }
     Ok(tables)
 }

@@ -1,5 +1,6 @@
 ghost use Rattle.std.specs.Prelude.{◌≡◌, [], OnOk};
 
+use crate::readers::Readers;
 use std::alloc::{AllocError, Global};
 
 /// The indexes of the rules whose turn it is, each once. It says where to look next, and no proof rests on it.
@@ -12,13 +13,9 @@ pub(crate) struct Due {
 
 impl Due {
     pub(crate) fn new(alloc: Global, rule_count: usize) -> Result<Due, AllocError> {
-        let mut is_due = Vec::with_capacity(alloc, rule_count)?;
-        for _ in 0..rule_count {
-            is_due.push(false)?;
-        }
         Ok(Due {
             indexes: Vec::new(alloc),
-            is_due,
+            is_due: vec![in alloc; false; rule_count]?,
         })
     }
 
@@ -29,16 +26,14 @@ impl Due {
     /// The readers of all numbers that have changed, in place of those before. No change is left then.
     pub(crate) fn gather(
         &mut self,
-        readers: &[Vec<usize>],
+        readers: &Readers,
         changed: &mut Vec<u32>,
     ) -> Result<(), AllocError>
         ensures { OnOk result (changed.new.items ≡ []) }
     {
         self.clear();
         for number in changed.as_slice() {
-            if let Some(indexes) = readers.get(*number as usize) {
-                self.add(indexes.as_slice())?;
-            }
+            self.add(readers.of_number(*number))?;
         }
         changed.clear();
         Ok(())

@@ -5,6 +5,7 @@ mod due;
 mod element;
 mod laws;
 mod printed;
+mod readers;
 mod record;
 mod rules;
 mod token;

@@ -7,6 +7,7 @@ ghost use Rattle.pt_datatypes.specs.Rules.{AllBelow, AreMet, IsReached, IsLeastS
 ghost use Rattle.pt_types.specs.Ty.{type_of, written};
 
 use crate::due::Due;
+use crate::readers::Readers;
 use crate::ty::{Ty, below, join};
 use std::alloc::{AllocError, Global};
 
@@ -40,29 +41,37 @@ pub fn least<R: Rule>(alloc: Global, n: u32, rules: &[R]) -> Result<Vec<Ty>, All
     requires { All (λ rule. R.target_of rule < n) rules.now }
     ensures { IfOk result (λ types. IsLeastSolution R.target_of R.value_of n rules.now (map type_of types.items)) }
 {
-    let readers = readers_of(alloc, n, rules)?;
-    let mut types = unknowns(alloc, n)?;
+    let mut types = first_round(alloc, n, rules)?;
     let mut changed = Vec::new(alloc);
     loop {
         if !raise_all(alloc, rules, &mut types, &mut changed)? {
             return Ok(types);
         }
-        spread(alloc, rules, &readers, &mut types, &mut changed)?;
+        spread(alloc, n, rules, &mut types, &mut changed)?;
     }
 }
 
-/// For each number the rules that read it. It says where to look next, and no proof rests on it.
-fn readers_of<R: Rule>(alloc: Global, n: u32, rules: &[R]) -> Result<Vec<Vec<usize>>, AllocError> {
-    let mut readers = Vec::new(alloc);
-    for _ in 0..n {
-        readers.push(Vec::new(alloc))?;
+/// The types behind one round over all rules. Most often the next round raises none, and who reads which number isn't asked.
+fn first_round<R: Rule>(alloc: Global, n: u32, rules: &[R]) -> Result<Vec<Ty>, AllocError>
+    requires { All (λ rule. R.target_of rule < n) rules.now }
+    ensures counted { IfOk result (λ types. length types.items ≡ n) }
+    ensures reached { IfOk result (λ types. IsReached R.target_of R.value_of rules.now (map type_of types.items)) }
+{
+    let mut types = unknowns(alloc, n)?;
+    let mut changed = Vec::new(alloc);
+    let _raised = raise_all(alloc, rules, &mut types, &mut changed)?;
+    Ok(types)
+}
+
+/// For each number the rules that read it.
+fn readers_of<R: Rule>(alloc: Global, n: u32, rules: &[R]) -> Result<Readers, AllocError> {
+    let mut readers = Readers::none(alloc, n as usize)?;
+    for rule in rules {
+        readers.count(rule.reads());
     }
+    readers.make_room(alloc)?;
     for (index, rule) in rules.iter().enumerate() {
-        for number in rule.reads() {
-            if let Some(row) = readers.get_mut(*number as usize) {
-                row.push(index)?;
-            }
-        }
+        readers.put(rule.reads(), index);
     }
     Ok(readers)
 }
@@ -143,8 +152,8 @@ fn raise_all<R: Rule>(
 /// It goes by waves, and a rule has its turn once in each, however many of the numbers that it reads have changed.
 fn spread<R: Rule>(
     alloc: Global,
+    n: u32,
     rules: &[R],
-    readers: &[Vec<usize>],
     types: &mut Vec<Ty>,
     changed: &mut Vec<u32>,
 ) -> Result<(), AllocError>
@@ -154,9 +163,10 @@ fn spread<R: Rule>(
     ensures reached { OnOk result (IsReached R.target_of R.value_of rules.now (map type_of types.new.items)) }
     ensures room { OnOk result (room (map type_of types.new.items) ≤ room (map type_of types.old.items)) }
 {
+    let readers = readers_of(alloc, n, rules)?;
     let mut due = Due::new(alloc, rules.len())?;
     while !changed.is_empty() {
-        due.gather(readers, changed)?;
+        due.gather(&readers, changed)?;
         raise_some(alloc, rules, due.indexes(), types, changed)?;
     }
     Ok(())

@@ -1,11 +1,11 @@
 use Rattle.std.proofs.Common.{map, ◌∙◌}
 use Rattle.std.proofs.lemmas.List.{length-map}
 use Rattle.pt_types.specs.Ty.{type_of}
-use Rattle.pt_types.proofs.Solutions.{reached-unknowns, least-end}
+use Rattle.pt_types.proofs.Solutions.{least-end}
 use Rattle.pt_types.proofs.rules.least.Goals as goal
 
 pub loop-changed-init : goal.loop-changed-init
-loop-changed-init g c = (c.in_ok-types.ensures.counted, reached-unknowns g.R.Rule.target_of g.R.Rule.value_of c.args.rules.now c.in_ok-types.types.items c.in_ok-types.ensures.unknown)
+loop-changed-init g c = (c.in_ok-types.ensures.counted, c.in_ok-types.ensures.reached)
 
 pub returns-then-not-branch : goal.returns-then-not-branch
 returns-then-not-branch g c =

@@ -5,7 +5,7 @@ use Rattle.pt_net.specs.declared.wire.Wire.{Wire}
 use Rattle.pt_survey.specs.declared.tables.PlacedPort.{PlacedPort}
 use Rattle.pt_survey.specs.Survey.{tables_view, ports_view, port_at}
 use Rattle.pt_net.specs.Wires.{wire_of}
-use Rattle.pt_links.specs.Ties.{IsPortWithin, AreTied, rows}
+use Rattle.pt_links.specs.Ties.{IsPortWithin, AreTied}
 use Rattle.pt_net.specs.Net.{wires}
 use Rattle.pt_links.proofs.WireFacts.{gives_some, wires_are, wires_within, ports_within}
 use Rattle.pt_links.proofs.wiring.Wiring.of.Goals as goal
@@ -29,8 +29,8 @@ returns-clause-wiring c =
       wires_are = held;
       within = wires_within t;
       tied =
-          subst (λ (n : ℕ). AreTied n (wires t) (rows c.in_ok-ties.ties.outside.items) (rows c.in_ok-ties.ties.inside.items)) (count c.args.tables.now.ports c.len.result c.len.ensures)
-          (subst (λ (ws : List Wire). AreTied c.len.result ws (rows c.in_ok-ties.ties.outside.items) (rows c.in_ok-ties.ties.inside.items)) (c.deref.ensures.value ∙ held) c.in_ok-ties.ensures);
+          subst (λ (n : ℕ). AreTied n (wires t) c.in_ok-ties.ties.outside.items c.in_ok-ties.ties.inside.items) (count c.args.tables.now.ports c.len.result c.len.ensures)
+          (subst (λ (ws : List Wire). AreTied c.len.result ws c.in_ok-ties.ties.outside.items c.in_ok-ties.ties.inside.items) (c.deref.ensures.value ∙ held) c.in_ok-ties.ensures);
     }
 
 pub returns-clause-named : goal.returns-clause-named
