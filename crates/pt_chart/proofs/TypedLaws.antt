@@ -6,7 +6,7 @@ use Rattle.pt_language.specs.Tree.{Tree}
 use Rattle.pt_language.specs.Typing.{Clash}
 use Rattle.pt_language.specs.Types.{Types}
 use Rattle.pt_language.specs.TreeType.{tree_type, are_bound, IsTyped}
-use Rattle.pt_lib_flow.specs.Formula.{parameter_types, with_types, has_type}
+use Rattle.pt_formula.specs.Formula.{parameter_types, with_types, has_type}
 use Rattle.pt_chart.specs.Machine.{NameTable}
 use Rattle.pt_chart.specs.Typed.{types_of, is_typed}
 

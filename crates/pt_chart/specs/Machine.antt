@@ -7,7 +7,7 @@ use Rattle.pt_value.specs.declared.token.Token.{Token}
 use Rattle.pt_datatypes.specs.Datatype.{Datatype}
 use Rattle.pt_datatypes.specs.DatatypeCode.{coded_type}
 use Rattle.pt_language.specs.Tree.{Tree}
-use Rattle.pt_lib_flow.specs.TreeCode.{coded_tree}
+use Rattle.pt_formula.specs.TreeCode.{coded_tree}
 
 -- an action: the number of an output or a Variable, and the expression whose value it gives that
 pub record ActionTree : Type 0 where

@@ -10,7 +10,7 @@ use Rattle.pt_datatypes.specs.Datatype.{Datatype}
 use Rattle.pt_datatypes.specs.Order.{is_below}
 use Rattle.pt_datatypes.specs.Token.{type_of_value}
 use Rattle.pt_language.specs.Scope.{Scope}
-use Rattle.pt_lib_flow.specs.Formula.{names, parameters, with_name, is_among}
+use Rattle.pt_formula.specs.Formula.{names, parameters, with_name, is_among}
 use Rattle.pt_chart.specs.Machine.{NameTable}
 
 -- A token where it is of a type. One that isn't counts as none, so that nothing is ever wrong; in a net whose types are right there is none such.

@@ -4,7 +4,7 @@ use Rattle.std.specs.List.{list_all}
 use Rattle.pt_language.specs.Tree.{Tree}
 use Rattle.pt_language.specs.Types.{Types}
 use Rattle.pt_language.specs.TreeType.{tree_type, are_bound}
-use Rattle.pt_lib_flow.specs.Formula.{parameter_types, with_types, has_type}
+use Rattle.pt_formula.specs.Formula.{parameter_types, with_types, has_type}
 use Rattle.pt_chart.specs.Machine.{ActionTree, TransitionTree, ModeTree, NameTable, Machine}
 
 -- the types of all names

@@ -2,7 +2,7 @@ ghost use Rattle.std.specs.Prelude.{◌≡◌, List, ℕ, IfOk, OnOk, map};
 ghost use Rattle.pt_language.specs.Expr.{tree_of};
 ghost use Rattle.pt_types.specs.Entry.{typed_entry};
 ghost use Rattle.pt_expr_type.specs.TypeEnv.{types_in};
-ghost use Rattle.pt_lib_flow.specs.Formula.{parameter_types, with_types};
+ghost use Rattle.pt_formula.specs.Formula.{parameter_types, with_types};
 ghost use Rattle.pt_chart.specs.Typed.{types_of, is_typed, are_typed_actions, is_typed_transition, are_typed_transitions, is_typed_mode, are_typed_modes, is_typed_machine};
 ghost use Rattle.pt_chart.specs.Views.{action_view, transition_view, mode_view, names_view, machine_of};
 

@@ -29,6 +29,15 @@ impl OneEach {
         })
     }
 
+    /// The counts of an actor without places. It takes no memory.
+    pub fn none(alloc: Global) -> OneEach
+        ensures { result ≡ 0 }
+    {
+        OneEach {
+            counts: Counts::of(Vec::new(alloc)),
+        }
+    }
+
     pub fn places(&self) -> usize
         ensures { result ≡ self.now }
     {

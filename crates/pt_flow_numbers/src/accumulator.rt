@@ -41,6 +41,15 @@ impl Accumulator {
         }
     }
 
+    /// An accumulator that stands for another while that one is taken out. It takes no memory.
+    pub fn idle(alloc: Global) -> Accumulator {
+        Accumulator {
+            init: 0,
+            sum: 0,
+            places: OneEach::none(alloc),
+        }
+    }
+
     /// The sum before the input is added, where there is such a reset.
     #[inline(always)]
     fn before(&self, reset: Option<bool>) -> i64

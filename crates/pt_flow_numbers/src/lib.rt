@@ -5,6 +5,7 @@ mod absolute_value;
 mod accumulator;
 mod add_subtract;
 mod counter;
+mod exact_sum;
 mod extreme;
 mod multiply_divide;
 mod ramp;

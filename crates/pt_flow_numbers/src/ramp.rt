@@ -3,6 +3,7 @@ ghost use Rattle.pt_flow_base.specs.Limit.{is_endless};
 ghost use Rattle.pt_flow_base.specs.Number.{GivesNumber};
 ghost use Rattle.pt_flow_numbers.specs.Ramp as ramp;
 
+use crate::exact_sum::ExactSum;
 use pt_firing::{
     Actor, Fires, Inputs, IntInputs, Need, OneEach, Outputs, Partial, RunFault, Step, strict_early,
 };
@@ -16,7 +17,7 @@ use std::alloc::{AllocError, Global};
 /// The number may pass the range of `i64` after the last firing that fits.
 #[derive(Debug, Drop)]
 pub struct Ramp {
-    next: i128,
+    next: ExactSum,
     step: i64,
     limit: Limit,
     places: OneEach,
@@ -34,7 +35,7 @@ impl Ramp {
         ensures { IfOk result (λ actor. actor ≡ record { next = init; step = step; limit = limit; places = triggers }) }
     {
         Ok(Ramp {
-            next: i128::from(init),
+            next: ExactSum::alone(init),
             step,
             limit,
             places: OneEach::of(alloc, triggers)?,
@@ -60,6 +61,16 @@ impl Ramp {
 }
 
 impl Ramp {
+    /// A ramp that stands for another while that one is taken out. It takes no memory.
+    pub fn idle(alloc: Global) -> Ramp {
+        Ramp {
+            next: ExactSum::alone(0),
+            step: 0,
+            limit: Limit::Endless,
+            places: OneEach::none(alloc),
+        }
+    }
+
     /// How many trigger places it has: none, or one.
     pub fn triggers(&self) -> usize
         ensures { result ≡ self.now.places }
@@ -82,10 +93,10 @@ impl Ramp {
         if self.limit.is_over() || !is_called(inputs) {
             return None;
         }
-        let Ok(given) = i64::try_from(self.next) else {
+        let Some(given) = self.next.number() else {
             return None;
         };
-        self.next = i128::from(given) + i128::from(self.step);
+        self.next = ExactSum::of(given, self.step);
         self.limit = self.limit.after_one();
         Some(given)
     }
@@ -104,17 +115,17 @@ impl Fires for Ramp {
         if self.limit.is_over() || !is_called(inputs) {
             return Step::Done(Outputs::none(1));
         }
-        let Ok(given) = i64::try_from(self.next) else {
+        let Some(given) = self.next.number() else {
             return Step::Fault(RunFault::Overflow);
         };
-        self.next = i128::from(given) + i128::from(self.step);
+        self.next = ExactSum::of(given, self.step);
         self.limit = self.limit.after_one();
         Step::Done(Outputs::one(Token::Int(given)))
     }
 
     fn copy(&self, alloc: Global) -> Result<Ramp, AllocError> {
         Ok(Ramp {
-            next: self.next,
+            next: self.next.copy(),
             step: self.step,
             limit: self.limit,
             places: self.places.copy(alloc)?,

@@ -12,8 +12,8 @@ use Rattle.pt_types.specs.Ty.{type_of}
 use Rattle.pt_types.specs.Entry.{typed_entry}
 use Rattle.pt_language.specs.Scope.{Scope}
 use Rattle.pt_flow_base.proofs.TypedPorts.{front}
-use Rattle.pt_lib_flow.specs.Formula.{names, parameters, with_name, is_among}
-use Rattle.pt_lib_flow.proofs.Formulas.{others-bound, name-at, length-names}
+use Rattle.pt_formula.specs.Formula.{names, parameters, with_name, is_among}
+use Rattle.pt_formula.proofs.Formulas.{others-bound, name-at, length-names}
 use Rattle.pt_chart.specs.Machine.{NameTable}
 use Rattle.pt_chart.specs.Names.{of_type, with_names, over, names_in, is_named, HasParameters}
 use Rattle.std.specs.List.{slice_get}

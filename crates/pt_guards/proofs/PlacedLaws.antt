@@ -13,7 +13,7 @@ use Rattle.pt_language.specs.Outcome.{Outcome, Gives}
 use Rattle.pt_language.specs.Tree.{Tree}
 use Rattle.pt_language.specs.Meaning as meaning
 use Rattle.pt_flow_base.proofs.TypedPorts.{front}
-use Rattle.pt_lib_flow.specs.Formula.{with_name}
+use Rattle.pt_formula.specs.Formula.{with_name}
 use Rattle.pt_guards.specs.declared.placed.Placed.{Placed}
 use Rattle.pt_guards.specs.declared.kept.PlacedTransition.{PlacedTransition}
 use Rattle.pt_guards.specs.declared.kept.PlacedMode.{PlacedMode}

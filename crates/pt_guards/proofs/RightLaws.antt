@@ -22,7 +22,7 @@ use Rattle.pt_language.specs.Meaning.{value}
 use Rattle.pt_language.specs.Laws.{IsHeld, Keeps, IsOfType}
 use Rattle.pt_language.proofs.TypeSound.{typed-sound}
 use Rattle.pt_firing.specs.Params.{value_under}
-use Rattle.pt_lib_flow.specs.Formula.{parameters, with_name, parameter_types, with_type, with_types, has_type}
+use Rattle.pt_formula.specs.Formula.{parameters, with_name, parameter_types, with_type, with_types, has_type}
 use Rattle.pt_chart.specs.Machine.{ActionTree, TransitionTree, ModeTree, NameTable}
 use Rattle.pt_chart.specs.Names.{of_type, with_names, names_in}
 use Rattle.pt_chart.specs.Typed.{types_of, is_typed, are_typed_actions, is_typed_transition, are_typed_transitions, is_typed_mode, are_typed_modes}

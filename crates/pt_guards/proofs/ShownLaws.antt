@@ -14,7 +14,7 @@ use Rattle.pt_types.specs.declared.ty.Ty.{Ty}
 use Rattle.pt_types.specs.Ty.{type_of}
 use Rattle.pt_types.specs.Entry.{typed_entry}
 use Rattle.pt_flow_base.proofs.TypedPorts.{front}
-use Rattle.pt_lib_flow.specs.Formula.{names, parameters, with_name, is_among}
+use Rattle.pt_formula.specs.Formula.{names, parameters, with_name, is_among}
 use Rattle.pt_chart.specs.Machine.{NameTable}
 use Rattle.pt_chart.specs.Names.{of_type, with_names, is_port, shown_among, are_shown, renamed, with_value}
 use Rattle.pt_guards.specs.Bindings.{scope_on}

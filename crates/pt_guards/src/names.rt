@@ -5,7 +5,7 @@ ghost use Rattle.pt_value.specs.Token.{value_of};
 ghost use Rattle.pt_types.specs.Ty.{type_of};
 ghost use Rattle.pt_types.specs.Entry.{typed_entry};
 ghost use Rattle.pt_expr.specs.Env.{scope_of};
-ghost use Rattle.pt_lib_flow.specs.Formula.{names, parameters, is_among};
+ghost use Rattle.pt_formula.specs.Formula.{names, parameters, is_among};
 ghost use Rattle.pt_chart.specs.Names.{of_type, with_names, over, is_named, renamed};
 ghost use Rattle.pt_chart.specs.Views.{names_view};
 ghost use Rattle.pt_guards.specs.Reads.{reads_view};

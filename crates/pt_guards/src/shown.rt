@@ -2,7 +2,7 @@ ghost use Rattle.std.specs.Prelude.{◌≡◌, ◌||◌, List, ℕ, IfOk, OnOk, 
 ghost use Rattle.std.specs.HashSet.{contains_text};
 ghost use Rattle.std.specs.Str.{bytes_eq};
 ghost use Rattle.pt_types.specs.Entry.{typed_entry};
-ghost use Rattle.pt_lib_flow.specs.Formula.{names, is_among};
+ghost use Rattle.pt_formula.specs.Formula.{names, is_among};
 ghost use Rattle.pt_chart.specs.Names.{shown_among, are_shown};
 ghost use Rattle.pt_chart.specs.Views.{names_view};
 

@@ -15,9 +15,9 @@ use Rattle.pt_firing.specs.Row.{rests}
 use Rattle.pt_firing.specs.Step.{Makes}
 use Rattle.pt_firing.specs.declared.step.Step.{Step}
 use Rattle.pt_firing.specs.declared.step.Step.TheVariants as made
-use Rattle.pt_lib_flow.specs.Formula.{Formula, names, are_of, parameters, with_inputs, HasParameters}
+use Rattle.pt_formula.specs.Formula.{Formula, names, are_of, parameters, with_inputs, HasParameters}
 use Rattle.pt_lib_flow.specs.Expression.{scope, outcome, answer, step, told}
-use Rattle.pt_lib_flow.proofs.Formulas.{inputs-over}
+use Rattle.pt_formula.proofs.Formulas.{inputs-over}
 
 -- an environment that has the parameters, after the inputs are bound
 outcome-is : (f : Formula) (X : Streams Token) (s s' : Scope) → HasParameters (names f.inputs) f.values s → ((name : List ℕ) → s' name ≡ with_inputs (names f.inputs) X s name) → value s' f.tree ≡ outcome f X

@@ -24,7 +24,7 @@ use Rattle.pt_flow_streams.specs.declared.sequence.Sequence as sequences
 use Rattle.pt_flow_streams.specs.declared.up_sample.UpSample as ups
 use Rattle.pt_flow_base.specs.Row.{gives, rests, exactly, fits_i64, on_present, token_at, number_at, sum_of}
 use Rattle.pt_flow_base.specs.Limit.{is_over, is_called, source, after_one}
-use Rattle.pt_lib_flow.specs.Formula.{Formula, are_of}
+use Rattle.pt_formula.specs.Formula.{Formula, are_of}
 use Rattle.pt_flow_base.specs.Rates.{repeated}
 use Rattle.pt_lib_flow.specs.FlowActor.{held_as, need, rate, step}
 use Rattle.pt_flow_numbers.specs.AbsoluteValue as absolute_value

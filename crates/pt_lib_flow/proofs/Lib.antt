@@ -1,5 +1,4 @@
 pub mod RowLaws
-pub mod Formulas
 pub mod Typings
 pub mod Evaluations
 pub mod Held

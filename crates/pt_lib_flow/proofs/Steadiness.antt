@@ -27,7 +27,7 @@ use Rattle.pt_flow_numbers.specs.declared.ramp.Ramp as ramps
 use Rattle.pt_flow_streams.specs.declared.sequence.Sequence as sequences
 use Rattle.pt_flow_base.specs.Row.{gives, rests, exactly, fits_i64, on_present, token_at, number_at, truth_at, sum_of}
 use Rattle.pt_flow_base.specs.Limit.{is_over, after_one, is_called, source, source_need, is_endless}
-use Rattle.pt_lib_flow.specs.Formula.{Formula, are_of}
+use Rattle.pt_formula.specs.Formula.{Formula, are_of}
 use Rattle.pt_lib_flow.specs.FlowActor.{held_as, need, step, is_steady}
 use Rattle.pt_flow_numbers.specs.AbsoluteValue as absolute_value
 use Rattle.pt_flow_numbers.specs.Accumulator as accumulator

@@ -24,7 +24,7 @@ use Rattle.pt_firing.specs.Params.{names_but}
 use Rattle.pt_firing.specs.Row.{one_each, gives, rests}
 use Rattle.pt_flow_base.specs.declared.params.Params.{Params}
 use Rattle.pt_flow_base.specs.PortTypes.{typed_names}
-use Rattle.pt_lib_flow.specs.Formula.{Formula, names, parameters, with_inputs, is_typed, are_of}
+use Rattle.pt_formula.specs.Formula.{Formula, names, parameters, with_inputs, is_typed, are_of}
 
 abbrev pub need : Formula → Need
 need actor = one_each (length actor.inputs)

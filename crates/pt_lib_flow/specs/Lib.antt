@@ -1,5 +1,3 @@
-pub mod TreeCode
-pub mod Formula
 pub mod Expression
 pub mod FlowActor
 pub mod Laws

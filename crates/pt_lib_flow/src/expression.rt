@@ -7,8 +7,9 @@ ghost use Rattle.pt_expr.specs.Env.{scope_of};
 ghost use Rattle.pt_language.specs.Expr.{tree_of};
 ghost use Rattle.pt_types.specs.Entry.{typed_entry};
 ghost use Rattle.pt_expr_type.specs.TypeEnv.{types_in};
+ghost use Rattle.pt_firing.specs.Need.{need_of};
 ghost use Rattle.pt_firing.specs.Row.{token_at};
-ghost use Rattle.pt_lib_flow.specs.Formula.{names, parameters, with_inputs, is_among, parameter_types, with_types, types_of, is_typed, is_of, are_of};
+ghost use Rattle.pt_formula.specs.Formula.{names, HasParameters, parameters, with_inputs, is_among, parameter_types, with_types, types_of, is_typed, is_of, are_of};
 ghost use Rattle.pt_lib_flow.specs.Expression as expression;
 
 use pt_expr::{Env, eval};
@@ -24,32 +25,116 @@ use pt_value::{Text, Token};
 use std::alloc::{AllocError, Global};
 use std::marker::Model;
 
-/// `Expression`: gives what its tree comes to.
-///
-/// The parameters are bound once. At a firing only the inputs are bound anew, and what they were bound to before doesn't count.
+/// What an `Expression` keeps from firing to firing: its inputs, its parameters, and a tree that has a type.
 #[derive(Drop)]
-pub struct Expression {
+struct Fixed {
     inputs: PortTypes,
     values: Values,
     tree: Expr,
-    env: Env,
     places: OneEach,
 }
 
-impl Model for Expression {
+impl Model for Fixed {
     ghost use Rattle.std.specs.Prelude.{◌≡◌, length, true};
-    ghost use Rattle.pt_expr.specs.Env.{scope_of};
     ghost use Rattle.pt_language.specs.Expr.{tree_of};
-    ghost use Rattle.pt_lib_flow.specs.Formula.{Formula, coded_formula, names, HasParameters, is_typed};
+    ghost use Rattle.pt_formula.specs.Formula.{Formula, coded_formula, is_typed};
 
     ghost Value = { Formula };
 
     ghost coded = { coded_formula };
 
-    ghost view = { λ e. record { inputs = e.inputs; values = e.values; tree = tree_of e.tree } };
+    ghost view = { λ f. record { inputs = f.inputs; values = f.values; tree = tree_of f.tree } };
 
     // Its tree has a type.
-    ghost invariant = { λ e. (e.places ≡ length e.inputs) × HasParameters (names e.inputs) e.values (scope_of e.env) × (is_typed (record { inputs = e.inputs; values = e.values; tree = tree_of e.tree }) ≡ true) };
+    ghost invariant = { λ f. (f.places ≡ length f.inputs) × (is_typed (record { inputs = f.inputs; values = f.values; tree = tree_of f.tree }) ≡ true) };
+}
+
+impl Fixed {
+    /// These in memory of their own, where the tree has a type.
+    fn boxed(
+        alloc: Global,
+        inputs: PortTypes,
+        values: Values,
+        tree: Expr,
+    ) -> Result<Box<Fixed>, AllocError>
+        requires { is_typed (record { inputs = inputs; values = values; tree = tree_of tree }) ≡ true }
+        ensures { IfOk result (λ fixed. fixed.value ≡ record { inputs = inputs; values = values; tree = tree_of tree }) }
+    {
+        let places = OneEach::of(alloc, inputs.as_slice().len())?;
+        let fixed = Fixed {
+            inputs,
+            values,
+            tree,
+            places,
+        };
+        Ok(Box::new(alloc, fixed)?)
+    }
+
+    /// Another actor that keeps the same.
+    fn started(&self, alloc: Global) -> Result<Expression, AllocError>
+        ensures { IfOk result (λ actor. actor ≡ self.now) }
+    {
+        Expression::of(
+            alloc,
+            self.inputs.copy(alloc)?,
+            self.values.copy(alloc)?,
+            self.tree.copy(alloc)?,
+        )
+    }
+
+    /// One token of each input.
+    fn need(&self) -> Need<'_>
+        ensures { need_of result ≡ expression.need self.now }
+    {
+        Need::All(self.places.counts())
+    }
+
+    /// Whether each input has a token of its type.
+    fn takes(&self, inputs: &Inputs<'_>) -> bool
+        ensures { result ≡ are_of self.now.inputs inputs.now }
+    {
+        are_of(self.inputs.as_slice(), inputs)
+    }
+
+    /// What the tree comes to on tokens of the inputs' types, in an environment that has the parameters.
+    fn evaluate(
+        &self,
+        env: &mut Env,
+        alloc: Global,
+        inputs: &Inputs<'_>,
+    ) -> Result<Token, EvalFault>
+        requires right { are_of self.now.inputs inputs.now ≡ true }
+        requires bound { HasParameters (names self.now.inputs) self.now.values (scope_of env.old) }
+        ensures ok { IfOk result (λ token. expression.outcome self.now inputs.now ≡ Gives (value_of token)) }
+        ensures err { IfErr result (λ fault. (fault ≡ Memory) ⊎ (expression.outcome self.now inputs.now ≡ Stops fault)) }
+        ensures others { (name : List ℕ) → is_among name (names self.now.inputs) ≡ false → scope_of env.new name ≡ scope_of env.old name }
+    {
+        bind_inputs(env, alloc, self.inputs.as_slice(), inputs)?;
+        eval(alloc, &self.tree, env)
+    }
+}
+
+/// `Expression`: gives what its tree comes to.
+///
+/// The parameters are bound once. At a firing only the inputs are bound anew, and what they were bound to before doesn't count.
+#[derive(Drop)]
+pub struct Expression {
+    // In a box, so that actors of other classes take less room.
+    fixed: Box<Fixed>,
+    env: Env,
+}
+
+impl Model for Expression {
+    ghost use Rattle.pt_expr.specs.Env.{scope_of};
+    ghost use Rattle.pt_formula.specs.Formula.{Formula, coded_formula, names, HasParameters};
+
+    ghost Value = { Formula };
+
+    ghost coded = { coded_formula };
+
+    ghost view = { λ e. e.fixed.value };
+
+    ghost invariant = { λ e. HasParameters (names e.fixed.value.inputs) e.fixed.value.values (scope_of e.env) };
 }
 
 impl Expression {
@@ -79,14 +164,8 @@ impl Expression {
         ensures { IfOk result (λ actor. actor ≡ record { inputs = inputs; values = values; tree = tree_of tree }) }
     {
         let env = bound(alloc, &values)?;
-        let places = OneEach::of(alloc, inputs.as_slice().len())?;
-        Ok(Expression {
-            inputs,
-            values,
-            tree,
-            env,
-            places,
-        })
+        let fixed = Fixed::boxed(alloc, inputs, values, tree)?;
+        Ok(Expression { fixed, env })
     }
 
     /// The actor that the parameters start, if there is a tree, each input has a type, and the tree has one then.
@@ -111,8 +190,7 @@ impl Expression {
         ensures err { IfErr result (λ fault. (fault ≡ Memory) ⊎ (expression.outcome self.old inputs.now ≡ Stops fault)) }
         ensures kept { self.new ≡ self.old }
     {
-        bind_inputs(&mut self.env, alloc, self.inputs.as_slice(), inputs)?;
-        eval(alloc, &self.tree, &self.env)
+        self.fixed.evaluate(&mut self.env, alloc, inputs)
     }
 }
 
@@ -250,19 +328,14 @@ impl Fires for Expression {
     ghost IsSpare = { λ actor. ⊥ };
 
     fn step(&mut self, alloc: Global, _tag: Tag, inputs: &Inputs<'_>) -> Step {
-        if !are_of(self.inputs.as_slice(), inputs) {
+        if !self.fixed.takes(inputs) {
             return Step::Done(Outputs::none(1));
         }
         told(self.evaluate(alloc, inputs))
     }
 
     fn copy(&self, alloc: Global) -> Result<Expression, AllocError> {
-        Expression::of(
-            alloc,
-            self.inputs.copy(alloc)?,
-            self.values.copy(alloc)?,
-            self.tree.copy(alloc)?,
-        )
+        self.fixed.started(alloc)
     }
 }
 
@@ -284,7 +357,7 @@ impl Actor for Expression {
     }
 
     fn need(&self) -> Need<'_> {
-        Need::All(self.places.counts())
+        self.fixed.need()
     }
 
     fn early(&self, alloc: Global, tag: Tag, partial: &Partial) -> Result<Partial, AllocError> {

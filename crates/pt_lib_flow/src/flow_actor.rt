@@ -5,7 +5,7 @@ ghost use Rattle.pt_lib_flow.specs.FlowActor as flow_actor;
 ghost use Rattle.pt_lib_flow.specs.FlowActor.{class_of, start_as, start, outputs, rate, is_steady};
 
 use crate::expression::Expression;
-use crate::ones::stretch_of_ones;
+use crate::ones::{stretch_of_ones, stretch_taken_out};
 use pt_firing::{Actor, Fires, Inputs, IntInputs, IntRows, Need, Partial, Step, strict_early};
 use pt_flow_base::{Params, has_no_places};
 use pt_flow_numbers::{
@@ -344,14 +344,14 @@ impl FlowActor {
     {
         match self {
             FlowActor::AbsoluteValue(actor) => stretch_of_ones(actor, inputs, rate, given),
-            FlowActor::Accumulator(actor) => stretch_of_ones(actor, inputs, rate, given),
+            FlowActor::Accumulator(actor) => stretch_taken_out(actor, inputs, rate, given),
             FlowActor::AddSubtract(actor) => stretch_of_ones(actor, inputs, rate, given),
             FlowActor::Const(actor) => stretch_of_ones(actor, inputs, rate, given),
             FlowActor::Counter(actor) => stretch_of_ones(actor, inputs, rate, given),
             FlowActor::DownSample(actor) => stretch_of_ones(actor, inputs, rate, given),
             FlowActor::Extreme(actor) => stretch_of_ones(actor, inputs, rate, given),
             FlowActor::MultiplyDivide(actor) => stretch_of_ones(actor, inputs, rate, given),
-            FlowActor::Ramp(actor) => stretch_of_ones(actor, inputs, rate, given),
+            FlowActor::Ramp(actor) => stretch_taken_out(actor, inputs, rate, given),
             FlowActor::SampleDelay(actor) => stretch_of_ones(actor, inputs, rate, given),
             FlowActor::Scale(actor) => stretch_of_ones(actor, inputs, rate, given),
             FlowActor::Sequence(actor) => stretch_of_ones(actor, inputs, rate, given),

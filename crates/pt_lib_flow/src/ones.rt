@@ -6,6 +6,7 @@ use pt_flow_numbers::{
     AbsoluteValue, Accumulator, AddSubtract, Counter, Extreme, MultiplyDivide, Ramp, Scale,
 };
 use pt_flow_streams::{Const, DownSample, SampleDelay, Sequence};
+use std::alloc::Global;
 use std::mem;
 
 /// A class whose firings may give one integer each.
@@ -15,7 +16,30 @@ pub(crate) trait GivesOne: Fires {
         ensures { GivesNumber Self.step self.old inputs.now result self.new };
 }
 
+/// A class whose state changes at each firing, and that another can stand for while it is taken out.
+pub(crate) trait Idles: GivesOne {
+    /// Any actor of the class. It takes no memory.
+    fn idle(alloc: Global) -> Self;
+}
+
+/// The same as `stretch_of_ones`. The actor is taken out, so that its state isn't read and stored at each firing.
+pub(crate) fn stretch_taken_out<A: Idles + Drop>(
+    actor: &mut A,
+    inputs: &IntRows<'_>,
+    rate: usize,
+    given: &mut Vec<i64>,
+) -> usize
+    ensures { GivesStretch A.step actor.old inputs.now rate result given.new.items actor.new }
+{
+    let alloc = *given.allocator();
+    let mut own = mem::replace(actor, A::idle(alloc));
+    let made = stretch_of_ones(&mut own, inputs, rate, given);
+    *actor = own;
+    made
+}
+
 /// Makes the first firings of a stretch, one after another, where each gives one integer, and tells how many. `given` has the integers then, in order.
+#[inline(always)]
 pub(crate) fn stretch_of_ones<A: GivesOne>(
     actor: &mut A,
     inputs: &IntRows<'_>,
@@ -71,6 +95,12 @@ impl GivesOne for Accumulator {
     }
 }
 
+impl Idles for Accumulator {
+    fn idle(alloc: Global) -> Accumulator {
+        Accumulator::idle(alloc)
+    }
+}
+
 impl GivesOne for AddSubtract {
     #[inline(always)]
     fn one(&mut self, inputs: &IntInputs<'_>) -> Option<i64> {
@@ -117,6 +147,12 @@ impl GivesOne for Ramp {
     #[inline(always)]
     fn one(&mut self, inputs: &IntInputs<'_>) -> Option<i64> {
         self.number(inputs)
+    }
+}
+
+impl Idles for Ramp {
+    fn idle(alloc: Global) -> Ramp {
+        Ramp::idle(alloc)
     }
 }
 

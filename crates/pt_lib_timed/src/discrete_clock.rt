@@ -7,6 +7,7 @@ ghost use Rattle.pt_lib_timed.specs.DiscreteClock.{array_of, offset_of, moved, n
 ghost use Rattle.pt_lib_timed.specs.DiscreteClock as discrete_clock;
 ghost use Rattle.pt_lib_timed.specs.Signal.{GivesSignal};
 
+use crate::boxed_items::BoxedItems;
 use crate::period::Period;
 use crate::signal::{LAST_TIME, copy_of, is_due, outputs_of};
 use pt_firing::{Actor, Fires, Inputs, Need, OneEach, Outputs, Partial, Step, strict_early};
@@ -19,8 +20,8 @@ use std::alloc::{AllocError, Global};
 #[derive(Drop)]
 pub struct DiscreteClock {
     period: Period,
-    offsets: Items,
-    values: Items,
+    offsets: BoxedItems,
+    values: BoxedItems,
     // The event that is next: its round, of which the first is 0, and its index in the round.
     round: u64,
     index: usize,
@@ -47,8 +48,8 @@ impl DiscreteClock {
         let places = OneEach::of(alloc, 0)?;
         Ok(Some(DiscreteClock {
             period: Period::of(period.unsigned_abs()),
-            offsets,
-            values,
+            offsets: BoxedItems::of(alloc, offsets)?,
+            values: BoxedItems::of(alloc, values)?,
             round: 0,
             index: 0,
             places,

@@ -2,9 +2,11 @@
 #![tactic(auto)]
 
 mod arrivals;
+mod boxed_items;
 mod current_time;
 mod discrete_clock;
 mod examples;
+mod latest;
 mod laws;
 mod pending;
 mod period;

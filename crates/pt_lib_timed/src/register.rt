@@ -5,6 +5,7 @@ ghost use Rattle.pt_firing.specs.TriState.{partial_of};
 ghost use Rattle.pt_lib_timed.specs.Register as register;
 
 use crate::arrivals::list_at;
+use crate::latest::Latest;
 use crate::signal::{copy_of, told};
 use pt_firing::{Actor, Fires, Inputs, Need, OneEach, Outputs, Partial, Step, Tokens, TriState};
 use pt_flow_base::Params;
@@ -19,7 +20,7 @@ pub struct Register {
     // What was kept before the tag of the latest one.
     before: Option<Token>,
     // The latest one, with the tag at which it was kept.
-    latest: Option<(Tag, Token)>,
+    latest: Latest,
     places: OneEach,
 }
 
@@ -29,10 +30,11 @@ impl Register {
         ensures { IfOk result (λ actor. actor ≡ register.start params.now) }
     {
         let before = copy_of(alloc, params.values.get("initialValue"))?;
+        let latest = Latest::of(alloc, None)?;
         let places = OneEach::of(alloc, 2)?;
         Ok(Some(Register {
             before,
-            latest: None,
+            latest,
             places,
         }))
     }
@@ -41,7 +43,7 @@ impl Register {
     fn given(&self, tag: Tag) -> Option<&Token>
         ensures { option_map (λ token. token.now) result ≡ given tag self.now }
     {
-        match &self.latest {
+        match self.latest.get() {
             Some(latest) if latest.0 < tag => Some(&latest.1),
             _ => self.before.as_ref(),
         }
@@ -54,11 +56,10 @@ impl Register {
         let Some(token) = input else {
             return;
         };
-        match self.latest.take() {
+        match self.latest.replace(Some((tag, token))) {
             Some(latest) if latest.0 < tag => self.before = Some(latest.1),
             _ => {}
         }
-        self.latest = Some((tag, token));
     }
 }
 
@@ -142,10 +143,10 @@ impl Fires for Register {
 
     fn copy(&self, alloc: Global) -> Result<Register, AllocError> {
         let before = copy_of(alloc, self.before.as_ref())?;
-        let latest = copy_of_kept(alloc, self.latest.as_ref())?;
+        let latest = copy_of_kept(alloc, self.latest.get().as_ref())?;
         Ok(Register {
             before,
-            latest,
+            latest: Latest::of(alloc, latest)?,
             places: self.places.copy(alloc)?,
         })
     }

@@ -24,7 +24,7 @@ use Rattle.pt_language.specs.Laws.{IsOfType}
 use Rattle.pt_language.specs.Meaning.{value}
 use Rattle.pt_language.proofs.TypeSound.{typed-sound}
 use Rattle.pt_kinds.specs.Signature.{AreEach, AreOf}
-use Rattle.pt_lib_flow.specs.Formula.{has_type}
+use Rattle.pt_formula.specs.Formula.{has_type}
 use Rattle.pt_chart.specs.Machine.{ActionTree, TransitionTree, ModeTree, NameTable}
 use Rattle.pt_chart.specs.Names.{names_in}
 use Rattle.pt_chart.specs.Chart.{reading_of, action_of, transition_of, mode_of}

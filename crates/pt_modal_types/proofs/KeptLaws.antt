@@ -13,7 +13,7 @@ use Rattle.pt_language.specs.Scope.{Scope}
 use Rattle.pt_language.specs.Types.{Types}
 use Rattle.pt_language.specs.Laws.{IsHeld, Keeps}
 use Rattle.pt_firing.specs.Params.{value_under}
-use Rattle.pt_lib_flow.specs.Formula.{parameters, with_name, parameter_types, with_type, with_types}
+use Rattle.pt_formula.specs.Formula.{parameters, with_name, parameter_types, with_type, with_types}
 use Rattle.pt_chart.specs.Machine.{NameTable}
 use Rattle.pt_chart.specs.Names.{of_type, with_names, names_in}
 use Rattle.pt_chart.specs.Typed.{types_of}

@@ -16,7 +16,7 @@ use Rattle.pt_firing.specs.Params.{value_under}
 use Rattle.pt_typing.specs.Terms.{named, itself}
 use Rattle.pt_inequalities.specs.Frames.{Names, put, with_given}
 use Rattle.pt_inequalities.specs.Inequalities.{with_type as known_type, known}
-use Rattle.pt_lib_flow.specs.Formula.{with_type, with_types}
+use Rattle.pt_formula.specs.Formula.{with_type, with_types}
 use Rattle.pt_machine.specs.Machines.{token_under, seen_token}
 use Rattle.pt_machine.specs.Numbers.{Numbers, with_number, with_numbers}
 use Rattle.pt_machine.specs.Typed.{variable_if}

@@ -24,7 +24,7 @@ use Rattle.pt_typing.specs.Terms.{named, itself, names_types}
 use Rattle.pt_inequalities.specs.Frames.{Frames, no_names}
 use Rattle.pt_inequalities.specs.Inequalities.{known}
 use Rattle.pt_inequalities.specs.ModalScopes.{ModalScope, modal_scope, own_ports, variable_values, value_types, port_at, port_named, port_asked, ports_named, modal_types}
-use Rattle.pt_lib_flow.specs.Formula.{parameter_types, with_types}
+use Rattle.pt_formula.specs.Formula.{parameter_types, with_types}
 use Rattle.pt_chart.specs.Machine.{NameTable}
 use Rattle.pt_chart.specs.Typed.{types_of}
 use Rattle.pt_machine.specs.Machines.{seen_token}

@@ -50,7 +50,7 @@ use Rattle.pt_flow_streams.specs.Sequence as sequence
 use Rattle.pt_flow_streams.specs.UpSample as up_sample
 use Rattle.pt_flow_streams.specs.declared.boolean_select.Turn.TheVariants.{Control}
 use Rattle.pt_lib_flow.specs.Expression as expression
-use Rattle.pt_lib_flow.specs.Formula.{Formula, is_typed}
+use Rattle.pt_formula.specs.Formula.{Formula, is_typed}
 use Rattle.pt_lib_flow.specs.declared.flow_actor.Class.{Class}
 use Rattle.pt_lib_flow.specs.declared.flow_actor.Class.TheVariants as class
 use Rattle.pt_lib_flow.specs.declared.flow_actor.FlowActor.{FlowActor}

@@ -52,8 +52,8 @@ use Rattle.pt_start.specs.Nested.{IsNested}
 use Rattle.pt_start.specs.Started.{given_tree, seen_token, seen_tokens, ports_of, types_of, IsFrom, IsStartedFrom}
 use Rattle.pt_flow_base.specs.declared.params.Params.{Params}
 use Rattle.pt_flow_base.specs.PortTypes.{typed_names}
-use Rattle.pt_lib_flow.specs.Formula.{Formula, parameter_types, with_types, has_type, is_typed}
-use Rattle.pt_lib_flow.specs.Formula as formula
+use Rattle.pt_formula.specs.Formula.{Formula, parameter_types, with_types, has_type, is_typed}
+use Rattle.pt_formula.specs.Formula as formula
 use Rattle.pt_lib_flow.specs.Expression as expression
 use Rattle.pt_cover.proofs.Reading.{documents-leaves}
 use Rattle.pt_cover.proofs.Nesting.{net-nested}

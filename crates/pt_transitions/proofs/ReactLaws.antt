@@ -6,7 +6,7 @@ use Rattle.pt_meaning.specs.Transitions.{Transition, Mode, tests, mode_in, of_ki
 use Rattle.pt_meaning.specs.Transitions.{Scope as Scoped}
 use Rattle.pt_value.specs.declared.token.Token.{Token}
 use Rattle.pt_language.specs.Scope.{Scope}
-use Rattle.pt_lib_flow.specs.Formula.{parameters}
+use Rattle.pt_formula.specs.Formula.{parameters}
 use Rattle.pt_chart.specs.declared.written.Transition.{Transition as Given}
 use Rattle.pt_chart.specs.Machine.{TransitionTree, ModeTree, NameTable, Machine}
 use Rattle.pt_chart.specs.Names.{with_names, names_in}

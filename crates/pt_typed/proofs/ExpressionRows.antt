@@ -50,8 +50,8 @@ use Rattle.pt_lib_flow.specs.declared.flow_actor.FlowActor.TheVariants as flow
 use Rattle.pt_lib_flow.specs.declared.flow_actor.Class.{Class as FlowClass}
 use Rattle.pt_lib_flow.specs.declared.flow_actor.Class.TheVariants as class
 use Rattle.pt_lib_flow.specs.FlowActor as flow_actor
-use Rattle.pt_lib_flow.specs.Formula.{Formula, parameter_types, with_types, is_typed}
-use Rattle.pt_lib_flow.specs.Formula as formula
+use Rattle.pt_formula.specs.Formula.{Formula, parameter_types, with_types, is_typed}
+use Rattle.pt_formula.specs.Formula as formula
 use Rattle.pt_flow_base.specs.PortTypes.{typed_names}
 use Rattle.pt_flow_numbers.specs.AbsoluteValue as absolute_value
 use Rattle.pt_flow_numbers.specs.Accumulator as accumulator

@@ -39,7 +39,7 @@ use Rattle.pt_flow_streams.specs.declared.sequence.Sequence as sequences
 use Rattle.pt_flow_base.specs.Row.{gives, rests, exactly, fits_i64, on_present, token_at, number_at, truth_at, sum_of}
 use Rattle.pt_flow_base.specs.Limit.{is_over, after_one, is_called, source}
 use Rattle.pt_flow_base.specs.Rates.{repeated}
-use Rattle.pt_lib_flow.specs.Formula.{Formula, names, parameters, with_name, with_inputs, parameter_types, with_type, with_types, types_of, is_of, are_of}
+use Rattle.pt_formula.specs.Formula.{Formula, names, parameters, with_name, with_inputs, parameter_types, with_type, with_types, types_of, is_of, are_of}
 use Rattle.pt_lib_flow.specs.FlowActor.{held_as, step, first}
 use Rattle.pt_flow_numbers.specs.AbsoluteValue as absolute_value
 use Rattle.pt_flow_numbers.specs.Accumulator as accumulator

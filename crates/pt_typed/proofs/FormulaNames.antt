@@ -19,7 +19,7 @@ use Rattle.pt_typing.specs.Terms.{named, itself, entry_in, names_types}
 use Rattle.pt_scopes.specs.Scopes.{Bindings, bound}
 use Rattle.pt_inequalities.specs.Inequalities.{with_type as known_type, known}
 use Rattle.pt_start.specs.Started.{token_under, seen_token}
-use Rattle.pt_lib_flow.specs.Formula.{parameter_types, with_type, with_types}
+use Rattle.pt_formula.specs.Formula.{parameter_types, with_type, with_types}
 use Rattle.pt_typed.proofs.FormulaTypes.{HasAtLeast}
 use Rattle.pt_typed.proofs.SeenFrames.{AreFree}
 

@@ -10,7 +10,7 @@ use Rattle.pt_typing.specs.Least.{Assignment}
 use Rattle.pt_inequalities.specs.Typing.{IsTyping}
 use Rattle.pt_start.specs.Nested.{IsNested}
 use Rattle.pt_start.specs.Started.{IsStart}
-use Rattle.pt_lib_flow.specs.Formula.{Formula}
+use Rattle.pt_formula.specs.Formula.{Formula}
 use Rattle.pt_lib_flow.specs.declared.flow_actor.FlowActor.{FlowActor}
 use Rattle.pt_lib_flow.specs.declared.flow_actor.FlowActor.TheVariants as flow
 use Rattle.pt_lib_data.specs.declared.function.Function.{Function}

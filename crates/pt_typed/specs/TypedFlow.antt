@@ -9,7 +9,7 @@ use Rattle.pt_datatypes.specs.Token.{type_of_value}
 use Rattle.pt_language.specs.Rule.{type_or_general}
 use Rattle.pt_lib_flow.specs.declared.flow_actor.FlowActor.{FlowActor}
 use Rattle.pt_lib_flow.specs.declared.flow_actor.FlowActor.TheVariants.{AbsoluteValue, Accumulator, AddSubtract, BooleanSelect, BooleanSwitch, Const, Counter, DownSample, Expression, Extreme, MultiplyDivide, Ramp, Repeat, SampleDelay, Scale, Sequence, UpSample}
-use Rattle.pt_lib_flow.specs.Formula.{types_of}
+use Rattle.pt_formula.specs.Formula.{types_of}
 use Rattle.pt_typed.specs.TokenTypes.{IsTokenOf, IsUnder, ToFirst}
 
 -- there are two outputs, and the types of both are such

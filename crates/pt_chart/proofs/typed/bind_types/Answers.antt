@@ -2,7 +2,7 @@ use Rattle.std.proofs.Common.{ap, ◌∙◌}
 use Rattle.pt_datatypes.specs.Normal.{normal}
 use Rattle.pt_types.specs.Ty.{type_of}
 use Rattle.pt_expr_type.specs.TypeEnv.{types_in}
-use Rattle.pt_lib_flow.proofs.Typings.{types-bound}
+use Rattle.pt_formula.proofs.TypesBound.{types-bound}
 use Rattle.pt_chart.proofs.typed.bind_types.Goals as goal
 
 pub loop-name-preserved : goal.loop-name-preserved

@@ -1,6 +1,6 @@
 use Rattle.std.proofs.Common.{◌≡◌, ◌≤◌, List, ℕ, drop, length}
 use Rattle.pt_expr_type.specs.TypeEnv.{types_in}
-use Rattle.pt_lib_flow.specs.Formula.{parameter_types}
+use Rattle.pt_formula.specs.Formula.{parameter_types}
 use Rattle.pt_chart.proofs.typed.bound_types.Given as goal
 
 abbrev pub invariant-loop-left : goal.invariant-loop-left

@@ -1,7 +1,7 @@
 use Rattle.std.proofs.Common.{ℕ, List, ap, ◌∙◌}
 use Rattle.pt_datatypes.specs.Datatype.{Datatype}
 use Rattle.pt_expr_type.specs.TypeEnv.{types_in}
-use Rattle.pt_lib_flow.specs.Formula.{with_types}
+use Rattle.pt_formula.specs.Formula.{with_types}
 use Rattle.pt_chart.specs.Views.{names_view}
 use Rattle.pt_chart.proofs.TypedLaws.{all-types}
 use Rattle.pt_chart.proofs.typed.types_of.Goals as goal

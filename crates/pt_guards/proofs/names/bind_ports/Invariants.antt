@@ -3,7 +3,7 @@ use Rattle.pt_meaning.specs.Streams.{at}
 use Rattle.pt_meaning.specs.Transitions.{last_of}
 use Rattle.pt_types.specs.Entry.{typed_entry}
 use Rattle.pt_expr.specs.Env.{scope_of}
-use Rattle.pt_lib_flow.specs.Formula.{names, is_among}
+use Rattle.pt_formula.specs.Formula.{names, is_among}
 use Rattle.pt_chart.specs.Names.{with_names}
 use Rattle.pt_guards.proofs.names.bind_ports.Given as goal
 

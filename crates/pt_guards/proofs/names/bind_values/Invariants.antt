@@ -2,7 +2,7 @@ use Rattle.std.proofs.Common.{◌≡◌, List, ℕ, false, drop, map}
 use Rattle.pt_meaning.specs.Streams.{get}
 use Rattle.pt_types.specs.Entry.{typed_entry}
 use Rattle.pt_expr.specs.Env.{scope_of}
-use Rattle.pt_lib_flow.specs.Formula.{names, is_among}
+use Rattle.pt_formula.specs.Formula.{names, is_among}
 use Rattle.pt_chart.specs.Names.{with_names}
 use Rattle.pt_guards.proofs.names.bind_values.Given as goal
 

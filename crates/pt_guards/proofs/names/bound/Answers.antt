@@ -3,8 +3,8 @@ use Rattle.std.specs.Prelude.{option_map}
 use Rattle.pt_value.specs.Token.{value_of}
 use Rattle.pt_expr.specs.Env.{scope_of}
 use Rattle.pt_firing.proofs.Named.{nothing-under}
-use Rattle.pt_lib_flow.specs.Formula.{parameters}
-use Rattle.pt_lib_flow.proofs.Formulas.{parameters-bound}
+use Rattle.pt_formula.specs.Formula.{parameters}
+use Rattle.pt_formula.proofs.Formulas.{parameters-bound}
 use Rattle.pt_guards.proofs.names.bound.Goals as goal
 
 pub loop-left-init : goal.loop-left-init

@@ -1,6 +1,6 @@
 use Rattle.std.proofs.Common.{◌≡◌, ◌≤◌, List, ℕ, drop, length}
 use Rattle.pt_expr.specs.Env.{scope_of}
-use Rattle.pt_lib_flow.specs.Formula.{parameters}
+use Rattle.pt_formula.specs.Formula.{parameters}
 use Rattle.pt_guards.proofs.names.bound.Given as goal
 
 abbrev pub invariant-loop-left : goal.invariant-loop-left

@@ -2,7 +2,7 @@ use Rattle.std.proofs.Common.{◌||◌, map, sym, ap, ◌∙◌}
 use Rattle.std.specs.HashSet.{contains_text}
 use Rattle.pt_types.specs.Entry.{typed_entry}
 use Rattle.pt_flow_base.proofs.TypedPorts.{nothing-left}
-use Rattle.pt_lib_flow.specs.Formula.{names, is_among}
+use Rattle.pt_formula.specs.Formula.{names, is_among}
 use Rattle.pt_guards.proofs.ShownLaws.{put-next}
 use Rattle.pt_guards.proofs.shown.put_names.Goals as goal
 

@@ -3,7 +3,7 @@ use Rattle.std.proofs.lemmas.List.{length-set}
 use Rattle.std.specs.HashSet.{contains_text}
 use Rattle.pt_types.specs.Entry.{typed_entry}
 use Rattle.pt_flow_base.proofs.TypedPorts.{nothing-left}
-use Rattle.pt_lib_flow.specs.Formula.{names, is_among}
+use Rattle.pt_formula.specs.Formula.{names, is_among}
 use Rattle.pt_chart.specs.Names.{shown_among}
 use Rattle.pt_guards.proofs.ShownLaws.{taken-before, shown-before}
 use Rattle.pt_guards.proofs.shown.shown_among.Goals as goal

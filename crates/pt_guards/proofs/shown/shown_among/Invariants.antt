@@ -1,7 +1,7 @@
 use Rattle.std.proofs.Common.{◌≡◌, ◌≤◌, ◌||◌, List, ℕ, drop, length, map}
 use Rattle.std.specs.HashSet.{contains_text}
 use Rattle.pt_types.specs.Entry.{typed_entry}
-use Rattle.pt_lib_flow.specs.Formula.{names, is_among}
+use Rattle.pt_formula.specs.Formula.{names, is_among}
 use Rattle.pt_chart.specs.Names.{shown_among}
 use Rattle.pt_guards.proofs.shown.shown_among.Given as goal
 

@@ -2,8 +2,8 @@ use Rattle.std.proofs.Common.{◌≡◌, ◌+◌, ◌&&◌, true, false, drop, m
 use Rattle.pt_types.specs.Ty.{type_of}
 use Rattle.pt_types.specs.Entry.{typed_entry}
 use Rattle.pt_firing.specs.Row.{token_at}
-use Rattle.pt_lib_flow.specs.Formula.{is_of, are_of}
-use Rattle.pt_lib_flow.proofs.Typings.{are_of-next}
+use Rattle.pt_formula.specs.Formula.{is_of, are_of}
+use Rattle.pt_formula.proofs.TypesBound.{are_of-next}
 use Rattle.pt_lib_flow.proofs.expression.are_of.Goals as goal
 
 pub returns-then-not-is_of_at : goal.returns-then-not-is_of_at

@@ -1,6 +1,6 @@
 use Rattle.std.proofs.Common.{◌≡◌, drop, map}
 use Rattle.pt_types.specs.Entry.{typed_entry}
-use Rattle.pt_lib_flow.specs.Formula.{are_of}
+use Rattle.pt_formula.specs.Formula.{are_of}
 use Rattle.pt_lib_flow.proofs.expression.are_of.Given as goal
 
 abbrev pub invariant-loop-place : goal.invariant-loop-place

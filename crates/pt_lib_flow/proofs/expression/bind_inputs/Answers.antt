@@ -3,8 +3,8 @@ use Rattle.std.specs.Prelude.{option_map}
 use Rattle.pt_value.specs.Token.{value_of}
 use Rattle.pt_expr.specs.Env.{scope_of}
 use Rattle.pt_types.specs.Entry.{typed_entry}
-use Rattle.pt_lib_flow.specs.Formula.{names}
-use Rattle.pt_lib_flow.proofs.Formulas.{inputs-bound, others-bound, name-at, length-names}
+use Rattle.pt_formula.specs.Formula.{names}
+use Rattle.pt_formula.proofs.Formulas.{inputs-bound, others-bound, name-at, length-names}
 use Rattle.pt_lib_flow.proofs.expression.bind_inputs.Goals as goal
 
 pub loop-place-preserved : goal.loop-place-preserved

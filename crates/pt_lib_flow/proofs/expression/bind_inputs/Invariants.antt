@@ -1,7 +1,7 @@
 use Rattle.std.proofs.Common.{◌≡◌, List, ℕ, false, drop, map}
 use Rattle.pt_expr.specs.Env.{scope_of}
 use Rattle.pt_types.specs.Entry.{typed_entry}
-use Rattle.pt_lib_flow.specs.Formula.{names, with_inputs, is_among}
+use Rattle.pt_formula.specs.Formula.{names, with_inputs, is_among}
 use Rattle.pt_lib_flow.proofs.expression.bind_inputs.Given as goal
 
 abbrev pub invariant-loop-place : goal.invariant-loop-place

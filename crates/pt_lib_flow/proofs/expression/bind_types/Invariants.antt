@@ -1,7 +1,7 @@
 use Rattle.std.proofs.Common.{◌≡◌, List, ℕ, drop, map}
 use Rattle.pt_types.specs.Entry.{typed_entry}
 use Rattle.pt_expr_type.specs.TypeEnv.{types_in}
-use Rattle.pt_lib_flow.specs.Formula.{with_types}
+use Rattle.pt_formula.specs.Formula.{with_types}
 use Rattle.pt_lib_flow.proofs.expression.bind_types.Given as goal
 
 abbrev pub invariant-loop-name : goal.invariant-loop-name

@@ -7,8 +7,8 @@ use Rattle.pt_datatypes.specs.Token.{type_of_value}
 use Rattle.pt_types.proofs.TokenTypes.{value-is_type}
 use Rattle.pt_expr_type.specs.TypeEnv.{types_in}
 use Rattle.pt_firing.proofs.Named.{nothing-under}
-use Rattle.pt_lib_flow.specs.Formula.{parameter_types}
-use Rattle.pt_lib_flow.proofs.Typings.{parameter_types-bound}
+use Rattle.pt_formula.specs.Formula.{parameter_types}
+use Rattle.pt_formula.proofs.TypesBound.{parameter_types-bound}
 use Rattle.pt_lib_flow.proofs.expression.bound_types.Goals as goal
 
 pub loop-left-init : goal.loop-left-init

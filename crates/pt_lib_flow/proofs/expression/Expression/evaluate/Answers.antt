@@ -1,33 +1,24 @@
-use Rattle.std.proofs.Common.{◌≡◌, ◌⊎◌, ℕ, List, true, sym, ap, subst, ◌∙◌}
+use Rattle.std.proofs.Common.{◌≡◌, ◌⊎◌, sym, ap, subst, ◌∙◌}
 use Rattle.std.specs.Prelude.{IfOk, IfErr}
 use Rattle.pt_value.specs.Token.{value_of}
 use Rattle.pt_language.specs.declared.eval_fault.EvalFault.TheVariants.{Memory}
 use Rattle.pt_language.specs.Outcome.{Gives, Stops}
 use Rattle.pt_expr.specs.Env.{scope_of}
-use Rattle.pt_language.specs.Expr.{tree_of}
-use Rattle.pt_lib_flow.specs.Formula.{Formula, names, with_inputs, is_typed}
-use Rattle.pt_lib_flow.proofs.Evaluations.{comes-to}
-use Rattle.pt_lib_flow.proofs.Typings.{never-wrong}
+use Rattle.pt_formula.specs.Formula.{Formula, names, is_among, are_of, HasParameters}
+use Rattle.pt_lib_flow.specs.Expression.{outcome}
 use Rattle.pt_lib_flow.proofs.expression.Expression.evaluate.Goals as goal
 
-pub eval-requires : goal.eval-requires
-eval-requires c =
-    let f : Formula = record { inputs = c.self.inside.inputs; values = c.self.inside.values; tree = tree_of c.self.inside.tree } in
-    let bound : (name : List ℕ) → scope_of c.bind_inputs.new.env name ≡ with_inputs (names f.inputs) c.args.inputs.now (scope_of c.self.inside.env) name = λ name. c.in_ok-bind_inputs.ensures.ok name ∙ ap (λ es. with_inputs (names es) c.args.inputs.now (scope_of c.self.inside.env) name) c.as_slice.ensures in
-    let is = comes-to f c.args.self.now c.args.inputs.now (scope_of c.self.inside.env) (scope_of c.bind_inputs.new.env) c.self.view_is c.self.invariant.1 bound in
-    let typed : is_typed c.args.self.now ≡ true = sym (ap is_typed c.self.view_is) ∙ c.self.invariant.2 in
-    record { right = λ wrong. never-wrong c.args.self.now c.args.inputs.now typed c.requires.right (sym is ∙ wrong) }
+pub evaluate-requires : goal.evaluate-requires
+evaluate-requires c = record {
+  right = ap (λ (f : Formula). are_of f.inputs c.args.inputs.now) (c.deref.ensures ∙ c.self.view_is) ∙ c.requires.right;
+  bound = subst (λ (f : Formula). HasParameters (names f.inputs) f.values (scope_of c.self.inside.env)) (sym c.deref.ensures) c.self.invariant;
+}
+
+pub invariant_of-self : goal.invariant_of-self
+invariant_of-self c name apart = c.evaluate.ensures.others name (ap (λ (f : Formula). is_among name (names f.inputs)) c.deref.ensures ∙ apart) ∙ c.self.invariant name apart
 
 pub returns-clause-ok : goal.returns-clause-ok
-returns-clause-ok c =
-    let f : Formula = record { inputs = c.self.inside.inputs; values = c.self.inside.values; tree = tree_of c.self.inside.tree } in
-    let bound : (name : List ℕ) → scope_of c.bind_inputs.new.env name ≡ with_inputs (names f.inputs) c.args.inputs.now (scope_of c.self.inside.env) name = λ name. c.in_ok-bind_inputs.ensures.ok name ∙ ap (λ es. with_inputs (names es) c.args.inputs.now (scope_of c.self.inside.env) name) c.as_slice.ensures in
-    let is = comes-to f c.args.self.now c.args.inputs.now (scope_of c.self.inside.env) (scope_of c.bind_inputs.new.env) c.self.view_is c.self.invariant.1 bound in
-    subst (λ o. IfOk c.eval.result (λ token. o ≡ Gives (value_of token))) is c.eval.ensures.ok
+returns-clause-ok c = subst (λ (f : Formula). IfOk c.evaluate.result (λ token. outcome f c.args.inputs.now ≡ Gives (value_of token))) (c.deref.ensures ∙ c.self.view_is) c.evaluate.ensures.ok
 
 pub returns-clause-err : goal.returns-clause-err
-returns-clause-err c =
-    let f : Formula = record { inputs = c.self.inside.inputs; values = c.self.inside.values; tree = tree_of c.self.inside.tree } in
-    let bound : (name : List ℕ) → scope_of c.bind_inputs.new.env name ≡ with_inputs (names f.inputs) c.args.inputs.now (scope_of c.self.inside.env) name = λ name. c.in_ok-bind_inputs.ensures.ok name ∙ ap (λ es. with_inputs (names es) c.args.inputs.now (scope_of c.self.inside.env) name) c.as_slice.ensures in
-    let is = comes-to f c.args.self.now c.args.inputs.now (scope_of c.self.inside.env) (scope_of c.bind_inputs.new.env) c.self.view_is c.self.invariant.1 bound in
-    subst (λ o. IfErr c.eval.result (λ fault. (fault ≡ Memory) ⊎ (o ≡ Stops fault))) is c.eval.ensures.err
+returns-clause-err c = subst (λ (f : Formula). IfErr c.evaluate.result (λ fault. (fault ≡ Memory) ⊎ (outcome f c.args.inputs.now ≡ Stops fault))) (c.deref.ensures ∙ c.self.view_is) c.evaluate.ensures.err

@@ -1,5 +1,5 @@
 use Rattle.std.proofs.Common.{◌≡◌, true, sym, ap, ◌∙◌, rules}
-use Rattle.pt_lib_flow.specs.Formula.{are_of}
+use Rattle.pt_formula.specs.Formula.{are_of}
 use Rattle.pt_lib_flow.proofs.Evaluations.{step-told}
 use Rattle.pt_lib_flow.proofs.expression.ExpressionFires.step.Goals as goal
 

@@ -27,8 +27,8 @@ returns-in-AbsoluteValue c =
 pub returns-in-Accumulator : goal.returns-in-Accumulator
 returns-in-Accumulator c =
     let a = c.in-Accumulator.actor in
-    subst (λ s. GivesStretch flow_actor.step s c.args.inputs.now c.args.rate c.stretch_of_ones-in-Accumulator.result c.stretch_of_ones-in-Accumulator.new.given.items (Accumulator c.stretch_of_ones-in-Accumulator.new.actor)) (sym c.in-Accumulator.is)
-    (held-stretch Accumulator accumulator.step flow_actor.step (λ tag s t X out e. ap (flow_actor.held_as Accumulator) e) a c.stretch_of_ones-in-Accumulator.new.actor c.args.inputs.now c.args.rate c.stretch_of_ones-in-Accumulator.result c.stretch_of_ones-in-Accumulator.new.given.items c.stretch_of_ones-in-Accumulator.ensures)
+    subst (λ s. GivesStretch flow_actor.step s c.args.inputs.now c.args.rate c.stretch_taken_out.result c.stretch_taken_out.new.given.items (Accumulator c.stretch_taken_out.new.actor)) (sym c.in-Accumulator.is)
+    (held-stretch Accumulator accumulator.step flow_actor.step (λ tag s t X out e. ap (flow_actor.held_as Accumulator) e) a c.stretch_taken_out.new.actor c.args.inputs.now c.args.rate c.stretch_taken_out.result c.stretch_taken_out.new.given.items c.stretch_taken_out.ensures)
 
 pub returns-in-AddSubtract : goal.returns-in-AddSubtract
 returns-in-AddSubtract c =
@@ -69,8 +69,8 @@ returns-in-MultiplyDivide c =
 pub returns-in-Ramp : goal.returns-in-Ramp
 returns-in-Ramp c =
     let a = c.in-Ramp.actor in
-    subst (λ s. GivesStretch flow_actor.step s c.args.inputs.now c.args.rate c.stretch_of_ones-in-Ramp.result c.stretch_of_ones-in-Ramp.new.given.items (Ramp c.stretch_of_ones-in-Ramp.new.actor)) (sym c.in-Ramp.is)
-    (held-stretch Ramp ramp.step flow_actor.step (λ tag s t X out e. ap (flow_actor.held_as Ramp) e) a c.stretch_of_ones-in-Ramp.new.actor c.args.inputs.now c.args.rate c.stretch_of_ones-in-Ramp.result c.stretch_of_ones-in-Ramp.new.given.items c.stretch_of_ones-in-Ramp.ensures)
+    subst (λ s. GivesStretch flow_actor.step s c.args.inputs.now c.args.rate c.stretch_taken_out-in-Ramp.result c.stretch_taken_out-in-Ramp.new.given.items (Ramp c.stretch_taken_out-in-Ramp.new.actor)) (sym c.in-Ramp.is)
+    (held-stretch Ramp ramp.step flow_actor.step (λ tag s t X out e. ap (flow_actor.held_as Ramp) e) a c.stretch_taken_out-in-Ramp.new.actor c.args.inputs.now c.args.rate c.stretch_taken_out-in-Ramp.result c.stretch_taken_out-in-Ramp.new.given.items c.stretch_taken_out-in-Ramp.ensures)
 
 pub returns-in-SampleDelay : goal.returns-in-SampleDelay
 returns-in-SampleDelay c =

@@ -13,7 +13,7 @@ use Rattle.std.proofs.Math.ListN.{get_or-map}
 use Rattle.pt_datatypes.specs.Datatype.{Datatype}
 use Rattle.pt_types.specs.declared.ty.Ty.{Ty}
 use Rattle.pt_types.specs.Entry.{typed_entry}
-use Rattle.pt_lib_flow.specs.Formula.{names, parameters, with_name, with_inputs, is_among}
+use Rattle.pt_formula.specs.Formula.{names, parameters, with_name, with_inputs, is_among}
 
 pub drop-one : {T : Type 0} (X : List T) (n : ℕ) → drop 1 (drop n X) ≡ drop (suc n) X
 drop-one X zero = refl

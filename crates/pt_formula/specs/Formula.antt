@@ -17,7 +17,7 @@ use Rattle.pt_language.specs.Types.{Types}
 use Rattle.pt_language.specs.TreeType.{tree_type, are_bound}
 use Rattle.pt_firing.specs.Params.{value_under}
 use Rattle.pt_firing.specs.Row.{token_at}
-use Rattle.pt_lib_flow.specs.TreeCode.{coded_tree}
+use Rattle.pt_formula.specs.TreeCode.{coded_tree}
 
 pub record Formula : Type 0 where
   pub inputs : List (List ℕ × Datatype)
