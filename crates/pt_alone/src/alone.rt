@@ -145,7 +145,7 @@ fn fire_untaken(
         }
         Body::Composite(director) => fire_closed(
             alloc,
-            director,
+            director.get_mut(),
             &mut node.children,
             &node.path,
             &node.labels,

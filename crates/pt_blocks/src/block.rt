@@ -73,6 +73,7 @@ fn fire_children(
     let Body::Composite(director) = body else {
         return false;
     };
+    let director = director.get();
     let Either::First(core) = director else {
         return false;
     };

@@ -44,7 +44,10 @@ impl Drop for Blocks {
 impl Blocks {
     /// What blocks of this top are made in, where it may have some: it is one of SDF, which takes and gives nothing.
     pub fn of(alloc: Global, top: &Node) -> Result<Option<Blocks>, AllocError> {
-        let Body::Composite(Either::First(core)) = &top.body else {
+        let Body::Composite(director) = &top.body else {
+            return Ok(None);
+        };
+        let Either::First(core) = director.get() else {
             return Ok(None);
         };
         let plan = core.plan();

@@ -1,7 +1,8 @@
 ghost use Rattle.std.specs.Prelude.{◌≡◌, ◌++◌, map, zip, IfOk, OnOk};
 ghost use Rattle.pt_node.specs.Shown.{shown, shown_node, all_of};
+ghost use Rattle.pt_node.specs.View.{core_of};
 ghost use Rattle.pt_check.specs.Children as children;
-ghost use Rattle.pt_check.specs.Children.{paths_of, told_in};
+ghost use Rattle.pt_check.specs.Children.{core_repetitions, paths_of, told_in};
 
 use pt_core::Either;
 use pt_directors::Director;
@@ -9,13 +10,23 @@ use pt_node::{Body, Node};
 use pt_value::Text;
 use std::alloc::{AllocError, Global};
 
+/// How often each child of a composite with this director fires in an iteration of it, under SDF.
+fn director_repetitions(director: &Director) -> &[usize]
+    ensures { result.now ≡ core_repetitions (core_of director.now) }
+{
+    match director {
+        Either::First(core) => core.repetitions().as_slice(),
+        Either::Other(_) => &[],
+    }
+}
+
 /// How often each child of a composite fires in an iteration of it, under SDF.
 fn repetitions_of(body: &Body) -> &[usize]
     ensures { result.now ≡ children.repetitions_of body.now }
 {
     match body {
-        Body::Composite(Either::First(core)) => core.repetitions().as_slice(),
-        Body::Composite(Either::Other(_)) | Body::Actor(_) => &[],
+        Body::Composite(director) => director_repetitions(director.get()),
+        Body::Actor(_) => &[],
     }
 }
 
@@ -40,7 +51,7 @@ fn depths_of(body: &Body) -> &[u32]
     ensures { result.now ≡ children.depths_of body.now }
 {
     match body {
-        Body::Composite(director) => director_depths(director),
+        Body::Composite(director) => director_depths(director.get()),
         Body::Actor(_) => &[],
     }
 }

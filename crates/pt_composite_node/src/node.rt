@@ -2,14 +2,14 @@ ghost use Rattle.std.specs.Prelude.{◌≡◌, map, None};
 ghost use Rattle.pt_node.specs.Shown.{shown, shown_node};
 ghost use Rattle.pt_composite_node.specs.Nodes.{built};
 
-use pt_directors::Director;
+use pt_directors::{Boxed, Director};
 use pt_node::{Body, Node};
 use pt_past::{Labels, MeetingRecord, Past, Records};
 use pt_value::Text;
 
 /// The node of a composite that has not fired, whose director makes no meetings.
 pub fn composite_node(
-    director: Director,
+    director: Boxed<Director>,
     children: Vec<Node>,
     path: Text,
     records: Records,
@@ -23,7 +23,7 @@ pub fn composite_node(
 
 /// The node of a composite that has not fired, with this record of its meetings.
 pub fn recording_node(
-    director: Director,
+    director: Boxed<Director>,
     meetings: MeetingRecord,
     children: Vec<Node>,
     path: Text,

@@ -192,7 +192,7 @@ fn fire_signal(core: &DeCore, node: &mut Node, tag: Tag, row: &mut Vec<i64>) -> 
             Some(given)
         }
         Body::Composite(director) => {
-            let given = fire_at_once(director, &core.lent())?;
+            let given = fire_at_once(director.get_mut(), &core.lent())?;
             node.live = false;
             Some(given)
         }

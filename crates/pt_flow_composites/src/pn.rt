@@ -11,6 +11,7 @@ ghost use Rattle.pt_flow_composites.specs.Networks.{network_round};
 
 use pt_composite_node::composite_node;
 use pt_core::Source;
+use pt_directors::Boxed;
 use pt_firing::Counts;
 use pt_inside::{first_lists, is_wired, starts_of};
 use pt_node::Node;
@@ -58,7 +59,8 @@ pub fn pn_composite(
         return Err(CompositeFault::Unbuilt);
     }
     let core = core_of(alloc, &children, sources, places, stated.takes, capacities)?;
-    Ok(composite_node(pt_directors::pn(core), children, path, records, labels))
+    let director = Boxed::new(alloc, pt_directors::pn(core))?;
+    Ok(composite_node(director, children, path, records, labels))
 }
 
 /// Whether the capacities are lawful, and a number is stated for each of so many own ports.

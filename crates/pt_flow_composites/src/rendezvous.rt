@@ -11,6 +11,7 @@ ghost use Rattle.pt_flow_composites.specs.Processes.{processes_round};
 
 use pt_composite_node::recording_node;
 use pt_core::Source;
+use pt_directors::Boxed;
 use pt_firing::Counts;
 use pt_node::Node;
 use pt_past::{Labels, MeetingRecord, Records};
@@ -55,14 +56,9 @@ pub fn rendezvous_composite(
         return Err(CompositeFault::Unbuilt);
     }
     let core = core_of(alloc, &children, sources, places, stated.takes)?;
-    Ok(recording_node(
-        pt_directors::rendezvous(core),
-        MeetingRecord::new(alloc),
-        children,
-        path,
-        records,
-        labels,
-    ))
+    let director = Boxed::new(alloc, pt_directors::rendezvous(core))?;
+    let meetings = MeetingRecord::new(alloc);
+    Ok(recording_node(director, meetings, children, path, records, labels))
 }
 
 /// Whether a number is stated for each of so many own ports.

@@ -14,6 +14,7 @@ ghost use Rattle.pt_trees.specs.Sdf.{sdf};
 ghost use Rattle.pt_flow_composites.specs.Unplanned.{IsToldAs};
 
 use pt_composite_node::composite_node;
+use pt_directors::Boxed;
 use pt_document::Code;
 use pt_inside::{first_tokens, inside_of};
 use pt_node::Node;
@@ -46,7 +47,8 @@ pub fn sdf_composite(
         Err(fault) => return Err(told(fault)),
     };
     let core = core_of(alloc, &children, plan)?;
-    Ok(composite_node(pt_directors::sdf(core), children, path, records, labels))
+    let director = Boxed::new(alloc, pt_directors::sdf(core))?;
+    Ok(composite_node(director, children, path, records, labels))
 }
 
 /// The core of a plan, whose channels hold the first tokens of the children that feed them.

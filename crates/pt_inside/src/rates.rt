@@ -1,11 +1,12 @@
 ghost use Rattle.std.specs.Prelude.{◌≡◌, IfOk, map, replicate};
 ghost use Rattle.pt_node.specs.Shown.{shown, shown_node};
-ghost use Rattle.pt_node.specs.View.{node_of};
+ghost use Rattle.pt_node.specs.View.{core_of, node_of};
 ghost use Rattle.pt_trees.specs.Around.{declared_at};
-ghost use Rattle.pt_trees.specs.Rates.{rates_of, rates_given, AreRates, IsStarted, AllStarted};
+ghost use Rattle.pt_trees.specs.Rates.{core_rates, rates_of, rates_given, AreRates, IsStarted, AllStarted};
 ghost use Rattle.pt_trees.specs.Composite.{trees_of};
 
 use pt_core::Either;
+use pt_directors::Director;
 use pt_firing::Counts;
 use pt_node::{Body, Node};
 use std::alloc::{AllocError, Global};
@@ -24,18 +25,21 @@ fn node_rates(alloc: Global, node: &Node) -> Result<Option<Counts>, AllocError>
 {
     match &node.body {
         Body::Actor(held) => held.actor.rates(alloc),
-        Body::Composite(Either::First(core)) => Ok(Some(core.gives().copy(alloc)?)),
-        Body::Composite(Either::Other(Either::First(core))) => {
-            Ok(Some(ones(alloc, core.outlets())?))
-        }
-        Body::Composite(Either::Other(Either::Other(Either::First(_)))) => Ok(None),
-        Body::Composite(Either::Other(Either::Other(Either::Other(Either::First(_))))) => Ok(None),
-        Body::Composite(
-            Either::Other(Either::Other(Either::Other(Either::Other(Either::First(_))))),
-        ) => Ok(None),
-        Body::Composite(
-            Either::Other(Either::Other(Either::Other(Either::Other(Either::Other(_))))),
-        ) => Ok(None),
+        Body::Composite(director) => director_rates(alloc, director.get()),
+    }
+}
+
+/// The same of a composite with this director.
+fn director_rates(alloc: Global, director: &Director) -> Result<Option<Counts>, AllocError>
+    ensures { IfOk result (λ rates. rates ≡ core_rates (core_of director.now)) }
+{
+    match director {
+        Either::First(core) => Ok(Some(core.gives().copy(alloc)?)),
+        Either::Other(Either::First(core)) => Ok(Some(ones(alloc, core.outlets())?)),
+        Either::Other(Either::Other(Either::First(_))) => Ok(None),
+        Either::Other(Either::Other(Either::Other(Either::First(_)))) => Ok(None),
+        Either::Other(Either::Other(Either::Other(Either::Other(Either::First(_))))) => Ok(None),
+        Either::Other(Either::Other(Either::Other(Either::Other(Either::Other(_))))) => Ok(None),
     }
 }
 

@@ -54,7 +54,7 @@ pub(crate) fn director_of(node: &Node) -> &Director
     ensures { (out-Node node.now).body ≡ Composite result.now }
 {
     match &node.body {
-        Body::Composite(director) => director,
+        Body::Composite(director) => director.get(),
         Body::Actor(_) => unreachable!(),
     }
 }

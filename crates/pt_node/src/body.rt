@@ -1,7 +1,6 @@
 ghost use Rattle.std.specs.Prelude.{◌≡◌, IfOk, OnOk, OnErr};
 
-use pt_core::Core;
-use pt_directors::Director;
+use pt_directors::{Boxed, Director};
 use pt_firing::Fires;
 use pt_library::LibraryActor;
 use std::alloc::{AllocError, Global};
@@ -30,10 +29,10 @@ impl Held {
     }
 }
 
-/// What a node is: a library actor, or a composite with its director.
+/// What a node is: a library actor, or a composite with its director. Most nodes are actors, and a director is larger: so it has a place of its own.
 pub enum Body {
     Actor(Held),
-    Composite(Director),
+    Composite(Boxed<Director>),
 }
 
 impl Drop for Body {

@@ -68,7 +68,7 @@ impl Node {
     {
         match &self.body {
             Body::Actor(held) => held.actor.need(),
-            Body::Composite(director) => director.need(),
+            Body::Composite(director) => director.get().need(),
         }
     }
 
@@ -79,7 +79,7 @@ impl Node {
     {
         match &self.body {
             Body::Actor(held) => held.actor.begins(),
-            Body::Composite(director) => director.begins(),
+            Body::Composite(director) => director.get().begins(),
         }
     }
 
@@ -91,7 +91,7 @@ impl Node {
     {
         match &self.body {
             Body::Actor(held) => held.actor.next(),
-            Body::Composite(director) => director.next(),
+            Body::Composite(director) => director.get().next(),
         }
     }
 
@@ -119,7 +119,7 @@ impl Node {
     {
         match &self.body {
             Body::Actor(held) => held.actor.whole(),
-            Body::Composite(director) => director.whole(),
+            Body::Composite(director) => director.get().whole(),
         }
     }
 
@@ -211,7 +211,7 @@ fn reset_body(alloc: Global, body: &mut Body, children: &mut Vec<Node>) -> Resul
     match body {
         Body::Actor(held) => held.reset(alloc),
         Body::Composite(director) => {
-            director.reset(alloc)?;
+            director.get_mut().reset(alloc)?;
             reset_all(alloc, children)
         }
     }

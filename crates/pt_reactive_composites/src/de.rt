@@ -10,6 +10,7 @@ ghost use Rattle.pt_reactive_composites.specs.Timed.{StartsByPlan};
 use pt_composite_node::composite_node;
 use pt_de::DeCore;
 use pt_de_inside::{begin_at_outputs, planned};
+use pt_directors::Boxed;
 use pt_inside::is_wired;
 use pt_node::Node;
 use pt_past::{Labels, Records};
@@ -33,7 +34,8 @@ pub fn de_composite(
     ensures stands { IfErr result (IsUncomposed de (around_of wiring) (map shown children.items)) }
 {
     let core = core_of(alloc, &children, wiring)?;
-    Ok(composite_node(pt_directors::de(core), children, path, records, labels))
+    let director = Boxed::new(alloc, pt_directors::de(core))?;
+    Ok(composite_node(director, children, path, records, labels))
 }
 
 /// The core of the composite, which starts with its plan.

@@ -15,6 +15,7 @@ ghost use Rattle.pt_reactive_composites.specs.Machines.{StartsByMachine, IsChart
 use pt_chart::{Mode, Ports, Written};
 use pt_composite_node::composite_node;
 use pt_de_inside::wakes_of;
+use pt_directors::Boxed;
 use pt_inside::needs_of;
 use pt_modal::{Core, CorePlan};
 use pt_node::{Body, Node};
@@ -39,7 +40,8 @@ pub fn modal_composite(
     ensures stands { IfErr result (IsUncomposed modal (around_of wiring) (map shown children.items)) }
 {
     let core = core_of(alloc, &children, wiring)?;
-    Ok(composite_node(pt_directors::modal(core), children, path, records, labels))
+    let director = Boxed::new(alloc, pt_directors::modal(core))?;
+    Ok(composite_node(director, children, path, records, labels))
 }
 
 /// The core of the machine that the wiring has, round these children.

@@ -8,6 +8,7 @@ ghost use Rattle.pt_sr.specs.State.{started};
 ghost use Rattle.pt_inside.specs.Nonstrict.{is_nonstrict};
 
 use pt_composite_node::composite_node;
+use pt_directors::Boxed;
 use pt_inside::{is_wired, nonstrict_of, ones, order_of, outputs_of};
 use pt_node::Node;
 use pt_past::{Labels, Records};
@@ -34,7 +35,8 @@ pub fn sr_composite(
         return Err(CompositeFault::Unbuilt);
     }
     let core = core_of(alloc, &children, wiring)?;
-    Ok(composite_node(pt_directors::sr(core), children, path, records, labels))
+    let director = Boxed::new(alloc, pt_directors::sr(core))?;
+    Ok(composite_node(director, children, path, records, labels))
 }
 
 /// The core round these children, of which those that their libraries don't tell to be strict are asked for early answers.

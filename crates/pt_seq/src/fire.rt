@@ -108,7 +108,7 @@ fn fire(alloc: Global, node: &mut Node, tag: Tag, inputs: &Inputs<'_>, left: &mu
         Body::Actor(held) => fire_actor(alloc, held, &node.path, node.past.made, tag, inputs),
         Body::Composite(director) => fire_composite(
             alloc,
-            director,
+            director.get_mut(),
             &mut node.children,
             &node.path,
             &node.labels,

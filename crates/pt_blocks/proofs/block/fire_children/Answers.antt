@@ -23,7 +23,7 @@ returns-then-not-work c = (refl, bare-none (map shown c.args.children.now.items)
 pub note_all-requires-clause-repetitions : goal.note_all-requires-clause-repetitions
 note_all-requires-clause-repetitions c =
     let kids : List Node = c.args.children.now.items in
-    let is : c.args.body.now ≡ Composite (of_sdf c.in-First.core) = c.in-Composite.is ∙ ap (λ (d : Director). Composite d) c.in-First.is in
+    let is : c.args.body.now ≡ Composite (of_sdf c.in-First.core) = c.in-Composite.is ∙ ap (λ (d : Director). Composite d) (sym c.get-director.ensures ∙ c.in-First.is) in
     let fits = subst (λ b. IsReadyBody b (all_of (map shown kids))) is c.requires in
     ap (λ ns. length ns) (c.as_slice-repetitions.ensures ∙ c.repetitions.ensures) ∙ fits.fitting.repetitions ∙ sym (children-long c.in-First.core (map shown kids) fits) ∙ length-map kids shown
 
@@ -36,7 +36,7 @@ record_all-requires c =
     let noted : AllNotedTo (length (map shown kids)) c.as_slice-repetitions.result.now c.deref-2.result.now c.args.tag c.args.iterations c.args.left.now (map shown kids) (map shown c.note_all.new.children.items) c.in-Some.after =
     subst (λ n. AllNotedTo n c.as_slice-repetitions.result.now c.deref-2.result.now c.args.tag c.args.iterations c.args.left.now (map shown kids) (map shown c.note_all.new.children.items) c.in-Some.after) (sym (length-map kids shown)) c.in-Some.ensures.noted
     in
-    let is : c.args.body.now ≡ Composite (of_sdf c.in-First.core) = c.in-Composite.is ∙ ap (λ (d : Director). Composite d) c.in-First.is in
+    let is : c.args.body.now ≡ Composite (of_sdf c.in-First.core) = c.in-Composite.is ∙ ap (λ (d : Director). Composite d) (sym c.get-director.ensures ∙ c.in-First.is) in
     let fits = subst (λ b. IsReadyBody b (all_of (map shown kids))) is c.requires in
     may-record c.as_slice-repetitions.result.now c.deref-2.result.now c.args.tag c.args.iterations (map shown kids) (map shown c.note_all.new.children.items) c.work.new.blocks.actors.items noted.each
     (ap (λ ns. length ns) (c.as_slice-repetitions.ensures ∙ c.repetitions.ensures) ∙ fits.fitting.repetitions ∙ sym (children-long c.in-First.core (map shown kids) fits)) made.count
@@ -47,7 +47,7 @@ returns c =
     let repetitions : c.as_slice-repetitions.result.now ≡ c.in-First.core.plan.repetitions = c.as_slice-repetitions.ensures ∙ c.repetitions.ensures in
     record {
       core = c.in-First.core;
-      is = c.in-Composite.is ∙ ap (λ (d : Director). Composite d) c.in-First.is;
+      is = c.in-Composite.is ∙ ap (λ (d : Director). Composite d) (sym c.get-director.ensures ∙ c.in-First.is);
       actors = c.work.new.blocks.actors.items;
       given = c.work.new.blocks.given.items;
       mids = map shown c.note_all.new.children.items;

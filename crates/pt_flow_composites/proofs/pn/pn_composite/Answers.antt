@@ -32,5 +32,5 @@ returns-clause-node c =
     let is : c.in_ok-core.core ≡ started (network_round around.sources around.places c.in-Some.stated.takes c.in-Some-capacities.capacities (trees_of kids)) =
     c.in_ok-core.ensures ∙ ap (λ (v : List Node). started (network_round around.sources around.places c.in-Some.stated.takes c.in-Some-capacities.capacities (trees_of (map shown v)))) c.deref-2.ensures.value in
     subst (λ (s : Shown). IsComposed pn around kids c.args.path c.args.records c.args.labels s)
-    (sym (c.composite_node.ensures ∙ ap (λ (d : Director). built d None kids c.args.path c.args.records c.args.labels) (c.pn.ensures ∙ ap of_pn is)))
+    (sym (c.composite_node.ensures ∙ ap (λ (d : Director). built d None kids c.args.path c.args.records c.args.labels) (c.in_ok-director.ensures ∙ c.pn.ensures ∙ ap of_pn is)))
     (composite-is around kids c.args.path c.args.records c.args.labels wired c.requires.fresh c.requires.empty)

@@ -28,6 +28,6 @@ returns-clause-node c =
     let wired : IsRvWired around (trees_of kids) = wired-with c.args.wiring (trees_of kids) c.in-Some.stated met c.in-Some.is (c.has_rates.ensures.0 c.if-not-has_rates.false) in
     let is : c.in_ok-core.core ≡ started (processes_round around.sources around.places c.in-Some.stated.takes (trees_of kids)) = c.in_ok-core.ensures ∙ ap (λ (v : List Node). started (processes_round around.sources around.places c.in-Some.stated.takes (trees_of (map shown v)))) c.deref-2.ensures.value in
     subst (λ (s : Shown). IsComposed rendezvous around kids c.args.path c.args.records c.args.labels s)
-    (sym (c.recording_node.ensures ∙ ap (λ (d : Director). built d c.new.result kids c.args.path c.args.records c.args.labels) (c.rendezvous.ensures ∙ ap of_rendezvous is)
-    ∙ ap (λ (m : Option Made). built (of_rendezvous (started (processes_round around.sources around.places c.in-Some.stated.takes (trees_of kids)))) m kids c.args.path c.args.records c.args.labels) c.new.ensures))
+    (sym (c.recording_node.ensures ∙ ap (λ (d : Director). built d c.new-meetings.result kids c.args.path c.args.records c.args.labels) (c.in_ok-director.ensures ∙ c.rendezvous.ensures ∙ ap of_rendezvous is)
+    ∙ ap (λ (m : Option Made). built (of_rendezvous (started (processes_round around.sources around.places c.in-Some.stated.takes (trees_of kids)))) m kids c.args.path c.args.records c.args.labels) c.new-meetings.ensures))
     (composite-is around kids c.args.path c.args.records c.args.labels wired c.requires.fresh c.requires.empty)

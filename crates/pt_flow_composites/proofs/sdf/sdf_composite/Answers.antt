@@ -46,5 +46,5 @@ returns-clause-node c =
     let is : c.in_ok-core.core ≡ started (plan_of c.in-Ok.plan) c.in-Ok.plan.needs first =
     c.in_ok-core.ensures ∙ ap (λ (v : List Node). started (plan_of c.in-Ok.plan) c.in-Ok.plan.needs (first_held rows (trees_of (map shown v)) (map source_of c.in-Ok.plan.sources.items))) c.deref-2.ensures.value in
     subst (λ (s : Shown). IsComposed sdf (around_of c.args.wiring) (map shown c.args.children.items) c.args.path c.args.records c.args.labels s)
-    (sym (c.composite_node.ensures ∙ ap (λ (d : Director). built d None (map shown c.args.children.items) c.args.path c.args.records c.args.labels) (c.sdf.ensures ∙ ap of_sdf is)))
+    (sym (c.composite_node.ensures ∙ ap (λ (d : Director). built d None (map shown c.args.children.items) c.args.path c.args.records c.args.labels) (c.in_ok-director.ensures ∙ c.sdf.ensures ∙ ap of_sdf is)))
     (composite-is (around_of c.args.wiring) (map shown c.args.children.items) c.args.path c.args.records c.args.labels c.in_ok-inside.inside c.in-Ok.plan first inside c.in_ok-inside.ensures.formed c.in-Ok.ensures.plan c.in-Ok.ensures.limits c.in-Ok.ensures.needs refl c.requires.fresh c.requires.empty)

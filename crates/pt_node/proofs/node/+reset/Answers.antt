@@ -1,5 +1,7 @@
-use Rattle.std.proofs.Common.{◌<◌, map, length, arith}
+use Rattle.std.proofs.Common.{◌<◌, map, length, sym, ap, ◌∙◌, arith}
 use Rattle.std.proofs.lemmas.List.{length-map}
+use Rattle.pt_directors.specs.Directors.{Director}
+use Rattle.pt_node.specs.declared.body.Body.TheVariants.{Composite}
 use Rattle.pt_node.specs.Shown.{shown, all_of}
 use Rattle.pt_node.proofs.ResetLaws.{reset-none, reset-end, keep-all, all-reset, restarted-maximum}
 use Rattle.pt_node.proofs.ResetLoop.{kids-long, next-fit, next-depth, next-keeps, next-reset}
@@ -33,7 +35,8 @@ reset_all-returns-clause-reset t c = reset-end c.loop-k.k (map shown c.args.chil
 
 pub reset_body-returns-in_ok-reset-in-Composite-clause-reset : goal.reset_body-returns-in_ok-reset-in-Composite-clause-reset
 reset_body-returns-in_ok-reset-in-Composite-clause-reset t c =
-    all-reset c.reset_all.result c.args.body.now c.in-Composite.director c.reset-in-Composite.new.self (all_of (map shown c.args.children.now.items)) (all_of (map shown c.reset_all.new.children.items)) c.in-Composite.is c.requires.ready c.in_ok-reset-in-Composite.ensures.reset c.reset_all.ensures.reset
+    all-reset c.reset_all.result c.args.body.now c.get_mut.result.now c.reset-in-Composite.new.self (all_of (map shown c.args.children.now.items)) (all_of (map shown c.reset_all.new.children.items)) (c.in-Composite.is ∙ ap (λ (d : Director). Composite d) (sym c.get_mut.ensures.value)) c.requires.ready c.in_ok-reset-in-Composite.ensures.reset c.reset_all.ensures.reset
 
 pub reset_body-returns-in_ok-reset-in-Composite-clause-maximum : goal.reset_body-returns-in_ok-reset-in-Composite-clause-maximum
-reset_body-returns-in_ok-reset-in-Composite-clause-maximum t c = restarted-maximum c.args.body.now c.in-Composite.director c.reset-in-Composite.new.self c.in-Composite.is c.in_ok-reset-in-Composite.ensures.reset
+reset_body-returns-in_ok-reset-in-Composite-clause-maximum t c =
+    restarted-maximum c.args.body.now c.get_mut.result.now c.reset-in-Composite.new.self (c.in-Composite.is ∙ ap (λ (d : Director). Composite d) (sym c.get_mut.ensures.value)) c.in_ok-reset-in-Composite.ensures.reset

@@ -16,5 +16,5 @@ returns-clause-node c =
     let by : StartsByPlan (around_of c.args.wiring) (trees_of kids) c.in_ok-core.core =
     subst (λ (v : List Node). StartsByPlan (around_of c.args.wiring) (trees_of (map shown v)) c.in_ok-core.core) c.deref.ensures.value c.in_ok-core.ensures.core in
     subst (λ (s : Shown). IsComposed de (around_of c.args.wiring) kids c.args.path c.args.records c.args.labels s)
-    (sym (c.composite_node.ensures ∙ ap (λ (d : Director). built d None kids c.args.path c.args.records c.args.labels) (c.de.ensures ∙ ap of_de by.is)))
+    (sym (c.composite_node.ensures ∙ ap (λ (d : Director). built d None kids c.args.path c.args.records c.args.labels) (c.in_ok-director.ensures ∙ c.de.ensures ∙ ap of_de by.is)))
     (composite-is (around_of c.args.wiring) kids c.args.path c.args.records c.args.labels by.plan by.is_plan c.requires.fresh c.requires.empty)

@@ -20,5 +20,5 @@ returns-clause-node c =
     let by : StartsByMachine (around_of c.args.wiring) (trees_of kids) c.in_ok-core.core =
     subst (λ (v : List Node). StartsByMachine (around_of c.args.wiring) (trees_of (map shown v)) c.in_ok-core.core) c.deref.ensures.value c.in_ok-core.ensures.core in
     subst (λ (s : Shown). IsComposed modal (around_of c.args.wiring) kids c.args.path c.args.records c.args.labels s)
-    (sym (c.composite_node.ensures ∙ ap (λ (d : Director). built d None kids c.args.path c.args.records c.args.labels) (c.modal.ensures ∙ ap of_modal by.is)))
+    (sym (c.composite_node.ensures ∙ ap (λ (d : Director). built d None kids c.args.path c.args.records c.args.labels) (c.in_ok-director.ensures ∙ c.modal.ensures ∙ ap of_modal by.is)))
     (composite-is (around_of c.args.wiring) kids c.args.path c.args.records c.args.labels by.wired c.requires.fresh c.requires.empty)

@@ -30,5 +30,5 @@ returns-clause-node c =
     let is : c.in_ok-core.core ≡ started (tick_plan (around_of c.args.wiring)) (map is_nonstrict (trees_of kids)) =
     c.in_ok-core.ensures ∙ ap (λ (v : List Node). started (tick_plan (around_of c.args.wiring)) (map is_nonstrict (trees_of (map shown v)))) c.deref-2.ensures.value in
     subst (λ (s : Shown). IsComposed sr (around_of c.args.wiring) kids c.args.path c.args.records c.args.labels s)
-    (sym (c.composite_node.ensures ∙ ap (λ (d : Director). built d None kids c.args.path c.args.records c.args.labels) (c.sr.ensures ∙ ap of_sr is)))
+    (sym (c.composite_node.ensures ∙ ap (λ (d : Director). built d None kids c.args.path c.args.records c.args.labels) (c.in_ok-director.ensures ∙ c.sr.ensures ∙ ap of_sr is)))
     (composite-is (around_of c.args.wiring) kids c.args.path c.args.records c.args.labels wired c.requires.fresh c.requires.empty)

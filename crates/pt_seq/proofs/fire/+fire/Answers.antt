@@ -1,7 +1,8 @@
-use Rattle.std.proofs.Common.{[], ◌∷◌, ap, arith, map, subst, ◌∙◌, refl}
+use Rattle.std.proofs.Common.{[], ◌∷◌, ap, arith, map, subst, sym, ◌∙◌, refl}
 use Rattle.pt_value.specs.declared.token.Token.TheVariants.{Int}
 use Rattle.pt_firing.specs.declared.ask.Ask.TheVariants as ask
-use Rattle.pt_directors.specs.Directors.{director_calls}
+use Rattle.pt_directors.specs.Directors.{Director, director_calls}
+use Rattle.pt_node.specs.declared.body.Body.TheVariants as body
 use Rattle.pt_node.specs.Acts.{acts}
 use Rattle.pt_node.specs.Shown.{shown, shown_node}
 use Rattle.pt_node.specs.View.{depths}
@@ -50,10 +51,10 @@ pub fire-returns-in-Actor-clause-fit : goal.fire-returns-in-Actor-clause-fit
 fire-returns-in-Actor-clause-fit t c = actor-stays c.args.node.now _ _ _ c.in-Actor.held c.fire_actor.new.held c.node.view_is refl c.in-Actor.is c.args.tag c.args.inputs.now c.fire_actor.result c.fire_actor.ensures.goes refl c.requires.fit
 
 pub fire-returns-in-Composite-clause-goes : goal.fire-returns-in-Composite-clause-goes
-fire-returns-in-Composite-clause-goes t c = composite-enters c.args.node.now _ _ _ c.in-Composite.director c.fire_composite.new.director _ c.fire_composite.new.meetings c.node.view_is refl c.in-Composite.is c.fire_composite.result refl c.args.tag c.args.inputs.now c.fire_composite.ensures.goes
+fire-returns-in-Composite-clause-goes t c = composite-enters c.args.node.now _ _ _ c.get_mut.result.now c.fire_composite.new.director _ c.fire_composite.new.meetings c.node.view_is refl (c.in-Composite.is ∙ ap (λ (d : Director). body.Composite d) (sym c.get_mut.ensures.value)) c.fire_composite.result refl c.args.tag c.args.inputs.now c.fire_composite.ensures.goes
 
 pub fire-returns-in-Composite-clause-fit : goal.fire-returns-in-Composite-clause-fit
-fire-returns-in-Composite-clause-fit t c = composite-stays c.args.node.now _ _ _ c.in-Composite.director c.fire_composite.new.director _ c.fire_composite.new.meetings c.node.view_is refl c.in-Composite.is c.fire_composite.result refl c.fire_composite.ensures.fit
+fire-returns-in-Composite-clause-fit t c = composite-stays c.args.node.now _ _ _ c.get_mut.result.now c.fire_composite.new.director _ c.fire_composite.new.meetings c.node.view_is refl (c.in-Composite.is ∙ ap (λ (d : Director). body.Composite d) (sym c.get_mut.ensures.value)) c.fire_composite.result refl c.fire_composite.ensures.fit
 
 pub fire_child-returns-then-several-clause-goes : goal.fire_child-returns-then-several-clause-goes
 fire_child-returns-then-several-clause-goes t c =
@@ -86,7 +87,7 @@ pub fire-returns-in-Actor-clause-outline : goal.fire-returns-in-Actor-clause-out
 fire-returns-in-Actor-clause-outline t c = actor-named c.args.node.now _ _ _ c.in-Actor.held c.fire_actor.new.held c.node.view_is refl c.in-Actor.is c.args.tag c.args.inputs.now c.fire_actor.result c.fire_actor.ensures.goes refl
 
 pub fire-returns-in-Composite-clause-outline : goal.fire-returns-in-Composite-clause-outline
-fire-returns-in-Composite-clause-outline t c = composite-named c.args.node.now _ _ _ c.in-Composite.director c.fire_composite.new.director _ c.fire_composite.new.meetings c.node.view_is refl c.in-Composite.is c.fire_composite.result refl c.fire_composite.ensures.maximum c.fire_composite.ensures.outlines
+fire-returns-in-Composite-clause-outline t c = composite-named c.args.node.now _ _ _ c.get_mut.result.now c.fire_composite.new.director _ c.fire_composite.new.meetings c.node.view_is refl (c.in-Composite.is ∙ ap (λ (d : Director). body.Composite d) (sym c.get_mut.ensures.value)) c.fire_composite.result refl c.fire_composite.ensures.maximum c.fire_composite.ensures.outlines
 
 pub fire_composite-finish-requires : goal.fire_composite-finish-requires
 fire_composite-finish-requires t c = let p = (rested-as c.args.director.now (map shown c.args.children.now.items) c.args.tag c.args.inputs.now c.args.left.now (own_of c.args.made c.args.meetings.now c.first_row-rest.new.meetings) c.first_row-rest.new.director (map shown c.first_row-rest.new.children.items) c.first_row-rest.new.left c.first_row-rest.result (rest.Asked ask.Finished) (c.if-is_finished.ensures refl) c.first_row-rest.ensures) in may-finish acts acts-law p.at c.args.path.now c.args.labels.now p.gives c.first_row-rest.new.director p.asking
