@@ -348,6 +348,11 @@ fn actor_of(e: &Entity) -> LibraryActor {
     LibraryActor::started(GLOBAL, &params).ok().unwrap().unwrap()
 }
 
+/// The body of a composite with this director.
+fn composite(director: directors::Director) -> Body {
+    Body::Composite(directors::Boxed::new(GLOBAL, director).ok().unwrap())
+}
+
 /// An SDF composite of a scale between its input and its output.
 fn scale_within(e: &Entity) -> (Body, Row<Node>) {
     let scale = entity("k".into(), "Scale", &e.values);
@@ -365,7 +370,7 @@ fn scale_within(e: &Entity) -> (Body, Row<Node>) {
     let core = Core::new(GLOBAL, plan, Channels::new(GLOBAL, 2).ok().unwrap()).ok().unwrap();
     let mut scale = scale;
     scale.plus.push(0);
-    (Body::Composite(directors::sdf(core)), row([node_of(&scale, false)]))
+    (composite(directors::sdf(core)), row([node_of(&scale, false)]))
 }
 
 fn name(of: &str) -> Expr {
@@ -392,7 +397,7 @@ fn machine(modes: [[Transition; 2]; 2]) -> Body {
     };
     let chart = Chart::new(GLOBAL, written).ok().unwrap().unwrap();
     let plan = crate::pt_modal::CorePlan::of(GLOBAL, chart, row([])).ok().unwrap();
-    Body::Composite(directors::modal(crate::pt_modal::Core::new(GLOBAL, plan).ok().unwrap()))
+    composite(directors::modal(crate::pt_modal::Core::new(GLOBAL, plan).ok().unwrap()))
 }
 
 fn transition(guard: Expr, gives: Option<Expr>, sets: Expr, target: u32) -> Transition {
@@ -601,7 +606,7 @@ fn timed_plan(entities: &[Entity], channels: &[(usize, usize)], children: &[Node
 fn top_of(director: directors::Director, children: Row<Node>) -> Node {
     Node {
         past: Past { made: 0, last: None },
-        body: Body::Composite(director),
+        body: composite(director),
         children,
         records: Records::of(Row::new(GLOBAL)),
         path: text("top"),
@@ -685,7 +690,7 @@ fn net_of(kind: &str, size: usize) -> Net {
 fn told(kind: &str, size: usize, top: &mut Node) {
     use std::io::Write;
     if kind != "meetings" {
-        let report = crate::pt_run::report(GLOBAL, top, row([]), Ended::Iterations, 1).ok().unwrap();
+        let report = crate::pt_reporting::report(GLOBAL, top, row([]), Ended::Iterations, 1).ok().unwrap();
         let text = crate::pt_trace::text(GLOBAL, &report).ok().unwrap();
         std::io::stdout().write_all(&text).unwrap();
         return;
@@ -701,7 +706,7 @@ fn told(kind: &str, size: usize, top: &mut Node) {
 #[inline(never)]
 fn report_of(inside: &Inside<'_>, top: &mut Node) -> Row<u8> {
     let meetings = inside.meetings(GLOBAL, top.meetings.as_slice().unwrap()).ok().unwrap();
-    let report = crate::pt_run::report(GLOBAL, top, row([meetings]), Ended::Deadlock, 1).ok().unwrap();
+    let report = crate::pt_reporting::report(GLOBAL, top, row([meetings]), Ended::Deadlock, 1).ok().unwrap();
     let text = crate::pt_trace::text(GLOBAL, &report).ok().unwrap();
     drop(report);
     text

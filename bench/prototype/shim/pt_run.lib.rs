@@ -1,4 +1,1 @@
 pub mod reactions;
-mod reporting;
-mod turn;
-pub use reporting::report;

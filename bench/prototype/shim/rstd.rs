@@ -733,6 +733,14 @@ impl<T> Box<T> {
             Err(_) => Err(AllocFailed { value }),
         }
     }
+
+    pub fn replace(of: &mut Box<T>, value: T) -> T {
+        core::mem::replace(&mut **of, value)
+    }
+
+    pub fn as_mut(&mut self) -> &mut T {
+        &mut **self
+    }
 }
 
 impl<T> core::ops::Deref for Box<T> {

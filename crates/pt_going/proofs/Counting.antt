@@ -10,6 +10,7 @@ use Rattle.pt_meaning.specs.Meetings.{Meets}
 use Rattle.pt_meaning.specs.Step.{step_at, Step}
 use Rattle.pt_value.specs.declared.token.Token.{Token}
 use Rattle.pt_records.specs.Kept.{Kept, Entry, kept_at, kept_by, GrewBy, count_kept}
+use Rattle.pt_records.specs.Fired.{FiresTo}
 use Rattle.pt_records.proofs.GrowthLaws.{grew-count}
 use Rattle.pt_records.proofs.SoFarLaws.{recorded-done}
 use Rattle.pt_node.specs.declared.body.Body.{Body}
@@ -130,3 +131,10 @@ counts-more old new log n o k some =
 -- a tree of which the same is kept counts the same
 pub counts-same : (old new : Shown) → outline_of new ≡ outline_of old → kept_of new ≡ kept_of old → count_of new ≡ count_of old
 counts-same old new o k = sym (counted new) ∙ ap₂ (λ x v. count_kept x (paths_in v)) k o ∙ counted old
+
+-- a tree that has fired counts more
+pub fires-count : (m : Meets) (old new : Shown) (tag : Tag) (X out : Streams Token) → outline_of new ≡ outline_of old → FiresTo (λ k. Step k rows m (node_of old) tag X) (node_of new) out (kept_of old) (kept_of new) → count_of old < count_of new
+fires-count m old new tag X out o f =
+    let own : 0 < firings_in (f.log []) = step-counted f.done.0 m (node_of old) (node_of new) tag X out f.log (f.done.1 f.done.0 (omega arith)) in
+    let more : count_of old + 1 ≤ count_of new = counts-more old new f.log 1 o f.kept (omega (arith, own)) in
+    omega (arith, more)

@@ -4,3 +4,11 @@ pub mod Staying
 pub mod Beginning
 pub mod InTurn
 pub mod BlockLaws
+pub mod Traces
+pub mod Unrecorded
+pub mod Counted
+pub mod Jams
+pub mod Reaching
+pub mod Completing
+pub mod Steady
+pub mod Example

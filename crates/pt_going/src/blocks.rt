@@ -13,10 +13,10 @@ use pt_trees::SdfJob;
 use std::alloc::{AllocError, Global};
 
 /// The tag of each firing of an SDF top.
-const ORIGIN: Tag = Tag { time: 0, step: 0 };
+pub(crate) const ORIGIN: Tag = Tag { time: 0, step: 0 };
 
 /// Makes iterations of an SDF top that has no inputs, several at once, as long as the job has so many left, the budget suffices and such a block can be made. Answers how many iterations were made. What is left of the budget is lowered by each firing.
-pub fn run_blocks(
+pub(crate) fn run_blocks(
     alloc: Global,
     top: &mut Node,
     job: &SdfJob,

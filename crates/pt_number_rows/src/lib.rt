@@ -13,6 +13,6 @@ mod stretches;
 
 pub use meetings::fire_meetings;
 pub use number_core::NumberCore;
-pub use numbers::{Buffers, fire_numbers, several, tell_numbers};
+pub use numbers::fire_numbers;
 pub use rows::rows_go_on;
 pub use stretches::fire_stretches;

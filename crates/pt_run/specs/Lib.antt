@@ -1,3 +1,1 @@
-pub mod Turn
 pub mod Ran
-pub mod Example

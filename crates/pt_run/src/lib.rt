@@ -1,14 +1,7 @@
-//! Running the top of a tree of nodes as a job says, and the report of it.
+//! Running the top of a tree of nodes as a job says.
 #![tactic(auto)]
 
-mod de;
-mod once;
 mod reactions;
-mod reporting;
 mod running;
-mod sdf;
-mod sr;
-mod turn;
 
-pub use reporting::{numbers_stay, report};
 pub use running::{Ran, run};

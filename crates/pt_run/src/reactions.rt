@@ -7,10 +7,10 @@ ghost use Rattle.pt_trees.specs.declared.top.Top.TheVariants.{De};
 ghost use Rattle.pt_trees.specs.Start.{IsRunnable};
 ghost use Rattle.pt_trees.specs.Run.{IsRun, IsAffordable, IsDefined};
 
-use crate::turn::past_limit;
 use pt_agenda::{Turn, next_turn};
 use pt_alone::{Fired, fire_alone};
 use pt_firing::{Inputs, Tokens};
+use pt_next::past_limit;
 use pt_node::Node;
 use pt_trees::{DeJob, Ended};
 use std::alloc::{AllocError, Global};

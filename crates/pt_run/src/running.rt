@@ -4,16 +4,14 @@ ghost use Rattle.pt_records.specs.Made.{meets_of};
 ghost use Rattle.pt_node.specs.View.{kept_of, count_of, outline_of};
 ghost use Rattle.pt_trees.specs.Start.{IsRunnable};
 ghost use Rattle.pt_trees.specs.Run.{IsRun, IsAffordable, IsDefined};
-ghost use Rattle.pt_going.specs.Going.{Going, last_after};
 ghost use Rattle.pt_run.specs.Ran.{IsCount};
 
 use crate::reactions::run_reactions;
-use crate::turn::{ORIGIN, Turn, end_told, next_turn, past_limit};
 use pt_firing::{Answer, Inputs};
-use pt_going::run_blocks;
+use pt_going::{last_after, run_ahead};
+use pt_next::{Turn, end_told, next_turn, past_limit};
 use pt_node::Node;
 use pt_seq::fire_within;
-use pt_time::Tag;
 use pt_trees::{Ended, Top};
 use std::alloc::{AllocError, Global};
 
@@ -98,25 +96,4 @@ fn run_within(
         last = Some(firing.tag);
     }
     Ok(Ended::Spent(budget))
-}
-
-/// Makes the firings of the top that can be made several at once, before all others: blocks of iterations of an SDF top without inputs. Answers how many were made.
-fn run_ahead(alloc: Global, top: &mut Node, job: &Top, left: &mut u64) -> Result<u64, AllocError>
-    requires { IsRunnable job.now (shown_node top.old) }
-    ensures going { IfOk result (λ fired. Going job.now (shown_node top.old) left.old fired (last_after fired) (shown_node top.new) left.new) }
-    ensures outline { outline_of (shown_node top.new) ≡ outline_of (shown_node top.old) }
-{
-    match job {
-        Top::Sdf(iterations) if iterations.inputs.is_empty() => {
-            run_blocks(alloc, top, iterations, left)
-        }
-        _ => Ok(0),
-    }
-}
-
-/// The tag of the last of so many firings that were made ahead.
-fn last_after(fired: u64) -> Option<Tag>
-    ensures { result ≡ last_after fired }
-{
-    if fired > 0 { Some(ORIGIN) } else { None }
 }

@@ -6,11 +6,11 @@ use Rattle.pt_node.specs.View.{node_of, kept_of}
 use Rattle.pt_agenda.specs.Turn.{turn_of}
 use Rattle.pt_trees.specs.declared.ended.Ended.TheVariants as ended
 use Rattle.pt_trees.specs.declared.top.Top.TheVariants.{De}
-use Rattle.pt_run.specs.declared.turn.End.TheVariants as end
+use Rattle.pt_next.specs.declared.turn.End.TheVariants as end
 use Rattle.pt_going.specs.Going.{Going}
 use Rattle.pt_going.proofs.Beginning.{begins}
-use Rattle.pt_run.proofs.Completing.{completes, ends-defined, ends-spent, ends-past, takes-inputs, ends-fault, ends-full, ends-within, falls, goes-on, its-own}
-use Rattle.pt_run.proofs.AloneTurns.{reaction-turn, reaction-fires}
+use Rattle.pt_going.proofs.Completing.{completes, ends-defined, ends-spent, ends-past, takes-inputs, ends-fault, ends-full, ends-within, falls, goes-on, its-own}
+use Rattle.pt_next.proofs.AloneTurns.{reaction-turn, reaction-fires}
 use Rattle.pt_run.proofs.reactions.run_reactions.Goals as goal
 
 -- the whole budget is left

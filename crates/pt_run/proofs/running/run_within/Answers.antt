@@ -7,8 +7,8 @@ use Rattle.pt_trees.specs.declared.ended.Ended.{Ended}
 use Rattle.pt_trees.specs.declared.ended.Ended.TheVariants as ended
 use Rattle.pt_trees.specs.Run.{schedule, IsRun, IsDefined}
 use Rattle.pt_going.specs.Going.{Going, last_after}
-use Rattle.pt_run.specs.Turn.{ended_by}
-use Rattle.pt_run.proofs.Completing.{completes, turn-fires, turn-ends, turn-past, whole, ends-defined, ends-spent, ends-past, takes-inputs, ends-fault, ends-full, ends-within, falls, goes-on, its-own}
+use Rattle.pt_next.specs.Turn.{ended_by}
+use Rattle.pt_going.proofs.Completing.{completes, turn-fires, turn-ends, turn-past, whole, ends-defined, ends-spent, ends-past, takes-inputs, ends-fault, ends-full, ends-within, falls, goes-on, its-own}
 use Rattle.pt_run.proofs.running.run_within.Goals as goal
 
 -- so far it has come by the firings that were made ahead

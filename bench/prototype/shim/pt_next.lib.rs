@@ -1,0 +1,2 @@
+mod turn;
+pub use turn::past_limit;

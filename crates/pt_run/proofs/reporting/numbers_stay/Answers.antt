@@ -1,5 +1,0 @@
-use Rattle.pt_run.proofs.Gathering.{numbers_stay}
-use Rattle.pt_run.proofs.reporting.numbers_stay.Goals as goal
-
-pub returns : goal.returns
-returns c = numbers_stay

@@ -1,5 +1,0 @@
-use Rattle.pt_run.proofs.Portions.{Portioned}
-use Rattle.pt_run.proofs.sdf.portions.Given as goal
-
-abbrev pub invariant-loop-place : goal.invariant-loop-place
-invariant-loop-place l = Portioned l.iteration l.job.takes l.job.inputs.items l.place l.lists.items

@@ -1,5 +1,0 @@
-use Rattle.pt_run.proofs.Ticks.{Ticked}
-use Rattle.pt_run.proofs.sr.tokens_at.Given as goal
-
-abbrev pub invariant-loop-input : goal.invariant-loop-input
-invariant-loop-input l = Ticked l.tick l.inputs l.input-index l.lists.items
