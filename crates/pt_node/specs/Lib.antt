@@ -4,6 +4,7 @@ pub mod View
 pub mod Live
 pub mod Reset
 pub mod Firing
+pub mod Told
 pub mod Stuck
 pub mod Full
 pub mod Unmet

@@ -1,3 +1,1 @@
-pub mod Stretching
-pub mod Together
 pub mod Moving

@@ -1,19 +1,16 @@
--- Gets and puts that a director makes one after another, and what comes after them.
+-- Gets and puts that a director makes one after another.
 use Rattle.std.proofs.Common.{◌≡◌, ℕ, ◌≤◌, List, [], ◌∷◌, Option, refl, sym, ap, subst, arith}
 use Rattle.pt_meaning.specs.Basics.{Tag, Streams}
 use Rattle.pt_meaning.specs.Log.{Meeting}
 use Rattle.pt_value.specs.declared.token.Token.{Token}
 use Rattle.pt_firing.specs.declared.ask.Ask.{Ask}
 use Rattle.pt_firing.specs.declared.ask.Ask.TheVariants as ask
-use Rattle.pt_core.specs.Acts.{Calls, Acts}
+use Rattle.pt_core.specs.Acts.{Acts}
 use Rattle.pt_core.specs.Met.{met_after}
 use Rattle.pt_core.specs.Lawful.{Lawful, IsMove}
 use Rattle.pt_library.specs.LibraryActor.{rows}
 use Rattle.pt_node.specs.Shown.{Shown}
-use Rattle.pt_pn_laws.specs.PnActs as pn
-use Rattle.pt_pn_laws.specs.PnActs.{pn_calls}
-use Rattle.pt_directors.specs.Directors.{director_calls, of_pn}
-use Rattle.pt_pn.specs.Moves.{IsTransfer, MovesBy, Moves, ComesOn}
+use Rattle.pt_pn.specs.Moves.{IsTransfer, MovesBy, Moves}
 use Rattle.pt_turns.specs.Between.{At}
 use Rattle.pt_turns.specs.OwnMeetings.{OwnMeetings}
 use Rattle.pt_turns.proofs.Firing.{at-moved, move-lessens}
@@ -60,23 +57,3 @@ module _ {D : Type 0} (a : Acts rows D) (law : Lawful a) {before : D} {olds : Li
 
   pub moves-lessen : {s t : D} → Moves a.calls s t → At a before olds tag X allowance own s now left → a.calls.waits t ≤ a.calls.waits s
   moves-lessen {s} {t} m at = (moved-by m.moves s t m.made at).1
-
--- without a move before it
-pub at-once : {D : Type 0} (c : Calls D) (s t : D) (answer : Ask) → c.Gives s answer → t ≡ c.asking answer s → ComesOn c s answer t
-at-once c s t answer g e = record { mid = s; moved = record { moves = []; made = refl }; gives = g; state = e }
-
--- those of a network are those of its director
-asked-as-pn : (answer : Ask) (s : pn.State) → director_calls.asking answer (of_pn s) ≡ of_pn (pn_calls.asking answer s)
-asked-as-pn answer s = refl
-
-pn-moved-by : (moves : List Ask) (s t : pn.State) → MovesBy pn_calls moves s t → MovesBy director_calls moves (of_pn s) (of_pn t)
-pn-moved-by [] s t e = ap of_pn e
-pn-moved-by (next ∷ more) s t m = (m.0, m.1, subst (λ v. MovesBy director_calls more v (of_pn t)) (sym (asked-as-pn next s)) (pn-moved-by more (pn_calls.asking next s) t m.2))
-
-pub pn-comes : (s t : pn.State) (answer : Ask) → ComesOn pn_calls s answer t → ComesOn director_calls (of_pn s) answer (of_pn t)
-pn-comes s t answer c = record {
-  mid = of_pn c.mid;
-  moved = record { moves = c.moved.moves; made = pn-moved-by c.moved.moves s c.mid c.moved.made };
-  gives = c.gives;
-  state = ap of_pn c.state;
-}

@@ -1,2 +1,1 @@
 pub mod Quick
-pub mod Stretches

@@ -10,10 +10,10 @@ ghost use Rattle.pt_node.specs.Shown.{Shown, shown};
 ghost use Rattle.pt_turns.specs.Between.{At, Between, Halts, IsUnderWayWith, Rested};
 ghost use Rattle.pt_turns.specs.OwnMeetings.{own_of};
 
-use crate::number_core::NumberCore;
 use crate::numbers::{Quick, turn_with_records};
 use pt_firing::Ask;
 use pt_node::Node;
+use pt_number_cores::NumberCore;
 use pt_past::MeetingRecord;
 use pt_rv::Core;
 use pt_turns::Rest;

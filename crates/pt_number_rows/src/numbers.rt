@@ -13,9 +13,9 @@ ghost use Rattle.pt_turns.specs.Between.{At, IsUnderWay, Between, Rested};
 ghost use Rattle.pt_turns.specs.OwnMeetings.{OwnMeetings};
 ghost use Rattle.pt_number_rows.specs.Quick.{QuickTo, QuickSpends};
 
-use crate::number_core::NumberCore;
 use pt_firing::Ask;
 use pt_node::{Body, Node};
+use pt_number_cores::NumberCore;
 use pt_time::Tag;
 use pt_turns::Rest;
 use std::alloc::Global;

@@ -2,5 +2,6 @@
 #![tactic(auto)]
 
 mod pause;
+mod stretches;
 
 pub use pause::{Pause, fire_row, first_row, settle};

@@ -15,12 +15,13 @@ ghost use Rattle.pt_turns.specs.Between.{At, IsUnderWay, IsUnderWayWith, IsAsked
 ghost use Rattle.pt_turns.specs.OwnMeetings.{OwnMeetings, own_of};
 ghost use Rattle.pt_pause.specs.Paused.{Paused, Heeded};
 
+use crate::stretches::fire_stretches;
 use pt_core::{Core, Either};
 use pt_directors::Director;
 use pt_event_rows::{fire_events, first_reaction};
 use pt_firing::{Ask, Inputs, RunFault};
 use pt_node::Node;
-use pt_number_rows::{fire_meetings, fire_numbers, fire_stretches};
+use pt_number_rows::{fire_meetings, fire_numbers};
 use pt_past::MeetingRecord;
 use pt_time::Tag;
 use pt_turns::Rest;

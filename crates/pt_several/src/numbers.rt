@@ -6,8 +6,9 @@ ghost use Rattle.pt_node.specs.declared.node.Node.{out-Node};
 ghost use Rattle.pt_node.specs.Shown.{shown_node};
 ghost use Rattle.pt_node.specs.View.{outline_of, count_of};
 ghost use Rattle.pt_node.specs.Live.{IsFit, HasFired, IsReadyNode};
+ghost use Rattle.pt_node.specs.Told.{IsTold};
 ghost use Rattle.pt_turns.specs.Within.{SeveralTo};
-ghost use Rattle.pt_turns.specs.Turns.{TurnSpends, IsTold, TellTo};
+ghost use Rattle.pt_turns.specs.Turns.{TurnSpends, TellTo};
 
 use pt_core::{Core, Either};
 use pt_directors::Director;

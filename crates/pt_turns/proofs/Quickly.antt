@@ -15,10 +15,11 @@ use Rattle.pt_past.specs.Recorded.{RecordedPort, noting}
 use Rattle.pt_node.specs.Shown.{Shown, Branch, Frame}
 use Rattle.pt_node.specs.Firing as firing
 use Rattle.pt_node.specs.View.{Tree, node_of, kept_of}
+use Rattle.pt_node.specs.Told.{IsTold}
 use Rattle.pt_node.proofs.OutlineLaws.{outline_bare}
 use Rattle.pt_turns.specs.declared.turn.Turn.TheVariants as turn
 use Rattle.pt_turns.specs.Within.{outcome, fired, Gave, Given, made_of}
-use Rattle.pt_turns.specs.Turns.{ChildFired, IsTold}
+use Rattle.pt_turns.specs.Turns.{ChildFired}
 use Rattle.pt_turns.proofs.Recording.{kept-bare, count-bare, fit-bare}
 use Rattle.pt_turns.proofs.Turning.{turn-told}
 

@@ -21,11 +21,12 @@ use Rattle.pt_node.specs.Shown.{Shown, Branch}
 use Rattle.pt_node.specs.Firing as firing
 use Rattle.pt_node.specs.View.{Tree, Trees, node_of, nodes_of, node_with, kept_of, outline_of, text_at}
 use Rattle.pt_node.specs.Live.{IsFit, HasFired}
+use Rattle.pt_node.specs.Told.{IsTold}
 use Rattle.pt_turns.specs.declared.within.Within.TheVariants.{Done, Fault, Full}
 use Rattle.pt_turns.specs.declared.turn.Turn.{Turn}
 use Rattle.pt_turns.specs.declared.turn.Turn.TheVariants as turn
 use Rattle.pt_turns.specs.Within.{outcome, IsLeftOff, fired, IsStuck, IsFull, WithinTo, path_of, made_of}
-use Rattle.pt_turns.specs.Turns.{IsTold, TurnTo, TellTo, TurnSpends, RefusesTo}
+use Rattle.pt_turns.specs.Turns.{TurnTo, TellTo, TurnSpends, RefusesTo}
 use Rattle.pt_turns.proofs.Recording.{made-within, made-recorded, off-done, step-fires, fit-recorded, kept-bare, text-own, made-own}
 
 pub turn-off : (old after : Shown) (tag : Tag) (X Y : Streams Token) → X ≡ Y → ((m : Meets) → AreMade m (kept_of after) → IsLeftOff m (node_of old) tag X (kept_of old) (kept_of after)) → (m : Meets) → AreMade m (kept_of after) → IsLeftOff m (node_of old) tag Y (kept_of old) (kept_of after)

@@ -22,10 +22,6 @@ use Rattle.pt_turns.specs.declared.turn.Turn.TheVariants as turn
 use Rattle.pt_turns.specs.Within.{outcome, IsLeftOff, IsStuck, IsFull, path_of, made_of}
 
 module _ {D : Type 0} (c : Calls D) where
-  -- it was told what child i gave, with the wake and the need that the child has once its firing is recorded, at whatever tag
-  abbrev pub IsTold : D → Shown → ℕ → Streams Token → D → Type 0
-  IsTold s child i out s' = (tag : Tag) → let after = node_of (recorded tag child) in s' ≡ c.told i out (next_of rows after) (need_of rows after) s
-
   -- child i, that was asked for, has fired and its firing is recorded: the director was told what it gave and which wake and need it has then, and accepts that
   pub record ChildFired (s : D) (child : Shown) (i : ℕ) (tag : Tag) (s' : D) (after : Shown) : Type 0 where
     pub out : Streams Token

@@ -2,7 +2,7 @@ ghost use Rattle.std.specs.Prelude.{◌≡◌, [], ◌∷◌, Some, OnOk, OnErr,
 ghost use Rattle.pt_value.specs.declared.token.Token.TheVariants.{Int};
 ghost use Rattle.pt_node.specs.Shown.{shown_node};
 ghost use Rattle.pt_node.specs.Live.{IsReadyNode};
-ghost use Rattle.pt_turns.specs.Turns.{IsTold};
+ghost use Rattle.pt_node.specs.Told.{IsTold};
 
 use pt_core::Core;
 use pt_firing::{Outputs, Tokens};

@@ -7,10 +7,10 @@ use Rattle.pt_directors.specs.Directors.{Director, director_calls}
 use Rattle.pt_node.specs.Firing.{noted, recorded}
 use Rattle.pt_node.specs.Shown.{Shown, shown_node}
 use Rattle.pt_node.specs.View.{node_of, outline_of}
+use Rattle.pt_node.specs.Told.{IsTold}
 use Rattle.pt_node.proofs.OutlineLaws.{outline_bare, outline_recorded}
 use Rattle.pt_turns.specs.declared.turn.Turn.TheVariants as turn
 use Rattle.pt_turns.specs.Within.{Given}
-use Rattle.pt_turns.specs.Turns.{IsTold}
 use Rattle.pt_turns.proofs.Answering.{if-ok}
 use Rattle.pt_turns.proofs.Quickly.{given-bare}
 use Rattle.pt_turns.proofs.Turning.{turn-told}

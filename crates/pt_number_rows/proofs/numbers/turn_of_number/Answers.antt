@@ -7,9 +7,9 @@ use Rattle.pt_directors.specs.Directors.{Director, director_calls}
 use Rattle.pt_node.specs.declared.node.Node.{out-Node}
 use Rattle.pt_node.specs.Shown.{shown_node}
 use Rattle.pt_node.specs.View.{outline_of}
+use Rattle.pt_node.specs.Told.{IsTold}
 use Rattle.pt_node.proofs.OutlineLaws.{outline_recorded}
 use Rattle.pt_turns.specs.Within.{Gave}
-use Rattle.pt_turns.specs.Turns.{IsTold}
 use Rattle.pt_turns.proofs.Quickly.{quickly-fired, records-in}
 use Rattle.pt_number_rows.proofs.numbers.turn_of_number.Goals as goal
 

@@ -6,8 +6,8 @@ use Rattle.pt_directors.specs.Directors.{director_calls}
 use Rattle.pt_node.specs.Firing.{noted, recorded}
 use Rattle.pt_node.specs.Shown.{shown_node}
 use Rattle.pt_node.specs.View.{node_of, outline_of}
+use Rattle.pt_node.specs.Told.{IsTold}
 use Rattle.pt_node.proofs.OutlineLaws.{outline_bare, outline_recorded}
-use Rattle.pt_turns.specs.Turns.{IsTold}
 use Rattle.pt_turns.proofs.Acting.{acts-law}
 use Rattle.pt_turns.proofs.Answering.{if-ok}
 use Rattle.pt_turns.proofs.Loop.{on-ok, on-err}

@@ -1,5 +1,0 @@
-use Rattle.pt_number_rows.proofs.Stretching.{rows-go-on}
-use Rattle.pt_number_rows.proofs.rows.rows_go_on.Goals as goal
-
-pub returns : goal.returns
-returns c = rows-go-on
