@@ -2,3 +2,4 @@ mod Numbered
 mod Entities
 mod Counted
 mod Sayable
+pub mod Texts

@@ -2,5 +2,7 @@
 #![tactic(auto)]
 
 mod document;
+mod text;
 
 pub use document::{document_of_generated, generated_jobs_are_sayable};
+pub use text::generated_document;

@@ -5,19 +5,17 @@ use Rattle.pt_document.specs.Document.{JobTree}
 use Rattle.pt_moml.specs.Reading.{IsJobOf}
 use Rattle.pt_document.specs.declared.code.Code.TheVariants as code
 use Rattle.pt_moml.specs.Stands as reading
-use Rattle.pt_write.specs.Text.{document_text}
-use Rattle.pt_gen.specs.Generated.{generated}
 use Rattle.pt_net.specs.declared.net.Net.{Net}
 use Rattle.pt_net.specs.Net.{IsNetOf}
-use Rattle.pt_top.specs.declared.report.Reply.{Reply}
-use Rattle.pt_top.specs.declared.form.Form.{Form}
-use Rattle.pt_top.specs.declared.form.Form.TheVariants as form
-use Rattle.pt_top.specs.declared.status.Status.{Status}
-use Rattle.pt_top.specs.declared.status.Status.TheVariants.{Done, Words, Document, Fault, Budget, Read, Write, Memory, Queue, Length}
+use Rattle.pt_reply.specs.declared.reply.Reply.{Reply}
+use Rattle.pt_reply.specs.declared.form.Form.{Form}
+use Rattle.pt_reply.specs.declared.form.Form.TheVariants as form
+use Rattle.pt_reply.specs.declared.status.Status.{Status}
+use Rattle.pt_reply.specs.declared.status.Status.TheVariants.{Done, Words, Document, Fault, Budget, Read, Write, Memory, Queue, Length}
 use Rattle.pt_order.specs.Laws.{IsNetOfDocument}
 use Rattle.pt_model.proofs.TypedLaws.{models-keep-types}
 use Rattle.pt_top.specs.Reply.{IsReport, AnswersNet}
-use Rattle.pt_top.specs.Outcome.{in_links, in_net, IsReportOf, AnswersJob, AnswersAs, IsWellLinked, IsFaultless, IsDueFor, generated_text, limit}
+use Rattle.pt_top.specs.Outcome.{in_links, in_net, IsReportOf, AnswersJob, AnswersAs, IsWellLinked, IsFaultless, IsDueFor, limit}
 
 from-net : (f : Form) (job : JobTree) (net : Net) (budget : ℕ) → IsNetOf job net → IsWellLinked job → (s : Status) (text : List ℕ) → AnswersNet f net budget s text → AnswersJob f job budget s text
 from-net f job net budget n c Done text a = (net, n, c, a)
@@ -90,12 +88,3 @@ document-due budget bytes rose ended Length text l e a = absurd a
 -- not one byte more than the limit
 pub within-limit : (n : ℕ) → n ≤ 16777217 → (n ≡ 16777217 → ⊥) → n ≤ limit
 within-limit n most other = grind (arith)
-
--- the text of the generated document
-is-generated : (stages : ℕ) (text : List ℕ) → text ≡ document_text (generated stages) → text ≡ generated_text stages
-unfolding generated_text
-is-generated stages text e = e
-
-pub document-is-generated : {A : Type 0} (items : A → List ℕ) (stages : ℕ) (r : Result A AllocError) → IfOk r (λ a. items a ≡ document_text (generated stages)) → IfOk r (λ a. items a ≡ generated_text stages)
-document-is-generated items stages (Ok a) h = is-generated stages (items a) h
-document-is-generated items stages (Err e) h = tt

@@ -15,11 +15,12 @@ use Rattle.pt_typing.specs.Least.{Assignment}
 use Rattle.pt_node.specs.Shown.{Shown}
 use Rattle.pt_check.specs.Facts.{AreFacts, text_of}
 use Rattle.pt_model.specs.Checked.{AreFactsOf}
-use Rattle.pt_top.specs.declared.report.Reply.{Reply}
-use Rattle.pt_top.specs.declared.form.Form.TheVariants as form
-use Rattle.pt_top.specs.declared.status.Status.{Status}
-use Rattle.pt_top.specs.declared.status.Status.TheVariants.{Done, Words, Document, Fault, Budget, Read, Write, Memory, Queue, Length}
-use Rattle.pt_top.specs.Reply.{refusal_text, AnswersNet}
+use Rattle.pt_reply.specs.declared.reply.Reply.{Reply}
+use Rattle.pt_reply.specs.declared.form.Form.TheVariants as form
+use Rattle.pt_reply.specs.declared.status.Status.{Status}
+use Rattle.pt_reply.specs.declared.status.Status.TheVariants.{Done, Words, Document, Fault, Budget, Read, Write, Memory, Queue, Length}
+use Rattle.pt_reply.specs.Texts.{refusal_text}
+use Rattle.pt_top.specs.Reply.{AnswersNet}
 use Rattle.pt_top.specs.Check.{IsCheck, ChecksNet}
 use Rattle.pt_top.specs.Outcome.{in_net, HasNet, IsRefused, IsAccepted, IsWellLinked, IsReported, Checks, IsDueBy, limit}
 

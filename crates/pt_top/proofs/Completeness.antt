@@ -2,9 +2,10 @@
 use Rattle.std.proofs.Common.{◌≡◌, ◌⊎◌, inl, inr, ℕ, List, ◌++◌, Option, Some, None, ◌<◌, take, length, append-nil, sym, ap, subst, ◌∙◌}
 use Rattle.std.specs.Io.KnownBytes.{Appends, Consumes, IsAtEnd}
 use Rattle.pt_io.specs.Causes.{Rose}
-use Rattle.pt_top.specs.Outcome.{IsReported, Tells}
-use Rattle.pt_top.specs.declared.status.Status.{Status}
-use Rattle.pt_top.specs.declared.status.Status.TheVariants.{Write}
+use Rattle.pt_top.specs.Outcome.{IsReported}
+use Rattle.pt_reply.specs.declared.status.Status.{Status}
+use Rattle.pt_reply.specs.declared.status.Status.TheVariants.{Write}
+use Rattle.pt_reply.specs.Tells.{Tells}
 
 -- what was read to the end is all that the source had
 read-all : (left after : Option (List ℕ)) (read bytes : List ℕ) → Consumes left after read → left ≡ Some bytes → IsAtEnd after → read ≡ bytes

@@ -11,11 +11,12 @@ use Rattle.pt_trees.specs.Ports.{recorded_ports, told_of}
 use Rattle.pt_trees.specs.Report.{end_of}
 use Rattle.pt_elaboration.specs.Refused.{IsRefused}
 use Rattle.pt_trees.specs.declared.ended.Ended.TheVariants as ended
-use Rattle.pt_top.specs.declared.form.Form.{Form}
-use Rattle.pt_top.specs.declared.report.Reply.{Reply}
-use Rattle.pt_top.specs.declared.status.Status.{Status}
-use Rattle.pt_top.specs.declared.status.Status.TheVariants.{Done, Document}
-use Rattle.pt_top.specs.Reply.{refusal_text, status_of, report_of, IsReport, AnswersNet}
+use Rattle.pt_reply.specs.declared.form.Form.{Form}
+use Rattle.pt_reply.specs.declared.reply.Reply.{Reply}
+use Rattle.pt_reply.specs.declared.status.Status.{Status}
+use Rattle.pt_reply.specs.declared.status.Status.TheVariants.{Done, Document}
+use Rattle.pt_reply.specs.Texts.{refusal_text}
+use Rattle.pt_top.specs.Reply.{status_of, report_of, IsReport, AnswersNet}
 
 made : List Trace → List Meetings → RunEnd → Report
 made traces meetings end = record { traces = traces; meetings = meetings; end = end }

@@ -4,9 +4,10 @@ use Rattle.std.specs.Io.KnownBytes.{Appends, Consumes}
 use Rattle.pt_io.specs.Causes.{Rose}
 use Rattle.pt_words.specs.declared.line.Task.{Task}
 use Rattle.pt_words.specs.declared.line.Task.TheVariants.{Run, Check, Generate, Demonstrate}
-use Rattle.pt_top.specs.declared.status.Status.{Status}
-use Rattle.pt_top.specs.declared.status.Status.TheVariants.{Words, Read, Write, Memory}
-use Rattle.pt_top.specs.Outcome.{IsReported, IsDueForTask, for_run, for_check, for_generation, for_demonstration, IsDue, IsCompleteForTask, Tells}
+use Rattle.pt_reply.specs.declared.status.Status.{Status}
+use Rattle.pt_reply.specs.declared.status.Status.TheVariants.{Words, Read, Write, Memory}
+use Rattle.pt_reply.specs.Tells.{Tells}
+use Rattle.pt_top.specs.Outcome.{IsReported, IsDueForTask, for_run, for_check, for_generation, for_demonstration, IsDue, IsCompleteForTask}
 use Rattle.pt_top.proofs.Completeness.{told-due}
 
 pub nothing-taken : (left : Option (List ℕ)) → Consumes left left []

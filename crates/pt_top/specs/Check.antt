@@ -7,9 +7,9 @@ use Rattle.pt_trees.specs.declared.top.Top.{Top}
 use Rattle.pt_check.specs.Facts.{text_of}
 use Rattle.pt_model.specs.Model.{IsModel}
 use Rattle.pt_elaboration.specs.Refused as unmodelled
-use Rattle.pt_top.specs.Reply.{refusal_text}
-use Rattle.pt_top.specs.declared.status.Status.{Status}
-use Rattle.pt_top.specs.declared.status.Status.TheVariants.{Done, Document}
+use Rattle.pt_reply.specs.Texts.{refusal_text}
+use Rattle.pt_reply.specs.declared.status.Status.{Status}
+use Rattle.pt_reply.specs.declared.status.Status.TheVariants.{Done, Document}
 
 -- The check of a net: the types of its ports, and the repetitions and the depths in the tree that is its model.
 pub record IsCheck (net : Net) (text : List ℕ) : Type 0 where

@@ -1,7 +1,5 @@
 -- What a run of the program tells, and why.
-use Rattle.std.specs.Prelude.{◌≡◌, ◌⊎◌, ℕ, ◌+◌, ◌<◌, ◌≤◌, List, [], length, take, Option, Some, codes}
-use Rattle.std.specs.Io.KnownBytes.{Appends}
-use Rattle.pt_io.specs.Causes.{Rose}
+use Rattle.std.specs.Prelude.{◌≡◌, ◌⊎◌, ℕ, ◌+◌, ◌≤◌, List, [], length, Option, Some, codes}
 use Rattle.pt_words.specs.declared.line.Line.{Line}
 use Rattle.pt_words.specs.declared.line.Task.{Task}
 use Rattle.pt_words.specs.declared.line.Task.TheVariants.{Run, Check, Generate, Demonstrate}
@@ -11,20 +9,20 @@ use Rattle.pt_document.specs.declared.code.Code.{Code}
 use Rattle.pt_document.specs.Document.{JobTree}
 use Rattle.pt_moml.specs.Reading.{IsJobOf}
 use Rattle.pt_moml.specs.Stands as reading
-use Rattle.pt_write.specs.Text.{document_text}
-use Rattle.pt_gen.specs.Generated.{generated}
+use Rattle.pt_reply.specs.declared.form.Form.{Form}
+use Rattle.pt_reply.specs.declared.form.Form.TheVariants as form
+use Rattle.pt_reply.specs.declared.status.Status.{Status}
+use Rattle.pt_reply.specs.declared.status.Status.TheVariants as status
+use Rattle.pt_reply.specs.declared.status.Status.TheVariants.{Done, Document, Fault, Budget, Read, Memory, Queue, Length}
+use Rattle.pt_reply.specs.Texts.{line, refusal_text}
+use Rattle.pt_generated.specs.Text.{generated_text}
 use Rattle.pt_net.specs.declared.net.Net.{Net}
 use Rattle.pt_net.specs.Net.{IsNetOf}
 use Rattle.pt_net.specs.Stands as linking
 use Rattle.pt_elaboration.specs.Refused as unmodelled
 use Rattle.pt_model.specs.Typed.{KeepsTypes}
-use Rattle.pt_top.specs.Reply.{line, refusal_text, IsReport, IsAffordableNet}
+use Rattle.pt_top.specs.Reply.{IsReport, IsAffordableNet}
 use Rattle.pt_top.specs.Check.{IsCheck}
-use Rattle.pt_top.specs.declared.form.Form.{Form}
-use Rattle.pt_top.specs.declared.form.Form.TheVariants as form
-use Rattle.pt_top.specs.declared.status.Status.{Status}
-use Rattle.pt_top.specs.declared.status.Status.TheVariants as status
-use Rattle.pt_top.specs.declared.status.Status.TheVariants.{Done, Document, Fault, Budget, Read, Write, Memory, Queue, Length}
 
 -- ---- documents
 
@@ -120,10 +118,6 @@ IsDueBy Answers bytes rose ended _ text = ⊥
 abbrev pub IsDueFor : (budget : ℕ) → List ℕ → (rose ended : Type 0) → Status → List ℕ → Type 0
 IsDueFor budget bytes rose ended s text = IsDueBy (AnswersAs form.Report bytes budget) bytes rose ended s text
 
--- the document of the generated job of so many stages
-unfoldable pub generated_text : (stages : ℕ) → List ℕ
-generated_text stages = document_text (generated stages)
-
 -- the generated document is written, or memory ran out
 abbrev pub IsGenerated : (stages : ℕ) → Status → List ℕ → Type 0
 IsGenerated stages Done text = text ≡ generated_text stages
@@ -159,11 +153,6 @@ Reads _ = ⊥
 -- the words are a line that reads a document
 abbrev pub DoRead : List (List ℕ) → Type 0
 DoRead words = (l : Line) × IsLineFor words l × Reads l.task
-
--- The text went out whole and its status was told, or a write failed behind a part of it.
-pub record Tells (before after : ℕ) (old new : Option (List ℕ)) (due : Status) (text : List ℕ) (told : Status) : Type 0 where
-  pub later : before ≤ after
-  pub written : ((told ≡ due) × Appends old new text) ⊎ ((told ≡ Write) × Rose before after × (n : ℕ) × (n < length text) × Appends old new (take n text))
 
 -- No device failed, so with a document of this kind the task is done to its end, or memory ran out.
 abbrev pub IsCompleteWhere : (IsGood : List ℕ → Type 0) → (left : Option (List ℕ)) → (read_rose written_rose : Type 0) → Status → Type 0

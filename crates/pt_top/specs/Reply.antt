@@ -1,13 +1,14 @@
 -- What is answered to a net: a run of its model, told by its report or by a summary, or the line of a refusal.
-use Rattle.std.specs.Prelude.{◌≡◌, ℕ, List, [], ◌∷◌, ◌++◌, length, All, codes, decimal}
+use Rattle.std.specs.Prelude.{◌≡◌, ℕ, List, length, All}
 use Rattle.pt_meaning.specs.Meetings.{Meets}
 use Rattle.pt_document.specs.declared.refusal.Refusal.{Refusal}
-use Rattle.pt_document.specs.Codes.{code_number, code_name}
 use Rattle.pt_net.specs.declared.net.Net.{Net}
 use Rattle.pt_trace.specs.Report.{Meetings, Report}
-use Rattle.pt_trace.specs.ReportText.{report_text}
-use Rattle.pt_trace.specs.SummaryText.{summary_text}
 use Rattle.pt_trace.specs.ReportForm.{AreMeetings}
+use Rattle.pt_reply.specs.declared.form.Form.{Form}
+use Rattle.pt_reply.specs.declared.status.Status.{Status}
+use Rattle.pt_reply.specs.declared.status.Status.TheVariants.{Done, Document, Fault, Budget, Queue}
+use Rattle.pt_reply.specs.Texts.{refusal_text, text_in}
 use Rattle.pt_node.specs.Shown.{Shown}
 use Rattle.pt_node.specs.View.{outline_of}
 use Rattle.pt_trees.specs.declared.top.Top.{Top}
@@ -21,17 +22,6 @@ use Rattle.pt_meetings.specs.Laws.{AreListed}
 use Rattle.pt_run.specs.Ran.{IsCount}
 use Rattle.pt_model.specs.Model.{IsModel}
 use Rattle.pt_elaboration.specs.Refused as unmodelled
-use Rattle.pt_top.specs.declared.form.Form.{Form}
-use Rattle.pt_top.specs.declared.form.Form.TheVariants as form
-use Rattle.pt_top.specs.declared.status.Status.{Status}
-use Rattle.pt_top.specs.declared.status.Status.TheVariants.{Done, Document, Fault, Budget, Queue}
-
-abbrev pub line : List ℕ → List ℕ
-line text = text ++ 10 ∷ []
-
--- the line of a refusal: its code's number and name, and the path at which it stands
-abbrev pub refusal_text : Refusal → List ℕ
-refusal_text r = codes "refused " ++ (decimal (code_number r.code) ++ (codes " " ++ (code_name r.code ++ (codes " " ++ line r.path))))
 
 -- the status of a run by how it ended
 abbrev pub status_of : Ended → Status
@@ -47,15 +37,6 @@ status_of (ended.Spent firings) = Budget
 -- what a tree has recorded of the ports that the net records, in the order of the document, these meetings, and how the run ended
 abbrev pub report_of : Net → List Meetings → Shown → Ended → Report
 report_of net meetings top e = record { traces = told_of (recorded_ports (length net.recorded.items) top); meetings = meetings; end = end_of e }
-
--- a report with other lists of meetings
-abbrev pub with_meetings : Report → List Meetings → Report
-with_meetings report meetings = record { traces = report.traces; meetings = meetings; end = report.end }
-
--- what is written of a run that made so many firings and has this report: the report, or a summary of it
-abbrev pub text_in : Form → (firings : ℕ) → Report → List ℕ
-text_in form.Report firings report = report_text report
-text_in form.Summary firings report = summary_text firings report
 
 -- A run of the model of a net within a budget, with its status and what is written of it. It is a run under the meetings that the lines of its report tell.
 pub record IsReport (form : Form) (net : Net) (budget : ℕ) (status : Status) (text : List ℕ) : Type 0 where

@@ -4,15 +4,15 @@ ghost use Rattle.pt_document.specs.View.{job_view};
 ghost use Rattle.pt_moml.specs.Reading.{IsJobOf};
 ghost use Rattle.pt_net.specs.declared.net.Net.{Net};
 ghost use Rattle.pt_net.specs.Net.{IsNetOf};
-ghost use Rattle.pt_top.specs.declared.status.Status.TheVariants.{Done, Document};
+ghost use Rattle.pt_reply.specs.declared.status.Status.TheVariants.{Done, Document};
 ghost use Rattle.pt_top.specs.Reply.{IsAffordableNet};
 ghost use Rattle.pt_top.specs.Outcome.{AnswersAs, AnswersJob, IsWellLinked, IsFaultless};
 
-use crate::form::Form;
-use crate::report::{Reply, refuse, reply_to_net};
+use crate::report::reply_to_net;
 use pt_document::{DocFault, Job};
 use pt_graph::flatten;
 use pt_moml::read;
+use pt_reply::{Form, Reply, refuse};
 use std::alloc::{AllocError, Global};
 use std::mem::ManuallyDrop;
 

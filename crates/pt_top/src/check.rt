@@ -2,19 +2,19 @@
 ghost use Rattle.std.specs.Prelude.{List, ℕ, IfOk};
 ghost use Rattle.std.specs.Io.KnownBytes.{Consumes, IsAtEnd};
 ghost use Rattle.pt_io.specs.Causes.{Rose};
+ghost use Rattle.pt_reply.specs.declared.status.Status.{Status};
+ghost use Rattle.pt_reply.specs.Tells.{Tells};
 ghost use Rattle.pt_document.specs.View.{job_view};
 ghost use Rattle.pt_moml.specs.Reading.{IsJobOf};
 ghost use Rattle.pt_moml.specs.Stands.{IsClean};
 ghost use Rattle.pt_net.specs.declared.net.Net.{Net};
 ghost use Rattle.pt_order.specs.Laws.{IsNetOfDocument};
 ghost use Rattle.pt_model.specs.Checked.{AreFactsOf};
-ghost use Rattle.pt_top.specs.declared.status.Status.{Status};
 ghost use Rattle.pt_top.specs.Check.{ChecksNet};
-ghost use Rattle.pt_top.specs.Outcome.{Checks, IsAccepted, IsDueBy, IsCompleteWhere, Tells};
+ghost use Rattle.pt_top.specs.Outcome.{Checks, IsAccepted, IsDueBy, IsCompleteWhere};
 
-use crate::report::{Reply, answer_fault, refuse};
-use crate::run::{LIMIT, finish};
-use crate::status::Status;
+use crate::report::answer_fault;
+use crate::run::LIMIT;
 use pt_document::{DocFault, Job};
 use pt_facts::{Facts, check_text};
 use pt_graph::flatten;
@@ -22,6 +22,7 @@ use pt_io::{ReadAll, Sink, Source, read_all};
 use pt_model::check_net;
 use pt_moml::read;
 use pt_net::Net;
+use pt_reply::{Reply, Status, finish, refuse};
 use std::alloc::{AllocError, Global};
 
 /// The answer that tells these facts.

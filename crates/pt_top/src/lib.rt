@@ -3,11 +3,9 @@
 
 mod answer;
 mod check;
-mod form;
 mod generated;
 mod report;
 mod run;
-mod status;
 
+pub use pt_reply::Status;
 pub use run::run_program;
-pub use status::Status;

@@ -1,9 +1,7 @@
 // What is answered to a net.
-ghost use Rattle.std.specs.Prelude.{◌≡◌, ◌⊎◌, ◌<◌, ℕ, List, [], length, flat_map, IfOk};
-ghost use Rattle.pt_trace.specs.Report.{Meetings};
-ghost use Rattle.pt_trace.specs.EndText.{end_text};
-ghost use Rattle.pt_trace.specs.MeetingText.{meetings_text};
-ghost use Rattle.pt_trace.specs.ReportText.{report_text};
+ghost use Rattle.std.specs.Prelude.{◌≡◌, ◌⊎◌, ◌<◌, ℕ, length, IfOk};
+ghost use Rattle.pt_reply.specs.declared.form.Form.{Form};
+ghost use Rattle.pt_reply.specs.declared.status.Status.TheVariants.{Done, Document};
 ghost use Rattle.pt_order.specs.Laws.{IsNetOfDocument};
 ghost use Rattle.pt_node.specs.Shown.{shown_node};
 ghost use Rattle.pt_trees.specs.Start.{IsRunnable};
@@ -12,45 +10,20 @@ ghost use Rattle.pt_trees.specs.Run.{IsAffordable};
 ghost use Rattle.pt_net.specs.declared.net.Net.{Net};
 ghost use Rattle.pt_elaboration.specs.Refused.{FaultStands};
 ghost use Rattle.pt_model.specs.Model.{IsModel};
-ghost use Rattle.pt_top.specs.declared.form.Form.{Form};
-ghost use Rattle.pt_top.specs.declared.status.Status.TheVariants.{Done, Document};
 ghost use Rattle.pt_top.specs.Reply as reply;
-ghost use Rattle.pt_top.specs.Reply.{refusal_text, text_in, with_meetings, IsReport, AnswersNet, IsAffordableNet};
+ghost use Rattle.pt_top.specs.Reply.{IsReport, AnswersNet, IsAffordableNet};
 
-use crate::form::Form;
-use crate::status::Status;
-use pt_document::{DocFault, Refusal};
+use pt_document::DocFault;
 use pt_meetings::write_meetings_of;
 use pt_model::{Model, model_of};
 use pt_net::Net;
 use pt_node::Node;
+use pt_reply::{Form, Reply, Status, refuse, told_in};
 use pt_reporting::{numbers_stay, report};
 use pt_run::run;
-use pt_trace::{Report, summary, text};
 use pt_trees::{Ended, Top};
 use std::alloc::{AllocError, Global};
 use std::mem::ManuallyDrop;
-
-/// A status, and the text that goes with it.
-#[derive(Drop)]
-pub struct Reply {
-    pub status: Status,
-    pub text: Vec<u8>,
-}
-
-/// The answer that refuses a document.
-pub fn refuse(alloc: Global, refusal: &Refusal) -> Result<Reply, AllocError>
-    ensures { IfOk result (λ r. (r.status ≡ Document) × (r.text.items ≡ refusal_text refusal.now)) }
-{
-    let code = refusal.code.number();
-    let name = refusal.code.name();
-    let path = refusal.path.as_str();
-    let line = format!(in alloc; "refused {code} {name} {path}\n")?;
-    Ok(Reply {
-        status: Status::Document,
-        text: line.into_bytes(),
-    })
-}
 
 fn status_of(ended: &Ended) -> Status
     ensures { result ≡ reply.status_of ended.now }
@@ -64,48 +37,6 @@ fn status_of(ended: &Ended) -> Status
         Ended::Fault(_) => Status::Fault,
         Ended::Full(_) => Status::Queue,
         Ended::Spent(_) => Status::Budget,
-    }
-}
-
-/// The text of how a run ended, behind all else in a report.
-fn end_of(alloc: Global, report: Report) -> Result<Vec<u8>, AllocError>
-    ensures { IfOk result (λ bytes. bytes.items ≡ end_text report.end) }
-{
-    let last = Report {
-        traces: Vec::new(alloc),
-        meetings: Vec::new(alloc),
-        end: report.end,
-    };
-    text(alloc, &last)
-}
-
-/// The text of a report with these lists of meetings, whose text stands before the end.
-fn text_with(alloc: Global, report: Report, lists: &[u8]) -> Result<Vec<u8>, AllocError>
-    requires { report.meetings ≡ [] }
-    ensures { IfOk result (λ bytes. (meetings : List Meetings) → lists.now ≡ flat_map meetings_text meetings → bytes.items ≡ report_text (with_meetings report meetings)) }
-{
-    let mut out = text(alloc, &report)?;
-    let end = end_of(alloc, report)?;
-    out.truncate(out.len() - end.len());
-    out.extend_from_slice(lists)?;
-    out.extend_from_slice(&end)?;
-    Ok(out)
-}
-
-/// What is written of a run that made so many firings and has this report with these lists of meetings.
-fn told_in(
-    alloc: Global,
-    form: Form,
-    report: Report,
-    lists: &[u8],
-    firings: u64,
-) -> Result<Vec<u8>, AllocError>
-    requires { report.meetings ≡ [] }
-    ensures { IfOk result (λ bytes. (meetings : List Meetings) → lists.now ≡ flat_map meetings_text meetings → bytes.items ≡ text_in form firings (with_meetings report meetings)) }
-{
-    match form {
-        Form::Report => text_with(alloc, report, lists),
-        Form::Summary => summary(alloc, &report, firings),
     }
 }
 

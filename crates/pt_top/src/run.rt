@@ -2,17 +2,19 @@ ghost use Rattle.std.specs.Prelude.{◌≡◌, ◌<◌, ◌≤◌, List, ℕ, ma
 ghost use Rattle.std.specs.Io.KnownBytes.{Consumes, IsAtEnd};
 ghost use Rattle.pt_io.specs.Causes.{Rose};
 ghost use Rattle.pt_words.specs.Parts.{IsWithin};
-ghost use Rattle.pt_top.specs.declared.form.Form.TheVariants as form;
-ghost use Rattle.pt_top.specs.declared.status.Status.{Status};
-ghost use Rattle.pt_top.specs.Outcome.{AnswersAs, IsFaultless, IsReported, IsGenerated, IsDueFor, IsDueForTask, IsDue, Tells, IsCompleteFor, IsCompleteForTask, IsComplete, Reads, DoRead, generated_text};
+ghost use Rattle.pt_reply.specs.declared.form.Form.TheVariants as form;
+ghost use Rattle.pt_reply.specs.declared.status.Status.{Status};
+ghost use Rattle.pt_reply.specs.Tells.{Tells};
+ghost use Rattle.pt_generated.specs.Text.{generated_text};
+ghost use Rattle.pt_top.specs.Outcome.{AnswersAs, IsFaultless, IsReported, IsGenerated, IsDueFor, IsDueForTask, IsDue, IsCompleteFor, IsCompleteForTask, IsComplete, Reads, DoRead};
 
 use crate::answer::answer;
 use crate::check::check_document;
-use crate::form::Form;
-use crate::generated::{demonstration, generated_document};
-use crate::status::Status;
+use crate::generated::demonstration;
 use pt_firing::Gate;
-use pt_io::{ReadAll, Sink, Source, read_all, write_all};
+use pt_generated::generated_document;
+use pt_io::{ReadAll, Sink, Source, read_all};
+use pt_reply::{Form, Status, finish};
 use pt_words::{Line, Task, WordsFault, lines_are_within, read, words_are_one_line};
 use std::alloc::Global;
 use std::sync::Wait;
@@ -20,16 +22,6 @@ use std::thread::Threads;
 
 /// Documents have at most this many bytes.
 pub(crate) const LIMIT: usize = 16_777_216;
-
-/// Writes the text that is due, and tells its status.
-pub(crate) fn finish<K: Sink>(sink: &mut K, status: Status, text: &[u8]) -> Status
-    ensures { Tells (K.faults sink.old) (K.faults sink.new) (K.taken sink.old) (K.taken sink.new) status text.now result }
-{
-    match write_all(sink, text) {
-        Ok(()) => status,
-        Err(_) => Status::Write,
-    }
-}
 
 /// Answers a document within a budget.
 fn finish_document<K: Sink>(alloc: Global, bytes: &[u8], budget: u64, sink: &mut K) -> Status

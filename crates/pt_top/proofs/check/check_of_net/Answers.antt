@@ -1,4 +1,4 @@
-use Rattle.pt_top.specs.declared.form.Form.TheVariants as form
+use Rattle.pt_reply.specs.declared.form.Form.TheVariants as form
 use Rattle.pt_top.proofs.CheckLaws.{fault-checks}
 use Rattle.pt_top.proofs.check.check_of_net.Goals as goal
 

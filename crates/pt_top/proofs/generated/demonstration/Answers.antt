@@ -1,6 +1,6 @@
 use Rattle.std.proofs.Common.{◌≡◌, IfOk, subst, ◌∙◌}
-use Rattle.pt_top.specs.declared.form.Form.TheVariants.{Summary}
-use Rattle.pt_top.specs.declared.status.Status.TheVariants.{Done}
+use Rattle.pt_reply.specs.declared.form.Form.TheVariants.{Summary}
+use Rattle.pt_reply.specs.declared.status.Status.TheVariants.{Done}
 use Rattle.pt_top.specs.Outcome.{AnswersAs, IsFaultless}
 use Rattle.pt_top.proofs.generated.demonstration.Goals as goal
 

@@ -5,7 +5,7 @@ use Rattle.pt_node.specs.Shown.{shown_node}
 use Rattle.pt_node.specs.View.{Outline, kept_of}
 use Rattle.pt_trees.specs.Ports.{AreNumbered}
 use Rattle.pt_trees.specs.Meetings.{TellMeetings}
-use Rattle.pt_top.specs.Reply.{text_in, with_meetings}
+use Rattle.pt_reply.specs.Texts.{text_in, with_meetings}
 use Rattle.pt_top.proofs.ReportLaws.{same-report}
 use Rattle.pt_top.proofs.MeetingsTold.{all-stand, own-texts, all-told, all-formed}
 use Rattle.pt_top.proofs.report.report_run.Goals as goal

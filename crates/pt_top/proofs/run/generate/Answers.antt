@@ -1,5 +1,5 @@
 use Rattle.std.proofs.Common.{inl, inr, refl, ◌∙◌}
-use Rattle.pt_top.specs.declared.status.Status.TheVariants.{Done, Memory}
+use Rattle.pt_reply.specs.declared.status.Status.TheVariants.{Done, Memory}
 use Rattle.pt_top.proofs.run.generate.Goals as goal
 
 pub returns-in-Ok : goal.returns-in-Ok

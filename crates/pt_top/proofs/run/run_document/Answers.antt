@@ -1,7 +1,7 @@
 use Rattle.std.proofs.Common.{◌≡◌, List, ℕ, length, subst, ◌∙◌}
 use Rattle.std.specs.Io.KnownBytes.{IsAtEnd}
 use Rattle.pt_io.specs.Causes.{Rose}
-use Rattle.pt_top.specs.declared.form.Form.TheVariants as form
+use Rattle.pt_reply.specs.declared.form.Form.TheVariants as form
 use Rattle.pt_top.specs.Outcome.{AnswersAs, IsFaultless, IsReported}
 use Rattle.pt_top.proofs.AnswerLaws.{document-due, within-limit}
 use Rattle.pt_top.proofs.Completeness.{complete-due}

@@ -2,7 +2,7 @@ use Rattle.std.proofs.Common.{◌≡◌, inl, inr, [], refl, map, string_bytes, 
 use Rattle.std.specs.Io.KnownBytes.{IsAtEnd}
 use Rattle.pt_io.specs.Causes.{Rose}
 use Rattle.pt_words.specs.declared.line.Line.{Line}
-use Rattle.pt_top.specs.declared.status.Status.TheVariants.{Words, Memory}
+use Rattle.pt_reply.specs.declared.status.Status.TheVariants.{Words, Memory}
 use Rattle.pt_top.specs.Outcome.{IsCompleteForTask}
 use Rattle.pt_top.proofs.TaskLaws.{nothing-taken, read-rose, write-rose, memory-completes}
 use Rattle.pt_top.proofs.run.run_program.Goals as goal
