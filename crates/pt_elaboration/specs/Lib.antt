@@ -1,3 +1,4 @@
 pub mod Resolved
 pub mod Begun
 pub mod Refused
+pub mod Asked

@@ -1,12 +1,10 @@
 -- The model of a net: the tree that is fired, and what the job asks of its top.
-use Rattle.std.specs.Prelude.{◌≡◌, ℕ, List, Some, map}
+use Rattle.std.specs.Prelude.{ℕ, List}
 use Rattle.pt_net.specs.declared.net.Net.{Net}
 use Rattle.pt_scopes.specs.declared.values.Values.{Values}
-use Rattle.pt_scopes.specs.Scopes.{NetTree, net_view}
+use Rattle.pt_scopes.specs.Scopes.{net_view}
 use Rattle.pt_typing.specs.Least.{Assignment}
-use Rattle.pt_agenda.specs.Events.{tags_in, events_of}
-use Rattle.pt_job.specs.Inputs.{AreSupplied, tags_to, IsInputFault}
-use Rattle.pt_job.specs.Iterations.{iterations, stop_time}
+use Rattle.pt_job.specs.Inputs.{AreSupplied, IsInputFault}
 use Rattle.pt_node.specs.declared.body.Body.{Body}
 use Rattle.pt_node.specs.declared.body.Body.TheVariants.{Actor, Composite}
 use Rattle.pt_node.specs.Shown.{Shown}
@@ -14,23 +12,9 @@ use Rattle.pt_node.specs.View.{node_of}
 use Rattle.pt_trees.specs.Trees.{Starts, IsTree}
 use Rattle.pt_trees.specs.Built.{IsBuilt}
 use Rattle.pt_trees.specs.declared.top.Top.{Top}
-use Rattle.pt_trees.specs.declared.top.Top.TheVariants.{Sdf, Sr, De, Once}
 use Rattle.pt_trees.specs.Top.{supply_of, IsJobFor}
 use Rattle.pt_elaboration.specs.Resolved.{IsStarted}
-
--- The job lasts as long as the document states: so many iterations or ticks, or until its stop time, if it has one. A top that fires once states nothing of it.
-abbrev pub Lasts : NetTree → Values → Top → Type 0
-Lasts net values (Sdf j) = iterations net values ≡ Some j.iterations
-Lasts net values (Sr j) = iterations net values ≡ Some j.iterations
-Lasts net values (De j) = stop_time net values ≡ j.stop
-Lasts net values (Once j) = Unit {0}
-
--- tokens come to a DE top at the tags that the document states
-abbrev pub HasTags : NetTree → Top → Type 0
-HasTags net (Sdf j) = Unit {0}
-HasTags net (Sr j) = Unit {0}
-HasTags net (De j) = map tags_in (events_of j.inputs.items) ≡ tags_to net
-HasTags net (Once j) = Unit {0}
+use Rattle.pt_elaboration.specs.Asked.{HasTags, Lasts}
 
 -- This tree of nodes, with this job for its top, is the model of the net: no fault stands in the net, the tree is that of its entities as they start, each node under
 -- its path and with the outputs that are recorded of it, and the job is one for the top: it supplies the tokens, at the tags, and lasts as long as the document states.

@@ -5,7 +5,7 @@ use Rattle.pt_document.specs.declared.refusal.DocFault.{DocFault}
 use Rattle.pt_elaboration.specs.Refused.{FaultStands}
 use Rattle.pt_elaboration.proofs.FaultLaws.{inputs-stand}
 use Rattle.pt_elaboration.specs.Begun.{starts_in}
-use Rattle.pt_model.proofs.job.once_job.Goals as goal
+use Rattle.pt_elaboration.proofs.jobs.sr_job.Goals as goal
 
 pub returns-in_err-inputs-clause-stands : goal.returns-in_err-inputs-clause-stands
 returns-in_err-inputs-clause-stands c =
