@@ -15,7 +15,7 @@ use pt_directors::Director;
 use pt_firing::{Answer, Blocked, Inputs, Place};
 use pt_node::{Body, Node};
 use pt_past::{Labels, MeetingRecord};
-use pt_pause::first_row;
+use pt_rows::first_row;
 use pt_seq::{fire_actor, fire_within, go_on};
 use pt_several::Buffers;
 use pt_time::Tag;

@@ -2,6 +2,5 @@
 #![tactic(auto)]
 
 mod pause;
-mod stretches;
 
-pub use pause::{Pause, fire_row, first_row, settle};
+pub use pause::{Pause, settle};

@@ -3,7 +3,7 @@ use Rattle.pt_node.specs.Acts.{acts}
 use Rattle.pt_turns.proofs.Acting.{acts-law}
 use Rattle.pt_turns.proofs.Firing.{may-ask}
 use Rattle.pt_turns.proofs.Loop.{once-asked}
-use Rattle.pt_pause.proofs.pause.ask_next.Goals as goal
+use Rattle.pt_rows.proofs.rows.ask_next.Goals as goal
 
 pub ask-asked-requires : goal.ask-asked-requires
 ask-asked-requires c = may-ask acts acts-law c.requires.1.at

@@ -6,7 +6,7 @@ use Rattle.pt_stretches.specs.Stretches.{StretchTo}
 use Rattle.pt_turns.proofs.Acting.{acts-law}
 use Rattle.pt_turns.proofs.Loop.{index-in, child-asked, child-fit, in-turn, halts-in}
 use Rattle.pt_stretches.proofs.Together.{turn-asked, row-goes-on}
-use Rattle.pt_pause.proofs.stretches.fire_stretches.Goals as goal
+use Rattle.pt_rows.proofs.stretches.fire_stretches.Goals as goal
 
 pub loop-number-init : goal.loop-number-init
 loop-number-init c = record { lowered = omega arith; so_far = λ before olds tag X allowance own a. a }

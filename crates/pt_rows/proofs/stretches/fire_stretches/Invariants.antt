@@ -6,7 +6,7 @@ use Rattle.pt_node.specs.Acts.{acts}
 use Rattle.pt_node.specs.Shown.{Shown, shown}
 use Rattle.pt_turns.specs.Between.{At}
 use Rattle.pt_turns.specs.OwnMeetings.{OwnMeetings}
-use Rattle.pt_pause.proofs.stretches.fire_stretches.Given as goal
+use Rattle.pt_rows.proofs.stretches.fire_stretches.Given as goal
 
 -- however the firing began, it has come so far
 abbrev pub invariant-loop-number : goal.invariant-loop-number

@@ -5,7 +5,7 @@ use Rattle.pt_node.specs.Shown.{shown}
 use Rattle.pt_turns.proofs.Acting.{acts-law}
 use Rattle.pt_turns.proofs.Firing.{at-begun, begin-halts}
 use Rattle.pt_turns.proofs.Loop.{on-ok, on-err}
-use Rattle.pt_pause.proofs.pause.begin_row.Goals as goal
+use Rattle.pt_rows.proofs.rows.begin_row.Goals as goal
 
 pub begin-requires-clause-idle : goal.begin-requires-clause-idle
 begin-requires-clause-idle c = acts-law.idle c.args.director.now _ c.requires.ready
